@@ -1,0 +1,171 @@
+-- Stones that are put and lifted.
+use Rattle.std.proofs.Common.{◌≡◌, ◌≢◌, ℕ, zero, suc, ◌+◌, ◌-◌, ◌*◌, ◌≤◌, ◌<◌, Bool, true, false, cond, ◌&&◌, not, refl, sym, ap, arith, List, [], ◌∷◌, set, get_or, length, nat_lt, nat_le, get_or-set_other, get_or-set_same}
+use Rattle.std.specs.List.{prefix_len, range_with_len}
+use Rattle.std.specs.Prelude.{Option, Some, None}
+use Rattle.std.proofs.lemmas.Nat.{same_from_place}
+use Rattle.std.proofs.lemmas.List.Sums.{sum_by-set}
+use Rattle.std.proofs.lemmas.Grind.{rows}
+use Rattle.game_rules.specs.Grid.{Grid, IsBoard, is_on, is_empty, is_empty_cell, is_stone_of, stone_of, holds, cell_at, place_of, put, lift, empties_of, along, shift, point_of}
+use Rattle.game_rules.specs.Shapes.{stone_at, stones_ahead, stones_behind, run_of, line_bound}
+use Rattle.game_rules.specs.declared.Side.{Side}
+use Rattle.game_rules.specs.declared.Side.TheVariants.{Black, White}
+use Rattle.game_rules.specs.declared.Cell.{Cell}
+use Rattle.game_rules.specs.declared.Cell.TheVariants.{Empty, Black as BlackStone, White as WhiteStone}
+use Rattle.game_rules.specs.declared.Axis.{Axis}
+use Rattle.game_rules.specs.declared.Axis.TheVariants.{Row, Column, Down, Up}
+use Rattle.game_rules.specs.declared.Point.{Point}
+use borrow.Author.Tests.{ltb-true, leb-true}
+
+set_back : (l : List Cell) (i : ℕ) (y : Cell) → get_or l i Empty ≡ Empty → set (set l i y) i Empty ≡ l
+set_back [] i y h = refl
+set_back (x ∷ l) zero y h = ap (λ z. z ∷ l) (sym h)
+set_back (x ∷ l) (suc i) y h = ap (λ z. x ∷ z) (set_back l i y h)
+
+pub is_empty-cell : (c : Cell) → is_empty_cell c ≡ true → c ≡ Empty
+is_empty-cell Empty h = refl
+is_empty-cell BlackStone h = cc
+is_empty-cell WhiteStone h = cc
+
+pub and_left : (a b : Bool) → (a && b) ≡ true → a ≡ true
+and_left true b h = refl
+and_left false b h = cc
+
+pub and_right : (a b : Bool) → (a && b) ≡ true → b ≡ true
+and_right true b h = h
+and_right false b h = cc
+
+pub true_by_not : (a : Bool) → not a ≡ false → a ≡ true
+true_by_not true h = refl
+true_by_not false h = cc
+
+pub lift-put : (b : Grid) (s : Side) (p : Point) → is_empty b p ≡ true → lift (put b s p) p ≡ b
+lift-put b s p h =
+    let e : get_or b.cells (place_of b p) Empty ≡ Empty = is_empty-cell _ (and_right (is_on b p) _ h) in
+    ap (λ (l : List Cell). let r : Grid = record b { cells = l } in r) (set_back b.cells (place_of b p) (stone_of s) e)
+
+pub is_empty-on : (b : Grid) (p : Point) → is_empty b p ≡ true → is_on b p ≡ true
+is_empty-on b p h = and_left (is_on b p) _ h
+
+-- two points that are not one
+pub record Apart (p q : Point) : Type 0 where
+  pub apart : p.x ≡ q.x → p.y ≡ q.y → ⊥
+
+pub on_x : (b : Grid) (p : Point) → is_on b p ≡ true → p.x < b.width
+on_x b p h = ltb-true _ _ (and_left (nat_lt p.x b.width) _ h)
+
+pub on_y : (b : Grid) (p : Point) → is_on b p ≡ true → p.y < b.height
+on_y b p h = ltb-true _ _ (and_right (nat_lt p.x b.width) _ h)
+
+-- points of the board that are not one have different places
+places_differ : (b : Grid) (p q : Point) → is_on b p ≡ true → is_on b q ≡ true → Apart p q → place_of b q ≢ place_of b p
+places_differ b p q onp onq d e =
+    let same = same_from_place q.y q.x p.y p.x b.width (on_x b q onq) (on_x b p onp) e in
+    d.apart (sym same.1) (sym same.0)
+
+-- the place of a point of the board is one of its cells
+pub place_fits : (b : Grid) (p : Point) → IsBoard b → is_on b p ≡ true → place_of b p < length b.cells
+place_fits b p ok h =
+    let x : p.x < b.width = on_x b p h in
+    let y : p.y < b.height = on_y b p h in
+    let n : length b.cells ≡ b.width * b.height = ok.filled in
+    grind (arith, rows)
+
+-- a stone changes no other point
+pub cell_at-put_other : (b : Grid) (s : Side) (p q : Point) → is_on b p ≡ true → is_on b q ≡ true → Apart p q → cell_at (put b s p) q ≡ cell_at b q
+cell_at-put_other b s p q onp onq d = get_or-set_other b.cells (place_of b p) (place_of b q) (stone_of s) Empty (places_differ b p q onp onq d)
+
+pub cell_at-put_same : (b : Grid) (s : Side) (p : Point) → IsBoard b → is_on b p ≡ true → cell_at (put b s p) p ≡ stone_of s
+cell_at-put_same b s p ok h = get_or-set_same b.cells (place_of b p) (stone_of s) Empty (place_fits b p ok h)
+
+holds_by : (b c : Grid) (t : Side) (q : Point) (r : Bool) → is_on b q ≡ r → is_on c q ≡ r → (r ≡ true → cell_at b q ≡ cell_at c q) → holds b t q ≡ holds c t q
+holds_by b c t q true x y h = rw (x, y) (ap (is_stone_of t) (h refl))
+holds_by b c t q false x y h = rw (x, y) refl
+
+pub holds-put_other : (b : Grid) (s t : Side) (p q : Point) → is_on b p ≡ true → Apart p q → holds (put b s p) t q ≡ holds b t q
+holds-put_other b s t p q onp d = holds_by (put b s p) b t q (is_on b q) refl refl (λ onq. cell_at-put_other b s p q onp onq d)
+
+pub stone_of_side : (s : Side) → is_stone_of s (stone_of s) ≡ true
+stone_of_side Black = refl
+stone_of_side White = refl
+
+pub holds-put_same : (b : Grid) (s : Side) (p : Point) → IsBoard b → is_on b p ≡ true → holds (put b s p) s p ≡ true
+holds-put_same b s p ok h = rw (h, cell_at-put_same b s p ok h) (stone_of_side s)
+
+-- ---- a stone and the rows beside it
+
+-- whether it is some point, and not p
+IsElse : Point → Option Point → Type 0
+IsElse p None = Unit {0}
+IsElse p (Some q) = Apart p q
+
+stone_at-put : (b : Grid) (s t : Side) (p : Point) (o : Option Point) → is_on b p ≡ true → IsElse p o → stone_at (put b s p) t o ≡ stone_at b t o
+unfolding IsElse
+stone_at-put b s t p None h d = refl
+stone_at-put b s t p (Some q) h d = holds-put_other b s t p q h d
+
+moves_by : (n a c : ℕ) → a ≢ c → (r : Bool) → nat_le c (n + a) ≡ r → cond r (Some (n + a - c)) None ≢ Some n
+moves_by n a c d true h e =
+    let low : c ≤ n + a = leb-true _ _ h in
+    let same : n + a - c ≡ n = cc in
+    d (omega arith)
+moves_by n a c d false h e = cc
+
+-- a number is not itself a step or more on
+shift-moves : (n a c : ℕ) → a ≢ c → shift n a c ≢ Some n
+shift-moves n a c d e = moves_by n a c d (nat_le c (n + a)) refl e
+
+else_by_x : (p : Point) (o q : Option ℕ) → o ≢ Some p.x → IsElse p (point_of o q)
+unfolding IsElse
+else_by_x p None q h = tt
+else_by_x p (Some x) None h = tt
+else_by_x p (Some x) (Some y) h = record { apart = λ e f. h (ap Some (sym e)) }
+
+else_by_y : (p : Point) (q o : Option ℕ) → o ≢ Some p.y → IsElse p (point_of q o)
+unfolding IsElse
+else_by_y p None o h = tt
+else_by_y p (Some x) None h = tt
+else_by_y p (Some x) (Some y) h = record { apart = λ e f. h (ap Some (sym f)) }
+
+-- a point a step or more from p is not p
+along-moves : (d : Axis) (p : Point) (a c : ℕ) → a ≢ c → IsElse p (along d p a c)
+along-moves Row p a c h = else_by_x p _ _ (shift-moves p.x a c h)
+along-moves Column p a c h = else_by_y p (Some p.x) (shift p.y a c) (shift-moves p.y a c h)
+along-moves Down p a c h = else_by_x p _ _ (shift-moves p.x a c h)
+along-moves Up p a c h = else_by_x p _ _ (shift-moves p.x a c h)
+
+-- tests that agree from a on hold as far
+pub prefix_len-same : (f g : ℕ → Bool) (n a : ℕ) → ((k : ℕ) → a ≤ k → f k ≡ g k) → prefix_len f (range_with_len a n) ≡ prefix_len g (range_with_len a n)
+prefix_len-same f g zero a h = refl
+prefix_len-same f g (suc n) a h =
+    let e : f a ≡ g a = h a (omega arith) in
+    let rest : prefix_len f (range_with_len (a + 1) n) ≡ prefix_len g (range_with_len (a + 1) n) =
+    prefix_len-same f g n (a + 1) (λ k l. h k (omega arith)) in
+    rw (e, rest) refl
+
+module _ (b : Grid) (s : Side) (p : Point) (on : is_on b p ≡ true) where
+  -- a stone on p leaves the rows beside p as they are
+  pub stones_ahead-put : (t : Side) (d : Axis) → stones_ahead (put b s p) t d p ≡ stones_ahead b t d p
+  stones_ahead-put t d = prefix_len-same _ _ (line_bound b) 1 (λ k l. stone_at-put b s t p _ on (along-moves d p k 0 (λ e. absurd (omega arith))))
+
+  pub stones_behind-put : (t : Side) (d : Axis) → stones_behind (put b s p) t d p ≡ stones_behind b t d p
+  stones_behind-put t d = prefix_len-same _ _ (line_bound b) 1 (λ k l. stone_at-put b s t p _ on (along-moves d p 0 k (λ e. absurd (omega arith))))
+
+  -- the run through the new stone
+  pub run_of-put : IsBoard b → (d : Axis) → run_of (put b s p) s d p ≡ 1 + stones_ahead b s d p + stones_behind b s d p
+  run_of-put ok d =
+      let e : holds (put b s p) s p ≡ true = holds-put_same b s p ok on in
+      rw (e, stones_ahead-put s d, stones_behind-put s d) refl
+
+stone_not_empty : (s : Side) → is_empty_cell (stone_of s) ≡ false
+stone_not_empty Black = refl
+stone_not_empty White = refl
+
+-- one point fewer is empty
+pub empties_of-put : (b : Grid) (s : Side) (p : Point) → IsBoard b → is_empty b p ≡ true → empties_of (put b s p) + 1 ≡ empties_of b
+empties_of-put b s p ok h =
+    let e : get_or b.cells (place_of b p) Empty ≡ Empty = is_empty-cell _ (and_right (is_on b p) _ h) in
+    let count : Cell → ℕ = λ c. cond (is_empty_cell c) 1 0 in
+    let one : count (get_or b.cells (place_of b p) Empty) ≡ 1 = ap count e in
+    let all = sum_by-set count b.cells (place_of b p) (stone_of s) Empty (place_fits b p ok (is_empty-on b p h)) in
+    let here : count (stone_of s) ≡ 0 = ap (λ r. cond r 1 0) (stone_not_empty s) in
+    omega (arith, all, one, here)

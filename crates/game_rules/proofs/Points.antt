@@ -1,0 +1,98 @@
+-- Facts about all points of a board: lists, tests, and points off the board.
+use Rattle.std.proofs.Common.{◌≡◌, ℕ, zero, suc, ◌+◌, ◌*◌, ◌≤◌, ◌<◌, Bool, true, false, cond, ◌&&◌, ◌||◌, not, refl, sym, ap, subst, ◌∙◌, arith, List, [], ◌∷◌, ◌++◌, map}
+use Rattle.std.specs.List.{list_any, list_all, filter, flat_map, range_with_len}
+use Rattle.std.specs.Prelude.{Option, Some, None}
+use Rattle.std.proofs.lemmas.List.Folds.{list_any-append}
+use Rattle.std.proofs.lemmas.Grind.{rows}
+use Rattle.game_rules.specs.Grid.{Grid, is_on, is_empty, place_of, points_of, row_from}
+use Rattle.game_rules.specs.Shapes.{five}
+use Rattle.game_rules.specs.Play.{outcome, outcome_by, foul_of, mover}
+use Rattle.game_rules.specs.Games.{WinsOr}
+use Rattle.game_rules.specs.declared.RuleKind.{RuleKind}
+use Rattle.game_rules.specs.declared.Foul.{Foul}
+use Rattle.game_rules.specs.declared.Outcome.{Outcome}
+use Rattle.game_rules.specs.declared.Outcome.TheVariants.{Refused}
+use Rattle.game_rules.specs.declared.Point.{Point}
+use Rattle.game_rules.proofs.Rows.{any_found}
+use Rattle.game_rules.proofs.Boards.{on_x, on_y}
+
+list_any-flat_map : (h : Point → Bool) (row : ℕ → List Point) (ys : List ℕ) → list_any h (flat_map row ys) ≡ list_any (λ y. list_any h (row y)) ys
+list_any-flat_map h row [] = refl
+list_any-flat_map h row (y ∷ ys) = list_any-append h (row y) (flat_map row ys) ∙ ap (λ r. list_any h (row y) || r) (list_any-flat_map h row ys)
+
+list_any-map : (h : Point → Bool) (at : ℕ → Point) (xs : List ℕ) → list_any h (map at xs) ≡ list_any (λ x. h (at x)) xs
+list_any-map h at [] = refl
+list_any-map h at (x ∷ xs) = ap (λ r. h (at x) || r) (list_any-map h at xs)
+
+-- a test that holds at a point of the board holds somewhere
+pub points-found : (b : Grid) (h : Point → Bool) (q : Point) → is_on b q ≡ true → h q ≡ true → list_any h (points_of b) ≡ true
+points-found b h q on e =
+    let in_row : list_any h (row_from q.y 0 b.width) ≡ true =
+    list_any-map h (λ x. let p : Point = record { x = x; y = q.y } in p) (range_with_len 0 b.width)
+    ∙ any_found (λ x. let p : Point = record { x = x; y = q.y } in h p) b.width 0 q.x (omega arith) (let l = on_x b q on in omega (arith, l)) e in
+    list_any-flat_map h (λ y. row_from y 0 b.width) (range_with_len 0 b.height)
+    ∙ any_found (λ y. list_any h (row_from y 0 b.width)) b.height 0 q.y (omega arith) (let l = on_y b q on in omega (arith, l)) in_row
+
+-- a test that holds somewhere holds of an item
+pub any_witness : (f : Point → Bool) (xs : List Point) → list_any f xs ≡ true → (x : Point) × (f x ≡ true)
+any_witness f [] h = cc
+any_witness f (x ∷ xs) h = by_test (f x) refl h (any_witness f xs) where
+  by_test : (r : Bool) → f x ≡ r → (r || list_any f xs) ≡ true → (list_any f xs ≡ true → (y : Point) × (f y ≡ true)) → (y : Point) × (f y ≡ true)
+  by_test true e k rest = (x, e)
+  by_test false e k rest = rest k
+
+-- a test that holds of no point holds nowhere
+pub none_of : (f : Point → Bool) (xs : List Point) → ((q : Point) → f q ≡ true → ⊥) → list_any f xs ≡ false
+none_of f [] h = refl
+none_of f (x ∷ xs) h = neither (f x) (list_any f xs) (h x) (none_of f xs h) where
+  neither : (a b : Bool) → (a ≡ true → ⊥) → b ≡ false → (a || b) ≡ false
+  neither true b h k = absurd (h refl)
+  neither false b h k = k
+
+-- a test that holds of all points holds everywhere
+pub all_of : (f : Point → Bool) (xs : List Point) → ((q : Point) → f q ≡ true) → list_all f xs ≡ true
+all_of f [] h = refl
+all_of f (x ∷ xs) h = rw (h x, all_of f xs h) refl
+
+all-any : (f : Point → Bool) (xs : List Point) → list_any (λ x. not (f x)) xs ≡ not (list_all f xs)
+all-any f [] = refl
+all-any f (x ∷ xs) = by_test (f x) (all-any f xs) where
+  by_test : (r : Bool) → list_any (λ x. not (f x)) xs ≡ not (list_all f xs) → (not r || list_any (λ x. not (f x)) xs) ≡ not (r && list_all f xs)
+  by_test true h = h
+  by_test false h = refl
+
+-- a test that holds everywhere holds at each point of the board
+pub all_at : (b : Grid) (f : Point → Bool) (q : Point) → list_all f (points_of b) ≡ true → is_on b q ≡ true → f q ≡ true
+all_at b f q h on = by_test (f q) refl where
+  by_test : (r : Bool) → f q ≡ r → r ≡ true
+  by_test true e = refl
+  by_test false e =
+      let found : list_any (λ x. not (f x)) (points_of b) ≡ true = points-found b (λ x. not (f x)) q on (ap not e) in
+      let no : true ≡ false = sym found ∙ all-any f (points_of b) ∙ ap not h in cc
+
+-- the place of a point of the board is below the number of its points
+pub place-below : (b : Grid) (q : Point) → is_on b q ≡ true → place_of b q < b.height * b.width
+place-below b q on =
+    let x : q.x < b.width = on_x b q on in
+    let y : q.y < b.height = on_y b q on in
+    grind (arith, rows)
+
+refused_by : (f l : Bool) (o : Option Foul) → outcome_by false f o l ≡ Refused
+refused_by f l None = refl
+refused_by f l (Some g) = refl
+
+-- a point that is not empty is refused, and so is a point off the board
+pub taken_refused : (rule : RuleKind) (b : Grid) (q : Point) → is_empty b q ≡ false → outcome rule b q ≡ Refused
+unfolding outcome
+taken_refused rule b q h = rw h (refused_by (five rule b (mover b) q) _ (foul_of rule b (mover b) q))
+
+pub off_refused : (rule : RuleKind) (b : Grid) (q : Point) → is_on b q ≡ false → outcome rule b q ≡ Refused
+unfolding outcome
+off_refused rule b q h = rw h (refused_by (five rule b (mover b) q) _ (foul_of rule b (mover b) q))
+
+-- a move that wins, or goes on, is on the board
+pub WinsOr-on : (rule : RuleKind) (b : Grid) (p : Point) (W : Type 0) → WinsOr (outcome rule b p) W → is_on b p ≡ true
+WinsOr-on rule b p W h = by_test (is_on b p) refl where
+  by_test : (r : Bool) → is_on b p ≡ r → r ≡ true
+  by_test true e = refl
+  by_test false e = absurd (subst (λ (o : Outcome). WinsOr o W) (off_refused rule b p e) h)

@@ -1,0 +1,5 @@
+pub mod Grid
+pub mod Fours
+pub mod Shapes
+pub mod Play
+pub mod Games

@@ -1,0 +1,90 @@
+-- Fouls of Black, outcomes of moves, lawful positions.
+use Rattle.std.specs.Prelude.{◌≡◌, ◌⊎◌, ℕ, zero, suc, ◌+◌, ◌<◌, Bool, true, false, not, nat_le, ◌==◌, if◌then◌else◌, Option, Some, None, is_none}
+use Rattle.std.specs.List.{count_by, sum_by, list_any}
+use Rattle.game_rules.specs.Grid.{Grid, IsBoard, is_empty, holds, put, axes, stones_of, empties_of}
+use Rattle.game_rules.specs.Shapes.{row_wins, run_of, five, fours_of, three_points}
+use Rattle.game_rules.specs.declared.Side.{Side}
+use Rattle.game_rules.specs.declared.Side.TheVariants.{Black, White}
+use Rattle.game_rules.specs.declared.RuleKind.{RuleKind}
+use Rattle.game_rules.specs.declared.RuleKind.TheVariants.{Freestyle, Exact, Renju}
+use Rattle.game_rules.specs.declared.Foul.{Foul}
+use Rattle.game_rules.specs.declared.Foul.TheVariants.{Overline, DoubleFour, DoubleThree}
+use Rattle.game_rules.specs.declared.Outcome.{Outcome}
+use Rattle.game_rules.specs.declared.Outcome.TheVariants.{Refused, Wins, Fouls, Draws, GoesOn}
+use Rattle.game_rules.specs.declared.Axis.{Axis}
+use Rattle.game_rules.specs.declared.Point.{Point}
+
+-- what the four facts about Black's stone make of it, asked in order: a five, an overline, two fours, two threes
+abbrev pub first_foul : Bool → Bool → Bool → Bool → Option Foul
+first_foul five over fours threes =
+    if five then None else if over then Some Overline else if fours then Some DoubleFour else if threes then Some DoubleThree else None
+
+-- whether the axis is a three of the stone on p: it has a three point at which Black has no foul
+unfoldable pub is_three : RuleKind → Grid → Axis → Point → (Point → Option Foul) → Bool
+is_three rule b d p foul_at = list_any (λ q. is_none (foul_at q)) (three_points rule b Black d p)
+
+-- the foul that Black's stone on p makes, where foul_at tells the fouls of a further stone
+unfoldable pub stone_foul : RuleKind → Grid → Point → (Point → Option Foul) → Option Foul
+stone_foul rule b p foul_at =
+    first_foul
+    (list_any (λ d. run_of b Black d p == 5) axes)
+    (list_any (λ d. nat_le 6 (run_of b Black d p)) axes)
+    (nat_le 2 (sum_by (λ d. fours_of rule b Black d p) axes))
+    (nat_le 2 (count_by (λ d. is_three rule b d p foul_at) axes))
+
+-- Black's foul at p, where at most so many stones are put one after another
+unfoldable pub foul_within : ℕ → RuleKind → Grid → Point → Option Foul
+foul_within zero rule b p = None
+foul_within (suc n) rule b p = stone_foul rule (put b Black p) p (foul_within n rule (put b Black p))
+
+-- Black's foul at the empty point p: no more stones can be put than points are empty
+unfoldable pub foul : RuleKind → Grid → Point → Option Foul
+foul rule b p = foul_within (empties_of b) rule b p
+
+-- whether the side has fouls under the rule: Black under renju alone
+abbrev pub has_fouls : RuleKind → Side → Bool
+has_fouls Freestyle s = false
+has_fouls Exact s = false
+has_fouls Renju Black = true
+has_fouls Renju White = false
+
+-- the foul of the side at the empty point p
+abbrev pub foul_of : RuleKind → Grid → Side → Point → Option Foul
+foul_of rule b s p = if has_fouls rule s then foul rule b p else None
+
+-- the other side
+abbrev pub other : Side → Side
+other Black = White
+other White = Black
+
+-- the side to move where the counts name one: Black where they are equal, and else White
+abbrev pub mover : Grid → Side
+mover b = if stones_of b Black == stones_of b White then Black else White
+
+-- the first that applies: no empty point, a winning run, a foul, the last empty point, or the game goes on
+abbrev pub outcome_by : Bool → Bool → Option Foul → Bool → Outcome
+outcome_by empty five (Some f) last = if not empty then Refused else if five then Wins else Fouls f
+outcome_by empty five None last = if not empty then Refused else if five then Wins else if last then Draws else GoesOn
+
+-- the outcome of a move of the side to move at p
+unfoldable pub outcome : RuleKind → Grid → Point → Outcome
+outcome rule b p = outcome_by (is_empty b p) (five rule b (mover b) p) (foul_of rule b (mover b) p) (empties_of b == 1)
+
+-- the board after that move
+abbrev pub after : Grid → Point → Grid
+after b p = put b (mover b) p
+
+-- the counts name a side to move: they are equal, or Black has one stone more
+abbrev pub NamesMover : Grid → Type 0
+NamesMover b = (stones_of b Black ≡ stones_of b White) ⊎ (stones_of b Black ≡ stones_of b White + 1)
+
+-- neither side has a winning run
+pub record IsUnwon (rule : RuleKind) (b : Grid) : Type 0 where
+  pub no_winning_run : (s : Side) (d : Axis) (p : Point) → holds b s p ≡ true → row_wins rule s (run_of b s d p) ≡ false
+
+-- a lawful position: the counts name a side to move, neither side has a winning run, and some point is empty
+pub record IsPosition (rule : RuleKind) (b : Grid) : Type 0 where
+  pub board : IsBoard b
+  pub turns : NamesMover b
+  pub unwon : IsUnwon rule b
+  pub open_points : 0 < empties_of b

@@ -1,0 +1,76 @@
+//! The rules of five in a row: the plain types that every layer speaks of, and, in `specs/`, the definitions of
+//! boards, runs, fives, fours, threes, fouls, outcomes, lawful positions and won games.
+//!
+//! The crate has no code of its own. What it offers to the layers above are these types, the words of its `specs/`,
+//! and the laws about those words that its `proofs/Lib.antt` makes public.
+//!
+//! Sources: the RIF Rules of Renju for fours, threes, overlines and the fouls of Black; Allis, van den Herik and
+//! Huntjens, "Go-Moku and Threat-Space Search", for wins by fours and by threats.
+#![tactic(auto)]
+
+/// A player. Black moves first.
+#[derive(Clone, Copy, Debug, PartialEq, Eq)]
+pub enum Side {
+    Black,
+    White,
+}
+
+/// What stands on a point of the board.
+#[derive(Clone, Copy, Debug, PartialEq, Eq)]
+pub enum Cell {
+    Empty,
+    Black,
+    White,
+}
+
+/// One of the four directions in which stones can stand in a row. A step on `Row` adds 1 to x, on `Column` 1 to y,
+/// on `Down` 1 to both, on `Up` 1 to x and takes 1 from y.
+#[derive(Clone, Copy, Debug, PartialEq, Eq)]
+pub enum Axis {
+    Row,
+    Column,
+    Down,
+    Up,
+}
+
+/// A point: its column `x` and its row `y`, both counted from 0. Reading order is by y, then by x.
+#[derive(Clone, Copy, Debug, PartialEq, Eq, Hash)]
+pub struct Point {
+    pub x: u8,
+    pub y: u8,
+}
+
+/// What a look at a place finds: a place off the board, or a point and what stands on it.
+#[derive(Clone, Copy, Debug, PartialEq, Eq)]
+pub enum Look {
+    Off,
+    Holds(Cell),
+}
+
+/// The three rules of play. Under `Freestyle` five or more in a row win, under `Exact` exactly five; under `Renju`
+/// Black wins with exactly five and has fouls, and White wins with five or more.
+#[derive(Clone, Copy, Debug, PartialEq, Eq)]
+pub enum RuleKind {
+    Freestyle,
+    Exact,
+    Renju,
+}
+
+/// Why a move of Black is forbidden under renju.
+#[derive(Clone, Copy, Debug, PartialEq, Eq)]
+pub enum Foul {
+    Overline,
+    DoubleFour,
+    DoubleThree,
+}
+
+/// What becomes of a move: it is no move (`Refused`), it wins, it fouls and so loses, it fills the board, or the
+/// game goes on.
+#[derive(Clone, Copy, Debug, PartialEq, Eq)]
+pub enum Outcome {
+    Refused,
+    Wins,
+    Fouls(Foul),
+    Draws,
+    GoesOn,
+}
