@@ -1,6 +1,5 @@
 -- Laws of won games: a stronger demand is a stronger win, more moves are no harder, and the test and the fact agree.
-use Rattle.std.proofs.Common.{◌≡◌, ℕ, zero, suc, ◌≤◌, Bool, true, false, ◌&&◌, ◌||◌, refl, sym, ap, subst, ◌∙◌, arith}
-use Rattle.std.specs.Prelude.{IsTrue}
+use Rattle.std.proofs.Common.{◌≡◌, ℕ, zero, suc, ◌≤◌, Bool, true, false, ◌||◌, refl, sym, subst, arith}
 use Rattle.std.specs.List.{list_any, list_all}
 use Rattle.game_rules.specs.Grid.{Grid, is_on, points_of}
 use Rattle.game_rules.specs.Play.{outcome, mover, after}

@@ -7,13 +7,13 @@ use Rattle.std.proofs.lemmas.Bool.Decides.{nat_tests}
 use Rattle.std.proofs.lemmas.List.Sums.{sum_by-set}
 use Rattle.game_rules.specs.Grid.{Grid, IsBoard, is_on, is_empty, is_stone_of, stone_of, holds, cell_at, place_of, put, lift, along, axes, stones_of, empties_of}
 use Rattle.game_rules.specs.Shapes.{stone_at, stones_ahead, stones_behind, run_of, line_bound, row_wins, wins_on, five}
-use Rattle.game_rules.specs.Play.{IsPosition, IsUnwon, NamesMover, outcome, outcome_by, foul_of, mover, other, after}
+use Rattle.game_rules.specs.Play.{IsPosition, NamesMover, outcome, outcome_by, foul_of, mover, other, after}
 use Rattle.game_rules.specs.declared.Outcome.TheVariants.{GoesOn}
 use Rattle.game_rules.specs.declared.Foul.{Foul}
 use Rattle.game_rules.specs.declared.Side.{Side}
 use Rattle.game_rules.specs.declared.Side.TheVariants.{Black, White}
 use Rattle.game_rules.specs.declared.Cell.{Cell}
-use Rattle.game_rules.specs.declared.Cell.TheVariants.{Empty, Black as BlackStone, White as WhiteStone}
+use Rattle.game_rules.specs.declared.Cell.TheVariants.{Empty}
 use Rattle.game_rules.specs.declared.Axis.{Axis}
 use Rattle.game_rules.specs.declared.Axis.TheVariants.{Row, Column, Down, Up}
 use Rattle.game_rules.specs.declared.Point.{Point}
@@ -228,7 +228,7 @@ module _ (rule : RuleKind) (b : Grid) (p : Point) (lawful : IsPosition rule b) (
 
 -- ---- counts
 
-stones_of-put : (b : Grid) (s t : Side) (p : Point) → IsBoard b → is_empty b p ≡ true → stones_of (put b s p) t ≡ stones_of b t + cond (is_stone_of t (stone_of s)) 1 0
+pub stones_of-put : (b : Grid) (s t : Side) (p : Point) → IsBoard b → is_empty b p ≡ true → stones_of (put b s p) t ≡ stones_of b t + cond (is_stone_of t (stone_of s)) 1 0
 stones_of-put b s t p ok empty =
     let e : get_or b.cells (place_of b p) Empty ≡ Empty = is_empty-cell _ (and_right (is_on b p) _ empty) in
     let count : Cell → ℕ = λ c. cond (is_stone_of t c) 1 0 in
@@ -236,7 +236,7 @@ stones_of-put b s t p ok empty =
     let all = sum_by-set count b.cells (place_of b p) (stone_of s) Empty (place_fits b p ok (is_empty-on b p empty)) in
     omega (arith, all, none)
 
-IsBoard-put : (b : Grid) (s : Side) (p : Point) → IsBoard b → IsBoard (put b s p)
+pub IsBoard-put : (b : Grid) (s : Side) (p : Point) → IsBoard b → IsBoard (put b s p)
 IsBoard-put b s p ok = record { wide = ok.wide; width_fits = ok.width_fits; high = ok.high; height_fits = ok.height_fits; filled = length-set b.cells (place_of b p) (stone_of s) ∙ ok.filled }
 
 -- who moves, by the counts

@@ -1,0 +1,8 @@
+use Rattle.std.proofs.Common.{◌≡◌}
+use Rattle.std.specs.List.{find}
+use Rattle.game_rules.specs.Grid.{is_empty}
+use Rattle.stone_board.proofs.board.Board.first_empty.Given as goal
+
+-- the first empty point of those left is the first of all
+abbrev pub invariant-loop-p : goal.invariant-loop-p
+invariant-loop-p l = find (is_empty l.self) l.p-iterator ≡ find (is_empty l.self) l.fn.order

@@ -1,0 +1,14 @@
+//! Boards of five in a row, 5 to 32 points wide and high.
+//!
+//! A board is seen by contracts as its width, its height and the list of its cells in reading order. It keeps its cells
+//! in one vector and counts its stones as they come and go, so that who moves is known at once.
+#![tactic(auto)]
+
+mod board;
+mod order;
+mod points;
+
+pub use board::{Board, MAX_SIDE, MIN_SIDE};
+pub use game_rules::{Axis, Cell, Look, Point, Side};
+pub use order::ReadingOrder;
+pub use points::Points;
