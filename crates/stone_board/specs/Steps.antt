@@ -1,6 +1,6 @@
 -- Steps along an axis that stay on the board.
-use Rattle.std.specs.Prelude.{ℕ, suc, ℤ, pos, negsuc, Bool, ◌&&◌, not, if◌then◌else◌, Option, Some, None}
-use Rattle.game_rules.specs.Grid.{Grid, is_on, is_empty_cell, cell_at, shift, along}
+use Rattle.std.specs.Prelude.{ℕ, Bool, ◌&&◌, not, if◌then◌else◌, Option, Some, None}
+use Rattle.game_rules.specs.Grid.{Grid, is_on, is_empty_cell, cell_at, along}
 use Rattle.game_rules.specs.Shapes.{stones_ahead, stones_behind}
 use Rattle.game_rules.specs.declared.Side.{Side}
 use Rattle.game_rules.specs.declared.Axis.{Axis}
@@ -12,11 +12,6 @@ use Rattle.stone_board.specs.declared.board.Way.TheVariants.{Ahead, Behind}
 abbrev pub kept_on : Grid → Option Point → Option Point
 kept_on b None = None
 kept_on b (Some q) = if is_on b q then Some q else None
-
--- the number k steps up from n, or down where k is below 0, unless that is below 0
-abbrev pub shift_by : ℕ → ℤ → Option ℕ
-shift_by n (pos k) = shift n k 0
-shift_by n (negsuc k) = shift n 0 (suc k)
 
 -- the point so many steps along the axis in that way
 abbrev pub towards : Way → Axis → Point → ℕ → Option Point

@@ -7,10 +7,10 @@
 ghost use Rattle.std.specs.Prelude.{◌≡◌, ◌↔◌, ◌≤◌, ◌<◌, ◌+◌, ◌*◌, pos, negsuc, ◌≤ℤ◌, true, IsTrue, IfOk, replicate};
 ghost use Rattle.std.specs.List.{find};
 ghost use Rattle.game_rules.specs.declared.Side.{Side};
-ghost use Rattle.game_rules.specs.Grid.{IsBoard, is_on, is_empty as is_empty_lem, holds as holds_lem, cell_at, put as put_lem, lift as lift_lem, look_at, step as step_lem, stones_of, empties_of, points_of, stone_of as stone_of_lem, is_stone_of as is_stone_of_lem, point_of as point_of_lem};
+ghost use Rattle.game_rules.specs.Grid.{IsBoard, is_on, is_empty as is_empty_lem, holds as holds_lem, cell_at, put as put_lem, lift as lift_lem, look_at, step as step_lem, stones_of, empties_of, points_of, is_stone_of as is_stone_of_lem, point_of as point_of_lem, along as along_lem, shift as shift_lem};
 ghost use Rattle.game_rules.specs.Shapes.{run_of, stone_at, stones_ahead as stones_ahead_lem, stones_behind as stones_behind_lem};
 ghost use Rattle.stone_board.specs.Order.{points_left, first_empty_from as first_empty_from_lem};
-ghost use Rattle.stone_board.specs.Steps.{holds_stone, kept_on, shift_by, stones_towards as stones_towards_lem, towards as towards_lem};
+ghost use Rattle.stone_board.specs.Steps.{holds_stone, kept_on, stones_towards as stones_towards_lem, towards as towards_lem};
 
 use crate::ReadingOrder;
 use game_rules::{Axis, Cell, Look, Point, Side};
@@ -203,6 +203,18 @@ impl Board {
         None
     }
 
+    /// The point `ahead` steps ahead on the axis and `back` steps back again, if it is on the board.
+    pub fn along(&self, p: Point, axis: Axis, ahead: u8, back: u8) -> Option<Point>
+        requires on { IsTrue (is_on self.now p) }
+        requires ahead { ahead < 128 }
+        requires back { back < 128 }
+        ensures along { result ≡ kept_on self.now (along_lem axis p ahead back) }
+    {
+        let _ = &self.width;
+        let q = moved(p, axis, ahead, back)?;
+        if self.on(q) { Some(q) } else { None }
+    }
+
     /// The point `k` steps along the axis, backwards where `k` is below 0, if it is on the board.
     pub fn step(&self, p: Point, axis: Axis, k: i8) -> Option<Point>
         requires on { IsTrue (is_on self.now p) }
@@ -210,9 +222,11 @@ impl Board {
         requires ahead { k ≤ℤ pos 64 }
         ensures step { result ≡ kept_on self.now (step_lem axis p k) }
     {
-        let _ = &self.width;
-        let q = stepped(p, axis, k)?;
-        if self.on(q) { Some(q) } else { None }
+        if k < 0 {
+            self.along(p, axis, 0, k.unsigned_abs())
+        } else {
+            self.along(p, axis, k as u8, 0)
+        }
     }
 
     /// What stands `k` steps along the axis, backwards where `k` is below 0.
@@ -281,8 +295,8 @@ impl Board {
         ensures step { result ≡ kept_on self.now (towards_lem way axis p k) }
     {
         match way {
-            Way::Ahead => self.step(p, axis, k as i8),
-            Way::Behind => self.step(p, axis, -(k as i8)),
+            Way::Ahead => self.along(p, axis, k, 0),
+            Way::Behind => self.along(p, axis, 0, k),
         }
     }
 
@@ -323,19 +337,19 @@ impl Board {
     }
 }
 
-/// The point `k` steps along the axis, if its coordinates are not below 0.
-fn stepped(p: Point, axis: Axis, k: i8) -> Option<Point>
+/// The point `ahead` steps ahead on the axis and `back` steps back again, if its coordinates are not below 0.
+fn moved(p: Point, axis: Axis, ahead: u8, back: u8) -> Option<Point>
     requires column { p.x < 64 }
     requires row { p.y < 64 }
-    requires back { negsuc 64 ≤ℤ k }
-    requires ahead { k ≤ℤ pos 64 }
-    ensures step { result ≡ step_lem axis p k }
+    requires ahead { ahead < 128 }
+    requires back { back < 128 }
+    ensures along { result ≡ along_lem axis p ahead back }
 {
     match axis {
-        Axis::Row => point_of(shifted(p.x, k), Some(p.y)),
-        Axis::Column => point_of(Some(p.x), shifted(p.y, k)),
-        Axis::Down => point_of(shifted(p.x, k), shifted(p.y, k)),
-        Axis::Up => point_of(shifted(p.x, k), shifted(p.y, -k)),
+        Axis::Row => point_of(shifted(p.x, ahead, back), Some(p.y)),
+        Axis::Column => point_of(Some(p.x), shifted(p.y, ahead, back)),
+        Axis::Down => point_of(shifted(p.x, ahead, back), shifted(p.y, ahead, back)),
+        Axis::Up => point_of(shifted(p.x, ahead, back), shifted(p.y, back, ahead)),
     }
 }
 
@@ -346,24 +360,16 @@ fn point_of(x: Option<u8>, y: Option<u8>) -> Option<Point>
     Some(Point { x: x?, y: y? })
 }
 
-/// The number `k` steps from `n`, unless that is below 0.
-fn shifted(n: u8, k: i8) -> Option<u8>
+/// The number `ahead` steps up from `n` and `back` steps down again, unless that is below 0.
+fn shifted(n: u8, ahead: u8, back: u8) -> Option<u8>
     requires small { n < 64 }
-    requires back { negsuc 64 ≤ℤ k }
-    requires ahead { k ≤ℤ pos 65 }
-    ensures shifted { result ≡ shift_by n k }
+    requires ahead { ahead < 128 }
+    ensures shifted { result ≡ shift_lem n ahead back }
 {
-    let sum = i16::from(n) + i16::from(k);
-    if sum < 0 { None } else { Some(sum as u8) }
-}
-
-/// The cell that holds a stone of the side.
-fn stone_of(side: Side) -> Cell
-    ensures stone { result ≡ stone_of_lem side }
-{
-    match side {
-        Side::Black => Cell::Black,
-        Side::White => Cell::White,
+    if back <= n + ahead {
+        Some(n + ahead - back)
+    } else {
+        None
     }
 }
 
