@@ -1,0 +1,6 @@
+pub mod Tables
+pub mod Acceptance
+pub mod Arrivals
+pub mod Games
+pub mod Leads
+pub mod Laws
