@@ -1,14 +1,14 @@
 -- Decimal numbers.
-use Rattle.std.proofs.Common.{◌≡◌, ℕ, ◌+◌, ◌*◌, ◌-◌, ◌^◌, ◌<◌, ◌≤◌, refl, sym, ap, subst, ◌∙◌, arith, List, [], ◌∷◌, length, take, get_or, nat_lt, true, false, inl, inr}
+use Rattle.std.proofs.Common.{◌≡◌, ℕ, ◌+◌, ◌*◌, ◌-◌, ◌^◌, ◌<◌, ◌≤◌, refl, sym, ap, subst, ◌∙◌, arith, List, [], ◌∷◌, length, take, get_or, nat_lt, eqb, not, true, false, inl, inr}
 use Rattle.std.specs.Char.{digit_value, IsNotAsciiDigit}
 use Rattle.std.specs.Fmt.{decimal}
 use Rattle.std.specs.Str.Parse.{AllDigits, digits_value}
-use Rattle.std.proofs.lemmas.Bool.{cases_eq, le-ltb, lt-ltb}
+use Rattle.std.proofs.lemmas.Bool.{cases_eq, le-ltb, lt-ltb, ne_eqb}
 use Rattle.std.proofs.Math.Seq.{take-length}
 use Rattle.std.proofs.lemmas.Fmt.{decimal_digit, decimal_nonempty, first_decimal, decimal-digits_value, digits_decimal, digits_value-decimal}
 use Rattle.std.proofs.lemmas.Int.Digits.{digits_value_more, digits_more}
-use Rattle.std.proofs.lemmas.Str.Parse.{IsNumeralModel, numerals_by_value, tells_digits, digit_at, digits_value-take-le}
-use Rattle.position_files.specs.Reading.{IsPlain}
+use Rattle.std.proofs.lemmas.Str.Parse.{IsNumeralModel, numerals_by_value, tells_digits, digit_at, digit_from_value, digits_value-take-le}
+use Rattle.position_files.specs.Reading.{IsPlain, is_free}
 
 own : IsNumeralModel (AllDigits 10) (digits_value 10)
 own = numerals_by_value (AllDigits 10) tells_digits
@@ -85,3 +85,17 @@ is_spelled bytes i n most end so_far plain bound =
 pub no_digit : (bytes : List ℕ) (v i : ℕ) → v ≤ 1000000 → bytes ≡ decimal v → i < length bytes → IsNotAsciiDigit (get_or bytes i 0) → ⊥
 no_digit bytes v i few e within (inl low) = let digit = digits_if_spelled bytes v i few e within in omega (arith, digit.0, low)
 no_digit bytes v i few e within (inr high) = let digit = digits_if_spelled bytes v i few e within in omega (arith, digit.1, high)
+
+not_separator : (d s : ℕ) → 48 ≤ d → d ≤ 57 → IsNotAsciiDigit s → not (eqb d s) ≡ true
+not_separator d s low high (inl less) = rw (ne_eqb d s (λ e. omega arith)) refl
+not_separator d s low high (inr more) = rw (ne_eqb d s (λ e. omega arith)) refl
+
+free_digits : (s : ℕ) (ds : List ℕ) → IsNotAsciiDigit s → AllDigits 10 ds → is_free s ds ≡ true
+free_digits s [] other all = refl
+free_digits s (d ∷ ds) other all =
+    let digit = digit_from_value d all.0 in
+    rw (not_separator d s digit.0 digit.1 other, free_digits s ds other all.1) refl
+
+-- no separator is a digit
+pub decimal-free : (s n : ℕ) → IsNotAsciiDigit s → n < 2 ^ 64 → is_free s (decimal n) ≡ true
+decimal-free s n other fits = free_digits s (decimal n) other (digits_decimal own n fits)

@@ -1,6 +1,9 @@
 -- What the readers of lines and words answer.
-use Rattle.std.specs.Prelude.{◌≡◌, ℕ, ◌<◌, Bool, not, ◌==◌, List, [], ◌∷◌, Option, Some, None, length, slice_index}
+use Rattle.std.specs.Prelude.{◌≡◌, ℕ, ◌<◌, ◌≤◌, Bool, not, ◌==◌, List, [], ◌∷◌, Option, Some, None, Result, Ok, Err, length, slice_index}
 use Rattle.std.specs.List.{list_all}
+use Rattle.game_rules.specs.declared.Point.{Point}
+use Rattle.position_files.specs.declared.faults.Fault.{Fault}
+use Rattle.position_files.specs.declared.faults.Fault.TheVariants.{Bad, Memory}
 
 -- whether the byte is not among the bytes
 abbrev pub is_free : ℕ → List ℕ → Bool
@@ -16,7 +19,28 @@ pub record IsPlain (bytes : List ℕ) : Type 0 where
   pub some : 0 < length bytes
   pub plain : slice_index bytes 0 ≡ 48 → length bytes ≡ 1
 
+-- the point has a column below the width and a row below the height
+pub record IsWithin (width height : ℕ) (p : Point) : Type 0 where
+  pub column : p.x < width
+  pub row : p.y < height
+
+-- the number is the width or the height of a board
+pub record IsSide (n : ℕ) : Type 0 where
+  pub long : 5 ≤ n
+  pub fits : n ≤ 32
+
+-- the numbers are the width and the height of a board
+pub record AreSides (sides : ℕ × ℕ) : Type 0 where
+  pub width : IsSide sides.0
+  pub height : IsSide sides.1
+
 -- Reading bytes: what is found fits and is spelled so, and nothing is found only where nothing that fits is spelled so.
 abbrev pub Reads : {V : Type 0} → (V → Type 0) → (V → List ℕ) → Option V → List ℕ → Type 0
 Reads {V} Fits spelling None bytes = (v : V) → Fits v → bytes ≡ spelling v → ⊥
 Reads Fits spelling (Some v) bytes = Fits v × (bytes ≡ spelling v)
+
+-- the same of a reader that takes memory, and may find none
+abbrev pub Gives : {V : Type 0} → (V → Type 0) → (V → List ℕ) → Result V Fault → List ℕ → Type 0
+Gives Fits spelling (Ok v) bytes = Fits v × (bytes ≡ spelling v)
+Gives {V} Fits spelling (Err Bad) bytes = (v : V) → Fits v → bytes ≡ spelling v → ⊥
+Gives Fits spelling (Err Memory) bytes = Unit {0}

@@ -4,6 +4,7 @@
 //! The readers go over the lines once. A line is bad where no text has it after the lines before it.
 #![tactic(auto)]
 
+mod faults;
 mod words;
 
 use game_rules::RuleKind;
