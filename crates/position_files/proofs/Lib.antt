@@ -1,3 +1,4 @@
 mod Numbers
 mod Cuts
+mod Items
 mod Spellings

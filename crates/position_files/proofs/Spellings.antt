@@ -11,9 +11,10 @@ use Rattle.std.proofs.lemmas.Fmt.{decimal_injective}
 use Rattle.std.proofs.lemmas.List.{take_at, append-nil}
 use Rattle.std.proofs.lemmas.Slice.Eq.{slice_eq-Decides}
 use Rattle.game_rules.specs.declared.Point.{Point}
-use Rattle.position_files.specs.Positions.{comma, pair_text, point_text, size_text}
+use Rattle.position_files.specs.Positions.{comma, space, pair_text, point_text, size_text}
 use Rattle.position_files.specs.Reading.{Reads, IsWithin, IsSide, AreSides, is_free, tail_text}
-use Rattle.position_files.proofs.Cuts.{same_word}
+use Rattle.position_files.proofs.Cuts.{same_word, is_free-append}
+use Rattle.position_files.proofs.Items.{AreItems}
 use Rattle.position_files.proofs.Numbers.{decimal-free}
 
 -- ---- prefixes
@@ -100,3 +101,22 @@ bad_square bytes a r side is_side parts free width height sides fit e =
     let w : side ≡ sides.0 = decimal_injective side sides.0 (omega (arith, few)) (omega (arith, few_w)) (sym width ∙ words.0) in
     let h : side ≡ sides.1 = decimal_injective side sides.1 (omega (arith, few)) (omega (arith, few_h)) (sym height ∙ tail.1) in
     tail.0 (sym w ∙ h)
+
+-- points of a board are items of a line
+pub point_items : (width height : ℕ) → IsSide width → IsSide height → AreItems (IsWithin width height) point_text
+point_items width height wide high = record {
+  free = λ p within.
+  let x = within.column in
+  let y = within.row in
+  let w = wide.fits in
+  let h = high.fits in
+  is_free-append space (decimal p.x) (comma ∷ decimal p.y) (decimal-free space p.x (inl (omega arith)) (omega (arith, x, w))) (decimal-free space p.y (inl (omega arith)) (omega (arith, y, h)));
+  injective = λ p q in_p in_q e.
+  let w = wide.fits in
+  let h = high.fits in
+  let px = in_p.column in
+  let py = in_p.row in
+  let qx = in_q.column in
+  let qy = in_q.row in
+  point_text-injective p q (omega (arith, px, w)) (omega (arith, py, h)) (omega (arith, qx, w)) (omega (arith, qy, h)) e;
+}

@@ -35,12 +35,12 @@ pub record AreSides (sides : ℕ × ℕ) : Type 0 where
   pub height : IsSide sides.1
 
 -- Reading bytes: what is found fits and is spelled so, and nothing is found only where nothing that fits is spelled so.
-abbrev pub Reads : {V : Type 0} → (V → Type 0) → (V → List ℕ) → Option V → List ℕ → Type 0
-Reads {V} Fits spelling None bytes = (v : V) → Fits v → bytes ≡ spelling v → ⊥
+abbrev pub Reads : {X : Type 0} → (X → Type 0) → (X → List ℕ) → Option X → List ℕ → Type 0
+Reads {X} Fits spelling None bytes = (v : X) → Fits v → bytes ≡ spelling v → ⊥
 Reads Fits spelling (Some v) bytes = Fits v × (bytes ≡ spelling v)
 
 -- the same of a reader that takes memory, and may find none
-abbrev pub Gives : {V : Type 0} → (V → Type 0) → (V → List ℕ) → Result V Fault → List ℕ → Type 0
+abbrev pub Gives : {X : Type 0} → (X → Type 0) → (X → List ℕ) → Result X Fault → List ℕ → Type 0
 Gives Fits spelling (Ok v) bytes = Fits v × (bytes ≡ spelling v)
-Gives {V} Fits spelling (Err Bad) bytes = (v : V) → Fits v → bytes ≡ spelling v → ⊥
+Gives {X} Fits spelling (Err Bad) bytes = (v : X) → Fits v → bytes ≡ spelling v → ⊥
 Gives Fits spelling (Err Memory) bytes = Unit {0}

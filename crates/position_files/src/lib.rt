@@ -5,6 +5,7 @@
 #![tactic(auto)]
 
 mod faults;
+mod lines;
 mod words;
 
 use game_rules::RuleKind;

@@ -1,0 +1,62 @@
+//! Lines of a text, and the points and replies that a line lists.
+#![tactic(auto)]
+
+ghost use Rattle.std.specs.Prelude.{◌≡◌, ◌++◌, ◌∷◌, true, IfNone, IfSome, option_copied};
+ghost use Rattle.std.specs.List.{AllByRecursion};
+ghost use Rattle.position_files.specs.Lines.{line_feed};
+ghost use Rattle.position_files.specs.Positions.{space, points_text};
+ghost use Rattle.position_files.specs.Reading.{Gives, IsSide, IsWithin, is_free, tail_text};
+
+use crate::faults::Fault;
+use crate::words::{cut, is_text, point};
+use std::alloc::Global;
+use stone_board::Points;
+
+/// The first line, without its line feed, and the bytes after it. `None` says that no line feed comes.
+pub(crate) fn line(bytes: &[u8]) -> Option<(&[u8], &[u8])>
+    ensures line { IfSome result (λ found. bytes.now ≡ found.0.now ++ line_feed ∷ found.1.now) }
+    ensures ended { IfSome result (λ found. is_free line_feed found.0.now ≡ true) }
+    ensures none { IfNone result (is_free line_feed bytes.now ≡ true) }
+{
+    let (line, rest) = cut(bytes, b'\n');
+    Some((line, rest?))
+}
+
+/// The points of a line from its first space on.
+fn points(alloc: Global, tail: Option<&[u8]>, width: u8, height: u8) -> Result<Points, Fault>
+    requires wide { IsSide width }
+    requires high { IsSide height }
+    ensures points { Gives (AllByRecursion (IsWithin width height)) points_text result (tail_text space (option_copied tail.entry)) }
+{
+    let mut points = Points::new(alloc);
+    let mut rest = tail;
+    while let Some(text) = rest {
+        let (word, after) = cut(text, b' ');
+        let Some(found) = point(word, width, height) else {
+            return Err(Fault::Bad);
+        };
+        points.push(found)?;
+        rest = after;
+    }
+    Ok(points)
+}
+
+/// The points of a line that begins with this word.
+pub(crate) fn stones(
+    alloc: Global,
+    line: &[u8],
+    word: &[u8],
+    width: u8,
+    height: u8,
+) -> Result<Points, Fault>
+    requires wide { IsSide width }
+    requires high { IsSide height }
+    requires word { is_free space word.now ≡ true }
+    ensures stones { Gives (AllByRecursion (IsWithin width height)) (λ ps. word.now ++ points_text ps) result line.now }
+{
+    let (first, rest) = cut(line, b' ');
+    if !is_text(first, word) {
+        return Err(Fault::Bad);
+    }
+    points(alloc, rest, width, height)
+}
