@@ -87,6 +87,23 @@ named_by f (x ∷ rs) r = ap (λ js. f x.next ∷ js) (named_by f rs r)
 pub named-renamed : (f : ℕ → ℕ) (a : Answers) → named (renamed_answers f a) ≡ map f (named a)
 named-renamed f a = named_by f a.replies a.rest
 
+-- ---- each number for itself
+
+renamed_rest-same : (r : Rest) → renamed_rest (λ j. j) r ≡ r
+renamed_rest-same Wins = refl
+renamed_rest-same (To j) = refl
+renamed_rest-same Nothing = refl
+
+renamed_replies-same : (rs : List Reply) → map (renamed_reply (λ j. j)) rs ≡ rs
+renamed_replies-same [] = refl
+renamed_replies-same (r ∷ rs) = ap (λ ys. r ∷ ys) (renamed_replies-same rs)
+
+pub renamed-same : (n : Node) → renamed (λ j. j) n ≡ n
+renamed-same n = λ i. record { attack = n.attack; replies = renamed_replies-same n.replies i; rest = renamed_rest-same n.rest i }
+
+pub renamed_answers-same : (a : Answers) → renamed_answers (λ j. j) a ≡ a
+renamed_answers-same a = λ i. record { replies = renamed_replies-same a.replies i; rest = renamed_rest-same a.rest i }
+
 -- ---- one step, where the values at the answers agree
 
 module _ (f : ℕ → ℕ) (passes : ℕ → Bool) where

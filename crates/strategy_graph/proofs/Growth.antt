@@ -6,9 +6,6 @@ use Rattle.game_rules.specs.Grid.{Grid}
 use Rattle.game_rules.specs.Play.{outcome, after}
 use Rattle.game_rules.specs.declared.RuleKind.{RuleKind}
 use Rattle.game_rules.specs.declared.Point.{Point}
-use Rattle.strategy_graph.specs.declared.Reply.{Reply}
-use Rattle.strategy_graph.specs.declared.Rest.{Rest}
-use Rattle.strategy_graph.specs.declared.Rest.TheVariants.{Wins, To, Nothing}
 use Rattle.strategy_graph.specs.declared.Node.{Node}
 use Rattle.strategy_graph.specs.declared.Why.{Why}
 use Rattle.strategy_graph.specs.Tables.{Answers, answers_of, answer, named, names_below, NamesLower, depth, start_depth}
@@ -16,26 +13,9 @@ use Rattle.strategy_graph.specs.Acceptance.{Meets, Accepted, AcceptedStart}
 use Rattle.strategy_graph.specs.Arrivals.{arrivals, arrivals_after, start_arrivals}
 use Rattle.strategy_graph.specs.Leads.{ReplyLeads, Leads, LeadsStart}
 use Rattle.strategy_graph.specs.Laws.{SaysSame, StartSaysSame}
-use Rattle.strategy_graph.proofs.Copies.{renamed, renamed_rest, renamed_reply, renamed_answers, Copies, Meets-copied, arrivals_after-copied, reply_leads-answer, depths-copied, depth_within-copied, accepted_within-copied, arrivals_within-copied, game-copied, attacks-copied, Leads-copied}
+use Rattle.strategy_graph.proofs.Copies.{renamed-same, renamed_answers-same, Copies, Meets-copied, arrivals_after-copied, reply_leads-answer, depths-copied, depth_within-copied, accepted_within-copied, arrivals_within-copied, game-copied, attacks-copied, Leads-copied}
 use Rattle.game_rules.proofs.Boards.{and_left, and_right}
 use borrow.Author.Tests.{ltb-true, lt-ltb}
-
--- ---- each number for itself
-
-renamed_rest-same : (r : Rest) → renamed_rest (λ j. j) r ≡ r
-renamed_rest-same Wins = refl
-renamed_rest-same (To j) = refl
-renamed_rest-same Nothing = refl
-
-renamed_replies-same : (rs : List Reply) → map (renamed_reply (λ j. j)) rs ≡ rs
-renamed_replies-same [] = refl
-renamed_replies-same (r ∷ rs) = ap (λ ys. r ∷ ys) (renamed_replies-same rs)
-
-renamed-same : (n : Node) → renamed (λ j. j) n ≡ n
-renamed-same n = λ i. record { attack = n.attack; replies = renamed_replies-same n.replies i; rest = renamed_rest-same n.rest i }
-
-pub renamed_answers-same : (a : Answers) → renamed_answers (λ j. j) a ≡ a
-renamed_answers-same a = λ i. record { replies = renamed_replies-same a.replies i; rest = renamed_rest-same a.rest i }
 
 -- ---- a longer table has the nodes of the shorter
 
@@ -64,7 +44,7 @@ growth-Copies t more lower = record {
       );
 }
 
-both : (A B : Type 0) → A ≡ B → A ↔ B
+pub both : (A B : Type 0) → A ≡ B → A ↔ B
 both A B e = (subst (λ (X : Type 0). X) e, subst (λ (X : Type 0). X) (sym e))
 
 pub growth-same : (t more : List Node) → NamesLower t → (i : ℕ) → i < length t → SaysSame t (t ++ more) i

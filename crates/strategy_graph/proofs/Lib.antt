@@ -4,3 +4,4 @@ pub mod Endings
 pub mod Refutation
 pub mod Copies
 pub mod Growth
+pub mod Fuel

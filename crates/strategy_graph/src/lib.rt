@@ -24,7 +24,7 @@ pub use roots::{Root, Start};
 pub use table::{PushError, Table};
 pub use theorems::{
     accepted_start_wins, accepted_wins, faults_refute, faults_refute_start, games_end_well,
-    growth_keeps, growth_keeps_start,
+    growth_keeps, growth_keeps_start, nodes_go_by_node,
 };
 
 /// The most nodes that a table has.
