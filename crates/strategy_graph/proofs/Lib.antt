@@ -5,3 +5,6 @@ pub mod Refutation
 pub mod Copies
 pub mod Growth
 pub mod Fuel
+pub mod Reading
+pub mod Naming
+pub mod Filling

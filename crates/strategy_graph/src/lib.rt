@@ -9,8 +9,9 @@
 //! games against it end well, and that all this stays as it is however the table grows.
 #![tactic(auto)]
 
-ghost use Rattle.std.specs.Prelude.{◌≡◌};
-ghost use Rattle.strategy_graph.specs.Tables.{is_winning, rest_node};
+ghost use Rattle.std.specs.Prelude.{◌≡◌, nat_lt};
+ghost use Rattle.std.specs.List.{list_all};
+ghost use Rattle.strategy_graph.specs.Tables.{is_winning, rest_node, rest_nodes};
 
 mod depths;
 mod replies;
@@ -52,6 +53,16 @@ impl Rest {
         ensures wins { result ≡ is_winning self }
     {
         matches!(self, Rest::Wins)
+    }
+
+    /// Whether the node that is named, if one is, is below `len`.
+    pub(crate) fn is_below(self, len: u32) -> bool
+        ensures below { result ≡ list_all (λ j. nat_lt j len) (rest_nodes self) }
+    {
+        match self {
+            Rest::To(number) => number < len,
+            _ => true,
+        }
     }
 
     /// The node that is named, if one is.

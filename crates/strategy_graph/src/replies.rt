@@ -138,11 +138,5 @@ pub(crate) fn answer_among(replies: &Replies, rest: Rest, reply: Point) -> Optio
 pub(crate) fn are_all_below(replies: &Replies, rest: Rest, len: u32) -> bool
     ensures below { result ≡ names_below (record { replies = replies.now; rest = rest }) len }
 {
-    if !replies.are_below(len) {
-        return false;
-    }
-    match rest.node() {
-        None => true,
-        Some(number) => number < len,
-    }
+    replies.are_below(len) && rest.is_below(len)
 }
