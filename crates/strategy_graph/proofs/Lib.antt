@@ -8,3 +8,4 @@ pub mod Fuel
 pub mod Reading
 pub mod Naming
 pub mod Filling
+pub mod Equal

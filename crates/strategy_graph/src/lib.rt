@@ -79,7 +79,7 @@ impl Rest {
 
 /// A node of a table: the attack that is played, the replies that are listed, and the rest. A node whose rest is `Wins`
 /// is a winning node: its attack is to win at once.
-#[derive(Debug, Drop)]
+#[derive(Debug, Drop, PartialEq, Eq, Hash)]
 pub struct Node {
     pub attack: Point,
     pub replies: Replies,
