@@ -9,3 +9,4 @@ pub mod Reading
 pub mod Naming
 pub mod Filling
 pub mod Equal
+pub mod Steps
