@@ -18,9 +18,13 @@ if_answered (Some j) count = count j
 abbrev pub arrivals_at : RuleKind → Answers → (ℕ → Grid → ℕ) → Grid → Point → ℕ
 arrivals_at rule a count b q = if_goes_on (outcome rule b q) (if_answered (answer a q) (λ j. count j (after b q)))
 
+-- the arrivals behind these replies at b
+abbrev pub arrivals_among : RuleKind → Answers → (ℕ → Grid → ℕ) → Grid → List Point → ℕ
+arrivals_among rule a count b qs = sum_by (arrivals_at rule a count b) qs
+
 -- the arrivals behind all replies at b
 abbrev pub arrivals_after : RuleKind → Answers → (ℕ → Grid → ℕ) → Grid → ℕ
-arrivals_after rule a count b = sum_by (arrivals_at rule a count b) (points_of b)
+arrivals_after rule a count b = arrivals_among rule a count b (points_of b)
 
 -- the arrivals behind a node at b: those behind all replies where it is no winning node and its attack goes on, else 0
 abbrev pub arrivals_behind : RuleKind → Option Node → (ℕ → Grid → ℕ) → Grid → ℕ

@@ -1,16 +1,26 @@
 -- The laws of tables that the layers above rest on.
-use Rattle.std.specs.Prelude.{◌≡◌, ◌↔◌, ℕ, ◌<◌, true, List, ◌++◌, length}
+use Rattle.std.specs.Prelude.{◌≡◌, ◌↔◌, ℕ, suc, ◌<◌, true, List, ◌++◌, length, slice_get}
 use Rattle.game_rules.specs.Grid.{Grid}
 use Rattle.game_rules.specs.Games.{WinsWithin, WinsAfter}
 use Rattle.game_rules.specs.declared.RuleKind.{RuleKind}
 use Rattle.game_rules.specs.declared.Point.{Point}
 use Rattle.strategy_graph.specs.declared.Node.{Node}
 use Rattle.strategy_graph.specs.declared.Why.{Why}
-use Rattle.strategy_graph.specs.Tables.{Answers, NamesLower, names_below, depth, start_depth}
-use Rattle.strategy_graph.specs.Acceptance.{Accepted, AcceptedStart}
-use Rattle.strategy_graph.specs.Arrivals.{arrivals, start_arrivals}
+use Rattle.strategy_graph.specs.Tables.{Answers, NamesLower, names_below, node_depth, depth, start_depth}
+use Rattle.strategy_graph.specs.Acceptance.{AcceptedNode, Accepted, AcceptedStart}
+use Rattle.strategy_graph.specs.Arrivals.{arrivals_behind, arrivals, start_arrivals}
 use Rattle.strategy_graph.specs.Games.{game, attacks, EndsWell}
 use Rattle.strategy_graph.specs.Leads.{Leads, LeadsStart}
+
+-- depth, acceptance and arrivals of node i, by those of the nodes that it names
+pub record GoesByNode (t : List Node) (i : ℕ) : Type 0 where
+  pub depth_by_node : depth t i ≡ node_depth (slice_get t i) (depth t)
+  pub accepted_by_node : (rule : RuleKind) (b : Grid) → Accepted rule t i b ↔ AcceptedNode rule (slice_get t i) (Accepted rule t) b
+  pub arrivals_by_node : (rule : RuleKind) (b : Grid) → arrivals rule t i b ≡ suc (arrivals_behind rule (slice_get t i) (arrivals rule t) b)
+
+-- the bound on the nodes that follow one another plays no part
+abbrev pub NodesGoByNode : Type 0
+NodesGoByNode = (t : List Node) → NamesLower t → (i : ℕ) → GoesByNode t i
 
 -- an accepted node wins within its depth
 abbrev pub AcceptedWins : Type 0

@@ -9,8 +9,9 @@
 //! games against it end well, and that all this stays as it is however the table grows.
 #![tactic(auto)]
 
-ghost use Rattle.std.specs.Prelude.{◌≡◌};
-ghost use Rattle.strategy_graph.specs.Tables.{is_winning, rest_node};
+ghost use Rattle.std.specs.Prelude.{◌≡◌, nat_lt};
+ghost use Rattle.std.specs.List.{list_all};
+ghost use Rattle.strategy_graph.specs.Tables.{is_winning, rest_node, rest_nodes};
 
 mod depths;
 mod replies;
@@ -24,7 +25,7 @@ pub use roots::{Root, Start};
 pub use table::{PushError, Table};
 pub use theorems::{
     accepted_start_wins, accepted_wins, faults_refute, faults_refute_start, games_end_well,
-    growth_keeps, growth_keeps_start,
+    growth_keeps, growth_keeps_start, nodes_go_by_node,
 };
 
 /// The most nodes that a table has.
@@ -54,6 +55,16 @@ impl Rest {
         matches!(self, Rest::Wins)
     }
 
+    /// Whether the node that is named, if one is, is below `len`.
+    pub(crate) fn is_below(self, len: u32) -> bool
+        ensures below { result ≡ list_all (λ j. nat_lt j len) (rest_nodes self) }
+    {
+        match self {
+            Rest::To(number) => number < len,
+            _ => true,
+        }
+    }
+
     /// The node that is named, if one is.
     pub fn node(self) -> Option<u32>
         ensures node { result ≡ rest_node self }
@@ -68,7 +79,7 @@ impl Rest {
 
 /// A node of a table: the attack that is played, the replies that are listed, and the rest. A node whose rest is `Wins`
 /// is a winning node: its attack is to win at once.
-#[derive(Debug, Drop)]
+#[derive(Debug, Drop, PartialEq, Eq, Hash)]
 pub struct Node {
     pub attack: Point,
     pub replies: Replies,

@@ -8,6 +8,7 @@ ghost use Rattle.strategy_graph.specs.Tables.{answer, is_rising, listed, names_b
 use crate::{Reply, Rest};
 use game_rules::Point;
 use std::alloc::{AllocError, Global};
+use std::hash::{Hash, Hasher};
 use std::marker::Model;
 
 /// Whether `p` comes before `q` in reading order: by y, then by x.
@@ -46,6 +47,36 @@ impl Model for Replies {
     ghost Value = { List Reply };
 
     ghost view = { λ r. r.items.items };
+}
+
+impl PartialEq for Replies {
+    ghost use Rattle.strategy_graph.specs.Same.{same_replies, same_replies_per};
+
+    ghost eq = { same_replies };
+
+    ghost laws = { same_replies_per };
+
+    fn eq(&self, other: &Replies) -> bool {
+        self.items == other.items
+    }
+}
+
+impl Eq for Replies {
+    ghost use Rattle.strategy_graph.specs.Same.{same_replies_equiv};
+
+    ghost laws = { same_replies_equiv };
+}
+
+impl Hash for Replies {
+    ghost use Rattle.strategy_graph.specs.Same.{hashed_replies, same_replies_hashed};
+
+    ghost hash_input = { hashed_replies };
+
+    ghost respects_eq = { same_replies_hashed };
+
+    fn hash<H: Hasher>(&self, state: &mut H) {
+        self.items.hash(state);
+    }
 }
 
 impl Replies {
@@ -108,7 +139,7 @@ impl Replies {
         let found = self
             .items
             .iter()
-            .find(|reply| reply.at.x == at.x && reply.at.y == at.y)?;
+            .find(|reply| reply.at == at)?;
         Some(found.next)
     }
 
@@ -138,11 +169,5 @@ pub(crate) fn answer_among(replies: &Replies, rest: Rest, reply: Point) -> Optio
 pub(crate) fn are_all_below(replies: &Replies, rest: Rest, len: u32) -> bool
     ensures below { result ≡ names_below (record { replies = replies.now; rest = rest }) len }
 {
-    if !replies.are_below(len) {
-        return false;
-    }
-    match rest.node() {
-        None => true,
-        Some(number) => number < len,
-    }
+    replies.are_below(len) && rest.is_below(len)
 }

@@ -1,7 +1,13 @@
 // The laws of tables, each as the contract of a function that computes nothing.
 #![tactic(auto)]
 
-ghost use Rattle.strategy_graph.specs.Laws.{AcceptedWins, AcceptedStartWins, GamesEndWell, GrowthKeeps, GrowthKeepsStart, FaultsRefute, FaultsRefuteStart};
+ghost use Rattle.strategy_graph.specs.Laws.{NodesGoByNode, AcceptedWins, AcceptedStartWins, GamesEndWell, GrowthKeeps, GrowthKeepsStart, FaultsRefute, FaultsRefuteStart};
+
+/// Depth, acceptance and arrivals of a node go by those of the nodes that it names: the bound on the nodes that follow one
+/// another, by which they are defined, plays no part.
+pub fn nodes_go_by_node()
+    ensures steps { NodesGoByNode }
+{}
 
 /// An accepted node wins within its depth: whatever the replies, the side to move wins with so many attacks.
 pub fn accepted_wins()
