@@ -104,8 +104,9 @@ impl Board {
     /// Whether the point is on the board and empty.
     pub fn is_empty(&self, p: Point) -> bool
         ensures empty { result ≡ is_empty_lem self.now p }
+        ensures board { IsBoard self.now }
     {
-        self.on(p) && matches!(self.cell(p), Cell::Empty)
+        p.x < self.width && p.y < self.height && matches!(self.cell(p), Cell::Empty)
     }
 
     /// Whether the point is on the board and holds a stone of the side.
