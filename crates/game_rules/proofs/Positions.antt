@@ -36,8 +36,8 @@ same_or_apart : (p q : Point) → (p ≡ q) ⊎ Apart p q
 same_or_apart p q = same_by p q (nat_eq p.x q.x) (nat_eq p.y q.y) refl refl
 
 -- a stone on an empty point adds to its side and takes nothing
-more_by : (b : Grid) (s : Side) (p q : Point) → IsBoard b → is_empty b p ≡ true → holds b s q ≡ true → holds (put b s p) s q ≡ true
-more_by b s p q ok empty h = elim (same_or_apart p q) [
+pub holds-put_more : (b : Grid) (s : Side) (p q : Point) → IsBoard b → is_empty b p ≡ true → holds b s q ≡ true → holds (put b s p) s q ≡ true
+holds-put_more b s p q ok empty h = elim (same_or_apart p q) [
   | inl same ↦ subst (λ (r : Point). holds (put b s p) s r ≡ true) same (holds-put_same b s p ok (is_empty-on b p empty))
   | inr apart ↦ holds-put_other b s s p q (is_empty-on b p empty) apart ∙ h
 ]
@@ -88,7 +88,7 @@ module _ (b : Grid) (s : Side) (p : Point) (ok : IsBoard b) (empty : is_empty b 
 
   stone_at-more : (o : Option Point) → stone_at b s o ≡ true → stone_at (put b s p) s o ≡ true
   stone_at-more None h = h
-  stone_at-more (Some q) h = more_by b s p q ok empty h
+  stone_at-more (Some q) h = holds-put_more b s p q ok empty h
 
   not_before : (o : Option Point) → stone_at (put b s p) s o ≡ false → stone_at b s o ≡ false
   not_before o h = by_test (stone_at b s o) refl where
@@ -111,7 +111,7 @@ module _ (b : Grid) (s : Side) (p : Point) (ok : IsBoard b) (empty : is_empty b 
       ahead_is b s d q on _ (leads_before (λ k. along d q k 0) _ (ahead_leads (put b s p) s d q on) ahead) in
       let z : stones_behind b s d q ≡ stones_behind (put b s p) s d q =
       behind_is b s d q on _ (leads_before (λ k. along d q 0 k) _ (behind_leads (put b s p) s d q on) behind) in
-      rw (mine, more_by b s p q ok empty mine, a, z) refl
+      rw (mine, holds-put_more b s p q ok empty mine, a, z) refl
 
   leads_reach : (f : ℕ → Bool) (m e : ℕ) → Leads f m → ((j : ℕ) → 1 ≤ j → j ≤ e → f j ≡ true) → e ≤ m
   leads_reach f m e h all = elim (cases_lt m e) [
@@ -122,7 +122,7 @@ module _ (b : Grid) (s : Side) (p : Point) (ok : IsBoard b) (empty : is_empty b 
   -- p is e steps behind q, in its run: then q is e steps ahead of p, in the run of p
   run_behind : (d : Axis) (q : Point) (e : ℕ) → holds b s q ≡ true → 1 ≤ e → e ≤ stones_behind (put b s p) s d q → along d q 0 e ≡ Some p → run_of (put b s p) s d q ≡ run_of (put b s p) s d p
   run_behind d q e mine step far here =
-      let mine' = more_by b s p q ok empty mine in
+      let mine' = holds-put_more b s p q ok empty mine in
       let on : is_on b q ≡ true = and_left (is_on b q) _ mine in
       let back : along d p e 0 ≡ Some q = along-then d q p 0 e e 0 here ∙ along-same d q (0 + e) (e + 0) 0 0 (omega arith) ∙ along-zero d q in
       let place : (j : ℕ) (k l : ℕ) → j + l ≡ k + e → stone_at (put b s p) s (along d p j 0) ≡ stone_at (put b s p) s (along d q k l) =
@@ -136,7 +136,7 @@ module _ (b : Grid) (s : Side) (p : Point) (ok : IsBoard b) (empty : is_empty b 
   -- a stone of the mover is in the run of p, or in the run that it was in
   run_after : (d : Axis) (q : Point) → holds b s q ≡ true → (run_of (put b s p) s d q ≡ run_of (put b s p) s d p) ⊎ (run_of (put b s p) s d q ≡ run_of b s d q)
   run_after d q mine =
-      let mine' = more_by b s p q ok empty mine in
+      let mine' = holds-put_more b s p q ok empty mine in
       elim (meets_or_misses (λ k. along d q k 0) p (stones_ahead (put b s p) s d q)) [
         | inl found ↦ inl (sym (run-same (put b s p) s d q p found.0 found.3 mine' found.2 found.1))
         | inr none ↦ elim (meets_or_misses (λ k. along d q 0 k) p (stones_behind (put b s p) s d q)) [
