@@ -1,1 +1,2 @@
 mod ThreePlaces
+mod Lawfulness

@@ -1,18 +1,16 @@
 -- Three points of a stone are within three steps of it, and the search for one that is no foul.
-use Rattle.std.proofs.Common.{◌≡◌, ◌≢◌, ◌⊎◌, inl, inr, ℕ, zero, suc, ◌+◌, ◌-◌, ◌*◌, ◌≤◌, ◌<◌, Bool, true, false, cond, ◌&&◌, ◌||◌, not, refl, sym, ap, subst, add-one, ◌∙◌, arith, List, [], ◌∷◌, map, nat_eq}
+use Rattle.std.proofs.Common.{◌≡◌, ◌⊎◌, inl, inr, ℕ, zero, suc, ◌+◌, ◌-◌, ◌≤◌, ◌<◌, Bool, true, false, cond, ◌&&◌, ◌||◌, not, refl, sym, ap, add-one, ◌∙◌, arith, List, [], ◌∷◌, nat_eq}
 use Rattle.std.specs.List.{list_any, filter, range_with_len}
-use Rattle.std.specs.Prelude.{Option, Some, None, is_none, is_some}
+use Rattle.std.specs.Prelude.{Option, Some, None, is_none}
 use Rattle.std.proofs.lemmas.Bool.Decides.{nat_tests}
-use Rattle.game_rules.specs.Grid.{Grid, IsBoard, is_on, is_empty, put, along, points_of, holds, empties_of}
-use Rattle.game_rules.specs.Shapes.{is_three_point, three_points, is_straight, five, gives_straight, is_in_run, is_at, is_same_point, run_of, stones_ahead, stones_behind, wins_at}
-use Rattle.game_rules.specs.Play.{foul, foul_within, stone_foul, is_three}
+use Rattle.game_rules.specs.Grid.{Grid, IsBoard, is_on, is_empty, put, along, points_of, holds}
+use Rattle.game_rules.specs.Shapes.{is_three_point, three_points_of, is_straight, five, gives_straight, is_in_run, is_at, is_same_point, run_of, stones_ahead, stones_behind, wins_at}
+use Rattle.game_rules.specs.Play.{black_foul, black_foul_within, stone_foul, is_three}
 use Rattle.game_rules.specs.declared.RuleKind.{RuleKind}
-use Rattle.game_rules.specs.declared.Foul.{Foul}
 use Rattle.game_rules.specs.declared.Side.{Side}
 use Rattle.game_rules.specs.declared.Side.TheVariants.{Black}
 use Rattle.game_rules.specs.declared.Axis.{Axis}
 use Rattle.game_rules.specs.declared.Point.{Point}
-use Rattle.game_rules.proofs.Rows.{any_found}
 use Rattle.game_rules.proofs.Boards.{and_left, and_right, is_empty-on, empties_of-put}
 use Rattle.game_rules.proofs.Lines.{along-same}
 use Rattle.game_rules.proofs.Points.{points-found, none_of}
@@ -96,26 +94,26 @@ module _ (rule : RuleKind) (b : Grid) (d : Axis) (p : Point) where
       in_run_near rule (put b Black q) Black d p still q (run_is_four rule (put b Black q) Black d p both.0) both.1
 
   free : Point → Bool
-  free q = is_three_point rule b Black d p q && is_none (foul rule b q)
+  free q = is_three_point rule b Black d p q && is_none (black_foul rule b q)
 
-  is_three-free : is_three rule b d p (foul rule b) ≡ list_any (λ q. is_three_point rule b Black d p q && is_none (foul rule b q)) (points_of b)
-  unfolding is_three three_points
-  is_three-free = list_any-filter (λ q. is_none (foul rule b q)) (is_three_point rule b Black d p) (points_of b)
+  is_three-free : is_three rule b d p (black_foul rule b) ≡ list_any (λ q. is_three_point rule b Black d p q && is_none (black_foul rule b q)) (points_of b)
+  unfolding is_three three_points_of
+  is_three-free = list_any-filter (λ q. is_none (black_foul rule b q)) (is_three_point rule b Black d p) (points_of b)
 
-  found_three : (o : Option Point) → free_three rule b d p o ≡ true → is_three rule b d p (foul rule b) ≡ true
+  found_three : (o : Option Point) → free_three rule b d p o ≡ true → is_three rule b d p (black_foul rule b) ≡ true
   found_three None h = cc
   found_three (Some q) h =
       let on = is_empty-on b q (three_point-empty q (and_left (is_three_point rule b Black d p q) _ h)) in
-      is_three-free ∙ points-found b (λ q. is_three_point rule b Black d p q && is_none (foul rule b q)) q on h
+      is_three-free ∙ points-found b (λ q. is_three_point rule b Black d p q && is_none (black_foul rule b q)) q on h
 
-  place_found : (i : ℕ) (q : Point) → along d p (i + 1) 4 ≡ Some q → (is_three_point rule b Black d p q && is_none (foul rule b q)) ≡ true → free_three rule b d p (along d p (i + 1) 4) ≡ true
+  place_found : (i : ℕ) (q : Point) → along d p (i + 1) 4 ≡ Some q → (is_three_point rule b Black d p q && is_none (black_foul rule b q)) ≡ true → free_three rule b d p (along d p (i + 1) 4) ≡ true
   place_found i q at h = ap (free_three rule b d p) at ∙ h
 
   -- an axis is a three exactly where one of the seven places is a three point that is no foul
-  pub three_by_place : (i : ℕ) → free_three rule b d p (along d p (i + 1) 4) ≡ true → is_three rule b d p (foul rule b) ≡ true
+  pub three_by_place : (i : ℕ) → free_three rule b d p (along d p (i + 1) 4) ≡ true → is_three rule b d p (black_foul rule b) ≡ true
   three_by_place i h = found_three (along d p (i + 1) 4) h
 
-  pub no_three : IsBoard b → holds b Black p ≡ true → ((i : ℕ) → i < 7 → free_three rule b d p (along d p (i + 1) 4) ≡ false) → is_three rule b d p (foul rule b) ≡ false
+  pub no_three : IsBoard b → holds b Black p ≡ true → ((i : ℕ) → i < 7 → free_three rule b d p (along d p (i + 1) 4) ≡ false) → is_three rule b d p (black_foul rule b) ≡ false
   no_three ok mine none = is_three-free ∙ none_of _ (points_of b) (λ q h.
       let near = three_point-near ok mine q (and_left (is_three_point rule b Black d p q) _ h) in
       let yes : free_three rule b d p (along d p (near.0 + 1) 4) ≡ true = place_found near.0 q near.2 h in
@@ -124,8 +122,8 @@ module _ (rule : RuleKind) (b : Grid) (d : Axis) (p : Point) where
       cc)
 
 -- a foul, one stone on
-pub foul-step : (rule : RuleKind) (b : Grid) (p : Point) → IsBoard b → is_empty b p ≡ true → foul rule b p ≡ stone_foul rule (put b Black p) p (foul rule (put b Black p))
-unfolding foul_within foul
+pub foul-step : (rule : RuleKind) (b : Grid) (p : Point) → IsBoard b → is_empty b p ≡ true → black_foul rule b p ≡ stone_foul rule (put b Black p) p (black_foul rule (put b Black p))
+unfolding black_foul_within black_foul
 foul-step rule b p ok h = rw (← empties_of-put b Black p ok h, add-one) refl
 
 -- for a point of the board, nothing changes where points off the board are left out

@@ -10,7 +10,7 @@ ghost use Rattle.std.specs.Prelude.{◌≡◌, ◌<◌, ◌&&◌, IsTrue, is_non
 ghost use Rattle.std.specs.List.{list_any, count_by, sum_by};
 ghost use Rattle.game_rules.specs.Grid.{IsBoard, is_on, is_empty, holds, along as along_lem, axes};
 ghost use Rattle.game_rules.specs.Shapes.{is_at as is_at_lem, is_in_run as is_in_run_lem, is_three_point as is_three_point_lem, is_straight, run_of, fours_of};
-ghost use Rattle.game_rules.specs.Play.{is_three as is_three_lem, stone_foul as stone_foul_lem, foul as foul_lem, foul_of};
+ghost use Rattle.game_rules.specs.Play.{is_three as is_three_lem, stone_foul as stone_foul_lem, black_foul as black_foul_lem, foul_of};
 ghost use Rattle.foul_judge.specs.Threes.{free_three};
 
 use game_rules::Foul;
@@ -35,7 +35,7 @@ pub fn foul_at<R: Rule>(board: &mut Board, p: Point) -> Option<Foul>
 #[cycle(fouls)]
 fn black_foul<R: Rule>(board: &mut Board, p: Point) -> Option<Foul>
     requires empty { IsTrue (is_empty board.old p) }
-    ensures foul { result ≡ foul_lem R.KIND board.old p }
+    ensures foul { result ≡ black_foul_lem R.KIND board.old p }
     ensures same { board.new ≡ board.old }
 {
     board.put(p, Side::Black);
@@ -50,7 +50,7 @@ fn black_foul<R: Rule>(board: &mut Board, p: Point) -> Option<Foul>
 fn stone_foul<R: Rule>(board: &mut Board, p: Point) -> Option<Foul>
     requires board { IsBoard board.old }
     requires stone { IsTrue (holds board.old Side.Black p) }
-    ensures foul { result ≡ stone_foul_lem R.KIND board.old p (foul_lem R.KIND board.old) }
+    ensures foul { result ≡ stone_foul_lem R.KIND board.old p (black_foul_lem R.KIND board.old) }
     ensures same { board.new ≡ board.old }
 {
     if has_five(board, p) {
@@ -71,7 +71,7 @@ fn stone_foul<R: Rule>(board: &mut Board, p: Point) -> Option<Foul>
 fn threes<R: Rule>(board: &mut Board, p: Point) -> u32
     requires board { IsBoard board.old }
     requires stone { IsTrue (holds board.old Side.Black p) }
-    ensures threes { result ≡ count_by (λ d. is_three_lem R.KIND board.old d p (foul_lem R.KIND board.old)) axes }
+    ensures threes { result ≡ count_by (λ d. is_three_lem R.KIND board.old d p (black_foul_lem R.KIND board.old)) axes }
     ensures same { board.new ≡ board.old }
 {
     u32::from(is_three::<R>(board, Axis::Row, p))
@@ -86,7 +86,7 @@ fn threes<R: Rule>(board: &mut Board, p: Point) -> u32
 fn is_three<R: Rule>(board: &mut Board, axis: Axis, p: Point) -> bool
     requires board { IsBoard board.old }
     requires stone { IsTrue (holds board.old Side.Black p) }
-    ensures three { result ≡ is_three_lem R.KIND board.old axis p (foul_lem R.KIND board.old) }
+    ensures three { result ≡ is_three_lem R.KIND board.old axis p (black_foul_lem R.KIND board.old) }
     ensures same { board.new ≡ board.old }
 {
     for place in 0..7 {

@@ -5,6 +5,11 @@
 #![tactic(auto)]
 
 mod foul;
+mod outcome;
+mod position;
+mod seen;
 
 pub use foul::foul_at;
 pub use game_rules::{Foul, Outcome};
+pub use position::{Position, PositionError};
+pub use seen::Seen;

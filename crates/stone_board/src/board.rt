@@ -158,6 +158,7 @@ impl Board {
     /// How many stones of the side stand on the board.
     pub fn count(&self, side: Side) -> u32
         ensures count { result ≡ stones_of self.now side }
+        ensures board { IsBoard self.now }
     {
         match side {
             Side::Black => self.black,

@@ -1,9 +1,8 @@
-use Rattle.std.proofs.Common.{rules, ◌≡◌, ◌+◌, ◌*◌, ◌≤◌, ◌<◌, true, false, refl, sym, ap, ◌∙◌, arith}
-use Rattle.game_rules.specs.Grid.{Grid, IsBoard, is_on, is_empty, empties_of, holds, put, lift, along}
+use Rattle.std.proofs.Common.{rules, ◌≡◌, ◌+◌, ◌*◌, ◌<◌, true, sym, ap, ◌∙◌, arith}
+use Rattle.game_rules.specs.Grid.{Grid, IsBoard, is_empty, empties_of, holds, lift, along}
 use Rattle.game_rules.specs.Shapes.{is_three_point}
-use Rattle.game_rules.specs.Play.{foul, stone_foul}
+use Rattle.game_rules.specs.Play.{black_foul, stone_foul}
 use Rattle.game_rules.specs.declared.Side.TheVariants.{Black}
-use Rattle.game_rules.specs.declared.Point.{Point}
 use Rattle.game_rules.proofs.Boards.{lift-put, is_empty-on, empties_of-put, holds-put_same}
 use Rattle.game_rules.proofs.Positions.{IsBoard-put}
 use Rattle.stone_board.specs.Steps.{holds_stone}
@@ -27,7 +26,7 @@ black_foul-lift-requires g t c =
 pub black_foul-returns-clause-foul : goal.black_foul-returns-clause-foul
 black_foul-returns-clause-foul g t c =
     c.stone_foul-result.ensures.foul
-    ∙ ap (λ (b : Grid). stone_foul g.R.Rule.KIND b c.args.p (foul g.R.Rule.KIND b)) c.put.ensures.put
+    ∙ ap (λ (b : Grid). stone_foul g.R.Rule.KIND b c.args.p (black_foul g.R.Rule.KIND b)) c.put.ensures.put
     ∙ sym (foul-step g.R.Rule.KIND c.args.board.now c.args.p c.put.ensures.board c.requires.empty)
 
 pub black_foul-returns-clause-same : goal.black_foul-returns-clause-same

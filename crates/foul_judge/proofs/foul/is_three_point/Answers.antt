@@ -1,5 +1,5 @@
 use Rattle.std.proofs.Common.{◌≡◌, true, sym, ap, ◌∙◌}
-use Rattle.game_rules.specs.Grid.{Grid, is_empty, lift, put, holds, is_on}
+use Rattle.game_rules.specs.Grid.{Grid, is_empty, lift}
 use Rattle.game_rules.specs.declared.Side.TheVariants.{Black}
 use Rattle.game_rules.proofs.Boards.{lift-put, is_empty-on}
 use Rattle.game_rules.proofs.Positions.{holds-put_more}
