@@ -1,5 +1,5 @@
 -- A move that goes on leaves a lawful position.
-use Rattle.std.proofs.Common.{◌≡◌, ◌≢◌, ◌⊎◌, inl, inr, ℕ, zero, suc, ◌+◌, ◌-◌, ◌≤◌, Bool, true, false, cond, ◌&&◌, ◌||◌, refl, sym, ap, subst, ◌∙◌, arith, length-set, get_or, nat_eq, eq-eqb}
+use Rattle.std.proofs.Common.{◌≡◌, ◌≢◌, ◌⊎◌, inl, inr, ℕ, zero, suc, ◌+◌, ◌-◌, ◌≤◌, Bool, true, false, cond, ◌&&◌, ◌||◌, refl, sym, ap, subst, ◌∙◌, arith, length-set, List, [], ◌∷◌, set, get_or, get_or-set_same, nat_eq, eq-eqb}
 use Rattle.std.specs.Prelude.{Option, Some, None}
 use Rattle.std.specs.List.{prefix_len, range_with_len, list_any}
 use Rattle.std.proofs.lemmas.Bool.{cases_lt}
@@ -7,13 +7,13 @@ use Rattle.std.proofs.lemmas.Bool.Decides.{nat_tests}
 use Rattle.std.proofs.lemmas.List.Sums.{sum_by-set}
 use Rattle.game_rules.specs.Grid.{Grid, IsBoard, is_on, is_empty, is_stone_of, stone_of, holds, cell_at, place_of, put, lift, along, axes, stones_of, empties_of}
 use Rattle.game_rules.specs.Shapes.{stone_at, stones_ahead, stones_behind, run_of, line_bound, row_wins, wins_on, five}
-use Rattle.game_rules.specs.Play.{IsPosition, NamesMover, outcome, outcome_by, foul_of, mover, other, after}
+use Rattle.game_rules.specs.Play.{IsPosition, IsUnwon, NamesMover, outcome, outcome_by, foul_of, mover, other, after}
 use Rattle.game_rules.specs.declared.Outcome.TheVariants.{GoesOn}
 use Rattle.game_rules.specs.declared.Foul.{Foul}
 use Rattle.game_rules.specs.declared.Side.{Side}
 use Rattle.game_rules.specs.declared.Side.TheVariants.{Black, White}
 use Rattle.game_rules.specs.declared.Cell.{Cell}
-use Rattle.game_rules.specs.declared.Cell.TheVariants.{Empty}
+use Rattle.game_rules.specs.declared.Cell.TheVariants.{Empty, Black as BlackStone, White as WhiteStone}
 use Rattle.game_rules.specs.declared.Axis.{Axis}
 use Rattle.game_rules.specs.declared.Axis.TheVariants.{Row, Column, Down, Up}
 use Rattle.game_rules.specs.declared.Point.{Point}
@@ -36,8 +36,8 @@ same_or_apart : (p q : Point) → (p ≡ q) ⊎ Apart p q
 same_or_apart p q = same_by p q (nat_eq p.x q.x) (nat_eq p.y q.y) refl refl
 
 -- a stone on an empty point adds to its side and takes nothing
-more_by : (b : Grid) (s : Side) (p q : Point) → IsBoard b → is_empty b p ≡ true → holds b s q ≡ true → holds (put b s p) s q ≡ true
-more_by b s p q ok empty h = elim (same_or_apart p q) [
+pub holds-put_more : (b : Grid) (s : Side) (p q : Point) → IsBoard b → is_empty b p ≡ true → holds b s q ≡ true → holds (put b s p) s q ≡ true
+holds-put_more b s p q ok empty h = elim (same_or_apart p q) [
   | inl same ↦ subst (λ (r : Point). holds (put b s p) s r ≡ true) same (holds-put_same b s p ok (is_empty-on b p empty))
   | inr apart ↦ holds-put_other b s s p q (is_empty-on b p empty) apart ∙ h
 ]
@@ -88,7 +88,7 @@ module _ (b : Grid) (s : Side) (p : Point) (ok : IsBoard b) (empty : is_empty b 
 
   stone_at-more : (o : Option Point) → stone_at b s o ≡ true → stone_at (put b s p) s o ≡ true
   stone_at-more None h = h
-  stone_at-more (Some q) h = more_by b s p q ok empty h
+  stone_at-more (Some q) h = holds-put_more b s p q ok empty h
 
   not_before : (o : Option Point) → stone_at (put b s p) s o ≡ false → stone_at b s o ≡ false
   not_before o h = by_test (stone_at b s o) refl where
@@ -111,7 +111,7 @@ module _ (b : Grid) (s : Side) (p : Point) (ok : IsBoard b) (empty : is_empty b 
       ahead_is b s d q on _ (leads_before (λ k. along d q k 0) _ (ahead_leads (put b s p) s d q on) ahead) in
       let z : stones_behind b s d q ≡ stones_behind (put b s p) s d q =
       behind_is b s d q on _ (leads_before (λ k. along d q 0 k) _ (behind_leads (put b s p) s d q on) behind) in
-      rw (mine, more_by b s p q ok empty mine, a, z) refl
+      rw (mine, holds-put_more b s p q ok empty mine, a, z) refl
 
   leads_reach : (f : ℕ → Bool) (m e : ℕ) → Leads f m → ((j : ℕ) → 1 ≤ j → j ≤ e → f j ≡ true) → e ≤ m
   leads_reach f m e h all = elim (cases_lt m e) [
@@ -122,7 +122,7 @@ module _ (b : Grid) (s : Side) (p : Point) (ok : IsBoard b) (empty : is_empty b 
   -- p is e steps behind q, in its run: then q is e steps ahead of p, in the run of p
   run_behind : (d : Axis) (q : Point) (e : ℕ) → holds b s q ≡ true → 1 ≤ e → e ≤ stones_behind (put b s p) s d q → along d q 0 e ≡ Some p → run_of (put b s p) s d q ≡ run_of (put b s p) s d p
   run_behind d q e mine step far here =
-      let mine' = more_by b s p q ok empty mine in
+      let mine' = holds-put_more b s p q ok empty mine in
       let on : is_on b q ≡ true = and_left (is_on b q) _ mine in
       let back : along d p e 0 ≡ Some q = along-then d q p 0 e e 0 here ∙ along-same d q (0 + e) (e + 0) 0 0 (omega arith) ∙ along-zero d q in
       let place : (j : ℕ) (k l : ℕ) → j + l ≡ k + e → stone_at (put b s p) s (along d p j 0) ≡ stone_at (put b s p) s (along d q k l) =
@@ -136,7 +136,7 @@ module _ (b : Grid) (s : Side) (p : Point) (ok : IsBoard b) (empty : is_empty b 
   -- a stone of the mover is in the run of p, or in the run that it was in
   run_after : (d : Axis) (q : Point) → holds b s q ≡ true → (run_of (put b s p) s d q ≡ run_of (put b s p) s d p) ⊎ (run_of (put b s p) s d q ≡ run_of b s d q)
   run_after d q mine =
-      let mine' = more_by b s p q ok empty mine in
+      let mine' = holds-put_more b s p q ok empty mine in
       elim (meets_or_misses (λ k. along d q k 0) p (stones_ahead (put b s p) s d q)) [
         | inl found ↦ inl (sym (run-same (put b s p) s d q p found.0 found.3 mine' found.2 found.1))
         | inr none ↦ elim (meets_or_misses (λ k. along d q 0 k) p (stones_behind (put b s p) s d q)) [
@@ -323,3 +323,70 @@ GoesOn-empty rule b p on = (goes_on (is_empty b p) (five rule b (mover b) p) (na
 
 pub GoesOn-on : (rule : RuleKind) (b : Grid) (p : Point) → outcome rule b p ≡ GoesOn → is_on b p ≡ true
 GoesOn-on rule b p on = is_empty-on b p (GoesOn-empty rule b p on)
+
+-- ---- taking a stone back
+
+set_again : (l : List Cell) (i : ℕ) (x y : Cell) → get_or l i Empty ≡ y → set (set l i x) i y ≡ l
+set_again [] i x y h = refl
+set_again (z ∷ l) zero x y h = ap (λ w. w ∷ l) (sym h)
+set_again (z ∷ l) (suc i) x y h = ap (λ w. z ∷ w) (set_again l i x y h)
+
+stone_cell : (s : Side) (c : Cell) → is_stone_of s c ≡ true → c ≡ stone_of s
+stone_cell Black Empty h = cc
+stone_cell Black BlackStone h = refl
+stone_cell Black WhiteStone h = cc
+stone_cell White Empty h = cc
+stone_cell White BlackStone h = cc
+stone_cell White WhiteStone h = refl
+
+-- a stone that is lifted and put again
+pub put-lift : (b : Grid) (s : Side) (p : Point) → holds b s p ≡ true → put (lift b p) s p ≡ b
+put-lift b s p h =
+    let e : get_or b.cells (place_of b p) Empty ≡ stone_of s = stone_cell s _ (and_right (is_on b p) _ h) in
+    ap (λ (l : List Cell). let r : Grid = record b { cells = l } in r) (set_again b.cells (place_of b p) Empty (stone_of s) e)
+
+pub lift-empty : (b : Grid) (p : Point) → IsBoard b → is_on b p ≡ true → is_empty (lift b p) p ≡ true
+lift-empty b p ok on =
+    let e : cell_at (lift b p) p ≡ Empty = get_or-set_same b.cells (place_of b p) Empty Empty (place_fits b p ok on) in
+    rw (on, e) refl
+
+pub IsBoard-lift : (b : Grid) (p : Point) → IsBoard b → IsBoard (lift b p)
+IsBoard-lift b p ok = record { wide = ok.wide; width_fits = ok.width_fits; high = ok.high; height_fits = ok.height_fits; filled = length-set b.cells (place_of b p) Empty ∙ ok.filled }
+
+module _ (b : Grid) (p : Point) (ok : IsBoard b) (turns : NamesMover b) (mine : holds b (other (mover b)) p ≡ true) where
+  lifted_on : is_on b p ≡ true
+  lifted_on = and_left (is_on b p) _ mine
+
+  lifted_counts : (t s : Side) → other (mover b) ≡ s → stones_of b t ≡ stones_of (lift b p) t + cond (is_stone_of t (stone_of s)) 1 0
+  lifted_counts t s e =
+      let again : put (lift b p) s p ≡ b = put-lift b s p (ap (λ (u : Side). holds b u p) (sym e) ∙ mine) in
+      ap (λ (c : Grid). stones_of c t) (sym again) ∙ stones_of-put (lift b p) s t p (IsBoard-lift b p ok) (lift-empty b p ok lifted_on)
+
+  -- the side that moved last is to move again
+  pub turns-lift : NamesMover (lift b p)
+  turns-lift = elim (mover_by (nat_eq (stones_of b Black) (stones_of b White)) _ _ refl turns) [
+    | inl h ↦
+        let e : other (mover b) ≡ White = ap (λ r. other (cond r Black White)) h.0 in
+        let black = lifted_counts Black White e in
+        let white = lifted_counts White White e in
+        let both = h.1 in
+        inr (omega (arith, black, white, both))
+    | inr h ↦
+        let e : other (mover b) ≡ Black = ap (λ r. other (cond r Black White)) h.0 in
+        let black = lifted_counts Black Black e in
+        let white = lifted_counts White Black e in
+        let both = h.1 in
+        inl (omega (arith, black, white, both))
+  ]
+
+-- what is left where the last stone is taken back is lawful, if no run of it wins
+pub IsPosition-lift : (rule : RuleKind) (b : Grid) (p : Point) → IsPosition rule b → holds b (other (mover b)) p ≡ true → IsUnwon rule (lift b p) → IsPosition rule (lift b p)
+IsPosition-lift rule b p lawful mine unwon =
+    let on : is_on b p ≡ true = and_left (is_on b p) _ mine in
+    let more = empties_of-put (lift b p) (other (mover b)) p (IsBoard-lift b p lawful.board) (lift-empty b p lawful.board on) in
+    record {
+      board = IsBoard-lift b p lawful.board;
+      turns = turns-lift b p lawful.board lawful.turns mine;
+      unwon = unwon;
+      open_points = omega (arith, more);
+    }

@@ -12,11 +12,11 @@ choose (suc k) (x ∷ xs) = map (λ r. x ∷ r) (choose k xs) ++ choose (suc k) 
 abbrev pub is_among : ℕ → List ℕ → Bool
 is_among x xs = list_any (λ y. x == y) xs
 
--- whether the set and the place c are five places in a row
+-- whether four different places, with the place c, are five places in a row
 abbrev pub completes : List ℕ → ℕ → Bool
 completes set c = list_any (λ a. list_all (λ i. i == c || is_among i set) (range_with_len a 5)) (range_with_len 0 5)
 
--- the places that complete a set to five in a row
+-- the places that complete a set of four to five in a row
 abbrev pub completing : List ℕ → List ℕ
 completing set = filter (completes set) (range_with_len 0 9)
 
@@ -24,6 +24,6 @@ completing set = filter (completes set) (range_with_len 0 9)
 abbrev pub four_sets : List (List ℕ)
 four_sets = filter (λ set. is_among 4 set && list_any (completes set) (range_with_len 0 9)) (choose 4 (range_with_len 0 9))
 
--- how many of these sets hold stones alone and are completed by a place that wins
+-- how many of the sets of four_sets hold stones alone and are completed by a place that wins
 abbrev pub count_fours : (ℕ → Bool) → (ℕ → Bool) → ℕ
 count_fours stone wins = count_by (λ set. list_all stone set && list_any wins (completing set)) four_sets

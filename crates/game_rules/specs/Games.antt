@@ -27,7 +27,8 @@ LosesOr Draws W = ⊥
 LosesOr GoesOn W = W
 
 -- The side to move wins within n moves of its own, whatever the replies: some move wins, or it goes on, leaves a board
--- that meets the demand of its side, and each reply is no move, fouls, or leads to a win within n - 1 moves.
+-- that meets the demand of its side, and each reply is no move, fouls, or leads to a win within n - 1 moves. Within 0
+-- moves nobody wins.
 abbrev pub WinsUnder : (Grid → Side → Bool) → RuleKind → ℕ → Grid → Type 0
 WinsUnder demand rule zero b = ⊥
 WinsUnder demand rule (suc n) b = (p : Point) × WinsOr (outcome rule b p)
@@ -63,11 +64,11 @@ WinsByFours rule n b = WinsUnder (has_five rule) rule n b
 abbrev pub WinsByThreats : RuleKind → ℕ → Grid → Type 0
 WinsByThreats rule n b = WinsUnder (has_threat rule) rule n b
 
--- the other side wins within n moves, whatever the side to move plays first
+-- the other side wins within n moves, whatever the side to move plays first; asked of a lawful position
 abbrev pub WinsAfter : RuleKind → ℕ → Grid → Type 0
 WinsAfter rule n b = (q : Point) → LosesOr (outcome rule b q) (WinsWithin rule n (after b q))
 
--- the tests of WinsOr and LosesOr
+-- the test of WinsOr
 abbrev pub wins_or : Outcome → Bool → Bool
 wins_or Refused w = false
 wins_or Wins w = true
@@ -75,6 +76,7 @@ wins_or (Fouls f) w = false
 wins_or Draws w = false
 wins_or GoesOn w = w
 
+-- the test of LosesOr
 abbrev pub loses_or : Outcome → Bool → Bool
 loses_or Refused w = true
 loses_or Wins w = false
@@ -82,13 +84,14 @@ loses_or (Fouls f) w = true
 loses_or Draws w = false
 loses_or GoesOn w = w
 
--- whether p starts such a win, where next tells whether the attacker wins from a board that it has to move on
+-- whether the move p wins, or goes on, meets the demand, and each reply is no move, fouls, or leads to a board that next
+-- says is won
 abbrev pub starts_win : (Grid → Side → Bool) → RuleKind → Grid → (Grid → Bool) → Point → Bool
 starts_win demand rule b next p =
     wins_or (outcome rule b p)
     (demand (after b p) (mover b) && list_all (λ q. loses_or (outcome rule (after b p) q) (next (after (after b p) q))) (points_of b))
 
--- the test of WinsUnder: some point of the board starts such a win
+-- the test of WinsUnder: some point of the board starts a win
 unfoldable pub wins_under : (Grid → Side → Bool) → RuleKind → ℕ → Grid → Bool
 wins_under demand rule zero b = false
 wins_under demand rule (suc n) b = list_any (starts_win demand rule b (wins_under demand rule n)) (points_of b)
@@ -102,14 +105,14 @@ abbrev pub wins_by_threats : RuleKind → ℕ → Grid → Bool
 wins_by_threats rule n b = wins_under (has_threat rule) rule n b
 
 -- the chosen move of a win by fours: the least five point of the attacker where it has one, and else the least point
--- that starts such a win within n moves
+-- that starts a win by fours within n moves; none where there is no such win
 unfoldable pub four_move : RuleKind → ℕ → Grid → Option Point
 four_move rule zero b = None
 four_move rule (suc n) b =
     if has_five rule b (mover b) then find (five rule b (mover b)) (points_of b)
     else find (starts_win (has_five rule) rule b (wins_by_fours rule n)) (points_of b)
 
--- the number where the game goes on, and else 0
+-- n where the game goes on, and else 0
 abbrev pub if_goes_on : Outcome → ℕ → ℕ
 if_goes_on Refused n = 0
 if_goes_on Wins n = 0

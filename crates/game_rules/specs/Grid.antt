@@ -34,7 +34,7 @@ is_on b p = nat_lt p.x b.width && nat_lt p.y b.height
 abbrev pub place_of : Grid → Point → ℕ
 place_of b p = p.y * b.width + p.x
 
--- the cell at a point of the board
+-- the cell at a point of the board; of a point off the board it says nothing
 abbrev pub cell_at : Grid → Point → Cell
 cell_at b p = slice_index_or b.cells (place_of b p) Empty
 
@@ -65,11 +65,11 @@ is_empty b p = is_on b p && is_empty_cell (cell_at b p)
 abbrev pub holds : Grid → Side → Point → Bool
 holds b s p = is_on b p && is_stone_of s (cell_at b p)
 
--- the board with a stone of the side on the point
+-- the board with a stone of the side on a point of the board
 abbrev pub put : Grid → Side → Point → Grid
 put b s p = record b { cells = slice_set b.cells (place_of b p) (stone_of s) }
 
--- the board without the stone on the point
+-- the board without the stone on a point of the board
 abbrev pub lift : Grid → Point → Grid
 lift b p = record b { cells = slice_set b.cells (place_of b p) Empty }
 

@@ -92,19 +92,19 @@ is_in_run b s d p q =
 unfoldable pub gives_straight : RuleKind → Grid → Side → Axis → Point → Point → Bool
 gives_straight rule b s d p q = is_straight rule (put b s q) s d p && is_in_run (put b s q) s d p q
 
--- a three point of the stone on p on the axis, as far as this axis decides: an empty point whose stone gives a straight
--- four that holds p and q, and makes no winning run on this axis
+-- a three point of the side's stone on p on the axis, as far as this axis decides: an empty point whose stone gives a
+-- straight four that holds p and q, and makes no winning run on this axis (which follows, since its run there is four)
 unfoldable pub is_line_three_point : RuleKind → Grid → Side → Axis → Point → Point → Bool
 is_line_three_point rule b s d p q = is_empty b q && not (wins_on rule b s d q) && gives_straight rule b s d p q
 
--- a three point of the stone on p on the axis: an empty point that is no five point, and whose stone gives a straight
+-- a three point of the side's stone on p on the axis: an empty point that is no five point, and whose stone gives a straight
 -- four on the axis that holds p and q
 unfoldable pub is_three_point : RuleKind → Grid → Side → Axis → Point → Point → Bool
 is_three_point rule b s d p q = is_empty b q && not (five rule b s q) && gives_straight rule b s d p q
 
--- the three points of the stone on p on the axis, in reading order
-unfoldable pub three_points : RuleKind → Grid → Side → Axis → Point → List Point
-three_points rule b s d p = filter (is_three_point rule b s d p) (points_of b)
+-- the three points of the side's stone on p on the axis, in reading order
+unfoldable pub three_points_of : RuleKind → Grid → Side → Axis → Point → List Point
+three_points_of rule b s d p = filter (is_three_point rule b s d p) (points_of b)
 
 -- whether there is such a point, and it is a three point as far as the axis decides
 abbrev pub is_line_three_at : RuleKind → Grid → Side → Axis → Point → Option Point → Bool

@@ -4,8 +4,10 @@
 //! The crate has no code of its own. What it offers to the layers above are these types, the words of its `specs/`,
 //! and the laws about those words that its `proofs/Lib.antt` makes public.
 //!
-//! Sources: the RIF Rules of Renju for fours, threes, overlines and the fouls of Black; Allis, van den Herik and
-//! Huntjens, "Go-Moku and Threat-Space Search", for wins by fours and by threats.
+//! Sources: the RIF Rules of Renju for fours, straight fours, threes, overlines and the fouls of Black. Which
+//! double-threes stand is this program's own rule: an axis counts as a three where it has a three point at which Black
+//! has no foul by the same definition, on the board with the stone. Wins by fours and by threats are those of Allis, van
+//! den Herik and Huntjens, "Go-Moku and Threat-Space Search".
 #![tactic(auto)]
 
 /// A player. Black moves first.
@@ -56,7 +58,7 @@ pub enum RuleKind {
     Renju,
 }
 
-/// Why a move of Black is forbidden under renju.
+/// Why a move of Black is forbidden under renju, asked in this order. A move that makes exactly five is no foul.
 #[derive(Clone, Copy, Debug, PartialEq, Eq)]
 pub enum Foul {
     Overline,
@@ -64,8 +66,8 @@ pub enum Foul {
     DoubleThree,
 }
 
-/// What becomes of a move: it is no move (`Refused`), it wins, it fouls and so loses, it fills the board, or the
-/// game goes on.
+/// What becomes of a move, the first that applies in this order: it is no move (`Refused`), it wins, it fouls and so
+/// loses, it fills the board, or the game goes on. So a foul on the last empty point is a foul and no draw.
 #[derive(Clone, Copy, Debug, PartialEq, Eq)]
 pub enum Outcome {
     Refused,

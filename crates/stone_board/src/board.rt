@@ -104,8 +104,9 @@ impl Board {
     /// Whether the point is on the board and empty.
     pub fn is_empty(&self, p: Point) -> bool
         ensures empty { result ≡ is_empty_lem self.now p }
+        ensures board { IsBoard self.now }
     {
-        self.on(p) && matches!(self.cell(p), Cell::Empty)
+        p.x < self.width && p.y < self.height && matches!(self.cell(p), Cell::Empty)
     }
 
     /// Whether the point is on the board and holds a stone of the side.
@@ -157,6 +158,7 @@ impl Board {
     /// How many stones of the side stand on the board.
     pub fn count(&self, side: Side) -> u32
         ensures count { result ≡ stones_of self.now side }
+        ensures board { IsBoard self.now }
     {
         match side {
             Side::Black => self.black,

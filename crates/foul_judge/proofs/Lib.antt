@@ -1,0 +1,2 @@
+mod ThreePlaces
+mod Lawfulness

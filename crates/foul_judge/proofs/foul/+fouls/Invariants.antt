@@ -1,0 +1,23 @@
+use Rattle.std.proofs.Common.{◌≡◌, ℕ, ◌+◌, ◌*◌, ◌<◌, false}
+use Rattle.game_rules.specs.Grid.{empties_of, along}
+use Rattle.foul_judge.specs.Threes.{free_three}
+use Rattle.foul_judge.proofs.foul.+fouls.Given as goal
+
+abbrev pub decreases-black_foul : goal.decreases-black_foul
+decreases-black_foul g l = 5 * empties_of l.board.now
+
+abbrev pub decreases-stone_foul : goal.decreases-stone_foul
+decreases-stone_foul g l = 5 * empties_of l.board.now + 4
+
+abbrev pub decreases-threes : goal.decreases-threes
+decreases-threes g l = 5 * empties_of l.board.now + 3
+
+abbrev pub decreases-is_three : goal.decreases-is_three
+decreases-is_three g l = 5 * empties_of l.board.now + 2
+
+abbrev pub decreases-is_free_three : goal.decreases-is_free_three
+decreases-is_free_three g l = 5 * empties_of l.board.now + 1
+
+-- none of the places so far is a three point that is no foul
+abbrev pub invariant-is_three-loop-place : goal.invariant-is_three-loop-place
+invariant-is_three-loop-place g l = (l.board ≡ l.fn.board) × ((i : ℕ) → i < l.place → free_three g.R.Rule.KIND l.fn.board l.axis l.p (along l.axis l.p (i + 1) 4) ≡ false)

@@ -1,0 +1,2 @@
+pub mod Threes
+pub mod Lawful

@@ -1,0 +1,110 @@
+//! Fours and straight fours.
+//!
+//! A four is a set of four stones that one more point makes a winning run of five. The nine places around a stone hold
+//! all of its fours, and each is found by where its five points begin and by which of them is empty.
+#![tactic(auto)]
+
+ghost use Rattle.std.specs.Prelude.{◌≡◌, ◌≤◌, ◌<◌, IsTrue, true};
+ghost use Rattle.game_rules.specs.declared.Side.{Side};
+ghost use Rattle.game_rules.specs.Grid.{is_on, holds, along as along_lem};
+ghost use Rattle.game_rules.specs.Shapes.{stone_at as stone_at_lem, fours_of, place_stone, place_wins, is_straight};
+ghost use Rattle.stone_board.specs.Steps.{holds_stone};
+ghost use Rattle.row_shapes.specs.Gaps.{is_four as is_four_lem, are_stones as are_stones_lem, fours_from as fours_from_lem};
+
+use crate::Rule;
+use crate::wins::wins_along;
+use stone_board::{Axis, Board, Cell, Point, Side};
+
+/// The number of fours of a stone on the axis: of different sets of four stones of its side that hold it and that, with
+/// one empty point, are five consecutive points whose filling gives a winning run. One line can hold two.
+pub fn fours_through<R: Rule>(board: &Board, p: Point, axis: Axis) -> u32
+    requires stone { IsTrue (holds_stone board.now p) }
+    ensures fours { (s : Side) → holds board.now s p ≡ true → result ≡ fours_of R.KIND board.now s axis p }
+    ensures bound { result ≤ 20 }
+{
+    let side = side_at(board, p);
+    fours_from::<R>(board, side, axis, p, 0)
+        + fours_from::<R>(board, side, axis, p, 1)
+        + fours_from::<R>(board, side, axis, p, 2)
+        + fours_from::<R>(board, side, axis, p, 3)
+        + fours_from::<R>(board, side, axis, p, 4)
+}
+
+/// Whether the run through a stone on the axis is a straight four: of exactly four stones, with an empty point of the
+/// board at both ends where a stone of its side makes a winning run on the axis.
+#[tactic(auto, unfolding(game_rules::specs::Shapes::is_straight))]
+pub fn straight_through<R: Rule>(board: &Board, p: Point, axis: Axis) -> bool
+    requires stone { IsTrue (holds_stone board.now p) }
+    ensures straight { (s : Side) → holds board.now s p ≡ true → result ≡ is_straight R.KIND board.now s axis p }
+{
+    let side = side_at(board, p);
+    let ahead = board.stones_ahead(side, axis, p);
+    let behind = board.stones_behind(side, axis, p);
+    1 + ahead + behind == 4
+        && wins_along::<R>(board, side, axis, p, 1 + ahead as u8, 0)
+        && wins_along::<R>(board, side, axis, p, 0, 1 + behind as u8)
+}
+
+/// The side whose stone stands on the point.
+fn side_at(board: &Board, p: Point) -> Side
+    requires stone { IsTrue (holds_stone board.now p) }
+    ensures side { (s : Side) → holds board.now s p ≡ true → result ≡ s }
+{
+    match board.cell(p) {
+        Cell::White => Side::White,
+        _ => Side::Black,
+    }
+}
+
+/// Whether a stone of the side stands so many steps ahead of the point and four back again.
+fn stone_along(board: &Board, side: Side, axis: Axis, p: Point, ahead: u8) -> bool
+    requires on { IsTrue (is_on board.now p) }
+    requires near { ahead < 9 }
+    ensures stone { result ≡ stone_at_lem board.now side (along_lem axis p ahead 4) }
+{
+    match board.along(p, axis, ahead, 4) {
+        None => false,
+        Some(q) => board.holds(side, q),
+    }
+}
+
+/// Whether the five places that begin so many steps behind `p`, but for the one that is left out, hold stones of the side.
+#[tactic(auto, unfolding(crate::specs::Gaps::are_stones))]
+fn are_stones(board: &Board, side: Side, axis: Axis, p: Point, first: u8, gap: u8) -> bool
+    requires on { IsTrue (is_on board.now p) }
+    requires first { first < 5 }
+    ensures stones { result ≡ are_stones_lem (place_stone board.now side axis p) first gap }
+{
+    (gap == 0 || stone_along(board, side, axis, p, 4 - first))
+        && (gap == 1 || stone_along(board, side, axis, p, 5 - first))
+        && (gap == 2 || stone_along(board, side, axis, p, 6 - first))
+        && (gap == 3 || stone_along(board, side, axis, p, 7 - first))
+        && (gap == 4 || stone_along(board, side, axis, p, 8 - first))
+}
+
+/// Whether these are four stones of a four of the stone on `p`.
+#[tactic(auto, unfolding(crate::specs::Gaps::is_four))]
+fn is_four<R: Rule>(board: &Board, side: Side, axis: Axis, p: Point, first: u8, gap: u8) -> bool
+    requires on { IsTrue (is_on board.now p) }
+    requires first { first < 5 }
+    requires gap { gap < 5 }
+    ensures four { result ≡ is_four_lem (place_stone board.now side axis p) (place_wins R.KIND board.now side axis p) first gap }
+{
+    first != gap
+        && are_stones(board, side, axis, p, first, gap)
+        && (wins_along::<R>(board, side, axis, p, gap + 4 - first, 4)
+            || gap == 4 && wins_along::<R>(board, side, axis, p, 3 - first, 4))
+}
+
+/// The number of fours among the five places that begin so many steps behind `p`.
+fn fours_from<R: Rule>(board: &Board, side: Side, axis: Axis, p: Point, first: u8) -> u32
+    requires on { IsTrue (is_on board.now p) }
+    requires first { first < 5 }
+    ensures fours { result ≡ fours_from_lem (place_stone board.now side axis p) (place_wins R.KIND board.now side axis p) first }
+    ensures bound { result ≤ 4 }
+{
+    u32::from(is_four::<R>(board, side, axis, p, first, 1))
+        + u32::from(is_four::<R>(board, side, axis, p, first, 2))
+        + u32::from(is_four::<R>(board, side, axis, p, first, 3))
+        + u32::from(is_four::<R>(board, side, axis, p, first, 4))
+}

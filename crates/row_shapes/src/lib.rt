@@ -1,0 +1,14 @@
+//! The rules as types, and the shapes of rows: five points, fours, straight fours and three points.
+//!
+//! Each rule of play is a type with no value that implements `Rule`; code that works under a rule is generic in it. The
+//! shapes are those of the RIF Rules of Renju; each call here answers for one point, and for one axis where it takes one.
+#![tactic(auto)]
+
+mod fours;
+mod rule;
+mod wins;
+
+pub use fours::{fours_through, straight_through};
+pub use game_rules::RuleKind;
+pub use rule::{ExactFive, Freestyle, Renju, Rule};
+pub use wins::five_at;

@@ -1,0 +1,125 @@
+//! The three rules of play.
+//!
+//! A rule decides which runs win and whether Black has fouls. Its laws are what the layers above may rely on whatever
+//! the rule is: five in a row win for both sides, fewer never do, and where Black has fouls it wins with five alone.
+#![tactic(auto)]
+
+ghost use Rattle.std.specs.Prelude.{◌≡◌, ◌<◌, ℕ, Bool, true, false, refl};
+ghost use Rattle.game_rules.specs.Shapes.{row_wins};
+ghost use Rattle.game_rules.specs.Play.{has_fouls};
+ghost use Rattle.game_rules.specs.declared.RuleKind.{RuleKind};
+ghost use Rattle.game_rules.specs.declared.Side.{Side};
+
+use game_rules::{RuleKind, Side};
+
+/// A rule of play, as a type with no value.
+pub trait Rule {
+    ghost KIND: { RuleKind };
+
+    /// Which of the three rules it is.
+    const KIND: RuleKind;
+
+    ghost BLACK_FOULS: { Bool };
+
+    /// Whether Black has fouls: under renju alone.
+    const BLACK_FOULS: bool;
+
+    /// Whether a run of this length wins for the side.
+    fn wins(side: Side, length: u32) -> bool
+        ensures wins { result ≡ row_wins KIND side length };
+
+    ghost fouls: { BLACK_FOULS ≡ has_fouls KIND Side.Black };
+
+    ghost five_wins: { (s : Side) → row_wins KIND s 5 ≡ true };
+
+    ghost fewer_never: { (s : Side) (n : ℕ) → n < 5 → row_wins KIND s n ≡ false };
+
+    ghost five_alone: { BLACK_FOULS ≡ true → (n : ℕ) → row_wins KIND Side.Black n ≡ true → n ≡ 5 };
+}
+
+/// Five or more in a row win for both sides, and nobody has fouls.
+pub struct Freestyle;
+
+impl Rule for Freestyle {
+    ghost use Rattle.std.specs.Prelude.{false, refl};
+    ghost use Rattle.row_shapes.specs.Rule.{five_wins as five_wins_lem, fewer_never as fewer_never_lem, five_alone as five_alone_lem};
+
+    ghost KIND = { RuleKind.Freestyle };
+
+    const KIND: RuleKind = RuleKind::Freestyle;
+
+    ghost BLACK_FOULS = { false };
+
+    const BLACK_FOULS: bool = false;
+
+    ghost fouls = { refl };
+
+    ghost five_wins = { five_wins_lem RuleKind.Freestyle };
+
+    ghost fewer_never = { fewer_never_lem RuleKind.Freestyle };
+
+    ghost five_alone = { five_alone_lem RuleKind.Freestyle };
+
+    fn wins(_side: Side, length: u32) -> bool {
+        length >= 5
+    }
+}
+
+/// Exactly five in a row win for both sides, and nobody has fouls.
+pub struct ExactFive;
+
+impl Rule for ExactFive {
+    ghost use Rattle.std.specs.Prelude.{false, refl};
+    ghost use Rattle.row_shapes.specs.Rule.{five_wins as five_wins_lem, fewer_never as fewer_never_lem, five_alone as five_alone_lem};
+
+    ghost KIND = { RuleKind.Exact };
+
+    const KIND: RuleKind = RuleKind::Exact;
+
+    ghost BLACK_FOULS = { false };
+
+    const BLACK_FOULS: bool = false;
+
+    ghost fouls = { refl };
+
+    ghost five_wins = { five_wins_lem RuleKind.Exact };
+
+    ghost fewer_never = { fewer_never_lem RuleKind.Exact };
+
+    ghost five_alone = { five_alone_lem RuleKind.Exact };
+
+    fn wins(_side: Side, length: u32) -> bool {
+        length == 5
+    }
+}
+
+/// Black wins with exactly five in a row and has fouls; White wins with five or more.
+pub struct Renju;
+
+impl Rule for Renju {
+    ghost use Rattle.std.specs.Prelude.{true, refl};
+    ghost use Rattle.row_shapes.specs.Rule.{five_wins as five_wins_lem, fewer_never as fewer_never_lem, five_alone as five_alone_lem};
+
+    ghost KIND = { RuleKind.Renju };
+
+    const KIND: RuleKind = RuleKind::Renju;
+
+    ghost BLACK_FOULS = { true };
+
+    const BLACK_FOULS: bool = true;
+
+    ghost fouls = { refl };
+
+    ghost five_wins = { five_wins_lem RuleKind.Renju };
+
+    ghost fewer_never = { fewer_never_lem RuleKind.Renju };
+
+    ghost five_alone = { five_alone_lem RuleKind.Renju };
+
+    fn wins(side: Side, length: u32) -> bool {
+        match side {
+            Side::Black => length == 5,
+            Side::White => length >= 5,
+        }
+    }
+}

@@ -1,0 +1,51 @@
+//! Five points: where a stone makes a winning run.
+#![tactic(auto)]
+
+ghost use Rattle.std.specs.Prelude.{◌≡◌, ◌<◌, IsTrue};
+ghost use Rattle.game_rules.specs.Grid.{is_on, is_empty, along as along_lem};
+ghost use Rattle.game_rules.specs.Shapes.{five, wins_on as wins_on_lem, wins_at as wins_at_lem};
+
+use crate::Rule;
+use stone_board::{Axis, Board, Point, Side};
+
+/// Whether the empty point is a five point of the side: whether its stone there makes a winning run on some axis.
+pub fn five_at<R: Rule>(board: &Board, side: Side, p: Point) -> bool
+    requires empty { IsTrue (is_empty board.now p) }
+    ensures five { result ≡ five R.KIND board.now side p }
+{
+    wins_on::<R>(board, side, Axis::Row, p)
+        || wins_on::<R>(board, side, Axis::Column, p)
+        || wins_on::<R>(board, side, Axis::Down, p)
+        || wins_on::<R>(board, side, Axis::Up, p)
+}
+
+/// Whether the point is on the board and empty, and a stone of the side there makes a winning run on the axis.
+pub(crate) fn wins_on<R: Rule>(board: &Board, side: Side, axis: Axis, p: Point) -> bool
+    ensures wins { result ≡ wins_on_lem R.KIND board.now side axis p }
+{
+    board.is_empty(p)
+        && R::wins(
+            side,
+            1 + board.stones_ahead(side, axis, p) + board.stones_behind(side, axis, p),
+        )
+}
+
+/// The same of the place so many steps ahead of a point and so many back again.
+pub(crate) fn wins_along<R: Rule>(
+    board: &Board,
+    side: Side,
+    axis: Axis,
+    p: Point,
+    ahead: u8,
+    back: u8,
+) -> bool
+    requires on { IsTrue (is_on board.now p) }
+    requires ahead { ahead < 128 }
+    requires back { back < 128 }
+    ensures wins { result ≡ wins_at_lem R.KIND board.now side axis (along_lem axis p ahead back) }
+{
+    match board.along(p, axis, ahead, back) {
+        None => false,
+        Some(q) => wins_on::<R>(board, side, axis, q),
+    }
+}
