@@ -1,7 +1,11 @@
 -- What the readers of lines and words answer.
 use Rattle.std.specs.Prelude.{◌≡◌, ℕ, ◌<◌, ◌≤◌, Bool, not, ◌==◌, List, [], ◌∷◌, Option, Some, None, Result, Ok, Err, length, slice_index}
 use Rattle.std.specs.List.{list_all}
+use Rattle.game_rules.specs.Grid.{Grid}
+use Rattle.game_rules.specs.Play.{other}
+use Rattle.game_rules.specs.declared.Side.{Side}
 use Rattle.game_rules.specs.declared.Point.{Point}
+use Rattle.position_files.specs.Positions.{stones}
 use Rattle.position_files.specs.declared.faults.Fault.{Fault}
 use Rattle.position_files.specs.declared.faults.Fault.TheVariants.{Bad, Memory}
 
@@ -33,6 +37,13 @@ pub record IsSide (n : ℕ) : Type 0 where
 pub record AreSides (sides : ℕ × ℕ) : Type 0 where
   pub width : IsSide sides.0
   pub height : IsSide sides.1
+
+-- the new board has stones of the side on these points, and else what the old one has
+pub record Stands (old new : Grid) (side : Side) (points : List Point) : Type 0 where
+  pub width : new.width ≡ old.width
+  pub height : new.height ≡ old.height
+  pub own : stones new side ≡ points
+  pub others : stones new (other side) ≡ stones old (other side)
 
 -- Reading bytes: what is found fits and is spelled so, and nothing is found only where nothing that fits is spelled so.
 abbrev pub Reads : {X : Type 0} → (X → Type 0) → (X → List ℕ) → Option X → List ℕ → Type 0
