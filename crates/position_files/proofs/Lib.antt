@@ -2,3 +2,4 @@ mod Numbers
 mod Cuts
 mod Items
 mod Spellings
+mod Stones

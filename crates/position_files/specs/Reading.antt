@@ -1,10 +1,11 @@
 -- What the readers of lines and words answer.
-use Rattle.std.specs.Prelude.{◌≡◌, ℕ, ◌<◌, ◌≤◌, Bool, not, ◌==◌, List, [], ◌∷◌, Option, Some, None, Result, Ok, Err, length, slice_index}
+use Rattle.std.specs.Prelude.{◌≡◌, ℕ, ◌<◌, ◌≤◌, Bool, not, ◌==◌, List, [], ◌∷◌, ◌++◌, Option, Some, None, Result, Ok, Err, length, slice_index}
 use Rattle.std.specs.List.{list_all}
 use Rattle.game_rules.specs.Grid.{Grid}
 use Rattle.game_rules.specs.Play.{other}
 use Rattle.game_rules.specs.declared.Side.{Side}
 use Rattle.game_rules.specs.declared.Point.{Point}
+use Rattle.position_files.specs.Lines.{line_feed}
 use Rattle.position_files.specs.Positions.{stones}
 use Rattle.position_files.specs.declared.faults.Fault.{Fault}
 use Rattle.position_files.specs.declared.faults.Fault.TheVariants.{Bad, Memory}
@@ -38,11 +39,10 @@ pub record AreSides (sides : ℕ × ℕ) : Type 0 where
   pub width : IsSide sides.0
   pub height : IsSide sides.1
 
--- the new board has stones of the side on these points, and else what the old one has
-pub record Stands (old new : Grid) (side : Side) (points : List Point) : Type 0 where
+-- the boards have one size and the same stones of the other side
+pub record SameBut (side : Side) (old new : Grid) : Type 0 where
   pub width : new.width ≡ old.width
   pub height : new.height ≡ old.height
-  pub own : stones new side ≡ points
   pub others : stones new (other side) ≡ stones old (other side)
 
 -- Reading bytes: what is found fits and is spelled so, and nothing is found only where nothing that fits is spelled so.
@@ -55,3 +55,15 @@ abbrev pub Gives : {X : Type 0} → (X → Type 0) → (X → List ℕ) → Resu
 Gives Fits spelling (Ok v) bytes = Fits v × (bytes ≡ spelling v)
 Gives {X} Fits spelling (Err Bad) bytes = (v : X) → Fits v → bytes ≡ spelling v → ⊥
 Gives Fits spelling (Err Memory) bytes = Unit {0}
+
+-- Reading the first line of bytes: it is the line of what is found, which fits, and the rest is what comes after it; and nothing is
+-- found only where the bytes begin with the line of nothing that fits.
+abbrev pub ReadsLine : {X : Type 0} → (X → Type 0) → (X → List ℕ) → Option (X × List ℕ) → List ℕ → Type 0
+ReadsLine {X} Fits line None bytes = (x : X) (rest : List ℕ) → Fits x → bytes ≡ line x ++ line_feed ∷ rest → ⊥
+ReadsLine Fits line (Some (x, rest)) bytes = Fits x × (bytes ≡ line x ++ line_feed ∷ rest)
+
+-- the same of a reader that takes memory, and may find none
+abbrev pub GivesLine : {X : Type 0} → (X → Type 0) → (X → List ℕ) → Result (X × List ℕ) Fault → List ℕ → Type 0
+GivesLine Fits line (Ok (x, rest)) bytes = Fits x × (bytes ≡ line x ++ line_feed ∷ rest)
+GivesLine {X} Fits line (Err Bad) bytes = (x : X) (rest : List ℕ) → Fits x → bytes ≡ line x ++ line_feed ∷ rest → ⊥
+GivesLine Fits line (Err Memory) bytes = Unit {0}
