@@ -101,3 +101,17 @@ gives_after_word Fits item first word line t (Ok us) free_first free_word same p
 gives_after_word Fits item first word line t (Err Bad) free_first free_word same parts h =
     λ us fit e. h us fit (first_word item first word line t us free_first free_word parts e).1
 gives_after_word Fits item first word line t (Err Memory) free_first free_word same parts h = tt
+
+-- a text spells one list of items
+pub items_text-injective : {X : Type 0} (Fits : X → Type 0) (item : X → List ℕ) (items : AreItems Fits item) (vs ws : List X) → AllByRecursion Fits vs → AllByRecursion Fits ws → items_text item vs ≡ items_text item ws → vs ≡ ws
+items_text-injective Fits item items [] [] fv fw e = refl
+items_text-injective Fits item items [] (w ∷ ws) fv fw e = absurd cc
+items_text-injective Fits item items (v ∷ vs) [] fv fw e = absurd cc
+items_text-injective {X} Fits item items (v ∷ vs) (w ∷ ws) fv fw e =
+    let tail = items_tail item vs in
+    let other = items_tail item ws in
+    let whole : item v ++ items_text item vs ≡ item w ++ items_text item ws = cc in
+    let same = same_word space (item v) tail.0 (item w) other.0 (items.free v fv.0) (items.free w fw.0) (ap (λ (r : List ℕ). item v ++ r) (sym tail.1) ∙ whole ∙ ap (λ (r : List ℕ). item w ++ r) other.1) in
+    let first : v ≡ w = items.injective v w fv.0 fw.0 same.0 in
+    let rest : vs ≡ ws = items_text-injective Fits item items vs ws fv.1 fw.1 (tail.1 ∙ ap (tail_text space) same.1 ∙ sym other.1) in
+    ap (λ (u : X). u ∷ vs) first ∙ ap (λ (l : List X). w ∷ l) rest

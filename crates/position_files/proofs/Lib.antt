@@ -3,3 +3,5 @@ mod Cuts
 mod Items
 mod Spellings
 mod Stones
+mod LineLaws
+mod BoardLaws

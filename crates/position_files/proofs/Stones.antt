@@ -13,7 +13,7 @@ use Rattle.game_rules.specs.declared.Cell.TheVariants.{Empty, Black as BlackSton
 use Rattle.game_rules.specs.declared.Point.{Point}
 use Rattle.game_rules.specs.Play.{other}
 use Rattle.game_rules.specs.declared.Side.TheVariants.{Black, White}
-use Rattle.game_rules.proofs.Boards.{place_fits, on_x, is_empty-cell, is_empty-on}
+use Rattle.game_rules.proofs.Boards.{place_fits, on_x, on_y, is_empty-cell, is_empty-on}
 use Rattle.game_rules.proofs.Positions.{IsBoard-put}
 use Rattle.position_files.specs.Positions.{stones}
 use Rattle.position_files.specs.Reading.{SameBut, IsWithin}
@@ -373,3 +373,19 @@ on_board first now s points i least h all within =
     let p : Point = get_or points i (record { x = 0; y = 0 }) in
     let is = is_within_at first.width first.height points i all within in
     is_on_within now p (record { column = let c = is.column in let w = h.width in omega (arith, c, w); row = let r = is.row in let e = h.height in omega (arith, r, e) })
+
+-- ---- stones are on the board
+
+all_on_by : (b : Grid) (s : Side) (x : Point) (rest : List Point) → AllByRecursion (IsWithin b.width b.height) rest → (r : Bool) → is_on b x ≡ r → (h : Bool) → holds b s x ≡ h → AllByRecursion (IsWithin b.width b.height) (cond h (x ∷ rest) rest)
+all_on_by b s x rest all r on false h = all
+all_on_by b s x rest all true on true h = (record { column = on_x b x on; row = on_y b x on }, all)
+all_on_by b s x rest all false on true h =
+    let none : holds b s x ≡ false = ap (λ q. q && is_stone_of s (cell_at b x)) on in
+    absurd (both_ways (holds b s x) none h)
+
+all_on : (b : Grid) (s : Side) (xs : List Point) → AllByRecursion (IsWithin b.width b.height) (filter (holds b s) xs)
+all_on b s [] = tt
+all_on b s (x ∷ xs) = all_on_by b s x (filter (holds b s) xs) (all_on b s xs) (is_on b x) refl (holds b s x) refl
+
+pub stones-within : (b : Grid) (s : Side) → AllByRecursion (IsWithin b.width b.height) (stones b s)
+stones-within b s = all_on b s (points_of b)

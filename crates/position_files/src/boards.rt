@@ -1,13 +1,17 @@
 //! The lines of a rule and a board.
 #![tactic(auto)]
 
-ghost use Rattle.std.specs.Prelude.{◌≡◌, [], false, IsTrue};
+ghost use Rattle.std.specs.Prelude.{◌≡◌, ℕ, List, [], ◌∷◌, ◌++◌, true, false, IsTrue, IfOk, Err};
 ghost use Rattle.std.specs.List.{AllByRecursion};
 ghost use Rattle.game_rules.specs.Grid.{Grid, IsBoard};
-ghost use Rattle.position_files.specs.Positions.{stones as stones_lem};
-ghost use Rattle.position_files.specs.Reading.{IsWithin, SameBut};
+ghost use Rattle.position_files.specs.Lines.{line_feed};
+ghost use Rattle.position_files.specs.Positions.{space, points_text, stones as stones_lem};
+ghost use Rattle.position_files.specs.Reading.{IsWithin, SameBut, is_free};
 
+use crate::faults::Fault;
+use crate::lines::{line, stones};
 use game_rules::{Point, Side};
+use std::alloc::Global;
 use stone_board::Board;
 
 /// Puts stones of the side on these points, where none of them stands yet. `false` says that the points don't rise in reading
@@ -30,4 +34,34 @@ fn put_stones(board: &mut Board, side: Side, points: &[Point]) -> bool
         least = place + 1;
     }
     true
+}
+
+/// Puts the stones of the side that the first line lists after this word, where none of the side stands yet, and answers the
+/// bytes after the line.
+fn stones_line<'a>(
+    alloc: Global,
+    board: &mut Board,
+    side: Side,
+    word: &[u8],
+    bytes: &'a [u8],
+) -> Result<&'a [u8], Fault>
+    requires word { is_free space word.now ≡ true }
+    requires one_line { is_free line_feed word.now ≡ true }
+    requires none { stones_lem board.old side ≡ [] }
+    ensures put { IfOk result (λ rest. SameBut side board.old board.new
+        × (bytes.now ≡ (word.now ++ points_text (stones_lem board.new side)) ++ line_feed ∷ rest.now)) }
+    ensures bad { result ≡ Err Fault.Bad → (b : Grid) (rest : List ℕ) → IsBoard b → SameBut side board.old b
+        → bytes.now ≡ (word.now ++ points_text (stones_lem b side)) ++ line_feed ∷ rest → ⊥ }
+    ensures board { IsBoard board.new }
+{
+    let width = board.width();
+    let height = board.height();
+    let Some((line, rest)) = line(bytes) else {
+        return Err(Fault::Bad);
+    };
+    let points = stones(alloc, line, word, width, height)?;
+    if !put_stones(board, side, points.as_slice()) {
+        return Err(Fault::Bad);
+    }
+    Ok(rest)
 }

@@ -1,14 +1,17 @@
 //! Lines of a text, and the points and replies that a line lists.
 #![tactic(auto)]
 
-ghost use Rattle.std.specs.Prelude.{◌≡◌, ◌++◌, ◌∷◌, true, IfNone, IfSome, option_copied};
+ghost use Rattle.std.specs.Prelude.{◌≡◌, ◌≤◌, ◌++◌, ◌∷◌, true, IfNone, IfSome, option_copied};
 ghost use Rattle.std.specs.List.{AllByRecursion};
+ghost use Rattle.std.specs.Option.{option_map};
+ghost use Rattle.std.specs.Fmt.{decimal};
 ghost use Rattle.position_files.specs.Lines.{line_feed};
-ghost use Rattle.position_files.specs.Positions.{space, points_text};
-ghost use Rattle.position_files.specs.Reading.{Gives, IsSide, IsWithin, is_free, tail_text};
+ghost use Rattle.position_files.specs.Positions.{space, points_text, rule_line as rule_line_lem, size_line as size_line_lem};
+ghost use Rattle.position_files.specs.Reading.{Gives, ReadsLine, AreSides, IsSide, IsWithin, is_free, tail_text};
 
 use crate::faults::Fault;
-use crate::words::{cut, is_text, point};
+use crate::words::{after, cut, is_text, number, point, rule, size};
+use game_rules::RuleKind;
 use std::alloc::Global;
 use stone_board::Points;
 
@@ -59,4 +62,39 @@ pub(crate) fn stones(
         return Err(Fault::Bad);
     }
     points(alloc, rest, width, height)
+}
+
+/// What follows this word on the first line, and the bytes after the line.
+pub(crate) fn prefixed<'a>(bytes: &'a [u8], word: &[u8]) -> Option<(&'a [u8], &'a [u8])>
+    requires word { is_free line_feed word.now ≡ true }
+    ensures text { ReadsLine (λ text. is_free line_feed text ≡ true) (λ text. word.now ++ text) (option_map (λ found. (found.0.now, found.1.now)) result) bytes.now }
+{
+    let (line, rest) = line(bytes)?;
+    Some((after(line, word)?, rest))
+}
+
+/// The rule of the first line, and the bytes after it.
+pub(crate) fn rule_line(bytes: &[u8]) -> Option<(RuleKind, &[u8])>
+    ensures rule { ReadsLine (λ _. Unit {0}) rule_line_lem (option_map (λ found. (found.0, found.1.now)) result) bytes.now }
+{
+    let (word, rest) = prefixed(bytes, b"rule ")?;
+    Some((rule(word)?, rest))
+}
+
+/// The width and the height of the first line, and the bytes after it.
+pub(crate) fn size_line(bytes: &[u8]) -> Option<((u8, u8), &[u8])>
+    ensures size { ReadsLine AreSides (λ sides. size_line_lem sides.0 sides.1) (option_map (λ found. (found.0, found.1.now)) result) bytes.now }
+{
+    let (text, rest) = prefixed(bytes, b"size ")?;
+    Some((size(text)?, rest))
+}
+
+/// The number up to `most` after this word on the first line, and the bytes after the line.
+pub(crate) fn number_line<'a>(bytes: &'a [u8], word: &[u8], most: u32) -> Option<(u32, &'a [u8])>
+    requires word { is_free line_feed word.now ≡ true }
+    requires few { most ≤ 1000000 }
+    ensures number { ReadsLine (λ n. n ≤ most) (λ n. word.now ++ decimal n) (option_map (λ found. (found.0, found.1.now)) result) bytes.now }
+{
+    let (text, rest) = prefixed(bytes, word)?;
+    Some((number(text, most)?, rest))
 }
