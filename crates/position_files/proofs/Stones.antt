@@ -1,8 +1,8 @@
 -- The stones of a board, as they come in the list of its cells.
-use Rattle.std.proofs.Common.{◌≡◌, ℕ, zero, suc, ◌+◌, ◌-◌, ◌*◌, ◌/◌, ◌%◌, ◌≤◌, ◌<◌, Bool, true, false, cond, not, ◌&&◌, refl, sym, ap, subst, ◌∙◌, arith, List, [], ◌∷◌, ◌++◌, length, take, drop, set, get_or, map, filter, nat_lt, inl, inr, ◌⊎◌}
+use Rattle.std.proofs.Common.{◌≡◌, ℕ, zero, suc, ◌+◌, ◌-◌, ◌*◌, ◌/◌, ◌%◌, ◌≤◌, ◌<◌, Bool, true, false, cond, not, ◌&&◌, refl, sym, ap, subst, ◌∙◌, arith, List, [], ◌∷◌, ◌++◌, length, take, drop, set, get_or, map, filter, nat_lt, replicate, inl, inr, ◌⊎◌}
 use Rattle.std.specs.List.{list_all, flat_map, range_with_len, AllByRecursion}
 use Rattle.std.proofs.lemmas.Bool.{and_parts, not-true, lt-ltb, both_ways}
-use Rattle.std.proofs.lemmas.List.{drop-drop, length-drop, length-take-le, drop-set-lt, get_or-drop, take_more}
+use Rattle.std.proofs.lemmas.List.{drop-drop, length-drop, length-take-le, drop-set-lt, get_or-drop, take_more, length-replicate}
 use Rattle.std.proofs.lemmas.List.Elements.{filter-append}
 use Rattle.std.proofs.lemmas.Nat.{div-mul-add, mod-mul-add, div-add-mod', row_fits}
 use Rattle.std.proofs.Math.Seq.{drop-cons, take-add, take-length}
@@ -16,7 +16,7 @@ use Rattle.game_rules.specs.declared.Side.TheVariants.{Black, White}
 use Rattle.game_rules.proofs.Boards.{place_fits, on_x, on_y, is_empty-cell, is_empty-on}
 use Rattle.game_rules.proofs.Positions.{IsBoard-put}
 use Rattle.position_files.specs.Positions.{stones}
-use Rattle.position_files.specs.Reading.{SameBut, IsWithin}
+use Rattle.position_files.specs.Reading.{SameBut, IsSide, IsWithin}
 
 -- the point with this place on a board of this width
 abbrev pub point_at : ℕ → ℕ → Point
@@ -42,7 +42,7 @@ module _ (at : ℕ → Point) (test : Cell → Bool) where
       by_test true h = ap (λ (l : List Point). at k ∷ l) h
       by_test false h = h
 
-  clear_none : (k : ℕ) (cs : List Cell) → is_clear cs ≡ true → marked k cs ≡ []
+  pub clear_none : (k : ℕ) (cs : List Cell) → is_clear cs ≡ true → marked k cs ≡ []
   clear_none k [] h = refl
   clear_none k (c ∷ cs) h =
       let parts = and_parts (not (test c)) (is_clear cs) h in
@@ -118,6 +118,7 @@ rows_marked b s ok (suc n) y within =
 
 -- the stones of a side are the marked cells
 pub stones-marked : (b : Grid) (s : Side) → IsBoard b → stones b s ≡ marked (point_at b.width) (is_stone_of s) 0 b.cells
+unfolding stones
 stones-marked b s ok =
     let rows = rows_marked b s ok b.height 0 (omega arith) in
     let start : 0 * b.width ≡ 0 = omega arith in
@@ -388,4 +389,29 @@ all_on b s [] = tt
 all_on b s (x ∷ xs) = all_on_by b s x (filter (holds b s) xs) (all_on b s xs) (is_on b x) refl (holds b s x) refl
 
 pub stones-within : (b : Grid) (s : Side) → AllByRecursion (IsWithin b.width b.height) (stones b s)
+unfolding stones
 stones-within b s = all_on b s (points_of b)
+
+-- ---- an empty board
+
+clear_replicate : (at : ℕ → Point) (test : Cell → Bool) (n : ℕ) → test Empty ≡ false → is_clear at test (replicate n Empty) ≡ true
+clear_replicate at test zero h = refl
+clear_replicate at test (suc n) h = rw h (clear_replicate at test n h)
+
+abbrev pub empty_board : ℕ → ℕ → Grid
+empty_board width height = record { width = width; height = height; cells = replicate (width * height) Empty }
+
+pub IsBoard-empty : (width height : ℕ) → IsSide width → IsSide height → IsBoard (empty_board width height)
+IsBoard-empty width height wide high = record {
+  wide = wide.long;
+  width_fits = wide.fits;
+  high = high.long;
+  height_fits = high.fits;
+  filled = length-replicate (width * height) Empty;
+}
+
+-- no stones stand on an empty board
+pub stones-empty : (width height : ℕ) (s : Side) → IsSide width → IsSide height → stones (empty_board width height) s ≡ []
+stones-empty width height s wide high =
+    stones-marked (empty_board width height) s (IsBoard-empty width height wide high)
+    ∙ clear_none (point_at width) (is_stone_of s) 0 (replicate (width * height) Empty) (clear_replicate (point_at width) (is_stone_of s) (width * height) (empty_stone s))

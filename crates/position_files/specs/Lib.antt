@@ -2,3 +2,4 @@ pub mod Lines
 pub mod Positions
 pub mod Tables
 pub mod Reading
+pub mod Faults

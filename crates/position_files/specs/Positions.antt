@@ -50,7 +50,7 @@ abbrev pub points_text : List Point → List ℕ
 points_text ps = flat_map (λ p. space ∷ point_text p) ps
 
 -- the points at which stones of the side stand, in reading order
-abbrev pub stones : Grid → Side → List Point
+unfoldable pub stones : Grid → Side → List Point
 stones b s = filter (holds b s) (points_of b)
 
 -- the line of Black's stones
@@ -62,11 +62,11 @@ abbrev pub white_line : Grid → List ℕ
 white_line b = codes "white" ++ points_text (stones b White)
 
 -- the lines of a rule and a board
-abbrev pub board_lines : RuleKind → Grid → List (List ℕ)
+unfoldable pub board_lines : RuleKind → Grid → List (List ℕ)
 board_lines kind b = rule_line kind ∷ size_line b.width b.height ∷ black_line b ∷ white_line b ∷ []
 
 -- the text of a position
-abbrev pub position_text : RuleKind → Grid → List ℕ
+unfoldable pub position_text : RuleKind → Grid → List ℕ
 position_text kind b = text_of (codes "renju-position 1" ∷ board_lines kind b)
 
 -- the bytes are the text of the position

@@ -47,12 +47,12 @@ abbrev pub start_line : Answers → List ℕ
 start_line a = codes "start " ++ answers_text a
 
 -- the lines of the numbers of moves and of nodes, and of the nodes
-abbrev pub nodes_lines : List Node → ℕ → List (List ℕ)
+unfoldable pub nodes_lines : List Node → ℕ → List (List ℕ)
 nodes_lines nodes moves = (codes "moves " ++ decimal moves) ∷ (codes "nodes " ++ decimal (length nodes)) ∷ map node_line nodes
 
 -- The text of a table. One whose root is a node is in version 1, and its root is the last node; one whose root is a start is in
 -- version 2, and ends with the start.
-abbrev pub table_text : RuleKind → Grid → List Node → Root → ℕ → List ℕ
+unfoldable pub table_text : RuleKind → Grid → List Node → Root → ℕ → List ℕ
 table_text kind b nodes (Attack r) moves = text_of (codes "renju-table 1" ∷ board_lines kind b ++ nodes_lines nodes moves)
 table_text kind b nodes (Defend a) moves =
     text_of (codes "renju-table 2" ∷ board_lines kind b ++ nodes_lines nodes moves ++ start_line a ∷ [])

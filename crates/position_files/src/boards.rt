@@ -4,13 +4,14 @@
 ghost use Rattle.std.specs.Prelude.{◌≡◌, ℕ, List, [], ◌∷◌, ◌++◌, true, false, IsTrue, IfOk, Err};
 ghost use Rattle.std.specs.List.{AllByRecursion};
 ghost use Rattle.game_rules.specs.Grid.{Grid, IsBoard};
-ghost use Rattle.position_files.specs.Lines.{line_feed};
-ghost use Rattle.position_files.specs.Positions.{space, points_text, stones as stones_lem};
+ghost use Rattle.position_files.specs.Lines.{line_feed, text_of};
+ghost use Rattle.position_files.specs.Positions.{space, board_lines, points_text, stones as stones_lem};
 ghost use Rattle.position_files.specs.Reading.{IsWithin, SameBut, is_free};
 
+use crate::FileError;
 use crate::faults::Fault;
-use crate::lines::{line, stones};
-use game_rules::{Point, Side};
+use crate::lines::{line, rule_line, size_line, stones};
+use game_rules::{Point, RuleKind, Side};
 use std::alloc::Global;
 use stone_board::Board;
 
@@ -64,4 +65,30 @@ fn stones_line<'a>(
         return Err(Fault::Bad);
     }
     Ok(rest)
+}
+
+/// The rule and the board that the first four lines tell, and the bytes after them. They are lines 2 to 5 of a text.
+pub(crate) fn read_board(
+    alloc: Global,
+    bytes: &[u8],
+) -> Result<(RuleKind, Board, &[u8]), FileError>
+    ensures board { IfOk result (λ found. IsBoard found.1) }
+    ensures text { IfOk result (λ found. bytes.now ≡ text_of (board_lines found.0 found.1) ++ found.2.now) }
+{
+    let Some((kind, rest)) = rule_line(bytes) else {
+        return Err(FileError::BadLine(2));
+    };
+    let Some(((width, height), rest)) = size_line(rest) else {
+        return Err(FileError::BadLine(3));
+    };
+    let mut board = Board::empty(alloc, width, height)?;
+    let rest = match stones_line(alloc, &mut board, Side::Black, b"black", rest) {
+        Ok(rest) => rest,
+        Err(fault) => return Err(fault.at(4)),
+    };
+    let rest = match stones_line(alloc, &mut board, Side::White, b"white", rest) {
+        Ok(rest) => rest,
+        Err(fault) => return Err(fault.at(5)),
+    };
+    Ok((kind, board, rest))
 }
