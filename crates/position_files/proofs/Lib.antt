@@ -5,3 +5,4 @@ mod Spellings
 mod Stones
 mod LineLaws
 mod BoardLaws
+mod TextLaws

@@ -9,10 +9,12 @@ mod boards;
 mod error;
 mod faults;
 mod lines;
+mod read;
 mod words;
 
 pub use error::FileError;
 use game_rules::RuleKind;
+pub use read::read_position;
 use stone_board::Board;
 use strategy_graph::{Root, Table};
 
