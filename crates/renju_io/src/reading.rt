@@ -1,11 +1,11 @@
 // The whole input of a command, read to its end.
-ghost use Rattle.std.specs.Prelude.{◌≡◌, ◌<◌, ◌≤◌, length, IfOk, IfSome, IsErrOf, OnOk};
+ghost use Rattle.std.specs.Prelude.{◌≡◌, ◌<◌, ◌≤◌, length, IfOk, IfSome, IsErrOf, OnOk, vec_len};
 ghost use Rattle.std.specs.Io.KnownBytes.{IsAtEnd};
 ghost use Rattle.renju_io.specs.Faults.{HasRisen, HasNotFallen};
 ghost use Rattle.renju_io.specs.Told.{GivesSome};
 
 use crate::{MAX_INPUT_BYTES, Source};
-use std::alloc::Global;
+use std::alloc::{AllocError, Global};
 use thiserror::Error;
 
 /// Why an input was not read to its end.
@@ -38,22 +38,29 @@ pub fn read_all<S: Source>(alloc: Global, source: &mut S) -> Result<Vec<u8>, Rea
     ensures taken { GivesSome (S.left source.old) (S.left source.new) }
     ensures counted { HasNotFallen (S.faults source.old) (S.faults source.new) }
 {
-    let mut bytes = Vec::new(alloc);
-    let Ok(mut piece) = vec![in alloc; 0u8; READ_BYTES] else {
+    let Ok(mut piece) = empty_piece(alloc) else {
         return Err(ReadAllError::Memory);
     };
+    let mut bytes = Vec::new(alloc);
     loop {
-        match source.read(&mut piece) {
-            Err(_) => return Err(ReadAllError::Failed),
-            Ok(0) => return Ok(bytes),
-            Ok(count) => {
-                if count > MAX_INPUT_BYTES - bytes.len() {
-                    return Err(ReadAllError::TooLong);
-                }
-                if bytes.extend_from_slice(&piece[..count]).is_err() {
-                    return Err(ReadAllError::Memory);
-                }
-            }
+        let Ok(count) = source.read(&mut piece) else {
+            return Err(ReadAllError::Failed);
+        };
+        if count == 0 {
+            return Ok(bytes);
+        }
+        if count > MAX_INPUT_BYTES - bytes.len() {
+            return Err(ReadAllError::TooLong);
+        }
+        if bytes.extend_from_slice(&piece[..count]).is_err() {
+            return Err(ReadAllError::Memory);
         }
     }
+}
+
+// Room for what one read gives. That it isn't empty is all that the reader needs to know.
+fn empty_piece(alloc: Global) -> Result<Vec<u8>, AllocError>
+    ensures room { IfOk result (λ piece. 0 < vec_len piece) }
+{
+    vec![in alloc; 0u8; READ_BYTES]
 }

@@ -13,14 +13,8 @@ pub fn write_text<O: Sink>(sink: &mut O, text: &[u8]) -> Result<(), Failed>
     ensures failed { OnErr result (HasRisen (O.faults sink.old) (O.faults sink.new)) }
     ensures counted { HasNotFallen (O.faults sink.old) (O.faults sink.new) }
 {
-    let mut rest = text;
-    while rest.len() > MAX_PIECE_BYTES {
-        let (piece, after) = rest.split_at(MAX_PIECE_BYTES);
+    for piece in text.chunks(MAX_PIECE_BYTES) {
         sink.write(piece)?;
-        rest = after;
     }
-    if rest.is_empty() {
-        return Ok(());
-    }
-    sink.write(rest)
+    Ok(())
 }

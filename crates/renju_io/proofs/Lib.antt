@@ -1,0 +1,4 @@
+-- Lemmas on counts of faults and on bytes that are given and taken.
+pub mod Counts
+pub mod GivenBytes
+pub mod TakenText
