@@ -2,3 +2,4 @@
 pub mod Faults
 pub mod Told
 pub mod Files
+pub mod Memory

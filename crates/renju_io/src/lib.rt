@@ -6,7 +6,11 @@
 //! nothing of content and are the edge that is trusted.
 #![tactic(auto)]
 
+mod failures;
 mod fault;
+mod memory_shelf;
+mod memory_sink;
+mod memory_source;
 mod reading;
 mod shelf;
 mod sink;
@@ -14,6 +18,9 @@ mod source;
 mod writing;
 
 pub use fault::Failed;
+pub use memory_shelf::{MemoryFile, MemoryShelf};
+pub use memory_sink::MemorySink;
+pub use memory_source::MemorySource;
 pub use reading::{ReadAllError, read_all};
 pub use shelf::{LoadError, Shelf};
 pub use sink::Sink;
