@@ -1,5 +1,5 @@
 -- Devices in memory: what they hold, and which of their calls fail.
-use Rattle.std.specs.Prelude.{◌≡◌, ℕ, ◌+◌, ◌<◌, Bool, true, List, [], ◌⊎◌, ◌++◌, min, length, take, drop, ◌==◌, if◌then◌else◌, nat_lt, Option, None, Some, Result, Ok, Err, map, string_bytes}
+use Rattle.std.specs.Prelude.{◌≡◌, ℕ, ◌+◌, ◌<◌, Bool, true, false, List, [], ◌⊎◌, ◌++◌, min, length, take, drop, ◌==◌, if◌then◌else◌, nat_lt, Option, None, Some, Result, Ok, Err, map, string_bytes}
 use Rattle.std.specs.List.{list_any}
 use Rattle.renju_io.specs.Faults.{last_count}
 use Rattle.renju_io.specs.Files.{Files, file_under}
@@ -80,3 +80,8 @@ file_answer (Some bytes) = if nat_lt MAX_INPUT_BYTES (length bytes) then Err Too
 -- what a load of this name answers, unless no memory is found
 abbrev pub load_answer : ShelfState → List ℕ → Result (List ℕ) LoadError
 load_answer shelf name = if fails_next shelf.calls then Err Failed else file_answer (file_under name shelf.files)
+
+-- whether a load failed, which is the one answer that its count of faults rises for
+abbrev pub is_failed : {T : Type 0} → Result T LoadError → Bool
+is_failed (Err Failed) = true
+is_failed _ = false

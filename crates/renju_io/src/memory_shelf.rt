@@ -4,7 +4,7 @@ ghost use Rattle.std.specs.Option.{option_copied};
 ghost use Rattle.std.specs.Str.{bytes_eq};
 ghost use Rattle.renju_io.specs.Faults.{HasRisen, HasNotFallen};
 ghost use Rattle.renju_io.specs.Files.{IsMap, file_under};
-ghost use Rattle.renju_io.specs.Memory.{no_calls, after_call, load_answer, file_answer, entries};
+ghost use Rattle.renju_io.specs.Memory.{no_calls, after_call, load_answer, file_answer, is_failed, entries};
 ghost use Rattle.renju_io.specs.declared.shelf.LoadError.{LoadError};
 
 use crate::failures::Failures;
@@ -67,6 +67,7 @@ impl Shelf for MemoryShelf {
         // Which loads fail, and what the others answer.
         ensures ok { IfOk result (λ bytes. load_answer self.old name.now ≡ Ok bytes.items) }
         ensures err { IfErr result (λ e. e ≢ LoadError.Memory → load_answer self.old name.now ≡ Err e) }
+        ensures calls { self.new.calls ≡ after_call self.old.calls (is_failed result) }
     {
         let answer = if self.failures.begin_call() {
             Err(LoadError::Failed)
