@@ -1,5 +1,5 @@
 -- Counts over several calls.
-use Rattle.std.proofs.Common.{ℕ, ◌≤◌, inl, inr, arith}
+use Rattle.std.proofs.Common.{ℕ, inl, inr, arith}
 use Rattle.renju_io.specs.Faults.{HasRisen, HasNotFallen}
 
 -- a count that rises in a later call has risen since before the earlier one

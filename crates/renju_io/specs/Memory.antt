@@ -1,5 +1,5 @@
 -- Devices in memory: what they hold, and which of their calls fail.
-use Rattle.std.specs.Prelude.{◌≡◌, ℕ, ◌+◌, ◌<◌, Bool, true, false, List, [], ◌⊎◌, ◌++◌, min, length, take, drop, ◌==◌, if◌then◌else◌, nat_lt, Option, None, Some, Result, Ok, Err, map, string_bytes}
+use Rattle.std.specs.Prelude.{◌≡◌, ℕ, ◌+◌, Bool, true, false, List, [], ◌⊎◌, ◌++◌, min, length, take, drop, ◌==◌, if◌then◌else◌, nat_lt, Option, None, Some, Result, Ok, Err, map, string_bytes}
 use Rattle.std.specs.List.{list_any}
 use Rattle.renju_io.specs.Faults.{last_count}
 use Rattle.renju_io.specs.Files.{Files, file_under}
@@ -46,7 +46,7 @@ abbrev pub after_read : SourceState → ℕ → SourceState
 after_read source room = record {
   left = if fails_next source.calls then source.left else drop (given_count source room) source.left;
   piece = source.piece;
-  calls = after_call source.calls (fails_next source.calls)
+  calls = after_call source.calls (fails_next source.calls);
 }
 
 -- a sink in memory: the bytes written, how many of its piece a write that is to fail keeps, and the calls

@@ -34,3 +34,6 @@ pub const MAX_INPUT_BYTES: usize = 16_777_216;
 
 /// The most bytes that a text is cut into for one write.
 pub const MAX_PIECE_BYTES: usize = 4_096;
+
+#[cfg(test)]
+mod tests;
