@@ -1,6 +1,6 @@
 -- A text that a sink takes piece by piece.
-use Rattle.std.proofs.Common.{◌≡◌, ℕ, List, [], ◌++◌, length, take, drop, refl, sym, ◌∙◌, ap, append_assoc, None, Some, Option}
-use Rattle.std.proofs.lemmas.List.{append-nil, take-append-drop}
+use Rattle.std.proofs.Common.{◌≡◌, ℕ, List, ◌++◌, length, take, drop, refl, sym, ◌∙◌, ap, append_assoc, None, Some, Option}
+use Rattle.std.proofs.lemmas.List.{take-append-drop}
 use Rattle.std.proofs.Math.Seq.{take-append_seam}
 use Rattle.std.specs.Io.KnownBytes.{append_known}
 use Rattle.renju_io.specs.Told.{Takes, TakesPart}
@@ -11,24 +11,18 @@ pub record HasTaken (old new : Option (List ℕ)) (text rest : List ℕ) : Type 
   pub split : text ≡ done ++ rest
   pub takes : Takes old done new
 
-append_known-nil : (told : Option (List ℕ)) → told ≡ append_known told []
-append_known-nil None = refl
-append_known-nil (Some bytes) = ap (λ xs. Some xs) (sym (append-nil bytes))
-
 append_known-append : (told : Option (List ℕ)) (first second : List ℕ) →
     append_known (append_known told first) second ≡ append_known told (first ++ second)
 append_known-append None first second = refl
 append_known-append (Some bytes) first second = ap (λ xs. Some xs) (append_assoc bytes first second)
 
 -- what is taken after what was taken is taken in one
-Takes-then : (old mid new : Option (List ℕ)) (first second : List ℕ) →
+pub Takes-then : (old mid new : Option (List ℕ)) (first second : List ℕ) →
     Takes old first mid → Takes mid second new → Takes old (first ++ second) new
 Takes-then old mid new first second before after =
     after ∙ ap (λ told. append_known told second) before ∙ append_known-append old first second
 
-pub begins : (told : Option (List ℕ)) (text : List ℕ) → HasTaken told told text text
-begins told text = record { done = []; split = refl; takes = append_known-nil told }
-
+-- the sink has taken one more piece
 pub goes_on : (old mid new : Option (List ℕ)) (text before piece rest : List ℕ) →
     HasTaken old mid text before → before ≡ piece ++ rest → Takes mid piece new → HasTaken old new text rest
 goes_on old mid new text before piece rest so_far cut takes = record {
@@ -36,10 +30,6 @@ goes_on old mid new text before piece rest so_far cut takes = record {
   split = so_far.split ∙ ap (λ xs. so_far.done ++ xs) cut ∙ sym (append_assoc so_far.done piece rest);
   takes = Takes-then old mid new so_far.done piece so_far.takes takes;
 }
-
-pub ends : (old new : Option (List ℕ)) (text : List ℕ) → HasTaken old new text [] → Takes old text new
-ends old new text so_far =
-    so_far.takes ∙ ap (append_known old) (sym (so_far.split ∙ append-nil so_far.done))
 
 -- the first bytes of a text that end within a piece of it
 front : (done piece rest : List ℕ) (n : ℕ) →
@@ -51,6 +41,7 @@ front done piece rest n =
     ∙ sym (append_assoc done (take n piece) (drop n piece ++ rest)))
     ∙ take-append_seam (done ++ take n piece) (drop n piece ++ rest)
 
+-- the sink has taken a part of one more piece, and so a part of the text
 pub stops : (old mid new : Option (List ℕ)) (text before piece rest : List ℕ) →
     HasTaken old mid text before → before ≡ piece ++ rest → TakesPart mid piece new → TakesPart old text new
 stops old mid new text before piece rest so_far cut part = record {

@@ -15,7 +15,9 @@ use std::marker::Model;
 /// A file of a shelf in memory.
 #[derive(Drop)]
 pub struct MemoryFile {
+    /// The name that a load asks for.
     pub name: String,
+    /// What is in the file.
     pub bytes: Vec<u8>,
 }
 
@@ -59,8 +61,10 @@ impl Shelf for MemoryShelf {
     fn load(&mut self, alloc: Global, name: &str) -> Result<Vec<u8>, LoadError>
         ensures found { IfOk result (λ bytes. file_under name.now self.old.files ≡ Some bytes.items) }
         ensures short { IfOk result (λ bytes. length bytes.items ≤ MAX_INPUT_BYTES) }
-        ensures too_long { IsErrOf result LoadError.TooLong → IsSomeAnd (file_under name.now self.old.files) (λ bytes. MAX_INPUT_BYTES < length bytes) }
-        ensures failed { IsErrOf result LoadError.Failed → HasRisen self.old.calls.faults self.new.calls.faults }
+        ensures too_long { IsErrOf result LoadError.TooLong →
+            IsSomeAnd (file_under name.now self.old.files) (λ bytes. MAX_INPUT_BYTES < length bytes) }
+        ensures failed { IsErrOf result LoadError.Failed →
+            HasRisen self.old.calls.faults self.new.calls.faults }
         ensures kept { Some self.new.files ≡ Some self.old.files }
         ensures counted { HasNotFallen self.old.calls.faults self.new.calls.faults }
 
@@ -84,7 +88,8 @@ impl Shelf for MemoryShelf {
 // The bytes of the first file under a name, if it is there and not too long.
 fn copy_file(alloc: Global, files: &[MemoryFile], name: &str) -> Result<Vec<u8>, LoadError>
     ensures ok { IfOk result (λ bytes. file_answer (file_under name.now (entries files.now)) ≡ Ok bytes.items) }
-    ensures err { IfErr result (λ e. e ≢ LoadError.Memory → file_answer (file_under name.now (entries files.now)) ≡ Err e) }
+    ensures err { IfErr result (λ e. e ≢ LoadError.Memory →
+        file_answer (file_under name.now (entries files.now)) ≡ Err e) }
 {
     let Some(file) = find_file(files, name) else {
         return Err(LoadError::Failed);
@@ -98,6 +103,7 @@ fn copy_file(alloc: Global, files: &[MemoryFile], name: &str) -> Result<Vec<u8>,
     }
 }
 
+// The first file under a name.
 fn find_file<'a>(files: &'a [MemoryFile], name: &str) -> Option<&'a MemoryFile>
     ensures first { option_copied result ≡ find (λ file. bytes_eq name.now (string_bytes file.name)) files.now }
 {

@@ -51,14 +51,16 @@ impl Source for MemorySource {
 
     fn read(&mut self, buf: &mut [u8]) -> Result<usize, Failed>
         ensures fits { IfOk result (λ count. count ≤ length buf.old) }
-        ensures given { IfOk result (λ count. Gives (Some self.old.left) (take count buf.new) (Some self.new.left)) }
+        ensures given { IfOk result (λ count.
+            Gives (Some self.old.left) (take count buf.new) (Some self.new.left)) }
         ensures end { result ≡ Ok 0 → 0 < length buf.old → self.new.left ≡ [] }
         ensures kept { OnErr result (self.new.left ≡ self.old.left) }
         ensures failed { OnErr result (HasRisen self.old.calls.faults self.new.calls.faults) }
         ensures counted { HasNotFallen self.old.calls.faults self.new.calls.faults }
 
         // Which reads fail, and how much the others give.
-        ensures answer { result ≡ (if fails_next self.old.calls then Err (record {}) else Ok (given_count self.old (length buf.old))) }
+        ensures answer { result ≡ (if fails_next self.old.calls
+            then Err (record {}) else Ok (given_count self.old (length buf.old))) }
         ensures after { self.new ≡ after_read self.old (length buf.old) }
     {
         if self.failures.begin_call() {

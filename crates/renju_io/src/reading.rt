@@ -32,7 +32,8 @@ pub fn read_all<S: Source>(alloc: Global, source: &mut S) -> Result<Vec<u8>, Rea
     ensures at_end { OnOk result (IsAtEnd (S.left source.new)) }
     ensures short { IfOk result (λ bytes. length bytes.items ≤ MAX_INPUT_BYTES) }
 
-    ensures too_long { IsErrOf result ReadAllError.TooLong → IfSome (S.left source.old) (λ left. MAX_INPUT_BYTES < length left) }
+    ensures too_long { IsErrOf result ReadAllError.TooLong →
+        IfSome (S.left source.old) (λ left. MAX_INPUT_BYTES < length left) }
     ensures failed { IsErrOf result ReadAllError.Failed → HasRisen (S.faults source.old) (S.faults source.new) }
 
     ensures taken { GivesSome (S.left source.old) (S.left source.new) }

@@ -31,7 +31,8 @@ pub trait Shelf {
 
     /// The bytes of the file under a name. No call changes the files.
     fn load(&mut self, alloc: Global, name: &str) -> Result<Vec<u8>, LoadError>
-        ensures found { IfOk result (λ bytes. IfSome (files self.old) (λ files. file_under name.now files ≡ Some bytes.items)) }
+        ensures found { IfOk result (λ bytes. IfSome (files self.old) (λ files.
+            file_under name.now files ≡ Some bytes.items)) }
         ensures short { IfOk result (λ bytes. length bytes.items ≤ MAX_INPUT_BYTES) }
         ensures too_long { IsErrOf result LoadError.TooLong → IfSome (files self.old) (λ files.
             IsSomeAnd (file_under name.now files) (λ bytes. MAX_INPUT_BYTES < length bytes)) }
