@@ -1,6 +1,6 @@
 -- A table that holds a copy of nodes of another, under other numbers, says the same at them.
 use Rattle.std.proofs.Common.{◌≡◌, ℕ, zero, suc, ◌+◌, max, Bool, true, false, cond, ◌&&◌, List, [], ◌∷◌, ◌++◌, map, refl, sym, ap, subst, ◌∙◌}
-use Rattle.std.specs.Prelude.{Option, Some, None, slice_get}
+use Rattle.std.specs.Prelude.{Option, Some, None, slice_get, ◌↔◌}
 use Rattle.std.specs.List.{list_all, find, sum_by}
 use Rattle.std.specs.Option.{option_map, option_or}
 use Rattle.game_rules.specs.Grid.{Grid, points_of}
@@ -43,6 +43,10 @@ renamed f n = record { attack = n.attack; replies = map (renamed_reply f) n.repl
 -- names passes too.
 pub record Copies (f : ℕ → ℕ) (passes : ℕ → Bool) (t u : List Node) : Type 0 where
   pub copied : (i : ℕ) → passes i ≡ true → (n : Node) × (slice_get t i ≡ Some n) × (slice_get u (f i) ≡ Some (renamed f n)) × (list_all passes (named (answers_of n)) ≡ true)
+
+-- facts that are equal follow from one another
+pub iff_by : (A B : Type 0) → A ≡ B → A ↔ B
+iff_by A B e = (subst (λ (X : Type 0). X) e, subst (λ (X : Type 0). X) (sym e))
 
 -- ---- answers
 

@@ -20,7 +20,7 @@ module _ (t : List Node) (lower : NamesLower t) where
     at None below = none
     at (Some n) below = ap (λ (m : Node). g' (Some m)) (sym (renamed-same n)) ∙ some n (below n refl)
 
-  depth_within-enough : (k m i : ℕ) → i < k → i < m → depth_within m t i ≡ depth_within k t i
+  pub depth_within-enough : (k m i : ℕ) → i < k → i < m → depth_within m t i ≡ depth_within k t i
   unfolding depth_within
   depth_within-enough zero m i l h = absurd (omega arith)
   depth_within-enough (suc k) zero i l h = absurd (omega arith)
@@ -28,7 +28,7 @@ module _ (t : List Node) (lower : NamesLower t) where
       by_node ℕ (λ o. node_depth o (depth_within k t)) (λ o. node_depth o (depth_within m t)) i refl
       (λ n all. ap suc (depths-copied (λ j. j) _ (answers_of n) all (depth_within k t) (depth_within m t) (λ j e. let low : j < i = ltb-true _ _ e in depth_within-enough k m j (omega (arith, low, l)) (omega (arith, low, h)))))
 
-  accepted_within-enough : (rule : RuleKind) (k m i : ℕ) (b : Grid) → i < k → i < m → AcceptedWithin m rule t i b ≡ AcceptedWithin k rule t i b
+  pub accepted_within-enough : (rule : RuleKind) (k m i : ℕ) (b : Grid) → i < k → i < m → AcceptedWithin m rule t i b ≡ AcceptedWithin k rule t i b
   unfolding AcceptedWithin
   accepted_within-enough rule zero m i b l h = absurd (omega arith)
   accepted_within-enough rule (suc k) zero i b l h = absurd (omega arith)
@@ -36,7 +36,7 @@ module _ (t : List Node) (lower : NamesLower t) where
       by_node (Type 0) (λ o. AcceptedNode rule o (AcceptedWithin k rule t) b) (λ o. AcceptedNode rule o (AcceptedWithin m rule t) b) i refl
       (λ n all. accepted_node-copied (λ j. j) _ n all rule (AcceptedWithin k rule t) (AcceptedWithin m rule t) (λ j e c. let low : j < i = ltb-true _ _ e in accepted_within-enough rule k m j c (omega (arith, low, l)) (omega (arith, low, h))) b)
 
-  arrivals_within-enough : (rule : RuleKind) (k m i : ℕ) (b : Grid) → i < k → i < m → arrivals_within m rule t i b ≡ arrivals_within k rule t i b
+  pub arrivals_within-enough : (rule : RuleKind) (k m i : ℕ) (b : Grid) → i < k → i < m → arrivals_within m rule t i b ≡ arrivals_within k rule t i b
   unfolding arrivals_within
   arrivals_within-enough rule zero m i b l h = absurd (omega arith)
   arrivals_within-enough rule (suc k) zero i b l h = absurd (omega arith)

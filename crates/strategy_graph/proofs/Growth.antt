@@ -13,7 +13,7 @@ use Rattle.strategy_graph.specs.Acceptance.{Meets, Accepted, AcceptedStart}
 use Rattle.strategy_graph.specs.Arrivals.{arrivals, arrivals_after, start_arrivals}
 use Rattle.strategy_graph.specs.Leads.{ReplyLeads, Leads, LeadsStart}
 use Rattle.strategy_graph.specs.Laws.{SaysSame, StartSaysSame}
-use Rattle.strategy_graph.proofs.Copies.{renamed-same, renamed_answers-same, Copies, Meets-copied, arrivals_after-copied, reply_leads-answer, depths-copied, depth_within-copied, accepted_within-copied, arrivals_within-copied, game-copied, attacks-copied, Leads-copied}
+use Rattle.strategy_graph.proofs.Copies.{iff_by, renamed-same, renamed_answers-same, Copies, Meets-copied, arrivals_after-copied, reply_leads-answer, depths-copied, depth_within-copied, accepted_within-copied, arrivals_within-copied, game-copied, attacks-copied, Leads-copied}
 use Rattle.game_rules.proofs.Boards.{and_left, and_right}
 use borrow.Author.Tests.{ltb-true, lt-ltb}
 
@@ -44,25 +44,23 @@ growth-Copies t more lower = record {
       );
 }
 
-pub both : (A B : Type 0) → A ≡ B → A ↔ B
-both A B e = (subst (λ (X : Type 0). X) e, subst (λ (X : Type 0). X) (sym e))
-
-pub growth-same : (t more : List Node) → NamesLower t → (i : ℕ) → i < length t → SaysSame t (t ++ more) i
+-- node i says the same in the longer table
+pub growth-same : (t more : List Node) → NamesLower t → (i : ℕ) → i < length t → SaysSame t i (t ++ more) i
 growth-same t more lower i l =
     let c = growth-Copies t more lower in
     let p : nat_lt i (length t) ≡ true = lt-ltb _ _ l in
     record {
       same_depth = depth_within-copied (λ j. j) _ t (t ++ more) c (suc i) i p;
-      same_accepted = λ rule b. both _ _ (accepted_within-copied (λ j. j) _ t (t ++ more) c rule (suc i) i b p);
+      same_accepted = λ rule b. iff_by _ _ (accepted_within-copied (λ j. j) _ t (t ++ more) c rule (suc i) i b p);
       same_arrivals = λ rule b. arrivals_within-copied (λ j. j) _ t (t ++ more) c rule (suc i) i b p;
       same_game = λ rule b qs. game-copied (λ j. j) _ t (t ++ more) c rule i b qs p;
       same_attacks = λ rule b qs. attacks-copied (λ j. j) _ t (t ++ more) c rule i b qs p;
-      same_leads = λ rule b line why. both _ _ (Leads-copied (λ j. j) _ t (t ++ more) c rule i b line why p);
+      same_leads = λ rule b line why. iff_by _ _ (Leads-copied (λ j. j) _ t (t ++ more) c rule i b line why p);
     }
 
 -- a start that names nodes of the shorter table
 module _ (t more : List Node) (lower : NamesLower t) (a : Answers) (below : names_below a (length t) ≡ true) where
-  node_same : (j : ℕ) → nat_lt j (length t) ≡ true → SaysSame t (t ++ more) j
+  node_same : (j : ℕ) → nat_lt j (length t) ≡ true → SaysSame t j (t ++ more) j
   node_same j p = growth-same t more lower j (ltb-true _ _ p)
 
   start_depth-same : start_depth (t ++ more) a ≡ start_depth t a
@@ -90,7 +88,7 @@ module _ (t more : List Node) (lower : NamesLower t) (a : Answers) (below : name
   pub growth-same-start : StartSaysSame t (t ++ more) a
   growth-same-start = record {
     same_depth = start_depth-same;
-    same_accepted = λ rule b. both _ _ (accepted_start-same rule b);
+    same_accepted = λ rule b. iff_by _ _ (accepted_start-same rule b);
     same_arrivals = start_arrivals-same;
-    same_leads = λ rule b line why. both _ _ (leads_start-same rule b line why);
+    same_leads = λ rule b line why. iff_by _ _ (leads_start-same rule b line why);
   }

@@ -10,3 +10,4 @@ pub mod Naming
 pub mod Filling
 pub mod Equal
 pub mod Steps
+pub mod Renumbering

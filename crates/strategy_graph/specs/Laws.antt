@@ -36,14 +36,15 @@ abbrev pub GamesEndWell : Type 0
 GamesEndWell =
     (rule : RuleKind) (t : List Node) (i : ℕ) (b : Grid) (qs : List Point) → Accepted rule t i b → EndsWell (depth t i) (length qs) (game rule t i b qs)
 
--- node i says the same in both tables: its depth, where it is accepted, its arrivals, its games and the lines to a fault
-pub record SaysSame (t u : List Node) (i : ℕ) : Type 0 where
-  pub same_depth : depth u i ≡ depth t i
-  pub same_accepted : (rule : RuleKind) (b : Grid) → Accepted rule u i b ↔ Accepted rule t i b
-  pub same_arrivals : (rule : RuleKind) (b : Grid) → arrivals rule u i b ≡ arrivals rule t i b
-  pub same_game : (rule : RuleKind) (b : Grid) (qs : List Point) → game rule u i b qs ≡ game rule t i b qs
-  pub same_attacks : (rule : RuleKind) (b : Grid) (qs : List Point) → attacks rule u i b qs ≡ attacks rule t i b qs
-  pub same_leads : (rule : RuleKind) (b : Grid) (line : List Point) (why : Why) → Leads rule u i b line why ↔ Leads rule t i b line why
+-- node j of table u says what node i of table t says: its depth, where it is accepted, its arrivals, its games, and the lines
+-- to a fault
+pub record SaysSame (t : List Node) (i : ℕ) (u : List Node) (j : ℕ) : Type 0 where
+  pub same_depth : depth u j ≡ depth t i
+  pub same_accepted : (rule : RuleKind) (b : Grid) → Accepted rule u j b ↔ Accepted rule t i b
+  pub same_arrivals : (rule : RuleKind) (b : Grid) → arrivals rule u j b ≡ arrivals rule t i b
+  pub same_game : (rule : RuleKind) (b : Grid) (qs : List Point) → game rule u j b qs ≡ game rule t i b qs
+  pub same_attacks : (rule : RuleKind) (b : Grid) (qs : List Point) → attacks rule u j b qs ≡ attacks rule t i b qs
+  pub same_leads : (rule : RuleKind) (b : Grid) (line : List Point) (why : Why) → Leads rule u j b line why ↔ Leads rule t i b line why
 
 -- the start says the same with both tables
 pub record StartSaysSame (t u : List Node) (a : Answers) : Type 0 where
@@ -54,7 +55,7 @@ pub record StartSaysSame (t u : List Node) (a : Answers) : Type 0 where
 
 -- a node says the same however the table grows
 abbrev pub GrowthKeeps : Type 0
-GrowthKeeps = (t more : List Node) → NamesLower t → (i : ℕ) → i < length t → SaysSame t (t ++ more) i
+GrowthKeeps = (t more : List Node) → NamesLower t → (i : ℕ) → i < length t → SaysSame t i (t ++ more) i
 
 -- a start that names nodes of the table says the same however the table grows
 abbrev pub GrowthKeepsStart : Type 0
