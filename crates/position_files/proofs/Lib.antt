@@ -6,3 +6,4 @@ mod Stones
 mod LineLaws
 mod BoardLaws
 mod TextLaws
+mod AnswerLaws

@@ -4,6 +4,7 @@ use Rattle.std.specs.Prelude.{Option, Some, None, option_copied}
 use Rattle.std.specs.Option.{MatchOption}
 use Rattle.std.specs.Bool.{Decides}
 use Rattle.std.specs.Fmt.{decimal}
+use Rattle.std.specs.Char.{IsNotAsciiDigit}
 use Rattle.std.specs.Cmp.Lexicographic.{pointwise}
 use Rattle.std.proofs.lemmas.Bool.{cases_eq, eq-eqb, ne_eqb, false≢true}
 use Rattle.std.proofs.lemmas.Bool.Decides.{Decides-eqb}
@@ -120,3 +121,13 @@ point_items width height wide high = record {
   let qy = in_q.row in
   point_text-injective p q (omega (arith, px, w)) (omega (arith, py, h)) (omega (arith, qx, w)) (omega (arith, qy, h)) e;
 }
+
+-- no separator but the comma stands in a point
+pub point-free : (s width height : ℕ) → IsNotAsciiDigit s → (comma ≡ s → ⊥) → IsSide width → IsSide height → (p : Point) → IsWithin width height p → is_free s (point_text p) ≡ true
+point-free s width height other no_comma wide high p within =
+    let x = within.column in
+    let y = within.row in
+    let w = wide.fits in
+    let h = high.fits in
+    let rest : is_free s (comma ∷ decimal p.y) ≡ true = rw (ne_eqb comma s no_comma, decimal-free s p.y other (omega (arith, y, h))) refl in
+    is_free-append s (decimal p.x) (comma ∷ decimal p.y) (decimal-free s p.x other (omega (arith, x, w))) rest

@@ -3,3 +3,4 @@ pub mod Positions
 pub mod Tables
 pub mod Reading
 pub mod Faults
+pub mod Answers

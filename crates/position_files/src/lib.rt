@@ -5,6 +5,7 @@
 //! before it.
 #![tactic(auto)]
 
+mod answers;
 mod boards;
 mod error;
 mod faults;
