@@ -1,1 +1,4 @@
+pub mod Finds
 mod Counting
+mod Ways
+mod ThreePoints

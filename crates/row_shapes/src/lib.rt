@@ -6,9 +6,11 @@
 
 mod fours;
 mod rule;
+mod threes;
 mod wins;
 
 pub use fours::{fours_through, straight_through};
 pub use game_rules::RuleKind;
 pub use rule::{ExactFive, Freestyle, Renju, Rule};
+pub use threes::three_points;
 pub use wins::five_at;
