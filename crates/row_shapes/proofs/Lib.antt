@@ -1,4 +1,4 @@
-pub mod Finds
+mod Finds
 mod Counting
 mod Ways
-mod ThreePoints
+pub mod ThreePoints

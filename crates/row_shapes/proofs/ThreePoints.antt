@@ -1,5 +1,5 @@
 -- A three point of a stone is the first point in one of the two ways that holds no stone of its side.
-use Rattle.std.proofs.Common.{◌≡◌, ◌≢◌, ◌⊎◌, inl, inr, ℕ, ◌+◌, ◌-◌, ◌≤◌, ◌<◌, max, Bool, true, false, cond, ◌&&◌, ◌||◌, not, refl, sym, ap, ◌∙◌, arith, nat_eq, eq-eqb}
+use Rattle.std.proofs.Common.{◌≡◌, ◌≢◌, inl, inr, ℕ, ◌+◌, ◌-◌, ◌≤◌, ◌<◌, max, Bool, true, false, cond, ◌&&◌, not, refl, sym, ap, ◌∙◌, arith, nat_eq, eq-eqb}
 use Rattle.std.specs.Prelude.{Option, Some, None}
 use Rattle.std.specs.List.{list_any, range_with_len}
 use Rattle.std.proofs.lemmas.Bool.{cases_lt}
@@ -21,13 +21,12 @@ use Rattle.game_rules.proofs.Boards.{Apart, is_empty-cell, and_left, and_right, 
 use Rattle.game_rules.proofs.Positions.{holds-put_more, IsBoard-put}
 use Rattle.game_rules.proofs.Rows.{any_found, or_cases}
 use Rattle.game_rules.proofs.Lines.{along-same, along-zero}
-use Rattle.game_rules.proofs.Runs.{Leads}
 use Rattle.stone_board.specs.declared.board.Way.{Way}
 use Rattle.stone_board.specs.declared.board.Way.TheVariants.{Ahead, Behind}
 use Rattle.stone_board.specs.Steps.{kept_on, towards, opposite, stones_towards}
 use Rattle.row_shapes.specs.Threes.{wins_past, is_open_four, three_place, place_towards, bit_of}
 use Rattle.row_shapes.proofs.Finds.{any_in_range, is_at-Some, or_split}
-use Rattle.row_shapes.proofs.Ways.{along-steps, go, go-then, go-same, go-zero, go-towards, go-opposite, go-apart, opposite-opposite, else_at, leads, leads_is, leads_back, leads_back_is, run_before_end}
+use Rattle.row_shapes.proofs.Ways.{along-steps, go, go-then, go-same, go-towards, go-opposite, go-apart, opposite-opposite, else_at, leads, leads_is, leads_back, leads_back_is, run_before_end}
 
 -- ---- a stone beside others
 
@@ -221,11 +220,11 @@ module _ (rule : RuleKind) (b : Grid) (s : Side) (w : Way) (d : Axis) (p q : Poi
 
 -- ---- no other point is a three point
 
-module _ (rule : RuleKind) (b : Grid) (s : Side) (d : Axis) (p q : Point) (ok : IsBoard b) (mine : holds b s p ≡ true) where
-  three_empty : is_line_three_point rule b s d p q ≡ true → is_empty b q ≡ true
-  unfolding is_line_three_point
-  three_empty h = and_left (is_empty b q) _ (and_left (is_empty b q && not (wins_on rule b s d q)) _ h)
+pub three_empty : (rule : RuleKind) (b : Grid) (s : Side) (d : Axis) (p q : Point) → is_line_three_point rule b s d p q ≡ true → is_empty b q ≡ true
+unfolding is_line_three_point
+three_empty rule b s d p q h = and_left (is_empty b q) _ (and_left (is_empty b q && not (wins_on rule b s d q)) _ h)
 
+module _ (rule : RuleKind) (b : Grid) (s : Side) (d : Axis) (p q : Point) (ok : IsBoard b) (mine : holds b s p ≡ true) where
   three_in_run : is_line_three_point rule b s d p q ≡ true → is_in_run (put b s q) s d p q ≡ true
   unfolding is_line_three_point gives_straight
   three_in_run h = and_right (is_straight rule (put b s q) s d p) _ (and_right (is_empty b q && not (wins_on rule b s d q)) _ h)
@@ -261,7 +260,7 @@ module _ (rule : RuleKind) (b : Grid) (s : Side) (d : Axis) (p q : Point) (ok : 
 
   pub three_first : is_line_three_point rule b s d p q ≡ true → (w : Way) × (go w d p (1 + stones_towards w b s d p) 0 ≡ Some q)
   three_first h =
-      let empty = three_empty h in
+      let empty = three_empty rule b s d p q h in
       elim (or_split (list_any (λ k. is_at q (along d p k 0)) (range_with_len 0 (1 + stones_ahead (put b s q) s d p))) _ (three_in_run h)) [
         | inl ahead ↦
             let k = any_in_range (λ k. is_at q (along d p k 0)) (1 + stones_ahead (put b s q) s d p) 0 ahead in
@@ -275,7 +274,7 @@ module _ (rule : RuleKind) (b : Grid) (s : Side) (d : Axis) (p q : Point) (ok : 
         steps : (k : ℕ) → along d p k 0 ≡ Some q → 1 ≤ k
         steps k here = elim (cases_lt 0 k) [
           | inl some ↦ omega arith
-          | inr none ↦ absurd (let zero : k ≡ 0 = omega arith in not_here (three_empty h) (ap (λ j. along d p j 0) (sym zero) ∙ here))
+          | inr none ↦ absurd (let zero : k ≡ 0 = omega arith in not_here (three_empty rule b s d p q h) (ap (λ j. along d p j 0) (sym zero) ∙ here))
         ]
 
 -- ---- points that are none
@@ -318,7 +317,7 @@ module _ (rule : RuleKind) (b : Grid) (s : Side) (d : Axis) (p : Point) (ok : Is
   -- the first point in a way is a three point only where the run that its stone gives is of four
   first_open : (w : Way) (q : Point) → first w ≡ Some q → is_line_three_point rule b s d p q ≡ true → 1 + stones_towards w b s d p + stones_towards w b s d q + stones_towards (opposite w) b s d p ≡ 3
   first_open w q e h =
-      let same = three-open rule b s w d p q ok mine (three_empty rule b s d p q ok mine h) (sym (go-towards w d p (1 + stones_towards w b s d p)) ∙ e) in
+      let same = three-open rule b s w d p q ok mine (three_empty rule b s d p q h) (sym (go-towards w d p (1 + stones_towards w b s d p)) ∙ e) in
       open_few w _ _ (sym same ∙ h)
 
   -- so few stones stand next to p
@@ -376,3 +375,15 @@ module _ (rule : RuleKind) (b : Grid) (s : Side) (d : Axis) (p : Point) (ok : Is
         let ahead = bit_clear Ahead i h (is_line_three_at rule b s d p (first Ahead)) refl in
         let behind = bit_clear Behind i h (is_line_three_at rule b s d p (first Behind)) refl in
         omega (arith, ahead, behind)
+
+  place_below : (w : Way) → stones_towards w b s d p ≤ 2 → place w < 11
+  place_below Ahead h = omega arith
+  place_below Behind h = omega arith
+
+  -- a three point is on one of the places
+  pub three_near : (q : Point) → is_line_three_point rule b s d p q ≡ true → (i : ℕ) × (i < 11) × (along d p i 5 ≡ Some q)
+  three_near q h =
+      let w = three_first rule b s d p q ok mine h in
+      let here : first w.0 ≡ Some q = go-towards w.0 d p (1 + stones_towards w.0 b s d p) ∙ w.1 in
+      let small : stones_towards w.0 b s d p ≤ 2 = let fewer = few w.0 (ap (is_line_three_at rule b s d p) here ∙ h) in omega (arith, fewer) in
+      (place w.0, place_below w.0 small, sym (place_at w.0 small) ∙ here)

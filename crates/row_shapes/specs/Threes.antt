@@ -1,7 +1,7 @@
 -- Three points found place by place: a second way to say where they are, from which the code reads. The eleven places of a
 -- line around a stone are numbered from 0, and the stone is on place 5.
-use Rattle.std.specs.Prelude.{◌≡◌, ℕ, ◌+◌, ◌-◌, ◌^◌, Bool, false, ◌&&◌, ◌==◌, if◌then◌else◌, Option, Some, None}
-use Rattle.game_rules.specs.Grid.{Grid, is_empty, along}
+use Rattle.std.specs.Prelude.{ℕ, ◌+◌, ◌-◌, ◌^◌, Bool, false, ◌&&◌, ◌==◌, if◌then◌else◌, Option, Some, None}
+use Rattle.game_rules.specs.Grid.{Grid, is_empty}
 use Rattle.game_rules.specs.Shapes.{row_wins, is_line_three_at}
 use Rattle.game_rules.specs.declared.RuleKind.{RuleKind}
 use Rattle.game_rules.specs.declared.Side.{Side}

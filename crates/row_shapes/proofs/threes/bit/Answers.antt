@@ -1,4 +1,4 @@
-use Rattle.std.proofs.Common.{◌≡◌, ◌*◌, ◌^◌, ◌<◌, ◌%◌, refl, arith}
+use Rattle.std.proofs.Common.{◌<◌, arith}
 use Rattle.std.proofs.lemmas.Nat.{pow_below, one_shl}
 use Rattle.row_shapes.proofs.threes.bit.Goals as goal
 

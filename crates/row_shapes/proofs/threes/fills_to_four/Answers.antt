@@ -1,5 +1,5 @@
 use Rattle.std.proofs.Common.{◌≡◌, ◌+◌, true, false, sym, ap, ◌∙◌}
-use Rattle.std.specs.Prelude.{Some, None}
+use Rattle.std.specs.Prelude.{None}
 use Rattle.game_rules.specs.Grid.{is_empty}
 use Rattle.game_rules.specs.Shapes.{is_line_three_at}
 use Rattle.stone_board.specs.Steps.{kept_on, towards}

@@ -1,4 +1,4 @@
-use Rattle.std.proofs.Common.{◌≡◌, ◌+◌, ◌<◌, sym, ap, ◌∙◌, arith}
+use Rattle.std.proofs.Common.{◌≡◌, sym, ap, ◌∙◌, arith}
 use Rattle.stone_board.specs.Steps.{opposite, stones_towards}
 use Rattle.stone_board.specs.declared.board.Way.{Way}
 use Rattle.row_shapes.proofs.ThreePoints.{no_place}
