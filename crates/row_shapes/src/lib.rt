@@ -6,6 +6,8 @@
 
 mod fours;
 mod rule;
+#[cfg(test)]
+mod tests;
 mod threes;
 mod wins;
 
