@@ -1,7 +1,7 @@
 // A table: nodes that name only lower ones.
 #![tactic(auto)]
 
-ghost use Rattle.std.specs.Prelude.{◌≡◌, ◌↔◌, ◌<◌, ◌++◌, [], ◌∷◌, IsTrue, true, false, List, length, slice_get, Some, IfOk, OnOk, OnErr, IsErrOf};
+ghost use Rattle.std.specs.Prelude.{◌≡◌, ◌↔◌, ◌<◌, ◌++◌, [], ◌∷◌, IsTrue, true, false, List, length, slice_get, Some, IfOk, IfSome, OnOk, OnErr, IsErrOf};
 ghost use Rattle.strategy_graph.specs.Tables.{IsTable, answer_at, answers_of, is_rising, is_winning, names_below, depth, start_depth};
 
 use crate::depths::{deepest, depths_of};
@@ -87,6 +87,7 @@ impl Table {
     pub fn lookup(&self, i: u32, reply: Point) -> Option<u32>
         requires in_table { i < length self.now }
         ensures answer { result ≡ answer_at self.now i reply }
+        ensures below { IfSome result (λ j. j < i) }
     {
         let node = &self.nodes[i as usize];
         answer_among(&node.replies, node.rest, reply)
