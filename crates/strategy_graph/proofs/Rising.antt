@@ -1,6 +1,6 @@
 -- Replies that rise strictly in reading order.
 use Rattle.std.proofs.Common.{◌≡◌, ℕ, zero, suc, ◌+◌, ◌≤◌, ◌<◌, Bool, true, false, cond, ◌&&◌, ◌||◌, ◌==◌, List, [], ◌∷◌, length, get_or, drop, drop-cons, add-one, refl, sym, ap, ◌∙◌, arith}
-use Rattle.std.specs.Prelude.{nat_lt, Option, Some, None}
+use Rattle.std.specs.Prelude.{nat_lt, Some, None}
 use Rattle.std.specs.List.{list_all, filter}
 use Rattle.std.proofs.lemmas.List.Sums.{AllPass-from_list_all}
 use Rattle.std.proofs.Math.ListN.{drop_of_length-le}
@@ -67,9 +67,9 @@ none_listed : (f : Reply → Bool) (p : Point) (rs : List Reply) → list_all (�
 none_listed f p [] h = refl
 none_listed f p (r ∷ rs) h =
     by_test (f r) (precedes-differs_back p r.at (and_left (precedes p r.at) _ h)) (none_listed f p rs (and_right (precedes p r.at) _ h)) where
-  by_test : (b : Bool) → is_same_point r.at p ≡ false → listed (filter f rs) p ≡ None → listed (cond b (r ∷ filter f rs) (filter f rs)) p ≡ None
-  by_test true e h = rw e h
-  by_test false e h = h
+      by_test : (b : Bool) → is_same_point r.at p ≡ false → listed (filter f rs) p ≡ None → listed (cond b (r ∷ filter f rs) (filter f rs)) p ≡ None
+      by_test true e h = rw e h
+      by_test false e h = h
 
 after_head : (r : Reply) (rs : List Reply) (k : ℕ) (d : Reply) → is_rising (r ∷ rs) ≡ true → k < length rs → is_same_point r.at (get_or rs k d).at ≡ false
 after_head r rs k d h l = precedes-differs r.at (get_or rs k d).at (AllPass-from_list_all (λ s. precedes r.at s.at) rs (and_left _ _ h) k d l)
@@ -80,9 +80,9 @@ listed-kept f [] k d h l e = absurd (omega arith)
 listed-kept f (r ∷ rs) zero d h l e = rw (e, same_point-itself r.at) refl
 listed-kept f (r ∷ rs) (suc k) d h l e =
     by_test (f r) (after_head r rs k d h (omega arith)) (listed-kept f rs k d (and_right (list_all (λ s. precedes r.at s.at) rs) _ h) (omega arith) e) where
-  by_test : (b : Bool) → is_same_point r.at (get_or rs k d).at ≡ false → listed (filter f rs) (get_or rs k d).at ≡ Some (get_or rs k d).next → listed (cond b (r ∷ filter f rs) (filter f rs)) (get_or rs k d).at ≡ Some (get_or rs k d).next
-  by_test true e h = rw e h
-  by_test false e h = h
+      by_test : (b : Bool) → is_same_point r.at (get_or rs k d).at ≡ false → listed (filter f rs) (get_or rs k d).at ≡ Some (get_or rs k d).next → listed (cond b (r ∷ filter f rs) (filter f rs)) (get_or rs k d).at ≡ Some (get_or rs k d).next
+      by_test true e h = rw e h
+      by_test false e h = h
 
 -- and for the point of one that is left out nothing is listed
 pub listed-left_out : (f : Reply → Bool) (rs : List Reply) (k : ℕ) (d : Reply) → is_rising rs ≡ true → k < length rs → f (get_or rs k d) ≡ false → listed (filter f rs) (get_or rs k d).at ≡ None
@@ -90,9 +90,9 @@ listed-left_out f [] k d h l e = absurd (omega arith)
 listed-left_out f (r ∷ rs) zero d h l e = rw e (none_listed f r.at rs (and_left _ _ h))
 listed-left_out f (r ∷ rs) (suc k) d h l e =
     by_test (f r) (after_head r rs k d h (omega arith)) (listed-left_out f rs k d (and_right (list_all (λ s. precedes r.at s.at) rs) _ h) (omega arith) e) where
-  by_test : (b : Bool) → is_same_point r.at (get_or rs k d).at ≡ false → listed (filter f rs) (get_or rs k d).at ≡ None → listed (cond b (r ∷ filter f rs) (filter f rs)) (get_or rs k d).at ≡ None
-  by_test true e h = rw e h
-  by_test false e h = h
+      by_test : (b : Bool) → is_same_point r.at (get_or rs k d).at ≡ false → listed (filter f rs) (get_or rs k d).at ≡ None → listed (cond b (r ∷ filter f rs) (filter f rs)) (get_or rs k d).at ≡ None
+      by_test true e h = rw e h
+      by_test false e h = h
 
 all_filter : (p : Reply → Bool) (f : Reply → Bool) (rs : List Reply) → list_all p rs ≡ true → list_all p (filter f rs) ≡ true
 all_filter p f [] h = refl
@@ -106,9 +106,9 @@ pub is_rising-filter : (f : Reply → Bool) (rs : List Reply) → is_rising rs �
 is_rising-filter f [] h = refl
 is_rising-filter f (r ∷ rs) h =
     by_test (f r) (all_filter (λ s. precedes r.at s.at) f rs (and_left _ _ h)) (is_rising-filter f rs (and_right (list_all (λ s. precedes r.at s.at) rs) _ h)) where
-  by_test : (b : Bool) → list_all (λ s. precedes r.at s.at) (filter f rs) ≡ true → is_rising (filter f rs) ≡ true → is_rising (cond b (r ∷ filter f rs) (filter f rs)) ≡ true
-  by_test true e h = rw (e, h) refl
-  by_test false e h = h
+      by_test : (b : Bool) → list_all (λ s. precedes r.at s.at) (filter f rs) ≡ true → is_rising (filter f rs) ≡ true → is_rising (cond b (r ∷ filter f rs) (filter f rs)) ≡ true
+      by_test true e h = rw (e, h) refl
+      by_test false e h = h
 
 -- ---- a walk over the replies after the first
 

@@ -16,6 +16,7 @@ ghost use Rattle.strategy_graph.specs.Tables.{is_winning, rest_node, rest_nodes}
 mod depths;
 mod replies;
 mod roots;
+mod start;
 mod table;
 #[cfg(test)]
 mod tests;
@@ -23,7 +24,8 @@ mod theorems;
 
 use game_rules::Point;
 pub use replies::Replies;
-pub use roots::{Root, Start};
+pub use roots::Root;
+pub use start::Start;
 pub use table::{PushError, Table};
 pub use theorems::{
     accepted_start_wins, accepted_wins, faults_refute, faults_refute_start, games_end_well,

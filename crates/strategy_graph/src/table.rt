@@ -2,11 +2,12 @@
 #![tactic(auto)]
 
 ghost use Rattle.std.specs.Prelude.{◌≡◌, ◌↔◌, ◌<◌, ◌++◌, [], ◌∷◌, IsTrue, true, false, List, length, slice_get, Some, IfOk, IfSome, OnOk, OnErr, IsErrOf};
+ghost use Rattle.strategy_graph.specs.Roots.{root_below, root_depth};
 ghost use Rattle.strategy_graph.specs.Tables.{IsTable, answer_at, answers_of, is_rising, is_winning, names_below, depth, start_depth};
 
 use crate::depths::{deepest, depths_of};
 use crate::replies::{answer_among, are_all_below};
-use crate::{MAX_NODES, Node, Start};
+use crate::{MAX_NODES, Node, Root, Start};
 use game_rules::Point;
 use std::alloc::{AllocError, Global};
 use std::marker::Model;
@@ -22,6 +23,7 @@ pub struct Table {
 impl Model for Table {
     ghost use Rattle.std.specs.Prelude.{List};
     ghost use Rattle.strategy_graph.specs.declared.Node.{Node};
+    ghost use Rattle.strategy_graph.specs.Roots.{root_below, root_depth};
     ghost use Rattle.strategy_graph.specs.Tables.{IsTable};
 
     ghost Value = { List Node };
@@ -148,5 +150,16 @@ impl Table {
         let len = self.nodes.len() as u32;
         let depths = depths_of(*self.nodes.allocator(), self.nodes.as_slice(), len)?;
         Ok(deepest(start.replies().as_slice(), start.rest(), depths.as_slice()))
+    }
+
+    /// The depth of a root, which names only nodes of the table.
+    pub fn root_depth(&self, root: &Root) -> Result<u32, AllocError>
+        requires below { root_below root.now (length self.now) ≡ true }
+        ensures depth { IfOk result (λ d. d ≡ root_depth self.now root.now) }
+    {
+        match root {
+            Root::Attack(number) => self.depth(*number),
+            Root::Defend(start) => self.start_depth(start),
+        }
     }
 }
