@@ -39,8 +39,8 @@ renamed_answers f a = record { replies = map (renamed_reply f) a.replies; rest =
 abbrev pub renamed : (ℕ → ℕ) → Node → Node
 renamed f n = record { attack = n.attack; replies = map (renamed_reply f) n.replies; rest = renamed_rest f n.rest }
 
--- For each number i that passes, table t has a node i, table u has the same node renamed at f i, and each number that the node
--- names passes too.
+-- For each number i that passes, table t has a node i, table u has the same node renamed at f i, and each number that
+-- the node names passes too.
 pub record Copies (f : ℕ → ℕ) (passes : ℕ → Bool) (t u : List Node) : Type 0 where
   pub copied : (i : ℕ) → passes i ≡ true → (n : Node) × (slice_get t i ≡ Some n) × (slice_get u (f i) ≡ Some (renamed f n)) × (list_all passes (named (answers_of n)) ≡ true)
 

@@ -1,4 +1,5 @@
--- A table that holds copies of nodes of another, under other numbers, says the same at them: what a compiler of tables needs.
+-- A table that holds copies of nodes of another, under other numbers, says the same at them: what a compiler of
+-- tables needs.
 use Rattle.std.proofs.Common.{◌≡◌, ℕ, suc, ◌+◌, Bool, true, List, ◌∙◌, arith}
 use Rattle.game_rules.specs.Grid.{Grid}
 use Rattle.game_rules.specs.declared.RuleKind.{RuleKind}

@@ -57,6 +57,10 @@ named a = map (λ r. r.next) a.replies ++ rest_nodes a.rest
 abbrev pub names_below : Answers → ℕ → Bool
 names_below a k = list_all (λ j. nat_lt j k) (named a)
 
+-- whether the node names only nodes of the table
+abbrev pub names_nodes_of : List Node → Node → Bool
+names_nodes_of t n = names_below (answers_of n) (length t)
+
 -- whether p comes before q in reading order: by y, then by x
 abbrev pub precedes : Point → Point → Bool
 precedes p q = nat_lt p.y q.y || (p.y == q.y && nat_lt p.x q.x)

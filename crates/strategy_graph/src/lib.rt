@@ -1,4 +1,4 @@
-//! Tables of answers: what a player who has one plays after each reply, and what it takes that he wins.
+//! Tables of answers: what a player plays after each reply of the other, and when such a table is sure to win.
 //!
 //! A table is a list of nodes, each of which names only lower ones. A node is the attack that is played there, the
 //! node for each reply that is listed, and a rest for all the others. A start is the same without an attack, where the
@@ -65,7 +65,7 @@ impl Rest {
     {
         match self {
             Rest::To(number) => number < len,
-            _ => true,
+            Rest::Wins | Rest::Nothing => true,
         }
     }
 

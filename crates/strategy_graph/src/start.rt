@@ -9,8 +9,8 @@ use crate::{Replies, Rest};
 use game_rules::Point;
 use std::marker::Model;
 
-/// What answers the first move of the opponent: the replies that are listed, and the rest. The rest is never `Wins`, and
-/// the replies rise strictly in reading order. Contracts see it as the record of its replies and its rest.
+/// What answers the first move of the opponent: the replies that are listed, and the rest. The rest is never `Wins`,
+/// and the replies rise strictly in reading order. Contracts see it as the record of its replies and its rest.
 #[derive(Debug, Drop)]
 pub struct Start {
     replies: Replies,
@@ -28,7 +28,7 @@ impl Model for Start {
 }
 
 impl Start {
-    /// A start of these replies and this rest.
+    /// A start of these replies, which rise strictly in reading order, and this rest, which is not `Wins`.
     pub fn new(replies: Replies, rest: Rest) -> Self
         requires rising { is_rising replies ≡ true }
         requires not_winning { is_winning rest ≡ false }
@@ -54,8 +54,8 @@ impl Start {
         self.rest
     }
 
-    /// The node that answers the reply: the one that is listed for it, else the one of the rest, else `None`. It takes no
-    /// memory.
+    /// The node that answers the reply: the one that is listed for it, else the one of the rest, else `None`. It takes
+    /// no memory.
     pub fn lookup(&self, reply: Point) -> Option<u32>
         ensures answer { result ≡ answer self.now reply }
     {
