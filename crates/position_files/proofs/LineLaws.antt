@@ -4,6 +4,7 @@ use Rattle.std.specs.Prelude.{Option, Some, None}
 use Rattle.std.specs.Fmt.{decimal}
 use Rattle.std.specs.List.{AllByRecursion, list_all}
 use Rattle.std.proofs.lemmas.Bool.{and_parts}
+use Rattle.std.proofs.lemmas.Fmt.{decimal_injective}
 use Rattle.std.proofs.lemmas.List.{append_cancel_left}
 use Rattle.std.proofs.lemmas.List.Folds.{list_all-append}
 use Rattle.game_rules.specs.declared.Point.{Point}
@@ -11,7 +12,7 @@ use Rattle.game_rules.specs.declared.RuleKind.{RuleKind}
 use Rattle.game_rules.specs.declared.RuleKind.TheVariants.{Freestyle, Exact, Renju}
 use Rattle.position_files.specs.Lines.{line_feed}
 use Rattle.position_files.specs.Positions.{comma, space, point_text, points_text, rule_word, size_text, pair_text}
-use Rattle.position_files.specs.Reading.{Reads, ReadsLine, IsWithin, IsSide, AreSides, is_free, tail_text}
+use Rattle.position_files.specs.Reading.{Reads, ReadsLine, IsCount, IsWithin, IsSide, AreSides, is_free, tail_text}
 use Rattle.position_files.proofs.Cuts.{same_word, is_free-append}
 use Rattle.position_files.proofs.Numbers.{decimal-free}
 
@@ -58,8 +59,16 @@ rule_word-free Freestyle h = refl
 rule_word-free Exact h = refl
 rule_word-free Renju h = refl
 
-pub number-free : (most : ℕ) → most ≤ 1000000 → (n : ℕ) → n ≤ most → is_free line_feed (decimal n) ≡ true
-number-free most few n h = decimal-free line_feed n (inl (omega arith)) (omega arith)
+pub count-free : (least : ℕ) (n : ℕ) → IsCount least n → is_free line_feed (decimal n) ≡ true
+count-free least n h = let few = h.few in decimal-free line_feed n (inl (omega arith)) (omega (arith, few))
+
+-- bytes that spell a number below the least one spell no count
+pub too_few : (least n : ℕ) (text : List ℕ) → n ≤ 1000000 → n < least → text ≡ decimal n → (m : ℕ) → IsCount least m → text ≡ decimal m → ⊥
+too_few least n text few low e m h f =
+    let fits = h.few in
+    let enough = h.enough in
+    let same : n ≡ m = decimal_injective n m (omega arith) (omega (arith, fits)) (sym e ∙ f) in
+    omega (arith, same, enough)
 
 pair-free : (x y : ℕ) → x < 2 ^ 64 → y < 2 ^ 64 → is_free line_feed (pair_text x y) ≡ true
 pair-free x y fx fy = is_free-append line_feed (decimal x) (comma ∷ decimal y) (decimal-free line_feed x (inl (omega arith)) fx) (decimal-free line_feed y (inl (omega arith)) fy)

@@ -1,11 +1,13 @@
 -- What the readers of nodes and starts find.
-use Rattle.std.specs.Prelude.{◌≡◌, ℕ, ◌≤◌, true, List, []}
+use Rattle.std.specs.Prelude.{◌≡◌, ℕ, ◌≤◌, true, List, [], ◌∷◌, ◌++◌}
 use Rattle.std.specs.List.{AllByRecursion}
 use Rattle.strategy_graph.specs.Tables.{Answers, answers_of, is_winning}
 use Rattle.strategy_graph.specs.declared.Reply.{Reply}
 use Rattle.strategy_graph.specs.declared.Rest.{Rest}
 use Rattle.strategy_graph.specs.declared.Rest.TheVariants.{Wins, To, Nothing}
 use Rattle.strategy_graph.specs.declared.Node.{Node}
+use Rattle.position_files.specs.Lines.{line_feed}
+use Rattle.position_files.specs.Tables.{node_line}
 use Rattle.position_files.specs.Reading.{IsWithin}
 
 -- the reply is at a point within these bounds, and names a node of a number that is not too great
@@ -29,6 +31,13 @@ pub record AnswersFit (width height : ℕ) (a : Answers) : Type 0 where
 pub record NodeFits (width height : ℕ) (n : Node) : Type 0 where
   pub attack : IsWithin width height n.attack
   pub answers : AnswersFit width height (answers_of n)
+
+-- the new nodes are the old ones and one more that fits, whose line the bytes begin with, and the rest is what comes after it
+pub record AddsNode (width height : ℕ) (old new : List Node) (bytes rest : List ℕ) : Type 0 where
+  pub node : Node
+  pub fits : NodeFits width height node
+  pub nodes : new ≡ old ++ node ∷ []
+  pub text : bytes ≡ node_line node ++ line_feed ∷ rest
 
 -- replies and a rest as answers
 abbrev pub answers_with : List Reply × Rest → Answers

@@ -29,6 +29,11 @@ pub record IsWithin (width height : ℕ) (p : Point) : Type 0 where
   pub column : p.x < width
   pub row : p.y < height
 
+-- the number is one of moves or of nodes, from this one on
+pub record IsCount (least n : ℕ) : Type 0 where
+  pub enough : least ≤ n
+  pub few : n ≤ 1000000
+
 -- the number is the width or the height of a board
 pub record IsSide (n : ℕ) : Type 0 where
   pub long : 5 ≤ n

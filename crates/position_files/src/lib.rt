@@ -10,6 +10,7 @@ mod boards;
 mod error;
 mod faults;
 mod lines;
+mod nodes;
 mod read;
 mod words;
 

@@ -1,14 +1,15 @@
 //! Lines of a text, and the points and replies that a line lists.
 #![tactic(auto)]
 
-ghost use Rattle.std.specs.Prelude.{◌≡◌, ◌≤◌, ◌++◌, ◌∷◌, true, IfNone, IfSome, option_copied};
+ghost use Rattle.std.specs.Prelude.{◌≡◌, ◌++◌, ◌∷◌, true, IfNone, IfSome, option_copied};
 ghost use Rattle.std.specs.List.{AllByRecursion};
 ghost use Rattle.std.specs.Option.{option_map};
 ghost use Rattle.std.specs.Fmt.{decimal};
 ghost use Rattle.position_files.specs.Lines.{line_feed};
 ghost use Rattle.position_files.specs.Positions.{space, points_text, rule_line as rule_line_lem, size_line as size_line_lem};
-ghost use Rattle.position_files.specs.Reading.{Gives, ReadsLine, AreSides, IsSide, IsWithin, is_free, tail_text};
+ghost use Rattle.position_files.specs.Reading.{Gives, ReadsLine, AreSides, IsCount, IsSide, IsWithin, is_free, tail_text};
 
+use crate::MAX_MOVES;
 use crate::faults::Fault;
 use crate::words::{after, cut, is_text, number, point, rule, size};
 use game_rules::RuleKind;
@@ -89,12 +90,15 @@ pub(crate) fn size_line(bytes: &[u8]) -> Option<((u8, u8), &[u8])>
     Some((size(text)?, rest))
 }
 
-/// The number up to `most` after this word on the first line, and the bytes after the line.
-pub(crate) fn number_line<'a>(bytes: &'a [u8], word: &[u8], most: u32) -> Option<(u32, &'a [u8])>
+/// The number from `least` to `MAX_MOVES` after this word on the first line, and the bytes after the line.
+pub(crate) fn number_line<'a>(bytes: &'a [u8], word: &[u8], least: u32) -> Option<(u32, &'a [u8])>
     requires word { is_free line_feed word.now ≡ true }
-    requires few { most ≤ 1000000 }
-    ensures number { ReadsLine (λ n. n ≤ most) (λ n. word.now ++ decimal n) (option_map (λ found. (found.0, found.1.now)) result) bytes.now }
+    ensures number { ReadsLine (IsCount least) (λ n. word.now ++ decimal n) (option_map (λ found. (found.0, found.1.now)) result) bytes.now }
 {
     let (text, rest) = prefixed(bytes, word)?;
-    Some((number(text, most)?, rest))
+    let number = number(text, MAX_MOVES)?;
+    if number < least {
+        return None;
+    }
+    Some((number, rest))
 }
