@@ -57,7 +57,7 @@ first_item {X} Fits item items text word t (v ∷ vs) parts free fits e =
     let same = same_word space word t (item v) tail.0 free (items.free v fits.0) (sym parts ∙ whole ∙ ap (λ (r : List ℕ). item v ++ r) tail.1) in
     (v, vs, refl, fits.0, fits.1, same.0, ap (tail_text space) same.1 ∙ sym tail.1)
 
-all_push : {X : Type 0} (Fits : X → Type 0) (vs : List X) (v : X) → AllByRecursion Fits vs → Fits v → AllByRecursion Fits (vs ++ v ∷ [])
+pub all_push : {X : Type 0} (Fits : X → Type 0) (vs : List X) (v : X) → AllByRecursion Fits vs → Fits v → AllByRecursion Fits (vs ++ v ∷ [])
 all_push Fits [] v all fit = (fit, tt)
 all_push Fits (u ∷ us) v all fit = (all.0, all_push Fits us v all.1 fit)
 

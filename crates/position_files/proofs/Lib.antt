@@ -7,3 +7,4 @@ mod LineLaws
 mod BoardLaws
 mod TextLaws
 mod AnswerLaws
+mod NodeLaws
