@@ -23,21 +23,21 @@ decimal_plain n fits = record {
   ];
 }
 
-pub plain_if_spelled : (bytes : List ℕ) (n : ℕ) → n ≤ 1000000 → bytes ≡ decimal n → IsPlain bytes
+pub plain_if_spelled : (bytes : List ℕ) (n : ℕ) → n ≤ 1000000000000 → bytes ≡ decimal n → IsPlain bytes
 plain_if_spelled bytes n few e = subst IsPlain (sym e) (decimal_plain n (omega arith))
 
-pub digits_if_spelled : (bytes : List ℕ) (n i : ℕ) → n ≤ 1000000 → bytes ≡ decimal n → i < length bytes → (48 ≤ get_or bytes i 0) × (get_or bytes i 0 ≤ 57)
+pub digits_if_spelled : (bytes : List ℕ) (n i : ℕ) → n ≤ 1000000000000 → bytes ≡ decimal n → i < length bytes → (48 ≤ get_or bytes i 0) × (get_or bytes i 0 ≤ 57)
 digits_if_spelled bytes n i few e within =
     let all : AllDigits 10 bytes = subst (AllDigits 10) (sym e) (digits_decimal own n (omega arith)) in
     digit_at bytes i all within
 
-pub value_if_spelled : (bytes : List ℕ) (n i : ℕ) → n ≤ 1000000 → bytes ≡ decimal n → digits_value 10 (take i bytes) ≤ n
+pub value_if_spelled : (bytes : List ℕ) (n i : ℕ) → n ≤ 1000000000000 → bytes ≡ decimal n → digits_value 10 (take i bytes) ≤ n
 value_if_spelled bytes n i few e =
     let value : digits_value 10 bytes ≡ n = ap (digits_value 10) e ∙ digits_value-decimal own n (omega arith) in
     let part = digits_value-take-le 10 bytes i (omega arith) in
     omega (arith, value, part)
 
-pub spelled_by_digits : (bytes : List ℕ) (n : ℕ) → IsPlain bytes → AllDigits 10 bytes → n ≡ digits_value 10 bytes → n ≤ 1000000 → bytes ≡ decimal n
+pub spelled_by_digits : (bytes : List ℕ) (n : ℕ) → IsPlain bytes → AllDigits 10 bytes → n ≡ digits_value 10 bytes → n ≤ 1000000000000 → bytes ≡ decimal n
 spelled_by_digits bytes n plain all e few =
     let back : decimal (digits_value 10 bytes) ≡ bytes = decimal-digits_value own bytes all plain.some plain.plain (omega arith) in
     sym back ∙ ap decimal (sym e)
@@ -67,7 +67,7 @@ number_more bytes i n most within low high so_far few =
     }
 
 -- bytes whose front is more than the number do not spell it
-pub too_much : (bytes : List ℕ) (i n v most : ℕ) → i < length bytes → 48 ≤ get_or bytes i 0 → get_or bytes i 0 ≤ 57 → IsNumberOf (take i bytes) n most → most < n * 10 + (get_or bytes i 0 - 48) → most ≤ 1000000 → v ≤ most → bytes ≡ decimal v → ⊥
+pub too_much : (bytes : List ℕ) (i n v most : ℕ) → i < length bytes → 48 ≤ get_or bytes i 0 → get_or bytes i 0 ≤ 57 → IsNumberOf (take i bytes) n most → most < n * 10 + (get_or bytes i 0 - 48) → most ≤ 1000000000000 → v ≤ most → bytes ≡ decimal v → ⊥
 too_much bytes i n v most within low high so_far over bound few e =
     let d = digit_is (get_or bytes i 0) low high in
     let more = digits_value_more 10 bytes i within in
@@ -75,14 +75,14 @@ too_much bytes i n v most within low high so_far over bound few e =
     let part = value_if_spelled bytes v (i + 1) (omega arith) e in
     omega (arith, d, more, value, part)
 
-pub is_spelled : (bytes : List ℕ) (i n most : ℕ) → i ≡ length bytes → IsNumberOf (take i bytes) n most → IsPlain bytes → most ≤ 1000000 → (n ≤ most) × (bytes ≡ decimal n)
+pub is_spelled : (bytes : List ℕ) (i n most : ℕ) → i ≡ length bytes → IsNumberOf (take i bytes) n most → IsPlain bytes → most ≤ 1000000000000 → (n ≤ most) × (bytes ≡ decimal n)
 is_spelled bytes i n most end so_far plain bound =
     let whole : take i bytes ≡ bytes = rw end (take-length bytes) in
     let all : IsNumberOf bytes n most = subst (λ (l : List ℕ). IsNumberOf l n most) whole so_far in
     (all.few, let few = all.few in spelled_by_digits bytes n plain all.digits all.value (omega (arith, few)))
 
 -- bytes with another byte than a digit spell no number
-pub no_digit : (bytes : List ℕ) (v i : ℕ) → v ≤ 1000000 → bytes ≡ decimal v → i < length bytes → IsNotAsciiDigit (get_or bytes i 0) → ⊥
+pub no_digit : (bytes : List ℕ) (v i : ℕ) → v ≤ 1000000000000 → bytes ≡ decimal v → i < length bytes → IsNotAsciiDigit (get_or bytes i 0) → ⊥
 no_digit bytes v i few e within (inl low) = let digit = digits_if_spelled bytes v i few e within in omega (arith, digit.0, low)
 no_digit bytes v i few e within (inr high) = let digit = digits_if_spelled bytes v i few e within in omega (arith, digit.1, high)
 

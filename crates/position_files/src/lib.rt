@@ -19,6 +19,7 @@ use game_rules::RuleKind;
 pub use read::read_position;
 use stone_board::Board;
 use strategy_graph::{Root, Table};
+pub use words::wide_number;
 
 /// The most moves that a table says it needs.
 pub const MAX_MOVES: u32 = 1_000_000;

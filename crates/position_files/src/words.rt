@@ -32,6 +32,15 @@ pub(crate) fn number(bytes: &[u8], most: u32) -> Option<u32>
     requires few { most ≤ 1000000 }
     ensures number { Reads (λ n. n ≤ most) decimal result bytes.now }
 {
+    Some(wide_number(bytes, u64::from(most))? as u32)
+}
+
+/// The number up to `most` that the bytes spell in decimal without leading zeros, if they spell one; `most` is at most
+/// 1,000,000,000,000.
+pub fn wide_number(bytes: &[u8], most: u64) -> Option<u64>
+    requires few { most ≤ 1000000000000 }
+    ensures number { Reads (λ n. n ≤ most) decimal result bytes.now }
+{
     match bytes {
         [] => None,
         [b'0', _, ..] => None,
@@ -40,8 +49,8 @@ pub(crate) fn number(bytes: &[u8], most: u32) -> Option<u32>
 }
 
 /// The same, for bytes of which it is known that they have no zero too many at their front.
-fn digits(bytes: &[u8], most: u32) -> Option<u32>
-    requires few { most ≤ 1000000 }
+fn digits(bytes: &[u8], most: u64) -> Option<u64>
+    requires few { most ≤ 1000000000000 }
     requires plain { IsPlain bytes.now }
     ensures number { Reads (λ n. n ≤ most) decimal result bytes.now }
 {
@@ -50,7 +59,7 @@ fn digits(bytes: &[u8], most: u32) -> Option<u32>
         if !byte.is_ascii_digit() {
             return None;
         }
-        number = number * 10 + u32::from(*byte - b'0');
+        number = number * 10 + u64::from(*byte - b'0');
         if number > most {
             return None;
         }

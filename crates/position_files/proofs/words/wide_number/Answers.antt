@@ -1,6 +1,6 @@
 use Rattle.std.proofs.Common.{arith}
 use Rattle.position_files.proofs.Numbers.{plain_if_spelled}
-use Rattle.position_files.proofs.words.number.Goals as goal
+use Rattle.position_files.proofs.words.wide_number.Goals as goal
 
 pub returns-in-empty : goal.returns-in-empty
 returns-in-empty c = record {
