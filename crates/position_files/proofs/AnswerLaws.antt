@@ -14,14 +14,16 @@ use Rattle.strategy_graph.specs.declared.Rest.TheVariants.{Wins, To, Nothing}
 use Rattle.strategy_graph.specs.declared.Node.{Node}
 use Rattle.position_files.specs.declared.faults.Fault.{Fault}
 use Rattle.position_files.specs.declared.faults.Fault.TheVariants.{Bad, Memory}
+use Rattle.position_files.specs.Lines.{line_feed}
 use Rattle.position_files.specs.Positions.{comma, space, point_text}
-use Rattle.position_files.specs.Tables.{arrow, reply_text, replies_text, rest_text, answers_text, node_line}
-use Rattle.position_files.specs.Reading.{Reads, Gives, IsWithin, IsSide, is_free, tail_text}
-use Rattle.position_files.specs.Answers.{ReplyFits, RestFits, AnswersFit, NodeFits, answers_with}
+use Rattle.position_files.specs.Tables.{arrow, reply_text, replies_text, rest_text, answers_text, node_line, start_line}
+use Rattle.position_files.specs.Reading.{Reads, Gives, ReadsLine, GivesLine, IsWithin, IsSide, is_free, tail_text}
+use Rattle.position_files.specs.Answers.{ReplyFits, RestFits, AnswersFit, NodeFits, StartFits, answers_with}
 use Rattle.position_files.proofs.Cuts.{same_word, is_free-append}
 use Rattle.position_files.proofs.Numbers.{decimal-free}
 use Rattle.position_files.proofs.Items.{AreItems, items_tail, items_text-injective}
 use Rattle.position_files.proofs.Spellings.{point_items, point-free}
+use Rattle.position_files.proofs.LineLaws.{prefix_none, prefix_bad}
 
 module _ (width height : ℕ) (wide : IsSide width) (high : IsSide height) where
   -- ---- replies
@@ -137,3 +139,55 @@ module _ (width height : ℕ) (wide : IsSide width) (high : IsSide height) where
       let whole : Some text ≡ Some (answers_text (answers_of n)) = sym is ∙ (node_words line a t n fits parts free e).1 in
       h (n.replies, n.rest) fits.answers (same_Some text (answers_text (answers_of n)) whole)
   bad_answers Memory line a text t parts free is h = tt
+
+-- ---- lines of answers
+
+rest-free : (r : Rest) → RestFits r → is_free line_feed (rest_text r) ≡ true
+rest-free Wins fits = refl
+rest-free (To j) fits =
+    let few : j ≤ 1000000 = fits in
+    is_free-append line_feed (codes "rest ") (decimal j) refl (decimal-free line_feed j (inl (omega arith)) (omega (arith, few)))
+rest-free Nothing fits = refl
+
+module _ (width height : ℕ) (wide : IsSide width) (high : IsSide height) where
+  replies-free : (rs : List Reply) → AllByRecursion (ReplyFits width height) rs → is_free line_feed (replies_text rs) ≡ true
+  replies-free [] all = refl
+  replies-free (r ∷ rs) all =
+      let next = all.0.next in
+      let point = point-free line_feed width height (inl (omega arith)) (λ e. absurd (omega (arith, e))) wide high r.at all.0.at in
+      let number = decimal-free line_feed r.next (inl (omega arith)) (omega (arith, next)) in
+      is_free-append line_feed (space ∷ reply_text r) (replies_text rs) (is_free-append line_feed (point_text r.at) (arrow ∷ decimal r.next) point number) (replies-free rs all.1)
+
+  pub answers-free : (a : Answers) → AnswersFit width height a → is_free line_feed (answers_text a) ≡ true
+  answers-free a fits = is_free-append line_feed (rest_text a.rest) (replies_text a.replies) (rest-free a.rest fits.rest) (replies-free a.replies fits.replies)
+
+  pub node_line-free : (n : Node) → NodeFits width height n → is_free line_feed (node_line n) ≡ true
+  node_line-free n fits =
+      is_free-append line_feed (point_text n.attack) (space ∷ answers_text (answers_of n)) (point-free line_feed width height (inl (omega arith)) (λ e. absurd (omega (arith, e))) wide high n.attack fits.attack) (answers-free (answers_of n) fits.answers)
+
+  -- a text spells one list of answers
+  pub answers_text-injective : (a b : Answers) → AnswersFit width height a → AnswersFit width height b → answers_text a ≡ answers_text b → a ≡ b
+  answers_text-injective a b fa fb e =
+      let tail_a = items_tail reply_text a.replies in
+      let tail_b = items_tail reply_text b.replies in
+      let same = rest_same a.rest tail_a.0 b.rest tail_b.0 fa.rest fb.rest (ap (λ (l : List ℕ). rest_text a.rest ++ l) (sym tail_a.1) ∙ e ∙ ap (λ (l : List ℕ). rest_text b.rest ++ l) tail_b.1) in
+      let texts : replies_text a.replies ≡ replies_text b.replies = tail_a.1 ∙ ap (tail_text space) same.1 ∙ sym tail_b.1 in
+      let replies = items_text-injective (ReplyFits width height) reply_text (reply_items width height wide high) a.replies b.replies fa.replies fb.replies texts in
+      let rests = same.0 in
+      λ i. record { replies = replies i; rest = rests i }
+
+  start-free : (len : ℕ) (a : Answers) → StartFits width height len a → is_free line_feed (answers_text a) ≡ true
+  start-free len a fits = answers-free a fits.answers
+
+  pub no_start : (bytes : List ℕ) (len : ℕ) → ReadsLine (λ (text : List ℕ). is_free line_feed text ≡ true) (λ text. codes "start " ++ text) None bytes → ReadsLine (StartFits width height len) start_line None bytes
+  no_start bytes len none = prefix_none (StartFits width height len) answers_text (start-free len) (codes "start ") bytes none
+
+  module _ (bytes text after : List ℕ) (len : ℕ) (free : is_free line_feed text ≡ true) (parts : bytes ≡ (codes "start " ++ text) ++ line_feed ∷ after) where
+    pub no_start_answers : (fault : Fault) → Gives {X = List Reply × Rest} (λ found. AnswersFit width height (answers_with found)) (λ found. answers_text (answers_with found)) (Err fault) text → GivesLine (StartFits width height len) start_line (Err fault) bytes
+    no_start_answers Bad none = prefix_bad (StartFits width height len) answers_text (start-free len) (codes "start ") bytes text after refl free parts (λ a fits e. none (a.replies, a.rest) fits.answers e)
+    no_start_answers Memory none = tt
+
+    -- where the answers are read, but are those of no start
+    pub bad_start : (found : Answers) → AnswersFit width height found → text ≡ answers_text found → (StartFits width height len found → ⊥) → ReadsLine (StartFits width height len) start_line None bytes
+    bad_start found fits is no_fit = prefix_bad (StartFits width height len) answers_text (start-free len) (codes "start ") bytes text after refl free parts
+        (λ a fits_a e. no_fit (subst (StartFits width height len) (answers_text-injective a found fits_a.answers fits (sym e ∙ is)) fits_a))

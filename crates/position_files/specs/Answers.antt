@@ -1,7 +1,7 @@
 -- What the readers of nodes and starts find.
 use Rattle.std.specs.Prelude.{◌≡◌, ℕ, ◌≤◌, true, List, [], ◌∷◌, ◌++◌}
 use Rattle.std.specs.List.{AllByRecursion}
-use Rattle.strategy_graph.specs.Tables.{Answers, answers_of, is_winning}
+use Rattle.strategy_graph.specs.Tables.{Answers, IsStart, answers_of, is_winning, names_below}
 use Rattle.strategy_graph.specs.declared.Reply.{Reply}
 use Rattle.strategy_graph.specs.declared.Rest.{Rest}
 use Rattle.strategy_graph.specs.declared.Rest.TheVariants.{Wins, To, Nothing}
@@ -31,6 +31,12 @@ pub record AnswersFit (width height : ℕ) (a : Answers) : Type 0 where
 pub record NodeFits (width height : ℕ) (n : Node) : Type 0 where
   pub attack : IsWithin width height n.attack
   pub answers : AnswersFit width height (answers_of n)
+
+-- the start fits, and names only nodes below this number
+pub record StartFits (width height len : ℕ) (a : Answers) : Type 0 where
+  pub answers : AnswersFit width height a
+  pub start : IsStart a
+  pub below : names_below a len ≡ true
 
 -- the new nodes are the old ones and one more that fits, whose line the bytes begin with, and the rest is what comes after it
 pub record AddsNode (width height : ℕ) (old new : List Node) (bytes rest : List ℕ) : Type 0 where

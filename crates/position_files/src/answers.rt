@@ -5,15 +5,17 @@ ghost use Rattle.std.specs.Prelude.{◌≡◌, ℕ, List, ◌++◌, Option, opti
 ghost use Rattle.strategy_graph.specs.declared.Rest.{Rest};
 ghost use Rattle.std.specs.List.{AllByRecursion};
 ghost use Rattle.std.specs.Option.{option_map};
+ghost use Rattle.std.specs.Result.{result_map_both};
 ghost use Rattle.position_files.specs.Positions.{space};
-ghost use Rattle.position_files.specs.Tables.{answers_text, node_line as node_line_lem, replies_text, reply_text, rest_text};
-ghost use Rattle.position_files.specs.Reading.{Gives, IsSide, Reads, tail_text};
-ghost use Rattle.position_files.specs.Answers.{AnswersFit, NodeFits, ReplyFits, RestFits, answers_with};
+ghost use Rattle.position_files.specs.Tables.{answers_text, node_line as node_line_lem, replies_text, reply_text, rest_text, start_line as start_line_lem};
+ghost use Rattle.position_files.specs.Reading.{Gives, GivesLine, IsSide, Reads, tail_text};
+ghost use Rattle.position_files.specs.Answers.{AnswersFit, NodeFits, ReplyFits, RestFits, StartFits, answers_with};
 
 use crate::faults::Fault;
+use crate::lines::prefixed;
 use crate::words::{cut, is_text, number, point};
 use std::alloc::Global;
-use strategy_graph::{MAX_NODES, Node, Replies, Reply, Rest};
+use strategy_graph::{MAX_NODES, Node, Replies, Reply, Rest, Start};
 
 /// The reply, and the number of the node that answers it, that the bytes spell.
 fn reply(word: &[u8], width: u8, height: u8) -> Option<Reply>
@@ -104,4 +106,33 @@ pub(crate) fn node(alloc: Global, line: &[u8], width: u8, height: u8) -> Result<
         replies,
         rest,
     })
+}
+
+/// The start of the first line, which names only nodes below `len`, and the bytes after the line.
+pub(crate) fn start_line(
+    alloc: Global,
+    bytes: &[u8],
+    len: u32,
+    width: u8,
+    height: u8,
+) -> Result<(Start, &[u8]), Fault>
+    requires wide { IsSide width }
+    requires high { IsSide height }
+    ensures start { GivesLine (StartFits width height len) start_line_lem (result_map_both (λ found. (found.0, found.1.now)) (λ fault. fault) result) bytes.now }
+{
+    let Some((text, after)) = prefixed(bytes, b"start ") else {
+        return Err(Fault::Bad);
+    };
+    let (replies, rest) = answers(alloc, text, width, height)?;
+    if rest.is_winning() {
+        return Err(Fault::Bad);
+    }
+    if !replies.is_rising() {
+        return Err(Fault::Bad);
+    }
+    let start = Start::new(replies, rest);
+    if !start.names_below(len) {
+        return Err(Fault::Bad);
+    }
+    Ok((start, after))
 }
