@@ -8,3 +8,4 @@ mod BoardLaws
 mod TextLaws
 mod AnswerLaws
 mod NodeLaws
+mod TableLaws

@@ -4,3 +4,4 @@ pub mod Tables
 pub mod Reading
 pub mod Faults
 pub mod Answers
+pub mod Bodies

@@ -9,16 +9,19 @@ mod answers;
 mod boards;
 mod error;
 mod faults;
+mod lawful;
 mod lines;
 mod nodes;
-mod read;
+mod positions;
+mod tables;
 mod words;
 
 pub use error::FileError;
 use game_rules::RuleKind;
-pub use read::read_position;
+pub use positions::read_position;
 use stone_board::Board;
 use strategy_graph::{Root, Table};
+pub use tables::read_table;
 pub use words::wide_number;
 
 /// The most moves that a table says it needs.

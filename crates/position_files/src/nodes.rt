@@ -18,7 +18,7 @@ use std::alloc::Global;
 use strategy_graph::{Node, PushError, Table};
 
 /// The number of the first line that has a node.
-const FIRST_NODE_LINE: u32 = 8;
+pub(crate) const FIRST_NODE_LINE: u32 = 8;
 
 /// Adds the node at the end of the table. `Bad` says that it is no node of this number.
 fn push(table: &mut Table, node: Node) -> Result<(), Fault>
