@@ -44,16 +44,16 @@ module _ (width height : ℕ) (wide : IsSide width) (high : IsSide height) where
   pub reply_items : AreItems (ReplyFits width height) reply_text
   reply_items = record {
     free = λ r fits.
-    let next = fits.next in
-    is_free-append space (point_text r.at) (arrow ∷ decimal r.next) ((point_items width height wide high).free r.at fits.at) (decimal-free space r.next (inl (omega arith)) (omega (arith, next)));
+        let next = fits.next in
+        is_free-append space (point_text r.at) (arrow ∷ decimal r.next) ((point_items width height wide high).free r.at fits.at) (decimal-free space r.next (inl (omega arith)) (omega (arith, next)));
     injective = λ r s fr fs e.
-    let next_r = fr.next in
-    let next_s = fs.next in
-    let words = reply_words (reply_text r) (point_text r.at) (Some (decimal r.next)) s fs refl (point-free arrow width height (inr (omega arith)) (λ same. absurd (omega arith)) wide high r.at fr.at) e in
-    let at : r.at ≡ s.at = (point_items width height wide high).injective r.at s.at fr.at fs.at words.0 in
-    let texts : decimal r.next ≡ decimal s.next = let f = words.1 in cc in
-    let next : r.next ≡ s.next = decimal_injective r.next s.next (omega (arith, next_r)) (omega (arith, next_s)) texts in
-    λ i. record { at = at i; next = next i };
+        let next_r = fr.next in
+        let next_s = fs.next in
+        let words = reply_words (reply_text r) (point_text r.at) (Some (decimal r.next)) s fs refl (point-free arrow width height (inr (omega arith)) (λ same. absurd (omega arith)) wide high r.at fr.at) e in
+        let at : r.at ≡ s.at = (point_items width height wide high).injective r.at s.at fr.at fs.at words.0 in
+        let texts : decimal r.next ≡ decimal s.next = let f = words.1 in cc in
+        let next : r.next ≡ s.next = decimal_injective r.next s.next (omega (arith, next_r)) (omega (arith, next_s)) texts in
+        λ i. record { at = at i; next = next i };
   }
 
 -- ---- the rest

@@ -70,20 +70,20 @@ stops Fits item items vs text word t whole h parts free none ws fits e =
 pub goes_on : {X : Type 0} (Fits : X → Type 0) (item : X → List ℕ) (items : AreItems Fits item) (vs : List X) (v : X) (text word : List ℕ) (t : Option (List ℕ)) (whole : List ℕ) → Follows Fits item vs (space ∷ text) whole → text ≡ word ++ tail_text space t → is_free space word ≡ true → Fits v → word ≡ item v → Follows Fits item (vs ++ v ∷ []) (tail_text space t) whole
 goes_on {X} Fits item items vs v text word t whole h parts free fit is = record {
   found =
-  let one : items_text item (vs ++ v ∷ []) ≡ items_text item vs ++ (space ∷ item v) = flat_map-append (λ u. space ∷ item u) vs (v ∷ []) ∙ ap (λ (l : List ℕ). items_text item vs ++ (space ∷ l)) (append-nil (item v)) in
-  let joined : (space ∷ item v) ++ tail_text space t ≡ space ∷ text = ap (λ (l : List ℕ). space ∷ l) (ap (λ (l : List ℕ). l ++ tail_text space t) (sym is) ∙ sym parts) in
-  ap (λ (l : List ℕ). l ++ tail_text space t) one ∙ append_assoc (items_text item vs) (space ∷ item v) (tail_text space t) ∙ ap (λ (l : List ℕ). items_text item vs ++ l) joined ∙ h.found;
+      let one : items_text item (vs ++ v ∷ []) ≡ items_text item vs ++ (space ∷ item v) = flat_map-append (λ u. space ∷ item u) vs (v ∷ []) ∙ ap (λ (l : List ℕ). items_text item vs ++ (space ∷ l)) (append-nil (item v)) in
+      let joined : (space ∷ item v) ++ tail_text space t ≡ space ∷ text = ap (λ (l : List ℕ). space ∷ l) (ap (λ (l : List ℕ). l ++ tail_text space t) (sym is) ∙ sym parts) in
+      ap (λ (l : List ℕ). l ++ tail_text space t) one ∙ append_assoc (items_text item vs) (space ∷ item v) (tail_text space t) ∙ ap (λ (l : List ℕ). items_text item vs ++ l) joined ∙ h.found;
   fits = all_push Fits vs v h.fits fit;
   only = λ ws fits e.
-  let rest = h.only ws fits e in
-  let first = first_item Fits item items text word t rest.more parts free rest.fits rest.text in
-  let same : v ≡ first.0 = items.injective v first.0 fit first.3 (sym is ∙ first.5) in
-  record {
-    more = first.1;
-    split = rest.split ∙ ap (λ (l : List X). vs ++ l) (first.2 ∙ ap (λ (u : X). u ∷ first.1) (sym same)) ∙ sym (append_assoc vs (v ∷ []) first.1);
-    fits = first.4;
-    text = first.6;
-  };
+      let rest = h.only ws fits e in
+      let first = first_item Fits item items text word t rest.more parts free rest.fits rest.text in
+      let same : v ≡ first.0 = items.injective v first.0 fit first.3 (sym is ∙ first.5) in
+      record {
+        more = first.1;
+        split = rest.split ∙ ap (λ (l : List X). vs ++ l) (first.2 ∙ ap (λ (u : X). u ∷ first.1) (sym same)) ∙ sym (append_assoc vs (v ∷ []) first.1);
+        fits = first.4;
+        text = first.6;
+      };
 }
 
 -- the first word and the items after it

@@ -40,9 +40,9 @@ one_read width height old new count bytes rest after h adds = record {
   counted = let len = length-append old (adds.node ∷ []) in let so_far = h.counted in let grown = ap length adds.nodes in omega (arith, len, so_far, grown);
   fit = rw adds.nodes (all_push (NodeFits width height) old adds.node h.fit adds.fits);
   text =
-  h.text ∙ ap (λ (x : List ℕ). text_of (map node_line old) ++ x) adds.text
-  ∙ text_of-push (map node_line old) (node_line adds.node) after
-  ∙ ap (λ (ls : List (List ℕ)). text_of ls ++ after) (sym (ap (map node_line) adds.nodes ∙ map-append node_line old (adds.node ∷ [])));
+      h.text ∙ ap (λ (x : List ℕ). text_of (map node_line old) ++ x) adds.text
+      ∙ text_of-push (map node_line old) (node_line adds.node) after
+      ∙ ap (λ (ls : List (List ℕ)). text_of ls ++ after) (sym (ap (map node_line) adds.nodes ∙ map-append node_line old (adds.node ∷ [])));
 }
 
 -- ---- the lines of a table up to its nodes

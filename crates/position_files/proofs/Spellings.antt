@@ -107,19 +107,19 @@ bad_square bytes a r side is_side parts free width height sides fit e =
 pub point_items : (width height : ℕ) → IsSide width → IsSide height → AreItems (IsWithin width height) point_text
 point_items width height wide high = record {
   free = λ p within.
-  let x = within.column in
-  let y = within.row in
-  let w = wide.fits in
-  let h = high.fits in
-  is_free-append space (decimal p.x) (comma ∷ decimal p.y) (decimal-free space p.x (inl (omega arith)) (omega (arith, x, w))) (decimal-free space p.y (inl (omega arith)) (omega (arith, y, h)));
+      let x = within.column in
+      let y = within.row in
+      let w = wide.fits in
+      let h = high.fits in
+      is_free-append space (decimal p.x) (comma ∷ decimal p.y) (decimal-free space p.x (inl (omega arith)) (omega (arith, x, w))) (decimal-free space p.y (inl (omega arith)) (omega (arith, y, h)));
   injective = λ p q in_p in_q e.
-  let w = wide.fits in
-  let h = high.fits in
-  let px = in_p.column in
-  let py = in_p.row in
-  let qx = in_q.column in
-  let qy = in_q.row in
-  point_text-injective p q (omega (arith, px, w)) (omega (arith, py, h)) (omega (arith, qx, w)) (omega (arith, qy, h)) e;
+      let w = wide.fits in
+      let h = high.fits in
+      let px = in_p.column in
+      let py = in_p.row in
+      let qx = in_q.column in
+      let qy = in_q.row in
+      point_text-injective p q (omega (arith, px, w)) (omega (arith, py, h)) (omega (arith, qx, w)) (omega (arith, qy, h)) e;
 }
 
 -- no separator but the comma stands in a point

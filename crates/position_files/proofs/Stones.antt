@@ -340,10 +340,10 @@ not_taken first now s points i least p h next later on taken b ok same_rest own_
     elim (taken_by s (cell_at now p) full) [
       | inl mine ↦ clear_at (point_at now.width) (is_stone_of s) (drop least now.cells) (place_of now p - least) h.clear (let d = length-drop least now.cells in omega (arith, d, fits)) (ap (is_stone_of s) here ∙ mine)
       | inr theirs ↦
-      let marks : marked (point_at b.width) (is_stone_of (other s)) 0 b.cells ≡ marked (point_at b.width) (is_stone_of (other s)) 0 now.cells =
-      sym (stones-marked b (other s) ok) ∙ same_rest.others ∙ sym h.others ∙ stones-marked now (other s) h.board ∙ ap (λ n. marked (point_at n) (is_stone_of (other s)) 0 now.cells) (sym same_width) in
-      let same = same_tests b.width (is_stone_of (other s)) 0 b.cells now.cells count marks (place_of now p) in
-      not_both s (get_or b.cells (place_of now p) Empty) own (same ∙ theirs)
+          let marks : marked (point_at b.width) (is_stone_of (other s)) 0 b.cells ≡ marked (point_at b.width) (is_stone_of (other s)) 0 now.cells =
+          sym (stones-marked b (other s) ok) ∙ same_rest.others ∙ sym h.others ∙ stones-marked now (other s) h.board ∙ ap (λ n. marked (point_at n) (is_stone_of (other s)) 0 now.cells) (sym same_width) in
+          let same = same_tests b.width (is_stone_of (other s)) 0 b.cells now.cells count marks (place_of now p) in
+          not_both s (get_or b.cells (place_of now p) Empty) own (same ∙ theirs)
     ]
 
 pub all_put : (first now : Grid) (s : Side) (points : List Point) (i least : ℕ) → ArePut first now s points i least → i ≡ length points → SameBut s first now × (stones now s ≡ points)

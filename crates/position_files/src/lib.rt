@@ -14,6 +14,8 @@ mod lines;
 mod nodes;
 mod positions;
 mod tables;
+#[cfg(test)]
+mod tests;
 mod words;
 
 pub use error::FileError;

@@ -17,6 +17,6 @@ returns-in_err-replies c =
 pub returns-then-not-is_empty : goal.returns-then-not-is_empty
 returns-then-not-is_empty c = record {
   answers = λ found fits e.
-  let none = wins_alone c.args.width c.args.height c.requires.wide c.requires.high c.args.bytes.now c.in-Some.rest _ c.in_ok-replies.replies c.in-Some.ensures.rest.0 c.in-Some.ensures.rest.1 c.in_ok-replies.ensures.replies.0 c.in_ok-replies.ensures.replies.1 (sym c.if-is_winning.ensures.wins) found fits e in
-  both_ways c.is_empty.result c.if-not-is_empty.true (c.is_empty.ensures.empty.1 none);
+      let none = wins_alone c.args.width c.args.height c.requires.wide c.requires.high c.args.bytes.now c.in-Some.rest _ c.in_ok-replies.replies c.in-Some.ensures.rest.0 c.in-Some.ensures.rest.1 c.in_ok-replies.ensures.replies.0 c.in_ok-replies.ensures.replies.1 (sym c.if-is_winning.ensures.wins) found fits e in
+      both_ways c.is_empty.result c.if-not-is_empty.true (c.is_empty.ensures.empty.1 none);
 }

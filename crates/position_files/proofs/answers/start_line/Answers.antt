@@ -22,7 +22,7 @@ returns-then-not-is_rising c =
     let found : Answers = record { replies = c.in_ok-replies.replies; rest = c.in_ok-replies.rest } in
     record {
       start = bad_start c.args.width c.args.height c.requires.wide c.requires.high c.args.bytes.now c.in-Some.text.now c.in-Some.after.now c.args.len c.in-Some.ensures.text.0 c.in-Some.ensures.text.1 found c.in_ok-replies.ensures.answers.0 c.in_ok-replies.ensures.answers.1
-      (λ fits. both_ways c.is_rising.result c.if-not-is_rising.true (c.is_rising.ensures.rising ∙ fits.start.rising));
+          (λ fits. both_ways c.is_rising.result c.if-not-is_rising.true (c.is_rising.ensures.rising ∙ fits.start.rising));
     }
 
 pub returns-then-not-names_below : goal.returns-then-not-names_below
@@ -33,5 +33,5 @@ returns-then-not-names_below c =
     let same : c.new-start.result ≡ found = λ i. record { replies = replies i; rest = rests i } in
     record {
       start = bad_start c.args.width c.args.height c.requires.wide c.requires.high c.args.bytes.now c.in-Some.text.now c.in-Some.after.now c.args.len c.in-Some.ensures.text.0 c.in-Some.ensures.text.1 found c.in_ok-replies.ensures.answers.0 c.in_ok-replies.ensures.answers.1
-      (λ fits. both_ways c.names_below.result c.if-not-names_below.true (c.names_below.ensures.below ∙ ap (λ (a : Answers). names_below a c.args.len) same ∙ fits.below));
+          (λ fits. both_ways c.names_below.result c.if-not-names_below.true (c.names_below.ensures.below ∙ ap (λ (a : Answers). names_below a c.args.len) same ∙ fits.below));
     }

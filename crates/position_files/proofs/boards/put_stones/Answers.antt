@@ -17,7 +17,7 @@ returns-then-place-least-clause-refused c = λ f b ok same own.
     ∙ ap (λ n. p.y * n + p.x) (c.from-width.ensures ∙ c.width.ensures.width ∙ sym c.loop-p.invariant.width) in
     let on : is_on c.loop-p.board p ≡ true = on_board c.args.board.now c.loop-p.board c.args.side c.args.points.now c.loop-p.p-index c.loop-p.least c.loop-p.invariant c.requires.within c.loop-p-test.true in
     elim c.then-place-least.branch [
-      then-place-least-via-then-place-least w ↦ not_earlier c.args.board.now c.loop-p.board c.args.side c.args.points.now c.loop-p.p-index c.loop-p.least p c.loop-p.invariant next (let early = w.if-place-least.true in omega (arith, spot, early)) b ok same own
+      | then-place-least-via-then-place-least w ↦ not_earlier c.args.board.now c.loop-p.board c.args.side c.args.points.now c.loop-p.p-index c.loop-p.least p c.loop-p.invariant next (let early = w.if-place-least.true in omega (arith, spot, early)) b ok same own
       | then-place-least-via-else-place-least+then-not-is_empty w ↦ not_taken c.args.board.now c.loop-p.board c.args.side c.args.points.now c.loop-p.p-index c.loop-p.least p c.loop-p.invariant next (let late = w.if-place-least.false in omega (arith, spot, late)) on (sym w.is_empty.ensures.empty ∙ w.if-not-is_empty.true) b ok same own
     ]
 

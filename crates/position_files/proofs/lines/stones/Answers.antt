@@ -8,8 +8,8 @@ use Rattle.position_files.proofs.lines.stones.Goals as goal
 pub returns-then-not-is_text : goal.returns-then-not-is_text
 returns-then-not-is_text c = record {
   stones = λ ps fits e.
-  let words = first_word point_text c.cut.result.0.now c.args.word.now c.args.line.now (option_copied c.cut.result.1) ps c.cut.ensures.word c.requires.word c.cut.ensures.parts e in
-  both_ways c.is_text.result c.if-not-is_text.true (c.is_text.ensures.same.1 words.0);
+      let words = first_word point_text c.cut.result.0.now c.args.word.now c.args.line.now (option_copied c.cut.result.1) ps c.cut.ensures.word c.requires.word c.cut.ensures.parts e in
+      both_ways c.is_text.result c.if-not-is_text.true (c.is_text.ensures.same.1 words.0);
 }
 
 pub returns : goal.returns

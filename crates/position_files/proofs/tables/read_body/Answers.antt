@@ -9,9 +9,9 @@ pub returns-clause-fits : goal.returns-clause-fits
 returns-clause-fits c = record {
   board = c.in_ok-kind.ensures.board;
   on_board =
-  nodes_on c.in_ok-kind.board c.in_ok-table.table
-  (subst (λ n. AllByRecursion (NodeFits c.in_ok-kind.board.width n) c.in_ok-table.table) c.height.ensures.height
-  (subst (λ n. AllByRecursion (NodeFits n c.height.result) c.in_ok-table.table) c.width.ensures.width c.in_ok-table.ensures.nodes));
+      nodes_on c.in_ok-kind.board c.in_ok-table.table
+      (subst (λ n. AllByRecursion (NodeFits c.in_ok-kind.board.width n) c.in_ok-table.table) c.height.ensures.height
+      (subst (λ n. AllByRecursion (NodeFits n c.height.result) c.in_ok-table.table) c.width.ensures.width c.in_ok-table.ensures.nodes));
   nodes = subst (IsCount c.args.least) (sym c.in_ok-table.ensures.count) c.in-Some-number_line.ensures.number.0;
   moves = c.in-Some.ensures.number.0;
 }

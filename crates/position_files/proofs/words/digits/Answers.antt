@@ -10,8 +10,8 @@ loop-byte-init c = no_number c.args.most
 pub returns-then-not-is_ascii_digit : goal.returns-then-not-is_ascii_digit
 returns-then-not-is_ascii_digit c = record {
   number = λ v few e.
-  no_digit c.args.bytes.now v c.loop-byte.byte-index (omega arith) e c.loop-byte-test.true
-  (MatchBool-at_false (IsAsciiDigit (get_or c.args.bytes.now c.loop-byte.byte-index 0)) (IsNotAsciiDigit (get_or c.args.bytes.now c.loop-byte.byte-index 0)) c.if-not-is_ascii_digit.true c.is_ascii_digit.ensures.cases);
+      no_digit c.args.bytes.now v c.loop-byte.byte-index (omega arith) e c.loop-byte-test.true
+      (MatchBool-at_false (IsAsciiDigit (get_or c.args.bytes.now c.loop-byte.byte-index 0)) (IsNotAsciiDigit (get_or c.args.bytes.now c.loop-byte.byte-index 0)) c.if-not-is_ascii_digit.true c.is_ascii_digit.ensures.cases);
 }
 
 pub overflow_mul-number : goal.overflow_mul-number
@@ -28,7 +28,7 @@ returns-then-number-most c =
     let digit = MatchBool-at_true (IsAsciiDigit (get_or c.args.bytes.now c.loop-byte.byte-index 0)) (IsNotAsciiDigit (get_or c.args.bytes.now c.loop-byte.byte-index 0)) c.if-not-is_ascii_digit.false c.is_ascii_digit.ensures.cases in
     record {
       number = λ v few e.
-      too_much c.args.bytes.now c.loop-byte.byte-index c.loop-byte.number v c.args.most c.loop-byte-test.true digit.0 digit.1 c.loop-byte.invariant (omega arith) c.requires.few few e;
+          too_much c.args.bytes.now c.loop-byte.byte-index c.loop-byte.number v c.args.most c.loop-byte-test.true digit.0 digit.1 c.loop-byte.invariant (omega arith) c.requires.few few e;
     }
 
 pub loop-byte-preserved : goal.loop-byte-preserved
