@@ -17,6 +17,8 @@ mod depths;
 mod replies;
 mod roots;
 mod table;
+#[cfg(test)]
+mod tests;
 mod theorems;
 
 use game_rules::Point;

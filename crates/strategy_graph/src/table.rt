@@ -1,7 +1,7 @@
 // A table: nodes that name only lower ones.
 #![tactic(auto)]
 
-ghost use Rattle.std.specs.Prelude.{◌≡◌, ◌↔◌, ◌<◌, ◌++◌, [], ◌∷◌, true, false, List, length, slice_get, Some, IfOk, OnOk, OnErr, IsErrOf};
+ghost use Rattle.std.specs.Prelude.{◌≡◌, ◌↔◌, ◌<◌, ◌++◌, [], ◌∷◌, IsTrue, true, false, List, length, slice_get, Some, IfOk, OnOk, OnErr, IsErrOf};
 ghost use Rattle.strategy_graph.specs.Tables.{IsTable, answer_at, answers_of, is_rising, is_winning, names_below, depth, start_depth};
 
 use crate::depths::{deepest, depths_of};
@@ -64,6 +64,13 @@ impl Table {
         ensures table { IsTable self.now }
     {
         self.nodes.len() as u32
+    }
+
+    /// Whether there are no nodes.
+    pub fn is_empty(&self) -> bool
+        ensures empty { IsTrue result ↔ (self.now ≡ []) }
+    {
+        self.nodes.is_empty()
     }
 
     /// Node `i`, counted from 0.
