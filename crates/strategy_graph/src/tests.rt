@@ -172,7 +172,13 @@ fn a_table_answers_replies(rt: HostRuntime) -> Result<(), Fail> {
     assert!(rt; start.names_below(3));
     assert!(rt; !start.names_below(2));
     assert_eq!(rt; table.start_depth(&start)?, 2);
-    let _root = Root::Defend(start);
+
+    let root = Root::Defend(start);
+    assert!(rt; root.names_below(3));
+    assert!(rt; Root::Attack(1).names_below(2));
+    assert!(rt; !Root::Attack(2).names_below(2));
+    assert_eq!(rt; table.root_depth(&root)?, 2);
+    assert_eq!(rt; table.root_depth(&Root::Attack(1))?, 1);
     Ok(())
 }
 
