@@ -7,13 +7,18 @@
 #![tactic(auto)]
 
 mod checks;
+mod held;
 #[cfg(test)]
 mod tests;
 mod walk;
 
 pub use checks::{check, check_start};
+pub use held::{Held, HeldError, HeldRoot};
 use stone_board::Points;
 pub use strategy_graph::Why;
+
+/// The most roots that are held with one table.
+pub const MAX_ROOTS: u32 = 1_000;
 
 /// What the checker says of a table at a position.
 #[derive(Debug, Drop)]

@@ -1,11 +1,11 @@
 // Verdicts on small tables, worked out by hand, and on the longest one.
-use crate::{Verdict, Why, check, check_start};
+use crate::{Held, HeldError, Verdict, Why, check, check_start};
 use foul_judge::Position;
-use row_shapes::{ExactFive, Freestyle, Renju, Rule};
+use row_shapes::{ExactFive, Freestyle, Renju, Rule, RuleKind};
 use std::alloc::Global;
 use std::test::Fail;
 use stone_board::{Board, Point, Side};
-use strategy_graph::{Node, Replies, Reply, Rest, Start, Table};
+use strategy_graph::{MAX_NODES, Node, Replies, Reply, Rest, Root, Start, Table};
 
 fn at(x: u8, y: u8) -> Point {
     Point { x, y }
@@ -56,7 +56,7 @@ fn push(
     Ok(())
 }
 
-/// The printed form of a verdict.
+/// The line of a refusal.
 fn line_of(verdict: &Verdict) -> &[Point] {
     match verdict {
         Verdict::Refused { line, .. } => line.as_slice(),
@@ -87,22 +87,23 @@ fn open_three(alloc: Global) -> Result<Position<Freestyle>, Fail> {
     position(alloc, &[(5, 7), (6, 7), (7, 7)], &[(0, 0), (2, 0), (4, 0)])
 }
 
-#[test]
-fn a_straight_four_is_accepted(rt: HostRuntime) -> Result<(), Fail> {
-    let alloc = rt.alloc();
+/// The table that wins from it: 3,7 is answered by 8,7, and every other reply by 3,7.
+fn straight_four(alloc: Global) -> Result<Table, Fail> {
     let mut table = Table::new(alloc);
     push(&mut table, alloc, at(3, 7), Rest::Wins, None)?;
     push(&mut table, alloc, at(8, 7), Rest::Wins, None)?;
-    push(
-        &mut table,
-        alloc,
-        at(4, 7),
-        Rest::To(0),
-        Some(Reply {
-            at: at(3, 7),
-            next: 1,
-        }),
-    )?;
+    let block = Reply {
+        at: at(3, 7),
+        next: 1,
+    };
+    push(&mut table, alloc, at(4, 7), Rest::To(0), Some(block))?;
+    Ok(table)
+}
+
+#[test]
+fn a_straight_four_is_accepted(rt: HostRuntime) -> Result<(), Fail> {
+    let alloc = rt.alloc();
+    let table = straight_four(alloc)?;
     assert_eq!(rt; table.len(), 3);
     let mut position = open_three(alloc)?;
     let before = position.copy()?;
@@ -202,5 +203,60 @@ fn a_start_is_asked_every_first_move(rt: HostRuntime) -> Result<(), Fail> {
     let verdict = check_start(alloc, &table, &start, &mut position, 219)?;
     assert_eq!(rt; fault(&verdict), Some(Why::AttackRefused));
     assert_eq!(rt; line_of(&verdict), [at(8, 7), at(8, 7)].as_slice());
+    Ok(())
+}
+
+#[test]
+fn a_chain_of_the_greatest_length_is_one_arrival(rt: HostRuntime) -> Result<(), Fail> {
+    let alloc = rt.alloc();
+    let mut table = Table::new(alloc);
+    push(&mut table, alloc, at(4, 7), Rest::Wins, None)?;
+    for i in 1..MAX_NODES {
+        push(&mut table, alloc, at(4, 7), Rest::To(i - 1), None)?;
+    }
+    assert_eq!(rt; table.len(), 1_000_000);
+    let mut position: Position<Freestyle> = position(
+        alloc,
+        &[(2, 7), (3, 7), (5, 7), (6, 7), (7, 7)],
+        &[(0, 0), (7, 0), (14, 0), (0, 14), (14, 14)],
+    )?;
+    let verdict = check(alloc, &table, 999_999, &mut position, 1)?;
+    assert_eq!(rt; figures(&verdict), Some((1_000_000, 1)));
+    Ok(())
+}
+
+#[test]
+fn accepted_roots_are_held(rt: HostRuntime) -> Result<(), Fail> {
+    let alloc = rt.alloc();
+    let table = straight_four(alloc)?;
+    assert_eq!(rt; table.len(), 3);
+    let mut held = Held::new(alloc, table);
+    assert_eq!(rt; held.add(Root::Attack(2), open_three(alloc)?, 219)?, 2);
+    let start = Start::new(Replies::new(alloc), Rest::To(0));
+    assert!(rt; start.names_below(3));
+    let blocked: Position<Freestyle> = position(
+        alloc,
+        &[(4, 7), (5, 7), (6, 7), (7, 7)],
+        &[(0, 0), (2, 0), (8, 7)],
+    )?;
+    assert_eq!(rt; held.len(), 1);
+    assert_eq!(rt; held.kind(0), RuleKind::Freestyle);
+    assert_eq!(rt; held.board(0).count(Side::Black), 3);
+    assert!(rt; matches!(held.root(0), Root::Attack(2)));
+    assert_eq!(rt; held.table().len(), 3);
+    let refused = held.add(Root::Defend(start), blocked, 219);
+    assert!(rt;
+        matches!(
+            refused,
+            Err(HeldError::Refused {
+                why: Why::AttackRefused,
+                ..
+            })
+        )
+    );
+    assert_eq!(rt; held.len(), 1);
+    let spent = held.add(Root::Attack(2), open_three(alloc)?, 218);
+    assert!(rt; matches!(spent, Err(HeldError::Spent)));
+    assert_eq!(rt; held.len(), 1);
     Ok(())
 }
