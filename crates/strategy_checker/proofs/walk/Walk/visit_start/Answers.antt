@@ -1,4 +1,4 @@
-use Rattle.std.proofs.Common.{◌≡◌, ◌-◌, ◌<◌, reverse, subst, arith}
+use Rattle.std.proofs.Common.{◌≡◌, ◌<◌, reverse, subst, arith}
 use Rattle.std.specs.Result.{IfErr}
 use Rattle.std.proofs.lemmas.Result.{IfErr-weaker}
 use Rattle.strategy_graph.specs.declared.Why.{Why}
