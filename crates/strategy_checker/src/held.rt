@@ -175,8 +175,9 @@ fn checked_moves<R: Rule>(
     }
 }
 
-/// The verdict on a root at the position, which is the same afterwards.
-fn check_root<R: Rule>(
+/// The verdict on a root at the position, whichever side moves first: that of `check` on a node, and that of `check_start`
+/// on a start. The position is the same afterwards.
+pub fn check_root<R: Rule>(
     alloc: Global,
     table: &Table,
     root: &Root,
@@ -186,6 +187,7 @@ fn check_root<R: Rule>(
     requires below { root_below root.now (length table.now) ≡ true }
     ensures accepted { IfOk result (AcceptsExactly (AcceptedRoot R.KIND table.now root.now position.old) (root_arrivals R.KIND table.now root.now position.old) work) }
     ensures moves { IfOk result (IfAccepted (λ moves count. moves ≡ root_depth table.now root.now)) }
+    ensures arrivals { IfOk result (IfAccepted (λ moves count. count ≡ root_arrivals R.KIND table.now root.now position.old)) }
     ensures refused { IfOk result (RefusesRightly (AcceptedRoot R.KIND table.now root.now position.old) (root_arrivals R.KIND table.now root.now position.old) work) }
     ensures leads { IfOk result (IfRefusedVerdict (λ line why. LeadsRoot R.KIND table.now root.now position.old line why)) }
     ensures spent { IfOk result (SpendsRightly (AcceptedRoot R.KIND table.now root.now position.old) (root_arrivals R.KIND table.now root.now position.old) work) }

@@ -13,7 +13,7 @@ mod tests;
 mod walk;
 
 pub use checks::{check, check_start};
-pub use held::{Held, HeldError, HeldRoot};
+pub use held::{Held, HeldError, HeldRoot, check_root};
 use stone_board::Points;
 pub use strategy_graph::Why;
 
