@@ -1,3 +1,3 @@
 mod Walking
 mod Refusals
-mod Holding
+pub mod Holding

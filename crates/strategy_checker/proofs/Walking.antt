@@ -60,11 +60,11 @@ noted-stops L M S T p old new (Fault why) Memory leads short inner noted = tt
 noted-stops L M S T p old new Spent last leads short inner noted = rw noted (short inner)
 noted-stops L M S T p old new Memory last leads short inner noted = rw noted tt
 
--- the same line, and another reason why it is short
-pub stops-short : (F : Why → Type 0) (S T : Type 0) (stop : Stop) → (S → T) → Stopped F S stop → Stopped F T stop
-stops-short F S T (Fault why) short h = h
-stops-short F S T Spent short h = short h
-stops-short F S T Memory short h = tt
+-- what a stop says, said in other words
+pub stops-map : (F G : Why → Type 0) (S T : Type 0) (stop : Stop) → ((why : Why) → F why → G why) → (S → T) → Stopped F S stop → Stopped G T stop
+stops-map F G S T (Fault why) faulty short h = faulty why h
+stops-map F G S T Spent faulty short h = short h
+stops-map F G S T Memory faulty short h = tt
 
 -- ---- faults
 

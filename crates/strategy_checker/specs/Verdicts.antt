@@ -7,12 +7,6 @@ use Rattle.strategy_checker.specs.declared.walk.Stop.{Stop}
 use Rattle.strategy_checker.specs.declared.walk.Stop.TheVariants.{Fault, Spent as StopSpent, Memory}
 use Rattle.strategy_checker.specs.declared.Verdict.TheVariants.{Accepted, Refused, Spent}
 
--- the verdict accepts, and P holds of its moves and its arrivals
-abbrev pub Accepts : (ℕ → ℕ → Type 0) → Verdict → Type 0
-Accepts P (Accepted moves arrivals) = P moves arrivals
-Accepts P (Refused line why) = ⊥
-Accepts P Spent = ⊥
-
 -- P holds of the moves and the arrivals, if the verdict accepts
 abbrev pub IfAccepted : (ℕ → ℕ → Type 0) → Verdict → Type 0
 IfAccepted P (Accepted moves arrivals) = P moves arrivals

@@ -1,7 +1,7 @@
 //! Verdicts on a table: a walk from its root, and what comes of it.
 #![tactic(auto)]
 
-ghost use Rattle.std.specs.Prelude.{◌≡◌, ◌<◌, [], true, length, reverse, IfOk};
+ghost use Rattle.std.specs.Prelude.{◌≡◌, ◌<◌, true, length, reverse, IfOk};
 ghost use Rattle.game_rules.specs.Games.{WinsWithin, WinsAfter};
 ghost use Rattle.strategy_graph.specs.Tables.{depth, start_depth, names_below};
 ghost use Rattle.strategy_graph.specs.Acceptance.{Accepted, AcceptedStart};
@@ -43,6 +43,7 @@ pub fn check<R: Rule>(
     ensures spent { IfOk result (SpendsRightly (Accepted R.KIND table.now root position.old) (arrivals R.KIND table.now root position.old) work) }
     ensures same { position.new ≡ position.old }
 {
+    // Its contract says that the position is lawful.
     let _mover = position.side();
     let mut walk = Walk::new(alloc, work);
     match walk.visit(table, root, position) {
@@ -81,6 +82,7 @@ pub fn check_start<R: Rule>(
     ensures spent { IfOk result (SpendsRightly (AcceptedStart R.KIND table.now start.now position.old) (start_arrivals R.KIND table.now start.now position.old) work) }
     ensures same { position.new ≡ position.old }
 {
+    // Its contract says that the position is lawful.
     let _mover = position.side();
     let mut walk = Walk::new(alloc, work);
     match walk.visit_start(table, start, position) {

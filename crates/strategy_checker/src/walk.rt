@@ -72,10 +72,7 @@ impl Walk {
             (self.old.left < arrivals R.KIND table.now i position.old)) }
         ensures same { position.new ≡ position.old }
     {
-        if self.left == 0 {
-            return Err(Stop::Spent);
-        }
-        self.left -= 1;
+        self.arrive()?;
         let node = table.node(i);
         match position.outcome(node.attack) {
             Outcome::Refused => Err(self.fault(node.attack, Why::AttackRefused)),
@@ -114,10 +111,7 @@ impl Walk {
             (self.old.left < start_arrivals R.KIND table.now start.now position.old)) }
         ensures same { position.new ≡ position.old }
     {
-        if self.left == 0 {
-            return Err(Stop::Spent);
-        }
-        self.left -= 1;
+        self.arrive()?;
         self.meet_all(table, start.replies(), start.rest(), position)
     }
 
@@ -187,6 +181,19 @@ impl Walk {
                 }
             },
         }
+    }
+
+    /// Counts one arrival.
+    fn arrive(&mut self) -> Result<(), Stop>
+        ensures counted { OnOk result (self.new.left + 1 ≡ self.old.left) }
+        ensures stopped { IfErr result (Stopped (λ why. ⊥) (self.old.left ≡ 0)) }
+        ensures line { self.new.line ≡ self.old.line }
+    {
+        if self.left == 0 {
+            return Err(Stop::Spent);
+        }
+        self.left -= 1;
+        Ok(())
     }
 
     /// The stop at a fault of the move `p`, which is noted.

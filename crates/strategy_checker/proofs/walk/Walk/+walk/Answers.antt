@@ -1,5 +1,6 @@
-use Rattle.std.proofs.Common.{rules, ◌≡◌, Bool, ◌+◌, ◌*◌, ◌<◌, true, false, length, refl, sym, ap, subst, ◌∙◌, ◌-◌, arith}
+use Rattle.std.proofs.Common.{rules, ◌≡◌, Bool, ◌+◌, ◌*◌, ◌<◌, true, false, length, refl, sym, ap, subst, ◌∙◌, arith}
 use Rattle.std.specs.Prelude.{Some, None, if◌then◌else◌}
+use Rattle.std.proofs.lemmas.Result.{err_from_is_err_and}
 use Rattle.game_rules.specs.Grid.{Grid, empties_of}
 use Rattle.game_rules.specs.Play.{IsPosition, outcome, after}
 use Rattle.game_rules.specs.declared.Outcome.TheVariants.{Refused, Wins, Fouls, Draws, GoesOn}
@@ -14,7 +15,7 @@ use Rattle.strategy_graph.proofs.Filling.{IsTable-lower}
 use Rattle.strategy_graph.proofs.Growth.{names_below-more}
 use Rattle.strategy_graph.proofs.Answering.{answer-below}
 use Rattle.strategy_graph.proofs.Steps.{arrivals-positive, accepted-by-win, accepted-by-replies, arrivals-by-replies, arrivals-one, arrivals-answer, met-all, leads-answer}
-use Rattle.strategy_checker.proofs.Walking.{played-lawful, played-fewer, played-stone, lifted-back, lifted-unwon, fault-stops, noted-stops, attack-leads, attack-then-leads, All-first, All-none, sum-first}
+use Rattle.strategy_checker.proofs.Walking.{played-lawful, played-fewer, played-stone, lifted-back, lifted-unwon, fault-stops, noted-stops, stops-map, attack-leads, attack-then-leads, All-first, All-none, sum-first}
 use Rattle.strategy_checker.proofs.walk.Walk.+walk.Goals as goal
 
 -- ---- a reply
@@ -100,14 +101,17 @@ meet_all-returns-clause-accepted g t c =
 
 -- ---- a node
 
-pub visit-returns-then-self-eq0-clause-stopped : goal.visit-returns-then-self-eq0-clause-stopped
-visit-returns-then-self-eq0-clause-stopped g t c =
+pub visit-returns-in_err-arrive-clause-stopped : goal.visit-returns-in_err-arrive-clause-stopped
+visit-returns-in_err-arrive-clause-stopped g t c =
     let some = arrivals-positive g.R.Rule.KIND c.args.table.now c.args.i c.args.position.now in
-    omega (arith, some)
+    let p = err_from_is_err_and c.from_residual.result c.from_residual.ensures.1 in
+    rw (p.1, p.2)
+    (stops-map (λ why. ⊥) _ (c.args.self.now.left ≡ 0) (c.args.self.now.left < arrivals g.R.Rule.KIND c.args.table.now c.args.i c.args.position.now) c.in_err-arrive.field-0.0
+    (λ why no. absurd no) (λ none. omega (arith, some, none)) c.in_err-arrive.ensures.stopped)
 
 pub visit-returns-then-is_winning-clause-stopped : goal.visit-returns-then-is_winning-clause-stopped
 visit-returns-then-is_winning-clause-stopped g t c =
-    fault-stops (Leads g.R.Rule.KIND c.args.table.now c.args.i c.args.position.now) _ c.node-node.result.now.attack _ _ NotWon _ c.requires.no_line
+    fault-stops (Leads g.R.Rule.KIND c.args.table.now c.args.i c.args.position.now) _ c.node-node.result.now.attack _ _ NotWon _ (c.arrive.ensures.line ∙ c.requires.no_line)
     (attack-leads g.R.Rule.KIND c.args.table.now c.args.i c.args.position.now c.node-node.result.now NotWon GoesOn c.node-node.ensures.node c.in-GoesOn.ensures.outcome (ap (λ (r : Bool). if r then Some NotWon else None) (sym c.is_winning.ensures.wins ∙ c.if-is_winning.true)))
     c.fault-then-is_winning.ensures.noted
 
@@ -138,7 +142,7 @@ visit-undo-requires-clause-unwon g t c =
 
 pub visit-returns-in-Refused-clause-stopped : goal.visit-returns-in-Refused-clause-stopped
 visit-returns-in-Refused-clause-stopped g t c =
-    fault-stops (Leads g.R.Rule.KIND c.args.table.now c.args.i c.args.position.now) _ c.node-node.result.now.attack _ _ AttackRefused _ c.requires.no_line
+    fault-stops (Leads g.R.Rule.KIND c.args.table.now c.args.i c.args.position.now) _ c.node-node.result.now.attack _ _ AttackRefused _ (c.arrive.ensures.line ∙ c.requires.no_line)
     (attack-leads g.R.Rule.KIND c.args.table.now c.args.i c.args.position.now c.node-node.result.now AttackRefused Refused c.node-node.ensures.node c.in-Refused.ensures.outcome refl)
     c.fault.ensures.noted
 
@@ -149,17 +153,18 @@ visit-returns-in-Wins-clause-accepted g t c =
 pub visit-returns-in-Wins-clause-counted : goal.visit-returns-in-Wins-clause-counted
 visit-returns-in-Wins-clause-counted g t c =
     let one = arrivals-one g.R.Rule.KIND c.args.table.now (IsTable-lower c.args.table.now c.node-node.ensures.table) c.args.i c.args.position.now c.node-node.result.now c.node-node.ensures.node Wins (sym c.in-Wins.ensures.outcome) (λ e. cc) in
-    omega (arith, one)
+    let arrived = c.in_ok-arrive.ensures.counted in
+    omega (arith, one, arrived)
 
 pub visit-returns-in-Fouls-clause-stopped : goal.visit-returns-in-Fouls-clause-stopped
 visit-returns-in-Fouls-clause-stopped g t c =
-    fault-stops (Leads g.R.Rule.KIND c.args.table.now c.args.i c.args.position.now) _ c.node-node.result.now.attack _ _ AttackFouls _ c.requires.no_line
+    fault-stops (Leads g.R.Rule.KIND c.args.table.now c.args.i c.args.position.now) _ c.node-node.result.now.attack _ _ AttackFouls _ (c.arrive.ensures.line ∙ c.requires.no_line)
     (attack-leads g.R.Rule.KIND c.args.table.now c.args.i c.args.position.now c.node-node.result.now AttackFouls (Fouls c.in-Fouls.field-0) c.node-node.ensures.node c.in-Fouls.ensures.outcome refl)
     c.fault-in-Fouls.ensures.noted
 
 pub visit-returns-in-Draws-clause-stopped : goal.visit-returns-in-Draws-clause-stopped
 visit-returns-in-Draws-clause-stopped g t c =
-    fault-stops (Leads g.R.Rule.KIND c.args.table.now c.args.i c.args.position.now) _ c.node-node.result.now.attack _ _ AttackDraws _ c.requires.no_line
+    fault-stops (Leads g.R.Rule.KIND c.args.table.now c.args.i c.args.position.now) _ c.node-node.result.now.attack _ _ AttackDraws _ (c.arrive.ensures.line ∙ c.requires.no_line)
     (attack-leads g.R.Rule.KIND c.args.table.now c.args.i c.args.position.now c.node-node.result.now AttackDraws Draws c.node-node.ensures.node c.in-Draws.ensures.outcome refl)
     c.fault-in-Draws.ensures.noted
 
@@ -185,9 +190,10 @@ visit-returns-in-Ok-clause-counted g t c =
     let there : c.play.new.self ≡ after b n.attack = c.play.ensures.played ∙ ap (λ (w : Grid). after w n.attack) c.outcome.ensures.same in
     let more : is_winning n.rest ≡ false = sym c.is_winning.ensures.wins ∙ c.if-is_winning.false in
     let all = arrivals-by-replies g.R.Rule.KIND c.args.table.now lower c.args.i b n c.node-node.ensures.node on more in
-    let counted : c.meet_all-met.new.self.left + arrivals_after g.R.Rule.KIND a (arrivals g.R.Rule.KIND c.args.table.now) (after b n.attack) ≡ c.args.self.now.left - 1 =
-    subst (λ (w : Grid). c.meet_all-met.new.self.left + arrivals_after g.R.Rule.KIND a (arrivals g.R.Rule.KIND c.args.table.now) w ≡ c.args.self.now.left - 1) there c.in-Ok.ensures.counted in
-    omega (arith, all, counted)
+    let counted : c.meet_all-met.new.self.left + arrivals_after g.R.Rule.KIND a (arrivals g.R.Rule.KIND c.args.table.now) (after b n.attack) ≡ c.arrive.new.self.left =
+    subst (λ (w : Grid). c.meet_all-met.new.self.left + arrivals_after g.R.Rule.KIND a (arrivals g.R.Rule.KIND c.args.table.now) w ≡ c.arrive.new.self.left) there c.in-Ok.ensures.counted in
+    let arrived = c.in_ok-arrive.ensures.counted in
+    omega (arith, all, counted, arrived)
 
 pub visit-returns-in-Ok-clause-same : goal.visit-returns-in-Ok-clause-same
 visit-returns-in-Ok-clause-same g t c =
@@ -206,15 +212,16 @@ visit-returns-in-Err-clause-stopped g t c =
     let there : c.play.new.self ≡ after b n.attack = c.play.ensures.played ∙ ap (λ (w : Grid). after w n.attack) c.outcome.ensures.same in
     let more : is_winning n.rest ≡ false = sym c.is_winning.ensures.wins ∙ c.if-is_winning.false in
     let all = arrivals-by-replies g.R.Rule.KIND c.args.table.now lower c.args.i b n c.node-node.ensures.node on more in
+    let arrived = c.in_ok-arrive.ensures.counted in
     noted-stops
     (LeadsStart g.R.Rule.KIND c.args.table.now a c.play.new.self)
     (Leads g.R.Rule.KIND c.args.table.now c.args.i b)
-    (c.args.self.now.left - 1 < arrivals_after g.R.Rule.KIND a (arrivals g.R.Rule.KIND c.args.table.now) c.play.new.self)
+    (c.arrive.new.self.left < arrivals_after g.R.Rule.KIND a (arrivals g.R.Rule.KIND c.args.table.now) c.play.new.self)
     (c.args.self.now.left < arrivals g.R.Rule.KIND c.args.table.now c.args.i b)
     n.attack c.meet_all-met.new.self.line c.noted.new.self.line c.in-Err.stop c.noted.result
     (λ line why leads. attack-then-leads g.R.Rule.KIND c.args.table.now c.args.i b n line why c.node-node.ensures.node on more
     (subst (λ (w : Grid). LeadsStart g.R.Rule.KIND c.args.table.now a w line why) there leads))
-    (λ short. let less : c.args.self.now.left - 1 < arrivals_after g.R.Rule.KIND a (arrivals g.R.Rule.KIND c.args.table.now) (after b n.attack) = subst (λ (w : Grid). c.args.self.now.left - 1 < arrivals_after g.R.Rule.KIND a (arrivals g.R.Rule.KIND c.args.table.now) w) there short in omega (arith, all, less))
+    (λ short. let less : c.arrive.new.self.left < arrivals_after g.R.Rule.KIND a (arrivals g.R.Rule.KIND c.args.table.now) (after b n.attack) = subst (λ (w : Grid). c.arrive.new.self.left < arrivals_after g.R.Rule.KIND a (arrivals g.R.Rule.KIND c.args.table.now) w) there short in omega (arith, all, less, arrived))
     c.in-Err.ensures.stopped
     c.noted.ensures.noted
 
