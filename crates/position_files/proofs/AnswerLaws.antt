@@ -1,6 +1,6 @@
 -- Replies and answers are spelled in one way.
-use Rattle.std.proofs.Common.{◌≡◌, ℕ, ◌+◌, ◌^◌, ◌<◌, ◌≤◌, Bool, true, false, refl, sym, ap, subst, ◌∙◌, arith, List, [], ◌∷◌, ◌++◌, get_or, inl, inr}
-use Rattle.std.specs.Prelude.{Option, Some, None, Result, Ok, Err, codes}
+use Rattle.std.proofs.Common.{◌≡◌, ℕ, ◌≤◌, true, refl, sym, ap, subst, ◌∙◌, arith, List, [], ◌∷◌, ◌++◌, get_or, inl, inr}
+use Rattle.std.specs.Prelude.{Option, Some, None, Err, codes}
 use Rattle.std.specs.List.{AllByRecursion}
 use Rattle.std.specs.Fmt.{decimal}
 use Rattle.std.proofs.lemmas.Fmt.{decimal_injective}
@@ -15,7 +15,7 @@ use Rattle.strategy_graph.specs.declared.Node.{Node}
 use Rattle.position_files.specs.declared.faults.Fault.{Fault}
 use Rattle.position_files.specs.declared.faults.Fault.TheVariants.{Bad, Memory}
 use Rattle.position_files.specs.Lines.{line_feed}
-use Rattle.position_files.specs.Positions.{comma, space, point_text}
+use Rattle.position_files.specs.Positions.{space, point_text}
 use Rattle.position_files.specs.Tables.{arrow, reply_text, replies_text, rest_text, answers_text, node_line, start_line}
 use Rattle.position_files.specs.Reading.{Reads, Gives, ReadsLine, GivesLine, IsWithin, IsSide, is_free, tail_text}
 use Rattle.position_files.specs.Answers.{ReplyFits, RestFits, AnswersFit, NodeFits, StartFits, answers_with}

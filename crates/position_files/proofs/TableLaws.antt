@@ -1,5 +1,5 @@
 -- Whole texts of tables.
-use Rattle.std.proofs.Common.{◌≡◌, ℕ, ◌+◌, ◌-◌, ◌≤◌, ◌<◌, Bool, true, false, refl, sym, ap, subst, ◌∙◌, arith, List, [], ◌∷◌, ◌++◌, length}
+use Rattle.std.proofs.Common.{◌≡◌, ℕ, ◌-◌, true, refl, sym, ap, subst, ◌∙◌, arith, List, [], ◌∷◌, ◌++◌, length}
 use Rattle.std.specs.Prelude.{codes}
 use Rattle.std.proofs.lemmas.Bool.{lt-ltb}
 use Rattle.strategy_graph.specs.Tables.{Answers, IsTable, names_below}
@@ -10,7 +10,7 @@ use Rattle.position_files.specs.declared.TableFile.{TableFile}
 use Rattle.position_files.specs.declared.tables.Body.{Body}
 use Rattle.position_files.specs.Lines.{line_feed, text_of}
 use Rattle.position_files.specs.Positions.{board_lines}
-use Rattle.position_files.specs.Tables.{IsTextOfTable, RootFits, nodes_lines, start_line, table_text}
+use Rattle.position_files.specs.Tables.{IsTextOfTable, nodes_lines, start_line, table_text}
 use Rattle.position_files.specs.Bodies.{BodyFits, IsFinished}
 use Rattle.position_files.specs.Answers.{StartFits}
 use Rattle.position_files.proofs.TextLaws.{whole_text}

@@ -1,11 +1,10 @@
 -- Whole texts.
-use Rattle.std.proofs.Common.{◌≡◌, ℕ, true, false, refl, sym, ap, subst, ◌∙◌, arith, List, [], ◌∷◌, ◌++◌, length, eqb}
+use Rattle.std.proofs.Common.{◌≡◌, ℕ, true, sym, ap, subst, ◌∙◌, List, [], ◌∷◌, ◌++◌, length, eqb}
 use Rattle.std.specs.Prelude.{codes}
 use Rattle.std.proofs.lemmas.Bool.{eqb-true}
 use Rattle.std.proofs.lemmas.List.{append-nil, nil_from_length}
 use Rattle.game_rules.specs.Grid.{Grid, IsBoard}
 use Rattle.game_rules.specs.declared.RuleKind.{RuleKind}
-use Rattle.position_files.specs.declared.PositionFile.{PositionFile}
 use Rattle.position_files.specs.Lines.{line_feed, text_of}
 use Rattle.position_files.specs.Positions.{board_lines, position_text, IsTextOfPosition}
 use Rattle.position_files.proofs.BoardLaws.{text_of-cons}

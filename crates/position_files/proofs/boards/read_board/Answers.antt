@@ -1,5 +1,5 @@
 use Rattle.position_files.proofs.BoardLaws.{board_found, none_at_first, none_then}
-use Rattle.game_rules.specs.declared.Side.TheVariants.{Black, White}
+use Rattle.game_rules.specs.declared.Side.TheVariants.{Black}
 use Rattle.position_files.proofs.boards.read_board.Goals as goal
 
 pub stones_line-requires-clause-none : goal.stones_line-requires-clause-none
