@@ -1,5 +1,5 @@
 -- Words and the separators between them.
-use Rattle.std.proofs.Common.{◌≡◌, ℕ, zero, suc, ◌+◌, ◌<◌, ◌≤◌, Bool, true, false, cond, not, ◌&&◌, refl, sym, ap, ◌∙◌, arith, List, [], ◌∷◌, ◌++◌, length, take, drop, eqb, get_or, nat_lt, take-append-drop, drop-cons, length-drop, ◌-◌}
+use Rattle.std.proofs.Common.{◌≡◌, ℕ, suc, ◌+◌, ◌<◌, ◌≤◌, Bool, true, false, cond, not, ◌&&◌, refl, sym, ap, ◌∙◌, arith, List, [], ◌∷◌, ◌++◌, length, take, drop, eqb, get_or, nat_lt, take-append-drop, drop-cons, length-drop, ◌-◌}
 use Rattle.std.specs.Prelude.{Option, Some, None}
 use Rattle.std.specs.List.{list_all, prefix_len, position, position_or_len}
 use Rattle.std.proofs.lemmas.Option.{cond_some}

@@ -1,8 +1,8 @@
 -- First lines of bytes.
-use Rattle.std.proofs.Common.{◌≡◌, ℕ, ◌≤◌, ◌<◌, ◌^◌, Bool, true, false, cond, ◌&&◌, refl, sym, ap, subst, ◌∙◌, arith, List, [], ◌∷◌, ◌++◌, eqb, inl, inr, append_assoc}
-use Rattle.std.specs.Prelude.{Option, Some, None}
+use Rattle.std.proofs.Common.{◌≡◌, ℕ, ◌≤◌, ◌<◌, ◌^◌, Bool, true, false, cond, refl, sym, ap, ◌∙◌, arith, List, [], ◌∷◌, ◌++◌, eqb, inl}
+use Rattle.std.specs.Prelude.{Some, None}
 use Rattle.std.specs.Fmt.{decimal}
-use Rattle.std.specs.List.{AllByRecursion, list_all}
+use Rattle.std.specs.List.{AllByRecursion}
 use Rattle.std.proofs.lemmas.Bool.{and_parts}
 use Rattle.std.proofs.lemmas.Fmt.{decimal_injective}
 use Rattle.std.proofs.lemmas.List.{append_cancel_left}
@@ -12,7 +12,7 @@ use Rattle.game_rules.specs.declared.RuleKind.{RuleKind}
 use Rattle.game_rules.specs.declared.RuleKind.TheVariants.{Freestyle, Exact, Renju}
 use Rattle.position_files.specs.Lines.{line_feed}
 use Rattle.position_files.specs.Positions.{comma, space, point_text, points_text, rule_word, size_text, pair_text}
-use Rattle.position_files.specs.Reading.{Reads, ReadsLine, IsCount, IsWithin, IsSide, AreSides, is_free, tail_text}
+use Rattle.position_files.specs.Reading.{ReadsLine, IsCount, IsWithin, IsSide, AreSides, is_free}
 use Rattle.position_files.proofs.Cuts.{same_word, is_free-append}
 use Rattle.position_files.proofs.Numbers.{decimal-free}
 

@@ -1,19 +1,17 @@
 -- Nodes that are read one after another.
-use Rattle.std.proofs.Common.{◌≡◌, ℕ, suc, ◌+◌, ◌≤◌, ◌<◌, refl, sym, ap, ◌∙◌, arith, true, List, [], ◌∷◌, ◌++◌, length, map, append_assoc, length-append}
-use Rattle.std.specs.List.{AllByRecursion, flat_map}
+use Rattle.std.proofs.Common.{◌≡◌, ℕ, ◌+◌, refl, sym, ap, ◌∙◌, arith, List, [], ◌∷◌, ◌++◌, length, map, append_assoc, length-append}
+use Rattle.std.specs.List.{AllByRecursion}
 use Rattle.std.proofs.lemmas.List.{map-append, append-nil}
 use Rattle.std.proofs.lemmas.List.Concat.{flat_map-append}
 use Rattle.std.specs.Prelude.{codes}
 use Rattle.std.specs.Fmt.{decimal}
-use Rattle.game_rules.specs.Grid.{Grid, is_on}
-use Rattle.game_rules.specs.declared.Point.{Point}
+use Rattle.game_rules.specs.Grid.{Grid}
 use Rattle.game_rules.specs.declared.RuleKind.{RuleKind}
 use Rattle.strategy_graph.specs.declared.Reply.{Reply}
 use Rattle.strategy_graph.specs.declared.Node.{Node}
 use Rattle.position_files.specs.Lines.{line_feed, ended, text_of}
 use Rattle.position_files.specs.Positions.{board_lines}
 use Rattle.position_files.specs.Tables.{NodeOn, RepliesOn, node_line, nodes_lines}
-use Rattle.position_files.specs.Reading.{IsWithin}
 use Rattle.position_files.specs.Answers.{AddsNode, NodeFits, ReplyFits}
 use Rattle.position_files.proofs.Items.{all_push}
 use Rattle.position_files.proofs.Stones.{is_on_within}

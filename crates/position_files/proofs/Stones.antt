@@ -1,12 +1,12 @@
 -- The stones of a board, as they come in the list of its cells.
-use Rattle.std.proofs.Common.{◌≡◌, ℕ, zero, suc, ◌+◌, ◌-◌, ◌*◌, ◌/◌, ◌%◌, ◌≤◌, ◌<◌, Bool, true, false, cond, not, ◌&&◌, refl, sym, ap, subst, ◌∙◌, arith, List, [], ◌∷◌, ◌++◌, length, take, drop, set, get_or, map, filter, nat_lt, replicate, inl, inr, ◌⊎◌}
+use Rattle.std.proofs.Common.{◌≡◌, ℕ, zero, suc, ◌+◌, ◌-◌, ◌*◌, ◌/◌, ◌%◌, ◌≤◌, ◌<◌, Bool, true, false, cond, not, ◌&&◌, refl, sym, ap, ◌∙◌, arith, List, [], ◌∷◌, ◌++◌, length, take, drop, set, get_or, filter, nat_lt, replicate, inl, inr, ◌⊎◌}
 use Rattle.std.specs.List.{list_all, flat_map, range_with_len, AllByRecursion}
 use Rattle.std.proofs.lemmas.Bool.{and_parts, not-true, lt-ltb, both_ways}
 use Rattle.std.proofs.lemmas.List.{drop-drop, length-drop, length-take-le, drop-set-lt, get_or-drop, take_more, length-replicate}
 use Rattle.std.proofs.lemmas.List.Elements.{filter-append}
 use Rattle.std.proofs.lemmas.Nat.{div-mul-add, mod-mul-add, div-add-mod', row_fits}
 use Rattle.std.proofs.Math.Seq.{drop-cons, take-add, take-length}
-use Rattle.game_rules.specs.Grid.{Grid, IsBoard, is_on, holds, is_stone_of, stone_of, place_of, cell_at, points_of, points_within, row_from, put, is_empty, is_empty_cell}
+use Rattle.game_rules.specs.Grid.{Grid, IsBoard, is_on, holds, is_stone_of, stone_of, place_of, cell_at, points_of, row_from, put, is_empty, is_empty_cell}
 use Rattle.game_rules.specs.declared.Side.{Side}
 use Rattle.game_rules.specs.declared.Cell.{Cell}
 use Rattle.game_rules.specs.declared.Cell.TheVariants.{Empty, Black as BlackStone, White as WhiteStone}

@@ -1,7 +1,5 @@
-use Rattle.std.proofs.Common.{◌≡◌, ℕ, ◌+◌, arith, List, [], ◌∷◌, ◌++◌, Bor, length, length-append, sym, ap, subst, ◌∙◌, option_copied}
-use Rattle.std.specs.Prelude.{Option, Some, None}
-use Rattle.std.specs.List.{AllByRecursion}
-use Rattle.game_rules.specs.declared.Point.{Point}
+use Rattle.std.proofs.Common.{ℕ, arith, List, [], ◌∷◌, Bor, length, length-append, ap, subst, option_copied}
+use Rattle.std.specs.Prelude.{Option}
 use Rattle.position_files.specs.Positions.{space}
 use Rattle.position_files.specs.Tables.{reply_text}
 use Rattle.position_files.specs.Reading.{tail_text}

@@ -1,10 +1,10 @@
-use Rattle.std.proofs.Common.{◌≡◌, ◌++◌, ◌∷◌, List, ℕ, Bor, sym, ap, subst, ◌∙◌, refl}
+use Rattle.std.proofs.Common.{◌≡◌, ◌++◌, List, ℕ, Bor, sym, subst, ◌∙◌}
 use Rattle.std.specs.Prelude.{Result, Err}
 use Rattle.std.specs.List.{AllByRecursion}
 use Rattle.std.proofs.lemmas.Result.{err_from_is_err_and}
 use Rattle.game_rules.specs.declared.Point.{Point}
 use Rattle.position_files.specs.declared.faults.Fault.{Fault}
-use Rattle.position_files.specs.declared.faults.Fault.TheVariants.{Bad, Memory}
+use Rattle.position_files.specs.declared.faults.Fault.TheVariants.{Bad}
 use Rattle.position_files.specs.Positions.{points_text, stones}
 use Rattle.position_files.specs.Reading.{IsWithin}
 use Rattle.position_files.proofs.BoardLaws.{gives_bad, stones_first, stones_fit, listed_stones}

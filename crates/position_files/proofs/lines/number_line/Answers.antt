@@ -1,4 +1,3 @@
-use Rattle.std.proofs.Common.{ℕ, arith}
 use Rattle.std.specs.Fmt.{decimal}
 use Rattle.position_files.specs.Reading.{IsCount}
 use Rattle.position_files.proofs.LineLaws.{prefix_none, prefix_bad, count-free, too_few}

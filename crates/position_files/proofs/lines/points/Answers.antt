@@ -1,8 +1,6 @@
-use Rattle.std.proofs.Common.{◌≡◌, ℕ, ◌+◌, arith, List, [], ◌∷◌, ◌++◌, Bor, length, length-append, sym, ap, subst, ◌∙◌, option_copied}
-use Rattle.std.specs.Prelude.{Option, Some, None}
-use Rattle.std.specs.List.{AllByRecursion}
-use Rattle.game_rules.specs.declared.Point.{Point}
-use Rattle.position_files.specs.Positions.{space, point_text, points_text}
+use Rattle.std.proofs.Common.{ℕ, arith, List, [], ◌∷◌, Bor, length, length-append, ap, subst, option_copied}
+use Rattle.std.specs.Prelude.{Option}
+use Rattle.position_files.specs.Positions.{space, point_text}
 use Rattle.position_files.specs.Reading.{IsWithin, tail_text}
 use Rattle.position_files.proofs.Items.{Follows, begins, stops, goes_on, ends}
 use Rattle.position_files.proofs.Spellings.{point_items}

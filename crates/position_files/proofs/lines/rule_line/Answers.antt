@@ -1,4 +1,4 @@
-use Rattle.std.proofs.Common.{refl, List, ℕ}
+use Rattle.std.proofs.Common.{refl}
 use Rattle.std.specs.Prelude.{codes}
 use Rattle.game_rules.specs.declared.RuleKind.{RuleKind}
 use Rattle.position_files.specs.Positions.{rule_word}

@@ -1,4 +1,4 @@
-use Rattle.std.proofs.Common.{arith, ◌≤◌, get_or}
+use Rattle.std.proofs.Common.{arith, get_or}
 use Rattle.std.specs.Char.{IsAsciiDigit, IsNotAsciiDigit}
 use Rattle.std.proofs.lemmas.Bool.{MatchBool-at_true, MatchBool-at_false}
 use Rattle.position_files.proofs.Numbers.{no_number, number_more, too_much, is_spelled, no_digit}

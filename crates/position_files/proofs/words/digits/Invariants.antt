@@ -1,4 +1,4 @@
-use Rattle.std.proofs.Common.{◌≡◌, ◌≤◌, take}
+use Rattle.std.proofs.Common.{take}
 use Rattle.position_files.proofs.Numbers.{IsNumberOf}
 use Rattle.position_files.proofs.words.digits.Given as goal
 
