@@ -9,3 +9,4 @@ mod TextLaws
 mod AnswerLaws
 mod NodeLaws
 mod TableLaws
+mod Growth
