@@ -18,6 +18,7 @@ mod tables;
 mod tests;
 mod words;
 mod writers;
+mod written;
 
 pub use error::FileError;
 use game_rules::RuleKind;
