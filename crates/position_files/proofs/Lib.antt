@@ -17,3 +17,4 @@ mod Completions
 mod BodyBad
 mod TableTexts
 mod TableBad
+mod Growth

@@ -17,6 +17,8 @@ mod tables;
 #[cfg(test)]
 mod tests;
 mod words;
+mod writers;
+mod written;
 
 pub use error::FileError;
 use game_rules::RuleKind;
@@ -25,6 +27,7 @@ use stone_board::Board;
 use strategy_graph::{Root, Table};
 pub use tables::read_table;
 pub use words::wide_number;
+pub use writers::{write_position, write_table};
 
 /// The most moves that a table says it needs.
 pub const MAX_MOVES: u32 = 1_000_000;

@@ -1,6 +1,6 @@
 //! Texts that are read, and texts that are refused.
 
-use crate::{FileError, read_position, read_table};
+use crate::{FileError, read_position, read_table, write_position, write_table};
 use foul_judge::PositionError;
 use game_rules::{Point, RuleKind, Side};
 use std::test::Fail;
@@ -35,6 +35,31 @@ fn reads_tables_of_both_versions(rt: HostRuntime) -> Result<(), Fail> {
     let defend = read_table(rt.alloc(), START)?;
     assert_eq!(rt; (defend.moves, defend.table.len()), (1, 2));
     assert!(rt; matches!(&defend.root, Root::Defend(_)));
+    Ok(())
+}
+
+#[test]
+fn writes_back_a_position(rt: HostRuntime) -> Result<(), Fail> {
+    let file = read_position(rt.alloc(), POSITION)?;
+    let bytes = write_position(rt.alloc(), file.kind, &file.board)?;
+    assert_eq!(rt; bytes.as_slice(), POSITION);
+    Ok(())
+}
+
+#[test]
+fn writes_back_tables_of_both_versions(rt: HostRuntime) -> Result<(), Fail> {
+    for text in [TABLE, START] {
+        let file = read_table(rt.alloc(), text)?;
+        let bytes = write_table(
+            rt.alloc(),
+            file.kind,
+            &file.board,
+            &file.table,
+            &file.root,
+            file.moves,
+        )?;
+        assert_eq!(rt; bytes.as_slice(), text);
+    }
     Ok(())
 }
 

@@ -1,0 +1,200 @@
+//! Texts of positions and of tables, written line by line.
+//!
+//! A text grows by one piece after another, and each function says by which bytes. The nodes come in the order of the
+//! table.
+#![tactic(auto)]
+
+ghost use Rattle.std.specs.Prelude.{◌≡◌, [], ◌∷◌, ◌++◌, map, IfOk, string_bytes};
+ghost use Rattle.std.specs.List.{AllByRecursion};
+ghost use Rattle.std.specs.Fmt.{decimal};
+ghost use Rattle.game_rules.specs.Grid.{IsBoard};
+ghost use Rattle.strategy_graph.specs.Tables.{IsTable};
+ghost use Rattle.position_files.specs.Lines.{ended, text_of};
+ghost use Rattle.position_files.specs.Positions.{space, IsTextOfPosition, board_lines, point_text};
+ghost use Rattle.position_files.specs.Tables.{IsTextOfTable, NodeOn, RootFits, answers_text, node_line, nodes_lines, replies_text, reply_text, rest_text as rest_text_lem, start_line, table_text as table_text_lem};
+
+use crate::written::board_text;
+use game_rules::{Point, RuleKind};
+use std::alloc::{AllocError, Global};
+use stone_board::Board;
+use strategy_graph::{Node, Replies, Reply, Rest, Root, Start, Table};
+
+/// Writes the text of a position. `Err` says that memory ran out.
+#[tactic(auto, unfolding(crate::specs::Positions::position_text))]
+pub fn write_position(alloc: Global, kind: RuleKind, board: &Board) -> Result<Vec<u8>, AllocError>
+    ensures written { IfOk result (λ bytes. IsTextOfPosition (record { kind = kind; board = board.now }) bytes.items) }
+{
+    let text = board_text(alloc, "renju-position 1", kind, board)?;
+    Ok(text.into_bytes())
+}
+
+/// A reply that is listed, and the node that answers it, after a space.
+fn spaced_reply(alloc: Global, reply: Reply) -> Result<String, AllocError>
+    ensures text { IfOk result (λ text. string_bytes text ≡ space ∷ reply_text reply) }
+{
+    let x = reply.at.x;
+    let y = reply.at.y;
+    let next = reply.next;
+    format!(in alloc; " {x},{y}>{next}")
+}
+
+/// Adds replies to a text, each after a space.
+fn push_replies(alloc: Global, text: &mut String, replies: &[Reply]) -> Result<(), AllocError>
+    ensures replies { IfOk result (λ _. string_bytes text.new ≡ string_bytes text.old ++ replies_text replies.now) }
+{
+    for reply in replies {
+        let word = spaced_reply(alloc, *reply)?;
+        text.push_str(word.as_str())?;
+    }
+    Ok(())
+}
+
+/// What answers the replies that are not listed.
+fn rest_text(alloc: Global, rest: Rest) -> Result<String, AllocError>
+    ensures text { IfOk result (λ text. string_bytes text ≡ rest_text_lem rest) }
+{
+    match rest {
+        Rest::Wins => String::from_str(alloc, "wins"),
+        Rest::To(number) => format!(in alloc; "rest {number}"),
+        Rest::Nothing => String::from_str(alloc, "only"),
+    }
+}
+
+/// Adds the rest and the replies that are listed to a text.
+fn push_answers(
+    alloc: Global,
+    text: &mut String,
+    replies: &Replies,
+    rest: Rest,
+) -> Result<(), AllocError>
+    ensures answers { IfOk result (λ _. string_bytes text.new ≡ string_bytes text.old ++ answers_text (record { replies = replies.now; rest = rest })) }
+{
+    let word = rest_text(alloc, rest)?;
+    text.push_str(word.as_str())?;
+    push_replies(alloc, text, replies.as_slice())?;
+    Ok(())
+}
+
+/// The attack of a node, and the space after it.
+fn attack_text(alloc: Global, at: Point) -> Result<String, AllocError>
+    ensures text { IfOk result (λ text. string_bytes text ≡ point_text at ++ space ∷ []) }
+{
+    let x = at.x;
+    let y = at.y;
+    format!(in alloc; "{x},{y} ")
+}
+
+/// Adds the line of a node to a text.
+fn push_node(alloc: Global, text: &mut String, node: &Node) -> Result<(), AllocError>
+    ensures line { IfOk result (λ _. string_bytes text.new ≡ string_bytes text.old ++ ended (node_line node.now)) }
+{
+    let attack = attack_text(alloc, node.attack)?;
+    text.push_str(attack.as_str())?;
+    push_answers(alloc, text, &node.replies, node.rest)?;
+    text.push_str("\n")?;
+    Ok(())
+}
+
+/// Adds the line of a start to a text.
+fn push_start(alloc: Global, text: &mut String, start: &Start) -> Result<(), AllocError>
+    ensures line { IfOk result (λ _. string_bytes text.new ≡ string_bytes text.old ++ ended (start_line start.now)) }
+{
+    text.push_str("start ")?;
+    push_answers(alloc, text, start.replies(), start.rest())?;
+    text.push_str("\n")?;
+    Ok(())
+}
+
+/// Adds the lines of the nodes of a table to a text.
+#[tactic(auto, using(crate::proofs::Growth::node_grown, crate::proofs::Growth::nodes_grown))]
+fn push_nodes(alloc: Global, text: &mut String, table: &Table) -> Result<(), AllocError>
+    ensures nodes { IfOk result (λ _. string_bytes text.new ≡ string_bytes text.old ++ text_of (map node_line table.now)) }
+{
+    for i in 0..table.len() {
+        push_node(alloc, text, table.node(i))?;
+    }
+    Ok(())
+}
+
+/// Adds a line of this word and this number to a text.
+fn push_count(alloc: Global, text: &mut String, word: &str, count: u32) -> Result<(), AllocError>
+    ensures line { IfOk result (λ _. string_bytes text.new ≡ string_bytes text.old ++ ended (word.now ++ decimal count)) }
+{
+    let number = format!(in alloc; "{count}\n")?;
+    text.push_str(word)?;
+    text.push_str(number.as_str())?;
+    Ok(())
+}
+
+/// Adds the lines from the number of moves to the last node to a text.
+#[tactic(auto, using(crate::proofs::Growth::table_grown))]
+fn push_table(alloc: Global, text: &mut String, table: &Table, moves: u32) -> Result<(), AllocError>
+    ensures lines { IfOk result (λ _. string_bytes text.new ≡ string_bytes text.old ++ text_of (nodes_lines table.now moves)) }
+    ensures table { IsTable table.now }
+{
+    let len = table.len();
+    push_count(alloc, text, "moves ", moves)?;
+    push_count(alloc, text, "nodes ", len)?;
+    push_nodes(alloc, text, table)?;
+    Ok(())
+}
+
+/// The text of this first line, the lines of a rule and a board, and those of a table up to its last node.
+#[tactic(auto, using(crate::proofs::Growth::body_grown))]
+fn body_text(
+    alloc: Global,
+    first: &str,
+    kind: RuleKind,
+    board: &Board,
+    table: &Table,
+    moves: u32,
+) -> Result<String, AllocError>
+    ensures text { IfOk result (λ text. string_bytes text ≡ text_of (first.now ∷ board_lines kind board.now ++ nodes_lines table.now moves)) }
+    ensures board { IfOk result (λ _. IsBoard board.now) }
+    ensures table { IfOk result (λ _. IsTable table.now) }
+{
+    let mut text = board_text(alloc, first, kind, board)?;
+    push_table(alloc, &mut text, table, moves)?;
+    Ok(text)
+}
+
+/// The text of a table.
+#[tactic(auto, using(crate::proofs::Growth::attack_grown, crate::proofs::Growth::defend_grown))]
+fn table_text(
+    alloc: Global,
+    kind: RuleKind,
+    board: &Board,
+    table: &Table,
+    root: &Root,
+    moves: u32,
+) -> Result<String, AllocError>
+    ensures text { IfOk result (λ text. string_bytes text ≡ table_text_lem kind board.now table.now root.now moves) }
+    ensures board { IfOk result (λ _. IsBoard board.now) }
+    ensures table { IfOk result (λ _. IsTable table.now) }
+{
+    match root {
+        Root::Attack(_) => body_text(alloc, "renju-table 1", kind, board, table, moves),
+        Root::Defend(start) => {
+            let mut text = body_text(alloc, "renju-table 2", kind, board, table, moves)?;
+            push_start(alloc, &mut text, start)?;
+            Ok(text)
+        }
+    }
+}
+
+/// Writes the text of a table: version 1 for a root that is a node, version 2 for a start. `Err` says that memory ran out.
+pub fn write_table(
+    alloc: Global,
+    kind: RuleKind,
+    board: &Board,
+    table: &Table,
+    root: &Root,
+    moves: u32,
+) -> Result<Vec<u8>, AllocError>
+    requires on_board { AllByRecursion (NodeOn board.now) table.now }
+    requires root { RootFits board.now table.now root.now moves }
+    ensures written { IfOk result (λ bytes. IsTextOfTable (record { kind = kind; board = board.now; table = table.now; root = root.now; moves = moves }) bytes.items) }
+{
+    let text = table_text(alloc, kind, board, table, root, moves)?;
+    Ok(text.into_bytes())
+}

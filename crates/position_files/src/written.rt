@@ -1,0 +1,128 @@
+//! The lines of a rule and a board, written.
+//!
+//! A text grows by one piece after another, and each function says by which bytes. The stones are found in one pass over
+//! the points of the board.
+#![tactic(auto)]
+
+ghost use Rattle.std.specs.Prelude.{◌≡◌, [], ◌∷◌, ◌++◌, IfOk, string_bytes};
+ghost use Rattle.game_rules.specs.Grid.{IsBoard};
+ghost use Rattle.position_files.specs.Lines.{ended, text_of};
+ghost use Rattle.position_files.specs.Positions.{space, board_lines, point_text, points_text, rule_line, rule_word as rule_word_lem, size_line as size_line_lem, stones};
+
+use game_rules::{Point, RuleKind, Side};
+use std::alloc::{AllocError, Global};
+use stone_board::Board;
+
+/// Adds a line to a text, and the line feed that ends it.
+fn push_line(text: &mut String, line: &str) -> Result<(), AllocError>
+    ensures line { IfOk result (λ _. string_bytes text.new ≡ string_bytes text.old ++ ended line.now) }
+{
+    text.push_str(line)?;
+    text.push_str("\n")?;
+    Ok(())
+}
+
+/// The word of a rule.
+fn rule_word(kind: RuleKind) -> &'static str
+    ensures word { result.now ≡ rule_word_lem kind }
+{
+    match kind {
+        RuleKind::Freestyle => "freestyle",
+        RuleKind::Exact => "exact",
+        RuleKind::Renju => "renju",
+    }
+}
+
+/// Adds the line of a rule to a text.
+fn push_rule(text: &mut String, kind: RuleKind) -> Result<(), AllocError>
+    ensures line { IfOk result (λ _. string_bytes text.new ≡ string_bytes text.old ++ ended (rule_line kind)) }
+{
+    text.push_str("rule ")?;
+    push_line(text, rule_word(kind))?;
+    Ok(())
+}
+
+/// The line of a size: one number where the width and the height are the same.
+fn size_line(alloc: Global, width: u8, height: u8) -> Result<String, AllocError>
+    ensures line { IfOk result (λ text. string_bytes text ≡ size_line_lem width height) }
+{
+    if width == height {
+        format!(in alloc; "size {width}")
+    } else {
+        format!(in alloc; "size {width},{height}")
+    }
+}
+
+/// Adds the line of the size of a board to a text.
+fn push_size(alloc: Global, text: &mut String, board: &Board) -> Result<(), AllocError>
+    ensures line { IfOk result (λ _. string_bytes text.new ≡ string_bytes text.old ++ ended (size_line_lem board.now.width board.now.height)) }
+    ensures board { IsBoard board.now }
+{
+    let line = size_line(alloc, board.width(), board.height())?;
+    push_line(text, line.as_str())?;
+    Ok(())
+}
+
+/// A point after a space.
+fn spaced_point(alloc: Global, at: Point) -> Result<String, AllocError>
+    ensures text { IfOk result (λ text. string_bytes text ≡ space ∷ point_text at) }
+{
+    let x = at.x;
+    let y = at.y;
+    format!(in alloc; " {x},{y}")
+}
+
+/// Adds the points at which stones of the side stand to a text, in reading order, each after a space.
+#[tactic(auto, unfolding(crate::specs::Positions::stones))]
+fn push_stones(
+    alloc: Global,
+    text: &mut String,
+    board: &Board,
+    side: Side,
+) -> Result<(), AllocError>
+    ensures stones { IfOk result (λ _. string_bytes text.new ≡ string_bytes text.old ++ points_text (stones board.now side)) }
+{
+    for p in board.points() {
+        if board.holds(side, p) {
+            let word = spaced_point(alloc, p)?;
+            text.push_str(word.as_str())?;
+        }
+    }
+    Ok(())
+}
+
+/// Adds the line of the stones of the side to a text, after this word.
+fn push_stones_line(
+    alloc: Global,
+    text: &mut String,
+    board: &Board,
+    side: Side,
+    word: &str,
+) -> Result<(), AllocError>
+    ensures line { IfOk result (λ _. string_bytes text.new ≡ string_bytes text.old ++ ended (word.now ++ points_text (stones board.now side))) }
+{
+    text.push_str(word)?;
+    push_stones(alloc, text, board, side)?;
+    text.push_str("\n")?;
+    Ok(())
+}
+
+/// The text of this first line and the lines of a rule and a board.
+#[tactic(auto, using(crate::proofs::Growth::board_grown))]
+pub(crate) fn board_text(
+    alloc: Global,
+    first: &str,
+    kind: RuleKind,
+    board: &Board,
+) -> Result<String, AllocError>
+    ensures text { IfOk result (λ text. string_bytes text ≡ text_of (first.now ∷ board_lines kind board.now)) }
+    ensures board { IfOk result (λ _. IsBoard board.now) }
+{
+    let mut text = String::new(alloc);
+    push_line(&mut text, first)?;
+    push_rule(&mut text, kind)?;
+    push_size(alloc, &mut text, board)?;
+    push_stones_line(alloc, &mut text, board, Side::Black, "black")?;
+    push_stones_line(alloc, &mut text, board, Side::White, "white")?;
+    Ok(text)
+}
