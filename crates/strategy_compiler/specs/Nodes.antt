@@ -1,13 +1,14 @@
 -- The nodes of a compiler: which node answers given replies, and what is added.
-use Rattle.std.specs.Prelude.{◌≡◌, ◌⊎◌, ℕ, not, List, [], ◌∷◌, ◌++◌, map, Contains, Option, Some, None}
+use Rattle.std.specs.Prelude.{◌≡◌, ◌⊎◌, ℕ, not, nat_eq, List, [], ◌∷◌, ◌++◌, map, Contains, Option, Some, None}
 use Rattle.std.specs.List.{filter}
+use Rattle.std.specs.Option.{option_eq}
 use Rattle.game_rules.specs.declared.Point.{Point}
 use Rattle.strategy_graph.specs.declared.Reply.{Reply}
 use Rattle.strategy_graph.specs.declared.Rest.{Rest}
 use Rattle.strategy_graph.specs.declared.Rest.TheVariants.{Wins, To, Nothing}
 use Rattle.strategy_graph.specs.declared.Node.{Node}
 use Rattle.strategy_graph.specs.Tables.{IsTable}
-use Rattle.strategy_compiler.specs.Trees.{commonest, same_answer}
+use Rattle.strategy_compiler.specs.Trees.{commonest}
 use Rattle.strategy_compiler.specs.Walks.{AreDifferent}
 
 -- the nodes of a compiler: they are a table, and no two are equal
@@ -30,7 +31,7 @@ commonest_next answers = commonest (map (λ r. r.next) answers)
 
 -- the answers that are another node than this
 abbrev pub answers_beside : Option ℕ → List Reply → List Reply
-answers_beside rest answers = filter (λ r. not (same_answer (Some r.next) rest)) answers
+answers_beside rest answers = filter (λ r. not (option_eq nat_eq (Some r.next) rest)) answers
 
 -- the node with this attack and these answers: its rest is the commonest, and only the answers that differ are listed
 abbrev pub answering_node : Point → List Reply → Node

@@ -1,6 +1,7 @@
 -- Trees of moves, and which nodes of a table stand for one.
-use Rattle.std.specs.Prelude.{◌≡◌, ℕ, Bool, true, false, not, ◌==◌, nat_le, List, [], ◌∷◌, ◌++◌, map, Option, Some, None, slice_get}
+use Rattle.std.specs.Prelude.{◌≡◌, ℕ, Bool, true, false, not, ◌==◌, nat_le, nat_eq, List, [], ◌∷◌, ◌++◌, map, Option, Some, None, slice_get}
 use Rattle.std.specs.List.{count_by, list_all, find, filter, filter_map}
+use Rattle.std.specs.Option.{option_eq}
 use Rattle.game_rules.specs.declared.Point.{Point}
 use Rattle.strategy_graph.specs.declared.Reply.{Reply}
 use Rattle.strategy_graph.specs.declared.Rest.{Rest}
@@ -34,13 +35,6 @@ times j js = count_by (λ k. k == j) js
 abbrev pub commonest : List ℕ → Option ℕ
 commonest js = find (λ j. list_all (λ k. nat_le (times k js) (times j js)) js) js
 
--- whether both are the same node, or there is none
-abbrev pub same_answer : Option ℕ → Option ℕ → Bool
-same_answer None None = true
-same_answer None (Some k) = false
-same_answer (Some j) None = false
-same_answer (Some j) (Some k) = j == k
-
 -- the nodes that answer these replies
 abbrev pub answers_to : Answers → List Point → List ℕ
 answers_to a qs = filter_map (answer a) qs
@@ -49,7 +43,7 @@ answers_to a qs = filter_map (answer a) qs
 -- listed replies are exactly those with another answer.
 pub record IsBrief (a : Answers) (qs : List Point) : Type 0 where
   pub rest_is_commonest : rest_node a.rest ≡ commonest (answers_to a qs)
-  pub others_are_listed : map (λ r. r.at) a.replies ≡ filter (λ q. not (same_answer (answer a q) (rest_node a.rest))) qs
+  pub others_are_listed : map (λ r. r.at) a.replies ≡ filter (λ q. not (option_eq nat_eq (answer a q) (rest_node a.rest))) qs
 
 -- the same, where a node with no replies to answer has the rest `Nothing` and lists none
 abbrev pub AnswersBriefly : Answers → List Point → Type 0

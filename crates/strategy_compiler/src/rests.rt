@@ -1,8 +1,7 @@
 // The rest of a node: which of the given answers it stands for, and which are listed beside it.
 #![tactic(auto)]
 
-ghost use Rattle.std.specs.Prelude.{◌≡◌, map, IfOk};
-ghost use Rattle.strategy_compiler.specs.Trees.{times as times_lem};
+ghost use Rattle.std.specs.Prelude.{◌≡◌, ◌==◌, count_by, IfOk};
 ghost use Rattle.strategy_compiler.specs.Nodes.{answers_beside, commonest_next, rest_of as rest_of_lem};
 
 use std::alloc::{AllocError, Global};
@@ -10,7 +9,7 @@ use strategy_graph::{Replies, Reply, Rest};
 
 /// How many of the answers are this node.
 fn times(answers: &[Reply], node: u32) -> usize
-    ensures count { result ≡ times_lem node (map (λ r. r.next) answers.now) }
+    ensures count { result ≡ count_by (λ r. r.next == node) answers.now }
 {
     answers.iter().filter(|answer| answer.next == node).count()
 }
