@@ -1,2 +1,4 @@
 pub mod Sets
 pub mod Commonest
+pub mod Standing
+pub mod Briefs

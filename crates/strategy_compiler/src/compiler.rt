@@ -10,7 +10,7 @@ ghost use Rattle.strategy_compiler.specs.Walks.{AreDifferent, IsNumberedByWalk, 
 ghost use Rattle.strategy_compiler.specs.Nodes.{IsCompiled, PutsIn, answering_node, winning_node};
 
 use crate::renumbering::table_of;
-use crate::rests::{answers_beside, commonest_next, rest_of};
+use crate::rests::answering;
 use crate::walk::completed_order;
 use game_rules::Point;
 use indexmap::IndexSet;
@@ -109,16 +109,10 @@ impl Compiler {
         ensures unchanged { OnErr result (self.new ≡ self.old) }
         ensures compiled { IsCompiled self.new }
     {
-        let alloc = *self.nodes.allocator();
-        let rest = commonest_next(answers);
-        let Ok(replies) = answers_beside(alloc, answers, rest) else {
+        let Ok(node) = answering(*self.nodes.allocator(), attack, answers) else {
             return Err(CompileError::Memory);
         };
-        put_in(&mut self.nodes, Node {
-            attack,
-            replies,
-            rest: rest_of(rest),
-        })
+        put_in(&mut self.nodes, node)
     }
 
     /// The table of the nodes that the root reaches, numbered as each is completed in a walk from the root, which visits at each

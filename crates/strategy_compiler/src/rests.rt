@@ -2,10 +2,11 @@
 #![tactic(auto)]
 
 ghost use Rattle.std.specs.Prelude.{◌≡◌, ◌==◌, count_by, IfOk};
-ghost use Rattle.strategy_compiler.specs.Nodes.{answers_beside, commonest_next, rest_of as rest_of_lem};
+ghost use Rattle.strategy_compiler.specs.Nodes.{answering_node, answers_beside, commonest_next, rest_of as rest_of_lem};
 
+use game_rules::Point;
 use std::alloc::{AllocError, Global};
-use strategy_graph::{Replies, Reply, Rest};
+use strategy_graph::{Node, Replies, Reply, Rest};
 
 /// How many of the answers are this node.
 fn times(answers: &[Reply], node: u32) -> usize
@@ -15,7 +16,7 @@ fn times(answers: &[Reply], node: u32) -> usize
 }
 
 /// The node that answers the most of the replies, and on a tie the earliest, or `None` without answers.
-pub(crate) fn commonest_next(answers: &[Reply]) -> Option<u32>
+fn commonest_next(answers: &[Reply]) -> Option<u32>
     ensures commonest { result ≡ commonest_next answers.now }
 {
     let mut best = None;
@@ -31,7 +32,7 @@ pub(crate) fn commonest_next(answers: &[Reply]) -> Option<u32>
 }
 
 /// The rest that is this node, or `Nothing` without one.
-pub(crate) fn rest_of(node: Option<u32>) -> Rest
+fn rest_of(node: Option<u32>) -> Rest
     ensures rest { result ≡ rest_of_lem node }
 {
     match node {
@@ -41,7 +42,7 @@ pub(crate) fn rest_of(node: Option<u32>) -> Rest
 }
 
 /// The answers that are another node than this, in their order.
-pub(crate) fn answers_beside(
+fn answers_beside(
     alloc: Global,
     answers: &[Reply],
     rest: Option<u32>,
@@ -55,4 +56,21 @@ pub(crate) fn answers_beside(
         }
     }
     Ok(replies)
+}
+
+/// The node that plays this attack and answers these replies.
+pub(crate) fn answering(
+    alloc: Global,
+    attack: Point,
+    answers: &[Reply],
+) -> Result<Node, AllocError>
+    ensures node { IfOk result (λ node. node ≡ answering_node attack answers.now) }
+{
+    let rest = commonest_next(answers);
+    let replies = answers_beside(alloc, answers, rest)?;
+    Ok(Node {
+        attack,
+        replies,
+        rest: rest_of(rest),
+    })
 }
