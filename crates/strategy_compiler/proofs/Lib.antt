@@ -2,3 +2,5 @@ pub mod Sets
 pub mod Commonest
 pub mod Standing
 pub mod Briefs
+pub mod Completing
+pub mod Walking

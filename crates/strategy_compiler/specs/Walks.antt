@@ -1,5 +1,5 @@
 -- Walks over the nodes of a table: what a node reaches, the order in which a walk completes nodes, and the table of a tree.
-use Rattle.std.specs.Prelude.{◌≡◌, ℕ, zero, suc, ◌-◌, ◌<◌, ◌==◌, if◌then◌else◌, List, [], ◌∷◌, ◌++◌, map, fold, length, take, Bool, true, Contains, Option, Some, None, slice_get}
+use Rattle.std.specs.Prelude.{◌≡◌, ℕ, zero, suc, ◌-◌, ◌<◌, ◌≤◌, ◌==◌, if◌then◌else◌, List, [], ◌∷◌, ◌++◌, map, fold, length, take, Bool, true, Contains, Option, Some, None, slice_get}
 use Rattle.std.specs.List.{list_any, position_or_len, range_with_len}
 use Rattle.std.specs.Option.{option_map_or}
 use Rattle.strategy_graph.specs.declared.Node.{Node}
@@ -72,3 +72,4 @@ pub record IsOrder (t : List Node) (root : ℕ) (order : List ℕ) : Type 0 wher
   pub once : (k l i : ℕ) → slice_get order k ≡ Some i → slice_get order l ≡ Some i → k ≡ l
   pub after_named : (k i j : ℕ) (n : Node) → slice_get order k ≡ Some i → slice_get t i ≡ Some n → Contains (named (answers_of n)) j → is_among j (take k order) ≡ true
   pub reached : (k i : ℕ) → slice_get order k ≡ Some i → Reaches t root i
+  pub short : length order ≤ length t
