@@ -4,3 +4,4 @@ pub mod Standing
 pub mod Briefs
 pub mod Completing
 pub mod Walking
+pub mod Places

@@ -155,7 +155,7 @@ part-none : (t : List Node) (root : ℕ) → IsPartOrder t root []
 part-none t root = record { within = λ k i e. cc; once = λ k l i e f. cc; after_named = λ k i j n e f c. cc; reached = λ k i e. cc }
 
 -- a place of a longer list is one of the shorter, or the last
-at-push : {X : Type 0} (xs : List X) (x y : X) (k : ℕ) → slice_get (xs ++ x ∷ []) k ≡ Some y → (slice_get xs k ≡ Some y) ⊎ ((k ≡ length xs) × (x ≡ y))
+pub at-push : {X : Type 0} (xs : List X) (x y : X) (k : ℕ) → slice_get (xs ++ x ∷ []) k ≡ Some y → (slice_get xs k ≡ Some y) ⊎ ((k ≡ length xs) × (x ≡ y))
 at-push [] x y zero e = inr (refl, some_equal x y e)
 at-push [] x y (suc k) e = cc
 at-push (z ∷ xs) x y zero e = inl e

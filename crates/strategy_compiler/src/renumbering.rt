@@ -1,10 +1,11 @@
 // The table of some nodes in a given order: each number that a node names becomes its place in that order.
 #![tactic(auto)]
 
-ghost use Rattle.std.specs.Prelude.{◌≡◌, ◌<◌, ◌≤◌, ◌++◌, ◌∷◌, [], ℕ, true, false, length, slice_get, slice_index, Some, IfOk, OnOk};
-ghost use Rattle.strategy_graph.specs.Tables.{IsNode, IsTable, answers_of, names_below};
-ghost use Rattle.strategy_graph.proofs.Copies.{renamed};
-ghost use Rattle.strategy_compiler.specs.Walks.{IsOrder, Renumbers, place_in};
+ghost use Rattle.std.specs.Prelude.{◌≡◌, ◌<◌, ◌≤◌, ◌++◌, ◌∷◌, [], ℕ, true, nat_lt, map, length, slice_get, slice_index, Some, All, IfOk, OnOk};
+ghost use Rattle.std.specs.List.{list_all};
+ghost use Rattle.strategy_graph.specs.Tables.{IsNode, IsTable, answers_of, names_below, rest_nodes};
+ghost use Rattle.strategy_graph.proofs.Copies.{renamed, renamed_reply, renamed_rest};
+ghost use Rattle.strategy_compiler.specs.Walks.{IsOrder, Renumbers};
 
 use std::alloc::{AllocError, Global};
 use strategy_graph::{MAX_NODES, Node, PushError, Replies, Reply, Rest, Table};
@@ -25,24 +26,45 @@ fn places_in(alloc: Global, order: &[u32], len: usize) -> Result<Vec<u32>, Alloc
     Ok(places)
 }
 
+/// The replies, with the place of each number that they name.
+fn renumbered_replies(
+    alloc: Global,
+    replies: &[Reply],
+    places: &[u32],
+) -> Result<Replies, AllocError>
+    requires below { All (λ r. r.next < length places.now) replies.now }
+    ensures replies { IfOk result (λ rs. rs ≡ map (renamed_reply (λ j. slice_index places.now j)) replies.now) }
+{
+    let mut renumbered = Replies::new(alloc);
+    for reply in replies {
+        let next = places[reply.next as usize];
+        renumbered.push(Reply { at: reply.at, next })?;
+    }
+    Ok(renumbered)
+}
+
+/// The rest, with the place of the number that it names.
+fn renumbered_rest(rest: Rest, places: &[u32]) -> Rest
+    requires below { list_all (λ j. nat_lt j (length places.now)) (rest_nodes rest) ≡ true }
+    ensures rest { result ≡ renamed_rest (λ j. slice_index places.now j) rest }
+{
+    match rest {
+        Rest::Wins => Rest::Wins,
+        Rest::To(number) => Rest::To(places[number as usize]),
+        Rest::Nothing => Rest::Nothing,
+    }
+}
+
 /// The node, with the place of each number that it names.
 fn renumbered(alloc: Global, node: &Node, places: &[u32]) -> Result<Node, AllocError>
     requires below { names_below (answers_of node.now) (length places.now) ≡ true }
     ensures node { IfOk result (λ n. n ≡ renamed (λ j. slice_index places.now j) node.now) }
 {
-    let mut replies = Replies::new(alloc);
-    for reply in node.replies.as_slice() {
-        let next = places[reply.next as usize];
-        replies.push(Reply { at: reply.at, next })?;
-    }
-    let rest = match node.rest {
-        Rest::To(number) => Rest::To(places[number as usize]),
-        other => other,
-    };
+    let replies = renumbered_replies(alloc, node.replies.as_slice(), places)?;
     Ok(Node {
         attack: node.attack,
         replies,
-        rest,
+        rest: renumbered_rest(node.rest, places),
     })
 }
 
