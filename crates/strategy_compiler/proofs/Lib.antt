@@ -5,3 +5,5 @@ pub mod Briefs
 pub mod Completing
 pub mod Walking
 pub mod Places
+pub mod Copying
+pub mod Finishing

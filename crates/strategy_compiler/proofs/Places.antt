@@ -126,7 +126,7 @@ IsNode-renamed f passes n i k node low h = record {
 -- ---- the table, node by node
 
 -- each number that node i names is among the first k of the order, where node i is at place k
-named-among : (t : List Node) (root : ℕ) (order : List ℕ) (k i : ℕ) (n : Node) → IsOrder t root order → slice_get order k ≡ Some i → slice_get t i ≡ Some n → list_all (λ j. is_among j (take k order)) (named (answers_of n)) ≡ true
+pub named-among : (t : List Node) (root : ℕ) (order : List ℕ) (k i : ℕ) (n : Node) → IsOrder t root order → slice_get order k ≡ Some i → slice_get t i ≡ Some n → list_all (λ j. is_among j (take k order)) (named (answers_of n)) ≡ true
 named-among t root order k i n h e at = all_by (λ j. is_among j (take k order)) (named (answers_of n)) (λ j c. h.after_named k i j n e at c) where
   all_by : (p : ℕ → Bool) (js : List ℕ) → ((j : ℕ) → Contains js j → p j ≡ true) → list_all p js ≡ true
   all_by p [] f = refl

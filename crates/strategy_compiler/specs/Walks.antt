@@ -4,6 +4,7 @@ use Rattle.std.specs.List.{list_any, position_or_len, range_with_len}
 use Rattle.std.specs.Option.{option_map_or}
 use Rattle.strategy_graph.specs.declared.Node.{Node}
 use Rattle.strategy_graph.specs.Tables.{Answers, answers_of, rest_nodes, named, IsTable}
+use Rattle.strategy_graph.specs.Laws.{SaysSame}
 use Rattle.strategy_graph.proofs.Copies.{renamed}
 use Rattle.strategy_compiler.specs.Trees.{Tree, StandsFor}
 
@@ -73,3 +74,13 @@ pub record IsOrder (t : List Node) (root : ℕ) (order : List ℕ) : Type 0 wher
   pub after_named : (k i j : ℕ) (n : Node) → slice_get order k ≡ Some i → slice_get t i ≡ Some n → Contains (named (answers_of n)) j → is_among j (take k order) ≡ true
   pub reached : (k i : ℕ) → slice_get order k ≡ Some i → Reaches t root i
   pub short : length order ≤ length t
+
+-- table u is made of the nodes that the root reaches in t: the table of each tree for which the root stands, with the root as
+-- its last node, which says the same
+pub record IsMadeFrom (t : List Node) (root : ℕ) (u : List Node) : Type 0 where
+  pub nodes : Renumbers t (completed t root) u
+  pub trees : (tree : Tree) → StandsFor t root tree → IsTableOf tree u
+  pub different : AreDifferent u
+  pub reached : (i : ℕ) → i < length u → Reaches u (last u) i
+  pub numbered : IsNumberedByWalk u
+  pub same : SaysSame t root u (last u)

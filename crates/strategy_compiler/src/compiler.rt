@@ -9,9 +9,8 @@ ghost use Rattle.strategy_compiler.specs.Trees.{Tree, Branches, Leaf, Fork, Stan
 ghost use Rattle.strategy_compiler.specs.Walks.{AreDifferent, IsNumberedByWalk, IsTableOf, Reaches, Renumbers, completed, last};
 ghost use Rattle.strategy_compiler.specs.Nodes.{IsCompiled, PutsIn, answering_node, winning_node};
 
-use crate::renumbering::table_of;
+use crate::renumbering::table_from;
 use crate::rests::answering;
-use crate::walk::completed_order;
 use game_rules::Point;
 use indexmap::IndexSet;
 use std::alloc::{AllocError, Global};
@@ -129,10 +128,7 @@ impl Compiler {
         ensures numbered { IfOk result IsNumberedByWalk }
         ensures same { IfOk result (λ t. SaysSame self root t (last t)) }
     {
-        let alloc = *self.nodes.allocator();
-        let nodes = self.nodes.as_slice();
-        let order = completed_order(alloc, nodes, root)?;
-        table_of(alloc, nodes, root, order.as_slice())
+        table_from(*self.nodes.allocator(), self.nodes.as_slice(), root)
     }
 }
 

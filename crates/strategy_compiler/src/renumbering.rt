@@ -5,8 +5,10 @@ ghost use Rattle.std.specs.Prelude.{◌≡◌, ◌<◌, ◌≤◌, ◌++◌, ◌
 ghost use Rattle.std.specs.List.{list_all};
 ghost use Rattle.strategy_graph.specs.Tables.{IsNode, IsTable, answers_of, names_below, rest_nodes};
 ghost use Rattle.strategy_graph.proofs.Copies.{renamed, renamed_reply, renamed_rest};
-ghost use Rattle.strategy_compiler.specs.Walks.{IsOrder, Renumbers};
+ghost use Rattle.strategy_compiler.specs.Walks.{IsMadeFrom, IsOrder, Renumbers};
+ghost use Rattle.strategy_compiler.specs.Nodes.{IsCompiled};
 
+use crate::walk::completed_order;
 use std::alloc::{AllocError, Global};
 use strategy_graph::{MAX_NODES, Node, PushError, Replies, Reply, Rest, Table};
 
@@ -82,7 +84,7 @@ fn add(table: &mut Table, node: Node) -> Result<(), AllocError>
 }
 
 /// The table of the nodes with these numbers, in this order.
-pub(crate) fn table_of(alloc: Global, nodes: &[Node], root: u32, order: &[u32]) -> Result<Table, AllocError>
+fn table_of(alloc: Global, nodes: &[Node], root: u32, order: &[u32]) -> Result<Table, AllocError>
     requires table { IsTable nodes.now }
     requires order { IsOrder nodes.now root order.now }
     ensures nodes { IfOk result (λ t. Renumbers nodes.now order.now t) }
@@ -94,4 +96,14 @@ pub(crate) fn table_of(alloc: Global, nodes: &[Node], root: u32, order: &[u32]) 
         add(&mut table, node)?;
     }
     Ok(table)
+}
+
+/// The table of the nodes that the root reaches, in the order in which a walk from it completes them.
+pub(crate) fn table_from(alloc: Global, nodes: &[Node], root: u32) -> Result<Table, AllocError>
+    requires compiled { IsCompiled nodes.now }
+    requires in_table { root < length nodes.now }
+    ensures made { IfOk result (IsMadeFrom nodes.now root) }
+{
+    let order = completed_order(alloc, nodes, root)?;
+    table_of(alloc, nodes, root, order.as_slice())
 }
