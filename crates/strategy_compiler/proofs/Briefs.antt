@@ -1,24 +1,24 @@
 -- The node that answers given replies: it is a node of a table, answers each as given, and stands for the tree of these branches.
-use Rattle.std.proofs.Common.{◌≡◌, ℕ, zero, suc, ◌+◌, ◌<◌, ◌≤◌, Bool, true, false, cond, not, ◌&&◌, ◌||◌, ◌==◌, List, [], ◌∷◌, ◌++◌, map, filter, length, get_or, refl, sym, ap, subst, ◌∙◌, arith}
-use Rattle.std.specs.Prelude.{Option, Some, None, Result, Ok, Err, IfOk, OnOk, nat_lt, nat_eq, slice_get, All}
-use Rattle.std.specs.List.{list_all, find, filter_map, cons_option, AllByRecursion}
+use Rattle.std.proofs.Common.{◌≡◌, ℕ, suc, ◌<◌, Bool, true, false, cond, not, ◌&&◌, ◌||◌, ◌==◌, List, [], ◌∷◌, map, filter, get_or, refl, sym, ap, subst, ◌∙◌, arith}
+use Rattle.std.specs.Prelude.{Option, Some, None, Result, Ok, Err, IfOk, OnOk, nat_lt, nat_eq, slice_get, All, Contains}
+use Rattle.std.specs.List.{list_all, find, AllByRecursion}
 use Rattle.std.specs.Option.{option_map, option_or, option_eq}
 use Rattle.std.proofs.lemmas.Bool.Decides.{nat_tests, Decides-eqb}
 use Rattle.std.proofs.lemmas.List.Folds.{list_all-append}
-use Rattle.std.proofs.lemmas.List.Elements.{All-from_recursion}
+use Rattle.std.proofs.lemmas.List.Elements.{All-from_recursion, All-filter}
+use Rattle.std.proofs.lemmas.List.{length-map, get_or-map}
 use Rattle.std.proofs.lemmas.Result.{IfOk-weaker}
 use Rattle.game_rules.specs.Shapes.{is_same_point}
 use Rattle.game_rules.specs.declared.Point.{Point}
 use Rattle.game_rules.proofs.Boards.{and_left, and_right}
 use Rattle.strategy_graph.specs.declared.Reply.{Reply}
-use Rattle.strategy_graph.specs.declared.Rest.{Rest}
 use Rattle.strategy_graph.specs.declared.Rest.TheVariants.{Wins}
 use Rattle.strategy_graph.specs.declared.Node.{Node}
-use Rattle.strategy_graph.specs.Tables.{Answers, answers_of, answer, answer_at, listed, named, names_below, precedes, is_rising, is_winning, rest_node, rest_nodes, IsNode}
+use Rattle.strategy_graph.specs.Tables.{Answers, answers_of, answer, answer_at, listed, precedes, is_rising, is_winning, rest_node, rest_nodes, IsNode}
 use Rattle.strategy_graph.specs.Acceptance.{Answered}
 use Rattle.strategy_graph.specs.Leads.{AtNode}
-use Rattle.strategy_compiler.specs.Trees.{Tree, Branches, Leaf, Fork, NoBranch, Branch, StandsFor, StandsForAll, AnswersBranches, AnswersBriefly, IsBrief, replies_of, answers_to, commonest}
-use Rattle.strategy_compiler.specs.Nodes.{PutsIn, answering_node, answers_beside, commonest_next, rest_of, winning_node}
+use Rattle.strategy_compiler.specs.Trees.{Tree, Branches, Leaf, Fork, NoBranch, Branch, StandsFor, StandsForAll, AnswersBranches, AnswersBriefly, replies_of, answers_to, commonest}
+use Rattle.strategy_compiler.specs.Nodes.{NamesOnly, PutsIn, answering_node, answers_beside, commonest_next, rest_of, winning_node}
 use Rattle.strategy_compiler.proofs.Standing.{stands-put_in}
 use borrow.Author.Tests.{lt-ltb}
 
@@ -151,12 +151,13 @@ AnsweredAsGiven a rs = AllByRecursion (λ r. answer a r.at ≡ Some r.next) rs
 as_given : (a : Answers) (o : Option ℕ) (rs ss : List Reply) → a.replies ≡ answers_beside o rs → rest_node a.rest ≡ o → AllByRecursion (Kept (λ r. not (option_eq nat_eq (Some r.next) o)) rs) ss → AnsweredAsGiven a ss
 unfolding Kept
 as_given a o rs [] e f h = tt
-as_given a o rs (s ∷ ss) e f h =
-    (ap (λ (xs : List Reply). option_or (listed xs s.at) (rest_node a.rest)) e
-    ∙ ap (λ (p : Option ℕ). option_or p (rest_node a.rest)) h.0
-    ∙ ap (λ (p : Option ℕ). option_or (cond (not (option_eq nat_eq (Some s.next) o)) (Some s.next) None) p) f
-    ∙ answer_by o s.next (option_eq nat_eq (Some s.next) o) refl,
-    as_given a o rs ss e f h.1)
+as_given a o rs (s ∷ ss) e f h = (
+  ap (λ (xs : List Reply). option_or (listed xs s.at) (rest_node a.rest)) e
+      ∙ ap (λ (p : Option ℕ). option_or p (rest_node a.rest)) h.0
+      ∙ ap (λ (p : Option ℕ). option_or (cond (not (option_eq nat_eq (Some s.next) o)) (Some s.next) None) p) f
+      ∙ answer_by o s.next (option_eq nat_eq (Some s.next) o) refl,
+  as_given a o rs ss e f h.1,
+)
 
 pub answering-as_given : (attack : Point) (rs : List Reply) → is_rising rs ≡ true → AnsweredAsGiven (answers_of (answering_node attack rs)) rs
 answering-as_given attack rs h =
@@ -167,9 +168,9 @@ answering-as_given attack rs h =
 pub answers-at : (t : List Node) (i : ℕ) (attack : Point) (rs : List Reply) → slice_get t i ≡ Some (answering_node attack rs) → is_rising rs ≡ true → All (λ r. answer_at t i r.at ≡ Some r.next) rs
 answers-at t i attack rs at h =
     All-from_recursion (λ r. answer_at t i r.at ≡ Some r.next) rs (at_node rs (answering-as_given attack rs h)) where
-  at_node : (ss : List Reply) → AnsweredAsGiven (answers_of (answering_node attack rs)) ss → AllByRecursion (λ r. answer_at t i r.at ≡ Some r.next) ss
-  at_node [] k = tt
-  at_node (s ∷ ss) k = (rw at k.0, at_node ss k.1)
+      at_node : (ss : List Reply) → AnsweredAsGiven (answers_of (answering_node attack rs)) ss → AllByRecursion (λ r. answer_at t i r.at ≡ Some r.next) ss
+      at_node [] k = tt
+      at_node (s ∷ ss) k = (rw at k.0, at_node ss k.1)
 
 -- ---- the tree that the node stands for
 
@@ -188,10 +189,10 @@ others-given a o [] h = refl
 others-given a o (r ∷ rs) h =
     at_kept (not (option_eq nat_eq (Some r.next) o)) (others-given a o rs h.1)
     ∙ ap (λ (p : Option ℕ). cond (not (option_eq nat_eq p o)) (r.at ∷ filter (λ q. not (option_eq nat_eq (answer a q) o)) (map (λ r. r.at) rs)) (filter (λ q. not (option_eq nat_eq (answer a q) o)) (map (λ r. r.at) rs))) (sym h.0)
-    where
-      at_kept : (b : Bool) → map (λ r. r.at) (answers_beside o rs) ≡ filter (λ q. not (option_eq nat_eq (answer a q) o)) (map (λ r. r.at) rs) → map (λ r. r.at) (cond b (r ∷ answers_beside o rs) (answers_beside o rs)) ≡ cond b (r.at ∷ filter (λ q. not (option_eq nat_eq (answer a q) o)) (map (λ r. r.at) rs)) (filter (λ q. not (option_eq nat_eq (answer a q) o)) (map (λ r. r.at) rs))
-      at_kept true k = ap (λ (ps : List Point). r.at ∷ ps) k
-      at_kept false k = k
+  where
+    at_kept : (b : Bool) → map (λ r. r.at) (answers_beside o rs) ≡ filter (λ q. not (option_eq nat_eq (answer a q) o)) (map (λ r. r.at) rs) → map (λ r. r.at) (cond b (r ∷ answers_beside o rs) (answers_beside o rs)) ≡ cond b (r.at ∷ filter (λ q. not (option_eq nat_eq (answer a q) o)) (map (λ r. r.at) rs)) (filter (λ q. not (option_eq nat_eq (answer a q) o)) (map (λ r. r.at) rs))
+    at_kept true k = ap (λ (ps : List Point). r.at ∷ ps) k
+    at_kept false k = k
 
 answers-briefly : (attack : Point) (rs : List Reply) → AnsweredAsGiven (answers_of (answering_node attack rs)) rs → AnswersBriefly (answers_of (answering_node attack rs)) (map (λ r. r.at) rs)
 answers-briefly attack [] h = (refl, refl)
@@ -218,14 +219,25 @@ unfolding StandsFor
 stands-answering old new i attack rs h put at bs given =
     let given_as : AnsweredAsGiven (answers_of (answering_node attack rs)) rs = answering-as_given attack rs h in
     let P : Node → Type 0 = λ n. (n.attack ≡ attack) × AnswersBriefly (answers_of n) (replies_of bs) × StandsForAll new (answers_of n) bs in
-    subst (λ (o : Option Node). AtNode o P) (sym at)
-    (refl,
-    subst (AnswersBriefly (answers_of (answering_node attack rs))) (replies-branches old rs bs given) (answers-briefly attack rs given_as),
-    stands-all old new (answers_of (answering_node attack rs)) rs bs (λ j s k. stands-put_in old (answering_node attack rs) new put j s k) given_as given)
+    subst (λ (o : Option Node). AtNode o P) (sym at) (
+      refl,
+      subst (AnswersBriefly (answers_of (answering_node attack rs))) (replies-branches old rs bs given) (answers-briefly attack rs given_as),
+      stands-all old new (answers_of (answering_node attack rs)) rs bs (λ j s k. stands-put_in old (answering_node attack rs) new put j s k) given_as given,
+    )
 
 pub stands-winning : (t : List Node) (i : ℕ) (attack : Point) → slice_get t i ≡ Some (winning_node attack) → StandsFor t i (Leaf attack)
 unfolding StandsFor
 stands-winning t i attack at = subst (λ (o : Option Node). AtNode o (λ n. (n.attack ≡ attack) × (is_winning n.rest ≡ true))) (sym at) (refl, refl)
+
+-- it names no points but those given
+point-given : (rs : List Reply) → All (λ r. Contains (map (λ r. r.at) rs) r.at) rs
+point-given rs = λ k d l. (k, let long = length-map rs (λ (r : Reply). r.at) in omega (arith, long, l), get_or-map (λ (r : Reply). r.at) rs k d (get_or rs k d).at l)
+
+names-only : (attack : Point) (rs : List Reply) → NamesOnly attack (map (λ r. r.at) rs) (answering_node attack rs)
+names-only attack rs = record {
+  attack_is = refl;
+  replies_among = All-filter (λ r. not (option_eq nat_eq (Some r.next) (commonest_next rs))) (λ r. Contains (map (λ r. r.at) rs) r.at) rs (point-given rs);
+}
 
 -- ---- what a call answers
 
@@ -243,6 +255,11 @@ module _ {E : Type 0} (old new : List Node) (r : Result ℕ E) (attack : Point) 
   answered-answers rs n e rising =
       IfOk-weaker r (λ i. slice_get new i ≡ Some n) (λ i. All (λ r. answer_at new i r.at ≡ Some r.next) rs)
       (λ i at. answers-at new i attack rs (at ∙ ap Some e) rising)
+
+  pub answered-points : (rs : List Reply) (n : Node) → n ≡ answering_node attack rs → IfOk r (λ i. slice_get new i ≡ Some n) → IfOk r (λ i. AtNode (slice_get new i) (NamesOnly attack (map (λ r. r.at) rs)))
+  answered-points rs n e =
+      IfOk-weaker r (λ i. slice_get new i ≡ Some n) (λ i. AtNode (slice_get new i) (NamesOnly attack (map (λ r. r.at) rs)))
+      (λ i at. subst (λ (o : Option Node). AtNode o (NamesOnly attack (map (λ r. r.at) rs))) (sym (at ∙ ap Some e)) (names-only attack rs))
 
   pub answered-winning : (rs : List Reply) → rs ≡ [] → IfOk r (λ i. slice_get new i ≡ Some (record { attack = attack; replies = rs; rest = Wins })) → IfOk r (λ i. StandsFor new i (Leaf attack))
   answered-winning rs e =

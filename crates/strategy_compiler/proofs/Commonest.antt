@@ -1,6 +1,7 @@
 -- The commonest of some numbers, found by going over them.
-use Rattle.std.proofs.Common.{◌≡◌, ℕ, zero, suc, ◌+◌, ◌<◌, ◌≤◌, max, Bool, true, false, cond, ◌&&◌, ◌==◌, List, [], ◌∷◌, ◌++◌, map, length, take, get_or, refl, sym, ap, subst, ◌∙◌, arith}
-use Rattle.std.specs.Prelude.{Option, Some, None, IsSome, nat_le}
+use Rattle.std.proofs.Common.{◌≡◌, ℕ, ◌+◌, ◌<◌, ◌≤◌, max, Bool, true, false, cond, ◌&&◌, ◌==◌, List, [], ◌∷◌, ◌++◌, map, length, take, get_or, refl, sym, ap, subst, ◌∙◌, arith}
+use Rattle.std.specs.Prelude.{Option, Some, None, IsSome, nat_le, nat_eq}
+use Rattle.std.specs.Option.{option_eq}
 use Rattle.std.specs.List.{find, list_all, count_by, sum_by}
 use Rattle.std.proofs.lemmas.Bool.Decides.{nat_tests, Decides-eqb}
 use borrow.Author.Tests.{leb-true, le-leb}
@@ -8,7 +9,7 @@ use Rattle.std.proofs.lemmas.List.{map_more, take_all}
 use Rattle.std.proofs.lemmas.List.Sums.{sum_by-cons, get_or-le-sum_by}
 use Rattle.strategy_graph.specs.declared.Reply.{Reply}
 use Rattle.strategy_graph.specs.Tables.{greatest}
-use Rattle.strategy_compiler.specs.Trees.{times, commonest}
+use Rattle.strategy_compiler.specs.Trees.{times}
 use Rattle.strategy_compiler.specs.Nodes.{commonest_next}
 
 -- how many of the answers are the node j
@@ -88,6 +89,21 @@ module _ (f : ℕ → ℕ) (js : List ℕ) (best : Option ℕ) (most j : ℕ) (s
         some = so_far.some;
       }
 
+-- the number that is found is one of them
+found-le : (f : ℕ → ℕ) (p : ℕ → Bool) (js : List ℕ) (k : ℕ) → find p js ≡ Some k → f k ≤ greatest (map f js)
+found-le f p [] k h = cc
+found-le f p (j ∷ js) k h = by_test (p j) h (found-le f p js k) where
+  by_test : (b : Bool) → cond b (Some j) (find p js) ≡ Some k → (find p js ≡ Some k → f k ≤ greatest (map f js)) → f k ≤ max (f j) (greatest (map f js))
+  by_test true h next = let same : f j ≡ f k = cc in omega (arith, same)
+  by_test false h next = let later = next h in omega (arith, later)
+
+-- with the best itself
+pub best-again : (f : ℕ → ℕ) (js : List ℕ) (best : Option ℕ) (most j : ℕ) → IsBestSoFar f js best most → best ≡ Some j → 1 ≤ f j → IsBestSoFar f (js ++ j ∷ []) best most
+best-again f js best most j so_far e l =
+    let most_is : most ≡ greatest (map f js) = so_far.most_is in
+    let low = found-le f (λ k. nat_le most (f k)) js j (sym so_far.best_is ∙ e) in
+    best-kept f js best most j so_far (omega (arith, most_is, low)) l
+
 -- ---- at the end
 
 le_greatest : (f : ℕ → ℕ) (m : ℕ) (js : List ℕ) → list_all (λ k. nat_le (f k) m) js ≡ nat_le (greatest (map f js)) m
@@ -131,6 +147,16 @@ module _ (answers : List Reply) (i : ℕ) (d : Reply) (best : Option ℕ) (most 
       let low = positive answers i d l in
       subst (λ (js : List ℕ). IsBestSoFar (answers_of_node answers) js best' most') (sym one_more)
       (rw (b, m) (best-kept (answers_of_node answers) (map (λ r. r.next) (take i answers)) best most (get_or answers i d).next so_far (omega arith) low))
+
+pub equal_best : (o : Option ℕ) (j : ℕ) → option_eq nat_eq o (Some j) ≡ true → o ≡ Some j
+equal_best None j h = cc
+equal_best (Some i) j h = ap Some ((Decides-eqb i j).0 h)
+
+-- an answer that is the best already
+pub commonest-again : (answers : List Reply) (i : ℕ) (d : Reply) (best : Option ℕ) (most : ℕ) → IsCommonestSoFar answers (take i answers) best most → i < length answers → best ≡ Some (get_or answers i d).next → IsCommonestSoFar answers (take (i + 1) answers) best most
+commonest-again answers i d best most so_far l e =
+    subst (λ (js : List ℕ). IsBestSoFar (answers_of_node answers) js best most) (sym (map_more (λ (r : Reply). r.next) answers i d l))
+    (best-again (answers_of_node answers) (map (λ r. r.next) (take i answers)) best most (get_or answers i d).next so_far e (positive answers i d l))
 
 -- once all were seen, it is the commonest of all
 pub commonest-all : (answers : List Reply) (i : ℕ) (best : Option ℕ) (most : ℕ) → length answers ≤ i → IsCommonestSoFar answers (take i answers) best most → best ≡ commonest_next answers

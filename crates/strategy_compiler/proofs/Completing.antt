@@ -1,14 +1,14 @@
 -- The order in which a walk completes nodes: the bound on the nodes that follow one another plays no part, and the walk goes
 -- step by step.
-use Rattle.std.proofs.Common.{◌≡◌, ℕ, zero, suc, ◌+◌, ◌<◌, ◌≤◌, Bool, true, false, cond, not, ◌&&◌, ◌||◌, ◌==◌, List, [], ◌∷◌, ◌++◌, map, length, get_or, refl, sym, ap, subst, ◌∙◌, arith, if◌then◌else◌}
+use Rattle.std.proofs.Common.{◌≡◌, ℕ, zero, suc, ◌<◌, Bool, true, false, cond, not, ◌&&◌, ◌||◌, ◌==◌, List, [], ◌∷◌, ◌++◌, map, refl, sym, ap, subst, ◌∙◌, arith}
 use Rattle.std.specs.Prelude.{Option, Some, None, nat_lt, slice_get, fold}
-use Rattle.std.specs.List.{list_all, list_any, find}
+use Rattle.std.specs.List.{list_all, find}
 use Rattle.std.specs.Option.{option_map_or}
 use Rattle.std.proofs.lemmas.Bool.Decides.{Decides-eqb, nat_tests}
 use Rattle.std.proofs.lemmas.List.Folds.{list_any-append, list_all-append}
 use Rattle.game_rules.proofs.Boards.{and_left, and_right}
 use Rattle.strategy_graph.specs.declared.Node.{Node}
-use Rattle.strategy_graph.specs.Tables.{Answers, answers_of, named, names_below, rest_nodes, NamesLower}
+use Rattle.strategy_graph.specs.Tables.{Answers, answers_of, names_below, rest_nodes, NamesLower}
 use Rattle.strategy_compiler.specs.Walks.{visits, visits_at, is_among, completed_within}
 use borrow.Author.Tests.{ltb-true}
 
@@ -33,6 +33,7 @@ pub among-other : (k i : ℕ) (js : List ℕ) → i < k → is_among k (js ++ i 
 among-other k i js l = among-push k i js ∙ by_test (is_among k js) (i == k) (apart i k l) where
   apart : (i k : ℕ) → i < k → (i == k) ≡ false
   apart i k l = grind (arith, nat_tests)
+
   by_test : (a b : Bool) → b ≡ false → (a || b) ≡ a
   by_test true b h = refl
   by_test false b h = h
@@ -99,9 +100,9 @@ module _ (t : List Node) (lower : NamesLower t) where
   within-kept zero k done i h = h
   within-kept (suc f) k done i h =
       by_test (is_among i done) (among-kept k i (fold (completed_within f t) done (visits_at t i)) (fold-kept (completed_within f t) k (λ d j. within-kept f k d j) (visits_at t i) done h)) where
-    by_test : (b : Bool) → is_among k (fold (completed_within f t) done (visits_at t i) ++ i ∷ []) ≡ true → is_among k (cond b done (fold (completed_within f t) done (visits_at t i) ++ i ∷ [])) ≡ true
-    by_test true e = h
-    by_test false e = e
+        by_test : (b : Bool) → is_among k (fold (completed_within f t) done (visits_at t i) ++ i ∷ []) ≡ true → is_among k (cond b done (fold (completed_within f t) done (visits_at t i) ++ i ∷ [])) ≡ true
+        by_test true e = h
+        by_test false e = e
 
   pub walked-kept : (k : ℕ) (done : List ℕ) (i : ℕ) → is_among k done ≡ true → is_among k ((walked t) done i) ≡ true
   unfolding walked
@@ -123,9 +124,9 @@ module _ (t : List Node) (lower : NamesLower t) where
   within-above zero k done i l h = h
   within-above (suc f) k done i l h =
       by_test (is_among i done) (among-other k i (fold (completed_within f t) done (visits_at t i)) l ∙ fold-above (completed_within f t) k i (λ d j m. within-above f k d j (omega arith)) (visits_at t i) done (visits_at-below i) h) where
-    by_test : (b : Bool) → is_among k (fold (completed_within f t) done (visits_at t i) ++ i ∷ []) ≡ false → is_among k (cond b done (fold (completed_within f t) done (visits_at t i) ++ i ∷ [])) ≡ false
-    by_test true e = h
-    by_test false e = e
+        by_test : (b : Bool) → is_among k (fold (completed_within f t) done (visits_at t i) ++ i ∷ []) ≡ false → is_among k (cond b done (fold (completed_within f t) done (visits_at t i) ++ i ∷ [])) ≡ false
+        by_test true e = h
+        by_test false e = e
 
   pub walked-above : (k : ℕ) (done : List ℕ) (i : ℕ) → i < k → is_among k done ≡ false → is_among k ((walked t) done i) ≡ false
   unfolding walked

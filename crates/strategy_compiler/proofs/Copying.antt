@@ -1,9 +1,9 @@
 -- A table that holds nodes of another under other numbers, no two under one: its copies stand for the same trees, are
 -- completed in the same order, reach the same nodes, and are different where the nodes are.
-use Rattle.std.proofs.Common.{◌≡◌, ℕ, zero, suc, ◌+◌, ◌<◌, ◌≤◌, Bool, true, false, cond, not, ◌&&◌, ◌||◌, ◌==◌, List, [], ◌∷◌, ◌++◌, map, filter, length, refl, sym, ap, subst, ◌∙◌, arith}
+use Rattle.std.proofs.Common.{◌≡◌, ℕ, zero, suc, ◌+◌, Bool, true, false, cond, not, ◌&&◌, ◌||◌, ◌==◌, List, [], ◌∷◌, ◌++◌, map, filter, refl, sym, ap, subst, ◌∙◌, arith}
 use Rattle.std.specs.Prelude.{Option, Some, None, nat_le, nat_eq, slice_get, fold, Contains}
-use Rattle.std.specs.List.{list_all, list_any, find, filter_map, cons_option, count_by, sum_by}
-use Rattle.std.specs.Option.{option_map, option_map_or, option_or, option_eq}
+use Rattle.std.specs.List.{list_all, find, cons_option}
+use Rattle.std.specs.Option.{option_map, option_map_or, option_eq}
 use Rattle.std.proofs.lemmas.Bool.Decides.{Decides-eqb}
 use Rattle.std.proofs.lemmas.List.{map-append}
 use Rattle.std.proofs.lemmas.List.Folds.{list_all-append}
@@ -19,7 +19,7 @@ use Rattle.strategy_graph.specs.Acceptance.{Answered}
 use Rattle.strategy_graph.specs.Leads.{AtNode}
 use Rattle.strategy_graph.proofs.Answering.{answer-named}
 use Rattle.strategy_graph.proofs.Copies.{renamed, renamed_reply, renamed_rest, renamed_answers, Copies, answer-renamed, is_winning-renamed, named-renamed}
-use Rattle.strategy_compiler.specs.Trees.{Tree, Branches, Leaf, Fork, NoBranch, Branch, StandsFor, StandsForAll, AnswersBriefly, IsBrief, replies_of, answers_to, commonest, times}
+use Rattle.strategy_compiler.specs.Trees.{Tree, Branches, Leaf, Fork, NoBranch, Branch, StandsFor, StandsForAll, AnswersBriefly, replies_of, answers_to, commonest, times}
 use Rattle.strategy_compiler.specs.Walks.{Reaches, Itself, Through, visits, visits_at, is_among, completed_within}
 use Rattle.strategy_compiler.proofs.Places.{points-renamed}
 
@@ -65,9 +65,9 @@ module _ (f : ℕ → ℕ) (passes : ℕ → Bool) (one : IsOneToOne f passes) w
   find-map js (k ∷ ks) h l =
       ap (λ (b : Bool). cond b (Some (f k)) (find (λ j. tops j (map f js) (map f js)) (map f ks))) (tops-map k js js (and_left (passes k) _ l) h)
       ∙ by_test (tops k js js) (find-map js ks h (and_right (passes k) _ l)) where
-    by_test : (b : Bool) → find (λ j. tops j (map f js) (map f js)) (map f ks) ≡ option_map f (find (λ j. tops j js js) ks) → cond b (Some (f k)) (find (λ j. tops j (map f js) (map f js)) (map f ks)) ≡ option_map f (cond b (Some k) (find (λ j. tops j js js) ks))
-    by_test true e = refl
-    by_test false e = e
+        by_test : (b : Bool) → find (λ j. tops j (map f js) (map f js)) (map f ks) ≡ option_map f (find (λ j. tops j js js) ks) → cond b (Some (f k)) (find (λ j. tops j (map f js) (map f js)) (map f ks)) ≡ option_map f (cond b (Some k) (find (λ j. tops j js js) ks))
+        by_test true e = refl
+        by_test false e = e
 
   pub commonest-map : (js : List ℕ) → list_all passes js ≡ true → commonest (map f js) ≡ option_map f (commonest js)
   unfolding tops
@@ -81,9 +81,9 @@ module _ (f : ℕ → ℕ) (passes : ℕ → Bool) (one : IsOneToOne f passes) w
       ap (λ (o : Option ℕ). cons_option o (answers_to (renamed_answers f a) qs)) (answer-renamed f a q)
       ∙ ap (λ (js : List ℕ). cons_option (option_map f (answer a q)) js) (answers_to-renamed a qs)
       ∙ cons_map (answer a q) (answers_to a qs) where
-    cons_map : (o : Option ℕ) (js : List ℕ) → cons_option (option_map f o) (map f js) ≡ map f (cons_option o js)
-    cons_map None js = refl
-    cons_map (Some j) js = refl
+        cons_map : (o : Option ℕ) (js : List ℕ) → cons_option (option_map f o) (map f js) ≡ map f (cons_option o js)
+        cons_map None js = refl
+        cons_map (Some j) js = refl
 
   rest_node-renamed : (r : Rest) → rest_node (renamed_rest f r) ≡ option_map f (rest_node r)
   rest_node-renamed Wins = refl
@@ -138,8 +138,8 @@ module _ (f : ℕ → ℕ) (passes : ℕ → Bool) (one : IsOneToOne f passes) w
       let mapped : f r.next ≡ f s.next = ap (λ (x : Reply). x.next) e in
       let next : r.next ≡ s.next = one-to-one r.next s.next q mapped in
       λ i. record { at = at i; next = next i } where
-    one-to-one : (j i : ℕ) → passes i ≡ true → f j ≡ f i → j ≡ i
-    one-to-one j i p e = (Decides-eqb j i).0 (sym (one.apart j i p) ∙ (Decides-eqb (f j) (f i)).1 e)
+        one-to-one : (j i : ℕ) → passes i ≡ true → f j ≡ f i → j ≡ i
+        one-to-one j i p e = (Decides-eqb j i).0 (sym (one.apart j i p) ∙ (Decides-eqb (f j) (f i)).1 e)
 
   replies-renamed : (rs ss : List Reply) → list_all passes (map (λ r. r.next) rs) ≡ true → list_all passes (map (λ r. r.next) ss) ≡ true → map (renamed_reply f) rs ≡ map (renamed_reply f) ss → rs ≡ ss
   replies-renamed [] [] h k e = refl
@@ -205,14 +205,14 @@ module _ (f : ℕ → ℕ) (passes : ℕ → Bool) (one : IsOneToOne f passes) w
       (sym (list_all-append passes (map (λ (r : Reply). r.next) a.replies) (rest_nodes a.rest)) ∙ h)
 
   contains-map : (js : List ℕ) (j : ℕ) → Contains js j → Contains (map f js) (f j)
-  contains-map [] j (k , l , e) = absurd (omega arith)
-  contains-map (x ∷ xs) j (zero , l , e) = (0, omega arith, ap f e)
-  contains-map (x ∷ xs) j (suc k , l , e) = let later = contains-map xs j (k , omega arith , e) in (suc later.0, omega arith, later.2)
+  contains-map [] j (k, l, e) = absurd (omega arith)
+  contains-map (x ∷ xs) j (zero, l, e) = (0, omega arith, ap f e)
+  contains-map (x ∷ xs) j (suc k, l, e) = let later = contains-map xs j (k, omega arith, e) in (suc later.0, omega arith, later.2)
 
   contained-passes : (js : List ℕ) (j : ℕ) → list_all passes js ≡ true → Contains js j → passes j ≡ true
-  contained-passes [] j h (k , l , e) = absurd (omega arith)
-  contained-passes (x ∷ xs) j h (zero , l , e) = subst (λ (k : ℕ). passes k ≡ true) e (and_left (passes x) _ h)
-  contained-passes (x ∷ xs) j h (suc k , l , e) = contained-passes xs j (and_right (passes x) _ h) (k , omega arith , e)
+  contained-passes [] j h (k, l, e) = absurd (omega arith)
+  contained-passes (x ∷ xs) j h (zero, l, e) = subst (λ (k : ℕ). passes k ≡ true) e (and_left (passes x) _ h)
+  contained-passes (x ∷ xs) j h (suc k, l, e) = contained-passes xs j (and_right (passes x) _ h) (k, omega arith, e)
 
   module _ (t u : List Node) (copies : Copies f passes t u) where
     visits_at-copied : (i : ℕ) → passes i ≡ true → visits_at u (f i) ≡ map f (visits_at t i)
@@ -244,9 +244,9 @@ module _ (f : ℕ → ℕ) (passes : ℕ → Bool) (one : IsOneToOne f passes) w
         (fold-copied (completed_within k t) (completed_within k u) (λ d j q. within-copied k d j q) (visits_at t i) done (visits_at-pass i p))
         ∙ ap (λ (ds : List ℕ). cond (is_among i done) (map f done) ds) (sym (map-append f (fold (completed_within k t) done (visits_at t i)) (i ∷ [])))
         ∙ by_test (is_among i done) where
-      by_test : (b : Bool) → cond b (map f done) (map f (fold (completed_within k t) done (visits_at t i) ++ i ∷ [])) ≡ map f (cond b done (fold (completed_within k t) done (visits_at t i) ++ i ∷ []))
-      by_test true = refl
-      by_test false = refl
+          by_test : (b : Bool) → cond b (map f done) (map f (fold (completed_within k t) done (visits_at t i) ++ i ∷ [])) ≡ map f (cond b done (fold (completed_within k t) done (visits_at t i) ++ i ∷ []))
+          by_test true = refl
+          by_test false = refl
 
     -- they reach copies of what the nodes reach
     pub reaches-copied : (i j : ℕ) → passes i ≡ true → Reaches t i j → Reaches u (f i) (f j)
@@ -285,7 +285,8 @@ module _ (f : ℕ → ℕ) (passes : ℕ → Bool) (one : IsOneToOne f passes) w
 
       stands_all-copied : (a : Answers) (bs : Branches) → list_all passes (named a) ≡ true → StandsForAll t a bs → StandsForAll u (renamed_answers f a) bs
       stands_all-copied a NoBranch all h = tt
-      stands_all-copied a (Branch q s bs) all h =
-          (subst (λ (o : Option ℕ). Answered o (λ j. StandsFor u j s)) (sym (answer-renamed f a q))
-          (answered-copied (answer a q) (λ j. StandsFor t j s) (λ j. StandsFor u j s) (λ j e k. stands-copied j s (answer-named passes a q j all e) k) h.0),
-          stands_all-copied a bs all h.1)
+      stands_all-copied a (Branch q s bs) all h = (
+        subst (λ (o : Option ℕ). Answered o (λ j. StandsFor u j s)) (sym (answer-renamed f a q))
+            (answered-copied (answer a q) (λ j. StandsFor t j s) (λ j. StandsFor u j s) (λ j e k. stands-copied j s (answer-named passes a q j all e) k) h.0),
+        stands_all-copied a bs all h.1,
+      )

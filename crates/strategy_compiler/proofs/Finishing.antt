@@ -1,23 +1,24 @@
 -- The table that is made of the nodes that a root reaches, in the order in which a walk completes them.
-use Rattle.std.proofs.Common.{◌≡◌, ℕ, zero, suc, ◌+◌, ◌-◌, ◌<◌, ◌≤◌, Bool, true, false, cond, not, ◌&&◌, ◌||◌, ◌==◌, List, [], ◌∷◌, ◌++◌, map, length, take, get_or, refl, sym, ap, subst, ◌∙◌, arith, length-append}
-use Rattle.std.specs.Prelude.{Option, Some, None, slice_get, fold, Contains}
+use Rattle.std.proofs.Common.{◌≡◌, ℕ, suc, ◌+◌, ◌<◌, Bool, true, false, cond, not, ◌||◌, ◌==◌, List, [], ◌∷◌, ◌++◌, map, length, take, get_or, refl, sym, ap, subst, ◌∙◌, arith, length-append}
+use Rattle.std.specs.Prelude.{Some, slice_get, fold, All}
 use Rattle.std.specs.List.{list_all, range_with_len}
 use Rattle.std.proofs.lemmas.List.{ext_get_or, get_or-map, length-map}
 use Rattle.std.proofs.lemmas.List.FromFn.{length-range_with_len, get_or-range_with_len}
-use Rattle.std.proofs.lemmas.Option.{slice_get_within, slice_get-get_or, get_or_from_slice_get}
+use Rattle.std.proofs.lemmas.Option.{slice_get_within, slice_get-get_or}
 use Rattle.std.proofs.lemmas.Bool.Decides.{Decides-eqb}
 use Rattle.game_rules.proofs.Boards.{and_left, and_right}
 use Rattle.strategy_graph.specs.declared.Node.{Node}
+use Rattle.strategy_graph.specs.declared.Reply.{Reply}
 use Rattle.strategy_graph.specs.Tables.{answers_of, named, IsNode, IsTable, NamesLower}
 use Rattle.strategy_graph.specs.Laws.{SaysSame}
 use Rattle.strategy_graph.proofs.Copies.{renamed, Copies}
 use Rattle.strategy_graph.proofs.Filling.{IsTable-lower}
 use Rattle.strategy_graph.proofs.Renumbering.{copies-same}
 use Rattle.strategy_compiler.specs.Trees.{Tree, StandsFor}
-use Rattle.strategy_compiler.specs.Walks.{AreDifferent, IsMadeFrom, IsNumberedByWalk, IsOrder, IsTableOf, Reaches, Renumbers, completed, completed_within, is_among, last, place_in, visits_at}
+use Rattle.strategy_compiler.specs.Walks.{AreDifferent, IsMadeFrom, IsNumberedByWalk, IsOrder, IsTableOf, NamesPointsReached, Reaches, Renumbers, completed, is_among, last, place_in, visits_at}
 use Rattle.strategy_compiler.proofs.Completing.{walked, walked-step, walked-itself, within-enough}
 use Rattle.strategy_compiler.proofs.Walking.{among-at}
-use Rattle.strategy_compiler.proofs.Places.{among-place, among-take, named-among, place-is, renamed-node}
+use Rattle.strategy_compiler.proofs.Places.{among-place, among-take, named-among, place-is, renamed-node, points-renamed}
 use Rattle.strategy_compiler.proofs.Copying.{IsOneToOne, nodes-renamed, within-copied, reaches-copied, stands-copied}
 
 some_equal : {X : Type 0} (x y : X) → Some x ≡ Some y → x ≡ y
@@ -64,11 +65,14 @@ module _ (t : List Node) (root : ℕ) (order : List ℕ) (u : List Node) (table 
   copied-node : (i : ℕ) → is_among i order ≡ true → (n : Node) × (slice_get t i ≡ Some n) × (slice_get u (place_in order i) ≡ Some (renamed (place_in order) n)) × (list_all (λ i. is_among i order) (named (answers_of n)) ≡ true)
   copied-node i p =
       let at = among-place order i p in
-      let r = re.each (place_in order i) i at in
-      (r.0, r.1, r.2,
-      all-weaker (λ j. is_among j (take (place_in order i) order)) (λ j. is_among j order)
-      (λ j h. let m = among-take order (place_in order i) j h in among-at order m.0 j m.2)
-      (named (answers_of r.0)) (named-among t root order (place_in order i) i r.0 is_order at r.1))
+      let r = re.each (place_in order i) i at in (
+        r.0,
+        r.1,
+        r.2,
+        all-weaker (λ j. is_among j (take (place_in order i) order)) (λ j. is_among j order)
+            (λ j h. let m = among-take order (place_in order i) j h in among-at order m.0 j m.2)
+            (named (answers_of r.0)) (named-among t root order (place_in order i) i r.0 is_order at r.1),
+      )
 
   copies : Copies (place_in order) (λ i. is_among i order) t u
   copies = record { copied = copied-node }
@@ -107,9 +111,9 @@ module _ (t : List Node) (root : ℕ) (order : List ℕ) (u : List Node) (table 
       let at : slice_get order (length before-root) ≡ Some root = ap (λ (js : List ℕ). slice_get js (length before-root)) order-is ∙ seam before-root root in
       let place = place-is t root order table is_order (length before-root) root at in
       omega (arith, long, count, place) where
-    seam : (js : List ℕ) (j : ℕ) → slice_get (js ++ j ∷ []) (length js) ≡ Some j
-    seam [] j = refl
-    seam (k ∷ js) j = seam js j
+        seam : (js : List ℕ) (j : ℕ) → slice_get (js ++ j ∷ []) (length js) ≡ Some j
+        seam [] j = refl
+        seam (k ∷ js) j = seam js j
 
   -- ---- what holds of every root
 
@@ -130,8 +134,8 @@ module _ (t : List Node) (root : ℕ) (order : List ℕ) (u : List Node) (table 
       get_or-map (place_in order) order k 0 0 inside
       ∙ place-is t root order table is_order k (get_or order k 0) (slice_get-get_or order k 0 inside)
       ∙ sym (get_or-range_with_len 0 (length u) k 0 (omega (arith, inside, count)) ∙ zero_plus k)) where
-    zero_plus : (k : ℕ) → 0 + k ≡ k
-    zero_plus k = omega arith
+        zero_plus : (k : ℕ) → 0 + k ≡ k
+        zero_plus k = omega arith
 
   pub made-numbered : IsNumberedByWalk u
   unfolding most
@@ -168,6 +172,21 @@ module _ (t : List Node) (root : ℕ) (order : List ℕ) (u : List Node) (table 
       (subst (Reaches u (place_in order root)) (place-is t root order table is_order k i e)
       (reaches-copied (place_in order) (λ i. is_among i order) (places-apart order) t u copies root i root-among (is_order.reached k i e)))
 
+  pub made-points : All (NamesPointsReached t root) u
+  made-points = λ k d l. point_at k (get_or u k d) (slice_get-get_or u k d l) where
+    point_at : (k : ℕ) (m : Node) → slice_get u k ≡ Some m → NamesPointsReached t root m
+    point_at k m at =
+        let e = number-at k (slice_get_within u k m at) in
+        let r = re.each k (get_or order k 0) e in
+        let is : renamed (place_in order) r.0 ≡ m = some_equal _ m (sym r.2 ∙ at) in (
+          get_or order k 0,
+          r.0,
+          is_order.reached k (get_or order k 0) e,
+          r.1,
+          sym (ap (λ (x : Node). x.attack) is),
+          ap (λ (x : Node). map (λ (y : Reply). y.at) x.replies) (sym is) ∙ points-renamed (place_in order) r.0.replies,
+        )
+
   -- ---- the table of each tree for which the root stands
 
   pub made-tree : (tree : Tree) → StandsFor t root tree → IsTableOf tree u
@@ -186,4 +205,5 @@ made-from t root order u table different is_order re = record {
   reached = made-reached t root order u table different is_order re;
   numbered = made-numbered t root order u table different is_order re;
   same = made-same t root order u table different is_order re;
+  points = made-points t root order u table different is_order re;
 }

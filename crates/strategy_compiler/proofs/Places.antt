@@ -1,6 +1,6 @@
 -- The places of numbers in an order, and nodes with these in place of the numbers.
 use Rattle.std.proofs.Common.{◌≡◌, ◌≢◌, ℕ, zero, suc, ◌+◌, ◌<◌, ◌≤◌, Bool, true, false, cond, not, ◌&&◌, ◌||◌, ◌==◌, List, [], ◌∷◌, ◌++◌, map, length, take, get_or, refl, sym, ap, subst, ◌∙◌, ◌⊎◌, inl, inr, arith, length-append, one-add}
-use Rattle.std.specs.Prelude.{Option, Some, None, nat_lt, slice_get, replicate, Contains, All}
+use Rattle.std.specs.Prelude.{Some, nat_lt, slice_get, replicate, Contains}
 use Rattle.std.specs.List.{list_all}
 use Rattle.std.proofs.Math.ListN.{set, length-set}
 use Rattle.std.proofs.lemmas.List.{get_or-set_same, get_or-set_other, length-replicate}
@@ -14,12 +14,11 @@ use Rattle.strategy_graph.specs.declared.Reply.{Reply}
 use Rattle.strategy_graph.specs.declared.Rest.{Rest}
 use Rattle.strategy_graph.specs.declared.Rest.TheVariants.{Wins, To, Nothing}
 use Rattle.strategy_graph.specs.declared.TheConstants.{MAX_NODES}
-use Rattle.strategy_graph.specs.Tables.{Answers, answers_of, named, names_below, rest_nodes, precedes, is_rising, is_winning, NamesLower, IsNode, IsTable}
+use Rattle.strategy_graph.specs.Tables.{answers_of, named, names_below, rest_nodes, precedes, is_rising, IsNode, IsTable}
 use Rattle.strategy_graph.proofs.Copies.{renamed, renamed_reply, renamed_rest, named-renamed, is_winning-renamed}
-use Rattle.strategy_graph.proofs.Filling.{IsTable-lower}
 use Rattle.strategy_graph.proofs.Growth.{names_below-more}
 use Rattle.strategy_compiler.specs.Walks.{is_among, place_in, IsOrder, Renumbers}
-use Rattle.strategy_compiler.proofs.Walking.{among-at, at-push}
+use Rattle.strategy_compiler.proofs.Walking.{among-at}
 use borrow.Author.Tests.{ltb-true, ltb-false, lt-ltb}
 
 -- ---- places
@@ -68,6 +67,7 @@ places-more order len places p once l low h = record { sized = length-set places
   here k i same e =
       let is : get_or order p 0 ≡ i = get_or_from_slice_get order p i 0 (subst (λ (m : ℕ). slice_get order m ≡ Some i) same e) in
       subst (λ (j : ℕ). get_or (set places (get_or order p 0) p) j 0 ≡ k) is (get_or-set_same places (get_or order p 0) p 0 (let sized = h.sized in omega (arith, sized, low)) ∙ sym same)
+
   before : (k i : ℕ) → k < p → slice_get order k ≡ Some i → get_or (set places (get_or order p 0) p) i 0 ≡ k
   before k i less e =
       let other : i ≢ get_or order p 0 = λ (same : i ≡ get_or order p 0). not_same k p less (once k p i e (slice_get-get_or order p 0 l ∙ ap Some (sym same))) in
@@ -181,11 +181,14 @@ module _ (t : List Node) (root : ℕ) (order : List ℕ) (table : IsTable t) (is
   } where
     before : (k j : ℕ) → k < p → slice_get order k ≡ Some j → (n : Node) × (slice_get t j ≡ Some n) × (slice_get (u ++ m ∷ []) k ≡ Some (renamed (place_in order) n))
     before k j low d = let old = h.each k j low d in (old.0, old.1, slice_get-kept u (m ∷ []) k (renamed (place_in order) old.0) old.2)
+
     here : (k j : ℕ) → k ≡ p → slice_get order k ≡ Some j → (n : Node) × (slice_get t j ≡ Some n) × (slice_get (u ++ m ∷ []) k ≡ Some (renamed (place_in order) n))
     here k j same d =
-        let number : i ≡ j = some_equal i j (sym e ∙ ap (slice_get order) (sym same) ∙ d) in
-        (n, subst (λ (x : ℕ). slice_get t x ≡ Some n) number at,
-        ap (slice_get (u ++ m ∷ [])) (same ∙ sym h.count) ∙ slice_get-seam u m ∙ ap Some (is ∙ renamed-places p i n e at f places))
+        let number : i ≡ j = some_equal i j (sym e ∙ ap (slice_get order) (sym same) ∙ d) in (
+          n,
+          subst (λ (x : ℕ). slice_get t x ≡ Some n) number at,
+          ap (slice_get (u ++ m ∷ [])) (same ∙ sym h.count) ∙ slice_get-seam u m ∙ ap Some (is ∙ renamed-places p i n e at f places),
+        )
 
   pub renumbers-all : (u : List Node) (p : ℕ) → p ≤ length order → length order ≤ p → RenumbersUpTo t order u p → Renumbers t order u
   renumbers-all u p l m h = record {

@@ -1,8 +1,7 @@
 -- A set of nodes in order: which node is at a place, and what is put in.
-use Rattle.std.proofs.Common.{◌≡◌, ◌⊎◌, inl, inr, ℕ, zero, suc, ◌+◌, ◌<◌, ◌≤◌, Bool, true, false, cond, ◌||◌, List, [], ◌∷◌, ◌++◌, length, get_or, refl, sym, ap, subst, ◌∙◌, arith}
-use Rattle.std.specs.Prelude.{Option, Some, None, slice_get, Contains, position}
+use Rattle.std.proofs.Common.{◌≡◌, inl, inr, ℕ, zero, suc, ◌<◌, ◌≤◌, Bool, true, false, cond, ◌||◌, List, [], ◌∷◌, ◌++◌, length, get_or, refl, sym, ap, subst, ◌∙◌, arith}
+use Rattle.std.specs.Prelude.{Some, slice_get, Contains, position}
 use Rattle.std.specs.List.{list_any, IsDistinct, AllByRecursion}
-use Rattle.std.specs.Bool.{Decides}
 use Rattle.std.proofs.lemmas.Map.Views.{Contains-from_any}
 use Rattle.std.proofs.lemmas.List.Quantifiers.{position-Some}
 use Rattle.std.proofs.lemmas.Option.{slice_get-get_or}
@@ -46,11 +45,11 @@ pub Contains-found : (n : Node) (ks : List Node) → list_any (node_ghosts.eq n)
 Contains-found n ks h = Contains-from_any same n ks h
 
 pub list_any-Contains : (n : Node) (ks : List Node) → list_any (node_ghosts.eq n) ks ≡ false → ¬ Contains ks n
-list_any-Contains n [] h (i , l , e) = absurd (omega arith)
-list_any-Contains n (k ∷ ks) h (zero , l , e) =
+list_any-Contains n [] h (i, l, e) = absurd (omega arith)
+list_any-Contains n (k ∷ ks) h (zero, l, e) =
     let equal : node_ghosts.eq n k ≡ true = subst (λ (m : Node). node_ghosts.eq n m ≡ true) (sym e) (itself n) in
     cc (equal, or_left (node_ghosts.eq n k) _ h)
-list_any-Contains n (k ∷ ks) h (suc i , l , e) = list_any-Contains n ks (or_right (node_ghosts.eq n k) _ h) (i , omega arith , e)
+list_any-Contains n (k ∷ ks) h (suc i, l, e) = list_any-Contains n ks (or_right (node_ghosts.eq n k) _ h) (i, omega arith, e)
 
 -- ---- what is put in
 
@@ -63,7 +62,7 @@ PutsIn-insert_key old n new h = put_by old n new (list_any (node_ghosts.eq n) ol
 
 -- the node is at the place where one is equal to it
 pub stored-at : (n : Node) (ks : List Node) (i : ℕ) → (k : Node) × (slice_get ks i ≡ Some k) × (node_ghosts.eq n k ≡ true) → slice_get ks i ≡ Some n
-stored-at n ks i (k , at , e) = at ∙ ap Some (sym (same n k e))
+stored-at n ks i (k, at, e) = at ∙ ap Some (sym (same n k e))
 
 -- ---- no two are equal
 

@@ -1,16 +1,15 @@
 -- A node stands for the same trees in each table that begins with its table.
-use Rattle.std.proofs.Common.{◌≡◌, ◌⊎◌, inl, inr, ℕ, zero, suc, List, [], ◌∷◌, ◌++◌, refl, sym, ap, subst, ◌∙◌}
-use Rattle.std.specs.Prelude.{Option, Some, None, Contains, slice_get}
+use Rattle.std.proofs.Common.{◌≡◌, inl, inr, ℕ, zero, suc, List, [], ◌∷◌, ◌++◌, refl, sym, subst}
+use Rattle.std.specs.Prelude.{Option, Some, None, slice_get}
 use Rattle.strategy_graph.specs.declared.Node.{Node}
 use Rattle.strategy_graph.specs.Tables.{Answers, answers_of, answer}
-use Rattle.strategy_graph.specs.Acceptance.{Answered}
 use Rattle.strategy_graph.specs.Leads.{AtNode}
 use Rattle.strategy_graph.proofs.Answering.{Answered-map}
 use Rattle.strategy_compiler.specs.Trees.{Tree, Branches, Leaf, Fork, NoBranch, Branch, StandsFor, StandsForAll, GrowthKeepsTrees}
 use Rattle.strategy_compiler.specs.Nodes.{PutsIn}
 
 -- a longer table has the nodes of the shorter
-slice_get-longer : (t more : List Node) (i : ℕ) (n : Node) → slice_get t i ≡ Some n → slice_get (t ++ more) i ≡ Some n
+pub slice_get-longer : (t more : List Node) (i : ℕ) (n : Node) → slice_get t i ≡ Some n → slice_get (t ++ more) i ≡ Some n
 slice_get-longer [] more i n h = cc
 slice_get-longer (m ∷ t) more zero n h = h
 slice_get-longer (m ∷ t) more (suc i) n h = slice_get-longer t more i n h

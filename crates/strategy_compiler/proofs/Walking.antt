@@ -1,25 +1,26 @@
 -- The walk that completes nodes, step by step.
-use Rattle.std.proofs.Common.{◌≡◌, ◌≢◌, ℕ, zero, suc, ◌+◌, ◌*◌, ◌<◌, ◌≤◌, Bool, true, false, cond, not, ◌&&◌, ◌||◌, ◌==◌, List, [], ◌∷◌, ◌++◌, map, reverse, length, take, drop, get_or, refl, sym, ap, subst, ◌∙◌, ◌⊎◌, inl, inr, arith, drop-cons, add-one, length-append}
+use Rattle.std.proofs.Common.{◌≡◌, ◌≢◌, ℕ, zero, suc, ◌+◌, ◌<◌, ◌≤◌, Bool, true, false, cond, not, ◌||◌, ◌==◌, List, [], ◌∷◌, ◌++◌, map, reverse, length, take, drop, get_or, refl, sym, ap, subst, ◌∙◌, ◌⊎◌, inl, inr, arith, drop-cons, add-one, length-append}
 use Rattle.std.specs.Prelude.{Option, Some, None, nat_lt, slice_get, fold, replicate, Contains, All}
-use Rattle.std.specs.List.{list_all, list_any, find, sum_by, AllByRecursion}
+use Rattle.std.specs.List.{list_all, find, sum_by}
 use Rattle.std.specs.Option.{option_map_or}
 use Rattle.std.proofs.lemmas.Option.{slice_get_within, slice_get_read}
 use Rattle.std.proofs.lemmas.List.{take-append-le}
 use Rattle.std.proofs.lemmas.List.Elements.{Contains-append_cases, Contains-append_left, Contains-append_right}
 use Rattle.std.proofs.Math.Seq.{take-append_seam}
 use Rattle.std.proofs.Math.ListN.{set, drop_of_length-le, length-set}
-use Rattle.std.proofs.lemmas.List.{get_or-set_same, get_or-set_other, get_or-replicate, length-replicate, reverse-append, get_or_push}
-use Rattle.std.proofs.lemmas.List.Sums.{sum_by-set, get_or-le-sum_by}
+use Rattle.std.proofs.lemmas.List.{get_or-set_same, get_or-set_other, length-replicate, reverse-append}
+use Rattle.std.proofs.lemmas.List.Sums.{sum_by-set}
 use Rattle.std.proofs.lemmas.List.Folds.{sum_by-replicate}
-use Rattle.std.proofs.lemmas.Bool.Decides.{Decides-eqb, nat_tests}
+use Rattle.std.proofs.lemmas.Bool.Decides.{Decides-eqb}
 use Rattle.game_rules.proofs.Boards.{and_left, and_right}
 use Rattle.strategy_graph.specs.declared.Node.{Node}
 use Rattle.strategy_graph.specs.declared.Reply.{Reply}
 use Rattle.strategy_graph.specs.Tables.{Answers, answers_of, named, names_below, rest_nodes, NamesLower}
 use Rattle.strategy_graph.proofs.Naming.{reply-below}
 use Rattle.strategy_graph.proofs.Growth.{names_below-more}
-use Rattle.strategy_compiler.specs.Walks.{visits, visits_at, is_among, completed_within, completed, IsOrder, Reaches, Itself, Through}
-use Rattle.strategy_compiler.proofs.Completing.{among-push, among-last, among-kept, among-other, walked, walked-first, walked-last, walked-done}
+use Rattle.strategy_compiler.specs.Walks.{visits, visits_at, is_among, completed, IsOrder, Reaches, Itself, Through, GrowthKeepsReach}
+use Rattle.strategy_compiler.proofs.Standing.{slice_get-longer}
+use Rattle.strategy_compiler.proofs.Completing.{among-push, among-last, among-other, walked, walked-first, walked-last}
 use borrow.Author.Tests.{ltb-true, lt-ltb}
 
 -- ---- the first that passes, of those that are left
@@ -119,11 +120,11 @@ found-in p (j ∷ js) c h = by_test (p j) h (found-in p js c) where
   by_test false e next = let later = next e in (suc later.0, omega arith, later.2)
 
 none-left : (p : ℕ → Bool) (js : List ℕ) (j : ℕ) → find (λ j. not (p j)) js ≡ None → Contains js j → p j ≡ true
-none-left p [] j h (k , l , e) = absurd (omega arith)
+none-left p [] j h (k, l, e) = absurd (omega arith)
 none-left p (x ∷ xs) j h c = by_test (p x) refl h (none-left p xs j) c where
   by_test : (b : Bool) → p x ≡ b → cond (not b) (Some x) (find (λ j. not (p j)) xs) ≡ None → (find (λ j. not (p j)) xs ≡ None → Contains xs j → p j ≡ true) → Contains (x ∷ xs) j → p j ≡ true
-  by_test true e h next (zero , l , same) = subst (λ (k : ℕ). p k ≡ true) same e
-  by_test true e h next (suc k , l , same) = next h (k , omega arith , same)
+  by_test true e h next (zero, l, same) = subst (λ (k : ℕ). p k ≡ true) same e
+  by_test true e h next (suc k, l, same) = next h (k, omega arith, same)
   by_test false e h next c = cc
 
 -- what is visited is what is named, in another order
@@ -208,9 +209,9 @@ lt_trans : (a b c : ℕ) → a < b → b < c → a < c
 lt_trans a b c h k = omega arith
 
 all-contains : (p : ℕ → Bool) (js : List ℕ) (j : ℕ) → list_all p js ≡ true → Contains js j → p j ≡ true
-all-contains p [] j h (k , l , e) = absurd (omega arith)
-all-contains p (x ∷ xs) j h (zero , l , e) = subst (λ (k : ℕ). p k ≡ true) e (and_left (p x) _ h)
-all-contains p (x ∷ xs) j h (suc k , l , e) = all-contains p xs j (and_right (p x) _ h) (k , omega arith , e)
+all-contains p [] j h (k, l, e) = absurd (omega arith)
+all-contains p (x ∷ xs) j h (zero, l, e) = subst (λ (k : ℕ). p k ≡ true) e (and_left (p x) _ h)
+all-contains p (x ∷ xs) j h (suc k, l, e) = all-contains p xs j (and_right (p x) _ h) (k, omega arith, e)
 
 -- a node names only nodes below it
 pub named-below : (t : List Node) → NamesLower t → (i : ℕ) (n : Node) → slice_get t i ≡ Some n → (j : ℕ) → Contains (named (answers_of n)) j → j < i
@@ -358,3 +359,23 @@ path-start t root flags order empty path l f o e p =
     subst (IsWalk t root flags order) (sym (way-last path empty root p ∙ ap (λ (xs : List ℕ). root ∷ reverse xs) e))
     (subst (λ (fs : List Bool). IsWalk t root fs order (root ∷ [])) (sym f)
     (subst (λ (os : List ℕ). IsWalk t root (replicate (length t) false) os (root ∷ [])) (sym o) (walk-start t root (length t) refl l)))
+
+-- ---- what a node reaches, however the table grows
+
+slice_get-shorter : (t more : List Node) (i : ℕ) (n : Node) → i < length t → slice_get (t ++ more) i ≡ Some n → slice_get t i ≡ Some n
+slice_get-shorter [] more i n l h = absurd (omega arith)
+slice_get-shorter (m ∷ t) more zero n l h = h
+slice_get-shorter (m ∷ t) more (suc i) n l h = slice_get-shorter t more i n (omega arith) h
+
+pub reaches-longer : (t more : List Node) (i k : ℕ) → Reaches t i k → Reaches (t ++ more) i k
+reaches-longer t more _ _ (Itself i) = Itself i
+reaches-longer t more _ _ (Through i j k n at c r) = Through i j k n (slice_get-longer t more i n at) c (reaches-longer t more j k r)
+
+pub reaches-shorter : (t more : List Node) → NamesLower t → (i k : ℕ) → i < length t → Reaches (t ++ more) i k → Reaches t i k
+reaches-shorter t more lower _ _ l (Itself i) = Itself i
+reaches-shorter t more lower _ _ l (Through i j k n at c r) =
+    let here = slice_get-shorter t more i n l at in
+    Through i j k n here c (reaches-shorter t more lower j k (lt_trans j i (length t) (named-below t lower i n here j c) l) r)
+
+pub growth_keeps-reach : GrowthKeepsReach
+growth_keeps-reach t more lower i k l = (reaches-shorter t more lower i k l, reaches-longer t more i k)

@@ -1,5 +1,5 @@
 -- The nodes of a compiler: which node answers given replies, and what is added.
-use Rattle.std.specs.Prelude.{◌≡◌, ◌⊎◌, ℕ, not, nat_eq, List, [], ◌∷◌, ◌++◌, map, Contains, Option, Some, None}
+use Rattle.std.specs.Prelude.{◌≡◌, ◌⊎◌, ℕ, not, nat_eq, List, [], ◌∷◌, ◌++◌, map, All, Contains, Option, Some, None}
 use Rattle.std.specs.List.{filter}
 use Rattle.std.specs.Option.{option_eq}
 use Rattle.game_rules.specs.declared.Point.{Point}
@@ -41,3 +41,8 @@ answering_node attack answers =
 -- the nodes after n is put in: they stay where one is equal to it, and else n is added last
 abbrev pub PutsIn : List Node → Node → List Node → Type 0
 PutsIn old n new = (Contains old n × (new ≡ old)) ⊎ ((¬ Contains old n) × (new ≡ old ++ n ∷ []))
+
+-- the node names no points but the attack and these
+pub record NamesOnly (attack : Point) (points : List Point) (n : Node) : Type 0 where
+  pub attack_is : n.attack ≡ attack
+  pub replies_among : All (λ r. Contains points r.at) n.replies

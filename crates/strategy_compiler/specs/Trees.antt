@@ -1,10 +1,9 @@
 -- Trees of moves, and which nodes of a table stand for one.
-use Rattle.std.specs.Prelude.{◌≡◌, ℕ, Bool, true, false, not, ◌==◌, nat_le, nat_eq, List, [], ◌∷◌, ◌++◌, map, Option, Some, None, slice_get}
+use Rattle.std.specs.Prelude.{◌≡◌, ℕ, true, not, ◌==◌, nat_le, nat_eq, List, [], ◌∷◌, ◌++◌, map, Option, slice_get}
 use Rattle.std.specs.List.{count_by, list_all, find, filter, filter_map}
 use Rattle.std.specs.Option.{option_eq}
 use Rattle.game_rules.specs.declared.Point.{Point}
 use Rattle.strategy_graph.specs.declared.Reply.{Reply}
-use Rattle.strategy_graph.specs.declared.Rest.{Rest}
 use Rattle.strategy_graph.specs.declared.Rest.TheVariants.{Nothing}
 use Rattle.strategy_graph.specs.declared.Node.{Node}
 use Rattle.strategy_graph.specs.Tables.{Answers, answers_of, answer, rest_node, is_winning}

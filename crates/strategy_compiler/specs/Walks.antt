@@ -1,9 +1,9 @@
 -- Walks over the nodes of a table: what a node reaches, the order in which a walk completes nodes, and the table of a tree.
-use Rattle.std.specs.Prelude.{◌≡◌, ℕ, zero, suc, ◌-◌, ◌<◌, ◌≤◌, ◌==◌, if◌then◌else◌, List, [], ◌∷◌, ◌++◌, map, fold, length, take, Bool, true, Contains, Option, Some, None, slice_get}
+use Rattle.std.specs.Prelude.{◌≡◌, ◌↔◌, ℕ, zero, suc, ◌-◌, ◌<◌, ◌≤◌, ◌==◌, if◌then◌else◌, List, [], ◌∷◌, ◌++◌, map, fold, length, take, Bool, true, All, Contains, Some, slice_get}
 use Rattle.std.specs.List.{list_any, position_or_len, range_with_len}
 use Rattle.std.specs.Option.{option_map_or}
 use Rattle.strategy_graph.specs.declared.Node.{Node}
-use Rattle.strategy_graph.specs.Tables.{Answers, answers_of, rest_nodes, named, IsTable}
+use Rattle.strategy_graph.specs.Tables.{Answers, answers_of, rest_nodes, named, NamesLower, IsTable}
 use Rattle.strategy_graph.specs.Laws.{SaysSame}
 use Rattle.strategy_graph.proofs.Copies.{renamed}
 use Rattle.strategy_compiler.specs.Trees.{Tree, StandsFor}
@@ -75,6 +75,11 @@ pub record IsOrder (t : List Node) (root : ℕ) (order : List ℕ) : Type 0 wher
   pub reached : (k i : ℕ) → slice_get order k ≡ Some i → Reaches t root i
   pub short : length order ≤ length t
 
+-- the node names the points of one that the root reaches in t
+abbrev pub NamesPointsReached : List Node → ℕ → Node → Type 0
+NamesPointsReached t root m =
+    (i : ℕ) × (n : Node) × Reaches t root i × (slice_get t i ≡ Some n) × (m.attack ≡ n.attack) × (map (λ r. r.at) m.replies ≡ map (λ r. r.at) n.replies)
+
 -- table u is made of the nodes that the root reaches in t: the table of each tree for which the root stands, with the root as
 -- its last node, which says the same
 pub record IsMadeFrom (t : List Node) (root : ℕ) (u : List Node) : Type 0 where
@@ -84,3 +89,8 @@ pub record IsMadeFrom (t : List Node) (root : ℕ) (u : List Node) : Type 0 wher
   pub reached : (i : ℕ) → i < length u → Reaches u (last u) i
   pub numbered : IsNumberedByWalk u
   pub same : SaysSame t root u (last u)
+  pub points : All (NamesPointsReached t root) u
+
+-- a node reaches the same nodes however the table grows
+abbrev pub GrowthKeepsReach : Type 0
+GrowthKeepsReach = (t more : List Node) → NamesLower t → (i k : ℕ) → i < length t → Reaches (t ++ more) i k ↔ Reaches t i k

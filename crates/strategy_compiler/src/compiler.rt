@@ -1,13 +1,14 @@
 // The compiler: a set of nodes in the order in which they were put in.
 #![tactic(auto)]
 
-ghost use Rattle.std.specs.Prelude.{◌≡◌, ◌↔◌, ◌<◌, ◌≤◌, [], true, ℕ, List, All, Contains, length, slice_get, Some, IfOk, OnOk, OnErr, IsErr, IsErrOf};
+ghost use Rattle.std.specs.Prelude.{◌≡◌, ◌↔◌, ◌<◌, ◌≤◌, [], true, ℕ, List, map, All, Contains, length, slice_get, Some, IfOk, OnOk, OnErr, IsErr, IsErrOf};
 ghost use Rattle.strategy_graph.specs.declared.Node.{Node};
 ghost use Rattle.strategy_graph.specs.Tables.{IsNode, answer_at, is_rising, is_winning};
+ghost use Rattle.strategy_graph.specs.Leads.{AtNode};
 ghost use Rattle.strategy_graph.specs.Laws.{SaysSame};
 ghost use Rattle.strategy_compiler.specs.Trees.{Tree, Branches, Leaf, Fork, StandsFor, AnswersBranches};
-ghost use Rattle.strategy_compiler.specs.Walks.{AreDifferent, IsNumberedByWalk, IsTableOf, Reaches, Renumbers, completed, last};
-ghost use Rattle.strategy_compiler.specs.Nodes.{IsCompiled, PutsIn, answering_node, winning_node};
+ghost use Rattle.strategy_compiler.specs.Walks.{AreDifferent, IsNumberedByWalk, IsTableOf, NamesPointsReached, Reaches, Renumbers, completed, last};
+ghost use Rattle.strategy_compiler.specs.Nodes.{IsCompiled, NamesOnly, PutsIn, answering_node, winning_node};
 
 use crate::renumbering::table_from;
 use crate::rests::answering;
@@ -81,11 +82,14 @@ impl Compiler {
         ensures compiled { IsCompiled self.new }
     {
         let replies = Replies::new(*self.nodes.allocator());
-        put_in(&mut self.nodes, Node {
-            attack,
-            replies,
-            rest: Rest::Wins,
-        })
+        put_in(
+            &mut self.nodes,
+            Node {
+                attack,
+                replies,
+                rest: Rest::Wins,
+            },
+        )
     }
 
     /// Puts the node in that plays this attack and answers each of these replies with its node, and answers its number: that
@@ -101,6 +105,7 @@ impl Compiler {
         requires below { All (λ r. r.next < length self.old) answers.now }
         ensures node { IfOk result (λ i. slice_get self.new i ≡ Some (answering_node attack answers.now)) }
         ensures answers { IfOk result (λ i. All (λ r. answer_at self.new i r.at ≡ Some r.next) answers.now) }
+        ensures points { IfOk result (λ i. AtNode (slice_get self.new i) (NamesOnly attack (map (λ r. r.at) answers.now))) }
         ensures stands { IfOk result (λ i. (branches : Branches) → AnswersBranches self.old answers.now branches → StandsFor self.new i (Fork attack branches)) }
         ensures put_in { OnOk result (PutsIn self.old (answering_node attack answers.now) self.new) }
         ensures full_only { IsErrOf result CompileError.Full → (¬ Contains self.old (answering_node attack answers.now)) × (length self.old ≡ MAX_NODES) }
@@ -127,6 +132,7 @@ impl Compiler {
         ensures reached { IfOk result (λ t. (i : ℕ) → i < length t → Reaches t (last t) i) }
         ensures numbered { IfOk result IsNumberedByWalk }
         ensures same { IfOk result (λ t. SaysSame self root t (last t)) }
+        ensures points { IfOk result (λ t. All (NamesPointsReached self root) t) }
     {
         table_from(*self.nodes.allocator(), self.nodes.as_slice(), root)
     }

@@ -16,4 +16,4 @@ mod theorems;
 mod walk;
 
 pub use compiler::{CompileError, Compiler};
-pub use theorems::growth_keeps_trees;
+pub use theorems::{growth_keeps_reach, growth_keeps_trees};

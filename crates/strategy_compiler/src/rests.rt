@@ -22,6 +22,10 @@ fn commonest_next(answers: &[Reply]) -> Option<u32>
     let mut best = None;
     let mut most = 0;
     for answer in answers {
+        // Most replies have one answer in common, which is not counted again.
+        if best == Some(answer.next) {
+            continue;
+        }
         let count = times(answers, answer.next);
         if count > most {
             best = Some(answer.next);
@@ -59,11 +63,7 @@ fn answers_beside(
 }
 
 /// The node that plays this attack and answers these replies.
-pub(crate) fn answering(
-    alloc: Global,
-    attack: Point,
-    answers: &[Reply],
-) -> Result<Node, AllocError>
+pub(crate) fn answering(alloc: Global, attack: Point, answers: &[Reply]) -> Result<Node, AllocError>
     ensures node { IfOk result (λ node. node ≡ answering_node attack answers.now) }
 {
     let rest = commonest_next(answers);

@@ -1,9 +1,15 @@
-// The laws of trees, each as the contract of a function that computes nothing.
+// The laws of trees and of walks, each as the contract of a function that computes nothing.
 #![tactic(auto)]
 
 ghost use Rattle.strategy_compiler.specs.Trees.{GrowthKeepsTrees};
+ghost use Rattle.strategy_compiler.specs.Walks.{GrowthKeepsReach};
 
 /// A node stands for the same trees in each table that begins with this one.
 pub fn growth_keeps_trees()
     ensures same { GrowthKeepsTrees }
+{}
+
+/// A node reaches the same nodes in each table that begins with this one.
+pub fn growth_keeps_reach()
+    ensures same { GrowthKeepsReach }
 {}

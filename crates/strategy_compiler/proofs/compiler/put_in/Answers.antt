@@ -1,6 +1,5 @@
 -- What the set says of the node, by the place at which an equal one is found or put.
-use Rattle.std.proofs.Common.{refl, sym, arith, ◌≡◌, ◌<◌, length, ◌∙◌}
-use Rattle.strategy_graph.specs.declared.TheConstants.{MAX_NODES}
+use Rattle.std.proofs.Common.{refl, sym, arith}
 use Rattle.strategy_compiler.proofs.Sets.{position-found, Contains-found, list_any-Contains, PutsIn-insert_key, PutsIn-found, stored-at, IsCompiled-insert_key}
 use Rattle.strategy_compiler.proofs.compiler.put_in.Goals as goal
 

@@ -1,4 +1,4 @@
-use Rattle.std.proofs.Common.{◌≡◌, ℕ, map, take, get_or}
+use Rattle.std.proofs.Common.{◌≡◌, map, take, get_or}
 use Rattle.strategy_graph.proofs.Copies.{renamed_reply}
 use Rattle.strategy_compiler.proofs.renumbering.renumbered_replies.Given as goal
 

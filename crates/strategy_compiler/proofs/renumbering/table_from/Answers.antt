@@ -1,4 +1,4 @@
-use Rattle.std.proofs.Common.{sym, subst, List, ℕ}
+use Rattle.std.proofs.Common.{sym, subst}
 use Rattle.std.proofs.lemmas.Result.{IfOk-weaker}
 use Rattle.strategy_compiler.specs.Walks.{IsMadeFrom, IsOrder, Renumbers}
 use Rattle.strategy_compiler.proofs.Finishing.{made-from}

@@ -1,5 +1,5 @@
 -- Node by node, in the order.
-use Rattle.std.proofs.Common.{length, get_or, ap, ◌∙◌, List, ℕ, refl}
+use Rattle.std.proofs.Common.{length, get_or, ap, ◌∙◌, List, ℕ}
 use Rattle.strategy_compiler.proofs.Places.{renumbers-none, renumbers-all, names-places, node-next, renumbers-next}
 use Rattle.strategy_compiler.proofs.renumbering.table_of.Goals as goal
 

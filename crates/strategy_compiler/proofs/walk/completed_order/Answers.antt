@@ -1,6 +1,6 @@
 -- The walk goes down to a node that is not completed, or completes the last one of its way.
-use Rattle.std.proofs.Common.{◌≡◌, refl, sym, ap, ◌∙◌, ◌*◌, ◌+◌, length, reverse, subst, List, ℕ, Bool}
-use Rattle.strategy_compiler.proofs.Walking.{IsWalk, unset, path-start, named-in-flags, path-push, path-push-lower, path-complete}
+use Rattle.std.proofs.Common.{◌*◌, ◌+◌, length}
+use Rattle.strategy_compiler.proofs.Walking.{unset, path-start, named-in-flags, path-push, path-push-lower, path-complete}
 use Rattle.strategy_compiler.proofs.walk.completed_order.Goals as goal
 
 pub loop-number-init : goal.loop-number-init

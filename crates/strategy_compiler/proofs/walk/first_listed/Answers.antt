@@ -1,5 +1,5 @@
 -- The first of those that are left.
-use Rattle.std.proofs.Common.{◌≡◌, refl, sym, ap, ◌∙◌, not, false}
+use Rattle.std.proofs.Common.{sym, ap, ◌∙◌, not, false}
 use Rattle.std.specs.Prelude.{slice_index_or}
 use Rattle.strategy_graph.specs.declared.Reply.{Reply}
 use Rattle.strategy_compiler.proofs.Walking.{find-next_hit, find-next_miss, find-next_none}

@@ -1,5 +1,4 @@
-use Rattle.std.proofs.Common.{◌≡◌, ◌+◌, ℕ, not, false, find, map, drop, get_or}
-use Rattle.strategy_graph.specs.declared.Reply.{Reply}
+use Rattle.std.proofs.Common.{◌≡◌, not, false, find, map, drop, get_or}
 use Rattle.strategy_compiler.proofs.walk.first_listed.Given as goal
 
 abbrev pub invariant-loop-reply : goal.invariant-loop-reply
