@@ -17,3 +17,6 @@ mod walk;
 
 pub use compiler::{CompileError, Compiler};
 pub use theorems::{growth_keeps_reach, growth_keeps_trees};
+
+#[cfg(test)]
+mod tests;
