@@ -164,6 +164,18 @@ answering-as_given attack rs h =
     as_given (answers_of (answering_node attack rs)) (commonest_next rs) rs rs refl (rest_node-of (commonest_next rs))
     (kept_all (λ r. not (option_eq nat_eq (Some r.next) (commonest_next rs))) rs h)
 
+filter-all : (rs : List Reply) → filter (λ r. true) rs ≡ rs
+filter-all [] = refl
+filter-all (r ∷ rs) = ap (λ (xs : List Reply). r ∷ xs) (filter-all rs)
+
+-- each reply of a rising list is answered as it is listed
+pub answered-as-listed : (a : Answers) → is_rising a.replies ≡ true → AllByRecursion (λ r. answer a r.at ≡ Some r.next) a.replies
+unfolding Kept
+answered-as-listed a h = each a.replies (kept_all (λ r. true) a.replies h) where
+  each : (rs : List Reply) → AllByRecursion (Kept (λ r. true) a.replies) rs → AllByRecursion (λ r. answer a r.at ≡ Some r.next) rs
+  each [] k = tt
+  each (r ∷ rs) k = (ap (λ (o : Option ℕ). option_or o (rest_node a.rest)) (sym (ap (λ (xs : List Reply). listed xs r.at) (filter-all a.replies)) ∙ k.0), each rs k.1)
+
 -- in a table that has the node
 pub answers-at : (t : List Node) (i : ℕ) (attack : Point) (rs : List Reply) → slice_get t i ≡ Some (answering_node attack rs) → is_rising rs ≡ true → All (λ r. answer_at t i r.at ≡ Some r.next) rs
 answers-at t i attack rs at h =

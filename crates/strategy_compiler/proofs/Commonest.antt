@@ -4,12 +4,12 @@ use Rattle.std.specs.Prelude.{Option, Some, None, IsSome, nat_le, nat_eq}
 use Rattle.std.specs.Option.{option_eq}
 use Rattle.std.specs.List.{find, list_all, count_by, sum_by}
 use Rattle.std.proofs.lemmas.Bool.Decides.{nat_tests, Decides-eqb}
-use borrow.Author.Tests.{leb-true, le-leb}
+use borrow.Author.Tests.{leb-true, leb-false, le-leb}
 use Rattle.std.proofs.lemmas.List.{map_more, take_all}
 use Rattle.std.proofs.lemmas.List.Sums.{sum_by-cons, get_or-le-sum_by}
 use Rattle.strategy_graph.specs.declared.Reply.{Reply}
 use Rattle.strategy_graph.specs.Tables.{greatest}
-use Rattle.strategy_compiler.specs.Trees.{times}
+use Rattle.strategy_compiler.specs.Trees.{commonest, times}
 use Rattle.strategy_compiler.specs.Nodes.{commonest_next}
 
 -- how many of the answers are the node j
@@ -165,3 +165,22 @@ commonest-all answers i best most l h =
     let all : IsBestSoFar (answers_of_node answers) nexts best most = subst (λ (rs : List Reply). IsCommonestSoFar answers rs best most) (take_all i answers l) h in
     best-all (answers_of_node answers) nexts best most all
     ∙ ap (λ (f : ℕ → ℕ). find (λ j. list_all (λ k. nat_le (f k) (f j)) nexts) nexts) (λ p j. times-map answers j p)
+
+-- ---- some number is the commonest
+
+some-greatest : (f : ℕ → ℕ) (m : ℕ) (js : List ℕ) → 1 ≤ m → m ≤ greatest (map f js) → find (λ j. nat_le m (f j)) js ≡ None → ⊥
+some-greatest f m [] l h e = absurd (omega arith)
+some-greatest f m (j ∷ js) l h e = by_test (nat_le m (f j)) refl e (some-greatest f m js l) where
+  by_test : (b : Bool) → nat_le m (f j) ≡ b → cond b (Some j) (find (λ j. nat_le m (f j)) js) ≡ None → (m ≤ greatest (map f js) → find (λ j. nat_le m (f j)) js ≡ None → ⊥) → ⊥
+  by_test true k e next = cc
+  by_test false k e next = let low : f j < m = leb-false _ _ k in next (omega (arith, h, low)) e
+
+pub commonest-there : (j : ℕ) (js : List ℕ) → commonest (j ∷ js) ≡ None → ⊥
+commonest-there j js e =
+    let f : ℕ → ℕ = λ k. times k (j ∷ js) in
+    let once = sum_by-cons (λ k. cond (k == j) 1 0) j js in
+    let one : ℕ = 1 in
+    let here : cond (j == j) one 0 ≡ one = ap (λ (b : Bool). cond b one 0) ((Decides-eqb j j).1 refl) in
+    let low : one ≤ f j = omega (arith, once, here) in
+    some-greatest f (greatest (map f (j ∷ js))) (j ∷ js) (omega (arith, low)) (omega arith)
+    (ap (λ (p : ℕ → Bool). find p (j ∷ js)) (λ i k. sym (le_greatest f (f k) (j ∷ js)) i) ∙ e)

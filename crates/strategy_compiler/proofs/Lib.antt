@@ -7,3 +7,4 @@ pub mod Walking
 pub mod Places
 pub mod Copying
 pub mod Finishing
+pub mod Unique

@@ -65,6 +65,10 @@ pub record IsTableOf (tree : Tree) (t : List Node) : Type 0 where
   pub different : AreDifferent t
   pub numbered : IsNumberedByWalk t
 
+-- a tree has one table
+abbrev pub TreeHasOneTable : Type 0
+TreeHasOneTable = (tree : Tree) (t u : List Node) → IsTableOf tree t → IsTableOf tree u → t ≡ u
+
 -- the order in which a walk from the root completes nodes: each is a node that the root reaches, comes once, and comes after
 -- all that it names
 pub record IsOrder (t : List Node) (root : ℕ) (order : List ℕ) : Type 0 where

@@ -16,7 +16,7 @@ mod theorems;
 mod walk;
 
 pub use compiler::{CompileError, Compiler};
-pub use theorems::{growth_keeps_reach, growth_keeps_trees};
+pub use theorems::{growth_keeps_reach, growth_keeps_trees, tree_has_one_table};
 
 #[cfg(test)]
 mod tests;
