@@ -54,7 +54,8 @@ or_true : (a c : Bool) → c ≡ true → (a || c) ≡ true
 or_true true c h = refl
 or_true false c h = h
 
-axis_of : (f : Axis → Bool) (d : Axis) → f d ≡ true → list_any f axes ≡ true
+-- a test that holds on an axis holds on one of the four
+pub axis_of : (f : Axis → Bool) (d : Axis) → f d ≡ true → list_any f axes ≡ true
 axis_of f Row h = rw h refl
 axis_of f Column h = or_true (f Row) _ (rw h refl)
 axis_of f Down h = or_true (f Row) _ (or_true (f Column) _ (rw h refl))
@@ -84,7 +85,7 @@ and_both : (a c : Bool) → a ≡ true → c ≡ true → (a && c) ≡ true
 and_both true c e h = h
 and_both false c e h = e
 
-false_by : (r : Bool) → (r ≡ true → ⊥) → r ≡ false
+pub false_by : (r : Bool) → (r ≡ true → ⊥) → r ≡ false
 false_by true h = absurd (h refl)
 false_by false h = refl
 

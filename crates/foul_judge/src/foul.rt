@@ -6,15 +6,15 @@
 //! allowed to stand is decided by this recursion alone.)
 #![tactic(auto)]
 
-ghost use Rattle.std.specs.Prelude.{◌≡◌, ◌<◌, ◌&&◌, IsTrue, is_none, nat_le, ◌==◌};
+ghost use Rattle.std.specs.Prelude.{◌≡◌, ◌<◌, IsTrue, nat_le, ◌==◌};
 ghost use Rattle.std.specs.List.{list_any, count_by, sum_by};
-ghost use Rattle.game_rules.specs.Grid.{IsBoard, is_on, is_empty, holds, along as along_lem, axes};
-ghost use Rattle.game_rules.specs.Shapes.{is_at as is_at_lem, is_in_run as is_in_run_lem, is_three_point as is_three_point_lem, is_straight, run_of, fours_of};
+ghost use Rattle.game_rules.specs.Grid.{IsBoard, is_empty, holds, along as along_lem, axes};
+ghost use Rattle.game_rules.specs.Shapes.{is_line_three_at, run_of, fours_of};
 ghost use Rattle.game_rules.specs.Play.{is_three as is_three_lem, stone_foul as stone_foul_lem, black_foul as black_foul_lem, foul_of};
 ghost use Rattle.foul_judge.specs.Threes.{free_three};
 
 use game_rules::Foul;
-use row_shapes::{Rule, five_at, fours_through, straight_through};
+use row_shapes::{Rule, five_at, fours_through, three_points};
 use stone_board::{Axis, Board, Point, Side};
 
 /// The foul that a stone of Black makes on an empty point: none where the rule has no fouls, and none where the stone
@@ -80,8 +80,8 @@ fn threes<R: Rule>(board: &mut Board, p: Point) -> u32
         + u32::from(is_three::<R>(board, Axis::Up, p))
 }
 
-/// Whether the axis has a three point of Black's stone on `p` where Black has no foul. A three point is at most three
-/// steps away.
+/// Whether the axis has a three point of Black's stone on `p` where Black has no foul. The stone is on place 5 of the
+/// eleven places of the line that are asked.
 #[cycle(fouls)]
 fn is_three<R: Rule>(board: &mut Board, axis: Axis, p: Point) -> bool
     requires board { IsBoard board.old }
@@ -89,82 +89,28 @@ fn is_three<R: Rule>(board: &mut Board, axis: Axis, p: Point) -> bool
     ensures three { result ≡ is_three_lem R.KIND board.old axis p (black_foul_lem R.KIND board.old) }
     ensures same { board.new ≡ board.old }
 {
-    for place in 0..7 {
-        if is_free_three::<R>(board, axis, p, place + 1) {
+    let line_points = three_points::<R>(board, p, axis);
+    for place in 0..11 {
+        if line_points >> place & 1 == 1 && is_free_three::<R>(board, axis, p, place) {
             return true;
         }
     }
     false
 }
 
-/// Whether the place so many steps ahead of Black's stone on `p` and four back again is a three point of it where Black
-/// has no foul.
+/// Whether the place so many steps ahead of Black's stone on `p` and five back again, a three point as far as the axis
+/// decides, is no five point either, and Black has no foul there.
 #[cycle(fouls)]
 fn is_free_three<R: Rule>(board: &mut Board, axis: Axis, p: Point, ahead: u8) -> bool
     requires stone { IsTrue (holds board.old Side.Black p) }
-    requires near { ahead < 9 }
-    ensures three { result ≡ free_three R.KIND board.old axis p (along_lem axis p ahead 4) }
+    requires near { ahead < 11 }
+    requires three { IsTrue (is_line_three_at R.KIND board.old Side.Black axis p (along_lem axis p ahead 5)) }
+    ensures three { result ≡ free_three R.KIND board.old axis p (along_lem axis p ahead 5) }
     ensures same { board.new ≡ board.old }
 {
-    match board.along(p, axis, ahead, 4) {
+    match board.along(p, axis, ahead, 5) {
         None => false,
-        Some(q) => is_three_point::<R>(board, axis, p, q) && black_foul::<R>(board, q).is_none(),
-    }
-}
-
-/// Whether `q` is a three point of Black's stone on `p` on the axis.
-#[tactic(auto, unfolding(game_rules::specs::Shapes::is_three_point, game_rules::specs::Shapes::gives_straight))]
-fn is_three_point<R: Rule>(board: &mut Board, axis: Axis, p: Point, q: Point) -> bool
-    requires stone { IsTrue (holds board.old Side.Black p) }
-    ensures three { result ≡ is_three_point_lem R.KIND board.old Side.Black axis p q }
-    ensures same { board.new ≡ board.old }
-{
-    if !board.is_empty(q) || five_at::<R>(board, Side::Black, q) {
-        return false;
-    }
-    board.put(q, Side::Black);
-    let result = are_in_straight::<R>(board, axis, p, q);
-    board.lift(q);
-    result
-}
-
-/// Whether Black's stone on `p` is in a straight four on the axis that holds `q`.
-fn are_in_straight<R: Rule>(board: &Board, axis: Axis, p: Point, q: Point) -> bool
-    requires stone { IsTrue (holds board.now Side.Black p) }
-    requires on { IsTrue (is_on board.now q) }
-    ensures straight { result ≡ (is_straight R.KIND board.now Side.Black axis p && is_in_run_lem board.now Side.Black axis p q) }
-{
-    straight_through::<R>(board, p, axis) && is_in_run(board, axis, p, q)
-}
-
-/// Whether `q` is a point of Black's run through `p` on the axis.
-fn is_in_run(board: &Board, axis: Axis, p: Point, q: Point) -> bool
-    requires on { IsTrue (is_on board.now p) }
-    requires on_too { IsTrue (is_on board.now q) }
-    ensures run { result ≡ is_in_run_lem board.now Side.Black axis p q }
-{
-    let ahead = board.stones_ahead(Side::Black, axis, p) as u8;
-    let behind = board.stones_behind(Side::Black, axis, p) as u8;
-    'ahead: for k in 0..ahead + 1 {
-        if is_at(q, board.along(p, axis, k, 0)) {
-            return true;
-        }
-    }
-    'behind: for k in 0..behind {
-        if is_at(q, board.along(p, axis, 0, k + 1)) {
-            return true;
-        }
-    }
-    false
-}
-
-/// Whether there is such a point, and it is `q`.
-fn is_at(q: Point, p: Option<Point>) -> bool
-    ensures at { result ≡ is_at_lem q p }
-{
-    match p {
-        None => false,
-        Some(p) => q.x == p.x && q.y == p.y,
+        Some(q) => !five_at::<R>(board, Side::Black, q) && black_foul::<R>(board, q).is_none(),
     }
 }
 

@@ -8,6 +8,8 @@ mod foul;
 mod outcome;
 mod position;
 mod seen;
+#[cfg(test)]
+mod tests;
 
 pub use foul::foul_at;
 pub use game_rules::{Foul, Outcome};

@@ -62,6 +62,17 @@ impl<R: Rule> Position<R> {
         }
     }
 
+    /// The position on a board that is known to be lawful.
+    pub fn new(board: Board) -> Position<R>
+        requires lawful { IsPosition R.KIND board }
+        ensures position { result ≡ board }
+    {
+        Position {
+            board,
+            rule: PhantomData,
+        }
+    }
+
     /// The board of the position.
     pub fn into_board(self) -> Board
         ensures board { result ≡ self }

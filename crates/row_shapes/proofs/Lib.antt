@@ -1,1 +1,4 @@
+mod Finds
 mod Counting
+mod Ways
+pub mod ThreePoints

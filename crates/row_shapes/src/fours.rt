@@ -46,9 +46,10 @@ pub fn straight_through<R: Rule>(board: &Board, p: Point, axis: Axis) -> bool
 }
 
 /// The side whose stone stands on the point.
-fn side_at(board: &Board, p: Point) -> Side
+pub(crate) fn side_at(board: &Board, p: Point) -> Side
     requires stone { IsTrue (holds_stone board.now p) }
     ensures side { (s : Side) → holds board.now s p ≡ true → result ≡ s }
+    ensures stone { IsTrue (holds board.now result p) }
 {
     match board.cell(p) {
         Cell::White => Side::White,

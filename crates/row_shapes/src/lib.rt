@@ -6,9 +6,13 @@
 
 mod fours;
 mod rule;
+#[cfg(test)]
+mod tests;
+mod threes;
 mod wins;
 
 pub use fours::{fours_through, straight_through};
 pub use game_rules::RuleKind;
 pub use rule::{ExactFive, Freestyle, Renju, Rule};
+pub use threes::three_points;
 pub use wins::five_at;

@@ -1,4 +1,4 @@
 mod Orders
 mod Counts
-mod Looks
+pub mod Looks
 pub mod Stones

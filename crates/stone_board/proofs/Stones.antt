@@ -2,7 +2,6 @@
 use Rattle.std.proofs.Common.{◌≡◌, Bool, true, false, ◌&&◌, not, refl}
 use Rattle.game_rules.specs.Grid.{Grid, IsBoard, is_on, is_empty, is_stone_of, is_empty_cell, cell_at, holds, put}
 use Rattle.game_rules.specs.declared.Side.{Side}
-use Rattle.game_rules.specs.declared.Side.TheVariants.{Black, White}
 use Rattle.game_rules.specs.declared.Cell.{Cell}
 use Rattle.game_rules.specs.declared.Cell.TheVariants.{Empty, Black as BlackStone, White as WhiteStone}
 use Rattle.game_rules.specs.declared.Point.{Point}

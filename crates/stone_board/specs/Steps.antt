@@ -13,6 +13,11 @@ abbrev pub kept_on : Grid → Option Point → Option Point
 kept_on b None = None
 kept_on b (Some q) = if is_on b q then Some q else None
 
+-- the other way
+abbrev pub opposite : Way → Way
+opposite Ahead = Behind
+opposite Behind = Ahead
+
 -- the point so many steps along the axis in that way
 abbrev pub towards : Way → Axis → Point → ℕ → Option Point
 towards Ahead d p k = along d p k 0

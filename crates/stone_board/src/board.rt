@@ -23,11 +23,25 @@ pub const MIN_SIDE: u8 = 5;
 /// The greatest width and height of a board.
 pub const MAX_SIDE: u8 = 32;
 
-/// The two ways along an axis from a point.
+/// The two ways along an axis from a point: a step ahead adds what the axis says, a step behind takes it away.
 #[derive(Clone, Copy, Debug, PartialEq, Eq)]
-enum Way {
+pub enum Way {
     Ahead,
     Behind,
+}
+
+impl Way {
+    ghost use Rattle.stone_board.specs.Steps.{opposite as opposite_lem};
+
+    /// The other way.
+    pub fn opposite(self) -> Way
+        ensures opposite { result ≡ opposite_lem self }
+    {
+        match self {
+            Way::Ahead => Way::Behind,
+            Way::Behind => Way::Ahead,
+        }
+    }
 }
 
 /// A board of cells.
@@ -263,11 +277,13 @@ impl Board {
         self.stones_towards(Way::Behind, side, axis, p)
     }
 
-    /// How many stones of the side stand in an unbroken row next to the point in one way along the axis.
-    fn stones_towards(&self, way: Way, side: Side, axis: Axis, p: Point) -> u32
+    /// How many stones of the side stand in an unbroken row next to the point in one way along the axis, whatever stands
+    /// on the point.
+    pub fn stones_towards(&self, way: Way, side: Side, axis: Axis, p: Point) -> u32
         requires on { IsTrue (is_on self.now p) }
         ensures stones { result ≡ stones_towards_lem way self.now side axis p }
         ensures bound { result ≤ 64 }
+        ensures board { IsBoard self.now }
     {
         let bound = self.width + self.height;
         for k in 0..bound {
@@ -291,7 +307,7 @@ impl Board {
     }
 
     /// The point so many steps from the point in one way along the axis, if it is on the board.
-    fn step_towards(&self, way: Way, axis: Axis, p: Point, k: u8) -> Option<Point>
+    pub fn step_towards(&self, way: Way, axis: Axis, p: Point, k: u8) -> Option<Point>
         requires on { IsTrue (is_on self.now p) }
         requires near { k ≤ 64 }
         ensures step { result ≡ kept_on self.now (towards_lem way axis p k) }

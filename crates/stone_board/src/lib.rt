@@ -7,8 +7,10 @@
 mod board;
 mod order;
 mod points;
+#[cfg(test)]
+mod tests;
 
-pub use board::{Board, MAX_SIDE, MIN_SIDE};
+pub use board::{Board, MAX_SIDE, MIN_SIDE, Way};
 pub use game_rules::{Axis, Cell, Look, Point, Side};
 pub use order::ReadingOrder;
 pub use points::Points;

@@ -1,5 +1,5 @@
 -- A table that holds a copy of nodes of another, under other numbers, says the same at them.
-use Rattle.std.proofs.Common.{◌≡◌, ℕ, zero, suc, ◌+◌, max, Bool, true, false, cond, ◌&&◌, List, [], ◌∷◌, ◌++◌, map, refl, sym, ap, subst, ◌∙◌}
+use Rattle.std.proofs.Common.{◌≡◌, ℕ, zero, suc, Bool, true, false, cond, List, [], ◌∷◌, ◌++◌, map, refl, sym, ap, subst, ◌∙◌}
 use Rattle.std.specs.Prelude.{Option, Some, None, slice_get, ◌↔◌}
 use Rattle.std.specs.List.{list_all, find, sum_by}
 use Rattle.std.specs.Option.{option_map, option_or}
@@ -16,11 +16,11 @@ use Rattle.strategy_graph.specs.declared.Rest.{Rest}
 use Rattle.strategy_graph.specs.declared.Rest.TheVariants.{Wins, To, Nothing}
 use Rattle.strategy_graph.specs.declared.Node.{Node}
 use Rattle.strategy_graph.specs.declared.Why.{Why}
-use Rattle.strategy_graph.specs.Tables.{Answers, answers_of, answer, listed, rest_node, rest_nodes, named, is_winning, greatest, node_depth, depth_within, start_depth}
-use Rattle.strategy_graph.specs.Acceptance.{Answered, NotWinning, Meets, AcceptedNode, AcceptedWithin, AcceptedStart}
-use Rattle.strategy_graph.specs.Arrivals.{if_answered, arrivals_at, arrivals_after, arrivals_behind, arrivals_within, start_arrivals}
+use Rattle.strategy_graph.specs.Tables.{Answers, answers_of, answer, listed, rest_node, rest_nodes, named, is_winning, greatest, node_depth, depth_within}
+use Rattle.strategy_graph.specs.Acceptance.{Answered, NotWinning, Meets, AcceptedNode, AcceptedWithin}
+use Rattle.strategy_graph.specs.Arrivals.{if_answered, arrivals_at, arrivals_after, arrivals_behind, arrivals_within}
 use Rattle.strategy_graph.specs.Games.{End, NoMove, Open, after_attack, after_reply, one_later, if_node, end_at, game, points_on, points_from, attacks_at, attacks}
-use Rattle.strategy_graph.specs.Leads.{attack_fault, reply_fault, AtNode, ReplyLeads, Leads, LeadsStart}
+use Rattle.strategy_graph.specs.Leads.{attack_fault, reply_fault, AtNode, ReplyLeads, Leads}
 use Rattle.strategy_graph.proofs.Answering.{answer-named}
 use Rattle.game_rules.proofs.Boards.{and_left, and_right}
 
@@ -39,8 +39,8 @@ renamed_answers f a = record { replies = map (renamed_reply f) a.replies; rest =
 abbrev pub renamed : (ℕ → ℕ) → Node → Node
 renamed f n = record { attack = n.attack; replies = map (renamed_reply f) n.replies; rest = renamed_rest f n.rest }
 
--- For each number i that passes, table t has a node i, table u has the same node renamed at f i, and each number that the node
--- names passes too.
+-- For each number i that passes, table t has a node i, table u has the same node renamed at f i, and each number that
+-- the node names passes too.
 pub record Copies (f : ℕ → ℕ) (passes : ℕ → Bool) (t u : List Node) : Type 0 where
   pub copied : (i : ℕ) → passes i ≡ true → (n : Node) × (slice_get t i ≡ Some n) × (slice_get u (f i) ≡ Some (renamed f n)) × (list_all passes (named (answers_of n)) ≡ true)
 

@@ -1,16 +1,18 @@
 -- Tables that a node is added to, and lists of depths that grow node by node.
-use Rattle.std.proofs.Common.{◌≡◌, ℕ, zero, suc, ◌+◌, ◌≤◌, ◌<◌, max, true, ◌&&◌, List, [], ◌∷◌, ◌++◌, length, map, ◌⊎◌, inl, inr, refl, sym, ap, subst, ◌∙◌, arith, length-append, add-one}
-use Rattle.std.specs.Prelude.{Option, Some, None, slice_get, slice_index, nat_lt}
+use Rattle.std.proofs.Common.{◌≡◌, ℕ, zero, suc, ◌+◌, ◌≤◌, ◌<◌, true, List, [], ◌∷◌, ◌++◌, length, map, ◌⊎◌, inl, inr, refl, sym, ap, subst, ◌∙◌, arith, length-append, add-one, get_or}
+use Rattle.std.specs.Prelude.{Option, Some, None, IfSome, slice_get, slice_index, nat_lt}
 use Rattle.std.specs.List.{list_all}
 use Rattle.std.proofs.lemmas.Option.{slice_get_read}
 use Rattle.std.proofs.lemmas.List.{get_or_push, get_or_append_left}
 use Rattle.std.proofs.lemmas.Bool.{cases_lt}
 use Rattle.strategy_graph.specs.declared.Node.{Node}
+use Rattle.game_rules.specs.declared.Point.{Point}
 use Rattle.strategy_graph.specs.declared.Reply.{Reply}
 use Rattle.strategy_graph.specs.declared.Rest.{Rest}
 use Rattle.strategy_graph.specs.declared.TheConstants.{MAX_NODES}
-use Rattle.strategy_graph.specs.Tables.{Answers, answers_of, named, names_below, NamesLower, IsNode, IsTable, greatest, node_depth, depth_within, depth, start_depth}
+use Rattle.strategy_graph.specs.Tables.{Answers, answers_of, answer, named, names_below, NamesLower, IsNode, IsTable, greatest, node_depth, depth_within, depth, start_depth}
 use Rattle.strategy_graph.proofs.Fuel.{depth-step}
+use Rattle.strategy_graph.proofs.Answering.{answer-below}
 use Rattle.game_rules.proofs.Boards.{and_left, and_right}
 use borrow.Author.Tests.{ltb-true}
 
@@ -101,3 +103,14 @@ depth-read t ds es k m n rs lower h e same list value =
 pub start_depth-read : (t u : List Node) (ds es : List ℕ) (k : ℕ) (a : Answers) (rs : List Reply) (r : Rest) (m : ℕ) → u ≡ t → DepthsUpTo u ds k → names_below a k ≡ true → rs ≡ a.replies → r ≡ a.rest → es ≡ ds → m ≡ greatest (map (λ j. slice_index es j) (named (record { replies = rs; rest = r }))) → m ≡ start_depth t a
 start_depth-read t u ds es k a rs r m table h below same last list value =
     value ∙ rw (same, last, list) (greatest-depths u ds k h a below) ∙ ap (λ (x : List Node). start_depth x a) table
+
+-- the answer of a node of a table is a lower node
+answer_lower : (a : Answers) (i : ℕ) (q : Point) (o : Option ℕ) → names_below a i ≡ true → o ≡ answer a q → IfSome o (λ j. j < i)
+answer_lower a i q None below e = tt
+answer_lower a i q (Some j) below e = answer-below a i q j below (sym e)
+
+pub lookup-below : (t u : List Node) (i : ℕ) (n : Node) (q : Point) (o : Option ℕ) → IsTable t → t ≡ u → i < length u → n ≡ get_or t i n → o ≡ answer (answers_of n) q → IfSome o (λ j. j < i)
+lookup-below t u i n q o ok same low here e =
+    let count : length t ≡ length u = ap length same in
+    let within : i < length t = omega (arith, count) in
+    answer_lower (answers_of n) i q o (ok.nodes i n (slice_get_read t (length t) i n refl within here)).below e

@@ -1,6 +1,6 @@
--- Depth, acceptance and arrivals of a node by those of the nodes that it names. The bound on the nodes that follow one another
--- changes nothing once it is above the number of the node.
-use Rattle.std.proofs.Common.{◌≡◌, ℕ, zero, suc, ◌≤◌, ◌<◌, Bool, true, List, refl, sym, ap, ◌∙◌, arith}
+-- Depth, acceptance and arrivals of a node by those of the nodes that it names. The bound on the nodes that follow
+-- one another changes nothing once it is above the number of the node.
+use Rattle.std.proofs.Common.{◌≡◌, ℕ, zero, suc, ◌<◌, true, List, refl, sym, ap, ◌∙◌, arith}
 use Rattle.std.specs.Prelude.{Option, Some, None, slice_get, nat_lt}
 use Rattle.std.specs.List.{list_all}
 use Rattle.game_rules.specs.Grid.{Grid}

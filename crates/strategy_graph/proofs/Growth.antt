@@ -1,6 +1,6 @@
 -- A table that grows says the same at the nodes that it had.
-use Rattle.std.proofs.Common.{◌≡◌, ℕ, zero, suc, ◌≤◌, ◌<◌, Bool, true, false, ◌&&◌, List, [], ◌∷◌, ◌++◌, length, map, refl, ap, subst, sym, ◌∙◌, arith}
-use Rattle.std.specs.Prelude.{Some, slice_get, nat_lt, ◌↔◌}
+use Rattle.std.proofs.Common.{◌≡◌, ℕ, zero, suc, ◌≤◌, ◌<◌, Bool, true, List, [], ◌∷◌, ◌++◌, length, refl, ap, sym, ◌∙◌, arith}
+use Rattle.std.specs.Prelude.{Some, slice_get, nat_lt}
 use Rattle.std.specs.List.{list_all}
 use Rattle.game_rules.specs.Grid.{Grid}
 use Rattle.game_rules.specs.Play.{outcome, after}
@@ -8,10 +8,10 @@ use Rattle.game_rules.specs.declared.RuleKind.{RuleKind}
 use Rattle.game_rules.specs.declared.Point.{Point}
 use Rattle.strategy_graph.specs.declared.Node.{Node}
 use Rattle.strategy_graph.specs.declared.Why.{Why}
-use Rattle.strategy_graph.specs.Tables.{Answers, answers_of, answer, named, names_below, NamesLower, depth, start_depth}
-use Rattle.strategy_graph.specs.Acceptance.{Meets, Accepted, AcceptedStart}
-use Rattle.strategy_graph.specs.Arrivals.{arrivals, arrivals_after, start_arrivals}
-use Rattle.strategy_graph.specs.Leads.{ReplyLeads, Leads, LeadsStart}
+use Rattle.strategy_graph.specs.Tables.{Answers, answers_of, named, names_below, NamesLower, depth, start_depth}
+use Rattle.strategy_graph.specs.Acceptance.{Accepted, AcceptedStart}
+use Rattle.strategy_graph.specs.Arrivals.{arrivals, start_arrivals}
+use Rattle.strategy_graph.specs.Leads.{Leads, LeadsStart}
 use Rattle.strategy_graph.specs.Laws.{SaysSame, StartSaysSame}
 use Rattle.strategy_graph.proofs.Copies.{iff_by, renamed-same, renamed_answers-same, Copies, Meets-copied, arrivals_after-copied, reply_leads-answer, depths-copied, depth_within-copied, accepted_within-copied, arrivals_within-copied, game-copied, attacks-copied, Leads-copied}
 use Rattle.game_rules.proofs.Boards.{and_left, and_right}

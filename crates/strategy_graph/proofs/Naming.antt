@@ -1,8 +1,9 @@
 -- The nodes that answers name, and the greatest of their depths.
-use Rattle.std.proofs.Common.{◌≡◌, ℕ, zero, suc, ◌+◌, ◌≤◌, ◌<◌, max, Bool, true, false, ◌&&◌, List, [], ◌∷◌, ◌++◌, map, length, get_or, drop, drop-cons, add-one, refl, sym, ap, ◌∙◌, arith}
-use Rattle.std.specs.Prelude.{nat_lt, Some, None, slice_index}
+use Rattle.std.proofs.Common.{◌≡◌, ℕ, ◌+◌, ◌<◌, max, Bool, true, false, ◌&&◌, List, [], ◌∷◌, ◌++◌, map, length, get_or, drop, drop-cons, add-one, refl, sym, ap, ◌∙◌, arith}
+use Rattle.std.specs.Prelude.{nat_lt, Some, None}
 use Rattle.std.specs.List.{list_all}
-use Rattle.std.proofs.lemmas.List.Folds.{list_all-append}
+use Rattle.std.proofs.lemmas.List.Folds.{list_all-append, list_all-map}
+use Rattle.std.proofs.lemmas.List.Sums.{AllPass-from_list_all}
 use Rattle.strategy_graph.specs.declared.Reply.{Reply}
 use Rattle.strategy_graph.specs.declared.Rest.{Rest}
 use Rattle.strategy_graph.specs.declared.Rest.TheVariants.{Wins, To, Nothing}
@@ -10,24 +11,15 @@ use Rattle.strategy_graph.specs.Tables.{Answers, named, names_below, rest_nodes,
 use Rattle.game_rules.proofs.Boards.{and_left, and_right}
 use borrow.Author.Tests.{ltb-true}
 
-all_next : (p : ℕ → Bool) (rs : List Reply) → list_all p (map (λ r. r.next) rs) ≡ list_all (λ r. p r.next) rs
-all_next p [] = refl
-all_next p (r ∷ rs) = ap (λ (b : Bool). p r.next && b) (all_next p rs)
-
 -- the nodes that are listed, and that of the rest
 pub names_below-parts : (a : Answers) (k : ℕ) → names_below a k ≡ (list_all (λ r. nat_lt r.next k) a.replies && list_all (λ j. nat_lt j k) (rest_nodes a.rest))
 names_below-parts a k =
     list_all-append (λ j. nat_lt j k) (map (λ r. r.next) a.replies) (rest_nodes a.rest)
-    ∙ ap (λ (b : Bool). b && list_all (λ j. nat_lt j k) (rest_nodes a.rest)) (all_next (λ j. nat_lt j k) a.replies)
-
-all_item : (p : Reply → Bool) (rs : List Reply) (i : ℕ) (d : Reply) → list_all p rs ≡ true → i < length rs → p (get_or rs i d) ≡ true
-all_item p [] i d h l = absurd (omega arith)
-all_item p (r ∷ rs) zero d h l = and_left (p r) _ h
-all_item p (r ∷ rs) (suc i) d h l = all_item p rs i d (and_right (p r) _ h) (omega arith)
+    ∙ ap (λ (b : Bool). b && list_all (λ j. nat_lt j k) (rest_nodes a.rest)) (list_all-map (λ j. nat_lt j k) (λ (r : Reply). r.next) a.replies)
 
 -- a reply that is listed names a node below k where all do
 pub reply-below : (a : Answers) (k i : ℕ) (d : Reply) → names_below a k ≡ true → i < length a.replies → (get_or a.replies i d).next < k
-reply-below a k i d h l = ltb-true _ _ (all_item (λ r. nat_lt r.next k) a.replies i d (and_left _ _ (sym (names_below-parts a k) ∙ h)) l)
+reply-below a k i d h l = ltb-true _ _ (AllPass-from_list_all (λ r. nat_lt r.next k) a.replies (and_left _ _ (sym (names_below-parts a k) ∙ h)) i d l)
 
 rest_by : (r : Rest) (k j : ℕ) → list_all (λ j. nat_lt j k) (rest_nodes r) ≡ true → rest_node r ≡ Some j → j < k
 rest_by Wins k j h e = cc

@@ -1,5 +1,5 @@
 -- A line that leads to a fault refutes acceptance.
-use Rattle.std.proofs.Common.{◌≡◌, ℕ, zero, suc, true, false, cond, List, [], ◌∷◌, refl, sym, subst}
+use Rattle.std.proofs.Common.{◌≡◌, ℕ, zero, suc, List, [], ◌∷◌, sym, subst}
 use Rattle.std.specs.Prelude.{Option, Some, None, slice_get}
 use Rattle.game_rules.specs.Grid.{Grid}
 use Rattle.game_rules.specs.Play.{outcome, after}
@@ -12,7 +12,7 @@ use Rattle.strategy_graph.specs.declared.Rest.{Rest}
 use Rattle.strategy_graph.specs.declared.Rest.TheVariants.{Wins, To, Nothing}
 use Rattle.strategy_graph.specs.declared.Node.{Node}
 use Rattle.strategy_graph.specs.declared.Why.{Why}
-use Rattle.strategy_graph.specs.Tables.{Answers, answers_of, answer, is_winning}
+use Rattle.strategy_graph.specs.Tables.{Answers, answers_of, answer}
 use Rattle.strategy_graph.specs.Acceptance.{Answered, NotWinning, Meets, AcceptedNode, AcceptedWithin, Accepted, AcceptedStart}
 use Rattle.strategy_graph.specs.Leads.{attack_fault, reply_fault, AtNode, ReplyLeads, Leads, LeadsStart}
 

@@ -1,5 +1,6 @@
--- A table that holds copies of nodes of another, under other numbers, says the same at them: what a compiler of tables needs.
-use Rattle.std.proofs.Common.{◌≡◌, ℕ, suc, ◌+◌, ◌<◌, Bool, true, List, ◌∙◌, arith}
+-- A table that holds copies of nodes of another, under other numbers, says the same at them: what a compiler of
+-- tables needs.
+use Rattle.std.proofs.Common.{◌≡◌, ℕ, suc, ◌+◌, Bool, true, List, ◌∙◌, arith}
 use Rattle.game_rules.specs.Grid.{Grid}
 use Rattle.game_rules.specs.declared.RuleKind.{RuleKind}
 use Rattle.strategy_graph.specs.declared.Node.{Node}

@@ -1,9 +1,9 @@
 -- An accepted node, and an accepted start, wins within its depth.
-use Rattle.std.proofs.Common.{◌≡◌, ℕ, zero, suc, ◌≤◌, map, List, refl, arith}
+use Rattle.std.proofs.Common.{ℕ, zero, suc, ◌≤◌, map, List, refl}
 use Rattle.std.specs.Prelude.{Option, Some, None, slice_get, true}
 use Rattle.game_rules.specs.Grid.{Grid}
 use Rattle.game_rules.specs.Play.{outcome, after}
-use Rattle.game_rules.specs.Games.{WinsOr, LosesOr, WinsWithin, WinsAfter}
+use Rattle.game_rules.specs.Games.{LosesOr, WinsWithin, WinsAfter}
 use Rattle.game_rules.proofs.Games.{WinsOr-map, LosesOr-map, WinsUnder-more}
 use Rattle.game_rules.specs.declared.RuleKind.{RuleKind}
 use Rattle.game_rules.specs.declared.Point.{Point}

@@ -1,8 +1,8 @@
--- One step of acceptance, of arrivals and of a line to a fault, at a node and at a reply, and over the replies so far: what a
--- checker of tables needs.
-use Rattle.std.proofs.Common.{◌≡◌, ℕ, zero, suc, ◌+◌, ◌≤◌, ◌<◌, Bool, true, false, cond, ◌&&◌, ◌||◌, ◌==◌, List, [], ◌∷◌, ◌++◌, length, get_or, refl, sym, ap, subst, ◌∙◌, arith}
-use Rattle.std.specs.Prelude.{Option, Some, None, slice_get, ◌↔◌}
-use Rattle.std.specs.List.{All, list_any, sum_by}
+-- One step of acceptance, of arrivals and of a line to a fault, at a node and at a reply, and over the replies so
+-- far: what a checker of tables needs.
+use Rattle.std.proofs.Common.{◌≡◌, ℕ, suc, ◌+◌, ◌≤◌, Bool, true, false, cond, ◌||◌, ◌==◌, List, [], ◌∷◌, ◌++◌, refl, sym, ap, subst, ◌∙◌, arith}
+use Rattle.std.specs.Prelude.{Option, Some, None, slice_get}
+use Rattle.std.specs.List.{All, list_any}
 use Rattle.std.proofs.lemmas.List.Sums.{sum_by-append}
 use Rattle.std.proofs.lemmas.Bool.Decides.{Decides-eqb}
 use Rattle.game_rules.specs.Grid.{Grid, is_on, points_of}
@@ -21,9 +21,9 @@ use Rattle.strategy_graph.specs.declared.Rest.TheVariants.{Wins, To, Nothing}
 use Rattle.strategy_graph.specs.declared.Node.{Node}
 use Rattle.strategy_graph.specs.declared.Why.{Why}
 use Rattle.strategy_graph.specs.Tables.{Answers, answers_of, answer, is_winning, NamesLower}
-use Rattle.strategy_graph.specs.Acceptance.{Answered, NotWinning, Meets, AcceptedNode, Accepted, AcceptedStart}
-use Rattle.strategy_graph.specs.Arrivals.{if_answered, arrivals_at, arrivals_among, arrivals_after, arrivals_behind, arrivals_within, arrivals, start_arrivals}
-use Rattle.strategy_graph.specs.Leads.{attack_fault, reply_fault, AtNode, ReplyLeads, Leads, LeadsStart}
+use Rattle.strategy_graph.specs.Acceptance.{Answered, NotWinning, Meets, AcceptedNode, Accepted}
+use Rattle.strategy_graph.specs.Arrivals.{if_answered, arrivals_at, arrivals_among, arrivals_after, arrivals_behind, arrivals_within, arrivals}
+use Rattle.strategy_graph.specs.Leads.{attack_fault, reply_fault, Leads, LeadsStart}
 use Rattle.strategy_graph.proofs.Fuel.{accepted-step, arrivals-step}
 
 NotWinning-by : (r : Rest) → is_winning r ≡ false → NotWinning r

@@ -36,8 +36,9 @@ unfoldable pub AcceptedWithin : ℕ → RuleKind → List Node → ℕ → Grid 
 AcceptedWithin zero rule t i b = ⊥
 AcceptedWithin (suc f) rule t i b = AcceptedNode rule (slice_get t i) (AcceptedWithin f rule t) b
 
--- Node i is accepted at b: its attack wins, or it is no winning node, its attack goes on, and each reply fouls or goes on
--- to a board where the answer to it is accepted. Each node names only lower ones, so no more than i + 1 follow one another.
+-- Node i is accepted at b: its attack wins, or it is no winning node, its attack goes on, and each reply fouls or
+-- goes on to a board where the answer to it is accepted. Each node names only lower ones, so no more than i + 1
+-- follow one another.
 abbrev pub Accepted : RuleKind → List Node → ℕ → Grid → Type 0
 Accepted rule t i b = AcceptedWithin (suc i) rule t i b
 

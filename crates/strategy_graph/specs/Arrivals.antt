@@ -26,7 +26,8 @@ arrivals_among rule a count b qs = sum_by (arrivals_at rule a count b) qs
 abbrev pub arrivals_after : RuleKind → Answers → (ℕ → Grid → ℕ) → Grid → ℕ
 arrivals_after rule a count b = arrivals_among rule a count b (points_of b)
 
--- the arrivals behind a node at b: those behind all replies where it is no winning node and its attack goes on, else 0
+-- the arrivals behind a node at b: those behind all replies where it is no winning node and its attack goes on, else
+-- 0
 abbrev pub arrivals_behind : RuleKind → Option Node → (ℕ → Grid → ℕ) → Grid → ℕ
 arrivals_behind rule None count b = 0
 arrivals_behind rule (Some n) count b =
@@ -37,8 +38,8 @@ unfoldable pub arrivals_within : ℕ → RuleKind → List Node → ℕ → Grid
 arrivals_within zero rule t i b = 0
 arrivals_within (suc f) rule t i b = suc (arrivals_behind rule (slice_get t i) (arrivals_within f rule t) b)
 
--- The arrivals at nodes, from node i at b: 1, and those behind each reply to its attack where it is no winning node and its
--- attack goes on. Each node names only lower ones, so no more than i + 1 follow one another.
+-- The arrivals at nodes, from node i at b: 1, and those behind each reply to its attack where it is no winning node
+-- and its attack goes on. Each node names only lower ones, so no more than i + 1 follow one another.
 abbrev pub arrivals : RuleKind → List Node → ℕ → Grid → ℕ
 arrivals rule t i b = arrivals_within (suc i) rule t i b
 

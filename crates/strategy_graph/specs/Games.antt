@@ -9,8 +9,8 @@ use Rattle.game_rules.specs.declared.Point.{Point}
 use Rattle.strategy_graph.specs.declared.Node.{Node}
 use Rattle.strategy_graph.specs.Tables.{answers_of, answer, is_winning}
 
--- how a game ends: won with so many attacks, lost, drawn, at a place where the table has no move, with no reply left, or at
--- a reply that is no move
+-- how a game ends: won with so many attacks, lost, drawn, at a place where the table has no move, with no reply left,
+-- or at a reply that is no move
 pub data End : Type 0 where
   Won : (attacks : ℕ) → End
   Lost : End
@@ -49,7 +49,8 @@ abbrev pub if_node : Option ℕ → (ℕ → End) → End
 if_node None end_from = NoMove
 if_node (Some j) end_from = one_later (end_from j)
 
--- the end at a node: that of its attack; where it goes on, a winning node has no move, and else the end is that of the reply
+-- the end at a node: that of its attack; where it goes on, a winning node has no move, and else the end is that of
+-- the reply
 abbrev pub end_at : RuleKind → Option Node → Grid → (Node → End) → End
 end_at rule None b reply = NoMove
 end_at rule (Some n) b reply = after_attack (outcome rule b n.attack) (if is_winning n.rest then NoMove else reply n)

@@ -36,8 +36,8 @@ abbrev pub GamesEndWell : Type 0
 GamesEndWell =
     (rule : RuleKind) (t : List Node) (i : ℕ) (b : Grid) (qs : List Point) → Accepted rule t i b → EndsWell (depth t i) (length qs) (game rule t i b qs)
 
--- node j of table u says what node i of table t says: its depth, where it is accepted, its arrivals, its games, and the lines
--- to a fault
+-- node j of table u says what node i of table t says: its depth, where it is accepted, its arrivals, its games, and
+-- the lines to a fault
 pub record SaysSame (t : List Node) (i : ℕ) (u : List Node) (j : ℕ) : Type 0 where
   pub same_depth : depth u j ≡ depth t i
   pub same_accepted : (rule : RuleKind) (b : Grid) → Accepted rule u j b ↔ Accepted rule t i b

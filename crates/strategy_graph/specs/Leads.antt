@@ -39,14 +39,15 @@ abbrev pub AtNode : Option Node → (Node → Type 0) → Type 0
 AtNode None P = ⊥
 AtNode (Some n) P = P n
 
--- a reply leads to the fault: it is the last move and has it, or it goes on, and the moves after it lead there from the
--- answer to it
+-- a reply leads to the fault: it is the last move and has it, or it goes on, and the moves after it lead there from
+-- the answer to it
 abbrev pub ReplyLeads : Outcome → Option ℕ → List Point → (ℕ → Type 0) → Why → Type 0
 ReplyLeads o a [] Next why = reply_fault o a ≡ Some why
 ReplyLeads o a (p ∷ line) Next why = (o ≡ GoesOn) × Answered a Next
 
--- The line leads from node i at b to the fault: its moves are by turns the attack of the node in turn, which goes on and is
--- not that of a winning node, and a reply that goes on and has an answer, up to the last move, which has the fault.
+-- The line leads from node i at b to the fault: its moves are by turns the attack of the node in turn, which goes on
+-- and is not that of a winning node, and a reply that goes on and has an answer, up to the last move, which has the
+-- fault.
 unfoldable pub Leads : RuleKind → List Node → ℕ → Grid → List Point → Why → Type 0
 Leads rule t i b [] why = ⊥
 Leads rule t i b (p ∷ []) why = AtNode (slice_get t i) (λ n. (p ≡ n.attack) × (attack_fault (outcome rule b p) n.rest ≡ Some why))

@@ -3,5 +3,6 @@ pub mod Same
 pub mod Acceptance
 pub mod Arrivals
 pub mod Games
+pub mod Roots
 pub mod Leads
 pub mod Laws

@@ -1,5 +1,5 @@
 -- Tables of answers: what a node names, the answer to a reply, and depths.
-use Rattle.std.specs.Prelude.{◌≡◌, ℕ, zero, suc, ◌≤◌, ◌<◌, max, Bool, true, false, ◌&&◌, ◌||◌, ◌==◌, nat_lt, List, [], ◌∷◌, ◌++◌, map, length, Option, Some, None, slice_get}
+use Rattle.std.specs.Prelude.{◌≡◌, ℕ, zero, suc, ◌≤◌, max, Bool, true, false, ◌&&◌, ◌||◌, ◌==◌, nat_lt, List, [], ◌∷◌, ◌++◌, map, length, Option, Some, None, slice_get}
 use Rattle.std.specs.List.{list_all, find}
 use Rattle.std.specs.Option.{option_map, option_or, option_and_then}
 use Rattle.game_rules.specs.Shapes.{is_same_point}
@@ -56,6 +56,10 @@ named a = map (λ r. r.next) a.replies ++ rest_nodes a.rest
 -- whether each node that the answers name is below k
 abbrev pub names_below : Answers → ℕ → Bool
 names_below a k = list_all (λ j. nat_lt j k) (named a)
+
+-- whether the node names only nodes of the table
+abbrev pub names_nodes_of : List Node → Node → Bool
+names_nodes_of t n = names_below (answers_of n) (length t)
 
 -- whether p comes before q in reading order: by y, then by x
 abbrev pub precedes : Point → Point → Bool

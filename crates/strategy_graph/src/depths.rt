@@ -1,5 +1,5 @@
-// Depths of nodes. Each node names only lower ones, so the depths are counted in the order of the nodes, and no node asks for a
-// depth that is not known yet.
+// Depths of nodes. Each node names only lower ones, so the depths are counted in the order of the nodes, and no node
+// asks for a depth that is not known yet.
 #![tactic(auto)]
 
 ghost use Rattle.std.specs.Prelude.{◌≡◌, ◌≤◌, ◌<◌, ◌+◌, true, ℕ, map, length, slice_index, IfOk, EachIndex};
@@ -11,7 +11,8 @@ use std::alloc::{AllocError, Global};
 /// The greatest depth of the nodes that the replies and the rest name, or 0 if they name none.
 pub(crate) fn deepest(replies: &[Reply], rest: Rest, depths: &[u32]) -> u32
     requires below { names_below (record { replies = replies.now; rest = rest }) (length depths.now) ≡ true }
-    ensures greatest { result ≡ greatest (map (λ j. slice_index depths.now j) (named (record { replies = replies.now; rest = rest }))) }
+    ensures greatest { result
+        ≡ greatest (map (λ j. slice_index depths.now j) (named (record { replies = replies.now; rest = rest }))) }
 {
     let mut most = match rest.node() {
         None => 0,

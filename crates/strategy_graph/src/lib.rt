@@ -1,4 +1,4 @@
-//! Tables of answers: what a player who has one plays after each reply, and what it takes that he wins.
+//! Tables of answers: what a player plays after each reply of the other, and when such a table is sure to win.
 //!
 //! A table is a list of nodes, each of which names only lower ones. A node is the attack that is played there, the
 //! node for each reply that is listed, and a rest for all the others. A start is the same without an attack, where the
@@ -16,12 +16,16 @@ ghost use Rattle.strategy_graph.specs.Tables.{is_winning, rest_node, rest_nodes}
 mod depths;
 mod replies;
 mod roots;
+mod start;
 mod table;
+#[cfg(test)]
+mod tests;
 mod theorems;
 
 use game_rules::Point;
 pub use replies::Replies;
-pub use roots::{Root, Start};
+pub use roots::Root;
+pub use start::Start;
 pub use table::{PushError, Table};
 pub use theorems::{
     accepted_start_wins, accepted_wins, faults_refute, faults_refute_start, games_end_well,
@@ -61,7 +65,7 @@ impl Rest {
     {
         match self {
             Rest::To(number) => number < len,
-            _ => true,
+            Rest::Wins | Rest::Nothing => true,
         }
     }
 

@@ -136,10 +136,7 @@ impl Replies {
     pub fn find(&self, at: Point) -> Option<u32>
         ensures listed { result ≡ listed self.now at }
     {
-        let found = self
-            .items
-            .iter()
-            .find(|reply| reply.at == at)?;
+        let found = self.items.iter().find(|reply| reply.at == at)?;
         Some(found.next)
     }
 

@@ -1,12 +1,13 @@
 // A table: nodes that name only lower ones.
 #![tactic(auto)]
 
-ghost use Rattle.std.specs.Prelude.{◌≡◌, ◌↔◌, ◌<◌, ◌++◌, [], ◌∷◌, true, false, List, length, slice_get, Some, IfOk, OnOk, OnErr, IsErrOf};
-ghost use Rattle.strategy_graph.specs.Tables.{IsTable, answer_at, answers_of, is_rising, is_winning, names_below, depth, start_depth};
+ghost use Rattle.std.specs.Prelude.{◌≡◌, ◌↔◌, ◌<◌, ◌++◌, [], ◌∷◌, IsTrue, true, false, List, length, slice_get, Some, IfOk, IfSome, OnOk, OnErr, IsErrOf};
+ghost use Rattle.strategy_graph.specs.Roots.{root_below, root_depth};
+ghost use Rattle.strategy_graph.specs.Tables.{IsTable, answer_at, is_rising, is_winning, names_below, names_nodes_of, depth, start_depth};
 
 use crate::depths::{deepest, depths_of};
 use crate::replies::{answer_among, are_all_below};
-use crate::{MAX_NODES, Node, Start};
+use crate::{MAX_NODES, Node, Root, Start};
 use game_rules::Point;
 use std::alloc::{AllocError, Global};
 use std::marker::Model;
@@ -66,6 +67,13 @@ impl Table {
         self.nodes.len() as u32
     }
 
+    /// Whether there are no nodes.
+    pub fn is_empty(&self) -> bool
+        ensures empty { IsTrue result ↔ (self.now ≡ []) }
+    {
+        self.nodes.is_empty()
+    }
+
     /// Node `i`, counted from 0.
     pub fn node(&self, i: u32) -> &Node
         requires in_table { i < length self.now }
@@ -75,18 +83,19 @@ impl Table {
         &self.nodes[i as usize]
     }
 
-    /// The node that answers the reply at node `i`: the one that is listed for it, else the one of the rest, else `None`. It
-    /// takes no memory.
+    /// The node that answers the reply at node `i`: the one that is listed for it, else the one of the rest, else
+    /// `None`. It takes no memory.
     pub fn lookup(&self, i: u32, reply: Point) -> Option<u32>
         requires in_table { i < length self.now }
         ensures answer { result ≡ answer_at self.now i reply }
+        ensures below { IfSome result (λ j. j < i) }
     {
         let node = &self.nodes[i as usize];
         answer_among(&node.replies, node.rest, reply)
     }
 
-    /// Adds the node at the end, and answers its number. A node whose rest is `Wins` has no replies. After an `Err` the table is
-    /// as it was, and the node is gone. The first refusal that holds is answered:
+    /// Adds the node at the end, and answers its number. A node whose rest is `Wins` has no replies. After an `Err` the
+    /// table is as it was, and the node is gone. The first refusal that holds is answered:
     ///
     /// - `NotBelow`, exactly where the node names a number that is not below the length of the table;
     /// - `NotRising`, exactly where its replies do not rise strictly in reading order;
@@ -96,13 +105,14 @@ impl Table {
         requires winning { is_winning node.rest ≡ true → node.replies ≡ [] }
         ensures number { IfOk result (λ i. i ≡ length self.old) }
         ensures pushed { OnOk result (self.new ≡ self.old ++ node ∷ []) }
-        ensures not_below { IsErrOf result PushError.NotBelow ↔ (names_below (answers_of node) (length self.old) ≡ false) }
+        ensures not_below { IsErrOf result PushError.NotBelow ↔ (names_nodes_of self.old node ≡ false) }
 
-        // The later refusals come only where the earlier ones do not.
+        // A later refusal comes only where no earlier one does.
         ensures not_rising { IsErrOf result PushError.NotRising
-            ↔ ((names_below (answers_of node) (length self.old) ≡ true) × (is_rising node.replies ≡ false)) }
+            ↔ ((names_nodes_of self.old node ≡ true) × (is_rising node.replies ≡ false)) }
         ensures full { IsErrOf result PushError.Full
-            ↔ ((names_below (answers_of node) (length self.old) ≡ true) × (is_rising node.replies ≡ true) × (length self.old ≡ MAX_NODES)) }
+            ↔ ((names_nodes_of self.old node ≡ true) × (is_rising node.replies ≡ true)
+            × (length self.old ≡ MAX_NODES)) }
         ensures unchanged { OnErr result (self.new ≡ self.old) }
     {
         let number = self.nodes.len() as u32;
@@ -121,8 +131,8 @@ impl Table {
         Ok(number)
     }
 
-    /// The depth of node `i`: with so many attacks at most a game from it is won, where it is accepted. It is 1 for a node that
-    /// names no other, else 1 more than the greatest depth of those that it names.
+    /// The depth of node `i`: 1 for a node that names no other, else 1 more than the greatest depth of those that it
+    /// names. Where the node is accepted, a game from it is won with at most so many attacks.
     pub fn depth(&self, i: u32) -> Result<u32, AllocError>
         requires in_table { i < length self.now }
         ensures depth { IfOk result (λ d. d ≡ depth self.now i) }
@@ -131,8 +141,8 @@ impl Table {
         Ok(depths[i as usize])
     }
 
-    /// The depth of a start, which names only nodes of the table: the greatest depth of those that it names, or 0 if it names
-    /// none.
+    /// The depth of a start, which names only nodes of the table: the greatest depth of those that it names, or 0 if it
+    /// names none.
     pub fn start_depth(&self, start: &Start) -> Result<u32, AllocError>
         requires below { names_below start.now (length self.now) ≡ true }
         ensures depth { IfOk result (λ d. d ≡ start_depth self.now start.now) }
@@ -140,5 +150,16 @@ impl Table {
         let len = self.nodes.len() as u32;
         let depths = depths_of(*self.nodes.allocator(), self.nodes.as_slice(), len)?;
         Ok(deepest(start.replies().as_slice(), start.rest(), depths.as_slice()))
+    }
+
+    /// The depth of a root, which names only nodes of the table.
+    pub fn root_depth(&self, root: &Root) -> Result<u32, AllocError>
+        requires below { root_below root.now (length self.now) ≡ true }
+        ensures depth { IfOk result (λ d. d ≡ root_depth self.now root.now) }
+    {
+        match root {
+            Root::Attack(number) => self.depth(*number),
+            Root::Defend(start) => self.start_depth(start),
+        }
     }
 }

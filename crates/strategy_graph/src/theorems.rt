@@ -3,8 +3,8 @@
 
 ghost use Rattle.strategy_graph.specs.Laws.{NodesGoByNode, AcceptedWins, AcceptedStartWins, GamesEndWell, GrowthKeeps, GrowthKeepsStart, FaultsRefute, FaultsRefuteStart};
 
-/// Depth, acceptance and arrivals of a node go by those of the nodes that it names: the bound on the nodes that follow one
-/// another, by which they are defined, plays no part.
+/// Depth, acceptance and arrivals of a node go by those of the nodes that it names: the bound on the nodes that follow
+/// one another, by which they are defined, plays no part.
 pub fn nodes_go_by_node()
     ensures steps { NodesGoByNode }
 {}
@@ -19,8 +19,8 @@ pub fn accepted_start_wins()
     ensures wins { AcceptedStartWins }
 {}
 
-/// Whatever the replies, a game from an accepted node is won with at most as many attacks as the depth, or a reply is no
-/// move, or fewer replies than the depth were given.
+/// Whatever the replies, a game from an accepted node is won with at most as many attacks as the depth, or a reply is
+/// no move, or fewer replies than the depth were given.
 pub fn games_end_well()
     ensures ends { GamesEndWell }
 {}

@@ -1,15 +1,18 @@
-use Rattle.std.proofs.Common.{rules, ◌≡◌, ◌+◌, ◌*◌, ◌<◌, true, sym, ap, ◌∙◌, arith}
+use Rattle.std.proofs.Common.{rules, ◌≡◌, ◌+◌, ◌*◌, ◌<◌, true, false, ◌&&◌, not, below_more, sym, ap, ◌∙◌, arith}
 use Rattle.game_rules.specs.Grid.{Grid, IsBoard, is_empty, empties_of, holds, lift, along}
-use Rattle.game_rules.specs.Shapes.{is_three_point}
+use Rattle.std.specs.Prelude.{is_none}
+use Rattle.game_rules.specs.Shapes.{five}
 use Rattle.game_rules.specs.Play.{black_foul, stone_foul}
 use Rattle.game_rules.specs.declared.Side.TheVariants.{Black}
 use Rattle.game_rules.proofs.Boards.{lift-put, is_empty-on, empties_of-put, holds-put_same}
 use Rattle.game_rules.proofs.Positions.{IsBoard-put}
 use Rattle.stone_board.specs.Steps.{holds_stone}
+use Rattle.stone_board.proofs.Looks.{kept-Some}
 use Rattle.stone_board.proofs.Stones.{put-holds_stone}
-use Rattle.foul_judge.proofs.ThreePlaces.{foul-step, three_point-empty, three_by_place, no_three, no_free_three, true_at}
+use Rattle.foul_judge.proofs.ThreePlaces.{foul-step, three_by_place, no_three, no_free_three, line_three-empty, free_three-line, not_free, none_by, bit_clear, answer_at}
 use Rattle.foul_judge.specs.Threes.{free_three}
 use Rattle.foul_judge.proofs.foul.+fouls.Goals as goal
+use Rattle.foul_judge.proofs.foul.+fouls.Goals.{is_three-else-line_points-place-eq1-via-then-line_points-place-eq1+else-is_free_three, is_three-else-line_points-place-eq1-via-else-line_points-place-eq1}
 
 pub black_foul-stone_foul-result-requires : goal.black_foul-stone_foul-result-requires
 black_foul-stone_foul-result-requires g t c =
@@ -33,23 +36,55 @@ pub black_foul-returns-clause-same : goal.black_foul-returns-clause-same
 black_foul-returns-clause-same g t c =
     c.lift.ensures.lift ∙ ap (λ (b : Grid). lift b c.args.p) (c.stone_foul-result.ensures.same ∙ c.put.ensures.put) ∙ lift-put c.args.board.now Black c.args.p c.requires.empty
 
+pub is_free_three-five_at-requires : goal.is_free_three-five_at-requires
+is_free_three-five_at-requires g t c =
+    let here = kept-Some c.args.board.now (along c.args.axis c.args.p c.args.ahead 5) c.in-Some.q (sym c.along.ensures.along ∙ c.in-Some.is) in
+    record { empty = line_three-empty g.R.Rule.KIND c.args.board.now c.args.axis c.args.p _ c.in-Some.q here.0 c.requires.three }
+
 pub is_free_three-black_foul-requires : goal.is_free_three-black_foul-requires
 is_free_three-black_foul-requires g t c =
-    let three : is_three_point g.R.Rule.KIND c.args.board.now Black c.args.axis c.args.p c.in-Some.q ≡ true = sym c.is_three_point.ensures.three ∙ c.if-is_three_point.true in
-    let empty : is_empty c.is_three_point.new.board c.in-Some.q ≡ true = rw c.is_three_point.ensures.same (three_point-empty g.R.Rule.KIND c.args.board.now c.args.axis c.args.p c.in-Some.q three) in
-    let less : 5 * empties_of c.is_three_point.new.board < 5 * empties_of c.args.board.now + 1 = rw c.is_three_point.ensures.same (omega arith) in
+    let here = kept-Some c.args.board.now (along c.args.axis c.args.p c.args.ahead 5) c.in-Some.q (sym c.along.ensures.along ∙ c.in-Some.is) in
+    let empty : is_empty c.args.board.now c.in-Some.q ≡ true = line_three-empty g.R.Rule.KIND c.args.board.now c.args.axis c.args.p _ c.in-Some.q here.0 c.requires.three in
+    let less : 5 * empties_of c.args.board.now < 5 * empties_of c.args.board.now + 1 = omega arith in
     search rules
+
+pub is_free_three-returns-then-not-five_at-clause-three : goal.is_free_three-returns-then-not-five_at-clause-three
+is_free_three-returns-then-not-five_at-clause-three g t c =
+    let here = kept-Some c.args.board.now (along c.args.axis c.args.p c.args.ahead 5) c.in-Some.q (sym c.along.ensures.along ∙ c.in-Some.is) in
+    let three = free_three-line g.R.Rule.KIND c.args.board.now c.args.axis c.args.p _ c.in-Some.q here.0 c.requires.three in
+    let no_five : five g.R.Rule.KIND c.args.board.now Black c.in-Some.q ≡ false = sym c.five_at.ensures.five ∙ c.if-not-five_at.true in
+    none_by c.black_foul.result c.is_none.result c.is_none.ensures ∙ ap is_none c.black_foul.ensures.foul ∙ sym (three ∙ ap (λ r. not r && is_none (black_foul g.R.Rule.KIND c.args.board.now c.in-Some.q)) no_five)
+
+pub is_free_three-returns-else-not-five_at-clause-three : goal.is_free_three-returns-else-not-five_at-clause-three
+is_free_three-returns-else-not-five_at-clause-three g t c =
+    let here = kept-Some c.args.board.now (along c.args.axis c.args.p c.args.ahead 5) c.in-Some.q (sym c.along.ensures.along ∙ c.in-Some.is) in
+    let three = free_three-line g.R.Rule.KIND c.args.board.now c.args.axis c.args.p _ c.in-Some.q here.0 c.requires.three in
+    let yes_five : five g.R.Rule.KIND c.args.board.now Black c.in-Some.q ≡ true = sym c.five_at.ensures.five ∙ c.if-not-five_at.false in
+    ap not c.if-not-five_at.false ∙ sym (three ∙ ap (λ r. not r && is_none (black_foul g.R.Rule.KIND c.args.board.now c.in-Some.q)) yes_five)
 
 pub is_free_three-returns-in-None-clause-three : goal.is_free_three-returns-in-None-clause-three
 is_free_three-returns-in-None-clause-three g t c =
-    sym (no_free_three g.R.Rule.KIND c.args.board.now c.args.axis c.args.p (along c.args.axis c.args.p c.args.ahead 4) (sym c.along.ensures.along ∙ c.in-None.is))
+    sym (no_free_three g.R.Rule.KIND c.args.board.now c.args.axis c.args.p (along c.args.axis c.args.p c.args.ahead 5) (sym c.along.ensures.along ∙ c.in-None.is))
 
 pub is_three-returns-then-is_free_three-clause-three : goal.is_three-returns-then-is_free_three-clause-three
 is_three-returns-then-is_free_three-clause-three g t c =
-    let here : free_three g.R.Rule.KIND c.args.board.now c.args.axis c.args.p (along c.args.axis c.args.p (c.loop-place.place + 1) 4) ≡ true =
-    true_at (λ b. free_three g.R.Rule.KIND b c.args.axis c.args.p (along c.args.axis c.args.p (c.loop-place.place + 1) 4)) _ c.args.board.now _ c.is_free_three.ensures.three c.loop-place.invariant.0 c.if-is_free_three.true in
+    let here : free_three g.R.Rule.KIND c.args.board.now c.args.axis c.args.p (along c.args.axis c.args.p c.loop-place.place 5) ≡ true =
+    answer_at (λ b. free_three g.R.Rule.KIND b c.args.axis c.args.p (along c.args.axis c.args.p c.loop-place.place 5)) _ c.args.board.now _ _ c.is_free_three.ensures.three c.loop-place.invariant.0 c.if-is_free_three.true in
     sym (three_by_place g.R.Rule.KIND c.args.board.now c.args.axis c.args.p c.loop-place.place here)
 
 pub is_three-returns-clause-three : goal.is_three-returns-clause-three
 is_three-returns-clause-three g t c =
     sym (no_three g.R.Rule.KIND c.args.board.now c.args.axis c.args.p c.requires.board c.requires.stone (λ i low. c.loop-place.invariant.1 i (omega arith)))
+
+pub is_three-loop-place-preserved : goal.is_three-loop-place-preserved
+is_three-loop-place-preserved g t c = elim c.else-line_points-place-eq1.branch [
+  | is_three-else-line_points-place-eq1-via-then-line_points-place-eq1+else-is_free_three w ↦ (
+    w.board-is ∙ w.is_free_three.ensures.same ∙ c.loop-place.invariant.0,
+    below_more _ _ c.loop-place.invariant.1 (answer_at (λ b. free_three g.R.Rule.KIND b c.args.axis c.args.p (along c.args.axis c.args.p c.loop-place.place 5)) _ c.args.board.now _ _ w.is_free_three.ensures.three c.loop-place.invariant.0 w.if-is_free_three.false),
+  )
+  | is_three-else-line_points-place-eq1-via-else-line_points-place-eq1 w ↦ (
+    w.board-is ∙ c.loop-place.invariant.0,
+    below_more _ _ c.loop-place.invariant.1 (not_free g.R.Rule.KIND c.args.board.now c.args.axis c.args.p (along c.args.axis c.args.p c.loop-place.place 5)
+        (bit_clear c.three_points-line_points.result c.loop-place.place _ (c.three_points-line_points.ensures.points Black c.requires.stone c.loop-place.place (omega arith)) w.if-line_points-place-eq1.false)),
+  )
+]

@@ -1,6 +1,5 @@
-use Rattle.std.proofs.Common.{◌≡◌, ◌+◌, true, sym, ap, ◌∙◌}
-use Rattle.game_rules.specs.Grid.{is_empty, is_on}
-use Rattle.game_rules.specs.Shapes.{row_wins, stones_ahead, stones_behind}
+use Rattle.std.proofs.Common.{◌≡◌, true, sym, ◌∙◌}
+use Rattle.game_rules.specs.Grid.{is_empty}
 use Rattle.game_rules.proofs.Boards.{run_of-put, is_empty-on}
 use Rattle.row_shapes.proofs.wins.wins_on.Goals as goal
 

@@ -1,5 +1,5 @@
 use Rattle.std.proofs.Common.{sym, ◌∙◌}
-use Rattle.strategy_graph.proofs.Reading.{falls-at, rises-to}
+use Rattle.strategy_graph.proofs.Rising.{falls-at, rises-to}
 use Rattle.strategy_graph.proofs.replies.rises.Goals as goal
 
 pub returns-then-not-precedes : goal.returns-then-not-precedes

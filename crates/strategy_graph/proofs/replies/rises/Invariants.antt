@@ -1,5 +1,5 @@
 use Rattle.std.proofs.Common.{◌≡◌, drop}
-use Rattle.strategy_graph.proofs.Reading.{climbs}
+use Rattle.strategy_graph.proofs.Rising.{climbs}
 use Rattle.strategy_graph.proofs.replies.rises.Given as goal
 
 abbrev pub invariant-loop-reply : goal.invariant-loop-reply

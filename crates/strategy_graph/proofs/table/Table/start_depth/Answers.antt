@@ -1,4 +1,4 @@
-use Rattle.std.proofs.Common.{◌≡◌, true, length, refl, sym, ap, ◌∙◌, arith}
+use Rattle.std.proofs.Common.{◌≡◌, true, length, sym, ap, ◌∙◌}
 use Rattle.strategy_graph.specs.Tables.{names_below}
 use Rattle.strategy_graph.proofs.Filling.{start_depth-read}
 use Rattle.strategy_graph.proofs.table.Table.start_depth.Goals as goal

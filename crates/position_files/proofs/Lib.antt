@@ -1,0 +1,11 @@
+mod Numbers
+mod Cuts
+mod Items
+mod Spellings
+mod Stones
+mod LineLaws
+mod BoardLaws
+mod TextLaws
+mod AnswerLaws
+mod NodeLaws
+mod TableLaws

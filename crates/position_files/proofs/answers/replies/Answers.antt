@@ -1,0 +1,40 @@
+use Rattle.std.proofs.Common.{◌≡◌, ℕ, ◌+◌, arith, List, [], ◌∷◌, ◌++◌, Bor, length, length-append, sym, ap, subst, ◌∙◌, option_copied}
+use Rattle.std.specs.Prelude.{Option, Some, None}
+use Rattle.std.specs.List.{AllByRecursion}
+use Rattle.game_rules.specs.declared.Point.{Point}
+use Rattle.position_files.specs.Positions.{space}
+use Rattle.position_files.specs.Tables.{reply_text}
+use Rattle.position_files.specs.Reading.{tail_text}
+use Rattle.position_files.specs.Answers.{ReplyFits}
+use Rattle.position_files.proofs.Items.{Follows, begins, stops, goes_on, ends}
+use Rattle.position_files.proofs.AnswerLaws.{reply_items}
+use Rattle.position_files.proofs.answers.replies.Goals as goal
+
+pub loop-rest-init : goal.loop-rest-init
+loop-rest-init c = rw c.new-replies.ensures.empty (begins (ReplyFits c.args.width c.args.height) reply_text (tail_text space (option_copied c.args.tail)))
+
+pub returns-in_default-reply : goal.returns-in_default-reply
+returns-in_default-reply c =
+    let now : Follows (ReplyFits c.args.width c.args.height) reply_text c.loop-rest.replies (space ∷ c.in-Some.text.now) (tail_text space (option_copied c.args.tail)) =
+    subst (λ (t : Option (Bor (List ℕ))). Follows (ReplyFits c.args.width c.args.height) reply_text c.loop-rest.replies (tail_text space (option_copied t)) (tail_text space (option_copied c.args.tail))) c.in-Some.is c.loop-rest.invariant in
+    record {
+      replies = stops (ReplyFits c.args.width c.args.height) reply_text (reply_items c.args.width c.args.height c.requires.wide c.requires.high) c.loop-rest.replies c.in-Some.text.now c.cut.result.0.now _ (tail_text space (option_copied c.args.tail)) now c.cut.ensures.parts c.cut.ensures.word c.in_default-reply.ensures.reply;
+    }
+
+pub loop-rest-smaller : goal.loop-rest-smaller
+loop-rest-smaller c =
+    let before = ap (λ (t : Option (Bor (List ℕ))). length (tail_text space (option_copied t))) c.in-Some.is in
+    let parts = ap length c.cut.ensures.parts in
+    omega (arith, before, parts, length-append c.cut.result.0.now (tail_text space (option_copied c.cut.result.1)))
+
+pub loop-rest-preserved : goal.loop-rest-preserved
+loop-rest-preserved c =
+    let now : Follows (ReplyFits c.args.width c.args.height) reply_text c.loop-rest.replies (space ∷ c.in-Some.text.now) (tail_text space (option_copied c.args.tail)) =
+    subst (λ (t : Option (Bor (List ℕ))). Follows (ReplyFits c.args.width c.args.height) reply_text c.loop-rest.replies (tail_text space (option_copied t)) (tail_text space (option_copied c.args.tail))) c.in-Some.is c.loop-rest.invariant in
+    rw c.in_ok-push.ensures.pushed (goes_on (ReplyFits c.args.width c.args.height) reply_text (reply_items c.args.width c.args.height c.requires.wide c.requires.high) c.loop-rest.replies c.in-Some-reply.found c.in-Some.text.now c.cut.result.0.now _ (tail_text space (option_copied c.args.tail)) now c.cut.ensures.parts c.cut.ensures.word c.in-Some-reply.ensures.reply.0 c.in-Some-reply.ensures.reply.1)
+
+pub returns : goal.returns
+returns c =
+    let now : Follows (ReplyFits c.args.width c.args.height) reply_text c.loop-rest.replies [] (tail_text space (option_copied c.args.tail)) =
+    subst (λ (t : Option (Bor (List ℕ))). Follows (ReplyFits c.args.width c.args.height) reply_text c.loop-rest.replies (tail_text space (option_copied t)) (tail_text space (option_copied c.args.tail))) c.in_default.is c.loop-rest.invariant in
+    record { replies = ends (ReplyFits c.args.width c.args.height) reply_text c.loop-rest.replies (tail_text space (option_copied c.args.tail)) now }

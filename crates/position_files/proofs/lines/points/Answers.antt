@@ -1,0 +1,38 @@
+use Rattle.std.proofs.Common.{◌≡◌, ℕ, ◌+◌, arith, List, [], ◌∷◌, ◌++◌, Bor, length, length-append, sym, ap, subst, ◌∙◌, option_copied}
+use Rattle.std.specs.Prelude.{Option, Some, None}
+use Rattle.std.specs.List.{AllByRecursion}
+use Rattle.game_rules.specs.declared.Point.{Point}
+use Rattle.position_files.specs.Positions.{space, point_text, points_text}
+use Rattle.position_files.specs.Reading.{IsWithin, tail_text}
+use Rattle.position_files.proofs.Items.{Follows, begins, stops, goes_on, ends}
+use Rattle.position_files.proofs.Spellings.{point_items}
+use Rattle.position_files.proofs.lines.points.Goals as goal
+
+pub loop-rest-init : goal.loop-rest-init
+loop-rest-init c = rw c.new-points.ensures.empty (begins (IsWithin c.args.width c.args.height) point_text (tail_text space (option_copied c.args.tail)))
+
+pub returns-in_default-point : goal.returns-in_default-point
+returns-in_default-point c =
+    let now : Follows (IsWithin c.args.width c.args.height) point_text c.loop-rest.points (space ∷ c.in-Some.text.now) (tail_text space (option_copied c.args.tail)) =
+    subst (λ (t : Option (Bor (List ℕ))). Follows (IsWithin c.args.width c.args.height) point_text c.loop-rest.points (tail_text space (option_copied t)) (tail_text space (option_copied c.args.tail))) c.in-Some.is c.loop-rest.invariant in
+    record {
+      points = stops (IsWithin c.args.width c.args.height) point_text (point_items c.args.width c.args.height c.requires.wide c.requires.high) c.loop-rest.points c.in-Some.text.now c.cut.result.0.now _ (tail_text space (option_copied c.args.tail)) now c.cut.ensures.parts c.cut.ensures.word c.in_default-point.ensures.point;
+    }
+
+pub loop-rest-smaller : goal.loop-rest-smaller
+loop-rest-smaller c =
+    let before = ap (λ (t : Option (Bor (List ℕ))). length (tail_text space (option_copied t))) c.in-Some.is in
+    let parts = ap length c.cut.ensures.parts in
+    omega (arith, before, parts, length-append c.cut.result.0.now (tail_text space (option_copied c.cut.result.1)))
+
+pub loop-rest-preserved : goal.loop-rest-preserved
+loop-rest-preserved c =
+    let now : Follows (IsWithin c.args.width c.args.height) point_text c.loop-rest.points (space ∷ c.in-Some.text.now) (tail_text space (option_copied c.args.tail)) =
+    subst (λ (t : Option (Bor (List ℕ))). Follows (IsWithin c.args.width c.args.height) point_text c.loop-rest.points (tail_text space (option_copied t)) (tail_text space (option_copied c.args.tail))) c.in-Some.is c.loop-rest.invariant in
+    rw c.in_ok-push.ensures.ok (goes_on (IsWithin c.args.width c.args.height) point_text (point_items c.args.width c.args.height c.requires.wide c.requires.high) c.loop-rest.points c.in-Some-point.found c.in-Some.text.now c.cut.result.0.now _ (tail_text space (option_copied c.args.tail)) now c.cut.ensures.parts c.cut.ensures.word c.in-Some-point.ensures.point.0 c.in-Some-point.ensures.point.1)
+
+pub returns : goal.returns
+returns c =
+    let now : Follows (IsWithin c.args.width c.args.height) point_text c.loop-rest.points [] (tail_text space (option_copied c.args.tail)) =
+    subst (λ (t : Option (Bor (List ℕ))). Follows (IsWithin c.args.width c.args.height) point_text c.loop-rest.points (tail_text space (option_copied t)) (tail_text space (option_copied c.args.tail))) c.in_default.is c.loop-rest.invariant in
+    record { points = ends (IsWithin c.args.width c.args.height) point_text c.loop-rest.points (tail_text space (option_copied c.args.tail)) now }

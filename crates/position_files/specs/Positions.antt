@@ -1,0 +1,79 @@
+-- The text of a position, line by line, and which bytes are one.
+use Rattle.std.specs.Prelude.{◌≡◌, ℕ, ◌==◌, if◌then◌else◌, List, [], ◌∷◌, ◌++◌, filter, codes}
+use Rattle.std.specs.List.{flat_map}
+use Rattle.std.specs.Fmt.{decimal}
+use Rattle.game_rules.specs.Grid.{Grid, IsBoard, holds, points_of}
+use Rattle.game_rules.specs.declared.RuleKind.{RuleKind}
+use Rattle.game_rules.specs.declared.RuleKind.TheVariants.{Freestyle, Exact, Renju}
+use Rattle.game_rules.specs.declared.Side.{Side}
+use Rattle.game_rules.specs.declared.Side.TheVariants.{Black, White}
+use Rattle.game_rules.specs.declared.Point.{Point}
+use Rattle.position_files.specs.declared.PositionFile.{PositionFile}
+use Rattle.position_files.specs.Lines.{text_of}
+
+-- the byte between two words
+abbrev pub space : ℕ
+space = 32
+
+-- the byte between two coordinates
+abbrev pub comma : ℕ
+comma = 44
+
+-- a pair of numbers, as of coordinates
+abbrev pub pair_text : ℕ → ℕ → List ℕ
+pair_text x y = decimal x ++ comma ∷ decimal y
+
+-- a point: its column and its row
+abbrev pub point_text : Point → List ℕ
+point_text p = pair_text p.x p.y
+
+-- the words of the rules
+abbrev pub rule_word : RuleKind → List ℕ
+rule_word Freestyle = codes "freestyle"
+rule_word Exact = codes "exact"
+rule_word Renju = codes "renju"
+
+-- the line of the rule
+abbrev pub rule_line : RuleKind → List ℕ
+rule_line kind = codes "rule " ++ rule_word kind
+
+-- the width and the height, as one number where they are the same
+abbrev pub size_text : ℕ → ℕ → List ℕ
+size_text width height = if width == height then decimal width else pair_text width height
+
+-- the line of the size
+abbrev pub size_line : ℕ → ℕ → List ℕ
+size_line width height = codes "size " ++ size_text width height
+
+-- points, each after a space
+abbrev pub points_text : List Point → List ℕ
+points_text ps = flat_map (λ p. space ∷ point_text p) ps
+
+-- the points at which stones of the side stand, in reading order
+unfoldable pub stones : Grid → Side → List Point
+stones b s = filter (holds b s) (points_of b)
+
+-- the line of Black's stones
+abbrev pub black_line : Grid → List ℕ
+black_line b = codes "black" ++ points_text (stones b Black)
+
+-- the line of White's stones
+abbrev pub white_line : Grid → List ℕ
+white_line b = codes "white" ++ points_text (stones b White)
+
+-- the lines of a rule and a board
+unfoldable pub board_lines : RuleKind → Grid → List (List ℕ)
+board_lines kind b = rule_line kind ∷ size_line b.width b.height ∷ black_line b ∷ white_line b ∷ []
+
+-- the text of a position
+unfoldable pub position_text : RuleKind → Grid → List ℕ
+position_text kind b = text_of (codes "renju-position 1" ∷ board_lines kind b)
+
+-- the bytes are the text of the position
+pub record IsTextOfPosition (file : PositionFile) (bytes : List ℕ) : Type 0 where
+  pub board : IsBoard file.board
+  pub spelled : bytes ≡ position_text file.kind file.board
+
+-- the bytes are the text of some position
+abbrev pub IsPositionText : List ℕ → Type 0
+IsPositionText bytes = (file : PositionFile) × IsTextOfPosition file bytes

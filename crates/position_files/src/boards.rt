@@ -1,0 +1,91 @@
+//! The lines of a rule and a board.
+#![tactic(auto)]
+
+ghost use Rattle.std.specs.Prelude.{◌≡◌, ℕ, List, [], ◌∷◌, ◌++◌, true, false, IsTrue, IfOk, Err};
+ghost use Rattle.std.specs.List.{AllByRecursion};
+ghost use Rattle.game_rules.specs.Grid.{Grid, IsBoard};
+ghost use Rattle.position_files.specs.Lines.{line_feed, text_of};
+ghost use Rattle.position_files.specs.Positions.{space, board_lines, points_text, stones as stones_lem};
+ghost use Rattle.position_files.specs.Reading.{IsWithin, SameBut, is_free};
+
+use crate::FileError;
+use crate::faults::Fault;
+use crate::lines::{line, rule_line, size_line, stones};
+use game_rules::{Point, RuleKind, Side};
+use std::alloc::Global;
+use stone_board::Board;
+
+/// Puts stones of the side on these points, where none of them stands yet. `false` says that the points don't rise in reading
+/// order, or that one of them is taken.
+fn put_stones(board: &mut Board, side: Side, points: &[Point]) -> bool
+    requires within { AllByRecursion (IsWithin board.old.width board.old.height) points.now }
+    requires none { stones_lem board.old side ≡ [] }
+    ensures put { IsTrue result → SameBut side board.old board.new × (stones_lem board.new side ≡ points.now) }
+    ensures refused { result ≡ false → (b : Grid) → IsBoard b → SameBut side board.old b → stones_lem b side ≡ points.now → ⊥ }
+    ensures board { IsBoard board.new }
+{
+    let width = u32::from(board.width());
+    let mut least = 0;
+    for p in points {
+        let place = u32::from(p.y) * width + u32::from(p.x);
+        if place < least || !board.is_empty(*p) {
+            return false;
+        }
+        board.put(*p, side);
+        least = place + 1;
+    }
+    true
+}
+
+/// Puts the stones of the side that the first line lists after this word, where none of the side stands yet, and answers the
+/// bytes after the line.
+fn stones_line<'a>(
+    alloc: Global,
+    board: &mut Board,
+    side: Side,
+    word: &[u8],
+    bytes: &'a [u8],
+) -> Result<&'a [u8], Fault>
+    requires word { is_free space word.now ≡ true }
+    requires one_line { is_free line_feed word.now ≡ true }
+    requires none { stones_lem board.old side ≡ [] }
+    ensures put { IfOk result (λ rest. SameBut side board.old board.new
+        × (bytes.now ≡ (word.now ++ points_text (stones_lem board.new side)) ++ line_feed ∷ rest.now)) }
+    ensures bad { result ≡ Err Fault.Bad → (b : Grid) (rest : List ℕ) → IsBoard b → SameBut side board.old b
+        → bytes.now ≡ (word.now ++ points_text (stones_lem b side)) ++ line_feed ∷ rest → ⊥ }
+    ensures board { IsBoard board.new }
+{
+    let width = board.width();
+    let height = board.height();
+    let Some((line, rest)) = line(bytes) else {
+        return Err(Fault::Bad);
+    };
+    let points = stones(alloc, line, word, width, height)?;
+    if !put_stones(board, side, points.as_slice()) {
+        return Err(Fault::Bad);
+    }
+    Ok(rest)
+}
+
+/// The rule and the board that the first four lines tell, and the bytes after them. They are lines 2 to 5 of a text.
+pub(crate) fn read_board(alloc: Global, bytes: &[u8]) -> Result<(RuleKind, Board, &[u8]), FileError>
+    ensures board { IfOk result (λ found. IsBoard found.1) }
+    ensures text { IfOk result (λ found. bytes.now ≡ text_of (board_lines found.0 found.1) ++ found.2.now) }
+{
+    let Some((kind, rest)) = rule_line(bytes) else {
+        return Err(FileError::BadLine(2));
+    };
+    let Some(((width, height), rest)) = size_line(rest) else {
+        return Err(FileError::BadLine(3));
+    };
+    let mut board = Board::empty(alloc, width, height)?;
+    let rest = match stones_line(alloc, &mut board, Side::Black, b"black", rest) {
+        Ok(rest) => rest,
+        Err(fault) => return Err(fault.at(4)),
+    };
+    let rest = match stones_line(alloc, &mut board, Side::White, b"white", rest) {
+        Ok(rest) => rest,
+        Err(fault) => return Err(fault.at(5)),
+    };
+    Ok((kind, board, rest))
+}

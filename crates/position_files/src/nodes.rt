@@ -1,0 +1,79 @@
+//! The nodes of a table, read line by line.
+#![tactic(auto)]
+
+ghost use Rattle.std.specs.Prelude.{◌≡◌, ℕ, ◌≤◌, ◌<◌, true, List, [], ◌∷◌, ◌++◌, length, map, OnOk, IfOk, Err};
+ghost use Rattle.std.specs.List.{AllByRecursion};
+ghost use Rattle.strategy_graph.specs.Tables.{IsNode, is_winning};
+ghost use Rattle.strategy_graph.specs.declared.Node.{Node};
+ghost use Rattle.position_files.specs.Lines.{line_feed, text_of};
+ghost use Rattle.position_files.specs.Tables.{node_line};
+ghost use Rattle.position_files.specs.Reading.{IsSide};
+ghost use Rattle.position_files.specs.Answers.{AddsNode, NodeFits};
+
+use crate::FileError;
+use crate::answers::node;
+use crate::faults::Fault;
+use crate::lines::line;
+use std::alloc::Global;
+use strategy_graph::{Node, PushError, Table};
+
+/// The number of the first line that has a node.
+pub(crate) const FIRST_NODE_LINE: u32 = 8;
+
+/// Adds the node at the end of the table. `Bad` says that it is no node of this number.
+fn push(table: &mut Table, node: Node) -> Result<(), Fault>
+    requires winning { is_winning node.rest ≡ true → node.replies ≡ [] }
+    ensures pushed { OnOk result (table.new ≡ table.old ++ node ∷ []) }
+    ensures bad { result ≡ Err Fault.Bad → IsNode node (length table.old) → length table.old < 1000000 → ⊥ }
+{
+    match table.push(node) {
+        Ok(_) => Ok(()),
+        Err(PushError::NotBelow | PushError::NotRising | PushError::Full) => Err(Fault::Bad),
+        Err(PushError::Memory) => Err(Fault::Memory),
+    }
+}
+
+/// Adds the node of the first line at the end of the table, and answers the bytes after the line.
+fn add_node<'a>(
+    alloc: Global,
+    table: &mut Table,
+    bytes: &'a [u8],
+    width: u8,
+    height: u8,
+) -> Result<&'a [u8], Fault>
+    requires wide { IsSide width }
+    requires high { IsSide height }
+    ensures added { IfOk result (λ rest. AddsNode width height table.old table.new bytes.now rest.now) }
+{
+    let Some((text, rest)) = line(bytes) else {
+        return Err(Fault::Bad);
+    };
+    push(table, node(alloc, text, width, height)?)?;
+    Ok(rest)
+}
+
+/// The table of the next `count` lines, and the bytes after them.
+pub(crate) fn read_nodes(
+    alloc: Global,
+    bytes: &[u8],
+    count: u32,
+    width: u8,
+    height: u8,
+) -> Result<(Table, &[u8]), FileError>
+    requires wide { IsSide width }
+    requires high { IsSide height }
+    requires few { count ≤ 1000000 }
+    ensures count { IfOk result (λ found. length found.0 ≡ count) }
+    ensures nodes { IfOk result (λ found. AllByRecursion (NodeFits width height) found.0) }
+    ensures text { IfOk result (λ found. bytes.now ≡ text_of (map node_line found.0) ++ found.1.now) }
+{
+    let mut table = Table::new(alloc);
+    let mut rest = bytes;
+    for number in 0..count {
+        match add_node(alloc, &mut table, rest, width, height) {
+            Ok(after) => rest = after,
+            Err(fault) => return Err(fault.at(FIRST_NODE_LINE + number)),
+        }
+    }
+    Ok((table, rest))
+}

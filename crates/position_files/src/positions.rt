@@ -1,0 +1,31 @@
+//! Texts of positions, read line by line.
+//!
+//! Each line is read by a function that answers a value exactly where the bytes begin with the line of one. The number of the
+//! line at which the first of them answers none is that of the bad line.
+#![tactic(auto)]
+
+ghost use Rattle.std.specs.Prelude.{IfOk};
+ghost use Rattle.game_rules.specs.Play.{IsPosition};
+ghost use Rattle.position_files.specs.Positions.{IsTextOfPosition};
+
+use crate::boards::read_board;
+use crate::lawful::lawful;
+use crate::words::after;
+use crate::{FileError, PositionFile};
+use std::alloc::Global;
+
+/// The position that the bytes are the text of.
+pub fn read_position(alloc: Global, bytes: &[u8]) -> Result<PositionFile, FileError>
+    ensures found { IfOk result (λ file. IsTextOfPosition file bytes.now) }
+    ensures lawful { IfOk result (λ file. IsPosition file.kind file.board) }
+{
+    let Some(rest) = after(bytes, b"renju-position 1\n") else {
+        return Err(FileError::BadLine(1));
+    };
+    let (kind, board, rest) = read_board(alloc, rest)?;
+    if !rest.is_empty() {
+        return Err(FileError::BadLine(6));
+    }
+    let board = lawful(kind, board)?;
+    Ok(PositionFile { kind, board })
+}

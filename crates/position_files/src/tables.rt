@@ -1,0 +1,130 @@
+//! Texts of tables, read line by line.
+#![tactic(auto)]
+
+ghost use Rattle.std.specs.Prelude.{◌≡◌, ◌∷◌, ◌++◌, true, length, codes, IfOk};
+ghost use Rattle.game_rules.specs.Play.{IsPosition};
+ghost use Rattle.strategy_graph.specs.Roots.{root_below, root_depth};
+ghost use Rattle.position_files.specs.Lines.{line_feed, text_of};
+ghost use Rattle.position_files.specs.Positions.{board_lines};
+ghost use Rattle.position_files.specs.Tables.{IsTextOfTable, nodes_lines};
+ghost use Rattle.position_files.specs.Bodies.{BodyFits, IsFinished};
+
+use crate::answers::start_line;
+use crate::boards::read_board;
+use crate::lawful::lawful;
+use crate::lines::number_line;
+use crate::nodes::{FIRST_NODE_LINE, read_nodes};
+use crate::words::after;
+use crate::{FileError, TableFile};
+use game_rules::RuleKind;
+use std::alloc::Global;
+use stone_board::Board;
+use strategy_graph::{Root, Table};
+
+/// What the lines of a table tell from line 2 to its last node.
+#[derive(Drop)]
+pub(crate) struct Body {
+    pub(crate) kind: RuleKind,
+    pub(crate) board: Board,
+    pub(crate) table: Table,
+    pub(crate) moves: u32,
+}
+
+/// What lines 2 on tell, with at least so many moves and nodes, and the bytes after the last node.
+fn read_body(alloc: Global, bytes: &[u8], least: u32) -> Result<(Body, &[u8]), FileError>
+    ensures fits { IfOk result (λ found. BodyFits least found.0) }
+    ensures text { IfOk result (λ found. bytes.now ≡ text_of (board_lines found.0.kind found.0.board ++ nodes_lines found.0.table found.0.moves) ++ found.1.now) }
+{
+    let (kind, board, rest) = read_board(alloc, bytes)?;
+    let Some((moves, rest)) = number_line(rest, b"moves ", least) else {
+        return Err(FileError::BadLine(6));
+    };
+    let Some((count, rest)) = number_line(rest, b"nodes ", least) else {
+        return Err(FileError::BadLine(7));
+    };
+    let (table, rest) = read_nodes(alloc, rest, count, board.width(), board.height())?;
+    let body = Body {
+        kind,
+        board,
+        table,
+        moves,
+    };
+    Ok((body, rest))
+}
+
+/// The table that is entered at this root, which names only nodes of the table.
+fn finish(body: Body, root: Root) -> Result<TableFile, FileError>
+    requires below { root_below root (length body.table) ≡ true }
+    ensures finished { IfOk result (IsFinished body root) }
+{
+    let Body {
+        kind,
+        board,
+        table,
+        moves,
+    } = body;
+    let board = lawful(kind, board)?;
+    let counted = table.root_depth(&root)?;
+    if counted != moves {
+        return Err(FileError::WrongMoves {
+            written: moves,
+            counted,
+        });
+    }
+    Ok(TableFile {
+        kind,
+        board,
+        table,
+        root,
+        moves,
+    })
+}
+
+/// The table of version 1, whose root is its last node, that the bytes after the first line are the text of.
+fn read_attack(alloc: Global, bytes: &[u8]) -> Result<TableFile, FileError>
+    ensures text { IfOk result (λ file. IsTextOfTable file (codes "renju-table 1" ++ line_feed ∷ bytes.now)) }
+    ensures lawful { IfOk result (λ file. IsPosition file.kind file.board) }
+    ensures moves { IfOk result (λ file. file.moves ≡ root_depth file.table file.root) }
+{
+    let (body, rest) = read_body(alloc, bytes, 1)?;
+    let len = body.table.len();
+    if !rest.is_empty() {
+        return Err(FileError::BadLine(FIRST_NODE_LINE + len));
+    }
+    finish(body, Root::Attack(len - 1))
+}
+
+/// The table of version 2, whose root is a start, that the bytes after the first line are the text of.
+fn read_defend(alloc: Global, bytes: &[u8]) -> Result<TableFile, FileError>
+    ensures text { IfOk result (λ file. IsTextOfTable file (codes "renju-table 2" ++ line_feed ∷ bytes.now)) }
+    ensures lawful { IfOk result (λ file. IsPosition file.kind file.board) }
+    ensures moves { IfOk result (λ file. file.moves ≡ root_depth file.table file.root) }
+{
+    let (body, rest) = read_body(alloc, bytes, 0)?;
+    let len = body.table.len();
+    let width = body.board.width();
+    let height = body.board.height();
+    let (start, rest) = match start_line(alloc, rest, len, width, height) {
+        Ok(found) => found,
+        Err(fault) => return Err(fault.at(FIRST_NODE_LINE + len)),
+    };
+    if !rest.is_empty() {
+        return Err(FileError::BadLine(FIRST_NODE_LINE + len + 1));
+    }
+    finish(body, Root::Defend(start))
+}
+
+/// The table that the bytes are the text of.
+pub fn read_table(alloc: Global, bytes: &[u8]) -> Result<TableFile, FileError>
+    ensures found { IfOk result (λ file. IsTextOfTable file bytes.now) }
+    ensures lawful { IfOk result (λ file. IsPosition file.kind file.board) }
+    ensures moves { IfOk result (λ file. file.moves ≡ root_depth file.table file.root) }
+{
+    if let Some(rest) = after(bytes, b"renju-table 1\n") {
+        return read_attack(alloc, rest);
+    }
+    if let Some(rest) = after(bytes, b"renju-table 2\n") {
+        return read_defend(alloc, rest);
+    }
+    Err(FileError::BadLine(1))
+}

@@ -1,0 +1,72 @@
+//! Texts that are read, and texts that are refused.
+
+use crate::{FileError, read_position, read_table};
+use foul_judge::PositionError;
+use game_rules::{Point, RuleKind, Side};
+use std::test::Fail;
+use strategy_graph::Root;
+
+const POSITION: &[u8] = b"renju-position 1\nrule renju\nsize 9,5\nblack 0,2 1,2\nwhite 0,0\n";
+
+const TABLE: &[u8] =
+    b"renju-table 1\nrule freestyle\nsize 15\nblack 4,7 5,7 6,7 7,7\nwhite 0,0 2,0 4,0 6,0\nmoves 2\nnodes 2\n8,7 wins\n3,7 rest 0 8,7>0\n";
+
+const START: &[u8] =
+    b"renju-table 2\nrule freestyle\nsize 15\nblack 4,7 5,7 6,7 7,7\nwhite 0,0 2,0 4,0\nmoves 1\nnodes 2\n8,7 wins\n3,7 wins\nstart rest 0 8,7>1\n";
+
+#[test]
+fn reads_a_position(rt: HostRuntime) -> Result<(), Fail> {
+    let file = read_position(rt.alloc(), POSITION)?;
+    assert_eq!(rt; file.kind, RuleKind::Renju);
+    assert_eq!(rt; (file.board.width(), file.board.height()), (9, 5));
+    assert_eq!(rt;
+        (file.board.count(Side::Black), file.board.count(Side::White)),
+        (2, 1)
+    );
+    assert!(rt; file.board.holds(Side::Black, Point { x: 1, y: 2 }));
+    Ok(())
+}
+
+#[test]
+fn reads_tables_of_both_versions(rt: HostRuntime) -> Result<(), Fail> {
+    let attack = read_table(rt.alloc(), TABLE)?;
+    assert_eq!(rt; (attack.moves, attack.table.len()), (2, 2));
+    assert!(rt; matches!(&attack.root, Root::Attack(1)));
+    let defend = read_table(rt.alloc(), START)?;
+    assert_eq!(rt; (defend.moves, defend.table.len()), (1, 2));
+    assert!(rt; matches!(&defend.root, Root::Defend(_)));
+    Ok(())
+}
+
+#[test]
+fn names_what_is_refused(rt: HostRuntime) {
+    let cases: [(&[u8], FileError); 6] = [
+        (b"", FileError::BadLine(1)),
+        (
+            b"renju-position 1\nrule renju\nsize 9,9\n",
+            FileError::BadLine(3),
+        ),
+        (
+            b"renju-position 1\nrule renju\nsize 9\nblack 1,1 0,1\nwhite\n",
+            FileError::BadLine(4),
+        ),
+        (
+            b"renju-position 1\nrule renju\nsize 9\nblack 0,1\nwhite 0,1\n",
+            FileError::BadLine(5),
+        ),
+        (
+            b"renju-position 1\nrule renju\nsize 9\nblack\nwhite\n\n",
+            FileError::BadLine(6),
+        ),
+        (
+            b"renju-position 1\nrule renju\nsize 9\nblack\nwhite 0,1\n",
+            FileError::Unlawful(PositionError::Uneven { black: 0, white: 1 }),
+        ),
+    ];
+    for (bytes, error) in cases {
+        assert!(rt;
+            read_position(rt.alloc(), bytes).err() == Some(error),
+            "at {bytes:?}"
+        );
+    }
+}

@@ -1,0 +1,4 @@
+mod Joins
+mod Verdicts
+mod Inputs
+mod Wins

@@ -1,0 +1,64 @@
+-- What `foul` says of its input.
+use Rattle.std.specs.Prelude.{◌≡◌, ◌≢◌, ℕ, List, [], ◌++◌, length, codes, if◌then◌else◌, Option, None}
+use Rattle.std.specs.List.{flat_map, filter_map}
+use Rattle.std.specs.Option.{option_map}
+use Rattle.std.specs.Fmt.{decimal}
+use Rattle.game_rules.specs.Grid.{Grid, is_empty, points_of}
+use Rattle.game_rules.specs.Play.{IsPosition, foul_of, mover}
+use Rattle.game_rules.specs.declared.RuleKind.{RuleKind}
+use Rattle.game_rules.specs.declared.Side.{Side}
+use Rattle.game_rules.specs.declared.Side.TheVariants.{Black, White}
+use Rattle.game_rules.specs.declared.Foul.{Foul}
+use Rattle.game_rules.specs.declared.Foul.TheVariants.{Overline, DoubleFour, DoubleThree}
+use Rattle.game_rules.specs.declared.Point.{Point}
+use Rattle.position_files.specs.declared.PositionFile.{PositionFile}
+use Rattle.position_files.specs.Positions.{IsTextOfPosition}
+use Rattle.position_files.specs.declared.error.FileError.{FileError}
+use Rattle.position_files.specs.declared.error.FileError.TheVariants.{Memory as NoMemory}
+use Rattle.renju_cli.specs.declared.fouls.FoulPoint.{FoulPoint}
+use Rattle.renju_cli.specs.declared.status.Status.{Status}
+use Rattle.renju_cli.specs.declared.status.Status.TheVariants.{Done, RefusedText}
+use Rattle.renju_cli.specs.Checks.{refusal_line}
+use Rattle.renju_cli.specs.Texts.{line}
+
+-- the foul of Black at a point, if the point is empty and a foul
+abbrev pub foul_point : RuleKind → Grid → Point → Option FoulPoint
+foul_point kind b p = if is_empty b p then option_map (λ f. record { at = p; foul = f }) (foul_of kind b Black p) else None
+
+-- the fouls of Black in reading order
+abbrev pub black_fouls : RuleKind → Grid → List FoulPoint
+black_fouls kind b = filter_map (foul_point kind b) (points_of b)
+
+-- the fouls of the side to move, which only Black has
+abbrev pub fouls_of_mover : Side → RuleKind → Grid → List FoulPoint
+fouls_of_mover Black kind b = black_fouls kind b
+fouls_of_mover White kind b = []
+
+-- the words of the fouls
+abbrev pub foul_word : Foul → List ℕ
+foul_word Overline = codes "overline"
+foul_word DoubleFour = codes "double-four"
+foul_word DoubleThree = codes "double-three"
+
+-- the line of a foul up to its word
+abbrev pub foul_head : Point → List ℕ
+foul_head p = codes "foul " ++ decimal p.x ++ codes "," ++ decimal p.y ++ codes " "
+
+-- the line of a foul: its point and its word
+abbrev pub foul_line : FoulPoint → List ℕ
+foul_line f = line (foul_head f.at ++ foul_word f.foul)
+
+-- the number of fouls, and a line for each
+abbrev pub fouls_text : List FoulPoint → List ℕ
+fouls_text fouls = line (codes "fouls " ++ decimal (length fouls)) ++ flat_map foul_line fouls
+
+-- the input is the text of a lawful position
+pub record IsPositionAt (file : PositionFile) (input : List ℕ) : Type 0 where
+  pub text : IsTextOfPosition file input
+  pub lawful : IsPosition file.kind file.board
+
+-- What `foul` says of an input that it has read whole: that the text is refused, or else the fouls of the side to move.
+abbrev pub FoulSays : List ℕ → Status → List ℕ → Type 0
+FoulSays input Done text = (file : PositionFile) × IsPositionAt file input × (text ≡ fouls_text (fouls_of_mover (mover file.board) file.kind file.board))
+FoulSays input RefusedText text = (error : FileError) × (error ≢ NoMemory) × (text ≡ refusal_line error)
+FoulSays input _ text = ⊥

@@ -1,0 +1,7 @@
+pub mod Texts
+pub mod Statuses
+pub mod Words
+pub mod Roots
+pub mod Checks
+pub mod Fouls
+pub mod Reports

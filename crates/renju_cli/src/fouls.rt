@@ -1,0 +1,142 @@
+//! The command `foul`: the fouls of Black, where Black is to move.
+#![tactic(auto)]
+
+ghost use Rattle.std.specs.Prelude.{◌≡◌, ◌++◌, IfOk, string_bytes};
+ghost use Rattle.std.specs.List.{flat_map};
+ghost use Rattle.game_rules.specs.Play.{IsPosition, mover};
+ghost use Rattle.renju_cli.specs.Fouls.{FoulSays, foul_point as foul_point_lem, black_fouls as black_fouls_lem, fouls_of_mover, foul_word as foul_word_lem, foul_line as foul_line_lem, foul_head as foul_head_lem, fouls_text as fouls_text_lem};
+
+use crate::Status;
+use crate::answer::Answer;
+use crate::check::refused_text;
+use foul_judge::{Foul, Position, Seen, foul_at};
+use game_rules::RuleKind;
+use position_files::{PositionFile, read_position};
+use row_shapes::{ExactFive, Freestyle, Renju, Rule};
+use std::alloc::{AllocError, Global};
+use stone_board::{Board, Point, Side};
+
+/// A point where Black has a foul.
+#[derive(Clone, Copy, Debug, PartialEq, Eq)]
+pub(crate) struct FoulPoint {
+    pub at: Point,
+    pub foul: Foul,
+}
+
+/// What `foul` says of an input.
+pub(crate) fn foul_text(alloc: Global, bytes: &[u8]) -> Result<Answer, AllocError>
+    ensures says { IfOk result (λ answer. FoulSays bytes.now answer.status (string_bytes answer.text)) }
+{
+    match read_position(alloc, bytes) {
+        Ok(file) => list_fouls(alloc, file),
+        Err(error) => refused_text(alloc, error),
+    }
+}
+
+/// The list of the fouls of a position.
+fn list_fouls(alloc: Global, file: PositionFile) -> Result<Answer, AllocError>
+    requires lawful { IsPosition file.kind file.board }
+    ensures status { IfOk result (λ answer. answer.status ≡ Status.Done) }
+    ensures text { IfOk result (λ answer. string_bytes answer.text ≡ fouls_text_lem (fouls_of_mover (mover file.board) file.kind file.board)) }
+{
+    let fouls = match file.kind {
+        RuleKind::Freestyle => mover_fouls::<Freestyle>(alloc, file.board)?,
+        RuleKind::Exact => mover_fouls::<ExactFive>(alloc, file.board)?,
+        RuleKind::Renju => mover_fouls::<Renju>(alloc, file.board)?,
+    };
+    Ok(Answer {
+        status: Status::Done,
+        text: fouls_text(alloc, fouls.as_slice())?,
+    })
+}
+
+/// The fouls of the side to move.
+fn mover_fouls<R: Rule>(alloc: Global, board: Board) -> Result<Vec<FoulPoint>, AllocError>
+    requires lawful { IsPosition R.KIND board }
+    ensures fouls { IfOk result (λ fouls. fouls.items ≡ fouls_of_mover (mover board) R.KIND board) }
+{
+    let position = Position::<R>::new(board);
+    match position.side() {
+        Side::Black => {
+            let mut board = position.into_board();
+            black_fouls::<R>(alloc, &mut board)
+        }
+        Side::White => Ok(Vec::new(alloc)),
+    }
+}
+
+/// The fouls of Black in reading order. The board is as before.
+fn black_fouls<R: Rule>(alloc: Global, board: &mut Board) -> Result<Vec<FoulPoint>, AllocError>
+    ensures fouls { IfOk result (λ fouls. fouls.items ≡ black_fouls_lem R.KIND board.old) }
+{
+    let mut fouls = Vec::new(alloc);
+    for p in board.points() {
+        if let Some(found) = foul_point::<R>(board, p) {
+            fouls.push(found)?;
+        }
+    }
+    Ok(fouls)
+}
+
+/// The foul of Black at a point, if the point is empty and a foul. The board is as before.
+fn foul_point<R: Rule>(board: &mut Board, p: Point) -> Option<FoulPoint>
+    ensures foul { result ≡ foul_point_lem R.KIND board.old p }
+    ensures same { board.new ≡ board.old }
+{
+    if !board.is_empty(p) {
+        return None;
+    }
+    let foul = foul_at::<R>(board, p)?;
+    Some(FoulPoint { at: p, foul })
+}
+
+/// The number of fouls, and a line for each.
+fn fouls_text(alloc: Global, fouls: &[FoulPoint]) -> Result<String, AllocError>
+    ensures text { IfOk result (λ text. string_bytes text ≡ fouls_text_lem fouls.now) }
+{
+    let count = fouls.len();
+    let mut text = format!(in alloc; "fouls {count}\n")?;
+    push_fouls(alloc, &mut text, fouls)?;
+    Ok(text)
+}
+
+/// Adds a line for each foul to a text.
+fn push_fouls(alloc: Global, text: &mut String, fouls: &[FoulPoint]) -> Result<(), AllocError>
+    ensures fouls { IfOk result (λ _. string_bytes text.new ≡ string_bytes text.old ++ flat_map foul_line_lem fouls.now) }
+{
+    for found in fouls {
+        let line = foul_line(alloc, *found)?;
+        text.push_str(line.as_str())?;
+    }
+    Ok(())
+}
+
+/// The line of a foul.
+fn foul_line(alloc: Global, found: FoulPoint) -> Result<String, AllocError>
+    ensures line { IfOk result (λ text. string_bytes text ≡ foul_line_lem found) }
+{
+    let mut text = foul_head(alloc, found.at)?;
+    text.push_str(foul_word(found.foul))?;
+    text.push_str("\n")?;
+    Ok(text)
+}
+
+/// The line of a foul up to its word.
+fn foul_head(alloc: Global, at: Point) -> Result<String, AllocError>
+    ensures head { IfOk result (λ text. string_bytes text ≡ foul_head_lem at) }
+{
+    let x = at.x;
+    let y = at.y;
+    format!(in alloc; "foul {x},{y} ")
+}
+
+/// The word of a foul.
+fn foul_word(foul: Foul) -> &'static str
+    ensures word { result.now ≡ foul_word_lem foul }
+{
+    match foul {
+        Foul::Overline => "overline",
+        Foul::DoubleFour => "double-four",
+        Foul::DoubleThree => "double-three",
+    }
+}

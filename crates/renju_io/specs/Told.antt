@@ -1,0 +1,22 @@
+-- Bytes that a device may tell: `Some` of the bytes that a source has left or that a sink has written, or `None`
+-- where it does not tell them. `append_known` and `prepend_known` of std keep `None` as it is.
+use Rattle.std.specs.Prelude.{◌≡◌, ℕ, List, Option, take}
+use Rattle.std.specs.Io.KnownBytes.{prepend_known, append_known}
+
+-- a source gave these bytes: they were the front of what was left, and the rest is left now
+abbrev pub Gives : Option (List ℕ) → List ℕ → Option (List ℕ) → Type 0
+Gives old given new = old ≡ prepend_known given new
+
+-- a source gave some bytes, maybe none: what is left now is the end of what was left
+pub record GivesSome (old new : Option (List ℕ)) : Type 0 where
+  pub given : List ℕ
+  pub gives : Gives old given new
+
+-- a sink took these bytes: they stand behind those that were written before
+abbrev pub Takes : Option (List ℕ) → List ℕ → Option (List ℕ) → Type 0
+Takes old taken new = new ≡ append_known old taken
+
+-- a sink took the first so many bytes of a piece, maybe none or all
+pub record TakesPart (old : Option (List ℕ)) (piece : List ℕ) (new : Option (List ℕ)) : Type 0 where
+  pub count : ℕ
+  pub takes : Takes old (take count piece) new

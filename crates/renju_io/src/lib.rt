@@ -1,0 +1,39 @@
+//! Devices: what gives bytes, what takes bytes, and what holds files by name.
+//!
+//! A device is a trait with a count of faults, and where it can tell them its bytes. A call answers that the device
+//! failed only where that count rose in the call, so code over a device cannot make up a failure. The devices in
+//! memory tell their bytes and fail at stated calls; those over standard input, standard output and real files tell
+//! nothing of content and are the edge that is trusted.
+#![tactic(auto)]
+
+mod failures;
+mod fault;
+mod memory_shelf;
+mod memory_sink;
+mod memory_source;
+mod reading;
+mod real;
+mod shelf;
+mod sink;
+mod source;
+mod writing;
+
+pub use fault::Failed;
+pub use memory_shelf::{MemoryFile, MemoryShelf};
+pub use memory_sink::MemorySink;
+pub use memory_source::MemorySource;
+pub use reading::{ReadAllError, read_all};
+pub use real::{RealShelf, RealSink, RealSource};
+pub use shelf::{LoadError, Shelf};
+pub use sink::Sink;
+pub use source::Source;
+pub use writing::write_text;
+
+/// The most bytes that the input of a command, or a file, may have.
+pub const MAX_INPUT_BYTES: usize = 16_777_216;
+
+/// The most bytes that a text is cut into for one write.
+pub const MAX_PIECE_BYTES: usize = 4_096;
+
+#[cfg(test)]
+mod tests;

@@ -1,0 +1,23 @@
+// What takes bytes, piece by piece.
+ghost use Rattle.std.specs.Prelude.{◌≡◌, ℕ, List, Option, OnOk, OnErr};
+ghost use Rattle.renju_io.specs.Faults.{HasRisen, HasNotFallen};
+ghost use Rattle.renju_io.specs.Told.{Takes, TakesPart};
+
+use crate::Failed;
+
+/// A sink of bytes.
+pub trait Sink {
+    /// The bytes that were written, where the sink tells them.
+    ghost written: { Self → Option (List ℕ) };
+
+    /// How often the sink has failed, up to 2^64 - 1.
+    ghost faults: { Self → ℕ };
+
+    /// Writes the whole piece behind what was written. A write that fails has written some first bytes of the piece,
+    /// maybe none or all of them.
+    fn write(&mut self, piece: &[u8]) -> Result<(), Failed>
+        ensures whole { OnOk result (Takes (written self.old) piece.now (written self.new)) }
+        ensures part { OnErr result (TakesPart (written self.old) piece.now (written self.new)) }
+        ensures failed { OnErr result (HasRisen (faults self.old) (faults self.new)) }
+        ensures counted { HasNotFallen (faults self.old) (faults self.new) };
+}

@@ -1,0 +1,20 @@
+// Texts of any length, written in pieces.
+ghost use Rattle.std.specs.Prelude.{OnOk, OnErr};
+ghost use Rattle.renju_io.specs.Faults.{HasRisen, HasNotFallen};
+ghost use Rattle.renju_io.specs.Told.{Takes, TakesPart};
+
+use crate::{Failed, MAX_PIECE_BYTES, Sink};
+
+/// Writes a text in pieces of at most `MAX_PIECE_BYTES` bytes, up to the first write that fails. An empty text asks
+/// for no write.
+pub fn write_text<O: Sink>(sink: &mut O, text: &[u8]) -> Result<(), Failed>
+    ensures whole { OnOk result (Takes (O.written sink.old) text.now (O.written sink.new)) }
+    ensures part { OnErr result (TakesPart (O.written sink.old) text.now (O.written sink.new)) }
+    ensures failed { OnErr result (HasRisen (O.faults sink.old) (O.faults sink.new)) }
+    ensures counted { HasNotFallen (O.faults sink.old) (O.faults sink.new) }
+{
+    for piece in text.chunks(MAX_PIECE_BYTES) {
+        sink.write(piece)?;
+    }
+    Ok(())
+}

@@ -1,0 +1,389 @@
+-- A three point of a stone is the first point in one of the two ways that holds no stone of its side.
+use Rattle.std.proofs.Common.{◌≡◌, ◌≢◌, inl, inr, ℕ, ◌+◌, ◌-◌, ◌≤◌, ◌<◌, max, Bool, true, false, cond, ◌&&◌, not, refl, sym, ap, ◌∙◌, arith, nat_eq, eq-eqb}
+use Rattle.std.specs.Prelude.{Option, Some, None}
+use Rattle.std.specs.List.{list_any, range_with_len}
+use Rattle.std.proofs.lemmas.Bool.{cases_lt}
+use Rattle.std.proofs.lemmas.Bool.Decides.{nat_tests}
+use Rattle.std.proofs.Math.Bool.{and-true, and-false}
+use Rattle.std.proofs.lemmas.Nat.Bits.{bit_at_or, bit_at-lt, bit_at-zero, bit_at-pow_same, bit_at-pow_other}
+use Rattle.std.specs.Prelude.{bit_or}
+use Rattle.std.specs.Int.{bit_at}
+use Rattle.game_rules.specs.Grid.{Grid, IsBoard, is_on, is_empty, is_empty_cell, cell_at, holds, put, along}
+use Rattle.game_rules.specs.Shapes.{row_wins, stone_at, run_of, wins_on, wins_at, is_straight, is_at, is_same_point, is_in_run, gives_straight, is_line_three_point, is_line_three_at, stones_ahead, stones_behind}
+use Rattle.game_rules.specs.declared.RuleKind.{RuleKind}
+use Rattle.game_rules.specs.declared.RuleKind.TheVariants.{Freestyle, Exact, Renju}
+use Rattle.game_rules.specs.declared.Side.{Side}
+use Rattle.game_rules.specs.declared.Side.TheVariants.{Black, White}
+use Rattle.game_rules.specs.declared.Axis.{Axis}
+use Rattle.game_rules.specs.declared.Cell.TheVariants.{Empty}
+use Rattle.game_rules.specs.declared.Point.{Point}
+use Rattle.game_rules.proofs.Boards.{Apart, is_empty-cell, and_left, and_right, is_empty-on, holds-put_same, cell_at-put_other, run_of-put}
+use Rattle.game_rules.proofs.Positions.{holds-put_more, IsBoard-put}
+use Rattle.game_rules.proofs.Rows.{any_found, or_cases}
+use Rattle.game_rules.proofs.Lines.{along-same, along-zero}
+use Rattle.stone_board.specs.declared.board.Way.{Way}
+use Rattle.stone_board.specs.declared.board.Way.TheVariants.{Ahead, Behind}
+use Rattle.stone_board.specs.Steps.{kept_on, towards, opposite, stones_towards}
+use Rattle.row_shapes.specs.Threes.{wins_past, is_open_four, three_place, place_towards, bit_of}
+use Rattle.row_shapes.proofs.Finds.{any_in_range, is_at-Some, or_split}
+use Rattle.row_shapes.proofs.Ways.{along-steps, go, go-then, go-same, go-towards, go-opposite, go-apart, opposite-opposite, else_at, leads, leads_is, leads_back, leads_back_is, run_before_end}
+
+-- ---- a stone beside others
+
+put_more : (b : Grid) (s : Side) (q : Point) (o : Option Point) → IsBoard b → is_empty b q ≡ true → stone_at b s o ≡ true → stone_at (put b s q) s o ≡ true
+put_more b s q None ok empty h = h
+put_more b s q (Some r) ok empty h = holds-put_more b s q r ok empty h
+
+empty_by : (b : Grid) (s : Side) (q r : Point) (on : Bool) → is_on b r ≡ on → is_on b q ≡ true → Apart q r → is_empty (put b s q) r ≡ is_empty b r
+empty_by b s q r true e on apart = rw e (ap is_empty_cell (cell_at-put_other b s q r on e apart))
+empty_by b s q r false e on apart = rw e refl
+
+-- a stone leaves another point empty, or not
+empty-put : (b : Grid) (s : Side) (q r : Point) → is_on b q ≡ true → Apart q r → is_empty (put b s q) r ≡ is_empty b r
+empty-put b s q r on apart = empty_by b s q r (is_on b r) refl on apart
+
+-- a run through the new stone, from either of the two ways
+run_towards : (b : Grid) (s : Side) (w : Way) (d : Axis) (q : Point) → IsBoard b → is_on b q ≡ true → run_of (put b s q) s d q ≡ 1 + stones_towards w b s d q + stones_towards (opposite w) b s d q
+run_towards b s Ahead d q ok on = run_of-put b s q on ok d
+run_towards b s Behind d q ok on = let run = run_of-put b s q on ok d in omega (arith, run)
+
+-- ---- the end of a run
+
+-- q is a point of the line no further in that way than the run through p, which is of four on the board with q
+module _ (rule : RuleKind) (b : Grid) (s : Side) (w : Way) (d : Axis) (p q : Point) (x y : ℕ) (ok : IsBoard b) (empty : is_empty b q ≡ true) (here : go w d p x y ≡ Some q) (mine : holds (put b s q) s p ≡ true) where
+  filled_on : is_on b q ≡ true
+  filled_on = is_empty-on b q empty
+
+  -- how far the run reaches
+  abbrev reach : ℕ
+  reach = stones_towards w (put b s q) s d p
+
+  module _ (e : Point) (end : go w d p (1 + reach) 0 ≡ Some e) (near : x ≤ reach + y) where
+    apart : Apart q e
+    apart = go-apart w d p q e x y (1 + reach) 0 here end (λ same. absurd (omega arith))
+
+    stones_past : is_on b e ≡ true → stones_towards w (put b s q) s d e ≡ stones_towards w b s d e
+    stones_past on = leads_is (put b s q) s d e on w (stones_towards w b s d e) (record {
+      holds = λ j low high. same j ∙ (leads b s d e on w).holds j low high;
+      stops = same (1 + stones_towards w b s d e) ∙ (leads b s d e on w).stops;
+    }) where
+      same : (k : ℕ) → stone_at (put b s q) s (go w d e k 0) ≡ stone_at b s (go w d e k 0)
+      same k =
+          let place : go w d e k 0 ≡ go w d p (1 + reach + k) 0 = go-then w d p e (1 + reach) 0 k 0 end ∙ go-same w d p (1 + reach + k) (0 + 0) (1 + reach + k) 0 (omega arith) in
+          ap (stone_at (put b s q) s) place ∙ else_at b s w d p q x y (1 + reach + k) 0 filled_on here (λ same. absurd (omega arith)) ∙ ap (stone_at b s) (sym place)
+
+    end_wins_by : reach + stones_towards (opposite w) (put b s q) s d p ≡ 3 → (r : Bool) → is_empty b e ≡ r → wins_on rule (put b s q) s d e ≡ (is_empty b e && row_wins rule s (5 + stones_towards w b s d e))
+    end_wins_by four true h =
+        let on : is_on b e ≡ true = is_empty-on b e h in
+        let run = run_towards (put b s q) s w d e (IsBoard-put b s q ok) on in
+        let before = run_before_end (put b s q) s w d p e mine end on in
+        let past = stones_past on in
+        let five : run_of (put (put b s q) s e) s d e ≡ 5 + stones_towards w b s d e = omega (arith, run, before, past, four) in
+        rw (empty-put b s q e filled_on apart, h, five) refl
+    end_wins_by four false h = rw (empty-put b s q e filled_on apart, h) refl
+
+  -- a stone at the end of the run wins where it wins with the stones past it
+  end_wins : x ≤ reach + y → reach + stones_towards (opposite w) (put b s q) s d p ≡ 3 → wins_at rule (put b s q) s d (towards w d p (1 + reach)) ≡ wins_past rule b s d w (towards w d p (1 + reach))
+  end_wins near four = by_point (towards w d p (1 + reach)) refl where
+    by_point : (o : Option Point) → towards w d p (1 + reach) ≡ o → wins_at rule (put b s q) s d o ≡ wins_past rule b s d w o
+    by_point None h = refl
+    by_point (Some e) h = end_wins_by e (sym (go-towards w d p (1 + reach)) ∙ h) near four (is_empty b e) refl
+
+-- ---- the first point that holds no stone of the side
+
+four_wins : (rule : RuleKind) (s : Side) → row_wins rule s 4 ≡ false
+four_wins Freestyle s = refl
+four_wins Exact s = refl
+four_wins Renju Black = refl
+four_wins Renju White = refl
+
+four_by : (n m : ℕ) → n ≡ m + 1 → nat_eq n 4 ≡ nat_eq m 3
+four_by n m e = by_test (nat_eq m 3) refl where
+  by_test : (r : Bool) → nat_eq m 3 ≡ r → nat_eq n 4 ≡ r
+  by_test true h = eq-eqb n 4 (let three : m ≡ 3 = grind (arith, nat_tests) in omega arith)
+  by_test false h = grind (arith, nat_tests)
+
+and-swap : (a c e : Bool) → (a && c && e) ≡ (a && e && c)
+and-swap true true true = refl
+and-swap true true false = refl
+and-swap true false true = refl
+and-swap true false false = refl
+and-swap false c e = refl
+
+-- a straight four, seen in either way
+straight_towards : (rule : RuleKind) (b : Grid) (s : Side) (w : Way) (d : Axis) (p : Point) → holds b s p ≡ true → is_straight rule b s d p ≡ (nat_eq (stones_towards w b s d p + stones_towards (opposite w) b s d p) 3 && wins_at rule b s d (towards w d p (1 + stones_towards w b s d p)) && wins_at rule b s d (towards (opposite w) d p (1 + stones_towards (opposite w) b s d p)))
+unfolding is_straight
+straight_towards rule b s Ahead d p mine =
+    let same : nat_eq (1 + stones_ahead b s d p + stones_behind b s d p) 4 ≡ nat_eq (stones_ahead b s d p + stones_behind b s d p) 3 = four_by _ _ (omega arith) in
+    rw (mine, same) refl
+straight_towards rule b s Behind d p mine =
+    let same : nat_eq (1 + stones_ahead b s d p + stones_behind b s d p) 4 ≡ nat_eq (stones_behind b s d p + stones_ahead b s d p) 3 = four_by _ _ (omega arith) in
+    rw (mine, same) (and-swap (nat_eq (stones_behind b s d p + stones_ahead b s d p) 3) (wins_at rule b s d (along d p (1 + stones_ahead b s d p) 0)) (wins_at rule b s d (along d p 0 (1 + stones_behind b s d p))))
+
+same_point : (q : Point) → is_same_point q q ≡ true
+same_point q = rw (eq-eqb q.x q.x refl, eq-eqb q.y q.y refl) refl
+
+is_at-here : (q : Point) (o : Option Point) → o ≡ Some q → is_at q o ≡ true
+is_at-here q o e = rw e (same_point q)
+
+-- a point of the stones next to p, in either way, is in the run
+in_run_towards : (b : Grid) (s : Side) (w : Way) (d : Axis) (p q : Point) (k : ℕ) → go w d p k 0 ≡ Some q → 1 ≤ k → k ≤ stones_towards w b s d p → is_in_run b s d p q ≡ true
+in_run_towards b s Ahead d p q k here low high =
+    let ahead = any_found (λ j. is_at q (along d p j 0)) (1 + stones_ahead b s d p) 0 k (omega arith) (omega arith) (is_at-here q (along d p k 0) here) in
+    rw ahead refl
+in_run_towards b s Behind d p q k here low high =
+    or_cases _ _ (λ miss. any_found (λ j. is_at q (along d p 0 j)) (stones_behind b s d p) 1 k low (omega arith) (is_at-here q (along d p 0 k) here))
+
+-- q is the first point in that way that holds no stone of the side, and it is empty
+module _ (rule : RuleKind) (b : Grid) (s : Side) (w : Way) (d : Axis) (p q : Point) (ok : IsBoard b) (mine : holds b s p ≡ true) (empty : is_empty b q ≡ true) (here : go w d p (1 + stones_towards w b s d p) 0 ≡ Some q) where
+  on_p : is_on b p ≡ true
+  on_p = and_left (is_on b p) _ mine
+
+  on_q : is_on b q ≡ true
+  on_q = is_empty-on b q empty
+
+  still : holds (put b s q) s p ≡ true
+  still = holds-put_more b s q p ok empty mine
+
+  abbrev near : ℕ
+  near = stones_towards w b s d p
+
+  abbrev far : ℕ
+  far = stones_towards (opposite w) b s d p
+
+  abbrev more : ℕ
+  more = stones_towards w b s d q
+
+  from_q : (j : ℕ) → 1 + near ≤ j → go w d p j 0 ≡ go w d q (j - (1 + near)) 0
+  from_q j low = go-same w d p j 0 (1 + near + (j - (1 + near))) (0 + 0) (omega arith) ∙ sym (go-then w d p q (1 + near) 0 (j - (1 + near)) 0 here)
+
+  fore : stones_towards w (put b s q) s d p ≡ 1 + near + more
+  fore = leads_is (put b s q) s d p on_p w (1 + near + more) (record { holds = inside; stops = stop }) where
+    inside : (j : ℕ) → 1 ≤ j → j ≤ 1 + near + more → stone_at (put b s q) s (go w d p j 0) ≡ true
+    inside j low high = elim (cases_lt near j) [
+      | inr old ↦ put_more b s q (go w d p j 0) ok empty ((leads b s d p on_p w).holds j low old)
+      | inl new ↦ elim (cases_lt (1 + near) j) [
+        | inl past ↦ put_more b s q (go w d p j 0) ok empty (ap (stone_at b s) (from_q j (omega arith)) ∙ (leads b s d q on_q w).holds (j - (1 + near)) (omega arith) (omega arith))
+        | inr last ↦ ap (stone_at (put b s q) s) (go-same w d p j 0 (1 + near) 0 (omega arith) ∙ here) ∙ holds-put_same b s q ok on_q
+      ]
+    ]
+
+    stop : stone_at (put b s q) s (go w d p (1 + (1 + near + more)) 0) ≡ false
+    stop = else_at b s w d p q (1 + near) 0 (1 + (1 + near + more)) 0 on_q here (λ same. absurd (omega arith))
+        ∙ ap (stone_at b s) (from_q (1 + (1 + near + more)) (omega arith) ∙ go-same w d q (1 + (1 + near + more) - (1 + near)) 0 (1 + more) 0 (omega arith))
+        ∙ (leads b s d q on_q w).stops
+
+  back : stones_towards (opposite w) (put b s q) s d p ≡ far
+  back = leads_back_is (put b s q) s d p on_p w far (record {
+    holds = λ j low high. same j ∙ (leads_back b s d p on_p w).holds j low high;
+    stops = same (1 + far) ∙ (leads_back b s d p on_p w).stops;
+  }) where
+    same : (j : ℕ) → stone_at (put b s q) s (go w d p 0 j) ≡ stone_at b s (go w d p 0 j)
+    same j = else_at b s w d p q (1 + near) 0 0 j on_q here (λ same. absurd (omega arith))
+
+  -- with a stone on q the run is of four, and q no five point of this axis
+  no_win : 1 + near + more + far ≡ 3 → wins_on rule b s d q ≡ false
+  no_win four =
+      let run = run_towards b s w d q ok on_q in
+      let before = run_before_end b s w d p q mine here on_q in
+      let long : run_of (put b s q) s d q ≡ 4 = omega (arith, run, before, four) in
+      rw (empty, long) (four_wins rule s)
+
+  in_run : is_in_run (put b s q) s d p q ≡ true
+  in_run = in_run_towards (put b s q) s w d p q (1 + near) here (omega arith) (let e = fore in omega (arith, e))
+
+  fore_wins : 1 + near + more + far ≡ 3 → wins_at rule (put b s q) s d (towards w d p (1 + stones_towards w (put b s q) s d p)) ≡ wins_past rule b s d w (towards w d p (1 + (1 + near + more)))
+  fore_wins four =
+      let e = fore in
+      let f = back in
+      end_wins rule b s w d p q (1 + near) 0 ok empty here still (omega (arith, e)) (omega (arith, e, f, four))
+      ∙ ap (λ k. wins_past rule b s d w (towards w d p (1 + k))) fore
+
+  back_wins : 1 + near + more + far ≡ 3 → wins_at rule (put b s q) s d (towards (opposite w) d p (1 + stones_towards (opposite w) (put b s q) s d p)) ≡ wins_past rule b s d (opposite w) (towards (opposite w) d p (1 + far))
+  back_wins four =
+      let e = fore in
+      let f = back in
+      let turned : stones_towards (opposite (opposite w)) (put b s q) s d p ≡ stones_towards w (put b s q) s d p = ap (λ (v : Way). stones_towards v (put b s q) s d p) (opposite-opposite w) in
+      end_wins rule b s (opposite w) d p q 0 (1 + near) ok empty (go-opposite w d p 0 (1 + near) ∙ here) still (omega arith) (omega (arith, e, f, four, turned))
+      ∙ ap (λ k. wins_past rule b s d (opposite w) (towards (opposite w) d p (1 + k))) back
+
+  three_by : (r : Bool) → nat_eq (1 + near + more + far) 3 ≡ r → is_line_three_point rule b s d p q ≡ is_open_four rule b s d p w (1 + near + more) far
+  unfolding is_line_three_point gives_straight
+  three_by true h =
+      let four : 1 + near + more + far ≡ 3 = grind (arith, nat_tests) in
+      rw (no_win four, empty, straight_towards rule (put b s q) s w d p still, in_run, fore_wins four, back_wins four, fore, back, h) (and-true _)
+  three_by false h = rw (straight_towards rule (put b s q) s w d p still, fore, back, h) (and-false (is_empty b q && not (wins_on rule b s d q)))
+
+  -- whether q is a three point is decided by what stands past the run
+  pub three-open : is_line_three_point rule b s d p q ≡ is_open_four rule b s d p w (1 + near + more) far
+  three-open = three_by (nat_eq (1 + near + more + far) 3) refl
+
+-- ---- no other point is a three point
+
+pub three_empty : (rule : RuleKind) (b : Grid) (s : Side) (d : Axis) (p q : Point) → is_line_three_point rule b s d p q ≡ true → is_empty b q ≡ true
+unfolding is_line_three_point
+three_empty rule b s d p q h = and_left (is_empty b q) _ (and_left (is_empty b q && not (wins_on rule b s d q)) _ h)
+
+module _ (rule : RuleKind) (b : Grid) (s : Side) (d : Axis) (p q : Point) (ok : IsBoard b) (mine : holds b s p ≡ true) where
+  three_in_run : is_line_three_point rule b s d p q ≡ true → is_in_run (put b s q) s d p q ≡ true
+  unfolding is_line_three_point gives_straight
+  three_in_run h = and_right (is_straight rule (put b s q) s d p) _ (and_right (is_empty b q && not (wins_on rule b s d q)) _ h)
+
+  not_stone : is_empty b q ≡ true → holds b s q ≡ false
+  not_stone empty =
+      let none : cell_at b q ≡ Empty = is_empty-cell (cell_at b q) (and_right (is_on b q) _ empty) in
+      rw (is_empty-on b q empty, none) refl
+
+  -- an empty point of the run that its stone gives is the first that holds no stone of the side
+  first_in : is_empty b q ≡ true → (w : Way) (k : ℕ) → go w d p k 0 ≡ Some q → 1 ≤ k → k ≤ stones_towards w (put b s q) s d p → k ≡ 1 + stones_towards w b s d p
+  first_in empty w k here low high =
+      let on : is_on b p ≡ true = and_left (is_on b p) _ mine in
+      elim (cases_lt (stones_towards w b s d p) k) [
+        | inr inside ↦ absurd (let stone = (leads b s d p on w).holds k low inside in let no = not_stone empty in let e : holds b s q ≡ true = ap (stone_at b s) (sym here) ∙ stone in let differ : false ≡ true = sym no ∙ e in cc)
+        | inl past ↦ elim (cases_lt (1 + stones_towards w b s d p) k) [
+          | inl beyond ↦ absurd (
+              let stone = (leads (put b s q) s d p on w).holds (1 + stones_towards w b s d p) (omega arith) (omega arith) in
+              let same = else_at b s w d p q k 0 (1 + stones_towards w b s d p) 0 (is_empty-on b q empty) here (λ same. absurd (omega arith)) in
+              let differ : true ≡ false = sym stone ∙ same ∙ (leads b s d p on w).stops in
+              cc)
+          | inr not_beyond ↦ omega arith
+        ]
+      ]
+
+  not_here : is_empty b q ≡ true → along d p 0 0 ≢ Some q
+  not_here empty here =
+      let same : Some p ≡ Some q = sym (along-zero d p) ∙ here in
+      let stone : holds b s q ≡ true = ap (stone_at b s) (sym same) ∙ mine in
+      let none = not_stone empty in
+      let differ : false ≡ true = sym none ∙ stone in
+      cc
+
+  pub three_first : is_line_three_point rule b s d p q ≡ true → (w : Way) × (go w d p (1 + stones_towards w b s d p) 0 ≡ Some q)
+  three_first h =
+      let empty = three_empty rule b s d p q h in
+      elim (or_split (list_any (λ k. is_at q (along d p k 0)) (range_with_len 0 (1 + stones_ahead (put b s q) s d p))) _ (three_in_run h)) [
+        | inl ahead ↦
+            let k = any_in_range (λ k. is_at q (along d p k 0)) (1 + stones_ahead (put b s q) s d p) 0 ahead in
+            let here = is_at-Some q (along d p k.0 0) k.3 in
+            (Ahead, ap (λ j. along d p j 0) (sym (first_in empty Ahead k.0 here (steps k.0 here) (let high = k.2 in omega (arith, high)))) ∙ here)
+        | inr behind ↦
+            let k = any_in_range (λ k. is_at q (along d p 0 k)) (stones_behind (put b s q) s d p) 1 behind in
+            let here = is_at-Some q (along d p 0 k.0) k.3 in
+            (Behind, ap (λ j. along d p 0 j) (sym (first_in empty Behind k.0 here k.1 (let high = k.2 in omega (arith, high)))) ∙ here)
+      ] where
+        steps : (k : ℕ) → along d p k 0 ≡ Some q → 1 ≤ k
+        steps k here = elim (cases_lt 0 k) [
+          | inl some ↦ omega arith
+          | inr none ↦ absurd (let zero : k ≡ 0 = omega arith in not_here (three_empty rule b s d p q h) (ap (λ j. along d p j 0) (sym zero) ∙ here))
+        ]
+
+-- ---- points that are none
+
+-- a point that is not empty is no three point, and so is none off the board
+pub taken_three : (rule : RuleKind) (b : Grid) (s : Side) (d : Axis) (p q : Point) → is_empty b q ≡ false → is_line_three_point rule b s d p q ≡ false
+unfolding is_line_three_point
+taken_three rule b s d p q h = rw h refl
+
+kept_three_by : (rule : RuleKind) (b : Grid) (s : Side) (d : Axis) (p q : Point) (r : Bool) → is_on b q ≡ r → is_line_three_at rule b s d p (cond r (Some q) None) ≡ is_line_three_point rule b s d p q
+kept_three_by rule b s d p q true h = refl
+kept_three_by rule b s d p q false h = sym (taken_three rule b s d p q (rw h refl))
+
+pub three-kept : (rule : RuleKind) (b : Grid) (s : Side) (d : Axis) (p : Point) (o : Option Point) → is_line_three_at rule b s d p (kept_on b o) ≡ is_line_three_at rule b s d p o
+three-kept rule b s d p None = refl
+three-kept rule b s d p (Some q) = kept_three_by rule b s d p q (is_on b q) refl
+
+-- ---- the two places
+
+module _ (rule : RuleKind) (b : Grid) (s : Side) (d : Axis) (p : Point) (ok : IsBoard b) (mine : holds b s p ≡ true) where
+  -- the first point in a way that holds no stone of the side
+  abbrev first : Way → Option Point
+  first w = towards w d p (1 + stones_towards w b s d p)
+
+  -- where it is empty, it is a three point as what stands past the run decides
+  pub three_at : (w : Way) (near far : ℕ) (q : Point) → near ≡ stones_towards w b s d p → far ≡ stones_towards (opposite w) b s d p → towards w d p (1 + near) ≡ Some q → is_empty b q ≡ true → is_line_three_at rule b s d p (towards w d p (1 + near)) ≡ is_open_four rule b s d p w (1 + near + stones_towards w b s d q) far
+  three_at w near far q n f here empty =
+      let first_here : first w ≡ Some q = ap (λ k. towards w d p (1 + k)) (sym n) ∙ here in
+      rw (here, n, f) (three-open rule b s w d p q ok mine empty (sym (go-towards w d p (1 + stones_towards w b s d p)) ∙ first_here))
+
+  -- its place
+  abbrev place : Way → ℕ
+  place w = place_towards w (1 + stones_towards w b s d p)
+
+  open_few : (w : Way) (fore back : ℕ) → is_open_four rule b s d p w fore back ≡ true → fore + back ≡ 3
+  open_few w fore back h =
+      let e = and_left (nat_eq (fore + back) 3) _ (and_left (nat_eq (fore + back) 3 && wins_past rule b s d w (towards w d p (1 + fore))) _ h) in
+      grind (arith, nat_tests)
+
+  -- the first point in a way is a three point only where the run that its stone gives is of four
+  first_open : (w : Way) (q : Point) → first w ≡ Some q → is_line_three_point rule b s d p q ≡ true → 1 + stones_towards w b s d p + stones_towards w b s d q + stones_towards (opposite w) b s d p ≡ 3
+  first_open w q e h =
+      let same = three-open rule b s w d p q ok mine (three_empty rule b s d p q h) (sym (go-towards w d p (1 + stones_towards w b s d p)) ∙ e) in
+      open_few w _ _ (sym same ∙ h)
+
+  -- so few stones stand next to p
+  pub few : (w : Way) → is_line_three_at rule b s d p (first w) ≡ true → stones_towards w b s d p + stones_towards (opposite w) b s d p ≤ 2
+  few w h = by_point (first w) refl h where
+    by_point : (o : Option Point) → first w ≡ o → is_line_three_at rule b s d p o ≡ true → stones_towards w b s d p + stones_towards (opposite w) b s d p ≤ 2
+    by_point None e h = cc
+    by_point (Some q) e h = let sum = first_open w q e h in omega (arith, sum)
+
+  -- where more do, that way has no three point
+  pub no_place : (w : Way) → 2 < stones_towards w b s d p + stones_towards (opposite w) b s d p → three_place rule b s d p w ≡ None
+  no_place w many = by_test (is_line_three_at rule b s d p (first w)) refl where
+    by_test : (r : Bool) → is_line_three_at rule b s d p (first w) ≡ r → cond r (Some (place w)) None ≡ None
+    by_test false h = refl
+    by_test true h = absurd (let fewer = few w h in omega (arith, fewer))
+
+  place_at : (w : Way) → stones_towards w b s d p ≤ 2 → first w ≡ along d p (place w) 5
+  place_at Ahead h = along-same d p (1 + stones_ahead b s d p) 0 (5 + (1 + stones_ahead b s d p)) 5 (omega arith)
+  place_at Behind h = along-same d p 0 (1 + stones_behind b s d p) (5 - (1 + stones_behind b s d p)) 5 (omega arith)
+
+  place_is : (w : Way) (q : Point) (i : ℕ) → go w d p (1 + stones_towards w b s d p) 0 ≡ Some q → along d p i 5 ≡ Some q → i ≡ place w
+  place_is Ahead q i e f = let steps = along-steps d p q (1 + stones_ahead b s d p) 0 i 5 e f in omega (arith, steps)
+  place_is Behind q i e f = let steps = along-steps d p q 0 (1 + stones_behind b s d p) i 5 e f in omega (arith, steps)
+
+  -- the bit of a way is set at a three point
+  bit_set : (w : Way) (i : ℕ) → i ≡ place w → is_line_three_at rule b s d p (first w) ≡ true → bit_at (bit_of (three_place rule b s d p w)) i ≡ 1
+  bit_set w i e h = rw (h, e) (bit_at-pow_same (place w))
+
+  -- and at no other place
+  bit_clear : (w : Way) (i : ℕ) → is_line_three_at rule b s d p (along d p i 5) ≡ false → (r : Bool) → is_line_three_at rule b s d p (first w) ≡ r → bit_at (bit_of (three_place rule b s d p w)) i ≡ 0
+  bit_clear w i none false h = rw h (bit_at-zero i)
+  bit_clear w i none true h = rw h (bit_at-pow_other (place w) i (λ same.
+      let here : is_line_three_at rule b s d p (along d p i 5) ≡ true = ap (λ k. is_line_three_at rule b s d p (along d p k 5)) same ∙ ap (is_line_three_at rule b s d p) (sym (place_at w (let fewer = few w h in omega (arith, fewer)))) ∙ h in
+      let differ : false ≡ true = sym none ∙ here in
+      cc))
+
+  pub three_bits : (i : ℕ) → bit_at (bit_or (bit_of (three_place rule b s d p Ahead)) (bit_of (three_place rule b s d p Behind))) i ≡ cond (is_line_three_at rule b s d p (along d p i 5)) 1 0
+  three_bits i = bit_at_or _ _ i ∙ by_test (is_line_three_at rule b s d p (along d p i 5)) refl where
+    low : (w : Way) → bit_at (bit_of (three_place rule b s d p w)) i < 2
+    low w = bit_at-lt _ i
+
+    set : (w : Way) → bit_at (bit_of (three_place rule b s d p w)) i ≡ 1 → max (bit_at (bit_of (three_place rule b s d p Ahead)) i) (bit_at (bit_of (three_place rule b s d p Behind)) i) ≡ 1
+    set Ahead h = let other = low Behind in omega (arith, h, other)
+    set Behind h = let other = low Ahead in omega (arith, h, other)
+
+    by_point : (o : Option Point) → along d p i 5 ≡ o → is_line_three_at rule b s d p o ≡ true → max (bit_at (bit_of (three_place rule b s d p Ahead)) i) (bit_at (bit_of (three_place rule b s d p Behind)) i) ≡ 1
+    by_point None e h = cc
+    by_point (Some q) e h =
+        let w = three_first rule b s d p q ok mine h in
+        set w.0 (bit_set w.0 i (place_is w.0 q i w.1 e) (ap (is_line_three_at rule b s d p) (go-towards w.0 d p (1 + stones_towards w.0 b s d p) ∙ w.1) ∙ h))
+
+    by_test : (r : Bool) → is_line_three_at rule b s d p (along d p i 5) ≡ r → max (bit_at (bit_of (three_place rule b s d p Ahead)) i) (bit_at (bit_of (three_place rule b s d p Behind)) i) ≡ cond r 1 0
+    by_test true h = by_point (along d p i 5) refl h
+    by_test false h =
+        let ahead = bit_clear Ahead i h (is_line_three_at rule b s d p (first Ahead)) refl in
+        let behind = bit_clear Behind i h (is_line_three_at rule b s d p (first Behind)) refl in
+        omega (arith, ahead, behind)
+
+  place_below : (w : Way) → stones_towards w b s d p ≤ 2 → place w < 11
+  place_below Ahead h = omega arith
+  place_below Behind h = omega arith
+
+  -- a three point is on one of the places
+  pub three_near : (q : Point) → is_line_three_point rule b s d p q ≡ true → (i : ℕ) × (i < 11) × (along d p i 5 ≡ Some q)
+  three_near q h =
+      let w = three_first rule b s d p q ok mine h in
+      let here : first w.0 ≡ Some q = go-towards w.0 d p (1 + stones_towards w.0 b s d p) ∙ w.1 in
+      let small : stones_towards w.0 b s d p ≤ 2 = let fewer = few w.0 (ap (is_line_three_at rule b s d p) here ∙ h) in omega (arith, fewer) in
+      (place w.0, place_below w.0 small, sym (place_at w.0 small) ∙ here)

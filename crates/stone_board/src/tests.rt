@@ -1,0 +1,109 @@
+// What boards answer on small examples.
+use crate::{Axis, Board, Cell, Look, Point, Points, Side, Way};
+use std::process::Abort;
+use std::test::Fail;
+
+fn put_all(rt: &impl Abort, board: &mut Board, side: Side, points: &[(u8, u8)]) {
+    for (x, y) in points {
+        let p = Point { x: *x, y: *y };
+        assert!(rt; board.is_empty(p));
+        board.put(p, side);
+    }
+}
+
+#[test]
+fn stones_come_and_go(rt: HostRuntime) -> Result<(), Fail> {
+    let mut board = Board::empty(rt.alloc(), 6, 5)?;
+    assert_eq!(rt;
+        (board.width(), board.height(), board.empties()),
+        (6, 5, 30)
+    );
+    let corner = Point { x: 5, y: 4 };
+    assert!(rt; board.is_empty(corner));
+    board.put(corner, Side::Black);
+    assert!(rt; board.holds(Side::Black, corner));
+    assert_eq!(rt; board.cell(corner), Cell::Black);
+    put_all(&rt, &mut board, Side::White, &[(0, 0), (3, 2)]);
+    assert_eq!(rt; board.count(Side::Black), 1);
+    assert_eq!(rt; board.count(Side::White), 2);
+    assert_eq!(rt; board.empties(), 27);
+    assert!(rt; board.holds(Side::Black, corner));
+    board.lift(corner);
+    assert!(rt; board.is_empty(corner));
+    assert_eq!(rt; board.count(Side::Black), 0);
+    assert!(rt; !board.on(Point { x: 6, y: 0 }) && !board.on(Point { x: 0, y: 5 }));
+    Ok(())
+}
+
+#[test]
+fn looks_along_a_line(rt: HostRuntime) -> Result<(), Fail> {
+    let mut board = Board::empty(rt.alloc(), 6, 5)?;
+    put_all(&rt, &mut board, Side::Black, &[(1, 3), (2, 2), (3, 1)]);
+    put_all(&rt, &mut board, Side::White, &[(4, 0)]);
+    let p = Point { x: 2, y: 2 };
+    assert!(rt; board.holds(Side::Black, p));
+    assert_eq!(rt; board.step(p, Axis::Up, 2), Some(Point { x: 4, y: 0 }));
+    assert_eq!(rt; board.step(p, Axis::Up, 3), None);
+    assert_eq!(rt;
+        board.along(p, Axis::Column, 0, 2),
+        Some(Point { x: 2, y: 0 })
+    );
+    assert_eq!(rt;
+        board.step_towards(Way::Behind, Axis::Down, p, 2),
+        Some(Point { x: 0, y: 0 })
+    );
+    assert_eq!(rt; board.at(p, Axis::Up, 2), Look::Holds(Cell::White));
+    assert_eq!(rt; board.at(p, Axis::Row, -1), Look::Holds(Cell::Empty));
+    assert_eq!(rt; board.at(p, Axis::Row, 4), Look::Off);
+    assert_eq!(rt; board.run(p, Axis::Up), 3);
+    assert_eq!(rt; board.run(p, Axis::Down), 1);
+    assert_eq!(rt; board.stones_ahead(Side::Black, Axis::Up, p), 1);
+    assert_eq!(rt; board.stones_behind(Side::White, Axis::Up, p), 0);
+    assert_eq!(rt;
+        board.stones_towards(Way::Ahead.opposite(), Side::Black, Axis::Up, p),
+        1
+    );
+    Ok(())
+}
+
+#[test]
+fn goes_through_the_points_in_reading_order(rt: HostRuntime) -> Result<(), Fail> {
+    let mut board = Board::empty(rt.alloc(), 6, 5)?;
+    for (i, p) in board.points().enumerate() {
+        assert_eq!(rt; (p.x as usize, p.y as usize), (i % 6, i / 6));
+    }
+    assert_eq!(rt; board.points().count(), 30);
+    put_all(&rt, &mut board, Side::White, &[(0, 0), (4, 4), (5, 4)]);
+    let p = Point { x: 4, y: 4 };
+    assert!(rt; board.on(p));
+    assert_eq!(rt; board.first_empty_from(p), Some(Point { x: 1, y: 0 }));
+    Ok(())
+}
+
+#[test]
+fn compares_boards_by_size_and_cells(rt: HostRuntime) -> Result<(), Fail> {
+    let mut board = Board::empty(rt.alloc(), 6, 5)?;
+    put_all(&rt, &mut board, Side::White, &[(3, 2)]);
+    let mut copy = board.copy()?;
+    assert!(rt; copy.same(&board) && board.same(&copy));
+    put_all(&rt, &mut copy, Side::White, &[(2, 2)]);
+    assert!(rt; !copy.same(&board));
+    let wide = Board::empty(rt.alloc(), 6, 5)?;
+    let high = Board::empty(rt.alloc(), 5, 6)?;
+    assert!(rt; !wide.same(&high));
+    Ok(())
+}
+
+#[test]
+fn lists_points(rt: HostRuntime) -> Result<(), Fail> {
+    let mut points = Points::new(rt.alloc());
+    points.push(Point { x: 3, y: 1 })?;
+    points.push(Point { x: 0, y: 2 })?;
+    assert_eq!(rt; points.len(), 2);
+    assert_eq!(rt; *points.at(1), Point { x: 0, y: 2 });
+    assert_eq!(rt;
+        points.as_slice(),
+        [Point { x: 3, y: 1 }, Point { x: 0, y: 2 }].as_slice()
+    );
+    Ok(())
+}

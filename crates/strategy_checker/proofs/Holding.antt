@@ -1,0 +1,14 @@
+-- A held table that a root is added to.
+use Rattle.std.proofs.Common.{◌≡◌, ◌+◌, ◌≤◌, ◌<◌, List, [], ◌∷◌, ◌++◌, length, arith}
+use Rattle.std.proofs.lemmas.List.{length_push}
+use Rattle.std.proofs.lemmas.List.Elements.{All-push}
+use Rattle.strategy_graph.specs.declared.Node.{Node}
+use Rattle.strategy_checker.specs.declared.TheConstants.{MAX_ROOTS}
+use Rattle.strategy_checker.specs.declared.held.HeldRoot.{HeldRoot}
+use Rattle.strategy_checker.specs.HeldRoots.{HeldTable, IsHeldRoot, IsHeld}
+
+pub IsHeld-push : (t : List Node) (rs : List HeldRoot) (r : HeldRoot) → IsHeld (record { table = t; roots = rs }) → length rs < MAX_ROOTS → IsHeldRoot t r → IsHeld (record { table = t; roots = rs ++ r ∷ [] })
+IsHeld-push t rs r held room this = record {
+  roots = All-push (IsHeldRoot t) rs r held.roots this;
+  few = let more = length_push rs r in omega (arith, more);
+}

@@ -1,0 +1,18 @@
+-- Why a root is not held.
+use Rattle.std.specs.Prelude.{List}
+use Rattle.game_rules.specs.declared.Point.{Point}
+use Rattle.strategy_graph.specs.declared.Why.{Why}
+use Rattle.strategy_checker.specs.declared.held.HeldError.{HeldError}
+use Rattle.strategy_checker.specs.declared.held.HeldError.TheVariants.{Refused, Spent, Memory}
+
+-- P holds of the line and the fault, if the root is refused
+abbrev pub IfRefused : (List Point → Why → Type 0) → HeldError → Type 0
+IfRefused P (Refused line why) = P line why
+IfRefused P Spent = Unit {0}
+IfRefused P Memory = Unit {0}
+
+-- P holds, if the work is spent
+abbrev pub IfSpent : Type 0 → HeldError → Type 0
+IfSpent P (Refused line why) = Unit {0}
+IfSpent P Spent = P
+IfSpent P Memory = Unit {0}

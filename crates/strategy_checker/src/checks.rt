@@ -1,0 +1,118 @@
+//! Verdicts on a table: a walk from its root, and what comes of it.
+#![tactic(auto)]
+
+ghost use Rattle.std.specs.Prelude.{◌≡◌, ◌<◌, [], true, length, reverse, IfOk};
+ghost use Rattle.game_rules.specs.Games.{WinsWithin, WinsAfter};
+ghost use Rattle.strategy_graph.specs.Tables.{depth, start_depth, names_below};
+ghost use Rattle.strategy_graph.specs.Acceptance.{Accepted, AcceptedStart};
+ghost use Rattle.strategy_graph.specs.Arrivals.{arrivals, start_arrivals};
+ghost use Rattle.strategy_graph.specs.Leads.{Leads, LeadsStart};
+ghost use Rattle.strategy_checker.specs.Verdicts.{IsRefusal, AcceptsExactly, RefusesRightly, SpendsRightly, IfAccepted, IfRefused};
+
+use crate::Verdict;
+use crate::walk::{Stop, Walk};
+use foul_judge::{Position, Seen};
+use row_shapes::Rule;
+use std::alloc::{AllocError, Global};
+use stone_board::Points;
+use strategy_graph::{Start, Table};
+
+/// Whether the table wins from the position with the node `root`, whose attack is played first. Each game that the table plays
+/// is walked through, whatever the replies, and at most `work` arrivals at nodes are counted.
+///
+/// - `Accepted` comes exactly where the node is accepted and its arrivals are at most `work`. The side to move then wins
+///   within the depth of the node, which is `moves`.
+/// - `Refused` comes only where the node is not accepted, and always there if its arrivals are at most `work`.
+/// - `Spent` comes only where the arrivals are above `work`, and always there if the node is accepted.
+///
+/// The position is the same afterwards. `Err` says that memory ran out, for the line of a refusal or for the depth.
+pub fn check<R: Rule>(
+    alloc: Global,
+    table: &Table,
+    root: u32,
+    position: &mut Position<R>,
+    work: u64,
+) -> Result<Verdict, AllocError>
+    requires in_table { root < length table.now }
+    ensures accepted { IfOk result (AcceptsExactly (Accepted R.KIND table.now root position.old) (arrivals R.KIND table.now root position.old) work) }
+    ensures moves { IfOk result (IfAccepted (λ moves count. moves ≡ depth table.now root)) }
+    ensures arrivals { IfOk result (IfAccepted (λ moves count. count ≡ arrivals R.KIND table.now root position.old)) }
+    ensures wins { IfOk result (IfAccepted (λ moves count. WinsWithin R.KIND moves position.old)) }
+    ensures refused { IfOk result (RefusesRightly (Accepted R.KIND table.now root position.old) (arrivals R.KIND table.now root position.old) work) }
+    ensures leads { IfOk result (IfRefused (λ line why. Leads R.KIND table.now root position.old line why)) }
+    ensures spent { IfOk result (SpendsRightly (Accepted R.KIND table.now root position.old) (arrivals R.KIND table.now root position.old) work) }
+    ensures same { position.new ≡ position.old }
+{
+    let _mover = position.side();
+    let mut walk = Walk::new(alloc, work);
+    match walk.visit(table, root, position) {
+        Ok(()) => Ok(Verdict::Accepted {
+            moves: table.depth(root)?,
+            arrivals: work - walk.left,
+        }),
+        Err(stop) => refusal(alloc, stop, &walk.line),
+    }
+}
+
+/// Whether the table wins from the position with the start, where the opponent moves first. It is walked through as by `check`,
+/// and the start counts as the first arrival.
+///
+/// - `Accepted` comes exactly where the start is accepted and its arrivals are at most `work`. The side that is not to move then
+///   wins within the depth of the start, which is `moves`, whatever is played first.
+/// - `Refused` comes only where the start is not accepted, and always there if its arrivals are at most `work`. Its line begins
+///   with a reply.
+/// - `Spent` comes only where the arrivals are above `work`, and always there if the start is accepted.
+///
+/// The position is the same afterwards. `Err` says that memory ran out, for the line of a refusal or for the depth.
+pub fn check_start<R: Rule>(
+    alloc: Global,
+    table: &Table,
+    start: &Start,
+    position: &mut Position<R>,
+    work: u64,
+) -> Result<Verdict, AllocError>
+    requires below { names_below start.now (length table.now) ≡ true }
+    ensures accepted { IfOk result (AcceptsExactly (AcceptedStart R.KIND table.now start.now position.old) (start_arrivals R.KIND table.now start.now position.old) work) }
+    ensures moves { IfOk result (IfAccepted (λ moves count. moves ≡ start_depth table.now start.now)) }
+    ensures arrivals { IfOk result (IfAccepted (λ moves count. count ≡ start_arrivals R.KIND table.now start.now position.old)) }
+    ensures wins { IfOk result (IfAccepted (λ moves count. WinsAfter R.KIND moves position.old)) }
+    ensures refused { IfOk result (RefusesRightly (AcceptedStart R.KIND table.now start.now position.old) (start_arrivals R.KIND table.now start.now position.old) work) }
+    ensures leads { IfOk result (IfRefused (λ line why. LeadsStart R.KIND table.now start.now position.old line why)) }
+    ensures spent { IfOk result (SpendsRightly (AcceptedStart R.KIND table.now start.now position.old) (start_arrivals R.KIND table.now start.now position.old) work) }
+    ensures same { position.new ≡ position.old }
+{
+    let _mover = position.side();
+    let mut walk = Walk::new(alloc, work);
+    match walk.visit_start(table, start, position) {
+        Ok(()) => Ok(Verdict::Accepted {
+            moves: table.start_depth(start)?,
+            arrivals: work - walk.left,
+        }),
+        Err(stop) => refusal(alloc, stop, &walk.line),
+    }
+}
+
+/// The verdict on a walk that stopped, with the moves that led to the fault, the last one first.
+fn refusal(alloc: Global, stop: Stop, line: &Points) -> Result<Verdict, AllocError>
+    ensures verdict { IfOk result (IsRefusal stop (reverse line.now)) }
+{
+    match stop {
+        Stop::Fault(why) => Ok(Verdict::Refused {
+            line: reversed(alloc, line)?,
+            why,
+        }),
+        Stop::Spent => Ok(Verdict::Spent),
+        Stop::Memory => Err(AllocError),
+    }
+}
+
+/// The points in the other order.
+fn reversed(alloc: Global, points: &Points) -> Result<Points, AllocError>
+    ensures reversed { IfOk result (λ ps. ps ≡ reverse points.now) }
+{
+    let mut others = Points::new(alloc);
+    for p in points.as_slice().iter().rev() {
+        others.push(*p)?;
+    }
+    Ok(others)
+}

@@ -1,0 +1,224 @@
+//! The walk through a table.
+//!
+//! The walk goes through the games that the table plays: one recursion for each attack, so that it is no deeper than the
+//! points of the board allow, however long the table is. It plays and takes back on the position that it was lent. A
+//! fault ends it, and the moves that led there are noted on the way back, the last one first, so that nothing is
+//! allocated before.
+#![tactic(auto)]
+
+ghost use Rattle.std.specs.Prelude.{◌≡◌, ◌<◌, ◌+◌, [], true, length, reverse, IfErr, OnOk};
+ghost use Rattle.game_rules.specs.Play.{IsPosition};
+ghost use Rattle.strategy_graph.specs.Tables.{answer as answer_lem, names_below};
+ghost use Rattle.strategy_graph.specs.Acceptance.{Accepted, AcceptedStart, Meets};
+ghost use Rattle.strategy_graph.specs.Arrivals.{arrivals, arrivals_after, arrivals_at, start_arrivals};
+ghost use Rattle.strategy_graph.specs.Leads.{Leads, LeadsStart};
+ghost use Rattle.strategy_checker.specs.Walks.{Stopped, IsNoted};
+
+use crate::Why;
+use foul_judge::{Outcome, Position, Seen};
+use row_shapes::Rule;
+use std::alloc::Global;
+use stone_board::{Point, Points};
+use strategy_graph::{Replies, Rest, Start, Table};
+
+/// Why a walk ends before every reply is met.
+#[derive(Clone, Copy)]
+pub(crate) enum Stop {
+    /// The table has this fault.
+    Fault(Why),
+    /// No arrival is left.
+    Spent,
+    /// There is no memory for the line to the fault.
+    Memory,
+}
+
+/// A walk through a table.
+#[derive(Drop)]
+pub(crate) struct Walk {
+    /// How many more arrivals there may be.
+    pub(crate) left: u64,
+    /// The moves that led to the fault, the last one first. There are none before a fault is found.
+    pub(crate) line: Points,
+}
+
+impl Walk {
+    /// A walk with so many arrivals at most. It takes no memory.
+    pub(crate) fn new(alloc: Global, work: u64) -> Walk
+        ensures left { result.left ≡ work }
+        ensures line { result.line ≡ [] }
+    {
+        Walk {
+            left: work,
+            line: Points::new(alloc),
+        }
+    }
+
+    /// Walks from a node at a position, which is the same afterwards.
+    #[cycle(walk)]
+    pub(crate) fn visit<R: Rule>(
+        &mut self,
+        table: &Table,
+        i: u32,
+        position: &mut Position<R>,
+    ) -> Result<(), Stop>
+        requires in_table { i < length table.now }
+        requires lawful { IsPosition R.KIND position.old }
+        requires no_line { self.old.line ≡ [] }
+        ensures accepted { OnOk result (Accepted R.KIND table.now i position.old) }
+        ensures counted { OnOk result (self.new.left + arrivals R.KIND table.now i position.old ≡ self.old.left) }
+        ensures no_line { OnOk result (self.new.line ≡ []) }
+        ensures stopped { IfErr result (Stopped
+            (λ why. Leads R.KIND table.now i position.old (reverse self.new.line) why)
+            (self.old.left < arrivals R.KIND table.now i position.old)) }
+        ensures same { position.new ≡ position.old }
+    {
+        if self.left == 0 {
+            return Err(Stop::Spent);
+        }
+        self.left -= 1;
+        let node = table.node(i);
+        match position.outcome(node.attack) {
+            Outcome::Refused => Err(self.fault(node.attack, Why::AttackRefused)),
+            Outcome::Wins => Ok(()),
+            Outcome::Fouls(_) => Err(self.fault(node.attack, Why::AttackFouls)),
+            Outcome::Draws => Err(self.fault(node.attack, Why::AttackDraws)),
+            Outcome::GoesOn => {
+                if node.rest.is_winning() {
+                    return Err(self.fault(node.attack, Why::NotWon));
+                }
+                position.play(node.attack);
+                let met = self.meet_all(table, &node.replies, node.rest, position);
+                position.undo(node.attack);
+                match met {
+                    Ok(()) => Ok(()),
+                    Err(stop) => Err(self.noted(node.attack, stop)),
+                }
+            }
+        }
+    }
+
+    /// Walks from a start at a position, which is the same afterwards.
+    pub(crate) fn visit_start<R: Rule>(
+        &mut self,
+        table: &Table,
+        start: &Start,
+        position: &mut Position<R>,
+    ) -> Result<(), Stop>
+        requires below { names_below start.now (length table.now) ≡ true }
+        requires lawful { IsPosition R.KIND position.old }
+        requires no_line { self.old.line ≡ [] }
+        ensures accepted { OnOk result (AcceptedStart R.KIND table.now start.now position.old) }
+        ensures counted { OnOk result (self.new.left + start_arrivals R.KIND table.now start.now position.old ≡ self.old.left) }
+        ensures stopped { IfErr result (Stopped
+            (λ why. LeadsStart R.KIND table.now start.now position.old (reverse self.new.line) why)
+            (self.old.left < start_arrivals R.KIND table.now start.now position.old)) }
+        ensures same { position.new ≡ position.old }
+    {
+        if self.left == 0 {
+            return Err(Stop::Spent);
+        }
+        self.left -= 1;
+        self.meet_all(table, start.replies(), start.rest(), position)
+    }
+
+    /// Walks on from each reply at a position, which is the same afterwards. The replies that are listed and the rest say what
+    /// answers them.
+    #[cycle(walk)]
+    fn meet_all<R: Rule>(
+        &mut self,
+        table: &Table,
+        replies: &Replies,
+        rest: Rest,
+        position: &mut Position<R>,
+    ) -> Result<(), Stop>
+        requires below { names_below (record { replies = replies.now; rest = rest }) (length table.now) ≡ true }
+        requires lawful { IsPosition R.KIND position.old }
+        requires no_line { self.old.line ≡ [] }
+        ensures accepted { OnOk result (AcceptedStart R.KIND table.now (record { replies = replies.now; rest = rest }) position.old) }
+        ensures counted { OnOk result (self.new.left + arrivals_after R.KIND (record { replies = replies.now; rest = rest }) (arrivals R.KIND table.now) position.old ≡ self.old.left) }
+        ensures no_line { OnOk result (self.new.line ≡ []) }
+        ensures stopped { IfErr result (Stopped
+            (λ why. LeadsStart R.KIND table.now (record { replies = replies.now; rest = rest }) position.old (reverse self.new.line) why)
+            (self.old.left < arrivals_after R.KIND (record { replies = replies.now; rest = rest }) (arrivals R.KIND table.now) position.old)) }
+        ensures same { position.new ≡ position.old }
+    {
+        for q in position.board().points() {
+            self.meet(table, replies, rest, position, q)?;
+        }
+        Ok(())
+    }
+
+    /// Walks on from the reply `q` at a position, which is the same afterwards.
+    #[cycle(walk)]
+    fn meet<R: Rule>(
+        &mut self,
+        table: &Table,
+        replies: &Replies,
+        rest: Rest,
+        position: &mut Position<R>,
+        q: Point,
+    ) -> Result<(), Stop>
+        requires below { names_below (record { replies = replies.now; rest = rest }) (length table.now) ≡ true }
+        requires lawful { IsPosition R.KIND position.old }
+        requires no_line { self.old.line ≡ [] }
+        ensures met { OnOk result (Meets R.KIND (record { replies = replies.now; rest = rest }) (Accepted R.KIND table.now) position.old q) }
+        ensures counted { OnOk result (self.new.left + arrivals_at R.KIND (record { replies = replies.now; rest = rest }) (arrivals R.KIND table.now) position.old q ≡ self.old.left) }
+        ensures no_line { OnOk result (self.new.line ≡ []) }
+        ensures stopped { IfErr result (Stopped
+            (λ why. LeadsStart R.KIND table.now (record { replies = replies.now; rest = rest }) position.old (reverse self.new.line) why)
+            (self.old.left < arrivals_at R.KIND (record { replies = replies.now; rest = rest }) (arrivals R.KIND table.now) position.old q)) }
+        ensures same { position.new ≡ position.old }
+    {
+        match position.outcome(q) {
+            Outcome::Refused => Ok(()),
+            Outcome::Wins => Err(self.fault(q, Why::ReplyWins)),
+            Outcome::Fouls(_) => Ok(()),
+            Outcome::Draws => Err(self.fault(q, Why::ReplyDraws)),
+            Outcome::GoesOn => match answer(replies, rest, q) {
+                None => Err(self.fault(q, Why::NoAnswer)),
+                Some(next) => {
+                    position.play(q);
+                    let walked = self.visit(table, next, position);
+                    position.undo(q);
+                    match walked {
+                        Ok(()) => Ok(()),
+                        Err(stop) => Err(self.noted(q, stop)),
+                    }
+                }
+            },
+        }
+    }
+
+    /// The stop at a fault of the move `p`, which is noted.
+    fn fault(&mut self, p: Point, why: Why) -> Stop
+        ensures noted { IsNoted p self.old.line self.new.line (Stop.Fault why) result }
+        ensures left { self.new.left ≡ self.old.left }
+    {
+        match self.line.push(p) {
+            Ok(()) => Stop::Fault(why),
+            Err(_) => Stop::Memory,
+        }
+    }
+
+    /// The stop after the move `p`, which is noted where it led to a fault.
+    fn noted(&mut self, p: Point, stop: Stop) -> Stop
+        ensures noted { IsNoted p self.old.line self.new.line stop result }
+        ensures left { self.new.left ≡ self.old.left }
+    {
+        match stop {
+            Stop::Fault(why) => self.fault(p, why),
+            Stop::Spent => Stop::Spent,
+            Stop::Memory => Stop::Memory,
+        }
+    }
+}
+
+/// The node that answers the reply `q`, by the replies that are listed and the rest.
+fn answer(replies: &Replies, rest: Rest, q: Point) -> Option<u32>
+    ensures answer { result ≡ answer_lem (record { replies = replies.now; rest = rest }) q }
+{
+    match replies.find(q) {
+        Some(next) => Some(next),
+        None => rest.node(),
+    }
+}

@@ -1,0 +1,120 @@
+-- Replies that rise strictly in reading order.
+use Rattle.std.proofs.Common.{◌≡◌, ℕ, zero, suc, ◌+◌, ◌≤◌, ◌<◌, Bool, true, false, cond, ◌&&◌, ◌||◌, ◌==◌, List, [], ◌∷◌, length, get_or, drop, drop-cons, add-one, refl, sym, ap, ◌∙◌, arith}
+use Rattle.std.specs.Prelude.{nat_lt, Some, None}
+use Rattle.std.specs.List.{list_all, filter}
+use Rattle.std.proofs.lemmas.List.Sums.{AllPass-from_list_all}
+use Rattle.std.proofs.Math.ListN.{drop_of_length-le}
+use Rattle.std.proofs.lemmas.Bool.Decides.{nat_tests, Decides-eqb}
+use Rattle.game_rules.specs.Shapes.{is_same_point}
+use Rattle.game_rules.specs.declared.Point.{Point}
+use Rattle.strategy_graph.specs.declared.Reply.{Reply}
+use Rattle.strategy_graph.specs.Tables.{precedes, is_rising, listed}
+use Rattle.game_rules.proofs.Boards.{and_left, and_right}
+
+-- each reply comes after the one before it, and the first after p
+abbrev pub climbs : Point → List Reply → Bool
+climbs p [] = true
+climbs p (r ∷ rs) = precedes p r.at && climbs r.at rs
+
+precedes-by : (a b c x y z : ℕ) → (nat_lt a b || (a == b && nat_lt x y)) ≡ true → (nat_lt b c || (b == c && nat_lt y z)) ≡ true → (nat_lt a c || (a == c && nat_lt x z)) ≡ true
+precedes-by a b c x y z h k = grind (arith, nat_tests)
+
+precedes-trans : (p q r : Point) → precedes p q ≡ true → precedes q r ≡ true → precedes p r ≡ true
+precedes-trans p q r h k = precedes-by p.y q.y r.y p.x q.x r.x h k
+
+all_after : (p q : Point) → precedes p q ≡ true → (rs : List Reply) → list_all (λ s. precedes q s.at) rs ≡ true → list_all (λ s. precedes p s.at) rs ≡ true
+all_after p q h [] k = refl
+all_after p q h (r ∷ rs) k = rw (precedes-trans p q r.at h (and_left (precedes q r.at) _ k), all_after p q h rs (and_right (precedes q r.at) _ k)) refl
+
+climbs_by : (a b c d : Bool) → (a ≡ true → b ≡ true → c ≡ true) → (a && (b && d)) ≡ ((a && c) && (b && d))
+climbs_by true true c d f = rw (f refl refl) refl
+climbs_by true false true d f = refl
+climbs_by true false false d f = refl
+climbs_by false b c d f = refl
+
+-- to come after one another is to come after all earlier ones
+pub climbs-rising : (p : Point) (rs : List Reply) → climbs p rs ≡ (list_all (λ s. precedes p s.at) rs && is_rising rs)
+climbs-rising p [] = refl
+climbs-rising p (r ∷ rs) =
+    ap (λ (b : Bool). precedes p r.at && b) (climbs-rising r.at rs)
+    ∙ climbs_by (precedes p r.at) (list_all (λ s. precedes r.at s.at) rs) (list_all (λ s. precedes p s.at) rs) (is_rising rs) (λ h k. all_after p r.at h rs k)
+
+pub is_rising-climbs : (r : Reply) (rs : List Reply) → is_rising (r ∷ rs) ≡ climbs r.at rs
+is_rising-climbs r rs = sym (climbs-rising r.at rs)
+
+pub climbs-drop : (p : Point) (rs : List Reply) (i : ℕ) (d : Reply) → i < length rs → climbs p (drop i rs) ≡ (precedes p (get_or rs i d).at && climbs (get_or rs i d).at (drop (i + 1) rs))
+climbs-drop p rs i d l = rw (add-one, drop-cons rs i d) refl
+
+-- ---- what is listed of rising replies
+
+precedes-differs_by : (a b c d : ℕ) → (nat_lt b d || (b == d && nat_lt a c)) ≡ true → (a == c && b == d) ≡ false
+precedes-differs_by a b c d h = grind (arith, nat_tests)
+
+-- a point before another is not the same
+pub precedes-differs : (p q : Point) → precedes p q ≡ true → is_same_point p q ≡ false
+precedes-differs p q h = precedes-differs_by p.x p.y q.x q.y h
+
+precedes-differs_back : (p q : Point) → precedes p q ≡ true → is_same_point q p ≡ false
+precedes-differs_back p q h = back_by p.x p.y q.x q.y h where
+  back_by : (a b c d : ℕ) → (nat_lt b d || (b == d && nat_lt a c)) ≡ true → (c == a && d == b) ≡ false
+  back_by a b c d h = grind (arith, nat_tests)
+
+same_point-itself : (p : Point) → is_same_point p p ≡ true
+same_point-itself p = rw ((Decides-eqb p.x p.x).1 refl, (Decides-eqb p.y p.y).1 refl) refl
+
+-- nothing is listed for a point before all of them, some of them left out or not
+none_listed : (f : Reply → Bool) (p : Point) (rs : List Reply) → list_all (λ s. precedes p s.at) rs ≡ true → listed (filter f rs) p ≡ None
+none_listed f p [] h = refl
+none_listed f p (r ∷ rs) h =
+    by_test (f r) (precedes-differs_back p r.at (and_left (precedes p r.at) _ h)) (none_listed f p rs (and_right (precedes p r.at) _ h)) where
+      by_test : (b : Bool) → is_same_point r.at p ≡ false → listed (filter f rs) p ≡ None → listed (cond b (r ∷ filter f rs) (filter f rs)) p ≡ None
+      by_test true e h = rw e h
+      by_test false e h = h
+
+after_head : (r : Reply) (rs : List Reply) (k : ℕ) (d : Reply) → is_rising (r ∷ rs) ≡ true → k < length rs → is_same_point r.at (get_or rs k d).at ≡ false
+after_head r rs k d h l = precedes-differs r.at (get_or rs k d).at (AllPass-from_list_all (λ s. precedes r.at s.at) rs (and_left _ _ h) k d l)
+
+-- of rising replies, one that is kept is listed for its point
+pub listed-kept : (f : Reply → Bool) (rs : List Reply) (k : ℕ) (d : Reply) → is_rising rs ≡ true → k < length rs → f (get_or rs k d) ≡ true → listed (filter f rs) (get_or rs k d).at ≡ Some (get_or rs k d).next
+listed-kept f [] k d h l e = absurd (omega arith)
+listed-kept f (r ∷ rs) zero d h l e = rw (e, same_point-itself r.at) refl
+listed-kept f (r ∷ rs) (suc k) d h l e =
+    by_test (f r) (after_head r rs k d h (omega arith)) (listed-kept f rs k d (and_right (list_all (λ s. precedes r.at s.at) rs) _ h) (omega arith) e) where
+      by_test : (b : Bool) → is_same_point r.at (get_or rs k d).at ≡ false → listed (filter f rs) (get_or rs k d).at ≡ Some (get_or rs k d).next → listed (cond b (r ∷ filter f rs) (filter f rs)) (get_or rs k d).at ≡ Some (get_or rs k d).next
+      by_test true e h = rw e h
+      by_test false e h = h
+
+-- and for the point of one that is left out nothing is listed
+pub listed-left_out : (f : Reply → Bool) (rs : List Reply) (k : ℕ) (d : Reply) → is_rising rs ≡ true → k < length rs → f (get_or rs k d) ≡ false → listed (filter f rs) (get_or rs k d).at ≡ None
+listed-left_out f [] k d h l e = absurd (omega arith)
+listed-left_out f (r ∷ rs) zero d h l e = rw e (none_listed f r.at rs (and_left _ _ h))
+listed-left_out f (r ∷ rs) (suc k) d h l e =
+    by_test (f r) (after_head r rs k d h (omega arith)) (listed-left_out f rs k d (and_right (list_all (λ s. precedes r.at s.at) rs) _ h) (omega arith) e) where
+      by_test : (b : Bool) → is_same_point r.at (get_or rs k d).at ≡ false → listed (filter f rs) (get_or rs k d).at ≡ None → listed (cond b (r ∷ filter f rs) (filter f rs)) (get_or rs k d).at ≡ None
+      by_test true e h = rw e h
+      by_test false e h = h
+
+all_filter : (p : Reply → Bool) (f : Reply → Bool) (rs : List Reply) → list_all p rs ≡ true → list_all p (filter f rs) ≡ true
+all_filter p f [] h = refl
+all_filter p f (r ∷ rs) h = by_test (f r) (and_left (p r) _ h) (all_filter p f rs (and_right (p r) _ h)) where
+  by_test : (b : Bool) → p r ≡ true → list_all p (filter f rs) ≡ true → list_all p (cond b (r ∷ filter f rs) (filter f rs)) ≡ true
+  by_test true e h = rw (e, h) refl
+  by_test false e h = h
+
+-- rising replies rise where some are left out
+pub is_rising-filter : (f : Reply → Bool) (rs : List Reply) → is_rising rs ≡ true → is_rising (filter f rs) ≡ true
+is_rising-filter f [] h = refl
+is_rising-filter f (r ∷ rs) h =
+    by_test (f r) (all_filter (λ s. precedes r.at s.at) f rs (and_left _ _ h)) (is_rising-filter f rs (and_right (list_all (λ s. precedes r.at s.at) rs) _ h)) where
+      by_test : (b : Bool) → list_all (λ s. precedes r.at s.at) (filter f rs) ≡ true → is_rising (filter f rs) ≡ true → is_rising (cond b (r ∷ filter f rs) (filter f rs)) ≡ true
+      by_test true e h = rw (e, h) refl
+      by_test false e h = h
+
+-- ---- a walk over the replies after the first
+
+pub falls-at : (rs : List Reply) (r : Reply) (os : List Reply) (last : Point) (i : ℕ) (d : Reply) → rs ≡ r ∷ os → climbs r.at os ≡ climbs last (drop i os) → i < length os → precedes last (get_or os i d).at ≡ false → false ≡ is_rising rs
+falls-at rs r os last i d e h l not_after =
+    sym (ap is_rising e ∙ is_rising-climbs r os ∙ h ∙ climbs-drop last os i d l ∙ ap (λ (b : Bool). b && climbs (get_or os i d).at (drop (i + 1) os)) not_after)
+
+pub rises-to : (rs : List Reply) (r : Reply) (os : List Reply) (last : Point) (i : ℕ) → rs ≡ r ∷ os → climbs r.at os ≡ climbs last (drop i os) → length os ≤ i → true ≡ is_rising rs
+rises-to rs r os last i e h l = sym (ap is_rising e ∙ is_rising-climbs r os ∙ h ∙ ap (climbs last) (drop_of_length-le os l))

@@ -1,0 +1,30 @@
+-- The two kinds of root of a table, a node and a start, taken together.
+use Rattle.std.specs.Prelude.{ℕ, Bool, nat_lt, List}
+use Rattle.game_rules.specs.Grid.{Grid}
+use Rattle.game_rules.specs.declared.RuleKind.{RuleKind}
+use Rattle.strategy_graph.specs.declared.Node.{Node}
+use Rattle.strategy_graph.specs.declared.roots.Root.{Root}
+use Rattle.strategy_graph.specs.declared.roots.Root.TheVariants.{Attack, Defend}
+use Rattle.strategy_graph.specs.Tables.{names_below, depth, start_depth}
+use Rattle.strategy_graph.specs.Acceptance.{Accepted, AcceptedStart}
+use Rattle.strategy_graph.specs.Arrivals.{arrivals, start_arrivals}
+
+-- whether each number that the root names is below k
+abbrev pub root_below : Root → ℕ → Bool
+root_below (Attack i) k = nat_lt i k
+root_below (Defend a) k = names_below a k
+
+-- the depth of the root
+abbrev pub root_depth : List Node → Root → ℕ
+root_depth t (Attack i) = depth t i
+root_depth t (Defend a) = start_depth t a
+
+-- the root is accepted at b
+abbrev pub AcceptedRoot : RuleKind → List Node → Root → Grid → Type 0
+AcceptedRoot rule t (Attack i) b = Accepted rule t i b
+AcceptedRoot rule t (Defend a) b = AcceptedStart rule t a b
+
+-- the arrivals from the root at b
+abbrev pub root_arrivals : RuleKind → List Node → Root → Grid → ℕ
+root_arrivals rule t (Attack i) b = arrivals rule t i b
+root_arrivals rule t (Defend a) b = start_arrivals rule t a b
