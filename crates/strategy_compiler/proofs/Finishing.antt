@@ -18,7 +18,7 @@ use Rattle.strategy_compiler.specs.Trees.{Tree, StandsFor}
 use Rattle.strategy_compiler.specs.Walks.{AreDifferent, IsMadeFrom, IsNumberedByWalk, IsOrder, IsTableOf, NamesPointsReached, Reaches, Renumbers, completed, is_among, last, place_in, visits_at}
 use Rattle.strategy_compiler.proofs.Completing.{walked, walked-step, walked-itself, within-enough}
 use Rattle.strategy_compiler.proofs.Walking.{among-at}
-use Rattle.strategy_compiler.proofs.Places.{among-place, among-take, named-among, place-is, renamed-node, points-renamed}
+use Rattle.strategy_compiler.proofs.Places.{among-place, among-take, named-among, place-is, renamed-node, points-renamed, RenumbersUpTo, from-renumbers}
 use Rattle.strategy_compiler.proofs.Copying.{IsOneToOne, nodes-renamed, within-copied, reaches-copied, stands-copied}
 
 some_equal : {X : Type 0} (x y : X) → Some x ≡ Some y → x ≡ y
@@ -56,7 +56,10 @@ module _ (order : List ℕ) where
       by_place true k = let same : j ≡ i = same_place j i h ((Decides-eqb (place_in order j) (place_in order i)).0 k) in let equal : (j == i) ≡ true = (Decides-eqb j i).1 same in sym equal
       by_place false k = sym e
 
-module _ (t : List Node) (root : ℕ) (order : List ℕ) (u : List Node) (table : IsTable t) (different : AreDifferent t) (is_order : IsOrder t root order) (re : Renumbers t order u) where
+module _ (t : List Node) (root : ℕ) (order : List ℕ) (u : List Node) (table : IsTable t) (different : AreDifferent t) (is_order : IsOrder t root order) (re : RenumbersUpTo t order u (length order)) where
+  each : (k i : ℕ) → slice_get order k ≡ Some i → (n : Node) × (slice_get t i ≡ Some n) × (slice_get u k ≡ Some (renamed (place_in order) n))
+  each k i e = re.each k i (slice_get_within order k i e) e
+
   lower : NamesLower t
   lower = IsTable-lower t table
 
@@ -65,7 +68,7 @@ module _ (t : List Node) (root : ℕ) (order : List ℕ) (u : List Node) (table 
   copied-node : (i : ℕ) → is_among i order ≡ true → (n : Node) × (slice_get t i ≡ Some n) × (slice_get u (place_in order i) ≡ Some (renamed (place_in order) n)) × (list_all (λ i. is_among i order) (named (answers_of n)) ≡ true)
   copied-node i p =
       let at = among-place order i p in
-      let r = re.each (place_in order i) i at in (
+      let r = each (place_in order i) i at in (
         r.0,
         r.1,
         r.2,
@@ -87,7 +90,7 @@ module _ (t : List Node) (root : ℕ) (order : List ℕ) (u : List Node) (table 
     node_at : (k : ℕ) (m : Node) → slice_get u k ≡ Some m → IsNode m k
     node_at k m at =
         let e = number-at k (slice_get_within u k m at) in
-        let r = re.each k (get_or order k 0) e in
+        let r = each k (get_or order k 0) e in
         subst (λ (x : Node). IsNode x k) (some_equal _ m (sym r.2 ∙ at))
         (renamed-node t root order table is_order k (get_or order k 0) r.0 e r.1)
 
@@ -177,7 +180,7 @@ module _ (t : List Node) (root : ℕ) (order : List ℕ) (u : List Node) (table 
     point_at : (k : ℕ) (m : Node) → slice_get u k ≡ Some m → NamesPointsReached t root m
     point_at k m at =
         let e = number-at k (slice_get_within u k m at) in
-        let r = re.each k (get_or order k 0) e in
+        let r = each k (get_or order k 0) e in
         let is : renamed (place_in order) r.0 ≡ m = some_equal _ m (sym r.2 ∙ at) in (
           get_or order k 0,
           r.0,
@@ -200,10 +203,10 @@ module _ (t : List Node) (root : ℕ) (order : List ℕ) (u : List Node) (table 
 pub made-from : (t : List Node) (root : ℕ) (order : List ℕ) (u : List Node) → IsTable t → AreDifferent t → IsOrder t root order → Renumbers t order u → IsMadeFrom t root u
 made-from t root order u table different is_order re = record {
   nodes = subst (λ (o : List ℕ). Renumbers t o u) is_order.by_walk re;
-  trees = made-tree t root order u table different is_order re;
-  different = made-different t root order u table different is_order re;
-  reached = made-reached t root order u table different is_order re;
-  numbered = made-numbered t root order u table different is_order re;
-  same = made-same t root order u table different is_order re;
-  points = made-points t root order u table different is_order re;
+  trees = made-tree t root order u table different is_order (from-renumbers t order u re);
+  different = made-different t root order u table different is_order (from-renumbers t order u re);
+  reached = made-reached t root order u table different is_order (from-renumbers t order u re);
+  numbered = made-numbered t root order u table different is_order (from-renumbers t order u re);
+  same = made-same t root order u table different is_order (from-renumbers t order u re);
+  points = made-points t root order u table different is_order (from-renumbers t order u re);
 }

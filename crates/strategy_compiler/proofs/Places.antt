@@ -17,7 +17,7 @@ use Rattle.strategy_graph.specs.declared.TheConstants.{MAX_NODES}
 use Rattle.strategy_graph.specs.Tables.{answers_of, named, names_below, rest_nodes, precedes, is_rising, IsNode, IsTable}
 use Rattle.strategy_graph.proofs.Copies.{renamed, renamed_reply, renamed_rest, named-renamed, is_winning-renamed}
 use Rattle.strategy_graph.proofs.Growth.{names_below-more}
-use Rattle.strategy_compiler.specs.Walks.{is_among, place_in, IsOrder, Renumbers}
+use Rattle.strategy_compiler.specs.Walks.{is_among, place_in, IsOrder, Renumbers, renumbered_node, renumbered_rest}
 use Rattle.strategy_compiler.proofs.Walking.{among-at}
 use borrow.Author.Tests.{ltb-true, ltb-false, lt-ltb}
 
@@ -148,6 +148,21 @@ pub record RenumbersUpTo (t : List Node) (order : List ℕ) (u : List Node) (p :
   pub count : length u ≡ p
   pub each : (k i : ℕ) → k < p → slice_get order k ≡ Some i → (n : Node) × (slice_get t i ≡ Some n) × (slice_get u k ≡ Some (renamed (place_in order) n))
 
+-- the words of the definitions say the same
+renumbered_rest-renamed : (f : ℕ → ℕ) (r : Rest) → renumbered_rest f r ≡ renamed_rest f r
+renumbered_rest-renamed f Wins = refl
+renumbered_rest-renamed f (To j) = refl
+renumbered_rest-renamed f Nothing = refl
+
+pub renumbered_node-renamed : (f : ℕ → ℕ) (n : Node) → renumbered_node f n ≡ renamed f n
+renumbered_node-renamed f n = λ i. record { attack = n.attack; replies = map (renamed_reply f) n.replies; rest = renumbered_rest-renamed f n.rest i }
+
+pub from-renumbers : (t : List Node) (order : List ℕ) (u : List Node) → Renumbers t order u → RenumbersUpTo t order u (length order)
+from-renumbers t order u re = record {
+  count = re.count;
+  each = λ k i l e. let r = re.each k i e in (r.0, r.1, r.2 ∙ ap Some (renumbered_node-renamed (place_in order) r.0));
+}
+
 pub renumbers-none : (t : List Node) (order : List ℕ) (u : List Node) → u ≡ [] → RenumbersUpTo t order u 0
 renumbers-none t order u e = record { count = ap length e; each = λ k i l at. absurd (omega arith) }
 
@@ -193,7 +208,7 @@ module _ (t : List Node) (root : ℕ) (order : List ℕ) (table : IsTable t) (is
   pub renumbers-all : (u : List Node) (p : ℕ) → p ≤ length order → length order ≤ p → RenumbersUpTo t order u p → Renumbers t order u
   renumbers-all u p l m h = record {
     count = let count = h.count in omega (arith, count);
-    each = λ k i e. h.each k i (let inside = slice_get_within order k i e in omega (arith, inside)) e;
+    each = λ k i e. let r = h.each k i (let inside = slice_get_within order k i e in omega (arith, inside)) e in (r.0, r.1, r.2 ∙ ap Some (sym (renumbered_node-renamed (place_in order) r.0)));
   }
 
 -- ---- the same, as the loop reads it
@@ -210,11 +225,11 @@ module _ (t : List Node) (root : ℕ) (order : List ℕ) (table : IsTable t) (is
       let inside = is_order.within p (get_or order p 0) number-at in
       names_below-more (answers_of n) (get_or order p 0) k (omega (arith, inside, e)) ((table.nodes (get_or order p 0) n node-at).below)
 
-  module _ (places : List ℕ) (are_places : (k i : ℕ) → slice_get order k ≡ Some i → get_or places i 0 ≡ k) (m : Node) (is : m ≡ renamed (λ j. get_or places j 0) n) (u : List Node) (so_far : RenumbersUpTo t order u p) where
+  module _ (places : List ℕ) (are_places : (k i : ℕ) → slice_get order k ≡ Some i → get_or places i 0 ≡ k) (m : Node) (is : m ≡ renumbered_node (λ j. get_or places j 0) n) (u : List Node) (so_far : RenumbersUpTo t order u p) where
     pub node-next : IsNode m (length u)
     node-next =
         subst (λ (k : ℕ). IsNode m k) (sym so_far.count)
-        (subst (λ (x : Node). IsNode x p) (sym (is ∙ renamed-places t root order table is_order p (get_or order p 0) n number-at node-at (λ j. get_or places j 0) are_places))
+        (subst (λ (x : Node). IsNode x p) (sym (is ∙ renumbered_node-renamed (λ j. get_or places j 0) n ∙ renamed-places t root order table is_order p (get_or order p 0) n number-at node-at (λ j. get_or places j 0) are_places))
         (renamed-node t root order table is_order p (get_or order p 0) n number-at node-at))
 
     pub room-next : length u < MAX_NODES
@@ -227,4 +242,4 @@ module _ (t : List Node) (root : ℕ) (order : List ℕ) (table : IsTable t) (is
     pub renumbers-next : (v : List Node) → v ≡ u ++ m ∷ [] → RenumbersUpTo t order v (p + 1)
     renumbers-next v e =
         subst (λ (w : List Node). RenumbersUpTo t order w (p + 1)) (sym e)
-        (renumbers-more t root order table is_order u p (get_or order p 0) n m (λ j. get_or places j 0) so_far number-at node-at are_places is)
+        (renumbers-more t root order table is_order u p (get_or order p 0) n m (λ j. get_or places j 0) so_far number-at node-at are_places (is ∙ renumbered_node-renamed (λ j. get_or places j 0) n))

@@ -10,7 +10,7 @@ use Rattle.strategy_graph.specs.Tables.{Answers, answers_of, answer, rest_node, 
 use Rattle.strategy_graph.specs.Acceptance.{Answered}
 use Rattle.strategy_graph.specs.Leads.{AtNode}
 
--- A tree of moves: an attack that wins at once, or an attack and a branch for each of some replies to it, in reading order.
+-- A tree of moves: an attack that wins at once, or an attack and a branch for each of some replies to it.
 mutual
   pub data Tree : Type 0 where
     Leaf : (attack : Point) → Tree

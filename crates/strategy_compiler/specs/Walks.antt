@@ -2,10 +2,12 @@
 use Rattle.std.specs.Prelude.{◌≡◌, ◌↔◌, ℕ, zero, suc, ◌-◌, ◌<◌, ◌≤◌, ◌==◌, if◌then◌else◌, List, [], ◌∷◌, ◌++◌, map, fold, length, take, Bool, true, All, Contains, Some, slice_get}
 use Rattle.std.specs.List.{list_any, position_or_len, range_with_len}
 use Rattle.std.specs.Option.{option_map_or}
+use Rattle.strategy_graph.specs.declared.Reply.{Reply}
+use Rattle.strategy_graph.specs.declared.Rest.{Rest}
+use Rattle.strategy_graph.specs.declared.Rest.TheVariants.{Wins, To, Nothing}
 use Rattle.strategy_graph.specs.declared.Node.{Node}
 use Rattle.strategy_graph.specs.Tables.{Answers, answers_of, rest_nodes, named, NamesLower, IsTable}
 use Rattle.strategy_graph.specs.Laws.{SaysSame}
-use Rattle.strategy_graph.proofs.Copies.{renamed}
 use Rattle.strategy_compiler.specs.Trees.{Tree, StandsFor}
 
 -- no two nodes are equal
@@ -44,10 +46,22 @@ completed t i = completed_within (suc i) t [] i
 abbrev pub place_in : List ℕ → ℕ → ℕ
 place_in js i = position_or_len (λ j. j == i) js
 
+-- the same rest, reply and node, with the number f j for each node j that is named
+abbrev pub renumbered_rest : (ℕ → ℕ) → Rest → Rest
+renumbered_rest f Wins = Wins
+renumbered_rest f (To j) = To (f j)
+renumbered_rest f Nothing = Nothing
+
+abbrev pub renumbered_reply : (ℕ → ℕ) → Reply → Reply
+renumbered_reply f r = record { at = r.at; next = f r.next }
+
+abbrev pub renumbered_node : (ℕ → ℕ) → Node → Node
+renumbered_node f n = record { attack = n.attack; replies = map (renumbered_reply f) n.replies; rest = renumbered_rest f n.rest }
+
 -- table u has the nodes of t with these numbers in this order, and for each number that a node names its place among them
 pub record Renumbers (t : List Node) (order : List ℕ) (u : List Node) : Type 0 where
   pub count : length u ≡ length order
-  pub each : (k i : ℕ) → slice_get order k ≡ Some i → (n : Node) × (slice_get t i ≡ Some n) × (slice_get u k ≡ Some (renamed (place_in order) n))
+  pub each : (k i : ℕ) → slice_get order k ≡ Some i → (n : Node) × (slice_get t i ≡ Some n) × (slice_get u k ≡ Some (renumbered_node (place_in order) n))
 
 -- the number of the last node
 abbrev pub last : List Node → ℕ

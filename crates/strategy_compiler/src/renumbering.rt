@@ -4,8 +4,7 @@
 ghost use Rattle.std.specs.Prelude.{◌≡◌, ◌<◌, ◌≤◌, ◌++◌, ◌∷◌, [], ℕ, true, nat_lt, map, length, slice_get, slice_index, Some, All, IfOk, OnOk};
 ghost use Rattle.std.specs.List.{list_all};
 ghost use Rattle.strategy_graph.specs.Tables.{IsNode, IsTable, answers_of, names_below, rest_nodes};
-ghost use Rattle.strategy_graph.proofs.Copies.{renamed, renamed_reply, renamed_rest};
-ghost use Rattle.strategy_compiler.specs.Walks.{IsMadeFrom, IsOrder, Renumbers};
+ghost use Rattle.strategy_compiler.specs.Walks.{IsMadeFrom, IsOrder, Renumbers, renumbered_node, renumbered_reply, renumbered_rest as renumbered_rest_lem};
 ghost use Rattle.strategy_compiler.specs.Nodes.{IsCompiled};
 
 use crate::walk::completed_order;
@@ -35,7 +34,7 @@ fn renumbered_replies(
     places: &[u32],
 ) -> Result<Replies, AllocError>
     requires below { All (λ r. r.next < length places.now) replies.now }
-    ensures replies { IfOk result (λ rs. rs ≡ map (renamed_reply (λ j. slice_index places.now j)) replies.now) }
+    ensures replies { IfOk result (λ rs. rs ≡ map (renumbered_reply (λ j. slice_index places.now j)) replies.now) }
 {
     let mut renumbered = Replies::new(alloc);
     for reply in replies {
@@ -48,7 +47,7 @@ fn renumbered_replies(
 /// The rest, with the place of the number that it names.
 fn renumbered_rest(rest: Rest, places: &[u32]) -> Rest
     requires below { list_all (λ j. nat_lt j (length places.now)) (rest_nodes rest) ≡ true }
-    ensures rest { result ≡ renamed_rest (λ j. slice_index places.now j) rest }
+    ensures rest { result ≡ renumbered_rest_lem (λ j. slice_index places.now j) rest }
 {
     match rest {
         Rest::Wins => Rest::Wins,
@@ -60,7 +59,7 @@ fn renumbered_rest(rest: Rest, places: &[u32]) -> Rest
 /// The node, with the place of each number that it names.
 fn renumbered(alloc: Global, node: &Node, places: &[u32]) -> Result<Node, AllocError>
     requires below { names_below (answers_of node.now) (length places.now) ≡ true }
-    ensures node { IfOk result (λ n. n ≡ renamed (λ j. slice_index places.now j) node.now) }
+    ensures node { IfOk result (λ n. n ≡ renumbered_node (λ j. slice_index places.now j) node.now) }
 {
     let replies = renumbered_replies(alloc, node.replies.as_slice(), places)?;
     Ok(Node {
