@@ -1,0 +1,554 @@
+-- A tree has one table: nodes that stand for a same tree in two tables are walked over alike, and are the same.
+use Rattle.std.proofs.Common.{◌≡◌, ℕ, zero, suc, ◌+◌, ◌<◌, ◌≤◌, Bool, true, false, cond, not, ◌&&◌, ◌||◌, ◌==◌, List, [], ◌∷◌, ◌++◌, map, filter, length, get_or, refl, sym, ap, subst, ◌∙◌, arith}
+use Rattle.std.specs.Prelude.{Option, Some, None, nat_le, nat_eq, slice_get, fold, Contains}
+use Rattle.std.specs.List.{list_all, find, cons_option, range_with_len, AllByRecursion}
+use Rattle.std.specs.Option.{option_map_or, option_eq}
+use Rattle.std.proofs.lemmas.Bool.Decides.{Decides-eqb}
+use Rattle.std.proofs.lemmas.List.Sums.{sum_by-cons}
+use Rattle.game_rules.specs.declared.Point.{Point}
+use Rattle.strategy_graph.specs.declared.Node.{Node}
+use Rattle.strategy_graph.specs.declared.Reply.{Reply}
+use Rattle.strategy_graph.specs.declared.Rest.{Rest}
+use Rattle.strategy_graph.specs.declared.Rest.TheVariants.{Wins, To, Nothing}
+use Rattle.strategy_graph.specs.Tables.{Answers, answers_of, answer, names_below, rest_node, rest_nodes, is_winning, IsTable}
+use Rattle.strategy_graph.specs.Acceptance.{Answered}
+use Rattle.strategy_graph.specs.Leads.{AtNode}
+use Rattle.std.proofs.lemmas.List.FromFn.{length-range_with_len, get_or-range_with_len}
+use Rattle.strategy_graph.proofs.Filling.{IsTable-lower}
+use Rattle.strategy_compiler.proofs.Completing.{within-enough}
+use Rattle.strategy_graph.proofs.Answering.{answer-below}
+use Rattle.strategy_compiler.proofs.Briefs.{answered-as-listed}
+use Rattle.strategy_compiler.proofs.Commonest.{commonest-there}
+use Rattle.strategy_compiler.specs.Trees.{Tree, Branches, Leaf, Fork, NoBranch, Branch, StandsFor, StandsForAll, IsBrief, replies_of, answers_to, commonest, times}
+use Rattle.strategy_compiler.specs.Walks.{AreDifferent, IsTableOf, completed_within, is_among, last, visits, visits_at}
+
+cons-first : {X : Type 0} (x y : X) (xs ys : List X) → x ∷ xs ≡ y ∷ ys → x ≡ y
+cons-first x y xs ys e = cc
+
+cons-others : {X : Type 0} (x y : X) (xs ys : List X) → x ∷ xs ≡ y ∷ ys → xs ≡ ys
+cons-others x y xs ys e = cc
+
+some_equal : {X : Type 0} (x y : X) → Some x ≡ Some y → x ≡ y
+some_equal x y e = cc
+
+-- ---- lists that are related place by place
+
+-- both are there and related, or neither is there
+abbrev pub OptionPair : (ℕ → ℕ → Type 0) → Option ℕ → Option ℕ → Type 0
+OptionPair R None None = Unit {0}
+OptionPair R None (Some k) = ⊥
+OptionPair R (Some j) None = ⊥
+OptionPair R (Some j) (Some k) = R j k
+
+pub data Pairs (R : ℕ → ℕ → Type 0) : List ℕ → List ℕ → Type 0 where
+  Ends : Pairs R [] []
+  Goes : (j k : ℕ) (js ks : List ℕ) → R j k → Pairs R js ks → Pairs R (j ∷ js) (k ∷ ks)
+
+module _ (R : ℕ → ℕ → Type 0) where
+  pub pairs-append : (js ks js' ks' : List ℕ) → Pairs R js ks → Pairs R js' ks' → Pairs R (js ++ js') (ks ++ ks')
+  pairs-append _ _ js' ks' Ends h = h
+  pairs-append _ _ js' ks' (Goes j k js ks r p) h = Goes j k (js ++ js') (ks ++ ks') r (pairs-append js ks js' ks' p h)
+
+  pairs-length : (js ks : List ℕ) → Pairs R js ks → length js ≡ length ks
+  pairs-length _ _ Ends = refl
+  pairs-length _ _ (Goes j k js ks r p) = ap suc (pairs-length js ks p)
+
+  pairs-at : (js ks : List ℕ) (i : ℕ) → Pairs R js ks → i < length js → R (get_or js i 0) (get_or ks i 0)
+  pairs-at _ _ i Ends l = absurd (omega arith)
+  pairs-at _ _ zero (Goes j k js ks r p) l = r
+  pairs-at _ _ (suc i) (Goes j k js ks r p) l = pairs-at js ks i p (omega arith)
+
+  -- the relation tells numbers apart on one side where it does on the other
+  pub record TellsApart : Type 0 where
+    pub apart : (i i' j j' : ℕ) → R i j → R i' j' → (i == i') ≡ (j == j')
+
+  module _ (one : TellsApart) where
+    among-pairs : (i j : ℕ) (is js : List ℕ) → R i j → Pairs R is js → is_among i is ≡ is_among j js
+    among-pairs i j _ _ r Ends = refl
+    among-pairs i j _ _ r (Goes x y xs ys s p) = λ k. one.apart x i y j s r k || among-pairs i j xs ys r p k
+
+    times-pairs : (i j : ℕ) (is js : List ℕ) → R i j → Pairs R is js → times i is ≡ times j js
+    times-pairs i j _ _ r Ends = refl
+    times-pairs i j _ _ r (Goes x y xs ys s p) =
+        sum_by-cons (λ k. cond (k == i) 1 0) x xs
+        ∙ (λ k. cond (one.apart x i y j s r k) 1 0 + times-pairs i j xs ys r p k)
+        ∙ sym (sum_by-cons (λ k. cond (k == j) 1 0) y ys)
+
+    tops : ℕ → List ℕ → List ℕ → Bool
+    tops j js ks = list_all (λ k. nat_le (times k js) (times j js)) ks
+
+    tops-pairs : (i j : ℕ) (is js xs ys : List ℕ) → R i j → Pairs R is js → Pairs R xs ys → tops i is xs ≡ tops j js ys
+    unfolding tops
+    tops-pairs i j is js _ _ r p Ends = refl
+    tops-pairs i j is js _ _ r p (Goes x y xs ys s q) = λ k. nat_le (times-pairs x y is js s p k) (times-pairs i j is js r p k) && tops-pairs i j is js xs ys r p q k
+
+    find-pairs : (is js xs ys : List ℕ) → Pairs R is js → Pairs R xs ys → OptionPair R (find (λ k. tops k is is) xs) (find (λ k. tops k js js) ys)
+    find-pairs is js _ _ p Ends = tt
+    find-pairs is js _ _ p (Goes x y xs ys s q) =
+        by_test (tops x is is) (tops y js js) (tops-pairs x y is js is js s p p) (find-pairs is js xs ys p q) where
+          by_test : (a b : Bool) → a ≡ b → OptionPair R (find (λ k. tops k is is) xs) (find (λ k. tops k js js) ys) → OptionPair R (cond a (Some x) (find (λ k. tops k is is) xs)) (cond b (Some y) (find (λ k. tops k js js) ys))
+          by_test true true e h = s
+          by_test true false e h = cc
+          by_test false true e h = cc
+          by_test false false e h = h
+
+    pub commonest-pairs : (is js : List ℕ) → Pairs R is js → OptionPair R (commonest is) (commonest js)
+    unfolding tops
+    commonest-pairs is js p = find-pairs is js is js p p
+
+    same-pairs : (o p o' p' : Option ℕ) → OptionPair R o o' → OptionPair R p p' → option_eq nat_eq o p ≡ option_eq nat_eq o' p'
+    same-pairs None None None None h k = refl
+    same-pairs None None None (Some b) h k = absurd k
+    same-pairs None (Some a) None None h k = absurd k
+    same-pairs None (Some a) None (Some b) h k = refl
+    same-pairs None p (Some b) p' h k = absurd h
+    same-pairs (Some a) p None p' h k = absurd h
+    same-pairs (Some a) None (Some b) None h k = refl
+    same-pairs (Some a) None (Some b) (Some d) h k = absurd k
+    same-pairs (Some a) (Some c) (Some b) None h k = absurd k
+    same-pairs (Some a) (Some c) (Some b) (Some d) h k = one.apart a c b d h k
+
+-- ---- nodes that stand for a same tree
+
+pub record Alike (u v : List Node) (i j : ℕ) : Type 0 where
+  pub tree : Tree
+  pub left : StandsFor u i tree
+  pub right : StandsFor v j tree
+
+-- rests and replies with related numbers
+abbrev pub RestPair : (ℕ → ℕ → Type 0) → Rest → Rest → Type 0
+RestPair R Wins Wins = Unit {0}
+RestPair R Wins (To k) = ⊥
+RestPair R Wins Nothing = ⊥
+RestPair R (To j) Wins = ⊥
+RestPair R (To j) (To k) = R j k
+RestPair R (To j) Nothing = ⊥
+RestPair R Nothing Wins = ⊥
+RestPair R Nothing (To k) = ⊥
+RestPair R Nothing Nothing = Unit {0}
+
+abbrev pub ReplyPairs : (ℕ → ℕ → Type 0) → List Reply → List Reply → Type 0
+ReplyPairs R [] [] = Unit {0}
+ReplyPairs R [] (s ∷ ss) = ⊥
+ReplyPairs R (r ∷ rs) [] = ⊥
+ReplyPairs R (r ∷ rs) (s ∷ ss) = (r.at ≡ s.at) × R r.next s.next × ReplyPairs R rs ss
+
+pub record NodePair (R : ℕ → ℕ → Type 0) (n m : Node) : Type 0 where
+  pub attack : n.attack ≡ m.attack
+  pub rest : RestPair R n.rest m.rest
+  pub replies : ReplyPairs R n.replies m.replies
+
+-- ---- where nodes that stand for a same tree are alike below, they are alike
+
+AtNode-some : (o : Option Node) (n : Node) (P : Node → Type 0) → o ≡ Some n → AtNode o P → P n
+AtNode-some None n P e h = absurd h
+AtNode-some (Some m) n P e h = let same : m ≡ n = cc in subst P same h
+
+-- what is related to one thing is one
+rest-right : (R S : ℕ → ℕ → Type 0) → ((x y z : ℕ) → R x y → S x z → y ≡ z) → (r s t : Rest) → RestPair R r s → RestPair S r t → s ≡ t
+rest-right R S f Wins Wins Wins h k = refl
+rest-right R S f Wins Wins (To z) h k = absurd k
+rest-right R S f Wins Wins Nothing h k = absurd k
+rest-right R S f Wins (To y) t h k = absurd h
+rest-right R S f Wins Nothing t h k = absurd h
+rest-right R S f (To x) Wins t h k = absurd h
+rest-right R S f (To x) (To y) Wins h k = absurd k
+rest-right R S f (To x) (To y) (To z) h k = ap To (f x y z h k)
+rest-right R S f (To x) (To y) Nothing h k = absurd k
+rest-right R S f (To x) Nothing t h k = absurd h
+rest-right R S f Nothing Wins t h k = absurd h
+rest-right R S f Nothing (To y) t h k = absurd h
+rest-right R S f Nothing Nothing Wins h k = absurd k
+rest-right R S f Nothing Nothing (To z) h k = absurd k
+rest-right R S f Nothing Nothing Nothing h k = refl
+
+flip : (ℕ → ℕ → Type 0) → ℕ → ℕ → Type 0
+flip R x y = R y x
+
+rest-flip : (R : ℕ → ℕ → Type 0) (r s : Rest) → RestPair R r s → RestPair (flip R) s r
+unfolding flip
+rest-flip R Wins Wins h = tt
+rest-flip R Wins (To y) h = absurd h
+rest-flip R Wins Nothing h = absurd h
+rest-flip R (To x) Wins h = absurd h
+rest-flip R (To x) (To y) h = h
+rest-flip R (To x) Nothing h = absurd h
+rest-flip R Nothing Wins h = absurd h
+rest-flip R Nothing (To y) h = absurd h
+rest-flip R Nothing Nothing h = tt
+
+replies-right : (R S : ℕ → ℕ → Type 0) → ((x y z : ℕ) → R x y → S x z → y ≡ z) → (rs ss ts : List Reply) → ReplyPairs R rs ss → ReplyPairs S rs ts → ss ≡ ts
+replies-right R S f [] [] [] h k = refl
+replies-right R S f [] [] (t ∷ ts) h k = absurd k
+replies-right R S f [] (s ∷ ss) ts h k = absurd h
+replies-right R S f (r ∷ rs) [] ts h k = absurd h
+replies-right R S f (r ∷ rs) (s ∷ ss) [] h k = absurd k
+replies-right R S f (r ∷ rs) (s ∷ ss) (t ∷ ts) h k =
+    let at : s.at ≡ t.at = sym h.0 ∙ k.0 in
+    let next : s.next ≡ t.next = f r.next s.next t.next h.1 k.1 in
+    let later = replies-right R S f rs ss ts h.2 k.2 in
+    λ i. record { at = at i; next = next i } ∷ later i
+
+replies-flip : (R : ℕ → ℕ → Type 0) (rs ss : List Reply) → ReplyPairs R rs ss → ReplyPairs (flip R) ss rs
+unfolding flip
+replies-flip R [] [] h = tt
+replies-flip R [] (s ∷ ss) h = absurd h
+replies-flip R (r ∷ rs) [] h = absurd h
+replies-flip R (r ∷ rs) (s ∷ ss) h = (sym h.0, h.1, replies-flip R rs ss h.2)
+
+node-right : (R S : ℕ → ℕ → Type 0) → ((x y z : ℕ) → R x y → S x z → y ≡ z) → (n m l : Node) → NodePair R n m → NodePair S n l → m ≡ l
+node-right R S f n m l h k =
+    let attack : m.attack ≡ l.attack = sym h.attack ∙ k.attack in
+    let replies = replies-right R S f n.replies m.replies l.replies h.replies k.replies in
+    let rest = rest-right R S f n.rest m.rest l.rest h.rest k.rest in
+    λ i. record { attack = attack i; replies = replies i; rest = rest i }
+
+rest-itself : (r : Rest) → RestPair (λ x y. x ≡ y) r r
+rest-itself Wins = tt
+rest-itself (To j) = refl
+rest-itself Nothing = tt
+
+replies-itself : (rs : List Reply) → ReplyPairs (λ x y. x ≡ y) rs rs
+replies-itself [] = tt
+replies-itself (r ∷ rs) = (refl, refl, replies-itself rs)
+
+node-itself : (n : Node) → NodePair (λ x y. x ≡ y) n n
+node-itself n = record { attack = refl; rest = rest-itself n.rest; replies = replies-itself n.replies }
+
+node-flip : (R : ℕ → ℕ → Type 0) (n m : Node) → NodePair R n m → NodePair (flip R) m n
+node-flip R n m h = record { attack = sym h.attack; rest = rest-flip R n.rest m.rest h.rest; replies = replies-flip R n.replies m.replies h.replies }
+
+node-left : (R S : ℕ → ℕ → Type 0) → ((x y z : ℕ) → R y x → S z x → y ≡ z) → (n m l : Node) → NodePair R m n → NodePair S l n → m ≡ l
+unfolding flip
+node-left R S f n m l h k = node-right (flip R) (flip S) f n m l (node-flip R m n h) (node-flip S l n k)
+
+rest-pairs : (R S : ℕ → ℕ → Type 0) → ((x y : ℕ) → R x y → S x y) → (r s : Rest) → RestPair R r s → Pairs S (rest_nodes r) (rest_nodes s)
+rest-pairs R S f Wins Wins h = Ends
+rest-pairs R S f Wins (To y) h = absurd h
+rest-pairs R S f Wins Nothing h = absurd h
+rest-pairs R S f (To x) Wins h = absurd h
+rest-pairs R S f (To x) (To y) h = Goes x y [] [] (f x y h) Ends
+rest-pairs R S f (To x) Nothing h = absurd h
+rest-pairs R S f Nothing Wins h = absurd h
+rest-pairs R S f Nothing (To y) h = absurd h
+rest-pairs R S f Nothing Nothing h = Ends
+
+next-pairs : (R S : ℕ → ℕ → Type 0) → ((x y : ℕ) → R x y → S x y) → (rs ss : List Reply) → ReplyPairs R rs ss → Pairs S (map (λ r. r.next) rs) (map (λ s. s.next) ss)
+next-pairs R S f [] [] h = Ends
+next-pairs R S f [] (s ∷ ss) h = absurd h
+next-pairs R S f (r ∷ rs) [] h = absurd h
+next-pairs R S f (r ∷ rs) (s ∷ ss) h = Goes r.next s.next _ _ (f r.next s.next h.1) (next-pairs R S f rs ss h.2)
+
+fold-pairs : (R : ℕ → ℕ → Type 0) (f g : List ℕ → ℕ → List ℕ) → ((d e : List ℕ) (x y : ℕ) → R x y → Pairs R d e → Pairs R (f d x) (g e y)) → (js ks d e : List ℕ) → Pairs R js ks → Pairs R d e → Pairs R (fold f d js) (fold g e ks)
+fold-pairs R f g step _ _ d e Ends p = p
+fold-pairs R f g step _ _ d e (Goes j k js ks r q) p = fold-pairs R f g step js ks (f d j) (g e k) q (step d e j k r p)
+
+there-at : (o : Option Node) (P : Node → Type 0) → AtNode o P → (n : Node) × (o ≡ Some n)
+there-at None P h = absurd h
+there-at (Some n) P h = (n, refl)
+
+no_replies : (R : ℕ → ℕ → Type 0) (rs ss : List Reply) → rs ≡ [] → ss ≡ [] → ReplyPairs R rs ss
+no_replies R rs ss e f = subst (λ (xs : List Reply). ReplyPairs R xs ss) (sym e) (subst (ReplyPairs R []) (sym f) tt)
+
+winning-rest : (r : Rest) → is_winning r ≡ true → r ≡ Wins
+winning-rest Wins h = refl
+winning-rest (To j) h = cc
+winning-rest Nothing h = cc
+
+rest-by_node : (R : ℕ → ℕ → Type 0) (r s : Rest) (j k : ℕ) → rest_node r ≡ Some j → rest_node s ≡ Some k → R j k → RestPair R r s
+rest-by_node R Wins s j k e f h = cc
+rest-by_node R Nothing s j k e f h = cc
+rest-by_node R (To i) Wins j k e f h = cc
+rest-by_node R (To i) Nothing j k e f h = cc
+rest-by_node R (To i) (To l) j k e f h =
+    let left : j ≡ i = cc in
+    let right : k ≡ l = cc in
+    subst (λ (x : ℕ). R x l) left (subst (λ (x : ℕ). R j x) right h)
+
+abbrev pub IsThere : Option ℕ → Type 0
+IsThere None = ⊥
+IsThere (Some j) = Unit {0}
+
+-- an answer at each reply, of related nodes
+abbrev pub AnswerPairs : (ℕ → ℕ → Type 0) → Answers → Answers → List Point → Type 0
+AnswerPairs R a b [] = Unit {0}
+AnswerPairs R a b (q ∷ qs) = OptionPair R (answer a q) (answer b q) × IsThere (answer a q) × AnswerPairs R a b qs
+
+answers-pairs : (R : ℕ → ℕ → Type 0) (a b : Answers) (qs : List Point) → AnswerPairs R a b qs → Pairs R (answers_to a qs) (answers_to b qs)
+answers-pairs R a b [] h = Ends
+answers-pairs R a b (q ∷ qs) h = by_answers (answer a q) (answer b q) h.0 (answers-pairs R a b qs h.2) where
+  by_answers : (o p : Option ℕ) → OptionPair R o p → Pairs R (answers_to a qs) (answers_to b qs) → Pairs R (cons_option o (answers_to a qs)) (cons_option p (answers_to b qs))
+  by_answers None None g k = k
+  by_answers None (Some y) g k = absurd g
+  by_answers (Some x) None g k = absurd g
+  by_answers (Some x) (Some y) g k = Goes x y _ _ g k
+
+others-alike : (R : ℕ → ℕ → Type 0) → TellsApart R → (a b : Answers) (o p : Option ℕ) (qs : List Point) → OptionPair R o p → AnswerPairs R a b qs → filter (λ q. not (option_eq nat_eq (answer a q) o)) qs ≡ filter (λ q. not (option_eq nat_eq (answer b q) p)) qs
+others-alike R one a b o p [] g h = refl
+others-alike R one a b o p (q ∷ qs) g h =
+    let here = same-pairs R one (answer a q) o (answer b q) p h.0 g in
+    let later = others-alike R one a b o p qs g h.2 in
+    λ k. cond (not (here k)) (q ∷ later k) (later k)
+
+answer-pair : (R : ℕ → ℕ → Type 0) (a b : Answers) (qs : List Point) (q : Point) (j k : ℕ) → AnswerPairs R a b qs → Contains qs q → answer a q ≡ Some j → answer b q ≡ Some k → R j k
+answer-pair R a b [] q j k h (m, l, e) x y = absurd (omega arith)
+answer-pair R a b (p ∷ qs) q j k h (zero, l, e) x y =
+    subst (λ (o : Option ℕ). OptionPair R o (Some k)) x (subst (λ (o : Option ℕ). OptionPair R (answer a q) o) y (subst (λ (r : Point). OptionPair R (answer a r) (answer b r)) e h.0))
+answer-pair R a b (p ∷ qs) q j k h (suc m, l, e) x y = answer-pair R a b qs q j k h.2 (m, omega arith, e) x y
+
+listed-pairs : (R : ℕ → ℕ → Type 0) (a b : Answers) (qs : List Point) (rs ss : List Reply) → AnswerPairs R a b qs → map (λ r. r.at) rs ≡ map (λ s. s.at) ss → ((q : Point) → Contains (map (λ r. r.at) rs) q → Contains qs q) → AllByRecursion (λ r. answer a r.at ≡ Some r.next) rs → AllByRecursion (λ r. answer b r.at ≡ Some r.next) ss → ReplyPairs R rs ss
+listed-pairs R a b qs [] [] h e inside x y = tt
+listed-pairs R a b qs [] (s ∷ ss) h e inside x y = cc
+listed-pairs R a b qs (r ∷ rs) [] h e inside x y = cc
+listed-pairs R a b qs (r ∷ rs) (s ∷ ss) h e inside x y =
+    let at : r.at ≡ s.at = cons-first _ _ _ _ e in (
+      at,
+      answer-pair R a b qs r.at r.next s.next h (inside r.at (0, omega arith, refl)) x.0 (ap (answer b) at ∙ y.0),
+      listed-pairs R a b qs rs ss h (cons-others _ _ _ _ e) (λ q c. inside q (suc c.0, omega arith, c.2)) x.1 y.1,
+    )
+
+filter-inside : (p : Point → Bool) (qs : List Point) (q : Point) → Contains (filter p qs) q → Contains qs q
+filter-inside p [] q (k, l, e) = absurd (omega arith)
+filter-inside p (r ∷ qs) q c = by_test (p r) c (filter-inside p qs q) where
+  later : Contains qs q → Contains (r ∷ qs) q
+  later (k, l, e) = (suc k, omega arith, e)
+
+  by_test : (b : Bool) → Contains (cond b (r ∷ filter p qs) (filter p qs)) q → (Contains (filter p qs) q → Contains qs q) → Contains (r ∷ qs) q
+  by_test true (zero, l, e) next = (0, omega arith, e)
+  by_test true (suc k, l, e) next = later (next (k, omega arith, e))
+  by_test false c next = later (next c)
+
+module _ (u v : List Node) (tu : IsTable u) (tv : IsTable v) where
+  -- they stand for a same tree, and the first is below k
+  abbrev pub AlikeBelow : ℕ → ℕ → ℕ → Type 0
+  AlikeBelow k i j = Alike u v i j × (i < k)
+
+  answers-from : (i : ℕ) (a b : Answers) (bs : Branches) → names_below a i ≡ true → StandsForAll u a bs → StandsForAll v b bs → AnswerPairs (AlikeBelow i) a b (replies_of bs)
+  unfolding StandsForAll
+  answers-from i a b NoBranch low h k = tt
+  answers-from i a b (Branch q s bs) low h k =
+      (both (answer a q) (answer b q) refl h.0 k.0, there (answer a q) h.0, answers-from i a b bs low h.1 k.1) where
+        both : (o p : Option ℕ) → answer a q ≡ o → Answered o (λ x. StandsFor u x s) → Answered p (λ y. StandsFor v y s) → OptionPair (AlikeBelow i) o p
+        both None p e x y = absurd x
+        both (Some m) None e x y = absurd y
+        both (Some m) (Some l) e x y = (record { tree = s; left = x; right = y }, answer-below a i q m low e)
+
+        there : (o : Option ℕ) → Answered o (λ x. StandsFor u x s) → IsThere o
+        there None x = absurd x
+        there (Some m) x = tt
+
+  first-there : (R : ℕ → ℕ → Type 0) (a b : Answers) (q : Point) (qs : List Point) → AnswerPairs R a b (q ∷ qs) → commonest (answers_to a (q ∷ qs)) ≡ None → ⊥
+  first-there R a b q qs h = by_answer (answer a q) h.1 where
+    by_answer : (o : Option ℕ) → IsThere o → commonest (cons_option o (answers_to a qs)) ≡ None → ⊥
+    by_answer None t e = t
+    by_answer (Some x) t e = commonest-there x (answers_to a qs) e
+
+  module _ (i j : ℕ) (n m : Node) (one : TellsApart (AlikeBelow i)) (at : slice_get u i ≡ Some n) (at' : slice_get v j ≡ Some m) where
+    fork-pair : (q : Point) (qs : List Point) → n.attack ≡ m.attack → IsBrief (answers_of n) (q ∷ qs) → IsBrief (answers_of m) (q ∷ qs) → AnswerPairs (AlikeBelow i) (answers_of n) (answers_of m) (q ∷ qs) → NodePair (AlikeBelow i) n m
+    fork-pair q qs attack brief brief' h =
+        let a : Answers = answers_of n in
+        let b : Answers = answers_of m in
+        let best = commonest-pairs (AlikeBelow i) one (answers_to a (q ∷ qs)) (answers_to b (q ∷ qs)) (answers-pairs (AlikeBelow i) a b (q ∷ qs) h) in
+        let rests : OptionPair (AlikeBelow i) (rest_node n.rest) (rest_node m.rest) =
+        subst (λ (o : Option ℕ). OptionPair (AlikeBelow i) o (rest_node m.rest)) (sym brief.rest_is_commonest)
+        (subst (λ (o : Option ℕ). OptionPair (AlikeBelow i) (commonest (answers_to a (q ∷ qs))) o) (sym brief'.rest_is_commonest) best) in
+        record {
+          attack = attack;
+          rest = by_rest (rest_node n.rest) (rest_node m.rest) refl refl rests;
+          replies =
+              listed-pairs (AlikeBelow i) a b (q ∷ qs) n.replies m.replies h
+              (brief.others_are_listed ∙ others-alike (AlikeBelow i) one a b (rest_node n.rest) (rest_node m.rest) (q ∷ qs) rests h ∙ sym brief'.others_are_listed)
+              (λ p c. filter-inside (λ p. not (option_eq nat_eq (answer a p) (rest_node a.rest))) (q ∷ qs) p (subst (λ (ps : List Point). Contains ps p) brief.others_are_listed c))
+              (answered-as-listed a ((tu.nodes i n at).rising)) (answered-as-listed b ((tv.nodes j m at').rising));
+        } where
+          by_rest : (o p : Option ℕ) → rest_node n.rest ≡ o → rest_node m.rest ≡ p → OptionPair (AlikeBelow i) o p → RestPair (AlikeBelow i) n.rest m.rest
+          by_rest None p e f g = absurd (first-there (AlikeBelow i) (answers_of n) (answers_of m) q qs h (sym brief.rest_is_commonest ∙ e))
+          by_rest (Some x) None e f g = absurd g
+          by_rest (Some x) (Some y) e f g = rest-by_node (AlikeBelow i) n.rest m.rest x y e f g
+
+    pair-by : (s : Tree) → StandsFor u i s → StandsFor v j s → NodePair (AlikeBelow i) n m
+    unfolding StandsFor
+    pair-by (Leaf p) h k =
+        let here = AtNode-some (slice_get u i) n (λ n. (n.attack ≡ p) × (is_winning n.rest ≡ true)) at h in
+        let there = AtNode-some (slice_get v j) m (λ n. (n.attack ≡ p) × (is_winning n.rest ≡ true)) at' k in
+        record {
+          attack = here.0 ∙ sym there.0;
+          rest = subst (λ (r : Rest). RestPair (AlikeBelow i) r m.rest) (sym (winning-rest n.rest here.1)) (subst (RestPair (AlikeBelow i) Wins) (sym (winning-rest m.rest there.1)) tt);
+          replies = no_replies (AlikeBelow i) n.replies m.replies ((tu.nodes i n at).winning here.1) ((tv.nodes j m at').winning there.1);
+        }
+    pair-by (Fork p NoBranch) h k =
+        let here = AtNode-some (slice_get u i) n (λ n. (n.attack ≡ p) × ((n.rest ≡ Nothing) × (n.replies ≡ [])) × Unit {0}) at h in
+        let there = AtNode-some (slice_get v j) m (λ n. (n.attack ≡ p) × ((n.rest ≡ Nothing) × (n.replies ≡ [])) × Unit {0}) at' k in
+        record {
+          attack = here.0 ∙ sym there.0;
+          rest = subst (λ (r : Rest). RestPair (AlikeBelow i) r m.rest) (sym here.1.0) (subst (RestPair (AlikeBelow i) Nothing) (sym there.1.0) tt);
+          replies = no_replies (AlikeBelow i) n.replies m.replies here.1.1 there.1.1;
+        }
+    pair-by (Fork p (Branch q s bs)) h k =
+        let here = AtNode-some (slice_get u i) n (λ n. (n.attack ≡ p) × IsBrief (answers_of n) (q ∷ replies_of bs) × StandsForAll u (answers_of n) (Branch q s bs)) at h in
+        let there = AtNode-some (slice_get v j) m (λ n. (n.attack ≡ p) × IsBrief (answers_of n) (q ∷ replies_of bs) × StandsForAll v (answers_of n) (Branch q s bs)) at' k in
+        fork-pair q (replies_of bs) (here.0 ∙ sym there.0) here.1 there.1 (answers-from i (answers_of n) (answers_of m) (Branch q s bs) ((tu.nodes i n at).below) here.2 there.2)
+
+  node-at : (i : ℕ) (s : Tree) (t : List Node) → StandsFor t i s → (n : Node) × (slice_get t i ≡ Some n)
+  unfolding StandsFor
+  node-at i (Leaf p) t h = there-at (slice_get t i) _ h
+  node-at i (Fork p bs) t h = there-at (slice_get t i) _ h
+
+  module _ (du : AreDifferent u) (dv : AreDifferent v) where
+    one-less : (k i : ℕ) → i ≤ k → TellsApart (AlikeBelow k) → TellsApart (AlikeBelow i)
+    one-less k i l one = record { apart = λ x x' y y' h h'. one.apart x x' y y' (h.0, below-more x i k h.1 l) (h'.0, below-more x' i k h'.1 l) } where
+      below-more : (x i k : ℕ) → x < i → i ≤ k → x < k
+      below-more x i k a b = omega arith
+
+    below : (x i k : ℕ) → x < i → i < suc k → x < k
+    below x i k a b = omega arith
+
+    module _ (k : ℕ) (one : TellsApart (AlikeBelow k)) (i j : ℕ) (alike : Alike u v i j) (l : i < suc k) where
+      left-node : (n : Node) × (slice_get u i ≡ Some n)
+      left-node = node-at i alike.tree u alike.left
+
+      right-node : (m : Node) × (slice_get v j ≡ Some m)
+      right-node = node-at j alike.tree v alike.right
+
+      node-pair : NodePair (AlikeBelow i) left-node.0 right-node.0
+      node-pair = pair-by i j left-node.0 right-node.0 (one-less k i (omega arith) one) left-node.1 right-node.1 alike.tree alike.left alike.right
+
+    equal-tests : (x y : ℕ) (b : Bool) → (x == y) ≡ b → (b ≡ true → x ≡ y)
+    equal-tests x y b e h = (Decides-eqb x y).0 (e ∙ h)
+
+    module _ (k : ℕ) (one : TellsApart (AlikeBelow k)) (i i' j j' : ℕ) (a : Alike u v i j) (l : i < suc k) (a' : Alike u v i' j') (l' : i' < suc k) where
+      to-right : i ≡ i' → j ≡ j'
+      to-right e =
+          let n = left-node k one i j a l in
+          let n' = left-node k one i' j' a' l' in
+          let m = right-node k one i j a l in
+          let m' = right-node k one i' j' a' l' in
+          let same : n.0 ≡ n'.0 = some_equal _ _ (sym n.1 ∙ ap (slice_get u) e ∙ n'.1) in
+          let equal : m.0 ≡ m'.0 =
+          node-right (AlikeBelow i) (AlikeBelow i') (λ x y z r s. (Decides-eqb y z).0 (sym (one.apart x x y z (r.0, below x i k r.1 l) (s.0, below x i' k s.1 l')) ∙ (Decides-eqb x x).1 refl)) n.0 m.0 m'.0
+          (node-pair k one i j a l) (subst (λ (x : Node). NodePair (AlikeBelow i') x m'.0) (sym same) (node-pair k one i' j' a' l')) in
+          dv.different j j' m'.0 (m.1 ∙ ap Some equal) m'.1
+
+      to-left : j ≡ j' → i ≡ i'
+      to-left e =
+          let n = left-node k one i j a l in
+          let n' = left-node k one i' j' a' l' in
+          let m = right-node k one i j a l in
+          let m' = right-node k one i' j' a' l' in
+          let same : m.0 ≡ m'.0 = some_equal _ _ (sym m.1 ∙ ap (slice_get v) e ∙ m'.1) in
+          let equal : n.0 ≡ n'.0 =
+          node-left (AlikeBelow i) (AlikeBelow i') (λ x y z r s. (Decides-eqb y z).0 (one.apart y z x x (r.0, below y i k r.1 l) (s.0, below z i' k s.1 l') ∙ (Decides-eqb x x).1 refl)) m.0 n.0 n'.0
+          (node-pair k one i j a l) (subst (λ (x : Node). NodePair (AlikeBelow i') n'.0 x) (sym same) (node-pair k one i' j' a' l')) in
+          du.different i i' n'.0 (n.1 ∙ ap Some equal) n'.1
+
+      apart-more : (i == i') ≡ (j == j')
+      apart-more = by_left (i == i') refl (j == j') refl where
+        by_left : (b : Bool) → (i == i') ≡ b → (c : Bool) → (j == j') ≡ c → b ≡ c
+        by_left true e true f = refl
+        by_left true e false f = sym ((Decides-eqb j j').1 (to-right ((Decides-eqb i i').0 e))) ∙ f
+        by_left false e true f = sym e ∙ (Decides-eqb i i').1 (to-left ((Decides-eqb j j').0 f))
+        by_left false e false f = refl
+
+    one-more : (k : ℕ) → TellsApart (AlikeBelow k) → TellsApart (AlikeBelow (suc k))
+    one-more k one = record { apart = λ i i' j j' h h'. apart-more k one i i' j j' h.0 h.1 h'.0 h'.1 }
+
+    one-all : (k : ℕ) → TellsApart (AlikeBelow k)
+    one-all zero = record { apart = λ x x' y y' h h'. absurd (omega (arith, h.1)) }
+    one-all (suc k) = one-more k (one-all k)
+
+    alike-one : TellsApart (Alike u v)
+    alike-one = record { apart = λ i i' j j' h h'. (one-all (suc (i + i'))).apart i i' j j' (h, omega arith) (h', omega arith) }
+
+    pair-at : (i j : ℕ) (n m : Node) → slice_get u i ≡ Some n → slice_get v j ≡ Some m → Alike u v i j → NodePair (AlikeBelow i) n m
+    pair-at i j n m at at' h = pair-by i j n m (one-all i) at at' h.tree h.left h.right
+
+    -- ---- they are walked over alike
+
+    visits-alike : (i j : ℕ) → Alike u v i j → Pairs (Alike u v) (visits_at u i) (visits_at v j)
+    visits-alike i j h =
+        let n = node-at i h.tree u h.left in
+        let m = node-at j h.tree v h.right in
+        let pair = pair-at i j n.0 m.0 n.1 m.1 h in
+        subst (λ (o : Option Node). Pairs (Alike u v) (option_map_or (λ n. visits (answers_of n)) o []) (visits_at v j)) (sym n.1)
+        (subst (λ (o : Option Node). Pairs (Alike u v) (visits (answers_of n.0)) (option_map_or (λ n. visits (answers_of n)) o [])) (sym m.1)
+        (pairs-append (Alike u v) (rest_nodes n.0.rest) (rest_nodes m.0.rest) _ _ (rest-pairs (AlikeBelow i) (Alike u v) (λ x y r. r.0) n.0.rest m.0.rest pair.rest)
+        (next-pairs (AlikeBelow i) (Alike u v) (λ x y r. r.0) n.0.replies m.0.replies pair.replies)))
+
+    within-alike : (k : ℕ) (d e : List ℕ) (i j : ℕ) → Alike u v i j → Pairs (Alike u v) d e → Pairs (Alike u v) (completed_within k u d i) (completed_within k v e j)
+    unfolding completed_within
+    within-alike zero d e i j h p = p
+    within-alike (suc k) d e i j h p =
+        by_test (is_among i d) (is_among j e) (among-pairs (Alike u v) alike-one i j d e h p)
+        (pairs-append (Alike u v) _ _ (i ∷ []) (j ∷ [])
+        (fold-pairs (Alike u v) (completed_within k u) (completed_within k v) (λ d e x y r q. within-alike k d e x y r q) (visits_at u i) (visits_at v j) d e (visits-alike i j h) p)
+        (Goes i j [] [] h Ends)) where
+          by_test : (a b : Bool) → a ≡ b → Pairs (Alike u v) (fold (completed_within k u) d (visits_at u i) ++ i ∷ []) (fold (completed_within k v) e (visits_at v j) ++ j ∷ []) → Pairs (Alike u v) (cond a d (fold (completed_within k u) d (visits_at u i) ++ i ∷ [])) (cond b e (fold (completed_within k v) e (visits_at v j) ++ j ∷ []))
+          by_test true true s q = p
+          by_test true false s q = cc
+          by_test false true s q = cc
+          by_test false false s q = q
+
+    pub range-at : (n k : ℕ) → k < n → get_or (range_with_len 0 n) k 0 ≡ k
+    range-at n k l = get_or-range_with_len 0 n k 0 l ∙ zero_plus k where
+      zero_plus : (k : ℕ) → 0 + k ≡ k
+      zero_plus k = omega arith
+
+ext-slice_get : (t u : List Node) → length t ≡ length u → ((i : ℕ) → i < length t → slice_get t i ≡ slice_get u i) → t ≡ u
+ext-slice_get [] [] e h = refl
+ext-slice_get [] (m ∷ u) e h = absurd (omega (arith, e))
+ext-slice_get (n ∷ t) [] e h = absurd (omega (arith, e))
+ext-slice_get (n ∷ t) (m ∷ u) e h =
+    let first : n ≡ m = some_equal n m (h 0 (omega arith)) in
+    let others : t ≡ u = ext-slice_get t u (omega (arith, e)) (λ i l. h (suc i) (omega arith)) in
+    λ i. first i ∷ others i
+
+-- ---- the table of a tree is one
+
+module _ (tree : Tree) (u v : List Node) (hu : IsTableOf tree u) (hv : IsTableOf tree v) where
+  root-alike : Alike u v (last u) (last v)
+  root-alike = record { tree = tree; left = hu.stands; right = hv.stands }
+
+  numbers-alike : Pairs (Alike u v) (range_with_len 0 (length u)) (range_with_len 0 (length v))
+  numbers-alike =
+      let k : ℕ = suc (last u + last v) in
+      let left : completed_within k u [] (last u) ≡ range_with_len 0 (length u) =
+      within-enough u (IsTable-lower u hu.table) k (suc (last u)) (last u) [] (omega arith) (omega arith) ∙ hu.numbered in
+      let right : completed_within k v [] (last v) ≡ range_with_len 0 (length v) =
+      within-enough v (IsTable-lower v hv.table) k (suc (last v)) (last v) [] (omega arith) (omega arith) ∙ hv.numbered in
+      subst (λ (js : List ℕ). Pairs (Alike u v) js (range_with_len 0 (length v))) left
+      (subst (Pairs (Alike u v) (completed_within k u [] (last u))) right
+      (within-alike u v hu.table hv.table hu.different hv.different k [] [] (last u) (last v) root-alike Ends))
+
+  same-length : length u ≡ length v
+  same-length =
+      sym (length-range_with_len 0 (length u)) ∙ pairs-length (Alike u v) (range_with_len 0 (length u)) (range_with_len 0 (length v)) numbers-alike ∙ length-range_with_len 0 (length v)
+
+  number-alike : (k : ℕ) → k < length u → Alike u v k k
+  number-alike k l =
+      let long = length-range_with_len 0 (length u) in
+      let both = same-length in
+      let pair = pairs-at (Alike u v) (range_with_len 0 (length u)) (range_with_len 0 (length v)) k numbers-alike (omega (arith, long, l)) in
+      subst (λ (j : ℕ). Alike u v j k) (range-at u v hu.table hv.table hu.different hv.different (length u) k l)
+      (subst (Alike u v (get_or (range_with_len 0 (length u)) k 0)) (range-at u v hu.table hv.table hu.different hv.different (length v) k (omega (arith, both, l))) pair)
+
+  node-same : (k : ℕ) → k < length u → slice_get u k ≡ slice_get v k
+  node-same k l =
+      let h = number-alike k l in
+      let n = node-at u v hu.table hv.table k h.tree u h.left in
+      let m = node-at u v hu.table hv.table k h.tree v h.right in
+      let pair = pair-at u v hu.table hv.table hu.different hv.different k k n.0 m.0 n.1 m.1 h in
+      let one = alike-one u v hu.table hv.table hu.different hv.different in
+      let itself : NodePair (λ x y. x ≡ y) n.0 n.0 = node-itself n.0 in
+      let same : n.0 ≡ m.0 =
+      node-right (λ x y. x ≡ y) (AlikeBelow u v hu.table hv.table k) (λ x y z e r. sym e ∙ same-number x z (lt_trans x k (length u) r.1 l) r.0) n.0 n.0 m.0 itself pair in
+      n.1 ∙ ap Some same ∙ sym m.1 where
+        lt_trans : (a b c : ℕ) → a < b → b < c → a < c
+        lt_trans a b c h k = omega arith
+
+        same-number : (x z : ℕ) → x < length u → Alike u v x z → x ≡ z
+        same-number x z low h =
+            let one = alike-one u v hu.table hv.table hu.different hv.different in
+            (Decides-eqb x z).0 (sym (one.apart x x x z (number-alike x low) h) ∙ (Decides-eqb x x).1 refl)
+
+  pub one-table : u ≡ v
+  one-table = ext-slice_get u v same-length node-same

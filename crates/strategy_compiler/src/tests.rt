@@ -1,0 +1,215 @@
+// Examples of a compiler: the table of a win by four in two moves, ties, what is left out, and a chain of a million nodes.
+#![tactic(auto)]
+
+ghost use Rattle.std.specs.Prelude.{◌↔◌, ◌<◌, length, All, IsTrue};
+
+use crate::{CompileError, Compiler};
+use game_rules::Point;
+use std::alloc::{AllocError, Global};
+use std::process::Abort;
+use std::test::Fail;
+use strategy_graph::{MAX_NODES, Replies, Reply, Table};
+
+fn point(x: u8, y: u8) -> Point {
+    Point { x, y }
+}
+
+fn are_below(answers: &[Reply], len: u32) -> bool
+    ensures below { IsTrue result ↔ All (λ r. r.next < len) answers.now }
+{
+    answers.iter().all(|answer| answer.next < len)
+}
+
+/// Puts the node in, once its answers are seen to rise and to name nodes that are there.
+fn put(
+    rt: &impl Abort,
+    compiler: &mut Compiler,
+    attack: Point,
+    answers: &Replies,
+) -> Result<u32, CompileError> {
+    let rising = answers.is_rising();
+    assert!(rt; rising);
+    let below = are_below(answers.as_slice(), compiler.len());
+    assert!(rt; below);
+    compiler.node(attack, answers.as_slice())
+}
+
+/// Puts a node in whose one answer is this node.
+fn put_after(compiler: &mut Compiler, next: u32) -> Result<u32, CompileError>
+    requires below { next < length compiler.old }
+{
+    compiler.node(
+        point(4, 7),
+        &[Reply {
+            at: point(0, 0),
+            next,
+        }],
+    )
+}
+
+fn finished(rt: &impl Abort, compiler: Compiler, root: u32) -> Result<Table, AllocError> {
+    let len = compiler.len();
+    assert!(rt; root < len);
+    compiler.finish(root)
+}
+
+/// An answer to each point of a board of 15 by 15: at `other` the node `next`, and else node 0.
+fn replies_everywhere(alloc: Global, other: Point, next: u32) -> Result<Replies, AllocError> {
+    let mut replies = Replies::new(alloc);
+    for y in 0..15 {
+        for x in 0..15 {
+            let at = point(x, y);
+            let next = if at == other { next } else { 0 };
+            replies.push(Reply { at, next })?;
+        }
+    }
+    Ok(replies)
+}
+
+/// The answers of these numbers to the points of the top row, from left to right.
+fn replies_by(alloc: Global, numbers: &[u32]) -> Result<Replies, AllocError> {
+    let mut replies = Replies::new(alloc);
+    let mut x = 0u8;
+    for number in numbers {
+        let at = point(x, 0);
+        replies.push(Reply { at, next: *number })?;
+        x = x.wrapping_add(1);
+    }
+    Ok(replies)
+}
+
+/// A compiler with so many winning nodes: node x has its attack on column x.
+fn with_wins(alloc: Global, count: u8) -> Result<Compiler, CompileError> {
+    let mut compiler = Compiler::new(alloc);
+    for x in 0..count {
+        compiler.winning(point(x, 9))?;
+    }
+    Ok(compiler)
+}
+
+fn attacks(alloc: Global, table: &Table) -> Result<Vec<Point>, AllocError> {
+    let mut attacks = Vec::new(alloc);
+    for i in 0..table.len() {
+        attacks.push(table.node(i).attack)?;
+    }
+    Ok(attacks)
+}
+
+/// The column of the attack of the node that the last node has as its rest, if it has one, and how many replies it lists.
+fn rest_and_listed(table: &Table) -> Option<(u8, usize)> {
+    let last = table.len().checked_sub(1)?;
+    let listed = table.node(last).replies.len();
+    let rest = table.node(last).rest.node()?;
+    if rest >= table.len() {
+        return None;
+    }
+    Some((table.node(rest).attack.x, listed))
+}
+
+fn compiled_by(
+    rt: &impl Abort,
+    alloc: Global,
+    numbers: &[u32],
+) -> Result<Option<(u8, usize)>, Fail> {
+    let mut compiler = with_wins(alloc, 3)?;
+    let answers = replies_by(alloc, numbers)?;
+    let root = put(rt, &mut compiler, point(7, 7), &answers)?;
+    let table = finished(rt, compiler, root)?;
+    Ok(rest_and_listed(&table))
+}
+
+#[test]
+fn compiles_a_win_in_two_moves(rt: HostRuntime) -> Result<(), Fail> {
+    let alloc = rt.alloc();
+    let mut compiler = Compiler::new(alloc);
+    let first = compiler.winning(point(3, 7))?;
+    let second = compiler.winning(point(8, 7))?;
+    let again = compiler.winning(point(3, 7))?;
+    assert_eq!(rt; (first, second, again), (0, 1, 0));
+    let answers = replies_everywhere(alloc, point(3, 7), 1)?;
+    let root = put(&rt, &mut compiler, point(4, 7), &answers)?;
+    let same = put(&rt, &mut compiler, point(4, 7), &answers)?;
+    assert_eq!(rt; (root, same, compiler.len()), (2, 2, 3));
+    let table = finished(&rt, compiler, root)?;
+    let expected = [point(3, 7), point(8, 7), point(4, 7)];
+    assert_eq!(rt; attacks(alloc, &table)?.as_slice(), expected.as_slice());
+    assert_eq!(rt; rest_and_listed(&table), Some((3, 1)));
+    Ok(())
+}
+
+#[test]
+fn the_rest_is_the_commonest_and_the_earliest_on_a_tie(rt: HostRuntime) -> Result<(), Fail> {
+    let alloc = rt.alloc();
+    assert_eq!(rt; compiled_by(&rt, alloc, &[])?, None);
+    assert_eq!(rt; compiled_by(&rt, alloc, &[1, 0])?, Some((1, 1)));
+    assert_eq!(rt; compiled_by(&rt, alloc, &[2, 0, 0, 2])?, Some((2, 2)));
+    assert_eq!(rt; compiled_by(&rt, alloc, &[2, 0, 1, 0, 1, 0])?, Some((0, 3)));
+    assert_eq!(rt;
+        compiled_by(&rt, alloc, &[2, 1, 0, 1, 0, 2, 1])?,
+        Some((1, 4))
+    );
+    Ok(())
+}
+
+#[test]
+fn finish_visits_the_rest_first_and_leaves_out_what_is_not_reached(
+    rt: HostRuntime,
+) -> Result<(), Fail> {
+    let alloc = rt.alloc();
+    let mut compiler = with_wins(alloc, 4)?;
+    let inner = put(
+        &rt,
+        &mut compiler,
+        point(5, 5),
+        &replies_by(alloc, &[3, 1, 3])?,
+    )?;
+    let root = put(
+        &rt,
+        &mut compiler,
+        point(6, 6),
+        &replies_by(alloc, &[0, inner, inner, 1])?,
+    )?;
+    let table = finished(&rt, compiler, root)?;
+
+    // The rest of the root, after its own rest and its own reply, and then the replies of the root.
+    let expected = [
+        point(3, 9),
+        point(1, 9),
+        point(5, 5),
+        point(0, 9),
+        point(6, 6),
+    ];
+    assert_eq!(rt; attacks(alloc, &table)?.as_slice(), expected.as_slice());
+    assert_eq!(rt; rest_and_listed(&table), Some((5, 2)));
+    Ok(())
+}
+
+/// A compiler that is full, with one chain of nodes, and the number of the last.
+fn full_chain(rt: &impl Abort, alloc: Global) -> Result<Compiler, CompileError> {
+    let mut compiler = Compiler::new(alloc);
+    let mut last = compiler.winning(point(4, 7))?;
+    for _ in 1..MAX_NODES {
+        let len = compiler.len();
+        assert!(rt; last < len);
+        last = put_after(&mut compiler, last)?;
+    }
+    Ok(compiler)
+}
+
+#[test]
+fn a_chain_of_a_million_nodes_is_finished(rt: HostRuntime) -> Result<(), Fail> {
+    let mut compiler = full_chain(&rt, rt.alloc())?;
+    let len = compiler.len();
+    assert!(rt; len == MAX_NODES);
+    let found = put_after(&mut compiler, MAX_NODES - 2);
+    assert_eq!(rt; found, Ok(MAX_NODES - 1));
+    let len = compiler.len();
+    assert!(rt; len == MAX_NODES);
+    let refused = put_after(&mut compiler, MAX_NODES - 1);
+    assert_eq!(rt; refused, Err(CompileError::Full));
+    let table = finished(&rt, compiler, MAX_NODES - 1)?;
+    let len = table.len();
+    assert!(rt; len == MAX_NODES);
+    assert_eq!(rt; table.depth(MAX_NODES - 1)?, MAX_NODES);
+    Ok(())
+}

@@ -1,0 +1,20 @@
+// The laws of trees and of walks, each as the contract of a function that computes nothing.
+#![tactic(auto)]
+
+ghost use Rattle.strategy_compiler.specs.Trees.{GrowthKeepsTrees};
+ghost use Rattle.strategy_compiler.specs.Walks.{GrowthKeepsReach, TreeHasOneTable};
+
+/// A node stands for the same trees in each table that begins with this one.
+pub fn growth_keeps_trees()
+    ensures same { GrowthKeepsTrees }
+{}
+
+/// A node reaches the same nodes in each table that begins with this one.
+pub fn growth_keeps_reach()
+    ensures same { GrowthKeepsReach }
+{}
+
+/// The table of a tree is one and the same, however it was compiled.
+pub fn tree_has_one_table()
+    ensures one { TreeHasOneTable }
+{}
