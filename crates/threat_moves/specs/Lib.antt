@@ -1,0 +1,2 @@
+pub mod FourMoves
+pub mod Blocks

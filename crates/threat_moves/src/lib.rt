@@ -1,0 +1,14 @@
+//! Threats of the side to move, found on the board: five points, moves that make fours, and what becomes of a four.
+//!
+//! A four move goes on and leaves its side a five point, which the other side has to block at once. Its fate is settled
+//! by the block alone (Allis, van den Herik and Huntjens, "Go-Moku and Threat-Space Search"). Each call plays on the view
+//! that it was lent and takes everything back, so the view is as before, also where memory ran out.
+#![tactic(auto)]
+
+mod block;
+mod five_points;
+mod moves;
+
+pub use block::{BlockAnswer, forced};
+pub use five_points::fives;
+pub use moves::four_moves;
