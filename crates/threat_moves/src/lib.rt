@@ -7,8 +7,10 @@
 
 mod block;
 mod five_points;
+mod laws;
 mod moves;
 
 pub use block::{BlockAnswer, forced};
 pub use five_points::fives;
+pub use laws::{block_decides, others_leave_five};
 pub use moves::four_moves;
