@@ -1,0 +1,78 @@
+-- Answers to replies: which nodes they are, and what holds of them.
+use Rattle.std.proofs.Common.{◌≡◌, ℕ, zero, suc, ◌≤◌, ◌<◌, max, Bool, true, false, cond, ◌&&◌, List, [], ◌∷◌, ◌++◌, map, refl, arith}
+use Rattle.std.specs.Prelude.{Option, Some, None, nat_lt}
+use Rattle.std.specs.List.{list_all, find}
+use Rattle.std.specs.Option.{option_map, option_or}
+use Rattle.game_rules.specs.Shapes.{is_same_point}
+use Rattle.game_rules.specs.declared.Point.{Point}
+use Rattle.strategy_graph.specs.declared.Reply.{Reply}
+use Rattle.strategy_graph.specs.declared.Rest.{Rest}
+use Rattle.strategy_graph.specs.declared.Rest.TheVariants.{Wins, To, Nothing}
+use Rattle.strategy_graph.specs.Tables.{Answers, answer, listed, rest_node, rest_nodes, named, names_below, greatest}
+use Rattle.strategy_graph.specs.Acceptance.{Answered}
+use Rattle.game_rules.proofs.Boards.{and_left, and_right}
+use borrow.Author.Tests.{ltb-true}
+
+-- an answer is the node that is listed, or that of the rest
+option_or_cases : (o p : Option ℕ) (j : ℕ) (W : Type 0) → (o ≡ Some j → W) → (p ≡ Some j → W) → option_or o p ≡ Some j → W
+option_or_cases None p j W f g h = g h
+option_or_cases (Some i) p j W f g h = f h
+
+-- an answer is no deeper than the deepest node that is named
+greatest-left : (d : ℕ → ℕ) (rs : List Reply) (js : List ℕ) (q : Point) (j : ℕ) → listed rs q ≡ Some j → d j ≤ greatest (map d (map (λ r. r.next) rs ++ js))
+greatest-left d [] js q j h = cc
+greatest-left d (r ∷ rs) js q j h = by_test (is_same_point r.at q) h (greatest-left d rs js q j) where
+  by_test : (t : Bool) → option_map (λ r. r.next) (cond t (Some r) (find (λ r. is_same_point r.at q) rs)) ≡ Some j → (listed rs q ≡ Some j → d j ≤ greatest (map d (map (λ r. r.next) rs ++ js))) → d j ≤ max (d r.next) (greatest (map d (map (λ r. r.next) rs ++ js)))
+  by_test true h below = let e : d r.next ≡ d j = cc in omega (arith, e)
+  by_test false h below = let low = below h in omega (arith, low)
+
+greatest-rest : (d : ℕ → ℕ) (rest : Rest) (j : ℕ) → rest_node rest ≡ Some j → d j ≤ greatest (map d (rest_nodes rest))
+greatest-rest d Wins j h = cc
+greatest-rest d (To k) j h = let e : d k ≡ d j = cc in omega (arith, e)
+greatest-rest d Nothing j h = cc
+
+greatest-right : (d : ℕ → ℕ) (rs : List Reply) (js : List ℕ) (m : ℕ) → m ≤ greatest (map d js) → m ≤ greatest (map d (map (λ r. r.next) rs ++ js))
+greatest-right d [] js m h = h
+greatest-right d (r ∷ rs) js m h = let low = greatest-right d rs js m h in omega (arith, low)
+
+pub answer-greatest : (d : ℕ → ℕ) (a : Answers) (q : Point) (j : ℕ) → answer a q ≡ Some j → d j ≤ greatest (map d (named a))
+answer-greatest d a q j h =
+    option_or_cases (listed a.replies q) (rest_node a.rest) j _ (greatest-left d a.replies (rest_nodes a.rest) q j)
+    (λ e. greatest-right d a.replies (rest_nodes a.rest) (d j) (greatest-rest d a.rest j e)) h
+
+-- an answer is one of the nodes that are named
+all-left : (p : ℕ → Bool) (rs : List Reply) (js : List ℕ) (q : Point) (j : ℕ) → list_all p (map (λ r. r.next) rs ++ js) ≡ true → listed rs q ≡ Some j → p j ≡ true
+all-left p [] js q j all h = cc
+all-left p (r ∷ rs) js q j all h = by_test (is_same_point r.at q) h (all-left p rs js q j (and_right (p r.next) _ all)) where
+  by_test : (t : Bool) → option_map (λ r. r.next) (cond t (Some r) (find (λ r. is_same_point r.at q) rs)) ≡ Some j → (listed rs q ≡ Some j → p j ≡ true) → p j ≡ true
+  by_test true h below = let e : r.next ≡ j = cc in let here : p r.next ≡ true = and_left (p r.next) _ all in cc
+  by_test false h below = below h
+
+all-right : (p : ℕ → Bool) (rs : List Reply) (js : List ℕ) → list_all p (map (λ r. r.next) rs ++ js) ≡ true → list_all p js ≡ true
+all-right p [] js all = all
+all-right p (r ∷ rs) js all = all-right p rs js (and_right (p r.next) _ all)
+
+all-rest : (p : ℕ → Bool) (rest : Rest) (j : ℕ) → list_all p (rest_nodes rest) ≡ true → rest_node rest ≡ Some j → p j ≡ true
+all-rest p Wins j all h = cc
+all-rest p (To k) j all h = let e : k ≡ j = cc in let here : p k ≡ true = and_left (p k) true all in cc
+all-rest p Nothing j all h = cc
+
+-- what holds of each node that is named holds of an answer
+pub answer-named : (p : ℕ → Bool) (a : Answers) (q : Point) (j : ℕ) → list_all p (named a) ≡ true → answer a q ≡ Some j → p j ≡ true
+answer-named p a q j all h =
+    option_or_cases (listed a.replies q) (rest_node a.rest) j _ (all-left p a.replies (rest_nodes a.rest) q j all)
+    (all-rest p a.rest j (all-right p a.replies (rest_nodes a.rest) all)) h
+
+-- where the answers name only nodes below k, an answer is below k
+pub answer-below : (a : Answers) (k : ℕ) (q : Point) (j : ℕ) → names_below a k ≡ true → answer a q ≡ Some j → j < k
+answer-below a k q j below h = ltb-true _ _ (answer-named (λ j. nat_lt j k) a q j below h)
+
+-- ---- there is an answer of which a fact holds
+
+pub Answered-map : (o : Option ℕ) (P Q : ℕ → Type 0) → ((j : ℕ) → o ≡ Some j → P j → Q j) → Answered o P → Answered o Q
+Answered-map None P Q f h = h
+Answered-map (Some j) P Q f h = f j refl h
+
+pub Answered-elim : (o : Option ℕ) (P : ℕ → Type 0) (W : Type 0) → ((j : ℕ) → o ≡ Some j → P j → W) → Answered o P → W
+Answered-elim None P W f h = absurd h
+Answered-elim (Some j) P W f h = f j refl h

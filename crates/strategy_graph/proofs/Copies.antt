@@ -1,0 +1,297 @@
+-- A table that holds a copy of nodes of another, under other numbers, says the same at them.
+use Rattle.std.proofs.Common.{◌≡◌, ℕ, zero, suc, ◌+◌, max, Bool, true, false, cond, ◌&&◌, List, [], ◌∷◌, ◌++◌, map, refl, sym, ap, subst, ◌∙◌}
+use Rattle.std.specs.Prelude.{Option, Some, None, slice_get, ◌↔◌}
+use Rattle.std.specs.List.{list_all, find, sum_by}
+use Rattle.std.specs.Option.{option_map, option_or}
+use Rattle.game_rules.specs.Grid.{Grid, points_of}
+use Rattle.game_rules.specs.Shapes.{is_same_point}
+use Rattle.game_rules.specs.Play.{outcome, after}
+use Rattle.game_rules.specs.Games.{WinsOr, LosesOr, if_goes_on}
+use Rattle.game_rules.specs.declared.RuleKind.{RuleKind}
+use Rattle.game_rules.specs.declared.Outcome.{Outcome}
+use Rattle.game_rules.specs.declared.Outcome.TheVariants.{Refused, Wins as WinsNow, Fouls, Draws, GoesOn}
+use Rattle.game_rules.specs.declared.Point.{Point}
+use Rattle.strategy_graph.specs.declared.Reply.{Reply}
+use Rattle.strategy_graph.specs.declared.Rest.{Rest}
+use Rattle.strategy_graph.specs.declared.Rest.TheVariants.{Wins, To, Nothing}
+use Rattle.strategy_graph.specs.declared.Node.{Node}
+use Rattle.strategy_graph.specs.declared.Why.{Why}
+use Rattle.strategy_graph.specs.Tables.{Answers, answers_of, answer, listed, rest_node, rest_nodes, named, is_winning, greatest, node_depth, depth_within, start_depth}
+use Rattle.strategy_graph.specs.Acceptance.{Answered, NotWinning, Meets, AcceptedNode, AcceptedWithin, AcceptedStart}
+use Rattle.strategy_graph.specs.Arrivals.{if_answered, arrivals_at, arrivals_after, arrivals_behind, arrivals_within, start_arrivals}
+use Rattle.strategy_graph.specs.Games.{End, NoMove, Open, after_attack, after_reply, one_later, if_node, end_at, game, points_on, points_from, attacks_at, attacks}
+use Rattle.strategy_graph.specs.Leads.{attack_fault, reply_fault, AtNode, ReplyLeads, Leads, LeadsStart}
+use Rattle.strategy_graph.proofs.Answering.{answer-named}
+use Rattle.game_rules.proofs.Boards.{and_left, and_right}
+
+-- the same rest, reply, answers and node, with the number f j for j
+abbrev pub renamed_rest : (ℕ → ℕ) → Rest → Rest
+renamed_rest f Wins = Wins
+renamed_rest f (To j) = To (f j)
+renamed_rest f Nothing = Nothing
+
+abbrev pub renamed_reply : (ℕ → ℕ) → Reply → Reply
+renamed_reply f r = record { at = r.at; next = f r.next }
+
+abbrev pub renamed_answers : (ℕ → ℕ) → Answers → Answers
+renamed_answers f a = record { replies = map (renamed_reply f) a.replies; rest = renamed_rest f a.rest }
+
+abbrev pub renamed : (ℕ → ℕ) → Node → Node
+renamed f n = record { attack = n.attack; replies = map (renamed_reply f) n.replies; rest = renamed_rest f n.rest }
+
+-- For each number i that passes, table t has a node i, table u has the same node renamed at f i, and each number that the node
+-- names passes too.
+pub record Copies (f : ℕ → ℕ) (passes : ℕ → Bool) (t u : List Node) : Type 0 where
+  pub copied : (i : ℕ) → passes i ≡ true → (n : Node) × (slice_get t i ≡ Some n) × (slice_get u (f i) ≡ Some (renamed f n)) × (list_all passes (named (answers_of n)) ≡ true)
+
+-- facts that are equal follow from one another
+pub iff_by : (A B : Type 0) → A ≡ B → A ↔ B
+iff_by A B e = (subst (λ (X : Type 0). X) e, subst (λ (X : Type 0). X) (sym e))
+
+-- ---- answers
+
+option_or-map : (f : ℕ → ℕ) (o p : Option ℕ) → option_or (option_map f o) (option_map f p) ≡ option_map f (option_or o p)
+option_or-map f None p = refl
+option_or-map f (Some j) p = refl
+
+listed-renamed : (f : ℕ → ℕ) (rs : List Reply) (q : Point) → listed (map (renamed_reply f) rs) q ≡ option_map f (listed rs q)
+listed-renamed f [] q = refl
+listed-renamed f (r ∷ rs) q = by_test (is_same_point r.at q) (listed-renamed f rs q) where
+  by_test : (b : Bool) → listed (map (renamed_reply f) rs) q ≡ option_map f (listed rs q) → option_map (λ r. r.next) (cond b (Some (renamed_reply f r)) (find (λ r. is_same_point r.at q) (map (renamed_reply f) rs))) ≡ option_map f (option_map (λ r. r.next) (cond b (Some r) (find (λ r. is_same_point r.at q) rs)))
+  by_test true h = refl
+  by_test false h = h
+
+rest_node-renamed : (f : ℕ → ℕ) (r : Rest) → rest_node (renamed_rest f r) ≡ option_map f (rest_node r)
+rest_node-renamed f Wins = refl
+rest_node-renamed f (To j) = refl
+rest_node-renamed f Nothing = refl
+
+pub answer-renamed : (f : ℕ → ℕ) (a : Answers) (q : Point) → answer (renamed_answers f a) q ≡ option_map f (answer a q)
+answer-renamed f a q = rw (listed-renamed f a.replies q, rest_node-renamed f a.rest) (option_or-map f (listed a.replies q) (rest_node a.rest))
+
+pub is_winning-renamed : (f : ℕ → ℕ) (r : Rest) → is_winning (renamed_rest f r) ≡ is_winning r
+is_winning-renamed f Wins = refl
+is_winning-renamed f (To j) = refl
+is_winning-renamed f Nothing = refl
+
+NotWinning-renamed : (f : ℕ → ℕ) (r : Rest) → NotWinning (renamed_rest f r) ≡ NotWinning r
+NotWinning-renamed f Wins = refl
+NotWinning-renamed f (To j) = refl
+NotWinning-renamed f Nothing = refl
+
+rest_nodes-renamed : (f : ℕ → ℕ) (r : Rest) → rest_nodes (renamed_rest f r) ≡ map f (rest_nodes r)
+rest_nodes-renamed f Wins = refl
+rest_nodes-renamed f (To j) = refl
+rest_nodes-renamed f Nothing = refl
+
+named_by : (f : ℕ → ℕ) (rs : List Reply) (r : Rest) → map (λ r. r.next) (map (renamed_reply f) rs) ++ rest_nodes (renamed_rest f r) ≡ map f (map (λ r. r.next) rs ++ rest_nodes r)
+named_by f [] r = rest_nodes-renamed f r
+named_by f (x ∷ rs) r = ap (λ js. f x.next ∷ js) (named_by f rs r)
+
+pub named-renamed : (f : ℕ → ℕ) (a : Answers) → named (renamed_answers f a) ≡ map f (named a)
+named-renamed f a = named_by f a.replies a.rest
+
+-- ---- each number for itself
+
+renamed_rest-same : (r : Rest) → renamed_rest (λ j. j) r ≡ r
+renamed_rest-same Wins = refl
+renamed_rest-same (To j) = refl
+renamed_rest-same Nothing = refl
+
+renamed_replies-same : (rs : List Reply) → map (renamed_reply (λ j. j)) rs ≡ rs
+renamed_replies-same [] = refl
+renamed_replies-same (r ∷ rs) = ap (λ ys. r ∷ ys) (renamed_replies-same rs)
+
+pub renamed-same : (n : Node) → renamed (λ j. j) n ≡ n
+renamed-same n = λ i. record { attack = n.attack; replies = renamed_replies-same n.replies i; rest = renamed_rest-same n.rest i }
+
+pub renamed_answers-same : (a : Answers) → renamed_answers (λ j. j) a ≡ a
+renamed_answers-same a = λ i. record { replies = renamed_replies-same a.replies i; rest = renamed_rest-same a.rest i }
+
+-- ---- one step, where the values at the answers agree
+
+module _ (f : ℕ → ℕ) (passes : ℕ → Bool) where
+  greatest-copied : (d e : ℕ → ℕ) → ((j : ℕ) → passes j ≡ true → e (f j) ≡ d j) → (js : List ℕ) → list_all passes js ≡ true → greatest (map e (map f js)) ≡ greatest (map d js)
+  greatest-copied d e same [] all = refl
+  greatest-copied d e same (j ∷ js) all =
+      let here : e (f j) ≡ d j = same j (and_left (passes j) _ all) in
+      let later : greatest (map e (map f js)) ≡ greatest (map d js) = greatest-copied d e same js (and_right (passes j) _ all) in
+      rw (here, later) refl
+
+  answered-copied : (P P' : ℕ → Type 0) (o : Option ℕ) → ((j : ℕ) → o ≡ Some j → P' (f j) ≡ P j) → Answered (option_map f o) P' ≡ Answered o P
+  answered-copied P P' None h = refl
+  answered-copied P P' (Some j) h = h j refl
+
+  if_answered-copied : (m m' : ℕ → ℕ) (o : Option ℕ) → ((j : ℕ) → o ≡ Some j → m' (f j) ≡ m j) → if_answered (option_map f o) m' ≡ if_answered o m
+  if_answered-copied m m' None h = refl
+  if_answered-copied m m' (Some j) h = h j refl
+
+  if_node-copied : (e e' : ℕ → End) (o : Option ℕ) → ((j : ℕ) → o ≡ Some j → e' (f j) ≡ e j) → if_node (option_map f o) e' ≡ if_node o e
+  if_node-copied e e' None h = refl
+  if_node-copied e e' (Some j) h = ap one_later (h j refl)
+
+  points_from-copied : (ps ps' : ℕ → List Point) (o : Option ℕ) → ((j : ℕ) → o ≡ Some j → ps' (f j) ≡ ps j) → points_from (option_map f o) ps' ≡ points_from o ps
+  points_from-copied ps ps' None h = refl
+  points_from-copied ps ps' (Some j) h = h j refl
+
+  reply_fault-copied : (u : Outcome) (o : Option ℕ) → reply_fault u (option_map f o) ≡ reply_fault u o
+  reply_fault-copied Refused o = refl
+  reply_fault-copied WinsNow o = refl
+  reply_fault-copied (Fouls g) o = refl
+  reply_fault-copied Draws o = refl
+  reply_fault-copied GoesOn None = refl
+  reply_fault-copied GoesOn (Some j) = refl
+
+  reply_leads-copied : (u : Outcome) (o : Option ℕ) (line : List Point) (P P' : ℕ → Type 0) (why : Why) → ((j : ℕ) → o ≡ Some j → P' (f j) ≡ P j) → ReplyLeads u (option_map f o) line P' why ≡ ReplyLeads u o line P why
+  reply_leads-copied u o [] P P' why h = ap (λ (w : Option Why). w ≡ Some why) (reply_fault-copied u o)
+  reply_leads-copied u o (p ∷ line) P P' why h = ap (λ (W : Type 0). (u ≡ GoesOn) × W) (answered-copied P P' o h)
+
+  module _ (a : Answers) (all : list_all passes (named a) ≡ true) where
+    -- each answer passes
+    passing : (q : Point) (j : ℕ) → answer a q ≡ Some j → passes j ≡ true
+    passing q j e = answer-named passes a q j all e
+
+    pub Meets-copied : (rule : RuleKind) (N N' : ℕ → Grid → Type 0) → ((j : ℕ) → passes j ≡ true → (c : Grid) → N' (f j) c ≡ N j c) → (b : Grid) (q : Point) → Meets rule (renamed_answers f a) N' b q ≡ Meets rule a N b q
+    Meets-copied rule N N' same b q =
+        ap (λ (W : Type 0). LosesOr (outcome rule b q) W)
+        (ap (λ (o : Option ℕ). Answered o (λ j. N' j (after b q))) (answer-renamed f a q)
+        ∙ answered-copied (λ j. N j (after b q)) (λ j. N' j (after b q)) (answer a q) (λ j e. same j (passing q j e) (after b q)))
+
+    arrivals_at-copied : (rule : RuleKind) (m m' : ℕ → Grid → ℕ) → ((j : ℕ) → passes j ≡ true → (c : Grid) → m' (f j) c ≡ m j c) → (b : Grid) (q : Point) → arrivals_at rule (renamed_answers f a) m' b q ≡ arrivals_at rule a m b q
+    arrivals_at-copied rule m m' same b q =
+        ap (λ (k : ℕ). if_goes_on (outcome rule b q) k)
+        (ap (λ (o : Option ℕ). if_answered o (λ j. m' j (after b q))) (answer-renamed f a q)
+        ∙ if_answered-copied (λ j. m j (after b q)) (λ j. m' j (after b q)) (answer a q) (λ j e. same j (passing q j e) (after b q)))
+
+    pub arrivals_after-copied : (rule : RuleKind) (m m' : ℕ → Grid → ℕ) → ((j : ℕ) → passes j ≡ true → (c : Grid) → m' (f j) c ≡ m j c) → (b : Grid) → arrivals_after rule (renamed_answers f a) m' b ≡ arrivals_after rule a m b
+    arrivals_after-copied rule m m' same b =
+        let each : arrivals_at rule (renamed_answers f a) m' b ≡ arrivals_at rule a m b = λ i q. arrivals_at-copied rule m m' same b q i in
+        ap (λ (g : Point → ℕ). sum_by g (points_of b)) each
+
+    if_node-answer : (e e' : ℕ → Grid → End) → ((j : ℕ) → passes j ≡ true → (c : Grid) → e' (f j) c ≡ e j c) → (c : Grid) (q : Point) → if_node (answer (renamed_answers f a) q) (λ j. e' j c) ≡ if_node (answer a q) (λ j. e j c)
+    if_node-answer e e' same c q =
+        ap (λ (o : Option ℕ). if_node o (λ j. e' j c)) (answer-renamed f a q)
+        ∙ if_node-copied (λ j. e j c) (λ j. e' j c) (answer a q) (λ j h. same j (passing q j h) c)
+
+    points_from-answer : (ps ps' : ℕ → Grid → List Point) → ((j : ℕ) → passes j ≡ true → (c : Grid) → ps' (f j) c ≡ ps j c) → (c : Grid) (q : Point) → points_from (answer (renamed_answers f a) q) (λ j. ps' j c) ≡ points_from (answer a q) (λ j. ps j c)
+    points_from-answer ps ps' same c q =
+        ap (λ (o : Option ℕ). points_from o (λ j. ps' j c)) (answer-renamed f a q)
+        ∙ points_from-copied (λ j. ps j c) (λ j. ps' j c) (answer a q) (λ j h. same j (passing q j h) c)
+
+    pub reply_leads-answer : (N N' : ℕ → Grid → Type 0) → ((j : ℕ) → passes j ≡ true → (c : Grid) → N' (f j) c ≡ N j c) → (u : Outcome) (line : List Point) (why : Why) (c : Grid) (q : Point) → ReplyLeads u (answer (renamed_answers f a) q) line (λ j. N' j c) why ≡ ReplyLeads u (answer a q) line (λ j. N j c) why
+    reply_leads-answer N N' same u line why c q =
+        ap (λ (o : Option ℕ). ReplyLeads u o line (λ j. N' j c) why) (answer-renamed f a q)
+        ∙ reply_leads-copied u (answer a q) line (λ j. N j c) (λ j. N' j c) why (λ j h. same j (passing q j h) c)
+
+    pub depths-copied : (d e : ℕ → ℕ) → ((j : ℕ) → passes j ≡ true → e (f j) ≡ d j) → greatest (map e (named (renamed_answers f a))) ≡ greatest (map d (named a))
+    depths-copied d e same = ap (λ (js : List ℕ). greatest (map e js)) (named-renamed f a) ∙ greatest-copied d e same (named a) all
+
+  module _ (n : Node) (all : list_all passes (named (answers_of n)) ≡ true) where
+    pub accepted_node-copied : (rule : RuleKind) (N N' : ℕ → Grid → Type 0) → ((j : ℕ) → passes j ≡ true → (c : Grid) → N' (f j) c ≡ N j c) → (b : Grid) → AcceptedNode rule (Some (renamed f n)) N' b ≡ AcceptedNode rule (Some n) N b
+    accepted_node-copied rule N N' same b =
+        let inside : (NotWinning (renamed_rest f n.rest) × ((q : Point) → Meets rule (renamed_answers f (answers_of n)) N' (after b n.attack) q)) ≡ (NotWinning n.rest × ((q : Point) → Meets rule (answers_of n) N (after b n.attack) q)) =
+        λ i. NotWinning-renamed f n.rest i × ((q : Point) → Meets-copied (answers_of n) all rule N N' same (after b n.attack) q i) in
+        ap (λ (W : Type 0). WinsOr (outcome rule b n.attack) W) inside
+
+    pub arrivals_behind-copied : (rule : RuleKind) (m m' : ℕ → Grid → ℕ) → ((j : ℕ) → passes j ≡ true → (c : Grid) → m' (f j) c ≡ m j c) → (b : Grid) → arrivals_behind rule (Some (renamed f n)) m' b ≡ arrivals_behind rule (Some n) m b
+    arrivals_behind-copied rule m m' same b =
+        ap (λ (w : Bool). if_goes_on (outcome rule b n.attack) (cond w 0 (arrivals_after rule (renamed_answers f (answers_of n)) m' (after b n.attack)))) (is_winning-renamed f n.rest)
+        ∙ ap (λ (k : ℕ). if_goes_on (outcome rule b n.attack) (cond (is_winning n.rest) 0 k)) (arrivals_after-copied (answers_of n) all rule m m' same (after b n.attack))
+
+    end_at-open : (rule : RuleKind) (b : Grid) → end_at rule (Some (renamed f n)) b (λ n. Open) ≡ end_at rule (Some n) b (λ n. Open)
+    end_at-open rule b = ap (λ (w : Bool). after_attack (outcome rule b n.attack) (cond w NoMove Open)) (is_winning-renamed f n.rest)
+
+    end_at-copied : (rule : RuleKind) (e e' : ℕ → Grid → End) → ((j : ℕ) → passes j ≡ true → (c : Grid) → e' (f j) c ≡ e j c) → (b : Grid) (q : Point) → end_at rule (Some (renamed f n)) b (λ n. after_reply (outcome rule (after b n.attack) q) (if_node (answer (answers_of n) q) (λ j. e' j (after (after b n.attack) q)))) ≡ end_at rule (Some n) b (λ n. after_reply (outcome rule (after b n.attack) q) (if_node (answer (answers_of n) q) (λ j. e j (after (after b n.attack) q))))
+    end_at-copied rule e e' same b q =
+        ap (λ (w : Bool). after_attack (outcome rule b n.attack) (cond w NoMove (after_reply (outcome rule (after b n.attack) q) (if_node (answer (renamed_answers f (answers_of n)) q) (λ j. e' j (after (after b n.attack) q)))))) (is_winning-renamed f n.rest)
+        ∙ ap (λ (x : End). after_attack (outcome rule b n.attack) (cond (is_winning n.rest) NoMove (after_reply (outcome rule (after b n.attack) q) x))) (if_node-answer (answers_of n) all e e' same (after (after b n.attack) q) q)
+
+    attacks_at-none : (rule : RuleKind) (b : Grid) → attacks_at rule (Some (renamed f n)) b (λ n. []) ≡ attacks_at rule (Some n) b (λ n. [])
+    attacks_at-none rule b = ap (λ (w : Bool). n.attack ∷ points_on (outcome rule b n.attack) (cond w [] [])) (is_winning-renamed f n.rest)
+
+    attacks_at-copied : (rule : RuleKind) (ps ps' : ℕ → Grid → List Point) → ((j : ℕ) → passes j ≡ true → (c : Grid) → ps' (f j) c ≡ ps j c) → (b : Grid) (q : Point) → attacks_at rule (Some (renamed f n)) b (λ n. points_on (outcome rule (after b n.attack) q) (points_from (answer (answers_of n) q) (λ j. ps' j (after (after b n.attack) q)))) ≡ attacks_at rule (Some n) b (λ n. points_on (outcome rule (after b n.attack) q) (points_from (answer (answers_of n) q) (λ j. ps j (after (after b n.attack) q))))
+    attacks_at-copied rule ps ps' same b q =
+        ap (λ (w : Bool). n.attack ∷ points_on (outcome rule b n.attack) (cond w [] (points_on (outcome rule (after b n.attack) q) (points_from (answer (renamed_answers f (answers_of n)) q) (λ j. ps' j (after (after b n.attack) q)))))) (is_winning-renamed f n.rest)
+        ∙ ap (λ (xs : List Point). n.attack ∷ points_on (outcome rule b n.attack) (cond (is_winning n.rest) [] (points_on (outcome rule (after b n.attack) q) xs))) (points_from-answer (answers_of n) all ps ps' same (after (after b n.attack) q) q)
+
+    attack_fault-renamed : (u : Outcome) → attack_fault u (renamed_rest f n.rest) ≡ attack_fault u n.rest
+    attack_fault-renamed u = by_rest u n.rest where
+      by_rest : (u : Outcome) (r : Rest) → attack_fault u (renamed_rest f r) ≡ attack_fault u r
+      by_rest Refused r = refl
+      by_rest WinsNow r = refl
+      by_rest (Fouls g) r = refl
+      by_rest Draws r = refl
+      by_rest GoesOn Wins = refl
+      by_rest GoesOn (To j) = refl
+      by_rest GoesOn Nothing = refl
+
+    leads_last-copied : (rule : RuleKind) (b : Grid) (p : Point) (why : Why) → AtNode (Some (renamed f n)) (λ n. (p ≡ n.attack) × (attack_fault (outcome rule b p) n.rest ≡ Some why)) ≡ AtNode (Some n) (λ n. (p ≡ n.attack) × (attack_fault (outcome rule b p) n.rest ≡ Some why))
+    leads_last-copied rule b p why = ap (λ (w : Option Why). (p ≡ n.attack) × (w ≡ Some why)) (attack_fault-renamed (outcome rule b p))
+
+    leads_step-copied : (rule : RuleKind) (N N' : ℕ → Grid → Type 0) → ((j : ℕ) → passes j ≡ true → (c : Grid) → N' (f j) c ≡ N j c) → (b : Grid) (p q : Point) (line : List Point) (why : Why) → AtNode (Some (renamed f n)) (λ n. (p ≡ n.attack) × (outcome rule b p ≡ GoesOn) × NotWinning n.rest × ReplyLeads (outcome rule (after b p) q) (answer (answers_of n) q) line (λ j. N' j (after (after b p) q)) why) ≡ AtNode (Some n) (λ n. (p ≡ n.attack) × (outcome rule b p ≡ GoesOn) × NotWinning n.rest × ReplyLeads (outcome rule (after b p) q) (answer (answers_of n) q) line (λ j. N j (after (after b p) q)) why)
+    leads_step-copied rule N N' same b p q line why =
+        λ i. (p ≡ n.attack) × (outcome rule b p ≡ GoesOn) × NotWinning-renamed f n.rest i × reply_leads-answer (answers_of n) all N N' same (outcome rule (after b p) q) line why (after (after b p) q) q i
+
+-- ---- whole tables
+
+module _ (f : ℕ → ℕ) (passes : ℕ → Bool) (t u : List Node) (copies : Copies f passes t u) where
+  -- what is computed of a node of each table agrees where it agrees for the node and its copy
+  at_copy {ℓ} : (X : Type ℓ) (g g' : Option Node → X) (i : ℕ) → passes i ≡ true → ((n : Node) → list_all passes (named (answers_of n)) ≡ true → g' (Some (renamed f n)) ≡ g (Some n)) → g' (slice_get u (f i)) ≡ g (slice_get t i)
+  at_copy X g g' i p h =
+      let c = copies.copied i p in
+      ap g' c.2 ∙ h c.0 c.3 ∙ sym (ap g c.1)
+
+  pub depth_within-copied : (k i : ℕ) → passes i ≡ true → depth_within k u (f i) ≡ depth_within k t i
+  unfolding depth_within
+  depth_within-copied zero i p = refl
+  depth_within-copied (suc k) i p =
+      at_copy ℕ (λ o. node_depth o (depth_within k t)) (λ o. node_depth o (depth_within k u)) i p
+      (λ n all. ap suc (depths-copied f passes (answers_of n) all (depth_within k t) (depth_within k u) (λ j h. depth_within-copied k j h)))
+
+  pub accepted_within-copied : (rule : RuleKind) (k i : ℕ) (b : Grid) → passes i ≡ true → AcceptedWithin k rule u (f i) b ≡ AcceptedWithin k rule t i b
+  unfolding AcceptedWithin
+  accepted_within-copied rule zero i b p = refl
+  accepted_within-copied rule (suc k) i b p =
+      at_copy (Type 0) (λ o. AcceptedNode rule o (AcceptedWithin k rule t) b) (λ o. AcceptedNode rule o (AcceptedWithin k rule u) b) i p
+      (λ n all. accepted_node-copied f passes n all rule (AcceptedWithin k rule t) (AcceptedWithin k rule u) (λ j h c. accepted_within-copied rule k j c h) b)
+
+  pub arrivals_within-copied : (rule : RuleKind) (k i : ℕ) (b : Grid) → passes i ≡ true → arrivals_within k rule u (f i) b ≡ arrivals_within k rule t i b
+  unfolding arrivals_within
+  arrivals_within-copied rule zero i b p = refl
+  arrivals_within-copied rule (suc k) i b p =
+      at_copy ℕ (λ o. suc (arrivals_behind rule o (arrivals_within k rule t) b)) (λ o. suc (arrivals_behind rule o (arrivals_within k rule u) b)) i p
+      (λ n all. ap suc (arrivals_behind-copied f passes n all rule (arrivals_within k rule t) (arrivals_within k rule u) (λ j h c. arrivals_within-copied rule k j c h) b))
+
+  pub game-copied : (rule : RuleKind) (i : ℕ) (b : Grid) (qs : List Point) → passes i ≡ true → game rule u (f i) b qs ≡ game rule t i b qs
+  unfolding game
+  game-copied rule i b [] p =
+      at_copy End (λ o. end_at rule o b (λ n. Open)) (λ o. end_at rule o b (λ n. Open)) i p (λ n all. end_at-open f passes n all rule b)
+  game-copied rule i b (q ∷ qs) p =
+      at_copy End
+      (λ o. end_at rule o b (λ n. after_reply (outcome rule (after b n.attack) q) (if_node (answer (answers_of n) q) (λ j. game rule t j (after (after b n.attack) q) qs))))
+      (λ o. end_at rule o b (λ n. after_reply (outcome rule (after b n.attack) q) (if_node (answer (answers_of n) q) (λ j. game rule u j (after (after b n.attack) q) qs))))
+      i p (λ n all. end_at-copied f passes n all rule (λ j c. game rule t j c qs) (λ j c. game rule u j c qs) (λ j h c. game-copied rule j c qs h) b q)
+
+  pub attacks-copied : (rule : RuleKind) (i : ℕ) (b : Grid) (qs : List Point) → passes i ≡ true → attacks rule u (f i) b qs ≡ attacks rule t i b qs
+  unfolding attacks
+  attacks-copied rule i b [] p =
+      at_copy (List Point) (λ o. attacks_at rule o b (λ n. [])) (λ o. attacks_at rule o b (λ n. [])) i p (λ n all. attacks_at-none f passes n all rule b)
+  attacks-copied rule i b (q ∷ qs) p =
+      at_copy (List Point)
+      (λ o. attacks_at rule o b (λ n. points_on (outcome rule (after b n.attack) q) (points_from (answer (answers_of n) q) (λ j. attacks rule t j (after (after b n.attack) q) qs))))
+      (λ o. attacks_at rule o b (λ n. points_on (outcome rule (after b n.attack) q) (points_from (answer (answers_of n) q) (λ j. attacks rule u j (after (after b n.attack) q) qs))))
+      i p (λ n all. attacks_at-copied f passes n all rule (λ j c. attacks rule t j c qs) (λ j c. attacks rule u j c qs) (λ j h c. attacks-copied rule j c qs h) b q)
+
+  pub Leads-copied : (rule : RuleKind) (i : ℕ) (b : Grid) (line : List Point) (why : Why) → passes i ≡ true → Leads rule u (f i) b line why ≡ Leads rule t i b line why
+  unfolding Leads
+  Leads-copied rule i b [] why h = refl
+  Leads-copied rule i b (p ∷ []) why h =
+      at_copy (Type 0)
+      (λ o. AtNode o (λ n. (p ≡ n.attack) × (attack_fault (outcome rule b p) n.rest ≡ Some why)))
+      (λ o. AtNode o (λ n. (p ≡ n.attack) × (attack_fault (outcome rule b p) n.rest ≡ Some why)))
+      i h (λ n all. leads_last-copied f passes n all rule b p why)
+  Leads-copied rule i b (p ∷ q ∷ line) why h =
+      at_copy (Type 0)
+      (λ o. AtNode o (λ n. (p ≡ n.attack) × (outcome rule b p ≡ GoesOn) × NotWinning n.rest × ReplyLeads (outcome rule (after b p) q) (answer (answers_of n) q) line (λ j. Leads rule t j (after (after b p) q) line why) why))
+      (λ o. AtNode o (λ n. (p ≡ n.attack) × (outcome rule b p ≡ GoesOn) × NotWinning n.rest × ReplyLeads (outcome rule (after b p) q) (answer (answers_of n) q) line (λ j. Leads rule u j (after (after b p) q) line why) why))
+      i h (λ n all. leads_step-copied f passes n all rule (λ j c. Leads rule t j c line why) (λ j c. Leads rule u j c line why) (λ j k c. Leads-copied rule j c line why k) b p q line why)

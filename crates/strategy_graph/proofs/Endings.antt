@@ -1,0 +1,74 @@
+-- Games from an accepted node end well.
+use Rattle.std.proofs.Common.{◌≡◌, ℕ, zero, suc, ◌≤◌, Bool, true, false, cond, List, [], ◌∷◌, map, length, refl, arith}
+use Rattle.std.specs.Prelude.{Option, Some, None, slice_get}
+use Rattle.game_rules.specs.Grid.{Grid}
+use Rattle.game_rules.specs.Play.{outcome, after}
+use Rattle.game_rules.specs.Games.{WinsOr, LosesOr}
+use Rattle.game_rules.specs.declared.RuleKind.{RuleKind}
+use Rattle.game_rules.specs.declared.Outcome.{Outcome}
+use Rattle.game_rules.specs.declared.Outcome.TheVariants.{Refused, Wins as WinsNow, Fouls, Draws, GoesOn}
+use Rattle.game_rules.specs.declared.Point.{Point}
+use Rattle.strategy_graph.specs.declared.Rest.{Rest}
+use Rattle.strategy_graph.specs.declared.Rest.TheVariants.{Wins, To, Nothing}
+use Rattle.strategy_graph.specs.declared.Node.{Node}
+use Rattle.strategy_graph.specs.Tables.{Answers, answers_of, answer, named, greatest, is_winning, node_depth, depth_within, depth}
+use Rattle.strategy_graph.specs.Acceptance.{Answered, NotWinning, Meets, AcceptedNode, AcceptedWithin, Accepted}
+use Rattle.strategy_graph.specs.Games.{End, Won, Lost, Drawn, NoMove, Open, IllegalReply, after_attack, after_reply, one_later, if_node, end_at, game, EndsWell}
+use Rattle.strategy_graph.proofs.Answering.{answer-greatest}
+
+attack_ends : (o : Outcome) (W : Type 0) (d m : ℕ) (e : End) → 1 ≤ d → (W → EndsWell d m e) → WinsOr o W → EndsWell d m (after_attack o e)
+attack_ends Refused W d m e l f h = absurd h
+attack_ends WinsNow W d m e l f h = (omega arith, l)
+attack_ends (Fouls g) W d m e l f h = absurd h
+attack_ends Draws W d m e l f h = absurd h
+attack_ends GoesOn W d m e l f h = f h
+
+reply_ends : (o : Outcome) (W : Type 0) (d m : ℕ) (e : End) → 1 ≤ d → (W → EndsWell d m e) → LosesOr o W → EndsWell d m (after_reply o e)
+reply_ends Refused W d m e l f h = tt
+reply_ends WinsNow W d m e l f h = absurd h
+reply_ends (Fouls g) W d m e l f h = (omega arith, l)
+reply_ends Draws W d m e l f h = absurd h
+reply_ends GoesOn W d m e l f h = f h
+
+not_winning : (r : Rest) (e : End) → NotWinning r → cond (is_winning r) NoMove e ≡ e
+not_winning Wins e h = absurd h
+not_winning (To j) e h = refl
+not_winning Nothing e h = refl
+
+one_later_ends : (e : End) (d dd m : ℕ) → d ≤ dd → EndsWell d m e → EndsWell (suc dd) (suc m) (one_later e)
+one_later_ends (Won k) d dd m l h = let low = h.0 in let high = h.1 in (omega (arith, low), omega (arith, high))
+one_later_ends Lost d dd m l h = h
+one_later_ends Drawn d dd m l h = h
+one_later_ends NoMove d dd m l h = h
+one_later_ends Open d dd m l h = omega arith
+one_later_ends IllegalReply d dd m l h = h
+
+node_ends_well : (o : Option ℕ) (P : ℕ → Type 0) (d m : ℕ) (end_from : ℕ → End) → ((j : ℕ) → o ≡ Some j → P j → EndsWell d m (one_later (end_from j))) → Answered o P → EndsWell d m (if_node o end_from)
+node_ends_well None P d m end_from f h = absurd h
+node_ends_well (Some j) P d m end_from f h = f j refl h
+
+no_reply_ends : (rule : RuleKind) (o : Option Node) (Next : ℕ → Grid → Type 0) (d : ℕ → ℕ) (b : Grid) → AcceptedNode rule o Next b → EndsWell (node_depth o d) 0 (end_at rule o b (λ n. Open))
+no_reply_ends rule None Next d b h = absurd h
+no_reply_ends rule (Some n) Next d b h =
+    attack_ends (outcome rule b n.attack) _ _ 0 _ (omega arith) (λ w. rw (not_winning n.rest Open w.0) (omega arith)) h
+
+step_ends : (rule : RuleKind) (o : Option Node) (Next : ℕ → Grid → Type 0) (d : ℕ → ℕ) (end : ℕ → Grid → End) (m : ℕ) → ((j : ℕ) (c : Grid) → Next j c → EndsWell (d j) m (end j c)) → (b : Grid) (q : Point) → AcceptedNode rule o Next b → EndsWell (node_depth o d) (suc m) (end_at rule o b (λ n. after_reply (outcome rule (after b n.attack) q) (if_node (answer (answers_of n) q) (λ j. end j (after (after b n.attack) q)))))
+step_ends rule None Next d end m next b q h = absurd h
+step_ends rule (Some n) Next d end m next b q h =
+    attack_ends (outcome rule b n.attack) _ _ (suc m) _ (omega arith) (λ w. rw (not_winning n.rest _ w.0)
+    (reply_ends (outcome rule (after b n.attack) q) _ _ (suc m) _ (omega arith)
+    (node_ends_well (answer (answers_of n) q) _ _ (suc m) (λ j. end j (after (after b n.attack) q)) (λ j e k.
+    one_later_ends (end j (after (after b n.attack) q)) (d j) _ m (answer-greatest d (answers_of n) q j e) (next j (after (after b n.attack) q) k)))
+    (w.1 q))) h
+
+within_ends : (rule : RuleKind) (t : List Node) (f i : ℕ) (b : Grid) (qs : List Point) → AcceptedWithin f rule t i b → EndsWell (depth_within f t i) (length qs) (game rule t i b qs)
+unfolding AcceptedWithin depth_within game
+within_ends rule t zero i b qs h = absurd h
+within_ends rule t (suc f) i b [] h = no_reply_ends rule (slice_get t i) (AcceptedWithin f rule t) (depth_within f t) b h
+within_ends rule t (suc f) i b (q ∷ qs) h =
+    step_ends rule (slice_get t i) (AcceptedWithin f rule t) (depth_within f t) (λ j c. game rule t j c qs) (length qs)
+    (λ j c. within_ends rule t f j c qs) b q h
+
+-- a game from an accepted node ends well, whatever the replies
+pub games-end-well : (rule : RuleKind) (t : List Node) (i : ℕ) (b : Grid) (qs : List Point) → Accepted rule t i b → EndsWell (depth t i) (length qs) (game rule t i b qs)
+games-end-well rule t i b qs h = within_ends rule t (suc i) i b qs h

@@ -1,0 +1,65 @@
+-- Depth, acceptance and arrivals of a node by those of the nodes that it names. The bound on the nodes that follow one another
+-- changes nothing once it is above the number of the node.
+use Rattle.std.proofs.Common.{◌≡◌, ℕ, zero, suc, ◌≤◌, ◌<◌, Bool, true, List, refl, sym, ap, ◌∙◌, arith}
+use Rattle.std.specs.Prelude.{Option, Some, None, slice_get, nat_lt}
+use Rattle.std.specs.List.{list_all}
+use Rattle.game_rules.specs.Grid.{Grid}
+use Rattle.game_rules.specs.declared.RuleKind.{RuleKind}
+use Rattle.strategy_graph.specs.declared.Node.{Node}
+use Rattle.strategy_graph.specs.Tables.{answers_of, named, names_below, NamesLower, node_depth, depth_within, depth}
+use Rattle.strategy_graph.specs.Acceptance.{AcceptedNode, AcceptedWithin, Accepted}
+use Rattle.strategy_graph.specs.Arrivals.{arrivals_behind, arrivals_within, arrivals}
+use Rattle.strategy_graph.proofs.Copies.{renamed, renamed-same, depths-copied, accepted_node-copied, arrivals_behind-copied}
+use borrow.Author.Tests.{ltb-true}
+
+module _ (t : List Node) (lower : NamesLower t) where
+  -- what is computed of node i agrees where it agrees wherever the values at lower nodes do
+  by_node {ℓ} : (X : Type ℓ) (g g' : Option Node → X) (i : ℕ) → g' None ≡ g None → ((n : Node) → list_all (λ j. nat_lt j i) (named (answers_of n)) ≡ true → g' (Some (renamed (λ j. j) n)) ≡ g (Some n)) → g' (slice_get t i) ≡ g (slice_get t i)
+  by_node X g g' i none some = at (slice_get t i) (lower.lower i) where
+    at : (o : Option Node) → ((n : Node) → o ≡ Some n → names_below (answers_of n) i ≡ true) → g' o ≡ g o
+    at None below = none
+    at (Some n) below = ap (λ (m : Node). g' (Some m)) (sym (renamed-same n)) ∙ some n (below n refl)
+
+  pub depth_within-enough : (k m i : ℕ) → i < k → i < m → depth_within m t i ≡ depth_within k t i
+  unfolding depth_within
+  depth_within-enough zero m i l h = absurd (omega arith)
+  depth_within-enough (suc k) zero i l h = absurd (omega arith)
+  depth_within-enough (suc k) (suc m) i l h =
+      by_node ℕ (λ o. node_depth o (depth_within k t)) (λ o. node_depth o (depth_within m t)) i refl
+      (λ n all. ap suc (depths-copied (λ j. j) _ (answers_of n) all (depth_within k t) (depth_within m t) (λ j e. let low : j < i = ltb-true _ _ e in depth_within-enough k m j (omega (arith, low, l)) (omega (arith, low, h)))))
+
+  pub accepted_within-enough : (rule : RuleKind) (k m i : ℕ) (b : Grid) → i < k → i < m → AcceptedWithin m rule t i b ≡ AcceptedWithin k rule t i b
+  unfolding AcceptedWithin
+  accepted_within-enough rule zero m i b l h = absurd (omega arith)
+  accepted_within-enough rule (suc k) zero i b l h = absurd (omega arith)
+  accepted_within-enough rule (suc k) (suc m) i b l h =
+      by_node (Type 0) (λ o. AcceptedNode rule o (AcceptedWithin k rule t) b) (λ o. AcceptedNode rule o (AcceptedWithin m rule t) b) i refl
+      (λ n all. accepted_node-copied (λ j. j) _ n all rule (AcceptedWithin k rule t) (AcceptedWithin m rule t) (λ j e c. let low : j < i = ltb-true _ _ e in accepted_within-enough rule k m j c (omega (arith, low, l)) (omega (arith, low, h))) b)
+
+  pub arrivals_within-enough : (rule : RuleKind) (k m i : ℕ) (b : Grid) → i < k → i < m → arrivals_within m rule t i b ≡ arrivals_within k rule t i b
+  unfolding arrivals_within
+  arrivals_within-enough rule zero m i b l h = absurd (omega arith)
+  arrivals_within-enough rule (suc k) zero i b l h = absurd (omega arith)
+  arrivals_within-enough rule (suc k) (suc m) i b l h =
+      by_node ℕ (λ o. suc (arrivals_behind rule o (arrivals_within k rule t) b)) (λ o. suc (arrivals_behind rule o (arrivals_within m rule t) b)) i refl
+      (λ n all. ap suc (arrivals_behind-copied (λ j. j) _ n all rule (arrivals_within k rule t) (arrivals_within m rule t) (λ j e c. let low : j < i = ltb-true _ _ e in arrivals_within-enough rule k m j c (omega (arith, low, l)) (omega (arith, low, h))) b))
+
+  -- ---- each by the nodes that are named
+
+  pub depth-step : (i : ℕ) → depth t i ≡ node_depth (slice_get t i) (depth t)
+  unfolding depth_within
+  depth-step i =
+      by_node ℕ (λ o. node_depth o (depth t)) (λ o. node_depth o (depth_within i t)) i refl
+      (λ n all. ap suc (depths-copied (λ j. j) _ (answers_of n) all (depth t) (depth_within i t) (λ j e. depth_within-enough (suc j) i j (omega arith) (ltb-true _ _ e))))
+
+  pub accepted-step : (rule : RuleKind) (i : ℕ) (b : Grid) → Accepted rule t i b ≡ AcceptedNode rule (slice_get t i) (Accepted rule t) b
+  unfolding AcceptedWithin
+  accepted-step rule i b =
+      by_node (Type 0) (λ o. AcceptedNode rule o (Accepted rule t) b) (λ o. AcceptedNode rule o (AcceptedWithin i rule t) b) i refl
+      (λ n all. accepted_node-copied (λ j. j) _ n all rule (Accepted rule t) (AcceptedWithin i rule t) (λ j e c. accepted_within-enough rule (suc j) i j c (omega arith) (ltb-true _ _ e)) b)
+
+  pub arrivals-step : (rule : RuleKind) (i : ℕ) (b : Grid) → arrivals rule t i b ≡ suc (arrivals_behind rule (slice_get t i) (arrivals rule t) b)
+  unfolding arrivals_within
+  arrivals-step rule i b =
+      by_node ℕ (λ o. suc (arrivals_behind rule o (arrivals rule t) b)) (λ o. suc (arrivals_behind rule o (arrivals_within i rule t) b)) i refl
+      (λ n all. ap suc (arrivals_behind-copied (λ j. j) _ n all rule (arrivals rule t) (arrivals_within i rule t) (λ j e c. arrivals_within-enough rule (suc j) i j c (omega arith) (ltb-true _ _ e)) b))

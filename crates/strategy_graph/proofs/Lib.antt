@@ -1,0 +1,13 @@
+pub mod Answering
+pub mod Soundness
+pub mod Endings
+pub mod Refutation
+pub mod Copies
+pub mod Growth
+pub mod Fuel
+pub mod Reading
+pub mod Naming
+pub mod Filling
+pub mod Equal
+pub mod Steps
+pub mod Renumbering

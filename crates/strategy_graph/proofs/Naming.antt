@@ -1,0 +1,80 @@
+-- The nodes that answers name, and the greatest of their depths.
+use Rattle.std.proofs.Common.{◌≡◌, ℕ, zero, suc, ◌+◌, ◌≤◌, ◌<◌, max, Bool, true, false, ◌&&◌, List, [], ◌∷◌, ◌++◌, map, length, get_or, drop, drop-cons, add-one, refl, sym, ap, ◌∙◌, arith}
+use Rattle.std.specs.Prelude.{nat_lt, Some, None, slice_index}
+use Rattle.std.specs.List.{list_all}
+use Rattle.std.proofs.lemmas.List.Folds.{list_all-append}
+use Rattle.strategy_graph.specs.declared.Reply.{Reply}
+use Rattle.strategy_graph.specs.declared.Rest.{Rest}
+use Rattle.strategy_graph.specs.declared.Rest.TheVariants.{Wins, To, Nothing}
+use Rattle.strategy_graph.specs.Tables.{Answers, named, names_below, rest_nodes, rest_node, greatest}
+use Rattle.game_rules.proofs.Boards.{and_left, and_right}
+use borrow.Author.Tests.{ltb-true}
+
+all_next : (p : ℕ → Bool) (rs : List Reply) → list_all p (map (λ r. r.next) rs) ≡ list_all (λ r. p r.next) rs
+all_next p [] = refl
+all_next p (r ∷ rs) = ap (λ (b : Bool). p r.next && b) (all_next p rs)
+
+-- the nodes that are listed, and that of the rest
+pub names_below-parts : (a : Answers) (k : ℕ) → names_below a k ≡ (list_all (λ r. nat_lt r.next k) a.replies && list_all (λ j. nat_lt j k) (rest_nodes a.rest))
+names_below-parts a k =
+    list_all-append (λ j. nat_lt j k) (map (λ r. r.next) a.replies) (rest_nodes a.rest)
+    ∙ ap (λ (b : Bool). b && list_all (λ j. nat_lt j k) (rest_nodes a.rest)) (all_next (λ j. nat_lt j k) a.replies)
+
+all_item : (p : Reply → Bool) (rs : List Reply) (i : ℕ) (d : Reply) → list_all p rs ≡ true → i < length rs → p (get_or rs i d) ≡ true
+all_item p [] i d h l = absurd (omega arith)
+all_item p (r ∷ rs) zero d h l = and_left (p r) _ h
+all_item p (r ∷ rs) (suc i) d h l = all_item p rs i d (and_right (p r) _ h) (omega arith)
+
+-- a reply that is listed names a node below k where all do
+pub reply-below : (a : Answers) (k i : ℕ) (d : Reply) → names_below a k ≡ true → i < length a.replies → (get_or a.replies i d).next < k
+reply-below a k i d h l = ltb-true _ _ (all_item (λ r. nat_lt r.next k) a.replies i d (and_left _ _ (sym (names_below-parts a k) ∙ h)) l)
+
+rest_by : (r : Rest) (k j : ℕ) → list_all (λ j. nat_lt j k) (rest_nodes r) ≡ true → rest_node r ≡ Some j → j < k
+rest_by Wins k j h e = cc
+rest_by (To i) k j h e = let same : i ≡ j = cc in let low : i < k = ltb-true _ _ (and_left (nat_lt i k) true h) in omega (arith, same, low)
+rest_by Nothing k j h e = cc
+
+-- and so does the rest
+pub rest-below : (a : Answers) (k j : ℕ) → names_below a k ≡ true → rest_node a.rest ≡ Some j → j < k
+rest-below a k j h e = rest_by a.rest k j (and_right (list_all (λ r. nat_lt r.next k) a.replies) _ (sym (names_below-parts a k) ∙ h)) e
+
+-- ---- the greatest depth
+
+greatest-append : (d : ℕ → ℕ) (xs ys : List ℕ) → greatest (map d (xs ++ ys)) ≡ max (greatest (map d xs)) (greatest (map d ys))
+greatest-append d [] ys = omega arith
+greatest-append d (x ∷ xs) ys = let rest = greatest-append d xs ys in omega (arith, rest)
+
+-- the greatest depth of the nodes that the replies name
+abbrev pub greatest_listed : (ℕ → ℕ) → List Reply → ℕ
+greatest_listed d rs = greatest (map d (map (λ r. r.next) rs))
+
+pub greatest-parts : (d : ℕ → ℕ) (a : Answers) → greatest (map d (named a)) ≡ max (greatest (map d (rest_nodes a.rest))) (greatest_listed d a.replies)
+greatest-parts d a = let both = greatest-append d (map (λ r. r.next) a.replies) (rest_nodes a.rest) in omega (arith, both)
+
+pub greatest_listed-drop : (d : ℕ → ℕ) (rs : List Reply) (i : ℕ) (z : Reply) → i < length rs → greatest_listed d (drop i rs) ≡ max (d (get_or rs i z).next) (greatest_listed d (drop (i + 1) rs))
+greatest_listed-drop d rs i z l = rw (add-one, drop-cons rs i z) refl
+
+pub greatest_rest-none : (d : ℕ → ℕ) (r : Rest) → rest_node r ≡ None → greatest (map d (rest_nodes r)) ≡ 0
+greatest_rest-none d Wins e = refl
+greatest_rest-none d (To j) e = cc
+greatest_rest-none d Nothing e = refl
+
+pub greatest_rest-some : (d : ℕ → ℕ) (r : Rest) (j : ℕ) → rest_node r ≡ Some j → greatest (map d (rest_nodes r)) ≡ d j
+greatest_rest-some d Wins j e = cc
+greatest_rest-some d (To i) j e = let same : d i ≡ d j = cc in omega (arith, same)
+greatest_rest-some d Nothing j e = cc
+
+-- ---- by parts
+
+pub names_below-then : (a : Answers) (k : ℕ) (y : Bool) → list_all (λ r. nat_lt r.next k) a.replies ≡ true → y ≡ list_all (λ j. nat_lt j k) (rest_nodes a.rest) → y ≡ names_below a k
+names_below-then a k y h e = e ∙ sym (names_below-parts a k ∙ ap (λ (b : Bool). b && list_all (λ j. nat_lt j k) (rest_nodes a.rest)) h)
+
+pub names_below-else : (a : Answers) (k : ℕ) (y : Bool) → list_all (λ r. nat_lt r.next k) a.replies ≡ false → y ≡ false → y ≡ names_below a k
+names_below-else a k y h e = e ∙ sym (names_below-parts a k ∙ ap (λ (b : Bool). b && list_all (λ j. nat_lt j k) (rest_nodes a.rest)) h)
+
+-- the greatest depth begins with that of the rest
+pub greatest-none : (d : ℕ → ℕ) (a : Answers) (m : ℕ) → rest_node a.rest ≡ None → m ≡ 0 → greatest (map d (named a)) ≡ max m (greatest_listed d a.replies)
+greatest-none d a m e h = greatest-parts d a ∙ ap (λ (k : ℕ). max k (greatest_listed d a.replies)) (greatest_rest-none d a.rest e ∙ sym h)
+
+pub greatest-some : (d : ℕ → ℕ) (a : Answers) (m j : ℕ) → rest_node a.rest ≡ Some j → m ≡ d j → greatest (map d (named a)) ≡ max m (greatest_listed d a.replies)
+greatest-some d a m j e h = greatest-parts d a ∙ ap (λ (k : ℕ). max k (greatest_listed d a.replies)) (greatest_rest-some d a.rest j e ∙ sym h)

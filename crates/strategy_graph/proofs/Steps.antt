@@ -1,0 +1,181 @@
+-- One step of acceptance, of arrivals and of a line to a fault, at a node and at a reply, and over the replies so far: what a
+-- checker of tables needs.
+use Rattle.std.proofs.Common.{◌≡◌, ℕ, zero, suc, ◌+◌, ◌≤◌, ◌<◌, Bool, true, false, cond, ◌&&◌, ◌||◌, ◌==◌, List, [], ◌∷◌, ◌++◌, length, get_or, refl, sym, ap, subst, ◌∙◌, arith}
+use Rattle.std.specs.Prelude.{Option, Some, None, slice_get, ◌↔◌}
+use Rattle.std.specs.List.{All, list_any, sum_by}
+use Rattle.std.proofs.lemmas.List.Sums.{sum_by-append}
+use Rattle.std.proofs.lemmas.Bool.Decides.{Decides-eqb}
+use Rattle.game_rules.specs.Grid.{Grid, is_on, points_of}
+use Rattle.game_rules.specs.Shapes.{is_same_point}
+use Rattle.game_rules.specs.Play.{outcome, after}
+use Rattle.game_rules.specs.Games.{WinsOr, LosesOr, if_goes_on}
+use Rattle.game_rules.specs.declared.RuleKind.{RuleKind}
+use Rattle.game_rules.specs.declared.Foul.{Foul}
+use Rattle.game_rules.specs.declared.Outcome.{Outcome}
+use Rattle.game_rules.specs.declared.Outcome.TheVariants.{Refused, Wins as WinsNow, Fouls, Draws, GoesOn}
+use Rattle.game_rules.specs.declared.Point.{Point}
+use Rattle.game_rules.proofs.Boards.{and_left, and_right}
+use Rattle.game_rules.proofs.Points.{points-found, off_refused}
+use Rattle.strategy_graph.specs.declared.Rest.{Rest}
+use Rattle.strategy_graph.specs.declared.Rest.TheVariants.{Wins, To, Nothing}
+use Rattle.strategy_graph.specs.declared.Node.{Node}
+use Rattle.strategy_graph.specs.declared.Why.{Why}
+use Rattle.strategy_graph.specs.Tables.{Answers, answers_of, answer, is_winning, NamesLower}
+use Rattle.strategy_graph.specs.Acceptance.{Answered, NotWinning, Meets, AcceptedNode, Accepted, AcceptedStart}
+use Rattle.strategy_graph.specs.Arrivals.{if_answered, arrivals_at, arrivals_among, arrivals_after, arrivals_behind, arrivals_within, arrivals, start_arrivals}
+use Rattle.strategy_graph.specs.Leads.{attack_fault, reply_fault, AtNode, ReplyLeads, Leads, LeadsStart}
+use Rattle.strategy_graph.proofs.Fuel.{accepted-step, arrivals-step}
+
+NotWinning-by : (r : Rest) → is_winning r ≡ false → NotWinning r
+NotWinning-by Wins h = cc
+NotWinning-by (To j) h = tt
+NotWinning-by Nothing h = tt
+
+if_goes_on-stops : (u : Outcome) (m : ℕ) → (u ≡ GoesOn → ⊥) → if_goes_on u m ≡ 0
+if_goes_on-stops Refused m h = refl
+if_goes_on-stops WinsNow m h = refl
+if_goes_on-stops (Fouls f) m h = refl
+if_goes_on-stops Draws m h = refl
+if_goes_on-stops GoesOn m h = absurd (h refl)
+
+if_goes_on-none : (u : Outcome) → if_goes_on u 0 ≡ 0
+if_goes_on-none Refused = refl
+if_goes_on-none WinsNow = refl
+if_goes_on-none (Fouls f) = refl
+if_goes_on-none Draws = refl
+if_goes_on-none GoesOn = refl
+
+-- an arrival count is at least 1
+pub arrivals-positive : (rule : RuleKind) (t : List Node) (i : ℕ) (b : Grid) → 1 ≤ arrivals rule t i b
+unfolding arrivals_within
+arrivals-positive rule t i b = omega arith
+
+-- ---- at a node
+
+module _ (rule : RuleKind) (t : List Node) (lower : NamesLower t) (i : ℕ) (b : Grid) (n : Node) (at : slice_get t i ≡ Some n) where
+  accepted-at : Accepted rule t i b ≡ AcceptedNode rule (Some n) (Accepted rule t) b
+  accepted-at = accepted-step t lower rule i b ∙ ap (λ (o : Option Node). AcceptedNode rule o (Accepted rule t) b) at
+
+  arrivals-at : arrivals rule t i b ≡ suc (arrivals_behind rule (Some n) (arrivals rule t) b)
+  arrivals-at = arrivals-step t lower rule i b ∙ ap (λ (o : Option Node). suc (arrivals_behind rule o (arrivals rule t) b)) at
+
+  -- an attack that wins
+  pub accepted-by-win : outcome rule b n.attack ≡ WinsNow → Accepted rule t i b
+  accepted-by-win o =
+      subst (λ (X : Type 0). X) (sym accepted-at)
+      (subst (λ (u : Outcome). WinsOr u (NotWinning n.rest × ((q : Point) → Meets rule (answers_of n) (Accepted rule t) (after b n.attack) q))) (sym o) tt)
+
+  -- an attack that goes on, of a node that is no winning one
+  pub accepted-by-replies : outcome rule b n.attack ≡ GoesOn → is_winning n.rest ≡ false → ((q : Point) → Meets rule (answers_of n) (Accepted rule t) (after b n.attack) q) → Accepted rule t i b
+  accepted-by-replies o r met =
+      subst (λ (X : Type 0). X) (sym accepted-at)
+      (subst (λ (u : Outcome). WinsOr u (NotWinning n.rest × ((q : Point) → Meets rule (answers_of n) (Accepted rule t) (after b n.attack) q))) (sym o) (NotWinning-by n.rest r, met))
+
+  pub replies-met : outcome rule b n.attack ≡ GoesOn → Accepted rule t i b → (q : Point) → Meets rule (answers_of n) (Accepted rule t) (after b n.attack) q
+  replies-met o h =
+      let inside : NotWinning n.rest × ((q : Point) → Meets rule (answers_of n) (Accepted rule t) (after b n.attack) q) =
+      subst (λ (u : Outcome). WinsOr u (NotWinning n.rest × ((q : Point) → Meets rule (answers_of n) (Accepted rule t) (after b n.attack) q))) o (subst (λ (X : Type 0). X) accepted-at h) in
+      inside.1
+
+  -- the arrivals where the attack goes on, and where it does not
+  pub arrivals-by-replies : outcome rule b n.attack ≡ GoesOn → is_winning n.rest ≡ false → arrivals rule t i b ≡ suc (arrivals_after rule (answers_of n) (arrivals rule t) (after b n.attack))
+  arrivals-by-replies o r = arrivals-at ∙ rw (o, r) refl
+
+  pub arrivals-one : (u : Outcome) → outcome rule b n.attack ≡ u → (u ≡ GoesOn → ⊥) → arrivals rule t i b ≡ 1
+  arrivals-one u o stops =
+      arrivals-at ∙ ap (λ (v : Outcome). suc (if_goes_on v (cond (is_winning n.rest) 0 (arrivals_after rule (answers_of n) (arrivals rule t) (after b n.attack))))) o
+      ∙ ap suc (if_goes_on-stops u _ stops)
+
+  pub arrivals-winning : is_winning n.rest ≡ true → arrivals rule t i b ≡ 1
+  arrivals-winning r =
+      arrivals-at ∙ ap (λ (w : Bool). suc (if_goes_on (outcome rule b n.attack) (cond w 0 (arrivals_after rule (answers_of n) (arrivals rule t) (after b n.attack))))) r
+      ∙ ap suc (if_goes_on-none (outcome rule b n.attack))
+
+-- ---- at a reply
+
+module _ (rule : RuleKind) (t : List Node) (a : Answers) (c : Grid) (q : Point) where
+  met-by : (u : Outcome) (o : Option ℕ) → outcome rule c q ≡ u → answer a q ≡ o → LosesOr u (Answered o (λ j. Accepted rule t j (after c q))) → Meets rule a (Accepted rule t) c q
+  met-by u o e w h = rw (e, w) h
+
+  -- a reply that is no move, or fouls, or goes on to where its answer is accepted, is met
+  pub met-no_move : outcome rule c q ≡ Refused → Meets rule a (Accepted rule t) c q
+  met-no_move e = met-by Refused (answer a q) e refl tt
+
+  pub met-foul : (f : Foul) → outcome rule c q ≡ Fouls f → Meets rule a (Accepted rule t) c q
+  met-foul f e = met-by (Fouls f) (answer a q) e refl tt
+
+  pub met-answer : (j : ℕ) → outcome rule c q ≡ GoesOn → answer a q ≡ Some j → Accepted rule t j (after c q) → Meets rule a (Accepted rule t) c q
+  met-answer j e w h = met-by GoesOn (Some j) e w h
+
+  -- where a reply that goes on is met, its answer is accepted
+  pub answer-accepted : (j : ℕ) → outcome rule c q ≡ GoesOn → answer a q ≡ Some j → Meets rule a (Accepted rule t) c q → Accepted rule t j (after c q)
+  answer-accepted j e w h =
+      subst (λ (o : Option ℕ). Answered o (λ j. Accepted rule t j (after c q))) w
+      (subst (λ (u : Outcome). LosesOr u (Answered (answer a q) (λ j. Accepted rule t j (after c q)))) e h)
+
+  -- the arrivals behind a reply
+  pub arrivals-answer : (j : ℕ) → outcome rule c q ≡ GoesOn → answer a q ≡ Some j → arrivals_at rule a (arrivals rule t) c q ≡ arrivals rule t j (after c q)
+  arrivals-answer j e w = rw (e, w) refl
+
+  pub arrivals-no_answer : answer a q ≡ None → arrivals_at rule a (arrivals rule t) c q ≡ 0
+  arrivals-no_answer w =
+      ap (λ (o : Option ℕ). if_goes_on (outcome rule c q) (if_answered o (λ j. arrivals rule t j (after c q)))) w
+      ∙ if_goes_on-none (outcome rule c q)
+
+  pub arrivals-stops : (u : Outcome) → outcome rule c q ≡ u → (u ≡ GoesOn → ⊥) → arrivals_at rule a (arrivals rule t) c q ≡ 0
+  arrivals-stops u e stops = ap (λ (v : Outcome). if_goes_on v (if_answered (answer a q) (λ j. arrivals rule t j (after c q)))) e ∙ if_goes_on-stops u _ stops
+
+-- ---- over the replies so far
+
+same_point-is : (p q : Point) → is_same_point p q ≡ true → p ≡ q
+same_point-is p q h =
+    let x : p.x ≡ q.x = (Decides-eqb p.x q.x).0 (and_left (p.x == q.x) _ h) in
+    let y : p.y ≡ q.y = (Decides-eqb p.y q.y).0 (and_right (p.x == q.x) _ h) in
+    λ i. record { x = x i; y = y i }
+
+same_point-itself : (p : Point) → is_same_point p p ≡ true
+same_point-itself p = rw ((Decides-eqb p.x p.x).1 refl, (Decides-eqb p.y p.y).1 refl) refl
+
+found_all : (P : Point → Type 0) (q : Point) (xs : List Point) → All P xs → list_any (is_same_point q) xs ≡ true → P q
+found_all P q [] all h = cc
+found_all P q (x ∷ xs) all h = by_test (is_same_point q x) refl h (found_all P q xs (λ j d l. all (suc j) d (omega arith))) where
+  by_test : (r : Bool) → is_same_point q x ≡ r → (r || list_any (is_same_point q) xs) ≡ true → (list_any (is_same_point q) xs ≡ true → P q) → P q
+  by_test true e k later = subst P (sym (same_point-is q x e)) (all 0 q (omega arith))
+  by_test false e k later = later k
+
+-- once each point of the board is met as a reply, each reply is
+pub met-all : (rule : RuleKind) (t : List Node) (a : Answers) (c : Grid) → All (λ q. Meets rule a (Accepted rule t) c q) (points_of c) → (q : Point) → Meets rule a (Accepted rule t) c q
+met-all rule t a c all q = by_test (is_on c q) refl where
+  by_test : (r : Bool) → is_on c q ≡ r → Meets rule a (Accepted rule t) c q
+  by_test true on = found_all (λ q. Meets rule a (Accepted rule t) c q) q (points_of c) all (points-found c (is_same_point q) q on (same_point-itself q))
+  by_test false off = met-no_move rule t a c q (off_refused rule c q off)
+
+-- one reply more
+pub arrivals_among-push : (rule : RuleKind) (a : Answers) (count : ℕ → Grid → ℕ) (c : Grid) (qs : List Point) (q : Point) → arrivals_among rule a count c (qs ++ q ∷ []) ≡ arrivals_among rule a count c qs + arrivals_at rule a count c q
+arrivals_among-push rule a count c qs q = let both = sum_by-append (arrivals_at rule a count c) qs (q ∷ []) in omega (arith, both)
+
+-- the arrivals behind some of the replies are no more than those behind all
+pub arrivals_among-le : (rule : RuleKind) (a : Answers) (count : ℕ → Grid → ℕ) (c : Grid) (qs more : List Point) → arrivals_among rule a count c qs ≤ arrivals_among rule a count c (qs ++ more)
+arrivals_among-le rule a count c qs more = let both = sum_by-append (arrivals_at rule a count c) qs more in omega (arith, both)
+
+-- ---- lines to a fault
+
+-- an attack with a fault
+pub leads-attack : (rule : RuleKind) (t : List Node) (i : ℕ) (b : Grid) (n : Node) (why : Why) → slice_get t i ≡ Some n → attack_fault (outcome rule b n.attack) n.rest ≡ Some why → Leads rule t i b (n.attack ∷ []) why
+unfolding Leads
+leads-attack rule t i b n why at h = rw at (refl, h)
+
+-- an attack that goes on, and a reply that leads to a fault
+pub leads-reply : (rule : RuleKind) (t : List Node) (i : ℕ) (b : Grid) (n : Node) (q : Point) (line : List Point) (why : Why) → slice_get t i ≡ Some n → outcome rule b n.attack ≡ GoesOn → is_winning n.rest ≡ false → LeadsStart rule t (answers_of n) (after b n.attack) (q ∷ line) why → Leads rule t i b (n.attack ∷ q ∷ line) why
+unfolding Leads
+leads-reply rule t i b n q line why at o r h = rw at (refl, o, NotWinning-by n.rest r, h)
+
+-- a reply with a fault
+pub leads-fault : (rule : RuleKind) (t : List Node) (a : Answers) (c : Grid) (q : Point) (why : Why) → reply_fault (outcome rule c q) (answer a q) ≡ Some why → LeadsStart rule t a c (q ∷ []) why
+leads-fault rule t a c q why h = h
+
+-- a reply that goes on to where its answer leads to a fault
+pub leads-answer : (rule : RuleKind) (t : List Node) (a : Answers) (c : Grid) (q : Point) (j : ℕ) (line : List Point) (why : Why) → outcome rule c q ≡ GoesOn → answer a q ≡ Some j → Leads rule t j (after c q) line why → LeadsStart rule t a c (q ∷ line) why
+unfolding Leads
+leads-answer rule t a c q j [] why o w h = absurd h
+leads-answer rule t a c q j (p ∷ line) why o w h = (o, rw w h)

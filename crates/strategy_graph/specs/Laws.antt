@@ -1,0 +1,72 @@
+-- The laws of tables that the layers above rest on.
+use Rattle.std.specs.Prelude.{◌≡◌, ◌↔◌, ℕ, suc, ◌<◌, true, List, ◌++◌, length, slice_get}
+use Rattle.game_rules.specs.Grid.{Grid}
+use Rattle.game_rules.specs.Games.{WinsWithin, WinsAfter}
+use Rattle.game_rules.specs.declared.RuleKind.{RuleKind}
+use Rattle.game_rules.specs.declared.Point.{Point}
+use Rattle.strategy_graph.specs.declared.Node.{Node}
+use Rattle.strategy_graph.specs.declared.Why.{Why}
+use Rattle.strategy_graph.specs.Tables.{Answers, NamesLower, names_below, node_depth, depth, start_depth}
+use Rattle.strategy_graph.specs.Acceptance.{AcceptedNode, Accepted, AcceptedStart}
+use Rattle.strategy_graph.specs.Arrivals.{arrivals_behind, arrivals, start_arrivals}
+use Rattle.strategy_graph.specs.Games.{game, attacks, EndsWell}
+use Rattle.strategy_graph.specs.Leads.{Leads, LeadsStart}
+
+-- depth, acceptance and arrivals of node i, by those of the nodes that it names
+pub record GoesByNode (t : List Node) (i : ℕ) : Type 0 where
+  pub depth_by_node : depth t i ≡ node_depth (slice_get t i) (depth t)
+  pub accepted_by_node : (rule : RuleKind) (b : Grid) → Accepted rule t i b ↔ AcceptedNode rule (slice_get t i) (Accepted rule t) b
+  pub arrivals_by_node : (rule : RuleKind) (b : Grid) → arrivals rule t i b ≡ suc (arrivals_behind rule (slice_get t i) (arrivals rule t) b)
+
+-- the bound on the nodes that follow one another plays no part
+abbrev pub NodesGoByNode : Type 0
+NodesGoByNode = (t : List Node) → NamesLower t → (i : ℕ) → GoesByNode t i
+
+-- an accepted node wins within its depth
+abbrev pub AcceptedWins : Type 0
+AcceptedWins = (rule : RuleKind) (t : List Node) (i : ℕ) (b : Grid) → Accepted rule t i b → WinsWithin rule (depth t i) b
+
+-- whatever is played first, an accepted start wins within its depth
+abbrev pub AcceptedStartWins : Type 0
+AcceptedStartWins =
+    (rule : RuleKind) (t : List Node) (a : Answers) (b : Grid) → AcceptedStart rule t a b → WinsAfter rule (start_depth t a) b
+
+-- a game from an accepted node ends well, whatever the replies
+abbrev pub GamesEndWell : Type 0
+GamesEndWell =
+    (rule : RuleKind) (t : List Node) (i : ℕ) (b : Grid) (qs : List Point) → Accepted rule t i b → EndsWell (depth t i) (length qs) (game rule t i b qs)
+
+-- node j of table u says what node i of table t says: its depth, where it is accepted, its arrivals, its games, and the lines
+-- to a fault
+pub record SaysSame (t : List Node) (i : ℕ) (u : List Node) (j : ℕ) : Type 0 where
+  pub same_depth : depth u j ≡ depth t i
+  pub same_accepted : (rule : RuleKind) (b : Grid) → Accepted rule u j b ↔ Accepted rule t i b
+  pub same_arrivals : (rule : RuleKind) (b : Grid) → arrivals rule u j b ≡ arrivals rule t i b
+  pub same_game : (rule : RuleKind) (b : Grid) (qs : List Point) → game rule u j b qs ≡ game rule t i b qs
+  pub same_attacks : (rule : RuleKind) (b : Grid) (qs : List Point) → attacks rule u j b qs ≡ attacks rule t i b qs
+  pub same_leads : (rule : RuleKind) (b : Grid) (line : List Point) (why : Why) → Leads rule u j b line why ↔ Leads rule t i b line why
+
+-- the start says the same with both tables
+pub record StartSaysSame (t u : List Node) (a : Answers) : Type 0 where
+  pub same_depth : start_depth u a ≡ start_depth t a
+  pub same_accepted : (rule : RuleKind) (b : Grid) → AcceptedStart rule u a b ↔ AcceptedStart rule t a b
+  pub same_arrivals : (rule : RuleKind) (b : Grid) → start_arrivals rule u a b ≡ start_arrivals rule t a b
+  pub same_leads : (rule : RuleKind) (b : Grid) (line : List Point) (why : Why) → LeadsStart rule u a b line why ↔ LeadsStart rule t a b line why
+
+-- a node says the same however the table grows
+abbrev pub GrowthKeeps : Type 0
+GrowthKeeps = (t more : List Node) → NamesLower t → (i : ℕ) → i < length t → SaysSame t i (t ++ more) i
+
+-- a start that names nodes of the table says the same however the table grows
+abbrev pub GrowthKeepsStart : Type 0
+GrowthKeepsStart = (t more : List Node) → NamesLower t → (a : Answers) → names_below a (length t) ≡ true → StartSaysSame t (t ++ more) a
+
+-- a node from which a line leads to a fault is not accepted
+abbrev pub FaultsRefute : Type 0
+FaultsRefute =
+    (rule : RuleKind) (t : List Node) (i : ℕ) (b : Grid) (line : List Point) (why : Why) → Leads rule t i b line why → ¬ Accepted rule t i b
+
+-- a start from which a line leads to a fault is not accepted
+abbrev pub FaultsRefuteStart : Type 0
+FaultsRefuteStart =
+    (rule : RuleKind) (t : List Node) (a : Answers) (b : Grid) (line : List Point) (why : Why) → LeadsStart rule t a b line why → ¬ AcceptedStart rule t a b

@@ -1,0 +1,7 @@
+pub mod Tables
+pub mod Same
+pub mod Acceptance
+pub mod Arrivals
+pub mod Games
+pub mod Leads
+pub mod Laws

@@ -1,0 +1,170 @@
+// A list of replies, each with the number of the node that answers it. Contracts see it as that list.
+#![tactic(auto)]
+
+ghost use Rattle.std.specs.Prelude.{◌≡◌, ◌↔◌, ◌<◌, ◌&&◌, nat_lt, [], ◌∷◌, ◌++◌, length, slice_get, Some, OnOk, OnErr, IsTrue};
+ghost use Rattle.std.specs.List.{list_all};
+ghost use Rattle.strategy_graph.specs.Tables.{answer, is_rising, listed, names_below, precedes as precedes_lem};
+
+use crate::{Reply, Rest};
+use game_rules::Point;
+use std::alloc::{AllocError, Global};
+use std::hash::{Hash, Hasher};
+use std::marker::Model;
+
+/// Whether `p` comes before `q` in reading order: by y, then by x.
+fn precedes(p: Point, q: Point) -> bool
+    ensures order { result ≡ precedes_lem p q }
+{
+    p.y < q.y || (p.y == q.y && p.x < q.x)
+}
+
+fn rises(replies: &[Reply]) -> bool
+    ensures rising { result ≡ is_rising replies.now }
+{
+    let Some((first, others)) = replies.split_first() else {
+        return true;
+    };
+    let mut last = first.at;
+    for reply in others {
+        if !precedes(last, reply.at) {
+            return false;
+        }
+        last = reply.at;
+    }
+    true
+}
+
+/// Replies in the order in which they were added.
+#[derive(Debug, Drop)]
+pub struct Replies {
+    items: Vec<Reply>,
+}
+
+impl Model for Replies {
+    ghost use Rattle.std.specs.Prelude.{List};
+    ghost use Rattle.strategy_graph.specs.declared.Reply.{Reply};
+
+    ghost Value = { List Reply };
+
+    ghost view = { λ r. r.items.items };
+}
+
+impl PartialEq for Replies {
+    ghost use Rattle.strategy_graph.specs.Same.{same_replies, same_replies_per};
+
+    ghost eq = { same_replies };
+
+    ghost laws = { same_replies_per };
+
+    fn eq(&self, other: &Replies) -> bool {
+        self.items == other.items
+    }
+}
+
+impl Eq for Replies {
+    ghost use Rattle.strategy_graph.specs.Same.{same_replies_equiv};
+
+    ghost laws = { same_replies_equiv };
+}
+
+impl Hash for Replies {
+    ghost use Rattle.strategy_graph.specs.Same.{hashed_replies, same_replies_hashed};
+
+    ghost hash_input = { hashed_replies };
+
+    ghost respects_eq = { same_replies_hashed };
+
+    fn hash<H: Hasher>(&self, state: &mut H) {
+        self.items.hash(state);
+    }
+}
+
+impl Replies {
+    /// No replies. It takes no memory.
+    pub fn new(alloc: Global) -> Self
+        ensures empty { result ≡ [] }
+    {
+        Replies {
+            items: Vec::new(alloc),
+        }
+    }
+
+    /// How many replies there are.
+    pub fn len(&self) -> usize
+        ensures count { result ≡ length self.now }
+    {
+        self.items.len()
+    }
+
+    /// Whether there are none.
+    pub fn is_empty(&self) -> bool
+        ensures empty { IsTrue result ↔ (self.now ≡ []) }
+    {
+        self.items.is_empty()
+    }
+
+    /// Reply `i`, counted from 0.
+    pub fn at(&self, i: usize) -> &Reply
+        requires in_list { i < length self.now }
+        ensures item { slice_get self.now i ≡ Some result.now }
+    {
+        &self.items[i]
+    }
+
+    /// The replies as a slice.
+    pub fn as_slice(&self) -> &[Reply]
+        ensures items { result.now ≡ self.now }
+    {
+        self.items.as_slice()
+    }
+
+    /// Whether the replies rise strictly in reading order: by y, then by x.
+    pub fn is_rising(&self) -> bool
+        ensures rising { result ≡ is_rising self.now }
+    {
+        rises(self.items.as_slice())
+    }
+
+    /// Whether each node that the replies name is below `len`.
+    pub(crate) fn are_below(&self, len: u32) -> bool
+        ensures below { result ≡ list_all (λ r. nat_lt r.next len) self.now }
+    {
+        self.items.iter().all(|reply| reply.next < len)
+    }
+
+    /// The node that is listed for the reply at this point, if one is. It takes no memory.
+    pub fn find(&self, at: Point) -> Option<u32>
+        ensures listed { result ≡ listed self.now at }
+    {
+        let found = self.items.iter().find(|reply| reply.at == at)?;
+        Some(found.next)
+    }
+
+    /// Adds the reply at the end. After an `Err` the list is as it was, and the reply is gone.
+    pub fn push(&mut self, item: Reply) -> Result<(), AllocError>
+        ensures pushed { OnOk result (self.new ≡ self.old ++ item ∷ []) }
+        ensures unchanged { OnErr result (self.new ≡ self.old) }
+    {
+        if self.items.push(item).is_err() {
+            return Err(AllocError);
+        }
+        Ok(())
+    }
+}
+
+/// The node that answers the reply, by the replies that are listed and the rest.
+pub(crate) fn answer_among(replies: &Replies, rest: Rest, reply: Point) -> Option<u32>
+    ensures answer { result ≡ answer (record { replies = replies.now; rest = rest }) reply }
+{
+    match replies.find(reply) {
+        Some(number) => Some(number),
+        None => rest.node(),
+    }
+}
+
+/// Whether each node that the replies and the rest name is below `len`.
+pub(crate) fn are_all_below(replies: &Replies, rest: Rest, len: u32) -> bool
+    ensures below { result ≡ names_below (record { replies = replies.now; rest = rest }) len }
+{
+    replies.are_below(len) && rest.is_below(len)
+}

@@ -1,0 +1,151 @@
+// A table: nodes that name only lower ones.
+#![tactic(auto)]
+
+ghost use Rattle.std.specs.Prelude.{◌≡◌, ◌↔◌, ◌<◌, ◌++◌, [], ◌∷◌, IsTrue, true, false, List, length, slice_get, Some, IfOk, OnOk, OnErr, IsErrOf};
+ghost use Rattle.strategy_graph.specs.Tables.{IsTable, answer_at, answers_of, is_rising, is_winning, names_below, depth, start_depth};
+
+use crate::depths::{deepest, depths_of};
+use crate::replies::{answer_among, are_all_below};
+use crate::{MAX_NODES, Node, Start};
+use game_rules::Point;
+use std::alloc::{AllocError, Global};
+use std::marker::Model;
+use thiserror::Error;
+
+/// A table of answers, which contracts see as the list of its nodes. Each node names only lower ones, its replies rise
+/// strictly in reading order, a winning node lists none, and there are at most `MAX_NODES` nodes.
+#[derive(Debug, Drop)]
+pub struct Table {
+    nodes: Vec<Node>,
+}
+
+impl Model for Table {
+    ghost use Rattle.std.specs.Prelude.{List};
+    ghost use Rattle.strategy_graph.specs.declared.Node.{Node};
+    ghost use Rattle.strategy_graph.specs.Tables.{IsTable};
+
+    ghost Value = { List Node };
+
+    ghost view = { λ t. t.nodes.items };
+
+    ghost invariant = { λ t. IsTable t.nodes.items };
+}
+
+/// Why a node is not added. The first that holds is answered.
+#[derive(Debug, Drop, PartialEq, Eq, Error)]
+pub enum PushError {
+    /// The node names a number that is not below the length of the table.
+    #[error("the node names a node that is not below it")]
+    NotBelow,
+    /// The replies of the node do not rise strictly in reading order.
+    #[error("the replies of the node do not rise")]
+    NotRising,
+    /// The table has `MAX_NODES` nodes.
+    #[error("the table is full")]
+    Full,
+    /// There is no memory for the node.
+    #[error("out of memory")]
+    Memory,
+}
+
+impl Table {
+    /// A table with no nodes. It takes no memory.
+    pub fn new(alloc: Global) -> Self
+        ensures empty { result ≡ [] }
+    {
+        Table {
+            nodes: Vec::new(alloc),
+        }
+    }
+
+    /// How many nodes there are.
+    pub fn len(&self) -> u32
+        ensures count { result ≡ length self.now }
+        ensures table { IsTable self.now }
+    {
+        self.nodes.len() as u32
+    }
+
+    /// Whether there are no nodes.
+    pub fn is_empty(&self) -> bool
+        ensures empty { IsTrue result ↔ (self.now ≡ []) }
+    {
+        self.nodes.is_empty()
+    }
+
+    /// Node `i`, counted from 0.
+    pub fn node(&self, i: u32) -> &Node
+        requires in_table { i < length self.now }
+        ensures node { slice_get self.now i ≡ Some result.now }
+        ensures table { IsTable self.now }
+    {
+        &self.nodes[i as usize]
+    }
+
+    /// The node that answers the reply at node `i`: the one that is listed for it, else the one of the rest, else `None`. It
+    /// takes no memory.
+    pub fn lookup(&self, i: u32, reply: Point) -> Option<u32>
+        requires in_table { i < length self.now }
+        ensures answer { result ≡ answer_at self.now i reply }
+    {
+        let node = &self.nodes[i as usize];
+        answer_among(&node.replies, node.rest, reply)
+    }
+
+    /// Adds the node at the end, and answers its number. A node whose rest is `Wins` has no replies. After an `Err` the table is
+    /// as it was, and the node is gone. The first refusal that holds is answered:
+    ///
+    /// - `NotBelow`, exactly where the node names a number that is not below the length of the table;
+    /// - `NotRising`, exactly where its replies do not rise strictly in reading order;
+    /// - `Full`, exactly where the table has `MAX_NODES` nodes;
+    /// - `Memory`, where there is no memory for it.
+    pub fn push(&mut self, node: Node) -> Result<u32, PushError>
+        requires winning { is_winning node.rest ≡ true → node.replies ≡ [] }
+        ensures number { IfOk result (λ i. i ≡ length self.old) }
+        ensures pushed { OnOk result (self.new ≡ self.old ++ node ∷ []) }
+        ensures not_below { IsErrOf result PushError.NotBelow ↔ (names_below (answers_of node) (length self.old) ≡ false) }
+
+        // The later refusals come only where the earlier ones do not.
+        ensures not_rising { IsErrOf result PushError.NotRising
+            ↔ ((names_below (answers_of node) (length self.old) ≡ true) × (is_rising node.replies ≡ false)) }
+        ensures full { IsErrOf result PushError.Full
+            ↔ ((names_below (answers_of node) (length self.old) ≡ true) × (is_rising node.replies ≡ true) × (length self.old ≡ MAX_NODES)) }
+        ensures unchanged { OnErr result (self.new ≡ self.old) }
+    {
+        let number = self.nodes.len() as u32;
+        if !are_all_below(&node.replies, node.rest, number) {
+            return Err(PushError::NotBelow);
+        }
+        if !node.replies.is_rising() {
+            return Err(PushError::NotRising);
+        }
+        if number == MAX_NODES {
+            return Err(PushError::Full);
+        }
+        if self.nodes.push(node).is_err() {
+            return Err(PushError::Memory);
+        }
+        Ok(number)
+    }
+
+    /// The depth of node `i`: with so many attacks at most a game from it is won, where it is accepted. It is 1 for a node that
+    /// names no other, else 1 more than the greatest depth of those that it names.
+    pub fn depth(&self, i: u32) -> Result<u32, AllocError>
+        requires in_table { i < length self.now }
+        ensures depth { IfOk result (λ d. d ≡ depth self.now i) }
+    {
+        let depths = depths_of(*self.nodes.allocator(), self.nodes.as_slice(), i + 1)?;
+        Ok(depths[i as usize])
+    }
+
+    /// The depth of a start, which names only nodes of the table: the greatest depth of those that it names, or 0 if it names
+    /// none.
+    pub fn start_depth(&self, start: &Start) -> Result<u32, AllocError>
+        requires below { names_below start.now (length self.now) ≡ true }
+        ensures depth { IfOk result (λ d. d ≡ start_depth self.now start.now) }
+    {
+        let len = self.nodes.len() as u32;
+        let depths = depths_of(*self.nodes.allocator(), self.nodes.as_slice(), len)?;
+        Ok(deepest(start.replies().as_slice(), start.rest(), depths.as_slice()))
+    }
+}
