@@ -138,8 +138,8 @@ module _ (rule : RuleKind) (c : Grid) (lawful : IsPosition rule c) where
       let still : five rule (after c q) (other (mover c)) w ≡ true = five-other c (mover c) q lawful.board (GoesOn-empty rule c q on) rule w apart ∙ h in
       rw (mover-next q on) (points-found (after c q) (five rule (after c q) (other (mover c))) w (is_empty-on c w (five-empty rule c (other (mover c)) w h)) still)
 
-  -- where the defender has no five point, no reply wins
-  no-reply-wins : has_five rule c (mover c) ≡ false → (q : Point) → outcome rule c q ≡ Wins → ⊥
+  -- where the side to move has no five point, no move wins
+  pub no-reply-wins : has_five rule c (mover c) ≡ false → (q : Point) → outcome rule c q ≡ Wins → ⊥
   no-reply-wins none q wins =
       let h : five rule c (mover c) q ≡ true = outcome-five rule c q wins in
       let some = points-found c (five rule c (mover c)) q (is_empty-on c q (five-empty rule c (mover c) q h)) h in

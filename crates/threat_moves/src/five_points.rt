@@ -23,8 +23,8 @@ pub fn fives<R: Rule, V: Seen<R>>(alloc: Global, view: &V, side: Side) -> Result
     Ok(found)
 }
 
-/// Whether the side has a five point.
-pub(crate) fn has_five<R: Rule, V: Seen<R>>(view: &V, side: Side) -> bool
+/// Whether the side has a five point. No memory is taken.
+pub fn has_five<R: Rule, V: Seen<R>>(view: &V, side: Side) -> bool
     ensures five { result ≡ has_five_lem R.KIND (V.position view.now) side }
 {
     for p in view.board().points() {

@@ -11,6 +11,6 @@ mod laws;
 mod moves;
 
 pub use block::{BlockAnswer, forced};
-pub use five_points::fives;
+pub use five_points::{fives, has_five};
 pub use laws::{block_decides, others_leave_five};
-pub use moves::four_moves;
+pub use moves::{four_moves, is_four_move};

@@ -25,9 +25,9 @@ pub fn four_moves<R: Rule, V: Seen<R>>(alloc: Global, view: &mut V) -> Result<Po
     Ok(found)
 }
 
-/// Whether the move goes on and leaves its side a five point. The view is as before.
+/// Whether the move goes on and leaves its side a five point. The view is as before. No memory is taken.
 #[tactic(auto, unfolding(crate::specs::FourMoves::is_four_move))]
-fn is_four_move<R: Rule, V: Seen<R>>(view: &mut V, p: Point) -> bool
+pub fn is_four_move<R: Rule, V: Seen<R>>(view: &mut V, p: Point) -> bool
     ensures four { result ≡ is_four_move_lem R.KIND (V.position view.old) p }
     ensures same { V.position view.new ≡ V.position view.old }
 {

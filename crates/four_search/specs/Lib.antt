@@ -1,0 +1,2 @@
+pub mod FourGame
+pub mod Searching
