@@ -1,1 +1,4 @@
 pub mod Trying
+pub mod Reading
+pub mod Planning
+pub mod Growing

@@ -136,7 +136,7 @@ module _ (rule : RuleKind) (n : ℕ) (b : Grid) (lawful : IsPosition rule b) (no
   abbrev line : Option Point → List Point
   line o = line_from rule b (four_line rule n) o
 
-  no_four : (p : Point) → is_four_move rule b p ≡ false → test p ≡ false
+  pub no_four : (p : Point) → is_four_move rule b p ≡ false → test p ≡ false
   unfolding is_four_move
   no_four p h = lose_by (outcome rule b p) (has_five rule (after b p) (mover b)) _ (no-reply-wins rule b lawful none p) h
 
@@ -164,13 +164,13 @@ module _ (rule : RuleKind) (n : ℕ) (b : Grid) (lawful : IsPosition rule b) (no
 
 -- ---- the chosen move
 
-same_self : (p : Point) → is_same_point p p ≡ true
+pub same_self : (p : Point) → is_same_point p p ≡ true
 same_self p =
     let x : nat_eq p.x p.x ≡ true = grind (arith, nat_tests) in
     let y : nat_eq p.y p.y ≡ true = grind (arith, nat_tests) in
     rw (x, y) refl
 
-same_point : (p q : Point) → is_same_point p q ≡ true → p ≡ q
+pub same_point : (p q : Point) → is_same_point p q ≡ true → p ≡ q
 same_point p q h = by_test (nat_eq p.x q.x) (nat_eq p.y q.y) refl refl h where
   by_test : (r s : Bool) → nat_eq p.x q.x ≡ r → nat_eq p.y q.y ≡ s → (r && s) ≡ true → p ≡ q
   by_test true true e f h =
@@ -180,7 +180,7 @@ same_point p q h = by_test (nat_eq p.x q.x) (nat_eq p.y q.y) refl refl h where
   by_test true false e f h = cc
   by_test false s e f h = cc
 
-find-passes : (f : Point → Bool) (ps : List Point) (p : Point) → find f ps ≡ Some p → f p ≡ true
+pub find-passes : (f : Point → Bool) (ps : List Point) (p : Point) → find f ps ≡ Some p → f p ≡ true
 find-passes f [] p h = cc
 find-passes f (x ∷ ps) p h = by_test (f x) refl h (find-passes f ps p) where
   by_test : (r : Bool) → f x ≡ r → cond r (Some x) (find f ps) ≡ Some p → (find f ps ≡ Some p → f p ≡ true) → f p ≡ true
@@ -218,7 +218,7 @@ no_positions rule b (p ∷ ps) =
   zeros false h = rw h refl
 
 module _ (rule : RuleKind) (b : Grid) (lawful : IsPosition rule b) (none : has_five rule b (mover b) ≡ false) where
-  move-is : (n : ℕ) → four_move rule (suc n) b ≡ find (test rule n b lawful none) (points_of b)
+  pub move-is : (n : ℕ) → four_move rule (suc n) b ≡ find (test rule n b lawful none) (points_of b)
   unfolding four_move
   move-is n = ap (λ r. cond r (find (five rule b (mover b)) (points_of b)) (find (test rule n b lawful none) (points_of b))) none
 
@@ -236,7 +236,7 @@ module _ (rule : RuleKind) (b : Grid) (lawful : IsPosition rule b) (none : has_f
   unfolding four_line
   line-is n = ap (λ r. cond r [] (line_from rule b (four_line rule n) (four_move rule (suc n) b))) none ∙ ap (line_from rule b (four_line rule n)) (move-is n)
 
-  wins-is : (n : ℕ) → wins_by_fours rule (suc n) b ≡ list_any (test rule n b lawful none) (points_of b)
+  pub wins-is : (n : ℕ) → wins_by_fours rule (suc n) b ≡ list_any (test rule n b lawful none) (points_of b)
   unfolding wins_under
   wins-is n = refl
 

@@ -1,2 +1,4 @@
 pub mod FourGame
 pub mod Searching
+pub mod Plans
+pub mod Growth

@@ -5,4 +5,8 @@
 //! all replies. The depth grows move by move, so the first win that is found has the fewest moves.
 #![tactic(auto)]
 
+mod error;
+mod plan;
 mod search;
+
+pub use error::SearchError;

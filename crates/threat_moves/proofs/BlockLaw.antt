@@ -129,7 +129,7 @@ loses_by GoesOn r no_win no_draw on = on refl
 
 module _ (rule : RuleKind) (c : Grid) (lawful : IsPosition rule c) where
   -- the attacker moves after a reply
-  mover-next : (q : Point) → outcome rule c q ≡ GoesOn → mover (after c q) ≡ other (mover c)
+  pub mover-next : (q : Point) → outcome rule c q ≡ GoesOn → mover (after c q) ≡ other (mover c)
   mover-next q on = sym (other-other (mover (after c q))) ∙ ap other (mover-after c q lawful.board (GoesOn-empty rule c q on) lawful.turns)
 
   -- a five point of the attacker that is not taken stays
