@@ -2,3 +2,4 @@ pub mod Trying
 pub mod Reading
 pub mod Planning
 pub mod Growing
+pub mod Deepening

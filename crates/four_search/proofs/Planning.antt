@@ -25,7 +25,7 @@ use Rattle.threat_moves.specs.Blocks.{by_block, by_fives, fate}
 use Rattle.threat_moves.specs.OneBlock.{block_wins, all_foul}
 use Rattle.threat_moves.proofs.FourLaws.{four-goes_on, one-goes_on}
 use Rattle.threat_moves.proofs.OtherSide.{same_or_apart, five-other, five-empty}
-use Rattle.threat_moves.proofs.BlockLaw.{mover-next, block_decides}
+use Rattle.threat_moves.proofs.BlockLaw.{mover-next, block_decides, filter-none}
 use Rattle.threat_moves.proofs.Distinct.{two_passing-apart}
 use Rattle.four_search.specs.Searching.{line_behind, line_from, four_line}
 use Rattle.four_search.specs.Plans.{branch_if, branches_for, plan_from, four_plan, answer_if, answers_for, at_or_beside}
@@ -321,7 +321,7 @@ no_move : (rule : RuleKind) (b : Grid) (p : Point) → four_move rule zero b ≡
 unfolding four_move
 no_move rule b p h = cc
 
-wins-some : (rule : RuleKind) (n : ℕ) (b : Grid) → wins_by_fours rule n b ≡ true → 0 < n
+pub wins-some : (rule : RuleKind) (n : ℕ) (b : Grid) → wins_by_fours rule n b ≡ true → 0 < n
 unfolding wins_under
 wins-some rule zero b h = cc
 wins-some rule (suc n) b h = omega arith
@@ -445,3 +445,29 @@ plan-won-points rule n b p lawful none chosen xs points won low =
   nil : (l : List Point) → length l < 1 → l ≡ []
   nil [] h = refl
   nil (x ∷ l) h = absurd (omega arith)
+
+-- ---- five points as a list
+
+head_find : (f : Point → Bool) (ps : List Point) (x : Point) (more : List Point) → filter f ps ≡ x ∷ more → find f ps ≡ Some x
+head_find f [] x more h = cc
+head_find f (p ∷ ps) x more h = by_test (f p) h (head_find f ps x more) where
+  by_test : (r : Bool) → cond r (p ∷ filter f ps) (filter f ps) ≡ x ∷ more → (filter f ps ≡ x ∷ more → find f ps ≡ Some x) → cond r (Some p) (find f ps) ≡ Some x
+  by_test true h k = let same : p ≡ x = cc in ap Some same
+  by_test false h k = k h
+
+list_some : (xs : List Point) (d : Point) → 1 ≤ length xs → (more : List Point) × (xs ≡ get_or xs 0 d ∷ more)
+list_some [] d low = absurd (omega arith)
+list_some (x ∷ xs) d low = (xs, refl)
+
+pub no-fives : (rule : RuleKind) (b : Grid) (xs : List Point) → xs ≡ five_points rule b (mover b) → length xs < 1 → has_five rule b (mover b) ≡ false
+no-fives rule b xs e low = filter-none (five rule b (mover b)) (points_of b) (sym e ∙ nil xs low) where
+  nil : (l : List Point) → length l < 1 → l ≡ []
+  nil [] h = refl
+  nil (x ∷ l) h = absurd (omega arith)
+
+-- the winning node of the least five point
+pub plan-five : {E : Type 0} (rule : RuleKind) (n : ℕ) (b : Grid) (xs : List Point) (x : Point) (u : List Node) (r : Result ℕ E) → xs ≡ five_points rule b (mover b) → 1 ≤ length xs → 0 < n → IfOk r (λ i. StandsFor u i (Leaf (get_or xs 0 x))) → IfOk r (λ i. StandsFor u i (four_plan rule n b))
+plan-five rule n b xs x u r e low some h =
+    let whole = list_some xs x low in
+    let least : least_five rule b ≡ Some (get_or xs 0 x) = head_find (five rule b (mover b)) (points_of b) (get_or xs 0 x) whole.0 (sym e ∙ whole.1) in
+    IfOk-map r _ (λ i. StandsFor u i (four_plan rule n b)) (λ i k. subst (λ (s : Tree). StandsFor u i s) (sym (plan-leaf rule n b (get_or xs 0 x) least some)) k) h

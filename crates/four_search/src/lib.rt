@@ -5,8 +5,10 @@
 //! all replies. The depth grows move by move, so the first win that is found has the fewest moves.
 #![tactic(auto)]
 
+mod answer;
 mod error;
 mod plan;
 mod search;
 
+pub use answer::{FourAnswer, four_search};
 pub use error::SearchError;

@@ -42,17 +42,18 @@ pub(crate) fn compile<R: Rule, V: Seen<R>>(
     ensures same { V.position view.new ≡ V.position view.old }
     ensures grows { GrowsBy compiler.old compiler.new (2 * moves) }
     ensures full { IsErrOf result SearchError.Full → MAX_NODES < length compiler.old + 2 * moves }
+    ensures full_now { IsErrOf result SearchError.Full → length compiler.new ≡ MAX_NODES }
 {
     let attacker = view.side();
     let Ok(points) = fives::<R, V>(alloc, view, attacker) else {
         return Err(SearchError::Memory);
     };
-    if let Some(five) = points.as_slice().first() {
-        return winning(compiler, *five);
-    }
-    match line.split_last() {
-        None => unreachable!(),
-        Some((attack, inner)) => compile_four::<R, V>(alloc, view, *attack, moves, inner, compiler),
+    match points.as_slice() {
+        [five, ..] => winning(compiler, *five),
+        [] => match line.split_last() {
+            None => unreachable!(),
+            Some((attack, inner)) => compile_four::<R, V>(alloc, view, *attack, moves, inner, compiler),
+        },
     }
 }
 
@@ -74,13 +75,17 @@ fn compile_four<R: Rule, V: Seen<R>>(
     ensures same { V.position view.new ≡ V.position view.old }
     ensures grows { GrowsBy compiler.old compiler.new (2 * moves) }
     ensures full { IsErrOf result SearchError.Full → MAX_NODES < length compiler.old + 2 * moves }
+    ensures full_now { IsErrOf result SearchError.Full → length compiler.new ≡ MAX_NODES }
 {
     view.side();
-    match forced::<R, V>(alloc, view, p) {
-        Err(_) => Err(SearchError::Memory),
-        Ok(BlockAnswer::Lost | BlockAnswer::Draw(_)) => unreachable!(),
-        Ok(BlockAnswer::Won) => compile_won::<R, V>(alloc, view, p, moves, compiler),
-        Ok(BlockAnswer::One(block)) => compile_one::<R, V>(alloc, view, p, block, moves, line, compiler),
+    let Ok(answer) = forced::<R, V>(alloc, view, p) else {
+        return Err(SearchError::Memory);
+    };
+    match answer {
+        BlockAnswer::Lost => unreachable!(),
+        BlockAnswer::Draw(_) => unreachable!(),
+        BlockAnswer::Won => compile_won::<R, V>(alloc, view, p, moves, compiler),
+        BlockAnswer::One(block) => compile_one::<R, V>(alloc, view, p, block, moves, line, compiler),
     }
 }
 
@@ -104,6 +109,7 @@ fn compile_one<R: Rule, V: Seen<R>>(
     ensures same { V.position view.new ≡ V.position view.old }
     ensures grows { GrowsBy compiler.old compiler.new (2 * moves) }
     ensures full { IsErrOf result SearchError.Full → MAX_NODES < length compiler.old + 2 * moves }
+    ensures full_now { IsErrOf result SearchError.Full → length compiler.new ≡ MAX_NODES }
 {
     growth_keeps_trees();
     view.side();
@@ -132,6 +138,7 @@ fn compile_after<R: Rule, V: Seen<R>>(
     ensures same { V.position view.new ≡ V.position view.old }
     ensures grows { GrowsBy compiler.old compiler.new (2 * moves) }
     ensures full { IsErrOf result SearchError.Full → MAX_NODES < length compiler.old + 2 * moves }
+    ensures full_now { IsErrOf result SearchError.Full → length compiler.new ≡ MAX_NODES }
 {
     view.side();
     view.play(p);
@@ -160,6 +167,7 @@ fn compile_won<R: Rule, V: Seen<R>>(
     ensures same { V.position view.new ≡ V.position view.old }
     ensures grows { GrowsBy compiler.old compiler.new (2 * moves) }
     ensures full { IsErrOf result SearchError.Full → MAX_NODES < length compiler.old + 2 * moves }
+    ensures full_now { IsErrOf result SearchError.Full → length compiler.new ≡ MAX_NODES }
 {
     growth_keeps_trees();
     let _attacker = view.side();
@@ -216,6 +224,7 @@ fn fork<R: Rule, V: Seen<R>>(
     ensures same { V.position view.new ≡ V.position view.old }
     ensures grows { GrowsBy compiler.old compiler.new 1 }
     ensures full { IsErrOf result SearchError.Full → MAX_NODES ≤ length compiler.old }
+    ensures full_now { IsErrOf result SearchError.Full → length compiler.new ≡ MAX_NODES }
 {
     view.side();
     view.play(p);
@@ -233,6 +242,7 @@ fn winning(compiler: &mut Compiler, attack: Point) -> Result<u32, SearchError>
     ensures in_compiler { IfOk result (λ node. node < length compiler.new) }
     ensures grows { GrowsBy compiler.old compiler.new 1 }
     ensures full { IsErrOf result SearchError.Full → MAX_NODES ≤ length compiler.old }
+    ensures full_now { IsErrOf result SearchError.Full → length compiler.new ≡ MAX_NODES }
 {
     match compiler.winning(attack) {
         Ok(node) => Ok(node),
@@ -249,6 +259,7 @@ fn forking(compiler: &mut Compiler, attack: Point, answers: &[Reply]) -> Result<
     ensures in_compiler { IfOk result (λ node. node < length compiler.new) }
     ensures grows { GrowsBy compiler.old compiler.new 1 }
     ensures full { IsErrOf result SearchError.Full → MAX_NODES ≤ length compiler.old }
+    ensures full_now { IsErrOf result SearchError.Full → length compiler.new ≡ MAX_NODES }
 {
     match compiler.node(attack, answers) {
         Ok(node) => Ok(node),

@@ -111,7 +111,7 @@ filter-passes f (p ∷ ps) = by_test (f p) refl (filter-passes f ps) where
   by_test true e h = rw e h
   by_test false e h = h
 
-filter-none : (f : Point → Bool) (ps : List Point) → filter f ps ≡ [] → list_any f ps ≡ false
+pub filter-none : (f : Point → Bool) (ps : List Point) → filter f ps ≡ [] → list_any f ps ≡ false
 filter-none f [] h = refl
 filter-none f (p ∷ ps) h = by_test (f p) refl h (filter-none f ps) where
   by_test : (r : Bool) → f p ≡ r → cond r (p ∷ filter f ps) (filter f ps) ≡ [] → (filter f ps ≡ [] → list_any f ps ≡ false) → (r || list_any f ps) ≡ false
