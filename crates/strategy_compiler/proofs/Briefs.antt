@@ -1,0 +1,250 @@
+-- The node that answers given replies: it is a node of a table, answers each as given, and stands for the tree of these branches.
+use Rattle.std.proofs.Common.{◌≡◌, ℕ, zero, suc, ◌+◌, ◌<◌, ◌≤◌, Bool, true, false, cond, not, ◌&&◌, ◌||◌, ◌==◌, List, [], ◌∷◌, ◌++◌, map, filter, length, get_or, refl, sym, ap, subst, ◌∙◌, arith}
+use Rattle.std.specs.Prelude.{Option, Some, None, Result, Ok, Err, IfOk, OnOk, nat_lt, nat_eq, slice_get, All}
+use Rattle.std.specs.List.{list_all, find, filter_map, cons_option, AllByRecursion}
+use Rattle.std.specs.Option.{option_map, option_or, option_eq}
+use Rattle.std.proofs.lemmas.Bool.Decides.{nat_tests, Decides-eqb}
+use Rattle.std.proofs.lemmas.List.Folds.{list_all-append}
+use Rattle.std.proofs.lemmas.List.Elements.{All-from_recursion}
+use Rattle.std.proofs.lemmas.Result.{IfOk-weaker}
+use Rattle.game_rules.specs.Shapes.{is_same_point}
+use Rattle.game_rules.specs.declared.Point.{Point}
+use Rattle.game_rules.proofs.Boards.{and_left, and_right}
+use Rattle.strategy_graph.specs.declared.Reply.{Reply}
+use Rattle.strategy_graph.specs.declared.Rest.{Rest}
+use Rattle.strategy_graph.specs.declared.Rest.TheVariants.{Wins}
+use Rattle.strategy_graph.specs.declared.Node.{Node}
+use Rattle.strategy_graph.specs.Tables.{Answers, answers_of, answer, answer_at, listed, named, names_below, precedes, is_rising, is_winning, rest_node, rest_nodes, IsNode}
+use Rattle.strategy_graph.specs.Acceptance.{Answered}
+use Rattle.strategy_graph.specs.Leads.{AtNode}
+use Rattle.strategy_compiler.specs.Trees.{Tree, Branches, Leaf, Fork, NoBranch, Branch, StandsFor, StandsForAll, AnswersBranches, AnswersBriefly, IsBrief, replies_of, answers_to, commonest}
+use Rattle.strategy_compiler.specs.Nodes.{PutsIn, answering_node, answers_beside, commonest_next, rest_of, winning_node}
+use Rattle.strategy_compiler.proofs.Standing.{stands-put_in}
+use borrow.Author.Tests.{lt-ltb}
+
+-- ---- what is kept of the answers
+
+all-filter : (p : ℕ → Bool) (q : Reply → Bool) (rs : List Reply) → list_all p (map (λ r. r.next) rs) ≡ true → list_all p (map (λ r. r.next) (filter q rs)) ≡ true
+all-filter p q [] h = refl
+all-filter p q (r ∷ rs) h = by_test (q r) (all-filter p q rs (and_right (p r.next) _ h)) where
+  by_test : (b : Bool) → list_all p (map (λ r. r.next) (filter q rs)) ≡ true → list_all p (map (λ r. r.next) (cond b (r ∷ filter q rs) (filter q rs))) ≡ true
+  by_test true k = rw (and_left (p r.next) _ h) k
+  by_test false k = k
+
+after-filter : (p : Point) (q : Reply → Bool) (rs : List Reply) → list_all (λ s. precedes p s.at) rs ≡ true → list_all (λ s. precedes p s.at) (filter q rs) ≡ true
+after-filter p q [] h = refl
+after-filter p q (r ∷ rs) h = by_test (q r) (after-filter p q rs (and_right (precedes p r.at) _ h)) where
+  by_test : (b : Bool) → list_all (λ s. precedes p s.at) (filter q rs) ≡ true → list_all (λ s. precedes p s.at) (cond b (r ∷ filter q rs) (filter q rs)) ≡ true
+  by_test true k = rw (and_left (precedes p r.at) _ h) k
+  by_test false k = k
+
+rising-filter : (q : Reply → Bool) (rs : List Reply) → is_rising rs ≡ true → is_rising (filter q rs) ≡ true
+rising-filter q [] h = refl
+rising-filter q (r ∷ rs) h = by_test (q r) (rising-filter q rs (and_right (list_all (λ s. precedes r.at s.at) rs) _ h)) where
+  by_test : (b : Bool) → is_rising (filter q rs) ≡ true → is_rising (cond b (r ∷ filter q rs) (filter q rs)) ≡ true
+  by_test true k = rw (after-filter r.at q rs (and_left (list_all (λ s. precedes r.at s.at) rs) _ h)) k
+  by_test false k = k
+
+found_passes : (p q : ℕ → Bool) (js : List ℕ) (j : ℕ) → list_all p js ≡ true → find q js ≡ Some j → p j ≡ true
+found_passes p q [] j h e = cc
+found_passes p q (k ∷ ks) j h e = by_test (q k) e (found_passes p q ks j (and_right (p k) _ h)) where
+  by_test : (b : Bool) → cond b (Some k) (find q ks) ≡ Some j → (find q ks ≡ Some j → p j ≡ true) → p j ≡ true
+  by_test true e next = let same : k ≡ j = cc in subst (λ (i : ℕ). p i ≡ true) same (and_left (p k) _ h)
+  by_test false e next = next e
+
+all-rest : (p : ℕ → Bool) (o : Option ℕ) → ((j : ℕ) → o ≡ Some j → p j ≡ true) → list_all p (rest_nodes (rest_of o)) ≡ true
+all-rest p None h = refl
+all-rest p (Some j) h = rw (h j refl) refl
+
+all-next : (rs : List Reply) (k : ℕ) → All (λ r. r.next < k) rs → list_all (λ j. nat_lt j k) (map (λ r. r.next) rs) ≡ true
+all-next [] k h = refl
+all-next (r ∷ rs) k h = rw (lt-ltb r.next k (h 0 r (omega arith))) (all-next rs k (λ i d l. h (suc i) d (omega arith)))
+
+not_winning : (o : Option ℕ) → is_winning (rest_of o) ≡ false
+not_winning None = refl
+not_winning (Some j) = refl
+
+-- the node that answers rising replies by nodes below k is one of a table, as node k
+pub IsNode-answering : (attack : Point) (rs : List Reply) (k : ℕ) → is_rising rs ≡ true → All (λ r. r.next < k) rs → IsNode (answering_node attack rs) k
+IsNode-answering attack rs k rising below =
+    let all = all-next rs k below in
+    record {
+      below =
+          list_all-append (λ j. nat_lt j k) (map (λ r. r.next) (answers_beside (commonest_next rs) rs)) (rest_nodes (rest_of (commonest_next rs)))
+          ∙ rw (all-filter (λ j. nat_lt j k) (λ r. not (option_eq nat_eq (Some r.next) (commonest_next rs))) rs all)
+          (all-rest (λ j. nat_lt j k) (commonest_next rs) (λ j e. found_passes (λ j. nat_lt j k) _ (map (λ r. r.next) rs) j all e));
+      rising = rising-filter (λ r. not (option_eq nat_eq (Some r.next) (commonest_next rs))) rs rising;
+      winning = λ e. cc (e, not_winning (commonest_next rs));
+    }
+
+pub IsNode-winning : (attack : Point) (k : ℕ) → IsNode (winning_node attack) k
+IsNode-winning attack k = record { below = refl; rising = refl; winning = λ e. refl }
+
+-- ---- the answer to each reply
+
+precedes-other : (p q : Point) → precedes p q ≡ true → is_same_point p q ≡ false
+precedes-other p q h = apart p.x p.y q.x q.y h where
+  apart : (a b x y : ℕ) → (nat_lt b y || (b == y && nat_lt a x)) ≡ true → (a == x && b == y) ≡ false
+  apart a b x y h = grind (arith, nat_tests)
+
+precedes-other_way : (p q : Point) → precedes p q ≡ true → is_same_point q p ≡ false
+precedes-other_way p q h = apart p.x p.y q.x q.y h where
+  apart : (a b x y : ℕ) → (nat_lt b y || (b == y && nat_lt a x)) ≡ true → (x == a && y == b) ≡ false
+  apart a b x y h = grind (arith, nat_tests)
+
+same_point-itself : (p : Point) → is_same_point p p ≡ true
+same_point-itself p = rw ((Decides-eqb p.x p.x).1 refl, (Decides-eqb p.y p.y).1 refl) refl
+
+listed-later : (q : Reply → Bool) (p : Point) (rs : List Reply) → list_all (λ s. precedes p s.at) rs ≡ true → listed (filter q rs) p ≡ None
+listed-later q p [] h = refl
+listed-later q p (r ∷ rs) h = by_test (q r) (listed-later q p rs (and_right (precedes p r.at) _ h)) where
+  by_test : (b : Bool) → listed (filter q rs) p ≡ None → listed (cond b (r ∷ filter q rs) (filter q rs)) p ≡ None
+  by_test true k = ap (λ (b : Bool). option_map (λ r. r.next) (cond b (Some r) (find (λ s. is_same_point s.at p) (filter q rs)))) (precedes-other_way p r.at (and_left (precedes p r.at) _ h)) ∙ k
+  by_test false k = k
+
+-- the first of rising replies, and those after it
+listed-first : (q : Reply → Bool) (r : Reply) (rs : List Reply) → list_all (λ s. precedes r.at s.at) rs ≡ true → listed (filter q (r ∷ rs)) r.at ≡ cond (q r) (Some r.next) None
+listed-first q r rs h = by_test (q r) where
+  by_test : (b : Bool) → listed (cond b (r ∷ filter q rs) (filter q rs)) r.at ≡ cond b (Some r.next) None
+  by_test true = ap (λ (b : Bool). option_map (λ r. r.next) (cond b (Some r) (find (λ s. is_same_point s.at r.at) (filter q rs)))) (same_point-itself r.at)
+  by_test false = listed-later q r.at rs h
+
+listed-skips : (q : Reply → Bool) (r : Reply) (rs : List Reply) (p : Point) → precedes r.at p ≡ true → listed (filter q (r ∷ rs)) p ≡ listed (filter q rs) p
+listed-skips q r rs p h = by_test (q r) where
+  by_test : (b : Bool) → listed (cond b (r ∷ filter q rs) (filter q rs)) p ≡ listed (filter q rs) p
+  by_test true = ap (λ (b : Bool). option_map (λ r. r.next) (cond b (Some r) (find (λ s. is_same_point s.at p) (filter q rs)))) (precedes-other r.at p h)
+  by_test false = refl
+
+-- each reply that is kept is listed with its node, and no other is
+Kept : (Reply → Bool) → List Reply → Reply → Type 0
+Kept q rs r = listed (filter q rs) r.at ≡ cond (q r) (Some r.next) None
+
+kept_more : (q : Reply → Bool) (r : Reply) (rs ss : List Reply) → list_all (λ s. precedes r.at s.at) ss ≡ true → AllByRecursion (Kept q rs) ss → AllByRecursion (Kept q (r ∷ rs)) ss
+unfolding Kept
+kept_more q r rs [] h k = tt
+kept_more q r rs (s ∷ ss) h k =
+    (listed-skips q r rs s.at (and_left (precedes r.at s.at) _ h) ∙ k.0, kept_more q r rs ss (and_right (precedes r.at s.at) _ h) k.1)
+
+kept_all : (q : Reply → Bool) (rs : List Reply) → is_rising rs ≡ true → AllByRecursion (Kept q rs) rs
+unfolding Kept
+kept_all q [] h = tt
+kept_all q (r ∷ rs) h =
+    let after : list_all (λ s. precedes r.at s.at) rs ≡ true = and_left _ (is_rising rs) h in
+    (listed-first q r rs after, kept_more q r rs rs after (kept_all q rs (and_right (list_all (λ s. precedes r.at s.at) rs) _ h)))
+
+rest_node-of : (o : Option ℕ) → rest_node (rest_of o) ≡ o
+rest_node-of None = refl
+rest_node-of (Some j) = refl
+
+equal_option : (j : ℕ) (o : Option ℕ) → option_eq nat_eq (Some j) o ≡ true → o ≡ Some j
+equal_option j None h = cc
+equal_option j (Some k) h = ap Some (sym ((Decides-eqb j k).0 h))
+
+answer_by : (o : Option ℕ) (j : ℕ) (b : Bool) → option_eq nat_eq (Some j) o ≡ b → option_or (cond (not b) (Some j) None) o ≡ Some j
+answer_by o j true h = equal_option j o h
+answer_by o j false h = refl
+
+-- the answers to the replies, as given
+abbrev pub AnsweredAsGiven : Answers → List Reply → Type 0
+AnsweredAsGiven a rs = AllByRecursion (λ r. answer a r.at ≡ Some r.next) rs
+
+as_given : (a : Answers) (o : Option ℕ) (rs ss : List Reply) → a.replies ≡ answers_beside o rs → rest_node a.rest ≡ o → AllByRecursion (Kept (λ r. not (option_eq nat_eq (Some r.next) o)) rs) ss → AnsweredAsGiven a ss
+unfolding Kept
+as_given a o rs [] e f h = tt
+as_given a o rs (s ∷ ss) e f h =
+    (ap (λ (xs : List Reply). option_or (listed xs s.at) (rest_node a.rest)) e
+    ∙ ap (λ (p : Option ℕ). option_or p (rest_node a.rest)) h.0
+    ∙ ap (λ (p : Option ℕ). option_or (cond (not (option_eq nat_eq (Some s.next) o)) (Some s.next) None) p) f
+    ∙ answer_by o s.next (option_eq nat_eq (Some s.next) o) refl,
+    as_given a o rs ss e f h.1)
+
+pub answering-as_given : (attack : Point) (rs : List Reply) → is_rising rs ≡ true → AnsweredAsGiven (answers_of (answering_node attack rs)) rs
+answering-as_given attack rs h =
+    as_given (answers_of (answering_node attack rs)) (commonest_next rs) rs rs refl (rest_node-of (commonest_next rs))
+    (kept_all (λ r. not (option_eq nat_eq (Some r.next) (commonest_next rs))) rs h)
+
+-- in a table that has the node
+pub answers-at : (t : List Node) (i : ℕ) (attack : Point) (rs : List Reply) → slice_get t i ≡ Some (answering_node attack rs) → is_rising rs ≡ true → All (λ r. answer_at t i r.at ≡ Some r.next) rs
+answers-at t i attack rs at h =
+    All-from_recursion (λ r. answer_at t i r.at ≡ Some r.next) rs (at_node rs (answering-as_given attack rs h)) where
+  at_node : (ss : List Reply) → AnsweredAsGiven (answers_of (answering_node attack rs)) ss → AllByRecursion (λ r. answer_at t i r.at ≡ Some r.next) ss
+  at_node [] k = tt
+  at_node (s ∷ ss) k = (rw at k.0, at_node ss k.1)
+
+-- ---- the tree that the node stands for
+
+replies-branches : (t : List Node) (rs : List Reply) (bs : Branches) → AnswersBranches t rs bs → map (λ r. r.at) rs ≡ replies_of bs
+replies-branches t [] NoBranch h = refl
+replies-branches t [] (Branch q s bs) h = absurd h
+replies-branches t (r ∷ rs) NoBranch h = absurd h
+replies-branches t (r ∷ rs) (Branch q s bs) h = rw (h.0, replies-branches t rs bs h.2) refl
+
+answers_to-given : (a : Answers) (rs : List Reply) → AnsweredAsGiven a rs → answers_to a (map (λ r. r.at) rs) ≡ map (λ r. r.next) rs
+answers_to-given a [] h = refl
+answers_to-given a (r ∷ rs) h = rw (h.0, answers_to-given a rs h.1) refl
+
+others-given : (a : Answers) (o : Option ℕ) (rs : List Reply) → AnsweredAsGiven a rs → map (λ r. r.at) (answers_beside o rs) ≡ filter (λ q. not (option_eq nat_eq (answer a q) o)) (map (λ r. r.at) rs)
+others-given a o [] h = refl
+others-given a o (r ∷ rs) h =
+    at_kept (not (option_eq nat_eq (Some r.next) o)) (others-given a o rs h.1)
+    ∙ ap (λ (p : Option ℕ). cond (not (option_eq nat_eq p o)) (r.at ∷ filter (λ q. not (option_eq nat_eq (answer a q) o)) (map (λ r. r.at) rs)) (filter (λ q. not (option_eq nat_eq (answer a q) o)) (map (λ r. r.at) rs))) (sym h.0)
+    where
+      at_kept : (b : Bool) → map (λ r. r.at) (answers_beside o rs) ≡ filter (λ q. not (option_eq nat_eq (answer a q) o)) (map (λ r. r.at) rs) → map (λ r. r.at) (cond b (r ∷ answers_beside o rs) (answers_beside o rs)) ≡ cond b (r.at ∷ filter (λ q. not (option_eq nat_eq (answer a q) o)) (map (λ r. r.at) rs)) (filter (λ q. not (option_eq nat_eq (answer a q) o)) (map (λ r. r.at) rs))
+      at_kept true k = ap (λ (ps : List Point). r.at ∷ ps) k
+      at_kept false k = k
+
+answers-briefly : (attack : Point) (rs : List Reply) → AnsweredAsGiven (answers_of (answering_node attack rs)) rs → AnswersBriefly (answers_of (answering_node attack rs)) (map (λ r. r.at) rs)
+answers-briefly attack [] h = (refl, refl)
+answers-briefly attack (r ∷ rs) h =
+    let a : Answers = answers_of (answering_node attack (r ∷ rs)) in
+    let o : Option ℕ = commonest_next (r ∷ rs) in
+    record {
+      rest_is_commonest = rest_node-of o ∙ ap commonest (sym (answers_to-given a (r ∷ rs) h));
+      others_are_listed = others-given a o (r ∷ rs) h ∙ ap (λ (p : Option ℕ). filter (λ q. not (option_eq nat_eq (answer a q) p)) (map (λ r. r.at) (r ∷ rs))) (sym (rest_node-of o));
+    }
+
+stands-all : (t u : List Node) (a : Answers) (rs : List Reply) (bs : Branches) → ((j : ℕ) (s : Tree) → StandsFor t j s → StandsFor u j s) → AnsweredAsGiven a rs → AnswersBranches t rs bs → StandsForAll u a bs
+unfolding StandsForAll
+stands-all t u a [] NoBranch keep g h = tt
+stands-all t u a [] (Branch q s bs) keep g h = absurd h
+stands-all t u a (r ∷ rs) NoBranch keep g h = absurd h
+stands-all t u a (r ∷ rs) (Branch q s bs) keep g h =
+    let given : answer a q ≡ Some r.next = subst (λ (p : Point). answer a p ≡ Some r.next) h.0 g.0 in
+    (subst (λ (o : Option ℕ). Answered o (λ j. StandsFor u j s)) (sym given) (keep r.next s h.1), stands-all t u a rs bs keep g.1 h.2)
+
+-- where each given node stands for the tree of a branch, the node put in stands for the tree with this attack and these branches
+pub stands-answering : (old new : List Node) (i : ℕ) (attack : Point) (rs : List Reply) → is_rising rs ≡ true → PutsIn old (answering_node attack rs) new → slice_get new i ≡ Some (answering_node attack rs) → (bs : Branches) → AnswersBranches old rs bs → StandsFor new i (Fork attack bs)
+unfolding StandsFor
+stands-answering old new i attack rs h put at bs given =
+    let given_as : AnsweredAsGiven (answers_of (answering_node attack rs)) rs = answering-as_given attack rs h in
+    let P : Node → Type 0 = λ n. (n.attack ≡ attack) × AnswersBriefly (answers_of n) (replies_of bs) × StandsForAll new (answers_of n) bs in
+    subst (λ (o : Option Node). AtNode o P) (sym at)
+    (refl,
+    subst (AnswersBriefly (answers_of (answering_node attack rs))) (replies-branches old rs bs given) (answers-briefly attack rs given_as),
+    stands-all old new (answers_of (answering_node attack rs)) rs bs (λ j s k. stands-put_in old (answering_node attack rs) new put j s k) given_as given)
+
+pub stands-winning : (t : List Node) (i : ℕ) (attack : Point) → slice_get t i ≡ Some (winning_node attack) → StandsFor t i (Leaf attack)
+unfolding StandsFor
+stands-winning t i attack at = subst (λ (o : Option Node). AtNode o (λ n. (n.attack ≡ attack) × (is_winning n.rest ≡ true))) (sym at) (refl, refl)
+
+-- ---- what a call answers
+
+IfOk-both : {T E : Type 0} (r : Result T E) (P Q : T → Type 0) (W : Type 0) → ((x : T) → P x → W → Q x) → IfOk r P → OnOk r W → IfOk r Q
+IfOk-both (Ok x) P Q W f h k = f x h k
+IfOk-both (Err e) P Q W f h k = h
+
+module _ {E : Type 0} (old new : List Node) (r : Result ℕ E) (attack : Point) where
+  pub answered-stands : (rs : List Reply) (n : Node) → n ≡ answering_node attack rs → is_rising rs ≡ true → IfOk r (λ i. slice_get new i ≡ Some n) → OnOk r (PutsIn old n new) → IfOk r (λ i. (bs : Branches) → AnswersBranches old rs bs → StandsFor new i (Fork attack bs))
+  answered-stands rs n e rising =
+      IfOk-both r (λ i. slice_get new i ≡ Some n) (λ i. (bs : Branches) → AnswersBranches old rs bs → StandsFor new i (Fork attack bs)) (PutsIn old n new)
+      (λ i at put. stands-answering old new i attack rs rising (subst (λ (m : Node). PutsIn old m new) e put) (at ∙ ap Some e))
+
+  pub answered-answers : (rs : List Reply) (n : Node) → n ≡ answering_node attack rs → is_rising rs ≡ true → IfOk r (λ i. slice_get new i ≡ Some n) → IfOk r (λ i. All (λ r. answer_at new i r.at ≡ Some r.next) rs)
+  answered-answers rs n e rising =
+      IfOk-weaker r (λ i. slice_get new i ≡ Some n) (λ i. All (λ r. answer_at new i r.at ≡ Some r.next) rs)
+      (λ i at. answers-at new i attack rs (at ∙ ap Some e) rising)
+
+  pub answered-winning : (rs : List Reply) → rs ≡ [] → IfOk r (λ i. slice_get new i ≡ Some (record { attack = attack; replies = rs; rest = Wins })) → IfOk r (λ i. StandsFor new i (Leaf attack))
+  answered-winning rs e =
+      IfOk-weaker r (λ i. slice_get new i ≡ Some (record { attack = attack; replies = rs; rest = Wins })) (λ i. StandsFor new i (Leaf attack))
+      (λ i at. stands-winning new i attack (at ∙ λ k. Some (record { attack = attack; replies = e k; rest = Wins })))

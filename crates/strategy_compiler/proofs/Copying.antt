@@ -1,0 +1,291 @@
+-- A table that holds nodes of another under other numbers, no two under one: its copies stand for the same trees, are
+-- completed in the same order, reach the same nodes, and are different where the nodes are.
+use Rattle.std.proofs.Common.{◌≡◌, ℕ, zero, suc, ◌+◌, ◌<◌, ◌≤◌, Bool, true, false, cond, not, ◌&&◌, ◌||◌, ◌==◌, List, [], ◌∷◌, ◌++◌, map, filter, length, refl, sym, ap, subst, ◌∙◌, arith}
+use Rattle.std.specs.Prelude.{Option, Some, None, nat_le, nat_eq, slice_get, fold, Contains}
+use Rattle.std.specs.List.{list_all, list_any, find, filter_map, cons_option, count_by, sum_by}
+use Rattle.std.specs.Option.{option_map, option_map_or, option_or, option_eq}
+use Rattle.std.proofs.lemmas.Bool.Decides.{Decides-eqb}
+use Rattle.std.proofs.lemmas.List.{map-append}
+use Rattle.std.proofs.lemmas.List.Folds.{list_all-append}
+use Rattle.std.proofs.lemmas.List.Sums.{sum_by-cons}
+use Rattle.game_rules.specs.declared.Point.{Point}
+use Rattle.game_rules.proofs.Boards.{and_left, and_right}
+use Rattle.strategy_graph.specs.declared.Node.{Node}
+use Rattle.strategy_graph.specs.declared.Reply.{Reply}
+use Rattle.strategy_graph.specs.declared.Rest.{Rest}
+use Rattle.strategy_graph.specs.declared.Rest.TheVariants.{Wins, To, Nothing}
+use Rattle.strategy_graph.specs.Tables.{Answers, answers_of, answer, named, rest_node, rest_nodes, is_winning}
+use Rattle.strategy_graph.specs.Acceptance.{Answered}
+use Rattle.strategy_graph.specs.Leads.{AtNode}
+use Rattle.strategy_graph.proofs.Answering.{answer-named}
+use Rattle.strategy_graph.proofs.Copies.{renamed, renamed_reply, renamed_rest, renamed_answers, Copies, answer-renamed, is_winning-renamed, named-renamed}
+use Rattle.strategy_compiler.specs.Trees.{Tree, Branches, Leaf, Fork, NoBranch, Branch, StandsFor, StandsForAll, AnswersBriefly, IsBrief, replies_of, answers_to, commonest, times}
+use Rattle.strategy_compiler.specs.Walks.{Reaches, Itself, Through, visits, visits_at, is_among, completed_within}
+use Rattle.strategy_compiler.proofs.Places.{points-renamed}
+
+some_equal : {X : Type 0} (x y : X) → Some x ≡ Some y → x ≡ y
+some_equal x y e = cc
+
+cons-first : {X : Type 0} (x y : X) (xs ys : List X) → x ∷ xs ≡ y ∷ ys → x ≡ y
+cons-first x y xs ys e = cc
+
+cons-others : {X : Type 0} (x y : X) (xs ys : List X) → x ∷ xs ≡ y ∷ ys → xs ≡ ys
+cons-others x y xs ys e = cc
+
+-- no number that passes has the number of another
+pub record IsOneToOne (f : ℕ → ℕ) (passes : ℕ → Bool) : Type 0 where
+  pub apart : (j i : ℕ) → passes i ≡ true → (f j == f i) ≡ (j == i)
+
+module _ (f : ℕ → ℕ) (passes : ℕ → Bool) (one : IsOneToOne f passes) where
+  -- ---- numbers among others, and the commonest
+
+  among-map : (i : ℕ) (js : List ℕ) → passes i ≡ true → is_among (f i) (map f js) ≡ is_among i js
+  among-map i [] p = refl
+  among-map i (j ∷ js) p = λ k. one.apart j i p k || among-map i js p k
+
+  times-map : (i : ℕ) (js : List ℕ) → passes i ≡ true → times (f i) (map f js) ≡ times i js
+  times-map i [] p = refl
+  times-map i (j ∷ js) p =
+      sum_by-cons (λ k. cond (k == f i) 1 0) (f j) (map f js)
+      ∙ (λ k. cond (one.apart j i p k) 1 0 + times-map i js p k)
+      ∙ sym (sum_by-cons (λ k. cond (k == i) 1 0) j js)
+
+  -- whether j is as common as any of these
+  tops : ℕ → List ℕ → List ℕ → Bool
+  tops j js ks = list_all (λ k. nat_le (times k js) (times j js)) ks
+
+  tops-map : (j : ℕ) (js ks : List ℕ) → passes j ≡ true → list_all passes ks ≡ true → tops (f j) (map f js) (map f ks) ≡ tops j js ks
+  unfolding tops
+  tops-map j js [] p h = refl
+  tops-map j js (k ∷ ks) p h =
+      λ i. nat_le (times-map k js (and_left (passes k) _ h) i) (times-map j js p i) && tops-map j js ks p (and_right (passes k) _ h) i
+
+  find-map : (js ks : List ℕ) → list_all passes js ≡ true → list_all passes ks ≡ true → find (λ j. tops j (map f js) (map f js)) (map f ks) ≡ option_map f (find (λ j. tops j js js) ks)
+  find-map js [] h l = refl
+  find-map js (k ∷ ks) h l =
+      ap (λ (b : Bool). cond b (Some (f k)) (find (λ j. tops j (map f js) (map f js)) (map f ks))) (tops-map k js js (and_left (passes k) _ l) h)
+      ∙ by_test (tops k js js) (find-map js ks h (and_right (passes k) _ l)) where
+    by_test : (b : Bool) → find (λ j. tops j (map f js) (map f js)) (map f ks) ≡ option_map f (find (λ j. tops j js js) ks) → cond b (Some (f k)) (find (λ j. tops j (map f js) (map f js)) (map f ks)) ≡ option_map f (cond b (Some k) (find (λ j. tops j js js) ks))
+    by_test true e = refl
+    by_test false e = e
+
+  pub commonest-map : (js : List ℕ) → list_all passes js ≡ true → commonest (map f js) ≡ option_map f (commonest js)
+  unfolding tops
+  commonest-map js h = find-map js js h h
+
+  -- ---- answers
+
+  answers_to-renamed : (a : Answers) (qs : List Point) → answers_to (renamed_answers f a) qs ≡ map f (answers_to a qs)
+  answers_to-renamed a [] = refl
+  answers_to-renamed a (q ∷ qs) =
+      ap (λ (o : Option ℕ). cons_option o (answers_to (renamed_answers f a) qs)) (answer-renamed f a q)
+      ∙ ap (λ (js : List ℕ). cons_option (option_map f (answer a q)) js) (answers_to-renamed a qs)
+      ∙ cons_map (answer a q) (answers_to a qs) where
+    cons_map : (o : Option ℕ) (js : List ℕ) → cons_option (option_map f o) (map f js) ≡ map f (cons_option o js)
+    cons_map None js = refl
+    cons_map (Some j) js = refl
+
+  rest_node-renamed : (r : Rest) → rest_node (renamed_rest f r) ≡ option_map f (rest_node r)
+  rest_node-renamed Wins = refl
+  rest_node-renamed (To j) = refl
+  rest_node-renamed Nothing = refl
+
+  module _ (a : Answers) (all : list_all passes (named a) ≡ true) where
+    answers_to-pass : (qs : List Point) → list_all passes (answers_to a qs) ≡ true
+    answers_to-pass [] = refl
+    answers_to-pass (q ∷ qs) = by_answer (answer a q) (λ j e. answer-named passes a q j all e) (answers_to-pass qs) where
+      by_answer : (o : Option ℕ) → ((j : ℕ) → o ≡ Some j → passes j ≡ true) → list_all passes (answers_to a qs) ≡ true → list_all passes (cons_option o (answers_to a qs)) ≡ true
+      by_answer None g h = h
+      by_answer (Some j) g h = rw (g j refl) h
+
+    rest-passes : (j : ℕ) → rest_node a.rest ≡ Some j → passes j ≡ true
+    rest-passes j e = by_rest a.rest (and_right (list_all passes (map (λ (r : Reply). r.next) a.replies)) _ (sym (list_all-append passes (map (λ (r : Reply). r.next) a.replies) (rest_nodes a.rest)) ∙ all)) e where
+      by_rest : (r : Rest) → list_all passes (rest_nodes r) ≡ true → rest_node r ≡ Some j → passes j ≡ true
+      by_rest Wins h e = cc
+      by_rest (To k) h e = let same : k ≡ j = cc in subst (λ (i : ℕ). passes i ≡ true) same (and_left (passes k) true h)
+      by_rest Nothing h e = cc
+
+    -- whether an answer is that of the rest
+    same-renamed : (o r : Option ℕ) → ((j : ℕ) → r ≡ Some j → passes j ≡ true) → option_eq nat_eq (option_map f o) (option_map f r) ≡ option_eq nat_eq o r
+    same-renamed None None g = refl
+    same-renamed None (Some j) g = refl
+    same-renamed (Some i) None g = refl
+    same-renamed (Some i) (Some j) g = one.apart i j (g j refl)
+
+    beside-renamed : (q : Point) → not (option_eq nat_eq (answer (renamed_answers f a) q) (rest_node (renamed_rest f a.rest))) ≡ not (option_eq nat_eq (answer a q) (rest_node a.rest))
+    beside-renamed q =
+        ap (λ (o : Option ℕ). not (option_eq nat_eq o (rest_node (renamed_rest f a.rest)))) (answer-renamed f a q)
+        ∙ ap (λ (o : Option ℕ). not (option_eq nat_eq (option_map f (answer a q)) o)) (rest_node-renamed a.rest)
+        ∙ ap not (same-renamed (answer a q) (rest_node a.rest) rest-passes)
+
+    pub brief-renamed : (qs : List Point) → AnswersBriefly a qs → AnswersBriefly (renamed_answers f a) qs
+    brief-renamed [] h = (ap (renamed_rest f) h.0, ap (map (renamed_reply f)) h.1)
+    brief-renamed (q ∷ qs) h = record {
+      rest_is_commonest =
+          rest_node-renamed a.rest ∙ ap (option_map f) h.rest_is_commonest
+          ∙ sym (commonest-map (answers_to a (q ∷ qs)) (answers_to-pass (q ∷ qs)))
+          ∙ ap commonest (sym (answers_to-renamed a (q ∷ qs)));
+      others_are_listed =
+          points-renamed f a.replies ∙ h.others_are_listed
+          ∙ ap (λ (p : Point → Bool). filter p (q ∷ qs)) (λ i r. sym (beside-renamed r) i);
+    }
+
+  -- ---- nodes
+
+  reply-renamed : (r s : Reply) → passes r.next ≡ true → passes s.next ≡ true → renamed_reply f r ≡ renamed_reply f s → r ≡ s
+  reply-renamed r s p q e =
+      let at : r.at ≡ s.at = ap (λ (x : Reply). x.at) e in
+      let mapped : f r.next ≡ f s.next = ap (λ (x : Reply). x.next) e in
+      let next : r.next ≡ s.next = one-to-one r.next s.next q mapped in
+      λ i. record { at = at i; next = next i } where
+    one-to-one : (j i : ℕ) → passes i ≡ true → f j ≡ f i → j ≡ i
+    one-to-one j i p e = (Decides-eqb j i).0 (sym (one.apart j i p) ∙ (Decides-eqb (f j) (f i)).1 e)
+
+  replies-renamed : (rs ss : List Reply) → list_all passes (map (λ r. r.next) rs) ≡ true → list_all passes (map (λ r. r.next) ss) ≡ true → map (renamed_reply f) rs ≡ map (renamed_reply f) ss → rs ≡ ss
+  replies-renamed [] [] h k e = refl
+  replies-renamed [] (s ∷ ss) h k e = cc
+  replies-renamed (r ∷ rs) [] h k e = cc
+  replies-renamed (r ∷ rs) (s ∷ ss) h k e =
+      let first : renamed_reply f r ≡ renamed_reply f s = cons-first _ _ _ _ e in
+      let others : map (renamed_reply f) rs ≡ map (renamed_reply f) ss = cons-others _ _ _ _ e in
+      let here : r ≡ s = reply-renamed r s (and_left (passes r.next) _ h) (and_left (passes s.next) _ k) first in
+      let later : rs ≡ ss = replies-renamed rs ss (and_right (passes r.next) _ h) (and_right (passes s.next) _ k) others in
+      λ i. here i ∷ later i
+
+  rests-renamed : (r s : Rest) → list_all passes (rest_nodes r) ≡ true → list_all passes (rest_nodes s) ≡ true → renamed_rest f r ≡ renamed_rest f s → r ≡ s
+  rests-renamed Wins Wins h k e = refl
+  rests-renamed Wins (To j) h k e = cc
+  rests-renamed Wins Nothing h k e = cc
+  rests-renamed (To i) Wins h k e = cc
+  rests-renamed (To i) (To j) h k e =
+      let mapped : f i ≡ f j = cc in
+      ap To ((Decides-eqb i j).0 (sym (one.apart i j (and_left (passes j) true k)) ∙ (Decides-eqb (f i) (f j)).1 mapped))
+  rests-renamed (To i) Nothing h k e = cc
+  rests-renamed Nothing Wins h k e = cc
+  rests-renamed Nothing (To j) h k e = cc
+  rests-renamed Nothing Nothing h k e = refl
+
+  -- nodes that are different stay so
+  pub nodes-renamed : (n m : Node) → list_all passes (named (answers_of n)) ≡ true → list_all passes (named (answers_of m)) ≡ true → renamed f n ≡ renamed f m → n ≡ m
+  nodes-renamed n m h k e =
+      let parts = sym (list_all-append passes (map (λ (r : Reply). r.next) n.replies) (rest_nodes n.rest)) ∙ h in
+      let parts' = sym (list_all-append passes (map (λ (r : Reply). r.next) m.replies) (rest_nodes m.rest)) ∙ k in
+      let attack : n.attack ≡ m.attack = ap (λ (x : Node). x.attack) e in
+      let replies : n.replies ≡ m.replies =
+      replies-renamed n.replies m.replies (and_left _ (list_all passes (rest_nodes n.rest)) parts) (and_left _ (list_all passes (rest_nodes m.rest)) parts') (ap (λ (x : Node). x.replies) e) in
+      let rest : n.rest ≡ m.rest =
+      rests-renamed n.rest m.rest (and_right (list_all passes (map (λ (r : Reply). r.next) n.replies)) _ parts) (and_right (list_all passes (map (λ (r : Reply). r.next) m.replies)) _ parts') (ap (λ (x : Node). x.rest) e) in
+      λ i. record { attack = attack i; replies = replies i; rest = rest i }
+
+  -- ---- tables
+
+  rest_nodes-renamed : (r : Rest) → rest_nodes (renamed_rest f r) ≡ map f (rest_nodes r)
+  rest_nodes-renamed Wins = refl
+  rest_nodes-renamed (To j) = refl
+  rest_nodes-renamed Nothing = refl
+
+  nexts-renamed : (rs : List Reply) → map (λ r. r.next) (map (renamed_reply f) rs) ≡ map f (map (λ r. r.next) rs)
+  nexts-renamed [] = refl
+  nexts-renamed (r ∷ rs) = ap (λ (js : List ℕ). f r.next ∷ js) (nexts-renamed rs)
+
+  visits-renamed : (a : Answers) → visits (renamed_answers f a) ≡ map f (visits a)
+  visits-renamed a =
+      (λ i. rest_nodes-renamed a.rest i ++ nexts-renamed a.replies i)
+      ∙ sym (map-append f (rest_nodes a.rest) (map (λ (r : Reply). r.next) a.replies))
+
+  and-swap : (a b : Bool) → (a && b) ≡ true → (b && a) ≡ true
+  and-swap true true h = refl
+  and-swap true false h = h
+  and-swap false b h = cc
+
+  visits-pass : (a : Answers) → list_all passes (named a) ≡ true → list_all passes (visits a) ≡ true
+  visits-pass a h =
+      list_all-append passes (rest_nodes a.rest) (map (λ (r : Reply). r.next) a.replies)
+      ∙ and-swap (list_all passes (map (λ (r : Reply). r.next) a.replies)) (list_all passes (rest_nodes a.rest))
+      (sym (list_all-append passes (map (λ (r : Reply). r.next) a.replies) (rest_nodes a.rest)) ∙ h)
+
+  contains-map : (js : List ℕ) (j : ℕ) → Contains js j → Contains (map f js) (f j)
+  contains-map [] j (k , l , e) = absurd (omega arith)
+  contains-map (x ∷ xs) j (zero , l , e) = (0, omega arith, ap f e)
+  contains-map (x ∷ xs) j (suc k , l , e) = let later = contains-map xs j (k , omega arith , e) in (suc later.0, omega arith, later.2)
+
+  contained-passes : (js : List ℕ) (j : ℕ) → list_all passes js ≡ true → Contains js j → passes j ≡ true
+  contained-passes [] j h (k , l , e) = absurd (omega arith)
+  contained-passes (x ∷ xs) j h (zero , l , e) = subst (λ (k : ℕ). passes k ≡ true) e (and_left (passes x) _ h)
+  contained-passes (x ∷ xs) j h (suc k , l , e) = contained-passes xs j (and_right (passes x) _ h) (k , omega arith , e)
+
+  module _ (t u : List Node) (copies : Copies f passes t u) where
+    visits_at-copied : (i : ℕ) → passes i ≡ true → visits_at u (f i) ≡ map f (visits_at t i)
+    visits_at-copied i p =
+        let c = copies.copied i p in
+        ap (λ (o : Option Node). option_map_or (λ n. visits (answers_of n)) o []) c.2
+        ∙ visits-renamed (answers_of c.0)
+        ∙ sym (ap (λ (o : Option Node). map f (option_map_or (λ n. visits (answers_of n)) o [])) c.1)
+
+    visits_at-pass : (i : ℕ) → passes i ≡ true → list_all passes (visits_at t i) ≡ true
+    visits_at-pass i p =
+        let c = copies.copied i p in
+        ap (λ (o : Option Node). list_all passes (option_map_or (λ n. visits (answers_of n)) o [])) c.1 ∙ visits-pass (answers_of c.0) c.3
+
+    fold-copied : (g h : List ℕ → ℕ → List ℕ) → ((done : List ℕ) (j : ℕ) → passes j ≡ true → h (map f done) (f j) ≡ map f (g done j)) → (js done : List ℕ) → list_all passes js ≡ true → fold h (map f done) (map f js) ≡ map f (fold g done js)
+    fold-copied g h same [] done l = refl
+    fold-copied g h same (j ∷ js) done l =
+        ap (λ (d : List ℕ). fold h d (map f js)) (same done j (and_left (passes j) _ l))
+        ∙ fold-copied g h same js (g done j) (and_right (passes j) _ l)
+
+    -- the copies are completed in the same order
+    pub within-copied : (k : ℕ) (done : List ℕ) (i : ℕ) → passes i ≡ true → completed_within k u (map f done) (f i) ≡ map f (completed_within k t done i)
+    unfolding completed_within
+    within-copied zero done i p = refl
+    within-copied (suc k) done i p =
+        ap (λ (b : Bool). cond b (map f done) (fold (completed_within k u) (map f done) (visits_at u (f i)) ++ f i ∷ [])) (among-map i done p)
+        ∙ ap (λ (js : List ℕ). cond (is_among i done) (map f done) (fold (completed_within k u) (map f done) js ++ f i ∷ [])) (visits_at-copied i p)
+        ∙ ap (λ (ds : List ℕ). cond (is_among i done) (map f done) (ds ++ f i ∷ []))
+        (fold-copied (completed_within k t) (completed_within k u) (λ d j q. within-copied k d j q) (visits_at t i) done (visits_at-pass i p))
+        ∙ ap (λ (ds : List ℕ). cond (is_among i done) (map f done) ds) (sym (map-append f (fold (completed_within k t) done (visits_at t i)) (i ∷ [])))
+        ∙ by_test (is_among i done) where
+      by_test : (b : Bool) → cond b (map f done) (map f (fold (completed_within k t) done (visits_at t i) ++ i ∷ [])) ≡ map f (cond b done (fold (completed_within k t) done (visits_at t i) ++ i ∷ []))
+      by_test true = refl
+      by_test false = refl
+
+    -- they reach copies of what the nodes reach
+    pub reaches-copied : (i j : ℕ) → passes i ≡ true → Reaches t i j → Reaches u (f i) (f j)
+    reaches-copied _ _ p (Itself i) = Itself (f i)
+    reaches-copied _ _ p (Through i j k n at c r) =
+        let copy = copies.copied i p in
+        let same : copy.0 ≡ n = some_equal copy.0 n (sym copy.1 ∙ at) in
+        let all : list_all passes (named (answers_of n)) ≡ true = subst (λ (m : Node). list_all passes (named (answers_of m)) ≡ true) same copy.3 in
+        let there : slice_get u (f i) ≡ Some (renamed f n) = copy.2 ∙ ap (λ (m : Node). Some (renamed f m)) same in
+        Through (f i) (f j) (f k) (renamed f n) there
+        (subst (λ (js : List ℕ). Contains js (f j)) (sym (named-renamed f (answers_of n))) (contains-map (named (answers_of n)) j c))
+        (reaches-copied j k (contained-passes (named (answers_of n)) j all c) r)
+
+    at-copy : (i : ℕ) (P Q : Node → Type 0) → passes i ≡ true → ((n : Node) → list_all passes (named (answers_of n)) ≡ true → P n → Q (renamed f n)) → AtNode (slice_get t i) P → AtNode (slice_get u (f i)) Q
+    at-copy i P Q p g h =
+        let c = copies.copied i p in
+        subst (λ (o : Option Node). AtNode o Q) (sym c.2) (g c.0 c.3 (subst (λ (o : Option Node). AtNode o P) c.1 h))
+
+    answered-copied : (o : Option ℕ) (P Q : ℕ → Type 0) → ((j : ℕ) → o ≡ Some j → P j → Q (f j)) → Answered o P → Answered (option_map f o) Q
+    answered-copied None P Q g h = h
+    answered-copied (Some j) P Q g h = g j refl h
+
+    -- they stand for the same trees
+    mutual
+      unfolding StandsFor
+
+      pub stands-copied : (i : ℕ) (tree : Tree) → passes i ≡ true → StandsFor t i tree → StandsFor u (f i) tree
+      stands-copied i (Leaf q) p h =
+          at-copy i (λ n. (n.attack ≡ q) × (is_winning n.rest ≡ true)) (λ n. (n.attack ≡ q) × (is_winning n.rest ≡ true)) p
+          (λ n all k. (k.0, is_winning-renamed f n.rest ∙ k.1)) h
+      stands-copied i (Fork q bs) p h =
+          at-copy i
+          (λ n. (n.attack ≡ q) × AnswersBriefly (answers_of n) (replies_of bs) × StandsForAll t (answers_of n) bs)
+          (λ n. (n.attack ≡ q) × AnswersBriefly (answers_of n) (replies_of bs) × StandsForAll u (answers_of n) bs) p
+          (λ n all k. (k.0, brief-renamed (answers_of n) all (replies_of bs) k.1, stands_all-copied (answers_of n) bs all k.2)) h
+
+      stands_all-copied : (a : Answers) (bs : Branches) → list_all passes (named a) ≡ true → StandsForAll t a bs → StandsForAll u (renamed_answers f a) bs
+      stands_all-copied a NoBranch all h = tt
+      stands_all-copied a (Branch q s bs) all h =
+          (subst (λ (o : Option ℕ). Answered o (λ j. StandsFor u j s)) (sym (answer-renamed f a q))
+          (answered-copied (answer a q) (λ j. StandsFor t j s) (λ j. StandsFor u j s) (λ j e k. stands-copied j s (answer-named passes a q j all e) k) h.0),
+          stands_all-copied a bs all h.1)

@@ -1,0 +1,227 @@
+-- The places of numbers in an order, and nodes with these in place of the numbers.
+use Rattle.std.proofs.Common.{◌≡◌, ◌≢◌, ℕ, zero, suc, ◌+◌, ◌<◌, ◌≤◌, Bool, true, false, cond, not, ◌&&◌, ◌||◌, ◌==◌, List, [], ◌∷◌, ◌++◌, map, length, take, get_or, refl, sym, ap, subst, ◌∙◌, ◌⊎◌, inl, inr, arith, length-append, one-add}
+use Rattle.std.specs.Prelude.{Option, Some, None, nat_lt, slice_get, replicate, Contains, All}
+use Rattle.std.specs.List.{list_all}
+use Rattle.std.proofs.Math.ListN.{set, length-set}
+use Rattle.std.proofs.lemmas.List.{get_or-set_same, get_or-set_other, length-replicate}
+use Rattle.std.proofs.lemmas.Option.{slice_get_within, slice_get_read, slice_get-get_or, get_or_from_slice_get}
+use Rattle.std.proofs.lemmas.Bool.Decides.{Decides-eqb}
+use Rattle.std.proofs.lemmas.List.Folds.{list_all-append}
+use Rattle.game_rules.specs.declared.Point.{Point}
+use Rattle.game_rules.proofs.Boards.{and_left, and_right}
+use Rattle.strategy_graph.specs.declared.Node.{Node}
+use Rattle.strategy_graph.specs.declared.Reply.{Reply}
+use Rattle.strategy_graph.specs.declared.Rest.{Rest}
+use Rattle.strategy_graph.specs.declared.Rest.TheVariants.{Wins, To, Nothing}
+use Rattle.strategy_graph.specs.declared.TheConstants.{MAX_NODES}
+use Rattle.strategy_graph.specs.Tables.{Answers, answers_of, named, names_below, rest_nodes, precedes, is_rising, is_winning, NamesLower, IsNode, IsTable}
+use Rattle.strategy_graph.proofs.Copies.{renamed, renamed_reply, renamed_rest, named-renamed, is_winning-renamed}
+use Rattle.strategy_graph.proofs.Filling.{IsTable-lower}
+use Rattle.strategy_graph.proofs.Growth.{names_below-more}
+use Rattle.strategy_compiler.specs.Walks.{is_among, place_in, IsOrder, Renumbers}
+use Rattle.strategy_compiler.proofs.Walking.{among-at, at-push}
+use borrow.Author.Tests.{ltb-true, ltb-false, lt-ltb}
+
+-- ---- places
+
+-- a number of the list is at its place
+pub among-place : (order : List ℕ) (i : ℕ) → is_among i order ≡ true → slice_get order (place_in order i) ≡ Some i
+among-place [] i h = cc
+among-place (x ∷ xs) i h = by_test (x == i) refl h (among-place xs i) where
+  by_test : (b : Bool) → (x == i) ≡ b → (b || is_among i xs) ≡ true → (is_among i xs ≡ true → slice_get xs (place_in xs i) ≡ Some i) → slice_get (x ∷ xs) (cond (not b) (1 + place_in xs i) 0) ≡ Some i
+  by_test true e h next = ap Some ((Decides-eqb x i).0 e)
+  by_test false e h next = rw one-add (next h)
+
+-- a number that comes once is at that place alone
+pub place-at : (order : List ℕ) → ((k l i : ℕ) → slice_get order k ≡ Some i → slice_get order l ≡ Some i → k ≡ l) → (k i : ℕ) → slice_get order k ≡ Some i → place_in order i ≡ k
+place-at order once k i e = once (place_in order i) k i (among-place order i (among-at order k i e)) e
+
+-- what is among the first k is at a place below k
+pub among-take : (order : List ℕ) (k i : ℕ) → is_among i (take k order) ≡ true → (m : ℕ) × (m < k) × (slice_get order m ≡ Some i)
+among-take order zero i h = cc
+among-take [] (suc k) i h = cc
+among-take (x ∷ xs) (suc k) i h = by_test (x == i) refl h (among-take xs k i) where
+  by_test : (b : Bool) → (x == i) ≡ b → (b || is_among i (take k xs)) ≡ true → (is_among i (take k xs) ≡ true → (m : ℕ) × (m < k) × (slice_get xs m ≡ Some i)) → (m : ℕ) × (m < suc k) × (slice_get (x ∷ xs) m ≡ Some i)
+  by_test true e h next = (0, omega arith, ap Some ((Decides-eqb x i).0 e))
+  by_test false e h next = let later = next h in (suc later.0, omega arith, later.2)
+
+-- the places of the first p numbers, in a list of this length
+pub record PlacesUpTo (order : List ℕ) (len : ℕ) (places : List ℕ) (p : ℕ) : Type 0 where
+  pub sized : length places ≡ len
+  pub up_to : (k i : ℕ) → k < p → slice_get order k ≡ Some i → get_or places i 0 ≡ k
+
+below_more_cases : (k p : ℕ) → k < p + 1 → (k ≡ p) ⊎ (k < p)
+below_more_cases k p m = by_lt (nat_lt k p) refl where
+  by_lt : (b : Bool) → nat_lt k p ≡ b → (k ≡ p) ⊎ (k < p)
+  by_lt true e = inr (ltb-true _ _ e)
+  by_lt false e = inl (let up : p ≤ k = ltb-false _ _ e in omega arith)
+
+not_same : (k p : ℕ) → k < p → k ≡ p → ⊥
+not_same k p low e = omega arith
+
+pub places-none : (order : List ℕ) (len : ℕ) (places : List ℕ) → places ≡ replicate len 0 → PlacesUpTo order len places 0
+places-none order len places zeros = record { sized = ap length zeros ∙ length-replicate len 0; up_to = λ k i l e. absurd (omega arith) }
+
+pub places-more : (order : List ℕ) (len : ℕ) (places : List ℕ) (p : ℕ) → ((k l i : ℕ) → slice_get order k ≡ Some i → slice_get order l ≡ Some i → k ≡ l) → p < length order → get_or order p 0 < len → PlacesUpTo order len places p → PlacesUpTo order len (set places (get_or order p 0) p) (p + 1)
+places-more order len places p once l low h = record { sized = length-set places (get_or order p 0) p ∙ h.sized; up_to = λ k i m e. elim (below_more_cases k p m) [ inl same ↦ here k i same e | inr low ↦ before k i low e ] } where
+  here : (k i : ℕ) → k ≡ p → slice_get order k ≡ Some i → get_or (set places (get_or order p 0) p) i 0 ≡ k
+  here k i same e =
+      let is : get_or order p 0 ≡ i = get_or_from_slice_get order p i 0 (subst (λ (m : ℕ). slice_get order m ≡ Some i) same e) in
+      subst (λ (j : ℕ). get_or (set places (get_or order p 0) p) j 0 ≡ k) is (get_or-set_same places (get_or order p 0) p 0 (let sized = h.sized in omega (arith, sized, low)) ∙ sym same)
+  before : (k i : ℕ) → k < p → slice_get order k ≡ Some i → get_or (set places (get_or order p 0) p) i 0 ≡ k
+  before k i less e =
+      let other : i ≢ get_or order p 0 = λ (same : i ≡ get_or order p 0). not_same k p less (once k p i e (slice_get-get_or order p 0 l ∙ ap Some (sym same))) in
+      get_or-set_other places (get_or order p 0) i p 0 other ∙ h.up_to k i less e
+
+pub places-all : (order : List ℕ) (len : ℕ) (places : List ℕ) (p : ℕ) → length order ≤ p → PlacesUpTo order len places p → (k i : ℕ) → slice_get order k ≡ Some i → get_or places i 0 ≡ k
+places-all order len places p l h k i e = let inside = slice_get_within order k i e in h.up_to k i (omega arith) e
+
+-- ---- nodes with places for numbers
+
+-- it matters only what is put for the numbers that are named
+renamed_rest-agree : (f g : ℕ → ℕ) (passes : ℕ → Bool) → ((j : ℕ) → passes j ≡ true → f j ≡ g j) → (rest : Rest) → list_all passes (rest_nodes rest) ≡ true → renamed_rest f rest ≡ renamed_rest g rest
+renamed_rest-agree f g passes same Wins h = refl
+renamed_rest-agree f g passes same (To j) h = ap To (same j (and_left (passes j) true h))
+renamed_rest-agree f g passes same Nothing h = refl
+
+renamed_replies-agree : (f g : ℕ → ℕ) (passes : ℕ → Bool) → ((j : ℕ) → passes j ≡ true → f j ≡ g j) → (rs : List Reply) → list_all passes (map (λ r. r.next) rs) ≡ true → map (renamed_reply f) rs ≡ map (renamed_reply g) rs
+renamed_replies-agree f g passes same [] h = refl
+renamed_replies-agree f g passes same (r ∷ rs) h =
+    let here : f r.next ≡ g r.next = same r.next (and_left (passes r.next) _ h) in
+    let later = renamed_replies-agree f g passes same rs (and_right (passes r.next) _ h) in
+    λ i. record { at = r.at; next = here i } ∷ later i
+
+pub renamed-agree : (f g : ℕ → ℕ) (passes : ℕ → Bool) → ((j : ℕ) → passes j ≡ true → f j ≡ g j) → (n : Node) → list_all passes (named (answers_of n)) ≡ true → renamed f n ≡ renamed g n
+renamed-agree f g passes same n h =
+    let parts = sym (list_all-append passes (map (λ (r : Reply). r.next) n.replies) (rest_nodes n.rest)) ∙ h in
+    let replies = renamed_replies-agree f g passes same n.replies (and_left _ (list_all passes (rest_nodes n.rest)) parts) in
+    let rest = renamed_rest-agree f g passes same n.rest (and_right (list_all passes (map (λ (r : Reply). r.next) n.replies)) _ parts) in
+    λ i. record { attack = n.attack; replies = replies i; rest = rest i }
+
+-- the replies are as they were
+all_precede-renamed : (f : ℕ → ℕ) (p : Point) (rs : List Reply) → list_all (λ s. precedes p s.at) (map (renamed_reply f) rs) ≡ list_all (λ s. precedes p s.at) rs
+all_precede-renamed f p [] = refl
+all_precede-renamed f p (r ∷ rs) = ap (λ (b : Bool). precedes p r.at && b) (all_precede-renamed f p rs)
+
+rising-renamed : (f : ℕ → ℕ) (rs : List Reply) → is_rising (map (renamed_reply f) rs) ≡ is_rising rs
+rising-renamed f [] = refl
+rising-renamed f (r ∷ rs) = λ i. all_precede-renamed f r.at rs i && rising-renamed f rs i
+
+pub points-renamed : (f : ℕ → ℕ) (rs : List Reply) → map (λ r. r.at) (map (renamed_reply f) rs) ≡ map (λ r. r.at) rs
+points-renamed f [] = refl
+points-renamed f (r ∷ rs) = ap (λ (ps : List Point). r.at ∷ ps) (points-renamed f rs)
+
+all-mapped : (p q : ℕ → Bool) (f : ℕ → ℕ) → ((j : ℕ) → p j ≡ true → q (f j) ≡ true) → (js : List ℕ) → list_all p js ≡ true → list_all q (map f js) ≡ true
+all-mapped p q f keep [] h = refl
+all-mapped p q f keep (j ∷ js) h = rw (keep j (and_left (p j) _ h)) (all-mapped p q f keep js (and_right (p j) _ h))
+
+-- it is a node of a table, at a place above those of all that it names
+pub IsNode-renamed : (f : ℕ → ℕ) (passes : ℕ → Bool) (n : Node) (i k : ℕ) → IsNode n i → ((j : ℕ) → passes j ≡ true → f j < k) → list_all passes (named (answers_of n)) ≡ true → IsNode (renamed f n) k
+IsNode-renamed f passes n i k node low h = record {
+  below = ap (list_all (λ j. nat_lt j k)) (named-renamed f (answers_of n)) ∙ all-mapped passes (λ j. nat_lt j k) f (λ j e. lt-ltb (f j) k (low j e)) (named (answers_of n)) h;
+  rising = rising-renamed f n.replies ∙ node.rising;
+  winning = λ e. ap (map (renamed_reply f)) (node.winning (sym (is_winning-renamed f n.rest) ∙ e));
+}
+
+-- ---- the table, node by node
+
+-- each number that node i names is among the first k of the order, where node i is at place k
+pub named-among : (t : List Node) (root : ℕ) (order : List ℕ) (k i : ℕ) (n : Node) → IsOrder t root order → slice_get order k ≡ Some i → slice_get t i ≡ Some n → list_all (λ j. is_among j (take k order)) (named (answers_of n)) ≡ true
+named-among t root order k i n h e at = all_by (λ j. is_among j (take k order)) (named (answers_of n)) (λ j c. h.after_named k i j n e at c) where
+  all_by : (p : ℕ → Bool) (js : List ℕ) → ((j : ℕ) → Contains js j → p j ≡ true) → list_all p js ≡ true
+  all_by p [] f = refl
+  all_by p (j ∷ js) f = rw (f j (0, omega arith, refl)) (all_by p js (λ l c. f l (suc c.0, omega arith, c.2)))
+
+some_equal : (i j : ℕ) → Some i ≡ Some j → i ≡ j
+some_equal i j e = cc
+
+slice_get-kept : (t more : List Node) (i : ℕ) (n : Node) → slice_get t i ≡ Some n → slice_get (t ++ more) i ≡ Some n
+slice_get-kept [] more i n h = cc
+slice_get-kept (m ∷ t) more zero n h = h
+slice_get-kept (m ∷ t) more (suc i) n h = slice_get-kept t more i n h
+
+slice_get-seam : (t : List Node) (n : Node) → slice_get (t ++ n ∷ []) (length t) ≡ Some n
+slice_get-seam [] n = refl
+slice_get-seam (m ∷ t) n = slice_get-seam t n
+
+pub record RenumbersUpTo (t : List Node) (order : List ℕ) (u : List Node) (p : ℕ) : Type 0 where
+  pub count : length u ≡ p
+  pub each : (k i : ℕ) → k < p → slice_get order k ≡ Some i → (n : Node) × (slice_get t i ≡ Some n) × (slice_get u k ≡ Some (renamed (place_in order) n))
+
+pub renumbers-none : (t : List Node) (order : List ℕ) (u : List Node) → u ≡ [] → RenumbersUpTo t order u 0
+renumbers-none t order u e = record { count = ap length e; each = λ k i l at. absurd (omega arith) }
+
+module _ (t : List Node) (root : ℕ) (order : List ℕ) (table : IsTable t) (is_order : IsOrder t root order) where
+  -- the place of each of them
+  pub place-is : (k i : ℕ) → slice_get order k ≡ Some i → place_in order i ≡ k
+  place-is k i e = place-at order is_order.once k i e
+
+  module _ (k i : ℕ) (n : Node) (e : slice_get order k ≡ Some i) (at : slice_get t i ≡ Some n) where
+    all-among : list_all (λ j. is_among j (take k order)) (named (answers_of n)) ≡ true
+    all-among = named-among t root order k i n is_order e at
+
+    low-place : (j : ℕ) → is_among j (take k order) ≡ true → place_in order j < k
+    low-place j h = let m = among-take order k j h in let is = place-is m.0 j m.2 in let low = m.1 in omega (arith, is, low)
+
+    -- what takes its place is a node of a table there
+    pub renamed-node : IsNode (renamed (place_in order) n) k
+    renamed-node = IsNode-renamed (place_in order) (λ j. is_among j (take k order)) n i k (table.nodes i n at) low-place all-among
+
+    -- and it is the node with the places that are kept
+    pub renamed-places : (f : ℕ → ℕ) → ((k i : ℕ) → slice_get order k ≡ Some i → f i ≡ k) → renamed f n ≡ renamed (place_in order) n
+    renamed-places f places =
+        renamed-agree f (place_in order) (λ j. is_among j (take k order))
+        (λ j h. let m = among-take order k j h in places m.0 j m.2 ∙ sym (place-is m.0 j m.2)) n all-among
+
+  -- one node more
+  pub renumbers-more : (u : List Node) (p i : ℕ) (n m : Node) (f : ℕ → ℕ) → RenumbersUpTo t order u p → slice_get order p ≡ Some i → slice_get t i ≡ Some n → ((k i : ℕ) → slice_get order k ≡ Some i → f i ≡ k) → m ≡ renamed f n → RenumbersUpTo t order (u ++ m ∷ []) (p + 1)
+  renumbers-more u p i n m f h e at places is = record {
+    count = let longer = length-append u (m ∷ []) in let count = h.count in omega (arith, longer, count);
+    each = λ k j l d. elim (below_more_cases k p l) [ inl same ↦ here k j same d | inr low ↦ before k j low d ];
+  } where
+    before : (k j : ℕ) → k < p → slice_get order k ≡ Some j → (n : Node) × (slice_get t j ≡ Some n) × (slice_get (u ++ m ∷ []) k ≡ Some (renamed (place_in order) n))
+    before k j low d = let old = h.each k j low d in (old.0, old.1, slice_get-kept u (m ∷ []) k (renamed (place_in order) old.0) old.2)
+    here : (k j : ℕ) → k ≡ p → slice_get order k ≡ Some j → (n : Node) × (slice_get t j ≡ Some n) × (slice_get (u ++ m ∷ []) k ≡ Some (renamed (place_in order) n))
+    here k j same d =
+        let number : i ≡ j = some_equal i j (sym e ∙ ap (slice_get order) (sym same) ∙ d) in
+        (n, subst (λ (x : ℕ). slice_get t x ≡ Some n) number at,
+        ap (slice_get (u ++ m ∷ [])) (same ∙ sym h.count) ∙ slice_get-seam u m ∙ ap Some (is ∙ renamed-places p i n e at f places))
+
+  pub renumbers-all : (u : List Node) (p : ℕ) → p ≤ length order → length order ≤ p → RenumbersUpTo t order u p → Renumbers t order u
+  renumbers-all u p l m h = record {
+    count = let count = h.count in omega (arith, count);
+    each = λ k i e. h.each k i (let inside = slice_get_within order k i e in omega (arith, inside)) e;
+  }
+
+-- ---- the same, as the loop reads it
+
+module _ (t : List Node) (root : ℕ) (order : List ℕ) (table : IsTable t) (is_order : IsOrder t root order) (p : ℕ) (l : p < length order) (n : Node) (read : n ≡ get_or t (get_or order p 0) n) where
+  number-at : slice_get order p ≡ Some (get_or order p 0)
+  number-at = slice_get-get_or order p 0 l
+
+  node-at : slice_get t (get_or order p 0) ≡ Some n
+  node-at = slice_get_read t (length t) (get_or order p 0) n refl (is_order.within p (get_or order p 0) number-at) read
+
+  pub names-places : (k : ℕ) → k ≡ length t → names_below (answers_of n) k ≡ true
+  names-places k e =
+      let inside = is_order.within p (get_or order p 0) number-at in
+      names_below-more (answers_of n) (get_or order p 0) k (omega (arith, inside, e)) ((table.nodes (get_or order p 0) n node-at).below)
+
+  module _ (places : List ℕ) (are_places : (k i : ℕ) → slice_get order k ≡ Some i → get_or places i 0 ≡ k) (m : Node) (is : m ≡ renamed (λ j. get_or places j 0) n) (u : List Node) (so_far : RenumbersUpTo t order u p) where
+    pub node-next : IsNode m (length u)
+    node-next =
+        subst (λ (k : ℕ). IsNode m k) (sym so_far.count)
+        (subst (λ (x : Node). IsNode x p) (sym (is ∙ renamed-places t root order table is_order p (get_or order p 0) n number-at node-at (λ j. get_or places j 0) are_places))
+        (renamed-node t root order table is_order p (get_or order p 0) n number-at node-at))
+
+    pub room-next : length u < MAX_NODES
+    room-next =
+        let count = so_far.count in
+        let short = is_order.short in
+        let size = table.size in
+        omega (arith, count, short, size, l)
+
+    pub renumbers-next : (v : List Node) → v ≡ u ++ m ∷ [] → RenumbersUpTo t order v (p + 1)
+    renumbers-next v e =
+        subst (λ (w : List Node). RenumbersUpTo t order w (p + 1)) (sym e)
+        (renumbers-more t root order table is_order u p (get_or order p 0) n m (λ j. get_or places j 0) so_far number-at node-at are_places is)

@@ -1,0 +1,7 @@
+-- The node that is put in lists no replies.
+use Rattle.strategy_compiler.proofs.Briefs.{answered-winning}
+use Rattle.strategy_compiler.proofs.compiler.Compiler.winning.Goals as goal
+
+pub returns-clause-stands : goal.returns-clause-stands
+returns-clause-stands c =
+    answered-winning c.args.self.now c.put_in.new.nodes.keys c.put_in.result c.args.attack c.new-replies.result c.new-replies.ensures.empty c.put_in.ensures.node

@@ -1,0 +1,86 @@
+-- Walks over the nodes of a table: what a node reaches, the order in which a walk completes nodes, and the table of a tree.
+use Rattle.std.specs.Prelude.{◌≡◌, ℕ, zero, suc, ◌-◌, ◌<◌, ◌≤◌, ◌==◌, if◌then◌else◌, List, [], ◌∷◌, ◌++◌, map, fold, length, take, Bool, true, Contains, Option, Some, None, slice_get}
+use Rattle.std.specs.List.{list_any, position_or_len, range_with_len}
+use Rattle.std.specs.Option.{option_map_or}
+use Rattle.strategy_graph.specs.declared.Node.{Node}
+use Rattle.strategy_graph.specs.Tables.{Answers, answers_of, rest_nodes, named, IsTable}
+use Rattle.strategy_graph.specs.Laws.{SaysSame}
+use Rattle.strategy_graph.proofs.Copies.{renamed}
+use Rattle.strategy_compiler.specs.Trees.{Tree, StandsFor}
+
+-- no two nodes are equal
+pub record AreDifferent (t : List Node) : Type 0 where
+  pub different : (i j : ℕ) (n : Node) → slice_get t i ≡ Some n → slice_get t j ≡ Some n → i ≡ j
+
+-- node i reaches node k: it is that node, or names a node that reaches it
+pub data Reaches (t : List Node) : ℕ → ℕ → Type 0 where
+  Itself : (i : ℕ) → Reaches t i i
+  Through : (i j k : ℕ) (n : Node) → slice_get t i ≡ Some n → Contains (named (answers_of n)) j → Reaches t j k → Reaches t i k
+
+-- the nodes that the answers name, in the order of a walk: that of the rest first, then those listed, in order
+abbrev pub visits : Answers → List ℕ
+visits a = rest_nodes a.rest ++ map (λ r. r.next) a.replies
+
+-- the nodes that node i names, in the order of a walk
+abbrev pub visits_at : List Node → ℕ → List ℕ
+visits_at t i = option_map_or (λ n. visits (answers_of n)) (slice_get t i) []
+
+-- whether the number is in the list
+abbrev pub is_among : ℕ → List ℕ → Bool
+is_among i js = list_any (λ j. j == i) js
+
+-- The numbers of the nodes that are completed once a walk from node i ends, in the order of completion, where those of
+-- `completed` were before it and at most so many nodes follow one another. A node is completed once all that it names are.
+unfoldable pub completed_within : ℕ → List Node → List ℕ → ℕ → List ℕ
+completed_within zero t done i = done
+completed_within (suc f) t done i = if is_among i done then done else fold (completed_within f t) done (visits_at t i) ++ i ∷ []
+
+-- The nodes that node i reaches, in the order in which a walk from it completes them. Each node names only lower ones, so no
+-- more than i + 1 follow one another.
+abbrev pub completed : List Node → ℕ → List ℕ
+completed t i = completed_within (suc i) t [] i
+
+-- the place of the number in the list
+abbrev pub place_in : List ℕ → ℕ → ℕ
+place_in js i = position_or_len (λ j. j == i) js
+
+-- table u has the nodes of t with these numbers in this order, and for each number that a node names its place among them
+pub record Renumbers (t : List Node) (order : List ℕ) (u : List Node) : Type 0 where
+  pub count : length u ≡ length order
+  pub each : (k i : ℕ) → slice_get order k ≡ Some i → (n : Node) × (slice_get t i ≡ Some n) × (slice_get u k ≡ Some (renamed (place_in order) n))
+
+-- the number of the last node
+abbrev pub last : List Node → ℕ
+last t = length t - 1
+
+-- the last node reaches each node, and a walk from it completes them in the order of their numbers
+abbrev pub IsNumberedByWalk : List Node → Type 0
+IsNumberedByWalk t = completed t (last t) ≡ range_with_len 0 (length t)
+
+-- The table of the tree: its last node stands for the tree, no two nodes are equal, and the nodes are all those that the last
+-- one reaches, numbered as a walk from it completes them.
+pub record IsTableOf (tree : Tree) (t : List Node) : Type 0 where
+  pub table : IsTable t
+  pub stands : StandsFor t (last t) tree
+  pub different : AreDifferent t
+  pub numbered : IsNumberedByWalk t
+
+-- the order in which a walk from the root completes nodes: each is a node that the root reaches, comes once, and comes after
+-- all that it names
+pub record IsOrder (t : List Node) (root : ℕ) (order : List ℕ) : Type 0 where
+  pub by_walk : order ≡ completed t root
+  pub within : (k i : ℕ) → slice_get order k ≡ Some i → i < length t
+  pub once : (k l i : ℕ) → slice_get order k ≡ Some i → slice_get order l ≡ Some i → k ≡ l
+  pub after_named : (k i j : ℕ) (n : Node) → slice_get order k ≡ Some i → slice_get t i ≡ Some n → Contains (named (answers_of n)) j → is_among j (take k order) ≡ true
+  pub reached : (k i : ℕ) → slice_get order k ≡ Some i → Reaches t root i
+  pub short : length order ≤ length t
+
+-- table u is made of the nodes that the root reaches in t: the table of each tree for which the root stands, with the root as
+-- its last node, which says the same
+pub record IsMadeFrom (t : List Node) (root : ℕ) (u : List Node) : Type 0 where
+  pub nodes : Renumbers t (completed t root) u
+  pub trees : (tree : Tree) → StandsFor t root tree → IsTableOf tree u
+  pub different : AreDifferent u
+  pub reached : (i : ℕ) → i < length u → Reaches u (last u) i
+  pub numbered : IsNumberedByWalk u
+  pub same : SaysSame t root u (last u)

@@ -1,0 +1,19 @@
+//! A compiler of tables: it takes nodes from the bottom up, keeps each once, and gives the table of the nodes that one
+//! of them reaches.
+//!
+//! What it is given are attacks and the nodes that answer the replies to them; it finds the rest, which answers the most
+//! of them, and lists the others. So trees of moves that are equal share their nodes, whatever the order in which a
+//! search comes upon them, as in the hash-consing of Ershov and of Goto. `finish` numbers the nodes as a walk completes
+//! them, so the table of a tree is one and the same, however it was compiled.
+//!
+//! `specs/` says which nodes stand for a tree of moves, and what the table of a tree is.
+#![tactic(auto)]
+
+mod compiler;
+mod renumbering;
+mod rests;
+mod theorems;
+mod walk;
+
+pub use compiler::{CompileError, Compiler};
+pub use theorems::growth_keeps_trees;

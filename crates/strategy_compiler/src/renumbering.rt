@@ -1,0 +1,109 @@
+// The table of some nodes in a given order: each number that a node names becomes its place in that order.
+#![tactic(auto)]
+
+ghost use Rattle.std.specs.Prelude.{◌≡◌, ◌<◌, ◌≤◌, ◌++◌, ◌∷◌, [], ℕ, true, nat_lt, map, length, slice_get, slice_index, Some, All, IfOk, OnOk};
+ghost use Rattle.std.specs.List.{list_all};
+ghost use Rattle.strategy_graph.specs.Tables.{IsNode, IsTable, answers_of, names_below, rest_nodes};
+ghost use Rattle.strategy_graph.proofs.Copies.{renamed, renamed_reply, renamed_rest};
+ghost use Rattle.strategy_compiler.specs.Walks.{IsMadeFrom, IsOrder, Renumbers};
+ghost use Rattle.strategy_compiler.specs.Nodes.{IsCompiled};
+
+use crate::walk::completed_order;
+use std::alloc::{AllocError, Global};
+use strategy_graph::{MAX_NODES, Node, PushError, Replies, Reply, Rest, Table};
+
+/// For each number of the order its place there, as a list by number; for other numbers it says nothing.
+fn places_in(alloc: Global, order: &[u32], len: usize) -> Result<Vec<u32>, AllocError>
+    requires few { len ≤ MAX_NODES }
+    requires short { length order.now ≤ len }
+    requires within { (k : ℕ) → k < length order.now → slice_index order.now k < len }
+    requires once { (k l i : ℕ) → slice_get order.now k ≡ Some i → slice_get order.now l ≡ Some i → k ≡ l }
+    ensures count { IfOk result (λ places. length places.items ≡ len) }
+    ensures places { IfOk result (λ places. (k i : ℕ) → slice_get order.now k ≡ Some i → slice_index places.items i ≡ k) }
+{
+    let mut places = vec![in alloc; 0; len]?;
+    for (place, number) in order.iter().enumerate() {
+        places[*number as usize] = place as u32;
+    }
+    Ok(places)
+}
+
+/// The replies, with the place of each number that they name.
+fn renumbered_replies(
+    alloc: Global,
+    replies: &[Reply],
+    places: &[u32],
+) -> Result<Replies, AllocError>
+    requires below { All (λ r. r.next < length places.now) replies.now }
+    ensures replies { IfOk result (λ rs. rs ≡ map (renamed_reply (λ j. slice_index places.now j)) replies.now) }
+{
+    let mut renumbered = Replies::new(alloc);
+    for reply in replies {
+        let next = places[reply.next as usize];
+        renumbered.push(Reply { at: reply.at, next })?;
+    }
+    Ok(renumbered)
+}
+
+/// The rest, with the place of the number that it names.
+fn renumbered_rest(rest: Rest, places: &[u32]) -> Rest
+    requires below { list_all (λ j. nat_lt j (length places.now)) (rest_nodes rest) ≡ true }
+    ensures rest { result ≡ renamed_rest (λ j. slice_index places.now j) rest }
+{
+    match rest {
+        Rest::Wins => Rest::Wins,
+        Rest::To(number) => Rest::To(places[number as usize]),
+        Rest::Nothing => Rest::Nothing,
+    }
+}
+
+/// The node, with the place of each number that it names.
+fn renumbered(alloc: Global, node: &Node, places: &[u32]) -> Result<Node, AllocError>
+    requires below { names_below (answers_of node.now) (length places.now) ≡ true }
+    ensures node { IfOk result (λ n. n ≡ renamed (λ j. slice_index places.now j) node.now) }
+{
+    let replies = renumbered_replies(alloc, node.replies.as_slice(), places)?;
+    Ok(Node {
+        attack: node.attack,
+        replies,
+        rest: renumbered_rest(node.rest, places),
+    })
+}
+
+/// Adds the node at the end of the table, which has room for it.
+fn add(table: &mut Table, node: Node) -> Result<(), AllocError>
+    requires node { IsNode node (length table.old) }
+    requires room { length table.old < MAX_NODES }
+    ensures added { OnOk result (table.new ≡ table.old ++ node ∷ []) }
+{
+    match table.push(node) {
+        Ok(_) => Ok(()),
+        Err(PushError::Memory) => Err(AllocError),
+        Err(_) => unreachable!(),
+    }
+}
+
+/// The table of the nodes with these numbers, in this order.
+fn table_of(alloc: Global, nodes: &[Node], root: u32, order: &[u32]) -> Result<Table, AllocError>
+    requires table { IsTable nodes.now }
+    requires order { IsOrder nodes.now root order.now }
+    ensures nodes { IfOk result (λ t. Renumbers nodes.now order.now t) }
+{
+    let places = places_in(alloc, order, nodes.len())?;
+    let mut table = Table::new(alloc);
+    for number in order {
+        let node = renumbered(alloc, &nodes[*number as usize], places.as_slice())?;
+        add(&mut table, node)?;
+    }
+    Ok(table)
+}
+
+/// The table of the nodes that the root reaches, in the order in which a walk from it completes them.
+pub(crate) fn table_from(alloc: Global, nodes: &[Node], root: u32) -> Result<Table, AllocError>
+    requires compiled { IsCompiled nodes.now }
+    requires in_table { root < length nodes.now }
+    ensures made { IfOk result (IsMadeFrom nodes.now root) }
+{
+    let order = completed_order(alloc, nodes, root)?;
+    table_of(alloc, nodes, root, order.as_slice())
+}
