@@ -1,5 +1,5 @@
 -- Depth after depth: what is spent, and the fewest moves.
-use Rattle.std.proofs.Common.{◌≡◌, ℕ, zero, suc, ◌+◌, ◌-◌, ◌≤◌, ◌<◌, Bool, true, false, cond, refl, sym, ap, subst, ◌∙◌, arith, List, [], ◌∷◌, ◌++◌, nat_le}
+use Rattle.std.proofs.Common.{◌≡◌, ℕ, zero, suc, ◌+◌, ◌-◌, ◌≤◌, ◌<◌, Bool, true, false, cond, inl, inr, refl, sym, ap, subst, ◌∙◌, arith, List, [], ◌∷◌, ◌++◌, nat_le}
 use Rattle.std.specs.Prelude.{Option, Some, None}
 use Rattle.std.specs.List.{find, sum_by, range_with_len}
 use Rattle.std.proofs.lemmas.Bool.{cases_lt}
@@ -85,15 +85,15 @@ module _ (rule : RuleKind) (b : Grid) (depth : ℕ) where
   pub spent-more : (d : ℕ) → spent_on (d + 1) ≡ spent_on d + four_tree rule (d + 1) b
   spent-more d =
       ap (sum_by (λ k. four_tree rule k b)) (range_more d 1)
-      ∙ sum_by-append (λ k. four_tree rule k b) (range_with_len 1 d) (1 + d ∷ [])
+      ∙ sum_by-append (λ k. four_tree rule k b) (range_with_len 1 d) ((1 + d) ∷ [])
       ∙ ap (λ n. spent_on d + n) (let m : 1 + d ≡ d + 1 = omega arith in last m) where
-    range_more : (d a : ℕ) → range_with_len a (d + 1) ≡ range_with_len a d ++ (a + d ∷ [])
-    range_more zero a = let z : a + zero ≡ a = omega arith in let o : zero + 1 ≡ suc zero = omega arith in rw (o, z) refl
+    range_more : (d a : ℕ) → range_with_len a (d + 1) ≡ range_with_len a d ++ (a + d) ∷ []
+    range_more zero a = let z : a + zero ≡ a = omega arith in ap (λ (n : ℕ). n ∷ []) (sym z)
     range_more (suc d) a =
         let m : suc d + 1 ≡ suc (d + 1) = omega arith in
         let n : a + suc d ≡ a + 1 + d = omega arith in
         rw (m, n) (ap (λ (xs : List ℕ). a ∷ xs) (range_more d (a + 1)))
-    last : 1 + d ≡ d + 1 → sum_by (λ k. four_tree rule k b) (1 + d ∷ []) ≡ four_tree rule (d + 1) b
+    last : 1 + d ≡ d + 1 → sum_by (λ k. four_tree rule k b) ((1 + d) ∷ []) ≡ four_tree rule (d + 1) b
     last m = sum_by-cons (λ k. four_tree rule k b) (1 + d) [] ∙ (let z : four_tree rule (1 + d) b + 0 ≡ four_tree rule (1 + d) b = omega arith in z) ∙ ap (λ k. four_tree rule k b) m
 
   -- no less is spent than on these depths and the next
@@ -115,7 +115,7 @@ module _ (rule : RuleKind) (b : Grid) (depth : ℕ) where
       let e : four_cost rule depth b ≡ spent_on d + sum_by (λ k. four_tree rule k b) (until wins (range_with_len (1 + d) (suc (depth - d - 1)))) =
       ap (sum_by (λ k. four_tree rule k b)) (parted d l h) ∙ sum_by-append (λ k. four_tree rule k b) (range_with_len 1 d) (until wins (range_with_len (1 + d) (suc (depth - d - 1)))) in
       let only : sum_by (λ k. four_tree rule k b) (until wins (range_with_len (1 + d) (suc (depth - d - 1)))) ≡ four_tree rule (1 + d) b + 0 =
-      ap (λ r. sum_by (λ k. four_tree rule k b) (1 + d ∷ cond r [] (until wins (range_with_len (1 + d + 1) (depth - d - 1))))) there ∙ sum_by-cons (λ k. four_tree rule k b) (1 + d) [] in
+      ap (λ r. sum_by (λ k. four_tree rule k b) ((1 + d) ∷ cond r [] (until wins (range_with_len (1 + d + 1) (depth - d - 1))))) there ∙ sum_by-cons (λ k. four_tree rule k b) (1 + d) [] in
       let same : four_tree rule (1 + d) b ≡ four_tree rule (d + 1) b = (let m : 1 + d ≡ d + 1 = omega arith in ap (λ k. four_tree rule k b) m) in
       let more = spent-more d in
       omega (arith, e, only, same, more)
@@ -161,3 +161,58 @@ module _ (rule : RuleKind) (n : ℕ) (b : Grid) (budget : ℕ) where
     by_test true true e k = let same = by_found Spent h true true e k in cc
     by_test true false e k = let same = by_found Spent h true false e k in cc
     by_test false w e k = grind (arith, nat_tests)
+
+-- ---- the answer
+
+-- after some depths without a win, what one more finds
+module _ (rule : RuleKind) (b : Grid) (depth budget left d : ℕ) (l : d < depth) (none : NoWinUpTo rule b depth d) (spent : left + spent_on rule b depth d ≡ budget) where
+  module _ (rest : ℕ) (line : List Point) (found : Win rest line ≡ found_at rule (d + 1) b left) where
+    pub win-here : wins_by_fours rule (d + 1) b ≡ true
+    win-here = (found-win rule (d + 1) b left rest line found).1
+
+    pub win-line : line ≡ four_line rule (d + 1) b
+    win-line = (found-win rule (d + 1) b left rest line found).2
+
+    pub win-cost : four_cost rule depth b ≤ budget
+    win-cost =
+        let fits = (found-win rule (d + 1) b left rest line found).0 in
+        let all = cost-win rule b depth d l none win-here in
+        let more = spent-more rule b depth d in
+        omega (arith, fits, all, more, spent)
+
+    pub win-depth : wins_by_fours rule depth b ≡ true
+    win-depth = wins-more rule (d + 1) depth b (omega arith) win-here
+
+    pub win-fewest : least_moves rule depth b ≡ Some (d + 1)
+    win-fewest = least-win rule b depth d l none win-here
+
+  pub cost-above : Spent ≡ found_at rule (d + 1) b left → budget < four_cost rule depth b
+  cost-above found =
+      let short = found-spent rule (d + 1) b left found in
+      let all = cost-more rule b depth d l none in
+      let more = spent-more rule b depth d in
+      omega (arith, short, all, more, spent)
+
+  module _ (rest : ℕ) (found : NoWin rest ≡ found_at rule (d + 1) b left) where
+    pub none-more : NoWinUpTo rule b depth (d + 1)
+    none-more k low high = elim (cases_lt d k) [
+      | inl last ↦ let same : d + 1 ≡ k = omega arith in subst (λ (j : ℕ). wins_by_fours rule j b ≡ false) same (found-no-win rule (d + 1) b left rest found).1
+      | inr earlier ↦ none k low earlier
+    ]
+
+    pub left-more : rest + spent_on rule b depth (d + 1) ≡ budget
+    left-more =
+        let took = (found-no-win rule (d + 1) b left rest found).0 in
+        let more = spent-more rule b depth d in
+        omega (arith, took, more, spent)
+
+-- after all depths
+module _ (rule : RuleKind) (b : Grid) (depth budget left d : ℕ) (end : d ≡ depth) (none : NoWinUpTo rule b depth d) (spent : left + spent_on rule b depth d ≡ budget) where
+  pub end-cost : four_cost rule depth b ≤ budget
+  end-cost =
+      let all = cost-none rule b depth (subst (λ (n : ℕ). NoWinUpTo rule b depth n) end none) in
+      let same = ap (spent_on rule b depth) end in
+      omega (arith, all, same, spent)
+
+  pub end-none : 1 ≤ depth → wins_by_fours rule depth b ≡ false
+  end-none some = none depth some (omega arith)

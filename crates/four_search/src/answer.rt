@@ -72,10 +72,8 @@ pub fn four_search<R: Rule, V: Seen<R>>(
             Ok(Found::Spent) => return Ok(FourAnswer::Spent),
             Ok(Found::NoWin { left: rest }) => left = rest,
             Ok(Found::Win { left: _, line }) => {
-                return match compile::<R, V>(alloc, view, moves, line.as_slice(), compiler) {
-                    Ok(node) => Ok(FourAnswer::Win { node, moves }),
-                    Err(error) => Err(error),
-                };
+                let node = compile::<R, V>(alloc, view, moves, line.as_slice(), compiler)?;
+                return Ok(FourAnswer::Win { node, moves });
             }
         }
     }
