@@ -3,3 +3,5 @@ pub mod Reading
 pub mod Planning
 pub mod Growing
 pub mod Deepening
+pub mod Naming
+pub mod Written

@@ -104,7 +104,7 @@ find-any f (x ∷ ps) p h = by_test (f x) h (find-any f ps p) where
   by_test true h k = refl
   by_test false h k = k h
 
-any-find : (f : Point → Bool) (ps : List Point) → list_any f ps ≡ true → (p : Point) × (find f ps ≡ Some p)
+pub any-find : (f : Point → Bool) (ps : List Point) → list_any f ps ≡ true → (p : Point) × (find f ps ≡ Some p)
 any-find f [] h = cc
 any-find f (x ∷ ps) h = by_test (f x) h (any-find f ps) where
   by_test : (r : Bool) → (r || list_any f ps) ≡ true → (list_any f ps ≡ true → (p : Point) × (find f ps ≡ Some p)) → (p : Point) × (cond r (Some x) (find f ps) ≡ Some p)
@@ -167,7 +167,7 @@ plan-leaf rule (suc n) d x h some =
     ∙ ap (λ (o : Option Point). plan_from true o (λ p. branches_for (outcome rule (after d p)) (λ q. four_plan rule n (after (after d p) q)) (points_of d)))
       (ap (λ r. cond r (least_five rule d) (find (starts_win (has_five rule) rule d (wins_by_fours rule n)) (points_of d))) five ∙ h)
 
-plan-fork : (rule : RuleKind) (n : ℕ) (d : Grid) (p : Point) → has_five rule d (mover d) ≡ false → four_move rule (suc n) d ≡ Some p → four_plan rule (suc n) d ≡ Fork p (branches_for (outcome rule (after d p)) (λ q. four_plan rule n (after (after d p) q)) (points_of d))
+pub plan-fork : (rule : RuleKind) (n : ℕ) (d : Grid) (p : Point) → has_five rule d (mover d) ≡ false → four_move rule (suc n) d ≡ Some p → four_plan rule (suc n) d ≡ Fork p (branches_for (outcome rule (after d p)) (λ q. four_plan rule n (after (after d p) q)) (points_of d))
 unfolding four_plan
 plan-fork rule n d p none chosen =
     ap (λ r. plan_from r (four_move rule (suc n) d) (λ p. branches_for (outcome rule (after d p)) (λ q. four_plan rule n (after (after d p) q)) (points_of d))) none

@@ -26,8 +26,8 @@ module _ (width : ℕ) where
   row-rising y x (suc n) ps h = (
     omega arith,
     let e : y * width + x + suc n ≡ y * width + (x + 1) + n = omega arith in
-    let f : y * width + (x + 1) ≡ y * width + x + 1 = omega arith in
-    subst (λ k. Rising k (row_from y (x + 1) n ++ ps)) f (row-rising y (x + 1) n ps (subst (λ k. Rising k ps) e h)),
+        let f : y * width + (x + 1) ≡ y * width + x + 1 = omega arith in
+        subst (λ k. Rising k (row_from y (x + 1) n ++ ps)) f (row-rising y (x + 1) n ps (subst (λ k. Rising k ps) e h)),
   )
 
   rows-rising : (y n : ℕ) → Rising (y * width) (flat_map (λ z. row_from z 0 width) (range_with_len y n))
@@ -49,10 +49,12 @@ module _ (width : ℕ) where
 
   two-apart : (k : ℕ) (p q : Point) (ps : List Point) → Rising k (p ∷ q ∷ ps) → Apart p q
   unfolding Rising place
-  two-apart k p q ps h = record { apart = λ x y.
-      let same : q.y * width + q.x ≡ p.y * width + p.x = ap (λ (z : ℕ). z * width + q.x) (sym y) ∙ ap (λ (z : ℕ). p.y * width + z) (sym x) in
-      let low = h.1.0 in
-      omega (arith, low, same) }
+  two-apart k p q ps h = record {
+    apart = λ x y.
+        let same : q.y * width + q.x ≡ p.y * width + p.x = ap (λ (z : ℕ). z * width + q.x) (sym y) ∙ ap (λ (z : ℕ). p.y * width + z) (sym x) in
+        let low = h.1.0 in
+        omega (arith, low, same);
+  }
 
 -- two points that pass a test, one after another, are not one
 pub two_passing-apart : (b : Grid) (f : Point → Bool) (p q : Point) (ps : List Point) → filter f (points_of b) ≡ p ∷ q ∷ ps → Apart p q

@@ -29,7 +29,11 @@ pub enum BlockAnswer {
 }
 
 /// What becomes of the four move `p`. The view is as before, also where memory ran out.
-pub fn forced<R: Rule, V: Seen<R>>(alloc: Global, view: &mut V, p: Point) -> Result<BlockAnswer, AllocError>
+pub fn forced<R: Rule, V: Seen<R>>(
+    alloc: Global,
+    view: &mut V,
+    p: Point,
+) -> Result<BlockAnswer, AllocError>
     requires four { IsTrue (is_four_move R.KIND (V.position view.old) p) }
     ensures answer { IfOk result (λ answer. answer ≡ block_answer R.KIND (V.position view.old) p) }
     ensures same { V.position view.new ≡ V.position view.old }

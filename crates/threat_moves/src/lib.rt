@@ -9,6 +9,8 @@ mod block;
 mod five_points;
 mod laws;
 mod moves;
+#[cfg(test)]
+mod tests;
 
 pub use block::{BlockAnswer, forced};
 pub use five_points::{fives, has_five};
