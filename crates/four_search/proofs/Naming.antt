@@ -168,3 +168,29 @@ module _ (t : List Node) (a : Answers) (o : Point → Outcome) (next : Point →
         let same : q ≡ p = same_point q p e in
         subst (λ (x : Point). Answered (answer a x) (λ j. StandsFor t j (next x))) (sym same) (here (o p) (ap o (sym same) ∙ on) h)
     by_test false e k rest = rest k (skip (o p) h)
+
+-- ---- the points of listed replies
+
+replies-pass : (f : Point → Bool) (o : Point → Outcome) (next : Point → Tree) (ps : List Point) → ((q : Point) → o q ≡ GoesOn → f q ≡ true) → AllByRecursion (λ q. f q ≡ true) (replies_of (branches_for o next ps))
+replies-pass f o next [] h = tt
+replies-pass f o next (q ∷ ps) h = by_outcome (o q) refl (replies-pass f o next ps h) where
+  by_outcome : (r : Outcome) → o q ≡ r → AllByRecursion (λ q. f q ≡ true) (replies_of (branches_for o next ps)) → AllByRecursion (λ q. f q ≡ true) (replies_of (branch_if r q (next q) (branches_for o next ps)))
+  by_outcome Refused e k = k
+  by_outcome WinsNow e k = k
+  by_outcome (Fouls g) e k = k
+  by_outcome Draws e k = k
+  by_outcome GoesOn e k = (h q e, k)
+
+all_pass : (f : Point → Bool) (rs : List Reply) → AllByRecursion (λ r. f r.at ≡ true) rs → list_all (λ r. f r.at) rs ≡ true
+all_pass f [] h = refl
+all_pass f (r ∷ rs) h = rw (h.0, all_pass f rs h.1) refl
+
+-- the replies that a node lists are among those of its tree
+pub listed-on : (f : Point → Bool) (a : Answers) (o : Point → Outcome) (next : Point → Tree) (ps : List Point) → ((q : Point) → o q ≡ GoesOn → f q ≡ true) → AnswersBriefly a (replies_of (branches_for o next ps)) → list_all (λ r. f r.at) a.replies ≡ true
+listed-on f a o next ps h brief = all_pass f a.replies (by_replies (replies_of (branches_for o next ps)) brief (replies-pass f o next ps h)) where
+  by_replies : (qs : List Point) → AnswersBriefly a qs → AllByRecursion (λ q. f q ≡ true) qs → AllByRecursion (λ r. f r.at ≡ true) a.replies
+  by_replies [] brief all = subst (λ (rs : List Reply). AllByRecursion (λ r. f r.at ≡ true) rs) (sym brief.1) tt
+  by_replies (q ∷ qs) brief all =
+      all_map (λ p. f p ≡ true) (λ r. r.at) a.replies
+      (subst (λ (xs : List Point). AllByRecursion (λ p. f p ≡ true) xs) (sym brief.others_are_listed)
+      (all_filter (λ p. f p ≡ true) (λ q. not (option_eq nat_eq (answer a q) (rest_node a.rest))) (q ∷ qs) all))

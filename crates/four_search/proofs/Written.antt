@@ -1,8 +1,10 @@
 -- A node that stands for the plan of a win by fours is accepted, and its depth is at most the moves of the plan; within that
 -- depth there is a win by fours.
-use Rattle.std.proofs.Common.{◌≡◌, ℕ, zero, suc, ◌≤◌, ◌<◌, Bool, true, false, cond, ◌&&◌, refl, sym, ap, subst, ◌∙◌, arith, List, [], ◌∷◌, map}
-use Rattle.std.specs.Prelude.{Option, Some, None, slice_get}
+use Rattle.std.proofs.Common.{◌≡◌, ◌⊎◌, inl, inr, ℕ, zero, suc, ◌+◌, ◌≤◌, ◌<◌, Bool, true, false, cond, ◌&&◌, refl, sym, ap, subst, ◌∙◌, arith, List, [], ◌∷◌, map}
+use Rattle.std.specs.Prelude.{Option, Some, None, slice_get, Contains}
 use Rattle.std.specs.List.{list_any, list_all, find, AllByRecursion}
+use Rattle.std.proofs.lemmas.List.Elements.{All-from_recursion}
+use Rattle.std.proofs.lemmas.Bool.{cases_lt}
 use Rattle.game_rules.specs.Grid.{Grid, is_on, points_of}
 use Rattle.game_rules.specs.Shapes.{five, is_same_point}
 use Rattle.game_rules.specs.Play.{IsPosition, outcome, mover, after}
@@ -11,7 +13,7 @@ use Rattle.game_rules.specs.declared.RuleKind.{RuleKind}
 use Rattle.game_rules.specs.declared.Outcome.{Outcome}
 use Rattle.game_rules.specs.declared.Outcome.TheVariants.{Refused, Wins as WinsNow, Fouls, Draws, GoesOn}
 use Rattle.game_rules.specs.declared.Point.{Point}
-use Rattle.game_rules.proofs.Boards.{and_right}
+use Rattle.game_rules.proofs.Boards.{is_empty-on}
 use Rattle.game_rules.proofs.Points.{points-found, all_of}
 use Rattle.game_rules.proofs.Games.{each_reply, LosesOr-map, LosesOr-loses_or}
 use Rattle.game_rules.proofs.Positions.{IsPosition-after, GoesOn-on}
@@ -26,18 +28,45 @@ use Rattle.strategy_graph.proofs.Answering.{Answered-map, answer-greatest}
 use Rattle.strategy_graph.proofs.Fuel.{depth-step}
 use Rattle.strategy_graph.proofs.Steps.{accepted-by-win, accepted-by-replies}
 use Rattle.strategy_compiler.specs.Trees.{Tree, Branches, Leaf, Fork, NoBranch, Branch, StandsFor, StandsForAll, AnswersBriefly, replies_of}
+use Rattle.strategy_compiler.specs.Walks.{Reaches, Itself, Through}
+use Rattle.threat_moves.proofs.OtherSide.{five-empty}
 use Rattle.threat_moves.proofs.BlockLaw.{five-outcome, five-wins}
+use Rattle.four_search.specs.Answers.{NamesOnBoard, StaysOnBoard, IsFourWin}
 use Rattle.four_search.specs.Plans.{branches_for, four_plan}
 use Rattle.four_search.proofs.Trying.{same_self, find-passes, move-is, wins-is}
 use Rattle.four_search.proofs.Planning.{least_five, any-find, plan-leaf, plan-fork, plan-goes_on, wins-some}
-use Rattle.four_search.proofs.Naming.{named-all, answers-each, answer-at, greatest-all}
-use Rattle.four_search.proofs.Deepening.{wins-more}
+use Rattle.four_search.proofs.Naming.{named-all, answers-each, answer-at, greatest-all, listed-on}
+use Rattle.four_search.proofs.Deepening.{NoWinUpTo, wins-more, least-win}
 
 -- what is known of a node that stands for the plan of a win within n moves
 pub record IsWritten (rule : RuleKind) (t : List Node) (i n : ℕ) (b : Grid) : Type 0 where
   pub accepted : Accepted rule t i b
   pub deep : depth t i ≤ n
   pub wins : wins_by_fours rule (depth t i) b ≡ true
+  pub on_board : StaysOnBoard b t i
+
+-- ---- what a node reaches
+
+reach-cases : (t : List Node) (i k : ℕ) → Reaches t i k → (i ≡ k) ⊎ ((j : ℕ) × (n : Node) × (slice_get t i ≡ Some n) × Contains (named (answers_of n)) j × Reaches t j k)
+reach-cases t _ _ (Itself i) = inl refl
+reach-cases t _ _ (Through i j k n at names rest) = inr (j, n, at, names, rest)
+
+contained : (P : ℕ → Type 0) (js : List ℕ) (j : ℕ) → AllByRecursion P js → Contains js j → P j
+contained P js j all c = subst P c.2 (All-from_recursion P js all c.0 j c.1)
+
+-- a node whose names stay on the board does so too
+stays-by : (b : Grid) (t : List Node) (i : ℕ) (n : Node) → slice_get t i ≡ Some n → NamesOnBoard b n → AllByRecursion (StaysOnBoard b t) (named (answers_of n)) → StaysOnBoard b t i
+stays-by b t i n at on all k m reach here = elim (reach-cases t i k reach) [
+  | inl same ↦
+      let e : Some n ≡ Some m = sym at ∙ ap (slice_get t) same ∙ here in
+      let f : n ≡ m = cc in
+      subst (NamesOnBoard b) f on
+  | inr step ↦
+      let e : Some n ≡ Some step.1 = sym at ∙ step.2 in
+      let f : step.1 ≡ n = cc in
+      let names : Contains (named (answers_of n)) step.0 = subst (λ (m : Node). Contains (named (answers_of m)) step.0) f step.3 in
+      contained (StaysOnBoard b t) (named (answers_of n)) step.0 all names k m step.4 here
+]
 
 at_node : (o : Option Node) (P : Node → Type 0) → AtNode o P → (n : Node) × (o ≡ Some n) × P n
 at_node None P h = absurd h
@@ -45,6 +74,10 @@ at_node (Some n) P h = (n, refl, h)
 
 lower_of : (t : List Node) → IsTable t → NamesLower t
 lower_of t table = record { lower = λ i n at. (table.nodes i n at).below }
+
+-- two moves change no size
+on_before : (b : Grid) (p q : Point) (n : Node) → NamesOnBoard (after (after b p) q) n → NamesOnBoard b n
+on_before b p q n h = record { attack_on = h.attack_on; replies_on = h.replies_on }
 
 -- ---- a winning node
 
@@ -64,6 +97,12 @@ module _ (rule : RuleKind) (t : List Node) (table : IsTable t) (i : ℕ) (b : Gr
     accepted = accepted-by-win rule t (lower_of t table) i b n at (ap (outcome rule b) plays ∙ five-outcome rule b x h);
     deep = let e = leaf_depth in omega (arith, e);
     wins = ap (λ (k : ℕ). wins_by_fours rule k b) leaf_depth ∙ five-wins rule b 0 some;
+    on_board = stays-by b t i n at
+        (record {
+          attack_on = ap (is_on b) plays ∙ is_empty-on b x (five-empty rule b (mover b) x h);
+          replies_on = ap (list_all (λ r. is_on b r.at)) (((table.nodes i n at).winning) win);
+        })
+        (subst (AllByRecursion (StaysOnBoard b t)) (sym (no_names t i n table at win)) tt);
   }
 
 -- ---- a node of a four
@@ -180,8 +219,17 @@ module _ (rule : RuleKind) (t : List Node) (table : IsTable t) (i m : ℕ) (b : 
     next_wins q None e h = absurd h
     next_wins q (Some j) e h = wins-more rule (depth t j) (greatest (map (depth t) (named (answers_of n)))) (after (after b p) q) (answer-greatest (depth t) (answers_of n) q j e) h
 
+  written_on : StaysOnBoard b t i
+  written_on = stays-by b t i n at
+      (record {
+        attack_on = ap (is_on b) plays ∙ GoesOn-on rule b p on;
+        replies_on = listed-on (is_on b) (answers_of n) (outcome rule (after b p)) (λ q. four_plan rule m (after (after b p) q)) (points_of b) (λ q go. GoesOn-on rule (after b p) q go) brief;
+      })
+      (named-all (StaysOnBoard b t) (answers_of n) _ (table.nodes i n at).rising brief
+      (answers-each t (answers_of n) (outcome rule (after b p)) (λ q. four_plan rule m (after (after b p) q)) (StaysOnBoard b t) (points_of b) (λ q j go s k n reach here. on_before b p q n ((next_written q j go s).on_board k n reach here)) stands))
+
   fork-written : IsWritten rule t i (suc m) b
-  fork-written = record { accepted = written_accepted; deep = written_deep; wins = written_wins }
+  fork-written = record { accepted = written_accepted; deep = written_deep; wins = written_wins; on_board = written_on }
 
 -- ---- the law
 
@@ -210,3 +258,21 @@ plan-written rule t table (suc m) i b lawful wins stands = by_five (has_five rul
   by_five : (r : Bool) → has_five rule b (mover b) ≡ r → ((j : ℕ) (c : Grid) → IsPosition rule c → wins_by_fours rule m c ≡ true → StandsFor t j (four_plan rule m c) → IsWritten rule t j m c) → IsWritten rule t i (suc m) b
   by_five true some later = by_leaf some
   by_five false none later = by_fork none later
+
+-- what the search says of a win
+pub four-win : (rule : RuleKind) (b : Grid) (limit d : ℕ) → d < limit → NoWinUpTo rule b limit d → IsPosition rule b → wins_by_fours rule (d + 1) b ≡ true → (t : List Node) → IsTable t → (i : ℕ) → StandsFor t i (four_plan rule (d + 1) b) → IsFourWin rule limit b t i (d + 1)
+four-win rule b limit d l none lawful wins t table i stands =
+    let written = plan-written rule t table (d + 1) i b lawful wins stands in
+    record {
+      fewest = least-win rule b limit d l none wins;
+      stands = stands;
+      accepted = written.accepted;
+      deep = by_order (cases_lt d (depth t i)) written.deep written.wins;
+      on_board = written.on_board;
+    } where
+  by_order : (d < depth t i) ⊎ (depth t i ≤ d) → depth t i ≤ d + 1 → wins_by_fours rule (depth t i) b ≡ true → depth t i ≡ d + 1
+  by_order (inl more) high won = omega arith
+  by_order (inr less) high won =
+      let some = wins-some rule (depth t i) b won in
+      let lost = none (depth t i) (omega (arith, some)) less in
+      let bad : false ≡ true = sym lost ∙ won in cc

@@ -64,6 +64,7 @@ pub fn four_search<R: Rule, V: Seen<R>>(
     ensures full_now { IsErrOf result SearchError.Full → length compiler.new ≡ MAX_NODES }
     ensures same { V.position view.new ≡ V.position view.old }
 {
+    view.side();
     let mut left = budget;
     for done in 0..depth {
         let moves = done + 1;

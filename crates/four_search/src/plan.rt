@@ -4,7 +4,7 @@
 //! the block has a node of its own. So each move of the win takes two nodes, and the last one at most three.
 #![tactic(auto)]
 
-ghost use Rattle.std.specs.Prelude.{◌≡◌, ◌<◌, ◌≤◌, ◌+◌, ◌-◌, ◌*◌, ℕ, true, false, All, [], length, slice_get, Some, IfOk, IsTrue, IsErrOf};
+ghost use Rattle.std.specs.Prelude.{◌≡◌, ◌<◌, ◌≤◌, ◌+◌, ◌-◌, ◌*◌, ℕ, true, false, All, [], length, slice_get, Some, IfOk, OnOk, IsTrue, IsErrOf};
 ghost use Rattle.game_rules.specs.Grid.{points_of};
 ghost use Rattle.game_rules.specs.Play.{outcome as outcome_lem, after, mover};
 ghost use Rattle.game_rules.specs.Games.{wins_by_fours, has_five, five_points, four_move};
@@ -12,6 +12,7 @@ ghost use Rattle.threat_moves.specs.Blocks.{fate as fate_lem};
 ghost use Rattle.strategy_graph.specs.Tables.{is_rising};
 ghost use Rattle.strategy_graph.specs.declared.TheConstants.{MAX_NODES};
 ghost use Rattle.strategy_compiler.specs.Trees.{Branches, Leaf, Fork, StandsFor, AnswersBranches};
+ghost use Rattle.strategy_compiler.specs.Nodes.{IsCompiled};
 ghost use Rattle.four_search.specs.Searching.{four_line, line_behind};
 ghost use Rattle.four_search.specs.Plans.{four_plan, answers_for, at_or_beside as at_or_beside_lem};
 ghost use Rattle.four_search.specs.Growth.{GrowsBy};
@@ -39,6 +40,7 @@ pub(crate) fn compile<R: Rule, V: Seen<R>>(
     requires line { line.now ≡ four_line R.KIND moves (V.position view.old) }
     ensures stands { IfOk result (λ node. StandsFor compiler.new node (four_plan R.KIND moves (V.position view.old))) }
     ensures in_compiler { IfOk result (λ node. node < length compiler.new) }
+    ensures compiled { OnOk result (IsCompiled compiler.new) }
     ensures same { V.position view.new ≡ V.position view.old }
     ensures grows { GrowsBy compiler.old compiler.new (2 * moves) }
     ensures full { IsErrOf result SearchError.Full → MAX_NODES < length compiler.old + 2 * moves }
@@ -72,6 +74,7 @@ fn compile_four<R: Rule, V: Seen<R>>(
     requires line { line.now ≡ line_behind (four_line R.KIND (moves - 1)) (after (V.position view.old) p) (fate_lem R.KIND (after (V.position view.old) p)) }
     ensures stands { IfOk result (λ node. StandsFor compiler.new node (four_plan R.KIND moves (V.position view.old))) }
     ensures in_compiler { IfOk result (λ node. node < length compiler.new) }
+    ensures compiled { OnOk result (IsCompiled compiler.new) }
     ensures same { V.position view.new ≡ V.position view.old }
     ensures grows { GrowsBy compiler.old compiler.new (2 * moves) }
     ensures full { IsErrOf result SearchError.Full → MAX_NODES < length compiler.old + 2 * moves }
@@ -106,6 +109,7 @@ fn compile_one<R: Rule, V: Seen<R>>(
     requires line { line.now ≡ four_line R.KIND (moves - 1) (after (after (V.position view.old) p) block) }
     ensures stands { IfOk result (λ node. StandsFor compiler.new node (four_plan R.KIND moves (V.position view.old))) }
     ensures in_compiler { IfOk result (λ node. node < length compiler.new) }
+    ensures compiled { OnOk result (IsCompiled compiler.new) }
     ensures same { V.position view.new ≡ V.position view.old }
     ensures grows { GrowsBy compiler.old compiler.new (2 * moves) }
     ensures full { IsErrOf result SearchError.Full → MAX_NODES < length compiler.old + 2 * moves }
@@ -135,6 +139,7 @@ fn compile_after<R: Rule, V: Seen<R>>(
     requires line { line.now ≡ four_line R.KIND moves (after (after (V.position view.old) p) block) }
     ensures stands { IfOk result (λ node. StandsFor compiler.new node (four_plan R.KIND moves (after (after (V.position view.old) p) block))) }
     ensures in_compiler { IfOk result (λ node. node < length compiler.new) }
+    ensures compiled { OnOk result (IsCompiled compiler.new) }
     ensures same { V.position view.new ≡ V.position view.old }
     ensures grows { GrowsBy compiler.old compiler.new (2 * moves) }
     ensures full { IsErrOf result SearchError.Full → MAX_NODES < length compiler.old + 2 * moves }
@@ -164,6 +169,7 @@ fn compile_won<R: Rule, V: Seen<R>>(
     requires won { fate_lem R.KIND (after (V.position view.old) p) ≡ BlockAnswer.Won }
     ensures stands { IfOk result (λ node. StandsFor compiler.new node (four_plan R.KIND moves (V.position view.old))) }
     ensures in_compiler { IfOk result (λ node. node < length compiler.new) }
+    ensures compiled { OnOk result (IsCompiled compiler.new) }
     ensures same { V.position view.new ≡ V.position view.old }
     ensures grows { GrowsBy compiler.old compiler.new (2 * moves) }
     ensures full { IsErrOf result SearchError.Full → MAX_NODES < length compiler.old + 2 * moves }
@@ -221,6 +227,7 @@ fn fork<R: Rule, V: Seen<R>>(
         → AnswersBranches compiler.old (answers_for (outcome_lem R.KIND (after (V.position view.old) p)) (at_or_beside_lem block at_block beside) (points_of (V.position view.old))) branches
         → StandsFor compiler.new node (Fork p branches)) }
     ensures in_compiler { IfOk result (λ node. node < length compiler.new) }
+    ensures compiled { OnOk result (IsCompiled compiler.new) }
     ensures same { V.position view.new ≡ V.position view.old }
     ensures grows { GrowsBy compiler.old compiler.new 1 }
     ensures full { IsErrOf result SearchError.Full → MAX_NODES ≤ length compiler.old }
@@ -240,6 +247,7 @@ fn fork<R: Rule, V: Seen<R>>(
 fn winning(compiler: &mut Compiler, attack: Point) -> Result<u32, SearchError>
     ensures stands { IfOk result (λ node. StandsFor compiler.new node (Leaf attack)) }
     ensures in_compiler { IfOk result (λ node. node < length compiler.new) }
+    ensures compiled { OnOk result (IsCompiled compiler.new) }
     ensures grows { GrowsBy compiler.old compiler.new 1 }
     ensures full { IsErrOf result SearchError.Full → MAX_NODES ≤ length compiler.old }
     ensures full_now { IsErrOf result SearchError.Full → length compiler.new ≡ MAX_NODES }
@@ -257,6 +265,7 @@ fn forking(compiler: &mut Compiler, attack: Point, answers: &[Reply]) -> Result<
     requires below { All (λ r. r.next < length compiler.old) answers.now }
     ensures stands { IfOk result (λ node. (branches : Branches) → AnswersBranches compiler.old answers.now branches → StandsFor compiler.new node (Fork attack branches)) }
     ensures in_compiler { IfOk result (λ node. node < length compiler.new) }
+    ensures compiled { OnOk result (IsCompiled compiler.new) }
     ensures grows { GrowsBy compiler.old compiler.new 1 }
     ensures full { IsErrOf result SearchError.Full → MAX_NODES ≤ length compiler.old }
     ensures full_now { IsErrOf result SearchError.Full → length compiler.new ≡ MAX_NODES }

@@ -1,5 +1,6 @@
 use Rattle.std.proofs.Common.{rules, ◌≡◌, ◌<◌, ◌≤◌, ◌+◌, true, false, ap, sym, subst, ◌∙◌, arith, length, ℕ, refl}
 use Rattle.game_rules.specs.Grid.{Grid}
+use Rattle.game_rules.specs.Play.{IsPosition}
 use Rattle.game_rules.specs.Games.{wins_by_fours}
 use Rattle.four_search.specs.declared.search.Found.TheVariants.{Win, NoWin, Spent}
 use Rattle.four_search.specs.Searching.{found_at}
@@ -7,6 +8,7 @@ use Rattle.strategy_compiler.specs.Trees.{StandsFor}
 use Rattle.four_search.specs.FourGame.{four_cost}
 use Rattle.four_search.specs.Plans.{four_plan}
 use Rattle.four_search.proofs.Deepening.{win-here, win-line, win-cost, win-depth, win-fewest, cost-above, none-more, left-more, end-cost, end-none}
+use Rattle.four_search.proofs.Written.{four-win}
 use Rattle.four_search.proofs.answer.four_search.Goals as goal
 
 pub returns-in-Ok-Spent-clause-none : goal.returns-in-Ok-Spent-clause-none
@@ -42,10 +44,10 @@ returns-in-Ok-Win-clause-win g c =
     let b : Grid = g.V.Seen.position c.args.view.now in
     let d : ℕ = c.loop-done.done in
     let found : Win c.in-Ok-Win.field-0-0 c.in-Ok-Win.line ≡ found_at g.R.Rule.KIND (d + 1) b c.loop-done.left = sym c.in-Ok-Win.field-0-is ∙ c.in-Ok-Win.ensures.found ∙ ap (λ (w : Grid). found_at g.R.Rule.KIND (d + 1) w c.loop-done.left) c.loop-done.invariant.same in
-    record {
-      fewest = win-fewest g.R.Rule.KIND b c.args.depth c.args.budget c.loop-done.left d c.loop-done-test.true c.loop-done.invariant.none c.loop-done.invariant.spent c.in-Ok-Win.field-0-0 c.in-Ok-Win.line found;
-      stands = subst (λ (w : Grid). StandsFor c.compile.new.compiler c.in_ok-node-in-Ok-Win.node (four_plan g.R.Rule.KIND (d + 1) w)) (c.search.ensures.same ∙ c.loop-done.invariant.same) c.in_ok-node-in-Ok-Win.ensures.stands;
-    }
+    let lawful : IsPosition g.R.Rule.KIND b = c.side.ensures.lawful in
+    let stands : StandsFor c.compile.new.compiler c.in_ok-node-in-Ok-Win.node (four_plan g.R.Rule.KIND (d + 1) b) =
+    subst (λ (w : Grid). StandsFor c.compile.new.compiler c.in_ok-node-in-Ok-Win.node (four_plan g.R.Rule.KIND (d + 1) w)) (c.search.ensures.same ∙ c.loop-done.invariant.same) c.in_ok-node-in-Ok-Win.ensures.stands in
+    four-win g.R.Rule.KIND b c.args.depth d c.loop-done-test.true c.loop-done.invariant.none lawful (win-here g.R.Rule.KIND b c.args.depth c.args.budget c.loop-done.left d c.loop-done-test.true c.loop-done.invariant.none c.loop-done.invariant.spent c.in-Ok-Win.field-0-0 c.in-Ok-Win.line found) c.compile.new.compiler c.in_ok-node-in-Ok-Win.ensures.compiled.table c.in_ok-node-in-Ok-Win.node stands
 
 pub returns-in-Ok-Win-clause-none : goal.returns-in-Ok-Win-clause-none
 returns-in-Ok-Win-clause-none g c =
