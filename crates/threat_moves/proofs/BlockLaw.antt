@@ -1,26 +1,23 @@
 -- In the game of continuous fours only the block of a four needs an answer of its own.
-use Rattle.std.proofs.Common.{◌≡◌, ◌⊎◌, inl, inr, ℕ, zero, suc, ◌+◌, Bool, true, false, cond, ◌&&◌, ◌||◌, not, refl, sym, ap, subst, ◌∙◌, arith, List, [], ◌∷◌, nat_eq}
+use Rattle.std.proofs.Common.{◌≡◌, inl, inr, ℕ, zero, suc, Bool, true, false, cond, ◌&&◌, ◌||◌, refl, sym, ap, subst, ◌∙◌, arith, List, [], ◌∷◌, nat_eq}
 use Rattle.std.specs.Prelude.{Option, Some, None}
 use Rattle.std.specs.List.{list_any, list_all, filter}
 use Rattle.std.proofs.lemmas.Bool.Decides.{nat_tests}
-use Rattle.game_rules.specs.Grid.{Grid, is_on, is_empty, put, points_of, empties_of}
+use Rattle.game_rules.specs.Grid.{Grid, is_on, is_empty, points_of, empties_of}
 use Rattle.game_rules.specs.Shapes.{five}
 use Rattle.game_rules.specs.Play.{IsPosition, outcome, outcome_by, foul_of, mover, other, after}
 use Rattle.game_rules.specs.Games.{has_five, five_points, wins_or, loses_or, starts_win, wins_under, wins_by_fours}
 use Rattle.game_rules.specs.declared.RuleKind.{RuleKind}
 use Rattle.game_rules.specs.declared.Foul.{Foul}
-use Rattle.game_rules.specs.declared.Side.{Side}
 use Rattle.game_rules.specs.declared.Outcome.{Outcome}
 use Rattle.game_rules.specs.declared.Outcome.TheVariants.{Refused, Wins, Fouls, Draws, GoesOn}
 use Rattle.game_rules.specs.declared.Point.{Point}
 use Rattle.game_rules.proofs.Boards.{and_left, and_right, is_empty-on, Apart, empties_of-put}
 use Rattle.game_rules.proofs.Points.{points-found, any_witness, all_of, all_at}
 use Rattle.game_rules.proofs.Positions.{IsBoard-put, IsPosition-after, GoesOn-empty, mover-after}
-use Rattle.threat_moves.specs.declared.block.BlockAnswer.{BlockAnswer}
-use Rattle.threat_moves.specs.declared.block.BlockAnswer.TheVariants.{Lost, Won, Draw, One}
-use Rattle.threat_moves.specs.FourMoves.{is_four_move}
+use Rattle.threat_moves.specs.declared.block.BlockAnswer.TheVariants.{Lost}
 use Rattle.threat_moves.specs.Blocks.{by_block, by_fives, fate}
-use Rattle.threat_moves.specs.OneBlock.{all_foul, won_within, block_wins, BlockDecides, LeavesFive, OthersLeaveFive}
+use Rattle.threat_moves.specs.OneBlock.{block_wins, BlockDecides, LeavesFive, OthersLeaveFive}
 use Rattle.threat_moves.proofs.FourLaws.{four-goes_on, four-five}
 use Rattle.threat_moves.proofs.OtherSide.{same_or_apart, other-other, is_empty-put, five-other, five-empty}
 use Rattle.threat_moves.proofs.Distinct.{two_passing-apart}

@@ -1,5 +1,5 @@
 -- The points of a board are listed once each.
-use Rattle.std.proofs.Common.{◌≡◌, ◌≢◌, ℕ, zero, suc, ◌+◌, ◌*◌, ◌≤◌, ◌<◌, Bool, true, false, cond, refl, sym, ap, subst, ◌∙◌, arith, List, [], ◌∷◌, ◌++◌, map}
+use Rattle.std.proofs.Common.{◌≡◌, ℕ, zero, suc, ◌+◌, ◌*◌, ◌≤◌, Bool, true, false, cond, sym, ap, subst, ◌∙◌, arith, List, [], ◌∷◌, ◌++◌}
 use Rattle.std.specs.List.{flat_map, range_with_len, filter}
 use Rattle.game_rules.specs.Grid.{Grid, points_of, row_from}
 use Rattle.game_rules.specs.declared.Point.{Point}

@@ -7,7 +7,7 @@ use Rattle.game_rules.specs.declared.RuleKind.{RuleKind}
 use Rattle.game_rules.specs.declared.Outcome.{Outcome}
 use Rattle.game_rules.specs.declared.Outcome.TheVariants.{Refused, Wins, Fouls, Draws, GoesOn}
 use Rattle.game_rules.specs.declared.Point.{Point}
-use Rattle.threat_moves.specs.declared.block.BlockAnswer.TheVariants.{Lost, Won, Draw, One}
+use Rattle.threat_moves.specs.declared.block.BlockAnswer.TheVariants.{Lost, One}
 use Rattle.threat_moves.specs.Blocks.{by_block, by_fives, fate}
 use Rattle.threat_moves.specs.FourMoves.{goes_on_with, is_four_move}
 

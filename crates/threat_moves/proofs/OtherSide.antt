@@ -1,20 +1,18 @@
 -- A stone changes no five point of the other side, but the point that it takes.
-use Rattle.std.proofs.Common.{◌≡◌, ◌⊎◌, inl, inr, ℕ, ◌+◌, Bool, true, false, ◌&&◌, ◌||◌, refl, sym, ap, subst, ◌∙◌, arith, nat_eq}
+use Rattle.std.proofs.Common.{◌≡◌, ◌⊎◌, inl, inr, Bool, true, false, ◌&&◌, ◌||◌, refl, sym, ap, subst, ◌∙◌, arith, nat_eq}
 use Rattle.std.specs.Prelude.{Option, Some, None}
-use Rattle.std.specs.List.{list_any, prefix_len, range_with_len}
 use Rattle.std.proofs.lemmas.Bool.Decides.{nat_tests}
-use Rattle.game_rules.specs.Grid.{Grid, IsBoard, is_on, is_empty, is_empty_cell, is_stone_of, stone_of, holds, cell_at, put, along, axes}
+use Rattle.game_rules.specs.Grid.{Grid, IsBoard, is_on, is_empty, is_empty_cell, is_stone_of, stone_of, holds, cell_at, put, along}
 use Rattle.game_rules.specs.Shapes.{stone_at, stones_ahead, stones_behind, line_bound, run_of, row_wins, wins_on, five}
 use Rattle.game_rules.specs.Play.{other}
 use Rattle.game_rules.specs.declared.Side.{Side}
 use Rattle.game_rules.specs.declared.Side.TheVariants.{Black, White}
-use Rattle.game_rules.specs.declared.Cell.{Cell}
 use Rattle.game_rules.specs.declared.Cell.TheVariants.{Empty}
 use Rattle.game_rules.specs.declared.Axis.{Axis}
 use Rattle.game_rules.specs.declared.Axis.TheVariants.{Row, Column, Down, Up}
 use Rattle.game_rules.specs.declared.Point.{Point}
 use Rattle.game_rules.specs.declared.RuleKind.{RuleKind}
-use Rattle.game_rules.proofs.Boards.{and_left, and_right, is_empty-on, is_empty-cell, Apart, holds-put_other, cell_at-put_other, cell_at-put_same, prefix_len-same, run_of-put}
+use Rattle.game_rules.proofs.Boards.{and_right, is_empty-on, is_empty-cell, Apart, holds-put_other, cell_at-put_other, cell_at-put_same, prefix_len-same, run_of-put}
 use Rattle.game_rules.proofs.Positions.{IsBoard-put}
 
 same_by : (p q : Point) (a c : Bool) → nat_eq p.x q.x ≡ a → nat_eq p.y q.y ≡ c → (p ≡ q) ⊎ Apart p q

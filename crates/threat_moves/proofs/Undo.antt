@@ -1,5 +1,5 @@
 -- A move that goes on, taken back.
-use Rattle.std.proofs.Common.{◌≡◌, true, ap, ◌∙◌, sym}
+use Rattle.std.proofs.Common.{◌≡◌, true, ap, ◌∙◌}
 use Rattle.game_rules.specs.Grid.{Grid, lift, holds}
 use Rattle.game_rules.specs.Play.{IsPosition, IsUnwon, outcome, mover, other, after}
 use Rattle.game_rules.specs.declared.RuleKind.{RuleKind}

@@ -74,8 +74,9 @@ fn blocked<R: Rule>(alloc: Global) -> Result<BlockAnswer, Fail> {
     let black = [(7, 0), (7, 1), (7, 2), (2, 3), (7, 4), (7, 5)];
     let white = [(3, 3), (4, 3), (5, 3), (12, 14), (14, 14)];
     let mut view = position::<R>(alloc, &black, &white)?.ok_or("unlawful")?;
-    if is_four_move::<R, Position<R>>(&mut view, at(6, 3)) {
-        Ok(forced::<R, Position<R>>(alloc, &mut view, at(6, 3))?)
+    let four = at(6, 3);
+    if is_four_move::<R, Position<R>>(&mut view, four) {
+        Ok(forced::<R, Position<R>>(alloc, &mut view, four)?)
     } else {
         Err(Fail::from("no four"))
     }
