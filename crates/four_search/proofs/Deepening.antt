@@ -87,14 +87,15 @@ module _ (rule : RuleKind) (b : Grid) (depth : ℕ) where
       ap (sum_by (λ k. four_tree rule k b)) (range_more d 1)
       ∙ sum_by-append (λ k. four_tree rule k b) (range_with_len 1 d) ((1 + d) ∷ [])
       ∙ ap (λ n. spent_on d + n) (let m : 1 + d ≡ d + 1 = omega arith in last m) where
-    range_more : (d a : ℕ) → range_with_len a (d + 1) ≡ range_with_len a d ++ (a + d) ∷ []
-    range_more zero a = let z : a + zero ≡ a = omega arith in ap (λ (n : ℕ). n ∷ []) (sym z)
-    range_more (suc d) a =
-        let m : suc d + 1 ≡ suc (d + 1) = omega arith in
-        let n : a + suc d ≡ a + 1 + d = omega arith in
-        rw (m, n) (ap (λ (xs : List ℕ). a ∷ xs) (range_more d (a + 1)))
-    last : 1 + d ≡ d + 1 → sum_by (λ k. four_tree rule k b) ((1 + d) ∷ []) ≡ four_tree rule (d + 1) b
-    last m = sum_by-cons (λ k. four_tree rule k b) (1 + d) [] ∙ (let z : four_tree rule (1 + d) b + 0 ≡ four_tree rule (1 + d) b = omega arith in z) ∙ ap (λ k. four_tree rule k b) m
+        range_more : (d a : ℕ) → range_with_len a (d + 1) ≡ range_with_len a d ++ (a + d) ∷ []
+        range_more zero a = let z : a + zero ≡ a = omega arith in ap (λ (n : ℕ). n ∷ []) (sym z)
+        range_more (suc d) a =
+            let m : suc d + 1 ≡ suc (d + 1) = omega arith in
+            let n : a + suc d ≡ a + 1 + d = omega arith in
+            rw (m, n) (ap (λ (xs : List ℕ). a ∷ xs) (range_more d (a + 1)))
+
+        last : 1 + d ≡ d + 1 → sum_by (λ k. four_tree rule k b) ((1 + d) ∷ []) ≡ four_tree rule (d + 1) b
+        last m = sum_by-cons (λ k. four_tree rule k b) (1 + d) [] ∙ (let z : four_tree rule (1 + d) b + 0 ≡ four_tree rule (1 + d) b = omega arith in z) ∙ ap (λ k. four_tree rule k b) m
 
   -- no less is spent than on these depths and the next
   pub cost-more : (d : ℕ) → d < depth → NoWinUpTo d → spent_on (d + 1) ≤ four_cost rule depth b

@@ -83,10 +83,10 @@ not_same p q h = by_test (is_same_point p q) refl where
       let c : nat_lt p.x q.x ≡ false = grind (arith, nat_tests) in
       let none : precedes p q ≡ false = none_of (nat_lt p.y q.y) (nat_eq p.y q.y) (nat_lt p.x q.x) a c in
       let bad : false ≡ true = sym none ∙ h in cc where
-    none_of : (a e c : Bool) → a ≡ false → c ≡ false → (a || (e && c)) ≡ false
-    none_of true e c h k = cc
-    none_of false true c h k = k
-    none_of false false c h k = refl
+        none_of : (a e c : Bool) → a ≡ false → c ≡ false → (a || (e && c)) ≡ false
+        none_of true e c h k = cc
+        none_of false true c h k = k
+        none_of false false c h k = refl
 
 listed_later : (s : Reply) (rs ts : List Reply) → list_all (λ r. precedes s.at r.at) rs ≡ true → AllByRecursion (λ r. listed ts r.at ≡ Some r.next) rs → AllByRecursion (λ r. listed (s ∷ ts) r.at ≡ Some r.next) rs
 listed_later s [] ts all h = tt
@@ -157,12 +157,14 @@ module _ (t : List Node) (a : Answers) (o : Point → Outcome) (next : Point →
     skip (Fouls g) k = k
     skip Draws k = k
     skip GoesOn k = k.1
+
     here : (r : Outcome) → r ≡ GoesOn → StandsForAll t a (branch_if r p (next p) (branches_for o next ps)) → Answered (answer a p) (λ j. StandsFor t j (next p))
     here Refused e k = cc
     here WinsNow e k = cc
     here (Fouls g) e k = cc
     here Draws e k = cc
     here GoesOn e k = k.0
+
     by_test : (r : Bool) → is_same_point q p ≡ r → (r || among_points q ps) ≡ true → (AmongPoints q ps → StandsForAll t a (branches_for o next ps) → Answered (answer a q) (λ j. StandsFor t j (next q))) → Answered (answer a q) (λ j. StandsFor t j (next q))
     by_test true e k rest =
         let same : q ≡ p = same_point q p e in

@@ -129,9 +129,11 @@ module _ (rule : RuleKind) (c : Grid) (lawful : IsPosition rule c) (q : Point) (
   ] where
     not_there : five rule (after c q) (other (mover c)) q ≡ false
     not_there = false_by _ (λ h. let yes = five-empty rule (after c q) (other (mover c)) q h in let bad : false ≡ true = sym taken ∙ yes in cc)
+
     drop_right : (a b : Bool) → b ≡ false → (a && b) ≡ false
     drop_right true b h = h
     drop_right false b h = refl
+
     keep_left : (a b : Bool) → b ≡ true → (a && b) ≡ a
     keep_left true b h = h
     keep_left false b h = refl
@@ -165,7 +167,7 @@ plan-leaf rule (suc n) d x h some =
     let five : has_five rule d (mover d) ≡ true = find-any (five rule d (mover d)) (points_of d) x h in
     ap (λ r. plan_from r (four_move rule (suc n) d) (λ p. branches_for (outcome rule (after d p)) (λ q. four_plan rule n (after (after d p) q)) (points_of d))) five
     ∙ ap (λ (o : Option Point). plan_from true o (λ p. branches_for (outcome rule (after d p)) (λ q. four_plan rule n (after (after d p) q)) (points_of d)))
-      (ap (λ r. cond r (least_five rule d) (find (starts_win (has_five rule) rule d (wins_by_fours rule n)) (points_of d))) five ∙ h)
+    (ap (λ r. cond r (least_five rule d) (find (starts_win (has_five rule) rule d (wins_by_fours rule n)) (points_of d))) five ∙ h)
 
 pub plan-fork : (rule : RuleKind) (n : ℕ) (d : Grid) (p : Point) → has_five rule d (mover d) ≡ false → four_move rule (suc n) d ≡ Some p → four_plan rule (suc n) d ≡ Fork p (branches_for (outcome rule (after d p)) (λ q. four_plan rule n (after (after d p) q)) (points_of d))
 unfolding four_plan
@@ -225,10 +227,12 @@ one-points rule c w h = by_fate (has_five rule c (mover c)) h where
   by_block_one v (Fouls f) h = cc
   by_block_one v Draws h = cc
   by_block_one v GoesOn h = cc
+
   by_points : (xs : List Point) → One w ≡ by_fives rule c xs → xs ≡ w ∷ []
   by_points [] h = cc
   by_points (v ∷ []) h = ap (λ (x : Point). x ∷ []) (by_block_one v (outcome rule c v) h)
   by_points (v ∷ u ∷ more) h = cc
+
   by_fate : (r : Bool) → One w ≡ cond r Lost (by_fives rule c (five_points rule c (other (mover c)))) → five_points rule c (other (mover c)) ≡ w ∷ []
   by_fate true h = cc
   by_fate false h = by_points (five_points rule c (other (mover c))) h
@@ -241,6 +245,7 @@ won-foul rule c w h e on = by_fate (has_five rule c (mover c)) h where
   by_points h =
       let k : Won ≡ by_block w (outcome rule c w) = h ∙ ap (by_fives rule c) e in
       let l : Won ≡ One w = k ∙ ap (by_block w) on in cc
+
   by_fate : (r : Bool) → Won ≡ cond r Lost (by_fives rule c (five_points rule c (other (mover c)))) → ⊥
   by_fate true h = cc
   by_fate false h = by_points h
@@ -296,12 +301,13 @@ line-some rule (suc n) b line lawful none wins e empty =
     let whole : line ≡ line_behind (four_line rule n) (after b found.0) (fate rule (after b found.0)) ++ found.0 ∷ [] =
     e ∙ ap (λ r. cond r [] (line_from rule b (four_line rule n) (four_move rule (suc n) b))) none ∙ ap (line_from rule b (four_line rule n)) chosen in
     no_end (line_behind (four_line rule n) (after b found.0) (fate rule (after b found.0))) found.0 (nil line empty ∙ whole) where
-  nil : (l : List Point) → length l ≡ 0 → [] ≡ l
-  nil [] h = refl
-  nil (x ∷ l) h = absurd (omega arith)
-  no_end : (xs : List Point) (x : Point) → [] ≡ xs ++ x ∷ [] → ⊥
-  no_end [] x h = cc
-  no_end (y ∷ xs) x h = cc
+      nil : (l : List Point) → length l ≡ 0 → [] ≡ l
+      nil [] h = refl
+      nil (x ∷ l) h = absurd (omega arith)
+
+      no_end : (xs : List Point) (x : Point) → [] ≡ xs ++ x ∷ [] → ⊥
+      no_end [] x h = cc
+      no_end (y ∷ xs) x h = cc
 
 -- the chosen move is a four move, and its block decides
 pub chosen-four : (rule : RuleKind) (n : ℕ) (b : Grid) (p : Point) → IsPosition rule b → has_five rule b (mover b) ≡ false → four_move rule n b ≡ Some p → (is_four_move rule b p ≡ true) × (block_wins rule (n - 1) (after b p) (fate rule (after b p)) ≡ true) × (0 < n)
@@ -313,9 +319,9 @@ chosen-four rule (suc n) b p lawful none chosen =
     let four : is_four_move rule b p ≡ true = true_by (is_four_move rule b p) (λ no_move. let miss = no_four rule n b lawful none p no_move in let bad : false ≡ true = sym miss ∙ wins in cc) in
     let m : n ≡ suc n - 1 = omega arith in
     (four, ap (λ (k : ℕ). block_wins rule k (after b p) (fate rule (after b p))) (sym m) ∙ sym (block_decides rule n b p lawful four) ∙ wins, omega arith) where
-  true_by : (r : Bool) → (r ≡ false → ⊥) → r ≡ true
-  true_by true h = refl
-  true_by false h = absurd (h refl)
+      true_by : (r : Bool) → (r ≡ false → ⊥) → r ≡ true
+      true_by true h = refl
+      true_by false h = absurd (h refl)
 
 no_move : (rule : RuleKind) (b : Grid) (p : Point) → four_move rule zero b ≡ Some p → ⊥
 unfolding four_move
@@ -442,9 +448,9 @@ stands-grown law a c k g i tree h = subst (λ (t : List Node). StandsFor t i tre
 pub plan-won-points : (rule : RuleKind) (n : ℕ) (b : Grid) (p : Point) (lawful : IsPosition rule b) (none : has_five rule b (mover b) ≡ false) (chosen : four_move rule n b ≡ Some p) (xs : List Point) → xs ≡ five_points rule (after b p) (mover b) → fate rule (after b p) ≡ Won → length xs < 1 → ⊥
 plan-won-points rule n b p lawful none chosen xs points won low =
     won-some rule (after b p) (sym won) (ap (five_points rule (after b p)) (turn rule n b p lawful none chosen) ∙ sym points ∙ nil xs low) where
-  nil : (l : List Point) → length l < 1 → l ≡ []
-  nil [] h = refl
-  nil (x ∷ l) h = absurd (omega arith)
+      nil : (l : List Point) → length l < 1 → l ≡ []
+      nil [] h = refl
+      nil (x ∷ l) h = absurd (omega arith)
 
 -- ---- five points as a list
 

@@ -213,9 +213,9 @@ no_positions rule b [] = refl
 no_positions rule b (p ∷ ps) =
     let count : Point → ℕ = λ p. cond (is_four_move rule b p) (positions_behind rule zero (after b p)) 0 in
     sum_by-cons count p ps ∙ zeros (is_four_move rule b p) (no_positions rule b ps) where
-  zeros : (r : Bool) → sum_by (λ p. cond (is_four_move rule b p) (positions_behind rule zero (after b p)) 0) ps ≡ 0 → cond r 0 0 + sum_by (λ p. cond (is_four_move rule b p) (positions_behind rule zero (after b p)) 0) ps ≡ 0
-  zeros true h = rw h refl
-  zeros false h = rw h refl
+      zeros : (r : Bool) → sum_by (λ p. cond (is_four_move rule b p) (positions_behind rule zero (after b p)) 0) ps ≡ 0 → cond r 0 0 + sum_by (λ p. cond (is_four_move rule b p) (positions_behind rule zero (after b p)) 0) ps ≡ 0
+      zeros true h = rw h refl
+      zeros false h = rw h refl
 
 module _ (rule : RuleKind) (b : Grid) (lawful : IsPosition rule b) (none : has_five rule b (mover b) ≡ false) where
   pub move-is : (n : ℕ) → four_move rule (suc n) b ≡ find (test rule n b lawful none) (points_of b)
@@ -245,9 +245,9 @@ module _ (rule : RuleKind) (b : Grid) (lawful : IsPosition rule b) (none : has_f
       let fits : nat_le s (budget - 1) ≡ nat_le (1 + s) budget = same (nat_le (1 + s) budget) refl in
       let rest : budget - 1 - s ≡ budget - (1 + s) = omega arith in
       rw (fits, rest) refl where
-    same : (r : Bool) → nat_le (1 + s) budget ≡ r → nat_le s (budget - 1) ≡ r
-    same true e = grind (arith, nat_tests)
-    same false e = grind (arith, nat_tests)
+        same : (r : Bool) → nat_le (1 + s) budget ≡ r → nat_le s (budget - 1) ≡ r
+        same true e = grind (arith, nat_tests)
+        same false e = grind (arith, nat_tests)
 
   -- all moves tried
   found-after-all : (n budget : ℕ) → 0 < budget → try_all rule n b (budget - 1) (points_of b) ≡ found_at rule (suc n) b budget
@@ -276,9 +276,9 @@ found-five rule (suc n) budget b some moves fits =
     ∙ ap (λ t. found_by budget t true []) (sym (tree n))
     ∙ ap (λ w. found_by budget (four_tree rule (suc n) b) w []) (sym (five-wins rule b n some))
     ∙ ap (λ l. found_by budget (four_tree rule (suc n) b) (wins_by_fours rule (suc n) b) l) (ap (λ r. cond r [] (line_from rule b (four_line rule n) (four_move rule (suc n) b))) (sym some)) where
-  tree : (n : ℕ) → four_tree rule (suc n) b ≡ 1
-  tree zero = refl
-  tree (suc m) = ap (λ r. cond r 1 (1 + sum_by (behind_move rule b (four_tree rule (suc m))) (tried rule (suc (suc m)) b))) some
+      tree : (n : ℕ) → four_tree rule (suc n) b ≡ 1
+      tree zero = refl
+      tree (suc m) = ap (λ r. cond r 1 (1 + sum_by (behind_move rule b (four_tree rule (suc m))) (tried rule (suc (suc m)) b))) some
 
 tree-some : (rule : RuleKind) (n : ℕ) (b : Grid) → 0 < four_tree rule n b
 unfolding four_tree

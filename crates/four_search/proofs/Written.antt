@@ -1,6 +1,6 @@
 -- A node that stands for the plan of a win by fours is accepted, and its depth is at most the moves of the plan; within that
 -- depth there is a win by fours.
-use Rattle.std.proofs.Common.{◌≡◌, ◌⊎◌, inl, inr, ℕ, zero, suc, ◌+◌, ◌≤◌, ◌<◌, Bool, true, false, cond, ◌&&◌, refl, sym, ap, subst, ◌∙◌, arith, List, [], ◌∷◌, map}
+use Rattle.std.proofs.Common.{◌≡◌, ◌⊎◌, inl, inr, ℕ, zero, suc, ◌+◌, ◌≤◌, ◌<◌, Bool, true, false, cond, ◌&&◌, refl, sym, ap, subst, ◌∙◌, arith, List, [], ◌∷◌, map, length}
 use Rattle.std.specs.Prelude.{Option, Some, None, slice_get, Contains}
 use Rattle.std.specs.List.{list_any, list_all, find, AllByRecursion}
 use Rattle.std.proofs.lemmas.List.Elements.{All-from_recursion}
@@ -213,11 +213,12 @@ module _ (rule : RuleKind) (t : List Node) (table : IsTable t) (i m : ℕ) (b : 
       ∙ each in
       ap (λ (d : ℕ). wins_by_fours rule d b) written_depth
       ∙ points-found b (starts_win (has_five rule) rule b (wins_by_fours rule k)) p (GoesOn-on rule b p on) here where
-    next_one : (q : Point) → outcome rule (after b p) q ≡ GoesOn → Answered (answer (answers_of n) q) (λ j. wins_by_fours rule (depth t j) (after (after b p) q) ≡ true)
-    next_one q go = Answered-map (answer (answers_of n) q) (λ j. StandsFor t j (four_plan rule m (after (after b p) q))) (λ j. wins_by_fours rule (depth t j) (after (after b p) q) ≡ true) (λ j e s. (next_written q j go s).wins) (answered q go)
-    next_wins : (q : Point) (o : Option ℕ) → answer (answers_of n) q ≡ o → Answered o (λ j. wins_by_fours rule (depth t j) (after (after b p) q) ≡ true) → wins_by_fours rule (greatest (map (depth t) (named (answers_of n)))) (after (after b p) q) ≡ true
-    next_wins q None e h = absurd h
-    next_wins q (Some j) e h = wins-more rule (depth t j) (greatest (map (depth t) (named (answers_of n)))) (after (after b p) q) (answer-greatest (depth t) (answers_of n) q j e) h
+        next_one : (q : Point) → outcome rule (after b p) q ≡ GoesOn → Answered (answer (answers_of n) q) (λ j. wins_by_fours rule (depth t j) (after (after b p) q) ≡ true)
+        next_one q go = Answered-map (answer (answers_of n) q) (λ j. StandsFor t j (four_plan rule m (after (after b p) q))) (λ j. wins_by_fours rule (depth t j) (after (after b p) q) ≡ true) (λ j e s. (next_written q j go s).wins) (answered q go)
+
+        next_wins : (q : Point) (o : Option ℕ) → answer (answers_of n) q ≡ o → Answered o (λ j. wins_by_fours rule (depth t j) (after (after b p) q) ≡ true) → wins_by_fours rule (greatest (map (depth t) (named (answers_of n)))) (after (after b p) q) ≡ true
+        next_wins q None e h = absurd h
+        next_wins q (Some j) e h = wins-more rule (depth t j) (greatest (map (depth t) (named (answers_of n)))) (after (after b p) q) (answer-greatest (depth t) (answers_of n) q j e) h
 
   written_on : StaysOnBoard b t i
   written_on = stays-by b t i n at
@@ -246,6 +247,7 @@ plan-written rule t table (suc m) i b lawful wins stands = by_five (has_five rul
       let leaf : StandsFor t i (Leaf x.0) = subst (λ (s : Tree). StandsFor t i s) (plan-leaf rule (suc m) b x.0 x.1 (omega arith)) stands in
       let node = leaf_node t i x.0 leaf in
       leaf-written rule t table i b x.0 (find-passes (five rule b (mover b)) (points_of b) x.0 x.1) some node.0 node.1 node.2.0 node.2.1 m
+
   by_fork : has_five rule b (mover b) ≡ false → ((j : ℕ) (c : Grid) → IsPosition rule c → wins_by_fours rule m c ≡ true → StandsFor t j (four_plan rule m c) → IsWritten rule t j m c) → IsWritten rule t i (suc m) b
   by_fork none later =
       let test : Point → Bool = starts_win (has_five rule) rule b (wins_by_fours rule m) in
@@ -255,24 +257,26 @@ plan-written rule t table (suc m) i b lawful wins stands = by_five (has_five rul
       subst (λ (s : Tree). StandsFor t i s) (plan-fork rule m b x.0 none chosen) stands in
       let node = fork_node t i x.0 _ fork in
       fork-written rule t table i m b x.0 lawful (plan-goes_on rule (suc m) b x.0 lawful none chosen) (find-passes test (points_of b) x.0 x.1) node.0 node.1 node.2.0 node.2.1 node.2.2 later
+
   by_five : (r : Bool) → has_five rule b (mover b) ≡ r → ((j : ℕ) (c : Grid) → IsPosition rule c → wins_by_fours rule m c ≡ true → StandsFor t j (four_plan rule m c) → IsWritten rule t j m c) → IsWritten rule t i (suc m) b
   by_five true some later = by_leaf some
   by_five false none later = by_fork none later
 
 -- what the search says of a win
-pub four-win : (rule : RuleKind) (b : Grid) (limit d : ℕ) → d < limit → NoWinUpTo rule b limit d → IsPosition rule b → wins_by_fours rule (d + 1) b ≡ true → (t : List Node) → IsTable t → (i : ℕ) → StandsFor t i (four_plan rule (d + 1) b) → IsFourWin rule limit b t i (d + 1)
-four-win rule b limit d l none lawful wins t table i stands =
+pub four-win : (rule : RuleKind) (b : Grid) (limit d : ℕ) → d < limit → NoWinUpTo rule b limit d → IsPosition rule b → wins_by_fours rule (d + 1) b ≡ true → (t : List Node) → IsTable t → (i : ℕ) → i < length t → StandsFor t i (four_plan rule (d + 1) b) → IsFourWin rule limit b t i (d + 1)
+four-win rule b limit d l none lawful wins t table i within stands =
     let written = plan-written rule t table (d + 1) i b lawful wins stands in
     record {
       fewest = least-win rule b limit d l none wins;
+      in_compiler = within;
       stands = stands;
       accepted = written.accepted;
       deep = by_order (cases_lt d (depth t i)) written.deep written.wins;
       on_board = written.on_board;
     } where
-  by_order : (d < depth t i) ⊎ (depth t i ≤ d) → depth t i ≤ d + 1 → wins_by_fours rule (depth t i) b ≡ true → depth t i ≡ d + 1
-  by_order (inl more) high won = omega arith
-  by_order (inr less) high won =
-      let some = wins-some rule (depth t i) b won in
-      let lost = none (depth t i) (omega (arith, some)) less in
-      let bad : false ≡ true = sym lost ∙ won in cc
+      by_order : (d < depth t i) ⊎ (depth t i ≤ d) → depth t i ≤ d + 1 → wins_by_fours rule (depth t i) b ≡ true → depth t i ≡ d + 1
+      by_order (inl more) high won = omega arith
+      by_order (inr less) high won =
+          let some = wins-some rule (depth t i) b won in
+          let lost = none (depth t i) (omega (arith, some)) less in
+          let bad : false ≡ true = sym lost ∙ won in cc

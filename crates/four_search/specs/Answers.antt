@@ -1,5 +1,5 @@
 -- What the answers of the four search say.
-use Rattle.std.specs.Prelude.{◌≡◌, ℕ, ◌*◌, true, List, Some, slice_get}
+use Rattle.std.specs.Prelude.{◌≡◌, ℕ, ◌*◌, ◌<◌, true, List, length, Some, slice_get}
 use Rattle.std.specs.List.{list_all}
 use Rattle.game_rules.specs.Grid.{Grid, is_on}
 use Rattle.game_rules.specs.declared.RuleKind.{RuleKind}
@@ -32,6 +32,7 @@ StaysOnBoard b t i = (k : ℕ) (n : Node) → Reaches t i k → slice_get t k �
 -- is accepted, its depth is the number of moves, and what it reaches names points of the board alone.
 pub record IsFourWin (rule : RuleKind) (limit : ℕ) (b : Grid) (t : List Node) (node moves : ℕ) : Type 0 where
   pub fewest : least_moves rule limit b ≡ Some moves
+  pub in_compiler : node < length t
   pub stands : StandsFor t node (four_plan rule moves b)
   pub accepted : Accepted rule t node b
   pub deep : depth t node ≡ moves

@@ -9,6 +9,8 @@ mod answer;
 mod error;
 mod plan;
 mod search;
+#[cfg(test)]
+mod tests;
 
 pub use answer::{FourAnswer, four_search};
 pub use error::SearchError;

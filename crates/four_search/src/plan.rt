@@ -54,7 +54,9 @@ pub(crate) fn compile<R: Rule, V: Seen<R>>(
         [five, ..] => winning(compiler, *five),
         [] => match line.split_last() {
             None => unreachable!(),
-            Some((attack, inner)) => compile_four::<R, V>(alloc, view, *attack, moves, inner, compiler),
+            Some((attack, inner)) => compile_four::<R, V>(
+                alloc, view, *attack, moves, inner, compiler,
+            ),
         },
     }
 }
@@ -88,7 +90,9 @@ fn compile_four<R: Rule, V: Seen<R>>(
         BlockAnswer::Lost => unreachable!(),
         BlockAnswer::Draw(_) => unreachable!(),
         BlockAnswer::Won => compile_won::<R, V>(alloc, view, p, moves, compiler),
-        BlockAnswer::One(block) => compile_one::<R, V>(alloc, view, p, block, moves, line, compiler),
+        BlockAnswer::One(block) => compile_one::<R, V>(
+            alloc, view, p, block, moves, line, compiler,
+        ),
     }
 }
 
@@ -198,7 +202,11 @@ fn compile_won<R: Rule, V: Seen<R>>(
 }
 
 /// The five points of the side to move after its four `p`. The view is as before.
-fn fives_after<R: Rule, V: Seen<R>>(alloc: Global, view: &mut V, p: Point) -> Result<Points, AllocError>
+fn fives_after<R: Rule, V: Seen<R>>(
+    alloc: Global,
+    view: &mut V,
+    p: Point,
+) -> Result<Points, AllocError>
     requires goes_on { outcome_lem R.KIND (V.position view.old) p ≡ Outcome.GoesOn }
     ensures fives { IfOk result (λ points. points ≡ five_points R.KIND (after (V.position view.old) p) (mover (V.position view.old))) }
     ensures same { V.position view.new ≡ V.position view.old }
@@ -279,14 +287,23 @@ fn forking(compiler: &mut Compiler, attack: Point, answers: &[Reply]) -> Result<
 
 /// The answers at a position where the defender is to move: one node to the block, another to each other reply that goes
 /// on. The view is as before.
-fn answers<R: Rule, V: Seen<R>>(alloc: Global, view: &mut V, block: Point, at_block: u32, beside: u32) -> Result<Vec<Reply>, AllocError>
+fn answers<R: Rule, V: Seen<R>>(
+    alloc: Global,
+    view: &mut V,
+    block: Point,
+    at_block: u32,
+    beside: u32,
+) -> Result<Vec<Reply>, AllocError>
     ensures answers { IfOk result (λ answers. answers.items ≡ answers_for (outcome_lem R.KIND (V.position view.old)) (at_or_beside_lem block at_block beside) (points_of (V.position view.old))) }
     ensures same { V.position view.new ≡ V.position view.old }
 {
     let mut found = Vec::new(alloc);
     for q in view.board().points() {
         if let Outcome::GoesOn = view.outcome(q) {
-            found.push(Reply { at: q, next: at_or_beside(q, block, at_block, beside) })?;
+            found.push(Reply {
+                at: q,
+                next: at_or_beside(q, block, at_block, beside),
+            })?;
         }
     }
     Ok(found)

@@ -35,7 +35,12 @@ pub(crate) enum Found {
 /// Searches a win by fours within so many moves, at least 1, with at most `budget` positions. The view is as before, also
 /// where memory ran out.
 #[cycle(search)]
-pub(crate) fn search<R: Rule, V: Seen<R>>(alloc: Global, view: &mut V, moves: u32, budget: u64) -> Result<Found, AllocError>
+pub(crate) fn search<R: Rule, V: Seen<R>>(
+    alloc: Global,
+    view: &mut V,
+    moves: u32,
+    budget: u64,
+) -> Result<Found, AllocError>
     requires some { 0 < moves }
     ensures found { IfOk result (λ found. found ≡ found_at R.KIND moves (V.position view.old) budget) }
     ensures same { V.position view.new ≡ V.position view.old }
@@ -46,7 +51,10 @@ pub(crate) fn search<R: Rule, V: Seen<R>>(alloc: Global, view: &mut V, moves: u3
     let mut left = budget - 1;
     let attacker = view.side();
     if has_five::<R, V>(view, attacker) {
-        return Ok(Found::Win { left, line: Points::new(alloc) });
+        return Ok(Found::Win {
+            left,
+            line: Points::new(alloc),
+        });
     }
     for p in view.board().points() {
         if is_four_move::<R, V>(view, p) {
@@ -61,7 +69,13 @@ pub(crate) fn search<R: Rule, V: Seen<R>>(alloc: Global, view: &mut V, moves: u3
 
 /// Searches behind the four move `p`, where the attacker has so many more moves.
 #[cycle(search)]
-fn behind<R: Rule, V: Seen<R>>(alloc: Global, view: &mut V, p: Point, moves: u32, budget: u64) -> Result<Found, AllocError>
+fn behind<R: Rule, V: Seen<R>>(
+    alloc: Global,
+    view: &mut V,
+    p: Point,
+    moves: u32,
+    budget: u64,
+) -> Result<Found, AllocError>
     requires four { IsTrue (is_four_move_lem R.KIND (V.position view.old) p) }
     ensures found { IfOk result (λ found. found ≡ found_behind R.KIND moves (V.position view.old) p budget) }
     ensures same { V.position view.new ≡ V.position view.old }
@@ -90,7 +104,14 @@ fn behind<R: Rule, V: Seen<R>>(alloc: Global, view: &mut V, p: Point, moves: u32
 
 /// Searches the position after the four move `p` and its one block, which goes on.
 #[cycle(search)]
-fn after_block<R: Rule, V: Seen<R>>(alloc: Global, view: &mut V, p: Point, block: Point, moves: u32, budget: u64) -> Result<Found, AllocError>
+fn after_block<R: Rule, V: Seen<R>>(
+    alloc: Global,
+    view: &mut V,
+    p: Point,
+    block: Point,
+    moves: u32,
+    budget: u64,
+) -> Result<Found, AllocError>
     requires four { outcome R.KIND (V.position view.old) p ≡ Outcome.GoesOn }
     requires block { outcome R.KIND (after (V.position view.old) p) block ≡ Outcome.GoesOn }
     requires some { 0 < moves }

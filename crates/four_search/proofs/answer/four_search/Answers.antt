@@ -47,7 +47,7 @@ returns-in-Ok-Win-clause-win g c =
     let lawful : IsPosition g.R.Rule.KIND b = c.side.ensures.lawful in
     let stands : StandsFor c.compile.new.compiler c.in_ok-node-in-Ok-Win.node (four_plan g.R.Rule.KIND (d + 1) b) =
     subst (λ (w : Grid). StandsFor c.compile.new.compiler c.in_ok-node-in-Ok-Win.node (four_plan g.R.Rule.KIND (d + 1) w)) (c.search.ensures.same ∙ c.loop-done.invariant.same) c.in_ok-node-in-Ok-Win.ensures.stands in
-    four-win g.R.Rule.KIND b c.args.depth d c.loop-done-test.true c.loop-done.invariant.none lawful (win-here g.R.Rule.KIND b c.args.depth c.args.budget c.loop-done.left d c.loop-done-test.true c.loop-done.invariant.none c.loop-done.invariant.spent c.in-Ok-Win.field-0-0 c.in-Ok-Win.line found) c.compile.new.compiler c.in_ok-node-in-Ok-Win.ensures.compiled.table c.in_ok-node-in-Ok-Win.node stands
+    four-win g.R.Rule.KIND b c.args.depth d c.loop-done-test.true c.loop-done.invariant.none lawful (win-here g.R.Rule.KIND b c.args.depth c.args.budget c.loop-done.left d c.loop-done-test.true c.loop-done.invariant.none c.loop-done.invariant.spent c.in-Ok-Win.field-0-0 c.in-Ok-Win.line found) c.compile.new.compiler c.in_ok-node-in-Ok-Win.ensures.compiled.table c.in_ok-node-in-Ok-Win.node c.in_ok-node-in-Ok-Win.ensures.in_compiler stands
 
 pub returns-in-Ok-Win-clause-none : goal.returns-in-Ok-Win-clause-none
 returns-in-Ok-Win-clause-none g c =
