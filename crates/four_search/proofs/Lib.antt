@@ -4,4 +4,5 @@ pub mod Planning
 pub mod Growing
 pub mod Deepening
 pub mod Naming
+pub mod Sums
 pub mod Written

@@ -79,7 +79,7 @@ at_or_beside-below w i j k a b q = by_test (is_same_point q w) where
 
 -- ---- the five points that are left
 
-stone_full : (s : Side) → is_empty_cell (stone_of s) ≡ false
+pub stone_full : (s : Side) → is_empty_cell (stone_of s) ≡ false
 stone_full Black = refl
 stone_full White = refl
 

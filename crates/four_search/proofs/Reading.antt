@@ -15,7 +15,7 @@ abbrev pub From : ℕ → ℕ → Point → Type 0
 From y x p = (y < p.y) ⊎ ((y ≡ p.y) × (x ≤ p.x))
 
 -- the points come one after another in reading order, from x of row y on
-Following : ℕ → ℕ → List Point → Type 0
+unfoldable pub Following : ℕ → ℕ → List Point → Type 0
 Following y x [] = Unit {0}
 Following y x (p ∷ ps) = From y x p × Following p.y (p.x + 1) ps
 
@@ -33,7 +33,7 @@ unfolding Following
 row-following y x zero ps h = Following-row y x ps h
 row-following y x (suc n) ps h = (inr (refl, omega arith), row-following y (x + 1) n ps h)
 
-rows-following : (w y n : ℕ) → Following y 0 (flat_map (λ z. row_from z 0 w) (range_with_len y n))
+pub rows-following : (w y n : ℕ) → Following y 0 (flat_map (λ z. row_from z 0 w) (range_with_len y n))
 unfolding Following
 rows-following w y zero = tt
 rows-following w y (suc n) = row-following y 0 w _ (rows-following w (y + 1) n)
@@ -44,7 +44,7 @@ later p q r (inl h) (inr k) = let e = k.0 in inl (omega (arith, e))
 later p q r (inr h) (inl k) = let e = h.0 in inl (omega (arith, e))
 later p q r (inr h) (inr k) = let e = h.0 in let f = k.0 in let g = h.1 in let l = k.1 in inr (omega (arith, e, f), omega (arith, g, l))
 
-Following-later : (p q : Point) (ps : List Point) → From p.y (p.x + 1) q → Following q.y (q.x + 1) ps → Following p.y (p.x + 1) ps
+pub Following-later : (p q : Point) (ps : List Point) → From p.y (p.x + 1) q → Following q.y (q.x + 1) ps → Following p.y (p.x + 1) ps
 unfolding Following
 Following-later p q [] h k = k
 Following-later p q (r ∷ ps) h k = (later p q r h k.0, k.1)

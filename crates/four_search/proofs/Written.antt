@@ -1,41 +1,49 @@
 -- A node that stands for the plan of a win by fours is accepted, and its depth is at most the moves of the plan; within that
 -- depth there is a win by fours.
-use Rattle.std.proofs.Common.{◌≡◌, ◌⊎◌, inl, inr, ℕ, zero, suc, ◌+◌, ◌≤◌, ◌<◌, Bool, true, false, cond, ◌&&◌, refl, sym, ap, subst, ◌∙◌, arith, List, [], ◌∷◌, map, length}
+use Rattle.std.proofs.Common.{◌≡◌, ◌⊎◌, inl, inr, ℕ, zero, suc, ◌+◌, ◌*◌, ◌≤◌, ◌<◌, Bool, true, false, cond, ◌&&◌, refl, sym, ap, subst, ◌∙◌, arith, List, [], ◌∷◌, map, length}
 use Rattle.std.specs.Prelude.{Option, Some, None, slice_get, Contains}
-use Rattle.std.specs.List.{list_any, list_all, find, AllByRecursion}
+use Rattle.std.specs.List.{list_any, list_all, find, sum_by, AllByRecursion}
 use Rattle.std.proofs.lemmas.List.Elements.{All-from_recursion}
 use Rattle.std.proofs.lemmas.Bool.{cases_lt}
-use Rattle.game_rules.specs.Grid.{Grid, is_on, points_of}
+use Rattle.game_rules.specs.Grid.{Grid, IsBoard, is_on, is_empty, is_empty_cell, cell_at, points_of}
 use Rattle.game_rules.specs.Shapes.{five, is_same_point}
 use Rattle.game_rules.specs.Play.{IsPosition, outcome, mover, after}
-use Rattle.game_rules.specs.Games.{WinsOr, LosesOr, has_five, wins_or, loses_or, starts_win, wins_under, wins_by_fours, four_move}
+use Rattle.game_rules.specs.Games.{WinsOr, LosesOr, has_five, wins_or, loses_or, starts_win, wins_under, wins_by_fours, four_move, if_goes_on}
 use Rattle.game_rules.specs.declared.RuleKind.{RuleKind}
 use Rattle.game_rules.specs.declared.Outcome.{Outcome}
 use Rattle.game_rules.specs.declared.Outcome.TheVariants.{Refused, Wins as WinsNow, Fouls, Draws, GoesOn}
 use Rattle.game_rules.specs.declared.Point.{Point}
-use Rattle.game_rules.proofs.Boards.{is_empty-on}
-use Rattle.game_rules.proofs.Points.{points-found, all_of}
+use Rattle.game_rules.proofs.Boards.{is_empty-on, cell_at-put_same}
+use Rattle.game_rules.proofs.Points.{points-found, all_of, taken_refused}
 use Rattle.game_rules.proofs.Games.{each_reply, LosesOr-map, LosesOr-loses_or}
-use Rattle.game_rules.proofs.Positions.{IsPosition-after, GoesOn-on}
+use Rattle.game_rules.proofs.Positions.{IsPosition-after, GoesOn-on, GoesOn-empty}
 use Rattle.strategy_graph.specs.declared.Node.{Node}
 use Rattle.strategy_graph.specs.declared.Reply.{Reply}
 use Rattle.strategy_graph.specs.declared.Rest.{Rest}
 use Rattle.strategy_graph.specs.declared.Rest.TheVariants.{Wins, To, Nothing}
 use Rattle.strategy_graph.specs.Tables.{Answers, answers_of, answer, rest_node, is_winning, IsNode, IsTable, NamesLower, depth, node_depth, named, greatest, listed}
 use Rattle.strategy_graph.specs.Acceptance.{Answered, Meets, Accepted}
+use Rattle.strategy_graph.specs.Arrivals.{if_answered, arrivals_at, arrivals}
 use Rattle.strategy_graph.specs.Leads.{AtNode}
 use Rattle.strategy_graph.proofs.Answering.{Answered-map, answer-greatest}
 use Rattle.strategy_graph.proofs.Fuel.{depth-step}
-use Rattle.strategy_graph.proofs.Steps.{accepted-by-win, accepted-by-replies}
+use Rattle.strategy_graph.proofs.Steps.{accepted-by-win, accepted-by-replies, arrivals-by-replies, arrivals-winning}
 use Rattle.strategy_compiler.specs.Trees.{Tree, Branches, Leaf, Fork, NoBranch, Branch, StandsFor, StandsForAll, AnswersBriefly, replies_of}
 use Rattle.strategy_compiler.specs.Walks.{Reaches, Itself, Through}
 use Rattle.threat_moves.proofs.OtherSide.{five-empty}
-use Rattle.threat_moves.proofs.BlockLaw.{five-outcome, five-wins}
+use Rattle.threat_moves.proofs.BlockLaw.{five-outcome, five-wins, block_decides, others_leave_five}
+use Rattle.threat_moves.proofs.FourLaws.{one-goes_on}
+use Rattle.threat_moves.specs.declared.block.BlockAnswer.{BlockAnswer}
+use Rattle.threat_moves.specs.declared.block.BlockAnswer.TheVariants.{Lost, Won, Draw, One}
+use Rattle.threat_moves.specs.FourMoves.{goes_on_with, is_four_move}
+use Rattle.threat_moves.specs.Blocks.{fate}
+use Rattle.threat_moves.specs.OneBlock.{block_wins, LeavesFive}
 use Rattle.four_search.specs.Answers.{NamesOnBoard, StaysOnBoard, IsFourWin}
 use Rattle.four_search.specs.Plans.{branches_for, four_plan}
 use Rattle.four_search.proofs.Trying.{same_self, find-passes, move-is, wins-is}
-use Rattle.four_search.proofs.Planning.{least_five, any-find, plan-leaf, plan-fork, plan-goes_on, wins-some}
+use Rattle.four_search.proofs.Planning.{least_five, any-find, plan-leaf, plan-fork, plan-goes_on, wins-some, stone_full}
 use Rattle.four_search.proofs.Naming.{named-all, answers-each, answer-at, greatest-all, listed-on}
+use Rattle.four_search.proofs.Sums.{sum-ones-but, sum-once, length-points}
 use Rattle.four_search.proofs.Deepening.{NoWinUpTo, wins-more, least-win}
 
 -- what is known of a node that stands for the plan of a win within n moves
@@ -44,6 +52,7 @@ pub record IsWritten (rule : RuleKind) (t : List Node) (i n : ℕ) (b : Grid) : 
   pub deep : depth t i ≤ n
   pub wins : wins_by_fours rule (depth t i) b ≡ true
   pub on_board : StaysOnBoard b t i
+  pub short : arrivals rule t i b ≤ b.width * b.height * n
 
 -- ---- what a node reaches
 
@@ -79,6 +88,15 @@ lower_of t table = record { lower = λ i n at. (table.nodes i n at).below }
 on_before : (b : Grid) (p q : Point) (n : Node) → NamesOnBoard (after (after b p) q) n → NamesOnBoard b n
 on_before b p q n h = record { attack_on = h.attack_on; replies_on = h.replies_on }
 
+-- a board has a point for each move
+points-many : (rule : RuleKind) (b : Grid) → IsPosition rule b → (m : ℕ) → 1 ≤ b.width * b.height * suc m
+points-many rule b lawful m =
+    let w = lawful.board.wide in
+    let h = lawful.board.high in
+    let one : 1 ≤ b.width * b.height = grind arith in
+    let more : b.width * b.height * suc m ≡ b.width * b.height + b.width * b.height * m = omega arith in
+    omega (arith, one, more)
+
 -- ---- a winning node
 
 no_names : (t : List Node) (i : ℕ) (n : Node) → IsTable t → slice_get t i ≡ Some n → is_winning n.rest ≡ true → named (answers_of n) ≡ []
@@ -88,7 +106,7 @@ no_names t i n table at win = by_rest n.rest win (((table.nodes i n at).winning)
   by_rest (To j) h e = cc
   by_rest Nothing h e = cc
 
-module _ (rule : RuleKind) (t : List Node) (table : IsTable t) (i : ℕ) (b : Grid) (x : Point) (h : five rule b (mover b) x ≡ true) (some : has_five rule b (mover b) ≡ true) (n : Node) (at : slice_get t i ≡ Some n) (plays : n.attack ≡ x) (win : is_winning n.rest ≡ true) where
+module _ (rule : RuleKind) (t : List Node) (table : IsTable t) (i : ℕ) (b : Grid) (lawful : IsPosition rule b) (x : Point) (h : five rule b (mover b) x ≡ true) (some : has_five rule b (mover b) ≡ true) (n : Node) (at : slice_get t i ≡ Some n) (plays : n.attack ≡ x) (win : is_winning n.rest ≡ true) where
   leaf_depth : depth t i ≡ 1
   leaf_depth = depth-step t (lower_of t table) i ∙ ap (λ (o : Option Node). node_depth o (depth t)) at ∙ ap (λ (js : List ℕ). suc (greatest (map (depth t) js))) (no_names t i n table at win)
 
@@ -103,9 +121,15 @@ module _ (rule : RuleKind) (t : List Node) (table : IsTable t) (i : ℕ) (b : Gr
           replies_on = ap (list_all (λ r. is_on b r.at)) (((table.nodes i n at).winning) win);
         })
         (subst (AllByRecursion (StaysOnBoard b t)) (sym (no_names t i n table at win)) tt);
+    short = let one = arrivals-winning rule t (lower_of t table) i b n at win in let many = points-many rule b lawful m in omega (arith, one, many);
   }
 
 -- ---- a node of a four
+
+taken_after : (b : Grid) (p : Point) → IsBoard b → is_empty b p ≡ true → is_empty (after b p) p ≡ false
+taken_after b p ok empty =
+    let here : is_on b p ≡ true = is_empty-on b p empty in
+    ap (λ r. r && is_empty_cell (cell_at (after b p) p)) here ∙ ap is_empty_cell (cell_at-put_same b (mover b) p ok here) ∙ stone_full (mover b)
 
 leaf_node : (t : List Node) (i : ℕ) (x : Point) → StandsFor t i (Leaf x) → (n : Node) × (slice_get t i ≡ Some n) × ((n.attack ≡ x) × (is_winning n.rest ≡ true))
 unfolding StandsFor
@@ -229,8 +253,91 @@ module _ (rule : RuleKind) (t : List Node) (table : IsTable t) (i m : ℕ) (b : 
       (named-all (StaysOnBoard b t) (answers_of n) _ (table.nodes i n at).rising brief
       (answers-each t (answers_of n) (outcome rule (after b p)) (λ q. four_plan rule m (after (after b p) q)) (StaysOnBoard b t) (points_of b) (λ q j go s k n reach here. on_before b p q n ((next_written q j go s).on_board k n reach here)) stands))
 
+  -- ---- arrivals
+
+  four : is_four_move rule b p ≡ true
+  unfolding is_four_move
+  four = ap (λ o. goes_on_with o (has_five rule (after b p) (mover b))) on ∙ goes.0
+
+  decided : block_wins rule m (after b p) (fate rule (after b p)) ≡ true
+  decided = sym (block_decides rule m b p lawful four) ∙ starts
+
+  -- the arrivals behind a reply
+  count : Point → ℕ
+  count q = arrivals_at rule (answers_of n) (arrivals rule t) (after b p) q
+
+  by_counts : (q : Point) (k : ℕ) → (outcome rule (after b p) q ≡ GoesOn → (j : ℕ) → answer (answers_of n) q ≡ Some j → StandsFor t j (four_plan rule m (after (after b p) q)) → arrivals rule t j (after (after b p) q) ≤ k) → count q ≤ k
+  unfolding count
+  by_counts q k f = by_outcome (outcome rule (after b p) q) refl where
+    by_answer : (o : Option ℕ) → answer (answers_of n) q ≡ o → outcome rule (after b p) q ≡ GoesOn → Answered o (λ j. StandsFor t j (four_plan rule m (after (after b p) q))) → if_answered o (λ j. arrivals rule t j (after (after b p) q)) ≤ k
+    by_answer None e go s = omega arith
+    by_answer (Some j) e go s = f go j e s
+    by_outcome : (o : Outcome) → outcome rule (after b p) q ≡ o → if_goes_on o (if_answered (answer (answers_of n) q) (λ j. arrivals rule t j (after (after b p) q))) ≤ k
+    by_outcome Refused e = omega arith
+    by_outcome WinsNow e = omega arith
+    by_outcome (Fouls g) e = omega arith
+    by_outcome Draws e = omega arith
+    by_outcome GoesOn e = by_answer (answer (answers_of n) q) refl e (answered q e)
+
+  -- a reply that leaves the attacker a five point leads to a winning node
+  one_behind : (q : Point) → (outcome rule (after b p) q ≡ GoesOn → has_five rule (after (after b p) q) (mover (after (after b p) q)) ≡ true) → count q ≤ 1
+  one_behind q leaves = by_counts q 1 (λ go j e s.
+      let x = any-find (five rule (after (after b p) q) (mover (after (after b p) q))) (points_of (after (after b p) q)) (leaves go) in
+      let leaf : StandsFor t j (Leaf x.0) = subst (λ (s : Tree). StandsFor t j s) (plan-leaf rule m (after (after b p) q) x.0 x.1 (wins-some rule m (after (after b p) q) (won q go))) s in
+      let node = leaf_node t j x.0 leaf in
+      let one = arrivals-winning rule t (lower_of t table) j (after (after b p) q) node.0 node.1 node.2.1 in
+      omega (arith, one))
+
+  total : arrivals rule t i b ≡ suc (sum_by count (points_of b))
+  unfolding count
+  total = arrivals-by-replies rule t (lower_of t table) i b n at (ap (outcome rule b) plays ∙ on) no_win ∙ ap (λ (x : Point). suc (sum_by (arrivals_at rule (answers_of n) (arrivals rule t) (after b x)) (points_of b))) plays
+
+  size_grows : b.width * b.height * suc m ≡ b.width * b.height + b.width * b.height * m
+  size_grows = omega arith
+
+  points_are : length (points_of b) ≡ b.width * b.height
+  points_are = length-points b ∙ (let e : b.height * b.width ≡ b.width * b.height = grind arith in e)
+
+  -- the four's own point is taken
+  none_at : count p ≡ 0
+  unfolding count
+  none_at = ap (λ o. if_goes_on o (if_answered (answer (answers_of n) p) (λ j. arrivals rule t j (after (after b p) p)))) (taken_refused rule (after b p) p (taken_after b p lawful.board (GoesOn-empty rule b p on)))
+
+  won_short : fate rule (after b p) ≡ Won → arrivals rule t i b ≤ b.width * b.height * suc m
+  won_short won_by =
+      let each : (q : Point) → count q ≤ 1 = λ q. one_behind q (λ go. subst (LeavesFive rule (after b p) q) won_by (others_leave_five rule b p q lawful four go)) in
+      let sum = sum-ones-but count p each none_at (points_of b) (points-found b (λ x. is_same_point p x) p (GoesOn-on rule b p on) (same_self p)) in
+      let e = total in
+      let size = points_are in
+      let grows = size_grows in
+      omega (arith, sum, e, size, grows)
+
+  one_short : (w : Point) → fate rule (after b p) ≡ One w → arrivals rule t i b ≤ b.width * b.height * suc m
+  one_short w one =
+      let go : outcome rule (after b p) w ≡ GoesOn = one-goes_on rule (after b p) w (sym one) in
+      let most : ℕ = b.width * b.height * m in
+      let high : count w ≤ most = by_counts w most (λ go j e s. (next_written w j go s).short) in
+      let each : (q : Point) → is_same_point q w ≡ false → count q ≤ 1 = λ q apart. one_behind q (λ g. subst (LeavesFive rule (after b p) q) one (others_leave_five rule b p q lawful four g) (λ same. let yes : is_same_point q w ≡ true = ap (λ (z : Point). is_same_point z w) same ∙ same_self w in let bad : false ≡ true = sym apart ∙ yes in cc)) in
+      let some : 1 ≤ most = some_points m (wins-some rule m (after (after b p) w) (won w go)) in
+      let sum = sum-once count w most some high each b in
+      let e = total in
+      let size = points_are in
+      let grows = size_grows in
+      omega (arith, sum, e, size, grows) where
+    some_points : (k : ℕ) → 0 < k → 1 ≤ b.width * b.height * k
+    some_points zero l = absurd (omega arith)
+    some_points (suc k) l = points-many rule b lawful k
+
+  written_short : arrivals rule t i b ≤ b.width * b.height * suc m
+  written_short = by_fate (fate rule (after b p)) refl decided where
+    by_fate : (a : BlockAnswer) → fate rule (after b p) ≡ a → block_wins rule m (after b p) a ≡ true → arrivals rule t i b ≤ b.width * b.height * suc m
+    by_fate Lost e h = cc
+    by_fate Won e h = won_short e
+    by_fate (Draw w) e h = cc
+    by_fate (One w) e h = one_short w e
+
   fork-written : IsWritten rule t i (suc m) b
-  fork-written = record { accepted = written_accepted; deep = written_deep; wins = written_wins; on_board = written_on }
+  fork-written = record { accepted = written_accepted; deep = written_deep; wins = written_wins; on_board = written_on; short = written_short }
 
 -- ---- the law
 
@@ -246,7 +353,7 @@ plan-written rule t table (suc m) i b lawful wins stands = by_five (has_five rul
       let x = any-find (five rule b (mover b)) (points_of b) some in
       let leaf : StandsFor t i (Leaf x.0) = subst (λ (s : Tree). StandsFor t i s) (plan-leaf rule (suc m) b x.0 x.1 (omega arith)) stands in
       let node = leaf_node t i x.0 leaf in
-      leaf-written rule t table i b x.0 (find-passes (five rule b (mover b)) (points_of b) x.0 x.1) some node.0 node.1 node.2.0 node.2.1 m
+      leaf-written rule t table i b lawful x.0 (find-passes (five rule b (mover b)) (points_of b) x.0 x.1) some node.0 node.1 node.2.0 node.2.1 m
 
   by_fork : has_five rule b (mover b) ≡ false → ((j : ℕ) (c : Grid) → IsPosition rule c → wins_by_fours rule m c ≡ true → StandsFor t j (four_plan rule m c) → IsWritten rule t j m c) → IsWritten rule t i (suc m) b
   by_fork none later =
@@ -273,6 +380,7 @@ four-win rule b limit d l none lawful wins t table i within stands =
       accepted = written.accepted;
       deep = by_order (cases_lt d (depth t i)) written.deep written.wins;
       on_board = written.on_board;
+      short = written.short;
     } where
       by_order : (d < depth t i) ⊎ (depth t i ≤ d) → depth t i ≤ d + 1 → wins_by_fours rule (depth t i) b ≡ true → depth t i ≡ d + 1
       by_order (inl more) high won = omega arith

@@ -1,11 +1,12 @@
 -- What the answers of the four search say.
-use Rattle.std.specs.Prelude.{◌≡◌, ℕ, ◌*◌, ◌<◌, true, List, length, Some, slice_get}
+use Rattle.std.specs.Prelude.{◌≡◌, ℕ, ◌*◌, ◌<◌, ◌≤◌, true, List, length, Some, slice_get}
 use Rattle.std.specs.List.{list_all}
 use Rattle.game_rules.specs.Grid.{Grid, is_on}
 use Rattle.game_rules.specs.declared.RuleKind.{RuleKind}
 use Rattle.strategy_graph.specs.declared.Node.{Node}
 use Rattle.strategy_graph.specs.Tables.{depth}
 use Rattle.strategy_graph.specs.Acceptance.{Accepted}
+use Rattle.strategy_graph.specs.Arrivals.{arrivals}
 use Rattle.strategy_compiler.specs.Trees.{StandsFor}
 use Rattle.strategy_compiler.specs.Walks.{Reaches}
 use Rattle.four_search.specs.declared.answer.FourAnswer.{FourAnswer}
@@ -29,7 +30,8 @@ abbrev pub StaysOnBoard : Grid → List Node → ℕ → Type 0
 StaysOnBoard b t i = (k : ℕ) (n : Node) → Reaches t i k → slice_get t k ≡ Some n → NamesOnBoard b n
 
 -- So many moves are the fewest within which the side to move wins by fours, and the node stands for the plan of that win. It
--- is accepted, its depth is the number of moves, and what it reaches names points of the board alone.
+-- is accepted, its depth is the number of moves, and what it reaches names points of the board alone. The arrivals at nodes
+-- from it are no more than the points of the board for each move.
 pub record IsFourWin (rule : RuleKind) (limit : ℕ) (b : Grid) (t : List Node) (node moves : ℕ) : Type 0 where
   pub fewest : least_moves rule limit b ≡ Some moves
   pub in_compiler : node < length t
@@ -37,6 +39,7 @@ pub record IsFourWin (rule : RuleKind) (limit : ℕ) (b : Grid) (t : List Node) 
   pub accepted : Accepted rule t node b
   pub deep : depth t node ≡ moves
   pub on_board : StaysOnBoard b t node
+  pub short : arrivals rule t node b ≤ b.width * b.height * moves
 
 -- the most nodes that the search adds with this answer: two for each move of a win, and else none
 abbrev pub most_added : FourAnswer → ℕ
