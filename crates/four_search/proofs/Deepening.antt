@@ -1,6 +1,6 @@
 -- Depth after depth: what is spent, and the fewest moves.
 use Rattle.std.proofs.Common.{◌≡◌, ℕ, zero, suc, ◌+◌, ◌-◌, ◌≤◌, ◌<◌, Bool, true, false, cond, inl, inr, refl, sym, ap, subst, ◌∙◌, arith, List, [], ◌∷◌, ◌++◌, nat_le}
-use Rattle.std.specs.Prelude.{Option, Some, None}
+use Rattle.std.specs.Prelude.{Some}
 use Rattle.std.specs.List.{find, sum_by, range_with_len}
 use Rattle.std.proofs.lemmas.Bool.{cases_lt}
 use Rattle.std.proofs.lemmas.Bool.Decides.{nat_tests}
@@ -13,7 +13,7 @@ use Rattle.game_rules.proofs.Games.{WinsUnder-more, test-WinsUnder, WinsUnder-te
 use Rattle.four_search.specs.declared.search.Found.{Found}
 use Rattle.four_search.specs.declared.search.Found.TheVariants.{Win, NoWin, Spent}
 use Rattle.four_search.specs.FourGame.{until, four_tree, depths_tried, four_cost, least_moves}
-use Rattle.four_search.specs.Searching.{found_by, found_at, four_line}
+use Rattle.four_search.specs.Searching.{found_at, four_line}
 
 -- a win within so many moves is one within more
 pub wins-more : (rule : RuleKind) (m n : ℕ) (b : Grid) → m ≤ n → wins_by_fours rule m b ≡ true → wins_by_fours rule n b ≡ true

@@ -1,5 +1,5 @@
 -- What a node names are the answers to the replies of its tree.
-use Rattle.std.proofs.Common.{◌≡◌, ℕ, zero, suc, ◌≤◌, ◌<◌, Bool, true, false, cond, ◌&&◌, ◌||◌, not, refl, sym, ap, subst, ◌∙◌, arith, List, [], ◌∷◌, ◌++◌, map, max, nat_lt, nat_eq}
+use Rattle.std.proofs.Common.{◌≡◌, ℕ, ◌≤◌, Bool, true, false, cond, ◌&&◌, ◌||◌, not, refl, sym, ap, subst, ◌∙◌, arith, List, [], ◌∷◌, ◌++◌, map, nat_lt, nat_eq}
 use Rattle.std.specs.Prelude.{Option, Some, None}
 use Rattle.std.specs.Option.{option_or, option_map, option_eq}
 use Rattle.std.specs.List.{list_any, list_all, find, cons_option, filter, filter_map, AllByRecursion}
@@ -15,7 +15,7 @@ use Rattle.strategy_graph.specs.declared.Rest.{Rest}
 use Rattle.strategy_graph.specs.declared.Rest.TheVariants.{Wins, To, Nothing}
 use Rattle.strategy_graph.specs.Tables.{Answers, listed, answer, rest_node, rest_nodes, named, precedes, is_rising, greatest}
 use Rattle.strategy_graph.specs.Acceptance.{Answered}
-use Rattle.strategy_compiler.specs.Trees.{Tree, Branches, NoBranch, Branch, StandsFor, StandsForAll, IsBrief, AnswersBriefly, replies_of, commonest, answers_to}
+use Rattle.strategy_compiler.specs.Trees.{Tree, StandsFor, StandsForAll, AnswersBriefly, replies_of, commonest, answers_to}
 use Rattle.four_search.specs.Plans.{branch_if, branches_for}
 use Rattle.four_search.proofs.Trying.{same_self, same_point}
 

@@ -1,9 +1,9 @@
 -- The plan of a win by fours, node by node.
-use Rattle.std.proofs.Common.{◌≡◌, ◌⊎◌, inl, inr, ℕ, zero, suc, ◌+◌, ◌-◌, ◌≤◌, ◌<◌, Bool, true, false, cond, ◌&&◌, ◌||◌, not, refl, sym, ap, subst, ◌∙◌, arith, List, [], ◌∷◌, ◌++◌, length, get_or, nat_eq}
-use Rattle.std.specs.Prelude.{Option, Some, None, Result, Ok, Err, IfOk, All}
+use Rattle.std.proofs.Common.{◌≡◌, inl, inr, ℕ, zero, suc, ◌-◌, ◌≤◌, ◌<◌, Bool, true, false, cond, ◌&&◌, ◌||◌, not, refl, sym, ap, subst, ◌∙◌, arith, List, [], ◌∷◌, ◌++◌, length, get_or}
+use Rattle.std.specs.Prelude.{Option, Some, Result, Ok, Err, IfOk, All}
 use Rattle.std.specs.List.{list_any, list_all, find, filter, AllByRecursion}
 use Rattle.std.proofs.lemmas.List.Elements.{All-from_recursion}
-use Rattle.game_rules.specs.Grid.{Grid, is_on, is_empty, is_empty_cell, stone_of, cell_at, put, points_of}
+use Rattle.game_rules.specs.Grid.{Grid, is_on, is_empty, is_empty_cell, stone_of, cell_at, points_of}
 use Rattle.game_rules.specs.Shapes.{five, is_same_point}
 use Rattle.game_rules.specs.Play.{IsPosition, outcome, mover, other, after}
 use Rattle.game_rules.specs.Games.{has_five, five_points, loses_or, starts_win, wins_by_fours, wins_under, four_move}
@@ -13,12 +13,11 @@ use Rattle.game_rules.specs.declared.Side.TheVariants.{Black, White}
 use Rattle.game_rules.specs.declared.Outcome.{Outcome}
 use Rattle.game_rules.specs.declared.Outcome.TheVariants.{Refused, Wins, Fouls, Draws, GoesOn}
 use Rattle.game_rules.specs.declared.Point.{Point}
-use Rattle.game_rules.proofs.Boards.{and_left, and_right, is_empty-on, Apart, cell_at-put_same}
+use Rattle.game_rules.proofs.Boards.{is_empty-on, Apart, cell_at-put_same}
 use Rattle.game_rules.proofs.Positions.{GoesOn-empty, IsPosition-after, mover-after}
 use Rattle.strategy_graph.specs.declared.Node.{Node}
 use Rattle.strategy_graph.specs.declared.Reply.{Reply}
-use Rattle.strategy_compiler.specs.Trees.{Tree, Branches, Leaf, Fork, NoBranch, Branch, StandsFor, AnswersBranches, GrowthKeepsTrees}
-use Rattle.threat_moves.specs.declared.block.BlockAnswer.{BlockAnswer}
+use Rattle.strategy_compiler.specs.Trees.{Tree, Branches, Leaf, Fork, StandsFor, AnswersBranches, GrowthKeepsTrees}
 use Rattle.threat_moves.specs.declared.block.BlockAnswer.TheVariants.{Lost, Won, Draw, One}
 use Rattle.threat_moves.specs.FourMoves.{is_four_move}
 use Rattle.threat_moves.specs.Blocks.{by_block, by_fives, fate}
@@ -30,7 +29,7 @@ use Rattle.threat_moves.proofs.Distinct.{two_passing-apart}
 use Rattle.four_search.specs.Searching.{line_behind, line_from, four_line}
 use Rattle.four_search.specs.Plans.{branch_if, branches_for, plan_from, four_plan, answer_if, answers_for, at_or_beside}
 use Rattle.four_search.specs.Growth.{GrowsBy}
-use Rattle.four_search.proofs.Trying.{same_self, same_point, find-passes, move-is, no_four, wins-is}
+use Rattle.four_search.proofs.Trying.{same_self, same_point, find-passes, move-is, no_four}
 
 -- ---- answers and branches
 

@@ -1,5 +1,5 @@
 -- Sums over the points of a board, each at most 1 but for one point.
-use Rattle.std.proofs.Common.{◌≡◌, ◌⊎◌, inl, inr, ℕ, zero, suc, ◌+◌, ◌*◌, ◌≤◌, ◌<◌, Bool, true, false, cond, ◌||◌, refl, sym, ap, subst, ◌∙◌, arith, List, [], ◌∷◌, map, length}
+use Rattle.std.proofs.Common.{◌≡◌, inl, inr, ℕ, zero, suc, ◌+◌, ◌*◌, ◌≤◌, Bool, true, false, ◌||◌, refl, sym, ap, subst, ◌∙◌, arith, List, [], ◌∷◌, length}
 use Rattle.std.specs.List.{sum_by, flat_map, range_with_len, AllByRecursion}
 use Rattle.std.proofs.lemmas.List.Sums.{sum_by-cons}
 use Rattle.std.proofs.lemmas.List.FromFn.{length-map-range_with_len}
@@ -27,6 +27,7 @@ sum-ones-but f w each none (p ∷ ps) among = by_test (is_same_point w p) refl a
   all : (ps : List Point) → AllByRecursion (λ q. f q ≤ 1) ps
   all [] = tt
   all (q ∷ qs) = (each q, all qs)
+
   by_test : (r : Bool) → is_same_point w p ≡ r → (r || among_points w ps) ≡ true → (among_points w ps ≡ true → sum_by f ps + 1 ≤ length ps) → sum_by f (p ∷ ps) + 1 ≤ length (p ∷ ps)
   by_test true e k rest =
       let zero_here : f p ≡ 0 = ap f (sym (same_point w p e)) ∙ none in
@@ -47,9 +48,9 @@ not_after w q h = by_test (is_same_point q w) refl where
       let x : q.x ≡ w.x = ap (λ (z : Point). z.x) (same_point q w e) in
       let y : q.y ≡ w.y = ap (λ (z : Point). z.y) (same_point q w e) in
       absurd (contra h x y) where
-    contra : From w.y (w.x + 1) q → q.x ≡ w.x → q.y ≡ w.y → ⊥
-    contra (inl l) x y = absurd (omega arith)
-    contra (inr l) x y = let low = l.1 in absurd (omega (arith, low))
+        contra : From w.y (w.x + 1) q → q.x ≡ w.x → q.y ≡ w.y → ⊥
+        contra (inl l) x y = absurd (omega arith)
+        contra (inr l) x y = let low = l.1 in absurd (omega (arith, low))
 
 module _ (f : Point → ℕ) (w : Point) (most : ℕ) (some : 1 ≤ most) (high : f w ≤ most) (each : (q : Point) → is_same_point q w ≡ false → f q ≤ 1) where
   after_w : (ps : List Point) → Following w.y (w.x + 1) ps → AllByRecursion (λ q. f q ≤ 1) ps

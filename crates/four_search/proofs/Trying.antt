@@ -1,13 +1,13 @@
 -- The fours of a position, tried one after another.
 use Rattle.std.proofs.Common.{◌≡◌, ℕ, zero, suc, ◌+◌, ◌-◌, ◌≤◌, ◌<◌, Bool, true, false, cond, ◌&&◌, ◌||◌, refl, sym, ap, subst, ◌∙◌, arith, List, [], ◌∷◌, ◌++◌, nat_le, nat_eq}
 use Rattle.std.specs.Prelude.{Option, Some, None}
-use Rattle.std.specs.List.{list_any, list_all, find, sum_by}
+use Rattle.std.specs.List.{list_any, find, sum_by}
 use Rattle.std.proofs.lemmas.Bool.Decides.{nat_tests}
 use Rattle.std.proofs.lemmas.List.Sums.{sum_by-cons}
 use Rattle.game_rules.specs.Grid.{Grid, points_of}
 use Rattle.game_rules.specs.Shapes.{five, is_at, is_same_point}
 use Rattle.game_rules.specs.Play.{IsPosition, outcome, mover, after}
-use Rattle.game_rules.specs.Games.{has_five, wins_or, loses_or, starts_win, wins_under, wins_by_fours, four_move}
+use Rattle.game_rules.specs.Games.{has_five, wins_or, starts_win, wins_under, wins_by_fours, four_move}
 use Rattle.game_rules.specs.declared.RuleKind.{RuleKind}
 use Rattle.game_rules.specs.declared.Outcome.{Outcome}
 use Rattle.game_rules.specs.declared.Outcome.TheVariants.{Refused, Wins, Fouls, Draws, GoesOn}

@@ -1,27 +1,27 @@
 -- A node that stands for the plan of a win by fours is accepted, and its depth is at most the moves of the plan; within that
 -- depth there is a win by fours.
-use Rattle.std.proofs.Common.{◌≡◌, ◌⊎◌, inl, inr, ℕ, zero, suc, ◌+◌, ◌*◌, ◌≤◌, ◌<◌, Bool, true, false, cond, ◌&&◌, refl, sym, ap, subst, ◌∙◌, arith, List, [], ◌∷◌, map, length}
+use Rattle.std.proofs.Common.{◌≡◌, ◌⊎◌, inl, inr, ℕ, zero, suc, ◌+◌, ◌*◌, ◌≤◌, ◌<◌, Bool, true, false, ◌&&◌, refl, sym, ap, subst, ◌∙◌, arith, List, [], map, length}
 use Rattle.std.specs.Prelude.{Option, Some, None, slice_get, Contains}
-use Rattle.std.specs.List.{list_any, list_all, find, sum_by, AllByRecursion}
+use Rattle.std.specs.List.{list_all, sum_by, AllByRecursion}
 use Rattle.std.proofs.lemmas.List.Elements.{All-from_recursion}
 use Rattle.std.proofs.lemmas.Bool.{cases_lt}
 use Rattle.game_rules.specs.Grid.{Grid, IsBoard, is_on, is_empty, is_empty_cell, cell_at, points_of}
 use Rattle.game_rules.specs.Shapes.{five, is_same_point}
 use Rattle.game_rules.specs.Play.{IsPosition, outcome, mover, after}
-use Rattle.game_rules.specs.Games.{WinsOr, LosesOr, has_five, wins_or, loses_or, starts_win, wins_under, wins_by_fours, four_move, if_goes_on}
+use Rattle.game_rules.specs.Games.{LosesOr, has_five, wins_or, loses_or, starts_win, wins_under, wins_by_fours, four_move, if_goes_on}
 use Rattle.game_rules.specs.declared.RuleKind.{RuleKind}
 use Rattle.game_rules.specs.declared.Outcome.{Outcome}
 use Rattle.game_rules.specs.declared.Outcome.TheVariants.{Refused, Wins as WinsNow, Fouls, Draws, GoesOn}
 use Rattle.game_rules.specs.declared.Point.{Point}
 use Rattle.game_rules.proofs.Boards.{is_empty-on, cell_at-put_same}
 use Rattle.game_rules.proofs.Points.{points-found, all_of, taken_refused}
-use Rattle.game_rules.proofs.Games.{each_reply, LosesOr-map, LosesOr-loses_or}
+use Rattle.game_rules.proofs.Games.{each_reply, LosesOr-loses_or}
 use Rattle.game_rules.proofs.Positions.{IsPosition-after, GoesOn-on, GoesOn-empty}
 use Rattle.strategy_graph.specs.declared.Node.{Node}
 use Rattle.strategy_graph.specs.declared.Reply.{Reply}
 use Rattle.strategy_graph.specs.declared.Rest.{Rest}
 use Rattle.strategy_graph.specs.declared.Rest.TheVariants.{Wins, To, Nothing}
-use Rattle.strategy_graph.specs.Tables.{Answers, answers_of, answer, rest_node, is_winning, IsNode, IsTable, NamesLower, depth, node_depth, named, greatest, listed}
+use Rattle.strategy_graph.specs.Tables.{answers_of, answer, is_winning, IsTable, NamesLower, depth, node_depth, named, greatest}
 use Rattle.strategy_graph.specs.Acceptance.{Answered, Meets, Accepted}
 use Rattle.strategy_graph.specs.Arrivals.{if_answered, arrivals_at, arrivals}
 use Rattle.strategy_graph.specs.Leads.{AtNode}
@@ -41,7 +41,7 @@ use Rattle.threat_moves.specs.OneBlock.{block_wins, LeavesFive}
 use Rattle.four_search.specs.Answers.{NamesOnBoard, StaysOnBoard, IsFourWin}
 use Rattle.four_search.specs.Plans.{branches_for, four_plan}
 use Rattle.four_search.proofs.Trying.{same_self, find-passes, move-is, wins-is}
-use Rattle.four_search.proofs.Planning.{least_five, any-find, plan-leaf, plan-fork, plan-goes_on, wins-some, stone_full}
+use Rattle.four_search.proofs.Planning.{any-find, plan-leaf, plan-fork, plan-goes_on, wins-some, stone_full}
 use Rattle.four_search.proofs.Naming.{named-all, answers-each, answer-at, greatest-all, listed-on}
 use Rattle.four_search.proofs.Sums.{sum-ones-but, sum-once, length-points}
 use Rattle.four_search.proofs.Deepening.{NoWinUpTo, wins-more, least-win}
@@ -272,6 +272,7 @@ module _ (rule : RuleKind) (t : List Node) (table : IsTable t) (i m : ℕ) (b : 
     by_answer : (o : Option ℕ) → answer (answers_of n) q ≡ o → outcome rule (after b p) q ≡ GoesOn → Answered o (λ j. StandsFor t j (four_plan rule m (after (after b p) q))) → if_answered o (λ j. arrivals rule t j (after (after b p) q)) ≤ k
     by_answer None e go s = omega arith
     by_answer (Some j) e go s = f go j e s
+
     by_outcome : (o : Outcome) → outcome rule (after b p) q ≡ o → if_goes_on o (if_answered (answer (answers_of n) q) (λ j. arrivals rule t j (after (after b p) q))) ≤ k
     by_outcome Refused e = omega arith
     by_outcome WinsNow e = omega arith
@@ -324,9 +325,9 @@ module _ (rule : RuleKind) (t : List Node) (table : IsTable t) (i m : ℕ) (b : 
       let size = points_are in
       let grows = size_grows in
       omega (arith, sum, e, size, grows) where
-    some_points : (k : ℕ) → 0 < k → 1 ≤ b.width * b.height * k
-    some_points zero l = absurd (omega arith)
-    some_points (suc k) l = points-many rule b lawful k
+        some_points : (k : ℕ) → 0 < k → 1 ≤ b.width * b.height * k
+        some_points zero l = absurd (omega arith)
+        some_points (suc k) l = points-many rule b lawful k
 
   written_short : arrivals rule t i b ≤ b.width * b.height * suc m
   written_short = by_fate (fate rule (after b p)) refl decided where

@@ -1,13 +1,11 @@
-use Rattle.std.proofs.Common.{rules, ◌≡◌, ◌<◌, ◌≤◌, ◌+◌, true, false, ap, sym, subst, ◌∙◌, arith, length, ℕ, refl}
+use Rattle.std.proofs.Common.{rules, ◌≡◌, ◌+◌, true, false, ap, sym, subst, ◌∙◌, arith, length, ℕ, refl}
 use Rattle.game_rules.specs.Grid.{Grid}
 use Rattle.game_rules.specs.Play.{IsPosition}
-use Rattle.game_rules.specs.Games.{wins_by_fours}
 use Rattle.four_search.specs.declared.search.Found.TheVariants.{Win, NoWin, Spent}
 use Rattle.four_search.specs.Searching.{found_at}
 use Rattle.strategy_compiler.specs.Trees.{StandsFor}
-use Rattle.four_search.specs.FourGame.{four_cost}
 use Rattle.four_search.specs.Plans.{four_plan}
-use Rattle.four_search.proofs.Deepening.{win-here, win-line, win-cost, win-depth, win-fewest, cost-above, none-more, left-more, end-cost, end-none}
+use Rattle.four_search.proofs.Deepening.{win-here, win-cost, win-depth, cost-above, none-more, left-more, end-cost, end-none}
 use Rattle.four_search.proofs.Written.{four-win}
 use Rattle.four_search.proofs.answer.four_search.Goals as goal
 

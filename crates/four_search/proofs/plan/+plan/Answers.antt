@@ -1,13 +1,10 @@
-use Rattle.std.proofs.Common.{rules, ◌≡◌, ◌<◌, ◌≤◌, ◌-◌, ◌+◌, ◌*◌, true, false, ap, sym, ◌∙◌, arith, List, [], length, ℕ}
+use Rattle.std.proofs.Common.{rules, ◌≡◌, ◌-◌, ◌+◌, ◌*◌, false, ap, sym, ◌∙◌, arith}
 use Rattle.game_rules.specs.Grid.{Grid}
 use Rattle.game_rules.specs.Play.{IsPosition, after, mover, outcome}
-use Rattle.game_rules.specs.Games.{has_five, five_points, wins_by_fours, four_move}
-use Rattle.game_rules.specs.declared.Outcome.TheVariants.{GoesOn}
+use Rattle.game_rules.specs.Games.{has_five, five_points}
 use Rattle.game_rules.specs.declared.Point.{Point}
 use Rattle.game_rules.proofs.Positions.{IsPosition-after}
-use Rattle.threat_moves.specs.Blocks.{fate}
 use Rattle.threat_moves.proofs.Undo.{stone_back, lift_back, unwon_back}
-use Rattle.four_search.specs.Searching.{line_behind, four_line}
 use Rattle.four_search.proofs.Growing.{grows-then, grows-more, grows-length}
 use Rattle.four_search.proofs.Planning.{plan-some, plan-goes_on, plan-one, plan-wins, plan-block, plan-not-lost, plan-not-draw, chosen-last, line-some, stands-grown, no-fives, plan-five, plan-four, wins-some}
 use Rattle.four_search.proofs.plan.+plan.Goals as goal

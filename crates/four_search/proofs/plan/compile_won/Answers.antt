@@ -1,9 +1,8 @@
-use Rattle.std.proofs.Common.{rules, ◌≡◌, ◌<◌, ◌≤◌, ◌-◌, ◌+◌, ap, sym, ◌∙◌, arith, List, [], length, ℕ}
+use Rattle.std.proofs.Common.{rules, ◌≡◌, ◌<◌, ◌-◌, ap, ◌∙◌, arith, List, length}
 use Rattle.game_rules.specs.Grid.{Grid}
 use Rattle.game_rules.specs.Play.{after, mover, outcome}
 use Rattle.game_rules.specs.Games.{five_points}
 use Rattle.game_rules.specs.declared.Point.{Point}
-use Rattle.threat_moves.specs.Blocks.{fate}
 use Rattle.four_search.proofs.Growing.{grows-then, grows-more, grows-length}
 use Rattle.four_search.proofs.Planning.{plan-some, plan-goes_on, plan-foul, plan-won-one, plan-won-two, plan-won-points, stands-grown}
 use Rattle.four_search.proofs.plan.compile_won.Goals as goal

@@ -1,5 +1,4 @@
-use Rattle.std.proofs.Common.{◌≡◌, ◌∙◌}
-use Rattle.game_rules.specs.Grid.{Grid}
+use Rattle.std.proofs.Common.{◌∙◌}
 use Rattle.threat_moves.proofs.Undo.{stone_back, lift_back, unwon_back}
 use Rattle.four_search.proofs.plan.fives_after.Goals as goal
 

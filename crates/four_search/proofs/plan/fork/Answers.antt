@@ -1,7 +1,7 @@
 use Rattle.std.proofs.Common.{◌≡◌, ◌<◌, ap, sym, subst, ◌∙◌, List, length, ℕ}
 use Rattle.std.specs.Prelude.{All}
 use Rattle.game_rules.specs.Grid.{Grid, points_of}
-use Rattle.game_rules.specs.Play.{outcome, after}
+use Rattle.game_rules.specs.Play.{outcome}
 use Rattle.strategy_graph.specs.declared.Reply.{Reply}
 use Rattle.strategy_graph.specs.Tables.{is_rising}
 use Rattle.threat_moves.proofs.Undo.{stone_back, lift_back, unwon_back}

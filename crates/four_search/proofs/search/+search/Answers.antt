@@ -1,4 +1,4 @@
-use Rattle.std.proofs.Common.{rules, ◌≡◌, ◌-◌, ◌<◌, true, false, ap, sym, ◌∙◌, arith}
+use Rattle.std.proofs.Common.{rules, ◌≡◌, ◌-◌, true, false, ap, sym, ◌∙◌, arith}
 use Rattle.game_rules.specs.Grid.{Grid}
 use Rattle.game_rules.specs.Play.{IsPosition, after, mover, outcome}
 use Rattle.game_rules.specs.Games.{has_five}
@@ -6,7 +6,7 @@ use Rattle.game_rules.specs.declared.Outcome.TheVariants.{GoesOn}
 use Rattle.game_rules.proofs.Positions.{IsPosition-after}
 use Rattle.threat_moves.proofs.FourLaws.{four-goes_on, one-goes_on}
 use Rattle.threat_moves.proofs.Undo.{stone_back, lift_back, unwon_back}
-use Rattle.four_search.specs.declared.search.Found.TheVariants.{Win, NoWin, Spent}
+use Rattle.four_search.specs.declared.search.Found.TheVariants.{Win}
 use Rattle.threat_moves.specs.FourMoves.{is_four_move}
 use Rattle.four_search.specs.Searching.{found_behind}
 use Rattle.four_search.proofs.Trying.{try_all, try_all-none, step-skip, step-goes_on, step-ends, found-after, found-five, found-nothing, behind-no-more}

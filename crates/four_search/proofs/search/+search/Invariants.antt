@@ -1,7 +1,5 @@
-use Rattle.std.proofs.Common.{◌≡◌, ◌+◌, ◌*◌, ◌-◌, ◌<◌, ◌≤◌, false}
+use Rattle.std.proofs.Common.{◌≡◌, ◌+◌, ◌*◌, ◌-◌}
 use Rattle.game_rules.specs.Grid.{points_of}
-use Rattle.game_rules.specs.Play.{mover}
-use Rattle.game_rules.specs.Games.{has_five}
 use Rattle.four_search.proofs.Trying.{try_all}
 use Rattle.four_search.proofs.search.+search.Given as goal
 

@@ -1,4 +1,4 @@
-use Rattle.std.proofs.Common.{◌≡◌, ◌∙◌}
+use Rattle.std.proofs.Common.{◌∙◌}
 use Rattle.game_rules.specs.Grid.{Grid}
 use Rattle.threat_moves.proofs.FourLaws.{four-goes_on}
 use Rattle.threat_moves.proofs.Undo.{stone_back, lift_back, unwon_back}
