@@ -1,0 +1,391 @@
+-- A node that stands for the plan of a win by fours is accepted, and its depth is at most the moves of the plan; within that
+-- depth there is a win by fours.
+use Rattle.std.proofs.Common.{◌≡◌, ◌⊎◌, inl, inr, ℕ, zero, suc, ◌+◌, ◌*◌, ◌≤◌, ◌<◌, Bool, true, false, ◌&&◌, refl, sym, ap, subst, ◌∙◌, arith, List, [], map, length}
+use Rattle.std.specs.Prelude.{Option, Some, None, slice_get, Contains}
+use Rattle.std.specs.List.{list_all, sum_by, AllByRecursion}
+use Rattle.std.proofs.lemmas.List.Elements.{All-from_recursion}
+use Rattle.std.proofs.lemmas.Bool.{cases_lt}
+use Rattle.game_rules.specs.Grid.{Grid, IsBoard, is_on, is_empty, is_empty_cell, cell_at, points_of}
+use Rattle.game_rules.specs.Shapes.{five, is_same_point}
+use Rattle.game_rules.specs.Play.{IsPosition, outcome, mover, after}
+use Rattle.game_rules.specs.Games.{LosesOr, has_five, wins_or, loses_or, starts_win, wins_under, wins_by_fours, four_move, if_goes_on}
+use Rattle.game_rules.specs.declared.RuleKind.{RuleKind}
+use Rattle.game_rules.specs.declared.Outcome.{Outcome}
+use Rattle.game_rules.specs.declared.Outcome.TheVariants.{Refused, Wins as WinsNow, Fouls, Draws, GoesOn}
+use Rattle.game_rules.specs.declared.Point.{Point}
+use Rattle.game_rules.proofs.Boards.{is_empty-on, cell_at-put_same}
+use Rattle.game_rules.proofs.Points.{points-found, all_of, taken_refused}
+use Rattle.game_rules.proofs.Games.{each_reply, LosesOr-loses_or}
+use Rattle.game_rules.proofs.Positions.{IsPosition-after, GoesOn-on, GoesOn-empty}
+use Rattle.strategy_graph.specs.declared.Node.{Node}
+use Rattle.strategy_graph.specs.declared.Reply.{Reply}
+use Rattle.strategy_graph.specs.declared.Rest.{Rest}
+use Rattle.strategy_graph.specs.declared.Rest.TheVariants.{Wins, To, Nothing}
+use Rattle.strategy_graph.specs.Tables.{answers_of, answer, is_winning, IsTable, NamesLower, depth, node_depth, named, greatest}
+use Rattle.strategy_graph.specs.Acceptance.{Answered, Meets, Accepted}
+use Rattle.strategy_graph.specs.Arrivals.{if_answered, arrivals_at, arrivals}
+use Rattle.strategy_graph.specs.Leads.{AtNode}
+use Rattle.strategy_graph.proofs.Answering.{Answered-map, answer-greatest}
+use Rattle.strategy_graph.proofs.Fuel.{depth-step}
+use Rattle.strategy_graph.proofs.Steps.{accepted-by-win, accepted-by-replies, arrivals-by-replies, arrivals-winning}
+use Rattle.strategy_compiler.specs.Trees.{Tree, Branches, Leaf, Fork, NoBranch, Branch, StandsFor, StandsForAll, AnswersBriefly, replies_of}
+use Rattle.strategy_compiler.specs.Walks.{Reaches, Itself, Through}
+use Rattle.threat_moves.proofs.OtherSide.{five-empty}
+use Rattle.threat_moves.proofs.BlockLaw.{five-outcome, five-wins, block_decides, others_leave_five}
+use Rattle.threat_moves.proofs.FourLaws.{one-goes_on}
+use Rattle.threat_moves.specs.declared.block.BlockAnswer.{BlockAnswer}
+use Rattle.threat_moves.specs.declared.block.BlockAnswer.TheVariants.{Lost, Won, Draw, One}
+use Rattle.threat_moves.specs.FourMoves.{goes_on_with, is_four_move}
+use Rattle.threat_moves.specs.Blocks.{fate}
+use Rattle.threat_moves.specs.OneBlock.{block_wins, LeavesFive}
+use Rattle.four_search.specs.Answers.{NamesOnBoard, StaysOnBoard, IsFourWin}
+use Rattle.four_search.specs.Plans.{branches_for, four_plan}
+use Rattle.four_search.proofs.Trying.{same_self, find-passes, move-is, wins-is}
+use Rattle.four_search.proofs.Planning.{any-find, plan-leaf, plan-fork, plan-goes_on, wins-some, stone_full}
+use Rattle.four_search.proofs.Naming.{named-all, answers-each, answer-at, greatest-all, listed-on}
+use Rattle.four_search.proofs.Sums.{sum-ones-but, sum-once, length-points}
+use Rattle.four_search.proofs.Deepening.{NoWinUpTo, wins-more, least-win}
+
+-- what is known of a node that stands for the plan of a win within n moves
+pub record IsWritten (rule : RuleKind) (t : List Node) (i n : ℕ) (b : Grid) : Type 0 where
+  pub accepted : Accepted rule t i b
+  pub deep : depth t i ≤ n
+  pub wins : wins_by_fours rule (depth t i) b ≡ true
+  pub on_board : StaysOnBoard b t i
+  pub short : arrivals rule t i b ≤ b.width * b.height * n
+
+-- ---- what a node reaches
+
+reach-cases : (t : List Node) (i k : ℕ) → Reaches t i k → (i ≡ k) ⊎ ((j : ℕ) × (n : Node) × (slice_get t i ≡ Some n) × Contains (named (answers_of n)) j × Reaches t j k)
+reach-cases t _ _ (Itself i) = inl refl
+reach-cases t _ _ (Through i j k n at names rest) = inr (j, n, at, names, rest)
+
+contained : (P : ℕ → Type 0) (js : List ℕ) (j : ℕ) → AllByRecursion P js → Contains js j → P j
+contained P js j all c = subst P c.2 (All-from_recursion P js all c.0 j c.1)
+
+-- a node whose names stay on the board does so too
+stays-by : (b : Grid) (t : List Node) (i : ℕ) (n : Node) → slice_get t i ≡ Some n → NamesOnBoard b n → AllByRecursion (StaysOnBoard b t) (named (answers_of n)) → StaysOnBoard b t i
+stays-by b t i n at on all k m reach here = elim (reach-cases t i k reach) [
+  | inl same ↦
+      let e : Some n ≡ Some m = sym at ∙ ap (slice_get t) same ∙ here in
+      let f : n ≡ m = cc in
+      subst (NamesOnBoard b) f on
+  | inr step ↦
+      let e : Some n ≡ Some step.1 = sym at ∙ step.2 in
+      let f : step.1 ≡ n = cc in
+      let names : Contains (named (answers_of n)) step.0 = subst (λ (m : Node). Contains (named (answers_of m)) step.0) f step.3 in
+      contained (StaysOnBoard b t) (named (answers_of n)) step.0 all names k m step.4 here
+]
+
+at_node : (o : Option Node) (P : Node → Type 0) → AtNode o P → (n : Node) × (o ≡ Some n) × P n
+at_node None P h = absurd h
+at_node (Some n) P h = (n, refl, h)
+
+lower_of : (t : List Node) → IsTable t → NamesLower t
+lower_of t table = record { lower = λ i n at. (table.nodes i n at).below }
+
+-- two moves change no size
+on_before : (b : Grid) (p q : Point) (n : Node) → NamesOnBoard (after (after b p) q) n → NamesOnBoard b n
+on_before b p q n h = record { attack_on = h.attack_on; replies_on = h.replies_on }
+
+-- a board has a point for each move
+points-many : (rule : RuleKind) (b : Grid) → IsPosition rule b → (m : ℕ) → 1 ≤ b.width * b.height * suc m
+points-many rule b lawful m =
+    let w = lawful.board.wide in
+    let h = lawful.board.high in
+    let one : 1 ≤ b.width * b.height = grind arith in
+    let more : b.width * b.height * suc m ≡ b.width * b.height + b.width * b.height * m = omega arith in
+    omega (arith, one, more)
+
+-- ---- a winning node
+
+no_names : (t : List Node) (i : ℕ) (n : Node) → IsTable t → slice_get t i ≡ Some n → is_winning n.rest ≡ true → named (answers_of n) ≡ []
+no_names t i n table at win = by_rest n.rest win (((table.nodes i n at).winning) win) where
+  by_rest : (r : Rest) → is_winning r ≡ true → n.replies ≡ [] → named (record { replies = n.replies; rest = r }) ≡ []
+  by_rest Wins h e = rw e refl
+  by_rest (To j) h e = cc
+  by_rest Nothing h e = cc
+
+module _ (rule : RuleKind) (t : List Node) (table : IsTable t) (i : ℕ) (b : Grid) (lawful : IsPosition rule b) (x : Point) (h : five rule b (mover b) x ≡ true) (some : has_five rule b (mover b) ≡ true) (n : Node) (at : slice_get t i ≡ Some n) (plays : n.attack ≡ x) (win : is_winning n.rest ≡ true) where
+  leaf_depth : depth t i ≡ 1
+  leaf_depth = depth-step t (lower_of t table) i ∙ ap (λ (o : Option Node). node_depth o (depth t)) at ∙ ap (λ (js : List ℕ). suc (greatest (map (depth t) js))) (no_names t i n table at win)
+
+  leaf-written : (m : ℕ) → IsWritten rule t i (suc m) b
+  leaf-written m = record {
+    accepted = accepted-by-win rule t (lower_of t table) i b n at (ap (outcome rule b) plays ∙ five-outcome rule b x h);
+    deep = let e = leaf_depth in omega (arith, e);
+    wins = ap (λ (k : ℕ). wins_by_fours rule k b) leaf_depth ∙ five-wins rule b 0 some;
+    on_board = stays-by b t i n at
+        (record {
+          attack_on = ap (is_on b) plays ∙ is_empty-on b x (five-empty rule b (mover b) x h);
+          replies_on = ap (list_all (λ r. is_on b r.at)) (((table.nodes i n at).winning) win);
+        })
+        (subst (AllByRecursion (StaysOnBoard b t)) (sym (no_names t i n table at win)) tt);
+    short = let one = arrivals-winning rule t (lower_of t table) i b n at win in let many = points-many rule b lawful m in omega (arith, one, many);
+  }
+
+-- ---- a node of a four
+
+taken_after : (b : Grid) (p : Point) → IsBoard b → is_empty b p ≡ true → is_empty (after b p) p ≡ false
+taken_after b p ok empty =
+    let here : is_on b p ≡ true = is_empty-on b p empty in
+    ap (λ r. r && is_empty_cell (cell_at (after b p) p)) here ∙ ap is_empty_cell (cell_at-put_same b (mover b) p ok here) ∙ stone_full (mover b)
+
+leaf_node : (t : List Node) (i : ℕ) (x : Point) → StandsFor t i (Leaf x) → (n : Node) × (slice_get t i ≡ Some n) × ((n.attack ≡ x) × (is_winning n.rest ≡ true))
+unfolding StandsFor
+leaf_node t i x h = at_node (slice_get t i) (λ n. (n.attack ≡ x) × (is_winning n.rest ≡ true)) h
+
+fork_node : (t : List Node) (i : ℕ) (x : Point) (bs : Branches) → StandsFor t i (Fork x bs) → (n : Node) × (slice_get t i ≡ Some n) × ((n.attack ≡ x) × AnswersBriefly (answers_of n) (replies_of bs) × StandsForAll t (answers_of n) bs)
+unfolding StandsFor
+fork_node t i x bs h = at_node (slice_get t i) (λ n. (n.attack ≡ x) × AnswersBriefly (answers_of n) (replies_of bs) × StandsForAll t (answers_of n) bs) h
+
+nothing_not_winning : (r : Rest) → r ≡ Nothing → is_winning r ≡ true → ⊥
+nothing_not_winning Wins e h = cc
+nothing_not_winning (To j) e h = cc
+nothing_not_winning Nothing e h = cc
+
+winning_no_answer : (n : Node) (q : Point) (r : Rest) → is_winning r ≡ true → n.replies ≡ [] → answer (record { replies = n.replies; rest = r }) q ≡ None
+winning_no_answer n q Wins h e = ap (λ (rs : List Reply). answer (record { replies = rs; rest = Wins }) q) e
+winning_no_answer n q (To j) h e = cc
+winning_no_answer n q Nothing h e = cc
+
+not_winning_by : (o : Option ℕ) (P : ℕ → Type 0) → o ≡ None → Answered o P → ⊥
+not_winning_by None P e h = h
+not_winning_by (Some j) P e h = cc
+
+forks_not_winning : (t : List Node) (i : ℕ) (n : Node) → IsTable t → slice_get t i ≡ Some n → (bs : Branches) → AnswersBriefly (answers_of n) (replies_of bs) → StandsForAll t (answers_of n) bs → is_winning n.rest ≡ true → ⊥
+unfolding StandsFor
+forks_not_winning t i n table at NoBranch brief stands win = nothing_not_winning n.rest brief.0 win
+forks_not_winning t i n table at (Branch q s bs) brief stands win =
+    not_winning_by (answer (answers_of n) q) (λ j. StandsFor t j s) (winning_no_answer n q n.rest win ((table.nodes i n at).winning win)) stands.0
+
+module _ (rule : RuleKind) (t : List Node) (table : IsTable t) (i m : ℕ) (b : Grid) (p : Point) (lawful : IsPosition rule b) (on : outcome rule b p ≡ GoesOn) (starts : starts_win (has_five rule) rule b (wins_by_fours rule m) p ≡ true) (n : Node) (at : slice_get t i ≡ Some n) (plays : n.attack ≡ p)
+    (brief : AnswersBriefly (answers_of n) (replies_of (branches_for (outcome rule (after b p)) (λ q. four_plan rule m (after (after b p) q)) (points_of b))))
+    (stands : StandsForAll t (answers_of n) (branches_for (outcome rule (after b p)) (λ q. four_plan rule m (after (after b p) q)) (points_of b)))
+    (later : (j : ℕ) (c : Grid) → IsPosition rule c → wins_by_fours rule m c ≡ true → StandsFor t j (four_plan rule m c) → IsWritten rule t j m c) where
+  branches : Branches
+  branches = branches_for (outcome rule (after b p)) (λ q. four_plan rule m (after (after b p) q)) (points_of b)
+
+  goes : (has_five rule (after b p) (mover b) ≡ true) × (list_all (λ q. loses_or (outcome rule (after b p) q) (wins_by_fours rule m (after (after b p) q))) (points_of b) ≡ true)
+  goes = and_parts (has_five rule (after b p) (mover b)) _ (sym (ap (λ o. wins_or o (has_five rule (after b p) (mover b) && list_all (λ q. loses_or (outcome rule (after b p) q) (wins_by_fours rule m (after (after b p) q))) (points_of b))) on) ∙ starts) where
+    and_parts : (a c : Bool) → (a && c) ≡ true → (a ≡ true) × (c ≡ true)
+    and_parts true c h = (refl, h)
+    and_parts false c h = cc
+
+  -- each reply is no move, fouls, or goes on to a win within the moves left
+  lost : (q : Point) → LosesOr (outcome rule (after b p) q) (wins_by_fours rule m (after (after b p) q) ≡ true)
+  lost q = each_reply rule (after b p) (wins_by_fours rule m) (λ d. wins_by_fours rule m d ≡ true) (λ d h. h) goes.1 q
+
+  won : (q : Point) → outcome rule (after b p) q ≡ GoesOn → wins_by_fours rule m (after (after b p) q) ≡ true
+  won q go = subst (λ (o : Outcome). LosesOr o (wins_by_fours rule m (after (after b p) q) ≡ true)) go (lost q)
+
+  next_lawful : (q : Point) → outcome rule (after b p) q ≡ GoesOn → IsPosition rule (after (after b p) q)
+  next_lawful q go = IsPosition-after rule (after b p) q (IsPosition-after rule b p lawful on) go
+
+  next_written : (q : Point) (j : ℕ) → outcome rule (after b p) q ≡ GoesOn → StandsFor t j (four_plan rule m (after (after b p) q)) → IsWritten rule t j m (after (after b p) q)
+  next_written q j go s = later j (after (after b p) q) (next_lawful q go) (won q go) s
+
+  -- the answer to a reply that goes on
+  answered : (q : Point) → outcome rule (after b p) q ≡ GoesOn → Answered (answer (answers_of n) q) (λ j. StandsFor t j (four_plan rule m (after (after b p) q)))
+  answered q go = answer-at t (answers_of n) (outcome rule (after b p)) (λ q. four_plan rule m (after (after b p) q)) (points_of b) q
+      (points-found (after b p) (λ x. is_same_point q x) q (GoesOn-on rule (after b p) q go) (same_self q)) go stands
+
+  by_loses : (q : Point) (W : Type 0) → (outcome rule (after b p) q ≡ GoesOn → W) → LosesOr (outcome rule (after b p) q) W
+  by_loses q W f = by_outcome (outcome rule (after b p) q) f (lost q) where
+    by_outcome : (o : Outcome) → (o ≡ GoesOn → W) → LosesOr o (wins_by_fours rule m (after (after b p) q) ≡ true) → LosesOr o W
+    by_outcome Refused f h = tt
+    by_outcome WinsNow f h = h
+    by_outcome (Fouls g) f h = tt
+    by_outcome Draws f h = h
+    by_outcome GoesOn f h = f refl
+
+  -- it is no winning node
+  no_win : is_winning n.rest ≡ false
+  no_win = by_test (is_winning n.rest) refl where
+    by_test : (r : Bool) → is_winning n.rest ≡ r → r ≡ false
+    by_test false e = refl
+    by_test true e = absurd (forks_not_winning t i n table at (branches_for (outcome rule (after b p)) (λ q. four_plan rule m (after (after b p) q)) (points_of b)) brief stands e)
+
+  written_accepted : Accepted rule t i b
+  written_accepted = accepted-by-replies rule t (lower_of t table) i b n at (ap (outcome rule b) plays ∙ on) no_win (λ q.
+      subst (λ (x : Point). Meets rule (answers_of n) (Accepted rule t) (after b x) q) (sym plays)
+      (by_loses q (Answered (answer (answers_of n) q) (λ j. Accepted rule t j (after (after b p) q)))
+      (λ go. Answered-map (answer (answers_of n) q) (λ j. StandsFor t j (four_plan rule m (after (after b p) q))) (λ j. Accepted rule t j (after (after b p) q)) (λ j e s. (next_written q j go s).accepted) (answered q go))))
+
+  written_depth : depth t i ≡ suc (greatest (map (depth t) (named (answers_of n))))
+  written_depth = depth-step t (lower_of t table) i ∙ ap (λ (o : Option Node). node_depth o (depth t)) at
+
+  written_deep : depth t i ≤ suc m
+  written_deep =
+      let each : AllByRecursion (λ j. depth t j ≤ m) (named (answers_of n)) = named-all (λ j. depth t j ≤ m) (answers_of n) _ (table.nodes i n at).rising brief
+      (answers-each t (answers_of n) (outcome rule (after b p)) (λ q. four_plan rule m (after (after b p) q)) (λ j. depth t j ≤ m) (points_of b) (λ q j go s. (next_written q j go s).deep) stands) in
+      let low = greatest-all (depth t) m (named (answers_of n)) each in
+      let e = written_depth in
+      omega (arith, low, e)
+
+  written_wins : wins_by_fours rule (depth t i) b ≡ true
+  unfolding wins_under
+  written_wins =
+      let k : ℕ = greatest (map (depth t) (named (answers_of n))) in
+      let each : list_all (λ q. loses_or (outcome rule (after b p) q) (wins_by_fours rule k (after (after b p) q))) (points_of b) ≡ true =
+      all_of (λ q. loses_or (outcome rule (after b p) q) (wins_by_fours rule k (after (after b p) q))) (points_of b)
+      (λ q. LosesOr-loses_or (outcome rule (after b p) q) (wins_by_fours rule k (after (after b p) q)) (wins_by_fours rule k (after (after b p) q) ≡ true) (λ h. h)
+      (by_loses q (wins_by_fours rule k (after (after b p) q) ≡ true) (λ go. next_wins q (answer (answers_of n) q) refl (next_one q go)))) in
+      let here : starts_win (has_five rule) rule b (wins_by_fours rule k) p ≡ true =
+      ap (λ o. wins_or o (has_five rule (after b p) (mover b) && list_all (λ q. loses_or (outcome rule (after b p) q) (wins_by_fours rule k (after (after b p) q))) (points_of b))) on
+      ∙ ap (λ r. r && list_all (λ q. loses_or (outcome rule (after b p) q) (wins_by_fours rule k (after (after b p) q))) (points_of b)) goes.0
+      ∙ each in
+      ap (λ (d : ℕ). wins_by_fours rule d b) written_depth
+      ∙ points-found b (starts_win (has_five rule) rule b (wins_by_fours rule k)) p (GoesOn-on rule b p on) here where
+        next_one : (q : Point) → outcome rule (after b p) q ≡ GoesOn → Answered (answer (answers_of n) q) (λ j. wins_by_fours rule (depth t j) (after (after b p) q) ≡ true)
+        next_one q go = Answered-map (answer (answers_of n) q) (λ j. StandsFor t j (four_plan rule m (after (after b p) q))) (λ j. wins_by_fours rule (depth t j) (after (after b p) q) ≡ true) (λ j e s. (next_written q j go s).wins) (answered q go)
+
+        next_wins : (q : Point) (o : Option ℕ) → answer (answers_of n) q ≡ o → Answered o (λ j. wins_by_fours rule (depth t j) (after (after b p) q) ≡ true) → wins_by_fours rule (greatest (map (depth t) (named (answers_of n)))) (after (after b p) q) ≡ true
+        next_wins q None e h = absurd h
+        next_wins q (Some j) e h = wins-more rule (depth t j) (greatest (map (depth t) (named (answers_of n)))) (after (after b p) q) (answer-greatest (depth t) (answers_of n) q j e) h
+
+  written_on : StaysOnBoard b t i
+  written_on = stays-by b t i n at
+      (record {
+        attack_on = ap (is_on b) plays ∙ GoesOn-on rule b p on;
+        replies_on = listed-on (is_on b) (answers_of n) (outcome rule (after b p)) (λ q. four_plan rule m (after (after b p) q)) (points_of b) (λ q go. GoesOn-on rule (after b p) q go) brief;
+      })
+      (named-all (StaysOnBoard b t) (answers_of n) _ (table.nodes i n at).rising brief
+      (answers-each t (answers_of n) (outcome rule (after b p)) (λ q. four_plan rule m (after (after b p) q)) (StaysOnBoard b t) (points_of b) (λ q j go s k n reach here. on_before b p q n ((next_written q j go s).on_board k n reach here)) stands))
+
+  -- ---- arrivals
+
+  four : is_four_move rule b p ≡ true
+  unfolding is_four_move
+  four = ap (λ o. goes_on_with o (has_five rule (after b p) (mover b))) on ∙ goes.0
+
+  decided : block_wins rule m (after b p) (fate rule (after b p)) ≡ true
+  decided = sym (block_decides rule m b p lawful four) ∙ starts
+
+  -- the arrivals behind a reply
+  count : Point → ℕ
+  count q = arrivals_at rule (answers_of n) (arrivals rule t) (after b p) q
+
+  by_counts : (q : Point) (k : ℕ) → (outcome rule (after b p) q ≡ GoesOn → (j : ℕ) → answer (answers_of n) q ≡ Some j → StandsFor t j (four_plan rule m (after (after b p) q)) → arrivals rule t j (after (after b p) q) ≤ k) → count q ≤ k
+  unfolding count
+  by_counts q k f = by_outcome (outcome rule (after b p) q) refl where
+    by_answer : (o : Option ℕ) → answer (answers_of n) q ≡ o → outcome rule (after b p) q ≡ GoesOn → Answered o (λ j. StandsFor t j (four_plan rule m (after (after b p) q))) → if_answered o (λ j. arrivals rule t j (after (after b p) q)) ≤ k
+    by_answer None e go s = omega arith
+    by_answer (Some j) e go s = f go j e s
+
+    by_outcome : (o : Outcome) → outcome rule (after b p) q ≡ o → if_goes_on o (if_answered (answer (answers_of n) q) (λ j. arrivals rule t j (after (after b p) q))) ≤ k
+    by_outcome Refused e = omega arith
+    by_outcome WinsNow e = omega arith
+    by_outcome (Fouls g) e = omega arith
+    by_outcome Draws e = omega arith
+    by_outcome GoesOn e = by_answer (answer (answers_of n) q) refl e (answered q e)
+
+  -- a reply that leaves the attacker a five point leads to a winning node
+  one_behind : (q : Point) → (outcome rule (after b p) q ≡ GoesOn → has_five rule (after (after b p) q) (mover (after (after b p) q)) ≡ true) → count q ≤ 1
+  one_behind q leaves = by_counts q 1 (λ go j e s.
+      let x = any-find (five rule (after (after b p) q) (mover (after (after b p) q))) (points_of (after (after b p) q)) (leaves go) in
+      let leaf : StandsFor t j (Leaf x.0) = subst (λ (s : Tree). StandsFor t j s) (plan-leaf rule m (after (after b p) q) x.0 x.1 (wins-some rule m (after (after b p) q) (won q go))) s in
+      let node = leaf_node t j x.0 leaf in
+      let one = arrivals-winning rule t (lower_of t table) j (after (after b p) q) node.0 node.1 node.2.1 in
+      omega (arith, one))
+
+  total : arrivals rule t i b ≡ suc (sum_by count (points_of b))
+  unfolding count
+  total = arrivals-by-replies rule t (lower_of t table) i b n at (ap (outcome rule b) plays ∙ on) no_win ∙ ap (λ (x : Point). suc (sum_by (arrivals_at rule (answers_of n) (arrivals rule t) (after b x)) (points_of b))) plays
+
+  size_grows : b.width * b.height * suc m ≡ b.width * b.height + b.width * b.height * m
+  size_grows = omega arith
+
+  points_are : length (points_of b) ≡ b.width * b.height
+  points_are = length-points b ∙ (let e : b.height * b.width ≡ b.width * b.height = grind arith in e)
+
+  -- the four's own point is taken
+  none_at : count p ≡ 0
+  unfolding count
+  none_at = ap (λ o. if_goes_on o (if_answered (answer (answers_of n) p) (λ j. arrivals rule t j (after (after b p) p)))) (taken_refused rule (after b p) p (taken_after b p lawful.board (GoesOn-empty rule b p on)))
+
+  won_short : fate rule (after b p) ≡ Won → arrivals rule t i b ≤ b.width * b.height * suc m
+  won_short won_by =
+      let each : (q : Point) → count q ≤ 1 = λ q. one_behind q (λ go. subst (LeavesFive rule (after b p) q) won_by (others_leave_five rule b p q lawful four go)) in
+      let sum = sum-ones-but count p each none_at (points_of b) (points-found b (λ x. is_same_point p x) p (GoesOn-on rule b p on) (same_self p)) in
+      let e = total in
+      let size = points_are in
+      let grows = size_grows in
+      omega (arith, sum, e, size, grows)
+
+  one_short : (w : Point) → fate rule (after b p) ≡ One w → arrivals rule t i b ≤ b.width * b.height * suc m
+  one_short w one =
+      let go : outcome rule (after b p) w ≡ GoesOn = one-goes_on rule (after b p) w (sym one) in
+      let most : ℕ = b.width * b.height * m in
+      let high : count w ≤ most = by_counts w most (λ go j e s. (next_written w j go s).short) in
+      let each : (q : Point) → is_same_point q w ≡ false → count q ≤ 1 = λ q apart. one_behind q (λ g. subst (LeavesFive rule (after b p) q) one (others_leave_five rule b p q lawful four g) (λ same. let yes : is_same_point q w ≡ true = ap (λ (z : Point). is_same_point z w) same ∙ same_self w in let bad : false ≡ true = sym apart ∙ yes in cc)) in
+      let some : 1 ≤ most = some_points m (wins-some rule m (after (after b p) w) (won w go)) in
+      let sum = sum-once count w most some high each b in
+      let e = total in
+      let size = points_are in
+      let grows = size_grows in
+      omega (arith, sum, e, size, grows) where
+        some_points : (k : ℕ) → 0 < k → 1 ≤ b.width * b.height * k
+        some_points zero l = absurd (omega arith)
+        some_points (suc k) l = points-many rule b lawful k
+
+  written_short : arrivals rule t i b ≤ b.width * b.height * suc m
+  written_short = by_fate (fate rule (after b p)) refl decided where
+    by_fate : (a : BlockAnswer) → fate rule (after b p) ≡ a → block_wins rule m (after b p) a ≡ true → arrivals rule t i b ≤ b.width * b.height * suc m
+    by_fate Lost e h = cc
+    by_fate Won e h = won_short e
+    by_fate (Draw w) e h = cc
+    by_fate (One w) e h = one_short w e
+
+  fork-written : IsWritten rule t i (suc m) b
+  fork-written = record { accepted = written_accepted; deep = written_deep; wins = written_wins; on_board = written_on; short = written_short }
+
+-- ---- the law
+
+-- a node that stands for the plan of a win by fours within n moves is accepted, is at most n deep, and within its depth there
+-- is a win by fours
+pub plan-written : (rule : RuleKind) (t : List Node) → IsTable t → (n i : ℕ) (b : Grid) → IsPosition rule b → wins_by_fours rule n b ≡ true → StandsFor t i (four_plan rule n b) → IsWritten rule t i n b
+plan-written rule t table zero i b lawful wins stands = absurd (never rule b wins) where
+  never : (rule : RuleKind) (b : Grid) → wins_by_fours rule zero b ≡ true → ⊥
+  never rule b h = let some = wins-some rule zero b h in omega (arith, some)
+plan-written rule t table (suc m) i b lawful wins stands = by_five (has_five rule b (mover b)) refl (λ j c ok w s. plan-written rule t table m j c ok w s) where
+  by_leaf : has_five rule b (mover b) ≡ true → IsWritten rule t i (suc m) b
+  by_leaf some =
+      let x = any-find (five rule b (mover b)) (points_of b) some in
+      let leaf : StandsFor t i (Leaf x.0) = subst (λ (s : Tree). StandsFor t i s) (plan-leaf rule (suc m) b x.0 x.1 (omega arith)) stands in
+      let node = leaf_node t i x.0 leaf in
+      leaf-written rule t table i b lawful x.0 (find-passes (five rule b (mover b)) (points_of b) x.0 x.1) some node.0 node.1 node.2.0 node.2.1 m
+
+  by_fork : has_five rule b (mover b) ≡ false → ((j : ℕ) (c : Grid) → IsPosition rule c → wins_by_fours rule m c ≡ true → StandsFor t j (four_plan rule m c) → IsWritten rule t j m c) → IsWritten rule t i (suc m) b
+  by_fork none later =
+      let test : Point → Bool = starts_win (has_five rule) rule b (wins_by_fours rule m) in
+      let x = any-find test (points_of b) (sym (wins-is rule b lawful none m) ∙ wins) in
+      let chosen : four_move rule (suc m) b ≡ Some x.0 = move-is rule b lawful none m ∙ x.1 in
+      let fork : StandsFor t i (Fork x.0 (branches_for (outcome rule (after b x.0)) (λ q. four_plan rule m (after (after b x.0) q)) (points_of b))) =
+      subst (λ (s : Tree). StandsFor t i s) (plan-fork rule m b x.0 none chosen) stands in
+      let node = fork_node t i x.0 _ fork in
+      fork-written rule t table i m b x.0 lawful (plan-goes_on rule (suc m) b x.0 lawful none chosen) (find-passes test (points_of b) x.0 x.1) node.0 node.1 node.2.0 node.2.1 node.2.2 later
+
+  by_five : (r : Bool) → has_five rule b (mover b) ≡ r → ((j : ℕ) (c : Grid) → IsPosition rule c → wins_by_fours rule m c ≡ true → StandsFor t j (four_plan rule m c) → IsWritten rule t j m c) → IsWritten rule t i (suc m) b
+  by_five true some later = by_leaf some
+  by_five false none later = by_fork none later
+
+-- what the search says of a win
+pub four-win : (rule : RuleKind) (b : Grid) (limit d : ℕ) → d < limit → NoWinUpTo rule b limit d → IsPosition rule b → wins_by_fours rule (d + 1) b ≡ true → (t : List Node) → IsTable t → (i : ℕ) → i < length t → StandsFor t i (four_plan rule (d + 1) b) → IsFourWin rule limit b t i (d + 1)
+four-win rule b limit d l none lawful wins t table i within stands =
+    let written = plan-written rule t table (d + 1) i b lawful wins stands in
+    record {
+      fewest = least-win rule b limit d l none wins;
+      in_compiler = within;
+      stands = stands;
+      accepted = written.accepted;
+      deep = by_order (cases_lt d (depth t i)) written.deep written.wins;
+      on_board = written.on_board;
+      short = written.short;
+    } where
+      by_order : (d < depth t i) ⊎ (depth t i ≤ d) → depth t i ≤ d + 1 → wins_by_fours rule (depth t i) b ≡ true → depth t i ≡ d + 1
+      by_order (inl more) high won = omega arith
+      by_order (inr less) high won =
+          let some = wins-some rule (depth t i) b won in
+          let lost = none (depth t i) (omega (arith, some)) less in
+          let bad : false ≡ true = sym lost ∙ won in cc

@@ -1,0 +1,93 @@
+use Rattle.std.proofs.Common.{rules, ◌≡◌, ◌+◌, true, false, ap, sym, subst, ◌∙◌, arith, length, ℕ, refl}
+use Rattle.game_rules.specs.Grid.{Grid}
+use Rattle.game_rules.specs.Play.{IsPosition}
+use Rattle.four_search.specs.declared.search.Found.TheVariants.{Win, NoWin, Spent}
+use Rattle.four_search.specs.Searching.{found_at}
+use Rattle.strategy_compiler.specs.Trees.{StandsFor}
+use Rattle.four_search.specs.Plans.{four_plan}
+use Rattle.four_search.proofs.Deepening.{win-here, win-cost, win-depth, cost-above, none-more, left-more, end-cost, end-none}
+use Rattle.four_search.proofs.Written.{four-win}
+use Rattle.four_search.proofs.answer.four_search.Goals as goal
+
+pub returns-in-Ok-Spent-clause-none : goal.returns-in-Ok-Spent-clause-none
+returns-in-Ok-Spent-clause-none g c =
+    let b : Grid = g.V.Seen.position c.args.view.now in
+    let d : ℕ = c.loop-done.done in
+    let found : Spent ≡ found_at g.R.Rule.KIND (d + 1) b c.loop-done.left = sym c.in-Ok-Spent.field-0-is ∙ c.in-Ok-Spent.ensures.found ∙ ap (λ (w : Grid). found_at g.R.Rule.KIND (d + 1) w c.loop-done.left) c.loop-done.invariant.same in
+    let above = cost-above g.R.Rule.KIND b c.args.depth c.args.budget c.loop-done.left d c.loop-done-test.true c.loop-done.invariant.none c.loop-done.invariant.spent found in
+    (λ e. absurd (cc), λ h. absurd (let low = h.1 in omega (arith, above, low)))
+
+pub returns-in-Ok-Spent-clause-spent : goal.returns-in-Ok-Spent-clause-spent
+returns-in-Ok-Spent-clause-spent g c =
+    let b : Grid = g.V.Seen.position c.args.view.now in
+    let d : ℕ = c.loop-done.done in
+    let found : Spent ≡ found_at g.R.Rule.KIND (d + 1) b c.loop-done.left = sym c.in-Ok-Spent.field-0-is ∙ c.in-Ok-Spent.ensures.found ∙ ap (λ (w : Grid). found_at g.R.Rule.KIND (d + 1) w c.loop-done.left) c.loop-done.invariant.same in
+    let above = cost-above g.R.Rule.KIND b c.args.depth c.args.budget c.loop-done.left d c.loop-done-test.true c.loop-done.invariant.none c.loop-done.invariant.spent found in
+    (λ e. above, λ h. refl)
+
+pub returns-in_err-node-in-Ok-Win-clause-full : goal.returns-in_err-node-in-Ok-Win-clause-full
+returns-in_err-node-in-Ok-Win-clause-full g c =
+    let b : Grid = g.V.Seen.position c.args.view.now in
+    let d : ℕ = c.loop-done.done in
+    let found : Win c.in-Ok-Win.field-0-0 c.in-Ok-Win.line ≡ found_at g.R.Rule.KIND (d + 1) b c.loop-done.left = sym c.in-Ok-Win.field-0-is ∙ c.in-Ok-Win.ensures.found ∙ ap (λ (w : Grid). found_at g.R.Rule.KIND (d + 1) w c.loop-done.left) c.loop-done.invariant.same in
+    let wins = win-depth g.R.Rule.KIND b c.args.depth c.args.budget c.loop-done.left d c.loop-done-test.true c.loop-done.invariant.none c.loop-done.invariant.spent c.in-Ok-Win.field-0-0 c.in-Ok-Win.line found in
+    let fits = win-cost g.R.Rule.KIND b c.args.depth c.args.budget c.loop-done.left d c.loop-done-test.true c.loop-done.invariant.none c.loop-done.invariant.spent c.in-Ok-Win.field-0-0 c.in-Ok-Win.line found in
+    let within = c.loop-done-test.true in
+    let many = c.in_err-node-in-Ok-Win.ensures.full in
+    let nodes : length c.loop-done.compiler ≡ length c.args.compiler.now = ap length c.loop-done.invariant.nodes in
+    search rules
+
+pub returns-in-Ok-Win-clause-win : goal.returns-in-Ok-Win-clause-win
+returns-in-Ok-Win-clause-win g c =
+    let b : Grid = g.V.Seen.position c.args.view.now in
+    let d : ℕ = c.loop-done.done in
+    let found : Win c.in-Ok-Win.field-0-0 c.in-Ok-Win.line ≡ found_at g.R.Rule.KIND (d + 1) b c.loop-done.left = sym c.in-Ok-Win.field-0-is ∙ c.in-Ok-Win.ensures.found ∙ ap (λ (w : Grid). found_at g.R.Rule.KIND (d + 1) w c.loop-done.left) c.loop-done.invariant.same in
+    let lawful : IsPosition g.R.Rule.KIND b = c.side.ensures.lawful in
+    let stands : StandsFor c.compile.new.compiler c.in_ok-node-in-Ok-Win.node (four_plan g.R.Rule.KIND (d + 1) b) =
+    subst (λ (w : Grid). StandsFor c.compile.new.compiler c.in_ok-node-in-Ok-Win.node (four_plan g.R.Rule.KIND (d + 1) w)) (c.search.ensures.same ∙ c.loop-done.invariant.same) c.in_ok-node-in-Ok-Win.ensures.stands in
+    four-win g.R.Rule.KIND b c.args.depth d c.loop-done-test.true c.loop-done.invariant.none lawful (win-here g.R.Rule.KIND b c.args.depth c.args.budget c.loop-done.left d c.loop-done-test.true c.loop-done.invariant.none c.loop-done.invariant.spent c.in-Ok-Win.field-0-0 c.in-Ok-Win.line found) c.compile.new.compiler c.in_ok-node-in-Ok-Win.ensures.compiled.table c.in_ok-node-in-Ok-Win.node c.in_ok-node-in-Ok-Win.ensures.in_compiler stands
+
+pub returns-in-Ok-Win-clause-none : goal.returns-in-Ok-Win-clause-none
+returns-in-Ok-Win-clause-none g c =
+    let b : Grid = g.V.Seen.position c.args.view.now in
+    let d : ℕ = c.loop-done.done in
+    let found : Win c.in-Ok-Win.field-0-0 c.in-Ok-Win.line ≡ found_at g.R.Rule.KIND (d + 1) b c.loop-done.left = sym c.in-Ok-Win.field-0-is ∙ c.in-Ok-Win.ensures.found ∙ ap (λ (w : Grid). found_at g.R.Rule.KIND (d + 1) w c.loop-done.left) c.loop-done.invariant.same in
+    let wins = win-depth g.R.Rule.KIND b c.args.depth c.args.budget c.loop-done.left d c.loop-done-test.true c.loop-done.invariant.none c.loop-done.invariant.spent c.in-Ok-Win.field-0-0 c.in-Ok-Win.line found in
+    (λ e. absurd (cc), λ h. absurd (let lost : true ≡ false = sym wins ∙ h.0 in cc))
+
+pub returns-in-Ok-Win-clause-spent : goal.returns-in-Ok-Win-clause-spent
+returns-in-Ok-Win-clause-spent g c =
+    let b : Grid = g.V.Seen.position c.args.view.now in
+    let d : ℕ = c.loop-done.done in
+    let found : Win c.in-Ok-Win.field-0-0 c.in-Ok-Win.line ≡ found_at g.R.Rule.KIND (d + 1) b c.loop-done.left = sym c.in-Ok-Win.field-0-is ∙ c.in-Ok-Win.ensures.found ∙ ap (λ (w : Grid). found_at g.R.Rule.KIND (d + 1) w c.loop-done.left) c.loop-done.invariant.same in
+    let fits = win-cost g.R.Rule.KIND b c.args.depth c.args.budget c.loop-done.left d c.loop-done-test.true c.loop-done.invariant.none c.loop-done.invariant.spent c.in-Ok-Win.field-0-0 c.in-Ok-Win.line found in
+    (λ e. absurd (cc), λ h. absurd (omega (arith, fits, h)))
+
+pub loop-done-preserved : goal.loop-done-preserved
+loop-done-preserved g c =
+    let b : Grid = g.V.Seen.position c.args.view.now in
+    let d : ℕ = c.loop-done.done in
+    let found : NoWin c.in-Ok-NoWin.rest ≡ found_at g.R.Rule.KIND (d + 1) b c.loop-done.left = sym c.in-Ok-NoWin.field-0-is ∙ c.in-Ok-NoWin.ensures.found ∙ ap (λ (w : Grid). found_at g.R.Rule.KIND (d + 1) w c.loop-done.left) c.loop-done.invariant.same in
+    record {
+      same = c.search.ensures.same ∙ c.loop-done.invariant.same;
+      nodes = c.loop-done.invariant.nodes;
+      none = none-more g.R.Rule.KIND b c.args.depth c.args.budget c.loop-done.left d c.loop-done-test.true c.loop-done.invariant.none c.loop-done.invariant.spent c.in-Ok-NoWin.rest found;
+      spent = left-more g.R.Rule.KIND b c.args.depth c.args.budget c.loop-done.left d c.loop-done-test.true c.loop-done.invariant.none c.loop-done.invariant.spent c.in-Ok-NoWin.rest found;
+    }
+
+pub returns-clause-none : goal.returns-clause-none
+returns-clause-none g c =
+    let b : Grid = g.V.Seen.position c.args.view.now in
+    let high = c.loop-done.auto.done-end in
+    let end : c.loop-done.done ≡ c.args.depth = let low = c.loop-done-test.false in omega (arith, high, low) in
+    let none = end-none g.R.Rule.KIND b c.args.depth c.args.budget c.loop-done.left c.loop-done.done end c.loop-done.invariant.none c.loop-done.invariant.spent c.requires.some_depth in
+    let fits = end-cost g.R.Rule.KIND b c.args.depth c.args.budget c.loop-done.left c.loop-done.done end c.loop-done.invariant.none c.loop-done.invariant.spent in
+    (λ e. (none, fits), λ h. refl)
+
+pub returns-clause-spent : goal.returns-clause-spent
+returns-clause-spent g c =
+    let b : Grid = g.V.Seen.position c.args.view.now in
+    let high = c.loop-done.auto.done-end in
+    let end : c.loop-done.done ≡ c.args.depth = let low = c.loop-done-test.false in omega (arith, high, low) in
+    let fits = end-cost g.R.Rule.KIND b c.args.depth c.args.budget c.loop-done.left c.loop-done.done end c.loop-done.invariant.none c.loop-done.invariant.spent in
+    (λ e. absurd (cc), λ h. absurd (omega (arith, fits, h)))

@@ -1,0 +1,5 @@
+pub mod FourGame
+pub mod Searching
+pub mod Plans
+pub mod Growth
+pub mod Answers

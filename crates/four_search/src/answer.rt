@@ -1,0 +1,82 @@
+//! The search for wins by continuous fours, depth after depth.
+//!
+//! Each depth is searched anew with what is left of the budget, so the first win has the fewest moves; only then is its
+//! plan compiled.
+#![tactic(auto)]
+
+ghost use Rattle.std.specs.Prelude.{◌≡◌, ◌↔◌, ◌<◌, ◌≤◌, ◌+◌, ◌*◌, true, false, length, IfOk, OnErr, IsErrOf};
+ghost use Rattle.game_rules.specs.Games.{wins_by_fours};
+ghost use Rattle.strategy_graph.specs.declared.TheConstants.{MAX_NODES};
+ghost use Rattle.four_search.specs.FourGame.{four_cost};
+ghost use Rattle.four_search.specs.Growth.{GrowsBy};
+ghost use Rattle.four_search.specs.Answers.{OnWin, IsFourWin, most_added};
+
+use crate::SearchError;
+use crate::plan::compile;
+use crate::search::{Found, search};
+use foul_judge::Seen;
+use row_shapes::Rule;
+use std::alloc::Global;
+use strategy_compiler::Compiler;
+
+/// What the search for wins by fours finds.
+#[derive(Clone, Copy, Debug, PartialEq, Eq)]
+pub enum FourAnswer {
+    /// A win with so many moves, the fewest that there are, and the node of its plan.
+    Win { node: u32, moves: u32 },
+    /// There is no win by fours within the depth.
+    None,
+    /// There are more positions to look at than the budget.
+    Spent,
+}
+
+/// Searches a win by continuous fours for the side to move within `depth` moves, 1 to 60, looking at no more than `budget`
+/// positions, at least 1. A position counts each time that the attacker is to move in it, at each depth that is tried.
+///
+/// - `Win` has the least number of moves, and the compiler's node stands for the plan of this win: it plays the least
+///   five point, and else the least four that wins within the moves left, and answers each reply that goes on. No more
+///   than two nodes a move are added.
+/// - `None` comes exactly where there is no such win within `depth` moves and the budget suffices.
+/// - `Spent` comes exactly where the budget does not suffice. With `None` and `Spent` no node is added.
+///
+/// `Full` comes only where there is a win, the budget suffices and the compiler has no room for its nodes; `Memory` where
+/// there is no memory. After each answer and refusal the view is as before, and the compiler's earlier nodes stay.
+pub fn four_search<R: Rule, V: Seen<R>>(
+    alloc: Global,
+    view: &mut V,
+    depth: u32,
+    budget: u64,
+    compiler: &mut Compiler,
+) -> Result<FourAnswer, SearchError>
+    requires some_depth { 1 ≤ depth }
+    requires depth_fits { depth ≤ 60 }
+    requires some_budget { 1 ≤ budget }
+    ensures win { IfOk result (λ a. OnWin a (IsFourWin R.KIND depth (V.position view.old) compiler.new)) }
+    ensures none { IfOk result (λ a. (a ≡ FourAnswer.None)
+        ↔ ((wins_by_fours R.KIND depth (V.position view.old) ≡ false) × (four_cost R.KIND depth (V.position view.old) ≤ budget))) }
+    ensures spent { IfOk result (λ a. (a ≡ FourAnswer.Spent) ↔ (budget < four_cost R.KIND depth (V.position view.old))) }
+    ensures added { IfOk result (λ a. GrowsBy compiler.old compiler.new (most_added a)) }
+
+    // What a refusal leaves, and when the compiler is full.
+    ensures kept { OnErr result (GrowsBy compiler.old compiler.new (2 * depth)) }
+    ensures full { IsErrOf result SearchError.Full
+        → (wins_by_fours R.KIND depth (V.position view.old) ≡ true) × (four_cost R.KIND depth (V.position view.old) ≤ budget) × (MAX_NODES < length compiler.old + 2 * depth) }
+    ensures full_now { IsErrOf result SearchError.Full → length compiler.new ≡ MAX_NODES }
+    ensures same { V.position view.new ≡ V.position view.old }
+{
+    view.side();
+    let mut left = budget;
+    for done in 0..depth {
+        let moves = done + 1;
+        match search::<R, V>(alloc, view, moves, left) {
+            Err(_) => return Err(SearchError::Memory),
+            Ok(Found::Spent) => return Ok(FourAnswer::Spent),
+            Ok(Found::NoWin { left: rest }) => left = rest,
+            Ok(Found::Win { left: _, line }) => {
+                let node = compile::<R, V>(alloc, view, moves, line.as_slice(), compiler)?;
+                return Ok(FourAnswer::Win { node, moves });
+            }
+        }
+    }
+    Ok(FourAnswer::None)
+}

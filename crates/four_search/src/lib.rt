@@ -1,0 +1,16 @@
+//! The search for wins by continuous fours.
+//!
+//! Each attack makes a five or a four, so the defender has at most one move that does not lose at once: the block. Only it
+//! is tried (Allis, van den Herik and Huntjens, "Go-Moku and Threat-Space Search"), and still the answers are those of
+//! all replies. The depth grows move by move, so the first win that is found has the fewest moves.
+#![tactic(auto)]
+
+mod answer;
+mod error;
+mod plan;
+mod search;
+#[cfg(test)]
+mod tests;
+
+pub use answer::{FourAnswer, four_search};
+pub use error::SearchError;

@@ -1,0 +1,321 @@
+//! The plan of a win by fours, compiled from the bottom up.
+//!
+//! After a four each reply but the block leaves the attacker a five point, so all of them share one winning node, and only
+//! the block has a node of its own. So each move of the win takes two nodes, and the last one at most three.
+#![tactic(auto)]
+
+ghost use Rattle.std.specs.Prelude.{◌≡◌, ◌<◌, ◌≤◌, ◌+◌, ◌-◌, ◌*◌, ℕ, true, false, All, [], length, slice_get, Some, IfOk, OnOk, IsTrue, IsErrOf};
+ghost use Rattle.game_rules.specs.Grid.{points_of};
+ghost use Rattle.game_rules.specs.Play.{outcome as outcome_lem, after, mover};
+ghost use Rattle.game_rules.specs.Games.{wins_by_fours, has_five, five_points, four_move};
+ghost use Rattle.threat_moves.specs.Blocks.{fate as fate_lem};
+ghost use Rattle.strategy_graph.specs.Tables.{is_rising};
+ghost use Rattle.strategy_graph.specs.declared.TheConstants.{MAX_NODES};
+ghost use Rattle.strategy_compiler.specs.Trees.{Branches, Leaf, Fork, StandsFor, AnswersBranches};
+ghost use Rattle.strategy_compiler.specs.Nodes.{IsCompiled};
+ghost use Rattle.four_search.specs.Searching.{four_line, line_behind};
+ghost use Rattle.four_search.specs.Plans.{four_plan, answers_for, at_or_beside as at_or_beside_lem};
+ghost use Rattle.four_search.specs.Growth.{GrowsBy};
+
+use crate::SearchError;
+use foul_judge::{Outcome, Seen};
+use row_shapes::Rule;
+use std::alloc::{AllocError, Global};
+use stone_board::{Point, Points};
+use strategy_compiler::{CompileError, Compiler, growth_keeps_trees};
+use strategy_graph::Reply;
+use threat_moves::{BlockAnswer, fives, forced};
+
+/// Compiles the plan of a win by fours within so many moves, and answers its node. The line is that of the win, as a search
+/// within so many moves found it. The view is as before; the compiler's nodes stay, those added before a refusal too.
+#[cycle(plan)]
+pub(crate) fn compile<R: Rule, V: Seen<R>>(
+    alloc: Global,
+    view: &mut V,
+    moves: u32,
+    line: &[Point],
+    compiler: &mut Compiler,
+) -> Result<u32, SearchError>
+    requires wins { wins_by_fours R.KIND moves (V.position view.old) ≡ true }
+    requires line { line.now ≡ four_line R.KIND moves (V.position view.old) }
+    ensures stands { IfOk result (λ node. StandsFor compiler.new node (four_plan R.KIND moves (V.position view.old))) }
+    ensures in_compiler { IfOk result (λ node. node < length compiler.new) }
+    ensures compiled { OnOk result (IsCompiled compiler.new) }
+    ensures same { V.position view.new ≡ V.position view.old }
+    ensures grows { GrowsBy compiler.old compiler.new (2 * moves) }
+    ensures full { IsErrOf result SearchError.Full → MAX_NODES < length compiler.old + 2 * moves }
+    ensures full_now { IsErrOf result SearchError.Full → length compiler.new ≡ MAX_NODES }
+{
+    let attacker = view.side();
+    let Ok(points) = fives::<R, V>(alloc, view, attacker) else {
+        return Err(SearchError::Memory);
+    };
+    match points.as_slice() {
+        [five, ..] => winning(compiler, *five),
+        [] => match line.split_last() {
+            None => unreachable!(),
+            Some((attack, inner)) => compile_four::<R, V>(
+                alloc, view, *attack, moves, inner, compiler,
+            ),
+        },
+    }
+}
+
+/// Compiles the plan that begins with the chosen move `p`, a four, where the attacker has so many moves with this one.
+#[cycle(plan)]
+fn compile_four<R: Rule, V: Seen<R>>(
+    alloc: Global,
+    view: &mut V,
+    p: Point,
+    moves: u32,
+    line: &[Point],
+    compiler: &mut Compiler,
+) -> Result<u32, SearchError>
+    requires five { has_five R.KIND (V.position view.old) (mover (V.position view.old)) ≡ false }
+    requires chosen { four_move R.KIND moves (V.position view.old) ≡ Some p }
+    requires line { line.now ≡ line_behind (four_line R.KIND (moves - 1)) (after (V.position view.old) p) (fate_lem R.KIND (after (V.position view.old) p)) }
+    ensures stands { IfOk result (λ node. StandsFor compiler.new node (four_plan R.KIND moves (V.position view.old))) }
+    ensures in_compiler { IfOk result (λ node. node < length compiler.new) }
+    ensures compiled { OnOk result (IsCompiled compiler.new) }
+    ensures same { V.position view.new ≡ V.position view.old }
+    ensures grows { GrowsBy compiler.old compiler.new (2 * moves) }
+    ensures full { IsErrOf result SearchError.Full → MAX_NODES < length compiler.old + 2 * moves }
+    ensures full_now { IsErrOf result SearchError.Full → length compiler.new ≡ MAX_NODES }
+{
+    view.side();
+    let Ok(answer) = forced::<R, V>(alloc, view, p) else {
+        return Err(SearchError::Memory);
+    };
+    match answer {
+        BlockAnswer::Lost => unreachable!(),
+        BlockAnswer::Draw(_) => unreachable!(),
+        BlockAnswer::Won => compile_won::<R, V>(alloc, view, p, moves, compiler),
+        BlockAnswer::One(block) => compile_one::<R, V>(
+            alloc, view, p, block, moves, line, compiler,
+        ),
+    }
+}
+
+/// The same where the one block goes on.
+#[cycle(plan)]
+fn compile_one<R: Rule, V: Seen<R>>(
+    alloc: Global,
+    view: &mut V,
+    p: Point,
+    block: Point,
+    moves: u32,
+    line: &[Point],
+    compiler: &mut Compiler,
+) -> Result<u32, SearchError>
+    requires five { has_five R.KIND (V.position view.old) (mover (V.position view.old)) ≡ false }
+    requires chosen { four_move R.KIND moves (V.position view.old) ≡ Some p }
+    requires one { fate_lem R.KIND (after (V.position view.old) p) ≡ BlockAnswer.One block }
+    requires line { line.now ≡ four_line R.KIND (moves - 1) (after (after (V.position view.old) p) block) }
+    ensures stands { IfOk result (λ node. StandsFor compiler.new node (four_plan R.KIND moves (V.position view.old))) }
+    ensures in_compiler { IfOk result (λ node. node < length compiler.new) }
+    ensures compiled { OnOk result (IsCompiled compiler.new) }
+    ensures same { V.position view.new ≡ V.position view.old }
+    ensures grows { GrowsBy compiler.old compiler.new (2 * moves) }
+    ensures full { IsErrOf result SearchError.Full → MAX_NODES < length compiler.old + 2 * moves }
+    ensures full_now { IsErrOf result SearchError.Full → length compiler.new ≡ MAX_NODES }
+{
+    growth_keeps_trees();
+    view.side();
+    let at_block = compile_after::<R, V>(alloc, view, p, block, moves - 1, line, compiler)?;
+    let beside = winning(compiler, block)?;
+    fork::<R, V>(alloc, view, p, block, at_block, beside, compiler)
+}
+
+/// Compiles the plan of the position after `p` and the block, both of which go on.
+#[cycle(plan)]
+fn compile_after<R: Rule, V: Seen<R>>(
+    alloc: Global,
+    view: &mut V,
+    p: Point,
+    block: Point,
+    moves: u32,
+    line: &[Point],
+    compiler: &mut Compiler,
+) -> Result<u32, SearchError>
+    requires goes_on { outcome_lem R.KIND (V.position view.old) p ≡ Outcome.GoesOn }
+    requires block { outcome_lem R.KIND (after (V.position view.old) p) block ≡ Outcome.GoesOn }
+    requires wins { wins_by_fours R.KIND moves (after (after (V.position view.old) p) block) ≡ true }
+    requires line { line.now ≡ four_line R.KIND moves (after (after (V.position view.old) p) block) }
+    ensures stands { IfOk result (λ node. StandsFor compiler.new node (four_plan R.KIND moves (after (after (V.position view.old) p) block))) }
+    ensures in_compiler { IfOk result (λ node. node < length compiler.new) }
+    ensures compiled { OnOk result (IsCompiled compiler.new) }
+    ensures same { V.position view.new ≡ V.position view.old }
+    ensures grows { GrowsBy compiler.old compiler.new (2 * moves) }
+    ensures full { IsErrOf result SearchError.Full → MAX_NODES < length compiler.old + 2 * moves }
+    ensures full_now { IsErrOf result SearchError.Full → length compiler.new ≡ MAX_NODES }
+{
+    view.side();
+    view.play(p);
+    view.side();
+    view.play(block);
+    let node = compile::<R, V>(alloc, view, moves, line, compiler);
+    view.undo(block);
+    view.undo(p);
+    node
+}
+
+/// Compiles the plan that begins with the chosen move `p`, a four that has won: after each reply that goes on one of its
+/// five points is left.
+fn compile_won<R: Rule, V: Seen<R>>(
+    alloc: Global,
+    view: &mut V,
+    p: Point,
+    moves: u32,
+    compiler: &mut Compiler,
+) -> Result<u32, SearchError>
+    requires five { has_five R.KIND (V.position view.old) (mover (V.position view.old)) ≡ false }
+    requires chosen { four_move R.KIND moves (V.position view.old) ≡ Some p }
+    requires won { fate_lem R.KIND (after (V.position view.old) p) ≡ BlockAnswer.Won }
+    ensures stands { IfOk result (λ node. StandsFor compiler.new node (four_plan R.KIND moves (V.position view.old))) }
+    ensures in_compiler { IfOk result (λ node. node < length compiler.new) }
+    ensures compiled { OnOk result (IsCompiled compiler.new) }
+    ensures same { V.position view.new ≡ V.position view.old }
+    ensures grows { GrowsBy compiler.old compiler.new (2 * moves) }
+    ensures full { IsErrOf result SearchError.Full → MAX_NODES < length compiler.old + 2 * moves }
+    ensures full_now { IsErrOf result SearchError.Full → length compiler.new ≡ MAX_NODES }
+{
+    growth_keeps_trees();
+    let _attacker = view.side();
+    if moves == 1 {
+        return forking(compiler, p, &[]);
+    }
+    let Ok(points) = fives_after::<R, V>(alloc, view, p) else {
+        return Err(SearchError::Memory);
+    };
+    match points.as_slice() {
+        [] => unreachable!(),
+        [block] => {
+            let beside = winning(compiler, *block)?;
+            fork::<R, V>(alloc, view, p, *block, beside, beside, compiler)
+        }
+        [first, second, ..] => {
+            let beside = winning(compiler, *first)?;
+            let at_first = winning(compiler, *second)?;
+            fork::<R, V>(alloc, view, p, *first, at_first, beside, compiler)
+        }
+    }
+}
+
+/// The five points of the side to move after its four `p`. The view is as before.
+fn fives_after<R: Rule, V: Seen<R>>(
+    alloc: Global,
+    view: &mut V,
+    p: Point,
+) -> Result<Points, AllocError>
+    requires goes_on { outcome_lem R.KIND (V.position view.old) p ≡ Outcome.GoesOn }
+    ensures fives { IfOk result (λ points. points ≡ five_points R.KIND (after (V.position view.old) p) (mover (V.position view.old))) }
+    ensures same { V.position view.new ≡ V.position view.old }
+{
+    let attacker = view.side();
+    view.play(p);
+    let points = fives::<R, V>(alloc, view, attacker);
+    view.undo(p);
+    points
+}
+
+/// The node that plays `p` and has one answer to the block, and another to each other reply that goes on.
+fn fork<R: Rule, V: Seen<R>>(
+    alloc: Global,
+    view: &mut V,
+    p: Point,
+    block: Point,
+    at_block: u32,
+    beside: u32,
+    compiler: &mut Compiler,
+) -> Result<u32, SearchError>
+    requires goes_on { outcome_lem R.KIND (V.position view.old) p ≡ Outcome.GoesOn }
+    requires at_block_below { at_block < length compiler.old }
+    requires beside_below { beside < length compiler.old }
+    ensures stands { IfOk result (λ node. (branches : Branches)
+        → AnswersBranches compiler.old (answers_for (outcome_lem R.KIND (after (V.position view.old) p)) (at_or_beside_lem block at_block beside) (points_of (V.position view.old))) branches
+        → StandsFor compiler.new node (Fork p branches)) }
+    ensures in_compiler { IfOk result (λ node. node < length compiler.new) }
+    ensures compiled { OnOk result (IsCompiled compiler.new) }
+    ensures same { V.position view.new ≡ V.position view.old }
+    ensures grows { GrowsBy compiler.old compiler.new 1 }
+    ensures full { IsErrOf result SearchError.Full → MAX_NODES ≤ length compiler.old }
+    ensures full_now { IsErrOf result SearchError.Full → length compiler.new ≡ MAX_NODES }
+{
+    view.side();
+    view.play(p);
+    let found = answers::<R, V>(alloc, view, block, at_block, beside);
+    view.undo(p);
+    match found {
+        Err(_) => Err(SearchError::Memory),
+        Ok(answers) => forking(compiler, p, answers.as_slice()),
+    }
+}
+
+/// The winning node with this attack.
+fn winning(compiler: &mut Compiler, attack: Point) -> Result<u32, SearchError>
+    ensures stands { IfOk result (λ node. StandsFor compiler.new node (Leaf attack)) }
+    ensures in_compiler { IfOk result (λ node. node < length compiler.new) }
+    ensures compiled { OnOk result (IsCompiled compiler.new) }
+    ensures grows { GrowsBy compiler.old compiler.new 1 }
+    ensures full { IsErrOf result SearchError.Full → MAX_NODES ≤ length compiler.old }
+    ensures full_now { IsErrOf result SearchError.Full → length compiler.new ≡ MAX_NODES }
+{
+    match compiler.winning(attack) {
+        Ok(node) => Ok(node),
+        Err(CompileError::Full) => Err(SearchError::Full),
+        Err(CompileError::Memory) => Err(SearchError::Memory),
+    }
+}
+
+/// The node with this attack and these answers.
+fn forking(compiler: &mut Compiler, attack: Point, answers: &[Reply]) -> Result<u32, SearchError>
+    requires rising { is_rising answers.now ≡ true }
+    requires below { All (λ r. r.next < length compiler.old) answers.now }
+    ensures stands { IfOk result (λ node. (branches : Branches) → AnswersBranches compiler.old answers.now branches → StandsFor compiler.new node (Fork attack branches)) }
+    ensures in_compiler { IfOk result (λ node. node < length compiler.new) }
+    ensures compiled { OnOk result (IsCompiled compiler.new) }
+    ensures grows { GrowsBy compiler.old compiler.new 1 }
+    ensures full { IsErrOf result SearchError.Full → MAX_NODES ≤ length compiler.old }
+    ensures full_now { IsErrOf result SearchError.Full → length compiler.new ≡ MAX_NODES }
+{
+    match compiler.node(attack, answers) {
+        Ok(node) => Ok(node),
+        Err(CompileError::Full) => Err(SearchError::Full),
+        Err(CompileError::Memory) => Err(SearchError::Memory),
+    }
+}
+
+/// The answers at a position where the defender is to move: one node to the block, another to each other reply that goes
+/// on. The view is as before.
+fn answers<R: Rule, V: Seen<R>>(
+    alloc: Global,
+    view: &mut V,
+    block: Point,
+    at_block: u32,
+    beside: u32,
+) -> Result<Vec<Reply>, AllocError>
+    ensures answers { IfOk result (λ answers. answers.items ≡ answers_for (outcome_lem R.KIND (V.position view.old)) (at_or_beside_lem block at_block beside) (points_of (V.position view.old))) }
+    ensures same { V.position view.new ≡ V.position view.old }
+{
+    let mut found = Vec::new(alloc);
+    for q in view.board().points() {
+        if let Outcome::GoesOn = view.outcome(q) {
+            found.push(Reply {
+                at: q,
+                next: at_or_beside(q, block, at_block, beside),
+            })?;
+        }
+    }
+    Ok(found)
+}
+
+/// The first node for the block, and the second for another point.
+fn at_or_beside(q: Point, block: Point, at_block: u32, beside: u32) -> u32
+    ensures node { result ≡ at_or_beside_lem block at_block beside q }
+{
+    if q.x == block.x && q.y == block.y {
+        at_block
+    } else {
+        beside
+    }
+}

@@ -1,0 +1,5 @@
+pub mod Undo
+pub mod FourLaws
+pub mod OtherSide
+pub mod Distinct
+pub mod BlockLaw

@@ -1,0 +1,3 @@
+pub mod FourMoves
+pub mod Blocks
+pub mod OneBlock

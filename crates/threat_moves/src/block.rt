@@ -1,0 +1,89 @@
+//! What becomes of a four: the block decides.
+//!
+//! After a four move the defender wins if it has a five point itself. Else it has to take the attacker's one five point,
+//! and has lost where there are two or where it may not play there.
+#![tactic(auto)]
+
+ghost use Rattle.std.specs.Prelude.{◌≡◌, IfOk, IsTrue};
+ghost use Rattle.game_rules.specs.Play.{mover, other as other_lem};
+ghost use Rattle.threat_moves.specs.FourMoves.{is_four_move};
+ghost use Rattle.threat_moves.specs.Blocks.{by_block as by_block_lem, fate as fate_lem, block_answer};
+
+use crate::five_points::{fives, has_five};
+use foul_judge::{Outcome, Seen};
+use row_shapes::Rule;
+use std::alloc::{AllocError, Global};
+use stone_board::{Point, Side};
+
+/// What becomes of a four move, the first that holds after it.
+#[derive(Clone, Copy, Debug, PartialEq, Eq)]
+pub enum BlockAnswer {
+    /// The defender has a five point.
+    Lost,
+    /// The attacker has two five points or more, or the one block is a foul.
+    Won,
+    /// The one block fills the board.
+    Draw(Point),
+    /// The one block goes on.
+    One(Point),
+}
+
+/// What becomes of the four move `p`. The view is as before, also where memory ran out.
+pub fn forced<R: Rule, V: Seen<R>>(
+    alloc: Global,
+    view: &mut V,
+    p: Point,
+) -> Result<BlockAnswer, AllocError>
+    requires four { IsTrue (is_four_move R.KIND (V.position view.old) p) }
+    ensures answer { IfOk result (λ answer. answer ≡ block_answer R.KIND (V.position view.old) p) }
+    ensures same { V.position view.new ≡ V.position view.old }
+{
+    view.side();
+    view.play(p);
+    let answer = fate::<R, V>(alloc, view);
+    view.undo(p);
+    answer
+}
+
+/// What becomes of a four where the defender is to move.
+#[tactic(auto, unfolding(crate::specs::Blocks::fate))]
+fn fate<R: Rule, V: Seen<R>>(alloc: Global, view: &mut V) -> Result<BlockAnswer, AllocError>
+    ensures fate { IfOk result (λ answer. answer ≡ fate_lem R.KIND (V.position view.old)) }
+    ensures same { V.position view.new ≡ V.position view.old }
+{
+    let defender = view.side();
+    if has_five::<R, V>(view, defender) {
+        return Ok(BlockAnswer::Lost);
+    }
+    let points = fives::<R, V>(alloc, view, other(defender))?;
+    match points.as_slice() {
+        [] => Ok(BlockAnswer::Lost),
+        [block] => {
+            let block = *block;
+            Ok(by_block(block, view.outcome(block)))
+        }
+        _ => Ok(BlockAnswer::Won),
+    }
+}
+
+/// What becomes of a four whose one block has this outcome.
+fn by_block(block: Point, outcome: Outcome) -> BlockAnswer
+    ensures answer { result ≡ by_block_lem block outcome }
+{
+    match outcome {
+        Outcome::Refused | Outcome::Wins => BlockAnswer::Lost,
+        Outcome::Fouls(_) => BlockAnswer::Won,
+        Outcome::Draws => BlockAnswer::Draw(block),
+        Outcome::GoesOn => BlockAnswer::One(block),
+    }
+}
+
+/// The other side.
+fn other(side: Side) -> Side
+    ensures other { result ≡ other_lem side }
+{
+    match side {
+        Side::Black => Side::White,
+        Side::White => Side::Black,
+    }
+}

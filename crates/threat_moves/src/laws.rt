@@ -1,0 +1,17 @@
+//! The laws of fours, each as the contract of a function that computes nothing.
+#![tactic(auto)]
+
+ghost use Rattle.threat_moves.specs.OneBlock.{BlockDecides, OthersLeaveFive};
+
+/// In the game of continuous fours, in which each attack wins or leaves the attacker a five point, only the block of a four
+/// needs an answer of its own. A four move starts a win within n + 1 moves as its fate says: never where the defender has
+/// a five point or the one block fills the board; where the four has won always, but for n = 0 only if each reply fouls;
+/// and where the one block goes on exactly if the attacker wins within n moves after it.
+pub fn block_decides()
+    ensures block { BlockDecides }
+{}
+
+/// Each reply to a four that goes on leaves the attacker a five point, but its one block.
+pub fn others_leave_five()
+    ensures five { OthersLeaveFive }
+{}
