@@ -127,7 +127,7 @@ module _ (width height : ℕ) (wide : IsSide width) (high : IsSide height) where
       let none : found.0 ≡ [] = fits.winning (ap is_winning (sym same.0) ∙ wins) in
       items_text-injective (ReplyFits width height) reply_text (reply_items width height wide high) rs found.0 fits_rs fits.replies (sym text ∙ same.1) ∙ none
 
-  node_words : (line a : List ℕ) (t : Option (List ℕ)) (n : Node) → NodeFits width height n → line ≡ a ++ tail_text space t → is_free space a ≡ true → line ≡ node_line n → (a ≡ point_text n.attack) × (t ≡ Some (answers_text (answers_of n)))
+  pub node_words : (line a : List ℕ) (t : Option (List ℕ)) (n : Node) → NodeFits width height n → line ≡ a ++ tail_text space t → is_free space a ≡ true → line ≡ node_line n → (a ≡ point_text n.attack) × (t ≡ Some (answers_text (answers_of n)))
   node_words line a t n fits parts free e =
       same_word space a t (point_text n.attack) (Some (answers_text (answers_of n))) free ((point_items width height wide high).free n.attack fits.attack) (sym parts ∙ e)
 
@@ -175,6 +175,16 @@ module _ (width height : ℕ) (wide : IsSide width) (high : IsSide height) where
       let replies = items_text-injective (ReplyFits width height) reply_text (reply_items width height wide high) a.replies b.replies fa.replies fb.replies texts in
       let rests = same.0 in
       λ i. record { replies = replies i; rest = rests i }
+
+  -- a text spells one node
+  pub node_line-injective : (n m : Node) → NodeFits width height n → NodeFits width height m → node_line n ≡ node_line m → n ≡ m
+  node_line-injective n m fn fm e =
+      let words = node_words width height wide high (node_line n) (point_text n.attack) (Some (answers_text (answers_of n))) m fm refl ((point_items width height wide high).free n.attack fn.attack) e in
+      let attack = (point_items width height wide high).injective n.attack m.attack fn.attack fm.attack words.0 in
+      let same = answers_text-injective (answers_of n) (answers_of m) fn.answers fm.answers (same_Some (answers_text (answers_of n)) (answers_text (answers_of m)) words.1) in
+      let replies = ap (λ (a : Answers). a.replies) same in
+      let rests = ap (λ (a : Answers). a.rest) same in
+      λ i. record { attack = attack i; replies = replies i; rest = rests i }
 
   start-free : (len : ℕ) (a : Answers) → StartFits width height len a → is_free line_feed (answers_text a) ≡ true
   start-free len a fits = answers-free a fits.answers

@@ -6,7 +6,15 @@ mod Stones
 mod LineLaws
 mod BoardLaws
 mod TextLaws
+mod Pieces
+mod BoardLines
+mod PositionBad
 mod AnswerLaws
 mod NodeLaws
 mod TableLaws
+mod NodeBad
+mod Completions
+mod BodyBad
+mod TableTexts
+mod TableBad
 mod Growth

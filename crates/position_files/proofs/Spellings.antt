@@ -6,7 +6,7 @@ use Rattle.std.specs.Bool.{Decides}
 use Rattle.std.specs.Fmt.{decimal}
 use Rattle.std.specs.Char.{IsNotAsciiDigit}
 use Rattle.std.specs.Cmp.Lexicographic.{pointwise}
-use Rattle.std.proofs.lemmas.Bool.{eq-eqb, ne_eqb, false≢true}
+use Rattle.std.proofs.lemmas.Bool.{eqb-true, eq-eqb, ne_eqb, false≢true}
 use Rattle.std.proofs.lemmas.Bool.Decides.{Decides-eqb}
 use Rattle.std.proofs.lemmas.Fmt.{decimal_injective}
 use Rattle.std.proofs.lemmas.List.{take_at, append-nil}
@@ -102,6 +102,31 @@ bad_square bytes a r side is_side parts free width height sides fit e =
     let w : side ≡ sides.0 = decimal_injective side sides.0 (omega (arith, few)) (omega (arith, few_w)) (sym width ∙ words.0) in
     let h : side ≡ sides.1 = decimal_injective side sides.1 (omega (arith, few)) (omega (arith, few_h)) (sym height ∙ tail.1) in
     tail.0 (sym w ∙ h)
+
+tail_none : (width height : ℕ) → None ≡ size_tail width height → width ≡ height
+unfolding size_tail
+tail_none width height e = by_test (eqb width height) refl e where
+  by_test : (r : Bool) → eqb width height ≡ r → None ≡ cond r None (Some (decimal height)) → width ≡ height
+  by_test true t h = eqb-true width height t
+  by_test false t h = absurd cc
+
+same_height : (a b c d : ℕ) → a ≡ c → b < 2 ^ 64 → d < 2 ^ 64 → size_tail a b ≡ size_tail c d → b ≡ d
+unfolding size_tail
+same_height a b c d w fb fd e = by_test (eqb a b) refl e where
+  by_test : (r : Bool) → eqb a b ≡ r → cond r None (Some (decimal b)) ≡ size_tail c d → b ≡ d
+  by_test true t h = sym (eqb-true a b t) ∙ w ∙ tail_none c d h
+  by_test false t h = decimal_injective b d fb fd (tail_is c d (decimal b) h).1
+
+-- a text spells one size
+pub size_text-injective : (a b : ℕ × ℕ) → AreSides a → AreSides b → size_text a.0 a.1 ≡ size_text b.0 b.1 → (a.0 ≡ b.0) × (a.1 ≡ b.1)
+size_text-injective a b fa fb e =
+    let a0 = fa.width.fits in
+    let a1 = fa.height.fits in
+    let b0 = fb.width.fits in
+    let b1 = fb.height.fits in
+    let words = size_parts (size_text a.0 a.1) (decimal a.0) (size_tail a.0 a.1) b fb (size_words a.0 a.1) (decimal-free comma a.0 (inl (omega arith)) (omega (arith, a0))) e in
+    let width : a.0 ≡ b.0 = decimal_injective a.0 b.0 (omega (arith, a0)) (omega (arith, b0)) words.0 in
+    (width, same_height a.0 a.1 b.0 b.1 width (omega (arith, a1)) (omega (arith, b1)) words.1)
 
 -- points of a board are items of a line
 pub point_items : (width height : ℕ) → IsSide width → IsSide height → AreItems (IsWithin width height) point_text

@@ -9,9 +9,8 @@ use Rattle.strategy_graph.specs.declared.roots.Root.TheVariants.{Attack, Defend}
 use Rattle.position_files.specs.declared.TableFile.{TableFile}
 use Rattle.position_files.specs.declared.tables.Body.{Body}
 use Rattle.position_files.specs.Lines.{line_feed, text_of}
-use Rattle.position_files.specs.Positions.{board_lines}
-use Rattle.position_files.specs.Tables.{IsTextOfTable, nodes_lines, start_line, table_text}
-use Rattle.position_files.specs.Bodies.{BodyFits, IsFinished}
+use Rattle.position_files.specs.Tables.{IsTextOfTable, start_line, table_text}
+use Rattle.position_files.specs.Bodies.{BodyFits, IsFinished, body_lines}
 use Rattle.position_files.specs.Answers.{StartFits}
 use Rattle.position_files.proofs.TextLaws.{whole_text}
 use Rattle.position_files.proofs.NodeLaws.{text_of-push, replies_on}
@@ -20,10 +19,6 @@ use Rattle.position_files.proofs.NodeLaws.{text_of-push, replies_on}
 abbrev pub file_of : Body → Root → TableFile
 file_of body root = record { kind = body.kind; board = body.board; table = body.table; root = root; moves = body.moves }
 
--- the lines of a body
-abbrev pub body_lines : Body → List (List ℕ)
-body_lines body = board_lines body.kind body.board ++ nodes_lines body.table body.moves
-
 finished_text : (body : Body) (root : Root) (file : TableFile) (bytes : List ℕ) → IsFinished body root file → IsTextOfTable (file_of body root) bytes → IsTextOfTable file bytes
 finished_text body root file bytes done text = subst (λ (f : TableFile). IsTextOfTable f bytes) (sym done.file_is) text
 
@@ -31,26 +26,36 @@ finished_text body root file bytes done text = subst (λ (f : TableFile). IsText
 pub last_below : (body : Body) (len : ℕ) → BodyFits 1 body → len ≡ length body.table → root_below (Attack (len - 1)) (length body.table) ≡ true
 last_below body len fits count = let some = fits.nodes.enough in lt-ltb (len - 1) (length body.table) (omega (arith, some, count))
 
-pub attack_text : (body : Body) (len : ℕ) (file : TableFile) (bytes rest : List ℕ) → BodyFits 1 body → IsTable body.table → len ≡ length body.table → bytes ≡ text_of (body_lines body) ++ rest → rest ≡ [] → IsFinished body (Attack (len - 1)) file → IsTextOfTable file (codes "renju-table 1" ++ line_feed ∷ bytes)
+-- a body that ends the bytes is the text of a table whose root is its last node
+pub attack_text_of : (body : Body) (len : ℕ) (bytes rest : List ℕ) → BodyFits 1 body → IsTable body.table → len ≡ length body.table → bytes ≡ text_of (body_lines body) ++ rest → rest ≡ [] → IsTextOfTable (file_of body (Attack (len - 1))) (codes "renju-table 1" ++ line_feed ∷ bytes)
 unfolding table_text
-attack_text body len file bytes rest fits table count text end done =
+attack_text_of body len bytes rest fits table count text end =
     let some = fits.nodes.enough in
-    finished_text body (Attack (len - 1)) file (codes "renju-table 1" ++ line_feed ∷ bytes) done (record {
+    record {
       board = fits.board;
       table = table;
       on_board = fits.on_board;
       root = (omega (arith, some, count), fits.moves.enough, fits.moves.few);
       spelled = whole_text (codes "renju-table 1") (body_lines body) (codes "renju-table 1" ++ line_feed ∷ bytes) bytes rest refl text end;
-    })
+    }
 
-pub defend_text : (body : Body) (a : Answers) (len : ℕ) (file : TableFile) (bytes rest tail : List ℕ) → BodyFits 0 body → IsTable body.table → len ≡ length body.table → StartFits body.board.width body.board.height len a → bytes ≡ text_of (body_lines body) ++ rest → rest ≡ start_line a ++ line_feed ∷ tail → tail ≡ [] → IsFinished body (Defend a) file → IsTextOfTable file (codes "renju-table 2" ++ line_feed ∷ bytes)
+pub attack_text : (body : Body) (len : ℕ) (file : TableFile) (bytes rest : List ℕ) → BodyFits 1 body → IsTable body.table → len ≡ length body.table → bytes ≡ text_of (body_lines body) ++ rest → rest ≡ [] → IsFinished body (Attack (len - 1)) file → IsTextOfTable file (codes "renju-table 1" ++ line_feed ∷ bytes)
+attack_text body len file bytes rest fits table count text end done =
+    finished_text body (Attack (len - 1)) file (codes "renju-table 1" ++ line_feed ∷ bytes) done (attack_text_of body len bytes rest fits table count text end)
+
+-- a body and a start that end the bytes are the text of a table whose root is the start
+pub defend_text_of : (body : Body) (a : Answers) (len : ℕ) (bytes rest tail : List ℕ) → BodyFits 0 body → IsTable body.table → len ≡ length body.table → StartFits body.board.width body.board.height len a → bytes ≡ text_of (body_lines body) ++ rest → rest ≡ start_line a ++ line_feed ∷ tail → tail ≡ [] → IsTextOfTable (file_of body (Defend a)) (codes "renju-table 2" ++ line_feed ∷ bytes)
 unfolding table_text
-defend_text body a len file bytes rest tail fits table count start text line end done =
+defend_text_of body a len bytes rest tail fits table count start text line end =
     let lines : bytes ≡ text_of (body_lines body ++ start_line a ∷ []) ++ tail = text ∙ ap (λ (l : List ℕ). text_of (body_lines body) ++ l) line ∙ text_of-push (body_lines body) (start_line a) tail in
-    finished_text body (Defend a) file (codes "renju-table 2" ++ line_feed ∷ bytes) done (record {
+    record {
       board = fits.board;
       table = table;
       on_board = fits.on_board;
       root = (start.start, subst (λ n. names_below a n ≡ true) count start.below, replies_on body.board a.replies start.answers.replies, fits.moves.few);
       spelled = whole_text (codes "renju-table 2") (body_lines body ++ start_line a ∷ []) (codes "renju-table 2" ++ line_feed ∷ bytes) bytes tail refl lines end;
-    })
+    }
+
+pub defend_text : (body : Body) (a : Answers) (len : ℕ) (file : TableFile) (bytes rest tail : List ℕ) → BodyFits 0 body → IsTable body.table → len ≡ length body.table → StartFits body.board.width body.board.height len a → bytes ≡ text_of (body_lines body) ++ rest → rest ≡ start_line a ++ line_feed ∷ tail → tail ≡ [] → IsFinished body (Defend a) file → IsTextOfTable file (codes "renju-table 2" ++ line_feed ∷ bytes)
+defend_text body a len file bytes rest tail fits table count start text line end done =
+    finished_text body (Defend a) file (codes "renju-table 2" ++ line_feed ∷ bytes) done (defend_text_of body a len bytes rest tail fits table count start text line end)

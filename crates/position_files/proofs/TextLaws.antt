@@ -1,7 +1,7 @@
 -- Whole texts.
-use Rattle.std.proofs.Common.{◌≡◌, ℕ, true, sym, ap, subst, ◌∙◌, List, [], ◌∷◌, ◌++◌, length, eqb}
+use Rattle.std.proofs.Common.{◌≡◌, ℕ, true, false, sym, ap, subst, ◌∙◌, List, [], ◌∷◌, ◌++◌, length, eqb}
 use Rattle.std.specs.Prelude.{codes}
-use Rattle.std.proofs.lemmas.Bool.{eqb-true}
+use Rattle.std.proofs.lemmas.Bool.{eqb-true, eq-eqb, both_ways}
 use Rattle.std.proofs.lemmas.List.{append-nil, nil_from_length}
 use Rattle.game_rules.specs.Grid.{Grid, IsBoard}
 use Rattle.game_rules.specs.declared.RuleKind.{RuleKind}
@@ -16,6 +16,9 @@ whole_text first ls bytes rest tail e1 e2 e3 =
 
 pub no_bytes : (bytes : List ℕ) → eqb (length bytes) 0 ≡ true → bytes ≡ []
 no_bytes bytes h = nil_from_length bytes (eqb-true (length bytes) 0 h)
+
+pub some_bytes : (bytes : List ℕ) → eqb (length bytes) 0 ≡ false → bytes ≡ [] → ⊥
+some_bytes bytes h e = both_ways (eqb (length bytes) 0) h (eq-eqb (length bytes) 0 (ap length e))
 
 pub position_found : (kind : RuleKind) (b found : Grid) (bytes rest tail : List ℕ) → IsBoard b → bytes ≡ codes "renju-position 1" ++ line_feed ∷ rest → rest ≡ text_of (board_lines kind b) ++ tail → tail ≡ [] → found ≡ b → IsTextOfPosition (record { kind = kind; board = found }) bytes
 unfolding position_text

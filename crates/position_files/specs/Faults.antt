@@ -1,5 +1,5 @@
 -- What is said of a text that is refused.
-use Rattle.std.specs.Prelude.{◌≡◌, ℕ, Some}
+use Rattle.std.specs.Prelude.{◌≡◌, ℕ, List, Some}
 use Rattle.game_rules.specs.Grid.{Grid}
 use Rattle.game_rules.specs.declared.RuleKind.{RuleKind}
 use Rattle.foul_judge.specs.Lawful.{refusal}
@@ -7,7 +7,14 @@ use Rattle.foul_judge.specs.declared.position.PositionError.{PositionError}
 use Rattle.position_files.specs.declared.faults.Fault.{Fault}
 use Rattle.position_files.specs.declared.faults.Fault.TheVariants.{Bad, Memory}
 use Rattle.position_files.specs.declared.error.FileError.{FileError}
-use Rattle.position_files.specs.declared.error.FileError.TheVariants.{BadLine, Unlawful, Memory as NoMemory}
+use Rattle.position_files.specs.declared.error.FileError.TheVariants.{BadLine, Unlawful, WrongMoves, Memory as NoMemory}
+use Rattle.game_rules.specs.Play.{IsPosition}
+use Rattle.strategy_graph.specs.Roots.{root_depth}
+use Rattle.position_files.specs.declared.PositionFile.{PositionFile}
+use Rattle.position_files.specs.declared.TableFile.{TableFile}
+use Rattle.position_files.specs.Tables.{IsTextOfTable, IsTableText}
+use Rattle.position_files.specs.Lines.{FirstBad}
+use Rattle.position_files.specs.Positions.{IsTextOfPosition, IsPositionText}
 
 -- the error of a text whose line of this number has the fault
 abbrev pub at_line : Fault → ℕ → FileError
@@ -19,3 +26,26 @@ pub record IsRefusedAs (kind : RuleKind) (b : Grid) (error : FileError) : Type 0
   pub why : PositionError
   pub first : refusal kind b ≡ Some why
   pub is : error ≡ Unlawful why
+
+-- What each error says of bytes that are to be the text of a position: that line n is the first bad one; or that they are such a
+-- text, and why its board is no lawful position; or that there is no memory.
+abbrev pub IsPositionFault : List ℕ → FileError → Type 0
+IsPositionFault bytes (BadLine n) = FirstBad IsPositionText bytes n
+IsPositionFault bytes (Unlawful why) = IsPositionText bytes × ((file : PositionFile) → IsTextOfPosition file bytes → refusal file.kind file.board ≡ Some why)
+IsPositionFault bytes (WrongMoves written counted) = ⊥
+IsPositionFault bytes NoMemory = Unit {0}
+
+-- the position of the file is lawful, and these are the number of moves that it says and the depth of its root, which differ
+pub record IsMiscounted (file : TableFile) (written counted : ℕ) : Type 0 where
+  pub lawful : IsPosition file.kind file.board
+  pub says : written ≡ file.moves
+  pub depth : counted ≡ root_depth file.table file.root
+  pub differ : written ≡ counted → ⊥
+
+-- What each error says of bytes that are to be the text of a table: that line n is the first bad one; or that they are such a text,
+-- and why its board is no lawful position, or both numbers of moves; or that there is no memory.
+abbrev pub IsTableFault : List ℕ → FileError → Type 0
+IsTableFault bytes (BadLine n) = FirstBad IsTableText bytes n
+IsTableFault bytes (Unlawful why) = IsTableText bytes × ((file : TableFile) → IsTextOfTable file bytes → refusal file.kind file.board ≡ Some why)
+IsTableFault bytes (WrongMoves written counted) = IsTableText bytes × ((file : TableFile) → IsTextOfTable file bytes → IsMiscounted file written counted)
+IsTableFault bytes NoMemory = Unit {0}

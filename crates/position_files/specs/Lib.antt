@@ -5,3 +5,4 @@ pub mod Reading
 pub mod Faults
 pub mod Answers
 pub mod Bodies
+pub mod Sections

@@ -1,12 +1,13 @@
 //! The lines of a rule and a board.
 #![tactic(auto)]
 
-ghost use Rattle.std.specs.Prelude.{◌≡◌, ℕ, List, [], ◌∷◌, ◌++◌, true, false, IsTrue, IfOk, Err};
+ghost use Rattle.std.specs.Prelude.{◌≡◌, ℕ, List, [], ◌∷◌, ◌++◌, true, false, IsTrue, IfOk, IfErr, Err};
 ghost use Rattle.std.specs.List.{AllByRecursion};
 ghost use Rattle.game_rules.specs.Grid.{Grid, IsBoard};
 ghost use Rattle.position_files.specs.Lines.{line_feed, text_of};
 ghost use Rattle.position_files.specs.Positions.{space, board_lines, points_text, stones as stones_lem};
 ghost use Rattle.position_files.specs.Reading.{IsWithin, SameBut, is_free};
+ghost use Rattle.position_files.specs.Sections.{IsBoardLines, IsFaultFrom};
 
 use crate::FileError;
 use crate::faults::Fault;
@@ -71,6 +72,7 @@ fn stones_line<'a>(
 pub(crate) fn read_board(alloc: Global, bytes: &[u8]) -> Result<(RuleKind, Board, &[u8]), FileError>
     ensures board { IfOk result (λ found. IsBoard found.1) }
     ensures text { IfOk result (λ found. bytes.now ≡ text_of (board_lines found.0 found.1) ++ found.2.now) }
+    ensures refused { IfErr result (IsFaultFrom 2 IsBoardLines bytes.now) }
 {
     let Some((kind, rest)) = rule_line(bytes) else {
         return Err(FileError::BadLine(2));

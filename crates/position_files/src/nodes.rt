@@ -1,7 +1,7 @@
 //! The nodes of a table, read line by line.
 #![tactic(auto)]
 
-ghost use Rattle.std.specs.Prelude.{◌≡◌, ℕ, ◌≤◌, ◌<◌, true, List, [], ◌∷◌, ◌++◌, length, map, OnOk, IfOk, Err};
+ghost use Rattle.std.specs.Prelude.{◌≡◌, ℕ, ◌≤◌, ◌<◌, true, List, [], ◌∷◌, ◌++◌, length, map, OnOk, OnErr, IfOk, IfErr, Err};
 ghost use Rattle.std.specs.List.{AllByRecursion};
 ghost use Rattle.strategy_graph.specs.Tables.{IsNode, is_winning};
 ghost use Rattle.strategy_graph.specs.declared.Node.{Node};
@@ -9,6 +9,7 @@ ghost use Rattle.position_files.specs.Lines.{line_feed, text_of};
 ghost use Rattle.position_files.specs.Tables.{node_line};
 ghost use Rattle.position_files.specs.Reading.{IsSide};
 ghost use Rattle.position_files.specs.Answers.{AddsNode, NodeFits};
+ghost use Rattle.position_files.specs.Sections.{IsNodesFault};
 
 use crate::FileError;
 use crate::answers::node;
@@ -25,6 +26,7 @@ fn push(table: &mut Table, node: Node) -> Result<(), Fault>
     requires winning { is_winning node.rest ≡ true → node.replies ≡ [] }
     ensures pushed { OnOk result (table.new ≡ table.old ++ node ∷ []) }
     ensures bad { result ≡ Err Fault.Bad → IsNode node (length table.old) → length table.old < 1000000 → ⊥ }
+    ensures unchanged { OnErr result (table.new ≡ table.old) }
 {
     match table.push(node) {
         Ok(_) => Ok(()),
@@ -44,6 +46,9 @@ fn add_node<'a>(
     requires wide { IsSide width }
     requires high { IsSide height }
     ensures added { IfOk result (λ rest. AddsNode width height table.old table.new bytes.now rest.now) }
+    ensures bad { result ≡ Err Fault.Bad → (n : Node) (others : List ℕ) → NodeFits width height n → IsNode n (length table.old) → length table.old < 1000000
+        → bytes.now ≡ node_line n ++ line_feed ∷ others → ⊥ }
+    ensures unchanged { OnErr result (table.new ≡ table.old) }
 {
     let Some((text, rest)) = line(bytes) else {
         return Err(Fault::Bad);
@@ -66,6 +71,7 @@ pub(crate) fn read_nodes(
     ensures count { IfOk result (λ found. length found.0 ≡ count) }
     ensures nodes { IfOk result (λ found. AllByRecursion (NodeFits width height) found.0) }
     ensures text { IfOk result (λ found. bytes.now ≡ text_of (map node_line found.0) ++ found.1.now) }
+    ensures refused { IfErr result (IsNodesFault width height count bytes.now) }
 {
     let mut table = Table::new(alloc);
     let mut rest = bytes;

@@ -4,9 +4,11 @@
 //! line at which the first of them answers none is that of the bad line.
 #![tactic(auto)]
 
-ghost use Rattle.std.specs.Prelude.{IfOk};
+ghost use Rattle.std.specs.Prelude.{◌≡◌, IfOk, IfErr};
 ghost use Rattle.game_rules.specs.Play.{IsPosition};
+ghost use Rattle.position_files.specs.declared.PositionFile.{PositionFile};
 ghost use Rattle.position_files.specs.Positions.{IsTextOfPosition};
+ghost use Rattle.position_files.specs.Faults.{IsPositionFault};
 
 use crate::boards::read_board;
 use crate::lawful::lawful;
@@ -14,10 +16,12 @@ use crate::words::after;
 use crate::{FileError, PositionFile};
 use std::alloc::Global;
 
-/// The position that the bytes are the text of.
+/// The position that the bytes are the text of. A bad line is named first, and then why the board is no lawful position.
 pub fn read_position(alloc: Global, bytes: &[u8]) -> Result<PositionFile, FileError>
     ensures found { IfOk result (λ file. IsTextOfPosition file bytes.now) }
+    ensures only { IfOk result (λ file. (other : PositionFile) → IsTextOfPosition other bytes.now → other ≡ file) }
     ensures lawful { IfOk result (λ file. IsPosition file.kind file.board) }
+    ensures refused { IfErr result (IsPositionFault bytes.now) }
 {
     let Some(rest) = after(bytes, b"renju-position 1\n") else {
         return Err(FileError::BadLine(1));

@@ -1,13 +1,15 @@
 //! Texts of tables, read line by line.
 #![tactic(auto)]
 
-ghost use Rattle.std.specs.Prelude.{◌≡◌, ◌∷◌, ◌++◌, true, length, codes, IfOk};
+ghost use Rattle.std.specs.Prelude.{◌≡◌, ◌≤◌, ◌∷◌, ◌++◌, true, length, codes, IfOk, IfErr};
 ghost use Rattle.game_rules.specs.Play.{IsPosition};
 ghost use Rattle.strategy_graph.specs.Roots.{root_below, root_depth};
 ghost use Rattle.position_files.specs.Lines.{line_feed, text_of};
-ghost use Rattle.position_files.specs.Positions.{board_lines};
-ghost use Rattle.position_files.specs.Tables.{IsTextOfTable, nodes_lines};
-ghost use Rattle.position_files.specs.Bodies.{BodyFits, IsFinished};
+ghost use Rattle.position_files.specs.Tables.{IsTextOfTable};
+ghost use Rattle.position_files.specs.Bodies.{BodyFits, IsBodyLines, IsFinishFault, IsFinished, body_lines};
+ghost use Rattle.position_files.specs.declared.TableFile.{TableFile};
+ghost use Rattle.position_files.specs.Faults.{IsTableFault};
+ghost use Rattle.position_files.specs.Sections.{IsFaultFrom};
 
 use crate::answers::start_line;
 use crate::boards::read_board;
@@ -32,8 +34,10 @@ pub(crate) struct Body {
 
 /// What lines 2 on tell, with at least so many moves and nodes, and the bytes after the last node.
 fn read_body(alloc: Global, bytes: &[u8], least: u32) -> Result<(Body, &[u8]), FileError>
+    requires least { least ≤ 1 }
     ensures fits { IfOk result (λ found. BodyFits least found.0) }
-    ensures text { IfOk result (λ found. bytes.now ≡ text_of (board_lines found.0.kind found.0.board ++ nodes_lines found.0.table found.0.moves) ++ found.1.now) }
+    ensures text { IfOk result (λ found. bytes.now ≡ text_of (body_lines found.0) ++ found.1.now) }
+    ensures refused { IfErr result (IsFaultFrom 2 (IsBodyLines least) bytes.now) }
 {
     let (kind, board, rest) = read_board(alloc, bytes)?;
     let Some((moves, rest)) = number_line(rest, b"moves ", least) else {
@@ -56,6 +60,7 @@ fn read_body(alloc: Global, bytes: &[u8], least: u32) -> Result<(Body, &[u8]), F
 fn finish(body: Body, root: Root) -> Result<TableFile, FileError>
     requires below { root_below root (length body.table) ≡ true }
     ensures finished { IfOk result (IsFinished body root) }
+    ensures refused { IfErr result (IsFinishFault body root) }
 {
     let Body {
         kind,
@@ -85,6 +90,7 @@ fn read_attack(alloc: Global, bytes: &[u8]) -> Result<TableFile, FileError>
     ensures text { IfOk result (λ file. IsTextOfTable file (codes "renju-table 1" ++ line_feed ∷ bytes.now)) }
     ensures lawful { IfOk result (λ file. IsPosition file.kind file.board) }
     ensures moves { IfOk result (λ file. file.moves ≡ root_depth file.table file.root) }
+    ensures refused { IfErr result (IsTableFault (codes "renju-table 1" ++ line_feed ∷ bytes.now)) }
 {
     let (body, rest) = read_body(alloc, bytes, 1)?;
     let len = body.table.len();
@@ -99,6 +105,7 @@ fn read_defend(alloc: Global, bytes: &[u8]) -> Result<TableFile, FileError>
     ensures text { IfOk result (λ file. IsTextOfTable file (codes "renju-table 2" ++ line_feed ∷ bytes.now)) }
     ensures lawful { IfOk result (λ file. IsPosition file.kind file.board) }
     ensures moves { IfOk result (λ file. file.moves ≡ root_depth file.table file.root) }
+    ensures refused { IfErr result (IsTableFault (codes "renju-table 2" ++ line_feed ∷ bytes.now)) }
 {
     let (body, rest) = read_body(alloc, bytes, 0)?;
     let len = body.table.len();
@@ -114,11 +121,14 @@ fn read_defend(alloc: Global, bytes: &[u8]) -> Result<TableFile, FileError>
     finish(body, Root::Defend(start))
 }
 
-/// The table that the bytes are the text of.
+/// The table that the bytes are the text of. A bad line is named first, then why the board is no lawful position, and then both
+/// numbers of moves, where the one that is written is not the depth of the root.
 pub fn read_table(alloc: Global, bytes: &[u8]) -> Result<TableFile, FileError>
     ensures found { IfOk result (λ file. IsTextOfTable file bytes.now) }
+    ensures only { IfOk result (λ file. (other : TableFile) → IsTextOfTable other bytes.now → other ≡ file) }
     ensures lawful { IfOk result (λ file. IsPosition file.kind file.board) }
     ensures moves { IfOk result (λ file. file.moves ≡ root_depth file.table file.root) }
+    ensures refused { IfErr result (IsTableFault bytes.now) }
 {
     if let Some(rest) = after(bytes, b"renju-table 1\n") {
         return read_attack(alloc, rest);

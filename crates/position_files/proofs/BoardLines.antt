@@ -1,0 +1,255 @@
+-- Where bytes leave the lines of a board, and that lines spell one board.
+use Rattle.std.proofs.Common.{◌≡◌, ℕ, ◌+◌, Bool, true, false, refl, sym, ap, subst, ◌∙◌, arith, List, [], ◌∷◌, ◌++◌, length, take, map, get_or}
+use Rattle.std.specs.Prelude.{None, codes}
+use Rattle.std.specs.List.{AllByRecursion}
+use Rattle.std.proofs.lemmas.List.{append_cancel_left, length-map, ext_get_or}
+use Rattle.game_rules.specs.Grid.{Grid, IsBoard, is_stone_of}
+use Rattle.game_rules.specs.declared.Cell.{Cell}
+use Rattle.game_rules.specs.declared.Cell.TheVariants.{Empty, Black as BlackStone, White as WhiteStone}
+use Rattle.game_rules.specs.declared.Point.{Point}
+use Rattle.game_rules.specs.declared.RuleKind.{RuleKind}
+use Rattle.game_rules.specs.declared.RuleKind.TheVariants.{Freestyle, Exact, Renju}
+use Rattle.game_rules.specs.declared.Side.{Side}
+use Rattle.game_rules.specs.declared.Side.TheVariants.{Black, White}
+use Rattle.position_files.specs.declared.faults.Fault.{Fault}
+use Rattle.position_files.specs.declared.faults.Fault.TheVariants.{Bad, Memory}
+use Rattle.position_files.specs.Faults.{at_line}
+use Rattle.position_files.specs.Lines.{line_feed, text_of}
+use Rattle.position_files.specs.Positions.{point_text, points_text, stones, rule_word, rule_line, size_text, size_line, black_line, white_line, board_lines}
+use Rattle.position_files.specs.Reading.{ReadsLine, AreSides, IsSide, IsWithin, SameBut, is_free}
+use Rattle.position_files.specs.Sections.{LeavesAt, IsBoardLines, IsFaultFrom}
+use Rattle.position_files.proofs.Cuts.{is_free-append}
+use Rattle.position_files.proofs.Items.{items_text-injective}
+use Rattle.position_files.proofs.Spellings.{point_items, size_text-injective}
+use Rattle.position_files.proofs.Stones.{point_at, marked, stones-marked, stones-within, same_tests, empty_board, IsBoard-empty}
+use Rattle.position_files.proofs.LineLaws.{points-free, rule_word-free, size-free}
+use Rattle.position_files.proofs.BoardLaws.{text_of-cons, width_side, height_side, none_at_first}
+use Rattle.position_files.proofs.NodeLaws.{text_of-push}
+use Rattle.position_files.proofs.Pieces.{AreFree, same_lines}
+
+-- ---- no line feed stands in these lines
+
+pub sides_of : (b : Grid) → IsBoard b → AreSides (b.width, b.height)
+sides_of b ok = record { width = width_side b ok; height = height_side b ok }
+
+rule-free : (kind : RuleKind) → is_free line_feed (rule_line kind) ≡ true
+rule-free kind = is_free-append line_feed (codes "rule ") (rule_word kind) refl (rule_word-free kind tt)
+
+size_line-free : (width height : ℕ) → AreSides (width, height) → is_free line_feed (size_line width height) ≡ true
+size_line-free width height sides = is_free-append line_feed (codes "size ") (size_text width height) refl (size-free (width, height) sides)
+
+stones-free : (word : List ℕ) (b : Grid) (s : Side) → IsBoard b → is_free line_feed word ≡ true → is_free line_feed (word ++ points_text (stones b s)) ≡ true
+stones-free word b s ok free = is_free-append line_feed word (points_text (stones b s)) free (points-free b.width b.height (width_side b ok) (height_side b ok) (stones b s) (stones-within b s))
+
+pub board-free : (kind : RuleKind) (b : Grid) → IsBoard b → AreFree (board_lines kind b)
+unfolding board_lines
+board-free kind b ok = (rule-free kind, (size_line-free b.width b.height (sides_of b ok), (stones-free (codes "black") b Black ok refl, (stones-free (codes "white") b White ok refl, tt))))
+
+pub board-length : (kind : RuleKind) (b : Grid) → length (board_lines kind b) ≡ 4
+unfolding board_lines
+board-length kind b = refl
+
+-- ---- a board without White's stones
+
+without_white : Cell → Cell
+without_white Empty = Empty
+without_white BlackStone = BlackStone
+without_white WhiteStone = Empty
+
+abbrev blacks_of : Grid → Grid
+blacks_of b = record { width = b.width; height = b.height; cells = map without_white b.cells }
+
+IsBoard-blacks : (b : Grid) → IsBoard b → IsBoard (blacks_of b)
+IsBoard-blacks b ok = record {
+  wide = ok.wide;
+  width_fits = ok.width_fits;
+  high = ok.high;
+  height_fits = ok.height_fits;
+  filled = length-map b.cells without_white ∙ ok.filled;
+}
+
+marked-map : (at : ℕ → Point) (test other : Cell → Bool) (f : Cell → Cell) → ((c : Cell) → test (f c) ≡ other c) → (k : ℕ) (cs : List Cell) → marked at test k (map f cs) ≡ marked at other k cs
+marked-map at test other f same k [] = refl
+marked-map at test other f same k (c ∷ cs) = rw (same c, marked-map at test other f same (k + 1) cs) refl
+
+marked-none : (at : ℕ → Point) (k : ℕ) (cs : List Cell) → marked at (λ _. false) k cs ≡ []
+marked-none at k [] = refl
+marked-none at k (c ∷ cs) = marked-none at (k + 1) cs
+
+black_kept : (c : Cell) → is_stone_of Black (without_white c) ≡ is_stone_of Black c
+unfolding without_white
+black_kept Empty = refl
+black_kept BlackStone = refl
+black_kept WhiteStone = refl
+
+white_gone : (c : Cell) → is_stone_of White (without_white c) ≡ false
+unfolding without_white
+white_gone Empty = refl
+white_gone BlackStone = refl
+white_gone WhiteStone = refl
+
+blacks_black : (b : Grid) → IsBoard b → stones (blacks_of b) Black ≡ stones b Black
+blacks_black b ok =
+    stones-marked (blacks_of b) Black (IsBoard-blacks b ok)
+    ∙ marked-map (point_at b.width) (is_stone_of Black) (is_stone_of Black) without_white black_kept 0 b.cells
+    ∙ sym (stones-marked b Black ok)
+
+blacks_white : (b : Grid) → IsBoard b → stones (blacks_of b) White ≡ []
+blacks_white b ok =
+    stones-marked (blacks_of b) White (IsBoard-blacks b ok)
+    ∙ marked-map (point_at b.width) (is_stone_of White) (λ _. false) without_white white_gone 0 b.cells
+    ∙ marked-none (point_at b.width) 0 b.cells
+
+-- ---- one board has these stones
+
+same_cell : (c d : Cell) → is_stone_of Black c ≡ is_stone_of Black d → is_stone_of White c ≡ is_stone_of White d → c ≡ d
+same_cell Empty Empty b w = refl
+same_cell Empty BlackStone b w = absurd cc
+same_cell Empty WhiteStone b w = absurd cc
+same_cell BlackStone Empty b w = absurd cc
+same_cell BlackStone BlackStone b w = refl
+same_cell BlackStone WhiteStone b w = absurd cc
+same_cell WhiteStone Empty b w = absurd cc
+same_cell WhiteStone BlackStone b w = absurd cc
+same_cell WhiteStone WhiteStone b w = refl
+
+pub same_board : (a b : Grid) → IsBoard a → IsBoard b → a.width ≡ b.width → a.height ≡ b.height → stones a Black ≡ stones b Black → stones a White ≡ stones b White → a ≡ b
+same_board a b ok_a ok_b w h black white =
+    let count : length a.cells ≡ length b.cells = ok_a.filled ∙ rw (w, h) (sym ok_b.filled) in
+    let tests = λ (s : Side) (e : stones a s ≡ stones b s). same_tests a.width (is_stone_of s) 0 a.cells b.cells count
+    (sym (stones-marked a s ok_a) ∙ e ∙ stones-marked b s ok_b ∙ ap (λ n. marked (point_at n) (is_stone_of s) 0 b.cells) (sym w)) in
+    let cells : a.cells ≡ b.cells = ext_get_or Empty a.cells b.cells count (λ i within. same_cell (get_or a.cells i Empty) (get_or b.cells i Empty) (tests Black black i) (tests White white i)) in
+    λ i. record { width = w i; height = h i; cells = cells i }
+
+-- ---- lines say the same of boards
+
+pub same_sizes : (w h v k : ℕ) → AreSides (w, h) → AreSides (v, k) → size_line w h ≡ size_line v k → (w ≡ v) × (h ≡ k)
+same_sizes w h v k fa fb e = size_text-injective (w, h) (v, k) fa fb (append_cancel_left (codes "size ") (size_text w h) (size_text v k) e)
+
+pub same_stones : (word : List ℕ) (a b : Grid) (s : Side) → IsBoard a → a.width ≡ b.width → a.height ≡ b.height → word ++ points_text (stones a s) ≡ word ++ points_text (stones b s) → stones a s ≡ stones b s
+same_stones word a b s ok w h e =
+    let fits : AllByRecursion (IsWithin a.width a.height) (stones b s) =
+    subst (λ n. AllByRecursion (IsWithin n a.height) (stones b s)) (sym w) (subst (λ n. AllByRecursion (IsWithin b.width n) (stones b s)) (sym h) (stones-within b s)) in
+    items_text-injective (IsWithin a.width a.height) point_text (point_items a.width a.height (width_side a ok) (height_side a ok)) (stones a s) (stones b s) (stones-within a s) fits
+    (append_cancel_left word (points_text (stones a s)) (points_text (stones b s)) e)
+
+rule_known : (kind other : RuleKind) → rule_line kind ≡ rule_line other → kind ≡ other
+rule_known Freestyle Freestyle e = refl
+rule_known Freestyle Exact e = let letter : 102 ≡ 101 = ap (λ (l : List ℕ). get_or l 5 0) e in absurd (omega (arith, letter))
+rule_known Freestyle Renju e = let letter : 102 ≡ 114 = ap (λ (l : List ℕ). get_or l 5 0) e in absurd (omega (arith, letter))
+rule_known Exact Freestyle e = let letter : 101 ≡ 102 = ap (λ (l : List ℕ). get_or l 5 0) e in absurd (omega (arith, letter))
+rule_known Exact Exact e = refl
+rule_known Exact Renju e = let letter : 101 ≡ 114 = ap (λ (l : List ℕ). get_or l 5 0) e in absurd (omega (arith, letter))
+rule_known Renju Freestyle e = let letter : 114 ≡ 102 = ap (λ (l : List ℕ). get_or l 5 0) e in absurd (omega (arith, letter))
+rule_known Renju Exact e = let letter : 114 ≡ 101 = ap (λ (l : List ℕ). get_or l 5 0) e in absurd (omega (arith, letter))
+rule_known Renju Renju e = refl
+
+-- lines spell one rule and one board
+pub board_lines-injective : (kind other : RuleKind) (a b : Grid) → IsBoard a → IsBoard b → board_lines kind a ≡ board_lines other b → (kind ≡ other) × (a ≡ b)
+unfolding board_lines
+board_lines-injective kind other a b ok_a ok_b e =
+    let rule : rule_line kind ≡ rule_line other = cc in
+    let size : size_line a.width a.height ≡ size_line b.width b.height = cc in
+    let black : black_line a ≡ black_line b = cc in
+    let white : white_line a ≡ white_line b = cc in
+    let sides = same_sizes a.width a.height b.width b.height (sides_of a ok_a) (sides_of b ok_b) size in
+    (rule_known kind other rule, same_board a b ok_a ok_b sides.0 sides.1 (same_stones (codes "black") a b Black ok_a sides.0 sides.1 black) (same_stones (codes "white") a b White ok_a sides.0 sides.1 white))
+
+-- ---- where bytes leave the lines of a board
+
+pub fault_at : (IsLines : List (List ℕ) → Type 0) (bytes : List ℕ) (first i : ℕ) (fault : Fault) → (fault ≡ Bad → LeavesAt IsLines bytes i) → IsFaultFrom first IsLines bytes (at_line fault (first + i))
+fault_at IsLines bytes first i Bad h = (i, refl, h refl)
+fault_at IsLines bytes first i Memory h = tt
+
+pub five : IsSide 5
+five = record { long = omega arith; fits = omega arith }
+
+module _ (bytes : List ℕ) where
+  pub no_rule_line : ReadsLine (λ (_ : RuleKind). Unit {0}) rule_line None bytes → LeavesAt IsBoardLines bytes 0
+  unfolding board_lines
+  no_rule_line none = record {
+    lines = board_lines Freestyle (empty_board 5 5);
+    rest = bytes;
+    are = (Freestyle, empty_board 5 5, IsBoard-empty 5 5 five five, refl);
+    enough = omega arith;
+    so_far = refl;
+    no_further = λ ls others is e.
+        let whole : bytes ≡ text_of (rule_line is.0 ∷ []) ++ others = subst (λ (l : List (List ℕ)). bytes ≡ text_of (take 1 l) ++ others) is.3 e in
+        none is.0 others tt (whole ∙ sym (text_of-cons (rule_line is.0) [] others));
+  }
+
+  module _ (kind : RuleKind) (r1 : List ℕ) (e1 : bytes ≡ rule_line kind ++ line_feed ∷ r1) where
+    first_line : bytes ≡ text_of (rule_line kind ∷ []) ++ r1
+    first_line = e1 ∙ text_of-cons (rule_line kind) [] r1
+
+    pub no_size_line : ReadsLine AreSides (λ sides. size_line sides.0 sides.1) None r1 → LeavesAt IsBoardLines bytes 1
+    unfolding board_lines
+    no_size_line none = record {
+      lines = board_lines kind (empty_board 5 5);
+      rest = r1;
+      are = (kind, empty_board 5 5, IsBoard-empty 5 5 five five, refl);
+      enough = omega arith;
+      so_far = first_line;
+      no_further = λ ls others is e.
+          let b : Grid = is.1 in
+          let size : List ℕ = size_line b.width b.height in
+          let whole : bytes ≡ text_of ((rule_line is.0 ∷ []) ++ size ∷ []) ++ others = subst (λ (l : List (List ℕ)). bytes ≡ text_of (take 2 l) ++ others) is.3 e in
+          let same = same_lines (rule_line kind ∷ []) (rule_line is.0 ∷ []) r1 (size ++ line_feed ∷ others) (rule-free kind, tt) (rule-free is.0, tt) refl (sym first_line ∙ whole ∙ sym (text_of-push (rule_line is.0 ∷ []) size others)) in
+          none (b.width, b.height) others (sides_of b is.2) same.1;
+    }
+
+    module _ (width height : ℕ) (b0 : Grid) (r2 : List ℕ) (sides : AreSides (width, height)) (empty : b0 ≡ empty_board width height) (e2 : r1 ≡ size_line width height ++ line_feed ∷ r2) where
+      two_lines : bytes ≡ text_of (rule_line kind ∷ size_line width height ∷ []) ++ r2
+      two_lines = first_line ∙ ap (λ (l : List ℕ). text_of (rule_line kind ∷ []) ++ l) e2 ∙ text_of-push (rule_line kind ∷ []) (size_line width height) r2
+
+      pub no_black_line : ((b : Grid) (rest : List ℕ) → IsBoard b → SameBut Black b0 b → r2 ≡ (codes "black" ++ points_text (stones b Black)) ++ line_feed ∷ rest → ⊥) → LeavesAt IsBoardLines bytes 2
+      unfolding board_lines
+      no_black_line none = record {
+        lines = board_lines kind (empty_board width height);
+        rest = r2;
+        are = (kind, empty_board width height, IsBoard-empty width height sides.width sides.height, refl);
+        enough = omega arith;
+        so_far = two_lines;
+        no_further = λ ls others is e.
+            let b : Grid = is.1 in
+            let front : List (List ℕ) = rule_line is.0 ∷ size_line b.width b.height ∷ [] in
+            let whole : bytes ≡ text_of (front ++ black_line b ∷ []) ++ others = subst (λ (l : List (List ℕ)). bytes ≡ text_of (take 3 l) ++ others) is.3 e in
+            let same = same_lines (rule_line kind ∷ size_line width height ∷ []) front r2 (black_line b ++ line_feed ∷ others) (rule-free kind, (size_line-free width height sides, tt)) (rule-free is.0, (size_line-free b.width b.height (sides_of b is.2), tt)) refl (sym two_lines ∙ whole ∙ sym (text_of-push front (black_line b) others)) in
+            let size : size_line width height ≡ size_line b.width b.height = let f = same.0 in cc in
+            let now = same_sizes width height b.width b.height sides (sides_of b is.2) size in
+            none (blacks_of b) others (IsBoard-blacks b is.2)
+            (record {
+              width = sym now.0 ∙ sym (ap (λ (g : Grid). g.width) empty);
+              height = sym now.1 ∙ sym (ap (λ (g : Grid). g.height) empty);
+              others = blacks_white b is.2 ∙ sym (none_at_first width height b0 White sides empty);
+            })
+            (same.1 ∙ ap (λ (ps : List Point). (codes "black" ++ points_text ps) ++ line_feed ∷ others) (sym (blacks_black b is.2)));
+      }
+
+      pub no_white_line : (b1 : Grid) (r3 : List ℕ) → IsBoard b1 → SameBut Black b0 b1 → r2 ≡ (codes "black" ++ points_text (stones b1 Black)) ++ line_feed ∷ r3
+          → ((b : Grid) (rest : List ℕ) → IsBoard b → SameBut White b1 b → r3 ≡ (codes "white" ++ points_text (stones b White)) ++ line_feed ∷ rest → ⊥) → LeavesAt IsBoardLines bytes 3
+      unfolding board_lines
+      no_white_line b1 r3 ok put e3 none =
+          let w : b1.width ≡ width = put.width ∙ ap (λ (g : Grid). g.width) empty in
+          let h : b1.height ≡ height = put.height ∙ ap (λ (g : Grid). g.height) empty in
+          let known : List (List ℕ) = rule_line kind ∷ size_line b1.width b1.height ∷ black_line b1 ∷ [] in
+          let lines : bytes ≡ text_of known ++ r3 =
+          two_lines ∙ ap (λ n. text_of (rule_line kind ∷ size_line n height ∷ []) ++ r2) (sym w) ∙ ap (λ n. text_of (rule_line kind ∷ size_line b1.width n ∷ []) ++ r2) (sym h)
+          ∙ ap (λ (l : List ℕ). text_of (rule_line kind ∷ size_line b1.width b1.height ∷ []) ++ l) e3 ∙ text_of-push (rule_line kind ∷ size_line b1.width b1.height ∷ []) (black_line b1) r3 in
+          record {
+            lines = board_lines kind b1;
+            rest = r3;
+            are = (kind, b1, ok, refl);
+            enough = omega arith;
+            so_far = lines;
+            no_further = λ ls others is e.
+                let b : Grid = is.1 in
+                let front : List (List ℕ) = rule_line is.0 ∷ size_line b.width b.height ∷ black_line b ∷ [] in
+                let whole : bytes ≡ text_of (front ++ white_line b ∷ []) ++ others = subst (λ (l : List (List ℕ)). bytes ≡ text_of (take 4 l) ++ others) is.3 e in
+                let same = same_lines known front r3 (white_line b ++ line_feed ∷ others) (rule-free kind, (size_line-free b1.width b1.height (sides_of b1 ok), (stones-free (codes "black") b1 Black ok refl, tt)))
+                (rule-free is.0, (size_line-free b.width b.height (sides_of b is.2), (stones-free (codes "black") b Black is.2 refl, tt))) refl (sym lines ∙ whole ∙ sym (text_of-push front (white_line b) others)) in
+                let size : size_line b1.width b1.height ≡ size_line b.width b.height = let f = same.0 in cc in
+                let black : black_line b1 ≡ black_line b = let f = same.0 in cc in
+                let now = same_sizes b1.width b1.height b.width b.height (sides_of b1 ok) (sides_of b is.2) size in
+                none b others is.2 (record { width = sym now.0; height = sym now.1; others = sym (same_stones (codes "black") b1 b Black ok now.0 now.1 black) }) same.1;
+          }

@@ -1,0 +1,92 @@
+-- What a text that has begun can go on with, and that what a table's text names fits.
+use Rattle.std.proofs.Common.{◌≡◌, ℕ, zero, suc, ◌+◌, ◌≤◌, ◌<◌, true, refl, sym, ap, subst, ◌∙◌, arith, List, [], ◌∷◌, ◌++◌, length, replicate, get_or, append_assoc}
+use Rattle.std.specs.Prelude.{Some}
+use Rattle.std.specs.List.{AllByRecursion}
+use Rattle.std.proofs.lemmas.List.{append-nil, length-append, length-replicate}
+use Rattle.std.proofs.lemmas.Option.{slice_get-get_or}
+use Rattle.game_rules.specs.Grid.{Grid, IsBoard, is_on}
+use Rattle.game_rules.specs.declared.Point.{Point}
+use Rattle.game_rules.proofs.Boards.{on_x, on_y}
+use Rattle.strategy_graph.specs.Tables.{Answers, answers_of, is_winning, rest_node, names_below, IsNode, IsTable}
+use Rattle.strategy_graph.specs.declared.Reply.{Reply}
+use Rattle.strategy_graph.specs.declared.Rest.{Rest}
+use Rattle.strategy_graph.specs.declared.Rest.TheVariants.{Wins, To, Nothing}
+use Rattle.strategy_graph.specs.declared.Node.{Node}
+use Rattle.strategy_graph.proofs.Naming.{reply-below, rest-below}
+use Rattle.strategy_graph.proofs.Filling.{IsTable-push}
+use Rattle.position_files.specs.Tables.{NodeOn, RepliesOn}
+use Rattle.position_files.specs.Reading.{IsWithin}
+use Rattle.position_files.specs.Answers.{AnswersFit, NodeFits, ReplyFits, RestFits}
+use Rattle.position_files.proofs.Stones.{is_on_within}
+
+-- the node that wins at once in the corner
+abbrev pub corner : Node
+corner = record { attack = record { x = 0; y = 0 }; replies = []; rest = Wins }
+
+corner_node : (i : ℕ) → IsNode corner i
+corner_node i = record { below = refl; rising = refl; winning = λ wins. refl }
+
+corner_on : (b : Grid) → IsBoard b → NodeOn b corner
+corner_on b ok = record { attack = is_on_within b (record { x = 0; y = 0 }) (record { column = let w = ok.wide in omega (arith, w); row = let h = ok.high in omega (arith, h) }); replies = tt }
+
+pub filled_table : (m : ℕ) (nodes : List Node) → IsTable nodes → length nodes + m ≤ 1000000 → IsTable (nodes ++ replicate m corner)
+filled_table zero nodes table few = subst IsTable (sym (append-nil nodes)) table
+filled_table (suc m) nodes table few =
+    let count = length-append nodes (corner ∷ []) in
+    subst IsTable (append_assoc nodes (corner ∷ []) (replicate m corner)) (filled_table m (nodes ++ corner ∷ []) (IsTable-push nodes corner table (corner_node (length nodes)) (omega arith)) (omega (arith, count)))
+
+corners_on : (b : Grid) (m : ℕ) → IsBoard b → AllByRecursion (NodeOn b) (replicate m corner)
+corners_on b zero ok = tt
+corners_on b (suc m) ok = (corner_on b ok, corners_on b m ok)
+
+pub filled_on : (b : Grid) (m : ℕ) (nodes : List Node) → IsBoard b → AllByRecursion (NodeOn b) nodes → AllByRecursion (NodeOn b) (nodes ++ replicate m corner)
+filled_on b m [] ok all = corners_on b m ok
+filled_on b m (n ∷ ns) ok all = (all.0, filled_on b m ns ok all.1)
+
+pub filled_length : (m : ℕ) (nodes : List Node) → length (nodes ++ replicate m corner) ≡ length nodes + m
+filled_length m nodes = length-append nodes (replicate m corner) ∙ ap (λ n. length nodes + n) (length-replicate m corner)
+
+-- ---- what is on the board, in a table, fits
+
+pub all_at : {X : Type 0} (P : X → Type 0) (xs : List X) (i : ℕ) (d : X) → AllByRecursion P xs → i < length xs → P (get_or xs i d)
+all_at P [] i d all within = absurd (omega arith)
+all_at P (x ∷ xs) zero d all within = all.0
+all_at P (x ∷ xs) (suc i) d all within = all_at P xs i d all.1 (omega arith)
+
+pub all_from : {X : Type 0} (P : X → Type 0) (xs : List X) (d : X) → ((i : ℕ) → i < length xs → P (get_or xs i d)) → AllByRecursion P xs
+all_from P [] d h = tt
+all_from P (x ∷ xs) d h = (h 0 (omega arith), all_from P xs d (λ i within. h (suc i) (omega arith)))
+
+within_on : (b : Grid) (p : Point) → is_on b p ≡ true → IsWithin b.width b.height p
+within_on b p on_it = record { column = on_x b p on_it; row = on_y b p on_it }
+
+rest_fits : (r : Rest) (k : ℕ) → k ≤ 1000000 → ((j : ℕ) → rest_node r ≡ Some j → j < k) → RestFits r
+rest_fits Wins k few h = tt
+rest_fits (To j) k few h = let low : j < k = h j refl in omega (arith, low, few)
+rest_fits Nothing k few h = tt
+
+pub answers_fit : (b : Grid) (a : Answers) (k : ℕ) → RepliesOn b a.replies → names_below a k ≡ true → k ≤ 1000000 → (is_winning a.rest ≡ true → a.replies ≡ []) → AnswersFit b.width b.height a
+answers_fit b a k on_it below few winning =
+    let none : Reply = record { at = record { x = 0; y = 0 }; next = 0 } in
+    record {
+      replies = all_from (ReplyFits b.width b.height) a.replies none (λ i within. record {
+        at = within_on b (get_or a.replies i none).at (all_at (λ (r : Reply). is_on b r.at ≡ true) a.replies i none on_it within);
+        next = let low = reply-below a k i none below within in omega (arith, low, few);
+      });
+      rest = rest_fits a.rest k few (λ j is. rest-below a k j below is);
+      winning = winning;
+    }
+
+pub node_fits : (b : Grid) (n : Node) (i : ℕ) → NodeOn b n → IsNode n i → i ≤ 1000000 → NodeFits b.width b.height n
+node_fits b n i on_it is few = record {
+  attack = within_on b n.attack on_it.attack;
+  answers = answers_fit b (answers_of n) i on_it.replies is.below few is.winning;
+}
+
+pub node_at : (ns : List Node) (i : ℕ) → IsTable ns → i < length ns → IsNode (get_or ns i corner) i
+node_at ns i table within = table.nodes i (get_or ns i corner) (slice_get-get_or ns i corner within)
+
+pub nodes_fit : (b : Grid) (ns : List Node) → AllByRecursion (NodeOn b) ns → IsTable ns → AllByRecursion (NodeFits b.width b.height) ns
+nodes_fit b ns on_it table = all_from (NodeFits b.width b.height) ns corner (λ i within.
+    let size = table.size in
+    node_fits b (get_or ns i corner) i (all_at (NodeOn b) ns i corner on_it within) (node_at ns i table within) (omega arith))

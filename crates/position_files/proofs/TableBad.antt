@@ -1,0 +1,211 @@
+-- Where bytes leave the texts of tables.
+use Rattle.std.proofs.Common.{◌≡◌, ℕ, suc, ◌+◌, true, refl, sym, ap, subst, ◌∙◌, arith, List, [], ◌∷◌, ◌++◌, length, take, get_or, inl, inr}
+use Rattle.std.specs.Prelude.{Err, None, codes}
+use Rattle.std.proofs.lemmas.List.{append-nil, length-append}
+use Rattle.std.proofs.Math.Seq.{take-append_seam}
+use Rattle.game_rules.specs.declared.RuleKind.TheVariants.{Freestyle}
+use Rattle.foul_judge.specs.Lawful.{refusal}
+use Rattle.strategy_graph.specs.Tables.{Answers, IsTable}
+use Rattle.strategy_graph.specs.declared.Rest.TheVariants.{Nothing}
+use Rattle.strategy_graph.specs.declared.roots.Root.{Root}
+use Rattle.position_files.specs.declared.TableFile.{TableFile}
+use Rattle.position_files.specs.declared.tables.Body.{Body}
+use Rattle.position_files.specs.declared.faults.Fault.{Fault}
+use Rattle.position_files.specs.declared.faults.Fault.TheVariants.{Bad, Memory as NoMemory}
+use Rattle.position_files.specs.declared.error.FileError.{FileError}
+use Rattle.position_files.specs.declared.error.FileError.TheVariants.{BadLine, Unlawful, WrongMoves, Memory}
+use Rattle.position_files.specs.Lines.{line_feed, text_of, FirstBad}
+use Rattle.position_files.specs.Tables.{IsTextOfTable, IsTableText, start_line}
+use Rattle.position_files.specs.Reading.{ReadsLine, GivesLine, is_free}
+use Rattle.position_files.specs.Answers.{StartFits}
+use Rattle.position_files.specs.Bodies.{BodyFits, body_lines, IsBodyLines, IsStartLines, IsFinishFault}
+use Rattle.position_files.specs.Sections.{LeavesAt, IsFaultFrom}
+use Rattle.position_files.specs.Faults.{at_line, IsTableFault, IsMiscounted}
+use Rattle.position_files.proofs.LineLaws.{same_line}
+use Rattle.position_files.proofs.Stones.{empty_board, IsBoard-empty}
+use Rattle.position_files.proofs.BoardLaws.{text_of-cons}
+use Rattle.position_files.proofs.NodeLaws.{text_of-push}
+use Rattle.position_files.proofs.TableLaws.{file_of}
+use Rattle.position_files.proofs.Pieces.{first_bad, too_many, same_lines, take_all}
+use Rattle.position_files.proofs.BoardLines.{five}
+use Rattle.position_files.proofs.PositionBad.{Fronts, leaves_after}
+use Rattle.position_files.proofs.BodyBad.{leaves_in, corner_table, one_count, least_body, least_fits}
+use Rattle.position_files.proofs.TableTexts.{IsTableLines, table-free, body-free, body-length, lines_of, text_from, body_tell, one_table}
+
+-- ---- the first line
+
+first_of_none : (bytes : List ℕ) → ((rest : List ℕ) → bytes ≡ codes "renju-table 1" ++ line_feed ∷ rest → ⊥) → ((rest : List ℕ) → bytes ≡ codes "renju-table 2" ++ line_feed ∷ rest → ⊥)
+    → (ls : List (List ℕ)) (others : List ℕ) → IsTableLines ls → bytes ≡ text_of (take 1 ls) ++ others → ⊥
+first_of_none bytes not_one not_two ls others (inl h) e = not_one others (e ∙ ap (λ (l : List (List ℕ)). text_of (take 1 l) ++ others) h.2 ∙ sym (text_of-cons (codes "renju-table 1") [] others))
+first_of_none bytes not_one not_two ls others (inr h) e = not_two others (e ∙ ap (λ (l : List (List ℕ)). text_of (take 1 l) ++ others) h.2 ∙ sym (text_of-cons (codes "renju-table 2") [] others))
+
+pub no_version : (bytes : List ℕ) → ((rest : List ℕ) → bytes ≡ codes "renju-table 1" ++ line_feed ∷ rest → ⊥) → ((rest : List ℕ) → bytes ≡ codes "renju-table 2" ++ line_feed ∷ rest → ⊥) → FirstBad IsTableText bytes 1
+no_version bytes not_one not_two =
+    let body : Body = least_body Freestyle (empty_board 5 5) 1 in
+    let fits : BodyFits 1 body = least_fits Freestyle (empty_board 5 5) 1 1 (IsBoard-empty 5 5 five five) (omega arith) (one_count 1 (omega arith)) in
+    first_bad IsTableText IsTableLines table-free lines_of text_from bytes 0 (record {
+      lines = codes "renju-table 1" ∷ body_lines body;
+      rest = bytes;
+      are = inl (body_lines body, (body, fits, corner_table, refl), refl);
+      enough = omega arith;
+      so_far = refl;
+      no_further = first_of_none bytes not_one not_two;
+    })
+
+-- ---- the error of a body that is read whole
+
+pub finish_fault : (body : Body) (root : Root) (bytes : List ℕ) → IsTextOfTable (file_of body root) bytes → (error : FileError) → IsFinishFault body root error → IsTableFault bytes error
+finish_fault body root bytes text (BadLine n) h = absurd h
+finish_fault body root bytes text (Unlawful why) h = ((file_of body root, text), λ file is. ap (λ (f : TableFile). refusal f.kind f.board) (one_table (file_of body root) file bytes text is) ∙ h)
+finish_fault body root bytes text (WrongMoves written counted) h = (
+  (file_of body root, text),
+  λ file is.
+      subst (λ (f : TableFile). IsMiscounted f written counted) (sym (one_table (file_of body root) file bytes text is)) (record { lawful = h.0; says = h.1; depth = h.2; differ = h.3 }),
+)
+finish_fault body root bytes text Memory h = tt
+
+-- ---- lines after the first one
+
+attack_fronts : (ls : List (List ℕ)) → IsTableLines ls → Fronts (codes "renju-table 1") (IsBodyLines 1) ls
+attack_fronts ls (inl h) = (codes "renju-table 1", h.0, h.2, refl, λ same. h.1)
+attack_fronts ls (inr h) = (codes "renju-table 2", h.0, h.2, refl, λ same. let digit : 50 ≡ 49 = ap (λ (l : List ℕ). get_or l 12 0) same in absurd (omega (arith, digit)))
+
+defend_fronts : (ls : List (List ℕ)) → IsTableLines ls → Fronts (codes "renju-table 2") IsStartLines ls
+defend_fronts ls (inl h) = (codes "renju-table 1", h.0, h.2, refl, λ same. let digit : 49 ≡ 50 = ap (λ (l : List ℕ). get_or l 12 0) same in absurd (omega (arith, digit)))
+defend_fronts ls (inr h) = (codes "renju-table 2", h.0, h.2, refl, λ same. h.1)
+
+-- where bytes begin with this first line, and with first lines of a table: the lines after it
+pub record AfterFirst (IsLines : List (List ℕ) → Type 0) (rest others : List ℕ) (k : ℕ) (lt : List (List ℕ)) : Type 0 where
+  pub lines : List (List ℕ)
+  pub are : IsLines lines
+  pub count : length lt ≡ suc (length lines)
+  pub text : rest ≡ text_of (take k lines) ++ others
+
+after_first : (header : List ℕ) (IsLines : List (List ℕ) → Type 0) (bytes rest others : List ℕ) (k : ℕ) (lt : List (List ℕ)) → is_free line_feed header ≡ true → bytes ≡ header ++ line_feed ∷ rest → Fronts header IsLines lt → bytes ≡ text_of (take (suc k) lt) ++ others → AfterFirst IsLines rest others k lt
+after_first header IsLines bytes rest others k lt free e p f =
+    let whole : bytes ≡ text_of (p.0 ∷ take k p.1) ++ others = f ∙ ap (λ (l : List (List ℕ)). text_of (take (suc k) l) ++ others) p.2 in
+    let same = same_line header rest p.0 (text_of (take k p.1) ++ others) free p.3 (sym e ∙ whole ∙ sym (text_of-cons p.0 (take k p.1) others)) in
+    record { lines = p.1; are = p.4 (sym same.0); count = ap length p.2; text = same.1 }
+
+module _ (bytes rest : List ℕ) (e : bytes ≡ codes "renju-table 1" ++ line_feed ∷ rest) where
+  pub attack_body_fault : (error : FileError) → IsFaultFrom 2 (IsBodyLines 1) rest error → IsTableFault bytes error
+  attack_body_fault (BadLine n) h =
+      let leaves = leaves_after (codes "renju-table 1") refl (IsBodyLines 1) IsTableLines (λ l is. inl (l, is, refl)) attack_fronts bytes rest h.0 e h.2 in
+      subst (FirstBad IsTableText bytes) (let is = h.1 in omega (arith, is)) (first_bad IsTableText IsTableLines table-free lines_of text_from bytes (h.0 + 1) leaves)
+  attack_body_fault (Unlawful why) h = absurd h
+  attack_body_fault (WrongMoves written counted) h = absurd h
+  attack_body_fault Memory h = tt
+
+  pub attack_too_many : (body : Body) (tail : List ℕ) → BodyFits 1 body → IsTable body.table → rest ≡ text_of (body_lines body) ++ tail → (tail ≡ [] → ⊥) → FirstBad IsTableText bytes (8 + length body.table)
+  attack_too_many body tail fits table text more =
+      let all : List (List ℕ) = codes "renju-table 1" ∷ body_lines body in
+      let count = body-length body in
+      let six_more : length (body_lines body) ≡ suc (suc (suc (suc (suc (suc (length body.table)))))) = omega (arith, count) in
+      let found = too_many IsTableText IsTableLines table-free lines_of text_from bytes tail all (inl (body_lines body, (body, fits, table, refl), refl)) (e ∙ ap (λ (l : List ℕ). codes "renju-table 1" ++ line_feed ∷ l) text ∙ text_of-cons (codes "renju-table 1") (body_lines body) tail) more
+      (λ lt others is f.
+      let after = after_first (codes "renju-table 1") (IsBodyLines 1) bytes rest others (length (body_lines body)) lt refl e (attack_fronts lt is) f in
+      let other : Body = after.are.0 in
+      let begun : rest ≡ text_of (take (suc (suc (suc (suc (suc (suc (length body.table))))))) (body_lines other ++ [])) ++ others =
+      after.text ∙ ap (λ n. text_of (take n after.lines) ++ others) six_more ∙ ap (λ (l : List (List ℕ)). text_of (take (suc (suc (suc (suc (suc (suc (length body.table))))))) l) ++ others) (after.are.3 ∙ sym (append-nil (body_lines other))) in
+      let tell = body_tell 1 1 (length body.table) body other [] tail others rest fits after.are.1 text begun in
+      let counts = tell.counts in
+      let others_count = body-length other in
+      let lines = ap length after.are.3 in
+      let first = after.count in
+      omega (arith, count, counts, others_count, lines, first)) in
+      subst (FirstBad IsTableText bytes) (omega (arith, count)) found
+
+-- ---- tables whose root is a start
+
+only_start : Answers
+only_start = record { replies = []; rest = Nothing }
+
+only_fits : (width height len : ℕ) → StartFits width height len only_start
+unfolding only_start
+only_fits width height len = record {
+  answers = record { replies = tt; rest = tt; winning = λ wins. absurd cc };
+  start = record { not_winning = refl; rising = refl };
+  below = refl;
+}
+
+start_part : (ls : List (List ℕ)) → IsStartLines ls → (l more : List (List ℕ)) × IsBodyLines 0 l × (ls ≡ l ++ more)
+start_part ls is = (body_lines is.0, start_line is.1 ∷ [], (is.0, is.2, is.3, refl), is.5)
+
+start_whole : (l : List (List ℕ)) → IsBodyLines 0 l → (more : List (List ℕ)) × IsStartLines (l ++ more)
+start_whole l is =
+    let body : Body = is.0 in
+    (start_line only_start ∷ [], (body, only_start, is.1, is.2, only_fits body.board.width body.board.height (length body.table), ap (λ (k : List (List ℕ)). k ++ start_line only_start ∷ []) is.3))
+
+module _ (bytes rest : List ℕ) (e : bytes ≡ codes "renju-table 2" ++ line_feed ∷ rest) where
+  start_fault_at : (i n : ℕ) → n ≡ 2 + i → LeavesAt IsStartLines rest i → FirstBad IsTableText bytes n
+  start_fault_at i n is h =
+      let leaves = leaves_after (codes "renju-table 2") refl IsStartLines IsTableLines (λ l lines. inr (l, lines, refl)) defend_fronts bytes rest i e h in
+      subst (FirstBad IsTableText bytes) (omega (arith, is)) (first_bad IsTableText IsTableLines table-free lines_of text_from bytes (i + 1) leaves)
+
+  pub defend_body_fault : (error : FileError) → IsFaultFrom 2 (IsBodyLines 0) rest error → IsTableFault bytes error
+  defend_body_fault (BadLine n) h = start_fault_at h.0 n h.1 (leaves_in (IsBodyLines 0) IsStartLines start_part start_whole rest h.0 h.2)
+  defend_body_fault (Unlawful why) h = absurd h
+  defend_body_fault (WrongMoves written counted) h = absurd h
+  defend_body_fault Memory h = tt
+
+  module _ (body : Body) (tail : List ℕ) (fits : BodyFits 0 body) (table : IsTable body.table) (text : rest ≡ text_of (body_lines body) ++ tail) where
+    count : length (body_lines body) ≡ 6 + length body.table
+    count = body-length body
+
+    -- other lines with a start that the bytes begin with have as many nodes, and the same line after them
+    same_start_line : (ls : List (List ℕ)) (others : List ℕ) (is : IsStartLines ls) → rest ≡ text_of (take (length (body_lines body) + 1) ls) ++ others
+        → (length ls ≡ length (body_lines body) + 1) × StartFits body.board.width body.board.height (length body.table) is.1 × (tail ≡ start_line is.1 ++ line_feed ∷ others)
+    same_start_line ls others is f =
+        let other : Body = is.0 in
+        let here : length (body_lines body) ≡ 6 + length body.table = count in
+        let six_more : length (body_lines body) + 1 ≡ suc (suc (suc (suc (suc (suc (suc (length body.table))))))) = omega (arith, here) in
+        let whole : rest ≡ text_of (take (length (body_lines body) + 1) (body_lines other ++ start_line is.1 ∷ [])) ++ others = f ∙ ap (λ (l : List (List ℕ)). text_of (take (length (body_lines body) + 1) l) ++ others) is.5 in
+        let tell = body_tell 0 0 (suc (length body.table)) body other (start_line is.1 ∷ []) tail others rest fits is.2 text (whole ∙ ap (λ n. text_of (take n (body_lines other ++ start_line is.1 ∷ [])) ++ others) six_more) in
+        let counts = tell.counts in
+        let width = tell.width in
+        let height = tell.height in
+        let others_count = body-length other in
+        let added = length-append (body_lines other) (start_line is.1 ∷ []) in
+        let lines = ap length is.5 in
+        let all : rest ≡ text_of (body_lines other) ++ (start_line is.1 ++ line_feed ∷ others) =
+        whole ∙ ap (λ (l : List (List ℕ)). text_of l ++ others) (take_all (length (body_lines body) + 1) (body_lines other ++ start_line is.1 ∷ []) (omega (arith, here, counts, others_count, added))) ∙ sym (text_of-push (body_lines other) (start_line is.1) others) in
+        let same = same_lines (body_lines body) (body_lines other) tail (start_line is.1 ++ line_feed ∷ others) (body-free 0 body fits table) (body-free 0 other is.2 is.3) (omega (arith, here, counts, others_count)) (sym text ∙ all) in
+        let start : StartFits body.board.width body.board.height (length body.table) is.1 =
+        subst (λ n. StartFits n body.board.height (length body.table) is.1) (sym width)
+        (subst (λ n. StartFits other.board.width n (length body.table) is.1) (sym height)
+        (subst (λ n. StartFits other.board.width other.board.height n is.1) (sym counts) is.4)) in
+        (omega (arith, here, counts, others_count, added, lines), start, same.1)
+
+    no_start_line : ReadsLine (StartFits body.board.width body.board.height (length body.table)) start_line None tail → LeavesAt IsStartLines rest (length (body_lines body))
+    no_start_line none = record {
+      lines = body_lines body ++ start_line only_start ∷ [];
+      rest = tail;
+      are = (body, only_start, fits, table, only_fits body.board.width body.board.height (length body.table), refl);
+      enough = let added = length-append (body_lines body) (start_line only_start ∷ []) in omega (arith, added);
+      so_far = text ∙ ap (λ (l : List (List ℕ)). text_of l ++ tail) (sym (take-append_seam (body_lines body) (start_line only_start ∷ [])));
+      no_further = λ ls others is f. let same = same_start_line ls others is f in none is.1 others same.1 same.2;
+    }
+
+    pub start_fault : (width height len : ℕ) (fault : Fault) → width ≡ body.board.width → height ≡ body.board.height → len ≡ length body.table → GivesLine (StartFits width height len) start_line (Err fault) tail → IsTableFault bytes (at_line fault (8 + len))
+    start_fault width height len Bad w h l none =
+        let here : ReadsLine (StartFits body.board.width body.board.height (length body.table)) start_line None tail =
+        λ a others fit f. none a others
+        (subst (λ n. StartFits n height len a) (sym w) (subst (λ n. StartFits body.board.width n len a) (sym h) (subst (λ n. StartFits body.board.width body.board.height n a) (sym l) fit))) f in
+        start_fault_at (length (body_lines body)) (8 + len) (let c = count in omega (arith, c, l)) (no_start_line here)
+    start_fault width height len NoMemory w h l none = tt
+
+    pub defend_too_many : (a : Answers) (len : ℕ) (more : List ℕ) → len ≡ length body.table → StartFits body.board.width body.board.height (length body.table) a → tail ≡ start_line a ++ line_feed ∷ more → (more ≡ [] → ⊥) → FirstBad IsTableText bytes (8 + len + 1)
+    defend_too_many a len more l start line some =
+        let lines : List (List ℕ) = body_lines body ++ start_line a ∷ [] in
+        let added = length-append (body_lines body) (start_line a ∷ []) in
+        let c = count in
+        let whole : rest ≡ text_of lines ++ more = text ∙ ap (λ (t : List ℕ). text_of (body_lines body) ++ t) line ∙ text_of-push (body_lines body) (start_line a) more in
+        let found = too_many IsTableText IsTableLines table-free lines_of text_from bytes more (codes "renju-table 2" ∷ lines) (inr (lines, (body, a, fits, table, start, refl), refl))
+        (e ∙ ap (λ (t : List ℕ). codes "renju-table 2" ++ line_feed ∷ t) whole ∙ text_of-cons (codes "renju-table 2") lines more) some
+        (λ lt others is f.
+        let after = after_first (codes "renju-table 2") IsStartLines bytes rest others (length lines) lt refl e (defend_fronts lt is) f in
+        let same = same_start_line after.lines others after.are (after.text ∙ ap (λ n. text_of (take n after.lines) ++ others) added) in
+        let first = after.count in
+        let counts = same.0 in
+        omega (arith, first, counts, added)) in
+        subst (FirstBad IsTableText bytes) (omega (arith, added, c, l)) found
