@@ -1,5 +1,5 @@
 -- Texts that grow by one piece after another.
-use Rattle.std.proofs.Common.{◌≡◌, ℕ, ◌+◌, refl, sym, ap, ◌∙◌, List, [], ◌∷◌, ◌++◌, append_assoc, take, map, length}
+use Rattle.std.proofs.Common.{◌≡◌, ℕ, ◌+◌, sym, ap, ◌∙◌, List, [], ◌∷◌, ◌++◌, append_assoc, take, map, length}
 use Rattle.std.specs.Prelude.{Result, Ok, Err, IfOk, Some, slice_get, codes}
 use Rattle.std.specs.Fmt.{decimal}
 use Rattle.std.proofs.lemmas.List.{map-append, take_more, flat_map_more}
