@@ -2,3 +2,4 @@ mod Joins
 mod Verdicts
 mod Inputs
 mod Wins
+mod FourTables

@@ -33,8 +33,8 @@ says_by work file (Refused line why) status text h s = subst (λ (u : Status). F
 says_by work file Spent status text h s = subst (λ (u : Status). FileSays work file u text) (sym s.0) (h.spent.only_then tt, s.1)
 
 -- what is told of a verdict on the root of a table
-pub told_answer : {E : Type 0} (r : Result Answer E) (work : ℕ) (file : TableFile) (rule : RuleKind) (b : Grid) (v : Verdict) → file.kind ≡ rule → b ≡ file.board → IsVerdict rule file b work v → IfOk r (λ a. VerdictSays v a.status (string_bytes a.text)) → IfOk r (λ a. FileSays work file a.status (string_bytes a.text))
+pub told_answer : {E : Type 0} (r : Result Answer E) (work : ℕ) (file : TableFile) (rule : RuleKind) (b : Grid) (v : Verdict) → file.kind ≡ rule → b ≡ file.board → IsVerdict rule file b work v → IfOk r (λ a. VerdictSays v a.status (a.text.items)) → IfOk r (λ a. FileSays work file a.status (a.text.items))
 told_answer (Ok a) work file rule b v same here h s =
     let at_rule = subst (λ (k : RuleKind). IsVerdict k file b work v) (sym same) h in
-    says_by work file v a.status (string_bytes a.text) (subst (λ (c : Grid). IsVerdict file.kind file c work v) here at_rule) s
+    says_by work file v a.status (a.text.items) (subst (λ (c : Grid). IsVerdict file.kind file c work v) here at_rule) s
 told_answer (Err e) work file rule b v same here h s = tt

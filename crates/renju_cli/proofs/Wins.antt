@@ -11,9 +11,9 @@ use Rattle.strategy_graph.specs.Roots.{root_depth, AcceptedRoot}
 use Rattle.strategy_graph.proofs.Soundness.{accepted-wins, accepted-start-wins}
 use Rattle.position_files.specs.declared.TableFile.{TableFile}
 use Rattle.renju_cli.specs.declared.status.Status.{Status}
-use Rattle.renju_cli.specs.declared.status.Status.TheVariants.{Done, Usage, RefusedText, RefusedTable, Spent, Memory, ReadFault, WriteFault, TooLong}
+use Rattle.renju_cli.specs.declared.status.Status.TheVariants.{Done, Usage, RefusedText, RefusedTable, Spent, Memory, ReadFault, WriteFault, NotFound, TooLong}
 use Rattle.renju_cli.specs.declared.words.Form.{Form}
-use Rattle.renju_cli.specs.declared.words.Form.TheVariants.{Check, Foul}
+use Rattle.renju_cli.specs.declared.words.Form.TheVariants.{Check, Foul, Fours}
 use Rattle.renju_cli.specs.Statuses.{status_number}
 use Rattle.renju_cli.specs.Words.{IsForm, IsCheck}
 use Rattle.renju_cli.specs.Checks.{IsTableAt}
@@ -35,6 +35,7 @@ done_by Spent h = cc
 done_by Memory h = cc
 done_by ReadFault h = cc
 done_by WriteFault h = cc
+done_by NotFound h = cc
 done_by TooLong h = cc
 
 abbrev IsWon : List ℕ → Type 0
@@ -47,6 +48,9 @@ told_win (Some told) input is won = subst IsWon (sym is) won
 won_by : (words : List (List ℕ)) (work : ℕ) → IsCheck words work → (left : Option (List ℕ)) (form : Form) (text : List ℕ) → IsForm words form → CommandIsDue form left Done text → IfSome left IsWon
 won_by words n check left Foul text form due =
     let same : codes "check" ∷ decimal n ∷ [] ≡ codes "foul" ∷ [] = sym check.spelled ∙ form in
+    absurd (cc)
+won_by words n check left (Fours depth nodes) text form due =
+    let same : codes "check" ∷ decimal n ∷ [] ≡ codes "fours" ∷ decimal depth ∷ decimal nodes ∷ [] = sym check.spelled ∙ form.spelled in
     absurd (cc)
 won_by words n check left (Check work) text form due =
     let says = due.3 in

@@ -7,6 +7,7 @@ use Rattle.strategy_graph.specs.declared.Why.{Why}
 use Rattle.strategy_graph.specs.declared.Why.TheVariants.{AttackRefused, AttackFouls, AttackDraws, NotWon, ReplyWins, ReplyDraws, NoAnswer}
 use Rattle.position_files.specs.declared.TableFile.{TableFile}
 use Rattle.position_files.specs.Tables.{IsTextOfTable}
+use Rattle.position_files.specs.Faults.{IsTableFault}
 use Rattle.strategy_graph.specs.Roots.{root_depth, root_arrivals, AcceptedRoot}
 use Rattle.position_files.specs.declared.error.FileError.{FileError}
 use Rattle.position_files.specs.declared.error.FileError.TheVariants.{BadLine, Unlawful, WrongMoves, Memory as NoMemory}
@@ -15,7 +16,7 @@ use Rattle.renju_cli.specs.declared.status.Status.TheVariants.{Done, RefusedText
 use Rattle.strategy_checker.specs.declared.Verdict.{Verdict}
 use Rattle.strategy_checker.specs.declared.Verdict.TheVariants.{Accepted, Refused, Spent}
 use Rattle.strategy_checker.specs.HeldRoots.{LeadsRoot}
-use Rattle.renju_cli.specs.Texts.{line, accepted_line, bad_line, uneven_line, already_won_line, wrong_moves_line, refused_table_line}
+use Rattle.renju_cli.specs.Texts.{line, accepted_line, bad_line, uneven_line, already_won_line, wrong_moves_line, refused_table_line, spent_line}
 
 -- the words of the faults of a table
 abbrev pub why_word : Why → List ℕ
@@ -40,7 +41,7 @@ refusal_line NoMemory = []
 abbrev pub VerdictSays : Verdict → Status → List ℕ → Type 0
 VerdictSays (Accepted moves arrivals) status text = (status ≡ Done) × (text ≡ accepted_line moves arrivals)
 VerdictSays (Refused moves why) status text = (status ≡ RefusedTable) × (text ≡ refused_table_line (why_word why) moves)
-VerdictSays Spent status text = (status ≡ OutOfWork) × (text ≡ line (codes "spent"))
+VerdictSays Spent status text = (status ≡ OutOfWork) × (text ≡ spent_line)
 
 -- the root of a table is accepted at its position with at most so many arrivals
 pub record IsAccepted (work : ℕ) (file : TableFile) : Type 0 where
@@ -55,7 +56,7 @@ FileSays work file Done text =
     × (text ≡ accepted_line (root_depth file.table file.root) (root_arrivals file.kind file.table file.root file.board))
 FileSays work file RefusedTable text =
     (moves : List Point) × (why : Why) × LeadsRoot file.kind file.table file.root file.board moves why × (text ≡ refused_table_line (why_word why) moves)
-FileSays work file OutOfWork text = (work < root_arrivals file.kind file.table file.root file.board) × (text ≡ line (codes "spent"))
+FileSays work file OutOfWork text = (work < root_arrivals file.kind file.table file.root file.board) × (text ≡ spent_line)
 FileSays work file _ text = ⊥
 
 -- the input is the text of a table at a lawful position, and the moves that it names are the depth of its root
@@ -64,7 +65,7 @@ pub record IsTableAt (file : TableFile) (input : List ℕ) : Type 0 where
   pub lawful : IsPosition file.kind file.board
   pub moves : file.moves ≡ root_depth file.table file.root
 
--- What `check` says of an input that it has read whole: that the text is refused, or else what is said of the table.
+-- What `check` says of an input that it has read whole: why the text is refused, or else what is said of the table.
 abbrev pub CheckSays : ℕ → List ℕ → Status → List ℕ → Type 0
-CheckSays work input RefusedText text = (error : FileError) × (error ≢ NoMemory) × (text ≡ refusal_line error)
+CheckSays work input RefusedText text = (error : FileError) × (error ≢ NoMemory) × IsTableFault input error × (text ≡ refusal_line error)
 CheckSays work input status text = (file : TableFile) × IsTableAt file input × FileSays work file status text

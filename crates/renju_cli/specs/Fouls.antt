@@ -18,6 +18,7 @@ use Rattle.position_files.specs.declared.error.FileError.TheVariants.{Memory as 
 use Rattle.renju_cli.specs.declared.fouls.FoulPoint.{FoulPoint}
 use Rattle.renju_cli.specs.declared.status.Status.{Status}
 use Rattle.renju_cli.specs.declared.status.Status.TheVariants.{Done, RefusedText}
+use Rattle.position_files.specs.Faults.{IsPositionFault}
 use Rattle.renju_cli.specs.Checks.{refusal_line}
 use Rattle.renju_cli.specs.Texts.{line}
 
@@ -57,8 +58,8 @@ pub record IsPositionAt (file : PositionFile) (input : List ℕ) : Type 0 where
   pub text : IsTextOfPosition file input
   pub lawful : IsPosition file.kind file.board
 
--- What `foul` says of an input that it has read whole: that the text is refused, or else the fouls of the side to move.
+-- What `foul` says of an input that it has read whole: why the text is refused, or else the fouls of the side to move.
 abbrev pub FoulSays : List ℕ → Status → List ℕ → Type 0
 FoulSays input Done text = (file : PositionFile) × IsPositionAt file input × (text ≡ fouls_text (fouls_of_mover (mover file.board) file.kind file.board))
-FoulSays input RefusedText text = (error : FileError) × (error ≢ NoMemory) × (text ≡ refusal_line error)
+FoulSays input RefusedText text = (error : FileError) × (error ≢ NoMemory) × IsPositionFault input error × (text ≡ refusal_line error)
 FoulSays input _ text = ⊥

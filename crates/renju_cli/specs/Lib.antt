@@ -4,4 +4,5 @@ pub mod Words
 pub mod Roots
 pub mod Checks
 pub mod Fouls
+pub mod Fours
 pub mod Reports

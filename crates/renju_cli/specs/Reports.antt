@@ -6,12 +6,13 @@ use Rattle.renju_io.specs.declared.TheConstants.{MAX_INPUT_BYTES}
 use Rattle.renju_cli.specs.declared.status.Status.{Status}
 use Rattle.renju_cli.specs.declared.status.Status.TheVariants.{Usage, Memory, ReadFault, WriteFault, TooLong}
 use Rattle.renju_cli.specs.declared.words.Form.{Form}
-use Rattle.renju_cli.specs.declared.words.Form.TheVariants.{Check, Foul}
+use Rattle.renju_cli.specs.declared.words.Form.TheVariants.{Check, Foul, Fours}
 use Rattle.renju_cli.specs.Statuses.{status_number}
 use Rattle.renju_cli.specs.Words.{IsForm, HasForm, IsCheck}
 use Rattle.renju_cli.specs.Texts.{line, usage_line}
 use Rattle.renju_cli.specs.Checks.{CheckSays, IsTableAt}
 use Rattle.renju_cli.specs.Fouls.{FoulSays}
+use Rattle.renju_cli.specs.Fours.{FoursSays}
 use Rattle.renju_cli.specs.Roots.{RootWins}
 use Rattle.position_files.specs.declared.TableFile.{TableFile}
 
@@ -24,6 +25,7 @@ IsInput (Some told) bytes = told ≡ bytes
 abbrev pub CommandSays : Form → List ℕ → Status → List ℕ → Type 0
 CommandSays (Check work) input status text = CheckSays work input status text
 CommandSays Foul input status text = FoulSays input status text
+CommandSays (Fours depth nodes) input status text = FoursSays depth nodes input status text
 
 -- the input is longer than a command takes
 abbrev pub IsTooLong : Option (List ℕ) → Type 0

@@ -1,7 +1,7 @@
 -- The statuses of the program and their numbers.
 use Rattle.std.specs.Prelude.{ℕ}
 use Rattle.renju_cli.specs.declared.status.Status.{Status}
-use Rattle.renju_cli.specs.declared.status.Status.TheVariants.{Done, Usage, RefusedText, RefusedTable, Spent, Memory, ReadFault, WriteFault, TooLong}
+use Rattle.renju_cli.specs.declared.status.Status.TheVariants.{Done, Usage, RefusedText, RefusedTable, Spent, Memory, ReadFault, WriteFault, NotFound, TooLong}
 
 -- the number that the program ends with
 abbrev pub status_number : Status → ℕ
@@ -13,4 +13,5 @@ status_number Spent = 5
 status_number Memory = 6
 status_number ReadFault = 7
 status_number WriteFault = 8
+status_number NotFound = 9
 status_number TooLong = 11

@@ -40,6 +40,14 @@ moves_text moves = flat_map move_text moves
 abbrev pub refused_table_line : List ℕ → List Point → List ℕ
 refused_table_line why moves = line (codes "refused " ++ why ++ moves_text moves)
 
+-- the work or the budget was not enough
+abbrev pub spent_line : List ℕ
+spent_line = line (codes "spent")
+
+-- there is none of what was searched
+abbrev pub none_line : List ℕ
+none_line = line (codes "none")
+
 -- what words without a form are answered with
 abbrev pub usage_line : List ℕ
 usage_line = line (codes "usage: renju check WORK, foul, fours DEPTH NODES, threats LENGTH NODES, solve DEPTH NODES, brain [FILE], drill N, image SYMMETRY, referee [FILE], defend DEPTH NODES, bind FILE .., book WORK")

@@ -3,9 +3,11 @@
 //! The text is read, its root is checked at its position under its rule, and the verdict is told in one line.
 #![tactic(auto)]
 
-ghost use Rattle.std.specs.Prelude.{◌≡◌, ◌≢◌, true, length, Ok, IfOk, string_bytes};
+ghost use Rattle.std.specs.Prelude.{◌≡◌, ◌≢◌, true, length, Ok, IfOk};
+ghost use Rattle.std.specs.String.{string_vec};
 ghost use Rattle.game_rules.specs.Play.{IsPosition};
 ghost use Rattle.renju_cli.specs.Checks.{CheckSays, refusal_line, FileSays, VerdictSays};
+ghost use Rattle.renju_cli.specs.Texts.{spent_line};
 ghost use Rattle.strategy_graph.specs.Roots.{root_below};
 
 use crate::answer::Answer;
@@ -19,7 +21,7 @@ use strategy_checker::{Verdict, check_root};
 
 /// What `check` says of an input with this many arrivals allowed.
 pub(crate) fn check_text(alloc: Global, bytes: &[u8], work: u64) -> Result<Answer, AllocError>
-    ensures says { IfOk result (λ answer. CheckSays work bytes.now answer.status (string_bytes answer.text)) }
+    ensures says { IfOk result (λ answer. CheckSays work bytes.now answer.status (answer.text.items)) }
 {
     match read_table(alloc, bytes) {
         Ok(file) => check_file(alloc, file, work),
@@ -30,7 +32,7 @@ pub(crate) fn check_text(alloc: Global, bytes: &[u8], work: u64) -> Result<Answe
 /// What is said of a text that is refused. Want of memory is handed on.
 pub(crate) fn refused_text(alloc: Global, error: FileError) -> Result<Answer, AllocError>
     ensures status { IfOk result (λ answer. answer.status ≡ Status.RefusedText) }
-    ensures text { IfOk result (λ answer. string_bytes answer.text ≡ refusal_line error) }
+    ensures text { IfOk result (λ answer. answer.text.items ≡ refusal_line error) }
     ensures cause { IfOk result (λ answer. error ≢ FileError.Memory) }
 {
     match error {
@@ -53,19 +55,16 @@ pub(crate) fn refused_text(alloc: Global, error: FileError) -> Result<Answer, Al
 
 /// The answer of a refused text.
 fn refusal(text: String) -> Result<Answer, AllocError>
-    ensures answer { result ≡ Ok (record { status = Status.RefusedText; text = text }) }
+    ensures answer { result ≡ Ok (record { status = Status.RefusedText; text = string_vec text }) }
 {
-    Ok(Answer {
-        status: Status::RefusedText,
-        text,
-    })
+    Ok(Answer::told(Status::RefusedText, text))
 }
 
 /// What is said of a text that was read.
 fn check_file(alloc: Global, file: TableFile, work: u64) -> Result<Answer, AllocError>
     requires lawful { IsPosition file.kind file.board }
     requires root { root_below file.root (length file.table) ≡ true }
-    ensures says { IfOk result (λ answer. FileSays work file answer.status (string_bytes answer.text)) }
+    ensures says { IfOk result (λ answer. FileSays work file answer.status (answer.text.items)) }
 {
     match file.kind {
         RuleKind::Freestyle => check_under::<Freestyle>(alloc, file, work),
@@ -79,7 +78,7 @@ fn check_under<R: Rule>(alloc: Global, file: TableFile, work: u64) -> Result<Ans
     requires kind { file.kind ≡ R.KIND }
     requires lawful { IsPosition file.kind file.board }
     requires root { root_below file.root (length file.table) ≡ true }
-    ensures says { IfOk result (λ answer. FileSays work file answer.status (string_bytes answer.text)) }
+    ensures says { IfOk result (λ answer. FileSays work file answer.status (answer.text.items)) }
 {
     let TableFile {
         kind: _,
@@ -95,20 +94,24 @@ fn check_under<R: Rule>(alloc: Global, file: TableFile, work: u64) -> Result<Ans
 
 /// The line of a verdict.
 fn tell(alloc: Global, verdict: Verdict) -> Result<Answer, AllocError>
-    ensures says { IfOk result (λ answer. VerdictSays verdict answer.status (string_bytes answer.text)) }
+    ensures says { IfOk result (λ answer. VerdictSays verdict answer.status (answer.text.items)) }
 {
     match verdict {
-        Verdict::Accepted { moves, arrivals } => Ok(Answer {
-            status: Status::Done,
-            text: texts::accepted(alloc, moves, arrivals)?,
-        }),
-        Verdict::Refused { line, why } => Ok(Answer {
-            status: Status::RefusedTable,
-            text: texts::refused_table(alloc, why, line.as_slice())?,
-        }),
-        Verdict::Spent => Ok(Answer {
-            status: Status::Spent,
-            text: String::from_str(alloc, "spent\n")?,
-        }),
+        Verdict::Accepted { moves, arrivals } => {
+            Ok(Answer::told(Status::Done, texts::accepted(alloc, moves, arrivals)?))
+        }
+        Verdict::Refused { line, why } => Ok(Answer::told(
+            Status::RefusedTable,
+            texts::refused_table(alloc, why, line.as_slice())?,
+        )),
+        Verdict::Spent => spent(alloc),
     }
+}
+
+/// The answer where the work or the budget was not enough.
+pub(crate) fn spent(alloc: Global) -> Result<Answer, AllocError>
+    ensures status { IfOk result (λ answer. answer.status ≡ Status.Spent) }
+    ensures text { IfOk result (λ answer. answer.text.items ≡ spent_line) }
+{
+    Ok(Answer::told(Status::Spent, String::from_str(alloc, "spent\n")?))
 }

@@ -25,7 +25,7 @@ pub(crate) struct FoulPoint {
 
 /// What `foul` says of an input.
 pub(crate) fn foul_text(alloc: Global, bytes: &[u8]) -> Result<Answer, AllocError>
-    ensures says { IfOk result (λ answer. FoulSays bytes.now answer.status (string_bytes answer.text)) }
+    ensures says { IfOk result (λ answer. FoulSays bytes.now answer.status (answer.text.items)) }
 {
     match read_position(alloc, bytes) {
         Ok(file) => list_fouls(alloc, file),
@@ -37,17 +37,14 @@ pub(crate) fn foul_text(alloc: Global, bytes: &[u8]) -> Result<Answer, AllocErro
 fn list_fouls(alloc: Global, file: PositionFile) -> Result<Answer, AllocError>
     requires lawful { IsPosition file.kind file.board }
     ensures status { IfOk result (λ answer. answer.status ≡ Status.Done) }
-    ensures text { IfOk result (λ answer. string_bytes answer.text ≡ fouls_text_lem (fouls_of_mover (mover file.board) file.kind file.board)) }
+    ensures text { IfOk result (λ answer. answer.text.items ≡ fouls_text_lem (fouls_of_mover (mover file.board) file.kind file.board)) }
 {
     let fouls = match file.kind {
         RuleKind::Freestyle => mover_fouls::<Freestyle>(alloc, file.board)?,
         RuleKind::Exact => mover_fouls::<ExactFive>(alloc, file.board)?,
         RuleKind::Renju => mover_fouls::<Renju>(alloc, file.board)?,
     };
-    Ok(Answer {
-        status: Status::Done,
-        text: fouls_text(alloc, fouls.as_slice())?,
-    })
+    Ok(Answer::told(Status::Done, fouls_text(alloc, fouls.as_slice())?))
 }
 
 /// The fouls of the side to move.

@@ -6,12 +6,13 @@
 ghost use Rattle.std.specs.Prelude.{◌≡◌, map, string_bytes, IfOk, Err};
 ghost use Rattle.renju_io.specs.Faults.{HasRisen};
 ghost use Rattle.renju_cli.specs.Statuses.{status_number};
-ghost use Rattle.renju_cli.specs.Words.{HasForm};
+ghost use Rattle.renju_cli.specs.Words.{HasForm, IsInRange};
 ghost use Rattle.renju_cli.specs.Reports.{IsDue, IsDelivered, Report, ShowsWin, CommandIsDue, CommandSays};
 
 use crate::answer::Answer;
 use crate::check::check_text;
 use crate::fouls::foul_text;
+use crate::fours::fours_text;
 use crate::words::form_of;
 use crate::{Form, Status, texts};
 use renju_io::{ReadAllError, Shelf, Sink, Source, read_all, write_text};
@@ -69,30 +70,30 @@ fn run<I: Source, O: Sink>(alloc: Global, words: &[String], input: &mut I, outpu
 
 /// What is due for the words and the input.
 fn answer<I: Source>(alloc: Global, words: &[String], input: &mut I) -> Result<Answer, Stop>
-    ensures due { IfOk result (λ answer. IsDue (map string_bytes words.now) (I.left input.old) answer.status (string_bytes answer.text)) }
+    ensures due { IfOk result (λ answer. IsDue (map string_bytes words.now) (I.left input.old) answer.status answer.text.items) }
     ensures failed { result ≡ Err Stop.ReadFault → HasRisen (I.faults input.old) (I.faults input.new) }
     ensures form { result ≡ Err Stop.ReadFault → HasForm (map string_bytes words.now) }
 {
     match form_of(words) {
-        None => Ok(Answer {
-            status: Status::Usage,
-            text: String::from_str(alloc, texts::USAGE)?,
-        }),
+        None => Ok(Answer::told(Status::Usage, String::from_str(alloc, texts::USAGE)?)),
         Some(form) => answer_form(alloc, form, input),
     }
 }
 
 /// What is due for a command and its input.
 fn answer_form<I: Source>(alloc: Global, form: Form, input: &mut I) -> Result<Answer, Stop>
-    ensures due { IfOk result (λ answer. CommandIsDue form (I.left input.old) answer.status (string_bytes answer.text)) }
+    requires in_range { IsInRange form }
+    ensures due { IfOk result (λ answer. CommandIsDue form (I.left input.old) answer.status answer.text.items) }
     ensures failed { result ≡ Err Stop.ReadFault → HasRisen (I.faults input.old) (I.faults input.new) }
 {
     match read_all(alloc, input) {
         Ok(bytes) => Ok(answer_input(alloc, form, bytes.as_slice())?),
-        Err(ReadAllError::TooLong) => Ok(Answer {
-            status: Status::TooLong,
-            text: String::from_str(alloc, "input too long\n")?,
-        }),
+        Err(ReadAllError::TooLong) => {
+            Ok(Answer::told(
+                Status::TooLong,
+                String::from_str(alloc, "input too long\n")?,
+            ))
+        }
         Err(ReadAllError::Failed) => Err(Stop::ReadFault),
         Err(ReadAllError::Memory) => Err(Stop::Memory),
     }
@@ -100,20 +101,22 @@ fn answer_form<I: Source>(alloc: Global, form: Form, input: &mut I) -> Result<An
 
 /// What a command says of its whole input.
 fn answer_input(alloc: Global, form: Form, bytes: &[u8]) -> Result<Answer, AllocError>
-    ensures says { IfOk result (λ answer. CommandSays form bytes.now answer.status (string_bytes answer.text)) }
+    requires in_range { IsInRange form }
+    ensures says { IfOk result (λ answer. CommandSays form bytes.now answer.status answer.text.items) }
 {
     match form {
         Form::Check { work } => check_text(alloc, bytes, work),
         Form::Foul => foul_text(alloc, bytes),
+        Form::Fours { depth, nodes } => fours_text(alloc, bytes, depth, nodes),
     }
 }
 
 /// Writes the text, and answers its status, or that of a write fault.
 fn deliver<O: Sink>(answer: Answer, output: &mut O) -> Status
-    ensures delivered { IsDelivered answer.status (string_bytes answer.text)
+    ensures delivered { IsDelivered answer.status (answer.text.items)
         (record { written_before = O.written output.old; written_after = O.written output.new; faults_before = O.faults output.old; faults_after = O.faults output.new }) (status_number result) }
 {
-    match write_text(output, answer.text.as_bytes()) {
+    match write_text(output, answer.text.as_slice()) {
         Ok(()) => answer.status,
         Err(_) => Status::WriteFault,
     }

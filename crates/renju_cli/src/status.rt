@@ -23,6 +23,8 @@ pub enum Status {
     ReadFault,
     /// The output failed.
     WriteFault,
+    /// There is none of what was searched.
+    NotFound,
     /// The input has more bytes than a command takes.
     TooLong,
 }
@@ -41,6 +43,7 @@ impl Status {
             Status::Memory => 6,
             Status::ReadFault => 7,
             Status::WriteFault => 8,
+            Status::NotFound => 9,
             Status::TooLong => 11,
         }
     }

@@ -4,7 +4,7 @@
 ghost use Rattle.std.specs.Prelude.{◌≡◌, ℕ, [], ◌∷◌, MatchOption, map, string_bytes};
 ghost use Rattle.renju_cli.specs.Words.{HasForm, IsForm, IsCheck};
 
-use crate::MAX_WORK;
+use crate::{MAX_DEPTH, MAX_SEARCHED, MAX_WORK};
 use position_files::wide_number;
 
 /// A form of words: the command and its numbers.
@@ -14,6 +14,8 @@ pub enum Form {
     Check { work: u64 },
     /// `foul`.
     Foul,
+    /// `fours DEPTH NODES`, with DEPTH from 1 to `MAX_DEPTH` and NODES from 1 to `MAX_SEARCHED`.
+    Fours { depth: u32, nodes: u64 },
 }
 
 /// The form that the words have, if they have one.
@@ -23,6 +25,7 @@ pub(crate) fn form_of(words: &[String]) -> Option<Form>
     match words {
         [command] => foul_form(command.as_str()),
         [command, work] => check_form(command.as_str(), work.as_str()),
+        [command, depth, nodes] => fours_form(command.as_str(), depth.as_str(), nodes.as_str()),
         _ => None,
     }
 }
@@ -50,4 +53,25 @@ fn foul_form(command: &str) -> Option<Form>
     } else {
         None
     }
+}
+
+/// The form of a command and two words.
+fn fours_form(command: &str, depth: &str, nodes: &str) -> Option<Form>
+    ensures form { MatchOption result (HasForm (command.now ∷ depth.now ∷ nodes.now ∷ []) → ⊥) (λ form. IsForm (command.now ∷ depth.now ∷ nodes.now ∷ []) form) }
+{
+    if command != "fours" {
+        return None;
+    }
+    let depth = wide_number(depth.as_bytes(), u64::from(MAX_DEPTH))?;
+    if depth == 0 {
+        return None;
+    }
+    let nodes = wide_number(nodes.as_bytes(), MAX_SEARCHED)?;
+    if nodes == 0 {
+        return None;
+    }
+    Some(Form::Fours {
+        depth: depth as u32,
+        nodes,
+    })
 }

@@ -1,0 +1,13 @@
+use Rattle.std.proofs.Common.{◌≡◌, ◌∙◌, subst}
+use Rattle.four_search.specs.Answers.{OnWin, IsFourWin}
+use Rattle.four_search.specs.declared.answer.FourAnswer.{FourAnswer}
+use Rattle.renju_cli.proofs.FourTables.{win-says}
+use Rattle.renju_cli.proofs.fours.search_under.Goals as goal
+
+pub returns-in-Ok-Win : goal.returns-in-Ok-Win
+returns-in-Ok-Win g c =
+    let here = c.new-position.ensures.position in
+    let there = c.into_board-board.ensures.board ∙ c.four_search.ensures.same ∙ here in
+    let win : IsFourWin g.R.Rule.KIND c.args.depth c.new-position.result c.four_search.new.compiler c.in-Ok-Win.node c.in-Ok-Win.moves =
+    subst (λ (a : FourAnswer). OnWin a (IsFourWin g.R.Rule.KIND c.args.depth c.new-position.result c.four_search.new.compiler)) c.in-Ok-Win.field-0-is c.in-Ok-Win.ensures.win in
+    record { says = win-says c.win_text.result c.args.depth c.args.nodes c.args.file g.R.Rule.KIND c.new-position.result c.into_board-board.result c.four_search.new.compiler c.in-Ok-Win.node c.in-Ok-Win.moves c.requires.kind here there win (λ above. let spent = c.in-Ok-Win.ensures.spent.1 above in let is = c.in-Ok-Win.field-0-is in absurd (cc)) c.win_text.ensures.status c.win_text.ensures.text }
