@@ -1,5 +1,5 @@
 -- The table made of the node of a win by fours is one that `fours` writes.
-use Rattle.std.proofs.Common.{◌≡◌, inl, inr, ℕ, zero, suc, ◌+◌, ◌≤◌, ◌<◌, Bool, true, false, cond, refl, sym, ap, subst, ◌∙◌, arith, List, [], ◌∷◌, length}
+use Rattle.std.proofs.Common.{◌≡◌, inl, inr, ℕ, zero, suc, ◌+◌, ◌*◌, ◌≤◌, ◌<◌, Bool, true, false, cond, refl, sym, ap, subst, ◌∙◌, arith, List, [], ◌∷◌, length}
 use Rattle.std.specs.Prelude.{Option, Some, None, slice_get, Result, Ok, Err, IfOk}
 use Rattle.std.specs.List.{find, list_all, range_with_len, AllByRecursion}
 use Rattle.std.proofs.lemmas.Option.{slice_get_within}
@@ -86,7 +86,7 @@ module _ (rule : RuleKind) (b : Grid) (limit moves : ℕ) (nodes : List Node) (n
       (omega (arith, some), omega (arith, least), omega (arith, most, few))
 
   pub four-table : IsFourTable limit (record { kind = rule; board = b }) moves t
-  four-table = record { fewest = h.win.fewest; plan = h.made; accepted = written.accepted; deep = h.same.same_depth ∙ h.win.deep }
+  four-table = record { fewest = h.win.fewest; plan = h.made; accepted = written.accepted; deep = h.same.same_depth ∙ h.win.deep; short = subst (λ (n : ℕ). n ≤ b.width * b.height * moves) (sym (h.same.same_arrivals rule b)) h.win.short }
 
 -- what is made of a node of which it is known that it is one of a win
 pub made-of : (rule : RuleKind) (b : Grid) (moves : ℕ) (nodes : List Node) (node : ℕ) (t : List Node) → IsPosition rule b → (win : (limit : ℕ) × (limit ≤ MAX_DEPTH) × IsFourWin rule limit b nodes node moves)

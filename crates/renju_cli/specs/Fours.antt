@@ -1,10 +1,11 @@
 -- What `fours` says of its input.
-use Rattle.std.specs.Prelude.{◌≡◌, ◌≢◌, ℕ, ◌≤◌, ◌<◌, false, List, Some}
+use Rattle.std.specs.Prelude.{◌≡◌, ◌≢◌, ℕ, ◌*◌, ◌≤◌, ◌<◌, false, List, Some}
 use Rattle.game_rules.specs.Games.{wins_by_fours}
 use Rattle.strategy_graph.specs.declared.Node.{Node}
 use Rattle.strategy_graph.specs.declared.roots.Root.TheVariants.{Attack}
 use Rattle.strategy_graph.specs.Tables.{depth}
 use Rattle.strategy_graph.specs.Acceptance.{Accepted}
+use Rattle.strategy_graph.specs.Arrivals.{arrivals}
 use Rattle.strategy_compiler.specs.Walks.{IsTableOf, last}
 use Rattle.four_search.specs.FourGame.{four_cost, least_moves}
 use Rattle.four_search.specs.Plans.{four_plan}
@@ -20,13 +21,14 @@ use Rattle.renju_cli.specs.Checks.{refusal_line}
 use Rattle.renju_cli.specs.Fouls.{IsPositionAt}
 use Rattle.renju_cli.specs.Texts.{spent_line, none_line}
 
--- The table of the plan of a win by fours with the fewest moves: its last node is accepted at the position, and is as deep as
--- the win has moves.
+-- The table of the plan of a win by fours with the fewest moves: its last node is accepted at the position, is as deep as the
+-- win has moves, and has at most so many arrivals for each of them as the board has points.
 pub record IsFourTable (limit : ℕ) (file : PositionFile) (moves : ℕ) (table : List Node) : Type 0 where
   pub fewest : least_moves file.kind limit file.board ≡ Some moves
   pub plan : IsTableOf (four_plan file.kind moves file.board) table
   pub accepted : Accepted file.kind table (last table) file.board
   pub deep : depth table (last table) ≡ moves
+  pub short : arrivals file.kind table (last table) file.board ≤ file.board.width * file.board.height * moves
 
 -- the table, with its last node as root, at the position
 abbrev pub table_at : PositionFile → ℕ → List Node → TableFile

@@ -11,4 +11,6 @@ mod devices;
 #[cfg(test)]
 mod fouls;
 #[cfg(test)]
+mod fours;
+#[cfg(test)]
 mod runs;

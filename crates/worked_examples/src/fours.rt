@@ -1,0 +1,110 @@
+//! The command `fours`, and `check` over what it writes.
+#![tactic(auto)]
+
+use crate::runs::run_sound;
+use std::test::Fail;
+
+/// Words, an input, and the status and the text that are wanted.
+struct Example {
+    name: &'static str,
+    words: &'static str,
+    input: &'static str,
+    status: u8,
+    output: &'static str,
+}
+
+const TWO_MOVES: &str =
+    "renju-position 1\nrule freestyle\nsize 15\nblack 5,7 6,7 7,7\nwhite 0,0 2,0 4,0\n";
+
+const BLOCK_FOULS: &str =
+    "renju-position 1\nrule renju\nsize 15\nblack 7,0 7,1 7,2 2,3 7,4 7,5\nwhite 3,3 4,3 5,3 12,14 14,14\n";
+
+const BLOCK_HOLDS: &str =
+    "renju-position 1\nrule freestyle\nsize 15\nblack 7,0 7,1 7,2 2,3 7,4 7,5\nwhite 3,3 4,3 5,3 12,14 14,14\n";
+
+const EXAMPLES: [Example; 8] = [
+    Example {
+        name: "a straight four in two moves",
+        words: "fours 5 3",
+        input: TWO_MOVES,
+        status: 0,
+        output: "renju-table 1\nrule freestyle\nsize 15\nblack 5,7 6,7 7,7\nwhite 0,0 2,0 4,0\nmoves 2\nnodes 3\n3,7 wins\n8,7 wins\n4,7 rest 0 3,7>1\n",
+    },
+    Example {
+        name: "one position too few",
+        words: "fours 5 2",
+        input: TWO_MOVES,
+        status: 5,
+        output: "spent\n",
+    },
+    Example {
+        name: "no win in one move",
+        words: "fours 1 1",
+        input: TWO_MOVES,
+        status: 9,
+        output: "none\n",
+    },
+    Example {
+        name: "a four whose block is a foul",
+        words: "fours 5 2",
+        input: BLOCK_FOULS,
+        status: 0,
+        output: "renju-table 1\nrule renju\nsize 15\nblack 7,0 7,1 7,2 2,3 7,4 7,5\nwhite 3,3 4,3 5,3 12,14 14,14\nmoves 2\nnodes 2\n7,3 wins\n6,3 rest 0\n",
+    },
+    Example {
+        name: "the same four where no block is a foul",
+        words: "fours 5 9",
+        input: BLOCK_HOLDS,
+        status: 9,
+        output: "none\n",
+    },
+    Example {
+        name: "five on a wide board",
+        words: "fours 1 1",
+        input: "renju-position 1\nrule freestyle\nsize 9,5\nblack 0,2 1,2 2,2 3,2\nwhite 0,0 2,0 4,0 6,0\n",
+        status: 0,
+        output: "renju-table 1\nrule freestyle\nsize 9,5\nblack 0,2 1,2 2,2 3,2\nwhite 0,0 2,0 4,0 6,0\nmoves 1\nnodes 1\n4,2 wins\n",
+    },
+    Example {
+        name: "a board that is too wide",
+        words: "fours 1 1",
+        input: "renju-position 1\nrule freestyle\nsize 33\nblack 0,2 1,2 2,2 3,2\nwhite 0,0 2,0 4,0 6,0\n",
+        status: 3,
+        output: "refused line 3\n",
+    },
+    Example {
+        name: "no moves at all",
+        words: "fours 0 1",
+        input: TWO_MOVES,
+        status: 1,
+        output: "usage: renju check WORK, foul, fours DEPTH NODES, threats LENGTH NODES, solve DEPTH NODES, brain [FILE], drill N, image SYMMETRY, referee [FILE], defend DEPTH NODES, bind FILE .., book WORK\n",
+    },
+];
+
+#[test]
+fn fours_answer_as_worked_out(rt: HostRuntime) -> Result<(), Fail> {
+    for example in &EXAMPLES {
+        let name = example.name;
+        let run = run_sound(rt.alloc(), example.words, example.input.as_bytes())?;
+        assert_eq!(rt; run.output.as_slice(), example.output.as_bytes(), "{name}");
+        assert_eq!(rt; run.status, example.status, "{name}");
+    }
+    Ok(())
+}
+
+#[test]
+fn what_fours_writes_is_accepted(rt: HostRuntime) -> Result<(), Fail> {
+    let written = run_sound(rt.alloc(), "fours 5 3", TWO_MOVES.as_bytes())?;
+    let run = run_sound(rt.alloc(), "check 219", written.output.as_slice())?;
+    assert_eq!(rt;
+        run.output.as_slice(),
+        b"accepted in 2 moves, 219 arrivals\n".as_slice()
+    );
+    let written = run_sound(rt.alloc(), "fours 5 2", BLOCK_FOULS.as_bytes())?;
+    let run = run_sound(rt.alloc(), "check 213", written.output.as_slice())?;
+    assert_eq!(rt;
+        run.output.as_slice(),
+        b"accepted in 2 moves, 213 arrivals\n".as_slice()
+    );
+    Ok(())
+}
