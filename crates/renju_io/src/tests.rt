@@ -2,7 +2,7 @@
 use super::*;
 use std::io::Read;
 use std::test::Fail;
-use std::{fs, io, process};
+use std::{env, fs, io, process};
 
 #[test]
 fn reads_all_in_pieces(rt: HostRuntime) -> Result<(), Fail> {
@@ -92,7 +92,9 @@ fn a_shelf_gives_the_file_under_a_name(rt: HostRuntime) -> Result<(), Fail> {
 fn real_files_are_written_and_read(rt: HostRuntime) -> Result<(), Fail> {
     let alloc = rt.alloc();
     let id = process::id(rt.process());
-    let name = format!(in alloc; "/tmp/renju_io_{id}")?;
+    let folder = env::temp_dir(&rt)?;
+    let folder = folder.display();
+    let name = format!(in alloc; "{folder}/renju_io_{id}")?;
     write_text(
         &mut RealSink::new(fs::create(&rt, &name)?),
         b"five in a row",
