@@ -3,3 +3,4 @@ pub mod Fours
 pub mod Shapes
 pub mod Play
 pub mod Games
+pub mod Laws

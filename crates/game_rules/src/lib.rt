@@ -1,14 +1,18 @@
 //! The rules of five in a row: the plain types that every layer speaks of, and, in `specs/`, the definitions of
 //! boards, runs, fives, fours, threes, fouls, outcomes, lawful positions and won games.
 //!
-//! The crate has no code of its own. What it offers to the layers above are these types, the words of its `specs/`,
-//! and the laws about those words that its `proofs/Lib.antt` makes public.
+//! The crate computes nothing. What it offers to the layers above are these types, the words of its `specs/`, and the
+//! laws about those words: the main ones as contracts, all of them in its `proofs/Lib.antt`.
 //!
 //! Sources: the RIF Rules of Renju for fours, straight fours, threes, overlines and the fouls of Black. Which
 //! double-threes stand is this program's own rule: an axis counts as a three where it has a three point at which Black
 //! has no foul by the same definition, on the board with the stone. Wins by fours and by threats are those of Allis, van
 //! den Herik and Huntjens, "Go-Moku and Threat-Space Search".
 #![tactic(auto)]
+
+mod laws;
+
+pub use laws::{moves_continue, tests_tell, wins_are_ordered};
 
 /// A player. Black moves first.
 #[derive(Clone, Copy, Debug, PartialEq, Eq)]
