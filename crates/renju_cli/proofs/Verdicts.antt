@@ -3,7 +3,7 @@ use Rattle.std.proofs.Common.{◌≡◌, ℕ, List, sym, ap, subst, ◌∙◌}
 use Rattle.std.specs.Prelude.{Result, Ok, Err, IfOk, string_bytes}
 use Rattle.game_rules.specs.Grid.{Grid}
 use Rattle.game_rules.specs.declared.RuleKind.{RuleKind}
-use Rattle.strategy_graph.specs.Roots.{root_depth, root_arrivals, AcceptedRoot}
+use Rattle.strategy_graph.specs.Roots.{root_depth, root_arrivals, AcceptedRoot, RootWins}
 use Rattle.strategy_checker.specs.declared.Verdict.{Verdict}
 use Rattle.strategy_checker.specs.declared.Verdict.TheVariants.{Accepted, Refused, Spent}
 use Rattle.strategy_checker.specs.Verdicts.{AcceptsExactly, SpendsRightly, IfAccepted, IfRefused}
@@ -19,6 +19,7 @@ pub record IsVerdict (rule : RuleKind) (file : TableFile) (b : Grid) (work : ℕ
   pub accepted : AcceptsExactly (AcceptedRoot rule file.table file.root b) (root_arrivals rule file.table file.root b) work v
   pub moves : IfAccepted (λ moves count. moves ≡ root_depth file.table file.root) v
   pub arrivals : IfAccepted (λ moves count. count ≡ root_arrivals rule file.table file.root b) v
+  pub wins : IfAccepted (λ moves count. RootWins rule file.root moves b) v
   pub leads : IfRefused (λ line why. LeadsRoot rule file.table file.root b line why) v
   pub spent : SpendsRightly (AcceptedRoot rule file.table file.root b) (root_arrivals rule file.table file.root b) work v
 
@@ -26,7 +27,11 @@ says_by : (work : ℕ) (file : TableFile) (v : Verdict) (status : Status) (text 
 says_by work file (Accepted moves arrivals) status text h s =
     let both = h.accepted.0 tt in
     subst (λ (u : Status). FileSays work file u text) (sym s.0) (
-      record { accepted = both.0; within = both.1 },
+      record {
+        accepted = both.0;
+        wins = subst (λ (m : ℕ). RootWins file.kind file.root m file.board) h.moves h.wins;
+        within = both.1;
+      },
       s.1 ∙ ap (λ m. accepted_line m arrivals) h.moves ∙ ap (λ n. accepted_line (root_depth file.table file.root) n) h.arrivals,
     )
 says_by work file (Refused line why) status text h s = subst (λ (u : Status). FileSays work file u text) (sym s.0) (line, why, h.leads, s.1)

@@ -2,13 +2,7 @@
 use Rattle.std.proofs.Common.{◌≡◌, inl, inr, refl, ℕ, List, sym, subst, ◌∙◌}
 use Rattle.std.specs.Prelude.{[], ◌∷◌, codes, Option, Some, None, IfSome}
 use Rattle.std.specs.Fmt.{decimal}
-use Rattle.game_rules.specs.Grid.{Grid}
-use Rattle.game_rules.specs.declared.RuleKind.{RuleKind}
-use Rattle.strategy_graph.specs.declared.Node.{Node}
-use Rattle.strategy_graph.specs.declared.roots.Root.{Root}
-use Rattle.strategy_graph.specs.declared.roots.Root.TheVariants.{Attack, Defend}
-use Rattle.strategy_graph.specs.Roots.{root_depth, AcceptedRoot}
-use Rattle.strategy_graph.proofs.Soundness.{accepted-wins, accepted-start-wins}
+use Rattle.strategy_graph.specs.Roots.{RootWins}
 use Rattle.position_files.specs.declared.TableFile.{TableFile}
 use Rattle.renju_cli.specs.declared.status.Status.{Status}
 use Rattle.renju_cli.specs.declared.status.Status.TheVariants.{Done, Usage, RefusedText, RefusedTable, Spent, Memory, ReadFault, WriteFault, NotFound, TooLong}
@@ -17,13 +11,7 @@ use Rattle.renju_cli.specs.declared.words.Form.TheVariants.{Check, Foul, Fours}
 use Rattle.renju_cli.specs.Statuses.{status_number}
 use Rattle.renju_cli.specs.Words.{IsForm, IsCheck}
 use Rattle.renju_cli.specs.Checks.{IsTableAt}
-use Rattle.renju_cli.specs.Roots.{RootWins}
 use Rattle.renju_cli.specs.Reports.{IsInput, CommandIsDue, IsDue, Report, OutputChange, ShowsWin}
-
--- an accepted root wins as it claims
-root_wins : (rule : RuleKind) (t : List Node) (root : Root) (b : Grid) → AcceptedRoot rule t root b → RootWins rule root (root_depth t root) b
-root_wins rule t (Attack r) b h = accepted-wins rule t r b h
-root_wins rule t (Defend a) b h = accepted-start-wins rule t a b h
 
 -- status 0 alone has the number 0
 done_by : (s : Status) → 0 ≡ status_number s → s ≡ Done
@@ -56,7 +44,7 @@ won_by words n check left (Check work) text form due =
     let says = due.3 in
     let file : TableFile = says.0 in
     let wins : RootWins file.kind file.root file.moves file.board =
-    subst (λ (n : ℕ). RootWins file.kind file.root n file.board) (sym says.1.moves) (root_wins file.kind file.table file.root file.board says.2.0.accepted) in
+    subst (λ (n : ℕ). RootWins file.kind file.root n file.board) (sym says.1.moves) says.2.0.wins in
     told_win left due.0 due.1 (file, says.1, wins)
 
 due_win : (words : List (List ℕ)) (work : ℕ) → IsCheck words work → (left : Option (List ℕ)) (s : Status) (text : List ℕ) → s ≡ Done → IsDue words left s text → IfSome left IsWon

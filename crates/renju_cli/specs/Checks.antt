@@ -8,7 +8,7 @@ use Rattle.strategy_graph.specs.declared.Why.TheVariants.{AttackRefused, AttackF
 use Rattle.position_files.specs.declared.TableFile.{TableFile}
 use Rattle.position_files.specs.Tables.{IsTextOfTable}
 use Rattle.position_files.specs.Faults.{IsTableFault}
-use Rattle.strategy_graph.specs.Roots.{root_depth, root_arrivals, AcceptedRoot}
+use Rattle.strategy_graph.specs.Roots.{root_depth, root_arrivals, AcceptedRoot, RootWins}
 use Rattle.position_files.specs.declared.error.FileError.{FileError}
 use Rattle.position_files.specs.declared.error.FileError.TheVariants.{BadLine, Unlawful, WrongMoves, Memory as NoMemory}
 use Rattle.renju_cli.specs.declared.status.Status.{Status}
@@ -43,9 +43,11 @@ VerdictSays (Accepted moves arrivals) status text = (status ≡ Done) × (text �
 VerdictSays (Refused moves why) status text = (status ≡ RefusedTable) × (text ≡ refused_table_line (why_word why) moves)
 VerdictSays Spent status text = (status ≡ OutOfWork) × (text ≡ spent_line)
 
--- the root of a table is accepted at its position with at most so many arrivals
+-- the root of a table is accepted at its position with at most so many arrivals, and wins there within its depth, whatever
+-- the replies
 pub record IsAccepted (work : ℕ) (file : TableFile) : Type 0 where
   pub accepted : AcceptedRoot file.kind file.table file.root file.board
+  pub wins : RootWins file.kind file.root (root_depth file.table file.root) file.board
   pub within : root_arrivals file.kind file.table file.root file.board ≤ work
 
 -- What is said of a table text with so many arrivals allowed: accepted with its depth and its arrivals; refused, with a

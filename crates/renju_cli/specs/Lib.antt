@@ -1,7 +1,6 @@
 pub mod Texts
 pub mod Statuses
 pub mod Words
-pub mod Roots
 pub mod Checks
 pub mod Fouls
 pub mod Fours

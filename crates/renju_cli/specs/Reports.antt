@@ -13,7 +13,7 @@ use Rattle.renju_cli.specs.Texts.{line, usage_line}
 use Rattle.renju_cli.specs.Checks.{CheckSays, IsTableAt}
 use Rattle.renju_cli.specs.Fouls.{FoulSays}
 use Rattle.renju_cli.specs.Fours.{FoursSays}
-use Rattle.renju_cli.specs.Roots.{RootWins}
+use Rattle.strategy_graph.specs.Roots.{RootWins}
 use Rattle.position_files.specs.declared.TableFile.{TableFile}
 
 -- these are the bytes that the input gave, where it tells its bytes

@@ -1,4 +1,4 @@
-// Which calls of a device in memory fail.
+//! Which calls of a device in memory fail.
 ghost use Rattle.std.specs.Prelude.{◌≡◌};
 ghost use Rattle.renju_io.specs.Faults.{HasRisen, HasNotFallen};
 ghost use Rattle.renju_io.specs.Memory.{no_calls, one_more, fails_next};

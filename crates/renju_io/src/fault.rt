@@ -1,4 +1,4 @@
-// The failure of a device. Why it failed is not kept: nobody acts on it.
+//! The failure of a device. Why it failed is not kept: nobody acts on it.
 use thiserror::Error;
 
 /// A device failed. It comes only from a call in which the device's count of faults rose.

@@ -1,4 +1,4 @@
-// A shelf of files in memory, which fails at stated calls.
+//! A shelf of files in memory, which fails at stated calls.
 ghost use Rattle.std.specs.Prelude.{◌≡◌, ◌≢◌, ◌<◌, ◌≤◌, true, false, Some, length, Ok, Err, IfOk, IfErr, IfSome, IsErrOf, IsSomeAnd, find, string_bytes};
 ghost use Rattle.std.specs.Option.{option_copied};
 ghost use Rattle.std.specs.Str.{bytes_eq};

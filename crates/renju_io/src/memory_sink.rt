@@ -1,4 +1,4 @@
-// A sink that keeps what is written in memory, and fails at stated calls.
+//! A sink that keeps what is written in memory, and fails at stated calls.
 ghost use Rattle.std.specs.Prelude.{◌≡◌, [], true, false, Some, IsErr, OnOk, OnErr};
 ghost use Rattle.renju_io.specs.Faults.{HasRisen, HasNotFallen};
 ghost use Rattle.renju_io.specs.Told.{Takes, TakesPart};

@@ -1,4 +1,4 @@
-// A source that gives bytes of memory, in pieces, and fails at stated calls.
+//! A source that gives bytes of memory, in pieces, and fails at stated calls.
 ghost use Rattle.std.specs.Prelude.{◌≡◌, ◌<◌, ◌≤◌, [], min, length, take, IfOk, OnErr, Ok, Err, Some, if◌then◌else◌};
 ghost use Rattle.renju_io.specs.Faults.{HasRisen, HasNotFallen};
 ghost use Rattle.renju_io.specs.Told.{Gives};

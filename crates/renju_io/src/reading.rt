@@ -1,4 +1,4 @@
-// The whole input of a command, read to its end.
+//! The whole input of a command, read to its end.
 ghost use Rattle.std.specs.Prelude.{◌≡◌, ◌<◌, ◌≤◌, length, IfOk, IfSome, IsErrOf, OnOk, vec_len};
 ghost use Rattle.std.specs.Io.KnownBytes.{IsAtEnd};
 ghost use Rattle.renju_io.specs.Faults.{HasRisen, HasNotFallen};

@@ -1,5 +1,5 @@
-// The devices of the system: standard input and output, and files. They are the edge that is trusted. They are safe
-// and true to their counts of faults, and tell nothing of content: what a file or a terminal holds is not proved.
+//! The devices of the system: standard input and output, and files. They are the edge that is trusted. They are safe
+//! and true to their counts of faults, and tell nothing of content: what a file or a terminal holds is not proved.
 ghost use Rattle.std.specs.Prelude.{◌≡◌, ◌≤◌, None, length, IfOk, min, ◌+◌};
 ghost use Rattle.renju_io.specs.Faults.{HasRisen, HasNotFallen};
 

@@ -1,4 +1,4 @@
-// What holds files by name.
+//! What holds files by name.
 ghost use Rattle.std.specs.Prelude.{◌≡◌, ◌<◌, ◌≤◌, ℕ, Option, length, IfOk, IfSome, IsErrOf, IsSomeAnd};
 ghost use Rattle.renju_io.specs.Faults.{HasRisen, HasNotFallen};
 ghost use Rattle.renju_io.specs.Files.{Files, file_under};

@@ -1,4 +1,4 @@
-// What takes bytes, piece by piece.
+//! What takes bytes, piece by piece.
 ghost use Rattle.std.specs.Prelude.{◌≡◌, ℕ, List, Option, OnOk, OnErr};
 ghost use Rattle.renju_io.specs.Faults.{HasRisen, HasNotFallen};
 ghost use Rattle.renju_io.specs.Told.{Takes, TakesPart};

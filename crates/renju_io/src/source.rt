@@ -1,4 +1,4 @@
-// What gives bytes, piece by piece, up to its end.
+//! What gives bytes, piece by piece, up to its end.
 ghost use Rattle.std.specs.Prelude.{◌≡◌, ◌<◌, ◌≤◌, ℕ, List, Option, length, take, IfOk, OnErr};
 ghost use Rattle.std.specs.Io.KnownBytes.{IsAtEnd};
 ghost use Rattle.renju_io.specs.Faults.{HasRisen, HasNotFallen};

@@ -1,4 +1,4 @@
-// Each public call on its happy path, and devices that fail in the middle.
+//! Each public call on its happy path, and devices that fail in the middle.
 use super::*;
 use std::io::Read;
 use std::test::Fail;

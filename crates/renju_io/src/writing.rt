@@ -1,4 +1,4 @@
-// Texts of any length, written in pieces.
+//! Texts of any length, written in pieces.
 ghost use Rattle.std.specs.Prelude.{OnOk, OnErr};
 ghost use Rattle.renju_io.specs.Faults.{HasRisen, HasNotFallen};
 ghost use Rattle.renju_io.specs.Told.{Takes, TakesPart};

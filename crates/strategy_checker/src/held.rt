@@ -6,7 +6,7 @@
 
 ghost use Rattle.std.specs.Prelude.{◌≡◌, ◌≤◌, ◌<◌, ◌++◌, [], ◌∷◌, true, length, slice_get, Some, IfOk, IfErr, OnOk, OnErr};
 ghost use Rattle.std.specs.Option.{option_map};
-ghost use Rattle.strategy_graph.specs.Roots.{AcceptedRoot, root_arrivals, root_below, root_depth};
+ghost use Rattle.strategy_graph.specs.Roots.{AcceptedRoot, RootWins, root_arrivals, root_below, root_depth};
 ghost use Rattle.strategy_checker.specs.HeldRoots.{IsHeld, LeadsRoot};
 ghost use Rattle.strategy_checker.specs.HeldErrors.{IfRefused, IfSpent};
 ghost use Rattle.strategy_checker.specs.Verdicts.{AcceptsExactly, RefusesRightly, SpendsRightly, IfAccepted, IfRefused as IfRefusedVerdict};
@@ -188,6 +188,7 @@ pub fn check_root<R: Rule>(
     ensures accepted { IfOk result (AcceptsExactly (AcceptedRoot R.KIND table.now root.now position.old) (root_arrivals R.KIND table.now root.now position.old) work) }
     ensures moves { IfOk result (IfAccepted (λ moves count. moves ≡ root_depth table.now root.now)) }
     ensures arrivals { IfOk result (IfAccepted (λ moves count. count ≡ root_arrivals R.KIND table.now root.now position.old)) }
+    ensures wins { IfOk result (IfAccepted (λ moves count. RootWins R.KIND root.now moves position.old)) }
     ensures refused { IfOk result (RefusesRightly (AcceptedRoot R.KIND table.now root.now position.old) (root_arrivals R.KIND table.now root.now position.old) work) }
     ensures leads { IfOk result (IfRefusedVerdict (λ line why. LeadsRoot R.KIND table.now root.now position.old line why)) }
     ensures spent { IfOk result (SpendsRightly (AcceptedRoot R.KIND table.now root.now position.old) (root_arrivals R.KIND table.now root.now position.old) work) }

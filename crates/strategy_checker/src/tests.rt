@@ -1,4 +1,4 @@
-// Verdicts on small tables, worked out by hand, and on the longest one.
+//! Verdicts on small tables, worked out by hand, and on the longest one.
 use crate::{Held, HeldError, MAX_ROOTS, Verdict, Why, check, check_start};
 use foul_judge::Position;
 use row_shapes::{ExactFive, Freestyle, Renju, Rule, RuleKind};

@@ -46,15 +46,17 @@ completed t i = completed_within (suc i) t [] i
 abbrev pub place_in : List ℕ → ℕ → ℕ
 place_in js i = position_or_len (λ j. j == i) js
 
--- the same rest, reply and node, with the number f j for each node j that is named
+-- the same rest, with the number f j in place of the node j that it names
 abbrev pub renumbered_rest : (ℕ → ℕ) → Rest → Rest
 renumbered_rest f Wins = Wins
 renumbered_rest f (To j) = To (f j)
 renumbered_rest f Nothing = Nothing
 
+-- the same reply, with the number f j in place of the node j that answers it
 abbrev pub renumbered_reply : (ℕ → ℕ) → Reply → Reply
 renumbered_reply f r = record { at = r.at; next = f r.next }
 
+-- the same node, with the number f j in place of each node j that it names
 abbrev pub renumbered_node : (ℕ → ℕ) → Node → Node
 renumbered_node f n = record { attack = n.attack; replies = map (renumbered_reply f) n.replies; rest = renumbered_rest f n.rest }
 

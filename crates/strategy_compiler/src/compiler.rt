@@ -1,4 +1,4 @@
-// The compiler: a set of nodes in the order in which they were put in.
+//! The compiler: a set of nodes in the order in which they were put in.
 #![tactic(auto)]
 
 ghost use Rattle.std.specs.Prelude.{◌≡◌, ◌↔◌, ◌<◌, ◌≤◌, [], true, ℕ, List, map, All, Contains, length, slice_get, Some, IfOk, OnOk, OnErr, IsErr, IsErrOf};

@@ -1,4 +1,4 @@
-// The table of some nodes in a given order: each number that a node names becomes its place in that order.
+//! The table of some nodes in a given order: each number that a node names becomes its place in that order.
 #![tactic(auto)]
 
 ghost use Rattle.std.specs.Prelude.{◌≡◌, ◌<◌, ◌≤◌, ◌++◌, ◌∷◌, [], ℕ, true, nat_lt, map, length, slice_get, slice_index, Some, All, IfOk, OnOk};

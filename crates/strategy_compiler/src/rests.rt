@@ -1,4 +1,4 @@
-// The rest of a node: which of the given answers it stands for, and which are listed beside it.
+//! The rest of a node: which of the given answers it stands for, and which are listed beside it.
 #![tactic(auto)]
 
 ghost use Rattle.std.specs.Prelude.{◌≡◌, ◌==◌, count_by, IfOk};

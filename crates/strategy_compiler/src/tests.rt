@@ -1,4 +1,4 @@
-// Examples of a compiler: the table of a win by four in two moves, ties, what is left out, and a chain of a million nodes.
+//! Examples of a compiler: the table of a win by four in two moves, ties, what is left out, and a chain of a million nodes.
 #![tactic(auto)]
 
 ghost use Rattle.std.specs.Prelude.{◌↔◌, ◌<◌, length, All, IsTrue};

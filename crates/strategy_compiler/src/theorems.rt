@@ -1,4 +1,4 @@
-// The laws of trees and of walks, each as the contract of a function that computes nothing.
+//! The laws of trees and of walks, each as the contract of a function that computes nothing.
 #![tactic(auto)]
 
 ghost use Rattle.strategy_compiler.specs.Trees.{GrowthKeepsTrees};

@@ -1,6 +1,6 @@
-// The order in which a walk completes nodes. The way from the root down to where the walk is stands in a list, so that no
-// recursion goes as deep as the chain of nodes: each node of it names the next, and the last is completed once no node
-// that it names is left.
+//! The order in which a walk completes nodes. The way from the root down to where the walk is stands in a list, so that no
+//! recursion goes as deep as the chain of nodes: each node of it names the next, and the last is completed once no node
+//! that it names is left.
 #![tactic(auto)]
 
 ghost use Rattle.std.specs.Prelude.{◌≡◌, ◌<◌, ◌≤◌, true, false, not, map, length, find, slice_index_or, All, IfOk};

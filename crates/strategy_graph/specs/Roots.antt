@@ -1,6 +1,7 @@
 -- The two kinds of root of a table, a node and a start, taken together.
 use Rattle.std.specs.Prelude.{ℕ, Bool, nat_lt, List}
 use Rattle.game_rules.specs.Grid.{Grid}
+use Rattle.game_rules.specs.Games.{WinsWithin, WinsAfter}
 use Rattle.game_rules.specs.declared.RuleKind.{RuleKind}
 use Rattle.strategy_graph.specs.declared.Node.{Node}
 use Rattle.strategy_graph.specs.declared.roots.Root.{Root}
@@ -28,3 +29,9 @@ AcceptedRoot rule t (Defend a) b = AcceptedStart rule t a b
 abbrev pub root_arrivals : RuleKind → List Node → Root → Grid → ℕ
 root_arrivals rule t (Attack i) b = arrivals rule t i b
 root_arrivals rule t (Defend a) b = start_arrivals rule t a b
+
+-- what the root claims of the board: the side to move wins within so many moves, or, where the opponent moves first, the
+-- other side wins so after each move there
+abbrev pub RootWins : RuleKind → Root → ℕ → Grid → Type 0
+RootWins rule (Attack i) moves b = WinsWithin rule moves b
+RootWins rule (Defend a) moves b = WinsAfter rule moves b

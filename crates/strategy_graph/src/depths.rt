@@ -1,5 +1,5 @@
-// Depths of nodes. Each node names only lower ones, so the depths are counted in the order of the nodes, and no node
-// asks for a depth that is not known yet.
+//! Depths of nodes. Each node names only lower ones, so the depths are counted in the order of the nodes, and no node
+//! asks for a depth that is not known yet.
 #![tactic(auto)]
 
 ghost use Rattle.std.specs.Prelude.{◌≡◌, ◌≤◌, ◌<◌, ◌+◌, true, ℕ, map, length, slice_index, IfOk, EachIndex};

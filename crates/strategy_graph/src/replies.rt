@@ -1,4 +1,4 @@
-// A list of replies, each with the number of the node that answers it. Contracts see it as that list.
+//! A list of replies, each with the number of the node that answers it. Contracts see it as that list.
 #![tactic(auto)]
 
 ghost use Rattle.std.specs.Prelude.{◌≡◌, ◌↔◌, ◌<◌, ◌&&◌, nat_lt, [], ◌∷◌, ◌++◌, length, slice_get, Some, OnOk, OnErr, IsTrue};

@@ -1,4 +1,4 @@
-// Where a table is entered: at a node, whose attack is played, or at a start, where the opponent moves first.
+//! Where a table is entered: at a node, whose attack is played, or at a start, where the opponent moves first.
 #![tactic(auto)]
 
 ghost use Rattle.std.specs.Prelude.{◌≡◌};

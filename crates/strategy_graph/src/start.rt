@@ -1,4 +1,4 @@
-// A start: what answers the first move of the opponent.
+//! A start: what answers the first move of the opponent.
 #![tactic(auto)]
 
 ghost use Rattle.std.specs.Prelude.{◌≡◌, true, false};

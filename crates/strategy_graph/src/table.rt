@@ -1,4 +1,4 @@
-// A table: nodes that name only lower ones.
+//! A table: nodes that name only lower ones.
 #![tactic(auto)]
 
 ghost use Rattle.std.specs.Prelude.{◌≡◌, ◌↔◌, ◌<◌, ◌++◌, [], ◌∷◌, IsTrue, true, false, List, length, slice_get, Some, IfOk, IfSome, OnOk, OnErr, IsErrOf};

@@ -1,4 +1,4 @@
-// What tables, replies and starts answer on small examples, and a table of the greatest length.
+//! What tables, replies and starts answer on small examples, and a table of the greatest length.
 ghost use Rattle.std.specs.Prelude.{◌≡◌, [], IfOk};
 
 use crate::{MAX_NODES, Node, PushError, Replies, Reply, Rest, Root, Start, Table};

@@ -1,4 +1,4 @@
-// The laws of tables, each as the contract of a function that computes nothing.
+//! The laws of tables, each as the contract of a function that computes nothing.
 #![tactic(auto)]
 
 ghost use Rattle.strategy_graph.specs.Laws.{NodesGoByNode, AcceptedWins, AcceptedStartWins, GamesEndWell, GrowthKeeps, GrowthKeepsStart, FaultsRefute, FaultsRefuteStart};

@@ -32,7 +32,8 @@ block_wins rule n c (One w) = wins_by_fours rule n (after c w)
 -- a four move starts a win by fours exactly where its fate says so
 abbrev pub BlockDecides : Type 0
 BlockDecides =
-    (rule : RuleKind) (n : ℕ) (b : Grid) (p : Point) → IsPosition rule b → is_four_move rule b p ≡ true → starts_win (has_five rule) rule b (wins_by_fours rule n) p ≡ block_wins rule n (after b p) (fate rule (after b p))
+    (rule : RuleKind) (n : ℕ) (b : Grid) (p : Point) → IsPosition rule b → is_four_move rule b p ≡ true
+    → starts_win (has_five rule) rule b (wins_by_fours rule n) p ≡ block_wins rule n (after b p) (fate rule (after b p))
 
 -- what a reply q at c that goes on leaves the attacker, by the fate of its four: a five point where the four has won, and
 -- where there is one block also a five point, unless q is that block
@@ -42,7 +43,9 @@ LeavesFive rule c q Won = has_five rule (after c q) (mover (after c q)) ≡ true
 LeavesFive rule c q (Draw w) = Unit {0}
 LeavesFive rule c q (One w) = q ≢ w → has_five rule (after c q) (mover (after c q)) ≡ true
 
--- each reply to a four but its one block leaves the attacker a five point
+-- after a four that has won, each reply that goes on leaves the attacker a five point, and after one whose one block goes on
+-- each other reply does
 abbrev pub OthersLeaveFive : Type 0
 OthersLeaveFive =
-    (rule : RuleKind) (b : Grid) (p q : Point) → IsPosition rule b → is_four_move rule b p ≡ true → outcome rule (after b p) q ≡ GoesOn → LeavesFive rule (after b p) q (fate rule (after b p))
+    (rule : RuleKind) (b : Grid) (p q : Point) → IsPosition rule b → is_four_move rule b p ≡ true
+    → outcome rule (after b p) q ≡ GoesOn → LeavesFive rule (after b p) q (fate rule (after b p))

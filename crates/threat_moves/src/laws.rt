@@ -11,7 +11,8 @@ pub fn block_decides()
     ensures block { BlockDecides }
 {}
 
-/// Each reply to a four that goes on leaves the attacker a five point, but its one block.
+/// After a four that has won, each reply that goes on leaves the attacker a five point; after one whose one block goes on,
+/// each other reply that goes on does.
 pub fn others_leave_five()
     ensures five { OthersLeaveFive }
 {}

@@ -7,6 +7,7 @@ returns g c =
       accepted = c.in_ok-verdict.ensures.accepted;
       moves = c.in_ok-verdict.ensures.moves;
       arrivals = c.in_ok-verdict.ensures.arrivals;
+      wins = c.in_ok-verdict.ensures.wins;
       leads = c.in_ok-verdict.ensures.leads;
       spent = c.in_ok-verdict.ensures.spent;
     } in
