@@ -6,3 +6,4 @@ pub mod Checks
 pub mod Fouls
 pub mod Fours
 pub mod Reports
+pub mod Completeness
