@@ -1,2 +1,3 @@
 mod ThreePlaces
-mod Lawfulness
+-- a board is lawful exactly where nothing is said against it: for the layers above
+pub mod Lawfulness

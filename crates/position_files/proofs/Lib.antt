@@ -18,3 +18,5 @@ mod BodyBad
 mod TableTexts
 mod TableBad
 mod Growth
+-- a text is that of one value, and is not refused where the value is lawful: for the layers above
+pub mod ReadBack

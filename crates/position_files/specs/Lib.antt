@@ -6,3 +6,4 @@ pub mod Faults
 pub mod Answers
 pub mod Bodies
 pub mod Sections
+pub mod ReadBack

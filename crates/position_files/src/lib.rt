@@ -16,6 +16,7 @@ mod positions;
 mod tables;
 #[cfg(test)]
 mod tests;
+mod theorems;
 mod words;
 mod writers;
 mod written;
@@ -26,6 +27,7 @@ pub use positions::read_position;
 use stone_board::Board;
 use strategy_graph::{Root, Table};
 pub use tables::read_table;
+pub use theorems::{positions_read_back, tables_read_back};
 pub use words::wide_number;
 pub use writers::{write_position, write_table};
 

@@ -3,3 +3,4 @@ mod Verdicts
 mod Inputs
 mod Wins
 mod FourTables
+mod Complete

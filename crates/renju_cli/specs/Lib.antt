@@ -5,3 +5,4 @@ pub mod Checks
 pub mod Fouls
 pub mod Fours
 pub mod Reports
+pub mod Completeness

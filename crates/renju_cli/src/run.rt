@@ -8,6 +8,7 @@ ghost use Rattle.renju_io.specs.Faults.{HasRisen};
 ghost use Rattle.renju_cli.specs.Statuses.{status_number};
 ghost use Rattle.renju_cli.specs.Words.{HasForm, IsInRange};
 ghost use Rattle.renju_cli.specs.Reports.{IsDue, IsDelivered, Report, ShowsWin, CommandIsDue, CommandSays};
+ghost use Rattle.renju_cli.specs.Completeness.{IsComplete};
 
 use crate::answer::Answer;
 use crate::check::check_text;
@@ -52,6 +53,9 @@ pub fn run_renju<I: Source, O: Sink, F: Shelf>(
         (record { written_before = O.written output.old; written_after = O.written output.new; faults_before = O.faults output.old; faults_after = O.faults output.new }) result }
     // What status 0 of `check` shows.
     ensures won { result ≡ 0 → ShowsWin (map string_bytes words.now) (I.left input.old) }
+    // A command with a lawful input, enough work and devices without a fault answers, unless memory runs out.
+    ensures complete { IsComplete (map string_bytes words.now) (I.left input.old) (I.faults input.old) (I.faults input.new)
+        (record { written_before = O.written output.old; written_after = O.written output.new; faults_before = O.faults output.old; faults_after = O.faults output.new }) result }
 {
     run(alloc, words, input, output)
 }

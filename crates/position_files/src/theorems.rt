@@ -1,0 +1,19 @@
+//! The laws of reading back, each as the contract of a function that computes nothing.
+//!
+//! What `write_position` and `write_table` write is the text of their value, and what `read_position` and `read_table`
+//! answer of a text is its value or a fault that is said of it. So these laws leave no other answer than that value, or
+//! that there is no memory.
+#![tactic(auto)]
+
+ghost use Rattle.position_files.specs.ReadBack.{PositionsReadBack, TablesReadBack};
+
+/// The text of a lawful position is read back as that position: it is the text of no other, and it is not refused.
+pub fn positions_read_back()
+    ensures same { PositionsReadBack }
+{}
+
+/// The text of a table at a lawful position, whose moves are the depth of its root, is read back as that table: it is the
+/// text of no other, and it is not refused.
+pub fn tables_read_back()
+    ensures same { TablesReadBack }
+{}
