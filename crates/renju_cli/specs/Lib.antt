@@ -1,4 +1,5 @@
 pub mod Texts
+pub mod Devices
 pub mod Statuses
 pub mod Words
 pub mod Checks

@@ -4,11 +4,13 @@
 #![tactic(auto)]
 
 ghost use Rattle.std.specs.Prelude.{◌≡◌, map, string_bytes, IfOk, Err};
-ghost use Rattle.renju_io.specs.Faults.{HasRisen};
+ghost use Rattle.renju_io.specs.Faults.{HasRisen, HasNotFallen};
+ghost use Rattle.renju_io.specs.Told.{GivesSome};
 ghost use Rattle.renju_cli.specs.Statuses.{status_number};
 ghost use Rattle.renju_cli.specs.Words.{HasForm, IsInRange};
 ghost use Rattle.renju_cli.specs.Reports.{IsDue, IsDelivered, Report, ShowsWin, CommandIsDue, CommandSays};
 ghost use Rattle.renju_cli.specs.Completeness.{IsComplete};
+ghost use Rattle.renju_cli.specs.Devices.{IsReadFor, IsUnasked};
 
 use crate::answer::Answer;
 use crate::check::check_text;
@@ -39,7 +41,8 @@ impl From<AllocError> for Stop {
 /// Does all that the program does: reads the words after the program's name, and where they ask for it the input and
 /// the shelf, writes to the output, and answers the status to exit with.
 ///
-/// The status and the text that are due are those of `Status` and of the commands. Words without a form get the usage line
+/// Words without a form leave the input unasked, and no command that is built asks the shelf. The status and the text that
+/// are due are those of `Status` and of the commands. Words without a form get the usage line
 /// and status 1. A failing output gives status 8 in place of the status that was due, and the output then has the front of
 /// the text; want of memory gives 6 and a failing input 7, and then nothing is written.
 pub fn run_renju<I: Source, O: Sink, F: Shelf>(
@@ -47,7 +50,7 @@ pub fn run_renju<I: Source, O: Sink, F: Shelf>(
     words: &[String],
     input: &mut I,
     output: &mut O,
-    _shelf: &mut F,
+    shelf: &mut F,
 ) -> u8
     ensures report { Report (map string_bytes words.now) (I.left input.old) (I.faults input.old) (I.faults input.new)
         (record { written_before = O.written output.old; written_after = O.written output.new; faults_before = O.faults output.old; faults_after = O.faults output.new }) result }
@@ -56,7 +59,14 @@ pub fn run_renju<I: Source, O: Sink, F: Shelf>(
     // A command with a lawful input, enough work and devices without a fault answers, unless memory runs out.
     ensures complete { IsComplete (map string_bytes words.now) (I.left input.old) (I.faults input.old) (I.faults input.new)
         (record { written_before = O.written output.old; written_after = O.written output.new; faults_before = O.faults output.old; faults_after = O.faults output.new }) result }
+    // What is left of the devices.
+    ensures input { IsReadFor (map string_bytes words.now)
+        (record { left_before = I.left input.old; left_after = I.left input.new; faults_before = I.faults input.old; faults_after = I.faults input.new }) }
+    ensures output { HasNotFallen (O.faults output.old) (O.faults output.new) }
+    ensures shelf { F.files shelf.new ≡ F.files shelf.old }
+    ensures shelf_faults { F.faults shelf.new ≡ F.faults shelf.old }
 {
+    let _ = shelf;
     run(alloc, words, input, output)
 }
 
@@ -64,6 +74,9 @@ pub fn run_renju<I: Source, O: Sink, F: Shelf>(
 fn run<I: Source, O: Sink>(alloc: Global, words: &[String], input: &mut I, output: &mut O) -> u8
     ensures report { Report (map string_bytes words.now) (I.left input.old) (I.faults input.old) (I.faults input.new)
         (record { written_before = O.written output.old; written_after = O.written output.new; faults_before = O.faults output.old; faults_after = O.faults output.new }) result }
+    ensures input { IsReadFor (map string_bytes words.now)
+        (record { left_before = I.left input.old; left_after = I.left input.new; faults_before = I.faults input.old; faults_after = I.faults input.new }) }
+    ensures output { HasNotFallen (O.faults output.old) (O.faults output.new) }
 {
     match answer(alloc, words, input) {
         Ok(answer) => deliver(answer, output).number(),
@@ -77,6 +90,8 @@ fn answer<I: Source>(alloc: Global, words: &[String], input: &mut I) -> Result<A
     ensures due { IfOk result (λ answer. IsDue (map string_bytes words.now) (I.left input.old) answer.status answer.text.items) }
     ensures failed { result ≡ Err Stop.ReadFault → HasRisen (I.faults input.old) (I.faults input.new) }
     ensures form { result ≡ Err Stop.ReadFault → HasForm (map string_bytes words.now) }
+    ensures input { IsReadFor (map string_bytes words.now)
+        (record { left_before = I.left input.old; left_after = I.left input.new; faults_before = I.faults input.old; faults_after = I.faults input.new }) }
 {
     match form_of(words) {
         None => Ok(Answer::told(Status::Usage, String::from_str(alloc, texts::USAGE)?)),
@@ -89,6 +104,8 @@ fn answer_form<I: Source>(alloc: Global, form: Form, input: &mut I) -> Result<An
     requires in_range { IsInRange form }
     ensures due { IfOk result (λ answer. CommandIsDue form (I.left input.old) answer.status answer.text.items) }
     ensures failed { result ≡ Err Stop.ReadFault → HasRisen (I.faults input.old) (I.faults input.new) }
+    ensures taken { GivesSome (I.left input.old) (I.left input.new) }
+    ensures counted { HasNotFallen (I.faults input.old) (I.faults input.new) }
 {
     match read_all(alloc, input) {
         Ok(bytes) => Ok(answer_input(alloc, form, bytes.as_slice())?),
@@ -119,6 +136,7 @@ fn answer_input(alloc: Global, form: Form, bytes: &[u8]) -> Result<Answer, Alloc
 fn deliver<O: Sink>(answer: Answer, output: &mut O) -> Status
     ensures delivered { IsDelivered answer.status (answer.text.items)
         (record { written_before = O.written output.old; written_after = O.written output.new; faults_before = O.faults output.old; faults_after = O.faults output.new }) (status_number result) }
+    ensures counted { HasNotFallen (O.faults output.old) (O.faults output.new) }
 {
     match write_text(output, answer.text.as_slice()) {
         Ok(()) => answer.status,
