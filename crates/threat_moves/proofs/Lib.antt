@@ -3,3 +3,4 @@ pub mod FourLaws
 pub mod OtherSide
 pub mod Distinct
 pub mod BlockLaw
+mod ShortLists
