@@ -3,4 +3,5 @@ pub mod FourLaws
 pub mod OtherSide
 pub mod Distinct
 pub mod BlockLaw
-mod ShortLists
+pub mod ShortLists
+pub mod NewFives

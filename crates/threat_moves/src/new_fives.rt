@@ -6,7 +6,7 @@
 #![tactic(auto)]
 
 ghost use Rattle.std.specs.Prelude.{◌≡◌, ◌<◌, false, IsTrue, Some};
-ghost use Rattle.game_rules.specs.Grid.{is_on, is_empty};
+ghost use Rattle.game_rules.specs.Grid.{IsBoard, is_on, is_empty};
 ghost use Rattle.game_rules.specs.Play.{mover, after};
 ghost use Rattle.game_rules.specs.Games.{five_points, has_five};
 ghost use Rattle.stone_board.specs.Steps.{opposite, stones_towards as stones_towards_lem};
@@ -126,6 +126,7 @@ fn joins_to_win<R: Rule>(
     requires on { IsTrue (is_on board.now q) }
     requires bound { length < 128 }
     ensures wins { result ≡ joins_to_win_lem R.KIND board.now side axis way q length }
+    ensures board { IsBoard board.now }
 {
     board.is_empty(q) && R::wins(side, 1 + length + board.stones_towards(way, side, axis, q))
 }
