@@ -5,3 +5,4 @@ pub mod Distinct
 pub mod BlockLaw
 pub mod ShortLists
 pub mod NewFives
+pub mod FiveLaws

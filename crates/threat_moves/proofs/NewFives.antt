@@ -5,6 +5,7 @@ use Rattle.std.specs.List.{list_any}
 use Rattle.std.proofs.lemmas.Bool.{cases_lt}
 use Rattle.game_rules.specs.Grid.{Grid, IsBoard, is_on, is_empty, holds, put, along, axes}
 use Rattle.game_rules.specs.Shapes.{row_wins, stone_at, stones_ahead, stones_behind, run_of, wins_on, five}
+use Rattle.game_rules.specs.Play.{mover, after}
 use Rattle.game_rules.specs.Games.{has_five, five_points}
 use Rattle.game_rules.specs.declared.RuleKind.{RuleKind}
 use Rattle.game_rules.specs.declared.Side.{Side}
@@ -18,10 +19,10 @@ use Rattle.game_rules.proofs.Lines.{ahead-bounded, behind-bounded}
 use Rattle.game_rules.proofs.Runs.{Leads, ahead_leads, behind_leads, ahead_is, behind_is}
 use Rattle.stone_board.specs.declared.board.Way.{Way}
 use Rattle.stone_board.specs.declared.board.Way.TheVariants.{Ahead, Behind}
-use Rattle.stone_board.specs.Steps.{kept_on, towards, opposite, stones_towards}
+use Rattle.stone_board.specs.Steps.{towards, opposite, stones_towards}
 use Rattle.row_shapes.proofs.Ways.{go, go-then, go-same, go-zero, go-towards, go-opposite, go-apart, else_at, leads, leads_is, leads_back_is, run_before_end}
 use Rattle.threat_moves.specs.declared.new_fives.FivePoints.{FivePoints}
-use Rattle.threat_moves.specs.declared.new_fives.FivePoints.TheVariants.{None as NoPoint, One, Several}
+use Rattle.threat_moves.specs.declared.new_fives.FivePoints.TheVariants.{None as NoPoint}
 use Rattle.threat_moves.specs.NewFives.{in_short}
 use Rattle.threat_moves.specs.FiveEnds.{kept_five, end_five, joins_to_win, with_more, with_axis, end_fives}
 use Rattle.threat_moves.proofs.OtherSide.{same_or_apart, empty_holds, is_empty-put, five-empty}
@@ -207,20 +208,20 @@ module _ (b : Grid) (s : Side) (p : Point) (ok : IsBoard b) (empty : is_empty b 
         ∙ ap (λ k. go (opposite v) d p (1 + k) 0) as_far
         ∙ go-opposite v d p (1 + (e - 1)) 0
         ∙ last where
-      from : (k x y : ℕ) → e + y ≡ x + k → go v d p 0 k ≡ go v d q x y
-      from k x y h = go-then v d q p e 0 0 k there ∙ go-same v d q (e + 0) (0 + k) x y (omega arith)
+          from : (k x y : ℕ) → e + y ≡ x + k → go v d p 0 k ≡ go v d q x y
+          from k x y h = go-then v d q p e 0 0 k there ∙ go-same v d q (e + 0) (0 + k) x y (omega arith)
 
-      last : go v d p 0 (1 + (e - 1)) ≡ Some q
-      last = from (1 + (e - 1)) 0 0 (omega arith) ∙ go-zero v d q
+          last : go v d p 0 (1 + (e - 1)) ≡ Some q
+          last = from (1 + (e - 1)) 0 0 (omega arith) ∙ go-zero v d q
 
-      as_far : near (opposite v) d ≡ e - 1
-      as_far = leads_back_is b s d p on_p v (e - 1) (record {
-        holds = λ j l h.
-            ap (stone_at b s) (from j (e - j) 0 (omega arith))
-            ∙ sym (else_at b s v d q p e 0 (e - j) 0 on_p there (λ same. absurd (omega arith)))
-            ∙ (leads (put b s p) s d q on_q v).holds (e - j) (omega arith) (omega arith);
-        stops = ap (stone_at b s) last ∙ none;
-      })
+          as_far : near (opposite v) d ≡ e - 1
+          as_far = leads_back_is b s d p on_p v (e - 1) (record {
+            holds = λ j l h.
+                ap (stone_at b s) (from j (e - j) 0 (omega arith))
+                ∙ sym (else_at b s v d q p e 0 (e - j) 0 on_p there (λ same. absurd (omega arith)))
+                ∙ (leads (put b s p) s d q on_q v).holds (e - j) (omega arith) (omega arith);
+            stops = ap (stone_at b s) last ∙ none;
+          })
 
     -- where it is in neither, q is as before
     old_wins : (rule : RuleKind) → is_empty b q ≡ true → Misses (λ k. along d q k 0) p (stones_ahead (put b s p) s d q) → Misses (λ k. along d q 0 k) p (stones_behind (put b s p) s d q) → wins_on rule (put b s p) s d q ≡ true → wins_on rule b s d q ≡ true
@@ -253,10 +254,10 @@ module _ (b : Grid) (s : Side) (p : Point) (ok : IsBoard b) (empty : is_empty b 
         omega (arith, less, wide, high)
 
   -- the end as the code finds it, by the numbers of stones that it counts
-  pub end_by : (rule : RuleKind) (w : Way) (d : Axis) (q : Point) (n f : ℕ) → n ≡ near w d → f ≡ near (opposite w) d → towards w d p (1 + n) ≡ Some q → (r : Bool) → joins_to_win rule b s d w q (1 + n + f) ≡ r → end_five rule b s d p w ≡ cond r (Some q) None
-  end_by rule w d q n f e g end r h =
-      end_is w d q (ap (λ k. towards w d p (1 + k)) (sym e) ∙ end) rule r
-      (ap (λ k. joins_to_win rule b s d w q (1 + k + near (opposite w) d)) (sym e) ∙ ap (λ k. joins_to_win rule b s d w q (1 + n + k)) (sym g) ∙ h)
+  pub end_by : (rule : RuleKind) (w : Way) (d : Axis) (q : Point) (n f : ℕ) → n ≡ near w d → f ≡ near (opposite w) d → towards w d p (1 + n) ≡ Some q → (t r : Bool) → t ≡ joins_to_win rule b s d w q (1 + n + f) → t ≡ r → cond r (Some q) None ≡ end_five rule b s d p w
+  end_by rule w d q n f e g end t r h k = sym
+      (end_is w d q (ap (λ k. towards w d p (1 + k)) (sym e) ∙ end) rule r
+      (ap (λ k. joins_to_win rule b s d w q (1 + k + near (opposite w) d)) (sym e) ∙ ap (λ k. joins_to_win rule b s d w q (1 + n + k)) (sym g) ∙ sym h ∙ k))
 
   -- ---- the side had no five point
 
@@ -344,3 +345,20 @@ module _ (b : Grid) (s : Side) (p : Point) (ok : IsBoard b) (empty : is_empty b 
     pub ends_short : end_fives rule b s p ≡ in_short (five_points rule (put b s p) s)
     ends_short = tells-short (put b s p) (five rule (put b s p) s) (λ q h. is_empty-on (put b s p) q (five-empty rule (put b s p) s q h)) (end_fives rule b s p)
         (tells-map AllEnds (λ q. five rule (put b s p) s q ≡ true) (end_fives rule b s p) all-five five-all tells-ends)
+
+-- ---- as the code tells them
+
+told_axes : (rule : RuleKind) (b : Grid) (s : Side) (p : Point) (row column down up : FivePoints) → row ≡ with_axis rule b s p NoPoint Row → column ≡ with_axis rule b s p row Column → down ≡ with_axis rule b s p column Down → up ≡ with_axis rule b s p down Up → up ≡ end_fives rule b s p
+told_axes rule b s p row column down up e f g h =
+    h
+    ∙ ap (λ (t : FivePoints). with_axis rule b s p t Up) (g
+    ∙ ap (λ (t : FivePoints). with_axis rule b s p t Down) (f
+    ∙ ap (λ (t : FivePoints). with_axis rule b s p t Column) e))
+
+-- for the side to move of the board b, which the code sees as c, and the side as s
+pub told_by : (rule : RuleKind) (b : Grid) (p : Point) → IsBoard b → is_empty b p ≡ true → has_five rule b (mover b) ≡ false → (c : Grid) (s : Side) → c ≡ b → s ≡ mover b → (row column down up : FivePoints) → row ≡ with_axis rule c s p NoPoint Row → column ≡ with_axis rule c s p row Column → down ≡ with_axis rule c s p column Down → up ≡ with_axis rule c s p down Up → up ≡ in_short (five_points rule (after b p) (mover b))
+told_by rule b p ok empty none c s here side row column down up e f g h =
+    told_axes rule c s p row column down up e f g h
+    ∙ ap (λ (w : Grid). end_fives rule w s p) here
+    ∙ ap (λ (t : Side). end_fives rule b t p) side
+    ∙ ends_short b (mover b) p ok empty rule none

@@ -1,10 +1,7 @@
-use Rattle.std.proofs.Common.{◌≡◌, ◌++◌, List, [], ◌∷◌}
-use Rattle.std.specs.Prelude.{Option, Some, None}
+use Rattle.std.proofs.Common.{◌≡◌, ◌++◌}
 use Rattle.std.specs.List.{filter}
 use Rattle.game_rules.specs.Shapes.{five}
 use Rattle.game_rules.specs.Games.{five_points}
-use Rattle.game_rules.specs.declared.Point.{Point}
-use Rattle.threat_moves.specs.NewFives.{in_short}
 use Rattle.threat_moves.proofs.ShortLists.{listed}
 use Rattle.threat_moves.proofs.new_fives.fives_in_short.Given as goal
 

@@ -1,4 +1,4 @@
-use Rattle.std.proofs.Common.{◌<◌, arith}
+use Rattle.std.proofs.Common.{arith}
 use Rattle.stone_board.specs.declared.board.Way.TheVariants.{Ahead, Behind}
 use Rattle.threat_moves.proofs.NewFives.{few}
 use Rattle.threat_moves.proofs.new_fives.with_axis.Goals as goal
