@@ -4,7 +4,7 @@ use Rattle.std.specs.Prelude.{Option, Some, None}
 use Rattle.std.specs.List.{list_any, find, sum_by}
 use Rattle.std.proofs.lemmas.Bool.Decides.{nat_tests}
 use Rattle.std.proofs.lemmas.List.Sums.{sum_by-cons}
-use Rattle.game_rules.specs.Grid.{Grid, points_of}
+use Rattle.game_rules.specs.Grid.{Grid, is_empty, points_of}
 use Rattle.game_rules.specs.Shapes.{five, is_at, is_same_point}
 use Rattle.game_rules.specs.Play.{IsPosition, outcome, mover, after}
 use Rattle.game_rules.specs.Games.{has_five, wins_or, starts_win, wins_under, wins_by_fours, four_move}
@@ -12,6 +12,7 @@ use Rattle.game_rules.specs.declared.RuleKind.{RuleKind}
 use Rattle.game_rules.specs.declared.Outcome.{Outcome}
 use Rattle.game_rules.specs.declared.Outcome.TheVariants.{Refused, Wins, Fouls, Draws, GoesOn}
 use Rattle.game_rules.specs.declared.Point.{Point}
+use Rattle.game_rules.proofs.Points.{taken_refused}
 use Rattle.threat_moves.specs.FourMoves.{goes_on_with, is_four_move}
 use Rattle.threat_moves.specs.declared.block.BlockAnswer.{BlockAnswer}
 use Rattle.threat_moves.specs.declared.block.BlockAnswer.TheVariants.{Lost, Won, Draw, One}
@@ -21,9 +22,21 @@ use Rattle.threat_moves.proofs.BlockLaw.{block_decides, no-reply-wins, five-wins
 use Rattle.four_search.specs.declared.search.Found.{Found}
 use Rattle.four_search.specs.declared.search.Found.TheVariants.{Win, NoWin, Spent}
 use Rattle.four_search.specs.FourGame.{until, tried, if_one, behind_move, four_tree}
-use Rattle.four_search.specs.Searching.{found_by, line_behind, line_from, four_line, positions_behind, found_at, found_behind}
+use Rattle.four_search.specs.Searching.{found_by, line_behind, line_from, four_line, positions_behind, found_at, found_behind, found_trying, found_answering}
 
 -- ---- one after another
+
+-- what is no four move gives nothing
+pub trying-no_four : (rule : RuleKind) (n : ℕ) (b : Grid) (p : Point) (left : ℕ) → is_four_move rule b p ≡ false → found_trying rule n b p left ≡ NoWin left
+trying-no_four rule n b p left h = ap (λ r. cond r (found_behind rule n b p left) (NoWin left)) h
+
+-- a four move gives what is behind it
+pub trying-four : (rule : RuleKind) (n : ℕ) (b : Grid) (p : Point) (left : ℕ) → is_four_move rule b p ≡ true → found_trying rule n b p left ≡ found_behind rule n b p left
+trying-four rule n b p left h = ap (λ r. cond r (found_behind rule n b p left) (NoWin left)) h
+
+pub taken-no_four : (rule : RuleKind) (b : Grid) (p : Point) → is_empty b p ≡ false → is_four_move rule b p ≡ false
+unfolding is_four_move
+taken-no_four rule b p h = ap (λ o. goes_on_with o (has_five rule (after b p) (mover b))) (taken_refused rule b p h)
 
 -- what is found next, with the budget that is left
 abbrev pub found_next : Found → (ℕ → Found) → Found
@@ -31,46 +44,34 @@ found_next (Win left line) next = Win left line
 found_next (NoWin left) next = next left
 found_next Spent next = Spent
 
--- what is found at the move p, if it is a four move
-abbrev pub try_one : RuleKind → ℕ → Grid → ℕ → Point → Found
-try_one rule n b left p = cond (is_four_move rule b p) (found_behind rule n b p left) (NoWin left)
-
 -- what is found at the first of these moves that ends the search
 unfoldable pub try_all : RuleKind → ℕ → Grid → ℕ → List Point → Found
 try_all rule n b left [] = NoWin left
-try_all rule n b left (p ∷ ps) = found_next (try_one rule n b left p) (λ l. try_all rule n b l ps)
+try_all rule n b left (p ∷ ps) = found_next (found_trying rule n b p left) (λ l. try_all rule n b l ps)
 
 pub try_all-none : (rule : RuleKind) (n : ℕ) (b : Grid) (left : ℕ) → try_all rule n b left [] ≡ NoWin left
 unfolding try_all
 try_all-none rule n b left = refl
 
-pub try_all-skip : (rule : RuleKind) (n : ℕ) (b : Grid) (left : ℕ) (p : Point) (ps : List Point) → is_four_move rule b p ≡ false → try_all rule n b left (p ∷ ps) ≡ try_all rule n b left ps
-unfolding try_all
-try_all-skip rule n b left p ps h = ap (λ r. found_next (cond r (found_behind rule n b p left) (NoWin left)) (λ l. try_all rule n b l ps)) h
-
-pub try_all-four : (rule : RuleKind) (n : ℕ) (b : Grid) (left : ℕ) (p : Point) (ps : List Point) (f : Found) → is_four_move rule b p ≡ true → f ≡ found_behind rule n b p left → try_all rule n b left (p ∷ ps) ≡ found_next f (λ l. try_all rule n b l ps)
-unfolding try_all
-try_all-four rule n b left p ps f h e =
-    ap (λ r. found_next (cond r (found_behind rule n b p left) (NoWin left)) (λ l. try_all rule n b l ps)) h
-    ∙ ap (λ f. found_next f (λ l. try_all rule n b l ps)) (sym e)
-
 -- ---- one step, at a board that is the one tried
 
 module _ (rule : RuleKind) (n : ℕ) (b : Grid) (left : ℕ) (p : Point) (ps qs : List Point) (left_are : ps ≡ p ∷ qs) where
-  pub step-skip : is_four_move rule b p ≡ false → try_all rule n b left ps ≡ try_all rule n b left qs
-  step-skip h = ap (try_all rule n b left) left_are ∙ try_all-skip rule n b left p qs h
+  step_at : (f : Found) → found_trying rule n b p left ≡ f → try_all rule n b left ps ≡ found_next f (λ l. try_all rule n b l qs)
+  unfolding try_all
+  step_at f e = ap (try_all rule n b left) left_are ∙ ap (λ f. found_next f (λ l. try_all rule n b l qs)) e
 
-  module _ (f : Found) (four : is_four_move rule b p ≡ true) (found : f ≡ found_behind rule n b p left) where
-    step-four : try_all rule n b left ps ≡ found_next f (λ l. try_all rule n b l qs)
-    step-four = ap (try_all rule n b left) left_are ∙ try_all-four rule n b left p qs f four found
+  -- a point that is taken is no move
+  pub step-taken : is_empty b p ≡ false → try_all rule n b left ps ≡ try_all rule n b left qs
+  step-taken h = step_at (NoWin left) (trying-no_four rule n b p left (taken-no_four rule b p h))
 
+  module _ (f : Found) (found : f ≡ found_trying rule n b p left) where
     -- no win behind the move
     pub step-goes_on : (rest : ℕ) → f ≡ NoWin rest → try_all rule n b left ps ≡ try_all rule n b rest qs
-    step-goes_on rest h = step-four ∙ ap (λ f. found_next f (λ l. try_all rule n b l qs)) h
+    step-goes_on rest h = step_at (NoWin rest) (sym found ∙ h)
 
     -- the search ends at the move
     pub step-ends : ((rest : ℕ) → f ≡ NoWin rest → ⊥) → try_all rule n b left ps ≡ f
-    step-ends h = step-four ∙ ends f h where
+    step-ends h = step_at f (sym found) ∙ ends f h where
       ends : (f : Found) → ((rest : ℕ) → f ≡ NoWin rest → ⊥) → found_next f (λ l. try_all rule n b l qs) ≡ f
       ends (Win l line) h = refl
       ends (NoWin l) h = absurd (h l refl)
@@ -126,7 +127,7 @@ lose_by GoesOn false a no_win h = refl
 
 module _ (rule : RuleKind) (n : ℕ) (b : Grid) (lawful : IsPosition rule b) (none : has_five rule b (mover b) ≡ false) where
   -- whether the move starts a win
-  abbrev test : Point → Bool
+  abbrev pub test : Point → Bool
   test p = starts_win (has_five rule) rule b (wins_by_fours rule n) p
 
   -- the positions behind the move
@@ -296,88 +297,81 @@ found-nothing rule moves budget b e =
     let short : nat_le (four_tree rule moves b) budget ≡ false = grind (arith, nat_tests) in
     rw short refl
 
--- ---- behind a four, by its fate
+-- ---- after a four, by its fate
 
-module _ (rule : RuleKind) (b : Grid) (p : Point) (budget : ℕ) where
-  whole : (line : List Point) → Win budget line ≡ found_by budget 0 true line
-  whole line =
+module _ (rule : RuleKind) (c : Grid) (budget : ℕ) where
+  whole : Win budget [] ≡ found_by budget 0 true []
+  whole =
       let e : nat_le 0 budget ≡ true = grind (arith, nat_tests) in
       let m : budget ≡ budget - 0 = omega arith in
-      ap (λ x. Win x line) m ∙ ap (λ r. cond r (Win (budget - 0) line) Spent) (sym e)
+      ap (λ x. Win x []) m ∙ ap (λ r. cond r (Win (budget - 0) []) Spent) (sym e)
 
   positions : ℕ → BlockAnswer → ℕ
   positions zero a = 0
-  positions (suc n) a = if_one (four_tree rule (suc n)) (after b p) a
+  positions (suc n) a = if_one (four_tree rule (suc n)) c a
 
   found_as : ℕ → BlockAnswer → Found
-  found_as n a = found_by budget (positions n a) (block_wins rule n (after b p) a) (line_behind (four_line rule n) (after b p) a ++ p ∷ [])
+  found_as n a = found_by budget (positions n a) (block_wins rule n c a) (line_behind (four_line rule n) c a)
 
-  by_answer : (n : ℕ) (a : BlockAnswer) → a ≡ fate rule (after b p) → found_as n a ≡ found_behind rule n b p budget
+  by_answer : (n : ℕ) (a : BlockAnswer) → a ≡ fate rule c → found_as n a ≡ found_answering rule n c budget
   unfolding found_as positions
   by_answer zero a e = ap (found_as zero) e
   by_answer (suc n) a e = ap (found_as (suc n)) e
 
-  pub behind-lost : (n : ℕ) → Lost ≡ fate rule (after b p) → NoWin budget ≡ found_behind rule n b p budget
+  pub answering-lost : (n : ℕ) → Lost ≡ fate rule c → NoWin budget ≡ found_answering rule n c budget
   unfolding found_as positions
-  behind-lost zero e = no_win budget (p ∷ []) ∙ by_answer zero Lost e
-  behind-lost (suc n) e = no_win budget (p ∷ []) ∙ by_answer (suc n) Lost e
+  answering-lost zero e = no_win budget [] ∙ by_answer zero Lost e
+  answering-lost (suc n) e = no_win budget [] ∙ by_answer (suc n) Lost e
 
-  pub behind-draw : (n : ℕ) (w : Point) → Draw w ≡ fate rule (after b p) → NoWin budget ≡ found_behind rule n b p budget
+  pub answering-draw : (n : ℕ) (w : Point) → Draw w ≡ fate rule c → NoWin budget ≡ found_answering rule n c budget
   unfolding found_as positions
-  behind-draw zero w e = no_win budget (p ∷ []) ∙ by_answer zero (Draw w) e
-  behind-draw (suc n) w e = no_win budget (p ∷ []) ∙ by_answer (suc n) (Draw w) e
+  answering-draw zero w e = no_win budget [] ∙ by_answer zero (Draw w) e
+  answering-draw (suc n) w e = no_win budget [] ∙ by_answer (suc n) (Draw w) e
 
-  pub behind-won : (n : ℕ) → Won ≡ fate rule (after b p) → won_within rule n (after b p) ≡ true → Win budget (p ∷ []) ≡ found_behind rule n b p budget
+  pub answering-won : (n : ℕ) → Won ≡ fate rule c → won_within rule n c ≡ true → Win budget [] ≡ found_answering rule n c budget
   unfolding found_as positions
-  behind-won zero e h = whole (p ∷ []) ∙ ap (λ w. found_by budget 0 w (p ∷ [])) (sym h) ∙ by_answer zero Won e
-  behind-won (suc n) e h = whole (p ∷ []) ∙ by_answer (suc n) Won e
+  answering-won zero e h = whole ∙ ap (λ w. found_by budget 0 w []) (sym h) ∙ by_answer zero Won e
+  answering-won (suc n) e h = whole ∙ by_answer (suc n) Won e
 
-  pub behind-not : (n : ℕ) → Won ≡ fate rule (after b p) → won_within rule n (after b p) ≡ false → NoWin budget ≡ found_behind rule n b p budget
+  pub answering-not : (n : ℕ) → Won ≡ fate rule c → won_within rule n c ≡ false → NoWin budget ≡ found_answering rule n c budget
   unfolding found_as positions
-  behind-not zero e h = no_win budget (p ∷ []) ∙ ap (λ w. found_by budget 0 w (p ∷ [])) (sym h) ∙ by_answer zero Won e
-  behind-not (suc n) e h = cc
+  answering-not zero e h = no_win budget [] ∙ ap (λ w. found_by budget 0 w []) (sym h) ∙ by_answer zero Won e
+  answering-not (suc n) e h = cc
 
-  pub behind-no-more : (n : ℕ) (w : Point) → n ≡ 0 → One w ≡ fate rule (after b p) → NoWin budget ≡ found_behind rule n b p budget
+  pub answering-no-more : (n : ℕ) (w : Point) → n ≡ 0 → One w ≡ fate rule c → NoWin budget ≡ found_answering rule n c budget
   unfolding found_as positions wins_under four_line
-  behind-no-more zero w z e = no_win budget (p ∷ []) ∙ by_answer zero (One w) e
-  behind-no-more (suc n) w z e = absurd (omega arith)
+  answering-no-more zero w z e = no_win budget [] ∙ by_answer zero (One w) e
+  answering-no-more (suc n) w z e = absurd (omega arith)
 
-  longer : (t left : ℕ) (wins : Bool) (l line : List Point) → Win left line ≡ found_by budget t wins l → Win left (line ++ p ∷ []) ≡ found_by budget t wins (l ++ p ∷ [])
-  longer t left wins l line h = by_test (nat_le t budget) wins h where
-    by_test : (r w : Bool) → Win left line ≡ cond r (cond w (Win (budget - t) l) (NoWin (budget - t))) Spent → Win left (line ++ p ∷ []) ≡ cond r (cond w (Win (budget - t) (l ++ p ∷ [])) (NoWin (budget - t))) Spent
-    by_test true true h =
-        let x : left ≡ budget - t = cc in
-        let y : line ≡ l = cc in
-        rw (x, y) refl
-    by_test true false h = cc
-    by_test false w h = cc
+  pub answering-one : (n : ℕ) (w : Point) → 0 < n → One w ≡ fate rule c → found_at rule n (after c w) budget ≡ found_answering rule n c budget
+  unfolding found_as positions
+  answering-one zero w some e = absurd (omega arith)
+  answering-one (suc n) w some e = by_answer (suc n) (One w) e
 
-  no_longer : (t left : ℕ) (wins : Bool) (l m : List Point) → NoWin left ≡ found_by budget t wins l → NoWin left ≡ found_by budget t wins m
-  no_longer t left wins l m h = by_test (nat_le t budget) wins h where
-    by_test : (r w : Bool) → NoWin left ≡ cond r (cond w (Win (budget - t) l) (NoWin (budget - t))) Spent → NoWin left ≡ cond r (cond w (Win (budget - t) m) (NoWin (budget - t))) Spent
-    by_test true true h = cc
-    by_test true false h = h
-    by_test false w h = cc
+-- ---- behind a four: what is after it, with the four at the end of the line
 
-  spent_too : (t : ℕ) (wins : Bool) (l m : List Point) → Spent ≡ found_by budget t wins l → Spent ≡ found_by budget t wins m
-  spent_too t wins l m h = by_test (nat_le t budget) wins h where
-    by_test : (r w : Bool) → Spent ≡ cond r (cond w (Win (budget - t) l) (NoWin (budget - t))) Spent → Spent ≡ cond r (cond w (Win (budget - t) m) (NoWin (budget - t))) Spent
-    by_test true true h = cc
-    by_test true false h = cc
-    by_test false w h = refl
-
+module _ (rule : RuleKind) (n : ℕ) (b : Grid) (p : Point) (budget : ℕ) where
   -- the same found, with p at the end of the line
   abbrev pub with_move : Found → Found
   with_move (Win left line) = Win left (line ++ p ∷ [])
   with_move (NoWin left) = NoWin left
   with_move Spent = Spent
 
-  behind-by : (n : ℕ) (w : Point) (f : Found) → f ≡ found_at rule (suc n) (after (after b p) w) budget → with_move f ≡ found_as (suc n) (One w)
-  unfolding found_as positions
-  behind-by n w (Win left line) h = longer _ left _ _ line h
-  behind-by n w (NoWin left) h = no_longer _ left _ _ _ h
-  behind-by n w Spent h = spent_too _ _ _ _ h
+  moves_by : (t : ℕ) (line : List Point) (r w : Bool) → with_move (cond r (cond w (Win (budget - t) line) (NoWin (budget - t))) Spent) ≡ cond r (cond w (Win (budget - t) (line ++ p ∷ [])) (NoWin (budget - t))) Spent
+  moves_by t line true true = refl
+  moves_by t line true false = refl
+  moves_by t line false w = refl
 
-  pub behind-one : (n : ℕ) (w : Point) (f : Found) → 0 < n → One w ≡ fate rule (after b p) → f ≡ found_at rule n (after (after b p) w) budget → with_move f ≡ found_behind rule n b p budget
-  behind-one zero w f some e h = absurd (omega arith)
-  behind-one (suc n) w f some e h = behind-by n w f h ∙ by_answer (suc n) (One w) e
+  behind-moves : with_move (found_answering rule n (after b p) budget) ≡ found_behind rule n b p budget
+  behind-moves = moves_by (positions_behind rule n (after b p)) (line_behind (four_line rule n) (after b p) (fate rule (after b p))) (nat_le (positions_behind rule n (after b p)) budget) (block_wins rule n (after b p) (fate rule (after b p)))
+
+  pub behind-win : (left : ℕ) (line : List Point) → Win left line ≡ found_answering rule n (after b p) budget → Win left (line ++ p ∷ []) ≡ found_behind rule n b p budget
+  behind-win left line e = ap with_move e ∙ behind-moves
+
+  pub behind-no_win : (left : ℕ) → NoWin left ≡ found_answering rule n (after b p) budget → NoWin left ≡ found_behind rule n b p budget
+  behind-no_win left e = ap with_move e ∙ behind-moves
+
+  pub behind-else : (f : Found) → ((left : ℕ) (line : List Point) → f ≡ Win left line → ⊥) → f ≡ found_answering rule n (after b p) budget → f ≡ found_behind rule n b p budget
+  behind-else (Win left line) h e = absurd (h left line refl)
+  behind-else (NoWin left) h e = ap with_move e ∙ behind-moves
+  behind-else Spent h e = ap with_move e ∙ behind-moves

@@ -8,6 +8,7 @@ use Rattle.game_rules.specs.declared.Point.{Point}
 use Rattle.threat_moves.specs.declared.block.BlockAnswer.{BlockAnswer}
 use Rattle.threat_moves.specs.declared.block.BlockAnswer.TheVariants.{Lost, Won, Draw, One}
 use Rattle.threat_moves.specs.Blocks.{fate}
+use Rattle.threat_moves.specs.FourMoves.{is_four_move}
 use Rattle.threat_moves.specs.OneBlock.{block_wins}
 use Rattle.four_search.specs.declared.search.Found.{Found}
 use Rattle.four_search.specs.declared.search.Found.TheVariants.{Win, NoWin, Spent}
@@ -50,3 +51,12 @@ abbrev pub found_behind : RuleKind → ℕ → Grid → Point → ℕ → Found
 found_behind rule n b p budget =
     found_by budget (positions_behind rule n (after b p)) (block_wins rule n (after b p) (fate rule (after b p)))
     (line_from rule b (four_line rule n) (Some p))
+
+-- what is found at the move p: what is behind it where it is a four move, and else no win
+abbrev pub found_trying : RuleKind → ℕ → Grid → Point → ℕ → Found
+found_trying rule n b p budget = if is_four_move rule b p then found_behind rule n b p budget else NoWin budget
+
+-- what is found after a four at c where the attacker has n more moves; the line is that after the four
+abbrev pub found_answering : RuleKind → ℕ → Grid → ℕ → Found
+found_answering rule n c budget =
+    found_by budget (positions_behind rule n c) (block_wins rule n c (fate rule c)) (line_behind (four_line rule n) c (fate rule c))

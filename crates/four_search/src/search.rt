@@ -2,23 +2,25 @@
 //!
 //! The walk counts each position in which the attacker is to move against the budget, and stops where that is spent. It
 //! tries the fours in reading order and ends at the first that wins, so it knows the chosen move of each position on the
-//! way to the win.
+//! way to the win. Only its first position is scanned for five points: further on they are those that the last two moves
+//! made, and where the defender has one, the only move that may help is to take it.
 #![tactic(auto)]
 
-ghost use Rattle.std.specs.Prelude.{◌≡◌, ◌<◌, ◌≤◌, ◌+◌, [], ◌∷◌, ◌++◌, IfOk, IsTrue, Some};
-ghost use Rattle.game_rules.specs.Play.{after, outcome};
-ghost use Rattle.threat_moves.specs.FourMoves.{is_four_move as is_four_move_lem};
-ghost use Rattle.threat_moves.specs.OneBlock.{all_foul as all_foul_lem, won_within as won_within_lem, block_wins};
-ghost use Rattle.threat_moves.specs.Blocks.{fate};
-ghost use Rattle.four_search.specs.FourGame.{four_tree};
-ghost use Rattle.four_search.specs.Searching.{found_by, found_at, found_behind, line_from, four_line};
-ghost use Rattle.game_rules.specs.Games.{wins_by_fours};
+ghost use Rattle.std.specs.Prelude.{◌≡◌, ◌<◌, ◌≤◌, ◌+◌, [], ◌∷◌, ◌++◌, false, IfOk, IsTrue, Some};
+ghost use Rattle.game_rules.specs.Grid.{is_empty};
+ghost use Rattle.game_rules.specs.Play.{after, outcome, mover, other as other_lem, has_fouls};
+ghost use Rattle.game_rules.specs.Games.{has_five as has_five_lem, five_points};
+ghost use Rattle.threat_moves.specs.FourMoves.{is_four_move};
+ghost use Rattle.threat_moves.specs.OneBlock.{all_foul as all_foul_lem, won_within as won_within_lem};
+ghost use Rattle.threat_moves.specs.Blocks.{fate as fate_lem};
+ghost use Rattle.threat_moves.specs.NewFives.{in_short};
+ghost use Rattle.four_search.specs.Searching.{found_at, found_trying, found_behind, found_answering};
 
 use foul_judge::{Outcome, Seen};
 use row_shapes::Rule;
 use std::alloc::{AllocError, Global};
-use stone_board::{Point, Points};
-use threat_moves::{BlockAnswer, forced, has_five, is_four_move};
+use stone_board::{Point, Points, Side};
+use threat_moves::{BlockAnswer, FivePoints, fives_in_short, fives_made, has_five};
 
 /// What a search within some moves finds, and how much of the budget it leaves.
 #[derive(Drop)]
@@ -34,7 +36,6 @@ pub(crate) enum Found {
 
 /// Searches a win by fours within so many moves, at least 1, with at most `budget` positions. The view is as before, also
 /// where memory ran out.
-#[cycle(search)]
 pub(crate) fn search<R: Rule, V: Seen<R>>(
     alloc: Global,
     view: &mut V,
@@ -48,17 +49,62 @@ pub(crate) fn search<R: Rule, V: Seen<R>>(
     if budget == 0 {
         return Ok(Found::Spent);
     }
-    let mut left = budget - 1;
     let attacker = view.side();
     if has_five::<R, V>(view, attacker) {
         return Ok(Found::Win {
-            left,
+            left: budget - 1,
             line: Points::new(alloc),
         });
     }
+    let threat = fives_in_short::<R, V>(view, other(attacker));
+    search_on::<R, V>(alloc, view, moves, budget, threat)
+}
+
+/// The same where the attacker has no five point, the defender's are known in short, and the budget is not spent. A five
+/// point of the defender has to be taken.
+#[cycle(search)]
+fn search_on<R: Rule, V: Seen<R>>(
+    alloc: Global,
+    view: &mut V,
+    moves: u32,
+    budget: u64,
+    threat: FivePoints,
+) -> Result<Found, AllocError>
+    requires some { 0 < moves }
+    requires some_budget { 0 < budget }
+    requires none { has_five_lem R.KIND (V.position view.old) (mover (V.position view.old)) ≡ false }
+    requires threat { threat ≡ in_short (five_points R.KIND (V.position view.old) (other_lem (mover (V.position view.old)))) }
+    ensures found { IfOk result (λ found. found ≡ found_at R.KIND moves (V.position view.old) budget) }
+    ensures same { V.position view.new ≡ V.position view.old }
+{
+    view.side();
+    match threat {
+        FivePoints::Several => Ok(Found::NoWin { left: budget - 1 }),
+        FivePoints::One(point) => try_point::<R, V>(alloc, view, point, moves - 1, budget - 1),
+        FivePoints::None => try_each::<R, V>(alloc, view, moves, budget),
+    }
+}
+
+/// The same where neither side has a five point: each empty point is tried.
+#[cycle(search)]
+fn try_each<R: Rule, V: Seen<R>>(
+    alloc: Global,
+    view: &mut V,
+    moves: u32,
+    budget: u64,
+) -> Result<Found, AllocError>
+    requires some { 0 < moves }
+    requires some_budget { 0 < budget }
+    requires none { has_five_lem R.KIND (V.position view.old) (mover (V.position view.old)) ≡ false }
+    requires safe { has_five_lem R.KIND (V.position view.old) (other_lem (mover (V.position view.old))) ≡ false }
+    ensures found { IfOk result (λ found. found ≡ found_at R.KIND moves (V.position view.old) budget) }
+    ensures same { V.position view.new ≡ V.position view.old }
+{
+    view.side();
+    let mut left = budget - 1;
     for p in view.board().points() {
-        if is_four_move::<R, V>(view, p) {
-            match behind::<R, V>(alloc, view, p, moves - 1, left)? {
+        if view.board().is_empty(p) {
+            match try_point::<R, V>(alloc, view, p, moves - 1, left)? {
                 Found::NoWin { left: rest } => left = rest,
                 found => return Ok(found),
             }
@@ -67,24 +113,81 @@ pub(crate) fn search<R: Rule, V: Seen<R>>(
     Ok(Found::NoWin { left })
 }
 
-/// Searches behind the four move `p`, where the attacker has so many more moves.
+/// Searches behind the move `p`, if it is a four move, where the attacker has so many moves after it. The attacker has no
+/// five point before it, and the defender none after it.
 #[cycle(search)]
-fn behind<R: Rule, V: Seen<R>>(
+fn try_point<R: Rule, V: Seen<R>>(
     alloc: Global,
     view: &mut V,
     p: Point,
     moves: u32,
     budget: u64,
 ) -> Result<Found, AllocError>
-    requires four { IsTrue (is_four_move_lem R.KIND (V.position view.old) p) }
+    requires empty { IsTrue (is_empty (V.position view.old) p) }
+    requires none { has_five_lem R.KIND (V.position view.old) (mover (V.position view.old)) ≡ false }
+    requires safe { has_five_lem R.KIND (after (V.position view.old) p) (other_lem (mover (V.position view.old))) ≡ false }
+    ensures found { IfOk result (λ found. found ≡ found_trying R.KIND moves (V.position view.old) p budget) }
+    ensures same { V.position view.new ≡ V.position view.old }
+{
+    let made = fives_made::<R, V>(view, p);
+    if let FivePoints::None = made {
+        return Ok(Found::NoWin { left: budget });
+    }
+    match view.outcome(p) {
+        Outcome::GoesOn => behind::<R, V>(alloc, view, p, made, moves, budget),
+        _ => Ok(Found::NoWin { left: budget }),
+    }
+}
+
+/// Searches behind the four move `p`, which makes these five points, where the attacker has so many more moves.
+#[cycle(search)]
+fn behind<R: Rule, V: Seen<R>>(
+    alloc: Global,
+    view: &mut V,
+    p: Point,
+    made: FivePoints,
+    moves: u32,
+    budget: u64,
+) -> Result<Found, AllocError>
+    requires goes_on { outcome R.KIND (V.position view.old) p ≡ Outcome.GoesOn }
+    requires made { made ≡ in_short (five_points R.KIND (after (V.position view.old) p) (mover (V.position view.old))) }
+    requires safe { has_five_lem R.KIND (after (V.position view.old) p) (other_lem (mover (V.position view.old))) ≡ false }
     ensures found { IfOk result (λ found. found ≡ found_behind R.KIND moves (V.position view.old) p budget) }
     ensures same { V.position view.new ≡ V.position view.old }
 {
-    match forced::<R, V>(alloc, view, p)? {
+    view.side();
+    view.play(p);
+    let found = answering::<R, V>(alloc, view, made, moves, budget);
+    view.undo(p);
+    match found? {
+        Found::Win { left, line } => win_by(p, line, left),
+        found => Ok(found),
+    }
+}
+
+/// Searches after a four, where the attacker has so many more moves: the defender is to move and has no five point, and the
+/// attacker has these.
+#[cycle(search)]
+fn answering<R: Rule, V: Seen<R>>(
+    alloc: Global,
+    view: &mut V,
+    made: FivePoints,
+    moves: u32,
+    budget: u64,
+) -> Result<Found, AllocError>
+    requires made { made ≡ in_short (five_points R.KIND (V.position view.old) (other_lem (mover (V.position view.old)))) }
+    requires safe { has_five_lem R.KIND (V.position view.old) (mover (V.position view.old)) ≡ false }
+    ensures found { IfOk result (λ found. found ≡ found_answering R.KIND moves (V.position view.old) budget) }
+    ensures same { V.position view.new ≡ V.position view.old }
+{
+    match fate::<R, V>(view, made) {
         BlockAnswer::Lost | BlockAnswer::Draw(_) => Ok(Found::NoWin { left: budget }),
         BlockAnswer::Won => {
-            if won_within::<R, V>(view, p, moves) {
-                win_by(p, Points::new(alloc), budget)
+            if won_within::<R, V>(view, moves) {
+                Ok(Found::Win {
+                    left: budget,
+                    line: Points::new(alloc),
+                })
             } else {
                 Ok(Found::NoWin { left: budget })
             }
@@ -93,39 +196,60 @@ fn behind<R: Rule, V: Seen<R>>(
             if moves == 0 {
                 Ok(Found::NoWin { left: budget })
             } else {
-                match after_block::<R, V>(alloc, view, p, block, moves, budget)? {
-                    Found::Win { left, line } => win_by(p, line, left),
-                    found => Ok(found),
-                }
+                after_block::<R, V>(alloc, view, block, moves, budget)
             }
         }
     }
 }
 
-/// Searches the position after the four move `p` and its one block, which goes on.
+/// Searches after the one block of a four, which goes on. A last move can win only where the defender may foul.
 #[cycle(search)]
 fn after_block<R: Rule, V: Seen<R>>(
     alloc: Global,
     view: &mut V,
-    p: Point,
     block: Point,
     moves: u32,
     budget: u64,
 ) -> Result<Found, AllocError>
-    requires four { outcome R.KIND (V.position view.old) p ≡ Outcome.GoesOn }
-    requires block { outcome R.KIND (after (V.position view.old) p) block ≡ Outcome.GoesOn }
+    requires goes_on { outcome R.KIND (V.position view.old) block ≡ Outcome.GoesOn }
+    requires one { in_short (five_points R.KIND (V.position view.old) (other_lem (mover (V.position view.old)))) ≡ FivePoints.One block }
+    requires safe { has_five_lem R.KIND (V.position view.old) (mover (V.position view.old)) ≡ false }
     requires some { 0 < moves }
-    ensures found { IfOk result (λ found. found ≡ found_at R.KIND moves (after (after (V.position view.old) p) block) budget) }
+    ensures found { IfOk result (λ found. found ≡ found_at R.KIND moves (after (V.position view.old) block) budget) }
     ensures same { V.position view.new ≡ V.position view.old }
 {
-    view.side();
-    view.play(p);
-    view.side();
+    if budget == 0 {
+        return Ok(Found::Spent);
+    }
+    let defender = view.side();
+    if moves == 1 && !may_foul::<R>(defender) {
+        return Ok(Found::NoWin { left: budget - 1 });
+    }
+    let threat = fives_made::<R, V>(view, block);
     view.play(block);
-    let found = search::<R, V>(alloc, view, moves, budget);
+    let found = search_on::<R, V>(alloc, view, moves, budget, threat);
     view.undo(block);
-    view.undo(p);
     found
+}
+
+/// What becomes of a four where the defender is to move and has no five point, and the attacker has these.
+#[tactic(auto, unfolding(threat_moves::specs::Blocks::fate))]
+fn fate<R: Rule, V: Seen<R>>(view: &mut V, made: FivePoints) -> BlockAnswer
+    requires made { made ≡ in_short (five_points R.KIND (V.position view.old) (other_lem (mover (V.position view.old)))) }
+    requires safe { has_five_lem R.KIND (V.position view.old) (mover (V.position view.old)) ≡ false }
+    ensures fate { result ≡ fate_lem R.KIND (V.position view.old) }
+    ensures same { V.position view.new ≡ V.position view.old }
+{
+    match made {
+        FivePoints::None => BlockAnswer::Lost,
+        FivePoints::Several => BlockAnswer::Won,
+        FivePoints::One(block) => match view.outcome(block) {
+            Outcome::Refused | Outcome::Wins => BlockAnswer::Lost,
+            Outcome::Fouls(_) => BlockAnswer::Won,
+            Outcome::Draws => BlockAnswer::Draw(block),
+            Outcome::GoesOn => BlockAnswer::One(block),
+        },
+    }
 }
 
 /// A win that begins with `p`, where the line goes on after it.
@@ -137,21 +261,13 @@ fn win_by(p: Point, line: Points, left: u64) -> Result<Found, AllocError>
     Ok(Found::Win { left, line })
 }
 
-/// Whether the four move `p`, which has won, wins where the attacker has so many more moves: with none left each reply has to
-/// foul. The view is as before.
-fn won_within<R: Rule, V: Seen<R>>(view: &mut V, p: Point, moves: u32) -> bool
-    requires four { IsTrue (is_four_move_lem R.KIND (V.position view.old) p) }
-    ensures won { result ≡ won_within_lem R.KIND moves (after (V.position view.old) p) }
+/// Whether a four that has won wins where the attacker has so many more moves: with none left each reply has to foul. The
+/// view is as before.
+fn won_within<R: Rule, V: Seen<R>>(view: &mut V, moves: u32) -> bool
+    ensures won { result ≡ won_within_lem R.KIND moves (V.position view.old) }
     ensures same { V.position view.new ≡ V.position view.old }
 {
-    if moves > 0 {
-        return true;
-    }
-    view.side();
-    view.play(p);
-    let won = all_foul::<R, V>(view);
-    view.undo(p);
-    won
+    moves > 0 || all_foul::<R, V>(view)
 }
 
 /// Whether each reply is no move or fouls. The view is as before.
@@ -166,4 +282,24 @@ fn all_foul<R: Rule, V: Seen<R>>(view: &mut V) -> bool
         }
     }
     true
+}
+
+/// Whether the side has fouls.
+fn may_foul<R: Rule>(side: Side) -> bool
+    ensures fouls { result ≡ has_fouls R.KIND side }
+{
+    match side {
+        Side::Black => R::BLACK_FOULS,
+        Side::White => false,
+    }
+}
+
+/// The other side.
+fn other(side: Side) -> Side
+    ensures other { result ≡ other_lem side }
+{
+    match side {
+        Side::Black => Side::White,
+        Side::White => Side::Black,
+    }
 }

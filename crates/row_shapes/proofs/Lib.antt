@@ -1,4 +1,4 @@
 mod Finds
 mod Counting
-mod Ways
+pub mod Ways
 pub mod ThreePoints

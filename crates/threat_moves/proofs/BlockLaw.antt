@@ -101,7 +101,7 @@ no-wins rule b = refl
 
 -- ---- lists of passing points
 
-filter-passes : (f : Point → Bool) (ps : List Point) → list_all f (filter f ps) ≡ true
+pub filter-passes : (f : Point → Bool) (ps : List Point) → list_all f (filter f ps) ≡ true
 filter-passes f [] = refl
 filter-passes f (p ∷ ps) = by_test (f p) refl (filter-passes f ps) where
   by_test : (r : Bool) → f p ≡ r → list_all f (filter f ps) ≡ true → list_all f (cond r (p ∷ filter f ps) (filter f ps)) ≡ true

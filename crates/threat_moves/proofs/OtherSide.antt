@@ -34,7 +34,7 @@ not_stone : (s : Side) → is_stone_of (other s) (stone_of s) ≡ false
 not_stone Black = refl
 not_stone White = refl
 
-empty_holds : (b : Grid) (t : Side) (p : Point) → is_empty b p ≡ true → holds b t p ≡ false
+pub empty_holds : (b : Grid) (t : Side) (p : Point) → is_empty b p ≡ true → holds b t p ≡ false
 empty_holds b t p empty =
     let e : cell_at b p ≡ Empty = is_empty-cell (cell_at b p) (and_right (is_on b p) _ empty) in
     rw (is_empty-on b p empty, e) refl

@@ -1,3 +1,5 @@
 pub mod FourMoves
 pub mod Blocks
 pub mod OneBlock
+pub mod NewFives
+pub mod FiveEnds

@@ -36,7 +36,7 @@ pub fn has_five<R: Rule, V: Seen<R>>(view: &V, side: Side) -> bool
 }
 
 /// Whether the point is a five point of the side.
-fn is_five<R: Rule, V: Seen<R>>(view: &V, side: Side, p: Point) -> bool
+pub(crate) fn is_five<R: Rule, V: Seen<R>>(view: &V, side: Side, p: Point) -> bool
     ensures five { result ≡ five R.KIND (V.position view.now) side p }
 {
     view.board().is_empty(p) && view.five(side, p)

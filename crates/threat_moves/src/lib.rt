@@ -9,6 +9,7 @@ mod block;
 mod five_points;
 mod laws;
 mod moves;
+mod new_fives;
 #[cfg(test)]
 mod tests;
 
@@ -16,3 +17,4 @@ pub use block::{BlockAnswer, forced};
 pub use five_points::{fives, has_five};
 pub use laws::{block_decides, others_leave_five};
 pub use moves::{four_moves, is_four_move};
+pub use new_fives::{FivePoints, fives_in_short, fives_made};
