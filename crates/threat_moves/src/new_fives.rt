@@ -71,8 +71,8 @@ fn with_axis<R: Rule>(
     requires empty { IsTrue (is_empty board.now p) }
     ensures fives { result ≡ with_axis_lem R.KIND board.now side p found axis }
 {
-    let ahead = board.stones_towards(Way::Ahead, side, axis, p);
-    let behind = board.stones_towards(Way::Behind, side, axis, p);
+    let ahead = stones_beside(board, side, axis, p, Way::Ahead);
+    let behind = stones_beside(board, side, axis, p, Way::Behind);
     let found = with_more(
         found,
         end_five::<R>(board, side, axis, p, Way::Ahead, ahead, behind),
@@ -81,6 +81,15 @@ fn with_axis<R: Rule>(
         found,
         end_five::<R>(board, side, axis, p, Way::Behind, behind, ahead),
     )
+}
+
+/// How many stones of the side stand next to the empty point in that way.
+fn stones_beside(board: &Board, side: Side, axis: Axis, p: Point, way: Way) -> u32
+    requires empty { IsTrue (is_empty board.now p) }
+    ensures stones { result ≡ stones_towards_lem way board.now side axis p }
+    ensures bound { result < 64 }
+{
+    board.stones_towards(way, side, axis, p)
 }
 
 /// The end in that way of the run of a new stone on `p`, if a further stone there wins on the axis. `near` stones stand
