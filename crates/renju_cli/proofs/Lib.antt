@@ -4,3 +4,4 @@ mod Inputs
 mod Wins
 mod FourTables
 mod Complete
+mod Denials

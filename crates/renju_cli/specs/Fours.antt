@@ -1,6 +1,6 @@
 -- What `fours` says of its input.
-use Rattle.std.specs.Prelude.{◌≡◌, ◌≢◌, ℕ, ◌*◌, ◌≤◌, ◌<◌, false, List, Some}
-use Rattle.game_rules.specs.Games.{wins_by_fours}
+use Rattle.std.specs.Prelude.{◌≡◌, ◌≢◌, ℕ, ◌*◌, ◌≤◌, ◌<◌, List, Some}
+use Rattle.game_rules.specs.Games.{WinsByFours}
 use Rattle.strategy_graph.specs.declared.Node.{Node}
 use Rattle.strategy_graph.specs.declared.roots.Root.TheVariants.{Attack}
 use Rattle.strategy_graph.specs.Tables.{depth}
@@ -44,7 +44,7 @@ IsFourText limit file text =
 abbrev pub SearchSays : ℕ → ℕ → PositionFile → Status → List ℕ → Type 0
 SearchSays limit nodes file Done text = (four_cost file.kind limit file.board ≤ nodes) × IsFourText limit file text
 SearchSays limit nodes file NotFound text =
-    (four_cost file.kind limit file.board ≤ nodes) × (wins_by_fours file.kind limit file.board ≡ false) × (text ≡ none_line)
+    (four_cost file.kind limit file.board ≤ nodes) × (WinsByFours file.kind limit file.board → ⊥) × (text ≡ none_line)
 SearchSays limit nodes file Spent text = (nodes < four_cost file.kind limit file.board) × (text ≡ spent_line)
 SearchSays limit nodes file _ text = ⊥
 
