@@ -1,7 +1,7 @@
 -- Moves that need not be tried: where the defender has a five point, and at the last move.
-use Rattle.std.proofs.Common.{◌≡◌, ◌⊎◌, inl, inr, ℕ, zero, suc, ◌-◌, ◌<◌, Bool, true, false, cond, refl, sym, ap, subst, ◌∙◌, arith, List, [], ◌∷◌, nat_le, nat_eq}
-use Rattle.std.specs.Prelude.{Option, None as NoFoul}
-use Rattle.std.specs.List.{list_any, list_all, filter}
+use Rattle.std.proofs.Common.{◌≡◌, ℕ, zero, ◌-◌, ◌<◌, Bool, true, false, cond, refl, sym, ap, subst, ◌∙◌, arith, List, [], ◌∷◌, nat_le, nat_eq}
+use Rattle.std.specs.Prelude.{None as NoFoul}
+use Rattle.std.specs.List.{list_all, filter}
 use Rattle.std.proofs.lemmas.Bool.Decides.{nat_tests}
 use Rattle.game_rules.specs.Grid.{Grid, is_on, is_empty, empties_of, points_of}
 use Rattle.game_rules.specs.Shapes.{five, is_same_point}
@@ -9,7 +9,6 @@ use Rattle.game_rules.specs.Play.{IsPosition, outcome, outcome_by, foul_of, has_
 use Rattle.game_rules.specs.Games.{has_five, five_points, loses_or, starts_win, wins_under, wins_by_fours}
 use Rattle.game_rules.specs.declared.RuleKind.{RuleKind}
 use Rattle.game_rules.specs.declared.Side.{Side}
-use Rattle.game_rules.specs.declared.Foul.{Foul}
 use Rattle.game_rules.specs.declared.Outcome.{Outcome}
 use Rattle.game_rules.specs.declared.Outcome.TheVariants.{Refused, Wins, Fouls, Draws, GoesOn}
 use Rattle.game_rules.specs.declared.Point.{Point}
@@ -18,7 +17,7 @@ use Rattle.game_rules.proofs.Positions.{IsPosition-after, GoesOn-empty}
 use Rattle.game_rules.proofs.Points.{points-found, any_witness, none_of, all_at}
 use Rattle.threat_moves.specs.declared.block.BlockAnswer.{BlockAnswer}
 use Rattle.threat_moves.specs.declared.block.BlockAnswer.TheVariants.{Lost, Won, Draw, One}
-use Rattle.threat_moves.specs.Blocks.{by_fives, fate}
+use Rattle.threat_moves.specs.Blocks.{fate}
 use Rattle.threat_moves.specs.FourMoves.{goes_on_with, is_four_move}
 use Rattle.threat_moves.specs.OneBlock.{all_foul, block_wins}
 use Rattle.threat_moves.proofs.FourLaws.{four-goes_on, four-five}

@@ -1,9 +1,9 @@
-use Rattle.std.proofs.Common.{rules, ◌≡◌, ◌+◌, ◌-◌, ◌<◌, true, false, ap, sym, subst, ◌∙◌, arith, IfOk}
+use Rattle.std.proofs.Common.{rules, ◌≡◌, ◌-◌, ◌<◌, true, false, ap, sym, subst, ◌∙◌, arith, IfOk}
 use Rattle.game_rules.specs.Grid.{Grid, is_empty}
 use Rattle.game_rules.specs.Play.{IsPosition, after, mover, other, outcome, has_fouls}
 use Rattle.game_rules.specs.Games.{has_five, five_points}
 use Rattle.game_rules.specs.declared.Outcome.TheVariants.{GoesOn}
-use Rattle.game_rules.proofs.Positions.{IsPosition-after, GoesOn-empty}
+use Rattle.game_rules.proofs.Positions.{GoesOn-empty}
 use Rattle.threat_moves.proofs.Undo.{stone_back, lift_back, unwon_back}
 use Rattle.threat_moves.specs.NewFives.{in_short}
 use Rattle.threat_moves.specs.declared.new_fives.FivePoints.TheVariants.{One}
