@@ -34,7 +34,7 @@ const OPPONENT_FIRST: &str =
 const WIDE_BOARD: &str =
     "renju-table 1\nrule freestyle\nsize 9,5\nblack 0,2 1,2 2,2 3,2\nwhite 0,0 2,0 4,0 6,0\nmoves 1\nnodes 1\n4,2 wins\n";
 
-const EXAMPLES: [Example; 18] = [
+const EXAMPLES: [Example; 21] = [
     Example {
         name: "a table that wins in two",
         words: "check 219",
@@ -83,6 +83,13 @@ const EXAMPLES: [Example; 18] = [
         input: OPPONENT_FIRST,
         status: 0,
         output: "accepted in 1 moves, 219 arrivals\n",
+    },
+    Example {
+        name: "one arrival too few where the opponent moves first",
+        words: "check 218",
+        input: OPPONENT_FIRST,
+        status: 5,
+        output: "spent\n",
     },
     Example {
         name: "a board that is wider than high",
@@ -157,6 +164,20 @@ const EXAMPLES: [Example; 18] = [
     Example {
         name: "no arrivals at all are no form",
         words: "check 0",
+        input: TWO_MOVES,
+        status: 1,
+        output: "usage: renju check WORK, foul, fours DEPTH NODES, threats LENGTH NODES, solve DEPTH NODES, brain [FILE], drill N, image SYMMETRY, referee [FILE], defend DEPTH NODES, bind FILE .., book WORK\n",
+    },
+    Example {
+        name: "a leading zero is no form",
+        words: "check 007",
+        input: TWO_MOVES,
+        status: 1,
+        output: "usage: renju check WORK, foul, fours DEPTH NODES, threats LENGTH NODES, solve DEPTH NODES, brain [FILE], drill N, image SYMMETRY, referee [FILE], defend DEPTH NODES, bind FILE .., book WORK\n",
+    },
+    Example {
+        name: "no words are no form",
+        words: "",
         input: TWO_MOVES,
         status: 1,
         output: "usage: renju check WORK, foul, fours DEPTH NODES, threats LENGTH NODES, solve DEPTH NODES, brain [FILE], drill N, image SYMMETRY, referee [FILE], defend DEPTH NODES, bind FILE .., book WORK\n",

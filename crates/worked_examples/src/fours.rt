@@ -22,7 +22,12 @@ const BLOCK_FOULS: &str =
 const BLOCK_HOLDS: &str =
     "renju-position 1\nrule freestyle\nsize 15\nblack 7,0 7,1 7,2 2,3 7,4 7,5\nwhite 3,3 4,3 5,3 12,14 14,14\n";
 
-const EXAMPLES: [Example; 8] = [
+const BLOCK_GOES_ON: &str =
+    "renju-position 1\nrule exact\nsize 15\nblack 7,0 7,1 7,2 2,3 7,4 7,5\nwhite 3,3 4,3 5,3 12,14 14,14\n";
+
+const NO_STONES: &str = "renju-position 1\nrule freestyle\nsize 15\nblack\nwhite\n";
+
+const EXAMPLES: [Example; 18] = [
     Example {
         name: "a straight four in two moves",
         words: "fours 5 3",
@@ -57,6 +62,76 @@ const EXAMPLES: [Example; 8] = [
         input: BLOCK_HOLDS,
         status: 9,
         output: "none\n",
+    },
+    Example {
+        name: "nothing on an empty board",
+        words: "fours 5 5",
+        input: NO_STONES,
+        status: 9,
+        output: "none\n",
+    },
+    Example {
+        name: "one position too few on an empty board",
+        words: "fours 5 4",
+        input: NO_STONES,
+        status: 5,
+        output: "spent\n",
+    },
+    Example {
+        name: "six in a row win under freestyle",
+        words: "fours 1 1",
+        input: "renju-position 1\nrule freestyle\nsize 15\nblack 2,7 3,7 5,7 6,7 7,7\nwhite 0,0 7,0 14,0 0,14 14,14\n",
+        status: 0,
+        output: "renju-table 1\nrule freestyle\nsize 15\nblack 2,7 3,7 5,7 6,7 7,7\nwhite 0,0 7,0 14,0 0,14 14,14\nmoves 1\nnodes 1\n4,7 wins\n",
+    },
+    Example {
+        name: "six in a row do not win under exact",
+        words: "fours 1 1",
+        input: "renju-position 1\nrule exact\nsize 15\nblack 2,7 3,7 5,7 6,7 7,7\nwhite 0,0 7,0 14,0 0,14 14,14\n",
+        status: 9,
+        output: "none\n",
+    },
+    Example {
+        name: "six of White in a row win under renju",
+        words: "fours 1 1",
+        input: "renju-position 1\nrule renju\nsize 15\nblack 0,0 7,0 14,0 0,4 0,14 14,14\nwhite 2,7 3,7 5,7 6,7 7,7\n",
+        status: 0,
+        output: "renju-table 1\nrule renju\nsize 15\nblack 0,0 7,0 14,0 0,4 0,14 14,14\nwhite 2,7 3,7 5,7 6,7 7,7\nmoves 1\nnodes 1\n4,7 wins\n",
+    },
+    Example {
+        name: "five in the row goes before six in the column",
+        words: "fours 1 1",
+        input: "renju-position 1\nrule renju\nsize 15\nblack 7,4 7,5 7,6 3,7 4,7 5,7 6,7 7,8 7,9\nwhite 0,0 4,0 10,0 14,0 2,7 0,14 4,14 10,14 14,14\n",
+        status: 0,
+        output: "renju-table 1\nrule renju\nsize 15\nblack 7,4 7,5 7,6 3,7 4,7 5,7 6,7 7,8 7,9\nwhite 0,0 4,0 10,0 14,0 2,7 0,14 4,14 10,14 14,14\nmoves 1\nnodes 1\n7,7 wins\n",
+    },
+    Example {
+        name: "one position too few where a block is a foul",
+        words: "fours 5 1",
+        input: BLOCK_FOULS,
+        status: 5,
+        output: "spent\n",
+    },
+    Example {
+        name: "one position too few where no block is a foul",
+        words: "fours 5 8",
+        input: BLOCK_HOLDS,
+        status: 5,
+        output: "spent\n",
+    },
+    Example {
+        name: "six do not win, so the block goes on",
+        words: "fours 5 13",
+        input: BLOCK_GOES_ON,
+        status: 9,
+        output: "none\n",
+    },
+    Example {
+        name: "one position too few where the block goes on",
+        words: "fours 5 12",
+        input: BLOCK_GOES_ON,
+        status: 5,
+        output: "spent\n",
     },
     Example {
         name: "five on a wide board",

@@ -14,3 +14,5 @@ mod fouls;
 mod fours;
 #[cfg(test)]
 mod runs;
+#[cfg(test)]
+mod texts;
