@@ -13,6 +13,7 @@ ghost use Rattle.stone_board.specs.Order.{points_left, first_empty_from as first
 ghost use Rattle.stone_board.specs.Steps.{holds_stone, kept_on, stones_towards as stones_towards_lem, towards as towards_lem};
 
 use crate::ReadingOrder;
+use crate::walks::{goes_on, place_after, steps_left, stride};
 use game_rules::{Axis, Cell, Look, Point, Side};
 use std::alloc::{AllocError, Global};
 use std::marker::Model;
@@ -285,25 +286,17 @@ impl Board {
         ensures bound { result ≤ 64 }
         ensures board { IsBoard self.now }
     {
-        let bound = self.width + self.height;
-        for k in 0..bound {
-            if !self.holds_towards(way, side, axis, p, k + 1) {
+        let start = p.y as usize * self.width as usize + p.x as usize;
+        let on = goes_on(way, axis);
+        let stride = stride(axis, self.width);
+        let most = steps_left(way, axis, self.width, self.height, p);
+        for k in 0..most {
+            let place = place_after(on, start, (k + 1) as usize * stride as usize);
+            if !is_stone_of(side, self.cells[place]) {
                 return u32::from(k);
             }
         }
-        u32::from(bound)
-    }
-
-    /// Whether a stone of the side stands so many steps from the point in one way along the axis.
-    fn holds_towards(&self, way: Way, side: Side, axis: Axis, p: Point, k: u8) -> bool
-        requires on { IsTrue (is_on self.now p) }
-        requires near { k ≤ 64 }
-        ensures holds { result ≡ stone_at self.now side (towards_lem way axis p k) }
-    {
-        match self.step_towards(way, axis, p, k) {
-            None => false,
-            Some(q) => is_stone_of(side, self.cell(q)),
-        }
+        u32::from(most)
     }
 
     /// The point so many steps from the point in one way along the axis, if it is on the board.
