@@ -1,4 +1,4 @@
-// The shapes of rows on small examples.
+//! The shapes of rows on small examples.
 use crate::{
     ExactFive, Freestyle, Renju, Rule, RuleKind, five_at, fours_through, straight_through,
     three_points,
