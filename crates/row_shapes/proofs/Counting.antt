@@ -39,7 +39,7 @@ four_true true true false d h = cc
 four_true true false c d h = cc
 four_true false b c d h = cc
 
-false_by : (r : Bool) → (r ≡ true → ⊥) → r ≡ false
+pub false_by : (r : Bool) → (r ≡ true → ⊥) → r ≡ false
 false_by true h = absurd (h refl)
 false_by false h = refl
 
