@@ -1,2 +1,3 @@
 mod ThreePlaces
+mod MayFoul
 mod Lawfulness

@@ -8,6 +8,7 @@ mod foul;
 mod outcome;
 mod position;
 mod seen;
+mod short_cut;
 #[cfg(test)]
 mod tests;
 
