@@ -6,6 +6,8 @@
 
 mod foul;
 mod outcome;
+#[cfg(test)]
+mod plain;
 mod position;
 mod seen;
 mod short_cut;
