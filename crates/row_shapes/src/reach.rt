@@ -14,6 +14,7 @@ use stone_board::{Axis, Board, Point, Side, Way};
 
 /// How many stones of the side are within reach of a point on the axis: those next to it in both ways, and those past one
 /// empty point in one way, over the better one of the two. What stands on the point itself does not count.
+#[inline(always)]
 pub fn stones_in_reach(board: &Board, side: Side, axis: Axis, p: Point) -> u32
     requires on { IsTrue (is_on board.now p) }
     ensures reach { result ≡ stones_in_reach_lem board.now side axis p }
@@ -28,6 +29,7 @@ pub fn stones_in_reach(board: &Board, side: Side, axis: Axis, p: Point) -> u32
 
 /// How many stones of the side stand in an unbroken row past the point next to the `near` stones in that way, if that
 /// point is on the board and empty.
+#[inline(always)]
 fn stones_past(board: &Board, way: Way, side: Side, axis: Axis, p: Point, near: u8) -> u32
     requires on { IsTrue (is_on board.now p) }
     requires near { near ≤ 64 }
@@ -47,6 +49,7 @@ fn stones_past(board: &Board, way: Way, side: Side, axis: Axis, p: Point, near: 
 }
 
 /// The point next to the `near` points in that way, if it is on the board.
+#[inline(always)]
 fn next_point(board: &Board, way: Way, axis: Axis, p: Point, near: u8) -> Option<Point>
     requires on { IsTrue (is_on board.now p) }
     requires near { near ≤ 64 }

@@ -221,6 +221,7 @@ impl Board {
     }
 
     /// The point `ahead` steps ahead on the axis and `back` steps back again, if it is on the board.
+    #[inline(always)]
     pub fn along(&self, p: Point, axis: Axis, ahead: u8, back: u8) -> Option<Point>
         requires on { IsTrue (is_on self.now p) }
         requires ahead { ahead < 128 }
@@ -280,6 +281,7 @@ impl Board {
 
     /// How many stones of the side stand in an unbroken row next to the point in one way along the axis, whatever stands
     /// on the point.
+    #[inline(always)]
     pub fn stones_towards(&self, way: Way, side: Side, axis: Axis, p: Point) -> u32
         requires on { IsTrue (is_on self.now p) }
         ensures stones { result ≡ stones_towards_lem way self.now side axis p }
@@ -349,6 +351,7 @@ impl Board {
 }
 
 /// The point `ahead` steps ahead on the axis and `back` steps back again, if its coordinates are not below 0.
+#[inline(always)]
 fn moved(p: Point, axis: Axis, ahead: u8, back: u8) -> Option<Point>
     requires column { p.x < 64 }
     requires row { p.y < 64 }

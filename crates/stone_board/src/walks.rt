@@ -12,6 +12,7 @@ use crate::Way;
 use game_rules::{Axis, Point};
 
 /// Whether a step in one way along the axis goes on in reading order, and not back.
+#[inline(always)]
 pub(crate) fn goes_on(way: Way, axis: Axis) -> bool
     ensures on { result ≡ goes_on_lem way axis }
 {
@@ -22,6 +23,7 @@ pub(crate) fn goes_on(way: Way, axis: Axis) -> bool
 }
 
 /// How many places of the reading order a step along the axis is, on a board of this width.
+#[inline(always)]
 pub(crate) fn stride(axis: Axis, width: u8) -> u8
     requires wide { 0 < width }
     requires fits { width < 64 }
@@ -46,6 +48,7 @@ pub(crate) fn place_after(on: bool, start: usize, far: usize) -> usize
 }
 
 /// How many steps from a point of a board of this width and height stay on it, in one way along the axis.
+#[inline(always)]
 pub(crate) fn steps_left(way: Way, axis: Axis, width: u8, height: u8, p: Point) -> u8
     requires column { p.x < width }
     requires row { p.y < height }
