@@ -1,3 +1,5 @@
 mod ThreePlaces
 -- a board is lawful exactly where nothing is said against it: for the layers above
 pub mod Lawfulness
+mod MayFoul
+mod Lawfulness

@@ -29,7 +29,7 @@ list_any-filter f g (x ∷ xs) = by_test (g x) (list_any-filter f g xs) where
 
 -- ---- three points and five points
 
-no_axis : (f : Axis → Bool) → list_any f axes ≡ false → (d : Axis) → f d ≡ false
+pub no_axis : (f : Axis → Bool) → list_any f axes ≡ false → (d : Axis) → f d ≡ false
 no_axis f h d = false_by (f d) (λ e. let no : false ≡ true = sym h ∙ axis_of f d e in cc)
 
 module _ (rule : RuleKind) (b : Grid) (d : Axis) (p : Point) where
@@ -68,6 +68,13 @@ module _ (rule : RuleKind) (b : Grid) (d : Axis) (p : Point) where
       let yes : free_three rule b d p (along d p near.0 5) ≡ true = place_found near.0 q near.2 h in
       let no = none near.0 near.1 in
       let differ : true ≡ false = sym yes ∙ no in
+      cc)
+
+  -- an axis with no three point, as far as it decides, is no three
+  pub no_line_points : ((q : Point) → is_line_three_point rule b Black d p q ≡ false) → is_three rule b d p (black_foul rule b) ≡ false
+  no_line_points none = is_three-free ∙ none_of _ (points_of b) (λ q h.
+      let yes = line_three q (and_left (is_three_point rule b Black d p q) _ h) in
+      let differ : false ≡ true = sym (none q) ∙ yes in
       cc)
 
 -- a foul, one stone on

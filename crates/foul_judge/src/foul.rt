@@ -1,18 +1,20 @@
 //! The renju foul judge.
 //!
-//! Black's stone is put on the point and the cases are asked in their order: a run of five, an overline, two fours, two
-//! threes. An axis is a three only if some three point of it is itself no foul, so the judge asks itself about a board
-//! with one stone more; it plays and lifts on the board that it was lent. (RIF Rules of Renju; which double-threes are
-//! allowed to stand is decided by this recursion alone.)
+//! Most points can be no foul, as the stones next to them tell. On any other Black's stone is put, and the cases are asked
+//! in their order: a run of five, an overline, two fours, two threes. An axis is a three only if some three point of it is
+//! itself no foul, so the judge asks itself about a board with one stone more; it plays and lifts on the board that it was
+//! lent. (RIF Rules of Renju; which double-threes are allowed to stand is decided by this recursion alone.)
 #![tactic(auto)]
 
-ghost use Rattle.std.specs.Prelude.{◌≡◌, ◌<◌, IsTrue, nat_le, ◌==◌};
+ghost use Rattle.std.specs.Prelude.{◌≡◌, ◌<◌, IsTrue, nat_le, ◌==◌, map};
 ghost use Rattle.std.specs.List.{list_any, count_by, sum_by};
 ghost use Rattle.game_rules.specs.Grid.{IsBoard, is_empty, holds, along as along_lem, axes};
 ghost use Rattle.game_rules.specs.Shapes.{is_line_three_at, run_of, fours_of};
 ghost use Rattle.game_rules.specs.Play.{is_three as is_three_lem, stone_foul as stone_foul_lem, black_foul as black_foul_lem, foul_of};
+ghost use Rattle.foul_judge.specs.ShortCut.{has_line_three as has_line_three_lem};
 ghost use Rattle.foul_judge.specs.Threes.{free_three};
 
+use crate::short_cut::may_foul;
 use game_rules::Foul;
 use row_shapes::{Rule, five_at, fours_through, three_points};
 use stone_board::{Axis, Board, Point, Side};
@@ -38,6 +40,9 @@ fn black_foul<R: Rule>(board: &mut Board, p: Point) -> Option<Foul>
     ensures foul { result ≡ black_foul_lem R.KIND board.old p }
     ensures same { board.new ≡ board.old }
 {
+    if !may_foul(board, p) {
+        return None;
+    }
     board.put(p, Side::Black);
     let result = stone_foul::<R>(board, p);
     board.lift(p);
@@ -53,31 +58,42 @@ fn stone_foul<R: Rule>(board: &mut Board, p: Point) -> Option<Foul>
     ensures foul { result ≡ stone_foul_lem R.KIND board.old p (black_foul_lem R.KIND board.old) }
     ensures same { board.new ≡ board.old }
 {
-    if has_five(board, p) {
+    let runs = runs(board, p);
+    if has_five(&runs) {
         None
-    } else if has_overline(board, p) {
+    } else if has_overline(&runs) {
         Some(Foul::Overline)
     } else if fours::<R>(board, p) >= 2 {
         Some(Foul::DoubleFour)
-    } else if threes::<R>(board, p) >= 2 {
+    } else if has_two_threes::<R>(board, p) {
         Some(Foul::DoubleThree)
     } else {
         None
     }
 }
 
-/// How many axes are threes of Black's stone on `p`.
+/// Whether two axes are threes of Black's stone on `p`. The judge asks itself about no further stone where fewer than two
+/// axes have three points as far as their lines decide, nor once two threes are found.
 #[cycle(fouls)]
-fn threes<R: Rule>(board: &mut Board, p: Point) -> u32
+fn has_two_threes<R: Rule>(board: &mut Board, p: Point) -> bool
     requires board { IsBoard board.old }
     requires stone { IsTrue (holds board.old Side.Black p) }
-    ensures threes { result ≡ count_by (λ d. is_three_lem R.KIND board.old d p (black_foul_lem R.KIND board.old)) axes }
+    ensures two { result ≡ nat_le 2 (count_by (λ d. is_three_lem R.KIND board.old d p (black_foul_lem R.KIND board.old)) axes) }
     ensures same { board.new ≡ board.old }
 {
-    u32::from(is_three::<R>(board, Axis::Row, p))
-        + u32::from(is_three::<R>(board, Axis::Column, p))
-        + u32::from(is_three::<R>(board, Axis::Down, p))
-        + u32::from(is_three::<R>(board, Axis::Up, p))
+    if line_threes::<R>(board, p) < 2 {
+        return false;
+    }
+    let row = is_three::<R>(board, Axis::Row, p);
+    let column = is_three::<R>(board, Axis::Column, p);
+    if row && column {
+        return true;
+    }
+    let down = is_three::<R>(board, Axis::Down, p);
+    if down && (row || column) {
+        return true;
+    }
+    (row || column || down) && is_three::<R>(board, Axis::Up, p)
 }
 
 /// Whether the axis has a three point of Black's stone on `p` where Black has no foul. The stone is on place 5 of the
@@ -114,26 +130,31 @@ fn is_free_three<R: Rule>(board: &mut Board, axis: Axis, p: Point, ahead: u8) ->
     }
 }
 
-/// Whether some axis has a run of exactly five through Black's stone on `p`.
-fn has_five(board: &Board, p: Point) -> bool
+/// The lengths of the runs through Black's stone on `p`, in the order of the axes.
+fn runs(board: &Board, p: Point) -> [u32; 4]
     requires stone { IsTrue (holds board.now Side.Black p) }
-    ensures five { result ≡ list_any (λ d. run_of board.now Side.Black d p == 5) axes }
+    ensures runs { result ≡ map (λ d. run_of board.now Side.Black d p) axes }
 {
-    board.run(p, Axis::Row) == 5
-        || board.run(p, Axis::Column) == 5
-        || board.run(p, Axis::Down) == 5
-        || board.run(p, Axis::Up) == 5
+    [
+        board.run(p, Axis::Row),
+        board.run(p, Axis::Column),
+        board.run(p, Axis::Down),
+        board.run(p, Axis::Up),
+    ]
 }
 
-/// Whether some axis has a run of six or more through Black's stone on `p`.
-fn has_overline(board: &Board, p: Point) -> bool
-    requires stone { IsTrue (holds board.now Side.Black p) }
-    ensures overline { result ≡ list_any (λ d. nat_le 6 (run_of board.now Side.Black d p)) axes }
+/// Whether one of the runs is of exactly five.
+fn has_five(runs: &[u32; 4]) -> bool
+    ensures five { result ≡ list_any (λ run. run == 5) runs.now }
 {
-    board.run(p, Axis::Row) >= 6
-        || board.run(p, Axis::Column) >= 6
-        || board.run(p, Axis::Down) >= 6
-        || board.run(p, Axis::Up) >= 6
+    runs.iter().any(|run| *run == 5)
+}
+
+/// Whether one of the runs is of six or more.
+fn has_overline(runs: &[u32; 4]) -> bool
+    ensures overline { result ≡ list_any (λ run. nat_le 6 run) runs.now }
+{
+    runs.iter().any(|run| *run >= 6)
 }
 
 /// The number of fours of Black's stone on `p`, added over the four axes.
@@ -145,4 +166,23 @@ fn fours<R: Rule>(board: &Board, p: Point) -> u32
         + fours_through::<R>(board, p, Axis::Column)
         + fours_through::<R>(board, p, Axis::Down)
         + fours_through::<R>(board, p, Axis::Up)
+}
+
+/// How many axes have a three point of Black's stone on `p`, as far as the axis decides.
+fn line_threes<R: Rule>(board: &Board, p: Point) -> u32
+    requires stone { IsTrue (holds board.now Side.Black p) }
+    ensures threes { result ≡ count_by (λ d. has_line_three_lem R.KIND board.now d p) axes }
+{
+    u32::from(has_line_three::<R>(board, Axis::Row, p))
+        + u32::from(has_line_three::<R>(board, Axis::Column, p))
+        + u32::from(has_line_three::<R>(board, Axis::Down, p))
+        + u32::from(has_line_three::<R>(board, Axis::Up, p))
+}
+
+/// Whether the axis has a three point of Black's stone on `p`, as far as the axis decides.
+fn has_line_three<R: Rule>(board: &Board, axis: Axis, p: Point) -> bool
+    requires stone { IsTrue (holds board.now Side.Black p) }
+    ensures three { result ≡ has_line_three_lem R.KIND board.now axis p }
+{
+    three_points::<R>(board, p, axis) != 0
 }

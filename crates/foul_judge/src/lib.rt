@@ -6,8 +6,11 @@
 
 mod foul;
 mod outcome;
+#[cfg(test)]
+mod plain;
 mod position;
 mod seen;
+mod short_cut;
 #[cfg(test)]
 mod tests;
 

@@ -1,4 +1,4 @@
-// Fouls, outcomes and lawful positions on small examples.
+//! Fouls, outcomes and lawful positions on small examples.
 use crate::{Foul, Outcome, Position, PositionError, Seen, foul_at};
 use row_shapes::{ExactFive, Freestyle, Renju, Rule};
 use std::alloc::{AllocError, Global};
@@ -49,91 +49,11 @@ struct FoulCase<'a> {
 
 const CORNERS: [(u8, u8); 4] = [(0, 0), (14, 0), (0, 14), (14, 14)];
 
-#[test]
-fn fouls_of_black(rt: HostRuntime) -> Result<(), Fail> {
-    let middle = Point { x: 7, y: 7 };
-    let cases = [
-        FoulCase {
-            name: "six in a row",
-            black: &[(2, 7), (3, 7), (5, 7), (6, 7), (7, 7)],
-            white: &CORNERS,
-            at: Point { x: 4, y: 7 },
-            foul: Some(Foul::Overline),
-        },
-        FoulCase {
-            name: "two fours of one line",
-            black: &[(2, 7), (4, 7), (6, 7), (8, 7)],
-            white: &CORNERS,
-            at: Point { x: 5, y: 7 },
-            foul: Some(Foul::DoubleFour),
-        },
-        FoulCase {
-            name: "five in the row and six in the column",
-            black: &[
-                (7, 4),
-                (7, 5),
-                (7, 6),
-                (3, 7),
-                (4, 7),
-                (5, 7),
-                (6, 7),
-                (7, 8),
-                (7, 9),
-            ],
-            white: &CORNERS,
-            at: middle,
-            foul: None,
-        },
-        FoulCase {
-            name: "two threes that cross",
-            black: &[(7, 6), (6, 7), (8, 7), (7, 8)],
-            white: &CORNERS,
-            at: middle,
-            foul: Some(Foul::DoubleThree),
-        },
-        FoulCase {
-            name: "the only three point of the row is a double three",
-            black: &[
-                (4, 6),
-                (5, 6),
-                (7, 6),
-                (6, 7),
-                (8, 7),
-                (5, 8),
-                (6, 8),
-                (7, 8),
-            ],
-            white: &[(10, 7)],
-            at: middle,
-            foul: None,
-        },
-        FoulCase {
-            name: "the only three point of the row is a four and one three",
-            black: &[(5, 6), (7, 6), (6, 7), (8, 7), (5, 8), (6, 8), (7, 8)],
-            white: &[(10, 7)],
-            at: middle,
-            foul: Some(Foul::DoubleThree),
-        },
-        FoulCase {
-            name: "the only three point of the row is an overline",
-            black: &[
-                (5, 4),
-                (5, 5),
-                (5, 6),
-                (7, 6),
-                (6, 7),
-                (8, 7),
-                (5, 8),
-                (7, 8),
-                (5, 9),
-            ],
-            white: &[(10, 7)],
-            at: middle,
-            foul: None,
-        },
-    ];
-    for case in cases.iter() {
-        let mut board = board_of(&rt, case.black, case.white)?;
+const MIDDLE: Point = Point { x: 7, y: 7 };
+
+fn judged_as_told(rt: &(impl Abort + AllocGlobal), cases: &[FoulCase]) -> Result<(), Fail> {
+    for case in cases {
+        let mut board = board_of(rt, case.black, case.white)?;
         assert!(rt; board.is_empty(case.at));
         assert_eq!(rt;
             foul_at::<Renju>(&mut board, case.at),
@@ -149,6 +69,111 @@ fn fouls_of_black(rt: HostRuntime) -> Result<(), Fail> {
         );
     }
     Ok(())
+}
+
+#[test]
+fn overlines_fours_and_fives(rt: HostRuntime) -> Result<(), Fail> {
+    judged_as_told(
+        &rt,
+        &[
+            FoulCase {
+                name: "six in a row",
+                black: &[(2, 7), (3, 7), (5, 7), (6, 7), (7, 7)],
+                white: &CORNERS,
+                at: Point { x: 4, y: 7 },
+                foul: Some(Foul::Overline),
+            },
+            FoulCase {
+                name: "two fours of one line",
+                black: &[(2, 7), (4, 7), (6, 7), (8, 7)],
+                white: &CORNERS,
+                at: Point { x: 5, y: 7 },
+                foul: Some(Foul::DoubleFour),
+            },
+            FoulCase {
+                name: "five in the row and six in the column",
+                black: &[
+                    (7, 4),
+                    (7, 5),
+                    (7, 6),
+                    (3, 7),
+                    (4, 7),
+                    (5, 7),
+                    (6, 7),
+                    (7, 8),
+                    (7, 9),
+                ],
+                white: &CORNERS,
+                at: MIDDLE,
+                foul: None,
+            },
+        ],
+    )
+}
+
+#[test]
+fn threes_by_their_three_points(rt: HostRuntime) -> Result<(), Fail> {
+    judged_as_told(
+        &rt,
+        &[
+            FoulCase {
+                name: "two threes that cross",
+                black: &[(7, 6), (6, 7), (8, 7), (7, 8)],
+                white: &CORNERS,
+                at: MIDDLE,
+                foul: Some(Foul::DoubleThree),
+            },
+            FoulCase {
+                name: "the only three point of the row is a four and one three",
+                black: &[(5, 6), (7, 6), (6, 7), (8, 7), (5, 8), (6, 8), (7, 8)],
+                white: &[(10, 7)],
+                at: MIDDLE,
+                foul: Some(Foul::DoubleThree),
+            },
+        ],
+    )
+}
+
+#[test]
+fn threes_that_no_stone_can_fill(rt: HostRuntime) -> Result<(), Fail> {
+    judged_as_told(
+        &rt,
+        &[
+            FoulCase {
+                name: "the only three point of the row is a double three",
+                black: &[
+                    (4, 6),
+                    (5, 6),
+                    (7, 6),
+                    (6, 7),
+                    (8, 7),
+                    (5, 8),
+                    (6, 8),
+                    (7, 8),
+                ],
+                white: &[(10, 7)],
+                at: MIDDLE,
+                foul: None,
+            },
+            FoulCase {
+                name: "the only three point of the row is an overline",
+                black: &[
+                    (5, 4),
+                    (5, 5),
+                    (5, 6),
+                    (7, 6),
+                    (6, 7),
+                    (8, 7),
+                    (5, 8),
+                    (7, 8),
+                    (5, 9),
+                ],
+                white: &[(10, 7)],
+                at: MIDDLE,
+                foul: None,
+            },
+        ],
+    )
 }
 
 fn refusal(

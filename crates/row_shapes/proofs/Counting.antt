@@ -1,7 +1,9 @@
 -- The two ways to count fours agree.
-use Rattle.std.proofs.Common.{◌≡◌, ℕ, Bool, true, false, ◌||◌, refl, arith}
+use Rattle.std.proofs.Common.{◌≡◌, ℕ, ◌+◌, ◌<◌, Bool, true, false, cond, ◌&&◌, ◌||◌, refl, arith}
+use Rattle.std.specs.Prelude.{map, count_by}
+use Rattle.std.specs.List.{range_with_len}
 use Rattle.game_rules.specs.Fours.{count_fours}
-use Rattle.row_shapes.specs.Gaps.{fours_by_gap, is_four, are_stones}
+use Rattle.row_shapes.specs.Gaps.{listed, fours_by_gap, is_four, are_stones}
 use Rattle.game_rules.specs.Grid.{Grid}
 use Rattle.game_rules.specs.Shapes.{fours_of, place_stone, place_wins}
 use Rattle.game_rules.specs.declared.RuleKind.{RuleKind}
@@ -22,3 +24,47 @@ count_fours-gap stone wins = rw (or-swap (wins 8) (wins 3), or-swap (wins 7) (wi
 pub fours_of-gap : (rule : RuleKind) (b : Grid) (s : Side) (d : Axis) (p : Point) → fours_of rule b s d p ≡ fours_by_gap (place_stone b s d p) (place_wins rule b s d p)
 unfolding fours_of
 fours_of-gap rule b s d p = count_fours-gap (place_stone b s d p) (place_wins rule b s d p)
+
+-- the same of a list of the places
+pub fours_listed : (stone wins : ℕ → Bool) → fours_by_gap (listed (map stone (range_with_len 0 9))) wins ≡ fours_by_gap stone wins
+unfolding is_four are_stones
+fours_listed stone wins = refl
+
+-- ---- fewer than four stones
+
+four_true : (a b c d : Bool) → (a && (b && (c && (d && true)))) ≡ true → cond a 1 0 + cond b 1 0 + cond c 1 0 + cond d 1 0 ≡ 4
+four_true true true true true h = refl
+four_true true true true false h = cc
+four_true true true false d h = cc
+four_true true false c d h = cc
+four_true false b c d h = cc
+
+pub false_by : (r : Bool) → (r ≡ true → ⊥) → r ≡ false
+false_by true h = absurd (h refl)
+false_by false h = refl
+
+module _ (stone wins : ℕ → Bool) (few : count_by stone (range_with_len 0 9) < 4) where
+  not_all : (i j k l : ℕ) → cond (stone i) 1 0 + cond (stone j) 1 0 + cond (stone k) 1 0 + cond (stone l) 1 0 < 4 → (stone i && (stone j && (stone k && (stone l && true)))) ≡ false
+  not_all i j k l h = false_by _ (λ all. let four = four_true (stone i) (stone j) (stone k) (stone l) all in absurd (omega (arith, four, h)))
+
+  -- where fewer than four of the places hold stones, none of them are in a four
+  pub no_fours : fours_by_gap stone wins ≡ 0
+  unfolding is_four are_stones
+  no_fours = rw (
+    not_all 4 6 7 8 (omega arith),
+    not_all 4 5 7 8 (omega arith),
+    not_all 4 5 6 8 (omega arith),
+    not_all 4 5 6 7 (omega arith),
+    not_all 3 4 6 7 (omega arith),
+    not_all 3 4 5 7 (omega arith),
+    not_all 3 4 5 6 (omega arith),
+    not_all 2 4 5 6 (omega arith),
+    not_all 2 3 4 6 (omega arith),
+    not_all 2 3 4 5 (omega arith),
+    not_all 1 3 4 5 (omega arith),
+    not_all 1 2 4 5 (omega arith),
+    not_all 1 2 3 4 (omega arith),
+    not_all 0 2 3 4 (omega arith),
+    not_all 0 1 3 4 (omega arith),
+    not_all 0 1 2 4 (omega arith),
+  ) refl

@@ -39,7 +39,7 @@ empty_by b s q r true e on apart = rw e (ap is_empty_cell (cell_at-put_other b s
 empty_by b s q r false e on apart = rw e refl
 
 -- a stone leaves another point empty, or not
-empty-put : (b : Grid) (s : Side) (q r : Point) → is_on b q ≡ true → Apart q r → is_empty (put b s q) r ≡ is_empty b r
+pub empty-put : (b : Grid) (s : Side) (q r : Point) → is_on b q ≡ true → Apart q r → is_empty (put b s q) r ≡ is_empty b r
 empty-put b s q r on apart = empty_by b s q r (is_on b r) refl on apart
 
 -- a run through the new stone, from either of the two ways
@@ -315,7 +315,7 @@ module _ (rule : RuleKind) (b : Grid) (s : Side) (d : Axis) (p : Point) (ok : Is
       grind (arith, nat_tests)
 
   -- the first point in a way is a three point only where the run that its stone gives is of four
-  first_open : (w : Way) (q : Point) → first w ≡ Some q → is_line_three_point rule b s d p q ≡ true → 1 + stones_towards w b s d p + stones_towards w b s d q + stones_towards (opposite w) b s d p ≡ 3
+  pub first_open : (w : Way) (q : Point) → first w ≡ Some q → is_line_three_point rule b s d p q ≡ true → 1 + stones_towards w b s d p + stones_towards w b s d q + stones_towards (opposite w) b s d p ≡ 3
   first_open w q e h =
       let same = three-open rule b s w d p q ok mine (three_empty rule b s d p q h) (sym (go-towards w d p (1 + stones_towards w b s d p)) ∙ e) in
       open_few w _ _ (sym same ∙ h)

@@ -1,7 +1,11 @@
 -- Fours counted by the first of five places and by the one that is left out: a second way to count them, from which the
 -- code reads. The nine places of a line around a stone are numbered from 0, and the stone is on place 4.
-use Rattle.std.specs.Prelude.{ℕ, ◌+◌, ◌-◌, Bool, ◌&&◌, ◌||◌, not, ◌==◌}
+use Rattle.std.specs.Prelude.{ℕ, ◌+◌, ◌-◌, Bool, false, ◌&&◌, ◌||◌, not, ◌==◌, List, slice_index_or}
 use Rattle.std.specs.List.{list_all, count_by, sum_by, range_with_len}
+
+-- what the list of the places says of place i
+abbrev pub listed : List Bool → ℕ → Bool
+listed stones i = slice_index_or stones i false
 
 -- whether the five places that begin so many steps behind the stone, but for the one that is left out, hold stones
 unfoldable pub are_stones : (ℕ → Bool) → ℕ → ℕ → Bool

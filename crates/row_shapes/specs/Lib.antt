@@ -1,3 +1,4 @@
 pub mod Rule
 pub mod Gaps
 pub mod Threes
+pub mod Reach

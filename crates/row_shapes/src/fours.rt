@@ -4,12 +4,13 @@
 //! all of its fours, and each is found by where its five points begin and by which of them is empty.
 #![tactic(auto)]
 
-ghost use Rattle.std.specs.Prelude.{◌≡◌, ◌≤◌, ◌<◌, IsTrue, true};
+ghost use Rattle.std.specs.Prelude.{◌≡◌, ◌≤◌, ◌<◌, IsTrue, true, map};
+ghost use Rattle.std.specs.List.{count_by, range_with_len};
 ghost use Rattle.game_rules.specs.declared.Side.{Side};
-ghost use Rattle.game_rules.specs.Grid.{is_on, holds, along as along_lem};
-ghost use Rattle.game_rules.specs.Shapes.{stone_at as stone_at_lem, fours_of, place_stone, place_wins, is_straight};
+ghost use Rattle.game_rules.specs.Grid.{is_on, holds};
+ghost use Rattle.game_rules.specs.Shapes.{fours_of, place_stone, place_wins, is_straight};
 ghost use Rattle.stone_board.specs.Steps.{holds_stone};
-ghost use Rattle.row_shapes.specs.Gaps.{is_four as is_four_lem, are_stones as are_stones_lem, fours_from as fours_from_lem};
+ghost use Rattle.row_shapes.specs.Gaps.{listed, is_four as is_four_lem, are_stones as are_stones_lem, fours_from as fours_from_lem};
 
 use crate::Rule;
 use crate::wins::wins_along;
@@ -23,11 +24,15 @@ pub fn fours_through<R: Rule>(board: &Board, p: Point, axis: Axis) -> u32
     ensures bound { result ≤ 20 }
 {
     let side = side_at(board, p);
-    fours_from::<R>(board, side, axis, p, 0)
-        + fours_from::<R>(board, side, axis, p, 1)
-        + fours_from::<R>(board, side, axis, p, 2)
-        + fours_from::<R>(board, side, axis, p, 3)
-        + fours_from::<R>(board, side, axis, p, 4)
+    let stones = stones_around(board, side, axis, p);
+    if count(&stones) < 4 {
+        return 0;
+    }
+    fours_from::<R>(board, side, axis, p, &stones, 0)
+        + fours_from::<R>(board, side, axis, p, &stones, 1)
+        + fours_from::<R>(board, side, axis, p, &stones, 2)
+        + fours_from::<R>(board, side, axis, p, &stones, 3)
+        + fours_from::<R>(board, side, axis, p, &stones, 4)
 }
 
 /// Whether the run through a stone on the axis is a straight four: of exactly four stones, with an empty point of the
@@ -61,7 +66,7 @@ pub(crate) fn side_at(board: &Board, p: Point) -> Side
 fn stone_along(board: &Board, side: Side, axis: Axis, p: Point, ahead: u8) -> bool
     requires on { IsTrue (is_on board.now p) }
     requires near { ahead < 9 }
-    ensures stone { result ≡ stone_at_lem board.now side (along_lem axis p ahead 4) }
+    ensures stone { result ≡ place_stone board.now side axis p ahead }
 {
     match board.along(p, axis, ahead, 4) {
         None => false,
@@ -69,43 +74,77 @@ fn stone_along(board: &Board, side: Side, axis: Axis, p: Point, ahead: u8) -> bo
     }
 }
 
-/// Whether the five places that begin so many steps behind `p`, but for the one that is left out, hold stones of the side.
-#[tactic(auto, unfolding(crate::specs::Gaps::are_stones))]
-fn are_stones(board: &Board, side: Side, axis: Axis, p: Point, first: u8, gap: u8) -> bool
+/// Which of the nine places of the line around the point hold stones of the side. Place 4 is the point.
+fn stones_around(board: &Board, side: Side, axis: Axis, p: Point) -> [bool; 9]
     requires on { IsTrue (is_on board.now p) }
-    requires first { first < 5 }
-    ensures stones { result ≡ are_stones_lem (place_stone board.now side axis p) first gap }
+    ensures stones { result ≡ map (place_stone board.now side axis p) (range_with_len 0 9) }
 {
-    (gap == 0 || stone_along(board, side, axis, p, 4 - first))
-        && (gap == 1 || stone_along(board, side, axis, p, 5 - first))
-        && (gap == 2 || stone_along(board, side, axis, p, 6 - first))
-        && (gap == 3 || stone_along(board, side, axis, p, 7 - first))
-        && (gap == 4 || stone_along(board, side, axis, p, 8 - first))
+    let mut stones = [false; 9];
+    for i in 0..9 {
+        stones[i] = stone_along(board, side, axis, p, i as u8);
+    }
+    stones
+}
+
+/// How many of the nine places hold stones.
+fn count(stones: &[bool; 9]) -> usize
+    ensures count { result ≡ count_by (λ stone. stone) stones.now }
+{
+    stones.iter().filter(|stone| **stone).count()
+}
+
+/// Whether the five places that begin so many steps behind place 4, but for the one that is left out, hold stones.
+#[tactic(auto, unfolding(crate::specs::Gaps::are_stones))]
+fn are_stones(stones: &[bool; 9], first: u8, gap: u8) -> bool
+    requires first { first < 5 }
+    ensures stones { result ≡ are_stones_lem (listed stones.now) first gap }
+{
+    let start = 4 - first as usize;
+    (gap == 0 || stones[start])
+        && (gap == 1 || stones[start + 1])
+        && (gap == 2 || stones[start + 2])
+        && (gap == 3 || stones[start + 3])
+        && (gap == 4 || stones[start + 4])
 }
 
 /// Whether these are four stones of a four of the stone on `p`.
 #[tactic(auto, unfolding(crate::specs::Gaps::is_four))]
-fn is_four<R: Rule>(board: &Board, side: Side, axis: Axis, p: Point, first: u8, gap: u8) -> bool
+fn is_four<R: Rule>(
+    board: &Board,
+    side: Side,
+    axis: Axis,
+    p: Point,
+    stones: &[bool; 9],
+    first: u8,
+    gap: u8,
+) -> bool
     requires on { IsTrue (is_on board.now p) }
     requires first { first < 5 }
     requires gap { gap < 5 }
-    ensures four { result ≡ is_four_lem (place_stone board.now side axis p) (place_wins R.KIND board.now side axis p) first gap }
+    ensures four { result ≡ is_four_lem (listed stones.now) (place_wins R.KIND board.now side axis p) first gap }
 {
     first != gap
-        && are_stones(board, side, axis, p, first, gap)
+        && are_stones(stones, first, gap)
         && (wins_along::<R>(board, side, axis, p, gap + 4 - first, 4)
             || gap == 4 && wins_along::<R>(board, side, axis, p, 3 - first, 4))
 }
 
-/// The number of fours among the five places that begin so many steps behind `p`.
-fn fours_from<R: Rule>(board: &Board, side: Side, axis: Axis, p: Point, first: u8) -> u32
+/// The number of fours among the five places that begin so many steps behind `p`, but for those without the first of them.
+fn fours_from<R: Rule>(
+    board: &Board,
+    side: Side,
+    axis: Axis,
+    p: Point,
+    stones: &[bool; 9],
+    first: u8,
+) -> u32
     requires on { IsTrue (is_on board.now p) }
     requires first { first < 5 }
-    ensures fours { result ≡ fours_from_lem (place_stone board.now side axis p) (place_wins R.KIND board.now side axis p) first }
+    ensures fours { result ≡ fours_from_lem (listed stones.now) (place_wins R.KIND board.now side axis p) first }
     ensures bound { result ≤ 4 }
 {
-    u32::from(is_four::<R>(board, side, axis, p, first, 1))
-        + u32::from(is_four::<R>(board, side, axis, p, first, 2))
-        + u32::from(is_four::<R>(board, side, axis, p, first, 3))
-        + u32::from(is_four::<R>(board, side, axis, p, first, 4))
+    u32::from(is_four::<R>(board, side, axis, p, stones, first, 1))
+        + u32::from(is_four::<R>(board, side, axis, p, stones, first, 2))
+        + u32::from(is_four::<R>(board, side, axis, p, stones, first, 3))
+        + u32::from(is_four::<R>(board, side, axis, p, stones, first, 4))
 }

@@ -5,6 +5,7 @@
 #![tactic(auto)]
 
 mod fours;
+mod reach;
 mod rule;
 #[cfg(test)]
 mod tests;
@@ -13,6 +14,7 @@ mod wins;
 
 pub use fours::{fours_through, straight_through};
 pub use game_rules::RuleKind;
+pub use reach::stones_in_reach;
 pub use rule::{ExactFive, Freestyle, Renju, Rule};
 pub use threes::three_points;
 pub use wins::five_at;

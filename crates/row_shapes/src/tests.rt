@@ -1,7 +1,7 @@
-// The shapes of rows on small examples.
+//! The shapes of rows on small examples.
 use crate::{
-    ExactFive, Freestyle, Renju, Rule, RuleKind, five_at, fours_through, straight_through,
-    three_points,
+    ExactFive, Freestyle, Renju, Rule, RuleKind, five_at, fours_through, stones_in_reach,
+    straight_through, three_points,
 };
 use std::process::Abort;
 use std::test::Fail;
@@ -80,5 +80,20 @@ fn three_points_are_bits(rt: HostRuntime) -> Result<(), Fail> {
         three_points::<Freestyle>(&board, p, Axis::Row),
         0b0000_1000
     );
+    Ok(())
+}
+
+#[test]
+fn stones_past_one_gap_are_in_reach(rt: HostRuntime) -> Result<(), Fail> {
+    let mut board = Board::empty(rt.alloc(), 15, 15)?;
+    let row = [(4, 7), (6, 7), (9, 7), (10, 7), (13, 7)];
+    put_all(&rt, &mut board, Side::Black, &row);
+    let p = Point { x: 7, y: 7 };
+    assert!(rt; board.on(p));
+    assert_eq!(rt; stones_in_reach(&board, Side::Black, Axis::Row, p), 3);
+    assert_eq!(rt; stones_in_reach(&board, Side::White, Axis::Row, p), 0);
+    put_all(&rt, &mut board, Side::White, &[(8, 7)]);
+    assert!(rt; board.on(p));
+    assert_eq!(rt; stones_in_reach(&board, Side::Black, Axis::Row, p), 2);
     Ok(())
 }

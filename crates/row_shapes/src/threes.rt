@@ -23,7 +23,8 @@ use stone_board::{Axis, Board, Point, Side, Way};
 /// point proper is also no five point by another axis.)
 pub fn three_points<R: Rule>(board: &Board, p: Point, axis: Axis) -> u16
     requires stone { IsTrue (holds_stone board.now p) }
-    ensures points { (s : Side) → holds board.now s p ≡ true → (i : ℕ) → i < 11 → bit_at result i ≡ (if is_line_three_at R.KIND board.now s axis p (along_lem axis p i 5) then 1 else 0) }
+    ensures points { (s : Side) → holds board.now s p ≡ true → (i : ℕ) → i < 11 →
+        bit_at result i ≡ (if is_line_three_at R.KIND board.now s axis p (along_lem axis p i 5) then 1 else 0) }
     ensures bound { result < 2 ^ 11 }
 {
     let side = side_at(board, p);

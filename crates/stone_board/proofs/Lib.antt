@@ -1,4 +1,5 @@
 mod Orders
 mod Counts
+mod Strides
 pub mod Looks
 pub mod Stones

@@ -13,6 +13,7 @@ ghost use Rattle.stone_board.specs.Order.{points_left, first_empty_from as first
 ghost use Rattle.stone_board.specs.Steps.{holds_stone, kept_on, stones_towards as stones_towards_lem, towards as towards_lem};
 
 use crate::ReadingOrder;
+use crate::walks::{goes_on, place_after, steps_left, stride};
 use game_rules::{Axis, Cell, Look, Point, Side};
 use std::alloc::{AllocError, Global};
 use std::marker::Model;
@@ -220,6 +221,7 @@ impl Board {
     }
 
     /// The point `ahead` steps ahead on the axis and `back` steps back again, if it is on the board.
+    #[inline(always)]
     pub fn along(&self, p: Point, axis: Axis, ahead: u8, back: u8) -> Option<Point>
         requires on { IsTrue (is_on self.now p) }
         requires ahead { ahead < 128 }
@@ -279,31 +281,24 @@ impl Board {
 
     /// How many stones of the side stand in an unbroken row next to the point in one way along the axis, whatever stands
     /// on the point.
+    #[inline(always)]
     pub fn stones_towards(&self, way: Way, side: Side, axis: Axis, p: Point) -> u32
         requires on { IsTrue (is_on self.now p) }
         ensures stones { result ≡ stones_towards_lem way self.now side axis p }
         ensures bound { result ≤ 64 }
         ensures board { IsBoard self.now }
     {
-        let bound = self.width + self.height;
-        for k in 0..bound {
-            if !self.holds_towards(way, side, axis, p, k + 1) {
+        let start = p.y as usize * self.width as usize + p.x as usize;
+        let on = goes_on(way, axis);
+        let stride = stride(axis, self.width);
+        let most = steps_left(way, axis, self.width, self.height, p);
+        for k in 0..most {
+            let place = place_after(on, start, (k + 1) as usize * stride as usize);
+            if !is_stone_of(side, self.cells[place]) {
                 return u32::from(k);
             }
         }
-        u32::from(bound)
-    }
-
-    /// Whether a stone of the side stands so many steps from the point in one way along the axis.
-    fn holds_towards(&self, way: Way, side: Side, axis: Axis, p: Point, k: u8) -> bool
-        requires on { IsTrue (is_on self.now p) }
-        requires near { k ≤ 64 }
-        ensures holds { result ≡ stone_at self.now side (towards_lem way axis p k) }
-    {
-        match self.step_towards(way, axis, p, k) {
-            None => false,
-            Some(q) => is_stone_of(side, self.cell(q)),
-        }
+        u32::from(most)
     }
 
     /// The point so many steps from the point in one way along the axis, if it is on the board.
@@ -356,6 +351,7 @@ impl Board {
 }
 
 /// The point `ahead` steps ahead on the axis and `back` steps back again, if its coordinates are not below 0.
+#[inline(always)]
 fn moved(p: Point, axis: Axis, ahead: u8, back: u8) -> Option<Point>
     requires column { p.x < 64 }
     requires row { p.y < 64 }

@@ -9,6 +9,7 @@ mod order;
 mod points;
 #[cfg(test)]
 mod tests;
+mod walks;
 
 pub use board::{Board, MAX_SIDE, MIN_SIDE, Way};
 pub use game_rules::{Axis, Cell, Look, Point, Side};

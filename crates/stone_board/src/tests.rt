@@ -1,4 +1,4 @@
-// What boards answer on small examples.
+//! What boards answer on small examples.
 use crate::{Axis, Board, Cell, Look, Point, Points, Side, Way};
 use std::process::Abort;
 use std::test::Fail;

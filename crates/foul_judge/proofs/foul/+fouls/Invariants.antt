@@ -9,8 +9,8 @@ decreases-black_foul g l = 5 * empties_of l.board.now
 abbrev pub decreases-stone_foul : goal.decreases-stone_foul
 decreases-stone_foul g l = 5 * empties_of l.board.now + 4
 
-abbrev pub decreases-threes : goal.decreases-threes
-decreases-threes g l = 5 * empties_of l.board.now + 3
+abbrev pub decreases-has_two_threes : goal.decreases-has_two_threes
+decreases-has_two_threes g l = 5 * empties_of l.board.now + 3
 
 abbrev pub decreases-is_three : goal.decreases-is_three
 decreases-is_three g l = 5 * empties_of l.board.now + 2

@@ -1,0 +1,149 @@
+-- Where the short cuts pass a point or an axis over, Black has no foul and no three there.
+use Rattle.std.proofs.Common.{◌≡◌, ℕ, ◌≤◌, ◌<◌, ◌^◌, Bool, true, false, cond, ◌||◌, not, refl, sym, ap, ◌∙◌, arith, nat_eq, nat_le}
+use Rattle.std.specs.List.{list_any, count_by}
+use Rattle.std.specs.Prelude.{None}
+use Rattle.std.specs.Int.{bit_at}
+use Rattle.std.proofs.lemmas.Bool.Decides.{nat_tests}
+use Rattle.std.proofs.lemmas.Nat.Bits.{bit_at-zero, same_from_bits_below}
+use Rattle.game_rules.specs.Grid.{Grid, IsBoard, is_on, is_empty, put, along, axes, holds}
+use Rattle.game_rules.specs.Shapes.{is_line_three_at, run_of, fours_of}
+use Rattle.game_rules.specs.Play.{black_foul, stone_foul, first_foul, is_three}
+use Rattle.game_rules.specs.declared.RuleKind.{RuleKind}
+use Rattle.game_rules.specs.declared.Side.TheVariants.{Black}
+use Rattle.game_rules.specs.declared.Axis.{Axis}
+use Rattle.game_rules.specs.declared.Axis.TheVariants.{Row, Column, Down, Up}
+use Rattle.game_rules.specs.declared.Point.{Point}
+use Rattle.game_rules.proofs.Boards.{is_empty-on, holds-put_same, run_of-put}
+use Rattle.game_rules.proofs.Positions.{IsBoard-put}
+use Rattle.game_rules.proofs.Rows.{any_found, any_none}
+use Rattle.row_shapes.specs.Reach.{stones_in_reach}
+use Rattle.row_shapes.proofs.Reaches.{reach-put, few-no_fours, few-no_three}
+use Rattle.foul_judge.specs.ShortCut.{may_foul, has_line_three}
+use Rattle.foul_judge.proofs.Lawfulness.{false_by}
+use Rattle.foul_judge.proofs.ThreePlaces.{foul-step, no_axis, no_line_points, no_three, not_free}
+
+-- ---- tests of the four axes
+
+none_left : (a c : Bool) → (a || c) ≡ false → a ≡ false
+none_left true c h = cc
+none_left false c h = refl
+
+none_right : (a c : Bool) → (a || c) ≡ false → c ≡ false
+none_right true c h = cc
+none_right false c h = h
+
+one_more : (r t : Bool) → (r ≡ true → t ≡ true) → cond r 1 0 ≤ cond t 1 0
+one_more true t h = rw (h refl) (omega arith)
+one_more false t h = omega arith
+
+-- where one test follows from another, at most as many axes meet the other
+pub fewer_axes : (f g : Axis → Bool) → ((d : Axis) → f d ≡ true → g d ≡ true) → count_by f axes ≤ count_by g axes
+fewer_axes f g h = omega (arith, one_more (f Row) (g Row) (h Row), one_more (f Column) (g Column) (h Column), one_more (f Down) (g Down) (h Down), one_more (f Up) (g Up) (h Up))
+
+-- ---- the short cut before a stone is put
+
+no_first : (r : Bool) → first_foul r false false false ≡ None
+no_first true = refl
+no_first false = refl
+
+module _ (rule : RuleKind) (b : Grid) (p : Point) (ok : IsBoard b) (empty : is_empty b p ≡ true) where
+  abbrev next : Grid
+  next = put b Black p
+
+  on : is_on b p ≡ true
+  on = is_empty-on b p empty
+
+  three_reach : (d : Axis) → is_three rule next d p (black_foul rule next) ≡ true → nat_le 2 (stones_in_reach b Black d p) ≡ true
+  three_reach d h = by_test (nat_le 2 (stones_in_reach b Black d p)) refl where
+    by_test : (r : Bool) → nat_le 2 (stones_in_reach b Black d p) ≡ r → r ≡ true
+    by_test true e = refl
+    by_test false e =
+        let same = reach-put b Black p on d in
+        let few : stones_in_reach b Black d p < 2 = grind (arith, nat_tests) in
+        let none = no_line_points rule next d p (λ q. few-no_three next Black d p on rule q (IsBoard-put b Black p ok) (holds-put_same b Black p ok on) (omega (arith, same, few))) in
+        let differ : false ≡ true = sym none ∙ h in
+        cc
+
+  module _ (no : may_foul b p ≡ false) where
+    none_three : list_any (λ d. nat_le 3 (stones_in_reach b Black d p)) axes ≡ false
+    unfolding may_foul
+    none_three = none_left _ _ no
+
+    few_two : nat_le 2 (count_by (λ d. nat_le 2 (stones_in_reach b Black d p)) axes) ≡ false
+    unfolding may_foul
+    few_two = none_right (list_any (λ d. nat_le 3 (stones_in_reach b Black d p)) axes) _ no
+
+    few : (d : Axis) → stones_in_reach b Black d p < 3
+    few d = let h = no_axis (λ d. nat_le 3 (stones_in_reach b Black d p)) none_three d in grind (arith, nat_tests)
+
+    no_over : (d : Axis) → nat_le 6 (run_of next Black d p) ≡ false
+    no_over d =
+        let run = run_of-put b Black p on ok d in
+        let short = few d in
+        let low : run_of next Black d p < 6 = omega (arith, run, short) in
+        grind (arith, nat_tests)
+
+    no_fours : (d : Axis) → fours_of rule next Black d p ≡ 0
+    no_fours d = let same = reach-put b Black p on d in let short = few d in few-no_fours next Black d p on rule (omega (arith, same, short))
+
+    few_threes : nat_le 2 (count_by (λ d. is_three rule next d p (black_foul rule next)) axes) ≡ false
+    few_threes =
+        let fewer = fewer_axes (λ d. is_three rule next d p (black_foul rule next)) (λ d. nat_le 2 (stones_in_reach b Black d p)) three_reach in
+        let two = few_two in
+        grind (arith, nat_tests)
+
+    none : stone_foul rule next p (black_foul rule next) ≡ None
+    unfolding stone_foul
+    none = rw (no_over Row, no_over Column, no_over Down, no_over Up, no_fours Row, no_fours Column, no_fours Down, no_fours Up, few_threes) (no_first _)
+
+    -- where the short cut says that a point can be no foul, it is none
+    pub no_foul : black_foul rule b p ≡ None
+    no_foul = foul-step rule b p ok empty ∙ none
+
+-- ---- the short cut before the judge asks itself
+
+module _ (rule : RuleKind) (b : Grid) (p : Point) where
+  places_free : (d : Axis) → has_line_three rule b d p ≡ false → (i : ℕ) → i < 11 → is_line_three_at rule b Black d p (along d p i 5) ≡ false
+  unfolding has_line_three
+  places_free d h i low = false_by _ (λ yes.
+      let some = any_found (λ i. is_line_three_at rule b Black d p (along d p i 5)) 11 0 i (omega arith) (omega arith) yes in
+      let differ : false ≡ true = sym h ∙ some in
+      cc)
+
+  line_by : (d : Axis) (points : ℕ) → ((i : ℕ) → i < 11 → bit_at points i ≡ cond (is_line_three_at rule b Black d p (along d p i 5)) 1 0) → points ≡ 0 → has_line_three rule b d p ≡ false
+  unfolding has_line_three
+  line_by d points bits zero = any_none _ 11 0 (λ i low high. clear _ (sym (bits i (omega arith)) ∙ ap (λ n. bit_at n i) zero ∙ bit_at-zero i)) where
+    clear : (r : Bool) → ◌≡◌ {A = ℕ} (cond r 1 0) 0 → r ≡ false
+    clear true h = absurd (omega arith)
+    clear false h = refl
+
+  -- the axis has a three point exactly where the number of its bits is not 0
+  pub line_by_bits : (d : Axis) (points : ℕ) → points < 2 ^ 11 → ((i : ℕ) → i < 11 → bit_at points i ≡ cond (is_line_three_at rule b Black d p (along d p i 5)) 1 0) → not (nat_eq points 0) ≡ has_line_three rule b d p
+  line_by_bits d points small bits = by_test (nat_eq points 0) refl (has_line_three rule b d p) refl where
+    by_test : (r : Bool) → nat_eq points 0 ≡ r → (t : Bool) → has_line_three rule b d p ≡ t → not r ≡ t
+    by_test true e true h =
+        let zero : points ≡ 0 = grind (arith, nat_tests) in
+        let differ : false ≡ true = sym (line_by d points bits zero) ∙ h in
+        cc
+    by_test true e false h = refl
+    by_test false e true h = refl
+    by_test false e false h =
+        let zero : points ≡ 0 = same_from_bits_below 11 points 0 small (omega arith) (λ i low. bits i low ∙ ap (λ r. cond r 1 0) (places_free d h i low) ∙ sym (bit_at-zero i)) in
+        absurd (grind (arith, nat_tests))
+
+  module _ (ok : IsBoard b) (mine : holds b Black p ≡ true) where
+    three_line : (d : Axis) → is_three rule b d p (black_foul rule b) ≡ true → has_line_three rule b d p ≡ true
+    three_line d h = by_test (has_line_three rule b d p) refl where
+      by_test : (r : Bool) → has_line_three rule b d p ≡ r → r ≡ true
+      by_test true e = refl
+      by_test false e =
+          let none = no_three rule b d p ok mine (λ i low. not_free rule b d p (along d p i 5) (places_free d e i low)) in
+          let differ : false ≡ true = sym none ∙ h in
+          cc
+
+    -- at most as many axes are threes as have three points
+    pub threes_by_lines : count_by (λ d. is_three rule b d p (black_foul rule b)) axes ≤ count_by (λ d. has_line_three rule b d p) axes
+    threes_by_lines = fewer_axes (λ d. is_three rule b d p (black_foul rule b)) (λ d. has_line_three rule b d p) three_line
+
+    pub no_two_threes : (n : ℕ) → n ≡ count_by (λ d. has_line_three rule b d p) axes → n < 2 → nat_le 2 (count_by (λ d. is_three rule b d p (black_foul rule b)) axes) ≡ false
+    no_two_threes n e few = let fewer = threes_by_lines in grind (arith, nat_tests)
