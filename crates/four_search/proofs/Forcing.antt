@@ -221,13 +221,17 @@ goes_on_with-else (Fouls f) r h = refl
 goes_on_with-else Draws r h = refl
 goes_on_with-else GoesOn r h = absurd (h refl)
 
+-- a move that makes no five point is no four
+pub none-no_four : (rule : RuleKind) (b : Grid) (p : Point) → has_five rule (after b p) (mover b) ≡ false → is_four_move rule b p ≡ false
+unfolding is_four_move
+none-no_four rule b p h = ap (goes_on_with (outcome rule b p)) h ∙ goes_on_with-false (outcome rule b p)
+
 module _ (rule : RuleKind) (n : ℕ) (b : Grid) (p : Point) (budget : ℕ) where
-  -- a move that makes no five point is no four
   pub trying-none : in_short (five_points rule (after b p) (mover b)) ≡ NoPoint → NoWin budget ≡ found_trying rule n b p budget
-  unfolding is_four_move
-  trying-none h = sym (trying-no_four rule n b p budget no_four) where
-    no_four : is_four_move rule b p ≡ false
-    no_four = ap (goes_on_with (outcome rule b p)) (has_five-none rule (after b p) (mover b) h) ∙ goes_on_with-false (outcome rule b p)
+  trying-none h = sym (trying-no_four rule n b p budget (none-no_four rule b p (has_five-none rule (after b p) (mover b) h)))
+
+  pub trying-no_five : has_five rule (after b p) (mover b) ≡ false → NoWin budget ≡ found_trying rule n b p budget
+  trying-no_five h = sym (trying-no_four rule n b p budget (none-no_four rule b p h))
 
   -- nor is one that does not go on
   pub trying-else : (outcome rule b p ≡ GoesOn → ⊥) → NoWin budget ≡ found_trying rule n b p budget

@@ -1,4 +1,5 @@
 pub mod Trying
+pub mod Covering
 pub mod Forcing
 pub mod Reading
 pub mod Planning

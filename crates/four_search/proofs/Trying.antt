@@ -60,9 +60,9 @@ module _ (rule : RuleKind) (n : ℕ) (b : Grid) (left : ℕ) (p : Point) (ps qs 
   unfolding try_all
   step_at f e = ap (try_all rule n b left) left_are ∙ ap (λ f. found_next f (λ l. try_all rule n b l qs)) e
 
-  -- a point that is taken is no move
-  pub step-taken : is_empty b p ≡ false → try_all rule n b left ps ≡ try_all rule n b left qs
-  step-taken h = step_at (NoWin left) (trying-no_four rule n b p left (taken-no_four rule b p h))
+  -- what is no four move is passed over
+  pub step-skip : is_four_move rule b p ≡ false → try_all rule n b left ps ≡ try_all rule n b left qs
+  step-skip h = step_at (NoWin left) (trying-no_four rule n b p left h)
 
   module _ (f : Found) (found : f ≡ found_trying rule n b p left) where
     -- no win behind the move

@@ -7,6 +7,7 @@
 
 mod answer;
 mod error;
+mod makers;
 mod plan;
 mod search;
 #[cfg(test)]

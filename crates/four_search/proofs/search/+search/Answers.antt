@@ -5,14 +5,17 @@ use Rattle.game_rules.specs.Games.{has_five, five_points}
 use Rattle.game_rules.specs.declared.Outcome.TheVariants.{GoesOn}
 use Rattle.game_rules.proofs.Positions.{GoesOn-empty}
 use Rattle.threat_moves.proofs.Undo.{stone_back, lift_back, unwon_back}
+use Rattle.threat_moves.specs.FourMoves.{is_four_move}
 use Rattle.threat_moves.specs.NewFives.{in_short}
 use Rattle.threat_moves.specs.declared.new_fives.FivePoints.TheVariants.{One}
 use Rattle.threat_moves.proofs.FourLaws.{one-goes_on}
-use Rattle.threat_moves.proofs.FiveLaws.{one-empty, has_five-none, block-alone, mover-other, mover-then}
+use Rattle.threat_moves.proofs.FiveLaws.{one-empty, has_five-none, block-alone, blocked, mover-other, mover-then}
 use Rattle.four_search.specs.declared.search.Found.{Found}
+use Rattle.four_search.specs.Makers.{Covers, CoversBeside, CoversAfter}
+use Rattle.four_search.proofs.Covering.{covers-after}
 use Rattle.four_search.specs.Searching.{found_at, found_trying, found_behind, found_answering}
-use Rattle.four_search.proofs.Trying.{try_all, try_all-none, step-taken, step-goes_on, step-ends, found-after, found-nothing, answering-no-more, behind-else}
-use Rattle.four_search.proofs.Forcing.{found-several, found-one, one-gone, none-stays, block-none, block-threat, block-last, trying-none, trying-else, trying-some}
+use Rattle.four_search.proofs.Trying.{try_all, try_all-none, step-skip, step-goes_on, step-ends, found-after, found-nothing, answering-no-more, behind-else}
+use Rattle.four_search.proofs.Forcing.{found-several, found-one, one-gone, none-stays, block-none, block-threat, block-last, trying-none, trying-no_five, trying-else, trying-some}
 use Rattle.four_search.proofs.search.+search.Goals as goal
 
 pub after_block-returns-then-budget-eq0-clause-found :
@@ -41,6 +44,9 @@ after_block-search_on-found-requires g t c κs within =
     ap (λ (w : Grid). has_five g.R.Rule.KIND w (mover w)) c.play.ensures.played ∙ block-none g.R.Rule.KIND b c.args.block lawful c.requires.goes_on c.requires.one in
     let threat : c.fives_made-threat.result ≡ in_short (five_points g.R.Rule.KIND (g.V.Seen.position c.play.new.self) (other (mover (g.V.Seen.position c.play.new.self)))) =
     c.fives_made-threat.ensures.made ∙ block-threat g.R.Rule.KIND b c.args.block lawful c.requires.goes_on c.requires.one ∙ ap (λ (w : Grid). in_short (five_points g.R.Rule.KIND w (other (mover w)))) (sym c.play.ensures.played) in
+    let before : CoversBeside g.R.Rule.KIND (g.V.Seen.position c.play.new.self) c.args.makers.now c.args.p =
+    subst (λ (w : Grid). CoversBeside g.R.Rule.KIND w c.args.makers.now c.args.p) (sym c.play.ensures.played)
+    (c.requires.covers c.args.block c.requires.goes_on (blocked g.R.Rule.KIND b c.args.block lawful.board (GoesOn-empty g.R.Rule.KIND b c.args.block c.requires.goes_on) c.requires.one)) in
     search rules
 
 pub after_block-undo-requires-clause-stone : goal.after_block-undo-requires-clause-stone
@@ -68,6 +74,7 @@ answering-after_block-requires g t c κs within =
     ap (λ (w : Grid). in_short (five_points g.R.Rule.KIND w (other (mover w)))) c.fate.ensures.same ∙ ap in_short (block-alone g.R.Rule.KIND b c.in-One.block one).1 in
     let safe : has_five g.R.Rule.KIND d (mover d) ≡ false = ap (λ (w : Grid). has_five g.R.Rule.KIND w (mover w)) c.fate.ensures.same ∙ c.requires.safe in
     let some : 0 < c.args.moves = let more = c.if-moves-eq0.false in omega (arith, more) in
+    let covers : CoversAfter g.R.Rule.KIND d c.args.makers.now c.args.p = subst (λ (w : Grid). CoversAfter g.R.Rule.KIND w c.args.makers.now c.args.p) (sym c.fate.ensures.same) c.requires.covers in
     search rules
 
 pub answering-returns-then-moves-eq0-clause-found :
@@ -84,6 +91,8 @@ behind-answering-found-requires g t c κs within =
     c.requires.made ∙ ap (λ s. in_short (five_points g.R.Rule.KIND (after b c.args.p) s)) (sym (mover-other g.R.Rule.KIND b c.args.p lawful c.requires.goes_on)) ∙ ap (λ (w : Grid). in_short (five_points g.R.Rule.KIND w (other (mover w)))) (sym c.play.ensures.played) in
     let safe : has_five g.R.Rule.KIND d (mover d) ≡ false =
     ap (λ (w : Grid). has_five g.R.Rule.KIND w (mover w)) c.play.ensures.played ∙ ap (has_five g.R.Rule.KIND (after b c.args.p)) (mover-then g.R.Rule.KIND b c.args.p lawful c.requires.goes_on) ∙ c.requires.safe in
+    let covers : CoversAfter g.R.Rule.KIND d c.args.makers.now c.args.p =
+    subst (λ (w : Grid). CoversAfter g.R.Rule.KIND w c.args.makers.now c.args.p) (sym c.play.ensures.played) (covers-after g.R.Rule.KIND b c.args.makers.now c.args.p lawful c.requires.goes_on c.requires.covers) in
     search rules
 
 pub behind-undo-requires-clause-stone : goal.behind-undo-requires-clause-stone
@@ -135,22 +144,34 @@ search_on-returns-in-Several-clause-found g t c =
     let b : Grid = g.V.Seen.position c.args.view.now in
     found-several g.R.Rule.KIND c.args.moves c.args.budget b c.side.ensures.lawful c.requires.none c.requires.some c.requires.some_budget (sym c.requires.threat ∙ c.in-Several.is)
 
-pub search_on-returns-in-One-clause-found : goal.search_on-returns-in-One-clause-found
-search_on-returns-in-One-clause-found g t c =
+pub search_on-makes-requires-clause-empty : goal.search_on-makes-requires-clause-empty
+search_on-makes-requires-clause-empty g t c =
+    let b : Grid = g.V.Seen.position c.args.view.now in
+    one-empty g.R.Rule.KIND b (other (mover b)) c.in-One.point (sym c.requires.threat ∙ c.in-One.is)
+
+pub search_on-returns-then-makes-clause-found : goal.search_on-returns-then-makes-clause-found
+search_on-returns-then-makes-clause-found g t c =
     let b : Grid = g.V.Seen.position c.args.view.now in
     let same : found_trying g.R.Rule.KIND (c.args.moves - 1) b c.in-One.point (c.args.budget - 1) ≡ found_at g.R.Rule.KIND c.args.moves b c.args.budget =
     found-one g.R.Rule.KIND c.args.moves c.args.budget b c.side.ensures.lawful c.requires.none c.requires.some c.requires.some_budget c.in-One.point (sym c.requires.threat ∙ c.in-One.is) in
     subst (λ (f : Found). IfOk c.try_point.result (λ found. found ≡ f)) same c.try_point.ensures.found
+
+pub search_on-returns-else-makes-clause-found : goal.search_on-returns-else-makes-clause-found
+search_on-returns-else-makes-clause-found g t c =
+    let b : Grid = g.V.Seen.position c.args.view.now in
+    trying-no_five g.R.Rule.KIND (c.args.moves - 1) b c.in-One.point (c.args.budget - 1) (c.makes.ensures.other c.if-makes.false)
+    ∙ found-one g.R.Rule.KIND c.args.moves c.args.budget b c.side.ensures.lawful c.requires.none c.requires.some c.requires.some_budget c.in-One.point (sym c.requires.threat ∙ c.in-One.is)
 
 pub try_each-try_point-requires : goal.try_each-try_point-requires
 try_each-try_point-requires g t c κs within =
     let b : Grid = g.V.Seen.position c.args.view.now in
     let d : Grid = g.V.Seen.position c.loop-p.view in
     let same : d ≡ b = c.loop-p.invariant.same in
-    let empty : is_empty d c.in-Some.p ≡ true = ap (λ (w : Grid). is_empty w c.in-Some.p) (sym c.board-in-loop-p.ensures.board) ∙ sym c.if-is_empty.ensures.empty in
+    let empty : is_empty d c.in-Some.p ≡ true = c.may_make.ensures.empty c.if-may_make.true in
     let none : has_five g.R.Rule.KIND d (mover d) ≡ false = ap (λ (w : Grid). has_five g.R.Rule.KIND w (mover w)) same ∙ c.requires.none in
     let safe : has_five g.R.Rule.KIND (after d c.in-Some.p) (other (mover d)) ≡ false =
     ap (λ (w : Grid). has_five g.R.Rule.KIND (after w c.in-Some.p) (other (mover w))) same ∙ none-stays g.R.Rule.KIND b c.side.ensures.lawful c.in-Some.p (ap (λ (w : Grid). is_empty w c.in-Some.p) (sym same) ∙ empty) c.requires.safe in
+    let covers : Covers g.R.Rule.KIND d c.args.makers.now = subst (λ (w : Grid). Covers g.R.Rule.KIND w c.args.makers.now) (sym same) c.requires.covers in
     search rules
 
 pub try_each-loop-p-preserved-in-NoWin : goal.try_each-loop-p-preserved-in-NoWin
@@ -176,10 +197,10 @@ try_each-returns-in_default g t c =
 pub try_each-loop-p-preserved : goal.try_each-loop-p-preserved
 try_each-loop-p-preserved g t c =
     let b : Grid = g.V.Seen.position c.args.view.now in
-    let taken : is_empty b c.in-Some.p ≡ false = ap (λ (w : Grid). is_empty w c.in-Some.p) (sym (c.board-in-loop-p.ensures.board ∙ c.loop-p.invariant.same)) ∙ sym c.if-is_empty.ensures.empty in
+    let no_four : is_four_move g.R.Rule.KIND b c.in-Some.p ≡ false = ap (λ (w : Grid). is_four_move g.R.Rule.KIND w c.in-Some.p) (sym c.loop-p.invariant.same) ∙ c.may_make.ensures.four c.if-may_make.false in
     record {
       same = c.loop-p.invariant.same;
-      rest = sym (step-taken g.R.Rule.KIND (c.args.moves - 1) b c.loop-p.left c.in-Some.p c.loop-p.p-iterator c.next.new.self c.in-Some.ensures.steps taken) ∙ c.loop-p.invariant.rest;
+      rest = sym (step-skip g.R.Rule.KIND (c.args.moves - 1) b c.loop-p.left c.in-Some.p c.loop-p.p-iterator c.next.new.self c.in-Some.ensures.steps no_four) ∙ c.loop-p.invariant.rest;
     }
 
 pub try_each-returns-clause-found : goal.try_each-returns-clause-found
