@@ -7,6 +7,7 @@
 ghost use Rattle.std.specs.Prelude.{◌≡◌, ◌↔◌, ◌<◌, ◌≤◌, ◌+◌, ◌*◌, true, false, length, IfOk, OnErr, IsErrOf};
 ghost use Rattle.game_rules.specs.Games.{wins_by_fours};
 ghost use Rattle.strategy_graph.specs.declared.TheConstants.{MAX_NODES};
+ghost use Rattle.four_search.specs.declared.TheConstants.{MAX_DEPTH};
 ghost use Rattle.four_search.specs.FourGame.{four_cost};
 ghost use Rattle.four_search.specs.Growth.{GrowsBy};
 ghost use Rattle.four_search.specs.Answers.{OnWin, IsFourWin, most_added};
@@ -30,7 +31,7 @@ pub enum FourAnswer {
     Spent,
 }
 
-/// Searches a win by continuous fours for the side to move within `depth` moves, 1 to 60, looking at no more than `budget`
+/// Searches a win by continuous fours for the side to move within `depth` moves, 1 to `MAX_DEPTH`, looking at no more than `budget`
 /// positions, at least 1. A position counts each time that the attacker is to move in it, at each depth that is tried.
 ///
 /// - `Win` has the least number of moves, and the compiler's node stands for the plan of this win: it plays the least
@@ -49,7 +50,7 @@ pub fn four_search<R: Rule, V: Seen<R>>(
     compiler: &mut Compiler,
 ) -> Result<FourAnswer, SearchError>
     requires some_depth { 1 ≤ depth }
-    requires depth_fits { depth ≤ 60 }
+    requires depth_fits { depth ≤ MAX_DEPTH }
     requires some_budget { 1 ≤ budget }
     ensures win { IfOk result (λ a. OnWin a (IsFourWin R.KIND depth (V.position view.old) compiler.new)) }
     ensures none { IfOk result (λ a. (a ≡ FourAnswer.None)

@@ -15,3 +15,6 @@ mod tests;
 
 pub use answer::{FourAnswer, four_search};
 pub use error::SearchError;
+
+/// The most moves within which a win by fours is searched.
+pub const MAX_DEPTH: u32 = 60;

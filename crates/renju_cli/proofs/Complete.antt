@@ -18,7 +18,8 @@ use Rattle.renju_cli.specs.declared.status.Status.{Status}
 use Rattle.renju_cli.specs.declared.status.Status.TheVariants.{Done, Usage, RefusedText, RefusedTable, Spent, Memory, ReadFault, WriteFault, NotFound, TooLong}
 use Rattle.renju_cli.specs.declared.words.Form.{Form}
 use Rattle.renju_cli.specs.declared.words.Form.TheVariants.{Check, Foul, Fours}
-use Rattle.renju_cli.specs.declared.TheConstants.{MAX_WORK, MAX_DEPTH, MAX_SEARCHED}
+use Rattle.four_search.specs.declared.TheConstants.{MAX_DEPTH}
+use Rattle.renju_cli.specs.declared.TheConstants.{MAX_WORK, MAX_SEARCHED}
 use Rattle.renju_cli.specs.Statuses.{status_number}
 use Rattle.renju_cli.specs.Words.{IsForm, IsCheck, IsFours}
 use Rattle.renju_cli.specs.Checks.{IsTableAt, CheckSays}

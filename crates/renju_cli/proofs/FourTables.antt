@@ -22,7 +22,7 @@ use Rattle.four_search.proofs.Written.{IsWritten, plan-written}
 use Rattle.position_files.specs.Tables.{NodeOn, RootFits, IsTextOfTable}
 use Rattle.position_files.specs.declared.PositionFile.{PositionFile}
 use Rattle.four_search.specs.FourGame.{four_cost}
-use Rattle.renju_cli.specs.declared.TheConstants.{MAX_DEPTH}
+use Rattle.four_search.specs.declared.TheConstants.{MAX_DEPTH}
 use Rattle.renju_cli.specs.declared.answer.Answer.{Answer}
 use Rattle.renju_cli.specs.declared.status.Status.{Status}
 use Rattle.renju_cli.specs.declared.status.Status.TheVariants.{Done}

@@ -3,7 +3,8 @@ use Rattle.std.specs.Prelude.{◌≡◌, ℕ, ◌≤◌, List, [], ◌∷◌, co
 use Rattle.std.specs.Fmt.{decimal}
 use Rattle.renju_cli.specs.declared.words.Form.{Form}
 use Rattle.renju_cli.specs.declared.words.Form.TheVariants.{Check, Foul, Fours}
-use Rattle.renju_cli.specs.declared.TheConstants.{MAX_WORK, MAX_DEPTH, MAX_SEARCHED}
+use Rattle.four_search.specs.declared.TheConstants.{MAX_DEPTH}
+use Rattle.renju_cli.specs.declared.TheConstants.{MAX_WORK, MAX_SEARCHED}
 
 -- the words are `check` and a number from 1 to MAX_WORK, in decimal without leading zeros
 pub record IsCheck (words : List (List ℕ)) (work : ℕ) : Type 0 where

@@ -7,11 +7,11 @@ ghost use Rattle.four_search.specs.Answers.{IsFourWin};
 ghost use Rattle.renju_cli.specs.Fours.{FoursSays, SearchSays, IsFourText};
 ghost use Rattle.renju_cli.specs.Texts.{none_line};
 
+use crate::Status;
 use crate::answer::Answer;
 use crate::check::{refused_text, spent};
-use crate::{MAX_DEPTH, Status};
 use foul_judge::Position;
-use four_search::{FourAnswer, SearchError, four_search};
+use four_search::{FourAnswer, MAX_DEPTH, SearchError, four_search};
 use game_rules::RuleKind;
 use position_files::{PositionFile, read_position, write_table};
 use row_shapes::{ExactFive, Freestyle, Renju, Rule};

@@ -17,8 +17,5 @@ pub use words::Form;
 /// The most arrivals that `check` may be allowed.
 pub const MAX_WORK: u64 = 1_000_000_000_000;
 
-/// The most moves within which `fours` searches.
-pub const MAX_DEPTH: u32 = 60;
-
 /// The most positions that `fours` may be allowed to look at.
 pub const MAX_SEARCHED: u64 = 10_000_000;

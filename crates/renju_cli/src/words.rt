@@ -4,7 +4,8 @@
 ghost use Rattle.std.specs.Prelude.{◌≡◌, ℕ, [], ◌∷◌, MatchOption, map, string_bytes};
 ghost use Rattle.renju_cli.specs.Words.{HasForm, IsForm, IsCheck};
 
-use crate::{MAX_DEPTH, MAX_SEARCHED, MAX_WORK};
+use crate::{MAX_SEARCHED, MAX_WORK};
+use four_search::MAX_DEPTH;
 use position_files::wide_number;
 
 /// A form of words: the command and its numbers.
