@@ -1,6 +1,6 @@
 -- A text is that of one value, and nothing is said against the text of a lawful one.
 use Rattle.std.proofs.Common.{◌≡◌, refl, sym, ◌∙◌, ℕ, List}
-use Rattle.std.specs.Prelude.{Option, Some, None}
+use Rattle.std.specs.Prelude.{Some, None}
 use Rattle.game_rules.specs.Grid.{Grid}
 use Rattle.game_rules.specs.Play.{IsPosition}
 use Rattle.game_rules.specs.declared.RuleKind.{RuleKind}
@@ -15,7 +15,7 @@ use Rattle.position_files.specs.declared.error.FileError.TheVariants.{BadLine, U
 use Rattle.position_files.specs.Positions.{IsTextOfPosition}
 use Rattle.position_files.specs.Tables.{IsTextOfTable}
 use Rattle.position_files.specs.Faults.{IsPositionFault, IsTableFault}
-use Rattle.position_files.specs.ReadBack.{OnlyPosition, OnlyTable, PositionsReadBack, TablesReadBack}
+use Rattle.position_files.specs.ReadBack.{PositionsReadBack, TablesReadBack}
 use Rattle.position_files.proofs.PositionBad.{one_position}
 use Rattle.position_files.proofs.TableTexts.{one_table}
 

@@ -1,32 +1,26 @@
 -- A command that nothing hinders answers: each other status has a cause, which contradicts a premise.
-use Rattle.std.proofs.Common.{◌≡◌, ◌⊎◌, inl, inr, refl, ℕ, ◌≤◌, ◌<◌, ◌^◌, sym, ap, subst, ◌∙◌, arith, List, [], ◌∷◌, length, get_or}
-use Rattle.std.specs.Prelude.{codes, Option, Some, None, false}
+use Rattle.std.proofs.Common.{◌≡◌, inl, inr, refl, ℕ, ◌≤◌, sym, ap, subst, ◌∙◌, arith, List, [], ◌∷◌, length, get_or}
+use Rattle.std.specs.Prelude.{codes, Option, Some, None}
 use Rattle.std.specs.Fmt.{decimal}
 use Rattle.std.proofs.lemmas.Fmt.{decimal_injective}
 use Rattle.std.proofs.lemmas.Option.{same_Some}
 use Rattle.strategy_graph.specs.Roots.{root_arrivals}
 use Rattle.four_search.specs.FourGame.{four_cost}
-use Rattle.renju_io.specs.Faults.{HasRisen}
 use Rattle.renju_io.specs.declared.TheConstants.{MAX_INPUT_BYTES}
 use Rattle.position_files.specs.declared.PositionFile.{PositionFile}
 use Rattle.position_files.specs.declared.TableFile.{TableFile}
-use Rattle.position_files.specs.declared.error.FileError.{FileError}
-use Rattle.position_files.specs.declared.error.FileError.TheVariants.{Memory as NoMemory}
-use Rattle.position_files.specs.Faults.{IsPositionFault, IsTableFault}
 use Rattle.position_files.proofs.ReadBack.{position-read-back, table-read-back}
 use Rattle.renju_cli.specs.declared.status.Status.{Status}
 use Rattle.renju_cli.specs.declared.status.Status.TheVariants.{Done, Usage, RefusedText, RefusedTable, Spent, Memory, ReadFault, WriteFault, NotFound, TooLong}
 use Rattle.renju_cli.specs.declared.words.Form.{Form}
 use Rattle.renju_cli.specs.declared.words.Form.TheVariants.{Check, Foul, Fours}
-use Rattle.four_search.specs.declared.TheConstants.{MAX_DEPTH}
-use Rattle.renju_cli.specs.declared.TheConstants.{MAX_WORK, MAX_SEARCHED}
-use Rattle.renju_cli.specs.Statuses.{status_number}
+use Rattle.renju_cli.specs.declared.TheConstants.{MAX_WORK}
 use Rattle.renju_cli.specs.Words.{IsForm, IsCheck, IsFours}
-use Rattle.renju_cli.specs.Checks.{IsTableAt, CheckSays}
-use Rattle.renju_cli.specs.Fouls.{IsPositionAt, FoulSays}
+use Rattle.renju_cli.specs.Checks.{CheckSays}
+use Rattle.renju_cli.specs.Fouls.{FoulSays}
 use Rattle.renju_cli.specs.Fours.{FoursSays}
-use Rattle.renju_cli.specs.Reports.{IsInput, IsTooLong, CommandSays, CommandIsDue, IsDue, Report, OutputChange, IsSilent, IsDelivered}
-use Rattle.renju_cli.specs.Completeness.{IsAnswerable, IsUnhindered, IsAnswer, IsAnswered, IsComplete}
+use Rattle.renju_cli.specs.Reports.{IsInput, IsTooLong, CommandSays, CommandIsDue, IsDue, Report, OutputChange}
+use Rattle.renju_cli.specs.Completeness.{IsAnswerable, IsAnswer, IsComplete}
 
 -- ---- words have one form
 
