@@ -378,7 +378,7 @@ on_board first now s points i least h all within =
 -- ---- stones are on the board
 
 all_on_by : (b : Grid) (s : Side) (x : Point) (rest : List Point) → AllByRecursion (IsWithin b.width b.height) rest → (r : Bool) → is_on b x ≡ r → (h : Bool) → holds b s x ≡ h → AllByRecursion (IsWithin b.width b.height) (cond h (x ∷ rest) rest)
-all_on_by b s x rest all r on false h = all
+all_on_by b s x rest all r _ false h = all
 all_on_by b s x rest all true on true h = (record { column = on_x b x on; row = on_y b x on }, all)
 all_on_by b s x rest all false on true h =
     let none : holds b s x ≡ false = ap (λ q. q && is_stone_of s (cell_at b x)) on in

@@ -1,5 +1,5 @@
 -- What is said where there is no win by fours.
-use Rattle.std.proofs.Common.{◌≡◌, ◌≤◌, ℕ, List, true, false, sym, subst, ◌∙◌}
+use Rattle.std.proofs.Common.{◌≡◌, ◌≤◌, ℕ, true, false, sym, subst, ◌∙◌}
 use Rattle.std.specs.Prelude.{Result, Ok, Err, IfOk}
 use Rattle.game_rules.specs.Grid.{Grid}
 use Rattle.game_rules.specs.Games.{has_five, wins_by_fours, WinsByFours}

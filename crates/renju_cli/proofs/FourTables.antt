@@ -19,7 +19,7 @@ use Rattle.strategy_compiler.specs.Walks.{IsTableOf, Reaches, last}
 use Rattle.four_search.specs.Answers.{NamesOnBoard, IsFourWin}
 use Rattle.four_search.specs.Plans.{four_plan}
 use Rattle.four_search.proofs.Written.{IsWritten, plan-written}
-use Rattle.position_files.specs.Tables.{NodeOn, RootFits, IsTextOfTable}
+use Rattle.position_files.specs.Tables.{NodeOn, RootFits}
 use Rattle.position_files.specs.declared.PositionFile.{PositionFile}
 use Rattle.four_search.specs.FourGame.{four_cost}
 use Rattle.four_search.specs.declared.TheConstants.{MAX_DEPTH}

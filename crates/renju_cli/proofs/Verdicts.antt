@@ -1,6 +1,6 @@
 -- A verdict that is told is what is said of the table.
 use Rattle.std.proofs.Common.{◌≡◌, ℕ, List, sym, ap, subst, ◌∙◌}
-use Rattle.std.specs.Prelude.{Result, Ok, Err, IfOk, string_bytes}
+use Rattle.std.specs.Prelude.{Result, Ok, Err, IfOk}
 use Rattle.game_rules.specs.Grid.{Grid}
 use Rattle.game_rules.specs.declared.RuleKind.{RuleKind}
 use Rattle.strategy_graph.specs.Roots.{root_depth, root_arrivals, AcceptedRoot, RootWins}

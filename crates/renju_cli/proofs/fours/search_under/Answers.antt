@@ -1,4 +1,4 @@
-use Rattle.std.proofs.Common.{◌≡◌, ◌∙◌, subst}
+use Rattle.std.proofs.Common.{◌∙◌, subst}
 use Rattle.four_search.specs.Answers.{OnWin, IsFourWin}
 use Rattle.four_search.specs.declared.answer.FourAnswer.{FourAnswer}
 use Rattle.renju_cli.proofs.FourTables.{win-says}

@@ -1,4 +1,4 @@
-use Rattle.std.proofs.Common.{◌≡◌, ◌+◌, ◌-◌, ◌≤◌, ◌<◌, length, arith}
+use Rattle.std.proofs.Common.{arith}
 use Rattle.renju_cli.proofs.FourTables.{made-of, table-some, table-on, root-fits}
 use Rattle.renju_cli.proofs.fours.win_text.Goals as goal
 
