@@ -28,7 +28,7 @@ is_in set q = get_or set (32 * q.y + q.x) true
 abbrev pub Covers : RuleKind → Grid → List Bool → Type 0
 Covers rule b set = (q : Point) → is_empty b q ≡ true → is_in set q ≡ false → has_five rule (after b q) (mover b) ≡ false
 
--- nor does one that is not on a line with p
+-- no empty point that is outside the set and not on a line with p does
 abbrev pub CoversBeside : RuleKind → Grid → List Bool → Point → Type 0
 CoversBeside rule b set p =
     (q : Point) → is_empty b q ≡ true → is_in set q ≡ false → on_lines q p ≡ false → has_five rule (after b q) (mover b) ≡ false

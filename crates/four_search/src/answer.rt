@@ -31,8 +31,8 @@ pub enum FourAnswer {
     Spent,
 }
 
-/// Searches a win by continuous fours for the side to move within `depth` moves, 1 to `MAX_DEPTH`, looking at no more than `budget`
-/// positions, at least 1. A position counts each time that the attacker is to move in it, at each depth that is tried.
+/// Searches a win by continuous fours for the side to move within `depth` moves, 1 to `MAX_DEPTH`, with a budget of positions to
+/// look at, at least 1. A position counts each time that the attacker is to move in it, at each depth that is tried.
 ///
 /// - `Win` has the least number of moves, and the compiler's node stands for the plan of this win: it plays the least
 ///   five point, and else the least four that wins within the moves left, and answers each reply that goes on. No more

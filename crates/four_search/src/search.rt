@@ -9,7 +9,7 @@
 
 ghost use Rattle.std.specs.Prelude.{◌≡◌, ◌<◌, ◌≤◌, ◌+◌, [], ◌∷◌, ◌++◌, true, false, IfOk, IsTrue, Some};
 ghost use Rattle.game_rules.specs.Grid.{is_empty};
-ghost use Rattle.game_rules.specs.Play.{after, outcome, mover, other as other_lem, has_fouls};
+ghost use Rattle.game_rules.specs.Play.{after, outcome, mover, other as other_lem, has_fouls as has_fouls_lem};
 ghost use Rattle.game_rules.specs.Games.{has_five as has_five_lem, five_points};
 ghost use Rattle.threat_moves.specs.FourMoves.{is_four_move};
 ghost use Rattle.threat_moves.specs.OneBlock.{all_foul as all_foul_lem, won_within as won_within_lem};
@@ -263,7 +263,7 @@ fn after_block<R: Rule, V: Seen<R>>(
         return Ok(Found::Spent);
     }
     let defender = view.side();
-    if moves == 1 && !may_foul::<R>(defender) {
+    if moves == 1 && !has_fouls::<R>(defender) {
         return Ok(Found::NoWin { left: budget - 1 });
     }
     let threat = fives_made::<R, V>(view, block);
@@ -326,8 +326,8 @@ fn all_foul<R: Rule, V: Seen<R>>(view: &mut V) -> bool
 }
 
 /// Whether the side has fouls.
-fn may_foul<R: Rule>(side: Side) -> bool
-    ensures fouls { result ≡ has_fouls R.KIND side }
+fn has_fouls<R: Rule>(side: Side) -> bool
+    ensures fouls { result ≡ has_fouls_lem R.KIND side }
 {
     match side {
         Side::Black => R::BLACK_FOULS,

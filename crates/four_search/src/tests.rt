@@ -1,5 +1,5 @@
-// Wins by fours on worked positions, with the tables of their plans as text.
-use crate::{FourAnswer, four_search};
+//! Wins by fours on worked positions, with the tables of their plans as text.
+use crate::{FourAnswer, MAX_DEPTH, four_search};
 use foul_judge::Position;
 use row_shapes::{ExactFive, Freestyle, Renju, Rule, RuleKind};
 use std::alloc::{AllocError, Global};
@@ -142,7 +142,7 @@ fn nodes_text(alloc: Global, table: &Table, moves: u32) -> Result<String, AllocE
 fn answer_text<R: Rule>(alloc: Global, case: &Case) -> Result<String, Fail> {
     let depth = case.depth;
     let budget = case.budget;
-    if depth < 1 || depth > 60 || budget < 1 {
+    if depth < 1 || depth > MAX_DEPTH || budget < 1 {
         return Err(Fail::from("out of range"));
     }
     let mut view = position::<R>(alloc, case)?.ok_or("unlawful")?;

@@ -1,5 +1,4 @@
 pub mod Texts
-pub mod Devices
 pub mod Statuses
 pub mod Words
 pub mod Checks
@@ -7,3 +6,4 @@ pub mod Fouls
 pub mod Fours
 pub mod Reports
 pub mod Completeness
+pub mod Devices

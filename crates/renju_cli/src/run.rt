@@ -10,7 +10,7 @@ ghost use Rattle.renju_cli.specs.Statuses.{status_number};
 ghost use Rattle.renju_cli.specs.Words.{HasForm, IsInRange};
 ghost use Rattle.renju_cli.specs.Reports.{IsDue, IsDelivered, Report, ShowsWin, CommandIsDue, CommandSays};
 ghost use Rattle.renju_cli.specs.Completeness.{IsComplete};
-ghost use Rattle.renju_cli.specs.Devices.{IsReadFor, IsUnasked};
+ghost use Rattle.renju_cli.specs.Devices.{IsReadFor, IsUnasked, IsReadToEnd, SpeaksOfInput};
 
 use crate::answer::Answer;
 use crate::check::check_text;
@@ -41,10 +41,10 @@ impl From<AllocError> for Stop {
 /// Does all that the program does: reads the words after the program's name, and where they ask for it the input and
 /// the shelf, writes to the output, and answers the status to exit with.
 ///
-/// Words without a form leave the input unasked, and no command that is built asks the shelf. The status and the text that
-/// are due are those of `Status` and of the commands. Words without a form get the usage line
-/// and status 1. A failing output gives status 8 in place of the status that was due, and the output then has the front of
-/// the text; want of memory gives 6 and a failing input 7, and then nothing is written.
+/// The status and the text that are due are those of `Status` and of the commands. Words without a form get the usage line
+/// and status 1, and leave the input unasked; of an input a status speaks only once it was read to its end. No command that is
+/// built changes the shelf or counts a fault there. A failing output gives status 8 in place of the status that was due, and
+/// the output then has the front of the text; want of memory gives 6 and a failing input 7, and then nothing is written.
 pub fn run_renju<I: Source, O: Sink, F: Shelf>(
     alloc: Global,
     words: &[String],
@@ -62,6 +62,7 @@ pub fn run_renju<I: Source, O: Sink, F: Shelf>(
     // What is left of the devices.
     ensures input { IsReadFor (map string_bytes words.now)
         (record { left_before = I.left input.old; left_after = I.left input.new; faults_before = I.faults input.old; faults_after = I.faults input.new }) }
+    ensures input_end { IsReadToEnd result (I.left input.new) }
     ensures output { HasNotFallen (O.faults output.old) (O.faults output.new) }
     ensures shelf { F.files shelf.new ≡ F.files shelf.old }
     ensures shelf_faults { F.faults shelf.new ≡ F.faults shelf.old }
@@ -76,6 +77,7 @@ fn run<I: Source, O: Sink>(alloc: Global, words: &[String], input: &mut I, outpu
         (record { written_before = O.written output.old; written_after = O.written output.new; faults_before = O.faults output.old; faults_after = O.faults output.new }) result }
     ensures input { IsReadFor (map string_bytes words.now)
         (record { left_before = I.left input.old; left_after = I.left input.new; faults_before = I.faults input.old; faults_after = I.faults input.new }) }
+    ensures input_end { IsReadToEnd result (I.left input.new) }
     ensures output { HasNotFallen (O.faults output.old) (O.faults output.new) }
 {
     match answer(alloc, words, input) {
@@ -90,6 +92,7 @@ fn answer<I: Source>(alloc: Global, words: &[String], input: &mut I) -> Result<A
     ensures due { IfOk result (λ answer. IsDue (map string_bytes words.now) (I.left input.old) answer.status answer.text.items) }
     ensures failed { result ≡ Err Stop.ReadFault → HasRisen (I.faults input.old) (I.faults input.new) }
     ensures form { result ≡ Err Stop.ReadFault → HasForm (map string_bytes words.now) }
+    ensures input_end { IfOk result (λ answer. IsReadToEnd (status_number answer.status) (I.left input.new)) }
     ensures input { IsReadFor (map string_bytes words.now)
         (record { left_before = I.left input.old; left_after = I.left input.new; faults_before = I.faults input.old; faults_after = I.faults input.new }) }
 {
@@ -104,6 +107,7 @@ fn answer_form<I: Source>(alloc: Global, form: Form, input: &mut I) -> Result<An
     requires in_range { IsInRange form }
     ensures due { IfOk result (λ answer. CommandIsDue form (I.left input.old) answer.status answer.text.items) }
     ensures failed { result ≡ Err Stop.ReadFault → HasRisen (I.faults input.old) (I.faults input.new) }
+    ensures input_end { IfOk result (λ answer. IsReadToEnd (status_number answer.status) (I.left input.new)) }
     ensures taken { GivesSome (I.left input.old) (I.left input.new) }
     ensures counted { HasNotFallen (I.faults input.old) (I.faults input.new) }
 {

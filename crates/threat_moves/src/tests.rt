@@ -1,4 +1,4 @@
-// Five points, four moves and their fates on worked positions. Expected values are from the rules by hand.
+//! Five points, four moves and their fates on worked positions. Expected values are from the rules by hand.
 
 use crate::{
     BlockAnswer, FivePoints, fives, fives_in_short, fives_made, forced, four_moves, has_five,

@@ -93,11 +93,11 @@ fn a_cut_names_the_first_line_that_is_missing(rt: HostRuntime) -> Result<(), Fai
     for (i, byte) in text.iter().enumerate() {
         if begins {
             line = line.wrapping_add(1);
-            let expected = format!(in rt.alloc(); "refused line {line}\n")?;
-            let run = run_sound(rt.alloc(), "check 219", &text[..i])?;
-            assert_eq!(rt; run.output.as_slice(), expected.as_bytes());
-            assert_eq!(rt; run.status, 3);
         }
+        let expected = format!(in rt.alloc(); "refused line {line}\n")?;
+        let run = run_sound(rt.alloc(), "check 219", &text[..i])?;
+        assert_eq!(rt; run.output.as_slice(), expected.as_bytes(), "{i} bytes");
+        assert_eq!(rt; run.status, 3, "{i} bytes");
         begins = *byte == b'\n';
     }
     assert_eq!(rt; line, 10);

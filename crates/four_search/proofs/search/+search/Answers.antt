@@ -23,11 +23,11 @@ pub after_block-returns-then-budget-eq0-clause-found :
 after_block-returns-then-budget-eq0-clause-found g t c =
     found-nothing g.R.Rule.KIND c.args.moves c.args.budget (after (g.V.Seen.position c.args.view.now) c.args.block) c.if-budget-eq0.true
 
-pub after_block-returns-then-not-may_foul-clause-found :
-    goal.after_block-returns-then-not-may_foul-clause-found
-after_block-returns-then-not-may_foul-clause-found g t c =
+pub after_block-returns-then-not-has_fouls-clause-found :
+    goal.after_block-returns-then-not-has_fouls-clause-found
+after_block-returns-then-not-has_fouls-clause-found g t c =
     let b : Grid = g.V.Seen.position c.args.view.now in
-    let calm : has_fouls g.R.Rule.KIND (mover b) ≡ false = ap (has_fouls g.R.Rule.KIND) (sym c.side-defender.ensures.side) ∙ sym c.if-not-may_foul.ensures.fouls in
+    let calm : has_fouls g.R.Rule.KIND (mover b) ≡ false = ap (has_fouls g.R.Rule.KIND) (sym c.side-defender.ensures.side) ∙ sym c.if-not-has_fouls.ensures.fouls in
     let fits = c.if-budget-eq0.false in
     block-last g.R.Rule.KIND b c.args.block c.side-defender.ensures.lawful c.requires.goes_on c.requires.one c.args.moves c.args.budget c.if-moves-eq1.true (omega (arith, fits)) calm
 
