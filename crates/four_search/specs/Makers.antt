@@ -28,12 +28,12 @@ is_in set q = get_or set (32 * q.y + q.x) true
 abbrev pub Covers : RuleKind → Grid → List Bool → Type 0
 Covers rule b set = (q : Point) → is_empty b q ≡ true → is_in set q ≡ false → has_five rule (after b q) (mover b) ≡ false
 
--- no empty point that is outside the set and not on a line with p does
+-- no empty point that is outside the set and not on a line with p makes a five point for the side to move
 abbrev pub CoversBeside : RuleKind → Grid → List Bool → Point → Type 0
 CoversBeside rule b set p =
     (q : Point) → is_empty b q ≡ true → is_in set q ≡ false → on_lines q p ≡ false → has_five rule (after b q) (mover b) ≡ false
 
--- so after each reply at c that goes on and leaves the other side no five point
+-- the same after each reply at c that goes on and leaves the other side no five point
 abbrev pub CoversAfter : RuleKind → Grid → List Bool → Point → Type 0
 CoversAfter rule c set p =
     (w : Point) → outcome rule c w ≡ GoesOn → has_five rule (after c w) (other (mover c)) ≡ false → CoversBeside rule (after c w) set p
