@@ -39,3 +39,27 @@ def best(command, words, text, wanted, runs=5):
             sys.exit(f"{' '.join(command + words)}: status {status}, printed {printed[:200]!r}")
         least = min(least, seconds)
     return least
+
+
+def in_turns(all_programs, words, text, runs=5):
+    """For each program the least seconds of some runs over the text, the least of some starts alone, and what it answers. The
+    programs and the starts take turns, so that a change of the machine's pace meets all of them."""
+    took = [[float("inf"), float("inf"), None] for _ in all_programs]
+    for _ in range(runs):
+        for program, best in zip(all_programs, took):
+            seconds, *answer = run(program, words, text)
+            best[0] = min(best[0], seconds)
+            best[1] = min(best[1], run(program, [], b"")[0])
+            best[2] = answer
+    return took
+
+
+def compare(all_programs, words, texts, looked):
+    """Prints for each program how many positions per second it looks at, with its starts taken off. All have to answer the same."""
+    took = [in_turns(all_programs, words, text) for text in texts]
+    for i, program in enumerate(all_programs):
+        started = sum(each[i][1] for each in took)
+        seconds = sum(each[i][0] for each in took) - started
+        print(f"{' '.join(program)}: {looked} positions in {seconds:.3f} s, {looked / seconds:,.0f} positions/s; so many starts alone {started:.3f} s")
+    if any(best[2] != each[0][2] for each in took for best in each):
+        sys.exit("the programs do not answer the same")
