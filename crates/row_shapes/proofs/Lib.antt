@@ -1,5 +1,7 @@
 mod Finds
-mod Counting
+pub mod Counting
 pub mod Ways
 pub mod ThreePoints
 pub mod Reaches
+pub mod ShortLists
+mod NewFives
