@@ -1,3 +1,4 @@
 pub mod Trees
 pub mod Walks
+pub mod Orders
 pub mod Nodes

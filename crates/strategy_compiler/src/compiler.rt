@@ -10,7 +10,7 @@ ghost use Rattle.strategy_compiler.specs.Trees.{Tree, Branches, Leaf, Fork, Stan
 ghost use Rattle.strategy_compiler.specs.Walks.{AreDifferent, IsNumberedByWalk, IsTableOf, NamesPointsReached, Reaches, Renumbers, completed, last};
 ghost use Rattle.strategy_compiler.specs.Nodes.{IsCompiled, NamesOnly, PutsIn, answering_node, winning_node};
 
-use crate::renumbering::table_from;
+use crate::renumbering::made_from;
 use crate::rests::answering;
 use game_rules::Point;
 use indexmap::IndexSet;
@@ -128,13 +128,15 @@ impl Compiler {
         ensures trees { IfOk result (λ t. (tree : Tree) → StandsFor self root tree → IsTableOf tree t) }
 
         // Of every root, whether or not it stands for a tree.
+        ensures some { IfOk result (λ t. 0 < length t) }
         ensures different { IfOk result AreDifferent }
         ensures reached { IfOk result (λ t. (i : ℕ) → i < length t → Reaches t (last t) i) }
         ensures numbered { IfOk result IsNumberedByWalk }
         ensures same { IfOk result (λ t. SaysSame self root t (last t)) }
         ensures points { IfOk result (λ t. All (NamesPointsReached self root) t) }
     {
-        table_from(*self.nodes.allocator(), self.nodes.as_slice(), root)
+        let made = made_from(*self.nodes.allocator(), self.nodes.as_slice(), &[root])?;
+        Ok(made.table)
     }
 }
 

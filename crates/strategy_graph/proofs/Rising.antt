@@ -54,7 +54,7 @@ precedes-differs_by a b c d h = grind (arith, nat_tests)
 pub precedes-differs : (p q : Point) → precedes p q ≡ true → is_same_point p q ≡ false
 precedes-differs p q h = precedes-differs_by p.x p.y q.x q.y h
 
-precedes-differs_back : (p q : Point) → precedes p q ≡ true → is_same_point q p ≡ false
+pub precedes-differs_back : (p q : Point) → precedes p q ≡ true → is_same_point q p ≡ false
 precedes-differs_back p q h = back_by p.x p.y q.x q.y h where
   back_by : (a b c d : ℕ) → (nat_lt b d || (b == d && nat_lt a c)) ≡ true → (c == a && d == b) ≡ false
   back_by a b c d h = grind (arith, nat_tests)
