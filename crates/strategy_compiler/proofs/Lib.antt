@@ -9,3 +9,4 @@ pub mod Places
 pub mod Copying
 pub mod Finishing
 pub mod Unique
+pub mod Winning

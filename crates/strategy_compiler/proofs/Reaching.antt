@@ -59,7 +59,7 @@ module _ (t : List Node) where
 
 -- ---- what a node reaches, however the table grows
 
-slice_get-shorter : (t more : List Node) (i : ℕ) (n : Node) → i < length t → slice_get (t ++ more) i ≡ Some n → slice_get t i ≡ Some n
+pub slice_get-shorter : (t more : List Node) (i : ℕ) (n : Node) → i < length t → slice_get (t ++ more) i ≡ Some n → slice_get t i ≡ Some n
 slice_get-shorter [] more i n l h = absurd (omega arith)
 slice_get-shorter (m ∷ t) more zero n l h = h
 slice_get-shorter (m ∷ t) more (suc i) n l h = slice_get-shorter t more i n (omega arith) h
@@ -73,6 +73,11 @@ reaches-shorter t more lower _ _ l (Itself i) = Itself i
 reaches-shorter t more lower _ _ l (Through i j k n at c r) =
     let here = slice_get-shorter t more i n l at in
     Through i j k n here c (reaches-shorter t more lower j k (lt_trans j i (length t) (named-below t lower i n here j c) l) r)
+
+-- what is reached is no higher
+pub reaches-inside : (t : List Node) → NamesLower t → (i k : ℕ) → i < length t → Reaches t i k → k < length t
+reaches-inside t lower _ _ l (Itself i) = l
+reaches-inside t lower _ _ l (Through i j k n at c r) = reaches-inside t lower j k (lt_trans j i (length t) (named-below t lower i n at j c) l) r
 
 pub growth_keeps-reach : GrowthKeepsReach
 growth_keeps-reach t more lower i k l = (reaches-shorter t more lower i k l, reaches-longer t more i k)

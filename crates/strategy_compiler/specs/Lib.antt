@@ -2,3 +2,4 @@ pub mod Trees
 pub mod Walks
 pub mod Orders
 pub mod Nodes
+pub mod Wins
