@@ -5,6 +5,7 @@ use Rattle.std.specs.Prelude.{Option, Some, None, nat_le, nat_eq, slice_get, fol
 use Rattle.std.specs.List.{list_all, find, cons_option}
 use Rattle.std.specs.Option.{option_map, option_map_or, option_eq}
 use Rattle.std.proofs.lemmas.Bool.Decides.{Decides-eqb}
+use Rattle.std.proofs.lemmas.Option.{same_Some}
 use Rattle.std.proofs.lemmas.List.{map-append}
 use Rattle.std.proofs.lemmas.List.Folds.{list_all-append}
 use Rattle.std.proofs.lemmas.List.Sums.{sum_by-cons}
@@ -20,11 +21,8 @@ use Rattle.strategy_graph.specs.Leads.{AtNode}
 use Rattle.strategy_graph.proofs.Answering.{answer-named}
 use Rattle.strategy_graph.proofs.Copies.{renamed, renamed_reply, renamed_rest, renamed_answers, Copies, answer-renamed, is_winning-renamed, named-renamed}
 use Rattle.strategy_compiler.specs.Trees.{Tree, Branches, Leaf, Fork, NoBranch, Branch, StandsFor, StandsForAll, AnswersBriefly, replies_of, answers_to, commonest, times}
-use Rattle.strategy_compiler.specs.Walks.{Reaches, Itself, Through, visits, visits_at, is_among, completed_within}
+use Rattle.strategy_compiler.specs.Walks.{Reaches, Itself, Through, visits, visits_at, is_in_list, completed_within}
 use Rattle.strategy_compiler.proofs.Places.{points-renamed}
-
-some_equal : {X : Type 0} (x y : X) → Some x ≡ Some y → x ≡ y
-some_equal x y e = cc
 
 cons-first : {X : Type 0} (x y : X) (xs ys : List X) → x ∷ xs ≡ y ∷ ys → x ≡ y
 cons-first x y xs ys e = cc
@@ -39,7 +37,7 @@ pub record IsOneToOne (f : ℕ → ℕ) (passes : ℕ → Bool) : Type 0 where
 module _ (f : ℕ → ℕ) (passes : ℕ → Bool) (one : IsOneToOne f passes) where
   -- ---- numbers among others, and the commonest
 
-  among-map : (i : ℕ) (js : List ℕ) → passes i ≡ true → is_among (f i) (map f js) ≡ is_among i js
+  among-map : (i : ℕ) (js : List ℕ) → passes i ≡ true → is_in_list (f i) (map f js) ≡ is_in_list i js
   among-map i [] p = refl
   among-map i (j ∷ js) p = λ k. one.apart j i p k || among-map i js p k
 
@@ -204,7 +202,7 @@ module _ (f : ℕ → ℕ) (passes : ℕ → Bool) (one : IsOneToOne f passes) w
       ∙ and-swap (list_all passes (map (λ (r : Reply). r.next) a.replies)) (list_all passes (rest_nodes a.rest))
       (sym (list_all-append passes (map (λ (r : Reply). r.next) a.replies) (rest_nodes a.rest)) ∙ h)
 
-  contains-map : (js : List ℕ) (j : ℕ) → Contains js j → Contains (map f js) (f j)
+  pub contains-map : (js : List ℕ) (j : ℕ) → Contains js j → Contains (map f js) (f j)
   contains-map [] j (k, l, e) = absurd (omega arith)
   contains-map (x ∷ xs) j (zero, l, e) = (0, omega arith, ap f e)
   contains-map (x ∷ xs) j (suc k, l, e) = let later = contains-map xs j (k, omega arith, e) in (suc later.0, omega arith, later.2)
@@ -227,7 +225,7 @@ module _ (f : ℕ → ℕ) (passes : ℕ → Bool) (one : IsOneToOne f passes) w
         let c = copies.copied i p in
         ap (λ (o : Option Node). list_all passes (option_map_or (λ n. visits (answers_of n)) o [])) c.1 ∙ visits-pass (answers_of c.0) c.3
 
-    fold-copied : (g h : List ℕ → ℕ → List ℕ) → ((done : List ℕ) (j : ℕ) → passes j ≡ true → h (map f done) (f j) ≡ map f (g done j)) → (js done : List ℕ) → list_all passes js ≡ true → fold h (map f done) (map f js) ≡ map f (fold g done js)
+    pub fold-copied : (g h : List ℕ → ℕ → List ℕ) → ((done : List ℕ) (j : ℕ) → passes j ≡ true → h (map f done) (f j) ≡ map f (g done j)) → (js done : List ℕ) → list_all passes js ≡ true → fold h (map f done) (map f js) ≡ map f (fold g done js)
     fold-copied g h same [] done l = refl
     fold-copied g h same (j ∷ js) done l =
         ap (λ (d : List ℕ). fold h d (map f js)) (same done j (and_left (passes j) _ l))
@@ -239,11 +237,11 @@ module _ (f : ℕ → ℕ) (passes : ℕ → Bool) (one : IsOneToOne f passes) w
     within-copied zero done i p = refl
     within-copied (suc k) done i p =
         ap (λ (b : Bool). cond b (map f done) (fold (completed_within k u) (map f done) (visits_at u (f i)) ++ f i ∷ [])) (among-map i done p)
-        ∙ ap (λ (js : List ℕ). cond (is_among i done) (map f done) (fold (completed_within k u) (map f done) js ++ f i ∷ [])) (visits_at-copied i p)
-        ∙ ap (λ (ds : List ℕ). cond (is_among i done) (map f done) (ds ++ f i ∷ []))
+        ∙ ap (λ (js : List ℕ). cond (is_in_list i done) (map f done) (fold (completed_within k u) (map f done) js ++ f i ∷ [])) (visits_at-copied i p)
+        ∙ ap (λ (ds : List ℕ). cond (is_in_list i done) (map f done) (ds ++ f i ∷ []))
         (fold-copied (completed_within k t) (completed_within k u) (λ d j q. within-copied k d j q) (visits_at t i) done (visits_at-pass i p))
-        ∙ ap (λ (ds : List ℕ). cond (is_among i done) (map f done) ds) (sym (map-append f (fold (completed_within k t) done (visits_at t i)) (i ∷ [])))
-        ∙ by_test (is_among i done) where
+        ∙ ap (λ (ds : List ℕ). cond (is_in_list i done) (map f done) ds) (sym (map-append f (fold (completed_within k t) done (visits_at t i)) (i ∷ [])))
+        ∙ by_test (is_in_list i done) where
           by_test : (b : Bool) → cond b (map f done) (map f (fold (completed_within k t) done (visits_at t i) ++ i ∷ [])) ≡ map f (cond b done (fold (completed_within k t) done (visits_at t i) ++ i ∷ []))
           by_test true = refl
           by_test false = refl
@@ -253,7 +251,7 @@ module _ (f : ℕ → ℕ) (passes : ℕ → Bool) (one : IsOneToOne f passes) w
     reaches-copied _ _ p (Itself i) = Itself (f i)
     reaches-copied _ _ p (Through i j k n at c r) =
         let copy = copies.copied i p in
-        let same : copy.0 ≡ n = some_equal copy.0 n (sym copy.1 ∙ at) in
+        let same : copy.0 ≡ n = same_Some copy.0 n (sym copy.1 ∙ at) in
         let all : list_all passes (named (answers_of n)) ≡ true = subst (λ (m : Node). list_all passes (named (answers_of m)) ≡ true) same copy.3 in
         let there : slice_get u (f i) ≡ Some (renamed f n) = copy.2 ∙ ap (λ (m : Node). Some (renamed f m)) same in
         Through (f i) (f j) (f k) (renamed f n) there

@@ -4,7 +4,9 @@ pub mod Standing
 pub mod Briefs
 pub mod Completing
 pub mod Walking
+pub mod Reaching
 pub mod Places
 pub mod Copying
 pub mod Finishing
 pub mod Unique
+pub mod Winning

@@ -4,7 +4,7 @@ use Rattle.std.specs.Prelude.{Some, nat_lt, slice_get, replicate, Contains}
 use Rattle.std.specs.List.{list_all}
 use Rattle.std.proofs.Math.ListN.{set, length-set}
 use Rattle.std.proofs.lemmas.List.{get_or-set_same, get_or-set_other, length-replicate}
-use Rattle.std.proofs.lemmas.Option.{slice_get_within, slice_get_read, slice_get-get_or, get_or_from_slice_get}
+use Rattle.std.proofs.lemmas.Option.{slice_get_within, slice_get_read, slice_get-get_or, get_or_from_slice_get, same_Some}
 use Rattle.std.proofs.lemmas.Bool.Decides.{Decides-eqb}
 use Rattle.std.proofs.lemmas.List.Folds.{list_all-append}
 use Rattle.game_rules.specs.declared.Point.{Point}
@@ -17,17 +17,18 @@ use Rattle.strategy_graph.specs.declared.TheConstants.{MAX_NODES}
 use Rattle.strategy_graph.specs.Tables.{answers_of, named, names_below, rest_nodes, precedes, is_rising, IsNode, IsTable}
 use Rattle.strategy_graph.proofs.Copies.{renamed, renamed_reply, renamed_rest, named-renamed, is_winning-renamed}
 use Rattle.strategy_graph.proofs.Growth.{names_below-more}
-use Rattle.strategy_compiler.specs.Walks.{is_among, place_in, IsOrder, Renumbers, renumbered_node, renumbered_rest}
+use Rattle.strategy_compiler.specs.Walks.{is_in_list, place_in, Renumbers, renumbered_node, renumbered_rest}
+use Rattle.strategy_compiler.specs.Orders.{ArePlaces, IsOrder}
 use Rattle.strategy_compiler.proofs.Walking.{among-at}
 use borrow.Author.Tests.{ltb-true, ltb-false, lt-ltb}
 
 -- ---- places
 
 -- a number of the list is at its place
-pub among-place : (order : List ℕ) (i : ℕ) → is_among i order ≡ true → slice_get order (place_in order i) ≡ Some i
+pub among-place : (order : List ℕ) (i : ℕ) → is_in_list i order ≡ true → slice_get order (place_in order i) ≡ Some i
 among-place [] i h = cc
 among-place (x ∷ xs) i h = by_test (x == i) refl h (among-place xs i) where
-  by_test : (b : Bool) → (x == i) ≡ b → (b || is_among i xs) ≡ true → (is_among i xs ≡ true → slice_get xs (place_in xs i) ≡ Some i) → slice_get (x ∷ xs) (cond (not b) (1 + place_in xs i) 0) ≡ Some i
+  by_test : (b : Bool) → (x == i) ≡ b → (b || is_in_list i xs) ≡ true → (is_in_list i xs ≡ true → slice_get xs (place_in xs i) ≡ Some i) → slice_get (x ∷ xs) (cond (not b) (1 + place_in xs i) 0) ≡ Some i
   by_test true e h next = ap Some ((Decides-eqb x i).0 e)
   by_test false e h next = rw one-add (next h)
 
@@ -36,11 +37,11 @@ pub place-at : (order : List ℕ) → ((k l i : ℕ) → slice_get order k ≡ S
 place-at order once k i e = once (place_in order i) k i (among-place order i (among-at order k i e)) e
 
 -- what is among the first k is at a place below k
-pub among-take : (order : List ℕ) (k i : ℕ) → is_among i (take k order) ≡ true → (m : ℕ) × (m < k) × (slice_get order m ≡ Some i)
+pub among-take : (order : List ℕ) (k i : ℕ) → is_in_list i (take k order) ≡ true → (m : ℕ) × (m < k) × (slice_get order m ≡ Some i)
 among-take order zero i h = cc
 among-take [] (suc k) i h = cc
 among-take (x ∷ xs) (suc k) i h = by_test (x == i) refl h (among-take xs k i) where
-  by_test : (b : Bool) → (x == i) ≡ b → (b || is_among i (take k xs)) ≡ true → (is_among i (take k xs) ≡ true → (m : ℕ) × (m < k) × (slice_get xs m ≡ Some i)) → (m : ℕ) × (m < suc k) × (slice_get (x ∷ xs) m ≡ Some i)
+  by_test : (b : Bool) → (x == i) ≡ b → (b || is_in_list i (take k xs)) ≡ true → (is_in_list i (take k xs) ≡ true → (m : ℕ) × (m < k) × (slice_get xs m ≡ Some i)) → (m : ℕ) × (m < suc k) × (slice_get (x ∷ xs) m ≡ Some i)
   by_test true e h next = (0, omega arith, ap Some ((Decides-eqb x i).0 e))
   by_test false e h next = let later = next h in (suc later.0, omega arith, later.2)
 
@@ -73,8 +74,8 @@ places-more order len places p once l low h = record { sized = length-set places
       let other : i ≢ get_or order p 0 = λ (same : i ≡ get_or order p 0). not_same k p less (once k p i e (slice_get-get_or order p 0 l ∙ ap Some (sym same))) in
       get_or-set_other places (get_or order p 0) i p 0 other ∙ h.up_to k i less e
 
-pub places-all : (order : List ℕ) (len : ℕ) (places : List ℕ) (p : ℕ) → length order ≤ p → PlacesUpTo order len places p → (k i : ℕ) → slice_get order k ≡ Some i → get_or places i 0 ≡ k
-places-all order len places p l h k i e = let inside = slice_get_within order k i e in h.up_to k i (omega arith) e
+pub places-all : (order : List ℕ) (len : ℕ) (places : List ℕ) (p : ℕ) → length order ≤ p → PlacesUpTo order len places p → ArePlaces order places
+places-all order len places p l h = record { placed = λ k i e. let inside = slice_get_within order k i e in h.up_to k i (omega arith) e }
 
 -- ---- nodes with places for numbers
 
@@ -125,15 +126,13 @@ IsNode-renamed f passes n i k node low h = record {
 
 -- ---- the table, node by node
 
--- each number that node i names is among the first k of the order, where node i is at place k
-pub named-among : (t : List Node) (root : ℕ) (order : List ℕ) (k i : ℕ) (n : Node) → IsOrder t root order → slice_get order k ≡ Some i → slice_get t i ≡ Some n → list_all (λ j. is_among j (take k order)) (named (answers_of n)) ≡ true
-named-among t root order k i n h e at = all_by (λ j. is_among j (take k order)) (named (answers_of n)) (λ j c. h.after_named k i j n e at c) where
-  all_by : (p : ℕ → Bool) (js : List ℕ) → ((j : ℕ) → Contains js j → p j ≡ true) → list_all p js ≡ true
-  all_by p [] f = refl
-  all_by p (j ∷ js) f = rw (f j (0, omega arith, refl)) (all_by p js (λ l c. f l (suc c.0, omega arith, c.2)))
+pub all_by : (p : ℕ → Bool) (js : List ℕ) → ((j : ℕ) → Contains js j → p j ≡ true) → list_all p js ≡ true
+all_by p [] f = refl
+all_by p (j ∷ js) f = rw (f j (0, omega arith, refl)) (all_by p js (λ l c. f l (suc c.0, omega arith, c.2)))
 
-some_equal : (i j : ℕ) → Some i ≡ Some j → i ≡ j
-some_equal i j e = cc
+-- each number that node i names is among the first k of the order, where node i is at place k
+pub named-among : (t : List Node) (order : List ℕ) (k i : ℕ) (n : Node) → IsOrder t order → slice_get order k ≡ Some i → slice_get t i ≡ Some n → list_all (λ j. is_in_list j (take k order)) (named (answers_of n)) ≡ true
+named-among t order k i n h e at = all_by (λ j. is_in_list j (take k order)) (named (answers_of n)) (λ j c. h.after_named k i j n e at c)
 
 slice_get-kept : (t more : List Node) (i : ℕ) (n : Node) → slice_get t i ≡ Some n → slice_get (t ++ more) i ≡ Some n
 slice_get-kept [] more i n h = cc
@@ -166,26 +165,26 @@ from-renumbers t order u re = record {
 pub renumbers-none : (t : List Node) (order : List ℕ) (u : List Node) → u ≡ [] → RenumbersUpTo t order u 0
 renumbers-none t order u e = record { count = ap length e; each = λ k i l at. absurd (omega arith) }
 
-module _ (t : List Node) (root : ℕ) (order : List ℕ) (table : IsTable t) (is_order : IsOrder t root order) where
+module _ (t : List Node) (order : List ℕ) (table : IsTable t) (is_order : IsOrder t order) where
   -- the place of each of them
   pub place-is : (k i : ℕ) → slice_get order k ≡ Some i → place_in order i ≡ k
   place-is k i e = place-at order is_order.once k i e
 
   module _ (k i : ℕ) (n : Node) (e : slice_get order k ≡ Some i) (at : slice_get t i ≡ Some n) where
-    all-among : list_all (λ j. is_among j (take k order)) (named (answers_of n)) ≡ true
-    all-among = named-among t root order k i n is_order e at
+    all-among : list_all (λ j. is_in_list j (take k order)) (named (answers_of n)) ≡ true
+    all-among = named-among t order k i n is_order e at
 
-    low-place : (j : ℕ) → is_among j (take k order) ≡ true → place_in order j < k
+    low-place : (j : ℕ) → is_in_list j (take k order) ≡ true → place_in order j < k
     low-place j h = let m = among-take order k j h in let is = place-is m.0 j m.2 in let low = m.1 in omega (arith, is, low)
 
     -- what takes its place is a node of a table there
     pub renamed-node : IsNode (renamed (place_in order) n) k
-    renamed-node = IsNode-renamed (place_in order) (λ j. is_among j (take k order)) n i k (table.nodes i n at) low-place all-among
+    renamed-node = IsNode-renamed (place_in order) (λ j. is_in_list j (take k order)) n i k (table.nodes i n at) low-place all-among
 
     -- and it is the node with the places that are kept
     pub renamed-places : (f : ℕ → ℕ) → ((k i : ℕ) → slice_get order k ≡ Some i → f i ≡ k) → renamed f n ≡ renamed (place_in order) n
     renamed-places f places =
-        renamed-agree f (place_in order) (λ j. is_among j (take k order))
+        renamed-agree f (place_in order) (λ j. is_in_list j (take k order))
         (λ j h. let m = among-take order k j h in places m.0 j m.2 ∙ sym (place-is m.0 j m.2)) n all-among
 
   -- one node more
@@ -199,7 +198,7 @@ module _ (t : List Node) (root : ℕ) (order : List ℕ) (table : IsTable t) (is
 
     here : (k j : ℕ) → k ≡ p → slice_get order k ≡ Some j → (n : Node) × (slice_get t j ≡ Some n) × (slice_get (u ++ m ∷ []) k ≡ Some (renamed (place_in order) n))
     here k j same d =
-        let number : i ≡ j = some_equal i j (sym e ∙ ap (slice_get order) (sym same) ∙ d) in (
+        let number : i ≡ j = same_Some i j (sym e ∙ ap (slice_get order) (sym same) ∙ d) in (
           n,
           subst (λ (x : ℕ). slice_get t x ≡ Some n) number at,
           ap (slice_get (u ++ m ∷ [])) (same ∙ sym h.count) ∙ slice_get-seam u m ∙ ap Some (is ∙ renamed-places p i n e at f places),
@@ -213,7 +212,7 @@ module _ (t : List Node) (root : ℕ) (order : List ℕ) (table : IsTable t) (is
 
 -- ---- the same, as the loop reads it
 
-module _ (t : List Node) (root : ℕ) (order : List ℕ) (table : IsTable t) (is_order : IsOrder t root order) (p : ℕ) (l : p < length order) (n : Node) (read : n ≡ get_or t (get_or order p 0) n) where
+module _ (t : List Node) (order : List ℕ) (table : IsTable t) (is_order : IsOrder t order) (p : ℕ) (l : p < length order) (n : Node) (read : n ≡ get_or t (get_or order p 0) n) where
   number-at : slice_get order p ≡ Some (get_or order p 0)
   number-at = slice_get-get_or order p 0 l
 
@@ -225,12 +224,12 @@ module _ (t : List Node) (root : ℕ) (order : List ℕ) (table : IsTable t) (is
       let inside = is_order.within p (get_or order p 0) number-at in
       names_below-more (answers_of n) (get_or order p 0) k (omega (arith, inside, e)) ((table.nodes (get_or order p 0) n node-at).below)
 
-  module _ (places : List ℕ) (are_places : (k i : ℕ) → slice_get order k ≡ Some i → get_or places i 0 ≡ k) (m : Node) (is : m ≡ renumbered_node (λ j. get_or places j 0) n) (u : List Node) (so_far : RenumbersUpTo t order u p) where
+  module _ (places : List ℕ) (are_places : ArePlaces order places) (m : Node) (is : m ≡ renumbered_node (λ j. get_or places j 0) n) (u : List Node) (so_far : RenumbersUpTo t order u p) where
     pub node-next : IsNode m (length u)
     node-next =
         subst (λ (k : ℕ). IsNode m k) (sym so_far.count)
-        (subst (λ (x : Node). IsNode x p) (sym (is ∙ renumbered_node-renamed (λ j. get_or places j 0) n ∙ renamed-places t root order table is_order p (get_or order p 0) n number-at node-at (λ j. get_or places j 0) are_places))
-        (renamed-node t root order table is_order p (get_or order p 0) n number-at node-at))
+        (subst (λ (x : Node). IsNode x p) (sym (is ∙ renumbered_node-renamed (λ j. get_or places j 0) n ∙ renamed-places t order table is_order p (get_or order p 0) n number-at node-at (λ j. get_or places j 0) are_places.placed))
+        (renamed-node t order table is_order p (get_or order p 0) n number-at node-at))
 
     pub room-next : length u < MAX_NODES
     room-next =
@@ -242,4 +241,4 @@ module _ (t : List Node) (root : ℕ) (order : List ℕ) (table : IsTable t) (is
     pub renumbers-next : (v : List Node) → v ≡ u ++ m ∷ [] → RenumbersUpTo t order v (p + 1)
     renumbers-next v e =
         subst (λ (w : List Node). RenumbersUpTo t order w (p + 1)) (sym e)
-        (renumbers-more t root order table is_order u p (get_or order p 0) n m (λ j. get_or places j 0) so_far number-at node-at are_places (is ∙ renumbered_node-renamed (λ j. get_or places j 0) n))
+        (renumbers-more t order table is_order u p (get_or order p 0) n m (λ j. get_or places j 0) so_far number-at node-at are_places.placed (is ∙ renumbered_node-renamed (λ j. get_or places j 0) n))

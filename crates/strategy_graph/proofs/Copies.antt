@@ -16,7 +16,7 @@ use Rattle.strategy_graph.specs.declared.Rest.{Rest}
 use Rattle.strategy_graph.specs.declared.Rest.TheVariants.{Wins, To, Nothing}
 use Rattle.strategy_graph.specs.declared.Node.{Node}
 use Rattle.strategy_graph.specs.declared.Why.{Why}
-use Rattle.strategy_graph.specs.Tables.{Answers, answers_of, answer, listed, rest_node, rest_nodes, named, is_winning, greatest, node_depth, depth_within}
+use Rattle.strategy_graph.specs.Tables.{Answers, answers_of, answer, listed_node, rest_node, rest_nodes, named, is_winning, greatest, node_depth, depth_within}
 use Rattle.strategy_graph.specs.Acceptance.{Answered, NotWinning, Meets, AcceptedNode, AcceptedWithin}
 use Rattle.strategy_graph.specs.Arrivals.{if_answered, arrivals_at, arrivals_after, arrivals_behind, arrivals_within}
 use Rattle.strategy_graph.specs.Games.{End, NoMove, Open, after_attack, after_reply, one_later, if_node, end_at, game, points_on, points_from, attacks_at, attacks}
@@ -54,10 +54,10 @@ option_or-map : (f : ℕ → ℕ) (o p : Option ℕ) → option_or (option_map f
 option_or-map f None p = refl
 option_or-map f (Some j) p = refl
 
-listed-renamed : (f : ℕ → ℕ) (rs : List Reply) (q : Point) → listed (map (renamed_reply f) rs) q ≡ option_map f (listed rs q)
+listed-renamed : (f : ℕ → ℕ) (rs : List Reply) (q : Point) → listed_node (map (renamed_reply f) rs) q ≡ option_map f (listed_node rs q)
 listed-renamed f [] q = refl
 listed-renamed f (r ∷ rs) q = by_test (is_same_point r.at q) (listed-renamed f rs q) where
-  by_test : (b : Bool) → listed (map (renamed_reply f) rs) q ≡ option_map f (listed rs q) → option_map (λ r. r.next) (cond b (Some (renamed_reply f r)) (find (λ r. is_same_point r.at q) (map (renamed_reply f) rs))) ≡ option_map f (option_map (λ r. r.next) (cond b (Some r) (find (λ r. is_same_point r.at q) rs)))
+  by_test : (b : Bool) → listed_node (map (renamed_reply f) rs) q ≡ option_map f (listed_node rs q) → option_map (λ r. r.next) (cond b (Some (renamed_reply f r)) (find (λ r. is_same_point r.at q) (map (renamed_reply f) rs))) ≡ option_map f (option_map (λ r. r.next) (cond b (Some r) (find (λ r. is_same_point r.at q) rs)))
   by_test true h = refl
   by_test false h = h
 
@@ -67,7 +67,7 @@ rest_node-renamed f (To j) = refl
 rest_node-renamed f Nothing = refl
 
 pub answer-renamed : (f : ℕ → ℕ) (a : Answers) (q : Point) → answer (renamed_answers f a) q ≡ option_map f (answer a q)
-answer-renamed f a q = rw (listed-renamed f a.replies q, rest_node-renamed f a.rest) (option_or-map f (listed a.replies q) (rest_node a.rest))
+answer-renamed f a q = rw (listed-renamed f a.replies q, rest_node-renamed f a.rest) (option_or-map f (listed_node a.replies q) (rest_node a.rest))
 
 pub is_winning-renamed : (f : ℕ → ℕ) (r : Rest) → is_winning (renamed_rest f r) ≡ is_winning r
 is_winning-renamed f Wins = refl

@@ -6,7 +6,7 @@ use Rattle.game_rules.specs.declared.RuleKind.{RuleKind}
 use Rattle.strategy_graph.specs.declared.Node.{Node}
 use Rattle.strategy_graph.specs.declared.roots.Root.{Root}
 use Rattle.strategy_graph.specs.declared.roots.Root.TheVariants.{Attack, Defend}
-use Rattle.strategy_graph.specs.Tables.{names_below, depth, start_depth}
+use Rattle.strategy_graph.specs.Tables.{names_below, RepliesOn, depth, start_depth}
 use Rattle.strategy_graph.specs.Acceptance.{Accepted, AcceptedStart}
 use Rattle.strategy_graph.specs.Arrivals.{arrivals, start_arrivals}
 
@@ -14,6 +14,11 @@ use Rattle.strategy_graph.specs.Arrivals.{arrivals, start_arrivals}
 abbrev pub root_below : Root → ℕ → Bool
 root_below (Attack i) k = nat_lt i k
 root_below (Defend a) k = names_below a k
+
+-- the points that the root names are on the board: a node is named by its number alone
+abbrev pub RootOnBoard : Grid → Root → Type 0
+RootOnBoard b (Attack i) = Unit {0}
+RootOnBoard b (Defend a) = RepliesOn b a.replies
 
 -- the depth of the root
 abbrev pub root_depth : List Node → Root → ℕ
