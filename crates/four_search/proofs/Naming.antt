@@ -9,6 +9,7 @@ use Rattle.game_rules.specs.declared.Outcome.{Outcome}
 use Rattle.game_rules.specs.declared.Outcome.TheVariants.{Refused, Wins as WinsNow, Fouls, Draws, GoesOn}
 use Rattle.game_rules.specs.declared.Point.{Point}
 use Rattle.game_rules.proofs.Boards.{and_left, and_right}
+use Rattle.game_rules.proofs.Points.{is_same_point-itself, is_same_point-same}
 use Rattle.strategy_graph.specs.declared.Node.{Node}
 use Rattle.strategy_graph.specs.declared.Reply.{Reply}
 use Rattle.strategy_graph.specs.declared.Rest.{Rest}
@@ -17,7 +18,6 @@ use Rattle.strategy_graph.specs.Tables.{Answers, listed, answer, rest_node, rest
 use Rattle.strategy_graph.specs.Acceptance.{Answered}
 use Rattle.strategy_compiler.specs.Trees.{Tree, StandsFor, StandsForAll, AnswersBriefly, replies_of, commonest, answers_to}
 use Rattle.four_search.specs.Plans.{branch_if, branches_for}
-use Rattle.four_search.proofs.Trying.{same_self, same_point}
 
 -- P holds of the answer, if there is one
 abbrev pub IfAnswer : (ℕ → Type 0) → Option ℕ → Type 0
@@ -77,8 +77,8 @@ not_same p q h = by_test (is_same_point p q) refl where
   by_test : (r : Bool) → is_same_point p q ≡ r → r ≡ false
   by_test false e = refl
   by_test true e =
-      let x : p.x ≡ q.x = ap (λ (z : Point). z.x) (same_point p q e) in
-      let y : p.y ≡ q.y = ap (λ (z : Point). z.y) (same_point p q e) in
+      let x : p.x ≡ q.x = ap (λ (z : Point). z.x) (is_same_point-same p q e) in
+      let y : p.y ≡ q.y = ap (λ (z : Point). z.y) (is_same_point-same p q e) in
       let a : nat_lt p.y q.y ≡ false = grind (arith, nat_tests) in
       let c : nat_lt p.x q.x ≡ false = grind (arith, nat_tests) in
       let none : precedes p q ≡ false = none_of (nat_lt p.y q.y) (nat_eq p.y q.y) (nat_lt p.x q.x) a c in
@@ -99,7 +99,7 @@ listed_later s (r ∷ rs) ts all h = (
 listed-each : (rs : List Reply) → is_rising rs ≡ true → AllByRecursion (λ r. listed rs r.at ≡ Some r.next) rs
 listed-each [] h = tt
 listed-each (s ∷ rs) h = (
-  ap (λ b. option_map (λ (u : Reply). u.next) (cond b (Some s) (find (λ u. is_same_point u.at s.at) rs))) (same_self s.at),
+  ap (λ b. option_map (λ (u : Reply). u.next) (cond b (Some s) (find (λ u. is_same_point u.at s.at) rs))) (is_same_point-itself s.at),
   listed_later s rs rs (and_left _ _ h) (listed-each rs (and_right (list_all (λ t. precedes s.at t.at) rs) _ h)),
 )
 
@@ -167,7 +167,7 @@ module _ (t : List Node) (a : Answers) (o : Point → Outcome) (next : Point →
 
     by_test : (r : Bool) → is_same_point q p ≡ r → (r || among_points q ps) ≡ true → (AmongPoints q ps → StandsForAll t a (branches_for o next ps) → Answered (answer a q) (λ j. StandsFor t j (next q))) → Answered (answer a q) (λ j. StandsFor t j (next q))
     by_test true e k rest =
-        let same : q ≡ p = same_point q p e in
+        let same : q ≡ p = is_same_point-same q p e in
         subst (λ (x : Point). Answered (answer a x) (λ j. StandsFor t j (next x))) (sym same) (here (o p) (ap o (sym same) ∙ on) h)
     by_test false e k rest = rest k (skip (o p) h)
 

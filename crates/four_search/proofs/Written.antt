@@ -13,10 +13,11 @@ use Rattle.game_rules.specs.declared.RuleKind.{RuleKind}
 use Rattle.game_rules.specs.declared.Outcome.{Outcome}
 use Rattle.game_rules.specs.declared.Outcome.TheVariants.{Refused, Wins as WinsNow, Fouls, Draws, GoesOn}
 use Rattle.game_rules.specs.declared.Point.{Point}
-use Rattle.game_rules.proofs.Boards.{is_empty-on, cell_at-put_same}
-use Rattle.game_rules.proofs.Points.{points-found, all_of, taken_refused}
+use Rattle.game_rules.proofs.Boards.{is_empty-on, cell_at-put_same, stone_of-taken}
+use Rattle.game_rules.proofs.Points.{points-found, all_of, taken_refused, is_same_point-itself}
 use Rattle.game_rules.proofs.Games.{each_reply, LosesOr-loses_or}
 use Rattle.game_rules.proofs.Positions.{IsPosition-after, GoesOn-on, GoesOn-empty}
+use Rattle.game_rules.proofs.Fives.{five-empty}
 use Rattle.strategy_graph.specs.declared.Node.{Node}
 use Rattle.strategy_graph.specs.declared.Reply.{Reply}
 use Rattle.strategy_graph.specs.declared.Rest.{Rest}
@@ -30,7 +31,6 @@ use Rattle.strategy_graph.proofs.Fuel.{depth-step}
 use Rattle.strategy_graph.proofs.Steps.{accepted-by-win, accepted-by-replies, arrivals-by-replies, arrivals-winning}
 use Rattle.strategy_compiler.specs.Trees.{Tree, Branches, Leaf, Fork, NoBranch, Branch, StandsFor, StandsForAll, AnswersBriefly, replies_of}
 use Rattle.strategy_compiler.specs.Walks.{Reaches, Itself, Through}
-use Rattle.threat_moves.proofs.OtherSide.{five-empty}
 use Rattle.threat_moves.proofs.BlockLaw.{five-outcome, five-wins, block_decides, others_leave_five}
 use Rattle.threat_moves.proofs.FourLaws.{one-goes_on}
 use Rattle.threat_moves.specs.declared.block.BlockAnswer.{BlockAnswer}
@@ -40,8 +40,8 @@ use Rattle.threat_moves.specs.Blocks.{fate}
 use Rattle.threat_moves.specs.OneBlock.{block_wins, LeavesFive}
 use Rattle.four_search.specs.Answers.{NamesOnBoard, StaysOnBoard, IsFourWin}
 use Rattle.four_search.specs.Plans.{branches_for, four_plan}
-use Rattle.four_search.proofs.Trying.{same_self, find-passes, move-is, wins-is}
-use Rattle.four_search.proofs.Planning.{any-find, plan-leaf, plan-fork, plan-goes_on, wins-some, stone_full}
+use Rattle.four_search.proofs.Trying.{find-passes, move-is, wins-is}
+use Rattle.four_search.proofs.Planning.{any-find, plan-leaf, plan-fork, plan-goes_on, wins-some}
 use Rattle.four_search.proofs.Naming.{named-all, answers-each, answer-at, greatest-all, listed-on}
 use Rattle.four_search.proofs.Sums.{sum-ones-but, sum-once, length-points}
 use Rattle.four_search.proofs.Deepening.{NoWinUpTo, wins-more, least-win}
@@ -129,7 +129,7 @@ module _ (rule : RuleKind) (t : List Node) (table : IsTable t) (i : ℕ) (b : Gr
 taken_after : (b : Grid) (p : Point) → IsBoard b → is_empty b p ≡ true → is_empty (after b p) p ≡ false
 taken_after b p ok empty =
     let here : is_on b p ≡ true = is_empty-on b p empty in
-    ap (λ r. r && is_empty_cell (cell_at (after b p) p)) here ∙ ap is_empty_cell (cell_at-put_same b (mover b) p ok here) ∙ stone_full (mover b)
+    ap (λ r. r && is_empty_cell (cell_at (after b p) p)) here ∙ ap is_empty_cell (cell_at-put_same b (mover b) p ok here) ∙ stone_of-taken (mover b)
 
 leaf_node : (t : List Node) (i : ℕ) (x : Point) → StandsFor t i (Leaf x) → (n : Node) × (slice_get t i ≡ Some n) × ((n.attack ≡ x) × (is_winning n.rest ≡ true))
 unfolding StandsFor
@@ -188,7 +188,7 @@ module _ (rule : RuleKind) (t : List Node) (table : IsTable t) (i m : ℕ) (b : 
   -- the answer to a reply that goes on
   answered : (q : Point) → outcome rule (after b p) q ≡ GoesOn → Answered (answer (answers_of n) q) (λ j. StandsFor t j (four_plan rule m (after (after b p) q)))
   answered q go = answer-at t (answers_of n) (outcome rule (after b p)) (λ q. four_plan rule m (after (after b p) q)) (points_of b) q
-      (points-found (after b p) (λ x. is_same_point q x) q (GoesOn-on rule (after b p) q go) (same_self q)) go stands
+      (points-found (after b p) (λ x. is_same_point q x) q (GoesOn-on rule (after b p) q go) (is_same_point-itself q)) go stands
 
   by_loses : (q : Point) (W : Type 0) → (outcome rule (after b p) q ≡ GoesOn → W) → LosesOr (outcome rule (after b p) q) W
   by_loses q W f = by_outcome (outcome rule (after b p) q) f (lost q) where
@@ -307,7 +307,7 @@ module _ (rule : RuleKind) (t : List Node) (table : IsTable t) (i m : ℕ) (b : 
   won_short : fate rule (after b p) ≡ Won → arrivals rule t i b ≤ b.width * b.height * suc m
   won_short won_by =
       let each : (q : Point) → count q ≤ 1 = λ q. one_behind q (λ go. subst (LeavesFive rule (after b p) q) won_by (others_leave_five rule b p q lawful four go)) in
-      let sum = sum-ones-but count p each none_at (points_of b) (points-found b (λ x. is_same_point p x) p (GoesOn-on rule b p on) (same_self p)) in
+      let sum = sum-ones-but count p each none_at (points_of b) (points-found b (λ x. is_same_point p x) p (GoesOn-on rule b p on) (is_same_point-itself p)) in
       let e = total in
       let size = points_are in
       let grows = size_grows in
@@ -318,7 +318,7 @@ module _ (rule : RuleKind) (t : List Node) (table : IsTable t) (i m : ℕ) (b : 
       let go : outcome rule (after b p) w ≡ GoesOn = one-goes_on rule (after b p) w (sym one) in
       let most : ℕ = b.width * b.height * m in
       let high : count w ≤ most = by_counts w most (λ go j e s. (next_written w j go s).short) in
-      let each : (q : Point) → is_same_point q w ≡ false → count q ≤ 1 = λ q apart. one_behind q (λ g. subst (LeavesFive rule (after b p) q) one (others_leave_five rule b p q lawful four g) (λ same. let yes : is_same_point q w ≡ true = ap (λ (z : Point). is_same_point z w) same ∙ same_self w in let bad : false ≡ true = sym apart ∙ yes in cc)) in
+      let each : (q : Point) → is_same_point q w ≡ false → count q ≤ 1 = λ q apart. one_behind q (λ g. subst (LeavesFive rule (after b p) q) one (others_leave_five rule b p q lawful four g) (λ same. let yes : is_same_point q w ≡ true = ap (λ (z : Point). is_same_point z w) same ∙ is_same_point-itself w in let bad : false ≡ true = sym apart ∙ yes in cc)) in
       let some : 1 ≤ most = some_points m (wins-some rule m (after (after b p) w) (won w go)) in
       let sum = sum-once count w most some high each b in
       let e = total in

@@ -108,6 +108,11 @@ pub other-other : (s : Side) → other (other s) ≡ s
 other-other Black = refl
 other-other White = refl
 
+-- a stone is no empty cell
+pub stone_of-taken : (s : Side) → is_empty_cell (stone_of s) ≡ false
+stone_of-taken Black = refl
+stone_of-taken White = refl
+
 pub stone_of-other : (s : Side) → is_stone_of (other s) (stone_of s) ≡ false
 stone_of-other Black = refl
 stone_of-other White = refl
@@ -192,10 +197,6 @@ module _ (b : Grid) (s : Side) (p : Point) (on : is_on b p ≡ true) where
       let e : holds (put b s p) s p ≡ true = holds-put_same b s p ok on in
       rw (e, stones_ahead-put s d, stones_behind-put s d) refl
 
-stone_not_empty : (s : Side) → is_empty_cell (stone_of s) ≡ false
-stone_not_empty Black = refl
-stone_not_empty White = refl
-
 -- one point fewer is empty
 pub empties_of-put : (b : Grid) (s : Side) (p : Point) → IsBoard b → is_empty b p ≡ true → empties_of (put b s p) + 1 ≡ empties_of b
 empties_of-put b s p ok h =
@@ -203,5 +204,5 @@ empties_of-put b s p ok h =
     let count : Cell → ℕ = λ c. cond (is_empty_cell c) 1 0 in
     let one : count (get_or b.cells (place_of b p) Empty) ≡ 1 = ap count e in
     let all = sum_by-set count b.cells (place_of b p) (stone_of s) Empty (place_fits b p ok (is_empty-on b p h)) in
-    let here : count (stone_of s) ≡ 0 = ap (λ r. cond r 1 0) (stone_not_empty s) in
+    let here : count (stone_of s) ≡ 0 = ap (λ r. cond r 1 0) (stone_of-taken s) in
     omega (arith, all, one, here)

@@ -18,7 +18,7 @@ use Rattle.game_rules.specs.declared.Axis.{Axis}
 use Rattle.game_rules.specs.declared.Point.{Point}
 use Rattle.game_rules.specs.declared.RuleKind.{RuleKind}
 use Rattle.game_rules.proofs.Axes.{no_axis}
-use Rattle.game_rules.proofs.Boards.{and_left, and_right, is_empty-on, is_empty-cell, same_or_apart, empty_holds, holds-put_other, holds-put_same, place_fits, empties_of-put, prefix_len-same, cell_at-put_same, lift-put}
+use Rattle.game_rules.proofs.Boards.{and_left, and_right, is_empty-on, is_empty-cell, same_or_apart, empty_holds, other-other, holds-put_other, holds-put_same, place_fits, empties_of-put, prefix_len-same, cell_at-put_same, lift-put}
 use Rattle.game_rules.proofs.Lines.{along-then, along-same, along-zero}
 use Rattle.game_rules.proofs.Runs.{Leads, ahead_leads, behind_leads, ahead_is, behind_is, run-same}
 
@@ -300,6 +300,14 @@ lift-after rule b p lawful on = lift-put b (mover b) p (parts rule b p lawful on
 pub GoesOn-empty : (rule : RuleKind) (b : Grid) (p : Point) → outcome rule b p ≡ GoesOn → is_empty b p ≡ true
 unfolding outcome
 GoesOn-empty rule b p on = (goes_on (is_empty b p) (five rule b (mover b) p) (nat_eq (empties_of b) 1) (foul_of rule b (mover b) p) on).0
+
+-- the side that moved is the one that is not to move
+pub mover-other : (rule : RuleKind) (b : Grid) (p : Point) → IsPosition rule b → outcome rule b p ≡ GoesOn → other (mover (after b p)) ≡ mover b
+mover-other rule b p lawful on = mover-after b p lawful.board (GoesOn-empty rule b p on) lawful.turns
+
+-- the side to move after it
+pub mover-then : (rule : RuleKind) (b : Grid) (p : Point) → IsPosition rule b → outcome rule b p ≡ GoesOn → mover (after b p) ≡ other (mover b)
+mover-then rule b p lawful on = sym (other-other (mover (after b p))) ∙ ap other (mover-other rule b p lawful on)
 
 pub GoesOn-on : (rule : RuleKind) (b : Grid) (p : Point) → outcome rule b p ≡ GoesOn → is_on b p ≡ true
 GoesOn-on rule b p on = is_empty-on b p (GoesOn-empty rule b p on)

@@ -3,5 +3,6 @@ pub mod Counting
 pub mod Ways
 pub mod ThreePoints
 pub mod Reaches
-pub mod ShortLists
+mod ShortLists
+pub mod FiveLaws
 mod NewFives

@@ -1,27 +1,21 @@
--- Five points told in short: what a stone leaves of those of the other side, and what becomes of a four by them.
-use Rattle.std.proofs.Common.{◌≡◌, ◌≢◌, inl, inr, Bool, true, false, cond, ◌&&◌, ◌||◌, not, refl, sym, ap, subst, ◌∙◌, List, [], ◌∷◌}
-use Rattle.std.specs.List.{list_any, list_all, filter}
+-- Five points told in short, and what a stone leaves of those of the other side.
+use Rattle.std.proofs.Common.{◌≡◌, ◌≢◌, inl, inr, Bool, true, false, cond, ◌&&◌, not, refl, sym, ap, subst, ◌∙◌, List, [], ◌∷◌}
+use Rattle.std.specs.List.{list_all, filter}
+use Rattle.std.proofs.Math.Bool.{and-true, and-false}
 use Rattle.game_rules.specs.Grid.{Grid, IsBoard, is_empty, put, points_of}
 use Rattle.game_rules.specs.Shapes.{five, is_same_point}
-use Rattle.game_rules.specs.Play.{IsPosition, outcome, mover, other, after}
+use Rattle.game_rules.specs.Play.{other}
 use Rattle.game_rules.specs.Games.{has_five, five_points}
 use Rattle.game_rules.specs.declared.RuleKind.{RuleKind}
 use Rattle.game_rules.specs.declared.Side.{Side}
-use Rattle.game_rules.specs.declared.Outcome.{Outcome}
-use Rattle.game_rules.specs.declared.Outcome.TheVariants.{Refused, Wins, Fouls, Draws, GoesOn}
 use Rattle.game_rules.specs.declared.Point.{Point}
-use Rattle.game_rules.proofs.Boards.{Apart, and_left, and_right, is_empty-on, holds-put_same}
-use Rattle.game_rules.proofs.Points.{points-found}
-use Rattle.game_rules.proofs.Positions.{IsPosition-after, GoesOn-empty, mover-after}
-use Rattle.threat_moves.specs.declared.new_fives.FivePoints.{FivePoints}
-use Rattle.threat_moves.specs.declared.new_fives.FivePoints.TheVariants.{None, One, Several}
-use Rattle.threat_moves.specs.declared.block.BlockAnswer.TheVariants.{Lost, Won, One as OneBlock}
-use Rattle.threat_moves.specs.NewFives.{in_short}
-use Rattle.threat_moves.specs.Blocks.{by_block, by_fives, fate}
-use Rattle.threat_moves.proofs.OtherSide.{same_or_apart, other-other, empty_holds, five-other, five-empty}
-use Rattle.threat_moves.proofs.BlockLaw.{filter-none, filter-passes}
-use Rattle.threat_moves.proofs.Distinct.{two_passing-apart}
-use Rattle.threat_moves.proofs.ShortLists.{same_point, same_test, not-apart}
+use Rattle.game_rules.proofs.Boards.{Apart, same_or_apart, and_left, and_right, empty_holds, is_empty-on, holds-put_same}
+use Rattle.game_rules.proofs.Points.{points-found, filter-passes, filter-none, filter-some, is_same_point-itself, apart-is_same_point}
+use Rattle.game_rules.proofs.Fives.{five-empty, five-other}
+use Rattle.game_rules.proofs.Distinct.{two_passing-apart}
+use Rattle.row_shapes.specs.declared.fives.FivePoints.{FivePoints}
+use Rattle.row_shapes.specs.declared.fives.FivePoints.TheVariants.{None, One, Several}
+use Rattle.row_shapes.specs.FivePoints.{in_short}
 
 -- ---- lists in short
 
@@ -30,17 +24,10 @@ short-none [] h = refl
 short-none (w ∷ []) h = cc
 short-none (w ∷ v ∷ more) h = cc
 
-short-one : (w : Point) (xs : List Point) → in_short xs ≡ One w → xs ≡ w ∷ []
+pub short-one : (w : Point) (xs : List Point) → in_short xs ≡ One w → xs ≡ w ∷ []
 short-one w [] h = cc
 short-one w (v ∷ []) h = let same : v ≡ w = cc in ap (λ (u : Point). u ∷ []) same
 short-one w (v ∷ u ∷ more) h = cc
-
-filter-some : (f : Point → Bool) (w : Point) (more ps : List Point) → filter f ps ≡ w ∷ more → list_any f ps ≡ true
-filter-some f w more [] h = cc
-filter-some f w more (p ∷ ps) h = by_test (f p) refl h (filter-some f w more ps) where
-  by_test : (r : Bool) → f p ≡ r → cond r (p ∷ filter f ps) (filter f ps) ≡ w ∷ more → (filter f ps ≡ w ∷ more → list_any f ps ≡ true) → (r || list_any f ps) ≡ true
-  by_test true e k rest = refl
-  by_test false e k rest = rest k
 
 -- whether a side has a five point, by what is told
 pub has_five-none : (rule : RuleKind) (b : Grid) (s : Side) → in_short (five_points rule b s) ≡ None → has_five rule b s ≡ false
@@ -90,20 +77,6 @@ filter-both f g (x ∷ xs) = by_test (f x) (filter-both f g xs) where
   by_test true h = ap (λ ys. cond (g x) (x ∷ ys) ys) h
   by_test false h = h
 
-and-false : (a : Bool) → (a && false) ≡ false
-and-false true = refl
-and-false false = refl
-
-and-true : (a : Bool) → (a && true) ≡ a
-and-true true = refl
-and-true false = refl
-
-differ_test : (p q : Point) → Apart p q → is_same_point p q ≡ false
-differ_test p q apart = by_test (is_same_point p q) refl where
-  by_test : (r : Bool) → is_same_point p q ≡ r → r ≡ false
-  by_test true e = absurd (not-apart q (subst (λ (r : Point). Apart r q) (same_test p q e) apart))
-  by_test false e = refl
-
 module _ (rule : RuleKind) (b : Grid) (s : Side) (p : Point) (ok : IsBoard b) (empty : is_empty b p ≡ true) where
   -- the point with the stone is no five point
   taken : (t : Side) → five rule (put b s p) t p ≡ false
@@ -119,10 +92,10 @@ module _ (rule : RuleKind) (b : Grid) (s : Side) (p : Point) (ok : IsBoard b) (e
   five-left q = elim (same_or_apart p q) [
     | inl same ↦
         subst (λ (r : Point). five rule (put b s p) (other s) r ≡ (five rule b (other s) r && not (is_same_point p r))) same
-        (taken (other s) ∙ sym (ap (λ r. five rule b (other s) p && not r) (same_point p) ∙ and-false (five rule b (other s) p)))
+        (taken (other s) ∙ sym (ap (λ r. five rule b (other s) p && not r) (is_same_point-itself p) ∙ and-false (five rule b (other s) p)))
     | inr apart ↦
         five-other b s p ok empty rule q apart
-        ∙ sym (ap (λ r. five rule b (other s) q && not r) (differ_test p q apart) ∙ and-true (five rule b (other s) q))
+        ∙ sym (ap (λ r. five rule b (other s) q && not r) (apart-is_same_point p q apart) ∙ and-true (five rule b (other s) q))
   ]
 
   -- a stone takes from the five points of the other side its own point, and no other
@@ -137,12 +110,12 @@ module _ (rule : RuleKind) (b : Grid) (s : Side) (p : Point) (ok : IsBoard b) (e
   -- with one, that is left, unless it is taken
   pub one-left : (w : Point) → in_short (five_points rule b (other s)) ≡ One w → p ≢ w → in_short (five_points rule (put b s p) (other s)) ≡ One w
   one-left w h differ =
-      let else : is_same_point p w ≡ false = elim (same_or_apart p w) [ inl same ↦ absurd (differ same) | inr apart ↦ differ_test p w apart ] in
+      let else : is_same_point p w ≡ false = elim (same_or_apart p w) [ inl same ↦ absurd (differ same) | inr apart ↦ apart-is_same_point p w apart ] in
       ap in_short (left-points ∙ ap (without p) (short-one w (five_points rule b (other s)) h) ∙ ap (λ r. cond (not r) (w ∷ []) []) else)
 
   pub one-taken : (w : Point) → in_short (five_points rule b (other s)) ≡ One w → p ≡ w → in_short (five_points rule (put b s p) (other s)) ≡ None
   one-taken w h same =
-      let here : is_same_point p w ≡ true = ap (is_same_point p) (sym same) ∙ same_point p in
+      let here : is_same_point p w ≡ true = ap (is_same_point p) (sym same) ∙ is_same_point-itself p in
       ap in_short (left-points ∙ ap (without p) (short-one w (five_points rule b (other s)) h) ∙ ap (λ r. cond (not r) (w ∷ []) []) here)
 
   left-five : (w : Point) → five rule b (other s) w ≡ true → Apart p w → has_five rule (put b s p) (other s) ≡ true
@@ -163,70 +136,3 @@ module _ (rule : RuleKind) (b : Grid) (s : Side) (p : Point) (ok : IsBoard b) (e
   -- with several, some is left
   pub several-left : in_short (five_points rule b (other s)) ≡ Several → has_five rule (put b s p) (other s) ≡ true
   several-left h = several-by (five_points rule b (other s)) refl h
-
--- ---- what becomes of a four at c, where the defender is to move
-
-module _ (rule : RuleKind) (c : Grid) where
-  pub fate-lost : has_five rule c (mover c) ≡ true → fate rule c ≡ Lost
-  unfolding fate
-  fate-lost h = ap (λ r. cond r Lost (by_fives rule c (five_points rule c (other (mover c))))) h
-
-  fate-points : has_five rule c (mover c) ≡ false → fate rule c ≡ by_fives rule c (five_points rule c (other (mover c)))
-  unfolding fate
-  fate-points h = ap (λ r. cond r Lost (by_fives rule c (five_points rule c (other (mover c))))) h
-
-  several-won : (xs : List Point) → in_short xs ≡ Several → by_fives rule c xs ≡ Won
-  several-won [] h = cc
-  several-won (w ∷ []) h = cc
-  several-won (w ∷ v ∷ more) h = refl
-
-  pub fate-several : has_five rule c (mover c) ≡ false → in_short (five_points rule c (other (mover c))) ≡ Several → fate rule c ≡ Won
-  fate-several none h = fate-points none ∙ several-won (five_points rule c (other (mover c))) h
-
-  pub fate-one : (w : Point) → has_five rule c (mover c) ≡ false → in_short (five_points rule c (other (mover c))) ≡ One w → fate rule c ≡ by_block w (outcome rule c w)
-  fate-one w none h = fate-points none ∙ ap (by_fives rule c) (short-one w (five_points rule c (other (mover c))) h)
-
-  pub fate-none : has_five rule c (mover c) ≡ false → in_short (five_points rule c (other (mover c))) ≡ None → fate rule c ≡ Lost
-  fate-none none h = fate-points none ∙ ap (by_fives rule c) (short-none (five_points rule c (other (mover c))) h)
-
-  one-block : (w : Point) (xs : List Point) → by_fives rule c xs ≡ OneBlock w → xs ≡ w ∷ []
-  one-block w [] h = cc
-  one-block w (v ∷ []) h = by_outcome (outcome rule c v) h where
-    by_outcome : (o : Outcome) → by_block v o ≡ OneBlock w → v ∷ [] ≡ w ∷ []
-    by_outcome Refused k = cc
-    by_outcome Wins k = cc
-    by_outcome (Fouls f) k = cc
-    by_outcome Draws k = cc
-    by_outcome GoesOn k = let same : v ≡ w = cc in ap (λ (u : Point). u ∷ []) same
-  one-block w (v ∷ u ∷ more) h = cc
-
-  -- a four with one block: the defender has no five point, and the attacker has the block alone
-  pub block-alone : (w : Point) → fate rule c ≡ OneBlock w → (has_five rule c (mover c) ≡ false) × (five_points rule c (other (mover c)) ≡ w ∷ [])
-  unfolding fate
-  block-alone w h = by_test (has_five rule c (mover c)) h where
-    by_test : (r : Bool) → cond r Lost (by_fives rule c (five_points rule c (other (mover c)))) ≡ OneBlock w → (r ≡ false) × (five_points rule c (other (mover c)) ≡ w ∷ [])
-    by_test true k = cc
-    by_test false k = (refl, one-block w (five_points rule c (other (mover c))) k)
-
-  -- once the block is taken, the attacker has no five point
-  pub blocked : (w : Point) → IsBoard c → is_empty c w ≡ true → in_short (five_points rule c (other (mover c))) ≡ One w → has_five rule (after c w) (other (mover c)) ≡ false
-  blocked w ok empty h = has_five-none rule (after c w) (other (mover c)) (one-taken rule c (mover c) w ok empty w h refl)
-
--- ---- a move p at b that goes on, seen from its side
-
-module _ (rule : RuleKind) (b : Grid) (p : Point) (lawful : IsPosition rule b) (on : outcome rule b p ≡ GoesOn) where
-  -- the side that moved is the one that is not to move
-  pub mover-other : other (mover (after b p)) ≡ mover b
-  mover-other = mover-after b p lawful.board (GoesOn-empty rule b p on) lawful.turns
-
-  -- the side to move after it
-  pub mover-then : mover (after b p) ≡ other (mover b)
-  mover-then = sym (other-other (mover (after b p))) ∙ ap other mover-other
-
-  -- a four whose fate is one block w: once w is taken, the attacker has no five point
-  pub blocked-after : (w : Point) → fate rule (after b p) ≡ OneBlock w → has_five rule (after (after b p) w) (mover b) ≡ false
-  blocked-after w h =
-      let alone = block-alone rule (after b p) w h in
-      let told : in_short (five_points rule (after b p) (other (mover (after b p)))) ≡ One w = ap in_short alone.1 in
-      ap (has_five rule (after (after b p) w)) (sym mover-other)
-      ∙ blocked rule (after b p) w (IsPosition-after rule b p lawful on).board (one-empty rule (after b p) (other (mover (after b p))) w told) told
