@@ -8,6 +8,7 @@ pub mod Equal
 -- depth, acceptance and arrivals by the nodes that are named; tables that grow, or hold copies under other numbers
 pub mod Fuel
 pub mod Copies
+pub mod Starts
 pub mod Renumbering
 pub mod Growth
 pub mod Filling
