@@ -8,21 +8,21 @@ use Rattle.std.proofs.lemmas.Bool.{cases_lt}
 use Rattle.game_rules.specs.Grid.{Grid, IsBoard, is_on, is_empty, is_empty_cell, cell_at, points_of}
 use Rattle.game_rules.specs.Shapes.{five, is_same_point}
 use Rattle.game_rules.specs.Play.{IsPosition, outcome, mover, after}
-use Rattle.game_rules.specs.Games.{LosesOr, has_five, wins_or, loses_or, starts_win, wins_under, wins_by_fours, four_move, if_goes_on}
+use Rattle.game_rules.specs.Games.{LosesOr, has_five, wins_or, loses_or, starts_win, wins_under, WinsByFours, wins_by_fours, four_move, if_goes_on}
 use Rattle.game_rules.specs.declared.RuleKind.{RuleKind}
 use Rattle.game_rules.specs.declared.Outcome.{Outcome}
 use Rattle.game_rules.specs.declared.Outcome.TheVariants.{Refused, Wins as WinsNow, Fouls, Draws, GoesOn}
 use Rattle.game_rules.specs.declared.Point.{Point}
 use Rattle.game_rules.proofs.Boards.{is_empty-on, cell_at-put_same, stone_of-taken}
 use Rattle.game_rules.proofs.Points.{points-found, all_of, taken_refused, is_same_point-itself}
-use Rattle.game_rules.proofs.Games.{each_reply, LosesOr-loses_or}
+use Rattle.game_rules.proofs.Games.{each_reply, LosesOr-loses_or, test-WinsUnder, WinsUnder-test}
 use Rattle.game_rules.proofs.Positions.{IsPosition-after, GoesOn-on, GoesOn-empty}
 use Rattle.game_rules.proofs.Fives.{five-empty}
 use Rattle.strategy_graph.specs.declared.Node.{Node}
 use Rattle.strategy_graph.specs.declared.Reply.{Reply}
 use Rattle.strategy_graph.specs.declared.Rest.{Rest}
 use Rattle.strategy_graph.specs.declared.Rest.TheVariants.{Wins, To, Nothing}
-use Rattle.strategy_graph.specs.Tables.{answers_of, answer, is_winning, IsTable, NamesLower, depth, node_depth, named, greatest}
+use Rattle.strategy_graph.specs.Tables.{answers_of, answer, is_winning, IsTable, NamesLower, NamesOnBoard, RepliesOn, depth, node_depth, named, greatest}
 use Rattle.strategy_graph.specs.Acceptance.{Answered, Meets, Accepted}
 use Rattle.strategy_graph.specs.Arrivals.{if_answered, arrivals_at, arrivals}
 use Rattle.strategy_graph.specs.Leads.{AtNode}
@@ -38,7 +38,8 @@ use Rattle.threat_moves.specs.declared.block.BlockAnswer.TheVariants.{Lost, Won,
 use Rattle.threat_moves.specs.FourMoves.{goes_on_with, is_four_move}
 use Rattle.threat_moves.specs.Blocks.{fate}
 use Rattle.threat_moves.specs.OneBlock.{block_wins, LeavesFive}
-use Rattle.four_search.specs.Answers.{NamesOnBoard, StaysOnBoard, IsFourWin}
+use Rattle.strategy_compiler.specs.Wins.{StaysOnBoard}
+use Rattle.four_search.specs.Answers.{IsFourWin}
 use Rattle.four_search.specs.Plans.{branches_for, four_plan}
 use Rattle.four_search.proofs.Trying.{find-passes, move-is, wins-is}
 use Rattle.four_search.proofs.Planning.{any-find, plan-leaf, plan-fork, plan-goes_on, wins-some}
@@ -86,7 +87,7 @@ lower_of t table = record { lower = λ i n at. (table.nodes i n at).below }
 
 -- two moves change no size
 on_before : (b : Grid) (p q : Point) (n : Node) → NamesOnBoard (after (after b p) q) n → NamesOnBoard b n
-on_before b p q n h = record { attack_on = h.attack_on; replies_on = h.replies_on }
+on_before b p q n h = record { attack = h.attack; replies = h.replies }
 
 -- a board has a point for each move
 points-many : (rule : RuleKind) (b : Grid) → IsPosition rule b → (m : ℕ) → 1 ≤ b.width * b.height * suc m
@@ -117,8 +118,8 @@ module _ (rule : RuleKind) (t : List Node) (table : IsTable t) (i : ℕ) (b : Gr
     wins = ap (λ (k : ℕ). wins_by_fours rule k b) leaf_depth ∙ five-wins rule b 0 some;
     on_board = stays-by b t i n at
         (record {
-          attack_on = ap (is_on b) plays ∙ is_empty-on b x (five-empty rule b (mover b) x h);
-          replies_on = ap (list_all (λ r. is_on b r.at)) (((table.nodes i n at).winning) win);
+          attack = ap (is_on b) plays ∙ is_empty-on b x (five-empty rule b (mover b) x h);
+          replies = subst (RepliesOn b) (sym ((table.nodes i n at).winning win)) tt;
         })
         (subst (AllByRecursion (StaysOnBoard b t)) (sym (no_names t i n table at win)) tt);
     short = let one = arrivals-winning rule t (lower_of t table) i b n at win in let many = points-many rule b lawful m in omega (arith, one, many);
@@ -247,8 +248,8 @@ module _ (rule : RuleKind) (t : List Node) (table : IsTable t) (i m : ℕ) (b : 
   written_on : StaysOnBoard b t i
   written_on = stays-by b t i n at
       (record {
-        attack_on = ap (is_on b) plays ∙ GoesOn-on rule b p on;
-        replies_on = listed-on (is_on b) (answers_of n) (outcome rule (after b p)) (λ q. four_plan rule m (after (after b p) q)) (points_of b) (λ q go. GoesOn-on rule (after b p) q go) brief;
+        attack = ap (is_on b) plays ∙ GoesOn-on rule b p on;
+        replies = listed-on (is_on b) (answers_of n) (outcome rule (after b p)) (λ q. four_plan rule m (after (after b p) q)) (points_of b) (λ q go. GoesOn-on rule (after b p) q go) brief;
       })
       (named-all (StaysOnBoard b t) (answers_of n) _ (table.nodes i n at).rising brief
       (answers-each t (answers_of n) (outcome rule (after b p)) (λ q. four_plan rule m (after (after b p) q)) (StaysOnBoard b t) (points_of b) (λ q j go s k n reach here. on_before b p q n ((next_written q j go s).on_board k n reach here)) stands))
@@ -371,21 +372,39 @@ plan-written rule t table (suc m) i b lawful wins stands = by_five (has_five rul
   by_five false none later = by_fork none later
 
 -- what the search says of a win
-pub four-win : (rule : RuleKind) (b : Grid) (limit d : ℕ) → d < limit → NoWinUpTo rule b limit d → IsPosition rule b → wins_by_fours rule (d + 1) b ≡ true → (t : List Node) → IsTable t → (i : ℕ) → i < length t → StandsFor t i (four_plan rule (d + 1) b) → IsFourWin rule limit b t i (d + 1)
+pub four-win : (rule : RuleKind) (b : Grid) (limit d : ℕ) → d < limit → NoWinUpTo rule b limit d → IsPosition rule b → wins_by_fours rule (d + 1) b ≡ true → (t : List Node) → IsTable t → (i : ℕ) → i < length t → StandsFor t i (four_plan rule (d + 1) b) → IsFourWin rule limit b t (record { node = i; moves = d + 1 })
 four-win rule b limit d l none lawful wins t table i within stands =
     let written = plan-written rule t table (d + 1) i b lawful wins stands in
     record {
-      fewest = least-win rule b limit d l none wins;
-      in_compiler = within;
+      written = record {
+        in_compiler = within;
+        accepted = written.accepted;
+        deep = by_order (cases_lt d (depth t i)) written.deep written.wins;
+        within = omega (arith, l);
+        on_board = written.on_board;
+      };
+      fewest = record { wins = test-WinsUnder (has_five rule) rule (d + 1) b wins; no_fewer = fewer };
+      least = least-win rule b limit d l none wins;
       stands = stands;
-      accepted = written.accepted;
-      deep = by_order (cases_lt d (depth t i)) written.deep written.wins;
-      on_board = written.on_board;
       short = written.short;
     } where
+      lost : (k : ℕ) → k ≤ d → wins_by_fours rule k b ≡ true → ⊥
+      lost k less won =
+          let some = wins-some rule k b won in
+          let no = none k (omega (arith, some)) less in
+          let bad : false ≡ true = sym no ∙ won in
+          cc
+
+      fewer : (k : ℕ) → k < d + 1 → WinsByFours rule k b → ⊥
+      fewer k low win = lost k (omega (arith, low)) (WinsUnder-test (has_five rule) rule k b win)
+
       by_order : (d < depth t i) ⊎ (depth t i ≤ d) → depth t i ≤ d + 1 → wins_by_fours rule (depth t i) b ≡ true → depth t i ≡ d + 1
       by_order (inl more) high won = omega arith
-      by_order (inr less) high won =
-          let some = wins-some rule (depth t i) b won in
-          let lost = none (depth t i) (omega (arith, some)) less in
-          let bad : false ≡ true = sym lost ∙ won in cc
+      by_order (inr less) high won = absurd (lost (depth t i) less won)
+
+-- where the test finds no win there is none
+pub no-win : (rule : RuleKind) (n : ℕ) (b : Grid) → wins_by_fours rule n b ≡ false → WinsByFours rule n b → ⊥
+no-win rule n b none win =
+    let found = WinsUnder-test (has_five rule) rule n b win in
+    let bad : false ≡ true = sym none ∙ found in
+    cc

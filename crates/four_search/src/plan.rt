@@ -22,7 +22,7 @@ use foul_judge::{Outcome, Seen};
 use row_shapes::Rule;
 use std::alloc::{AllocError, Global};
 use stone_board::{Point, Points};
-use strategy_compiler::{CompileError, Compiler, growth_keeps_trees};
+use strategy_compiler::{Compiler, growth_keeps_trees};
 use strategy_graph::Reply;
 use threat_moves::{BlockAnswer, fives, forced};
 
@@ -260,11 +260,7 @@ fn winning(compiler: &mut Compiler, attack: Point) -> Result<u32, SearchError>
     ensures full { IsErrOf result SearchError.Full → MAX_NODES ≤ length compiler.old }
     ensures full_now { IsErrOf result SearchError.Full → length compiler.new ≡ MAX_NODES }
 {
-    match compiler.winning(attack) {
-        Ok(node) => Ok(node),
-        Err(CompileError::Full) => Err(SearchError::Full),
-        Err(CompileError::Memory) => Err(SearchError::Memory),
-    }
+    Ok(compiler.winning(attack)?)
 }
 
 /// The node with this attack and these answers.
@@ -278,11 +274,7 @@ fn forking(compiler: &mut Compiler, attack: Point, answers: &[Reply]) -> Result<
     ensures full { IsErrOf result SearchError.Full → MAX_NODES ≤ length compiler.old }
     ensures full_now { IsErrOf result SearchError.Full → length compiler.new ≡ MAX_NODES }
 {
-    match compiler.node(attack, answers) {
-        Ok(node) => Ok(node),
-        Err(CompileError::Full) => Err(SearchError::Full),
-        Err(CompileError::Memory) => Err(SearchError::Memory),
-    }
+    Ok(compiler.node(attack, answers)?)
 }
 
 /// The answers at a position where the defender is to move: one node to the block, another to each other reply that goes

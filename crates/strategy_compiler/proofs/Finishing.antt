@@ -11,7 +11,8 @@ use Rattle.strategy_graph.specs.declared.Node.{Node}
 use Rattle.strategy_graph.specs.declared.Reply.{Reply}
 use Rattle.strategy_graph.specs.Tables.{answers_of, named, IsNode, IsTable, NamesLower}
 use Rattle.strategy_graph.specs.Laws.{SaysSame}
-use Rattle.strategy_graph.proofs.Copies.{renamed, Copies}
+use Rattle.strategy_graph.specs.Renumbered.{renumbered_node}
+use Rattle.strategy_graph.proofs.Copies.{Copies}
 use Rattle.strategy_graph.proofs.Filling.{IsTable-lower}
 use Rattle.strategy_graph.proofs.Renumbering.{copies-same}
 use Rattle.strategy_compiler.specs.Trees.{Tree, StandsFor}
@@ -19,8 +20,8 @@ use Rattle.strategy_compiler.specs.Walks.{AreDifferent, IsNumberedByWalk, IsTabl
 use Rattle.strategy_compiler.specs.Orders.{IsMadeFrom, IsMadeOf, IsOrder}
 use Rattle.strategy_compiler.proofs.Completing.{walked-step, walks-itself, visited-above, within-enough}
 use Rattle.strategy_compiler.proofs.Walking.{among-at}
-use Rattle.strategy_compiler.proofs.Places.{all_by, among-place, among-take, named-among, place-is, renamed-node, points-renamed, RenumbersUpTo, from-renumbers}
-use Rattle.strategy_compiler.proofs.Copying.{IsOneToOne, nodes-renamed, contains-map, fold-copied, within-copied, reaches-copied, stands-copied}
+use Rattle.strategy_compiler.proofs.Places.{all_by, among-place, among-take, named-among, place-is, renumbered-node, points-renumbered, RenumbersUpTo, from-renumbers}
+use Rattle.strategy_compiler.proofs.Copying.{IsOneToOne, nodes-renumbered, contains-map, fold-copied, within-copied, reaches-copied, stands-copied}
 use Rattle.strategy_compiler.proofs.Reaching.{completed-reached}
 
 all-weaker : (p q : ℕ → Bool) → ((j : ℕ) → p j ≡ true → q j ≡ true) → (js : List ℕ) → list_all p js ≡ true → list_all q js ≡ true
@@ -56,7 +57,7 @@ module _ (order : List ℕ) where
       by_place false k = sym e
 
 module _ (t : List Node) (roots order : List ℕ) (u : List Node) (table : IsTable t) (different : AreDifferent t) (is_order : IsOrder t order) (walked : order ≡ completed_from t roots) (re : RenumbersUpTo t order u (length order)) where
-  each : (k i : ℕ) → slice_get order k ≡ Some i → (n : Node) × (slice_get t i ≡ Some n) × (slice_get u k ≡ Some (renamed (place_in order) n))
+  each : (k i : ℕ) → slice_get order k ≡ Some i → (n : Node) × (slice_get t i ≡ Some n) × (slice_get u k ≡ Some (renumbered_node (place_in order) n))
   each k i e = re.each k i (slice_get_within order k i e) e
 
   lower : NamesLower t
@@ -64,7 +65,7 @@ module _ (t : List Node) (roots order : List ℕ) (u : List Node) (table : IsTab
 
   -- ---- the copies
 
-  copied-node : (i : ℕ) → is_in_list i order ≡ true → (n : Node) × (slice_get t i ≡ Some n) × (slice_get u (place_in order i) ≡ Some (renamed (place_in order) n)) × (list_all (λ i. is_in_list i order) (named (answers_of n)) ≡ true)
+  copied-node : (i : ℕ) → is_in_list i order ≡ true → (n : Node) × (slice_get t i ≡ Some n) × (slice_get u (place_in order i) ≡ Some (renumbered_node (place_in order) n)) × (list_all (λ i. is_in_list i order) (named (answers_of n)) ≡ true)
   copied-node i p =
       let at = among-place order i p in
       let r = each (place_in order i) i at in (
@@ -91,7 +92,7 @@ module _ (t : List Node) (roots order : List ℕ) (u : List Node) (table : IsTab
         let e = number-at k (slice_get_within u k m at) in
         let r = each k (get_or order k 0) e in
         subst (λ (x : Node). IsNode x k) (same_Some _ m (sym r.2 ∙ at))
-        (renamed-node t order table is_order k (get_or order k 0) r.0 e r.1)
+        (renumbered-node t order table is_order k (get_or order k 0) r.0 e r.1)
 
   -- ---- the roots
 
@@ -150,9 +151,9 @@ module _ (t : List Node) (roots order : List ℕ) (u : List Node) (table : IsTab
         let c' = copied-node j (among-at order b j e') in
         let place : place_in order i ≡ a = place-is t order table is_order a i e in
         let place' : place_in order j ≡ b = place-is t order table is_order b j e' in
-        let here : renamed (place_in order) c.0 ≡ m = same_Some _ m (sym c.2 ∙ ap (slice_get u) place ∙ at) in
-        let there : renamed (place_in order) c'.0 ≡ m = same_Some _ m (sym c'.2 ∙ ap (slice_get u) place' ∙ at') in
-        let same : c.0 ≡ c'.0 = nodes-renamed (place_in order) (λ i. is_in_list i order) (places-apart order) c.0 c'.0 c.3 c'.3 (here ∙ sym there) in
+        let here : renumbered_node (place_in order) c.0 ≡ m = same_Some _ m (sym c.2 ∙ ap (slice_get u) place ∙ at) in
+        let there : renumbered_node (place_in order) c'.0 ≡ m = same_Some _ m (sym c'.2 ∙ ap (slice_get u) place' ∙ at') in
+        let same : c.0 ≡ c'.0 = nodes-renumbered (place_in order) (λ i. is_in_list i order) (places-apart order) c.0 c'.0 c.3 c'.3 (here ∙ sym there) in
         let number : i ≡ j = different.different i j c'.0 (c.1 ∙ ap Some same) c'.1 in
         sym place ∙ ap (place_in order) number ∙ place'
 
@@ -173,13 +174,13 @@ module _ (t : List Node) (roots order : List ℕ) (u : List Node) (table : IsTab
     point_at k m at =
         let e = number-at k (slice_get_within u k m at) in
         let r = each k (get_or order k 0) e in
-        let is : renamed (place_in order) r.0 ≡ m = same_Some _ m (sym r.2 ∙ at) in (
+        let is : renumbered_node (place_in order) r.0 ≡ m = same_Some _ m (sym r.2 ∙ at) in (
           get_or order k 0,
           r.0,
           completed-reached t roots (get_or order k 0) (ap (is_in_list (get_or order k 0)) (sym walked) ∙ among-at order k (get_or order k 0) e),
           r.1,
           sym (ap (λ (x : Node). x.attack) is),
-          ap (λ (x : Node). map (λ (y : Reply). y.at) x.replies) (sym is) ∙ points-renamed (place_in order) r.0.replies,
+          ap (λ (x : Node). map (λ (y : Reply). y.at) x.replies) (sym is) ∙ points-renumbered (place_in order) r.0.replies,
         )
 
 pub made-from : (t : List Node) (roots order : List ℕ) (u : List Node) → IsTable t → AreDifferent t → IsOrder t order → order ≡ completed_from t roots → Renumbers t order u → IsMadeFrom t roots (completed_from t roots) u

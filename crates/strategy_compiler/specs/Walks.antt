@@ -2,10 +2,8 @@
 use Rattle.std.specs.Prelude.{◌≡◌, ◌↔◌, ℕ, zero, suc, ◌-◌, ◌<◌, ◌==◌, if◌then◌else◌, List, [], ◌∷◌, ◌++◌, map, fold, length, Bool, Contains, Some, slice_get}
 use Rattle.std.specs.List.{list_any, position_or_len, range_with_len}
 use Rattle.std.specs.Option.{option_map_or}
-use Rattle.strategy_graph.specs.declared.Reply.{Reply}
-use Rattle.strategy_graph.specs.declared.Rest.{Rest}
-use Rattle.strategy_graph.specs.declared.Rest.TheVariants.{Wins, To, Nothing}
 use Rattle.strategy_graph.specs.declared.Node.{Node}
+use Rattle.strategy_graph.specs.Renumbered.{renumbered_node}
 use Rattle.strategy_graph.specs.Tables.{Answers, answers_of, rest_nodes, named, NamesLower, IsTable}
 use Rattle.strategy_compiler.specs.Trees.{Tree, StandsFor}
 
@@ -52,20 +50,6 @@ completed t i = completed_within (suc i) t [] i
 -- the place of the number in the list
 abbrev pub place_in : List ℕ → ℕ → ℕ
 place_in js i = position_or_len (λ j. j == i) js
-
--- the same rest, with the number f j in place of the node j that it names
-abbrev pub renumbered_rest : (ℕ → ℕ) → Rest → Rest
-renumbered_rest f Wins = Wins
-renumbered_rest f (To j) = To (f j)
-renumbered_rest f Nothing = Nothing
-
--- the same reply, with the number f j in place of the node j that answers it
-abbrev pub renumbered_reply : (ℕ → ℕ) → Reply → Reply
-renumbered_reply f r = record { at = r.at; next = f r.next }
-
--- the same node, with the number f j in place of each node j that it names
-abbrev pub renumbered_node : (ℕ → ℕ) → Node → Node
-renumbered_node f n = record { attack = n.attack; replies = map (renumbered_reply f) n.replies; rest = renumbered_rest f n.rest }
 
 -- table u has the nodes of t with these numbers in this order, and for each number that a node names its place among them
 pub record Renumbers (t : List Node) (order : List ℕ) (u : List Node) : Type 0 where

@@ -4,7 +4,8 @@
 ghost use Rattle.std.specs.Prelude.{◌≡◌, ◌<◌, ◌≤◌, ◌++◌, ◌∷◌, [], ℕ, true, nat_lt, map, length, slice_get, slice_index, Some, All, IfOk, OnOk};
 ghost use Rattle.std.specs.List.{list_all};
 ghost use Rattle.strategy_graph.specs.Tables.{IsNode, IsTable, answers_of, names_below, rest_nodes};
-ghost use Rattle.strategy_compiler.specs.Walks.{Renumbers, completed_from, renumbered_node, renumbered_reply, renumbered_rest as renumbered_rest_lem};
+ghost use Rattle.strategy_graph.specs.Renumbered.{renumbered_node, renumbered_reply, renumbered_rest as renumbered_rest_lem};
+ghost use Rattle.strategy_compiler.specs.Walks.{Renumbers, completed_from};
 ghost use Rattle.strategy_compiler.specs.Orders.{ArePlaces, IsMadeFrom, IsOrder};
 ghost use Rattle.strategy_compiler.specs.Nodes.{IsCompiled};
 

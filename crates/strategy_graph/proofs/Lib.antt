@@ -8,12 +8,14 @@ pub mod Equal
 -- depth, acceptance and arrivals by the nodes that are named; tables that grow, or hold copies under other numbers
 pub mod Fuel
 pub mod Copies
+pub mod Starts
 pub mod Renumbering
 pub mod Growth
 pub mod Filling
--- accepted nodes win; a line to a fault refutes; one step of a check
+-- accepted nodes and roots win; a line to a fault refutes; one step of a check
 pub mod Soundness
 pub mod Refutation
+pub mod RootLaws
 pub mod Steps
 -- games end well; one step of a game
 mod Endings
