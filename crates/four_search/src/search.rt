@@ -51,11 +51,12 @@ pub(crate) fn search<R: Rule, V: Seen<R>>(
     requires some { 0 < moves }
     ensures found { IfOk result (λ found. found ≡ found_at R.KIND moves (V.position view.old) budget) }
     ensures same { V.position view.new ≡ V.position view.old }
+    ensures lawful { IsPosition R.KIND (V.position view.old) }
 {
+    let attacker = view.side();
     if budget == 0 {
         return Ok(Found::Spent);
     }
-    let attacker = view.side();
     if view.has_five(attacker) {
         return Ok(Found::Win {
             left: budget - 1,

@@ -5,7 +5,6 @@
 #![tactic(auto)]
 
 ghost use Rattle.std.specs.Prelude.{◌≡◌, IfOk, IsTrue};
-ghost use Rattle.game_rules.specs.Play.{IsPosition};
 ghost use Rattle.threat_moves.specs.FourMoves.{is_four_move};
 ghost use Rattle.threat_moves.specs.Blocks.{by_block as by_block_lem, fate as fate_lem, block_answer};
 
@@ -37,7 +36,6 @@ pub fn forced<R: Rule, V: Seen<R>>(
     requires four { IsTrue (is_four_move R.KIND (V.position view.old) p) }
     ensures answer { IfOk result (λ answer. answer ≡ block_answer R.KIND (V.position view.old) p) }
     ensures same { V.position view.new ≡ V.position view.old }
-    ensures lawful { IsPosition R.KIND (V.position view.old) }
 {
     view.play(p);
     let answer = fate::<R, V>(alloc, view);
