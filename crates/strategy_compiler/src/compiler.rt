@@ -10,17 +10,19 @@ ghost use Rattle.strategy_graph.specs.Leads.{AtNode};
 ghost use Rattle.strategy_graph.specs.Laws.{SaysSame};
 ghost use Rattle.strategy_compiler.specs.Trees.{Tree, Branches, Leaf, Fork, StandsFor, AnswersBranches};
 ghost use Rattle.strategy_compiler.specs.Walks.{AreDifferent, IsNumberedByWalk, IsTableOf, NamesPointsReached, Reaches, Renumbers, completed, last};
+ghost use Rattle.strategy_compiler.specs.Starts.{IsMadeOfAnswers};
 ghost use Rattle.strategy_compiler.specs.Wins.{IsWinTable, IsWrittenWin};
 ghost use Rattle.strategy_compiler.specs.Nodes.{IsCompiled, NamesOnly, PutsIn, answering_node, winning_node};
 
 use crate::WrittenWin;
 use crate::renumbering::made_from;
 use crate::rests::answering;
+use crate::starts::start_from;
 use game_rules::Point;
 use indexmap::IndexSet;
 use std::alloc::{AllocError, Global};
 use std::marker::Model;
-use strategy_graph::{MAX_NODES, Node, Replies, Reply, Rest, Table};
+use strategy_graph::{MAX_NODES, Node, Replies, Reply, Rest, Start, Table};
 use thiserror::Error;
 
 /// The nodes that were put in, each once, which contracts see as their list. They are numbered from 0 in the order in
@@ -141,6 +143,19 @@ impl Compiler {
     {
         let made = made_from(*self.nodes.allocator(), self.nodes.as_slice(), &[root])?;
         Ok(made.table)
+    }
+
+    /// The table of the nodes that the answers reach, and the start that has these answers to the first move of the opponent.
+    /// The answers rise strictly in reading order, and each names a node of the compiler. The rest is chosen as by `node`: it
+    /// answers the most of the replies, and only the answers that differ are listed; without answers the table is empty,
+    /// and the rest is `Nothing`. The nodes are numbered as by `finish`, from the node of the rest first and then from those
+    /// listed, in order. After an `Err` the compiler is gone.
+    pub fn finish_start(self, answers: &[Reply]) -> Result<(Table, Start), AllocError>
+        requires rising { is_rising answers.now ≡ true }
+        requires below { All (λ r. r.next < length self) answers.now }
+        ensures made { IfOk result (λ made. IsMadeOfAnswers self answers.now made.0 made.1) }
+    {
+        start_from(*self.nodes.allocator(), self.nodes.as_slice(), answers)
     }
 
     /// The table of a win that a search wrote: that of the node of the win, by `finish`. Where the win is one at a position, the

@@ -30,7 +30,7 @@ fn places_in(alloc: Global, order: &[u32], len: usize) -> Result<Vec<u32>, Alloc
 }
 
 /// The replies, with the place of each number that they name.
-fn renumbered_replies(
+pub(crate) fn renumbered_replies(
     alloc: Global,
     replies: &[Reply],
     places: &[u32],
@@ -47,7 +47,7 @@ fn renumbered_replies(
 }
 
 /// The rest, with the place of the number that it names.
-fn renumbered_rest(rest: Rest, places: &[u32]) -> Rest
+pub(crate) fn renumbered_rest(rest: Rest, places: &[u32]) -> Rest
     requires below { list_all (λ j. nat_lt j (length places.now)) (rest_nodes rest) ≡ true }
     ensures rest { result ≡ renumbered_rest_lem (λ j. slice_index places.now j) rest }
 {
