@@ -217,6 +217,8 @@ fn a_start_has_its_answers_in_brief(rt: HostRuntime) -> Result<(), Fail> {
     assert_eq!(rt; start.lookup(point(0, 0)), Some(3));
     assert_eq!(rt; start.lookup(point(1, 0)), Some(2));
     assert_eq!(rt; start.lookup(point(3, 0)), Some(1));
+    let below = start.names_below(table.len());
+    assert!(rt; below);
     assert_eq!(rt; table.start_depth(&start)?, 2);
     Ok(())
 }
