@@ -1,5 +1,5 @@
 -- A text is that of one value, and nothing is said against the text of a lawful one.
-use Rattle.std.proofs.Common.{◌≡◌, refl, sym, ◌∙◌, ℕ, List}
+use Rattle.std.proofs.Common.{◌≡◌, refl, sym, ◌∙◌, ℕ, List, [], ◌∷◌, ◌++◌, drop, map}
 use Rattle.std.specs.Prelude.{Some, None}
 use Rattle.game_rules.specs.Grid.{Grid}
 use Rattle.game_rules.specs.Play.{IsPosition}
@@ -10,12 +10,21 @@ use Rattle.foul_judge.specs.declared.position.PositionError.{PositionError}
 use Rattle.foul_judge.proofs.Lawfulness.{none_from_lawful}
 use Rattle.position_files.specs.declared.PositionFile.{PositionFile}
 use Rattle.position_files.specs.declared.TableFile.{TableFile}
+use Rattle.position_files.specs.declared.error.HeadError.{HeadError}
+use Rattle.position_files.specs.declared.error.HeadError.TheVariants.{BadLine as BadHead, Memory as NoRoom}
 use Rattle.position_files.specs.declared.error.FileError.{FileError}
 use Rattle.position_files.specs.declared.error.FileError.TheVariants.{BadLine, Unlawful, WrongMoves, Memory}
 use Rattle.position_files.specs.Positions.{IsTextOfPosition}
 use Rattle.position_files.specs.Tables.{IsTextOfTable}
 use Rattle.position_files.specs.Faults.{IsPositionFault, IsTableFault}
-use Rattle.position_files.specs.ReadBack.{PositionsReadBack, TablesReadBack}
+use Rattle.position_files.specs.ReadBack.{HeadsReadBack, NodesReadBack, PositionsReadBack, StartsReadBack, TablesReadBack}
+use Rattle.position_files.specs.Positions.{board_lines}
+use Rattle.position_files.specs.Tables.{node_line, start_line}
+use Rattle.position_files.specs.Sections.{AreNodeLines, IsBoardLines, IsSectionFault, IsStartLines}
+use Rattle.text_lines.specs.Lines.{text_of}
+use Rattle.text_lines.proofs.TextLaws.{front_parts, text_of-cons}
+use Rattle.text_lines.proofs.Leaving.{not_left}
+use Rattle.position_files.proofs.SectionLaws.{one_head, one_list, one_start, start_parts}
 use Rattle.position_files.proofs.PositionBad.{one_position}
 use Rattle.position_files.proofs.TableTexts.{one_table}
 
@@ -49,4 +58,32 @@ pub table-read-back : TablesReadBack
 table-read-back file bytes text lawful moves = record {
   no_other = λ other is. one_table file other bytes text is;
   no_fault = table-fault file bytes text lawful moves;
+}
+
+-- ---- sections
+
+section-fault : (IsLines : List (List ℕ) → Type 0) (ls : List (List ℕ)) (bytes rest : List ℕ) → IsLines ls → bytes ≡ text_of ls ++ rest → (error : HeadError) → IsSectionFault IsLines bytes error → error ≡ NoRoom
+section-fault IsLines ls bytes rest are e (BadHead n) h = absurd (not_left IsLines ls bytes rest h.0 are e h.2)
+section-fault IsLines ls bytes rest are e NoRoom h = refl
+
+-- bytes that begin with a head are read as that head
+pub head-read-back : HeadsReadBack
+head-read-back head bytes is = record {
+  no_other = λ other there. one_head head other bytes is there;
+  no_fault = section-fault IsBoardLines (board_lines head.kind head.board) bytes (drop head.taken bytes) (head.kind, head.board, is.board, refl) (front_parts (text_of (board_lines head.kind head.board)) bytes head.taken is.front);
+}
+
+-- bytes that begin with the lines of so many nodes are read as these nodes
+pub nodes-read-back : NodesReadBack
+nodes-read-back width height count found bytes wide high is = record {
+  no_other = λ other there. one_list width height wide high count found other bytes is there;
+  no_fault = section-fault (AreNodeLines width height count) (map node_line found.table) bytes (drop found.taken bytes) (found.table, is.nodes, refl) (front_parts (text_of (map node_line found.table)) bytes found.taken is.front);
+}
+
+-- bytes that begin with the line of a start are read as that start
+pub start-read-back : StartsReadBack
+start-read-back width height below found bytes wide high is = record {
+  no_other = λ other there. one_start width height wide high below found other bytes is there;
+  no_fault = section-fault (IsStartLines width height below) (start_line found.start ∷ []) bytes (drop found.taken bytes) (found.start, is.start, refl)
+      (start_parts width height below found bytes is ∙ text_of-cons (start_line found.start) [] (drop found.taken bytes));
 }

@@ -6,16 +6,15 @@ ghost use Rattle.strategy_graph.specs.declared.Rest.{Rest};
 ghost use Rattle.std.specs.List.{AllByRecursion};
 ghost use Rattle.std.specs.Option.{option_map};
 ghost use Rattle.std.specs.Result.{result_map_both};
-ghost use Rattle.position_files.specs.Positions.{space};
+ghost use Rattle.text_lines.specs.Spellings.{space};
 ghost use Rattle.position_files.specs.Tables.{answers_text, node_line as node_line_lem, replies_text, reply_text, rest_text, start_line as start_line_lem};
-ghost use Rattle.position_files.specs.Reading.{Gives, GivesLine, IsSide, Reads, tail_text};
+ghost use Rattle.text_lines.specs.Reading.{Gives, GivesLine, Reads, tail_text};
+ghost use Rattle.position_files.specs.Boards.{IsSide};
 ghost use Rattle.position_files.specs.Answers.{AnswersFit, NodeFits, ReplyFits, RestFits, StartFits, answers_with};
 
-use crate::faults::Fault;
-use crate::lines::prefixed;
-use crate::words::{cut, is_text, number, point};
 use std::alloc::Global;
 use strategy_graph::{MAX_NODES, Node, Replies, Reply, Rest, Start};
+use text_lines::{Fault, cut, is_text, number, point, prefixed};
 
 /// The reply, and the number of the node that answers it, that the bytes spell.
 fn reply(word: &[u8], width: u8, height: u8) -> Option<Reply>

@@ -5,7 +5,7 @@
 //! that there is no memory.
 #![tactic(auto)]
 
-ghost use Rattle.position_files.specs.ReadBack.{PositionsReadBack, TablesReadBack};
+ghost use Rattle.position_files.specs.ReadBack.{HeadsReadBack, NodesReadBack, PositionsReadBack, StartsReadBack, TablesReadBack};
 
 /// The text of a lawful position is read back as that position: it is the text of no other, and it is not refused.
 pub fn positions_read_back()
@@ -16,4 +16,12 @@ pub fn positions_read_back()
 /// text of no other, and it is not refused.
 pub fn tables_read_back()
     ensures same { TablesReadBack }
+{}
+
+/// A head, lines of nodes and the line of a start that bytes begin with are read as these values, whatever follows them:
+/// the bytes begin with no other, and they are not refused.
+pub fn sections_read_back()
+    ensures heads { HeadsReadBack }
+    ensures nodes { NodesReadBack }
+    ensures starts { StartsReadBack }
 {}

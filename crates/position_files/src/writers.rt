@@ -9,8 +9,9 @@ ghost use Rattle.std.specs.List.{AllByRecursion};
 ghost use Rattle.std.specs.Fmt.{decimal};
 ghost use Rattle.game_rules.specs.Grid.{IsBoard};
 ghost use Rattle.strategy_graph.specs.Tables.{IsTable};
-ghost use Rattle.position_files.specs.Lines.{ended, text_of};
-ghost use Rattle.position_files.specs.Positions.{space, IsTextOfPosition, board_lines, point_text};
+ghost use Rattle.text_lines.specs.Lines.{ended, text_of};
+ghost use Rattle.text_lines.specs.Spellings.{space, point_text};
+ghost use Rattle.position_files.specs.Positions.{IsTextOfPosition, board_lines};
 ghost use Rattle.position_files.specs.Tables.{IsTextOfTable, NodeOn, RootFits, answers_text, node_line, nodes_lines, replies_text, reply_text, rest_text as rest_text_lem, start_line, table_text as table_text_lem};
 
 use crate::written::board_text;
@@ -18,6 +19,7 @@ use game_rules::{Point, RuleKind};
 use std::alloc::{AllocError, Global};
 use stone_board::Board;
 use strategy_graph::{Node, Replies, Reply, Rest, Root, Start, Table};
+use text_lines::push_number_line;
 
 /// Writes the text of a position. `Err` says that memory ran out.
 #[tactic(auto, unfolding(crate::specs::Positions::position_text))]
@@ -116,16 +118,6 @@ fn push_nodes(alloc: Global, text: &mut String, table: &Table) -> Result<(), All
     Ok(())
 }
 
-/// Adds a line of this word and this number to a text.
-fn push_count(alloc: Global, text: &mut String, word: &str, count: u32) -> Result<(), AllocError>
-    ensures line { IfOk result (λ _. string_bytes text.new ≡ string_bytes text.old ++ ended (word.now ++ decimal count)) }
-{
-    let number = format!(in alloc; "{count}\n")?;
-    text.push_str(word)?;
-    text.push_str(number.as_str())?;
-    Ok(())
-}
-
 /// Adds the lines from the number of moves to the last node to a text.
 #[tactic(auto, using(crate::proofs::Growth::table_grown))]
 fn push_table(alloc: Global, text: &mut String, table: &Table, moves: u32) -> Result<(), AllocError>
@@ -133,8 +125,8 @@ fn push_table(alloc: Global, text: &mut String, table: &Table, moves: u32) -> Re
     ensures table { IsTable table.now }
 {
     let len = table.len();
-    push_count(alloc, text, "moves ", moves)?;
-    push_count(alloc, text, "nodes ", len)?;
+    push_number_line(alloc, text, "moves ", moves)?;
+    push_number_line(alloc, text, "nodes ", len)?;
     push_nodes(alloc, text, table)?;
     Ok(())
 }

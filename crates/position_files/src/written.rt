@@ -4,23 +4,16 @@
 //! the points of the board.
 #![tactic(auto)]
 
-ghost use Rattle.std.specs.Prelude.{◌≡◌, [], ◌∷◌, ◌++◌, IfOk, string_bytes};
+ghost use Rattle.std.specs.Prelude.{◌≡◌, ◌∷◌, ◌++◌, IfOk, string_bytes};
 ghost use Rattle.game_rules.specs.Grid.{IsBoard};
-ghost use Rattle.position_files.specs.Lines.{ended, text_of};
-ghost use Rattle.position_files.specs.Positions.{space, board_lines, point_text, points_text, rule_line, rule_word as rule_word_lem, size_line as size_line_lem, stones};
+ghost use Rattle.text_lines.specs.Lines.{ended, text_of};
+ghost use Rattle.text_lines.specs.Spellings.{points_text};
+ghost use Rattle.position_files.specs.Positions.{board_lines, rule_line, rule_word as rule_word_lem, size_line as size_line_lem, stones};
 
-use game_rules::{Point, RuleKind, Side};
+use game_rules::{RuleKind, Side};
 use std::alloc::{AllocError, Global};
 use stone_board::Board;
-
-/// Adds a line to a text, and the line feed that ends it.
-fn push_line(text: &mut String, line: &str) -> Result<(), AllocError>
-    ensures line { IfOk result (λ _. string_bytes text.new ≡ string_bytes text.old ++ ended line.now) }
-{
-    text.push_str(line)?;
-    text.push_str("\n")?;
-    Ok(())
-}
+use text_lines::{push_line, push_point};
 
 /// The word of a rule.
 fn rule_word(kind: RuleKind) -> &'static str
@@ -63,15 +56,6 @@ fn push_size(alloc: Global, text: &mut String, board: &Board) -> Result<(), Allo
     Ok(())
 }
 
-/// A point after a space.
-fn spaced_point(alloc: Global, at: Point) -> Result<String, AllocError>
-    ensures text { IfOk result (λ text. string_bytes text ≡ space ∷ point_text at) }
-{
-    let x = at.x;
-    let y = at.y;
-    format!(in alloc; " {x},{y}")
-}
-
 /// Adds the points at which stones of the side stand to a text, in reading order, each after a space.
 #[tactic(auto, unfolding(crate::specs::Positions::stones))]
 fn push_stones(
@@ -84,8 +68,7 @@ fn push_stones(
 {
     for p in board.points() {
         if board.holds(side, p) {
-            let word = spaced_point(alloc, p)?;
-            text.push_str(word.as_str())?;
+            push_point(alloc, text, p)?;
         }
     }
     Ok(())

@@ -33,6 +33,10 @@ pub record IsFront (text bytes : List ℕ) (taken : ℕ) : Type 0 where
   pub within : taken ≤ length bytes
   pub spelled : take taken bytes ≡ text
 
+-- the lines are the one line of a value that fits
+abbrev pub IsLineOf : {X : Type 0} → (X → Type 0) → (X → List ℕ) → List (List ℕ) → Type 0
+IsLineOf {X} Fits line ls = (v : X) × Fits v × (ls ≡ line v ∷ [])
+
 -- The bytes begin with the first i lines of some list of lines of this kind, and with the first i + 1 lines of none.
 pub record LeavesAt (IsLines : List (List ℕ) → Type 0) (bytes : List ℕ) (i : ℕ) : Type 0 where
   pub lines : List (List ℕ)
