@@ -8,11 +8,12 @@ use Rattle.position_files.specs.declared.sections.Head.{Head}
 use Rattle.position_files.specs.declared.sections.Nodes.{Nodes}
 use Rattle.position_files.specs.declared.sections.StartLine.{StartLine}
 use Rattle.position_files.specs.declared.error.HeadError.{HeadError}
-use Rattle.position_files.specs.declared.error.HeadError.TheVariants.{Memory as NoRoom}
+use Rattle.position_files.specs.declared.error.HeadError.TheVariants.{BadLine as BadHead, Memory as NoRoom}
 use Rattle.position_files.specs.declared.error.FileError.{FileError}
 use Rattle.position_files.specs.declared.error.FileError.TheVariants.{Memory}
 use Rattle.position_files.specs.Positions.{IsTextOfPosition}
 use Rattle.position_files.specs.Tables.{IsTextOfTable}
+use Rattle.text_lines.specs.Lines.{BeginsWith, FirstBad}
 use Rattle.position_files.specs.Boards.{IsSide}
 use Rattle.position_files.specs.Sections.{AreNodeLines, IsBoardLines, IsHeadOf, IsNodesOf, IsSectionFault, IsStartLines, IsStartOf}
 use Rattle.position_files.specs.Faults.{IsPositionFault, IsTableFault}
@@ -64,3 +65,15 @@ NodesReadBack =
 abbrev pub StartsReadBack : Type 0
 StartsReadBack =
     (width height below : ℕ) (found : StartLine) (bytes : List ℕ) → IsSide width → IsSide height → IsStartOf width height below found bytes → OnlyStart width height below found bytes
+
+-- what is said of bad lines at the front of bytes is said of the first bad line of the texts that begin with such lines
+abbrev pub NamesFirstBad : (List (List ℕ) → Type 0) → Type 0
+NamesFirstBad IsLines = (bytes : List ℕ) (n : ℕ) → IsSectionFault IsLines bytes (BadHead n) → FirstBad (BeginsWith IsLines) bytes n
+
+-- the same of the lines of so many nodes
+abbrev pub NodesNameFirstBad : Type 0
+NodesNameFirstBad = (width height count : ℕ) → IsSide width → IsSide height → NamesFirstBad (AreNodeLines width height count)
+
+-- the same of the line of a start
+abbrev pub StartsNameFirstBad : Type 0
+StartsNameFirstBad = (width height below : ℕ) → IsSide width → IsSide height → NamesFirstBad (IsStartLines width height below)

@@ -1,4 +1,7 @@
 //! The lines of a rule and a board.
+//!
+//! The stones of a line are put on the board one after another. They rise in reading order where each stands later than
+//! the one before it, and White's stand on no stone of Black's where the points are empty.
 #![tactic(auto)]
 
 ghost use Rattle.std.specs.Prelude.{◌≡◌, ℕ, List, [], ◌∷◌, ◌++◌, true, false, IsTrue, IfOk, IfErr, Err};
@@ -24,8 +27,10 @@ use text_lines::{Fault, line};
 fn put_stones(board: &mut Board, side: Side, points: &[Point]) -> bool
     requires within { AllByRecursion (IsWithin board.old.width board.old.height) points.now }
     requires none { stones_lem board.old side ≡ [] }
-    ensures put { IsTrue result → SameBut side board.old board.new × (stones_lem board.new side ≡ points.now) }
-    ensures refused { result ≡ false → (b : Grid) → IsBoard b → SameBut side board.old b → stones_lem b side ≡ points.now → ⊥ }
+    ensures put { IsTrue result → SameBut side board.old board.new
+        × (stones_lem board.new side ≡ points.now) }
+    ensures refused { result ≡ false → (b : Grid) → IsBoard b → SameBut side board.old b
+        → stones_lem b side ≡ points.now → ⊥ }
     ensures board { IsBoard board.new }
 {
     let width = u32::from(board.width());
@@ -55,7 +60,8 @@ fn stones_line<'a>(
     requires none { stones_lem board.old side ≡ [] }
     ensures put { IfOk result (λ rest. SameBut side board.old board.new
         × (bytes.now ≡ (word.now ++ points_text (stones_lem board.new side)) ++ line_feed ∷ rest.now)) }
-    ensures bad { result ≡ Err Fault.Bad → (b : Grid) (rest : List ℕ) → IsBoard b → SameBut side board.old b
+    ensures bad { result ≡ Err Fault.Bad
+        → (b : Grid) (rest : List ℕ) → IsBoard b → SameBut side board.old b
         → bytes.now ≡ (word.now ++ points_text (stones_lem b side)) ++ line_feed ∷ rest → ⊥ }
     ensures board { IsBoard board.new }
 {
@@ -74,7 +80,8 @@ fn stones_line<'a>(
 /// The rule and the board that the first four lines tell, and the bytes after them.
 pub(crate) fn read_board(alloc: Global, bytes: &[u8]) -> Result<(RuleKind, Board, &[u8]), HeadError>
     ensures board { IfOk result (λ found. IsBoard found.1) }
-    ensures text { IfOk result (λ found. bytes.now ≡ text_of (board_lines found.0 found.1) ++ found.2.now) }
+    ensures text { IfOk result (λ found. bytes.now
+        ≡ text_of (board_lines found.0 found.1) ++ found.2.now) }
     ensures refused { IfErr result (IsSectionFault IsBoardLines bytes.now) }
     ensures within { IfErr result (IsUpTo HEAD_LINES) }
 {

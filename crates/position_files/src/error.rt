@@ -1,4 +1,6 @@
 //! Why a text, or a section at the front of one, is refused.
+//!
+//! A section counts its lines from its own front. A reader of a whole text adds the lines that stand before the section.
 #![tactic(auto)]
 
 ghost use Rattle.std.specs.Prelude.{◌≡◌, ◌-◌};

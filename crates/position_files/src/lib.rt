@@ -29,7 +29,9 @@ pub use sections::{HEAD_LINES, Head, Nodes, StartLine, read_head, read_nodes, re
 use stone_board::Board;
 use strategy_graph::{Root, Table};
 pub use tables::read_table;
-pub use theorems::{positions_read_back, sections_read_back, tables_read_back};
+pub use theorems::{
+    positions_read_back, sections_name_first_bad_lines, sections_read_back, tables_read_back,
+};
 pub use writers::{write_position, write_table};
 
 /// The most moves that a table says it needs.

@@ -21,7 +21,8 @@ use text_lines::{Fault, cut, is_text, point, prefixed};
 fn points(alloc: Global, tail: Option<&[u8]>, width: u8, height: u8) -> Result<Points, Fault>
     requires wide { IsSide width }
     requires high { IsSide height }
-    ensures points { Gives (AllByRecursion (IsWithin width height)) points_text result (tail_text space (option_copied tail.entry)) }
+    ensures points { Gives (AllByRecursion (IsWithin width height)) points_text result
+        (tail_text space (option_copied tail.entry)) }
 {
     let mut points = Points::new(alloc);
     let mut rest = tail;
@@ -47,7 +48,8 @@ pub(crate) fn stones(
     requires wide { IsSide width }
     requires high { IsSide height }
     requires word { is_free space word.now ≡ true }
-    ensures stones { Gives (AllByRecursion (IsWithin width height)) (λ ps. word.now ++ points_text ps) result line.now }
+    ensures stones { Gives (AllByRecursion (IsWithin width height)) (λ ps. word.now ++ points_text ps)
+        result line.now }
 {
     let (first, rest) = cut(line, b' ');
     if !is_text(first, word) {
@@ -58,7 +60,8 @@ pub(crate) fn stones(
 
 /// The rule of the first line, and the bytes after it.
 pub(crate) fn rule_line(bytes: &[u8]) -> Option<(RuleKind, &[u8])>
-    ensures rule { ReadsLine (λ _. Unit {0}) rule_line_lem (option_map (λ found. (found.0, found.1.now)) result) bytes.now }
+    ensures rule { ReadsLine (λ _. Unit {0}) rule_line_lem
+        (option_map (λ found. (found.0, found.1.now)) result) bytes.now }
 {
     let (word, rest) = prefixed(bytes, b"rule ")?;
     Some((rule(word)?, rest))
@@ -66,7 +69,8 @@ pub(crate) fn rule_line(bytes: &[u8]) -> Option<(RuleKind, &[u8])>
 
 /// The width and the height of the first line, and the bytes after it.
 pub(crate) fn size_line(bytes: &[u8]) -> Option<((u8, u8), &[u8])>
-    ensures size { ReadsLine AreSides (λ sides. size_line_lem sides.0 sides.1) (option_map (λ found. (found.0, found.1.now)) result) bytes.now }
+    ensures size { ReadsLine AreSides (λ sides. size_line_lem sides.0 sides.1)
+        (option_map (λ found. (found.0, found.1.now)) result) bytes.now }
 {
     let (text, rest) = prefixed(bytes, b"size ")?;
     Some((size(text)?, rest))

@@ -1,4 +1,7 @@
 //! The nodes of a table, read line by line.
+//!
+//! Each node is added to the table of those before it, which takes it where it is a node of the next number. So the
+//! nodes that are read are always a table.
 #![tactic(auto)]
 
 ghost use Rattle.std.specs.Prelude.{◌≡◌, ℕ, ◌≤◌, ◌<◌, true, List, [], ◌∷◌, ◌++◌, length, map, OnOk, OnErr, IfOk, IfErr, Err};
@@ -22,7 +25,8 @@ use text_lines::{Fault, line};
 fn push(table: &mut Table, node: Node) -> Result<(), Fault>
     requires winning { is_winning node.rest ≡ true → node.replies ≡ [] }
     ensures pushed { OnOk result (table.new ≡ table.old ++ node ∷ []) }
-    ensures bad { result ≡ Err Fault.Bad → IsNode node (length table.old) → length table.old < MAX_NODES → ⊥ }
+    ensures bad { result ≡ Err Fault.Bad
+        → IsNode node (length table.old) → length table.old < MAX_NODES → ⊥ }
     ensures unchanged { OnErr result (table.new ≡ table.old) }
 {
     match table.push(node) {
@@ -42,8 +46,10 @@ fn add_node<'a>(
 ) -> Result<&'a [u8], Fault>
     requires wide { IsSide width }
     requires high { IsSide height }
-    ensures added { IfOk result (λ rest. AddsNode width height table.old table.new bytes.now rest.now) }
-    ensures bad { result ≡ Err Fault.Bad → (n : Node) (others : List ℕ) → NodeFits width height n → IsNode n (length table.old) → length table.old < MAX_NODES
+    ensures added { IfOk result (λ rest. AddsNode width height
+        table.old table.new bytes.now rest.now) }
+    ensures bad { result ≡ Err Fault.Bad → (n : Node) (others : List ℕ) → NodeFits width height n
+        → IsNode n (length table.old) → length table.old < MAX_NODES
         → bytes.now ≡ node_line n ++ line_feed ∷ others → ⊥ }
     ensures unchanged { OnErr result (table.new ≡ table.old) }
 {
@@ -67,7 +73,8 @@ pub(crate) fn node_lines(
     requires few { count ≤ MAX_NODES }
     ensures count { IfOk result (λ found. length found.0 ≡ count) }
     ensures nodes { IfOk result (λ found. AllByRecursion (NodeFits width height) found.0) }
-    ensures text { IfOk result (λ found. bytes.now ≡ text_of (map node_line found.0) ++ found.1.now) }
+    ensures text { IfOk result (λ found. bytes.now
+        ≡ text_of (map node_line found.0) ++ found.1.now) }
     ensures refused { IfErr result (IsSectionFault (AreNodeLines width height count) bytes.now) }
     ensures within { IfErr result (IsUpTo count) }
 {

@@ -18,7 +18,8 @@ use text_lines::after;
 /// The position that the bytes are the text of. A bad line is named first, and then why the board is no lawful position.
 pub fn read_position(alloc: Global, bytes: &[u8]) -> Result<PositionFile, FileError>
     ensures found { IfOk result (λ file. IsTextOfPosition file bytes.now) }
-    ensures only { IfOk result (λ file. (other : PositionFile) → IsTextOfPosition other bytes.now → other ≡ file) }
+    ensures only { IfOk result (λ file. (other : PositionFile)
+        → IsTextOfPosition other bytes.now → other ≡ file) }
     ensures lawful { IfOk result (λ file. IsPosition file.kind file.board) }
     ensures refused { IfErr result (IsPositionFault bytes.now) }
 {

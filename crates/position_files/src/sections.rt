@@ -70,7 +70,8 @@ pub fn read_nodes(
     requires wide { IsSide width }
     requires high { IsSide height }
     ensures found { IfOk result (λ nodes. IsNodesOf width height count nodes bytes.now) }
-    ensures only { IfOk result (λ nodes. (other : Nodes) → IsNodesOf width height count other bytes.now → other ≡ nodes) }
+    ensures only { IfOk result (λ nodes. (other : Nodes)
+        → IsNodesOf width height count other bytes.now → other ≡ nodes) }
     ensures refused { IfErr result (IsSectionFault (AreNodeLines width height count) bytes.now) }
     ensures within { IfErr result (IsUpTo count) }
 {
@@ -91,7 +92,8 @@ pub fn read_start(
     requires wide { IsSide width }
     requires high { IsSide height }
     ensures found { IfOk result (λ line. IsStartOf width height below line bytes.now) }
-    ensures only { IfOk result (λ line. (other : StartLine) → IsStartOf width height below other bytes.now → other ≡ line) }
+    ensures only { IfOk result (λ line. (other : StartLine)
+        → IsStartOf width height below other bytes.now → other ≡ line) }
     ensures refused { IfErr result (IsSectionFault (IsStartLines width height below) bytes.now) }
     ensures within { IfErr result (IsUpTo 1) }
 {

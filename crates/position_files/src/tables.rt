@@ -1,4 +1,7 @@
-//! Texts of tables, read line by line.
+//! Texts of tables, read section by section.
+//!
+//! A table is a first line, which tells the version, a head, the numbers of moves and of nodes, the nodes, and in version 2
+//! a start. Where a section is bad, its line is counted on from the lines before it.
 #![tactic(auto)]
 
 ghost use Rattle.std.specs.Prelude.{◌≡◌, ◌+◌, ◌≤◌, ◌∷◌, ◌++◌, true, length, codes, IfOk, IfErr};
@@ -95,7 +98,8 @@ fn finish(body: Body, root: Root) -> Result<TableFile, FileError>
 
 /// The table of version 1, whose root is its last node, that the bytes after the first line are the text of.
 fn read_attack(alloc: Global, bytes: &[u8]) -> Result<TableFile, FileError>
-    ensures text { IfOk result (λ file. IsTextOfTable file (codes "renju-table 1" ++ line_feed ∷ bytes.now)) }
+    ensures text { IfOk result (λ file. IsTextOfTable file
+        (codes "renju-table 1" ++ line_feed ∷ bytes.now)) }
     ensures lawful { IfOk result (λ file. IsPosition file.kind file.board) }
     ensures moves { IfOk result (λ file. file.moves ≡ root_depth file.table file.root) }
     ensures refused { IfErr result (IsTableFault (codes "renju-table 1" ++ line_feed ∷ bytes.now)) }
@@ -113,7 +117,8 @@ fn read_attack(alloc: Global, bytes: &[u8]) -> Result<TableFile, FileError>
 
 /// The table of version 2, whose root is a start, that the bytes after the first line are the text of.
 fn read_defend(alloc: Global, bytes: &[u8]) -> Result<TableFile, FileError>
-    ensures text { IfOk result (λ file. IsTextOfTable file (codes "renju-table 2" ++ line_feed ∷ bytes.now)) }
+    ensures text { IfOk result (λ file. IsTextOfTable file
+        (codes "renju-table 2" ++ line_feed ∷ bytes.now)) }
     ensures lawful { IfOk result (λ file. IsPosition file.kind file.board) }
     ensures moves { IfOk result (λ file. file.moves ≡ root_depth file.table file.root) }
     ensures refused { IfErr result (IsTableFault (codes "renju-table 2" ++ line_feed ∷ bytes.now)) }
@@ -139,7 +144,8 @@ fn read_defend(alloc: Global, bytes: &[u8]) -> Result<TableFile, FileError>
 /// numbers of moves, where the one that is written is not the depth of the root.
 pub fn read_table(alloc: Global, bytes: &[u8]) -> Result<TableFile, FileError>
     ensures found { IfOk result (λ file. IsTextOfTable file bytes.now) }
-    ensures only { IfOk result (λ file. (other : TableFile) → IsTextOfTable other bytes.now → other ≡ file) }
+    ensures only { IfOk result (λ file. (other : TableFile)
+        → IsTextOfTable other bytes.now → other ≡ file) }
     ensures lawful { IfOk result (λ file. IsPosition file.kind file.board) }
     ensures moves { IfOk result (λ file. file.moves ≡ root_depth file.table file.root) }
     ensures refused { IfErr result (IsTableFault bytes.now) }

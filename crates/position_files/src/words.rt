@@ -1,4 +1,6 @@
 //! Words of the lines of a rule and of a size.
+//!
+//! A size is one number where the width and the height are the same, so that each size has one spelling.
 #![tactic(auto)]
 
 ghost use Rattle.std.specs.Fmt.{decimal};

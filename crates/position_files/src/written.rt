@@ -28,7 +28,8 @@ fn rule_word(kind: RuleKind) -> &'static str
 
 /// Adds the line of a rule to a text.
 fn push_rule(text: &mut String, kind: RuleKind) -> Result<(), AllocError>
-    ensures line { IfOk result (λ _. string_bytes text.new ≡ string_bytes text.old ++ ended (rule_line kind)) }
+    ensures line { IfOk result (λ _. string_bytes text.new ≡ string_bytes text.old
+        ++ ended (rule_line kind)) }
 {
     text.push_str("rule ")?;
     push_line(text, rule_word(kind))?;
@@ -48,7 +49,8 @@ fn size_line(alloc: Global, width: u8, height: u8) -> Result<String, AllocError>
 
 /// Adds the line of the size of a board to a text.
 fn push_size(alloc: Global, text: &mut String, board: &Board) -> Result<(), AllocError>
-    ensures line { IfOk result (λ _. string_bytes text.new ≡ string_bytes text.old ++ ended (size_line_lem board.now.width board.now.height)) }
+    ensures line { IfOk result (λ _. string_bytes text.new ≡ string_bytes text.old
+        ++ ended (size_line_lem board.now.width board.now.height)) }
     ensures board { IsBoard board.now }
 {
     let line = size_line(alloc, board.width(), board.height())?;
@@ -64,7 +66,8 @@ fn push_stones(
     board: &Board,
     side: Side,
 ) -> Result<(), AllocError>
-    ensures stones { IfOk result (λ _. string_bytes text.new ≡ string_bytes text.old ++ points_text (stones board.now side)) }
+    ensures stones { IfOk result (λ _. string_bytes text.new ≡ string_bytes text.old
+        ++ points_text (stones board.now side)) }
 {
     for p in board.points() {
         if board.holds(side, p) {
@@ -82,7 +85,8 @@ fn push_stones_line(
     side: Side,
     word: &str,
 ) -> Result<(), AllocError>
-    ensures line { IfOk result (λ _. string_bytes text.new ≡ string_bytes text.old ++ ended (word.now ++ points_text (stones board.now side))) }
+    ensures line { IfOk result (λ _. string_bytes text.new ≡ string_bytes text.old
+        ++ ended (word.now ++ points_text (stones board.now side))) }
 {
     text.push_str(word)?;
     push_stones(alloc, text, board, side)?;
@@ -98,7 +102,8 @@ pub(crate) fn board_text(
     kind: RuleKind,
     board: &Board,
 ) -> Result<String, AllocError>
-    ensures text { IfOk result (λ text. string_bytes text ≡ text_of (first.now ∷ board_lines kind board.now)) }
+    ensures text { IfOk result (λ text. string_bytes text
+        ≡ text_of (first.now ∷ board_lines kind board.now)) }
     ensures board { IfOk result (λ _. IsBoard board.now) }
 {
     let mut text = String::new(alloc);

@@ -28,6 +28,10 @@ pub record FirstBad (IsText : List ℕ → Type 0) (bytes : List ℕ) (n : ℕ) 
   pub so_far : (text : List ℕ) × IsText text × (take (n - 1) (pieces text) ≡ take (n - 1) (pieces bytes))
   pub no_further : (text : List ℕ) → IsText text → take n (pieces text) ≡ take n (pieces bytes) → ⊥
 
+-- the bytes begin with lines of this kind, and go on anyhow
+abbrev pub BeginsWith : (List (List ℕ) → Type 0) → List ℕ → Type 0
+BeginsWith IsLines bytes = (ls : List (List ℕ)) × (rest : List ℕ) × IsLines ls × (bytes ≡ text_of ls ++ rest)
+
 -- The bytes begin with this text, which is so many bytes long.
 pub record IsFront (text bytes : List ℕ) (taken : ℕ) : Type 0 where
   pub within : taken ≤ length bytes
