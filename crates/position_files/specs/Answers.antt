@@ -6,19 +6,20 @@ use Rattle.strategy_graph.specs.declared.Reply.{Reply}
 use Rattle.strategy_graph.specs.declared.Rest.{Rest}
 use Rattle.strategy_graph.specs.declared.Rest.TheVariants.{Wins, To, Nothing}
 use Rattle.strategy_graph.specs.declared.Node.{Node}
-use Rattle.position_files.specs.Lines.{line_feed}
+use Rattle.strategy_graph.specs.declared.TheConstants.{MAX_NODES}
+use Rattle.text_lines.specs.Lines.{line_feed}
 use Rattle.position_files.specs.Tables.{node_line}
-use Rattle.position_files.specs.Reading.{IsWithin}
+use Rattle.text_lines.specs.Reading.{IsWithin}
 
 -- the reply is at a point within these bounds, and names a node of a number that is not too great
 pub record ReplyFits (width height : ℕ) (r : Reply) : Type 0 where
   pub at : IsWithin width height r.at
-  pub next : r.next ≤ 1000000
+  pub next : r.next ≤ MAX_NODES
 
 -- the rest names no node of too great a number
 abbrev pub RestFits : Rest → Type 0
 RestFits Wins = Unit {0}
-RestFits (To j) = j ≤ 1000000
+RestFits (To j) = j ≤ MAX_NODES
 RestFits Nothing = Unit {0}
 
 -- the replies and the rest fit, and a rest that wins comes with no replies
