@@ -1,4 +1,8 @@
 //! The compiler: a set of nodes in the order in which they were put in.
+//!
+//! A node that is equal to one that is there is not put in again, so what a search comes upon twice has one number. A
+//! table is finished from one root, from the node of a written win, or from the answers of a start, by one and the same
+//! walk.
 #![tactic(auto)]
 
 ghost use Rattle.std.specs.Prelude.{◌≡◌, ◌↔◌, ◌<◌, ◌≤◌, [], true, ℕ, List, map, All, Contains, length, slice_get, Some, IfOk, OnOk, OnErr, IsErr, IsErrOf};
@@ -83,7 +87,8 @@ impl Compiler {
         ensures node { IfOk result (λ i. slice_get self.new i ≡ Some (winning_node attack)) }
         ensures stands { IfOk result (λ i. StandsFor self.new i (Leaf attack)) }
         ensures put_in { OnOk result (PutsIn self.old (winning_node attack) self.new) }
-        ensures full { IsErrOf result CompileError.Full ↔ ((¬ Contains self.old (winning_node attack)) × (length self.old ≡ MAX_NODES)) }
+        ensures full { IsErrOf result CompileError.Full
+            ↔ ((¬ Contains self.old (winning_node attack)) × (length self.old ≡ MAX_NODES)) }
         ensures unchanged { OnErr result (self.new ≡ self.old) }
         ensures compiled { IsCompiled self.new }
     {
@@ -109,13 +114,22 @@ impl Compiler {
     pub fn node(&mut self, attack: Point, answers: &[Reply]) -> Result<u32, CompileError>
         requires rising { is_rising answers.now ≡ true }
         requires below { All (λ r. r.next < length self.old) answers.now }
-        ensures node { IfOk result (λ i. slice_get self.new i ≡ Some (answering_node attack answers.now)) }
-        ensures answers { IfOk result (λ i. All (λ r. answer_at self.new i r.at ≡ Some r.next) answers.now) }
-        ensures points { IfOk result (λ i. AtNode (slice_get self.new i) (NamesOnly attack (map (λ r. r.at) answers.now))) }
-        ensures stands { IfOk result (λ i. (branches : Branches) → AnswersBranches self.old answers.now branches → StandsFor self.new i (Fork attack branches)) }
-        ensures put_in { OnOk result (PutsIn self.old (answering_node attack answers.now) self.new) }
-        ensures full_only { IsErrOf result CompileError.Full → (¬ Contains self.old (answering_node attack answers.now)) × (length self.old ≡ MAX_NODES) }
-        ensures full { (¬ Contains self.old (answering_node attack answers.now)) × (length self.old ≡ MAX_NODES) → IsErr result }
+        ensures node { IfOk result
+            (λ i. slice_get self.new i ≡ Some (answering_node attack answers.now)) }
+        ensures answers { IfOk result
+            (λ i. All (λ r. answer_at self.new i r.at ≡ Some r.next) answers.now) }
+        ensures points { IfOk result
+            (λ i. AtNode (slice_get self.new i) (NamesOnly attack (map (λ r. r.at) answers.now))) }
+        ensures stands { IfOk result
+            (λ i. (branches : Branches) → AnswersBranches self.old answers.now branches
+            → StandsFor self.new i (Fork attack branches)) }
+        ensures put_in { OnOk result
+            (PutsIn self.old (answering_node attack answers.now) self.new) }
+        ensures full_only { IsErrOf result CompileError.Full
+            → (¬ Contains self.old (answering_node attack answers.now))
+            × (length self.old ≡ MAX_NODES) }
+        ensures full { (¬ Contains self.old (answering_node attack answers.now))
+            × (length self.old ≡ MAX_NODES) → IsErr result }
         ensures unchanged { OnErr result (self.new ≡ self.old) }
         ensures compiled { IsCompiled self.new }
     {
@@ -131,7 +145,8 @@ impl Compiler {
     pub fn finish(self, root: u32) -> Result<Table, AllocError>
         requires in_compiler { root < length self }
         ensures nodes { IfOk result (λ t. Renumbers self (completed self root) t) }
-        ensures trees { IfOk result (λ t. (tree : Tree) → StandsFor self root tree → IsTableOf tree t) }
+        ensures trees { IfOk result
+            (λ t. (tree : Tree) → StandsFor self root tree → IsTableOf tree t) }
 
         // Of every root, whether or not it stands for a tree.
         ensures some { IfOk result (λ t. 0 < length t) }
@@ -166,7 +181,8 @@ impl Compiler {
         ensures win { IfOk result (λ t. (rule : RuleKind) (limit : ℕ) (b : Grid)
             → IsWrittenWin rule limit b self win → IsWinTable rule b win t) }
         ensures same { IfOk result (λ t. SaysSame self win.node t (last t)) }
-        ensures trees { IfOk result (λ t. (tree : Tree) → StandsFor self win.node tree → IsTableOf tree t) }
+        ensures trees { IfOk result
+            (λ t. (tree : Tree) → StandsFor self win.node tree → IsTableOf tree t) }
         ensures some { IfOk result (λ t. 0 < length t) }
         ensures different { IfOk result AreDifferent }
         ensures reached { IfOk result (λ t. (i : ℕ) → i < length t → Reaches t (last t) i) }
@@ -182,7 +198,8 @@ fn put_in(nodes: &mut IndexSet<Node>, node: Node) -> Result<u32, CompileError>
     requires node { IsNode node (length nodes.old.keys) }
     ensures node { IfOk result (λ i. slice_get nodes.new.keys i ≡ Some node) }
     ensures put_in { OnOk result (PutsIn nodes.old.keys node nodes.new.keys) }
-    ensures full { IsErrOf result CompileError.Full ↔ ((¬ Contains nodes.old.keys node) × (length nodes.old.keys ≡ MAX_NODES)) }
+    ensures full { IsErrOf result CompileError.Full
+        ↔ ((¬ Contains nodes.old.keys node) × (length nodes.old.keys ≡ MAX_NODES)) }
     ensures unchanged { OnErr result (nodes.new.keys ≡ nodes.old.keys) }
     ensures compiled { IsCompiled nodes.new.keys }
 {

@@ -1,4 +1,7 @@
 //! The rest of a node: which of the given answers it stands for, and which are listed beside it.
+//!
+//! The commonest answer becomes the rest, so that the fewest replies are listed, and on a tie the earliest, so that the
+//! same answers give the same node.
 #![tactic(auto)]
 
 ghost use Rattle.std.specs.Prelude.{◌≡◌, ◌==◌, count_by, IfOk};

@@ -16,7 +16,8 @@ use strategy_graph::{Node, Replies, Reply, Rest, Start, Table};
 
 /// The nodes that the replies and the rest name, in the order of a walk.
 fn visited(alloc: Global, replies: &Replies, rest: Rest) -> Result<Vec<u32>, AllocError>
-    ensures visits { IfOk result (λ roots. roots.items ≡ visits (record { replies = replies.now; rest = rest })) }
+    ensures visits { IfOk result
+        (λ roots. roots.items ≡ visits (record { replies = replies.now; rest = rest })) }
 {
     let mut roots = Vec::new(alloc);
     if let Some(number) = rest.node() {
@@ -35,7 +36,8 @@ fn renumbered_start(
     rest: Rest,
     places: &[u32],
 ) -> Result<Start, AllocError>
-    requires below { names_below (record { replies = replies.now; rest = rest }) (length places.now) ≡ true }
+    requires below { names_below (record { replies = replies.now; rest = rest }) (length places.now)
+        ≡ true }
     requires rising { is_rising replies.now ≡ true }
     requires not_winning { is_winning rest ≡ false }
     ensures start { IfOk result (λ start. start
