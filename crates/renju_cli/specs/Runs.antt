@@ -27,6 +27,10 @@ pub record Run : Type 0 where
   pub shelf : Change (Option Files)
   pub status : ℕ
 
+-- the run with these words, these changes of input, output and shelf, and this number
+abbrev pub run_of : List (List ℕ) → (input output : Change (Option (List ℕ))) → Change (Option Files) → ℕ → Run
+run_of words input output shelf status = record { words = words; input = input; output = output; shelf = shelf; status = status }
+
 -- the device failed
 abbrev pub HasFailed : {T : Type 0} → Change T → Type 0
 HasFailed device = HasRisen device.faults_before device.faults_after

@@ -5,7 +5,7 @@
 
 ghost use Rattle.std.specs.Prelude.{MatchOption, map, string_bytes};
 ghost use Rattle.renju_cli.specs.Statuses.{status_number};
-ghost use Rattle.renju_cli.specs.Runs.{change, KeepsDevices};
+ghost use Rattle.renju_cli.specs.Runs.{change, run_of, KeepsDevices};
 ghost use Rattle.renju_cli.specs.Commands.{IsForm, HasForm};
 ghost use Rattle.renju_cli.specs.Reports.{Report};
 
@@ -55,20 +55,10 @@ pub(crate) fn run<I: Source, O: Sink, F: Shelf>(
     output: &mut O,
     shelf: &mut F,
 ) -> Status
-    ensures report { Report (record {
-      words = map string_bytes words.now;
-      status = status_number result;
-      input = change I.left I.faults input.old input.new;
-      output = change O.written O.faults output.old output.new;
-      shelf = change F.files F.faults shelf.old shelf.new;
-    }) }
-    ensures devices { KeepsDevices (record {
-      words = map string_bytes words.now;
-      status = status_number result;
-      input = change I.left I.faults input.old input.new;
-      output = change O.written O.faults output.old output.new;
-      shelf = change F.files F.faults shelf.old shelf.new;
-    }) }
+    ensures report { Report (run_of (map string_bytes words.now) (change I.left I.faults input.old input.new)
+        (change O.written O.faults output.old output.new) (change F.files F.faults shelf.old shelf.new) (status_number result)) }
+    ensures devices { KeepsDevices (run_of (map string_bytes words.now) (change I.left I.faults input.old input.new)
+        (change O.written O.faults output.old output.new) (change F.files F.faults shelf.old shelf.new) (status_number result)) }
 {
     let _ = shelf;
     match form_of(words) {

@@ -5,7 +5,7 @@
 #![tactic(auto)]
 
 ghost use Rattle.std.specs.Prelude.{map, string_bytes};
-ghost use Rattle.renju_cli.specs.Runs.{change, KeepsDevices};
+ghost use Rattle.renju_cli.specs.Runs.{change, run_of, KeepsDevices};
 ghost use Rattle.renju_cli.specs.Checks.{ShowsWin};
 ghost use Rattle.renju_cli.specs.Fours.{ShowsSearch};
 ghost use Rattle.renju_cli.specs.Reports.{Report, IsComplete};
@@ -29,45 +29,20 @@ pub fn run_renju<I: Source, O: Sink, F: Shelf>(
     shelf: &mut F,
 ) -> u8
     // The status and the bytes are those that are due for the words and the devices.
-    ensures report { Report (record {
-      words = map string_bytes words.now;
-      status = result;
-      input = change I.left I.faults input.old input.new;
-      output = change O.written O.faults output.old output.new;
-      shelf = change F.files F.faults shelf.old shelf.new;
-    }) }
+    ensures report { Report (run_of (map string_bytes words.now) (change I.left I.faults input.old input.new)
+        (change O.written O.faults output.old output.new) (change F.files F.faults shelf.old shelf.new) result) }
     // What status 0 of `check` shows: the input is a table that is accepted and wins.
-    ensures won { ShowsWin (record {
-      words = map string_bytes words.now;
-      status = result;
-      input = change I.left I.faults input.old input.new;
-      output = change O.written O.faults output.old output.new;
-      shelf = change F.files F.faults shelf.old shelf.new;
-    }) }
+    ensures won { ShowsWin (run_of (map string_bytes words.now) (change I.left I.faults input.old input.new)
+        (change O.written O.faults output.old output.new) (change F.files F.faults shelf.old shelf.new) result) }
     // What statuses 0, 9 and 5 of `fours` show: a win by fours with the fewest moves, that there is none, or too small a budget.
-    ensures searched { ShowsSearch (record {
-      words = map string_bytes words.now;
-      status = result;
-      input = change I.left I.faults input.old input.new;
-      output = change O.written O.faults output.old output.new;
-      shelf = change F.files F.faults shelf.old shelf.new;
-    }) }
+    ensures searched { ShowsSearch (run_of (map string_bytes words.now) (change I.left I.faults input.old input.new)
+        (change O.written O.faults output.old output.new) (change F.files F.faults shelf.old shelf.new) result) }
     // A command with a lawful input, enough work and devices without a fault answers, unless memory runs out.
-    ensures complete { IsComplete (record {
-      words = map string_bytes words.now;
-      status = result;
-      input = change I.left I.faults input.old input.new;
-      output = change O.written O.faults output.old output.new;
-      shelf = change F.files F.faults shelf.old shelf.new;
-    }) }
+    ensures complete { IsComplete (run_of (map string_bytes words.now) (change I.left I.faults input.old input.new)
+        (change O.written O.faults output.old output.new) (change F.files F.faults shelf.old shelf.new) result) }
     // What is left of the devices.
-    ensures devices { KeepsDevices (record {
-      words = map string_bytes words.now;
-      status = result;
-      input = change I.left I.faults input.old input.new;
-      output = change O.written O.faults output.old output.new;
-      shelf = change F.files F.faults shelf.old shelf.new;
-    }) }
+    ensures devices { KeepsDevices (run_of (map string_bytes words.now) (change I.left I.faults input.old input.new)
+        (change O.written O.faults output.old output.new) (change F.files F.faults shelf.old shelf.new) result) }
 {
     run(alloc, words, input, output, shelf).number()
 }
