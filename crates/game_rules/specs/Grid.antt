@@ -11,6 +11,7 @@ use Rattle.game_rules.specs.declared.Axis.TheVariants.{Row, Column, Down, Up}
 use Rattle.game_rules.specs.declared.Point.{Point}
 use Rattle.game_rules.specs.declared.Look.{Look}
 use Rattle.game_rules.specs.declared.Look.TheVariants.{Off, Holds}
+use Rattle.game_rules.specs.declared.TheConstants.{MIN_SIDE, MAX_SIDE}
 
 -- a board: its width, its height, and its cells in reading order
 pub record Grid : Type 0 where
@@ -18,12 +19,12 @@ pub record Grid : Type 0 where
   pub height : ℕ
   pub cells : List Cell
 
--- width and height are 5 to 32, and there is a cell for each point
+-- width and height are MIN_SIDE to MAX_SIDE, and there is a cell for each point
 pub record IsBoard (b : Grid) : Type 0 where
-  pub wide : 5 ≤ b.width
-  pub width_fits : b.width ≤ 32
-  pub high : 5 ≤ b.height
-  pub height_fits : b.height ≤ 32
+  pub wide : MIN_SIDE ≤ b.width
+  pub width_fits : b.width ≤ MAX_SIDE
+  pub high : MIN_SIDE ≤ b.height
+  pub height_fits : b.height ≤ MAX_SIDE
   pub filled : length b.cells ≡ b.width * b.height
 
 -- whether the point is on the board: x is below the width, and y is below the height

@@ -1,7 +1,7 @@
 //! The rules of five in a row: the plain types that every layer speaks of, and, in `specs/`, the definitions of
 //! boards, runs, fives, fours, threes, fouls, outcomes, lawful positions and won games.
 //!
-//! The crate computes nothing. What it offers to the layers above are these types, the words of its `specs/`, and the
+//! The crate computes nothing but the other side. What it offers to the layers above are these types, the words of its `specs/`, and the
 //! laws about those words: the main ones as contracts, all of them in its `proofs/Lib.antt`.
 //!
 //! Sources: the RIF Rules of Renju for fours, straight fours, threes, overlines and the fouls of Black. Which
@@ -14,11 +14,32 @@ mod laws;
 
 pub use laws::{moves_continue, tests_tell, wins_are_ordered};
 
+/// The least width and height of a board.
+pub const MIN_SIDE: u8 = 5;
+
+/// The greatest width and height of a board.
+pub const MAX_SIDE: u8 = 32;
+
 /// A player. Black moves first.
 #[derive(Clone, Copy, Debug, PartialEq, Eq)]
 pub enum Side {
     Black,
     White,
+}
+
+impl Side {
+    ghost use Rattle.std.specs.Prelude.{◌≡◌};
+    ghost use Rattle.game_rules.specs.Play.{other as other_lem};
+
+    /// The other side.
+    pub fn other(self) -> Side
+        ensures other { result ≡ other_lem self }
+    {
+        match self {
+            Side::Black => Side::White,
+            Side::White => Side::Black,
+        }
+    }
 }
 
 /// What stands on a point of the board.

@@ -14,15 +14,9 @@ ghost use Rattle.stone_board.specs.Steps.{holds_stone, kept_on, stones_towards a
 
 use crate::ReadingOrder;
 use crate::walks::{goes_on, place_after, steps_left, stride};
-use game_rules::{Axis, Cell, Look, Point, Side};
+use game_rules::{Axis, Cell, Look, MAX_SIDE, MIN_SIDE, Point, Side};
 use std::alloc::{AllocError, Global};
 use std::marker::Model;
-
-/// The least width and height of a board.
-pub const MIN_SIDE: u8 = 5;
-
-/// The greatest width and height of a board.
-pub const MAX_SIDE: u8 = 32;
 
 /// The two ways along an axis from a point: a step ahead adds what the axis says, a step behind takes it away.
 #[derive(Clone, Copy, Debug, PartialEq, Eq)]
@@ -67,12 +61,12 @@ impl Model for Board {
 }
 
 impl Board {
-    /// A board of this width and height, each 5 to 32, with no stone on it. `Err` says that memory ran out.
+    /// A board of this width and height, each `MIN_SIDE` to `MAX_SIDE`, with no stone on it. `Err` says that memory ran out.
     pub fn empty(alloc: Global, width: u8, height: u8) -> Result<Board, AllocError>
-        requires wide { 5 ≤ width }
-        requires width_fits { width ≤ 32 }
-        requires high { 5 ≤ height }
-        requires height_fits { height ≤ 32 }
+        requires wide { MIN_SIDE ≤ width }
+        requires width_fits { width ≤ MAX_SIDE }
+        requires high { MIN_SIDE ≤ height }
+        requires height_fits { height ≤ MAX_SIDE }
         ensures empty { IfOk result (λ b. b ≡ record { width = width; height = height; cells = replicate (width * height) Cell.Empty }) }
     {
         let cells = vec![in alloc; Cell::Empty; width as usize * height as usize]?;
@@ -265,7 +259,7 @@ impl Board {
     pub fn stones_ahead(&self, side: Side, axis: Axis, p: Point) -> u32
         requires on { IsTrue (is_on self.now p) }
         ensures stones { result ≡ stones_ahead_lem self.now side axis p }
-        ensures bound { result ≤ 64 }
+        ensures bound { result < 64 }
     {
         self.stones_towards(Way::Ahead, side, axis, p)
     }
@@ -274,7 +268,7 @@ impl Board {
     pub fn stones_behind(&self, side: Side, axis: Axis, p: Point) -> u32
         requires on { IsTrue (is_on self.now p) }
         ensures stones { result ≡ stones_behind_lem self.now side axis p }
-        ensures bound { result ≤ 64 }
+        ensures bound { result < 64 }
     {
         self.stones_towards(Way::Behind, side, axis, p)
     }
@@ -285,7 +279,7 @@ impl Board {
     pub fn stones_towards(&self, way: Way, side: Side, axis: Axis, p: Point) -> u32
         requires on { IsTrue (is_on self.now p) }
         ensures stones { result ≡ stones_towards_lem way self.now side axis p }
-        ensures bound { result ≤ 64 }
+        ensures bound { result < 64 }
         ensures board { IsBoard self.now }
     {
         let start = p.y as usize * self.width as usize + p.x as usize;

@@ -11,7 +11,7 @@ mod points;
 mod tests;
 mod walks;
 
-pub use board::{Board, MAX_SIDE, MIN_SIDE, Way};
-pub use game_rules::{Axis, Cell, Look, Point, Side};
+pub use board::{Board, Way};
+pub use game_rules::{Axis, Cell, Look, MAX_SIDE, MIN_SIDE, Point, Side};
 pub use order::ReadingOrder;
 pub use points::Points;

@@ -1,0 +1,47 @@
+-- The first bad line of a text, where the grammar is given by lists of lines.
+use Rattle.std.proofs.Common.{◌≡◌, ℕ, ◌+◌, ◌-◌, ◌≤◌, sym, ap, subst, ◌∙◌, arith, List, [], ◌++◌, length, take, drop, take-append-drop}
+use Rattle.std.proofs.lemmas.List.{length-take-le, take_all}
+use Rattle.std.proofs.lemmas.List.Concat.{flat_map-append}
+use Rattle.std.proofs.Math.Seq.{take-length}
+use Rattle.text_lines.specs.Lines.{ended, text_of, pieces, FirstBad, LeavesAt}
+use Rattle.text_lines.proofs.TextLaws.{AreFree, free_take, more_lines, text_end}
+use Rattle.text_lines.proofs.Pieces.{take_fewer, begun, same_front}
+
+module _ (IsText : List ℕ → Type 0) (IsLines : List (List ℕ) → Type 0) (free : (ls : List (List ℕ)) → IsLines ls → AreFree ls) (lines_of : (t : List ℕ) → IsText t → (ls : List (List ℕ)) × IsLines ls × (t ≡ text_of ls)) (text_from : (ls : List (List ℕ)) → IsLines ls → IsText (text_of ls)) where
+  front_of : (bytes rest : List ℕ) (ls : List (List ℕ)) (i n : ℕ) → IsLines ls → i ≤ length ls → n ≡ i → bytes ≡ text_of (take i ls) ++ rest → (text : List ℕ) × IsText text × (take n (pieces text) ≡ take n (pieces bytes))
+  front_of bytes rest ls i n are enough same e =
+      let count : length (take i ls) ≡ n = length-take-le i ls enough ∙ sym same in
+      let split : text_of ls ≡ text_of (take i ls) ++ text_of (drop i ls) = ap text_of (sym (take-append-drop i ls)) ∙ flat_map-append ended (take i ls) (drop i ls) in (
+        text_of ls,
+        text_from ls are,
+        ap (λ (t : List ℕ). take n (pieces t)) split
+            ∙ subst (λ k. take k (pieces (text_of (take i ls) ++ text_of (drop i ls))) ≡ take k (pieces (text_of (take i ls) ++ rest))) count (same_front (take i ls) (text_of (drop i ls)) rest (free_take i ls (free ls are)))
+            ∙ ap (λ (t : List ℕ). take n (pieces t)) (sym e),
+      )
+
+  pub first_bad : (bytes : List ℕ) (i : ℕ) → LeavesAt IsLines bytes i → FirstBad IsText bytes (i + 1)
+  first_bad bytes i h = record {
+    counted = omega arith;
+    so_far = front_of bytes h.rest h.lines i (i + 1 - 1) h.are h.enough (omega arith) h.so_far;
+    no_further = λ t is e.
+        let l = lines_of t is in
+        let b = begun l.0 bytes (i + 1) (free l.0 l.1) (ap (λ (u : List ℕ). take (i + 1) (pieces u)) (sym l.2) ∙ e) in
+        h.no_further l.0 b.rest l.1 b.is;
+  }
+
+  pub too_many : (bytes rest : List ℕ) (ls : List (List ℕ)) → IsLines ls → bytes ≡ text_of ls ++ rest → (rest ≡ [] → ⊥) → ((lt : List (List ℕ)) (others : List ℕ) → IsLines lt → bytes ≡ text_of (take (length ls) lt) ++ others → length lt ≤ length ls) → FirstBad IsText bytes (length ls + 1)
+  too_many bytes rest ls are text more most = record {
+    counted = omega arith;
+    so_far = front_of bytes rest ls (length ls) (length ls + 1 - 1) are (omega arith) (omega arith) (text ∙ ap (λ (l : List (List ℕ)). text_of l ++ rest) (sym (take-length ls)));
+    no_further = λ t is e.
+        let l = lines_of t is in
+        let same : take (length ls + 1) (pieces (text_of l.0)) ≡ take (length ls + 1) (pieces bytes) = ap (λ (u : List ℕ). take (length ls + 1) (pieces u)) (sym l.2) ∙ e in
+        let front = begun l.0 bytes (length ls) (free l.0 l.1) (take_fewer (length ls) 1 (pieces (text_of l.0)) (pieces bytes) same) in
+        let few = most l.0 front.rest l.1 front.is in
+        let b = begun l.0 bytes (length ls + 1) (free l.0 l.1) same in
+        let end = b.end (omega (arith, few)) in
+        let whole : text_of l.0 ++ [] ≡ text_of ls ++ rest =
+        ap (λ (l : List (List ℕ)). text_of l ++ []) (sym (take_all (length ls + 1) l.0 (omega (arith, few)))) ∙ ap (λ (r : List ℕ). text_of (take (length ls + 1) l.0) ++ r) (sym end) ∙ sym b.is ∙ text in
+        let others = more_lines l.0 ls [] rest (free l.0 l.1) (free ls are) few whole in
+        more (text_end others.0 rest others.2);
+  }

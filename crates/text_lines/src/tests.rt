@@ -1,0 +1,59 @@
+//! Words, numbers, points and lines that are read and written.
+
+use crate::{
+    after, cut, is_text, large_number, line, number, number_line, point, prefixed, push_line,
+    push_number_line, push_points,
+};
+use game_rules::Point;
+use std::test::Fail;
+
+#[test]
+fn reads_numbers_of_one_spelling(rt: HostRuntime) {
+    assert_eq!(rt; number(b"0", 9), Some(0));
+    assert_eq!(rt; number(b"4294967295", u32::MAX), Some(u32::MAX));
+    assert_eq!(rt; number(b"4294967296", u32::MAX), None);
+    assert_eq!(rt;
+        large_number(b"18446744073709551615", u64::MAX),
+        Some(u64::MAX)
+    );
+    assert_eq!(rt; large_number(b"18446744073709551616", u64::MAX), None);
+    for text in [b"00".as_slice(), b"07", b"", b"+1", b"1 ", b"11"] {
+        assert_eq!(rt; number(text, 10), None, "at {text:?}");
+    }
+}
+
+#[test]
+fn reads_points_within_bounds(rt: HostRuntime) {
+    assert!(rt; matches!(point(b"14,0", 15, 1), Some(Point { x: 14, y: 0 })));
+    for text in [b"15,0".as_slice(), b"0,1", b"0", b"0,0,0", b" 0,0"] {
+        assert!(rt; point(text, 15, 1).is_none(), "at {text:?}");
+    }
+    assert!(rt; point(b"0,0", 0, 1).is_none());
+}
+
+#[test]
+fn reads_words_and_lines(rt: HostRuntime) {
+    assert!(rt; is_text(b"only", b"only") && !is_text(b"only ", b"only"));
+    assert!(rt; matches!(cut(b"a b c", b' '), (b"a", Some(b"b c"))));
+    assert!(rt; matches!(after(b"rule renju", b"rule "), Some(b"renju")));
+    assert!(rt; matches!(line(b"size 9\r\nrest"), Some((b"size 9\r", b"rest"))));
+    assert!(rt; line(b"size 9").is_none());
+    assert!(rt; matches!(prefixed(b"size 9\n\n", b"size "), Some((b"9", b"\n"))));
+    assert!(rt; matches!(number_line(b"moves 7\n", b"moves ", 1, 7), Some((7, b""))));
+    assert!(rt; number_line(b"moves 0\n", b"moves ", 1, 7).is_none());
+    assert!(rt; number_line(b"moves 8\n", b"moves ", 1, 7).is_none());
+}
+
+#[test]
+fn writes_lines_and_points(rt: HostRuntime) -> Result<(), Fail> {
+    let mut text = String::new(rt.alloc());
+    push_line(&mut text, "renju-game 1")?;
+    push_number_line(rt.alloc(), &mut text, "moves ", 2)?;
+    push_points(
+        rt.alloc(),
+        &mut text,
+        &[Point { x: 4, y: 10 }, Point { x: 0, y: 31 }],
+    )?;
+    assert_eq!(rt; text.as_str(), "renju-game 1\nmoves 2\n 4,10 0,31");
+    Ok(())
+}
