@@ -1,21 +1,18 @@
 -- The command `check`: its words, its answers, and what its status 0 shows.
-use Rattle.std.proofs.Common.{◌≡◌, inl, inr, refl, sym, ap, subst, ◌∙◌, ◌⊎◌, ℕ, ◌≤◌, List, [], ◌∷◌, arith}
-use Rattle.std.specs.Prelude.{codes, Option, IfSome}
+use Rattle.std.proofs.Common.{◌≡◌, inl, inr, sym, ap, subst, ◌∙◌, ◌⊎◌, ℕ, ◌≤◌, List, [], ◌∷◌, arith}
+use Rattle.std.specs.Prelude.{codes, IfSome}
 use Rattle.std.specs.Fmt.{decimal}
 use Rattle.strategy_graph.specs.Roots.{root_arrivals, RootWins}
 use Rattle.position_files.specs.declared.TableFile.{TableFile}
-use Rattle.position_files.specs.Faults.{IsTableFault}
 use Rattle.position_files.proofs.ReadBack.{table-read-back}
 use Rattle.renju_io.specs.Told.{Takes}
 use Rattle.renju_cli.specs.declared.status.Status.{Status}
 use Rattle.renju_cli.specs.declared.status.Status.TheVariants.{Done, RefusedText, RefusedTable, Spent}
 use Rattle.renju_cli.specs.declared.TheConstants.{MAX_WORK}
 use Rattle.renju_cli.specs.Statuses.{status_number}
-use Rattle.renju_cli.specs.Runs.{Change, Run}
-use Rattle.renju_cli.specs.Forms.{IsSpelled}
+use Rattle.renju_cli.specs.Runs.{Run}
 use Rattle.renju_cli.specs.Told.{IsTold, IsYielded}
-use Rattle.renju_cli.specs.Refusals.{IsRefusedText}
-use Rattle.renju_cli.specs.Checks.{accepted_line, IsTableAt, IsAcceptedTable, IsRefusedTable, IsSpentWork, TableSays, CheckSays, check_command, IsAcceptedInput}
+use Rattle.renju_cli.specs.Checks.{accepted_line, IsTableAt, IsAcceptedTable, TableSays, CheckSays, check_command, IsAcceptedInput}
 use Rattle.renju_cli.specs.Commands.{HasForm}
 use Rattle.renju_cli.proofs.FormLaws.{has-told}
 use Rattle.renju_cli.proofs.ToldLaws.{IsWhole, whole-or-yielded, given-told}

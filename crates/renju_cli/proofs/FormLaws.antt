@@ -1,5 +1,5 @@
 -- Words have one form, which they tell: the first word tells the command, and the others its numbers.
-use Rattle.std.proofs.Common.{◌≡◌, refl, sym, ap, subst, ◌∙◌, ℕ, ◌≤◌, ◌^◌, List, [], ◌∷◌, get_or, arith}
+use Rattle.std.proofs.Common.{◌≡◌, refl, sym, ap, subst, ◌∙◌, ℕ, ◌≤◌, List, [], ◌∷◌, get_or, arith}
 use Rattle.std.specs.Prelude.{codes, if◌then◌else◌}
 use Rattle.std.specs.Str.{bytes_eq}
 use Rattle.std.specs.Str.Parse.{digits_value}
@@ -8,7 +8,6 @@ use Rattle.std.proofs.lemmas.Fmt.{decimal_is_IsNumeral}
 use Rattle.renju_cli.specs.declared.commands.Form.{Form}
 use Rattle.renju_cli.specs.declared.commands.Form.TheVariants.{Check, Foul, Fours}
 use Rattle.renju_cli.specs.declared.TheConstants.{MAX_WORK}
-use Rattle.renju_cli.specs.Forms.{Command}
 use Rattle.renju_cli.specs.Commands.{command, IsForm, HasForm}
 
 -- the number that a word writes
@@ -45,6 +44,13 @@ one-form words form other is also = sym (told-form words form is) ∙ told-form 
 pub has-told : (words : List (List ℕ)) → HasForm words → IsForm words (form_told words)
 has-told words h = subst (λ (f : Form). IsForm words f) (sym (told-form words h.0 h.1)) h.1
 
+-- no words have no form
+pub no-words : ¬ HasForm []
+no-words h =
+    let is = has-told [] h in
+    let spelled = is.spelled in
+    cc
+
 -- words whose first is that of no command have no form
-pub no-command : (words : List (List ℕ)) → ((form : Form) → ¬ (get_or words 0 [] ≡ get_or (command form).words 0 [])) → ¬ HasForm words
-no-command words other h = other h.0 (ap (λ (l : List (List ℕ)). get_or l 0 []) h.1.spelled)
+pub no-command : (name : List ℕ) (rest : List (List ℕ)) → ((form : Form) → name ≡ get_or (command form).words 0 [] → ⊥) → ¬ HasForm (name ∷ rest)
+no-command name rest other h = other h.0 (ap (λ (l : List (List ℕ)). get_or l 0 []) h.1.spelled)

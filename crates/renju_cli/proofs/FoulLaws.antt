@@ -8,11 +8,11 @@ use Rattle.renju_cli.specs.Commands.{HasForm}
 use Rattle.renju_cli.proofs.FormLaws.{has-told}
 
 -- `foul` and other words have no form
-pub no-foul : (word : List ℕ) (rest : List (List ℕ)) → ¬ HasForm (codes "foul" ∷ word ∷ rest)
-no-foul word rest h =
-    let is = has-told (codes "foul" ∷ word ∷ rest) h in
+pub no-foul : (rest : List (List ℕ)) → (rest ≡ [] → ⊥) → ¬ HasForm (codes "foul" ∷ rest)
+no-foul rest some h =
+    let is = has-told (codes "foul" ∷ rest) h in
     let spelled = is.spelled in
-    cc
+    some (cc)
 
 -- what is said of the text of a lawful position is an answer
 pub foul-answers : (bytes : List ℕ) → foul_command.IsAnswerable bytes → (status : Status) (text : List ℕ) → FoulSays bytes status text → foul_command.IsAnswer status

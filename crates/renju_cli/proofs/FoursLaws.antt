@@ -1,21 +1,19 @@
 -- The command `fours`: its words, its answers, and what its statuses 0, 9 and 5 show.
-use Rattle.std.proofs.Common.{◌≡◌, inl, inr, refl, sym, ap, subst, ◌∙◌, ◌⊎◌, ℕ, ◌≤◌, ◌<◌, List, [], ◌∷◌, arith}
-use Rattle.std.specs.Prelude.{codes, Option, IfSome}
+use Rattle.std.proofs.Common.{◌≡◌, inl, inr, sym, ap, subst, ◌∙◌, ◌⊎◌, ℕ, ◌≤◌, List, [], ◌∷◌, arith}
+use Rattle.std.specs.Prelude.{codes, IfSome}
 use Rattle.std.specs.Fmt.{decimal}
-use Rattle.game_rules.specs.Games.{WinsByFours}
 use Rattle.four_search.specs.declared.TheConstants.{MAX_DEPTH}
-use Rattle.four_search.specs.FourGame.{four_cost}
 use Rattle.position_files.specs.declared.PositionFile.{PositionFile}
 use Rattle.position_files.proofs.ReadBack.{position-read-back}
 use Rattle.renju_io.specs.Told.{Takes}
 use Rattle.renju_cli.specs.declared.status.Status.{Status}
-use Rattle.renju_cli.specs.declared.status.Status.TheVariants.{Done, RefusedText, NotFound, Spent}
+use Rattle.renju_cli.specs.declared.status.Status.TheVariants.{Done, NotFound}
 use Rattle.renju_cli.specs.declared.TheConstants.{MAX_SEARCHED}
 use Rattle.renju_cli.specs.Statuses.{status_number}
-use Rattle.renju_cli.specs.Runs.{Change, Run}
-use Rattle.renju_cli.specs.Told.{IsInput, IsTold, IsYielded}
+use Rattle.renju_cli.specs.Runs.{Run}
+use Rattle.renju_cli.specs.Told.{IsTold, IsYielded}
 use Rattle.renju_cli.specs.Fouls.{IsPositionAt}
-use Rattle.renju_cli.specs.Fours.{IsFoundWin, IsDenied, IsSpentBudget, SearchSays, FoursSays, fours_command, WritesWin, IsSearched, SpeaksOfPosition, SearchShows}
+use Rattle.renju_cli.specs.Fours.{SearchSays, FoursSays, fours_command, IsSearched, SpeaksOfPosition, SearchShows}
 use Rattle.renju_cli.specs.Commands.{HasForm}
 use Rattle.renju_cli.proofs.FormLaws.{has-told}
 use Rattle.renju_cli.proofs.ToldLaws.{IsWhole, whole-or-yielded, given-told, every-told}

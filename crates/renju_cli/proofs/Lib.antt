@@ -1,8 +1,8 @@
 mod Joins
+mod Words
 mod FormLaws
 mod ToldLaws
-mod FourTables
-mod Denials
+mod Searches
 mod CheckLaws
 mod FoulLaws
 mod FoursLaws

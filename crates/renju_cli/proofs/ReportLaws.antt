@@ -1,13 +1,13 @@
 -- What follows of a run from its report: the command of its form did what it does, and so answered where it is sure to.
-use Rattle.std.proofs.Common.{◌≡◌, inl, inr, subst}
+use Rattle.std.proofs.Common.{inl, inr, subst}
 use Rattle.renju_cli.specs.declared.commands.Form.{Form}
 use Rattle.renju_cli.specs.declared.commands.Form.TheVariants.{Check, Foul, Fours}
 use Rattle.renju_cli.specs.Runs.{Run}
 use Rattle.renju_cli.specs.Checks.{check_command, ShowsWin}
 use Rattle.renju_cli.specs.Fouls.{foul_command}
 use Rattle.renju_cli.specs.Fours.{fours_command, ShowsSearch}
-use Rattle.renju_cli.specs.Commands.{command, IsForm, HasForm}
-use Rattle.renju_cli.specs.Reports.{IsUsage, Report, IsComplete}
+use Rattle.renju_cli.specs.Commands.{command, IsForm}
+use Rattle.renju_cli.specs.Reports.{Report, IsComplete}
 use Rattle.renju_cli.proofs.FormLaws.{one-form}
 use Rattle.renju_cli.proofs.ToldLaws.{answers-told}
 use Rattle.renju_cli.proofs.CheckLaws.{check-answers, check-won}

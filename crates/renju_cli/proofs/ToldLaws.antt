@@ -1,5 +1,5 @@
 -- How a told command ends, whatever it says.
-use Rattle.std.proofs.Common.{◌≡◌, inl, inr, refl, sym, ap, subst, ◌∙◌, ◌⊎◌, ℕ, suc, ◌≤◌, ◌<◌, List, length, arith}
+use Rattle.std.proofs.Common.{◌≡◌, inl, inr, refl, sym, ap, subst, ◌∙◌, ◌⊎◌, ℕ, suc, ◌<◌, List, length, arith}
 use Rattle.std.specs.Prelude.{Option, Some, None, IfSome, replicate}
 use Rattle.std.proofs.lemmas.Option.{same_Some}
 use Rattle.std.proofs.lemmas.List.{length-replicate}
@@ -10,7 +10,7 @@ use Rattle.renju_cli.specs.declared.status.Status.TheVariants.{TooLong}
 use Rattle.renju_cli.specs.Statuses.{status_number}
 use Rattle.renju_cli.specs.Texts.{too_long_line}
 use Rattle.renju_cli.specs.Runs.{Change, Run, IsDelivered, IsOutOfMemory}
-use Rattle.renju_cli.specs.Told.{ToldCommand, IsInput, IsSaid, IsTooLong, IsAnswered, IsReadFault, EndsTold, IsTold, IsYielded, IsUnhindered, HasAnswered, AnswersTold}
+use Rattle.renju_cli.specs.Told.{ToldCommand, IsInput, IsSaid, IsTooLong, EndsTold, IsTold, IsYielded, IsUnhindered, HasAnswered, AnswersTold}
 
 -- some list is longer than n
 longer-than : (n : ℕ) → (x : List ℕ) × (n < length x)

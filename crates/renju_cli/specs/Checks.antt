@@ -1,13 +1,13 @@
 -- The command `check`: its words, what it says of its input, and what its status 0 shows.
 use Rattle.std.specs.Prelude.{◌≡◌, ◌⊎◌, ℕ, ◌≤◌, ◌<◌, List, [], ◌∷◌, ◌++◌, codes, Option, IfSome}
-use Rattle.std.specs.List.{flat_map}
 use Rattle.std.specs.Fmt.{decimal}
 use Rattle.game_rules.specs.Play.{IsPosition}
 use Rattle.game_rules.specs.declared.Point.{Point}
 use Rattle.strategy_graph.specs.declared.Why.{Why}
 use Rattle.strategy_graph.specs.declared.Why.TheVariants.{AttackRefused, AttackFouls, AttackDraws, NotWon, ReplyWins, ReplyDraws, NoAnswer}
-use Rattle.strategy_graph.specs.Roots.{root_depth, root_arrivals, AcceptedRoot, RootWins}
-use Rattle.strategy_checker.specs.HeldRoots.{LeadsRoot}
+use Rattle.strategy_graph.specs.Roots.{root_depth, root_arrivals, AcceptedRoot, LeadsRoot, RootWins}
+use Rattle.text_lines.specs.Lines.{ended}
+use Rattle.text_lines.specs.Spellings.{points_text}
 use Rattle.position_files.specs.declared.TableFile.{TableFile}
 use Rattle.position_files.specs.Tables.{IsTextOfTable}
 use Rattle.position_files.specs.Faults.{IsTableFault}
@@ -16,7 +16,7 @@ use Rattle.renju_cli.specs.declared.status.Status.{Status}
 use Rattle.renju_cli.specs.declared.status.Status.TheVariants.{Done, RefusedTable, Spent}
 use Rattle.renju_cli.specs.declared.TheConstants.{MAX_WORK}
 use Rattle.renju_cli.specs.Statuses.{status_number}
-use Rattle.renju_cli.specs.Texts.{line, spent_line}
+use Rattle.renju_cli.specs.Texts.{spent_line}
 use Rattle.renju_cli.specs.Runs.{Change, Run}
 use Rattle.renju_cli.specs.Forms.{IsSpelled}
 use Rattle.renju_cli.specs.Told.{ToldCommand, told}
@@ -24,7 +24,7 @@ use Rattle.renju_cli.specs.Refusals.{IsRefusedText}
 
 -- an accepted table: its moves and its arrivals
 abbrev pub accepted_line : ℕ → ℕ → List ℕ
-accepted_line moves arrivals = line (codes "accepted in " ++ decimal moves ++ codes " moves, " ++ decimal arrivals ++ codes " arrivals")
+accepted_line moves arrivals = ended (codes "accepted in " ++ decimal moves ++ codes " moves, " ++ decimal arrivals ++ codes " arrivals")
 
 -- the words of the faults of a table
 abbrev pub why_word : Why → List ℕ
@@ -36,17 +36,9 @@ why_word ReplyWins = codes "reply-wins"
 why_word ReplyDraws = codes "reply-draws"
 why_word NoAnswer = codes "no-answer"
 
--- a move after a space
-abbrev pub move_text : Point → List ℕ
-move_text p = codes " " ++ decimal p.x ++ codes "," ++ decimal p.y
-
--- moves, each after a space
-abbrev pub moves_text : List Point → List ℕ
-moves_text moves = flat_map move_text moves
-
 -- a refused table: the word of its fault, and the moves that lead there
 abbrev pub refused_table_line : List ℕ → List Point → List ℕ
-refused_table_line why moves = line (codes "refused " ++ why ++ moves_text moves)
+refused_table_line why moves = ended (codes "refused " ++ why ++ points_text moves)
 
 -- the input is the text of a table at a lawful position, and the moves that it names are the depth of its root
 pub record IsTableAt (file : TableFile) (input : List ℕ) : Type 0 where

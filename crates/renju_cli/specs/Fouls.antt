@@ -11,13 +11,14 @@ use Rattle.game_rules.specs.declared.Side.TheVariants.{Black, White}
 use Rattle.game_rules.specs.declared.Foul.{Foul}
 use Rattle.game_rules.specs.declared.Foul.TheVariants.{Overline, DoubleFour, DoubleThree}
 use Rattle.game_rules.specs.declared.Point.{Point}
+use Rattle.text_lines.specs.Lines.{ended}
+use Rattle.text_lines.specs.Spellings.{space, point_text}
 use Rattle.position_files.specs.declared.PositionFile.{PositionFile}
 use Rattle.position_files.specs.Positions.{IsTextOfPosition}
 use Rattle.position_files.specs.Faults.{IsPositionFault}
 use Rattle.renju_cli.specs.declared.fouls.FoulPoint.{FoulPoint}
 use Rattle.renju_cli.specs.declared.status.Status.{Status}
 use Rattle.renju_cli.specs.declared.status.Status.TheVariants.{Done}
-use Rattle.renju_cli.specs.Texts.{line}
 use Rattle.renju_cli.specs.Told.{ToldCommand}
 use Rattle.renju_cli.specs.Refusals.{IsRefusedText}
 
@@ -40,17 +41,13 @@ foul_word Overline = codes "overline"
 foul_word DoubleFour = codes "double-four"
 foul_word DoubleThree = codes "double-three"
 
--- the line of a foul up to its word
-abbrev pub foul_head : Point → List ℕ
-foul_head p = codes "foul " ++ decimal p.x ++ codes "," ++ decimal p.y ++ codes " "
-
 -- the line of a foul: its point and its word
 abbrev pub foul_line : FoulPoint → List ℕ
-foul_line f = line (foul_head f.at ++ foul_word f.foul)
+foul_line f = ended (codes "foul" ++ space ∷ point_text f.at ++ space ∷ foul_word f.foul)
 
 -- the number of fouls, and a line for each
 abbrev pub fouls_text : List FoulPoint → List ℕ
-fouls_text fouls = line (codes "fouls " ++ decimal (length fouls)) ++ flat_map foul_line fouls
+fouls_text fouls = ended (codes "fouls " ++ decimal (length fouls)) ++ flat_map foul_line fouls
 
 -- the input is the text of a lawful position
 pub record IsPositionAt (file : PositionFile) (input : List ℕ) : Type 0 where

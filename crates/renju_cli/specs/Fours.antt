@@ -10,7 +10,9 @@ use Rattle.strategy_graph.specs.Arrivals.{arrivals}
 use Rattle.strategy_compiler.specs.Walks.{IsTableOf, last}
 use Rattle.four_search.specs.declared.TheConstants.{MAX_DEPTH}
 use Rattle.four_search.specs.FourGame.{four_cost}
+use Rattle.four_search.specs.Answers.{IsFewestByFours}
 use Rattle.four_search.specs.Plans.{four_plan}
+use Rattle.text_lines.specs.Lines.{ended}
 use Rattle.position_files.specs.declared.PositionFile.{PositionFile}
 use Rattle.position_files.specs.declared.TableFile.{TableFile}
 use Rattle.position_files.specs.Tables.{IsTextOfTable}
@@ -20,7 +22,7 @@ use Rattle.renju_cli.specs.declared.status.Status.{Status}
 use Rattle.renju_cli.specs.declared.status.Status.TheVariants.{Done, Spent, NotFound}
 use Rattle.renju_cli.specs.declared.TheConstants.{MAX_SEARCHED}
 use Rattle.renju_cli.specs.Statuses.{status_number}
-use Rattle.renju_cli.specs.Texts.{line, spent_line}
+use Rattle.renju_cli.specs.Texts.{spent_line}
 use Rattle.renju_cli.specs.Runs.{Change, Run}
 use Rattle.renju_cli.specs.Forms.{IsSpelled}
 use Rattle.renju_cli.specs.Told.{ToldCommand, told, IsYielded}
@@ -29,13 +31,7 @@ use Rattle.renju_cli.specs.Fouls.{IsPositionAt}
 
 -- there is none of what was searched
 abbrev pub none_line : List ℕ
-none_line = line (codes "none")
-
--- so many moves, no more than the limit, are the fewest within which the side to move wins by fours
-pub record IsFewest (limit : ℕ) (file : PositionFile) (moves : ℕ) : Type 0 where
-  pub within : moves ≤ limit
-  pub wins : WinsByFours file.kind moves file.board
-  pub fewest : (fewer : ℕ) → fewer < moves → ¬ WinsByFours file.kind fewer file.board
+none_line = ended (codes "none")
 
 -- The table of the plan of a win by fours with so many moves: its last node is accepted at the position, is as deep as the
 -- win has moves, and has at most so many arrivals for each of them as the board has points.
@@ -49,11 +45,12 @@ pub record IsFourTable (file : PositionFile) (moves : ℕ) (table : List Node) :
 abbrev pub table_at : PositionFile → ℕ → List Node → TableFile
 table_at file moves table = record { kind = file.kind; board = file.board; table = table; root = Attack (last table); moves = moves }
 
--- the text is that of the table of a win by fours with the fewest moves
+-- the text is that of the table of a win by fours with the fewest moves, no more than the limit
 pub record IsFourText (limit : ℕ) (file : PositionFile) (text : List ℕ) : Type 0 where
   pub moves : ℕ
   pub table : List Node
-  pub fewest : IsFewest limit file moves
+  pub within : moves ≤ limit
+  pub fewest : IsFewestByFours file.kind moves file.board
   pub made : IsFourTable file moves table
   pub written : IsTextOfTable (table_at file moves table) text
 

@@ -1,5 +1,5 @@
 -- What the program does in a run.
-use Rattle.std.specs.Prelude.{◌⊎◌, ℕ}
+use Rattle.std.specs.Prelude.{◌⊎◌}
 use Rattle.renju_cli.specs.declared.status.Status.TheVariants.{Usage}
 use Rattle.renju_cli.specs.declared.commands.Form.{Form}
 use Rattle.renju_cli.specs.Texts.{usage_line}

@@ -1,10 +1,10 @@
 -- A run of the program: its words, what its devices tell and count before and after, and the number that it ends with.
-use Rattle.std.specs.Prelude.{◌≡◌, ◌⊎◌, ℕ, List, Option}
-use Rattle.renju_io.specs.Faults.{HasRisen, HasNotFallen}
+use Rattle.std.specs.Prelude.{◌≡◌, ◌≢◌, ◌⊎◌, ℕ, List, Option}
+use Rattle.renju_io.specs.Faults.{HasRisen, HasStayed, HasNotFallen}
 use Rattle.renju_io.specs.Told.{GivesSome, Takes, TakesPart}
 use Rattle.renju_io.specs.Files.{Files}
 use Rattle.renju_cli.specs.declared.status.Status.{Status}
-use Rattle.renju_cli.specs.declared.status.Status.TheVariants.{Memory, WriteFault}
+use Rattle.renju_cli.specs.declared.status.Status.TheVariants.{Memory, ReadFault, WriteFault}
 use Rattle.renju_cli.specs.Statuses.{status_number}
 
 -- what a device tells, and the count of its faults, before and after
@@ -35,10 +35,14 @@ run_of words input output shelf status = record { words = words; input = input; 
 abbrev pub HasFailed : {T : Type 0} → Change T → Type 0
 HasFailed device = HasRisen device.faults_before device.faults_after
 
+-- the device has counted no fault
+abbrev pub IsSound : {T : Type 0} → Change T → Type 0
+IsSound device = HasStayed device.faults_before device.faults_after
+
 -- the device was not asked: it tells what it told, and has counted no fault
 pub record IsUnasked {T : Type 0} (device : Change T) : Type 0 where
   pub same : device.after ≡ device.before
-  pub faults : device.faults_after ≡ device.faults_before
+  pub faults : IsSound device
 
 -- The text was written whole and the status is its own, or the output failed, took the front of the text, and the status is
 -- that of a write fault.
@@ -53,10 +57,13 @@ pub record IsOutOfMemory (output : Change (Option (List ℕ))) (number : ℕ) : 
   pub silent : IsUnasked output
 
 -- What holds of the devices in each run: the input gave bytes from its front, maybe none, the files of the shelf are as
--- before, and no count of faults fell.
+-- before, no count of faults fell, and where the status is not that of a fault of the input or of the output, this device
+-- has counted none.
 pub record KeepsDevices (run : Run) : Type 0 where
   pub taken : GivesSome run.input.before run.input.after
   pub input : HasNotFallen run.input.faults_before run.input.faults_after
   pub output : HasNotFallen run.output.faults_before run.output.faults_after
   pub shelf : HasNotFallen run.shelf.faults_before run.shelf.faults_after
   pub files : run.shelf.after ≡ run.shelf.before
+  pub reads : run.status ≢ status_number ReadFault → IsSound run.input
+  pub writes : run.status ≢ status_number WriteFault → IsSound run.output

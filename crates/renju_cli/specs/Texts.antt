@@ -1,18 +1,15 @@
 -- The printed lines that several commands have, each with the line feed that ends it.
-use Rattle.std.specs.Prelude.{ℕ, List, [], ◌∷◌, ◌++◌, codes}
-
--- a text as a line
-abbrev pub line : List ℕ → List ℕ
-line text = text ++ 10 ∷ []
+use Rattle.std.specs.Prelude.{ℕ, List, codes}
+use Rattle.text_lines.specs.Lines.{ended}
 
 -- the work or the budget was not enough
 abbrev pub spent_line : List ℕ
-spent_line = line (codes "spent")
+spent_line = ended (codes "spent")
 
 -- the input is longer than a command takes
 abbrev pub too_long_line : List ℕ
-too_long_line = line (codes "input too long")
+too_long_line = ended (codes "input too long")
 
 -- what words without a form are answered with
 abbrev pub usage_line : List ℕ
-usage_line = line (codes "usage: renju check WORK, foul, fours DEPTH NODES, threats LENGTH NODES, solve DEPTH NODES, brain [FILE], drill N, image SYMMETRY, referee [FILE], defend DEPTH NODES, bind FILE .., book WORK")
+usage_line = ended (codes "usage: renju check WORK, foul, fours DEPTH NODES, threats LENGTH NODES, solve DEPTH NODES, brain [FILE], drill N, image SYMMETRY, referee [FILE], defend DEPTH NODES, bind FILE .., book WORK")

@@ -3,10 +3,10 @@
 //! The text is read, its root is checked at its position under its rule, and the verdict is told in one line.
 #![tactic(auto)]
 
-ghost use Rattle.std.specs.Prelude.{◌≡◌, ◌∷◌, ◌++◌, true, length, codes, map, IfOk, MatchOption, string_bytes};
+ghost use Rattle.std.specs.Prelude.{◌≡◌, ◌∷◌, true, length, codes, map, IfOk, MatchOption, string_bytes};
 ghost use Rattle.game_rules.specs.Play.{IsPosition};
-ghost use Rattle.strategy_graph.specs.Roots.{root_below};
-ghost use Rattle.renju_cli.specs.Checks.{CheckSays, TableSays, accepted_line, why_word as why_word_lem, move_text as move_text_lem, moves_text, refused_table_line};
+ghost use Rattle.strategy_graph.specs.Roots.{root_below, root_depth};
+ghost use Rattle.renju_cli.specs.Checks.{CheckSays, TableSays, accepted_line, why_word as why_word_lem, refused_table_line};
 ghost use Rattle.renju_cli.specs.Texts.{spent_line};
 ghost use Rattle.renju_cli.specs.Commands.{IsForm, HasForm};
 
@@ -16,13 +16,13 @@ use crate::refusals::refused_text;
 use crate::told::Told;
 use crate::{Form, MAX_WORK, Status};
 use foul_judge::Position;
-use game_rules::RuleKind;
 use position_files::{TableFile, read_table};
-use row_shapes::{ExactFive, Freestyle, Renju, Rule};
+use row_shapes::{Rule, under_rule};
 use std::alloc::{AllocError, Global};
 use stone_board::Point;
 use strategy_checker::{Verdict, check_root};
 use strategy_graph::Why;
+use text_lines::push_points;
 
 /// The form of `check` and the words after it, if they are WORK alone.
 pub(crate) fn form(rest: &[String]) -> Option<Form>
@@ -62,13 +62,10 @@ impl Told for Check {
 fn check_file(alloc: Global, file: TableFile, work: u64) -> Result<Answer, AllocError>
     requires lawful { IsPosition file.kind file.board }
     requires root { root_below file.root (length file.table) ≡ true }
+    requires moves { file.moves ≡ root_depth file.table file.root }
     ensures says { IfOk result (λ answer. TableSays work file answer.status answer.text.items) }
 {
-    match file.kind {
-        RuleKind::Freestyle => check_under::<Freestyle>(alloc, file, work),
-        RuleKind::Exact => check_under::<ExactFive>(alloc, file, work),
-        RuleKind::Renju => check_under::<Renju>(alloc, file, work),
-    }
+    under_rule!(file.kind, check_under(alloc, file, work))
 }
 
 /// The same under the rule of the text.
@@ -76,6 +73,7 @@ fn check_under<R: Rule>(alloc: Global, file: TableFile, work: u64) -> Result<Ans
     requires kind { file.kind ≡ R.KIND }
     requires lawful { IsPosition file.kind file.board }
     requires root { root_below file.root (length file.table) ≡ true }
+    requires moves { file.moves ≡ root_depth file.table file.root }
     ensures says { IfOk result (λ answer. TableSays work file answer.status answer.text.items) }
 {
     let TableFile {
@@ -83,10 +81,10 @@ fn check_under<R: Rule>(alloc: Global, file: TableFile, work: u64) -> Result<Ans
         board,
         table,
         root,
-        moves: _,
+        moves,
     } = file;
     let mut position = Position::<R>::new(board);
-    match check_root(alloc, &table, &root, &mut position, work)? {
+    match check_root(alloc, &table, &root, moves, &mut position, work)? {
         Verdict::Accepted { moves, arrivals } => {
             Ok(Answer::told(Status::Done, accepted(alloc, moves, arrivals)?))
         }
@@ -136,27 +134,7 @@ fn refused_table(alloc: Global, why: Why, moves: &[Point]) -> Result<String, All
 {
     let mut text = String::from_str(alloc, "refused ")?;
     text.push_str(why_word(why))?;
-    push_moves(alloc, &mut text, moves)?;
+    push_points(alloc, &mut text, moves)?;
     text.push_str("\n")?;
     Ok(text)
-}
-
-/// Adds moves to a text, each after a space.
-fn push_moves(alloc: Global, text: &mut String, moves: &[Point]) -> Result<(), AllocError>
-    ensures moves { IfOk result (λ _. string_bytes text.new ≡ string_bytes text.old ++ moves_text moves.now) }
-{
-    for at in moves {
-        let word = move_text(alloc, *at)?;
-        text.push_str(word.as_str())?;
-    }
-    Ok(())
-}
-
-/// A move after a space.
-fn move_text(alloc: Global, at: Point) -> Result<String, AllocError>
-    ensures text { IfOk result (λ text. string_bytes text ≡ move_text_lem at) }
-{
-    let x = at.x;
-    let y = at.y;
-    format!(in alloc; " {x},{y}")
 }

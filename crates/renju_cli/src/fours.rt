@@ -17,13 +17,13 @@ use crate::refusals::refused_text;
 use crate::told::Told;
 use crate::{Form, MAX_SEARCHED, Status};
 use foul_judge::Position;
-use four_search::{FourAnswer, MAX_DEPTH, SearchError, four_search};
+use four_search::{FourAnswer, MAX_DEPTH, four_search};
 use game_rules::RuleKind;
 use position_files::{PositionFile, read_position, write_table};
-use row_shapes::{ExactFive, Freestyle, Renju, Rule};
+use row_shapes::{Rule, under_rule};
 use std::alloc::{AllocError, Global};
 use stone_board::Board;
-use strategy_compiler::Compiler;
+use strategy_compiler::{Compiler, SearchError, WrittenWin};
 use strategy_graph::Root;
 
 /// The form of `fours` and the words after it, if they are DEPTH and NODES.
@@ -76,11 +76,7 @@ fn search_file(
     requires some_nodes { 1 ≤ nodes }
     ensures says { IfOk result (λ answer. SearchSays depth nodes file answer.status answer.text.items) }
 {
-    match file.kind {
-        RuleKind::Freestyle => search_under::<Freestyle>(alloc, file, depth, nodes),
-        RuleKind::Exact => search_under::<ExactFive>(alloc, file, depth, nodes),
-        RuleKind::Renju => search_under::<Renju>(alloc, file, depth, nodes),
-    }
+    under_rule!(file.kind, search_under(alloc, file, depth, nodes))
 }
 
 /// The same under the rule of the text.
@@ -101,9 +97,9 @@ fn search_under<R: Rule>(
     let mut position = Position::<R>::new(board);
     let mut compiler = Compiler::new(alloc);
     match four_search::<R, Position<R>>(alloc, &mut position, depth, nodes, &mut compiler) {
-        Ok(FourAnswer::Win { node, moves }) => {
+        Ok(FourAnswer::Win(win)) => {
             let board = position.into_board();
-            win_text(alloc, kind, &board, compiler, node, moves)
+            win_text(alloc, kind, &board, compiler, win)
         }
         Ok(FourAnswer::None) => none(alloc),
         Ok(FourAnswer::Spent) => spent(alloc),
@@ -118,20 +114,18 @@ fn win_text(
     kind: RuleKind,
     board: &Board,
     compiler: Compiler,
-    node: u32,
-    moves: u32,
+    win: WrittenWin,
 ) -> Result<Answer, AllocError>
-    requires lawful { IsPosition kind board.now }
-    requires win { (limit : ℕ) × (limit ≤ MAX_DEPTH) × IsFourWin kind limit board.now compiler node moves }
+    requires win { (limit : ℕ) × (limit ≤ MAX_DEPTH) × IsFourWin kind limit board.now compiler win }
     ensures status { IfOk result (λ answer. answer.status ≡ Status.Done) }
-    ensures text { IfOk result (λ answer. (limit : ℕ) → IsFourWin kind limit board.now compiler node moves
+    ensures text { IfOk result (λ answer. (limit : ℕ) → IsFourWin kind limit board.now compiler win
         → IsFourText limit (record { kind = kind; board = board.now }) answer.text.items) }
 {
-    let table = compiler.finish(node)?;
+    let table = compiler.finish_win(win)?;
     let root = Root::Attack(table.len() - 1);
     Ok(Answer {
         status: Status::Done,
-        text: write_table(alloc, kind, board, &table, &root, moves)?,
+        text: write_table(alloc, kind, board, &table, &root, win.moves)?,
     })
 }
 

@@ -11,6 +11,7 @@ use foul_judge::PositionError;
 use position_files::FileError;
 use std::alloc::{AllocError, Global};
 use stone_board::Point;
+use text_lines::push_point;
 
 /// What is said of a text that is refused. Want of memory is handed on.
 pub(crate) fn refused_text(alloc: Global, error: FileError) -> Result<Answer, AllocError>
@@ -59,9 +60,10 @@ fn uneven(alloc: Global, black: u32, white: u32) -> Result<String, AllocError>
 fn already_won(alloc: Global, at: Point) -> Result<String, AllocError>
     ensures line { IfOk result (λ text. string_bytes text ≡ already_won_line at) }
 {
-    let x = at.x;
-    let y = at.y;
-    format!(in alloc; "refused already won {x},{y}\n")
+    let mut text = String::from_str(alloc, "refused already won")?;
+    push_point(alloc, &mut text, at)?;
+    text.push_str("\n")?;
+    Ok(text)
 }
 
 /// The line of a number of moves that is not the depth of the root.

@@ -4,8 +4,8 @@
 //! says is a relation that its type names, so nothing here depends on which commands there are.
 #![tactic(auto)]
 
-ghost use Rattle.std.specs.Prelude.{◌≡◌, ℕ, List, IfOk};
-ghost use Rattle.renju_io.specs.Faults.{HasNotFallen};
+ghost use Rattle.std.specs.Prelude.{◌≡◌, ◌≢◌, ℕ, List, IfOk};
+ghost use Rattle.renju_io.specs.Faults.{HasNotFallen, HasStayed};
 ghost use Rattle.renju_io.specs.Told.{GivesSome};
 ghost use Rattle.renju_cli.specs.declared.status.Status.{Status};
 ghost use Rattle.renju_cli.specs.Statuses.{status_number};
@@ -47,6 +47,8 @@ pub(crate) fn tell<C: Told, I: Source, O: Sink>(
     ensures taken { GivesSome (I.left input.old) (I.left input.new) }
     ensures input { HasNotFallen (I.faults input.old) (I.faults input.new) }
     ensures output { HasNotFallen (O.faults output.old) (O.faults output.new) }
+    ensures reads { status_number result ≢ status_number Status.ReadFault → HasStayed (I.faults input.old) (I.faults input.new) }
+    ensures writes { status_number result ≢ status_number Status.WriteFault → HasStayed (O.faults output.old) (O.faults output.new) }
 {
     match read_all(alloc, input) {
         Ok(bytes) => match command.say(alloc, bytes.as_slice()) {
@@ -63,6 +65,7 @@ pub(crate) fn tell<C: Told, I: Source, O: Sink>(
 pub(crate) fn deliver<O: Sink>(status: Status, text: &[u8], output: &mut O) -> Status
     ensures delivered { IsDelivered status text.now (change O.written O.faults output.old output.new) (status_number result) }
     ensures counted { HasNotFallen (O.faults output.old) (O.faults output.new) }
+    ensures writes { status_number result ≢ status_number Status.WriteFault → HasStayed (O.faults output.old) (O.faults output.new) }
 {
     match write_text(output, text) {
         Ok(()) => status,
