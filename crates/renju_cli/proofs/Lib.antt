@@ -1,7 +1,9 @@
 mod Joins
-mod Verdicts
-mod Inputs
-mod Wins
-mod FourTables
-mod Complete
-mod Denials
+mod Words
+mod FormLaws
+mod ToldLaws
+mod Searches
+mod CheckLaws
+mod FoulLaws
+mod FoursLaws
+mod ReportLaws

@@ -1,20 +1,24 @@
 //! The command `foul`: the fouls of Black, where Black is to move.
+//!
+//! The text is read, and each point of its board is asked, in reading order.
 #![tactic(auto)]
 
-ghost use Rattle.std.specs.Prelude.{◌≡◌, ◌++◌, IfOk, string_bytes};
+ghost use Rattle.std.specs.Prelude.{◌≡◌, ◌∷◌, ◌++◌, codes, map, IfOk, MatchOption, string_bytes};
 ghost use Rattle.std.specs.List.{flat_map};
 ghost use Rattle.game_rules.specs.Play.{IsPosition, mover};
-ghost use Rattle.renju_cli.specs.Fouls.{FoulSays, foul_point as foul_point_lem, black_fouls as black_fouls_lem, fouls_of_mover, foul_word as foul_word_lem, foul_line as foul_line_lem, foul_head as foul_head_lem, fouls_text as fouls_text_lem};
+ghost use Rattle.renju_cli.specs.Commands.{IsForm, HasForm};
+ghost use Rattle.renju_cli.specs.Fouls.{IsFoulList, foul_point as foul_point_lem, black_fouls as black_fouls_lem, fouls_of_mover, foul_word as foul_word_lem, foul_line, fouls_text as fouls_text_lem};
 
-use crate::Status;
 use crate::answer::Answer;
-use crate::check::refused_text;
+use crate::refusals::refused_text;
+use crate::told::Told;
+use crate::{Form, Status};
 use foul_judge::{Foul, Position, Seen, foul_at};
-use game_rules::RuleKind;
 use position_files::{PositionFile, read_position};
-use row_shapes::{ExactFive, Freestyle, Renju, Rule};
+use row_shapes::{Rule, under_rule};
 use std::alloc::{AllocError, Global};
 use stone_board::{Board, Point, Side};
+use text_lines::{push_line, push_point};
 
 /// A point where Black has a foul.
 #[derive(Clone, Copy, Debug, PartialEq, Eq)]
@@ -23,27 +27,41 @@ pub(crate) struct FoulPoint {
     pub foul: Foul,
 }
 
-/// What `foul` says of an input.
-pub(crate) fn foul_text(alloc: Global, bytes: &[u8]) -> Result<Answer, AllocError>
-    ensures says { IfOk result (λ answer. FoulSays bytes.now answer.status (answer.text.items)) }
+/// The form of `foul` and the words after it, if there are none.
+pub(crate) fn form(rest: &[String]) -> Option<Form>
+    ensures form { MatchOption result (¬ HasForm (codes "foul" ∷ map string_bytes rest.now)) (λ form. IsForm (codes "foul" ∷ map string_bytes rest.now) form) }
 {
-    match read_position(alloc, bytes) {
-        Ok(file) => list_fouls(alloc, file),
-        Err(error) => refused_text(alloc, error),
+    match rest {
+        [] => Some(Form::Foul),
+        _ => None,
+    }
+}
+
+/// `foul`.
+#[derive(Clone, Copy)]
+pub(crate) struct ListFouls;
+
+impl Told for ListFouls {
+    ghost use Rattle.renju_cli.specs.Fouls.{FoulSays};
+
+    ghost in_range = { λ c. Unit {0} };
+
+    ghost says = { λ c. FoulSays };
+
+    fn say(&self, alloc: Global, bytes: &[u8]) -> Result<Answer, AllocError> {
+        match read_position(alloc, bytes) {
+            Ok(file) => list_fouls(alloc, file),
+            Err(error) => refused_text(alloc, error),
+        }
     }
 }
 
 /// The list of the fouls of a position.
 fn list_fouls(alloc: Global, file: PositionFile) -> Result<Answer, AllocError>
     requires lawful { IsPosition file.kind file.board }
-    ensures status { IfOk result (λ answer. answer.status ≡ Status.Done) }
-    ensures text { IfOk result (λ answer. answer.text.items ≡ fouls_text_lem (fouls_of_mover (mover file.board) file.kind file.board)) }
+    ensures list { IfOk result (λ answer. IsFoulList file answer.status answer.text.items) }
 {
-    let fouls = match file.kind {
-        RuleKind::Freestyle => mover_fouls::<Freestyle>(alloc, file.board)?,
-        RuleKind::Exact => mover_fouls::<ExactFive>(alloc, file.board)?,
-        RuleKind::Renju => mover_fouls::<Renju>(alloc, file.board)?,
-    };
+    let fouls = under_rule!(file.kind, mover_fouls(alloc, file.board))?;
     Ok(Answer::told(Status::Done, fouls_text(alloc, fouls.as_slice())?))
 }
 
@@ -99,32 +117,23 @@ fn fouls_text(alloc: Global, fouls: &[FoulPoint]) -> Result<String, AllocError>
 
 /// Adds a line for each foul to a text.
 fn push_fouls(alloc: Global, text: &mut String, fouls: &[FoulPoint]) -> Result<(), AllocError>
-    ensures fouls { IfOk result (λ _. string_bytes text.new ≡ string_bytes text.old ++ flat_map foul_line_lem fouls.now) }
+    ensures fouls { IfOk result (λ _. string_bytes text.new ≡ string_bytes text.old ++ flat_map foul_line fouls.now) }
 {
     for found in fouls {
-        let line = foul_line(alloc, *found)?;
-        text.push_str(line.as_str())?;
+        push_foul(alloc, text, *found)?;
     }
     Ok(())
 }
 
-/// The line of a foul.
-fn foul_line(alloc: Global, found: FoulPoint) -> Result<String, AllocError>
-    ensures line { IfOk result (λ text. string_bytes text ≡ foul_line_lem found) }
+/// Adds the line of a foul to a text.
+fn push_foul(alloc: Global, text: &mut String, found: FoulPoint) -> Result<(), AllocError>
+    ensures line { IfOk result (λ _. string_bytes text.new ≡ string_bytes text.old ++ foul_line found) }
 {
-    let mut text = foul_head(alloc, found.at)?;
-    text.push_str(foul_word(found.foul))?;
-    text.push_str("\n")?;
-    Ok(text)
-}
-
-/// The line of a foul up to its word.
-fn foul_head(alloc: Global, at: Point) -> Result<String, AllocError>
-    ensures head { IfOk result (λ text. string_bytes text ≡ foul_head_lem at) }
-{
-    let x = at.x;
-    let y = at.y;
-    format!(in alloc; "foul {x},{y} ")
+    text.push_str("foul")?;
+    push_point(alloc, text, found.at)?;
+    text.push_str(" ")?;
+    push_line(text, foul_word(found.foul))?;
+    Ok(())
 }
 
 /// The word of a foul.

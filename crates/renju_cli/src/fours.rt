@@ -1,40 +1,65 @@
 //! The command `fours`: a win by continuous fours with the fewest moves, written as a table.
+//!
+//! The text is read, the search runs under its rule within the depth and the budget, and a win is written as a table that
+//! `check` accepts.
 #![tactic(auto)]
 
-ghost use Rattle.std.specs.Prelude.{◌≡◌, ◌≤◌, ℕ, IfOk};
+ghost use Rattle.std.specs.Prelude.{◌≡◌, ◌≤◌, ◌∷◌, ℕ, codes, map, IfOk, MatchOption, string_bytes};
 ghost use Rattle.game_rules.specs.Play.{IsPosition};
 ghost use Rattle.four_search.specs.Answers.{IsFourWin};
-ghost use Rattle.renju_cli.specs.Fours.{FoursSays, SearchSays, IsFourText};
-ghost use Rattle.renju_cli.specs.Texts.{none_line};
+ghost use Rattle.renju_cli.specs.Commands.{IsForm, HasForm};
+ghost use Rattle.renju_cli.specs.Fours.{SearchSays, IsFourText, none_line};
 
-use crate::Status;
 use crate::answer::Answer;
-use crate::check::{refused_text, spent};
+use crate::check::spent;
+use crate::numbers::count;
+use crate::refusals::refused_text;
+use crate::told::Told;
+use crate::{Form, MAX_SEARCHED, Status};
 use foul_judge::Position;
-use four_search::{FourAnswer, MAX_DEPTH, SearchError, four_search};
+use four_search::{FourAnswer, MAX_DEPTH, four_search};
 use game_rules::RuleKind;
 use position_files::{PositionFile, read_position, write_table};
-use row_shapes::{ExactFive, Freestyle, Renju, Rule};
+use row_shapes::{Rule, under_rule};
 use std::alloc::{AllocError, Global};
 use stone_board::Board;
-use strategy_compiler::Compiler;
+use strategy_compiler::{Compiler, SearchError, WrittenWin};
 use strategy_graph::Root;
 
-/// What `fours` says of an input, within `depth` moves and with at most `nodes` positions to look at.
-pub(crate) fn fours_text(
-    alloc: Global,
-    bytes: &[u8],
-    depth: u32,
-    nodes: u64,
-) -> Result<Answer, AllocError>
-    requires some_depth { 1 ≤ depth }
-    requires depth_fits { depth ≤ MAX_DEPTH }
-    requires some_nodes { 1 ≤ nodes }
-    ensures says { IfOk result (λ answer. FoursSays depth nodes bytes.now answer.status answer.text.items) }
+/// The form of `fours` and the words after it, if they are DEPTH and NODES.
+pub(crate) fn form(rest: &[String]) -> Option<Form>
+    ensures form { MatchOption result (¬ HasForm (codes "fours" ∷ map string_bytes rest.now)) (λ form. IsForm (codes "fours" ∷ map string_bytes rest.now) form) }
 {
-    match read_position(alloc, bytes) {
-        Ok(file) => search_file(alloc, file, depth, nodes),
-        Err(error) => refused_text(alloc, error),
+    let [depth, nodes] = rest else {
+        return None;
+    };
+    let depth = count(depth, u64::from(MAX_DEPTH))? as u32;
+    let nodes = count(nodes, MAX_SEARCHED)?;
+    Some(Form::Fours { depth, nodes })
+}
+
+/// `fours DEPTH NODES`.
+#[derive(Clone, Copy)]
+pub(crate) struct Fours {
+    pub depth: u32,
+    pub nodes: u64,
+}
+
+impl Told for Fours {
+    ghost use Rattle.std.specs.Prelude.{◌≤◌};
+    ghost use Rattle.four_search.specs.declared.TheConstants.{MAX_DEPTH};
+    ghost use Rattle.renju_cli.specs.declared.TheConstants.{MAX_SEARCHED};
+    ghost use Rattle.renju_cli.specs.Fours.{FoursSays};
+
+    ghost in_range = { λ c. (1 ≤ c.depth) × (c.depth ≤ MAX_DEPTH) × (1 ≤ c.nodes) × (c.nodes ≤ MAX_SEARCHED) };
+
+    ghost says = { λ c. FoursSays c.depth c.nodes };
+
+    fn say(&self, alloc: Global, bytes: &[u8]) -> Result<Answer, AllocError> {
+        match read_position(alloc, bytes) {
+            Ok(file) => search_file(alloc, file, self.depth, self.nodes),
+            Err(error) => refused_text(alloc, error),
+        }
     }
 }
 
@@ -51,11 +76,7 @@ fn search_file(
     requires some_nodes { 1 ≤ nodes }
     ensures says { IfOk result (λ answer. SearchSays depth nodes file answer.status answer.text.items) }
 {
-    match file.kind {
-        RuleKind::Freestyle => search_under::<Freestyle>(alloc, file, depth, nodes),
-        RuleKind::Exact => search_under::<ExactFive>(alloc, file, depth, nodes),
-        RuleKind::Renju => search_under::<Renju>(alloc, file, depth, nodes),
-    }
+    under_rule!(file.kind, search_under(alloc, file, depth, nodes))
 }
 
 /// The same under the rule of the text.
@@ -76,9 +97,9 @@ fn search_under<R: Rule>(
     let mut position = Position::<R>::new(board);
     let mut compiler = Compiler::new(alloc);
     match four_search::<R, Position<R>>(alloc, &mut position, depth, nodes, &mut compiler) {
-        Ok(FourAnswer::Win { node, moves }) => {
+        Ok(FourAnswer::Win(win)) => {
             let board = position.into_board();
-            win_text(alloc, kind, &board, compiler, node, moves)
+            win_text(alloc, kind, &board, compiler, win)
         }
         Ok(FourAnswer::None) => none(alloc),
         Ok(FourAnswer::Spent) => spent(alloc),
@@ -93,20 +114,18 @@ fn win_text(
     kind: RuleKind,
     board: &Board,
     compiler: Compiler,
-    node: u32,
-    moves: u32,
+    win: WrittenWin,
 ) -> Result<Answer, AllocError>
-    requires lawful { IsPosition kind board.now }
-    requires win { (limit : ℕ) × (limit ≤ MAX_DEPTH) × IsFourWin kind limit board.now compiler node moves }
+    requires win { (limit : ℕ) × (limit ≤ MAX_DEPTH) × IsFourWin kind limit board.now compiler win }
     ensures status { IfOk result (λ answer. answer.status ≡ Status.Done) }
-    ensures text { IfOk result (λ answer. (limit : ℕ) → IsFourWin kind limit board.now compiler node moves
+    ensures text { IfOk result (λ answer. (limit : ℕ) → IsFourWin kind limit board.now compiler win
         → IsFourText limit (record { kind = kind; board = board.now }) answer.text.items) }
 {
-    let table = compiler.finish(node)?;
+    let table = compiler.finish_win(win)?;
     let root = Root::Attack(table.len() - 1);
     Ok(Answer {
         status: Status::Done,
-        text: write_table(alloc, kind, board, &table, &root, moves)?,
+        text: write_table(alloc, kind, board, &table, &root, win.moves)?,
     })
 }
 

@@ -1,23 +1,36 @@
-use Rattle.std.proofs.Common.{arith}
-use Rattle.renju_cli.proofs.FourTables.{made-of, table-some, table-on, root-fits}
+use Rattle.std.proofs.Common.{ℕ, ◌*◌, ◌≤◌, sym, subst, arith}
+use Rattle.four_search.specs.Plans.{four_plan}
+use Rattle.renju_cli.proofs.Searches.{on-board}
 use Rattle.renju_cli.proofs.fours.win_text.Goals as goal
-
-pub overflow_sub-root : goal.overflow_sub-root
-overflow_sub-root c =
-    let made = made-of c.args.kind c.args.board.now c.args.moves c.args.compiler c.args.node c.in_ok-table.table c.requires.lawful c.requires.win c.in_ok-table.ensures.trees c.in_ok-table.ensures.reached c.in_ok-table.ensures.same in
-    let some = table-some _ _ _ _ _ _ _ made in
-    let count = c.len.ensures.count in
-    omega (arith, some, count)
 
 pub write_table-requires-clause-on_board : goal.write_table-requires-clause-on_board
 write_table-requires-clause-on_board c =
-    let made = made-of c.args.kind c.args.board.now c.args.moves c.args.compiler c.args.node c.in_ok-table.table c.requires.lawful c.requires.win c.in_ok-table.ensures.trees c.in_ok-table.ensures.reached c.in_ok-table.ensures.same in
-    table-on _ _ _ _ _ _ _ made
+    let made = c.in_ok-table.ensures.win c.args.kind c.requires.win.0 c.args.board.now c.requires.win.2.written in
+    on-board c.args.board.now c.in_ok-table.table made.on_board
 
 pub write_table-requires-clause-root : goal.write_table-requires-clause-root
 write_table-requires-clause-root c =
-    let made = made-of c.args.kind c.args.board.now c.args.moves c.args.compiler c.args.node c.in_ok-table.table c.requires.lawful c.requires.win c.in_ok-table.ensures.trees c.in_ok-table.ensures.reached c.in_ok-table.ensures.same in
-    let fits = root-fits _ _ _ _ _ _ _ made c.requires.win.1 in
-    let all = fits.0 in
+    let made = c.in_ok-table.ensures.win c.args.kind c.requires.win.0 c.args.board.now c.requires.win.2.written in
+    let some = c.in_ok-table.ensures.some in
     let count = c.len.ensures.count in
-    (omega (arith, all, count), fits.1, fits.2)
+    let within = c.requires.win.2.written.within in
+    let most = c.requires.win.1 in
+    (omega (arith, some, count), made.some_moves, omega (arith, within, most))
+
+pub returns-clause-text : goal.returns-clause-text
+returns-clause-text c = λ limit win.
+    let made = c.in_ok-table.ensures.win c.args.kind limit c.args.board.now win.written in
+    let b = c.args.board.now in
+    record {
+      moves = c.args.win.moves;
+      table = c.in_ok-table.table;
+      within = win.written.within;
+      fewest = win.fewest;
+      made = record {
+        plan = c.in_ok-table.ensures.trees (four_plan c.args.kind c.args.win.moves b) win.stands;
+        accepted = made.accepted;
+        deep = made.deep;
+        short = subst (λ (n : ℕ). n ≤ b.width * b.height * c.args.win.moves) (sym (c.in_ok-table.ensures.same.same_arrivals c.args.kind b)) win.short;
+      };
+      written = rw c.len.ensures.count at c.in_ok-write_table.ensures.written;
+    }

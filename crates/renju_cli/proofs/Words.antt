@@ -1,0 +1,35 @@
+-- Words of a command line, taken from their list one by one.
+use Rattle.std.proofs.Common.{◌≡◌, sym, ap, ◌∙◌, ℕ, ◌≤◌, ◌<◌, List, [], ◌∷◌, length, map, take, drop, get_or, refl, ◌-◌, arith}
+use Rattle.std.proofs.Math.Seq.{take-length}
+use Rattle.std.proofs.lemmas.List.{length-map}
+
+module _ {X : Type 0} (f : X → List ℕ) where
+  -- as many words as there are in the list
+  pub same-count : (xs : List X) (words : List (List ℕ)) → map f xs ≡ words → length xs ≡ length words
+  same-count xs words is = sym (length-map xs f) ∙ ap length is
+
+  -- no word
+  pub no-words : (xs : List X) → length xs < 1 → map f xs ≡ []
+  no-words [] few = refl
+  no-words (y ∷ ys) few = absurd (omega (arith, few))
+
+  -- the first word, and those after it
+  pub first-word : (xs : List X) (x : X) → 1 ≤ length xs → x ≡ get_or xs 0 x → map f xs ≡ f x ∷ map f (take (length xs - 1) (drop 1 xs))
+  first-word [] x some is = absurd (omega (arith, some))
+  first-word (y ∷ ys) x some is =
+      let count : length (y ∷ ys) - 1 ≡ length ys = omega arith in
+      let rest : take (length (y ∷ ys) - 1) ys ≡ ys = ap (λ n. take n ys) count ∙ take-length ys in
+      ap (λ v. f v ∷ map f ys) (sym is) ∙ ap (λ l. f x ∷ map f l) (sym rest)
+
+  -- one word alone
+  pub one-word : (xs : List X) (x : X) → length xs ≡ 1 → x ≡ get_or xs 0 x → map f xs ≡ f x ∷ []
+  one-word [] x one is = absurd (omega (arith, one))
+  one-word (y ∷ []) x one is = ap (λ v. f v ∷ []) (sym is)
+  one-word (y ∷ z ∷ ys) x one is = absurd (omega (arith, one))
+
+  -- two words alone
+  pub two-words : (xs : List X) (x y : X) → length xs ≡ 2 → x ≡ get_or xs 0 x → y ≡ get_or xs 1 y → map f xs ≡ f x ∷ f y ∷ []
+  two-words [] x y two first second = absurd (omega (arith, two))
+  two-words (v ∷ []) x y two first second = absurd (omega (arith, two))
+  two-words (v ∷ w ∷ []) x y two first second = ap (λ u. f u ∷ f w ∷ []) (sym first) ∙ ap (λ u. f x ∷ f u ∷ []) (sym second)
+  two-words (v ∷ w ∷ u ∷ us) x y two first second = absurd (omega (arith, two))

@@ -1,0 +1,45 @@
+use Rattle.std.proofs.Common.{◌≡◌, List, ℕ, [], ◌∷◌, ◌∙◌, ap, sym, subst, get_or}
+use Rattle.std.specs.Prelude.{codes, string_bytes, Option, MatchOption}
+use Rattle.renju_cli.specs.declared.commands.Form.{Form}
+use Rattle.renju_cli.specs.declared.commands.Form.TheVariants.{Check, Foul, Fours}
+use Rattle.renju_cli.specs.Commands.{command, HasForm, IsForm}
+use Rattle.renju_cli.proofs.Words.{no-words as none, first-word}
+use Rattle.renju_cli.proofs.FormLaws.{no-words, no-command}
+use Rattle.renju_cli.proofs.commands.form_of.Goals as goal
+
+-- what is told of the words after a name is told of the words that begin with it
+told-of : (told : Option Form) (words : List (List ℕ)) (first name : List ℕ) (rest : List (List ℕ)) → words ≡ first ∷ rest → first ≡ name → MatchOption told (¬ HasForm (name ∷ rest)) (λ form. IsForm (name ∷ rest) form) → MatchOption told (¬ HasForm words) (λ form. IsForm words form)
+told-of told words first name rest are is h = subst (λ (ws : List (List ℕ)). MatchOption told (¬ HasForm ws) (λ form. IsForm ws form)) (sym (are ∙ ap (λ (w : List ℕ). w ∷ rest) is)) h
+
+pub returns-in_default : goal.returns-in_default
+returns-in_default c = record { form = λ h. no-words (subst HasForm (none string_bytes c.args.words.now c.in_default.len_below) h) }
+
+pub returns-in-check : goal.returns-in-check
+returns-in-check c =
+    let name : string_bytes c.name-item.result ≡ codes "check" = sym c.as_str.ensures.value ∙ c.in-check.is in
+    let words = first-word string_bytes c.args.words.now c.name-item.result c.in-len1-up.len_at_least c.name-item.is in
+    record { form = told-of c.form.result _ _ _ _ words name c.form.ensures.form }
+
+pub returns-in-foul : goal.returns-in-foul
+returns-in-foul c =
+    let name : string_bytes c.name-item.result ≡ codes "foul" = sym c.as_str.ensures.value ∙ c.in-foul.is in
+    let words = first-word string_bytes c.args.words.now c.name-item.result c.in-len1-up.len_at_least c.name-item.is in
+    record { form = told-of c.form-in-foul.result _ _ _ _ words name c.form-in-foul.ensures.form }
+
+pub returns-in-fours : goal.returns-in-fours
+returns-in-fours c =
+    let name : string_bytes c.name-item.result ≡ codes "fours" = sym c.as_str.ensures.value ∙ c.in-fours.is in
+    let words = first-word string_bytes c.args.words.now c.name-item.result c.in-len1-up.len_at_least c.name-item.is in
+    record { form = told-of c.form-in-fours.result _ _ _ _ words name c.form-in-fours.ensures.form }
+
+-- the first word is that of no command
+pub returns-in_default-as_str : goal.returns-in_default-as_str
+returns-in_default-as_str c =
+    let words = first-word string_bytes c.args.words.now c.name-item.result c.in-len1-up.len_at_least c.name-item.is in
+    let other : (form : Form) → string_bytes c.name-item.result ≡ get_or (command form).words 0 [] → ⊥ =
+    λ form. elim form as (λ f. string_bytes c.name-item.result ≡ get_or (command f).words 0 [] → ⊥) [
+      | Check work ↦ λ is. c.in_default-as_str.not-check (c.as_str.ensures.value ∙ is)
+      | Foul ↦ λ is. c.in_default-as_str.not-foul (c.as_str.ensures.value ∙ is)
+      | Fours depth nodes ↦ λ is. c.in_default-as_str.not-fours (c.as_str.ensures.value ∙ is)
+    ] in
+    record { form = λ h. no-command _ _ other (subst HasForm words h) }

@@ -1,0 +1,30 @@
+use Rattle.std.proofs.Common.{◌≡◌, length, arith}
+use Rattle.std.specs.Prelude.{string_bytes}
+use Rattle.std.specs.Fmt.{decimal}
+use Rattle.renju_cli.proofs.Words.{same-count, two-words}
+use Rattle.renju_cli.proofs.FoursLaws.{no-fours}
+use Rattle.renju_cli.proofs.fours.form.Goals as goal
+
+-- fewer words than two, or more
+pub returns-in_default : goal.returns-in_default
+returns-in_default c = record { form = no-fours _ (λ depth nodes deep many is. let count : length c.args.rest.now ≡ 2 = same-count string_bytes _ _ is in omega (arith, count)) }
+
+pub returns-in_default-2 : goal.returns-in_default-2
+returns-in_default-2 c = record { form = no-fours _ (λ depth nodes deep many is. let count : length c.args.rest.now ≡ 2 = same-count string_bytes _ _ is in omega (arith, count)) }
+
+-- a word that is no number in its range
+pub returns-in_err-depth : goal.returns-in_err-depth
+returns-in_err-depth c = rw c.from_residual.ensures (record {
+  form = no-fours _ (λ depth nodes deep many is.
+      let words = two-words string_bytes c.args.rest.now c.depth-item.result c.nodes-item.result (omega arith) c.depth-item.is c.nodes-item.is in
+      let same : string_bytes c.depth-item.result ≡ decimal depth = cc in
+      c.in_err-depth.ensures.number depth (rw c.from.ensures deep) same);
+})
+
+pub returns-in_err-nodes : goal.returns-in_err-nodes
+returns-in_err-nodes c = rw c.from_residual-in_err-nodes.ensures (record {
+  form = no-fours _ (λ depth nodes deep many is.
+      let words = two-words string_bytes c.args.rest.now c.depth-item.result c.nodes-item.result (omega arith) c.depth-item.is c.nodes-item.is in
+      let same : string_bytes c.nodes-item.result ≡ decimal nodes = cc in
+      c.in_err-nodes.ensures.number nodes many same);
+})
