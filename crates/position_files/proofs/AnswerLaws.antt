@@ -1,5 +1,5 @@
 -- Replies and answers are spelled in one way.
-use Rattle.std.proofs.Common.{◌≡◌, ℕ, ◌≤◌, true, refl, sym, ap, subst, ◌∙◌, arith, List, [], ◌∷◌, ◌++◌, get_or, inl, inr}
+use Rattle.std.proofs.Common.{◌≡◌, ℕ, true, refl, sym, ap, subst, ◌∙◌, arith, List, [], ◌∷◌, ◌++◌, get_or, inl, inr, ◌<◌, ◌^◌}
 use Rattle.std.specs.Prelude.{Option, Some, None, Err, codes}
 use Rattle.std.specs.List.{AllByRecursion}
 use Rattle.std.specs.Fmt.{decimal}
@@ -12,30 +12,32 @@ use Rattle.strategy_graph.specs.declared.Reply.{Reply}
 use Rattle.strategy_graph.specs.declared.Rest.{Rest}
 use Rattle.strategy_graph.specs.declared.Rest.TheVariants.{Wins, To, Nothing}
 use Rattle.strategy_graph.specs.declared.Node.{Node}
-use Rattle.position_files.specs.declared.faults.Fault.{Fault}
-use Rattle.position_files.specs.declared.faults.Fault.TheVariants.{Bad, Memory}
-use Rattle.position_files.specs.Lines.{line_feed}
-use Rattle.position_files.specs.Positions.{space, point_text}
+use Rattle.text_lines.specs.declared.fault.Fault.{Fault}
+use Rattle.text_lines.specs.declared.fault.Fault.TheVariants.{Bad, Memory}
+use Rattle.text_lines.specs.Lines.{line_feed}
+use Rattle.text_lines.specs.Spellings.{space, point_text}
+use Rattle.position_files.proofs.Spellings.{side_fits}
 use Rattle.position_files.specs.Tables.{arrow, reply_text, replies_text, rest_text, answers_text, node_line, start_line}
-use Rattle.position_files.specs.Reading.{Reads, Gives, ReadsLine, GivesLine, IsWithin, IsSide, is_free, tail_text}
+use Rattle.text_lines.specs.Reading.{Reads, Gives, ReadsLine, GivesLine, IsWithin, is_free, tail_text}
+use Rattle.position_files.specs.Boards.{IsSide}
 use Rattle.position_files.specs.Answers.{ReplyFits, RestFits, AnswersFit, NodeFits, StartFits, answers_with}
-use Rattle.position_files.proofs.Cuts.{same_word, is_free-append}
-use Rattle.position_files.proofs.Numbers.{decimal-free}
-use Rattle.position_files.proofs.Items.{AreItems, items_tail, items_text-injective}
-use Rattle.position_files.proofs.Spellings.{point_items, point-free}
-use Rattle.position_files.proofs.LineLaws.{prefix_none, prefix_bad}
+use Rattle.text_lines.proofs.Cuts.{same_word, is_free-append}
+use Rattle.text_lines.proofs.Decimals.{decimal-free}
+use Rattle.text_lines.proofs.Items.{AreItems, items_tail, items_text-injective}
+use Rattle.text_lines.proofs.PointLaws.{point_items, point-free}
+use Rattle.text_lines.proofs.LineLaws.{prefix_none, prefix_bad}
 
 module _ (width height : ℕ) (wide : IsSide width) (high : IsSide height) where
   -- ---- replies
 
   reply_words : (word a : List ℕ) (t : Option (List ℕ)) (r : Reply) → ReplyFits width height r → word ≡ a ++ tail_text arrow t → is_free arrow a ≡ true → word ≡ reply_text r → (a ≡ point_text r.at) × (t ≡ Some (decimal r.next))
   reply_words word a t r fits parts free e =
-      same_word arrow a t (point_text r.at) (Some (decimal r.next)) free (point-free arrow width height (inr (omega arith)) (λ same. absurd (omega arith)) wide high r.at fits.at) (sym parts ∙ e)
+      same_word arrow a t (point_text r.at) (Some (decimal r.next)) free (point-free arrow width height (inr (omega arith)) (λ same. absurd (omega arith)) (side_fits width wide) (side_fits height high) r.at fits.at) (sym parts ∙ e)
 
   pub bad_at : (word a : List ℕ) (t : Option (List ℕ)) → word ≡ a ++ tail_text arrow t → is_free arrow a ≡ true → ((p : Point) → IsWithin width height p → a ≡ point_text p → ⊥) → (r : Reply) → ReplyFits width height r → word ≡ reply_text r → ⊥
   bad_at word a t parts free none r fits e = none r.at fits.at (reply_words word a t r fits parts free e).0
 
-  pub bad_next : (word a b : List ℕ) (t : Option (List ℕ)) → word ≡ a ++ tail_text arrow t → is_free arrow a ≡ true → t ≡ Some b → ((n : ℕ) → n ≤ 1000000 → b ≡ decimal n → ⊥) → (r : Reply) → ReplyFits width height r → word ≡ reply_text r → ⊥
+  pub bad_next : (word a b : List ℕ) (t : Option (List ℕ)) → word ≡ a ++ tail_text arrow t → is_free arrow a ≡ true → t ≡ Some b → ((n : ℕ) → n < 2 ^ 32 → b ≡ decimal n → ⊥) → (r : Reply) → ReplyFits width height r → word ≡ reply_text r → ⊥
   bad_next word a b t parts free is none r fits e =
       let words = reply_words word a t r fits parts free e in
       let same : Some b ≡ Some (decimal r.next) = sym is ∙ words.1 in
@@ -45,12 +47,12 @@ module _ (width height : ℕ) (wide : IsSide width) (high : IsSide height) where
   reply_items = record {
     free = λ r fits.
         let next = fits.next in
-        is_free-append space (point_text r.at) (arrow ∷ decimal r.next) ((point_items width height wide high).free r.at fits.at) (decimal-free space r.next (inl (omega arith)) (omega (arith, next)));
+        is_free-append space (point_text r.at) (arrow ∷ decimal r.next) ((point_items width height (side_fits width wide) (side_fits height high)).free r.at fits.at) (decimal-free space r.next (inl (omega arith)) (omega (arith, next)));
     injective = λ r s fr fs e.
         let next_r = fr.next in
         let next_s = fs.next in
-        let words = reply_words (reply_text r) (point_text r.at) (Some (decimal r.next)) s fs refl (point-free arrow width height (inr (omega arith)) (λ same. absurd (omega arith)) wide high r.at fr.at) e in
-        let at : r.at ≡ s.at = (point_items width height wide high).injective r.at s.at fr.at fs.at words.0 in
+        let words = reply_words (reply_text r) (point_text r.at) (Some (decimal r.next)) s fs refl (point-free arrow width height (inr (omega arith)) (λ same. absurd (omega arith)) (side_fits width wide) (side_fits height high) r.at fr.at) e in
+        let at : r.at ≡ s.at = (point_items width height (side_fits width wide) (side_fits height high)).injective r.at s.at fr.at fs.at words.0 in
         let texts : decimal r.next ≡ decimal s.next = let f = words.1 in cc in
         let next : r.next ≡ s.next = decimal_injective r.next s.next (omega (arith, next_r)) (omega (arith, next_s)) texts in
         λ i. record { at = at i; next = next i };
@@ -74,14 +76,14 @@ no_rest_word bytes word tail parts free not_wins not_only not_rest (Wins, after)
 no_rest_word bytes word tail parts free not_wins not_only not_rest (To j, after) fits e = not_rest (rest_words bytes word tail (To j) after parts free e).0
 no_rest_word bytes word tail parts free not_wins not_only not_rest (Nothing, after) fits e = not_only (rest_words bytes word tail Nothing after parts free e).0
 
-pub no_rest_number : (bytes word text next : List ℕ) (tail after_next : Option (List ℕ)) → bytes ≡ word ++ tail_text space tail → is_free space word ≡ true → (word ≡ codes "wins" → ⊥) → (word ≡ codes "only" → ⊥) → tail ≡ Some text → text ≡ next ++ tail_text space after_next → is_free space next ≡ true → ((n : ℕ) → n ≤ 1000000 → next ≡ decimal n → ⊥)
+pub no_rest_number : (bytes word text next : List ℕ) (tail after_next : Option (List ℕ)) → bytes ≡ word ++ tail_text space tail → is_free space word ≡ true → (word ≡ codes "wins" → ⊥) → (word ≡ codes "only" → ⊥) → tail ≡ Some text → text ≡ next ++ tail_text space after_next → is_free space next ≡ true → ((n : ℕ) → n < 2 ^ 32 → next ≡ decimal n → ⊥)
     → (found : Rest × Option (List ℕ)) → RestFits found.0 → bytes ≡ rest_text found.0 ++ tail_text space found.1 → ⊥
 no_rest_number bytes word text next tail after_next parts free not_wins not_only is text_parts free_next none (Wins, after) fits e = not_wins (rest_words bytes word tail Wins after parts free e).0
 no_rest_number bytes word text next tail after_next parts free not_wins not_only is text_parts free_next none (To j, after) fits e =
     let words = rest_words bytes word tail (To j) after parts free e in
     let whole : Some text ≡ Some (decimal j ++ tail_text space after) = sym is ∙ words.1 in
     let text_is : text ≡ decimal j ++ tail_text space after = let f : text ≡ decimal j ++ tail_text space after = cc in f in
-    let few : j ≤ 1000000 = fits in
+    let few : j < 2 ^ 32 = fits in
     none j fits (same_word space next after_next (decimal j) after free_next (decimal-free space j (inl (omega arith)) (omega (arith, few))) (sym text_parts ∙ text_is)).0
 no_rest_number bytes word text next tail after_next parts free not_wins not_only is text_parts free_next none (Nothing, after) fits e = not_only (rest_words bytes word tail Nothing after parts free e).0
 
@@ -92,8 +94,8 @@ rest_same Wins t (To k) u fr fq e = let first : 119 ≡ 114 = ap (λ (l : List �
 rest_same Wins t Nothing u fr fq e = let first : 119 ≡ 111 = ap (λ (l : List ℕ). get_or l 0 0) e in absurd (omega (arith, first))
 rest_same (To j) t Wins u fr fq e = let first : 114 ≡ 119 = ap (λ (l : List ℕ). get_or l 0 0) e in absurd (omega (arith, first))
 rest_same (To j) t (To k) u fr fq e =
-    let few_j : j ≤ 1000000 = fr in
-    let few_k : k ≤ 1000000 = fq in
+    let few_j : j < 2 ^ 32 = fr in
+    let few_k : k < 2 ^ 32 = fq in
     let numbers : decimal j ++ tail_text space t ≡ decimal k ++ tail_text space u = append_cancel_left (codes "rest ") (decimal j ++ tail_text space t) (decimal k ++ tail_text space u) e in
     let same = same_word space (decimal j) t (decimal k) u (decimal-free space j (inl (omega arith)) (omega (arith, few_j))) (decimal-free space k (inl (omega arith)) (omega (arith, few_k))) numbers in
     (ap To (decimal_injective j k (omega (arith, few_j)) (omega (arith, few_k)) same.0), same.1)
@@ -129,7 +131,7 @@ module _ (width height : ℕ) (wide : IsSide width) (high : IsSide height) where
 
   pub node_words : (line a : List ℕ) (t : Option (List ℕ)) (n : Node) → NodeFits width height n → line ≡ a ++ tail_text space t → is_free space a ≡ true → line ≡ node_line n → (a ≡ point_text n.attack) × (t ≡ Some (answers_text (answers_of n)))
   node_words line a t n fits parts free e =
-      same_word space a t (point_text n.attack) (Some (answers_text (answers_of n))) free ((point_items width height wide high).free n.attack fits.attack) (sym parts ∙ e)
+      same_word space a t (point_text n.attack) (Some (answers_text (answers_of n))) free ((point_items width height (side_fits width wide) (side_fits height high)).free n.attack fits.attack) (sym parts ∙ e)
 
   pub bad_attack : (line a : List ℕ) (t : Option (List ℕ)) → line ≡ a ++ tail_text space t → is_free space a ≡ true → ((p : Point) → IsWithin width height p → a ≡ point_text p → ⊥) → (n : Node) → NodeFits width height n → line ≡ node_line n → ⊥
   bad_attack line a t parts free none n fits e = none n.attack fits.attack (node_words line a t n fits parts free e).0
@@ -145,7 +147,7 @@ module _ (width height : ℕ) (wide : IsSide width) (high : IsSide height) where
 rest-free : (r : Rest) → RestFits r → is_free line_feed (rest_text r) ≡ true
 rest-free Wins fits = refl
 rest-free (To j) fits =
-    let few : j ≤ 1000000 = fits in
+    let few : j < 2 ^ 32 = fits in
     is_free-append line_feed (codes "rest ") (decimal j) refl (decimal-free line_feed j (inl (omega arith)) (omega (arith, few)))
 rest-free Nothing fits = refl
 
@@ -154,7 +156,7 @@ module _ (width height : ℕ) (wide : IsSide width) (high : IsSide height) where
   replies-free [] all = refl
   replies-free (r ∷ rs) all =
       let next = all.0.next in
-      let point = point-free line_feed width height (inl (omega arith)) (λ e. absurd (omega (arith, e))) wide high r.at all.0.at in
+      let point = point-free line_feed width height (inl (omega arith)) (λ e. absurd (omega (arith, e))) (side_fits width wide) (side_fits height high) r.at all.0.at in
       let number = decimal-free line_feed r.next (inl (omega arith)) (omega (arith, next)) in
       is_free-append line_feed (space ∷ reply_text r) (replies_text rs) (is_free-append line_feed (point_text r.at) (arrow ∷ decimal r.next) point number) (replies-free rs all.1)
 
@@ -163,7 +165,7 @@ module _ (width height : ℕ) (wide : IsSide width) (high : IsSide height) where
 
   pub node_line-free : (n : Node) → NodeFits width height n → is_free line_feed (node_line n) ≡ true
   node_line-free n fits =
-      is_free-append line_feed (point_text n.attack) (space ∷ answers_text (answers_of n)) (point-free line_feed width height (inl (omega arith)) (λ e. absurd (omega (arith, e))) wide high n.attack fits.attack) (answers-free (answers_of n) fits.answers)
+      is_free-append line_feed (point_text n.attack) (space ∷ answers_text (answers_of n)) (point-free line_feed width height (inl (omega arith)) (λ e. absurd (omega (arith, e))) (side_fits width wide) (side_fits height high) n.attack fits.attack) (answers-free (answers_of n) fits.answers)
 
   -- a text spells one list of answers
   pub answers_text-injective : (a b : Answers) → AnswersFit width height a → AnswersFit width height b → answers_text a ≡ answers_text b → a ≡ b
@@ -179,8 +181,8 @@ module _ (width height : ℕ) (wide : IsSide width) (high : IsSide height) where
   -- a text spells one node
   pub node_line-injective : (n m : Node) → NodeFits width height n → NodeFits width height m → node_line n ≡ node_line m → n ≡ m
   node_line-injective n m fn fm e =
-      let words = node_words width height wide high (node_line n) (point_text n.attack) (Some (answers_text (answers_of n))) m fm refl ((point_items width height wide high).free n.attack fn.attack) e in
-      let attack = (point_items width height wide high).injective n.attack m.attack fn.attack fm.attack words.0 in
+      let words = node_words width height wide high (node_line n) (point_text n.attack) (Some (answers_text (answers_of n))) m fm refl ((point_items width height (side_fits width wide) (side_fits height high)).free n.attack fn.attack) e in
+      let attack = (point_items width height (side_fits width wide) (side_fits height high)).injective n.attack m.attack fn.attack fm.attack words.0 in
       let same = answers_text-injective (answers_of n) (answers_of m) fn.answers fm.answers (same_Some (answers_text (answers_of n)) (answers_text (answers_of m)) words.1) in
       let replies = ap (λ (a : Answers). a.replies) same in
       let rests = ap (λ (a : Answers). a.rest) same in
@@ -188,6 +190,9 @@ module _ (width height : ℕ) (wide : IsSide width) (high : IsSide height) where
 
   start-free : (len : ℕ) (a : Answers) → StartFits width height len a → is_free line_feed (answers_text a) ≡ true
   start-free len a fits = answers-free a fits.answers
+
+  pub start_line-free : (len : ℕ) (a : Answers) → StartFits width height len a → is_free line_feed (start_line a) ≡ true
+  start_line-free len a fits = is_free-append line_feed (codes "start ") (answers_text a) refl (start-free len a fits)
 
   pub no_start : (bytes : List ℕ) (len : ℕ) → ReadsLine (λ (text : List ℕ). is_free line_feed text ≡ true) (λ text. codes "start " ++ text) None bytes → ReadsLine (StartFits width height len) start_line None bytes
   no_start bytes len none = prefix_none (StartFits width height len) answers_text (start-free len) (codes "start ") bytes none

@@ -1,6 +1,6 @@
 -- The lines of a board.
-use Rattle.std.proofs.Common.{◌≡◌, ℕ, true, sym, ap, subst, ◌∙◌, List, [], ◌∷◌, ◌++◌, append_assoc}
-use Rattle.std.specs.Prelude.{Err, codes}
+use Rattle.std.proofs.Common.{◌≡◌, ℕ, true, sym, ap, subst, ◌∙◌, List, [], ◌∷◌, ◌++◌}
+use Rattle.std.specs.Prelude.{codes}
 use Rattle.std.specs.List.{AllByRecursion}
 use Rattle.std.proofs.lemmas.List.{append_cancel_left}
 use Rattle.game_rules.specs.Grid.{Grid, IsBoard}
@@ -8,21 +8,18 @@ use Rattle.game_rules.specs.declared.RuleKind.{RuleKind}
 use Rattle.game_rules.specs.declared.Side.{Side}
 use Rattle.game_rules.specs.declared.Side.TheVariants.{Black, White}
 use Rattle.game_rules.specs.declared.Point.{Point}
-use Rattle.position_files.specs.declared.faults.Fault.{Fault}
-use Rattle.position_files.specs.declared.faults.Fault.TheVariants.{Bad, Memory}
-use Rattle.position_files.specs.Lines.{line_feed, text_of}
-use Rattle.position_files.specs.Positions.{point_text, points_text, stones, rule_line, size_line, black_line, white_line, board_lines}
-use Rattle.position_files.specs.Reading.{Gives, AreSides, IsSide, IsWithin, SameBut, is_free}
-use Rattle.position_files.proofs.Cuts.{is_free-append}
-use Rattle.position_files.proofs.Items.{items_text-injective}
-use Rattle.position_files.proofs.Spellings.{point_items}
+use Rattle.text_lines.specs.Lines.{line_feed, text_of}
+use Rattle.text_lines.specs.Spellings.{point_text, points_text}
+use Rattle.position_files.proofs.Spellings.{side_fits}
+use Rattle.position_files.specs.Positions.{stones, rule_line, size_line, black_line, white_line, board_lines}
+use Rattle.text_lines.specs.Reading.{IsWithin, is_free}
+use Rattle.position_files.specs.Boards.{AreSides, IsSide, SameBut}
+use Rattle.text_lines.proofs.Cuts.{is_free-append}
+use Rattle.text_lines.proofs.Items.{items_text-injective}
+use Rattle.text_lines.proofs.PointLaws.{point_items, points-free}
 use Rattle.position_files.proofs.Stones.{stones-within, stones-empty, empty_board}
-use Rattle.position_files.proofs.LineLaws.{same_line, points-free}
-
--- a reader that answers Bad says that nothing is spelled so
-pub gives_bad : {X : Type 0} (Fits : X → Type 0) (spelling : X → List ℕ) (fault : Fault) (line : List ℕ) → fault ≡ Bad → Gives Fits spelling (Err fault) line → (x : X) → Fits x → line ≡ spelling x → ⊥
-gives_bad Fits spelling Bad line e h = h
-gives_bad Fits spelling Memory line e h = absurd cc
+use Rattle.text_lines.proofs.LineLaws.{same_line}
+use Rattle.text_lines.proofs.TextLaws.{text_of-cons}
 
 pub width_side : (b : Grid) → IsBoard b → IsSide b.width
 width_side b ok = record { long = ok.wide; fits = ok.width_fits }
@@ -33,7 +30,7 @@ height_side b ok = record { long = ok.high; fits = ok.height_fits }
 -- where the first line lists the stones of a board, it is this line
 pub stones_first : (b : Grid) (s : Side) (word l rest others bytes : List ℕ) → IsBoard b → is_free line_feed word ≡ true → is_free line_feed l ≡ true → bytes ≡ l ++ line_feed ∷ rest → bytes ≡ (word ++ points_text (stones b s)) ++ line_feed ∷ others → l ≡ word ++ points_text (stones b s)
 stones_first b s word l rest others bytes ok free_word free_l parts e =
-    let points = points-free b.width b.height (width_side b ok) (height_side b ok) (stones b s) (stones-within b s) in
+    let points = points-free b.width b.height (side_fits b.width (width_side b ok)) (side_fits b.height (height_side b ok)) (stones b s) (stones-within b s) in
     (same_line l rest (word ++ points_text (stones b s)) others free_l (is_free-append line_feed word (points_text (stones b s)) free_word points) (sym parts ∙ e)).0
 
 -- the stones of a board of this size are points within it
@@ -46,13 +43,7 @@ stones_fit first b s same =
 pub listed_stones : (first b : Grid) (s : Side) (word l : List ℕ) (ps : List Point) → IsBoard first → SameBut s first b → AllByRecursion (IsWithin first.width first.height) ps → l ≡ word ++ points_text ps → l ≡ word ++ points_text (stones b s) → stones b s ≡ ps
 listed_stones first b s word l ps ok same fits read spelled =
     let text : points_text (stones b s) ≡ points_text ps = append_cancel_left word (points_text (stones b s)) (points_text ps) (sym spelled ∙ read) in
-    items_text-injective (IsWithin first.width first.height) point_text (point_items first.width first.height (width_side first ok) (height_side first ok)) (stones b s) ps (stones_fit first b s same) fits text
-
--- a line before lines
-pub text_of-cons : (l : List ℕ) (ls : List (List ℕ)) (rest : List ℕ) → l ++ line_feed ∷ (text_of ls ++ rest) ≡ text_of (l ∷ ls) ++ rest
-text_of-cons l ls rest =
-    let one : l ++ line_feed ∷ (text_of ls ++ rest) ≡ (l ++ line_feed ∷ []) ++ (text_of ls ++ rest) = sym (append_assoc l (line_feed ∷ []) (text_of ls ++ rest)) in
-    one ∙ sym (append_assoc (l ++ line_feed ∷ []) (text_of ls) rest)
+    items_text-injective (IsWithin first.width first.height) point_text (point_items first.width first.height (side_fits first.width (width_side first ok)) (side_fits first.height (height_side first ok))) (stones b s) ps (stones_fit first b s same) fits text
 
 -- the four lines of a board
 pub board_text : (kind : RuleKind) (b : Grid) (bytes r1 r2 r3 rest : List ℕ) → bytes ≡ rule_line kind ++ line_feed ∷ r1 → r1 ≡ size_line b.width b.height ++ line_feed ∷ r2 → r2 ≡ black_line b ++ line_feed ∷ r3 → r3 ≡ white_line b ++ line_feed ∷ rest → bytes ≡ text_of (board_lines kind b) ++ rest

@@ -1,5 +1,5 @@
 -- Where bytes leave the lines of a board, and that lines spell one board.
-use Rattle.std.proofs.Common.{◌≡◌, ℕ, ◌+◌, Bool, true, false, refl, sym, ap, subst, ◌∙◌, arith, List, [], ◌∷◌, ◌++◌, length, take, map, get_or}
+use Rattle.std.proofs.Common.{◌≡◌, ℕ, ◌+◌, ◌≤◌, Bool, true, false, refl, sym, ap, subst, ◌∙◌, arith, List, [], ◌∷◌, ◌++◌, length, take, map, get_or}
 use Rattle.std.specs.Prelude.{None, codes}
 use Rattle.std.specs.List.{AllByRecursion}
 use Rattle.std.proofs.lemmas.List.{append_cancel_left, length-map, ext_get_or}
@@ -7,25 +7,28 @@ use Rattle.game_rules.specs.Grid.{Grid, IsBoard, is_stone_of}
 use Rattle.game_rules.specs.declared.Cell.{Cell}
 use Rattle.game_rules.specs.declared.Cell.TheVariants.{Empty, Black as BlackStone, White as WhiteStone}
 use Rattle.game_rules.specs.declared.Point.{Point}
+use Rattle.game_rules.specs.declared.TheConstants.{MIN_SIDE}
 use Rattle.game_rules.specs.declared.RuleKind.{RuleKind}
 use Rattle.game_rules.specs.declared.RuleKind.TheVariants.{Freestyle, Exact, Renju}
 use Rattle.game_rules.specs.declared.Side.{Side}
 use Rattle.game_rules.specs.declared.Side.TheVariants.{Black, White}
-use Rattle.position_files.specs.declared.faults.Fault.{Fault}
-use Rattle.position_files.specs.declared.faults.Fault.TheVariants.{Bad, Memory}
-use Rattle.position_files.specs.Faults.{at_line}
-use Rattle.position_files.specs.Lines.{line_feed, text_of}
-use Rattle.position_files.specs.Positions.{point_text, points_text, stones, rule_word, rule_line, size_text, size_line, black_line, white_line, board_lines}
-use Rattle.position_files.specs.Reading.{ReadsLine, AreSides, IsSide, IsWithin, SameBut, is_free}
-use Rattle.position_files.specs.Sections.{LeavesAt, IsBoardLines, IsFaultFrom}
-use Rattle.position_files.proofs.Cuts.{is_free-append}
-use Rattle.position_files.proofs.Items.{items_text-injective}
-use Rattle.position_files.proofs.Spellings.{point_items, size_text-injective}
+use Rattle.text_lines.specs.declared.fault.Fault.{Fault}
+use Rattle.text_lines.specs.declared.fault.Fault.TheVariants.{Bad, Memory}
+use Rattle.position_files.specs.Faults.{IsUpTo, at_line}
+use Rattle.text_lines.specs.Lines.{line_feed, text_of, LeavesAt}
+use Rattle.text_lines.specs.Spellings.{point_text, points_text}
+use Rattle.position_files.specs.Positions.{stones, rule_word, rule_line, size_text, size_line, black_line, white_line, board_lines}
+use Rattle.text_lines.specs.Reading.{ReadsLine, IsWithin, is_free}
+use Rattle.position_files.specs.Boards.{AreSides, IsSide, SameBut}
+use Rattle.position_files.specs.Sections.{IsBoardLines, IsSectionFault}
+use Rattle.text_lines.proofs.Cuts.{is_free-append}
+use Rattle.text_lines.proofs.Items.{items_text-injective}
+use Rattle.text_lines.proofs.PointLaws.{point_items, points-free}
+use Rattle.position_files.proofs.Spellings.{size_text-injective, side_fits}
 use Rattle.position_files.proofs.Stones.{point_at, marked, stones-marked, stones-within, same_tests, empty_board, IsBoard-empty}
-use Rattle.position_files.proofs.LineLaws.{points-free, rule_word-free, size-free}
-use Rattle.position_files.proofs.BoardLaws.{text_of-cons, width_side, height_side, none_at_first}
-use Rattle.position_files.proofs.NodeLaws.{text_of-push}
-use Rattle.position_files.proofs.Pieces.{AreFree, same_lines}
+use Rattle.position_files.proofs.Spellings.{rule_word-free, size-free}
+use Rattle.text_lines.proofs.TextLaws.{text_of-cons, text_of-push, AreFree, same_lines}
+use Rattle.position_files.proofs.BoardLaws.{width_side, height_side, none_at_first}
 
 -- ---- no line feed stands in these lines
 
@@ -39,7 +42,7 @@ size_line-free : (width height : ℕ) → AreSides (width, height) → is_free l
 size_line-free width height sides = is_free-append line_feed (codes "size ") (size_text width height) refl (size-free (width, height) sides)
 
 stones-free : (word : List ℕ) (b : Grid) (s : Side) → IsBoard b → is_free line_feed word ≡ true → is_free line_feed (word ++ points_text (stones b s)) ≡ true
-stones-free word b s ok free = is_free-append line_feed word (points_text (stones b s)) free (points-free b.width b.height (width_side b ok) (height_side b ok) (stones b s) (stones-within b s))
+stones-free word b s ok free = is_free-append line_feed word (points_text (stones b s)) free (points-free b.width b.height (side_fits b.width (width_side b ok)) (side_fits b.height (height_side b ok)) (stones b s) (stones-within b s))
 
 pub board-free : (kind : RuleKind) (b : Grid) → IsBoard b → AreFree (board_lines kind b)
 unfolding board_lines
@@ -130,7 +133,7 @@ pub same_stones : (word : List ℕ) (a b : Grid) (s : Side) → IsBoard a → a.
 same_stones word a b s ok w h e =
     let fits : AllByRecursion (IsWithin a.width a.height) (stones b s) =
     subst (λ n. AllByRecursion (IsWithin n a.height) (stones b s)) (sym w) (subst (λ n. AllByRecursion (IsWithin b.width n) (stones b s)) (sym h) (stones-within b s)) in
-    items_text-injective (IsWithin a.width a.height) point_text (point_items a.width a.height (width_side a ok) (height_side a ok)) (stones a s) (stones b s) (stones-within a s) fits
+    items_text-injective (IsWithin a.width a.height) point_text (point_items a.width a.height (side_fits a.width (width_side a ok)) (side_fits a.height (height_side a ok))) (stones a s) (stones b s) (stones-within a s) fits
     (append_cancel_left word (points_text (stones a s)) (points_text (stones b s)) e)
 
 rule_known : (kind other : RuleKind) → rule_line kind ≡ rule_line other → kind ≡ other
@@ -157,20 +160,25 @@ board_lines-injective kind other a b ok_a ok_b e =
 
 -- ---- where bytes leave the lines of a board
 
-pub fault_at : (IsLines : List (List ℕ) → Type 0) (bytes : List ℕ) (first i : ℕ) (fault : Fault) → (fault ≡ Bad → LeavesAt IsLines bytes i) → IsFaultFrom first IsLines bytes (at_line fault (first + i))
-fault_at IsLines bytes first i Bad h = (i, refl, h refl)
-fault_at IsLines bytes first i Memory h = tt
+pub fault_at : (IsLines : List (List ℕ) → Type 0) (bytes : List ℕ) (i : ℕ) (fault : Fault) → (fault ≡ Bad → LeavesAt IsLines bytes i) → IsSectionFault IsLines bytes (at_line fault (i + 1))
+fault_at IsLines bytes i Bad h = (i, refl, h refl)
+fault_at IsLines bytes i Memory h = tt
 
-pub five : IsSide 5
-five = record { long = omega arith; fits = omega arith }
+-- the error of a fault names the line of the fault, if it names one
+pub up_to_at : (most line : ℕ) (fault : Fault) → line ≤ most → IsUpTo most (at_line fault line)
+up_to_at most line Bad few = few
+up_to_at most line Memory few = tt
+
+pub least_side : IsSide MIN_SIDE
+least_side = record { long = omega arith; fits = omega arith }
 
 module _ (bytes : List ℕ) where
   pub no_rule_line : ReadsLine (λ (_ : RuleKind). Unit {0}) rule_line None bytes → LeavesAt IsBoardLines bytes 0
   unfolding board_lines
   no_rule_line none = record {
-    lines = board_lines Freestyle (empty_board 5 5);
+    lines = board_lines Freestyle (empty_board MIN_SIDE MIN_SIDE);
     rest = bytes;
-    are = (Freestyle, empty_board 5 5, IsBoard-empty 5 5 five five, refl);
+    are = (Freestyle, empty_board MIN_SIDE MIN_SIDE, IsBoard-empty MIN_SIDE MIN_SIDE least_side least_side, refl);
     enough = omega arith;
     so_far = refl;
     no_further = λ ls others is e.
@@ -185,9 +193,9 @@ module _ (bytes : List ℕ) where
     pub no_size_line : ReadsLine AreSides (λ sides. size_line sides.0 sides.1) None r1 → LeavesAt IsBoardLines bytes 1
     unfolding board_lines
     no_size_line none = record {
-      lines = board_lines kind (empty_board 5 5);
+      lines = board_lines kind (empty_board MIN_SIDE MIN_SIDE);
       rest = r1;
-      are = (kind, empty_board 5 5, IsBoard-empty 5 5 five five, refl);
+      are = (kind, empty_board MIN_SIDE MIN_SIDE, IsBoard-empty MIN_SIDE MIN_SIDE least_side least_side, refl);
       enough = omega arith;
       so_far = first_line;
       no_further = λ ls others is e.

@@ -12,10 +12,12 @@ use Rattle.strategy_graph.specs.declared.Reply.{Reply}
 use Rattle.strategy_graph.specs.declared.Rest.{Rest}
 use Rattle.strategy_graph.specs.declared.Rest.TheVariants.{Wins, To, Nothing}
 use Rattle.strategy_graph.specs.declared.Node.{Node}
+use Rattle.strategy_graph.specs.declared.TheConstants.{MAX_NODES}
 use Rattle.strategy_graph.proofs.Naming.{reply-below, rest-below}
 use Rattle.strategy_graph.proofs.Filling.{IsTable-push}
 use Rattle.position_files.specs.Tables.{NodeOn, RepliesOn}
-use Rattle.position_files.specs.Reading.{IsWithin}
+use Rattle.text_lines.specs.Reading.{IsWithin}
+use Rattle.position_files.specs.Boards.{IsSide}
 use Rattle.position_files.specs.Answers.{AnswersFit, NodeFits, ReplyFits, RestFits}
 use Rattle.position_files.proofs.Stones.{is_on_within}
 
@@ -26,22 +28,28 @@ corner = record { attack = record { x = 0; y = 0 }; replies = []; rest = Wins }
 corner_node : (i : ℕ) → IsNode corner i
 corner_node i = record { below = refl; rising = refl; winning = λ wins. refl }
 
-corner_on : (b : Grid) → IsBoard b → NodeOn b corner
+pub corner_on : (b : Grid) → IsBoard b → NodeOn b corner
 corner_on b ok = record { attack = is_on_within b (record { x = 0; y = 0 }) (record { column = let w = ok.wide in omega (arith, w); row = let h = ok.high in omega (arith, h) }); replies = tt }
 
-pub filled_table : (m : ℕ) (nodes : List Node) → IsTable nodes → length nodes + m ≤ 1000000 → IsTable (nodes ++ replicate m corner)
+pub filled_table : (m : ℕ) (nodes : List Node) → IsTable nodes → length nodes + m ≤ MAX_NODES → IsTable (nodes ++ replicate m corner)
 filled_table zero nodes table few = subst IsTable (sym (append-nil nodes)) table
 filled_table (suc m) nodes table few =
     let count = length-append nodes (corner ∷ []) in
     subst IsTable (append_assoc nodes (corner ∷ []) (replicate m corner)) (filled_table m (nodes ++ corner ∷ []) (IsTable-push nodes corner table (corner_node (length nodes)) (omega arith)) (omega (arith, count)))
 
-corners_on : (b : Grid) (m : ℕ) → IsBoard b → AllByRecursion (NodeOn b) (replicate m corner)
-corners_on b zero ok = tt
-corners_on b (suc m) ok = (corner_on b ok, corners_on b m ok)
+corner_fits : (width height : ℕ) → IsSide width → IsSide height → NodeFits width height corner
+corner_fits width height wide high =
+    let w = wide.long in
+    let h = high.long in
+    record { attack = record { column = omega (arith, w); row = omega (arith, h) }; answers = record { replies = tt; rest = tt; winning = λ wins. refl } }
 
-pub filled_on : (b : Grid) (m : ℕ) (nodes : List Node) → IsBoard b → AllByRecursion (NodeOn b) nodes → AllByRecursion (NodeOn b) (nodes ++ replicate m corner)
-filled_on b m [] ok all = corners_on b m ok
-filled_on b m (n ∷ ns) ok all = (all.0, filled_on b m ns ok all.1)
+corners_fit : (width height m : ℕ) → IsSide width → IsSide height → AllByRecursion (NodeFits width height) (replicate m corner)
+corners_fit width height zero wide high = tt
+corners_fit width height (suc m) wide high = (corner_fits width height wide high, corners_fit width height m wide high)
+
+pub filled_fit : (width height m : ℕ) (nodes : List Node) → IsSide width → IsSide height → AllByRecursion (NodeFits width height) nodes → AllByRecursion (NodeFits width height) (nodes ++ replicate m corner)
+filled_fit width height m [] wide high all = corners_fit width height m wide high
+filled_fit width height m (n ∷ ns) wide high all = (all.0, filled_fit width height m ns wide high all.1)
 
 pub filled_length : (m : ℕ) (nodes : List Node) → length (nodes ++ replicate m corner) ≡ length nodes + m
 filled_length m nodes = length-append nodes (replicate m corner) ∙ ap (λ n. length nodes + n) (length-replicate m corner)
@@ -60,12 +68,12 @@ all_from P (x ∷ xs) d h = (h 0 (omega arith), all_from P xs d (λ i within. h 
 within_on : (b : Grid) (p : Point) → is_on b p ≡ true → IsWithin b.width b.height p
 within_on b p on_it = record { column = on_x b p on_it; row = on_y b p on_it }
 
-rest_fits : (r : Rest) (k : ℕ) → k ≤ 1000000 → ((j : ℕ) → rest_node r ≡ Some j → j < k) → RestFits r
+rest_fits : (r : Rest) (k : ℕ) → k ≤ MAX_NODES → ((j : ℕ) → rest_node r ≡ Some j → j < k) → RestFits r
 rest_fits Wins k few h = tt
 rest_fits (To j) k few h = let low : j < k = h j refl in omega (arith, low, few)
 rest_fits Nothing k few h = tt
 
-pub answers_fit : (b : Grid) (a : Answers) (k : ℕ) → RepliesOn b a.replies → names_below a k ≡ true → k ≤ 1000000 → (is_winning a.rest ≡ true → a.replies ≡ []) → AnswersFit b.width b.height a
+pub answers_fit : (b : Grid) (a : Answers) (k : ℕ) → RepliesOn b a.replies → names_below a k ≡ true → k ≤ MAX_NODES → (is_winning a.rest ≡ true → a.replies ≡ []) → AnswersFit b.width b.height a
 answers_fit b a k on_it below few winning =
     let none : Reply = record { at = record { x = 0; y = 0 }; next = 0 } in
     record {
@@ -77,7 +85,7 @@ answers_fit b a k on_it below few winning =
       winning = winning;
     }
 
-pub node_fits : (b : Grid) (n : Node) (i : ℕ) → NodeOn b n → IsNode n i → i ≤ 1000000 → NodeFits b.width b.height n
+pub node_fits : (b : Grid) (n : Node) (i : ℕ) → NodeOn b n → IsNode n i → i ≤ MAX_NODES → NodeFits b.width b.height n
 node_fits b n i on_it is few = record {
   attack = within_on b n.attack on_it.attack;
   answers = answers_fit b (answers_of n) i on_it.replies is.below few is.winning;

@@ -1,6 +1,6 @@
 -- Texts that grow by one piece after another.
 use Rattle.std.proofs.Common.{◌≡◌, ℕ, ◌+◌, sym, ap, ◌∙◌, List, [], ◌∷◌, ◌++◌, append_assoc, take, map, length}
-use Rattle.std.specs.Prelude.{Result, Ok, Err, IfOk, Some, slice_get, codes}
+use Rattle.std.specs.Prelude.{Some, slice_get, codes}
 use Rattle.std.specs.Fmt.{decimal}
 use Rattle.std.proofs.lemmas.List.{map-append, take_more, flat_map_more}
 use Rattle.std.proofs.lemmas.List.Concat.{flat_map-append}
@@ -11,14 +11,9 @@ use Rattle.game_rules.specs.declared.RuleKind.{RuleKind}
 use Rattle.strategy_graph.specs.Tables.{Answers}
 use Rattle.strategy_graph.specs.declared.Node.{Node}
 use Rattle.strategy_graph.specs.declared.roots.Root.TheVariants.{Attack, Defend}
-use Rattle.position_files.specs.Lines.{ended, text_of}
+use Rattle.text_lines.specs.Lines.{ended, text_of}
 use Rattle.position_files.specs.Positions.{rule_line, size_line, black_line, white_line, board_lines}
 use Rattle.position_files.specs.Tables.{node_line, start_line, nodes_lines, table_text}
-
--- the same bytes, put together in another way
-pub regroup : {X E : Type 0} (bytes : X → List ℕ) (r : Result X E) (a b : List ℕ) → a ≡ b → IfOk r (λ t. bytes t ≡ a) → IfOk r (λ t. bytes t ≡ b)
-regroup bytes (Ok t) a b e h = h ∙ e
-regroup bytes (Err f) a b e h = tt
 
 five_lines : (a b c d e : List ℕ) → (((ended a ++ ended b) ++ ended c) ++ ended d) ++ ended e ≡ text_of (a ∷ b ∷ c ∷ d ∷ e ∷ [])
 five_lines a b c d e = simp append_assoc

@@ -1,7 +1,7 @@
 -- Nodes that are read one after another.
 use Rattle.std.proofs.Common.{◌≡◌, ℕ, ◌+◌, refl, sym, ap, ◌∙◌, arith, List, [], ◌∷◌, ◌++◌, length, map, append_assoc, length-append}
 use Rattle.std.specs.List.{AllByRecursion}
-use Rattle.std.proofs.lemmas.List.{map-append, append-nil}
+use Rattle.std.proofs.lemmas.List.{map-append}
 use Rattle.std.proofs.lemmas.List.Concat.{flat_map-append}
 use Rattle.std.specs.Prelude.{codes}
 use Rattle.std.specs.Fmt.{decimal}
@@ -9,13 +9,14 @@ use Rattle.game_rules.specs.Grid.{Grid}
 use Rattle.game_rules.specs.declared.RuleKind.{RuleKind}
 use Rattle.strategy_graph.specs.declared.Reply.{Reply}
 use Rattle.strategy_graph.specs.declared.Node.{Node}
-use Rattle.position_files.specs.Lines.{line_feed, ended, text_of}
+use Rattle.text_lines.specs.Lines.{line_feed, ended, text_of}
 use Rattle.position_files.specs.Positions.{board_lines}
 use Rattle.position_files.specs.Tables.{NodeOn, RepliesOn, node_line, nodes_lines}
 use Rattle.position_files.specs.Answers.{AddsNode, NodeFits, ReplyFits}
-use Rattle.position_files.proofs.Items.{all_push}
+use Rattle.text_lines.proofs.Items.{all_push}
+use Rattle.text_lines.proofs.TextLaws.{text_of-cons, text_of-push}
 use Rattle.position_files.proofs.Stones.{is_on_within}
-use Rattle.position_files.proofs.BoardLaws.{text_of-cons}
+use Rattle.text_lines.proofs.TextLaws.{text_of-cons}
 
 -- so many nodes have been read, and the bytes go on with the rest after their lines
 pub record AreRead (width height : ℕ) (nodes : List Node) (count : ℕ) (bytes rest : List ℕ) : Type 0 where
@@ -25,13 +26,6 @@ pub record AreRead (width height : ℕ) (nodes : List Node) (count : ℕ) (bytes
 
 pub none_read : (width height : ℕ) (bytes : List ℕ) → AreRead width height [] 0 bytes bytes
 none_read width height bytes = record { counted = refl; fit = tt; text = refl }
-
--- the text of one more line
-pub text_of-push : (ls : List (List ℕ)) (l rest : List ℕ) → text_of ls ++ (l ++ line_feed ∷ rest) ≡ text_of (ls ++ l ∷ []) ++ rest
-text_of-push ls l rest =
-    let one : text_of (l ∷ []) ≡ l ++ line_feed ∷ [] = append-nil (l ++ line_feed ∷ []) in
-    let joined : l ++ line_feed ∷ rest ≡ text_of (l ∷ []) ++ rest = sym (append_assoc l (line_feed ∷ []) rest) ∙ ap (λ (x : List ℕ). x ++ rest) (sym one) in
-    ap (λ (x : List ℕ). text_of ls ++ x) joined ∙ sym (append_assoc (text_of ls) (text_of (l ∷ [])) rest) ∙ ap (λ (x : List ℕ). x ++ rest) (sym (flat_map-append ended ls (l ∷ [])))
 
 pub one_read : (width height : ℕ) (old new : List Node) (count : ℕ) (bytes rest after : List ℕ) → AreRead width height old count bytes rest → AddsNode width height old new rest after → AreRead width height new (count + 1) bytes after
 one_read width height old new count bytes rest after h adds = record {

@@ -1,5 +1,10 @@
 -- A text is that of one value, and nothing is said against the text of a lawful one.
-use Rattle.std.proofs.Common.{◌≡◌, refl, sym, ◌∙◌, ℕ, List}
+use Rattle.std.proofs.Common.{◌≡◌, refl, sym, ◌∙◌, ℕ, List, [], ◌∷◌, ◌++◌, drop, map, subst, ap, length}
+use Rattle.std.proofs.lemmas.List.{length-map}
+use Rattle.text_lines.proofs.Badness.{front_bad}
+use Rattle.position_files.proofs.BoardLines.{board-free, board-length}
+use Rattle.position_files.proofs.AnswerLaws.{start_line-free}
+use Rattle.position_files.proofs.NodeBad.{node_lines-free}
 use Rattle.std.specs.Prelude.{Some, None}
 use Rattle.game_rules.specs.Grid.{Grid}
 use Rattle.game_rules.specs.Play.{IsPosition}
@@ -10,12 +15,21 @@ use Rattle.foul_judge.specs.declared.position.PositionError.{PositionError}
 use Rattle.foul_judge.proofs.Lawfulness.{none_from_lawful}
 use Rattle.position_files.specs.declared.PositionFile.{PositionFile}
 use Rattle.position_files.specs.declared.TableFile.{TableFile}
+use Rattle.position_files.specs.declared.error.HeadError.{HeadError}
+use Rattle.position_files.specs.declared.error.HeadError.TheVariants.{BadLine as BadHead, Memory as NoRoom}
 use Rattle.position_files.specs.declared.error.FileError.{FileError}
 use Rattle.position_files.specs.declared.error.FileError.TheVariants.{BadLine, Unlawful, WrongMoves, Memory}
 use Rattle.position_files.specs.Positions.{IsTextOfPosition}
 use Rattle.position_files.specs.Tables.{IsTextOfTable}
 use Rattle.position_files.specs.Faults.{IsPositionFault, IsTableFault}
-use Rattle.position_files.specs.ReadBack.{PositionsReadBack, TablesReadBack}
+use Rattle.position_files.specs.ReadBack.{HeadsReadBack, NamesFirstBad, NodesNameFirstBad, NodesReadBack, PositionsReadBack, StartsNameFirstBad, StartsReadBack, TablesReadBack}
+use Rattle.position_files.specs.Positions.{board_lines}
+use Rattle.position_files.specs.Tables.{node_line, start_line}
+use Rattle.position_files.specs.Sections.{AreNodeLines, IsBoardLines, IsSectionFault, IsStartLines}
+use Rattle.text_lines.specs.Lines.{text_of, BeginsWith, FirstBad}
+use Rattle.text_lines.proofs.TextLaws.{AreFree, front_parts, text_of-cons}
+use Rattle.text_lines.proofs.Leaving.{not_left}
+use Rattle.position_files.proofs.SectionLaws.{one_head, one_list, one_start, start_parts}
 use Rattle.position_files.proofs.PositionBad.{one_position}
 use Rattle.position_files.proofs.TableTexts.{one_table}
 
@@ -50,3 +64,45 @@ table-read-back file bytes text lawful moves = record {
   no_other = λ other is. one_table file other bytes text is;
   no_fault = table-fault file bytes text lawful moves;
 }
+
+-- ---- sections
+
+section-fault : (IsLines : List (List ℕ) → Type 0) (ls : List (List ℕ)) (bytes rest : List ℕ) → IsLines ls → bytes ≡ text_of ls ++ rest → (error : HeadError) → IsSectionFault IsLines bytes error → error ≡ NoRoom
+section-fault IsLines ls bytes rest are e (BadHead n) h = absurd (not_left IsLines ls bytes rest h.0 are e h.2)
+section-fault IsLines ls bytes rest are e NoRoom h = refl
+
+-- bytes that begin with a head are read as that head
+pub head-read-back : HeadsReadBack
+head-read-back head bytes is = record {
+  no_other = λ other there. one_head head other bytes is there;
+  no_fault = section-fault IsBoardLines (board_lines head.kind head.board) bytes (drop head.taken bytes) (head.kind, head.board, is.board, refl) (front_parts (text_of (board_lines head.kind head.board)) bytes head.taken is.front);
+}
+
+-- bytes that begin with the lines of so many nodes are read as these nodes
+pub nodes-read-back : NodesReadBack
+nodes-read-back width height count found bytes wide high is = record {
+  no_other = λ other there. one_list width height wide high count found other bytes is there;
+  no_fault = section-fault (AreNodeLines width height count) (map node_line found.table) bytes (drop found.taken bytes) (found.table, is.nodes, refl) (front_parts (text_of (map node_line found.table)) bytes found.taken is.front);
+}
+
+-- bytes that begin with the line of a start are read as that start
+pub start-read-back : StartsReadBack
+start-read-back width height below found bytes wide high is = record {
+  no_other = λ other there. one_start width height wide high below found other bytes is there;
+  no_fault = section-fault (IsStartLines width height below) (start_line found.start ∷ []) bytes (drop found.taken bytes) (found.start, is.start, refl)
+      (start_parts width height below found bytes is ∙ text_of-cons (start_line found.start) [] (drop found.taken bytes));
+}
+
+-- ---- the first bad line of a section
+
+names_first : (IsLines : List (List ℕ) → Type 0) (m : ℕ) → ((ls : List (List ℕ)) → IsLines ls → AreFree ls) → ((ls : List (List ℕ)) → IsLines ls → length ls ≡ m) → NamesFirstBad IsLines
+names_first IsLines m free count bytes n h = subst (FirstBad (BeginsWith IsLines) bytes) (sym h.1) (front_bad IsLines m free count bytes h.0 h.2)
+
+pub heads-first-bad : NamesFirstBad IsBoardLines
+heads-first-bad = names_first IsBoardLines 4 (λ ls is. subst AreFree (sym is.3) (board-free is.0 is.1 is.2)) (λ ls is. ap length is.3 ∙ board-length is.0 is.1)
+
+pub nodes-first-bad : NodesNameFirstBad
+nodes-first-bad width height count wide high = names_first (AreNodeLines width height count) count (λ ls is. subst AreFree (sym is.2) (node_lines-free width height wide high is.0 is.1.fit)) (λ ls is. ap length is.2 ∙ length-map is.0 node_line ∙ is.1.counted)
+
+pub starts-first-bad : StartsNameFirstBad
+starts-first-bad width height below wide high = names_first (IsStartLines width height below) 1 (λ ls is. subst AreFree (sym is.2) (start_line-free width height wide high below is.0 is.1, tt)) (λ ls is. ap length is.2)

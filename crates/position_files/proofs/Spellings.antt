@@ -1,62 +1,24 @@
--- Points, sizes and prefixes are spelled in one way.
-use Rattle.std.proofs.Common.{◌≡◌, ℕ, ◌+◌, ◌-◌, ◌^◌, ◌<◌, ◌≤◌, Bool, true, false, cond, refl, sym, ap, ◌∙◌, arith, List, ◌∷◌, ◌++◌, length, take, drop, eqb, nat_eq, inl, Bor, take-append-drop}
-use Rattle.std.specs.Prelude.{Option, Some, None, option_copied}
-use Rattle.std.specs.Option.{MatchOption}
-use Rattle.std.specs.Bool.{Decides}
+-- Rules and sizes are spelled in one way.
+use Rattle.std.proofs.Common.{◌≡◌, ℕ, ◌^◌, ◌<◌, Bool, true, false, cond, refl, sym, ◌∙◌, arith, List, ◌∷◌, ◌++◌, eqb, inl}
+use Rattle.std.specs.Prelude.{Option, Some, None}
 use Rattle.std.specs.Fmt.{decimal}
-use Rattle.std.specs.Char.{IsNotAsciiDigit}
-use Rattle.std.specs.Cmp.Lexicographic.{pointwise}
-use Rattle.std.proofs.lemmas.Bool.{eqb-true, eq-eqb, ne_eqb, false≢true}
-use Rattle.std.proofs.lemmas.Bool.Decides.{Decides-eqb}
+use Rattle.std.proofs.lemmas.Bool.{eqb-true, eq-eqb, false≢true}
 use Rattle.std.proofs.lemmas.Fmt.{decimal_injective}
-use Rattle.std.proofs.lemmas.List.{take_at, append-nil}
-use Rattle.std.proofs.lemmas.Slice.Eq.{slice_eq-Decides}
-use Rattle.game_rules.specs.declared.Point.{Point}
-use Rattle.position_files.specs.Positions.{comma, space, pair_text, point_text, size_text}
-use Rattle.position_files.specs.Reading.{Reads, IsWithin, IsSide, AreSides, is_free, tail_text}
-use Rattle.position_files.proofs.Cuts.{same_word, is_free-append}
-use Rattle.position_files.proofs.Items.{AreItems}
-use Rattle.position_files.proofs.Numbers.{decimal-free}
+use Rattle.std.proofs.lemmas.List.{append-nil}
+use Rattle.game_rules.specs.declared.RuleKind.{RuleKind}
+use Rattle.game_rules.specs.declared.RuleKind.TheVariants.{Freestyle, Exact, Renju}
+use Rattle.text_lines.specs.Lines.{line_feed}
+use Rattle.text_lines.specs.Spellings.{comma, pair_text}
+use Rattle.text_lines.specs.Reading.{is_free, tail_text}
+use Rattle.text_lines.proofs.Cuts.{same_word}
+use Rattle.text_lines.proofs.Decimals.{decimal-free}
+use Rattle.text_lines.proofs.PointLaws.{pair-free}
+use Rattle.position_files.specs.Positions.{rule_word, size_text}
+use Rattle.position_files.specs.Boards.{IsSide, AreSides}
 
--- ---- prefixes
-
-pub after_reads : (text bytes : List ℕ) (r : Option (Bor (List ℕ)))
-    → MatchOption r (pointwise nat_eq (take (length text) bytes) text ≡ false) (λ x. (pointwise nat_eq (take (length text) bytes) text ≡ true) × (x.now ≡ drop (length text) bytes) × (length x.now + length text ≡ length bytes))
-    → Reads (λ _. Unit {0}) (λ rest. text ++ rest) (option_copied r) bytes
-after_reads text bytes None h = λ rest fits e.
-    let same : Decides (pointwise nat_eq (take (length text) bytes) text) (take (length text) bytes ≡ text) = slice_eq-Decides Decides-eqb _ _ _ refl in
-    let front : take (length text) bytes ≡ text = ap (take (length text)) e ∙ take_at text rest (length text) refl in
-    false≢true (sym h ∙ same.1 front)
-after_reads text bytes (Some x) h =
-    let same : Decides (pointwise nat_eq (take (length text) bytes) text) (take (length text) bytes ≡ text) = slice_eq-Decides Decides-eqb _ _ _ refl in
-    (tt, sym (take-append-drop (length text) bytes) ∙ rw (h.1, same.0 h.0) refl)
-
--- ---- points
-
-point_words : (word a : List ℕ) (t : Option (List ℕ)) (p : Point) → p.x < 2 ^ 64 → word ≡ a ++ tail_text comma t → is_free comma a ≡ true → word ≡ point_text p → (a ≡ decimal p.x) × (t ≡ Some (decimal p.y))
-point_words word a t p fits parts free e =
-    same_word comma a t (decimal p.x) (Some (decimal p.y)) free (decimal-free comma p.x (inl (omega arith)) fits) (sym parts ∙ e)
-
-pub bad_column : (word a : List ℕ) (t : Option (List ℕ)) (width height : ℕ) → IsSide width → word ≡ a ++ tail_text comma t → is_free comma a ≡ true → ((v : ℕ) → v ≤ width - 1 → a ≡ decimal v → ⊥) → (p : Point) → IsWithin width height p → word ≡ point_text p → ⊥
-bad_column word a t width height wide parts free none p within e =
-    let column = within.column in
-    let fits = wide.fits in
-    none p.x (omega (arith, column)) (point_words word a t p (omega (arith, column, fits)) parts free e).0
-
-pub bad_row : (word a : List ℕ) (t : Option (List ℕ)) (width height : ℕ) → IsSide width → word ≡ a ++ tail_text comma t → is_free comma a ≡ true → ((r : List ℕ) → t ≡ Some r → (v : ℕ) → v ≤ height - 1 → r ≡ decimal v → ⊥) → (p : Point) → IsWithin width height p → word ≡ point_text p → ⊥
-bad_row word a t width height wide parts free none p within e =
-    let column = within.column in
-    let row = within.row in
-    let fits = wide.fits in
-    none (decimal p.y) (point_words word a t p (omega (arith, column, fits)) parts free e).1 p.y (omega (arith, row)) refl
-
--- a text spells one point
-pub point_text-injective : (p q : Point) → p.x < 2 ^ 64 → p.y < 2 ^ 64 → q.x < 2 ^ 64 → q.y < 2 ^ 64 → point_text p ≡ point_text q → p ≡ q
-point_text-injective p q px py qx qy e =
-    let words = point_words (point_text p) (decimal p.x) (Some (decimal p.y)) q qx refl (decimal-free comma p.x (inl (omega arith)) px) e in
-    let x : p.x ≡ q.x = decimal_injective p.x q.x px qx words.0 in
-    let y : p.y ≡ q.y = decimal_injective p.y q.y py qy (let f = words.1 in cc) in
-    λ i. record { x = x i; y = y i }
+-- a width or a height is a number of 64 bits
+pub side_fits : (n : ℕ) → IsSide n → n < 2 ^ 64
+side_fits n side = let few = side.fits in omega (arith, few)
 
 -- ---- sizes
 
@@ -128,31 +90,19 @@ size_text-injective a b fa fb e =
     let width : a.0 ≡ b.0 = decimal_injective a.0 b.0 (omega (arith, a0)) (omega (arith, b0)) words.0 in
     (width, same_height a.0 a.1 b.0 b.1 width (omega (arith, a1)) (omega (arith, b1)) words.1)
 
--- points of a board are items of a line
-pub point_items : (width height : ℕ) → IsSide width → IsSide height → AreItems (IsWithin width height) point_text
-point_items width height wide high = record {
-  free = λ p within.
-      let x = within.column in
-      let y = within.row in
-      let w = wide.fits in
-      let h = high.fits in
-      is_free-append space (decimal p.x) (comma ∷ decimal p.y) (decimal-free space p.x (inl (omega arith)) (omega (arith, x, w))) (decimal-free space p.y (inl (omega arith)) (omega (arith, y, h)));
-  injective = λ p q in_p in_q e.
-      let w = wide.fits in
-      let h = high.fits in
-      let px = in_p.column in
-      let py = in_p.row in
-      let qx = in_q.column in
-      let qy = in_q.row in
-      point_text-injective p q (omega (arith, px, w)) (omega (arith, py, h)) (omega (arith, qx, w)) (omega (arith, qy, h)) e;
-}
+-- ---- no line feed stands in what is spelled
 
--- no separator but the comma stands in a point
-pub point-free : (s width height : ℕ) → IsNotAsciiDigit s → (comma ≡ s → ⊥) → IsSide width → IsSide height → (p : Point) → IsWithin width height p → is_free s (point_text p) ≡ true
-point-free s width height other no_comma wide high p within =
-    let x = within.column in
-    let y = within.row in
-    let w = wide.fits in
-    let h = high.fits in
-    let rest : is_free s (comma ∷ decimal p.y) ≡ true = rw (ne_eqb comma s no_comma, decimal-free s p.y other (omega (arith, y, h))) refl in
-    is_free-append s (decimal p.x) (comma ∷ decimal p.y) (decimal-free s p.x other (omega (arith, x, w))) rest
+pub rule_word-free : (kind : RuleKind) → Unit {0} → is_free line_feed (rule_word kind) ≡ true
+rule_word-free Freestyle h = refl
+rule_word-free Exact h = refl
+rule_word-free Renju h = refl
+
+pub size-free : (sides : ℕ × ℕ) → AreSides sides → is_free line_feed (size_text sides.0 sides.1) ≡ true
+size-free sides fits =
+    let w = fits.width.fits in
+    let h = fits.height.fits in
+    by_test (eqb sides.0 sides.1) (decimal-free line_feed sides.0 (inl (omega arith)) (omega (arith, w))) (pair-free sides.0 sides.1 (omega (arith, w)) (omega (arith, h)))
+  where
+    by_test : (r : Bool) → is_free line_feed (decimal sides.0) ≡ true → is_free line_feed (pair_text sides.0 sides.1) ≡ true → is_free line_feed (cond r (decimal sides.0) (pair_text sides.0 sides.1)) ≡ true
+    by_test true a b = a
+    by_test false a b = b

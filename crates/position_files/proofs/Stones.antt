@@ -16,7 +16,8 @@ use Rattle.game_rules.specs.declared.Side.TheVariants.{Black, White}
 use Rattle.game_rules.proofs.Boards.{place_fits, on_x, on_y, is_empty-cell, is_empty-on}
 use Rattle.game_rules.proofs.Positions.{IsBoard-put}
 use Rattle.position_files.specs.Positions.{stones}
-use Rattle.position_files.specs.Reading.{SameBut, IsSide, IsWithin}
+use Rattle.position_files.specs.Boards.{SameBut, IsSide}
+use Rattle.text_lines.specs.Reading.{IsWithin}
 
 -- the point with this place on a board of this width
 abbrev pub point_at : ℕ → ℕ → Point

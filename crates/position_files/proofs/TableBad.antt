@@ -1,36 +1,37 @@
 -- Where bytes leave the texts of tables.
 use Rattle.std.proofs.Common.{◌≡◌, ℕ, suc, ◌+◌, true, refl, sym, ap, subst, ◌∙◌, arith, List, [], ◌∷◌, ◌++◌, length, take, get_or, inl, inr}
-use Rattle.std.specs.Prelude.{Err, None, codes}
-use Rattle.std.proofs.lemmas.List.{append-nil, length-append}
+use Rattle.std.specs.Prelude.{None, codes}
+use Rattle.std.proofs.lemmas.List.{append-nil, length-append, take_all}
 use Rattle.std.proofs.Math.Seq.{take-append_seam}
 use Rattle.game_rules.specs.declared.RuleKind.TheVariants.{Freestyle}
+use Rattle.game_rules.specs.declared.TheConstants.{MIN_SIDE}
 use Rattle.foul_judge.specs.Lawful.{refusal}
 use Rattle.strategy_graph.specs.Tables.{Answers, IsTable}
-use Rattle.strategy_graph.specs.declared.Rest.TheVariants.{Nothing}
 use Rattle.strategy_graph.specs.declared.roots.Root.{Root}
+use Rattle.text_lines.specs.Lines.{line_feed, text_of, FirstBad, LeavesAt}
+use Rattle.text_lines.specs.Reading.{ReadsLine, is_free}
+use Rattle.text_lines.proofs.LineLaws.{same_line}
+use Rattle.text_lines.proofs.TextLaws.{text_of-cons, text_of-push, same_lines}
+use Rattle.text_lines.proofs.Leaving.{HasParts, Splits, leaves_after, left_first}
+use Rattle.text_lines.proofs.Badness.{first_bad, too_many}
 use Rattle.position_files.specs.declared.TableFile.{TableFile}
+use Rattle.position_files.specs.declared.TheConstants.{MAX_MOVES}
 use Rattle.position_files.specs.declared.tables.Body.{Body}
-use Rattle.position_files.specs.declared.faults.Fault.{Fault}
-use Rattle.position_files.specs.declared.faults.Fault.TheVariants.{Bad, Memory as NoMemory}
 use Rattle.position_files.specs.declared.error.FileError.{FileError}
 use Rattle.position_files.specs.declared.error.FileError.TheVariants.{BadLine, Unlawful, WrongMoves, Memory}
-use Rattle.position_files.specs.Lines.{line_feed, text_of, FirstBad}
+use Rattle.position_files.specs.declared.error.HeadError.{HeadError}
+use Rattle.position_files.specs.declared.error.HeadError.TheVariants.{BadLine as BadHead, Memory as NoRoom}
 use Rattle.position_files.specs.Tables.{IsTextOfTable, IsTableText, start_line}
-use Rattle.position_files.specs.Reading.{ReadsLine, GivesLine, is_free}
 use Rattle.position_files.specs.Answers.{StartFits}
-use Rattle.position_files.specs.Bodies.{BodyFits, body_lines, IsBodyLines, IsStartLines, IsFinishFault}
-use Rattle.position_files.specs.Sections.{LeavesAt, IsFaultFrom}
-use Rattle.position_files.specs.Faults.{at_line, IsTableFault, IsMiscounted}
-use Rattle.position_files.proofs.LineLaws.{same_line}
+use Rattle.position_files.specs.Bodies.{BodyFits, body_lines, IsBodyLines, IsFinishFault}
+use Rattle.position_files.specs.Sections.{IsSectionFault, IsStartLines}
+use Rattle.position_files.specs.Faults.{IsTableFault, IsMiscounted, after_lines, in_file}
 use Rattle.position_files.proofs.Stones.{empty_board, IsBoard-empty}
-use Rattle.position_files.proofs.BoardLaws.{text_of-cons}
-use Rattle.position_files.proofs.NodeLaws.{text_of-push}
 use Rattle.position_files.proofs.TableLaws.{file_of}
-use Rattle.position_files.proofs.Pieces.{first_bad, too_many, same_lines, take_all}
-use Rattle.position_files.proofs.BoardLines.{five}
-use Rattle.position_files.proofs.PositionBad.{Fronts, leaves_after}
-use Rattle.position_files.proofs.BodyBad.{leaves_in, corner_table, one_count, least_body, least_fits}
-use Rattle.position_files.proofs.TableTexts.{IsTableLines, table-free, body-free, body-length, lines_of, text_from, body_tell, one_table}
+use Rattle.position_files.proofs.BoardLines.{least_side}
+use Rattle.position_files.proofs.SectionLaws.{only_start, only_fits}
+use Rattle.position_files.proofs.BodyBad.{corner_table, fault_in, one_between, least_body, least_fits}
+use Rattle.position_files.proofs.TableTexts.{IsTableLines, IsDefendLines, table-free, body-free, body-length, lines_of, text_from, body_tell, one_table}
 
 -- ---- the first line
 
@@ -41,8 +42,8 @@ first_of_none bytes not_one not_two ls others (inr h) e = not_two others (e ∙ 
 
 pub no_version : (bytes : List ℕ) → ((rest : List ℕ) → bytes ≡ codes "renju-table 1" ++ line_feed ∷ rest → ⊥) → ((rest : List ℕ) → bytes ≡ codes "renju-table 2" ++ line_feed ∷ rest → ⊥) → FirstBad IsTableText bytes 1
 no_version bytes not_one not_two =
-    let body : Body = least_body Freestyle (empty_board 5 5) 1 in
-    let fits : BodyFits 1 body = least_fits Freestyle (empty_board 5 5) 1 1 (IsBoard-empty 5 5 five five) (omega arith) (one_count 1 (omega arith)) in
+    let body : Body = least_body Freestyle (empty_board MIN_SIDE MIN_SIDE) 1 in
+    let fits : BodyFits 1 body = least_fits Freestyle (empty_board MIN_SIDE MIN_SIDE) 1 1 (IsBoard-empty MIN_SIDE MIN_SIDE least_side least_side) (omega arith) (one_between 1 MAX_MOVES (omega arith) (omega arith)) in
     first_bad IsTableText IsTableLines table-free lines_of text_from bytes 0 (record {
       lines = codes "renju-table 1" ∷ body_lines body;
       rest = bytes;
@@ -66,13 +67,50 @@ finish_fault body root bytes text Memory h = tt
 
 -- ---- lines after the first one
 
+-- lines of a kind: a first line, and, where it is this one, lines of another kind after it
+abbrev Fronts : List ℕ → (List (List ℕ) → Type 0) → List (List ℕ) → Type 0
+Fronts header IsLines ls = (first : List ℕ) × (l : List (List ℕ)) × (ls ≡ first ∷ l) × (is_free line_feed first ≡ true) × (first ≡ header → IsLines l)
+
+split_of : (header : List ℕ) (IsLines : List (List ℕ) → Type 0) (ls : List (List ℕ)) → Fronts header IsLines ls → Splits (header ∷ []) IsLines ls
+split_of header IsLines ls p = record {
+  first = p.0 ∷ [];
+  part = p.1;
+  more = [];
+  lines = p.2 ∙ ap (λ (l : List (List ℕ)). p.0 ∷ l) (sym (append-nil p.1));
+  free = (p.3, tt);
+  count = refl;
+  are = λ same. p.4 (let f = same in cc);
+}
+
 attack_fronts : (ls : List (List ℕ)) → IsTableLines ls → Fronts (codes "renju-table 1") (IsBodyLines 1) ls
 attack_fronts ls (inl h) = (codes "renju-table 1", h.0, h.2, refl, λ same. h.1)
 attack_fronts ls (inr h) = (codes "renju-table 2", h.0, h.2, refl, λ same. let digit : 50 ≡ 49 = ap (λ (l : List ℕ). get_or l 12 0) same in absurd (omega (arith, digit)))
 
-defend_fronts : (ls : List (List ℕ)) → IsTableLines ls → Fronts (codes "renju-table 2") IsStartLines ls
+defend_fronts : (ls : List (List ℕ)) → IsTableLines ls → Fronts (codes "renju-table 2") IsDefendLines ls
 defend_fronts ls (inl h) = (codes "renju-table 1", h.0, h.2, refl, λ same. let digit : 49 ≡ 50 = ap (λ (l : List ℕ). get_or l 12 0) same in absurd (omega (arith, digit)))
 defend_fronts ls (inr h) = (codes "renju-table 2", h.0, h.2, refl, λ same. h.1)
+
+-- a body stands in a table after its first line, and so does a body with a start
+attack_part : HasParts (codes "renju-table 1" ∷ []) (IsBodyLines 1) IsTableLines
+attack_part = record {
+  free = (refl, tt);
+  whole = λ l is. ([], inl (l, is, ap (λ (k : List (List ℕ)). codes "renju-table 1" ∷ k) (append-nil l)));
+  parts = λ ls is. split_of (codes "renju-table 1") (IsBodyLines 1) ls (attack_fronts ls is);
+}
+
+defend_part : HasParts (codes "renju-table 2" ∷ []) IsDefendLines IsTableLines
+defend_part = record {
+  free = (refl, tt);
+  whole = λ l is. ([], inr (l, is, ap (λ (k : List (List ℕ)). codes "renju-table 2" ∷ k) (append-nil l)));
+  parts = λ ls is. split_of (codes "renju-table 2") IsDefendLines ls (defend_fronts ls is);
+}
+
+-- a fault of what stands after the first line
+first_fault : (header : List ℕ) (IsLines : List (List ℕ) → Type 0) → HasParts (header ∷ []) IsLines IsTableLines → (bytes rest : List ℕ) → bytes ≡ header ++ line_feed ∷ rest → (error : HeadError) → IsSectionFault IsLines rest error → IsTableFault bytes (in_file (after_lines 1 error))
+first_fault header IsLines has bytes rest e (BadHead n) h =
+    let leaves = leaves_after (header ∷ []) IsLines IsTableLines has bytes rest h.0 (e ∙ text_of-cons header [] rest) h.2 in
+    subst (FirstBad IsTableText bytes) (let is = h.1 in omega (arith, is)) (first_bad IsTableText IsTableLines table-free lines_of text_from bytes (1 + h.0) leaves)
+first_fault header IsLines has bytes rest e NoRoom h = tt
 
 -- where bytes begin with this first line, and with first lines of a table: the lines after it
 pub record AfterFirst (IsLines : List (List ℕ) → Type 0) (rest others : List ℕ) (k : ℕ) (lt : List (List ℕ)) : Type 0 where
@@ -88,13 +126,8 @@ after_first header IsLines bytes rest others k lt free e p f =
     record { lines = p.1; are = p.4 (sym same.0); count = ap length p.2; text = same.1 }
 
 module _ (bytes rest : List ℕ) (e : bytes ≡ codes "renju-table 1" ++ line_feed ∷ rest) where
-  pub attack_body_fault : (error : FileError) → IsFaultFrom 2 (IsBodyLines 1) rest error → IsTableFault bytes error
-  attack_body_fault (BadLine n) h =
-      let leaves = leaves_after (codes "renju-table 1") refl (IsBodyLines 1) IsTableLines (λ l is. inl (l, is, refl)) attack_fronts bytes rest h.0 e h.2 in
-      subst (FirstBad IsTableText bytes) (let is = h.1 in omega (arith, is)) (first_bad IsTableText IsTableLines table-free lines_of text_from bytes (h.0 + 1) leaves)
-  attack_body_fault (Unlawful why) h = absurd h
-  attack_body_fault (WrongMoves written counted) h = absurd h
-  attack_body_fault Memory h = tt
+  pub attack_body_fault : (error : HeadError) → IsSectionFault (IsBodyLines 1) rest error → IsTableFault bytes (in_file (after_lines 1 error))
+  attack_body_fault error h = first_fault (codes "renju-table 1") (IsBodyLines 1) attack_part bytes rest e error h
 
   pub attack_too_many : (body : Body) (tail : List ℕ) → BodyFits 1 body → IsTable body.table → rest ≡ text_of (body_lines body) ++ tail → (tail ≡ [] → ⊥) → FirstBad IsTableText bytes (8 + length body.table)
   attack_too_many body tail fits table text more =
@@ -117,43 +150,34 @@ module _ (bytes rest : List ℕ) (e : bytes ≡ codes "renju-table 1" ++ line_fe
 
 -- ---- tables whose root is a start
 
-only_start : Answers
-only_start = record { replies = []; rest = Nothing }
-
-only_fits : (width height len : ℕ) → StartFits width height len only_start
-unfolding only_start
-only_fits width height len = record {
-  answers = record { replies = tt; rest = tt; winning = λ wins. absurd cc };
-  start = record { not_winning = refl; rising = refl };
-  below = refl;
+-- a body stands in the lines of a table with a start
+body_part : HasParts [] (IsBodyLines 0) IsDefendLines
+body_part = record {
+  free = tt;
+  whole = λ l is.
+      let body : Body = is.0 in
+      (start_line only_start ∷ [], (body, only_start, is.1, is.2, only_fits body.board.width body.board.height (length body.table), ap (λ (k : List (List ℕ)). k ++ start_line only_start ∷ []) is.3));
+  parts = λ ls is. record {
+    first = [];
+    part = body_lines is.0;
+    more = start_line is.1 ∷ [];
+    lines = is.5;
+    free = tt;
+    count = refl;
+    are = λ same. (is.0, is.2, is.3, refl);
+  };
 }
 
-start_part : (ls : List (List ℕ)) → IsStartLines ls → (l more : List (List ℕ)) × IsBodyLines 0 l × (ls ≡ l ++ more)
-start_part ls is = (body_lines is.0, start_line is.1 ∷ [], (is.0, is.2, is.3, refl), is.5)
-
-start_whole : (l : List (List ℕ)) → IsBodyLines 0 l → (more : List (List ℕ)) × IsStartLines (l ++ more)
-start_whole l is =
-    let body : Body = is.0 in
-    (start_line only_start ∷ [], (body, only_start, is.1, is.2, only_fits body.board.width body.board.height (length body.table), ap (λ (k : List (List ℕ)). k ++ start_line only_start ∷ []) is.3))
-
 module _ (bytes rest : List ℕ) (e : bytes ≡ codes "renju-table 2" ++ line_feed ∷ rest) where
-  start_fault_at : (i n : ℕ) → n ≡ 2 + i → LeavesAt IsStartLines rest i → FirstBad IsTableText bytes n
-  start_fault_at i n is h =
-      let leaves = leaves_after (codes "renju-table 2") refl IsStartLines IsTableLines (λ l lines. inr (l, lines, refl)) defend_fronts bytes rest i e h in
-      subst (FirstBad IsTableText bytes) (omega (arith, is)) (first_bad IsTableText IsTableLines table-free lines_of text_from bytes (i + 1) leaves)
-
-  pub defend_body_fault : (error : FileError) → IsFaultFrom 2 (IsBodyLines 0) rest error → IsTableFault bytes error
-  defend_body_fault (BadLine n) h = start_fault_at h.0 n h.1 (leaves_in (IsBodyLines 0) IsStartLines start_part start_whole rest h.0 h.2)
-  defend_body_fault (Unlawful why) h = absurd h
-  defend_body_fault (WrongMoves written counted) h = absurd h
-  defend_body_fault Memory h = tt
+  pub defend_body_fault : (error : HeadError) → IsSectionFault (IsBodyLines 0) rest error → IsTableFault bytes (in_file (after_lines 1 error))
+  defend_body_fault error h = first_fault (codes "renju-table 2") IsDefendLines defend_part bytes rest e error (fault_in (IsBodyLines 0) IsDefendLines body_part rest error h)
 
   module _ (body : Body) (tail : List ℕ) (fits : BodyFits 0 body) (table : IsTable body.table) (text : rest ≡ text_of (body_lines body) ++ tail) where
     count : length (body_lines body) ≡ 6 + length body.table
     count = body-length body
 
     -- other lines with a start that the bytes begin with have as many nodes, and the same line after them
-    same_start_line : (ls : List (List ℕ)) (others : List ℕ) (is : IsStartLines ls) → rest ≡ text_of (take (length (body_lines body) + 1) ls) ++ others
+    same_start_line : (ls : List (List ℕ)) (others : List ℕ) (is : IsDefendLines ls) → rest ≡ text_of (take (length (body_lines body) + 1) ls) ++ others
         → (length ls ≡ length (body_lines body) + 1) × StartFits body.board.width body.board.height (length body.table) is.1 × (tail ≡ start_line is.1 ++ line_feed ∷ others)
     same_start_line ls others is f =
         let other : Body = is.0 in
@@ -176,7 +200,7 @@ module _ (bytes rest : List ℕ) (e : bytes ≡ codes "renju-table 2" ++ line_fe
         (subst (λ n. StartFits other.board.width other.board.height n is.1) (sym counts) is.4)) in
         (omega (arith, here, counts, others_count, added, lines), start, same.1)
 
-    no_start_line : ReadsLine (StartFits body.board.width body.board.height (length body.table)) start_line None tail → LeavesAt IsStartLines rest (length (body_lines body))
+    no_start_line : ReadsLine (StartFits body.board.width body.board.height (length body.table)) start_line None tail → LeavesAt IsDefendLines rest (length (body_lines body))
     no_start_line none = record {
       lines = body_lines body ++ start_line only_start ∷ [];
       rest = tail;
@@ -186,13 +210,15 @@ module _ (bytes rest : List ℕ) (e : bytes ≡ codes "renju-table 2" ++ line_fe
       no_further = λ ls others is f. let same = same_start_line ls others is f in none is.1 others same.1 same.2;
     }
 
-    pub start_fault : (width height len : ℕ) (fault : Fault) → width ≡ body.board.width → height ≡ body.board.height → len ≡ length body.table → GivesLine (StartFits width height len) start_line (Err fault) tail → IsTableFault bytes (at_line fault (8 + len))
-    start_fault width height len Bad w h l none =
-        let here : ReadsLine (StartFits body.board.width body.board.height (length body.table)) start_line None tail =
-        λ a others fit f. none a others
+    pub start_fault : (width height len : ℕ) → width ≡ body.board.width → height ≡ body.board.height → len ≡ length body.table → (error : HeadError) → IsSectionFault (IsStartLines width height len) tail error → IsTableFault bytes (in_file (after_lines (7 + len) error))
+    start_fault width height len w h l (BadHead n) fault =
+        let left = left_first (StartFits width height len) start_line tail fault.0 fault.2 in
+        let none : ReadsLine (StartFits body.board.width body.board.height (length body.table)) start_line None tail =
+        λ a others fit f. left.1 a others
         (subst (λ n. StartFits n height len a) (sym w) (subst (λ n. StartFits body.board.width n len a) (sym h) (subst (λ n. StartFits body.board.width body.board.height n a) (sym l) fit))) f in
-        start_fault_at (length (body_lines body)) (8 + len) (let c = count in omega (arith, c, l)) (no_start_line here)
-    start_fault width height len NoMemory w h l none = tt
+        let leaves = leaves_after (codes "renju-table 2" ∷ []) IsDefendLines IsTableLines defend_part bytes rest (length (body_lines body)) (e ∙ text_of-cons (codes "renju-table 2") [] rest) (no_start_line none) in
+        subst (FirstBad IsTableText bytes) (let is = fault.1 in let first = left.0 in let c = count in omega (arith, is, first, c, l)) (first_bad IsTableText IsTableLines table-free lines_of text_from bytes (1 + length (body_lines body)) leaves)
+    start_fault width height len w h l NoRoom fault = tt
 
     pub defend_too_many : (a : Answers) (len : ℕ) (more : List ℕ) → len ≡ length body.table → StartFits body.board.width body.board.height (length body.table) a → tail ≡ start_line a ++ line_feed ∷ more → (more ≡ [] → ⊥) → FirstBad IsTableText bytes (8 + len + 1)
     defend_too_many a len more l start line some =
@@ -203,7 +229,7 @@ module _ (bytes rest : List ℕ) (e : bytes ≡ codes "renju-table 2" ++ line_fe
         let found = too_many IsTableText IsTableLines table-free lines_of text_from bytes more (codes "renju-table 2" ∷ lines) (inr (lines, (body, a, fits, table, start, refl), refl))
         (e ∙ ap (λ (t : List ℕ). codes "renju-table 2" ++ line_feed ∷ t) whole ∙ text_of-cons (codes "renju-table 2") lines more) some
         (λ lt others is f.
-        let after = after_first (codes "renju-table 2") IsStartLines bytes rest others (length lines) lt refl e (defend_fronts lt is) f in
+        let after = after_first (codes "renju-table 2") IsDefendLines bytes rest others (length lines) lt refl e (defend_fronts lt is) f in
         let same = same_start_line after.lines others after.are (after.text ∙ ap (λ n. text_of (take n after.lines) ++ others) added) in
         let first = after.count in
         let counts = same.0 in

@@ -8,12 +8,12 @@ use Rattle.strategy_graph.specs.declared.roots.Root.{Root}
 use Rattle.strategy_graph.specs.declared.roots.Root.TheVariants.{Attack, Defend}
 use Rattle.position_files.specs.declared.TableFile.{TableFile}
 use Rattle.position_files.specs.declared.tables.Body.{Body}
-use Rattle.position_files.specs.Lines.{line_feed, text_of}
+use Rattle.text_lines.specs.Lines.{line_feed, text_of}
 use Rattle.position_files.specs.Tables.{IsTextOfTable, start_line, table_text}
 use Rattle.position_files.specs.Bodies.{BodyFits, IsFinished, body_lines}
 use Rattle.position_files.specs.Answers.{StartFits}
-use Rattle.position_files.proofs.TextLaws.{whole_text}
-use Rattle.position_files.proofs.NodeLaws.{text_of-push, replies_on}
+use Rattle.text_lines.proofs.TextLaws.{whole_text, text_of-push}
+use Rattle.position_files.proofs.NodeLaws.{replies_on}
 
 -- the file of a body and a root
 abbrev pub file_of : Body → Root → TableFile

@@ -13,28 +13,32 @@ use Rattle.strategy_graph.specs.declared.roots.Root.{Root}
 use Rattle.strategy_graph.specs.declared.roots.Root.TheVariants.{Attack, Defend}
 use Rattle.position_files.specs.declared.TableFile.{TableFile}
 use Rattle.position_files.specs.declared.tables.Body.{Body}
-use Rattle.position_files.specs.Lines.{line_feed, text_of}
+use Rattle.text_lines.specs.Lines.{line_feed, text_of}
 use Rattle.position_files.specs.Positions.{board_lines}
 use Rattle.position_files.specs.Tables.{NodeOn, RootFits, IsTextOfTable, IsTableText, answers_text, node_line, nodes_lines, start_line, table_text}
-use Rattle.position_files.specs.Reading.{IsSide, is_free}
+use Rattle.text_lines.specs.Reading.{is_free}
 use Rattle.position_files.specs.Answers.{NodeFits, StartFits}
-use Rattle.position_files.specs.Bodies.{BodyFits, body_lines, IsBodyLines, IsStartLines}
-use Rattle.position_files.proofs.Cuts.{is_free-append}
-use Rattle.position_files.proofs.LineLaws.{same_line}
+use Rattle.position_files.specs.Bodies.{BodyFits, body_lines, IsBodyLines}
+use Rattle.text_lines.proofs.LineLaws.{same_line}
 use Rattle.position_files.proofs.BoardLaws.{width_side, height_side}
-use Rattle.position_files.proofs.AnswerLaws.{answers-free, answers_text-injective, node_line-injective}
-use Rattle.position_files.proofs.NodeLaws.{text_of-push, replies_on}
+use Rattle.position_files.proofs.AnswerLaws.{answers_text-injective, start_line-free}
+use Rattle.text_lines.proofs.TextLaws.{text_of-push, AreFree, same_lines, text_of-injective, text_of-append, free_append}
+use Rattle.position_files.proofs.NodeLaws.{replies_on}
 use Rattle.position_files.proofs.TableLaws.{file_of}
-use Rattle.position_files.proofs.Pieces.{AreFree, same_lines, text_of-injective}
 use Rattle.position_files.proofs.BoardLines.{board-free, board_lines-injective}
 use Rattle.position_files.proofs.Completions.{answers_fit, nodes_fit}
-use Rattle.position_files.proofs.BodyBad.{text_of-append, six, six_tell, SixTell, number-free, free_append, node_lines-free}
+use Rattle.position_files.proofs.NodeBad.{node_lines-free, nodes_injective}
+use Rattle.position_files.proofs.BodyBad.{six, six_tell, SixTell, number-free}
 
 -- ---- a table is given by lines
 
+-- the lines are those of a body, and of a start that names its nodes and its points
+abbrev pub IsDefendLines : List (List ℕ) → Type 0
+IsDefendLines ls = (body : Body) × (a : Answers) × BodyFits 0 body × IsTable body.table × StartFits body.board.width body.board.height (length body.table) a × (ls ≡ body_lines body ++ start_line a ∷ [])
+
 -- the lines of a table whose root is a node, or of one whose root is a start
 abbrev pub IsTableLines : List (List ℕ) → Type 0
-IsTableLines ls = ((l : List (List ℕ)) × IsBodyLines 1 l × (ls ≡ codes "renju-table 1" ∷ l)) ⊎ ((l : List (List ℕ)) × IsStartLines l × (ls ≡ codes "renju-table 2" ∷ l))
+IsTableLines ls = ((l : List (List ℕ)) × IsBodyLines 1 l × (ls ≡ codes "renju-table 1" ∷ l)) ⊎ ((l : List (List ℕ)) × IsDefendLines l × (ls ≡ codes "renju-table 2" ∷ l))
 
 pub body-free : (least : ℕ) (body : Body) → BodyFits least body → IsTable body.table → AreFree (body_lines body)
 unfolding nodes_lines
@@ -42,19 +46,19 @@ body-free least body fits table =
     let wide = width_side body.board fits.board in
     let high = height_side body.board fits.board in
     free_append (board_lines body.kind body.board) (nodes_lines body.table body.moves) (board-free body.kind body.board fits.board)
-    (number-free (codes "moves ") body.moves refl fits.moves.few, (number-free (codes "nodes ") (length body.table) refl fits.nodes.few, node_lines-free body.board.width body.board.height wide high body.table (nodes_fit body.board body.table fits.on_board table)))
+    (number-free (codes "moves ") body.moves refl (let few = fits.moves.few in omega (arith, few)), (number-free (codes "nodes ") (length body.table) refl (let few = fits.nodes.few in omega (arith, few)), node_lines-free body.board.width body.board.height wide high body.table (nodes_fit body.board body.table fits.on_board table)))
 
 pub body-length : (body : Body) → length (body_lines body) ≡ 6 + length body.table
 unfolding board_lines nodes_lines
 body-length body = let count = length-map body.table node_line in omega (arith, count)
 
-pub start_line-free : (b : Grid) (len : ℕ) (a : Answers) → IsBoard b → StartFits b.width b.height len a → is_free line_feed (start_line a) ≡ true
-start_line-free b len a ok fits = is_free-append line_feed (codes "start ") (answers_text a) refl (answers-free b.width b.height (width_side b ok) (height_side b ok) a fits.answers)
+free_start : (b : Grid) (len : ℕ) (a : Answers) → IsBoard b → StartFits b.width b.height len a → is_free line_feed (start_line a) ≡ true
+free_start b len a ok fits = start_line-free b.width b.height (width_side b ok) (height_side b ok) len a fits
 
-start-free : (l : List (List ℕ)) → IsStartLines l → AreFree l
+start-free : (l : List (List ℕ)) → IsDefendLines l → AreFree l
 start-free l is =
     let body : Body = is.0 in
-    subst AreFree (sym is.5) (free_append (body_lines body) (start_line is.1 ∷ []) (body-free 0 body is.2 is.3) (start_line-free body.board (length body.table) is.1 is.2.board is.4, tt))
+    subst AreFree (sym is.5) (free_append (body_lines body) (start_line is.1 ∷ []) (body-free 0 body is.2 is.3) (free_start body.board (length body.table) is.1 is.2.board is.4, tt))
 
 pub table-free : (ls : List (List ℕ)) → IsTableLines ls → AreFree ls
 table-free ls (inl h) = subst AreFree (sym h.2) (refl, subst AreFree (sym h.1.3) (body-free 1 h.1.0 h.1.1 h.1.2))
@@ -137,21 +141,11 @@ pub body_tell : (least less m : ℕ) (body other : Body) (more : List (List ℕ)
 unfolding board_lines nodes_lines
 body_tell least less m body other more tail others bytes fits fit e f =
     six_tell body.kind other.kind body.board other.board body.moves other.moves (length body.table) (length other.table) (text_of (map node_line body.table) ++ tail) (text_of (take m (map node_line other.table ++ more)) ++ others) bytes
-    fits.board fit.board fits.moves.few fit.moves.few fits.nodes.few fit.nodes.few
+    fits.board fit.board (let few = fits.moves.few in omega (arith, few)) (let few = fit.moves.few in omega (arith, few)) (let few = fits.nodes.few in omega (arith, few)) (let few = fit.nodes.few in omega (arith, few))
     (e ∙ text_of-append (six body.kind body.board body.moves (length body.table)) (map node_line body.table) tail)
     (f ∙ text_of-append (six other.kind other.board other.moves (length other.table)) (take m (map node_line other.table ++ more)) others)
 
 -- ---- a text is that of one table
-
-nodes_injective : (width height : ℕ) → IsSide width → IsSide height → (ns ms : List Node) → AllByRecursion (NodeFits width height) ns → AllByRecursion (NodeFits width height) ms → map node_line ns ≡ map node_line ms → ns ≡ ms
-nodes_injective width height wide high [] [] fn fm e = refl
-nodes_injective width height wide high [] (m ∷ ms) fn fm e = absurd cc
-nodes_injective width height wide high (n ∷ ns) [] fn fm e = absurd cc
-nodes_injective width height wide high (n ∷ ns) (m ∷ ms) fn fm e =
-    let first : node_line n ≡ node_line m = ap (λ (l : List (List ℕ)). get_or l 0 []) e in
-    let others : map node_line ns ≡ map node_line ms = ap (drop 1) e in
-    let same : n ≡ m = node_line-injective width height wide high n m fn.0 fm.0 first in
-    ap (λ (k : Node). k ∷ ns) same ∙ ap (λ (l : List Node). m ∷ l) (nodes_injective width height wide high ns ms fn.1 fm.1 others)
 
 -- lines spell one body
 pub body_injective : (least less : ℕ) (body other : Body) → BodyFits least body → BodyFits less other → IsTable body.table → IsTable other.table → body_lines body ≡ body_lines other → body ≡ other
@@ -185,7 +179,7 @@ same_start body other a c fits fit table tab start begin e =
     text_of-push (body_lines body) (start_line a) [] ∙ ap (λ (l : List (List ℕ)). text_of l ++ []) e ∙ sym (text_of-push (body_lines other) (start_line c) []) in
     let same = same_lines (body_lines body) (body_lines other) (start_line a ++ line_feed ∷ []) (start_line c ++ line_feed ∷ []) free_body free_other (omega (arith, sizes_body, sizes_other, lengths)) texts in
     let one : body ≡ other = body_injective 0 0 body other fits fit table tab same.0 in
-    let line = same_line (start_line a) [] (start_line c) [] (start_line-free body.board (length body.table) a fits.board start) (start_line-free other.board (length other.table) c fit.board begin) same.1 in
+    let line = same_line (start_line a) [] (start_line c) [] (free_start body.board (length body.table) a fits.board start) (free_start other.board (length other.table) c fit.board begin) same.1 in
     let fit_c : StartFits body.board.width body.board.height (length body.table) c = subst (λ (b : Body). StartFits b.board.width b.board.height (length b.table) c) (sym one) begin in
     (one, answers_text-injective body.board.width body.board.height (width_side body.board fits.board) (height_side body.board fits.board) a c start.answers fit_c.answers (append_cancel_left (codes "start ") (answers_text a) (answers_text c) line.0))
 
@@ -206,8 +200,8 @@ one_table_by body other (Defend a) (Defend c) f g =
     let fits = defend_fits body.kind body.board body.table a body.moves f.board f.table f.on_board f.root in
     let fit = defend_fits other.kind other.board other.table c other.moves g.board g.table g.on_board g.root in
     let lines = text_of-injective (codes "renju-table 2" ∷ body_lines body ++ start_line a ∷ []) (codes "renju-table 2" ∷ body_lines other ++ start_line c ∷ [])
-    (refl, free_append (body_lines body) (start_line a ∷ []) (body-free 0 body fits.0 f.table) (start_line-free body.board (length body.table) a fits.0.board fits.1, tt))
-    (refl, free_append (body_lines other) (start_line c ∷ []) (body-free 0 other fit.0 g.table) (start_line-free other.board (length other.table) c fit.0.board fit.1, tt)) g.spelled in
+    (refl, free_append (body_lines body) (start_line a ∷ []) (body-free 0 body fits.0 f.table) (free_start body.board (length body.table) a fits.0.board fits.1, tt))
+    (refl, free_append (body_lines other) (start_line c ∷ []) (body-free 0 other fit.0 g.table) (free_start other.board (length other.table) c fit.0.board fit.1, tt)) g.spelled in
     let same = same_start body other a c fits.0 fit.0 f.table g.table fits.1 fit.1 (ap (drop 1) lines) in
     (same.0, ap Defend same.1)
 

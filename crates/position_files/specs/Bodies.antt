@@ -1,9 +1,9 @@
 -- What a table's text has between its first line and its root.
-use Rattle.std.specs.Prelude.{◌≡◌, ℕ, List, [], ◌∷◌, ◌++◌, length, Some}
+use Rattle.std.specs.Prelude.{◌≡◌, ℕ, List, ◌++◌, length, Some}
 use Rattle.std.specs.List.{AllByRecursion}
 use Rattle.game_rules.specs.Grid.{IsBoard}
 use Rattle.game_rules.specs.Play.{IsPosition}
-use Rattle.strategy_graph.specs.Tables.{Answers, IsTable}
+use Rattle.strategy_graph.specs.Tables.{IsTable}
 use Rattle.strategy_graph.specs.Roots.{root_depth}
 use Rattle.strategy_graph.specs.declared.roots.Root.{Root}
 use Rattle.foul_judge.specs.Lawful.{refusal}
@@ -12,16 +12,17 @@ use Rattle.position_files.specs.declared.error.FileError.{FileError}
 use Rattle.position_files.specs.declared.error.FileError.TheVariants.{BadLine, Unlawful, WrongMoves, Memory}
 use Rattle.position_files.specs.declared.tables.Body.{Body}
 use Rattle.position_files.specs.Positions.{board_lines}
-use Rattle.position_files.specs.Tables.{NodeOn, nodes_lines, start_line}
-use Rattle.position_files.specs.Answers.{StartFits}
-use Rattle.position_files.specs.Reading.{IsCount}
+use Rattle.position_files.specs.Tables.{NodeOn, nodes_lines}
+use Rattle.position_files.specs.declared.TheConstants.{MAX_MOVES}
+use Rattle.strategy_graph.specs.declared.TheConstants.{MAX_NODES}
+use Rattle.text_lines.specs.Reading.{IsBetween}
 
 -- the board is one, the nodes name points of the board, and there are enough moves and nodes
 pub record BodyFits (least : ℕ) (body : Body) : Type 0 where
   pub board : IsBoard body.board
   pub on_board : AllByRecursion (NodeOn body.board) body.table
-  pub nodes : IsCount least (length body.table)
-  pub moves : IsCount least body.moves
+  pub nodes : IsBetween least MAX_NODES (length body.table)
+  pub moves : IsBetween least MAX_MOVES body.moves
 
 -- the file is the body with this root, its position is lawful, and its moves are the depth of the root
 pub record IsFinished (body : Body) (root : Root) (file : TableFile) : Type 0 where
@@ -36,10 +37,6 @@ body_lines body = board_lines body.kind body.board ++ nodes_lines body.table bod
 -- the lines are those of a body with at least so many moves and nodes, and the nodes are a table
 abbrev pub IsBodyLines : ℕ → List (List ℕ) → Type 0
 IsBodyLines least ls = (body : Body) × BodyFits least body × IsTable body.table × (ls ≡ body_lines body)
-
--- the lines are those of a body, and of a start that names its nodes and its points
-abbrev pub IsStartLines : List (List ℕ) → Type 0
-IsStartLines ls = (body : Body) × (a : Answers) × BodyFits 0 body × IsTable body.table × StartFits body.board.width body.board.height (length body.table) a × (ls ≡ body_lines body ++ start_line a ∷ [])
 
 -- What each error says of a body that is read whole, and its root: why the board is no lawful position; or, where it is one, the
 -- number of moves that is written and the depth of the root, which differ.

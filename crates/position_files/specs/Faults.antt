@@ -1,11 +1,13 @@
 -- What is said of a text that is refused.
-use Rattle.std.specs.Prelude.{◌≡◌, ℕ, List, Some}
+use Rattle.std.specs.Prelude.{◌≡◌, ℕ, ◌+◌, ◌≤◌, List, Some}
 use Rattle.game_rules.specs.Grid.{Grid}
 use Rattle.game_rules.specs.declared.RuleKind.{RuleKind}
 use Rattle.foul_judge.specs.Lawful.{refusal}
 use Rattle.foul_judge.specs.declared.position.PositionError.{PositionError}
-use Rattle.position_files.specs.declared.faults.Fault.{Fault}
-use Rattle.position_files.specs.declared.faults.Fault.TheVariants.{Bad, Memory}
+use Rattle.text_lines.specs.declared.fault.Fault.{Fault}
+use Rattle.text_lines.specs.declared.fault.Fault.TheVariants.{Bad, Memory}
+use Rattle.position_files.specs.declared.error.HeadError.{HeadError}
+use Rattle.position_files.specs.declared.error.HeadError.TheVariants.{BadLine as BadHead, Memory as NoRoom}
 use Rattle.position_files.specs.declared.error.FileError.{FileError}
 use Rattle.position_files.specs.declared.error.FileError.TheVariants.{BadLine, Unlawful, WrongMoves, Memory as NoMemory}
 use Rattle.game_rules.specs.Play.{IsPosition}
@@ -13,13 +15,28 @@ use Rattle.strategy_graph.specs.Roots.{root_depth}
 use Rattle.position_files.specs.declared.PositionFile.{PositionFile}
 use Rattle.position_files.specs.declared.TableFile.{TableFile}
 use Rattle.position_files.specs.Tables.{IsTextOfTable, IsTableText}
-use Rattle.position_files.specs.Lines.{FirstBad}
+use Rattle.text_lines.specs.Lines.{FirstBad}
 use Rattle.position_files.specs.Positions.{IsTextOfPosition, IsPositionText}
 
--- the error of a text whose line of this number has the fault
-abbrev pub at_line : Fault → ℕ → FileError
-at_line Bad n = BadLine n
-at_line Memory n = NoMemory
+-- the error of a section whose line of this number has the fault
+abbrev pub at_line : Fault → ℕ → HeadError
+at_line Bad n = BadHead n
+at_line Memory n = NoRoom
+
+-- the error, said of bytes in which so many lines come before the section
+abbrev pub after_lines : ℕ → HeadError → HeadError
+after_lines lines (BadHead n) = BadHead (lines + n)
+after_lines lines NoRoom = NoRoom
+
+-- the error, said of a whole text whose front the section is
+abbrev pub in_file : HeadError → FileError
+in_file (BadHead n) = BadLine n
+in_file NoRoom = NoMemory
+
+-- the line that the error names, if it names one, is at most this one
+abbrev pub IsUpTo : ℕ → HeadError → Type 0
+IsUpTo most (BadHead n) = n ≤ most
+IsUpTo most NoRoom = Unit {0}
 
 -- the error says the first reason why the board is no lawful position under the rule
 pub record IsRefusedAs (kind : RuleKind) (b : Grid) (error : FileError) : Type 0 where

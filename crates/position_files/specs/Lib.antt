@@ -1,7 +1,6 @@
-pub mod Lines
 pub mod Positions
 pub mod Tables
-pub mod Reading
+pub mod Boards
 pub mod Faults
 pub mod Answers
 pub mod Bodies

@@ -1,6 +1,5 @@
 -- The text of a position, line by line, and which bytes are one.
 use Rattle.std.specs.Prelude.{◌≡◌, ℕ, ◌==◌, if◌then◌else◌, List, [], ◌∷◌, ◌++◌, filter, codes}
-use Rattle.std.specs.List.{flat_map}
 use Rattle.std.specs.Fmt.{decimal}
 use Rattle.game_rules.specs.Grid.{Grid, IsBoard, holds, points_of}
 use Rattle.game_rules.specs.declared.RuleKind.{RuleKind}
@@ -9,23 +8,8 @@ use Rattle.game_rules.specs.declared.Side.{Side}
 use Rattle.game_rules.specs.declared.Side.TheVariants.{Black, White}
 use Rattle.game_rules.specs.declared.Point.{Point}
 use Rattle.position_files.specs.declared.PositionFile.{PositionFile}
-use Rattle.position_files.specs.Lines.{text_of}
-
--- the byte between two words
-abbrev pub space : ℕ
-space = 32
-
--- the byte between two coordinates
-abbrev pub comma : ℕ
-comma = 44
-
--- a pair of numbers, as of coordinates
-abbrev pub pair_text : ℕ → ℕ → List ℕ
-pair_text x y = decimal x ++ comma ∷ decimal y
-
--- a point: its column and its row
-abbrev pub point_text : Point → List ℕ
-point_text p = pair_text p.x p.y
+use Rattle.text_lines.specs.Lines.{text_of}
+use Rattle.text_lines.specs.Spellings.{pair_text, points_text}
 
 -- the words of the rules
 abbrev pub rule_word : RuleKind → List ℕ
@@ -44,10 +28,6 @@ size_text width height = if width == height then decimal width else pair_text wi
 -- the line of the size
 abbrev pub size_line : ℕ → ℕ → List ℕ
 size_line width height = codes "size " ++ size_text width height
-
--- points, each after a space
-abbrev pub points_text : List Point → List ℕ
-points_text ps = flat_map (λ p. space ∷ point_text p) ps
 
 -- the points at which stones of the side stand, in reading order
 unfoldable pub stones : Grid → Side → List Point

@@ -4,10 +4,18 @@ use Rattle.game_rules.specs.Play.{IsPosition}
 use Rattle.strategy_graph.specs.Roots.{root_depth}
 use Rattle.position_files.specs.declared.PositionFile.{PositionFile}
 use Rattle.position_files.specs.declared.TableFile.{TableFile}
+use Rattle.position_files.specs.declared.sections.Head.{Head}
+use Rattle.position_files.specs.declared.sections.Nodes.{Nodes}
+use Rattle.position_files.specs.declared.sections.StartLine.{StartLine}
+use Rattle.position_files.specs.declared.error.HeadError.{HeadError}
+use Rattle.position_files.specs.declared.error.HeadError.TheVariants.{BadLine as BadHead, Memory as NoRoom}
 use Rattle.position_files.specs.declared.error.FileError.{FileError}
 use Rattle.position_files.specs.declared.error.FileError.TheVariants.{Memory}
 use Rattle.position_files.specs.Positions.{IsTextOfPosition}
 use Rattle.position_files.specs.Tables.{IsTextOfTable}
+use Rattle.text_lines.specs.Lines.{BeginsWith, FirstBad}
+use Rattle.position_files.specs.Boards.{IsSide}
+use Rattle.position_files.specs.Sections.{AreNodeLines, IsBoardLines, IsHeadOf, IsNodesOf, IsSectionFault, IsStartLines, IsStartOf}
 use Rattle.position_files.specs.Faults.{IsPositionFault, IsTableFault}
 
 -- the bytes can be read as this position alone: they are the text of no other, and nothing but want of memory is said of them
@@ -28,3 +36,44 @@ PositionsReadBack = (file : PositionFile) (bytes : List ℕ) → IsTextOfPositio
 abbrev pub TablesReadBack : Type 0
 TablesReadBack =
     (file : TableFile) (bytes : List ℕ) → IsTextOfTable file bytes → IsPosition file.kind file.board → file.moves ≡ root_depth file.table file.root → OnlyTable file bytes
+
+-- the bytes begin with this head alone: with no other, and nothing but want of memory is said of them
+pub record OnlyHead (head : Head) (bytes : List ℕ) : Type 0 where
+  pub no_other : (other : Head) → IsHeadOf other bytes → other ≡ head
+  pub no_fault : (error : HeadError) → IsSectionFault IsBoardLines bytes error → error ≡ NoRoom
+
+-- the bytes begin with these nodes alone, where so many are asked
+pub record OnlyNodes (width height count : ℕ) (found : Nodes) (bytes : List ℕ) : Type 0 where
+  pub no_other : (other : Nodes) → IsNodesOf width height count other bytes → other ≡ found
+  pub no_fault : (error : HeadError) → IsSectionFault (AreNodeLines width height count) bytes error → error ≡ NoRoom
+
+-- the bytes begin with the line of this start alone
+pub record OnlyStart (width height below : ℕ) (found : StartLine) (bytes : List ℕ) : Type 0 where
+  pub no_other : (other : StartLine) → IsStartOf width height below other bytes → other ≡ found
+  pub no_fault : (error : HeadError) → IsSectionFault (IsStartLines width height below) bytes error → error ≡ NoRoom
+
+-- bytes that begin with a head are read as that head
+abbrev pub HeadsReadBack : Type 0
+HeadsReadBack = (head : Head) (bytes : List ℕ) → IsHeadOf head bytes → OnlyHead head bytes
+
+-- bytes that begin with the lines of so many nodes are read as these nodes
+abbrev pub NodesReadBack : Type 0
+NodesReadBack =
+    (width height count : ℕ) (found : Nodes) (bytes : List ℕ) → IsSide width → IsSide height → IsNodesOf width height count found bytes → OnlyNodes width height count found bytes
+
+-- bytes that begin with the line of a start are read as that start
+abbrev pub StartsReadBack : Type 0
+StartsReadBack =
+    (width height below : ℕ) (found : StartLine) (bytes : List ℕ) → IsSide width → IsSide height → IsStartOf width height below found bytes → OnlyStart width height below found bytes
+
+-- what is said of bad lines at the front of bytes is said of the first bad line of the texts that begin with such lines
+abbrev pub NamesFirstBad : (List (List ℕ) → Type 0) → Type 0
+NamesFirstBad IsLines = (bytes : List ℕ) (n : ℕ) → IsSectionFault IsLines bytes (BadHead n) → FirstBad (BeginsWith IsLines) bytes n
+
+-- the same of the lines of so many nodes
+abbrev pub NodesNameFirstBad : Type 0
+NodesNameFirstBad = (width height count : ℕ) → IsSide width → IsSide height → NamesFirstBad (AreNodeLines width height count)
+
+-- the same of the line of a start
+abbrev pub StartsNameFirstBad : Type 0
+StartsNameFirstBad = (width height below : ℕ) → IsSide width → IsSide height → NamesFirstBad (IsStartLines width height below)

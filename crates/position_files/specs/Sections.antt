@@ -1,51 +1,55 @@
--- Where bytes leave the lines that a part of a text may have.
-use Rattle.std.specs.Prelude.{◌≡◌, ℕ, ◌+◌, ◌≤◌, ◌<◌, List, ◌∷◌, ◌++◌, take, map, length}
+-- What stands at the front of bytes: a head, the lines of nodes, or the line of a start; and where bytes leave such lines.
+use Rattle.std.specs.Prelude.{◌≡◌, ℕ, ◌+◌, List, map, length}
 use Rattle.std.specs.List.{AllByRecursion}
 use Rattle.game_rules.specs.Grid.{Grid, IsBoard}
 use Rattle.game_rules.specs.declared.RuleKind.{RuleKind}
-use Rattle.strategy_graph.specs.Tables.{IsTable, IsNode}
+use Rattle.strategy_graph.specs.Tables.{IsTable}
 use Rattle.strategy_graph.specs.declared.Node.{Node}
-use Rattle.position_files.specs.Lines.{line_feed, text_of}
-use Rattle.position_files.specs.Tables.{node_line}
-use Rattle.position_files.specs.Answers.{NodeFits}
+use Rattle.text_lines.specs.Lines.{IsFront, IsLineOf, LeavesAt, ended, text_of}
+use Rattle.position_files.specs.Tables.{node_line, start_line}
+use Rattle.position_files.specs.Answers.{NodeFits, StartFits}
 use Rattle.position_files.specs.Positions.{board_lines}
-use Rattle.position_files.specs.declared.error.FileError.{FileError}
-use Rattle.position_files.specs.declared.error.FileError.TheVariants.{BadLine, Unlawful, WrongMoves, Memory}
+use Rattle.position_files.specs.declared.sections.Head.{Head}
+use Rattle.position_files.specs.declared.sections.Nodes.{Nodes}
+use Rattle.position_files.specs.declared.sections.StartLine.{StartLine}
+use Rattle.position_files.specs.declared.error.HeadError.{HeadError}
+use Rattle.position_files.specs.declared.error.HeadError.TheVariants.{BadLine, Memory}
 
--- The bytes begin with the first i lines of some list of lines of this kind, and with the first i + 1 lines of none.
-pub record LeavesAt (IsLines : List (List ℕ) → Type 0) (bytes : List ℕ) (i : ℕ) : Type 0 where
-  pub lines : List (List ℕ)
-  pub rest : List ℕ
-  pub are : IsLines lines
-  pub enough : i ≤ length lines
-  pub so_far : bytes ≡ text_of (take i lines) ++ rest
-  pub no_further : (ls : List (List ℕ)) (others : List ℕ) → IsLines ls → bytes ≡ text_of (take (i + 1) ls) ++ others → ⊥
-
--- the error says at which line the bytes leave the lines of this kind, the first of which is line `first` of the text, or that there is no memory
-abbrev pub IsFaultFrom : ℕ → (List (List ℕ) → Type 0) → List ℕ → FileError → Type 0
-IsFaultFrom first IsLines bytes (BadLine n) = (i : ℕ) × (n ≡ first + i) × LeavesAt IsLines bytes i
-IsFaultFrom first IsLines bytes (Unlawful why) = ⊥
-IsFaultFrom first IsLines bytes (WrongMoves written counted) = ⊥
-IsFaultFrom first IsLines bytes Memory = Unit {0}
+-- What each error says of bytes that are to begin with lines of a kind: that line n, counted from 1, is the first at which they
+-- leave such lines; or that there is no memory.
+abbrev pub IsSectionFault : (List (List ℕ) → Type 0) → List ℕ → HeadError → Type 0
+IsSectionFault IsLines bytes (BadLine n) = (i : ℕ) × (n ≡ i + 1) × LeavesAt IsLines bytes i
+IsSectionFault IsLines bytes Memory = Unit {0}
 
 -- the lines are those of a rule and a board
 abbrev pub IsBoardLines : List (List ℕ) → Type 0
 IsBoardLines ls = (kind : RuleKind) × (b : Grid) × IsBoard b × (ls ≡ board_lines kind b)
 
--- The bytes begin with the lines of j nodes of a table, fewer than count, and go on with the line of none that can be the next.
-pub record NodesEnd (width height count : ℕ) (bytes : List ℕ) (j : ℕ) : Type 0 where
-  pub nodes : List Node
-  pub rest : List ℕ
+-- the bytes begin with the lines of the rule and the board of the head, which it counts
+pub record IsHeadOf (head : Head) (bytes : List ℕ) : Type 0 where
+  pub board : IsBoard head.board
+  pub front : IsFront (text_of (board_lines head.kind head.board)) bytes head.taken
+
+-- the nodes are a table of so many nodes, which name points within these bounds
+pub record AreNodes (width height count : ℕ) (nodes : List Node) : Type 0 where
   pub table : IsTable nodes
   pub fit : AllByRecursion (NodeFits width height) nodes
-  pub counted : length nodes ≡ j
-  pub fewer : j < count
-  pub text : bytes ≡ text_of (map node_line nodes) ++ rest
-  pub none : (n : Node) (others : List ℕ) → NodeFits width height n → IsNode n j → rest ≡ node_line n ++ line_feed ∷ others → ⊥
+  pub counted : length nodes ≡ count
 
--- the error says which node's line is bad, the first of them being line 8, or that there is no memory
-abbrev pub IsNodesFault : ℕ → ℕ → ℕ → List ℕ → FileError → Type 0
-IsNodesFault width height count bytes (BadLine n) = (j : ℕ) × (n ≡ 8 + j) × NodesEnd width height count bytes j
-IsNodesFault width height count bytes (Unlawful why) = ⊥
-IsNodesFault width height count bytes (WrongMoves written counted) = ⊥
-IsNodesFault width height count bytes Memory = Unit {0}
+-- the lines are those of such nodes
+abbrev pub AreNodeLines : ℕ → ℕ → ℕ → List (List ℕ) → Type 0
+AreNodeLines width height count ls = (nodes : List Node) × AreNodes width height count nodes × (ls ≡ map node_line nodes)
+
+-- the bytes begin with the lines of such nodes, which are counted
+pub record IsNodesOf (width height count : ℕ) (found : Nodes) (bytes : List ℕ) : Type 0 where
+  pub nodes : AreNodes width height count found.table
+  pub front : IsFront (text_of (map node_line found.table)) bytes found.taken
+
+-- the lines are the line of a start that names nodes below this number and points within these bounds
+abbrev pub IsStartLines : ℕ → ℕ → ℕ → List (List ℕ) → Type 0
+IsStartLines width height below ls = IsLineOf (StartFits width height below) start_line ls
+
+-- the bytes begin with the line of such a start, which is counted
+pub record IsStartOf (width height below : ℕ) (found : StartLine) (bytes : List ℕ) : Type 0 where
+  pub start : StartFits width height below found.start
+  pub front : IsFront (ended (start_line found.start)) bytes found.taken

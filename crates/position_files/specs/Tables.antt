@@ -13,8 +13,9 @@ use Rattle.strategy_graph.specs.declared.roots.Root.{Root}
 use Rattle.strategy_graph.specs.declared.roots.Root.TheVariants.{Attack, Defend}
 use Rattle.position_files.specs.declared.TableFile.{TableFile}
 use Rattle.position_files.specs.declared.TheConstants.{MAX_MOVES}
-use Rattle.position_files.specs.Lines.{text_of}
-use Rattle.position_files.specs.Positions.{space, point_text, board_lines}
+use Rattle.text_lines.specs.Lines.{text_of}
+use Rattle.text_lines.specs.Spellings.{space, point_text}
+use Rattle.position_files.specs.Positions.{board_lines}
 
 -- the byte between a reply and the node that answers it
 abbrev pub arrow : ℕ

@@ -1,4 +1,7 @@
 //! Lines of nodes and of starts: what answers the replies of the opponent.
+//!
+//! A line is cut at its spaces. Its replies come one after another, each after a space, and the line of a node or of a
+//! start that is read is the spelling of that value.
 #![tactic(auto)]
 
 ghost use Rattle.std.specs.Prelude.{◌≡◌, ℕ, List, ◌++◌, Option, option_copied};
@@ -6,16 +9,15 @@ ghost use Rattle.strategy_graph.specs.declared.Rest.{Rest};
 ghost use Rattle.std.specs.List.{AllByRecursion};
 ghost use Rattle.std.specs.Option.{option_map};
 ghost use Rattle.std.specs.Result.{result_map_both};
-ghost use Rattle.position_files.specs.Positions.{space};
+ghost use Rattle.text_lines.specs.Spellings.{space};
 ghost use Rattle.position_files.specs.Tables.{answers_text, node_line as node_line_lem, replies_text, reply_text, rest_text, start_line as start_line_lem};
-ghost use Rattle.position_files.specs.Reading.{Gives, GivesLine, IsSide, Reads, tail_text};
+ghost use Rattle.text_lines.specs.Reading.{Gives, GivesLine, Reads, tail_text};
+ghost use Rattle.position_files.specs.Boards.{IsSide};
 ghost use Rattle.position_files.specs.Answers.{AnswersFit, NodeFits, ReplyFits, RestFits, StartFits, answers_with};
 
-use crate::faults::Fault;
-use crate::lines::prefixed;
-use crate::words::{cut, is_text, number, point};
 use std::alloc::Global;
-use strategy_graph::{MAX_NODES, Node, Replies, Reply, Rest, Start};
+use strategy_graph::{Node, Replies, Reply, Rest, Start};
+use text_lines::{Fault, cut, is_text, number, point, prefixed};
 
 /// The reply, and the number of the node that answers it, that the bytes spell.
 fn reply(word: &[u8], width: u8, height: u8) -> Option<Reply>
@@ -25,7 +27,7 @@ fn reply(word: &[u8], width: u8, height: u8) -> Option<Reply>
 {
     let (at, next) = cut(word, b'>');
     let at = point(at, width, height)?;
-    let next = number(next?, MAX_NODES)?;
+    let next = number(next?, u32::MAX)?;
     Some(Reply { at, next })
 }
 
@@ -33,7 +35,8 @@ fn reply(word: &[u8], width: u8, height: u8) -> Option<Reply>
 fn replies(alloc: Global, tail: Option<&[u8]>, width: u8, height: u8) -> Result<Replies, Fault>
     requires wide { IsSide width }
     requires high { IsSide height }
-    ensures replies { Gives (AllByRecursion (ReplyFits width height)) replies_text result (tail_text space (option_copied tail.entry)) }
+    ensures replies { Gives (AllByRecursion (ReplyFits width height)) replies_text result
+        (tail_text space (option_copied tail.entry)) }
 {
     let mut replies = Replies::new(alloc);
     let mut rest = tail;
@@ -50,7 +53,9 @@ fn replies(alloc: Global, tail: Option<&[u8]>, width: u8, height: u8) -> Result<
 
 /// What answers the replies that are not listed, and what follows it from the next space on.
 fn rest(bytes: &[u8]) -> Option<(Rest, Option<&[u8]>)>
-    ensures rest { Reads {X = Rest × Option (List ℕ)} (λ found. RestFits found.0) (λ found. rest_text found.0 ++ tail_text space found.1) (option_map (λ found. (found.0, option_copied found.1)) result) bytes.now }
+    ensures rest { Reads {X = Rest × Option (List ℕ)} (λ found. RestFits found.0)
+        (λ found. rest_text found.0 ++ tail_text space found.1)
+        (option_map (λ found. (found.0, option_copied found.1)) result) bytes.now }
 {
     let (word, tail) = cut(bytes, b' ');
     if is_text(word, b"wins") {
@@ -63,7 +68,7 @@ fn rest(bytes: &[u8]) -> Option<(Rest, Option<&[u8]>)>
         return None;
     }
     let (next, tail) = cut(tail?, b' ');
-    Some((Rest::To(number(next, MAX_NODES)?), tail))
+    Some((Rest::To(number(next, u32::MAX)?), tail))
 }
 
 /// What answers all replies: those that are listed, and the others. A rest that wins comes with no replies.
@@ -75,7 +80,8 @@ pub(crate) fn answers(
 ) -> Result<(Replies, Rest), Fault>
     requires wide { IsSide width }
     requires high { IsSide height }
-    ensures answers { Gives (λ found. AnswersFit width height (answers_with found)) (λ found. answers_text (answers_with found)) result bytes.now }
+    ensures answers { Gives (λ found. AnswersFit width height (answers_with found))
+        (λ found. answers_text (answers_with found)) result bytes.now }
 {
     let Some((rest, tail)) = rest(bytes) else {
         return Err(Fault::Bad);
@@ -118,7 +124,8 @@ pub(crate) fn start_line(
 ) -> Result<(Start, &[u8]), Fault>
     requires wide { IsSide width }
     requires high { IsSide height }
-    ensures start { GivesLine (StartFits width height len) start_line_lem (result_map_both (λ found. (found.0, found.1.now)) (λ fault. fault) result) bytes.now }
+    ensures start { GivesLine (StartFits width height len) start_line_lem
+        (result_map_both (λ found. (found.0, found.1.now)) (λ fault. fault) result) bytes.now }
 {
     let Some((text, after)) = prefixed(bytes, b"start ") else {
         return Err(Fault::Bad);

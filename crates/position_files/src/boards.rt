@@ -1,28 +1,36 @@
 //! The lines of a rule and a board.
+//!
+//! The stones of a line are put on the board one after another. They rise in reading order where each stands later than
+//! the one before it, and White's stand on no stone of Black's where the points are empty.
 #![tactic(auto)]
 
 ghost use Rattle.std.specs.Prelude.{◌≡◌, ℕ, List, [], ◌∷◌, ◌++◌, true, false, IsTrue, IfOk, IfErr, Err};
 ghost use Rattle.std.specs.List.{AllByRecursion};
 ghost use Rattle.game_rules.specs.Grid.{Grid, IsBoard};
-ghost use Rattle.position_files.specs.Lines.{line_feed, text_of};
-ghost use Rattle.position_files.specs.Positions.{space, board_lines, points_text, stones as stones_lem};
-ghost use Rattle.position_files.specs.Reading.{IsWithin, SameBut, is_free};
-ghost use Rattle.position_files.specs.Sections.{IsBoardLines, IsFaultFrom};
+ghost use Rattle.text_lines.specs.Lines.{line_feed, text_of};
+ghost use Rattle.text_lines.specs.Spellings.{space, points_text};
+ghost use Rattle.position_files.specs.Positions.{board_lines, stones as stones_lem};
+ghost use Rattle.text_lines.specs.Reading.{IsWithin, is_free};
+ghost use Rattle.position_files.specs.Boards.{SameBut};
+ghost use Rattle.position_files.specs.Faults.{IsUpTo};
+ghost use Rattle.position_files.specs.Sections.{IsBoardLines, IsSectionFault};
 
-use crate::FileError;
-use crate::faults::Fault;
-use crate::lines::{line, rule_line, size_line, stones};
+use crate::lines::{rule_line, size_line, stones};
+use crate::{HEAD_LINES, HeadError};
 use game_rules::{Point, RuleKind, Side};
 use std::alloc::Global;
 use stone_board::Board;
+use text_lines::{Fault, line};
 
 /// Puts stones of the side on these points, where none of them stands yet. `false` says that the points don't rise in reading
 /// order, or that one of them is taken.
 fn put_stones(board: &mut Board, side: Side, points: &[Point]) -> bool
     requires within { AllByRecursion (IsWithin board.old.width board.old.height) points.now }
     requires none { stones_lem board.old side ≡ [] }
-    ensures put { IsTrue result → SameBut side board.old board.new × (stones_lem board.new side ≡ points.now) }
-    ensures refused { result ≡ false → (b : Grid) → IsBoard b → SameBut side board.old b → stones_lem b side ≡ points.now → ⊥ }
+    ensures put { IsTrue result → SameBut side board.old board.new
+        × (stones_lem board.new side ≡ points.now) }
+    ensures refused { result ≡ false → (b : Grid) → IsBoard b → SameBut side board.old b
+        → stones_lem b side ≡ points.now → ⊥ }
     ensures board { IsBoard board.new }
 {
     let width = u32::from(board.width());
@@ -52,7 +60,8 @@ fn stones_line<'a>(
     requires none { stones_lem board.old side ≡ [] }
     ensures put { IfOk result (λ rest. SameBut side board.old board.new
         × (bytes.now ≡ (word.now ++ points_text (stones_lem board.new side)) ++ line_feed ∷ rest.now)) }
-    ensures bad { result ≡ Err Fault.Bad → (b : Grid) (rest : List ℕ) → IsBoard b → SameBut side board.old b
+    ensures bad { result ≡ Err Fault.Bad
+        → (b : Grid) (rest : List ℕ) → IsBoard b → SameBut side board.old b
         → bytes.now ≡ (word.now ++ points_text (stones_lem b side)) ++ line_feed ∷ rest → ⊥ }
     ensures board { IsBoard board.new }
 {
@@ -68,26 +77,28 @@ fn stones_line<'a>(
     Ok(rest)
 }
 
-/// The rule and the board that the first four lines tell, and the bytes after them. They are lines 2 to 5 of a text.
-pub(crate) fn read_board(alloc: Global, bytes: &[u8]) -> Result<(RuleKind, Board, &[u8]), FileError>
+/// The rule and the board that the first four lines tell, and the bytes after them.
+pub(crate) fn read_board(alloc: Global, bytes: &[u8]) -> Result<(RuleKind, Board, &[u8]), HeadError>
     ensures board { IfOk result (λ found. IsBoard found.1) }
-    ensures text { IfOk result (λ found. bytes.now ≡ text_of (board_lines found.0 found.1) ++ found.2.now) }
-    ensures refused { IfErr result (IsFaultFrom 2 IsBoardLines bytes.now) }
+    ensures text { IfOk result (λ found. bytes.now
+        ≡ text_of (board_lines found.0 found.1) ++ found.2.now) }
+    ensures refused { IfErr result (IsSectionFault IsBoardLines bytes.now) }
+    ensures within { IfErr result (IsUpTo HEAD_LINES) }
 {
     let Some((kind, rest)) = rule_line(bytes) else {
-        return Err(FileError::BadLine(2));
+        return Err(HeadError::BadLine(1));
     };
     let Some(((width, height), rest)) = size_line(rest) else {
-        return Err(FileError::BadLine(3));
+        return Err(HeadError::BadLine(2));
     };
     let mut board = Board::empty(alloc, width, height)?;
     let rest = match stones_line(alloc, &mut board, Side::Black, b"black", rest) {
         Ok(rest) => rest,
-        Err(fault) => return Err(fault.at(4)),
+        Err(fault) => return Err(HeadError::at(3, fault)),
     };
     let rest = match stones_line(alloc, &mut board, Side::White, b"white", rest) {
         Ok(rest) => rest,
-        Err(fault) => return Err(fault.at(5)),
+        Err(fault) => return Err(HeadError::at(4, fault)),
     };
     Ok((kind, board, rest))
 }

@@ -1,10 +1,14 @@
-//! Why a text is refused.
+//! Why a text, or a section at the front of one, is refused.
+//!
+//! A section counts its lines from its own front. A reader of a whole text adds the lines that stand before the section.
 #![tactic(auto)]
 
-ghost use Rattle.std.specs.Prelude.{◌≡◌};
+ghost use Rattle.std.specs.Prelude.{◌≡◌, ◌-◌};
+ghost use Rattle.position_files.specs.Faults.{IsUpTo, after_lines, at_line, in_file};
 
 use foul_judge::PositionError;
 use std::alloc::AllocError;
+use text_lines::Fault;
 use thiserror::Error;
 
 /// Why a text is refused. The first that holds is answered, but `Memory` may come at any line.
@@ -25,6 +29,18 @@ pub enum FileError {
     Memory,
 }
 
+/// Why bytes begin with no section of a kind. `Memory` may come at any line.
+#[derive(Debug, Drop, PartialEq, Eq, Error)]
+pub enum HeadError {
+    /// The line of this number, counted from 1 at the front of the bytes, is the first that no section has after the
+    /// lines before it. A line that is missing counts.
+    #[error("line {0} is bad")]
+    BadLine(u32),
+    /// There is no memory for the value.
+    #[error("out of memory")]
+    Memory,
+}
+
 impl From<AllocError> for FileError {
     ghost use Rattle.position_files.specs.declared.error.FileError.TheVariants.{Memory};
 
@@ -32,5 +48,50 @@ impl From<AllocError> for FileError {
 
     fn from(_error: AllocError) -> FileError {
         FileError::Memory
+    }
+}
+
+impl From<AllocError> for HeadError {
+    ghost use Rattle.position_files.specs.declared.error.HeadError.TheVariants.{Memory};
+
+    ghost from_gives = { λ _ error. error ≡ Memory };
+
+    fn from(_error: AllocError) -> HeadError {
+        HeadError::Memory
+    }
+}
+
+impl From<HeadError> for FileError {
+    ghost from_gives = { λ head error. error ≡ in_file head };
+
+    /// The same, said of a whole text whose front the section is.
+    fn from(error: HeadError) -> FileError {
+        match error {
+            HeadError::BadLine(line) => FileError::BadLine(line),
+            HeadError::Memory => FileError::Memory,
+        }
+    }
+}
+
+impl HeadError {
+    /// What is said of a section whose line of this number has the fault.
+    pub(crate) fn at(line: u32, fault: Fault) -> HeadError
+        ensures error { result ≡ at_line fault line }
+    {
+        match fault {
+            Fault::Bad => HeadError::BadLine(line),
+            Fault::Memory => HeadError::Memory,
+        }
+    }
+
+    /// The same, said of bytes in which so many lines come before the section.
+    pub fn after(self, lines: u32) -> HeadError
+        requires few { IsUpTo (u32.MAX - lines) self }
+        ensures error { result ≡ after_lines lines self }
+    {
+        match self {
+            HeadError::BadLine(line) => HeadError::BadLine(lines + line),
+            HeadError::Memory => HeadError::Memory,
+        }
     }
 }

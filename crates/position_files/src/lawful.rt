@@ -1,4 +1,6 @@
 //! Whether a board that is read is a lawful position.
+//!
+//! The board is handed to the type of positions under the rule that the text names, and taken back from it.
 #![tactic(auto)]
 
 ghost use Rattle.std.specs.Prelude.{◌≡◌, ◌↔◌, IfOk, IfErr, IsOk};

@@ -2,17 +2,18 @@
 //!
 //! A text is a list of lines, each ended by a line feed, and each value has one spelling: `specs/Positions.antt` and
 //! `specs/Tables.antt` give it. The readers go over the lines once. A line is bad where no text has it after the lines
-//! before it.
+//! before it. What other texts hold as well, as a head or the lines of nodes, is a section: it is read from its own
+//! front, and its lines are counted from 1 there.
 #![tactic(auto)]
 
 mod answers;
 mod boards;
 mod error;
-mod faults;
 mod lawful;
 mod lines;
 mod nodes;
 mod positions;
+mod sections;
 mod tables;
 #[cfg(test)]
 mod tests;
@@ -21,18 +22,23 @@ mod words;
 mod writers;
 mod written;
 
-pub use error::FileError;
+pub use error::{FileError, HeadError};
 use game_rules::RuleKind;
 pub use positions::read_position;
+pub use sections::{HEAD_LINES, Head, Nodes, StartLine, read_head, read_nodes, read_start};
 use stone_board::Board;
 use strategy_graph::{Root, Table};
 pub use tables::read_table;
-pub use theorems::{positions_read_back, tables_read_back};
-pub use words::wide_number;
+pub use theorems::{
+    positions_read_back, sections_name_first_bad_lines, sections_read_back, tables_read_back,
+};
 pub use writers::{write_position, write_table};
 
 /// The most moves that a table says it needs.
 pub const MAX_MOVES: u32 = 1_000_000;
+
+/// The lines before the head of a text: the one that says what the text is.
+pub(crate) const FIRST_LINES: u32 = 1;
 
 /// A position as a file has it: the rule and the board, which is a lawful position under that rule.
 #[derive(Drop)]

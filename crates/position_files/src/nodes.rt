@@ -1,31 +1,32 @@
 //! The nodes of a table, read line by line.
+//!
+//! Each node is added to the table of those before it, which takes it where it is a node of the next number. So the
+//! nodes that are read are always a table.
 #![tactic(auto)]
 
 ghost use Rattle.std.specs.Prelude.{◌≡◌, ℕ, ◌≤◌, ◌<◌, true, List, [], ◌∷◌, ◌++◌, length, map, OnOk, OnErr, IfOk, IfErr, Err};
 ghost use Rattle.std.specs.List.{AllByRecursion};
 ghost use Rattle.strategy_graph.specs.Tables.{IsNode, is_winning};
 ghost use Rattle.strategy_graph.specs.declared.Node.{Node};
-ghost use Rattle.position_files.specs.Lines.{line_feed, text_of};
+ghost use Rattle.text_lines.specs.Lines.{line_feed, text_of};
 ghost use Rattle.position_files.specs.Tables.{node_line};
-ghost use Rattle.position_files.specs.Reading.{IsSide};
+ghost use Rattle.position_files.specs.Boards.{IsSide};
 ghost use Rattle.position_files.specs.Answers.{AddsNode, NodeFits};
-ghost use Rattle.position_files.specs.Sections.{IsNodesFault};
+ghost use Rattle.position_files.specs.Faults.{IsUpTo};
+ghost use Rattle.position_files.specs.Sections.{AreNodeLines, IsSectionFault};
 
-use crate::FileError;
+use crate::HeadError;
 use crate::answers::node;
-use crate::faults::Fault;
-use crate::lines::line;
 use std::alloc::Global;
-use strategy_graph::{Node, PushError, Table};
-
-/// The number of the first line that has a node.
-pub(crate) const FIRST_NODE_LINE: u32 = 8;
+use strategy_graph::{MAX_NODES, Node, PushError, Table};
+use text_lines::{Fault, line};
 
 /// Adds the node at the end of the table. `Bad` says that it is no node of this number.
 fn push(table: &mut Table, node: Node) -> Result<(), Fault>
     requires winning { is_winning node.rest ≡ true → node.replies ≡ [] }
     ensures pushed { OnOk result (table.new ≡ table.old ++ node ∷ []) }
-    ensures bad { result ≡ Err Fault.Bad → IsNode node (length table.old) → length table.old < 1000000 → ⊥ }
+    ensures bad { result ≡ Err Fault.Bad
+        → IsNode node (length table.old) → length table.old < MAX_NODES → ⊥ }
     ensures unchanged { OnErr result (table.new ≡ table.old) }
 {
     match table.push(node) {
@@ -45,8 +46,10 @@ fn add_node<'a>(
 ) -> Result<&'a [u8], Fault>
     requires wide { IsSide width }
     requires high { IsSide height }
-    ensures added { IfOk result (λ rest. AddsNode width height table.old table.new bytes.now rest.now) }
-    ensures bad { result ≡ Err Fault.Bad → (n : Node) (others : List ℕ) → NodeFits width height n → IsNode n (length table.old) → length table.old < 1000000
+    ensures added { IfOk result (λ rest. AddsNode width height
+        table.old table.new bytes.now rest.now) }
+    ensures bad { result ≡ Err Fault.Bad → (n : Node) (others : List ℕ) → NodeFits width height n
+        → IsNode n (length table.old) → length table.old < MAX_NODES
         → bytes.now ≡ node_line n ++ line_feed ∷ others → ⊥ }
     ensures unchanged { OnErr result (table.new ≡ table.old) }
 {
@@ -58,27 +61,29 @@ fn add_node<'a>(
 }
 
 /// The table of the next `count` lines, and the bytes after them.
-pub(crate) fn read_nodes(
+pub(crate) fn node_lines(
     alloc: Global,
     bytes: &[u8],
     count: u32,
     width: u8,
     height: u8,
-) -> Result<(Table, &[u8]), FileError>
+) -> Result<(Table, &[u8]), HeadError>
     requires wide { IsSide width }
     requires high { IsSide height }
-    requires few { count ≤ 1000000 }
+    requires few { count ≤ MAX_NODES }
     ensures count { IfOk result (λ found. length found.0 ≡ count) }
     ensures nodes { IfOk result (λ found. AllByRecursion (NodeFits width height) found.0) }
-    ensures text { IfOk result (λ found. bytes.now ≡ text_of (map node_line found.0) ++ found.1.now) }
-    ensures refused { IfErr result (IsNodesFault width height count bytes.now) }
+    ensures text { IfOk result (λ found. bytes.now
+        ≡ text_of (map node_line found.0) ++ found.1.now) }
+    ensures refused { IfErr result (IsSectionFault (AreNodeLines width height count) bytes.now) }
+    ensures within { IfErr result (IsUpTo count) }
 {
     let mut table = Table::new(alloc);
     let mut rest = bytes;
     for number in 0..count {
         match add_node(alloc, &mut table, rest, width, height) {
             Ok(after) => rest = after,
-            Err(fault) => return Err(fault.at(FIRST_NODE_LINE + number)),
+            Err(fault) => return Err(HeadError::at(number + 1, fault)),
         }
     }
     Ok((table, rest))

@@ -10,25 +10,29 @@ ghost use Rattle.position_files.specs.declared.PositionFile.{PositionFile};
 ghost use Rattle.position_files.specs.Positions.{IsTextOfPosition};
 ghost use Rattle.position_files.specs.Faults.{IsPositionFault};
 
-use crate::boards::read_board;
 use crate::lawful::lawful;
-use crate::words::after;
-use crate::{FileError, PositionFile};
+use crate::{FIRST_LINES, FileError, HEAD_LINES, Head, PositionFile, read_head};
 use std::alloc::Global;
+use text_lines::after;
 
 /// The position that the bytes are the text of. A bad line is named first, and then why the board is no lawful position.
 pub fn read_position(alloc: Global, bytes: &[u8]) -> Result<PositionFile, FileError>
     ensures found { IfOk result (λ file. IsTextOfPosition file bytes.now) }
-    ensures only { IfOk result (λ file. (other : PositionFile) → IsTextOfPosition other bytes.now → other ≡ file) }
+    ensures only { IfOk result (λ file. (other : PositionFile)
+        → IsTextOfPosition other bytes.now → other ≡ file) }
     ensures lawful { IfOk result (λ file. IsPosition file.kind file.board) }
     ensures refused { IfErr result (IsPositionFault bytes.now) }
 {
     let Some(rest) = after(bytes, b"renju-position 1\n") else {
         return Err(FileError::BadLine(1));
     };
-    let (kind, board, rest) = read_board(alloc, rest)?;
-    if !rest.is_empty() {
-        return Err(FileError::BadLine(6));
+    let head = match read_head(alloc, rest) {
+        Ok(head) => head,
+        Err(error) => return Err(FileError::from(error.after(FIRST_LINES))),
+    };
+    let Head { kind, board, taken } = head;
+    if taken < rest.len() {
+        return Err(FileError::BadLine(FIRST_LINES + HEAD_LINES + 1));
     }
     let board = lawful(kind, board)?;
     Ok(PositionFile { kind, board })

@@ -1,6 +1,9 @@
 //! Texts that are read, and texts that are refused.
 
-use crate::{FileError, read_position, read_table, write_position, write_table};
+use crate::{
+    FileError, HeadError, read_head, read_nodes, read_position, read_start, read_table,
+    write_position, write_table,
+};
 use foul_judge::PositionError;
 use game_rules::{Point, RuleKind, Side};
 use std::test::Fail;
@@ -94,4 +97,49 @@ fn names_what_is_refused(rt: HostRuntime) {
             "at {bytes:?}"
         );
     }
+}
+
+#[test]
+fn reads_sections_at_the_front(rt: HostRuntime) -> Result<(), Fail> {
+    let text = b"rule exact\nsize 9,5\nblack 0,2\nwhite 0,0\nmoves 0,1\n";
+    let head = read_head(rt.alloc(), text)?;
+    assert_eq!(rt;
+        (head.kind, head.board.width(), head.board.height()),
+        (RuleKind::Exact, 9, 5)
+    );
+    assert_eq!(rt; head.taken, 40);
+    let nodes = read_nodes(
+        rt.alloc(),
+        b"8,7 wins\n3,7 rest 0 8,7>0\nentries 1\n",
+        2,
+        15,
+        15,
+    )?;
+    assert_eq!(rt; (nodes.table.len(), nodes.taken), (2, 26));
+    let line = read_start(rt.alloc(), b"start rest 1 8,7>0\nrule exact\n", 2, 15, 15)?;
+    assert_eq!(rt; line.taken, 19);
+    assert_eq!(rt; line.start.lookup(Point { x: 8, y: 7 }), Some(0));
+    assert_eq!(rt; line.start.lookup(Point { x: 0, y: 0 }), Some(1));
+    Ok(())
+}
+
+#[test]
+fn counts_bad_lines_from_the_front_of_a_section(rt: HostRuntime) {
+    let heads: [(&[u8], u32); 5] = [
+        (b"", 1),
+        (b"rule renju", 1),
+        (b"rule renju\nsize 4\n", 2),
+        (b"rule renju\nsize 9\nblack 0,0 0,0\nwhite\n", 3),
+        (b"rule renju\nsize 9\nblack 0,0\nwhite 0,0\n", 4),
+    ];
+    for (bytes, line) in heads {
+        assert!(rt;
+            read_head(rt.alloc(), bytes).err() == Some(HeadError::BadLine(line)),
+            "at {bytes:?}"
+        );
+    }
+    let nodes = read_nodes(rt.alloc(), b"8,7 wins\n3,7 rest 1\n", 2, 15, 15);
+    assert!(rt; nodes.err() == Some(HeadError::BadLine(2)));
+    let start = read_start(rt.alloc(), b"start rest 2\n", 2, 15, 15);
+    assert!(rt; start.err() == Some(HeadError::BadLine(1)));
 }

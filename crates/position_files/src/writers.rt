@@ -9,8 +9,9 @@ ghost use Rattle.std.specs.List.{AllByRecursion};
 ghost use Rattle.std.specs.Fmt.{decimal};
 ghost use Rattle.game_rules.specs.Grid.{IsBoard};
 ghost use Rattle.strategy_graph.specs.Tables.{IsTable};
-ghost use Rattle.position_files.specs.Lines.{ended, text_of};
-ghost use Rattle.position_files.specs.Positions.{space, IsTextOfPosition, board_lines, point_text};
+ghost use Rattle.text_lines.specs.Lines.{ended, text_of};
+ghost use Rattle.text_lines.specs.Spellings.{space, point_text};
+ghost use Rattle.position_files.specs.Positions.{IsTextOfPosition, board_lines};
 ghost use Rattle.position_files.specs.Tables.{IsTextOfTable, NodeOn, RootFits, answers_text, node_line, nodes_lines, replies_text, reply_text, rest_text as rest_text_lem, start_line, table_text as table_text_lem};
 
 use crate::written::board_text;
@@ -18,11 +19,13 @@ use game_rules::{Point, RuleKind};
 use std::alloc::{AllocError, Global};
 use stone_board::Board;
 use strategy_graph::{Node, Replies, Reply, Rest, Root, Start, Table};
+use text_lines::push_number_line;
 
 /// Writes the text of a position. `Err` says that memory ran out.
 #[tactic(auto, unfolding(crate::specs::Positions::position_text))]
 pub fn write_position(alloc: Global, kind: RuleKind, board: &Board) -> Result<Vec<u8>, AllocError>
-    ensures written { IfOk result (λ bytes. IsTextOfPosition (record { kind = kind; board = board.now }) bytes.items) }
+    ensures written { IfOk result (λ bytes. IsTextOfPosition
+        (record { kind = kind; board = board.now }) bytes.items) }
 {
     let text = board_text(alloc, "renju-position 1", kind, board)?;
     Ok(text.into_bytes())
@@ -40,7 +43,8 @@ fn spaced_reply(alloc: Global, reply: Reply) -> Result<String, AllocError>
 
 /// Adds replies to a text, each after a space.
 fn push_replies(alloc: Global, text: &mut String, replies: &[Reply]) -> Result<(), AllocError>
-    ensures replies { IfOk result (λ _. string_bytes text.new ≡ string_bytes text.old ++ replies_text replies.now) }
+    ensures replies { IfOk result (λ _. string_bytes text.new ≡ string_bytes text.old
+        ++ replies_text replies.now) }
 {
     for reply in replies {
         let word = spaced_reply(alloc, *reply)?;
@@ -67,7 +71,8 @@ fn push_answers(
     replies: &Replies,
     rest: Rest,
 ) -> Result<(), AllocError>
-    ensures answers { IfOk result (λ _. string_bytes text.new ≡ string_bytes text.old ++ answers_text (record { replies = replies.now; rest = rest })) }
+    ensures answers { IfOk result (λ _. string_bytes text.new ≡ string_bytes text.old
+        ++ answers_text (record { replies = replies.now; rest = rest })) }
 {
     let word = rest_text(alloc, rest)?;
     text.push_str(word.as_str())?;
@@ -86,7 +91,8 @@ fn attack_text(alloc: Global, at: Point) -> Result<String, AllocError>
 
 /// Adds the line of a node to a text.
 fn push_node(alloc: Global, text: &mut String, node: &Node) -> Result<(), AllocError>
-    ensures line { IfOk result (λ _. string_bytes text.new ≡ string_bytes text.old ++ ended (node_line node.now)) }
+    ensures line { IfOk result (λ _. string_bytes text.new ≡ string_bytes text.old
+        ++ ended (node_line node.now)) }
 {
     let attack = attack_text(alloc, node.attack)?;
     text.push_str(attack.as_str())?;
@@ -97,7 +103,8 @@ fn push_node(alloc: Global, text: &mut String, node: &Node) -> Result<(), AllocE
 
 /// Adds the line of a start to a text.
 fn push_start(alloc: Global, text: &mut String, start: &Start) -> Result<(), AllocError>
-    ensures line { IfOk result (λ _. string_bytes text.new ≡ string_bytes text.old ++ ended (start_line start.now)) }
+    ensures line { IfOk result (λ _. string_bytes text.new ≡ string_bytes text.old
+        ++ ended (start_line start.now)) }
 {
     text.push_str("start ")?;
     push_answers(alloc, text, start.replies(), start.rest())?;
@@ -108,7 +115,8 @@ fn push_start(alloc: Global, text: &mut String, start: &Start) -> Result<(), All
 /// Adds the lines of the nodes of a table to a text.
 #[tactic(auto, using(crate::proofs::Growth::node_grown, crate::proofs::Growth::nodes_grown))]
 fn push_nodes(alloc: Global, text: &mut String, table: &Table) -> Result<(), AllocError>
-    ensures nodes { IfOk result (λ _. string_bytes text.new ≡ string_bytes text.old ++ text_of (map node_line table.now)) }
+    ensures nodes { IfOk result (λ _. string_bytes text.new ≡ string_bytes text.old
+        ++ text_of (map node_line table.now)) }
 {
     for i in 0..table.len() {
         push_node(alloc, text, table.node(i))?;
@@ -116,25 +124,16 @@ fn push_nodes(alloc: Global, text: &mut String, table: &Table) -> Result<(), All
     Ok(())
 }
 
-/// Adds a line of this word and this number to a text.
-fn push_count(alloc: Global, text: &mut String, word: &str, count: u32) -> Result<(), AllocError>
-    ensures line { IfOk result (λ _. string_bytes text.new ≡ string_bytes text.old ++ ended (word.now ++ decimal count)) }
-{
-    let number = format!(in alloc; "{count}\n")?;
-    text.push_str(word)?;
-    text.push_str(number.as_str())?;
-    Ok(())
-}
-
 /// Adds the lines from the number of moves to the last node to a text.
 #[tactic(auto, using(crate::proofs::Growth::table_grown))]
 fn push_table(alloc: Global, text: &mut String, table: &Table, moves: u32) -> Result<(), AllocError>
-    ensures lines { IfOk result (λ _. string_bytes text.new ≡ string_bytes text.old ++ text_of (nodes_lines table.now moves)) }
+    ensures lines { IfOk result (λ _. string_bytes text.new ≡ string_bytes text.old
+        ++ text_of (nodes_lines table.now moves)) }
     ensures table { IsTable table.now }
 {
     let len = table.len();
-    push_count(alloc, text, "moves ", moves)?;
-    push_count(alloc, text, "nodes ", len)?;
+    push_number_line(alloc, text, "moves ", moves)?;
+    push_number_line(alloc, text, "nodes ", len)?;
     push_nodes(alloc, text, table)?;
     Ok(())
 }
@@ -149,7 +148,8 @@ fn body_text(
     table: &Table,
     moves: u32,
 ) -> Result<String, AllocError>
-    ensures text { IfOk result (λ text. string_bytes text ≡ text_of (first.now ∷ board_lines kind board.now ++ nodes_lines table.now moves)) }
+    ensures text { IfOk result (λ text. string_bytes text
+        ≡ text_of (first.now ∷ board_lines kind board.now ++ nodes_lines table.now moves)) }
     ensures board { IfOk result (λ _. IsBoard board.now) }
     ensures table { IfOk result (λ _. IsTable table.now) }
 {
@@ -168,7 +168,8 @@ fn table_text(
     root: &Root,
     moves: u32,
 ) -> Result<String, AllocError>
-    ensures text { IfOk result (λ text. string_bytes text ≡ table_text_lem kind board.now table.now root.now moves) }
+    ensures text { IfOk result (λ text. string_bytes text
+        ≡ table_text_lem kind board.now table.now root.now moves) }
     ensures board { IfOk result (λ _. IsBoard board.now) }
     ensures table { IfOk result (λ _. IsTable table.now) }
 {
@@ -193,7 +194,9 @@ pub fn write_table(
 ) -> Result<Vec<u8>, AllocError>
     requires on_board { AllByRecursion (NodeOn board.now) table.now }
     requires root { RootFits board.now table.now root.now moves }
-    ensures written { IfOk result (λ bytes. IsTextOfTable (record { kind = kind; board = board.now; table = table.now; root = root.now; moves = moves }) bytes.items) }
+    ensures written { IfOk result (λ bytes. IsTextOfTable
+        (record { kind = kind; board = board.now; table = table.now; root = root.now; moves = moves })
+        bytes.items) }
 {
     let text = table_text(alloc, kind, board, table, root, moves)?;
     Ok(text.into_bytes())

@@ -4,23 +4,16 @@
 //! the points of the board.
 #![tactic(auto)]
 
-ghost use Rattle.std.specs.Prelude.{◌≡◌, [], ◌∷◌, ◌++◌, IfOk, string_bytes};
+ghost use Rattle.std.specs.Prelude.{◌≡◌, ◌∷◌, ◌++◌, IfOk, string_bytes};
 ghost use Rattle.game_rules.specs.Grid.{IsBoard};
-ghost use Rattle.position_files.specs.Lines.{ended, text_of};
-ghost use Rattle.position_files.specs.Positions.{space, board_lines, point_text, points_text, rule_line, rule_word as rule_word_lem, size_line as size_line_lem, stones};
+ghost use Rattle.text_lines.specs.Lines.{ended, text_of};
+ghost use Rattle.text_lines.specs.Spellings.{points_text};
+ghost use Rattle.position_files.specs.Positions.{board_lines, rule_line, rule_word as rule_word_lem, size_line as size_line_lem, stones};
 
-use game_rules::{Point, RuleKind, Side};
+use game_rules::{RuleKind, Side};
 use std::alloc::{AllocError, Global};
 use stone_board::Board;
-
-/// Adds a line to a text, and the line feed that ends it.
-fn push_line(text: &mut String, line: &str) -> Result<(), AllocError>
-    ensures line { IfOk result (λ _. string_bytes text.new ≡ string_bytes text.old ++ ended line.now) }
-{
-    text.push_str(line)?;
-    text.push_str("\n")?;
-    Ok(())
-}
+use text_lines::{push_line, push_point};
 
 /// The word of a rule.
 fn rule_word(kind: RuleKind) -> &'static str
@@ -35,7 +28,8 @@ fn rule_word(kind: RuleKind) -> &'static str
 
 /// Adds the line of a rule to a text.
 fn push_rule(text: &mut String, kind: RuleKind) -> Result<(), AllocError>
-    ensures line { IfOk result (λ _. string_bytes text.new ≡ string_bytes text.old ++ ended (rule_line kind)) }
+    ensures line { IfOk result (λ _. string_bytes text.new ≡ string_bytes text.old
+        ++ ended (rule_line kind)) }
 {
     text.push_str("rule ")?;
     push_line(text, rule_word(kind))?;
@@ -55,21 +49,13 @@ fn size_line(alloc: Global, width: u8, height: u8) -> Result<String, AllocError>
 
 /// Adds the line of the size of a board to a text.
 fn push_size(alloc: Global, text: &mut String, board: &Board) -> Result<(), AllocError>
-    ensures line { IfOk result (λ _. string_bytes text.new ≡ string_bytes text.old ++ ended (size_line_lem board.now.width board.now.height)) }
+    ensures line { IfOk result (λ _. string_bytes text.new ≡ string_bytes text.old
+        ++ ended (size_line_lem board.now.width board.now.height)) }
     ensures board { IsBoard board.now }
 {
     let line = size_line(alloc, board.width(), board.height())?;
     push_line(text, line.as_str())?;
     Ok(())
-}
-
-/// A point after a space.
-fn spaced_point(alloc: Global, at: Point) -> Result<String, AllocError>
-    ensures text { IfOk result (λ text. string_bytes text ≡ space ∷ point_text at) }
-{
-    let x = at.x;
-    let y = at.y;
-    format!(in alloc; " {x},{y}")
 }
 
 /// Adds the points at which stones of the side stand to a text, in reading order, each after a space.
@@ -80,12 +66,12 @@ fn push_stones(
     board: &Board,
     side: Side,
 ) -> Result<(), AllocError>
-    ensures stones { IfOk result (λ _. string_bytes text.new ≡ string_bytes text.old ++ points_text (stones board.now side)) }
+    ensures stones { IfOk result (λ _. string_bytes text.new ≡ string_bytes text.old
+        ++ points_text (stones board.now side)) }
 {
     for p in board.points() {
         if board.holds(side, p) {
-            let word = spaced_point(alloc, p)?;
-            text.push_str(word.as_str())?;
+            push_point(alloc, text, p)?;
         }
     }
     Ok(())
@@ -99,7 +85,8 @@ fn push_stones_line(
     side: Side,
     word: &str,
 ) -> Result<(), AllocError>
-    ensures line { IfOk result (λ _. string_bytes text.new ≡ string_bytes text.old ++ ended (word.now ++ points_text (stones board.now side))) }
+    ensures line { IfOk result (λ _. string_bytes text.new ≡ string_bytes text.old
+        ++ ended (word.now ++ points_text (stones board.now side))) }
 {
     text.push_str(word)?;
     push_stones(alloc, text, board, side)?;
@@ -115,7 +102,8 @@ pub(crate) fn board_text(
     kind: RuleKind,
     board: &Board,
 ) -> Result<String, AllocError>
-    ensures text { IfOk result (λ text. string_bytes text ≡ text_of (first.now ∷ board_lines kind board.now)) }
+    ensures text { IfOk result (λ text. string_bytes text
+        ≡ text_of (first.now ∷ board_lines kind board.now)) }
     ensures board { IfOk result (λ _. IsBoard board.now) }
 {
     let mut text = String::new(alloc);

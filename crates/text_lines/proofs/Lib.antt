@@ -3,8 +3,9 @@
 pub mod Cuts
 pub mod Decimals
 pub mod Items
--- how points are spelled; first lines of bytes
+-- how points are spelled; what a fault says; first lines of bytes
 pub mod PointLaws
+pub mod FaultLaws
 pub mod LineLaws
 -- texts of lists of lines, and texts at the front of bytes
 pub mod TextLaws

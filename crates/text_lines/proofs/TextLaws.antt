@@ -1,5 +1,5 @@
 -- Texts of lists of lines.
-use Rattle.std.proofs.Common.{◌≡◌, ℕ, zero, suc, ◌+◌, ◌-◌, ◌≤◌, true, false, refl, sym, ap, ◌∙◌, arith, List, [], ◌∷◌, ◌++◌, append_assoc, length, take, drop, eqb, take-append-drop}
+use Rattle.std.proofs.Common.{◌≡◌, ℕ, zero, suc, ◌+◌, ◌-◌, ◌≤◌, ◌<◌, true, false, refl, sym, ap, ◌∙◌, arith, List, [], ◌∷◌, ◌++◌, append_assoc, length, take, drop, eqb, take-append-drop}
 use Rattle.std.specs.List.{AllByRecursion}
 use Rattle.std.proofs.lemmas.Bool.{eqb-true, eq-eqb, both_ways}
 use Rattle.std.proofs.lemmas.List.{append-nil, nil_from_length, length-append, length-drop, length-take-le, take_all, take_at}
@@ -113,3 +113,10 @@ front_taken text bytes rest e =
 -- the length of such a text is known by it
 pub front_length : (text bytes : List ℕ) (taken : ℕ) → IsFront text bytes taken → taken ≡ length text
 front_length text bytes taken h = sym (length-take-le taken bytes h.within) ∙ ap length h.spelled
+
+-- where the text is all of the bytes, nothing comes after it, and else something does
+pub front_ends : (bytes : List ℕ) (taken : ℕ) → length bytes ≤ taken → drop taken bytes ≡ []
+front_ends bytes taken all = nil_from_length (drop taken bytes) (let count = length-drop taken bytes in omega (arith, count))
+
+pub front_goes_on : (bytes : List ℕ) (taken : ℕ) → taken < length bytes → drop taken bytes ≡ [] → ⊥
+front_goes_on bytes taken more e = let count = length-drop taken bytes in let none : length (drop taken bytes) ≡ 0 = ap length e in omega (arith, count, none)

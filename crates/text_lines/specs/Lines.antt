@@ -28,10 +28,18 @@ pub record FirstBad (IsText : List ℕ → Type 0) (bytes : List ℕ) (n : ℕ) 
   pub so_far : (text : List ℕ) × IsText text × (take (n - 1) (pieces text) ≡ take (n - 1) (pieces bytes))
   pub no_further : (text : List ℕ) → IsText text → take n (pieces text) ≡ take n (pieces bytes) → ⊥
 
+-- the bytes begin with lines of this kind, and go on anyhow
+abbrev pub BeginsWith : (List (List ℕ) → Type 0) → List ℕ → Type 0
+BeginsWith IsLines bytes = (ls : List (List ℕ)) × (rest : List ℕ) × IsLines ls × (bytes ≡ text_of ls ++ rest)
+
 -- The bytes begin with this text, which is so many bytes long.
 pub record IsFront (text bytes : List ℕ) (taken : ℕ) : Type 0 where
   pub within : taken ≤ length bytes
   pub spelled : take taken bytes ≡ text
+
+-- the lines are the one line of a value that fits
+abbrev pub IsLineOf : {X : Type 0} → (X → Type 0) → (X → List ℕ) → List (List ℕ) → Type 0
+IsLineOf {X} Fits line ls = (v : X) × Fits v × (ls ≡ line v ∷ [])
 
 -- The bytes begin with the first i lines of some list of lines of this kind, and with the first i + 1 lines of none.
 pub record LeavesAt (IsLines : List (List ℕ) → Type 0) (bytes : List ℕ) (i : ℕ) : Type 0 where

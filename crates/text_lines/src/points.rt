@@ -1,4 +1,6 @@
 //! Points: a column and a row, with a comma between them.
+//!
+//! A point is read within bounds, those of a board or wider ones, so that a point off the board is never met later.
 #![tactic(auto)]
 
 ghost use Rattle.std.specs.Prelude.{◌<◌};

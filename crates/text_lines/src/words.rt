@@ -33,7 +33,8 @@ pub fn is_text(bytes: &[u8], text: &[u8]) -> bool
 
 /// The bytes after this text, if they begin with it.
 pub fn after<'a>(bytes: &'a [u8], text: &[u8]) -> Option<&'a [u8]>
-    ensures rest { Reads (λ _. Unit {0}) (λ rest. text.now ++ rest) (option_copied result) bytes.now }
+    ensures rest { Reads (λ _. Unit {0}) (λ rest. text.now ++ rest)
+        (option_copied result) bytes.now }
 {
     bytes.strip_prefix(text)
 }

@@ -14,7 +14,8 @@ use std::alloc::{AllocError, Global};
 
 /// Adds a line to a text, and the line feed that ends it.
 pub fn push_line(text: &mut String, line: &str) -> Result<(), AllocError>
-    ensures line { IfOk result (λ _. string_bytes text.new ≡ string_bytes text.old ++ ended line.now) }
+    ensures line { IfOk result (λ _. string_bytes text.new ≡ string_bytes text.old
+        ++ ended line.now) }
 {
     text.push_str(line)?;
     text.push_str("\n")?;
@@ -28,7 +29,8 @@ pub fn push_number_line(
     word: &str,
     number: u32,
 ) -> Result<(), AllocError>
-    ensures line { IfOk result (λ _. string_bytes text.new ≡ string_bytes text.old ++ ended (word.now ++ decimal number)) }
+    ensures line { IfOk result (λ _. string_bytes text.new ≡ string_bytes text.old
+        ++ ended (word.now ++ decimal number)) }
 {
     let number = format!(in alloc; "{number}\n")?;
     text.push_str(word)?;
@@ -47,7 +49,8 @@ fn spaced_point(alloc: Global, at: Point) -> Result<String, AllocError>
 
 /// Adds a point to a text, after a space.
 pub fn push_point(alloc: Global, text: &mut String, at: Point) -> Result<(), AllocError>
-    ensures point { IfOk result (λ _. string_bytes text.new ≡ string_bytes text.old ++ space ∷ point_text at) }
+    ensures point { IfOk result (λ _. string_bytes text.new ≡ string_bytes text.old
+        ++ space ∷ point_text at) }
 {
     let word = spaced_point(alloc, at)?;
     text.push_str(word.as_str())?;
@@ -56,7 +59,8 @@ pub fn push_point(alloc: Global, text: &mut String, at: Point) -> Result<(), All
 
 /// Adds points to a text, each after a space.
 pub fn push_points(alloc: Global, text: &mut String, points: &[Point]) -> Result<(), AllocError>
-    ensures points { IfOk result (λ _. string_bytes text.new ≡ string_bytes text.old ++ points_text points.now) }
+    ensures points { IfOk result (λ _. string_bytes text.new ≡ string_bytes text.old
+        ++ points_text points.now) }
 {
     for at in points {
         push_point(alloc, text, *at)?;

@@ -1,10 +1,10 @@
 use Rattle.std.proofs.Common.{ℕ, arith, List, [], ◌∷◌, Bor, length, length-append, ap, subst, option_copied}
 use Rattle.std.specs.Prelude.{Option}
-use Rattle.position_files.specs.Positions.{space}
+use Rattle.text_lines.specs.Spellings.{space}
 use Rattle.position_files.specs.Tables.{reply_text}
-use Rattle.position_files.specs.Reading.{tail_text}
+use Rattle.text_lines.specs.Reading.{tail_text}
 use Rattle.position_files.specs.Answers.{ReplyFits}
-use Rattle.position_files.proofs.Items.{Follows, begins, stops, goes_on, ends}
+use Rattle.text_lines.proofs.Items.{Follows, begins, stops, goes_on, ends}
 use Rattle.position_files.proofs.AnswerLaws.{reply_items}
 use Rattle.position_files.proofs.answers.replies.Goals as goal
 

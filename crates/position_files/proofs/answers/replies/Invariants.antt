@@ -1,9 +1,9 @@
 use Rattle.std.proofs.Common.{length, option_copied}
-use Rattle.position_files.specs.Positions.{space}
+use Rattle.text_lines.specs.Spellings.{space}
 use Rattle.position_files.specs.Tables.{reply_text}
-use Rattle.position_files.specs.Reading.{tail_text}
+use Rattle.text_lines.specs.Reading.{tail_text}
 use Rattle.position_files.specs.Answers.{ReplyFits}
-use Rattle.position_files.proofs.Items.{Follows}
+use Rattle.text_lines.proofs.Items.{Follows}
 use Rattle.position_files.proofs.answers.replies.Given as goal
 
 -- the line begins with these replies, and goes on with the rest

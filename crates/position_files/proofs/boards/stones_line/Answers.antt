@@ -1,23 +1,20 @@
 use Rattle.std.proofs.Common.{◌≡◌, ◌++◌, List, ℕ, Bor, sym, subst, ◌∙◌}
-use Rattle.std.specs.Prelude.{Result, Err}
 use Rattle.std.specs.List.{AllByRecursion}
 use Rattle.std.proofs.lemmas.Result.{err_from_is_err_and}
 use Rattle.game_rules.specs.declared.Point.{Point}
-use Rattle.position_files.specs.declared.faults.Fault.{Fault}
-use Rattle.position_files.specs.declared.faults.Fault.TheVariants.{Bad}
-use Rattle.position_files.specs.Positions.{points_text, stones}
-use Rattle.position_files.specs.Reading.{IsWithin}
-use Rattle.position_files.proofs.BoardLaws.{gives_bad, stones_first, stones_fit, listed_stones}
+use Rattle.text_lines.specs.declared.fault.Fault.TheVariants.{Bad}
+use Rattle.text_lines.specs.Spellings.{points_text}
+use Rattle.position_files.specs.Positions.{stones}
+use Rattle.text_lines.specs.Reading.{IsWithin}
+use Rattle.text_lines.proofs.FaultLaws.{gives_bad, same_fault}
+use Rattle.position_files.proofs.BoardLaws.{stones_first, stones_fit, listed_stones}
 use Rattle.position_files.proofs.boards.stones_line.Goals as goal
-
-same_error : (x y : Fault) → ◌≡◌ {A = Result (Bor (List ℕ)) Fault} (Err x) (Err y) → x ≡ y
-same_error x y e = cc
 
 pub returns-in_err-points-clause-bad : goal.returns-in_err-points-clause-bad
 returns-in_err-points-clause-bad c = λ is b rest ok same e.
     let p = err_from_is_err_and c.from_residual.result c.from_residual.ensures.1 in
     let first = stones_first b c.args.side c.args.word.now c.in-Some.line.now c.in-Some.rest.now rest c.args.bytes.now ok c.requires.one_line c.in-Some.ensures.ended c.in-Some.ensures.line e in
-    let bad : c.in_err-points.field-0.0 ≡ Bad = sym p.2 ∙ same_error p.0 Bad (sym p.1 ∙ is) in
+    let bad : c.in_err-points.field-0.0 ≡ Bad = sym p.2 ∙ same_fault {X = Bor (List ℕ)} p.0 Bad (sym p.1 ∙ is) in
     gives_bad (AllByRecursion (IsWithin c.width-width.result c.height-height.result)) (λ (ps : List Point). c.args.word.now ++ points_text ps) c.in_err-points.field-0.0 c.in-Some.line.now bad c.in_err-points.ensures.stones (stones b c.args.side)
     (rw (c.width-width.ensures.width, c.height-height.ensures.height) (stones_fit c.args.board.now b c.args.side same)) first
 

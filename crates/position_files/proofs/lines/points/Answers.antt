@@ -1,9 +1,10 @@
 use Rattle.std.proofs.Common.{ℕ, arith, List, [], ◌∷◌, Bor, length, length-append, ap, subst, option_copied}
 use Rattle.std.specs.Prelude.{Option}
-use Rattle.position_files.specs.Positions.{space, point_text}
-use Rattle.position_files.specs.Reading.{IsWithin, tail_text}
-use Rattle.position_files.proofs.Items.{Follows, begins, stops, goes_on, ends}
-use Rattle.position_files.proofs.Spellings.{point_items}
+use Rattle.text_lines.specs.Spellings.{space, point_text}
+use Rattle.text_lines.specs.Reading.{IsWithin, tail_text}
+use Rattle.text_lines.proofs.Items.{Follows, begins, stops, goes_on, ends}
+use Rattle.text_lines.proofs.PointLaws.{point_items}
+use Rattle.position_files.proofs.Spellings.{side_fits}
 use Rattle.position_files.proofs.lines.points.Goals as goal
 
 pub loop-rest-init : goal.loop-rest-init
@@ -14,7 +15,7 @@ returns-in_default-point c =
     let now : Follows (IsWithin c.args.width c.args.height) point_text c.loop-rest.points (space ∷ c.in-Some.text.now) (tail_text space (option_copied c.args.tail)) =
     subst (λ (t : Option (Bor (List ℕ))). Follows (IsWithin c.args.width c.args.height) point_text c.loop-rest.points (tail_text space (option_copied t)) (tail_text space (option_copied c.args.tail))) c.in-Some.is c.loop-rest.invariant in
     record {
-      points = stops (IsWithin c.args.width c.args.height) point_text (point_items c.args.width c.args.height c.requires.wide c.requires.high) c.loop-rest.points c.in-Some.text.now c.cut.result.0.now _ (tail_text space (option_copied c.args.tail)) now c.cut.ensures.parts c.cut.ensures.word c.in_default-point.ensures.point;
+      points = stops (IsWithin c.args.width c.args.height) point_text (point_items c.args.width c.args.height (side_fits c.args.width c.requires.wide) (side_fits c.args.height c.requires.high)) c.loop-rest.points c.in-Some.text.now c.cut.result.0.now _ (tail_text space (option_copied c.args.tail)) now c.cut.ensures.parts c.cut.ensures.word c.in_default-point.ensures.point;
     }
 
 pub loop-rest-smaller : goal.loop-rest-smaller
@@ -27,7 +28,7 @@ pub loop-rest-preserved : goal.loop-rest-preserved
 loop-rest-preserved c =
     let now : Follows (IsWithin c.args.width c.args.height) point_text c.loop-rest.points (space ∷ c.in-Some.text.now) (tail_text space (option_copied c.args.tail)) =
     subst (λ (t : Option (Bor (List ℕ))). Follows (IsWithin c.args.width c.args.height) point_text c.loop-rest.points (tail_text space (option_copied t)) (tail_text space (option_copied c.args.tail))) c.in-Some.is c.loop-rest.invariant in
-    rw c.in_ok-push.ensures.ok (goes_on (IsWithin c.args.width c.args.height) point_text (point_items c.args.width c.args.height c.requires.wide c.requires.high) c.loop-rest.points c.in-Some-point.found c.in-Some.text.now c.cut.result.0.now _ (tail_text space (option_copied c.args.tail)) now c.cut.ensures.parts c.cut.ensures.word c.in-Some-point.ensures.point.0 c.in-Some-point.ensures.point.1)
+    rw c.in_ok-push.ensures.ok (goes_on (IsWithin c.args.width c.args.height) point_text (point_items c.args.width c.args.height (side_fits c.args.width c.requires.wide) (side_fits c.args.height c.requires.high)) c.loop-rest.points c.in-Some-point.found c.in-Some.text.now c.cut.result.0.now _ (tail_text space (option_copied c.args.tail)) now c.cut.ensures.parts c.cut.ensures.word c.in-Some-point.ensures.point.0 c.in-Some-point.ensures.point.1)
 
 pub returns : goal.returns
 returns c =

@@ -1,7 +1,7 @@
 use Rattle.std.proofs.Common.{length, option_copied}
-use Rattle.position_files.specs.Positions.{space, point_text}
-use Rattle.position_files.specs.Reading.{IsWithin, tail_text}
-use Rattle.position_files.proofs.Items.{Follows}
+use Rattle.text_lines.specs.Spellings.{space, point_text}
+use Rattle.text_lines.specs.Reading.{IsWithin, tail_text}
+use Rattle.text_lines.proofs.Items.{Follows}
 use Rattle.position_files.proofs.lines.points.Given as goal
 
 -- the line begins with these points, and goes on with the rest

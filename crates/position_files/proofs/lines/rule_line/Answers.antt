@@ -2,7 +2,8 @@ use Rattle.std.proofs.Common.{refl}
 use Rattle.std.specs.Prelude.{codes}
 use Rattle.game_rules.specs.declared.RuleKind.{RuleKind}
 use Rattle.position_files.specs.Positions.{rule_word}
-use Rattle.position_files.proofs.LineLaws.{prefix_bad, rule_word-free}
+use Rattle.text_lines.proofs.LineLaws.{prefix_bad}
+use Rattle.position_files.proofs.Spellings.{rule_word-free}
 use Rattle.position_files.proofs.lines.rule_line.Goals as goal
 
 pub returns-in_err-rule : goal.returns-in_err-rule

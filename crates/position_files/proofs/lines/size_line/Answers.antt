@@ -1,8 +1,9 @@
 use Rattle.std.proofs.Common.{refl, ℕ}
 use Rattle.std.specs.Prelude.{codes}
 use Rattle.position_files.specs.Positions.{size_text}
-use Rattle.position_files.specs.Reading.{AreSides}
-use Rattle.position_files.proofs.LineLaws.{prefix_none, prefix_bad, size-free}
+use Rattle.position_files.specs.Boards.{AreSides}
+use Rattle.text_lines.proofs.LineLaws.{prefix_none, prefix_bad}
+use Rattle.position_files.proofs.Spellings.{size-free}
 use Rattle.position_files.proofs.lines.size_line.Goals as goal
 
 pub returns-in_err-text : goal.returns-in_err-text

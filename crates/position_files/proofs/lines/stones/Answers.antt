@@ -1,8 +1,8 @@
 use Rattle.std.proofs.Common.{option_copied}
 use Rattle.std.proofs.lemmas.Bool.{both_ways}
-use Rattle.position_files.specs.Positions.{point_text}
-use Rattle.position_files.specs.Reading.{IsWithin}
-use Rattle.position_files.proofs.Items.{first_word, gives_after_word}
+use Rattle.text_lines.specs.Spellings.{point_text}
+use Rattle.text_lines.specs.Reading.{IsWithin}
+use Rattle.text_lines.proofs.Items.{first_word, gives_after_word}
 use Rattle.position_files.proofs.lines.stones.Goals as goal
 
 pub returns-then-not-is_text : goal.returns-then-not-is_text

@@ -1,26 +1,23 @@
 use Rattle.std.proofs.Common.{◌≡◌, ℕ, List, Bor, sym, subst, length, ◌∙◌}
-use Rattle.std.specs.Prelude.{Result, Err}
+use Rattle.std.specs.Prelude.{Err}
 use Rattle.std.proofs.lemmas.Result.{err_from_is_err_and}
 use Rattle.strategy_graph.specs.Tables.{IsNode}
 use Rattle.strategy_graph.specs.declared.Node.{Node}
-use Rattle.position_files.specs.declared.faults.Fault.{Fault}
-use Rattle.position_files.specs.declared.faults.Fault.TheVariants.{Bad}
+use Rattle.text_lines.specs.declared.fault.Fault.TheVariants.{Bad}
+use Rattle.text_lines.proofs.FaultLaws.{same_fault}
 use Rattle.position_files.proofs.NodeBad.{bad_node, same_node}
 use Rattle.position_files.proofs.nodes.add_node.Goals as goal
-
-same_error : (x y : Fault) → ◌≡◌ {A = Result (Bor (List ℕ)) Fault} (Err x) (Err y) → x ≡ y
-same_error x y e = cc
 
 pub returns-in_err-node-clause-bad : goal.returns-in_err-node-clause-bad
 returns-in_err-node-clause-bad c = λ is n others fits is_node few e.
     let p = err_from_is_err_and c.from_residual.result c.from_residual.ensures.1 in
-    let bad : c.in_err-node.field-0.0 ≡ Bad = sym p.2 ∙ same_error p.0 Bad (sym p.1 ∙ is) in
+    let bad : c.in_err-node.field-0.0 ≡ Bad = sym p.2 ∙ same_fault {X = Bor (List ℕ)} p.0 Bad (sym p.1 ∙ is) in
     bad_node c.args.width c.args.height c.requires.wide c.requires.high c.args.bytes.now c.in-Some.text.now c.in-Some.rest.now c.in-Some.ensures.ended c.in-Some.ensures.line c.in_err-node.field-0.0 bad c.in_err-node.ensures.node n others fits e
 
 pub returns-in_err-push-clause-bad : goal.returns-in_err-push-clause-bad
 returns-in_err-push-clause-bad c = λ is n others fits is_node few e.
     let p = err_from_is_err_and c.from_residual-in_err-push.result c.from_residual-in_err-push.ensures.1 in
-    let bad : c.in_err-push.field-0.0 ≡ Bad = sym p.2 ∙ same_error p.0 Bad (sym p.1 ∙ is) in
+    let bad : c.in_err-push.field-0.0 ≡ Bad = sym p.2 ∙ same_fault {X = Bor (List ℕ)} p.0 Bad (sym p.1 ∙ is) in
     let was = c.in_err-push.was in
     let result : c.push.result ≡ Err Bad = cc in
     let found : Node = c.in_ok-node.field-0 in

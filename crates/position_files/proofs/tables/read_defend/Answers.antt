@@ -1,52 +1,65 @@
-use Rattle.std.proofs.Common.{◌∷◌, ◌++◌, subst, sym, ◌∙◌, refl}
+use Rattle.std.proofs.Common.{◌∷◌, ◌++◌, subst, refl, arith}
 use Rattle.std.specs.Prelude.{codes}
-use Rattle.std.proofs.lemmas.Result.{IfOk-weaker, IfErr-weaker, err_from_is_err_and}
+use Rattle.std.proofs.lemmas.Result.{IfOk-weaker, IfErr-weaker}
+use Rattle.strategy_graph.specs.Tables.{Answers}
 use Rattle.strategy_graph.specs.declared.roots.Root.TheVariants.{Defend}
+use Rattle.text_lines.specs.Lines.{line_feed, FirstBad}
+use Rattle.text_lines.proofs.TextLaws.{front_ends, front_goes_on}
 use Rattle.position_files.specs.declared.TableFile.{TableFile}
-use Rattle.position_files.specs.Lines.{line_feed}
-use Rattle.position_files.specs.Tables.{IsTextOfTable}
+use Rattle.position_files.specs.Tables.{IsTextOfTable, IsTableText}
 use Rattle.position_files.specs.Answers.{StartFits}
 use Rattle.position_files.specs.Bodies.{IsFinished, IsFinishFault}
-use Rattle.position_files.proofs.TextLaws.{no_bytes, some_bytes}
-use Rattle.position_files.proofs.TableLaws.{defend_text, defend_text_of}
 use Rattle.position_files.specs.Faults.{IsTableFault}
+use Rattle.position_files.proofs.TableLaws.{defend_text, defend_text_of}
+use Rattle.position_files.proofs.SectionLaws.{start_parts}
 use Rattle.position_files.proofs.TableBad.{defend_body_fault, start_fault, defend_too_many, finish_fault}
 use Rattle.position_files.proofs.tables.read_defend.Goals as goal
 
+pub returns-in-Err-clause-refused : goal.returns-in-Err-clause-refused
+returns-in-Err-clause-refused c =
+    rw (c.from.ensures, c.after.ensures.error) (defend_body_fault (codes "renju-table 2" ++ line_feed ∷ c.args.bytes.now) c.args.bytes.now refl c.in-Err.error c.in-Err.ensures.refused)
+
+pub returns-in-Err-read_start-clause-refused : goal.returns-in-Err-read_start-clause-refused
+returns-in-Err-read_start-clause-refused c =
+    rw (c.from-in-Err-read_start.ensures, c.after-in-Err-read_start.ensures.error) (start_fault (codes "renju-table 2" ++ line_feed ∷ c.args.bytes.now) c.args.bytes.now refl c.in-Ok.found.0 c.in-Ok.found.1.now c.in-Ok.ensures.fits c.len-len.ensures.table c.in-Ok.ensures.text
+    c.width.result c.height.result c.len-len.result c.width.ensures.width c.height.ensures.height c.len-len.ensures.count c.in-Err-read_start.error c.in-Err-read_start.ensures.refused)
+
+pub returns-then-taken-rest-clause-refused : goal.returns-then-taken-rest-clause-refused
+returns-then-taken-rest-clause-refused c =
+    let found = c.in-Ok-read_start.ensures.found in
+    let a : Answers = c.in-Ok-read_start.line.start in
+    let start : StartFits c.in-Ok.found.0.board.width c.in-Ok.found.0.board.height c.len-len.result a =
+    subst (λ n. StartFits c.in-Ok.found.0.board.width n c.len-len.result a) c.height.ensures.height
+    (subst (λ n. StartFits n c.height.result c.len-len.result a) c.width.ensures.width found.start) in
+    subst (FirstBad IsTableText (codes "renju-table 2" ++ line_feed ∷ c.args.bytes.now)) (omega arith)
+    (defend_too_many (codes "renju-table 2" ++ line_feed ∷ c.args.bytes.now) c.args.bytes.now refl c.in-Ok.found.0 c.in-Ok.found.1.now c.in-Ok.ensures.fits c.len-len.ensures.table c.in-Ok.ensures.text
+    a c.len-len.result _ c.len-len.ensures.count (subst (λ n. StartFits c.in-Ok.found.0.board.width c.in-Ok.found.0.board.height n a) c.len-len.ensures.count start)
+    (start_parts c.width.result c.height.result c.len-len.result c.in-Ok-read_start.line c.in-Ok.found.1.now found)
+    (front_goes_on c.in-Ok.found.1.now c.in-Ok-read_start.line.taken c.if-taken-rest.true))
+
 pub returns-clause-text : goal.returns-clause-text
 returns-clause-text c =
-    let start : StartFits c.in_ok-body.body.board.width c.in_ok-body.body.board.height c.len-len.result c.in-Ok.found.0 =
-    subst (λ n. StartFits c.in_ok-body.body.board.width n c.len-len.result c.in-Ok.found.0) c.height-height.ensures.height
-    (subst (λ n. StartFits n c.height-height.result c.len-len.result c.in-Ok.found.0) c.width-width.ensures.width c.in-Ok.ensures.start.0) in
-    IfOk-weaker c.finish.result (IsFinished c.in_ok-body.body (Defend c.in-Ok.found.0)) (λ (file : TableFile). IsTextOfTable file (codes "renju-table 2" ++ line_feed ∷ c.args.bytes.now))
-    (λ file done. defend_text c.in_ok-body.body c.in-Ok.found.0 c.len-len.result file c.args.bytes.now c.in_ok-body.rest.now c.in-Ok.found.1.now c.in_ok-body.ensures.fits c.len-len.ensures.table c.len-len.ensures.count start c.in_ok-body.ensures.text c.in-Ok.ensures.start.1 (no_bytes c.in-Ok.found.1.now (sym c.is_empty.ensures ∙ c.if-not-is_empty.false)) done)
+    let found = c.in-Ok-read_start.ensures.found in
+    let a : Answers = c.in-Ok-read_start.line.start in
+    let start : StartFits c.in-Ok.found.0.board.width c.in-Ok.found.0.board.height c.len-len.result a =
+    subst (λ n. StartFits c.in-Ok.found.0.board.width n c.len-len.result a) c.height.ensures.height
+    (subst (λ n. StartFits n c.height.result c.len-len.result a) c.width.ensures.width found.start) in
+    IfOk-weaker c.finish.result (IsFinished c.in-Ok.found.0 (Defend a)) (λ (file : TableFile). IsTextOfTable file (codes "renju-table 2" ++ line_feed ∷ c.args.bytes.now))
+    (λ file done. defend_text c.in-Ok.found.0 a c.len-len.result file c.args.bytes.now c.in-Ok.found.1.now _ c.in-Ok.ensures.fits c.len-len.ensures.table c.len-len.ensures.count start c.in-Ok.ensures.text
+    (start_parts c.width.result c.height.result c.len-len.result c.in-Ok-read_start.line c.in-Ok.found.1.now found)
+    (front_ends c.in-Ok.found.1.now c.in-Ok-read_start.line.taken c.if-taken-rest.false) done)
     c.finish.ensures.finished
-
-pub returns-in_err-body-clause-refused : goal.returns-in_err-body-clause-refused
-returns-in_err-body-clause-refused c =
-    let p = err_from_is_err_and c.from_residual.result c.from_residual.ensures.1 in
-    rw (p.1, p.2) (defend_body_fault (codes "renju-table 2" ++ line_feed ∷ c.args.bytes.now) c.args.bytes.now refl c.in_err-body.field-0.0 c.in_err-body.ensures.refused)
-
-pub returns-in-Err-clause-refused : goal.returns-in-Err-clause-refused
-returns-in-Err-clause-refused c = rw c.at.ensures.error
-    (start_fault (codes "renju-table 2" ++ line_feed ∷ c.args.bytes.now) c.args.bytes.now refl c.in_ok-body.body c.in_ok-body.rest.now c.in_ok-body.ensures.fits c.len-len.ensures.table c.in_ok-body.ensures.text
-    c.width-width.result c.height-height.result c.len-len.result c.in-Err.fault c.width-width.ensures.width c.height-height.ensures.height c.len-len.ensures.count c.in-Err.ensures.start)
-
-pub returns-then-not-is_empty-clause-refused : goal.returns-then-not-is_empty-clause-refused
-returns-then-not-is_empty-clause-refused c =
-    let start : StartFits c.in_ok-body.body.board.width c.in_ok-body.body.board.height c.len-len.result c.in-Ok.found.0 =
-    subst (λ n. StartFits c.in_ok-body.body.board.width n c.len-len.result c.in-Ok.found.0) c.height-height.ensures.height
-    (subst (λ n. StartFits n c.height-height.result c.len-len.result c.in-Ok.found.0) c.width-width.ensures.width c.in-Ok.ensures.start.0) in
-    defend_too_many (codes "renju-table 2" ++ line_feed ∷ c.args.bytes.now) c.args.bytes.now refl c.in_ok-body.body c.in_ok-body.rest.now c.in_ok-body.ensures.fits c.len-len.ensures.table c.in_ok-body.ensures.text
-    c.in-Ok.found.0 c.len-len.result c.in-Ok.found.1.now c.len-len.ensures.count (subst (λ n. StartFits c.in_ok-body.body.board.width c.in_ok-body.body.board.height n c.in-Ok.found.0) c.len-len.ensures.count start) c.in-Ok.ensures.start.1
-    (some_bytes c.in-Ok.found.1.now (sym c.is_empty.ensures ∙ c.if-not-is_empty.true))
 
 pub returns-clause-refused : goal.returns-clause-refused
 returns-clause-refused c =
-    let start : StartFits c.in_ok-body.body.board.width c.in_ok-body.body.board.height c.len-len.result c.in-Ok.found.0 =
-    subst (λ n. StartFits c.in_ok-body.body.board.width n c.len-len.result c.in-Ok.found.0) c.height-height.ensures.height
-    (subst (λ n. StartFits n c.height-height.result c.len-len.result c.in-Ok.found.0) c.width-width.ensures.width c.in-Ok.ensures.start.0) in
-    IfErr-weaker c.finish.result (IsFinishFault c.in_ok-body.body (Defend c.in-Ok.found.0)) (IsTableFault (codes "renju-table 2" ++ line_feed ∷ c.args.bytes.now))
-    (finish_fault c.in_ok-body.body (Defend c.in-Ok.found.0) (codes "renju-table 2" ++ line_feed ∷ c.args.bytes.now)
-    (defend_text_of c.in_ok-body.body c.in-Ok.found.0 c.len-len.result c.args.bytes.now c.in_ok-body.rest.now c.in-Ok.found.1.now c.in_ok-body.ensures.fits c.len-len.ensures.table c.len-len.ensures.count start c.in_ok-body.ensures.text c.in-Ok.ensures.start.1 (no_bytes c.in-Ok.found.1.now (sym c.is_empty.ensures ∙ c.if-not-is_empty.false))))
+    let found = c.in-Ok-read_start.ensures.found in
+    let a : Answers = c.in-Ok-read_start.line.start in
+    let start : StartFits c.in-Ok.found.0.board.width c.in-Ok.found.0.board.height c.len-len.result a =
+    subst (λ n. StartFits c.in-Ok.found.0.board.width n c.len-len.result a) c.height.ensures.height
+    (subst (λ n. StartFits n c.height.result c.len-len.result a) c.width.ensures.width found.start) in
+    IfErr-weaker c.finish.result (IsFinishFault c.in-Ok.found.0 (Defend a)) (IsTableFault (codes "renju-table 2" ++ line_feed ∷ c.args.bytes.now))
+    (finish_fault c.in-Ok.found.0 (Defend a) (codes "renju-table 2" ++ line_feed ∷ c.args.bytes.now)
+    (defend_text_of c.in-Ok.found.0 a c.len-len.result c.args.bytes.now c.in-Ok.found.1.now _ c.in-Ok.ensures.fits c.len-len.ensures.table c.len-len.ensures.count start c.in-Ok.ensures.text
+    (start_parts c.width.result c.height.result c.len-len.result c.in-Ok-read_start.line c.in-Ok.found.1.now found)
+    (front_ends c.in-Ok.found.1.now c.in-Ok-read_start.line.taken c.if-taken-rest.false)))
     c.finish.ensures.refused

@@ -2,7 +2,7 @@ use Rattle.std.proofs.Common.{◌≡◌, sym, subst, ◌∷◌, ◌++◌}
 use Rattle.std.specs.Prelude.{codes}
 use Rattle.std.proofs.lemmas.Result.{IfOk-weaker}
 use Rattle.position_files.specs.declared.TableFile.{TableFile}
-use Rattle.position_files.specs.Lines.{line_feed}
+use Rattle.text_lines.specs.Lines.{line_feed}
 use Rattle.position_files.specs.Tables.{IsTextOfTable}
 use Rattle.position_files.proofs.TableTexts.{one_table}
 use Rattle.position_files.proofs.TableBad.{no_version}

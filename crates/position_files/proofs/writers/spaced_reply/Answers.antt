@@ -1,6 +1,6 @@
 use Rattle.std.proofs.Common.{append_assoc}
 use Rattle.std.specs.Prelude.{string_bytes}
-use Rattle.position_files.proofs.Growth.{regroup}
+use Rattle.text_lines.proofs.Growth.{regroup}
 use Rattle.position_files.proofs.writers.spaced_reply.Goals as goal
 
 pub returns : goal.returns

@@ -1,7 +1,7 @@
 use Rattle.std.proofs.Common.{◌≡◌, ◌++◌, filter}
 use Rattle.std.specs.Prelude.{string_bytes}
 use Rattle.game_rules.specs.Grid.{holds, points_of}
-use Rattle.position_files.specs.Positions.{points_text}
+use Rattle.text_lines.specs.Spellings.{points_text}
 use Rattle.position_files.proofs.written.push_stones.Given as goal
 
 -- the stones so far, and those among the points that are left, stand behind the text

@@ -1,5 +1,0 @@
-use Rattle.position_files.proofs.NodeLaws.{AreRead}
-use Rattle.position_files.proofs.nodes.read_nodes.Given as goal
-
-abbrev pub invariant-loop-number : goal.invariant-loop-number
-invariant-loop-number l = AreRead l.width l.height l.table l.number l.bytes l.rest

@@ -1,0 +1,111 @@
+//! Callers of crates that one may want alone: the judge of fouls, the checker of tables, the readers and writers of texts.
+//!
+//! Each caller is proved from the public contracts of what it calls, and a test runs it. `docs/CALLING.md` shows these lines.
+#![tactic(auto)]
+
+ghost use Rattle.std.specs.Prelude.{◌≡◌, ◌<◌, length, is_none, IsTrue, IfOk, IfSome};
+ghost use Rattle.game_rules.specs.Grid.{is_empty};
+ghost use Rattle.game_rules.specs.Play.{foul_of};
+ghost use Rattle.game_rules.specs.Games.{WinsWithin};
+
+use foul_judge::{Position, foul_at};
+use game_rules::{Point, RuleKind, Side};
+use position_files::{FileError, TableFile, read_position, read_table, write_position};
+use row_shapes::{Freestyle, Renju, Rule};
+use std::alloc::{AllocError, Global};
+use std::test::Fail;
+use stone_board::Board;
+use strategy_checker::{Verdict, check};
+use strategy_graph::{Root, Table};
+
+/// Whether Black may play on an empty point of the board under renju.
+fn may_play(board: &mut Board, p: Point) -> bool
+    requires empty { IsTrue (is_empty board.old p) }
+    ensures allowed { result ≡ is_none (foul_of RuleKind.Renju board.old Side.Black p) }
+    ensures same { board.new ≡ board.old }
+{
+    foul_at::<Renju>(board, p).is_none()
+}
+
+#[test]
+fn one_four_is_allowed_and_two_are_not(rt: HostRuntime) -> Result<(), Fail> {
+    let mut board = Board::empty(rt.alloc(), 15, 15)?;
+    for x in [2, 4, 6, 8] {
+        let p = Point { x, y: 7 };
+        assert!(rt; board.is_empty(p));
+        board.put(p, Side::Black);
+    }
+    for (x, is_allowed) in [(3, true), (5, false)] {
+        let p = Point { x, y: 7 };
+        assert!(rt; board.is_empty(p));
+        assert_eq!(rt; may_play(&mut board, p), is_allowed);
+    }
+    Ok(())
+}
+
+/// Within how many moves the side to move wins, if the checker accepts this node of the table with so many arrivals.
+fn moves_to_win<R: Rule>(
+    alloc: Global,
+    table: &Table,
+    root: u32,
+    position: &mut Position<R>,
+    work: u64,
+) -> Result<Option<u32>, AllocError>
+    requires in_table { root < length table.now }
+    ensures wins { IfOk result (λ found. IfSome found (λ moves. WinsWithin R.KIND moves position.old)) }
+    ensures same { position.new ≡ position.old }
+{
+    match check(alloc, table, root, position, work)? {
+        Verdict::Accepted { moves, arrivals: _ } => Ok(Some(moves)),
+        Verdict::Refused { line: _, why: _ } => Ok(None),
+        Verdict::Spent => Ok(None),
+    }
+}
+
+#[test]
+fn a_straight_four_wins_in_two_moves(rt: HostRuntime) -> Result<(), Fail> {
+    let text =
+        b"renju-table 1\nrule freestyle\nsize 15\nblack 5,7 6,7 7,7\nwhite 0,0 2,0 4,0\nmoves 2\nnodes 3\n3,7 wins\n8,7 wins\n4,7 rest 0 3,7>1\n";
+    let TableFile {
+        kind: _,
+        board,
+        table,
+        root,
+        moves: _,
+    } = read_table(rt.alloc(), text)?;
+    let Root::Attack(root) = root else {
+        return Err(Fail::from("the root is no node"));
+    };
+    let Ok(mut position) = Position::<Freestyle>::from_board(board) else {
+        return Err(Fail::from("the position is not lawful"));
+    };
+    assert!(rt; root < table.len());
+    for (work, moves) in [(219, Some(2)), (218, None)] {
+        assert_eq!(rt;
+            moves_to_win(rt.alloc(), &table, root, &mut position, work)?,
+            moves
+        );
+    }
+    Ok(())
+}
+
+/// The bytes once more, if they are the text of a lawful position: each position has one text.
+fn written_again(alloc: Global, bytes: &[u8]) -> Result<Vec<u8>, FileError>
+    ensures same { IfOk result (λ text. text.items ≡ bytes.now) }
+{
+    let file = read_position(alloc, bytes)?;
+    let text = write_position(alloc, file.kind, &file.board)?;
+    Ok(text)
+}
+
+#[test]
+fn a_text_is_the_one_of_its_position(rt: HostRuntime) -> Result<(), Fail> {
+    let text = b"renju-position 1\nrule renju\nsize 9,5\nblack 0,2 1,2\nwhite 0,0\n";
+    assert_eq!(rt;
+        written_again(rt.alloc(), text)?.as_slice(),
+        text.as_slice()
+    );
+    let other = b"renju-position 1\nrule renju\nsize 9,5\nblack 1,2 0,2\nwhite 0,0\n";
+    assert!(rt; matches!(written_again(rt.alloc(), other), Err(FileError::BadLine(4))));
+    Ok(())
+}
