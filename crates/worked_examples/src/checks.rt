@@ -1,23 +1,9 @@
 //! The command `check`.
 #![tactic(auto)]
 
-use crate::runs::run_sound;
+use crate::inputs::{ONE_ANSWER_WRONG, TWO_MOVES_TABLE};
+use crate::runs::{Example, answers_as_worked_out};
 use std::test::Fail;
-
-/// Words, an input, and the status and the text that are wanted.
-struct Example {
-    name: &'static str,
-    words: &'static str,
-    input: &'static str,
-    status: u8,
-    output: &'static str,
-}
-
-const TWO_MOVES: &str =
-    "renju-table 1\nrule freestyle\nsize 15\nblack 5,7 6,7 7,7\nwhite 0,0 2,0 4,0\nmoves 2\nnodes 3\n3,7 wins\n8,7 wins\n4,7 rest 0 3,7>1\n";
-
-const ONE_ANSWER_WRONG: &str =
-    "renju-table 1\nrule freestyle\nsize 15\nblack 5,7 6,7 7,7\nwhite 0,0 2,0 4,0\nmoves 2\nnodes 3\n3,7 wins\n8,7 wins\n4,7 rest 0\n";
 
 const SIX_FREESTYLE: &str =
     "renju-table 1\nrule freestyle\nsize 15\nblack 2,7 3,7 5,7 6,7 7,7\nwhite 0,0 7,0 14,0 0,14 14,14\nmoves 1\nnodes 1\n4,7 wins\n";
@@ -34,18 +20,18 @@ const OPPONENT_FIRST: &str =
 const WIDE_BOARD: &str =
     "renju-table 1\nrule freestyle\nsize 9,5\nblack 0,2 1,2 2,2 3,2\nwhite 0,0 2,0 4,0 6,0\nmoves 1\nnodes 1\n4,2 wins\n";
 
-const EXAMPLES: [Example; 21] = [
+const EXAMPLES: [Example; 16] = [
     Example {
         name: "a table that wins in two",
         words: "check 219",
-        input: TWO_MOVES,
+        input: TWO_MOVES_TABLE,
         status: 0,
         output: "accepted in 2 moves, 219 arrivals\n",
     },
     Example {
         name: "one arrival too few",
         words: "check 218",
-        input: TWO_MOVES,
+        input: TWO_MOVES_TABLE,
         status: 5,
         output: "spent\n",
     },
@@ -147,50 +133,9 @@ const EXAMPLES: [Example; 21] = [
         status: 4,
         output: "refused attack-refused 8,7 8,7\n",
     },
-    Example {
-        name: "a size of two equal numbers",
-        words: "foul",
-        input: "renju-position 1\nrule freestyle\nsize 9,9\nblack 0,2 1,2 2,2 3,2\nwhite 0,0 2,0 4,0 6,0\n",
-        status: 3,
-        output: "refused line 3\n",
-    },
-    Example {
-        name: "a size above the greatest",
-        words: "foul",
-        input: "renju-position 1\nrule freestyle\nsize 33\nblack 0,2 1,2 2,2 3,2\nwhite 0,0 2,0 4,0 6,0\n",
-        status: 3,
-        output: "refused line 3\n",
-    },
-    Example {
-        name: "no arrivals at all are no form",
-        words: "check 0",
-        input: TWO_MOVES,
-        status: 1,
-        output: "usage: renju check WORK, foul, fours DEPTH NODES, threats LENGTH NODES, solve DEPTH NODES, brain [FILE], drill N, image SYMMETRY, referee [FILE], defend DEPTH NODES, bind FILE .., book WORK\n",
-    },
-    Example {
-        name: "a leading zero is no form",
-        words: "check 007",
-        input: TWO_MOVES,
-        status: 1,
-        output: "usage: renju check WORK, foul, fours DEPTH NODES, threats LENGTH NODES, solve DEPTH NODES, brain [FILE], drill N, image SYMMETRY, referee [FILE], defend DEPTH NODES, bind FILE .., book WORK\n",
-    },
-    Example {
-        name: "no words are no form",
-        words: "",
-        input: TWO_MOVES,
-        status: 1,
-        output: "usage: renju check WORK, foul, fours DEPTH NODES, threats LENGTH NODES, solve DEPTH NODES, brain [FILE], drill N, image SYMMETRY, referee [FILE], defend DEPTH NODES, bind FILE .., book WORK\n",
-    },
 ];
 
 #[test]
 fn checks_answer_as_worked_out(rt: HostRuntime) -> Result<(), Fail> {
-    for example in &EXAMPLES {
-        let name = example.name;
-        let run = run_sound(rt.alloc(), example.words, example.input.as_bytes())?;
-        assert_eq!(rt; run.output.as_slice(), example.output.as_bytes(), "{name}");
-        assert_eq!(rt; run.status, example.status, "{name}");
-    }
-    Ok(())
+    answers_as_worked_out(&rt, rt.alloc(), &EXAMPLES)
 }

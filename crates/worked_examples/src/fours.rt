@@ -1,20 +1,9 @@
 //! The command `fours`, and `check` over what it writes.
 #![tactic(auto)]
 
-use crate::runs::run_sound;
+use crate::inputs::TWO_MOVES;
+use crate::runs::{Example, answers_as_worked_out, run_sound};
 use std::test::Fail;
-
-/// Words, an input, and the status and the text that are wanted.
-struct Example {
-    name: &'static str,
-    words: &'static str,
-    input: &'static str,
-    status: u8,
-    output: &'static str,
-}
-
-const TWO_MOVES: &str =
-    "renju-position 1\nrule freestyle\nsize 15\nblack 5,7 6,7 7,7\nwhite 0,0 2,0 4,0\n";
 
 const BLOCK_FOULS: &str =
     "renju-position 1\nrule renju\nsize 15\nblack 7,0 7,1 7,2 2,3 7,4 7,5\nwhite 3,3 4,3 5,3 12,14 14,14\n";
@@ -27,7 +16,7 @@ const BLOCK_GOES_ON: &str =
 
 const NO_STONES: &str = "renju-position 1\nrule freestyle\nsize 15\nblack\nwhite\n";
 
-const EXAMPLES: [Example; 18] = [
+const EXAMPLES: [Example; 17] = [
     Example {
         name: "a straight four in two moves",
         words: "fours 5 3",
@@ -147,24 +136,11 @@ const EXAMPLES: [Example; 18] = [
         status: 3,
         output: "refused line 3\n",
     },
-    Example {
-        name: "no moves at all",
-        words: "fours 0 1",
-        input: TWO_MOVES,
-        status: 1,
-        output: "usage: renju check WORK, foul, fours DEPTH NODES, threats LENGTH NODES, solve DEPTH NODES, brain [FILE], drill N, image SYMMETRY, referee [FILE], defend DEPTH NODES, bind FILE .., book WORK\n",
-    },
 ];
 
 #[test]
 fn fours_answer_as_worked_out(rt: HostRuntime) -> Result<(), Fail> {
-    for example in &EXAMPLES {
-        let name = example.name;
-        let run = run_sound(rt.alloc(), example.words, example.input.as_bytes())?;
-        assert_eq!(rt; run.output.as_slice(), example.output.as_bytes(), "{name}");
-        assert_eq!(rt; run.status, example.status, "{name}");
-    }
-    Ok(())
+    answers_as_worked_out(&rt, rt.alloc(), &EXAMPLES)
 }
 
 #[test]

@@ -15,6 +15,10 @@ mod fouls;
 #[cfg(test)]
 mod fours;
 #[cfg(test)]
+mod inputs;
+#[cfg(test)]
 mod runs;
 #[cfg(test)]
 mod texts;
+#[cfg(test)]
+mod words;

@@ -4,6 +4,17 @@
 use renju_cli::run_renju;
 use renju_io::{MemoryShelf, MemorySink, MemorySource};
 use std::alloc::{AllocError, Global};
+use std::process::Abort;
+use std::test::Fail;
+
+/// Words, an input, and the status and the text that are wanted.
+pub struct Example {
+    pub name: &'static str,
+    pub words: &'static str,
+    pub input: &'static str,
+    pub status: u8,
+    pub output: &'static str,
+}
 
 /// What a run answered and wrote.
 #[derive(Drop)]
@@ -59,4 +70,19 @@ pub fn run_failing(
         status,
         output: Vec::from_slice(alloc, sink.bytes())?,
     })
+}
+
+/// Runs each of the examples, and compares what it answers and writes with what is wanted.
+pub fn answers_as_worked_out(
+    rt: &impl Abort,
+    alloc: Global,
+    examples: &[Example],
+) -> Result<(), Fail> {
+    for example in examples {
+        let name = example.name;
+        let run = run_sound(alloc, example.words, example.input.as_bytes())?;
+        assert_eq!(rt; run.output.as_slice(), example.output.as_bytes(), "{name}");
+        assert_eq!(rt; run.status, example.status, "{name}");
+    }
+    Ok(())
 }

@@ -1,18 +1,13 @@
 //! Long texts, and texts that are cut off.
 #![tactic(auto)]
 
+use crate::inputs::{ONE_ANSWER_WRONG, TWO_MOVES_TABLE};
 use crate::runs::run_sound;
 use std::alloc::{AllocError, Global};
 use std::test::Fail;
 
 const FIRST_LINES: &str =
     "renju-table 1\nrule freestyle\nsize 15\nblack 2,7 3,7 5,7 6,7 7,7\nwhite 0,0 7,0 14,0 0,14 14,14\n";
-
-const TWO_MOVES: &str =
-    "renju-table 1\nrule freestyle\nsize 15\nblack 5,7 6,7 7,7\nwhite 0,0 2,0 4,0\nmoves 2\nnodes 3\n3,7 wins\n8,7 wins\n4,7 rest 0 3,7>1\n";
-
-const ONE_ANSWER_WRONG: &str =
-    "renju-table 1\nrule freestyle\nsize 15\nblack 5,7 6,7 7,7\nwhite 0,0 2,0 4,0\nmoves 2\nnodes 3\n3,7 wins\n8,7 wins\n4,7 rest 0\n";
 
 /// The most nodes that a table has.
 const MOST: u32 = 1_000_000;
@@ -87,7 +82,7 @@ fn a_chain_of_a_million_nodes_is_read(rt: HostRuntime) -> Result<(), Fail> {
 
 #[test]
 fn a_cut_names_the_first_line_that_is_missing(rt: HostRuntime) -> Result<(), Fail> {
-    let text = TWO_MOVES.as_bytes();
+    let text = TWO_MOVES_TABLE.as_bytes();
     let mut line = 0u32;
     let mut begins = true;
     for (i, byte) in text.iter().enumerate() {

@@ -1,0 +1,114 @@
+//! Words: those that have no form, and each number at its greatest value and one above.
+#![tactic(auto)]
+
+use crate::inputs::{TWO_MOVES, TWO_MOVES_TABLE};
+use crate::runs::{Example, Failing, answers_as_worked_out, run_failing};
+use renju_cli::USAGE;
+use std::test::Fail;
+
+/// No words, words of no command, words of a command that are too few or too many, and words that are no number in its
+/// range: zeros, leading zeros, signs, fractions, letters, and numbers that are 1 but for a power of two.
+const FORMLESS: [&str; 33] = [
+    "",
+    "help",
+    "--help",
+    "--version",
+    "Check 1",
+    "checks 1",
+    "chec 1",
+    "1 check",
+    "219",
+    "check",
+    "check 0",
+    "check 007",
+    "check -1",
+    "check +1",
+    "check 1.0",
+    "check 1,000",
+    "check 1e3",
+    "check 0x10",
+    "check one",
+    "check 219 219",
+    "check foul",
+    "check 18446744073709551617",
+    "foul 1",
+    "foul foul",
+    "fouls",
+    "fours",
+    "fours 5",
+    "fours 5 3 1",
+    "fours 0 3",
+    "fours 5 0",
+    "fours 05 3",
+    "fours 5 03",
+    "fours 4294967297 3",
+];
+
+/// Devices of which the input is not to be asked, and the output for one write alone.
+const UNASKED: Failing<'static> = Failing {
+    piece: 65_536,
+    reads: &[1],
+    writes: &[2],
+    kept: 0,
+};
+
+const EXAMPLES: [Example; 6] = [
+    Example {
+        name: "the most work",
+        words: "check 1000000000000",
+        input: TWO_MOVES_TABLE,
+        status: 0,
+        output: "accepted in 2 moves, 219 arrivals\n",
+    },
+    Example {
+        name: "more than the most work",
+        words: "check 1000000000001",
+        input: TWO_MOVES_TABLE,
+        status: 1,
+        output: USAGE,
+    },
+    Example {
+        name: "the greatest depth",
+        words: "fours 60 2",
+        input: TWO_MOVES,
+        status: 5,
+        output: "spent\n",
+    },
+    Example {
+        name: "more than the greatest depth",
+        words: "fours 61 2",
+        input: TWO_MOVES,
+        status: 1,
+        output: USAGE,
+    },
+    Example {
+        name: "the most positions to look at",
+        words: "fours 1 10000000",
+        input: TWO_MOVES,
+        status: 9,
+        output: "none\n",
+    },
+    Example {
+        name: "more than the most positions to look at",
+        words: "fours 1 10000001",
+        input: TWO_MOVES,
+        status: 1,
+        output: USAGE,
+    },
+];
+
+#[test]
+fn words_without_a_form_get_the_usage_line(rt: HostRuntime) -> Result<(), Fail> {
+    for words in &FORMLESS {
+        let words = *words;
+        let run = run_failing(rt.alloc(), words, TWO_MOVES_TABLE.as_bytes(), &UNASKED)?;
+        assert_eq!(rt; run.output.as_slice(), USAGE.as_bytes(), "{words}");
+        assert_eq!(rt; run.status, 1, "{words}");
+    }
+    Ok(())
+}
+
+#[test]
+fn numbers_go_up_to_their_greatest_values(rt: HostRuntime) -> Result<(), Fail> {
+    answers_as_worked_out(&rt, rt.alloc(), &EXAMPLES)
+}
