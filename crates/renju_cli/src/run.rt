@@ -21,6 +21,7 @@ use std::alloc::Global;
 /// and status 1, and leave the input unasked; of an input a status speaks only once it was read to its end. No command that is
 /// built changes the shelf or counts a fault there. A failing output gives status 8 in place of the status that was due, and
 /// the output then has the front of the text; want of memory gives 6 and a failing input 7, and then nothing is written.
+/// A status other than 7 says that the input counted no fault, and one other than 8 that the output did not.
 pub fn run_renju<I: Source, O: Sink, F: Shelf>(
     alloc: Global,
     words: &[String],
@@ -40,7 +41,7 @@ pub fn run_renju<I: Source, O: Sink, F: Shelf>(
     // A command with a lawful input, enough work and devices without a fault answers, unless memory runs out.
     ensures complete { IsComplete (run_of (map string_bytes words.now) (change I.left I.faults input.old input.new)
         (change O.written O.faults output.old output.new) (change F.files F.faults shelf.old shelf.new) result) }
-    // What is left of the devices.
+    // What is left of the devices, and which of them counted no fault.
     ensures devices { KeepsDevices (run_of (map string_bytes words.now) (change I.left I.faults input.old input.new)
         (change O.written O.faults output.old output.new) (change F.files F.faults shelf.old shelf.new) result) }
 {
