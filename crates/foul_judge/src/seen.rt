@@ -1,4 +1,7 @@
 //! A position as the searches use it.
+//!
+//! All that a search asks of a position stands here. So a position that is kept in another way, and knows more of itself
+//! beforehand, can take the place of the plain one.
 #![tactic(auto)]
 
 ghost use Rattle.std.specs.Prelude.{◌≡◌, false, IfOk, IsTrue};

@@ -1,6 +1,6 @@
 //! Fouls, outcomes and lawful positions on small examples.
 use crate::{AnyPosition, Foul, Outcome, Position, PositionError, Seen, foul_at};
-use row_shapes::{ExactFive, FivePoints, Freestyle, Renju, Rule, RuleKind};
+use row_shapes::{ExactFive, FivePoints, Freestyle, Renju, Rule, RuleKind, under_rule};
 use std::alloc::{AllocError, Global};
 use std::process::Abort;
 use std::test::Fail;
@@ -239,7 +239,10 @@ fn outcomes_of_each_kind(rt: HostRuntime) -> Result<(), Fail> {
     );
     let crossing = board_of(&rt, &[(7, 6), (6, 7), (8, 7), (7, 8)], &CORNERS)?;
     assert_eq!(rt;
-        outcome_of::<Renju>(&rt, crossing, Point { x: 7, y: 7 }),
+        under_rule!(
+            RuleKind::Renju,
+            outcome_of(&rt, crossing, Point { x: 7, y: 7 })
+        ),
         Outcome::Fouls(Foul::DoubleThree)
     );
     Ok(())

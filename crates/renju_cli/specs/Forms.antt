@@ -10,7 +10,11 @@ pub record Command : Type 1 where
   pub Does : Run → Type 0
   pub Answers : Run → Type 0
 
+-- the words are these, and what has to hold of their numbers holds
+pub record HasWords (words wanted : List (List ℕ)) (holds : Type 0) : Type 0 where
+  pub spelled : words ≡ wanted
+  pub in_range : holds
+
 -- the words are those of the command, whose numbers are in their ranges
-pub record IsSpelled (words : List (List ℕ)) (command : Command) : Type 0 where
-  pub spelled : words ≡ command.words
-  pub in_range : command.in_range
+abbrev pub IsSpelled : List (List ℕ) → Command → Type 0
+IsSpelled words command = HasWords words command.words command.in_range

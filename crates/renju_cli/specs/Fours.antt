@@ -24,8 +24,8 @@ use Rattle.renju_cli.specs.declared.TheConstants.{MAX_SEARCHED}
 use Rattle.renju_cli.specs.Statuses.{status_number}
 use Rattle.renju_cli.specs.Texts.{spent_line}
 use Rattle.renju_cli.specs.Runs.{Change, Run}
-use Rattle.renju_cli.specs.Forms.{IsSpelled}
-use Rattle.renju_cli.specs.Told.{ToldCommand, told, IsYielded}
+use Rattle.renju_cli.specs.Forms.{HasWords}
+use Rattle.renju_cli.specs.Told.{ToldCommand, IsYielded}
 use Rattle.renju_cli.specs.Refusals.{IsRefusedText}
 use Rattle.renju_cli.specs.Fouls.{IsPositionAt}
 
@@ -82,12 +82,20 @@ abbrev pub FoursSays : ℕ → ℕ → List ℕ → Status → List ℕ → Type
 FoursSays limit nodes input status text =
     IsRefusedText (IsPositionFault input) status text ⊎ ((file : PositionFile) × IsPositionAt file input × SearchSays limit nodes file status text)
 
--- `fours DEPTH NODES`, with DEPTH from 1 to MAX_DEPTH and NODES from 1 to MAX_SEARCHED, in decimal without leading zeros. It
--- answers for a lawful position with no more positions to look at than are allowed: it finds a win or none.
+-- the words `fours DEPTH NODES`, with both numbers in decimal without leading zeros
+abbrev pub fours_words : ℕ → ℕ → List (List ℕ)
+fours_words depth nodes = codes "fours" ∷ decimal depth ∷ decimal nodes ∷ []
+
+-- DEPTH is from 1 to MAX_DEPTH, and NODES from 1 to MAX_SEARCHED
+abbrev pub AreLimits : ℕ → ℕ → Type 0
+AreLimits depth nodes = (1 ≤ depth) × (depth ≤ MAX_DEPTH) × (1 ≤ nodes) × (nodes ≤ MAX_SEARCHED)
+
+-- `fours DEPTH NODES`. It answers for a lawful position with no more positions to look at than are allowed: it finds a win or
+-- none.
 abbrev pub fours_command : ℕ → ℕ → ToldCommand
 fours_command depth nodes = record {
-  words = codes "fours" ∷ decimal depth ∷ decimal nodes ∷ [];
-  in_range = (1 ≤ depth) × (depth ≤ MAX_DEPTH) × (1 ≤ nodes) × (nodes ≤ MAX_SEARCHED);
+  words = fours_words depth nodes;
+  in_range = AreLimits depth nodes;
   Says = FoursSays depth nodes;
   IsAnswerable = λ input. (file : PositionFile) × IsPositionAt file input × (four_cost file.kind depth file.board ≤ nodes);
   IsAnswer = λ status. (status ≡ Done) ⊎ (status ≡ NotFound);
@@ -120,4 +128,4 @@ pub record SearchShows (limit nodes : ℕ) (bytes : List ℕ) (run : Run) : Type
 
 -- The headline of the search: what the statuses of `fours` show, where the input tells its bytes.
 abbrev pub ShowsSearch : Run → Type 0
-ShowsSearch run = (depth nodes : ℕ) → IsSpelled run.words (told (fours_command depth nodes)) → IfSome run.input.before (λ bytes. SearchShows depth nodes bytes run)
+ShowsSearch run = (depth nodes : ℕ) → HasWords run.words (fours_words depth nodes) (AreLimits depth nodes) → IfSome run.input.before (λ bytes. SearchShows depth nodes bytes run)

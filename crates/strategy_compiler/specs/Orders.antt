@@ -41,7 +41,7 @@ pub record IsMadeOf (t : List Node) (i : ℕ) (u : List Node) (j : ℕ) : Type 0
   pub trees : (tree : Tree) → StandsFor t i tree → StandsFor u j tree
 
 -- Table u is made of the nodes that the roots reach in t, in the order in which walks from the roots complete them. Each root
--- is at its place in this order.
+-- is at its place in this order, and a start that names roots alone says the same with their places.
 pub record IsMadeFrom (t : List Node) (roots order : List ℕ) (u : List Node) : Type 0 where
   pub table : IsTable u
   pub nodes : Renumbers t order u

@@ -29,7 +29,7 @@ abbrev pub is_in_list : ℕ → List ℕ → Bool
 is_in_list i js = list_any (λ j. j == i) js
 
 -- The numbers of the nodes that are completed once a walk from node i ends, in the order of completion, where those of
--- `completed` were before it and at most so many nodes follow one another. A node is completed once all that it names are.
+-- `done` were before it and at most so many nodes follow one another. A node is completed once all that it names are.
 unfoldable pub completed_within : ℕ → List Node → List ℕ → ℕ → List ℕ
 completed_within zero t done i = done
 completed_within (suc f) t done i = if is_in_list i done then done else fold (completed_within f t) done (visits_at t i) ++ i ∷ []

@@ -1,4 +1,6 @@
-//! Five points of a position: the empty points where a stone of a side makes a winning run. The view knows them.
+//! Five points of a position: the empty points where a stone of a side makes a winning run.
+//!
+//! The view knows them: a plain one looks for them on its board, and another may answer at once.
 #![tactic(auto)]
 
 ghost use Rattle.std.specs.Prelude.{◌≡◌, false, IfOk, IsTrue};
