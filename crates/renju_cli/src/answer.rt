@@ -1,10 +1,12 @@
 //! What is due for words and an input: a status, and the text that goes with it.
 #![tactic(auto)]
 
-ghost use Rattle.std.specs.Prelude.{◌≡◌};
+ghost use Rattle.std.specs.Prelude.{◌≡◌, IfOk};
 ghost use Rattle.std.specs.String.{string_vec};
+ghost use Rattle.renju_cli.specs.Texts.{spent_line};
 
 use crate::Status;
+use std::alloc::{AllocError, Global};
 
 /// A status and its text.
 #[derive(Drop)]
@@ -23,4 +25,12 @@ impl Answer {
             text: text.into_bytes(),
         }
     }
+}
+
+/// The answer where the work or the budget was not enough.
+pub(crate) fn spent(alloc: Global) -> Result<Answer, AllocError>
+    ensures status { IfOk result (λ answer. answer.status ≡ Status.Spent) }
+    ensures text { IfOk result (λ answer. answer.text.items ≡ spent_line) }
+{
+    Ok(Answer::told(Status::Spent, String::from_str(alloc, "spent\n")?))
 }

@@ -7,10 +7,9 @@ ghost use Rattle.std.specs.Prelude.{◌≡◌, ◌∷◌, true, length, codes, m
 ghost use Rattle.game_rules.specs.Play.{IsPosition};
 ghost use Rattle.strategy_graph.specs.Roots.{root_below, root_depth};
 ghost use Rattle.renju_cli.specs.Checks.{CheckSays, TableSays, accepted_line, why_word as why_word_lem, refused_table_line};
-ghost use Rattle.renju_cli.specs.Texts.{spent_line};
 ghost use Rattle.renju_cli.specs.Commands.{IsForm, HasForm};
 
-use crate::answer::Answer;
+use crate::answer::{Answer, spent};
 use crate::numbers::count;
 use crate::refusals::refused_text;
 use crate::told::Told;
@@ -96,14 +95,6 @@ fn check_under<R: Rule>(alloc: Global, file: TableFile, work: u64) -> Result<Ans
         }
         Verdict::Spent => spent(alloc),
     }
-}
-
-/// The answer where the work or the budget was not enough.
-pub(crate) fn spent(alloc: Global) -> Result<Answer, AllocError>
-    ensures status { IfOk result (λ answer. answer.status ≡ Status.Spent) }
-    ensures text { IfOk result (λ answer. answer.text.items ≡ spent_line) }
-{
-    Ok(Answer::told(Status::Spent, String::from_str(alloc, "spent\n")?))
 }
 
 /// The line of an accepted table.

@@ -10,8 +10,7 @@ ghost use Rattle.four_search.specs.Answers.{IsFourWin};
 ghost use Rattle.renju_cli.specs.Commands.{IsForm, HasForm};
 ghost use Rattle.renju_cli.specs.Fours.{SearchSays, IsFourText, none_line};
 
-use crate::answer::Answer;
-use crate::check::spent;
+use crate::answer::{Answer, spent};
 use crate::numbers::count;
 use crate::refusals::refused_text;
 use crate::told::Told;

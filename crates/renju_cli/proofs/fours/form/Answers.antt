@@ -1,16 +1,20 @@
-use Rattle.std.proofs.Common.{◌≡◌, length, arith}
-use Rattle.std.specs.Prelude.{string_bytes}
+use Rattle.std.proofs.Common.{◌≡◌, List, ◌∷◌, length, String, Global, arith}
+use Rattle.std.specs.Prelude.{codes, map, string_bytes}
 use Rattle.std.specs.Fmt.{decimal}
+use Rattle.renju_cli.specs.Commands.{HasForm}
 use Rattle.renju_cli.proofs.Words.{same-count, two-words}
 use Rattle.renju_cli.proofs.FoursLaws.{no-fours}
 use Rattle.renju_cli.proofs.fours.form.Goals as goal
 
 -- fewer words than two, or more
+other-count : (rest : List (String Global)) → (length rest ≡ 2 → ⊥) → ¬ HasForm (codes "fours" ∷ map string_bytes rest)
+other-count rest other = no-fours _ (λ depth nodes deep many is. other (same-count string_bytes _ _ is))
+
 pub returns-in_default : goal.returns-in_default
-returns-in_default c = record { form = no-fours _ (λ depth nodes deep many is. let count : length c.args.rest.now ≡ 2 = same-count string_bytes _ _ is in omega (arith, count)) }
+returns-in_default c = record { form = other-count _ (λ two. omega (arith, two)) }
 
 pub returns-in_default-2 : goal.returns-in_default-2
-returns-in_default-2 c = record { form = no-fours _ (λ depth nodes deep many is. let count : length c.args.rest.now ≡ 2 = same-count string_bytes _ _ is in omega (arith, count)) }
+returns-in_default-2 c = record { form = other-count _ (λ two. omega (arith, two)) }
 
 -- a word that is no number in its range
 pub returns-in_err-depth : goal.returns-in_err-depth
