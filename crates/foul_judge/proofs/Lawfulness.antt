@@ -1,17 +1,18 @@
 -- A board is lawful exactly where nothing is said against it.
-use Rattle.std.proofs.Common.{◌≡◌, ◌⊎◌, inl, inr, ℕ, ◌+◌, ◌<◌, Bool, true, false, cond, ◌&&◌, ◌||◌, not, refl, sym, ◌∙◌, arith, List, [], ◌∷◌, nat_eq, eq-eqb}
+use Rattle.std.proofs.Common.{◌≡◌, ◌⊎◌, inl, inr, ℕ, ◌+◌, ◌<◌, Bool, true, false, cond, ◌||◌, not, refl, sym, ◌∙◌, arith, List, [], ◌∷◌, nat_eq, eq-eqb}
 use Rattle.std.specs.List.{list_any, find}
 use Rattle.std.specs.Prelude.{Option, Some, None}
+use Rattle.std.proofs.lemmas.Bool.{or_right, or_cases, and_from, false_from_ne_true}
 use Rattle.std.proofs.lemmas.Bool.Decides.{nat_tests}
-use Rattle.game_rules.specs.Grid.{Grid, IsBoard, is_on, holds, axes, points_of, stones_of, empties_of}
+use Rattle.game_rules.specs.Grid.{Grid, IsBoard, is_on, holds, points_of, stones_of, empties_of}
 use Rattle.game_rules.specs.Shapes.{row_wins, run_of}
 use Rattle.game_rules.specs.Play.{IsPosition, IsUnwon}
 use Rattle.game_rules.specs.declared.RuleKind.{RuleKind}
 use Rattle.game_rules.specs.declared.Side.{Side}
 use Rattle.game_rules.specs.declared.Side.TheVariants.{Black, White}
 use Rattle.game_rules.specs.declared.Axis.{Axis}
-use Rattle.game_rules.specs.declared.Axis.TheVariants.{Row, Column, Down, Up}
 use Rattle.game_rules.specs.declared.Point.{Point}
+use Rattle.game_rules.proofs.Axes.{axis_of, some_axis}
 use Rattle.game_rules.proofs.Boards.{and_left, and_right}
 use Rattle.game_rules.proofs.Points.{points-found, none_of}
 use Rattle.foul_judge.specs.declared.position.PositionError.{PositionError}
@@ -43,63 +44,21 @@ mover_named b w false false e f h = cc
 
 named_mover : (b w : ℕ) → (b ≡ w) ⊎ (b ≡ w + 1) → names_mover b w ≡ true
 named_mover b w (inl e) = rw (eq-eqb b w e) refl
-named_mover b w (inr e) = or_right (nat_eq b w) _ (eq-eqb b (w + 1) e) where
-  or_right : (a c : Bool) → c ≡ true → (a || c) ≡ true
-  or_right true c h = refl
-  or_right false c h = h
+named_mover b w (inr e) = or_right (nat_eq b w) _ (eq-eqb b (w + 1) e)
 
 -- ---- winning runs
-
-or_true : (a c : Bool) → c ≡ true → (a || c) ≡ true
-or_true true c h = refl
-or_true false c h = h
-
--- a test that holds on an axis holds on one of the four
-pub axis_of : (f : Axis → Bool) (d : Axis) → f d ≡ true → list_any f axes ≡ true
-axis_of f Row h = rw h refl
-axis_of f Column h = or_true (f Row) _ (rw h refl)
-axis_of f Down h = or_true (f Row) _ (or_true (f Column) _ (rw h refl))
-axis_of f Up h = or_true (f Row) _ (or_true (f Column) _ (or_true (f Down) _ (rw h refl)))
-
-or_split : (a c : Bool) → (a || c) ≡ true → (a ≡ true) ⊎ (c ≡ true)
-or_split true c h = inl refl
-or_split false c h = inr h
-
--- an axis on which a test holds
-some_axis : (f : Axis → Bool) → list_any f axes ≡ true → (d : Axis) × (f d ≡ true)
-some_axis f h = elim (or_split (f Row) _ h) [
-  | inl e ↦ (Row, e)
-  | inr h ↦ elim (or_split (f Column) _ h) [
-    | inl e ↦ (Column, e)
-    | inr h ↦ elim (or_split (f Down) _ h) [
-      | inl e ↦ (Down, e)
-      | inr h ↦ elim (or_split (f Up) _ h) [
-        | inl e ↦ (Up, e)
-        | inr h ↦ absurd (let no : false ≡ true = h in cc)
-      ]
-    ]
-  ]
-]
-
-and_both : (a c : Bool) → a ≡ true → c ≡ true → (a && c) ≡ true
-and_both true c e h = h
-and_both false c e h = e
-
-pub false_by : (r : Bool) → (r ≡ true → ⊥) → r ≡ false
-false_by true h = absurd (h refl)
-false_by false h = refl
 
 module _ (rule : RuleKind) (b : Grid) where
   won_by_side : (s : Side) (p : Point) → wins_through rule b s p ≡ true → is_on_winning_run rule b p ≡ true
   won_by_side Black p h = rw h refl
-  won_by_side White p h = or_true (wins_through rule b Black p) _ h
+  won_by_side White p h = or_right (wins_through rule b Black p) _ h
 
   through : (s : Side) (d : Axis) (p : Point) → holds b s p ≡ true → row_wins rule s (run_of b s d p) ≡ true → wins_through rule b s p ≡ true
-  through s d p mine wins = and_both (holds b s p) _ mine (axis_of (λ d. row_wins rule s (run_of b s d p)) d wins)
+  through s d p mine wins = and_from (holds b s p) _ mine (axis_of (λ d. row_wins rule s (run_of b s d p)) d wins)
 
   pub unwon_from_none : find (is_on_winning_run rule b) (points_of b) ≡ None → IsUnwon rule b
   unwon_from_none none = record {
-    no_winning_run = λ s d p mine. false_by _ (λ wins.
+    no_winning_run = λ s d p mine. false_from_ne_true _ (λ wins.
         let found = points-found b (is_on_winning_run rule b) p (and_left (is_on b p) _ mine) (won_by_side s p (through s d p mine wins)) in
         let no : false ≡ true = sym (find-None (is_on_winning_run rule b) (points_of b) none) ∙ found in
         cc);
@@ -113,7 +72,7 @@ module _ (rule : RuleKind) (b : Grid) where
       cc
 
   none_from_unwon : IsUnwon rule b → find (is_on_winning_run rule b) (points_of b) ≡ None
-  none_from_unwon unwon = None-find _ (points_of b) (none_of _ (points_of b) (λ p h. elim (or_split (wins_through rule b Black p) _ h) [
+  none_from_unwon unwon = None-find _ (points_of b) (none_of _ (points_of b) (λ p h. elim (or_cases (wins_through rule b Black p) _ h) [
     | inl black ↦ not_through unwon Black p black
     | inr white ↦ not_through unwon White p white
   ]))

@@ -1,8 +1,9 @@
 -- Where the short cuts pass a point or an axis over, Black has no foul and no three there.
-use Rattle.std.proofs.Common.{◌≡◌, ℕ, ◌≤◌, ◌<◌, ◌^◌, Bool, true, false, cond, ◌||◌, not, refl, sym, ap, ◌∙◌, arith, nat_eq, nat_le}
+use Rattle.std.proofs.Common.{◌≡◌, ℕ, ◌≤◌, ◌<◌, ◌^◌, Bool, true, false, cond, not, refl, sym, ap, ◌∙◌, arith, nat_eq, nat_le}
 use Rattle.std.specs.List.{list_any, count_by}
 use Rattle.std.specs.Prelude.{None}
 use Rattle.std.specs.Int.{bit_at}
+use Rattle.std.proofs.lemmas.Bool.{or_parts, false_from_ne_true}
 use Rattle.std.proofs.lemmas.Bool.Decides.{nat_tests}
 use Rattle.std.proofs.lemmas.Nat.Bits.{bit_at-zero, same_from_bits_below}
 use Rattle.game_rules.specs.Grid.{Grid, IsBoard, is_on, is_empty, put, along, axes, holds}
@@ -13,24 +14,16 @@ use Rattle.game_rules.specs.declared.Side.TheVariants.{Black}
 use Rattle.game_rules.specs.declared.Axis.{Axis}
 use Rattle.game_rules.specs.declared.Axis.TheVariants.{Row, Column, Down, Up}
 use Rattle.game_rules.specs.declared.Point.{Point}
+use Rattle.game_rules.proofs.Axes.{no_axis}
 use Rattle.game_rules.proofs.Boards.{is_empty-on, holds-put_same, run_of-put}
 use Rattle.game_rules.proofs.Positions.{IsBoard-put}
 use Rattle.game_rules.proofs.Rows.{any_found, any_none}
 use Rattle.row_shapes.specs.Reach.{stones_in_reach}
 use Rattle.row_shapes.proofs.Reaches.{reach-put, few-no_fours, few-no_three}
 use Rattle.foul_judge.specs.ShortCut.{may_foul, has_line_three}
-use Rattle.foul_judge.proofs.Lawfulness.{false_by}
-use Rattle.foul_judge.proofs.ThreePlaces.{foul-step, no_axis, no_line_points, no_three, not_free}
+use Rattle.foul_judge.proofs.ThreePlaces.{foul-step, no_line_points, no_three, not_free}
 
 -- ---- tests of the four axes
-
-none_left : (a c : Bool) → (a || c) ≡ false → a ≡ false
-none_left true c h = cc
-none_left false c h = refl
-
-none_right : (a c : Bool) → (a || c) ≡ false → c ≡ false
-none_right true c h = cc
-none_right false c h = h
 
 one_more : (r t : Bool) → (r ≡ true → t ≡ true) → cond r 1 0 ≤ cond t 1 0
 one_more true t h = rw (h refl) (omega arith)
@@ -67,11 +60,11 @@ module _ (rule : RuleKind) (b : Grid) (p : Point) (ok : IsBoard b) (empty : is_e
   module _ (no : may_foul b p ≡ false) where
     none_three : list_any (λ d. nat_le 3 (stones_in_reach b Black d p)) axes ≡ false
     unfolding may_foul
-    none_three = none_left _ _ no
+    none_three = (or_parts _ _ no).0
 
     few_two : nat_le 2 (count_by (λ d. nat_le 2 (stones_in_reach b Black d p)) axes) ≡ false
     unfolding may_foul
-    few_two = none_right (list_any (λ d. nat_le 3 (stones_in_reach b Black d p)) axes) _ no
+    few_two = (or_parts (list_any (λ d. nat_le 3 (stones_in_reach b Black d p)) axes) _ no).1
 
     few : (d : Axis) → stones_in_reach b Black d p < 3
     few d = let h = no_axis (λ d. nat_le 3 (stones_in_reach b Black d p)) none_three d in grind (arith, nat_tests)
@@ -105,7 +98,7 @@ module _ (rule : RuleKind) (b : Grid) (p : Point) (ok : IsBoard b) (empty : is_e
 module _ (rule : RuleKind) (b : Grid) (p : Point) where
   places_free : (d : Axis) → has_line_three rule b d p ≡ false → (i : ℕ) → i < 11 → is_line_three_at rule b Black d p (along d p i 5) ≡ false
   unfolding has_line_three
-  places_free d h i low = false_by _ (λ yes.
+  places_free d h i low = false_from_ne_true _ (λ yes.
       let some = any_found (λ i. is_line_three_at rule b Black d p (along d p i 5)) 11 0 i (omega arith) (omega arith) yes in
       let differ : false ≡ true = sym h ∙ some in
       cc)

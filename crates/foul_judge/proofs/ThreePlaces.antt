@@ -5,7 +5,7 @@ use Rattle.std.specs.Prelude.{Option, Some, None, is_some, is_none}
 use Rattle.std.specs.Int.{bit_at}
 use Rattle.std.proofs.lemmas.Nat.Bits.{shr_and_one}
 use Rattle.std.proofs.Math.Bool.{and-true, and-false}
-use Rattle.game_rules.specs.Grid.{Grid, IsBoard, is_empty, put, along, axes, points_of, holds}
+use Rattle.game_rules.specs.Grid.{Grid, IsBoard, is_empty, put, along, points_of, holds}
 use Rattle.game_rules.specs.Shapes.{is_three_point, is_line_three_point, is_line_three_at, three_points_of, five, wins_on}
 use Rattle.game_rules.specs.Play.{black_foul, black_foul_within, stone_foul, is_three}
 use Rattle.game_rules.specs.declared.RuleKind.{RuleKind}
@@ -13,12 +13,12 @@ use Rattle.game_rules.specs.declared.Side.TheVariants.{Black}
 use Rattle.game_rules.specs.declared.Foul.{Foul}
 use Rattle.game_rules.specs.declared.Axis.{Axis}
 use Rattle.game_rules.specs.declared.Point.{Point}
+use Rattle.game_rules.proofs.Axes.{no_axis}
 use Rattle.game_rules.proofs.Boards.{and_left, is_empty-on, empties_of-put}
 use Rattle.game_rules.proofs.Points.{points-found, none_of}
 use Rattle.stone_board.specs.Steps.{kept_on}
 use Rattle.row_shapes.proofs.ThreePoints.{three_empty, three_near, three-kept}
 use Rattle.foul_judge.specs.Threes.{free_three}
-use Rattle.foul_judge.proofs.Lawfulness.{axis_of, false_by}
 
 list_any-filter : (f g : Point → Bool) (xs : List Point) → list_any f (filter g xs) ≡ list_any (λ x. g x && f x) xs
 list_any-filter f g [] = refl
@@ -28,9 +28,6 @@ list_any-filter f g (x ∷ xs) = by_test (g x) (list_any-filter f g xs) where
   by_test false h = h
 
 -- ---- three points and five points
-
-pub no_axis : (f : Axis → Bool) → list_any f axes ≡ false → (d : Axis) → f d ≡ false
-no_axis f h d = false_by (f d) (λ e. let no : false ≡ true = sym h ∙ axis_of f d e in cc)
 
 module _ (rule : RuleKind) (b : Grid) (d : Axis) (p : Point) where
   three_by : (q : Point) (r : Bool) → five rule b Black q ≡ r → is_three_point rule b Black d p q ≡ (is_line_three_point rule b Black d p q && not r)

@@ -10,10 +10,10 @@ ghost use Rattle.foul_judge.specs.Lawful.{refusal, names_mover as names_mover_le
 use crate::Seen;
 use crate::outcome::{mover, outcome_at};
 use game_rules::Outcome;
-use row_shapes::{Rule, five_at};
-use std::alloc::AllocError;
+use row_shapes::{FivePoints, Rule, five_at};
+use std::alloc::{AllocError, Global};
 use std::marker::{Model, PhantomData};
-use stone_board::{Axis, Board, Point, Side};
+use stone_board::{Axis, Board, Point, Points, Side};
 
 /// Why a board is no lawful position.
 #[derive(Clone, Copy, Debug, PartialEq, Eq)]
@@ -127,6 +127,22 @@ impl<R: Rule> Seen<R> for Position<R> {
 
     fn five(&self, side: Side, p: Point) -> bool {
         five_at::<R>(&self.board, side, p)
+    }
+
+    fn five_points(&self, alloc: Global, side: Side) -> Result<Points, AllocError> {
+        row_shapes::five_points::<R>(alloc, &self.board, side)
+    }
+
+    fn has_five(&self, side: Side) -> bool {
+        row_shapes::has_five::<R>(&self.board, side)
+    }
+
+    fn fives_in_short(&self, side: Side) -> FivePoints {
+        row_shapes::fives_in_short::<R>(&self.board, side)
+    }
+
+    fn fives_made(&self, p: Point) -> FivePoints {
+        row_shapes::fives_made::<R>(&self.board, mover(&self.board), p)
     }
 }
 

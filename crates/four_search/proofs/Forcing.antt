@@ -13,26 +13,27 @@ use Rattle.game_rules.specs.declared.Outcome.{Outcome}
 use Rattle.game_rules.specs.declared.Outcome.TheVariants.{Refused, Wins, Fouls, Draws, GoesOn}
 use Rattle.game_rules.specs.declared.Point.{Point}
 use Rattle.game_rules.proofs.Boards.{and_left, and_right, is_empty-on}
-use Rattle.game_rules.proofs.Positions.{IsPosition-after, GoesOn-empty}
-use Rattle.game_rules.proofs.Points.{points-found, any_witness, none_of, all_at}
+use Rattle.game_rules.proofs.Positions.{IsPosition-after, GoesOn-empty, mover-then, mover-other}
+use Rattle.game_rules.proofs.Points.{points-found, any_witness, none_of, all_at, filter-none, filter-passes, is_same_point-itself, is_same_point-same}
+use Rattle.game_rules.proofs.Fives.{five-empty}
+use Rattle.game_rules.proofs.Distinct.{two_passing-apart}
 use Rattle.threat_moves.specs.declared.block.BlockAnswer.{BlockAnswer}
 use Rattle.threat_moves.specs.declared.block.BlockAnswer.TheVariants.{Lost, Won, Draw, One}
 use Rattle.threat_moves.specs.Blocks.{fate}
 use Rattle.threat_moves.specs.FourMoves.{goes_on_with, is_four_move}
 use Rattle.threat_moves.specs.OneBlock.{all_foul, block_wins}
 use Rattle.threat_moves.proofs.FourLaws.{four-goes_on, four-five}
-use Rattle.threat_moves.proofs.OtherSide.{five-empty}
-use Rattle.threat_moves.proofs.Distinct.{two_passing-apart}
-use Rattle.threat_moves.proofs.BlockLaw.{block_decides, mover-next, filter-none, filter-passes}
-use Rattle.threat_moves.proofs.FiveLaws.{has_five-none, has_five-one, has_five-several, none-short, one-empty, none-left, one-left, one-taken, several-left, blocked, mover-other, mover-then}
+use Rattle.threat_moves.proofs.BlockLaw.{block_decides}
+use Rattle.threat_moves.proofs.Fates.{blocked}
 use Rattle.four_search.specs.declared.search.Found.{Found}
 use Rattle.four_search.specs.declared.search.Found.TheVariants.{Win, NoWin, Spent}
-use Rattle.threat_moves.specs.NewFives.{in_short}
-use Rattle.threat_moves.specs.declared.new_fives.FivePoints.{FivePoints}
-use Rattle.threat_moves.specs.declared.new_fives.FivePoints.TheVariants.{None as NoPoint, One as OnePoint, Several}
+use Rattle.row_shapes.specs.FivePoints.{in_short}
+use Rattle.row_shapes.specs.declared.fives.FivePoints.{FivePoints}
+use Rattle.row_shapes.specs.declared.fives.FivePoints.TheVariants.{None as NoPoint, One as OnePoint, Several}
+use Rattle.row_shapes.proofs.FiveLaws.{has_five-none, has_five-one, has_five-several, none-short, one-empty, none-left, one-left, one-taken, several-left}
 use Rattle.four_search.specs.FourGame.{four_tree}
 use Rattle.four_search.specs.Searching.{found_by, found_at, found_behind, found_trying, four_line}
-use Rattle.four_search.proofs.Trying.{found_next, try_all, try_all-none, trying-no_four, trying-four, taken-no_four, answering-lost, behind-no_win, found-after, same_self, same_point, test, no_four, wins-is}
+use Rattle.four_search.proofs.Trying.{found_next, try_all, try_all-none, trying-no_four, trying-four, taken-no_four, answering-lost, behind-no_win, found-after, test, no_four, wins-is}
 
 -- ---- where the defender keeps a five point
 
@@ -40,7 +41,7 @@ module _ (rule : RuleKind) (n : ℕ) (b : Grid) (lawful : IsPosition rule b) whe
   lost : (p : Point) → outcome rule b p ≡ GoesOn → has_five rule (after b p) (other (mover b)) ≡ true → fate rule (after b p) ≡ Lost
   unfolding fate
   lost p on some =
-      let five : has_five rule (after b p) (mover (after b p)) ≡ true = ap (has_five rule (after b p)) (mover-next rule b lawful p on) ∙ some in
+      let five : has_five rule (after b p) (mover (after b p)) ≡ true = ap (has_five rule (after b p)) (mover-then rule b p lawful on) ∙ some in
       rw five refl
 
   -- a move that leaves the defender a five point gives nothing
@@ -84,15 +85,15 @@ only b w on = by_points (filter (λ p. is_same_point p w) (points_of b)) refl wh
   by_points : (xs : List Point) → filter (λ p. is_same_point p w) (points_of b) ≡ xs → filter (λ p. is_same_point p w) (points_of b) ≡ w ∷ []
   by_points [] e =
       let none = filter-none (λ p. is_same_point p w) (points_of b) e in
-      let some = points-found b (λ p. is_same_point p w) w on (same_self w) in
+      let some = points-found b (λ p. is_same_point p w) w on (is_same_point-itself w) in
       let no : false ≡ true = sym none ∙ some in cc
   by_points (u ∷ []) e =
       let here = and_left (is_same_point u w) _ (passing (λ p. is_same_point p w) (points_of b) (u ∷ []) e) in
-      e ∙ ap (λ (p : Point). p ∷ []) (same_point u w here)
+      e ∙ ap (λ (p : Point). p ∷ []) (is_same_point-same u w here)
   by_points (u ∷ v ∷ more) e =
       let both = passing (λ p. is_same_point p w) (points_of b) (u ∷ v ∷ more) e in
-      let first = same_point u w (and_left (is_same_point u w) _ both) in
-      let second = same_point v w (and_left (is_same_point v w) _ (and_right (is_same_point u w) _ both)) in
+      let first = is_same_point-same u w (and_left (is_same_point u w) _ both) in
+      let second = is_same_point-same v w (and_left (is_same_point v w) _ (and_right (is_same_point u w) _ both)) in
       let apart = two_passing-apart b (λ p. is_same_point p w) u v more e in
       let same : u ≡ v = first ∙ sym second in
       absurd (apart.apart (ap (λ (r : Point). r.x) same) (ap (λ (r : Point). r.y) same))
@@ -102,7 +103,7 @@ only b w on = by_points (filter (λ p. is_same_point p w) (points_of b)) refl wh
 module _ (rule : RuleKind) (b : Grid) (lawful : IsPosition rule b) (p : Point) (empty : is_empty b p ≡ true) where
   one-stays : (w : Point) → in_short (five_points rule b (other (mover b))) ≡ OnePoint w → is_same_point p w ≡ false → has_five rule (after b p) (other (mover b)) ≡ true
   one-stays w h differ =
-      has_five-one rule (after b p) (other (mover b)) w (one-left rule b (mover b) p lawful.board empty w h (λ same. let yes : is_same_point p w ≡ true = ap (is_same_point p) (sym same) ∙ same_self p in let no : false ≡ true = sym differ ∙ yes in cc))
+      has_five-one rule (after b p) (other (mover b)) w (one-left rule b (mover b) p lawful.board empty w h (λ same. let yes : is_same_point p w ≡ true = ap (is_same_point p) (sym same) ∙ is_same_point-itself p in let no : false ≡ true = sym differ ∙ yes in cc))
 
   -- where the defender has no five point, it has none after a stone of the attacker
   pub none-stays : has_five rule b (other (mover b)) ≡ false → has_five rule (after b p) (other (mover b)) ≡ false
@@ -171,7 +172,7 @@ module _ (rule : RuleKind) (b : Grid) (lawful : IsPosition rule b) (none : has_f
   last-four p four =
       let found = any_witness (five rule (after b p) (mover b)) (points_of (after b p)) (four-five rule b p four) in
       let empty = five-empty rule (after b p) (mover b) found.0 found.1 in
-      let turn = ap (has_fouls rule) (mover-next rule b lawful p (four-goes_on rule b p four)) ∙ calm in
+      let turn = ap (has_fouls rule) (mover-then rule b p lawful (four-goes_on rule b p four)) ∙ calm in
       block_decides rule zero b p lawful four ∙ no_last-win rule (after b p) (fate rule (after b p)) (not_all-foul rule (after b p) found.0 empty turn)
 
   last-start : (p : Point) → test rule zero b lawful none p ≡ true → ⊥

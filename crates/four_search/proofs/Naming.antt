@@ -9,15 +9,15 @@ use Rattle.game_rules.specs.declared.Outcome.{Outcome}
 use Rattle.game_rules.specs.declared.Outcome.TheVariants.{Refused, Wins as WinsNow, Fouls, Draws, GoesOn}
 use Rattle.game_rules.specs.declared.Point.{Point}
 use Rattle.game_rules.proofs.Boards.{and_left, and_right}
+use Rattle.game_rules.proofs.Points.{is_same_point-itself, is_same_point-same}
 use Rattle.strategy_graph.specs.declared.Node.{Node}
 use Rattle.strategy_graph.specs.declared.Reply.{Reply}
 use Rattle.strategy_graph.specs.declared.Rest.{Rest}
 use Rattle.strategy_graph.specs.declared.Rest.TheVariants.{Wins, To, Nothing}
-use Rattle.strategy_graph.specs.Tables.{Answers, listed, answer, rest_node, rest_nodes, named, precedes, is_rising, greatest}
+use Rattle.strategy_graph.specs.Tables.{Answers, listed_node, answer, rest_node, rest_nodes, named, precedes, is_rising, greatest}
 use Rattle.strategy_graph.specs.Acceptance.{Answered}
 use Rattle.strategy_compiler.specs.Trees.{Tree, StandsFor, StandsForAll, AnswersBriefly, replies_of, commonest, answers_to}
 use Rattle.four_search.specs.Plans.{branch_if, branches_for}
-use Rattle.four_search.proofs.Trying.{same_self, same_point}
 
 -- P holds of the answer, if there is one
 abbrev pub IfAnswer : (ℕ → Type 0) → Option ℕ → Type 0
@@ -77,8 +77,8 @@ not_same p q h = by_test (is_same_point p q) refl where
   by_test : (r : Bool) → is_same_point p q ≡ r → r ≡ false
   by_test false e = refl
   by_test true e =
-      let x : p.x ≡ q.x = ap (λ (z : Point). z.x) (same_point p q e) in
-      let y : p.y ≡ q.y = ap (λ (z : Point). z.y) (same_point p q e) in
+      let x : p.x ≡ q.x = ap (λ (z : Point). z.x) (is_same_point-same p q e) in
+      let y : p.y ≡ q.y = ap (λ (z : Point). z.y) (is_same_point-same p q e) in
       let a : nat_lt p.y q.y ≡ false = grind (arith, nat_tests) in
       let c : nat_lt p.x q.x ≡ false = grind (arith, nat_tests) in
       let none : precedes p q ≡ false = none_of (nat_lt p.y q.y) (nat_eq p.y q.y) (nat_lt p.x q.x) a c in
@@ -88,7 +88,7 @@ not_same p q h = by_test (is_same_point p q) refl where
         none_of false true c h k = k
         none_of false false c h k = refl
 
-listed_later : (s : Reply) (rs ts : List Reply) → list_all (λ r. precedes s.at r.at) rs ≡ true → AllByRecursion (λ r. listed ts r.at ≡ Some r.next) rs → AllByRecursion (λ r. listed (s ∷ ts) r.at ≡ Some r.next) rs
+listed_later : (s : Reply) (rs ts : List Reply) → list_all (λ r. precedes s.at r.at) rs ≡ true → AllByRecursion (λ r. listed_node ts r.at ≡ Some r.next) rs → AllByRecursion (λ r. listed_node (s ∷ ts) r.at ≡ Some r.next) rs
 listed_later s [] ts all h = tt
 listed_later s (r ∷ rs) ts all h = (
   ap (λ b. option_map (λ (u : Reply). u.next) (cond b (Some s) (find (λ u. is_same_point u.at r.at) ts))) (not_same s.at r.at (and_left _ _ all)) ∙ h.0,
@@ -96,10 +96,10 @@ listed_later s (r ∷ rs) ts all h = (
 )
 
 -- each listed reply is answered as it is listed
-listed-each : (rs : List Reply) → is_rising rs ≡ true → AllByRecursion (λ r. listed rs r.at ≡ Some r.next) rs
+listed-each : (rs : List Reply) → is_rising rs ≡ true → AllByRecursion (λ r. listed_node rs r.at ≡ Some r.next) rs
 listed-each [] h = tt
 listed-each (s ∷ rs) h = (
-  ap (λ b. option_map (λ (u : Reply). u.next) (cond b (Some s) (find (λ u. is_same_point u.at s.at) rs))) (same_self s.at),
+  ap (λ b. option_map (λ (u : Reply). u.next) (cond b (Some s) (find (λ u. is_same_point u.at s.at) rs))) (is_same_point-itself s.at),
   listed_later s rs rs (and_left _ _ h) (listed-each rs (and_right (list_all (λ t. precedes s.at t.at) rs) _ h)),
 )
 
@@ -112,7 +112,7 @@ module _ (P : ℕ → Type 0) (a : Answers) where
   rest_all Nothing js e h = tt
 
   next_all : is_rising a.replies ≡ true → AllByRecursion (λ r. IfAnswer P (answer a r.at)) a.replies → AllByRecursion (λ r. P r.next) a.replies
-  next_all rising h = all_both (λ r. IfAnswer P (answer a r.at)) (λ r. listed a.replies r.at ≡ Some r.next) (λ r. P r.next)
+  next_all rising h = all_both (λ r. IfAnswer P (answer a r.at)) (λ r. listed_node a.replies r.at ≡ Some r.next) (λ r. P r.next)
       (λ r k e. subst (IfAnswer P) (ap (λ (o : Option ℕ). option_or o (rest_node a.rest)) e) k) a.replies h (listed-each a.replies rising)
 
   -- what holds of each answer to a reply of the tree holds of each node that is named
@@ -167,7 +167,7 @@ module _ (t : List Node) (a : Answers) (o : Point → Outcome) (next : Point →
 
     by_test : (r : Bool) → is_same_point q p ≡ r → (r || among_points q ps) ≡ true → (AmongPoints q ps → StandsForAll t a (branches_for o next ps) → Answered (answer a q) (λ j. StandsFor t j (next q))) → Answered (answer a q) (λ j. StandsFor t j (next q))
     by_test true e k rest =
-        let same : q ≡ p = same_point q p e in
+        let same : q ≡ p = is_same_point-same q p e in
         subst (λ (x : Point). Answered (answer a x) (λ j. StandsFor t j (next x))) (sym same) (here (o p) (ap o (sym same) ∙ on) h)
     by_test false e k rest = rest k (skip (o p) h)
 
@@ -183,13 +183,9 @@ replies-pass f o next (q ∷ ps) h = by_outcome (o q) refl (replies-pass f o nex
   by_outcome Draws e k = k
   by_outcome GoesOn e k = (h q e, k)
 
-all_pass : (f : Point → Bool) (rs : List Reply) → AllByRecursion (λ r. f r.at ≡ true) rs → list_all (λ r. f r.at) rs ≡ true
-all_pass f [] h = refl
-all_pass f (r ∷ rs) h = rw (h.0, all_pass f rs h.1) refl
-
 -- the replies that a node lists are among those of its tree
-pub listed-on : (f : Point → Bool) (a : Answers) (o : Point → Outcome) (next : Point → Tree) (ps : List Point) → ((q : Point) → o q ≡ GoesOn → f q ≡ true) → AnswersBriefly a (replies_of (branches_for o next ps)) → list_all (λ r. f r.at) a.replies ≡ true
-listed-on f a o next ps h brief = all_pass f a.replies (by_replies (replies_of (branches_for o next ps)) brief (replies-pass f o next ps h)) where
+pub listed-on : (f : Point → Bool) (a : Answers) (o : Point → Outcome) (next : Point → Tree) (ps : List Point) → ((q : Point) → o q ≡ GoesOn → f q ≡ true) → AnswersBriefly a (replies_of (branches_for o next ps)) → AllByRecursion (λ r. f r.at ≡ true) a.replies
+listed-on f a o next ps h brief = by_replies (replies_of (branches_for o next ps)) brief (replies-pass f o next ps h) where
   by_replies : (qs : List Point) → AnswersBriefly a qs → AllByRecursion (λ q. f q ≡ true) qs → AllByRecursion (λ r. f r.at ≡ true) a.replies
   by_replies [] brief all = subst (λ (rs : List Reply). AllByRecursion (λ r. f r.at ≡ true) rs) (sym brief.1) tt
   by_replies (q ∷ qs) brief all =

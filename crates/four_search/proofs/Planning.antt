@@ -3,18 +3,21 @@ use Rattle.std.proofs.Common.{◌≡◌, inl, inr, ℕ, zero, suc, ◌-◌, ◌�
 use Rattle.std.specs.Prelude.{Option, Some, Result, Ok, Err, IfOk, All}
 use Rattle.std.specs.List.{list_any, list_all, find, filter, AllByRecursion}
 use Rattle.std.proofs.lemmas.List.Elements.{All-from_recursion}
+use Rattle.std.proofs.lemmas.Bool.{false_from_ne_true}
 use Rattle.game_rules.specs.Grid.{Grid, is_on, is_empty, is_empty_cell, stone_of, cell_at, points_of}
 use Rattle.game_rules.specs.Shapes.{five, is_same_point}
 use Rattle.game_rules.specs.Play.{IsPosition, outcome, mover, other, after}
 use Rattle.game_rules.specs.Games.{has_five, five_points, loses_or, starts_win, wins_by_fours, wins_under, four_move}
 use Rattle.game_rules.specs.declared.RuleKind.{RuleKind}
 use Rattle.game_rules.specs.declared.Side.{Side}
-use Rattle.game_rules.specs.declared.Side.TheVariants.{Black, White}
 use Rattle.game_rules.specs.declared.Outcome.{Outcome}
 use Rattle.game_rules.specs.declared.Outcome.TheVariants.{Refused, Wins, Fouls, Draws, GoesOn}
 use Rattle.game_rules.specs.declared.Point.{Point}
-use Rattle.game_rules.proofs.Boards.{is_empty-on, Apart, cell_at-put_same}
-use Rattle.game_rules.proofs.Positions.{GoesOn-empty, IsPosition-after, mover-after}
+use Rattle.game_rules.proofs.Boards.{is_empty-on, Apart, cell_at-put_same, same_or_apart, stone_of-taken}
+use Rattle.game_rules.proofs.Positions.{GoesOn-empty, IsPosition-after, mover-after, mover-then}
+use Rattle.game_rules.proofs.Fives.{five-other, five-empty}
+use Rattle.game_rules.proofs.Points.{filter-none, is_same_point-itself, is_same_point-same}
+use Rattle.game_rules.proofs.Distinct.{two_passing-apart}
 use Rattle.strategy_graph.specs.declared.Node.{Node}
 use Rattle.strategy_graph.specs.declared.Reply.{Reply}
 use Rattle.strategy_compiler.specs.Trees.{Tree, Branches, Leaf, Fork, StandsFor, AnswersBranches, GrowthKeepsTrees}
@@ -23,13 +26,11 @@ use Rattle.threat_moves.specs.FourMoves.{is_four_move}
 use Rattle.threat_moves.specs.Blocks.{by_block, by_fives, fate}
 use Rattle.threat_moves.specs.OneBlock.{block_wins, all_foul}
 use Rattle.threat_moves.proofs.FourLaws.{four-goes_on, one-goes_on}
-use Rattle.threat_moves.proofs.OtherSide.{same_or_apart, five-other, five-empty}
-use Rattle.threat_moves.proofs.BlockLaw.{mover-next, block_decides, filter-none}
-use Rattle.threat_moves.proofs.Distinct.{two_passing-apart}
+use Rattle.threat_moves.proofs.BlockLaw.{block_decides}
 use Rattle.four_search.specs.Searching.{line_behind, line_from, four_line}
 use Rattle.four_search.specs.Plans.{branch_if, branches_for, plan_from, four_plan, answer_if, answers_for, at_or_beside}
 use Rattle.four_search.specs.Growth.{GrowsBy}
-use Rattle.four_search.proofs.Trying.{same_self, same_point, find-passes, move-is, no_four}
+use Rattle.four_search.proofs.Trying.{find-passes, move-is, no_four}
 
 -- ---- answers and branches
 
@@ -78,16 +79,8 @@ at_or_beside-below w i j k a b q = by_test (is_same_point q w) where
 
 -- ---- the five points that are left
 
-pub stone_full : (s : Side) → is_empty_cell (stone_of s) ≡ false
-stone_full Black = refl
-stone_full White = refl
-
-false_by : (r : Bool) → (r ≡ true → ⊥) → r ≡ false
-false_by true h = absurd (h refl)
-false_by false h = refl
-
 apart_same : (p q : Point) → Apart p q → is_same_point q p ≡ false
-apart_same p q h = false_by (is_same_point q p) (λ e. let same : q ≡ p = same_point q p e in h.apart (ap (λ (r : Point). r.x) (sym same)) (ap (λ (r : Point). r.y) (sym same)))
+apart_same p q h = false_from_ne_true (is_same_point q p) (λ e. let same : q ≡ p = is_same_point-same q p e in h.apart (ap (λ (r : Point). r.x) (sym same)) (ap (λ (r : Point). r.y) (sym same)))
 
 find-and : (f g : Point → Bool) (ps : List Point) → find (λ x. f x && g x) ps ≡ find g (filter f ps)
 find-and f g [] = refl
@@ -119,15 +112,15 @@ module _ (rule : RuleKind) (c : Grid) (lawful : IsPosition rule c) (q : Point) (
   taken =
       let here : is_on c q ≡ true = is_empty-on c q (GoesOn-empty rule c q on) in
       let cell : cell_at (after c q) q ≡ stone_of (mover c) = cell_at-put_same c (mover c) q lawful.board here in
-      ap (λ r. r && is_empty_cell (cell_at (after c q) q)) here ∙ ap is_empty_cell cell ∙ stone_full (mover c)
+      ap (λ r. r && is_empty_cell (cell_at (after c q) q)) here ∙ ap is_empty_cell cell ∙ stone_of-taken (mover c)
 
   five_left : (x : Point) → five rule (after c q) (other (mover c)) x ≡ (five rule c (other (mover c)) x && not (is_same_point x q))
   five_left x = elim (same_or_apart q x) [
-    | inl same ↦ subst (λ (y : Point). five rule (after c q) (other (mover c)) y ≡ (five rule c (other (mover c)) y && not (is_same_point y q))) same (not_there ∙ sym (drop_right (five rule c (other (mover c)) q) _ (ap not (same_self q))))
+    | inl same ↦ subst (λ (y : Point). five rule (after c q) (other (mover c)) y ≡ (five rule c (other (mover c)) y && not (is_same_point y q))) same (not_there ∙ sym (drop_right (five rule c (other (mover c)) q) _ (ap not (is_same_point-itself q))))
     | inr apart ↦ five-other c (mover c) q lawful.board (GoesOn-empty rule c q on) rule x apart ∙ sym (keep_left (five rule c (other (mover c)) x) _ (ap not (apart_same q x apart)))
   ] where
     not_there : five rule (after c q) (other (mover c)) q ≡ false
-    not_there = false_by _ (λ h. let yes = five-empty rule (after c q) (other (mover c)) q h in let bad : false ≡ true = sym taken ∙ yes in cc)
+    not_there = false_from_ne_true _ (λ h. let yes = five-empty rule (after c q) (other (mover c)) q h in let bad : false ≡ true = sym taken ∙ yes in cc)
 
     drop_right : (a b : Bool) → b ≡ false → (a && b) ≡ false
     drop_right true b h = h
@@ -140,7 +133,7 @@ module _ (rule : RuleKind) (c : Grid) (lawful : IsPosition rule c) (q : Point) (
   -- the least of those five points of the attacker that the reply does not take
   least-left : least_five rule (after c q) ≡ find (λ x. not (is_same_point x q)) (five_points rule c (other (mover c)))
   least-left =
-      ap (λ (s : Side). find (five rule (after c q) s) (points_of c)) (mover-next rule c lawful q on)
+      ap (λ (s : Side). find (five rule (after c q) s) (points_of c)) (mover-then rule c q lawful on)
       ∙ ap (λ (f : Point → Bool). find f (points_of c)) (λ i x. five_left x i)
       ∙ find-and (five rule c (other (mover c))) (λ x. not (is_same_point x q)) (points_of c)
 
@@ -151,7 +144,7 @@ module _ (rule : RuleKind) (c : Grid) (lawful : IsPosition rule c) (q : Point) (
   second-left : (w v : Point) (more : List Point) → five_points rule c (other (mover c)) ≡ w ∷ v ∷ more → q ≡ w → least_five rule (after c q) ≡ Some v
   second-left w v more e same =
       let apart : Apart w v = two_passing-apart c (five rule c (other (mover c))) w v more e in
-      let here : is_same_point w q ≡ true = ap (λ (x : Point). is_same_point w x) same ∙ same_self w in
+      let here : is_same_point w q ≡ true = ap (λ (x : Point). is_same_point w x) same ∙ is_same_point-itself w in
       let there : is_same_point v q ≡ false = ap (λ (x : Point). is_same_point v x) same ∙ apart_same w v apart in
       least-left ∙ ap (find (λ x. not (is_same_point x q))) e
       ∙ ap (λ r. cond (not r) (Some w) (cond (not (is_same_point v q)) (Some v) (find (λ x. not (is_same_point x q)) more))) here
@@ -183,7 +176,7 @@ module _ (rule : RuleKind) (c : Grid) (lawful : IsPosition rule c) (t : List Nod
 
   stands-at : (w : Point) (i j : ℕ) (q : Point) → q ≡ w → StandsFor t i (four_plan rule n (after c q)) → Stands w i j q
   stands-at w i j q same h =
-      let here : is_same_point q w ≡ true = ap (λ (x : Point). is_same_point x w) same ∙ same_self w in
+      let here : is_same_point q w ≡ true = ap (λ (x : Point). is_same_point x w) same ∙ is_same_point-itself w in
       subst (λ (k : ℕ). StandsFor t k (four_plan rule n (after c q))) (sym (ap (λ r. cond r i j) here)) h
 
   stands-beside : (w : Point) (i j : ℕ) (q : Point) → Apart q w → StandsFor t j (four_plan rule n (after c q)) → Stands w i j q

@@ -1,7 +1,8 @@
 -- Answers to replies in reading order rise.
-use Rattle.std.proofs.Common.{◌≡◌, ◌⊎◌, inl, inr, ℕ, zero, suc, ◌+◌, ◌≤◌, ◌<◌, Bool, true, false, ◌||◌, refl, arith, List, [], ◌∷◌, ◌++◌, nat_lt, nat_eq, eq-eqb}
+use Rattle.std.proofs.Common.{◌≡◌, ◌⊎◌, inl, inr, ℕ, zero, suc, ◌+◌, ◌≤◌, ◌<◌, true, refl, arith, List, [], ◌∷◌, ◌++◌, nat_lt, nat_eq, eq-eqb}
 use Rattle.std.specs.List.{list_all, flat_map, range_with_len}
 use Rattle.std.proofs.lemmas.Bool.Decides.{nat_tests}
+use Rattle.std.proofs.lemmas.Bool.{or_right}
 use Rattle.game_rules.specs.Grid.{Grid, points_of, row_from}
 use Rattle.game_rules.specs.declared.Outcome.{Outcome}
 use Rattle.game_rules.specs.declared.Outcome.TheVariants.{Refused, Wins, Fouls, Draws, GoesOn}
@@ -48,17 +49,13 @@ unfolding Following
 Following-later p q [] h k = k
 Following-later p q (r ∷ ps) h k = (later p q r h k.0, k.1)
 
-or_true : (a b : Bool) → b ≡ true → (a || b) ≡ true
-or_true true b h = refl
-or_true false b h = h
-
 precedes-from : (p q : Point) → From p.y (p.x + 1) q → precedes p q ≡ true
 precedes-from p q (inl h) = let e : nat_lt p.y q.y ≡ true = grind (arith, nat_tests) in rw e refl
 precedes-from p q (inr h) =
     let e : nat_eq p.y q.y ≡ true = eq-eqb _ _ h.0 in
     let low = h.1 in
     let f : nat_lt p.x q.x ≡ true = grind (arith, nat_tests, low) in
-    or_true (nat_lt p.y q.y) _ (rw (e, f) refl)
+    or_right (nat_lt p.y q.y) _ (rw (e, f) refl)
 
 module _ (o : Point → Outcome) (next : Point → ℕ) where
   all_after : (p : Point) (ps : List Point) → Following p.y (p.x + 1) ps → list_all (λ s. precedes p s.at) (answers_for o next ps) ≡ true

@@ -6,7 +6,7 @@ use Rattle.std.proofs.lemmas.List.FromFn.{length-map-range_with_len}
 use Rattle.game_rules.specs.Grid.{Grid, points_of, row_from}
 use Rattle.game_rules.specs.Shapes.{is_same_point}
 use Rattle.game_rules.specs.declared.Point.{Point}
-use Rattle.four_search.proofs.Trying.{same_point}
+use Rattle.game_rules.proofs.Points.{is_same_point-same}
 use Rattle.four_search.proofs.Naming.{among_points}
 use Rattle.four_search.proofs.Reading.{From, Following, Following-later, rows-following}
 use Rattle.std.proofs.Common.{length-append}
@@ -30,7 +30,7 @@ sum-ones-but f w each none (p ∷ ps) among = by_test (is_same_point w p) refl a
 
   by_test : (r : Bool) → is_same_point w p ≡ r → (r || among_points w ps) ≡ true → (among_points w ps ≡ true → sum_by f ps + 1 ≤ length ps) → sum_by f (p ∷ ps) + 1 ≤ length (p ∷ ps)
   by_test true e k rest =
-      let zero_here : f p ≡ 0 = ap f (sym (same_point w p e)) ∙ none in
+      let zero_here : f p ≡ 0 = ap f (sym (is_same_point-same w p e)) ∙ none in
       let split = sum_by-cons f p ps in
       let others = sum-ones f ps (all ps) in
       omega (arith, zero_here, split, others)
@@ -45,8 +45,8 @@ not_after w q h = by_test (is_same_point q w) refl where
   by_test : (r : Bool) → is_same_point q w ≡ r → r ≡ false
   by_test false e = refl
   by_test true e =
-      let x : q.x ≡ w.x = ap (λ (z : Point). z.x) (same_point q w e) in
-      let y : q.y ≡ w.y = ap (λ (z : Point). z.y) (same_point q w e) in
+      let x : q.x ≡ w.x = ap (λ (z : Point). z.x) (is_same_point-same q w e) in
+      let y : q.y ≡ w.y = ap (λ (z : Point). z.y) (is_same_point-same q w e) in
       absurd (contra h x y) where
         contra : From w.y (w.x + 1) q → q.x ≡ w.x → q.y ≡ w.y → ⊥
         contra (inl l) x y = absurd (omega arith)
@@ -64,7 +64,7 @@ module _ (f : Point → ℕ) (w : Point) (most : ℕ) (some : 1 ≤ most) (high 
   sum-once-from y x (p ∷ ps) h = by_test (is_same_point p w) refl (sum-once-from p.y (p.x + 1) ps h.1) where
     by_test : (r : Bool) → is_same_point p w ≡ r → sum_by f ps + 1 ≤ length ps + most → sum_by f (p ∷ ps) + 1 ≤ length (p ∷ ps) + most
     by_test true e rest =
-        let same : p ≡ w = same_point p w e in
+        let same : p ≡ w = is_same_point-same p w e in
         let ones = sum-ones f ps (after_w ps (subst (λ (z : Point). Following z.y (z.x + 1) ps) same h.1)) in
         let here : f p ≤ most = subst (λ (z : Point). f z ≤ most) (sym same) high in
         let split = sum_by-cons f p ps in

@@ -1,5 +1,5 @@
 -- The fours of a position, tried one after another.
-use Rattle.std.proofs.Common.{◌≡◌, ℕ, zero, suc, ◌+◌, ◌-◌, ◌≤◌, ◌<◌, Bool, true, false, cond, ◌&&◌, ◌||◌, refl, sym, ap, subst, ◌∙◌, arith, List, [], ◌∷◌, ◌++◌, nat_le, nat_eq}
+use Rattle.std.proofs.Common.{◌≡◌, ℕ, zero, suc, ◌+◌, ◌-◌, ◌≤◌, ◌<◌, Bool, true, false, cond, ◌&&◌, ◌||◌, refl, sym, ap, subst, ◌∙◌, arith, List, [], ◌∷◌, ◌++◌, nat_le}
 use Rattle.std.specs.Prelude.{Option, Some, None}
 use Rattle.std.specs.List.{list_any, find, sum_by}
 use Rattle.std.proofs.lemmas.Bool.Decides.{nat_tests}
@@ -12,7 +12,7 @@ use Rattle.game_rules.specs.declared.RuleKind.{RuleKind}
 use Rattle.game_rules.specs.declared.Outcome.{Outcome}
 use Rattle.game_rules.specs.declared.Outcome.TheVariants.{Refused, Wins, Fouls, Draws, GoesOn}
 use Rattle.game_rules.specs.declared.Point.{Point}
-use Rattle.game_rules.proofs.Points.{taken_refused}
+use Rattle.game_rules.proofs.Points.{taken_refused, is_same_point-itself, is_same_point-same}
 use Rattle.threat_moves.specs.FourMoves.{goes_on_with, is_four_move}
 use Rattle.threat_moves.specs.declared.block.BlockAnswer.{BlockAnswer}
 use Rattle.threat_moves.specs.declared.block.BlockAnswer.TheVariants.{Lost, Won, Draw, One}
@@ -165,22 +165,6 @@ module _ (rule : RuleKind) (n : ℕ) (b : Grid) (lawful : IsPosition rule b) (no
 
 -- ---- the chosen move
 
-pub same_self : (p : Point) → is_same_point p p ≡ true
-same_self p =
-    let x : nat_eq p.x p.x ≡ true = grind (arith, nat_tests) in
-    let y : nat_eq p.y p.y ≡ true = grind (arith, nat_tests) in
-    rw (x, y) refl
-
-pub same_point : (p q : Point) → is_same_point p q ≡ true → p ≡ q
-same_point p q h = by_test (nat_eq p.x q.x) (nat_eq p.y q.y) refl refl h where
-  by_test : (r s : Bool) → nat_eq p.x q.x ≡ r → nat_eq p.y q.y ≡ s → (r && s) ≡ true → p ≡ q
-  by_test true true e f h =
-      let x : p.x ≡ q.x = grind (arith, nat_tests) in
-      let y : p.y ≡ q.y = grind (arith, nat_tests) in
-      λ i. record { x = x i; y = y i }
-  by_test true false e f h = cc
-  by_test false s e f h = cc
-
 pub find-passes : (f : Point → Bool) (ps : List Point) (p : Point) → find f ps ≡ Some p → f p ≡ true
 find-passes f [] p h = cc
 find-passes f (x ∷ ps) p h = by_test (f x) refl h (find-passes f ps p) where
@@ -196,7 +180,7 @@ not_found f ps p h = by_find (find f ps) refl where
     by_test : (r : Bool) → is_same_point p q ≡ r → r ≡ false
     by_test false k = refl
     by_test true k =
-        let yes : f p ≡ true = ap f (same_point p q k) ∙ find-passes f ps q e in
+        let yes : f p ≡ true = ap f (is_same_point-same p q k) ∙ find-passes f ps q e in
         let bad : false ≡ true = sym h ∙ yes in cc
 
 -- up to the first that passes
@@ -204,7 +188,7 @@ until-find : (f : Point → Bool) (ps : List Point) → until (λ p. is_at p (fi
 until-find f [] = refl
 until-find f (x ∷ ps) = by_test (f x) refl (until-find f ps) where
   by_test : (r : Bool) → f x ≡ r → until (λ p. is_at p (find f ps)) ps ≡ until f ps → x ∷ cond (is_at x (cond r (Some x) (find f ps))) [] (until (λ p. is_at p (cond r (Some x) (find f ps))) ps) ≡ x ∷ cond r [] (until f ps)
-  by_test true e rest = rw (same_self x) refl
+  by_test true e rest = rw (is_same_point-itself x) refl
   by_test false e rest = rw (not_found f ps x e, rest) refl
 
 -- ---- what one search finds

@@ -8,20 +8,21 @@ use Rattle.std.proofs.lemmas.Bool.{cases_lt}
 use Rattle.game_rules.specs.Grid.{Grid, IsBoard, is_on, is_empty, is_empty_cell, cell_at, points_of}
 use Rattle.game_rules.specs.Shapes.{five, is_same_point}
 use Rattle.game_rules.specs.Play.{IsPosition, outcome, mover, after}
-use Rattle.game_rules.specs.Games.{LosesOr, has_five, wins_or, loses_or, starts_win, wins_under, wins_by_fours, four_move, if_goes_on}
+use Rattle.game_rules.specs.Games.{LosesOr, has_five, wins_or, loses_or, starts_win, wins_under, WinsByFours, wins_by_fours, four_move, if_goes_on}
 use Rattle.game_rules.specs.declared.RuleKind.{RuleKind}
 use Rattle.game_rules.specs.declared.Outcome.{Outcome}
 use Rattle.game_rules.specs.declared.Outcome.TheVariants.{Refused, Wins as WinsNow, Fouls, Draws, GoesOn}
 use Rattle.game_rules.specs.declared.Point.{Point}
-use Rattle.game_rules.proofs.Boards.{is_empty-on, cell_at-put_same}
-use Rattle.game_rules.proofs.Points.{points-found, all_of, taken_refused}
-use Rattle.game_rules.proofs.Games.{each_reply, LosesOr-loses_or}
+use Rattle.game_rules.proofs.Boards.{is_empty-on, cell_at-put_same, stone_of-taken}
+use Rattle.game_rules.proofs.Points.{points-found, all_of, taken_refused, is_same_point-itself}
+use Rattle.game_rules.proofs.Games.{each_reply, LosesOr-loses_or, test-WinsUnder, WinsUnder-test}
 use Rattle.game_rules.proofs.Positions.{IsPosition-after, GoesOn-on, GoesOn-empty}
+use Rattle.game_rules.proofs.Fives.{five-empty}
 use Rattle.strategy_graph.specs.declared.Node.{Node}
 use Rattle.strategy_graph.specs.declared.Reply.{Reply}
 use Rattle.strategy_graph.specs.declared.Rest.{Rest}
 use Rattle.strategy_graph.specs.declared.Rest.TheVariants.{Wins, To, Nothing}
-use Rattle.strategy_graph.specs.Tables.{answers_of, answer, is_winning, IsTable, NamesLower, depth, node_depth, named, greatest}
+use Rattle.strategy_graph.specs.Tables.{answers_of, answer, is_winning, IsTable, NamesLower, NamesOnBoard, RepliesOn, depth, node_depth, named, greatest}
 use Rattle.strategy_graph.specs.Acceptance.{Answered, Meets, Accepted}
 use Rattle.strategy_graph.specs.Arrivals.{if_answered, arrivals_at, arrivals}
 use Rattle.strategy_graph.specs.Leads.{AtNode}
@@ -30,7 +31,6 @@ use Rattle.strategy_graph.proofs.Fuel.{depth-step}
 use Rattle.strategy_graph.proofs.Steps.{accepted-by-win, accepted-by-replies, arrivals-by-replies, arrivals-winning}
 use Rattle.strategy_compiler.specs.Trees.{Tree, Branches, Leaf, Fork, NoBranch, Branch, StandsFor, StandsForAll, AnswersBriefly, replies_of}
 use Rattle.strategy_compiler.specs.Walks.{Reaches, Itself, Through}
-use Rattle.threat_moves.proofs.OtherSide.{five-empty}
 use Rattle.threat_moves.proofs.BlockLaw.{five-outcome, five-wins, block_decides, others_leave_five}
 use Rattle.threat_moves.proofs.FourLaws.{one-goes_on}
 use Rattle.threat_moves.specs.declared.block.BlockAnswer.{BlockAnswer}
@@ -38,10 +38,11 @@ use Rattle.threat_moves.specs.declared.block.BlockAnswer.TheVariants.{Lost, Won,
 use Rattle.threat_moves.specs.FourMoves.{goes_on_with, is_four_move}
 use Rattle.threat_moves.specs.Blocks.{fate}
 use Rattle.threat_moves.specs.OneBlock.{block_wins, LeavesFive}
-use Rattle.four_search.specs.Answers.{NamesOnBoard, StaysOnBoard, IsFourWin}
+use Rattle.strategy_compiler.specs.Wins.{StaysOnBoard}
+use Rattle.four_search.specs.Answers.{IsFourWin}
 use Rattle.four_search.specs.Plans.{branches_for, four_plan}
-use Rattle.four_search.proofs.Trying.{same_self, find-passes, move-is, wins-is}
-use Rattle.four_search.proofs.Planning.{any-find, plan-leaf, plan-fork, plan-goes_on, wins-some, stone_full}
+use Rattle.four_search.proofs.Trying.{find-passes, move-is, wins-is}
+use Rattle.four_search.proofs.Planning.{any-find, plan-leaf, plan-fork, plan-goes_on, wins-some}
 use Rattle.four_search.proofs.Naming.{named-all, answers-each, answer-at, greatest-all, listed-on}
 use Rattle.four_search.proofs.Sums.{sum-ones-but, sum-once, length-points}
 use Rattle.four_search.proofs.Deepening.{NoWinUpTo, wins-more, least-win}
@@ -86,7 +87,7 @@ lower_of t table = record { lower = λ i n at. (table.nodes i n at).below }
 
 -- two moves change no size
 on_before : (b : Grid) (p q : Point) (n : Node) → NamesOnBoard (after (after b p) q) n → NamesOnBoard b n
-on_before b p q n h = record { attack_on = h.attack_on; replies_on = h.replies_on }
+on_before b p q n h = record { attack = h.attack; replies = h.replies }
 
 -- a board has a point for each move
 points-many : (rule : RuleKind) (b : Grid) → IsPosition rule b → (m : ℕ) → 1 ≤ b.width * b.height * suc m
@@ -117,8 +118,8 @@ module _ (rule : RuleKind) (t : List Node) (table : IsTable t) (i : ℕ) (b : Gr
     wins = ap (λ (k : ℕ). wins_by_fours rule k b) leaf_depth ∙ five-wins rule b 0 some;
     on_board = stays-by b t i n at
         (record {
-          attack_on = ap (is_on b) plays ∙ is_empty-on b x (five-empty rule b (mover b) x h);
-          replies_on = ap (list_all (λ r. is_on b r.at)) (((table.nodes i n at).winning) win);
+          attack = ap (is_on b) plays ∙ is_empty-on b x (five-empty rule b (mover b) x h);
+          replies = subst (RepliesOn b) (sym ((table.nodes i n at).winning win)) tt;
         })
         (subst (AllByRecursion (StaysOnBoard b t)) (sym (no_names t i n table at win)) tt);
     short = let one = arrivals-winning rule t (lower_of t table) i b n at win in let many = points-many rule b lawful m in omega (arith, one, many);
@@ -129,7 +130,7 @@ module _ (rule : RuleKind) (t : List Node) (table : IsTable t) (i : ℕ) (b : Gr
 taken_after : (b : Grid) (p : Point) → IsBoard b → is_empty b p ≡ true → is_empty (after b p) p ≡ false
 taken_after b p ok empty =
     let here : is_on b p ≡ true = is_empty-on b p empty in
-    ap (λ r. r && is_empty_cell (cell_at (after b p) p)) here ∙ ap is_empty_cell (cell_at-put_same b (mover b) p ok here) ∙ stone_full (mover b)
+    ap (λ r. r && is_empty_cell (cell_at (after b p) p)) here ∙ ap is_empty_cell (cell_at-put_same b (mover b) p ok here) ∙ stone_of-taken (mover b)
 
 leaf_node : (t : List Node) (i : ℕ) (x : Point) → StandsFor t i (Leaf x) → (n : Node) × (slice_get t i ≡ Some n) × ((n.attack ≡ x) × (is_winning n.rest ≡ true))
 unfolding StandsFor
@@ -188,7 +189,7 @@ module _ (rule : RuleKind) (t : List Node) (table : IsTable t) (i m : ℕ) (b : 
   -- the answer to a reply that goes on
   answered : (q : Point) → outcome rule (after b p) q ≡ GoesOn → Answered (answer (answers_of n) q) (λ j. StandsFor t j (four_plan rule m (after (after b p) q)))
   answered q go = answer-at t (answers_of n) (outcome rule (after b p)) (λ q. four_plan rule m (after (after b p) q)) (points_of b) q
-      (points-found (after b p) (λ x. is_same_point q x) q (GoesOn-on rule (after b p) q go) (same_self q)) go stands
+      (points-found (after b p) (λ x. is_same_point q x) q (GoesOn-on rule (after b p) q go) (is_same_point-itself q)) go stands
 
   by_loses : (q : Point) (W : Type 0) → (outcome rule (after b p) q ≡ GoesOn → W) → LosesOr (outcome rule (after b p) q) W
   by_loses q W f = by_outcome (outcome rule (after b p) q) f (lost q) where
@@ -247,8 +248,8 @@ module _ (rule : RuleKind) (t : List Node) (table : IsTable t) (i m : ℕ) (b : 
   written_on : StaysOnBoard b t i
   written_on = stays-by b t i n at
       (record {
-        attack_on = ap (is_on b) plays ∙ GoesOn-on rule b p on;
-        replies_on = listed-on (is_on b) (answers_of n) (outcome rule (after b p)) (λ q. four_plan rule m (after (after b p) q)) (points_of b) (λ q go. GoesOn-on rule (after b p) q go) brief;
+        attack = ap (is_on b) plays ∙ GoesOn-on rule b p on;
+        replies = listed-on (is_on b) (answers_of n) (outcome rule (after b p)) (λ q. four_plan rule m (after (after b p) q)) (points_of b) (λ q go. GoesOn-on rule (after b p) q go) brief;
       })
       (named-all (StaysOnBoard b t) (answers_of n) _ (table.nodes i n at).rising brief
       (answers-each t (answers_of n) (outcome rule (after b p)) (λ q. four_plan rule m (after (after b p) q)) (StaysOnBoard b t) (points_of b) (λ q j go s k n reach here. on_before b p q n ((next_written q j go s).on_board k n reach here)) stands))
@@ -307,7 +308,7 @@ module _ (rule : RuleKind) (t : List Node) (table : IsTable t) (i m : ℕ) (b : 
   won_short : fate rule (after b p) ≡ Won → arrivals rule t i b ≤ b.width * b.height * suc m
   won_short won_by =
       let each : (q : Point) → count q ≤ 1 = λ q. one_behind q (λ go. subst (LeavesFive rule (after b p) q) won_by (others_leave_five rule b p q lawful four go)) in
-      let sum = sum-ones-but count p each none_at (points_of b) (points-found b (λ x. is_same_point p x) p (GoesOn-on rule b p on) (same_self p)) in
+      let sum = sum-ones-but count p each none_at (points_of b) (points-found b (λ x. is_same_point p x) p (GoesOn-on rule b p on) (is_same_point-itself p)) in
       let e = total in
       let size = points_are in
       let grows = size_grows in
@@ -318,7 +319,7 @@ module _ (rule : RuleKind) (t : List Node) (table : IsTable t) (i m : ℕ) (b : 
       let go : outcome rule (after b p) w ≡ GoesOn = one-goes_on rule (after b p) w (sym one) in
       let most : ℕ = b.width * b.height * m in
       let high : count w ≤ most = by_counts w most (λ go j e s. (next_written w j go s).short) in
-      let each : (q : Point) → is_same_point q w ≡ false → count q ≤ 1 = λ q apart. one_behind q (λ g. subst (LeavesFive rule (after b p) q) one (others_leave_five rule b p q lawful four g) (λ same. let yes : is_same_point q w ≡ true = ap (λ (z : Point). is_same_point z w) same ∙ same_self w in let bad : false ≡ true = sym apart ∙ yes in cc)) in
+      let each : (q : Point) → is_same_point q w ≡ false → count q ≤ 1 = λ q apart. one_behind q (λ g. subst (LeavesFive rule (after b p) q) one (others_leave_five rule b p q lawful four g) (λ same. let yes : is_same_point q w ≡ true = ap (λ (z : Point). is_same_point z w) same ∙ is_same_point-itself w in let bad : false ≡ true = sym apart ∙ yes in cc)) in
       let some : 1 ≤ most = some_points m (wins-some rule m (after (after b p) w) (won w go)) in
       let sum = sum-once count w most some high each b in
       let e = total in
@@ -371,21 +372,39 @@ plan-written rule t table (suc m) i b lawful wins stands = by_five (has_five rul
   by_five false none later = by_fork none later
 
 -- what the search says of a win
-pub four-win : (rule : RuleKind) (b : Grid) (limit d : ℕ) → d < limit → NoWinUpTo rule b limit d → IsPosition rule b → wins_by_fours rule (d + 1) b ≡ true → (t : List Node) → IsTable t → (i : ℕ) → i < length t → StandsFor t i (four_plan rule (d + 1) b) → IsFourWin rule limit b t i (d + 1)
+pub four-win : (rule : RuleKind) (b : Grid) (limit d : ℕ) → d < limit → NoWinUpTo rule b limit d → IsPosition rule b → wins_by_fours rule (d + 1) b ≡ true → (t : List Node) → IsTable t → (i : ℕ) → i < length t → StandsFor t i (four_plan rule (d + 1) b) → IsFourWin rule limit b t (record { node = i; moves = d + 1 })
 four-win rule b limit d l none lawful wins t table i within stands =
     let written = plan-written rule t table (d + 1) i b lawful wins stands in
     record {
-      fewest = least-win rule b limit d l none wins;
-      in_compiler = within;
+      written = record {
+        in_compiler = within;
+        accepted = written.accepted;
+        deep = by_order (cases_lt d (depth t i)) written.deep written.wins;
+        within = omega (arith, l);
+        on_board = written.on_board;
+      };
+      fewest = record { wins = test-WinsUnder (has_five rule) rule (d + 1) b wins; no_fewer = fewer };
+      least = least-win rule b limit d l none wins;
       stands = stands;
-      accepted = written.accepted;
-      deep = by_order (cases_lt d (depth t i)) written.deep written.wins;
-      on_board = written.on_board;
       short = written.short;
     } where
+      lost : (k : ℕ) → k ≤ d → wins_by_fours rule k b ≡ true → ⊥
+      lost k less won =
+          let some = wins-some rule k b won in
+          let no = none k (omega (arith, some)) less in
+          let bad : false ≡ true = sym no ∙ won in
+          cc
+
+      fewer : (k : ℕ) → k < d + 1 → WinsByFours rule k b → ⊥
+      fewer k low win = lost k (omega (arith, low)) (WinsUnder-test (has_five rule) rule k b win)
+
       by_order : (d < depth t i) ⊎ (depth t i ≤ d) → depth t i ≤ d + 1 → wins_by_fours rule (depth t i) b ≡ true → depth t i ≡ d + 1
       by_order (inl more) high won = omega arith
-      by_order (inr less) high won =
-          let some = wins-some rule (depth t i) b won in
-          let lost = none (depth t i) (omega (arith, some)) less in
-          let bad : false ≡ true = sym lost ∙ won in cc
+      by_order (inr less) high won = absurd (lost (depth t i) less won)
+
+-- where the test finds no win there is none
+pub no-win : (rule : RuleKind) (n : ℕ) (b : Grid) → wins_by_fours rule n b ≡ false → WinsByFours rule n b → ⊥
+no-win rule n b none win =
+    let found = WinsUnder-test (has_five rule) rule n b win in
+    let bad : false ≡ true = sym none ∙ found in
+    cc

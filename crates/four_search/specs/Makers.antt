@@ -8,6 +8,7 @@ use Rattle.game_rules.specs.declared.Outcome.TheVariants.{GoesOn}
 use Rattle.game_rules.specs.declared.Axis.{Axis}
 use Rattle.game_rules.specs.declared.Axis.TheVariants.{Row, Column, Down, Up}
 use Rattle.game_rules.specs.declared.Point.{Point}
+use Rattle.game_rules.specs.declared.TheConstants.{MAX_SIDE}
 
 -- whether two points are on one line of the axis
 abbrev pub on_line : Axis → Point → Point → Bool
@@ -20,9 +21,9 @@ on_line Up p q = p.x + p.y == q.x + q.y
 abbrev pub on_lines : Point → Point → Bool
 on_lines p q = on_line Row p q || on_line Column p q || on_line Down p q || on_line Up p q
 
--- whether the set has the point: there is a test for each place, 32 places a row
+-- whether the set has the point: there is a test for each place, MAX_SIDE places a row
 abbrev pub is_in : List Bool → Point → Bool
-is_in set q = get_or set (32 * q.y + q.x) true
+is_in set q = get_or set (q.y * MAX_SIDE + q.x) true
 
 -- no empty point outside the set makes a five point for the side to move
 abbrev pub Covers : RuleKind → Grid → List Bool → Type 0

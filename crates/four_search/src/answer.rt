@@ -5,7 +5,7 @@
 #![tactic(auto)]
 
 ghost use Rattle.std.specs.Prelude.{◌≡◌, ◌↔◌, ◌<◌, ◌≤◌, ◌+◌, ◌*◌, true, false, length, IfOk, OnErr, IsErrOf};
-ghost use Rattle.game_rules.specs.Games.{wins_by_fours};
+ghost use Rattle.game_rules.specs.Games.{WinsByFours, wins_by_fours};
 ghost use Rattle.strategy_graph.specs.declared.TheConstants.{MAX_NODES};
 ghost use Rattle.four_search.specs.declared.TheConstants.{MAX_DEPTH};
 ghost use Rattle.four_search.specs.FourGame.{four_cost};
@@ -18,13 +18,13 @@ use crate::search::{Found, search};
 use foul_judge::Seen;
 use row_shapes::Rule;
 use std::alloc::Global;
-use strategy_compiler::Compiler;
+use strategy_compiler::{Compiler, WrittenWin};
 
 /// What the search for wins by fours finds.
 #[derive(Clone, Copy, Debug, PartialEq, Eq)]
 pub enum FourAnswer {
-    /// A win with so many moves, the fewest that there are, and the node of its plan.
-    Win { node: u32, moves: u32 },
+    /// A win with the fewest moves that there are, whose node is that of its plan.
+    Win(WrittenWin),
     /// There is no win by fours within the depth.
     None,
     /// There are more positions to look at than the budget.
@@ -55,6 +55,7 @@ pub fn four_search<R: Rule, V: Seen<R>>(
     ensures win { IfOk result (λ a. OnWin a (IsFourWin R.KIND depth (V.position view.old) compiler.new)) }
     ensures none { IfOk result (λ a. (a ≡ FourAnswer.None)
         ↔ ((wins_by_fours R.KIND depth (V.position view.old) ≡ false) × (four_cost R.KIND depth (V.position view.old) ≤ budget))) }
+    ensures no_win { IfOk result (λ a. a ≡ FourAnswer.None → ¬ WinsByFours R.KIND depth (V.position view.old)) }
     ensures spent { IfOk result (λ a. (a ≡ FourAnswer.Spent) ↔ (budget < four_cost R.KIND depth (V.position view.old))) }
     ensures added { IfOk result (λ a. GrowsBy compiler.old compiler.new (most_added a)) }
 
@@ -75,7 +76,7 @@ pub fn four_search<R: Rule, V: Seen<R>>(
             Ok(Found::NoWin { left: rest }) => left = rest,
             Ok(Found::Win { left: _, line }) => {
                 let node = compile::<R, V>(alloc, view, moves, line.as_slice(), compiler)?;
-                return Ok(FourAnswer::Win { node, moves });
+                return Ok(FourAnswer::Win(WrittenWin { node, moves }));
             }
         }
     }

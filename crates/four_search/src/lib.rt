@@ -6,7 +6,6 @@
 #![tactic(auto)]
 
 mod answer;
-mod error;
 mod makers;
 mod plan;
 mod search;
@@ -14,7 +13,7 @@ mod search;
 mod tests;
 
 pub use answer::{FourAnswer, four_search};
-pub use error::SearchError;
+pub use strategy_compiler::SearchError;
 
 /// The most moves within which a win by fours is searched.
 pub const MAX_DEPTH: u32 = 60;

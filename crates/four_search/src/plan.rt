@@ -6,7 +6,7 @@
 
 ghost use Rattle.std.specs.Prelude.{◌≡◌, ◌<◌, ◌≤◌, ◌+◌, ◌-◌, ◌*◌, ℕ, true, false, All, [], length, slice_get, Some, IfOk, OnOk, IsTrue, IsErrOf};
 ghost use Rattle.game_rules.specs.Grid.{points_of};
-ghost use Rattle.game_rules.specs.Play.{outcome as outcome_lem, after, mover};
+ghost use Rattle.game_rules.specs.Play.{IsPosition, outcome as outcome_lem, after, mover};
 ghost use Rattle.game_rules.specs.Games.{wins_by_fours, has_five, five_points, four_move};
 ghost use Rattle.threat_moves.specs.Blocks.{fate as fate_lem};
 ghost use Rattle.strategy_graph.specs.Tables.{is_rising};
@@ -22,7 +22,7 @@ use foul_judge::{Outcome, Seen};
 use row_shapes::Rule;
 use std::alloc::{AllocError, Global};
 use stone_board::{Point, Points};
-use strategy_compiler::{CompileError, Compiler, growth_keeps_trees};
+use strategy_compiler::{Compiler, growth_keeps_trees};
 use strategy_graph::Reply;
 use threat_moves::{BlockAnswer, fives, forced};
 
@@ -71,6 +71,7 @@ fn compile_four<R: Rule, V: Seen<R>>(
     line: &[Point],
     compiler: &mut Compiler,
 ) -> Result<u32, SearchError>
+    requires lawful { IsPosition R.KIND (V.position view.old) }
     requires five { has_five R.KIND (V.position view.old) (mover (V.position view.old)) ≡ false }
     requires chosen { four_move R.KIND moves (V.position view.old) ≡ Some p }
     requires line { line.now ≡ line_behind (four_line R.KIND (moves - 1)) (after (V.position view.old) p) (fate_lem R.KIND (after (V.position view.old) p)) }
@@ -82,7 +83,6 @@ fn compile_four<R: Rule, V: Seen<R>>(
     ensures full { IsErrOf result SearchError.Full → MAX_NODES < length compiler.old + 2 * moves }
     ensures full_now { IsErrOf result SearchError.Full → length compiler.new ≡ MAX_NODES }
 {
-    view.side();
     let Ok(answer) = forced::<R, V>(alloc, view, p) else {
         return Err(SearchError::Memory);
     };
@@ -107,6 +107,7 @@ fn compile_one<R: Rule, V: Seen<R>>(
     line: &[Point],
     compiler: &mut Compiler,
 ) -> Result<u32, SearchError>
+    requires lawful { IsPosition R.KIND (V.position view.old) }
     requires five { has_five R.KIND (V.position view.old) (mover (V.position view.old)) ≡ false }
     requires chosen { four_move R.KIND moves (V.position view.old) ≡ Some p }
     requires one { fate_lem R.KIND (after (V.position view.old) p) ≡ BlockAnswer.One block }
@@ -120,7 +121,6 @@ fn compile_one<R: Rule, V: Seen<R>>(
     ensures full_now { IsErrOf result SearchError.Full → length compiler.new ≡ MAX_NODES }
 {
     growth_keeps_trees();
-    view.side();
     let at_block = compile_after::<R, V>(alloc, view, p, block, moves - 1, line, compiler)?;
     let beside = winning(compiler, block)?;
     fork::<R, V>(alloc, view, p, block, at_block, beside, compiler)
@@ -149,9 +149,7 @@ fn compile_after<R: Rule, V: Seen<R>>(
     ensures full { IsErrOf result SearchError.Full → MAX_NODES < length compiler.old + 2 * moves }
     ensures full_now { IsErrOf result SearchError.Full → length compiler.new ≡ MAX_NODES }
 {
-    view.side();
     view.play(p);
-    view.side();
     view.play(block);
     let node = compile::<R, V>(alloc, view, moves, line, compiler);
     view.undo(block);
@@ -168,6 +166,7 @@ fn compile_won<R: Rule, V: Seen<R>>(
     moves: u32,
     compiler: &mut Compiler,
 ) -> Result<u32, SearchError>
+    requires lawful { IsPosition R.KIND (V.position view.old) }
     requires five { has_five R.KIND (V.position view.old) (mover (V.position view.old)) ≡ false }
     requires chosen { four_move R.KIND moves (V.position view.old) ≡ Some p }
     requires won { fate_lem R.KIND (after (V.position view.old) p) ≡ BlockAnswer.Won }
@@ -180,7 +179,6 @@ fn compile_won<R: Rule, V: Seen<R>>(
     ensures full_now { IsErrOf result SearchError.Full → length compiler.new ≡ MAX_NODES }
 {
     growth_keeps_trees();
-    let _attacker = view.side();
     if moves == 1 {
         return forking(compiler, p, &[]);
     }
@@ -241,7 +239,6 @@ fn fork<R: Rule, V: Seen<R>>(
     ensures full { IsErrOf result SearchError.Full → MAX_NODES ≤ length compiler.old }
     ensures full_now { IsErrOf result SearchError.Full → length compiler.new ≡ MAX_NODES }
 {
-    view.side();
     view.play(p);
     let found = answers::<R, V>(alloc, view, block, at_block, beside);
     view.undo(p);
@@ -260,11 +257,7 @@ fn winning(compiler: &mut Compiler, attack: Point) -> Result<u32, SearchError>
     ensures full { IsErrOf result SearchError.Full → MAX_NODES ≤ length compiler.old }
     ensures full_now { IsErrOf result SearchError.Full → length compiler.new ≡ MAX_NODES }
 {
-    match compiler.winning(attack) {
-        Ok(node) => Ok(node),
-        Err(CompileError::Full) => Err(SearchError::Full),
-        Err(CompileError::Memory) => Err(SearchError::Memory),
-    }
+    Ok(compiler.winning(attack)?)
 }
 
 /// The node with this attack and these answers.
@@ -278,11 +271,7 @@ fn forking(compiler: &mut Compiler, attack: Point, answers: &[Reply]) -> Result<
     ensures full { IsErrOf result SearchError.Full → MAX_NODES ≤ length compiler.old }
     ensures full_now { IsErrOf result SearchError.Full → length compiler.new ≡ MAX_NODES }
 {
-    match compiler.node(attack, answers) {
-        Ok(node) => Ok(node),
-        Err(CompileError::Full) => Err(SearchError::Full),
-        Err(CompileError::Memory) => Err(SearchError::Memory),
-    }
+    Ok(compiler.node(attack, answers)?)
 }
 
 /// The answers at a position where the defender is to move: one node to the block, another to each other reply that goes

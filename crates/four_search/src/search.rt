@@ -9,12 +9,12 @@
 
 ghost use Rattle.std.specs.Prelude.{◌≡◌, ◌<◌, ◌≤◌, ◌+◌, [], ◌∷◌, ◌++◌, true, false, IfOk, IsTrue, Some};
 ghost use Rattle.game_rules.specs.Grid.{is_empty};
-ghost use Rattle.game_rules.specs.Play.{after, outcome, mover, other as other_lem, has_fouls as has_fouls_lem};
+ghost use Rattle.game_rules.specs.Play.{IsPosition, after, outcome, mover, other as other_lem, has_fouls as has_fouls_lem};
 ghost use Rattle.game_rules.specs.Games.{has_five as has_five_lem, five_points};
 ghost use Rattle.threat_moves.specs.FourMoves.{is_four_move};
 ghost use Rattle.threat_moves.specs.OneBlock.{all_foul as all_foul_lem, won_within as won_within_lem};
 ghost use Rattle.threat_moves.specs.Blocks.{fate as fate_lem};
-ghost use Rattle.threat_moves.specs.NewFives.{in_short};
+ghost use Rattle.row_shapes.specs.FivePoints.{in_short};
 ghost use Rattle.four_search.specs.Makers.{Covers, CoversBeside, CoversAfter};
 ghost use Rattle.four_search.specs.Searching.{found_at, found_trying, found_behind, found_answering};
 
@@ -23,7 +23,7 @@ use foul_judge::{Outcome, Seen};
 use row_shapes::Rule;
 use std::alloc::{AllocError, Global};
 use stone_board::{Point, Points, Side};
-use threat_moves::{BlockAnswer, FivePoints, fives_in_short, fives_made, has_five};
+use threat_moves::{BlockAnswer, FivePoints, by_block};
 
 /// The first point of a board.
 const CORNER: Point = Point { x: 0, y: 0 };
@@ -51,18 +51,19 @@ pub(crate) fn search<R: Rule, V: Seen<R>>(
     requires some { 0 < moves }
     ensures found { IfOk result (λ found. found ≡ found_at R.KIND moves (V.position view.old) budget) }
     ensures same { V.position view.new ≡ V.position view.old }
+    ensures lawful { IsPosition R.KIND (V.position view.old) }
 {
+    let attacker = view.side();
     if budget == 0 {
         return Ok(Found::Spent);
     }
-    let attacker = view.side();
-    if has_five::<R, V>(view, attacker) {
+    if view.has_five(attacker) {
         return Ok(Found::Win {
             left: budget - 1,
             line: Points::new(alloc),
         });
     }
-    let threat = fives_in_short::<R, V>(view, other(attacker));
+    let threat = view.fives_in_short(attacker.other());
     search_on::<R, V>(alloc, view, moves, budget, threat, &all_points(), CORNER)
 }
 
@@ -80,6 +81,7 @@ fn search_on<R: Rule, V: Seen<R>>(
     last: Point,
 ) -> Result<Found, AllocError>
     requires some { 0 < moves }
+    requires lawful { IsPosition R.KIND (V.position view.old) }
     requires some_budget { 0 < budget }
     requires none { has_five_lem R.KIND (V.position view.old) (mover (V.position view.old)) ≡ false }
     requires threat { threat ≡ in_short (five_points R.KIND (V.position view.old) (other_lem (mover (V.position view.old)))) }
@@ -87,7 +89,6 @@ fn search_on<R: Rule, V: Seen<R>>(
     ensures found { IfOk result (λ found. found ≡ found_at R.KIND moves (V.position view.old) budget) }
     ensures same { V.position view.new ≡ V.position view.old }
 {
-    view.side();
     match threat {
         FivePoints::Several => Ok(Found::NoWin { left: budget - 1 }),
         FivePoints::One(point) => {
@@ -115,6 +116,7 @@ fn try_each<R: Rule, V: Seen<R>>(
     budget: u64,
 ) -> Result<Found, AllocError>
     requires some { 0 < moves }
+    requires lawful { IsPosition R.KIND (V.position view.old) }
     requires some_budget { 0 < budget }
     requires none { has_five_lem R.KIND (V.position view.old) (mover (V.position view.old)) ≡ false }
     requires safe { has_five_lem R.KIND (V.position view.old) (other_lem (mover (V.position view.old))) ≡ false }
@@ -122,7 +124,6 @@ fn try_each<R: Rule, V: Seen<R>>(
     ensures found { IfOk result (λ found. found ≡ found_at R.KIND moves (V.position view.old) budget) }
     ensures same { V.position view.new ≡ V.position view.old }
 {
-    view.side();
     let mut left = budget - 1;
     for p in view.board().points() {
         if may_make::<R, V>(view, makers, p) {
@@ -162,7 +163,7 @@ fn try_point<R: Rule, V: Seen<R>>(
     ensures found { IfOk result (λ found. found ≡ found_trying R.KIND moves (V.position view.old) p budget) }
     ensures same { V.position view.new ≡ V.position view.old }
 {
-    let made = fives_made::<R, V>(view, p);
+    let made = view.fives_made(p);
     if let FivePoints::None = made {
         return Ok(Found::NoWin { left: budget });
     }
@@ -190,7 +191,6 @@ fn behind<R: Rule, V: Seen<R>>(
     ensures found { IfOk result (λ found. found ≡ found_behind R.KIND moves (V.position view.old) p budget) }
     ensures same { V.position view.new ≡ V.position view.old }
 {
-    view.side();
     view.play(p);
     let found = answering::<R, V>(alloc, view, p, made, makers, moves, budget);
     view.undo(p);
@@ -266,7 +266,7 @@ fn after_block<R: Rule, V: Seen<R>>(
     if moves == 1 && !has_fouls::<R>(defender) {
         return Ok(Found::NoWin { left: budget - 1 });
     }
-    let threat = fives_made::<R, V>(view, block);
+    let threat = view.fives_made(block);
     view.play(block);
     let found = search_on::<R, V>(alloc, view, moves, budget, threat, makers, p);
     view.undo(block);
@@ -284,12 +284,7 @@ fn fate<R: Rule, V: Seen<R>>(view: &mut V, made: FivePoints) -> BlockAnswer
     match made {
         FivePoints::None => BlockAnswer::Lost,
         FivePoints::Several => BlockAnswer::Won,
-        FivePoints::One(block) => match view.outcome(block) {
-            Outcome::Refused | Outcome::Wins => BlockAnswer::Lost,
-            Outcome::Fouls(_) => BlockAnswer::Won,
-            Outcome::Draws => BlockAnswer::Draw(block),
-            Outcome::GoesOn => BlockAnswer::One(block),
-        },
+        FivePoints::One(block) => by_block(block, view.outcome(block)),
     }
 }
 
@@ -332,15 +327,5 @@ fn has_fouls<R: Rule>(side: Side) -> bool
     match side {
         Side::Black => R::BLACK_FOULS,
         Side::White => false,
-    }
-}
-
-/// The other side.
-fn other(side: Side) -> Side
-    ensures other { result ≡ other_lem side }
-{
-    match side {
-        Side::Black => Side::White,
-        Side::White => Side::Black,
     }
 }

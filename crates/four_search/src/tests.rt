@@ -150,9 +150,9 @@ fn answer_text<R: Rule>(alloc: Global, case: &Case) -> Result<String, Fail> {
     match four_search::<R, Position<R>>(alloc, &mut view, depth, budget, &mut compiler)? {
         FourAnswer::None => Ok(String::from_str(alloc, "none")?),
         FourAnswer::Spent => Ok(String::from_str(alloc, "spent")?),
-        FourAnswer::Win { node, moves } => {
-            let table = compiler.finish(node)?;
-            Ok(nodes_text(alloc, &table, moves)?)
+        FourAnswer::Win(win) => {
+            let table = compiler.finish_win(win)?;
+            Ok(nodes_text(alloc, &table, win.moves)?)
         }
     }
 }

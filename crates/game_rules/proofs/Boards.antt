@@ -1,5 +1,5 @@
 -- Stones that are put and lifted.
-use Rattle.std.proofs.Common.{◌≡◌, ◌≢◌, ℕ, zero, suc, ◌+◌, ◌-◌, ◌*◌, ◌≤◌, ◌<◌, Bool, true, false, cond, ◌&&◌, not, refl, sym, ap, arith, List, [], ◌∷◌, set, get_or, length, nat_lt, nat_le, get_or-set_other, get_or-set_same}
+use Rattle.std.proofs.Common.{◌≡◌, ◌≢◌, ◌⊎◌, inl, inr, ℕ, zero, suc, ◌+◌, ◌-◌, ◌*◌, ◌≤◌, ◌<◌, Bool, true, false, cond, ◌&&◌, refl, sym, ap, arith, List, [], ◌∷◌, set, get_or, length, nat_lt, nat_le, nat_eq, get_or-set_other, get_or-set_same}
 use Rattle.std.specs.List.{prefix_len, range_with_len}
 use Rattle.std.specs.Prelude.{Option, Some, None}
 use Rattle.std.proofs.lemmas.Nat.{same_from_place}
@@ -7,6 +7,7 @@ use Rattle.std.proofs.lemmas.List.Sums.{sum_by-set}
 use Rattle.std.proofs.lemmas.Grind.{rows}
 use Rattle.game_rules.specs.Grid.{Grid, IsBoard, is_on, is_empty, is_empty_cell, is_stone_of, stone_of, holds, cell_at, place_of, put, lift, empties_of, along, shift, point_of}
 use Rattle.game_rules.specs.Shapes.{stone_at, stones_ahead, stones_behind, run_of, line_bound}
+use Rattle.game_rules.specs.Play.{other}
 use Rattle.game_rules.specs.declared.Side.{Side}
 use Rattle.game_rules.specs.declared.Side.TheVariants.{Black, White}
 use Rattle.game_rules.specs.declared.Cell.{Cell}
@@ -14,6 +15,7 @@ use Rattle.game_rules.specs.declared.Cell.TheVariants.{Empty, Black as BlackSton
 use Rattle.game_rules.specs.declared.Axis.{Axis}
 use Rattle.game_rules.specs.declared.Axis.TheVariants.{Row, Column, Down, Up}
 use Rattle.game_rules.specs.declared.Point.{Point}
+use Rattle.std.proofs.lemmas.Bool.Decides.{nat_tests}
 use borrow.Author.Tests.{ltb-true, leb-true}
 
 set_back : (l : List Cell) (i : ℕ) (y : Cell) → get_or l i Empty ≡ Empty → set (set l i y) i Empty ≡ l
@@ -34,10 +36,6 @@ pub and_right : (a b : Bool) → (a && b) ≡ true → b ≡ true
 and_right true b h = h
 and_right false b h = cc
 
-pub true_by_not : (a : Bool) → not a ≡ false → a ≡ true
-true_by_not true h = refl
-true_by_not false h = cc
-
 pub lift-put : (b : Grid) (s : Side) (p : Point) → is_empty b p ≡ true → lift (put b s p) p ≡ b
 lift-put b s p h =
     let e : get_or b.cells (place_of b p) Empty ≡ Empty = is_empty-cell _ (and_right (is_on b p) _ h) in
@@ -49,6 +47,21 @@ is_empty-on b p h = and_left (is_on b p) _ h
 -- two points that are not one
 pub record Apart (p q : Point) : Type 0 where
   pub apart : p.x ≡ q.x → p.y ≡ q.y → ⊥
+
+same_by : (p q : Point) (a c : Bool) → nat_eq p.x q.x ≡ a → nat_eq p.y q.y ≡ c → (p ≡ q) ⊎ Apart p q
+same_by p q true true e f =
+    let x : p.x ≡ q.x = grind (arith, nat_tests) in
+    let y : p.y ≡ q.y = grind (arith, nat_tests) in
+    inl (λ i. record { x = x i; y = y i })
+same_by p q false c e f = inr (record { apart = λ x y. absurd (grind (arith, nat_tests)) })
+same_by p q true false e f = inr (record { apart = λ x y. absurd (grind (arith, nat_tests)) })
+
+-- two points are one, or they are not
+pub same_or_apart : (p q : Point) → (p ≡ q) ⊎ Apart p q
+same_or_apart p q = same_by p q (nat_eq p.x q.x) (nat_eq p.y q.y) refl refl
+
+pub not-apart : (w : Point) → Apart w w → ⊥
+not-apart w h = h.apart refl refl
 
 pub on_x : (b : Grid) (p : Point) → is_on b p ≡ true → p.x < b.width
 on_x b p h = ltb-true _ _ (and_left (nat_lt p.x b.width) _ h)
@@ -90,6 +103,34 @@ stone_of_side White = refl
 
 pub holds-put_same : (b : Grid) (s : Side) (p : Point) → IsBoard b → is_on b p ≡ true → holds (put b s p) s p ≡ true
 holds-put_same b s p ok h = rw (h, cell_at-put_same b s p ok h) (stone_of_side s)
+
+pub other-other : (s : Side) → other (other s) ≡ s
+other-other Black = refl
+other-other White = refl
+
+-- a stone is no empty cell
+pub stone_of-taken : (s : Side) → is_empty_cell (stone_of s) ≡ false
+stone_of-taken Black = refl
+stone_of-taken White = refl
+
+pub stone_of-other : (s : Side) → is_stone_of (other s) (stone_of s) ≡ false
+stone_of-other Black = refl
+stone_of-other White = refl
+
+-- an empty point holds no stone
+pub empty_holds : (b : Grid) (t : Side) (p : Point) → is_empty b p ≡ true → holds b t p ≡ false
+empty_holds b t p empty =
+    let e : cell_at b p ≡ Empty = is_empty-cell (cell_at b p) (and_right (is_on b p) _ empty) in
+    rw (is_empty-on b p empty, e) refl
+
+-- tests of one point agree where what follows the first of them does
+pub and-same : (a b c : Bool) → (a ≡ true → b ≡ c) → (a && b) ≡ (a && c)
+and-same true b c h = h refl
+and-same false b c h = refl
+
+-- a stone leaves another point empty, or not
+pub is_empty-put : (b : Grid) (s : Side) (p q : Point) → is_on b p ≡ true → Apart p q → is_empty (put b s p) q ≡ is_empty b q
+is_empty-put b s p q on apart = and-same (is_on b q) _ _ (λ onq. ap is_empty_cell (cell_at-put_other b s p q on onq apart))
 
 -- ---- a stone and the rows beside it
 
@@ -156,10 +197,6 @@ module _ (b : Grid) (s : Side) (p : Point) (on : is_on b p ≡ true) where
       let e : holds (put b s p) s p ≡ true = holds-put_same b s p ok on in
       rw (e, stones_ahead-put s d, stones_behind-put s d) refl
 
-stone_not_empty : (s : Side) → is_empty_cell (stone_of s) ≡ false
-stone_not_empty Black = refl
-stone_not_empty White = refl
-
 -- one point fewer is empty
 pub empties_of-put : (b : Grid) (s : Side) (p : Point) → IsBoard b → is_empty b p ≡ true → empties_of (put b s p) + 1 ≡ empties_of b
 empties_of-put b s p ok h =
@@ -167,5 +204,5 @@ empties_of-put b s p ok h =
     let count : Cell → ℕ = λ c. cond (is_empty_cell c) 1 0 in
     let one : count (get_or b.cells (place_of b p) Empty) ≡ 1 = ap count e in
     let all = sum_by-set count b.cells (place_of b p) (stone_of s) Empty (place_fits b p ok (is_empty-on b p h)) in
-    let here : count (stone_of s) ≡ 0 = ap (λ r. cond r 1 0) (stone_not_empty s) in
+    let here : count (stone_of s) ≡ 0 = ap (λ r. cond r 1 0) (stone_of-taken s) in
     omega (arith, all, one, here)

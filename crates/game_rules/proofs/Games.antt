@@ -1,6 +1,7 @@
 -- Laws of won games: a stronger demand is a stronger win, more moves are no harder, and the test and the fact agree.
-use Rattle.std.proofs.Common.{◌≡◌, ℕ, zero, suc, ◌≤◌, Bool, true, false, ◌||◌, refl, sym, subst, arith}
+use Rattle.std.proofs.Common.{◌≡◌, ℕ, zero, suc, ◌≤◌, Bool, true, false, refl, sym, subst, arith}
 use Rattle.std.specs.List.{list_any, list_all}
+use Rattle.std.proofs.lemmas.Bool.{or_left}
 use Rattle.game_rules.specs.Grid.{Grid, is_on, points_of}
 use Rattle.game_rules.specs.Play.{outcome, mover, after}
 use Rattle.game_rules.specs.Games.{WinsOr, LosesOr, WinsUnder, WinsWithin, WinsByFours, WinsByThreats, has_five, has_threat, wins_or, loses_or, starts_win, wins_under, is_double_point}
@@ -54,10 +55,6 @@ WinsUnder-weaker strong weak implies rule (suc n) b h = (
         LosesOr-map (outcome rule (after b h.0) q) _ _ (WinsUnder-weaker strong weak implies rule n (after (after b h.0) q)) (w.1 q),
   )) h.1,
 )
-
-or_left : (a b : Bool) → a ≡ true → (a || b) ≡ true
-or_left true b h = refl
-or_left false b h = cc
 
 -- a win by fours is a win by threats, and that is a win
 pub WinsByFours-WinsByThreats : (rule : RuleKind) (n : ℕ) (b : Grid) → WinsByFours rule n b → WinsByThreats rule n b

@@ -1,7 +1,10 @@
 pub mod Rows
 pub mod Boards
+pub mod Axes
 pub mod Lines
 pub mod Runs
 pub mod Positions
 pub mod Points
+pub mod Fives
+pub mod Distinct
 pub mod Games

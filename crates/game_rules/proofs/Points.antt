@@ -1,11 +1,13 @@
 -- Facts about all points of a board: lists, tests, and points off the board.
-use Rattle.std.proofs.Common.{◌≡◌, ℕ, ◌*◌, ◌<◌, Bool, true, false, ◌&&◌, ◌||◌, not, refl, sym, ap, subst, ◌∙◌, arith, List, [], ◌∷◌, map}
-use Rattle.std.specs.List.{list_any, list_all, flat_map, range_with_len}
+use Rattle.std.proofs.Common.{◌≡◌, ℕ, ◌*◌, ◌<◌, Bool, true, false, ◌&&◌, ◌||◌, not, cond, refl, sym, ap, subst, ◌∙◌, arith, List, [], ◌∷◌, map, nat_eq, eq-eqb}
+use Rattle.std.specs.List.{list_any, list_all, filter, flat_map, range_with_len}
 use Rattle.std.specs.Prelude.{Option, Some, None}
+use Rattle.std.proofs.lemmas.Bool.{false_from_ne_true}
+use Rattle.std.proofs.lemmas.Bool.Decides.{nat_tests}
 use Rattle.std.proofs.lemmas.List.Folds.{list_any-append}
 use Rattle.std.proofs.lemmas.Grind.{rows}
 use Rattle.game_rules.specs.Grid.{Grid, is_on, is_empty, place_of, points_of, row_from}
-use Rattle.game_rules.specs.Shapes.{five}
+use Rattle.game_rules.specs.Shapes.{five, is_same_point}
 use Rattle.game_rules.specs.Play.{outcome, outcome_by, foul_of, mover}
 use Rattle.game_rules.specs.Games.{WinsOr}
 use Rattle.game_rules.specs.declared.RuleKind.{RuleKind}
@@ -14,7 +16,7 @@ use Rattle.game_rules.specs.declared.Outcome.{Outcome}
 use Rattle.game_rules.specs.declared.Outcome.TheVariants.{Refused}
 use Rattle.game_rules.specs.declared.Point.{Point}
 use Rattle.game_rules.proofs.Rows.{any_found}
-use Rattle.game_rules.proofs.Boards.{on_x, on_y}
+use Rattle.game_rules.proofs.Boards.{and_left, and_right, Apart, not-apart, on_x, on_y}
 
 list_any-flat_map : (h : Point → Bool) (row : ℕ → List Point) (ys : List ℕ) → list_any h (flat_map row ys) ≡ list_any (λ y. list_any h (row y)) ys
 list_any-flat_map h row [] = refl
@@ -69,6 +71,51 @@ all_at b f q h on = by_test (f q) refl where
   by_test false e =
       let found : list_any (λ x. not (f x)) (points_of b) ≡ true = points-found b (λ x. not (f x)) q on (ap not e) in
       let no : true ≡ false = sym found ∙ all-any f (points_of b) ∙ ap not h in cc
+
+-- ---- whether two points are one
+
+pub is_same_point-itself : (q : Point) → is_same_point q q ≡ true
+is_same_point-itself q = rw (eq-eqb q.x q.x refl, eq-eqb q.y q.y refl) refl
+
+pub is_same_point-same : (w q : Point) → is_same_point w q ≡ true → w ≡ q
+is_same_point-same w q h =
+    let x : w.x ≡ q.x = let e = and_left (nat_eq w.x q.x) (nat_eq w.y q.y) h in grind (arith, nat_tests) in
+    let y : w.y ≡ q.y = let e = and_right (nat_eq w.x q.x) (nat_eq w.y q.y) h in grind (arith, nat_tests) in
+    λ i. record { x = x i; y = y i }
+
+pub is_same_point-apart : (w q : Point) → is_same_point w q ≡ false → Apart w q
+is_same_point-apart w q h = record {
+  apart = λ x y.
+      let same : is_same_point w q ≡ true = rw (eq-eqb w.x q.x x, eq-eqb w.y q.y y) refl in
+      let no : false ≡ true = sym h ∙ same in
+      cc;
+}
+
+pub apart-is_same_point : (p q : Point) → Apart p q → is_same_point p q ≡ false
+apart-is_same_point p q apart = false_from_ne_true (is_same_point p q) (λ e. not-apart q (subst (λ (r : Point). Apart r q) (is_same_point-same p q e) apart))
+
+-- ---- the points that pass a test
+
+pub filter-passes : (f : Point → Bool) (ps : List Point) → list_all f (filter f ps) ≡ true
+filter-passes f [] = refl
+filter-passes f (p ∷ ps) = by_test (f p) refl (filter-passes f ps) where
+  by_test : (r : Bool) → f p ≡ r → list_all f (filter f ps) ≡ true → list_all f (cond r (p ∷ filter f ps) (filter f ps)) ≡ true
+  by_test true e h = rw e h
+  by_test false e h = h
+
+pub filter-none : (f : Point → Bool) (ps : List Point) → filter f ps ≡ [] → list_any f ps ≡ false
+filter-none f [] h = refl
+filter-none f (p ∷ ps) h = by_test (f p) refl h (filter-none f ps) where
+  by_test : (r : Bool) → f p ≡ r → cond r (p ∷ filter f ps) (filter f ps) ≡ [] → (filter f ps ≡ [] → list_any f ps ≡ false) → (r || list_any f ps) ≡ false
+  by_test true e k rest = cc
+  by_test false e k rest = rest k
+
+pub filter-some : (f : Point → Bool) (w : Point) (more ps : List Point) → filter f ps ≡ w ∷ more → list_any f ps ≡ true
+filter-some f w more [] h = cc
+filter-some f w more (p ∷ ps) h = by_test (f p) refl h (filter-some f w more ps) where
+  by_test : (r : Bool) → f p ≡ r → cond r (p ∷ filter f ps) (filter f ps) ≡ w ∷ more → (filter f ps ≡ w ∷ more → list_any f ps ≡ true) → (r || list_any f ps) ≡ true
+  by_test true e k rest = refl
+  by_test false e k rest = rest k
 
 -- the place of a point of the board is below the number of its points
 pub place-below : (b : Grid) (q : Point) → is_on b q ≡ true → place_of b q < b.height * b.width

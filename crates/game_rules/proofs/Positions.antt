@@ -1,11 +1,11 @@
 -- A move that goes on leaves a lawful position.
-use Rattle.std.proofs.Common.{◌≡◌, ◌≢◌, ◌⊎◌, inl, inr, ℕ, zero, suc, ◌+◌, ◌-◌, ◌≤◌, Bool, true, false, cond, ◌&&◌, ◌||◌, refl, sym, ap, subst, ◌∙◌, arith, length-set, List, [], ◌∷◌, set, get_or, get_or-set_same, nat_eq, eq-eqb}
+use Rattle.std.proofs.Common.{◌≡◌, ◌≢◌, ◌⊎◌, inl, inr, ℕ, zero, suc, ◌+◌, ◌-◌, ◌≤◌, Bool, true, false, cond, ◌&&◌, refl, sym, ap, subst, ◌∙◌, arith, length-set, List, [], ◌∷◌, set, get_or, get_or-set_same, nat_eq, eq-eqb}
 use Rattle.std.specs.Prelude.{Option, Some, None}
-use Rattle.std.specs.List.{prefix_len, range_with_len, list_any}
+use Rattle.std.specs.List.{prefix_len, range_with_len}
 use Rattle.std.proofs.lemmas.Bool.{cases_lt}
 use Rattle.std.proofs.lemmas.Bool.Decides.{nat_tests}
 use Rattle.std.proofs.lemmas.List.Sums.{sum_by-set}
-use Rattle.game_rules.specs.Grid.{Grid, IsBoard, is_on, is_empty, is_stone_of, stone_of, holds, cell_at, place_of, put, lift, along, axes, stones_of, empties_of}
+use Rattle.game_rules.specs.Grid.{Grid, IsBoard, is_on, is_empty, is_stone_of, stone_of, holds, cell_at, place_of, put, lift, along, stones_of, empties_of}
 use Rattle.game_rules.specs.Shapes.{stone_at, stones_ahead, stones_behind, run_of, line_bound, row_wins, wins_on, five}
 use Rattle.game_rules.specs.Play.{IsPosition, IsUnwon, NamesMover, outcome, outcome_by, foul_of, mover, other, after}
 use Rattle.game_rules.specs.declared.Outcome.TheVariants.{GoesOn}
@@ -15,25 +15,14 @@ use Rattle.game_rules.specs.declared.Side.TheVariants.{Black, White}
 use Rattle.game_rules.specs.declared.Cell.{Cell}
 use Rattle.game_rules.specs.declared.Cell.TheVariants.{Empty, Black as BlackStone, White as WhiteStone}
 use Rattle.game_rules.specs.declared.Axis.{Axis}
-use Rattle.game_rules.specs.declared.Axis.TheVariants.{Row, Column, Down, Up}
 use Rattle.game_rules.specs.declared.Point.{Point}
 use Rattle.game_rules.specs.declared.RuleKind.{RuleKind}
-use Rattle.game_rules.proofs.Boards.{and_left, and_right, is_empty-on, is_empty-cell, Apart, holds-put_other, holds-put_same, place_fits, empties_of-put, prefix_len-same, cell_at-put_same, lift-put}
+use Rattle.game_rules.proofs.Axes.{no_axis}
+use Rattle.game_rules.proofs.Boards.{and_left, and_right, is_empty-on, is_empty-cell, same_or_apart, empty_holds, other-other, holds-put_other, holds-put_same, place_fits, empties_of-put, prefix_len-same, cell_at-put_same, lift-put}
 use Rattle.game_rules.proofs.Lines.{along-then, along-same, along-zero}
 use Rattle.game_rules.proofs.Runs.{Leads, ahead_leads, behind_leads, ahead_is, behind_is, run-same}
 
--- ---- which point, and whose stone
-
-same_by : (p q : Point) (a c : Bool) → nat_eq p.x q.x ≡ a → nat_eq p.y q.y ≡ c → (p ≡ q) ⊎ Apart p q
-same_by p q true true e f =
-    let x : p.x ≡ q.x = grind (arith, nat_tests) in
-    let y : p.y ≡ q.y = grind (arith, nat_tests) in
-    inl (λ i. record { x = x i; y = y i })
-same_by p q false c e f = inr (record { apart = λ x y. absurd (grind (arith, nat_tests)) })
-same_by p q true false e f = inr (record { apart = λ x y. absurd (grind (arith, nat_tests)) })
-
-same_or_apart : (p q : Point) → (p ≡ q) ⊎ Apart p q
-same_or_apart p q = same_by p q (nat_eq p.x q.x) (nat_eq p.y q.y) refl refl
+-- ---- a further stone
 
 -- a stone on an empty point adds to its side and takes nothing
 pub holds-put_more : (b : Grid) (s : Side) (p q : Point) → IsBoard b → is_empty b p ≡ true → holds b s q ≡ true → holds (put b s p) s q ≡ true
@@ -42,12 +31,8 @@ holds-put_more b s p q ok empty h = elim (same_or_apart p q) [
   | inr apart ↦ holds-put_other b s s p q (is_empty-on b p empty) apart ∙ h
 ]
 
-empty_holds : (b : Grid) (t : Side) (p : Point) → is_empty b p ≡ true → holds b t p ≡ false
-empty_holds b t p empty =
-    let e : cell_at b p ≡ Empty = is_empty-cell (cell_at b p) (and_right (is_on b p) _ empty) in
-    rw (is_empty-on b p empty, e) refl
-
-is_at_or_not : (o : Option Point) (p : Point) → (o ≡ Some p) ⊎ (o ≢ Some p)
+-- it is that point, or it is not
+pub is_at_or_not : (o : Option Point) (p : Point) → (o ≡ Some p) ⊎ (o ≢ Some p)
 is_at_or_not None p = inr (λ e. cc)
 is_at_or_not (Some q) p = elim (same_or_apart q p) [
   | inl same ↦ inl (ap Some same)
@@ -61,7 +46,7 @@ Meets at p m = (e : ℕ) × (1 ≤ e) × (e ≤ m) × (at e ≡ Some p)
 abbrev pub Misses : (ℕ → Option Point) → Point → ℕ → Type 0
 Misses at p m = (e : ℕ) → 1 ≤ e → e ≤ m → at e ≢ Some p
 
-meets_or_misses : (at : ℕ → Option Point) (p : Point) (m : ℕ) → Meets at p m ⊎ Misses at p m
+pub meets_or_misses : (at : ℕ → Option Point) (p : Point) (m : ℕ) → Meets at p m ⊎ Misses at p m
 meets_or_misses at p zero = inr (λ e low high. absurd (omega arith))
 meets_or_misses at p (suc m) = elim (meets_or_misses at p m) [
   | inl found ↦ inl (found.0, found.1, omega arith, found.3)
@@ -79,7 +64,7 @@ module _ (b : Grid) (s : Side) (p : Point) (ok : IsBoard b) (empty : is_empty b 
   on_p = is_empty-on b p empty
 
   -- other points and the other side stay
-  stone_at-else : (t : Side) (o : Option Point) → o ≢ Some p → stone_at (put b s p) t o ≡ stone_at b t o
+  pub stone_at-else : (t : Side) (o : Option Point) → o ≢ Some p → stone_at (put b s p) t o ≡ stone_at b t o
   stone_at-else t None h = refl
   stone_at-else t (Some q) h = elim (same_or_apart p q) [
     | inl same ↦ absurd (h (ap Some (sym same)))
@@ -96,7 +81,8 @@ module _ (b : Grid) (s : Side) (p : Point) (ok : IsBoard b) (empty : is_empty b 
     by_test false e = refl
     by_test true e = let now = stone_at-more o e in cc
 
-  leads_before : (at : ℕ → Option Point) (m : ℕ) → Leads (λ k. stone_at (put b s p) s (at k)) m → Misses at p m → Leads (λ k. stone_at b s (at k)) m
+  -- as many stones stood unbroken before, where p is none of their places
+  pub leads_before : (at : ℕ → Option Point) (m : ℕ) → Leads (λ k. stone_at (put b s p) s (at k)) m → Misses at p m → Leads (λ k. stone_at b s (at k)) m
   leads_before at m h miss = record {
     holds = λ j low high. sym (stone_at-else s (at j) (miss j low high)) ∙ h.holds j low high;
     stops = not_before (at (1 + m)) h.stops;
@@ -156,8 +142,9 @@ other_side White White = inl refl
 prefix_same : (f g : ℕ → Bool) (n a : ℕ) → ((k : ℕ) → f k ≡ g k) → prefix_len f (range_with_len a n) ≡ prefix_len g (range_with_len a n)
 prefix_same f g n a h = prefix_len-same f g n a (λ k l. h k)
 
+-- t is the side whose stone is not put: it has what it had
 module _ (b : Grid) (s t : Side) (p : Point) (ok : IsBoard b) (empty : is_empty b p ≡ true) (differ : is_stone_of t (stone_of s) ≡ false) where
-  holds-other : (q : Point) → holds (put b s p) t q ≡ holds b t q
+  pub holds-other : (q : Point) → holds (put b s p) t q ≡ holds b t q
   holds-other q = elim (same_or_apart p q) [
     | inl same ↦ subst (λ (r : Point). holds (put b s p) t r ≡ holds b t r) same (not_mine ∙ sym (empty_holds b t p empty))
     | inr apart ↦ holds-put_other b s t p q (is_empty-on b p empty) apart
@@ -165,27 +152,20 @@ module _ (b : Grid) (s t : Side) (p : Point) (ok : IsBoard b) (empty : is_empty 
     not_mine : holds (put b s p) t p ≡ false
     not_mine = rw (is_empty-on b p empty, cell_at-put_same b s p ok (is_empty-on b p empty)) differ
 
-  stone_at-other : (o : Option Point) → stone_at (put b s p) t o ≡ stone_at b t o
+  pub stone_at-other : (o : Option Point) → stone_at (put b s p) t o ≡ stone_at b t o
   stone_at-other None = refl
   stone_at-other (Some q) = holds-other q
 
-  run-other : (d : Axis) (q : Point) → run_of (put b s p) t d q ≡ run_of b t d q
-  run-other d q =
-      let a : stones_ahead (put b s p) t d q ≡ stones_ahead b t d q = prefix_same _ _ (line_bound b) 1 (λ k. stone_at-other (along d q k 0)) in
-      let z : stones_behind (put b s p) t d q ≡ stones_behind b t d q = prefix_same _ _ (line_bound b) 1 (λ k. stone_at-other (along d q 0 k)) in
-      rw (holds-other q, a, z) refl
+  pub ahead-other : (d : Axis) (q : Point) → stones_ahead (put b s p) t d q ≡ stones_ahead b t d q
+  ahead-other d q = prefix_same _ _ (line_bound b) 1 (λ k. stone_at-other (along d q k 0))
+
+  pub behind-other : (d : Axis) (q : Point) → stones_behind (put b s p) t d q ≡ stones_behind b t d q
+  behind-other d q = prefix_same _ _ (line_bound b) 1 (λ k. stone_at-other (along d q 0 k))
+
+  pub run-other : (d : Axis) (q : Point) → run_of (put b s p) t d q ≡ run_of b t d q
+  run-other d q = rw (holds-other q, ahead-other d q, behind-other d q) refl
 
 -- ---- the position
-
-or_none : (a b : Bool) → (a || b) ≡ false → (a ≡ false) × (b ≡ false)
-or_none true b h = cc
-or_none false b h = (refl, h)
-
-no_axis : (f : Axis → Bool) → list_any f axes ≡ false → (d : Axis) → f d ≡ false
-no_axis f h Row = (or_none (f Row) _ h).0
-no_axis f h Column = (or_none (f Column) _ (or_none (f Row) _ h).1).0
-no_axis f h Down = (or_none (f Down) _ (or_none (f Column) _ (or_none (f Row) _ h).1).1).0
-no_axis f h Up = (or_none (f Up) _ (or_none (f Down) _ (or_none (f Column) _ (or_none (f Row) _ h).1).1).1).0
 
 and_false : (a b : Bool) → a ≡ true → (a && b) ≡ false → b ≡ false
 and_false true b e h = h
@@ -320,6 +300,14 @@ lift-after rule b p lawful on = lift-put b (mover b) p (parts rule b p lawful on
 pub GoesOn-empty : (rule : RuleKind) (b : Grid) (p : Point) → outcome rule b p ≡ GoesOn → is_empty b p ≡ true
 unfolding outcome
 GoesOn-empty rule b p on = (goes_on (is_empty b p) (five rule b (mover b) p) (nat_eq (empties_of b) 1) (foul_of rule b (mover b) p) on).0
+
+-- the side that moved is the one that is not to move
+pub mover-other : (rule : RuleKind) (b : Grid) (p : Point) → IsPosition rule b → outcome rule b p ≡ GoesOn → other (mover (after b p)) ≡ mover b
+mover-other rule b p lawful on = mover-after b p lawful.board (GoesOn-empty rule b p on) lawful.turns
+
+-- the side to move after it
+pub mover-then : (rule : RuleKind) (b : Grid) (p : Point) → IsPosition rule b → outcome rule b p ≡ GoesOn → mover (after b p) ≡ other (mover b)
+mover-then rule b p lawful on = sym (other-other (mover (after b p))) ∙ ap other (mover-other rule b p lawful on)
 
 pub GoesOn-on : (rule : RuleKind) (b : Grid) (p : Point) → outcome rule b p ≡ GoesOn → is_on b p ≡ true
 GoesOn-on rule b p on = is_empty-on b p (GoesOn-empty rule b p on)

@@ -1,12 +1,13 @@
 -- The table made of the node of a win by fours is one that `fours` writes.
-use Rattle.std.proofs.Common.{◌≡◌, inl, inr, ℕ, zero, suc, ◌+◌, ◌*◌, ◌≤◌, ◌<◌, Bool, true, false, cond, refl, sym, ap, subst, ◌∙◌, arith, List, [], ◌∷◌, length}
+use Rattle.std.proofs.Common.{◌≡◌, inl, inr, ◌⊎◌, ℕ, zero, suc, ◌+◌, ◌*◌, ◌≤◌, ◌<◌, Bool, true, false, cond, refl, sym, ap, subst, ◌∙◌, arith, List, [], ◌∷◌, length}
 use Rattle.std.specs.Prelude.{Option, Some, None, slice_get, Result, Ok, Err, IfOk}
 use Rattle.std.specs.List.{find, list_all, range_with_len, AllByRecursion}
 use Rattle.std.proofs.lemmas.Option.{slice_get_within}
 use Rattle.std.proofs.lemmas.Bool.{cases_lt}
 use Rattle.game_rules.specs.Grid.{Grid, is_on}
 use Rattle.game_rules.specs.Play.{IsPosition}
-use Rattle.game_rules.specs.Games.{wins_by_fours}
+use Rattle.game_rules.specs.Games.{has_five, wins_by_fours, WinsByFours}
+use Rattle.game_rules.proofs.Games.{test-WinsUnder, WinsUnder-test}
 use Rattle.game_rules.specs.declared.RuleKind.{RuleKind}
 use Rattle.game_rules.proofs.Boards.{and_left, and_right}
 use Rattle.strategy_graph.specs.declared.Node.{Node}
@@ -26,7 +27,7 @@ use Rattle.four_search.specs.declared.TheConstants.{MAX_DEPTH}
 use Rattle.renju_cli.specs.declared.answer.Answer.{Answer}
 use Rattle.renju_cli.specs.declared.status.Status.{Status}
 use Rattle.renju_cli.specs.declared.status.Status.TheVariants.{Done}
-use Rattle.renju_cli.specs.Fours.{IsFourTable, IsFourText, SearchSays}
+use Rattle.renju_cli.specs.Fours.{IsFewest, IsFourTable, IsFourText, SearchSays}
 
 -- the first number from a on that passes is one of them, and passes
 found-among : (f : ℕ → Bool) (n a k : ℕ) → find f (range_with_len a n) ≡ Some k → (a ≤ k) × (k < a + n) × (f k ≡ true)
@@ -35,6 +36,18 @@ found-among f (suc n) a k h = by_test (f a) refl h (found-among f n (a + 1) k) w
   by_test : (r : Bool) → f a ≡ r → cond r (Some a) (find f (range_with_len (a + 1) n)) ≡ Some k → (find f (range_with_len (a + 1) n) ≡ Some k → (a + 1 ≤ k) × (k < a + 1 + n) × (f k ≡ true)) → (a ≤ k) × (k < a + suc n) × (f k ≡ true)
   by_test true passes e later = let same : a ≡ k = cc in (omega (arith, same), omega (arith, same), ap f (sym same) ∙ passes)
   by_test false fails e later = let found = later e in let low = found.0 in let high = found.1 in (omega (arith, low), omega (arith, high), found.2)
+
+-- none of those before it passes
+none-before : (f : ℕ → Bool) (n a k : ℕ) → find f (range_with_len a n) ≡ Some k → (j : ℕ) → a ≤ j → j < k → f j ≡ true → ⊥
+none-before f zero a k h j low high passes = absurd (cc)
+none-before f (suc n) a k h j low high passes = by_test (f a) refl h (cases_lt a j) (λ e less. none-before f n (a + 1) k e j less high passes) where
+  by_test : (r : Bool) → f a ≡ r → cond r (Some a) (find f (range_with_len (a + 1) n)) ≡ Some k → (a < j) ⊎ (j ≤ a) → (find f (range_with_len (a + 1) n) ≡ Some k → a + 1 ≤ j → ⊥) → ⊥
+  by_test true first e order later = let same : a ≡ k = cc in omega (arith, same, low, high)
+  by_test false fails e (inl less) later = later e (omega (arith, less))
+  by_test false fails e (inr more) later =
+      let same : j ≡ a = omega (arith, low, more) in
+      let no : true ≡ false = sym passes ∙ ap f same ∙ fails in
+      cc
 
 node_of : (o : Option Node) (P : Node → Type 0) → AtNode o P → (n : Node) × (o ≡ Some n)
 node_of None P h = absurd h
@@ -56,6 +69,11 @@ nodes-on b (n ∷ ns) each = (each 0 n refl, nodes-on b ns (λ k m at. each (suc
 
 node-on : (b : Grid) (n : Node) → NamesOnBoard b n → NodeOn b n
 node-on b n h = record { attack = h.attack_on; replies = replies-on (λ r. is_on b r.at) n.replies h.replies_on }
+
+-- a win takes a move
+some-moves : (rule : RuleKind) (b : Grid) (n : ℕ) → WinsByFours rule n b → 1 ≤ n
+some-moves rule b zero h = absurd h
+some-moves rule b (suc n) h = omega arith
 
 -- what the compiler makes of the node of a win
 pub record IsMadeOf (rule : RuleKind) (b : Grid) (limit moves : ℕ) (nodes : List Node) (node : ℕ) (t : List Node) : Type 0 where
@@ -85,8 +103,17 @@ module _ (rule : RuleKind) (b : Grid) (limit moves : ℕ) (nodes : List Node) (n
       let most = among.1 in
       (omega (arith, some), omega (arith, least), omega (arith, most, few))
 
-  pub four-table : IsFourTable limit (record { kind = rule; board = b }) moves t
-  four-table = record { fewest = h.win.fewest; plan = h.made; accepted = written.accepted; deep = h.same.same_depth ∙ h.win.deep; short = subst (λ (n : ℕ). n ≤ b.width * b.height * moves) (sym (h.same.same_arrivals rule b)) h.win.short }
+  pub fewest-moves : IsFewest limit (record { kind = rule; board = b }) moves
+  fewest-moves =
+      let most = among.1 in
+      record {
+        within = omega (arith, most);
+        wins = test-WinsUnder (has_five rule) rule moves b among.2;
+        fewest = λ fewer less win. none-before (λ k. wins_by_fours rule k b) limit 1 moves h.win.fewest fewer (some-moves rule b fewer win) less (WinsUnder-test (has_five rule) rule fewer b win);
+      }
+
+  pub four-table : IsFourTable (record { kind = rule; board = b }) moves t
+  four-table = record { plan = h.made; accepted = written.accepted; deep = h.same.same_depth ∙ h.win.deep; short = subst (λ (n : ℕ). n ≤ b.width * b.height * moves) (sym (h.same.same_arrivals rule b)) h.win.short }
 
 -- what is made of a node of which it is known that it is one of a win
 pub made-of : (rule : RuleKind) (b : Grid) (moves : ℕ) (nodes : List Node) (node : ℕ) (t : List Node) → IsPosition rule b → (win : (limit : ℕ) × (limit ≤ MAX_DEPTH) × IsFourWin rule limit b nodes node moves)
@@ -109,4 +136,4 @@ win-says (Ok a) limit nodes file rule p b compiled node moves kind here there wi
     let same_cost : four_cost rule limit p ≡ four_cost file.kind limit file.board = same_kind ∙ ap (λ (c : Grid). four_cost file.kind limit c) here in
     let cost : four_cost file.kind limit file.board ≤ nodes = subst (λ (n : ℕ). n ≤ nodes) same_cost (not-above nodes (four_cost rule limit p) few) in
     let written : IsFourText limit file a.text.items = subst (λ (c : Grid). IsFourText limit (record { kind = file.kind; board = c }) a.text.items) there (text limit at_board) in
-    subst (λ (s : Status). SearchSays limit nodes file s a.text.items) (sym done) (cost, written)
+    inl (record { enough = cost; win = written; ends = done })

@@ -1,7 +1,9 @@
 mod Joins
-mod Verdicts
-mod Inputs
-mod Wins
+mod FormLaws
+mod ToldLaws
 mod FourTables
-mod Complete
 mod Denials
+mod CheckLaws
+mod FoulLaws
+mod FoursLaws
+mod ReportLaws

@@ -1,22 +1,30 @@
--- What `check` says of its input.
-use Rattle.std.specs.Prelude.{◌≡◌, ◌≢◌, ℕ, ◌≤◌, ◌<◌, List, [], codes}
+-- The command `check`: its words, what it says of its input, and what its status 0 shows.
+use Rattle.std.specs.Prelude.{◌≡◌, ◌⊎◌, ℕ, ◌≤◌, ◌<◌, List, [], ◌∷◌, ◌++◌, codes, Option, IfSome}
+use Rattle.std.specs.List.{flat_map}
+use Rattle.std.specs.Fmt.{decimal}
 use Rattle.game_rules.specs.Play.{IsPosition}
 use Rattle.game_rules.specs.declared.Point.{Point}
-use Rattle.foul_judge.specs.declared.position.PositionError.TheVariants.{Uneven, AlreadyWon, BoardFull}
 use Rattle.strategy_graph.specs.declared.Why.{Why}
 use Rattle.strategy_graph.specs.declared.Why.TheVariants.{AttackRefused, AttackFouls, AttackDraws, NotWon, ReplyWins, ReplyDraws, NoAnswer}
+use Rattle.strategy_graph.specs.Roots.{root_depth, root_arrivals, AcceptedRoot, RootWins}
+use Rattle.strategy_checker.specs.HeldRoots.{LeadsRoot}
 use Rattle.position_files.specs.declared.TableFile.{TableFile}
 use Rattle.position_files.specs.Tables.{IsTextOfTable}
 use Rattle.position_files.specs.Faults.{IsTableFault}
-use Rattle.strategy_graph.specs.Roots.{root_depth, root_arrivals, AcceptedRoot, RootWins}
-use Rattle.position_files.specs.declared.error.FileError.{FileError}
-use Rattle.position_files.specs.declared.error.FileError.TheVariants.{BadLine, Unlawful, WrongMoves, Memory as NoMemory}
+use Rattle.renju_io.specs.Told.{Takes}
 use Rattle.renju_cli.specs.declared.status.Status.{Status}
-use Rattle.renju_cli.specs.declared.status.Status.TheVariants.{Done, RefusedText, RefusedTable, Spent as OutOfWork}
-use Rattle.strategy_checker.specs.declared.Verdict.{Verdict}
-use Rattle.strategy_checker.specs.declared.Verdict.TheVariants.{Accepted, Refused, Spent}
-use Rattle.strategy_checker.specs.HeldRoots.{LeadsRoot}
-use Rattle.renju_cli.specs.Texts.{line, accepted_line, bad_line, uneven_line, already_won_line, wrong_moves_line, refused_table_line, spent_line}
+use Rattle.renju_cli.specs.declared.status.Status.TheVariants.{Done, RefusedTable, Spent}
+use Rattle.renju_cli.specs.declared.TheConstants.{MAX_WORK}
+use Rattle.renju_cli.specs.Statuses.{status_number}
+use Rattle.renju_cli.specs.Texts.{line, spent_line}
+use Rattle.renju_cli.specs.Runs.{Change, Run}
+use Rattle.renju_cli.specs.Forms.{IsSpelled}
+use Rattle.renju_cli.specs.Told.{ToldCommand, told}
+use Rattle.renju_cli.specs.Refusals.{IsRefusedText}
+
+-- an accepted table: its moves and its arrivals
+abbrev pub accepted_line : ℕ → ℕ → List ℕ
+accepted_line moves arrivals = line (codes "accepted in " ++ decimal moves ++ codes " moves, " ++ decimal arrivals ++ codes " arrivals")
 
 -- the words of the faults of a table
 abbrev pub why_word : Why → List ℕ
@@ -28,38 +36,17 @@ why_word ReplyWins = codes "reply-wins"
 why_word ReplyDraws = codes "reply-draws"
 why_word NoAnswer = codes "no-answer"
 
--- what a refused text is told
-abbrev pub refusal_line : FileError → List ℕ
-refusal_line (BadLine n) = bad_line n
-refusal_line (Unlawful (Uneven black white)) = uneven_line black white
-refusal_line (Unlawful (AlreadyWon at)) = already_won_line at
-refusal_line (Unlawful BoardFull) = line (codes "refused board full")
-refusal_line (WrongMoves written counted) = wrong_moves_line written counted
-refusal_line NoMemory = []
+-- a move after a space
+abbrev pub move_text : Point → List ℕ
+move_text p = codes " " ++ decimal p.x ++ codes "," ++ decimal p.y
 
--- what is said of a verdict: the status and the text
-abbrev pub VerdictSays : Verdict → Status → List ℕ → Type 0
-VerdictSays (Accepted moves arrivals) status text = (status ≡ Done) × (text ≡ accepted_line moves arrivals)
-VerdictSays (Refused moves why) status text = (status ≡ RefusedTable) × (text ≡ refused_table_line (why_word why) moves)
-VerdictSays Spent status text = (status ≡ OutOfWork) × (text ≡ spent_line)
+-- moves, each after a space
+abbrev pub moves_text : List Point → List ℕ
+moves_text moves = flat_map move_text moves
 
--- the root of a table is accepted at its position with at most so many arrivals, and wins there within its depth, whatever
--- the replies
-pub record IsAccepted (work : ℕ) (file : TableFile) : Type 0 where
-  pub accepted : AcceptedRoot file.kind file.table file.root file.board
-  pub wins : RootWins file.kind file.root (root_depth file.table file.root) file.board
-  pub within : root_arrivals file.kind file.table file.root file.board ≤ work
-
--- What is said of a table text with so many arrivals allowed: accepted with its depth and its arrivals; refused, with a
--- line that leads to a fault; or spent, where it has more arrivals.
-abbrev pub FileSays : ℕ → TableFile → Status → List ℕ → Type 0
-FileSays work file Done text =
-    IsAccepted work file
-    × (text ≡ accepted_line (root_depth file.table file.root) (root_arrivals file.kind file.table file.root file.board))
-FileSays work file RefusedTable text =
-    (moves : List Point) × (why : Why) × LeadsRoot file.kind file.table file.root file.board moves why × (text ≡ refused_table_line (why_word why) moves)
-FileSays work file OutOfWork text = (work < root_arrivals file.kind file.table file.root file.board) × (text ≡ spent_line)
-FileSays work file _ text = ⊥
+-- a refused table: the word of its fault, and the moves that lead there
+abbrev pub refused_table_line : List ℕ → List Point → List ℕ
+refused_table_line why moves = line (codes "refused " ++ why ++ moves_text moves)
 
 -- the input is the text of a table at a lawful position, and the moves that it names are the depth of its root
 pub record IsTableAt (file : TableFile) (input : List ℕ) : Type 0 where
@@ -67,7 +54,62 @@ pub record IsTableAt (file : TableFile) (input : List ℕ) : Type 0 where
   pub lawful : IsPosition file.kind file.board
   pub moves : file.moves ≡ root_depth file.table file.root
 
+-- the table is accepted at its root with at most so many arrivals, and wins there within its depth, whatever the replies
+pub record IsAcceptedTable (work : ℕ) (file : TableFile) (status : Status) (text : List ℕ) : Type 0 where
+  pub accepted : AcceptedRoot file.kind file.table file.root file.board
+  pub within : root_arrivals file.kind file.table file.root file.board ≤ work
+  pub wins : RootWins file.kind file.root (root_depth file.table file.root) file.board
+  pub ends : status ≡ Done
+  pub line : text ≡ accepted_line (root_depth file.table file.root) (root_arrivals file.kind file.table file.root file.board)
+
+-- the table is not accepted at its root, and the moves of a line lead from there to a fault
+pub record IsRefusedTable (file : TableFile) (status : Status) (text : List ℕ) : Type 0 where
+  pub refused : ¬ AcceptedRoot file.kind file.table file.root file.board
+  pub moves : List Point
+  pub why : Why
+  pub leads : LeadsRoot file.kind file.table file.root file.board moves why
+  pub ends : status ≡ RefusedTable
+  pub line : text ≡ refused_table_line (why_word why) moves
+
+-- there are more arrivals than are allowed
+pub record IsSpentWork (work : ℕ) (file : TableFile) (status : Status) (text : List ℕ) : Type 0 where
+  pub more : work < root_arrivals file.kind file.table file.root file.board
+  pub ends : status ≡ Spent
+  pub line : text ≡ spent_line
+
+-- what is said of a table text with so many arrivals allowed
+abbrev pub TableSays : ℕ → TableFile → Status → List ℕ → Type 0
+TableSays work file status text = IsAcceptedTable work file status text ⊎ IsRefusedTable file status text ⊎ IsSpentWork work file status text
+
 -- What `check` says of an input that it has read whole: why the text is refused, or else what is said of the table.
 abbrev pub CheckSays : ℕ → List ℕ → Status → List ℕ → Type 0
-CheckSays work input RefusedText text = (error : FileError) × (error ≢ NoMemory) × IsTableFault input error × (text ≡ refusal_line error)
-CheckSays work input status text = (file : TableFile) × IsTableAt file input × FileSays work file status text
+CheckSays work input status text =
+    IsRefusedText (IsTableFault input) status text ⊎ ((file : TableFile) × IsTableAt file input × TableSays work file status text)
+
+-- `check WORK`, with WORK from 1 to MAX_WORK in decimal without leading zeros. It answers for a table at a lawful position
+-- with its number of moves and no more arrivals than are allowed: it accepts it or refuses it.
+abbrev pub check_command : ℕ → ToldCommand
+check_command work = record {
+  words = codes "check" ∷ decimal work ∷ [];
+  in_range = (1 ≤ work) × (work ≤ MAX_WORK);
+  Says = CheckSays work;
+  IsAnswerable = λ input. (file : TableFile) × IsTableAt file input × (root_arrivals file.kind file.table file.root file.board ≤ work);
+  IsAnswer = λ status. (status ≡ Done) ⊎ (status ≡ RefusedTable);
+}
+
+-- The bytes are the text of a rule, a lawful position, a table with its root and a number of moves. The root is accepted there
+-- with at most so many arrivals, the number is its depth, and it wins within that number whatever the replies. The output took
+-- the accepted line with the number and the arrivals, whole.
+pub record IsAcceptedInput (work : ℕ) (bytes : List ℕ) (output : Change (Option (List ℕ))) : Type 0 where
+  pub file : TableFile
+  pub text : IsTextOfTable file bytes
+  pub lawful : IsPosition file.kind file.board
+  pub accepted : AcceptedRoot file.kind file.table file.root file.board
+  pub within : root_arrivals file.kind file.table file.root file.board ≤ work
+  pub depth : file.moves ≡ root_depth file.table file.root
+  pub wins : RootWins file.kind file.root file.moves file.board
+  pub line : Takes output.before (accepted_line file.moves (root_arrivals file.kind file.table file.root file.board)) output.after
+
+-- The headline of the checker: where `check` answers 0, and the input tells its bytes, they are accepted.
+abbrev pub ShowsWin : Run → Type 0
+ShowsWin run = (work : ℕ) → IsSpelled run.words (told (check_command work)) → run.status ≡ status_number Done → IfSome run.input.before (λ bytes. IsAcceptedInput work bytes run.output)

@@ -1,5 +1,5 @@
--- What `foul` says of its input.
-use Rattle.std.specs.Prelude.{◌≡◌, ◌≢◌, ℕ, List, [], ◌++◌, length, codes, if◌then◌else◌, Option, None}
+-- The command `foul`: its words, and what it says of its input.
+use Rattle.std.specs.Prelude.{◌≡◌, ◌⊎◌, ℕ, List, [], ◌∷◌, ◌++◌, length, codes, if◌then◌else◌, Option, None}
 use Rattle.std.specs.List.{flat_map, filter_map}
 use Rattle.std.specs.Option.{option_map}
 use Rattle.std.specs.Fmt.{decimal}
@@ -13,14 +13,13 @@ use Rattle.game_rules.specs.declared.Foul.TheVariants.{Overline, DoubleFour, Dou
 use Rattle.game_rules.specs.declared.Point.{Point}
 use Rattle.position_files.specs.declared.PositionFile.{PositionFile}
 use Rattle.position_files.specs.Positions.{IsTextOfPosition}
-use Rattle.position_files.specs.declared.error.FileError.{FileError}
-use Rattle.position_files.specs.declared.error.FileError.TheVariants.{Memory as NoMemory}
+use Rattle.position_files.specs.Faults.{IsPositionFault}
 use Rattle.renju_cli.specs.declared.fouls.FoulPoint.{FoulPoint}
 use Rattle.renju_cli.specs.declared.status.Status.{Status}
-use Rattle.renju_cli.specs.declared.status.Status.TheVariants.{Done, RefusedText}
-use Rattle.position_files.specs.Faults.{IsPositionFault}
-use Rattle.renju_cli.specs.Checks.{refusal_line}
+use Rattle.renju_cli.specs.declared.status.Status.TheVariants.{Done}
 use Rattle.renju_cli.specs.Texts.{line}
+use Rattle.renju_cli.specs.Told.{ToldCommand}
+use Rattle.renju_cli.specs.Refusals.{IsRefusedText}
 
 -- the foul of Black at a point, if the point is empty and a foul
 abbrev pub foul_point : RuleKind → Grid → Point → Option FoulPoint
@@ -58,8 +57,22 @@ pub record IsPositionAt (file : PositionFile) (input : List ℕ) : Type 0 where
   pub text : IsTextOfPosition file input
   pub lawful : IsPosition file.kind file.board
 
+-- the fouls of the side to move are listed
+pub record IsFoulList (file : PositionFile) (status : Status) (text : List ℕ) : Type 0 where
+  pub ends : status ≡ Done
+  pub list : text ≡ fouls_text (fouls_of_mover (mover file.board) file.kind file.board)
+
 -- What `foul` says of an input that it has read whole: why the text is refused, or else the fouls of the side to move.
 abbrev pub FoulSays : List ℕ → Status → List ℕ → Type 0
-FoulSays input Done text = (file : PositionFile) × IsPositionAt file input × (text ≡ fouls_text (fouls_of_mover (mover file.board) file.kind file.board))
-FoulSays input RefusedText text = (error : FileError) × (error ≢ NoMemory) × IsPositionFault input error × (text ≡ refusal_line error)
-FoulSays input _ text = ⊥
+FoulSays input status text =
+    IsRefusedText (IsPositionFault input) status text ⊎ ((file : PositionFile) × IsPositionAt file input × IsFoulList file status text)
+
+-- `foul`, which answers for each lawful position
+abbrev pub foul_command : ToldCommand
+foul_command = record {
+  words = codes "foul" ∷ [];
+  in_range = Unit {0};
+  Says = FoulSays;
+  IsAnswerable = λ input. (file : PositionFile) × IsPositionAt file input;
+  IsAnswer = λ status. status ≡ Done;
+}

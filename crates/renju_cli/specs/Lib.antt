@@ -1,9 +1,14 @@
+-- what commands print and end with, what a run is, what a form and a told command are
 pub mod Texts
 pub mod Statuses
-pub mod Words
+pub mod Runs
+pub mod Forms
+pub mod Told
+pub mod Refusals
+-- a file for each command
 pub mod Checks
 pub mod Fouls
 pub mod Fours
+-- the list of commands, and what the program does
+pub mod Commands
 pub mod Reports
-pub mod Completeness
-pub mod Devices

@@ -3,68 +3,66 @@
 //! The text is read, its root is checked at its position under its rule, and the verdict is told in one line.
 #![tactic(auto)]
 
-ghost use Rattle.std.specs.Prelude.{◌≡◌, ◌≢◌, true, length, Ok, IfOk};
-ghost use Rattle.std.specs.String.{string_vec};
+ghost use Rattle.std.specs.Prelude.{◌≡◌, ◌∷◌, ◌++◌, true, length, codes, map, IfOk, MatchOption, string_bytes};
 ghost use Rattle.game_rules.specs.Play.{IsPosition};
-ghost use Rattle.renju_cli.specs.Checks.{CheckSays, refusal_line, FileSays, VerdictSays};
-ghost use Rattle.renju_cli.specs.Texts.{spent_line};
 ghost use Rattle.strategy_graph.specs.Roots.{root_below};
+ghost use Rattle.renju_cli.specs.Checks.{CheckSays, TableSays, accepted_line, why_word as why_word_lem, move_text as move_text_lem, moves_text, refused_table_line};
+ghost use Rattle.renju_cli.specs.Texts.{spent_line};
+ghost use Rattle.renju_cli.specs.Commands.{IsForm, HasForm};
 
 use crate::answer::Answer;
-use crate::{Status, texts};
-use foul_judge::{Position, PositionError};
+use crate::numbers::count;
+use crate::refusals::refused_text;
+use crate::told::Told;
+use crate::{Form, MAX_WORK, Status};
+use foul_judge::Position;
 use game_rules::RuleKind;
-use position_files::{FileError, TableFile, read_table};
+use position_files::{TableFile, read_table};
 use row_shapes::{ExactFive, Freestyle, Renju, Rule};
 use std::alloc::{AllocError, Global};
+use stone_board::Point;
 use strategy_checker::{Verdict, check_root};
+use strategy_graph::Why;
 
-/// What `check` says of an input with this many arrivals allowed.
-pub(crate) fn check_text(alloc: Global, bytes: &[u8], work: u64) -> Result<Answer, AllocError>
-    ensures says { IfOk result (λ answer. CheckSays work bytes.now answer.status (answer.text.items)) }
+/// The form of `check` and the words after it, if they are WORK alone.
+pub(crate) fn form(rest: &[String]) -> Option<Form>
+    ensures form { MatchOption result (¬ HasForm (codes "check" ∷ map string_bytes rest.now)) (λ form. IsForm (codes "check" ∷ map string_bytes rest.now) form) }
 {
-    match read_table(alloc, bytes) {
-        Ok(file) => check_file(alloc, file, work),
-        Err(error) => refused_text(alloc, error),
-    }
+    let [work] = rest else {
+        return None;
+    };
+    let work = count(work, MAX_WORK)?;
+    Some(Form::Check { work })
 }
 
-/// What is said of a text that is refused. Want of memory is handed on.
-pub(crate) fn refused_text(alloc: Global, error: FileError) -> Result<Answer, AllocError>
-    ensures status { IfOk result (λ answer. answer.status ≡ Status.RefusedText) }
-    ensures text { IfOk result (λ answer. answer.text.items ≡ refusal_line error) }
-    ensures cause { IfOk result (λ answer. error ≢ FileError.Memory) }
-{
-    match error {
-        FileError::BadLine(number) => refusal(texts::bad_line(alloc, number)?),
-        FileError::Unlawful(PositionError::Uneven { black, white }) => {
-            refusal(texts::uneven(alloc, black, white)?)
-        }
-        FileError::Unlawful(PositionError::AlreadyWon { at }) => {
-            refusal(texts::already_won(alloc, at)?)
-        }
-        FileError::Unlawful(PositionError::BoardFull) => {
-            refusal(String::from_str(alloc, "refused board full\n")?)
-        }
-        FileError::WrongMoves { written, counted } => {
-            refusal(texts::wrong_moves(alloc, written, counted)?)
-        }
-        FileError::Memory => Err(AllocError),
-    }
+/// `check WORK`.
+#[derive(Clone, Copy)]
+pub(crate) struct Check {
+    pub work: u64,
 }
 
-/// The answer of a refused text.
-fn refusal(text: String) -> Result<Answer, AllocError>
-    ensures answer { result ≡ Ok (record { status = Status.RefusedText; text = string_vec text }) }
-{
-    Ok(Answer::told(Status::RefusedText, text))
+impl Told for Check {
+    ghost use Rattle.std.specs.Prelude.{◌≤◌};
+    ghost use Rattle.renju_cli.specs.declared.TheConstants.{MAX_WORK};
+    ghost use Rattle.renju_cli.specs.Checks.{CheckSays};
+
+    ghost in_range = { λ c. (1 ≤ c.work) × (c.work ≤ MAX_WORK) };
+
+    ghost says = { λ c. CheckSays c.work };
+
+    fn say(&self, alloc: Global, bytes: &[u8]) -> Result<Answer, AllocError> {
+        match read_table(alloc, bytes) {
+            Ok(file) => check_file(alloc, file, self.work),
+            Err(error) => refused_text(alloc, error),
+        }
+    }
 }
 
 /// What is said of a text that was read.
 fn check_file(alloc: Global, file: TableFile, work: u64) -> Result<Answer, AllocError>
     requires lawful { IsPosition file.kind file.board }
     requires root { root_below file.root (length file.table) ≡ true }
-    ensures says { IfOk result (λ answer. FileSays work file answer.status (answer.text.items)) }
+    ensures says { IfOk result (λ answer. TableSays work file answer.status answer.text.items) }
 {
     match file.kind {
         RuleKind::Freestyle => check_under::<Freestyle>(alloc, file, work),
@@ -78,7 +76,7 @@ fn check_under<R: Rule>(alloc: Global, file: TableFile, work: u64) -> Result<Ans
     requires kind { file.kind ≡ R.KIND }
     requires lawful { IsPosition file.kind file.board }
     requires root { root_below file.root (length file.table) ≡ true }
-    ensures says { IfOk result (λ answer. FileSays work file answer.status (answer.text.items)) }
+    ensures says { IfOk result (λ answer. TableSays work file answer.status answer.text.items) }
 {
     let TableFile {
         kind: _,
@@ -88,22 +86,16 @@ fn check_under<R: Rule>(alloc: Global, file: TableFile, work: u64) -> Result<Ans
         moves: _,
     } = file;
     let mut position = Position::<R>::new(board);
-    let verdict = check_root(alloc, &table, &root, &mut position, work)?;
-    tell(alloc, verdict)
-}
-
-/// The line of a verdict.
-fn tell(alloc: Global, verdict: Verdict) -> Result<Answer, AllocError>
-    ensures says { IfOk result (λ answer. VerdictSays verdict answer.status (answer.text.items)) }
-{
-    match verdict {
+    match check_root(alloc, &table, &root, &mut position, work)? {
         Verdict::Accepted { moves, arrivals } => {
-            Ok(Answer::told(Status::Done, texts::accepted(alloc, moves, arrivals)?))
+            Ok(Answer::told(Status::Done, accepted(alloc, moves, arrivals)?))
         }
-        Verdict::Refused { line, why } => Ok(Answer::told(
-            Status::RefusedTable,
-            texts::refused_table(alloc, why, line.as_slice())?,
-        )),
+        Verdict::Refused { line, why } => {
+            Ok(Answer::told(
+                Status::RefusedTable,
+                refused_table(alloc, why, line.as_slice())?,
+            ))
+        }
         Verdict::Spent => spent(alloc),
     }
 }
@@ -114,4 +106,57 @@ pub(crate) fn spent(alloc: Global) -> Result<Answer, AllocError>
     ensures text { IfOk result (λ answer. answer.text.items ≡ spent_line) }
 {
     Ok(Answer::told(Status::Spent, String::from_str(alloc, "spent\n")?))
+}
+
+/// The line of an accepted table.
+fn accepted(alloc: Global, moves: u32, arrivals: u64) -> Result<String, AllocError>
+    ensures line { IfOk result (λ text. string_bytes text ≡ accepted_line moves arrivals) }
+{
+    format!(in alloc; "accepted in {moves} moves, {arrivals} arrivals\n")
+}
+
+/// The word of a fault of a table.
+fn why_word(why: Why) -> &'static str
+    ensures word { result.now ≡ why_word_lem why }
+{
+    match why {
+        Why::AttackRefused => "attack-refused",
+        Why::AttackFouls => "attack-fouls",
+        Why::AttackDraws => "attack-draws",
+        Why::NotWon => "not-won",
+        Why::ReplyWins => "reply-wins",
+        Why::ReplyDraws => "reply-draws",
+        Why::NoAnswer => "no-answer",
+    }
+}
+
+/// The line of a refused table: why, and the moves that lead to the fault.
+fn refused_table(alloc: Global, why: Why, moves: &[Point]) -> Result<String, AllocError>
+    ensures line { IfOk result (λ text. string_bytes text ≡ refused_table_line (why_word_lem why) moves.now) }
+{
+    let mut text = String::from_str(alloc, "refused ")?;
+    text.push_str(why_word(why))?;
+    push_moves(alloc, &mut text, moves)?;
+    text.push_str("\n")?;
+    Ok(text)
+}
+
+/// Adds moves to a text, each after a space.
+fn push_moves(alloc: Global, text: &mut String, moves: &[Point]) -> Result<(), AllocError>
+    ensures moves { IfOk result (λ _. string_bytes text.new ≡ string_bytes text.old ++ moves_text moves.now) }
+{
+    for at in moves {
+        let word = move_text(alloc, *at)?;
+        text.push_str(word.as_str())?;
+    }
+    Ok(())
+}
+
+/// A move after a space.
+fn move_text(alloc: Global, at: Point) -> Result<String, AllocError>
+    ensures text { IfOk result (λ text. string_bytes text ≡ move_text_lem at) }
+{
+    let x = at.x;
+    let y = at.y;
+    format!(in alloc; " {x},{y}")
 }

@@ -1,14 +1,18 @@
 //! The command `foul`: the fouls of Black, where Black is to move.
+//!
+//! The text is read, and each point of its board is asked, in reading order.
 #![tactic(auto)]
 
-ghost use Rattle.std.specs.Prelude.{◌≡◌, ◌++◌, IfOk, string_bytes};
+ghost use Rattle.std.specs.Prelude.{◌≡◌, ◌∷◌, ◌++◌, codes, map, IfOk, MatchOption, string_bytes};
 ghost use Rattle.std.specs.List.{flat_map};
 ghost use Rattle.game_rules.specs.Play.{IsPosition, mover};
-ghost use Rattle.renju_cli.specs.Fouls.{FoulSays, foul_point as foul_point_lem, black_fouls as black_fouls_lem, fouls_of_mover, foul_word as foul_word_lem, foul_line as foul_line_lem, foul_head as foul_head_lem, fouls_text as fouls_text_lem};
+ghost use Rattle.renju_cli.specs.Commands.{IsForm, HasForm};
+ghost use Rattle.renju_cli.specs.Fouls.{IsFoulList, foul_point as foul_point_lem, black_fouls as black_fouls_lem, fouls_of_mover, foul_word as foul_word_lem, foul_line as foul_line_lem, foul_head as foul_head_lem, fouls_text as fouls_text_lem};
 
-use crate::Status;
 use crate::answer::Answer;
-use crate::check::refused_text;
+use crate::refusals::refused_text;
+use crate::told::Told;
+use crate::{Form, Status};
 use foul_judge::{Foul, Position, Seen, foul_at};
 use game_rules::RuleKind;
 use position_files::{PositionFile, read_position};
@@ -23,21 +27,39 @@ pub(crate) struct FoulPoint {
     pub foul: Foul,
 }
 
-/// What `foul` says of an input.
-pub(crate) fn foul_text(alloc: Global, bytes: &[u8]) -> Result<Answer, AllocError>
-    ensures says { IfOk result (λ answer. FoulSays bytes.now answer.status (answer.text.items)) }
+/// The form of `foul` and the words after it, if there are none.
+pub(crate) fn form(rest: &[String]) -> Option<Form>
+    ensures form { MatchOption result (¬ HasForm (codes "foul" ∷ map string_bytes rest.now)) (λ form. IsForm (codes "foul" ∷ map string_bytes rest.now) form) }
 {
-    match read_position(alloc, bytes) {
-        Ok(file) => list_fouls(alloc, file),
-        Err(error) => refused_text(alloc, error),
+    match rest {
+        [] => Some(Form::Foul),
+        _ => None,
+    }
+}
+
+/// `foul`.
+#[derive(Clone, Copy)]
+pub(crate) struct ListFouls;
+
+impl Told for ListFouls {
+    ghost use Rattle.renju_cli.specs.Fouls.{FoulSays};
+
+    ghost in_range = { λ c. Unit {0} };
+
+    ghost says = { λ c. FoulSays };
+
+    fn say(&self, alloc: Global, bytes: &[u8]) -> Result<Answer, AllocError> {
+        match read_position(alloc, bytes) {
+            Ok(file) => list_fouls(alloc, file),
+            Err(error) => refused_text(alloc, error),
+        }
     }
 }
 
 /// The list of the fouls of a position.
 fn list_fouls(alloc: Global, file: PositionFile) -> Result<Answer, AllocError>
     requires lawful { IsPosition file.kind file.board }
-    ensures status { IfOk result (λ answer. answer.status ≡ Status.Done) }
-    ensures text { IfOk result (λ answer. answer.text.items ≡ fouls_text_lem (fouls_of_mover (mover file.board) file.kind file.board)) }
+    ensures list { IfOk result (λ answer. IsFoulList file answer.status answer.text.items) }
 {
     let fouls = match file.kind {
         RuleKind::Freestyle => mover_fouls::<Freestyle>(alloc, file.board)?,

@@ -1,15 +1,21 @@
 //! The command `fours`: a win by continuous fours with the fewest moves, written as a table.
+//!
+//! The text is read, the search runs under its rule within the depth and the budget, and a win is written as a table that
+//! `check` accepts.
 #![tactic(auto)]
 
-ghost use Rattle.std.specs.Prelude.{◌≡◌, ◌≤◌, ℕ, IfOk};
+ghost use Rattle.std.specs.Prelude.{◌≡◌, ◌≤◌, ◌∷◌, ℕ, codes, map, IfOk, MatchOption, string_bytes};
 ghost use Rattle.game_rules.specs.Play.{IsPosition};
 ghost use Rattle.four_search.specs.Answers.{IsFourWin};
-ghost use Rattle.renju_cli.specs.Fours.{FoursSays, SearchSays, IsFourText};
-ghost use Rattle.renju_cli.specs.Texts.{none_line};
+ghost use Rattle.renju_cli.specs.Commands.{IsForm, HasForm};
+ghost use Rattle.renju_cli.specs.Fours.{SearchSays, IsFourText, none_line};
 
-use crate::Status;
 use crate::answer::Answer;
-use crate::check::{refused_text, spent};
+use crate::check::spent;
+use crate::numbers::count;
+use crate::refusals::refused_text;
+use crate::told::Told;
+use crate::{Form, MAX_SEARCHED, Status};
 use foul_judge::Position;
 use four_search::{FourAnswer, MAX_DEPTH, SearchError, four_search};
 use game_rules::RuleKind;
@@ -20,21 +26,40 @@ use stone_board::Board;
 use strategy_compiler::Compiler;
 use strategy_graph::Root;
 
-/// What `fours` says of an input, within `depth` moves and with at most `nodes` positions to look at.
-pub(crate) fn fours_text(
-    alloc: Global,
-    bytes: &[u8],
-    depth: u32,
-    nodes: u64,
-) -> Result<Answer, AllocError>
-    requires some_depth { 1 ≤ depth }
-    requires depth_fits { depth ≤ MAX_DEPTH }
-    requires some_nodes { 1 ≤ nodes }
-    ensures says { IfOk result (λ answer. FoursSays depth nodes bytes.now answer.status answer.text.items) }
+/// The form of `fours` and the words after it, if they are DEPTH and NODES.
+pub(crate) fn form(rest: &[String]) -> Option<Form>
+    ensures form { MatchOption result (¬ HasForm (codes "fours" ∷ map string_bytes rest.now)) (λ form. IsForm (codes "fours" ∷ map string_bytes rest.now) form) }
 {
-    match read_position(alloc, bytes) {
-        Ok(file) => search_file(alloc, file, depth, nodes),
-        Err(error) => refused_text(alloc, error),
+    let [depth, nodes] = rest else {
+        return None;
+    };
+    let depth = count(depth, u64::from(MAX_DEPTH))? as u32;
+    let nodes = count(nodes, MAX_SEARCHED)?;
+    Some(Form::Fours { depth, nodes })
+}
+
+/// `fours DEPTH NODES`.
+#[derive(Clone, Copy)]
+pub(crate) struct Fours {
+    pub depth: u32,
+    pub nodes: u64,
+}
+
+impl Told for Fours {
+    ghost use Rattle.std.specs.Prelude.{◌≤◌};
+    ghost use Rattle.four_search.specs.declared.TheConstants.{MAX_DEPTH};
+    ghost use Rattle.renju_cli.specs.declared.TheConstants.{MAX_SEARCHED};
+    ghost use Rattle.renju_cli.specs.Fours.{FoursSays};
+
+    ghost in_range = { λ c. (1 ≤ c.depth) × (c.depth ≤ MAX_DEPTH) × (1 ≤ c.nodes) × (c.nodes ≤ MAX_SEARCHED) };
+
+    ghost says = { λ c. FoursSays c.depth c.nodes };
+
+    fn say(&self, alloc: Global, bytes: &[u8]) -> Result<Answer, AllocError> {
+        match read_position(alloc, bytes) {
+            Ok(file) => search_file(alloc, file, self.depth, self.nodes),
+            Err(error) => refused_text(alloc, error),
+        }
     }
 }
 

@@ -2,6 +2,7 @@
 -- where it does not tell them. `append_known` and `prepend_known` of std keep `None` as it is.
 use Rattle.std.specs.Prelude.{◌≡◌, ℕ, List, Option, take}
 use Rattle.std.specs.Io.KnownBytes.{prepend_known, append_known}
+use Rattle.renju_io.specs.Faults.{HasRisen, HasStayed}
 
 -- a source gave these bytes: they were the front of what was left, and the rest is left now
 abbrev pub Gives : Option (List ℕ) → List ℕ → Option (List ℕ) → Type 0
@@ -11,6 +12,15 @@ Gives old given new = old ≡ prepend_known given new
 pub record GivesSome (old new : Option (List ℕ)) : Type 0 where
   pub given : List ℕ
   pub gives : Gives old given new
+
+-- a source gave some bytes, counting no fault, and then a read failed: it left what the reads before it had left, and
+-- nothing was read after it
+pub record FailsAfter {Device : Type 0} (left : Device → Option (List ℕ)) (faults : Device → ℕ) (old new : Device) : Type 0 where
+  pub before : Device
+  pub gave : GivesSome (left old) (left before)
+  pub uncounted : HasStayed (faults old) (faults before)
+  pub kept : left new ≡ left before
+  pub risen : HasRisen (faults before) (faults new)
 
 -- a sink took these bytes: they stand behind those that were written before
 abbrev pub Takes : Option (List ℕ) → List ℕ → Option (List ℕ) → Type 0

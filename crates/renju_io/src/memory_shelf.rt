@@ -1,8 +1,8 @@
 //! A shelf of files in memory, which fails at stated calls.
-ghost use Rattle.std.specs.Prelude.{◌≡◌, ◌≢◌, ◌<◌, ◌≤◌, true, false, Some, length, Ok, Err, IfOk, IfErr, IfSome, IsErrOf, IsSomeAnd, find, string_bytes};
+ghost use Rattle.std.specs.Prelude.{◌≡◌, ◌≢◌, ◌<◌, ◌≤◌, true, false, Some, length, Ok, Err, IfOk, IfErr, OnOk, IfSome, IsErrOf, IsSomeAnd, find, string_bytes};
 ghost use Rattle.std.specs.Option.{option_copied};
 ghost use Rattle.std.specs.Str.{bytes_eq};
-ghost use Rattle.renju_io.specs.Faults.{HasRisen, HasNotFallen};
+ghost use Rattle.renju_io.specs.Faults.{HasRisen, HasStayed, HasNotFallen};
 ghost use Rattle.renju_io.specs.Files.{IsMap, file_under};
 ghost use Rattle.renju_io.specs.Memory.{no_calls, after_call, load_answer, file_answer, is_failed, entries};
 ghost use Rattle.renju_io.specs.declared.shelf.LoadError.{LoadError};
@@ -65,6 +65,9 @@ impl Shelf for MemoryShelf {
             IsSomeAnd (file_under name.now self.old.files) (λ bytes. MAX_INPUT_BYTES < length bytes) }
         ensures failed { IsErrOf result LoadError.Failed →
             HasRisen self.old.calls.faults self.new.calls.faults }
+        ensures uncounted { OnOk result (HasStayed self.old.calls.faults self.new.calls.faults) }
+        ensures not_failed { IfErr result (λ e.
+            e ≢ LoadError.Failed → HasStayed self.old.calls.faults self.new.calls.faults) }
         ensures kept { Some self.new.files ≡ Some self.old.files }
         ensures counted { HasNotFallen self.old.calls.faults self.new.calls.faults }
 

@@ -1,6 +1,6 @@
 //! A sink that keeps what is written in memory, and fails at stated calls.
 ghost use Rattle.std.specs.Prelude.{◌≡◌, [], true, false, Some, IsErr, OnOk, OnErr};
-ghost use Rattle.renju_io.specs.Faults.{HasRisen, HasNotFallen};
+ghost use Rattle.renju_io.specs.Faults.{HasRisen, HasStayed, HasNotFallen};
 ghost use Rattle.renju_io.specs.Told.{Takes, TakesPart};
 ghost use Rattle.renju_io.specs.Memory.{no_calls, fails_next, after_write, FailsToWrite};
 
@@ -56,6 +56,7 @@ impl Sink for MemorySink {
         ensures whole { OnOk result (Takes (Some self.old.written) piece.now (Some self.new.written)) }
         ensures part { OnErr result (TakesPart (Some self.old.written) piece.now (Some self.new.written)) }
         ensures failed { OnErr result (HasRisen self.old.calls.faults self.new.calls.faults) }
+        ensures uncounted { OnOk result (HasStayed self.old.calls.faults self.new.calls.faults) }
         ensures counted { HasNotFallen self.old.calls.faults self.new.calls.faults }
 
         // Which writes fail, and what each leaves.

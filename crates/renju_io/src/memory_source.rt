@@ -1,6 +1,6 @@
 //! A source that gives bytes of memory, in pieces, and fails at stated calls.
-ghost use Rattle.std.specs.Prelude.{◌≡◌, ◌<◌, ◌≤◌, [], min, length, take, IfOk, OnErr, Ok, Err, Some, if◌then◌else◌};
-ghost use Rattle.renju_io.specs.Faults.{HasRisen, HasNotFallen};
+ghost use Rattle.std.specs.Prelude.{◌≡◌, ◌<◌, ◌≤◌, [], min, length, take, IfOk, OnOk, OnErr, Ok, Err, Some, if◌then◌else◌};
+ghost use Rattle.renju_io.specs.Faults.{HasRisen, HasStayed, HasNotFallen};
 ghost use Rattle.renju_io.specs.Told.{Gives};
 ghost use Rattle.renju_io.specs.Memory.{no_calls, fails_next, given_count, after_read};
 
@@ -56,6 +56,7 @@ impl Source for MemorySource {
         ensures end { result ≡ Ok 0 → 0 < length buf.old → self.new.left ≡ [] }
         ensures kept { OnErr result (self.new.left ≡ self.old.left) }
         ensures failed { OnErr result (HasRisen self.old.calls.faults self.new.calls.faults) }
+        ensures uncounted { OnOk result (HasStayed self.old.calls.faults self.new.calls.faults) }
         ensures counted { HasNotFallen self.old.calls.faults self.new.calls.faults }
 
         // Which reads fail, and how much the others give.

@@ -1,8 +1,8 @@
 //! The whole input of a command, read to its end.
-ghost use Rattle.std.specs.Prelude.{◌≡◌, ◌<◌, ◌≤◌, length, IfOk, IfSome, IsErrOf, OnOk, vec_len};
+ghost use Rattle.std.specs.Prelude.{◌≡◌, ◌≢◌, ◌<◌, ◌≤◌, length, IfOk, IfErr, IfSome, IsErrOf, OnOk, vec_len};
 ghost use Rattle.std.specs.Io.KnownBytes.{IsAtEnd};
-ghost use Rattle.renju_io.specs.Faults.{HasRisen, HasNotFallen};
-ghost use Rattle.renju_io.specs.Told.{GivesSome};
+ghost use Rattle.renju_io.specs.Faults.{HasRisen, HasStayed, HasNotFallen};
+ghost use Rattle.renju_io.specs.Told.{GivesSome, FailsAfter};
 
 use crate::{MAX_INPUT_BYTES, Source};
 use std::alloc::{AllocError, Global};
@@ -35,6 +35,12 @@ pub fn read_all<S: Source>(alloc: Global, source: &mut S) -> Result<Vec<u8>, Rea
     ensures too_long { IsErrOf result ReadAllError.TooLong →
         IfSome (S.left source.old) (λ left. MAX_INPUT_BYTES < length left) }
     ensures failed { IsErrOf result ReadAllError.Failed → HasRisen (S.faults source.old) (S.faults source.new) }
+
+    // The read that failed was the last, and left what the reads before it had left.
+    ensures stopped { IsErrOf result ReadAllError.Failed → FailsAfter S.left S.faults source.old source.new }
+    ensures uncounted { OnOk result (HasStayed (S.faults source.old) (S.faults source.new)) }
+    ensures not_failed { IfErr result (λ e.
+        e ≢ ReadAllError.Failed → HasStayed (S.faults source.old) (S.faults source.new)) }
 
     ensures taken { GivesSome (S.left source.old) (S.left source.new) }
     ensures counted { HasNotFallen (S.faults source.old) (S.faults source.new) }

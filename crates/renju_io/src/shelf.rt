@@ -1,6 +1,6 @@
 //! What holds files by name.
-ghost use Rattle.std.specs.Prelude.{◌≡◌, ◌<◌, ◌≤◌, ℕ, Option, length, IfOk, IfSome, IsErrOf, IsSomeAnd};
-ghost use Rattle.renju_io.specs.Faults.{HasRisen, HasNotFallen};
+ghost use Rattle.std.specs.Prelude.{◌≡◌, ◌≢◌, ◌<◌, ◌≤◌, ℕ, Option, length, IfOk, IfErr, OnOk, IfSome, IsErrOf, IsSomeAnd};
+ghost use Rattle.renju_io.specs.Faults.{HasRisen, HasStayed, HasNotFallen};
 ghost use Rattle.renju_io.specs.Files.{Files, file_under};
 
 use crate::MAX_INPUT_BYTES;
@@ -37,6 +37,9 @@ pub trait Shelf {
         ensures too_long { IsErrOf result LoadError.TooLong → IfSome (files self.old) (λ files.
             IsSomeAnd (file_under name.now files) (λ bytes. MAX_INPUT_BYTES < length bytes)) }
         ensures failed { IsErrOf result LoadError.Failed → HasRisen (faults self.old) (faults self.new) }
+        ensures uncounted { OnOk result (HasStayed (faults self.old) (faults self.new)) }
+        ensures not_failed { IfErr result (λ e.
+            e ≢ LoadError.Failed → HasStayed (faults self.old) (faults self.new)) }
         ensures kept { files self.new ≡ files self.old }
         ensures counted { HasNotFallen (faults self.old) (faults self.new) };
 }

@@ -1,6 +1,6 @@
 //! What takes bytes, piece by piece.
 ghost use Rattle.std.specs.Prelude.{◌≡◌, ℕ, List, Option, OnOk, OnErr};
-ghost use Rattle.renju_io.specs.Faults.{HasRisen, HasNotFallen};
+ghost use Rattle.renju_io.specs.Faults.{HasRisen, HasStayed, HasNotFallen};
 ghost use Rattle.renju_io.specs.Told.{Takes, TakesPart};
 
 use crate::Failed;
@@ -19,5 +19,6 @@ pub trait Sink {
         ensures whole { OnOk result (Takes (written self.old) piece.now (written self.new)) }
         ensures part { OnErr result (TakesPart (written self.old) piece.now (written self.new)) }
         ensures failed { OnErr result (HasRisen (faults self.old) (faults self.new)) }
+        ensures uncounted { OnOk result (HasStayed (faults self.old) (faults self.new)) }
         ensures counted { HasNotFallen (faults self.old) (faults self.new) };
 }

@@ -1,7 +1,7 @@
 //! What gives bytes, piece by piece, up to its end.
-ghost use Rattle.std.specs.Prelude.{◌≡◌, ◌<◌, ◌≤◌, ℕ, List, Option, length, take, IfOk, OnErr};
+ghost use Rattle.std.specs.Prelude.{◌≡◌, ◌<◌, ◌≤◌, ℕ, List, Option, length, take, IfOk, OnOk, OnErr};
 ghost use Rattle.std.specs.Io.KnownBytes.{IsAtEnd};
-ghost use Rattle.renju_io.specs.Faults.{HasRisen, HasNotFallen};
+ghost use Rattle.renju_io.specs.Faults.{HasRisen, HasStayed, HasNotFallen};
 ghost use Rattle.renju_io.specs.Told.{Gives};
 
 use crate::Failed;
@@ -24,5 +24,6 @@ pub trait Source {
         // A read that fails gives nothing.
         ensures kept { OnErr result (left self.new ≡ left self.old) }
         ensures failed { OnErr result (HasRisen (faults self.old) (faults self.new)) }
+        ensures uncounted { OnOk result (HasStayed (faults self.old) (faults self.new)) }
         ensures counted { HasNotFallen (faults self.old) (faults self.new) };
 }

@@ -16,6 +16,18 @@ fn reads_all_in_pieces(rt: HostRuntime) -> Result<(), Fail> {
 }
 
 #[test]
+fn nothing_is_read_after_the_end(rt: HostRuntime) -> Result<(), Fail> {
+    let alloc = rt.alloc();
+    let bytes = Vec::from_slice(alloc, b"five in a row")?;
+    let mut source = MemorySource::new(bytes, 5, Vec::from_slice(alloc, &[5])?);
+    assert_eq!(rt; read_all(alloc, &mut source)?.len(), 13);
+
+    // Three reads gave bytes and the fourth told the end, so the fifth is this one.
+    assert_eq!(rt; source.read(&mut [0]), Err(Failed));
+    Ok(())
+}
+
+#[test]
 fn a_failing_read_gives_nothing(rt: HostRuntime) -> Result<(), Fail> {
     let alloc = rt.alloc();
     let bytes = Vec::from_slice(alloc, b"five in a row")?;
@@ -56,6 +68,20 @@ fn writes_in_pieces_up_to_a_failure(rt: HostRuntime) -> Result<(), Fail> {
     let mut sink = MemorySink::new(alloc, 3, Vec::from_slice(alloc, &[2])?);
     assert_eq!(rt; write_text(&mut sink, &text), Err(Failed));
     assert_eq!(rt; sink.bytes().len(), 4_096 + 3);
+    Ok(())
+}
+
+#[test]
+fn nothing_is_written_after_the_last_piece(rt: HostRuntime) -> Result<(), Fail> {
+    let alloc = rt.alloc();
+    let mut text = Vec::new(alloc);
+    io::repeat(b'x').take(8_192).read_to_end(&mut text)?;
+    let mut sink = MemorySink::new(alloc, 0, Vec::from_slice(alloc, &[3])?);
+    write_text(&mut sink, &text)?;
+    assert_eq!(rt; sink.bytes(), text.as_slice());
+
+    // Two writes took the two pieces, so the third is this one.
+    assert_eq!(rt; sink.write(b"x"), Err(Failed));
     Ok(())
 }
 

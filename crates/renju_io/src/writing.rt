@@ -1,6 +1,6 @@
 //! Texts of any length, written in pieces.
 ghost use Rattle.std.specs.Prelude.{OnOk, OnErr};
-ghost use Rattle.renju_io.specs.Faults.{HasRisen, HasNotFallen};
+ghost use Rattle.renju_io.specs.Faults.{HasRisen, HasStayed, HasNotFallen};
 ghost use Rattle.renju_io.specs.Told.{Takes, TakesPart};
 
 use crate::{Failed, MAX_PIECE_BYTES, Sink};
@@ -11,6 +11,7 @@ pub fn write_text<O: Sink>(sink: &mut O, text: &[u8]) -> Result<(), Failed>
     ensures whole { OnOk result (Takes (O.written sink.old) text.now (O.written sink.new)) }
     ensures part { OnErr result (TakesPart (O.written sink.old) text.now (O.written sink.new)) }
     ensures failed { OnErr result (HasRisen (O.faults sink.old) (O.faults sink.new)) }
+    ensures uncounted { OnOk result (HasStayed (O.faults sink.old) (O.faults sink.new)) }
     ensures counted { HasNotFallen (O.faults sink.old) (O.faults sink.new) }
 {
     for piece in text.chunks(MAX_PIECE_BYTES) {

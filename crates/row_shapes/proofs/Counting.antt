@@ -1,9 +1,10 @@
--- The two ways to count fours agree.
+-- Fours counted by gaps: each four by the first of its five places and by the one that is left out.
 use Rattle.std.proofs.Common.{◌≡◌, ℕ, ◌+◌, ◌<◌, Bool, true, false, cond, ◌&&◌, ◌||◌, refl, arith}
 use Rattle.std.specs.Prelude.{map, count_by}
-use Rattle.std.specs.List.{range_with_len}
+use Rattle.std.specs.List.{sum_by, range_with_len}
+use Rattle.std.proofs.lemmas.Bool.{false_from_ne_true}
 use Rattle.game_rules.specs.Fours.{count_fours}
-use Rattle.row_shapes.specs.Gaps.{listed, fours_by_gap, is_four, are_stones}
+use Rattle.row_shapes.specs.Gaps.{listed, fours_from, is_four, are_stones}
 use Rattle.game_rules.specs.Grid.{Grid}
 use Rattle.game_rules.specs.Shapes.{fours_of, place_stone, place_wins}
 use Rattle.game_rules.specs.declared.RuleKind.{RuleKind}
@@ -11,12 +12,17 @@ use Rattle.game_rules.specs.declared.Side.{Side}
 use Rattle.game_rules.specs.declared.Axis.{Axis}
 use Rattle.game_rules.specs.declared.Point.{Point}
 
+-- all fours, over where their five places begin
+abbrev pub fours_by_gap : (ℕ → Bool) → (ℕ → Bool) → ℕ
+fours_by_gap stone wins = sum_by (λ first. fours_from stone wins first) (range_with_len 0 5)
+
 or-swap : (a b : Bool) → (a || b) ≡ (b || (a || false))
 or-swap true true = refl
 or-swap true false = refl
 or-swap false true = refl
 or-swap false false = refl
 
+-- the two ways to count fours agree
 pub count_fours-gap : (stone wins : ℕ → Bool) → count_fours stone wins ≡ fours_by_gap stone wins
 unfolding is_four are_stones
 count_fours-gap stone wins = rw (or-swap (wins 8) (wins 3), or-swap (wins 7) (wins 2), or-swap (wins 6) (wins 1), or-swap (wins 5) (wins 0)) (omega arith)
@@ -39,13 +45,9 @@ four_true true true false d h = cc
 four_true true false c d h = cc
 four_true false b c d h = cc
 
-pub false_by : (r : Bool) → (r ≡ true → ⊥) → r ≡ false
-false_by true h = absurd (h refl)
-false_by false h = refl
-
 module _ (stone wins : ℕ → Bool) (few : count_by stone (range_with_len 0 9) < 4) where
   not_all : (i j k l : ℕ) → cond (stone i) 1 0 + cond (stone j) 1 0 + cond (stone k) 1 0 + cond (stone l) 1 0 < 4 → (stone i && (stone j && (stone k && (stone l && true)))) ≡ false
-  not_all i j k l h = false_by _ (λ all. let four = four_true (stone i) (stone j) (stone k) (stone l) all in absurd (omega (arith, four, h)))
+  not_all i j k l h = false_from_ne_true _ (λ all. let four = four_true (stone i) (stone j) (stone k) (stone l) all in absurd (omega (arith, four, h)))
 
   -- where fewer than four of the places hold stones, none of them are in a four
   pub no_fours : fours_by_gap stone wins ≡ 0

@@ -1,11 +1,10 @@
 -- Numbers and points at which a test holds.
-use Rattle.std.proofs.Common.{◌≡◌, ◌⊎◌, inl, inr, ℕ, zero, suc, ◌+◌, ◌≤◌, ◌<◌, Bool, true, false, ◌||◌, refl, sym, ap, arith, nat_eq}
+use Rattle.std.proofs.Common.{◌≡◌, ℕ, zero, suc, ◌+◌, ◌≤◌, ◌<◌, Bool, true, false, ◌||◌, refl, sym, ap, arith}
 use Rattle.std.specs.List.{list_any, range_with_len}
 use Rattle.std.specs.Prelude.{Option, Some, None}
-use Rattle.std.proofs.lemmas.Bool.Decides.{nat_tests}
 use Rattle.game_rules.specs.Shapes.{is_at}
 use Rattle.game_rules.specs.declared.Point.{Point}
-use Rattle.game_rules.proofs.Boards.{and_left, and_right}
+use Rattle.game_rules.proofs.Points.{is_same_point-same}
 
 -- a number of a range at which a test holds
 abbrev pub Found : (ℕ → Bool) → ℕ → ℕ → Type 0
@@ -19,14 +18,6 @@ pub any_in_range : (f : ℕ → Bool) (n a : ℕ) → list_any f (range_with_len
 any_in_range f zero a h = cc
 any_in_range f (suc n) a h = found_by f n a (f a) refl h (any_in_range f n (a + 1))
 
-pub or_split : (a b : Bool) → (a || b) ≡ true → (a ≡ true) ⊎ (b ≡ true)
-or_split true b h = inl refl
-or_split false b h = inr h
-
 pub is_at-Some : (q : Point) (o : Option Point) → is_at q o ≡ true → o ≡ Some q
 is_at-Some q None h = cc
-is_at-Some q (Some p) h =
-    let x : q.x ≡ p.x = let e = and_left (nat_eq q.x p.x) (nat_eq q.y p.y) h in grind (arith, nat_tests) in
-    let y : q.y ≡ p.y = let e = and_right (nat_eq q.x p.x) (nat_eq q.y p.y) h in grind (arith, nat_tests) in
-    let same : p ≡ q = λ i. record { x = sym x i; y = sym y i } in
-    ap Some same
+is_at-Some q (Some p) h = ap Some (sym (is_same_point-same q p h))

@@ -2,7 +2,7 @@
 use Rattle.std.proofs.Common.{◌≡◌, ◌≢◌, inl, inr, ℕ, zero, suc, ◌+◌, ◌-◌, ◌≤◌, ◌<◌, Bool, true, false, cond, ◌&&◌, ◌||◌, not, refl, sym, ap, ◌∙◌, arith, nat_eq, nat_lt, eq-eqb}
 use Rattle.std.specs.Prelude.{Option, Some, None, IsTrue}
 use Rattle.std.specs.List.{list_all, range_with_len}
-use Rattle.std.proofs.lemmas.Bool.{cases_lt}
+use Rattle.std.proofs.lemmas.Bool.{cases_lt, false_from_ne_true}
 use Rattle.std.proofs.lemmas.Bool.Decides.{nat_tests}
 use Rattle.game_rules.specs.Grid.{Grid, IsBoard, is_on, is_empty, is_empty_cell, is_stone_of, cell_at, holds, put, along}
 use Rattle.game_rules.specs.Shapes.{stone_at, wins_at, fours_of, place_stone, place_wins, is_line_three_point}
@@ -12,42 +12,28 @@ use Rattle.game_rules.specs.declared.Axis.{Axis}
 use Rattle.game_rules.specs.declared.Cell.{Cell}
 use Rattle.game_rules.specs.declared.Cell.TheVariants.{Empty, Black as BlackStone, White as WhiteStone}
 use Rattle.game_rules.specs.declared.Point.{Point}
-use Rattle.game_rules.proofs.Boards.{Apart, and_left, and_right, is_empty-on, stones_ahead-put, stones_behind-put}
+use Rattle.game_rules.proofs.Boards.{Apart, and_left, and_right, is_empty-on, is_empty-put}
 use Rattle.game_rules.proofs.Lines.{along-same}
 use Rattle.stone_board.specs.declared.board.Way.{Way}
 use Rattle.stone_board.specs.declared.board.Way.TheVariants.{Ahead, Behind}
 use Rattle.stone_board.specs.Steps.{towards, opposite, stones_towards}
 use Rattle.row_shapes.specs.Gaps.{is_four, are_stones}
 use Rattle.row_shapes.specs.Reach.{stones_past, reach_towards, stones_in_reach}
-use Rattle.row_shapes.proofs.Counting.{fours_of-gap, false_by}
-use Rattle.row_shapes.proofs.ThreePoints.{empty-put, three_first, three_empty, first_open}
-use Rattle.row_shapes.proofs.Ways.{go, go-then, go-same, go-zero, go-towards, go-apart, else_at, leads, leads_is, leads_back}
+use Rattle.row_shapes.proofs.Counting.{fours_of-gap}
+use Rattle.row_shapes.proofs.ThreePoints.{three_first, three_empty, first_open}
+use Rattle.row_shapes.proofs.Ways.{go, go-then, go-same, go-zero, go-towards, go-apart, leads, leads_is, leads_back, towards-put, beyond-put}
 use borrow.Author.Tests.{ltb-true}
 
 -- ---- a stone changes nothing that is within reach of its point
 
 module _ (b : Grid) (s : Side) (p : Point) (on : is_on b p ≡ true) where
-  towards-put : (w : Way) (d : Axis) → stones_towards w (put b s p) s d p ≡ stones_towards w b s d p
-  towards-put Ahead d = stones_ahead-put b s p on s d
-  towards-put Behind d = stones_behind-put b s p on s d
-
   module _ (w : Way) (d : Axis) (k : ℕ) (e : Point) (here : go w d p (1 + k) 0 ≡ Some e) where
     apart : Apart p e
     apart = go-apart w d p p e 0 0 (1 + k) 0 (go-zero w d p) here (λ same. absurd (omega arith))
 
-    beyond-put : is_on b e ≡ true → stones_towards w (put b s p) s d e ≡ stones_towards w b s d e
-    beyond-put on_e = leads_is (put b s p) s d e on_e w (stones_towards w b s d e) (record {
-      holds = λ j low high. same j ∙ (leads b s d e on_e w).holds j low high;
-      stops = same (1 + stones_towards w b s d e) ∙ (leads b s d e on_e w).stops;
-    }) where
-      same : (j : ℕ) → stone_at (put b s p) s (go w d e j 0) ≡ stone_at b s (go w d e j 0)
-      same j =
-          let place : go w d e j 0 ≡ go w d p (1 + k + j) 0 = go-then w d p e (1 + k) 0 j 0 here ∙ go-same w d p (1 + k + j) (0 + 0) (1 + k + j) 0 (omega arith) in
-          ap (stone_at (put b s p) s) place ∙ else_at b s w d p p 0 0 (1 + k + j) 0 on (go-zero w d p) (λ same. absurd (omega arith)) ∙ ap (stone_at b s) (sym place)
-
     past_by : (r : Bool) → is_empty b e ≡ r → stones_past w (put b s p) s d (Some e) ≡ stones_past w b s d (Some e)
-    past_by true h = rw (empty-put b s p e on apart, h) (beyond-put (is_empty-on b e h))
-    past_by false h = rw (empty-put b s p e on apart, h) refl
+    past_by true h = rw (is_empty-put b s p e on apart, h) (beyond-put b s p on w d k e here (is_empty-on b e h))
+    past_by false h = rw (is_empty-put b s p e on apart, h) refl
 
   past-put : (w : Way) (d : Axis) (k : ℕ) → stones_past w (put b s p) s d (towards w d p (1 + k)) ≡ stones_past w b s d (towards w d p (1 + k))
   past-put w d k = by_point (towards w d p (1 + k)) refl where
@@ -56,7 +42,7 @@ module _ (b : Grid) (s : Side) (p : Point) (on : is_on b p ≡ true) where
     by_point (Some e) h = past_by w d k e (sym (go-towards w d p (1 + k)) ∙ h) (is_empty b e) refl
 
   reach_towards-put : (w : Way) (d : Axis) → reach_towards w (put b s p) s d p ≡ reach_towards w b s d p
-  reach_towards-put w d = rw (towards-put w d, towards-put (opposite w) d, past-put w d (stones_towards w b s d p)) refl
+  reach_towards-put w d = rw (towards-put b s p on w d, towards-put b s p on (opposite w) d, past-put w d (stones_towards w b s d p)) refl
 
   pub reach-put : (d : Axis) → stones_in_reach (put b s p) s d p ≡ stones_in_reach b s d p
   reach-put d = rw (reach_towards-put Ahead d, reach_towards-put Behind d) refl
@@ -198,7 +184,7 @@ module _ (b : Grid) (s : Side) (d : Axis) (p : Point) (on : is_on b p ≡ true) 
         by_wins (and_right (not (nat_eq first gap)) _ front) (and_right (not (nat_eq first gap) && are_stones stone first gap) _ all) differ
 
     no_four : stones_in_reach b s d p < 3 → is_four stone wins first gap ≡ false
-    no_four few = false_by _ (λ h. let three = four_reach h in absurd (omega (arith, three, few)))
+    no_four few = false_from_ne_true _ (λ h. let three = four_reach h in absurd (omega (arith, three, few)))
 
   -- where fewer than three stones are within reach of a point, its stone is in no four
   pub few-no_fours : (rule : RuleKind) → stones_in_reach b s d p < 3 → fours_of rule b s d p ≡ 0
@@ -229,7 +215,7 @@ module _ (b : Grid) (s : Side) (d : Axis) (p : Point) (on : is_on b p ≡ true) 
 
   -- where fewer than two are, it has no three point
   pub few-no_three : (rule : RuleKind) (q : Point) → IsBoard b → holds b s p ≡ true → stones_in_reach b s d p < 2 → is_line_three_point rule b s d p q ≡ false
-  few-no_three rule q ok mine few = false_by _ (λ h.
+  few-no_three rule q ok mine few = false_from_ne_true _ (λ h.
       let w = three_first rule b s d p q ok mine h in
       let there : towards w.0 d p (1 + stones_towards w.0 b s d p) ≡ Some q = go-towards w.0 d p (1 + stones_towards w.0 b s d p) ∙ w.1 in
       let sum = first_open rule b s d p ok mine w.0 q there h in

@@ -2,14 +2,14 @@
 use Rattle.std.proofs.Common.{◌≡◌, ◌≢◌, inl, inr, ℕ, ◌+◌, ◌-◌, ◌≤◌, ◌<◌, max, Bool, true, false, cond, ◌&&◌, not, refl, sym, ap, ◌∙◌, arith, nat_eq, eq-eqb}
 use Rattle.std.specs.Prelude.{Option, Some, None}
 use Rattle.std.specs.List.{list_any, range_with_len}
-use Rattle.std.proofs.lemmas.Bool.{cases_lt}
+use Rattle.std.proofs.lemmas.Bool.{cases_lt, or_cases as either}
 use Rattle.std.proofs.lemmas.Bool.Decides.{nat_tests}
 use Rattle.std.proofs.Math.Bool.{and-true, and-false}
 use Rattle.std.proofs.lemmas.Nat.Bits.{bit_at_or, bit_at-lt, bit_at-zero, bit_at-pow_same, bit_at-pow_other}
 use Rattle.std.specs.Prelude.{bit_or}
 use Rattle.std.specs.Int.{bit_at}
-use Rattle.game_rules.specs.Grid.{Grid, IsBoard, is_on, is_empty, is_empty_cell, cell_at, holds, put, along}
-use Rattle.game_rules.specs.Shapes.{row_wins, stone_at, run_of, wins_on, wins_at, is_straight, is_at, is_same_point, is_in_run, gives_straight, is_line_three_point, is_line_three_at, stones_ahead, stones_behind}
+use Rattle.game_rules.specs.Grid.{Grid, IsBoard, is_on, is_empty, cell_at, holds, put, along}
+use Rattle.game_rules.specs.Shapes.{row_wins, stone_at, run_of, wins_on, wins_at, is_straight, is_at, is_in_run, gives_straight, is_line_three_point, is_line_three_at, stones_ahead, stones_behind}
 use Rattle.game_rules.specs.declared.RuleKind.{RuleKind}
 use Rattle.game_rules.specs.declared.RuleKind.TheVariants.{Freestyle, Exact, Renju}
 use Rattle.game_rules.specs.declared.Side.{Side}
@@ -17,7 +17,8 @@ use Rattle.game_rules.specs.declared.Side.TheVariants.{Black, White}
 use Rattle.game_rules.specs.declared.Axis.{Axis}
 use Rattle.game_rules.specs.declared.Cell.TheVariants.{Empty}
 use Rattle.game_rules.specs.declared.Point.{Point}
-use Rattle.game_rules.proofs.Boards.{Apart, is_empty-cell, and_left, and_right, is_empty-on, holds-put_same, cell_at-put_other, run_of-put}
+use Rattle.game_rules.proofs.Points.{is_same_point-itself}
+use Rattle.game_rules.proofs.Boards.{Apart, is_empty-put, is_empty-cell, and_left, and_right, is_empty-on, holds-put_same}
 use Rattle.game_rules.proofs.Positions.{holds-put_more, IsBoard-put}
 use Rattle.game_rules.proofs.Rows.{any_found, or_cases}
 use Rattle.game_rules.proofs.Lines.{along-same, along-zero}
@@ -25,27 +26,14 @@ use Rattle.stone_board.specs.declared.board.Way.{Way}
 use Rattle.stone_board.specs.declared.board.Way.TheVariants.{Ahead, Behind}
 use Rattle.stone_board.specs.Steps.{kept_on, towards, opposite, stones_towards}
 use Rattle.row_shapes.specs.Threes.{wins_past, is_open_four, three_place, place_towards, bit_of}
-use Rattle.row_shapes.proofs.Finds.{any_in_range, is_at-Some, or_split}
-use Rattle.row_shapes.proofs.Ways.{along-steps, go, go-then, go-same, go-towards, go-opposite, go-apart, opposite-opposite, else_at, leads, leads_is, leads_back, leads_back_is, run_before_end}
+use Rattle.row_shapes.proofs.Finds.{any_in_range, is_at-Some}
+use Rattle.row_shapes.proofs.Ways.{along-steps, go, go-then, go-same, go-towards, go-opposite, go-apart, opposite-opposite, else_at, leads, leads_is, leads_back, leads_back_is, run_before_end, run_towards}
 
 -- ---- a stone beside others
 
 put_more : (b : Grid) (s : Side) (q : Point) (o : Option Point) → IsBoard b → is_empty b q ≡ true → stone_at b s o ≡ true → stone_at (put b s q) s o ≡ true
 put_more b s q None ok empty h = h
 put_more b s q (Some r) ok empty h = holds-put_more b s q r ok empty h
-
-empty_by : (b : Grid) (s : Side) (q r : Point) (on : Bool) → is_on b r ≡ on → is_on b q ≡ true → Apart q r → is_empty (put b s q) r ≡ is_empty b r
-empty_by b s q r true e on apart = rw e (ap is_empty_cell (cell_at-put_other b s q r on e apart))
-empty_by b s q r false e on apart = rw e refl
-
--- a stone leaves another point empty, or not
-pub empty-put : (b : Grid) (s : Side) (q r : Point) → is_on b q ≡ true → Apart q r → is_empty (put b s q) r ≡ is_empty b r
-empty-put b s q r on apart = empty_by b s q r (is_on b r) refl on apart
-
--- a run through the new stone, from either of the two ways
-run_towards : (b : Grid) (s : Side) (w : Way) (d : Axis) (q : Point) → IsBoard b → is_on b q ≡ true → run_of (put b s q) s d q ≡ 1 + stones_towards w b s d q + stones_towards (opposite w) b s d q
-run_towards b s Ahead d q ok on = run_of-put b s q on ok d
-run_towards b s Behind d q ok on = let run = run_of-put b s q on ok d in omega (arith, run)
 
 -- ---- the end of a run
 
@@ -79,8 +67,8 @@ module _ (rule : RuleKind) (b : Grid) (s : Side) (w : Way) (d : Axis) (p q : Poi
         let before = run_before_end (put b s q) s w d p e mine end on in
         let past = stones_past on in
         let five : run_of (put (put b s q) s e) s d e ≡ 5 + stones_towards w b s d e = omega (arith, run, before, past, four) in
-        rw (empty-put b s q e filled_on apart, h, five) refl
-    end_wins_by four false h = rw (empty-put b s q e filled_on apart, h) refl
+        rw (is_empty-put b s q e filled_on apart, h, five) refl
+    end_wins_by four false h = rw (is_empty-put b s q e filled_on apart, h) refl
 
   -- a stone at the end of the run wins where it wins with the stones past it
   end_wins : x ≤ reach + y → reach + stones_towards (opposite w) (put b s q) s d p ≡ 3 → wins_at rule (put b s q) s d (towards w d p (1 + reach)) ≡ wins_past rule b s d w (towards w d p (1 + reach))
@@ -120,11 +108,8 @@ straight_towards rule b s Behind d p mine =
     let same : nat_eq (1 + stones_ahead b s d p + stones_behind b s d p) 4 ≡ nat_eq (stones_behind b s d p + stones_ahead b s d p) 3 = four_by _ _ (omega arith) in
     rw (mine, same) (and-swap (nat_eq (stones_behind b s d p + stones_ahead b s d p) 3) (wins_at rule b s d (along d p (1 + stones_ahead b s d p) 0)) (wins_at rule b s d (along d p 0 (1 + stones_behind b s d p))))
 
-same_point : (q : Point) → is_same_point q q ≡ true
-same_point q = rw (eq-eqb q.x q.x refl, eq-eqb q.y q.y refl) refl
-
 is_at-here : (q : Point) (o : Option Point) → o ≡ Some q → is_at q o ≡ true
-is_at-here q o e = rw e (same_point q)
+is_at-here q o e = rw e (is_same_point-itself q)
 
 -- a point of the stones next to p, in either way, is in the run
 in_run_towards : (b : Grid) (s : Side) (w : Way) (d : Axis) (p q : Point) (k : ℕ) → go w d p k 0 ≡ Some q → 1 ≤ k → k ≤ stones_towards w b s d p → is_in_run b s d p q ≡ true
@@ -261,7 +246,7 @@ module _ (rule : RuleKind) (b : Grid) (s : Side) (d : Axis) (p q : Point) (ok : 
   pub three_first : is_line_three_point rule b s d p q ≡ true → (w : Way) × (go w d p (1 + stones_towards w b s d p) 0 ≡ Some q)
   three_first h =
       let empty = three_empty rule b s d p q h in
-      elim (or_split (list_any (λ k. is_at q (along d p k 0)) (range_with_len 0 (1 + stones_ahead (put b s q) s d p))) _ (three_in_run h)) [
+      elim (either (list_any (λ k. is_at q (along d p k 0)) (range_with_len 0 (1 + stones_ahead (put b s q) s d p))) _ (three_in_run h)) [
         | inl ahead ↦
             let k = any_in_range (λ k. is_at q (along d p k 0)) (1 + stones_ahead (put b s q) s d p) 0 ahead in
             let here = is_at-Some q (along d p k.0 0) k.3 in

@@ -1,14 +1,14 @@
 -- Lines seen from a point in one of two ways: what holds ahead holds behind.
-use Rattle.std.proofs.Common.{◌≡◌, ◌≢◌, inl, inr, ℕ, ◌+◌, ◌-◌, ◌≤◌, true, refl, ap, ◌∙◌, arith}
+use Rattle.std.proofs.Common.{◌≡◌, ◌≢◌, inl, inr, ℕ, ◌+◌, ◌-◌, ◌≤◌, true, refl, sym, ap, ◌∙◌, arith}
 use Rattle.std.specs.Prelude.{Option, Some, None}
 use Rattle.std.proofs.lemmas.Bool.{cases_lt}
-use Rattle.game_rules.specs.Grid.{Grid, is_on, holds, put, along}
-use Rattle.game_rules.specs.Shapes.{stone_at}
+use Rattle.game_rules.specs.Grid.{Grid, IsBoard, is_on, holds, put, along}
+use Rattle.game_rules.specs.Shapes.{stone_at, run_of}
 use Rattle.game_rules.specs.declared.Side.{Side}
 use Rattle.game_rules.specs.declared.Axis.{Axis}
 use Rattle.game_rules.specs.declared.Axis.TheVariants.{Row, Column, Down, Up}
 use Rattle.game_rules.specs.declared.Point.{Point}
-use Rattle.game_rules.proofs.Boards.{Apart, holds-put_other, and_left}
+use Rattle.game_rules.proofs.Boards.{Apart, holds-put_other, and_left, stones_ahead-put, stones_behind-put, run_of-put}
 use Rattle.game_rules.proofs.Lines.{OnLine, along-OnLine, along-then, along-same, along-zero}
 use Rattle.game_rules.proofs.Runs.{Leads, ahead_leads, behind_leads, ahead_is, behind_is}
 use Rattle.stone_board.specs.declared.board.Way.{Way}
@@ -91,6 +91,30 @@ module _ (b : Grid) (s : Side) (d : Axis) (p : Point) (on : is_on b p ≡ true) 
   pub leads_back_is : (w : Way) (m : ℕ) → Leads (λ k. stone_at b s (go w d p 0 k)) m → stones_towards (opposite w) b s d p ≡ m
   leads_back_is Ahead m h = behind_is b s d p on m h
   leads_back_is Behind m h = ahead_is b s d p on m h
+
+-- ---- a stone, and what stands in its two ways
+
+-- a run through the new stone, from either of the two ways
+pub run_towards : (b : Grid) (s : Side) (w : Way) (d : Axis) (q : Point) → IsBoard b → is_on b q ≡ true → run_of (put b s q) s d q ≡ 1 + stones_towards w b s d q + stones_towards (opposite w) b s d q
+run_towards b s Ahead d q ok on = run_of-put b s q on ok d
+run_towards b s Behind d q ok on = let run = run_of-put b s q on ok d in omega (arith, run)
+
+module _ (b : Grid) (s : Side) (p : Point) (on : is_on b p ≡ true) where
+  -- a stone changes nothing that stands next to its point
+  pub towards-put : (w : Way) (d : Axis) → stones_towards w (put b s p) s d p ≡ stones_towards w b s d p
+  towards-put Ahead d = stones_ahead-put b s p on s d
+  towards-put Behind d = stones_behind-put b s p on s d
+
+  -- and nothing that stands past another point of its line
+  pub beyond-put : (w : Way) (d : Axis) (k : ℕ) (e : Point) → go w d p (1 + k) 0 ≡ Some e → is_on b e ≡ true → stones_towards w (put b s p) s d e ≡ stones_towards w b s d e
+  beyond-put w d k e here on_e = leads_is (put b s p) s d e on_e w (stones_towards w b s d e) (record {
+    holds = λ j low high. same j ∙ (leads b s d e on_e w).holds j low high;
+    stops = same (1 + stones_towards w b s d e) ∙ (leads b s d e on_e w).stops;
+  }) where
+    same : (j : ℕ) → stone_at (put b s p) s (go w d e j 0) ≡ stone_at b s (go w d e j 0)
+    same j =
+        let place : go w d e j 0 ≡ go w d p (1 + k + j) 0 = go-then w d p e (1 + k) 0 j 0 here ∙ go-same w d p (1 + k + j) (0 + 0) (1 + k + j) 0 (omega arith) in
+        ap (stone_at (put b s p) s) place ∙ else_at b s w d p p 0 0 (1 + k + j) 0 on (go-zero w d p) (λ same. absurd (omega arith)) ∙ ap (stone_at b s) (sym place)
 
 -- ---- the first point past a run
 

@@ -1,7 +1,7 @@
 -- Fours counted by the first of five places and by the one that is left out: a second way to count them, from which the
 -- code reads. The nine places of a line around a stone are numbered from 0, and the stone is on place 4.
 use Rattle.std.specs.Prelude.{ℕ, ◌+◌, ◌-◌, Bool, false, ◌&&◌, ◌||◌, not, ◌==◌, List, slice_index_or}
-use Rattle.std.specs.List.{list_all, count_by, sum_by, range_with_len}
+use Rattle.std.specs.List.{list_all, count_by, range_with_len}
 
 -- what the list of the places says of place i
 abbrev pub listed : List Bool → ℕ → Bool
@@ -19,7 +19,3 @@ is_four stone wins first gap = not (first == gap) && are_stones stone first gap 
 -- the fours among the five places that begin so many steps behind the stone, but for those without the first of them
 abbrev pub fours_from : (ℕ → Bool) → (ℕ → Bool) → ℕ → ℕ
 fours_from stone wins first = count_by (λ gap. is_four stone wins first gap) (range_with_len 1 4)
-
--- all of them
-abbrev pub fours_by_gap : (ℕ → Bool) → (ℕ → Bool) → ℕ
-fours_by_gap stone wins = sum_by (λ first. fours_from stone wins first) (range_with_len 0 5)

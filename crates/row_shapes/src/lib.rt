@@ -4,7 +4,9 @@
 //! shapes are those of the RIF Rules of Renju; each call here answers for one point, and for one axis where it takes one.
 #![tactic(auto)]
 
+mod fives;
 mod fours;
+mod new_fives;
 mod reach;
 mod rule;
 #[cfg(test)]
@@ -12,8 +14,10 @@ mod tests;
 mod threes;
 mod wins;
 
+pub use fives::{FivePoints, five_points, fives_in_short, has_five};
 pub use fours::{fours_through, straight_through};
 pub use game_rules::RuleKind;
+pub use new_fives::fives_made;
 pub use reach::stones_in_reach;
 pub use rule::{ExactFive, Freestyle, Renju, Rule};
 pub use threes::three_points;

@@ -123,3 +123,16 @@ impl Rule for Renju {
         }
     }
 }
+
+/// Code under the rule that a text names: a rule is a type, but a text names one only when it runs.
+/// `under_rule!(kind, work(a, b))` is the call `work::<R>(a, b)`, where `R` is the rule that `kind` names.
+#[macro_export]
+macro_rules! under_rule {
+    ($kind:expr, $work:ident($($argument:expr),* $(,)?)) => {
+        match $kind {
+            $crate::RuleKind::Freestyle => $work::<$crate::Freestyle>($($argument),*),
+            $crate::RuleKind::Exact => $work::<$crate::ExactFive>($($argument),*),
+            $crate::RuleKind::Renju => $work::<$crate::Renju>($($argument),*),
+        }
+    };
+}

@@ -1,8 +1,10 @@
 //! The shapes of rows on small examples.
 use crate::{
-    ExactFive, Freestyle, Renju, Rule, RuleKind, five_at, fours_through, stones_in_reach,
-    straight_through, three_points,
+    ExactFive, FivePoints, Freestyle, Renju, Rule, RuleKind, five_at, five_points, fives_in_short,
+    fives_made, fours_through, has_five, stones_in_reach, straight_through, three_points,
+    under_rule,
 };
+use std::alloc::AllocError;
 use std::process::Abort;
 use std::test::Fail;
 use stone_board::{Axis, Board, Point, Side};
@@ -95,5 +97,109 @@ fn stones_past_one_gap_are_in_reach(rt: HostRuntime) -> Result<(), Fail> {
     put_all(&rt, &mut board, Side::White, &[(8, 7)]);
     assert!(rt; board.on(p));
     assert_eq!(rt; stones_in_reach(&board, Side::Black, Axis::Row, p), 2);
+    Ok(())
+}
+
+fn board_of(
+    rt: &(impl Abort + AllocGlobal),
+    black: &[(u8, u8)],
+    white: &[(u8, u8)],
+) -> Result<Board, AllocError> {
+    let mut board = Board::empty(rt.alloc(), 15, 15)?;
+    put_all(rt, &mut board, Side::Black, black);
+    put_all(rt, &mut board, Side::White, white);
+    Ok(board)
+}
+
+#[test]
+fn five_points_come_in_reading_order(rt: HostRuntime) -> Result<(), Fail> {
+    let board = board_of(&rt, &[(4, 7), (5, 7), (6, 7), (7, 7)], &[(0, 0)])?;
+    let points = five_points::<Freestyle>(rt.alloc(), &board, Side::Black)?;
+    let expected = [Point { x: 3, y: 7 }, Point { x: 8, y: 7 }];
+    assert_eq!(rt; points.as_slice(), expected.as_slice());
+    assert!(rt; !has_five::<Freestyle>(&board, Side::White));
+    Ok(())
+}
+
+// What the side's stone at the point makes, told before it is put and by a scan of the board with it, where both agree.
+fn made<R: Rule>(
+    rt: &impl Abort,
+    board: &mut Board,
+    side: Side,
+    (x, y): (u8, u8),
+) -> Option<FivePoints> {
+    let p = Point { x, y };
+    assert!(rt; board.is_empty(p));
+    assert!(rt; !has_five::<R>(board, side));
+    let made = fives_made::<R>(board, side, p);
+    board.put(p, side);
+    if made == fives_in_short::<R>(board, side) {
+        Some(made)
+    } else {
+        None
+    }
+}
+
+const THREE: [(u8, u8); 3] = [(5, 7), (6, 7), (7, 7)];
+
+fn one(x: u8, y: u8) -> Option<FivePoints> {
+    Some(FivePoints::One(Point { x, y }))
+}
+
+#[test]
+fn five_points_of_a_stone_are_told_before_it(rt: HostRuntime) -> Result<(), Fail> {
+    let expected = [
+        ((8, 7), Some(FivePoints::Several)),
+        ((4, 7), Some(FivePoints::Several)),
+        ((9, 7), one(8, 7)),
+        ((3, 7), one(4, 7)),
+        ((6, 8), Some(FivePoints::None)),
+        ((14, 14), Some(FivePoints::None)),
+    ];
+    for (p, points) in expected.iter() {
+        let mut board = board_of(&rt, &THREE, &[])?;
+        assert_eq!(rt;
+            made::<Freestyle>(&rt, &mut board, Side::Black, *p),
+            *points
+        );
+    }
+    Ok(())
+}
+
+#[test]
+fn a_filled_gap_is_an_overline_or_a_win(rt: HostRuntime) -> Result<(), Fail> {
+    let row = [(2, 7), (3, 7), (4, 7), (7, 7)];
+    let cases = [
+        (RuleKind::Freestyle, Side::Black, one(5, 7)),
+        (RuleKind::Exact, Side::Black, Some(FivePoints::None)),
+        (RuleKind::Renju, Side::Black, Some(FivePoints::None)),
+        (RuleKind::Renju, Side::White, one(5, 7)),
+    ];
+    for (kind, side, points) in cases.iter() {
+        let mut board = Board::empty(rt.alloc(), 15, 15)?;
+        put_all(&rt, &mut board, *side, &row);
+        let found = under_rule!(*kind, made(&rt, &mut board, *side, (6, 7)));
+        assert_eq!(rt; found, *points);
+    }
+    Ok(())
+}
+
+#[test]
+fn an_end_is_off_the_board_or_taken(rt: HostRuntime) -> Result<(), Fail> {
+    let mut down = board_of(&rt, &[(0, 0), (1, 1), (2, 2)], &[])?;
+    assert_eq!(rt;
+        made::<Renju>(&rt, &mut down, Side::Black, (3, 3)),
+        one(4, 4)
+    );
+    let mut up = board_of(&rt, &[(0, 14), (1, 13), (2, 12)], &[])?;
+    assert_eq!(rt;
+        made::<Renju>(&rt, &mut up, Side::Black, (3, 11)),
+        one(4, 10)
+    );
+    let mut taken = board_of(&rt, &THREE, &[(4, 7)])?;
+    assert_eq!(rt;
+        made::<Renju>(&rt, &mut taken, Side::Black, (8, 7)),
+        one(9, 7)
+    );
     Ok(())
 }

@@ -259,7 +259,7 @@ impl Board {
     pub fn stones_ahead(&self, side: Side, axis: Axis, p: Point) -> u32
         requires on { IsTrue (is_on self.now p) }
         ensures stones { result ≡ stones_ahead_lem self.now side axis p }
-        ensures bound { result ≤ 64 }
+        ensures bound { result < 64 }
     {
         self.stones_towards(Way::Ahead, side, axis, p)
     }
@@ -268,7 +268,7 @@ impl Board {
     pub fn stones_behind(&self, side: Side, axis: Axis, p: Point) -> u32
         requires on { IsTrue (is_on self.now p) }
         ensures stones { result ≡ stones_behind_lem self.now side axis p }
-        ensures bound { result ≤ 64 }
+        ensures bound { result < 64 }
     {
         self.stones_towards(Way::Behind, side, axis, p)
     }
@@ -279,7 +279,7 @@ impl Board {
     pub fn stones_towards(&self, way: Way, side: Side, axis: Axis, p: Point) -> u32
         requires on { IsTrue (is_on self.now p) }
         ensures stones { result ≡ stones_towards_lem way self.now side axis p }
-        ensures bound { result ≤ 64 }
+        ensures bound { result < 64 }
         ensures board { IsBoard self.now }
     {
         let start = p.y as usize * self.width as usize + p.x as usize;

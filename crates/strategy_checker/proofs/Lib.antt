@@ -1,3 +1,7 @@
+-- The laws of the checker. What is declared by `pub mod` the layers above may cite; the rest serves this crate alone.
+
+-- what each root that is held says
+pub mod Holding
+-- the walk, and the verdict on it
 mod Walking
 mod Refusals
-pub mod Holding

@@ -1,30 +1,54 @@
--- The verdict on a walk that stopped comes where it is to come.
-use Rattle.std.proofs.Common.{◌≡◌, ℕ, ◌<◌, List, arith}
+-- The verdict on a walk comes where it is to come.
+use Rattle.std.proofs.Common.{◌≡◌, ℕ, ◌+◌, ◌-◌, ◌<◌, List, refl, sym, subst, arith}
+use Rattle.std.specs.Prelude.{Result, Ok, Err, OnOk, IfOk, IfErr}
 use Rattle.game_rules.specs.declared.Point.{Point}
 use Rattle.strategy_graph.specs.declared.Why.{Why}
 use Rattle.strategy_checker.specs.declared.Verdict.{Verdict}
+use Rattle.strategy_checker.specs.declared.Verdict.TheVariants.{Accepted, Refused, Spent}
 use Rattle.strategy_checker.specs.declared.walk.Stop.{Stop}
-use Rattle.strategy_checker.specs.declared.walk.Stop.TheVariants.{Fault, Spent, Memory}
+use Rattle.strategy_checker.specs.declared.walk.Stop.TheVariants.{Fault, Spent as StopSpent, Memory}
 use Rattle.strategy_checker.specs.Walks.{Stopped}
-use Rattle.strategy_checker.specs.Verdicts.{IsRefusal, AcceptsExactly, RefusesRightly, SpendsRightly, IfRefused}
+use Rattle.strategy_checker.specs.Verdicts.{IsRefusal, IsVerdictOn, AcceptsExactly, RefusesRightly, SpendsRightly, IfAccepted}
 
-module _ (A : Type 0) (L : List Point → Why → Type 0) (n left work : ℕ) (all : left ≡ work) (refutes : (line : List Point) (why : Why) → L line why → A → ⊥) where
-  pub refusal-accepts : (stop : Stop) (line : List Point) (v : Verdict) → Stopped (λ w. L line w) (left < n) stop → IsRefusal stop line v → AcceptsExactly A n work v
-  refusal-accepts (Fault why) line v leads is = rw is (λ no. absurd no, λ h. absurd (refutes line why leads h.0))
-  refusal-accepts Spent line v short is = rw is (λ no. absurd no, λ h. let most = h.1 in absurd (omega arith))
-  refusal-accepts Memory line v short is = absurd is
+-- what a verdict says of a root that is accepted where A holds, with n arrivals and so many moves
+pub record IsRight (A : Type 0) (L : List Point → Why → Type 0) (n moves work : ℕ) (v : Verdict) : Type 0 where
+  pub accepts : AcceptsExactly A n work v
+  pub accepts_then : IfAccepted (λ m count. (m ≡ moves) × A) v
+  pub refuses : RefusesRightly A n work v
+  pub spends : SpendsRightly A n work v
 
-  pub refusal-refuses : (stop : Stop) (line : List Point) (v : Verdict) → Stopped (λ w. L line w) (left < n) stop → IsRefusal stop line v → RefusesRightly A n work v
-  refusal-refuses (Fault why) line v leads is = rw is (record { only_then = λ yes a. refutes line why leads a; always_then = λ no most. tt })
-  refusal-refuses Spent line v short is = rw is (record { only_then = λ no. absurd no; always_then = λ no most. absurd (omega arith) })
-  refusal-refuses Memory line v short is = absurd is
+module _ (A : Type 0) (L : List Point → Why → Type 0) (n moves start work : ℕ) (all : start ≡ work) (refutes : (line : List Point) (why : Why) → L line why → A → ⊥) where
+  refusal-right : (stop : Stop) (line : List Point) (v : Verdict) → Stopped (λ w. L line w) (start < n) stop → IsRefusal stop line v → IsRight A L n moves work v
+  refusal-right (Fault why) line v leads is = rw is (record {
+    accepts = (λ no. absurd no, λ h. absurd (refutes line why leads h.0));
+    accepts_then = tt;
+    refuses = record { only_then = λ yes a. refutes line why leads a; always_then = λ no most. tt };
+    spends = record { only_then = λ no. absurd no; always_then = λ a more. absurd (refutes line why leads a) };
+  })
+  refusal-right StopSpent line v short is = rw is (record {
+    accepts = (λ no. absurd no, λ h. let most = h.1 in absurd (omega arith));
+    accepts_then = tt;
+    refuses = record { only_then = λ no. absurd no; always_then = λ no most. absurd (omega arith) };
+    spends = record { only_then = λ yes. omega arith; always_then = λ a more. tt };
+  })
+  refusal-right Memory line v short is = absurd is
 
-  pub refusal-spends : (stop : Stop) (line : List Point) (v : Verdict) → Stopped (λ w. L line w) (left < n) stop → IsRefusal stop line v → SpendsRightly A n work v
-  refusal-spends (Fault why) line v leads is = rw is (record { only_then = λ no. absurd no; always_then = λ a more. absurd (refutes line why leads a) })
-  refusal-spends Spent line v short is = rw is (record { only_then = λ yes. omega arith; always_then = λ a more. tt })
-  refusal-spends Memory line v short is = absurd is
+  acceptance-right : (left : ℕ) (v : Verdict) → A → left + n ≡ start → (line : List Point) → IsVerdictOn (Ok tt) moves (work - left) line v → IsRight A L n moves work v
+  acceptance-right left v a counted line is = rw is (record {
+    accepts = (λ yes. (a, omega (arith, counted, all)), λ h. tt);
+    accepts_then = (refl, a);
+    refuses = record { only_then = λ no. absurd no; always_then = λ no most. absurd (no a) };
+    spends = record { only_then = λ no. absurd no; always_then = λ b more. absurd (omega (arith, counted, all, more)) };
+  })
 
-  pub refusal-leads : (stop : Stop) (line : List Point) (v : Verdict) → Stopped (λ w. L line w) (left < n) stop → IsRefusal stop line v → IfRefused L v
-  refusal-leads (Fault why) line v leads is = rw is leads
-  refusal-leads Spent line v short is = rw is tt
-  refusal-leads Memory line v short is = absurd is
+  -- the verdict on a walk says so
+  pub verdict-right : {E : Type 0} (walked : Result (Unit {0}) Stop) (left : ℕ) (line : List Point) (r : Result Verdict E) → OnOk walked A → OnOk walked (left + n ≡ start) → IfErr walked (Stopped (λ w. L line w) (start < n)) → IfOk r (λ v. IsVerdictOn walked moves (work - left) line v) → IfOk r (λ v. IsRight A L n moves work v)
+  verdict-right (Ok done) left line (Ok v) a counted stopped is = acceptance-right left v a counted line is
+  verdict-right (Err stop) left line (Ok v) a counted stopped is = refusal-right stop line v stopped is
+  verdict-right walked left line (Err e) a counted stopped is = tt
+
+-- what follows from being accepted follows from a verdict that accepts
+pub accepts-then : (A : Type 0) (L : List Point → Why → Type 0) (n moves work : ℕ) (W : ℕ → Type 0) → (A → W moves) → (v : Verdict) → IsRight A L n moves work v → IfAccepted (λ m count. W m) v
+accepts-then A L n moves work W f (Accepted m count) right = subst W (sym right.accepts_then.0) (f right.accepts_then.1)
+accepts-then A L n moves work W f (Refused line why) right = tt
+accepts-then A L n moves work W f Spent right = tt

@@ -6,13 +6,13 @@ use Rattle.strategy_checker.specs.declared.held.HeldError.{HeldError}
 use Rattle.strategy_checker.specs.declared.held.HeldError.TheVariants.{Refused, Spent, Memory}
 
 -- P holds of the line and the fault, if the root is refused
-abbrev pub IfRefused : (List Point → Why → Type 0) → HeldError → Type 0
-IfRefused P (Refused line why) = P line why
-IfRefused P Spent = Unit {0}
-IfRefused P Memory = Unit {0}
+abbrev pub IfRootRefused : (List Point → Why → Type 0) → HeldError → Type 0
+IfRootRefused P (Refused line why) = P line why
+IfRootRefused P Spent = Unit {0}
+IfRootRefused P Memory = Unit {0}
 
 -- P holds, if the work is spent
-abbrev pub IfSpent : Type 0 → HeldError → Type 0
-IfSpent P (Refused line why) = Unit {0}
-IfSpent P Spent = P
-IfSpent P Memory = Unit {0}
+abbrev pub IfRootSpent : Type 0 → HeldError → Type 0
+IfRootSpent P (Refused line why) = Unit {0}
+IfRootSpent P Spent = P
+IfRootSpent P Memory = Unit {0}

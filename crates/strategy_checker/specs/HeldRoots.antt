@@ -1,23 +1,11 @@
 -- A table that is held with roots at which it is accepted.
 use Rattle.std.specs.Prelude.{◌≡◌, ◌≤◌, true, List, length}
 use Rattle.std.specs.List.{All}
-use Rattle.game_rules.specs.Grid.{Grid}
 use Rattle.game_rules.specs.Play.{IsPosition}
-use Rattle.game_rules.specs.declared.RuleKind.{RuleKind}
-use Rattle.game_rules.specs.declared.Point.{Point}
 use Rattle.strategy_graph.specs.declared.Node.{Node}
-use Rattle.strategy_graph.specs.declared.Why.{Why}
-use Rattle.strategy_graph.specs.declared.roots.Root.{Root}
-use Rattle.strategy_graph.specs.declared.roots.Root.TheVariants.{Attack, Defend}
 use Rattle.strategy_graph.specs.Roots.{root_below, AcceptedRoot}
-use Rattle.strategy_graph.specs.Leads.{Leads, LeadsStart}
 use Rattle.strategy_checker.specs.declared.held.HeldRoot.{HeldRoot}
 use Rattle.strategy_checker.specs.declared.TheConstants.{MAX_ROOTS}
-
--- the line leads from the root at b to the fault
-abbrev pub LeadsRoot : RuleKind → List Node → Root → Grid → List Point → Why → Type 0
-LeadsRoot rule t (Attack i) b line why = Leads rule t i b line why
-LeadsRoot rule t (Defend a) b line why = LeadsStart rule t a b line why
 
 -- a table, and the roots that are held, in the order in which they were added
 pub record HeldTable : Type 0 where

@@ -1,5 +1,5 @@
 -- Verdicts on a table, and when each of them comes.
-use Rattle.std.specs.Prelude.{◌≡◌, ◌↔◌, ℕ, ◌<◌, ◌≤◌, List}
+use Rattle.std.specs.Prelude.{◌≡◌, ◌↔◌, ℕ, ◌<◌, ◌≤◌, List, Result, Ok, Err}
 use Rattle.game_rules.specs.declared.Point.{Point}
 use Rattle.strategy_graph.specs.declared.Why.{Why}
 use Rattle.strategy_checker.specs.declared.Verdict.{Verdict}
@@ -20,39 +20,44 @@ IfRefused P (Refused line why) = P line why
 IfRefused P Spent = Unit {0}
 
 -- the verdict accepts
-abbrev pub IsAccepted : Verdict → Type 0
-IsAccepted (Accepted moves arrivals) = Unit {0}
-IsAccepted (Refused line why) = ⊥
-IsAccepted Spent = ⊥
+abbrev pub Accepts : Verdict → Type 0
+Accepts (Accepted moves arrivals) = Unit {0}
+Accepts (Refused line why) = ⊥
+Accepts Spent = ⊥
 
 -- the verdict refuses
-abbrev pub IsRefused : Verdict → Type 0
-IsRefused (Accepted moves arrivals) = ⊥
-IsRefused (Refused line why) = Unit {0}
-IsRefused Spent = ⊥
+abbrev pub Refuses : Verdict → Type 0
+Refuses (Accepted moves arrivals) = ⊥
+Refuses (Refused line why) = Unit {0}
+Refuses Spent = ⊥
 
 -- the verdict is that the work is spent
-abbrev pub IsSpent : Verdict → Type 0
-IsSpent (Accepted moves arrivals) = ⊥
-IsSpent (Refused line why) = ⊥
-IsSpent Spent = Unit {0}
+abbrev pub Spends : Verdict → Type 0
+Spends (Accepted moves arrivals) = ⊥
+Spends (Refused line why) = ⊥
+Spends Spent = Unit {0}
 
 -- it accepts exactly where the table is accepted and the arrivals are at most the work
 abbrev pub AcceptsExactly : Type 0 → ℕ → ℕ → Verdict → Type 0
-AcceptsExactly accepted arrivals work v = IsAccepted v ↔ (accepted × (arrivals ≤ work))
+AcceptsExactly accepted arrivals work v = Accepts v ↔ (accepted × (arrivals ≤ work))
 
 -- it refuses only where the table is not accepted, and always there if the arrivals are at most the work
 pub record RefusesRightly (accepted : Type 0) (arrivals work : ℕ) (v : Verdict) : Type 0 where
-  pub only_then : IsRefused v → ¬ accepted
-  pub always_then : ¬ accepted → arrivals ≤ work → IsRefused v
+  pub only_then : Refuses v → ¬ accepted
+  pub always_then : ¬ accepted → arrivals ≤ work → Refuses v
 
 -- it is spent only where the arrivals are above the work, and always there if the table is accepted
 pub record SpendsRightly (accepted : Type 0) (arrivals work : ℕ) (v : Verdict) : Type 0 where
-  pub only_then : IsSpent v → work < arrivals
-  pub always_then : accepted → work < arrivals → IsSpent v
+  pub only_then : Spends v → work < arrivals
+  pub always_then : accepted → work < arrivals → Spends v
 
 -- the verdict on a walk that stopped, where line leads to the fault: none for want of memory
 abbrev pub IsRefusal : Stop → List Point → Verdict → Type 0
 IsRefusal (Fault why) line v = v ≡ Refused line why
 IsRefusal StopSpent line v = v ≡ Spent
 IsRefusal Memory line v = ⊥
+
+-- the verdict on a walk: it accepts, with so many moves and arrivals, or the walk stopped, and it is that of the stop
+abbrev pub IsVerdictOn : Result (Unit {0}) Stop → ℕ → ℕ → List Point → Verdict → Type 0
+IsVerdictOn (Ok done) moves arrivals line v = v ≡ Accepted moves arrivals
+IsVerdictOn (Err stop) moves arrivals line v = IsRefusal stop line v

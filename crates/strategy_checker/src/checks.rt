@@ -1,13 +1,14 @@
 //! Verdicts on a table: a walk from its root, and what comes of it.
 #![tactic(auto)]
 
-ghost use Rattle.std.specs.Prelude.{◌≡◌, ◌<◌, true, length, reverse, IfOk};
+ghost use Rattle.std.specs.Prelude.{◌≡◌, ◌<◌, ◌≤◌, ◌-◌, true, length, reverse, IfOk, OnOk};
 ghost use Rattle.game_rules.specs.Games.{WinsWithin, WinsAfter};
 ghost use Rattle.strategy_graph.specs.Tables.{depth, start_depth, names_below};
 ghost use Rattle.strategy_graph.specs.Acceptance.{Accepted, AcceptedStart};
 ghost use Rattle.strategy_graph.specs.Arrivals.{arrivals, start_arrivals};
 ghost use Rattle.strategy_graph.specs.Leads.{Leads, LeadsStart};
-ghost use Rattle.strategy_checker.specs.Verdicts.{IsRefusal, AcceptsExactly, RefusesRightly, SpendsRightly, IfAccepted, IfRefused};
+ghost use Rattle.strategy_graph.specs.Roots.{AcceptedRoot, LeadsRoot, RootWins, root_arrivals, root_below, root_depth};
+ghost use Rattle.strategy_checker.specs.Verdicts.{IsRefusal, IsVerdictOn, AcceptsExactly, RefusesRightly, SpendsRightly, IfAccepted, IfRefused};
 
 use crate::Verdict;
 use crate::walk::{Stop, Walk};
@@ -15,7 +16,7 @@ use foul_judge::{Position, Seen};
 use row_shapes::Rule;
 use std::alloc::{AllocError, Global};
 use stone_board::Points;
-use strategy_graph::{Start, Table};
+use strategy_graph::{Root, Start, Table};
 
 /// Whether the table wins from the position with the node `root`, whose attack is played first. Each game that the table plays
 /// is walked through, whatever the replies, and at most `work` arrivals at nodes are counted.
@@ -45,14 +46,10 @@ pub fn check<R: Rule>(
 {
     // Its contract says that the position is lawful.
     let _mover = position.side();
+    let moves = table.depth(root)?;
     let mut walk = Walk::new(alloc, work);
-    match walk.visit(table, root, position) {
-        Ok(()) => Ok(Verdict::Accepted {
-            moves: table.depth(root)?,
-            arrivals: work - walk.left,
-        }),
-        Err(stop) => refusal(alloc, stop, &walk.line),
-    }
+    let walked = walk.visit(table, root, position);
+    verdict(alloc, walked, &walk, moves, work)
 }
 
 /// Whether the table wins from the position with the start, where the opponent moves first. It is walked through as by `check`,
@@ -84,10 +81,55 @@ pub fn check_start<R: Rule>(
 {
     // Its contract says that the position is lawful.
     let _mover = position.side();
+    let moves = table.start_depth(start)?;
     let mut walk = Walk::new(alloc, work);
-    match walk.visit_start(table, start, position) {
+    let walked = walk.visit_start(table, start, position);
+    verdict(alloc, walked, &walk, moves, work)
+}
+
+/// The verdict on a root at the position, whichever side moves first: that of `check` on a node, and that of `check_start`
+/// on a start. `moves` is the depth of the root, which whoever read the table knows already. The position is the same
+/// afterwards. `Err` says that memory ran out for the line of a refusal.
+pub fn check_root<R: Rule>(
+    alloc: Global,
+    table: &Table,
+    root: &Root,
+    moves: u32,
+    position: &mut Position<R>,
+    work: u64,
+) -> Result<Verdict, AllocError>
+    requires below { root_below root.now (length table.now) ≡ true }
+    requires depth { moves ≡ root_depth table.now root.now }
+    ensures accepted { IfOk result (AcceptsExactly (AcceptedRoot R.KIND table.now root.now position.old) (root_arrivals R.KIND table.now root.now position.old) work) }
+    ensures moves { IfOk result (IfAccepted (λ moves count. moves ≡ root_depth table.now root.now)) }
+    ensures arrivals { IfOk result (IfAccepted (λ moves count. count ≡ root_arrivals R.KIND table.now root.now position.old)) }
+    ensures wins { IfOk result (IfAccepted (λ moves count. RootWins R.KIND root.now moves position.old)) }
+    ensures refused { IfOk result (RefusesRightly (AcceptedRoot R.KIND table.now root.now position.old) (root_arrivals R.KIND table.now root.now position.old) work) }
+    ensures leads { IfOk result (IfRefused (λ line why. LeadsRoot R.KIND table.now root.now position.old line why)) }
+    ensures spent { IfOk result (SpendsRightly (AcceptedRoot R.KIND table.now root.now position.old) (root_arrivals R.KIND table.now root.now position.old) work) }
+    ensures same { position.new ≡ position.old }
+{
+    // Its contract says that the position is lawful.
+    let _mover = position.side();
+    let mut walk = Walk::new(alloc, work);
+    let walked = walk.visit_root(table, root, position);
+    verdict(alloc, walked, &walk, moves, work)
+}
+
+/// The verdict on a walk from a root of this depth, with at most `work` arrivals.
+fn verdict(
+    alloc: Global,
+    walked: Result<(), Stop>,
+    walk: &Walk,
+    moves: u32,
+    work: u64,
+) -> Result<Verdict, AllocError>
+    requires counted { OnOk walked (walk.now.left ≤ work) }
+    ensures verdict { IfOk result (IsVerdictOn walked moves (work - walk.now.left) (reverse walk.now.line)) }
+{
+    match walked {
         Ok(()) => Ok(Verdict::Accepted {
-            moves: table.start_depth(start)?,
+            moves,
             arrivals: work - walk.left,
         }),
         Err(stop) => refusal(alloc, stop, &walk.line),

@@ -6,15 +6,14 @@
 
 ghost use Rattle.std.specs.Prelude.{◌≡◌, ◌≤◌, ◌<◌, ◌++◌, [], ◌∷◌, true, length, slice_get, Some, IfOk, IfErr, OnOk, OnErr};
 ghost use Rattle.std.specs.Option.{option_map};
-ghost use Rattle.strategy_graph.specs.Roots.{AcceptedRoot, RootWins, root_arrivals, root_below, root_depth};
-ghost use Rattle.strategy_checker.specs.HeldRoots.{IsHeld, LeadsRoot};
-ghost use Rattle.strategy_checker.specs.HeldErrors.{IfRefused, IfSpent};
-ghost use Rattle.strategy_checker.specs.Verdicts.{AcceptsExactly, RefusesRightly, SpendsRightly, IfAccepted, IfRefused as IfRefusedVerdict};
+ghost use Rattle.strategy_graph.specs.Roots.{AcceptedRoot, LeadsRoot, root_arrivals, root_below, root_depth};
+ghost use Rattle.strategy_checker.specs.HeldRoots.{IsHeld};
+ghost use Rattle.strategy_checker.specs.HeldErrors.{IfRootRefused, IfRootSpent};
 
-use crate::{MAX_ROOTS, Verdict, Why, check, check_start};
+use crate::{MAX_ROOTS, Verdict, Why, check_root};
 use foul_judge::Position;
 use row_shapes::{Rule, RuleKind};
-use std::alloc::{AllocError, Global};
+use std::alloc::Global;
 use std::marker::Model;
 use stone_board::{Board, Points};
 use strategy_graph::{Root, Table};
@@ -91,9 +90,9 @@ impl Held {
         ensures arrivals { OnOk result (root_arrivals R.KIND self.old.table root position ≤ work) }
         ensures table { OnOk result (self.new.table ≡ self.old.table) }
         ensures added { OnOk result (self.new.roots ≡ self.old.roots ++ record { root = root; kind = R.KIND; board = position } ∷ []) }
-        ensures refused { IfErr result (IfRefused (λ line why. ¬ AcceptedRoot R.KIND self.old.table root position)) }
-        ensures leads { IfErr result (IfRefused (λ line why. LeadsRoot R.KIND self.old.table root position line why)) }
-        ensures spent { IfErr result (IfSpent (work < root_arrivals R.KIND self.old.table root position)) }
+        ensures refused { IfErr result (IfRootRefused (λ line why. ¬ AcceptedRoot R.KIND self.old.table root position)) }
+        ensures leads { IfErr result (IfRootRefused (λ line why. LeadsRoot R.KIND self.old.table root position line why)) }
+        ensures spent { IfErr result (IfRootSpent (work < root_arrivals R.KIND self.old.table root position)) }
         ensures unchanged { OnErr result (self.new ≡ self.old) }
     {
         let alloc = *self.roots.allocator();
@@ -162,40 +161,18 @@ fn checked_moves<R: Rule>(
     ensures moves { IfOk result (λ moves. moves ≡ root_depth table.now root.now) }
     ensures accepted { OnOk result (AcceptedRoot R.KIND table.now root.now position.old) }
     ensures arrivals { OnOk result (root_arrivals R.KIND table.now root.now position.old ≤ work) }
-    ensures refused { IfErr result (IfRefused (λ line why. ¬ AcceptedRoot R.KIND table.now root.now position.old)) }
-    ensures leads { IfErr result (IfRefused (λ line why. LeadsRoot R.KIND table.now root.now position.old line why)) }
-    ensures spent { IfErr result (IfSpent (work < root_arrivals R.KIND table.now root.now position.old)) }
+    ensures refused { IfErr result (IfRootRefused (λ line why. ¬ AcceptedRoot R.KIND table.now root.now position.old)) }
+    ensures leads { IfErr result (IfRootRefused (λ line why. LeadsRoot R.KIND table.now root.now position.old line why)) }
+    ensures spent { IfErr result (IfRootSpent (work < root_arrivals R.KIND table.now root.now position.old)) }
     ensures same { position.new ≡ position.old }
 {
-    match check_root(alloc, table, root, position, work) {
+    let Ok(moves) = table.root_depth(root) else {
+        return Err(HeldError::Memory);
+    };
+    match check_root(alloc, table, root, moves, position, work) {
         Ok(Verdict::Accepted { moves, arrivals: _ }) => Ok(moves),
         Ok(Verdict::Refused { line, why }) => Err(HeldError::Refused { line, why }),
         Ok(Verdict::Spent) => Err(HeldError::Spent),
         Err(_) => Err(HeldError::Memory),
-    }
-}
-
-/// The verdict on a root at the position, whichever side moves first: that of `check` on a node, and that of `check_start`
-/// on a start. The position is the same afterwards.
-pub fn check_root<R: Rule>(
-    alloc: Global,
-    table: &Table,
-    root: &Root,
-    position: &mut Position<R>,
-    work: u64,
-) -> Result<Verdict, AllocError>
-    requires below { root_below root.now (length table.now) ≡ true }
-    ensures accepted { IfOk result (AcceptsExactly (AcceptedRoot R.KIND table.now root.now position.old) (root_arrivals R.KIND table.now root.now position.old) work) }
-    ensures moves { IfOk result (IfAccepted (λ moves count. moves ≡ root_depth table.now root.now)) }
-    ensures arrivals { IfOk result (IfAccepted (λ moves count. count ≡ root_arrivals R.KIND table.now root.now position.old)) }
-    ensures wins { IfOk result (IfAccepted (λ moves count. RootWins R.KIND root.now moves position.old)) }
-    ensures refused { IfOk result (RefusesRightly (AcceptedRoot R.KIND table.now root.now position.old) (root_arrivals R.KIND table.now root.now position.old) work) }
-    ensures leads { IfOk result (IfRefusedVerdict (λ line why. LeadsRoot R.KIND table.now root.now position.old line why)) }
-    ensures spent { IfOk result (SpendsRightly (AcceptedRoot R.KIND table.now root.now position.old) (root_arrivals R.KIND table.now root.now position.old) work) }
-    ensures same { position.new ≡ position.old }
-{
-    match root {
-        Root::Attack(number) => check(alloc, table, *number, position, work),
-        Root::Defend(start) => check_start(alloc, table, start, position, work),
     }
 }

@@ -12,8 +12,8 @@ mod held;
 mod tests;
 mod walk;
 
-pub use checks::{check, check_start};
-pub use held::{Held, HeldError, HeldRoot, check_root};
+pub use checks::{check, check_root, check_start};
+pub use held::{Held, HeldError, HeldRoot};
 use stone_board::Points;
 pub use strategy_graph::Why;
 

@@ -8,10 +8,11 @@
 
 ghost use Rattle.std.specs.Prelude.{◌≡◌, ◌<◌, ◌+◌, [], true, length, reverse, IfErr, OnOk};
 ghost use Rattle.game_rules.specs.Play.{IsPosition};
-ghost use Rattle.strategy_graph.specs.Tables.{answer as answer_lem, names_below};
+ghost use Rattle.strategy_graph.specs.Tables.{names_below};
 ghost use Rattle.strategy_graph.specs.Acceptance.{Accepted, AcceptedStart, Meets};
 ghost use Rattle.strategy_graph.specs.Arrivals.{arrivals, arrivals_after, arrivals_at, start_arrivals};
 ghost use Rattle.strategy_graph.specs.Leads.{Leads, LeadsStart};
+ghost use Rattle.strategy_graph.specs.Roots.{AcceptedRoot, LeadsRoot, root_arrivals, root_below};
 ghost use Rattle.strategy_checker.specs.Walks.{Stopped, IsNoted};
 
 use crate::Why;
@@ -19,7 +20,7 @@ use foul_judge::{Outcome, Position, Seen};
 use row_shapes::Rule;
 use std::alloc::Global;
 use stone_board::{Point, Points};
-use strategy_graph::{Replies, Rest, Start, Table};
+use strategy_graph::{Replies, Rest, Root, Start, Table, answer_among};
 
 /// Why a walk ends before every reply is met.
 #[derive(Clone, Copy)]
@@ -115,6 +116,29 @@ impl Walk {
         self.meet_all(table, start.replies(), start.rest(), position)
     }
 
+    /// Walks from a root at a position, which is the same afterwards.
+    pub(crate) fn visit_root<R: Rule>(
+        &mut self,
+        table: &Table,
+        root: &Root,
+        position: &mut Position<R>,
+    ) -> Result<(), Stop>
+        requires below { root_below root.now (length table.now) ≡ true }
+        requires lawful { IsPosition R.KIND position.old }
+        requires no_line { self.old.line ≡ [] }
+        ensures accepted { OnOk result (AcceptedRoot R.KIND table.now root.now position.old) }
+        ensures counted { OnOk result (self.new.left + root_arrivals R.KIND table.now root.now position.old ≡ self.old.left) }
+        ensures stopped { IfErr result (Stopped
+            (λ why. LeadsRoot R.KIND table.now root.now position.old (reverse self.new.line) why)
+            (self.old.left < root_arrivals R.KIND table.now root.now position.old)) }
+        ensures same { position.new ≡ position.old }
+    {
+        match root {
+            Root::Attack(number) => self.visit(table, *number, position),
+            Root::Defend(start) => self.visit_start(table, start, position),
+        }
+    }
+
     /// Walks on from each reply at a position, which is the same afterwards. The replies that are listed and the rest say what
     /// answers them.
     #[cycle(walk)]
@@ -168,7 +192,7 @@ impl Walk {
             Outcome::Wins => Err(self.fault(q, Why::ReplyWins)),
             Outcome::Fouls(_) => Ok(()),
             Outcome::Draws => Err(self.fault(q, Why::ReplyDraws)),
-            Outcome::GoesOn => match answer(replies, rest, q) {
+            Outcome::GoesOn => match answer_among(replies, rest, q) {
                 None => Err(self.fault(q, Why::NoAnswer)),
                 Some(next) => {
                     position.play(q);
@@ -217,15 +241,5 @@ impl Walk {
             Stop::Spent => Stop::Spent,
             Stop::Memory => Stop::Memory,
         }
-    }
-}
-
-/// The node that answers the reply `q`, by the replies that are listed and the rest.
-fn answer(replies: &Replies, rest: Rest, q: Point) -> Option<u32>
-    ensures answer { result ≡ answer_lem (record { replies = replies.now; rest = rest }) q }
-{
-    match replies.find(q) {
-        Some(next) => Some(next),
-        None => rest.node(),
     }
 }

@@ -1,9 +1,9 @@
 -- The node that answers given replies: it is a node of a table, answers each as given, and stands for the tree of these branches.
-use Rattle.std.proofs.Common.{◌≡◌, ℕ, suc, ◌<◌, Bool, true, false, cond, not, ◌&&◌, ◌||◌, ◌==◌, List, [], ◌∷◌, map, filter, get_or, refl, sym, ap, subst, ◌∙◌, arith}
+use Rattle.std.proofs.Common.{◌≡◌, ℕ, suc, ◌<◌, Bool, true, false, cond, not, List, [], ◌∷◌, map, filter, get_or, refl, sym, ap, subst, ◌∙◌, arith}
 use Rattle.std.specs.Prelude.{Option, Some, None, Result, Ok, Err, IfOk, OnOk, nat_lt, nat_eq, slice_get, All, Contains}
 use Rattle.std.specs.List.{list_all, find, AllByRecursion}
 use Rattle.std.specs.Option.{option_map, option_or, option_eq}
-use Rattle.std.proofs.lemmas.Bool.Decides.{nat_tests, Decides-eqb}
+use Rattle.std.proofs.lemmas.Bool.Decides.{Decides-eqb}
 use Rattle.std.proofs.lemmas.List.Folds.{list_all-append}
 use Rattle.std.proofs.lemmas.List.Elements.{All-from_recursion, All-filter}
 use Rattle.std.proofs.lemmas.List.{length-map, get_or-map}
@@ -14,8 +14,9 @@ use Rattle.game_rules.proofs.Boards.{and_left, and_right}
 use Rattle.strategy_graph.specs.declared.Reply.{Reply}
 use Rattle.strategy_graph.specs.declared.Rest.TheVariants.{Wins}
 use Rattle.strategy_graph.specs.declared.Node.{Node}
-use Rattle.strategy_graph.specs.Tables.{Answers, answers_of, answer, answer_at, listed, precedes, is_rising, is_winning, rest_node, rest_nodes, IsNode}
+use Rattle.strategy_graph.specs.Tables.{Answers, answers_of, answer, answer_at, listed_node, precedes, is_rising, is_winning, rest_node, rest_nodes, IsNode}
 use Rattle.strategy_graph.specs.Acceptance.{Answered}
+use Rattle.strategy_graph.proofs.Rising.{is_rising-filter, precedes-differs, precedes-differs_back}
 use Rattle.strategy_graph.specs.Leads.{AtNode}
 use Rattle.strategy_compiler.specs.Trees.{Tree, Branches, Leaf, Fork, NoBranch, Branch, StandsFor, StandsForAll, AnswersBranches, AnswersBriefly, replies_of, answers_to, commonest}
 use Rattle.strategy_compiler.specs.Nodes.{NamesOnly, PutsIn, answering_node, answers_beside, commonest_next, rest_of, winning_node}
@@ -29,20 +30,6 @@ all-filter p q [] h = refl
 all-filter p q (r ∷ rs) h = by_test (q r) (all-filter p q rs (and_right (p r.next) _ h)) where
   by_test : (b : Bool) → list_all p (map (λ r. r.next) (filter q rs)) ≡ true → list_all p (map (λ r. r.next) (cond b (r ∷ filter q rs) (filter q rs))) ≡ true
   by_test true k = rw (and_left (p r.next) _ h) k
-  by_test false k = k
-
-after-filter : (p : Point) (q : Reply → Bool) (rs : List Reply) → list_all (λ s. precedes p s.at) rs ≡ true → list_all (λ s. precedes p s.at) (filter q rs) ≡ true
-after-filter p q [] h = refl
-after-filter p q (r ∷ rs) h = by_test (q r) (after-filter p q rs (and_right (precedes p r.at) _ h)) where
-  by_test : (b : Bool) → list_all (λ s. precedes p s.at) (filter q rs) ≡ true → list_all (λ s. precedes p s.at) (cond b (r ∷ filter q rs) (filter q rs)) ≡ true
-  by_test true k = rw (and_left (precedes p r.at) _ h) k
-  by_test false k = k
-
-rising-filter : (q : Reply → Bool) (rs : List Reply) → is_rising rs ≡ true → is_rising (filter q rs) ≡ true
-rising-filter q [] h = refl
-rising-filter q (r ∷ rs) h = by_test (q r) (rising-filter q rs (and_right (list_all (λ s. precedes r.at s.at) rs) _ h)) where
-  by_test : (b : Bool) → is_rising (filter q rs) ≡ true → is_rising (cond b (r ∷ filter q rs) (filter q rs)) ≡ true
-  by_test true k = rw (after-filter r.at q rs (and_left (list_all (λ s. precedes r.at s.at) rs) _ h)) k
   by_test false k = k
 
 found_passes : (p q : ℕ → Bool) (js : List ℕ) (j : ℕ) → list_all p js ≡ true → find q js ≡ Some j → p j ≡ true
@@ -73,7 +60,7 @@ IsNode-answering attack rs k rising below =
           list_all-append (λ j. nat_lt j k) (map (λ r. r.next) (answers_beside (commonest_next rs) rs)) (rest_nodes (rest_of (commonest_next rs)))
           ∙ rw (all-filter (λ j. nat_lt j k) (λ r. not (option_eq nat_eq (Some r.next) (commonest_next rs))) rs all)
           (all-rest (λ j. nat_lt j k) (commonest_next rs) (λ j e. found_passes (λ j. nat_lt j k) _ (map (λ r. r.next) rs) j all e));
-      rising = rising-filter (λ r. not (option_eq nat_eq (Some r.next) (commonest_next rs))) rs rising;
+      rising = is_rising-filter (λ r. not (option_eq nat_eq (Some r.next) (commonest_next rs))) rs rising;
       winning = λ e. cc (e, not_winning (commonest_next rs));
     }
 
@@ -82,42 +69,32 @@ IsNode-winning attack k = record { below = refl; rising = refl; winning = λ e. 
 
 -- ---- the answer to each reply
 
-precedes-other : (p q : Point) → precedes p q ≡ true → is_same_point p q ≡ false
-precedes-other p q h = apart p.x p.y q.x q.y h where
-  apart : (a b x y : ℕ) → (nat_lt b y || (b == y && nat_lt a x)) ≡ true → (a == x && b == y) ≡ false
-  apart a b x y h = grind (arith, nat_tests)
-
-precedes-other_way : (p q : Point) → precedes p q ≡ true → is_same_point q p ≡ false
-precedes-other_way p q h = apart p.x p.y q.x q.y h where
-  apart : (a b x y : ℕ) → (nat_lt b y || (b == y && nat_lt a x)) ≡ true → (x == a && y == b) ≡ false
-  apart a b x y h = grind (arith, nat_tests)
-
 same_point-itself : (p : Point) → is_same_point p p ≡ true
 same_point-itself p = rw ((Decides-eqb p.x p.x).1 refl, (Decides-eqb p.y p.y).1 refl) refl
 
-listed-later : (q : Reply → Bool) (p : Point) (rs : List Reply) → list_all (λ s. precedes p s.at) rs ≡ true → listed (filter q rs) p ≡ None
+listed-later : (q : Reply → Bool) (p : Point) (rs : List Reply) → list_all (λ s. precedes p s.at) rs ≡ true → listed_node (filter q rs) p ≡ None
 listed-later q p [] h = refl
 listed-later q p (r ∷ rs) h = by_test (q r) (listed-later q p rs (and_right (precedes p r.at) _ h)) where
-  by_test : (b : Bool) → listed (filter q rs) p ≡ None → listed (cond b (r ∷ filter q rs) (filter q rs)) p ≡ None
-  by_test true k = ap (λ (b : Bool). option_map (λ r. r.next) (cond b (Some r) (find (λ s. is_same_point s.at p) (filter q rs)))) (precedes-other_way p r.at (and_left (precedes p r.at) _ h)) ∙ k
+  by_test : (b : Bool) → listed_node (filter q rs) p ≡ None → listed_node (cond b (r ∷ filter q rs) (filter q rs)) p ≡ None
+  by_test true k = ap (λ (b : Bool). option_map (λ r. r.next) (cond b (Some r) (find (λ s. is_same_point s.at p) (filter q rs)))) (precedes-differs_back p r.at (and_left (precedes p r.at) _ h)) ∙ k
   by_test false k = k
 
 -- the first of rising replies, and those after it
-listed-first : (q : Reply → Bool) (r : Reply) (rs : List Reply) → list_all (λ s. precedes r.at s.at) rs ≡ true → listed (filter q (r ∷ rs)) r.at ≡ cond (q r) (Some r.next) None
+listed-first : (q : Reply → Bool) (r : Reply) (rs : List Reply) → list_all (λ s. precedes r.at s.at) rs ≡ true → listed_node (filter q (r ∷ rs)) r.at ≡ cond (q r) (Some r.next) None
 listed-first q r rs h = by_test (q r) where
-  by_test : (b : Bool) → listed (cond b (r ∷ filter q rs) (filter q rs)) r.at ≡ cond b (Some r.next) None
+  by_test : (b : Bool) → listed_node (cond b (r ∷ filter q rs) (filter q rs)) r.at ≡ cond b (Some r.next) None
   by_test true = ap (λ (b : Bool). option_map (λ r. r.next) (cond b (Some r) (find (λ s. is_same_point s.at r.at) (filter q rs)))) (same_point-itself r.at)
   by_test false = listed-later q r.at rs h
 
-listed-skips : (q : Reply → Bool) (r : Reply) (rs : List Reply) (p : Point) → precedes r.at p ≡ true → listed (filter q (r ∷ rs)) p ≡ listed (filter q rs) p
+listed-skips : (q : Reply → Bool) (r : Reply) (rs : List Reply) (p : Point) → precedes r.at p ≡ true → listed_node (filter q (r ∷ rs)) p ≡ listed_node (filter q rs) p
 listed-skips q r rs p h = by_test (q r) where
-  by_test : (b : Bool) → listed (cond b (r ∷ filter q rs) (filter q rs)) p ≡ listed (filter q rs) p
-  by_test true = ap (λ (b : Bool). option_map (λ r. r.next) (cond b (Some r) (find (λ s. is_same_point s.at p) (filter q rs)))) (precedes-other r.at p h)
+  by_test : (b : Bool) → listed_node (cond b (r ∷ filter q rs) (filter q rs)) p ≡ listed_node (filter q rs) p
+  by_test true = ap (λ (b : Bool). option_map (λ r. r.next) (cond b (Some r) (find (λ s. is_same_point s.at p) (filter q rs)))) (precedes-differs r.at p h)
   by_test false = refl
 
 -- each reply that is kept is listed with its node, and no other is
 Kept : (Reply → Bool) → List Reply → Reply → Type 0
-Kept q rs r = listed (filter q rs) r.at ≡ cond (q r) (Some r.next) None
+Kept q rs r = listed_node (filter q rs) r.at ≡ cond (q r) (Some r.next) None
 
 kept_more : (q : Reply → Bool) (r : Reply) (rs ss : List Reply) → list_all (λ s. precedes r.at s.at) ss ≡ true → AllByRecursion (Kept q rs) ss → AllByRecursion (Kept q (r ∷ rs)) ss
 unfolding Kept
@@ -152,7 +129,7 @@ as_given : (a : Answers) (o : Option ℕ) (rs ss : List Reply) → a.replies ≡
 unfolding Kept
 as_given a o rs [] e f h = tt
 as_given a o rs (s ∷ ss) e f h = (
-  ap (λ (xs : List Reply). option_or (listed xs s.at) (rest_node a.rest)) e
+  ap (λ (xs : List Reply). option_or (listed_node xs s.at) (rest_node a.rest)) e
       ∙ ap (λ (p : Option ℕ). option_or p (rest_node a.rest)) h.0
       ∙ ap (λ (p : Option ℕ). option_or (cond (not (option_eq nat_eq (Some s.next) o)) (Some s.next) None) p) f
       ∙ answer_by o s.next (option_eq nat_eq (Some s.next) o) refl,
@@ -174,7 +151,7 @@ unfolding Kept
 answered-as-listed a h = each a.replies (kept_all (λ r. true) a.replies h) where
   each : (rs : List Reply) → AllByRecursion (Kept (λ r. true) a.replies) rs → AllByRecursion (λ r. answer a r.at ≡ Some r.next) rs
   each [] k = tt
-  each (r ∷ rs) k = (ap (λ (o : Option ℕ). option_or o (rest_node a.rest)) (sym (ap (λ (xs : List Reply). listed xs r.at) (filter-all a.replies)) ∙ k.0), each rs k.1)
+  each (r ∷ rs) k = (ap (λ (o : Option ℕ). option_or o (rest_node a.rest)) (sym (ap (λ (xs : List Reply). listed_node xs r.at) (filter-all a.replies)) ∙ k.0), each rs k.1)
 
 -- in a table that has the node
 pub answers-at : (t : List Node) (i : ℕ) (attack : Point) (rs : List Reply) → slice_get t i ≡ Some (answering_node attack rs) → is_rising rs ≡ true → All (λ r. answer_at t i r.at ≡ Some r.next) rs

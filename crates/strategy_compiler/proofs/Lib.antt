@@ -1,10 +1,18 @@
-pub mod Sets
-pub mod Commonest
+-- The laws of the compiler. What is declared by `pub mod` the layers above may cite; the rest serves this crate alone.
+
+-- wins that a search wrote; what nodes reach; what a node stands for once a node is put in
+pub mod Winning
+pub mod Reaching
 pub mod Standing
-pub mod Briefs
-pub mod Completing
-pub mod Walking
-pub mod Places
-pub mod Copying
-pub mod Finishing
-pub mod Unique
+-- the set of nodes, and the node that answers given replies
+mod Sets
+mod Commonest
+mod Briefs
+-- the walk, and the table that is made of what it completes
+mod Completing
+mod Walking
+mod Places
+mod Copying
+mod Finishing
+-- the table of a tree is one
+mod Unique

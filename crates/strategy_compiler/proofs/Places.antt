@@ -4,7 +4,7 @@ use Rattle.std.specs.Prelude.{Some, nat_lt, slice_get, replicate, Contains}
 use Rattle.std.specs.List.{list_all}
 use Rattle.std.proofs.Math.ListN.{set, length-set}
 use Rattle.std.proofs.lemmas.List.{get_or-set_same, get_or-set_other, length-replicate}
-use Rattle.std.proofs.lemmas.Option.{slice_get_within, slice_get_read, slice_get-get_or, get_or_from_slice_get}
+use Rattle.std.proofs.lemmas.Option.{slice_get_within, slice_get_read, slice_get-get_or, get_or_from_slice_get, same_Some}
 use Rattle.std.proofs.lemmas.Bool.Decides.{Decides-eqb}
 use Rattle.std.proofs.lemmas.List.Folds.{list_all-append}
 use Rattle.game_rules.specs.declared.Point.{Point}
@@ -15,19 +15,21 @@ use Rattle.strategy_graph.specs.declared.Rest.{Rest}
 use Rattle.strategy_graph.specs.declared.Rest.TheVariants.{Wins, To, Nothing}
 use Rattle.strategy_graph.specs.declared.TheConstants.{MAX_NODES}
 use Rattle.strategy_graph.specs.Tables.{answers_of, named, names_below, rest_nodes, precedes, is_rising, IsNode, IsTable}
-use Rattle.strategy_graph.proofs.Copies.{renamed, renamed_reply, renamed_rest, named-renamed, is_winning-renamed}
+use Rattle.strategy_graph.specs.Renumbered.{renumbered_node, renumbered_reply, renumbered_rest}
+use Rattle.strategy_graph.proofs.Copies.{named-renumbered, is_winning-renumbered}
 use Rattle.strategy_graph.proofs.Growth.{names_below-more}
-use Rattle.strategy_compiler.specs.Walks.{is_among, place_in, IsOrder, Renumbers, renumbered_node, renumbered_rest}
+use Rattle.strategy_compiler.specs.Walks.{is_in_list, place_in, Renumbers}
+use Rattle.strategy_compiler.specs.Orders.{ArePlaces, IsOrder}
 use Rattle.strategy_compiler.proofs.Walking.{among-at}
 use borrow.Author.Tests.{ltb-true, ltb-false, lt-ltb}
 
 -- ---- places
 
 -- a number of the list is at its place
-pub among-place : (order : List ℕ) (i : ℕ) → is_among i order ≡ true → slice_get order (place_in order i) ≡ Some i
+pub among-place : (order : List ℕ) (i : ℕ) → is_in_list i order ≡ true → slice_get order (place_in order i) ≡ Some i
 among-place [] i h = cc
 among-place (x ∷ xs) i h = by_test (x == i) refl h (among-place xs i) where
-  by_test : (b : Bool) → (x == i) ≡ b → (b || is_among i xs) ≡ true → (is_among i xs ≡ true → slice_get xs (place_in xs i) ≡ Some i) → slice_get (x ∷ xs) (cond (not b) (1 + place_in xs i) 0) ≡ Some i
+  by_test : (b : Bool) → (x == i) ≡ b → (b || is_in_list i xs) ≡ true → (is_in_list i xs ≡ true → slice_get xs (place_in xs i) ≡ Some i) → slice_get (x ∷ xs) (cond (not b) (1 + place_in xs i) 0) ≡ Some i
   by_test true e h next = ap Some ((Decides-eqb x i).0 e)
   by_test false e h next = rw one-add (next h)
 
@@ -36,11 +38,11 @@ pub place-at : (order : List ℕ) → ((k l i : ℕ) → slice_get order k ≡ S
 place-at order once k i e = once (place_in order i) k i (among-place order i (among-at order k i e)) e
 
 -- what is among the first k is at a place below k
-pub among-take : (order : List ℕ) (k i : ℕ) → is_among i (take k order) ≡ true → (m : ℕ) × (m < k) × (slice_get order m ≡ Some i)
+pub among-take : (order : List ℕ) (k i : ℕ) → is_in_list i (take k order) ≡ true → (m : ℕ) × (m < k) × (slice_get order m ≡ Some i)
 among-take order zero i h = cc
 among-take [] (suc k) i h = cc
 among-take (x ∷ xs) (suc k) i h = by_test (x == i) refl h (among-take xs k i) where
-  by_test : (b : Bool) → (x == i) ≡ b → (b || is_among i (take k xs)) ≡ true → (is_among i (take k xs) ≡ true → (m : ℕ) × (m < k) × (slice_get xs m ≡ Some i)) → (m : ℕ) × (m < suc k) × (slice_get (x ∷ xs) m ≡ Some i)
+  by_test : (b : Bool) → (x == i) ≡ b → (b || is_in_list i (take k xs)) ≡ true → (is_in_list i (take k xs) ≡ true → (m : ℕ) × (m < k) × (slice_get xs m ≡ Some i)) → (m : ℕ) × (m < suc k) × (slice_get (x ∷ xs) m ≡ Some i)
   by_test true e h next = (0, omega arith, ap Some ((Decides-eqb x i).0 e))
   by_test false e h next = let later = next h in (suc later.0, omega arith, later.2)
 
@@ -73,67 +75,65 @@ places-more order len places p once l low h = record { sized = length-set places
       let other : i ≢ get_or order p 0 = λ (same : i ≡ get_or order p 0). not_same k p less (once k p i e (slice_get-get_or order p 0 l ∙ ap Some (sym same))) in
       get_or-set_other places (get_or order p 0) i p 0 other ∙ h.up_to k i less e
 
-pub places-all : (order : List ℕ) (len : ℕ) (places : List ℕ) (p : ℕ) → length order ≤ p → PlacesUpTo order len places p → (k i : ℕ) → slice_get order k ≡ Some i → get_or places i 0 ≡ k
-places-all order len places p l h k i e = let inside = slice_get_within order k i e in h.up_to k i (omega arith) e
+pub places-all : (order : List ℕ) (len : ℕ) (places : List ℕ) (p : ℕ) → length order ≤ p → PlacesUpTo order len places p → ArePlaces order places
+places-all order len places p l h = record { placed = λ k i e. let inside = slice_get_within order k i e in h.up_to k i (omega arith) e }
 
 -- ---- nodes with places for numbers
 
 -- it matters only what is put for the numbers that are named
-renamed_rest-agree : (f g : ℕ → ℕ) (passes : ℕ → Bool) → ((j : ℕ) → passes j ≡ true → f j ≡ g j) → (rest : Rest) → list_all passes (rest_nodes rest) ≡ true → renamed_rest f rest ≡ renamed_rest g rest
-renamed_rest-agree f g passes same Wins h = refl
-renamed_rest-agree f g passes same (To j) h = ap To (same j (and_left (passes j) true h))
-renamed_rest-agree f g passes same Nothing h = refl
+renumbered_rest-agree : (f g : ℕ → ℕ) (passes : ℕ → Bool) → ((j : ℕ) → passes j ≡ true → f j ≡ g j) → (rest : Rest) → list_all passes (rest_nodes rest) ≡ true → renumbered_rest f rest ≡ renumbered_rest g rest
+renumbered_rest-agree f g passes same Wins h = refl
+renumbered_rest-agree f g passes same (To j) h = ap To (same j (and_left (passes j) true h))
+renumbered_rest-agree f g passes same Nothing h = refl
 
-renamed_replies-agree : (f g : ℕ → ℕ) (passes : ℕ → Bool) → ((j : ℕ) → passes j ≡ true → f j ≡ g j) → (rs : List Reply) → list_all passes (map (λ r. r.next) rs) ≡ true → map (renamed_reply f) rs ≡ map (renamed_reply g) rs
-renamed_replies-agree f g passes same [] h = refl
-renamed_replies-agree f g passes same (r ∷ rs) h =
+renumbered_replies-agree : (f g : ℕ → ℕ) (passes : ℕ → Bool) → ((j : ℕ) → passes j ≡ true → f j ≡ g j) → (rs : List Reply) → list_all passes (map (λ r. r.next) rs) ≡ true → map (renumbered_reply f) rs ≡ map (renumbered_reply g) rs
+renumbered_replies-agree f g passes same [] h = refl
+renumbered_replies-agree f g passes same (r ∷ rs) h =
     let here : f r.next ≡ g r.next = same r.next (and_left (passes r.next) _ h) in
-    let later = renamed_replies-agree f g passes same rs (and_right (passes r.next) _ h) in
+    let later = renumbered_replies-agree f g passes same rs (and_right (passes r.next) _ h) in
     λ i. record { at = r.at; next = here i } ∷ later i
 
-pub renamed-agree : (f g : ℕ → ℕ) (passes : ℕ → Bool) → ((j : ℕ) → passes j ≡ true → f j ≡ g j) → (n : Node) → list_all passes (named (answers_of n)) ≡ true → renamed f n ≡ renamed g n
-renamed-agree f g passes same n h =
+pub renumbered-agree : (f g : ℕ → ℕ) (passes : ℕ → Bool) → ((j : ℕ) → passes j ≡ true → f j ≡ g j) → (n : Node) → list_all passes (named (answers_of n)) ≡ true → renumbered_node f n ≡ renumbered_node g n
+renumbered-agree f g passes same n h =
     let parts = sym (list_all-append passes (map (λ (r : Reply). r.next) n.replies) (rest_nodes n.rest)) ∙ h in
-    let replies = renamed_replies-agree f g passes same n.replies (and_left _ (list_all passes (rest_nodes n.rest)) parts) in
-    let rest = renamed_rest-agree f g passes same n.rest (and_right (list_all passes (map (λ (r : Reply). r.next) n.replies)) _ parts) in
+    let replies = renumbered_replies-agree f g passes same n.replies (and_left _ (list_all passes (rest_nodes n.rest)) parts) in
+    let rest = renumbered_rest-agree f g passes same n.rest (and_right (list_all passes (map (λ (r : Reply). r.next) n.replies)) _ parts) in
     λ i. record { attack = n.attack; replies = replies i; rest = rest i }
 
 -- the replies are as they were
-all_precede-renamed : (f : ℕ → ℕ) (p : Point) (rs : List Reply) → list_all (λ s. precedes p s.at) (map (renamed_reply f) rs) ≡ list_all (λ s. precedes p s.at) rs
-all_precede-renamed f p [] = refl
-all_precede-renamed f p (r ∷ rs) = ap (λ (b : Bool). precedes p r.at && b) (all_precede-renamed f p rs)
+all_precede-renumbered : (f : ℕ → ℕ) (p : Point) (rs : List Reply) → list_all (λ s. precedes p s.at) (map (renumbered_reply f) rs) ≡ list_all (λ s. precedes p s.at) rs
+all_precede-renumbered f p [] = refl
+all_precede-renumbered f p (r ∷ rs) = ap (λ (b : Bool). precedes p r.at && b) (all_precede-renumbered f p rs)
 
-rising-renamed : (f : ℕ → ℕ) (rs : List Reply) → is_rising (map (renamed_reply f) rs) ≡ is_rising rs
-rising-renamed f [] = refl
-rising-renamed f (r ∷ rs) = λ i. all_precede-renamed f r.at rs i && rising-renamed f rs i
+rising-renumbered : (f : ℕ → ℕ) (rs : List Reply) → is_rising (map (renumbered_reply f) rs) ≡ is_rising rs
+rising-renumbered f [] = refl
+rising-renumbered f (r ∷ rs) = λ i. all_precede-renumbered f r.at rs i && rising-renumbered f rs i
 
-pub points-renamed : (f : ℕ → ℕ) (rs : List Reply) → map (λ r. r.at) (map (renamed_reply f) rs) ≡ map (λ r. r.at) rs
-points-renamed f [] = refl
-points-renamed f (r ∷ rs) = ap (λ (ps : List Point). r.at ∷ ps) (points-renamed f rs)
+pub points-renumbered : (f : ℕ → ℕ) (rs : List Reply) → map (λ r. r.at) (map (renumbered_reply f) rs) ≡ map (λ r. r.at) rs
+points-renumbered f [] = refl
+points-renumbered f (r ∷ rs) = ap (λ (ps : List Point). r.at ∷ ps) (points-renumbered f rs)
 
 all-mapped : (p q : ℕ → Bool) (f : ℕ → ℕ) → ((j : ℕ) → p j ≡ true → q (f j) ≡ true) → (js : List ℕ) → list_all p js ≡ true → list_all q (map f js) ≡ true
 all-mapped p q f keep [] h = refl
 all-mapped p q f keep (j ∷ js) h = rw (keep j (and_left (p j) _ h)) (all-mapped p q f keep js (and_right (p j) _ h))
 
 -- it is a node of a table, at a place above those of all that it names
-pub IsNode-renamed : (f : ℕ → ℕ) (passes : ℕ → Bool) (n : Node) (i k : ℕ) → IsNode n i → ((j : ℕ) → passes j ≡ true → f j < k) → list_all passes (named (answers_of n)) ≡ true → IsNode (renamed f n) k
-IsNode-renamed f passes n i k node low h = record {
-  below = ap (list_all (λ j. nat_lt j k)) (named-renamed f (answers_of n)) ∙ all-mapped passes (λ j. nat_lt j k) f (λ j e. lt-ltb (f j) k (low j e)) (named (answers_of n)) h;
-  rising = rising-renamed f n.replies ∙ node.rising;
-  winning = λ e. ap (map (renamed_reply f)) (node.winning (sym (is_winning-renamed f n.rest) ∙ e));
+pub IsNode-renumbered : (f : ℕ → ℕ) (passes : ℕ → Bool) (n : Node) (i k : ℕ) → IsNode n i → ((j : ℕ) → passes j ≡ true → f j < k) → list_all passes (named (answers_of n)) ≡ true → IsNode (renumbered_node f n) k
+IsNode-renumbered f passes n i k node low h = record {
+  below = ap (list_all (λ j. nat_lt j k)) (named-renumbered f (answers_of n)) ∙ all-mapped passes (λ j. nat_lt j k) f (λ j e. lt-ltb (f j) k (low j e)) (named (answers_of n)) h;
+  rising = rising-renumbered f n.replies ∙ node.rising;
+  winning = λ e. ap (map (renumbered_reply f)) (node.winning (sym (is_winning-renumbered f n.rest) ∙ e));
 }
 
 -- ---- the table, node by node
 
--- each number that node i names is among the first k of the order, where node i is at place k
-pub named-among : (t : List Node) (root : ℕ) (order : List ℕ) (k i : ℕ) (n : Node) → IsOrder t root order → slice_get order k ≡ Some i → slice_get t i ≡ Some n → list_all (λ j. is_among j (take k order)) (named (answers_of n)) ≡ true
-named-among t root order k i n h e at = all_by (λ j. is_among j (take k order)) (named (answers_of n)) (λ j c. h.after_named k i j n e at c) where
-  all_by : (p : ℕ → Bool) (js : List ℕ) → ((j : ℕ) → Contains js j → p j ≡ true) → list_all p js ≡ true
-  all_by p [] f = refl
-  all_by p (j ∷ js) f = rw (f j (0, omega arith, refl)) (all_by p js (λ l c. f l (suc c.0, omega arith, c.2)))
+pub all_by : (p : ℕ → Bool) (js : List ℕ) → ((j : ℕ) → Contains js j → p j ≡ true) → list_all p js ≡ true
+all_by p [] f = refl
+all_by p (j ∷ js) f = rw (f j (0, omega arith, refl)) (all_by p js (λ l c. f l (suc c.0, omega arith, c.2)))
 
-some_equal : (i j : ℕ) → Some i ≡ Some j → i ≡ j
-some_equal i j e = cc
+-- each number that node i names is among the first k of the order, where node i is at place k
+pub named-among : (t : List Node) (order : List ℕ) (k i : ℕ) (n : Node) → IsOrder t order → slice_get order k ≡ Some i → slice_get t i ≡ Some n → list_all (λ j. is_in_list j (take k order)) (named (answers_of n)) ≡ true
+named-among t order k i n h e at = all_by (λ j. is_in_list j (take k order)) (named (answers_of n)) (λ j c. h.after_named k i j n e at c)
 
 slice_get-kept : (t more : List Node) (i : ℕ) (n : Node) → slice_get t i ≡ Some n → slice_get (t ++ more) i ≡ Some n
 slice_get-kept [] more i n h = cc
@@ -146,74 +146,65 @@ slice_get-seam (m ∷ t) n = slice_get-seam t n
 
 pub record RenumbersUpTo (t : List Node) (order : List ℕ) (u : List Node) (p : ℕ) : Type 0 where
   pub count : length u ≡ p
-  pub each : (k i : ℕ) → k < p → slice_get order k ≡ Some i → (n : Node) × (slice_get t i ≡ Some n) × (slice_get u k ≡ Some (renamed (place_in order) n))
-
--- the words of the definitions say the same
-renumbered_rest-renamed : (f : ℕ → ℕ) (r : Rest) → renumbered_rest f r ≡ renamed_rest f r
-renumbered_rest-renamed f Wins = refl
-renumbered_rest-renamed f (To j) = refl
-renumbered_rest-renamed f Nothing = refl
-
-pub renumbered_node-renamed : (f : ℕ → ℕ) (n : Node) → renumbered_node f n ≡ renamed f n
-renumbered_node-renamed f n = λ i. record { attack = n.attack; replies = map (renamed_reply f) n.replies; rest = renumbered_rest-renamed f n.rest i }
+  pub each : (k i : ℕ) → k < p → slice_get order k ≡ Some i → (n : Node) × (slice_get t i ≡ Some n) × (slice_get u k ≡ Some (renumbered_node (place_in order) n))
 
 pub from-renumbers : (t : List Node) (order : List ℕ) (u : List Node) → Renumbers t order u → RenumbersUpTo t order u (length order)
 from-renumbers t order u re = record {
   count = re.count;
-  each = λ k i l e. let r = re.each k i e in (r.0, r.1, r.2 ∙ ap Some (renumbered_node-renamed (place_in order) r.0));
+  each = λ k i l e. let r = re.each k i e in (r.0, r.1, r.2);
 }
 
 pub renumbers-none : (t : List Node) (order : List ℕ) (u : List Node) → u ≡ [] → RenumbersUpTo t order u 0
 renumbers-none t order u e = record { count = ap length e; each = λ k i l at. absurd (omega arith) }
 
-module _ (t : List Node) (root : ℕ) (order : List ℕ) (table : IsTable t) (is_order : IsOrder t root order) where
+module _ (t : List Node) (order : List ℕ) (table : IsTable t) (is_order : IsOrder t order) where
   -- the place of each of them
   pub place-is : (k i : ℕ) → slice_get order k ≡ Some i → place_in order i ≡ k
   place-is k i e = place-at order is_order.once k i e
 
   module _ (k i : ℕ) (n : Node) (e : slice_get order k ≡ Some i) (at : slice_get t i ≡ Some n) where
-    all-among : list_all (λ j. is_among j (take k order)) (named (answers_of n)) ≡ true
-    all-among = named-among t root order k i n is_order e at
+    all-among : list_all (λ j. is_in_list j (take k order)) (named (answers_of n)) ≡ true
+    all-among = named-among t order k i n is_order e at
 
-    low-place : (j : ℕ) → is_among j (take k order) ≡ true → place_in order j < k
+    low-place : (j : ℕ) → is_in_list j (take k order) ≡ true → place_in order j < k
     low-place j h = let m = among-take order k j h in let is = place-is m.0 j m.2 in let low = m.1 in omega (arith, is, low)
 
     -- what takes its place is a node of a table there
-    pub renamed-node : IsNode (renamed (place_in order) n) k
-    renamed-node = IsNode-renamed (place_in order) (λ j. is_among j (take k order)) n i k (table.nodes i n at) low-place all-among
+    pub renumbered-node : IsNode (renumbered_node (place_in order) n) k
+    renumbered-node = IsNode-renumbered (place_in order) (λ j. is_in_list j (take k order)) n i k (table.nodes i n at) low-place all-among
 
     -- and it is the node with the places that are kept
-    pub renamed-places : (f : ℕ → ℕ) → ((k i : ℕ) → slice_get order k ≡ Some i → f i ≡ k) → renamed f n ≡ renamed (place_in order) n
-    renamed-places f places =
-        renamed-agree f (place_in order) (λ j. is_among j (take k order))
+    pub renumbered-places : (f : ℕ → ℕ) → ((k i : ℕ) → slice_get order k ≡ Some i → f i ≡ k) → renumbered_node f n ≡ renumbered_node (place_in order) n
+    renumbered-places f places =
+        renumbered-agree f (place_in order) (λ j. is_in_list j (take k order))
         (λ j h. let m = among-take order k j h in places m.0 j m.2 ∙ sym (place-is m.0 j m.2)) n all-among
 
   -- one node more
-  pub renumbers-more : (u : List Node) (p i : ℕ) (n m : Node) (f : ℕ → ℕ) → RenumbersUpTo t order u p → slice_get order p ≡ Some i → slice_get t i ≡ Some n → ((k i : ℕ) → slice_get order k ≡ Some i → f i ≡ k) → m ≡ renamed f n → RenumbersUpTo t order (u ++ m ∷ []) (p + 1)
+  pub renumbers-more : (u : List Node) (p i : ℕ) (n m : Node) (f : ℕ → ℕ) → RenumbersUpTo t order u p → slice_get order p ≡ Some i → slice_get t i ≡ Some n → ((k i : ℕ) → slice_get order k ≡ Some i → f i ≡ k) → m ≡ renumbered_node f n → RenumbersUpTo t order (u ++ m ∷ []) (p + 1)
   renumbers-more u p i n m f h e at places is = record {
     count = let longer = length-append u (m ∷ []) in let count = h.count in omega (arith, longer, count);
     each = λ k j l d. elim (below_more_cases k p l) [ inl same ↦ here k j same d | inr low ↦ before k j low d ];
   } where
-    before : (k j : ℕ) → k < p → slice_get order k ≡ Some j → (n : Node) × (slice_get t j ≡ Some n) × (slice_get (u ++ m ∷ []) k ≡ Some (renamed (place_in order) n))
-    before k j low d = let old = h.each k j low d in (old.0, old.1, slice_get-kept u (m ∷ []) k (renamed (place_in order) old.0) old.2)
+    before : (k j : ℕ) → k < p → slice_get order k ≡ Some j → (n : Node) × (slice_get t j ≡ Some n) × (slice_get (u ++ m ∷ []) k ≡ Some (renumbered_node (place_in order) n))
+    before k j low d = let old = h.each k j low d in (old.0, old.1, slice_get-kept u (m ∷ []) k (renumbered_node (place_in order) old.0) old.2)
 
-    here : (k j : ℕ) → k ≡ p → slice_get order k ≡ Some j → (n : Node) × (slice_get t j ≡ Some n) × (slice_get (u ++ m ∷ []) k ≡ Some (renamed (place_in order) n))
+    here : (k j : ℕ) → k ≡ p → slice_get order k ≡ Some j → (n : Node) × (slice_get t j ≡ Some n) × (slice_get (u ++ m ∷ []) k ≡ Some (renumbered_node (place_in order) n))
     here k j same d =
-        let number : i ≡ j = some_equal i j (sym e ∙ ap (slice_get order) (sym same) ∙ d) in (
+        let number : i ≡ j = same_Some i j (sym e ∙ ap (slice_get order) (sym same) ∙ d) in (
           n,
           subst (λ (x : ℕ). slice_get t x ≡ Some n) number at,
-          ap (slice_get (u ++ m ∷ [])) (same ∙ sym h.count) ∙ slice_get-seam u m ∙ ap Some (is ∙ renamed-places p i n e at f places),
+          ap (slice_get (u ++ m ∷ [])) (same ∙ sym h.count) ∙ slice_get-seam u m ∙ ap Some (is ∙ renumbered-places p i n e at f places),
         )
 
   pub renumbers-all : (u : List Node) (p : ℕ) → p ≤ length order → length order ≤ p → RenumbersUpTo t order u p → Renumbers t order u
   renumbers-all u p l m h = record {
     count = let count = h.count in omega (arith, count);
-    each = λ k i e. let r = h.each k i (let inside = slice_get_within order k i e in omega (arith, inside)) e in (r.0, r.1, r.2 ∙ ap Some (sym (renumbered_node-renamed (place_in order) r.0)));
+    each = λ k i e. let r = h.each k i (let inside = slice_get_within order k i e in omega (arith, inside)) e in (r.0, r.1, r.2);
   }
 
 -- ---- the same, as the loop reads it
 
-module _ (t : List Node) (root : ℕ) (order : List ℕ) (table : IsTable t) (is_order : IsOrder t root order) (p : ℕ) (l : p < length order) (n : Node) (read : n ≡ get_or t (get_or order p 0) n) where
+module _ (t : List Node) (order : List ℕ) (table : IsTable t) (is_order : IsOrder t order) (p : ℕ) (l : p < length order) (n : Node) (read : n ≡ get_or t (get_or order p 0) n) where
   number-at : slice_get order p ≡ Some (get_or order p 0)
   number-at = slice_get-get_or order p 0 l
 
@@ -225,12 +216,12 @@ module _ (t : List Node) (root : ℕ) (order : List ℕ) (table : IsTable t) (is
       let inside = is_order.within p (get_or order p 0) number-at in
       names_below-more (answers_of n) (get_or order p 0) k (omega (arith, inside, e)) ((table.nodes (get_or order p 0) n node-at).below)
 
-  module _ (places : List ℕ) (are_places : (k i : ℕ) → slice_get order k ≡ Some i → get_or places i 0 ≡ k) (m : Node) (is : m ≡ renumbered_node (λ j. get_or places j 0) n) (u : List Node) (so_far : RenumbersUpTo t order u p) where
+  module _ (places : List ℕ) (are_places : ArePlaces order places) (m : Node) (is : m ≡ renumbered_node (λ j. get_or places j 0) n) (u : List Node) (so_far : RenumbersUpTo t order u p) where
     pub node-next : IsNode m (length u)
     node-next =
         subst (λ (k : ℕ). IsNode m k) (sym so_far.count)
-        (subst (λ (x : Node). IsNode x p) (sym (is ∙ renumbered_node-renamed (λ j. get_or places j 0) n ∙ renamed-places t root order table is_order p (get_or order p 0) n number-at node-at (λ j. get_or places j 0) are_places))
-        (renamed-node t root order table is_order p (get_or order p 0) n number-at node-at))
+        (subst (λ (x : Node). IsNode x p) (sym (is ∙ renumbered-places t order table is_order p (get_or order p 0) n number-at node-at (λ j. get_or places j 0) are_places.placed))
+        (renumbered-node t order table is_order p (get_or order p 0) n number-at node-at))
 
     pub room-next : length u < MAX_NODES
     room-next =
@@ -242,4 +233,4 @@ module _ (t : List Node) (root : ℕ) (order : List ℕ) (table : IsTable t) (is
     pub renumbers-next : (v : List Node) → v ≡ u ++ m ∷ [] → RenumbersUpTo t order v (p + 1)
     renumbers-next v e =
         subst (λ (w : List Node). RenumbersUpTo t order w (p + 1)) (sym e)
-        (renumbers-more t root order table is_order u p (get_or order p 0) n m (λ j. get_or places j 0) so_far number-at node-at are_places (is ∙ renumbered_node-renamed (λ j. get_or places j 0) n))
+        (renumbers-more t order table is_order u p (get_or order p 0) n m (λ j. get_or places j 0) so_far number-at node-at are_places.placed (is))

@@ -4,6 +4,7 @@ use Rattle.std.specs.Prelude.{Option, Some, None, nat_le, nat_eq, slice_get, fol
 use Rattle.std.specs.List.{list_all, find, cons_option, range_with_len, AllByRecursion}
 use Rattle.std.specs.Option.{option_map_or, option_eq}
 use Rattle.std.proofs.lemmas.Bool.Decides.{Decides-eqb}
+use Rattle.std.proofs.lemmas.Option.{same_Some}
 use Rattle.std.proofs.lemmas.List.Sums.{sum_by-cons}
 use Rattle.game_rules.specs.declared.Point.{Point}
 use Rattle.strategy_graph.specs.declared.Node.{Node}
@@ -20,16 +21,13 @@ use Rattle.strategy_graph.proofs.Answering.{answer-below}
 use Rattle.strategy_compiler.proofs.Briefs.{answered-as-listed}
 use Rattle.strategy_compiler.proofs.Commonest.{commonest-there}
 use Rattle.strategy_compiler.specs.Trees.{Tree, Branches, Leaf, Fork, NoBranch, Branch, StandsFor, StandsForAll, IsBrief, replies_of, answers_to, commonest, times}
-use Rattle.strategy_compiler.specs.Walks.{AreDifferent, IsTableOf, completed_within, is_among, last, visits, visits_at}
+use Rattle.strategy_compiler.specs.Walks.{AreDifferent, IsTableOf, completed_within, is_in_list, last, visits, visits_at}
 
 cons-first : {X : Type 0} (x y : X) (xs ys : List X) → x ∷ xs ≡ y ∷ ys → x ≡ y
 cons-first x y xs ys e = cc
 
 cons-others : {X : Type 0} (x y : X) (xs ys : List X) → x ∷ xs ≡ y ∷ ys → xs ≡ ys
 cons-others x y xs ys e = cc
-
-some_equal : {X : Type 0} (x y : X) → Some x ≡ Some y → x ≡ y
-some_equal x y e = cc
 
 -- ---- lists that are related place by place
 
@@ -63,7 +61,7 @@ module _ (R : ℕ → ℕ → Type 0) where
     pub apart : (i i' j j' : ℕ) → R i j → R i' j' → (i == i') ≡ (j == j')
 
   module _ (one : TellsApart) where
-    among-pairs : (i j : ℕ) (is js : List ℕ) → R i j → Pairs R is js → is_among i is ≡ is_among j js
+    among-pairs : (i j : ℕ) (is js : List ℕ) → R i j → Pairs R is js → is_in_list i is ≡ is_in_list j js
     among-pairs i j _ _ r Ends = refl
     among-pairs i j _ _ r (Goes x y xs ys s p) = λ k. one.apart x i y j s r k || among-pairs i j xs ys r p k
 
@@ -423,7 +421,7 @@ module _ (u v : List Node) (tu : IsTable u) (tv : IsTable v) where
           let n' = left-node k one i' j' a' l' in
           let m = right-node k one i j a l in
           let m' = right-node k one i' j' a' l' in
-          let same : n.0 ≡ n'.0 = some_equal _ _ (sym n.1 ∙ ap (slice_get u) e ∙ n'.1) in
+          let same : n.0 ≡ n'.0 = same_Some _ _ (sym n.1 ∙ ap (slice_get u) e ∙ n'.1) in
           let equal : m.0 ≡ m'.0 =
           node-right (AlikeBelow i) (AlikeBelow i') (λ x y z r s. (Decides-eqb y z).0 (sym (one.apart x x y z (r.0, below x i k r.1 l) (s.0, below x i' k s.1 l')) ∙ (Decides-eqb x x).1 refl)) n.0 m.0 m'.0
           (node-pair k one i j a l) (subst (λ (x : Node). NodePair (AlikeBelow i') x m'.0) (sym same) (node-pair k one i' j' a' l')) in
@@ -435,7 +433,7 @@ module _ (u v : List Node) (tu : IsTable u) (tv : IsTable v) where
           let n' = left-node k one i' j' a' l' in
           let m = right-node k one i j a l in
           let m' = right-node k one i' j' a' l' in
-          let same : m.0 ≡ m'.0 = some_equal _ _ (sym m.1 ∙ ap (slice_get v) e ∙ m'.1) in
+          let same : m.0 ≡ m'.0 = same_Some _ _ (sym m.1 ∙ ap (slice_get v) e ∙ m'.1) in
           let equal : n.0 ≡ n'.0 =
           node-left (AlikeBelow i) (AlikeBelow i') (λ x y z r s. (Decides-eqb y z).0 (one.apart y z x x (r.0, below y i k r.1 l) (s.0, below z i' k s.1 l') ∙ (Decides-eqb x x).1 refl)) m.0 n.0 n'.0
           (node-pair k one i j a l) (subst (λ (x : Node). NodePair (AlikeBelow i') n'.0 x) (sym same) (node-pair k one i' j' a' l')) in
@@ -478,7 +476,7 @@ module _ (u v : List Node) (tu : IsTable u) (tv : IsTable v) where
     unfolding completed_within
     within-alike zero d e i j h p = p
     within-alike (suc k) d e i j h p =
-        by_test (is_among i d) (is_among j e) (among-pairs (Alike u v) alike-one i j d e h p)
+        by_test (is_in_list i d) (is_in_list j e) (among-pairs (Alike u v) alike-one i j d e h p)
         (pairs-append (Alike u v) _ _ (i ∷ []) (j ∷ [])
         (fold-pairs (Alike u v) (completed_within k u) (completed_within k v) (λ d e x y r q. within-alike k d e x y r q) (visits_at u i) (visits_at v j) d e (visits-alike i j h) p)
         (Goes i j [] [] h Ends)) where
@@ -498,7 +496,7 @@ ext-slice_get [] [] e h = refl
 ext-slice_get [] (m ∷ u) e h = absurd (omega (arith, e))
 ext-slice_get (n ∷ t) [] e h = absurd (omega (arith, e))
 ext-slice_get (n ∷ t) (m ∷ u) e h =
-    let first : n ≡ m = some_equal n m (h 0 (omega arith)) in
+    let first : n ≡ m = same_Some n m (h 0 (omega arith)) in
     let others : t ≡ u = ext-slice_get t u (omega (arith, e)) (λ i l. h (suc i) (omega arith)) in
     λ i. first i ∷ others i
 

@@ -1,9 +1,9 @@
--- The walk that completes nodes, step by step.
+-- The walks that complete nodes, step by step.
 use Rattle.std.proofs.Common.{◌≡◌, ◌≢◌, ℕ, zero, suc, ◌+◌, ◌<◌, ◌≤◌, Bool, true, false, cond, not, ◌||◌, ◌==◌, List, [], ◌∷◌, ◌++◌, map, reverse, length, take, drop, get_or, refl, sym, ap, subst, ◌∙◌, ◌⊎◌, inl, inr, arith, drop-cons, add-one, length-append}
 use Rattle.std.specs.Prelude.{Option, Some, None, nat_lt, slice_get, fold, replicate, Contains, All}
-use Rattle.std.specs.List.{list_all, find, sum_by}
+use Rattle.std.specs.List.{list_all, find}
 use Rattle.std.specs.Option.{option_map_or}
-use Rattle.std.proofs.lemmas.Option.{slice_get_within, slice_get_read}
+use Rattle.std.proofs.lemmas.Option.{slice_get_within, slice_get_read, same_Some}
 use Rattle.std.proofs.lemmas.List.{take-append-le}
 use Rattle.std.proofs.lemmas.List.Elements.{Contains-append_cases, Contains-append_left, Contains-append_right}
 use Rattle.std.proofs.Math.Seq.{take-append_seam}
@@ -18,9 +18,9 @@ use Rattle.strategy_graph.specs.declared.Reply.{Reply}
 use Rattle.strategy_graph.specs.Tables.{Answers, answers_of, named, names_below, rest_nodes, NamesLower}
 use Rattle.strategy_graph.proofs.Naming.{reply-below}
 use Rattle.strategy_graph.proofs.Growth.{names_below-more}
-use Rattle.strategy_compiler.specs.Walks.{visits, visits_at, is_among, completed, IsOrder, Reaches, Itself, Through, GrowthKeepsReach}
-use Rattle.strategy_compiler.proofs.Standing.{slice_get-longer}
-use Rattle.strategy_compiler.proofs.Completing.{among-push, among-last, among-other, walked, walked-first, walked-last}
+use Rattle.strategy_compiler.specs.Walks.{visits, visits_at, is_in_list, completed_after}
+use Rattle.strategy_compiler.specs.Orders.{IsOrder, Flags, unset, IsBetween}
+use Rattle.strategy_compiler.proofs.Completing.{among-push, among-last, among-other, walked-done, walked-first, walked-last}
 use borrow.Author.Tests.{ltb-true, lt-ltb}
 
 -- ---- the first that passes, of those that are left
@@ -45,10 +45,6 @@ or_no : (b : Bool) → (b || false) ≡ b
 or_no true = refl
 or_no false = refl
 
--- how many flags are not set
-abbrev pub unset : List Bool → ℕ
-unset flags = sum_by (λ b. cond b 0 1) flags
-
 pub unset-replicate : (n : ℕ) → unset (replicate n false) ≡ n
 unset-replicate n = let all = sum_by-replicate (λ (b : Bool). cond b 0 1) n false in omega (arith, all)
 
@@ -57,10 +53,6 @@ unset-set flags i l h =
     let both : unset (set flags i true) + cond (get_or flags i false) 0 1 ≡ unset flags + 0 = sum_by-set (λ (b : Bool). cond b 0 1) flags i true false l in
     let was : cond (get_or flags i false) 0 1 ≡ suc 0 = ap (λ (b : Bool). cond b 0 1) h in
     omega (arith, both, was)
-
--- each flag tells whether its number is in the list
-pub record Flags (flags : List Bool) (order : List ℕ) : Type 0 where
-  pub flagged : (j : ℕ) → get_or flags j false ≡ is_among j order
 
 get_or-none : (n j : ℕ) → get_or (replicate n false) j false ≡ false
 get_or-none zero j = refl
@@ -72,43 +64,39 @@ Flags-none n = record { flagged = get_or-none n }
 
 pub Flags-push : (flags : List Bool) (order : List ℕ) (i : ℕ) → i < length flags → Flags flags order → Flags (set flags i true) (order ++ i ∷ [])
 Flags-push flags order i l h = record { flagged = λ j. by_test (i == j) j refl } where
-  by_test : (b : Bool) (j : ℕ) → (i == j) ≡ b → get_or (set flags i true) j false ≡ is_among j (order ++ i ∷ [])
+  by_test : (b : Bool) (j : ℕ) → (i == j) ≡ b → get_or (set flags i true) j false ≡ is_in_list j (order ++ i ∷ [])
   by_test true j e =
       let same : i ≡ j = (Decides-eqb i j).0 e in
-      subst (λ (k : ℕ). get_or (set flags i true) k false ≡ is_among k (order ++ i ∷ [])) same (get_or-set_same flags i true false l ∙ sym (among-last i order))
+      subst (λ (k : ℕ). get_or (set flags i true) k false ≡ is_in_list k (order ++ i ∷ [])) same (get_or-set_same flags i true false l ∙ sym (among-last i order))
   by_test false j e =
       let other : j ≢ i = λ (s : j ≡ i). cc (e, (Decides-eqb i j).1 (sym s)) in
-      get_or-set_other flags i j true false other ∙ h.flagged j ∙ sym (among-push j i order ∙ ap (λ (b : Bool). is_among j order || b) e ∙ or_no (is_among j order))
+      get_or-set_other flags i j true false other ∙ h.flagged j ∙ sym (among-push j i order ∙ ap (λ (b : Bool). is_in_list j order || b) e ∙ or_no (is_in_list j order))
 
 -- the first of these that has no flag is the first that is not in the list
-pub first-flags : (flags : List Bool) (order : List ℕ) (js : List ℕ) → Flags flags order → find (λ j. not (get_or flags j false)) js ≡ find (λ j. not (is_among j order)) js
+pub first-flags : (flags : List Bool) (order : List ℕ) (js : List ℕ) → Flags flags order → find (λ j. not (get_or flags j false)) js ≡ find (λ j. not (is_in_list j order)) js
 first-flags flags order js h = ap (λ (p : ℕ → Bool). find p js) (λ i j. not (h.flagged j i))
 
 -- ---- the way from the root to where the walk is, the last node first
 
-abbrev pub IsWay : List Node → ℕ → List ℕ → List ℕ → Type 0
-IsWay t root order [] = Unit {0}
-IsWay t root order (x ∷ xs) = (x < length t) × (is_among x order ≡ false) × (list_all (λ y. nat_lt x y) xs ≡ true) × Reaches t root x × IsWay t root order xs
+abbrev pub IsWay : List Node → List ℕ → List ℕ → Type 0
+IsWay t order [] = Unit {0}
+IsWay t order (x ∷ xs) = (x < length t) × (is_in_list x order ≡ false) × (list_all (λ y. nat_lt x y) xs ≡ true) × IsWay t order xs
 
 -- the number of the last, or 0
 abbrev pub front : List ℕ → ℕ
 front [] = 0
 front (x ∷ xs) = x
 
-way-push : (t : List Node) (root : ℕ) (order xs : List ℕ) (x : ℕ) → list_all (λ y. nat_lt x y) xs ≡ true → IsWay t root order xs → IsWay t root (order ++ x ∷ []) xs
-way-push t root order [] x l h = tt
-way-push t root order (y ∷ ys) x l h =
-    (h.0, among-other y x order (ltb-true _ _ (and_left (nat_lt x y) _ l)) ∙ h.1, h.2, h.3, way-push t root order ys x (and_right (nat_lt x y) _ l) h.4)
+way-push : (t : List Node) (order xs : List ℕ) (x : ℕ) → list_all (λ y. nat_lt x y) xs ≡ true → IsWay t order xs → IsWay t (order ++ x ∷ []) xs
+way-push t order [] x l h = tt
+way-push t order (y ∷ ys) x l h =
+    (h.0, among-other y x order (ltb-true _ _ (and_left (nat_lt x y) _ l)) ∙ h.1, h.2, way-push t order ys x (and_right (nat_lt x y) _ l) h.3)
 
 all_above : (c x : ℕ) (xs : List ℕ) → c < x → list_all (λ y. nat_lt x y) xs ≡ true → list_all (λ y. nat_lt c y) xs ≡ true
 all_above c x [] l h = refl
 all_above c x (y ∷ ys) l h =
     let above : x < y = ltb-true _ _ (and_left (nat_lt x y) _ h) in
     rw (lt-ltb c y (omega arith)) (all_above c x ys l (and_right (nat_lt x y) _ h))
-
-pub front-below : (t : List Node) (root : ℕ) (order xs : List ℕ) → 0 < length t → IsWay t root order xs → front xs < length t
-front-below t root order [] l h = l
-front-below t root order (x ∷ xs) l h = h.0
 
 -- ---- what a number finds
 
@@ -139,62 +127,46 @@ named-visited a j c = swapped (map (λ r. r.next) a.replies) (rest_nodes a.rest)
 
 -- ---- the order so far
 
-some_equal : {X : Type 0} (x y : X) → Some x ≡ Some y → x ≡ y
-some_equal x y e = cc
-
 le_of_lt : (k n : ℕ) → k < n → k ≤ n
 le_of_lt k n l = omega arith
 
--- each is a node that the root reaches, comes once, and comes after all that it names
-pub record IsPartOrder (t : List Node) (root : ℕ) (order : List ℕ) : Type 0 where
-  pub within : (k i : ℕ) → slice_get order k ≡ Some i → i < length t
-  pub once : (k l i : ℕ) → slice_get order k ≡ Some i → slice_get order l ≡ Some i → k ≡ l
-  pub after_named : (k i j : ℕ) (n : Node) → slice_get order k ≡ Some i → slice_get t i ≡ Some n → Contains (named (answers_of n)) j → is_among j (take k order) ≡ true
-  pub reached : (k i : ℕ) → slice_get order k ≡ Some i → Reaches t root i
-
-part-none : (t : List Node) (root : ℕ) → IsPartOrder t root []
-part-none t root = record { within = λ k i e. cc; once = λ k l i e f. cc; after_named = λ k i j n e f c. cc; reached = λ k i e. cc }
+order-none : (t : List Node) → IsOrder t []
+order-none t = record { within = λ k i e. cc; once = λ k l i e f. cc; after_named = λ k i j n e f c. cc; short = omega arith }
 
 -- a place of a longer list is one of the shorter, or the last
 pub at-push : {X : Type 0} (xs : List X) (x y : X) (k : ℕ) → slice_get (xs ++ x ∷ []) k ≡ Some y → (slice_get xs k ≡ Some y) ⊎ ((k ≡ length xs) × (x ≡ y))
-at-push [] x y zero e = inr (refl, some_equal x y e)
+at-push [] x y zero e = inr (refl, same_Some x y e)
 at-push [] x y (suc k) e = cc
 at-push (z ∷ xs) x y zero e = inl e
 at-push (z ∷ xs) x y (suc k) e = elim (at-push xs x y k e) [ inl h ↦ inl h | inr h ↦ inr (ap suc h.0, h.1) ]
 
-pub among-at : (order : List ℕ) (k i : ℕ) → slice_get order k ≡ Some i → is_among i order ≡ true
+pub among-at : (order : List ℕ) (k i : ℕ) → slice_get order k ≡ Some i → is_in_list i order ≡ true
 among-at [] k i e = cc
-among-at (x ∷ xs) zero i e = let same : x ≡ i = some_equal x i e in ap (λ (b : Bool). b || is_among i xs) ((Decides-eqb x i).1 same)
-among-at (x ∷ xs) (suc k) i e = or_true (x == i) (is_among i xs) (among-at xs k i e) where
+among-at (x ∷ xs) zero i e = let same : x ≡ i = same_Some x i e in ap (λ (b : Bool). b || is_in_list i xs) ((Decides-eqb x i).1 same)
+among-at (x ∷ xs) (suc k) i e = or_true (x == i) (is_in_list i xs) (among-at xs k i e) where
   or_true : (a b : Bool) → b ≡ true → (a || b) ≡ true
   or_true true b h = refl
   or_true false b h = h
 
-module _ (t : List Node) (root : ℕ) (order : List ℕ) (x : ℕ) (part : IsPartOrder t root order) (inside : x < length t) (new : is_among x order ≡ false) (reached : Reaches t root x) (named_before : (n : Node) (j : ℕ) → slice_get t x ≡ Some n → Contains (named (answers_of n)) j → is_among j order ≡ true) where
+module _ (t : List Node) (order : List ℕ) (x : ℕ) (is_order : IsOrder t order) (inside : x < length t) (new : is_in_list x order ≡ false) (room : length (order ++ x ∷ []) ≤ length t) (named_before : (n : Node) (j : ℕ) → slice_get t x ≡ Some n → Contains (named (answers_of n)) j → is_in_list j order ≡ true) where
   not_before : (k : ℕ) → slice_get order k ≡ Some x → ⊥
   not_before k e = cc (among-at order k x e, new)
 
-  part-push : IsPartOrder t root (order ++ x ∷ [])
-  part-push = record {
-    within = λ k i e. elim (at-push order x i k e) [ inl h ↦ part.within k i h | inr h ↦ subst (λ (y : ℕ). y < length t) h.1 inside ];
+  order-push : IsOrder t (order ++ x ∷ [])
+  order-push = record {
+    within = λ k i e. elim (at-push order x i k e) [ inl h ↦ is_order.within k i h | inr h ↦ subst (λ (y : ℕ). y < length t) h.1 inside ];
     once = λ k l i e f. both k l i (at-push order x i k e) (at-push order x i l f);
     after_named = λ k i j n e f c. elim (at-push order x i k e) [
-      | inl h ↦ rw (take-append-le k order (x ∷ []) (le_of_lt k (length order) (slice_get_within order k i h))) (part.after_named k i j n h f c)
-      | inr h ↦ subst (λ (m : ℕ). is_among j (take m (order ++ x ∷ [])) ≡ true) (sym h.0) (rw (take-append_seam order (x ∷ [])) (named_before n j (subst (λ (y : ℕ). slice_get t y ≡ Some n) (sym h.1) f) c))
+      | inl h ↦ rw (take-append-le k order (x ∷ []) (le_of_lt k (length order) (slice_get_within order k i h))) (is_order.after_named k i j n h f c)
+      | inr h ↦ subst (λ (m : ℕ). is_in_list j (take m (order ++ x ∷ [])) ≡ true) (sym h.0) (rw (take-append_seam order (x ∷ [])) (named_before n j (subst (λ (y : ℕ). slice_get t y ≡ Some n) (sym h.1) f) c))
     ];
-    reached = λ k i e. elim (at-push order x i k e) [ inl h ↦ part.reached k i h | inr h ↦ subst (Reaches t root) h.1 reached ];
+    short = room;
   } where
     both : (k l i : ℕ) → (slice_get order k ≡ Some i) ⊎ ((k ≡ length order) × (x ≡ i)) → (slice_get order l ≡ Some i) ⊎ ((l ≡ length order) × (x ≡ i)) → k ≡ l
-    both k l i (inl e) (inl f) = part.once k l i e f
+    both k l i (inl e) (inl f) = is_order.once k l i e f
     both k l i (inl e) (inr f) = absurd (not_before k (e ∙ ap Some (sym f.1)))
     both k l i (inr e) (inl f) = absurd (not_before l (f ∙ ap Some (sym e.1)))
     both k l i (inr e) (inr f) = e.0 ∙ sym f.0
-
--- ---- what the root reaches
-
-pub reaches-then : (t : List Node) (i j k : ℕ) (n : Node) → Reaches t i j → slice_get t j ≡ Some n → Contains (named (answers_of n)) k → Reaches t i k
-reaches-then t _ _ k n (Itself i) at c = Through i k k n at c (Itself k)
-reaches-then t _ _ k n (Through i l j m e d r) at c = Through i l k m e d (reaches-then t l j k n r at c)
 
 -- ---- the walk
 
@@ -205,7 +177,7 @@ found-not p (j ∷ js) c h = by_test (p j) refl h (found-not p js c) where
   by_test true e h next = next h
   by_test false e h next = let same : j ≡ c = cc in subst (λ (k : ℕ). p k ≡ false) same e
 
-lt_trans : (a b c : ℕ) → a < b → b < c → a < c
+pub lt_trans : (a b c : ℕ) → a < b → b < c → a < c
 lt_trans a b c h k = omega arith
 
 all-contains : (p : ℕ → Bool) (js : List ℕ) (j : ℕ) → list_all p js ≡ true → Contains js j → p j ≡ true
@@ -217,112 +189,96 @@ all-contains p (x ∷ xs) j h (suc k, l, e) = all-contains p xs j (and_right (p 
 pub named-below : (t : List Node) → NamesLower t → (i : ℕ) (n : Node) → slice_get t i ≡ Some n → (j : ℕ) → Contains (named (answers_of n)) j → j < i
 named-below t lower i n at j c = ltb-true _ _ (all-contains (λ j. nat_lt j i) (named (answers_of n)) j (lower.lower i n at) c)
 
--- the flags are those of the order so far, and what is ahead of the walk ends at the whole order
-pub record IsWalk (t : List Node) (root : ℕ) (flags : List Bool) (order way : List ℕ) : Type 0 where
-  pub sized : length flags ≡ length t
-  pub flags_are : Flags flags order
-  pub counted : length order + unset flags ≡ length t
-  pub ahead : fold (walked t) order way ≡ completed t root
-  pub part : IsPartOrder t root order
-  pub on_way : IsWay t root order way
+-- what is completed has its flag, and what is ahead of the walk ends at the whole order
+pub record IsWalk (t : List Node) (whole : List ℕ) (flags : List Bool) (order way : List ℕ) : Type 0 where
+  pub so_far : IsBetween t order flags
+  pub ahead : fold (completed_after t) order way ≡ whole
+  pub on_way : IsWay t order way
 
-module _ (t : List Node) (root : ℕ) where
-  pub walk-start : (n : ℕ) → n ≡ length t → root < length t → IsWalk t root (replicate n false) [] (root ∷ [])
-  unfolding walked
-  walk-start n e l =
-      let zeros = unset-replicate n in
-      record {
-        sized = length-replicate n false ∙ e;
-        flags_are = Flags-none n;
-        counted = omega (arith, e, zeros);
-        ahead = refl;
-        part = part-none t root;
-        on_way = (l, refl, refl, Itself root, tt);
-      }
+-- before the first walk, and the start of each
+pub none-between : (t : List Node) (flags : List Bool) → flags ≡ replicate (length t) false → IsBetween t [] flags
+none-between t flags e = let zeros = unset-replicate (length t) in rw e (record {
+  order_is = order-none t;
+  sized = length-replicate (length t) false;
+  flags_are = Flags-none (length t);
+  counted = omega (arith, zeros);
+})
 
-  module _ (lower : NamesLower t) (flags : List Bool) (order xs : List ℕ) (x : ℕ) (n : Node) (walk : IsWalk t root flags order (x ∷ xs)) (at : slice_get t x ≡ Some n) where
+module _ (t : List Node) (whole : List ℕ) where
+  pub walk-start : (flags : List Bool) (order : List ℕ) (root : ℕ) → IsBetween t order flags → root < length t → is_in_list root order ≡ false → completed_after t order root ≡ whole → IsWalk t whole flags order (root ∷ [])
+  walk-start flags order root between l new is = record { so_far = between; ahead = is; on_way = (l, new, refl, tt) }
+
+  module _ (lower : NamesLower t) (flags : List Bool) (order xs : List ℕ) (x : ℕ) (n : Node) (walk : IsWalk t whole flags order (x ∷ xs)) (at : slice_get t x ≡ Some n) where
     visits-is : visits_at t x ≡ visits (answers_of n)
     visits-is = ap (λ (o : Option Node). option_map_or (λ n. visits (answers_of n)) o []) at
 
     -- on to a node that is not completed
     module _ (c : ℕ) (first : find (λ j. not (get_or flags j false)) (visits (answers_of n)) ≡ Some c) where
-      first-among : find (λ j. not (is_among j order)) (visits (answers_of n)) ≡ Some c
-      first-among = sym (first-flags flags order (visits (answers_of n)) walk.flags_are) ∙ first
+      first-among : find (λ j. not (is_in_list j order)) (visits (answers_of n)) ≡ Some c
+      first-among = sym (first-flags flags order (visits (answers_of n)) walk.so_far.flags_are) ∙ first
 
       c-named : Contains (named (answers_of n)) c
-      c-named = visited-named (answers_of n) c (found-in (λ j. not (is_among j order)) (visits (answers_of n)) c first-among)
+      c-named = visited-named (answers_of n) c (found-in (λ j. not (is_in_list j order)) (visits (answers_of n)) c first-among)
 
       pub c-below : c < x
       c-below = named-below t lower x n at c c-named
 
-      pub walk-push : IsWalk t root flags order (c ∷ x ∷ xs)
+      pub walk-push : IsWalk t whole flags order (c ∷ x ∷ xs)
       walk-push =
           let way = walk.on_way in
           record {
-            sized = walk.sized;
-            flags_are = walk.flags_are;
-            counted = walk.counted;
+            so_far = walk.so_far;
             ahead =
-                ap (λ (d : List ℕ). fold (walked t) d xs)
-                (walked-first t lower order x c way.1 c-below (ap (find (λ j. not (is_among j order))) visits-is ∙ first-among))
+                ap (λ (d : List ℕ). fold (completed_after t) d xs)
+                (walked-first t lower order x c way.1 c-below (ap (find (λ j. not (is_in_list j order))) visits-is ∙ first-among))
                 ∙ walk.ahead;
-            part = walk.part;
-            on_way = (lt_trans c x (length t) c-below way.0, found-not (λ j. is_among j order) (visits (answers_of n)) c first-among, rw (lt-ltb c x c-below) (all_above c x xs c-below way.2), reaches-then t root x c n way.3 at c-named, way);
+            on_way = (lt_trans c x (length t) c-below way.0, found-not (λ j. is_in_list j order) (visits (answers_of n)) c first-among, rw (lt-ltb c x c-below) (all_above c x xs c-below way.2), way);
           }
 
     -- and back where it is completed
     module _ (none : find (λ j. not (get_or flags j false)) (visits (answers_of n)) ≡ None) where
-      none-among : find (λ j. not (is_among j order)) (visits (answers_of n)) ≡ None
-      none-among = sym (first-flags flags order (visits (answers_of n)) walk.flags_are) ∙ none
+      none-among : find (λ j. not (is_in_list j order)) (visits (answers_of n)) ≡ None
+      none-among = sym (first-flags flags order (visits (answers_of n)) walk.so_far.flags_are) ∙ none
 
       x-flag : get_or flags x false ≡ false
-      x-flag = walk.flags_are.flagged x ∙ walk.on_way.1
+      x-flag = walk.so_far.flags_are.flagged x ∙ walk.on_way.1
 
       pub x-inside : x < length flags
-      x-inside = let sized = walk.sized in let low = walk.on_way.0 in omega (arith, sized, low)
+      x-inside = let sized = walk.so_far.sized in let low = walk.on_way.0 in omega (arith, sized, low)
 
       pub unset-less : unset (set flags x true) + 1 ≡ unset flags
       unset-less = unset-set flags x x-inside x-flag
 
-      pub walk-complete : IsWalk t root (set flags x true) (order ++ x ∷ []) xs
+      pub walk-complete : IsWalk t whole (set flags x true) (order ++ x ∷ []) xs
       walk-complete =
           let way = walk.on_way in
-          let sized = walk.sized in
-          let counted = walk.counted in
+          let counted = walk.so_far.counted in
           let less = unset-less in
           let longer : length (order ++ x ∷ []) ≡ length order + 1 = length-append order (x ∷ []) in
           record {
-            sized = length-set flags x true ∙ walk.sized;
-            flags_are = Flags-push flags order x x-inside walk.flags_are;
-            counted = omega (arith, counted, less, longer);
+            so_far = record {
+              order_is = order-push t order x walk.so_far.order_is way.0 way.1 (omega (arith, counted, less, longer))
+                  (λ m j e c. none-left (λ j. is_in_list j order) (visits (answers_of n)) j none-among
+                  (named-visited (answers_of n) j (subst (λ (o : Node). Contains (named (answers_of o)) j) (same_Some m n (sym e ∙ at)) c)));
+              sized = length-set flags x true ∙ walk.so_far.sized;
+              flags_are = Flags-push flags order x x-inside walk.so_far.flags_are;
+              counted = omega (arith, counted, less, longer);
+            };
             ahead =
-                ap (λ (d : List ℕ). fold (walked t) d xs)
-                (sym (walked-last t lower order x way.1 (ap (find (λ j. not (is_among j order))) visits-is ∙ none-among)))
+                ap (λ (d : List ℕ). fold (completed_after t) d xs)
+                (sym (walked-last t lower order x way.1 (ap (find (λ j. not (is_in_list j order))) visits-is ∙ none-among)))
                 ∙ walk.ahead;
-            part = part-push t root order x walk.part way.0 way.1 way.3
-                (λ m j e c. none-left (λ j. is_among j order) (visits (answers_of n)) j none-among
-                (named-visited (answers_of n) j (subst (λ (o : Node). Contains (named (answers_of o)) j) (some_equal m n (sym e ∙ at)) c)));
-            on_way = way-push t root order xs x way.2 way.4;
+            on_way = way-push t order xs x way.2 way.3;
           }
-
-  pub walk-end : (flags : List Bool) (order : List ℕ) → IsWalk t root flags order [] → IsOrder t root order
-  walk-end flags order walk = record {
-    by_walk = walk.ahead;
-    within = walk.part.within;
-    once = walk.part.once;
-    after_named = walk.part.after_named;
-    reached = walk.part.reached;
-    short = let counted = walk.counted in omega (arith, counted);
-  }
 
 -- ---- the way as the list that is kept, the last node last
 
 pub way-last : (path before : List ℕ) (x : ℕ) → path ≡ before ++ x ∷ [] → reverse path ≡ x ∷ reverse before
 way-last path before x e = ap reverse e ∙ reverse-append before (x ∷ [])
 
-module _ (t : List Node) (root : ℕ) (flags : List Bool) (order path before : List ℕ) (x : ℕ) (n : Node) (walk : IsWalk t root flags order (reverse path)) (e : path ≡ before ++ x ∷ []) where
-  pub walk-at : IsWalk t root flags order (x ∷ reverse before)
-  walk-at = subst (IsWalk t root flags order) (way-last path before x e) walk
+module _ (t : List Node) (whole : List ℕ) (flags : List Bool) (order path before : List ℕ) (x : ℕ) (n : Node) (walk : IsWalk t whole flags order (reverse path)) (e : path ≡ before ++ x ∷ []) where
+  pub walk-at : IsWalk t whole flags order (x ∷ reverse before)
+  walk-at = subst (IsWalk t whole flags order) (way-last path before x e) walk
 
   pub x-in-table : x < length t
   x-in-table = walk-at.on_way.0
@@ -333,49 +289,33 @@ module _ (t : List Node) (root : ℕ) (flags : List Bool) (order path before : L
 
     pub named-in-flags : names_below (answers_of n) (length flags') ≡ true
     named-in-flags =
-        let sized : length flags' ≡ length t = ap length same ∙ walk-at.sized in
+        let sized : length flags' ≡ length t = ap length same ∙ walk-at.so_far.sized in
         let inside : x < length t = x-in-table in
         names_below-more (answers_of n) x (length flags') (omega arith) (lower.lower x n at)
 
-    pub path-push : (c : ℕ) (path' path'' : List ℕ) → Some c ≡ find (λ j. not (get_or flags' j false)) (visits (answers_of n)) → path' ≡ before ++ x ∷ [] → path'' ≡ path' ++ c ∷ [] → IsWalk t root flags order (reverse path'')
+    pub path-push : (c : ℕ) (path' path'' : List ℕ) → Some c ≡ find (λ j. not (get_or flags' j false)) (visits (answers_of n)) → path' ≡ before ++ x ∷ [] → path'' ≡ path' ++ c ∷ [] → IsWalk t whole flags order (reverse path'')
     path-push c path' path'' first e' e'' =
-        subst (IsWalk t root flags order) (sym (way-last path'' path' c e'' ∙ ap (λ (xs : List ℕ). c ∷ xs) (way-last path' before x e')))
-        (walk-push t root lower flags order (reverse before) x n walk-at at c (ap (λ (fs : List Bool). find (λ j. not (get_or fs j false)) (visits (answers_of n))) (sym same) ∙ sym first))
+        subst (IsWalk t whole flags order) (sym (way-last path'' path' c e'' ∙ ap (λ (xs : List ℕ). c ∷ xs) (way-last path' before x e')))
+        (walk-push t whole lower flags order (reverse before) x n walk-at at c (ap (λ (fs : List Bool). find (λ j. not (get_or fs j false)) (visits (answers_of n))) (sym same) ∙ sym first))
 
     pub path-push-lower : (c m : ℕ) (path' path'' : List ℕ) → Some c ≡ find (λ j. not (get_or flags' j false)) (visits (answers_of n)) → path' ≡ before ++ x ∷ [] → path'' ≡ path' ++ c ∷ [] → m + front (reverse path'') < m + front (reverse path)
     path-push-lower c m path' path'' first e' e'' =
-        let low : c < x = c-below t root lower flags order (reverse before) x n walk-at at c (ap (λ (fs : List Bool). find (λ j. not (get_or fs j false)) (visits (answers_of n))) (sym same) ∙ sym first) in
+        let low : c < x = c-below t whole lower flags order (reverse before) x n walk-at at c (ap (λ (fs : List Bool). find (λ j. not (get_or fs j false)) (visits (answers_of n))) (sym same) ∙ sym first) in
         let now : front (reverse path'') ≡ c = ap front (way-last path'' path' c e'') in
         let was : front (reverse path) ≡ x = ap front (way-last path before x e) in
         omega (arith, low, now, was)
 
-    pub path-complete : (order' : List ℕ) → None ≡ find (λ j. not (get_or flags' j false)) (visits (answers_of n)) → order' ≡ order ++ x ∷ [] → IsWalk t root (set flags x true) order' (reverse before)
+    pub path-complete : (order' : List ℕ) → None ≡ find (λ j. not (get_or flags' j false)) (visits (answers_of n)) → order' ≡ order ++ x ∷ [] → IsWalk t whole (set flags x true) order' (reverse before)
     path-complete order' none e' =
-        subst (λ (o : List ℕ). IsWalk t root (set flags x true) o (reverse before)) (sym e')
-        (walk-complete t root lower flags order (reverse before) x n walk-at at (ap (λ (fs : List Bool). find (λ j. not (get_or fs j false)) (visits (answers_of n))) (sym same) ∙ sym none))
+        subst (λ (o : List ℕ). IsWalk t whole (set flags x true) o (reverse before)) (sym e')
+        (walk-complete t whole lower flags order (reverse before) x n walk-at at (ap (λ (fs : List Bool). find (λ j. not (get_or fs j false)) (visits (answers_of n))) (sym same) ∙ sym none))
 
-pub path-start : (t : List Node) (root : ℕ) (flags : List Bool) (order empty path : List ℕ) → root < length t → flags ≡ replicate (length t) false → order ≡ [] → empty ≡ [] → path ≡ empty ++ root ∷ [] → IsWalk t root flags order (reverse path)
-path-start t root flags order empty path l f o e p =
-    subst (IsWalk t root flags order) (sym (way-last path empty root p ∙ ap (λ (xs : List ℕ). root ∷ reverse xs) e))
-    (subst (λ (fs : List Bool). IsWalk t root fs order (root ∷ [])) (sym f)
-    (subst (λ (os : List ℕ). IsWalk t root (replicate (length t) false) os (root ∷ [])) (sym o) (walk-start t root (length t) refl l)))
+-- the first step of a walk from a root that is not completed
+pub path-start : (t : List Node) (flags : List Bool) (order : List ℕ) (root : ℕ) (empty path : List ℕ) → IsBetween t order flags → root < length t → get_or flags root false ≡ false → empty ≡ [] → path ≡ empty ++ root ∷ [] → IsWalk t (completed_after t order root) flags order (reverse path)
+path-start t flags order root empty path between l unset e p =
+    subst (IsWalk t (completed_after t order root) flags order) (sym (way-last path empty root p ∙ ap (λ (xs : List ℕ). root ∷ reverse xs) e))
+    (walk-start t (completed_after t order root) flags order root between l (sym (between.flags_are.flagged root) ∙ unset) refl)
 
--- ---- what a node reaches, however the table grows
-
-slice_get-shorter : (t more : List Node) (i : ℕ) (n : Node) → i < length t → slice_get (t ++ more) i ≡ Some n → slice_get t i ≡ Some n
-slice_get-shorter [] more i n l h = absurd (omega arith)
-slice_get-shorter (m ∷ t) more zero n l h = h
-slice_get-shorter (m ∷ t) more (suc i) n l h = slice_get-shorter t more i n (omega arith) h
-
-pub reaches-longer : (t more : List Node) (i k : ℕ) → Reaches t i k → Reaches (t ++ more) i k
-reaches-longer t more _ _ (Itself i) = Itself i
-reaches-longer t more _ _ (Through i j k n at c r) = Through i j k n (slice_get-longer t more i n at) c (reaches-longer t more j k r)
-
-pub reaches-shorter : (t more : List Node) → NamesLower t → (i k : ℕ) → i < length t → Reaches (t ++ more) i k → Reaches t i k
-reaches-shorter t more lower _ _ l (Itself i) = Itself i
-reaches-shorter t more lower _ _ l (Through i j k n at c r) =
-    let here = slice_get-shorter t more i n l at in
-    Through i j k n here c (reaches-shorter t more lower j k (lt_trans j i (length t) (named-below t lower i n here j c) l) r)
-
-pub growth_keeps-reach : GrowthKeepsReach
-growth_keeps-reach t more lower i k l = (reaches-shorter t more lower i k l, reaches-longer t more i k)
+-- a walk from a root that is completed
+pub path-none : (t : List Node) (flags : List Bool) (order : List ℕ) (root : ℕ) → NamesLower t → IsBetween t order flags → get_or flags root false ≡ true → order ≡ completed_after t order root
+path-none t flags order root lower between set = sym (walked-done t lower order root (sym (between.flags_are.flagged root) ∙ set))

@@ -1,3 +1,5 @@
 pub mod Trees
 pub mod Walks
+pub mod Orders
 pub mod Nodes
+pub mod Wins

@@ -1,13 +1,10 @@
--- Walks over the nodes of a table: what a node reaches, the order in which a walk completes nodes, and the table of a tree.
-use Rattle.std.specs.Prelude.{◌≡◌, ◌↔◌, ℕ, zero, suc, ◌-◌, ◌<◌, ◌≤◌, ◌==◌, if◌then◌else◌, List, [], ◌∷◌, ◌++◌, map, fold, length, take, Bool, true, All, Contains, Some, slice_get}
+-- Walks over the nodes of a table: what nodes reach, the order in which walks complete nodes, and the table of a tree.
+use Rattle.std.specs.Prelude.{◌≡◌, ◌↔◌, ℕ, zero, suc, ◌-◌, ◌<◌, ◌==◌, if◌then◌else◌, List, [], ◌∷◌, ◌++◌, map, fold, length, Bool, Contains, Some, slice_get}
 use Rattle.std.specs.List.{list_any, position_or_len, range_with_len}
 use Rattle.std.specs.Option.{option_map_or}
-use Rattle.strategy_graph.specs.declared.Reply.{Reply}
-use Rattle.strategy_graph.specs.declared.Rest.{Rest}
-use Rattle.strategy_graph.specs.declared.Rest.TheVariants.{Wins, To, Nothing}
 use Rattle.strategy_graph.specs.declared.Node.{Node}
+use Rattle.strategy_graph.specs.Renumbered.{renumbered_node}
 use Rattle.strategy_graph.specs.Tables.{Answers, answers_of, rest_nodes, named, NamesLower, IsTable}
-use Rattle.strategy_graph.specs.Laws.{SaysSame}
 use Rattle.strategy_compiler.specs.Trees.{Tree, StandsFor}
 
 -- no two nodes are equal
@@ -28,14 +25,22 @@ abbrev pub visits_at : List Node → ℕ → List ℕ
 visits_at t i = option_map_or (λ n. visits (answers_of n)) (slice_get t i) []
 
 -- whether the number is in the list
-abbrev pub is_among : ℕ → List ℕ → Bool
-is_among i js = list_any (λ j. j == i) js
+abbrev pub is_in_list : ℕ → List ℕ → Bool
+is_in_list i js = list_any (λ j. j == i) js
 
 -- The numbers of the nodes that are completed once a walk from node i ends, in the order of completion, where those of
 -- `completed` were before it and at most so many nodes follow one another. A node is completed once all that it names are.
 unfoldable pub completed_within : ℕ → List Node → List ℕ → ℕ → List ℕ
 completed_within zero t done i = done
-completed_within (suc f) t done i = if is_among i done then done else fold (completed_within f t) done (visits_at t i) ++ i ∷ []
+completed_within (suc f) t done i = if is_in_list i done then done else fold (completed_within f t) done (visits_at t i) ++ i ∷ []
+
+-- the numbers of the nodes that are completed once a walk from node i ends, where those of `done` were before it
+unfoldable pub completed_after : List Node → List ℕ → ℕ → List ℕ
+completed_after t done i = completed_within (suc i) t done i
+
+-- the nodes that these nodes reach, in the order in which walks from them, one after the other, complete them
+abbrev pub completed_from : List Node → List ℕ → List ℕ
+completed_from t roots = fold (completed_after t) [] roots
 
 -- The nodes that node i reaches, in the order in which a walk from it completes them. Each node names only lower ones, so no
 -- more than i + 1 follow one another.
@@ -45,20 +50,6 @@ completed t i = completed_within (suc i) t [] i
 -- the place of the number in the list
 abbrev pub place_in : List ℕ → ℕ → ℕ
 place_in js i = position_or_len (λ j. j == i) js
-
--- the same rest, with the number f j in place of the node j that it names
-abbrev pub renumbered_rest : (ℕ → ℕ) → Rest → Rest
-renumbered_rest f Wins = Wins
-renumbered_rest f (To j) = To (f j)
-renumbered_rest f Nothing = Nothing
-
--- the same reply, with the number f j in place of the node j that answers it
-abbrev pub renumbered_reply : (ℕ → ℕ) → Reply → Reply
-renumbered_reply f r = record { at = r.at; next = f r.next }
-
--- the same node, with the number f j in place of each node j that it names
-abbrev pub renumbered_node : (ℕ → ℕ) → Node → Node
-renumbered_node f n = record { attack = n.attack; replies = map (renumbered_reply f) n.replies; rest = renumbered_rest f n.rest }
 
 -- table u has the nodes of t with these numbers in this order, and for each number that a node names its place among them
 pub record Renumbers (t : List Node) (order : List ℕ) (u : List Node) : Type 0 where
@@ -85,31 +76,19 @@ pub record IsTableOf (tree : Tree) (t : List Node) : Type 0 where
 abbrev pub TreeHasOneTable : Type 0
 TreeHasOneTable = (tree : Tree) (t u : List Node) → IsTableOf tree t → IsTableOf tree u → t ≡ u
 
--- the order in which a walk from the root completes nodes: each is a node that the root reaches, comes once, and comes after
--- all that it names
-pub record IsOrder (t : List Node) (root : ℕ) (order : List ℕ) : Type 0 where
-  pub by_walk : order ≡ completed t root
-  pub within : (k i : ℕ) → slice_get order k ≡ Some i → i < length t
-  pub once : (k l i : ℕ) → slice_get order k ≡ Some i → slice_get order l ≡ Some i → k ≡ l
-  pub after_named : (k i j : ℕ) (n : Node) → slice_get order k ≡ Some i → slice_get t i ≡ Some n → Contains (named (answers_of n)) j → is_among j (take k order) ≡ true
-  pub reached : (k i : ℕ) → slice_get order k ≡ Some i → Reaches t root i
-  pub short : length order ≤ length t
+-- one of these nodes reaches node k
+abbrev pub ReachedFrom : List Node → List ℕ → ℕ → Type 0
+ReachedFrom t roots k = (i : ℕ) × Contains roots i × Reaches t i k
 
 -- the node names the points of one that the root reaches in t
 abbrev pub NamesPointsReached : List Node → ℕ → Node → Type 0
 NamesPointsReached t root m =
     (i : ℕ) × (n : Node) × Reaches t root i × (slice_get t i ≡ Some n) × (m.attack ≡ n.attack) × (map (λ r. r.at) m.replies ≡ map (λ r. r.at) n.replies)
 
--- table u is made of the nodes that the root reaches in t: the table of each tree for which the root stands, with the root as
--- its last node, which says the same
-pub record IsMadeFrom (t : List Node) (root : ℕ) (u : List Node) : Type 0 where
-  pub nodes : Renumbers t (completed t root) u
-  pub trees : (tree : Tree) → StandsFor t root tree → IsTableOf tree u
-  pub different : AreDifferent u
-  pub reached : (i : ℕ) → i < length u → Reaches u (last u) i
-  pub numbered : IsNumberedByWalk u
-  pub same : SaysSame t root u (last u)
-  pub points : All (NamesPointsReached t root) u
+-- the node names the points of one that one of the roots reaches in t
+abbrev pub NamesPointsFrom : List Node → List ℕ → Node → Type 0
+NamesPointsFrom t roots m =
+    (i : ℕ) × (n : Node) × ReachedFrom t roots i × (slice_get t i ≡ Some n) × (m.attack ≡ n.attack) × (map (λ r. r.at) m.replies ≡ map (λ r. r.at) n.replies)
 
 -- a node reaches the same nodes however the table grows
 abbrev pub GrowthKeepsReach : Type 0

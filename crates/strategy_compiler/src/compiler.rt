@@ -2,15 +2,19 @@
 #![tactic(auto)]
 
 ghost use Rattle.std.specs.Prelude.{◌≡◌, ◌↔◌, ◌<◌, ◌≤◌, [], true, ℕ, List, map, All, Contains, length, slice_get, Some, IfOk, OnOk, OnErr, IsErr, IsErrOf};
+ghost use Rattle.game_rules.specs.Grid.{Grid};
+ghost use Rattle.game_rules.specs.declared.RuleKind.{RuleKind};
 ghost use Rattle.strategy_graph.specs.declared.Node.{Node};
 ghost use Rattle.strategy_graph.specs.Tables.{IsNode, answer_at, is_rising, is_winning};
 ghost use Rattle.strategy_graph.specs.Leads.{AtNode};
 ghost use Rattle.strategy_graph.specs.Laws.{SaysSame};
 ghost use Rattle.strategy_compiler.specs.Trees.{Tree, Branches, Leaf, Fork, StandsFor, AnswersBranches};
 ghost use Rattle.strategy_compiler.specs.Walks.{AreDifferent, IsNumberedByWalk, IsTableOf, NamesPointsReached, Reaches, Renumbers, completed, last};
+ghost use Rattle.strategy_compiler.specs.Wins.{IsWinTable, IsWrittenWin};
 ghost use Rattle.strategy_compiler.specs.Nodes.{IsCompiled, NamesOnly, PutsIn, answering_node, winning_node};
 
-use crate::renumbering::table_from;
+use crate::WrittenWin;
+use crate::renumbering::made_from;
 use crate::rests::answering;
 use game_rules::Point;
 use indexmap::IndexSet;
@@ -128,13 +132,32 @@ impl Compiler {
         ensures trees { IfOk result (λ t. (tree : Tree) → StandsFor self root tree → IsTableOf tree t) }
 
         // Of every root, whether or not it stands for a tree.
+        ensures some { IfOk result (λ t. 0 < length t) }
         ensures different { IfOk result AreDifferent }
         ensures reached { IfOk result (λ t. (i : ℕ) → i < length t → Reaches t (last t) i) }
         ensures numbered { IfOk result IsNumberedByWalk }
         ensures same { IfOk result (λ t. SaysSame self root t (last t)) }
         ensures points { IfOk result (λ t. All (NamesPointsReached self root) t) }
     {
-        table_from(*self.nodes.allocator(), self.nodes.as_slice(), root)
+        let made = made_from(*self.nodes.allocator(), self.nodes.as_slice(), &[root])?;
+        Ok(made.table)
+    }
+
+    /// The table of a win that a search wrote: that of the node of the win, by `finish`. Where the win is one at a position, the
+    /// last node is accepted there, wins within the moves of the win, and the table names points of that board alone. After
+    /// an `Err` the compiler is gone.
+    pub fn finish_win(self, win: WrittenWin) -> Result<Table, AllocError>
+        requires in_compiler { win.node < length self }
+        ensures win { IfOk result (λ t. (rule : RuleKind) (limit : ℕ) (b : Grid)
+            → IsWrittenWin rule limit b self win → IsWinTable rule b win t) }
+        ensures same { IfOk result (λ t. SaysSame self win.node t (last t)) }
+        ensures trees { IfOk result (λ t. (tree : Tree) → StandsFor self win.node tree → IsTableOf tree t) }
+        ensures some { IfOk result (λ t. 0 < length t) }
+        ensures different { IfOk result AreDifferent }
+        ensures reached { IfOk result (λ t. (i : ℕ) → i < length t → Reaches t (last t) i) }
+        ensures numbered { IfOk result IsNumberedByWalk }
+    {
+        self.finish(win.node)
     }
 }
 

@@ -4,19 +4,24 @@
 //! What it is given are attacks and the nodes that answer the replies to them; it finds the rest, which answers the most
 //! of them, and lists the others. So trees of moves that are equal share their nodes, whatever the order in which a
 //! search comes upon them, as in the hash-consing of Ershov and of Goto. `finish` numbers the nodes as a walk completes
-//! them, so the table of a tree is one and the same, however it was compiled.
+//! them, so the table of a tree is one and the same, however it was compiled. A search that writes a win into a compiler
+//! tells it as a `WrittenWin`, and `finish_win` gives the table of it.
 //!
-//! `specs/` says which nodes stand for a tree of moves, and what the table of a tree is.
+//! `specs/` says which nodes stand for a tree of moves, what the table of a tree is, and what a written win is.
 #![tactic(auto)]
 
 mod compiler;
+mod error;
 mod renumbering;
 mod rests;
 mod theorems;
 mod walk;
+mod wins;
 
 pub use compiler::{CompileError, Compiler};
-pub use theorems::{growth_keeps_reach, growth_keeps_trees, tree_has_one_table};
+pub use error::SearchError;
+pub use theorems::{growth_keeps_reach, growth_keeps_trees, growth_keeps_wins, tree_has_one_table};
+pub use wins::WrittenWin;
 
 #[cfg(test)]
 mod tests;

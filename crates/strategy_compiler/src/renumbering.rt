@@ -4,7 +4,9 @@
 ghost use Rattle.std.specs.Prelude.{◌≡◌, ◌<◌, ◌≤◌, ◌++◌, ◌∷◌, [], ℕ, true, nat_lt, map, length, slice_get, slice_index, Some, All, IfOk, OnOk};
 ghost use Rattle.std.specs.List.{list_all};
 ghost use Rattle.strategy_graph.specs.Tables.{IsNode, IsTable, answers_of, names_below, rest_nodes};
-ghost use Rattle.strategy_compiler.specs.Walks.{IsMadeFrom, IsOrder, Renumbers, renumbered_node, renumbered_reply, renumbered_rest as renumbered_rest_lem};
+ghost use Rattle.strategy_graph.specs.Renumbered.{renumbered_node, renumbered_reply, renumbered_rest as renumbered_rest_lem};
+ghost use Rattle.strategy_compiler.specs.Walks.{Renumbers, completed_from};
+ghost use Rattle.strategy_compiler.specs.Orders.{ArePlaces, IsMadeFrom, IsOrder};
 ghost use Rattle.strategy_compiler.specs.Nodes.{IsCompiled};
 
 use crate::walk::completed_order;
@@ -18,7 +20,7 @@ fn places_in(alloc: Global, order: &[u32], len: usize) -> Result<Vec<u32>, Alloc
     requires within { (k : ℕ) → k < length order.now → slice_index order.now k < len }
     requires once { (k l i : ℕ) → slice_get order.now k ≡ Some i → slice_get order.now l ≡ Some i → k ≡ l }
     ensures count { IfOk result (λ places. length places.items ≡ len) }
-    ensures places { IfOk result (λ places. (k i : ℕ) → slice_get order.now k ≡ Some i → slice_index places.items i ≡ k) }
+    ensures places { IfOk result (λ places. ArePlaces order.now places.items) }
 {
     let mut places = vec![in alloc; 0; len]?;
     for (place, number) in order.iter().enumerate() {
@@ -82,27 +84,45 @@ fn add(table: &mut Table, node: Node) -> Result<(), AllocError>
     }
 }
 
-/// The table of the nodes with these numbers, in this order.
-fn table_of(alloc: Global, nodes: &[Node], root: u32, order: &[u32]) -> Result<Table, AllocError>
+/// The table of the nodes with these numbers, in this order, where each number has its place.
+fn table_of(
+    alloc: Global,
+    nodes: &[Node],
+    order: &[u32],
+    places: &[u32],
+) -> Result<Table, AllocError>
     requires table { IsTable nodes.now }
-    requires order { IsOrder nodes.now root order.now }
+    requires order { IsOrder nodes.now order.now }
+    requires count { length places.now ≡ length nodes.now }
+    requires places { ArePlaces order.now places.now }
     ensures nodes { IfOk result (λ t. Renumbers nodes.now order.now t) }
 {
-    let places = places_in(alloc, order, nodes.len())?;
     let mut table = Table::new(alloc);
     for number in order {
-        let node = renumbered(alloc, &nodes[*number as usize], places.as_slice())?;
+        let node = renumbered(alloc, &nodes[*number as usize], places)?;
         add(&mut table, node)?;
     }
     Ok(table)
 }
 
-/// The table of the nodes that the root reaches, in the order in which a walk from it completes them.
-pub(crate) fn table_from(alloc: Global, nodes: &[Node], root: u32) -> Result<Table, AllocError>
+/// A table that is made of nodes, and for each number of one of these its number in the table, as a list by number; for
+/// other numbers it says nothing.
+#[derive(Drop)]
+pub(crate) struct Made {
+    pub(crate) table: Table,
+    pub(crate) places: Vec<u32>,
+}
+
+/// The table of the nodes that the roots reach, in the order in which walks from them complete them.
+pub(crate) fn made_from(alloc: Global, nodes: &[Node], roots: &[u32]) -> Result<Made, AllocError>
     requires compiled { IsCompiled nodes.now }
-    requires in_table { root < length nodes.now }
-    ensures made { IfOk result (IsMadeFrom nodes.now root) }
+    requires in_table { All (λ root. root < length nodes.now) roots.now }
+    ensures made { IfOk result (λ made. IsMadeFrom nodes.now roots.now (completed_from nodes.now roots.now) made.table) }
+    ensures count { IfOk result (λ made. length made.places.items ≡ length nodes.now) }
+    ensures places { IfOk result (λ made. ArePlaces (completed_from nodes.now roots.now) made.places.items) }
 {
-    let order = completed_order(alloc, nodes, root)?;
-    table_of(alloc, nodes, root, order.as_slice())
+    let order = completed_order(alloc, nodes, roots)?;
+    let places = places_in(alloc, order.as_slice(), nodes.len())?;
+    let table = table_of(alloc, nodes, order.as_slice(), places.as_slice())?;
+    Ok(Made { table, places })
 }

@@ -1,8 +1,9 @@
-//! The laws of trees and of walks, each as the contract of a function that computes nothing.
+//! The laws of trees, of walks and of wins, each as the contract of a function that computes nothing.
 #![tactic(auto)]
 
 ghost use Rattle.strategy_compiler.specs.Trees.{GrowthKeepsTrees};
 ghost use Rattle.strategy_compiler.specs.Walks.{GrowthKeepsReach, TreeHasOneTable};
+ghost use Rattle.strategy_compiler.specs.Wins.{GrowthKeepsWins};
 
 /// A node stands for the same trees in each table that begins with this one.
 pub fn growth_keeps_trees()
@@ -12,6 +13,11 @@ pub fn growth_keeps_trees()
 /// A node reaches the same nodes in each table that begins with this one.
 pub fn growth_keeps_reach()
     ensures same { GrowthKeepsReach }
+{}
+
+/// A win that a search wrote stays one in each list of nodes that begins with these.
+pub fn growth_keeps_wins()
+    ensures same { GrowthKeepsWins }
 {}
 
 /// The table of a tree is one and the same, however it was compiled.

@@ -1,11 +1,12 @@
-//! The order in which a walk completes nodes. The way from the root down to where the walk is stands in a list, so that no
-//! recursion goes as deep as the chain of nodes: each node of it names the next, and the last is completed once no node
-//! that it names is left.
+//! The order in which walks complete nodes, from one root after the other. The way from the root down to where the walk is
+//! stands in a list, so that no recursion goes as deep as the chain of nodes: each node of it names the next, and the
+//! last is completed once no node that it names is left.
 #![tactic(auto)]
 
-ghost use Rattle.std.specs.Prelude.{◌≡◌, ◌<◌, ◌≤◌, true, false, not, map, length, find, slice_index_or, All, IfOk};
+ghost use Rattle.std.specs.Prelude.{◌≡◌, ◌<◌, ◌≤◌, true, false, not, map, length, find, slice_index_or, All, IfOk, OnOk};
 ghost use Rattle.strategy_graph.specs.Tables.{NamesLower, answers_of, names_below};
-ghost use Rattle.strategy_compiler.specs.Walks.{IsOrder, visits};
+ghost use Rattle.strategy_compiler.specs.Walks.{completed_after, completed_from, visits};
+ghost use Rattle.strategy_compiler.specs.Orders.{IsBetween, IsOrder};
 
 use std::alloc::{AllocError, Global};
 use strategy_graph::{MAX_NODES, Node, Reply};
@@ -36,23 +37,27 @@ fn first_open(node: &Node, is_completed: &[bool]) -> Option<u32>
     first_listed(node.replies.as_slice(), is_completed)
 }
 
-/// The nodes that the root reaches, in the order in which a walk from it completes them.
-pub(crate) fn completed_order(
+/// Walks from the root, and adds the nodes that are not completed yet to the order, as the walk completes them.
+fn complete(
     alloc: Global,
     nodes: &[Node],
     root: u32,
-) -> Result<Vec<u32>, AllocError>
+    order: &mut Vec<u32>,
+    is_completed: &mut [bool],
+) -> Result<(), AllocError>
     requires lower { NamesLower nodes.now }
-    requires few { length nodes.now ≤ MAX_NODES }
     requires in_table { root < length nodes.now }
-    ensures order { IfOk result (λ order. IsOrder nodes.now root order.items) }
+    requires between { IsBetween nodes.now order.old.items is_completed.old }
+    ensures walked { OnOk result (order.new.items ≡ completed_after nodes.now order.old.items root) }
+    ensures between { OnOk result (IsBetween nodes.now order.new.items is_completed.new) }
 {
-    let mut order = Vec::new(alloc);
-    let mut is_completed = vec![in alloc; false; nodes.len()]?;
+    if is_completed[root as usize] {
+        return Ok(());
+    }
     let mut path = Vec::new(alloc);
     path.push(root)?;
     while let Some(number) = path.pop() {
-        match first_open(&nodes[number as usize], is_completed.as_slice()) {
+        match first_open(&nodes[number as usize], is_completed) {
             Some(next) => {
                 path.push(number)?;
                 path.push(next)?;
@@ -62,6 +67,26 @@ pub(crate) fn completed_order(
                 is_completed[number as usize] = true;
             }
         }
+    }
+    Ok(())
+}
+
+/// The nodes that the roots reach, in the order in which walks from them, one after the other, complete them.
+pub(crate) fn completed_order(
+    alloc: Global,
+    nodes: &[Node],
+    roots: &[u32],
+) -> Result<Vec<u32>, AllocError>
+    requires lower { NamesLower nodes.now }
+    requires few { length nodes.now ≤ MAX_NODES }
+    requires in_table { All (λ root. root < length nodes.now) roots.now }
+    ensures walked { IfOk result (λ order. order.items ≡ completed_from nodes.now roots.now) }
+    ensures order { IfOk result (λ order. IsOrder nodes.now order.items) }
+{
+    let mut order = Vec::new(alloc);
+    let mut is_completed = vec![in alloc; false; nodes.len()]?;
+    for root in roots {
+        complete(alloc, nodes, *root, &mut order, is_completed.as_mut_slice())?;
     }
     Ok(order)
 }

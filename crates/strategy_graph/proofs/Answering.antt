@@ -8,7 +8,7 @@ use Rattle.game_rules.specs.declared.Point.{Point}
 use Rattle.strategy_graph.specs.declared.Reply.{Reply}
 use Rattle.strategy_graph.specs.declared.Rest.{Rest}
 use Rattle.strategy_graph.specs.declared.Rest.TheVariants.{Wins, To, Nothing}
-use Rattle.strategy_graph.specs.Tables.{Answers, answer, listed, rest_node, rest_nodes, named, names_below, greatest}
+use Rattle.strategy_graph.specs.Tables.{Answers, answer, listed_node, rest_node, rest_nodes, named, names_below, greatest}
 use Rattle.strategy_graph.specs.Acceptance.{Answered}
 use Rattle.game_rules.proofs.Boards.{and_left, and_right}
 use borrow.Author.Tests.{ltb-true}
@@ -19,10 +19,10 @@ option_or_cases None p j W f g h = g h
 option_or_cases (Some i) p j W f g h = f h
 
 -- an answer is no deeper than the deepest node that is named
-greatest-left : (d : ℕ → ℕ) (rs : List Reply) (js : List ℕ) (q : Point) (j : ℕ) → listed rs q ≡ Some j → d j ≤ greatest (map d (map (λ r. r.next) rs ++ js))
+greatest-left : (d : ℕ → ℕ) (rs : List Reply) (js : List ℕ) (q : Point) (j : ℕ) → listed_node rs q ≡ Some j → d j ≤ greatest (map d (map (λ r. r.next) rs ++ js))
 greatest-left d [] js q j h = cc
 greatest-left d (r ∷ rs) js q j h = by_test (is_same_point r.at q) h (greatest-left d rs js q j) where
-  by_test : (t : Bool) → option_map (λ r. r.next) (cond t (Some r) (find (λ r. is_same_point r.at q) rs)) ≡ Some j → (listed rs q ≡ Some j → d j ≤ greatest (map d (map (λ r. r.next) rs ++ js))) → d j ≤ max (d r.next) (greatest (map d (map (λ r. r.next) rs ++ js)))
+  by_test : (t : Bool) → option_map (λ r. r.next) (cond t (Some r) (find (λ r. is_same_point r.at q) rs)) ≡ Some j → (listed_node rs q ≡ Some j → d j ≤ greatest (map d (map (λ r. r.next) rs ++ js))) → d j ≤ max (d r.next) (greatest (map d (map (λ r. r.next) rs ++ js)))
   by_test true h below = let e : d r.next ≡ d j = cc in omega (arith, e)
   by_test false h below = let low = below h in omega (arith, low)
 
@@ -37,14 +37,14 @@ greatest-right d (r ∷ rs) js m h = let low = greatest-right d rs js m h in ome
 
 pub answer-greatest : (d : ℕ → ℕ) (a : Answers) (q : Point) (j : ℕ) → answer a q ≡ Some j → d j ≤ greatest (map d (named a))
 answer-greatest d a q j h =
-    option_or_cases (listed a.replies q) (rest_node a.rest) j _ (greatest-left d a.replies (rest_nodes a.rest) q j)
+    option_or_cases (listed_node a.replies q) (rest_node a.rest) j _ (greatest-left d a.replies (rest_nodes a.rest) q j)
     (λ e. greatest-right d a.replies (rest_nodes a.rest) (d j) (greatest-rest d a.rest j e)) h
 
 -- an answer is one of the nodes that are named
-all-left : (p : ℕ → Bool) (rs : List Reply) (js : List ℕ) (q : Point) (j : ℕ) → list_all p (map (λ r. r.next) rs ++ js) ≡ true → listed rs q ≡ Some j → p j ≡ true
+all-left : (p : ℕ → Bool) (rs : List Reply) (js : List ℕ) (q : Point) (j : ℕ) → list_all p (map (λ r. r.next) rs ++ js) ≡ true → listed_node rs q ≡ Some j → p j ≡ true
 all-left p [] js q j all h = cc
 all-left p (r ∷ rs) js q j all h = by_test (is_same_point r.at q) h (all-left p rs js q j (and_right (p r.next) _ all)) where
-  by_test : (t : Bool) → option_map (λ r. r.next) (cond t (Some r) (find (λ r. is_same_point r.at q) rs)) ≡ Some j → (listed rs q ≡ Some j → p j ≡ true) → p j ≡ true
+  by_test : (t : Bool) → option_map (λ r. r.next) (cond t (Some r) (find (λ r. is_same_point r.at q) rs)) ≡ Some j → (listed_node rs q ≡ Some j → p j ≡ true) → p j ≡ true
   by_test true h below = let e : r.next ≡ j = cc in let here : p r.next ≡ true = and_left (p r.next) _ all in cc
   by_test false h below = below h
 
@@ -60,7 +60,7 @@ all-rest p Nothing j all h = cc
 -- what holds of each node that is named holds of an answer
 pub answer-named : (p : ℕ → Bool) (a : Answers) (q : Point) (j : ℕ) → list_all p (named a) ≡ true → answer a q ≡ Some j → p j ≡ true
 answer-named p a q j all h =
-    option_or_cases (listed a.replies q) (rest_node a.rest) j _ (all-left p a.replies (rest_nodes a.rest) q j all)
+    option_or_cases (listed_node a.replies q) (rest_node a.rest) j _ (all-left p a.replies (rest_nodes a.rest) q j all)
     (all-rest p a.rest j (all-right p a.replies (rest_nodes a.rest) all)) h
 
 -- where the answers name only nodes below k, an answer is below k

@@ -16,7 +16,8 @@ use Rattle.strategy_graph.specs.declared.Rest.{Rest}
 use Rattle.strategy_graph.specs.declared.Rest.TheVariants.{Wins, To, Nothing}
 use Rattle.strategy_graph.specs.declared.Node.{Node}
 use Rattle.strategy_graph.specs.declared.Why.{Why}
-use Rattle.strategy_graph.specs.Tables.{Answers, answers_of, answer, listed, rest_node, rest_nodes, named, is_winning, greatest, node_depth, depth_within}
+use Rattle.strategy_graph.specs.Tables.{Answers, answers_of, answer, listed_node, rest_node, rest_nodes, named, is_winning, greatest, node_depth, depth_within}
+use Rattle.strategy_graph.specs.Renumbered.{renumbered_rest, renumbered_reply, renumbered_answers, renumbered_node}
 use Rattle.strategy_graph.specs.Acceptance.{Answered, NotWinning, Meets, AcceptedNode, AcceptedWithin}
 use Rattle.strategy_graph.specs.Arrivals.{if_answered, arrivals_at, arrivals_after, arrivals_behind, arrivals_within}
 use Rattle.strategy_graph.specs.Games.{End, NoMove, Open, after_attack, after_reply, one_later, if_node, end_at, game, points_on, points_from, attacks_at, attacks}
@@ -24,25 +25,10 @@ use Rattle.strategy_graph.specs.Leads.{attack_fault, reply_fault, AtNode, ReplyL
 use Rattle.strategy_graph.proofs.Answering.{answer-named}
 use Rattle.game_rules.proofs.Boards.{and_left, and_right}
 
--- the same rest, reply, answers and node, with the number f j for j
-abbrev pub renamed_rest : (ℕ → ℕ) → Rest → Rest
-renamed_rest f Wins = Wins
-renamed_rest f (To j) = To (f j)
-renamed_rest f Nothing = Nothing
-
-abbrev pub renamed_reply : (ℕ → ℕ) → Reply → Reply
-renamed_reply f r = record { at = r.at; next = f r.next }
-
-abbrev pub renamed_answers : (ℕ → ℕ) → Answers → Answers
-renamed_answers f a = record { replies = map (renamed_reply f) a.replies; rest = renamed_rest f a.rest }
-
-abbrev pub renamed : (ℕ → ℕ) → Node → Node
-renamed f n = record { attack = n.attack; replies = map (renamed_reply f) n.replies; rest = renamed_rest f n.rest }
-
--- For each number i that passes, table t has a node i, table u has the same node renamed at f i, and each number that
+-- For each number i that passes, table t has a node i, table u has the same node renumbered_node at f i, and each number that
 -- the node names passes too.
 pub record Copies (f : ℕ → ℕ) (passes : ℕ → Bool) (t u : List Node) : Type 0 where
-  pub copied : (i : ℕ) → passes i ≡ true → (n : Node) × (slice_get t i ≡ Some n) × (slice_get u (f i) ≡ Some (renamed f n)) × (list_all passes (named (answers_of n)) ≡ true)
+  pub copied : (i : ℕ) → passes i ≡ true → (n : Node) × (slice_get t i ≡ Some n) × (slice_get u (f i) ≡ Some (renumbered_node f n)) × (list_all passes (named (answers_of n)) ≡ true)
 
 -- facts that are equal follow from one another
 pub iff_by : (A B : Type 0) → A ≡ B → A ↔ B
@@ -54,59 +40,59 @@ option_or-map : (f : ℕ → ℕ) (o p : Option ℕ) → option_or (option_map f
 option_or-map f None p = refl
 option_or-map f (Some j) p = refl
 
-listed-renamed : (f : ℕ → ℕ) (rs : List Reply) (q : Point) → listed (map (renamed_reply f) rs) q ≡ option_map f (listed rs q)
-listed-renamed f [] q = refl
-listed-renamed f (r ∷ rs) q = by_test (is_same_point r.at q) (listed-renamed f rs q) where
-  by_test : (b : Bool) → listed (map (renamed_reply f) rs) q ≡ option_map f (listed rs q) → option_map (λ r. r.next) (cond b (Some (renamed_reply f r)) (find (λ r. is_same_point r.at q) (map (renamed_reply f) rs))) ≡ option_map f (option_map (λ r. r.next) (cond b (Some r) (find (λ r. is_same_point r.at q) rs)))
+listed-renumbered : (f : ℕ → ℕ) (rs : List Reply) (q : Point) → listed_node (map (renumbered_reply f) rs) q ≡ option_map f (listed_node rs q)
+listed-renumbered f [] q = refl
+listed-renumbered f (r ∷ rs) q = by_test (is_same_point r.at q) (listed-renumbered f rs q) where
+  by_test : (b : Bool) → listed_node (map (renumbered_reply f) rs) q ≡ option_map f (listed_node rs q) → option_map (λ r. r.next) (cond b (Some (renumbered_reply f r)) (find (λ r. is_same_point r.at q) (map (renumbered_reply f) rs))) ≡ option_map f (option_map (λ r. r.next) (cond b (Some r) (find (λ r. is_same_point r.at q) rs)))
   by_test true h = refl
   by_test false h = h
 
-rest_node-renamed : (f : ℕ → ℕ) (r : Rest) → rest_node (renamed_rest f r) ≡ option_map f (rest_node r)
-rest_node-renamed f Wins = refl
-rest_node-renamed f (To j) = refl
-rest_node-renamed f Nothing = refl
+rest_node-renumbered : (f : ℕ → ℕ) (r : Rest) → rest_node (renumbered_rest f r) ≡ option_map f (rest_node r)
+rest_node-renumbered f Wins = refl
+rest_node-renumbered f (To j) = refl
+rest_node-renumbered f Nothing = refl
 
-pub answer-renamed : (f : ℕ → ℕ) (a : Answers) (q : Point) → answer (renamed_answers f a) q ≡ option_map f (answer a q)
-answer-renamed f a q = rw (listed-renamed f a.replies q, rest_node-renamed f a.rest) (option_or-map f (listed a.replies q) (rest_node a.rest))
+pub answer-renumbered : (f : ℕ → ℕ) (a : Answers) (q : Point) → answer (renumbered_answers f a) q ≡ option_map f (answer a q)
+answer-renumbered f a q = rw (listed-renumbered f a.replies q, rest_node-renumbered f a.rest) (option_or-map f (listed_node a.replies q) (rest_node a.rest))
 
-pub is_winning-renamed : (f : ℕ → ℕ) (r : Rest) → is_winning (renamed_rest f r) ≡ is_winning r
-is_winning-renamed f Wins = refl
-is_winning-renamed f (To j) = refl
-is_winning-renamed f Nothing = refl
+pub is_winning-renumbered : (f : ℕ → ℕ) (r : Rest) → is_winning (renumbered_rest f r) ≡ is_winning r
+is_winning-renumbered f Wins = refl
+is_winning-renumbered f (To j) = refl
+is_winning-renumbered f Nothing = refl
 
-NotWinning-renamed : (f : ℕ → ℕ) (r : Rest) → NotWinning (renamed_rest f r) ≡ NotWinning r
-NotWinning-renamed f Wins = refl
-NotWinning-renamed f (To j) = refl
-NotWinning-renamed f Nothing = refl
+NotWinning-renumbered : (f : ℕ → ℕ) (r : Rest) → NotWinning (renumbered_rest f r) ≡ NotWinning r
+NotWinning-renumbered f Wins = refl
+NotWinning-renumbered f (To j) = refl
+NotWinning-renumbered f Nothing = refl
 
-rest_nodes-renamed : (f : ℕ → ℕ) (r : Rest) → rest_nodes (renamed_rest f r) ≡ map f (rest_nodes r)
-rest_nodes-renamed f Wins = refl
-rest_nodes-renamed f (To j) = refl
-rest_nodes-renamed f Nothing = refl
+rest_nodes-renumbered : (f : ℕ → ℕ) (r : Rest) → rest_nodes (renumbered_rest f r) ≡ map f (rest_nodes r)
+rest_nodes-renumbered f Wins = refl
+rest_nodes-renumbered f (To j) = refl
+rest_nodes-renumbered f Nothing = refl
 
-named_by : (f : ℕ → ℕ) (rs : List Reply) (r : Rest) → map (λ r. r.next) (map (renamed_reply f) rs) ++ rest_nodes (renamed_rest f r) ≡ map f (map (λ r. r.next) rs ++ rest_nodes r)
-named_by f [] r = rest_nodes-renamed f r
+named_by : (f : ℕ → ℕ) (rs : List Reply) (r : Rest) → map (λ r. r.next) (map (renumbered_reply f) rs) ++ rest_nodes (renumbered_rest f r) ≡ map f (map (λ r. r.next) rs ++ rest_nodes r)
+named_by f [] r = rest_nodes-renumbered f r
 named_by f (x ∷ rs) r = ap (λ js. f x.next ∷ js) (named_by f rs r)
 
-pub named-renamed : (f : ℕ → ℕ) (a : Answers) → named (renamed_answers f a) ≡ map f (named a)
-named-renamed f a = named_by f a.replies a.rest
+pub named-renumbered : (f : ℕ → ℕ) (a : Answers) → named (renumbered_answers f a) ≡ map f (named a)
+named-renumbered f a = named_by f a.replies a.rest
 
 -- ---- each number for itself
 
-renamed_rest-same : (r : Rest) → renamed_rest (λ j. j) r ≡ r
-renamed_rest-same Wins = refl
-renamed_rest-same (To j) = refl
-renamed_rest-same Nothing = refl
+renumbered_rest-same : (r : Rest) → renumbered_rest (λ j. j) r ≡ r
+renumbered_rest-same Wins = refl
+renumbered_rest-same (To j) = refl
+renumbered_rest-same Nothing = refl
 
-renamed_replies-same : (rs : List Reply) → map (renamed_reply (λ j. j)) rs ≡ rs
-renamed_replies-same [] = refl
-renamed_replies-same (r ∷ rs) = ap (λ ys. r ∷ ys) (renamed_replies-same rs)
+renumbered_replies-same : (rs : List Reply) → map (renumbered_reply (λ j. j)) rs ≡ rs
+renumbered_replies-same [] = refl
+renumbered_replies-same (r ∷ rs) = ap (λ ys. r ∷ ys) (renumbered_replies-same rs)
 
-pub renamed-same : (n : Node) → renamed (λ j. j) n ≡ n
-renamed-same n = λ i. record { attack = n.attack; replies = renamed_replies-same n.replies i; rest = renamed_rest-same n.rest i }
+pub renumbered-same : (n : Node) → renumbered_node (λ j. j) n ≡ n
+renumbered-same n = λ i. record { attack = n.attack; replies = renumbered_replies-same n.replies i; rest = renumbered_rest-same n.rest i }
 
-pub renamed_answers-same : (a : Answers) → renamed_answers (λ j. j) a ≡ a
-renamed_answers-same a = λ i. record { replies = renamed_replies-same a.replies i; rest = renamed_rest-same a.rest i }
+pub renumbered_answers-same : (a : Answers) → renumbered_answers (λ j. j) a ≡ a
+renumbered_answers-same a = λ i. record { replies = renumbered_replies-same a.replies i; rest = renumbered_rest-same a.rest i }
 
 -- ---- one step, where the values at the answers agree
 
@@ -151,72 +137,72 @@ module _ (f : ℕ → ℕ) (passes : ℕ → Bool) where
     passing : (q : Point) (j : ℕ) → answer a q ≡ Some j → passes j ≡ true
     passing q j e = answer-named passes a q j all e
 
-    pub Meets-copied : (rule : RuleKind) (N N' : ℕ → Grid → Type 0) → ((j : ℕ) → passes j ≡ true → (c : Grid) → N' (f j) c ≡ N j c) → (b : Grid) (q : Point) → Meets rule (renamed_answers f a) N' b q ≡ Meets rule a N b q
+    pub Meets-copied : (rule : RuleKind) (N N' : ℕ → Grid → Type 0) → ((j : ℕ) → passes j ≡ true → (c : Grid) → N' (f j) c ≡ N j c) → (b : Grid) (q : Point) → Meets rule (renumbered_answers f a) N' b q ≡ Meets rule a N b q
     Meets-copied rule N N' same b q =
         ap (λ (W : Type 0). LosesOr (outcome rule b q) W)
-        (ap (λ (o : Option ℕ). Answered o (λ j. N' j (after b q))) (answer-renamed f a q)
+        (ap (λ (o : Option ℕ). Answered o (λ j. N' j (after b q))) (answer-renumbered f a q)
         ∙ answered-copied (λ j. N j (after b q)) (λ j. N' j (after b q)) (answer a q) (λ j e. same j (passing q j e) (after b q)))
 
-    arrivals_at-copied : (rule : RuleKind) (m m' : ℕ → Grid → ℕ) → ((j : ℕ) → passes j ≡ true → (c : Grid) → m' (f j) c ≡ m j c) → (b : Grid) (q : Point) → arrivals_at rule (renamed_answers f a) m' b q ≡ arrivals_at rule a m b q
+    arrivals_at-copied : (rule : RuleKind) (m m' : ℕ → Grid → ℕ) → ((j : ℕ) → passes j ≡ true → (c : Grid) → m' (f j) c ≡ m j c) → (b : Grid) (q : Point) → arrivals_at rule (renumbered_answers f a) m' b q ≡ arrivals_at rule a m b q
     arrivals_at-copied rule m m' same b q =
         ap (λ (k : ℕ). if_goes_on (outcome rule b q) k)
-        (ap (λ (o : Option ℕ). if_answered o (λ j. m' j (after b q))) (answer-renamed f a q)
+        (ap (λ (o : Option ℕ). if_answered o (λ j. m' j (after b q))) (answer-renumbered f a q)
         ∙ if_answered-copied (λ j. m j (after b q)) (λ j. m' j (after b q)) (answer a q) (λ j e. same j (passing q j e) (after b q)))
 
-    pub arrivals_after-copied : (rule : RuleKind) (m m' : ℕ → Grid → ℕ) → ((j : ℕ) → passes j ≡ true → (c : Grid) → m' (f j) c ≡ m j c) → (b : Grid) → arrivals_after rule (renamed_answers f a) m' b ≡ arrivals_after rule a m b
+    pub arrivals_after-copied : (rule : RuleKind) (m m' : ℕ → Grid → ℕ) → ((j : ℕ) → passes j ≡ true → (c : Grid) → m' (f j) c ≡ m j c) → (b : Grid) → arrivals_after rule (renumbered_answers f a) m' b ≡ arrivals_after rule a m b
     arrivals_after-copied rule m m' same b =
-        let each : arrivals_at rule (renamed_answers f a) m' b ≡ arrivals_at rule a m b = λ i q. arrivals_at-copied rule m m' same b q i in
+        let each : arrivals_at rule (renumbered_answers f a) m' b ≡ arrivals_at rule a m b = λ i q. arrivals_at-copied rule m m' same b q i in
         ap (λ (g : Point → ℕ). sum_by g (points_of b)) each
 
-    if_node-answer : (e e' : ℕ → Grid → End) → ((j : ℕ) → passes j ≡ true → (c : Grid) → e' (f j) c ≡ e j c) → (c : Grid) (q : Point) → if_node (answer (renamed_answers f a) q) (λ j. e' j c) ≡ if_node (answer a q) (λ j. e j c)
+    if_node-answer : (e e' : ℕ → Grid → End) → ((j : ℕ) → passes j ≡ true → (c : Grid) → e' (f j) c ≡ e j c) → (c : Grid) (q : Point) → if_node (answer (renumbered_answers f a) q) (λ j. e' j c) ≡ if_node (answer a q) (λ j. e j c)
     if_node-answer e e' same c q =
-        ap (λ (o : Option ℕ). if_node o (λ j. e' j c)) (answer-renamed f a q)
+        ap (λ (o : Option ℕ). if_node o (λ j. e' j c)) (answer-renumbered f a q)
         ∙ if_node-copied (λ j. e j c) (λ j. e' j c) (answer a q) (λ j h. same j (passing q j h) c)
 
-    points_from-answer : (ps ps' : ℕ → Grid → List Point) → ((j : ℕ) → passes j ≡ true → (c : Grid) → ps' (f j) c ≡ ps j c) → (c : Grid) (q : Point) → points_from (answer (renamed_answers f a) q) (λ j. ps' j c) ≡ points_from (answer a q) (λ j. ps j c)
+    points_from-answer : (ps ps' : ℕ → Grid → List Point) → ((j : ℕ) → passes j ≡ true → (c : Grid) → ps' (f j) c ≡ ps j c) → (c : Grid) (q : Point) → points_from (answer (renumbered_answers f a) q) (λ j. ps' j c) ≡ points_from (answer a q) (λ j. ps j c)
     points_from-answer ps ps' same c q =
-        ap (λ (o : Option ℕ). points_from o (λ j. ps' j c)) (answer-renamed f a q)
+        ap (λ (o : Option ℕ). points_from o (λ j. ps' j c)) (answer-renumbered f a q)
         ∙ points_from-copied (λ j. ps j c) (λ j. ps' j c) (answer a q) (λ j h. same j (passing q j h) c)
 
-    pub reply_leads-answer : (N N' : ℕ → Grid → Type 0) → ((j : ℕ) → passes j ≡ true → (c : Grid) → N' (f j) c ≡ N j c) → (u : Outcome) (line : List Point) (why : Why) (c : Grid) (q : Point) → ReplyLeads u (answer (renamed_answers f a) q) line (λ j. N' j c) why ≡ ReplyLeads u (answer a q) line (λ j. N j c) why
+    pub reply_leads-answer : (N N' : ℕ → Grid → Type 0) → ((j : ℕ) → passes j ≡ true → (c : Grid) → N' (f j) c ≡ N j c) → (u : Outcome) (line : List Point) (why : Why) (c : Grid) (q : Point) → ReplyLeads u (answer (renumbered_answers f a) q) line (λ j. N' j c) why ≡ ReplyLeads u (answer a q) line (λ j. N j c) why
     reply_leads-answer N N' same u line why c q =
-        ap (λ (o : Option ℕ). ReplyLeads u o line (λ j. N' j c) why) (answer-renamed f a q)
+        ap (λ (o : Option ℕ). ReplyLeads u o line (λ j. N' j c) why) (answer-renumbered f a q)
         ∙ reply_leads-copied u (answer a q) line (λ j. N j c) (λ j. N' j c) why (λ j h. same j (passing q j h) c)
 
-    pub depths-copied : (d e : ℕ → ℕ) → ((j : ℕ) → passes j ≡ true → e (f j) ≡ d j) → greatest (map e (named (renamed_answers f a))) ≡ greatest (map d (named a))
-    depths-copied d e same = ap (λ (js : List ℕ). greatest (map e js)) (named-renamed f a) ∙ greatest-copied d e same (named a) all
+    pub depths-copied : (d e : ℕ → ℕ) → ((j : ℕ) → passes j ≡ true → e (f j) ≡ d j) → greatest (map e (named (renumbered_answers f a))) ≡ greatest (map d (named a))
+    depths-copied d e same = ap (λ (js : List ℕ). greatest (map e js)) (named-renumbered f a) ∙ greatest-copied d e same (named a) all
 
   module _ (n : Node) (all : list_all passes (named (answers_of n)) ≡ true) where
-    pub accepted_node-copied : (rule : RuleKind) (N N' : ℕ → Grid → Type 0) → ((j : ℕ) → passes j ≡ true → (c : Grid) → N' (f j) c ≡ N j c) → (b : Grid) → AcceptedNode rule (Some (renamed f n)) N' b ≡ AcceptedNode rule (Some n) N b
+    pub accepted_node-copied : (rule : RuleKind) (N N' : ℕ → Grid → Type 0) → ((j : ℕ) → passes j ≡ true → (c : Grid) → N' (f j) c ≡ N j c) → (b : Grid) → AcceptedNode rule (Some (renumbered_node f n)) N' b ≡ AcceptedNode rule (Some n) N b
     accepted_node-copied rule N N' same b =
-        let inside : (NotWinning (renamed_rest f n.rest) × ((q : Point) → Meets rule (renamed_answers f (answers_of n)) N' (after b n.attack) q)) ≡ (NotWinning n.rest × ((q : Point) → Meets rule (answers_of n) N (after b n.attack) q)) =
-        λ i. NotWinning-renamed f n.rest i × ((q : Point) → Meets-copied (answers_of n) all rule N N' same (after b n.attack) q i) in
+        let inside : (NotWinning (renumbered_rest f n.rest) × ((q : Point) → Meets rule (renumbered_answers f (answers_of n)) N' (after b n.attack) q)) ≡ (NotWinning n.rest × ((q : Point) → Meets rule (answers_of n) N (after b n.attack) q)) =
+        λ i. NotWinning-renumbered f n.rest i × ((q : Point) → Meets-copied (answers_of n) all rule N N' same (after b n.attack) q i) in
         ap (λ (W : Type 0). WinsOr (outcome rule b n.attack) W) inside
 
-    pub arrivals_behind-copied : (rule : RuleKind) (m m' : ℕ → Grid → ℕ) → ((j : ℕ) → passes j ≡ true → (c : Grid) → m' (f j) c ≡ m j c) → (b : Grid) → arrivals_behind rule (Some (renamed f n)) m' b ≡ arrivals_behind rule (Some n) m b
+    pub arrivals_behind-copied : (rule : RuleKind) (m m' : ℕ → Grid → ℕ) → ((j : ℕ) → passes j ≡ true → (c : Grid) → m' (f j) c ≡ m j c) → (b : Grid) → arrivals_behind rule (Some (renumbered_node f n)) m' b ≡ arrivals_behind rule (Some n) m b
     arrivals_behind-copied rule m m' same b =
-        ap (λ (w : Bool). if_goes_on (outcome rule b n.attack) (cond w 0 (arrivals_after rule (renamed_answers f (answers_of n)) m' (after b n.attack)))) (is_winning-renamed f n.rest)
+        ap (λ (w : Bool). if_goes_on (outcome rule b n.attack) (cond w 0 (arrivals_after rule (renumbered_answers f (answers_of n)) m' (after b n.attack)))) (is_winning-renumbered f n.rest)
         ∙ ap (λ (k : ℕ). if_goes_on (outcome rule b n.attack) (cond (is_winning n.rest) 0 k)) (arrivals_after-copied (answers_of n) all rule m m' same (after b n.attack))
 
-    end_at-open : (rule : RuleKind) (b : Grid) → end_at rule (Some (renamed f n)) b (λ n. Open) ≡ end_at rule (Some n) b (λ n. Open)
-    end_at-open rule b = ap (λ (w : Bool). after_attack (outcome rule b n.attack) (cond w NoMove Open)) (is_winning-renamed f n.rest)
+    end_at-open : (rule : RuleKind) (b : Grid) → end_at rule (Some (renumbered_node f n)) b (λ n. Open) ≡ end_at rule (Some n) b (λ n. Open)
+    end_at-open rule b = ap (λ (w : Bool). after_attack (outcome rule b n.attack) (cond w NoMove Open)) (is_winning-renumbered f n.rest)
 
-    end_at-copied : (rule : RuleKind) (e e' : ℕ → Grid → End) → ((j : ℕ) → passes j ≡ true → (c : Grid) → e' (f j) c ≡ e j c) → (b : Grid) (q : Point) → end_at rule (Some (renamed f n)) b (λ n. after_reply (outcome rule (after b n.attack) q) (if_node (answer (answers_of n) q) (λ j. e' j (after (after b n.attack) q)))) ≡ end_at rule (Some n) b (λ n. after_reply (outcome rule (after b n.attack) q) (if_node (answer (answers_of n) q) (λ j. e j (after (after b n.attack) q))))
+    end_at-copied : (rule : RuleKind) (e e' : ℕ → Grid → End) → ((j : ℕ) → passes j ≡ true → (c : Grid) → e' (f j) c ≡ e j c) → (b : Grid) (q : Point) → end_at rule (Some (renumbered_node f n)) b (λ n. after_reply (outcome rule (after b n.attack) q) (if_node (answer (answers_of n) q) (λ j. e' j (after (after b n.attack) q)))) ≡ end_at rule (Some n) b (λ n. after_reply (outcome rule (after b n.attack) q) (if_node (answer (answers_of n) q) (λ j. e j (after (after b n.attack) q))))
     end_at-copied rule e e' same b q =
-        ap (λ (w : Bool). after_attack (outcome rule b n.attack) (cond w NoMove (after_reply (outcome rule (after b n.attack) q) (if_node (answer (renamed_answers f (answers_of n)) q) (λ j. e' j (after (after b n.attack) q)))))) (is_winning-renamed f n.rest)
+        ap (λ (w : Bool). after_attack (outcome rule b n.attack) (cond w NoMove (after_reply (outcome rule (after b n.attack) q) (if_node (answer (renumbered_answers f (answers_of n)) q) (λ j. e' j (after (after b n.attack) q)))))) (is_winning-renumbered f n.rest)
         ∙ ap (λ (x : End). after_attack (outcome rule b n.attack) (cond (is_winning n.rest) NoMove (after_reply (outcome rule (after b n.attack) q) x))) (if_node-answer (answers_of n) all e e' same (after (after b n.attack) q) q)
 
-    attacks_at-none : (rule : RuleKind) (b : Grid) → attacks_at rule (Some (renamed f n)) b (λ n. []) ≡ attacks_at rule (Some n) b (λ n. [])
-    attacks_at-none rule b = ap (λ (w : Bool). n.attack ∷ points_on (outcome rule b n.attack) (cond w [] [])) (is_winning-renamed f n.rest)
+    attacks_at-none : (rule : RuleKind) (b : Grid) → attacks_at rule (Some (renumbered_node f n)) b (λ n. []) ≡ attacks_at rule (Some n) b (λ n. [])
+    attacks_at-none rule b = ap (λ (w : Bool). n.attack ∷ points_on (outcome rule b n.attack) (cond w [] [])) (is_winning-renumbered f n.rest)
 
-    attacks_at-copied : (rule : RuleKind) (ps ps' : ℕ → Grid → List Point) → ((j : ℕ) → passes j ≡ true → (c : Grid) → ps' (f j) c ≡ ps j c) → (b : Grid) (q : Point) → attacks_at rule (Some (renamed f n)) b (λ n. points_on (outcome rule (after b n.attack) q) (points_from (answer (answers_of n) q) (λ j. ps' j (after (after b n.attack) q)))) ≡ attacks_at rule (Some n) b (λ n. points_on (outcome rule (after b n.attack) q) (points_from (answer (answers_of n) q) (λ j. ps j (after (after b n.attack) q))))
+    attacks_at-copied : (rule : RuleKind) (ps ps' : ℕ → Grid → List Point) → ((j : ℕ) → passes j ≡ true → (c : Grid) → ps' (f j) c ≡ ps j c) → (b : Grid) (q : Point) → attacks_at rule (Some (renumbered_node f n)) b (λ n. points_on (outcome rule (after b n.attack) q) (points_from (answer (answers_of n) q) (λ j. ps' j (after (after b n.attack) q)))) ≡ attacks_at rule (Some n) b (λ n. points_on (outcome rule (after b n.attack) q) (points_from (answer (answers_of n) q) (λ j. ps j (after (after b n.attack) q))))
     attacks_at-copied rule ps ps' same b q =
-        ap (λ (w : Bool). n.attack ∷ points_on (outcome rule b n.attack) (cond w [] (points_on (outcome rule (after b n.attack) q) (points_from (answer (renamed_answers f (answers_of n)) q) (λ j. ps' j (after (after b n.attack) q)))))) (is_winning-renamed f n.rest)
+        ap (λ (w : Bool). n.attack ∷ points_on (outcome rule b n.attack) (cond w [] (points_on (outcome rule (after b n.attack) q) (points_from (answer (renumbered_answers f (answers_of n)) q) (λ j. ps' j (after (after b n.attack) q)))))) (is_winning-renumbered f n.rest)
         ∙ ap (λ (xs : List Point). n.attack ∷ points_on (outcome rule b n.attack) (cond (is_winning n.rest) [] (points_on (outcome rule (after b n.attack) q) xs))) (points_from-answer (answers_of n) all ps ps' same (after (after b n.attack) q) q)
 
-    attack_fault-renamed : (u : Outcome) → attack_fault u (renamed_rest f n.rest) ≡ attack_fault u n.rest
-    attack_fault-renamed u = by_rest u n.rest where
-      by_rest : (u : Outcome) (r : Rest) → attack_fault u (renamed_rest f r) ≡ attack_fault u r
+    attack_fault-renumbered : (u : Outcome) → attack_fault u (renumbered_rest f n.rest) ≡ attack_fault u n.rest
+    attack_fault-renumbered u = by_rest u n.rest where
+      by_rest : (u : Outcome) (r : Rest) → attack_fault u (renumbered_rest f r) ≡ attack_fault u r
       by_rest Refused r = refl
       by_rest WinsNow r = refl
       by_rest (Fouls g) r = refl
@@ -225,18 +211,18 @@ module _ (f : ℕ → ℕ) (passes : ℕ → Bool) where
       by_rest GoesOn (To j) = refl
       by_rest GoesOn Nothing = refl
 
-    leads_last-copied : (rule : RuleKind) (b : Grid) (p : Point) (why : Why) → AtNode (Some (renamed f n)) (λ n. (p ≡ n.attack) × (attack_fault (outcome rule b p) n.rest ≡ Some why)) ≡ AtNode (Some n) (λ n. (p ≡ n.attack) × (attack_fault (outcome rule b p) n.rest ≡ Some why))
-    leads_last-copied rule b p why = ap (λ (w : Option Why). (p ≡ n.attack) × (w ≡ Some why)) (attack_fault-renamed (outcome rule b p))
+    leads_last-copied : (rule : RuleKind) (b : Grid) (p : Point) (why : Why) → AtNode (Some (renumbered_node f n)) (λ n. (p ≡ n.attack) × (attack_fault (outcome rule b p) n.rest ≡ Some why)) ≡ AtNode (Some n) (λ n. (p ≡ n.attack) × (attack_fault (outcome rule b p) n.rest ≡ Some why))
+    leads_last-copied rule b p why = ap (λ (w : Option Why). (p ≡ n.attack) × (w ≡ Some why)) (attack_fault-renumbered (outcome rule b p))
 
-    leads_step-copied : (rule : RuleKind) (N N' : ℕ → Grid → Type 0) → ((j : ℕ) → passes j ≡ true → (c : Grid) → N' (f j) c ≡ N j c) → (b : Grid) (p q : Point) (line : List Point) (why : Why) → AtNode (Some (renamed f n)) (λ n. (p ≡ n.attack) × (outcome rule b p ≡ GoesOn) × NotWinning n.rest × ReplyLeads (outcome rule (after b p) q) (answer (answers_of n) q) line (λ j. N' j (after (after b p) q)) why) ≡ AtNode (Some n) (λ n. (p ≡ n.attack) × (outcome rule b p ≡ GoesOn) × NotWinning n.rest × ReplyLeads (outcome rule (after b p) q) (answer (answers_of n) q) line (λ j. N j (after (after b p) q)) why)
+    leads_step-copied : (rule : RuleKind) (N N' : ℕ → Grid → Type 0) → ((j : ℕ) → passes j ≡ true → (c : Grid) → N' (f j) c ≡ N j c) → (b : Grid) (p q : Point) (line : List Point) (why : Why) → AtNode (Some (renumbered_node f n)) (λ n. (p ≡ n.attack) × (outcome rule b p ≡ GoesOn) × NotWinning n.rest × ReplyLeads (outcome rule (after b p) q) (answer (answers_of n) q) line (λ j. N' j (after (after b p) q)) why) ≡ AtNode (Some n) (λ n. (p ≡ n.attack) × (outcome rule b p ≡ GoesOn) × NotWinning n.rest × ReplyLeads (outcome rule (after b p) q) (answer (answers_of n) q) line (λ j. N j (after (after b p) q)) why)
     leads_step-copied rule N N' same b p q line why =
-        λ i. (p ≡ n.attack) × (outcome rule b p ≡ GoesOn) × NotWinning-renamed f n.rest i × reply_leads-answer (answers_of n) all N N' same (outcome rule (after b p) q) line why (after (after b p) q) q i
+        λ i. (p ≡ n.attack) × (outcome rule b p ≡ GoesOn) × NotWinning-renumbered f n.rest i × reply_leads-answer (answers_of n) all N N' same (outcome rule (after b p) q) line why (after (after b p) q) q i
 
 -- ---- whole tables
 
 module _ (f : ℕ → ℕ) (passes : ℕ → Bool) (t u : List Node) (copies : Copies f passes t u) where
   -- what is computed of a node of each table agrees where it agrees for the node and its copy
-  at_copy {ℓ} : (X : Type ℓ) (g g' : Option Node → X) (i : ℕ) → passes i ≡ true → ((n : Node) → list_all passes (named (answers_of n)) ≡ true → g' (Some (renamed f n)) ≡ g (Some n)) → g' (slice_get u (f i)) ≡ g (slice_get t i)
+  at_copy {ℓ} : (X : Type ℓ) (g g' : Option Node → X) (i : ℕ) → passes i ≡ true → ((n : Node) → list_all passes (named (answers_of n)) ≡ true → g' (Some (renumbered_node f n)) ≡ g (Some n)) → g' (slice_get u (f i)) ≡ g (slice_get t i)
   at_copy X g g' i p h =
       let c = copies.copied i p in
       ap g' c.2 ∙ h c.0 c.3 ∙ sym (ap g c.1)

@@ -9,16 +9,17 @@ use Rattle.strategy_graph.specs.declared.Node.{Node}
 use Rattle.strategy_graph.specs.Tables.{answers_of, named, names_below, NamesLower, node_depth, depth_within, depth}
 use Rattle.strategy_graph.specs.Acceptance.{AcceptedNode, AcceptedWithin, Accepted}
 use Rattle.strategy_graph.specs.Arrivals.{arrivals_behind, arrivals_within, arrivals}
-use Rattle.strategy_graph.proofs.Copies.{renamed, renamed-same, depths-copied, accepted_node-copied, arrivals_behind-copied}
+use Rattle.strategy_graph.specs.Renumbered.{renumbered_node}
+use Rattle.strategy_graph.proofs.Copies.{renumbered-same, depths-copied, accepted_node-copied, arrivals_behind-copied}
 use borrow.Author.Tests.{ltb-true}
 
 module _ (t : List Node) (lower : NamesLower t) where
   -- what is computed of node i agrees where it agrees wherever the values at lower nodes do
-  by_node {ℓ} : (X : Type ℓ) (g g' : Option Node → X) (i : ℕ) → g' None ≡ g None → ((n : Node) → list_all (λ j. nat_lt j i) (named (answers_of n)) ≡ true → g' (Some (renamed (λ j. j) n)) ≡ g (Some n)) → g' (slice_get t i) ≡ g (slice_get t i)
+  by_node {ℓ} : (X : Type ℓ) (g g' : Option Node → X) (i : ℕ) → g' None ≡ g None → ((n : Node) → list_all (λ j. nat_lt j i) (named (answers_of n)) ≡ true → g' (Some (renumbered_node (λ j. j) n)) ≡ g (Some n)) → g' (slice_get t i) ≡ g (slice_get t i)
   by_node X g g' i none some = at (slice_get t i) (lower.lower i) where
     at : (o : Option Node) → ((n : Node) → o ≡ Some n → names_below (answers_of n) i ≡ true) → g' o ≡ g o
     at None below = none
-    at (Some n) below = ap (λ (m : Node). g' (Some m)) (sym (renamed-same n)) ∙ some n (below n refl)
+    at (Some n) below = ap (λ (m : Node). g' (Some m)) (sym (renumbered-same n)) ∙ some n (below n refl)
 
   pub depth_within-enough : (k m i : ℕ) → i < k → i < m → depth_within m t i ≡ depth_within k t i
   unfolding depth_within

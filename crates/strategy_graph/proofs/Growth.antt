@@ -1,19 +1,12 @@
 -- A table that grows says the same at the nodes that it had.
-use Rattle.std.proofs.Common.{◌≡◌, ℕ, zero, suc, ◌≤◌, ◌<◌, Bool, true, List, [], ◌∷◌, ◌++◌, length, refl, ap, sym, ◌∙◌, arith}
+use Rattle.std.proofs.Common.{◌≡◌, ℕ, zero, suc, ◌≤◌, ◌<◌, Bool, true, List, [], ◌∷◌, ◌++◌, length, refl, ap, sym, subst, ◌∙◌, arith}
 use Rattle.std.specs.Prelude.{Some, slice_get, nat_lt}
 use Rattle.std.specs.List.{list_all}
-use Rattle.game_rules.specs.Grid.{Grid}
-use Rattle.game_rules.specs.Play.{outcome, after}
-use Rattle.game_rules.specs.declared.RuleKind.{RuleKind}
-use Rattle.game_rules.specs.declared.Point.{Point}
 use Rattle.strategy_graph.specs.declared.Node.{Node}
-use Rattle.strategy_graph.specs.declared.Why.{Why}
-use Rattle.strategy_graph.specs.Tables.{Answers, answers_of, named, names_below, NamesLower, depth, start_depth}
-use Rattle.strategy_graph.specs.Acceptance.{Accepted, AcceptedStart}
-use Rattle.strategy_graph.specs.Arrivals.{arrivals, start_arrivals}
-use Rattle.strategy_graph.specs.Leads.{Leads, LeadsStart}
+use Rattle.strategy_graph.specs.Tables.{Answers, answers_of, named, names_below, NamesLower}
 use Rattle.strategy_graph.specs.Laws.{SaysSame, StartSaysSame}
-use Rattle.strategy_graph.proofs.Copies.{iff_by, renamed-same, renamed_answers-same, Copies, Meets-copied, arrivals_after-copied, reply_leads-answer, depths-copied, depth_within-copied, accepted_within-copied, arrivals_within-copied, game-copied, attacks-copied, Leads-copied}
+use Rattle.strategy_graph.proofs.Copies.{iff_by, renumbered-same, renumbered_answers-same, Copies, depth_within-copied, accepted_within-copied, arrivals_within-copied, game-copied, attacks-copied, Leads-copied}
+use Rattle.strategy_graph.proofs.Starts.{starts-same}
 use Rattle.game_rules.proofs.Boards.{and_left, and_right}
 use borrow.Author.Tests.{ltb-true, lt-ltb}
 
@@ -39,7 +32,7 @@ growth-Copies t more lower = record {
       let here = has_node t more i low in (
         here.0,
         here.1,
-        here.2 ∙ ap Some (sym (renamed-same here.0)),
+        here.2 ∙ ap Some (sym (renumbered-same here.0)),
         names_below-more (answers_of here.0) i (length t) (omega (arith, low)) (lower.lower i here.0 here.1),
       );
 }
@@ -59,36 +52,14 @@ growth-same t more lower i l =
     }
 
 -- a start that names nodes of the shorter table
-module _ (t more : List Node) (lower : NamesLower t) (a : Answers) (below : names_below a (length t) ≡ true) where
-  node_same : (j : ℕ) → nat_lt j (length t) ≡ true → SaysSame t j (t ++ more) j
-  node_same j p = growth-same t more lower j (ltb-true _ _ p)
-
-  start_depth-same : start_depth (t ++ more) a ≡ start_depth t a
-  start_depth-same =
-      ap (λ (x : Answers). start_depth (t ++ more) x) (sym (renamed_answers-same a))
-      ∙ depths-copied (λ j. j) _ a below (depth t) (depth (t ++ more)) (λ j p. (node_same j p).same_depth)
-
-  accepted_start-same : (rule : RuleKind) (b : Grid) → AcceptedStart rule (t ++ more) a b ≡ AcceptedStart rule t a b
-  accepted_start-same rule b =
-      ap (λ (x : Answers). AcceptedStart rule (t ++ more) x b) (sym (renamed_answers-same a))
-      ∙ (λ i. (q : Point) → Meets-copied (λ j. j) _ a below rule (Accepted rule t) (Accepted rule (t ++ more)) (λ j p c. accepted_within-copied (λ j. j) _ t (t ++ more) (growth-Copies t more lower) rule (suc j) j c p) b q i)
-
-  start_arrivals-same : (rule : RuleKind) (b : Grid) → start_arrivals rule (t ++ more) a b ≡ start_arrivals rule t a b
-  start_arrivals-same rule b =
-      ap (λ (x : Answers). start_arrivals rule (t ++ more) x b) (sym (renamed_answers-same a))
-      ∙ ap suc (arrivals_after-copied (λ j. j) _ a below rule (arrivals rule t) (arrivals rule (t ++ more)) (λ j p c. (node_same j p).same_arrivals rule c) b)
-
-  leads_start-same : (rule : RuleKind) (b : Grid) (line : List Point) (why : Why) → LeadsStart rule (t ++ more) a b line why ≡ LeadsStart rule t a b line why
-  leads_start-same rule b [] why = refl
-  leads_start-same rule b (q ∷ line) why =
-      ap (λ (x : Answers). LeadsStart rule (t ++ more) x b (q ∷ line) why) (sym (renamed_answers-same a))
-      ∙ reply_leads-answer (λ j. j) _ a below (λ j c. Leads rule t j c line why) (λ j c. Leads rule (t ++ more) j c line why)
-      (λ j p c. Leads-copied (λ j. j) _ t (t ++ more) (growth-Copies t more lower) rule j c line why p) (outcome rule b q) line why (after b q) q
-
-  pub growth-same-start : StartSaysSame t (t ++ more) a
-  growth-same-start = record {
-    same_depth = start_depth-same;
-    same_accepted = λ rule b. iff_by _ _ (accepted_start-same rule b);
-    same_arrivals = start_arrivals-same;
-    same_leads = λ rule b line why. iff_by _ _ (leads_start-same rule b line why);
-  }
+pub growth-same-start : (t more : List Node) → NamesLower t → (a : Answers) → names_below a (length t) ≡ true → StartSaysSame t a (t ++ more) a
+growth-same-start t more lower a below =
+    let c = growth-Copies t more lower in
+    subst (StartSaysSame t a (t ++ more)) (renumbered_answers-same a)
+    (starts-same (λ j. j) (λ j. nat_lt j (length t)) t (t ++ more)
+    (record {
+      deep = λ j p. depth_within-copied (λ j. j) _ t (t ++ more) c (suc j) j p;
+      accepted = λ rule j p b. accepted_within-copied (λ j. j) _ t (t ++ more) c rule (suc j) j b p;
+      count = λ rule j p b. arrivals_within-copied (λ j. j) _ t (t ++ more) c rule (suc j) j b p;
+      leads = λ rule line why j p b. Leads-copied (λ j. j) _ t (t ++ more) c rule j b line why p;
+    }) a below)

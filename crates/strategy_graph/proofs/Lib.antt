@@ -1,4 +1,5 @@
--- The laws of tables that the layers above may cite.
+-- The laws of tables. What is declared by `pub mod` the layers above may cite; the rest serves this crate alone.
+
 -- what holds of the answer to a reply; replies that rise; the nodes that answers name; `==` of nodes
 pub mod Answering
 pub mod Rising
@@ -7,13 +8,15 @@ pub mod Equal
 -- depth, acceptance and arrivals by the nodes that are named; tables that grow, or hold copies under other numbers
 pub mod Fuel
 pub mod Copies
+pub mod Starts
 pub mod Renumbering
 pub mod Growth
 pub mod Filling
--- accepted nodes win; games end well; a line to a fault refutes
+-- accepted nodes and roots win; a line to a fault refutes; one step of a check
 pub mod Soundness
-pub mod Endings
 pub mod Refutation
--- one step of a check, and one of a game
+pub mod RootLaws
 pub mod Steps
-pub mod Plays
+-- games end well; one step of a game
+mod Endings
+mod Plays

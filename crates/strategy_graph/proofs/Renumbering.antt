@@ -4,11 +4,14 @@ use Rattle.std.proofs.Common.{◌≡◌, ℕ, suc, ◌+◌, Bool, true, List, �
 use Rattle.game_rules.specs.Grid.{Grid}
 use Rattle.game_rules.specs.declared.RuleKind.{RuleKind}
 use Rattle.strategy_graph.specs.declared.Node.{Node}
-use Rattle.strategy_graph.specs.Tables.{NamesLower, depth}
+use Rattle.std.specs.List.{list_all}
+use Rattle.strategy_graph.specs.Tables.{Answers, NamesLower, depth, named}
+use Rattle.strategy_graph.specs.Renumbered.{renumbered_answers}
 use Rattle.strategy_graph.specs.Acceptance.{Accepted}
 use Rattle.strategy_graph.specs.Arrivals.{arrivals}
-use Rattle.strategy_graph.specs.Laws.{SaysSame}
+use Rattle.strategy_graph.specs.Laws.{SaysSame, StartSaysSame}
 use Rattle.strategy_graph.proofs.Copies.{iff_by, Copies, depth_within-copied, accepted_within-copied, arrivals_within-copied, game-copied, attacks-copied, Leads-copied}
+use Rattle.strategy_graph.proofs.Starts.{starts-same}
 use Rattle.strategy_graph.proofs.Fuel.{depth_within-enough, accepted_within-enough, arrivals_within-enough}
 
 module _ (f : ℕ → ℕ) (passes : ℕ → Bool) (t u : List Node) (copies : Copies f passes t u) (lower : NamesLower t) (lower' : NamesLower u) (i : ℕ) (p : passes i ≡ true) where
@@ -47,3 +50,14 @@ module _ (f : ℕ → ℕ) (passes : ℕ → Bool) (t u : List Node) (copies : C
     same_attacks = λ rule b qs. attacks-copied f passes t u copies rule i b qs p;
     same_leads = λ rule b line why. iff_by _ _ (Leads-copied f passes t u copies rule i b line why p);
   }
+
+-- a start with the numbers of the copies says what the start says
+pub copies-same-start : (f : ℕ → ℕ) (passes : ℕ → Bool) (t u : List Node) → Copies f passes t u → NamesLower t → NamesLower u → (a : Answers) → list_all passes (named a) ≡ true → StartSaysSame t a u (renumbered_answers f a)
+copies-same-start f passes t u copies lower lower' a all =
+    starts-same f passes t u
+    (record {
+      deep = λ j p. depth-copied f passes t u copies lower lower' j p;
+      accepted = λ rule j p b. accepted-copied f passes t u copies lower lower' j p rule b;
+      count = λ rule j p b. arrivals-copied f passes t u copies lower lower' j p rule b;
+      leads = λ rule line why j p b. Leads-copied f passes t u copies rule j b line why p;
+    }) a all

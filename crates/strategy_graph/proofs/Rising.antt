@@ -8,7 +8,7 @@ use Rattle.std.proofs.lemmas.Bool.Decides.{nat_tests, Decides-eqb}
 use Rattle.game_rules.specs.Shapes.{is_same_point}
 use Rattle.game_rules.specs.declared.Point.{Point}
 use Rattle.strategy_graph.specs.declared.Reply.{Reply}
-use Rattle.strategy_graph.specs.Tables.{precedes, is_rising, listed}
+use Rattle.strategy_graph.specs.Tables.{precedes, is_rising, listed_node}
 use Rattle.game_rules.proofs.Boards.{and_left, and_right}
 
 -- each reply comes after the one before it, and the first after p
@@ -54,7 +54,7 @@ precedes-differs_by a b c d h = grind (arith, nat_tests)
 pub precedes-differs : (p q : Point) → precedes p q ≡ true → is_same_point p q ≡ false
 precedes-differs p q h = precedes-differs_by p.x p.y q.x q.y h
 
-precedes-differs_back : (p q : Point) → precedes p q ≡ true → is_same_point q p ≡ false
+pub precedes-differs_back : (p q : Point) → precedes p q ≡ true → is_same_point q p ≡ false
 precedes-differs_back p q h = back_by p.x p.y q.x q.y h where
   back_by : (a b c d : ℕ) → (nat_lt b d || (b == d && nat_lt a c)) ≡ true → (c == a && d == b) ≡ false
   back_by a b c d h = grind (arith, nat_tests)
@@ -63,11 +63,11 @@ same_point-itself : (p : Point) → is_same_point p p ≡ true
 same_point-itself p = rw ((Decides-eqb p.x p.x).1 refl, (Decides-eqb p.y p.y).1 refl) refl
 
 -- nothing is listed for a point before all of them, some of them left out or not
-none_listed : (f : Reply → Bool) (p : Point) (rs : List Reply) → list_all (λ s. precedes p s.at) rs ≡ true → listed (filter f rs) p ≡ None
+none_listed : (f : Reply → Bool) (p : Point) (rs : List Reply) → list_all (λ s. precedes p s.at) rs ≡ true → listed_node (filter f rs) p ≡ None
 none_listed f p [] h = refl
 none_listed f p (r ∷ rs) h =
     by_test (f r) (precedes-differs_back p r.at (and_left (precedes p r.at) _ h)) (none_listed f p rs (and_right (precedes p r.at) _ h)) where
-      by_test : (b : Bool) → is_same_point r.at p ≡ false → listed (filter f rs) p ≡ None → listed (cond b (r ∷ filter f rs) (filter f rs)) p ≡ None
+      by_test : (b : Bool) → is_same_point r.at p ≡ false → listed_node (filter f rs) p ≡ None → listed_node (cond b (r ∷ filter f rs) (filter f rs)) p ≡ None
       by_test true e h = rw e h
       by_test false e h = h
 
@@ -75,22 +75,22 @@ after_head : (r : Reply) (rs : List Reply) (k : ℕ) (d : Reply) → is_rising (
 after_head r rs k d h l = precedes-differs r.at (get_or rs k d).at (AllPass-from_list_all (λ s. precedes r.at s.at) rs (and_left _ _ h) k d l)
 
 -- of rising replies, one that is kept is listed for its point
-pub listed-kept : (f : Reply → Bool) (rs : List Reply) (k : ℕ) (d : Reply) → is_rising rs ≡ true → k < length rs → f (get_or rs k d) ≡ true → listed (filter f rs) (get_or rs k d).at ≡ Some (get_or rs k d).next
+pub listed-kept : (f : Reply → Bool) (rs : List Reply) (k : ℕ) (d : Reply) → is_rising rs ≡ true → k < length rs → f (get_or rs k d) ≡ true → listed_node (filter f rs) (get_or rs k d).at ≡ Some (get_or rs k d).next
 listed-kept f [] k d h l e = absurd (omega arith)
 listed-kept f (r ∷ rs) zero d h l e = rw (e, same_point-itself r.at) refl
 listed-kept f (r ∷ rs) (suc k) d h l e =
     by_test (f r) (after_head r rs k d h (omega arith)) (listed-kept f rs k d (and_right (list_all (λ s. precedes r.at s.at) rs) _ h) (omega arith) e) where
-      by_test : (b : Bool) → is_same_point r.at (get_or rs k d).at ≡ false → listed (filter f rs) (get_or rs k d).at ≡ Some (get_or rs k d).next → listed (cond b (r ∷ filter f rs) (filter f rs)) (get_or rs k d).at ≡ Some (get_or rs k d).next
+      by_test : (b : Bool) → is_same_point r.at (get_or rs k d).at ≡ false → listed_node (filter f rs) (get_or rs k d).at ≡ Some (get_or rs k d).next → listed_node (cond b (r ∷ filter f rs) (filter f rs)) (get_or rs k d).at ≡ Some (get_or rs k d).next
       by_test true e h = rw e h
       by_test false e h = h
 
 -- and for the point of one that is left out nothing is listed
-pub listed-left_out : (f : Reply → Bool) (rs : List Reply) (k : ℕ) (d : Reply) → is_rising rs ≡ true → k < length rs → f (get_or rs k d) ≡ false → listed (filter f rs) (get_or rs k d).at ≡ None
+pub listed-left_out : (f : Reply → Bool) (rs : List Reply) (k : ℕ) (d : Reply) → is_rising rs ≡ true → k < length rs → f (get_or rs k d) ≡ false → listed_node (filter f rs) (get_or rs k d).at ≡ None
 listed-left_out f [] k d h l e = absurd (omega arith)
 listed-left_out f (r ∷ rs) zero d h l e = rw e (none_listed f r.at rs (and_left _ _ h))
 listed-left_out f (r ∷ rs) (suc k) d h l e =
     by_test (f r) (after_head r rs k d h (omega arith)) (listed-left_out f rs k d (and_right (list_all (λ s. precedes r.at s.at) rs) _ h) (omega arith) e) where
-      by_test : (b : Bool) → is_same_point r.at (get_or rs k d).at ≡ false → listed (filter f rs) (get_or rs k d).at ≡ None → listed (cond b (r ∷ filter f rs) (filter f rs)) (get_or rs k d).at ≡ None
+      by_test : (b : Bool) → is_same_point r.at (get_or rs k d).at ≡ false → listed_node (filter f rs) (get_or rs k d).at ≡ None → listed_node (cond b (r ∷ filter f rs) (filter f rs)) (get_or rs k d).at ≡ None
       by_test true e h = rw e h
       by_test false e h = h
 

@@ -80,7 +80,8 @@ abbrev pub attacks_at : RuleKind → Option Node → Grid → (Node → List Poi
 attacks_at rule None b next = []
 attacks_at rule (Some n) b next = n.attack ∷ points_on (outcome rule b n.attack) (if is_winning n.rest then [] else next n)
 
--- the attacks that are played in a game from node i at b against these replies
+-- The attacks that are played in a game from node i at b against these replies. An attack that is refused, fouls or draws
+-- counts as played and is the last; an accepted node plays none such.
 unfoldable pub attacks : RuleKind → List Node → ℕ → Grid → List Point → List Point
 attacks rule t i b [] = attacks_at rule (slice_get t i) b (λ n. [])
 attacks rule t i b (q ∷ qs) =

@@ -46,12 +46,13 @@ pub record SaysSame (t : List Node) (i : ℕ) (u : List Node) (j : ℕ) : Type 0
   pub same_attacks : (rule : RuleKind) (b : Grid) (qs : List Point) → attacks rule u j b qs ≡ attacks rule t i b qs
   pub same_leads : (rule : RuleKind) (b : Grid) (line : List Point) (why : Why) → Leads rule u j b line why ↔ Leads rule t i b line why
 
--- the start says the same with both tables
-pub record StartSaysSame (t u : List Node) (a : Answers) : Type 0 where
-  pub same_depth : start_depth u a ≡ start_depth t a
-  pub same_accepted : (rule : RuleKind) (b : Grid) → AcceptedStart rule u a b ↔ AcceptedStart rule t a b
-  pub same_arrivals : (rule : RuleKind) (b : Grid) → start_arrivals rule u a b ≡ start_arrivals rule t a b
-  pub same_leads : (rule : RuleKind) (b : Grid) (line : List Point) (why : Why) → LeadsStart rule u a b line why ↔ LeadsStart rule t a b line why
+-- the start c says with table u what the start a says with table t: its depth, where it is accepted, its arrivals, and the
+-- lines to a fault
+pub record StartSaysSame (t : List Node) (a : Answers) (u : List Node) (c : Answers) : Type 0 where
+  pub same_depth : start_depth u c ≡ start_depth t a
+  pub same_accepted : (rule : RuleKind) (b : Grid) → AcceptedStart rule u c b ↔ AcceptedStart rule t a b
+  pub same_arrivals : (rule : RuleKind) (b : Grid) → start_arrivals rule u c b ≡ start_arrivals rule t a b
+  pub same_leads : (rule : RuleKind) (b : Grid) (line : List Point) (why : Why) → LeadsStart rule u c b line why ↔ LeadsStart rule t a b line why
 
 -- a node says the same however the table grows
 abbrev pub GrowthKeeps : Type 0
@@ -59,7 +60,7 @@ GrowthKeeps = (t more : List Node) → NamesLower t → (i : ℕ) → i < length
 
 -- a start that names nodes of the table says the same however the table grows
 abbrev pub GrowthKeepsStart : Type 0
-GrowthKeepsStart = (t more : List Node) → NamesLower t → (a : Answers) → names_below a (length t) ≡ true → StartSaysSame t (t ++ more) a
+GrowthKeepsStart = (t more : List Node) → NamesLower t → (a : Answers) → names_below a (length t) ≡ true → StartSaysSame t a (t ++ more) a
 
 -- a node from which a line leads to a fault is not accepted
 abbrev pub FaultsRefute : Type 0

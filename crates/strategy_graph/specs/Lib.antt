@@ -1,4 +1,5 @@
 pub mod Tables
+pub mod Renumbered
 pub mod Same
 pub mod Acceptance
 pub mod Arrivals

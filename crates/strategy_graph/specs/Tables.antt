@@ -1,7 +1,8 @@
 -- Tables of answers: what a node names, the answer to a reply, and depths.
 use Rattle.std.specs.Prelude.{◌≡◌, ℕ, zero, suc, ◌≤◌, max, Bool, true, false, ◌&&◌, ◌||◌, ◌==◌, nat_lt, List, [], ◌∷◌, ◌++◌, map, length, Option, Some, None, slice_get}
-use Rattle.std.specs.List.{list_all, find}
+use Rattle.std.specs.List.{list_all, find, AllByRecursion}
 use Rattle.std.specs.Option.{option_map, option_or, option_and_then}
+use Rattle.game_rules.specs.Grid.{Grid, is_on}
 use Rattle.game_rules.specs.Shapes.{is_same_point}
 use Rattle.game_rules.specs.declared.Point.{Point}
 use Rattle.strategy_graph.specs.declared.Reply.{Reply}
@@ -26,12 +27,12 @@ rest_node (To j) = Some j
 rest_node Nothing = None
 
 -- the node that is listed for the reply q, if one is
-abbrev pub listed : List Reply → Point → Option ℕ
-listed rs q = option_map (λ r. r.next) (find (λ r. is_same_point r.at q) rs)
+abbrev pub listed_node : List Reply → Point → Option ℕ
+listed_node rs q = option_map (λ r. r.next) (find (λ r. is_same_point r.at q) rs)
 
 -- the answer to the reply q: the node that is listed for it, else the one of the rest, else nothing
 abbrev pub answer : Answers → Point → Option ℕ
-answer a q = option_or (listed a.replies q) (rest_node a.rest)
+answer a q = option_or (listed_node a.replies q) (rest_node a.rest)
 
 -- the answer of node i to the reply q, if there is such a node and it has one
 abbrev pub answer_at : List Node → ℕ → Point → Option ℕ
@@ -89,6 +90,19 @@ pub record IsTable (t : List Node) : Type 0 where
 pub record IsStart (a : Answers) : Type 0 where
   pub not_winning : is_winning a.rest ≡ false
   pub rising : is_rising a.replies ≡ true
+
+-- each reply that is listed is on the board
+abbrev pub RepliesOn : Grid → List Reply → Type 0
+RepliesOn b rs = AllByRecursion (λ r. is_on b r.at ≡ true) rs
+
+-- the node names points of the board alone: its attack and the replies that it lists are on it
+pub record NamesOnBoard (b : Grid) (n : Node) : Type 0 where
+  pub attack : is_on b n.attack ≡ true
+  pub replies : RepliesOn b n.replies
+
+-- each node of the table names points of the board alone
+abbrev pub TableOnBoard : Grid → List Node → Type 0
+TableOnBoard b t = AllByRecursion (NamesOnBoard b) t
 
 -- the greatest of the numbers, or 0 if there are none
 abbrev pub greatest : List ℕ → ℕ

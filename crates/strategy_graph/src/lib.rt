@@ -23,7 +23,7 @@ mod tests;
 mod theorems;
 
 use game_rules::Point;
-pub use replies::Replies;
+pub use replies::{Replies, answer_among};
 pub use roots::Root;
 pub use start::Start;
 pub use table::{PushError, Table};

@@ -3,7 +3,7 @@
 
 ghost use Rattle.std.specs.Prelude.{◌≡◌, ◌↔◌, ◌<◌, ◌&&◌, nat_lt, [], ◌∷◌, ◌++◌, length, slice_get, Some, OnOk, OnErr, IsTrue};
 ghost use Rattle.std.specs.List.{list_all};
-ghost use Rattle.strategy_graph.specs.Tables.{answer, is_rising, listed, names_below, precedes as precedes_lem};
+ghost use Rattle.strategy_graph.specs.Tables.{answer, is_rising, listed_node, names_below, precedes as precedes_lem};
 
 use crate::{Reply, Rest};
 use game_rules::Point;
@@ -134,7 +134,7 @@ impl Replies {
 
     /// The node that is listed for the reply at this point, if one is. It takes no memory.
     pub fn find(&self, at: Point) -> Option<u32>
-        ensures listed { result ≡ listed self.now at }
+        ensures listed { result ≡ listed_node self.now at }
     {
         let found = self.items.iter().find(|reply| reply.at == at)?;
         Some(found.next)
@@ -152,8 +152,9 @@ impl Replies {
     }
 }
 
-/// The node that answers the reply, by the replies that are listed and the rest.
-pub(crate) fn answer_among(replies: &Replies, rest: Rest, reply: Point) -> Option<u32>
+/// The node that answers the reply, by the replies that are listed and the rest: the one that is listed for it, else the
+/// one of the rest, else `None`. It takes no memory.
+pub fn answer_among(replies: &Replies, rest: Rest, reply: Point) -> Option<u32>
     ensures answer { result ≡ answer (record { replies = replies.now; rest = rest }) reply }
 {
     match replies.find(reply) {

@@ -1,7 +1,7 @@
 -- In the game of continuous fours only the block of a four needs an answer of its own.
-use Rattle.std.proofs.Common.{◌≡◌, inl, inr, ℕ, zero, suc, Bool, true, false, cond, ◌&&◌, ◌||◌, refl, sym, ap, subst, ◌∙◌, arith, List, [], ◌∷◌, nat_eq}
+use Rattle.std.proofs.Common.{◌≡◌, inl, inr, ℕ, zero, suc, Bool, true, false, cond, ◌&&◌, refl, sym, ap, subst, ◌∙◌, arith, List, [], ◌∷◌, nat_eq}
 use Rattle.std.specs.Prelude.{Option, Some, None}
-use Rattle.std.specs.List.{list_any, list_all, filter}
+use Rattle.std.specs.List.{list_all}
 use Rattle.std.proofs.lemmas.Bool.Decides.{nat_tests}
 use Rattle.game_rules.specs.Grid.{Grid, is_on, is_empty, points_of, empties_of}
 use Rattle.game_rules.specs.Shapes.{five}
@@ -12,15 +12,15 @@ use Rattle.game_rules.specs.declared.Foul.{Foul}
 use Rattle.game_rules.specs.declared.Outcome.{Outcome}
 use Rattle.game_rules.specs.declared.Outcome.TheVariants.{Refused, Wins, Fouls, Draws, GoesOn}
 use Rattle.game_rules.specs.declared.Point.{Point}
-use Rattle.game_rules.proofs.Boards.{and_left, and_right, is_empty-on, Apart, empties_of-put}
-use Rattle.game_rules.proofs.Points.{points-found, any_witness, all_of, all_at}
-use Rattle.game_rules.proofs.Positions.{IsBoard-put, IsPosition-after, GoesOn-empty, mover-after}
+use Rattle.game_rules.proofs.Boards.{and_left, and_right, is_empty-on, is_empty-put, Apart, same_or_apart, empties_of-put}
+use Rattle.game_rules.proofs.Points.{points-found, any_witness, all_of, all_at, filter-passes, filter-none}
+use Rattle.game_rules.proofs.Fives.{five-empty, five-other}
+use Rattle.game_rules.proofs.Distinct.{two_passing-apart}
+use Rattle.game_rules.proofs.Positions.{IsBoard-put, IsPosition-after, GoesOn-empty, mover-after, mover-then}
 use Rattle.threat_moves.specs.declared.block.BlockAnswer.TheVariants.{Lost}
 use Rattle.threat_moves.specs.Blocks.{by_block, by_fives, fate}
 use Rattle.threat_moves.specs.OneBlock.{block_wins, BlockDecides, LeavesFive, OthersLeaveFive}
 use Rattle.threat_moves.proofs.FourLaws.{four-goes_on, four-five}
-use Rattle.threat_moves.proofs.OtherSide.{same_or_apart, other-other, is_empty-put, five-other, five-empty}
-use Rattle.threat_moves.proofs.Distinct.{two_passing-apart}
 
 -- ---- outcomes
 
@@ -99,22 +99,6 @@ no-wins : (rule : RuleKind) (b : Grid) → wins_by_fours rule zero b ≡ false
 unfolding wins_under
 no-wins rule b = refl
 
--- ---- lists of passing points
-
-pub filter-passes : (f : Point → Bool) (ps : List Point) → list_all f (filter f ps) ≡ true
-filter-passes f [] = refl
-filter-passes f (p ∷ ps) = by_test (f p) refl (filter-passes f ps) where
-  by_test : (r : Bool) → f p ≡ r → list_all f (filter f ps) ≡ true → list_all f (cond r (p ∷ filter f ps) (filter f ps)) ≡ true
-  by_test true e h = rw e h
-  by_test false e h = h
-
-pub filter-none : (f : Point → Bool) (ps : List Point) → filter f ps ≡ [] → list_any f ps ≡ false
-filter-none f [] h = refl
-filter-none f (p ∷ ps) h = by_test (f p) refl h (filter-none f ps) where
-  by_test : (r : Bool) → f p ≡ r → cond r (p ∷ filter f ps) (filter f ps) ≡ [] → (filter f ps ≡ [] → list_any f ps ≡ false) → (r || list_any f ps) ≡ false
-  by_test true e k rest = cc
-  by_test false e k rest = rest k
-
 loses_by : (o : Outcome) (r : Bool) → (o ≡ Wins → ⊥) → (o ≡ Draws → ⊥) → (o ≡ GoesOn → r ≡ true) → loses_or o r ≡ true
 loses_by Refused r no_win no_draw on = refl
 loses_by Wins r no_win no_draw on = absurd (no_win refl)
@@ -125,15 +109,11 @@ loses_by GoesOn r no_win no_draw on = on refl
 -- ---- after a four: c, where the defender is to move
 
 module _ (rule : RuleKind) (c : Grid) (lawful : IsPosition rule c) where
-  -- the attacker moves after a reply
-  pub mover-next : (q : Point) → outcome rule c q ≡ GoesOn → mover (after c q) ≡ other (mover c)
-  mover-next q on = sym (other-other (mover (after c q))) ∙ ap other (mover-after c q lawful.board (GoesOn-empty rule c q on) lawful.turns)
-
   -- a five point of the attacker that is not taken stays
   five-stays : (q w : Point) → outcome rule c q ≡ GoesOn → five rule c (other (mover c)) w ≡ true → Apart q w → has_five rule (after c q) (mover (after c q)) ≡ true
   five-stays q w on h apart =
       let still : five rule (after c q) (other (mover c)) w ≡ true = five-other c (mover c) q lawful.board (GoesOn-empty rule c q on) rule w apart ∙ h in
-      rw (mover-next q on) (points-found (after c q) (five rule (after c q) (other (mover c))) w (is_empty-on c w (five-empty rule c (other (mover c)) w h)) still)
+      rw (mover-then rule c q lawful on) (points-found (after c q) (five rule (after c q) (other (mover c))) w (is_empty-on c w (five-empty rule c (other (mover c)) w h)) still)
 
   -- where the side to move has no five point, no move wins
   pub no-reply-wins : has_five rule c (mover c) ≡ false → (q : Point) → outcome rule c q ≡ Wins → ⊥

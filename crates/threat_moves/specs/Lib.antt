@@ -1,5 +1,3 @@
 pub mod FourMoves
 pub mod Blocks
 pub mod OneBlock
-pub mod NewFives
-pub mod FiveEnds

@@ -5,7 +5,6 @@
 #![tactic(auto)]
 
 ghost use Rattle.std.specs.Prelude.{◌≡◌, IfOk, IsTrue};
-ghost use Rattle.game_rules.specs.Play.{mover, other as other_lem};
 ghost use Rattle.threat_moves.specs.FourMoves.{is_four_move};
 ghost use Rattle.threat_moves.specs.Blocks.{by_block as by_block_lem, fate as fate_lem, block_answer};
 
@@ -13,7 +12,7 @@ use crate::five_points::{fives, has_five};
 use foul_judge::{Outcome, Seen};
 use row_shapes::Rule;
 use std::alloc::{AllocError, Global};
-use stone_board::{Point, Side};
+use stone_board::Point;
 
 /// What becomes of a four move, the first that holds after it.
 #[derive(Clone, Copy, Debug, PartialEq, Eq)]
@@ -38,7 +37,6 @@ pub fn forced<R: Rule, V: Seen<R>>(
     ensures answer { IfOk result (λ answer. answer ≡ block_answer R.KIND (V.position view.old) p) }
     ensures same { V.position view.new ≡ V.position view.old }
 {
-    view.side();
     view.play(p);
     let answer = fate::<R, V>(alloc, view);
     view.undo(p);
@@ -55,7 +53,7 @@ fn fate<R: Rule, V: Seen<R>>(alloc: Global, view: &mut V) -> Result<BlockAnswer,
     if has_five::<R, V>(view, defender) {
         return Ok(BlockAnswer::Lost);
     }
-    let points = fives::<R, V>(alloc, view, other(defender))?;
+    let points = fives::<R, V>(alloc, view, defender.other())?;
     match points.as_slice() {
         [] => Ok(BlockAnswer::Lost),
         [block] => {
@@ -66,8 +64,8 @@ fn fate<R: Rule, V: Seen<R>>(alloc: Global, view: &mut V) -> Result<BlockAnswer,
     }
 }
 
-/// What becomes of a four whose one block has this outcome.
-fn by_block(block: Point, outcome: Outcome) -> BlockAnswer
+/// What becomes of a four whose one block has this outcome, where the defender has no five point.
+pub fn by_block(block: Point, outcome: Outcome) -> BlockAnswer
     ensures answer { result ≡ by_block_lem block outcome }
 {
     match outcome {
@@ -75,15 +73,5 @@ fn by_block(block: Point, outcome: Outcome) -> BlockAnswer
         Outcome::Fouls(_) => BlockAnswer::Won,
         Outcome::Draws => BlockAnswer::Draw(block),
         Outcome::GoesOn => BlockAnswer::One(block),
-    }
-}
-
-/// The other side.
-fn other(side: Side) -> Side
-    ensures other { result ≡ other_lem side }
-{
-    match side {
-        Side::Black => Side::White,
-        Side::White => Side::Black,
     }
 }

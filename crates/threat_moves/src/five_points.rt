@@ -1,12 +1,14 @@
-//! Five points of a position: the empty points where a stone of a side makes a winning run.
+//! Five points of a position: the empty points where a stone of a side makes a winning run. The view knows them.
 #![tactic(auto)]
 
-ghost use Rattle.std.specs.Prelude.{◌≡◌, ◌++◌, IfOk};
+ghost use Rattle.std.specs.Prelude.{◌≡◌, false, IfOk, IsTrue};
+ghost use Rattle.game_rules.specs.Grid.{is_empty};
+ghost use Rattle.game_rules.specs.Play.{mover, after};
 ghost use Rattle.game_rules.specs.Games.{five_points, has_five as has_five_lem};
-ghost use Rattle.game_rules.specs.Shapes.{five};
+ghost use Rattle.row_shapes.specs.FivePoints.{in_short};
 
 use foul_judge::Seen;
-use row_shapes::Rule;
+use row_shapes::{FivePoints, Rule};
 use std::alloc::{AllocError, Global};
 use stone_board::{Point, Points, Side};
 
@@ -14,30 +16,29 @@ use stone_board::{Point, Points, Side};
 pub fn fives<R: Rule, V: Seen<R>>(alloc: Global, view: &V, side: Side) -> Result<Points, AllocError>
     ensures fives { IfOk result (λ points. points ≡ five_points R.KIND (V.position view.now) side) }
 {
-    let mut found = Points::new(alloc);
-    for p in view.board().points() {
-        if is_five::<R, V>(view, side, p) {
-            found.push(p)?;
-        }
-    }
-    Ok(found)
+    view.five_points(alloc, side)
 }
 
 /// Whether the side has a five point. No memory is taken.
 pub fn has_five<R: Rule, V: Seen<R>>(view: &V, side: Side) -> bool
     ensures five { result ≡ has_five_lem R.KIND (V.position view.now) side }
 {
-    for p in view.board().points() {
-        if is_five::<R, V>(view, side, p) {
-            return true;
-        }
-    }
-    false
+    view.has_five(side)
 }
 
-/// Whether the point is a five point of the side.
-pub(crate) fn is_five<R: Rule, V: Seen<R>>(view: &V, side: Side, p: Point) -> bool
-    ensures five { result ≡ five R.KIND (V.position view.now) side p }
+/// The five points of a side in short. No memory is taken.
+pub fn fives_in_short<R: Rule, V: Seen<R>>(view: &V, side: Side) -> FivePoints
+    ensures fives { result ≡ in_short (five_points R.KIND (V.position view.now) side) }
 {
-    view.board().is_empty(p) && view.five(side, p)
+    view.fives_in_short(side)
+}
+
+/// The five points that the side to move has after its stone on an empty point, where it has none before it. No memory is
+/// taken.
+pub fn fives_made<R: Rule, V: Seen<R>>(view: &V, p: Point) -> FivePoints
+    requires empty { IsTrue (is_empty (V.position view.now) p) }
+    requires none { has_five_lem R.KIND (V.position view.now) (mover (V.position view.now)) ≡ false }
+    ensures made { result ≡ in_short (five_points R.KIND (after (V.position view.now) p) (mover (V.position view.now))) }
+{
+    view.fives_made(p)
 }

@@ -9,12 +9,11 @@ mod block;
 mod five_points;
 mod laws;
 mod moves;
-mod new_fives;
 #[cfg(test)]
 mod tests;
 
-pub use block::{BlockAnswer, forced};
-pub use five_points::{fives, has_five};
+pub use block::{BlockAnswer, by_block, forced};
+pub use five_points::{fives, fives_in_short, fives_made, has_five};
 pub use laws::{block_decides, others_leave_five};
 pub use moves::{four_moves, is_four_move};
-pub use new_fives::{FivePoints, fives_in_short, fives_made};
+pub use row_shapes::FivePoints;

@@ -118,81 +118,28 @@ fn two_five_points_win(rt: HostRuntime) -> Result<(), Fail> {
     Ok(())
 }
 
-/// What a move of the side to move makes, told before it is played, and told again by a scan of the board after it.
-fn told<R: Rule>(
-    alloc: Global,
-    black: &[(u8, u8)],
-    white: &[(u8, u8)],
-    p: Point,
-) -> Result<(FivePoints, FivePoints), Fail> {
-    let mut view = position::<R>(alloc, black, white)?.ok_or("unlawful")?;
+/// What a move of the side to move makes, told before it is played, and told again once it is.
+fn told<R: Rule>(view: &mut Position<R>, p: Point) -> Option<(FivePoints, FivePoints)> {
     let side = view.side();
-    if has_five::<R, Position<R>>(&view, side) || !view.board().is_empty(p) {
-        return Err(Fail::from("no move to ask about"));
+    if has_five::<R, Position<R>>(view, side) || !view.board().is_empty(p) {
+        return None;
     }
-    let made = fives_made::<R, Position<R>>(&view, p);
+    let made = fives_made::<R, Position<R>>(view, p);
     match view.outcome(p) {
         Outcome::GoesOn => {
             view.play(p);
-            Ok((made, fives_in_short::<R, Position<R>>(&view, side)))
+            Some((made, fives_in_short::<R, Position<R>>(view, side)))
         }
-        _ => Err(Fail::from("the game does not go on")),
+        _ => None,
     }
-}
-
-/// The same of a point that both tell, or `None` where they tell otherwise.
-fn agreed(told: (FivePoints, FivePoints)) -> Option<FivePoints> {
-    if told.0 == told.1 { Some(told.0) } else { None }
 }
 
 #[test]
 fn five_points_of_a_move_are_told_before_it(rt: HostRuntime) -> Result<(), Fail> {
-    let expected = [
-        (at(8, 7), FivePoints::Several),
-        (at(4, 7), FivePoints::Several),
-        (at(9, 7), FivePoints::One(at(8, 7))),
-        (at(3, 7), FivePoints::One(at(4, 7))),
-        (at(6, 8), FivePoints::None),
-        (at(14, 14), FivePoints::None),
-    ];
-    for (p, points) in expected.iter() {
-        let told = told::<Freestyle>(rt.alloc(), &THREE_IN_A_ROW, &THREE_APART, *p)?;
-        assert_eq!(rt; agreed(told), Some(*points));
-    }
-    Ok(())
-}
-
-#[test]
-fn a_filled_gap_is_an_overline_or_a_win(rt: HostRuntime) -> Result<(), Fail> {
-    let row = [(2, 7), (3, 7), (4, 7), (7, 7)];
-    let apart = [(0, 0), (2, 0), (4, 0), (6, 0)];
-    let more = [(0, 0), (2, 0), (4, 0), (6, 0), (8, 0)];
-    let p = at(6, 7);
-    let gap = Some(FivePoints::One(at(5, 7)));
-    let none = Some(FivePoints::None);
-    assert_eq!(rt;
-        agreed(told::<Freestyle>(rt.alloc(), &row, &apart, p)?),
-        gap
-    );
-    assert_eq!(rt;
-        agreed(told::<ExactFive>(rt.alloc(), &row, &apart, p)?),
-        none
-    );
-    assert_eq!(rt; agreed(told::<Renju>(rt.alloc(), &row, &apart, p)?), none);
-    assert_eq!(rt; agreed(told::<Renju>(rt.alloc(), &more, &row, p)?), gap);
-    Ok(())
-}
-
-#[test]
-fn an_end_is_off_the_board_or_taken(rt: HostRuntime) -> Result<(), Fail> {
-    let down = [(0, 0), (1, 1), (2, 2)];
-    let up = [(0, 14), (1, 13), (2, 12)];
-    let taken = [(4, 7), (10, 0), (12, 0)];
-    let down_told = told::<Renju>(rt.alloc(), &down, &taken, at(3, 3))?;
-    assert_eq!(rt; agreed(down_told), Some(FivePoints::One(at(4, 4))));
-    let up_told = told::<Renju>(rt.alloc(), &up, &taken, at(3, 11))?;
-    assert_eq!(rt; agreed(up_told), Some(FivePoints::One(at(4, 10))));
-    let row_told = told::<Renju>(rt.alloc(), &THREE_IN_A_ROW, &taken, at(8, 7))?;
-    assert_eq!(rt; agreed(row_told), Some(FivePoints::One(at(9, 7))));
+    let mut view = position::<Freestyle>(rt.alloc(), &THREE_IN_A_ROW, &THREE_APART)?.ok_or(
+        "unlawful",
+    )?;
+    let end = FivePoints::One(at(8, 7));
+    assert_eq!(rt; told::<Freestyle>(&mut view, at(9, 7)), Some((end, end)));
     Ok(())
 }

@@ -6,7 +6,7 @@ use Rattle.four_search.specs.Searching.{found_at}
 use Rattle.strategy_compiler.specs.Trees.{StandsFor}
 use Rattle.four_search.specs.Plans.{four_plan}
 use Rattle.four_search.proofs.Deepening.{win-here, win-cost, win-depth, cost-above, none-more, left-more, end-cost, end-none}
-use Rattle.four_search.proofs.Written.{four-win}
+use Rattle.four_search.proofs.Written.{four-win, no-win}
 use Rattle.four_search.proofs.answer.four_search.Goals as goal
 
 pub returns-in-Ok-Spent-clause-none : goal.returns-in-Ok-Spent-clause-none
@@ -91,3 +91,11 @@ returns-clause-spent g c =
     let end : c.loop-done.done ≡ c.args.depth = let low = c.loop-done-test.false in omega (arith, high, low) in
     let fits = end-cost g.R.Rule.KIND b c.args.depth c.args.budget c.loop-done.left c.loop-done.done end c.loop-done.invariant.none c.loop-done.invariant.spent in
     (λ e. absurd (cc), λ h. absurd (omega (arith, fits, h)))
+
+pub returns-clause-no_win : goal.returns-clause-no_win
+returns-clause-no_win g c =
+    let b : Grid = g.V.Seen.position c.args.view.now in
+    let high = c.loop-done.auto.done-end in
+    let end : c.loop-done.done ≡ c.args.depth = let low = c.loop-done-test.false in omega (arith, high, low) in
+    let none = end-none g.R.Rule.KIND b c.args.depth c.args.budget c.loop-done.left c.loop-done.done end c.loop-done.invariant.none c.loop-done.invariant.spent c.requires.some_depth in
+    λ e. no-win g.R.Rule.KIND c.args.depth b none

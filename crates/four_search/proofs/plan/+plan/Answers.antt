@@ -12,35 +12,35 @@ use Rattle.four_search.proofs.plan.+plan.Goals as goal
 pub compile_after-undo-requires-clause-stone : goal.compile_after-undo-requires-clause-stone
 compile_after-undo-requires-clause-stone g t c =
     let b : Grid = g.V.Seen.position c.args.view.now in
-    let lawful : IsPosition g.R.Rule.KIND (after b c.args.p) = IsPosition-after g.R.Rule.KIND b c.args.p c.side.ensures.lawful c.requires.goes_on in
+    let lawful : IsPosition g.R.Rule.KIND (after b c.args.p) = IsPosition-after g.R.Rule.KIND b c.args.p c.play.ensures.lawful c.requires.goes_on in
     stone_back g.R.Rule.KIND (after b c.args.p) _ c.args.block lawful c.requires.block (c.compile-node.ensures.same ∙ c.play-2.ensures.played ∙ ap (λ (w : Grid). after w c.args.block) c.play.ensures.played)
 
 pub compile_after-undo-requires-clause-unwon : goal.compile_after-undo-requires-clause-unwon
 compile_after-undo-requires-clause-unwon g t c =
     let b : Grid = g.V.Seen.position c.args.view.now in
-    let lawful : IsPosition g.R.Rule.KIND (after b c.args.p) = IsPosition-after g.R.Rule.KIND b c.args.p c.side.ensures.lawful c.requires.goes_on in
+    let lawful : IsPosition g.R.Rule.KIND (after b c.args.p) = IsPosition-after g.R.Rule.KIND b c.args.p c.play.ensures.lawful c.requires.goes_on in
     unwon_back g.R.Rule.KIND (after b c.args.p) _ c.args.block lawful c.requires.block (c.compile-node.ensures.same ∙ c.play-2.ensures.played ∙ ap (λ (w : Grid). after w c.args.block) c.play.ensures.played)
 
 pub compile_after-undo-requires-2-clause-stone : goal.compile_after-undo-requires-2-clause-stone
 compile_after-undo-requires-2-clause-stone g t c =
     let b : Grid = g.V.Seen.position c.args.view.now in
-    let lawful : IsPosition g.R.Rule.KIND (after b c.args.p) = IsPosition-after g.R.Rule.KIND b c.args.p c.side.ensures.lawful c.requires.goes_on in
+    let lawful : IsPosition g.R.Rule.KIND (after b c.args.p) = IsPosition-after g.R.Rule.KIND b c.args.p c.play.ensures.lawful c.requires.goes_on in
     let back = c.undo.ensures.undone ∙ lift_back g.R.Rule.KIND (after b c.args.p) _ c.args.block lawful c.requires.block (c.compile-node.ensures.same ∙ c.play-2.ensures.played ∙ ap (λ (w : Grid). after w c.args.block) c.play.ensures.played) in
-    stone_back g.R.Rule.KIND b _ c.args.p c.side.ensures.lawful c.requires.goes_on back
+    stone_back g.R.Rule.KIND b _ c.args.p c.play.ensures.lawful c.requires.goes_on back
 
 pub compile_after-undo-requires-2-clause-unwon : goal.compile_after-undo-requires-2-clause-unwon
 compile_after-undo-requires-2-clause-unwon g t c =
     let b : Grid = g.V.Seen.position c.args.view.now in
-    let lawful : IsPosition g.R.Rule.KIND (after b c.args.p) = IsPosition-after g.R.Rule.KIND b c.args.p c.side.ensures.lawful c.requires.goes_on in
+    let lawful : IsPosition g.R.Rule.KIND (after b c.args.p) = IsPosition-after g.R.Rule.KIND b c.args.p c.play.ensures.lawful c.requires.goes_on in
     let back = c.undo.ensures.undone ∙ lift_back g.R.Rule.KIND (after b c.args.p) _ c.args.block lawful c.requires.block (c.compile-node.ensures.same ∙ c.play-2.ensures.played ∙ ap (λ (w : Grid). after w c.args.block) c.play.ensures.played) in
-    unwon_back g.R.Rule.KIND b _ c.args.p c.side.ensures.lawful c.requires.goes_on back
+    unwon_back g.R.Rule.KIND b _ c.args.p c.play.ensures.lawful c.requires.goes_on back
 
 pub compile_after-returns-clause-same : goal.compile_after-returns-clause-same
 compile_after-returns-clause-same g t c =
     let b : Grid = g.V.Seen.position c.args.view.now in
-    let lawful : IsPosition g.R.Rule.KIND (after b c.args.p) = IsPosition-after g.R.Rule.KIND b c.args.p c.side.ensures.lawful c.requires.goes_on in
+    let lawful : IsPosition g.R.Rule.KIND (after b c.args.p) = IsPosition-after g.R.Rule.KIND b c.args.p c.play.ensures.lawful c.requires.goes_on in
     let back = c.undo.ensures.undone ∙ lift_back g.R.Rule.KIND (after b c.args.p) _ c.args.block lawful c.requires.block (c.compile-node.ensures.same ∙ c.play-2.ensures.played ∙ ap (λ (w : Grid). after w c.args.block) c.play.ensures.played) in
-    c.undo-2.ensures.undone ∙ lift_back g.R.Rule.KIND b _ c.args.p c.side.ensures.lawful c.requires.goes_on back
+    c.undo-2.ensures.undone ∙ lift_back g.R.Rule.KIND b _ c.args.p c.play.ensures.lawful c.requires.goes_on back
 
 pub compile-returns-in-len1-up-clause-stands : goal.compile-returns-in-len1-up-clause-stands
 compile-returns-in-len1-up-clause-stands g t c =
@@ -78,36 +78,36 @@ compile-compile_four-requires g t c =
 
 pub compile_four-forced-requires : goal.compile_four-forced-requires
 compile_four-forced-requires g t c =
-    record { four = plan-four g.R.Rule.KIND c.args.moves (g.V.Seen.position c.args.view.now) c.args.p c.side.ensures.lawful c.requires.five c.requires.chosen }
+    record { four = plan-four g.R.Rule.KIND c.args.moves (g.V.Seen.position c.args.view.now) c.args.p c.requires.lawful c.requires.five c.requires.chosen }
 
 pub compile_four-unreachable-requires : goal.compile_four-unreachable-requires
 compile_four-unreachable-requires g t c =
-    plan-not-lost g.R.Rule.KIND c.args.moves (g.V.Seen.position c.args.view.now) c.args.p c.side.ensures.lawful c.requires.five c.requires.chosen (sym c.in-Ok.ensures.answer ∙ c.in-Lost.is)
+    plan-not-lost g.R.Rule.KIND c.args.moves (g.V.Seen.position c.args.view.now) c.args.p c.requires.lawful c.requires.five c.requires.chosen (sym c.in-Ok.ensures.answer ∙ c.in-Lost.is)
 
 pub compile_one-overflow_sub-moves : goal.compile_one-overflow_sub-moves
 compile_one-overflow_sub-moves g t c =
-    let some = plan-some g.R.Rule.KIND c.args.moves (g.V.Seen.position c.args.view.now) c.args.p c.side.ensures.lawful c.requires.five c.requires.chosen in
+    let some = plan-some g.R.Rule.KIND c.args.moves (g.V.Seen.position c.args.view.now) c.args.p c.requires.lawful c.requires.five c.requires.chosen in
     omega (arith, some)
 
 pub compile_one-compile_after-requires : goal.compile_one-compile_after-requires
 compile_one-compile_after-requires g t c =
     let b : Grid = g.V.Seen.position c.args.view.now in
-    let goes_on = plan-goes_on g.R.Rule.KIND c.args.moves b c.args.p c.side.ensures.lawful c.requires.five c.requires.chosen in
-    let block = plan-block g.R.Rule.KIND c.args.moves b c.args.p c.side.ensures.lawful c.requires.five c.requires.chosen c.args.block c.requires.one in
-    let both = plan-wins g.R.Rule.KIND c.args.moves b c.args.p c.side.ensures.lawful c.requires.five c.requires.chosen c.args.block c.requires.one in
+    let goes_on = plan-goes_on g.R.Rule.KIND c.args.moves b c.args.p c.requires.lawful c.requires.five c.requires.chosen in
+    let block = plan-block g.R.Rule.KIND c.args.moves b c.args.p c.requires.lawful c.requires.five c.requires.chosen c.args.block c.requires.one in
+    let both = plan-wins g.R.Rule.KIND c.args.moves b c.args.p c.requires.lawful c.requires.five c.requires.chosen c.args.block c.requires.one in
     let wins = both.0 in
     let more = both.1 in
-    let some = plan-some g.R.Rule.KIND c.args.moves b c.args.p c.side.ensures.lawful c.requires.five c.requires.chosen in
+    let some = plan-some g.R.Rule.KIND c.args.moves b c.args.p c.requires.lawful c.requires.five c.requires.chosen in
     search rules
 
 pub compile_one-returns-in_err-beside-clause-grows : goal.compile_one-returns-in_err-beside-clause-grows
 compile_one-returns-in_err-beside-clause-grows g t c =
-    let some = plan-some g.R.Rule.KIND c.args.moves (g.V.Seen.position c.args.view.now) c.args.p c.side.ensures.lawful c.requires.five c.requires.chosen in
+    let some = plan-some g.R.Rule.KIND c.args.moves (g.V.Seen.position c.args.view.now) c.args.p c.requires.lawful c.requires.five c.requires.chosen in
     grows-then _ _ _ (2 * (c.args.moves - 1)) 1 _ c.in_ok-at_block.ensures.grows c.in_err-beside.ensures.grows (omega (arith, some))
 
 pub compile_one-returns-in_err-beside-clause-full : goal.compile_one-returns-in_err-beside-clause-full
 compile_one-returns-in_err-beside-clause-full g t c =
-    let some = plan-some g.R.Rule.KIND c.args.moves (g.V.Seen.position c.args.view.now) c.args.p c.side.ensures.lawful c.requires.five c.requires.chosen in
+    let some = plan-some g.R.Rule.KIND c.args.moves (g.V.Seen.position c.args.view.now) c.args.p c.requires.lawful c.requires.five c.requires.chosen in
     let grown = grows-length _ _ (2 * (c.args.moves - 1)) c.in_ok-at_block.ensures.grows in
     let many = c.in_err-beside.ensures.full in
     search rules
@@ -115,28 +115,28 @@ compile_one-returns-in_err-beside-clause-full g t c =
 pub compile_one-fork-requires-clause-goes_on : goal.compile_one-fork-requires-clause-goes_on
 compile_one-fork-requires-clause-goes_on g t c =
     let b : Grid = g.V.Seen.position c.args.view.now in
-    ap (λ (w : Grid). outcome g.R.Rule.KIND w c.args.p) c.in_ok-at_block.ensures.same ∙ plan-goes_on g.R.Rule.KIND c.args.moves b c.args.p c.side.ensures.lawful c.requires.five c.requires.chosen
+    ap (λ (w : Grid). outcome g.R.Rule.KIND w c.args.p) c.in_ok-at_block.ensures.same ∙ plan-goes_on g.R.Rule.KIND c.args.moves b c.args.p c.requires.lawful c.requires.five c.requires.chosen
 
 pub compile_one-returns-clause-stands : goal.compile_one-returns-clause-stands
 compile_one-returns-clause-stands g t c =
     let b : Grid = g.V.Seen.position c.args.view.now in
     let d : Grid = g.V.Seen.position c.compile_after.new.view in
-    let both = plan-wins g.R.Rule.KIND c.args.moves b c.args.p c.side.ensures.lawful c.requires.five c.requires.chosen c.args.block c.requires.one in
+    let both = plan-wins g.R.Rule.KIND c.args.moves b c.args.p c.requires.lawful c.requires.five c.requires.chosen c.args.block c.requires.one in
     let at_block = stands-grown c.growth_keeps_trees.ensures.same _ _ 1 c.in_ok-beside.ensures.grows c.in_ok-at_block.at_block _ c.in_ok-at_block.ensures.stands in
-    plan-one g.R.Rule.KIND c.args.moves b c.args.p c.side.ensures.lawful c.requires.five c.requires.chosen c.winning.new.compiler c.fork.new.compiler c.fork.result
+    plan-one g.R.Rule.KIND c.args.moves b c.args.p c.requires.lawful c.requires.five c.requires.chosen c.winning.new.compiler c.fork.new.compiler c.fork.result
     d c.in_ok-at_block.ensures.same c.args.block c.requires.one both.1 c.in_ok-at_block.at_block c.in_ok-beside.beside at_block c.in_ok-beside.ensures.stands c.fork.ensures.stands
 
 pub compile_one-returns-clause-grows : goal.compile_one-returns-clause-grows
 compile_one-returns-clause-grows g t c =
-    let some = plan-some g.R.Rule.KIND c.args.moves (g.V.Seen.position c.args.view.now) c.args.p c.side.ensures.lawful c.requires.five c.requires.chosen in
+    let some = plan-some g.R.Rule.KIND c.args.moves (g.V.Seen.position c.args.view.now) c.args.p c.requires.lawful c.requires.five c.requires.chosen in
     grows-then _ _ _ (2 * (c.args.moves - 1) + 1) 1 _ (grows-then _ _ _ (2 * (c.args.moves - 1)) 1 (2 * (c.args.moves - 1) + 1) c.in_ok-at_block.ensures.grows c.in_ok-beside.ensures.grows (omega arith)) c.fork.ensures.grows (omega (arith, some))
 
 pub compile_one-returns-clause-full : goal.compile_one-returns-clause-full
 compile_one-returns-clause-full g t c =
-    let some = plan-some g.R.Rule.KIND c.args.moves (g.V.Seen.position c.args.view.now) c.args.p c.side.ensures.lawful c.requires.five c.requires.chosen in
+    let some = plan-some g.R.Rule.KIND c.args.moves (g.V.Seen.position c.args.view.now) c.args.p c.requires.lawful c.requires.five c.requires.chosen in
     let grown = grows-length _ _ (2 * (c.args.moves - 1) + 1) (grows-then _ _ _ (2 * (c.args.moves - 1)) 1 (2 * (c.args.moves - 1) + 1) c.in_ok-at_block.ensures.grows c.in_ok-beside.ensures.grows (omega arith)) in
     λ full. let many = c.fork.ensures.full full in omega (arith, some, grown, many)
 
 pub compile_four-unreachable-requires-in-Draw : goal.compile_four-unreachable-requires-in-Draw
 compile_four-unreachable-requires-in-Draw g t c =
-    plan-not-draw g.R.Rule.KIND c.args.moves (g.V.Seen.position c.args.view.now) c.args.p c.side.ensures.lawful c.requires.five c.requires.chosen _ (sym c.in-Ok.ensures.answer ∙ c.in-Draw.is)
+    plan-not-draw g.R.Rule.KIND c.args.moves (g.V.Seen.position c.args.view.now) c.args.p c.requires.lawful c.requires.five c.requires.chosen _ (sym c.in-Ok.ensures.answer ∙ c.in-Draw.is)

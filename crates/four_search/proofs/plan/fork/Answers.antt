@@ -13,12 +13,12 @@ use Rattle.four_search.proofs.plan.fork.Goals as goal
 pub undo-requires-clause-stone : goal.undo-requires-clause-stone
 undo-requires-clause-stone g c =
     let b : Grid = g.V.Seen.position c.args.view.now in
-    stone_back g.R.Rule.KIND b _ c.args.p c.side.ensures.lawful c.requires.goes_on (c.answers-found.ensures.same ∙ c.play.ensures.played)
+    stone_back g.R.Rule.KIND b _ c.args.p c.play.ensures.lawful c.requires.goes_on (c.answers-found.ensures.same ∙ c.play.ensures.played)
 
 pub undo-requires-clause-unwon : goal.undo-requires-clause-unwon
 undo-requires-clause-unwon g c =
     let b : Grid = g.V.Seen.position c.args.view.now in
-    unwon_back g.R.Rule.KIND b _ c.args.p c.side.ensures.lawful c.requires.goes_on (c.answers-found.ensures.same ∙ c.play.ensures.played)
+    unwon_back g.R.Rule.KIND b _ c.args.p c.play.ensures.lawful c.requires.goes_on (c.answers-found.ensures.same ∙ c.play.ensures.played)
 
 pub forking-requires-clause-rising : goal.forking-requires-clause-rising
 forking-requires-clause-rising g c =
@@ -37,9 +37,9 @@ forking-requires-clause-below g c =
 pub returns-in-Err-clause-same : goal.returns-in-Err-clause-same
 returns-in-Err-clause-same g c =
     let b : Grid = g.V.Seen.position c.args.view.now in
-    c.undo.ensures.undone ∙ lift_back g.R.Rule.KIND b _ c.args.p c.side.ensures.lawful c.requires.goes_on (c.answers-found.ensures.same ∙ c.play.ensures.played)
+    c.undo.ensures.undone ∙ lift_back g.R.Rule.KIND b _ c.args.p c.play.ensures.lawful c.requires.goes_on (c.answers-found.ensures.same ∙ c.play.ensures.played)
 
 pub returns-in-Ok-clause-same : goal.returns-in-Ok-clause-same
 returns-in-Ok-clause-same g c =
     let b : Grid = g.V.Seen.position c.args.view.now in
-    c.undo.ensures.undone ∙ lift_back g.R.Rule.KIND b _ c.args.p c.side.ensures.lawful c.requires.goes_on (c.answers-found.ensures.same ∙ c.play.ensures.played)
+    c.undo.ensures.undone ∙ lift_back g.R.Rule.KIND b _ c.args.p c.play.ensures.lawful c.requires.goes_on (c.answers-found.ensures.same ∙ c.play.ensures.played)

@@ -3,13 +3,14 @@ use Rattle.game_rules.specs.Grid.{Grid, is_empty}
 use Rattle.game_rules.specs.Play.{IsPosition, after, mover, other, outcome, has_fouls}
 use Rattle.game_rules.specs.Games.{has_five, five_points}
 use Rattle.game_rules.specs.declared.Outcome.TheVariants.{GoesOn}
-use Rattle.game_rules.proofs.Positions.{GoesOn-empty}
+use Rattle.game_rules.proofs.Positions.{GoesOn-empty, mover-other, mover-then}
 use Rattle.threat_moves.proofs.Undo.{stone_back, lift_back, unwon_back}
 use Rattle.threat_moves.specs.FourMoves.{is_four_move}
-use Rattle.threat_moves.specs.NewFives.{in_short}
-use Rattle.threat_moves.specs.declared.new_fives.FivePoints.TheVariants.{One}
+use Rattle.row_shapes.specs.FivePoints.{in_short}
+use Rattle.row_shapes.specs.declared.fives.FivePoints.TheVariants.{One}
+use Rattle.row_shapes.proofs.FiveLaws.{one-empty, has_five-none}
 use Rattle.threat_moves.proofs.FourLaws.{one-goes_on}
-use Rattle.threat_moves.proofs.FiveLaws.{one-empty, has_five-none, block-alone, blocked, mover-other, mover-then}
+use Rattle.threat_moves.proofs.Fates.{block-alone, blocked}
 use Rattle.four_search.specs.declared.search.Found.{Found}
 use Rattle.four_search.specs.Makers.{Covers, CoversBeside, CoversAfter}
 use Rattle.four_search.proofs.Covering.{covers-after}
@@ -86,7 +87,7 @@ pub behind-answering-found-requires : goal.behind-answering-found-requires
 behind-answering-found-requires g t c κs within =
     let b : Grid = g.V.Seen.position c.args.view.now in
     let d : Grid = g.V.Seen.position c.play.new.self in
-    let lawful : IsPosition g.R.Rule.KIND b = c.side.ensures.lawful in
+    let lawful : IsPosition g.R.Rule.KIND b = c.play.ensures.lawful in
     let made : c.args.made ≡ in_short (five_points g.R.Rule.KIND d (other (mover d))) =
     c.requires.made ∙ ap (λ s. in_short (five_points g.R.Rule.KIND (after b c.args.p) s)) (sym (mover-other g.R.Rule.KIND b c.args.p lawful c.requires.goes_on)) ∙ ap (λ (w : Grid). in_short (five_points g.R.Rule.KIND w (other (mover w)))) (sym c.play.ensures.played) in
     let safe : has_five g.R.Rule.KIND d (mover d) ≡ false =
@@ -98,22 +99,22 @@ behind-answering-found-requires g t c κs within =
 pub behind-undo-requires-clause-stone : goal.behind-undo-requires-clause-stone
 behind-undo-requires-clause-stone g t c =
     let b : Grid = g.V.Seen.position c.args.view.now in
-    stone_back g.R.Rule.KIND b _ c.args.p c.side.ensures.lawful c.requires.goes_on (c.answering-found.ensures.same ∙ c.play.ensures.played)
+    stone_back g.R.Rule.KIND b _ c.args.p c.play.ensures.lawful c.requires.goes_on (c.answering-found.ensures.same ∙ c.play.ensures.played)
 
 pub behind-undo-requires-clause-unwon : goal.behind-undo-requires-clause-unwon
 behind-undo-requires-clause-unwon g t c =
     let b : Grid = g.V.Seen.position c.args.view.now in
-    unwon_back g.R.Rule.KIND b _ c.args.p c.side.ensures.lawful c.requires.goes_on (c.answering-found.ensures.same ∙ c.play.ensures.played)
+    unwon_back g.R.Rule.KIND b _ c.args.p c.play.ensures.lawful c.requires.goes_on (c.answering-found.ensures.same ∙ c.play.ensures.played)
 
 pub behind-returns-in_err-found-clause-same : goal.behind-returns-in_err-found-clause-same
 behind-returns-in_err-found-clause-same g t c =
     let b : Grid = g.V.Seen.position c.args.view.now in
-    c.undo.ensures.undone ∙ lift_back g.R.Rule.KIND b _ c.args.p c.side.ensures.lawful c.requires.goes_on (c.answering-found.ensures.same ∙ c.play.ensures.played)
+    c.undo.ensures.undone ∙ lift_back g.R.Rule.KIND b _ c.args.p c.play.ensures.lawful c.requires.goes_on (c.answering-found.ensures.same ∙ c.play.ensures.played)
 
 pub behind-returns-in-Win-clause-same : goal.behind-returns-in-Win-clause-same
 behind-returns-in-Win-clause-same g t c =
     let b : Grid = g.V.Seen.position c.args.view.now in
-    c.undo.ensures.undone ∙ lift_back g.R.Rule.KIND b _ c.args.p c.side.ensures.lawful c.requires.goes_on (c.answering-found.ensures.same ∙ c.play.ensures.played)
+    c.undo.ensures.undone ∙ lift_back g.R.Rule.KIND b _ c.args.p c.play.ensures.lawful c.requires.goes_on (c.answering-found.ensures.same ∙ c.play.ensures.played)
 
 pub behind-returns-in_default : goal.behind-returns-in_default
 behind-returns-in_default g t c =
@@ -122,7 +123,7 @@ behind-returns-in_default g t c =
     c.in_ok-found.ensures.found ∙ ap (λ (w : Grid). found_answering g.R.Rule.KIND c.args.moves w c.args.budget) c.play.ensures.played in
     record {
       found = behind-else g.R.Rule.KIND c.args.moves b c.args.p c.args.budget c.in_ok-found.found c.in_default.not-Win found;
-      same = c.undo.ensures.undone ∙ lift_back g.R.Rule.KIND b _ c.args.p c.side.ensures.lawful c.requires.goes_on (c.answering-found.ensures.same ∙ c.play.ensures.played);
+      same = c.undo.ensures.undone ∙ lift_back g.R.Rule.KIND b _ c.args.p c.play.ensures.lawful c.requires.goes_on (c.answering-found.ensures.same ∙ c.play.ensures.played);
     }
 
 pub search_on-try_point-requires : goal.search_on-try_point-requires
@@ -130,7 +131,7 @@ search_on-try_point-requires g t c κs within =
     let b : Grid = g.V.Seen.position c.args.view.now in
     let one : in_short (five_points g.R.Rule.KIND b (other (mover b))) ≡ One c.in-One.point = sym c.requires.threat ∙ c.in-One.is in
     let empty : is_empty b c.in-One.point ≡ true = one-empty g.R.Rule.KIND b (other (mover b)) c.in-One.point one in
-    let safe : has_five g.R.Rule.KIND (after b c.in-One.point) (other (mover b)) ≡ false = one-gone g.R.Rule.KIND b c.in-One.point c.side.ensures.lawful one in
+    let safe : has_five g.R.Rule.KIND (after b c.in-One.point) (other (mover b)) ≡ false = one-gone g.R.Rule.KIND b c.in-One.point c.requires.lawful one in
     search rules
 
 pub search_on-try_each-requires : goal.search_on-try_each-requires
@@ -142,7 +143,7 @@ search_on-try_each-requires g t c κs within =
 pub search_on-returns-in-Several-clause-found : goal.search_on-returns-in-Several-clause-found
 search_on-returns-in-Several-clause-found g t c =
     let b : Grid = g.V.Seen.position c.args.view.now in
-    found-several g.R.Rule.KIND c.args.moves c.args.budget b c.side.ensures.lawful c.requires.none c.requires.some c.requires.some_budget (sym c.requires.threat ∙ c.in-Several.is)
+    found-several g.R.Rule.KIND c.args.moves c.args.budget b c.requires.lawful c.requires.none c.requires.some c.requires.some_budget (sym c.requires.threat ∙ c.in-Several.is)
 
 pub search_on-makes-requires-clause-empty : goal.search_on-makes-requires-clause-empty
 search_on-makes-requires-clause-empty g t c =
@@ -153,14 +154,14 @@ pub search_on-returns-then-makes-clause-found : goal.search_on-returns-then-make
 search_on-returns-then-makes-clause-found g t c =
     let b : Grid = g.V.Seen.position c.args.view.now in
     let same : found_trying g.R.Rule.KIND (c.args.moves - 1) b c.in-One.point (c.args.budget - 1) ≡ found_at g.R.Rule.KIND c.args.moves b c.args.budget =
-    found-one g.R.Rule.KIND c.args.moves c.args.budget b c.side.ensures.lawful c.requires.none c.requires.some c.requires.some_budget c.in-One.point (sym c.requires.threat ∙ c.in-One.is) in
+    found-one g.R.Rule.KIND c.args.moves c.args.budget b c.requires.lawful c.requires.none c.requires.some c.requires.some_budget c.in-One.point (sym c.requires.threat ∙ c.in-One.is) in
     subst (λ (f : Found). IfOk c.try_point.result (λ found. found ≡ f)) same c.try_point.ensures.found
 
 pub search_on-returns-else-makes-clause-found : goal.search_on-returns-else-makes-clause-found
 search_on-returns-else-makes-clause-found g t c =
     let b : Grid = g.V.Seen.position c.args.view.now in
     trying-no_five g.R.Rule.KIND (c.args.moves - 1) b c.in-One.point (c.args.budget - 1) (c.makes.ensures.other c.if-makes.false)
-    ∙ found-one g.R.Rule.KIND c.args.moves c.args.budget b c.side.ensures.lawful c.requires.none c.requires.some c.requires.some_budget c.in-One.point (sym c.requires.threat ∙ c.in-One.is)
+    ∙ found-one g.R.Rule.KIND c.args.moves c.args.budget b c.requires.lawful c.requires.none c.requires.some c.requires.some_budget c.in-One.point (sym c.requires.threat ∙ c.in-One.is)
 
 pub try_each-try_point-requires : goal.try_each-try_point-requires
 try_each-try_point-requires g t c κs within =
@@ -170,7 +171,7 @@ try_each-try_point-requires g t c κs within =
     let empty : is_empty d c.in-Some.p ≡ true = c.may_make.ensures.empty c.if-may_make.true in
     let none : has_five g.R.Rule.KIND d (mover d) ≡ false = ap (λ (w : Grid). has_five g.R.Rule.KIND w (mover w)) same ∙ c.requires.none in
     let safe : has_five g.R.Rule.KIND (after d c.in-Some.p) (other (mover d)) ≡ false =
-    ap (λ (w : Grid). has_five g.R.Rule.KIND (after w c.in-Some.p) (other (mover w))) same ∙ none-stays g.R.Rule.KIND b c.side.ensures.lawful c.in-Some.p (ap (λ (w : Grid). is_empty w c.in-Some.p) (sym same) ∙ empty) c.requires.safe in
+    ap (λ (w : Grid). has_five g.R.Rule.KIND (after w c.in-Some.p) (other (mover w))) same ∙ none-stays g.R.Rule.KIND b c.requires.lawful c.in-Some.p (ap (λ (w : Grid). is_empty w c.in-Some.p) (sym same) ∙ empty) c.requires.safe in
     let covers : Covers g.R.Rule.KIND d c.args.makers.now = subst (λ (w : Grid). Covers g.R.Rule.KIND w c.args.makers.now) (sym same) c.requires.covers in
     search rules
 
@@ -190,7 +191,7 @@ try_each-returns-in_default g t c =
     record {
       found = sym (step-ends g.R.Rule.KIND (c.args.moves - 1) b c.loop-p.left c.in-Some.p c.loop-p.p-iterator c.next.new.self c.in-Some.ensures.steps c.in_ok-found.found found c.in_default.not-NoWin)
           ∙ c.loop-p.invariant.rest
-          ∙ found-after g.R.Rule.KIND c.args.moves c.args.budget b c.side.ensures.lawful c.requires.none c.requires.some c.requires.some_budget;
+          ∙ found-after g.R.Rule.KIND c.args.moves c.args.budget b c.requires.lawful c.requires.none c.requires.some c.requires.some_budget;
       same = c.try_point.ensures.same ∙ c.loop-p.invariant.same;
     }
 
@@ -209,7 +210,7 @@ try_each-returns-clause-found g t c =
     sym (try_all-none g.R.Rule.KIND (c.args.moves - 1) b c.loop-p.left)
     ∙ ap (try_all g.R.Rule.KIND (c.args.moves - 1) b c.loop-p.left) (sym c.in-None.ensures.steps.0)
     ∙ c.loop-p.invariant.rest
-    ∙ found-after g.R.Rule.KIND c.args.moves c.args.budget b c.side.ensures.lawful c.requires.none c.requires.some c.requires.some_budget
+    ∙ found-after g.R.Rule.KIND c.args.moves c.args.budget b c.requires.lawful c.requires.none c.requires.some c.requires.some_budget
 
 pub try_point-returns-in-None-clause-found : goal.try_point-returns-in-None-clause-found
 try_point-returns-in-None-clause-found g t c =

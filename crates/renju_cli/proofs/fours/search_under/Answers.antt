@@ -2,7 +2,7 @@ use Rattle.std.proofs.Common.{◌∙◌, subst}
 use Rattle.four_search.specs.Answers.{OnWin, IsFourWin}
 use Rattle.four_search.specs.declared.answer.FourAnswer.{FourAnswer}
 use Rattle.renju_cli.proofs.FourTables.{win-says}
-use Rattle.renju_cli.proofs.Denials.{IsDenied, none-says}
+use Rattle.renju_cli.proofs.Denials.{IsKnownDenied, none-says}
 use Rattle.renju_cli.proofs.fours.search_under.Goals as goal
 
 pub returns-in-Ok-Win : goal.returns-in-Ok-Win
@@ -16,5 +16,5 @@ returns-in-Ok-Win g c =
 pub returns-in-Ok-None : goal.returns-in-Ok-None
 returns-in-Ok-None g c =
     let facts = c.in-Ok-None.ensures.none.0 c.in-Ok-None.field-0-is in
-    let known : IsDenied g.R.Rule.KIND c.args.depth c.args.nodes c.new-position.result = record { none = facts.0; enough = facts.1 } in
+    let known : IsKnownDenied g.R.Rule.KIND c.args.depth c.args.nodes c.new-position.result = record { none = facts.0; enough = facts.1 } in
     record { says = none-says c.none.result c.args.depth c.args.nodes c.args.file g.R.Rule.KIND c.new-position.result c.requires.kind c.new-position.ensures.position known c.none.ensures.status c.none.ensures.text }

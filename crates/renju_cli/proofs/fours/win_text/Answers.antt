@@ -1,5 +1,6 @@
 use Rattle.std.proofs.Common.{arith}
-use Rattle.renju_cli.proofs.FourTables.{made-of, table-some, table-on, root-fits}
+use Rattle.four_search.specs.Plans.{four_plan}
+use Rattle.renju_cli.proofs.FourTables.{IsMadeOf, made-of, fewest-moves, four-table, table-some, table-on, root-fits}
 use Rattle.renju_cli.proofs.fours.win_text.Goals as goal
 
 pub overflow_sub-root : goal.overflow_sub-root
@@ -21,3 +22,20 @@ write_table-requires-clause-root c =
     let all = fits.0 in
     let count = c.len.ensures.count in
     (omega (arith, all, count), fits.1, fits.2)
+
+pub returns-clause-text : goal.returns-clause-text
+returns-clause-text c = λ limit win.
+    let made : IsMadeOf c.args.kind c.args.board.now limit c.args.moves c.args.compiler c.args.node c.in_ok-table.table = record {
+      lawful = c.requires.lawful;
+      win = win;
+      made = c.in_ok-table.ensures.trees (four_plan c.args.kind c.args.moves c.args.board.now) win.stands;
+      reached = c.in_ok-table.ensures.reached;
+      same = c.in_ok-table.ensures.same;
+    } in
+    record {
+      moves = c.args.moves;
+      table = c.in_ok-table.table;
+      fewest = fewest-moves _ _ _ _ _ _ _ made;
+      made = four-table _ _ _ _ _ _ _ made;
+      written = rw c.len.ensures.count at c.in_ok-write_table.ensures.written;
+    }

@@ -1,9 +1,12 @@
-use Rattle.renju_cli.proofs.Wins.{report_won}
-use Rattle.renju_cli.proofs.Complete.{report_complete}
+use Rattle.renju_cli.proofs.ReportLaws.{report-won, report-searched, report-complete}
 use Rattle.renju_cli.proofs.run.run_renju.Goals as goal
 
-pub returns-clause-won : goal.returns-clause-won
-returns-clause-won g c = report_won _ _ _ _ _ _ c.run.ensures.report
-
-pub returns-clause-complete : goal.returns-clause-complete
-returns-clause-complete g c = report_complete _ _ _ _ _ _ c.run.ensures.report
+-- all that holds of a run follows from its report
+pub returns : goal.returns
+returns g c = rw c.number.ensures.number (record {
+  report = c.run.ensures.report;
+  won = report-won _ c.run.ensures.report;
+  searched = report-searched _ c.run.ensures.report;
+  complete = report-complete _ c.run.ensures.report;
+  devices = c.run.ensures.devices;
+})

@@ -1,5 +1,5 @@
 use Rattle.std.proofs.Common.{◌<◌, ◌≤◌, ◌-◌, vec_len}
-use Rattle.renju_io.specs.Faults.{HasNotFallen}
+use Rattle.renju_io.specs.Faults.{HasStayed}
 use Rattle.renju_io.specs.Told.{Gives}
 use Rattle.renju_io.proofs.reading.read_all.Given as goal
 
@@ -8,7 +8,7 @@ abbrev pub invariant-loop-count : goal.invariant-loop-count
 invariant-loop-count g l = Gives (g.S.Source.left l.initial.source) l.bytes.items (g.S.Source.left l.source)
     × (vec_len l.bytes ≤ 16777216)
     × (0 < vec_len l.piece)
-    × HasNotFallen (g.S.Source.faults l.initial.source) (g.S.Source.faults l.source)
+    × HasStayed (g.S.Source.faults l.initial.source) (g.S.Source.faults l.source)
 
 abbrev pub decreases-loop-count : goal.decreases-loop-count
 decreases-loop-count g l = 16777216 - vec_len l.bytes

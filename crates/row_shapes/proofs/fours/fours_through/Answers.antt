@@ -3,8 +3,8 @@ use Rattle.std.specs.Prelude.{count_by}
 use Rattle.std.specs.List.{range_with_len}
 use Rattle.game_rules.specs.Shapes.{fours_of, place_stone, place_wins}
 use Rattle.game_rules.specs.declared.Side.{Side}
-use Rattle.row_shapes.specs.Gaps.{listed, fours_by_gap}
-use Rattle.row_shapes.proofs.Counting.{fours_of-gap, fours_listed, no_fours}
+use Rattle.row_shapes.specs.Gaps.{listed}
+use Rattle.row_shapes.proofs.Counting.{fours_by_gap, fours_of-gap, fours_listed, no_fours}
 use Rattle.row_shapes.proofs.fours.fours_through.Goals as goal
 
 pub returns-then-count-lt4-clause-fours : goal.returns-then-count-lt4-clause-fours

@@ -1,5 +1,5 @@
 use Rattle.std.proofs.Common.{◌≡◌, map, take, get_or}
-use Rattle.strategy_compiler.specs.Walks.{renumbered_reply}
+use Rattle.strategy_graph.specs.Renumbered.{renumbered_reply}
 use Rattle.strategy_compiler.proofs.renumbering.renumbered_replies.Given as goal
 
 abbrev pub invariant-loop-reply : goal.invariant-loop-reply

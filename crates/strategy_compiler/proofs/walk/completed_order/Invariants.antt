@@ -1,10 +1,11 @@
-use Rattle.std.proofs.Common.{◌+◌, ◌*◌, length, reverse}
-use Rattle.strategy_compiler.proofs.Walking.{IsWalk, unset, front}
+use Rattle.std.proofs.Common.{◌≡◌, take}
+use Rattle.strategy_compiler.specs.Walks.{completed_from}
+use Rattle.strategy_compiler.specs.Orders.{IsBetween}
 use Rattle.strategy_compiler.proofs.walk.completed_order.Given as goal
 
-abbrev pub invariant-loop-number : goal.invariant-loop-number
-invariant-loop-number l = IsWalk l.nodes l.root l.is_completed.items l.order.items (reverse l.path.items)
-
--- a step down lowers the front of the way, and a node that is completed takes a flag
-abbrev pub decreases-loop-number : goal.decreases-loop-number
-decreases-loop-number l = unset l.is_completed.items * (length l.nodes + 1) + front (reverse l.path.items)
+-- the walks from the roots so far
+abbrev pub invariant-loop-root : goal.invariant-loop-root
+invariant-loop-root l = record {
+  walked : l.order.items ≡ completed_from l.nodes (take l.root-index l.roots);
+  between : IsBetween l.nodes l.order.items l.is_completed.items;
+}

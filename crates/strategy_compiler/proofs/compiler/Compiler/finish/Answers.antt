@@ -1,11 +1,32 @@
-use Rattle.std.proofs.Common.{◌∙◌, subst, List}
-use Rattle.std.specs.Prelude.{IfOk, All}
-use Rattle.std.proofs.lemmas.Result.{IfOk-weaker}
-use Rattle.strategy_graph.specs.declared.Node.{Node}
-use Rattle.strategy_compiler.specs.Walks.{IsMadeFrom, NamesPointsReached}
+-- The case of one root.
+use Rattle.std.proofs.Common.{◌∙◌}
+use Rattle.strategy_compiler.proofs.Finishing.{finished}
 use Rattle.strategy_compiler.proofs.compiler.Compiler.finish.Goals as goal
+
+pub returns-clause-nodes : goal.returns-clause-nodes
+returns-clause-nodes c =
+    (finished c.args.self c.as_slice.result.now c.args.root c.in_ok-made.made.table (c.as_slice.ensures.keys ∙ c.self.view_is) (rw (c.as_slice.ensures.keys) c.self.invariant.table) c.in_ok-made.ensures.made).nodes
+
+pub returns-clause-trees : goal.returns-clause-trees
+returns-clause-trees c =
+    (finished c.args.self c.as_slice.result.now c.args.root c.in_ok-made.made.table (c.as_slice.ensures.keys ∙ c.self.view_is) (rw (c.as_slice.ensures.keys) c.self.invariant.table) c.in_ok-made.ensures.made).trees
+
+pub returns-clause-some : goal.returns-clause-some
+returns-clause-some c =
+    (finished c.args.self c.as_slice.result.now c.args.root c.in_ok-made.made.table (c.as_slice.ensures.keys ∙ c.self.view_is) (rw (c.as_slice.ensures.keys) c.self.invariant.table) c.in_ok-made.ensures.made).some
+
+pub returns-clause-reached : goal.returns-clause-reached
+returns-clause-reached c =
+    (finished c.args.self c.as_slice.result.now c.args.root c.in_ok-made.made.table (c.as_slice.ensures.keys ∙ c.self.view_is) (rw (c.as_slice.ensures.keys) c.self.invariant.table) c.in_ok-made.ensures.made).reached
+
+pub returns-clause-numbered : goal.returns-clause-numbered
+returns-clause-numbered c =
+    (finished c.args.self c.as_slice.result.now c.args.root c.in_ok-made.made.table (c.as_slice.ensures.keys ∙ c.self.view_is) (rw (c.as_slice.ensures.keys) c.self.invariant.table) c.in_ok-made.ensures.made).numbered
+
+pub returns-clause-same : goal.returns-clause-same
+returns-clause-same c =
+    (finished c.args.self c.as_slice.result.now c.args.root c.in_ok-made.made.table (c.as_slice.ensures.keys ∙ c.self.view_is) (rw (c.as_slice.ensures.keys) c.self.invariant.table) c.in_ok-made.ensures.made).same
 
 pub returns-clause-points : goal.returns-clause-points
 returns-clause-points c =
-    IfOk-weaker c.table_from.result (IsMadeFrom c.args.self c.args.root) (λ t. All (NamesPointsReached c.args.self c.args.root) t) (λ t made. made.points)
-    (subst (λ (nodes : List Node). IfOk c.table_from.result (IsMadeFrom nodes c.args.root)) (c.as_slice.ensures.keys ∙ c.self.view_is) c.table_from.ensures.made)
+    (finished c.args.self c.as_slice.result.now c.args.root c.in_ok-made.made.table (c.as_slice.ensures.keys ∙ c.self.view_is) (rw (c.as_slice.ensures.keys) c.self.invariant.table) c.in_ok-made.ensures.made).points

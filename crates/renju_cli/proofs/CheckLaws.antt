@@ -1,0 +1,85 @@
+-- The command `check`: its words, its answers, and what its status 0 shows.
+use Rattle.std.proofs.Common.{◌≡◌, inl, inr, refl, sym, ap, subst, ◌∙◌, ◌⊎◌, ℕ, ◌≤◌, List, [], ◌∷◌, arith}
+use Rattle.std.specs.Prelude.{codes, Option, IfSome}
+use Rattle.std.specs.Fmt.{decimal}
+use Rattle.strategy_graph.specs.Roots.{root_arrivals, RootWins}
+use Rattle.position_files.specs.declared.TableFile.{TableFile}
+use Rattle.position_files.specs.Faults.{IsTableFault}
+use Rattle.position_files.proofs.ReadBack.{table-read-back}
+use Rattle.renju_io.specs.Told.{Takes}
+use Rattle.renju_cli.specs.declared.status.Status.{Status}
+use Rattle.renju_cli.specs.declared.status.Status.TheVariants.{Done, RefusedText, RefusedTable, Spent}
+use Rattle.renju_cli.specs.declared.TheConstants.{MAX_WORK}
+use Rattle.renju_cli.specs.Statuses.{status_number}
+use Rattle.renju_cli.specs.Runs.{Change, Run}
+use Rattle.renju_cli.specs.Forms.{IsSpelled}
+use Rattle.renju_cli.specs.Told.{IsTold, IsYielded}
+use Rattle.renju_cli.specs.Refusals.{IsRefusedText}
+use Rattle.renju_cli.specs.Checks.{accepted_line, IsTableAt, IsAcceptedTable, IsRefusedTable, IsSpentWork, TableSays, CheckSays, check_command, IsAcceptedInput}
+use Rattle.renju_cli.specs.Commands.{HasForm}
+use Rattle.renju_cli.proofs.FormLaws.{has-told}
+use Rattle.renju_cli.proofs.ToldLaws.{IsWhole, whole-or-yielded, given-told}
+
+-- `check` and words that are no number in its range have no form
+pub no-check : (rest : List (List ℕ)) → ((work : ℕ) → (1 ≤ work) × (work ≤ MAX_WORK) → rest ≡ decimal work ∷ [] → ⊥) → ¬ HasForm (codes "check" ∷ rest)
+no-check rest none h =
+    let is = has-told (codes "check" ∷ rest) h in
+    let spelled = is.spelled in
+    none _ is.in_range (cc)
+
+-- what is said of a text for which the work is enough is an answer
+pub check-answers : (work : ℕ) (bytes : List ℕ) → (check_command work).IsAnswerable bytes → (status : Status) (text : List ℕ) → CheckSays work bytes status text → (check_command work).IsAnswer status
+check-answers work bytes can status text (inl refused) =
+    let only = table-read-back can.0 bytes can.1.text can.1.lawful can.1.moves in
+    absurd (refused.cause (only.no_fault refused.error refused.fault))
+check-answers work bytes can status text (inr said) = by-verdict said.2 where
+  by-verdict : TableSays work said.0 status text → (status ≡ Done) ⊎ (status ≡ RefusedTable)
+  by-verdict (inl accepted) = inl accepted.ends
+  by-verdict (inr (inl refused)) = inr refused.ends
+  by-verdict (inr (inr spent)) =
+      let only = table-read-back can.0 bytes can.1.text can.1.lawful can.1.moves in
+      let same : said.0 ≡ can.0 = only.no_other said.0 said.1.text in
+      let few : root_arrivals said.0.kind said.0.table said.0.root said.0.board ≤ work =
+      subst (λ (f : TableFile). root_arrivals f.kind f.table f.root f.board ≤ work) (sym same) can.2 in
+      let more = spent.more in
+      absurd (omega (arith, few, more))
+
+-- ---- status 0
+
+module _ (work : ℕ) (run : Run) (zero : run.status ≡ 0) where
+  -- the number of another status
+  other-status : (status other : Status) → run.status ≡ status_number status → status ≡ other → 0 ≡ status_number other
+  other-status status other ends is = sym zero ∙ ends ∙ ap status_number is
+
+  accepted-input : (bytes : List ℕ) (text : List ℕ) (file : TableFile) → IsTableAt file bytes → (status : Status) → IsAcceptedTable work file status text → Takes run.output.before text run.output.after → IsAcceptedInput work bytes run.output
+  accepted-input bytes text file at status a whole = record {
+    file = file;
+    text = at.text;
+    lawful = at.lawful;
+    accepted = a.accepted;
+    within = a.within;
+    depth = at.moves;
+    wins = subst (λ (n : ℕ). RootWins file.kind file.root n file.board) (sym at.moves) a.wins;
+    line = subst (λ (l : List ℕ). Takes run.output.before l run.output.after)
+        (a.line ∙ ap (λ (n : ℕ). accepted_line n (root_arrivals file.kind file.table file.root file.board)) (sym at.moves)) whole;
+  }
+
+  by-verdict : (bytes : List ℕ) (status : Status) (text : List ℕ) (file : TableFile) → IsTableAt file bytes → run.status ≡ status_number status → Takes run.output.before text run.output.after → TableSays work file status text → IsAcceptedInput work bytes run.output
+  by-verdict bytes status text file at ends whole (inl accepted) = accepted-input bytes text file at status accepted whole
+  by-verdict bytes status text file at ends whole (inr (inl refused)) = absurd (let no = other-status status RefusedTable ends refused.ends in cc)
+  by-verdict bytes status text file at ends whole (inr (inr spent)) = absurd (let no = other-status status Spent ends spent.ends in cc)
+
+  by-saying : (bytes : List ℕ) (status : Status) (text : List ℕ) → run.status ≡ status_number status → Takes run.output.before text run.output.after → CheckSays work bytes status text → IsAcceptedInput work bytes run.output
+  by-saying bytes status text ends whole (inl refused) = absurd (let no = other-status status RefusedText ends refused.ends in cc)
+  by-saying bytes status text ends whole (inr said) = by-verdict bytes status text said.0 said.1 ends whole said.2
+
+  by-end : IsWhole (CheckSays work) run ⊎ IsYielded run.status → IfSome run.input.before (λ bytes. IsAcceptedInput work bytes run.output)
+  by-end (inl w) = given-told (λ bytes. IsAcceptedInput work bytes run.output) run.input.before w.bytes w.given (by-saying w.bytes w.status w.text w.ends w.whole w.says)
+  by-end (inr (inl long)) = absurd (let no : 0 ≡ 11 = sym zero ∙ long in cc)
+  by-end (inr (inr (inl memory))) = absurd (let no : 0 ≡ 6 = sym zero ∙ memory in cc)
+  by-end (inr (inr (inr (inl read)))) = absurd (let no : 0 ≡ 7 = sym zero ∙ read in cc)
+  by-end (inr (inr (inr (inr write)))) = absurd (let no : 0 ≡ 8 = sym zero ∙ write in cc)
+
+  -- what `check` did in a run that ends with 0
+  pub check-won : IsTold (CheckSays work) run → IfSome run.input.before (λ bytes. IsAcceptedInput work bytes run.output)
+  check-won told = by-end (whole-or-yielded (CheckSays work) run told)

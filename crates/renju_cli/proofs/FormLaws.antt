@@ -1,0 +1,50 @@
+-- Words have one form, which they tell: the first word tells the command, and the others its numbers.
+use Rattle.std.proofs.Common.{◌≡◌, refl, sym, ap, subst, ◌∙◌, ℕ, ◌≤◌, ◌^◌, List, [], ◌∷◌, get_or, arith}
+use Rattle.std.specs.Prelude.{codes, if◌then◌else◌}
+use Rattle.std.specs.Str.{bytes_eq}
+use Rattle.std.specs.Str.Parse.{digits_value}
+use Rattle.std.specs.Fmt.{decimal}
+use Rattle.std.proofs.lemmas.Fmt.{decimal_is_IsNumeral}
+use Rattle.renju_cli.specs.declared.commands.Form.{Form}
+use Rattle.renju_cli.specs.declared.commands.Form.TheVariants.{Check, Foul, Fours}
+use Rattle.renju_cli.specs.declared.TheConstants.{MAX_WORK}
+use Rattle.renju_cli.specs.Forms.{Command}
+use Rattle.renju_cli.specs.Commands.{command, IsForm, HasForm}
+
+-- the number that a word writes
+abbrev number_at : List (List ℕ) → ℕ → ℕ
+number_at words k = digits_value 10 (get_or words k [])
+
+-- the form that words tell, if they have one
+abbrev pub form_told : List (List ℕ) → Form
+form_told words =
+    if bytes_eq (get_or words 0 []) (codes "check") then Check (number_at words 1)
+    else (if bytes_eq (get_or words 0 []) (codes "fours") then Fours (number_at words 1) (number_at words 2) else Foul)
+
+number-written : (n : ℕ) → n ≤ MAX_WORK → digits_value 10 (decimal n) ≡ n
+number-written n few = let d = decimal_is_IsNumeral n (omega (arith, few)) in d.1
+
+-- the words of a form tell it
+form-spelled : (form : Form) → (command form).in_range → form_told (command form).words ≡ form
+form-spelled (Check work) range = ap Check (number-written work range.1)
+form-spelled Foul range = refl
+form-spelled (Fours depth nodes) range =
+    let depth_most = range.1 in
+    let nodes_most = range.3 in
+    let depths = number-written depth (omega (arith, depth_most)) in
+    let budgets = number-written nodes (omega (arith, nodes_most)) in
+    λ i. Fours (depths i) (budgets i)
+
+pub told-form : (words : List (List ℕ)) (form : Form) → IsForm words form → form_told words ≡ form
+told-form words form is = ap form_told is.spelled ∙ form-spelled form is.in_range
+
+pub one-form : (words : List (List ℕ)) (form other : Form) → IsForm words form → IsForm words other → form ≡ other
+one-form words form other is also = sym (told-form words form is) ∙ told-form words other also
+
+-- words that have a form have the one that they tell
+pub has-told : (words : List (List ℕ)) → HasForm words → IsForm words (form_told words)
+has-told words h = subst (λ (f : Form). IsForm words f) (sym (told-form words h.0 h.1)) h.1
+
+-- words whose first is that of no command have no form
+pub no-command : (words : List (List ℕ)) → ((form : Form) → ¬ (get_or words 0 [] ≡ get_or (command form).words 0 [])) → ¬ HasForm words
+no-command words other h = other h.0 (ap (λ (l : List (List ℕ)). get_or l 0 []) h.1.spelled)

@@ -1,0 +1,118 @@
+-- The command `fours`: its words, its answers, and what its statuses 0, 9 and 5 show.
+use Rattle.std.proofs.Common.{◌≡◌, inl, inr, refl, sym, ap, subst, ◌∙◌, ◌⊎◌, ℕ, ◌≤◌, ◌<◌, List, [], ◌∷◌, arith}
+use Rattle.std.specs.Prelude.{codes, Option, IfSome}
+use Rattle.std.specs.Fmt.{decimal}
+use Rattle.game_rules.specs.Games.{WinsByFours}
+use Rattle.four_search.specs.declared.TheConstants.{MAX_DEPTH}
+use Rattle.four_search.specs.FourGame.{four_cost}
+use Rattle.position_files.specs.declared.PositionFile.{PositionFile}
+use Rattle.position_files.proofs.ReadBack.{position-read-back}
+use Rattle.renju_io.specs.Told.{Takes}
+use Rattle.renju_cli.specs.declared.status.Status.{Status}
+use Rattle.renju_cli.specs.declared.status.Status.TheVariants.{Done, RefusedText, NotFound, Spent}
+use Rattle.renju_cli.specs.declared.TheConstants.{MAX_SEARCHED}
+use Rattle.renju_cli.specs.Statuses.{status_number}
+use Rattle.renju_cli.specs.Runs.{Change, Run}
+use Rattle.renju_cli.specs.Told.{IsInput, IsTold, IsYielded}
+use Rattle.renju_cli.specs.Fouls.{IsPositionAt}
+use Rattle.renju_cli.specs.Fours.{IsFoundWin, IsDenied, IsSpentBudget, SearchSays, FoursSays, fours_command, WritesWin, IsSearched, SpeaksOfPosition, SearchShows}
+use Rattle.renju_cli.specs.Commands.{HasForm}
+use Rattle.renju_cli.proofs.FormLaws.{has-told}
+use Rattle.renju_cli.proofs.ToldLaws.{IsWhole, whole-or-yielded, given-told, every-told}
+
+-- `fours` and words that are no two numbers in its ranges have no form
+pub no-fours : (rest : List (List ℕ)) → ((depth nodes : ℕ) → (1 ≤ depth) × (depth ≤ MAX_DEPTH) → (1 ≤ nodes) × (nodes ≤ MAX_SEARCHED) → rest ≡ decimal depth ∷ decimal nodes ∷ [] → ⊥) → ¬ HasForm (codes "fours" ∷ rest)
+no-fours rest none h =
+    let is = has-told (codes "fours" ∷ rest) h in
+    let spelled = is.spelled in
+    none _ _ (is.in_range.0, is.in_range.1) (is.in_range.2, is.in_range.3) (cc)
+
+module _ (limit nodes : ℕ) (bytes : List ℕ) (file : PositionFile) (is : IsPositionAt file bytes) where
+  -- the text is that of one position
+  one-position : (other : PositionFile) → IsPositionAt other bytes → other ≡ file
+  one-position other at = let only = position-read-back file bytes is.text is.lawful in only.no_other other at.text
+
+  -- it is not refused
+  not-refused : (status : Status) (text : List ℕ) → FoursSays limit nodes bytes status text → SearchSays limit nodes file status text
+  not-refused status text (inl refused) =
+      let only = position-read-back file bytes is.text is.lawful in
+      absurd (refused.cause (only.no_fault refused.error refused.fault))
+  not-refused status text (inr said) = subst (λ (f : PositionFile). SearchSays limit nodes f status text) (one-position said.0 said.1) said.2
+
+-- what is said of a position for which the budget is enough is an answer
+pub fours-answers : (limit nodes : ℕ) (bytes : List ℕ) → (fours_command limit nodes).IsAnswerable bytes → (status : Status) (text : List ℕ) → FoursSays limit nodes bytes status text → (fours_command limit nodes).IsAnswer status
+fours-answers limit nodes bytes can status text says = by-search (not-refused limit nodes bytes can.0 can.1 status text says) where
+  by-search : SearchSays limit nodes can.0 status text → (status ≡ Done) ⊎ (status ≡ NotFound)
+  by-search (inl found) = inl found.ends
+  by-search (inr (inl denied)) = inr denied.ends
+  by-search (inr (inr spent)) =
+      let few = can.2 in
+      let more = spent.more in
+      absurd (omega (arith, few, more))
+
+-- ---- statuses 0, 9 and 5
+
+-- a status that stands in place of others speaks of no position
+yielded-silent : (number : ℕ) → IsYielded number → SpeaksOfPosition number → ⊥
+yielded-silent number y e = grind arith
+
+-- nor does that of a refused text
+refused-silent : (number : ℕ) → number ≡ 3 → SpeaksOfPosition number → ⊥
+refused-silent number y e = grind arith
+
+module _ (limit nodes : ℕ) (run : Run) where
+  module _ (file : PositionFile) (status : Status) (text : List ℕ) (ends : run.status ≡ status_number status) (whole : Takes run.output.before text run.output.after) where
+    searched-by : SearchSays limit nodes file status text → IsSearched limit nodes file run
+    searched-by (inl found) =
+        let here = ends ∙ ap status_number found.ends in
+        record {
+          found = λ e. (found.enough, record { text = text; win = found.win; whole = whole });
+          none = λ (e : run.status ≡ 9). absurd (let no : 0 ≡ 9 = sym here ∙ e in cc);
+          spent = λ (e : run.status ≡ 5). absurd (let no : 0 ≡ 5 = sym here ∙ e in cc);
+          only = inl (inl here);
+        }
+    searched-by (inr (inl denied)) =
+        let here = ends ∙ ap status_number denied.ends in
+        record {
+          found = λ (e : run.status ≡ 0). absurd (let no : 9 ≡ 0 = sym here ∙ e in cc);
+          none = λ e. (denied.enough, denied.none);
+          spent = λ (e : run.status ≡ 5). absurd (let no : 9 ≡ 5 = sym here ∙ e in cc);
+          only = inl (inr (inl here));
+        }
+    searched-by (inr (inr spent)) =
+        let here = ends ∙ ap status_number spent.ends in
+        record {
+          found = λ (e : run.status ≡ 0). absurd (let no : 5 ≡ 0 = sym here ∙ e in cc);
+          none = λ (e : run.status ≡ 9). absurd (let no : 5 ≡ 9 = sym here ∙ e in cc);
+          spent = λ e. spent.more;
+          only = inl (inr (inr here));
+        }
+
+  yielded-searched : IsYielded run.status → (file : PositionFile) → IsSearched limit nodes file run
+  yielded-searched y file = record {
+    found = λ e. absurd (yielded-silent run.status y (inl e));
+    none = λ e. absurd (yielded-silent run.status y (inr (inl e)));
+    spent = λ e. absurd (yielded-silent run.status y (inr (inr e)));
+    only = inr y;
+  }
+
+  lawful-by : (bytes : List ℕ) (status : Status) (text : List ℕ) → run.status ≡ status_number status → Takes run.output.before text run.output.after → FoursSays limit nodes bytes status text → SpeaksOfPosition run.status → (file : PositionFile) × IsPositionAt file bytes
+  lawful-by bytes status text ends whole (inr said) speaks = (said.0, said.1)
+  lawful-by bytes status text ends whole (inl refused) speaks = absurd (refused-silent run.status (ends ∙ ap status_number refused.ends) speaks)
+
+  shows-by : (bytes : List ℕ) (status : Status) (text : List ℕ) → run.status ≡ status_number status → Takes run.output.before text run.output.after → FoursSays limit nodes bytes status text → SearchShows limit nodes bytes run
+  shows-by bytes status text ends whole says = record {
+    lawful = lawful-by bytes status text ends whole says;
+    says = λ file is. searched-by file status text ends whole (not-refused limit nodes bytes file is status text says);
+  }
+
+  by-end : IsWhole (FoursSays limit nodes) run ⊎ IsYielded run.status → IfSome run.input.before (λ bytes. SearchShows limit nodes bytes run)
+  by-end (inl w) = given-told (λ bytes. SearchShows limit nodes bytes run) run.input.before w.bytes w.given (shows-by w.bytes w.status w.text w.ends w.whole w.says)
+  by-end (inr y) = every-told (λ bytes. SearchShows limit nodes bytes run) run.input.before (λ bytes. record {
+    lawful = λ speaks. absurd (yielded-silent run.status y speaks);
+    says = λ file is. yielded-searched y file;
+  })
+
+  -- what `fours` did in a run
+  pub fours-searched : IsTold (FoursSays limit nodes) run → IfSome run.input.before (λ bytes. SearchShows limit nodes bytes run)
+  fours-searched told = by-end (whole-or-yielded (FoursSays limit nodes) run told)

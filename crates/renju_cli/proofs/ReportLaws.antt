@@ -1,0 +1,35 @@
+-- What follows of a run from its report: the command of its form did what it does, and so answered where it is sure to.
+use Rattle.std.proofs.Common.{◌≡◌, inl, inr, subst}
+use Rattle.renju_cli.specs.declared.commands.Form.{Form}
+use Rattle.renju_cli.specs.declared.commands.Form.TheVariants.{Check, Foul, Fours}
+use Rattle.renju_cli.specs.Runs.{Run}
+use Rattle.renju_cli.specs.Checks.{check_command, ShowsWin}
+use Rattle.renju_cli.specs.Fouls.{foul_command}
+use Rattle.renju_cli.specs.Fours.{fours_command, ShowsSearch}
+use Rattle.renju_cli.specs.Commands.{command, IsForm, HasForm}
+use Rattle.renju_cli.specs.Reports.{IsUsage, Report, IsComplete}
+use Rattle.renju_cli.proofs.FormLaws.{one-form}
+use Rattle.renju_cli.proofs.ToldLaws.{answers-told}
+use Rattle.renju_cli.proofs.CheckLaws.{check-answers, check-won}
+use Rattle.renju_cli.proofs.FoulLaws.{foul-answers}
+use Rattle.renju_cli.proofs.FoursLaws.{fours-answers, fours-searched}
+
+-- the command of the words did what it does
+does-of : (run : Run) → Report run → (form : Form) → IsForm run.words form → (command form).Does run
+does-of run (inl usage) form is = absurd (usage.formless (form, is))
+does-of run (inr obeyed) form is = subst (λ (f : Form). (command f).Does run) (one-form run.words obeyed.0 form obeyed.1 is) obeyed.2
+
+-- a command that did what it does answered where it is sure to
+answers : (form : Form) (run : Run) → (command form).Does run → (command form).Answers run
+answers (Check work) run does = answers-told (check_command work) (check-answers work) run does
+answers Foul run does = answers-told foul_command foul-answers run does
+answers (Fours depth nodes) run does = answers-told (fours_command depth nodes) (fours-answers depth nodes) run does
+
+pub report-complete : (run : Run) → Report run → IsComplete run
+report-complete run report form is = answers form run (does-of run report form is)
+
+pub report-won : (run : Run) → Report run → ShowsWin run
+report-won run report work is zero = check-won work run zero (does-of run report (Check work) is)
+
+pub report-searched : (run : Run) → Report run → ShowsSearch run
+report-searched run report depth nodes is = fours-searched depth nodes run (does-of run report (Fours depth nodes) is)

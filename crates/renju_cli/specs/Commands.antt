@@ -1,0 +1,23 @@
+-- The commands, by their forms of words.
+use Rattle.std.specs.Prelude.{ℕ, List}
+use Rattle.renju_cli.specs.declared.commands.Form.{Form}
+use Rattle.renju_cli.specs.declared.commands.Form.TheVariants.{Check, Foul, Fours}
+use Rattle.renju_cli.specs.Forms.{Command, IsSpelled}
+use Rattle.renju_cli.specs.Told.{told}
+use Rattle.renju_cli.specs.Checks.{check_command}
+use Rattle.renju_cli.specs.Fouls.{foul_command}
+use Rattle.renju_cli.specs.Fours.{fours_command}
+
+-- the command that a form stands for
+abbrev pub command : Form → Command
+command (Check work) = told (check_command work)
+command Foul = told foul_command
+command (Fours depth nodes) = told (fours_command depth nodes)
+
+-- the words have this form
+abbrev pub IsForm : List (List ℕ) → Form → Type 0
+IsForm words form = IsSpelled words (command form)
+
+-- the words have some form
+abbrev pub HasForm : List (List ℕ) → Type 0
+HasForm words = (form : Form) × IsForm words form

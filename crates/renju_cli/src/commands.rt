@@ -1,0 +1,70 @@
+//! The commands: their forms of words, told apart by the first word, and what runs each.
+//!
+//! A command stands in a file of its own. Here it has a line in each list: the forms, the first words, and the runs.
+#![tactic(auto)]
+
+ghost use Rattle.std.specs.Prelude.{MatchOption, map, string_bytes};
+ghost use Rattle.renju_cli.specs.Statuses.{status_number};
+ghost use Rattle.renju_cli.specs.Runs.{change, run_of, KeepsDevices};
+ghost use Rattle.renju_cli.specs.Commands.{IsForm, HasForm};
+ghost use Rattle.renju_cli.specs.Reports.{Report};
+
+use crate::check::Check;
+use crate::fouls::ListFouls;
+use crate::fours::Fours;
+use crate::told::{deliver, tell};
+use crate::{Status, check, fouls, fours};
+use renju_io::{Shelf, Sink, Source};
+use std::alloc::Global;
+
+/// The line that words without a form are answered with.
+pub const USAGE: &str =
+    "usage: renju check WORK, foul, fours DEPTH NODES, threats LENGTH NODES, solve DEPTH NODES, brain [FILE], drill N, image SYMMETRY, referee [FILE], defend DEPTH NODES, bind FILE .., book WORK\n";
+
+/// A form of words: the command and its numbers.
+#[derive(Clone, Copy, Debug, PartialEq, Eq)]
+pub enum Form {
+    /// `check WORK`, with WORK from 1 to `MAX_WORK`.
+    Check { work: u64 },
+    /// `foul`.
+    Foul,
+    /// `fours DEPTH NODES`, with DEPTH from 1 to `MAX_DEPTH` and NODES from 1 to `MAX_SEARCHED`.
+    Fours { depth: u32, nodes: u64 },
+}
+
+/// The form that the words have, if they have one.
+pub(crate) fn form_of(words: &[String]) -> Option<Form>
+    ensures form { MatchOption result (¬ HasForm (map string_bytes words.now)) (λ form. IsForm (map string_bytes words.now) form) }
+{
+    let [name, rest @ ..] = words else {
+        return None;
+    };
+    match name.as_str() {
+        "check" => check::form(rest),
+        "foul" => fouls::form(rest),
+        "fours" => fours::form(rest),
+        _ => None,
+    }
+}
+
+/// Answers the words: runs the command that they ask for, or writes the usage line.
+pub(crate) fn run<I: Source, O: Sink, F: Shelf>(
+    alloc: Global,
+    words: &[String],
+    input: &mut I,
+    output: &mut O,
+    shelf: &mut F,
+) -> Status
+    ensures report { Report (run_of (map string_bytes words.now) (change I.left I.faults input.old input.new)
+        (change O.written O.faults output.old output.new) (change F.files F.faults shelf.old shelf.new) (status_number result)) }
+    ensures devices { KeepsDevices (run_of (map string_bytes words.now) (change I.left I.faults input.old input.new)
+        (change O.written O.faults output.old output.new) (change F.files F.faults shelf.old shelf.new) (status_number result)) }
+{
+    let _ = shelf;
+    match form_of(words) {
+        None => deliver(Status::Usage, USAGE.as_bytes(), output),
+        Some(Form::Check { work }) => tell(alloc, &Check { work }, input, output),
+        Some(Form::Foul) => tell(alloc, &ListFouls, input, output),
+        Some(Form::Fours { depth, nodes }) => tell(alloc, &Fours { depth, nodes }, input, output),
+    }
+}

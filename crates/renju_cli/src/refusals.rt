@@ -1,0 +1,72 @@
+//! What is said of a text that is refused: a line with the fault that it has.
+#![tactic(auto)]
+
+ghost use Rattle.std.specs.Prelude.{◌≡◌, ◌≢◌, ◌++◌, IfOk, Ok, string_bytes};
+ghost use Rattle.std.specs.String.{string_vec};
+ghost use Rattle.renju_cli.specs.Refusals.{IsRefusedText, refusal_line, bad_line as bad_line_lem, uneven_line, already_won_line, wrong_moves_line};
+
+use crate::Status;
+use crate::answer::Answer;
+use foul_judge::PositionError;
+use position_files::FileError;
+use std::alloc::{AllocError, Global};
+use stone_board::Point;
+
+/// What is said of a text that is refused. Want of memory is handed on.
+pub(crate) fn refused_text(alloc: Global, error: FileError) -> Result<Answer, AllocError>
+    ensures status { IfOk result (λ answer. answer.status ≡ Status.RefusedText) }
+    ensures text { IfOk result (λ answer. answer.text.items ≡ refusal_line error) }
+    ensures cause { IfOk result (λ answer. error ≢ FileError.Memory) }
+{
+    match error {
+        FileError::BadLine(number) => refusal(bad_line(alloc, number)?),
+        FileError::Unlawful(PositionError::Uneven { black, white }) => {
+            refusal(uneven(alloc, black, white)?)
+        }
+        FileError::Unlawful(PositionError::AlreadyWon { at }) => refusal(already_won(alloc, at)?),
+        FileError::Unlawful(PositionError::BoardFull) => {
+            refusal(String::from_str(alloc, "refused board full\n")?)
+        }
+        FileError::WrongMoves { written, counted } => {
+            refusal(wrong_moves(alloc, written, counted)?)
+        }
+        FileError::Memory => Err(AllocError),
+    }
+}
+
+/// The answer of a refused text.
+fn refusal(text: String) -> Result<Answer, AllocError>
+    ensures answer { result ≡ Ok (record { status = Status.RefusedText; text = string_vec text }) }
+{
+    Ok(Answer::told(Status::RefusedText, text))
+}
+
+/// The line of a text whose line `number` is bad.
+fn bad_line(alloc: Global, number: u32) -> Result<String, AllocError>
+    ensures line { IfOk result (λ text. string_bytes text ≡ bad_line_lem number) }
+{
+    format!(in alloc; "refused line {number}\n")
+}
+
+/// The line of counts that name no side to move.
+fn uneven(alloc: Global, black: u32, white: u32) -> Result<String, AllocError>
+    ensures line { IfOk result (λ text. string_bytes text ≡ uneven_line black white) }
+{
+    format!(in alloc; "refused uneven {black} {white}\n")
+}
+
+/// The line of a winning run, by its least point.
+fn already_won(alloc: Global, at: Point) -> Result<String, AllocError>
+    ensures line { IfOk result (λ text. string_bytes text ≡ already_won_line at) }
+{
+    let x = at.x;
+    let y = at.y;
+    format!(in alloc; "refused already won {x},{y}\n")
+}
+
+/// The line of a number of moves that is not the depth of the root.
+fn wrong_moves(alloc: Global, written: u32, counted: u32) -> Result<String, AllocError>
+    ensures line { IfOk result (λ text. string_bytes text ≡ wrong_moves_line written counted) }
+{
+    format!(in alloc; "refused moves {written} {counted}\n")
+}

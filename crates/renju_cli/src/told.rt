@@ -1,0 +1,71 @@
+//! Commands that are told: one reads its whole input, says a status and a text of it, and writes the text.
+//!
+//! The commands differ in what they say; how they read, write and fail is proved here once for all of them. What a command
+//! says is a relation that its type names, so nothing here depends on which commands there are.
+#![tactic(auto)]
+
+ghost use Rattle.std.specs.Prelude.{◌≡◌, ℕ, List, IfOk};
+ghost use Rattle.renju_io.specs.Faults.{HasNotFallen};
+ghost use Rattle.renju_io.specs.Told.{GivesSome};
+ghost use Rattle.renju_cli.specs.declared.status.Status.{Status};
+ghost use Rattle.renju_cli.specs.Statuses.{status_number};
+ghost use Rattle.renju_cli.specs.Runs.{change, IsDelivered};
+ghost use Rattle.renju_cli.specs.Told.{EndsTold};
+
+use crate::Status;
+use crate::answer::Answer;
+use renju_io::{ReadAllError, Sink, Source, read_all, write_text};
+use std::alloc::{AllocError, Global};
+
+/// What an input that is too long is told.
+const TOO_LONG: &str = "input too long\n";
+
+/// A command that is told its whole input.
+pub(crate) trait Told {
+    /// What has to hold of its numbers.
+    ghost in_range: { Self → Type 0 };
+
+    /// The statuses and texts that it says of an input.
+    ghost says: { Self → List ℕ → Status → List ℕ → Type 0 };
+
+    /// What it says of an input that was read whole.
+    fn say(&self, alloc: Global, bytes: &[u8]) -> Result<Answer, AllocError>
+        requires in_range { in_range self.now }
+        ensures says { IfOk result (λ answer. says self.now bytes.now answer.status answer.text.items) };
+}
+
+/// Reads the input, and writes what the command says of it. Nothing is written before the input was read to its end.
+pub(crate) fn tell<C: Told, I: Source, O: Sink>(
+    alloc: Global,
+    command: &C,
+    input: &mut I,
+    output: &mut O,
+) -> Status
+    requires in_range { C.in_range command.now }
+    ensures ends { EndsTold (C.says command.now) (change I.left I.faults input.old input.new)
+        (change O.written O.faults output.old output.new) (status_number result) }
+    ensures taken { GivesSome (I.left input.old) (I.left input.new) }
+    ensures input { HasNotFallen (I.faults input.old) (I.faults input.new) }
+    ensures output { HasNotFallen (O.faults output.old) (O.faults output.new) }
+{
+    match read_all(alloc, input) {
+        Ok(bytes) => match command.say(alloc, bytes.as_slice()) {
+            Ok(answer) => deliver(answer.status, answer.text.as_slice(), output),
+            Err(_) => Status::Memory,
+        },
+        Err(ReadAllError::TooLong) => deliver(Status::TooLong, TOO_LONG.as_bytes(), output),
+        Err(ReadAllError::Failed) => Status::ReadFault,
+        Err(ReadAllError::Memory) => Status::Memory,
+    }
+}
+
+/// Writes a text, and answers its status, or that of a write fault.
+pub(crate) fn deliver<O: Sink>(status: Status, text: &[u8], output: &mut O) -> Status
+    ensures delivered { IsDelivered status text.now (change O.written O.faults output.old output.new) (status_number result) }
+    ensures counted { HasNotFallen (O.faults output.old) (O.faults output.new) }
+{
+    match write_text(output, text) {
+        Ok(()) => status,
+        Err(_) => Status::WriteFault,
+    }
+}

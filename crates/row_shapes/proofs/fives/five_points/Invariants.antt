@@ -1,0 +1,9 @@
+use Rattle.std.proofs.Common.{◌≡◌, ◌++◌}
+use Rattle.std.specs.List.{filter}
+use Rattle.game_rules.specs.Shapes.{five}
+use Rattle.game_rules.specs.Games.{five_points}
+use Rattle.row_shapes.proofs.fives.five_points.Given as goal
+
+-- the five points found, and those of the points left, are all
+abbrev pub invariant-loop-p : goal.invariant-loop-p
+invariant-loop-p g l = l.found ++ filter (five g.R.Rule.KIND l.board l.side) l.p-iterator ≡ five_points g.R.Rule.KIND l.board l.side

@@ -1,0 +1,11 @@
+-- The five points of a side, as far as a search of fours asks.
+use Rattle.std.specs.Prelude.{List, [], ◌∷◌}
+use Rattle.game_rules.specs.declared.Point.{Point}
+use Rattle.row_shapes.specs.declared.fives.FivePoints.{FivePoints}
+use Rattle.row_shapes.specs.declared.fives.FivePoints.TheVariants.{None, One, Several}
+
+-- the five points of a list in short: none, the one, or that there are more
+abbrev pub in_short : List Point → FivePoints
+in_short [] = None
+in_short (w ∷ []) = One w
+in_short (w ∷ v ∷ more) = Several

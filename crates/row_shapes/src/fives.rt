@@ -1,0 +1,76 @@
+//! The five points of a side on a board, lawful or not.
+//!
+//! The board is scanned in reading order, and each of its empty points is asked. A search of fours asks how many five
+//! points there are only as far as two, so the scan in short ends at the second.
+#![tactic(auto)]
+
+ghost use Rattle.std.specs.Prelude.{◌≡◌, ◌++◌, IfOk};
+ghost use Rattle.game_rules.specs.Games.{five_points as five_points_lem, has_five as has_five_lem};
+ghost use Rattle.game_rules.specs.Shapes.{five};
+ghost use Rattle.row_shapes.specs.FivePoints.{in_short};
+
+use crate::{Rule, five_at};
+use std::alloc::{AllocError, Global};
+use stone_board::{Board, Point, Points, Side};
+
+/// How many five points a side has, as far as a search of fours asks.
+#[derive(Clone, Copy, Debug, PartialEq, Eq)]
+pub enum FivePoints {
+    /// None.
+    None,
+    /// Just this one.
+    One(Point),
+    /// Two or more.
+    Several,
+}
+
+/// All five points of the side, in reading order. `Err` says that memory ran out.
+pub fn five_points<R: Rule>(alloc: Global, board: &Board, side: Side) -> Result<Points, AllocError>
+    ensures fives { IfOk result (λ points. points ≡ five_points_lem R.KIND board.now side) }
+{
+    let mut found = Points::new(alloc);
+    for p in board.points() {
+        if is_five::<R>(board, side, p) {
+            found.push(p)?;
+        }
+    }
+    Ok(found)
+}
+
+/// Whether the side has a five point. No memory is taken.
+pub fn has_five<R: Rule>(board: &Board, side: Side) -> bool
+    ensures five { result ≡ has_five_lem R.KIND board.now side }
+{
+    for p in board.points() {
+        if is_five::<R>(board, side, p) {
+            return true;
+        }
+    }
+    false
+}
+
+/// The five points of a side in short. The board is scanned up to the second of them. No memory is taken.
+pub fn fives_in_short<R: Rule>(board: &Board, side: Side) -> FivePoints
+    ensures fives { result ≡ in_short (five_points_lem R.KIND board.now side) }
+{
+    let mut first = None;
+    for p in board.points() {
+        if is_five::<R>(board, side, p) {
+            match first {
+                None => first = Some(p),
+                Some(_) => return FivePoints::Several,
+            }
+        }
+    }
+    match first {
+        None => FivePoints::None,
+        Some(p) => FivePoints::One(p),
+    }
+}
+
+/// Whether the point is a five point of the side.
+fn is_five<R: Rule>(board: &Board, side: Side, p: Point) -> bool
+    ensures five { result ≡ five R.KIND board.now side p }
+{
+    board.is_empty(p) && five_at::<R>(board, side, p)
+}

@@ -1,0 +1,5 @@
+use Rattle.strategy_compiler.proofs.Winning.{growth_keeps-wins}
+use Rattle.strategy_compiler.proofs.theorems.growth_keeps_wins.Goals as goal
+
+pub returns : goal.returns
+returns c = record { same = growth_keeps-wins }

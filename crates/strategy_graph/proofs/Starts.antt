@@ -1,0 +1,43 @@
+-- A start whose nodes are copies, under other numbers, says the same.
+use Rattle.std.proofs.Common.{◌≡◌, ℕ, suc, Bool, true, List, [], ◌∷◌, refl, ap}
+use Rattle.std.specs.List.{list_all}
+use Rattle.game_rules.specs.Grid.{Grid}
+use Rattle.game_rules.specs.Play.{outcome, after}
+use Rattle.game_rules.specs.declared.RuleKind.{RuleKind}
+use Rattle.game_rules.specs.declared.Point.{Point}
+use Rattle.strategy_graph.specs.declared.Node.{Node}
+use Rattle.strategy_graph.specs.declared.Why.{Why}
+use Rattle.strategy_graph.specs.Tables.{Answers, named, depth}
+use Rattle.strategy_graph.specs.Renumbered.{renumbered_answers}
+use Rattle.strategy_graph.specs.Acceptance.{Accepted, AcceptedStart}
+use Rattle.strategy_graph.specs.Arrivals.{arrivals, start_arrivals}
+use Rattle.strategy_graph.specs.Leads.{Leads, LeadsStart}
+use Rattle.strategy_graph.specs.Laws.{StartSaysSame}
+use Rattle.strategy_graph.proofs.Copies.{iff_by, Meets-copied, arrivals_after-copied, reply_leads-answer, depths-copied}
+
+-- node f j of table u says what node j of table t says, if j passes
+pub record SameNodes (f : ℕ → ℕ) (passes : ℕ → Bool) (t u : List Node) : Type 1 where
+  pub deep : (j : ℕ) → passes j ≡ true → depth u (f j) ≡ depth t j
+  pub accepted : (rule : RuleKind) (j : ℕ) → passes j ≡ true → (b : Grid) → Accepted rule u (f j) b ≡ Accepted rule t j b
+  pub count : (rule : RuleKind) (j : ℕ) → passes j ≡ true → (b : Grid) → arrivals rule u (f j) b ≡ arrivals rule t j b
+  pub leads : (rule : RuleKind) (line : List Point) (why : Why) (j : ℕ) → passes j ≡ true → (b : Grid) → Leads rule u (f j) b line why ≡ Leads rule t j b line why
+
+module _ (f : ℕ → ℕ) (passes : ℕ → Bool) (t u : List Node) (same : SameNodes f passes t u) (a : Answers) (all : list_all passes (named a) ≡ true) where
+  accepted_start-same : (rule : RuleKind) (b : Grid) → AcceptedStart rule u (renumbered_answers f a) b ≡ AcceptedStart rule t a b
+  accepted_start-same rule b = λ i. (q : Point) → Meets-copied f passes a all rule (Accepted rule t) (Accepted rule u) (same.accepted rule) b q i
+
+  start_arrivals-same : (rule : RuleKind) (b : Grid) → start_arrivals rule u (renumbered_answers f a) b ≡ start_arrivals rule t a b
+  start_arrivals-same rule b = ap suc (arrivals_after-copied f passes a all rule (arrivals rule t) (arrivals rule u) (same.count rule) b)
+
+  leads_start-same : (rule : RuleKind) (b : Grid) (line : List Point) (why : Why) → LeadsStart rule u (renumbered_answers f a) b line why ≡ LeadsStart rule t a b line why
+  leads_start-same rule b [] why = refl
+  leads_start-same rule b (q ∷ line) why =
+      reply_leads-answer f passes a all (λ j c. Leads rule t j c line why) (λ j c. Leads rule u j c line why) (same.leads rule line why) (outcome rule b q) line why (after b q) q
+
+  pub starts-same : StartSaysSame t a u (renumbered_answers f a)
+  starts-same = record {
+    same_depth = depths-copied f passes a all (depth t) (depth u) same.deep;
+    same_accepted = λ rule b. iff_by _ _ (accepted_start-same rule b);
+    same_arrivals = start_arrivals-same;
+    same_leads = λ rule b line why. iff_by _ _ (leads_start-same rule b line why);
+  }

@@ -1,9 +1,0 @@
-use Rattle.std.proofs.Common.{◌≡◌}
-use Rattle.std.specs.List.{list_any}
-use Rattle.game_rules.specs.Shapes.{five}
-use Rattle.game_rules.specs.Games.{has_five}
-use Rattle.threat_moves.proofs.five_points.has_five.Given as goal
-
--- some point left is a five point exactly where some point of the board is
-abbrev pub invariant-loop-p : goal.invariant-loop-p
-invariant-loop-p g l = list_any (five g.R.Rule.KIND (g.V.Seen.position l.view) l.side) l.p-iterator ≡ has_five g.R.Rule.KIND (g.V.Seen.position l.view) l.side
