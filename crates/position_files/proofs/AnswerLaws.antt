@@ -1,5 +1,5 @@
 -- Replies and answers are spelled in one way.
-use Rattle.std.proofs.Common.{◌≡◌, ℕ, ◌≤◌, true, refl, sym, ap, subst, ◌∙◌, arith, List, [], ◌∷◌, ◌++◌, get_or, inl, inr}
+use Rattle.std.proofs.Common.{◌≡◌, ℕ, true, refl, sym, ap, subst, ◌∙◌, arith, List, [], ◌∷◌, ◌++◌, get_or, inl, inr, ◌<◌, ◌^◌}
 use Rattle.std.specs.Prelude.{Option, Some, None, Err, codes}
 use Rattle.std.specs.List.{AllByRecursion}
 use Rattle.std.specs.Fmt.{decimal}
@@ -12,7 +12,6 @@ use Rattle.strategy_graph.specs.declared.Reply.{Reply}
 use Rattle.strategy_graph.specs.declared.Rest.{Rest}
 use Rattle.strategy_graph.specs.declared.Rest.TheVariants.{Wins, To, Nothing}
 use Rattle.strategy_graph.specs.declared.Node.{Node}
-use Rattle.strategy_graph.specs.declared.TheConstants.{MAX_NODES}
 use Rattle.text_lines.specs.declared.fault.Fault.{Fault}
 use Rattle.text_lines.specs.declared.fault.Fault.TheVariants.{Bad, Memory}
 use Rattle.text_lines.specs.Lines.{line_feed}
@@ -38,7 +37,7 @@ module _ (width height : ℕ) (wide : IsSide width) (high : IsSide height) where
   pub bad_at : (word a : List ℕ) (t : Option (List ℕ)) → word ≡ a ++ tail_text arrow t → is_free arrow a ≡ true → ((p : Point) → IsWithin width height p → a ≡ point_text p → ⊥) → (r : Reply) → ReplyFits width height r → word ≡ reply_text r → ⊥
   bad_at word a t parts free none r fits e = none r.at fits.at (reply_words word a t r fits parts free e).0
 
-  pub bad_next : (word a b : List ℕ) (t : Option (List ℕ)) → word ≡ a ++ tail_text arrow t → is_free arrow a ≡ true → t ≡ Some b → ((n : ℕ) → n ≤ MAX_NODES → b ≡ decimal n → ⊥) → (r : Reply) → ReplyFits width height r → word ≡ reply_text r → ⊥
+  pub bad_next : (word a b : List ℕ) (t : Option (List ℕ)) → word ≡ a ++ tail_text arrow t → is_free arrow a ≡ true → t ≡ Some b → ((n : ℕ) → n < 2 ^ 32 → b ≡ decimal n → ⊥) → (r : Reply) → ReplyFits width height r → word ≡ reply_text r → ⊥
   bad_next word a b t parts free is none r fits e =
       let words = reply_words word a t r fits parts free e in
       let same : Some b ≡ Some (decimal r.next) = sym is ∙ words.1 in
@@ -77,14 +76,14 @@ no_rest_word bytes word tail parts free not_wins not_only not_rest (Wins, after)
 no_rest_word bytes word tail parts free not_wins not_only not_rest (To j, after) fits e = not_rest (rest_words bytes word tail (To j) after parts free e).0
 no_rest_word bytes word tail parts free not_wins not_only not_rest (Nothing, after) fits e = not_only (rest_words bytes word tail Nothing after parts free e).0
 
-pub no_rest_number : (bytes word text next : List ℕ) (tail after_next : Option (List ℕ)) → bytes ≡ word ++ tail_text space tail → is_free space word ≡ true → (word ≡ codes "wins" → ⊥) → (word ≡ codes "only" → ⊥) → tail ≡ Some text → text ≡ next ++ tail_text space after_next → is_free space next ≡ true → ((n : ℕ) → n ≤ MAX_NODES → next ≡ decimal n → ⊥)
+pub no_rest_number : (bytes word text next : List ℕ) (tail after_next : Option (List ℕ)) → bytes ≡ word ++ tail_text space tail → is_free space word ≡ true → (word ≡ codes "wins" → ⊥) → (word ≡ codes "only" → ⊥) → tail ≡ Some text → text ≡ next ++ tail_text space after_next → is_free space next ≡ true → ((n : ℕ) → n < 2 ^ 32 → next ≡ decimal n → ⊥)
     → (found : Rest × Option (List ℕ)) → RestFits found.0 → bytes ≡ rest_text found.0 ++ tail_text space found.1 → ⊥
 no_rest_number bytes word text next tail after_next parts free not_wins not_only is text_parts free_next none (Wins, after) fits e = not_wins (rest_words bytes word tail Wins after parts free e).0
 no_rest_number bytes word text next tail after_next parts free not_wins not_only is text_parts free_next none (To j, after) fits e =
     let words = rest_words bytes word tail (To j) after parts free e in
     let whole : Some text ≡ Some (decimal j ++ tail_text space after) = sym is ∙ words.1 in
     let text_is : text ≡ decimal j ++ tail_text space after = let f : text ≡ decimal j ++ tail_text space after = cc in f in
-    let few : j ≤ MAX_NODES = fits in
+    let few : j < 2 ^ 32 = fits in
     none j fits (same_word space next after_next (decimal j) after free_next (decimal-free space j (inl (omega arith)) (omega (arith, few))) (sym text_parts ∙ text_is)).0
 no_rest_number bytes word text next tail after_next parts free not_wins not_only is text_parts free_next none (Nothing, after) fits e = not_only (rest_words bytes word tail Nothing after parts free e).0
 
@@ -95,8 +94,8 @@ rest_same Wins t (To k) u fr fq e = let first : 119 ≡ 114 = ap (λ (l : List �
 rest_same Wins t Nothing u fr fq e = let first : 119 ≡ 111 = ap (λ (l : List ℕ). get_or l 0 0) e in absurd (omega (arith, first))
 rest_same (To j) t Wins u fr fq e = let first : 114 ≡ 119 = ap (λ (l : List ℕ). get_or l 0 0) e in absurd (omega (arith, first))
 rest_same (To j) t (To k) u fr fq e =
-    let few_j : j ≤ MAX_NODES = fr in
-    let few_k : k ≤ MAX_NODES = fq in
+    let few_j : j < 2 ^ 32 = fr in
+    let few_k : k < 2 ^ 32 = fq in
     let numbers : decimal j ++ tail_text space t ≡ decimal k ++ tail_text space u = append_cancel_left (codes "rest ") (decimal j ++ tail_text space t) (decimal k ++ tail_text space u) e in
     let same = same_word space (decimal j) t (decimal k) u (decimal-free space j (inl (omega arith)) (omega (arith, few_j))) (decimal-free space k (inl (omega arith)) (omega (arith, few_k))) numbers in
     (ap To (decimal_injective j k (omega (arith, few_j)) (omega (arith, few_k)) same.0), same.1)
@@ -148,7 +147,7 @@ module _ (width height : ℕ) (wide : IsSide width) (high : IsSide height) where
 rest-free : (r : Rest) → RestFits r → is_free line_feed (rest_text r) ≡ true
 rest-free Wins fits = refl
 rest-free (To j) fits =
-    let few : j ≤ MAX_NODES = fits in
+    let few : j < 2 ^ 32 = fits in
     is_free-append line_feed (codes "rest ") (decimal j) refl (decimal-free line_feed j (inl (omega arith)) (omega (arith, few)))
 rest-free Nothing fits = refl
 

@@ -1,25 +1,24 @@
 -- What the readers of nodes and starts find.
-use Rattle.std.specs.Prelude.{◌≡◌, ℕ, ◌≤◌, true, List, [], ◌∷◌, ◌++◌}
+use Rattle.std.specs.Prelude.{◌≡◌, ℕ, true, List, [], ◌∷◌, ◌++◌, ◌<◌, ◌^◌}
 use Rattle.std.specs.List.{AllByRecursion}
 use Rattle.strategy_graph.specs.Tables.{Answers, IsStart, answers_of, is_winning, names_below}
 use Rattle.strategy_graph.specs.declared.Reply.{Reply}
 use Rattle.strategy_graph.specs.declared.Rest.{Rest}
 use Rattle.strategy_graph.specs.declared.Rest.TheVariants.{Wins, To, Nothing}
 use Rattle.strategy_graph.specs.declared.Node.{Node}
-use Rattle.strategy_graph.specs.declared.TheConstants.{MAX_NODES}
 use Rattle.text_lines.specs.Lines.{line_feed}
 use Rattle.position_files.specs.Tables.{node_line}
 use Rattle.text_lines.specs.Reading.{IsWithin}
 
--- the reply is at a point within these bounds, and names a node of a number that is not too great
+-- the reply is at a point within these bounds, and names a node by a number of 32 bits
 pub record ReplyFits (width height : ℕ) (r : Reply) : Type 0 where
   pub at : IsWithin width height r.at
-  pub next : r.next ≤ MAX_NODES
+  pub next : r.next < 2 ^ 32
 
--- the rest names no node of too great a number
+-- the rest names no node, or one by a number of 32 bits
 abbrev pub RestFits : Rest → Type 0
 RestFits Wins = Unit {0}
-RestFits (To j) = j ≤ MAX_NODES
+RestFits (To j) = j < 2 ^ 32
 RestFits Nothing = Unit {0}
 
 -- the replies and the rest fit, and a rest that wins comes with no replies

@@ -16,7 +16,7 @@ ghost use Rattle.position_files.specs.Boards.{IsSide};
 ghost use Rattle.position_files.specs.Answers.{AnswersFit, NodeFits, ReplyFits, RestFits, StartFits, answers_with};
 
 use std::alloc::Global;
-use strategy_graph::{MAX_NODES, Node, Replies, Reply, Rest, Start};
+use strategy_graph::{Node, Replies, Reply, Rest, Start};
 use text_lines::{Fault, cut, is_text, number, point, prefixed};
 
 /// The reply, and the number of the node that answers it, that the bytes spell.
@@ -27,7 +27,7 @@ fn reply(word: &[u8], width: u8, height: u8) -> Option<Reply>
 {
     let (at, next) = cut(word, b'>');
     let at = point(at, width, height)?;
-    let next = number(next?, MAX_NODES)?;
+    let next = number(next?, u32::MAX)?;
     Some(Reply { at, next })
 }
 
@@ -68,7 +68,7 @@ fn rest(bytes: &[u8]) -> Option<(Rest, Option<&[u8]>)>
         return None;
     }
     let (next, tail) = cut(tail?, b' ');
-    Some((Rest::To(number(next, MAX_NODES)?), tail))
+    Some((Rest::To(number(next, u32::MAX)?), tail))
 }
 
 /// What answers all replies: those that are listed, and the others. A rest that wins comes with no replies.

@@ -1,4 +1,4 @@
-use Rattle.std.proofs.Common.{ap}
+use Rattle.std.proofs.Common.{ap, arith}
 use Rattle.std.specs.Prelude.{option_copied}
 use Rattle.std.proofs.lemmas.Bool.{both_ways}
 use Rattle.position_files.proofs.AnswerLaws.{no_rest_word, no_rest_number}
@@ -17,5 +17,5 @@ returns-in_err-number c = rw c.from_residual-in_err-number.ensures (record {
   rest = no_rest_number c.args.bytes.now c.cut.result.0.now c.in_ok-tail.field-0.now c.cut-2.result.0.now _ _ c.cut.ensures.parts c.cut.ensures.word
       (λ e. both_ways c.is_text.result c.if-is_text.false (c.is_text.ensures.same.1 e))
       (λ e. both_ways c.is_text-2.result c.if-is_text-2.false (c.is_text-2.ensures.same.1 e))
-      (ap option_copied c.in_ok-tail.was) c.cut-2.ensures.parts c.cut-2.ensures.word c.in_err-number.ensures.number;
+      (ap option_copied c.in_ok-tail.was) c.cut-2.ensures.parts c.cut-2.ensures.word (λ n few e. c.in_err-number.ensures.number n (omega (arith, few)) e);
 })
