@@ -1,4 +1,7 @@
+-- The laws of positions. What is declared by `pub mod` the layers above may cite; the rest serves this crate alone.
+
+-- a board is lawful exactly where nothing is said against it
+pub mod Lawfulness
+-- places of three points, and the short cuts of the judge
 mod ThreePlaces
 mod MayFoul
--- a board is lawful exactly where nothing is said against it: for the layers above
-pub mod Lawfulness

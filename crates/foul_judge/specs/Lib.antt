@@ -1,3 +1,4 @@
 pub mod Threes
 pub mod ShortCut
 pub mod Lawful
+pub mod AnyPosition

@@ -4,7 +4,7 @@ use crate::{Foul, foul_at};
 use row_shapes::{Renju, Rule, five_at, fours_through, straight_through};
 use std::process::Abort;
 use std::test::Fail;
-use stone_board::{Axis, Board, Point, Side, Way};
+use stone_board::{Axis, Board, MAX_SIDE, Point, Side, Way};
 
 const AXES: [Axis; 4] = [Axis::Row, Axis::Column, Axis::Down, Axis::Up];
 
@@ -26,7 +26,7 @@ fn plain_foul<R: Rule>(rt: &impl Abort, board: &mut Board, p: Point, stones: u32
 fn stone_foul<R: Rule>(rt: &impl Abort, board: &mut Board, p: Point, stones: u32) -> Option<Foul> {
     if has_run(rt, board, p, 5, 5) {
         None
-    } else if has_run(rt, board, p, 6, 32) {
+    } else if has_run(rt, board, p, 6, u32::from(MAX_SIDE)) {
         Some(Foul::Overline)
     } else if fours::<R>(rt, board, p) >= 2 {
         Some(Foul::DoubleFour)

@@ -1,6 +1,6 @@
 //! Fouls, outcomes and lawful positions on small examples.
-use crate::{Foul, Outcome, Position, PositionError, Seen, foul_at};
-use row_shapes::{ExactFive, Freestyle, Renju, Rule};
+use crate::{AnyPosition, Foul, Outcome, Position, PositionError, Seen, foul_at};
+use row_shapes::{ExactFive, FivePoints, Freestyle, Renju, Rule, RuleKind};
 use std::alloc::{AllocError, Global};
 use std::process::Abort;
 use std::test::Fail;
@@ -264,6 +264,55 @@ fn plays_and_takes_back(rt: HostRuntime) -> Result<(), Fail> {
             }
             _ => panic!(rt; "the game does not go on"),
         },
+    }
+    Ok(())
+}
+
+#[test]
+fn a_position_tells_its_five_points(rt: HostRuntime) -> Result<(), Fail> {
+    let row = [(5, 7), (6, 7), (7, 7), (8, 7)];
+    match Position::<Renju>::from_board(board_of(&rt, &row, &CORNERS)?) {
+        Err(_) => panic!(rt; "no lawful position"),
+        Ok(position) => {
+            let ends = [Point { x: 4, y: 7 }, Point { x: 9, y: 7 }];
+            let points = position.five_points(rt.alloc(), Side::Black)?;
+            assert_eq!(rt; points.as_slice(), ends.as_slice());
+            assert!(rt; position.has_five(Side::Black) && !position.has_five(Side::White));
+            assert_eq!(rt; position.fives_in_short(Side::Black), FivePoints::Several);
+        }
+    }
+    Ok(())
+}
+
+#[test]
+fn a_move_makes_its_five_point(rt: HostRuntime) -> Result<(), Fail> {
+    let three = [(5, 7), (6, 7), (7, 7)];
+    let apart = [(0, 0), (14, 0), (0, 14)];
+    match Position::<Renju>::from_board(board_of(&rt, &three, &apart)?) {
+        Err(_) => panic!(rt; "no lawful position"),
+        Ok(position) => {
+            let p = Point { x: 9, y: 7 };
+            assert!(rt; position.board().is_empty(p));
+            let side = position.side();
+            assert!(rt; !position.has_five(side));
+            let made = FivePoints::One(Point { x: 8, y: 7 });
+            assert_eq!(rt; position.fives_made(p), made);
+        }
+    }
+    Ok(())
+}
+
+#[test]
+fn a_position_of_any_rule_keeps_its_board(rt: HostRuntime) -> Result<(), Fail> {
+    let board = drawn(&rt, b"xo")?;
+    match Position::<ExactFive>::from_board(board.copy()?) {
+        Err(_) => panic!(rt; "no lawful position"),
+        Ok(position) => {
+            let any = AnyPosition::new(RuleKind::Exact, position.into_board());
+            assert_eq!(rt; any.kind(), RuleKind::Exact);
+            assert!(rt; any.board().same(&board));
+            assert!(rt; any.into_board().same(&board));
+        }
     }
     Ok(())
 }

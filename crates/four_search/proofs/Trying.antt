@@ -15,9 +15,9 @@ use Rattle.game_rules.specs.declared.Point.{Point}
 use Rattle.game_rules.proofs.Points.{taken_refused, is_same_point-itself, is_same_point-same}
 use Rattle.threat_moves.specs.FourMoves.{goes_on_with, is_four_move}
 use Rattle.threat_moves.specs.declared.block.BlockAnswer.{BlockAnswer}
-use Rattle.threat_moves.specs.declared.block.BlockAnswer.TheVariants.{Lost, Won, Draw, One}
+use Rattle.threat_moves.specs.declared.block.BlockAnswer.TheVariants.{Lost, One}
 use Rattle.threat_moves.specs.Blocks.{fate}
-use Rattle.threat_moves.specs.OneBlock.{won_within, block_wins}
+use Rattle.threat_moves.specs.OneBlock.{block_wins}
 use Rattle.threat_moves.proofs.BlockLaw.{block_decides, no-reply-wins, five-wins}
 use Rattle.four_search.specs.declared.search.Found.{Found}
 use Rattle.four_search.specs.declared.search.Found.TheVariants.{Win, NoWin, Spent}
@@ -284,12 +284,6 @@ found-nothing rule moves budget b e =
 -- ---- after a four, by its fate
 
 module _ (rule : RuleKind) (c : Grid) (budget : ℕ) where
-  whole : Win budget [] ≡ found_by budget 0 true []
-  whole =
-      let e : nat_le 0 budget ≡ true = grind (arith, nat_tests) in
-      let m : budget ≡ budget - 0 = omega arith in
-      ap (λ x. Win x []) m ∙ ap (λ r. cond r (Win (budget - 0) []) Spent) (sym e)
-
   positions : ℕ → BlockAnswer → ℕ
   positions zero a = 0
   positions (suc n) a = if_one (four_tree rule (suc n)) c a
@@ -307,30 +301,10 @@ module _ (rule : RuleKind) (c : Grid) (budget : ℕ) where
   answering-lost zero e = no_win budget [] ∙ by_answer zero Lost e
   answering-lost (suc n) e = no_win budget [] ∙ by_answer (suc n) Lost e
 
-  pub answering-draw : (n : ℕ) (w : Point) → Draw w ≡ fate rule c → NoWin budget ≡ found_answering rule n c budget
-  unfolding found_as positions
-  answering-draw zero w e = no_win budget [] ∙ by_answer zero (Draw w) e
-  answering-draw (suc n) w e = no_win budget [] ∙ by_answer (suc n) (Draw w) e
-
-  pub answering-won : (n : ℕ) → Won ≡ fate rule c → won_within rule n c ≡ true → Win budget [] ≡ found_answering rule n c budget
-  unfolding found_as positions
-  answering-won zero e h = whole ∙ ap (λ w. found_by budget 0 w []) (sym h) ∙ by_answer zero Won e
-  answering-won (suc n) e h = whole ∙ by_answer (suc n) Won e
-
-  pub answering-not : (n : ℕ) → Won ≡ fate rule c → won_within rule n c ≡ false → NoWin budget ≡ found_answering rule n c budget
-  unfolding found_as positions
-  answering-not zero e h = no_win budget [] ∙ ap (λ w. found_by budget 0 w []) (sym h) ∙ by_answer zero Won e
-  answering-not (suc n) e h = cc
-
   pub answering-no-more : (n : ℕ) (w : Point) → n ≡ 0 → One w ≡ fate rule c → NoWin budget ≡ found_answering rule n c budget
   unfolding found_as positions wins_under four_line
   answering-no-more zero w z e = no_win budget [] ∙ by_answer zero (One w) e
   answering-no-more (suc n) w z e = absurd (omega arith)
-
-  pub answering-one : (n : ℕ) (w : Point) → 0 < n → One w ≡ fate rule c → found_at rule n (after c w) budget ≡ found_answering rule n c budget
-  unfolding found_as positions
-  answering-one zero w some e = absurd (omega arith)
-  answering-one (suc n) w some e = by_answer (suc n) (One w) e
 
 -- ---- behind a four: what is after it, with the four at the end of the line
 
@@ -348,9 +322,6 @@ module _ (rule : RuleKind) (n : ℕ) (b : Grid) (p : Point) (budget : ℕ) where
 
   behind-moves : with_move (found_answering rule n (after b p) budget) ≡ found_behind rule n b p budget
   behind-moves = moves_by (positions_behind rule n (after b p)) (line_behind (four_line rule n) (after b p) (fate rule (after b p))) (nat_le (positions_behind rule n (after b p)) budget) (block_wins rule n (after b p) (fate rule (after b p)))
-
-  pub behind-win : (left : ℕ) (line : List Point) → Win left line ≡ found_answering rule n (after b p) budget → Win left (line ++ p ∷ []) ≡ found_behind rule n b p budget
-  behind-win left line e = ap with_move e ∙ behind-moves
 
   pub behind-no_win : (left : ℕ) → NoWin left ≡ found_answering rule n (after b p) budget → NoWin left ≡ found_behind rule n b p budget
   behind-no_win left e = ap with_move e ∙ behind-moves

@@ -1,10 +1,17 @@
+-- The laws of the rules. All may be cited by the layers above.
+
+-- tests over ranges of numbers, and over the four axes
 pub mod Rows
-pub mod Boards
 pub mod Axes
+-- stones that are put and lifted; points along a line; runs, and what one more stone changes
+pub mod Boards
 pub mod Lines
 pub mod Runs
+-- a move that goes on, and one that is taken back; who moves after it
 pub mod Positions
+-- tests of the points of a board, which are listed once each; five points
 pub mod Points
-pub mod Fives
 pub mod Distinct
+pub mod Fives
+-- won games: stronger demands, more moves, tests and facts
 pub mod Games

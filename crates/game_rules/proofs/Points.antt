@@ -1,12 +1,11 @@
 -- Facts about all points of a board: lists, tests, and points off the board.
-use Rattle.std.proofs.Common.{◌≡◌, ℕ, ◌*◌, ◌<◌, Bool, true, false, ◌&&◌, ◌||◌, not, cond, refl, sym, ap, subst, ◌∙◌, arith, List, [], ◌∷◌, map, nat_eq, eq-eqb}
+use Rattle.std.proofs.Common.{◌≡◌, ℕ, Bool, true, false, ◌&&◌, ◌||◌, not, cond, refl, sym, ap, subst, ◌∙◌, arith, List, [], ◌∷◌, map, nat_eq, eq-eqb}
 use Rattle.std.specs.List.{list_any, list_all, filter, flat_map, range_with_len}
 use Rattle.std.specs.Prelude.{Option, Some, None}
 use Rattle.std.proofs.lemmas.Bool.{false_from_ne_true}
 use Rattle.std.proofs.lemmas.Bool.Decides.{nat_tests}
 use Rattle.std.proofs.lemmas.List.Folds.{list_any-append}
-use Rattle.std.proofs.lemmas.Grind.{rows}
-use Rattle.game_rules.specs.Grid.{Grid, is_on, is_empty, place_of, points_of, row_from}
+use Rattle.game_rules.specs.Grid.{Grid, is_on, is_empty, points_of, row_from}
 use Rattle.game_rules.specs.Shapes.{five, is_same_point}
 use Rattle.game_rules.specs.Play.{outcome, outcome_by, foul_of, mover}
 use Rattle.game_rules.specs.Games.{WinsOr}
@@ -116,13 +115,6 @@ filter-some f w more (p ∷ ps) h = by_test (f p) refl h (filter-some f w more p
   by_test : (r : Bool) → f p ≡ r → cond r (p ∷ filter f ps) (filter f ps) ≡ w ∷ more → (filter f ps ≡ w ∷ more → list_any f ps ≡ true) → (r || list_any f ps) ≡ true
   by_test true e k rest = refl
   by_test false e k rest = rest k
-
--- the place of a point of the board is below the number of its points
-pub place-below : (b : Grid) (q : Point) → is_on b q ≡ true → place_of b q < b.height * b.width
-place-below b q on =
-    let x : q.x < b.width = on_x b q on in
-    let y : q.y < b.height = on_y b q on in
-    grind (arith, rows)
 
 refused_by : (f l : Bool) (o : Option Foul) → outcome_by false f o l ≡ Refused
 refused_by f l None = refl

@@ -7,12 +7,11 @@ use Rattle.std.proofs.lemmas.Slice.Eq.{slice_eq-Decides}
 use Rattle.std.specs.Bool.{Decides}
 use Rattle.std.specs.Cmp.Lexicographic.{pointwise}
 use Rattle.game_rules.specs.contracts.CellPartialEq.TheImpl.{eq-value}
-use Rattle.game_rules.specs.Grid.{Grid, IsBoard, is_on, is_empty, is_empty_cell, is_stone_of, put, stones_of, empties_of}
+use Rattle.game_rules.specs.Grid.{Grid, IsBoard, is_empty, is_empty_cell, is_stone_of, put, stones_of, empties_of}
 use Rattle.game_rules.specs.declared.Side.TheVariants.{Black, White}
 use Rattle.game_rules.specs.declared.Cell.{Cell}
 use Rattle.game_rules.specs.declared.Cell.TheVariants.{Empty, Black as BlackStone, White as WhiteStone}
 use Rattle.game_rules.specs.declared.Point.{Point}
-use Rattle.game_rules.proofs.Boards.{on_x, on_y}
 use Rattle.game_rules.proofs.Positions.{stones_of-put, IsBoard-put}
 use Rattle.stone_board.specs.Counts.{IsCounted}
 
@@ -55,13 +54,6 @@ pub same_item : (cells : List Cell) (i : ℕ) (c d : Cell) → i < length cells 
 same_item [] i c d h = absurd (omega arith)
 same_item (x ∷ cells) zero c d h = refl
 same_item (x ∷ cells) (suc i) c d h = same_item cells i c d (omega arith)
-
--- a point of the board has coordinates below 32
-pub small_x : (b : Grid) (p : Point) → IsBoard b → is_on b p ≡ true → p.x < 64
-small_x b p ok on = let x = on_x b p on in let fits = ok.width_fits in omega (arith, x, fits)
-
-pub small_y : (b : Grid) (p : Point) → IsBoard b → is_on b p ≡ true → p.y < 64
-small_y b p ok on = let y = on_y b p on in let fits = ok.height_fits in omega (arith, y, fits)
 
 -- the derived `==` of cells says whether they are one
 cell_eq-Decides : (a b : Cell) → Decides (eq-value.it a b) (a ≡ b)

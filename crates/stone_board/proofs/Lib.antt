@@ -1,5 +1,9 @@
+-- The laws of boards. What is declared by `pub mod` the layers above may cite; the rest serves this crate alone.
+
+-- points that are kept on the board, and the row next to a point in one way; stones of either side
+pub mod Looks
+pub mod Stones
+-- reading order, the numbers of stones that are kept, and walks along an axis
 mod Orders
 mod Counts
 mod Strides
-pub mod Looks
-pub mod Stones

@@ -2,7 +2,7 @@
 use Rattle.std.proofs.Common.{◌≡◌, Bool, true, false, cond, refl, sym, ap, ◌∙◌}
 use Rattle.std.specs.Prelude.{Option, Some, None}
 use Rattle.std.specs.List.{prefix_len, range_with_len}
-use Rattle.game_rules.specs.Grid.{Grid, is_on, holds}
+use Rattle.game_rules.specs.Grid.{Grid, is_on}
 use Rattle.game_rules.specs.Shapes.{stone_at, line_bound}
 use Rattle.game_rules.specs.declared.Side.{Side}
 use Rattle.game_rules.specs.declared.Point.{Point}
@@ -21,15 +21,6 @@ kept-Some b None q h = cc
 kept-Some b (Some p) q h =
     let both = kept_by b p q (is_on b p) refl h in
     (ap Some both.0, ap (is_on b) (sym both.0) ∙ both.1)
-
-no_stone_by : (b : Grid) (s : Side) (p : Point) (r : Bool) → is_on b p ≡ r → cond r (Some p) None ≡ None → holds b s p ≡ false
-no_stone_by b s p true e h = cc
-no_stone_by b s p false e h = rw e refl
-
--- no stone stands where no point is kept
-pub kept-None : (b : Grid) (s : Side) (o : Option Point) → kept_on b o ≡ None → stone_at b s o ≡ false
-kept-None b s None h = refl
-kept-None b s (Some p) h = no_stone_by b s p (is_on b p) refl h
 
 -- the row next to a point in one way, as the prefix of its places that hold stones
 pub stones_towards-prefix : (way : Way) (b : Grid) (s : Side) (d : Axis) (p : Point) → prefix_len (λ j. stone_at b s (towards way d p j)) (range_with_len 1 (line_bound b)) ≡ stones_towards way b s d p

@@ -16,10 +16,6 @@ rows_from width y n = flat_map (λ y. row_from y 0 width) (range_with_len y n)
 rows_from-first : (width y n m : ℕ) → n ≡ suc m → rows_from width y n ≡ row_from y 0 width ++ rows_from width (y + 1) m
 rows_from-first width y n m e = rw e refl
 
--- what is left from the first point of row y on
-abbrev left_from_row : ℕ → ℕ → ℕ → List Point
-left_from_row width height y = cond (nat_lt y height) (row_from y 0 (width - 0) ++ rows_from width (y + 1) (height - (y + 1))) []
-
 left_from_row-rows : (width height y : ℕ) (r : Bool) → nat_lt y height ≡ r → rows_from width y (height - y) ≡ cond r (row_from y 0 (width - 0) ++ rows_from width (y + 1) (height - (y + 1))) []
 left_from_row-rows width height y true h =
     let below : y < height = ltb-true _ _ h in

@@ -1,4 +1,4 @@
-//! Boards of five in a row, 5 to 32 points wide and high.
+//! Boards of five in a row, `MIN_SIDE` to `MAX_SIDE` points wide and high.
 //!
 //! A board is seen by contracts as its width, its height and the list of its cells in reading order. It keeps its cells
 //! in one vector and counts its stones as they come and go, so that who moves is known at once.

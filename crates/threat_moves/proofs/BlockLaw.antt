@@ -133,9 +133,6 @@ module _ (rule : RuleKind) (c : Grid) (lawful : IsPosition rule c) where
       (λ draws. no_other_empty rule c q draws lawful w (five-empty rule c (other (mover c)) w h) apart)
       (λ on. five-wins rule (after c q) n (five-stays q w on h apart))
 
-  apart-sym : (p q : Point) → Apart p q → Apart q p
-  apart-sym p q h = record { apart = λ x y. h.apart (sym x) (sym y) }
-
   -- where the attacker has two five points, each reply loses
   two-lost : (n : ℕ) → has_five rule c (mover c) ≡ false → (w v : Point) → five rule c (other (mover c)) w ≡ true → five rule c (other (mover c)) v ≡ true → Apart w v → (q : Point) → lost (suc n) q ≡ true
   two-lost n none w v hw hv apart q = elim (same_or_apart q w) [
