@@ -52,11 +52,14 @@ pub fn four_search<R: Rule, V: Seen<R>>(
     requires some_depth { 1 ≤ depth }
     requires depth_fits { depth ≤ MAX_DEPTH }
     requires some_budget { 1 ≤ budget }
-    ensures win { IfOk result (λ a. OnWin a (IsFourWin R.KIND depth (V.position view.old) compiler.new)) }
+    ensures win { IfOk result
+        (λ a. OnWin a (IsFourWin R.KIND depth (V.position view.old) compiler.new)) }
     ensures none { IfOk result (λ a. (a ≡ FourAnswer.None)
         ↔ ((wins_by_fours R.KIND depth (V.position view.old) ≡ false) × (four_cost R.KIND depth (V.position view.old) ≤ budget))) }
-    ensures no_win { IfOk result (λ a. a ≡ FourAnswer.None → ¬ WinsByFours R.KIND depth (V.position view.old)) }
-    ensures spent { IfOk result (λ a. (a ≡ FourAnswer.Spent) ↔ (budget < four_cost R.KIND depth (V.position view.old))) }
+    ensures no_win { IfOk result
+        (λ a. a ≡ FourAnswer.None → ¬ WinsByFours R.KIND depth (V.position view.old)) }
+    ensures spent { IfOk result
+        (λ a. (a ≡ FourAnswer.Spent) ↔ (budget < four_cost R.KIND depth (V.position view.old))) }
     ensures added { IfOk result (λ a. GrowsBy compiler.old compiler.new (most_added a)) }
 
     // What a refusal leaves, and when the compiler is full.

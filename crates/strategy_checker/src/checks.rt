@@ -1,4 +1,7 @@
 //! Verdicts on a table: a walk from its root, and what comes of it.
+//!
+//! A walk to its end shows that the root is accepted, and what it took of the work is the number of arrivals. A walk that
+//! stops at a fault has noted the moves that lead there, the last one first. The depth of the root plays no part in it.
 #![tactic(auto)]
 
 ghost use Rattle.std.specs.Prelude.{◌≡◌, ◌<◌, ◌≤◌, ◌-◌, true, length, reverse, IfOk, OnOk};
@@ -35,13 +38,21 @@ pub fn check<R: Rule>(
     work: u64,
 ) -> Result<Verdict, AllocError>
     requires in_table { root < length table.now }
-    ensures accepted { IfOk result (AcceptsExactly (Accepted R.KIND table.now root position.old) (arrivals R.KIND table.now root position.old) work) }
+    ensures accepted { IfOk result
+        (AcceptsExactly (Accepted R.KIND table.now root position.old)
+        (arrivals R.KIND table.now root position.old) work) }
     ensures moves { IfOk result (IfAccepted (λ moves count. moves ≡ depth table.now root)) }
-    ensures arrivals { IfOk result (IfAccepted (λ moves count. count ≡ arrivals R.KIND table.now root position.old)) }
+    ensures arrivals { IfOk result
+        (IfAccepted (λ moves count. count ≡ arrivals R.KIND table.now root position.old)) }
     ensures wins { IfOk result (IfAccepted (λ moves count. WinsWithin R.KIND moves position.old)) }
-    ensures refused { IfOk result (RefusesRightly (Accepted R.KIND table.now root position.old) (arrivals R.KIND table.now root position.old) work) }
-    ensures leads { IfOk result (IfRefused (λ line why. Leads R.KIND table.now root position.old line why)) }
-    ensures spent { IfOk result (SpendsRightly (Accepted R.KIND table.now root position.old) (arrivals R.KIND table.now root position.old) work) }
+    ensures refused { IfOk result
+        (RefusesRightly (Accepted R.KIND table.now root position.old)
+        (arrivals R.KIND table.now root position.old) work) }
+    ensures leads { IfOk result
+        (IfRefused (λ line why. Leads R.KIND table.now root position.old line why)) }
+    ensures spent { IfOk result
+        (SpendsRightly (Accepted R.KIND table.now root position.old)
+        (arrivals R.KIND table.now root position.old) work) }
     ensures same { position.new ≡ position.old }
 {
     // Its contract says that the position is lawful.
@@ -70,13 +81,23 @@ pub fn check_start<R: Rule>(
     work: u64,
 ) -> Result<Verdict, AllocError>
     requires below { names_below start.now (length table.now) ≡ true }
-    ensures accepted { IfOk result (AcceptsExactly (AcceptedStart R.KIND table.now start.now position.old) (start_arrivals R.KIND table.now start.now position.old) work) }
-    ensures moves { IfOk result (IfAccepted (λ moves count. moves ≡ start_depth table.now start.now)) }
-    ensures arrivals { IfOk result (IfAccepted (λ moves count. count ≡ start_arrivals R.KIND table.now start.now position.old)) }
+    ensures accepted { IfOk result
+        (AcceptsExactly (AcceptedStart R.KIND table.now start.now position.old)
+        (start_arrivals R.KIND table.now start.now position.old) work) }
+    ensures moves { IfOk result
+        (IfAccepted (λ moves count. moves ≡ start_depth table.now start.now)) }
+    ensures arrivals { IfOk result
+        (IfAccepted
+        (λ moves count. count ≡ start_arrivals R.KIND table.now start.now position.old)) }
     ensures wins { IfOk result (IfAccepted (λ moves count. WinsAfter R.KIND moves position.old)) }
-    ensures refused { IfOk result (RefusesRightly (AcceptedStart R.KIND table.now start.now position.old) (start_arrivals R.KIND table.now start.now position.old) work) }
-    ensures leads { IfOk result (IfRefused (λ line why. LeadsStart R.KIND table.now start.now position.old line why)) }
-    ensures spent { IfOk result (SpendsRightly (AcceptedStart R.KIND table.now start.now position.old) (start_arrivals R.KIND table.now start.now position.old) work) }
+    ensures refused { IfOk result
+        (RefusesRightly (AcceptedStart R.KIND table.now start.now position.old)
+        (start_arrivals R.KIND table.now start.now position.old) work) }
+    ensures leads { IfOk result
+        (IfRefused (λ line why. LeadsStart R.KIND table.now start.now position.old line why)) }
+    ensures spent { IfOk result
+        (SpendsRightly (AcceptedStart R.KIND table.now start.now position.old)
+        (start_arrivals R.KIND table.now start.now position.old) work) }
     ensures same { position.new ≡ position.old }
 {
     // Its contract says that the position is lawful.
@@ -100,13 +121,23 @@ pub fn check_root<R: Rule>(
 ) -> Result<Verdict, AllocError>
     requires below { root_below root.now (length table.now) ≡ true }
     requires depth { moves ≡ root_depth table.now root.now }
-    ensures accepted { IfOk result (AcceptsExactly (AcceptedRoot R.KIND table.now root.now position.old) (root_arrivals R.KIND table.now root.now position.old) work) }
-    ensures moves { IfOk result (IfAccepted (λ moves count. moves ≡ root_depth table.now root.now)) }
-    ensures arrivals { IfOk result (IfAccepted (λ moves count. count ≡ root_arrivals R.KIND table.now root.now position.old)) }
-    ensures wins { IfOk result (IfAccepted (λ moves count. RootWins R.KIND root.now moves position.old)) }
-    ensures refused { IfOk result (RefusesRightly (AcceptedRoot R.KIND table.now root.now position.old) (root_arrivals R.KIND table.now root.now position.old) work) }
-    ensures leads { IfOk result (IfRefused (λ line why. LeadsRoot R.KIND table.now root.now position.old line why)) }
-    ensures spent { IfOk result (SpendsRightly (AcceptedRoot R.KIND table.now root.now position.old) (root_arrivals R.KIND table.now root.now position.old) work) }
+    ensures accepted { IfOk result
+        (AcceptsExactly (AcceptedRoot R.KIND table.now root.now position.old)
+        (root_arrivals R.KIND table.now root.now position.old) work) }
+    ensures moves { IfOk result
+        (IfAccepted (λ moves count. moves ≡ root_depth table.now root.now)) }
+    ensures arrivals { IfOk result
+        (IfAccepted (λ moves count. count ≡ root_arrivals R.KIND table.now root.now position.old)) }
+    ensures wins { IfOk result
+        (IfAccepted (λ moves count. RootWins R.KIND root.now moves position.old)) }
+    ensures refused { IfOk result
+        (RefusesRightly (AcceptedRoot R.KIND table.now root.now position.old)
+        (root_arrivals R.KIND table.now root.now position.old) work) }
+    ensures leads { IfOk result
+        (IfRefused (λ line why. LeadsRoot R.KIND table.now root.now position.old line why)) }
+    ensures spent { IfOk result
+        (SpendsRightly (AcceptedRoot R.KIND table.now root.now position.old)
+        (root_arrivals R.KIND table.now root.now position.old) work) }
     ensures same { position.new ≡ position.old }
 {
     // Its contract says that the position is lawful.
@@ -125,7 +156,8 @@ fn verdict(
     work: u64,
 ) -> Result<Verdict, AllocError>
     requires counted { OnOk walked (walk.now.left ≤ work) }
-    ensures verdict { IfOk result (IsVerdictOn walked moves (work - walk.now.left) (reverse walk.now.line)) }
+    ensures verdict { IfOk result
+        (IsVerdictOn walked moves (work - walk.now.left) (reverse walk.now.line)) }
 {
     match walked {
         Ok(()) => Ok(Verdict::Accepted {

@@ -89,10 +89,15 @@ impl Held {
         ensures accepted { OnOk result (AcceptedRoot R.KIND self.old.table root position) }
         ensures arrivals { OnOk result (root_arrivals R.KIND self.old.table root position ≤ work) }
         ensures table { OnOk result (self.new.table ≡ self.old.table) }
-        ensures added { OnOk result (self.new.roots ≡ self.old.roots ++ record { root = root; kind = R.KIND; board = position } ∷ []) }
-        ensures refused { IfErr result (IfRootRefused (λ line why. ¬ AcceptedRoot R.KIND self.old.table root position)) }
-        ensures leads { IfErr result (IfRootRefused (λ line why. LeadsRoot R.KIND self.old.table root position line why)) }
-        ensures spent { IfErr result (IfRootSpent (work < root_arrivals R.KIND self.old.table root position)) }
+        ensures added { OnOk result
+            (self.new.roots
+            ≡ self.old.roots ++ record { root = root; kind = R.KIND; board = position } ∷ []) }
+        ensures refused { IfErr result
+            (IfRootRefused (λ line why. ¬ AcceptedRoot R.KIND self.old.table root position)) }
+        ensures leads { IfErr result
+            (IfRootRefused (λ line why. LeadsRoot R.KIND self.old.table root position line why)) }
+        ensures spent { IfErr result
+            (IfRootSpent (work < root_arrivals R.KIND self.old.table root position)) }
         ensures unchanged { OnErr result (self.new ≡ self.old) }
     {
         let alloc = *self.roots.allocator();
@@ -161,9 +166,12 @@ fn checked_moves<R: Rule>(
     ensures moves { IfOk result (λ moves. moves ≡ root_depth table.now root.now) }
     ensures accepted { OnOk result (AcceptedRoot R.KIND table.now root.now position.old) }
     ensures arrivals { OnOk result (root_arrivals R.KIND table.now root.now position.old ≤ work) }
-    ensures refused { IfErr result (IfRootRefused (λ line why. ¬ AcceptedRoot R.KIND table.now root.now position.old)) }
-    ensures leads { IfErr result (IfRootRefused (λ line why. LeadsRoot R.KIND table.now root.now position.old line why)) }
-    ensures spent { IfErr result (IfRootSpent (work < root_arrivals R.KIND table.now root.now position.old)) }
+    ensures refused { IfErr result
+        (IfRootRefused (λ line why. ¬ AcceptedRoot R.KIND table.now root.now position.old)) }
+    ensures leads { IfErr result
+        (IfRootRefused (λ line why. LeadsRoot R.KIND table.now root.now position.old line why)) }
+    ensures spent { IfErr result
+        (IfRootSpent (work < root_arrivals R.KIND table.now root.now position.old)) }
     ensures same { position.new ≡ position.old }
 {
     let Ok(moves) = table.root_depth(root) else {

@@ -66,7 +66,8 @@ impl Walk {
         requires lawful { IsPosition R.KIND position.old }
         requires no_line { self.old.line ≡ [] }
         ensures accepted { OnOk result (Accepted R.KIND table.now i position.old) }
-        ensures counted { OnOk result (self.new.left + arrivals R.KIND table.now i position.old ≡ self.old.left) }
+        ensures counted { OnOk result
+            (self.new.left + arrivals R.KIND table.now i position.old ≡ self.old.left) }
         ensures no_line { OnOk result (self.new.line ≡ []) }
         ensures stopped { IfErr result (Stopped
             (λ why. Leads R.KIND table.now i position.old (reverse self.new.line) why)
@@ -106,7 +107,9 @@ impl Walk {
         requires lawful { IsPosition R.KIND position.old }
         requires no_line { self.old.line ≡ [] }
         ensures accepted { OnOk result (AcceptedStart R.KIND table.now start.now position.old) }
-        ensures counted { OnOk result (self.new.left + start_arrivals R.KIND table.now start.now position.old ≡ self.old.left) }
+        ensures counted { OnOk result
+            (self.new.left + start_arrivals R.KIND table.now start.now position.old
+            ≡ self.old.left) }
         ensures stopped { IfErr result (Stopped
             (λ why. LeadsStart R.KIND table.now start.now position.old (reverse self.new.line) why)
             (self.old.left < start_arrivals R.KIND table.now start.now position.old)) }
@@ -127,7 +130,8 @@ impl Walk {
         requires lawful { IsPosition R.KIND position.old }
         requires no_line { self.old.line ≡ [] }
         ensures accepted { OnOk result (AcceptedRoot R.KIND table.now root.now position.old) }
-        ensures counted { OnOk result (self.new.left + root_arrivals R.KIND table.now root.now position.old ≡ self.old.left) }
+        ensures counted { OnOk result
+            (self.new.left + root_arrivals R.KIND table.now root.now position.old ≡ self.old.left) }
         ensures stopped { IfErr result (Stopped
             (λ why. LeadsRoot R.KIND table.now root.now position.old (reverse self.new.line) why)
             (self.old.left < root_arrivals R.KIND table.now root.now position.old)) }
@@ -149,11 +153,16 @@ impl Walk {
         rest: Rest,
         position: &mut Position<R>,
     ) -> Result<(), Stop>
-        requires below { names_below (record { replies = replies.now; rest = rest }) (length table.now) ≡ true }
+        requires below { names_below (record { replies = replies.now; rest = rest })
+            (length table.now) ≡ true }
         requires lawful { IsPosition R.KIND position.old }
         requires no_line { self.old.line ≡ [] }
-        ensures accepted { OnOk result (AcceptedStart R.KIND table.now (record { replies = replies.now; rest = rest }) position.old) }
-        ensures counted { OnOk result (self.new.left + arrivals_after R.KIND (record { replies = replies.now; rest = rest }) (arrivals R.KIND table.now) position.old ≡ self.old.left) }
+        ensures accepted { OnOk result
+            (AcceptedStart R.KIND table.now
+            (record { replies = replies.now; rest = rest }) position.old) }
+        ensures counted { OnOk result
+            (self.new.left + arrivals_after R.KIND (record { replies = replies.now; rest = rest })
+            (arrivals R.KIND table.now) position.old ≡ self.old.left) }
         ensures no_line { OnOk result (self.new.line ≡ []) }
         ensures stopped { IfErr result (Stopped
             (λ why. LeadsStart R.KIND table.now (record { replies = replies.now; rest = rest }) position.old (reverse self.new.line) why)
@@ -176,11 +185,16 @@ impl Walk {
         position: &mut Position<R>,
         q: Point,
     ) -> Result<(), Stop>
-        requires below { names_below (record { replies = replies.now; rest = rest }) (length table.now) ≡ true }
+        requires below { names_below (record { replies = replies.now; rest = rest })
+            (length table.now) ≡ true }
         requires lawful { IsPosition R.KIND position.old }
         requires no_line { self.old.line ≡ [] }
-        ensures met { OnOk result (Meets R.KIND (record { replies = replies.now; rest = rest }) (Accepted R.KIND table.now) position.old q) }
-        ensures counted { OnOk result (self.new.left + arrivals_at R.KIND (record { replies = replies.now; rest = rest }) (arrivals R.KIND table.now) position.old q ≡ self.old.left) }
+        ensures met { OnOk result
+            (Meets R.KIND (record { replies = replies.now; rest = rest })
+            (Accepted R.KIND table.now) position.old q) }
+        ensures counted { OnOk result
+            (self.new.left + arrivals_at R.KIND (record { replies = replies.now; rest = rest })
+            (arrivals R.KIND table.now) position.old q ≡ self.old.left) }
         ensures no_line { OnOk result (self.new.line ≡ []) }
         ensures stopped { IfErr result (Stopped
             (λ why. LeadsStart R.KIND table.now (record { replies = replies.now; rest = rest }) position.old (reverse self.new.line) why)

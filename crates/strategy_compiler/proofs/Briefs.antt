@@ -14,12 +14,12 @@ use Rattle.game_rules.proofs.Boards.{and_left, and_right}
 use Rattle.strategy_graph.specs.declared.Reply.{Reply}
 use Rattle.strategy_graph.specs.declared.Rest.TheVariants.{Wins}
 use Rattle.strategy_graph.specs.declared.Node.{Node}
-use Rattle.strategy_graph.specs.Tables.{Answers, answers_of, answer, answer_at, listed_node, precedes, is_rising, is_winning, rest_node, rest_nodes, IsNode}
+use Rattle.strategy_graph.specs.Tables.{Answers, answers_of, answer, answer_at, listed_node, precedes, is_rising, is_winning, named, rest_node, rest_nodes, IsNode}
 use Rattle.strategy_graph.specs.Acceptance.{Answered}
 use Rattle.strategy_graph.proofs.Rising.{is_rising-filter, precedes-differs, precedes-differs_back}
 use Rattle.strategy_graph.specs.Leads.{AtNode}
 use Rattle.strategy_compiler.specs.Trees.{Tree, Branches, Leaf, Fork, NoBranch, Branch, StandsFor, StandsForAll, AnswersBranches, AnswersBriefly, replies_of, answers_to, commonest}
-use Rattle.strategy_compiler.specs.Nodes.{NamesOnly, PutsIn, answering_node, answers_beside, commonest_next, rest_of, winning_node}
+use Rattle.strategy_compiler.specs.Nodes.{NamesOnly, PutsIn, answering_node, answers_beside, brief_answers, commonest_next, rest_of, winning_node}
 use Rattle.strategy_compiler.proofs.Standing.{stands-put_in}
 use borrow.Author.Tests.{lt-ltb}
 
@@ -43,7 +43,7 @@ all-rest : (p : ℕ → Bool) (o : Option ℕ) → ((j : ℕ) → o ≡ Some j �
 all-rest p None h = refl
 all-rest p (Some j) h = rw (h j refl) refl
 
-all-next : (rs : List Reply) (k : ℕ) → All (λ r. r.next < k) rs → list_all (λ j. nat_lt j k) (map (λ r. r.next) rs) ≡ true
+pub all-next : (rs : List Reply) (k : ℕ) → All (λ r. r.next < k) rs → list_all (λ j. nat_lt j k) (map (λ r. r.next) rs) ≡ true
 all-next [] k h = refl
 all-next (r ∷ rs) k h = rw (lt-ltb r.next k (h 0 r (omega arith))) (all-next rs k (λ i d l. h (suc i) d (omega arith)))
 
@@ -51,18 +51,26 @@ not_winning : (o : Option ℕ) → is_winning (rest_of o) ≡ false
 not_winning None = refl
 not_winning (Some j) = refl
 
+-- what holds of each node that answers holds of each that the answers in brief name
+pub brief-named : (p : ℕ → Bool) (rs : List Reply) → list_all p (map (λ r. r.next) rs) ≡ true → list_all p (named (brief_answers rs)) ≡ true
+brief-named p rs all =
+    list_all-append p (map (λ r. r.next) (answers_beside (commonest_next rs) rs)) (rest_nodes (rest_of (commonest_next rs)))
+    ∙ rw (all-filter p (λ r. not (option_eq nat_eq (Some r.next) (commonest_next rs))) rs all)
+    (all-rest p (commonest_next rs) (λ j e. found_passes p _ (map (λ r. r.next) rs) j all e))
+
+pub brief-rising : (rs : List Reply) → is_rising rs ≡ true → is_rising (brief_answers rs).replies ≡ true
+brief-rising rs rising = is_rising-filter (λ r. not (option_eq nat_eq (Some r.next) (commonest_next rs))) rs rising
+
+pub brief-not_winning : (rs : List Reply) → is_winning (brief_answers rs).rest ≡ false
+brief-not_winning rs = not_winning (commonest_next rs)
+
 -- the node that answers rising replies by nodes below k is one of a table, as node k
 pub IsNode-answering : (attack : Point) (rs : List Reply) (k : ℕ) → is_rising rs ≡ true → All (λ r. r.next < k) rs → IsNode (answering_node attack rs) k
-IsNode-answering attack rs k rising below =
-    let all = all-next rs k below in
-    record {
-      below =
-          list_all-append (λ j. nat_lt j k) (map (λ r. r.next) (answers_beside (commonest_next rs) rs)) (rest_nodes (rest_of (commonest_next rs)))
-          ∙ rw (all-filter (λ j. nat_lt j k) (λ r. not (option_eq nat_eq (Some r.next) (commonest_next rs))) rs all)
-          (all-rest (λ j. nat_lt j k) (commonest_next rs) (λ j e. found_passes (λ j. nat_lt j k) _ (map (λ r. r.next) rs) j all e));
-      rising = is_rising-filter (λ r. not (option_eq nat_eq (Some r.next) (commonest_next rs))) rs rising;
-      winning = λ e. cc (e, not_winning (commonest_next rs));
-    }
+IsNode-answering attack rs k rising below = record {
+  below = brief-named (λ j. nat_lt j k) rs (all-next rs k below);
+  rising = brief-rising rs rising;
+  winning = λ e. cc (e, brief-not_winning rs);
+}
 
 pub IsNode-winning : (attack : Point) (k : ℕ) → IsNode (winning_node attack) k
 IsNode-winning attack k = record { below = refl; rising = refl; winning = λ e. refl }
@@ -136,9 +144,10 @@ as_given a o rs (s ∷ ss) e f h = (
   as_given a o rs ss e f h.1,
 )
 
-pub answering-as_given : (attack : Point) (rs : List Reply) → is_rising rs ≡ true → AnsweredAsGiven (answers_of (answering_node attack rs)) rs
-answering-as_given attack rs h =
-    as_given (answers_of (answering_node attack rs)) (commonest_next rs) rs rs refl (rest_node-of (commonest_next rs))
+-- the answers in brief are as given
+pub brief-as_given : (rs : List Reply) → is_rising rs ≡ true → AnsweredAsGiven (brief_answers rs) rs
+brief-as_given rs h =
+    as_given (brief_answers rs) (commonest_next rs) rs rs refl (rest_node-of (commonest_next rs))
     (kept_all (λ r. not (option_eq nat_eq (Some r.next) (commonest_next rs))) rs h)
 
 filter-all : (rs : List Reply) → filter (λ r. true) rs ≡ rs
@@ -156,7 +165,7 @@ answered-as-listed a h = each a.replies (kept_all (λ r. true) a.replies h) wher
 -- in a table that has the node
 pub answers-at : (t : List Node) (i : ℕ) (attack : Point) (rs : List Reply) → slice_get t i ≡ Some (answering_node attack rs) → is_rising rs ≡ true → All (λ r. answer_at t i r.at ≡ Some r.next) rs
 answers-at t i attack rs at h =
-    All-from_recursion (λ r. answer_at t i r.at ≡ Some r.next) rs (at_node rs (answering-as_given attack rs h)) where
+    All-from_recursion (λ r. answer_at t i r.at ≡ Some r.next) rs (at_node rs (brief-as_given rs h)) where
       at_node : (ss : List Reply) → AnsweredAsGiven (answers_of (answering_node attack rs)) ss → AllByRecursion (λ r. answer_at t i r.at ≡ Some r.next) ss
       at_node [] k = tt
       at_node (s ∷ ss) k = (rw at k.0, at_node ss k.1)
@@ -206,7 +215,7 @@ stands-all t u a (r ∷ rs) (Branch q s bs) keep g h =
 pub stands-answering : (old new : List Node) (i : ℕ) (attack : Point) (rs : List Reply) → is_rising rs ≡ true → PutsIn old (answering_node attack rs) new → slice_get new i ≡ Some (answering_node attack rs) → (bs : Branches) → AnswersBranches old rs bs → StandsFor new i (Fork attack bs)
 unfolding StandsFor
 stands-answering old new i attack rs h put at bs given =
-    let given_as : AnsweredAsGiven (answers_of (answering_node attack rs)) rs = answering-as_given attack rs h in
+    let given_as : AnsweredAsGiven (answers_of (answering_node attack rs)) rs = brief-as_given rs h in
     let P : Node → Type 0 = λ n. (n.attack ≡ attack) × AnswersBriefly (answers_of n) (replies_of bs) × StandsForAll new (answers_of n) bs in
     subst (λ (o : Option Node). AtNode o P) (sym at) (
       refl,
@@ -222,10 +231,13 @@ stands-winning t i attack at = subst (λ (o : Option Node). AtNode o (λ n. (n.a
 point-given : (rs : List Reply) → All (λ r. Contains (map (λ r. r.at) rs) r.at) rs
 point-given rs = λ k d l. (k, let long = length-map rs (λ (r : Reply). r.at) in omega (arith, long, l), get_or-map (λ (r : Reply). r.at) rs k d (get_or rs k d).at l)
 
+pub points-kept : (rs : List Reply) → All (λ r. Contains (map (λ s. s.at) rs) r.at) (brief_answers rs).replies
+points-kept rs = All-filter (λ r. not (option_eq nat_eq (Some r.next) (commonest_next rs))) (λ r. Contains (map (λ r. r.at) rs) r.at) rs (point-given rs)
+
 names-only : (attack : Point) (rs : List Reply) → NamesOnly attack (map (λ r. r.at) rs) (answering_node attack rs)
 names-only attack rs = record {
   attack_is = refl;
-  replies_among = All-filter (λ r. not (option_eq nat_eq (Some r.next) (commonest_next rs))) (λ r. Contains (map (λ r. r.at) rs) r.at) rs (point-given rs);
+  replies_among = points-kept rs;
 }
 
 -- ---- what a call answers

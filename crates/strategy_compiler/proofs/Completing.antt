@@ -45,7 +45,7 @@ and-swap true true h = refl
 and-swap true false h = h
 and-swap false b h = cc
 
-visits-below : (a : Answers) (k : ℕ) → names_below a k ≡ true → list_all (λ j. nat_lt j k) (visits a) ≡ true
+pub visits-below : (a : Answers) (k : ℕ) → names_below a k ≡ true → list_all (λ j. nat_lt j k) (visits a) ≡ true
 visits-below a k h =
     list_all-append (λ j. nat_lt j k) (rest_nodes a.rest) (map (λ r. r.next) a.replies)
     ∙ and-swap (list_all (λ j. nat_lt j k) (map (λ r. r.next) a.replies)) (list_all (λ j. nat_lt j k) (rest_nodes a.rest))

@@ -23,6 +23,7 @@ use Rattle.strategy_graph.specs.Renumbered.{renumbered_node, renumbered_reply, r
 use Rattle.strategy_graph.proofs.Copies.{Copies, answer-renumbered, is_winning-renumbered, named-renumbered}
 use Rattle.strategy_compiler.specs.Trees.{Tree, Branches, Leaf, Fork, NoBranch, Branch, StandsFor, StandsForAll, AnswersBriefly, replies_of, answers_to, commonest, times}
 use Rattle.strategy_compiler.specs.Walks.{Reaches, Itself, Through, visits, visits_at, is_in_list, completed_within}
+use Rattle.strategy_compiler.proofs.Walking.{contains-map}
 use Rattle.strategy_compiler.proofs.Places.{points-renumbered}
 
 cons-first : {X : Type 0} (x y : X) (xs ys : List X) → x ∷ xs ≡ y ∷ ys → x ≡ y
@@ -187,7 +188,7 @@ module _ (f : ℕ → ℕ) (passes : ℕ → Bool) (one : IsOneToOne f passes) w
   nexts-renumbered [] = refl
   nexts-renumbered (r ∷ rs) = ap (λ (js : List ℕ). f r.next ∷ js) (nexts-renumbered rs)
 
-  visits-renumbered : (a : Answers) → visits (renumbered_answers f a) ≡ map f (visits a)
+  pub visits-renumbered : (a : Answers) → visits (renumbered_answers f a) ≡ map f (visits a)
   visits-renumbered a =
       (λ i. rest_nodes-renumbered a.rest i ++ nexts-renumbered a.replies i)
       ∙ sym (map-append f (rest_nodes a.rest) (map (λ (r : Reply). r.next) a.replies))
@@ -202,11 +203,6 @@ module _ (f : ℕ → ℕ) (passes : ℕ → Bool) (one : IsOneToOne f passes) w
       list_all-append passes (rest_nodes a.rest) (map (λ (r : Reply). r.next) a.replies)
       ∙ and-swap (list_all passes (map (λ (r : Reply). r.next) a.replies)) (list_all passes (rest_nodes a.rest))
       (sym (list_all-append passes (map (λ (r : Reply). r.next) a.replies) (rest_nodes a.rest)) ∙ h)
-
-  pub contains-map : (js : List ℕ) (j : ℕ) → Contains js j → Contains (map f js) (f j)
-  contains-map [] j (k, l, e) = absurd (omega arith)
-  contains-map (x ∷ xs) j (zero, l, e) = (0, omega arith, ap f e)
-  contains-map (x ∷ xs) j (suc k, l, e) = let later = contains-map xs j (k, omega arith, e) in (suc later.0, omega arith, later.2)
 
   contained-passes : (js : List ℕ) (j : ℕ) → list_all passes js ≡ true → Contains js j → passes j ≡ true
   contained-passes [] j h (k, l, e) = absurd (omega arith)
@@ -256,7 +252,7 @@ module _ (f : ℕ → ℕ) (passes : ℕ → Bool) (one : IsOneToOne f passes) w
         let all : list_all passes (named (answers_of n)) ≡ true = subst (λ (m : Node). list_all passes (named (answers_of m)) ≡ true) same copy.3 in
         let there : slice_get u (f i) ≡ Some (renumbered_node f n) = copy.2 ∙ ap (λ (m : Node). Some (renumbered_node f m)) same in
         Through (f i) (f j) (f k) (renumbered_node f n) there
-        (subst (λ (js : List ℕ). Contains js (f j)) (sym (named-renumbered f (answers_of n))) (contains-map (named (answers_of n)) j c))
+        (subst (λ (js : List ℕ). Contains js (f j)) (sym (named-renumbered f (answers_of n))) (contains-map f (named (answers_of n)) j c))
         (reaches-copied j k (contained-passes (named (answers_of n)) j all c) r)
 
     at-copy : (i : ℕ) (P Q : Node → Type 0) → passes i ≡ true → ((n : Node) → list_all passes (named (answers_of n)) ≡ true → P n → Q (renumbered_node f n)) → AtNode (slice_get t i) P → AtNode (slice_get u (f i)) Q

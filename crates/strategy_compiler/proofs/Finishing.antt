@@ -9,19 +9,19 @@ use Rattle.std.proofs.lemmas.Bool.Decides.{Decides-eqb}
 use Rattle.game_rules.proofs.Boards.{and_left, and_right}
 use Rattle.strategy_graph.specs.declared.Node.{Node}
 use Rattle.strategy_graph.specs.declared.Reply.{Reply}
-use Rattle.strategy_graph.specs.Tables.{answers_of, named, IsNode, IsTable, NamesLower}
-use Rattle.strategy_graph.specs.Laws.{SaysSame}
-use Rattle.strategy_graph.specs.Renumbered.{renumbered_node}
+use Rattle.strategy_graph.specs.Tables.{Answers, answers_of, named, IsNode, IsTable, NamesLower}
+use Rattle.strategy_graph.specs.Laws.{SaysSame, StartSaysSame}
+use Rattle.strategy_graph.specs.Renumbered.{renumbered_node, renumbered_answers}
 use Rattle.strategy_graph.proofs.Copies.{Copies}
 use Rattle.strategy_graph.proofs.Filling.{IsTable-lower}
-use Rattle.strategy_graph.proofs.Renumbering.{copies-same}
+use Rattle.strategy_graph.proofs.Renumbering.{copies-same, copies-same-start}
 use Rattle.strategy_compiler.specs.Trees.{Tree, StandsFor}
 use Rattle.strategy_compiler.specs.Walks.{AreDifferent, IsNumberedByWalk, IsTableOf, NamesPointsFrom, NamesPointsReached, ReachedFrom, Reaches, Renumbers, completed, completed_after, completed_from, is_in_list, last, place_in, visits_at}
 use Rattle.strategy_compiler.specs.Orders.{IsMadeFrom, IsMadeOf, IsOrder}
 use Rattle.strategy_compiler.proofs.Completing.{walked-step, walks-itself, visited-above, within-enough}
-use Rattle.strategy_compiler.proofs.Walking.{among-at}
+use Rattle.strategy_compiler.proofs.Walking.{among-at, contains-map}
 use Rattle.strategy_compiler.proofs.Places.{all_by, among-place, among-take, named-among, place-is, renumbered-node, points-renumbered, RenumbersUpTo, from-renumbers}
-use Rattle.strategy_compiler.proofs.Copying.{IsOneToOne, nodes-renumbered, contains-map, fold-copied, within-copied, reaches-copied, stands-copied}
+use Rattle.strategy_compiler.proofs.Copying.{IsOneToOne, nodes-renumbered, fold-copied, within-copied, reaches-copied, stands-copied}
 use Rattle.strategy_compiler.proofs.Reaching.{completed-reached}
 
 all-weaker : (p q : ℕ → Bool) → ((j : ℕ) → p j ≡ true → q j ≡ true) → (js : List ℕ) → list_all p js ≡ true → list_all q js ≡ true
@@ -111,6 +111,10 @@ module _ (t : List Node) (roots order : List ℕ) (u : List Node) (table : IsTab
         trees = λ tree h. stands-copied (place_in order) (λ i. is_in_list i order) (places-apart order) t u copies i tree among h;
       }
 
+  pub made-start : (a : Answers) → ((j : ℕ) → Contains (named a) j → Contains roots j) → StartSaysSame t a u (renumbered_answers (place_in order) a)
+  made-start a named_by = copies-same-start (place_in order) (λ i. is_in_list i order) t u copies lower (IsTable-lower u made-table) a
+      (all_by (λ i. is_in_list i order) (named a) (λ j c. root-among j (named_by j c)))
+
   -- ---- they are numbered as walks complete them
 
   in-order : map (place_in order) order ≡ range_with_len 0 (length u)
@@ -163,7 +167,7 @@ module _ (t : List Node) (roots order : List ℕ) (u : List Node) (table : IsTab
       let i : ℕ = get_or order k 0 in
       let r = completed-reached t roots i (ap (is_in_list i) (sym walked) ∙ among-at order k i e) in (
         place_in order r.0,
-        contains-map (place_in order) (λ i. is_in_list i order) (places-apart order) roots r.0 r.1,
+        contains-map (place_in order) roots r.0 r.1,
         subst (Reaches u (place_in order r.0)) (place-is t order table is_order k i e)
             (reaches-copied (place_in order) (λ i. is_in_list i order) (places-apart order) t u copies r.0 i (root-among r.0 r.1) r.2),
       )
@@ -189,6 +193,7 @@ made-from t roots order u table different is_order walked re = subst (λ (o : Li
   nodes = re;
   different = made-different t roots order u table different is_order walked (from-renumbers t order u re);
   each_root = made-root t roots order u table different is_order walked (from-renumbers t order u re);
+  each_start = made-start t roots order u table different is_order walked (from-renumbers t order u re);
   reached = made-reached t roots order u table different is_order walked (from-renumbers t order u re);
   numbered = made-numbered t roots order u table different is_order walked (from-renumbers t order u re);
   points = made-points t roots order u table different is_order walked (from-renumbers t order u re);

@@ -14,5 +14,6 @@ mod Walking
 mod Places
 mod Copying
 mod Finishing
+mod Starting
 -- the table of a tree is one
 mod Unique

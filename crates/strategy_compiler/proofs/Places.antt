@@ -81,12 +81,12 @@ places-all order len places p l h = record { placed = λ k i e. let inside = sli
 -- ---- nodes with places for numbers
 
 -- it matters only what is put for the numbers that are named
-renumbered_rest-agree : (f g : ℕ → ℕ) (passes : ℕ → Bool) → ((j : ℕ) → passes j ≡ true → f j ≡ g j) → (rest : Rest) → list_all passes (rest_nodes rest) ≡ true → renumbered_rest f rest ≡ renumbered_rest g rest
+pub renumbered_rest-agree : (f g : ℕ → ℕ) (passes : ℕ → Bool) → ((j : ℕ) → passes j ≡ true → f j ≡ g j) → (rest : Rest) → list_all passes (rest_nodes rest) ≡ true → renumbered_rest f rest ≡ renumbered_rest g rest
 renumbered_rest-agree f g passes same Wins h = refl
 renumbered_rest-agree f g passes same (To j) h = ap To (same j (and_left (passes j) true h))
 renumbered_rest-agree f g passes same Nothing h = refl
 
-renumbered_replies-agree : (f g : ℕ → ℕ) (passes : ℕ → Bool) → ((j : ℕ) → passes j ≡ true → f j ≡ g j) → (rs : List Reply) → list_all passes (map (λ r. r.next) rs) ≡ true → map (renumbered_reply f) rs ≡ map (renumbered_reply g) rs
+pub renumbered_replies-agree : (f g : ℕ → ℕ) (passes : ℕ → Bool) → ((j : ℕ) → passes j ≡ true → f j ≡ g j) → (rs : List Reply) → list_all passes (map (λ r. r.next) rs) ≡ true → map (renumbered_reply f) rs ≡ map (renumbered_reply g) rs
 renumbered_replies-agree f g passes same [] h = refl
 renumbered_replies-agree f g passes same (r ∷ rs) h =
     let here : f r.next ≡ g r.next = same r.next (and_left (passes r.next) _ h) in
@@ -105,7 +105,7 @@ all_precede-renumbered : (f : ℕ → ℕ) (p : Point) (rs : List Reply) → lis
 all_precede-renumbered f p [] = refl
 all_precede-renumbered f p (r ∷ rs) = ap (λ (b : Bool). precedes p r.at && b) (all_precede-renumbered f p rs)
 
-rising-renumbered : (f : ℕ → ℕ) (rs : List Reply) → is_rising (map (renumbered_reply f) rs) ≡ is_rising rs
+pub rising-renumbered : (f : ℕ → ℕ) (rs : List Reply) → is_rising (map (renumbered_reply f) rs) ≡ is_rising rs
 rising-renumbered f [] = refl
 rising-renumbered f (r ∷ rs) = λ i. all_precede-renumbered f r.at rs i && rising-renumbered f rs i
 

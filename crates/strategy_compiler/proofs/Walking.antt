@@ -115,6 +115,11 @@ none-left p (x ∷ xs) j h c = by_test (p x) refl h (none-left p xs j) c where
   by_test true e h next (suc k, l, same) = next h (k, omega arith, same)
   by_test false e h next c = cc
 
+pub contains-map : (f : ℕ → ℕ) (js : List ℕ) (j : ℕ) → Contains js j → Contains (map f js) (f j)
+contains-map f [] j (k, l, e) = absurd (omega arith)
+contains-map f (x ∷ xs) j (zero, l, e) = (0, omega arith, ap f e)
+contains-map f (x ∷ xs) j (suc k, l, e) = let later = contains-map f xs j (k, omega arith, e) in (suc later.0, omega arith, later.2)
+
 -- what is visited is what is named, in another order
 swapped : (xs ys : List ℕ) (j : ℕ) → Contains (xs ++ ys) j → Contains (ys ++ xs) j
 swapped xs ys j c = elim (Contains-append_cases xs ys j c) [ inl l ↦ Contains-append_right ys xs j l | inr r ↦ Contains-append_left ys xs j r ]
@@ -180,7 +185,7 @@ found-not p (j ∷ js) c h = by_test (p j) refl h (found-not p js c) where
 pub lt_trans : (a b c : ℕ) → a < b → b < c → a < c
 lt_trans a b c h k = omega arith
 
-all-contains : (p : ℕ → Bool) (js : List ℕ) (j : ℕ) → list_all p js ≡ true → Contains js j → p j ≡ true
+pub all-contains : (p : ℕ → Bool) (js : List ℕ) (j : ℕ) → list_all p js ≡ true → Contains js j → p j ≡ true
 all-contains p [] j h (k, l, e) = absurd (omega arith)
 all-contains p (x ∷ xs) j h (zero, l, e) = subst (λ (k : ℕ). p k ≡ true) e (and_left (p x) _ h)
 all-contains p (x ∷ xs) j h (suc k, l, e) = all-contains p xs j (and_right (p x) _ h) (k, omega arith, e)

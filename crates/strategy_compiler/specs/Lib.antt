@@ -2,4 +2,5 @@ pub mod Trees
 pub mod Walks
 pub mod Orders
 pub mod Nodes
+pub mod Starts
 pub mod Wins

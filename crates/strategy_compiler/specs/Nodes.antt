@@ -7,7 +7,7 @@ use Rattle.strategy_graph.specs.declared.Reply.{Reply}
 use Rattle.strategy_graph.specs.declared.Rest.{Rest}
 use Rattle.strategy_graph.specs.declared.Rest.TheVariants.{Wins, To, Nothing}
 use Rattle.strategy_graph.specs.declared.Node.{Node}
-use Rattle.strategy_graph.specs.Tables.{IsTable}
+use Rattle.strategy_graph.specs.Tables.{Answers, IsTable}
 use Rattle.strategy_compiler.specs.Trees.{commonest}
 use Rattle.strategy_compiler.specs.Walks.{AreDifferent}
 
@@ -33,10 +33,15 @@ commonest_next answers = commonest (map (λ r. r.next) answers)
 abbrev pub answers_beside : Option ℕ → List Reply → List Reply
 answers_beside rest answers = filter (λ r. not (option_eq nat_eq (Some r.next) rest)) answers
 
--- the node with this attack and these answers: its rest is the commonest, and only the answers that differ are listed
+-- these answers in brief: the rest is the commonest, and only the answers that differ are listed
+abbrev pub brief_answers : List Reply → Answers
+brief_answers answers =
+    record { replies = answers_beside (commonest_next answers) answers; rest = rest_of (commonest_next answers) }
+
+-- the node with this attack and these answers in brief
 abbrev pub answering_node : Point → List Reply → Node
 answering_node attack answers =
-    record { attack = attack; replies = answers_beside (commonest_next answers) answers; rest = rest_of (commonest_next answers) }
+    record { attack = attack; replies = (brief_answers answers).replies; rest = (brief_answers answers).rest }
 
 -- the nodes after n is put in: they stay where one is equal to it, and else n is added last
 abbrev pub PutsIn : List Node → Node → List Node → Type 0

@@ -2,8 +2,9 @@
 use Rattle.std.specs.Prelude.{◌≡◌, ℕ, ◌+◌, ◌<◌, ◌≤◌, if◌then◌else◌, List, map, length, take, Bool, true, false, All, Contains, Some, slice_get, slice_index, slice_index_or}
 use Rattle.std.specs.List.{sum_by, range_with_len}
 use Rattle.strategy_graph.specs.declared.Node.{Node}
-use Rattle.strategy_graph.specs.Tables.{answers_of, named, IsTable}
-use Rattle.strategy_graph.specs.Laws.{SaysSame}
+use Rattle.strategy_graph.specs.Tables.{Answers, answers_of, named, IsTable}
+use Rattle.strategy_graph.specs.Renumbered.{renumbered_answers}
+use Rattle.strategy_graph.specs.Laws.{SaysSame, StartSaysSame}
 use Rattle.strategy_compiler.specs.Trees.{Tree, StandsFor}
 use Rattle.strategy_compiler.specs.Walks.{AreDifferent, NamesPointsFrom, ReachedFrom, Renumbers, completed_from, is_in_list, place_in}
 
@@ -46,6 +47,7 @@ pub record IsMadeFrom (t : List Node) (roots order : List ℕ) (u : List Node) :
   pub nodes : Renumbers t order u
   pub different : AreDifferent u
   pub each_root : (i : ℕ) → Contains roots i → IsMadeOf t i u (place_in order i)
+  pub each_start : (a : Answers) → ((j : ℕ) → Contains (named a) j → Contains roots j) → StartSaysSame t a u (renumbered_answers (place_in order) a)
   pub reached : (k : ℕ) → k < length u → ReachedFrom u (map (place_in order) roots) k
   pub numbered : completed_from u (map (place_in order) roots) ≡ range_with_len 0 (length u)
   pub points : All (NamesPointsFrom t roots) u

@@ -1,4 +1,8 @@
 //! The compiler: a set of nodes in the order in which they were put in.
+//!
+//! A node that is equal to one that is there is not put in again, so what a search comes upon twice has one number. A
+//! table is finished from one root, from the node of a written win, or from the answers of a start, by one and the same
+//! walk.
 #![tactic(auto)]
 
 ghost use Rattle.std.specs.Prelude.{◌≡◌, ◌↔◌, ◌<◌, ◌≤◌, [], true, ℕ, List, map, All, Contains, length, slice_get, Some, IfOk, OnOk, OnErr, IsErr, IsErrOf};
@@ -10,17 +14,19 @@ ghost use Rattle.strategy_graph.specs.Leads.{AtNode};
 ghost use Rattle.strategy_graph.specs.Laws.{SaysSame};
 ghost use Rattle.strategy_compiler.specs.Trees.{Tree, Branches, Leaf, Fork, StandsFor, AnswersBranches};
 ghost use Rattle.strategy_compiler.specs.Walks.{AreDifferent, IsNumberedByWalk, IsTableOf, NamesPointsReached, Reaches, Renumbers, completed, last};
+ghost use Rattle.strategy_compiler.specs.Starts.{IsMadeOfAnswers};
 ghost use Rattle.strategy_compiler.specs.Wins.{IsWinTable, IsWrittenWin};
 ghost use Rattle.strategy_compiler.specs.Nodes.{IsCompiled, NamesOnly, PutsIn, answering_node, winning_node};
 
 use crate::WrittenWin;
 use crate::renumbering::made_from;
 use crate::rests::answering;
+use crate::starts::start_from;
 use game_rules::Point;
 use indexmap::IndexSet;
 use std::alloc::{AllocError, Global};
 use std::marker::Model;
-use strategy_graph::{MAX_NODES, Node, Replies, Reply, Rest, Table};
+use strategy_graph::{MAX_NODES, Node, Replies, Reply, Rest, Start, Table};
 use thiserror::Error;
 
 /// The nodes that were put in, each once, which contracts see as their list. They are numbered from 0 in the order in
@@ -81,7 +87,8 @@ impl Compiler {
         ensures node { IfOk result (λ i. slice_get self.new i ≡ Some (winning_node attack)) }
         ensures stands { IfOk result (λ i. StandsFor self.new i (Leaf attack)) }
         ensures put_in { OnOk result (PutsIn self.old (winning_node attack) self.new) }
-        ensures full { IsErrOf result CompileError.Full ↔ ((¬ Contains self.old (winning_node attack)) × (length self.old ≡ MAX_NODES)) }
+        ensures full { IsErrOf result CompileError.Full
+            ↔ ((¬ Contains self.old (winning_node attack)) × (length self.old ≡ MAX_NODES)) }
         ensures unchanged { OnErr result (self.new ≡ self.old) }
         ensures compiled { IsCompiled self.new }
     {
@@ -107,13 +114,22 @@ impl Compiler {
     pub fn node(&mut self, attack: Point, answers: &[Reply]) -> Result<u32, CompileError>
         requires rising { is_rising answers.now ≡ true }
         requires below { All (λ r. r.next < length self.old) answers.now }
-        ensures node { IfOk result (λ i. slice_get self.new i ≡ Some (answering_node attack answers.now)) }
-        ensures answers { IfOk result (λ i. All (λ r. answer_at self.new i r.at ≡ Some r.next) answers.now) }
-        ensures points { IfOk result (λ i. AtNode (slice_get self.new i) (NamesOnly attack (map (λ r. r.at) answers.now))) }
-        ensures stands { IfOk result (λ i. (branches : Branches) → AnswersBranches self.old answers.now branches → StandsFor self.new i (Fork attack branches)) }
-        ensures put_in { OnOk result (PutsIn self.old (answering_node attack answers.now) self.new) }
-        ensures full_only { IsErrOf result CompileError.Full → (¬ Contains self.old (answering_node attack answers.now)) × (length self.old ≡ MAX_NODES) }
-        ensures full { (¬ Contains self.old (answering_node attack answers.now)) × (length self.old ≡ MAX_NODES) → IsErr result }
+        ensures node { IfOk result
+            (λ i. slice_get self.new i ≡ Some (answering_node attack answers.now)) }
+        ensures answers { IfOk result
+            (λ i. All (λ r. answer_at self.new i r.at ≡ Some r.next) answers.now) }
+        ensures points { IfOk result
+            (λ i. AtNode (slice_get self.new i) (NamesOnly attack (map (λ r. r.at) answers.now))) }
+        ensures stands { IfOk result
+            (λ i. (branches : Branches) → AnswersBranches self.old answers.now branches
+            → StandsFor self.new i (Fork attack branches)) }
+        ensures put_in { OnOk result
+            (PutsIn self.old (answering_node attack answers.now) self.new) }
+        ensures full_only { IsErrOf result CompileError.Full
+            → (¬ Contains self.old (answering_node attack answers.now))
+            × (length self.old ≡ MAX_NODES) }
+        ensures full { (¬ Contains self.old (answering_node attack answers.now))
+            × (length self.old ≡ MAX_NODES) → IsErr result }
         ensures unchanged { OnErr result (self.new ≡ self.old) }
         ensures compiled { IsCompiled self.new }
     {
@@ -129,7 +145,8 @@ impl Compiler {
     pub fn finish(self, root: u32) -> Result<Table, AllocError>
         requires in_compiler { root < length self }
         ensures nodes { IfOk result (λ t. Renumbers self (completed self root) t) }
-        ensures trees { IfOk result (λ t. (tree : Tree) → StandsFor self root tree → IsTableOf tree t) }
+        ensures trees { IfOk result
+            (λ t. (tree : Tree) → StandsFor self root tree → IsTableOf tree t) }
 
         // Of every root, whether or not it stands for a tree.
         ensures some { IfOk result (λ t. 0 < length t) }
@@ -143,6 +160,19 @@ impl Compiler {
         Ok(made.table)
     }
 
+    /// The table of the nodes that the answers reach, and the start that has these answers to the first move of the opponent.
+    /// The answers rise strictly in reading order, and each names a node of the compiler. The rest is chosen as by `node`: it
+    /// answers the most of the replies, and only the answers that differ are listed; without answers the table is empty,
+    /// and the rest is `Nothing`. The nodes are numbered as by `finish`, from the node of the rest first and then from those
+    /// listed, in order. After an `Err` the compiler is gone.
+    pub fn finish_start(self, answers: &[Reply]) -> Result<(Table, Start), AllocError>
+        requires rising { is_rising answers.now ≡ true }
+        requires below { All (λ r. r.next < length self) answers.now }
+        ensures made { IfOk result (λ made. IsMadeOfAnswers self answers.now made.0 made.1) }
+    {
+        start_from(*self.nodes.allocator(), self.nodes.as_slice(), answers)
+    }
+
     /// The table of a win that a search wrote: that of the node of the win, by `finish`. Where the win is one at a position, the
     /// last node is accepted there, wins within the moves of the win, and the table names points of that board alone. After
     /// an `Err` the compiler is gone.
@@ -151,7 +181,8 @@ impl Compiler {
         ensures win { IfOk result (λ t. (rule : RuleKind) (limit : ℕ) (b : Grid)
             → IsWrittenWin rule limit b self win → IsWinTable rule b win t) }
         ensures same { IfOk result (λ t. SaysSame self win.node t (last t)) }
-        ensures trees { IfOk result (λ t. (tree : Tree) → StandsFor self win.node tree → IsTableOf tree t) }
+        ensures trees { IfOk result
+            (λ t. (tree : Tree) → StandsFor self win.node tree → IsTableOf tree t) }
         ensures some { IfOk result (λ t. 0 < length t) }
         ensures different { IfOk result AreDifferent }
         ensures reached { IfOk result (λ t. (i : ℕ) → i < length t → Reaches t (last t) i) }
@@ -167,7 +198,8 @@ fn put_in(nodes: &mut IndexSet<Node>, node: Node) -> Result<u32, CompileError>
     requires node { IsNode node (length nodes.old.keys) }
     ensures node { IfOk result (λ i. slice_get nodes.new.keys i ≡ Some node) }
     ensures put_in { OnOk result (PutsIn nodes.old.keys node nodes.new.keys) }
-    ensures full { IsErrOf result CompileError.Full ↔ ((¬ Contains nodes.old.keys node) × (length nodes.old.keys ≡ MAX_NODES)) }
+    ensures full { IsErrOf result CompileError.Full
+        ↔ ((¬ Contains nodes.old.keys node) × (length nodes.old.keys ≡ MAX_NODES)) }
     ensures unchanged { OnErr result (nodes.new.keys ≡ nodes.old.keys) }
     ensures compiled { IsCompiled nodes.new.keys }
 {

@@ -14,6 +14,7 @@ mod compiler;
 mod error;
 mod renumbering;
 mod rests;
+mod starts;
 mod theorems;
 mod walk;
 mod wins;

@@ -1,4 +1,6 @@
 //! The table of some nodes in a given order: each number that a node names becomes its place in that order.
+//!
+//! Each node comes after all that it names, so its copy names only lower ones, and is pushed onto the table as it is read.
 #![tactic(auto)]
 
 ghost use Rattle.std.specs.Prelude.{◌≡◌, ◌<◌, ◌≤◌, ◌++◌, ◌∷◌, [], ℕ, true, nat_lt, map, length, slice_get, slice_index, Some, All, IfOk, OnOk};
@@ -18,7 +20,8 @@ fn places_in(alloc: Global, order: &[u32], len: usize) -> Result<Vec<u32>, Alloc
     requires few { len ≤ MAX_NODES }
     requires short { length order.now ≤ len }
     requires within { (k : ℕ) → k < length order.now → slice_index order.now k < len }
-    requires once { (k l i : ℕ) → slice_get order.now k ≡ Some i → slice_get order.now l ≡ Some i → k ≡ l }
+    requires once { (k l i : ℕ) → slice_get order.now k ≡ Some i → slice_get order.now l ≡ Some i
+        → k ≡ l }
     ensures count { IfOk result (λ places. length places.items ≡ len) }
     ensures places { IfOk result (λ places. ArePlaces order.now places.items) }
 {
@@ -30,13 +33,14 @@ fn places_in(alloc: Global, order: &[u32], len: usize) -> Result<Vec<u32>, Alloc
 }
 
 /// The replies, with the place of each number that they name.
-fn renumbered_replies(
+pub(crate) fn renumbered_replies(
     alloc: Global,
     replies: &[Reply],
     places: &[u32],
 ) -> Result<Replies, AllocError>
     requires below { All (λ r. r.next < length places.now) replies.now }
-    ensures replies { IfOk result (λ rs. rs ≡ map (renumbered_reply (λ j. slice_index places.now j)) replies.now) }
+    ensures replies { IfOk result
+        (λ rs. rs ≡ map (renumbered_reply (λ j. slice_index places.now j)) replies.now) }
 {
     let mut renumbered = Replies::new(alloc);
     for reply in replies {
@@ -47,7 +51,7 @@ fn renumbered_replies(
 }
 
 /// The rest, with the place of the number that it names.
-fn renumbered_rest(rest: Rest, places: &[u32]) -> Rest
+pub(crate) fn renumbered_rest(rest: Rest, places: &[u32]) -> Rest
     requires below { list_all (λ j. nat_lt j (length places.now)) (rest_nodes rest) ≡ true }
     ensures rest { result ≡ renumbered_rest_lem (λ j. slice_index places.now j) rest }
 {
@@ -117,9 +121,11 @@ pub(crate) struct Made {
 pub(crate) fn made_from(alloc: Global, nodes: &[Node], roots: &[u32]) -> Result<Made, AllocError>
     requires compiled { IsCompiled nodes.now }
     requires in_table { All (λ root. root < length nodes.now) roots.now }
-    ensures made { IfOk result (λ made. IsMadeFrom nodes.now roots.now (completed_from nodes.now roots.now) made.table) }
+    ensures made { IfOk result
+        (λ made. IsMadeFrom nodes.now roots.now (completed_from nodes.now roots.now) made.table) }
     ensures count { IfOk result (λ made. length made.places.items ≡ length nodes.now) }
-    ensures places { IfOk result (λ made. ArePlaces (completed_from nodes.now roots.now) made.places.items) }
+    ensures places { IfOk result
+        (λ made. ArePlaces (completed_from nodes.now roots.now) made.places.items) }
 {
     let order = completed_order(alloc, nodes, roots)?;
     let places = places_in(alloc, order.as_slice(), nodes.len())?;

@@ -1,4 +1,7 @@
 //! The rest of a node: which of the given answers it stands for, and which are listed beside it.
+//!
+//! The commonest answer becomes the rest, so that the fewest replies are listed, and on a tie the earliest, so that the
+//! same answers give the same node.
 #![tactic(auto)]
 
 ghost use Rattle.std.specs.Prelude.{◌≡◌, ◌==◌, count_by, IfOk};
@@ -16,7 +19,7 @@ fn times(answers: &[Reply], node: u32) -> usize
 }
 
 /// The node that answers the most of the replies, and on a tie the earliest, or `None` without answers.
-fn commonest_next(answers: &[Reply]) -> Option<u32>
+pub(crate) fn commonest_next(answers: &[Reply]) -> Option<u32>
     ensures commonest { result ≡ commonest_next answers.now }
 {
     let mut best = None;
@@ -36,7 +39,7 @@ fn commonest_next(answers: &[Reply]) -> Option<u32>
 }
 
 /// The rest that is this node, or `Nothing` without one.
-fn rest_of(node: Option<u32>) -> Rest
+pub(crate) fn rest_of(node: Option<u32>) -> Rest
     ensures rest { result ≡ rest_of_lem node }
 {
     match node {
@@ -46,7 +49,7 @@ fn rest_of(node: Option<u32>) -> Rest
 }
 
 /// The answers that are another node than this, in their order.
-fn answers_beside(
+pub(crate) fn answers_beside(
     alloc: Global,
     answers: &[Reply],
     rest: Option<u32>,

@@ -3,12 +3,12 @@
 
 ghost use Rattle.std.specs.Prelude.{◌↔◌, ◌<◌, length, All, IsTrue};
 
-use crate::{CompileError, Compiler};
+use crate::{CompileError, Compiler, SearchError, WrittenWin};
 use game_rules::Point;
 use std::alloc::{AllocError, Global};
 use std::process::Abort;
 use std::test::Fail;
-use strategy_graph::{MAX_NODES, Replies, Reply, Table};
+use strategy_graph::{MAX_NODES, Replies, Reply, Rest, Start, Table};
 
 fn point(x: u8, y: u8) -> Point {
     Point { x, y }
@@ -181,6 +181,74 @@ fn finish_visits_the_rest_first_and_leaves_out_what_is_not_reached(
     ];
     assert_eq!(rt; attacks(alloc, &table)?.as_slice(), expected.as_slice());
     assert_eq!(rt; rest_and_listed(&table), Some((5, 2)));
+    Ok(())
+}
+
+/// The table and the start of these answers, once they are seen to rise and to name nodes that are there.
+fn started(
+    rt: &impl Abort,
+    compiler: Compiler,
+    answers: &Replies,
+) -> Result<(Table, Start), AllocError> {
+    let rising = answers.is_rising();
+    assert!(rt; rising);
+    let below = are_below(answers.as_slice(), compiler.len());
+    assert!(rt; below);
+    compiler.finish_start(answers.as_slice())
+}
+
+#[test]
+fn a_start_has_its_answers_in_brief(rt: HostRuntime) -> Result<(), Fail> {
+    let alloc = rt.alloc();
+    let mut compiler = with_wins(alloc, 4)?;
+    let inner = put(
+        &rt,
+        &mut compiler,
+        point(5, 5),
+        &replies_by(alloc, &[3, 1, 3])?,
+    )?;
+    let answers = replies_by(alloc, &[0, inner, inner, 1])?;
+    let (table, start) = started(&rt, compiler, &answers)?;
+
+    // The node of the rest, after its own rest and its own reply, and then those that are listed.
+    let expected = [point(3, 9), point(1, 9), point(5, 5), point(0, 9)];
+    assert_eq!(rt; attacks(alloc, &table)?.as_slice(), expected.as_slice());
+    assert_eq!(rt; (start.rest(), start.replies().len()), (Rest::To(2), 2));
+    assert_eq!(rt; start.lookup(point(0, 0)), Some(3));
+    assert_eq!(rt; start.lookup(point(1, 0)), Some(2));
+    assert_eq!(rt; start.lookup(point(3, 0)), Some(1));
+    let below = start.names_below(table.len());
+    assert!(rt; below);
+    assert_eq!(rt; table.start_depth(&start)?, 2);
+    Ok(())
+}
+
+#[test]
+fn a_start_without_answers_has_no_nodes(rt: HostRuntime) -> Result<(), Fail> {
+    let compiler = with_wins(rt.alloc(), 2)?;
+    let (table, start) = started(&rt, compiler, &Replies::new(rt.alloc()))?;
+    assert!(rt; table.is_empty());
+    assert_eq!(rt; (start.rest(), start.replies().len()), (Rest::Nothing, 0));
+    Ok(())
+}
+
+#[test]
+fn a_written_win_is_the_table_of_its_node(rt: HostRuntime) -> Result<(), Fail> {
+    let alloc = rt.alloc();
+    let mut compiler = with_wins(alloc, 3)?;
+    let node = put(&rt, &mut compiler, point(5, 5), &replies_by(alloc, &[2])?)?;
+    let len = compiler.len();
+    assert!(rt; node < len);
+    let table = compiler.finish_win(WrittenWin { node, moves: 2 })?;
+    let expected = [point(2, 9), point(5, 5)];
+    assert_eq!(rt; attacks(alloc, &table)?.as_slice(), expected.as_slice());
+    Ok(())
+}
+
+#[test]
+fn a_search_fails_as_its_compiler(rt: HostRuntime) -> Result<(), Fail> {
+    assert_eq!(rt; SearchError::from(CompileError::Full), SearchError::Full);
+    assert_eq!(rt; SearchError::from(AllocError), SearchError::Memory);
     Ok(())
 }
 

@@ -14,7 +14,8 @@ use strategy_graph::{MAX_NODES, Node, Reply};
 /// The first of the listed nodes that is not completed.
 fn first_listed(replies: &[Reply], is_completed: &[bool]) -> Option<u32>
     requires below { All (λ r. r.next < length is_completed.now) replies.now }
-    ensures first { result ≡ find (λ j. not (slice_index_or is_completed.now j false)) (map (λ r. r.next) replies.now) }
+    ensures first { result ≡ find (λ j. not (slice_index_or is_completed.now j false))
+        (map (λ r. r.next) replies.now) }
 {
     for reply in replies {
         if !is_completed[reply.next as usize] {
@@ -27,7 +28,8 @@ fn first_listed(replies: &[Reply], is_completed: &[bool]) -> Option<u32>
 /// The first node that this node names, in the order of a walk, that is not completed.
 fn first_open(node: &Node, is_completed: &[bool]) -> Option<u32>
     requires below { names_below (answers_of node.now) (length is_completed.now) ≡ true }
-    ensures first { result ≡ find (λ j. not (slice_index_or is_completed.now j false)) (visits (answers_of node.now)) }
+    ensures first { result ≡ find (λ j. not (slice_index_or is_completed.now j false))
+        (visits (answers_of node.now)) }
 {
     if let Some(number) = node.rest.node() {
         if !is_completed[number as usize] {
@@ -48,7 +50,8 @@ fn complete(
     requires lower { NamesLower nodes.now }
     requires in_table { root < length nodes.now }
     requires between { IsBetween nodes.now order.old.items is_completed.old }
-    ensures walked { OnOk result (order.new.items ≡ completed_after nodes.now order.old.items root) }
+    ensures walked { OnOk result
+        (order.new.items ≡ completed_after nodes.now order.old.items root) }
     ensures between { OnOk result (IsBetween nodes.now order.new.items is_completed.new) }
 {
     if is_completed[root as usize] {

@@ -10,7 +10,8 @@ use std::alloc::{AllocError, Global};
 
 /// The greatest depth of the nodes that the replies and the rest name, or 0 if they name none.
 pub(crate) fn deepest(replies: &[Reply], rest: Rest, depths: &[u32]) -> u32
-    requires below { names_below (record { replies = replies.now; rest = rest }) (length depths.now) ≡ true }
+    requires below { names_below (record { replies = replies.now; rest = rest }) (length depths.now)
+        ≡ true }
     ensures greatest { result
         ≡ greatest (map (λ j. slice_index depths.now j) (named (record { replies = replies.now; rest = rest }))) }
 {
@@ -30,7 +31,8 @@ pub(crate) fn depths_of(alloc: Global, nodes: &[Node], count: u32) -> Result<Vec
     requires counted { count ≤ length nodes.now }
     requires few { count ≤ MAX_NODES }
     ensures count { IfOk result (λ ds. length ds.items ≡ count) }
-    ensures depths { IfOk result (λ ds. (i : ℕ) → i < count → slice_index ds.items i ≡ depth nodes.now i) }
+    ensures depths { IfOk result
+        (λ ds. (i : ℕ) → i < count → slice_index ds.items i ≡ depth nodes.now i) }
 {
     let mut depths = Vec::with_capacity(alloc, count as usize)?;
     for i in 0..count {

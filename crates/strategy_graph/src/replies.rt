@@ -1,4 +1,7 @@
 //! A list of replies, each with the number of the node that answers it. Contracts see it as that list.
+//!
+//! The replies of a table rise in reading order, so that equal answers have one list, and two nodes are equal exactly where
+//! they say the same; a rest stands for all replies that are not listed.
 #![tactic(auto)]
 
 ghost use Rattle.std.specs.Prelude.{◌≡◌, ◌↔◌, ◌<◌, ◌&&◌, nat_lt, [], ◌∷◌, ◌++◌, length, slice_get, Some, OnOk, OnErr, IsTrue};

@@ -1,4 +1,6 @@
 //! Where a table is entered: at a node, whose attack is played, or at a start, where the opponent moves first.
+//!
+//! `specs/Roots.antt` says of both kinds in the same words what they name, where they are accepted and what they claim.
 #![tactic(auto)]
 
 ghost use Rattle.std.specs.Prelude.{◌≡◌};

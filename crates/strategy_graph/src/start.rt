@@ -1,4 +1,7 @@
 //! A start: what answers the first move of the opponent.
+//!
+//! It is a node without an attack: replies that are listed, and a rest for the others. It is no node of the table, so that
+//! one table may have many starts.
 #![tactic(auto)]
 
 ghost use Rattle.std.specs.Prelude.{◌≡◌, true, false};

@@ -1,4 +1,7 @@
 //! A table: nodes that name only lower ones.
+//!
+//! It is filled from the bottom up, and each node is checked against those that are there when it is added. So there is
+//! no circle, what is counted node by node ends, and a table never has to be checked again.
 #![tactic(auto)]
 
 ghost use Rattle.std.specs.Prelude.{◌≡◌, ◌↔◌, ◌<◌, ◌++◌, [], ◌∷◌, IsTrue, true, false, List, length, slice_get, Some, IfOk, IfSome, OnOk, OnErr, IsErrOf};
@@ -105,7 +108,8 @@ impl Table {
         requires winning { is_winning node.rest ≡ true → node.replies ≡ [] }
         ensures number { IfOk result (λ i. i ≡ length self.old) }
         ensures pushed { OnOk result (self.new ≡ self.old ++ node ∷ []) }
-        ensures not_below { IsErrOf result PushError.NotBelow ↔ (names_nodes_of self.old node ≡ false) }
+        ensures not_below { IsErrOf result PushError.NotBelow
+            ↔ (names_nodes_of self.old node ≡ false) }
 
         // A later refusal comes only where no earlier one does.
         ensures not_rising { IsErrOf result PushError.NotRising

@@ -1,31 +1,22 @@
 -- What the verdict says, by what the walk found.
-use Rattle.std.proofs.Common.{reverse, sym, subst, ℕ}
+use Rattle.std.proofs.Common.{rules, reverse, sym, subst, ℕ}
 use Rattle.std.proofs.lemmas.Result.{IfOk-weaker}
 use Rattle.strategy_graph.specs.Roots.{AcceptedRoot, LeadsRoot, RootWins, root_arrivals}
 use Rattle.strategy_graph.proofs.RootLaws.{accepted-root-wins, leads-refutes-root}
 use Rattle.strategy_checker.proofs.Refusals.{verdict-right, accepts-then}
 use Rattle.strategy_checker.proofs.checks.check_root.Goals as goal
 
-pub returns-clause-accepted : goal.returns-clause-accepted
-returns-clause-accepted g c =
+pub returns : goal.returns
+returns g c =
     let right = verdict-right (AcceptedRoot g.R.Rule.KIND c.args.table.now c.args.root.now c.args.position.now) (LeadsRoot g.R.Rule.KIND c.args.table.now c.args.root.now c.args.position.now) (root_arrivals g.R.Rule.KIND c.args.table.now c.args.root.now c.args.position.now) c.args.moves c.new-walk.result.left c.args.work c.new-walk.ensures.left (leads-refutes-root g.R.Rule.KIND c.args.table.now c.args.root.now c.args.position.now)
     c.visit_root-walked.result c.visit_root-walked.new.self.left (reverse c.visit_root-walked.new.self.line) c.verdict.result c.visit_root-walked.ensures.accepted c.visit_root-walked.ensures.counted c.visit_root-walked.ensures.stopped c.verdict.ensures.verdict in
-    IfOk-weaker c.verdict.result _ _ (λ v r. r.accepts) right
-
-pub returns-clause-refused : goal.returns-clause-refused
-returns-clause-refused g c =
-    let right = verdict-right (AcceptedRoot g.R.Rule.KIND c.args.table.now c.args.root.now c.args.position.now) (LeadsRoot g.R.Rule.KIND c.args.table.now c.args.root.now c.args.position.now) (root_arrivals g.R.Rule.KIND c.args.table.now c.args.root.now c.args.position.now) c.args.moves c.new-walk.result.left c.args.work c.new-walk.ensures.left (leads-refutes-root g.R.Rule.KIND c.args.table.now c.args.root.now c.args.position.now)
-    c.visit_root-walked.result c.visit_root-walked.new.self.left (reverse c.visit_root-walked.new.self.line) c.verdict.result c.visit_root-walked.ensures.accepted c.visit_root-walked.ensures.counted c.visit_root-walked.ensures.stopped c.verdict.ensures.verdict in
-    IfOk-weaker c.verdict.result _ _ (λ v r. r.refuses) right
-
-pub returns-clause-spent : goal.returns-clause-spent
-returns-clause-spent g c =
-    let right = verdict-right (AcceptedRoot g.R.Rule.KIND c.args.table.now c.args.root.now c.args.position.now) (LeadsRoot g.R.Rule.KIND c.args.table.now c.args.root.now c.args.position.now) (root_arrivals g.R.Rule.KIND c.args.table.now c.args.root.now c.args.position.now) c.args.moves c.new-walk.result.left c.args.work c.new-walk.ensures.left (leads-refutes-root g.R.Rule.KIND c.args.table.now c.args.root.now c.args.position.now)
-    c.visit_root-walked.result c.visit_root-walked.new.self.left (reverse c.visit_root-walked.new.self.line) c.verdict.result c.visit_root-walked.ensures.accepted c.visit_root-walked.ensures.counted c.visit_root-walked.ensures.stopped c.verdict.ensures.verdict in
-    IfOk-weaker c.verdict.result _ _ (λ v r. r.spends) right
-
-pub returns-clause-wins : goal.returns-clause-wins
-returns-clause-wins g c =
-    let right = verdict-right (AcceptedRoot g.R.Rule.KIND c.args.table.now c.args.root.now c.args.position.now) (LeadsRoot g.R.Rule.KIND c.args.table.now c.args.root.now c.args.position.now) (root_arrivals g.R.Rule.KIND c.args.table.now c.args.root.now c.args.position.now) c.args.moves c.new-walk.result.left c.args.work c.new-walk.ensures.left (leads-refutes-root g.R.Rule.KIND c.args.table.now c.args.root.now c.args.position.now)
-    c.visit_root-walked.result c.visit_root-walked.new.self.left (reverse c.visit_root-walked.new.self.line) c.verdict.result c.visit_root-walked.ensures.accepted c.visit_root-walked.ensures.counted c.visit_root-walked.ensures.stopped c.verdict.ensures.verdict in
-    IfOk-weaker c.verdict.result _ _ (accepts-then _ _ _ c.args.moves c.args.work (λ m. RootWins g.R.Rule.KIND c.args.root.now m c.args.position.now) (λ a. subst (λ (m : ℕ). RootWins g.R.Rule.KIND c.args.root.now m c.args.position.now) (sym c.requires.depth) (accepted-root-wins g.R.Rule.KIND c.args.table.now c.args.root.now c.args.position.now a))) right
+    record {
+      accepted = IfOk-weaker c.verdict.result _ _ (λ v r. r.accepts) right;
+      moves = search rules;
+      arrivals = search rules;
+      wins = IfOk-weaker c.verdict.result _ _ (accepts-then _ _ _ c.args.moves c.args.work (λ m. RootWins g.R.Rule.KIND c.args.root.now m c.args.position.now) (λ a. subst (λ (m : ℕ). RootWins g.R.Rule.KIND c.args.root.now m c.args.position.now) (sym c.requires.depth) (accepted-root-wins g.R.Rule.KIND c.args.table.now c.args.root.now c.args.position.now a))) right;
+      refused = IfOk-weaker c.verdict.result _ _ (λ v r. r.refuses) right;
+      leads = search rules;
+      spent = IfOk-weaker c.verdict.result _ _ (λ v r. r.spends) right;
+      same = c.visit_root-walked.ensures.same;
+    }

@@ -1,5 +1,5 @@
 -- What the verdict says, by what the walk found.
-use Rattle.std.proofs.Common.{reverse, sym, subst, ℕ}
+use Rattle.std.proofs.Common.{rules, reverse, sym, subst, ℕ}
 use Rattle.std.proofs.lemmas.Result.{IfOk-weaker}
 use Rattle.game_rules.specs.Games.{WinsAfter}
 use Rattle.strategy_graph.specs.Acceptance.{AcceptedStart}
@@ -10,26 +10,17 @@ use Rattle.strategy_graph.proofs.Refutation.{leads-refutes-start}
 use Rattle.strategy_checker.proofs.Refusals.{verdict-right, accepts-then}
 use Rattle.strategy_checker.proofs.checks.check_start.Goals as goal
 
-pub returns-clause-accepted : goal.returns-clause-accepted
-returns-clause-accepted g c =
+pub returns : goal.returns
+returns g c =
     let right = verdict-right (AcceptedStart g.R.Rule.KIND c.args.table.now c.args.start.now c.args.position.now) (LeadsStart g.R.Rule.KIND c.args.table.now c.args.start.now c.args.position.now) (start_arrivals g.R.Rule.KIND c.args.table.now c.args.start.now c.args.position.now) c.in_ok-moves.moves c.new-walk.result.left c.args.work c.new-walk.ensures.left (leads-refutes-start g.R.Rule.KIND c.args.table.now c.args.start.now c.args.position.now)
     c.visit_start-walked.result c.visit_start-walked.new.self.left (reverse c.visit_start-walked.new.self.line) c.verdict.result c.visit_start-walked.ensures.accepted c.visit_start-walked.ensures.counted c.visit_start-walked.ensures.stopped c.verdict.ensures.verdict in
-    IfOk-weaker c.verdict.result _ _ (λ v r. r.accepts) right
-
-pub returns-clause-refused : goal.returns-clause-refused
-returns-clause-refused g c =
-    let right = verdict-right (AcceptedStart g.R.Rule.KIND c.args.table.now c.args.start.now c.args.position.now) (LeadsStart g.R.Rule.KIND c.args.table.now c.args.start.now c.args.position.now) (start_arrivals g.R.Rule.KIND c.args.table.now c.args.start.now c.args.position.now) c.in_ok-moves.moves c.new-walk.result.left c.args.work c.new-walk.ensures.left (leads-refutes-start g.R.Rule.KIND c.args.table.now c.args.start.now c.args.position.now)
-    c.visit_start-walked.result c.visit_start-walked.new.self.left (reverse c.visit_start-walked.new.self.line) c.verdict.result c.visit_start-walked.ensures.accepted c.visit_start-walked.ensures.counted c.visit_start-walked.ensures.stopped c.verdict.ensures.verdict in
-    IfOk-weaker c.verdict.result _ _ (λ v r. r.refuses) right
-
-pub returns-clause-spent : goal.returns-clause-spent
-returns-clause-spent g c =
-    let right = verdict-right (AcceptedStart g.R.Rule.KIND c.args.table.now c.args.start.now c.args.position.now) (LeadsStart g.R.Rule.KIND c.args.table.now c.args.start.now c.args.position.now) (start_arrivals g.R.Rule.KIND c.args.table.now c.args.start.now c.args.position.now) c.in_ok-moves.moves c.new-walk.result.left c.args.work c.new-walk.ensures.left (leads-refutes-start g.R.Rule.KIND c.args.table.now c.args.start.now c.args.position.now)
-    c.visit_start-walked.result c.visit_start-walked.new.self.left (reverse c.visit_start-walked.new.self.line) c.verdict.result c.visit_start-walked.ensures.accepted c.visit_start-walked.ensures.counted c.visit_start-walked.ensures.stopped c.verdict.ensures.verdict in
-    IfOk-weaker c.verdict.result _ _ (λ v r. r.spends) right
-
-pub returns-clause-wins : goal.returns-clause-wins
-returns-clause-wins g c =
-    let right = verdict-right (AcceptedStart g.R.Rule.KIND c.args.table.now c.args.start.now c.args.position.now) (LeadsStart g.R.Rule.KIND c.args.table.now c.args.start.now c.args.position.now) (start_arrivals g.R.Rule.KIND c.args.table.now c.args.start.now c.args.position.now) c.in_ok-moves.moves c.new-walk.result.left c.args.work c.new-walk.ensures.left (leads-refutes-start g.R.Rule.KIND c.args.table.now c.args.start.now c.args.position.now)
-    c.visit_start-walked.result c.visit_start-walked.new.self.left (reverse c.visit_start-walked.new.self.line) c.verdict.result c.visit_start-walked.ensures.accepted c.visit_start-walked.ensures.counted c.visit_start-walked.ensures.stopped c.verdict.ensures.verdict in
-    IfOk-weaker c.verdict.result _ _ (accepts-then _ _ _ c.in_ok-moves.moves c.args.work (λ m. WinsAfter g.R.Rule.KIND m c.args.position.now) (λ a. subst (λ (m : ℕ). WinsAfter g.R.Rule.KIND m c.args.position.now) (sym c.in_ok-moves.ensures.depth) (accepted-start-wins g.R.Rule.KIND c.args.table.now c.args.start.now c.args.position.now a))) right
+    record {
+      accepted = IfOk-weaker c.verdict.result _ _ (λ v r. r.accepts) right;
+      moves = search rules;
+      arrivals = search rules;
+      wins = IfOk-weaker c.verdict.result _ _ (accepts-then _ _ _ c.in_ok-moves.moves c.args.work (λ m. WinsAfter g.R.Rule.KIND m c.args.position.now) (λ a. subst (λ (m : ℕ). WinsAfter g.R.Rule.KIND m c.args.position.now) (sym c.in_ok-moves.ensures.depth) (accepted-start-wins g.R.Rule.KIND c.args.table.now c.args.start.now c.args.position.now a))) right;
+      refused = IfOk-weaker c.verdict.result _ _ (λ v r. r.refuses) right;
+      leads = search rules;
+      spent = IfOk-weaker c.verdict.result _ _ (λ v r. r.spends) right;
+      same = c.visit_start-walked.ensures.same;
+    }
