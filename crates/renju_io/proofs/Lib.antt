@@ -2,5 +2,7 @@
 pub mod Counts
 pub mod FileNames
 pub mod GivenBytes
+pub mod LineLaws
 pub mod Pieces
 pub mod TakenText
+pub mod LinesSoFar

@@ -3,3 +3,5 @@ pub mod Faults
 pub mod Told
 pub mod Files
 pub mod Memory
+pub mod Lines
+pub mod Reader

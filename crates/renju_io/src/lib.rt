@@ -8,6 +8,7 @@
 
 mod failures;
 mod fault;
+mod line_reader;
 mod memory_shelf;
 mod memory_sink;
 mod memory_source;
@@ -19,6 +20,7 @@ mod source;
 mod writing;
 
 pub use fault::Failed;
+pub use line_reader::{Line, LineReader, ReadError};
 pub use memory_shelf::{MemoryFile, MemoryShelf};
 pub use memory_sink::MemorySink;
 pub use memory_source::MemorySource;
@@ -31,6 +33,15 @@ pub use writing::write_text;
 
 /// The most bytes that the input of a command, or a file, may have.
 pub const MAX_INPUT_BYTES: usize = 16_777_216;
+
+/// The byte that ends a line.
+pub const LINE_FEED: u8 = b'\n';
+
+/// The most bytes that a line may have before its line feed.
+pub const MAX_LINE_BYTES: usize = 4_096;
+
+/// The most bytes that may be taken of an input that is read line by line.
+pub const MAX_SESSION_BYTES: usize = 67_108_864;
 
 /// The most bytes that a text is cut into for one write.
 pub const MAX_PIECE_BYTES: usize = 4_096;

@@ -1,0 +1,3 @@
+-- Lemmas on the digits of a number and the command of a text.
+mod Digits
+mod TextCommands

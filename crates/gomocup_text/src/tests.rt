@@ -1,0 +1,115 @@
+//! Lines as a manager may write them, row by row of the table of commands, and each answer's line.
+use super::*;
+use std::alloc::Global;
+use std::process::Abort;
+use std::test::Fail;
+
+fn assert_commands(rt: &impl Abort, cases: &[(&[u8], Command)]) {
+    for (line, command) in cases {
+        assert_eq!(rt; read_command(line), *command, "{line:?}");
+    }
+}
+
+#[test]
+fn lines_with_numbers(rt: HostRuntime) {
+    assert_commands(
+        &rt,
+        &[
+            (b"1,2,3", Command::Stone(1, 2, 3)),
+            (b" 1 ,\t2 , 003\t\r", Command::Stone(1, 2, 3)),
+            (b"999999999,0,1", Command::Stone(999_999_999, 0, 1)),
+            (b"1000000000,0,1", Command::Unknown),
+            (b"1,2", Command::Unknown),
+            (b"1,2,3,4", Command::Unknown),
+            (b"1,2,", Command::Unknown),
+            (b"1,2,+3", Command::Unknown),
+            (b"START 15", Command::Start(15)),
+            (b"start\t 015 \r", Command::Start(15)),
+            (b"START", Command::Malformed),
+            (b"START15", Command::Unknown),
+            (b"START 15 15", Command::Malformed),
+            (b"START -1", Command::Malformed),
+            (b"START 1234567890", Command::Malformed),
+            (b"START 15\r\r", Command::Malformed),
+            (b"RECTSTART 20,10", Command::RectStart(20, 10)),
+            (b"rectStart 20 , 10", Command::RectStart(20, 10)),
+            (b"RECTSTART 20", Command::Malformed),
+            (b"tUrN 7,8", Command::Turn(7, 8)),
+            (b"TURN 7,8,9", Command::Malformed),
+            (b"TURN 7 8", Command::Malformed),
+            (b"TURN,7,8", Command::Unknown),
+            (b"TAKEBACK 0,31", Command::Takeback(0, 31)),
+            (b"TAKEBACK ,", Command::Malformed),
+        ],
+    );
+}
+
+#[test]
+fn lines_with_words_alone(rt: HostRuntime) {
+    assert_commands(
+        &rt,
+        &[
+            (b"", Command::Blank),
+            (b"\r", Command::Blank),
+            (b" \t \r", Command::Blank),
+            (b"BEGIN", Command::Begin),
+            (b"BEGIN 1", Command::Malformed),
+            (b"board", Command::Board),
+            (b"DONE \r", Command::Done),
+            (b"DONE\r\r", Command::Unknown),
+            (b"DONE\r ", Command::Unknown),
+            (b"RESTART", Command::Restart),
+            (b"RE START", Command::Unknown),
+            (b"ABOUT", Command::About),
+            (b"END", Command::End),
+            (b"END.", Command::Unknown),
+            (b"INFO", Command::Info),
+            (b"INFO rule 4", Command::Rule(4)),
+            (b"info RULE\t04", Command::Rule(4)),
+            (b"INFO rule", Command::Info),
+            (b"INFO rule 4 4", Command::Info),
+            (b"INFO rule4", Command::Info),
+            (b"INFO timeout_turn 1000", Command::Info),
+            (b"HELLO", Command::Unknown),
+            (b"\xff", Command::Unknown),
+        ],
+    );
+}
+
+#[test]
+fn a_line_is_too_long_by_one_byte(rt: HostRuntime) -> Result<(), Fail> {
+    let mut line = vec![in rt.alloc(); b' '; 4_095]?;
+    line.push(b'x')?;
+    assert_eq!(rt; read_command(&line), Command::Unknown);
+    line.push(b'\r')?;
+    assert_eq!(rt; read_command(&line), Command::Malformed);
+    Ok(())
+}
+
+fn assert_line(rt: &impl Abort, alloc: Global, answer: Answer, line: &[u8]) {
+    assert_eq!(rt; write_answer(alloc, &answer).as_slice(), line);
+}
+
+#[test]
+fn each_answer_is_a_line(rt: HostRuntime) {
+    let alloc = rt.alloc();
+    assert_line(&rt, alloc, Answer::Ok, b"OK\r\n");
+    assert_line(&rt, alloc, Answer::Move(Point { x: 0, y: 31 }), b"0,31\r\n");
+    assert_line(
+        &rt,
+        alloc,
+        Answer::Move(Point { x: 255, y: 255 }),
+        b"255,255\r\n",
+    );
+    assert_line(
+        &rt,
+        alloc,
+        Answer::About,
+        b"name=\"renju\", version=\"1.0\"\r\n",
+    );
+    assert_line(&rt, alloc, Answer::Unknown, b"UNKNOWN command\r\n");
+    let error = Answer::Error(ErrorText::UnsupportedSize);
+    assert_line(&rt, alloc, error, b"ERROR unsupported size\r\n");
+    let error = Answer::Error(ErrorText::OpponentFoul);
+    assert_line(&rt, alloc, error, b"ERROR opponent foul\r\n");
+}
