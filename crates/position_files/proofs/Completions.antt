@@ -7,7 +7,7 @@ use Rattle.std.proofs.lemmas.Option.{slice_get-get_or}
 use Rattle.game_rules.specs.Grid.{Grid, IsBoard, is_on}
 use Rattle.game_rules.specs.declared.Point.{Point}
 use Rattle.game_rules.proofs.Boards.{on_x, on_y}
-use Rattle.strategy_graph.specs.Tables.{Answers, answers_of, is_winning, rest_node, names_below, IsNode, IsTable}
+use Rattle.strategy_graph.specs.Tables.{Answers, answers_of, is_winning, rest_node, names_below, IsNode, IsTable, TableOnBoard, NamesOnBoard, RepliesOn}
 use Rattle.strategy_graph.specs.declared.Reply.{Reply}
 use Rattle.strategy_graph.specs.declared.Rest.{Rest}
 use Rattle.strategy_graph.specs.declared.Rest.TheVariants.{Wins, To, Nothing}
@@ -15,7 +15,6 @@ use Rattle.strategy_graph.specs.declared.Node.{Node}
 use Rattle.strategy_graph.specs.declared.TheConstants.{MAX_NODES}
 use Rattle.strategy_graph.proofs.Naming.{reply-below, rest-below}
 use Rattle.strategy_graph.proofs.Filling.{IsTable-push}
-use Rattle.position_files.specs.Tables.{NodeOn, RepliesOn}
 use Rattle.text_lines.specs.Reading.{IsWithin}
 use Rattle.position_files.specs.Boards.{IsSide}
 use Rattle.position_files.specs.Answers.{AnswersFit, NodeFits, ReplyFits, RestFits}
@@ -28,7 +27,7 @@ corner = record { attack = record { x = 0; y = 0 }; replies = []; rest = Wins }
 corner_node : (i : ℕ) → IsNode corner i
 corner_node i = record { below = refl; rising = refl; winning = λ wins. refl }
 
-pub corner_on : (b : Grid) → IsBoard b → NodeOn b corner
+pub corner_on : (b : Grid) → IsBoard b → NamesOnBoard b corner
 corner_on b ok = record { attack = is_on_within b (record { x = 0; y = 0 }) (record { column = let w = ok.wide in omega (arith, w); row = let h = ok.high in omega (arith, h) }); replies = tt }
 
 pub filled_table : (m : ℕ) (nodes : List Node) → IsTable nodes → length nodes + m ≤ MAX_NODES → IsTable (nodes ++ replicate m corner)
@@ -85,7 +84,7 @@ answers_fit b a k on_it below few winning =
       winning = winning;
     }
 
-pub node_fits : (b : Grid) (n : Node) (i : ℕ) → NodeOn b n → IsNode n i → i ≤ MAX_NODES → NodeFits b.width b.height n
+pub node_fits : (b : Grid) (n : Node) (i : ℕ) → NamesOnBoard b n → IsNode n i → i ≤ MAX_NODES → NodeFits b.width b.height n
 node_fits b n i on_it is few = record {
   attack = within_on b n.attack on_it.attack;
   answers = answers_fit b (answers_of n) i on_it.replies is.below few is.winning;
@@ -94,7 +93,7 @@ node_fits b n i on_it is few = record {
 pub node_at : (ns : List Node) (i : ℕ) → IsTable ns → i < length ns → IsNode (get_or ns i corner) i
 node_at ns i table within = table.nodes i (get_or ns i corner) (slice_get-get_or ns i corner within)
 
-pub nodes_fit : (b : Grid) (ns : List Node) → AllByRecursion (NodeOn b) ns → IsTable ns → AllByRecursion (NodeFits b.width b.height) ns
+pub nodes_fit : (b : Grid) (ns : List Node) → TableOnBoard b ns → IsTable ns → AllByRecursion (NodeFits b.width b.height) ns
 nodes_fit b ns on_it table = all_from (NodeFits b.width b.height) ns corner (λ i within.
     let size = table.size in
-    node_fits b (get_or ns i corner) i (all_at (NodeOn b) ns i corner on_it within) (node_at ns i table within) (omega arith))
+    node_fits b (get_or ns i corner) i (all_at (NamesOnBoard b) ns i corner on_it within) (node_at ns i table within) (omega arith))

@@ -11,7 +11,8 @@ use Rattle.strategy_graph.specs.declared.Reply.{Reply}
 use Rattle.strategy_graph.specs.declared.Node.{Node}
 use Rattle.text_lines.specs.Lines.{line_feed, ended, text_of}
 use Rattle.position_files.specs.Positions.{board_lines}
-use Rattle.position_files.specs.Tables.{NodeOn, RepliesOn, node_line, nodes_lines}
+use Rattle.position_files.specs.Tables.{node_line, nodes_lines}
+use Rattle.strategy_graph.specs.Tables.{TableOnBoard, RepliesOn}
 use Rattle.position_files.specs.Answers.{AddsNode, NodeFits, ReplyFits}
 use Rattle.text_lines.proofs.Items.{all_push}
 use Rattle.text_lines.proofs.TextLaws.{text_of-cons, text_of-push}
@@ -43,7 +44,7 @@ pub replies_on : (b : Grid) (rs : List Reply) → AllByRecursion (ReplyFits b.wi
 replies_on b [] all = tt
 replies_on b (r ∷ rs) all = (is_on_within b r.at all.0.at, replies_on b rs all.1)
 
-pub nodes_on : (b : Grid) (ns : List Node) → AllByRecursion (NodeFits b.width b.height) ns → AllByRecursion (NodeOn b) ns
+pub nodes_on : (b : Grid) (ns : List Node) → AllByRecursion (NodeFits b.width b.height) ns → TableOnBoard b ns
 nodes_on b [] all = tt
 nodes_on b (n ∷ ns) all = (record { attack = is_on_within b n.attack all.0.attack; replies = replies_on b n.replies all.0.answers.replies }, nodes_on b ns all.1)
 

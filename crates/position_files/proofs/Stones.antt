@@ -13,7 +13,7 @@ use Rattle.game_rules.specs.declared.Cell.TheVariants.{Empty, Black as BlackSton
 use Rattle.game_rules.specs.declared.Point.{Point}
 use Rattle.game_rules.specs.Play.{other}
 use Rattle.game_rules.specs.declared.Side.TheVariants.{Black, White}
-use Rattle.game_rules.proofs.Boards.{place_fits, on_x, on_y, is_empty-cell, is_empty-on}
+use Rattle.game_rules.proofs.Boards.{stone_of_side, stone_of-other, place_fits, on_x, on_y, is_empty-cell, is_empty-on}
 use Rattle.game_rules.proofs.Positions.{IsBoard-put}
 use Rattle.position_files.specs.Positions.{stones}
 use Rattle.position_files.specs.Boards.{SameBut, IsSide}
@@ -222,14 +222,6 @@ none_put b s points ok none = record {
   only = λ d ok_d w h e. sym (stones-marked d s ok_d) ∙ e;
 }
 
-own_stone : (s : Side) → is_stone_of s (stone_of s) ≡ true
-own_stone Black = refl
-own_stone White = refl
-
-others_stone : (s : Side) → is_stone_of (other s) (stone_of s) ≡ false
-others_stone Black = refl
-others_stone White = refl
-
 empty_stone : (s : Side) → is_stone_of s Empty ≡ false
 empty_stone Black = refl
 empty_stone White = refl
@@ -260,13 +252,13 @@ module _ (first now : Grid) (s : Side) (points : List Point) (i least : ℕ) (p 
   put_own : stones (put now s p) s ≡ stones now s ++ p ∷ []
   put_own =
       stones-marked (put now s p) s (IsBoard-put now s p h.board)
-      ∙ marked-set_last (point_at now.width) (is_stone_of s) 0 (place_of now p) now.cells (stone_of s) (own_stone s) fits clear_here
+      ∙ marked-set_last (point_at now.width) (is_stone_of s) 0 (place_of now p) now.cells (stone_of s) (stone_of_side s) fits clear_here
       ∙ rw (here, stones-marked now s h.board) refl
 
   put_others : stones (put now s p) (other s) ≡ stones now (other s)
   put_others =
       stones-marked (put now s p) (other s) (IsBoard-put now s p h.board)
-      ∙ marked-set_other (point_at now.width) (is_stone_of (other s)) 0 (place_of now p) now.cells (stone_of s) (others_stone s) fits (ap (is_stone_of (other s)) is_free_cell ∙ empty_stone (other s))
+      ∙ marked-set_other (point_at now.width) (is_stone_of (other s)) 0 (place_of now p) now.cells (stone_of s) (stone_of-other s) fits (ap (is_stone_of (other s)) is_free_cell ∙ empty_stone (other s))
       ∙ sym (stones-marked now (other s) h.board)
 
   clear_after : is_clear (point_at now.width) (is_stone_of s) (drop (place_of now p + 1) (set now.cells (place_of now p) (stone_of s))) ≡ true

@@ -7,7 +7,7 @@ use Rattle.std.proofs.lemmas.Fmt.{decimal_injective}
 use Rattle.std.proofs.lemmas.List.{append_cancel_left, length-append, length-map}
 use Rattle.game_rules.specs.Grid.{Grid, IsBoard}
 use Rattle.game_rules.specs.declared.RuleKind.{RuleKind}
-use Rattle.strategy_graph.specs.Tables.{Answers, IsTable}
+use Rattle.strategy_graph.specs.Tables.{Answers, IsTable, TableOnBoard}
 use Rattle.strategy_graph.specs.declared.Node.{Node}
 use Rattle.strategy_graph.specs.declared.roots.Root.{Root}
 use Rattle.strategy_graph.specs.declared.roots.Root.TheVariants.{Attack, Defend}
@@ -15,7 +15,7 @@ use Rattle.position_files.specs.declared.TableFile.{TableFile}
 use Rattle.position_files.specs.declared.tables.Body.{Body}
 use Rattle.text_lines.specs.Lines.{line_feed, text_of}
 use Rattle.position_files.specs.Positions.{board_lines}
-use Rattle.position_files.specs.Tables.{NodeOn, RootFits, IsTextOfTable, IsTableText, answers_text, node_line, nodes_lines, start_line, table_text}
+use Rattle.position_files.specs.Tables.{RootFits, IsTextOfTable, IsTableText, answers_text, node_line, nodes_lines, start_line, table_text}
 use Rattle.text_lines.specs.Reading.{is_free}
 use Rattle.position_files.specs.Answers.{NodeFits, StartFits}
 use Rattle.position_files.specs.Bodies.{BodyFits, body_lines, IsBodyLines}
@@ -68,7 +68,7 @@ table-free ls (inr h) = subst AreFree (sym h.2) (refl, start-free h.0 h.1)
 abbrev body_of : RuleKind → Grid → List Node → ℕ → Body
 body_of kind b nodes moves = record { kind = kind; board = b; table = nodes; moves = moves }
 
-attack_fits : (kind : RuleKind) (b : Grid) (nodes : List Node) (r moves : ℕ) → IsBoard b → IsTable nodes → AllByRecursion (NodeOn b) nodes → RootFits b nodes (Attack r) moves → BodyFits 1 (body_of kind b nodes moves)
+attack_fits : (kind : RuleKind) (b : Grid) (nodes : List Node) (r moves : ℕ) → IsBoard b → IsTable nodes → TableOnBoard b nodes → RootFits b nodes (Attack r) moves → BodyFits 1 (body_of kind b nodes moves)
 attack_fits kind b nodes r moves ok table on_it root = record {
   board = ok;
   on_board = on_it;
@@ -76,7 +76,7 @@ attack_fits kind b nodes r moves ok table on_it root = record {
   moves = record { enough = root.1; few = let most = root.2 in omega (arith, most) };
 }
 
-defend_fits : (kind : RuleKind) (b : Grid) (nodes : List Node) (a : Answers) (moves : ℕ) → IsBoard b → IsTable nodes → AllByRecursion (NodeOn b) nodes → RootFits b nodes (Defend a) moves → BodyFits 0 (body_of kind b nodes moves) × StartFits b.width b.height (length nodes) a
+defend_fits : (kind : RuleKind) (b : Grid) (nodes : List Node) (a : Answers) (moves : ℕ) → IsBoard b → IsTable nodes → TableOnBoard b nodes → RootFits b nodes (Defend a) moves → BodyFits 0 (body_of kind b nodes moves) × StartFits b.width b.height (length nodes) a
 defend_fits kind b nodes a moves ok table on_it root = (
   record {
     board = ok;
@@ -91,7 +91,7 @@ defend_fits kind b nodes a moves ok table on_it root = (
   },
 )
 
-lines_by : (kind : RuleKind) (b : Grid) (nodes : List Node) (root : Root) (moves : ℕ) (t : List ℕ) → IsBoard b → IsTable nodes → AllByRecursion (NodeOn b) nodes → RootFits b nodes root moves → t ≡ table_text kind b nodes root moves → (ls : List (List ℕ)) × IsTableLines ls × (t ≡ text_of ls)
+lines_by : (kind : RuleKind) (b : Grid) (nodes : List Node) (root : Root) (moves : ℕ) (t : List ℕ) → IsBoard b → IsTable nodes → TableOnBoard b nodes → RootFits b nodes root moves → t ≡ table_text kind b nodes root moves → (ls : List (List ℕ)) × IsTableLines ls × (t ≡ text_of ls)
 unfolding table_text
 lines_by kind b nodes (Attack r) moves t ok table on_it root e =
     let body : Body = body_of kind b nodes moves in

@@ -3,7 +3,7 @@ use Rattle.std.specs.Prelude.{◌≡◌, ℕ, List, ◌++◌, length, Some}
 use Rattle.std.specs.List.{AllByRecursion}
 use Rattle.game_rules.specs.Grid.{IsBoard}
 use Rattle.game_rules.specs.Play.{IsPosition}
-use Rattle.strategy_graph.specs.Tables.{IsTable}
+use Rattle.strategy_graph.specs.Tables.{IsTable, TableOnBoard}
 use Rattle.strategy_graph.specs.Roots.{root_depth}
 use Rattle.strategy_graph.specs.declared.roots.Root.{Root}
 use Rattle.foul_judge.specs.Lawful.{refusal}
@@ -12,7 +12,7 @@ use Rattle.position_files.specs.declared.error.FileError.{FileError}
 use Rattle.position_files.specs.declared.error.FileError.TheVariants.{BadLine, Unlawful, WrongMoves, Memory}
 use Rattle.position_files.specs.declared.tables.Body.{Body}
 use Rattle.position_files.specs.Positions.{board_lines}
-use Rattle.position_files.specs.Tables.{NodeOn, nodes_lines}
+use Rattle.position_files.specs.Tables.{nodes_lines}
 use Rattle.position_files.specs.declared.TheConstants.{MAX_MOVES}
 use Rattle.strategy_graph.specs.declared.TheConstants.{MAX_NODES}
 use Rattle.text_lines.specs.Reading.{IsBetween}
@@ -20,7 +20,7 @@ use Rattle.text_lines.specs.Reading.{IsBetween}
 -- the board is one, the nodes name points of the board, and there are enough moves and nodes
 pub record BodyFits (least : ℕ) (body : Body) : Type 0 where
   pub board : IsBoard body.board
-  pub on_board : AllByRecursion (NodeOn body.board) body.table
+  pub on_board : TableOnBoard body.board body.table
   pub nodes : IsBetween least MAX_NODES (length body.table)
   pub moves : IsBetween least MAX_MOVES body.moves
 

@@ -4,7 +4,7 @@ use Rattle.std.specs.List.{flat_map, AllByRecursion}
 use Rattle.std.specs.Fmt.{decimal}
 use Rattle.game_rules.specs.Grid.{Grid, IsBoard, is_on}
 use Rattle.game_rules.specs.declared.RuleKind.{RuleKind}
-use Rattle.strategy_graph.specs.Tables.{Answers, answers_of, IsTable, IsStart, names_below}
+use Rattle.strategy_graph.specs.Tables.{Answers, answers_of, IsTable, IsStart, names_below, RepliesOn, TableOnBoard}
 use Rattle.strategy_graph.specs.declared.Reply.{Reply}
 use Rattle.strategy_graph.specs.declared.Rest.{Rest}
 use Rattle.strategy_graph.specs.declared.Rest.TheVariants.{Wins, To, Nothing}
@@ -58,15 +58,6 @@ table_text kind b nodes (Attack r) moves = text_of (codes "renju-table 1" ∷ bo
 table_text kind b nodes (Defend a) moves =
     text_of (codes "renju-table 2" ∷ board_lines kind b ++ nodes_lines nodes moves ++ start_line a ∷ [])
 
--- each reply that is listed is on the board
-abbrev pub RepliesOn : Grid → List Reply → Type 0
-RepliesOn b rs = AllByRecursion (λ r. is_on b r.at ≡ true) rs
-
--- the points that a node names are on the board
-pub record NodeOn (b : Grid) (n : Node) : Type 0 where
-  pub attack : is_on b n.attack ≡ true
-  pub replies : RepliesOn b n.replies
-
 -- The root and the number of moves have a text with these nodes: a node is the last one, and has 1 to MAX_MOVES moves; a start
 -- names nodes of the table and points of the board, and has 0 to MAX_MOVES moves.
 abbrev pub RootFits : Grid → List Node → Root → ℕ → Type 0
@@ -77,7 +68,7 @@ RootFits b nodes (Defend a) moves = IsStart a × (names_below a (length nodes) �
 pub record IsTextOfTable (file : TableFile) (bytes : List ℕ) : Type 0 where
   pub board : IsBoard file.board
   pub table : IsTable file.table
-  pub on_board : AllByRecursion (NodeOn file.board) file.table
+  pub on_board : TableOnBoard file.board file.table
   pub root : RootFits file.board file.table file.root file.moves
   pub spelled : bytes ≡ table_text file.kind file.board file.table file.root file.moves
 

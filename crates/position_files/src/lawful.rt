@@ -10,7 +10,7 @@ ghost use Rattle.position_files.specs.Faults.{IsRefusedAs};
 use crate::FileError;
 use foul_judge::Position;
 use game_rules::RuleKind;
-use row_shapes::{ExactFive, Freestyle, Renju, Rule};
+use row_shapes::{Rule, under_rule};
 use stone_board::Board;
 
 /// The board, if it is a lawful position under the rule, and else why it is none.
@@ -31,9 +31,5 @@ pub(crate) fn lawful(kind: RuleKind, board: Board) -> Result<Board, FileError>
     ensures lawful { IsOk result ↔ IsPosition kind board }
     ensures refused { IfErr result (IsRefusedAs kind board) }
 {
-    match kind {
-        RuleKind::Freestyle => lawful_under::<Freestyle>(board),
-        RuleKind::Exact => lawful_under::<ExactFive>(board),
-        RuleKind::Renju => lawful_under::<Renju>(board),
-    }
+    under_rule!(kind, lawful_under(board))
 }

@@ -8,11 +8,11 @@ ghost use Rattle.std.specs.Prelude.{◌≡◌, [], ◌∷◌, ◌++◌, map, IfO
 ghost use Rattle.std.specs.List.{AllByRecursion};
 ghost use Rattle.std.specs.Fmt.{decimal};
 ghost use Rattle.game_rules.specs.Grid.{IsBoard};
-ghost use Rattle.strategy_graph.specs.Tables.{IsTable};
+ghost use Rattle.strategy_graph.specs.Tables.{IsTable, TableOnBoard};
 ghost use Rattle.text_lines.specs.Lines.{ended, text_of};
 ghost use Rattle.text_lines.specs.Spellings.{space, point_text};
 ghost use Rattle.position_files.specs.Positions.{IsTextOfPosition, board_lines};
-ghost use Rattle.position_files.specs.Tables.{IsTextOfTable, NodeOn, RootFits, answers_text, node_line, nodes_lines, replies_text, reply_text, rest_text as rest_text_lem, start_line, table_text as table_text_lem};
+ghost use Rattle.position_files.specs.Tables.{IsTextOfTable, RootFits, answers_text, node_line, nodes_lines, replies_text, reply_text, rest_text as rest_text_lem, start_line, table_text as table_text_lem};
 
 use crate::written::board_text;
 use game_rules::{Point, RuleKind};
@@ -192,7 +192,7 @@ pub fn write_table(
     root: &Root,
     moves: u32,
 ) -> Result<Vec<u8>, AllocError>
-    requires on_board { AllByRecursion (NodeOn board.now) table.now }
+    requires on_board { TableOnBoard board.now table.now }
     requires root { RootFits board.now table.now root.now moves }
     ensures written { IfOk result (λ bytes. IsTextOfTable
         (record { kind = kind; board = board.now; table = table.now; root = root.now; moves = moves })
