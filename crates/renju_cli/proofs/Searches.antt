@@ -1,26 +1,18 @@
 -- What is said of the position of a text, where the search ran at that board under its rule.
-use Rattle.std.proofs.Common.{◌≡◌, inl, inr, ℕ, ◌≤◌, ◌<◌, sym, ap, subst, ◌∙◌, List, [], ◌∷◌}
+use Rattle.std.proofs.Common.{◌≡◌, inl, inr, ℕ, ◌≤◌, ◌<◌, sym, ap, subst, ◌∙◌, List}
 use Rattle.std.specs.Prelude.{Result, Ok, Err, IfOk}
-use Rattle.std.specs.List.{AllByRecursion}
 use Rattle.std.proofs.lemmas.Bool.{cases_lt}
 use Rattle.game_rules.specs.Grid.{Grid}
 use Rattle.game_rules.specs.Games.{WinsByFours}
 use Rattle.game_rules.specs.declared.RuleKind.{RuleKind}
 use Rattle.strategy_graph.specs.declared.Node.{Node}
-use Rattle.strategy_graph.specs.Tables.{TableOnBoard}
 use Rattle.strategy_compiler.specs.declared.wins.WrittenWin.{WrittenWin}
 use Rattle.four_search.specs.Answers.{IsFourWin}
 use Rattle.four_search.specs.FourGame.{four_cost}
-use Rattle.position_files.specs.Tables.{NodeOn}
 use Rattle.position_files.specs.declared.PositionFile.{PositionFile}
 use Rattle.renju_cli.specs.declared.answer.Answer.{Answer}
 use Rattle.renju_cli.specs.declared.status.Status.TheVariants.{Done, NotFound}
 use Rattle.renju_cli.specs.Fours.{none_line, IsFourText, SearchSays}
-
--- a table that names points of the board alone is one that has a text there
-pub on-board : (b : Grid) (t : List Node) → TableOnBoard b t → AllByRecursion (NodeOn b) t
-on-board b [] h = tt
-on-board b (n ∷ ns) h = (record { attack = h.0.attack; replies = h.0.replies }, on-board b ns h.1)
 
 not-above : (n m : ℕ) → (n < m → ⊥) → m ≤ n
 not-above n m h = elim (cases_lt n m) [ inl more ↦ absurd (h more) | inr less ↦ less ]

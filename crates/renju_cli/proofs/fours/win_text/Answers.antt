@@ -1,12 +1,11 @@
 use Rattle.std.proofs.Common.{ℕ, ◌*◌, ◌≤◌, sym, subst, arith}
 use Rattle.four_search.specs.Plans.{four_plan}
-use Rattle.renju_cli.proofs.Searches.{on-board}
 use Rattle.renju_cli.proofs.fours.win_text.Goals as goal
 
 pub write_table-requires-clause-on_board : goal.write_table-requires-clause-on_board
 write_table-requires-clause-on_board c =
     let made = c.in_ok-table.ensures.win c.args.kind c.requires.win.0 c.args.board.now c.requires.win.2.written in
-    on-board c.args.board.now c.in_ok-table.table made.on_board
+    made.on_board
 
 pub write_table-requires-clause-root : goal.write_table-requires-clause-root
 write_table-requires-clause-root c =
