@@ -24,17 +24,16 @@ TestTells = (a b : Packed) → Decides (same_packed a b) (a ≡ b)
 abbrev pub same_key : Packed × ℕ → Packed × ℕ → Bool
 same_key a b = same_packed a.0 b.0 && nat_eq a.1 b.1
 
-module _ {V : Type 0} (key : Packed × ℕ) where
-  -- the value of the entry under this key, if there is one
-  abbrev pub value_under : Remembered V → Option V
-  value_under t = lookup (same_key key) t.entries
+-- the value of the entry under this key, if there is one
+abbrev pub value_under : {V : Type 0} → Packed × ℕ → Remembered V → Option V
+value_under key t = lookup (same_key key) t.entries
 
-  -- the table after a look at this key: its entry, if there is one, goes to the front
-  abbrev pub looked_up : Remembered V → Remembered V
-  looked_up t =
-      record t { entries = option_map_or (λ e. e ∷ remove_entry (same_key key) t.entries) (lookup_entry (same_key key) t.entries) t.entries }
+-- the table after a look at this key: its entry, if there is one, goes to the front
+abbrev pub looked_up : {V : Type 0} → Packed × ℕ → Remembered V → Remembered V
+looked_up key t =
+    record t { entries = option_map_or (λ e. e ∷ remove_entry (same_key key) t.entries) (lookup_entry (same_key key) t.entries) t.entries }
 
-  -- the table after a value is kept under this key: the entry stands in front, a former entry under the key is gone, and
-  -- where the capacity would be passed the last entry is gone
-  abbrev pub kept : V → Remembered V → Remembered V
-  kept value t = record t { entries = take t.capacity ((key, value) ∷ remove_entry (same_key key) t.entries) }
+-- the table after a value is kept under this key: the entry stands in front, a former entry under the key is gone, and
+-- where the capacity would be passed the last entry is gone
+abbrev pub kept : {V : Type 0} → Packed × ℕ → V → Remembered V → Remembered V
+kept key value t = record t { entries = take t.capacity ((key, value) ∷ remove_entry (same_key key) t.entries) }
