@@ -1,0 +1,6 @@
+-- What is declared by `pub mod` the layers above may cite.
+
+-- packed boards are the same exactly where the boards are
+pub mod Packing
+-- what is found under a key was kept under it
+pub mod Remembering
