@@ -1,0 +1,325 @@
+-- What becomes of a tree when its leaf is settled or given children.
+use Rattle.std.proofs.Common.{◌≡◌, ◌≢◌, ℕ, zero, suc, ◌+◌, ◌-◌, ◌<◌, ◌≤◌, List, ◌++◌, length, take, drop, set, replicate, get_or, Bool, true, false, inl, inr, refl, sym, ◌∙◌, ap, subst, arith}
+use Rattle.std.proofs.lemmas.Bool.{cases_eq, cases_lt}
+use Rattle.std.proofs.lemmas.List.{drop-append-le, get_or-append_right, get_or-replicate, get_or-set_other, get_or-set_same, get_or_append_left, length-append, length-drop, length-replicate, length-set, set-append_left, take-append-le}
+use Rattle.std.proofs.Math.Seq.{take-append_seam}
+use Rattle.std.specs.List.{All}
+use Rattle.proof_tree.specs.declared.TheConstants.{INFINITE}
+use Rattle.proof_tree.specs.declared.Kind.{Kind}
+use Rattle.proof_tree.specs.declared.Kind.TheVariants.{Attack, Defend}
+use Rattle.proof_tree.specs.declared.Numbers.{Numbers}
+use Rattle.proof_tree.specs.declared.Link.{Link}
+use Rattle.proof_tree.specs.Combining.{AreNumbers, combined, finite, is_settled, no_numbers, other_kind, settled_numbers, sought}
+use Rattle.proof_tree.specs.Trees.{IsChild, IsCombinedAt, IsLinked, IsNumbered, IsOnWayUp, IsTree, OthersStay, Tree, ancestor, children_of, grown_links, leaf_link, leaf_sum, link_at, most_proving, numbers_at}
+use Rattle.proof_tree.proofs.Combined.{finite-infinite, finite-le, settled-pair}
+use Rattle.proof_tree.proofs.LeafSums.{leaf_sum-set}
+use Rattle.proof_tree.proofs.Updated.{IsRightBut, stays-combined, written-each}
+use Rattle.proof_tree.proofs.Walks.{read-at}
+
+-- numbers that are 0 and infinity count nothing in a sum over leaves
+pub record CountNothing (x : Numbers) : Type 0 where
+  pub good : AreNumbers x
+  pub nothing : (kind : Kind) → finite (sought kind x) ≡ 0
+
+-- a leaf has no children's numbers
+leaf-combined : (links : List Link) (numbers : List Numbers) (i : ℕ) → (link_at links i).count ≡ 0 → IsCombinedAt links numbers i
+leaf-combined links numbers i z b = absurd (omega arith)
+
+-- where the root is a leaf and is settled, all are right
+pub settled-root : (links : List Link) (numbers : List Numbers) (x : Numbers) → IsLinked links → IsNumbered links numbers → (link_at links 0).count ≡ 0 → CountNothing x → IsNumbered links (set numbers 0 x)
+settled-root links numbers x w r z s = record {
+  count = length-set numbers 0 x ∙ r.count;
+  each = written-each links numbers 0 x (omega (arith, r.count, w.some)) s.good r.each;
+  combined_at = λ j h. elim (cases_eq j 0) [
+    | inl q ↦ let P : ℕ → Type 0 = λ k. IsCombinedAt links (set numbers 0 x) k in subst P (sym q) (leaf-combined links (set numbers 0 x) 0 z)
+    | inr n ↦ λ b. stays-combined links numbers 0 j x n (λ child. omega (arith, w.later j h b, child.from_first)) (r.combined_at j h) b
+  ];
+  sums = λ kind. omega (arith, r.sums kind, leaf_sum-set kind links numbers 0 x (inr (s.nothing kind)));
+}
+
+-- where another leaf is settled, its parent alone is left
+pub settled-leaf : (links : List Link) (numbers : List Numbers) (i : ℕ) (x : Numbers) → IsLinked links → IsNumbered links numbers → 0 < i → i < length links → (link_at links i).count ≡ 0 → CountNothing x → IsRightBut links (set numbers i x) (link_at links i).parent
+settled-leaf links numbers i x w r b h z s = record {
+  count = length-set numbers i x ∙ r.count;
+  has_children = omega (arith, (w.children i b h).from_first, (w.children i b h).below_end);
+  each = written-each links numbers i x (omega (arith, r.count)) s.good r.each;
+  combined_at = λ j k other. elim (cases_eq j i) [
+    | inl q ↦ let P : ℕ → Type 0 = λ m. IsCombinedAt links (set numbers i x) m in subst P (sym q) (leaf-combined links (set numbers i x) i z)
+    | inr n ↦ stays-combined links numbers i j x n (λ child. other (sym (w.parents j i k child))) (r.combined_at j k)
+  ];
+  sums = λ kind. omega (arith, r.sums kind, leaf_sum-set kind links numbers i x (inr (s.nothing kind)));
+}
+
+-- the links of a tree whose leaf i is given children
+record IsGrown (links : List Link) (i count : ℕ) (new : List Link) : Type 0 where
+  sized : length new ≡ length links + count
+  here : link_at new i ≡ record { kind = (link_at links i).kind; parent = (link_at links i).parent; first = length links; count = count }
+  others : (j : ℕ) → j < length links → j ≢ i → link_at new j ≡ link_at links j
+  leaves : (j : ℕ) → length links ≤ j → j < length links + count → link_at new j ≡ leaf_link (other_kind (link_at links i).kind) i
+
+grown : (links : List Link) (i count : ℕ) → i < length links → IsGrown links i count (grown_links links i count)
+grown links i count h =
+    let own : Link = record { kind = (link_at links i).kind; parent = (link_at links i).parent; first = length links; count = count } in
+    let child : Link = leaf_link (other_kind (link_at links i).kind) i in
+    let none : Link = leaf_link Attack 0 in
+    record {
+      sized = length-append (set links i own) (replicate count child) ∙ omega (arith, length-set links i own, length-replicate count child);
+      here = get_or_append_left (set links i own) (replicate count child) none i (omega (arith, length-set links i own)) ∙ get_or-set_same links i own none h;
+      others = λ j k n. get_or_append_left (set links i own) (replicate count child) none j (omega (arith, length-set links i own)) ∙ get_or-set_other links i j own none n;
+      leaves = λ j from to. get_or-append_right (set links i own) (replicate count child) (length links) j none (length-set links i own) from ∙ get_or-replicate count (j - length links) child none (omega arith);
+    }
+
+old-parent : (links : List Link) (i count : ℕ) (new : List Link) (j : ℕ) → IsGrown links i count new → j < length links → (link_at new j).parent ≡ (link_at links j).parent
+old-parent links i count new j g h = elim (cases_eq j i) [
+  | inl q ↦ ap (λ k. (link_at new k).parent) q ∙ (ap (λ l. l.parent) g.here ∙ ap (λ k. (link_at links k).parent) (sym q))
+  | inr n ↦ ap (λ l. l.parent) (g.others j h n)
+]
+
+old-kind : (links : List Link) (i count : ℕ) (new : List Link) (j : ℕ) → IsGrown links i count new → j < length links → (link_at new j).kind ≡ (link_at links j).kind
+old-kind links i count new j g h = elim (cases_eq j i) [
+  | inl q ↦ ap (λ k. (link_at new k).kind) q ∙ (ap (λ l. l.kind) g.here ∙ ap (λ k. (link_at links k).kind) (sym q))
+  | inr n ↦ ap (λ l. l.kind) (g.others j h n)
+]
+
+-- what a node of the grown tree is: the leaf, another node of the old tree, or one of its leaves
+data Place (links : List Link) (i count : ℕ) (new : List Link) (j : ℕ) : Type 0 where
+  at_leaf : j ≡ i → (link_at new j).first ≡ length links → (link_at new j).count ≡ count → Place links i count new j
+  at_other : j < length links → j ≢ i → link_at new j ≡ link_at links j → Place links i count new j
+  at_child : length links ≤ j → (link_at new j).count ≡ 0 → (link_at new j).first ≡ 0 → (link_at new j).parent ≡ i → (link_at new j).kind ≡ other_kind (link_at links i).kind → Place links i count new j
+
+place : (links : List Link) (i count : ℕ) (new : List Link) (j : ℕ) → IsGrown links i count new → j < length new → Place links i count new j
+place links i count new j g h = elim (cases_eq j i) [
+  | inl q ↦ at_leaf q (ap (λ k. (link_at new k).first) q ∙ ap (λ l. l.first) g.here) (ap (λ k. (link_at new k).count) q ∙ ap (λ l. l.count) g.here)
+  | inr n ↦ elim (cases_lt j (length links)) [
+    | inl old ↦ at_other old n (g.others j old n)
+    | inr from ↦
+        let l : link_at new j ≡ leaf_link (other_kind (link_at links i).kind) i = g.leaves j from (omega (arith, g.sized)) in
+        at_child from (ap (λ k. k.count) l) (ap (λ k. k.first) l) (ap (λ k. k.parent) l) (ap (λ k. k.kind) l)
+  ]
+]
+
+later-grown : (links : List Link) (i count : ℕ) (new : List Link) → IsLinked links → i < length links → IsGrown links i count new → (j : ℕ) → j < length new → 0 < (link_at new j).count → j < (link_at new j).first
+later-grown links i count new w h g j k b = elim (place links i count new j g k) [
+  | at_leaf q f c ↦ omega (arith, q, f, h)
+  | at_other old n l ↦ omega (arith, ap (λ m. m.first) l, w.later j old (omega (arith, ap (λ m. m.count) l, b)))
+  | at_child from c f p t ↦ absurd (omega (arith, b, c))
+]
+
+within-grown : (links : List Link) (i count : ℕ) (new : List Link) → IsLinked links → IsGrown links i count new → (j : ℕ) → j < length new → (link_at new j).first + (link_at new j).count ≤ length new
+within-grown links i count new w g j k = elim (place links i count new j g k) [
+  | at_leaf q f c ↦ omega (arith, f, c, g.sized)
+  | at_other old n l ↦ omega (arith, ap (λ m. m.first) l, ap (λ m. m.count) l, w.within j old, g.sized)
+  | at_child from c f p t ↦ omega (arith, c, f)
+]
+
+-- a child of another node of the old tree was its child there
+old-child : (links : List Link) (new : List Link) (j m : ℕ) → link_at new j ≡ link_at links j → IsChild (link_at new j) m → IsChild (link_at links j) m
+old-child links new j m l child = let P : Link → Type 0 = λ k. IsChild k m in subst P l child
+
+-- the kinds and the parents of a node's children in the grown tree
+record ChildSays (new : List Link) (j m : ℕ) : Type 0 where
+  parent : (link_at new m).parent ≡ j
+  kind : (link_at new m).kind ≡ other_kind (link_at new j).kind
+
+child-says : (links : List Link) (i count : ℕ) (new : List Link) → IsLinked links → i < length links → IsGrown links i count new → (j m : ℕ) → j < length new → IsChild (link_at new j) m → ChildSays new j m
+child-says links i count new w h g j m k child = elim (place links i count new j g k) [
+  | at_leaf q f c ↦
+      let l : link_at new m ≡ leaf_link (other_kind (link_at links i).kind) i = g.leaves m (omega (arith, f, child.from_first)) (omega (arith, f, c, child.below_end)) in
+      record {
+        parent = ap (λ v. v.parent) l ∙ sym q;
+        kind = ap (λ v. v.kind) l ∙ ap other_kind (sym (ap (λ v. (link_at new v).kind) q ∙ ap (λ v. v.kind) g.here));
+      }
+  | at_other old n l ↦
+      let was : IsChild (link_at links j) m = old-child links new j m l child in
+      let inside : m < length links = omega (arith, was.below_end, w.within j old) in
+      record {
+        parent = old-parent links i count new m g inside ∙ w.parents j m old was;
+        kind = old-kind links i count new m g inside ∙ (w.kinds j m old was ∙ ap (λ v. other_kind v.kind) (sym l));
+      }
+  | at_child from c f p t ↦ absurd (omega (arith, c, f, child.from_first, child.below_end))
+]
+
+children-grown : (links : List Link) (i count : ℕ) (new : List Link) → IsLinked links → i < length links → (link_at links i).count ≡ 0 → IsGrown links i count new → (j : ℕ) → 0 < j → j < length new → IsChild (link_at new (link_at new j).parent) j
+children-grown links i count new w h z g j b k = elim (cases_lt j (length links)) [
+  | inl old ↦
+      let up : ℕ = (link_at links j).parent in
+      let was : IsChild (link_at links up) j = w.children j b old in
+      let inside : up < length links = omega (arith, w.parent_first j b old) in
+      let n : up ≢ i = λ q. omega (arith, was.from_first, was.below_end, ap (λ v. (link_at links v).count) q, z) in
+      let P : Link → Type 0 = λ v. IsChild v j in
+      subst P (sym (ap (link_at new) (old-parent links i count new j g old) ∙ g.others up inside n)) was
+  | inr from ↦
+      let l : link_at new j ≡ leaf_link (other_kind (link_at links i).kind) i = g.leaves j from (omega (arith, g.sized)) in
+      let P : Link → Type 0 = λ v. IsChild v j in
+      subst P (sym (ap (λ v. link_at new v.parent) l ∙ g.here)) (record { from_first = from; below_end = omega (arith, g.sized) })
+]
+
+first-grown : (links : List Link) (i count : ℕ) (new : List Link) → IsLinked links → i < length links → IsGrown links i count new → (j : ℕ) → 0 < j → j < length new → (link_at new j).parent < j
+first-grown links i count new w h g j b k = elim (cases_lt j (length links)) [
+  | inl old ↦ omega (arith, old-parent links i count new j g old, w.parent_first j b old)
+  | inr from ↦ omega (arith, ap (λ v. v.parent) (g.leaves j from (omega (arith, g.sized))))
+]
+
+pub linked-grown : (links : List Link) (i count : ℕ) → IsLinked links → i < length links → (link_at links i).count ≡ 0 → IsLinked (grown_links links i count)
+linked-grown links i count w h z =
+    let new : List Link = grown_links links i count in
+    let g : IsGrown links i count new = grown links i count h in
+    record {
+      some = omega (arith, g.sized, w.some);
+      root_attacks = old-kind links i count new 0 g w.some ∙ w.root_attacks;
+      root_parent = old-parent links i count new 0 g w.some ∙ w.root_parent;
+      later = later-grown links i count new w h g;
+      within = within-grown links i count new w g;
+      parents = λ j m k child. (child-says links i count new w h g j m k child).parent;
+      kinds = λ j m k child. (child-says links i count new w h g j m k child).kind;
+      children = children-grown links i count new w h z g;
+      parent_first = first-grown links i count new w h g;
+    }
+
+-- the children of an old node stand among the old numbers
+old-children : (link : Link) (numbers more : List Numbers) → link.first + link.count ≤ length numbers → children_of link (numbers ++ more) ≡ children_of link numbers
+old-children link numbers more h =
+    ap (take link.count) (drop-append-le link.first numbers more (omega arith)) ∙ take-append-le link.count (drop link.first numbers) more (omega (arith, length-drop link.first numbers))
+
+each-grown : (links : List Link) (numbers more : List Numbers) → length numbers ≡ length links → ((j : ℕ) → j < length links → AreNumbers (numbers_at numbers j)) → All AreNumbers more → (j : ℕ) → j < length links + length more → AreNumbers (numbers_at (numbers ++ more) j)
+each-grown links numbers more s each good j h = elim (cases_lt j (length links)) [
+  | inl old ↦ subst AreNumbers (sym (get_or_append_left numbers more no_numbers j (omega (arith, s)))) (each j old)
+  | inr from ↦ subst AreNumbers (sym (get_or-append_right numbers more (length links) j no_numbers s from)) (good (j - length links) no_numbers (omega arith))
+]
+
+-- once leaf i has children, its own numbers alone are left
+pub right-grown : (links : List Link) (numbers more : List Numbers) (i : ℕ) → IsLinked links → IsNumbered links numbers → i < length links → (link_at links i).count ≡ 0 → 0 < length more → All AreNumbers more → ((kind : Kind) → leaf_sum kind (grown_links links i (length more)) (numbers ++ more) < INFINITE) → IsRightBut (grown_links links i (length more)) (numbers ++ more) i
+right-grown links numbers more i w r h z some good sums =
+    let count : ℕ = length more in
+    let new : List Link = grown_links links i count in
+    let g : IsGrown links i count new = grown links i count h in
+    record {
+      count = omega (arith, length-append numbers more, g.sized, r.count);
+      has_children = omega (arith, ap (λ l. l.count) g.here);
+      each = λ j k. each-grown links numbers more r.count r.each good j (omega (arith, g.sized));
+      combined_at = λ j k n. elim (place links i count new j g k) [
+        | at_leaf q f c ↦ absurd (n q)
+        | at_other old m l ↦ λ b.
+            get_or_append_left numbers more no_numbers j (omega (arith, r.count))
+            ∙ (r.combined_at j old (omega (arith, ap (λ v. v.count) l))
+            ∙ (ap (combined (link_at links j).kind) (sym (old-children (link_at links j) numbers more (omega (arith, r.count, w.within j old))))
+            ∙ ap (λ v. combined v.kind (children_of v (numbers ++ more))) (sym l)))
+        | at_child from c f p t ↦ λ b. absurd (omega (arith, b, c))
+      ];
+      sums = sums;
+    }
+
+pub grown-length : (links : List Link) (i count : ℕ) → i < length links → length (grown_links links i count) ≡ length links + count
+grown-length links i count h = (grown links i count h).sized
+
+pub grown-count : (links : List Link) (i count : ℕ) → i < length links → (link_at (grown_links links i count) i).count ≡ count
+grown-count links i count h = ap (λ l. l.count) (grown links i count h).here
+
+-- numbers that are 0 and infinity count nothing
+pub settled-nothing : (x : Numbers) → is_settled x ≡ true → CountNothing x
+settled-nothing x h = record { good = inl h; nothing = none }
+  where
+    none : (kind : Kind) → finite (sought kind x) ≡ 0
+    none Attack = elim (settled-pair x.proof x.disproof h) [ inl q ↦ omega (arith, finite-le x.proof, q.0) | inr q ↦ finite-infinite x.proof q.0 ]
+    none Defend = elim (settled-pair x.proof x.disproof h) [ inl q ↦ finite-infinite x.disproof q.1 | inr q ↦ omega (arith, finite-le x.disproof, q.1) ]
+
+pub settled_numbers-settled : (b : Bool) → is_settled (settled_numbers b) ≡ true
+settled_numbers-settled true = refl
+settled_numbers-settled false = refl
+
+-- the way up
+
+ancestor-le : (links : List Link) (i steps : ℕ) → IsLinked links → i < length links → ancestor links steps i ≤ i
+ancestor-le links i zero w h = omega arith
+ancestor-le links i (suc steps) w h =
+    let a : ℕ = ancestor links steps i in
+    let le : a ≤ i = ancestor-le links i steps w h in
+    elim (cases_eq a 0) [
+      | inl e ↦ omega (arith, ap (λ k. (link_at links k).parent) e, w.root_parent)
+      | inr n ↦ omega (arith, le, w.parent_first a (omega arith) (omega arith))
+    ]
+
+ancestor-parent : (links : List Link) (i steps : ℕ) → ancestor links steps (link_at links i).parent ≡ ancestor links (suc steps) i
+ancestor-parent links i zero = refl
+ancestor-parent links i (suc steps) = ap (λ k. (link_at links k).parent) (ancestor-parent links i steps)
+
+pub not-above : (links : List Link) (i : ℕ) → IsLinked links → 0 < i → i < length links → IsOnWayUp links (link_at links i).parent i → ⊥
+not-above links i w b h on =
+    let up : (link_at links i).parent < i = w.parent_first i b h in
+    absurd (omega (arith, up, on.1, ancestor-le links (link_at links i).parent on.0 w (omega (arith, up, h))))
+
+pub above-parent : (links : List Link) (i j : ℕ) → IsOnWayUp links (link_at links i).parent j → IsOnWayUp links i j
+above-parent links i j on = (suc on.0, sym (ancestor-parent links i on.0) ∙ on.1)
+
+-- the numbers of the other nodes, named in other words
+pub others-moved : (links links' : List Link) (i i' : ℕ) (old old' new new' : List Numbers) → links ≡ links' → i ≡ i' → old ≡ old' → new ≡ new' → OthersStay links i old new → OthersStay links' i' old' new'
+others-moved links links' i i' old old' new new' a b c d stay =
+    let A : List Link → Type 0 = λ v. OthersStay v i old new in
+    let B : ℕ → Type 0 = λ v. OthersStay links' v old new in
+    let C : List Numbers → Type 0 = λ v. OthersStay links' i' v new in
+    let D : List Numbers → Type 0 = λ v. OthersStay links' i' old' v in
+    subst D d (subst C c (subst B b (subst A a stay)))
+
+-- a slice of the whole list, written back
+pub written-back : (n : ℕ) (new old : List Numbers) → length new ≡ n → take n (new ++ drop (length new) old) ≡ new
+written-back n new old e = ap (λ k. take k (new ++ drop (length new) old)) (sym e) ∙ take-append_seam new (drop (length new) old)
+
+-- the links after the leaf is written and its children are there
+grown-by : (links longer : List Link) (i n len : ℕ) (link child : Link) → longer ≡ links ++ replicate n child → len ≡ length links → i < length links → link_at links i ≡ link → child ≡ leaf_link (other_kind link.kind) i → set longer i (record { kind = link.kind; parent = link.parent; first = len; count = n }) ≡ grown_links links i n
+grown-by links longer i n len link child a l h here c =
+    let own : Link = record { kind = link.kind; parent = link.parent; first = len; count = n } in
+    let own' : Link = record { kind = (link_at links i).kind; parent = (link_at links i).parent; first = length links; count = n } in
+    let child' : Link = leaf_link (other_kind (link_at links i).kind) i in
+    let e : own ≡ own' =
+    ap (λ v. let r : Link = record { kind = v.kind; parent = v.parent; first = len; count = n } in r) (sym here)
+    ∙ ap (λ v. let r : Link = record { kind = (link_at links i).kind; parent = (link_at links i).parent; first = v; count = n } in r) l in
+    let d : child ≡ child' = c ∙ ap (λ v. leaf_link (other_kind v.kind) i) (sym here) in
+    ap (λ v. set v i own) a
+    ∙ (set-append_left links (replicate n child) i own h
+    ∙ (ap (λ v. set links i v ++ replicate n child) e
+    ∙ ap (λ v. set links i own' ++ replicate n v) d))
+
+-- a tree after its leaf is given children, before the numbers are brought up to date
+pub record IsExpanded (t : Tree) (more : List Numbers) (links : List Link) (numbers : List Numbers) (leaf : ℕ) : Type 0 where
+  pub linked : IsLinked links
+  pub right : IsRightBut links numbers leaf
+  pub inside : leaf < length links
+  pub sized : length links ≡ length t.links + length more
+  pub links_are : links ≡ grown_links t.links leaf (length more)
+  pub numbers_are : numbers ≡ t.numbers ++ more
+
+expanded : (t : Tree) (more : List Numbers) (links : List Link) (numbers : List Numbers) (leaf : ℕ) → IsTree t → leaf < length t.links → (link_at t.links leaf).count ≡ 0 → 0 < length more → All AreNumbers more → ((kind : Kind) → leaf_sum kind (grown_links t.links leaf (length more)) (t.numbers ++ more) < INFINITE) → links ≡ grown_links t.links leaf (length more) → numbers ≡ t.numbers ++ more → IsExpanded t more links numbers leaf
+expanded t more links numbers leaf w h z some good sums l n =
+    let new : List Link = grown_links t.links leaf (length more) in
+    let size : length new ≡ length t.links + length more = grown-length t.links leaf (length more) h in
+    let here : IsExpanded t more new (t.numbers ++ more) leaf =
+    record {
+      linked = linked-grown t.links leaf (length more) w.linked h z;
+      right = right-grown t.links t.numbers more leaf w.linked w.numbered h z some good sums;
+      inside = omega (arith, size, h);
+      sized = size;
+      links_are = refl;
+      numbers_are = refl;
+    } in
+    let A : List Link → Type 0 = λ v. IsExpanded t more v (t.numbers ++ more) leaf in
+    let B : List Numbers → Type 0 = λ v. IsExpanded t more links v leaf in
+    subst B (sym n) (subst A (sym l) here)
+
+-- the same by the steps of the code: the leaf's link is read, leaves are added to both lists, and the link is written
+pub expanded-by : (t inside : Tree) (leaf len : ℕ) (link : Link) (kind : Kind) (more : List Numbers) (longer links : List Link) (numbers : List Numbers) → inside ≡ t → IsTree inside → leaf ≡ most_proving t → leaf < length t.links → (link_at t.links leaf).count ≡ 0 → 0 < length more → All AreNumbers more → ((k : Kind) → leaf_sum k (grown_links t.links (most_proving t) (length more)) (t.numbers ++ more) < INFINITE) → link ≡ get_or inside.links leaf link → len ≡ length inside.links → kind ≡ other_kind link.kind → longer ≡ inside.links ++ replicate (length more) (leaf_link kind leaf) → links ≡ set longer leaf (record { kind = link.kind; parent = link.parent; first = len; count = length more }) → numbers ≡ inside.numbers ++ more → IsExpanded t more links numbers leaf
+expanded-by t inside leaf len link kind more longer links numbers view tree leaf-is h z some good sums read len-is kind-is longer-is links-is numbers-is =
+    let child : Link = leaf_link kind leaf in
+    let L : inside.links ≡ t.links = ap (λ v. v.links) view in
+    let N : inside.numbers ≡ t.numbers = ap (λ v. v.numbers) view in
+    let here : link_at t.links leaf ≡ link = ap (λ v. link_at v leaf) (sym L) ∙ read-at inside.links leaf (leaf_link Attack 0) link (omega (arith, ap length L, h)) read in
+    let S : ℕ → Type 0 = λ v. (k : Kind) → leaf_sum k (grown_links t.links v (length more)) (t.numbers ++ more) < INFINITE in
+    expanded t more links numbers leaf (subst IsTree view tree) h z some good (subst S (sym leaf-is) sums)
+    (links-is ∙ grown-by t.links longer leaf (length more) len link child (longer-is ∙ ap (λ v. v ++ replicate (length more) child) L) (len-is ∙ ap length L) h here (ap (λ v. leaf_link v leaf) kind-is))
+    (numbers-is ∙ ap (λ v. v ++ more) N)
+
+-- the children of a leaf are not above it, so they have the numbers that they were given
+pub child-stays : (links : List Link) (leaf len j : ℕ) (numbers more new : List Numbers) → IsLinked links → leaf < len → len ≤ length links → length numbers ≡ len → OthersStay links leaf (numbers ++ more) new → numbers_at new (len + j) ≡ numbers_at more j
+child-stays links leaf len j numbers more new w h k s stay =
+    let off : IsOnWayUp links leaf (len + j) → ⊥ = λ on. absurd (omega (arith, on.1, ancestor-le links leaf on.0 w (omega arith))) in
+    let e : len + j - len ≡ j = omega arith in
+    stay (len + j) off ∙ (get_or-append_right numbers more len (len + j) no_numbers s (omega arith) ∙ ap (λ v. numbers_at more v) e)

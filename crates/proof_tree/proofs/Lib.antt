@@ -1,0 +1,10 @@
+-- The laws of the tree. What is declared by `pub mod` the layers above may cite; the rest serves this crate alone.
+
+-- what a node has of its children, sums over leaves, numbers brought up to date, the walk, and a leaf that is settled or expanded
+mod Combined
+mod LeafSums
+mod Updated
+mod Walks
+mod Changed
+-- how the sum over the leaves goes on when the tree grows
+pub mod SumLaws
