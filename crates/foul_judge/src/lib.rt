@@ -18,5 +18,6 @@ mod tests;
 pub use any_position::AnyPosition;
 pub use foul::foul_at;
 pub use game_rules::{Foul, Outcome};
+pub use outcome::{mover, outcome_at};
 pub use position::{Position, PositionError};
 pub use seen::Seen;

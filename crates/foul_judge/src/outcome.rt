@@ -11,7 +11,7 @@ use row_shapes::{Rule, five_at};
 use stone_board::{Board, Point, Side};
 
 /// The side to move, by the counts.
-pub(crate) fn mover(board: &Board) -> Side
+pub fn mover(board: &Board) -> Side
     ensures mover { result ≡ mover_lem board.now }
 {
     if board.count(Side::Black) == board.count(Side::White) {
@@ -23,7 +23,7 @@ pub(crate) fn mover(board: &Board) -> Side
 
 /// The outcome of a move of the side to move. The board is as before.
 #[tactic(auto, unfolding(game_rules::specs::Play::outcome))]
-pub(crate) fn outcome_at<R: Rule>(board: &mut Board, p: Point) -> Outcome
+pub fn outcome_at<R: Rule>(board: &mut Board, p: Point) -> Outcome
     ensures outcome { result ≡ outcome_lem R.KIND board.old p }
     ensures same { board.new ≡ board.old }
 {

@@ -1,7 +1,7 @@
 //! A lawful position under a rule.
 #![tactic(auto)]
 
-ghost use Rattle.std.specs.Prelude.{◌≡◌, ◌↔◌, IsTrue, Some, IfOk, IfErr, IsOk};
+ghost use Rattle.std.specs.Prelude.{◌≡◌, ◌↔◌, IsTrue, Some, None, IfOk, IfErr, IsOk};
 ghost use Rattle.std.specs.List.{find};
 ghost use Rattle.game_rules.specs.Grid.{IsBoard, points_of};
 ghost use Rattle.game_rules.specs.Play.{IsPosition};
@@ -50,6 +50,7 @@ impl<R: Rule> Position<R> {
     pub fn from_board(board: Board) -> Result<Position<R>, (PositionError, Board)>
         ensures ok { IfOk result (λ p. p ≡ board) }
         ensures lawful { IsOk result ↔ IsPosition R.KIND board }
+        ensures unrefused { IsOk result → refusal R.KIND board ≡ None }
         ensures refused { IfErr result (λ e. refusal R.KIND board ≡ Some e.0) }
         ensures returned { IfErr result (λ e. e.1 ≡ board) }
     {

@@ -171,9 +171,6 @@ module _ (rule : RuleKind) (b : Grid) (depth budget left d : ℕ) (l : d < depth
     pub win-here : wins_by_fours rule (d + 1) b ≡ true
     win-here = (found-win rule (d + 1) b left rest line found).1
 
-    pub win-line : line ≡ four_line rule (d + 1) b
-    win-line = (found-win rule (d + 1) b left rest line found).2
-
     pub win-cost : four_cost rule depth b ≤ budget
     win-cost =
         let fits = (found-win rule (d + 1) b left rest line found).0 in
@@ -183,9 +180,6 @@ module _ (rule : RuleKind) (b : Grid) (depth budget left d : ℕ) (l : d < depth
 
     pub win-depth : wins_by_fours rule depth b ≡ true
     win-depth = wins-more rule (d + 1) depth b (omega arith) win-here
-
-    pub win-fewest : least_moves rule depth b ≡ Some (d + 1)
-    win-fewest = least-win rule b depth d l none win-here
 
   pub cost-above : Spent ≡ found_at rule (d + 1) b left → budget < four_cost rule depth b
   cost-above found =

@@ -1,13 +1,7 @@
 -- Growth in steps.
-use Rattle.std.proofs.Common.{◌≡◌, ℕ, ◌+◌, ◌≤◌, List, [], ◌∷◌, ◌++◌, refl, sym, ap, ◌∙◌, arith, length, append_assoc, length-append}
+use Rattle.std.proofs.Common.{◌≡◌, ℕ, ◌+◌, ◌≤◌, List, ◌++◌, ap, ◌∙◌, arith, length, append_assoc, length-append}
 use Rattle.strategy_graph.specs.declared.Node.{Node}
 use Rattle.four_search.specs.Growth.{GrowsBy}
-
-pub grows-none : (t : List Node) (k : ℕ) → GrowsBy t t k
-grows-none t k = record { added = []; is = sym (append_nil t); few = omega arith } where
-  append_nil : (t : List Node) → t ++ [] ≡ t
-  append_nil [] = refl
-  append_nil (n ∷ t) = ap (λ (u : List Node). n ∷ u) (append_nil t)
 
 pub grows-then : (a b c : List Node) (j k m : ℕ) → GrowsBy a b j → GrowsBy b c k → j + k ≤ m → GrowsBy a c m
 grows-then a b c j k m f g l = record {
@@ -18,9 +12,6 @@ grows-then a b c j k m f g l = record {
 
 pub grows-length : (a b : List Node) (k : ℕ) → GrowsBy a b k → length b ≤ length a + k
 grows-length a b k f = let x = f.few in let e : length b ≡ length a + length f.added = ap length f.is ∙ length-append a f.added in omega (arith, x, e)
-
-pub grows-at_least : (a b : List Node) (k : ℕ) → GrowsBy a b k → length a ≤ length b
-grows-at_least a b k f = let e : length b ≡ length a + length f.added = ap length f.is ∙ length-append a f.added in omega (arith, e)
 
 pub grows-more : (a b : List Node) (j m : ℕ) → GrowsBy a b j → j ≤ m → GrowsBy a b m
 grows-more a b j m f l = record { added = f.added; is = f.is; few = let x = f.few in omega (arith, x, l) }

@@ -1,5 +1,5 @@
--- The laws of the four search. No layer above needs one: what a search finds is said by the clauses of `four_search`, and what
--- is made of it by those of the compiler.
+-- The laws of the four search. What a search finds is said by the clauses of `four_search`, and what is made of it by those of the
+-- compiler. What is declared by `pub mod` the layers above may cite; the rest serves this crate alone.
 
 -- the game of fours, position by position, and the search of it
 mod Trying
@@ -13,3 +13,5 @@ mod Growing
 mod Naming
 mod Sums
 mod Written
+-- one move of a win by fours, and the node that stands for its plan
+pub mod Following

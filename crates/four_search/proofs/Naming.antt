@@ -1,9 +1,8 @@
 -- What a node names are the answers to the replies of its tree.
-use Rattle.std.proofs.Common.{◌≡◌, ℕ, ◌≤◌, Bool, true, false, cond, ◌&&◌, ◌||◌, not, refl, sym, ap, subst, ◌∙◌, arith, List, [], ◌∷◌, ◌++◌, map, nat_lt, nat_eq}
+use Rattle.std.proofs.Common.{◌≡◌, ℕ, ◌≤◌, Bool, true, false, cond, ◌||◌, not, refl, sym, ap, subst, ◌∙◌, arith, List, [], ◌∷◌, ◌++◌, map, nat_eq}
 use Rattle.std.specs.Prelude.{Option, Some, None}
 use Rattle.std.specs.Option.{option_or, option_map, option_eq}
 use Rattle.std.specs.List.{list_any, list_all, find, cons_option, filter, filter_map, AllByRecursion}
-use Rattle.std.proofs.lemmas.Bool.Decides.{nat_tests}
 use Rattle.game_rules.specs.Shapes.{is_same_point}
 use Rattle.game_rules.specs.declared.Outcome.{Outcome}
 use Rattle.game_rules.specs.declared.Outcome.TheVariants.{Refused, Wins as WinsNow, Fouls, Draws, GoesOn}
@@ -16,6 +15,7 @@ use Rattle.strategy_graph.specs.declared.Rest.{Rest}
 use Rattle.strategy_graph.specs.declared.Rest.TheVariants.{Wins, To, Nothing}
 use Rattle.strategy_graph.specs.Tables.{Answers, listed_node, answer, rest_node, rest_nodes, named, precedes, is_rising, greatest}
 use Rattle.strategy_graph.specs.Acceptance.{Answered}
+use Rattle.strategy_graph.proofs.Rising.{precedes-differs}
 use Rattle.strategy_compiler.specs.Trees.{Tree, StandsFor, StandsForAll, AnswersBriefly, replies_of, commonest, answers_to}
 use Rattle.four_search.specs.Plans.{branch_if, branches_for}
 
@@ -72,26 +72,10 @@ greatest-all d k (j ∷ js) a = let low = a.0 in let rest = greatest-all d k js 
 
 -- ---- listed replies
 
-not_same : (p q : Point) → precedes p q ≡ true → is_same_point p q ≡ false
-not_same p q h = by_test (is_same_point p q) refl where
-  by_test : (r : Bool) → is_same_point p q ≡ r → r ≡ false
-  by_test false e = refl
-  by_test true e =
-      let x : p.x ≡ q.x = ap (λ (z : Point). z.x) (is_same_point-same p q e) in
-      let y : p.y ≡ q.y = ap (λ (z : Point). z.y) (is_same_point-same p q e) in
-      let a : nat_lt p.y q.y ≡ false = grind (arith, nat_tests) in
-      let c : nat_lt p.x q.x ≡ false = grind (arith, nat_tests) in
-      let none : precedes p q ≡ false = none_of (nat_lt p.y q.y) (nat_eq p.y q.y) (nat_lt p.x q.x) a c in
-      let bad : false ≡ true = sym none ∙ h in cc where
-        none_of : (a e c : Bool) → a ≡ false → c ≡ false → (a || (e && c)) ≡ false
-        none_of true e c h k = cc
-        none_of false true c h k = k
-        none_of false false c h k = refl
-
 listed_later : (s : Reply) (rs ts : List Reply) → list_all (λ r. precedes s.at r.at) rs ≡ true → AllByRecursion (λ r. listed_node ts r.at ≡ Some r.next) rs → AllByRecursion (λ r. listed_node (s ∷ ts) r.at ≡ Some r.next) rs
 listed_later s [] ts all h = tt
 listed_later s (r ∷ rs) ts all h = (
-  ap (λ b. option_map (λ (u : Reply). u.next) (cond b (Some s) (find (λ u. is_same_point u.at r.at) ts))) (not_same s.at r.at (and_left _ _ all)) ∙ h.0,
+  ap (λ b. option_map (λ (u : Reply). u.next) (cond b (Some s) (find (λ u. is_same_point u.at r.at) ts))) (precedes-differs s.at r.at (and_left _ _ all)) ∙ h.0,
   listed_later s rs ts (and_right (precedes s.at r.at) _ all) h.1,
 )
 

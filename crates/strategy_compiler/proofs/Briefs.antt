@@ -11,6 +11,7 @@ use Rattle.std.proofs.lemmas.Result.{IfOk-weaker}
 use Rattle.game_rules.specs.Shapes.{is_same_point}
 use Rattle.game_rules.specs.declared.Point.{Point}
 use Rattle.game_rules.proofs.Boards.{and_left, and_right}
+use Rattle.game_rules.proofs.Points.{is_same_point-itself}
 use Rattle.strategy_graph.specs.declared.Reply.{Reply}
 use Rattle.strategy_graph.specs.declared.Rest.TheVariants.{Wins}
 use Rattle.strategy_graph.specs.declared.Node.{Node}
@@ -77,9 +78,6 @@ IsNode-winning attack k = record { below = refl; rising = refl; winning = λ e. 
 
 -- ---- the answer to each reply
 
-same_point-itself : (p : Point) → is_same_point p p ≡ true
-same_point-itself p = rw ((Decides-eqb p.x p.x).1 refl, (Decides-eqb p.y p.y).1 refl) refl
-
 listed-later : (q : Reply → Bool) (p : Point) (rs : List Reply) → list_all (λ s. precedes p s.at) rs ≡ true → listed_node (filter q rs) p ≡ None
 listed-later q p [] h = refl
 listed-later q p (r ∷ rs) h = by_test (q r) (listed-later q p rs (and_right (precedes p r.at) _ h)) where
@@ -91,7 +89,7 @@ listed-later q p (r ∷ rs) h = by_test (q r) (listed-later q p rs (and_right (p
 listed-first : (q : Reply → Bool) (r : Reply) (rs : List Reply) → list_all (λ s. precedes r.at s.at) rs ≡ true → listed_node (filter q (r ∷ rs)) r.at ≡ cond (q r) (Some r.next) None
 listed-first q r rs h = by_test (q r) where
   by_test : (b : Bool) → listed_node (cond b (r ∷ filter q rs) (filter q rs)) r.at ≡ cond b (Some r.next) None
-  by_test true = ap (λ (b : Bool). option_map (λ r. r.next) (cond b (Some r) (find (λ s. is_same_point s.at r.at) (filter q rs)))) (same_point-itself r.at)
+  by_test true = ap (λ (b : Bool). option_map (λ r. r.next) (cond b (Some r) (find (λ s. is_same_point s.at r.at) (filter q rs)))) (is_same_point-itself r.at)
   by_test false = listed-later q r.at rs h
 
 listed-skips : (q : Reply → Bool) (r : Reply) (rs : List Reply) (p : Point) → precedes r.at p ≡ true → listed_node (filter q (r ∷ rs)) p ≡ listed_node (filter q rs) p

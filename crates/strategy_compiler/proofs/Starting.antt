@@ -3,6 +3,7 @@ use Rattle.std.proofs.Common.{◌≡◌, inl, inr, ℕ, zero, suc, ◌≤◌, �
 use Rattle.std.specs.Prelude.{◌↔◌, Option, Some, None, IsSome, All, Contains, nat_lt, slice_index}
 use Rattle.std.specs.List.{list_all, find, AllByRecursion, sum_by}
 use Rattle.std.specs.Option.{option_map, option_or}
+use Rattle.std.proofs.lemmas.Bool.{or_right}
 use Rattle.std.proofs.lemmas.Bool.Decides.{Decides-eqb}
 use Rattle.std.proofs.lemmas.List.Folds.{list_all-append}
 use Rattle.std.proofs.lemmas.List.Elements.{All-cons, All-nil, All-from_recursion, Contains-append_left, Contains-append_cases}
@@ -15,6 +16,7 @@ use Rattle.game_rules.specs.declared.Outcome.{Outcome}
 use Rattle.game_rules.specs.declared.Outcome.TheVariants.{Refused, Wins as WinsNow, Fouls, Draws, GoesOn}
 use Rattle.game_rules.specs.declared.Point.{Point}
 use Rattle.game_rules.proofs.Boards.{and_left, and_right}
+use Rattle.game_rules.proofs.Points.{is_same_point-same}
 use Rattle.strategy_graph.specs.declared.Node.{Node}
 use Rattle.strategy_graph.specs.declared.Reply.{Reply}
 use Rattle.strategy_graph.specs.declared.Rest.{Rest}
@@ -47,10 +49,7 @@ in-list-contains (x ∷ xs) j h = by_test (x == j) refl h (in-list-contains xs j
 contains-in-list : (js : List ℕ) (j : ℕ) → Contains js j → is_in_list j js ≡ true
 contains-in-list [] j (k, l, e) = absurd (omega arith)
 contains-in-list (x ∷ xs) j (zero, l, e) = ap (λ (b : Bool). b || is_in_list j xs) ((Decides-eqb x j).1 e)
-contains-in-list (x ∷ xs) j (suc k, l, e) = or_true (x == j) (is_in_list j xs) (contains-in-list xs j (k, omega arith, e)) where
-  or_true : (a b : Bool) → b ≡ true → (a || b) ≡ true
-  or_true true b h = refl
-  or_true false b h = h
+contains-in-list (x ∷ xs) j (suc k, l, e) = or_right (x == j) (is_in_list j xs) (contains-in-list xs j (k, omega arith, e))
 
 -- all of some numbers are among others where each of these is
 all-in-list : (js : List ℕ) → list_all (λ k. is_in_list k js) js ≡ true
@@ -81,18 +80,12 @@ greatest-same d js ks inside outside =
 
 -- ---- answers in brief, and alone
 
-same_point : (p q : Point) → is_same_point p q ≡ true → p ≡ q
-same_point p q h =
-    let x : p.x ≡ q.x = (Decides-eqb p.x q.x).0 (and_left (p.x == q.x) (p.y == q.y) h) in
-    let y : p.y ≡ q.y = (Decides-eqb p.y q.y).0 (and_right (p.x == q.x) (p.y == q.y) h) in
-    λ i. record { x = x i; y = y i }
-
 -- a reply that is listed is answered as given
 listed-given : (a : Answers) (rs : List Reply) (q : Point) (j : ℕ) → AnsweredAsGiven a rs → listed_node rs q ≡ Some j → answer a q ≡ Some j
 listed-given a [] q j given e = cc
 listed-given a (r ∷ rs) q j given e = by_test (is_same_point r.at q) refl e (listed-given a rs q j given.1) where
   by_test : (b : Bool) → is_same_point r.at q ≡ b → option_map (λ r. r.next) (cond b (Some r) (find (λ r. is_same_point r.at q) rs)) ≡ Some j → (listed_node rs q ≡ Some j → answer a q ≡ Some j) → answer a q ≡ Some j
-  by_test true same e next = ap (answer a) (sym (same_point r.at q same)) ∙ given.0 ∙ e
+  by_test true same e next = ap (answer a) (sym (is_same_point-same r.at q same)) ∙ given.0 ∙ e
   by_test false same e next = next e
 
 or_none : (o : Option ℕ) → option_or o None ≡ o

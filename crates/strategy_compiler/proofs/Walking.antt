@@ -11,6 +11,7 @@ use Rattle.std.proofs.Math.ListN.{set, drop_of_length-le, length-set}
 use Rattle.std.proofs.lemmas.List.{get_or-set_same, get_or-set_other, length-replicate, reverse-append}
 use Rattle.std.proofs.lemmas.List.Sums.{sum_by-set}
 use Rattle.std.proofs.lemmas.List.Folds.{sum_by-replicate}
+use Rattle.std.proofs.lemmas.Bool.{or_right}
 use Rattle.std.proofs.lemmas.Bool.Decides.{Decides-eqb}
 use Rattle.game_rules.proofs.Boards.{and_left, and_right}
 use Rattle.strategy_graph.specs.declared.Node.{Node}
@@ -148,10 +149,7 @@ at-push (z ∷ xs) x y (suc k) e = elim (at-push xs x y k e) [ inl h ↦ inl h |
 pub among-at : (order : List ℕ) (k i : ℕ) → slice_get order k ≡ Some i → is_in_list i order ≡ true
 among-at [] k i e = cc
 among-at (x ∷ xs) zero i e = let same : x ≡ i = same_Some x i e in ap (λ (b : Bool). b || is_in_list i xs) ((Decides-eqb x i).1 same)
-among-at (x ∷ xs) (suc k) i e = or_true (x == i) (is_in_list i xs) (among-at xs k i e) where
-  or_true : (a b : Bool) → b ≡ true → (a || b) ≡ true
-  or_true true b h = refl
-  or_true false b h = h
+among-at (x ∷ xs) (suc k) i e = or_right (x == i) (is_in_list i xs) (among-at xs k i e)
 
 module _ (t : List Node) (order : List ℕ) (x : ℕ) (is_order : IsOrder t order) (inside : x < length t) (new : is_in_list x order ≡ false) (room : length (order ++ x ∷ []) ≤ length t) (named_before : (n : Node) (j : ℕ) → slice_get t x ≡ Some n → Contains (named (answers_of n)) j → is_in_list j order ≡ true) where
   not_before : (k : ℕ) → slice_get order k ≡ Some x → ⊥

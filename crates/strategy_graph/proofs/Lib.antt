@@ -20,3 +20,5 @@ pub mod Steps
 -- games end well; one step of a game
 mod Endings
 mod Plays
+-- one move on from an accepted node or start
+pub mod Following

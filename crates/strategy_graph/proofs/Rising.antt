@@ -4,12 +4,13 @@ use Rattle.std.specs.Prelude.{nat_lt, Some, None}
 use Rattle.std.specs.List.{list_all, filter}
 use Rattle.std.proofs.lemmas.List.Sums.{AllPass-from_list_all}
 use Rattle.std.proofs.Math.ListN.{drop_of_length-le}
-use Rattle.std.proofs.lemmas.Bool.Decides.{nat_tests, Decides-eqb}
+use Rattle.std.proofs.lemmas.Bool.Decides.{nat_tests}
 use Rattle.game_rules.specs.Shapes.{is_same_point}
 use Rattle.game_rules.specs.declared.Point.{Point}
 use Rattle.strategy_graph.specs.declared.Reply.{Reply}
 use Rattle.strategy_graph.specs.Tables.{precedes, is_rising, listed_node}
 use Rattle.game_rules.proofs.Boards.{and_left, and_right}
+use Rattle.game_rules.proofs.Points.{is_same_point-itself}
 
 -- each reply comes after the one before it, and the first after p
 abbrev pub climbs : Point → List Reply → Bool
@@ -59,9 +60,6 @@ precedes-differs_back p q h = back_by p.x p.y q.x q.y h where
   back_by : (a b c d : ℕ) → (nat_lt b d || (b == d && nat_lt a c)) ≡ true → (c == a && d == b) ≡ false
   back_by a b c d h = grind (arith, nat_tests)
 
-same_point-itself : (p : Point) → is_same_point p p ≡ true
-same_point-itself p = rw ((Decides-eqb p.x p.x).1 refl, (Decides-eqb p.y p.y).1 refl) refl
-
 -- nothing is listed for a point before all of them, some of them left out or not
 none_listed : (f : Reply → Bool) (p : Point) (rs : List Reply) → list_all (λ s. precedes p s.at) rs ≡ true → listed_node (filter f rs) p ≡ None
 none_listed f p [] h = refl
@@ -77,7 +75,7 @@ after_head r rs k d h l = precedes-differs r.at (get_or rs k d).at (AllPass-from
 -- of rising replies, one that is kept is listed for its point
 pub listed-kept : (f : Reply → Bool) (rs : List Reply) (k : ℕ) (d : Reply) → is_rising rs ≡ true → k < length rs → f (get_or rs k d) ≡ true → listed_node (filter f rs) (get_or rs k d).at ≡ Some (get_or rs k d).next
 listed-kept f [] k d h l e = absurd (omega arith)
-listed-kept f (r ∷ rs) zero d h l e = rw (e, same_point-itself r.at) refl
+listed-kept f (r ∷ rs) zero d h l e = rw (e, is_same_point-itself r.at) refl
 listed-kept f (r ∷ rs) (suc k) d h l e =
     by_test (f r) (after_head r rs k d h (omega arith)) (listed-kept f rs k d (and_right (list_all (λ s. precedes r.at s.at) rs) _ h) (omega arith) e) where
       by_test : (b : Bool) → is_same_point r.at (get_or rs k d).at ≡ false → listed_node (filter f rs) (get_or rs k d).at ≡ Some (get_or rs k d).next → listed_node (cond b (r ∷ filter f rs) (filter f rs)) (get_or rs k d).at ≡ Some (get_or rs k d).next

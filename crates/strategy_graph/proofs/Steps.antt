@@ -4,7 +4,6 @@ use Rattle.std.proofs.Common.{◌≡◌, ℕ, suc, ◌+◌, ◌≤◌, Bool, tru
 use Rattle.std.specs.Prelude.{Option, Some, None, slice_get}
 use Rattle.std.specs.List.{All, list_any}
 use Rattle.std.proofs.lemmas.List.Sums.{sum_by-append}
-use Rattle.std.proofs.lemmas.Bool.Decides.{Decides-eqb}
 use Rattle.game_rules.specs.Grid.{Grid, is_on, points_of}
 use Rattle.game_rules.specs.Shapes.{is_same_point}
 use Rattle.game_rules.specs.Play.{outcome, after}
@@ -14,8 +13,7 @@ use Rattle.game_rules.specs.declared.Foul.{Foul}
 use Rattle.game_rules.specs.declared.Outcome.{Outcome}
 use Rattle.game_rules.specs.declared.Outcome.TheVariants.{Refused, Wins as WinsNow, Fouls, Draws, GoesOn}
 use Rattle.game_rules.specs.declared.Point.{Point}
-use Rattle.game_rules.proofs.Boards.{and_left, and_right}
-use Rattle.game_rules.proofs.Points.{points-found, off_refused}
+use Rattle.game_rules.proofs.Points.{points-found, off_refused, is_same_point-itself, is_same_point-same}
 use Rattle.strategy_graph.specs.declared.Rest.{Rest}
 use Rattle.strategy_graph.specs.declared.Rest.TheVariants.{Wins, To, Nothing}
 use Rattle.strategy_graph.specs.declared.Node.{Node}
@@ -127,27 +125,18 @@ module _ (rule : RuleKind) (t : List Node) (a : Answers) (c : Grid) (q : Point) 
 
 -- ---- over the replies so far
 
-same_point-is : (p q : Point) → is_same_point p q ≡ true → p ≡ q
-same_point-is p q h =
-    let x : p.x ≡ q.x = (Decides-eqb p.x q.x).0 (and_left (p.x == q.x) _ h) in
-    let y : p.y ≡ q.y = (Decides-eqb p.y q.y).0 (and_right (p.x == q.x) _ h) in
-    λ i. record { x = x i; y = y i }
-
-same_point-itself : (p : Point) → is_same_point p p ≡ true
-same_point-itself p = rw ((Decides-eqb p.x p.x).1 refl, (Decides-eqb p.y p.y).1 refl) refl
-
 found_all : (P : Point → Type 0) (q : Point) (xs : List Point) → All P xs → list_any (is_same_point q) xs ≡ true → P q
 found_all P q [] all h = cc
 found_all P q (x ∷ xs) all h = by_test (is_same_point q x) refl h (found_all P q xs (λ j d l. all (suc j) d (omega arith))) where
   by_test : (r : Bool) → is_same_point q x ≡ r → (r || list_any (is_same_point q) xs) ≡ true → (list_any (is_same_point q) xs ≡ true → P q) → P q
-  by_test true e k later = subst P (sym (same_point-is q x e)) (all 0 q (omega arith))
+  by_test true e k later = subst P (sym (is_same_point-same q x e)) (all 0 q (omega arith))
   by_test false e k later = later k
 
 -- once each point of the board is met as a reply, each reply is
 pub met-all : (rule : RuleKind) (t : List Node) (a : Answers) (c : Grid) → All (λ q. Meets rule a (Accepted rule t) c q) (points_of c) → (q : Point) → Meets rule a (Accepted rule t) c q
 met-all rule t a c all q = by_test (is_on c q) refl where
   by_test : (r : Bool) → is_on c q ≡ r → Meets rule a (Accepted rule t) c q
-  by_test true on = found_all (λ q. Meets rule a (Accepted rule t) c q) q (points_of c) all (points-found c (is_same_point q) q on (same_point-itself q))
+  by_test true on = found_all (λ q. Meets rule a (Accepted rule t) c q) q (points_of c) all (points-found c (is_same_point q) q on (is_same_point-itself q))
   by_test false off = met-no_move rule t a c q (off_refused rule c q off)
 
 -- one reply more

@@ -27,9 +27,11 @@ hashed_replies = slice (λ r. u8 r.at.x ++ u8 r.at.y ++ u32 r.next)
 same_reply_equiv : IsEquivalence same_reply
 same_reply_equiv = and_equiv (and_equiv (on_equiv (λ (r : Reply). r.at.x) nat_eq_equiv) (on_equiv (λ (r : Reply). r.at.y) nat_eq_equiv)) (on_equiv (λ (r : Reply). r.next) nat_eq_equiv)
 
+-- and so it is of lists
 pub same_replies_equiv : IsEquivalence same_replies
 same_replies_equiv = lists_equiv same_reply_equiv
 
+-- and what std asks of `==`
 pub same_replies_per : IsPartialEquivalence same_replies
 same_replies_per = partial_equiv_from_equiv same_replies_equiv
 
@@ -42,9 +44,11 @@ reply_from r s h =
     let next : r.next ≡ s.next = (Decides-eqb r.next s.next).0 (second_so (is_same_point r.at s.at) (r.next == s.next) h) in
     λ i. record { at = record { x = x i; y = y i }; next = next i }
 
+-- the test of replies decides whether they are equal
 same_reply_decides : (r s : Reply) → Decides (same_reply r s) (r ≡ s)
 same_reply_decides r s = (reply_from r s, λ e. subst (λ (v : Reply). same_reply r v ≡ true) e (same_reply_equiv.refl r))
 
+-- the test of lists decides whether they are equal
 pub same_replies_decides : (xs ys : List Reply) → Decides (same_replies xs ys) (xs ≡ ys)
 same_replies_decides = pointwise_decides same_reply_decides
 

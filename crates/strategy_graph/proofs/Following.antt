@@ -1,0 +1,62 @@
+-- One move on from an accepted node or start: its attack is a legal move, and the node that answers a reply is accepted where it
+-- leads, and is no deeper.
+use Rattle.std.proofs.Common.{◌≡◌, ℕ, zero, suc, ◌<◌, ◌≤◌, List, [], ◌∷◌, length, refl, ap, subst, ◌∙◌, arith}
+use Rattle.std.specs.Prelude.{Option, Some, None, slice_get}
+use Rattle.std.specs.Option.{option_map, option_and_then}
+use Rattle.game_rules.specs.Grid.{Grid}
+use Rattle.game_rules.specs.Play.{outcome, after}
+use Rattle.game_rules.specs.Games.{WinsOr, LosesOr}
+use Rattle.game_rules.proofs.Games.{WinsOr-map}
+use Rattle.game_rules.specs.declared.RuleKind.{RuleKind}
+use Rattle.game_rules.specs.declared.Outcome.{Outcome}
+use Rattle.game_rules.specs.declared.Outcome.TheVariants.{GoesOn}
+use Rattle.game_rules.specs.declared.Point.{Point}
+use Rattle.strategy_graph.specs.declared.Node.{Node}
+use Rattle.strategy_graph.specs.Tables.{Answers, answers_of, answer, answer_at, NamesLower, IsTable, depth, start_depth}
+use Rattle.strategy_graph.specs.Acceptance.{Answered, NotWinning, Meets, AcceptedNode, AcceptedWithin, Accepted}
+use Rattle.strategy_graph.proofs.Answering.{answer-greatest}
+use Rattle.strategy_graph.proofs.Fuel.{accepted-step}
+
+-- the nodes of a table name lower ones
+pub table-lower : (t : List Node) → IsTable t → NamesLower t
+table-lower t table = record { lower = λ i n at. (table.nodes i n at).below }
+
+-- ---- at a node
+
+inside : (t : List Node) (i : ℕ) (n : Node) → slice_get t i ≡ Some n → i < length t
+inside [] i n h = cc
+inside (m ∷ t) zero n h = omega arith
+inside (m ∷ t) (suc i) n h = let low = inside t i n h in omega (arith, low)
+
+-- a node that is accepted is there, and its attack wins or goes on
+pub accepted-node : (rule : RuleKind) (t : List Node) (i : ℕ) (b : Grid) → Accepted rule t i b
+    → (n : Node) × (slice_get t i ≡ Some n) × WinsOr (outcome rule b n.attack) (Unit {0})
+unfolding AcceptedWithin
+accepted-node rule t i b h = by_node (slice_get t i) (AcceptedWithin i rule t) h where
+  by_node : (o : Option Node) (Next : ℕ → Grid → Type 0) → AcceptedNode rule o Next b → (n : Node) × (o ≡ Some n) × WinsOr (outcome rule b n.attack) (Unit {0})
+  by_node None Next h = absurd h
+  by_node (Some n) Next h = (n, refl, WinsOr-map (outcome rule b n.attack) _ _ (λ w. tt) h)
+
+pub accepted-in_table : (rule : RuleKind) (t : List Node) (i : ℕ) (b : Grid) → Accepted rule t i b → i < length t
+accepted-in_table rule t i b h = let there = accepted-node rule t i b h in inside t i there.0 there.1
+
+-- where the attack goes on, each reply is no move, fouls, or goes on to a board where the answer to it is accepted
+replies_by : (rule : RuleKind) (o : Option Node) (Next : ℕ → Grid → Type 0) (b : Grid) (p : Point) → option_map (λ n. n.attack) o ≡ Some p → AcceptedNode rule o Next b → outcome rule b p ≡ GoesOn
+    → (q : Point) → LosesOr (outcome rule (after b p) q) (Answered (option_and_then (λ n. answer (answers_of n) q) o) (λ j. Next j (after (after b p) q)))
+replies_by rule None Next b p e h go q = absurd h
+replies_by rule (Some n) Next b p e h go q =
+    let same : n.attack ≡ p = cc in
+    let on : outcome rule b n.attack ≡ GoesOn = ap (outcome rule b) same ∙ go in
+    let w = subst (λ (o : Outcome). WinsOr o (NotWinning n.rest × ((x : Point) → Meets rule (answers_of n) Next (after b n.attack) x))) on h in
+    subst (λ (x : Point). LosesOr (outcome rule (after b x) q) (Answered (answer (answers_of n) q) (λ j. Next j (after (after b x) q)))) same (w.1 q)
+
+pub accepted-replies : (rule : RuleKind) (t : List Node) → IsTable t → (i : ℕ) (b : Grid) (p : Point) → option_map (λ n. n.attack) (slice_get t i) ≡ Some p → Accepted rule t i b → outcome rule b p ≡ GoesOn
+    → (q : Point) → LosesOr (outcome rule (after b p) q) (Answered (answer_at t i q) (λ j. Accepted rule t j (after (after b p) q)))
+accepted-replies rule t table i b p e h go q =
+    replies_by rule (slice_get t i) (Accepted rule t) b p e (subst (λ (X : Type 0). X) (accepted-step t (table-lower t table) rule i b) h) go q
+
+-- ---- depths
+
+-- the node that answers a move at a start is no deeper than the start
+pub answer-no_deeper : (t : List Node) (a : Answers) (q : Point) (j : ℕ) → answer a q ≡ Some j → depth t j ≤ start_depth t a
+answer-no_deeper t a q j e = answer-greatest (depth t) a q j e
