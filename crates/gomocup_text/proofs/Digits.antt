@@ -1,5 +1,5 @@
 -- The digits of a number, and how large it is.
-use Rattle.std.proofs.Common.{◌≡◌, ℕ, ◌+◌, ◌*◌, ◌^◌, ◌<◌, ◌≤◌, Bool, true, false, ◌&&◌, List, [], ◌∷◌, length, take, get_or, refl, arith, length-take-le, suc, zero, nat_le, nat_lt}
+use Rattle.std.proofs.Common.{◌≡◌, ℕ, ◌+◌, ◌*◌, ◌^◌, ◌<◌, ◌≤◌, true, ◌&&◌, List, [], ◌∷◌, length, take, get_or, arith, length-take-le, suc, zero, nat_le, nat_lt}
 use Rattle.std.proofs.lemmas.Bool.Decides.{nat_tests}
 use Rattle.std.proofs.lemmas.Int.Digits.{digits_value-lt, digits_value_more}
 use Rattle.std.proofs.lemmas.Str.{digit_value_digit}
@@ -7,15 +7,8 @@ use Rattle.std.proofs.Math.Nat.{pow-le-pow_right}
 use Rattle.std.specs.Char.{is_ascii_digit, digit_value}
 use Rattle.std.specs.List.{list_all}
 use Rattle.std.specs.Str.Parse.{AllDigits, digits_value}
+use Rattle.game_rules.proofs.Boards.{and_left, and_right}
 use Rattle.gomocup_text.specs.Numbers.{is_number}
-
-left_true : (a b : Bool) → (a && b) ≡ true → a ≡ true
-left_true true b is = refl
-left_true false b is = cc
-
-right_true : (a b : Bool) → (a && b) ≡ true → b ≡ true
-right_true true b is = is
-right_true false b is = cc
 
 -- a digit is from 48 to 57, and its value is how far it is above 48
 pub record IsDigit (byte : ℕ) : Type 0 where
@@ -25,24 +18,24 @@ pub record IsDigit (byte : ℕ) : Type 0 where
 
 IsDigit-test : (byte : ℕ) → is_ascii_digit byte ≡ true → IsDigit byte
 IsDigit-test byte is =
-    let low = left_true (nat_le 48 byte) (nat_le byte 57) is in
-    let high = right_true (nat_le 48 byte) (nat_le byte 57) is in
+    let low = and_left (nat_le 48 byte) (nat_le byte 57) is in
+    let high = and_right (nat_le 48 byte) (nat_le byte 57) is in
     let least : 48 ≤ byte = grind (arith, nat_tests) in
     let most : byte ≤ 57 = grind (arith, nat_tests) in
     record { least = least; most = most; value = digit_value_digit byte (least, most) }
 
 pub IsDigit-at : (bytes : List ℕ) (i : ℕ) → list_all is_ascii_digit bytes ≡ true → i < length bytes → IsDigit (get_or bytes i 0)
 IsDigit-at [] i all within = absurd (omega arith)
-IsDigit-at (byte ∷ bytes) zero all within = IsDigit-test byte (left_true (is_ascii_digit byte) (list_all is_ascii_digit bytes) all)
+IsDigit-at (byte ∷ bytes) zero all within = IsDigit-test byte (and_left (is_ascii_digit byte) (list_all is_ascii_digit bytes) all)
 IsDigit-at (byte ∷ bytes) (suc i) all within =
-    IsDigit-at bytes i (right_true (is_ascii_digit byte) (list_all is_ascii_digit bytes) all) (omega arith)
+    IsDigit-at bytes i (and_right (is_ascii_digit byte) (list_all is_ascii_digit bytes) all) (omega arith)
 
 AllDigits-take : (bytes : List ℕ) (n : ℕ) → list_all is_ascii_digit bytes ≡ true → AllDigits 10 (take n bytes)
 AllDigits-take bytes zero all = tt
 AllDigits-take [] (suc n) all = tt
 AllDigits-take (byte ∷ bytes) (suc n) all =
-    let digit = IsDigit-test byte (left_true (is_ascii_digit byte) (list_all is_ascii_digit bytes) all) in
-    (omega (arith, digit.value, digit.most), AllDigits-take bytes n (right_true (is_ascii_digit byte) (list_all is_ascii_digit bytes) all))
+    let digit = IsDigit-test byte (and_left (is_ascii_digit byte) (list_all is_ascii_digit bytes) all) in
+    (omega (arith, digit.value, digit.most), AllDigits-take bytes n (and_right (is_ascii_digit byte) (list_all is_ascii_digit bytes) all))
 
 -- what a number's digits are
 pub record IsNumber (bytes : List ℕ) : Type 0 where
@@ -51,11 +44,11 @@ pub record IsNumber (bytes : List ℕ) : Type 0 where
 
 pub IsNumber-test : (bytes : List ℕ) → is_number bytes ≡ true → IsNumber bytes
 IsNumber-test bytes is =
-    let lengths = left_true (nat_lt 0 (length bytes) && nat_le (length bytes) 9) (list_all is_ascii_digit bytes) is in
-    let short = right_true (nat_lt 0 (length bytes)) (nat_le (length bytes) 9) lengths in
+    let lengths = and_left (nat_lt 0 (length bytes) && nat_le (length bytes) 9) (list_all is_ascii_digit bytes) is in
+    let short = and_right (nat_lt 0 (length bytes)) (nat_le (length bytes) 9) lengths in
     record {
       few = grind (arith, nat_tests);
-      all = right_true (nat_lt 0 (length bytes) && nat_le (length bytes) 9) (list_all is_ascii_digit bytes) is;
+      all = and_right (nat_lt 0 (length bytes) && nat_le (length bytes) 9) (list_all is_ascii_digit bytes) is;
     }
 
 -- one more digit: its value, and how large the number is then

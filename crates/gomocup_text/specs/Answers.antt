@@ -1,14 +1,10 @@
 -- The line of each answer.
-use Rattle.std.specs.Prelude.{ℕ, List, ◌++◌, codes, decimal}
-use Rattle.game_rules.specs.declared.Point.{Point}
+use Rattle.std.specs.Prelude.{ℕ, List, ◌++◌, codes}
+use Rattle.text_lines.specs.Spellings.{point_text}
 use Rattle.gomocup_text.specs.declared.Answer.{Answer}
 use Rattle.gomocup_text.specs.declared.Answer.TheVariants as answer
 use Rattle.gomocup_text.specs.declared.ErrorText.{ErrorText}
 use Rattle.gomocup_text.specs.declared.ErrorText.TheVariants.{UnsupportedSize, NoBoard, NotReading, UnsupportedRule, BadBoard, BadArguments, GameStarted, GameOver, WrongTurn, BadMove, GameLost, OpponentFoul, GameDrawn}
-
--- a point: its column, a comma and its row
-abbrev pub point_text : Point → List ℕ
-point_text point = decimal point.x ++ codes "," ++ decimal point.y
 
 -- the words of an error
 abbrev pub error_words : ErrorText → List ℕ

@@ -20,11 +20,12 @@ abbrev pub alone_or : List ℕ → Command → Command
 alone_or [] command = command
 alone_or (byte ∷ bytes) command = Malformed
 
--- `INFO rule` and one number is the wish for a rule; `INFO` and anything else is no more than that
+-- what follows `INFO rule`: one number is the wish for a rule
 abbrev pub rule_or_info : Option ℕ → Command
 rule_or_info (Some rule) = Rule rule
 rule_or_info None = Info
 
+-- what follows `INFO`: `rule`, in either case, and one number, or anything else
 abbrev pub info_of : List ℕ → Command
 info_of rest = if str_eq_ignore_ascii_case (word_of rest) (codes "rule") then rule_or_info (number_of (rest_of rest)) else Info
 

@@ -6,6 +6,7 @@ use Rattle.std.specs.Str.Parse.{digits_value}
 use Rattle.gomocup_text.specs.Words.{trimmed}
 use Rattle.gomocup_text.specs.declared.TheConstants.{MAX_DIGITS}
 
+-- what stands between two numbers
 abbrev pub comma : ℕ
 comma = 44
 

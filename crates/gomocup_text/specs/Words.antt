@@ -5,12 +5,15 @@ use Rattle.std.specs.Str.{str_eq_ignore_ascii_case}
 use Rattle.gomocup_text.specs.declared.words.Word.{Word}
 use Rattle.gomocup_text.specs.declared.words.Word.TheVariants.{Start, RectStart, Turn, Takeback, Begin, Board, Done, Restart, About, End, Info}
 
+-- a space
 abbrev pub space : ℕ
 space = 32
 
+-- a tab
 abbrev pub tab : ℕ
 tab = 9
 
+-- what may stand at the end of a line
 abbrev pub carriage_return : ℕ
 carriage_return = 13
 

@@ -1,4 +1,7 @@
 //! The numbers of a command: one to nine digits each, cut by commas, with gaps beside a comma.
+//!
+//! A list of numbers is cut at its first comma, and what stands after it is cut again. A comma too many is left in the
+//! last number, where it is no digit; one too few leaves nothing for the last number.
 ghost use Rattle.std.specs.Prelude.{◌≡◌, ◌<◌, ◌≤◌, ◌^◌, IfSome, length, position, true};
 ghost use Rattle.std.specs.Char.{is_ascii_digit};
 ghost use Rattle.std.specs.List.{list_all};

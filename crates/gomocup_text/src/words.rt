@@ -1,4 +1,7 @@
 //! The words of a line, and the gaps between them.
+//!
+//! A gap is a space or a tab. Gaps are dropped at both ends of a text and behind its first word, so a command's word and
+//! what follows it are told apart before either is read.
 ghost use Rattle.std.specs.Prelude.{◌≡◌, ◌<◌, IfSome, length, position};
 ghost use Rattle.std.specs.Str.{str_eq_ignore_ascii_case};
 ghost use Rattle.gomocup_text.specs.Words.{is_gap, named, rest_of, trimmed, without_end_gaps, without_front_gaps, without_return, word_of};
@@ -21,14 +24,14 @@ pub enum Word {
 
 // Whether a byte is a space or a tab.
 fn gap(byte: u8) -> bool
-    ensures { result ≡ is_gap byte }
+    ensures gap { result ≡ is_gap byte }
 {
     byte == b' ' || byte == b'\t'
 }
 
 /// The line without one carriage return at its end.
 pub fn without_return(line: &[u8]) -> &[u8]
-    ensures { result.now ≡ without_return line.now }
+    ensures line { result.now ≡ without_return line.now }
 {
     match line {
         [front @ .., b'\r'] => front,
@@ -38,14 +41,14 @@ pub fn without_return(line: &[u8]) -> &[u8]
 
 /// The bytes without the gaps at both ends.
 pub fn trim(bytes: &[u8]) -> &[u8]
-    ensures { result.now ≡ trimmed bytes.now }
+    ensures text { result.now ≡ trimmed bytes.now }
 {
     trim_end(trim_front(bytes))
 }
 
 // The bytes without the gaps at their front.
 fn trim_front(bytes: &[u8]) -> &[u8]
-    ensures { result.now ≡ without_front_gaps bytes.now }
+    ensures rest { result.now ≡ without_front_gaps bytes.now }
 {
     let mut start = 0;
     while start < bytes.len() && gap(bytes[start]) {
@@ -56,7 +59,7 @@ fn trim_front(bytes: &[u8]) -> &[u8]
 
 // The bytes without the gaps at their end.
 fn trim_end(bytes: &[u8]) -> &[u8]
-    ensures { result.now ≡ without_end_gaps bytes.now }
+    ensures front { result.now ≡ without_end_gaps bytes.now }
 {
     let mut end = bytes.len();
     while end > 0 && gap(bytes[end - 1]) {
@@ -86,14 +89,14 @@ fn first_gap(text: &[u8]) -> Option<usize>
 
 /// Whether a word is this name, in either case.
 pub fn is_word(word: &[u8], name: &[u8]) -> bool
-    ensures { result ≡ str_eq_ignore_ascii_case word.now name.now }
+    ensures same { result ≡ str_eq_ignore_ascii_case word.now name.now }
 {
     word.eq_ignore_ascii_case(name)
 }
 
 /// The word of a command with this name.
 pub fn named_word(name: &[u8]) -> Option<Word>
-    ensures { result ≡ named name.now }
+    ensures word { result ≡ named name.now }
 {
     if is_word(name, b"START") {
         Some(Word::Start)

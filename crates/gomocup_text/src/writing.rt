@@ -1,6 +1,9 @@
 //! The line of an answer: its bytes with carriage return and line feed, kept in the value itself.
+//!
+//! No answer has more than `MAX_ANSWER_BYTES` bytes, for which there is room from the start, so writing one cannot fail.
 ghost use Rattle.std.specs.Prelude.{◌≡◌, ◌≤◌, ◌+◌, ◌++◌, [], codes, length};
-ghost use Rattle.gomocup_text.specs.Answers.{answer_text, error_words, point_text};
+ghost use Rattle.gomocup_text.specs.Answers.{answer_text, error_words};
+ghost use Rattle.text_lines.specs.Spellings.{point_text};
 
 use crate::{Answer, ErrorText, MAX_ANSWER_BYTES};
 use game_rules::Point;
@@ -45,15 +48,15 @@ impl AnswerText {
 
     // Writes these bytes behind the others.
     fn push(&mut self, more: &[u8])
-        requires { length self.old + length more.now ≤ MAX_ANSWER_BYTES }
-        ensures { self.new ≡ self.old ++ more.now }
+        requires room { length self.old + length more.now ≤ MAX_ANSWER_BYTES }
+        ensures behind { self.new ≡ self.old ++ more.now }
     {
         self.bytes.extend_from_slice(more).unwrap();
     }
 
     // Writes a point.
     fn push_point(&mut self, point: Point)
-        requires { length self.old ≤ 8 }
+        requires early { length self.old ≤ 8 }
         ensures point { self.new ≡ self.old ++ point_text point }
         ensures short { length self.new ≤ 32 }
     {

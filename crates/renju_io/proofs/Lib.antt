@@ -1,8 +1,9 @@
--- Lemmas on counts of faults and on bytes that are given and taken.
+-- Lemmas on counts of faults, on bytes that are given and taken, and on the lines of an input.
 pub mod Counts
 pub mod FileNames
 pub mod GivenBytes
 pub mod LineLaws
+mod LinesSoFar
+pub mod WholeLines
 pub mod Pieces
 pub mod TakenText
-pub mod LinesSoFar

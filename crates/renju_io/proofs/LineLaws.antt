@@ -1,5 +1,5 @@
 -- Laws of the lines of an input.
-use Rattle.std.proofs.Common.{◌≡◌, ℕ, ◌+◌, ◌-◌, ◌<◌, ◌≤◌, Bool, true, false, cond, List, [], ◌∷◌, ◌++◌, length, take, drop, map, refl, sym, ap, subst, ◌∙◌, append_assoc, position, Some, None, arith, length-append, length-take, inl, inr, get_or, lt-ltb, zero, suc}
+use Rattle.std.proofs.Common.{◌≡◌, ℕ, ◌+◌, ◌-◌, ◌<◌, ◌≤◌, Bool, true, false, cond, List, [], ◌∷◌, ◌++◌, length, take, drop, map, refl, sym, ap, subst, ◌∙◌, append_assoc, position, Some, None, arith, length-append, length-drop, length-take, inl, inr, get_or, lt-ltb, zero, suc}
 use Rattle.std.proofs.lemmas.List.{append-nil, take_all, length-take-le, drop-take, drop-drop}
 use Rattle.std.proofs.lemmas.List.Quantifiers.{position-Some}
 use Rattle.std.proofs.lemmas.List.Sums.{position_or_len_is, split_at_first, fails_before_first}
@@ -189,3 +189,10 @@ Tells-cut line bytes next end at none is =
     let Q : List ℕ → Type 0 = λ all. Tells all (line_of (take (MAX_LINE_BYTES + 1) piece) ∷ []) (drop (at + 1) (slice_range bytes next end)) in
     subst P (rest_of-range bytes next end at cut.within)
     (subst Q (append_assoc line (take at (slice_range bytes next end)) (LINE_FEED ∷ drop (at + 1) (slice_range bytes next end)) ∙ ap (λ u. line ++ u) (sym cut.cut)) told)
+
+-- and that is shorter than what was kept
+pub cut_is_shorter : (line bytes : List ℕ) (next end at : ℕ) → position is_line_feed (slice_range bytes next end) ≡ Some at →
+    length (slice_range bytes (next + (at + 1)) end) < length (line ++ slice_range bytes next end)
+cut_is_shorter line bytes next end at is =
+    let cut = CutAt-position (slice_range bytes next end) at is in
+    omega (arith, cut.within, ap length (rest_of-range bytes next end at cut.within), length-drop (at + 1) (slice_range bytes next end), length-append line (slice_range bytes next end))

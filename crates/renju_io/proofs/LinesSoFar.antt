@@ -1,11 +1,12 @@
 -- What a reader of lines has done since a call began, and what it may answer then.
-use Rattle.std.proofs.Common.{◌≡◌, ◌≢◌, ℕ, ◌+◌, ◌<◌, ◌≤◌, Bool, true, false, cond, List, [], ◌∷◌, ◌++◌, length, take, map, refl, sym, ap, subst, ◌∙◌, append_assoc, None, Some, Ok, Option, IfSome, arith, length-append, ◌⊎◌, inl, inr}
+use Rattle.std.proofs.Common.{◌≡◌, ◌≢◌, ℕ, ◌+◌, ◌<◌, ◌≤◌, Bool, true, false, cond, List, [], ◌∷◌, ◌++◌, length, take, map, refl, sym, ap, subst, ◌∙◌, append_assoc, None, Some, Ok, Option, IfSome, arith, length-append, length-take, ◌⊎◌, inl, inr}
 use Rattle.std.proofs.lemmas.List.{append-nil, length-map}
 use Rattle.std.specs.Option.{option_map}
 use Rattle.std.specs.Io.BufRead.{take_through}
 use Rattle.std.specs.Io.KnownBytes.{prepend_known, IsAtEnd}
 use Rattle.renju_io.specs.Told.{Gives}
-use Rattle.renju_io.specs.Lines.{LineText, Text, TooLong, begun, is_line_feed, line_of, lines, pieces, HasNoLineFeed, Tells, TellsLast, ReaderState, ReadsOn, StaysOpen, KeepsLine, TakesLines, TakesTooMany, IsExhausted, lines_left, told_lines}
+use Rattle.renju_io.specs.Lines.{LineText, Text, TooLong, begun, is_line_feed, line_of, lines, pieces, HasNoLineFeed, Tells, TellsLast, ReaderState, StaysOpen, KeepsLine, TakesLines, TakesTooMany, IsExhausted, lines_left, told_lines}
+use Rattle.renju_io.specs.LineReads.{ReadsOn}
 use Rattle.renju_io.specs.declared.line_reader.Line.{Line}
 use Rattle.renju_io.specs.declared.line_reader.Line.TheVariants as kind
 use Rattle.renju_io.specs.declared.TheConstants.{LINE_FEED, MAX_LINE_BYTES, MAX_SESSION_BYTES}
@@ -24,6 +25,7 @@ pub record Reading (old : ReaderState) (left : Option (List ℕ)) (now : ReaderS
   pub within : now.taken ≤ MAX_SESSION_BYTES → ReadSoFar old left now left_now
   pub past : MAX_SESSION_BYTES < now.taken → TakesTooMany old left now left_now
   pub text : now.text ≡ old.text
+  pub grown : old.taken + length now.kept ≤ now.taken + length old.kept
 
 gives_none : (told : Option (List ℕ)) → Gives told [] told
 gives_none None = refl
@@ -40,6 +42,7 @@ Reading-begun old left = record {
   };
   past = λ more. inr (more, refl, refl);
   text = refl;
+  grown = omega arith;
 }
 
 -- how many pieces there are once one more byte is begun
@@ -47,7 +50,7 @@ begun-length : (byte : ℕ) (ps : List (List ℕ)) → 0 < length ps → length 
 begun-length byte [] some = absurd (omega arith)
 begun-length byte (piece ∷ ps) some = refl
 
-some_pieces : (bytes more : List ℕ) → 0 < length (pieces (bytes ++ (LINE_FEED ∷ more)))
+pub some_pieces : (bytes more : List ℕ) → 0 < length (pieces (bytes ++ (LINE_FEED ∷ more)))
 some_pieces [] more = omega arith
 some_pieces (byte ∷ bytes) more =
     elim (is_line_feed byte) as (λ b. 0 < length (cond b ([] ∷ pieces (bytes ++ (LINE_FEED ∷ more))) (begun byte (pieces (bytes ++ (LINE_FEED ∷ more)))))) [
@@ -115,6 +118,7 @@ Reading-on old now next left left_now left_next count reading few none read text
         within = λ _. reads_more old now next left left_now left_next count so_far none read joined.1;
         past = λ more. absurd (omega arith);
         text = text ∙ reading.text;
+        grown = omega (arith, reading.grown, read.counted, read.many, ap length joined.1, length-append (take (MAX_LINE_BYTES + 1) now.kept) read.given, length-take (MAX_LINE_BYTES + 1) now.kept);
       }
       | inr at_most ↦ record {
         within = λ few. absurd (omega (arith, at_most.0, at_most.1, read.counted));
@@ -128,6 +132,7 @@ Reading-on old now next left left_now left_next count reading few none read text
           stays = stays_open old now left left_now so_far next none at_most.2;
         });
         text = text ∙ reading.text;
+        grown = omega (arith, reading.grown, read.counted, ap length at_most.2, length-take (MAX_LINE_BYTES + 1) now.kept);
       }
     ]
 
@@ -162,15 +167,15 @@ TellsLast-read old now new left left_now told so_far all none ended = record {
   ended = ended;
 }
 
-lines_split : (kept given more rest : List ℕ) (told : List LineText) →
-    (Tells (kept ++ given) told rest ⊎ TellsLast (kept ++ given) told rest (Some more)) →
+lines_split : (kept given more rest : List ℕ) (told : List LineText) (at_end : Bool) →
+    (Tells (kept ++ given) told rest ⊎ (at_end ≡ true) × TellsLast (kept ++ given) told rest (Some more)) →
     lines (kept ++ (given ++ more)) ≡ told ++ lines (rest ++ more)
-lines_split kept given more rest told (inl tells) = ap lines (sym (append_assoc kept given more)) ∙ tells.whatever more
-lines_split kept given more rest told (inr last) =
-    ap (λ m. lines (kept ++ (given ++ m))) last.ended
-    ∙ ap (λ g. lines (kept ++ g)) (append-nil given) ∙ last.all ∙ sym (append-nil told)
-    ∙ ap (λ r. told ++ lines (r ++ [])) (sym last.none_kept)
-    ∙ ap (λ m. told ++ lines (rest ++ m)) (sym last.ended)
+lines_split kept given more rest told at_end (inl tells) = ap lines (sym (append_assoc kept given more)) ∙ tells.whatever more
+lines_split kept given more rest told at_end (inr last) =
+    ap (λ m. lines (kept ++ (given ++ m))) last.1.ended
+    ∙ ap (λ g. lines (kept ++ g)) (append-nil given) ∙ last.1.all ∙ sym (append-nil told)
+    ∙ ap (λ r. told ++ lines (r ++ [])) (sym last.1.none_kept)
+    ∙ ap (λ m. told ++ lines (rest ++ m)) (sym last.1.ended)
 
 -- the lines that were left are those told and those that are left
 pub lines_left-told : (old new : ReaderState) (left left_now : Option (List ℕ)) (told : List LineText) →
@@ -178,7 +183,7 @@ pub lines_left-told : (old new : ReaderState) (left left_now : Option (List ℕ)
     lines_left old left ≡ option_map (λ later. told ++ later) (lines_left new left_now)
 lines_left-told old new left None told takes = ap (lines_left old) takes.gives
 lines_left-told old new left (Some more) told takes =
-    ap (lines_left old) takes.gives ∙ ap (λ ls. Some ls) (lines_split old.kept takes.given more new.kept told takes.tells)
+    ap (lines_left old) takes.gives ∙ ap (λ ls. Some ls) (lines_split old.kept takes.given more new.kept told new.ended takes.tells)
 
 take_through-le : (bytes : List ℕ) → length (take_through LINE_FEED bytes) ≤ length bytes
 take_through-le [] = omega arith
@@ -303,12 +308,13 @@ open_after now next left left_next count read nothing none =
       | inr at_most ↦ absurd (omega (arith, at_most.1))
     ]
 
--- a reader is its text, what it kept, and how many bytes it took
-same_state : (one other : ReaderState) → one.text ≡ other.text → one.kept ≡ other.kept → one.taken ≡ other.taken → one ≡ other
-same_state one other text kept taken =
-    ap (λ t. let r : ReaderState = record { text = t; kept = one.kept; taken = one.taken } in r) text
-    ∙ ap (λ k. let r : ReaderState = record { text = other.text; kept = k; taken = one.taken } in r) kept
-    ∙ ap (λ n. let r : ReaderState = record { text = other.text; kept = other.kept; taken = n } in r) taken
+-- a reader is its text, what it kept, how many bytes it took, and whether the end was told
+same_state : (one other : ReaderState) → one.text ≡ other.text → one.kept ≡ other.kept → one.taken ≡ other.taken → one.ended ≡ other.ended → one ≡ other
+same_state one other text kept taken ended =
+    ap (λ t. let r : ReaderState = record { text = t; kept = one.kept; taken = one.taken; ended = one.ended } in r) text
+    ∙ ap (λ k. let r : ReaderState = record { text = other.text; kept = k; taken = one.taken; ended = one.ended } in r) kept
+    ∙ ap (λ n. let r : ReaderState = record { text = other.text; kept = other.kept; taken = n; ended = one.ended } in r) taken
+    ∙ ap (λ e. let r : ReaderState = record { text = other.text; kept = other.kept; taken = other.taken; ended = e } in r) ended
 
 begun_some : (byte : ℕ) (ps : List (List ℕ)) → map line_of (begun byte ps) ≡ [] → ⊥
 begun_some byte [] is = cc
@@ -346,21 +352,27 @@ Reading-read old now mid next left left_now left_next count reading same few non
 pub Ended-read : (old now mid next new : ReaderState) (left left_now left_next : Option (List ℕ)) (count : ℕ) (told : List LineText) →
     Reading old left now left_now → mid ≡ now → now.taken ≤ MAX_SESSION_BYTES → HasNoLineFeed now.kept →
     ReadsOn mid left_now count next left_next → next.text ≡ mid.text → count ≡ 0 →
-    lines next.kept ≡ told → new.kept ≡ [] → new.taken ≡ next.taken → IsAtEnd left_next → Ended old left told new left_next
-Ended-read old now mid next new left left_now left_next count told reading same few none read text nothing all none_kept taken ended =
+    lines next.kept ≡ told → new.kept ≡ [] → new.taken ≡ next.taken → new.ended ≡ true → IsAtEnd left_next → Ended old left told new left_next
+Ended-read old now mid next new left left_now left_next count told reading same few none read text nothing all none_kept taken at_end ended =
     let few_next : next.taken ≤ MAX_SESSION_BYTES = omega (arith, read.counted, nothing, ap (λ (reader : ReaderState). reader.taken) same) in
     let next_reading = Reading-read old now mid next left left_now left_next count reading same few none read text in
     let so_far = next_reading.within few_next in
     let last = TellsLast-read old next new left left_next told so_far all none_kept ended in
     record {
-      takes = record { given = so_far.given; gives = so_far.gives; counted = taken ∙ so_far.counted; tells = inr last };
+      takes = record { given = so_far.given; gives = so_far.gives; counted = taken ∙ so_far.counted; tells = inr (at_end, last) };
       last = last;
       few = omega arith;
     }
 
 -- where the end is told, nothing was kept and nothing was read
 pub ends_as_before : (old new : ReaderState) (left left_now : Option (List ℕ)) (told : List LineText) → Ended old left told new left_now →
-    told ≡ [] → new.text ≡ old.text → (new ≡ old) × (old.kept ≡ []) × IsAtEnd left_now
-ends_as_before old new left left_now told ended is text =
+    told ≡ [] → new.text ≡ old.text → new.ended ≡ true → (new ≡ record old { ended = true }) × (old.kept ≡ []) × IsAtEnd left_now
+ends_as_before old new left left_now told ended is text at_end =
     let none = append_none old.kept ended.takes.given (lines_none (old.kept ++ ended.takes.given) (ended.last.all ∙ is)) in
-    (same_state new old text (ended.last.none_kept ∙ sym none.0) (omega (arith, ended.takes.counted, ap length none.1)), none.0, ended.last.ended)
+    let after : ReaderState = record old { ended = true } in
+    (same_state new after text (ended.last.none_kept ∙ sym none.0) (omega (arith, ended.takes.counted, ap length none.1)) at_end, none.0, ended.last.ended)
+
+-- where a line is told at the end of the input, some bytes were kept
+pub some_kept : (kept text : List ℕ) (line : Line) → lines kept ≡ told_lines (Ok line) text → line ≢ kind.End → 0 < length kept
+some_kept [] text line is is_line = let told = is ∙ told_one line text is_line in cc
+some_kept (byte ∷ kept) text line is is_line = omega arith

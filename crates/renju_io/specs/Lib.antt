@@ -1,7 +1,9 @@
--- What the devices tell: their counts of faults, the bytes that they give and take, and the files of a shelf.
+-- What the devices tell: their counts of faults, the bytes that they give and take, the files of a shelf, and the lines
+-- of an input.
 pub mod Faults
 pub mod Told
 pub mod Files
 pub mod Memory
 pub mod Lines
+pub mod LineReads
 pub mod Reader

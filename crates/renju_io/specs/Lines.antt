@@ -1,6 +1,6 @@
 -- The lines of an input, and what a reader of lines keeps of it.
-use Rattle.std.specs.Prelude.{◌≡◌, ℕ, ◌+◌, ◌<◌, ◌≤◌, Bool, false, List, [], ◌∷◌, ◌++◌, ◌⊎◌, ◌==◌, if◌then◌else◌, nat_lt, length, take, map, Option, Result, Ok, Err}
-use Rattle.std.specs.List.{AllByRecursion}
+use Rattle.std.specs.Prelude.{◌≡◌, ℕ, ◌+◌, ◌-◌, ◌<◌, Bool, true, false, not, List, [], ◌∷◌, ◌++◌, ◌⊎◌, ◌==◌, if◌then◌else◌, nat_lt, length, take, map, Option, Result, Ok, Err}
+use Rattle.std.specs.List.{AllByRecursion, suffix_len}
 use Rattle.std.specs.Option.{option_map}
 use Rattle.std.specs.Io.KnownBytes.{prepend_known, IsAtEnd}
 use Rattle.std.specs.Io.BufRead.{take_through}
@@ -37,16 +37,25 @@ line_of piece = if nat_lt MAX_LINE_BYTES (length piece) then TooLong else Text p
 abbrev pub lines : List ℕ → List LineText
 lines bytes = map line_of (pieces bytes)
 
+-- the bytes up to the end of their last whole line
+abbrev pub whole_lines : List ℕ → List ℕ
+whole_lines bytes = take (length bytes - suffix_len (λ byte. not (is_line_feed byte)) bytes) bytes
+
 -- no line ends within these bytes
 abbrev pub HasNoLineFeed : List ℕ → Type 0
 HasNoLineFeed bytes = AllByRecursion (λ byte. is_line_feed byte ≡ false) bytes
 
 -- a reader of lines: the line that it told last; the bytes that it took and that belong to no line told so far, of a line
--- that is too long as many as show that; and how many bytes it took in all
+-- that is too long as many as show that; how many bytes it took in all; and whether a read has told the end of the input
 pub record ReaderState : Type 0 where
   pub text : List ℕ
   pub kept : List ℕ
   pub taken : ℕ
+  pub ended : Bool
+
+-- a reader that was told the end of the input is asked of a source that has no byte left
+abbrev pub KnowsEnd : ReaderState → Option (List ℕ) → Type 0
+KnowsEnd reader left = reader.ended ≡ true → IsAtEnd left
 
 -- the lines that an answer of the reader tells, whose text is lent by the reader: one, or none at the end of the input
 -- and after an error
@@ -67,22 +76,12 @@ pub record TellsLast (bytes : List ℕ) (told : List LineText) (rest : List ℕ)
   pub ended : IsAtEnd left
 
 -- the reader took some bytes of the source, which gave no others, and told the first lines of those that it had kept and
--- of those
+-- of those, or the last ones, where a read told the end of the input
 pub record TakesLines (old : ReaderState) (left : Option (List ℕ)) (told : List LineText) (new : ReaderState) (left_after : Option (List ℕ)) : Type 0 where
   pub given : List ℕ
   pub gives : Gives left given left_after
   pub counted : new.taken ≡ old.taken + length given
-  pub tells : Tells (old.kept ++ given) told new.kept ⊎ TellsLast (old.kept ++ given) told new.kept left_after
-
--- the reader took so many bytes of the source. They join those that it had kept, of a line that is too long as many as
--- show that; only the byte after the most that it may take is not kept.
-pub record ReadsOn (old : ReaderState) (left : Option (List ℕ)) (count : ℕ) (new : ReaderState) (left_after : Option (List ℕ)) : Type 0 where
-  pub given : List ℕ
-  pub gives : Gives left given left_after
-  pub many : length given ≡ count
-  pub counted : new.taken ≡ old.taken + count
-  pub joined : ((new.taken ≤ MAX_SESSION_BYTES) × (new.kept ≡ take (MAX_LINE_BYTES + 1) old.kept ++ given))
-      ⊎ ((old.taken ≡ MAX_SESSION_BYTES) × (count ≡ 1) × (new.kept ≡ take (MAX_LINE_BYTES + 1) old.kept))
+  pub tells : Tells (old.kept ++ given) told new.kept ⊎ (new.ended ≡ true) × TellsLast (old.kept ++ given) told new.kept left_after
 
 -- the reader took these bytes of the source, and the line does not end within those that it had kept and these
 pub record StaysOpen (old : ReaderState) (given : List ℕ) (new : ReaderState) : Type 0 where
@@ -120,3 +119,17 @@ lines_left reader left = option_map lines (prepend_known reader.kept left)
 abbrev pub IsExhausted : ReaderState → List ℕ → Type 0
 IsExhausted reader left = (MAX_SESSION_BYTES < reader.taken)
     ⊎ HasNoLineFeed reader.kept × (MAX_SESSION_BYTES < reader.taken + length (take_through LINE_FEED left))
+
+-- where a reader has told the lines of what it took and keeps an open line, these are the lines that end within that
+abbrev pub ToldAreWhole : Type 0
+ToldAreWhole = (bytes rest : List ℕ) (told : List LineText) → Tells bytes told rest → HasNoLineFeed rest → told ≡ lines (whole_lines bytes)
+
+-- what was told of some bytes, and what is told of those that were kept and of more, is told of all of them
+abbrev pub ToldAddsUp : Type 0
+ToldAddsUp = (bytes kept given rest : List ℕ) (told more : List LineText) →
+    Tells bytes told kept → Tells (kept ++ given) more rest → Tells (bytes ++ given) (told ++ more) rest
+
+-- at the end of the input all its lines have been told
+abbrev pub ToldToTheEnd : Type 0
+ToldToTheEnd = (bytes kept given rest : List ℕ) (told more : List LineText) (left : Option (List ℕ)) →
+    Tells bytes told kept → TellsLast (kept ++ given) more rest left → lines (bytes ++ given) ≡ told ++ more

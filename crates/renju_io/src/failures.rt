@@ -1,4 +1,6 @@
 //! Which calls of a device in memory fail.
+//!
+//! The calls are counted from 1, and those whose numbers are listed fail. Both counts stop at their last value.
 ghost use Rattle.std.specs.Prelude.{◌≡◌};
 ghost use Rattle.renju_io.specs.Faults.{HasRisen, HasNotFallen};
 ghost use Rattle.renju_io.specs.Memory.{no_calls, one_more, fails_next};

@@ -8,6 +8,7 @@
 
 mod failures;
 mod fault;
+mod laws;
 mod line_reader;
 mod memory_shelf;
 mod memory_sink;
@@ -20,6 +21,7 @@ mod source;
 mod writing;
 
 pub use fault::Failed;
+pub use laws::lines_add_up;
 pub use line_reader::{Line, LineReader, ReadError};
 pub use memory_shelf::{MemoryFile, MemoryShelf};
 pub use memory_sink::MemorySink;

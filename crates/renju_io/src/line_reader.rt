@@ -4,13 +4,15 @@
 //! has not looked at. A line ends at the first line feed among those; where there is none, all of them join the line,
 //! and the source is read again. Of a line that is too long one byte more than a line may have is kept, which is enough
 //! to know that it is, so the lines do not depend on how reads cut them. Bytes after the most that may be taken are
-//! asked for one at a time: the first of them shows that a line goes on too far.
-ghost use Rattle.std.specs.Prelude.{◌≡◌, ◌≢◌, ◌+◌, ◌-◌, ◌<◌, ◌≤◌, [], ◌++◌, ◌∷◌, length, take, position, Ok, IfOk, IfErr, IfSome, IfNone, IsErrOf, IsErr, OnOk, OnErr, MatchOption, MatchResult, vec_len, vec_capacity, ⊤};
+//! asked for one at a time: the first of them shows that a line goes on too far. Once a read has told the end of the input
+//! the source is not asked again.
+ghost use Rattle.std.specs.Prelude.{false, true, ◌≡◌, ◌≢◌, ◌+◌, ◌-◌, ◌<◌, ◌≤◌, [], ◌++◌, ◌∷◌, length, take, position, Ok, IfOk, IfErr, IfSome, IfNone, IsErrOf, IsErr, OnOk, OnErr, MatchOption, MatchResult, vec_len, vec_capacity, ⊤};
 ghost use Rattle.std.specs.Option.{option_map};
 ghost use Rattle.std.specs.Io.KnownBytes.{IsAtEnd};
 ghost use Rattle.renju_io.specs.Faults.{HasRisen, HasStayed, HasNotFallen};
 ghost use Rattle.renju_io.specs.Told.{Gives, FailsAfter};
-ghost use Rattle.renju_io.specs.Lines.{HasNoLineFeed, Tells, ReadsOn, KeepsLine, TakesLines, TakesTooMany, IsExhausted, is_line_feed, line_of, lines, lines_left, told_lines};
+ghost use Rattle.renju_io.specs.LineReads.{ReadsOn};
+ghost use Rattle.renju_io.specs.Lines.{HasNoLineFeed, Tells, KeepsLine, KnowsEnd, TakesLines, TakesTooMany, IsExhausted, is_line_feed, line_of, lines, lines_left, told_lines};
 
 use crate::{Failed, LINE_FEED, MAX_LINE_BYTES, MAX_SESSION_BYTES, Source};
 use std::alloc::{AllocError, Global};
@@ -52,6 +54,7 @@ pub struct LineReader {
     next: usize,
     end: usize,
     taken: usize,
+    ended: bool,
 }
 
 impl Model for LineReader {
@@ -69,7 +72,7 @@ impl Model for LineReader {
 impl LineReader {
     /// A reader that has taken nothing. Its buffers are reserved here, and no later call takes memory.
     pub fn new(alloc: Global) -> Result<LineReader, AllocError>
-        ensures fresh { IfOk result (λ reader. reader ≡ record { text = []; kept = []; taken = 0 }) }
+        ensures fresh { IfOk result (λ reader. reader ≡ record { text = []; kept = []; taken = 0; ended = false }) }
     {
         let text = Vec::with_capacity(alloc, MAX_LINE_BYTES + 1)?;
         let line = Vec::with_capacity(alloc, MAX_LINE_BYTES + 1)?;
@@ -81,6 +84,7 @@ impl LineReader {
             next: 0,
             end: 0,
             taken: 0,
+            ended: false,
         })
     }
 
@@ -91,16 +95,24 @@ impl LineReader {
         &self.text
     }
 
-    /// Takes the next line off the input, reading on where no whole line is kept.
+    /// Takes the next line off the input, reading on where no whole line is kept. Once a read has told the end of the
+    /// input the source is not asked again: each later call answers `End` at once, whatever source it is given.
     pub fn next<S: Source>(&mut self, source: &mut S) -> Result<Line, ReadError>
         // What was told, and what is left.
         ensures told { OnOk result
             (TakesLines self.old (S.left source.old) (told_lines result self.new.text) self.new (S.left source.new)) }
         ensures first { OnOk result (lines_left self.old (S.left source.old)
             ≡ option_map (λ later. told_lines result self.new.text ++ later) (lines_left self.new (S.left source.new))) }
-        ensures end { result ≡ Ok Line.End →
-            (self.new ≡ self.old) × (self.old.kept ≡ []) × IsAtEnd (S.left source.new) }
+        ensures advances { OnOk result (result ≢ Ok Line.End →
+            self.old.taken + length self.new.kept < self.new.taken + length self.old.kept) }
         ensures text { result ≢ Ok Line.Text → self.new.text ≡ self.old.text }
+
+        // The end of the input, which is told once.
+        ensures end { result ≡ Ok Line.End → (self.new ≡ record self.old { ended = true }) × (self.old.kept ≡ [])
+            × (KnowsEnd self.old (S.left source.old) → IsAtEnd (S.left source.new)) }
+        ensures knows_end { KnowsEnd self.old (S.left source.old) → KnowsEnd self.new (S.left source.new) }
+        ensures asks_no_more { self.old.ended ≡ true →
+            (result ≡ Ok Line.End) × (self.new ≡ self.old) × (source.new ≡ source.old) }
 
         // A read that failed leaves the bytes taken, in which no line ends.
         ensures failed { IsErrOf result ReadError.Failed → FailsAfter S.left S.faults source.old source.new }
@@ -111,7 +123,8 @@ impl LineReader {
         ensures past { IsErrOf result ReadError.Exhausted →
             TakesTooMany self.old (S.left source.old) self.new (S.left source.new) }
         ensures exhausted { IsErrOf result ReadError.Exhausted → IfSome (S.left source.old) (IsExhausted self.old) }
-        ensures within { OnOk result (IfSome (S.left source.old) (λ left. IsExhausted self.old left → ⊥)) }
+        ensures within { KnowsEnd self.old (S.left source.old) →
+            OnOk result (IfSome (S.left source.old) (λ left. IsExhausted self.old left → ⊥)) }
         ensures limit { OnOk result (self.new.taken ≤ MAX_SESSION_BYTES) }
         ensures spent { MAX_SESSION_BYTES < self.old.taken → IsErrOf result ReadError.Exhausted }
 
@@ -120,6 +133,9 @@ impl LineReader {
             e ≢ ReadError.Failed → HasStayed (S.faults source.old) (S.faults source.new)) }
         ensures counted { HasNotFallen (S.faults source.old) (S.faults source.new) }
     {
+        if self.ended {
+            return Ok(Line::End);
+        }
         while self.taken <= MAX_SESSION_BYTES {
             if let Some(line) = self.end_line() {
                 return Ok(line);
@@ -135,11 +151,14 @@ impl LineReader {
 
     // Ends the line at the first line feed that is kept, if there is one.
     fn end_line(&mut self) -> Option<Line>
-        ensures ended { IfSome result (λ line.
+        requires reading { self.old.ended ≡ false }
+        ensures told { IfSome result (λ line.
             Tells self.old.kept (told_lines (Ok line) self.new.text) self.new.kept) }
         ensures a_line { result ≢ Some Line.End }
+        ensures shorter { IfSome result (λ _. length self.new.kept < length self.old.kept) }
         ensures text { result ≢ Some Line.Text → self.new.text ≡ self.old.text }
         ensures taken { self.new.taken ≡ self.old.taken }
+        ensures ended { self.new.ended ≡ self.old.ended }
         ensures none { IfNone result (self.new ≡ self.old) }
         ensures open { IfNone result (HasNoLineFeed self.old.kept) }
     {
@@ -153,12 +172,15 @@ impl LineReader {
     // Tells all that is kept as the last line, or the end where nothing is kept.
     fn end_input(&mut self) -> Line
         requires open { HasNoLineFeed self.old.kept }
+        requires within { self.old.taken ≤ MAX_SESSION_BYTES }
         ensures all { lines self.old.kept ≡ told_lines (Ok result) self.new.text }
         ensures none_kept { self.new.kept ≡ [] }
         ensures end { result ≡ Line.End → self.old.kept ≡ [] }
         ensures text { result ≢ Line.Text → self.new.text ≡ self.old.text }
         ensures taken { self.new.taken ≡ self.old.taken }
+        ensures ended { self.new.ended ≡ true }
     {
+        self.ended = true;
         append_front(
             &mut self.line,
             &self.piece[self.next..self.end],
@@ -174,9 +196,11 @@ impl LineReader {
     // Reads more of the line, and answers how many bytes were taken: the byte after the last that may be taken is
     // counted and not kept.
     fn read_on<S: Source>(&mut self, source: &mut S) -> Result<usize, Failed>
+        requires reading { self.old.ended ≡ false }
         requires open { HasNoLineFeed self.old.kept }
         requires within { self.old.taken ≤ MAX_SESSION_BYTES }
         ensures text { self.new.text ≡ self.old.text }
+        ensures ended { self.new.ended ≡ self.old.ended }
         ensures ok { IfOk result (λ count.
             ReadsOn self.old (S.left source.old) count self.new (S.left source.new)) }
         ensures end { result ≡ Ok 0 → IsAtEnd (S.left source.new) }

@@ -1,4 +1,6 @@
 //! A shelf of files in memory, which fails at stated calls.
+//!
+//! It stands in for the files of the system in tests. No two of its files have the same name.
 ghost use Rattle.std.specs.Prelude.{◌≡◌, ◌≢◌, ◌<◌, ◌≤◌, true, false, Some, length, Ok, Err, IfOk, IfErr, OnOk, IfSome, IsErrOf, IsSomeAnd, find, string_bytes};
 ghost use Rattle.std.specs.Option.{option_copied};
 ghost use Rattle.std.specs.Str.{bytes_eq};

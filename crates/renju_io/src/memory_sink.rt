@@ -1,4 +1,6 @@
 //! A sink that keeps what is written in memory, and fails at stated calls.
+//!
+//! It stands in for an output in tests: a call that fails keeps a front of its piece, of a length that is set.
 ghost use Rattle.std.specs.Prelude.{◌≡◌, [], true, false, Some, IsErr, OnOk, OnErr};
 ghost use Rattle.renju_io.specs.Faults.{HasRisen, HasStayed, HasNotFallen};
 ghost use Rattle.renju_io.specs.Told.{Takes, TakesPart};

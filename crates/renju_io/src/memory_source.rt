@@ -1,4 +1,7 @@
 //! A source that gives bytes of memory, in pieces, and fails at stated calls.
+//!
+//! It stands in for an input in tests: cut into pieces of any size, it gives the same bytes, and a call that fails gives
+//! none.
 ghost use Rattle.std.specs.Prelude.{◌≡◌, ◌<◌, ◌≤◌, [], min, length, take, IfOk, OnOk, OnErr, Ok, Err, Some, if◌then◌else◌};
 ghost use Rattle.renju_io.specs.Faults.{HasRisen, HasStayed, HasNotFallen};
 ghost use Rattle.renju_io.specs.Told.{Gives};
@@ -32,7 +35,7 @@ impl MemorySource {
     /// A source that has these bytes left. A read gives at most `piece` of them, and the reads whose numbers are in
     /// `failing` fail, the first read being number 1. It takes no memory.
     pub fn new(bytes: Vec<u8>, piece: usize, failing: Vec<u64>) -> MemorySource
-        requires { 0 < piece }
+        requires some { 0 < piece }
         ensures whole { result ≡ record { left = bytes.items; piece = piece; calls = no_calls failing.items } }
     {
         MemorySource {

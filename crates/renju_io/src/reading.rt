@@ -1,4 +1,7 @@
 //! The whole input of a command, read to its end.
+//!
+//! Reads are asked for until one tells the end, and none after that or after one that failed. The bytes are those of all
+//! reads, one behind the other, whatever the reads cut them into.
 ghost use Rattle.std.specs.Prelude.{◌≡◌, ◌≢◌, ◌<◌, ◌≤◌, length, IfOk, IfErr, IfSome, IsErrOf, OnOk, vec_len};
 ghost use Rattle.std.specs.Io.KnownBytes.{IsAtEnd};
 ghost use Rattle.renju_io.specs.Faults.{HasRisen, HasStayed, HasNotFallen};

@@ -1,4 +1,7 @@
 //! What holds files by name.
+//!
+//! A shelf may tell its files, which are a map from names to bytes. A name without a file is a failure of the shelf, as a
+//! file that cannot be read is.
 ghost use Rattle.std.specs.Prelude.{◌≡◌, ◌≢◌, ◌<◌, ◌≤◌, ℕ, Option, length, IfOk, IfErr, OnOk, IfSome, IsErrOf, IsSomeAnd};
 ghost use Rattle.renju_io.specs.Faults.{HasRisen, HasStayed, HasNotFallen};
 ghost use Rattle.renju_io.specs.Files.{Files, file_under};

@@ -1,4 +1,7 @@
 //! What takes bytes, piece by piece.
+//!
+//! A sink may tell the bytes that were written. A write that fails leaves a front of its piece written, so that what a
+//! reader of the output sees is always a front of what was meant.
 ghost use Rattle.std.specs.Prelude.{◌≡◌, ℕ, List, Option, OnOk, OnErr};
 ghost use Rattle.renju_io.specs.Faults.{HasRisen, HasStayed, HasNotFallen};
 ghost use Rattle.renju_io.specs.Told.{Takes, TakesPart};

@@ -1,4 +1,7 @@
 //! What gives bytes, piece by piece, up to its end.
+//!
+//! A source may tell the bytes that it has left. Each read moves some of them to a buffer; where the source does not tell
+//! them, nothing is said of what it gave but how much.
 ghost use Rattle.std.specs.Prelude.{◌≡◌, ◌<◌, ◌≤◌, ℕ, List, Option, length, take, IfOk, OnOk, OnErr};
 ghost use Rattle.std.specs.Io.KnownBytes.{IsAtEnd};
 ghost use Rattle.renju_io.specs.Faults.{HasRisen, HasStayed, HasNotFallen};

@@ -1,4 +1,6 @@
 //! Texts of any length, written in pieces.
+//!
+//! No write is asked for more than a limit, nor for an empty piece, and none after one that failed.
 ghost use Rattle.std.specs.Prelude.{OnOk, OnErr};
 ghost use Rattle.renju_io.specs.Faults.{HasRisen, HasStayed, HasNotFallen};
 ghost use Rattle.renju_io.specs.Told.{Takes, TakesPart};

@@ -16,7 +16,7 @@ fn assert_lines(
     piece: usize,
     lines: &[&[u8]],
 ) -> Result<(), Fail>
-    requires { 0 < piece }
+    requires some { 0 < piece }
 {
     let mut source = MemorySource::new(Vec::from_slice(alloc, bytes)?, piece, Vec::new(alloc));
     let mut reader = LineReader::new(alloc)?;
@@ -98,13 +98,36 @@ fn nothing_is_read_while_a_line_is_kept(rt: HostRuntime) -> Result<(), Fail> {
     Ok(())
 }
 
+// One read gives these bytes, of two lines, and the next tells the end. The reader asks for no third, which would fail.
+fn assert_ends_once(rt: &impl Abort, alloc: Global, bytes: &[u8]) -> Result<(), Fail> {
+    let mut source = MemorySource::new(
+        Vec::from_slice(alloc, bytes)?,
+        100,
+        Vec::from_slice(alloc, &[3])?,
+    );
+    let mut reader = LineReader::new(alloc)?;
+    assert_eq!(rt; reader.next(&mut source), Ok(Line::Text));
+    assert_eq!(rt; reader.next(&mut source), Ok(Line::Text));
+    assert_eq!(rt; reader.text(), b"END".as_slice());
+    assert_eq!(rt; reader.next(&mut source), Ok(Line::End));
+    assert_eq!(rt; reader.next(&mut source), Ok(Line::End));
+    assert_eq!(rt; source.read(&mut [0]), Err(Failed));
+    Ok(())
+}
+
+#[test]
+fn nothing_is_read_after_the_end(rt: HostRuntime) -> Result<(), Fail> {
+    assert_ends_once(&rt, rt.alloc(), b"BEGIN\nEND\n")?;
+    assert_ends_once(&rt, rt.alloc(), b"BEGIN\nEND")
+}
+
 // What a reader that has taken all but these last bytes tells of these bytes.
 fn last_bytes(
     alloc: Global,
     before: usize,
     bytes: &[u8],
 ) -> Result<[Result<Line, ReadError>; 3], Fail>
-    requires { before ≤ MAX_SESSION_BYTES }
+    requires within { before ≤ MAX_SESSION_BYTES }
 {
     let mut source = MemorySource::new(Vec::from_slice(alloc, bytes)?, 100, Vec::new(alloc));
     let mut reader = LineReader::new(alloc)?;

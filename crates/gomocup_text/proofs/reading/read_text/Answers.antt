@@ -12,5 +12,5 @@ returns-in-Some-named_word c =
       command = c.read_form.ensures.command
           ∙ ap (form_of c.in-Some-named_word.word) c.first_word.ensures.rest
           ∙ text_command-word c.args.text.now c.in-Some-named_word.word some c.in_default.ensures.numbers
-          (c.in-Some-named_word.ensures ∙ ap named c.first_word.ensures.word);
+          (c.in-Some-named_word.ensures.word ∙ ap named c.first_word.ensures.word);
     }

@@ -1,13 +1,14 @@
-use Rattle.std.proofs.Common.{◌+◌, ◌-◌}
+use Rattle.std.proofs.Common.{◌≡◌, false, ◌+◌, ◌-◌}
 use Rattle.renju_io.specs.Faults.{HasStayed}
 use Rattle.renju_io.specs.declared.TheConstants.{MAX_SESSION_BYTES}
 use Rattle.renju_io.proofs.LinesSoFar.{Reading}
 use Rattle.renju_io.proofs.line_reader.LineReader.next.Given as goal
 
--- the reader has taken some bytes of the source, which has counted no fault
+-- the reader has taken some bytes of the source, which has not told its end and counted no fault
 abbrev pub invariant-loop-self : goal.invariant-loop-self
 invariant-loop-self g l =
     Reading l.initial.self (g.S.Source.left l.initial.source) l.self (g.S.Source.left l.source)
+    × (l.self.ended ≡ false)
     × HasStayed (g.S.Source.faults l.initial.source) (g.S.Source.faults l.source)
 
 abbrev pub decreases-loop-self : goal.decreases-loop-self

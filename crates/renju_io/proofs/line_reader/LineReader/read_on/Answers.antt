@@ -1,4 +1,4 @@
-use Rattle.std.proofs.Common.{◌+◌, ap, arith}
+use Rattle.std.proofs.Common.{◌+◌, ◌∙◌, ap, arith}
 use Rattle.renju_io.specs.Lines.{ReaderState}
 use Rattle.renju_io.specs.declared.TheConstants.{MAX_LINE_BYTES}
 use Rattle.renju_io.proofs.LineLaws.{HasNoLineFeed-front}
@@ -16,6 +16,8 @@ invariant_of-self g c =
       next_within = omega arith;
       end_within = omega arith;
       taken_within = c.self.invariant.taken_within;
+      ended_within = λ is_ended. let told = ap (λ (reader : ReaderState). reader.ended) c.self.view_is ∙ c.requires.reading in cc;
+      ended_empty = λ is_ended. let told = ap (λ (reader : ReaderState). reader.ended) c.self.view_is ∙ c.requires.reading in cc;
     }
 
 pub invariant_of-self-then-self-le-MAX_SESSION_BYTES : goal.invariant_of-self-then-self-le-MAX_SESSION_BYTES
@@ -30,6 +32,8 @@ invariant_of-self-then-self-le-MAX_SESSION_BYTES g c =
       next_within = omega arith;
       end_within = omega (arith, c.in_ok-count.ensures.fits.1, c.deref_mut.ensures.len);
       taken_within = omega (arith, c.if-self-le-MAX_SESSION_BYTES.true);
+      ended_within = λ is_ended. c.if-self-le-MAX_SESSION_BYTES.true;
+      ended_empty = λ is_ended. let told = ap (λ (reader : ReaderState). reader.ended) c.self.view_is ∙ c.requires.reading in cc;
     }
 
 pub invariant_of-self-else-self-le-MAX_SESSION_BYTES : goal.invariant_of-self-else-self-le-MAX_SESSION_BYTES
@@ -44,4 +48,6 @@ invariant_of-self-else-self-le-MAX_SESSION_BYTES g c =
       next_within = omega arith;
       end_within = omega arith;
       taken_within = omega (arith, c.in_ok-count.ensures.fits.0, c.max-most.ensures, c.requires.within, ap (λ (reader : ReaderState). reader.taken) c.self.view_is);
+      ended_within = λ is_ended. let told = ap (λ (reader : ReaderState). reader.ended) c.self.view_is ∙ c.requires.reading in cc;
+      ended_empty = λ is_ended. let told = ap (λ (reader : ReaderState). reader.ended) c.self.view_is ∙ c.requires.reading in cc;
     }
