@@ -1,38 +1,32 @@
 -- The entries of a table of remembered positions.
-use Rattle.std.proofs.Common.{◌≡◌, ℕ, zero, suc, ◌+◌, ◌-◌, ◌<◌, ◌≤◌, Bool, true, false, ◌&&◌, List, [], ◌∷◌, take, length, Contains, Option, Some, None, nat_eq, refl, sym, ap, subst, ◌∙◌, arith}
+use Rattle.std.proofs.Common.{◌≡◌, ℕ, zero, suc, ◌+◌, ◌-◌, ◌<◌, ◌≤◌, Bool, true, false, ◌⊎◌, List, [], ◌∷◌, take, length, Contains, Option, Some, None, nat_eq, inl, inr, refl, sym, ap, subst, ◌∙◌, arith}
 use Rattle.std.specs.Map.{lookup_entry, remove_entry}
 use Rattle.std.specs.Cmp.Lexicographic.{pointwise}
 use Rattle.std.proofs.lemmas.Bool.{eqb-true, eq-eqb}
 use Rattle.std.proofs.lemmas.List.{take_all}
 use Rattle.lru.specs.LruCache.{LruCache, IsValid, put_entries}
-use Rattle.lru.proofs.CallerLemmas.{Contains-lookup_entry, Contains-lookup}
+use Rattle.lru.proofs.CallerLemmas.{Contains-lookup_entry, Contains-lookup, Contains-promoted, Contains-take, Contains-remove_entry}
+use Rattle.lru.proofs.Splits.{Contains-cons}
+use Rattle.game_rules.proofs.Boards.{and_left, and_right}
 use Rattle.position_table.specs.Packing.{Packed}
-use Rattle.position_table.specs.Remembering.{Remembered, TestTells, same_packed, same_key, value_under}
-
-both_left : (a b : Bool) → (a && b) ≡ true → a ≡ true
-both_left true b h = refl
-both_left false b h = cc
-
-both_right : (a b : Bool) → (a && b) ≡ true → b ≡ true
-both_right true b h = h
-both_right false b h = cc
+use Rattle.position_table.specs.Remembering.{Remembered, TestTells, same_packed, same_key, value_under, looked_up, kept}
 
 same_bytes : (s t : List ℕ) → pointwise nat_eq s t ≡ true → s ≡ t
 same_bytes [] [] h = refl
 same_bytes [] (y ∷ t) h = cc
 same_bytes (x ∷ s) [] h = cc
 same_bytes (x ∷ s) (y ∷ t) h =
-    let first : x ≡ y = eqb-true x y (both_left (nat_eq x y) _ h) in
-    let rest : s ≡ t = same_bytes s t (both_right (nat_eq x y) _ h) in
+    let first : x ≡ y = eqb-true x y (and_left (nat_eq x y) _ h) in
+    let rest : s ≡ t = same_bytes s t (and_right (nat_eq x y) _ h) in
     cc
 
 -- packed boards that the test finds the same are the same
 pub same_packed-tells : (a b : Packed) → same_packed a b ≡ true → a ≡ b
 same_packed-tells a b h =
-    let width : a.width ≡ b.width = eqb-true a.width b.width (both_left (nat_eq a.width b.width) _ h) in
-    let rest = both_right (nat_eq a.width b.width) _ h in
-    let height : a.height ≡ b.height = eqb-true a.height b.height (both_left (nat_eq a.height b.height) _ rest) in
-    let bytes : a.bytes ≡ b.bytes = same_bytes a.bytes b.bytes (both_right (nat_eq a.height b.height) _ rest) in
+    let width : a.width ≡ b.width = eqb-true a.width b.width (and_left (nat_eq a.width b.width) _ h) in
+    let rest = and_right (nat_eq a.width b.width) _ h in
+    let height : a.height ≡ b.height = eqb-true a.height b.height (and_left (nat_eq a.height b.height) _ rest) in
+    let bytes : a.bytes ≡ b.bytes = same_bytes a.bytes b.bytes (and_right (nat_eq a.height b.height) _ rest) in
     λ i. record { width = width i; height = height i; bytes = bytes i }
 
 same_bytes-refl : (s : List ℕ) → pointwise nat_eq s s ≡ true
@@ -49,8 +43,8 @@ test-tells a b = (same_packed-tells a b, λ e. subst (λ (c : Packed). same_pack
 -- keys that the test finds the same are the same
 pub same_key-tells : (a b : Packed × ℕ) → same_key a b ≡ true → a ≡ b
 same_key-tells a b h =
-    let board : a.0 ≡ b.0 = same_packed-tells a.0 b.0 (both_left (same_packed a.0 b.0) _ h) in
-    let tag : a.1 ≡ b.1 = eqb-true a.1 b.1 (both_right (same_packed a.0 b.0) _ h) in
+    let board : a.0 ≡ b.0 = same_packed-tells a.0 b.0 (and_left (same_packed a.0 b.0) _ h) in
+    let tag : a.1 ≡ b.1 = eqb-true a.1 b.1 (and_right (same_packed a.0 b.0) _ h) in
     λ i. (board i, tag i)
 
 module _ {V : Type 0} (test : Packed × ℕ → Bool) where
@@ -94,3 +88,14 @@ module _ {V : Type 0} (key : Packed × ℕ) (t : Remembered V) where
       let found = Contains-lookup (same_key key) t.entries value h in
       let own : key ≡ found.0 = same_key-tells key found.0 found.2 in
       subst (λ k. Contains t.entries (k, value)) (sym own) found.1
+
+  -- each entry after a look was there before
+  pub looked_up-before : (e : (Packed × ℕ) × V) → Contains (looked_up key t).entries e → Contains t.entries e
+  looked_up-before e there = Contains-promoted (same_key key) t.entries e there
+
+  -- each entry after a value is kept was there before, or is the one that is kept
+  pub kept-before : (value : V) (e : (Packed × ℕ) × V) → Contains (kept key value t).entries e → Contains t.entries e ⊎ ((key, value) ≡ e)
+  kept-before value e there = elim (Contains-cons (key, value) (remove_entry (same_key key) t.entries) e (Contains-take t.capacity ((key, value) ∷ remove_entry (same_key key) t.entries) e there)) [
+    | inl same ↦ inr same
+    | inr old ↦ inl (Contains-remove_entry (same_key key) t.entries e old)
+  ]

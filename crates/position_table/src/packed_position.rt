@@ -10,6 +10,7 @@ ghost use Rattle.position_table.specs.Remembering.{TestTells};
 ghost use Rattle.position_table.specs.Packing.{packed, KeysTellBoards, bytes_of as bytes_of_lem, byte_at, code_at, code_of as code_of_lem};
 
 use game_rules::{Cell, Point};
+use std::hash::{Hash, Hasher};
 use std::marker::Model;
 use stone_board::Board;
 
@@ -17,7 +18,7 @@ use stone_board::Board;
 pub const PACKED_BYTES: usize = 256;
 
 /// A board packed, as a key: the width, the height and the cells.
-#[derive(Clone, Copy, Debug, PartialEq, Eq, Hash)]
+#[derive(Clone, Copy, Debug, PartialEq, Eq)]
 pub struct PackedPosition {
     width: u8,
     height: u8,
@@ -34,7 +35,32 @@ impl Model for PackedPosition {
     ghost inverse = { λ p. record { width = p.width; height = p.height; bytes = p.bytes } };
 }
 
+impl Hash for PackedPosition {
+    ghost use Rattle.position_table.specs.Hashing.{hashed, same_hashed};
+
+    ghost hash_input = { hashed };
+
+    ghost respects_eq = { same_hashed };
+
+    // The bytes that hold cells are read at once, and the size is left out: one table mostly has boards of one size.
+    fn hash<H: Hasher>(&self, state: &mut H) {
+        let used = self.used();
+        state.write(&self.bytes[..used]);
+    }
+}
+
 impl PackedPosition {
+    ghost use Rattle.position_table.specs.Hashing.{used as used_lem};
+
+    /// How many bytes hold cells.
+    fn used(&self) -> usize
+        ensures used { result ≡ used_lem self.now }
+        ensures within { result ≤ 256 }
+    {
+        let cells = self.width as usize * self.height as usize;
+        ((cells + 3) / 4).min(PACKED_BYTES)
+    }
+
     /// The key of the board. It takes no memory.
     pub fn of(board: &Board) -> PackedPosition
         ensures packed { result ≡ packed board.now }
@@ -71,10 +97,56 @@ fn next_byte(board: &Board, p: &mut Point) -> u8
     ensures place { place_of board.now p.new ≡ place_of board.now p.old + 4 }
     ensures column { p.new.x < board.now.width }
 {
+    if p.y < board.height() && p.x + 3 < board.width() {
+        return byte_in_row(board, p);
+    }
     let first = next_code(board, p);
     let second = next_code(board, p);
     let third = next_code(board, p);
     let fourth = next_code(board, p);
+    byte(first, second, third, fourth)
+}
+
+/// The byte of the four cells from `p` on where they stand in one row. Then `p` is the fourth point after it.
+fn byte_in_row(board: &Board, p: &mut Point) -> u8
+    requires columns { p.old.x + 3 < board.now.width }
+    requires row { p.old.y < board.now.height }
+    ensures byte { (k : ℕ) → place_of board.now p.old ≡ 4 * k → result ≡ byte_at board.now.cells k }
+    ensures place { place_of board.now p.new ≡ place_of board.now p.old + 4 }
+    ensures column { p.new.x < board.now.width }
+{
+    let width = board.width();
+    let first = code_in_row(board, *p, 0);
+    let second = code_in_row(board, *p, 1);
+    let third = code_in_row(board, *p, 2);
+    let fourth = code_in_row(board, *p, 3);
+    let last = Point { x: p.x + 3, y: p.y };
+    *p = following(width, last);
+    byte(first, second, third, fourth)
+}
+
+/// The two bits of the cell so many columns after `p`.
+fn code_in_row(board: &Board, p: Point, columns: u8) -> u8
+    requires column { p.x + columns < board.now.width }
+    requires near { p.x + columns < 64 }
+    requires row { p.y < board.now.height }
+    ensures code { result ≡ code_at board.now.cells (place_of board.now p + columns) }
+    ensures bits { result < 3 }
+{
+    code_of(board.cell(Point {
+        x: p.x + columns,
+        y: p.y,
+    }))
+}
+
+/// The byte of four cells, two bits for each, the first of them in the lowest bits.
+fn byte(first: u8, second: u8, third: u8, fourth: u8) -> u8
+    requires first { first < 3 }
+    requires second { second < 3 }
+    requires third { third < 3 }
+    requires fourth { fourth < 3 }
+    ensures byte { result ≡ first + 4 * second + 16 * third + 64 * fourth }
+{
     first + 4 * second + 16 * third + 64 * fourth
 }
 

@@ -1,6 +1,6 @@
 -- A move played and taken back, what a stop says once a move is noted, and the replies that are left.
 use Rattle.std.proofs.Common.{◌≡◌, ℕ, ◌+◌, true, false, List, [], ◌∷◌, ◌++◌, reverse, sym, ap, ◌∙◌}
-use Rattle.std.specs.Prelude.{Option, Some, slice_get}
+use Rattle.std.specs.Prelude.{Option, Some, slice_get, Result, Ok, Err, OnOk}
 use Rattle.std.specs.List.{All, sum_by}
 use Rattle.std.proofs.lemmas.List.{reverse-append}
 use Rattle.std.proofs.lemmas.List.Elements.{All-cons, All-nil}
@@ -89,3 +89,15 @@ sum-first f q qs more e = ap (sum_by f) e ∙ sum_by-cons f q more
 
 pub All-none : (P : Point → Type 0) (qs : List Point) → qs ≡ [] → All P qs
 All-none P qs e = rw e (All-nil P)
+
+-- ---- what holds of a call that succeeds
+
+-- what holds in any case
+pub on-ok : {A E : Type 0} (r : Result A E) (P : Type 0) → P → OnOk r P
+on-ok (Ok a) P p = p
+on-ok (Err e) P p = tt
+
+-- what follows
+pub on-ok-map : {A E : Type 0} (r : Result A E) (P Q : Type 0) → (P → Q) → OnOk r P → OnOk r Q
+on-ok-map (Ok a) P Q f p = f p
+on-ok-map (Err e) P Q f p = tt

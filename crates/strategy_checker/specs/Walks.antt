@@ -1,6 +1,15 @@
--- How a walk through a table stops before it has met every reply.
-use Rattle.std.specs.Prelude.{◌≡◌, List, [], ◌∷◌, ◌++◌}
+-- How a walk through a table stops before it has met every reply, and what it remembers.
+use Rattle.std.specs.Prelude.{◌≡◌, ℕ, List, [], ◌∷◌, ◌++◌}
+use Rattle.std.specs.List.{Contains}
+use Rattle.game_rules.specs.Grid.{Grid}
+use Rattle.game_rules.specs.Play.{IsPosition}
 use Rattle.game_rules.specs.declared.Point.{Point}
+use Rattle.game_rules.specs.declared.RuleKind.{RuleKind}
+use Rattle.position_table.specs.Packing.{Packed, packed}
+use Rattle.position_table.specs.Remembering.{Remembered}
+use Rattle.strategy_graph.specs.Acceptance.{Accepted}
+use Rattle.strategy_graph.specs.Arrivals.{arrivals}
+use Rattle.strategy_graph.specs.declared.Node.{Node}
 use Rattle.strategy_graph.specs.declared.Why.{Why}
 use Rattle.strategy_checker.specs.declared.walk.Stop.{Stop}
 use Rattle.strategy_checker.specs.declared.walk.Stop.TheVariants.{Fault, Spent, Memory}
@@ -17,3 +26,12 @@ abbrev pub IsNoted : Point → List Point → List Point → Stop → Stop → T
 IsNoted p old new (Fault why) stop = Stopped (λ w. (w ≡ why) × (new ≡ old ++ p ∷ [])) ⊥ stop
 IsNoted p old new Spent stop = stop ≡ Spent
 IsNoted p old new Memory stop = stop ≡ Memory
+
+-- at each lawful position with the key of the entry, the node that is its tag is accepted, and its value is their arrivals
+pub record IsTrueEntry (rule : RuleKind) (t : List Node) (e : (Packed × ℕ) × ℕ) : Type 0 where
+  pub accepted : (b : Grid) → IsPosition rule b → packed b ≡ e.0.0 → Accepted rule t e.0.1 b
+  pub counted : (b : Grid) → IsPosition rule b → packed b ≡ e.0.0 → arrivals rule t e.0.1 b ≡ e.1
+
+-- each entry that is remembered is true
+pub record IsTrueMemo (rule : RuleKind) (t : List Node) (memo : Remembered ℕ) : Type 0 where
+  pub each : (e : (Packed × ℕ) × ℕ) → Contains memo.entries e → IsTrueEntry rule t e

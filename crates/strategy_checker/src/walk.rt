@@ -2,25 +2,28 @@
 //!
 //! The walk goes through the games that the table plays: one recursion for each attack, so that it is no deeper than the
 //! points of the board allow, however long the table is. It plays and takes back on the position that it was lent. A
-//! fault ends it, and the moves that led there are noted on the way back, the last one first, so that nothing is
-//! allocated before.
+//! node that was walked through at the same position before is not walked again, where the memo has the pair. A fault
+//! ends the walk, and the moves that led there are noted on the way back, the last one first.
 #![tactic(auto)]
 
-ghost use Rattle.std.specs.Prelude.{◌≡◌, ◌<◌, ◌+◌, [], true, length, reverse, IfErr, OnOk};
-ghost use Rattle.game_rules.specs.Play.{IsPosition};
-ghost use Rattle.strategy_graph.specs.Tables.{names_below};
+ghost use Rattle.std.specs.Prelude.{◌≡◌, ◌<◌, ◌+◌, ◌^◌, [], true, false, List, length, reverse, slice_get, Some, IfErr, OnOk};
+ghost use Rattle.game_rules.specs.Play.{IsPosition, outcome};
+ghost use Rattle.game_rules.specs.declared.RuleKind.{RuleKind as AnyRule};
+ghost use Rattle.strategy_graph.specs.Tables.{IsTable, is_winning, names_below};
+ghost use Rattle.strategy_graph.specs.declared.Node.{Node as AnyNode};
 ghost use Rattle.strategy_graph.specs.Acceptance.{Accepted, AcceptedStart, Meets};
 ghost use Rattle.strategy_graph.specs.Arrivals.{arrivals, arrivals_after, arrivals_at, start_arrivals};
 ghost use Rattle.strategy_graph.specs.Leads.{Leads, LeadsStart};
 ghost use Rattle.strategy_graph.specs.Roots.{AcceptedRoot, LeadsRoot, root_arrivals, root_below};
-ghost use Rattle.strategy_checker.specs.Walks.{Stopped, IsNoted};
+ghost use Rattle.strategy_checker.specs.Walks.{Stopped, IsNoted, IsTrueMemo};
 
 use crate::Why;
+use crate::memo::Memo;
 use foul_judge::{Outcome, Position, Seen};
 use row_shapes::Rule;
 use std::alloc::Global;
 use stone_board::{Point, Points};
-use strategy_graph::{Replies, Rest, Root, Start, Table, answer_among};
+use strategy_graph::{Node, Replies, Rest, Root, Start, Table, answer_among};
 
 /// Why a walk ends before every reply is met.
 #[derive(Clone, Copy)]
@@ -40,6 +43,8 @@ pub(crate) struct Walk {
     pub(crate) left: u64,
     /// The moves that led to the fault, the last one first. There are none before a fault is found.
     pub(crate) line: Points,
+    /// The pairs of a node and a position that were accepted.
+    memo: Memo,
 }
 
 impl Walk {
@@ -47,10 +52,12 @@ impl Walk {
     pub(crate) fn new(alloc: Global, work: u64) -> Walk
         ensures left { result.left ≡ work }
         ensures line { result.line ≡ [] }
+        ensures memo { (rule : AnyRule) → (t : List AnyNode) → IsTrueMemo rule t result.memo }
     {
         Walk {
             left: work,
             line: Points::new(alloc),
+            memo: Memo::new(alloc),
         }
     }
 
@@ -65,10 +72,12 @@ impl Walk {
         requires in_table { i < length table.now }
         requires lawful { IsPosition R.KIND position.old }
         requires no_line { self.old.line ≡ [] }
+        requires memo { IsTrueMemo R.KIND table.now self.old.memo }
         ensures accepted { OnOk result (Accepted R.KIND table.now i position.old) }
         ensures counted { OnOk result
             (self.new.left + arrivals R.KIND table.now i position.old ≡ self.old.left) }
         ensures no_line { OnOk result (self.new.line ≡ []) }
+        ensures memo { OnOk result (IsTrueMemo R.KIND table.now self.new.memo) }
         ensures stopped { IfErr result (Stopped
             (λ why. Leads R.KIND table.now i position.old (reverse self.new.line) why)
             (self.old.left < arrivals R.KIND table.now i position.old)) }
@@ -85,14 +94,87 @@ impl Walk {
                 if node.rest.is_winning() {
                     return Err(self.fault(node.attack, Why::NotWon));
                 }
-                position.play(node.attack);
-                let met = self.meet_all(table, &node.replies, node.rest, position);
-                position.undo(node.attack);
-                match met {
-                    Ok(()) => Ok(()),
-                    Err(stop) => Err(self.noted(node.attack, stop)),
-                }
+                self.go_on(table, i, node, position)
             }
+        }
+    }
+
+    /// Walks on from a node that was arrived at, whose attack goes on. Where the memo has the node at the position, its
+    /// arrivals are taken at once. The position is the same afterwards.
+    #[cycle(walk)]
+    fn go_on<R: Rule>(
+        &mut self,
+        table: &Table,
+        i: u32,
+        node: &Node,
+        position: &mut Position<R>,
+    ) -> Result<(), Stop>
+        requires table { IsTable table.now }
+        requires node { slice_get table.now i ≡ Some node.now }
+        requires goes_on { outcome R.KIND position.old node.now.attack ≡ Outcome.GoesOn }
+        requires more { is_winning node.now.rest ≡ false }
+        requires lawful { IsPosition R.KIND position.old }
+        requires no_line { self.old.line ≡ [] }
+        requires memo { IsTrueMemo R.KIND table.now self.old.memo }
+        requires fits { self.old.left + 1 < 2 ^ 64 }
+        ensures accepted { OnOk result (Accepted R.KIND table.now i position.old) }
+        ensures counted { OnOk result
+            (self.new.left + arrivals R.KIND table.now i position.old ≡ self.old.left + 1) }
+        ensures no_line { OnOk result (self.new.line ≡ []) }
+        ensures memo { OnOk result (IsTrueMemo R.KIND table.now self.new.memo) }
+        ensures stopped { IfErr result (Stopped
+            (λ why. Leads R.KIND table.now i position.old (reverse self.new.line) why)
+            (self.old.left + 1 < arrivals R.KIND table.now i position.old)) }
+        ensures same { position.new ≡ position.old }
+    {
+        match self.memo.find(position.board(), i) {
+            Some(arrivals) => {
+                let others = arrivals - 1;
+                self.take(others)
+            }
+            None => self.attack(table, i, node, position),
+        }
+    }
+
+    /// Plays the attack of a node, walks on from each reply, and remembers the node at the position, which is the same
+    /// afterwards.
+    #[cycle(walk)]
+    fn attack<R: Rule>(
+        &mut self,
+        table: &Table,
+        i: u32,
+        node: &Node,
+        position: &mut Position<R>,
+    ) -> Result<(), Stop>
+        requires table { IsTable table.now }
+        requires node { slice_get table.now i ≡ Some node.now }
+        requires goes_on { outcome R.KIND position.old node.now.attack ≡ Outcome.GoesOn }
+        requires more { is_winning node.now.rest ≡ false }
+        requires lawful { IsPosition R.KIND position.old }
+        requires no_line { self.old.line ≡ [] }
+        requires memo { IsTrueMemo R.KIND table.now self.old.memo }
+        requires fits { self.old.left + 1 < 2 ^ 64 }
+        ensures accepted { OnOk result (Accepted R.KIND table.now i position.old) }
+        ensures counted { OnOk result
+            (self.new.left + arrivals R.KIND table.now i position.old ≡ self.old.left + 1) }
+        ensures no_line { OnOk result (self.new.line ≡ []) }
+        ensures memo { OnOk result (IsTrueMemo R.KIND table.now self.new.memo) }
+        ensures stopped { IfErr result (Stopped
+            (λ why. Leads R.KIND table.now i position.old (reverse self.new.line) why)
+            (self.old.left + 1 < arrivals R.KIND table.now i position.old)) }
+        ensures same { position.new ≡ position.old }
+    {
+        let before = self.left + 1;
+        position.play(node.attack);
+        let met = self.meet_all(table, &node.replies, node.rest, position);
+        position.undo(node.attack);
+        match met {
+            Ok(()) => {
+                let arrivals = before - self.left;
+                self.memo.keep(position.board(), i, arrivals);
+                Ok(())
+            }
+            Err(stop) => Err(self.noted(node.attack, stop)),
         }
     }
 
@@ -106,6 +188,7 @@ impl Walk {
         requires below { names_below start.now (length table.now) ≡ true }
         requires lawful { IsPosition R.KIND position.old }
         requires no_line { self.old.line ≡ [] }
+        requires memo { IsTrueMemo R.KIND table.now self.old.memo }
         ensures accepted { OnOk result (AcceptedStart R.KIND table.now start.now position.old) }
         ensures counted { OnOk result
             (self.new.left + start_arrivals R.KIND table.now start.now position.old
@@ -129,6 +212,7 @@ impl Walk {
         requires below { root_below root.now (length table.now) ≡ true }
         requires lawful { IsPosition R.KIND position.old }
         requires no_line { self.old.line ≡ [] }
+        requires memo { IsTrueMemo R.KIND table.now self.old.memo }
         ensures accepted { OnOk result (AcceptedRoot R.KIND table.now root.now position.old) }
         ensures counted { OnOk result
             (self.new.left + root_arrivals R.KIND table.now root.now position.old ≡ self.old.left) }
@@ -157,6 +241,7 @@ impl Walk {
             (length table.now) ≡ true }
         requires lawful { IsPosition R.KIND position.old }
         requires no_line { self.old.line ≡ [] }
+        requires memo { IsTrueMemo R.KIND table.now self.old.memo }
         ensures accepted { OnOk result
             (AcceptedStart R.KIND table.now
             (record { replies = replies.now; rest = rest }) position.old) }
@@ -164,6 +249,7 @@ impl Walk {
             (self.new.left + arrivals_after R.KIND (record { replies = replies.now; rest = rest })
             (arrivals R.KIND table.now) position.old ≡ self.old.left) }
         ensures no_line { OnOk result (self.new.line ≡ []) }
+        ensures memo { OnOk result (IsTrueMemo R.KIND table.now self.new.memo) }
         ensures stopped { IfErr result (Stopped
             (λ why. LeadsStart R.KIND table.now (record { replies = replies.now; rest = rest }) position.old (reverse self.new.line) why)
             (self.old.left < arrivals_after R.KIND (record { replies = replies.now; rest = rest }) (arrivals R.KIND table.now) position.old)) }
@@ -189,6 +275,7 @@ impl Walk {
             (length table.now) ≡ true }
         requires lawful { IsPosition R.KIND position.old }
         requires no_line { self.old.line ≡ [] }
+        requires memo { IsTrueMemo R.KIND table.now self.old.memo }
         ensures met { OnOk result
             (Meets R.KIND (record { replies = replies.now; rest = rest })
             (Accepted R.KIND table.now) position.old q) }
@@ -196,6 +283,7 @@ impl Walk {
             (self.new.left + arrivals_at R.KIND (record { replies = replies.now; rest = rest })
             (arrivals R.KIND table.now) position.old q ≡ self.old.left) }
         ensures no_line { OnOk result (self.new.line ≡ []) }
+        ensures memo { OnOk result (IsTrueMemo R.KIND table.now self.new.memo) }
         ensures stopped { IfErr result (Stopped
             (λ why. LeadsStart R.KIND table.now (record { replies = replies.now; rest = rest }) position.old (reverse self.new.line) why)
             (self.old.left < arrivals_at R.KIND (record { replies = replies.now; rest = rest }) (arrivals R.KIND table.now) position.old q)) }
@@ -226,11 +314,27 @@ impl Walk {
         ensures counted { OnOk result (self.new.left + 1 ≡ self.old.left) }
         ensures stopped { IfErr result (Stopped (λ why. ⊥) (self.old.left ≡ 0)) }
         ensures line { self.new.line ≡ self.old.line }
+        ensures memo { self.new.memo ≡ self.old.memo }
+        ensures fits { OnOk result (self.new.left + 1 < 2 ^ 64) }
     {
         if self.left == 0 {
             return Err(Stop::Spent);
         }
         self.left -= 1;
+        Ok(())
+    }
+
+    /// Counts so many arrivals at once.
+    fn take(&mut self, arrivals: u64) -> Result<(), Stop>
+        ensures counted { OnOk result (self.new.left + arrivals ≡ self.old.left) }
+        ensures stopped { IfErr result (Stopped (λ why. ⊥) (self.old.left < arrivals)) }
+        ensures line { self.new.line ≡ self.old.line }
+        ensures memo { self.new.memo ≡ self.old.memo }
+    {
+        if self.left < arrivals {
+            return Err(Stop::Spent);
+        }
+        self.left -= arrivals;
         Ok(())
     }
 

@@ -1,10 +1,13 @@
-use Rattle.std.proofs.Common.{rules, ◌≡◌, Bool, ◌+◌, ◌*◌, ◌<◌, true, false, length, refl, sym, ap, subst, ◌∙◌, arith}
+use Rattle.std.proofs.Common.{rules, ◌≡◌, Bool, ◌+◌, ◌-◌, ◌*◌, ◌<◌, ℕ, [], true, false, length, reverse, refl, sym, ap, subst, ◌∙◌, arith}
 use Rattle.std.specs.Prelude.{Some, None, if◌then◌else◌}
-use Rattle.std.proofs.lemmas.Result.{err_from_is_err_and}
+use Rattle.std.proofs.lemmas.Option.{slice_get_within}
+use Rattle.std.proofs.lemmas.Result.{err_from_is_err_and, IfErr-weaker}
 use Rattle.game_rules.specs.Grid.{Grid, empties_of}
 use Rattle.game_rules.specs.Play.{IsPosition, outcome, after}
 use Rattle.game_rules.specs.declared.Outcome.TheVariants.{Refused, Wins, Fouls, Draws, GoesOn}
 use Rattle.game_rules.specs.declared.Point.{Point}
+use Rattle.position_table.specs.Packing.{packed}
+use Rattle.position_table.specs.Remembering.{Remembered}
 use Rattle.strategy_graph.specs.declared.Node.{Node}
 use Rattle.strategy_graph.specs.declared.Why.TheVariants.{AttackRefused, AttackFouls, AttackDraws, NotWon}
 use Rattle.strategy_graph.specs.Tables.{Answers, answers_of, answer, is_winning, names_below}
@@ -15,7 +18,9 @@ use Rattle.strategy_graph.proofs.Filling.{IsTable-lower}
 use Rattle.strategy_graph.proofs.Growth.{names_below-more}
 use Rattle.strategy_graph.proofs.Answering.{answer-below}
 use Rattle.strategy_graph.proofs.Steps.{arrivals-positive, accepted-by-win, accepted-by-replies, arrivals-by-replies, arrivals-one, arrivals-answer, met-all, leads-answer}
-use Rattle.strategy_checker.proofs.Walking.{played-lawful, played-fewer, played-stone, lifted-back, lifted-unwon, fault-stops, noted-stops, stops-map, attack-leads, attack-then-leads, All-first, All-none, sum-first}
+use Rattle.strategy_checker.proofs.Walking.{played-lawful, played-fewer, played-stone, lifted-back, lifted-unwon, fault-stops, noted-stops, stops-map, attack-leads, attack-then-leads, All-first, All-none, sum-first, on-ok, on-ok-map}
+use Rattle.strategy_checker.proofs.Remembering.{true-looked, true-kept, found-accepted, found-counted}
+use Rattle.strategy_checker.specs.Walks.{IsTrueMemo}
 use Rattle.strategy_checker.proofs.walk.Walk.+walk.Goals as goal
 
 -- ---- a reply
@@ -27,7 +32,7 @@ meet-visit-walked-requires g t c κs within =
     let there : c.play.new.self ≡ after b c.args.q = c.play.ensures.played ∙ ap (λ (w : Grid). after w c.args.q) c.outcome.ensures.same in
     let lawful : IsPosition g.R.Rule.KIND c.play.new.self = played-lawful g.R.Rule.KIND b c.args.q c.requires.lawful on c.play.new.self there in
     let fewer = played-fewer g.R.Rule.KIND b c.args.q c.requires.lawful on c.play.new.self there in
-    let less : 3 * empties_of c.play.new.self < 3 * empties_of b + 1 = omega (arith, fewer) in
+    let less : 5 * empties_of c.play.new.self + 2 < 5 * empties_of b + 3 = omega (arith, fewer) in
     let below : c.in-Some.next < length c.args.table.now = answer-below (record { replies = c.args.replies.now; rest = c.args.rest }) (length c.args.table.now) c.args.q c.in-Some.next c.requires.below (sym c.in-Some.ensures.answer) in
     search rules
 
@@ -88,6 +93,7 @@ meet_all-loop-q-preserved g t c =
     record {
       same = c.in_ok-meet.ensures.same ∙ c.loop-q.invariant.same;
       no_line = c.in_ok-meet.ensures.no_line;
+      memo = c.in_ok-meet.ensures.memo;
       counted = omega (arith, counted, first, before);
       met = λ later. c.loop-q.invariant.met (All-first (Meets g.R.Rule.KIND a (Accepted g.R.Rule.KIND c.args.table.now) b) c.in-Some.q c.loop-q.q-iterator c.next.new.self c.in-Some.ensures.steps met later);
     }
@@ -115,30 +121,16 @@ visit-returns-then-is_winning-clause-stopped g t c =
     (attack-leads g.R.Rule.KIND c.args.table.now c.args.i c.args.position.now c.node-node.result.now NotWon GoesOn c.node-node.ensures.node c.in-GoesOn.ensures.outcome (ap (λ (r : Bool). if r then Some NotWon else None) (sym c.is_winning.ensures.wins ∙ c.if-is_winning.true)))
     c.fault-then-is_winning.ensures.noted
 
-pub visit-meet_all-met-requires : goal.visit-meet_all-met-requires
-visit-meet_all-met-requires g t c κs within =
-    let b : Grid = c.args.position.now in
-    let p : Point = c.node-node.result.now.attack in
-    let on : outcome g.R.Rule.KIND b p ≡ GoesOn = sym c.in-GoesOn.ensures.outcome in
-    let there : c.play.new.self ≡ after b p = c.play.ensures.played ∙ ap (λ (w : Grid). after w p) c.outcome.ensures.same in
-    let lawful : IsPosition g.R.Rule.KIND c.play.new.self = played-lawful g.R.Rule.KIND b p c.requires.lawful on c.play.new.self there in
-    let fewer = played-fewer g.R.Rule.KIND b p c.requires.lawful on c.play.new.self there in
-    let less : 3 * empties_of c.play.new.self + 2 < 3 * empties_of b = omega (arith, fewer) in
-    let low : names_below (answers_of c.node-node.result.now) c.args.i ≡ true = (IsTable-lower c.args.table.now c.node-node.ensures.table).lower c.args.i c.node-node.result.now c.node-node.ensures.node in
-    let below : names_below (answers_of c.node-node.result.now) (length c.args.table.now) ≡ true = names_below-more (answers_of c.node-node.result.now) c.args.i (length c.args.table.now) (omega arith) low in
+pub visit-go_on-requires : goal.visit-go_on-requires
+visit-go_on-requires g t c κs within =
+    let same : c.outcome.new.self ≡ c.args.position.now = c.outcome.ensures.same in
+    let less : 5 * empties_of c.outcome.new.self + 1 < 5 * empties_of c.args.position.now + 2 = rw same (omega arith) in
+    let lawful : IsPosition g.R.Rule.KIND c.outcome.new.self = rw same c.requires.lawful in
+    let on : outcome g.R.Rule.KIND c.outcome.new.self c.node-node.result.now.attack ≡ GoesOn = rw same (sym c.in-GoesOn.ensures.outcome) in
+    let more : is_winning c.node-node.result.now.rest ≡ false = sym c.is_winning.ensures.wins ∙ c.if-is_winning.false in
+    let memo : IsTrueMemo g.R.Rule.KIND c.args.table.now c.arrive.new.self.memo = subst (λ (m : Remembered ℕ). IsTrueMemo g.R.Rule.KIND c.args.table.now m) (sym c.arrive.ensures.memo) c.requires.memo in
+    let none : c.arrive.new.self.line ≡ [] = c.arrive.ensures.line ∙ c.requires.no_line in
     search rules
-
-pub visit-undo-requires-clause-stone : goal.visit-undo-requires-clause-stone
-visit-undo-requires-clause-stone g t c =
-    let p : Point = c.node-node.result.now.attack in
-    played-stone g.R.Rule.KIND c.args.position.now p c.requires.lawful (sym c.in-GoesOn.ensures.outcome) _
-    (c.meet_all-met.ensures.same ∙ c.play.ensures.played ∙ ap (λ (w : Grid). after w p) c.outcome.ensures.same)
-
-pub visit-undo-requires-clause-unwon : goal.visit-undo-requires-clause-unwon
-visit-undo-requires-clause-unwon g t c =
-    let p : Point = c.node-node.result.now.attack in
-    lifted-unwon g.R.Rule.KIND c.args.position.now p c.requires.lawful (sym c.in-GoesOn.ensures.outcome) _
-    (c.meet_all-met.ensures.same ∙ c.play.ensures.played ∙ ap (λ (w : Grid). after w p) c.outcome.ensures.same)
 
 pub visit-returns-in-Refused-clause-stopped : goal.visit-returns-in-Refused-clause-stopped
 visit-returns-in-Refused-clause-stopped g t c =
@@ -156,6 +148,9 @@ visit-returns-in-Wins-clause-counted g t c =
     let arrived = c.in_ok-arrive.ensures.counted in
     omega (arith, one, arrived)
 
+pub visit-returns-in-Wins-clause-memo : goal.visit-returns-in-Wins-clause-memo
+visit-returns-in-Wins-clause-memo g t c = subst (λ (m : Remembered ℕ). IsTrueMemo g.R.Rule.KIND c.args.table.now m) (sym c.arrive.ensures.memo) c.requires.memo
+
 pub visit-returns-in-Fouls-clause-stopped : goal.visit-returns-in-Fouls-clause-stopped
 visit-returns-in-Fouls-clause-stopped g t c =
     fault-stops (Leads g.R.Rule.KIND c.args.table.now c.args.i c.args.position.now) _ c.node-node.result.now.attack _ _ AttackFouls _ (c.arrive.ensures.line ∙ c.requires.no_line)
@@ -168,66 +163,154 @@ visit-returns-in-Draws-clause-stopped g t c =
     (attack-leads g.R.Rule.KIND c.args.table.now c.args.i c.args.position.now c.node-node.result.now AttackDraws Draws c.node-node.ensures.node c.in-Draws.ensures.outcome refl)
     c.fault-in-Draws.ensures.noted
 
-pub visit-returns-in-Ok-clause-accepted : goal.visit-returns-in-Ok-clause-accepted
-visit-returns-in-Ok-clause-accepted g t c =
-    let n : Node = c.node-node.result.now in
+-- ---- a node whose attack goes on
+
+pub go_on-overflow_sub-others : goal.go_on-overflow_sub-others
+go_on-overflow_sub-others g t c =
+    let some = arrivals-positive g.R.Rule.KIND c.args.table.now c.args.i c.args.position.now in
+    let counted = found-counted g.R.Rule.KIND c.args.table.now c.args.position.now c.board.result.now c.args.i c.in-Some.arrivals c.requires.lawful c.board.ensures.board c.args.self.now.memo c.requires.memo c.in-Some.ensures.arrivals in
+    omega (arith, some, counted)
+
+pub go_on-returns-in-Some-clause-accepted : goal.go_on-returns-in-Some-clause-accepted
+go_on-returns-in-Some-clause-accepted g t c =
+    on-ok c.take.result (Accepted g.R.Rule.KIND c.args.table.now c.args.i c.args.position.now)
+    (found-accepted g.R.Rule.KIND c.args.table.now c.args.position.now c.board.result.now c.args.i c.in-Some.arrivals c.requires.lawful c.board.ensures.board c.args.self.now.memo c.requires.memo c.in-Some.ensures.arrivals)
+
+pub go_on-returns-in-Some-clause-counted : goal.go_on-returns-in-Some-clause-counted
+go_on-returns-in-Some-clause-counted g t c =
+    let some = arrivals-positive g.R.Rule.KIND c.args.table.now c.args.i c.args.position.now in
+    let counted = found-counted g.R.Rule.KIND c.args.table.now c.args.position.now c.board.result.now c.args.i c.in-Some.arrivals c.requires.lawful c.board.ensures.board c.args.self.now.memo c.requires.memo c.in-Some.ensures.arrivals in
+    on-ok-map c.take.result (c.take.new.self.left + (c.in-Some.arrivals - 1) ≡ c.args.self.now.left) (c.take.new.self.left + arrivals g.R.Rule.KIND c.args.table.now c.args.i c.args.position.now ≡ c.args.self.now.left + 1)
+    (λ taken. omega (arith, some, counted, taken)) c.take.ensures.counted
+
+pub go_on-returns-in-Some-clause-no_line : goal.go_on-returns-in-Some-clause-no_line
+go_on-returns-in-Some-clause-no_line g t c = on-ok c.take.result (c.take.new.self.line ≡ []) (c.take.ensures.line ∙ c.requires.no_line)
+
+pub go_on-returns-in-Some-clause-memo : goal.go_on-returns-in-Some-clause-memo
+go_on-returns-in-Some-clause-memo g t c =
+    let looked : IsTrueMemo g.R.Rule.KIND c.args.table.now c.find.new.self = true-looked g.R.Rule.KIND c.args.table.now c.args.self.now.memo c.find.new.self (packed c.board.result.now, c.args.i) c.find.ensures.entries c.requires.memo in
+    on-ok c.take.result (IsTrueMemo g.R.Rule.KIND c.args.table.now c.take.new.self.memo)
+    (subst (λ (m : Remembered ℕ). IsTrueMemo g.R.Rule.KIND c.args.table.now m) (sym c.take.ensures.memo) looked)
+
+pub go_on-returns-in-Some-clause-stopped : goal.go_on-returns-in-Some-clause-stopped
+go_on-returns-in-Some-clause-stopped g t c =
+    let some = arrivals-positive g.R.Rule.KIND c.args.table.now c.args.i c.args.position.now in
+    let counted = found-counted g.R.Rule.KIND c.args.table.now c.args.position.now c.board.result.now c.args.i c.in-Some.arrivals c.requires.lawful c.board.ensures.board c.args.self.now.memo c.requires.memo c.in-Some.ensures.arrivals in
+    IfErr-weaker c.take.result _ _
+    (λ stop h. stops-map (λ why. ⊥) (λ why. Leads g.R.Rule.KIND c.args.table.now c.args.i c.args.position.now (reverse c.take.new.self.line) why) (c.args.self.now.left < c.in-Some.arrivals - 1) (c.args.self.now.left + 1 < arrivals g.R.Rule.KIND c.args.table.now c.args.i c.args.position.now) stop
+    (λ why no. absurd no) (λ short. omega (arith, some, counted, short)) h)
+    c.take.ensures.stopped
+
+pub go_on-attack-requires : goal.go_on-attack-requires
+go_on-attack-requires g t c κs within =
+    let less : 5 * empties_of c.args.position.now < 5 * empties_of c.args.position.now + 1 = omega arith in
+    let looked : IsTrueMemo g.R.Rule.KIND c.args.table.now c.find.new.self = true-looked g.R.Rule.KIND c.args.table.now c.args.self.now.memo c.find.new.self (packed c.board.result.now, c.args.i) c.find.ensures.entries c.requires.memo in
+    search rules
+
+-- ---- an attack
+
+pub attack-meet_all-met-requires : goal.attack-meet_all-met-requires
+attack-meet_all-met-requires g t c κs within =
+    let b : Grid = c.args.position.now in
+    let p : Point = c.args.node.now.attack in
+    let on : outcome g.R.Rule.KIND b p ≡ GoesOn = c.requires.goes_on in
+    let there : c.play.new.self ≡ after b p = c.play.ensures.played in
+    let lawful : IsPosition g.R.Rule.KIND c.play.new.self = played-lawful g.R.Rule.KIND b p c.requires.lawful on c.play.new.self there in
+    let fewer = played-fewer g.R.Rule.KIND b p c.requires.lawful on c.play.new.self there in
+    let less : 5 * empties_of c.play.new.self + 4 < 5 * empties_of b = omega (arith, fewer) in
+    let there_is : c.args.i < length c.args.table.now = slice_get_within c.args.table.now c.args.i c.args.node.now c.requires.node in
+    let low : names_below (answers_of c.args.node.now) c.args.i ≡ true = (IsTable-lower c.args.table.now c.requires.table).lower c.args.i c.args.node.now c.requires.node in
+    let below : names_below (answers_of c.args.node.now) (length c.args.table.now) ≡ true = names_below-more (answers_of c.args.node.now) c.args.i (length c.args.table.now) (omega (arith, there_is)) low in
+    search rules
+
+pub attack-undo-requires-clause-stone : goal.attack-undo-requires-clause-stone
+attack-undo-requires-clause-stone g t c =
+    let p : Point = c.args.node.now.attack in
+    played-stone g.R.Rule.KIND c.args.position.now p c.requires.lawful (c.requires.goes_on) _
+    (c.meet_all-met.ensures.same ∙ c.play.ensures.played)
+
+pub attack-undo-requires-clause-unwon : goal.attack-undo-requires-clause-unwon
+attack-undo-requires-clause-unwon g t c =
+    let p : Point = c.args.node.now.attack in
+    lifted-unwon g.R.Rule.KIND c.args.position.now p c.requires.lawful (c.requires.goes_on) _
+    (c.meet_all-met.ensures.same ∙ c.play.ensures.played)
+
+pub attack-returns-in-Ok-clause-accepted : goal.attack-returns-in-Ok-clause-accepted
+attack-returns-in-Ok-clause-accepted g t c =
+    let n : Node = c.args.node.now in
     let a : Answers = answers_of n in
     let b : Grid = c.args.position.now in
-    let lower = IsTable-lower c.args.table.now c.node-node.ensures.table in
-    let on : outcome g.R.Rule.KIND b n.attack ≡ GoesOn = sym c.in-GoesOn.ensures.outcome in
-    let there : c.play.new.self ≡ after b n.attack = c.play.ensures.played ∙ ap (λ (w : Grid). after w n.attack) c.outcome.ensures.same in
-    let more : is_winning n.rest ≡ false = sym c.is_winning.ensures.wins ∙ c.if-is_winning.false in
-    accepted-by-replies g.R.Rule.KIND c.args.table.now lower c.args.i b n c.node-node.ensures.node on more
+    let lower = IsTable-lower c.args.table.now c.requires.table in
+    let on : outcome g.R.Rule.KIND b n.attack ≡ GoesOn = c.requires.goes_on in
+    let there : c.play.new.self ≡ after b n.attack = c.play.ensures.played in
+    let more : is_winning n.rest ≡ false = c.requires.more in
+    accepted-by-replies g.R.Rule.KIND c.args.table.now lower c.args.i b n c.requires.node on more
     (subst (AcceptedStart g.R.Rule.KIND c.args.table.now a) there c.in-Ok.ensures.accepted)
 
-pub visit-returns-in-Ok-clause-counted : goal.visit-returns-in-Ok-clause-counted
-visit-returns-in-Ok-clause-counted g t c =
-    let n : Node = c.node-node.result.now in
+pub attack-returns-in-Ok-clause-counted : goal.attack-returns-in-Ok-clause-counted
+attack-returns-in-Ok-clause-counted g t c =
+    let n : Node = c.args.node.now in
     let a : Answers = answers_of n in
     let b : Grid = c.args.position.now in
-    let lower = IsTable-lower c.args.table.now c.node-node.ensures.table in
-    let on : outcome g.R.Rule.KIND b n.attack ≡ GoesOn = sym c.in-GoesOn.ensures.outcome in
-    let there : c.play.new.self ≡ after b n.attack = c.play.ensures.played ∙ ap (λ (w : Grid). after w n.attack) c.outcome.ensures.same in
-    let more : is_winning n.rest ≡ false = sym c.is_winning.ensures.wins ∙ c.if-is_winning.false in
-    let all = arrivals-by-replies g.R.Rule.KIND c.args.table.now lower c.args.i b n c.node-node.ensures.node on more in
-    let counted : c.meet_all-met.new.self.left + arrivals_after g.R.Rule.KIND a (arrivals g.R.Rule.KIND c.args.table.now) (after b n.attack) ≡ c.arrive.new.self.left =
-    subst (λ (w : Grid). c.meet_all-met.new.self.left + arrivals_after g.R.Rule.KIND a (arrivals g.R.Rule.KIND c.args.table.now) w ≡ c.arrive.new.self.left) there c.in-Ok.ensures.counted in
-    let arrived = c.in_ok-arrive.ensures.counted in
-    omega (arith, all, counted, arrived)
+    let lower = IsTable-lower c.args.table.now c.requires.table in
+    let on : outcome g.R.Rule.KIND b n.attack ≡ GoesOn = c.requires.goes_on in
+    let there : c.play.new.self ≡ after b n.attack = c.play.ensures.played in
+    let more : is_winning n.rest ≡ false = c.requires.more in
+    let all = arrivals-by-replies g.R.Rule.KIND c.args.table.now lower c.args.i b n c.requires.node on more in
+    let counted : c.meet_all-met.new.self.left + arrivals_after g.R.Rule.KIND a (arrivals g.R.Rule.KIND c.args.table.now) (after b n.attack) ≡ c.args.self.now.left =
+    subst (λ (w : Grid). c.meet_all-met.new.self.left + arrivals_after g.R.Rule.KIND a (arrivals g.R.Rule.KIND c.args.table.now) w ≡ c.args.self.now.left) there c.in-Ok.ensures.counted in
+    omega (arith, all, counted)
 
-pub visit-returns-in-Ok-clause-same : goal.visit-returns-in-Ok-clause-same
-visit-returns-in-Ok-clause-same g t c =
-    let p : Point = c.node-node.result.now.attack in
+pub attack-returns-in-Ok-clause-same : goal.attack-returns-in-Ok-clause-same
+attack-returns-in-Ok-clause-same g t c =
+    let p : Point = c.args.node.now.attack in
     c.undo.ensures.undone
-    ∙ lifted-back g.R.Rule.KIND c.args.position.now p c.requires.lawful (sym c.in-GoesOn.ensures.outcome) _
-    (c.meet_all-met.ensures.same ∙ c.play.ensures.played ∙ ap (λ (w : Grid). after w p) c.outcome.ensures.same)
+    ∙ lifted-back g.R.Rule.KIND c.args.position.now p c.requires.lawful (c.requires.goes_on) _
+    (c.meet_all-met.ensures.same ∙ c.play.ensures.played)
 
-pub visit-returns-in-Err-clause-stopped : goal.visit-returns-in-Err-clause-stopped
-visit-returns-in-Err-clause-stopped g t c =
-    let n : Node = c.node-node.result.now in
+pub attack-returns-in-Err-clause-stopped : goal.attack-returns-in-Err-clause-stopped
+attack-returns-in-Err-clause-stopped g t c =
+    let n : Node = c.args.node.now in
     let a : Answers = answers_of n in
     let b : Grid = c.args.position.now in
-    let lower = IsTable-lower c.args.table.now c.node-node.ensures.table in
-    let on : outcome g.R.Rule.KIND b n.attack ≡ GoesOn = sym c.in-GoesOn.ensures.outcome in
-    let there : c.play.new.self ≡ after b n.attack = c.play.ensures.played ∙ ap (λ (w : Grid). after w n.attack) c.outcome.ensures.same in
-    let more : is_winning n.rest ≡ false = sym c.is_winning.ensures.wins ∙ c.if-is_winning.false in
-    let all = arrivals-by-replies g.R.Rule.KIND c.args.table.now lower c.args.i b n c.node-node.ensures.node on more in
-    let arrived = c.in_ok-arrive.ensures.counted in
+    let lower = IsTable-lower c.args.table.now c.requires.table in
+    let on : outcome g.R.Rule.KIND b n.attack ≡ GoesOn = c.requires.goes_on in
+    let there : c.play.new.self ≡ after b n.attack = c.play.ensures.played in
+    let more : is_winning n.rest ≡ false = c.requires.more in
+    let all = arrivals-by-replies g.R.Rule.KIND c.args.table.now lower c.args.i b n c.requires.node on more in
     noted-stops
     (LeadsStart g.R.Rule.KIND c.args.table.now a c.play.new.self)
     (Leads g.R.Rule.KIND c.args.table.now c.args.i b)
-    (c.arrive.new.self.left < arrivals_after g.R.Rule.KIND a (arrivals g.R.Rule.KIND c.args.table.now) c.play.new.self)
-    (c.args.self.now.left < arrivals g.R.Rule.KIND c.args.table.now c.args.i b)
+    (c.args.self.now.left < arrivals_after g.R.Rule.KIND a (arrivals g.R.Rule.KIND c.args.table.now) c.play.new.self)
+    (c.args.self.now.left + 1 < arrivals g.R.Rule.KIND c.args.table.now c.args.i b)
     n.attack c.meet_all-met.new.self.line c.noted.new.self.line c.in-Err.stop c.noted.result
-    (λ line why leads. attack-then-leads g.R.Rule.KIND c.args.table.now c.args.i b n line why c.node-node.ensures.node on more
+    (λ line why leads. attack-then-leads g.R.Rule.KIND c.args.table.now c.args.i b n line why c.requires.node on more
     (subst (λ (w : Grid). LeadsStart g.R.Rule.KIND c.args.table.now a w line why) there leads))
-    (λ short. let less : c.arrive.new.self.left < arrivals_after g.R.Rule.KIND a (arrivals g.R.Rule.KIND c.args.table.now) (after b n.attack) = subst (λ (w : Grid). c.arrive.new.self.left < arrivals_after g.R.Rule.KIND a (arrivals g.R.Rule.KIND c.args.table.now) w) there short in omega (arith, all, less, arrived))
+    (λ short. let less : c.args.self.now.left < arrivals_after g.R.Rule.KIND a (arrivals g.R.Rule.KIND c.args.table.now) (after b n.attack) = subst (λ (w : Grid). c.args.self.now.left < arrivals_after g.R.Rule.KIND a (arrivals g.R.Rule.KIND c.args.table.now) w) there short in omega (arith, all, less))
     c.in-Err.ensures.stopped
     c.noted.ensures.noted
 
-pub visit-returns-in-Err-clause-same : goal.visit-returns-in-Err-clause-same
-visit-returns-in-Err-clause-same g t c =
-    let p : Point = c.node-node.result.now.attack in
+pub attack-returns-in-Err-clause-same : goal.attack-returns-in-Err-clause-same
+attack-returns-in-Err-clause-same g t c =
+    let p : Point = c.args.node.now.attack in
     c.undo.ensures.undone
-    ∙ lifted-back g.R.Rule.KIND c.args.position.now p c.requires.lawful (sym c.in-GoesOn.ensures.outcome) _
-    (c.meet_all-met.ensures.same ∙ c.play.ensures.played ∙ ap (λ (w : Grid). after w p) c.outcome.ensures.same)
+    ∙ lifted-back g.R.Rule.KIND c.args.position.now p c.requires.lawful (c.requires.goes_on) _
+    (c.meet_all-met.ensures.same ∙ c.play.ensures.played)
+
+pub attack-returns-in-Ok-clause-memo : goal.attack-returns-in-Ok-clause-memo
+attack-returns-in-Ok-clause-memo g t c =
+    let n : Node = c.args.node.now in
+    let a : Answers = answers_of n in
+    let b : Grid = c.args.position.now in
+    let lower = IsTable-lower c.args.table.now c.requires.table in
+    let there : c.play.new.self ≡ after b n.attack = c.play.ensures.played in
+    let accepted = accepted-by-replies g.R.Rule.KIND c.args.table.now lower c.args.i b n c.requires.node c.requires.goes_on c.requires.more
+    (subst (AcceptedStart g.R.Rule.KIND c.args.table.now a) there c.in-Ok.ensures.accepted) in
+    let all = arrivals-by-replies g.R.Rule.KIND c.args.table.now lower c.args.i b n c.requires.node c.requires.goes_on c.requires.more in
+    let behind : c.meet_all-met.new.self.left + arrivals_after g.R.Rule.KIND a (arrivals g.R.Rule.KIND c.args.table.now) (after b n.attack) ≡ c.args.self.now.left =
+    subst (λ (w : Grid). c.meet_all-met.new.self.left + arrivals_after g.R.Rule.KIND a (arrivals g.R.Rule.KIND c.args.table.now) w ≡ c.args.self.now.left) there c.in-Ok.ensures.counted in
+    let counted : arrivals g.R.Rule.KIND c.args.table.now c.args.i b ≡ c.args.self.now.left + 1 - c.meet_all-met.new.self.left = omega (arith, all, behind) in
+    let back : c.undo.new.self ≡ b = c.undo.ensures.undone
+    ∙ lifted-back g.R.Rule.KIND b n.attack c.requires.lawful c.requires.goes_on _ (c.meet_all-met.ensures.same ∙ c.play.ensures.played) in
+    true-kept g.R.Rule.KIND c.args.table.now b c.board.result.now c.args.i (c.args.self.now.left + 1 - c.meet_all-met.new.self.left) c.requires.lawful (c.board.ensures.board ∙ back)
+    c.meet_all-met.new.self.memo c.keep.new.self accepted counted c.keep.ensures.kept c.in-Ok.ensures.memo

@@ -1,11 +1,12 @@
-use Rattle.std.proofs.Common.{◌≡◌, ◌<◌, reverse, subst, arith}
+use Rattle.std.proofs.Common.{◌≡◌, ◌<◌, ℕ, reverse, sym, subst, arith}
 use Rattle.std.specs.Result.{IfErr}
 use Rattle.std.proofs.lemmas.Result.{IfErr-weaker}
 use Rattle.strategy_graph.specs.declared.Why.{Why}
 use Rattle.strategy_graph.specs.Tables.{Answers}
 use Rattle.strategy_graph.specs.Arrivals.{arrivals, arrivals_after, start_arrivals}
 use Rattle.strategy_graph.specs.Leads.{LeadsStart}
-use Rattle.strategy_checker.specs.Walks.{Stopped}
+use Rattle.position_table.specs.Remembering.{Remembered}
+use Rattle.strategy_checker.specs.Walks.{Stopped, IsTrueMemo}
 use Rattle.strategy_checker.proofs.Walking.{stops-map}
 use Rattle.strategy_checker.proofs.walk.Walk.visit_start.Goals as goal
 
@@ -22,3 +23,6 @@ returns-clause-stopped g c =
     IfErr-weaker c.meet_all.result _ _
     (λ stop h. stops-map faulty faulty (c.arrive.new.self.left < behind) (c.args.self.now.left < start_arrivals g.R.Rule.KIND c.args.table.now c.args.start.now c.args.position.now) stop (λ why leads. leads) (λ short. omega (arith, short, arrived)) h)
     inner
+
+pub meet_all-requires-clause-memo : goal.meet_all-requires-clause-memo
+meet_all-requires-clause-memo g c = subst (λ (m : Remembered ℕ). IsTrueMemo g.R.Rule.KIND c.args.table.now m) (sym c.arrive.ensures.memo) c.requires.memo
