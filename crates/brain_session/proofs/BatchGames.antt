@@ -1,0 +1,96 @@
+-- The side to move on the board of a batch.
+use Rattle.std.proofs.Common.{◌≡◌, ℕ, suc, ◌+◌, Bool, true, false, cond, not, refl, sym, ap, ◌∙◌, arith, List, [], ◌∷◌, get_or}
+use Rattle.std.specs.Prelude.{Option, Some, None, ◌==◌, All, AllPairs, IfSome, IsSome, if◌then◌else◌}
+use Rattle.std.specs.List.{count_by}
+use Rattle.std.proofs.lemmas.Bool.Decides.{nat_tests}
+use Rattle.std.proofs.lemmas.List.Sums.{sum_by-cons}
+use Rattle.game_rules.specs.Grid.{Grid, IsBoard, is_empty, is_stone_of, stone_of, put, stones_of}
+use Rattle.game_rules.specs.Shapes.{is_same_point}
+use Rattle.game_rules.specs.Play.{mover, other}
+use Rattle.game_rules.specs.declared.Side.{Side}
+use Rattle.game_rules.specs.declared.Side.TheVariants.{Black, White}
+use Rattle.game_rules.proofs.Boards.{is_empty-on, is_empty-put}
+use Rattle.game_rules.proofs.Points.{is_same_point-apart}
+use Rattle.game_rules.proofs.Positions.{IsBoard-put, stones_of-put}
+use Rattle.brain_session.specs.declared.batch.BatchStone.{BatchStone}
+use Rattle.brain_session.specs.States.{Batch, empty_board}
+use Rattle.brain_session.specs.Batches.{side_of, with_stones, colour_by, colour_in}
+use Rattle.brain_session.specs.Running.{StonesFit}
+use Rattle.brain_session.proofs.Rounds.{no-stones, empty-empty}
+
+-- the stones on the board after these were put are those before, and these
+stones_of-with : (brain s : Side) (stones : List BatchStone) (b : Grid) → IsBoard b → All (λ x. is_empty b x.at ≡ true) stones → AllPairs (λ x u. is_same_point x.at u.at ≡ false) stones → stones_of (with_stones brain b stones) s ≡ stones_of b s + count_by (λ x. is_stone_of s (stone_of (side_of brain x))) stones
+stones_of-with brain s [] b board empty distinct = omega arith
+stones_of-with brain s (x ∷ xs) b board empty distinct =
+    let here : is_empty b x.at ≡ true = empty 0 x (omega arith) in
+    let c : Grid = put b (side_of brain x) x.at in
+    let one : stones_of c s ≡ stones_of b s + cond (is_stone_of s (stone_of (side_of brain x))) 1 0 = stones_of-put b (side_of brain x) s x.at board here in
+    let rest : stones_of (with_stones brain c xs) s ≡ stones_of c s + count_by (λ y. is_stone_of s (stone_of (side_of brain y))) xs =
+    stones_of-with brain s xs c (IsBoard-put b (side_of brain x) x.at board)
+    (λ k d less.
+    is_empty-put b (side_of brain x) x.at (get_or xs k d).at (is_empty-on b x.at here)
+    (is_same_point-apart x.at (get_or xs k d).at (distinct 0 (suc k) d (omega arith) (omega arith)))
+    ∙ empty (suc k) d (omega arith))
+    (λ i j d less more. distinct (suc i) (suc j) d (omega arith) (omega arith)) in
+    let more = sum_by-cons (λ (y : BatchStone). cond (is_stone_of s (stone_of (side_of brain y))) 1 0) x xs in
+    omega arith
+
+count_by-same : (f g : BatchStone → Bool) (xs : List BatchStone) → ((x : BatchStone) → f x ≡ g x) → count_by f xs ≡ count_by g xs
+count_by-same f g [] same = refl
+count_by-same f g (x ∷ xs) same =
+    sum_by-cons (λ (y : BatchStone). cond (f y) 1 0) x xs
+    ∙ ap (λ (r : Bool). cond r 1 0 + count_by f xs) (same x)
+    ∙ ap (λ (n : ℕ). cond (g x) 1 0 + n) (count_by-same f g xs same)
+    ∙ sym (sum_by-cons (λ (y : BatchStone). cond (g y) 1 0) x xs)
+
+own_stone : (brain : Side) (own : Bool) → is_stone_of brain (stone_of (if own then brain else other brain)) ≡ own
+own_stone Black true = refl
+own_stone Black false = refl
+own_stone White true = refl
+own_stone White false = refl
+
+other_stone : (brain : Side) (own : Bool) → is_stone_of (other brain) (stone_of (if own then brain else other brain)) ≡ not own
+other_stone Black true = refl
+other_stone Black false = refl
+other_stone White true = refl
+other_stone White false = refl
+
+mover-by : (brain : Side) (b : Grid) (own others : ℕ) → stones_of b brain ≡ own → stones_of b (other brain) ≡ others → colour_by own others ≡ Some brain → mover b ≡ brain
+mover-by Black b own others mine theirs colour = by_test (own == others) refl where
+  by_test : (r : Bool) → (own == others) ≡ r → mover b ≡ Black
+  by_test true e = rw (mine, theirs, e) refl
+  by_test false e = by_more (others == own + 1) refl where
+    by_more : (r : Bool) → (others == own + 1) ≡ r → mover b ≡ Black
+    by_more true f = let wrong : Some White ≡ Some Black = rw (e, f) at colour in cc
+    by_more false f = let wrong : None ≡ Some Black = rw (e, f) at colour in cc
+mover-by White b own others mine theirs colour = by_test (own == others) refl where
+  by_test : (r : Bool) → (own == others) ≡ r → mover b ≡ White
+  by_test true e = let wrong : Some Black ≡ Some White = rw e at colour in cc
+  by_test false e = by_more (others == own + 1) refl where
+    by_more : (r : Bool) → (others == own + 1) ≡ r → mover b ≡ White
+    by_more true f = let differ : (others == own) ≡ false = grind (arith, nat_tests) in rw (mine, theirs, differ) refl
+    by_more false f = let wrong : None ≡ Some White = rw (e, f) at colour in cc
+
+none : (n k : ℕ) → n ≡ 0 → n + k ≡ k
+none n k e = omega arith
+
+-- on the board of a batch whose stones name the brain's colour, the brain is to move
+pub batch-mover : (brain : Side) (width height : ℕ) (stones : List BatchStone) (bad : Bool) → IsBoard (empty_board width height) → StonesFit (empty_board width height) (record { stones = stones; bad = bad }) → colour_in stones ≡ Some brain → mover (with_stones brain (empty_board width height) stones) ≡ brain
+batch-mover brain width height stones bad board fit colour =
+    let b : Grid = empty_board width height in
+    let empty : All (λ x. is_empty b x.at ≡ true) stones = λ k d less. empty-empty width height (get_or stones k d).at (fit.on_board k d less) in
+    let mine : stones_of (with_stones brain b stones) brain ≡ count_by (λ x. x.own) stones =
+    stones_of-with brain brain stones b board empty fit.distinct
+    ∙ none (stones_of b brain) (count_by (λ x. is_stone_of brain (stone_of (side_of brain x))) stones) (no-stones width height brain)
+    ∙ count_by-same (λ x. is_stone_of brain (stone_of (side_of brain x))) (λ x. x.own) stones (λ x. own_stone brain x.own) in
+    let theirs : stones_of (with_stones brain b stones) (other brain) ≡ count_by (λ x. not x.own) stones =
+    stones_of-with brain (other brain) stones b board empty fit.distinct
+    ∙ none (stones_of b (other brain)) (count_by (λ x. is_stone_of (other brain) (stone_of (side_of brain x))) stones) (no-stones width height (other brain))
+    ∙ count_by-same (λ x. is_stone_of (other brain) (stone_of (side_of brain x))) (λ x. not x.own) stones (λ x. other_stone brain x.own) in
+    mover-by brain (with_stones brain b stones) (count_by (λ x. x.own) stones) (count_by (λ x. not x.own) stones) mine theirs colour
+
+-- the same on the board that a batch gave, where one is read
+pub batch-to_move : (o : Option Batch) (brain : Side) (width height : ℕ) (c : Grid) → IsSome o → IsBoard (empty_board width height) → IfSome o (StonesFit (empty_board width height)) → IfSome o (λ b. Some brain ≡ colour_in b.stones) → IfSome o (λ b. c ≡ with_stones brain (empty_board width height) b.stones) → mover c ≡ brain
+batch-to_move None brain width height c read board fit colour here = absurd (cc)
+batch-to_move (Some b) brain width height c read board fit colour here =
+    ap mover here ∙ batch-mover brain width height b.stones b.bad board fit (sym colour)

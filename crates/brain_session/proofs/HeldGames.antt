@@ -1,0 +1,108 @@
+-- Held games go well: from the command that begins one, the answers to the replies are the attacks of the table.
+use Rattle.std.proofs.Common.{◌≡◌, ℕ, suc, List, ◌∷◌, get_or, length, refl, sym, ap, subst, ◌∙◌}
+use Rattle.std.specs.Prelude.{Some, None, slice_get}
+use Rattle.std.proofs.lemmas.List.Elements.{All-contains}
+use Rattle.game_rules.specs.Grid.{Grid}
+use Rattle.game_rules.specs.Play.{outcome}
+use Rattle.game_rules.specs.Games.{LosesOr}
+use Rattle.game_rules.specs.declared.RuleKind.{RuleKind}
+use Rattle.game_rules.specs.declared.Outcome.{Outcome}
+use Rattle.game_rules.specs.declared.Outcome.TheVariants.{Refused, Wins as WinsNow, Fouls, Draws, GoesOn}
+use Rattle.strategy_graph.specs.declared.Node.{Node}
+use Rattle.strategy_graph.specs.declared.roots.Root.{Root}
+use Rattle.strategy_graph.specs.declared.roots.Root.TheVariants.{Attack, Defend}
+use Rattle.strategy_graph.specs.Tables.{depth_within, depth}
+use Rattle.strategy_graph.specs.Acceptance.{Accepted}
+use Rattle.strategy_graph.specs.Roots.{AcceptedRoot}
+use Rattle.strategy_graph.specs.Games.{game}
+use Rattle.strategy_checker.specs.HeldRoots.{HeldTable, IsHeldRoot, IsHeld}
+use Rattle.gomocup_text.specs.declared.Command.{Command}
+use Rattle.gomocup_text.specs.declared.Answer.TheVariants.{Move}
+use Rattle.brain_session.specs.declared.Reaction.TheVariants.{Says}
+use Rattle.brain_session.specs.States.{Game, board_of, State, new_brain}
+use Rattle.brain_session.specs.ChosenMoves.{Choice, chosen, chosen_anew, by_followed, first_node}
+use Rattle.brain_session.specs.Steps.{Step, step_by, with_choice, brain_step}
+use Rattle.brain_session.specs.Sessions.{state_after}
+use Rattle.brain_session.specs.HeldGames.{BeginsHeldGame, IsLedTo, HeldGameGoesWell, HeldGamesGoWell, SessionsGoWell, IsTight, StartsAreTight, replies, answers_to_replies, game_answers, IsWonWithin}
+use Rattle.brain_session.specs.Running.{GoesOnAlong}
+use Rattle.brain_session.proofs.HeldNodes.{first-led, root-accepted, root-no_deeper}
+use Rattle.brain_session.proofs.HeldPlays.{GoesBy}
+use Rattle.brain_session.proofs.HeldSteps.{state_in, by_node, StandsIn, accepted_node, all-go_well}
+use Rattle.brain_session.proofs.LawfulStates.{LawfulState, IsToMove, LawfulRow, lawful_along, row-lawful, session-lawful, new-lawful}
+
+-- a held root that leads to a node in the game, where the moves went on: the node is accepted, and no deeper than the root
+held_led : (h : HeldTable) (g : Game) (i : ℕ) → IsHeld h → first_node g h.roots ≡ Some i → GoesOnAlong g.rule g.start g.moves → Accepted g.rule h.table i (board_of g) × IsLedTo h g i
+held_led h g i held leads along =
+    let found = first-led g h.roots i leads in
+    let is_held : IsHeldRoot h.table found.0 = All-contains (IsHeldRoot h.table) h.roots found.0 held.roots found.1 in
+    (root-accepted h.table found.0 g i is_held along found.2, record { root = found.0; held = found.1; leads = found.2; no_deeper = root-no_deeper h.table found.0 g i found.2 })
+
+-- ---- the game from there
+
+chosen_held : (h : HeldTable) (g : Game) (i : ℕ) (n : Node) → by_followed h g ≡ None → first_node g h.roots ≡ Some i → slice_get h.table i ≡ Some n → chosen h g ≡ by_node i n
+unfolding chosen chosen_anew
+chosen_held h g i n none leads at = rw (none, leads, at) refl
+
+-- the step at the command that begins a held game
+pub begins : (s : State) (c : Command) (g : Game) (i : ℕ) (n : Node) → BeginsHeldGame s c g i → slice_get s.held.table i ≡ Some n → brain_step s c ≡ record { reaction = Says (Move n.attack); next = state_in s.held s.wish (with_choice g (by_node i n)) }
+begins s c g i n b at =
+    ap (step_by s) b.chooses
+    ∙ ap (λ (ch : Choice). let st : Step = record { reaction = Says (Move ch.at); next = state_in s.held s.wish (with_choice g ch) } in st) (chosen_held s.held g i n b.not_followed b.leads at)
+
+-- where a held game begins, its node stands in the game
+pub stands_where : (s : State) (c : Command) (g : Game) (i : ℕ) → IsHeld s.held → LawfulState s → BeginsHeldGame s c g i → (k : ℕ) × (n : Node) × (suc i ≡ suc k) × StandsIn s.held g i n k
+stands_where s c g i held lawful b =
+    let to_move : IsToMove g = subst (LawfulRow s.held) b.chooses (row-lawful s c lawful) in
+    let node = accepted_node g.rule s.held.table i (board_of g) (suc i) (held_led s.held g i held b.leads to_move.along).0 in (
+      node.0,
+      node.1,
+      node.2,
+      record {
+        node = node.3;
+        wins = node.4;
+        lawful = lawful_along g.rule g.start g.moves to_move.along;
+        turn = to_move.turn;
+      },
+    )
+
+held_game : (s : State) (c : Command) (later : List Command) (g : Game) (i : ℕ) → IsHeld s.held → LawfulState s → BeginsHeldGame s c g i → HeldGameGoesWell s c later g i
+held_game s c later g i held lawful b =
+    let to_move : IsToMove g = subst (LawfulRow s.held) b.chooses (row-lawful s c lawful) in
+    let at = stands_where s c g i held lawful b in
+    let n = at.1 in
+    let step = begins s c g i n b at.3.node in
+    let then = state_in s.held s.wish (with_choice g (by_node i n)) in
+    let goes : GoesBy g.rule s.held.table (depth s.held.table i) i (board_of g) n.attack (replies then later) (answers_to_replies then later) =
+    subst (λ (d : ℕ). GoesBy g.rule s.held.table (depth_within d s.held.table i) i (board_of g) n.attack (replies then later) (answers_to_replies then later)) (sym at.2)
+    (all-go_well s.held later at.0 s.wish g i n at.3) in
+    record {
+      first = Move n.attack;
+      says = ap (λ (st : Step). st.reaction) step;
+      answers = subst (λ (st : Step). Move n.attack ∷ answers_to_replies st.next later ≡ game_answers g.rule s.held.table i (board_of g) (replies st.next later)) (sym step) goes.answers;
+      won = subst (λ (st : Step). IsWonWithin (depth s.held.table i) (length (replies st.next later)) (game g.rule s.held.table i (board_of g) (replies st.next later))) (sym step) goes.won;
+      root = (held_led s.held g i held b.leads to_move.along).1;
+    }
+
+pub held-games-go_well : HeldGamesGoWell
+held-games-go_well held is_held before c later g i b =
+    let kept = session-lawful held (new_brain held) before (new-lawful held) in
+    held_game (state_after (new_brain held) before) c later g i (subst IsHeld (sym kept.1) is_held) kept.0 b
+
+pub sessions-go_well : SessionsGoWell
+sessions-go_well held is_held bytes before c later g i e b = held-games-go_well held is_held before c later g i b
+
+-- ---- starts
+
+tight : (o : Outcome) (W : Type 0) → LosesOr o W → LosesOr o (Unit {0})
+tight Refused W h = tt
+tight WinsNow W h = h
+tight (Fouls f) W h = tt
+tight Draws W h = h
+tight GoesOn W h = tt
+
+root_tight : (t : List Node) (rule : RuleKind) (b : Grid) (root : Root) → AcceptedRoot rule t root b → IsTight rule b root
+root_tight t rule b (Attack i) h = tt
+root_tight t rule b (Defend a) h = λ q. tight (outcome rule b q) _ (h q)
+
+pub starts-are_tight : StartsAreTight
+starts-are_tight held h = λ k d lt. let r = get_or held.roots k d in root_tight held.table r.kind r.board r.root (h.roots k d lt).accepted

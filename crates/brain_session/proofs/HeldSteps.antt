@@ -1,0 +1,261 @@
+-- A game in which a held node is followed: what each later command does to it.
+use Rattle.std.proofs.Common.{◌≡◌, ℕ, zero, suc, ◌<◌, Bool, true, false, cond, not, List, [], ◌∷◌, refl, ap, subst, ◌∙◌}
+use Rattle.std.specs.Prelude.{Option, Some, None, slice_get}
+use Rattle.game_rules.specs.Grid.{Grid}
+use Rattle.game_rules.specs.Play.{IsPosition, outcome, after, mover, other}
+use Rattle.game_rules.specs.Games.{WinsOr, LosesOr}
+use Rattle.game_rules.proofs.Positions.{IsPosition-after, mover-then}
+use Rattle.game_rules.proofs.Games.{WinsOr-map}
+use Rattle.game_rules.proofs.Boards.{other-other}
+use Rattle.game_rules.specs.declared.RuleKind.{RuleKind}
+use Rattle.game_rules.specs.declared.Side.{Side}
+use Rattle.game_rules.specs.declared.Side.TheVariants.{Black, White}
+use Rattle.game_rules.specs.declared.Foul.{Foul}
+use Rattle.game_rules.specs.declared.Outcome.{Outcome}
+use Rattle.game_rules.specs.declared.Outcome.TheVariants.{Refused, Wins as WinsNow, Fouls, Draws, GoesOn}
+use Rattle.game_rules.specs.declared.Point.{Point}
+use Rattle.strategy_graph.specs.declared.Node.{Node}
+use Rattle.strategy_graph.specs.Tables.{answers_of, answer, is_winning, depth_within}
+use Rattle.strategy_graph.specs.Acceptance.{Answered, NotWinning, Meets, AcceptedNode, AcceptedWithin}
+use Rattle.strategy_graph.proofs.Answering.{Answered-elim}
+use Rattle.strategy_checker.specs.HeldRoots.{HeldTable}
+use Rattle.gomocup_text.specs.declared.Command.{Command}
+use Rattle.gomocup_text.specs.declared.Command.TheVariants.{Start, RectStart, Begin, Turn, Board, Stone, Done, Restart, Takeback, Rule, Info, About, End, Blank, Malformed, Unknown}
+use Rattle.gomocup_text.specs.declared.Answer.{Answer}
+use Rattle.gomocup_text.specs.declared.Answer.TheVariants.{Move, Error}
+use Rattle.gomocup_text.specs.declared.ErrorText.{ErrorText}
+use Rattle.gomocup_text.specs.declared.ErrorText.TheVariants.{UnsupportedRule, GameOver, BadMove, OpponentFoul}
+use Rattle.brain_session.specs.declared.Reaction.TheVariants.{Says}
+use Rattle.brain_session.specs.States.{HeldNode, Game, board_of, point_at, InGame, State}
+use Rattle.brain_session.specs.ChosenMoves.{Choice, chosen}
+use Rattle.brain_session.specs.Steps.{Row, Chooses, fails, rule_of, if_supported, same_side, with_move, end_row, move_row, row_of, goes_on, with_choice, step_by}
+use Rattle.brain_session.specs.HeldGames.{is_no_reply, then_replies, replies, then_answers_to, answers_to_replies}
+use Rattle.brain_session.proofs.HeldPlays.{GoesBy, not_winning, by_none, by_foul, by_next, depth_some, deeper}
+
+-- the state in which this game goes on, with this wish and no batch
+abbrev pub state_in : HeldTable → ℕ → Game → State
+state_in h w g = record { wish = w; held = h; place = InGame g; batch = None }
+
+-- the choice of the attack of node i
+abbrev pub by_node : ℕ → Node → Choice
+by_node i n = record { at = n.attack; followed = Some (HeldNode i) }
+
+-- the game after that attack, ended or not
+abbrev pub played : Game → ℕ → Node → Bool → Game
+played g i n ended = record g { moves = n.attack ∷ g.moves; ended = ended; followed = Some (HeldNode i) }
+
+-- ---- a command by its row
+
+replies-by : (s : State) (c : Command) (cs : List Command) (r : Row) → row_of s c ≡ r → replies s (c ∷ cs) ≡ then_replies c (step_by s r).reaction (replies (step_by s r).next cs)
+unfolding replies
+replies-by s c cs r e = rw e refl
+
+answers-by : (s : State) (c : Command) (cs : List Command) (r : Row) → row_of s c ≡ r → answers_to_replies s (c ∷ cs) ≡ then_answers_to c (step_by s r).reaction (answers_to_replies (step_by s r).next cs)
+unfolding answers_to_replies
+answers-by s c cs r e = rw e refl
+
+-- ---- an ended game: no reply is left
+
+turn_ended : (h : HeldTable) (w : ℕ) (g : Game) (x y : ℕ) → g.ended ≡ true → row_of (state_in h w g) (Turn x y) ≡ fails GameOver (state_in h w g)
+unfolding row_of
+turn_ended h w g x y e = rw e refl
+
+module _ (h : HeldTable) (g : Game) (e : g.ended ≡ true) where
+  pub ended-replies : (w : ℕ) (cs : List Command) → replies (state_in h w g) cs ≡ []
+  unfolding replies row_of
+  ended-replies w [] = refl
+  ended-replies w (Start n ∷ cs) = refl
+  ended-replies w (RectStart n m ∷ cs) = refl
+  ended-replies w (Begin ∷ cs) = ended-replies w cs
+  ended-replies w (Turn x y ∷ cs) = replies-by (state_in h w g) (Turn x y) cs _ (turn_ended h w g x y e) ∙ ended-replies w cs
+  ended-replies w (Board ∷ cs) = refl
+  ended-replies w (Stone x y f ∷ cs) = ended-replies w cs
+  ended-replies w (Done ∷ cs) = ended-replies w cs
+  ended-replies w (Restart ∷ cs) = refl
+  ended-replies w (Takeback x y ∷ cs) = refl
+  ended-replies w (Rule v ∷ cs) = ended-replies v cs
+  ended-replies w (Info ∷ cs) = ended-replies w cs
+  ended-replies w (About ∷ cs) = ended-replies w cs
+  ended-replies w (End ∷ cs) = refl
+  ended-replies w (Blank ∷ cs) = ended-replies w cs
+  ended-replies w (Malformed ∷ cs) = ended-replies w cs
+  ended-replies w (Unknown ∷ cs) = ended-replies w cs
+
+  pub ended-answers : (w : ℕ) (cs : List Command) → answers_to_replies (state_in h w g) cs ≡ []
+  unfolding answers_to_replies row_of
+  ended-answers w [] = refl
+  ended-answers w (Start n ∷ cs) = refl
+  ended-answers w (RectStart n m ∷ cs) = refl
+  ended-answers w (Begin ∷ cs) = ended-answers w cs
+  ended-answers w (Turn x y ∷ cs) = answers-by (state_in h w g) (Turn x y) cs _ (turn_ended h w g x y e) ∙ ended-answers w cs
+  ended-answers w (Board ∷ cs) = refl
+  ended-answers w (Stone x y f ∷ cs) = ended-answers w cs
+  ended-answers w (Done ∷ cs) = ended-answers w cs
+  ended-answers w (Restart ∷ cs) = refl
+  ended-answers w (Takeback x y ∷ cs) = refl
+  ended-answers w (Rule v ∷ cs) = ended-answers v cs
+  ended-answers w (Info ∷ cs) = ended-answers w cs
+  ended-answers w (About ∷ cs) = ended-answers w cs
+  ended-answers w (End ∷ cs) = refl
+  ended-answers w (Blank ∷ cs) = ended-answers w cs
+  ended-answers w (Malformed ∷ cs) = ended-answers w cs
+  ended-answers w (Unknown ∷ cs) = ended-answers w cs
+
+-- ---- a TURN in a game that goes on
+
+other_side : (s t : Side) → t ≡ other s → same_side t s ≡ false
+other_side Black t e = rw e refl
+other_side White t e = rw e refl
+
+pub turn_going : (h : HeldTable) (w : ℕ) (g : Game) (x y : ℕ) → g.ended ≡ false → mover (board_of g) ≡ other g.brain → row_of (state_in h w g) (Turn x y) ≡ if_supported (rule_of w) (state_in h w g) (λ rule. move_row (state_in h w g) g (point_at x y) (outcome g.rule (board_of g) (point_at x y)))
+unfolding row_of
+turn_going h w g x y e m = let f = other_side g.brain (mover (board_of g)) m in rw (e, f) refl
+
+-- the chosen move where a held node is followed, and its answer to the last move is node j
+pub chosen-followed : (h : HeldTable) (g : Game) (i j : ℕ) (n m : Node) (q : Point) (before : List Point) → g.followed ≡ Some (HeldNode i) → g.moves ≡ q ∷ before → slice_get h.table i ≡ Some n → answer (answers_of n) q ≡ Some j → slice_get h.table j ≡ Some m → chosen h g ≡ by_node j m
+unfolding chosen
+chosen-followed h g i j n m q before f ms at w to = rw (f, ms, at, w, to) refl
+
+-- ---- all later commands
+
+-- node i, which is n, is accepted in the game g, in which the brain is to move; so many nodes more follow one another
+pub record StandsIn (h : HeldTable) (g : Game) (i : ℕ) (n : Node) (k : ℕ) : Type 0 where
+  pub node : slice_get h.table i ≡ Some n
+  pub wins : WinsOr (outcome g.rule (board_of g) n.attack) (NotWinning n.rest × ((q : Point) → Meets g.rule (answers_of n) (AcceptedWithin k g.rule h.table) (after (board_of g) n.attack) q))
+  pub lawful : IsPosition g.rule (board_of g)
+  pub turn : mover (board_of g) ≡ g.brain
+
+-- an accepted node is one of the table
+pub accepted_node : (rule : RuleKind) (t : List Node) (j : ℕ) (b : Grid) (f : ℕ) → AcceptedWithin f rule t j b → (k : ℕ) × (n : Node) × (f ≡ suc k) × (slice_get t j ≡ Some n) × WinsOr (outcome rule b n.attack) (NotWinning n.rest × ((q : Point) → Meets rule (answers_of n) (AcceptedWithin k rule t) (after b n.attack) q))
+unfolding AcceptedWithin
+accepted_node rule t j b zero h = absurd h
+accepted_node rule t j b (suc k) h = by_cases (slice_get t j) refl h where
+  by_cases : (o : Option Node) → slice_get t j ≡ o → AcceptedNode rule o (AcceptedWithin k rule t) b → (k' : ℕ) × (n : Node) × (suc k ≡ suc k') × (slice_get t j ≡ Some n) × WinsOr (outcome rule b n.attack) (NotWinning n.rest × ((q : Point) → Meets rule (answers_of n) (AcceptedWithin k' rule t) (after b n.attack) q))
+  by_cases None e w = absurd w
+  by_cases (Some n) e w = (k, n, refl, e, w)
+
+-- the answers to the replies among these commands, where node i is followed from the game g on
+abbrev pub GoesOver : HeldTable → ℕ → Game → ℕ → Node → ℕ → List Command → Type 0
+GoesOver h w g i n k cs = GoesBy g.rule h.table (depth_within (suc k) h.table i) i (board_of g) n.attack (replies (state_in h w (with_choice g (by_node i n))) cs) (answers_to_replies (state_in h w (with_choice g (by_node i n))) cs)
+
+abbrev pub AllGoWell : HeldTable → List Command → Type 0
+AllGoWell h cs = (k w : ℕ) (g : Game) (i : ℕ) (n : Node) → StandsIn h g i n k → GoesOver h w g i n k cs
+
+GoesBy-same : (rule : RuleKind) (t : List Node) (d i : ℕ) (b : Grid) (a : Point) (rs ps : List Point) (said heard : List Answer) → rs ≡ ps → said ≡ heard → GoesBy rule t d i b a ps heard → GoesBy rule t d i b a rs said
+GoesBy-same rule t d i b a rs ps said heard e f h = rw (e, f) h
+
+-- no reply is left
+pub nothing_more : (h : HeldTable) (g : Game) (i : ℕ) (n : Node) (k : ℕ) → StandsIn h g i n k → GoesBy g.rule h.table (depth_within (suc k) h.table i) i (board_of g) n.attack [] []
+nothing_more h g i n k s = by_none g.rule h.table _ i (board_of g) n s.node (depth_some h.table i n k s.node) (WinsOr-map (outcome g.rule (board_of g) n.attack) _ _ (λ w. tt) s.wins) (going (outcome g.rule (board_of g) n.attack) s.wins) where
+  going : (o : Outcome) → WinsOr o (NotWinning n.rest × ((q : Point) → Meets g.rule (answers_of n) (AcceptedWithin k g.rule h.table) (after (board_of g) n.attack) q)) → o ≡ GoesOn → is_winning n.rest ≡ false
+  going Refused w e = cc
+  going WinsNow w e = cc
+  going (Fouls f) w e = cc
+  going Draws w e = cc
+  going GoesOn w e = not_winning n.rest w.0
+
+-- where the attack wins, or the game is ended for another reason, no later command changes anything
+ended_goes : (h : HeldTable) (w : ℕ) (g : Game) (i : ℕ) (n : Node) (k : ℕ) (cs : List Command) → StandsIn h g i n k → not (goes_on (outcome g.rule (board_of g) n.attack)) ≡ true → GoesOver h w g i n k cs
+ended_goes h w g i n k cs s e =
+    let g1 = with_choice g (by_node i n) in
+    GoesBy-same g.rule h.table _ i (board_of g) n.attack _ _ _ _ (ended-replies h g1 e w cs) (ended-answers h g1 e w cs) (nothing_more h g i n k s)
+
+-- the board after the attack, which goes on, and whose turn it is there
+module _ (h : HeldTable) (g : Game) (i : ℕ) (n : Node) (k : ℕ) (s : StandsIn h g i n k) (o : outcome g.rule (board_of g) n.attack ≡ GoesOn) where
+  pub lawful_then : IsPosition g.rule (after (board_of g) n.attack)
+  lawful_then = IsPosition-after g.rule (board_of g) n.attack s.lawful o
+
+  pub turn_then : mover (after (board_of g) n.attack) ≡ other g.brain
+  turn_then = mover-then g.rule (board_of g) n.attack s.lawful o ∙ ap other s.turn
+
+  pub parts : NotWinning n.rest × ((q : Point) → Meets g.rule (answers_of n) (AcceptedWithin k g.rule h.table) (after (board_of g) n.attack) q)
+  parts = by_outcome (outcome g.rule (board_of g) n.attack) o s.wins where
+    by_outcome : (r : Outcome) → r ≡ GoesOn → WinsOr r (NotWinning n.rest × ((q : Point) → Meets g.rule (answers_of n) (AcceptedWithin k g.rule h.table) (after (board_of g) n.attack) q)) → NotWinning n.rest × ((q : Point) → Meets g.rule (answers_of n) (AcceptedWithin k g.rule h.table) (after (board_of g) n.attack) q)
+    by_outcome Refused e w = cc
+    by_outcome WinsNow e w = cc
+    by_outcome (Fouls f) e w = cc
+    by_outcome Draws e w = cc
+    by_outcome GoesOn e w = w
+
+  -- a TURN that is no reply changes nothing
+  no_reply : (w x y : ℕ) (cs : List Command) (e : ErrorText) → is_no_reply (Says (Error e)) ≡ true → row_of (state_in h w (with_choice g (by_node i n))) (Turn x y) ≡ fails e (state_in h w (with_choice g (by_node i n))) → GoesOver h w g i n k cs → GoesOver h w g i n k (Turn x y ∷ cs)
+  no_reply w x y cs e none row next =
+      GoesBy-same g.rule h.table _ i (board_of g) n.attack _ _ _ _
+      (replies-by _ (Turn x y) cs _ row ∙ ap (λ (b : Bool). cond b (replies (state_in h w (with_choice g (by_node i n))) cs) (point_at x y ∷ replies (state_in h w (with_choice g (by_node i n))) cs)) none)
+      (answers-by _ (Turn x y) cs _ row ∙ ap (λ (b : Bool). cond b (answers_to_replies (state_in h w (with_choice g (by_node i n))) cs) (Error e ∷ answers_to_replies (state_in h w (with_choice g (by_node i n))) cs)) none)
+      next
+
+  -- a reply that fouls ends the game
+  foul_reply : (w x y : ℕ) (cs : List Command) (f : Foul) → outcome g.rule (after (board_of g) n.attack) (point_at x y) ≡ Fouls f → row_of (state_in h w (with_choice g (by_node i n))) (Turn x y) ≡ end_row (state_in h w (with_choice g (by_node i n))) (with_choice g (by_node i n)) (point_at x y) OpponentFoul → GoesOver h w g i n k (Turn x y ∷ cs)
+  foul_reply w x y cs f fouls row =
+      let g2 = with_move (with_choice g (by_node i n)) (point_at x y) true in
+      GoesBy-same g.rule h.table _ i (board_of g) n.attack _ _ _ _
+      (replies-by _ (Turn x y) cs _ row ∙ ap (λ (ps : List Point). point_at x y ∷ ps) (ended-replies h g2 refl w cs))
+      (answers-by _ (Turn x y) cs _ row ∙ ap (λ (said : List Answer). Error OpponentFoul ∷ said) (ended-answers h g2 refl w cs))
+      (by_foul g.rule h.table _ i (board_of g) n s.node (depth_some h.table i n k s.node) o (not_winning n.rest parts.0) (point_at x y) f fouls)
+
+  -- a reply that goes on is answered by the attack of the node that answers it
+  next_reply : (w x y : ℕ) (cs : List Command) → AllGoWell h cs → outcome g.rule (after (board_of g) n.attack) (point_at x y) ≡ GoesOn → row_of (state_in h w (with_choice g (by_node i n))) (Turn x y) ≡ Chooses (with_move (with_choice g (by_node i n)) (point_at x y) false) → (j : ℕ) → answer (answers_of n) (point_at x y) ≡ Some j → AcceptedWithin k g.rule h.table j (after (after (board_of g) n.attack) (point_at x y)) → GoesOver h w g i n k (Turn x y ∷ cs)
+  next_reply w x y cs all on row j reply accepted =
+      let q = point_at x y in
+      let s1 = state_in h w (with_choice g (by_node i n)) in
+      let g2 = with_move (with_choice g (by_node i n)) q false in
+      let node = accepted_node g.rule h.table j (board_of g2) k accepted in
+      let m = node.1 in
+      let chooses : chosen h g2 ≡ by_node j m = chosen-followed h g2 i j n m q (n.attack ∷ g.moves) refl refl s.node reply node.3 in
+      let stands : StandsIn h g2 j m node.0 = record {
+        node = node.3;
+        wins = node.4;
+        lawful = IsPosition-after g.rule (after (board_of g) n.attack) q lawful_then on;
+        turn = mover-then g.rule (after (board_of g) n.attack) q lawful_then on ∙ ap other turn_then ∙ other-other g.brain;
+      } in
+      let less : depth_within (suc node.0) h.table j < depth_within (suc k) h.table i = subst (λ (d : ℕ). depth_within d h.table j < depth_within (suc k) h.table i) node.2 (deeper h.table i n k q j s.node reply) in
+      GoesBy-same g.rule h.table _ i (board_of g) n.attack _ _ _ _
+      (replies-by s1 (Turn x y) cs _ row ∙ ap (λ (c : Choice). q ∷ replies (state_in h w (with_choice g2 c)) cs) chooses)
+      (answers-by s1 (Turn x y) cs _ row ∙ ap (λ (c : Choice). Move c.at ∷ answers_to_replies (state_in h w (with_choice g2 c)) cs) chooses)
+      (by_next g.rule h.table _ i (board_of g) n s.node (depth_some h.table i n k s.node) o (not_winning n.rest parts.0) q _ j m _ _ on reply less (all node.0 w g2 j m stands))
+
+  -- a TURN by its row
+  turn_by : (w x y : ℕ) (cs : List Command) (r : Option RuleKind) (p : Outcome) → AllGoWell h cs → outcome g.rule (after (board_of g) n.attack) (point_at x y) ≡ p → row_of (state_in h w (with_choice g (by_node i n))) (Turn x y) ≡ if_supported r (state_in h w (with_choice g (by_node i n))) (λ rule. move_row (state_in h w (with_choice g (by_node i n))) (with_choice g (by_node i n)) (point_at x y) p) → LosesOr p (Answered (answer (answers_of n) (point_at x y)) (λ j. AcceptedWithin k g.rule h.table j (after (after (board_of g) n.attack) (point_at x y)))) → GoesOver h w g i n k (Turn x y ∷ cs)
+  turn_by w x y cs None p all e row met = no_reply w x y cs UnsupportedRule refl row (all k w g i n s)
+  turn_by w x y cs (Some rule) Refused all e row met = no_reply w x y cs BadMove refl row (all k w g i n s)
+  turn_by w x y cs (Some rule) WinsNow all e row met = absurd met
+  turn_by w x y cs (Some rule) (Fouls f) all e row met = foul_reply w x y cs f e row
+  turn_by w x y cs (Some rule) Draws all e row met = absurd met
+  turn_by w x y cs (Some rule) GoesOn all e row met = Answered-elim (answer (answers_of n) (point_at x y)) _ _ (λ j reply accepted. next_reply w x y cs all e row j reply accepted) met
+
+  going_turn : (w x y : ℕ) (cs : List Command) → AllGoWell h cs → GoesOver h w g i n k (Turn x y ∷ cs)
+  going_turn w x y cs all =
+      turn_by w x y cs (rule_of w) (outcome g.rule (after (board_of g) n.attack) (point_at x y)) all refl
+      (turn_going h w (with_choice g (by_node i n)) x y (ap (λ (r : Outcome). not (goes_on r)) o) turn_then)
+      (parts.1 (point_at x y))
+
+turn_goes : (h : HeldTable) (cs : List Command) → AllGoWell h cs → (x y : ℕ) → AllGoWell h (Turn x y ∷ cs)
+turn_goes h cs all x y k w g i n s = by_outcome (outcome g.rule (board_of g) n.attack) refl s.wins where
+  by_outcome : (r : Outcome) → outcome g.rule (board_of g) n.attack ≡ r → WinsOr r (NotWinning n.rest × ((q : Point) → Meets g.rule (answers_of n) (AcceptedWithin k g.rule h.table) (after (board_of g) n.attack) q)) → GoesOver h w g i n k (Turn x y ∷ cs)
+  by_outcome Refused e v = absurd v
+  by_outcome WinsNow e v = ended_goes h w g i n k (Turn x y ∷ cs) s (ap (λ (r : Outcome). not (goes_on r)) e)
+  by_outcome (Fouls f) e v = absurd v
+  by_outcome Draws e v = absurd v
+  by_outcome GoesOn e v = going_turn h g i n k s e w x y cs all
+
+-- whatever is told later, the answers to the replies are those of the game against the table
+pub all-go_well : (h : HeldTable) (cs : List Command) → AllGoWell h cs
+unfolding replies answers_to_replies row_of
+all-go_well h [] k w g i n s = nothing_more h g i n k s
+all-go_well h (Start m ∷ cs) k w g i n s = nothing_more h g i n k s
+all-go_well h (RectStart l m ∷ cs) k w g i n s = nothing_more h g i n k s
+all-go_well h (Begin ∷ cs) k w g i n s = all-go_well h cs k w g i n s
+all-go_well h (Turn x y ∷ cs) k w g i n s = turn_goes h cs (all-go_well h cs) x y k w g i n s
+all-go_well h (Board ∷ cs) k w g i n s = nothing_more h g i n k s
+all-go_well h (Stone x y f ∷ cs) k w g i n s = all-go_well h cs k w g i n s
+all-go_well h (Done ∷ cs) k w g i n s = all-go_well h cs k w g i n s
+all-go_well h (Restart ∷ cs) k w g i n s = nothing_more h g i n k s
+all-go_well h (Takeback x y ∷ cs) k w g i n s = nothing_more h g i n k s
+all-go_well h (Rule v ∷ cs) k w g i n s = all-go_well h cs k v g i n s
+all-go_well h (Info ∷ cs) k w g i n s = all-go_well h cs k w g i n s
+all-go_well h (About ∷ cs) k w g i n s = all-go_well h cs k w g i n s
+all-go_well h (End ∷ cs) k w g i n s = nothing_more h g i n k s
+all-go_well h (Blank ∷ cs) k w g i n s = all-go_well h cs k w g i n s
+all-go_well h (Malformed ∷ cs) k w g i n s = all-go_well h cs k w g i n s
+all-go_well h (Unknown ∷ cs) k w g i n s = all-go_well h cs k w g i n s

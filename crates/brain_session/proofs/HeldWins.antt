@@ -1,0 +1,119 @@
+-- Whoever answers by an accepted table wins within its depth, whatever legal replies come.
+use Rattle.std.proofs.Common.{◌≡◌, ℕ, suc, ◌≤◌, Bool, true, false, List, [], ◌∷◌, get_or, length, refl, sym, subst, arith, ◌⊎◌, inl, inr}
+use Rattle.std.specs.Prelude.{Option, Some, None, slice_get}
+use Rattle.game_rules.specs.Grid.{Grid, is_empty}
+use Rattle.game_rules.specs.Play.{outcome, outcome_by, after}
+use Rattle.game_rules.specs.Games.{WinsOr, LosesOr}
+use Rattle.game_rules.proofs.Games.{WinsOr-map}
+use Rattle.game_rules.specs.declared.RuleKind.{RuleKind}
+use Rattle.game_rules.specs.declared.Foul.{Foul}
+use Rattle.game_rules.specs.declared.Outcome.{Outcome}
+use Rattle.game_rules.specs.declared.Outcome.TheVariants.{Refused, Wins as WinsNow, Fouls, Draws, GoesOn}
+use Rattle.game_rules.specs.declared.Point.{Point}
+use Rattle.strategy_graph.specs.declared.Node.{Node}
+use Rattle.strategy_graph.specs.declared.roots.Root.{Root}
+use Rattle.strategy_graph.specs.declared.roots.Root.TheVariants.{Attack, Defend}
+use Rattle.strategy_graph.specs.Tables.{Answers, answers_of, answer, is_winning, depth_within, depth, start_depth}
+use Rattle.strategy_graph.specs.Acceptance.{Answered, NotWinning, Meets, AcceptedWithin, Accepted}
+use Rattle.strategy_graph.specs.Roots.{AcceptedRoot}
+use Rattle.strategy_graph.specs.Games.{End, Won, Lost, Drawn, NoMove, Open, IllegalReply, game, attacks}
+use Rattle.strategy_graph.proofs.Answering.{answer-greatest, Answered-elim}
+use Rattle.brain_session.specs.ChosenMoves.{is_foul}
+use Rattle.brain_session.specs.HeldGames.{IsWonWithin, AreReplies, WinsGames, AnswersAndWins, RootWinsGames, WhoeverHoldsWins}
+use Rattle.brain_session.proofs.HeldPlays.{not_winning, by_none, by_foul, attacks-first, attacks-foul, attacks-next, won_next, depth_some, deeper}
+use Rattle.brain_session.proofs.HeldSteps.{accepted_node}
+
+-- a point that is empty is not refused
+not_refused_by : (e w l : Bool) (f : Option Foul) → e ≡ true → outcome_by e w f l ≡ Refused → ⊥
+not_refused_by true true l None e h = cc
+not_refused_by true false true None e h = cc
+not_refused_by true false false None e h = cc
+not_refused_by true true l (Some f) e h = cc
+not_refused_by true false l (Some f) e h = cc
+not_refused_by false w l f e h = cc
+
+pub not_refused : (rule : RuleKind) (b : Grid) (q : Point) → is_empty b q ≡ true → outcome rule b q ≡ Refused → ⊥
+unfolding outcome
+not_refused rule b q e h = not_refused_by (is_empty b q) _ _ _ e h
+
+won_more : (d e n : ℕ) (end : End) → d ≤ e → IsWonWithin d n end → IsWonWithin e n end
+won_more d e n (Won k) less h = let high = h.1 in (h.0, omega (arith, high))
+won_more d e n Lost less h = h
+won_more d e n Drawn less h = h
+won_more d e n NoMove less h = h
+won_more d e n Open less h = omega arith
+won_more d e n IllegalReply less h = h
+
+module _ (rule : RuleKind) (t : List Node) where
+  WinsOver : List Point → Type 0
+  WinsOver qs = (f i : ℕ) (b : Grid) → AcceptedWithin f rule t i b → AreReplies rule b (attacks rule t i b qs) qs → IsWonWithin (depth_within f t i) (length qs) (game rule t i b qs)
+
+  -- node i, which is n, is accepted at b
+  module _ (i : ℕ) (b : Grid) (n : Node) (k : ℕ) (at : slice_get t i ≡ Some n) (wins : WinsOr (outcome rule b n.attack) (NotWinning n.rest × ((q : Point) → Meets rule (answers_of n) (AcceptedWithin k rule t) (after b n.attack) q))) where
+    going : (o : Outcome) → WinsOr o (NotWinning n.rest × ((q : Point) → Meets rule (answers_of n) (AcceptedWithin k rule t) (after b n.attack) q)) → o ≡ GoesOn → NotWinning n.rest × ((q : Point) → Meets rule (answers_of n) (AcceptedWithin k rule t) (after b n.attack) q)
+    going Refused w e = cc
+    going WinsNow w e = cc
+    going (Fouls f) w e = cc
+    going Draws w e = cc
+    going GoesOn w e = w
+
+    none_left : IsWonWithin (depth_within (suc k) t i) 0 (game rule t i b [])
+    none_left = (by_none rule t _ i b n at (depth_some t i n k at) (WinsOr-map (outcome rule b n.attack) _ _ (λ w. tt) wins) (λ e. not_winning n.rest (going (outcome rule b n.attack) wins e).0)).won
+
+    module _ (q : Point) (qs : List Point) (on : outcome rule b n.attack ≡ GoesOn) (empty : is_empty (after b n.attack) q ≡ true) (over : WinsOver qs) where
+      winning : is_winning n.rest ≡ false
+      winning = not_winning n.rest (going (outcome rule b n.attack) wins on).0
+
+      fouled : (f : Foul) (vs : List Point) → outcome rule (after b n.attack) q ≡ Fouls f → AreReplies rule (after (after b n.attack) q) [] vs → IsWonWithin (depth_within (suc k) t i) (suc (length vs)) (game rule t i b (q ∷ vs))
+      fouled f [] e are = (by_foul rule t _ i b n at (depth_some t i n k at) on winning q f e).won
+      fouled f (v ∷ vs) e are = absurd are
+
+      by_reply : (p : Outcome) → outcome rule (after b n.attack) q ≡ p → LosesOr p (Answered (answer (answers_of n) q) (λ j. AcceptedWithin k rule t j (after (after b n.attack) q))) → AreReplies rule b (attacks rule t i b (q ∷ qs)) (q ∷ qs) → IsWonWithin (depth_within (suc k) t i) (suc (length qs)) (game rule t i b (q ∷ qs))
+      unfolding WinsOver
+      by_reply Refused e met are = absurd (not_refused rule (after b n.attack) q empty e)
+      by_reply WinsNow e met are = absurd met
+      by_reply (Fouls f) e met are =
+          fouled f qs e (subst (λ (ps : List Point). AreReplies rule b ps (q ∷ qs)) (attacks-foul rule t 1 i b n at (omega arith) on winning q qs f e) are).2
+      by_reply Draws e met are = absurd met
+      by_reply GoesOn e met are = Answered-elim (answer (answers_of n) q) _ _ (λ j reply accepted.
+          let more = subst (λ (ps : List Point). AreReplies rule b ps (q ∷ qs)) (attacks-next rule t 1 i b n at (omega arith) on winning q j qs e reply) are in
+          won_next rule t _ i b n at (depth_some t i n k at) on winning q _ j qs e reply (deeper t i n k q j at reply) (over k j (after (after b n.attack) q) accepted more.2)) met
+
+  wins-over : (qs : List Point) → WinsOver qs
+  unfolding WinsOver
+  wins-over [] f i b h are =
+      let node = accepted_node rule t i b f h in
+      subst (λ (d : ℕ). IsWonWithin (depth_within d t i) 0 (game rule t i b [])) (sym node.2) (none_left i b node.1 node.0 node.3 node.4)
+  wins-over (q ∷ qs) f i b h are =
+      let node = accepted_node rule t i b f h in
+      let first = attacks-first rule t 1 i b node.1 node.3 (omega arith) (q ∷ qs) in
+      let legal = subst (λ (ps : List Point). AreReplies rule b ps (q ∷ qs)) first.1 are in
+      subst (λ (d : ℕ). IsWonWithin (depth_within d t i) (suc (length qs)) (game rule t i b (q ∷ qs))) (sym node.2)
+      (by_reply i b node.1 node.0 node.3 node.4 q qs legal.0 legal.1 (wins-over qs) (outcome rule (after b node.1.attack) q) refl
+      ((going i b node.1 node.0 node.3 node.4 (outcome rule b node.1.attack) node.4 legal.0).1 q) are)
+
+  -- from an accepted node
+  node_wins : (i : ℕ) (b : Grid) → Accepted rule t i b → WinsGames rule t i b (depth t i)
+  unfolding WinsOver
+  node_wins i b h qs are = wins-over qs (suc i) i b h are
+
+  -- after a move at an accepted start
+  start_wins : (a : Answers) (b : Grid) (q : Point) → is_empty b q ≡ true → Meets rule a (Accepted rule t) b q → (is_foul (outcome rule b q) ≡ true) ⊎ AnswersAndWins rule t a b q (start_depth t a)
+  start_wins a b q empty met = by_outcome (outcome rule b q) refl met where
+    by_outcome : (o : Outcome) → outcome rule b q ≡ o → LosesOr o (Answered (answer a q) (λ j. Accepted rule t j (after b q))) → (is_foul o ≡ true) ⊎ AnswersAndWins rule t a b q (start_depth t a)
+    by_outcome Refused e h = absurd (not_refused rule b q empty e)
+    by_outcome WinsNow e h = absurd h
+    by_outcome (Fouls f) e h = inl refl
+    by_outcome Draws e h = absurd h
+    by_outcome GoesOn e h = inr (Answered-elim (answer a q) _ _ (λ j reply accepted. record {
+      node = j;
+      answers = reply;
+      wins = λ qs are. won_more (depth t j) (start_depth t a) (length qs) _ (answer-greatest (depth t) a q j reply) (node_wins j (after b q) accepted qs are);
+    }) h)
+
+  root_wins : (root : Root) (b : Grid) → AcceptedRoot rule t root b → RootWinsGames rule t root b
+  root_wins (Attack i) b h = node_wins i b h
+  root_wins (Defend a) b h = λ q empty. start_wins a b q empty (h q)
+
+pub whoever-holds_wins : WhoeverHoldsWins
+whoever-holds_wins held h = λ k d lt. let r = get_or held.roots k d in root_wins r.kind held.table r.root r.board (h.roots k d lt).accepted

@@ -1,0 +1,39 @@
+-- The laws of the brain. What is declared by `pub mod` the layers above may cite; the rest serves this crate alone.
+
+-- the stones of a batch, put one by one
+mod Stones
+-- the point next to the middle
+mod PlainMoves
+-- a board with the moves on it; whether two boards are one
+mod PlayedMoves
+-- what the brain follows, move by move
+pub mod Guiding
+-- the win that it finds itself
+pub mod OwnWins
+-- the node to which a held root leads
+pub mod HeldNodes
+-- plain moves are legal
+pub mod LegalMoves
+-- the choice where nothing is followed yet
+pub mod Choosing
+-- a game that is kept up, move by move
+pub mod Courses
+-- the place of a round, and the rows of the protocol in it
+pub mod Rounds
+pub mod Rows
+-- the side to move on the board of a batch
+pub mod BatchGames
+-- steps of the brain by the rows of their commands
+pub mod Takings
+-- what a session says and where it stands, command by command; how a session over devices goes on and ends
+pub mod SessionLaws
+mod Serving
+-- held games go well, each legal reply in one is answered, and whoever answers by an accepted table wins
+pub mod HeldGames
+pub mod HeldReplies
+pub mod HeldWins
+-- games in which a held node is followed: one reply, each later command
+mod HeldPlays
+mod HeldSteps
+-- what is true of the state whatever was told
+pub mod LawfulStates

@@ -1,0 +1,287 @@
+-- Steps of the brain: the step of a command by what its row says, and the stones of a batch that fit the board.
+use Rattle.std.proofs.Common.{◌≡◌, ◌⊎◌, inl, inr, ℕ, ◌<◌, Bool, true, false, ◌&&◌, ◌||◌, not, refl, sym, ap, subst, ◌∙◌, arith, List, [], ◌∷◌, ◌++◌, length, get_or}
+use Rattle.std.specs.Prelude.{Option, Some, None, Result, Ok, Err, IfOk, IfSome, IsOk, IsNone, is_some, All, ◌==◌, if◌then◌else◌}
+use Rattle.std.proofs.lemmas.List.Elements.{All-push}
+use Rattle.std.proofs.lemmas.List.Quantifiers.{all_pairs_push}
+use Rattle.std.proofs.lemmas.List.Folds.{list_any_at}
+use Rattle.game_rules.specs.Grid.{Grid, is_on}
+use Rattle.game_rules.specs.Shapes.{is_same_point}
+use Rattle.game_rules.specs.Play.{outcome, mover}
+use Rattle.game_rules.specs.declared.RuleKind.{RuleKind}
+use Rattle.game_rules.specs.declared.Side.TheVariants.{White}
+use Rattle.game_rules.specs.declared.Outcome.{Outcome}
+use Rattle.game_rules.specs.declared.Outcome.TheVariants.{Refused, Wins, Fouls, Draws, GoesOn}
+use Rattle.game_rules.specs.declared.Point.{Point}
+use Rattle.foul_judge.specs.Lawful.{refusal}
+use Rattle.strategy_checker.specs.HeldRoots.{HeldTable}
+use Rattle.gomocup_text.specs.declared.Command.{Command}
+use Rattle.gomocup_text.specs.declared.Command.TheVariants.{Start, RectStart, Begin, Turn, Board, Stone, Done, Restart, Takeback, Rule, Info, About, End, Blank, Malformed, Unknown}
+use Rattle.gomocup_text.specs.declared.Answer.TheVariants.{About as SaysAbout, Unknown as SaysUnknown}
+use Rattle.gomocup_text.specs.declared.ErrorText.{ErrorText}
+use Rattle.gomocup_text.specs.declared.ErrorText.TheVariants.{NoBoard as NoBoardText, UnsupportedRule, BadArguments, GameOver, WrongTurn, BadMove}
+use Rattle.brain_session.specs.declared.Reaction.{Reaction}
+use Rattle.brain_session.specs.declared.Reaction.TheVariants.{Silent, Says, Ends}
+use Rattle.brain_session.specs.declared.batch.BatchStone.{BatchStone}
+use Rattle.brain_session.specs.States.{Game, Batch, Place, NoBoard, Fresh, InGame, State, board_of, empty_board, new_game, point_at}
+use Rattle.brain_session.specs.Batches.{spoiled, has_stone_at, with_stone_at, game_from}
+use Rattle.brain_session.specs.ChosenMoves.{chosen}
+use Rattle.brain_session.specs.Steps.{Row, Reacts, Chooses, fails, unread, reading, placed, if_supported, rule_of, same_side, with_choice, move_row, begin_row, turn_row, takeback_row, batch_row, done_row, board_row, board_in, row_of, step_by, brain_step, start_row, restart_row, stone_row, if_not_reading}
+use Rattle.std.specs.Option.{option_map}
+use Rattle.game_rules.proofs.Boards.{and_left, and_right, on_x}
+use Rattle.brain_session.specs.Running.{StonesFit}
+use Rattle.brain_session.specs.Memory.{is_following, is_settled, takes_none}
+use Rattle.brain_session.specs.Kept.{IsBegun, IsPointOn, IsRow, IsStateOf, Takes, has_no_place_in_batch, is_spoiled}
+
+none_from : {X : Type 0} (o : Option X) → IsNone o → o ≡ None
+none_from None e = refl
+none_from (Some x) e = absurd (cc)
+
+-- ---- rows that keep the rest of the state
+
+-- the row keeps the wish and what is held, and no batch is read after it
+abbrev KeepsRest : State → Row → Type 0
+KeepsRest s (Reacts reaction next) = next ≡ record s { place = next.place; batch = None }
+KeepsRest s (Chooses g) = Unit {0}
+
+supported-rest : (s : State) (o : Option RuleKind) (row : RuleKind → Row) → KeepsRest s (fails UnsupportedRule s) → ((k : RuleKind) → KeepsRest s (row k)) → KeepsRest s (if_supported o s row)
+supported-rest s None row none some = none
+supported-rest s (Some k) row none some = some k
+
+choose-row : (s : State) (r : Bool) (a b : Row) → KeepsRest s a → KeepsRest s b → KeepsRest s (if r then a else b)
+choose-row s true a b first second = first
+choose-row s false a b first second = second
+
+module _ (s : State) (none : s.batch ≡ None) where
+  fails-rest : (e : ErrorText) → KeepsRest s (fails e s)
+  fails-rest e = ap (λ (b : Option Batch). record s { batch = b }) none
+
+  move-rest : (g : Game) (p : Point) (o : Outcome) → KeepsRest s (move_row s g p o)
+  move-rest g p Refused = fails-rest BadMove
+  move-rest g p Wins = refl
+  move-rest g p (Fouls f) = refl
+  move-rest g p Draws = refl
+  move-rest g p GoesOn = tt
+
+  turn-rest : (place : Place) (p : Point) → KeepsRest s (turn_row s place p)
+  turn-rest NoBoard p = fails-rest NoBoardText
+  turn-rest (Fresh width height) p =
+      supported-rest s (rule_of s.wish) (λ k. let g : Game = new_game k (empty_board width height) White in move_row s g p (outcome k (board_of g) p)) (fails-rest UnsupportedRule)
+      (λ k. move-rest (new_game k (empty_board width height) White) p (outcome k (empty_board width height) p))
+  turn-rest (InGame g) p =
+      let row : RuleKind → Row = λ k. move_row s g p (outcome g.rule (board_of g) p) in
+      choose-row s g.ended (fails GameOver s) (if same_side (mover (board_of g)) g.brain then fails WrongTurn s else if_supported (rule_of s.wish) s row) (fails-rest GameOver)
+      (choose-row s (same_side (mover (board_of g)) g.brain) (fails WrongTurn s) (if_supported (rule_of s.wish) s row) (fails-rest WrongTurn)
+      (supported-rest s (rule_of s.wish) row (fails-rest UnsupportedRule) (λ k. move-rest g p (outcome g.rule (board_of g) p))))
+
+  -- the step of such a row, by the reaction and the place that it says
+  row-takes : (row : Row) (r : Reaction) (place : Place) → KeepsRest s row → IsRow s.held row r place → Takes row s r (record s { place = place })
+  row-takes (Reacts reaction next) r place rest is =
+      let there : next ≡ record s { place = place } =
+      rest ∙ ap (λ (w : Place). record s { place = w; batch = None }) (sym is.1) ∙ ap (λ (b : Option Batch). record s { place = place; batch = b }) (sym none) in
+      ap (λ (x : Reaction). record { reaction = x; next = next }) (sym is.0) ∙ ap (λ (n : State). record { reaction = r; next = n }) there
+  row-takes (Chooses g) r place rest is =
+      let there : placed s (InGame (with_choice g (chosen s.held g))) ≡ record s { place = place } =
+      ap (λ (w : Place). record s { place = w; batch = None }) (sym is.1) ∙ ap (λ (b : Option Batch). record s { place = place; batch = b }) (sym none) in
+      ap (λ (x : Reaction). record { reaction = x; next = placed s (InGame (with_choice g (chosen s.held g))) }) (sym is.0)
+      ∙ ap (λ (n : State). record { reaction = r; next = n }) there
+
+-- ---- the steps of a round
+
+-- the brain answers a TURN, by what its round did
+pub turn-takes : {E : Type 0} (r : Result Reaction E) (s : State) (place new : Place) (rule : Option RuleKind) (at : Option Point) (p : Point) → s.place ≡ place → rule ≡ rule_of s.wish → IsNone s.batch → IsPointOn (board_in place) p at → IfOk r (λ x. (t : State) (q : Point) → IsStateOf s.held place rule t → IsPointOn (board_in place) q at → IsRow s.held (turn_row t place q) x new) → IfOk r (λ x. Takes (turn_row s s.place p) s x (record s { place = new }))
+turn-takes (Err e) s place new rule at p here by_wish none point rows = tt
+turn-takes (Ok x) s place new rule at p here by_wish none point rows =
+    let row : IsRow s.held (turn_row s place p) x new = rows s p (record { held_is = refl; place_is = here; rule_is = sym by_wish }) point in
+    row-takes s (none_from s.batch none) (turn_row s s.place p) x new (turn-rest s (none_from s.batch none) s.place p)
+    (subst (λ (w : Place). IsRow s.held (turn_row s w p) x new) (sym here) row)
+
+-- a point that the brain was told is on the board
+pub told-on : (b : Grid) (p : Point) (at : Option Point) → IsPointOn b p at → IfSome at (λ q. is_on b q ≡ true)
+told-on b p None point = tt
+told-on b p (Some q) point = subst (λ (x : Point). is_on b x ≡ true) (sym point.1) point.0
+
+-- ---- batches
+
+no-stone_at : (stones : List BatchStone) (p : Point) → has_stone_at stones p ≡ false → (k : ℕ) (d : BatchStone) → k < length stones → is_same_point (get_or stones k d).at p ≡ false
+no-stone_at stones p none k d less = by_test (is_same_point (get_or stones k d).at p) refl where
+  by_test : (r : Bool) → is_same_point (get_or stones k d).at p ≡ r → r ≡ false
+  by_test true e = let some : has_stone_at stones p ≡ true = list_any_at (λ (x : BatchStone). is_same_point x.at p) stones k d less e in cc
+  by_test false e = refl
+
+-- the stones fit after a line of the batch
+pub fit-with : (b : Grid) (batch : Batch) (at : Option Point) (field : ℕ) → IfSome at (λ q. is_on b q ≡ true) → StonesFit b batch → StonesFit b (with_stone_at batch at field)
+fit-with b batch None field on fit = record { on_board = fit.on_board; distinct = fit.distinct }
+fit-with b batch (Some p) field on fit = by_tests (field == 1 || field == 2) (has_stone_at batch.stones p) refl where
+  by_tests : (r t : Bool) → has_stone_at batch.stones p ≡ t → StonesFit b (if r && not t then record batch { stones = batch.stones ++ record { at = p; own = field == 1 } ∷ [] } else spoiled batch)
+  by_tests true false e = record {
+    on_board = All-push (λ x. is_on b x.at ≡ true) batch.stones (record { at = p; own = field == 1 }) fit.on_board on;
+    distinct = all_pairs_push (λ x u. is_same_point x.at u.at ≡ false) batch.stones (record { at = p; own = field == 1 }) fit.distinct (no-stone_at batch.stones p e);
+  }
+  by_tests true true e = record { on_board = fit.on_board; distinct = fit.distinct }
+  by_tests false t e = record { on_board = fit.on_board; distinct = fit.distinct }
+
+-- without a board no game begins from a batch
+pub no-board : (rule : RuleKind) (b : Batch) → StonesFit (empty_board 0 0) b → game_from rule (empty_board 0 0) b ≡ None
+unfolding refusal
+no-board rule b fit = by_parts b.bad b.stones fit.on_board where
+  by_parts : (bad : Bool) (stones : List BatchStone) → All (λ x. is_on (empty_board 0 0) x.at ≡ true) stones → game_from rule (empty_board 0 0) (record { stones = stones; bad = bad }) ≡ None
+  by_parts true stones on = refl
+  by_parts false [] on = refl
+  by_parts false (x ∷ xs) on = let off : x.at.x < 0 = on_x (empty_board 0 0) x.at (on 0 x (omega arith)) in absurd (omega arith)
+
+-- the brain begins a game from the batch, by what was begun
+pub done-takes : (s : State) (b : Batch) (kind : RuleKind) (r : Reaction) (place : Place) → s.batch ≡ Some b → Some kind ≡ rule_of s.wish → IsBegun s.held (game_from kind (board_in s.place) b) (Some (place, r)) → Takes (done_row s s.batch) s r (placed s place)
+done-takes s b kind r place read by_wish begun =
+    let row : done_row s s.batch ≡ batch_row s (game_from kind (board_in s.place) b) =
+    ap (done_row s) read ∙ ap (λ (o : Option RuleKind). if_supported o (unread s) (λ k. batch_row s (game_from k (board_in s.place) b))) (sym by_wish) in
+    subst (λ (w : Row). Takes w s r (placed s place)) (sym row) (by_game (game_from kind (board_in s.place) b) begun) where
+      by_game : (o : Option Game) → IsBegun s.held o (Some (place, r)) → Takes (batch_row s o) s r (placed s place)
+      by_game None begun = absurd begun
+      by_game (Some g) begun = ap (λ (x : Reaction). record { reaction = x; next = placed s (InGame (with_choice g (chosen s.held g))) }) (sym begun.0) ∙ ap (λ (w : Place). record { reaction = r; next = placed s w }) (sym begun.1)
+
+pub done-row : (s : State) (kind : RuleKind) (r : Reaction) (place : Place) → is_some s.batch ≡ true → Some kind ≡ rule_of s.wish → IfSome s.batch (λ b. IsBegun s.held (game_from kind (board_in s.place) b) (Some (place, r))) → Takes (done_row s s.batch) s r (placed s place)
+done-row s kind r place read by_wish begun = by_batch s.batch refl read begun where
+  by_batch : (o : Option Batch) → s.batch ≡ o → is_some o ≡ true → IfSome o (λ b. IsBegun s.held (game_from kind (board_in s.place) b) (Some (place, r))) → Takes (done_row s s.batch) s r (placed s place)
+  by_batch None e read begun = absurd (cc)
+  by_batch (Some b) e read begun = done-takes s b kind r place e by_wish begun
+
+-- without a board nothing is begun
+pub none-begun : (h : HeldTable) (kind : RuleKind) (place : Place) (o : Option Batch) → place ≡ NoBoard → IfSome o (StonesFit (board_in place)) → IfSome o (λ b. IsBegun h (game_from kind (board_in place) b) None)
+none-begun h kind place None none fit = tt
+none-begun h kind place (Some b) none fit =
+    let nothing : game_from kind (board_in place) b ≡ None =
+    ap (λ (w : Place). game_from kind (board_in w) b) none ∙ no-board kind b (subst (λ (w : Place). StonesFit (board_in w) b) none fit) in
+    subst (λ (g : Option Game). IsBegun h g None) (sym nothing) tt
+
+-- the batch that fits after a line
+pub fit-after : (b : Grid) (old : Option Batch) (at : Option Point) (field : ℕ) → IfSome at (λ q. is_on b q ≡ true) → IfSome old (StonesFit b) → IfSome (option_map (λ x. with_stone_at x at field) old) (StonesFit b)
+fit-after b None at field on fit = tt
+fit-after b (Some x) at field on fit = fit-with b x at field on fit
+
+-- no batch is read, and so none has to fit
+pub fit-none : (b : Grid) (o : Option Batch) → IsNone o → IfSome o (StonesFit b)
+fit-none b None e = tt
+fit-none b (Some x) e = absurd (cc)
+
+-- ---- the step of each command
+
+outside-row : (s : State) (c : Command) (b : Batch) → has_no_place_in_batch c ≡ true → s.batch ≡ Some b → row_of s c ≡ Reacts Silent (reading s (spoiled b))
+unfolding row_of
+outside-row s Begin b e read = ap (λ (o : Option Batch). if_not_reading s o (λ _. begin_row s s.place)) read
+outside-row s (Turn x y) b e read = ap (λ (o : Option Batch). if_not_reading s o (λ _. turn_row s s.place (point_at x y))) read
+outside-row s (Takeback x y) b e read = ap (λ (o : Option Batch). if_not_reading s o (λ _. takeback_row s s.place (point_at x y))) read
+outside-row s Malformed b e read = ap (λ (o : Option Batch). if_not_reading s o (λ _. fails BadArguments s)) read
+outside-row s Unknown b e read = ap (λ (o : Option Batch). if_not_reading s o (λ _. Reacts (Says SaysUnknown) s)) read
+outside-row s (Start n) b e read = absurd (cc)
+outside-row s (RectStart width height) b e read = absurd (cc)
+outside-row s Restart b e read = absurd (cc)
+outside-row s About b e read = absurd (cc)
+outside-row s End b e read = absurd (cc)
+outside-row s (Rule wish) b e read = absurd (cc)
+outside-row s Info b e read = absurd (cc)
+outside-row s Blank b e read = absurd (cc)
+outside-row s Board b e read = absurd (cc)
+outside-row s (Stone x y field) b e read = absurd (cc)
+outside-row s Done b e read = absurd (cc)
+
+-- a command that has no place in the batch that is read
+pub spoiled-step : (s : State) (c : Command) → is_spoiled s c ≡ true → brain_step s c ≡ record { reaction = Silent; next = record s { batch = option_map spoiled s.batch } }
+spoiled-step s c e = by_batch s.batch refl (and_left (is_some s.batch) (has_no_place_in_batch c) e) where
+  by_batch : (o : Option Batch) → s.batch ≡ o → is_some s.batch ≡ true → brain_step s c ≡ record { reaction = Silent; next = record s { batch = option_map spoiled s.batch } }
+  by_batch None read some = absurd (cc)
+  by_batch (Some b) read some =
+      ap (step_by s) (outside-row s c b (and_right (is_some s.batch) (has_no_place_in_batch c) e) read)
+      ∙ ap (λ (o : Option Batch). record { reaction = Silent; next = record s { batch = option_map spoiled o } }) (sym read)
+
+-- the step of a command whose row is this one
+pub row-of : {E : Type 0} (r : Result Reaction E) (s new : State) (c : Command) (row : Row) → row_of s c ≡ row → IfOk r (λ x. Takes row s x new) → IfOk r (λ x. Takes (row_of s c) s x new)
+row-of r s new c row e takes = subst (λ (w : Row). IfOk r (λ x. Takes w s x new)) (sym e) takes
+
+pub row-is : (s new : State) (c : Command) (row : Row) (r : Reaction) → row_of s c ≡ row → Takes row s r new → Takes (row_of s c) s r new
+row-is s new c row r e takes = subst (λ (w : Row). Takes w s r new) (sym e) takes
+
+-- the rows of the commands
+module _ (s : State) (c : Command) where
+  pub is-start : (n : ℕ) → c ≡ Start n → row_of s c ≡ start_row s n n
+  unfolding row_of
+  is-start n e = ap (row_of s) e
+
+  pub is-rect_start : (width height : ℕ) → c ≡ RectStart width height → row_of s c ≡ start_row s width height
+  unfolding row_of
+  is-rect_start width height e = ap (row_of s) e
+
+  pub is-restart : c ≡ Restart → row_of s c ≡ restart_row s s.place
+  unfolding row_of
+  is-restart e = ap (row_of s) e
+
+  pub is-about : c ≡ About → row_of s c ≡ Reacts (Says SaysAbout) s
+  unfolding row_of
+  is-about e = ap (row_of s) e
+
+  pub is-end : c ≡ End → row_of s c ≡ Reacts Ends s
+  unfolding row_of
+  is-end e = ap (row_of s) e
+
+  pub is-rule : (wish : ℕ) → c ≡ Rule wish → row_of s c ≡ Reacts Silent (record s { wish = wish })
+  unfolding row_of
+  is-rule wish e = ap (row_of s) e
+
+  pub is-info : c ≡ Info → row_of s c ≡ Reacts Silent s
+  unfolding row_of
+  is-info e = ap (row_of s) e
+
+  pub is-blank : c ≡ Blank → row_of s c ≡ Reacts Silent s
+  unfolding row_of
+  is-blank e = ap (row_of s) e
+
+  pub is-unsaid : (c ≡ Info) ⊎ (c ≡ Blank) → row_of s c ≡ Reacts Silent s
+  is-unsaid (inl e) = is-info e
+  is-unsaid (inr e) = is-blank e
+
+  pub is-board : c ≡ Board → row_of s c ≡ board_row s s.place
+  unfolding row_of
+  is-board e = ap (row_of s) e
+
+  pub is-stone : (x y field : ℕ) → c ≡ Stone x y field → row_of s c ≡ stone_row s s.batch (point_at x y) field
+  unfolding row_of
+  is-stone x y field e = ap (row_of s) e
+
+  pub is-done : c ≡ Done → row_of s c ≡ done_row s s.batch
+  unfolding row_of
+  is-done e = ap (row_of s) e
+
+  pub is-begin : c ≡ Begin → IsNone s.batch → row_of s c ≡ begin_row s s.place
+  unfolding row_of
+  is-begin e none = ap (row_of s) e ∙ ap (λ (o : Option Batch). if_not_reading s o (λ _. begin_row s s.place)) (none_from s.batch none)
+
+  pub is-turn : (x y : ℕ) → c ≡ Turn x y → IsNone s.batch → row_of s c ≡ turn_row s s.place (point_at x y)
+  unfolding row_of
+  is-turn x y e none = ap (row_of s) e ∙ ap (λ (o : Option Batch). if_not_reading s o (λ _. turn_row s s.place (point_at x y))) (none_from s.batch none)
+
+  pub is-takeback : (x y : ℕ) → c ≡ Takeback x y → IsNone s.batch → row_of s c ≡ takeback_row s s.place (point_at x y)
+  unfolding row_of
+  is-takeback x y e none = ap (row_of s) e ∙ ap (λ (o : Option Batch). if_not_reading s o (λ _. takeback_row s s.place (point_at x y))) (none_from s.batch none)
+
+  pub is-malformed : c ≡ Malformed → IsNone s.batch → row_of s c ≡ fails BadArguments s
+  unfolding row_of
+  is-malformed e none = ap (row_of s) e ∙ ap (λ (o : Option Batch). if_not_reading s o (λ _. fails BadArguments s)) (none_from s.batch none)
+
+  pub is-unknown : c ≡ Unknown → IsNone s.batch → row_of s c ≡ Reacts (Says SaysUnknown) s
+  unfolding row_of
+  is-unknown e none = ap (row_of s) e ∙ ap (λ (o : Option Batch). if_not_reading s o (λ _. Reacts (Says SaysUnknown) s)) (none_from s.batch none)
+
+-- a command that has no place in a batch is taken only where none is read
+pub unread-at : (s : State) (c d : Command) → c ≡ d → has_no_place_in_batch d ≡ true → is_spoiled s c ≡ false → IsNone s.batch
+unread-at s c d same outside e = by_some (is_some s.batch) (ap (λ (r : Bool). is_some s.batch && r) (sym (ap has_no_place_in_batch same ∙ outside)) ∙ e) where
+  by_some : (r : Bool) → (r && true) ≡ false → r ≡ false
+  by_some true e = e
+  by_some false e = refl
+
+-- a TURN that takes no memory
+pub turn-free : {E : Type 0} (r : Result Reaction E) (s : State) (c : Command) (x y : ℕ) → c ≡ Turn x y → IsNone s.batch → (is_following s.place ≡ true → IsOk r) → (is_settled s.held (turn_row s s.place (point_at x y)) ≡ true → IsOk r) → takes_none s c ≡ true → IsOk r
+turn-free r s c x y is none following settled free =
+    by_following (is_following s.place) refl (subst (λ (d : Command). takes_none s d ≡ true) is free) where
+      by_following : (t : Bool) → is_following s.place ≡ t → takes_none s (Turn x y) ≡ true → IsOk r
+      by_following true e free = following e
+      by_following false e free =
+          settled (ap (is_settled s.held) (sym (is-turn s (Turn x y) x y refl none)) ∙ ap (λ (t : Bool). t || is_settled s.held (row_of s (Turn x y))) (sym e) ∙ free)

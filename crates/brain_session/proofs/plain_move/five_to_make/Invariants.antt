@@ -1,0 +1,9 @@
+use Rattle.std.proofs.Common.{◌≡◌}
+use Rattle.std.specs.List.{find}
+use Rattle.game_rules.specs.Shapes.{five}
+use Rattle.brain_session.specs.ChosenMoves.{five_to_make}
+use Rattle.brain_session.proofs.plain_move.five_to_make.Given as goal
+
+-- the first five point of those left is the first of all
+abbrev pub invariant-loop-p : goal.invariant-loop-p
+invariant-loop-p g l = find (five g.R.Rule.KIND l.board l.side) l.p-iterator ≡ five_to_make g.R.Rule.KIND l.board

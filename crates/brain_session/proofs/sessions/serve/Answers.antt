@@ -1,0 +1,145 @@
+use Rattle.std.proofs.Common.{◌≡◌, ◌∙◌, true, false, ◌++◌, sym, ap, subst, refl, arith, inl, inr, Option, Some, None, Result, Ok, Err}
+use Rattle.std.specs.Prelude.{IsErrOf}
+use Rattle.std.specs.Option.{option_to_list}
+use Rattle.std.specs.Result.{IsErrAnd}
+use Rattle.renju_io.proofs.GivenBytes.{Gives-then, Gives-some}
+use Rattle.gomocup_text.specs.declared.Command.{Command}
+use Rattle.brain_session.specs.declared.sessions.ServeError.{ServeError}
+use Rattle.brain_session.specs.declared.sessions.ServeError.TheVariants.{ReadFailed, WriteFailed, Exhausted, Memory}
+use Rattle.brain_session.specs.Serving.{TakesCommands, IsAnswered}
+use Rattle.brain_session.proofs.Serving.{Asked, EndsAt, PastLimit, SoFar-begun, Asked-told, SoFar-answered, HasAnswered-end, IsReadToEnd-end, StopsAtWrite-asked, StopsAtStep-asked, EndsAt-told, StopsAtRead-open, PastLimit-taken, GivesSome-past}
+use Rattle.brain_session.proofs.sessions.serve.Given.{Over}
+use Rattle.brain_session.proofs.sessions.serve.Goals as goal
+
+-- the error that `?` hands on is the one that came
+same_error : {T : Type 0} (r : Result T ServeError) (came e : ServeError) → IsErrAnd r (λ y. y ≡ came) → IsErrOf r e → came ≡ e
+same_error (Ok t) came e same is = absurd same
+same_error (Err y) came e same is = let last : y ≡ e = cc in sym same ∙ last
+
+none_is : (o : Option Command) → ((c : Command) → o ≡ Some c → ⊥) → o ≡ None
+none_is None never = refl
+none_is (Some c) never = absurd (never c refl)
+
+ok_is : (o p : Option Command) → ◌≡◌ {A = Result (Option Command) ServeError} (Ok o) (Ok p) → o ≡ p
+ok_is o p is = cc
+
+not_error : (o : Option Command) (e : ServeError) → ◌≡◌ {A = Result (Option Command) ServeError} (Err e) (Ok o) → ⊥
+not_error o e is = cc
+
+pub loop-lines-init : goal.loop-lines-init
+loop-lines-init g c = record {
+  so_far = SoFar-begun c.args.brain.now (g.S.Source.left c.args.source.now) (g.O.Sink.written c.args.sink.now) c.in-Ok.lines c.in-Ok.ensures.fresh;
+  source_stayed = refl;
+  sink_stayed = refl;
+}
+
+-- a read failed, or the input is too long
+pub returns-in_err-command-clause-read_failed : goal.returns-in_err-command-clause-read_failed
+returns-in_err-command-clause-read_failed g c = λ failed.
+    let is = same_error c.from_residual.result c.in_err-command.field-0.0 ReadFailed c.from_residual.ensures.1 failed in
+    StopsAtRead-open c.args.brain.now _ _ c.loop-lines.brain c.loop-lines.lines _ _ c.next_command.new.lines _ c.loop-lines.invariant.so_far
+    (λ e. not_error None c.in_err-command.field-0.0 (c.in_err-command.ensures.asks_no_more e).0) (c.in_err-command.ensures.stays (ap (λ x. Err x) is))
+
+too_long : (g : Over) (c : goal.After-drop-lines-inside-in_err-command-2 g) → c.in_err-command.field-0.0 ≡ Exhausted →
+    PastLimit c.args.brain.now (g.S.Source.left c.args.source.now) (g.O.Sink.written c.args.sink.now) c.loop-lines.brain (g.O.Sink.written c.loop-lines.sink)
+too_long g c is =
+    PastLimit-taken c.args.brain.now _ _ c.loop-lines.brain c.loop-lines.lines _ _ c.next_command.new.lines _ c.loop-lines.invariant.so_far
+    (λ e. not_error None c.in_err-command.field-0.0 (c.in_err-command.ensures.asks_no_more e).0) (c.in_err-command.ensures.past (ap (λ x. Err x) is))
+
+pub returns-in_err-command-clause-exhausted : goal.returns-in_err-command-clause-exhausted
+returns-in_err-command-clause-exhausted g c = λ failed.
+    (too_long g c (same_error c.from_residual.result c.in_err-command.field-0.0 Exhausted c.from_residual.ensures.1 failed)).answered
+
+pub returns-in_err-command-clause-too_long : goal.returns-in_err-command-clause-too_long
+returns-in_err-command-clause-too_long g c = λ failed.
+    (too_long g c (same_error c.from_residual.result c.in_err-command.field-0.0 Exhausted c.from_residual.ensures.1 failed)).too_long
+
+pub returns-in_err-command-clause-taken : goal.returns-in_err-command-clause-taken
+returns-in_err-command-clause-taken g c =
+    let so_far = c.loop-lines.invariant.so_far in
+    elim c.in_err-command.ensures.no_other [
+      | inl is ↦
+          let keeps = c.in_err-command.ensures.stays (ap (λ x. Err x) is) in
+          Gives-some _ _ (so_far.given ++ keeps.given) (Gives-then _ _ _ so_far.given keeps.given so_far.gives keeps.gives)
+      | inr is ↦ GivesSome-past _ _ _ so_far.given c.loop-lines.lines c.next_command.new.lines so_far.gives (c.in_err-command.ensures.past (ap (λ x. Err x) is))
+    ]
+
+-- one more line was read, and its answer was not written, or there was no memory for its step
+asked : (g : Over) (c : goal.After-drop-lines-inside-in_err-answer-3 g) →
+    Asked c.args.brain.now (g.S.Source.left c.args.source.now) (g.O.Sink.written c.args.sink.now) c.loop-lines.brain c.in-Some.command c.next_command.new.lines (g.S.Source.left c.next_command.new.source) (g.O.Sink.written c.loop-lines.sink)
+asked g c =
+    Asked-told c.args.brain.now _ _ c.loop-lines.brain c.loop-lines.lines _ _ c.in_ok-command.field-0 c.in-Some.command c.next_command.new.lines _ c.loop-lines.invariant.so_far c.in-Some.is
+    (λ e. ok_is c.in_ok-command.field-0 None (c.in_ok-command.ensures.asks_no_more e).0) c.in_ok-command.ensures.told c.in_ok-command.ensures.limit c.in_ok-command.ensures.knows_end
+
+pub returns-in_err-answer-clause-write_failed : goal.returns-in_err-answer-clause-write_failed
+returns-in_err-answer-clause-write_failed g c = λ failed.
+    let is = same_error c.from_residual-in_err-answer.result c.in_err-answer.field-0.0 WriteFailed c.from_residual-in_err-answer.ensures.1 failed in
+    StopsAtWrite-asked c.args.brain.now _ _ c.loop-lines.brain c.in-Some.command c.next_command.new.lines _ _ c.answer.new.brain _ (asked g c)
+    (c.in_err-answer.ensures.write_failed (ap (λ x. Err x) is))
+
+pub returns-in_err-answer-clause-memory : goal.returns-in_err-answer-clause-memory
+returns-in_err-answer-clause-memory g c = λ failed.
+    let is = same_error c.from_residual-in_err-answer.result c.in_err-answer.field-0.0 Memory c.from_residual-in_err-answer.ensures.1 failed in
+    let none = c.in_err-answer.ensures.memory (ap (λ x. Err x) is) in
+    inr (StopsAtStep-asked c.args.brain.now _ _ c.loop-lines.brain c.in-Some.command c.next_command.new.lines _ _ c.answer.new.brain _ (asked g c)
+    none.0 none.1 none.2)
+
+pub returns-in_err-answer-clause-taken : goal.returns-in_err-answer-clause-taken
+returns-in_err-answer-clause-taken g c = Gives-some _ _ (asked g c).given (asked g c).gives
+
+-- END was read
+asked_end : (g : Over) (c : goal.After-drop-lines-inside-then-not-branch-3 g) →
+    Asked c.args.brain.now (g.S.Source.left c.args.source.now) (g.O.Sink.written c.args.sink.now) c.loop-lines.brain c.in-Some.command c.next_command.new.lines (g.S.Source.left c.next_command.new.source) (g.O.Sink.written c.loop-lines.sink)
+asked_end g c =
+    Asked-told c.args.brain.now _ _ c.loop-lines.brain c.loop-lines.lines _ _ c.in_ok-command.field-0 c.in-Some.command c.next_command.new.lines _ c.loop-lines.invariant.so_far c.in-Some.is
+    (λ e. ok_is c.in_ok-command.field-0 None (c.in_ok-command.ensures.asks_no_more e).0) c.in_ok-command.ensures.told c.in_ok-command.ensures.limit c.in_ok-command.ensures.knows_end
+
+stops : (g : Over) (c : goal.After-drop-lines-inside-then-not-branch-3 g) → c.in_ok-answer.field-0 ≡ false
+stops g c = grind (arith, c.if-not-branch.true)
+
+pub returns-then-not-branch-clause-ok : goal.returns-then-not-branch-clause-ok
+returns-then-not-branch-clause-ok g c =
+    let answered = subst (λ goes_on. IsAnswered c.loop-lines.brain c.in-Some.command goes_on c.answer.new.brain (g.O.Sink.written c.loop-lines.sink) (g.O.Sink.written c.answer.new.sink)) (stops g c) c.in_ok-answer.ensures.stepped in
+    HasAnswered-end c.args.brain.now _ _ c.loop-lines.brain c.in-Some.command c.next_command.new.lines _ _ c.answer.new.brain _ (asked_end g c)
+    answered (c.in_ok-answer.ensures.ends (ap (λ b. Ok b) (stops g c)))
+
+pub returns-then-not-branch-clause-ended : goal.returns-then-not-branch-clause-ended
+returns-then-not-branch-clause-ended g c =
+    IsReadToEnd-end c.args.brain.now _ _ c.loop-lines.brain c.in-Some.command c.next_command.new.lines _ _ (asked_end g c)
+    (c.in_ok-answer.ensures.ends (ap (λ b. Ok b) (stops g c)))
+
+pub returns-then-not-branch-clause-taken : goal.returns-then-not-branch-clause-taken
+returns-then-not-branch-clause-taken g c = Gives-some _ _ (asked_end g c).given (asked_end g c).gives
+
+-- the session goes on
+pub loop-lines-preserved : goal.loop-lines-preserved
+loop-lines-preserved g c =
+    let goes_on : c.in_ok-answer.field-0 ≡ true = grind (arith, c.if-not-branch.false) in
+    let now =
+    Asked-told c.args.brain.now _ _ c.loop-lines.brain c.loop-lines.lines _ _ c.in_ok-command.field-0 c.in-Some.command c.next_command.new.lines _ c.loop-lines.invariant.so_far c.in-Some.is
+    (λ e. ok_is c.in_ok-command.field-0 None (c.in_ok-command.ensures.asks_no_more e).0) c.in_ok-command.ensures.told c.in_ok-command.ensures.limit c.in_ok-command.ensures.knows_end in
+    let answered = subst (λ goes_on. IsAnswered c.loop-lines.brain c.in-Some.command goes_on c.answer.new.brain (g.O.Sink.written c.loop-lines.sink) (g.O.Sink.written c.answer.new.sink)) goes_on c.in_ok-answer.ensures.stepped in
+    record {
+      so_far = SoFar-answered c.args.brain.now _ _ c.loop-lines.brain c.in-Some.command c.next_command.new.lines _ _ c.answer.new.brain _ now answered;
+      source_stayed = c.in_ok-command.ensures.uncounted (λ e. cc) ∙ c.loop-lines.invariant.source_stayed;
+      sink_stayed = c.in_ok-answer.ensures.sink_uncounted (λ e. cc) ∙ c.loop-lines.invariant.sink_stayed;
+    }
+
+-- the input has ended
+ends : (g : Over) (c : goal.After-drop-lines-inside-4 g) →
+    EndsAt c.args.brain.now (g.S.Source.left c.args.source.now) (g.O.Sink.written c.args.sink.now) c.loop-lines.brain (g.S.Source.left c.next_command.new.source) (g.O.Sink.written c.loop-lines.sink)
+ends g c =
+    let none = none_is c.in_ok-command.field-0 c.in_default-2.not-Some in
+    let told = c.in_ok-command.ensures.end (ap (λ o. Ok o) none) in
+    EndsAt-told c.args.brain.now _ _ c.loop-lines.brain c.loop-lines.lines _ _ c.next_command.new.lines _ c.loop-lines.invariant.so_far
+    (subst (λ (o : Option Command). TakesCommands c.loop-lines.lines (g.S.Source.left c.loop-lines.source) (option_to_list o) c.next_command.new.lines (g.S.Source.left c.next_command.new.source)) none c.in_ok-command.ensures.told)
+    told.0 told.1 told.2 (λ e. ap (λ source. g.S.Source.left source) (c.in_ok-command.ensures.asks_no_more e).2)
+
+pub returns-clause-ok : goal.returns-clause-ok
+returns-clause-ok g c = (ends g c).answered
+
+pub returns-clause-ended : goal.returns-clause-ended
+returns-clause-ended g c = (ends g c).read
+
+pub returns-clause-taken : goal.returns-clause-taken
+returns-clause-taken g c = Gives-some _ _ (ends g c).read.given (ends g c).read.gives

@@ -1,0 +1,11 @@
+pub mod States
+pub mod Batches
+pub mod ChosenMoves
+pub mod Steps
+pub mod Sessions
+pub mod Running
+pub mod HeldGames
+pub mod Memory
+pub mod Serving
+pub mod Kept
+pub mod Nearer

@@ -1,0 +1,105 @@
+-- How a session over devices ends: what was written then, and in which state the brain is.
+use Rattle.brain_session.specs.declared.Reaction.{Reaction}
+use Rattle.std.specs.Prelude.{◌≡◌, ℕ, ◌<◌, ◌≤◌, Bool, false, List, [], ◌∷◌, ◌++◌, length, take, Option, Contains, ◌⊎◌, true, map}
+use Rattle.std.specs.Io.KnownBytes.{IsAtEnd}
+use Rattle.renju_io.specs.Told.{Gives, Takes, TakesPart}
+use Rattle.renju_io.specs.Lines.{LineText, ReaderState, TakesLines, whole_lines}
+use Rattle.renju_io.specs.declared.TheConstants.{MAX_SESSION_BYTES}
+use Rattle.gomocup_text.specs.Commands.{commands, command_told}
+use Rattle.gomocup_text.specs.Answers.{answer_text}
+use Rattle.gomocup_text.specs.declared.Command.{Command}
+use Rattle.gomocup_text.specs.declared.Command.TheVariants.{End}
+use Rattle.brain_session.specs.declared.Reaction.TheVariants.{Says, Silent, Ends}
+use Rattle.gomocup_text.specs.declared.Answer.{Answer}
+use Rattle.brain_session.specs.States.{State}
+use Rattle.brain_session.specs.Steps.{brain_step}
+use Rattle.brain_session.specs.Sessions.{answers_from, answer_texts, state_after}
+use Rattle.brain_session.specs.Memory.{takes_none}
+
+-- the reader took bytes of the source, and told the lines of these commands
+pub record TakesCommands (old : ReaderState) (left : Option (List ℕ)) (told : List Command) (new : ReaderState) (left_after : Option (List ℕ)) : Type 0 where
+  pub lines : List LineText
+  pub takes : TakesLines old left lines new left_after
+  pub are : told ≡ map command_told lines
+
+-- the answer of the reaction was written, if it is one, and the session goes on, unless it ends
+abbrev pub IsWritten : Reaction → Bool → Option (List ℕ) → Option (List ℕ) → Type 0
+IsWritten Silent goes_on written written_after = (goes_on ≡ true) × (written_after ≡ written)
+IsWritten (Says a) goes_on written written_after = (goes_on ≡ true) × Takes written (answer_text a) written_after
+IsWritten Ends goes_on written written_after = (goes_on ≡ false) × (written_after ≡ written)
+
+-- the brain stepped the command, and its answer was written, if it has one
+pub record IsAnswered (old : State) (c : Command) (goes_on : Bool) (new : State) (written written_after : Option (List ℕ)) : Type 0 where
+  pub state : new ≡ (brain_step old c).next
+  pub wrote : IsWritten (brain_step old c).reaction goes_on written written_after
+
+-- the brain stepped the command, and of its answer a part was written
+pub record IsHalfAnswered (old : State) (c : Command) (new : State) (written written_after : Option (List ℕ)) : Type 0 where
+  pub state : new ≡ (brain_step old c).next
+  pub answer : Answer
+  pub says : (brain_step old c).reaction ≡ Says answer
+  pub part : TakesPart written (answer_text answer) written_after
+
+-- a brain and a sink before and after a session, the bytes of the sink where it tells them
+pub record Served : Type 0 where
+  pub before : State
+  pub after : State
+  pub written_before : Option (List ℕ)
+  pub written_after : Option (List ℕ)
+
+-- the brain stepped these commands, up to END, and their answers were written
+pub record HasAnswered (v : Served) (stepped : List Command) : Type 0 where
+  pub state : v.after ≡ state_after v.before stepped
+  pub wrote : Takes v.written_before (answer_texts (answers_from v.before stepped)) v.written_after
+
+-- none of these commands is END
+abbrev pub HasNoEnd : List Command → Type 0
+HasNoEnd asked = Contains asked End → ⊥
+
+-- the source gave some bytes, no more than a session may have. END is among their whole lines, or the input has ended.
+pub record IsReadToEnd (left left_after : Option (List ℕ)) : Type 0 where
+  pub given : List ℕ
+  pub gives : Gives left given left_after
+  pub few : length given ≤ MAX_SESSION_BYTES
+  pub ends : Contains (commands (whole_lines given)) End ⊎ IsAtEnd left_after
+
+-- a read failed after the source gave some bytes: their whole lines, none of which is END, were answered, and no more
+pub record StopsAtRead (v : Served) (left left_after : Option (List ℕ)) : Type 0 where
+  pub given : List ℕ
+  pub gives : Gives left given left_after
+  pub answered : HasAnswered v (commands (whole_lines given))
+  pub no_end : HasNoEnd (commands (whole_lines given))
+
+-- a write failed: the commands before this one, none of which is END, were answered, the brain stepped this one too, and of its
+-- answer a part was written
+pub record StopsAtWrite (v : Served) (asked : List Command) : Type 0 where
+  pub earlier : List Command
+  pub command : Command
+  pub later : List Command
+  pub among : asked ≡ earlier ++ command ∷ later
+  pub no_end : HasNoEnd earlier
+  pub answer : Answer
+  pub says : (brain_step (state_after v.before earlier) command).reaction ≡ Says answer
+  pub state : v.after ≡ state_after v.before (earlier ++ command ∷ [])
+  pub written : Option (List ℕ)
+  pub wrote : Takes v.written_before (answer_texts (answers_from v.before earlier)) written
+  pub part : TakesPart written (answer_text answer) v.written_after
+
+-- memory ran out at this command: those before it, none of which is END, were answered, and it is none that takes no memory
+pub record StopsAtStep (v : Served) (asked : List Command) : Type 0 where
+  pub earlier : List Command
+  pub command : Command
+  pub later : List Command
+  pub among : asked ≡ earlier ++ command ∷ later
+  pub no_end : HasNoEnd earlier
+  pub answered : HasAnswered v earlier
+  pub needs_memory : takes_none (state_after v.before earlier) command ≡ false
+
+-- the lines that end within the bytes that a session may have
+abbrev pub within_limit : List ℕ → List ℕ
+within_limit bytes = whole_lines (take MAX_SESSION_BYTES bytes)
+
+-- the input has more bytes than a session may have, and END is not among the lines that end within those
+pub record IsTooLong (left : List ℕ) : Type 0 where
+  pub many : MAX_SESSION_BYTES < length left
+  pub no_end : HasNoEnd (commands (within_limit left))

@@ -1,0 +1,76 @@
+//! What the brain follows: a node of the table that it holds, or of the table of a win that it found itself.
+#![tactic(auto)]
+
+ghost use Rattle.std.specs.Prelude.{◌≡◌, ◌-◌, ◌<◌, ◌≤◌, true, false, length, Some, MatchOption};
+ghost use Rattle.game_rules.specs.Grid.{Grid};
+ghost use Rattle.game_rules.specs.declared.RuleKind.{RuleKind};
+ghost use Rattle.strategy_graph.specs.Tables.{IsTable, answer_at};
+ghost use Rattle.brain_session.specs.ChosenMoves.{move_by};
+ghost use Rattle.brain_session.specs.Kept.{IsInTable, NodeStandsAt, followed_of, guide_after, nodes_of};
+
+use crate::own_win::OwnTable;
+use game_rules::Point;
+use strategy_checker::Held;
+use strategy_graph::Table;
+
+/// A node of the held table, or a table of the brain's own with the node in it.
+#[derive(Drop)]
+pub(crate) enum Guide {
+    HeldNode { node: u32 },
+    OwnWin { own: OwnTable },
+}
+
+impl Guide {
+    /// The attack of the node that is followed.
+    pub(crate) fn attack(&self, held: &Held) -> Point
+        requires in_table { IsInTable held.now self.now }
+        ensures attack { (rule : RuleKind) (b : Grid) → NodeStandsAt held.now rule b self.now → move_by held.now rule b (followed_of self.now) ≡ Some result }
+        ensures table { IsTable (nodes_of held.now self.now) }
+    {
+        match self {
+            Guide::HeldNode { node } => held.table().node(*node).attack,
+            Guide::OwnWin { own } => own.table.node(own.node).attack,
+        }
+    }
+
+    /// Goes on to the node that answers the reply, and answers whether there is one. No memory is taken.
+    pub(crate) fn answer(&mut self, held: &Held, reply: Point) -> bool
+        requires in_table { IsInTable held.now self.old }
+        ensures answered { MatchOption (guide_after held.now self.old reply) ((result ≡ false) × (self.new ≡ self.old)) (λ g. (result ≡ true) × (self.new ≡ g)) }
+    {
+        match self {
+            Guide::HeldNode { node } => goes_on(held.table(), node, reply),
+            Guide::OwnWin { own } => own.answer(reply),
+        }
+    }
+}
+
+impl OwnTable {
+    /// Goes on to the node that answers the reply, and answers whether there is one.
+    fn answer(&mut self, reply: Point) -> bool
+        requires in_table { self.old.node < length self.old.table }
+        requires moves { 1 ≤ self.old.moves }
+        ensures answered { MatchOption (answer_at self.old.table self.old.node reply) ((result ≡ false) × (self.new ≡ self.old))
+            (λ j. (result ≡ true) × (self.new ≡ record self.old { node = j; moves = self.old.moves - 1 })) }
+    {
+        let answered = goes_on(&self.table, &mut self.node, reply);
+        if answered {
+            self.moves -= 1;
+        }
+        answered
+    }
+}
+
+/// Goes on from the node to the one that answers the reply, and answers whether there is one.
+fn goes_on(table: &Table, node: &mut u32, reply: Point) -> bool
+    requires in_table { node.old < length table.now }
+    ensures answered { MatchOption (answer_at table.now node.old reply) ((result ≡ false) × (node.new ≡ node.old)) (λ j. (result ≡ true) × (node.new ≡ j)) }
+{
+    match table.lookup(*node, reply) {
+        Some(next) => {
+            *node = next;
+            true
+        }
+        None => false,
+    }
+}

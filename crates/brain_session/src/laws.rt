@@ -1,0 +1,33 @@
+//! The laws of games that are played by what is held, each as the contract of a function that computes nothing.
+
+ghost use Rattle.brain_session.specs.HeldGames.{HeldGamesGoWell, LegalRepliesAreAnswered, SessionsGoWell, StartsAreTight, WhoeverHoldsWins};
+
+/// Whatever a brain that holds accepted roots was told before, and whatever it is told later: where it begins to follow a
+/// held root, its answers are the attacks of the table against the replies, one for one, and the game is won within the
+/// depth of the node, or the replies have run out.
+pub fn held_games_go_well()
+    ensures go_well { HeldGamesGoWell }
+{}
+
+/// The same of each line of a session over any bytes.
+pub fn sessions_go_well()
+    ensures go_well { SessionsGoWell }
+{}
+
+/// At the board of a start that is held, no move of the opponent wins or draws.
+pub fn starts_are_tight()
+    ensures tight { StartsAreTight }
+{}
+
+/// Whoever holds an accepted table and answers by it wins within the number of its root, whatever legal replies come, or
+/// the replies have run out: from the root on where its side moves first, and after each move there that is no foul where
+/// the opponent does.
+pub fn whoever_holds_wins()
+    ensures wins { WhoeverHoldsWins }
+{}
+
+/// Every list of legal replies that a brain is sent after the command with which a held game begins is answered by the
+/// attacks of the table against them, one for one, and a foul that ends the game by the line that says so.
+pub fn legal_replies_are_answered()
+    ensures answered { LegalRepliesAreAnswered }
+{}

@@ -1,0 +1,48 @@
+//! The brain: what it answers to one command of the Gomocup protocol after another.
+//!
+//! The brain keeps a board, the game on it and what it follows there: a node of the table that it holds, or the table of a win
+//! by continuous fours that it found itself. Where it follows nothing its move is a plain one. `specs/` has its state and its
+//! step as a function over plain values, row by row; `Brain::step` gives what this function says.
+#![tactic(auto)]
+
+mod batch;
+mod brain;
+mod choice;
+mod course;
+mod guide;
+mod kinds;
+mod laws;
+mod own_win;
+mod plain_move;
+mod played;
+mod round;
+mod sessions;
+#[cfg(test)]
+mod tests;
+
+pub use batch::BatchStone;
+pub use brain::Brain;
+use game_rules::MAX_SIDE;
+use gomocup_text::Answer;
+pub use laws::{
+    held_games_go_well, legal_replies_are_answered, sessions_go_well, starts_are_tight,
+    whoever_holds_wins,
+};
+pub use sessions::{ServeError, serve};
+
+/// The most moves within which the brain searches a win of its own.
+pub const OWN_MOVES: u32 = 6;
+
+/// The most positions that such a search may look at.
+pub const OWN_POSITIONS: u64 = 2_000;
+
+/// The most points that a board has, and so the most stones of a batch and the most moves of a game.
+pub const MAX_POINTS: usize = MAX_SIDE as usize * MAX_SIDE as usize;
+
+/// What the brain does at a command: it says nothing, it says something, or the session ends.
+#[derive(Clone, Copy, Debug, PartialEq, Eq)]
+pub enum Reaction {
+    Silent,
+    Says(Answer),
+    Ends,
+}

@@ -1,0 +1,144 @@
+//! Whole sessions over devices: a line is read, the brain steps its command, and its answer is written before the next line is
+//! read.
+#![tactic(auto)]
+
+ghost use Rattle.brain_session.specs.Memory.{takes_none};
+ghost use Rattle.renju_io.specs.Lines.{KeepsLine, KnowsEnd, TakesTooMany};
+ghost use Rattle.renju_io.specs.declared.TheConstants.{MAX_SESSION_BYTES};
+ghost use Rattle.std.specs.Io.KnownBytes.{IsAtEnd};
+ghost use Rattle.std.specs.Option.{option_to_list};
+ghost use Rattle.std.specs.Prelude.{◌≡◌, ◌≢◌, ◌+◌, ◌<◌, ◌≤◌, ◌⊎◌, IfErr, IfSome, IsErrOf, IsSome, OnOk, [], false, true, length, Ok, Err, None, IfOk};
+ghost use Rattle.renju_io.specs.Faults.{HasRisen, HasStayed, HasNotFallen};
+ghost use Rattle.renju_io.specs.Told.{GivesSome, FailsAfter};
+ghost use Rattle.gomocup_text.specs.Commands.{commands};
+ghost use Rattle.brain_session.specs.Serving.{HasAnswered, IsReadToEnd, StopsAtRead, StopsAtStep, StopsAtWrite, IsTooLong, within_limit, IsAnswered, IsHalfAnswered, TakesCommands};
+
+use crate::{Brain, Reaction};
+use gomocup_text::{Command, read_command, write_answer};
+use renju_io::{Line, LineReader, ReadError, Sink, Source};
+use std::alloc::Global;
+use thiserror::Error;
+
+/// Why a session ended before END and before the end of its input. The brain is in the state after the lines that it stepped.
+#[derive(Clone, Copy, Debug, PartialEq, Eq, Error)]
+pub enum ServeError {
+    /// The source failed: its count of faults rose. The whole lines that it gave are answered, and no more.
+    #[error("the input failed")]
+    ReadFailed,
+    /// The sink failed: its count of faults rose. The line whose answer was not written whole was the last that was stepped.
+    #[error("the output failed")]
+    WriteFailed,
+    /// A line goes on beyond the bytes that a session may have. The lines that end within them are answered.
+    #[error("the input is too long")]
+    Exhausted,
+    /// There is no memory for the lines, and nothing was read, or for the step of a line, and the lines before it are answered.
+    #[error("out of memory")]
+    Memory,
+}
+
+/// Serves the lines of the source up to END or the end of input: each line is stepped, and its answer written in one piece, before
+/// the next is read.
+pub fn serve<S: Source, O: Sink>(
+    alloc: Global,
+    brain: &mut Brain,
+    source: &mut S,
+    sink: &mut O,
+) -> Result<(), ServeError>
+    ensures ok { OnOk result (IfSome (S.left source.old) (λ left.
+        HasAnswered (record { before = brain.old; after = brain.new; written_before = O.written sink.old; written_after = O.written sink.new }) (commands left))) }
+    ensures read_failed { IsErrOf result ServeError.ReadFailed →
+        StopsAtRead (record { before = brain.old; after = brain.new; written_before = O.written sink.old; written_after = O.written sink.new }) (S.left source.old) (S.left source.new) }
+    ensures write_failed { IsErrOf result ServeError.WriteFailed → IfSome (S.left source.old) (λ left.
+        StopsAtWrite (record { before = brain.old; after = brain.new; written_before = O.written sink.old; written_after = O.written sink.new }) (commands left)) }
+    ensures exhausted { IsErrOf result ServeError.Exhausted → IfSome (S.left source.old) (λ left.
+        HasAnswered (record { before = brain.old; after = brain.new; written_before = O.written sink.old; written_after = O.written sink.new }) (commands (within_limit left))) }
+    ensures too_long { IsErrOf result ServeError.Exhausted → IfSome (S.left source.old) IsTooLong }
+    ensures memory { IsErrOf result ServeError.Memory →
+        (brain.new ≡ brain.old) × (O.written sink.new ≡ O.written sink.old) × (S.left source.new ≡ S.left source.old)
+        ⊎ IfSome (S.left source.old) (λ left.
+        StopsAtStep (record { before = brain.old; after = brain.new; written_before = O.written sink.old; written_after = O.written sink.new }) (commands left)) }
+
+    // What is left of the devices.
+    ensures ended { OnOk result (IsReadToEnd (S.left source.old) (S.left source.new)) }
+    ensures taken { GivesSome (S.left source.old) (S.left source.new) }
+    ensures source_failed { IsErrOf result ServeError.ReadFailed → HasRisen (S.faults source.old) (S.faults source.new) }
+    ensures source_uncounted { result ≢ Err ServeError.ReadFailed → HasStayed (S.faults source.old) (S.faults source.new) }
+    ensures source_counted { HasNotFallen (S.faults source.old) (S.faults source.new) }
+    ensures sink_failed { IsErrOf result ServeError.WriteFailed → HasRisen (O.faults sink.old) (O.faults sink.new) }
+    ensures sink_uncounted { result ≢ Err ServeError.WriteFailed → HasStayed (O.faults sink.old) (O.faults sink.new) }
+    ensures sink_counted { HasNotFallen (O.faults sink.old) (O.faults sink.new) }
+{
+    let Ok(mut lines) = LineReader::new(alloc) else {
+        return Err(ServeError::Memory);
+    };
+    while let Some(command) = next_command(&mut lines, source)? {
+        if !answer(alloc, brain, &command, sink)? {
+            return Ok(());
+        }
+    }
+    Ok(())
+}
+
+/// The command of the next line, or none at the end of input.
+fn next_command<S: Source>(
+    lines: &mut LineReader,
+    source: &mut S,
+) -> Result<Option<Command>, ServeError>
+    ensures told { IfOk result (λ c. TakesCommands lines.old (S.left source.old) (option_to_list c) lines.new (S.left source.new)) }
+    ensures advances { IfOk result (λ c. IsSome c →
+        lines.old.taken + length lines.new.kept < lines.new.taken + length lines.old.kept) }
+    ensures limit { OnOk result (lines.new.taken ≤ MAX_SESSION_BYTES) }
+    ensures end { result ≡ Ok None → (lines.new ≡ record lines.old { ended = true }) × (lines.old.kept ≡ [])
+        × (KnowsEnd lines.old (S.left source.old) → IsAtEnd (S.left source.new)) }
+    ensures knows_end { KnowsEnd lines.old (S.left source.old) → KnowsEnd lines.new (S.left source.new) }
+    ensures asks_no_more { lines.old.ended ≡ true →
+        (result ≡ Ok None) × (lines.new ≡ lines.old) × (source.new ≡ source.old) }
+    ensures failed { IsErrOf result ServeError.ReadFailed → FailsAfter S.left S.faults source.old source.new }
+    ensures stays { IsErrOf result ServeError.ReadFailed → KeepsLine lines.old (S.left source.old) lines.new (S.left source.new) }
+    ensures past { IsErrOf result ServeError.Exhausted → TakesTooMany lines.old (S.left source.old) lines.new (S.left source.new) }
+    ensures no_other { IfErr result (λ e. (e ≡ ServeError.ReadFailed) ⊎ (e ≡ ServeError.Exhausted)) }
+    ensures uncounted { result ≢ Err ServeError.ReadFailed → HasStayed (S.faults source.old) (S.faults source.new) }
+    ensures counted { HasNotFallen (S.faults source.old) (S.faults source.new) }
+{
+    match lines.next(source) {
+        Ok(Line::Text) => Ok(Some(read_command(lines.text()))),
+        Ok(Line::TooLong) => Ok(Some(Command::Malformed)),
+        Ok(Line::End) => Ok(None),
+        Err(ReadError::Failed) => Err(ServeError::ReadFailed),
+        Err(ReadError::Exhausted) => Err(ServeError::Exhausted),
+    }
+}
+
+/// Steps the command and writes the answer, if there is one, and answers whether the session goes on.
+fn answer<O: Sink>(
+    alloc: Global,
+    brain: &mut Brain,
+    command: &Command,
+    sink: &mut O,
+) -> Result<bool, ServeError>
+    ensures ends { result ≡ Ok false → command.now ≡ Command.End }
+    ensures stepped { IfOk result (λ goes_on. IsAnswered brain.old command.now goes_on brain.new (O.written sink.old) (O.written sink.new)) }
+    ensures write_failed { IsErrOf result ServeError.WriteFailed → IsHalfAnswered brain.old command.now brain.new (O.written sink.old) (O.written sink.new) }
+    ensures memory { IsErrOf result ServeError.Memory
+        → (takes_none brain.old command.now ≡ false) × (brain.new ≡ brain.old) × (O.written sink.new ≡ O.written sink.old) }
+    ensures no_other { IfErr result (λ e. (e ≡ ServeError.WriteFailed) ⊎ (e ≡ ServeError.Memory)) }
+    ensures sink_failed { IsErrOf result ServeError.WriteFailed → HasRisen (O.faults sink.old) (O.faults sink.new) }
+    ensures sink_uncounted { result ≢ Err ServeError.WriteFailed → HasStayed (O.faults sink.old) (O.faults sink.new) }
+    ensures sink_counted { HasNotFallen (O.faults sink.old) (O.faults sink.new) }
+{
+    match brain.step(command) {
+        Ok(Reaction::Silent) => Ok(true),
+        Ok(Reaction::Ends) => Ok(false),
+        Ok(Reaction::Says(said)) => {
+            let text = write_answer(alloc, &said);
+            match sink.write(text.as_slice()) {
+                Ok(()) => Ok(true),
+                Err(_) => Err(ServeError::WriteFailed),
+            }
+        }
+        Err(_) => Err(ServeError::Memory),
+    }
+}
+
+#[cfg(test)]
+mod tests;
