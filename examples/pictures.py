@@ -118,7 +118,10 @@ def picture(name, text):
 def main():
     failed = 0
     for path in sorted(HERE.glob("*.txt")):
-        drawn, there = picture(path.stem, path.read_text()), path.with_suffix(".svg")
+        text, there = path.read_text(), path.with_suffix(".svg")
+        if not text.startswith("renju-"):
+            continue
+        drawn = picture(path.stem, text)
         if "--check" not in sys.argv[1:]:
             there.write_text(drawn)
         elif not there.exists() or there.read_text() != drawn:

@@ -1,12 +1,12 @@
 -- Words have one form, which they tell: the first word tells the command, and the others its numbers.
-use Rattle.std.proofs.Common.{◌≡◌, refl, sym, ap, subst, ◌∙◌, ℕ, ◌≤◌, List, [], ◌∷◌, get_or, arith}
-use Rattle.std.specs.Prelude.{codes, if◌then◌else◌}
+use Rattle.std.proofs.Common.{◌≡◌, refl, sym, ap, subst, ◌∙◌, ℕ, ◌≤◌, List, [], ◌∷◌, length, get_or, arith}
+use Rattle.std.specs.Prelude.{codes, if◌then◌else◌, nat_lt}
 use Rattle.std.specs.Str.{bytes_eq}
 use Rattle.std.specs.Str.Parse.{digits_value}
 use Rattle.std.specs.Fmt.{decimal}
 use Rattle.std.proofs.lemmas.Fmt.{decimal_is_IsNumeral}
 use Rattle.renju_cli.specs.declared.commands.Form.{Form}
-use Rattle.renju_cli.specs.declared.commands.Form.TheVariants.{Check, Foul, Fours}
+use Rattle.renju_cli.specs.declared.commands.Form.TheVariants.{Check, Foul, Fours, Brain, BrainWith}
 use Rattle.renju_cli.specs.declared.TheConstants.{MAX_WORK}
 use Rattle.renju_cli.specs.Commands.{command, IsForm, HasForm}
 
@@ -18,16 +18,20 @@ number_at words k = digits_value 10 (get_or words k [])
 abbrev pub form_told : List (List ℕ) → Form
 form_told words =
     if bytes_eq (get_or words 0 []) (codes "check") then Check (number_at words 1)
-    else (if bytes_eq (get_or words 0 []) (codes "fours") then Fours (number_at words 1) (number_at words 2) else Foul)
+    else (if bytes_eq (get_or words 0 []) (codes "fours") then Fours (number_at words 1) (number_at words 2)
+    else (if bytes_eq (get_or words 0 []) (codes "foul") then Foul
+    else (if nat_lt 1 (length words) then BrainWith else Brain)))
 
 number-written : (n : ℕ) → n ≤ MAX_WORK → digits_value 10 (decimal n) ≡ n
 number-written n few = let d = decimal_is_IsNumeral n (omega (arith, few)) in d.1
 
 -- the words of a form tell it
-form-spelled : (form : Form) → (command form).in_range → form_told (command form).words ≡ form
-form-spelled (Check work) range = ap Check (number-written work range.1)
-form-spelled Foul range = refl
-form-spelled (Fours depth nodes) range =
+form-spelled : (words : List (List ℕ)) (form : Form) → (command words form).in_range → form_told (command words form).words ≡ form
+form-spelled words (Check work) range = ap Check (number-written work range.1)
+form-spelled words Foul range = refl
+form-spelled words Brain range = refl
+form-spelled words BrainWith range = refl
+form-spelled words (Fours depth nodes) range =
     let depth_most = range.1 in
     let nodes_most = range.3 in
     let depths = number-written depth (omega (arith, depth_most)) in
@@ -35,7 +39,7 @@ form-spelled (Fours depth nodes) range =
     λ i. Fours (depths i) (budgets i)
 
 pub told-form : (words : List (List ℕ)) (form : Form) → IsForm words form → form_told words ≡ form
-told-form words form is = ap form_told is.spelled ∙ form-spelled form is.in_range
+told-form words form is = ap form_told is.spelled ∙ form-spelled words form is.in_range
 
 pub one-form : (words : List (List ℕ)) (form other : Form) → IsForm words form → IsForm words other → form ≡ other
 one-form words form other is also = sym (told-form words form is) ∙ told-form words other also
@@ -52,5 +56,5 @@ no-words h =
     cc
 
 -- words whose first is that of no command have no form
-pub no-command : (name : List ℕ) (rest : List (List ℕ)) → ((form : Form) → name ≡ get_or (command form).words 0 [] → ⊥) → ¬ HasForm (name ∷ rest)
-no-command name rest other h = other h.0 (ap (λ (l : List (List ℕ)). get_or l 0 []) h.1.spelled)
+pub no-command : (name : List ℕ) (rest : List (List ℕ)) → ((form : Form) (words : List (List ℕ)) → name ≡ get_or (command words form).words 0 [] → ⊥) → ¬ HasForm (name ∷ rest)
+no-command name rest other h = other h.0 (name ∷ rest) (ap (λ (l : List (List ℕ)). get_or l 0 []) h.1.spelled)

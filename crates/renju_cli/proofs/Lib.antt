@@ -1,4 +1,3 @@
-mod Joins
 mod Words
 mod FormLaws
 mod ToldLaws
@@ -6,4 +5,5 @@ mod Searches
 mod CheckLaws
 mod FoulLaws
 mod FoursLaws
+mod BrainLaws
 mod ReportLaws

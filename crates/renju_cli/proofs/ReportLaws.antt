@@ -1,35 +1,51 @@
 -- What follows of a run from its report: the command of its form did what it does, and so answered where it is sure to.
-use Rattle.std.proofs.Common.{inl, inr, subst}
+use Rattle.std.proofs.Common.{◌≡◌, inl, inr, sym, ap, subst, ℕ, List}
 use Rattle.renju_cli.specs.declared.commands.Form.{Form}
-use Rattle.renju_cli.specs.declared.commands.Form.TheVariants.{Check, Foul, Fours}
+use Rattle.renju_cli.specs.declared.commands.Form.TheVariants.{Check, Foul, Fours, Brain, BrainWith}
 use Rattle.renju_cli.specs.Runs.{Run}
+use Rattle.renju_cli.specs.Forms.{HasWords}
 use Rattle.renju_cli.specs.Checks.{check_command, ShowsWin}
 use Rattle.renju_cli.specs.Fouls.{foul_command}
 use Rattle.renju_cli.specs.Fours.{fours_command, ShowsSearch}
+use Rattle.renju_cli.specs.Brains.{brain_with_words, IsFileName, second_word, IsBrainWith, ShowsHeldGames}
 use Rattle.renju_cli.specs.Commands.{command, IsForm}
 use Rattle.renju_cli.specs.Reports.{Report, IsComplete}
 use Rattle.renju_cli.proofs.FormLaws.{one-form}
 use Rattle.renju_cli.proofs.ToldLaws.{answers-told}
 use Rattle.renju_cli.proofs.CheckLaws.{check-answers, check-won}
 use Rattle.renju_cli.proofs.FoulLaws.{foul-answers}
+use Rattle.renju_cli.proofs.BrainLaws.{brain-answers, brain-with-answers, brain-plays}
 use Rattle.renju_cli.proofs.FoursLaws.{fours-answers, fours-searched}
 
 -- the command of the words did what it does
-does-of : (run : Run) → Report run → (form : Form) → IsForm run.words form → (command form).Does run
+does-of : (run : Run) → Report run → (form : Form) → IsForm run.words form → (command run.words form).Does run
 does-of run (inl usage) form is = absurd (usage.formless (form, is))
-does-of run (inr obeyed) form is = subst (λ (f : Form). (command f).Does run) (one-form run.words obeyed.0 form obeyed.1 is) obeyed.2
+does-of run (inr obeyed) form is = subst (λ (f : Form). (command run.words f).Does run) (one-form run.words obeyed.0 form obeyed.1 is) obeyed.2
 
 -- a command that did what it does answered where it is sure to
-answers : (form : Form) (run : Run) → (command form).Does run → (command form).Answers run
+answers : (form : Form) (run : Run) → (command run.words form).Does run → (command run.words form).Answers run
 answers (Check work) run does = answers-told (check_command work) (check-answers work) run does
 answers Foul run does = answers-told foul_command foul-answers run does
+answers Brain run does = brain-answers run does
+answers BrainWith run does = brain-with-answers (second_word run.words) run does
 answers (Fours depth nodes) run does = answers-told (fours_command depth nodes) (fours-answers depth nodes) run does
+
+-- what `brain FILE` did with its second word is the report of its run
+pub file-reported : (run : Run) (name : List ℕ) → IsForm run.words BrainWith → name ≡ second_word run.words → IsBrainWith name run → Report run
+file-reported run name form is does = inr (BrainWith, form, subst (λ (n : List ℕ). IsBrainWith n run) is does)
 
 pub report-complete : (run : Run) → Report run → IsComplete run
 report-complete run report form is = answers form run (does-of run report form is)
 
 pub report-won : (run : Run) → Report run → ShowsWin run
 report-won run report work is zero = check-won work run zero (does-of run report (Check work) is)
+
+pub report-games : (run : Run) → Report run → ShowsHeldGames run
+report-games run report name is =
+    let second : second_word run.words ≡ name = ap second_word is.spelled in
+    let words : HasWords run.words (brain_with_words (second_word run.words)) (IsFileName (second_word run.words)) =
+    subst (λ (n : List ℕ). HasWords run.words (brain_with_words n) (IsFileName n)) (sym second) is in
+    brain-plays name run (subst (λ (n : List ℕ). IsBrainWith n run) second (does-of run report BrainWith words))
 
 pub report-searched : (run : Run) → Report run → ShowsSearch run
 report-searched run report depth nodes is = fours-searched depth nodes run (does-of run report (Fours depth nodes) is)

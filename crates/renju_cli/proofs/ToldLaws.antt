@@ -13,7 +13,7 @@ use Rattle.renju_cli.specs.Runs.{Change, Run, IsDelivered, IsOutOfMemory}
 use Rattle.renju_cli.specs.Told.{ToldCommand, IsInput, IsSaid, IsTooLong, EndsTold, IsTold, IsYielded, IsUnhindered, HasAnswered, AnswersTold}
 
 -- some list is longer than n
-longer-than : (n : ℕ) → (x : List ℕ) × (n < length x)
+pub longer-than : (n : ℕ) → (x : List ℕ) × (n < length x)
 longer-than n = (replicate (suc n) 0, let zero : ℕ = 0 in let e = length-replicate (suc n) zero in omega (arith, e))
 
 -- bytes that the input gave and that are too many: those that it tells, and else some
@@ -41,6 +41,11 @@ given-told P (Some told) bytes given h = subst P (sym given) h
 pub every-told : (P : List ℕ → Type 0) (left : Option (List ℕ)) → ((bytes : List ℕ) → P bytes) → IfSome left P
 every-told P None each = tt
 every-told P (Some told) each = each told
+
+-- what holds of each value that would be told holds of the one that is
+pub where-told : {X : Type 0} {P : X → Type 0} (o : Option X) → ((x : X) → o ≡ Some x → P x) → IfSome o P
+where-told None each = tt
+where-told (Some x) each = each x refl
 
 -- ---- what was said and written whole
 

@@ -2,6 +2,7 @@
 use Rattle.std.proofs.Common.{◌≡◌, sym, ap, ◌∙◌, ℕ, ◌≤◌, ◌<◌, List, [], ◌∷◌, length, map, take, drop, get_or, refl, ◌-◌, arith}
 use Rattle.std.proofs.Math.Seq.{take-length}
 use Rattle.std.proofs.lemmas.List.{length-map}
+use Rattle.renju_cli.specs.Brains.{second_word}
 
 module _ {X : Type 0} (f : X → List ℕ) where
   -- as many words as there are in the list
@@ -33,3 +34,9 @@ module _ {X : Type 0} (f : X → List ℕ) where
   two-words (v ∷ []) x y two first second = absurd (omega (arith, two))
   two-words (v ∷ w ∷ []) x y two first second = ap (λ u. f u ∷ f w ∷ []) (sym first) ∙ ap (λ u. f x ∷ f u ∷ []) (sym second)
   two-words (v ∷ w ∷ u ∷ us) x y two first second = absurd (omega (arith, two))
+
+  -- the word after the first
+  pub word-after : (xs : List X) (y : X) → length xs ≡ 2 → y ≡ get_or xs 1 y → second_word (map f xs) ≡ f y
+  word-after [] y two is = absurd (omega (arith, two))
+  word-after (v ∷ []) y two is = absurd (omega (arith, two))
+  word-after (v ∷ w ∷ us) y two is = ap f (sym is)

@@ -9,6 +9,7 @@ pub mod Refusals
 pub mod Checks
 pub mod Fouls
 pub mod Fours
+pub mod Brains
 -- the list of commands, and what the program does
 pub mod Commands
 pub mod Reports

@@ -15,8 +15,8 @@ pub record IsUsage (run : Run) : Type 0 where
 
 -- What the program does: words without a form get the usage line, and words of a form what their command does.
 abbrev pub Report : Run → Type 0
-Report run = IsUsage run ⊎ ((form : Form) × IsForm run.words form × (command form).Does run)
+Report run = IsUsage run ⊎ ((form : Form) × IsForm run.words form × (command run.words form).Does run)
 
 -- Each command is as sure to answer as it says.
 abbrev pub IsComplete : Run → Type 0
-IsComplete run = (form : Form) → IsForm run.words form → (command form).Answers run
+IsComplete run = (form : Form) → IsForm run.words form → (command run.words form).Answers run

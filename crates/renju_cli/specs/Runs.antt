@@ -4,7 +4,7 @@ use Rattle.renju_io.specs.Faults.{HasRisen, HasStayed, HasNotFallen}
 use Rattle.renju_io.specs.Told.{GivesSome, Takes, TakesPart}
 use Rattle.renju_io.specs.Files.{Files}
 use Rattle.renju_cli.specs.declared.status.Status.{Status}
-use Rattle.renju_cli.specs.declared.status.Status.TheVariants.{Memory, ReadFault, WriteFault}
+use Rattle.renju_cli.specs.declared.status.Status.TheVariants.{ShelfFault, Memory, ReadFault, WriteFault}
 use Rattle.renju_cli.specs.Statuses.{status_number}
 
 -- what a device tells, and the count of its faults, before and after
@@ -58,7 +58,8 @@ pub record IsOutOfMemory (output : Change (Option (List ℕ))) (number : ℕ) : 
 
 -- What holds of the devices in each run: the input gave bytes from its front, maybe none, the files of the shelf are as
 -- before, no count of faults fell, and where the status is not that of a fault of the input or of the output, this device
--- has counted none.
+-- has counted none; nor has the shelf, where the status is neither that of its fault nor of one of the output, which stands in place
+-- of that.
 pub record KeepsDevices (run : Run) : Type 0 where
   pub taken : GivesSome run.input.before run.input.after
   pub input : HasNotFallen run.input.faults_before run.input.faults_after
@@ -67,3 +68,4 @@ pub record KeepsDevices (run : Run) : Type 0 where
   pub files : run.shelf.after ≡ run.shelf.before
   pub reads : run.status ≢ status_number ReadFault → IsSound run.input
   pub writes : run.status ≢ status_number WriteFault → IsSound run.output
+  pub loads : run.status ≢ status_number ShelfFault → run.status ≢ status_number WriteFault → IsSound run.shelf

@@ -1,12 +1,13 @@
 -- The statuses of the program and their numbers.
 use Rattle.std.specs.Prelude.{ℕ}
 use Rattle.renju_cli.specs.declared.status.Status.{Status}
-use Rattle.renju_cli.specs.declared.status.Status.TheVariants.{Done, Usage, RefusedText, RefusedTable, Spent, Memory, ReadFault, WriteFault, NotFound, TooLong}
+use Rattle.renju_cli.specs.declared.status.Status.TheVariants.{Done, Usage, ShelfFault, RefusedText, RefusedTable, Spent, Memory, ReadFault, WriteFault, NotFound, TooLong}
 
 -- the number that the program ends with
 abbrev pub status_number : Status → ℕ
 status_number Done = 0
 status_number Usage = 1
+status_number ShelfFault = 2
 status_number RefusedText = 3
 status_number RefusedTable = 4
 status_number Spent = 5

@@ -120,7 +120,7 @@ fn why_word(why: Why) -> &'static str
 }
 
 /// The line of a refused table: why, and the moves that lead to the fault.
-fn refused_table(alloc: Global, why: Why, moves: &[Point]) -> Result<String, AllocError>
+pub(crate) fn refused_table(alloc: Global, why: Why, moves: &[Point]) -> Result<String, AllocError>
     ensures line { IfOk result (λ text. string_bytes text ≡ refused_table_line (why_word_lem why) moves.now) }
 {
     let mut text = String::from_str(alloc, "refused ")?;

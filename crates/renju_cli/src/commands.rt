@@ -9,11 +9,12 @@ ghost use Rattle.renju_cli.specs.Runs.{change, run_of, KeepsDevices};
 ghost use Rattle.renju_cli.specs.Commands.{IsForm, HasForm};
 ghost use Rattle.renju_cli.specs.Reports.{Report};
 
+use crate::brain::{play, play_with};
 use crate::check::Check;
 use crate::fouls::ListFouls;
 use crate::fours::Fours;
 use crate::told::{deliver, tell};
-use crate::{Status, check, fouls, fours};
+use crate::{Status, brain, check, fouls, fours};
 use renju_io::{Shelf, Sink, Source};
 use std::alloc::Global;
 
@@ -30,6 +31,10 @@ pub enum Form {
     Foul,
     /// `fours DEPTH NODES`, with DEPTH from 1 to `MAX_DEPTH` and NODES from 1 to `MAX_SEARCHED`.
     Fours { depth: u32, nodes: u64 },
+    /// `brain`.
+    Brain,
+    /// `brain FILE`, with a FILE that is not empty. It is the second word.
+    BrainWith,
 }
 
 /// The form that the words have, if they have one.
@@ -43,6 +48,7 @@ pub(crate) fn form_of(words: &[String]) -> Option<Form>
         "check" => check::form(rest),
         "foul" => fouls::form(rest),
         "fours" => fours::form(rest),
+        "brain" => brain::form(rest),
         _ => None,
     }
 }
@@ -60,11 +66,12 @@ pub(crate) fn run<I: Source, O: Sink, F: Shelf>(
     ensures devices { KeepsDevices (run_of (map string_bytes words.now) (change I.left I.faults input.old input.new)
         (change O.written O.faults output.old output.new) (change F.files F.faults shelf.old shelf.new) (status_number result)) }
 {
-    let _ = shelf;
     match form_of(words) {
         None => deliver(Status::Usage, USAGE.as_bytes(), output),
         Some(Form::Check { work }) => tell(alloc, &Check { work }, input, output),
         Some(Form::Foul) => tell(alloc, &ListFouls, input, output),
         Some(Form::Fours { depth, nodes }) => tell(alloc, &Fours { depth, nodes }, input, output),
+        Some(Form::Brain) => play(alloc, None, input, output),
+        Some(Form::BrainWith) => play_with(alloc, words[1].as_str(), input, output, shelf),
     }
 }

@@ -1,11 +1,12 @@
 //! The program `renju` as one call from words and bytes to bytes and a status.
 //!
 //! Each command has a file here and one in `specs/`: its words, what it says of its input, and when it is sure to answer.
-//! `commands` lists them. A command that is told its whole input is run by `told`, which knows none of them. `run` has the
-//! one public call.
+//! `commands` lists them. A command that is told its whole input is run by `told`, which knows none of them; one that is
+//! served its input, as `brain`, runs by itself. `run` has the one public call.
 #![tactic(auto)]
 
 mod answer;
+mod brain;
 mod check;
 mod commands;
 mod fouls;
@@ -22,6 +23,9 @@ pub use status::Status;
 
 /// The most arrivals that `check` may be allowed.
 pub const MAX_WORK: u64 = 1_000_000_000_000;
+
+/// The most arrivals that `brain` allows the table of its FILE.
+pub const BRAIN_WORK: u64 = 2_000_000;
 
 /// The most positions that `fours` may be allowed to look at.
 pub const MAX_SEARCHED: u64 = 10_000_000;

@@ -11,6 +11,8 @@ pub enum Status {
     Done,
     /// The words have no form.
     Usage,
+    /// The shelf failed, or holds no file under the name.
+    ShelfFault,
     /// The text was read whole and is refused.
     RefusedText,
     /// The table is not accepted.
@@ -37,6 +39,7 @@ impl Status {
         match self {
             Status::Done => 0,
             Status::Usage => 1,
+            Status::ShelfFault => 2,
             Status::RefusedText => 3,
             Status::RefusedTable => 4,
             Status::Spent => 5,

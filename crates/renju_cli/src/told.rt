@@ -18,7 +18,7 @@ use renju_io::{ReadAllError, Sink, Source, read_all, write_text};
 use std::alloc::{AllocError, Global};
 
 /// What an input that is too long is told.
-const TOO_LONG: &str = "input too long\n";
+pub(crate) const TOO_LONG: &str = "input too long\n";
 
 /// A command that is told its whole input.
 pub(crate) trait Told {

@@ -1,9 +1,11 @@
-//! Worked examples: the program run over bytes in memory, and texts refused and fouls listed.
+//! Worked examples: the program run over bytes in memory, texts refused and fouls listed, and sessions of the brain.
 //!
-//! The crate has tests alone. Each compares a whole run of `run_renju`, words and input in, status and bytes out, with an
-//! answer that was worked out by hand.
+//! The tests compare a whole run of `run_renju` each, words and input in, status and bytes out, with an answer that was worked
+//! out by hand. `held_sessions` has sessions of the brain as theorems.
 #![tactic(auto)]
 
+#[cfg(test)]
+mod brains;
 #[cfg(test)]
 mod calling;
 #[cfg(test)]
@@ -14,6 +16,7 @@ mod devices;
 mod fouls;
 #[cfg(test)]
 mod fours;
+mod held_sessions;
 #[cfg(test)]
 mod inputs;
 #[cfg(test)]
@@ -22,3 +25,8 @@ mod runs;
 mod texts;
 #[cfg(test)]
 mod words;
+
+pub use held_sessions::{
+    a_block_that_fouls_loses, a_held_start_is_followed_after_an_own_win, a_reply_elsewhere_loses,
+    a_start_is_followed_after_moves_are_taken_back,
+};

@@ -1,4 +1,11 @@
-use Rattle.std.proofs.Common.{inl, refl}
+use Rattle.std.proofs.Common.{◌≡◌, inl, refl, sym, subst, ◌∙◌, length}
+use Rattle.std.specs.Prelude.{map, string_bytes}
+use Rattle.renju_cli.specs.declared.commands.Form.{Form}
+use Rattle.renju_cli.specs.declared.commands.Form.TheVariants.{BrainWith}
+use Rattle.renju_cli.specs.Brains.{second_word}
+use Rattle.renju_cli.specs.Commands.{IsForm}
+use Rattle.renju_cli.proofs.Words.{same-count, word-after}
+use Rattle.renju_cli.proofs.ReportLaws.{file-reported}
 use Rattle.renju_cli.proofs.commands.run.Goals as goal
 
 -- the literal of the usage line is that line
@@ -9,3 +16,12 @@ returns-in-None-clause-report g c = inl (record {
   shelf = record { same = refl; faults = refl };
   delivered = rw (← c.as_bytes.ensures.value) c.deliver.ensures.delivered;
 })
+
+-- the file is the second word
+pub returns-in-Some-BrainWith-clause-report : goal.returns-in-Some-BrainWith-clause-report
+returns-in-Some-BrainWith-clause-report g c =
+    let words = map string_bytes c.args.words.now in
+    let form : IsForm words BrainWith = subst (λ (f : Form). IsForm words f) c.in-Some-BrainWith.field-0-is c.in-Some-BrainWith.ensures.form in
+    let two : length c.args.words.now ≡ 2 = same-count string_bytes _ _ form.spelled in
+    let file : c.as_str.result.now ≡ second_word words = c.as_str.ensures.value ∙ sym (word-after string_bytes c.args.words.now c.index-words-1.result two c.index-words-1.is) in
+    file-reported _ c.as_str.result.now form file (c.play_with.ensures.plays words)

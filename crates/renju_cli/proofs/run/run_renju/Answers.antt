@@ -1,4 +1,4 @@
-use Rattle.renju_cli.proofs.ReportLaws.{report-won, report-searched, report-complete}
+use Rattle.renju_cli.proofs.ReportLaws.{report-won, report-searched, report-games, report-complete}
 use Rattle.renju_cli.proofs.run.run_renju.Goals as goal
 
 -- all that holds of a run follows from its report
@@ -6,6 +6,7 @@ pub returns : goal.returns
 returns g c = rw c.number.ensures.number (record {
   report = c.run.ensures.report;
   won = report-won _ c.run.ensures.report;
+  held_games = report-games _ c.run.ensures.report;
   searched = report-searched _ c.run.ensures.report;
   complete = report-complete _ c.run.ensures.report;
   devices = c.run.ensures.devices;

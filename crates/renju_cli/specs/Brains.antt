@@ -1,0 +1,280 @@
+-- The command `brain`: its words, how its sessions end, what comes of its FILE, and what its runs show of the games that it plays
+-- by a table.
+use Rattle.std.specs.Prelude.{◌≡◌, ◌≢◌, ◌⊎◌, ℕ, ◌≤◌, ◌<◌, List, [], ◌∷◌, ◌++◌, codes, length, Option, Some, Result, Ok, Err, IfSome, Contains, unwrap_or, slice_get}
+use Rattle.strategy_graph.specs.Tables.{depth}
+use Rattle.strategy_graph.specs.Roots.{root_arrivals, AcceptedRoot, RootWins}
+use Rattle.strategy_checker.specs.HeldRoots.{HeldTable}
+use Rattle.position_files.specs.declared.TableFile.{TableFile}
+use Rattle.position_files.specs.Faults.{IsTableFault}
+use Rattle.renju_io.specs.Told.{Takes}
+use Rattle.renju_io.specs.Files.{Files, file_under}
+use Rattle.renju_io.specs.declared.TheConstants.{MAX_INPUT_BYTES, MAX_SESSION_BYTES}
+use Rattle.gomocup_text.specs.Commands.{commands}
+use Rattle.gomocup_text.specs.declared.Command.{Command as Asked}
+use Rattle.gomocup_text.specs.declared.Command.TheVariants.{End}
+use Rattle.brain_session.specs.declared.sessions.ServeError.{ServeError}
+use Rattle.brain_session.specs.declared.sessions.ServeError.TheVariants.{ReadFailed, WriteFailed, Exhausted, Memory as NoMemory}
+use Rattle.brain_session.specs.States.{Game, State, new_brain}
+use Rattle.brain_session.specs.Steps.{brain_step}
+use Rattle.brain_session.specs.Sessions.{answers_from, state_after, session_text}
+use Rattle.brain_session.specs.Serving.{Served, HasAnswered, HasNoEnd, IsReadToEnd, StopsAtRead, StopsAtWrite, StopsAtStep, within_limit, IsTooLong}
+use Rattle.brain_session.specs.HeldGames.{BeginsHeldGame, HeldGameGoesWell, IsTight}
+use Rattle.renju_cli.specs.declared.status.Status.{Status}
+use Rattle.renju_cli.specs.declared.status.Status.TheVariants.{Done, Usage, ShelfFault, RefusedText, RefusedTable, Spent, Memory, ReadFault, WriteFault, NotFound, TooLong}
+use Rattle.renju_cli.specs.declared.brain.Loaded.{Loaded}
+use Rattle.renju_cli.specs.declared.brain.Loaded.TheVariants.{Holds, Tells}
+use Rattle.renju_cli.specs.declared.TheConstants.{BRAIN_WORK}
+use Rattle.renju_cli.specs.Statuses.{status_number}
+use Rattle.renju_cli.specs.Texts.{too_long_line, shelf_line}
+use Rattle.renju_cli.specs.Runs.{Change, Run, HasFailed, IsSound, IsUnasked, IsDelivered}
+use Rattle.renju_cli.specs.Forms.{Command, HasWords}
+use Rattle.renju_cli.specs.Refusals.{IsRefusedText}
+use Rattle.renju_cli.specs.Checks.{IsTableAt, IsRefusedTable, IsSpentWork}
+
+-- the words `brain`
+abbrev pub brain_words : List (List ℕ)
+brain_words = codes "brain" ∷ []
+
+-- the words `brain FILE`
+abbrev pub brain_with_words : List ℕ → List (List ℕ)
+brain_with_words name = codes "brain" ∷ name ∷ []
+
+-- FILE is any word that is not empty
+abbrev pub IsFileName : List ℕ → Type 0
+IsFileName name = name ≢ []
+
+-- the word after the first
+abbrev pub second_word : List (List ℕ) → List ℕ
+second_word words = unwrap_or (slice_get words 1) []
+
+-- Sessions
+
+-- what a brain without FILE holds: no table and no root
+abbrev pub nothing_held : HeldTable
+nothing_held = record { table = []; roots = [] }
+
+-- what a brain holds by the text of a table: the table, and of its roots the one of the text, with its rule and its board
+abbrev pub held_by : TableFile → HeldTable
+held_by file = record { table = file.table; roots = record { root = file.root; kind = file.kind; board = file.board } ∷ [] }
+
+-- the session of a brain that is new and holds this, and is in this state at its end
+abbrev pub session_of : HeldTable → State → Change (Option (List ℕ)) → Served
+session_of held last output = record { before = new_brain held; after = last; written_before = output.before; written_after = output.after }
+
+-- How a session ends with a status. Done: each line up to END or the end of input is answered. ReadFault: the whole lines of the
+-- bytes that the input gave, and no more. WriteFault: each line before the one whose answer was not written whole. TooLong: the
+-- lines that end within the bytes that a session may have, none of which is END, and the input has more bytes. Memory: each line
+-- before one at which memory ran out.
+abbrev pub EndsSession : Served → (input output : Change (Option (List ℕ))) → Status → Type 0
+EndsSession v input output Done = IfSome input.before (λ bytes. HasAnswered v (commands bytes)) × IsReadToEnd input.before input.after
+EndsSession v input output ReadFault = HasFailed input × StopsAtRead v input.before input.after
+EndsSession v input output WriteFault = HasFailed output × IfSome input.before (λ bytes. StopsAtWrite v (commands bytes))
+EndsSession v input output TooLong = IfSome input.before (λ bytes. HasAnswered v (commands (within_limit bytes)) × IsTooLong bytes)
+EndsSession v input output Memory = IfSome input.before (λ bytes. StopsAtStep v (commands bytes))
+EndsSession v input output Usage = ⊥
+EndsSession v input output ShelfFault = ⊥
+EndsSession v input output RefusedText = ⊥
+EndsSession v input output RefusedTable = ⊥
+EndsSession v input output Spent = ⊥
+EndsSession v input output NotFound = ⊥
+
+-- the status of a session that ended so
+abbrev pub session_status : Result (Unit {0}) ServeError → Status
+session_status (Ok done) = Done
+session_status (Err ReadFailed) = ReadFault
+session_status (Err WriteFailed) = WriteFault
+session_status (Err Exhausted) = TooLong
+session_status (Err NoMemory) = Memory
+
+-- a brain that holds this served the input
+pub record IsSession (held : HeldTable) (input output : Change (Option (List ℕ))) (number : ℕ) : Type 0 where
+  pub status : Status
+  pub last : State
+  pub ends : number ≡ status_number status
+  pub how : EndsSession (session_of held last output) input output status
+
+-- memory ran out before anything was read or written
+pub record IsUnbegun (input output : Change (Option (List ℕ))) (number : ℕ) : Type 0 where
+  pub ends : number ≡ status_number Memory
+  pub unread : IsUnasked input
+  pub silent : IsUnasked output
+
+-- how a brain ends that is to hold this
+abbrev pub EndsBrain : HeldTable → (input output : Change (Option (List ℕ))) → ℕ → Type 0
+EndsBrain held input output number = IsSession held input output number ⊎ IsUnbegun input output number
+
+-- What a session needs to come to its end: an input that tells these bytes, which are not too many or have END before they are,
+-- and devices that count no fault in the run.
+pub record IsUnhinderedSession (run : Run) (bytes : List ℕ) : Type 0 where
+  pub told : run.input.before ≡ Some bytes
+  pub fits : (length bytes ≤ MAX_SESSION_BYTES) ⊎ Contains (commands (within_limit bytes)) End
+  pub input_sound : HasFailed run.input → ⊥
+  pub output_sound : HasFailed run.output → ⊥
+
+-- the brain answered each line up to END or the end of input, and that was written whole
+pub record HasServed (held : HeldTable) (run : Run) (bytes : List ℕ) : Type 0 where
+  pub ends : run.status ≡ status_number Done
+  pub whole : Takes run.output.before (session_text (new_brain held) bytes) run.output.after
+
+-- a brain that holds this serves its input to the end where nothing hinders it, or memory ran out
+abbrev pub AnswersAll : HeldTable → Run → Type 0
+AnswersAll held run = (bytes : List ℕ) → IsUnhinderedSession run bytes → HasServed held run bytes ⊎ (run.status ≡ status_number Memory)
+
+-- `brain`
+
+-- what `brain` does in a run: it holds nothing, and leaves the shelf unasked
+pub record IsBrain (run : Run) : Type 0 where
+  pub shelf : IsUnasked run.shelf
+  pub ends : EndsBrain nothing_held run.input run.output run.status
+
+-- `brain`, which needs nothing more than its session does
+abbrev pub brain_command : Command
+brain_command = record {
+  words = brain_words;
+  in_range = Unit {0};
+  Does = IsBrain;
+  Answers = AnswersAll nothing_held;
+}
+
+-- `brain FILE`
+
+-- the shelf gave these bytes under the name, which are its own where it tells its files, and has counted no fault
+pub record IsLoaded (shelf : Change (Option Files)) (name bytes : List ℕ) : Type 0 where
+  pub found : IfSome shelf.before (λ files. file_under name files ≡ Some bytes)
+  pub sound : IsSound shelf
+
+-- the root of the text is accepted with at most BRAIN_WORK arrivals
+pub record IsFit (file : TableFile) : Type 0 where
+  pub accepted : AcceptedRoot file.kind file.table file.root file.board
+  pub within : root_arrivals file.kind file.table file.root file.board ≤ BRAIN_WORK
+
+-- what is said of the bytes of a FILE that is not held: why the text is refused, or else why the table is, or that it has more
+-- arrivals than BRAIN_WORK
+abbrev pub FileSays : List ℕ → Status → List ℕ → Type 0
+FileSays bytes status text =
+    IsRefusedText (IsTableFault bytes) status text
+    ⊎ ((file : TableFile) × IsTableAt file bytes × (IsRefusedTable file status text ⊎ IsSpentWork BRAIN_WORK file status text))
+
+-- what comes of the table of a text: it is held, or what is told of it says why not
+abbrev pub IsLoadedFile : TableFile → Loaded → Type 0
+IsLoadedFile file (Holds held) = IsFit file × (held ≡ held_by file)
+IsLoadedFile file (Tells answer) = IsRefusedTable file answer.status answer.text.items ⊎ IsSpentWork BRAIN_WORK file answer.status answer.text.items
+
+-- what comes of the bytes of a FILE: the table of the text that they are is held, or what is told of them says why not
+abbrev pub IsLoadedText : List ℕ → Loaded → Type 0
+IsLoadedText bytes (Holds held) = (file : TableFile) × IsTableAt file bytes × IsFit file × (held ≡ held_by file)
+IsLoadedText bytes (Tells answer) = FileSays bytes answer.status answer.text.items
+
+-- FILE was loaded, and is not held
+pub record IsRefusedFile (shelf : Change (Option Files)) (name : List ℕ) (status : Status) (text : List ℕ) : Type 0 where
+  pub bytes : List ℕ
+  pub loaded : IsLoaded shelf name bytes
+  pub fits : length bytes ≤ MAX_INPUT_BYTES
+  pub says : FileSays bytes status text
+
+-- FILE has more bytes than a command takes, and is only told so
+pub record IsLongFile (shelf : Change (Option Files)) (name : List ℕ) (status : Status) (text : List ℕ) : Type 0 where
+  pub bytes : List ℕ
+  pub loaded : IsLoaded shelf name bytes
+  pub long : MAX_INPUT_BYTES < length bytes
+  pub ends : status ≡ TooLong
+  pub line : text ≡ too_long_line
+
+-- the shelf failed, which is told
+pub record IsShelfFault (shelf : Change (Option Files)) (status : Status) (text : List ℕ) : Type 0 where
+  pub failed : HasFailed shelf
+  pub ends : status ≡ ShelfFault
+  pub line : text ≡ shelf_line
+
+-- why nothing is held, with the status and the text that are due for it
+abbrev pub IsUnheld : Change (Option Files) → List ℕ → Status → List ℕ → Type 0
+IsUnheld shelf name status text = IsRefusedFile shelf name status text ⊎ IsLongFile shelf name status text ⊎ IsShelfFault shelf status text
+
+-- FILE is not held: why is told, and the input is left unasked
+pub record TellsFile (name : List ℕ) (run : Run) : Type 0 where
+  pub status : Status
+  pub text : List ℕ
+  pub why : IsUnheld run.shelf name status text
+  pub input : IsUnasked run.input
+  pub delivered : IsDelivered status text run.output run.status
+
+-- the bytes of FILE are the text of a table that is accepted, and a brain that holds it served the input
+pub record PlaysByFile (name : List ℕ) (run : Run) : Type 0 where
+  pub bytes : List ℕ
+  pub loaded : IsLoaded run.shelf name bytes
+  pub fits : length bytes ≤ MAX_INPUT_BYTES
+  pub file : TableFile
+  pub at : IsTableAt file bytes
+  pub fit : IsFit file
+  pub session : IsSession (held_by file) run.input run.output run.status
+
+-- What `brain FILE` does in a run: it plays by the table of the file, or tells why it does not, or memory ran out before.
+abbrev pub IsBrainWith : List ℕ → Run → Type 0
+IsBrainWith name run = PlaysByFile name run ⊎ TellsFile name run ⊎ IsUnbegun run.input run.output run.status
+
+-- among these files the one with this name is not too long, and is the text of a table that is accepted
+pub record IsFitFile (name : List ℕ) (files : Files) (file : TableFile) : Type 0 where
+  pub bytes : List ℕ
+  pub found : file_under name files ≡ Some bytes
+  pub fits : length bytes ≤ MAX_INPUT_BYTES
+  pub at : IsTableAt file bytes
+  pub fit : IsFit file
+
+-- what `brain FILE` needs beside what its session does: a shelf that counts no fault in the run and tells its files, of which this
+-- is one that fits
+pub record IsUnhinderedFile (name : List ℕ) (run : Run) (file : TableFile) : Type 0 where
+  pub files : Files
+  pub told : run.shelf.before ≡ Some files
+  pub fit : IsFitFile name files file
+  pub shelf_sound : HasFailed run.shelf → ⊥
+
+-- `brain FILE`, which serves by the table of each file that fits
+abbrev pub brain_with_command : List ℕ → Command
+brain_with_command name = record {
+  words = brain_with_words name;
+  in_range = IsFileName name;
+  Does = IsBrainWith name;
+  Answers = λ run. (file : TableFile) → IsUnhinderedFile name run file → AnswersAll (held_by file) run;
+}
+
+-- The games by a table
+
+-- the state of a brain that holds the table of the text after these commands
+abbrev pub state_told : TableFile → List Asked → State
+state_told file before = state_after (new_brain (held_by file)) before
+
+-- A held game goes well, which the command c begins after others: it is played by the table of the text, and the node that the
+-- brain follows there is no deeper than the moves that the text names. Where no END comes before, the answer to c and those to what
+-- comes later stand in the answers of the session right behind those to what came before.
+pub record GoesWellBy (file : TableFile) (before : List Asked) (c : Asked) (later : List Asked) (g : Game) (i : ℕ) : Type 0 where
+  pub holds : (state_told file before).held ≡ held_by file
+  pub goes_well : HeldGameGoesWell (state_told file before) c later g i
+  pub within : depth file.table i ≤ file.moves
+  pub stands : HasNoEnd before → answers_from (new_brain (held_by file)) (before ++ c ∷ later)
+      ≡ answers_from (new_brain (held_by file)) before ++ goes_well.first ∷ answers_from (brain_step (state_told file before) c).next later
+
+-- each held game of a session over these bytes goes well, by whichever of its lines it begins
+abbrev pub GamesGoWell : TableFile → List ℕ → Type 0
+GamesGoWell file bytes =
+    (before : List Asked) (c : Asked) (later : List Asked) (g : Game) (i : ℕ) → commands bytes ≡ before ++ c ∷ later
+    → BeginsHeldGame (state_told file before) c g i → GoesWellBy file before c later g i
+
+-- What holds where a FILE fits: its root wins within the moves that it names; where the opponent moves first, none of its moves
+-- wins or draws; each held game goes well; and the input was served by the table, unless the shelf failed or memory ran out before.
+pub record IsPlayedBy (name : List ℕ) (file : TableFile) (bytes : List ℕ) (run : Run) : Type 0 where
+  pub wins : RootWins file.kind file.root file.moves file.board
+  pub tight : IsTight file.kind file.board file.root
+  pub games : GamesGoWell file bytes
+  pub ends : IsSession (held_by file) run.input run.output run.status ⊎ HasFailed run.shelf ⊎ IsUnbegun run.input run.output run.status
+
+-- Where a session ended, or the input failed, FILE fits; and of each file that fits this holds.
+pub record ShowsGames (name : List ℕ) (files : Files) (bytes : List ℕ) (run : Run) : Type 0 where
+  pub fits : (run.status ≡ status_number Done) ⊎ (run.status ≡ status_number ReadFault) → (file : TableFile) × IsFitFile name files file
+  pub plays : (file : TableFile) → IsFitFile name files file → IsPlayedBy name file bytes run
+
+-- The headline of the brain: what `brain FILE` shows of the games that it plays, where the shelf tells its files and the input its
+-- bytes.
+abbrev pub ShowsHeldGames : Run → Type 0
+ShowsHeldGames run =
+    (name : List ℕ) → HasWords run.words (brain_with_words name) (IsFileName name)
+    → IfSome run.shelf.before (λ files. IfSome run.input.before (λ bytes. ShowsGames name files bytes run))

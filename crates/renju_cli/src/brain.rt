@@ -1,0 +1,163 @@
+//! The command `brain`: a player under the Gomocup protocol, which may hold a table.
+//!
+//! The text of FILE is loaded, read and checked, and only an accepted table is held. Then the lines of the input are served.
+#![tactic(auto)]
+
+ghost use Rattle.std.specs.Prelude.{◌≡◌, ◌≢◌, ◌∷◌, ℕ, List, true, length, codes, map, IfOk, MatchOption, string_bytes};
+ghost use Rattle.game_rules.specs.Play.{IsPosition};
+ghost use Rattle.strategy_graph.specs.Roots.{root_below, root_depth};
+ghost use Rattle.renju_io.specs.Faults.{HasNotFallen, HasStayed};
+ghost use Rattle.renju_io.specs.Told.{GivesSome};
+ghost use Rattle.brain_session.specs.Kept.{held_or_none};
+ghost use Rattle.renju_cli.specs.Statuses.{status_number};
+ghost use Rattle.renju_cli.specs.Runs.{change, run_of};
+ghost use Rattle.renju_cli.specs.Brains.{session_status, EndsBrain, IsBrainWith, IsLoadedText, IsLoadedFile};
+ghost use Rattle.renju_cli.specs.Commands.{IsForm, HasForm};
+
+use crate::answer::{Answer, spent};
+use crate::check::refused_table;
+use crate::refusals::refused_text;
+use crate::told::{TOO_LONG, deliver};
+use crate::{BRAIN_WORK, Form, Status};
+use brain_session::{Brain, ServeError, serve};
+use foul_judge::Position;
+use position_files::{TableFile, read_table};
+use renju_io::{LoadError, Shelf, Sink, Source};
+use row_shapes::{Rule, under_rule};
+use std::alloc::{AllocError, Global};
+use strategy_checker::{Held, HeldError};
+
+/// What a shelf that failed is told.
+const SHELF_FAILED: &str = "shelf failed\n";
+
+/// What comes of the text of a FILE: its table is held, or it is told why not.
+#[derive(Drop)]
+pub(crate) enum Loaded {
+    Holds(Held),
+    Tells(Answer),
+}
+
+/// The form of `brain` and the words after it, if they are none, or a FILE that is not empty.
+pub(crate) fn form(rest: &[String]) -> Option<Form>
+    ensures form { MatchOption result (¬ HasForm (codes "brain" ∷ map string_bytes rest.now)) (λ form. IsForm (codes "brain" ∷ map string_bytes rest.now) form) }
+{
+    match rest {
+        [] => Some(Form::Brain),
+        [file] if !file.is_empty() => Some(Form::BrainWith),
+        _ => None,
+    }
+}
+
+/// `brain FILE`: serves the input by a brain that holds the table of the file, once it is accepted, and else writes why it is not
+/// held. The input is asked only by a brain that holds the table.
+pub(crate) fn play_with<I: Source, O: Sink, F: Shelf>(
+    alloc: Global,
+    file: &str,
+    input: &mut I,
+    output: &mut O,
+    shelf: &mut F,
+) -> Status
+    ensures plays { (words : List (List ℕ)) → IsBrainWith file.now (run_of words (change I.left I.faults input.old input.new)
+        (change O.written O.faults output.old output.new) (change F.files F.faults shelf.old shelf.new) (status_number result)) }
+    ensures taken { GivesSome (I.left input.old) (I.left input.new) }
+    ensures input { HasNotFallen (I.faults input.old) (I.faults input.new) }
+    ensures output { HasNotFallen (O.faults output.old) (O.faults output.new) }
+    ensures shelf { HasNotFallen (F.faults shelf.old) (F.faults shelf.new) }
+    ensures files { F.files shelf.new ≡ F.files shelf.old }
+    ensures reads { status_number result ≢ status_number Status.ReadFault → HasStayed (I.faults input.old) (I.faults input.new) }
+    ensures writes { status_number result ≢ status_number Status.WriteFault → HasStayed (O.faults output.old) (O.faults output.new) }
+    ensures loads { status_number result ≢ status_number Status.ShelfFault → status_number result ≢ status_number Status.WriteFault
+        → HasStayed (F.faults shelf.old) (F.faults shelf.new) }
+{
+    match shelf.load(alloc, file) {
+        Ok(bytes) => match load(alloc, bytes.as_slice()) {
+            Ok(Loaded::Holds(held)) => play(alloc, Some(held), input, output),
+            Ok(Loaded::Tells(answer)) => deliver(answer.status, answer.text.as_slice(), output),
+            Err(_) => Status::Memory,
+        },
+        Err(LoadError::Failed) => deliver(Status::ShelfFault, SHELF_FAILED.as_bytes(), output),
+        Err(LoadError::TooLong) => deliver(Status::TooLong, TOO_LONG.as_bytes(), output),
+        Err(LoadError::Memory) => Status::Memory,
+    }
+}
+
+/// Serves the lines of the input by a brain that holds this, or nothing.
+pub(crate) fn play<I: Source, O: Sink>(
+    alloc: Global,
+    held: Option<Held>,
+    input: &mut I,
+    output: &mut O,
+) -> Status
+    ensures ends { EndsBrain (held_or_none held) (change I.left I.faults input.old input.new)
+        (change O.written O.faults output.old output.new) (status_number result) }
+    ensures taken { GivesSome (I.left input.old) (I.left input.new) }
+    ensures input { HasNotFallen (I.faults input.old) (I.faults input.new) }
+    ensures output { HasNotFallen (O.faults output.old) (O.faults output.new) }
+    ensures reads { status_number result ≢ status_number Status.ReadFault → HasStayed (I.faults input.old) (I.faults input.new) }
+    ensures writes { status_number result ≢ status_number Status.WriteFault → HasStayed (O.faults output.old) (O.faults output.new) }
+{
+    let Ok(mut brain) = Brain::new(alloc, held) else {
+        return Status::Memory;
+    };
+    status_of(serve(alloc, &mut brain, input, output))
+}
+
+/// The status of a session that ended so.
+fn status_of(outcome: Result<(), ServeError>) -> Status
+    ensures status { result ≡ session_status outcome }
+{
+    match outcome {
+        Ok(()) => Status::Done,
+        Err(ServeError::ReadFailed) => Status::ReadFault,
+        Err(ServeError::WriteFailed) => Status::WriteFault,
+        Err(ServeError::Exhausted) => Status::TooLong,
+        Err(ServeError::Memory) => Status::Memory,
+    }
+}
+
+/// What comes of the text of a FILE.
+fn load(alloc: Global, bytes: &[u8]) -> Result<Loaded, AllocError>
+    ensures loaded { IfOk result (IsLoadedText bytes.now) }
+{
+    match read_table(alloc, bytes) {
+        Ok(file) => hold(alloc, file),
+        Err(error) => Ok(Loaded::Tells(refused_text(alloc, error)?)),
+    }
+}
+
+/// Holds the table of a text, if its root is accepted there.
+fn hold(alloc: Global, file: TableFile) -> Result<Loaded, AllocError>
+    requires lawful { IsPosition file.kind file.board }
+    requires root { root_below file.root (length file.table) ≡ true }
+    ensures loaded { IfOk result (IsLoadedFile file) }
+{
+    under_rule!(file.kind, hold_under(alloc, file))
+}
+
+/// The same under the rule of the text.
+fn hold_under<R: Rule>(alloc: Global, file: TableFile) -> Result<Loaded, AllocError>
+    requires kind { file.kind ≡ R.KIND }
+    requires lawful { IsPosition file.kind file.board }
+    requires root { root_below file.root (length file.table) ≡ true }
+    ensures loaded { IfOk result (IsLoadedFile file) }
+{
+    let TableFile {
+        kind: _,
+        board,
+        table,
+        root,
+        moves: _,
+    } = file;
+    let mut held = Held::new(alloc, table);
+    match held.add::<R>(root, Position::<R>::new(board), BRAIN_WORK) {
+        Ok(_) => Ok(Loaded::Holds(held)),
+        Err(HeldError::Refused { line, why }) => {
+            Ok(Loaded::Tells(Answer::told(
+                Status::RefusedTable,
+                refused_table(alloc, why, line.as_slice())?,
+            )))
+        }
+        Err(HeldError::Spent) => Ok(Loaded::Tells(spent(alloc)?)),
+        Err(HeldError::Memory) => Err(AllocError),
+    }
+}

@@ -1,0 +1,88 @@
+-- A root is accepted where a test holds at each point of the board: the reply there does not win, and the answer to it wins at once.
+use Rattle.std.proofs.Common.{◌≡◌, ◌⊎◌, inl, inr, ℕ, Bool, true, false, ◌&&◌, ◌||◌, not, List, refl, nat_eq}
+use Rattle.std.specs.Prelude.{Option, Some, None, slice_get}
+use Rattle.std.specs.List.{list_all}
+use Rattle.std.proofs.lemmas.Bool.{or_cases}
+use Rattle.game_rules.specs.Grid.{Grid, is_on, is_empty, points_of, empties_of}
+use Rattle.game_rules.specs.Shapes.{five}
+use Rattle.game_rules.specs.Play.{outcome, outcome_by, foul_of, mover, after}
+use Rattle.game_rules.specs.declared.RuleKind.{RuleKind}
+use Rattle.game_rules.specs.declared.Foul.{Foul}
+use Rattle.game_rules.specs.declared.Outcome.TheVariants.{Wins as WinsNow, Fouls, GoesOn}
+use Rattle.game_rules.specs.declared.Point.{Point}
+use Rattle.game_rules.proofs.Boards.{and_left, and_right}
+use Rattle.game_rules.proofs.Points.{all_at, taken_refused, off_refused}
+use Rattle.strategy_graph.specs.declared.Node.{Node}
+use Rattle.strategy_graph.specs.Tables.{Answers, answer, NamesLower}
+use Rattle.strategy_graph.specs.Acceptance.{Meets, Accepted}
+use Rattle.strategy_graph.proofs.Steps.{accepted-by-win, met-no_move, met-foul, met-answer}
+
+-- ---- moves that win, and moves that neither win nor draw
+
+wins_by : (e w l : Bool) (o : Option Foul) → e ≡ true → w ≡ true → outcome_by e w o l ≡ WinsNow
+wins_by true true l None e f = refl
+wins_by true true l (Some g) e f = refl
+wins_by true false l o e f = cc
+wins_by false w l o e f = cc
+
+pub wins_now : (rule : RuleKind) (b : Grid) (p : Point) → is_empty b p ≡ true → five rule b (mover b) p ≡ true → outcome rule b p ≡ WinsNow
+unfolding outcome
+wins_now rule b p e f = wins_by (is_empty b p) (five rule b (mover b) p) (nat_eq (empties_of b) 1) (foul_of rule b (mover b) p) e f
+
+quiet_by : (e w l : Bool) (o : Option Foul) → e ≡ true → w ≡ false → l ≡ false → (outcome_by e w o l ≡ GoesOn) ⊎ ((f : Foul) × (outcome_by e w o l ≡ Fouls f))
+quiet_by true false false None e f g = inl refl
+quiet_by true false false (Some h) e f g = inr (h, refl)
+quiet_by true false true o e f g = cc
+quiet_by true true l o e f g = cc
+quiet_by false w l o e f g = cc
+
+quiet_move : (rule : RuleKind) (b : Grid) (q : Point) → is_empty b q ≡ true → five rule b (mover b) q ≡ false → nat_eq (empties_of b) 1 ≡ false → (outcome rule b q ≡ GoesOn) ⊎ ((f : Foul) × (outcome rule b q ≡ Fouls f))
+unfolding outcome
+quiet_move rule b q e f g = quiet_by (is_empty b q) (five rule b (mover b) q) (nat_eq (empties_of b) 1) (foul_of rule b (mover b) q) e f g
+
+-- ---- the test
+
+-- whether there is such a node, and its attack wins
+abbrev pub node_wins : RuleKind → Option Node → Grid → Bool
+node_wins rule None c = false
+node_wins rule (Some m) c = is_empty c m.attack && five rule c (mover c) m.attack
+
+-- whether there is such an answer, and its attack wins
+abbrev pub answer_wins : RuleKind → List Node → Option ℕ → Grid → Bool
+answer_wins rule t None c = false
+answer_wins rule t (Some j) c = node_wins rule (slice_get t j) c
+
+-- whether the reply q is passed over, is no move, or does not win and is answered by a win
+abbrev pub is_met : RuleKind → List Node → Answers → Grid → (Point → Bool) → Point → Bool
+is_met rule t a b skip q = skip q || (not (is_empty b q) || (not (five rule b (mover b) q) && answer_wins rule t (answer a q) (after b q)))
+
+not_true : (r : Bool) → not r ≡ true → r ≡ false
+not_true true h = cc
+not_true false h = refl
+
+module _ (rule : RuleKind) (t : List Node) (lower : NamesLower t) (a : Answers) (b : Grid) (some : nat_eq (empties_of b) 1 ≡ false) (q : Point) where
+  by_node : (j : ℕ) (o : Option Node) → slice_get t j ≡ o → node_wins rule o (after b q) ≡ true → Accepted rule t j (after b q)
+  by_node j None e h = cc
+  by_node j (Some m) e h =
+      accepted-by-win rule t lower j (after b q) m e
+      (wins_now rule (after b q) m.attack (and_left (is_empty (after b q) m.attack) _ h) (and_right (is_empty (after b q) m.attack) _ h))
+
+  by_answer : (o : Option ℕ) → answer a q ≡ o → answer_wins rule t o (after b q) ≡ true → outcome rule b q ≡ GoesOn → Meets rule a (Accepted rule t) b q
+  by_answer None e h on = cc
+  by_answer (Some j) e h on = met-answer rule t a b q j on e (by_node j (slice_get t j) refl h)
+
+  by_empty : (r : Bool) → is_empty b q ≡ r → (not r || (not (five rule b (mover b) q) && answer_wins rule t (answer a q) (after b q))) ≡ true → Meets rule a (Accepted rule t) b q
+  by_empty false e h = met-no_move rule t a b q (taken_refused rule b q e)
+  by_empty true e h = elim (quiet_move rule b q e (not_true (five rule b (mover b) q) (and_left (not (five rule b (mover b) q)) _ h)) some) [
+    | inl on ↦ by_answer (answer a q) refl (and_right (not (five rule b (mover b) q)) _ h) on
+    | inr foul ↦ met-foul rule t a b q foul.0 foul.1
+  ]
+
+  pub met-by_test : (skip : Point → Bool) → list_all (is_met rule t a b skip) (points_of b) ≡ true → (skip q ≡ true → Meets rule a (Accepted rule t) b q) → Meets rule a (Accepted rule t) b q
+  met-by_test skip all passed = by_on (is_on b q) refl where
+    by_on : (r : Bool) → is_on b q ≡ r → Meets rule a (Accepted rule t) b q
+    by_on false e = met-no_move rule t a b q (off_refused rule b q e)
+    by_on true e = elim (or_cases (skip q) _ (all_at b (is_met rule t a b skip) q all e)) [
+      | inl over ↦ passed over
+      | inr h ↦ by_empty (is_empty b q) refl h
+    ]

@@ -1,0 +1,7 @@
+-- The proofs of the theorems: acceptance by tests that compute, and each session.
+mod Accepting
+mod OverlineSessions
+mod StartSession
+-- the win that the brain finds itself, and the session in which it follows it
+mod OwnWins
+mod OwnWinSession
