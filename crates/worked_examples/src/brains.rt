@@ -28,7 +28,7 @@ struct Session {
 const PLAYED_OUT: &str =
     "START 15\nINFO rule 4\nBOARD\n3,3,1\n4,3,1\n5,3,1\n12,14,1\n14,14,1\n7,0,2\n7,1,2\n7,2,2\n2,3,2\n7,4,2\n7,5,2\nDONE\nTURN 0,14\nTURN 1,14\nEND\n";
 
-const SESSIONS: [Session; 12] = [
+const SESSIONS: [Session; 13] = [
     Session {
         name: "a held win in two moves",
         words: ["brain", "t"],
@@ -100,6 +100,14 @@ const SESSIONS: [Session; 12] = [
         lines: "START 15\nBOARD\n5,7,1\n6,7,1\n7,7,1\n0,0,2\n2,0,2\n4,0,2\nDONE\nTURN 3,7\nEND\n",
         status: 0,
         output: "OK\r\n4,7\r\n8,7\r\n",
+    },
+    Session {
+        name: "a file that is not there",
+        words: ["brain", "another"],
+        file: BLOCK_FOULS,
+        lines: PLAYED_OUT,
+        status: 2,
+        output: "shelf failed\n",
     },
     Session {
         name: "sizes, and games begun again",
@@ -251,6 +259,46 @@ fn an_answer_is_written_before_the_next_line_is_read(rt: HostRuntime) -> Result<
     let first = "START 15\n".len();
     assert_eq!(rt; served.run.status, 8);
     assert_eq!(rt; served.left.len() + first, session.lines.len());
+    Ok(())
+}
+
+/// Runs a brain without FILE over lines in memory.
+fn serve_bytes(alloc: Global, lines: Vec<u8>) -> Result<Run, AllocError> {
+    let words = words_of(alloc, &["brain"])?;
+    let mut source = MemorySource::new(lines, 65_536, Vec::new(alloc));
+    let mut sink = MemorySink::new(alloc, 0, Vec::new(alloc));
+    let mut shelf = shelf_of(alloc, "", &[])?;
+    let status = run_renju(alloc, words.as_slice(), &mut source, &mut sink, &mut shelf);
+    let output = Vec::from_slice(alloc, sink.bytes())?;
+    Ok(Run { status, output })
+}
+
+#[test]
+fn a_line_has_at_most_4096_bytes(rt: HostRuntime) -> Result<(), Fail> {
+    let alloc = rt.alloc();
+    let mut lines = Vec::new(alloc);
+    for spaces in [4_096, 4_097] {
+        let line = vec![in alloc; b' '; spaces]?;
+        lines.extend_from_slice(&line)?;
+        lines.push(b'\n')?;
+    }
+    let run = serve_bytes(alloc, lines)?;
+    assert_eq!(rt; run.status, 0);
+    assert_eq!(rt;
+        run.output.as_slice(),
+        b"ERROR bad arguments\r\n".as_slice()
+    );
+    Ok(())
+}
+
+#[test]
+fn a_session_has_at_most_67108864_bytes(rt: HostRuntime) -> Result<(), Fail> {
+    for (count, status) in [(67_108_864, 0), (67_108_865, 11)] {
+        let alloc = rt.alloc();
+        let run = serve_bytes(alloc, vec![in alloc; b'\n'; count]?)?;
+        assert_eq!(rt; run.status, status);
+        assert_eq!(rt; run.output.len(), 0);
+    }
     Ok(())
 }
 
