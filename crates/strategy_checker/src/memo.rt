@@ -52,7 +52,8 @@ impl Memo {
         }
     }
 
-    /// The arrivals of the node at the board, if the pair is remembered.
+    /// The arrivals of the node at the board, if the pair is remembered. The key stays out of the frames of the walk.
+    #[inline(never)]
     pub(crate) fn find(&mut self, board: &Board, node: u32) -> Option<u64>
         ensures arrivals { result ≡ value_under (packed board.now, node) self.old }
         ensures entries { self.new ≡ looked_up (packed board.now, node) self.old }
