@@ -31,10 +31,11 @@ pub data Row : Type 0 where
 abbrev pub fails : ErrorText → State → Row
 fails e s = Reacts (Says (Error e)) s
 
--- the state with no batch, and with a batch
+-- the state with no batch
 abbrev pub unread : State → State
 unread s = record s { batch = None }
 
+-- the state with this batch
 abbrev pub reading : State → Batch → State
 reading s b = record s { batch = Some b }
 

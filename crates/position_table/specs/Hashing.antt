@@ -16,6 +16,7 @@ used p = min ((p.width * p.height + 3) / 4) 256
 abbrev pub hashed : Packed → HashWrites
 hashed p = take (used p) p.bytes ∷ []
 
+-- keys that the test finds the same are equal
 same_from : (a b : Packed) → same_packed a b ≡ true → a ≡ b
 same_from a b h =
     let width : a.width ≡ b.width = (Decides-eqb a.width b.width).0 (first_so (nat_eq a.width b.width) _ h) in

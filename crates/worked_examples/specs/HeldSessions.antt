@@ -37,10 +37,11 @@ pub record PlaysHeldGame (held : HeldTable) (input : List ℕ) (node : ℕ) (poi
   pub answered : first ∷ answers_to_replies (brain_step (state_after (new_brain held) before) command).next later ≡ said
   pub won : game game_there.rule held.table node (board_of game_there) points ≡ Won attacks
 
--- a stone of the brain, and one of its opponent
+-- a stone of the brain
 abbrev pub own : ℕ → ℕ → BatchStone
 own x y = record { at = point_at x y; own = true }
 
+-- a stone of its opponent
 abbrev pub others : ℕ → ℕ → BatchStone
 others x y = record { at = point_at x y; own = false }
 
@@ -48,10 +49,11 @@ others x y = record { at = point_at x y; own = false }
 abbrev pub board_with : Side → List BatchStone → Grid
 board_with brain stones = with_stones brain (empty_board 15 15) stones
 
--- a winning node, and a node that answers each reply that it does not list by node j
+-- a winning node
 abbrev pub wins_at : Point → Node
 wins_at p = record { attack = p; replies = []; rest = Wins }
 
+-- a node that answers each reply that it does not list by node j
 abbrev pub answers_by : Point → List Reply → ℕ → Node
 answers_by p listed j = record { attack = p; replies = listed; rest = To j }
 
