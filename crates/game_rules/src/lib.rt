@@ -61,7 +61,7 @@ pub enum Axis {
 }
 
 /// A point: its column `x` and its row `y`, both counted from 0. Reading order is by y, then by x.
-#[derive(Clone, Copy, Debug, PartialEq, Eq, Hash)]
+#[derive(Clone, Copy, Debug, Default, PartialEq, Eq, Hash)]
 pub struct Point {
     pub x: u8,
     pub y: u8,

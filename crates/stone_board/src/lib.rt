@@ -15,3 +15,4 @@ pub use board::{Board, Way};
 pub use game_rules::{Axis, Cell, Look, MAX_SIDE, MIN_SIDE, Point, Side};
 pub use order::ReadingOrder;
 pub use points::Points;
+pub use walks::{goes_on, place_after, steps_left, stride};

@@ -13,7 +13,7 @@ use game_rules::{Axis, Point};
 
 /// Whether a step in one way along the axis goes on in reading order, and not back.
 #[inline(always)]
-pub(crate) fn goes_on(way: Way, axis: Axis) -> bool
+pub fn goes_on(way: Way, axis: Axis) -> bool
     ensures on { result ≡ goes_on_lem way axis }
 {
     match axis {
@@ -24,7 +24,7 @@ pub(crate) fn goes_on(way: Way, axis: Axis) -> bool
 
 /// How many places of the reading order a step along the axis is, on a board of this width.
 #[inline(always)]
-pub(crate) fn stride(axis: Axis, width: u8) -> u8
+pub fn stride(axis: Axis, width: u8) -> u8
     requires wide { 0 < width }
     requires fits { width < 64 }
     ensures stride { result ≡ stride_lem axis width }
@@ -38,7 +38,8 @@ pub(crate) fn stride(axis: Axis, width: u8) -> u8
 }
 
 /// The place so far on from a place, or back.
-pub(crate) fn place_after(on: bool, start: usize, far: usize) -> usize
+#[inline(always)]
+pub fn place_after(on: bool, start: usize, far: usize) -> usize
     requires start { start < 2 ^ 16 }
     requires far { far < 2 ^ 16 }
     requires back { on ≡ false → far ≤ start }
@@ -49,7 +50,7 @@ pub(crate) fn place_after(on: bool, start: usize, far: usize) -> usize
 
 /// How many steps from a point of a board of this width and height stay on it, in one way along the axis.
 #[inline(always)]
-pub(crate) fn steps_left(way: Way, axis: Axis, width: u8, height: u8, p: Point) -> u8
+pub fn steps_left(way: Way, axis: Axis, width: u8, height: u8, p: Point) -> u8
     requires column { p.x < width }
     requires row { p.y < height }
     ensures steps { result ≡ steps_left_lem way axis width height p }
