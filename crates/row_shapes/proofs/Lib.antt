@@ -11,3 +11,17 @@ mod Ways
 mod Finds
 mod ShortLists
 mod NewFives
+-- lines that look the same within reach, and what a stone makes on them; the law of reach
+mod Alike
+mod AlikeFours
+mod ReachLaw
+-- codes digit by digit
+mod CodeDigits
+-- numbers as sums of their bits
+mod ThreeBits
+-- lines seen as two halves; the halves of a code
+mod HalfLines
+mod HalfFours
+mod HalfShapes
+mod HalfCodes
+mod HalfTables

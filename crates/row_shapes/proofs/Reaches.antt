@@ -55,7 +55,7 @@ no_stone s BlackStone true h = cc
 no_stone s WhiteStone true h = cc
 no_stone s c false h = cc
 
-all_in_range : (f : ℕ → Bool) (n a k : ℕ) → list_all f (range_with_len a n) ≡ true → a ≤ k → k < a + n → f k ≡ true
+pub all_in_range : (f : ℕ → Bool) (n a k : ℕ) → list_all f (range_with_len a n) ≡ true → a ≤ k → k < a + n → f k ≡ true
 all_in_range f zero a k h low high = absurd (omega arith)
 all_in_range f (suc n) a k h low high = elim (cases_lt a k) [
   | inl more ↦ all_in_range f n (a + 1) k (and_right (f a) _ h) (omega arith) (omega arith)
@@ -64,7 +64,7 @@ all_in_range f (suc n) a k h low high = elim (cases_lt a k) [
 
 module _ (b : Grid) (s : Side) (d : Axis) (p : Point) (on : is_on b p ≡ true) where
   -- as many places next to a point that hold stones are in its row
-  least : (q : Point) → is_on b q ≡ true → (w : Way) (m : ℕ) → ((j : ℕ) → 1 ≤ j → j ≤ m → stone_at b s (go w d q j 0) ≡ true) → m ≤ stones_towards w b s d q
+  pub least : (q : Point) → is_on b q ≡ true → (w : Way) (m : ℕ) → ((j : ℕ) → 1 ≤ j → j ≤ m → stone_at b s (go w d q j 0) ≡ true) → m ≤ stones_towards w b s d q
   least q here w m all = elim (cases_lt (stones_towards w b s d q) m) [
     | inl less ↦ absurd (
         let stop = (leads b s d q here w).stops in

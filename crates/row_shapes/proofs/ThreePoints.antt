@@ -99,7 +99,7 @@ and-swap true false false = refl
 and-swap false c e = refl
 
 -- a straight four, seen in either way
-straight_towards : (rule : RuleKind) (b : Grid) (s : Side) (w : Way) (d : Axis) (p : Point) → holds b s p ≡ true → is_straight rule b s d p ≡ (nat_eq (stones_towards w b s d p + stones_towards (opposite w) b s d p) 3 && wins_at rule b s d (towards w d p (1 + stones_towards w b s d p)) && wins_at rule b s d (towards (opposite w) d p (1 + stones_towards (opposite w) b s d p)))
+pub straight_towards : (rule : RuleKind) (b : Grid) (s : Side) (w : Way) (d : Axis) (p : Point) → holds b s p ≡ true → is_straight rule b s d p ≡ (nat_eq (stones_towards w b s d p + stones_towards (opposite w) b s d p) 3 && wins_at rule b s d (towards w d p (1 + stones_towards w b s d p)) && wins_at rule b s d (towards (opposite w) d p (1 + stones_towards (opposite w) b s d p)))
 unfolding is_straight
 straight_towards rule b s Ahead d p mine =
     let same : nat_eq (1 + stones_ahead b s d p + stones_behind b s d p) 4 ≡ nat_eq (stones_ahead b s d p + stones_behind b s d p) 3 = four_by _ _ (omega arith) in

@@ -95,7 +95,7 @@ fn count(stones: &[bool; 9]) -> usize
 
 /// Whether the five places that begin so many steps behind place 4, but for the one that is left out, hold stones.
 #[tactic(auto, unfolding(crate::specs::Gaps::are_stones))]
-fn are_stones(stones: &[bool; 9], first: u8, gap: u8) -> bool
+pub(crate) fn are_stones(stones: &[bool; 9], first: u8, gap: u8) -> bool
     requires first { first < 5 }
     ensures stones { result ≡ are_stones_lem (listed stones.now) first gap }
 {

@@ -4,21 +4,31 @@
 //! shapes are those of the RIF Rules of Renju; each call here answers for one point, and for one axis where it takes one.
 #![tactic(auto)]
 
+mod codes;
 mod fives;
 mod fours;
+mod halves;
+mod laws;
+mod line_shape;
 mod new_fives;
 mod reach;
 mod rule;
+mod shape_table;
+mod shapes;
 #[cfg(test)]
 mod tests;
 mod threes;
 mod wins;
 
+pub use codes::line_code;
 pub use fives::{FivePoints, five_points, fives_in_short, has_five};
 pub use fours::{fours_through, straight_through};
 pub use game_rules::RuleKind;
-pub use new_fives::fives_made;
+pub use laws::shapes_have_reach;
+pub use new_fives::{fives_made, with_axis};
 pub use reach::stones_in_reach;
 pub use rule::{ExactFive, Freestyle, Renju, Rule};
+pub use shape_table::ShapeTable;
+pub use shapes::{Shape, Shapes};
 pub use threes::three_points;
 pub use wins::five_at;

@@ -29,7 +29,7 @@ pub fn fives_made<R: Rule>(board: &Board, side: Side, p: Point) -> FivePoints
 }
 
 /// The five points told so far, and those at the two ends on one axis of the run of a new stone on `p`.
-fn with_axis<R: Rule>(
+pub fn with_axis<R: Rule>(
     board: &Board,
     side: Side,
     p: Point,

@@ -7,9 +7,11 @@
 ghost use Rattle.std.specs.Prelude.{◌≡◌, ◌<◌, ℕ, Bool, true, false, refl};
 ghost use Rattle.game_rules.specs.Shapes.{row_wins};
 ghost use Rattle.game_rules.specs.Play.{has_fouls};
+ghost use Rattle.row_shapes.specs.Rule.{reach_of};
 ghost use Rattle.game_rules.specs.declared.RuleKind.{RuleKind};
 ghost use Rattle.game_rules.specs.declared.Side.{Side};
 
+use crate::{ShapeTable, Shapes};
 use game_rules::{RuleKind, Side};
 
 /// A rule of play, as a type with no value.
@@ -24,6 +26,12 @@ pub trait Rule {
     /// Whether Black has fouls: under renju alone.
     const BLACK_FOULS: bool;
 
+    /// The shapes of Black's lines.
+    type Black: Shapes;
+
+    /// The shapes of White's lines.
+    type White: Shapes;
+
     /// Whether a run of this length wins for the side.
     fn wins(side: Side, length: u32) -> bool
         ensures wins { result ≡ row_wins KIND side length };
@@ -35,6 +43,10 @@ pub trait Rule {
     ghost fewer_never: { (s : Side) (n : ℕ) → n < 5 → row_wins KIND s n ≡ false };
 
     ghost five_alone: { BLACK_FOULS ≡ true → (n : ℕ) → row_wins KIND Side.Black n ≡ true → n ≡ 5 };
+
+    ghost black_reach: { Self.Black.REACH ≡ reach_of KIND Side.Black };
+
+    ghost white_reach: { Self.White.REACH ≡ reach_of KIND Side.White };
 }
 
 /// Five or more in a row win for both sides, and nobody has fouls.
@@ -48,6 +60,10 @@ impl Rule for Freestyle {
 
     const KIND: RuleKind = RuleKind::Freestyle;
 
+    type Black = ShapeTable<4>;
+
+    type White = ShapeTable<4>;
+
     ghost BLACK_FOULS = { false };
 
     const BLACK_FOULS: bool = false;
@@ -59,6 +75,10 @@ impl Rule for Freestyle {
     ghost fewer_never = { fewer_never_lem RuleKind.Freestyle };
 
     ghost five_alone = { five_alone_lem RuleKind.Freestyle };
+
+    ghost black_reach = { refl };
+
+    ghost white_reach = { refl };
 
     fn wins(_side: Side, length: u32) -> bool {
         length >= 5
@@ -76,6 +96,10 @@ impl Rule for ExactFive {
 
     const KIND: RuleKind = RuleKind::Exact;
 
+    type Black = ShapeTable<5>;
+
+    type White = ShapeTable<5>;
+
     ghost BLACK_FOULS = { false };
 
     const BLACK_FOULS: bool = false;
@@ -87,6 +111,10 @@ impl Rule for ExactFive {
     ghost fewer_never = { fewer_never_lem RuleKind.Exact };
 
     ghost five_alone = { five_alone_lem RuleKind.Exact };
+
+    ghost black_reach = { refl };
+
+    ghost white_reach = { refl };
 
     fn wins(_side: Side, length: u32) -> bool {
         length == 5
@@ -104,6 +132,10 @@ impl Rule for Renju {
 
     const KIND: RuleKind = RuleKind::Renju;
 
+    type Black = ShapeTable<5>;
+
+    type White = ShapeTable<4>;
+
     ghost BLACK_FOULS = { true };
 
     const BLACK_FOULS: bool = true;
@@ -115,6 +147,10 @@ impl Rule for Renju {
     ghost fewer_never = { fewer_never_lem RuleKind.Renju };
 
     ghost five_alone = { five_alone_lem RuleKind.Renju };
+
+    ghost black_reach = { refl };
+
+    ghost white_reach = { refl };
 
     fn wins(side: Side, length: u32) -> bool {
         match side {

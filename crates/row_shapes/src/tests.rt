@@ -1,8 +1,8 @@
 //! The shapes of rows on small examples.
 use crate::{
-    ExactFive, FivePoints, Freestyle, Renju, Rule, RuleKind, five_at, five_points, fives_in_short,
-    fives_made, fours_through, has_five, stones_in_reach, straight_through, three_points,
-    under_rule,
+    ExactFive, FivePoints, Freestyle, Renju, Rule, RuleKind, Shape, ShapeTable, Shapes, five_at,
+    five_points, fives_in_short, fives_made, fours_through, has_five, line_code, stones_in_reach,
+    straight_through, three_points, under_rule,
 };
 use std::alloc::AllocError;
 use std::process::Abort;
@@ -201,5 +201,94 @@ fn an_end_is_off_the_board_or_taken(rt: HostRuntime) -> Result<(), Fail> {
         made::<Renju>(&rt, &mut taken, Side::Black, (8, 7)),
         one(9, 7)
     );
+    Ok(())
+}
+
+fn shape(fours: u8, straight: bool, three: u16) -> Shape {
+    Shape {
+        five: false,
+        over: false,
+        fours,
+        straight,
+        three,
+    }
+}
+
+#[test]
+fn shapes_of_codes_that_are_known(rt: HostRuntime) -> Result<(), Fail> {
+    let near = ShapeTable::<4>::build(rt.alloc())?;
+    let far = ShapeTable::<5>::build(rt.alloc())?;
+    assert_eq!(rt; far.shape(0), shape(0, false, 0));
+    assert_eq!(rt; far.shape(324), shape(0, false, 136));
+    assert_eq!(rt; near.shape(108), shape(0, false, 136));
+    assert_eq!(rt; far.shape(1053), shape(1, true, 0));
+    Ok(())
+}
+
+fn put_digit(rt: &impl Abort, board: &mut Board, x: u8, digit: u32) {
+    let q = Point { x, y: 0 };
+    assert!(rt; board.is_empty(q));
+    match digit {
+        0 => {}
+        1 => board.put(q, Side::Black),
+        _ => board.put(q, Side::White),
+    }
+}
+
+// A board whose first row has the code around its middle.
+fn line_of(rt: &(impl Abort + AllocGlobal), reach: u8, code: u32) -> Result<Board, AllocError> {
+    assert!(rt; reach == 4 || reach == 5);
+    let mut board = Board::empty(rt.alloc(), 2 * reach + 1, 5)?;
+    let mut rest = code;
+    for j in 0..2 * reach {
+        let x = if j < reach { j } else { j + 1 };
+        put_digit(rt, &mut board, x, rest % 3);
+        rest /= 3;
+    }
+    let p = Point { x: reach, y: 0 };
+    assert!(rt; board.on(p));
+    assert_eq!(rt;
+        line_code(&board, p, Axis::Row, Side::Black, reach as usize),
+        code
+    );
+    Ok(board)
+}
+
+// The shape of a stone of Black in its row, told by the calls that walk a board.
+fn walked<R: Rule>(rt: &impl Abort, board: &mut Board, p: Point) -> Shape {
+    assert!(rt; board.is_empty(p));
+    board.put(p, Side::Black);
+    assert!(rt; board.holds(Side::Black, p));
+    let run = board.run(p, Axis::Row);
+    Shape {
+        five: R::wins(Side::Black, run),
+        over: run >= 6,
+        fours: fours_through::<R>(board, p, Axis::Row) as u8,
+        straight: straight_through::<R>(board, p, Axis::Row),
+        three: three_points::<R>(board, p, Axis::Row),
+    }
+}
+
+#[test]
+fn near_codes_as_walked(rt: HostRuntime) -> Result<(), Fail> {
+    let table = ShapeTable::<4>::build(rt.alloc())?;
+    for i in 0..385 {
+        let code = 17 * i + 4;
+        let mut board = line_of(&rt, 4, code)?;
+        let walked = walked::<Freestyle>(&rt, &mut board, Point { x: 4, y: 0 });
+        assert_eq!(rt; table.shape(code), walked, "code {code}");
+    }
+    Ok(())
+}
+
+#[test]
+fn far_codes_as_walked(rt: HostRuntime) -> Result<(), Fail> {
+    let table = ShapeTable::<5>::build(rt.alloc())?;
+    for i in 0..3473 {
+        let code = 17 * i + 5;
+        let mut board = line_of(&rt, 5, code)?;
+        let walked = walked::<ExactFive>(&rt, &mut board, Point { x: 5, y: 0 });
+        assert_eq!(rt; table.shape(code), walked, "code {code}");
+    }
     Ok(())
 }

@@ -115,7 +115,7 @@ fn wins_past<R: Rule>(board: &Board, side: Side, axis: Axis, p: Point, way: Way,
 }
 
 /// The place so many steps from place 5 in that way.
-fn place_towards(way: Way, k: u8) -> u8
+pub(crate) fn place_towards(way: Way, k: u8) -> u8
     requires near { k ≤ 5 }
     ensures place { result ≡ place_towards_lem way k }
     ensures bound { result < 11 }
@@ -127,7 +127,7 @@ fn place_towards(way: Way, k: u8) -> u8
 }
 
 /// The number with this bit alone.
-fn bit(place: Option<u8>) -> u16
+pub(crate) fn bit(place: Option<u8>) -> u16
     requires small { ForSome place (λ i. i < 11) }
     ensures bit { result ≡ bit_of_lem place }
     ensures bound { result < 2 ^ 11 }

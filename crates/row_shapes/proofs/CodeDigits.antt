@@ -1,0 +1,113 @@
+-- The codes of lines.
+use Rattle.std.proofs.Common.{◌≡◌, ℕ, zero, suc, ◌+◌, ◌-◌, ◌*◌, ◌^◌, ◌≤◌, ◌<◌, Bool, true, false, cond, refl, sym, ap, ◌∙◌, arith, nat_lt, drop}
+use Rattle.std.specs.Prelude.{Option, Some, None, map}
+use Rattle.game_rules.specs.Grid.{Grid, is_on}
+use Rattle.game_rules.specs.declared.Side.{Side}
+use Rattle.game_rules.specs.declared.Point.{Point}
+use Rattle.stone_board.specs.Steps.{kept_on}
+use Rattle.row_shapes.specs.LineCodes.{digit_at, from_digits, places_beside}
+
+-- ---- digits
+
+kept_by : (b : Grid) (s : Side) (q : Point) (r : Bool) → is_on b q ≡ r → digit_at b s (cond r (Some q) None) ≡ digit_at b s (Some q)
+unfolding digit_at
+kept_by b s q true h = refl
+kept_by b s q false h = rw h refl
+
+digit-kept : (b : Grid) (s : Side) (o : Option Point) → digit_at b s (kept_on b o) ≡ digit_at b s o
+digit-kept b s None = refl
+digit-kept b s (Some q) = kept_by b s q (is_on b q) refl
+
+off : (b : Grid) (s : Side) → digit_at b s None ≡ 2
+unfolding digit_at
+off b s = refl
+
+pub digit_none : (b : Grid) (s : Side) (o : Option Point) → kept_on b o ≡ None → digit_at b s o ≡ 2
+digit_none b s o h = sym (digit-kept b s o) ∙ ap (digit_at b s) h ∙ off b s
+
+pub digit_some : (b : Grid) (s : Side) (o : Option Point) (q : Point) → kept_on b o ≡ Some q → digit_at b s o ≡ digit_at b s (Some q)
+digit_some b s o q h = sym (digit-kept b s o) ∙ ap (digit_at b s) h
+
+-- ---- codes, digit by digit from the last one
+
+-- the place of neighbour j
+abbrev pub beside : ℕ → ℕ → ℕ
+beside reach j = cond (nat_lt j reach) j (j + 1)
+
+-- the code of the last k neighbours
+abbrev pub last_digits : (ℕ → ℕ) → ℕ → ℕ → ℕ
+last_digits f reach k = from_digits (drop (2 * reach - k) (map f (places_beside reach)))
+
+four_step : (f : ℕ → ℕ) (k : ℕ) → k < 8 → last_digits f 4 (k + 1) ≡ f (beside 4 (8 - 1 - k)) + 3 * last_digits f 4 k
+four_step f zero h = refl
+four_step f (suc zero) h = refl
+four_step f (suc (suc zero)) h = refl
+four_step f (suc (suc (suc zero))) h = refl
+four_step f (suc (suc (suc (suc zero)))) h = refl
+four_step f (suc (suc (suc (suc (suc zero))))) h = refl
+four_step f (suc (suc (suc (suc (suc (suc zero)))))) h = refl
+four_step f (suc (suc (suc (suc (suc (suc (suc zero))))))) h = refl
+four_step f (suc (suc (suc (suc (suc (suc (suc (suc k)))))))) h = absurd (omega arith)
+
+five_step : (f : ℕ → ℕ) (k : ℕ) → k < 10 → last_digits f 5 (k + 1) ≡ f (beside 5 (10 - 1 - k)) + 3 * last_digits f 5 k
+five_step f zero h = refl
+five_step f (suc zero) h = refl
+five_step f (suc (suc zero)) h = refl
+five_step f (suc (suc (suc zero))) h = refl
+five_step f (suc (suc (suc (suc zero)))) h = refl
+five_step f (suc (suc (suc (suc (suc zero))))) h = refl
+five_step f (suc (suc (suc (suc (suc (suc zero)))))) h = refl
+five_step f (suc (suc (suc (suc (suc (suc (suc zero))))))) h = refl
+five_step f (suc (suc (suc (suc (suc (suc (suc (suc zero)))))))) h = refl
+five_step f (suc (suc (suc (suc (suc (suc (suc (suc (suc zero))))))))) h = refl
+five_step f (suc (suc (suc (suc (suc (suc (suc (suc (suc (suc k)))))))))) h = absurd (omega arith)
+
+pub code_step : (f : ℕ → ℕ) (reach k : ℕ) → 4 ≤ reach → reach ≤ 5 → k < 2 * reach → last_digits f reach (k + 1) ≡ f (beside reach (2 * reach - 1 - k)) + 3 * last_digits f reach k
+code_step f zero k low high h = absurd (omega arith)
+code_step f (suc zero) k low high h = absurd (omega arith)
+code_step f (suc (suc zero)) k low high h = absurd (omega arith)
+code_step f (suc (suc (suc zero))) k low high h = absurd (omega arith)
+code_step f (suc (suc (suc (suc zero)))) k low high h = four_step f k h
+code_step f (suc (suc (suc (suc (suc zero))))) k low high h = five_step f k h
+code_step f (suc (suc (suc (suc (suc (suc reach)))))) k low high h = absurd (omega arith)
+
+pub code_start : (f : ℕ → ℕ) (reach : ℕ) → 4 ≤ reach → reach ≤ 5 → last_digits f reach 0 ≡ 0
+code_start f zero low high = absurd (omega arith)
+code_start f (suc zero) low high = absurd (omega arith)
+code_start f (suc (suc zero)) low high = absurd (omega arith)
+code_start f (suc (suc (suc zero))) low high = absurd (omega arith)
+code_start f (suc (suc (suc (suc zero)))) low high = refl
+code_start f (suc (suc (suc (suc (suc zero))))) low high = refl
+code_start f (suc (suc (suc (suc (suc (suc reach)))))) low high = absurd (omega arith)
+
+pub code_end : (f : ℕ → ℕ) (reach : ℕ) → last_digits f reach (2 * reach) ≡ from_digits (map f (places_beside reach))
+code_end f reach = let all : 2 * reach - 2 * reach ≡ 0 = omega arith in rw all refl
+
+-- ---- bounds
+
+-- one more digit
+pub pow_step : (k c x : ℕ) → k < 10 → c < 3 ^ k → x < 3 → 3 * c + x < 3 ^ (k + 1)
+pow_step zero c x h low few = omega arith
+pow_step (suc zero) c x h low few = omega arith
+pow_step (suc (suc zero)) c x h low few = omega arith
+pow_step (suc (suc (suc zero))) c x h low few = omega arith
+pow_step (suc (suc (suc (suc zero)))) c x h low few = omega arith
+pow_step (suc (suc (suc (suc (suc zero))))) c x h low few = omega arith
+pow_step (suc (suc (suc (suc (suc (suc zero)))))) c x h low few = omega arith
+pow_step (suc (suc (suc (suc (suc (suc (suc zero))))))) c x h low few = omega arith
+pow_step (suc (suc (suc (suc (suc (suc (suc (suc zero)))))))) c x h low few = omega arith
+pow_step (suc (suc (suc (suc (suc (suc (suc (suc (suc zero))))))))) c x h low few = omega arith
+pow_step (suc (suc (suc (suc (suc (suc (suc (suc (suc (suc k)))))))))) c x h low few = absurd (omega arith)
+
+pub pow_low : (k : ℕ) → k < 10 → 3 ^ k ≤ 19683
+pow_low zero h = omega arith
+pow_low (suc zero) h = omega arith
+pow_low (suc (suc zero)) h = omega arith
+pow_low (suc (suc (suc zero))) h = omega arith
+pow_low (suc (suc (suc (suc zero)))) h = omega arith
+pow_low (suc (suc (suc (suc (suc zero))))) h = omega arith
+pow_low (suc (suc (suc (suc (suc (suc zero)))))) h = omega arith
+pow_low (suc (suc (suc (suc (suc (suc (suc zero))))))) h = omega arith
+pow_low (suc (suc (suc (suc (suc (suc (suc (suc zero)))))))) h = omega arith
+pow_low (suc (suc (suc (suc (suc (suc (suc (suc (suc zero))))))))) h = omega arith
+pow_low (suc (suc (suc (suc (suc (suc (suc (suc (suc (suc k)))))))))) h = absurd (omega arith)

@@ -1,0 +1,157 @@
+-- The halves of a code: its first digits are those of the half behind, and the others those of the half ahead.
+use Rattle.std.proofs.Common.{◌≡◌, ℕ, zero, suc, ◌+◌, ◌*◌, ◌/◌, ◌%◌, ◌^◌, ◌≤◌, ◌<◌, ◌⊎◌, inl, inr, List, ◌++◌, refl, sym, subst, arith}
+use Rattle.std.specs.Prelude.{replicate}
+use Rattle.std.proofs.Math.Nat.{pow-succ'}
+use Rattle.game_rules.specs.Grid.{Grid, IsBoard, put}
+use Rattle.game_rules.specs.Shapes.{stone_at}
+use Rattle.game_rules.specs.declared.Cell.TheVariants.{Empty}
+use Rattle.game_rules.specs.declared.Side.TheVariants.{Black}
+use Rattle.game_rules.specs.declared.Axis.TheVariants.{Row}
+use Rattle.game_rules.proofs.Positions.{IsBoard-put}
+use Rattle.stone_board.specs.declared.board.Way.TheVariants.{Ahead, Behind}
+use Rattle.stone_board.specs.Steps.{towards}
+use Rattle.row_shapes.specs.LineCodes.{first_digits}
+use Rattle.row_shapes.specs.LineShapes.{line_cells, line_board, middle}
+use Rattle.row_shapes.specs.Halves.{owns, is_free, half_cells, free_at, SeesLine}
+
+-- ---- the digits of both halves
+
+rem_low : (low high power : ℕ) → (low + 3 * power * high) % 3 ≡ low % 3
+rem_low low high power = let more : low + 3 * power * high ≡ low + 3 * (power * high) = omega arith in rw more (omega arith)
+
+div_low : (low high power : ℕ) → (low + 3 * power * high) / 3 ≡ low / 3 + power * high
+div_low low high power = let more : low + 3 * power * high ≡ low + 3 * (power * high) = omega arith in rw more (omega arith)
+
+third_low : (low power : ℕ) → low < 3 * power → low / 3 < power
+third_low low power h = omega arith
+
+join_digits : (n m low high : ℕ) → low < 3 ^ n → first_digits (n + m) (low + 3 ^ n * high) ≡ first_digits n low ++ first_digits m high
+join_digits zero m low high h =
+    let none : low ≡ 0 = omega arith in
+    let all : 0 + m ≡ m = omega arith in
+    let same : low + 3 ^ 0 * high ≡ high = omega arith in
+    rw (all, same) refl
+join_digits (suc n) m low high h =
+    let power = pow-succ' 3 n in
+    let more : suc n + m ≡ suc (n + m) = omega arith in
+    let fits : low / 3 < 3 ^ n = third_low low (3 ^ n) (rw power at h) in
+    rw (more, power, rem_low low high (3 ^ n), div_low low high (3 ^ n), join_digits n m (low / 3) high fits) refl
+
+-- ---- the board of both halves
+
+abbrev board_of : ℕ → List ℕ → Grid
+board_of reach digits = record { width = 2 * reach + 1; height = 5; cells = line_cells reach digits ++ replicate (4 * (2 * reach + 1)) Empty }
+
+-- the board of the code with these digits, and a stone in its middle
+abbrev stone_board : ℕ → ℕ → ℕ → Grid
+stone_board reach low high = put (board_of reach (first_digits reach low ++ first_digits reach high)) Black (middle reach)
+
+module _ (low high : ℕ) where
+  four_ahead_stones : (k : ℕ) → 1 ≤ k → k ≤ 5 → stone_at (stone_board 4 low high) Black (towards Ahead Row (middle 4) k) ≡ owns (half_cells Ahead 4 high) k
+  four_ahead_stones zero some near = absurd (omega arith)
+  four_ahead_stones (suc zero) some near = refl
+  four_ahead_stones (suc (suc zero)) some near = refl
+  four_ahead_stones (suc (suc (suc zero))) some near = refl
+  four_ahead_stones (suc (suc (suc (suc zero)))) some near = refl
+  four_ahead_stones (suc (suc (suc (suc (suc zero))))) some near = refl
+  four_ahead_stones (suc (suc (suc (suc (suc (suc k)))))) some near = absurd (omega arith)
+
+  four_ahead_frees : (k : ℕ) → 1 ≤ k → k ≤ 5 → free_at (stone_board 4 low high) (towards Ahead Row (middle 4) k) ≡ is_free (half_cells Ahead 4 high) k
+  four_ahead_frees zero some near = absurd (omega arith)
+  four_ahead_frees (suc zero) some near = refl
+  four_ahead_frees (suc (suc zero)) some near = refl
+  four_ahead_frees (suc (suc (suc zero))) some near = refl
+  four_ahead_frees (suc (suc (suc (suc zero)))) some near = refl
+  four_ahead_frees (suc (suc (suc (suc (suc zero))))) some near = refl
+  four_ahead_frees (suc (suc (suc (suc (suc (suc k)))))) some near = absurd (omega arith)
+
+  four_behind_stones : (k : ℕ) → 1 ≤ k → k ≤ 5 → stone_at (stone_board 4 low high) Black (towards Behind Row (middle 4) k) ≡ owns (half_cells Behind 4 low) k
+  four_behind_stones zero some near = absurd (omega arith)
+  four_behind_stones (suc zero) some near = refl
+  four_behind_stones (suc (suc zero)) some near = refl
+  four_behind_stones (suc (suc (suc zero))) some near = refl
+  four_behind_stones (suc (suc (suc (suc zero)))) some near = refl
+  four_behind_stones (suc (suc (suc (suc (suc zero))))) some near = refl
+  four_behind_stones (suc (suc (suc (suc (suc (suc k)))))) some near = absurd (omega arith)
+
+  four_behind_frees : (k : ℕ) → 1 ≤ k → k ≤ 5 → free_at (stone_board 4 low high) (towards Behind Row (middle 4) k) ≡ is_free (half_cells Behind 4 low) k
+  four_behind_frees zero some near = absurd (omega arith)
+  four_behind_frees (suc zero) some near = refl
+  four_behind_frees (suc (suc zero)) some near = refl
+  four_behind_frees (suc (suc (suc zero))) some near = refl
+  four_behind_frees (suc (suc (suc (suc zero)))) some near = refl
+  four_behind_frees (suc (suc (suc (suc (suc zero))))) some near = refl
+  four_behind_frees (suc (suc (suc (suc (suc (suc k)))))) some near = absurd (omega arith)
+
+  four_board : IsBoard (stone_board 4 low high)
+  four_board = IsBoard-put (board_of 4 (first_digits 4 low ++ first_digits 4 high)) Black (middle 4) (record { wide = omega arith; width_fits = omega arith; high = omega arith; height_fits = omega arith; filled = refl })
+
+  four_line : SeesLine (half_cells Ahead 4 high) (half_cells Behind 4 low) (stone_board 4 low high) (middle 4)
+  four_line = record {
+    board = four_board;
+    stone = refl;
+    forth = record { places = refl; stones = four_ahead_stones; frees = four_ahead_frees };
+    back = record { places = refl; stones = four_behind_stones; frees = four_behind_frees };
+  }
+
+  five_ahead_stones : (k : ℕ) → 1 ≤ k → k ≤ 5 → stone_at (stone_board 5 low high) Black (towards Ahead Row (middle 5) k) ≡ owns (half_cells Ahead 5 high) k
+  five_ahead_stones zero some near = absurd (omega arith)
+  five_ahead_stones (suc zero) some near = refl
+  five_ahead_stones (suc (suc zero)) some near = refl
+  five_ahead_stones (suc (suc (suc zero))) some near = refl
+  five_ahead_stones (suc (suc (suc (suc zero)))) some near = refl
+  five_ahead_stones (suc (suc (suc (suc (suc zero))))) some near = refl
+  five_ahead_stones (suc (suc (suc (suc (suc (suc k)))))) some near = absurd (omega arith)
+
+  five_ahead_frees : (k : ℕ) → 1 ≤ k → k ≤ 5 → free_at (stone_board 5 low high) (towards Ahead Row (middle 5) k) ≡ is_free (half_cells Ahead 5 high) k
+  five_ahead_frees zero some near = absurd (omega arith)
+  five_ahead_frees (suc zero) some near = refl
+  five_ahead_frees (suc (suc zero)) some near = refl
+  five_ahead_frees (suc (suc (suc zero))) some near = refl
+  five_ahead_frees (suc (suc (suc (suc zero)))) some near = refl
+  five_ahead_frees (suc (suc (suc (suc (suc zero))))) some near = refl
+  five_ahead_frees (suc (suc (suc (suc (suc (suc k)))))) some near = absurd (omega arith)
+
+  five_behind_stones : (k : ℕ) → 1 ≤ k → k ≤ 5 → stone_at (stone_board 5 low high) Black (towards Behind Row (middle 5) k) ≡ owns (half_cells Behind 5 low) k
+  five_behind_stones zero some near = absurd (omega arith)
+  five_behind_stones (suc zero) some near = refl
+  five_behind_stones (suc (suc zero)) some near = refl
+  five_behind_stones (suc (suc (suc zero))) some near = refl
+  five_behind_stones (suc (suc (suc (suc zero)))) some near = refl
+  five_behind_stones (suc (suc (suc (suc (suc zero))))) some near = refl
+  five_behind_stones (suc (suc (suc (suc (suc (suc k)))))) some near = absurd (omega arith)
+
+  five_behind_frees : (k : ℕ) → 1 ≤ k → k ≤ 5 → free_at (stone_board 5 low high) (towards Behind Row (middle 5) k) ≡ is_free (half_cells Behind 5 low) k
+  five_behind_frees zero some near = absurd (omega arith)
+  five_behind_frees (suc zero) some near = refl
+  five_behind_frees (suc (suc zero)) some near = refl
+  five_behind_frees (suc (suc (suc zero))) some near = refl
+  five_behind_frees (suc (suc (suc (suc zero)))) some near = refl
+  five_behind_frees (suc (suc (suc (suc (suc zero))))) some near = refl
+  five_behind_frees (suc (suc (suc (suc (suc (suc k)))))) some near = absurd (omega arith)
+
+  five_board : IsBoard (stone_board 5 low high)
+  five_board = IsBoard-put (board_of 5 (first_digits 5 low ++ first_digits 5 high)) Black (middle 5) (record { wide = omega arith; width_fits = omega arith; high = omega arith; height_fits = omega arith; filled = refl })
+
+  five_line : SeesLine (half_cells Ahead 5 high) (half_cells Behind 5 low) (stone_board 5 low high) (middle 5)
+  five_line = record {
+    board = five_board;
+    stone = refl;
+    forth = record { places = refl; stones = five_ahead_stones; frees = five_ahead_frees };
+    back = record { places = refl; stones = five_behind_stones; frees = five_behind_frees };
+  }
+
+code_four : (low high : ℕ) → low < 3 ^ 4 → SeesLine (half_cells Ahead 4 high) (half_cells Behind 4 low) (put (line_board 4 (low + 3 ^ 4 * high)) Black (middle 4)) (middle 4)
+code_four low high h =
+    let P : List ℕ → Type 0 = λ digits. SeesLine (half_cells Ahead 4 high) (half_cells Behind 4 low) (put (board_of 4 digits) Black (middle 4)) (middle 4) in
+    subst P (sym (join_digits 4 4 low high h)) (four_line low high)
+
+code_five : (low high : ℕ) → low < 3 ^ 5 → SeesLine (half_cells Ahead 5 high) (half_cells Behind 5 low) (put (line_board 5 (low + 3 ^ 5 * high)) Black (middle 5)) (middle 5)
+code_five low high h =
+    let P : List ℕ → Type 0 = λ digits. SeesLine (half_cells Ahead 5 high) (half_cells Behind 5 low) (put (board_of 5 digits) Black (middle 5)) (middle 5) in
+    subst P (sym (join_digits 5 5 low high h)) (five_line low high)
+
+-- the halves of a code are what stands around the stone in the middle of its board
+pub code_line : (reach low high : ℕ) → (reach ≡ 4) ⊎ (reach ≡ 5) → low < 3 ^ reach → SeesLine (half_cells Ahead reach high) (half_cells Behind reach low) (put (line_board reach (low + 3 ^ reach * high)) Black (middle reach)) (middle reach)
+code_line reach low high (inl e) h = rw e (code_four low high (rw e at h))
+code_line reach low high (inr e) h = rw e (code_five low high (rw e at h))
