@@ -7,3 +7,12 @@ pub mod FourLaws
 pub mod Fates
 -- only the block of a four needs an answer of its own
 pub mod BlockLaw
+-- lines in one of two ways; where a four is filled, and a three becomes a straight four; few stones make no threat
+mod Rays
+pub mod FourEnds
+pub mod StraightPoints
+-- gains and double points
+pub mod GainLaws
+-- stones away from a three leave it as it was, and a white stone frees no three that makes a foul
+pub mod FewerEmpties
+pub mod FarStones

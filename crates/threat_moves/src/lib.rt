@@ -1,19 +1,26 @@
-//! Threats of the side to move, found on the board: five points, moves that make fours, and what becomes of a four.
+//! Threats of a side, found on the board: five points, moves that make fours and threes, what becomes of a four, double
+//! points, and all threats with one gain.
 //!
 //! A four move goes on and leaves its side a five point, which the other side has to block at once. Its fate is settled
 //! by the block alone (Allis, van den Herik and Huntjens, "Go-Moku and Threat-Space Search"). Each call plays on the view
-//! that it was lent and takes everything back, so the view is as before, also where memory ran out.
+//! or board that it was lent and takes everything back, so that it is as before, also where memory ran out.
 #![tactic(auto)]
 
 mod block;
+mod doubles;
 mod five_points;
+mod gains;
 mod laws;
 mod moves;
 #[cfg(test)]
 mod tests;
+mod threat_list;
 
 pub use block::{BlockAnswer, by_block, forced};
+pub use doubles::{is_double_point, is_new_double_point, three_moves};
 pub use five_points::{fives, fives_in_short, fives_made, has_five};
+pub use gains::{has_fouls, is_gain, is_threat, threats_at};
 pub use laws::{block_decides, others_leave_five};
 pub use moves::{four_moves, is_four_move};
 pub use row_shapes::FivePoints;
+pub use threat_list::{Threat, ThreatKind, Threats};

@@ -1,14 +1,14 @@
 //! Five points, four moves and their fates on worked positions. Expected values are from the rules by hand.
 
 use crate::{
-    BlockAnswer, FivePoints, fives, fives_in_short, fives_made, forced, four_moves, has_five,
-    is_four_move,
+    BlockAnswer, FivePoints, ThreatKind, fives, fives_in_short, fives_made, forced, four_moves,
+    has_five, is_double_point, is_four_move, threats_at, three_moves,
 };
 use foul_judge::{Outcome, Position, Seen};
 use row_shapes::{ExactFive, Freestyle, Renju, Rule};
 use std::alloc::{AllocError, Global};
 use std::test::Fail;
-use stone_board::{Board, Point, Side};
+use stone_board::{Axis, Board, Point, Side};
 
 fn at(x: u8, y: u8) -> Point {
     Point { x, y }
@@ -141,5 +141,57 @@ fn five_points_of_a_move_are_told_before_it(rt: HostRuntime) -> Result<(), Fail>
     )?;
     let end = FivePoints::One(at(8, 7));
     assert_eq!(rt; told::<Freestyle>(&mut view, at(9, 7)), Some((end, end)));
+    Ok(())
+}
+
+const DIAMOND: [(u8, u8); 4] = [(7, 6), (6, 7), (8, 7), (7, 8)];
+
+const CORNERS: [(u8, u8); 4] = [(0, 0), (14, 0), (0, 14), (14, 14)];
+
+#[test]
+fn a_double_three_is_a_three_move(rt: HostRuntime) -> Result<(), Fail> {
+    let mut view = position::<Freestyle>(rt.alloc(), &DIAMOND, &CORNERS)?.ok_or("unlawful")?;
+    let points = three_moves::<Freestyle, Position<Freestyle>>(rt.alloc(), &mut view)?;
+    assert!(rt; points.as_slice().contains(&at(7, 7)));
+    let mut board = view.into_board();
+    assert!(rt; !is_double_point::<Freestyle>(&mut board, Side::Black, at(7, 7)));
+    Ok(())
+}
+
+#[test]
+fn a_stone_off_the_axis_answers_a_three(rt: HostRuntime) -> Result<(), Fail> {
+    let mut board = Board::empty(rt.alloc(), 11, 11)?;
+    let black = [
+        (8, 2),
+        (5, 3),
+        (2, 4),
+        (3, 4),
+        (4, 5),
+        (5, 5),
+        (6, 5),
+        (7, 5),
+        (3, 6),
+        (4, 6),
+        (4, 8),
+        (5, 8),
+        (6, 8),
+        (8, 8),
+    ];
+    for (x, y) in black.iter() {
+        put(&mut board, at(*x, *y), Side::Black);
+    }
+    put(&mut board, at(10, 3), Side::White);
+    put(&mut board, at(1, 5), Side::White);
+    let gain = at(5, 2);
+    if !board.is_empty(gain) {
+        return Err(Fail::from("the gain is taken"));
+    }
+    let threats = threats_at::<Renju>(rt.alloc(), &mut board, Side::Black, gain)?;
+    assert_eq!(rt; threats.len(), 1);
+    let threat = threats.at(0);
+    assert_eq!(rt; threat.kind, ThreatKind::Three);
+    assert_eq!(rt; threat.axis, Axis::Column);
+    let expected = [at(5, 1), at(5, 4), at(5, 6), at(4, 7)];
+    assert_eq!(rt; threat.costs.as_slice(), expected.as_slice());
     Ok(())
 }
