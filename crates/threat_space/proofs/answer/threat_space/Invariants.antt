@@ -1,0 +1,13 @@
+use Rattle.std.proofs.Common.{◌≡◌, ◌+◌, ◌-◌, []}
+use Rattle.threat_space.specs.Sequences.{final_of}
+use Rattle.threat_space.proofs.Looked.{from_length}
+use Rattle.threat_space.proofs.answer.threat_space.Given as goal
+
+-- the board is as before and the path empty; what is found with the lengths left is what is found with all
+abbrev pub invariant-loop-count : goal.invariant-loop-count
+invariant-loop-count g l = record {
+  same : l.board ≡ l.fn.board;
+  path : l.path ≡ [];
+  rest : from_length g.R.Rule.KIND (final_of g.R.Rule.KIND l.side l.fn.board) l.side l.fn.board l.left l.count (l.length + 1 - l.count)
+      ≡ from_length g.R.Rule.KIND (final_of g.R.Rule.KIND l.side l.fn.board) l.side l.fn.board l.budget 0 (l.length + 1);
+}

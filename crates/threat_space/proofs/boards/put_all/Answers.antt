@@ -1,0 +1,11 @@
+use Rattle.std.proofs.Common.{◌+◌, drop, sym, ap, ◌∙◌}
+use Rattle.game_rules.specs.Grid.{Grid}
+use Rattle.threat_space.specs.Sequences.{with_stones}
+use Rattle.threat_space.proofs.Stones.{put-next}
+use Rattle.threat_space.proofs.boards.put_all.Goals as goal
+
+pub loop-p-preserved : goal.loop-p-preserved
+loop-p-preserved c =
+    ap (λ (b : Grid). with_stones b c.args.side (drop (c.loop-p.p-index + 1) c.args.points.now)) c.put_if_empty.ensures.put
+    ∙ sym (put-next c.loop-p.board c.args.side c.args.points.now c.loop-p.p-index c.loop-p-test.true)
+    ∙ c.loop-p.invariant

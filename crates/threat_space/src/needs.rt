@@ -1,0 +1,189 @@
+//! Which gains of a list of threats are needed, and its least final point.
+#![tactic(auto)]
+
+ghost use Rattle.std.specs.Prelude.{◌≡◌, IfOk, IfSome};
+ghost use Rattle.game_rules.specs.Grid.{Grid};
+ghost use Rattle.game_rules.specs.Games.{has_five as has_five_lem};
+ghost use Rattle.threat_space.specs.Sequences.{played_all, is_final_point as is_final_point_lem, threat_depends as threat_depends_lem, final_depends as final_depends_lem, is_needed as is_needed_lem, all_needed as all_needed_lem, is_sequence as is_sequence_lem, final_of as final_of_lem};
+ghost use Rattle.threat_space.specs.Lines.{is_aligned as is_aligned_lem, EndsAligned};
+
+use crate::boards::{played, without};
+use row_shapes::{Rule, five_at, has_five};
+use std::alloc::AllocError;
+use stone_board::{Board, Point, Side};
+use threat_moves::{Threat, has_fouls, is_double_point, is_new_double_point, is_threat};
+
+/// The least final point with which the list of threats is a sequence, if there is one. The threats lead from the first
+/// board to the second, which is as before.
+#[tactic(auto, unfolding(crate::specs::Sequences::final_of))]
+pub(crate) fn final_of<R: Rule>(
+    start: &Board,
+    board: &mut Board,
+    side: Side,
+    threats: &[Threat],
+) -> Result<Option<Point>, AllocError>
+    requires played { board.old ≡ played_all start.now side threats.now }
+    ensures least { IfOk result (λ found. found ≡ final_of_lem R.KIND side start.now threats.now) }
+    ensures same { board.new ≡ board.old }
+{
+    let some_five = has_five::<R>(board, side);
+    let aligned = gain_aligned::<R>(board, side, threats, some_five);
+    for p in start.points() {
+        if is_sequence::<R>(start, board, side, threats, p, some_five, aligned)? {
+            return Ok(Some(p));
+        }
+    }
+    Ok(None)
+}
+
+/// The last gain, if it holds its stone and a final point has to be on a line with it: that is so where the side has no fouls
+/// and, as is told, no five point. Else a final point far from a gain may depend on it. The threats lead from some board to
+/// this one.
+fn gain_aligned<R: Rule>(
+    board: &Board,
+    side: Side,
+    threats: &[Threat],
+    some_five: bool,
+) -> Option<Point>
+    requires five { some_five ≡ has_five_lem R.KIND board.now side }
+    ensures aligned { IfSome result (λ g. (start : Grid) → board.now ≡ played_all start side threats.now → EndsAligned R.KIND side start threats.now g) }
+{
+    let count = threats.len();
+    if some_five || has_fouls::<R>(side) || count == 0 {
+        return None;
+    }
+    let gain = threats[count - 1].gain;
+    if board.is_empty(gain) {
+        return None;
+    }
+    Some(gain)
+}
+
+/// Whether two points are on one line of some axis.
+fn is_aligned(p: Point, q: Point) -> bool
+    ensures aligned { result ≡ is_aligned_lem p q }
+{
+    let (x, y) = (u16::from(p.x), u16::from(p.y));
+    let (other_x, other_y) = (u16::from(q.x), u16::from(q.y));
+    other_y == y || other_x == x || other_x + y == x + other_y || other_x + other_y == x + y
+}
+
+/// Whether the list of threats is a sequence with this final point. The threats lead from the first board to the second, of
+/// which it is told whether the side has a five point there, and a gain, if there is one, with which a final point has to be on a
+/// line. It is as before.
+#[tactic(auto, unfolding(crate::specs::Sequences::is_sequence))]
+fn is_sequence<R: Rule>(
+    start: &Board,
+    board: &mut Board,
+    side: Side,
+    threats: &[Threat],
+    last: Point,
+    some_five: bool,
+    aligned: Option<Point>,
+) -> Result<bool, AllocError>
+    requires played { board.old ≡ played_all start.now side threats.now }
+    requires five { some_five ≡ has_five_lem R.KIND board.old side }
+    requires aligned { IfSome aligned (λ g. EndsAligned R.KIND side start.now threats.now g) }
+    ensures sequence { IfOk result (λ found. found ≡ is_sequence_lem R.KIND side start.now threats.now last) }
+    ensures same { board.new ≡ board.old }
+{
+    if let Some(gain) = aligned {
+        if !is_aligned(gain, last) {
+            return Ok(false);
+        }
+    }
+    if !is_final_point::<R>(board, side, last, some_five) {
+        return Ok(false);
+    }
+    all_needed::<R>(start, side, threats, last)
+}
+
+/// Whether the point is a final point of the side, of which it is told whether it has a five point. The board is as before.
+#[tactic(auto, unfolding(crate::specs::Sequences::is_final_point))]
+fn is_final_point<R: Rule>(board: &mut Board, side: Side, p: Point, some_five: bool) -> bool
+    requires five { some_five ≡ has_five_lem R.KIND board.old side }
+    ensures least { result ≡ is_final_point_lem R.KIND board.old side p }
+    ensures same { board.new ≡ board.old }
+{
+    if !some_five {
+        return is_new_double_point::<R>(board, side, p);
+    }
+    is_any_final_point::<R>(board, side, p)
+}
+
+/// Whether the point is a five point or a double point of the side. The board is as before.
+#[tactic(auto, unfolding(crate::specs::Sequences::is_final_point))]
+fn is_any_final_point<R: Rule>(board: &mut Board, side: Side, p: Point) -> bool
+    ensures least { result ≡ is_final_point_lem R.KIND board.old side p }
+    ensures same { board.new ≡ board.old }
+{
+    board.is_empty(p) && five_at::<R>(board, side, p) || is_double_point::<R>(board, side, p)
+}
+
+/// Whether each gain of these threats, which follow one another from the board, is one that a later threat or the final
+/// point depends on.
+fn all_needed<R: Rule>(
+    board: &Board,
+    side: Side,
+    threats: &[Threat],
+    last: Point,
+) -> Result<bool, AllocError>
+    ensures needed { IfOk result (λ needed. needed ≡ all_needed_lem R.KIND side last board.now threats.now) }
+{
+    let mut here = board.copy()?;
+    for (i, threat) in threats.iter().enumerate() {
+        here = played(&here, side, threat)?;
+        if !is_needed::<R>(&here, side, threat.gain, &threats[i + 1..], last)? {
+            return Ok(false);
+        }
+    }
+    Ok(true)
+}
+
+/// Whether one of these threats, which follow one another from the board, or the final point after them depends on the gain.
+fn is_needed<R: Rule>(
+    board: &Board,
+    side: Side,
+    gain: Point,
+    threats: &[Threat],
+    last: Point,
+) -> Result<bool, AllocError>
+    ensures needed { IfOk result (λ needed. needed ≡ is_needed_lem R.KIND side last board.now gain threats.now) }
+{
+    let mut here = board.copy()?;
+    for threat in threats {
+        if threat_depends::<R>(&here, side, gain, threat)? {
+            return Ok(true);
+        }
+        here = played(&here, side, threat)?;
+    }
+    final_depends::<R>(&here, side, gain, last)
+}
+
+/// Whether the threat is none without the stone on the gain.
+#[tactic(auto, unfolding(crate::specs::Sequences::threat_depends))]
+fn threat_depends<R: Rule>(
+    board: &Board,
+    side: Side,
+    gain: Point,
+    threat: &Threat,
+) -> Result<bool, AllocError>
+    ensures depends { IfOk result (λ depends. depends ≡ threat_depends_lem R.KIND board.now side gain threat.now) }
+{
+    let mut other = without(board, gain)?;
+    Ok(!is_threat::<R>(&mut other, side, threat.gain, threat.axis, threat.kind))
+}
+
+/// Whether the final point is none without the stone on the gain.
+#[tactic(auto, unfolding(crate::specs::Sequences::final_depends))]
+fn final_depends<R: Rule>(
+    board: &Board,
+    side: Side,
+    gain: Point,
+    last: Point,
+) -> Result<bool, AllocError>
+    ensures depends { IfOk result (λ depends. depends ≡ final_depends_lem R.KIND board.now side gain last) }
+{
+    let mut other = without(board, gain)?;
+    Ok(!is_any_final_point::<R>(&mut other, side, last))
+}

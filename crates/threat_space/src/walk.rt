@@ -1,0 +1,128 @@
+//! The walk through the lists of some number of threats, in their order.
+//!
+//! Each list that is completed is looked at, for 1 of the budget. The threats on the way are kept in a path, which is as before
+//! after each answer.
+#![tactic(auto)]
+
+ghost use Rattle.std.specs.Prelude.{◌≡◌, ◌++◌, [], ◌∷◌, map, IfOk, OnOk};
+ghost use Rattle.threat_space.specs.Sequences.{played_all, final_of as final_of_lem, lists_of, lists_from};
+ghost use Rattle.threat_space.specs.Looking.{looked};
+
+use crate::boards::played;
+use crate::needs::final_of;
+use row_shapes::Rule;
+use std::alloc::{AllocError, Global};
+use stone_board::{Board, Point, Side};
+use threat_moves::{Threat, Threats, threats_at};
+
+/// What is found among some lists, with what is left of the budget.
+#[derive(Drop)]
+pub(crate) enum Looked {
+    /// The first sequence among them: its threats, and its final point.
+    Sequence(Threats, Point),
+    /// None of them is one; so much of the budget is left.
+    NoSequence(u64),
+    /// There are more of them than the budget.
+    Spent,
+}
+
+/// Looks at the lists that begin with those of the path, which leads from the first board to the second, and go on with exactly
+/// so many threats more. The board and the path are as before.
+#[cycle(walk)]
+pub(crate) fn walk<R: Rule>(
+    alloc: Global,
+    start: &Board,
+    board: &mut Board,
+    side: Side,
+    more: u32,
+    path: &mut Threats,
+    budget: u64,
+) -> Result<Looked, AllocError>
+    requires played { board.old ≡ played_all start.now side path.old }
+    ensures looked { IfOk result (λ found. found ≡ looked (final_of_lem R.KIND side start.now) budget (map (λ ts. path.old ++ ts) (lists_of R.KIND side more board.old))) }
+    ensures same { board.new ≡ board.old }
+    ensures path { IfOk result (λ found. path.new ≡ path.old) }
+{
+    if more == 0 {
+        return look_at::<R>(alloc, start, board, side, path, budget);
+    }
+    let mut left = budget;
+    for gain in board.points() {
+        if board.is_empty(gain) {
+            let threats = threats_at::<R>(alloc, board, side, gain)?;
+            match walk_from::<R>(
+                alloc,
+                start,
+                board,
+                side,
+                threats.as_slice(),
+                more - 1,
+                path,
+                left,
+            )? {
+                Looked::NoSequence(rest) => left = rest,
+                found => return Ok(found),
+            }
+        }
+    }
+    Ok(Looked::NoSequence(left))
+}
+
+/// The same of the lists that go on with one of these threats and then with so many more.
+#[cycle(walk)]
+fn walk_from<R: Rule>(
+    alloc: Global,
+    start: &Board,
+    board: &Board,
+    side: Side,
+    threats: &[Threat],
+    more: u32,
+    path: &mut Threats,
+    budget: u64,
+) -> Result<Looked, AllocError>
+    requires played { board.now ≡ played_all start.now side path.old }
+    ensures looked { IfOk result (λ found. found ≡ looked (final_of_lem R.KIND side start.now) budget (map (λ ts. path.old ++ ts) (lists_from (lists_of R.KIND side more) side board.now threats.now))) }
+    ensures path { IfOk result (λ found. path.new ≡ path.old) }
+{
+    let mut left = budget;
+    for threat in threats {
+        let mut next = played(board, side, threat)?;
+        lengthen(alloc, path, threat)?;
+        let found = walk::<R>(alloc, start, &mut next, side, more, path, left)?;
+        path.drop_last();
+        match found {
+            Looked::NoSequence(rest) => left = rest,
+            found => return Ok(found),
+        }
+    }
+    Ok(Looked::NoSequence(left))
+}
+
+/// Adds a copy of the threat at the end of the path.
+fn lengthen(alloc: Global, path: &mut Threats, threat: &Threat) -> Result<(), AllocError>
+    ensures longer { OnOk result (path.new ≡ path.old ++ threat.now ∷ []) }
+{
+    path.push(threat.copy(alloc)?)
+}
+
+/// Looks at the list of the path, which leads from the first board to the second. The board is as before.
+fn look_at<R: Rule>(
+    alloc: Global,
+    start: &Board,
+    board: &mut Board,
+    side: Side,
+    path: &Threats,
+    budget: u64,
+) -> Result<Looked, AllocError>
+    requires played { board.old ≡ played_all start.now side path.now }
+    ensures looked { IfOk result (λ found. found ≡ looked (final_of_lem R.KIND side start.now) budget (path.now ∷ [])) }
+    ensures same { board.new ≡ board.old }
+{
+    if budget == 0 {
+        return Ok(Looked::Spent);
+    }
+    match final_of::<R>(start, board, side, path.as_slice())? {
+        Some(last) => Ok(Looked::Sequence(path.copy(alloc)?, last)),
+        None => Ok(Looked::NoSequence(budget - 1)),
+    }
+}
