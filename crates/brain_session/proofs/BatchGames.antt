@@ -1,12 +1,12 @@
 -- The side to move on the board of a batch.
-use Rattle.std.proofs.Common.{◌≡◌, ℕ, suc, ◌+◌, Bool, true, false, cond, not, refl, sym, ap, ◌∙◌, arith, List, [], ◌∷◌, get_or}
+use Rattle.std.proofs.Common.{◌≡◌, inl, inr, ℕ, suc, ◌+◌, Bool, true, false, cond, not, refl, sym, ap, ◌∙◌, arith, List, [], ◌∷◌, get_or}
 use Rattle.std.specs.Prelude.{Option, Some, None, ◌==◌, All, AllPairs, IfSome, IsSome, if◌then◌else◌}
 use Rattle.std.specs.List.{count_by}
 use Rattle.std.proofs.lemmas.Bool.Decides.{nat_tests}
 use Rattle.std.proofs.lemmas.List.Sums.{sum_by-cons}
 use Rattle.game_rules.specs.Grid.{Grid, IsBoard, is_empty, is_stone_of, stone_of, put, stones_of}
 use Rattle.game_rules.specs.Shapes.{is_same_point}
-use Rattle.game_rules.specs.Play.{mover, other}
+use Rattle.game_rules.specs.Play.{NamesMover, mover, other}
 use Rattle.game_rules.specs.declared.Side.{Side}
 use Rattle.game_rules.specs.declared.Side.TheVariants.{Black, White}
 use Rattle.game_rules.proofs.Boards.{is_empty-on, is_empty-put}
@@ -74,20 +74,44 @@ mover-by White b own others mine theirs colour = by_test (own == others) refl wh
 none : (n k : ℕ) → n ≡ 0 → n + k ≡ k
 none n k e = omega arith
 
+-- the stones of either side on the board of a batch are those that the batch names as its own
+pub batch-counts : (brain : Side) (width height : ℕ) (stones : List BatchStone) (bad : Bool) → IsBoard (empty_board width height) → StonesFit (empty_board width height) (record { stones = stones; bad = bad })
+    → (stones_of (with_stones brain (empty_board width height) stones) brain ≡ count_by (λ x. x.own) stones) × (stones_of (with_stones brain (empty_board width height) stones) (other brain) ≡ count_by (λ x. not x.own) stones)
+batch-counts brain width height stones bad board fit =
+    let b : Grid = empty_board width height in
+    let empty : All (λ x. is_empty b x.at ≡ true) stones = λ k d less. empty-empty width height (get_or stones k d).at (fit.on_board k d less) in (
+      stones_of-with brain brain stones b board empty fit.distinct
+          ∙ none (stones_of b brain) (count_by (λ x. is_stone_of brain (stone_of (side_of brain x))) stones) (no-stones width height brain)
+          ∙ count_by-same (λ x. is_stone_of brain (stone_of (side_of brain x))) (λ x. x.own) stones (λ x. own_stone brain x.own),
+      stones_of-with brain (other brain) stones b board empty fit.distinct
+          ∙ none (stones_of b (other brain)) (count_by (λ x. is_stone_of (other brain) (stone_of (side_of brain x))) stones) (no-stones width height (other brain))
+          ∙ count_by-same (λ x. is_stone_of (other brain) (stone_of (side_of brain x))) (λ x. not x.own) stones (λ x. other_stone brain x.own),
+    )
+
 -- on the board of a batch whose stones name the brain's colour, the brain is to move
 pub batch-mover : (brain : Side) (width height : ℕ) (stones : List BatchStone) (bad : Bool) → IsBoard (empty_board width height) → StonesFit (empty_board width height) (record { stones = stones; bad = bad }) → colour_in stones ≡ Some brain → mover (with_stones brain (empty_board width height) stones) ≡ brain
 batch-mover brain width height stones bad board fit colour =
-    let b : Grid = empty_board width height in
-    let empty : All (λ x. is_empty b x.at ≡ true) stones = λ k d less. empty-empty width height (get_or stones k d).at (fit.on_board k d less) in
-    let mine : stones_of (with_stones brain b stones) brain ≡ count_by (λ x. x.own) stones =
-    stones_of-with brain brain stones b board empty fit.distinct
-    ∙ none (stones_of b brain) (count_by (λ x. is_stone_of brain (stone_of (side_of brain x))) stones) (no-stones width height brain)
-    ∙ count_by-same (λ x. is_stone_of brain (stone_of (side_of brain x))) (λ x. x.own) stones (λ x. own_stone brain x.own) in
-    let theirs : stones_of (with_stones brain b stones) (other brain) ≡ count_by (λ x. not x.own) stones =
-    stones_of-with brain (other brain) stones b board empty fit.distinct
-    ∙ none (stones_of b (other brain)) (count_by (λ x. is_stone_of (other brain) (stone_of (side_of brain x))) stones) (no-stones width height (other brain))
-    ∙ count_by-same (λ x. is_stone_of (other brain) (stone_of (side_of brain x))) (λ x. not x.own) stones (λ x. other_stone brain x.own) in
-    mover-by brain (with_stones brain b stones) (count_by (λ x. x.own) stones) (count_by (λ x. not x.own) stones) mine theirs colour
+    let counts = batch-counts brain width height stones bad board fit in
+    mover-by brain (with_stones brain (empty_board width height) stones) (count_by (λ x. x.own) stones) (count_by (λ x. not x.own) stones) counts.0 counts.1 colour
+
+-- where the counts of the batch's board name the brain as the side to move, its stones name the brain's colour
+pub batch-colour : (brain : Side) (b : Grid) (own others : ℕ) → NamesMover b → mover b ≡ brain → stones_of b brain ≡ own → stones_of b (other brain) ≡ others → colour_by own others ≡ Some brain
+batch-colour Black b own others names turn mine theirs = by_test (stones_of b Black == stones_of b White) refl where
+  by_test : (r : Bool) → (stones_of b Black == stones_of b White) ≡ r → colour_by own others ≡ Some Black
+  by_test true e = let even : (own == others) ≡ true = rw (mine, theirs) at e in rw even refl
+  by_test false e = let wrong : White ≡ Black = rw e at turn in cc
+batch-colour White b own others names turn mine theirs = by_test (stones_of b Black == stones_of b White) refl where
+  one_more : NamesMover b → (stones_of b Black == stones_of b White) ≡ false → others ≡ own + 1
+  one_more (inl even) e = absurd (let same : (stones_of b Black == stones_of b White) ≡ true = grind (arith, nat_tests) in let wrong : true ≡ false = sym same ∙ e in cc)
+  one_more (inr more) e = sym theirs ∙ more ∙ ap (λ (n : ℕ). n + 1) mine
+
+  by_test : (r : Bool) → (stones_of b Black == stones_of b White) ≡ r → colour_by own others ≡ Some White
+  by_test true e = let wrong : Black ≡ White = rw e at turn in cc
+  by_test false e =
+      let more = one_more names e in
+      let differ : (own == others) ≡ false = grind (arith, nat_tests) in
+      let next : (others == own + 1) ≡ true = grind (arith, nat_tests) in
+      rw (differ, next) refl
 
 -- the same on the board that a batch gave, where one is read
 pub batch-to_move : (o : Option Batch) (brain : Side) (width height : ℕ) (c : Grid) → IsSome o → IsBoard (empty_board width height) → IfSome o (StonesFit (empty_board width height)) → IfSome o (λ b. Some brain ≡ colour_in b.stones) → IfSome o (λ b. c ≡ with_stones brain (empty_board width height) b.stones) → mover c ≡ brain

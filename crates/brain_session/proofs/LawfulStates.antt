@@ -335,8 +335,9 @@ step_lawful s (Chooses g) h l = (placed_lawful s (InGame (with_choice g (chosen 
 abbrev pub IsKept : HeldTable → State → Type 0
 IsKept held s = LawfulState s × (s.held ≡ held)
 
-next_lawful : (held : HeldTable) (s : State) (c : Command) → IsKept held s → IsKept held (brain_step s c).next
-next_lawful held s c h = let l = step_lawful s (row_of s c) h.0 (row-lawful s c h.0) in (l.0, l.1 ∙ h.1)
+-- each command leaves it so
+pub next-lawful : (held : HeldTable) (s : State) (c : Command) → IsKept held s → IsKept held (brain_step s c).next
+next-lawful held s c h = let l = step_lawful s (row_of s c) h.0 (row-lawful s c h.0) in (l.0, l.1 ∙ h.1)
 
 then_lawful : (held : HeldTable) (r : Reaction) (s later : State) → IsKept held s → IsKept held later → IsKept held (then_state r s later)
 then_lawful held Silent s later h k = k
@@ -347,7 +348,7 @@ pub session-lawful : (held : HeldTable) (s : State) (cs : List Command) → IsKe
 unfolding state_after
 session-lawful held s [] h = h
 session-lawful held s (c ∷ cs) h =
-    let next = next_lawful held s c h in
+    let next = next-lawful held s c h in
     then_lawful held (brain_step s c).reaction (brain_step s c).next (state_after (brain_step s c).next cs) next (session-lawful held (brain_step s c).next cs next)
 
 pub new-lawful : (held : HeldTable) → IsKept held (new_brain held)

@@ -5,7 +5,7 @@ mod Stones
 -- the point next to the middle
 mod PlainMoves
 -- a board with the moves on it; whether two boards are one
-mod PlayedMoves
+pub mod PlayedMoves
 -- what the brain follows, move by move
 pub mod Guiding
 -- the win that it finds itself
@@ -34,6 +34,6 @@ pub mod HeldReplies
 pub mod HeldWins
 -- games in which a held node is followed: one reply, each later command
 mod HeldPlays
-mod HeldSteps
+pub mod HeldSteps
 -- what is true of the state whatever was told
 pub mod LawfulStates

@@ -16,4 +16,4 @@ mod Copying
 mod Finishing
 mod Starting
 -- the table of a tree is one
-mod Unique
+pub mod Unique
