@@ -56,7 +56,7 @@ module _ (rule : RuleKind) (n : ℕ) (b : Grid) (lawful : IsPosition rule b) whe
     by_empty false e = trying-no_four rule n b p left (taken-no_four rule b p e)
 
   -- points that give nothing may be left out
-  try_all-filter : (f : Point → Bool) → ((p : Point) (l : ℕ) → f p ≡ false → found_trying rule n b p l ≡ NoWin l) → (left : ℕ) (ps : List Point) → try_all rule n b left ps ≡ try_all rule n b left (filter f ps)
+  pub try_all-filter : (f : Point → Bool) → ((p : Point) (l : ℕ) → f p ≡ false → found_trying rule n b p l ≡ NoWin l) → (left : ℕ) (ps : List Point) → try_all rule n b left ps ≡ try_all rule n b left (filter f ps)
   unfolding try_all
   try_all-filter f skip left [] = refl
   try_all-filter f skip left (p ∷ ps) = by_test (f p) refl (λ l. try_all-filter f skip l ps) where
@@ -101,7 +101,7 @@ only b w on = by_points (filter (λ p. is_same_point p w) (points_of b)) refl wh
 -- ---- five points of the defender
 
 module _ (rule : RuleKind) (b : Grid) (lawful : IsPosition rule b) (p : Point) (empty : is_empty b p ≡ true) where
-  one-stays : (w : Point) → in_short (five_points rule b (other (mover b))) ≡ OnePoint w → is_same_point p w ≡ false → has_five rule (after b p) (other (mover b)) ≡ true
+  pub one-stays : (w : Point) → in_short (five_points rule b (other (mover b))) ≡ OnePoint w → is_same_point p w ≡ false → has_five rule (after b p) (other (mover b)) ≡ true
   one-stays w h differ =
       has_five-one rule (after b p) (other (mover b)) w (one-left rule b (mover b) p lawful.board empty w h (λ same. let yes : is_same_point p w ≡ true = ap (is_same_point p) (sym same) ∙ is_same_point-itself p in let no : false ≡ true = sym differ ∙ yes in cc))
 
@@ -252,3 +252,7 @@ module _ (rule : RuleKind) (n : ℕ) (b : Grid) (p : Point) (budget : ℕ) where
   trying-some made e some on = sym (trying-four rule n b p budget four) where
     four : is_four_move rule b p ≡ true
     four = ap (λ o. goes_on_with o (has_five rule (after b p) (mover b))) on ∙ some_five made e some
+
+  pub trying-goes : has_five rule (after b p) (mover b) ≡ true → outcome rule b p ≡ GoesOn → found_behind rule n b p budget ≡ found_trying rule n b p budget
+  unfolding is_four_move
+  trying-goes some on = sym (trying-four rule n b p budget (ap (λ o. goes_on_with o (has_five rule (after b p) (mover b))) on ∙ some))

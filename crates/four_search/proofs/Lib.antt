@@ -12,6 +12,22 @@ mod Planning
 mod Growing
 mod Naming
 mod Sums
-mod Written
+pub mod Written
 -- one move of a win by fours, and the node that stands for its plan
 pub mod Following
+-- depths that look at as many positions as the one before
+mod Rounds
+-- the gaps beside a stone; points in reading order, and one more in its place
+mod GapRuns
+mod Listing
+mod Joining
+-- the points that make a five point, tried
+mod Taking
+-- what a search remembers
+mod Remembering
+-- moves that make no five
+mod Outcomes
+-- the gaps from all stones
+mod Scanning
+-- points that no move on their lines has changed
+mod Beside

@@ -49,7 +49,7 @@ unfolding Following
 Following-later p q [] h k = k
 Following-later p q (r ∷ ps) h k = (later p q r h k.0, k.1)
 
-precedes-from : (p q : Point) → From p.y (p.x + 1) q → precedes p q ≡ true
+pub precedes-from : (p q : Point) → From p.y (p.x + 1) q → precedes p q ≡ true
 precedes-from p q (inl h) = let e : nat_lt p.y q.y ≡ true = grind (arith, nat_tests) in rw e refl
 precedes-from p q (inr h) =
     let e : nat_eq p.y q.y ≡ true = eq-eqb _ _ h.0 in

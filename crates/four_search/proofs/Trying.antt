@@ -56,7 +56,7 @@ try_all-none rule n b left = refl
 -- ---- one step, at a board that is the one tried
 
 module _ (rule : RuleKind) (n : ℕ) (b : Grid) (left : ℕ) (p : Point) (ps qs : List Point) (left_are : ps ≡ p ∷ qs) where
-  step_at : (f : Found) → found_trying rule n b p left ≡ f → try_all rule n b left ps ≡ found_next f (λ l. try_all rule n b l qs)
+  pub step_at : (f : Found) → found_trying rule n b p left ≡ f → try_all rule n b left ps ≡ found_next f (λ l. try_all rule n b l qs)
   unfolding try_all
   step_at f e = ap (try_all rule n b left) left_are ∙ ap (λ f. found_next f (λ l. try_all rule n b l qs)) e
 
@@ -131,7 +131,7 @@ module _ (rule : RuleKind) (n : ℕ) (b : Grid) (lawful : IsPosition rule b) (no
   test p = starts_win (has_five rule) rule b (wins_by_fours rule n) p
 
   -- the positions behind the move
-  abbrev behind : Point → ℕ
+  abbrev pub behind : Point → ℕ
   behind p = cond (is_four_move rule b p) (positions_behind rule n (after b p)) 0
 
   abbrev line : Option Point → List Point
@@ -210,7 +210,7 @@ module _ (rule : RuleKind) (b : Grid) (lawful : IsPosition rule b) (none : has_f
   tried-is : (n : ℕ) → tried rule (suc n) b ≡ until (test rule n b lawful none) (points_of b)
   tried-is n = ap (λ (o : Option Point). until (λ p. is_at p o) (points_of b)) (move-is n) ∙ until-find (test rule n b lawful none) (points_of b)
 
-  tree-is : (n : ℕ) → four_tree rule (suc n) b ≡ 1 + sum_by (behind rule n b lawful none) (until (test rule n b lawful none) (points_of b))
+  pub tree-is : (n : ℕ) → four_tree rule (suc n) b ≡ 1 + sum_by (behind rule n b lawful none) (until (test rule n b lawful none) (points_of b))
   unfolding four_tree
   tree-is zero = ap (λ t. 1 + t) (sym (no_positions rule b (until (test rule zero b lawful none) (points_of b))))
   tree-is (suc m) =
@@ -265,7 +265,7 @@ found-five rule (suc n) budget b some moves fits =
       tree zero = refl
       tree (suc m) = ap (λ r. cond r 1 (1 + sum_by (behind_move rule b (four_tree rule (suc m))) (tried rule (suc (suc m)) b))) some
 
-tree-some : (rule : RuleKind) (n : ℕ) (b : Grid) → 0 < four_tree rule n b
+pub tree-some : (rule : RuleKind) (n : ℕ) (b : Grid) → 0 < four_tree rule n b
 unfolding four_tree
 tree-some rule zero b = omega arith
 tree-some rule (suc zero) b = omega arith

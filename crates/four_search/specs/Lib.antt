@@ -1,6 +1,9 @@
 pub mod FourGame
 pub mod Searching
 pub mod Makers
+pub mod Roots
+pub mod Remembering
 pub mod Plans
 pub mod Growth
 pub mod Answers
+pub mod Gaps

@@ -1,14 +1,81 @@
--- Sets of points that hold each point at which the side to move makes a five point.
-use Rattle.std.specs.Prelude.{◌≡◌, ◌+◌, ◌*◌, Bool, true, false, ◌||◌, ◌==◌, List, get_or}
-use Rattle.game_rules.specs.Grid.{Grid, is_empty}
-use Rattle.game_rules.specs.Play.{outcome, mover, other, after}
-use Rattle.game_rules.specs.Games.{has_five}
+-- The points at which a stone of the side to move makes a five point.
+use Rattle.std.specs.Prelude.{◌≡◌, ℕ, suc, ◌+◌, Bool, true, false, ◌&&◌, ◌||◌, ◌==◌, if◌then◌else◌, List, [], ◌∷◌, map}
+use Rattle.std.specs.List.{filter, list_any}
+use Rattle.game_rules.specs.Grid.{Grid, is_empty, points_of}
+use Rattle.game_rules.specs.Shapes.{is_same_point}
+use Rattle.game_rules.specs.Play.{IsPosition, outcome, mover, after}
+use Rattle.game_rules.specs.Games.{has_five, five_points}
 use Rattle.game_rules.specs.declared.RuleKind.{RuleKind}
 use Rattle.game_rules.specs.declared.Outcome.TheVariants.{GoesOn}
 use Rattle.game_rules.specs.declared.Axis.{Axis}
 use Rattle.game_rules.specs.declared.Axis.TheVariants.{Row, Column, Down, Up}
 use Rattle.game_rules.specs.declared.Point.{Point}
-use Rattle.game_rules.specs.declared.TheConstants.{MAX_SIDE}
+use Rattle.row_shapes.specs.FivePoints.{in_short}
+use Rattle.row_shapes.specs.declared.fives.FivePoints.{FivePoints}
+use Rattle.row_shapes.specs.declared.fives.FivePoints.TheVariants.{None, One, Several}
+use Rattle.strategy_graph.specs.Tables.{precedes}
+use Rattle.four_search.specs.declared.makers.Maker.{Maker}
+
+-- whether the point is empty, and with a stone on it the side to move has a five point
+abbrev pub makes : RuleKind → Grid → Point → Bool
+makes rule b q = is_empty b q && has_five rule (after b q) (mover b)
+
+-- the point, and the five points of the side to move with a stone on it
+abbrev pub maker_at : RuleKind → Grid → Point → Maker
+maker_at rule b q = record { at = q; made = in_short (five_points rule (after b q) (mover b)) }
+
+-- the points that pass a test, in reading order
+abbrev pub makers_by : RuleKind → Grid → (Point → Bool) → List Maker
+makers_by rule b f = map (maker_at rule b) (filter f (points_of b))
+
+-- the points that make a five point, in reading order
+abbrev pub makers_of : RuleKind → Grid → List Maker
+makers_of rule b = makers_by rule b (makes rule b)
+
+-- the point, if it makes a five point
+abbrev pub still_at : RuleKind → Grid → Point → List Maker
+still_at rule b q = if makes rule b q then maker_at rule b q ∷ [] else []
+
+-- the points of a list that make a five point
+abbrev pub still_of : RuleKind → Grid → List Maker → List Maker
+still_of rule b ms = map (maker_at rule b) (filter (makes rule b) (map (λ m. m.at) ms))
+
+-- whether the point is one of the list
+abbrev pub has_maker : List Maker → Point → Bool
+has_maker ms q = list_any (λ m. is_same_point m.at q) ms
+
+-- how many of the list stand before the first that does not precede q
+abbrev pub place_in : Point → List Maker → ℕ
+place_in q [] = 0
+place_in q (m ∷ ms) = if precedes m.at q then suc (place_in q ms) else 0
+
+-- some of the points that make a five point, in reading order
+pub record AreMakers (rule : RuleKind) (b : Grid) (ms : List Maker) : Type 0 where
+  pub has : Point → Bool
+  pub are : ms ≡ makers_by rule b has
+  pub make : (q : Point) → has q ≡ true → makes rule b q ≡ true
+
+-- the new list has all points of the old one, and each that is wanted, if it makes a five point
+pub record Joins (rule : RuleKind) (b : Grid) (old new : List Maker) (wanted : Point → Type 0) : Type 0 where
+  pub makers : AreMakers rule b new
+  pub kept : (q : Point) → has_maker old q ≡ true → has_maker new q ≡ true
+  pub joined : (q : Point) → wanted q → makes rule b q ≡ true → has_maker new q ≡ true
+
+-- c comes by the move p from a lawful position without a five point, and these are the points that made a five point there
+pub record AfterFour (rule : RuleKind) (ms : List Maker) (p : Point) (c : Grid) : Type 0 where
+  pub first : Grid
+  pub lawful : IsPosition rule first
+  pub none : has_five rule first (mover first) ≡ false
+  pub on : outcome rule first p ≡ GoesOn
+  pub is : c ≡ after first p
+  pub makers : ms ≡ makers_of rule first
+
+-- b comes from such a position by the reply w
+pub record AfterReply (rule : RuleKind) (ms : List Maker) (p w : Point) (b : Grid) : Type 0 where
+  pub four : Grid
+  pub from : AfterFour rule ms p four
+  pub on : outcome rule four w ≡ GoesOn
+  pub is : b ≡ after four w
 
 -- whether two points are on one line of the axis
 abbrev pub on_line : Axis → Point → Point → Bool
@@ -21,20 +88,25 @@ on_line Up p q = p.x + p.y == q.x + q.y
 abbrev pub on_lines : Point → Point → Bool
 on_lines p q = on_line Row p q || on_line Column p q || on_line Down p q || on_line Up p q
 
--- whether the set has the point: there is a test for each place, MAX_SIDE places a row
-abbrev pub is_in : List Bool → Point → Bool
-is_in set q = get_or set (q.y * MAX_SIDE + q.x) true
+-- m is one of the points that made a five point in the lawful position from which b comes by the moves p and w
+pub record WasMaker (rule : RuleKind) (p w : Point) (b : Grid) (m : Maker) : Type 0 where
+  pub first : Grid
+  pub lawful : IsPosition rule first
+  pub none : has_five rule first (mover first) ≡ false
+  pub on : outcome rule first p ≡ GoesOn
+  pub reply : outcome rule (after first p) w ≡ GoesOn
+  pub is : b ≡ after (after first p) w
+  pub made : makes rule first m.at ≡ true
+  pub told : m ≡ maker_at rule first m.at
 
--- no empty point outside the set makes a five point for the side to move
-abbrev pub Covers : RuleKind → Grid → List Bool → Type 0
-Covers rule b set = (q : Point) → is_empty b q ≡ true → is_in set q ≡ false → has_five rule (after b q) (mover b) ≡ false
+-- whether a stone on the point takes all of these five points of the other side
+abbrev pub takes : FivePoints → Point → Bool
+takes None p = true
+takes (One w) p = is_same_point p w
+takes Several p = false
 
--- no empty point that is outside the set and not on a line with p makes a five point for the side to move
-abbrev pub CoversBeside : RuleKind → Grid → List Bool → Point → Type 0
-CoversBeside rule b set p =
-    (q : Point) → is_empty b q ≡ true → is_in set q ≡ false → on_lines q p ≡ false → has_five rule (after b q) (mover b) ≡ false
-
--- the same after each reply at c that goes on and leaves the other side no five point
-abbrev pub CoversAfter : RuleKind → Grid → List Bool → Point → Type 0
-CoversAfter rule c set p =
-    (w : Point) → outcome rule c w ≡ GoesOn → has_five rule (after c w) (other (mover c)) ≡ false → CoversBeside rule (after c w) set p
+-- with these five points of the other side no stone takes all of them and makes a five point
+abbrev pub RulesOut : RuleKind → Grid → FivePoints → Type 0
+RulesOut rule b None = ⊥
+RulesOut rule b (One w) = has_five rule (after b w) (mover b) ≡ false
+RulesOut rule b Several = Unit {0}

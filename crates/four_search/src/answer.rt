@@ -1,10 +1,11 @@
 //! The search for wins by continuous fours, depth after depth.
 //!
 //! Each depth is searched anew with what is left of the budget, so the first win has the fewest moves; only then is its
-//! plan compiled.
+//! plan compiled. A depth without a win that looks at no more positions than the one before has seen all that there are:
+//! the greater ones look at the same, so they are counted and not searched.
 #![tactic(auto)]
 
-ghost use Rattle.std.specs.Prelude.{◌≡◌, ◌↔◌, ◌<◌, ◌≤◌, ◌+◌, ◌*◌, true, false, length, IfOk, OnErr, IsErrOf};
+ghost use Rattle.std.specs.Prelude.{◌≡◌, ◌↔◌, ◌<◌, ◌≤◌, ◌+◌, ◌*◌, true, false, length, nat_le, if◌then◌else◌, IfOk, OnErr, IsErrOf};
 ghost use Rattle.game_rules.specs.Games.{WinsByFours, wins_by_fours};
 ghost use Rattle.strategy_graph.specs.declared.TheConstants.{MAX_NODES};
 ghost use Rattle.four_search.specs.declared.TheConstants.{MAX_DEPTH};
@@ -13,7 +14,9 @@ ghost use Rattle.four_search.specs.Growth.{GrowsBy};
 ghost use Rattle.four_search.specs.Answers.{OnWin, IsFourWin, most_added};
 
 use crate::SearchError;
+use crate::memo::Memo;
 use crate::plan::compile;
+use crate::root::look;
 use crate::search::{Found, search};
 use foul_judge::Seen;
 use row_shapes::Rule;
@@ -70,13 +73,25 @@ pub fn four_search<R: Rule, V: Seen<R>>(
     ensures same { V.position view.new ≡ V.position view.old }
 {
     view.side();
+    let Ok(root) = look::<R, V>(alloc, view) else {
+        return Err(SearchError::Memory);
+    };
+    let mut memo = Memo::new(alloc);
     let mut left = budget;
+    let mut before = 0;
     for done in 0..depth {
         let moves = done + 1;
-        match search::<R, V>(alloc, view, moves, left) {
+        match search::<R, V>(alloc, view, &root, moves, left, &mut memo) {
             Err(_) => return Err(SearchError::Memory),
             Ok(Found::Spent) => return Ok(FourAnswer::Spent),
-            Ok(Found::NoWin { left: rest }) => left = rest,
+            Ok(Found::NoWin { left: rest }) => {
+                let looked = left - rest;
+                if looked == before {
+                    return Ok(all_alike(looked, depth - moves, rest));
+                }
+                before = looked;
+                left = rest;
+            }
             Ok(Found::Win { left: _, line }) => {
                 let node = compile::<R, V>(alloc, view, moves, line.as_slice(), compiler)?;
                 return Ok(FourAnswer::Win(WrittenWin { node, moves }));
@@ -84,4 +99,16 @@ pub fn four_search<R: Rule, V: Seen<R>>(
         }
     }
     Ok(FourAnswer::None)
+}
+
+/// The answer where each of the depths that are left looks at so many positions, and none has a win.
+fn all_alike(looked: u64, depths: u32, left: u64) -> FourAnswer
+    requires some { 0 < looked }
+    ensures answer { result ≡ (if nat_le (depths * looked) left then FourAnswer.None else FourAnswer.Spent) }
+{
+    if u64::from(depths) <= left / looked {
+        FourAnswer::None
+    } else {
+        FourAnswer::Spent
+    }
 }

@@ -6,8 +6,11 @@
 #![tactic(auto)]
 
 mod answer;
+mod gaps;
 mod makers;
+mod memo;
 mod plan;
+mod root;
 mod search;
 #[cfg(test)]
 mod tests;

@@ -2,12 +2,12 @@
 //!
 //! The walk counts each position in which the attacker is to move against the budget, and stops where that is spent. It
 //! tries the fours in reading order and ends at the first that wins, so it knows the chosen move of each position on the
-//! way to the win. Only its first position is scanned for five points: further on they are those that the last two moves
-//! made, and where the defender has one, the only move that may help is to take it. Else the points are tried that made a
-//! five point before these two moves, and those on a line with the first of them.
+//! way to the win. No position is scanned for five points: they are those that the last two moves made, and where the defender
+//! has one, the only move that may help is to take it. A four makes a five point, and the points that do are kept in a short
+//! list from move to move. A position without a win that comes again is counted, and not searched again.
 #![tactic(auto)]
 
-ghost use Rattle.std.specs.Prelude.{◌≡◌, ◌<◌, ◌≤◌, ◌+◌, [], ◌∷◌, ◌++◌, true, false, IfOk, IsTrue, Some};
+ghost use Rattle.std.specs.Prelude.{◌≡◌, ◌<◌, ◌≤◌, ◌+◌, ◌-◌, if◌then◌else◌, nat_le, [], ◌∷◌, ◌++◌, true, false, IfOk, IsTrue, Some};
 ghost use Rattle.game_rules.specs.Grid.{is_empty};
 ghost use Rattle.game_rules.specs.Play.{IsPosition, after, outcome, mover, other as other_lem, has_fouls as has_fouls_lem};
 ghost use Rattle.game_rules.specs.Games.{has_five as has_five_lem, five_points};
@@ -15,18 +15,19 @@ ghost use Rattle.threat_moves.specs.FourMoves.{is_four_move};
 ghost use Rattle.threat_moves.specs.OneBlock.{all_foul as all_foul_lem, won_within as won_within_lem};
 ghost use Rattle.threat_moves.specs.Blocks.{fate as fate_lem};
 ghost use Rattle.row_shapes.specs.FivePoints.{in_short};
-ghost use Rattle.four_search.specs.Makers.{Covers, CoversBeside, CoversAfter};
+ghost use Rattle.four_search.specs.Makers.{makers_of, takes as takes_lem, AfterFour, AfterReply, RulesOut};
+ghost use Rattle.four_search.specs.Remembering.{IsTrueMemo};
+ghost use Rattle.four_search.specs.Roots.{TellsRoot};
 ghost use Rattle.four_search.specs.Searching.{found_at, found_trying, found_behind, found_answering};
 
-use crate::makers::{PLACES, all_points, has, makers, makes};
+use crate::makers::{Maker, is_same, next_makers};
+use crate::memo::Memo;
+use crate::root::Root;
 use foul_judge::{Outcome, Seen};
 use row_shapes::Rule;
 use std::alloc::{AllocError, Global};
 use stone_board::{Point, Points, Side};
 use threat_moves::{BlockAnswer, FivePoints, by_block};
-
-/// The first point of a board.
-const CORNER: Point = Point { x: 0, y: 0 };
 
 /// What a search within some moves finds, and how much of the budget it leaves.
 #[derive(Drop)]
@@ -40,36 +41,98 @@ pub(crate) enum Found {
     Spent,
 }
 
-/// Searches a win by fours within so many moves, at least 1, with at most `budget` positions. The view is as before, also
-/// where memory ran out.
+/// Searches a win by fours within so many moves, at least 1, with at most `budget` positions. The first position is looked at
+/// already. The view is as before, also where memory ran out.
 pub(crate) fn search<R: Rule, V: Seen<R>>(
+    alloc: Global,
+    view: &mut V,
+    root: &Root,
+    moves: u32,
+    budget: u64,
+    memo: &mut Memo,
+) -> Result<Found, AllocError>
+    requires some { 0 < moves }
+    requires lawful { IsPosition R.KIND (V.position view.old) }
+    requires root { TellsRoot R.KIND (V.position view.old) root.now }
+    requires memo { IsTrueMemo R.KIND memo.old }
+    ensures found { IfOk result (λ found. found ≡ found_at R.KIND moves (V.position view.old) budget) }
+    ensures memo { IsTrueMemo R.KIND memo.new }
+    ensures same { V.position view.new ≡ V.position view.old }
+{
+    if budget == 0 {
+        return Ok(Found::Spent);
+    }
+    match root {
+        Root::Five => Ok(Found::Win {
+            left: budget - 1,
+            line: Points::new(alloc),
+        }),
+        Root::NoFive { threat, makers } => try_makers::<R, V>(
+            alloc,
+            view,
+            *threat,
+            makers.as_slice(),
+            moves,
+            budget,
+            memo,
+        ),
+    }
+}
+
+/// Searches a position that comes after a four and its block, or takes what is remembered of it within as many moves. The
+/// attacker has no five point, the defender's are known in short, and the budget is not spent. The points are known that made a
+/// five point before the last two moves, the attacker's `last` and the reply to it.
+#[cycle(search)]
+fn remembered<R: Rule, V: Seen<R>>(
     alloc: Global,
     view: &mut V,
     moves: u32,
     budget: u64,
+    threat: FivePoints,
+    before: &[Maker],
+    last: Point,
+    reply: Point,
+    memo: &mut Memo,
 ) -> Result<Found, AllocError>
     requires some { 0 < moves }
+    requires lawful { IsPosition R.KIND (V.position view.old) }
+    requires some_budget { 0 < budget }
+    requires none { has_five_lem R.KIND (V.position view.old) (mover (V.position view.old)) ≡ false }
+    requires threat { threat ≡ in_short (five_points R.KIND (V.position view.old) (other_lem (mover (V.position view.old)))) }
+    requires before { AfterReply R.KIND before.now last reply (V.position view.old) }
+    requires memo { IsTrueMemo R.KIND memo.old }
     ensures found { IfOk result (λ found. found ≡ found_at R.KIND moves (V.position view.old) budget) }
+    ensures memo { IsTrueMemo R.KIND memo.new }
     ensures same { V.position view.new ≡ V.position view.old }
-    ensures lawful { IsPosition R.KIND (V.position view.old) }
 {
-    let attacker = view.side();
-    if budget == 0 {
-        return Ok(Found::Spent);
+    if let Some(count) = memo.find(view.board(), moves) {
+        return Ok(without_win(count, budget));
     }
-    if view.has_five(attacker) {
-        return Ok(Found::Win {
-            left: budget - 1,
-            line: Points::new(alloc),
-        });
+    match search_on::<R, V>(
+        alloc, view, moves, budget, threat, before, last, reply, memo,
+    )? {
+        Found::NoWin { left } => {
+            memo.keep(view.board(), moves, budget - left);
+            Ok(Found::NoWin { left })
+        }
+        found => Ok(found),
     }
-    let threat = view.fives_in_short(attacker.other());
-    search_on::<R, V>(alloc, view, moves, budget, threat, &all_points(), CORNER)
 }
 
-/// The same where the attacker has no five point, the defender's are known in short, and the budget is not spent. A five
-/// point of the defender has to be taken. The points that make a five point are in the set before, or on a line with the
-/// attacker's last move.
+/// What is found where a search looks at so many positions and finds no win.
+fn without_win(count: u64, budget: u64) -> Found
+    ensures found { result ≡ (if nat_le count budget then Found.NoWin (budget - count) else Found.Spent) }
+{
+    if count <= budget {
+        Found::NoWin {
+            left: budget - count,
+        }
+    } else {
+        Found::Spent
+    }
+}
+
+/// Searches the same where it is not remembered.
 #[cycle(search)]
 fn search_on<R: Rule, V: Seen<R>>(
     alloc: Global,
@@ -77,57 +140,69 @@ fn search_on<R: Rule, V: Seen<R>>(
     moves: u32,
     budget: u64,
     threat: FivePoints,
-    before: &[bool; PLACES],
+    before: &[Maker],
     last: Point,
+    reply: Point,
+    memo: &mut Memo,
 ) -> Result<Found, AllocError>
     requires some { 0 < moves }
     requires lawful { IsPosition R.KIND (V.position view.old) }
     requires some_budget { 0 < budget }
     requires none { has_five_lem R.KIND (V.position view.old) (mover (V.position view.old)) ≡ false }
     requires threat { threat ≡ in_short (five_points R.KIND (V.position view.old) (other_lem (mover (V.position view.old)))) }
-    requires before { CoversBeside R.KIND (V.position view.old) before.now last }
+    requires before { AfterReply R.KIND before.now last reply (V.position view.old) }
+    requires memo { IsTrueMemo R.KIND memo.old }
     ensures found { IfOk result (λ found. found ≡ found_at R.KIND moves (V.position view.old) budget) }
+    ensures memo { IsTrueMemo R.KIND memo.new }
     ensures same { V.position view.new ≡ V.position view.old }
 {
+    if rules_out::<R, V>(view, threat) {
+        return Ok(Found::NoWin { left: budget - 1 });
+    }
+    let makers = next_makers::<R, V>(alloc, view, before, last, reply)?;
+    try_makers::<R, V>(alloc, view, threat, makers.as_slice(), moves, budget, memo)
+}
+
+/// Whether no four can be made, since these five points of the other side have to be taken first.
+fn rules_out<R: Rule, V: Seen<R>>(view: &V, threat: FivePoints) -> bool
+    requires none { has_five_lem R.KIND (V.position view.now) (mover (V.position view.now)) ≡ false }
+    requires threat { threat ≡ in_short (five_points R.KIND (V.position view.now) (other_lem (mover (V.position view.now)))) }
+    ensures out { result ≡ true → RulesOut R.KIND (V.position view.now) threat }
+{
     match threat {
-        FivePoints::Several => Ok(Found::NoWin { left: budget - 1 }),
-        FivePoints::One(point) => {
-            if makes::<R, V>(view, before, last, point) {
-                let found = makers::<R, V>(view, before, last);
-                try_point::<R, V>(alloc, view, point, &found, moves - 1, budget - 1)
-            } else {
-                Ok(Found::NoWin { left: budget - 1 })
-            }
-        }
-        FivePoints::None => {
-            let found = makers::<R, V>(view, before, last);
-            try_each::<R, V>(alloc, view, &found, moves, budget)
-        }
+        FivePoints::None => false,
+        FivePoints::Several => true,
+        FivePoints::One(point) => matches!(view.fives_made(point), FivePoints::None),
     }
 }
 
-/// The same where neither side has a five point: each point of a set is tried that has those which make a five point.
+/// The same where the points are known that make a five point: of these each is tried that leaves the defender none.
 #[cycle(search)]
-fn try_each<R: Rule, V: Seen<R>>(
+fn try_makers<R: Rule, V: Seen<R>>(
     alloc: Global,
     view: &mut V,
-    makers: &[bool; PLACES],
+    threat: FivePoints,
+    makers: &[Maker],
     moves: u32,
     budget: u64,
+    memo: &mut Memo,
 ) -> Result<Found, AllocError>
     requires some { 0 < moves }
     requires lawful { IsPosition R.KIND (V.position view.old) }
     requires some_budget { 0 < budget }
     requires none { has_five_lem R.KIND (V.position view.old) (mover (V.position view.old)) ≡ false }
-    requires safe { has_five_lem R.KIND (V.position view.old) (other_lem (mover (V.position view.old))) ≡ false }
-    requires covers { Covers R.KIND (V.position view.old) makers.now }
+    requires threat { threat ≡ in_short (five_points R.KIND (V.position view.old) (other_lem (mover (V.position view.old)))) }
+    requires makers { makers.now ≡ makers_of R.KIND (V.position view.old) }
+    requires memo { IsTrueMemo R.KIND memo.old }
     ensures found { IfOk result (λ found. found ≡ found_at R.KIND moves (V.position view.old) budget) }
+    ensures memo { IsTrueMemo R.KIND memo.new }
     ensures same { V.position view.new ≡ V.position view.old }
 {
     let mut left = budget - 1;
-    for p in view.board().points() {
-        if may_make::<R, V>(view, makers, p) {
-            match try_point::<R, V>(alloc, view, p, makers, moves - 1, left)? {
+    for maker in makers {
+        let p = maker.at;
+        if takes(threat, p) {
+            match try_point::<R, V>(alloc, view, p, maker.made, makers, moves - 1, left, memo)? {
                 Found::NoWin { left: rest } => left = rest,
                 found => return Ok(found),
             }
@@ -136,39 +211,43 @@ fn try_each<R: Rule, V: Seen<R>>(
     Ok(Found::NoWin { left })
 }
 
-/// Whether a point of the board is empty and in a set that has those which make a five point.
-fn may_make<R: Rule, V: Seen<R>>(view: &V, makers: &[bool; PLACES], p: Point) -> bool
-    requires covers { Covers R.KIND (V.position view.now) makers.now }
-    ensures empty { result ≡ true → is_empty (V.position view.now) p ≡ true }
-    ensures four { result ≡ false → is_four_move R.KIND (V.position view.now) p ≡ false }
+/// Whether a stone on the point takes all of these five points of the other side.
+fn takes(threat: FivePoints, p: Point) -> bool
+    ensures takes { result ≡ takes_lem threat p }
 {
-    view.board().is_empty(p) && has(makers, p)
+    match threat {
+        FivePoints::None => true,
+        FivePoints::One(point) => is_same(p, point),
+        FivePoints::Several => false,
+    }
 }
 
-/// Searches behind the move `p`, if it is a four move, where the attacker has so many moves after it. The attacker has no
-/// five point before it, and the defender none after it.
+/// Searches behind the move `p`, if it is a four move, where the attacker has so many moves after it. It makes these five
+/// points. The attacker has no five point before it, and the defender none after it.
 #[cycle(search)]
 fn try_point<R: Rule, V: Seen<R>>(
     alloc: Global,
     view: &mut V,
     p: Point,
-    makers: &[bool; PLACES],
+    made: FivePoints,
+    makers: &[Maker],
     moves: u32,
     budget: u64,
+    memo: &mut Memo,
 ) -> Result<Found, AllocError>
     requires empty { IsTrue (is_empty (V.position view.old) p) }
     requires none { has_five_lem R.KIND (V.position view.old) (mover (V.position view.old)) ≡ false }
+    requires some { has_five_lem R.KIND (after (V.position view.old) p) (mover (V.position view.old)) ≡ true }
+    requires made { made ≡ in_short (five_points R.KIND (after (V.position view.old) p) (mover (V.position view.old))) }
     requires safe { has_five_lem R.KIND (after (V.position view.old) p) (other_lem (mover (V.position view.old))) ≡ false }
-    requires covers { Covers R.KIND (V.position view.old) makers.now }
+    requires makers { makers.now ≡ makers_of R.KIND (V.position view.old) }
+    requires memo { IsTrueMemo R.KIND memo.old }
     ensures found { IfOk result (λ found. found ≡ found_trying R.KIND moves (V.position view.old) p budget) }
+    ensures memo { IsTrueMemo R.KIND memo.new }
     ensures same { V.position view.new ≡ V.position view.old }
 {
-    let made = view.fives_made(p);
-    if let FivePoints::None = made {
-        return Ok(Found::NoWin { left: budget });
-    }
-    match view.outcome(p) {
-        Outcome::GoesOn => behind::<R, V>(alloc, view, p, made, makers, moves, budget),
+    match no_five_outcome::<R, V>(view, p) {
+        Outcome::GoesOn => behind::<R, V>(alloc, view, p, made, makers, moves, budget, memo),
         _ => Ok(Found::NoWin { left: budget }),
     }
 }
@@ -180,19 +259,23 @@ fn behind<R: Rule, V: Seen<R>>(
     view: &mut V,
     p: Point,
     made: FivePoints,
-    makers: &[bool; PLACES],
+    makers: &[Maker],
     moves: u32,
     budget: u64,
+    memo: &mut Memo,
 ) -> Result<Found, AllocError>
     requires goes_on { outcome R.KIND (V.position view.old) p ≡ Outcome.GoesOn }
+    requires none { has_five_lem R.KIND (V.position view.old) (mover (V.position view.old)) ≡ false }
     requires made { made ≡ in_short (five_points R.KIND (after (V.position view.old) p) (mover (V.position view.old))) }
     requires safe { has_five_lem R.KIND (after (V.position view.old) p) (other_lem (mover (V.position view.old))) ≡ false }
-    requires covers { Covers R.KIND (V.position view.old) makers.now }
+    requires makers { makers.now ≡ makers_of R.KIND (V.position view.old) }
+    requires memo { IsTrueMemo R.KIND memo.old }
     ensures found { IfOk result (λ found. found ≡ found_behind R.KIND moves (V.position view.old) p budget) }
+    ensures memo { IsTrueMemo R.KIND memo.new }
     ensures same { V.position view.new ≡ V.position view.old }
 {
     view.play(p);
-    let found = answering::<R, V>(alloc, view, p, made, makers, moves, budget);
+    let found = answering::<R, V>(alloc, view, p, made, makers, moves, budget, memo);
     view.undo(p);
     match found? {
         Found::Win { left, line } => win_by(p, line, left),
@@ -208,14 +291,17 @@ fn answering<R: Rule, V: Seen<R>>(
     view: &mut V,
     p: Point,
     made: FivePoints,
-    makers: &[bool; PLACES],
+    makers: &[Maker],
     moves: u32,
     budget: u64,
+    memo: &mut Memo,
 ) -> Result<Found, AllocError>
     requires made { made ≡ in_short (five_points R.KIND (V.position view.old) (other_lem (mover (V.position view.old)))) }
     requires safe { has_five_lem R.KIND (V.position view.old) (mover (V.position view.old)) ≡ false }
-    requires covers { CoversAfter R.KIND (V.position view.old) makers.now p }
+    requires makers { AfterFour R.KIND makers.now p (V.position view.old) }
+    requires memo { IsTrueMemo R.KIND memo.old }
     ensures found { IfOk result (λ found. found ≡ found_answering R.KIND moves (V.position view.old) budget) }
+    ensures memo { IsTrueMemo R.KIND memo.new }
     ensures same { V.position view.new ≡ V.position view.old }
 {
     match fate::<R, V>(view, made) {
@@ -234,7 +320,7 @@ fn answering<R: Rule, V: Seen<R>>(
             if moves == 0 {
                 Ok(Found::NoWin { left: budget })
             } else {
-                after_block::<R, V>(alloc, view, p, block, makers, moves, budget)
+                after_block::<R, V>(alloc, view, p, block, makers, moves, budget, memo)
             }
         }
     }
@@ -247,16 +333,19 @@ fn after_block<R: Rule, V: Seen<R>>(
     view: &mut V,
     p: Point,
     block: Point,
-    makers: &[bool; PLACES],
+    makers: &[Maker],
     moves: u32,
     budget: u64,
+    memo: &mut Memo,
 ) -> Result<Found, AllocError>
     requires goes_on { outcome R.KIND (V.position view.old) block ≡ Outcome.GoesOn }
     requires one { in_short (five_points R.KIND (V.position view.old) (other_lem (mover (V.position view.old)))) ≡ FivePoints.One block }
     requires safe { has_five_lem R.KIND (V.position view.old) (mover (V.position view.old)) ≡ false }
-    requires covers { CoversAfter R.KIND (V.position view.old) makers.now p }
+    requires makers { AfterFour R.KIND makers.now p (V.position view.old) }
     requires some { 0 < moves }
+    requires memo { IsTrueMemo R.KIND memo.old }
     ensures found { IfOk result (λ found. found ≡ found_at R.KIND moves (after (V.position view.old) block) budget) }
+    ensures memo { IsTrueMemo R.KIND memo.new }
     ensures same { V.position view.new ≡ V.position view.old }
 {
     if budget == 0 {
@@ -268,7 +357,7 @@ fn after_block<R: Rule, V: Seen<R>>(
     }
     let threat = view.fives_made(block);
     view.play(block);
-    let found = search_on::<R, V>(alloc, view, moves, budget, threat, makers, p);
+    let found = remembered::<R, V>(alloc, view, moves, budget, threat, makers, p, block, memo);
     view.undo(block);
     found
 }
@@ -284,7 +373,25 @@ fn fate<R: Rule, V: Seen<R>>(view: &mut V, made: FivePoints) -> BlockAnswer
     match made {
         FivePoints::None => BlockAnswer::Lost,
         FivePoints::Several => BlockAnswer::Won,
-        FivePoints::One(block) => by_block(block, view.outcome(block)),
+        FivePoints::One(block) => by_block(block, no_five_outcome::<R, V>(view, block)),
+    }
+}
+
+/// The outcome of a move that makes no five. It can only foul or fill the board, so where its side has no fouls no line is
+/// looked at. The view is as before.
+fn no_five_outcome<R: Rule, V: Seen<R>>(view: &mut V, p: Point) -> Outcome
+    requires empty { IsTrue (is_empty (V.position view.old) p) }
+    requires none { has_five_lem R.KIND (V.position view.old) (mover (V.position view.old)) ≡ false }
+    ensures outcome { result ≡ outcome R.KIND (V.position view.old) p }
+    ensures same { V.position view.new ≡ V.position view.old }
+{
+    if has_fouls::<R>(view.side()) {
+        return view.outcome(p);
+    }
+    if view.board().empties() == 1 {
+        Outcome::Draws
+    } else {
+        Outcome::GoesOn
     }
 }
 

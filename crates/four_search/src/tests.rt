@@ -93,6 +93,48 @@ const BLOCK_IN_SIX: Case = Case {
     answer: "2 moves: 7,3 wins; 6,3 rest 0; ",
 };
 
+/// Five threes that are closed at one end, far from each other. The fours of each can be played among those of the others.
+const CLOSED_THREES: Case = Case {
+    rule: RuleKind::Freestyle,
+    black: &[
+        (1, 0),
+        (2, 0),
+        (3, 0),
+        (1, 3),
+        (2, 3),
+        (3, 3),
+        (1, 6),
+        (2, 6),
+        (3, 6),
+        (1, 9),
+        (2, 9),
+        (3, 9),
+        (1, 12),
+        (2, 12),
+        (3, 12),
+    ],
+    white: &[
+        (0, 0),
+        (9, 1),
+        (14, 1),
+        (0, 3),
+        (12, 3),
+        (14, 5),
+        (0, 6),
+        (12, 7),
+        (0, 9),
+        (14, 9),
+        (12, 11),
+        (0, 12),
+        (10, 13),
+        (14, 13),
+        (8, 14),
+    ],
+    depth: 60,
+    budget: 351_370,
+    answer: "none",
+};
+
 /// The position with these stones on a board of 15, if it is lawful.
 fn position<R: Rule>(alloc: Global, case: &Case) -> Result<Option<Position<R>>, AllocError> {
     let mut board = Board::empty(alloc, 15, 15)?;
@@ -248,6 +290,22 @@ fn a_block_that_goes_on_is_searched(rt: HostRuntime) -> Result<(), Fail> {
             budget: 12,
             answer: "spent",
             ..BLOCK_IN_SIX
+        },
+    ];
+    for case in &cases {
+        assert_eq!(rt; answer(rt.alloc(), case)?.as_str(), case.answer);
+    }
+    Ok(())
+}
+
+#[test]
+fn positions_that_come_again_count_again(rt: HostRuntime) -> Result<(), Fail> {
+    let cases = [
+        CLOSED_THREES,
+        Case {
+            budget: 351_369,
+            answer: "spent",
+            ..CLOSED_THREES
         },
     ];
     for case in &cases {

@@ -1,4 +1,4 @@
-use Rattle.std.proofs.Common.{rules, ◌≡◌, ◌+◌, true, false, ap, sym, subst, ◌∙◌, arith, length, ℕ, refl}
+use Rattle.std.proofs.Common.{rules, ◌≡◌, ◌+◌, ◌-◌, ◌<◌, true, false, ap, sym, subst, ◌∙◌, arith, length, ℕ, refl}
 use Rattle.game_rules.specs.Grid.{Grid}
 use Rattle.game_rules.specs.Play.{IsPosition}
 use Rattle.four_search.specs.declared.search.Found.TheVariants.{Win, NoWin, Spent}
@@ -7,7 +7,19 @@ use Rattle.strategy_compiler.specs.Trees.{StandsFor}
 use Rattle.four_search.specs.Plans.{four_plan}
 use Rattle.four_search.proofs.Deepening.{win-here, win-cost, win-depth, cost-above, none-more, left-more, end-cost, end-none}
 use Rattle.four_search.proofs.Written.{four-win, no-win}
+use Rattle.four_search.proofs.Rounds.{looked-is, alike-none, alike-fits, fits-alike, alike-short, short-alike, none-passes, passes-none, spent-fails, fails-spent}
 use Rattle.four_search.proofs.answer.four_search.Goals as goal
+
+pub search-requires : goal.search-requires
+search-requires g c =
+    let b : Grid = g.V.Seen.position c.args.view.now in
+    let back = sym c.loop-done.invariant.same in
+    record {
+      some = omega arith;
+      lawful = subst (IsPosition g.R.Rule.KIND) back c.side.ensures.lawful;
+      root = rw c.loop-done.invariant.same c.loop-done.invariant.root;
+      memo = c.loop-done.invariant.memo;
+    }
 
 pub returns-in-Ok-Spent-clause-none : goal.returns-in-Ok-Spent-clause-none
 returns-in-Ok-Spent-clause-none g c =
@@ -70,9 +82,13 @@ loop-done-preserved g c =
     let found : NoWin c.in-Ok-NoWin.rest ≡ found_at g.R.Rule.KIND (d + 1) b c.loop-done.left = sym c.in-Ok-NoWin.field-0-is ∙ c.in-Ok-NoWin.ensures.found ∙ ap (λ (w : Grid). found_at g.R.Rule.KIND (d + 1) w c.loop-done.left) c.loop-done.invariant.same in
     record {
       same = c.search.ensures.same ∙ c.loop-done.invariant.same;
+      root = c.loop-done.invariant.root;
+      memo = c.search.ensures.memo;
       nodes = c.loop-done.invariant.nodes;
       none = none-more g.R.Rule.KIND b c.args.depth c.args.budget c.loop-done.left d c.loop-done-test.true c.loop-done.invariant.none c.loop-done.invariant.spent c.in-Ok-NoWin.rest found;
       spent = left-more g.R.Rule.KIND b c.args.depth c.args.budget c.loop-done.left d c.loop-done-test.true c.loop-done.invariant.none c.loop-done.invariant.spent c.in-Ok-NoWin.rest found;
+      first = λ e. absurd (omega (arith, e));
+      last = λ some. (looked-is g.R.Rule.KIND b c.args.depth c.args.budget c.loop-done.left d c.loop-done-test.true c.side.ensures.lawful c.loop-done.invariant.none c.loop-done.invariant.spent c.in-Ok-NoWin.rest found).2;
     }
 
 pub returns-clause-none : goal.returns-clause-none
@@ -99,3 +115,36 @@ returns-clause-no_win g c =
     let end : c.loop-done.done ≡ c.args.depth = let low = c.loop-done-test.false in omega (arith, high, low) in
     let none = end-none g.R.Rule.KIND b c.args.depth c.args.budget c.loop-done.left c.loop-done.done end c.loop-done.invariant.none c.loop-done.invariant.spent c.requires.some_depth in
     λ e. no-win g.R.Rule.KIND c.args.depth b none
+
+pub all_alike-requires : goal.all_alike-requires
+all_alike-requires g c =
+    let b : Grid = g.V.Seen.position c.args.view.now in
+    let d : ℕ = c.loop-done.done in
+    let found : NoWin c.in-Ok-NoWin.rest ≡ found_at g.R.Rule.KIND (d + 1) b c.loop-done.left = sym c.in-Ok-NoWin.field-0-is ∙ c.in-Ok-NoWin.ensures.found ∙ ap (λ (w : Grid). found_at g.R.Rule.KIND (d + 1) w c.loop-done.left) c.loop-done.invariant.same in
+    let some : 0 < c.loop-done.left - c.in-Ok-NoWin.rest = (looked-is g.R.Rule.KIND b c.args.depth c.args.budget c.loop-done.left d c.loop-done-test.true c.side.ensures.lawful c.loop-done.invariant.none c.loop-done.invariant.spent c.in-Ok-NoWin.rest found).1 in
+    search rules
+
+pub returns-then-looked-before-clause-none : goal.returns-then-looked-before-clause-none
+returns-then-looked-before-clause-none g c =
+    let b : Grid = g.V.Seen.position c.args.view.now in
+    let d : ℕ = c.loop-done.done in
+    let found : NoWin c.in-Ok-NoWin.rest ≡ found_at g.R.Rule.KIND (d + 1) b c.loop-done.left = sym c.in-Ok-NoWin.field-0-is ∙ c.in-Ok-NoWin.ensures.found ∙ ap (λ (w : Grid). found_at g.R.Rule.KIND (d + 1) w c.loop-done.left) c.loop-done.invariant.same in (
+      λ e. (alike-none g.R.Rule.KIND b c.args.depth c.args.budget c.loop-done.left d c.loop-done-test.true c.side.ensures.lawful c.loop-done.invariant.none c.loop-done.invariant.spent c.in-Ok-NoWin.rest found c.loop-done.before c.loop-done.invariant.first c.loop-done.invariant.last c.if-looked-before.true, alike-fits g.R.Rule.KIND b c.args.depth c.args.budget c.loop-done.left d c.loop-done-test.true c.side.ensures.lawful c.loop-done.invariant.none c.loop-done.invariant.spent c.in-Ok-NoWin.rest found c.loop-done.before c.loop-done.invariant.first c.loop-done.invariant.last c.if-looked-before.true (none-passes c.all_alike.result _ c.all_alike.ensures.answer e)),
+      λ h. passes-none c.all_alike.result _ c.all_alike.ensures.answer (fits-alike g.R.Rule.KIND b c.args.depth c.args.budget c.loop-done.left d c.loop-done-test.true c.side.ensures.lawful c.loop-done.invariant.none c.loop-done.invariant.spent c.in-Ok-NoWin.rest found c.loop-done.before c.loop-done.invariant.first c.loop-done.invariant.last c.if-looked-before.true h.1),
+    )
+
+pub returns-then-looked-before-clause-spent : goal.returns-then-looked-before-clause-spent
+returns-then-looked-before-clause-spent g c =
+    let b : Grid = g.V.Seen.position c.args.view.now in
+    let d : ℕ = c.loop-done.done in
+    let found : NoWin c.in-Ok-NoWin.rest ≡ found_at g.R.Rule.KIND (d + 1) b c.loop-done.left = sym c.in-Ok-NoWin.field-0-is ∙ c.in-Ok-NoWin.ensures.found ∙ ap (λ (w : Grid). found_at g.R.Rule.KIND (d + 1) w c.loop-done.left) c.loop-done.invariant.same in (
+      λ e. alike-short g.R.Rule.KIND b c.args.depth c.args.budget c.loop-done.left d c.loop-done-test.true c.side.ensures.lawful c.loop-done.invariant.none c.loop-done.invariant.spent c.in-Ok-NoWin.rest found c.loop-done.before c.loop-done.invariant.first c.loop-done.invariant.last c.if-looked-before.true (spent-fails c.all_alike.result _ c.all_alike.ensures.answer e),
+      λ h. fails-spent c.all_alike.result _ c.all_alike.ensures.answer (short-alike g.R.Rule.KIND b c.args.depth c.args.budget c.loop-done.left d c.loop-done-test.true c.side.ensures.lawful c.loop-done.invariant.none c.loop-done.invariant.spent c.in-Ok-NoWin.rest found c.loop-done.before c.loop-done.invariant.first c.loop-done.invariant.last c.if-looked-before.true h),
+    )
+
+pub returns-then-looked-before-clause-no_win : goal.returns-then-looked-before-clause-no_win
+returns-then-looked-before-clause-no_win g c =
+    let b : Grid = g.V.Seen.position c.args.view.now in
+    let d : ℕ = c.loop-done.done in
+    let found : NoWin c.in-Ok-NoWin.rest ≡ found_at g.R.Rule.KIND (d + 1) b c.loop-done.left = sym c.in-Ok-NoWin.field-0-is ∙ c.in-Ok-NoWin.ensures.found ∙ ap (λ (w : Grid). found_at g.R.Rule.KIND (d + 1) w c.loop-done.left) c.loop-done.invariant.same in
+    λ e. no-win g.R.Rule.KIND c.args.depth b (alike-none g.R.Rule.KIND b c.args.depth c.args.budget c.loop-done.left d c.loop-done-test.true c.side.ensures.lawful c.loop-done.invariant.none c.loop-done.invariant.spent c.in-Ok-NoWin.rest found c.loop-done.before c.loop-done.invariant.first c.loop-done.invariant.last c.if-looked-before.true)

@@ -1,23 +1,29 @@
-use Rattle.std.proofs.Common.{rules, ◌≡◌, ◌-◌, ◌<◌, true, false, ap, sym, subst, ◌∙◌, arith, IfOk}
+use Rattle.std.proofs.Common.{rules, ◌≡◌, ℕ, ◌+◌, ◌-◌, ◌<◌, true, false, ap, sym, subst, ◌∙◌, arith, IfOk, List, ◌∷◌, map, drop, get_or}
 use Rattle.game_rules.specs.Grid.{Grid, is_empty}
 use Rattle.game_rules.specs.Play.{IsPosition, after, mover, other, outcome, has_fouls}
 use Rattle.game_rules.specs.Games.{has_five, five_points}
 use Rattle.game_rules.specs.declared.Outcome.TheVariants.{GoesOn}
+use Rattle.game_rules.proofs.Boards.{and_left, and_right}
 use Rattle.game_rules.proofs.Positions.{GoesOn-empty, mover-other, mover-then}
 use Rattle.threat_moves.proofs.Undo.{stone_back, lift_back, unwon_back}
-use Rattle.threat_moves.specs.FourMoves.{is_four_move}
 use Rattle.row_shapes.specs.FivePoints.{in_short}
-use Rattle.row_shapes.specs.declared.fives.FivePoints.TheVariants.{One}
-use Rattle.row_shapes.proofs.FiveLaws.{one-empty, has_five-none}
+use Rattle.row_shapes.specs.declared.fives.FivePoints.TheVariants.{None, One}
 use Rattle.threat_moves.proofs.FourLaws.{one-goes_on}
-use Rattle.threat_moves.proofs.Fates.{block-alone, blocked}
+use Rattle.threat_moves.proofs.Fates.{block-alone}
 use Rattle.four_search.specs.declared.search.Found.{Found}
-use Rattle.four_search.specs.Makers.{Covers, CoversBeside, CoversAfter}
-use Rattle.four_search.proofs.Covering.{covers-after}
-use Rattle.four_search.specs.Searching.{found_at, found_trying, found_behind, found_answering}
-use Rattle.four_search.proofs.Trying.{try_all, try_all-none, step-skip, step-goes_on, step-ends, found-after, found-nothing, answering-no-more, behind-else}
-use Rattle.four_search.proofs.Forcing.{found-several, found-one, one-gone, none-stays, block-none, block-threat, block-last, trying-none, trying-no_five, trying-else, trying-some}
+use Rattle.four_search.specs.declared.search.Found.TheVariants.{NoWin}
+use Rattle.four_search.specs.declared.makers.Maker.{Maker}
+use Rattle.four_search.specs.Makers.{makers_of, AfterFour, AfterReply}
+use Rattle.four_search.proofs.Listing.{drop-all, drop-next}
+use Rattle.four_search.proofs.Taking.{found-makers, ruled-out, each-maker, not_taken, taken-safe}
+use Rattle.four_search.specs.Searching.{found_trying, found_behind, found_answering}
+use Rattle.four_search.proofs.Trying.{try_all, try_all-none, step_at, step-goes_on, step-ends, found-nothing, answering-no-more, behind-else}
+use Rattle.four_search.proofs.Forcing.{block-none, block-threat, block-last, trying-else, trying-goes}
+use Rattle.position_table.specs.Packing.{packed}
+use Rattle.four_search.specs.Remembering.{IsTrueMemo}
+use Rattle.four_search.proofs.Remembering.{true-looked, found-remembered, true-kept}
 use Rattle.four_search.proofs.search.+search.Goals as goal
+use Rattle.four_search.proofs.search.+search.Goals.{try_makers-then-takes+in_ok-found+in-NoWin, try_makers-else-takes}
 
 pub after_block-returns-then-budget-eq0-clause-found :
     goal.after_block-returns-then-budget-eq0-clause-found
@@ -36,8 +42,8 @@ pub after_block-fives_made-threat-requires-clause-empty :
     goal.after_block-fives_made-threat-requires-clause-empty
 after_block-fives_made-threat-requires-clause-empty g t c = GoesOn-empty g.R.Rule.KIND (g.V.Seen.position c.args.view.now) c.args.block c.requires.goes_on
 
-pub after_block-search_on-found-requires : goal.after_block-search_on-found-requires
-after_block-search_on-found-requires g t c κs within =
+pub after_block-remembered-found-requires : goal.after_block-remembered-found-requires
+after_block-remembered-found-requires g t c κs within =
     let b : Grid = g.V.Seen.position c.args.view.now in
     let lawful : IsPosition g.R.Rule.KIND b = c.side-defender.ensures.lawful in
     let fits : 0 < c.args.budget = let some = c.if-budget-eq0.false in omega (arith, some) in
@@ -45,25 +51,24 @@ after_block-search_on-found-requires g t c κs within =
     ap (λ (w : Grid). has_five g.R.Rule.KIND w (mover w)) c.play.ensures.played ∙ block-none g.R.Rule.KIND b c.args.block lawful c.requires.goes_on c.requires.one in
     let threat : c.fives_made-threat.result ≡ in_short (five_points g.R.Rule.KIND (g.V.Seen.position c.play.new.self) (other (mover (g.V.Seen.position c.play.new.self)))) =
     c.fives_made-threat.ensures.made ∙ block-threat g.R.Rule.KIND b c.args.block lawful c.requires.goes_on c.requires.one ∙ ap (λ (w : Grid). in_short (five_points g.R.Rule.KIND w (other (mover w)))) (sym c.play.ensures.played) in
-    let before : CoversBeside g.R.Rule.KIND (g.V.Seen.position c.play.new.self) c.args.makers.now c.args.p =
-    subst (λ (w : Grid). CoversBeside g.R.Rule.KIND w c.args.makers.now c.args.p) (sym c.play.ensures.played)
-    (c.requires.covers c.args.block c.requires.goes_on (blocked g.R.Rule.KIND b c.args.block lawful.board (GoesOn-empty g.R.Rule.KIND b c.args.block c.requires.goes_on) c.requires.one)) in
+    let before : AfterReply g.R.Rule.KIND c.args.makers.now c.args.p c.args.block (g.V.Seen.position c.play.new.self) =
+    record { four = b; from = c.requires.makers; on = c.requires.goes_on; is = c.play.ensures.played } in
     search rules
 
 pub after_block-undo-requires-clause-stone : goal.after_block-undo-requires-clause-stone
 after_block-undo-requires-clause-stone g t c =
     let b : Grid = g.V.Seen.position c.args.view.now in
-    stone_back g.R.Rule.KIND b _ c.args.block c.side-defender.ensures.lawful c.requires.goes_on (c.search_on-found.ensures.same ∙ c.play.ensures.played)
+    stone_back g.R.Rule.KIND b _ c.args.block c.side-defender.ensures.lawful c.requires.goes_on (c.remembered-found.ensures.same ∙ c.play.ensures.played)
 
 pub after_block-undo-requires-clause-unwon : goal.after_block-undo-requires-clause-unwon
 after_block-undo-requires-clause-unwon g t c =
     let b : Grid = g.V.Seen.position c.args.view.now in
-    unwon_back g.R.Rule.KIND b _ c.args.block c.side-defender.ensures.lawful c.requires.goes_on (c.search_on-found.ensures.same ∙ c.play.ensures.played)
+    unwon_back g.R.Rule.KIND b _ c.args.block c.side-defender.ensures.lawful c.requires.goes_on (c.remembered-found.ensures.same ∙ c.play.ensures.played)
 
 pub after_block-returns-clause-same : goal.after_block-returns-clause-same
 after_block-returns-clause-same g t c =
     let b : Grid = g.V.Seen.position c.args.view.now in
-    c.undo.ensures.undone ∙ lift_back g.R.Rule.KIND b _ c.args.block c.side-defender.ensures.lawful c.requires.goes_on (c.search_on-found.ensures.same ∙ c.play.ensures.played)
+    c.undo.ensures.undone ∙ lift_back g.R.Rule.KIND b _ c.args.block c.side-defender.ensures.lawful c.requires.goes_on (c.remembered-found.ensures.same ∙ c.play.ensures.played)
 
 pub answering-after_block-requires : goal.answering-after_block-requires
 answering-after_block-requires g t c κs within =
@@ -75,7 +80,8 @@ answering-after_block-requires g t c κs within =
     ap (λ (w : Grid). in_short (five_points g.R.Rule.KIND w (other (mover w)))) c.fate.ensures.same ∙ ap in_short (block-alone g.R.Rule.KIND b c.in-One.block one).1 in
     let safe : has_five g.R.Rule.KIND d (mover d) ≡ false = ap (λ (w : Grid). has_five g.R.Rule.KIND w (mover w)) c.fate.ensures.same ∙ c.requires.safe in
     let some : 0 < c.args.moves = let more = c.if-moves-eq0.false in omega (arith, more) in
-    let covers : CoversAfter g.R.Rule.KIND d c.args.makers.now c.args.p = subst (λ (w : Grid). CoversAfter g.R.Rule.KIND w c.args.makers.now c.args.p) (sym c.fate.ensures.same) c.requires.covers in
+    let from = c.requires.makers in
+    let makers : AfterFour g.R.Rule.KIND c.args.makers.now c.args.p d = record { first = from.first; lawful = from.lawful; none = from.none; on = from.on; is = c.fate.ensures.same ∙ from.is; makers = from.makers } in
     search rules
 
 pub answering-returns-then-moves-eq0-clause-found :
@@ -92,8 +98,7 @@ behind-answering-found-requires g t c κs within =
     c.requires.made ∙ ap (λ s. in_short (five_points g.R.Rule.KIND (after b c.args.p) s)) (sym (mover-other g.R.Rule.KIND b c.args.p lawful c.requires.goes_on)) ∙ ap (λ (w : Grid). in_short (five_points g.R.Rule.KIND w (other (mover w)))) (sym c.play.ensures.played) in
     let safe : has_five g.R.Rule.KIND d (mover d) ≡ false =
     ap (λ (w : Grid). has_five g.R.Rule.KIND w (mover w)) c.play.ensures.played ∙ ap (has_five g.R.Rule.KIND (after b c.args.p)) (mover-then g.R.Rule.KIND b c.args.p lawful c.requires.goes_on) ∙ c.requires.safe in
-    let covers : CoversAfter g.R.Rule.KIND d c.args.makers.now c.args.p =
-    subst (λ (w : Grid). CoversAfter g.R.Rule.KIND w c.args.makers.now c.args.p) (sym c.play.ensures.played) (covers-after g.R.Rule.KIND b c.args.makers.now c.args.p lawful c.requires.goes_on c.requires.covers) in
+    let makers : AfterFour g.R.Rule.KIND c.args.makers.now c.args.p d = record { first = b; lawful = lawful; none = c.requires.none; on = c.requires.goes_on; is = c.play.ensures.played; makers = c.requires.makers } in
     search rules
 
 pub behind-undo-requires-clause-stone : goal.behind-undo-requires-clause-stone
@@ -124,114 +129,117 @@ behind-returns-in_default g t c =
     record {
       found = behind-else g.R.Rule.KIND c.args.moves b c.args.p c.args.budget c.in_ok-found.found c.in_default.not-Win found;
       same = c.undo.ensures.undone ∙ lift_back g.R.Rule.KIND b _ c.args.p c.play.ensures.lawful c.requires.goes_on (c.answering-found.ensures.same ∙ c.play.ensures.played);
+      memo = c.answering-found.ensures.memo;
     }
 
-pub search_on-try_point-requires : goal.search_on-try_point-requires
-search_on-try_point-requires g t c κs within =
+pub remembered-returns-in-Some-clause-found : goal.remembered-returns-in-Some-clause-found
+remembered-returns-in-Some-clause-found g t c =
     let b : Grid = g.V.Seen.position c.args.view.now in
-    let one : in_short (five_points g.R.Rule.KIND b (other (mover b))) ≡ One c.in-One.point = sym c.requires.threat ∙ c.in-One.is in
-    let empty : is_empty b c.in-One.point ≡ true = one-empty g.R.Rule.KIND b (other (mover b)) c.in-One.point one in
-    let safe : has_five g.R.Rule.KIND (after b c.in-One.point) (other (mover b)) ≡ false = one-gone g.R.Rule.KIND b c.in-One.point c.requires.lawful one in
+    found-remembered g.R.Rule.KIND b c.board.result.now c.args.moves c.args.budget c.requires.lawful c.board.ensures.board c.in-Some.count c.args.memo.now c.without_win.result c.requires.memo c.in-Some.ensures.count c.without_win.ensures.found
+
+pub remembered-returns-in-Some-clause-memo : goal.remembered-returns-in-Some-clause-memo
+remembered-returns-in-Some-clause-memo g t c = true-looked g.R.Rule.KIND c.args.memo.now _ (packed c.board.result.now, c.args.moves) c.find.ensures.entries c.requires.memo
+
+pub remembered-search_on-requires : goal.remembered-search_on-requires
+remembered-search_on-requires g t c κs within =
+    let memo : IsTrueMemo g.R.Rule.KIND c.find.new.self = true-looked g.R.Rule.KIND c.args.memo.now _ (packed c.board.result.now, c.args.moves) c.find.ensures.entries c.requires.memo in
     search rules
 
-pub search_on-try_each-requires : goal.search_on-try_each-requires
-search_on-try_each-requires g t c κs within =
+pub remembered-returns-in-NoWin-clause-memo : goal.remembered-returns-in-NoWin-clause-memo
+remembered-returns-in-NoWin-clause-memo g t c =
     let b : Grid = g.V.Seen.position c.args.view.now in
-    let safe : has_five g.R.Rule.KIND b (other (mover b)) ≡ false = has_five-none g.R.Rule.KIND b (other (mover b)) (sym c.requires.threat ∙ c.in-None.is) in
+    true-kept g.R.Rule.KIND b c.board-in-NoWin.result.now c.args.moves c.args.budget c.requires.lawful (c.board-in-NoWin.ensures.board ∙ c.in_ok-found.ensures.same) c.in-NoWin.left c.search_on.new.memo _
+    (sym c.in-NoWin.is ∙ c.in_ok-found.ensures.found) c.keep.ensures.kept c.in_ok-found.ensures.memo
+
+pub search_on-returns-then-rules_out-clause-found : goal.search_on-returns-then-rules_out-clause-found
+search_on-returns-then-rules_out-clause-found g t c =
+    let b : Grid = g.V.Seen.position c.args.view.now in
+    ruled-out g.R.Rule.KIND b c.requires.lawful c.args.threat c.requires.threat c.args.moves c.args.budget c.requires.none c.requires.some c.requires.some_budget (c.rules_out.ensures.out c.if-rules_out.true)
+
+pub try_makers-try_point-requires : goal.try_makers-try_point-requires
+try_makers-try_point-requires g t c κs within =
+    let b : Grid = g.V.Seen.position c.args.view.now in
+    let d : Grid = g.V.Seen.position c.loop-maker.view in
+    let i : ℕ = c.loop-maker.maker-index in
+    let none : Maker = record { at = record { x = 0; y = 0 }; made = None } in
+    let m : Maker = get_or c.args.makers.now i none in
+    let each = each-maker g.R.Rule.KIND b c.requires.lawful c.args.makers.now i none c.requires.makers c.loop-maker-test.true in
+    let same : d ≡ b = c.loop-maker.invariant.same in
+    let some : has_five g.R.Rule.KIND (after d m.at) (mover d) ≡ true = ap (λ (w : Grid). has_five g.R.Rule.KIND (after w m.at) (mover w)) same ∙ and_right (is_empty b m.at) _ each.1 in
+    let made : m.made ≡ in_short (five_points g.R.Rule.KIND (after d m.at) (mover d)) = ap (λ (x : Maker). x.made) each.0 ∙ sym (ap (λ (w : Grid). in_short (five_points g.R.Rule.KIND (after w m.at) (mover w))) same) in
+    let safe : has_five g.R.Rule.KIND (after d m.at) (other (mover d)) ≡ false =
+    ap (λ (w : Grid). has_five g.R.Rule.KIND (after w m.at) (other (mover w))) same ∙ taken-safe g.R.Rule.KIND b c.requires.lawful c.args.threat c.requires.threat m.at (and_left (is_empty b m.at) _ each.1) (sym c.takes.ensures.takes ∙ c.if-takes.true) in
+    let makers : c.args.makers.now ≡ makers_of g.R.Rule.KIND d = c.requires.makers ∙ ap (makers_of g.R.Rule.KIND) (sym same) in
+    let empty : is_empty d m.at ≡ true = ap (λ (w : Grid). is_empty w m.at) same ∙ and_left (is_empty b m.at) _ each.1 in
+    let no_five : has_five g.R.Rule.KIND d (mover d) ≡ false = ap (λ (w : Grid). has_five g.R.Rule.KIND w (mover w)) same ∙ c.requires.none in
     search rules
 
-pub search_on-returns-in-Several-clause-found : goal.search_on-returns-in-Several-clause-found
-search_on-returns-in-Several-clause-found g t c =
+pub try_makers-returns-in_default : goal.try_makers-returns-in_default
+try_makers-returns-in_default g t c =
     let b : Grid = g.V.Seen.position c.args.view.now in
-    found-several g.R.Rule.KIND c.args.moves c.args.budget b c.requires.lawful c.requires.none c.requires.some c.requires.some_budget (sym c.requires.threat ∙ c.in-Several.is)
-
-pub search_on-makes-requires-clause-empty : goal.search_on-makes-requires-clause-empty
-search_on-makes-requires-clause-empty g t c =
-    let b : Grid = g.V.Seen.position c.args.view.now in
-    one-empty g.R.Rule.KIND b (other (mover b)) c.in-One.point (sym c.requires.threat ∙ c.in-One.is)
-
-pub search_on-returns-then-makes-clause-found : goal.search_on-returns-then-makes-clause-found
-search_on-returns-then-makes-clause-found g t c =
-    let b : Grid = g.V.Seen.position c.args.view.now in
-    let same : found_trying g.R.Rule.KIND (c.args.moves - 1) b c.in-One.point (c.args.budget - 1) ≡ found_at g.R.Rule.KIND c.args.moves b c.args.budget =
-    found-one g.R.Rule.KIND c.args.moves c.args.budget b c.requires.lawful c.requires.none c.requires.some c.requires.some_budget c.in-One.point (sym c.requires.threat ∙ c.in-One.is) in
-    subst (λ (f : Found). IfOk c.try_point.result (λ found. found ≡ f)) same c.try_point.ensures.found
-
-pub search_on-returns-else-makes-clause-found : goal.search_on-returns-else-makes-clause-found
-search_on-returns-else-makes-clause-found g t c =
-    let b : Grid = g.V.Seen.position c.args.view.now in
-    trying-no_five g.R.Rule.KIND (c.args.moves - 1) b c.in-One.point (c.args.budget - 1) (c.makes.ensures.other c.if-makes.false)
-    ∙ found-one g.R.Rule.KIND c.args.moves c.args.budget b c.requires.lawful c.requires.none c.requires.some c.requires.some_budget c.in-One.point (sym c.requires.threat ∙ c.in-One.is)
-
-pub try_each-try_point-requires : goal.try_each-try_point-requires
-try_each-try_point-requires g t c κs within =
-    let b : Grid = g.V.Seen.position c.args.view.now in
-    let d : Grid = g.V.Seen.position c.loop-p.view in
-    let same : d ≡ b = c.loop-p.invariant.same in
-    let empty : is_empty d c.in-Some.p ≡ true = c.may_make.ensures.empty c.if-may_make.true in
-    let none : has_five g.R.Rule.KIND d (mover d) ≡ false = ap (λ (w : Grid). has_five g.R.Rule.KIND w (mover w)) same ∙ c.requires.none in
-    let safe : has_five g.R.Rule.KIND (after d c.in-Some.p) (other (mover d)) ≡ false =
-    ap (λ (w : Grid). has_five g.R.Rule.KIND (after w c.in-Some.p) (other (mover w))) same ∙ none-stays g.R.Rule.KIND b c.requires.lawful c.in-Some.p (ap (λ (w : Grid). is_empty w c.in-Some.p) (sym same) ∙ empty) c.requires.safe in
-    let covers : Covers g.R.Rule.KIND d c.args.makers.now = subst (λ (w : Grid). Covers g.R.Rule.KIND w c.args.makers.now) (sym same) c.requires.covers in
-    search rules
-
-pub try_each-loop-p-preserved-in-NoWin : goal.try_each-loop-p-preserved-in-NoWin
-try_each-loop-p-preserved-in-NoWin g t c =
-    let b : Grid = g.V.Seen.position c.args.view.now in
-    let found : c.in_ok-found.found ≡ found_trying g.R.Rule.KIND (c.args.moves - 1) b c.in-Some.p c.loop-p.left = c.in_ok-found.ensures.found ∙ ap (λ (w : Grid). found_trying g.R.Rule.KIND (c.args.moves - 1) w c.in-Some.p c.loop-p.left) c.loop-p.invariant.same in
+    let i : ℕ = c.loop-maker.maker-index in
+    let none : Maker = record { at = record { x = 0; y = 0 }; made = None } in
+    let m : Maker = get_or c.args.makers.now i none in
+    let next : map (λ x. x.at) (drop i c.args.makers.now) ≡ m.at ∷ map (λ x. x.at) (drop (i + 1) c.args.makers.now) = drop-next c.args.makers.now i none c.loop-maker-test.true in
+    let found : c.in_ok-found.found ≡ found_trying g.R.Rule.KIND (c.args.moves - 1) b m.at c.loop-maker.left = c.in_ok-found.ensures.found ∙ ap (λ (w : Grid). found_trying g.R.Rule.KIND (c.args.moves - 1) w m.at c.loop-maker.left) c.loop-maker.invariant.same in
     record {
-      same = c.try_point.ensures.same ∙ c.loop-p.invariant.same;
-      rest = sym (step-goes_on g.R.Rule.KIND (c.args.moves - 1) b c.loop-p.left c.in-Some.p c.loop-p.p-iterator c.next.new.self c.in-Some.ensures.steps c.in_ok-found.found found c.in-NoWin.rest c.in-NoWin.is) ∙ c.loop-p.invariant.rest;
+      found = sym (step-ends g.R.Rule.KIND (c.args.moves - 1) b c.loop-maker.left m.at (map (λ x. x.at) (drop i c.args.makers.now)) (map (λ x. x.at) (drop (i + 1) c.args.makers.now)) next c.in_ok-found.found found c.in_default.not-NoWin)
+          ∙ c.loop-maker.invariant.rest
+          ∙ found-makers g.R.Rule.KIND b c.requires.lawful c.args.makers.now c.args.moves c.args.budget c.requires.makers c.requires.none c.requires.some c.requires.some_budget;
+      same = c.try_point.ensures.same ∙ c.loop-maker.invariant.same;
+      memo = c.try_point.ensures.memo;
     }
 
-pub try_each-returns-in_default : goal.try_each-returns-in_default
-try_each-returns-in_default g t c =
+pub try_makers-loop-maker-preserved : goal.try_makers-loop-maker-preserved
+try_makers-loop-maker-preserved g t c =
     let b : Grid = g.V.Seen.position c.args.view.now in
-    let found : c.in_ok-found.found ≡ found_trying g.R.Rule.KIND (c.args.moves - 1) b c.in-Some.p c.loop-p.left = c.in_ok-found.ensures.found ∙ ap (λ (w : Grid). found_trying g.R.Rule.KIND (c.args.moves - 1) w c.in-Some.p c.loop-p.left) c.loop-p.invariant.same in
-    record {
-      found = sym (step-ends g.R.Rule.KIND (c.args.moves - 1) b c.loop-p.left c.in-Some.p c.loop-p.p-iterator c.next.new.self c.in-Some.ensures.steps c.in_ok-found.found found c.in_default.not-NoWin)
-          ∙ c.loop-p.invariant.rest
-          ∙ found-after g.R.Rule.KIND c.args.moves c.args.budget b c.requires.lawful c.requires.none c.requires.some c.requires.some_budget;
-      same = c.try_point.ensures.same ∙ c.loop-p.invariant.same;
-    }
+    let i : ℕ = c.loop-maker.maker-index in
+    let none : Maker = record { at = record { x = 0; y = 0 }; made = None } in
+    let m : Maker = get_or c.args.makers.now i none in
+    let next : map (λ x. x.at) (drop i c.args.makers.now) ≡ m.at ∷ map (λ x. x.at) (drop (i + 1) c.args.makers.now) = drop-next c.args.makers.now i none c.loop-maker-test.true in
+    let rest_of : ℕ → Found = λ l. try_all g.R.Rule.KIND (c.args.moves - 1) b l (map (λ x. x.at) (drop (i + 1) c.args.makers.now)) in
+    elim c.if-takes.branch [
+      | try_makers-then-takes+in_ok-found+in-NoWin w ↦
+          let found : w.in_ok-found.found ≡ found_trying g.R.Rule.KIND (c.args.moves - 1) b m.at c.loop-maker.left = w.in_ok-found.ensures.found ∙ ap (λ (v : Grid). found_trying g.R.Rule.KIND (c.args.moves - 1) v m.at c.loop-maker.left) c.loop-maker.invariant.same in
+          record {
+            same = ap g.V.Seen.position w.view-is ∙ w.try_point.ensures.same ∙ c.loop-maker.invariant.same;
+            memo = subst (IsTrueMemo g.R.Rule.KIND) (sym w.memo-is) w.try_point.ensures.memo;
+            rest = ap rest_of w.left-is ∙ sym (step-goes_on g.R.Rule.KIND (c.args.moves - 1) b c.loop-maker.left m.at (map (λ x. x.at) (drop i c.args.makers.now)) (map (λ x. x.at) (drop (i + 1) c.args.makers.now)) next w.in_ok-found.found found w.in-NoWin.rest w.in-NoWin.is) ∙ c.loop-maker.invariant.rest;
+          }
+      | try_makers-else-takes w ↦
+          record {
+            same = ap g.V.Seen.position w.view-is ∙ c.loop-maker.invariant.same;
+            memo = subst (IsTrueMemo g.R.Rule.KIND) (sym w.memo-is) c.loop-maker.invariant.memo;
+            rest = ap rest_of w.left-is ∙ sym (step_at g.R.Rule.KIND (c.args.moves - 1) b c.loop-maker.left m.at (map (λ x. x.at) (drop i c.args.makers.now)) (map (λ x. x.at) (drop (i + 1) c.args.makers.now)) next (NoWin c.loop-maker.left) (not_taken g.R.Rule.KIND b c.requires.lawful c.args.threat c.requires.threat m.at (c.args.moves - 1) c.loop-maker.left (sym c.takes.ensures.takes ∙ w.if-takes.false))) ∙ c.loop-maker.invariant.rest;
+          }
+    ]
 
-pub try_each-loop-p-preserved : goal.try_each-loop-p-preserved
-try_each-loop-p-preserved g t c =
+pub try_makers-returns-clause-found : goal.try_makers-returns-clause-found
+try_makers-returns-clause-found g t c =
     let b : Grid = g.V.Seen.position c.args.view.now in
-    let no_four : is_four_move g.R.Rule.KIND b c.in-Some.p ≡ false = ap (λ (w : Grid). is_four_move g.R.Rule.KIND w c.in-Some.p) (sym c.loop-p.invariant.same) ∙ c.may_make.ensures.four c.if-may_make.false in
-    record {
-      same = c.loop-p.invariant.same;
-      rest = sym (step-skip g.R.Rule.KIND (c.args.moves - 1) b c.loop-p.left c.in-Some.p c.loop-p.p-iterator c.next.new.self c.in-Some.ensures.steps no_four) ∙ c.loop-p.invariant.rest;
-    }
-
-pub try_each-returns-clause-found : goal.try_each-returns-clause-found
-try_each-returns-clause-found g t c =
-    let b : Grid = g.V.Seen.position c.args.view.now in
-    sym (try_all-none g.R.Rule.KIND (c.args.moves - 1) b c.loop-p.left)
-    ∙ ap (try_all g.R.Rule.KIND (c.args.moves - 1) b c.loop-p.left) (sym c.in-None.ensures.steps.0)
-    ∙ c.loop-p.invariant.rest
-    ∙ found-after g.R.Rule.KIND c.args.moves c.args.budget b c.requires.lawful c.requires.none c.requires.some c.requires.some_budget
-
-pub try_point-returns-in-None-clause-found : goal.try_point-returns-in-None-clause-found
-try_point-returns-in-None-clause-found g t c =
-    trying-none g.R.Rule.KIND c.args.moves (g.V.Seen.position c.args.view.now) c.args.p c.args.budget (sym c.in-None.ensures.made)
+    sym (try_all-none g.R.Rule.KIND (c.args.moves - 1) b c.loop-maker.left)
+    ∙ ap (λ (ms : List Maker). try_all g.R.Rule.KIND (c.args.moves - 1) b c.loop-maker.left (map (λ m. m.at) ms)) (sym (drop-all c.args.makers.now c.loop-maker.maker-index c.loop-maker-test.false))
+    ∙ c.loop-maker.invariant.rest
+    ∙ found-makers g.R.Rule.KIND b c.requires.lawful c.args.makers.now c.args.moves c.args.budget c.requires.makers c.requires.none c.requires.some c.requires.some_budget
 
 pub try_point-returns-in-GoesOn : goal.try_point-returns-in-GoesOn
 try_point-returns-in-GoesOn g t c =
     let b : Grid = g.V.Seen.position c.args.view.now in
     let on : outcome g.R.Rule.KIND b c.args.p ≡ GoesOn = sym c.in-GoesOn.ensures.outcome in
-    let same : found_behind g.R.Rule.KIND c.args.moves (g.V.Seen.position c.outcome.new.self) c.args.p c.args.budget ≡ found_trying g.R.Rule.KIND c.args.moves b c.args.p c.args.budget =
-    ap (λ (w : Grid). found_behind g.R.Rule.KIND c.args.moves w c.args.p c.args.budget) c.outcome.ensures.same
-    ∙ trying-some g.R.Rule.KIND c.args.moves b c.args.p c.args.budget c.fives_made-made.result c.fives_made-made.ensures.made c.in_default.not-None on in
+    let same : found_behind g.R.Rule.KIND c.args.moves (g.V.Seen.position c.no_five_outcome.new.view) c.args.p c.args.budget ≡ found_trying g.R.Rule.KIND c.args.moves b c.args.p c.args.budget =
+    ap (λ (w : Grid). found_behind g.R.Rule.KIND c.args.moves w c.args.p c.args.budget) c.no_five_outcome.ensures.same
+    ∙ trying-goes g.R.Rule.KIND c.args.moves b c.args.p c.args.budget c.requires.some on in
     record {
       found = subst (λ (f : Found). IfOk c.behind.result (λ found. found ≡ f)) same c.behind.ensures.found;
-      same = c.behind.ensures.same ∙ c.outcome.ensures.same;
+      same = c.behind.ensures.same ∙ c.no_five_outcome.ensures.same;
+      memo = c.behind.ensures.memo;
     }
 
-pub try_point-returns-in_default-outcome : goal.try_point-returns-in_default-outcome
-try_point-returns-in_default-outcome g t c =
+pub try_point-returns-in_default : goal.try_point-returns-in_default
+try_point-returns-in_default g t c =
     let b : Grid = g.V.Seen.position c.args.view.now in
     record {
-      found = trying-else g.R.Rule.KIND c.args.moves b c.args.p c.args.budget (λ on. c.in_default-outcome.not-GoesOn (c.outcome.ensures.outcome ∙ on));
-      same = c.outcome.ensures.same;
+      found = trying-else g.R.Rule.KIND c.args.moves b c.args.p c.args.budget (λ on. c.in_default.not-GoesOn (c.no_five_outcome.ensures.outcome ∙ on));
+      same = c.no_five_outcome.ensures.same;
+      memo = c.requires.memo;
     }

@@ -1,29 +1,33 @@
-use Rattle.std.proofs.Common.{◌≡◌, ◌+◌, ◌*◌, ◌-◌}
-use Rattle.game_rules.specs.Grid.{points_of}
+use Rattle.std.proofs.Common.{◌≡◌, ◌+◌, ◌*◌, ◌-◌, drop, map}
+use Rattle.four_search.specs.Remembering.{IsTrueMemo}
 use Rattle.four_search.proofs.Trying.{try_all}
 use Rattle.four_search.proofs.search.+search.Given as goal
 
-abbrev pub decreases-search_on : goal.decreases-search_on
-decreases-search_on g l = 6 * l.moves
+abbrev pub decreases-remembered : goal.decreases-remembered
+decreases-remembered g l = 7 * l.moves + 1
 
-abbrev pub decreases-try_each : goal.decreases-try_each
-decreases-try_each g l = 6 * (l.moves - 1) + 5
+abbrev pub decreases-search_on : goal.decreases-search_on
+decreases-search_on g l = 7 * l.moves
+
+abbrev pub decreases-try_makers : goal.decreases-try_makers
+decreases-try_makers g l = 7 * (l.moves - 1) + 6
 
 abbrev pub decreases-try_point : goal.decreases-try_point
-decreases-try_point g l = 6 * l.moves + 4
+decreases-try_point g l = 7 * l.moves + 5
 
 abbrev pub decreases-behind : goal.decreases-behind
-decreases-behind g l = 6 * l.moves + 3
+decreases-behind g l = 7 * l.moves + 4
 
 abbrev pub decreases-answering : goal.decreases-answering
-decreases-answering g l = 6 * l.moves + 2
+decreases-answering g l = 7 * l.moves + 3
 
 abbrev pub decreases-after_block : goal.decreases-after_block
-decreases-after_block g l = 6 * l.moves + 1
+decreases-after_block g l = 7 * l.moves + 2
 
--- the view is as before; the points left give what all points give
-abbrev pub invariant-try_each-loop-p : goal.invariant-try_each-loop-p
-invariant-try_each-loop-p g l = record {
+-- the view is as before, and what is remembered is true; the points left give what all points give
+abbrev pub invariant-try_makers-loop-maker : goal.invariant-try_makers-loop-maker
+invariant-try_makers-loop-maker g l = record {
   same : g.V.Seen.position l.view ≡ g.V.Seen.position l.fn.view;
-  rest : try_all g.R.Rule.KIND (l.moves - 1) (g.V.Seen.position l.fn.view) l.left l.p-iterator ≡ try_all g.R.Rule.KIND (l.moves - 1) (g.V.Seen.position l.fn.view) (l.budget - 1) (points_of (g.V.Seen.position l.fn.view));
+  memo : IsTrueMemo g.R.Rule.KIND l.memo;
+  rest : try_all g.R.Rule.KIND (l.moves - 1) (g.V.Seen.position l.fn.view) l.left (map (λ m. m.at) (drop l.maker-index l.makers)) ≡ try_all g.R.Rule.KIND (l.moves - 1) (g.V.Seen.position l.fn.view) (l.budget - 1) (map (λ m. m.at) l.makers);
 }
