@@ -1,0 +1,102 @@
+-- A search for two fours looks at few positions.
+use Rattle.std.proofs.Common.{◌≡◌, ℕ, zero, suc, ◌+◌, ◌*◌, ◌≤◌, ◌<◌, Bool, true, false, cond, refl, ap, arith, List, [], ◌∷◌, length, length-append}
+use Rattle.std.specs.List.{sum_by, flat_map, range_with_len}
+use Rattle.std.proofs.lemmas.List.Sums.{sum_by-cons}
+use Rattle.game_rules.specs.Grid.{Grid, IsBoard, points_of, row_from}
+use Rattle.game_rules.specs.Shapes.{is_at}
+use Rattle.game_rules.specs.Play.{IsPosition, mover, after}
+use Rattle.game_rules.specs.Games.{has_five, wins_by_fours, four_move}
+use Rattle.game_rules.specs.declared.RuleKind.{RuleKind}
+use Rattle.game_rules.specs.declared.Point.{Point}
+use Rattle.threat_moves.specs.declared.block.BlockAnswer.{BlockAnswer}
+use Rattle.threat_moves.specs.declared.block.BlockAnswer.TheVariants.{Lost, Won, Draw, One}
+use Rattle.threat_moves.specs.FourMoves.{is_four_move}
+use Rattle.threat_moves.specs.Blocks.{fate}
+use Rattle.four_search.specs.FourGame.{until, tried, if_one, behind_move, four_tree, four_cost}
+
+-- ---- sums
+
+sum-until : {X : Type 0} (f : X → ℕ) (test : X → Bool) (xs : List X) → sum_by f (until test xs) ≤ sum_by f xs
+sum-until f test [] = omega arith
+sum-until {X} f test (x ∷ xs) = by_test (test x) (sum-until f test xs) where
+  by_test : (r : Bool) → sum_by f (until test xs) ≤ sum_by f xs → sum_by f (x ∷ cond r [] (until test xs)) ≤ sum_by f (x ∷ xs)
+  by_test true low = let a = sum_by-cons f x xs in let b = sum_by-cons f x [] in omega (arith, a, b)
+  by_test false low = let a = sum_by-cons f x xs in let b = sum_by-cons f x (until test xs) in omega (arith, a, b, low)
+
+sum-ones : (f : Point → ℕ) → ((q : Point) → f q ≤ 1) → (ps : List Point) → sum_by f ps ≤ length ps
+sum-ones f each [] = omega arith
+sum-ones f each (p ∷ ps) =
+    let e = sum_by-cons f p ps in
+    let low = each p in
+    let rest = sum-ones f each ps in
+    omega (arith, e, low, rest)
+
+length-row : (y x n : ℕ) → length (row_from y x n) ≡ n
+length-row y x zero = refl
+length-row y x (suc n) = ap suc (length-row y (x + 1) n)
+
+length-rows : (w y n : ℕ) → length (flat_map (λ z. row_from z 0 w) (range_with_len y n)) ≡ n * w
+length-rows w y zero = omega arith
+length-rows w y (suc n) =
+    let e : length (flat_map (λ z. row_from z 0 w) (range_with_len y (suc n))) ≡ length (row_from y 0 w) + length (flat_map (λ z. row_from z 0 w) (range_with_len (y + 1) n)) =
+    length-append (row_from y 0 w) (flat_map (λ z. row_from z 0 w) (range_with_len (y + 1) n)) in
+    let row = length-row y 0 w in
+    let rest = length-rows w (y + 1) n in
+    omega (arith, e, row, rest)
+
+length-points : (b : Grid) → length (points_of b) ≡ b.height * b.width
+length-points b = length-rows b.width 0 b.height
+
+points-few : (b : Grid) → IsBoard b → length (points_of b) ≤ 1024
+points-few b ok =
+    let e = length-points b in
+    let w = ok.width_fits in
+    let h = ok.height_fits in
+    let most : b.height * b.width ≤ 1024 = grind arith in
+    omega (arith, e, most)
+
+-- ---- the positions of two fours
+
+module _ (rule : RuleKind) (b : Grid) (lawful : IsPosition rule b) where
+  one : (c : Grid) → four_tree rule 1 c ≡ 1
+  unfolding four_tree
+  one c = refl
+
+  behind-one : (p : Point) → behind_move rule b (four_tree rule 1) p ≤ 1
+  behind-one p = by_four (is_four_move rule b p) where
+    by_fate : (a : BlockAnswer) → if_one (four_tree rule 1) (after b p) a ≤ 1
+    by_fate Lost = omega arith
+    by_fate Won = omega arith
+    by_fate (Draw w) = omega arith
+    by_fate (One w) = let e = one (after (after b p) w) in omega (arith, e)
+
+    by_four : (r : Bool) → cond r (if_one (four_tree rule 1) (after b p) (fate rule (after b p))) 0 ≤ 1
+    by_four true = by_fate (fate rule (after b p))
+    by_four false = omega arith
+
+  two : four_tree rule 2 b ≤ 1025
+  unfolding four_tree
+  two = by_five (has_five rule b (mover b)) where
+    sum : sum_by (behind_move rule b (four_tree rule 1)) (tried rule 2 b) ≤ 1024
+    sum =
+        let cut = sum-until (behind_move rule b (four_tree rule 1)) (λ p. is_at p (four_move rule 2 b)) (points_of b) in
+        let ones = sum-ones (behind_move rule b (four_tree rule 1)) behind-one (points_of b) in
+        let few = points-few b lawful.board in
+        omega (arith, cut, ones, few)
+
+    by_five : (r : Bool) → cond r 1 (1 + sum_by (behind_move rule b (four_tree rule 1)) (tried rule 2 b)) ≤ 1025
+    by_five true = omega arith
+    by_five false = let s = sum in omega (arith, s)
+
+  cost-all : (n : ℕ) → four_cost rule n b ≤ sum_by (λ k. four_tree rule k b) (range_with_len 1 n)
+  cost-all n = sum-until (λ k. four_tree rule k b) (λ k. wins_by_fours rule k b) (range_with_len 1 n)
+
+  cost-small : (n : ℕ) → n ≤ 2 → four_cost rule n b ≤ 1026
+  cost-small zero l = let low = cost-all 0 in omega (arith, low)
+  cost-small (suc zero) l = let low = cost-all 1 in let e = one b in omega (arith, low, e)
+  cost-small (suc (suc zero)) l = let low = cost-all 2 in let e = one b in let f = two in omega (arith, low, e, f)
+  cost-small (suc (suc (suc n))) l = absurd (omega arith)
+
+  -- it is far below the greatest budget
+  pub cost-fits : (n : ℕ) (budget : ℕ) → n ≤ 2 → 1026 ≤ budget → budget < four_cost rule n b → ⊥
+  cost-fits n budget l high more = let low = cost-small n l in omega (arith, low)

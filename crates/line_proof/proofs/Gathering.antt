@@ -1,0 +1,177 @@
+-- Answers to the replies so far: they stay answers as the nodes grow, and one more.
+use Rattle.std.proofs.Common.{◌≡◌, ℕ, ◌≤◌, ◌<◌, ◌+◌, max, Bool, true, false, cond, ◌&&◌, refl, sym, ap, subst, ◌∙◌, arith, List, [], ◌∷◌, ◌++◌, map, length, append-nil, append_assoc}
+use Rattle.std.specs.Prelude.{All}
+use Rattle.std.specs.List.{AllByRecursion, list_all, sum_by}
+use Rattle.std.proofs.lemmas.List.Sums.{sum_by-cons}
+use Rattle.std.proofs.lemmas.List.Elements.{All-from_recursion}
+use Rattle.game_rules.specs.Grid.{Grid}
+use Rattle.game_rules.specs.Play.{outcome, after}
+use Rattle.game_rules.specs.Games.{loses_or, if_goes_on}
+use Rattle.game_rules.specs.declared.RuleKind.{RuleKind}
+use Rattle.game_rules.specs.declared.Outcome.{Outcome}
+use Rattle.game_rules.specs.declared.Outcome.TheVariants.{GoesOn}
+use Rattle.game_rules.specs.declared.Point.{Point}
+use Rattle.strategy_graph.specs.declared.Node.{Node}
+use Rattle.strategy_graph.specs.declared.Reply.{Reply}
+use Rattle.strategy_graph.specs.Tables.{NamesLower, depth, greatest}
+use Rattle.strategy_compiler.specs.Nodes.{IsCompiled}
+use Rattle.strategy_compiler.specs.declared.wins.WrittenWin.{WrittenWin}
+use Rattle.strategy_compiler.specs.Wins.{IsWrittenWin, GrowthKeepsWins}
+use Rattle.threat_moves.specs.FourMoves.{goes_on_with}
+use Rattle.line_proof.specs.declared.answers.Answering.{Answering}
+use Rattle.line_proof.specs.Replies.{Extends, IsWonAt, AreAnswers, AnswersAll, answered, going_on}
+
+pub lower_of : (t : List Node) → IsCompiled t → NamesLower t
+lower_of t ok = record { lower = λ i n at. (ok.table.nodes i n at).below }
+
+-- ---- wins as the nodes grow
+
+pub win-grown : GrowthKeepsWins → (rule : RuleKind) (limit : ℕ) (b : Grid) (t u : List Node) (win : WrittenWin) → NamesLower t → Extends t u → IsWrittenWin rule limit b t win → IsWrittenWin rule limit b u win
+win-grown keeps rule limit b t u win lower grown h =
+    subst (λ (v : List Node). IsWrittenWin rule limit b v win) (sym grown.is) (keeps rule limit b t grown.added win lower h)
+
+-- a win within fewer moves
+pub win-within : (rule : RuleKind) (n m : ℕ) (b : Grid) (t : List Node) (win : WrittenWin) → n ≤ m → IsWrittenWin rule n b t win → IsWrittenWin rule m b t win
+win-within rule n m b t win l h = record {
+  in_compiler = h.in_compiler;
+  accepted = h.accepted;
+  deep = h.deep;
+  within = let low = h.within in omega (arith, l, low);
+  on_board = h.on_board;
+}
+
+-- a win whose moves are told as the depth of its node
+pub win-deep : (rule : RuleKind) (n : ℕ) (b : Grid) (t : List Node) (win : WrittenWin) → IsWrittenWin rule n b t win → IsWrittenWin rule n b t (record { node = win.node; moves = depth t win.node })
+win-deep rule n b t win h = record {
+  in_compiler = h.in_compiler;
+  accepted = h.accepted;
+  deep = refl;
+  within = let low = h.within in let e = h.deep in omega (arith, e, low);
+  on_board = h.on_board;
+}
+
+module _ (keeps : GrowthKeepsWins) (rule : RuleKind) (n : ℕ) (c : Grid) (t u : List Node) (lower : NamesLower t) (grown : Extends t u) where
+  won-grown : (rs : List Reply) → AllByRecursion (IsWonAt rule n t c) rs → AllByRecursion (IsWonAt rule n u c) rs
+  won-grown [] h = tt
+  won-grown (r ∷ rs) h = (
+    win-deep rule n (after c r.at) u _ (win-grown keeps rule n (after c r.at) t u _ lower grown h.0),
+    won-grown rs h.1,
+  )
+
+  most-grown : (rs : List Reply) → AllByRecursion (IsWonAt rule n t c) rs → greatest (map (depth u) (map (λ r. r.next) rs)) ≡ greatest (map (depth t) (map (λ r. r.next) rs))
+  most-grown [] h = refl
+  most-grown (r ∷ rs) h =
+      let here : depth u r.next ≡ depth t r.next = (win-grown keeps rule n (after c r.at) t u _ lower grown h.0).deep in
+      let rest = most-grown rs h.1 in
+      omega (arith, here, rest)
+
+  pub answers-grown : (a : Answering) → AreAnswers rule n t c a → AreAnswers rule n u c a
+  answers-grown a h = record { wins = won-grown a.replies.items h.wins; most = h.most ∙ sym (most-grown a.replies.items h.wins) }
+
+  pub all-grown : (a : Answering) → AnswersAll rule n t c a → AnswersAll rule n u c a
+  all-grown a h = record { answers = answers-grown a h.answers; all = h.all }
+
+-- ---- no answer, and one more
+
+pub answers-none : (rule : RuleKind) (n : ℕ) (t : List Node) (c : Grid) (a : Answering) → a.replies.items ≡ [] → a.moves ≡ 0 → AreAnswers rule n t c a
+answers-none rule n t c a none zero = record {
+  wins = subst (λ (rs : List Reply). AllByRecursion (IsWonAt rule n t c) rs) (sym none) tt;
+  most = zero ∙ sym (ap (λ (rs : List Reply). greatest (map (depth t) (map (λ r. r.next) rs))) none);
+}
+
+push-all : (P : Reply → Type 0) (rs : List Reply) (r : Reply) → AllByRecursion P rs → P r → AllByRecursion P (rs ++ r ∷ [])
+push-all P [] r h k = (k, tt)
+push-all P (s ∷ rs) r h k = (h.0, push-all P rs r h.1 k)
+
+push-most : (d : ℕ → ℕ) (rs : List Reply) (r : Reply) → greatest (map d (map (λ r. r.next) (rs ++ r ∷ []))) ≡ max (greatest (map d (map (λ r. r.next) rs))) (d r.next)
+push-most d [] r = omega arith
+push-most d (s ∷ rs) r = let rest = push-most d rs r in omega (arith, rest)
+
+push-points : (rs : List Reply) (r : Reply) → map (λ r. r.at) (rs ++ r ∷ []) ≡ map (λ r. r.at) rs ++ r.at ∷ []
+push-points [] r = refl
+push-points (s ∷ rs) r = ap (λ (ps : List Point). s.at ∷ ps) (push-points rs r)
+
+module _ (rule : RuleKind) (n : ℕ) (t : List Node) (c : Grid) (q : Point) (win : WrittenWin) (a a' : Answering) (added : a'.replies.items ≡ a.replies.items ++ (record { at = q; next = win.node }) ∷ []) where
+  pub answers-more : a'.moves ≡ max a.moves win.moves → IsWrittenWin rule n (after c q) t win → AreAnswers rule n t c a → AreAnswers rule n t c a'
+  answers-more most won h =
+      let r : Reply = record { at = q; next = win.node } in
+      record {
+        wins = subst (λ (rs : List Reply). AllByRecursion (IsWonAt rule n t c) rs) (sym added) (push-all (IsWonAt rule n t c) a.replies.items r h.wins (win-deep rule n (after c q) t win won));
+        most =
+            let push = push-most (depth t) a.replies.items r in
+            let same : greatest (map (depth t) (map (λ r. r.next) a'.replies.items)) ≡ greatest (map (depth t) (map (λ r. r.next) (a.replies.items ++ r ∷ []))) = ap (λ (rs : List Reply). greatest (map (depth t) (map (λ r. r.next) rs))) added in
+            let deep = won.deep in
+            let before = h.most in
+            omega (arith, push, same, deep, before, most);
+      }
+
+  pub answered-more : outcome rule c q ≡ GoesOn → answered a' ≡ answered a ++ going_on rule c (q ∷ [])
+  answered-more on =
+      let r : Reply = record { at = q; next = win.node } in
+      ap (λ (rs : List Reply). map (λ r. r.at) rs) added
+      ∙ push-points a.replies.items r
+      ∙ sym (ap (λ (o : Outcome). map (λ r. r.at) a.replies.items ++ cond (goes_on_with o true) (q ∷ []) []) on)
+
+-- a reply that does not go on needs none
+pub answered-same : (rule : RuleKind) (c : Grid) (q : Point) (a : Answering) (o : Outcome) → outcome rule c q ≡ o → goes_on_with o true ≡ false → answered a ≡ answered a ++ going_on rule c (q ∷ [])
+answered-same rule c q a o is stops =
+    sym (ap (λ (r : Bool). answered a ++ cond r (q ∷ []) []) (ap (λ (o : Outcome). goes_on_with o true) is ∙ stops) ∙ append-nil (answered a))
+
+-- ---- what the compiler asks of answers
+
+pub answers-below : (rule : RuleKind) (n : ℕ) (t : List Node) (c : Grid) (a : Answering) → AreAnswers rule n t c a → All (λ r. r.next < length t) a.replies.items
+answers-below rule n t c a h = All-from_recursion (λ r. r.next < length t) a.replies.items (below a.replies.items h.wins) where
+  below : (rs : List Reply) → AllByRecursion (IsWonAt rule n t c) rs → AllByRecursion (λ r. r.next < length t) rs
+  below [] h = tt
+  below (r ∷ rs) h = (h.0.in_compiler, below rs h.1)
+
+pub answers-few : (rule : RuleKind) (n : ℕ) (t : List Node) (c : Grid) (a : Answering) → AreAnswers rule n t c a → a.moves ≤ n
+answers-few rule n t c a h =
+    let low = few a.replies.items h.wins in let e = h.most in omega (arith, low, e) where
+      few : (rs : List Reply) → AllByRecursion (IsWonAt rule n t c) rs → greatest (map (depth t) (map (λ r. r.next) rs)) ≤ n
+      few [] h = omega arith
+      few (r ∷ rs) h = let here = h.0.within in let rest = few rs h.1 in omega (arith, here, rest)
+
+-- ---- one reply more
+
+module _ (rule : RuleKind) (c v : Grid) (same : v ≡ c) (q : Point) (qs rest : List Point) (steps : qs ≡ q ∷ rest) where
+  pub few-step : (count : Grid → ℕ) (before now most : ℕ) → now ≤ before + if_goes_on (outcome rule v q) (count (after v q))
+      → before + sum_by (λ q. if_goes_on (outcome rule c q) (count (after c q))) qs ≤ most
+      → now + sum_by (λ q. if_goes_on (outcome rule c q) (count (after c q))) rest ≤ most
+  few-step count before now most one all =
+      let f : Point → ℕ = λ q. if_goes_on (outcome rule c q) (count (after c q)) in
+      let here : if_goes_on (outcome rule v q) (count (after v q)) ≡ f q = ap (λ (w : Grid). if_goes_on (outcome rule w q) (count (after w q))) same in
+      let split : sum_by f qs ≡ f q + sum_by f rest = ap (sum_by f) steps ∙ sum_by-cons f q rest in
+      omega (arith, one, all, here, split)
+
+  pub full-step : {A : Type 0} (count : Grid → ℕ) (before limit most : ℕ) → (A → limit < before + if_goes_on (outcome rule v q) (count (after v q)))
+      → before + sum_by (λ q. if_goes_on (outcome rule c q) (count (after c q))) qs ≤ most
+      → A → limit < most
+  full-step count before limit most one all a =
+      let f : Point → ℕ = λ q. if_goes_on (outcome rule c q) (count (after c q)) in
+      let here : if_goes_on (outcome rule v q) (count (after v q)) ≡ f q = ap (λ (w : Grid). if_goes_on (outcome rule w q) (count (after w q))) same in
+      let split : sum_by f qs ≡ f q + sum_by f rest = ap (sum_by f) steps ∙ sum_by-cons f q rest in
+      let more = one a in
+      omega (arith, more, all, here, split)
+
+  pub rest-step : (old new : List Point) → new ≡ old ++ going_on rule v (q ∷ []) → new ++ going_on rule c rest ≡ old ++ going_on rule c qs
+  rest-step old new e =
+      ap (λ (ps : List Point). ps ++ going_on rule c rest) (e ∙ ap (λ (w : Grid). old ++ going_on rule w (q ∷ [])) same)
+      ∙ append_assoc old (going_on rule c (q ∷ [])) (going_on rule c rest)
+      ∙ ap (λ (ps : List Point). old ++ ps) (by_test (goes_on_with (outcome rule c q) true) ∙ ap (going_on rule c) (sym steps)) where
+        by_test : (r : Bool) → cond r (q ∷ []) [] ++ going_on rule c rest ≡ cond r (q ∷ going_on rule c rest) (going_on rule c rest)
+        by_test true = refl
+        by_test false = refl
+
+  loses-here : (won : Grid → Bool) → list_all (λ q. loses_or (outcome rule c q) (won (after c q))) qs ≡ (loses_or (outcome rule v q) (won (after v q)) && list_all (λ q. loses_or (outcome rule c q) (won (after c q))) rest)
+  loses-here won =
+      ap (list_all (λ q. loses_or (outcome rule c q) (won (after c q)))) steps
+      ∙ sym (ap (λ (w : Grid). loses_or (outcome rule w q) (won (after w q)) && list_all (λ q. loses_or (outcome rule c q) (won (after c q))) rest) same)
+
+  pub lose-step : (won : Grid → Bool) (loses : Bool) → loses ≡ loses_or (outcome rule v q) (won (after v q)) → loses ≡ true → list_all (λ q. loses_or (outcome rule c q) (won (after c q))) rest ≡ list_all (λ q. loses_or (outcome rule c q) (won (after c q))) qs
+  lose-step won loses e all =
+      sym (loses-here won ∙ ap (λ r. r && list_all (λ q. loses_or (outcome rule c q) (won (after c q))) rest) (sym e ∙ all))
+
+  pub lose-stop : (won : Grid → Bool) (loses : Bool) → loses ≡ loses_or (outcome rule v q) (won (after v q)) → loses ≡ false → list_all (λ q. loses_or (outcome rule c q) (won (after c q))) qs ≡ false
+  lose-stop won loses e none =
+      loses-here won ∙ ap (λ r. r && list_all (λ q. loses_or (outcome rule c q) (won (after c q))) rest) (sym e ∙ none)

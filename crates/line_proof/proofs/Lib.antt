@@ -1,0 +1,15 @@
+-- The laws of line proofs. They serve this crate alone.
+
+-- lists of nodes that grow
+mod Growing
+-- replies in reading order; the cost of two fours
+mod Reading
+mod Costs
+-- the node that has the answers to all replies
+mod Forking
+-- double threats, and the node of one
+mod Doubling
+-- the answers to the replies so far
+mod Gathering
+-- one move of a line
+mod Steps

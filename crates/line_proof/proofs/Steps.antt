@@ -1,0 +1,154 @@
+-- One move of a line.
+use Rattle.std.proofs.Common.{◌≡◌, ℕ, zero, suc, ◌+◌, ◌-◌, ◌≤◌, ◌<◌, Bool, true, false, cond, refl, sym, ap, subst, ◌∙◌, arith, List, [], ◌∷◌, length, get_or, min}
+use Rattle.std.specs.Prelude.{Option, Some, None, IfSome, Result, Ok, Err, OnOk}
+use Rattle.std.specs.List.{filter, find}
+use Rattle.game_rules.specs.Grid.{Grid, points_of}
+use Rattle.game_rules.specs.Shapes.{five}
+use Rattle.game_rules.specs.Play.{mover}
+use Rattle.game_rules.specs.Games.{LosesOr, has_five, wins_by_fours}
+use Rattle.game_rules.specs.declared.RuleKind.{RuleKind}
+use Rattle.game_rules.specs.declared.Outcome.{Outcome}
+use Rattle.game_rules.specs.declared.Outcome.TheVariants.{Refused, Wins as WinsNow, Fouls, Draws, GoesOn}
+use Rattle.game_rules.specs.declared.Point.{Point}
+use Rattle.game_rules.proofs.Points.{any_witness}
+use Rattle.game_rules.proofs.Games.{each_reply}
+use Rattle.threat_moves.specs.FourMoves.{goes_on_with}
+use Rattle.threat_moves.proofs.BlockLaw.{five-wins, five-outcome}
+use Rattle.threat_moves.specs.declared.threat_list.Threat.{Threat}
+use Rattle.line_proof.specs.Lines.{line_wins, line_tree, line_move, each_loses, block_of, block_or_gain, move_wins, behind_replies}
+
+module _ (rule : RuleKind) (ts : List Threat) (b : Grid) where
+  pub no_moves-wins : line_wins rule ts 0 b ≡ false
+  unfolding line_wins
+  no_moves-wins = refl
+
+  pub no_moves-tree : line_tree rule ts 0 b ≡ 1
+  unfolding line_tree
+  no_moves-tree = refl
+
+  -- two fours win
+  pub quick-wins : (n : ℕ) → 1 ≤ n → wins_by_fours rule (min n 2) b ≡ true → line_wins rule ts n b ≡ true
+  unfolding line_wins
+  quick-wins zero l h = absurd (omega arith)
+  quick-wins (suc n) l h = ap (λ r. cond r true (move_wins rule b (λ ts. line_wins rule ts n) (line_move rule ts b))) h
+
+  pub quick-tree : (n : ℕ) → 1 ≤ n → wins_by_fours rule (min n 2) b ≡ true → line_tree rule ts n b ≡ 4
+  unfolding line_tree
+  quick-tree zero l h = absurd (omega arith)
+  quick-tree (suc n) l h = ap (λ r. cond r 4 (1 + behind_replies rule b (λ ts. line_tree rule ts n) (line_move rule ts b))) h
+
+  -- where they do not, the move of the line decides
+  pub slow-wins : (n : ℕ) → 1 ≤ n → wins_by_fours rule (min n 2) b ≡ false → line_wins rule ts n b ≡ move_wins rule b (λ ts. line_wins rule ts (n - 1)) (line_move rule ts b)
+  unfolding line_wins
+  slow-wins zero l h = absurd (omega arith)
+  slow-wins (suc n) l h =
+      let less : n ≡ suc n - 1 = omega arith in
+      ap (λ r. cond r true (move_wins rule b (λ ts. line_wins rule ts n) (line_move rule ts b))) h
+      ∙ ap (λ (k : ℕ). move_wins rule b (λ ts. line_wins rule ts k) (line_move rule ts b)) less
+
+  pub slow-tree : (n : ℕ) → 1 ≤ n → wins_by_fours rule (min n 2) b ≡ false → line_tree rule ts n b ≡ 1 + behind_replies rule b (λ ts. line_tree rule ts (n - 1)) (line_move rule ts b)
+  unfolding line_tree
+  slow-tree zero l h = absurd (omega arith)
+  slow-tree (suc n) l h =
+      let less : n ≡ suc n - 1 = omega arith in
+      ap (λ r. cond r 4 (1 + behind_replies rule b (λ ts. line_tree rule ts n) (line_move rule ts b))) h
+      ∙ ap (λ (k : ℕ). 1 + behind_replies rule b (λ ts. line_tree rule ts k) (line_move rule ts b)) less
+
+  -- by the block that was asked for, at the same board
+  pub move-wins : (n : ℕ) (v : Grid) (o : Option Point) → 1 ≤ n → v ≡ b → o ≡ block_of rule v → wins_by_fours rule (min n 2) b ≡ false → move_wins rule v (λ ts. line_wins rule ts (n - 1)) (block_or_gain o ts) ≡ line_wins rule ts n b
+  move-wins n v o some same block slow =
+      ap (λ (o : Option Point). move_wins rule v (λ ts. line_wins rule ts (n - 1)) (block_or_gain o ts)) block
+      ∙ ap (λ (w : Grid). move_wins rule w (λ ts. line_wins rule ts (n - 1)) (line_move rule ts w)) same
+      ∙ sym (slow-wins n some slow)
+
+  pub move-tree : (n : ℕ) (v : Grid) (o : Option Point) → 1 ≤ n → v ≡ b → o ≡ block_of rule v → wins_by_fours rule (min n 2) b ≡ false → 1 + behind_replies rule v (λ ts. line_tree rule ts (n - 1)) (block_or_gain o ts) ≡ line_tree rule ts n b
+  move-tree n v o some same block slow =
+      ap (λ (o : Option Point). 1 + behind_replies rule v (λ ts. line_tree rule ts (n - 1)) (block_or_gain o ts)) block
+      ∙ ap (λ (w : Grid). 1 + behind_replies rule w (λ ts. line_tree rule ts (n - 1)) (line_move rule ts w)) same
+      ∙ sym (slow-tree n some slow)
+
+  -- where there is no room for two fours
+  pub quick-full : {A : Type 0} (n : ℕ) (most held : ℕ) → 1 ≤ n → (A → (wins_by_fours rule (min n 2) b ≡ true) × (most < held + 4)) → A → most < held + line_tree rule ts n b
+  quick-full n most held some f a =
+      let both = f a in
+      let many = both.1 in
+      let tree = quick-tree n some both.0 in
+      omega (arith, many, tree)
+
+  -- where a double threat wins
+  pub double-quick : (n : ℕ) → 2 ≤ n → wins_by_fours rule 2 b ≡ true → wins_by_fours rule (min n 2) b ≡ true
+  double-quick n l h = let two : min n 2 ≡ 2 = omega arith in ap (λ (k : ℕ). wins_by_fours rule k b) two ∙ h
+
+  pub double-full : {A : Type 0} (n : ℕ) (most held : ℕ) → 2 ≤ n → (A → (wins_by_fours rule 2 b ≡ true) × (most < held + 3)) → A → most < held + line_tree rule ts n b
+  double-full n most held l f a =
+      let both = f a in
+      let many = both.1 in
+      let tree = quick-tree n (omega (arith, l)) (double-quick n l both.0) in
+      omega (arith, many, tree)
+
+  -- where there is a five point
+  pub five-quick : (n : ℕ) → 1 ≤ n → has_five rule b (mover b) ≡ true → wins_by_fours rule (min n 2) b ≡ true
+  five-quick n l h =
+      let e : suc (min n 2 - 1) ≡ min n 2 = omega (arith, l) in
+      ap (λ (k : ℕ). wins_by_fours rule k b) (sym e) ∙ five-wins rule b (min n 2 - 1) h
+
+  pub five-full : {A : Type 0} (n : ℕ) (most held : ℕ) → 1 ≤ n → (A → (has_five rule b (mover b) ≡ true) × (most ≤ held)) → A → most < held + line_tree rule ts n b
+  five-full n most held l f a =
+      let both = f a in
+      let many = both.1 in
+      let tree = quick-tree n l (five-quick n l both.0) in
+      omega (arith, many, tree)
+
+-- what holds of a value, if there is one
+pub of-some : {X : Type 0} (P : X → Type 0) (o : Option X) (x : X) → o ≡ Some x → IfSome o P → P x
+of-some P o x e h = subst (λ o. IfSome o P) e h
+
+-- what holds whatever is answered
+pub on-ok : {A E P : Type 0} (r : Result A E) → P → OnOk r P
+on-ok (Ok a) p = p
+on-ok (Err e) p = tt
+
+-- an option that is no value
+pub no-value : {X : Type 0} (o : Option X) → ((x : X) → o ≡ Some x → ⊥) → o ≡ None
+no-value None f = refl
+no-value (Some x) f = absurd (f x refl)
+
+-- a move that does not go on
+pub stops-with : (o : Outcome) (r : Bool) → (o ≡ GoesOn → ⊥) → goes_on_with o r ≡ false
+stops-with Refused r h = refl
+stops-with WinsNow r h = refl
+stops-with (Fouls f) r h = refl
+stops-with Draws r h = refl
+stops-with GoesOn r h = absurd (h refl)
+
+-- ---- the first of those that pass
+
+find-none : (f : Point → Bool) (ps : List Point) → length (filter f ps) < 1 → find f ps ≡ None
+find-none f [] l = refl
+find-none f (p ∷ ps) l = by_test (f p) l (find-none f ps) where
+  by_test : (r : Bool) → length (cond r (p ∷ filter f ps) (filter f ps)) < 1 → (length (filter f ps) < 1 → find f ps ≡ None) → cond r (Some p) (find f ps) ≡ None
+  by_test true l rest = absurd (omega arith)
+  by_test false l rest = rest l
+
+find-first : (f : Point → Bool) (ps : List Point) (d : Point) → 1 ≤ length (filter f ps) → find f ps ≡ Some (get_or (filter f ps) 0 d)
+find-first f [] d l = absurd (omega arith)
+find-first f (p ∷ ps) d l = by_test (f p) l (find-first f ps d) where
+  by_test : (r : Bool) → 1 ≤ length (cond r (p ∷ filter f ps) (filter f ps)) → (1 ≤ length (filter f ps) → find f ps ≡ Some (get_or (filter f ps) 0 d)) → cond r (Some p) (find f ps) ≡ Some (get_or (cond r (p ∷ filter f ps) (filter f ps)) 0 d)
+  by_test true l rest = refl
+  by_test false l rest = rest l
+
+pub none-first : (f : Point → Bool) (ps xs : List Point) → xs ≡ filter f ps → length xs < 1 → find f ps ≡ None
+none-first f ps xs e l = find-none f ps (subst (λ (ys : List Point). length ys < 1) e l)
+
+pub some-first : (f : Point → Bool) (ps xs : List Point) (d : Point) → xs ≡ filter f ps → 1 ≤ length xs → find f ps ≡ Some (get_or xs 0 d)
+some-first f ps xs d e l =
+    find-first f ps d (subst (λ (ys : List Point). 1 ≤ length ys) e l) ∙ ap (λ (ys : List Point). Some (get_or ys 0 d)) (sym e)
+
+-- where the side to move has a five point, not each of its moves loses
+pub five-refutes : (rule : RuleKind) (c : Grid) (won : Grid → Bool) → has_five rule c (mover c) ≡ true → each_loses rule c won ≡ false
+five-refutes rule c won some = by_test (each_loses rule c won) refl where
+  by_test : (r : Bool) → each_loses rule c won ≡ r → r ≡ false
+  by_test false e = refl
+  by_test true e =
+      let x = any_witness (five rule c (mover c)) (points_of c) some in
+      absurd (subst (λ (o : Outcome). LosesOr o (Unit {0})) (five-outcome rule c x.0 x.1) (each_reply rule c won (λ d. Unit {0}) (λ d h. tt) e x.0))

@@ -1,0 +1,52 @@
+use Rattle.std.proofs.Common.{◌≡◌, ◌+◌, ◌*◌, ◌≤◌, ◌++◌, length}
+use Rattle.std.specs.Prelude.{IfSome}
+use Rattle.std.specs.List.{list_all, sum_by}
+use Rattle.game_rules.specs.Grid.{points_of}
+use Rattle.game_rules.specs.Play.{outcome, after}
+use Rattle.game_rules.specs.Games.{loses_or, if_goes_on}
+use Rattle.strategy_compiler.specs.Nodes.{IsCompiled}
+use Rattle.line_proof.specs.Lines.{line_wins, line_tree, each_loses, behind_each}
+use Rattle.line_proof.specs.Doubles.{IsDouble}
+use Rattle.line_proof.specs.Replies.{Extends, AreAnswers, answered, going_on}
+use Rattle.line_proof.proofs.proof.+line.Given as goal
+
+abbrev pub decreases-prove : goal.decreases-prove
+decreases-prove g l = 9 * l.moves
+
+abbrev pub decreases-prove_double : goal.decreases-prove_double
+decreases-prove_double g l = 9 * l.moves + 1
+
+abbrev pub decreases-prove_reply : goal.decreases-prove_reply
+decreases-prove_reply g l = 9 * l.moves + 2
+
+abbrev pub decreases-prove_after : goal.decreases-prove_after
+decreases-prove_after g l = 9 * l.moves + 3
+
+abbrev pub decreases-answer_reply : goal.decreases-answer_reply
+decreases-answer_reply g l = 9 * l.moves + 4
+
+abbrev pub decreases-answer_each : goal.decreases-answer_each
+decreases-answer_each g l = 9 * l.moves + 5
+
+abbrev pub decreases-prove_on : goal.decreases-prove_on
+decreases-prove_on g l = 9 * l.moves + 6
+
+abbrev pub decreases-prove_move : goal.decreases-prove_move
+decreases-prove_move g l = 9 * l.moves + 7
+
+abbrev pub decreases-prove_gain : goal.decreases-prove_gain
+decreases-prove_gain g l = 9 * l.moves + 8
+
+-- the view is as before, and the hint is one; the answers found, and those that the points left need, are all, and so are the nodes; the points left lose
+-- where all points do
+abbrev pub invariant-answer_each-loop-q : goal.invariant-answer_each-loop-q
+invariant-answer_each-loop-q g l = record {
+  same : g.V.Seen.position l.view ≡ g.V.Seen.position l.fn.view;
+  compiled : IsCompiled l.compiler;
+  kept : Extends l.fn.compiler l.compiler;
+  few : length l.compiler + sum_by (λ q. if_goes_on (outcome g.R.Rule.KIND (g.V.Seen.position l.fn.view) q) (line_tree g.R.Rule.KIND l.threats l.moves (after (g.V.Seen.position l.fn.view) q))) l.q-iterator ≤ length l.fn.compiler + behind_each g.R.Rule.KIND (g.V.Seen.position l.fn.view) (line_tree g.R.Rule.KIND l.threats l.moves);
+  hint : IfSome l.hint (IsDouble (g.V.Seen.position l.fn.view).width (g.V.Seen.position l.fn.view).height l.compiler);
+  answers : AreAnswers g.R.Rule.KIND l.moves l.compiler (g.V.Seen.position l.fn.view) l.answers;
+  rest : answered l.answers ++ going_on g.R.Rule.KIND (g.V.Seen.position l.fn.view) l.q-iterator ≡ going_on g.R.Rule.KIND (g.V.Seen.position l.fn.view) (points_of (g.V.Seen.position l.fn.view));
+  lose : list_all (λ q. loses_or (outcome g.R.Rule.KIND (g.V.Seen.position l.fn.view) q) (line_wins g.R.Rule.KIND l.threats l.moves (after (g.V.Seen.position l.fn.view) q))) l.q-iterator ≡ each_loses g.R.Rule.KIND (g.V.Seen.position l.fn.view) (line_wins g.R.Rule.KIND l.threats l.moves);
+}

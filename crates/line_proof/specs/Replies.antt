@@ -1,0 +1,45 @@
+-- The answers to the replies at a position, and how the nodes grow while they are found.
+use Rattle.std.specs.Prelude.{◌≡◌, ℕ, Bool, true, false, List, ◌++◌, map, Option, Some, None}
+use Rattle.std.specs.List.{filter, AllByRecursion}
+use Rattle.game_rules.specs.Grid.{Grid, points_of}
+use Rattle.game_rules.specs.Play.{outcome, after}
+use Rattle.game_rules.specs.declared.RuleKind.{RuleKind}
+use Rattle.game_rules.specs.declared.Point.{Point}
+use Rattle.strategy_graph.specs.declared.Reply.{Reply}
+use Rattle.strategy_graph.specs.declared.Node.{Node}
+use Rattle.strategy_graph.specs.Tables.{depth, greatest}
+use Rattle.strategy_compiler.specs.Wins.{IsWrittenWin}
+use Rattle.threat_moves.specs.FourMoves.{goes_on_with}
+use Rattle.line_proof.specs.declared.answers.Answering.{Answering}
+
+-- the nodes stay, and others may be added at the end
+pub record Extends (old new : List Node) : Type 0 where
+  pub added : List Node
+  pub is : new ≡ old ++ added
+
+-- those of the points that are moves at c that go on
+abbrev pub going_on : RuleKind → Grid → List Point → List Point
+going_on rule c qs = filter (λ q. goes_on_with (outcome rule c q) true) qs
+
+-- the node that answers the reply r at c wins there within n moves
+abbrev pub IsWonAt : RuleKind → ℕ → List Node → Grid → Reply → Type 0
+IsWonAt rule n t c r = IsWrittenWin rule n (after c r.at) t (record { node = r.next; moves = depth t r.next })
+
+-- answers to replies at c: each wins within n moves, and the most moves that one of them takes are told
+pub record AreAnswers (rule : RuleKind) (n : ℕ) (t : List Node) (c : Grid) (a : Answering) : Type 0 where
+  pub wins : AllByRecursion (IsWonAt rule n t c) a.replies.items
+  pub most : a.moves ≡ greatest (map (depth t) (map (λ r. r.next) a.replies.items))
+
+-- the replies that are answered, in their order
+abbrev pub answered : Answering → List Point
+answered a = map (λ r. r.at) a.replies.items
+
+-- such answers to all replies at c that go on
+pub record AnswersAll (rule : RuleKind) (n : ℕ) (t : List Node) (c : Grid) (a : Answering) : Type 0 where
+  pub answers : AreAnswers rule n t c a
+  pub all : answered a ≡ going_on rule c (points_of c)
+
+-- what is found at c: answers to all replies where each of them loses, and else nothing
+abbrev pub FindsAnswers : RuleKind → ℕ → List Node → Grid → Bool → Option Answering → Type 0
+FindsAnswers rule n t c lost None = lost ≡ false
+FindsAnswers rule n t c lost (Some a) = (lost ≡ true) × AnswersAll rule n t c a

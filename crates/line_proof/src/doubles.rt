@@ -1,0 +1,287 @@
+//! Double threats: moves after which the attacker has two five points and the defender none, which win in two moves.
+//!
+//! After a three of the attacker most replies leave it one and the same double threat. Its node plays the same move and takes
+//! the same two points wherever it wins, so it is compiled once, and each further reply is only tested: whether the move goes
+//! on there, and whether the two five points are there and the defender has none. No search is made for such a reply.
+#![tactic(auto)]
+
+ghost use Rattle.std.specs.Prelude.{◌≡◌, ◌<◌, ◌≤◌, ◌+◌, true, false, Some, None, length, IfOk, IfSome, OnOk, IsErrOf, IsTrue};
+ghost use Rattle.game_rules.specs.Shapes.{is_same_point};
+ghost use Rattle.game_rules.specs.Play.{IsPosition, outcome as outcome_lem, mover, other};
+ghost use Rattle.game_rules.specs.Games.{has_five, wins_by_fours};
+ghost use Rattle.strategy_graph.specs.declared.TheConstants.{MAX_NODES};
+ghost use Rattle.strategy_compiler.specs.Nodes.{IsCompiled};
+ghost use Rattle.strategy_compiler.specs.Wins.{IsWrittenWin};
+ghost use Rattle.four_search.specs.Plans.{at_or_beside as at_or_beside_lem};
+ghost use Rattle.line_proof.specs.Replies.{Extends};
+ghost use Rattle.line_proof.specs.Doubles.{AreOpen, IsPressed, IsDouble, answers_to_each as answers_to_each_lem};
+
+use crate::SearchError;
+use crate::fives::is_five;
+use foul_judge::{Outcome, Seen};
+use row_shapes::{FivePoints, Rule};
+use std::alloc::{AllocError, Global};
+use stone_board::{Board, Point};
+use strategy_compiler::{Compiler, WrittenWin};
+use strategy_graph::Reply;
+
+/// Two points.
+#[derive(Clone, Copy)]
+pub(crate) struct Pair {
+    pub(crate) first: Point,
+    pub(crate) second: Point,
+}
+
+/// A double threat that was compiled: its move, its two five points, and its node.
+#[derive(Clone, Copy)]
+pub(crate) struct Double {
+    pub(crate) start: Point,
+    pub(crate) ends: Pair,
+    pub(crate) node: u32,
+}
+
+/// A win of the side to move by a double threat: by the one that is given, or else by one that is looked for, which then takes
+/// its place. Where none is told there may be one all the same. The view is as before.
+pub(crate) fn double_win<R: Rule, V: Seen<R>>(
+    alloc: Global,
+    view: &mut V,
+    hint: &mut Option<Double>,
+    compiler: &mut Compiler,
+) -> Result<Option<WrittenWin>, SearchError>
+    requires compiled { IsCompiled compiler.old }
+    requires hint { IfSome hint.old (IsDouble (V.position view.old).width (V.position view.old).height compiler.old) }
+    ensures win { IfOk result (λ found. IfSome found (IsWrittenWin R.KIND 2 (V.position view.old) compiler.new)) }
+    ensures wins { IfOk result (λ found. IfSome found (λ win. wins_by_fours R.KIND 2 (V.position view.old) ≡ true)) }
+    ensures none { IfOk result (λ found. found ≡ None → compiler.new ≡ compiler.old) }
+    ensures hint { OnOk result (IfSome hint.new (IsDouble (V.position view.old).width (V.position view.old).height compiler.new)) }
+    ensures compiled { OnOk result (IsCompiled compiler.new) }
+    ensures kept { Extends compiler.old compiler.new }
+    ensures few { OnOk result (length compiler.new ≤ length compiler.old + 3) }
+    ensures full { IsErrOf result SearchError.Full
+        → (wins_by_fours R.KIND 2 (V.position view.old) ≡ true) × (MAX_NODES < length compiler.old + 3) }
+    ensures full_now { IsErrOf result SearchError.Full → length compiler.new ≡ MAX_NODES }
+    ensures same { V.position view.new ≡ V.position view.old }
+{
+    view.side();
+    match pressed_hint::<R, V>(view, *hint) {
+        Some(double) => Ok(Some(double_of(double))),
+        None => new_double::<R, V>(alloc, view, hint, compiler),
+    }
+}
+
+/// The win by a double threat.
+fn double_of(double: Double) -> WrittenWin
+    ensures node { result.node ≡ double.node }
+    ensures moves { result.moves ≡ 2 }
+{
+    WrittenWin {
+        node: double.node,
+        moves: 2,
+    }
+}
+
+/// The double threat that is given, if it wins here. The view is as before.
+fn pressed_hint<R: Rule, V: Seen<R>>(view: &mut V, hint: Option<Double>) -> Option<Double>
+    ensures pressed { IfSome result (λ double. IsPressed R.KIND (V.position view.old) double.start double.ends) }
+    ensures given { IfSome result (λ double. hint ≡ Some double) }
+    ensures same { V.position view.new ≡ V.position view.old }
+{
+    match hint {
+        None => None,
+        Some(double) => {
+            if is_pressed::<R, V>(view, double.start, double.ends) {
+                Some(double)
+            } else {
+                None
+            }
+        }
+    }
+}
+
+/// A win by a double threat that is looked for, and takes the place of the one that is given. The view is as before.
+fn new_double<R: Rule, V: Seen<R>>(
+    alloc: Global,
+    view: &mut V,
+    hint: &mut Option<Double>,
+    compiler: &mut Compiler,
+) -> Result<Option<WrittenWin>, SearchError>
+    requires lawful { IsPosition R.KIND (V.position view.old) }
+    requires compiled { IsCompiled compiler.old }
+    requires hint { IfSome hint.old (IsDouble (V.position view.old).width (V.position view.old).height compiler.old) }
+    ensures win { IfOk result (λ found. IfSome found (IsWrittenWin R.KIND 2 (V.position view.old) compiler.new)) }
+    ensures wins { IfOk result (λ found. IfSome found (λ win. wins_by_fours R.KIND 2 (V.position view.old) ≡ true)) }
+    ensures none { IfOk result (λ found. found ≡ None → compiler.new ≡ compiler.old) }
+    ensures hint { OnOk result (IfSome hint.new (IsDouble (V.position view.old).width (V.position view.old).height compiler.new)) }
+    ensures compiled { OnOk result (IsCompiled compiler.new) }
+    ensures kept { Extends compiler.old compiler.new }
+    ensures few { OnOk result (length compiler.new ≤ length compiler.old + 3) }
+    ensures full { IsErrOf result SearchError.Full
+        → (wins_by_fours R.KIND 2 (V.position view.old) ≡ true) × (MAX_NODES < length compiler.old + 3) }
+    ensures full_now { IsErrOf result SearchError.Full → length compiler.new ≡ MAX_NODES }
+    ensures same { V.position view.new ≡ V.position view.old }
+{
+    match pressing::<R, V>(alloc, view)? {
+        None => Ok(None),
+        Some((start, ends)) => {
+            if !is_pressed::<R, V>(view, start, ends) {
+                return Ok(None);
+            }
+            let double = compile_double(alloc, view.board(), start, ends, compiler)?;
+            *hint = Some(double);
+            Ok(Some(double_of(double)))
+        }
+    }
+}
+
+/// Whether the move of the side to move goes on and leaves it these two five points, and the other side none. The view is as
+/// before.
+fn is_pressed<R: Rule, V: Seen<R>>(view: &mut V, start: Point, ends: Pair) -> bool
+    ensures pressed { result ≡ true → IsPressed R.KIND (V.position view.old) start ends }
+    ensures same { V.position view.new ≡ V.position view.old }
+{
+    match view.outcome(start) {
+        Outcome::GoesOn => opens::<R, V>(view, start, ends),
+        _ => false,
+    }
+}
+
+/// The same of a move that goes on.
+fn opens<R: Rule, V: Seen<R>>(view: &mut V, start: Point, ends: Pair) -> bool
+    requires goes_on { outcome_lem R.KIND (V.position view.old) start ≡ Outcome.GoesOn }
+    ensures pressed { result ≡ true → IsPressed R.KIND (V.position view.old) start ends }
+    ensures same { V.position view.new ≡ V.position view.old }
+{
+    view.play(start);
+    let open = are_open::<R, V>(view, ends);
+    view.undo(start);
+    open
+}
+
+/// Whether the side that is not to move has these two five points, and the side to move has none.
+fn are_open<R: Rule, V: Seen<R>>(view: &V, ends: Pair) -> bool
+    ensures open { result ≡ true → AreOpen R.KIND (V.position view.now) ends }
+{
+    let defender = view.side();
+    let attacker = defender.other();
+    if is_same(ends.first, ends.second) {
+        return false;
+    }
+    if !is_five::<R, V>(view, attacker, ends.first) {
+        return false;
+    }
+    if !is_five::<R, V>(view, attacker, ends.second) {
+        return false;
+    }
+    !view.has_five(defender)
+}
+
+/// Whether the points are one.
+fn is_same(p: Point, q: Point) -> bool
+    ensures same { result ≡ is_same_point p q }
+{
+    p.x == q.x && p.y == q.y
+}
+
+/// A move of the side to move that may be a double threat, and two five points that it leaves. The view is as before.
+fn pressing<R: Rule, V: Seen<R>>(
+    alloc: Global,
+    view: &mut V,
+) -> Result<Option<(Point, Pair)>, AllocError>
+    ensures same { V.position view.new ≡ V.position view.old }
+{
+    let attacker = view.side();
+    if view.has_five(attacker) {
+        return Ok(None);
+    }
+    for start in view.board().points() {
+        if makes_several::<R, V>(view, start) {
+            if let Outcome::GoesOn = view.outcome(start) {
+                return left_by::<R, V>(alloc, view, start);
+            }
+        }
+    }
+    Ok(None)
+}
+
+/// Whether the point is empty, and the side to move, which has no five point, has two or more with a stone on it.
+fn makes_several<R: Rule, V: Seen<R>>(view: &V, p: Point) -> bool
+    requires none { has_five R.KIND (V.position view.now) (mover (V.position view.now)) ≡ false }
+{
+    view.board().is_empty(p) && matches!(view.fives_made(p), FivePoints::Several)
+}
+
+/// The move, which goes on, and two five points that it leaves the side to move, if it leaves so many. The view is as before.
+fn left_by<R: Rule, V: Seen<R>>(
+    alloc: Global,
+    view: &mut V,
+    start: Point,
+) -> Result<Option<(Point, Pair)>, AllocError>
+    requires goes_on { outcome_lem R.KIND (V.position view.old) start ≡ Outcome.GoesOn }
+    ensures same { V.position view.new ≡ V.position view.old }
+{
+    let attacker = view.side();
+    view.play(start);
+    let points = view.five_points(alloc, attacker);
+    view.undo(start);
+    match points?.as_slice() {
+        [first, second, ..] => Ok(Some((
+            start,
+            Pair {
+                first: *first,
+                second: *second,
+            },
+        ))),
+        _ => Ok(None),
+    }
+}
+
+/// The double threat with this move and these two five points, compiled for boards of this size.
+fn compile_double(
+    alloc: Global,
+    board: &Board,
+    start: Point,
+    ends: Pair,
+    compiler: &mut Compiler,
+) -> Result<Double, SearchError>
+    ensures double { IfOk result (IsDouble board.now.width board.now.height compiler.new) }
+    ensures start { IfOk result (λ d. d.start ≡ start) }
+    ensures ends { IfOk result (λ d. d.ends ≡ ends) }
+    ensures compiled { OnOk result (IsCompiled compiler.new) }
+    ensures kept { Extends compiler.old compiler.new }
+    ensures few { OnOk result (length compiler.new ≤ length compiler.old + 3) }
+    ensures full { IsErrOf result SearchError.Full → MAX_NODES < length compiler.old + 3 }
+    ensures full_now { IsErrOf result SearchError.Full → length compiler.new ≡ MAX_NODES }
+{
+    let beside = compiler.winning(ends.first)?;
+    let at_first = compiler.winning(ends.second)?;
+    let answers = answers_to_each(alloc, board, ends.first, at_first, beside)?;
+    let node = compiler.node(start, answers.as_slice())?;
+    Ok(Double { start, ends, node })
+}
+
+/// An answer to each point of the board: one node to `p`, and the other to any other point.
+fn answers_to_each(
+    alloc: Global,
+    board: &Board,
+    p: Point,
+    at_point: u32,
+    beside: u32,
+) -> Result<Vec<Reply>, AllocError>
+    ensures answers { IfOk result (λ answers. answers.items ≡ answers_to_each_lem board.now.width board.now.height p at_point beside) }
+{
+    let mut answers = Vec::new(alloc);
+    for q in board.points() {
+        answers.push(Reply {
+            at: q,
+            next: at_or_beside(q, p, at_point, beside),
+        })?;
+    }
+    Ok(answers)
+}
+
+/// The first node for the point `p`, and the second for another.
+fn at_or_beside(q: Point, p: Point, at_point: u32, beside: u32) -> u32
+    ensures node { result ≡ at_or_beside_lem p at_point beside q }
+{
+    if is_same(q, p) { at_point } else { beside }
+}

@@ -1,0 +1,437 @@
+//! The proof of a line, compiled from the bottom up.
+//!
+//! The attacker's side is a walk along the threats with one move at each position; the defender's side tries all moves. A
+//! node is put in once each of its replies has one, so a line that fails leaves no node of the moves above the failure.
+#![tactic(auto)]
+
+ghost use Rattle.std.specs.Prelude.{◌≡◌, ◌↔◌, ◌≤◌, ◌<◌, ◌+◌, ◌++◌, ◌∷◌, [], List, Some, None, min, suc, true, false, is_some, length, IfOk, IfSome, OnOk, IsErrOf};
+ghost use Rattle.game_rules.specs.Play.{outcome as outcome_lem, after};
+ghost use Rattle.game_rules.specs.Games.{wins_by_fours, loses_or, if_goes_on};
+ghost use Rattle.strategy_graph.specs.declared.Node.{Node};
+ghost use Rattle.strategy_graph.specs.declared.TheConstants.{MAX_NODES};
+ghost use Rattle.strategy_compiler.specs.Nodes.{IsCompiled};
+ghost use Rattle.strategy_compiler.specs.Wins.{IsWrittenWin};
+ghost use Rattle.line_proof.specs.declared.TheConstants.{MAX_DEPTH};
+ghost use Rattle.line_proof.specs.Lines.{line_wins, line_tree, first_gain, block_of, each_loses, move_wins, behind_each, behind_replies};
+ghost use Rattle.line_proof.specs.Replies.{Extends, AreAnswers, FindsAnswers, answered, going_on};
+ghost use Rattle.line_proof.specs.Answers.{OnProved, is_proved};
+ghost use Rattle.line_proof.specs.Doubles.{IsDouble};
+
+use crate::answers::{Answering, add, fork};
+use crate::doubles::{Double, double_win};
+use crate::fives::five_win;
+use foul_judge::{Outcome, Seen};
+use four_search::{FourAnswer, four_search};
+use row_shapes::Rule;
+use std::alloc::{AllocError, Global};
+use stone_board::Point;
+use strategy_compiler::{Compiler, SearchError, WrittenWin, growth_keeps_wins};
+use threat_moves::{Threat, Threats};
+
+/// What the proof of a line finds.
+#[derive(Clone, Copy, Debug, PartialEq, Eq)]
+pub enum LineAnswer {
+    /// The line wins.
+    Proved(WrittenWin),
+    /// It does not win within so many moves.
+    Fails,
+}
+
+/// Proves that the side to move wins along the gains of these threats within `depth` moves, 1 to `MAX_DEPTH`, whatever the
+/// replies. At each position two continuous fours come first, then the least five point of the other side, and then the
+/// next gain.
+///
+/// - `Proved` comes exactly where the line wins. The node is accepted, and its depth is the number of moves.
+/// - `Fails` comes exactly where it does not.
+///
+/// `Full` comes only where the compiler has no room for as many nodes as the line has positions; `Memory` where there is no
+/// memory. After each answer and refusal the view is as before, and the compiler's earlier nodes stay.
+pub fn prove_line<R: Rule, V: Seen<R>>(
+    alloc: Global,
+    view: &mut V,
+    sequence: &Threats,
+    depth: u32,
+    compiler: &mut Compiler,
+) -> Result<LineAnswer, SearchError>
+    requires some_depth { 1 ≤ depth }
+    requires depth_fits { depth ≤ MAX_DEPTH }
+    ensures proved { IfOk result (λ a. OnProved a (IsWrittenWin R.KIND depth (V.position view.old) compiler.new)) }
+    ensures fails { IfOk result (λ a. (a ≡ LineAnswer.Fails) ↔ (line_wins R.KIND sequence.now depth (V.position view.old) ≡ false)) }
+    ensures kept { (more : List Node) × (compiler.new ≡ compiler.old ++ more) }
+    ensures full { IsErrOf result SearchError.Full → MAX_NODES < length compiler.old + line_tree R.KIND sequence.now depth (V.position view.old) }
+    ensures full_now { IsErrOf result SearchError.Full → length compiler.new ≡ MAX_NODES }
+    ensures same { V.position view.new ≡ V.position view.old }
+{
+    compiler.len();
+    prove::<R, V>(alloc, view, sequence.as_slice(), depth, compiler)
+}
+
+/// The same of these threats, within so many moves, none included.
+#[cycle(line)]
+fn prove<R: Rule, V: Seen<R>>(
+    alloc: Global,
+    view: &mut V,
+    threats: &[Threat],
+    moves: u32,
+    compiler: &mut Compiler,
+) -> Result<LineAnswer, SearchError>
+    requires fits { moves ≤ MAX_DEPTH }
+    requires compiled { IsCompiled compiler.old }
+    ensures proved { IfOk result (λ a. OnProved a (IsWrittenWin R.KIND moves (V.position view.old) compiler.new)) }
+    ensures wins { IfOk result (λ a. is_proved a ≡ line_wins R.KIND threats.now moves (V.position view.old)) }
+    ensures compiled { OnOk result (IsCompiled compiler.new) }
+    ensures kept { Extends compiler.old compiler.new }
+    ensures few { OnOk result (length compiler.new ≤ length compiler.old + line_tree R.KIND threats.now moves (V.position view.old)) }
+    ensures full { IsErrOf result SearchError.Full → MAX_NODES < length compiler.old + line_tree R.KIND threats.now moves (V.position view.old) }
+    ensures full_now { IsErrOf result SearchError.Full → length compiler.new ≡ MAX_NODES }
+    ensures same { V.position view.new ≡ V.position view.old }
+{
+    if moves == 0 {
+        return Ok(LineAnswer::Fails);
+    }
+    if let Some(win) = quick_win::<R, V>(alloc, view, moves, compiler)? {
+        return Ok(LineAnswer::Proved(win));
+    }
+    match block::<R, V>(alloc, view)? {
+        Some(block) => prove_move::<R, V>(alloc, view, block, threats, moves - 1, compiler),
+        None => prove_gain::<R, V>(alloc, view, threats, moves - 1, compiler),
+    }
+}
+
+/// A win by continuous fours within two of so many moves, which are at least 1.
+fn quick_win<R: Rule, V: Seen<R>>(
+    alloc: Global,
+    view: &mut V,
+    moves: u32,
+    compiler: &mut Compiler,
+) -> Result<Option<WrittenWin>, SearchError>
+    requires some { 1 ≤ moves }
+    requires compiled { IsCompiled compiler.old }
+    ensures win { IfOk result (λ found. IfSome found (IsWrittenWin R.KIND moves (V.position view.old) compiler.new)) }
+    ensures wins { IfOk result (λ found. is_some found ≡ wins_by_fours R.KIND (min moves 2) (V.position view.old)) }
+    ensures none { IfOk result (λ found. found ≡ None → compiler.new ≡ compiler.old) }
+    ensures compiled { OnOk result (IsCompiled compiler.new) }
+    ensures kept { Extends compiler.old compiler.new }
+    ensures few { OnOk result (length compiler.new ≤ length compiler.old + 4) }
+    ensures full { IsErrOf result SearchError.Full
+        → (wins_by_fours R.KIND (min moves 2) (V.position view.old) ≡ true) × (MAX_NODES < length compiler.old + 4) }
+    ensures full_now { IsErrOf result SearchError.Full → length compiler.new ≡ MAX_NODES }
+    ensures same { V.position view.new ≡ V.position view.old }
+{
+    view.side();
+    let found = four_search::<R, V>(alloc, view, moves.min(2), u64::MAX, compiler)?;
+    compiler.len();
+    match found {
+        FourAnswer::Win(win) => Ok(Some(win)),
+        FourAnswer::None => Ok(None),
+        FourAnswer::Spent => unreachable!(),
+    }
+}
+
+/// The least five point of the side that is not to move, if it has one.
+fn block<R: Rule, V: Seen<R>>(alloc: Global, view: &V) -> Result<Option<Point>, AllocError>
+    ensures block { IfOk result (λ block. block ≡ block_of R.KIND (V.position view.now)) }
+{
+    let defender = view.side().other();
+    let points = view.five_points(alloc, defender)?;
+    match points.as_slice() {
+        [] => Ok(None),
+        [first, ..] => Ok(Some(*first)),
+    }
+}
+
+/// Proves the line that begins with the first gain, where the attacker has so many more moves after it.
+#[cycle(line)]
+fn prove_gain<R: Rule, V: Seen<R>>(
+    alloc: Global,
+    view: &mut V,
+    threats: &[Threat],
+    moves: u32,
+    compiler: &mut Compiler,
+) -> Result<LineAnswer, SearchError>
+    requires fits { moves < MAX_DEPTH }
+    requires compiled { IsCompiled compiler.old }
+    ensures proved { IfOk result (λ a. OnProved a (IsWrittenWin R.KIND (suc moves) (V.position view.old) compiler.new)) }
+    ensures wins { IfOk result (λ a. is_proved a
+        ≡ move_wins R.KIND (V.position view.old) (λ ts. line_wins R.KIND ts moves) (first_gain threats.now)) }
+    ensures compiled { OnOk result (IsCompiled compiler.new) }
+    ensures kept { Extends compiler.old compiler.new }
+    ensures few { OnOk result (length compiler.new
+        ≤ length compiler.old + (1 + behind_replies R.KIND (V.position view.old) (λ ts. line_tree R.KIND ts moves) (first_gain threats.now))) }
+    ensures full { IsErrOf result SearchError.Full → MAX_NODES
+        < length compiler.old + (1 + behind_replies R.KIND (V.position view.old) (λ ts. line_tree R.KIND ts moves) (first_gain threats.now)) }
+    ensures full_now { IsErrOf result SearchError.Full → length compiler.new ≡ MAX_NODES }
+    ensures same { V.position view.new ≡ V.position view.old }
+{
+    match threats.split_first() {
+        None => Ok(LineAnswer::Fails),
+        Some((threat, later)) => prove_move::<R, V>(
+            alloc,
+            view,
+            threat.gain,
+            later,
+            moves,
+            compiler,
+        ),
+    }
+}
+
+/// Proves the line that begins with the move `p`, where the attacker has so many more moves after it and these threats.
+#[cycle(line)]
+fn prove_move<R: Rule, V: Seen<R>>(
+    alloc: Global,
+    view: &mut V,
+    p: Point,
+    threats: &[Threat],
+    moves: u32,
+    compiler: &mut Compiler,
+) -> Result<LineAnswer, SearchError>
+    requires fits { moves < MAX_DEPTH }
+    requires compiled { IsCompiled compiler.old }
+    ensures proved { IfOk result (λ a. OnProved a (IsWrittenWin R.KIND (suc moves) (V.position view.old) compiler.new)) }
+    ensures wins { IfOk result (λ a. is_proved a
+        ≡ move_wins R.KIND (V.position view.old) (λ ts. line_wins R.KIND ts moves) (Some (p, threats.now))) }
+    ensures compiled { OnOk result (IsCompiled compiler.new) }
+    ensures kept { Extends compiler.old compiler.new }
+    ensures few { OnOk result (length compiler.new
+        ≤ length compiler.old + (1 + behind_replies R.KIND (V.position view.old) (λ ts. line_tree R.KIND ts moves) (Some (p, threats.now)))) }
+    ensures full { IsErrOf result SearchError.Full → MAX_NODES
+        < length compiler.old + (1 + behind_replies R.KIND (V.position view.old) (λ ts. line_tree R.KIND ts moves) (Some (p, threats.now))) }
+    ensures full_now { IsErrOf result SearchError.Full → length compiler.new ≡ MAX_NODES }
+    ensures same { V.position view.new ≡ V.position view.old }
+{
+    match view.outcome(p) {
+        Outcome::GoesOn => prove_on::<R, V>(alloc, view, p, threats, moves, compiler),
+        _ => Ok(LineAnswer::Fails),
+    }
+}
+
+/// The same where the move goes on.
+#[cycle(line)]
+fn prove_on<R: Rule, V: Seen<R>>(
+    alloc: Global,
+    view: &mut V,
+    p: Point,
+    threats: &[Threat],
+    moves: u32,
+    compiler: &mut Compiler,
+) -> Result<LineAnswer, SearchError>
+    requires fits { moves < MAX_DEPTH }
+    requires goes_on { outcome_lem R.KIND (V.position view.old) p ≡ Outcome.GoesOn }
+    requires compiled { IsCompiled compiler.old }
+    ensures proved { IfOk result (λ a. OnProved a (IsWrittenWin R.KIND (suc moves) (V.position view.old) compiler.new)) }
+    ensures wins { IfOk result (λ a. is_proved a
+        ≡ each_loses R.KIND (after (V.position view.old) p) (line_wins R.KIND threats.now moves)) }
+    ensures compiled { OnOk result (IsCompiled compiler.new) }
+    ensures kept { Extends compiler.old compiler.new }
+    ensures few { OnOk result (length compiler.new
+        ≤ length compiler.old + (1 + behind_each R.KIND (after (V.position view.old) p) (line_tree R.KIND threats.now moves))) }
+    ensures full { IsErrOf result SearchError.Full → MAX_NODES
+        < length compiler.old + (1 + behind_each R.KIND (after (V.position view.old) p) (line_tree R.KIND threats.now moves)) }
+    ensures full_now { IsErrOf result SearchError.Full → length compiler.new ≡ MAX_NODES }
+    ensures same { V.position view.new ≡ V.position view.old }
+{
+    view.play(p);
+    let found = answer_each::<R, V>(alloc, view, threats, moves, compiler);
+    view.undo(p);
+    match found? {
+        None => Ok(LineAnswer::Fails),
+        Some(answers) => Ok(LineAnswer::Proved(fork(p, &answers, compiler)?)),
+    }
+}
+
+/// The answers to the replies at a position where the other side is to move, if each reply that is a move fouls or goes on
+/// to a position that is won along these threats within so many moves.
+#[cycle(line)]
+fn answer_each<R: Rule, V: Seen<R>>(
+    alloc: Global,
+    view: &mut V,
+    threats: &[Threat],
+    moves: u32,
+    compiler: &mut Compiler,
+) -> Result<Option<Answering>, SearchError>
+    requires fits { moves < MAX_DEPTH }
+    requires compiled { IsCompiled compiler.old }
+    ensures found { IfOk result (λ found. FindsAnswers R.KIND moves compiler.new (V.position view.old)
+        (each_loses R.KIND (V.position view.old) (line_wins R.KIND threats.now moves)) found) }
+    ensures compiled { OnOk result (IsCompiled compiler.new) }
+    ensures kept { Extends compiler.old compiler.new }
+    ensures few { OnOk result (length compiler.new ≤ length compiler.old + behind_each R.KIND (V.position view.old) (line_tree R.KIND threats.now moves)) }
+    ensures full { IsErrOf result SearchError.Full
+        → MAX_NODES < length compiler.old + behind_each R.KIND (V.position view.old) (line_tree R.KIND threats.now moves) }
+    ensures full_now { IsErrOf result SearchError.Full → length compiler.new ≡ MAX_NODES }
+    ensures same { V.position view.new ≡ V.position view.old }
+{
+    let defender = view.side();
+    if view.has_five(defender) {
+        return Ok(None);
+    }
+    let mut answers = Answering {
+        replies: Vec::new(alloc),
+        moves: 0,
+    };
+    let five = block::<R, V>(alloc, view)?;
+    let mut hint = None;
+    for q in view.board().points() {
+        if !answer_reply::<R, V>(
+            alloc,
+            view,
+            q,
+            threats,
+            moves,
+            five,
+            &mut hint,
+            &mut answers,
+            compiler,
+        )? {
+            return Ok(None);
+        }
+    }
+    Ok(Some(answers))
+}
+
+/// Whether the reply `q` is no move, fouls, or goes on to a position that is won. To one that goes on the answer is added.
+#[cycle(line)]
+fn answer_reply<R: Rule, V: Seen<R>>(
+    alloc: Global,
+    view: &mut V,
+    q: Point,
+    threats: &[Threat],
+    moves: u32,
+    five: Option<Point>,
+    hint: &mut Option<Double>,
+    answers: &mut Answering,
+    compiler: &mut Compiler,
+) -> Result<bool, SearchError>
+    requires fits { moves < MAX_DEPTH }
+    requires compiled { IsCompiled compiler.old }
+    requires hint { IfSome hint.old (IsDouble (V.position view.old).width (V.position view.old).height compiler.old) }
+    requires answers { AreAnswers R.KIND moves compiler.old (V.position view.old) answers.old }
+    ensures loses { IfOk result (λ loses. loses
+        ≡ loses_or (outcome_lem R.KIND (V.position view.old) q) (line_wins R.KIND threats.now moves (after (V.position view.old) q))) }
+    ensures answers { IfOk result (λ loses. loses ≡ true
+        → AreAnswers R.KIND moves compiler.new (V.position view.old) answers.new) }
+    ensures added { IfOk result (λ loses. loses ≡ true
+        → answered answers.new ≡ answered answers.old ++ going_on R.KIND (V.position view.old) (q ∷ [])) }
+    ensures hint { OnOk result (IfSome hint.new (IsDouble (V.position view.old).width (V.position view.old).height compiler.new)) }
+    ensures compiled { OnOk result (IsCompiled compiler.new) }
+    ensures kept { Extends compiler.old compiler.new }
+    ensures few { OnOk result (length compiler.new
+        ≤ length compiler.old + if_goes_on (outcome_lem R.KIND (V.position view.old) q) (line_tree R.KIND threats.now moves (after (V.position view.old) q))) }
+    ensures full { IsErrOf result SearchError.Full → MAX_NODES
+        < length compiler.old + if_goes_on (outcome_lem R.KIND (V.position view.old) q) (line_tree R.KIND threats.now moves (after (V.position view.old) q)) }
+    ensures full_now { IsErrOf result SearchError.Full → length compiler.new ≡ MAX_NODES }
+    ensures same { V.position view.new ≡ V.position view.old }
+{
+    match view.outcome(q) {
+        Outcome::Refused | Outcome::Fouls(_) => Ok(true),
+        Outcome::Wins | Outcome::Draws => Ok(false),
+        Outcome::GoesOn => {
+            growth_keeps_wins();
+            match prove_after::<R, V>(alloc, view, q, threats, moves, five, hint, compiler)? {
+                LineAnswer::Fails => Ok(false),
+                LineAnswer::Proved(win) => {
+                    add(answers, q, win)?;
+                    Ok(true)
+                }
+            }
+        }
+    }
+}
+
+/// Proves the line at the position after the reply `q`, which goes on.
+#[cycle(line)]
+fn prove_after<R: Rule, V: Seen<R>>(
+    alloc: Global,
+    view: &mut V,
+    q: Point,
+    threats: &[Threat],
+    moves: u32,
+    five: Option<Point>,
+    hint: &mut Option<Double>,
+    compiler: &mut Compiler,
+) -> Result<LineAnswer, SearchError>
+    requires fits { moves ≤ MAX_DEPTH }
+    requires goes_on { outcome_lem R.KIND (V.position view.old) q ≡ Outcome.GoesOn }
+    requires compiled { IsCompiled compiler.old }
+    requires hint { IfSome hint.old (IsDouble (V.position view.old).width (V.position view.old).height compiler.old) }
+    ensures proved { IfOk result (λ a. OnProved a (IsWrittenWin R.KIND moves (after (V.position view.old) q) compiler.new)) }
+    ensures wins { IfOk result (λ a. is_proved a ≡ line_wins R.KIND threats.now moves (after (V.position view.old) q)) }
+    ensures hint { OnOk result (IfSome hint.new (IsDouble (V.position view.old).width (V.position view.old).height compiler.new)) }
+    ensures compiled { OnOk result (IsCompiled compiler.new) }
+    ensures kept { Extends compiler.old compiler.new }
+    ensures few { OnOk result (length compiler.new ≤ length compiler.old + line_tree R.KIND threats.now moves (after (V.position view.old) q)) }
+    ensures full { IsErrOf result SearchError.Full → MAX_NODES < length compiler.old + line_tree R.KIND threats.now moves (after (V.position view.old) q) }
+    ensures full_now { IsErrOf result SearchError.Full → length compiler.new ≡ MAX_NODES }
+    ensures same { V.position view.new ≡ V.position view.old }
+{
+    view.play(q);
+    let found = prove_reply::<R, V>(alloc, view, threats, moves, five, hint, compiler);
+    view.undo(q);
+    found
+}
+
+/// The same at that position. The five point that the attacker had before the reply is tried first.
+#[cycle(line)]
+fn prove_reply<R: Rule, V: Seen<R>>(
+    alloc: Global,
+    view: &mut V,
+    threats: &[Threat],
+    moves: u32,
+    five: Option<Point>,
+    hint: &mut Option<Double>,
+    compiler: &mut Compiler,
+) -> Result<LineAnswer, SearchError>
+    requires fits { moves ≤ MAX_DEPTH }
+    requires compiled { IsCompiled compiler.old }
+    requires hint { IfSome hint.old (IsDouble (V.position view.old).width (V.position view.old).height compiler.old) }
+    ensures proved { IfOk result (λ a. OnProved a (IsWrittenWin R.KIND moves (V.position view.old) compiler.new)) }
+    ensures wins { IfOk result (λ a. is_proved a ≡ line_wins R.KIND threats.now moves (V.position view.old)) }
+    ensures hint { OnOk result (IfSome hint.new (IsDouble (V.position view.old).width (V.position view.old).height compiler.new)) }
+    ensures compiled { OnOk result (IsCompiled compiler.new) }
+    ensures kept { Extends compiler.old compiler.new }
+    ensures few { OnOk result (length compiler.new ≤ length compiler.old + line_tree R.KIND threats.now moves (V.position view.old)) }
+    ensures full { IsErrOf result SearchError.Full → MAX_NODES < length compiler.old + line_tree R.KIND threats.now moves (V.position view.old) }
+    ensures full_now { IsErrOf result SearchError.Full → length compiler.new ≡ MAX_NODES }
+    ensures same { V.position view.new ≡ V.position view.old }
+{
+    if moves == 0 {
+        return prove::<R, V>(alloc, view, threats, moves, compiler);
+    }
+    match five_win::<R, V>(view, five, compiler)? {
+        Some(win) => Ok(LineAnswer::Proved(win)),
+        None => prove_double::<R, V>(alloc, view, threats, moves, hint, compiler),
+    }
+}
+
+/// The same where that point is no five point. A double threat that won after an earlier reply is tried before a search.
+#[cycle(line)]
+fn prove_double<R: Rule, V: Seen<R>>(
+    alloc: Global,
+    view: &mut V,
+    threats: &[Threat],
+    moves: u32,
+    hint: &mut Option<Double>,
+    compiler: &mut Compiler,
+) -> Result<LineAnswer, SearchError>
+    requires fits { moves ≤ MAX_DEPTH }
+    requires compiled { IsCompiled compiler.old }
+    requires hint { IfSome hint.old (IsDouble (V.position view.old).width (V.position view.old).height compiler.old) }
+    ensures proved { IfOk result (λ a. OnProved a (IsWrittenWin R.KIND moves (V.position view.old) compiler.new)) }
+    ensures wins { IfOk result (λ a. is_proved a ≡ line_wins R.KIND threats.now moves (V.position view.old)) }
+    ensures hint { OnOk result (IfSome hint.new (IsDouble (V.position view.old).width (V.position view.old).height compiler.new)) }
+    ensures compiled { OnOk result (IsCompiled compiler.new) }
+    ensures kept { Extends compiler.old compiler.new }
+    ensures few { OnOk result (length compiler.new ≤ length compiler.old + line_tree R.KIND threats.now moves (V.position view.old)) }
+    ensures full { IsErrOf result SearchError.Full → MAX_NODES < length compiler.old + line_tree R.KIND threats.now moves (V.position view.old) }
+    ensures full_now { IsErrOf result SearchError.Full → length compiler.new ≡ MAX_NODES }
+    ensures same { V.position view.new ≡ V.position view.old }
+{
+    if moves < 2 {
+        return prove::<R, V>(alloc, view, threats, moves, compiler);
+    }
+    match double_win::<R, V>(alloc, view, hint, compiler)? {
+        Some(win) => Ok(LineAnswer::Proved(win)),
+        None => prove::<R, V>(alloc, view, threats, moves, compiler),
+    }
+}
