@@ -4,7 +4,6 @@ use Rattle.std.specs.Prelude.{codes, IfSome}
 use Rattle.std.specs.Fmt.{decimal}
 use Rattle.four_search.specs.declared.TheConstants.{MAX_DEPTH}
 use Rattle.position_files.specs.declared.PositionFile.{PositionFile}
-use Rattle.position_files.proofs.ReadBack.{position-read-back}
 use Rattle.renju_io.specs.Told.{Takes}
 use Rattle.renju_cli.specs.declared.status.Status.{Status}
 use Rattle.renju_cli.specs.declared.status.Status.TheVariants.{Done, NotFound}
@@ -17,6 +16,7 @@ use Rattle.renju_cli.specs.Fours.{SearchSays, FoursSays, fours_command, IsSearch
 use Rattle.renju_cli.specs.Commands.{HasForm}
 use Rattle.renju_cli.proofs.FormLaws.{has-told}
 use Rattle.renju_cli.proofs.ToldLaws.{IsWhole, whole-or-yielded, given-told, every-told}
+use Rattle.renju_cli.proofs.PositionLaws.{said-of-position, yielded-silent, refused-silent}
 
 -- `fours` and words that are no two numbers in its ranges have no form
 pub no-fours : (rest : List (List ℕ)) → ((depth nodes : ℕ) → (1 ≤ depth) × (depth ≤ MAX_DEPTH) → (1 ≤ nodes) × (nodes ≤ MAX_SEARCHED) → rest ≡ decimal depth ∷ decimal nodes ∷ [] → ⊥) → ¬ HasForm (codes "fours" ∷ rest)
@@ -25,21 +25,9 @@ no-fours rest none h =
     let spelled = is.spelled in
     none _ _ (is.in_range.0, is.in_range.1) (is.in_range.2, is.in_range.3) (cc)
 
-module _ (limit nodes : ℕ) (bytes : List ℕ) (file : PositionFile) (is : IsPositionAt file bytes) where
-  -- the text is that of one position
-  one-position : (other : PositionFile) → IsPositionAt other bytes → other ≡ file
-  one-position other at = let only = position-read-back file bytes is.text is.lawful in only.no_other other at.text
-
-  -- it is not refused
-  not-refused : (status : Status) (text : List ℕ) → FoursSays limit nodes bytes status text → SearchSays limit nodes file status text
-  not-refused status text (inl refused) =
-      let only = position-read-back file bytes is.text is.lawful in
-      absurd (refused.cause (only.no_fault refused.error refused.fault))
-  not-refused status text (inr said) = subst (λ (f : PositionFile). SearchSays limit nodes f status text) (one-position said.0 said.1) said.2
-
 -- what is said of a position for which the budget is enough is an answer
 pub fours-answers : (limit nodes : ℕ) (bytes : List ℕ) → (fours_command limit nodes).IsAnswerable bytes → (status : Status) (text : List ℕ) → FoursSays limit nodes bytes status text → (fours_command limit nodes).IsAnswer status
-fours-answers limit nodes bytes can status text says = by-search (not-refused limit nodes bytes can.0 can.1 status text says) where
+fours-answers limit nodes bytes can status text says = by-search (said-of-position (SearchSays limit nodes) bytes can.0 can.1 status text says) where
   by-search : SearchSays limit nodes can.0 status text → (status ≡ Done) ⊎ (status ≡ NotFound)
   by-search (inl found) = inl found.ends
   by-search (inr (inl denied)) = inr denied.ends
@@ -49,14 +37,6 @@ fours-answers limit nodes bytes can status text says = by-search (not-refused li
       absurd (omega (arith, few, more))
 
 -- ---- statuses 0, 9 and 5
-
--- a status that stands in place of others speaks of no position
-yielded-silent : (number : ℕ) → IsYielded number → SpeaksOfPosition number → ⊥
-yielded-silent number y e = grind arith
-
--- nor does that of a refused text
-refused-silent : (number : ℕ) → number ≡ 3 → SpeaksOfPosition number → ⊥
-refused-silent number y e = grind arith
 
 module _ (limit nodes : ℕ) (run : Run) where
   module _ (file : PositionFile) (status : Status) (text : List ℕ) (ends : run.status ≡ status_number status) (whole : Takes run.output.before text run.output.after) where
@@ -101,7 +81,7 @@ module _ (limit nodes : ℕ) (run : Run) where
   shows-by : (bytes : List ℕ) (status : Status) (text : List ℕ) → run.status ≡ status_number status → Takes run.output.before text run.output.after → FoursSays limit nodes bytes status text → SearchShows limit nodes bytes run
   shows-by bytes status text ends whole says = record {
     lawful = lawful-by bytes status text ends whole says;
-    says = λ file is. searched-by file status text ends whole (not-refused limit nodes bytes file is status text says);
+    says = λ file is. searched-by file status text ends whole (said-of-position (SearchSays limit nodes) bytes file is status text says);
   }
 
   by-end : IsWhole (FoursSays limit nodes) run ⊎ IsYielded run.status → IfSome run.input.before (λ bytes. SearchShows limit nodes bytes run)

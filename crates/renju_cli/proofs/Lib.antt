@@ -4,6 +4,17 @@ mod ToldLaws
 mod Searches
 mod CheckLaws
 mod FoulLaws
+mod PositionLaws
 mod FoursLaws
+mod ThreatsLaws
 mod BrainLaws
+mod DrillBoards
+mod DrillTelling
+mod DrillTurns
+mod DrillOpening
+mod DrillMaking
+mod DrillCourse
+mod DrillCounts
+mod DrillShares
+mod DrillLaws
 mod ReportLaws

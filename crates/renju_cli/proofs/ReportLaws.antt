@@ -1,13 +1,15 @@
 -- What follows of a run from its report: the command of its form did what it does, and so answered where it is sure to.
 use Rattle.std.proofs.Common.{◌≡◌, inl, inr, sym, ap, subst, ℕ, List}
 use Rattle.renju_cli.specs.declared.commands.Form.{Form}
-use Rattle.renju_cli.specs.declared.commands.Form.TheVariants.{Check, Foul, Fours, Brain, BrainWith}
+use Rattle.renju_cli.specs.declared.commands.Form.TheVariants.{Check, Foul, Fours, Threats, Brain, BrainWith, Drill}
 use Rattle.renju_cli.specs.Runs.{Run}
 use Rattle.renju_cli.specs.Forms.{HasWords}
 use Rattle.renju_cli.specs.Checks.{check_command, ShowsWin}
 use Rattle.renju_cli.specs.Fouls.{foul_command}
 use Rattle.renju_cli.specs.Fours.{fours_command, ShowsSearch}
+use Rattle.renju_cli.specs.Threats.{threats_command, ShowsSequence}
 use Rattle.renju_cli.specs.Brains.{brain_with_words, IsFileName, second_word, IsBrainWith, ShowsHeldGames}
+use Rattle.renju_cli.specs.Drills.{ShowsDrill}
 use Rattle.renju_cli.specs.Commands.{command, IsForm}
 use Rattle.renju_cli.specs.Reports.{Report, IsComplete}
 use Rattle.renju_cli.proofs.FormLaws.{one-form}
@@ -16,6 +18,8 @@ use Rattle.renju_cli.proofs.CheckLaws.{check-answers, check-won}
 use Rattle.renju_cli.proofs.FoulLaws.{foul-answers}
 use Rattle.renju_cli.proofs.BrainLaws.{brain-answers, brain-with-answers, brain-plays}
 use Rattle.renju_cli.proofs.FoursLaws.{fours-answers, fours-searched}
+use Rattle.renju_cli.proofs.DrillLaws.{drill-answers, drill-shown}
+use Rattle.renju_cli.proofs.ThreatsLaws.{threats-answers, threats-searched}
 
 -- the command of the words did what it does
 does-of : (run : Run) → Report run → (form : Form) → IsForm run.words form → (command run.words form).Does run
@@ -28,7 +32,9 @@ answers (Check work) run does = answers-told (check_command work) (check-answers
 answers Foul run does = answers-told foul_command foul-answers run does
 answers Brain run does = brain-answers run does
 answers BrainWith run does = brain-with-answers (second_word run.words) run does
+answers (Drill number) run does = drill-answers number run does
 answers (Fours depth nodes) run does = answers-told (fours_command depth nodes) (fours-answers depth nodes) run does
+answers (Threats limit nodes) run does = answers-told (threats_command limit nodes) (threats-answers limit nodes) run does
 
 -- what `brain FILE` did with its second word is the report of its run
 pub file-reported : (run : Run) (name : List ℕ) → IsForm run.words BrainWith → name ≡ second_word run.words → IsBrainWith name run → Report run
@@ -49,3 +55,9 @@ report-games run report name is =
 
 pub report-searched : (run : Run) → Report run → ShowsSearch run
 report-searched run report depth nodes is = fours-searched depth nodes run (does-of run report (Fours depth nodes) is)
+
+pub report-drilled : (run : Run) → Report run → ShowsDrill run
+report-drilled run report n is done = drill-shown n run (does-of run report (Drill n) is) done
+
+pub report-sequences : (run : Run) → Report run → ShowsSequence run
+report-sequences run report limit nodes is = threats-searched limit nodes run (does-of run report (Threats limit nodes) is)

@@ -9,7 +9,12 @@ pub mod Refusals
 pub mod Checks
 pub mod Fouls
 pub mod Fours
+pub mod Threats
 pub mod Brains
+-- the drill: its draws and positions, its games, and the command
+pub mod Draws
+pub mod DrillGames
+pub mod Drills
 -- the list of commands, and what the program does
 pub mod Commands
 pub mod Reports

@@ -11,10 +11,12 @@ ghost use Rattle.renju_cli.specs.Reports.{Report};
 
 use crate::brain::{play, play_with};
 use crate::check::Check;
+use crate::drill::drill;
 use crate::fouls::ListFouls;
 use crate::fours::Fours;
+use crate::threats::FindSequence;
 use crate::told::{deliver, tell};
-use crate::{Status, brain, check, fouls, fours};
+use crate::{Status, brain, check, drill as drill_words, fouls, fours, threats};
 use renju_io::{Shelf, Sink, Source};
 use std::alloc::Global;
 
@@ -31,10 +33,14 @@ pub enum Form {
     Foul,
     /// `fours DEPTH NODES`, with DEPTH from 1 to `MAX_DEPTH` and NODES from 1 to `MAX_SEARCHED`.
     Fours { depth: u32, nodes: u64 },
+    /// `threats LENGTH NODES`, with LENGTH from 1 to `MAX_LENGTH` and NODES from 1 to `MAX_SEARCHED`.
+    Threats { length: u32, nodes: u64 },
     /// `brain`.
     Brain,
     /// `brain FILE`, with a FILE that is not empty. It is the second word.
     BrainWith,
+    /// `drill N`, with N up to `MAX_DRILL`.
+    Drill { number: u32 },
 }
 
 /// The form that the words have, if they have one.
@@ -48,7 +54,9 @@ pub(crate) fn form_of(words: &[String]) -> Option<Form>
         "check" => check::form(rest),
         "foul" => fouls::form(rest),
         "fours" => fours::form(rest),
+        "threats" => threats::form(rest),
         "brain" => brain::form(rest),
+        "drill" => drill_words::form(rest),
         _ => None,
     }
 }
@@ -71,7 +79,14 @@ pub(crate) fn run<I: Source, O: Sink, F: Shelf>(
         Some(Form::Check { work }) => tell(alloc, &Check { work }, input, output),
         Some(Form::Foul) => tell(alloc, &ListFouls, input, output),
         Some(Form::Fours { depth, nodes }) => tell(alloc, &Fours { depth, nodes }, input, output),
+        Some(Form::Threats { length, nodes }) => tell(
+            alloc,
+            &FindSequence { length, nodes },
+            input,
+            output,
+        ),
         Some(Form::Brain) => play(alloc, None, input, output),
         Some(Form::BrainWith) => play_with(alloc, words[1].as_str(), input, output, shelf),
+        Some(Form::Drill { number }) => drill(alloc, number, output),
     }
 }

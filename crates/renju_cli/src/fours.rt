@@ -128,8 +128,8 @@ fn win_text(
     })
 }
 
-/// The answer where there is no win by fours.
-fn none(alloc: Global) -> Result<Answer, AllocError>
+/// The answer where there is none of what was searched.
+pub(crate) fn none(alloc: Global) -> Result<Answer, AllocError>
     ensures status { IfOk result (λ answer. answer.status ≡ Status.NotFound) }
     ensures text { IfOk result (λ answer. answer.text.items ≡ none_line) }
 {

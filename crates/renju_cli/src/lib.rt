@@ -2,19 +2,25 @@
 //!
 //! Each command has a file here and one in `specs/`: its words, what it says of its input, and when it is sure to answer.
 //! `commands` lists them. A command that is told its whole input is run by `told`, which knows none of them; one that is
-//! served its input, as `brain`, runs by itself. `run` has the one public call.
+//! served its input, as `brain`, or reads none, as `drill`, runs by itself. `run` has the one public call.
 #![tactic(auto)]
 
 mod answer;
 mod brain;
 mod check;
 mod commands;
+mod counts;
+mod draws;
+mod drill;
+mod drill_game;
 mod fouls;
 mod fours;
 mod numbers;
+mod positions;
 mod refusals;
 mod run;
 mod status;
+mod threats;
 mod told;
 
 pub use commands::{Form, USAGE};
@@ -27,5 +33,8 @@ pub const MAX_WORK: u64 = 1_000_000_000_000;
 /// The most arrivals that `brain` allows the table of its FILE.
 pub const BRAIN_WORK: u64 = 2_000_000;
 
-/// The most positions that `fours` may be allowed to look at.
+/// The most positions that `fours`, and the most lists of threats that `threats`, may be allowed to look at.
 pub const MAX_SEARCHED: u64 = 10_000_000;
+
+/// The greatest number of a drill.
+pub const MAX_DRILL: u32 = 999_999;

@@ -1,14 +1,16 @@
 //! The top call: from words and devices to bytes and a status.
 //!
-//! `commands` does the work and proves what is due; here stands what that shows: the headlines of the checker, of the search
-//! and of the brain, and that each command answers where nothing hinders it.
+//! `commands` does the work and proves what is due; here stands what that shows: the headlines of the checker, of the searches,
+//! of the brain and of the drill, and that each command answers where nothing hinders it.
 #![tactic(auto)]
 
 ghost use Rattle.std.specs.Prelude.{map, string_bytes};
 ghost use Rattle.renju_cli.specs.Runs.{change, run_of, KeepsDevices};
 ghost use Rattle.renju_cli.specs.Checks.{ShowsWin};
 ghost use Rattle.renju_cli.specs.Fours.{ShowsSearch};
+ghost use Rattle.renju_cli.specs.Threats.{ShowsSequence};
 ghost use Rattle.renju_cli.specs.Brains.{ShowsHeldGames};
+ghost use Rattle.renju_cli.specs.Drills.{ShowsDrill};
 ghost use Rattle.renju_cli.specs.Reports.{Report, IsComplete};
 
 use crate::commands::run;
@@ -19,8 +21,9 @@ use std::alloc::Global;
 /// the shelf, writes to the output, and answers the status to exit with.
 ///
 /// The status and the text that are due are those of `Status` and of the commands. Words without a form get the usage line
-/// and status 1, and leave the input unasked. `check`, `foul` and `fours` speak of an input only once it was read to its end;
-/// a brain answers each line before it reads the next. Only `brain FILE` asks the shelf, and no command changes it. A failing
+/// and status 1, and leave the input unasked, as `drill` does. `check`, `foul`, `fours` and `threats` speak of an input only once it
+/// was read to its end; a brain answers each line before it reads the next. Only `brain FILE` asks the shelf, and no command
+/// changes it. A failing
 /// output gives status 8 in place of the status that was due, and the output then has the front of the text; want of memory
 /// gives 6 and a failing input 7, and then nothing is written, or by a brain that serves the answers to the lines before.
 /// A status other than 7 says that the input counted no fault, one other than 8 that the output did not, and one that is
@@ -41,8 +44,15 @@ pub fn run_renju<I: Source, O: Sink, F: Shelf>(
     // What statuses 0, 9 and 5 of `fours` show: a win by fours with the fewest moves, that there is none, or too small a budget.
     ensures searched { ShowsSearch (run_of (map string_bytes words.now) (change I.left I.faults input.old input.new)
         (change O.written O.faults output.old output.new) (change F.files F.faults shelf.old shelf.new) result) }
+    // What statuses 0, 9 and 5 of `threats` show: the first sequence of threats, that there is none, or too small a budget.
+    ensures sequences { ShowsSequence (run_of (map string_bytes words.now) (change I.left I.faults input.old input.new)
+        (change O.written O.faults output.old output.new) (change F.files F.faults shelf.old shelf.new) result) }
     // What `brain FILE` shows: where FILE is a table that is accepted, the games that are played by it are won.
     ensures held_games { ShowsHeldGames (run_of (map string_bytes words.now) (change I.left I.faults input.old input.new)
+        (change O.written O.faults output.old output.new) (change F.files F.faults shelf.old shelf.new) result) }
+    // What status 0 of `drill` shows: the counts of the number, of which there are no others; each table of a win is accepted, and
+    // each game is won.
+    ensures drilled { ShowsDrill (run_of (map string_bytes words.now) (change I.left I.faults input.old input.new)
         (change O.written O.faults output.old output.new) (change F.files F.faults shelf.old shelf.new) result) }
     // A command with a lawful input, enough work and devices without a fault answers, unless memory runs out.
     ensures complete { IsComplete (run_of (map string_bytes words.now) (change I.left I.faults input.old input.new)

@@ -1,12 +1,14 @@
-//! Callers of crates that one may want alone: the judge of fouls, the checker of tables, the readers and writers of texts.
+//! Callers of crates that one may want alone: the judge of fouls, the checker of tables, the search for sequences of threats, the
+//! readers and writers of texts.
 //!
 //! Each caller is proved from the public contracts of what it calls, and a test runs it. `docs/CALLING.md` shows these lines.
 #![tactic(auto)]
 
-ghost use Rattle.std.specs.Prelude.{◌≡◌, ◌<◌, length, is_none, IsTrue, IfOk, IfSome};
+ghost use Rattle.std.specs.Prelude.{◌≡◌, ◌≤◌, ◌<◌, length, is_none, is_some, IsTrue, IfOk, IfSome};
 ghost use Rattle.game_rules.specs.Grid.{is_empty};
 ghost use Rattle.game_rules.specs.Play.{foul_of};
 ghost use Rattle.game_rules.specs.Games.{WinsWithin};
+ghost use Rattle.threat_space.specs.Sequences.{first_sequence};
 
 use foul_judge::{Position, foul_at};
 use game_rules::{Point, RuleKind, Side};
@@ -17,6 +19,7 @@ use std::test::Fail;
 use stone_board::Board;
 use strategy_checker::{Verdict, check};
 use strategy_graph::{Root, Table};
+use threat_space::{MAX_LENGTH, SpaceAnswer, threat_space};
 
 /// Whether Black may play on an empty point of the board under renju.
 fn may_play(board: &mut Board, p: Point) -> bool
@@ -85,6 +88,45 @@ fn a_straight_four_wins_in_two_moves(rt: HostRuntime) -> Result<(), Fail> {
             moves_to_win(rt.alloc(), &table, root, &mut position, work)?,
             moves
         );
+    }
+    Ok(())
+}
+
+/// Whether the side has a sequence of at most so many threats under renju, where so many lists of them are enough to tell.
+fn has_sequence(
+    alloc: Global,
+    board: &mut Board,
+    side: Side,
+    length: u32,
+    lists: u64,
+) -> Result<Option<bool>, AllocError>
+    requires some_length { 1 ≤ length }
+    requires length_fits { length ≤ MAX_LENGTH }
+    requires some_lists { 1 ≤ lists }
+    ensures told { IfOk result (λ told. IfSome told (λ has. has ≡ is_some (first_sequence RuleKind.Renju side length board.old))) }
+    ensures same { board.new ≡ board.old }
+{
+    match threat_space::<Renju>(alloc, board, side, length, lists)? {
+        SpaceAnswer::Sequence(_, _) => Ok(Some(true)),
+        SpaceAnswer::None => Ok(Some(false)),
+        SpaceAnswer::Spent => Ok(None),
+    }
+}
+
+#[test]
+fn white_has_a_double_three(rt: HostRuntime) -> Result<(), Fail> {
+    let mut board = Board::empty(rt.alloc(), 15, 15)?;
+    for (x, y) in [(7, 6), (6, 7), (8, 7), (7, 8)] {
+        let p = Point { x, y };
+        assert!(rt; board.is_empty(p));
+        board.put(p, Side::White);
+    }
+    for (side, lists, told) in [
+        (Side::White, 12, Some(true)),
+        (Side::White, 11, None),
+        (Side::Black, 1, Some(false)),
+    ] {
+        assert_eq!(rt; has_sequence(rt.alloc(), &mut board, side, 1, lists)?, told);
     }
     Ok(())
 }

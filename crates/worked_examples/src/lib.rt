@@ -13,6 +13,8 @@ mod checks;
 #[cfg(test)]
 mod devices;
 #[cfg(test)]
+mod drills;
+#[cfg(test)]
 mod fouls;
 #[cfg(test)]
 mod fours;
@@ -23,6 +25,8 @@ mod inputs;
 mod runs;
 #[cfg(test)]
 mod texts;
+#[cfg(test)]
+mod threats;
 #[cfg(test)]
 mod words;
 

@@ -8,7 +8,7 @@ use std::test::Fail;
 
 /// No words, words of no command, words of a command that are too few or too many, and words that are no number in its
 /// range: zeros, leading zeros, signs, fractions, letters, and numbers that are 1 but for a power of two.
-const FORMLESS: [&str; 33] = [
+const FORMLESS: [&str; 39] = [
     "",
     "help",
     "--help",
@@ -42,6 +42,12 @@ const FORMLESS: [&str; 33] = [
     "fours 05 3",
     "fours 5 03",
     "fours 4294967297 3",
+    "threats",
+    "threats 1",
+    "threats 0 1",
+    "threats 1 0",
+    "threats 1 1 1",
+    "threats 4294967297 1",
 ];
 
 /// Devices of which the input is not to be asked, and the output for one write alone.
@@ -52,7 +58,7 @@ const UNASKED: Failing<'static> = Failing {
     kept: 0,
 };
 
-const EXAMPLES: [Example; 6] = [
+const EXAMPLES: [Example; 9] = [
     Example {
         name: "the most work",
         words: "check 1000000000000",
@@ -91,6 +97,27 @@ const EXAMPLES: [Example; 6] = [
     Example {
         name: "more than the most positions to look at",
         words: "fours 1 10000001",
+        input: TWO_MOVES,
+        status: 1,
+        output: USAGE,
+    },
+    Example {
+        name: "the most threats and lists",
+        words: "threats 30 10000000",
+        input: TWO_MOVES,
+        status: 0,
+        output: "threats 0\nfinal 4,7\n",
+    },
+    Example {
+        name: "more than the most threats",
+        words: "threats 31 1",
+        input: TWO_MOVES,
+        status: 1,
+        output: USAGE,
+    },
+    Example {
+        name: "more than the most lists",
+        words: "threats 1 10000001",
         input: TWO_MOVES,
         status: 1,
         output: USAGE,

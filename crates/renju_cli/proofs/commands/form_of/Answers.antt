@@ -1,7 +1,7 @@
 use Rattle.std.proofs.Common.{◌≡◌, List, ℕ, [], ◌∷◌, ◌∙◌, ap, sym, subst, get_or}
 use Rattle.std.specs.Prelude.{codes, string_bytes, Option, MatchOption}
 use Rattle.renju_cli.specs.declared.commands.Form.{Form}
-use Rattle.renju_cli.specs.declared.commands.Form.TheVariants.{Check, Foul, Fours, Brain, BrainWith}
+use Rattle.renju_cli.specs.declared.commands.Form.TheVariants.{Check, Foul, Fours, Threats, Brain, BrainWith, Drill}
 use Rattle.renju_cli.specs.Commands.{command, HasForm, IsForm}
 use Rattle.renju_cli.proofs.Words.{no-words as none, first-word}
 use Rattle.renju_cli.proofs.FormLaws.{no-words, no-command}
@@ -32,11 +32,23 @@ returns-in-fours c =
     let words = first-word string_bytes c.args.words.now c.name-item.result c.in-len1-up.len_at_least c.name-item.is in
     record { form = told-of c.form-in-fours.result _ _ _ _ words name c.form-in-fours.ensures.form }
 
+pub returns-in-threats : goal.returns-in-threats
+returns-in-threats c =
+    let name : string_bytes c.name-item.result ≡ codes "threats" = sym c.as_str.ensures.value ∙ c.in-threats.is in
+    let words = first-word string_bytes c.args.words.now c.name-item.result c.in-len1-up.len_at_least c.name-item.is in
+    record { form = told-of c.form-in-threats.result _ _ _ _ words name c.form-in-threats.ensures.form }
+
 pub returns-in-brain : goal.returns-in-brain
 returns-in-brain c =
     let name : string_bytes c.name-item.result ≡ codes "brain" = sym c.as_str.ensures.value ∙ c.in-brain.is in
     let words = first-word string_bytes c.args.words.now c.name-item.result c.in-len1-up.len_at_least c.name-item.is in
     record { form = told-of c.form-in-brain.result _ _ _ _ words name c.form-in-brain.ensures.form }
+
+pub returns-in-drill : goal.returns-in-drill
+returns-in-drill c =
+    let name : string_bytes c.name-item.result ≡ codes "drill" = sym c.as_str.ensures.value ∙ c.in-drill.is in
+    let words = first-word string_bytes c.args.words.now c.name-item.result c.in-len1-up.len_at_least c.name-item.is in
+    record { form = told-of c.form-in-drill.result _ _ _ _ words name c.form-in-drill.ensures.form }
 
 -- the first word is that of no command
 pub returns-in_default-as_str : goal.returns-in_default-as_str
@@ -47,7 +59,9 @@ returns-in_default-as_str c =
       | Check work ↦ λ is. c.in_default-as_str.not-check (c.as_str.ensures.value ∙ is)
       | Foul ↦ λ is. c.in_default-as_str.not-foul (c.as_str.ensures.value ∙ is)
       | Fours depth nodes ↦ λ is. c.in_default-as_str.not-fours (c.as_str.ensures.value ∙ is)
+      | Threats limit nodes ↦ λ is. c.in_default-as_str.not-threats (c.as_str.ensures.value ∙ is)
       | Brain ↦ λ is. c.in_default-as_str.not-brain (c.as_str.ensures.value ∙ is)
       | BrainWith ↦ λ is. c.in_default-as_str.not-brain (c.as_str.ensures.value ∙ is)
+      | Drill number ↦ λ is. c.in_default-as_str.not-drill (c.as_str.ensures.value ∙ is)
     ] in
     record { form = λ h. no-command _ _ other (subst HasForm words h) }

@@ -1,0 +1,47 @@
+-- The command `drill`: its words, when it answers, and what its status 0 shows.
+use Rattle.std.proofs.Common.{◌≡◌, ◌⊎◌, inl, inr, subst, ℕ, ◌≤◌, List, [], ◌∷◌, arith}
+use Rattle.std.specs.Prelude.{codes}
+use Rattle.std.specs.Fmt.{decimal}
+use Rattle.renju_cli.specs.declared.TheConstants.{MAX_DRILL}
+use Rattle.renju_cli.specs.declared.status.Status.TheVariants.{Done}
+use Rattle.renju_io.specs.Told.{Takes}
+use Rattle.renju_cli.specs.Statuses.{status_number}
+use Rattle.renju_cli.specs.Runs.{Run, IsDelivered, IsOutOfMemory}
+use Rattle.renju_cli.specs.Drills.{IsDrillText, EndsDrill, IsDrill, WritesDrill, AnswersDrill, ShowsCounts}
+use Rattle.renju_cli.specs.Commands.{HasForm}
+use Rattle.renju_cli.proofs.FormLaws.{has-told}
+use Rattle.renju_cli.proofs.DrillCounts.{only-counts}
+
+-- words whose first is `drill`, and whose others are no number in the range, have no form
+pub no-drill : (rest : List (List ℕ)) → ((n : ℕ) → n ≤ MAX_DRILL → rest ≡ decimal n ∷ [] → ⊥) → ¬ HasForm (codes "drill" ∷ rest)
+no-drill rest none h =
+    let is = has-told (codes "drill" ∷ rest) h in
+    let spelled = is.spelled in
+    none _ is.in_range (cc)
+
+-- what `drill` did in a run
+pub drill-answers : (n : ℕ) (run : Run) → IsDrill n run → AnswersDrill n run
+drill-answers n run does sound = by_end does.ends where
+  by_writing : (text : List ℕ) → IsDrillText n text → IsDelivered Done text run.output run.status → WritesDrill n run ⊎ IsOutOfMemory run.output run.status
+  by_writing text drilled (inl written) = inl (record { text = text; drilled = drilled; ends = written.0; whole = written.1 })
+  by_writing text drilled (inr failed) = absurd (sound failed.1)
+
+  by_end : EndsDrill n run.output run.status → WritesDrill n run ⊎ IsOutOfMemory run.output run.status
+  by_end (inr memory) = inr memory
+  by_end (inl text) = by_writing text.0 text.1 text.2
+
+-- what its status 0 shows
+pub drill-shown : (n : ℕ) (run : Run) → IsDrill n run → run.status ≡ status_number Done → ShowsCounts n run
+drill-shown n run does done = by_end does.ends where
+  by_writing : (text : List ℕ) → IsDrillText n text → IsDelivered Done text run.output run.status → ShowsCounts n run
+  by_writing text drilled (inl written) = record {
+    counts = drilled.counts;
+    counted = drilled.counted;
+    only = only-counts n drilled.counts drilled.counted;
+    whole = subst (λ (t : List ℕ). Takes run.output.before t run.output.after) drilled.lines written.1;
+  }
+  by_writing text drilled (inr failed) = let fault = failed.0 in absurd (omega (arith, fault, done))
+
+  by_end : EndsDrill n run.output run.status → ShowsCounts n run
+  by_end (inr memory) = let ends = memory.ends in absurd (omega (arith, ends, done))
+  by_end (inl text) = by_writing text.0 text.1 text.2

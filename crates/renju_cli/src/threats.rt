@@ -1,0 +1,170 @@
+//! The command `threats`: the first sequence of threats of the side to move, written with all their costs.
+//!
+//! The text is read, and the search runs under its rule within the length and the budget of lists to look at. In a sequence
+//! the other side gives all costs of each threat at once, and at its end stands a five point or a double point. It shows where
+//! to look for a win and is none by itself, since the other side may answer with fours of its own.
+#![tactic(auto)]
+
+ghost use Rattle.std.specs.Prelude.{◌≡◌, ◌≤◌, ◌∷◌, ◌++◌, codes, map, IfOk, MatchOption, string_bytes};
+ghost use Rattle.std.specs.List.{flat_map};
+ghost use Rattle.game_rules.specs.Play.{IsPosition};
+ghost use Rattle.renju_cli.specs.Commands.{IsForm, HasForm};
+ghost use Rattle.renju_cli.specs.Threats.{SequenceSays, kind_word as kind_word_lem, axis_word as axis_word_lem, threat_line, sequence_text as sequence_text_lem};
+
+use crate::answer::{Answer, spent};
+use crate::fours::none;
+use crate::numbers::count;
+use crate::refusals::refused_text;
+use crate::told::Told;
+use crate::{Form, MAX_SEARCHED, Status};
+use foul_judge::{Position, Seen};
+use position_files::{PositionFile, read_position};
+use row_shapes::{Rule, under_rule};
+use std::alloc::{AllocError, Global};
+use stone_board::{Axis, Point};
+use text_lines::{push_point, push_points};
+use threat_moves::{Threat, ThreatKind, Threats};
+use threat_space::{MAX_LENGTH, SpaceAnswer, threat_space};
+
+/// The form of `threats` and the words after it, if they are LENGTH and NODES.
+pub(crate) fn form(rest: &[String]) -> Option<Form>
+    ensures form { MatchOption result (¬ HasForm (codes "threats" ∷ map string_bytes rest.now)) (λ form. IsForm (codes "threats" ∷ map string_bytes rest.now) form) }
+{
+    let [length, nodes] = rest else {
+        return None;
+    };
+    let length = count(length, u64::from(MAX_LENGTH))? as u32;
+    let nodes = count(nodes, MAX_SEARCHED)?;
+    Some(Form::Threats { length, nodes })
+}
+
+/// `threats LENGTH NODES`.
+#[derive(Clone, Copy)]
+pub(crate) struct FindSequence {
+    pub length: u32,
+    pub nodes: u64,
+}
+
+impl Told for FindSequence {
+    ghost use Rattle.renju_cli.specs.Threats.{AreLengthAndNodes, ThreatsSays};
+
+    ghost in_range = { λ c. AreLengthAndNodes c.length c.nodes };
+
+    ghost says = { λ c. ThreatsSays c.length c.nodes };
+
+    fn say(&self, alloc: Global, bytes: &[u8]) -> Result<Answer, AllocError> {
+        match read_position(alloc, bytes) {
+            Ok(file) => search_file(alloc, file, self.length, self.nodes),
+            Err(error) => refused_text(alloc, error),
+        }
+    }
+}
+
+/// What is said of a position.
+fn search_file(
+    alloc: Global,
+    file: PositionFile,
+    length: u32,
+    nodes: u64,
+) -> Result<Answer, AllocError>
+    requires lawful { IsPosition file.kind file.board }
+    requires some_length { 1 ≤ length }
+    requires length_fits { length ≤ MAX_LENGTH }
+    requires some_nodes { 1 ≤ nodes }
+    ensures says { IfOk result (λ answer. SequenceSays length nodes file answer.status answer.text.items) }
+{
+    under_rule!(file.kind, search_under(alloc, file, length, nodes))
+}
+
+/// The same under the rule of the text.
+fn search_under<R: Rule>(
+    alloc: Global,
+    file: PositionFile,
+    length: u32,
+    nodes: u64,
+) -> Result<Answer, AllocError>
+    requires kind { file.kind ≡ R.KIND }
+    requires lawful { IsPosition file.kind file.board }
+    requires some_length { 1 ≤ length }
+    requires length_fits { length ≤ MAX_LENGTH }
+    requires some_nodes { 1 ≤ nodes }
+    ensures says { IfOk result (λ answer. SequenceSays length nodes file answer.status answer.text.items) }
+{
+    let position = Position::<R>::new(file.board);
+    let side = position.side();
+    let mut board = position.into_board();
+    match threat_space::<R>(alloc, &mut board, side, length, nodes)? {
+        SpaceAnswer::Sequence(threats, last) => found(alloc, &threats, last),
+        SpaceAnswer::None => none(alloc),
+        SpaceAnswer::Spent => spent(alloc),
+    }
+}
+
+/// The answer with a sequence.
+fn found(alloc: Global, threats: &Threats, last: Point) -> Result<Answer, AllocError>
+    ensures status { IfOk result (λ answer. answer.status ≡ Status.Done) }
+    ensures text { IfOk result (λ answer. answer.text.items ≡ sequence_text_lem threats.now last) }
+{
+    Ok(Answer::told(
+        Status::Done,
+        sequence_text(alloc, threats.as_slice(), last)?,
+    ))
+}
+
+/// The number of threats, a line for each, and one for the final point.
+fn sequence_text(alloc: Global, threats: &[Threat], last: Point) -> Result<String, AllocError>
+    ensures text { IfOk result (λ text. string_bytes text ≡ sequence_text_lem threats.now last) }
+{
+    let count = threats.len();
+    let mut text = format!(in alloc; "threats {count}\n")?;
+    push_threats(alloc, &mut text, threats)?;
+    text.push_str("final")?;
+    push_point(alloc, &mut text, last)?;
+    text.push_str("\n")?;
+    Ok(text)
+}
+
+/// Adds a line for each threat to a text.
+fn push_threats(alloc: Global, text: &mut String, threats: &[Threat]) -> Result<(), AllocError>
+    ensures threats { IfOk result (λ _. string_bytes text.new ≡ string_bytes text.old ++ flat_map threat_line threats.now) }
+{
+    for threat in threats {
+        push_threat(alloc, text, threat)?;
+    }
+    Ok(())
+}
+
+/// Adds the line of a threat to a text.
+fn push_threat(alloc: Global, text: &mut String, threat: &Threat) -> Result<(), AllocError>
+    ensures line { IfOk result (λ _. string_bytes text.new ≡ string_bytes text.old ++ threat_line threat.now) }
+{
+    text.push_str(kind_word(threat.kind))?;
+    push_point(alloc, text, threat.gain)?;
+    text.push_str(" ")?;
+    text.push_str(axis_word(threat.axis))?;
+    push_points(alloc, text, threat.costs.as_slice())?;
+    text.push_str("\n")?;
+    Ok(())
+}
+
+/// The word of a kind.
+fn kind_word(kind: ThreatKind) -> &'static str
+    ensures word { result.now ≡ kind_word_lem kind }
+{
+    match kind {
+        ThreatKind::Four => "four",
+        ThreatKind::Three => "three",
+    }
+}
+
+/// The word of an axis.
+fn axis_word(axis: Axis) -> &'static str
+    ensures word { result.now ≡ axis_word_lem axis }
+{
+    match axis {
+        Axis::Row => "row",
+        Axis::Column => "column",
+        Axis::Down => "down",
+        Axis::Up => "up",
+    }
+}

@@ -1,0 +1,57 @@
+//! The command `drill`.
+//!
+//! The counts are those that a separately written program counted, which shares nothing with this repository.
+#![tactic(auto)]
+
+use crate::runs::{Example, Failing, answers_as_worked_out, run_failing};
+use std::test::Fail;
+
+const EXAMPLES: [Example; 4] = [
+    Example {
+        name: "the drill of 0, which leaves its input unread",
+        words: "drill 0",
+        input: "no text",
+        status: 0,
+        output: "drill 0\npositions 60\nwins 43 none 17 spent 0\naccepted 43\ngames 43 moves 68\n",
+    },
+    Example {
+        name: "the drill of 1",
+        words: "drill 1",
+        input: "",
+        status: 0,
+        output: "drill 1\npositions 60\nwins 46 none 14 spent 0\naccepted 46\ngames 46 moves 76\n",
+    },
+    Example {
+        name: "the drill of 2",
+        words: "drill 2",
+        input: "",
+        status: 0,
+        output: "drill 2\npositions 60\nwins 44 none 16 spent 0\naccepted 44\ngames 44 moves 71\n",
+    },
+    Example {
+        name: "the drill of 3",
+        words: "drill 3",
+        input: "",
+        status: 0,
+        output: "drill 3\npositions 60\nwins 41 none 19 spent 0\naccepted 41\ngames 41 moves 62\n",
+    },
+];
+
+#[test]
+fn drills_count_as_counted_elsewhere(rt: HostRuntime) -> Result<(), Fail> {
+    answers_as_worked_out(&rt, rt.alloc(), &EXAMPLES)
+}
+
+#[test]
+fn a_drill_whose_output_fails_wrote_the_front(rt: HostRuntime) -> Result<(), Fail> {
+    let failing = Failing {
+        piece: 1,
+        reads: &[1],
+        writes: &[1],
+        kept: 3,
+    };
+    let run = run_failing(rt.alloc(), "drill 0", b"", &failing)?;
+    assert_eq!(rt; run.status, 8);
+    assert_eq!(rt; run.output.as_slice(), b"dri".as_slice());
+    Ok(())
+}
