@@ -54,12 +54,12 @@ def in_turns(all_programs, words, text, runs=5):
     return took
 
 
-def compare(all_programs, words, texts, looked):
-    """Prints for each program how many positions per second it looks at, with its starts taken off. All have to answer the same."""
-    took = [in_turns(all_programs, words, text) for text in texts]
+def compare(all_programs, words, texts, looked, what="positions", runs=5):
+    """Prints for each program how many of what it looks at it does per second, with its starts taken off. All have to answer the same."""
+    took = [in_turns(all_programs, words, text, runs) for text in texts]
     for i, program in enumerate(all_programs):
         started = sum(each[i][1] for each in took)
         seconds = sum(each[i][0] for each in took) - started
-        print(f"{' '.join(program)}: {looked} positions in {seconds:.3f} s, {looked / seconds:,.0f} positions/s; so many starts alone {started:.3f} s")
+        print(f"{' '.join(program)}: {looked} {what} in {seconds:.3f} s, {looked / seconds:,.0f} {what}/s; so many starts alone {started:.3f} s")
     if any(best[2] != each[0][2] for each in took for best in each):
         sys.exit("the programs do not answer the same")

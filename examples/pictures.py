@@ -8,7 +8,10 @@ import sys
 from pathlib import Path
 
 HERE = Path(__file__).resolve().parent
-MARKS = {"allowed-double-three": {"7,7": "*", "5,7": "x", "6,9": "x", "7,9": "x"}}
+MARKS = {
+    "allowed-double-three": {"7,7": "*", "5,7": "x", "6,9": "x", "7,9": "x"},
+    "double-three": {"7,7": "*", "5,7": "x", "9,7": "x"},
+}
 STEP, EDGE = 34, 52
 LINE, INK = "#5a4326", "#6d5330"
 DEFINED = """<defs>
