@@ -1,4 +1,7 @@
 //! The position that BOARD sends stone by stone.
+//!
+//! The stones are kept in the order in which they come. A bad line spoils the whole batch, which is answered at its end. Room
+//! for the largest batch is taken once, when the brain begins.
 #![tactic(auto)]
 
 ghost use Rattle.std.specs.Prelude.{◌≡◌, ◌≤◌, [], Some, None, OnOk, OnErr, IfOk, IfSome, MatchOption, is_some};

@@ -1,4 +1,7 @@
 //! The brain, one command after another.
+//!
+//! A step takes the state and a command, and answers with the state after it and what is said: it is equal to a function of
+//! the two (Gomocup protocol). Where memory runs out nothing of the state has changed yet, so that the manager may go on.
 #![tactic(auto)]
 
 ghost use Rattle.std.specs.Prelude.{◌≡◌, true, false, IsNone, IsOk, IfOk, IfSome, IsSome, OnOk, OnErr};

@@ -1,4 +1,7 @@
 //! The move that the brain chooses where it follows nothing yet.
+//!
+//! A held root comes first, since its table wins against all replies; then a win that a short search of continuous fours
+//! finds; then a move that at least makes or blocks a five.
 #![tactic(auto)]
 
 ghost use Rattle.std.specs.Prelude.{◌≡◌, ◌<◌, Some, IsOk, IfOk, IsSome, length, slice_get, IfSome, IsTrue};

@@ -1,4 +1,7 @@
 //! The course of a game on a board: who plays which colour under which rule, and what the brain follows.
+//!
+//! As long as the opponent's replies are listed in what is followed, the answers are read off it, without a search and without
+//! memory. A reply after which nothing can be followed brings a new choice.
 #![tactic(auto)]
 
 ghost use Rattle.brain_session.specs.Running.{EndsGame, GoesOnAlong};

@@ -1,4 +1,7 @@
 //! What the brain follows: a node of the table that it holds, or of the table of a win that it found itself.
+//!
+//! To follow is to look the reply up among the replies of the node: the ones that are listed first, and else the node for all
+//! others.
 #![tactic(auto)]
 
 ghost use Rattle.std.specs.Prelude.{◌≡◌, ◌-◌, ◌<◌, ◌≤◌, true, false, length, Some, MatchOption};

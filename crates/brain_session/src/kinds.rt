@@ -1,4 +1,6 @@
 //! Calls under a rule that is known only when the program runs.
+//!
+//! A game has its rule from a command, and a search has it in its type: each call here has a case for each rule.
 #![tactic(auto)]
 
 ghost use Rattle.std.specs.Prelude.{◌≡◌, ◌↔◌, true, IfOk, IfSome, IsSome, is_none};

@@ -1,4 +1,7 @@
 //! The laws of games that are played by what is held, each as the contract of a function that computes nothing.
+//!
+//! They say what a reader of the headline asks: whoever holds an accepted table wins by it against all legal replies, within the
+//! moves that the table has. Their proofs go by the moves that are left.
 
 ghost use Rattle.brain_session.specs.HeldGames.{HeldGamesGoWell, LegalRepliesAreAnswered, SessionsGoWell, StartsAreTight, WhoeverHoldsWins};
 

@@ -1,4 +1,7 @@
 //! The win by continuous fours that the brain finds itself, with its table.
+//!
+//! The search is short, so that an answer comes at once: its budget is in positions, not in time, and so the brain answers
+//! the same on every machine.
 #![tactic(auto)]
 
 ghost use Rattle.std.specs.Prelude.{◌≡◌, ◌<◌, ℕ, length, IfOk};

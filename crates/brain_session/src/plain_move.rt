@@ -1,4 +1,7 @@
 //! Plain moves: a five, a block of a five, and else a point next to the middle.
+//!
+//! It is made where nothing is known to win: it takes a five, or keeps the opponent from one at the next move, and never fouls
+//! where another point is free. No search is behind it.
 #![tactic(auto)]
 
 ghost use Rattle.std.specs.Prelude.{◌≡◌, ◌+◌, ◌-◌, max};

@@ -1,4 +1,7 @@
 //! A board and the moves that were made on it.
+//!
+//! A move is taken back by lifting the last stone. Room for a stone on each empty point is taken with the board, so that no move
+//! takes memory.
 #![tactic(auto)]
 
 ghost use Rattle.std.specs.Prelude.{◌≡◌, ◌≤◌, ◌∷◌, [], ◌&&◌, true, IsTrue, IfOk, IsSome, is_none};

@@ -1,4 +1,7 @@
 //! A board that was begun, with the game on it, if there is one.
+//!
+//! A board may stand before a game has begun on it: BEGIN, the first TURN and DONE begin one, each with the side that the
+//! protocol names.
 #![tactic(auto)]
 
 ghost use Rattle.strategy_checker.specs.HeldRoots.{HeldTable};

@@ -3,5 +3,5 @@
 -- a board is lawful exactly where nothing is said against it
 pub mod Lawfulness
 -- places of three points, and the short cuts of the judge
-mod ThreePlaces
-mod MayFoul
+pub mod ThreePlaces
+pub mod MayFoul

@@ -1,4 +1,7 @@
 //! What becomes of a move.
+//!
+//! Asked in this order, as the rules do: is the point free, does the stone win, is it a foul, is the board full, and else the game
+//! goes on. So a five of Black is a win even where it would be a foul too (RIF Rules of Renju).
 #![tactic(auto)]
 
 ghost use Rattle.std.specs.Prelude.{◌≡◌, IsTrue};

@@ -1,4 +1,7 @@
 //! A lawful position under a rule.
+//!
+//! Who has a position never asks again whether its board is lawful. A board is refused with the first fault in a fixed order:
+//! counts that name no side to move, a winning run, no empty point.
 #![tactic(auto)]
 
 ghost use Rattle.std.specs.Prelude.{◌≡◌, ◌↔◌, IsTrue, Some, None, IfOk, IfErr, IsOk};

@@ -1,4 +1,7 @@
 //! Gaps beside a stone: the first empty points past the stones of its side.
+//!
+//! A stone can complete a four only with stones that it reaches over at most one gap, and so with the first two empty points of
+//! each way. The walks end at a stone of the other side or at the border.
 #![tactic(auto)]
 
 ghost use Rattle.std.specs.Prelude.{◌≡◌, ◌<◌, true, IsTrue, Some};

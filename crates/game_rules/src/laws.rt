@@ -1,4 +1,7 @@
 //! The laws of play, each as the contract of a function that computes nothing.
+//!
+//! A move keeps a position lawful, the tests that compute say what the facts say, and the three kinds of wins are ordered: by
+//! fours, by threats, by any moves.
 #![tactic(auto)]
 
 ghost use Rattle.game_rules.specs.Laws.{MovesContinue, TestsTell, FoursAreThreats, ThreatsWin, MoreMovesWin};

@@ -1,4 +1,7 @@
 //! What a node has of its children's numbers: the least of those that its player seeks, and the sum of the others.
+//!
+//! The player of a node picks the best of its children, and the other side has to be beaten in all of them. Infinity is a number
+//! that no sum leaves (Allis, van der Meulen and van den Herik, Proof-Number Search).
 #![tactic(auto)]
 
 ghost use Rattle.std.specs.Prelude.{◌≡◌, ◌<◌, map};

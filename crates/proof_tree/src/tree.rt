@@ -69,6 +69,14 @@ impl ProofTree {
         self.numbers[i as usize]
     }
 
+    /// How node `i` is joined to the others.
+    pub fn link(&self, i: u32) -> Link
+        requires in_tree { i < length self.now.links }
+        ensures link { result ≡ link_at self.now.links i }
+    {
+        self.links[i as usize]
+    }
+
     /// The most-proving leaf: the end of the walk that starts at the root and goes, at each node with children, to the
     /// first child with the node's minimum.
     pub fn most_proving(&self) -> u32

@@ -6,15 +6,16 @@ pub mod ThreePoints
 pub mod Reaches
 -- five points in short, and what a stone leaves of them
 pub mod FiveLaws
--- lines seen in one of two ways; where tests hold; the five points that a stone makes
-mod Ways
+-- lines seen in one of two ways; the five points that a stone makes; the law of reach
+pub mod Ways
+pub mod NewFives
+pub mod ReachLaw
+-- where tests hold; short lists
 mod Finds
 mod ShortLists
-mod NewFives
--- lines that look the same within reach, and what a stone makes on them; the law of reach
+-- lines that look the same within reach, and what a stone makes on them
 mod Alike
 mod AlikeFours
-mod ReachLaw
 -- codes digit by digit
 mod CodeDigits
 -- numbers as sums of their bits

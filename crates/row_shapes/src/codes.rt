@@ -1,4 +1,7 @@
 //! The code of a line: what stands around a point on one axis, as one number.
+//!
+//! The code is a number in base three, a digit a neighbour. Two lines that look the same to a side have the same code, so that a
+//! table can answer for both.
 #![tactic(auto)]
 
 ghost use Rattle.std.specs.Prelude.{◌≡◌, ◌≤◌, ◌<◌, ◌+◌, ◌*◌, ◌^◌, IsTrue, Some, if◌then◌else◌, nat_lt};

@@ -1,4 +1,6 @@
 //! The law of reach, as the contract of a function that computes nothing.
+//!
+//! It lets a table over codes stand in for the calls on boards.
 #![tactic(auto)]
 
 ghost use Rattle.row_shapes.specs.LineShapes.{LawOfReach};

@@ -1,4 +1,6 @@
 //! Five points: where a stone makes a winning run.
+//!
+//! A run through a point is the stones on both sides of it and itself; whether its length wins is the rule's word.
 #![tactic(auto)]
 
 ghost use Rattle.std.specs.Prelude.{◌≡◌, ◌<◌, IsTrue};

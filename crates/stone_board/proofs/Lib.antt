@@ -3,7 +3,8 @@
 -- points that are kept on the board, and the row next to a point in one way; stones of either side
 pub mod Looks
 pub mod Stones
--- reading order, the numbers of stones that are kept, and walks along an axis
+-- walks along an axis
+pub mod Strides
+-- reading order, and the numbers of stones that are kept
 mod Orders
 mod Counts
-mod Strides

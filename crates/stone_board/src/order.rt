@@ -1,4 +1,7 @@
 //! The points of a board one after another in reading order.
+//!
+//! Row after row from the top, each from the left. It is the order in which moves are tried and lists are written, so that
+//! every answer is determined.
 #![tactic(auto)]
 
 ghost use Rattle.std.specs.Prelude.{◌≡◌, ◌<◌, ◌≤◌};

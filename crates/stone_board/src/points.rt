@@ -1,4 +1,6 @@
 //! Lists of points.
+//!
+//! They grow by one point at a time, and tell by their type that memory may run out.
 #![tactic(auto)]
 
 ghost use Rattle.std.specs.Prelude.{◌≡◌, ◌<◌, [], ◌∷◌, ◌++◌, length, slice_get, Some, OnOk, OnErr};

@@ -1,4 +1,6 @@
 //! The laws of trees, of walks and of wins, each as the contract of a function that computes nothing.
+//!
+//! A compiler only adds nodes at the end. So what was said of a node stays true of it, and a search can write a win piece by piece.
 #![tactic(auto)]
 
 ghost use Rattle.strategy_compiler.specs.Trees.{GrowthKeepsTrees};

@@ -1,4 +1,6 @@
 //! The laws of tables, each as the contract of a function that computes nothing.
+//!
+//! What an accepted table promises is told here once, by the games against it; checker, brain and commands cite these.
 #![tactic(auto)]
 
 ghost use Rattle.strategy_graph.specs.Laws.{NodesGoByNode, AcceptedWins, AcceptedStartWins, GamesEndWell, GrowthKeeps, GrowthKeepsStart, FaultsRefute, FaultsRefuteStart};

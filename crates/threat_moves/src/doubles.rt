@@ -85,7 +85,7 @@ pub fn three_moves<R: Rule, V: Seen<R>>(alloc: Global, view: &mut V) -> Result<P
 /// Whether the move goes on and leaves its side no five point but a double point. The view is as before, and so is the board,
 /// which is a copy of that of the view.
 #[tactic(auto, unfolding(crate::specs::ThreeMoves::is_three_move))]
-fn is_three_move<R: Rule, V: Seen<R>>(view: &mut V, board: &mut Board, p: Point) -> bool
+pub fn is_three_move<R: Rule, V: Seen<R>>(view: &mut V, board: &mut Board, p: Point) -> bool
     requires copy { board.old ≡ V.position view.old }
     ensures three { result ≡ is_three_move_lem R.KIND (V.position view.old) p }
     ensures same { V.position view.new ≡ V.position view.old }

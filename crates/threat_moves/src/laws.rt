@@ -1,4 +1,6 @@
 //! The laws of fours, each as the contract of a function that computes nothing.
+//!
+//! They tie what a move makes to what it leaves after the reply: a four leaves the defender one point at most.
 #![tactic(auto)]
 
 ghost use Rattle.threat_moves.specs.OneBlock.{BlockDecides, OthersLeaveFive};

@@ -1,4 +1,6 @@
 //! Moves that make fours.
+//!
+//! A four is told by its five point after the move, not by the look of its line: so overlines and fouls are judged by the rule itself.
 #![tactic(auto)]
 
 ghost use Rattle.std.specs.Prelude.{◌≡◌, IfOk};

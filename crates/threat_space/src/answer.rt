@@ -1,4 +1,7 @@
 //! The search for the first sequence, length after length.
+//!
+//! Short sequences come before long ones, and each length is walked anew: lists that are no sequence are looked at more than once, and
+//! the count of lists says so.
 #![tactic(auto)]
 
 ghost use Rattle.std.specs.Prelude.{◌≡◌, ◌≤◌, IfOk};

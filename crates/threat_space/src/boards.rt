@@ -1,4 +1,7 @@
 //! Boards on which threats were played, or a stone was taken off.
+//!
+//! The defender answers each threat with all of its costs at once. Each board is a copy: the sequences are short, and the boards
+//! before stay at hand to ask which gains are needed.
 #![tactic(auto)]
 
 ghost use Rattle.std.specs.Prelude.{◌≡◌, IfOk};

@@ -1,4 +1,7 @@
 //! Which gains of a list of threats are needed, and its least final point.
+//!
+//! A gain is needed where a later threat, or the final point, would be none without its stone (Allis, van den Herik and Huntjens).
+//! A list with a gain that nothing needs could be told shorter, and is no sequence.
 #![tactic(auto)]
 
 ghost use Rattle.std.specs.Prelude.{◌≡◌, IfOk, IfSome};
