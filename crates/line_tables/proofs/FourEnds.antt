@@ -1,0 +1,201 @@
+-- A stone that is in no four on an axis has no end there that wins, where its side had no five point before it.
+use Rattle.std.proofs.Common.{◌≡◌, ◌≢◌, inl, inr, ℕ, zero, suc, ◌+◌, ◌-◌, ◌≤◌, ◌<◌, Bool, true, false, cond, ◌&&◌, ◌||◌, not, refl, sym, ap, ◌∙◌, arith, nat_eq}
+use Rattle.std.specs.Prelude.{Option, Some, None, count_by}
+use Rattle.std.specs.List.{sum_by, list_all, range_with_len}
+use Rattle.std.proofs.lemmas.Bool.{cases_lt, false_from_ne_true, or_right}
+use Rattle.std.proofs.lemmas.Bool.Decides.{nat_tests}
+use Rattle.game_rules.specs.Grid.{Grid, IsBoard, is_on, is_empty, put, along}
+use Rattle.game_rules.specs.Shapes.{row_wins, stone_at, run_of, wins_on, wins_at, five, fours_of, place_stone, place_wins}
+use Rattle.game_rules.specs.Games.{has_five}
+use Rattle.game_rules.specs.declared.RuleKind.{RuleKind}
+use Rattle.game_rules.specs.declared.RuleKind.TheVariants.{Freestyle, Exact, Renju}
+use Rattle.game_rules.specs.declared.Side.{Side}
+use Rattle.game_rules.specs.declared.Side.TheVariants.{Black, White}
+use Rattle.game_rules.specs.declared.Axis.{Axis}
+use Rattle.game_rules.specs.declared.Point.{Point}
+use Rattle.game_rules.proofs.Axes.{axis_of}
+use Rattle.game_rules.proofs.Boards.{and_left, and_right, is_empty-on, holds-put_same}
+use Rattle.game_rules.proofs.Points.{points-found}
+use Rattle.stone_board.specs.declared.board.Way.{Way}
+use Rattle.stone_board.specs.declared.board.Way.TheVariants.{Ahead, Behind}
+use Rattle.stone_board.specs.Steps.{towards, opposite, stones_towards}
+use Rattle.row_shapes.specs.Gaps.{fours_from, is_four, are_stones}
+use Rattle.row_shapes.specs.FiveEnds.{kept_five, end_five, with_more, with_axis}
+use Rattle.row_shapes.specs.declared.fives.FivePoints.{FivePoints}
+use Rattle.row_shapes.proofs.Counting.{fours_by_gap, fours_of-gap}
+use Rattle.row_shapes.proofs.NewFives.{end_joins}
+use Rattle.row_shapes.proofs.Ways.{go, go-then, go-same, go-zero, go-towards, leads, leads_back, run_towards, towards-put, beyond-put}
+
+-- ---- no four
+
+each_zero : (f : ℕ → ℕ) → sum_by f (range_with_len 0 5) ≡ 0 → (k : ℕ) → k < 5 → f k ≡ 0
+each_zero f h zero low = omega arith
+each_zero f h (suc zero) low = omega arith
+each_zero f h (suc (suc zero)) low = omega arith
+each_zero f h (suc (suc (suc zero))) low = omega arith
+each_zero f h (suc (suc (suc (suc zero)))) low = omega arith
+each_zero f h (suc (suc (suc (suc (suc k))))) low = absurd (omega arith)
+
+no_by : (r : Bool) → ◌≡◌ {A = ℕ} (cond r 1 0) 0 → r ≡ false
+no_by true h = absurd (omega arith)
+no_by false h = refl
+
+each_none : (f : ℕ → Bool) → count_by f (range_with_len 1 4) ≡ 0 → (k : ℕ) → 1 ≤ k → k ≤ 4 → f k ≡ false
+each_none f h zero low high = absurd (omega arith)
+each_none f h (suc zero) low high = no_by (f 1) (omega arith)
+each_none f h (suc (suc zero)) low high = no_by (f 2) (omega arith)
+each_none f h (suc (suc (suc zero))) low high = no_by (f 3) (omega arith)
+each_none f h (suc (suc (suc (suc zero)))) low high = no_by (f 4) (omega arith)
+each_none f h (suc (suc (suc (suc (suc k))))) low high = absurd (omega arith)
+
+all_range : (f : ℕ → Bool) (n a : ℕ) → ((k : ℕ) → a ≤ k → k < a + n → f k ≡ true) → list_all f (range_with_len a n) ≡ true
+all_range f zero a h = refl
+all_range f (suc n) a h = ap (λ r. r && list_all f (range_with_len (a + 1) n)) (h a (omega arith) (omega arith)) ∙ all_range f n (a + 1) (λ k low high. h k (omega arith) (omega arith))
+
+module _ (stone wins : ℕ → Bool) (none : fours_by_gap stone wins ≡ 0) where
+  no_four : (first gap : ℕ) → first < 5 → 1 ≤ gap → gap ≤ 4 → is_four stone wins first gap ≡ false
+  no_four first gap low some high = each_none (λ g. is_four stone wins first g) (each_zero (λ f. fours_from stone wins f) none first low) gap some high
+
+  stones_but : (first gap : ℕ) → ((i : ℕ) → i < 5 → i ≢ gap → stone (i + 4 - first) ≡ true) → are_stones stone first gap ≡ true
+  unfolding are_stones
+  stones_but first gap h = all_range (λ i. nat_eq i gap || stone (i + 4 - first)) 5 0 (λ i low high. by_test i (nat_eq i gap) refl (omega arith)) where
+    by_test : (i : ℕ) (r : Bool) → nat_eq i gap ≡ r → i < 5 → (r || stone (i + 4 - first)) ≡ true
+    by_test i true e high = refl
+    by_test i false e high = h i high (λ same. absurd (let yes : nat_eq i gap ≡ true = grind (arith, nat_tests) in let differ : false ≡ true = sym e ∙ yes in cc))
+
+  -- five places with one to win between them, or past four in a row
+  no_window : (first gap : ℕ) → first < 5 → 1 ≤ gap → gap ≤ 4 → first ≢ gap → ((i : ℕ) → i < 5 → i ≢ gap → stone (i + 4 - first) ≡ true) → wins (gap + 4 - first) ≡ true → ⊥
+  unfolding is_four
+  no_window first gap low some high differ stones win =
+      let apart : nat_eq first gap ≡ false = false_from_ne_true _ (λ e. differ (grind (arith, nat_tests))) in
+      let four : (not (nat_eq first gap) && are_stones stone first gap && (wins (gap + 4 - first) || (nat_eq gap 4 && wins (3 - first)))) ≡ true = rw (apart, stones_but first gap stones, win) refl in
+      let no = no_four first gap low some high in
+      let both : false ≡ true = sym no ∙ four in
+      cc
+
+  no_row : (first : ℕ) → first < 4 → ((i : ℕ) → i < 4 → stone (i + 4 - first) ≡ true) → wins (3 - first) ≡ true → ⊥
+  unfolding is_four
+  no_row first low stones win =
+      let apart : nat_eq first 4 ≡ false = grind (arith, nat_tests) in
+      let four : (not (nat_eq first 4) && are_stones stone first 4 && (wins (4 + 4 - first) || (nat_eq 4 4 && wins (3 - first)))) ≡ true = rw (apart, stones_but first 4 (λ i small other. stones i (omega arith))) (or_right (wins (4 + 4 - first)) _ win) in
+      let no = no_four first 4 (omega arith) (omega arith) (omega arith) in
+      let both : false ≡ true = sym no ∙ four in
+      cc
+
+-- ---- the lengths of runs
+
+run_short : (rule : RuleKind) (s : Side) (m n : ℕ) → row_wins rule s n ≡ true → row_wins rule s m ≡ false → m < n → (m ≤ 4) × (5 ≤ n)
+run_short Freestyle s m n h k less = (grind (arith, nat_tests), grind (arith, nat_tests))
+run_short Exact s m n h k less = (grind (arith, nat_tests), grind (arith, nat_tests))
+run_short Renju Black m n h k less = (grind (arith, nat_tests), grind (arith, nat_tests))
+run_short Renju White m n h k less = (grind (arith, nat_tests), grind (arith, nat_tests))
+
+-- ---- an end that wins
+
+module _ (rule : RuleKind) (b : Grid) (s : Side) (p : Point) (ok : IsBoard b) (empty : is_empty b p ≡ true) (d : Axis) where
+  abbrev next : Grid
+  next = put b s p
+
+  on_p : is_on b p ≡ true
+  on_p = is_empty-on b p empty
+
+  module _ (w : Way) (q : Point) (end : towards w d p (1 + stones_towards w b s d p) ≡ Some q) (on_q : is_on b q ≡ true) where
+    abbrev near : ℕ
+    near = stones_towards w b s d p
+
+    abbrev far : ℕ
+    far = stones_towards (opposite w) b s d p
+
+    abbrev beyond : ℕ
+    beyond = stones_towards w b s d q
+
+    here : go w d p (1 + near) 0 ≡ Some q
+    here = sym (go-towards w d p (1 + near)) ∙ end
+
+    at : (x y x' y' : ℕ) → x + y' ≡ x' + y → stone_at next s (go w d p x' y') ≡ true → stone_at next s (go w d p x y) ≡ true
+    at x y x' y' e h = ap (stone_at next s) (go-same w d p x y x' y' e) ∙ h
+
+    mine : stone_at next s (go w d p 0 0) ≡ true
+    mine = ap (stone_at next s) (go-zero w d p) ∙ holds-put_same b s p ok on_p
+
+    ahead : (j : ℕ) → 1 ≤ j → j ≤ near → stone_at next s (go w d p j 0) ≡ true
+    ahead j low high = let same = towards-put b s p on_p w d in (leads next s d p on_p w).holds j low (omega arith)
+
+    back : (j : ℕ) → 1 ≤ j → j ≤ far → stone_at next s (go w d p 0 j) ≡ true
+    back j low high = let same = towards-put b s p on_p (opposite w) d in (leads_back next s d p on_p w).holds j low (omega arith)
+
+    past : (j : ℕ) → 1 ≤ j → j ≤ beyond → stone_at next s (go w d p (1 + near + j) 0) ≡ true
+    past j low high =
+        let same = beyond-put b s p on_p w d near q here on_q in
+        ap (stone_at next s) (go-same w d p (1 + near + j) 0 (1 + near + j) (0 + 0) (omega arith) ∙ sym (go-then w d p q (1 + near) 0 j 0 here)) ∙ (leads next s d q on_q w).holds j low (omega arith)
+
+    -- all places of the run with q but q itself hold stones
+    run_stone : (x y : ℕ) → y ≤ x + far → x ≤ y + near + 1 + beyond → x ≢ y + near + 1 → stone_at next s (go w d p x y) ≡ true
+    run_stone x y low high other = elim (cases_lt x y) [
+      | inl less ↦ at x y 0 (y - x) (omega arith) (back (y - x) (omega arith) (omega arith))
+      | inr more ↦ elim (cases_lt y x) [
+        | inr same ↦ at x y 0 0 (omega arith) mine
+        | inl less ↦ elim (cases_lt (near + 1) (x - y)) [
+          | inl out ↦ at x y (1 + near + (x - y - near - 1)) 0 (omega arith) (past (x - y - near - 1) (omega arith) (omega arith))
+          | inr inside ↦ at x y (x - y) 0 (omega arith) (ahead (x - y) (omega arith) (omega arith))
+        ]
+      ]
+    ]
+
+    module _ (win : wins_on rule next s d q ≡ true) (short : near + far ≤ 3) (long : 3 ≤ near + far + beyond) (none : fours_of rule next s d p ≡ 0) where
+      no_fours : fours_by_gap (place_stone next s d p) (place_wins rule next s d p) ≡ 0
+      no_fours = sym (fours_of-gap rule next s d p) ∙ none
+
+      wins_here : (i : ℕ) → along d p i 4 ≡ Some q → place_wins rule next s d p i ≡ true
+      wins_here i e = ap (wins_at rule next s d) e ∙ win
+
+  contradiction : (w : Way) (q : Point) (end : towards w d p (1 + stones_towards w b s d p) ≡ Some q) (on_q : is_on b q ≡ true) → wins_on rule next s d q ≡ true → stones_towards w b s d p + stones_towards (opposite w) b s d p ≤ 3 → 3 ≤ stones_towards w b s d p + stones_towards (opposite w) b s d p + stones_towards w b s d q → fours_of rule next s d p ≡ 0 → ⊥
+  contradiction Ahead q end on_q win short long none =
+      no_window (place_stone next s d p) (place_wins rule next s d p) (no_fours Ahead q end on_q win short long none)
+      (stones_towards Behind b s d p) (stones_towards Behind b s d p + stones_towards Ahead b s d p + 1) (omega arith) (omega arith) (omega arith) (λ same. absurd (omega arith))
+      (λ i small other. run_stone Ahead q end on_q (i + 4 - stones_towards Behind b s d p) 4 (omega arith) (omega arith) (λ same. other (omega arith)))
+      (wins_here Ahead q end on_q win short long none (stones_towards Behind b s d p + stones_towards Ahead b s d p + 1 + 4 - stones_towards Behind b s d p)
+      (go-same Ahead d p (stones_towards Behind b s d p + stones_towards Ahead b s d p + 1 + 4 - stones_towards Behind b s d p) 4 (1 + stones_towards Ahead b s d p) 0 (omega arith) ∙ here Ahead q end on_q))
+  contradiction Behind q end on_q win short long none = elim (cases_lt (stones_towards Behind b s d p + stones_towards Ahead b s d p) 3) [
+    | inl gap ↦ no_window (place_stone next s d p) (place_wins rule next s d p) (no_fours Behind q end on_q win short long none)
+        (4 - stones_towards Ahead b s d p) (3 - stones_towards Behind b s d p - stones_towards Ahead b s d p) (omega arith) (omega arith) (omega arith) (λ same. absurd (omega arith))
+        (λ i small other. run_stone Behind q end on_q 4 (i + 4 - (4 - stones_towards Ahead b s d p)) (omega arith) (omega arith) (λ same. other (omega arith)))
+        (wins_here Behind q end on_q win short long none (3 - stones_towards Behind b s d p - stones_towards Ahead b s d p + 4 - (4 - stones_towards Ahead b s d p))
+        (go-same Behind d p 4 (3 - stones_towards Behind b s d p - stones_towards Ahead b s d p + 4 - (4 - stones_towards Ahead b s d p)) (1 + stones_towards Behind b s d p) 0 (omega arith) ∙ here Behind q end on_q))
+    | inr row ↦ no_row (place_stone next s d p) (place_wins rule next s d p) (no_fours Behind q end on_q win short long none)
+        (stones_towards Behind b s d p) (omega arith)
+        (λ i small. run_stone Behind q end on_q 4 (i + 4 - stones_towards Behind b s d p) (omega arith) (omega arith) (λ same. absurd (omega arith)))
+        (wins_here Behind q end on_q win short long none (3 - stones_towards Behind b s d p)
+        (go-same Behind d p 4 (3 - stones_towards Behind b s d p) (1 + stones_towards Behind b s d p) 0 (omega arith) ∙ here Behind q end on_q))
+  ]
+
+  module _ (bare : has_five rule b s ≡ false) (none : fours_of rule next s d p ≡ 0) where
+    loses : row_wins rule s (run_of next s d p) ≡ false
+    loses = false_from_ne_true _ (λ yes.
+        let win : wins_on rule b s d p ≡ true = ap (λ r. r && row_wins rule s (run_of next s d p)) empty ∙ yes in
+        let some = points-found b (five rule b s) p on_p (axis_of (λ e. wins_on rule b s e p) d win) in
+        let differ : false ≡ true = sym bare ∙ some in
+        cc)
+
+    no_win : (w : Way) (q : Point) → towards w d p (1 + stones_towards w b s d p) ≡ Some q → wins_on rule next s d q ≡ true → ⊥
+    no_win w q end win =
+        let joins : (is_empty b q && row_wins rule s (1 + (1 + stones_towards w b s d p + stones_towards (opposite w) b s d p) + stones_towards w b s d q)) ≡ true = sym (end_joins b s p ok empty w d q end rule) ∙ win in
+        let on_q : is_on b q ≡ true = is_empty-on b q (and_left (is_empty b q) _ joins) in
+        let run = run_towards b s w d p ok on_p in
+        let short : row_wins rule s (1 + stones_towards w b s d p + stones_towards (opposite w) b s d p) ≡ false = ap (row_wins rule s) (sym run) ∙ loses in
+        let lengths = run_short rule s (1 + stones_towards w b s d p + stones_towards (opposite w) b s d p) (1 + (1 + stones_towards w b s d p + stones_towards (opposite w) b s d p) + stones_towards w b s d q) (and_right (is_empty b q) _ joins) short (omega arith) in
+        let low = lengths.0 in
+        let high = lengths.1 in
+        contradiction w q end on_q win (omega (arith, low)) (omega (arith, high)) none
+
+    kept_none : (w : Way) (o : Option Point) → towards w d p (1 + stones_towards w b s d p) ≡ o → kept_five rule next s d o ≡ None
+    kept_none w None e = refl
+    kept_none w (Some q) e = ap (λ r. cond r (Some q) None) (false_from_ne_true _ (λ win. no_win w q e win))
+
+    no_end : (w : Way) → end_five rule b s d p w ≡ None
+    unfolding end_five
+    no_end w = kept_none w (towards w d p (1 + stones_towards w b s d p)) refl
+
+    -- such an axis tells nothing
+    pub nothing_told : (found : FivePoints) → found ≡ with_axis rule b s p found d
+    nothing_told found = sym (ap (λ (o : Option Point). with_more (with_more found (end_five rule b s d p Ahead)) o) (no_end Behind) ∙ ap (λ (o : Option Point). with_more found o) (no_end Ahead))

@@ -1,0 +1,127 @@
+//! The five points of both sides, told anew after a stone came or went.
+//!
+//! A stone changes the five points of its side in two ways alone: its point is none any more, and the first points past its
+//! runs, one each way on each axis, may become or cease to be some. Of the other side's only its own point changes. So no
+//! other point is asked.
+#![tactic(auto)]
+
+ghost use Rattle.std.specs.Prelude.{◌≡◌, ◌≤◌, ◌*◌, ℕ, Bool, IsTrue, [], List, length, if◌then◌else◌};
+ghost use Rattle.std.specs.List.{filter};
+ghost use Rattle.std.specs.Vec.{vec_capacity};
+ghost use Rattle.game_rules.specs.Grid.{IsBoard, is_on, is_empty, holds, put as put_lem, lift as lift_lem, points_of};
+ghost use Rattle.game_rules.specs.Shapes.{five as five_lem, wins_on as wins_on_lem};
+ghost use Rattle.game_rules.specs.Play.{other as other_lem};
+ghost use Rattle.game_rules.specs.declared.Point.{Point};
+ghost use Rattle.line_tables.specs.Lists.{with_told};
+ghost use Rattle.line_tables.specs.Tables.{TellsSide, AreListed, DecidesEnd, TellsButEnds, run_end, kept_empty, told_end};
+
+use crate::codes::LineCodes;
+use crate::five_list::FiveList;
+use row_shapes::Rule;
+use stone_board::{Axis, Board, Point, Side, Way};
+
+/// Tells the five points anew after a stone of the side came to the point: `own` lists those of the side, `others` those of
+/// the other side.
+pub(crate) fn after_play<R: Rule>(
+    own: &mut FiveList,
+    others: &mut FiveList,
+    codes: &LineCodes<R>,
+    side: Side,
+    p: Point,
+)
+    requires stone { IsTrue (holds codes.now side p) }
+    requires own { TellsSide R.KIND (lift_lem codes.now p) side own.old.points.items (vec_capacity own.old.points) }
+    requires others { TellsSide R.KIND (lift_lem codes.now p) (other_lem side) others.old.points.items (vec_capacity others.old.points) }
+    ensures own { TellsSide R.KIND codes.now side own.new.points.items (vec_capacity own.new.points) }
+    ensures others { TellsSide R.KIND codes.now (other_lem side) others.new.points.items (vec_capacity others.new.points) }
+{
+    let _ = codes.board();
+    others.tell(p, false);
+    own.tell(p, false);
+    tell_ends(own, codes, side, p);
+}
+
+/// The same after a stone of the side went from the point.
+pub(crate) fn after_undo<R: Rule>(
+    own: &mut FiveList,
+    others: &mut FiveList,
+    codes: &LineCodes<R>,
+    side: Side,
+    p: Point,
+)
+    requires empty { IsTrue (is_empty codes.now p) }
+    requires own { TellsSide R.KIND (put_lem codes.now side p) side own.old.points.items (vec_capacity own.old.points) }
+    requires others { TellsSide R.KIND (put_lem codes.now side p) (other_lem side) others.old.points.items (vec_capacity others.old.points) }
+    ensures own { TellsSide R.KIND codes.now side own.new.points.items (vec_capacity own.new.points) }
+    ensures others { TellsSide R.KIND codes.now (other_lem side) others.new.points.items (vec_capacity others.new.points) }
+{
+    let _ = codes.board();
+    others.tell(p, codes.five(side.other(), p));
+    own.tell(p, codes.five(side, p));
+    tell_ends(own, codes, side, p);
+}
+
+/// Tells the ends of the runs through a point of which a stone of the side came or went.
+fn tell_ends<R: Rule>(fives: &mut FiveList, codes: &LineCodes<R>, side: Side, p: Point)
+    requires on { IsTrue (is_on codes.now p) }
+    requires told { TellsButEnds R.KIND codes.now side p fives.old.points.items (vec_capacity fives.old.points) }
+    ensures told { TellsSide R.KIND codes.now side fives.new.points.items (vec_capacity fives.new.points) }
+{
+    tell_end(fives, codes, side, Axis::Row, Way::Ahead, p);
+    tell_end(fives, codes, side, Axis::Row, Way::Behind, p);
+    tell_end(fives, codes, side, Axis::Column, Way::Ahead, p);
+    tell_end(fives, codes, side, Axis::Column, Way::Behind, p);
+    tell_end(fives, codes, side, Axis::Down, Way::Ahead, p);
+    tell_end(fives, codes, side, Axis::Down, Way::Behind, p);
+    tell_end(fives, codes, side, Axis::Up, Way::Ahead, p);
+    tell_end(fives, codes, side, Axis::Up, Way::Behind, p);
+}
+
+/// Tells the first point in that way that holds no stone of the side.
+fn tell_end<R: Rule>(
+    fives: &mut FiveList,
+    codes: &LineCodes<R>,
+    side: Side,
+    axis: Axis,
+    way: Way,
+    p: Point,
+)
+    requires on { IsTrue (is_on codes.now p) }
+    requires listed { AreListed codes.now fives.old.points.items (vec_capacity fives.old.points) }
+    requires only { fives.old.points.items ≡ [] → DecidesEnd R.KIND codes.now side axis way p }
+    ensures told { (test : Point → Bool) → fives.old.points.items ≡ filter test (points_of codes.now) → fives.new.points.items ≡ filter (told_end R.KIND codes.now side axis way p test) (points_of codes.now) }
+    ensures listed { AreListed codes.now fives.new.points.items (vec_capacity fives.new.points) }
+{
+    match empty_end(codes.board(), side, axis, way, p) {
+        None => {}
+        Some(q) => tell_on(fives, codes, side, axis, q),
+    }
+}
+
+/// The first point in that way that holds no stone of the side, if it is on the board and empty.
+#[inline(always)]
+fn empty_end(board: &Board, side: Side, axis: Axis, way: Way, p: Point) -> Option<Point>
+    requires on { IsTrue (is_on board.now p) }
+    ensures end { result ≡ kept_empty board.now (run_end board.now side axis way p) }
+{
+    let near = board.stones_towards(way, side, axis, p);
+    match board.step_towards(way, axis, p, 1 + near as u8) {
+        None => None,
+        Some(q) => { if board.is_empty(q) { Some(q) } else { None } }
+    }
+}
+
+/// Tells an empty point whose line on this axis alone has changed: it is no new five point but by this axis.
+fn tell_on<R: Rule>(fives: &mut FiveList, codes: &LineCodes<R>, side: Side, axis: Axis, q: Point)
+    requires empty { IsTrue (is_empty codes.now q) }
+    requires room { (is_in : Bool) → length (with_told q is_in fives.old.points.items) ≤ vec_capacity fives.old.points }
+    requires only { fives.old.points.items ≡ [] → five_lem R.KIND codes.now side q ≡ wins_on_lem R.KIND codes.now side axis q }
+    ensures told { fives.new.points.items ≡ with_told q (five_lem R.KIND codes.now side q) fives.old.points.items }
+    ensures room { vec_capacity fives.old.points ≤ vec_capacity fives.new.points }
+{
+    if codes.wins_on(side, axis, q) {
+        fives.tell(q, true);
+    } else if !fives.is_empty() {
+        fives.tell(q, codes.five(side, q));
+    }
+}
