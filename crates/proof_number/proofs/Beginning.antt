@@ -1,0 +1,346 @@
+-- A search whose tree has one node: the root is open, or it is settled as won or lost.
+use Rattle.std.proofs.Common.{◌≡◌, ◌∙◌, ℕ, zero, suc, ◌+◌, ◌-◌, ◌<◌, ◌≤◌, Bool, true, false, cond, ◌&&◌, not, refl, sym, ap, subst, arith, List, [], ◌∷◌, length, nat_eq, get_or}
+use Rattle.std.proofs.lemmas.Bool.{eq-eqb, ne_eqb}
+use Rattle.std.proofs.lemmas.List.{get_or-map, get_or-set_same, length-map, length-set}
+use Rattle.game_rules.specs.Grid.{Grid, points_of}
+use Rattle.game_rules.specs.Shapes.{five}
+use Rattle.game_rules.specs.Play.{IsPosition, mover}
+use Rattle.game_rules.specs.Games.{WinsByThreats, five_points, has_five}
+use Rattle.game_rules.specs.declared.RuleKind.{RuleKind}
+use Rattle.game_rules.specs.declared.Side.{Side}
+use Rattle.game_rules.specs.declared.Point.{Point}
+use Rattle.game_rules.proofs.Boards.{and_left}
+use Rattle.game_rules.proofs.Points.{filter-none, filter-passes}
+use Rattle.std.specs.List.{list_all}
+use Rattle.strategy_graph.specs.declared.Node.{Node}
+use Rattle.strategy_compiler.specs.Nodes.{IsCompiled}
+use Rattle.strategy_compiler.specs.declared.wins.WrittenWin.{WrittenWin}
+use Rattle.proof_tree.specs.Combining.{is_settled, settled_numbers}
+use Rattle.proof_tree.specs.Trees.{IsTree, Tree, chosen, link_at, most_proving, numbers_at, walk_end}
+use Rattle.proof_tree.specs.declared.Kind.{Kind}
+use Rattle.proof_tree.specs.declared.Kind.TheVariants.{Attack, Defend}
+use Rattle.proof_tree.specs.declared.Numbers.{Numbers}
+use Rattle.proof_number.specs.ThreatGame.{threat_tree}
+use Rattle.proof_number.specs.declared.notes.Note.{Note}
+use Rattle.proof_number.specs.declared.search.Search.{Search}
+use Rattle.proof_number.specs.Answers.{IsThreatWin}
+use Rattle.proof_number.specs.Growth.{GrowsBy}
+use Rattle.proof_number.specs.Notes.{no_note, note_at, win_of}
+use Rattle.proof_number.specs.GameTrees.{CanGrow, GameTree, IsGameTree, TellsTruly, WinsAt, board_at, left_at}
+use Rattle.proof_number.specs.Searches.{AreWritten, IsCounted, IsNew, IsNotedWin, IsSettledAt, Searches, attacks_behind, behind_at, behind_leaves, defences_behind, game_of, is_attack, noted_won, sum_below, unwritten}
+use Rattle.proof_number.proofs.GameBoards.{board-root}
+use Rattle.proof_number.proofs.GrowthLaws.{grows-length}
+use Rattle.proof_number.proofs.Remembering.{true-none}
+use Rattle.proof_number.proofs.Settling.{one_where}
+use Rattle.proof_number.proofs.Steps.{win-some}
+use Rattle.proof_number.proofs.Sums.{sum-suc, sum-zero}
+use Rattle.proof_number.proofs.TreeLaws.{tree-positive}
+
+-- ---- five points that are listed
+
+pub listed-none : (rule : RuleKind) (b : Grid) (s : Side) (xs : List Point) → xs ≡ five_points rule b s → length xs < 1 → has_five rule b s ≡ false
+listed-none rule b s [] are none = filter-none (five rule b s) (points_of b) (sym are)
+listed-none rule b s (w ∷ more) are none = absurd (omega (arith, none))
+
+pub listed-first : (rule : RuleKind) (b : Grid) (s : Side) (xs : List Point) (d : Point) → xs ≡ five_points rule b s → 1 ≤ length xs → five rule b s (get_or xs 0 d) ≡ true
+listed-first rule b s [] d are some = absurd (omega (arith, some))
+listed-first rule b s (w ∷ more) d are some =
+    let all : list_all (five rule b s) (w ∷ more) ≡ true = ap (list_all (five rule b s)) are ∙ filter-passes (five rule b s) (points_of b) in
+    and_left (five rule b s w) _ all
+
+-- ---- a tree of one node
+
+module _ (t : Tree) (ok : IsTree t) (one : length t.links ≡ 1) where
+  pub lone-childless : (link_at t.links 0).count ≡ 0
+  lone-childless = by_count (link_at t.links 0).count refl where
+    by_count : (n : ℕ) → (link_at t.links 0).count ≡ n → n ≡ 0
+    by_count zero e = refl
+    by_count (suc n) e =
+        let first = ok.linked.later 0 (omega (arith, one)) (omega (arith, e)) in
+        let within = ok.linked.within 0 (omega (arith, one)) in
+        absurd (omega (arith, first, within, e, one))
+
+  -- the root is the most-proving leaf
+  pub lone-leaf : 0 ≡ most_proving t
+  lone-leaf = sym (walked (length t.links) one) where
+    walked : (n : ℕ) → n ≡ 1 → walk_end n t 0 ≡ 0
+    walked zero e = absurd (omega (arith, e))
+    walked (suc n) e = ap (λ r. cond r 0 (walk_end n t (chosen t 0))) (eq-eqb (link_at t.links 0).count 0 lone-childless)
+
+-- a win within the depth has few moves
+pub few-moves : (rule : RuleKind) (n : ℕ) (b : Grid) (c : List Node) (win : WrittenWin) → n ≤ 60 → IsThreatWin rule n b c win → win.moves < 256
+few-moves rule n b c win low is = let m = is.written.within in omega (arith, low, m)
+
+-- what is known of the root
+pub record IsRootOf (rule : RuleKind) (s : Search) (t : Tree) (c : List Node) : Type 0 where
+  pub can_grow : is_settled (numbers_at t.numbers 0) ≡ false → (has_five rule s.root (mover s.root) ≡ false) × (2 ≤ s.depth)
+  pub fresh : is_settled (numbers_at t.numbers 0) ≡ false → (note_at s.notes.items 0).moves ≡ 0
+  pub truth : TellsTruly (numbers_at t.numbers 0) (WinsByThreats rule s.depth s.root)
+  pub noted : 0 < (note_at s.notes.items 0).moves → IsNotedWin rule s.depth s.root c (win_of (note_at s.notes.items 0))
+  pub has_win : numbers_at t.numbers 0 ≡ settled_numbers true → 0 < (note_at s.notes.items 0).moves
+  pub few : length c + one_where (nat_eq (note_at s.notes.items 0).moves 0) ≤ s.before + 1
+
+-- the search beside its tree, where one position of the attacker is counted
+pub record IsBegun (rule : RuleKind) (s : Search) (t : Tree) (c : List Node) : Type 0 where
+  pub tree : IsTree t
+  pub one_node : length t.links ≡ 1
+  pub one_note : length s.notes.items ≡ 1
+  pub lawful : IsPosition rule s.root
+  pub depth_is : (note_at s.notes.items 0).left ≡ s.depth
+  pub depth_fits : s.depth ≤ 60
+  pub some_budget : 1 ≤ s.budget
+  pub budget_fits : s.budget ≤ 10000000
+  pub none : s.settled.entries ≡ []
+  pub attacked_is : s.attacked ≡ 1
+  pub defended_is : s.defended ≡ 0
+  pub compiled : IsCompiled c
+
+module _ (rule : RuleKind) (s : Search) (t : Tree) (c : List Node) (begun : IsBegun rule s t c) (root : IsRootOf rule s t c) where
+  abbrev Game : GameTree
+  Game = game_of rule s t
+
+  only : (i : ℕ) → i < length t.links → 0 ≡ i
+  only i low = let one = begun.one_node in omega (arith, low, one)
+
+  own-left : left_at Game.left 0 ≡ s.depth
+  own-left = let one = begun.one_note in get_or-map (λ (n : Note). n.left) s.notes.items 0 no_note 0 (omega (arith, one)) ∙ begun.depth_is
+
+  own-board : board_at Game 0 ≡ s.root
+  own-board = board-root Game.tree.links Game.moves Game.start begun.tree.linked
+
+  attacks : (link_at t.links 0).kind ≡ Attack
+  attacks = begun.tree.linked.root_attacks
+
+  -- what holds of the depth and the board of the search at the attacker's root holds of its node
+  at-root : (P : Kind → ℕ → Grid → Type 0) → P Attack s.depth s.root → P (link_at t.links 0).kind (left_at Game.left 0) (board_at Game 0)
+  at-root P p =
+      subst (λ (k : Kind). P k (left_at Game.left 0) (board_at Game 0)) (sym attacks)
+      (subst (λ (n : ℕ). P Attack n (board_at Game 0)) (sym own-left) (subst (λ (b : Grid). P Attack s.depth b) (sym own-board) p))
+
+  unsettled-root : (i : ℕ) → i < length t.links → is_settled (numbers_at t.numbers i) ≡ false → is_settled (numbers_at t.numbers 0) ≡ false
+  unsettled-root i low = subst (λ (k : ℕ). is_settled (numbers_at t.numbers k) ≡ false) (sym (only i low))
+
+  proved-root : (i : ℕ) → i < length t.links → numbers_at t.numbers i ≡ settled_numbers true → numbers_at t.numbers 0 ≡ settled_numbers true
+  proved-root i low = subst (λ (k : ℕ). numbers_at t.numbers k ≡ settled_numbers true) (sym (only i low))
+
+  lone-game : IsGameTree Game
+  lone-game = record {
+    moves = (let a = length-map s.notes.items (λ (n : Note). n.at) in let b = begun.one_note in let d = begun.one_node in omega (arith, a, b, d));
+    left = (let a = length-map s.notes.items (λ (n : Note). n.left) in let b = begun.one_note in let d = begun.one_node in omega (arith, a, b, d));
+    lawful = begun.lawful;
+    on = λ j some low. let one = begun.one_node in absurd (omega (arith, some, low, one));
+    fewer = λ j some low. let one = begun.one_node in absurd (omega (arith, some, low, one));
+    inner = λ i low some.
+        let none = lone-childless t begun.tree begun.one_node in
+        let here : 0 < (link_at t.links 0).count = subst (λ (k : ℕ). 0 < (link_at t.links k).count) (sym (only i low)) some in
+        absurd (omega (arith, none, here));
+    open_leaf = λ i low none unsettled.
+        subst (λ (k : ℕ). CanGrow (link_at t.links k).kind rule (left_at Game.left k) (board_at Game k)) (only i low)
+        (at-root (λ k n b. CanGrow k rule n b) (root.can_grow (unsettled-root i low unsettled)));
+    leaf = λ i low none.
+        subst (λ (k : ℕ). TellsTruly (numbers_at t.numbers k) (WinsAt (link_at t.links k).kind rule (left_at Game.left k) (board_at Game k))) (only i low)
+        (at-root (λ k n b. TellsTruly (numbers_at t.numbers 0) (WinsAt k rule n b)) root.truth);
+  }
+
+  lone-written : AreWritten Game s.notes.items c (λ i. ⊥)
+  lone-written = record {
+    true_wins = λ i low some.
+        subst (λ (k : ℕ). IsNotedWin rule (left_at Game.left k) (board_at Game k) c (win_of (note_at s.notes.items k))) (only i low)
+        (at-root (λ k n b. IsNotedWin rule n b c (win_of (note_at s.notes.items 0))) (root.noted (subst (λ (k : ℕ). 0 < (note_at s.notes.items k).moves) (sym (only i low)) some)));
+    fresh = λ i low none unsettled. subst (λ (k : ℕ). (note_at s.notes.items k).moves ≡ 0) (only i low) (root.fresh (unsettled-root i low unsettled));
+    leaves = λ i low none attack proved. subst (λ (k : ℕ). 0 < (note_at s.notes.items k).moves) (only i low) (root.has_win (proved-root i low proved));
+    defends = λ i low none defend proved.
+        let here : (link_at t.links 0).kind ≡ Defend = subst (λ (k : ℕ). (link_at t.links k).kind ≡ Defend) (sym (only i low)) defend in
+        let bad : Attack ≡ Defend = sym attacks ∙ here in cc;
+    all = λ i low attack proved beside. subst (λ (k : ℕ). 0 < (note_at s.notes.items k).moves) (only i low) (root.has_win (proved-root i low proved));
+  }
+
+  -- a sum over the nodes is that of the root
+  lone-sum : (f : ℕ → ℕ) → sum_below (length t.links) f ≡ f 0
+  lone-sum f =
+      let a = sum-suc 0 f in
+      let b = sum-zero f in
+      ap (λ (n : ℕ). sum_below n f) begun.one_node ∙ omega (arith, a, b)
+
+  lone-behind : (f : Kind → RuleKind → ℕ → Grid → ℕ) → behind_leaves f Game ≤ f (link_at t.links 0).kind rule (left_at Game.left 0) (board_at Game 0)
+  lone-behind f =
+      let a = lone-sum (behind_at f Game) in
+      let b = counts-less (nat_eq (link_at t.links 0).count 0 && not (is_settled (numbers_at t.numbers 0))) (f (link_at t.links 0).kind rule (left_at Game.left 0) (board_at Game 0)) in
+      omega (arith, a, b) where
+        counts-less : (r : Bool) (x : ℕ) → cond r x 0 ≤ x
+        counts-less true x = omega arith
+        counts-less false x = omega arith
+
+  lone-counted : IsCounted Game s.budget s.attacked s.defended
+  lone-counted = record {
+    attacks = (
+        let a = lone-behind attacks_behind in
+        let b : attacks_behind (link_at t.links 0).kind rule (left_at Game.left 0) (board_at Game 0) ≡ threat_tree rule (left_at Game.left 0) (board_at Game 0) - 1 = ap (λ (k : Kind). attacks_behind k rule (left_at Game.left 0) (board_at Game 0)) attacks in
+        let d : threat_tree rule (left_at Game.left 0) (board_at Game 0) ≡ threat_tree rule (left_at Game.left 0) s.root = ap (threat_tree rule (left_at Game.left 0)) own-board in
+        let e = tree-positive rule (left_at Game.left 0) s.root in
+        let f = begun.attacked_is in
+        omega (arith, a, b, d, e, f)
+        );
+    defences = (
+        let a = lone-behind defences_behind in
+        let b : defences_behind (link_at t.links 0).kind rule (left_at Game.left 0) (board_at Game 0) ≡ threat_tree rule (left_at Game.left 0) (board_at Game 0) - 1 = ap (λ (k : Kind). defences_behind k rule (left_at Game.left 0) (board_at Game 0)) attacks in
+        let d : threat_tree rule (left_at Game.left 0) (board_at Game 0) ≡ threat_tree rule (left_at Game.left 0) s.root = ap (threat_tree rule (left_at Game.left 0)) own-board in
+        let f = begun.defended_is in
+        omega (arith, a, b, d, f)
+        );
+    nodes = (let a = begun.one_node in let b = begun.attacked_is in omega (arith, a, b));
+    attacked_fits = (let a = begun.attacked_is in let b = begun.some_budget in omega (arith, a, b));
+    defended_fits = (let a = begun.defended_is in omega (arith, a));
+    leaves = λ kind some. let a = begun.one_node in absurd (omega (arith, a, some));
+  }
+
+  pub lone-searches : Searches rule s t c (λ i. ⊥)
+  unfolding Searches
+  lone-searches = record {
+    tree = begun.tree;
+    game = lone-game;
+    depth = begun.depth_is;
+    depth_fits = begun.depth_fits;
+    budget_fits = begun.budget_fits;
+    written = lone-written;
+    remembered = true-none rule c s.settled begun.none;
+    counted = lone-counted;
+    compiled = begun.compiled;
+    few = (
+        let a = lone-sum (unwritten t s.notes.items) in
+        let b : unwritten t s.notes.items 0 ≡ one_where (nat_eq (note_at s.notes.items 0).moves 0) = ap (λ (k : Kind). one_where (is_attack k && nat_eq (note_at s.notes.items 0).moves 0)) attacks in
+        let d = root.few in
+        let e = begun.attacked_is in
+        omega (arith, a, b, d, e)
+        );
+  }
+
+-- ---- the first look at the root
+
+module _ (rule : RuleKind) (s : Search) (t : Tree) (c : List Node) (b : Grid) (begins : IsNew s.depth s.budget (length c) b s) (lawful : IsPosition rule b) (tree : IsTree t) (one : length t.links ≡ 1)
+    (depth_fits : s.depth ≤ 60) (some_budget : 1 ≤ s.budget) (budget_fits : s.budget ≤ 10000000) where
+  first-lawful : IsPosition rule s.root
+  first-lawful = subst (IsPosition rule) (sym begins.root_is) lawful
+
+  -- nothing is known of the root yet
+  pub begun-open : IsCompiled c → is_settled (numbers_at t.numbers 0) ≡ false → 2 ≤ s.depth → has_five rule b (mover b) ≡ false → Searches rule s t c (λ i. ⊥)
+  begun-open compiled unsettled deep none = lone-searches rule s t c (record {
+    tree = tree;
+    one_node = one;
+    one_note = begins.one;
+    lawful = first-lawful;
+    depth_is = begins.left;
+    depth_fits = depth_fits;
+    some_budget = some_budget;
+    budget_fits = budget_fits;
+    none = begins.none;
+    attacked_is = begins.attacked_is;
+    defended_is = begins.defended_is;
+    compiled = compiled;
+  }) (record {
+    can_grow = λ e. (subst (λ (w : Grid). has_five rule w (mover w) ≡ false) (sym begins.root_is) none, deep);
+    fresh = λ e. begins.unwon;
+    truth = record { proved = λ e. absurd (not-settled true e); disproved = λ e wins. not-settled false e };
+    noted = λ some. let e = begins.unwon in absurd (omega (arith, some, e));
+    has_win = λ e. absurd (not-settled true e);
+    few = (
+        let e = begins.before_is in
+        let f : one_where (nat_eq (note_at s.notes.items 0).moves 0) ≡ 1 = ap one_where (eq-eqb (note_at s.notes.items 0).moves 0 begins.unwon) in
+        omega (arith, e, f)
+        );
+  }) where
+    settled-test : (p : Bool) → is_settled (settled_numbers p) ≡ true
+    settled-test true = refl
+    settled-test false = refl
+
+    not-settled : (p : Bool) → numbers_at t.numbers 0 ≡ settled_numbers p → ⊥
+    not-settled p e = let bad : true ≡ false = sym (settled-test p) ∙ ap is_settled (sym e) ∙ unsettled in cc
+
+  -- the search changes but in what it notes
+  module _ (v : Search) (u : Tree) (d : List Node) (rest : v ≡ record s { board = v.board; notes = v.notes }) (links : u.links ≡ t.links) (tree_now : IsTree u) (compiled : IsCompiled d)
+      (long : length v.notes.items ≡ 1) (left : (note_at v.notes.items 0).left ≡ s.depth) where
+    still-begun : IsBegun rule v u d
+    still-begun = record {
+      tree = tree_now;
+      one_node = ap length links ∙ one;
+      one_note = long;
+      lawful = subst (λ (w : Search). IsPosition rule w.root) (sym rest) first-lawful;
+      depth_is = left ∙ sym (ap (λ (w : Search). w.depth) rest);
+      depth_fits = subst (λ (w : Search). w.depth ≤ 60) (sym rest) depth_fits;
+      some_budget = subst (λ (w : Search). 1 ≤ w.budget) (sym rest) some_budget;
+      budget_fits = subst (λ (w : Search). w.budget ≤ 10000000) (sym rest) budget_fits;
+      none = ap (λ (w : Search). w.settled.entries) rest ∙ begins.none;
+      attacked_is = ap (λ (w : Search). w.attacked) rest ∙ begins.attacked_is;
+      defended_is = ap (λ (w : Search). w.defended) rest ∙ begins.defended_is;
+      compiled = compiled;
+    }
+
+  -- the root is won, and its win is compiled
+  module _ (v : Search) (u : Tree) (d : List Node) (win : WrittenWin) (rest : v ≡ record s { board = v.board; notes = v.notes }) (items : v.notes.items ≡ noted_won s.notes.items 0 win)
+      (st : IsSettledAt t u 0 true) (grown : GrowsBy c d 1) (compiled : IsCompiled d) (is : IsThreatWin rule s.depth b d win) where
+    own-note : note_at v.notes.items 0 ≡ record (note_at s.notes.items 0) { moves = win.moves; node = win.node }
+    own-note =
+        let some : 0 < length s.notes.items = let one = begins.one in omega (arith, one) in
+        ap (λ (ns : List Note). note_at ns 0) items ∙ get_or-set_same s.notes.items 0 (record (note_at s.notes.items 0) { moves = win.moves; node = win.node }) no_note some
+
+    won-moves : (note_at v.notes.items 0).moves ≡ win.moves
+    won-moves = ap (λ (n : Note). n.moves) own-note
+
+    win-moves : 0 < (note_at v.notes.items 0).moves
+    win-moves = let a = won-moves in let m = win-some rule s.depth b d win is.written in omega (arith, a, m)
+
+    won-begun : IsBegun rule v u d
+    won-begun = still-begun v u d rest st.links st.tree compiled
+        (ap length items ∙ length-set s.notes.items 0 (record (note_at s.notes.items 0) { moves = win.moves; node = win.node }) ∙ begins.one)
+        (ap (λ (n : Note). n.left) own-note ∙ begins.left)
+
+    won-noted : IsNotedWin rule v.depth v.root d (win_of (note_at v.notes.items 0))
+    won-noted =
+        subst (λ (n : Note). IsNotedWin rule v.depth v.root d (win_of n)) (sym own-note)
+        (subst (λ (n : ℕ). IsNotedWin rule n v.root d win) (sym (ap (λ (w : Search). w.depth) rest))
+        (subst (λ (w : Grid). IsNotedWin rule s.depth w d win) (sym (ap (λ (w : Search). w.root) rest ∙ begins.root_is)) (is.written, is.by_threats)))
+
+    pub begun-won : Searches rule v u d (λ i. ⊥)
+    begun-won = lone-searches rule v u d won-begun (record {
+      can_grow = λ e. let bad : true ≡ false = sym (ap is_settled st.settled) ∙ e in cc;
+      fresh = λ e. let bad : true ≡ false = sym (ap is_settled st.settled) ∙ e in cc;
+      truth = record {
+        proved = λ e. won-noted.1;
+        disproved = λ e. let bad : 0 ≡ 4294967295 = ap (λ (n : Numbers). n.proof) (sym st.settled ∙ e) in absurd (omega (arith, bad));
+      };
+      noted = λ some. won-noted;
+      has_win = λ e. win-moves;
+      few = (
+          let a = grows-length c d 1 grown in
+          let e = ap (λ (w : Search). w.before) rest ∙ begins.before_is in
+          let f : one_where (nat_eq (note_at v.notes.items 0).moves 0) ≡ 0 = ap one_where (ne_eqb (note_at v.notes.items 0).moves 0 (λ z. let m = win-moves in omega (arith, z, m))) in
+          omega (arith, a, e, f)
+          );
+    })
+
+  -- the root is lost: one move is left, and it does not win
+  module _ (v : Search) (u : Tree) (rest : v ≡ record s { board = v.board }) (st : IsSettledAt t u 0 false) (compiled : IsCompiled c) (last : s.depth ≡ 1) (none : WinsByThreats rule 1 b → ⊥) where
+    lost-begun : IsBegun rule v u c
+    lost-begun = still-begun v u c (rest ∙ ap (λ (w : Search). record s { board = v.board; notes = w.notes }) (sym rest)) st.links st.tree compiled
+        (ap (λ (w : Search). length w.notes.items) rest ∙ begins.one) (ap (λ (w : Search). (note_at w.notes.items 0).left) rest ∙ begins.left)
+
+    pub begun-lost : Searches rule v u c (λ i. ⊥)
+    begun-lost = lone-searches rule v u c lost-begun (record {
+      can_grow = λ e. let bad : true ≡ false = sym (ap is_settled st.settled) ∙ e in cc;
+      fresh = λ e. let bad : true ≡ false = sym (ap is_settled st.settled) ∙ e in cc;
+      truth = record {
+        proved = λ e. let bad : 4294967295 ≡ 0 = ap (λ (n : Numbers). n.proof) (sym st.settled ∙ e) in absurd (omega (arith, bad));
+        disproved = λ e wins. none (
+            subst (λ (n : ℕ). WinsByThreats rule n b) (ap (λ (w : Search). w.depth) rest ∙ last)
+            (subst (WinsByThreats rule v.depth) (ap (λ (w : Search). w.root) rest ∙ begins.root_is) wins)
+            );
+      };
+      noted = λ some. let e : (note_at v.notes.items 0).moves ≡ 0 = ap (λ (w : Search). (note_at w.notes.items 0).moves) rest ∙ begins.unwon in absurd (omega (arith, some, e));
+      has_win = λ e. let bad : 4294967295 ≡ 0 = ap (λ (n : Numbers). n.proof) (sym st.settled ∙ e) in absurd (omega (arith, bad));
+      few = (
+          let a = ap (λ (w : Search). w.before) rest ∙ begins.before_is in
+          let e : (note_at v.notes.items 0).moves ≡ 0 = ap (λ (w : Search). (note_at w.notes.items 0).moves) rest ∙ begins.unwon in
+          let f : one_where (nat_eq (note_at v.notes.items 0).moves 0) ≡ 1 = ap one_where (eq-eqb (note_at v.notes.items 0).moves 0 e) in
+          omega (arith, a, f)
+          );
+    })

@@ -1,0 +1,279 @@
+-- A proved node of the attacker is compiled: the nodes behind its proved move have wins, and the search goes on with one more.
+use Rattle.std.proofs.Common.{◌≡◌, ◌≢◌, ◌⊎◌, inl, inr, ℕ, zero, suc, ◌+◌, ◌<◌, ◌≤◌, Bool, true, false, ◌&&◌, refl, sym, ap, subst, ◌∙◌, arith, List, ◌++◌, map, length, take, drop, get_or, nat_eq}
+use Rattle.std.specs.Prelude.{All, Some, slice_get}
+use Rattle.std.proofs.lemmas.Bool.{cases_eq, eq-eqb, ne_eqb}
+use Rattle.std.proofs.lemmas.List.{get_or-map, get_or-take, get_or-drop, get_or-set_same, get_or-set_other, length-map, length-take, length-drop, length-append, take-map, drop-map}
+use Rattle.std.proofs.Math.Seq.{map-set_same}
+use Rattle.game_rules.specs.Grid.{Grid}
+use Rattle.game_rules.specs.Play.{outcome, after}
+use Rattle.game_rules.specs.Games.{LosesOr}
+use Rattle.game_rules.specs.declared.RuleKind.{RuleKind}
+use Rattle.game_rules.specs.declared.Point.{Point}
+use Rattle.game_rules.specs.declared.Outcome.TheVariants.{GoesOn}
+use Rattle.strategy_graph.specs.declared.Node.{Node}
+use Rattle.strategy_graph.specs.declared.Reply.{Reply}
+use Rattle.strategy_graph.specs.Tables.{NamesLower, answer_at, greatest, is_rising}
+use Rattle.strategy_graph.proofs.Filling.{IsTable-lower}
+use Rattle.strategy_compiler.specs.declared.wins.WrittenWin.{WrittenWin}
+use Rattle.strategy_compiler.specs.Nodes.{IsCompiled, answering_node}
+use Rattle.strategy_compiler.specs.Wins.{IsWrittenWin}
+use Rattle.strategy_compiler.proofs.Winning.{growth_keeps-wins}
+use Rattle.proof_tree.specs.Combining.{combined, is_settled, other_kind, settled_numbers, total}
+use Rattle.proof_tree.specs.Trees.{IsChild, IsLinked, IsOnWayUp, Tree, ancestor, children_of, link_at, numbers_at}
+use Rattle.proof_tree.specs.declared.Kind.{Kind}
+use Rattle.proof_tree.specs.declared.Kind.TheVariants.{Attack, Defend}
+use Rattle.proof_tree.specs.declared.Link.{Link}
+use Rattle.proof_tree.specs.declared.Numbers.{Numbers}
+use Rattle.proof_number.specs.declared.notes.Note.{Note}
+use Rattle.proof_number.specs.declared.search.Search.{Search}
+use Rattle.proof_number.specs.Notes.{answer_of, no_note, note_at, win_of}
+use Rattle.proof_number.specs.Replies.{replies_at}
+use Rattle.proof_number.specs.GameTrees.{AreAllReplies, GameTree, HasTried, IsGameTree, board_at, left_at, left_before, move_at, moves_of, noted_tree, nowhere}
+use Rattle.proof_number.specs.Searches.{AreWritten, IsAbove, IsCounted, IsNotedWin, IsSearching, KeepsTree, game_of, is_attack, noted_won, sum_below, unwritten}
+use Rattle.proof_number.proofs.GameTruths.{IsChildOf, child-of, each-zero, settled-proved}
+use Rattle.proof_number.proofs.Records.{written-node}
+use Rattle.proof_number.proofs.Remembering.{table-grown}
+use Rattle.proof_number.proofs.Rising.{noted-rising}
+use Rattle.proof_number.proofs.Settling.{one_where, written-grown}
+use Rattle.proof_number.proofs.Sums.{sum-less}
+
+-- ---- the notes of nodes
+
+-- the note of node i with a win has the move and the moves left that it had
+pub won-places : (rule : RuleKind) (s : Search) (t : Tree) (items : List Note) (i : ℕ) (win : WrittenWin) → items ≡ noted_won s.notes.items i win → noted_tree rule s.root t items ≡ game_of rule s t
+won-places rule s t items i win is =
+    let moves : map (λ (n : Note). n.at) items ≡ map (λ (n : Note). n.at) s.notes.items =
+    ap (map (λ (n : Note). n.at)) is ∙ map-set_same (λ (n : Note). n.at) s.notes.items i (record (note_at s.notes.items i) { moves = win.moves; node = win.node }) no_note refl in
+    let left : map (λ (n : Note). n.left) items ≡ map (λ (n : Note). n.left) s.notes.items =
+    ap (map (λ (n : Note). n.left)) is ∙ map-set_same (λ (n : Note). n.left) s.notes.items i (record (note_at s.notes.items i) { moves = win.moves; node = win.node }) no_note refl in
+    λ r. record { rule = rule; start = s.root; tree = t; moves = moves r; left = left r }
+
+-- a node above another does not come after it
+pub above-low : (links : List Link) (w : IsLinked links) (steps i : ℕ) → i < length links → ancestor links steps i ≤ i
+above-low links w zero i inside = omega arith
+above-low links w (suc s) i inside = up (cases_eq (ancestor links s i) 0) (above-low links w s i inside) where
+  up : (ancestor links s i ≡ 0) ⊎ (ancestor links s i ≡ 0 → ⊥) → ancestor links s i ≤ i → (link_at links (ancestor links s i)).parent ≤ i
+  up (inl root) low =
+      let to : (link_at links (ancestor links s i)).parent ≡ 0 = ap (λ (m : ℕ). (link_at links m).parent) root ∙ w.root_parent in
+      omega (arith, to)
+  up (inr more) low = let to = w.parent_first (ancestor links s i) (omega (arith, more)) (omega (arith, low, inside)) in omega (arith, to, low)
+
+module _ (rule : RuleKind) (s : Search) (t : Tree) (c : List Node) (node : ℕ) (h : IsSearching rule s t c (IsOnWayUp t.links node)) (inside : node < length t.links)
+    (attack : (link_at t.links node).kind ≡ Attack) (proved : numbers_at t.numbers node ≡ settled_numbers true) (unwon : (note_at s.notes.items node).moves ≡ 0) where
+  lower : NamesLower c
+  lower = IsTable-lower c h.compiled.table
+
+  -- it has children
+  pub node-some : 0 < (link_at t.links node).count
+  node-some = by_count (cases_eq (link_at t.links node).count 0) where
+    by_count : ((link_at t.links node).count ≡ 0) ⊎ ((link_at t.links node).count ≡ 0 → ⊥) → 0 < (link_at t.links node).count
+    by_count (inl none) = let some = h.written.leaves node inside none attack proved in absurd (omega (arith, some, unwon))
+    by_count (inr more) = omega (arith, more)
+
+  module _ (j : ℕ) (child : IsChild (link_at t.links node) j) (zero_proof : (numbers_at t.numbers j).proof ≡ 0) where
+    facts : IsChildOf (game_of rule s t) node j
+    facts = child-of (game_of rule s t) h.tree h.game node j inside child
+
+    defends : (link_at t.links j).kind ≡ Defend
+    defends = facts.kind ∙ ap other_kind attack
+
+    child-proved : numbers_at t.numbers j ≡ settled_numbers true
+    child-proved = settled-proved (numbers_at t.numbers j) (h.tree.numbered.each j facts.inside) zero_proof
+
+    pub child-some : 0 < (link_at t.links j).count
+    child-some = by_count (cases_eq (link_at t.links j).count 0) where
+      by_count : ((link_at t.links j).count ≡ 0) ⊎ ((link_at t.links j).count ≡ 0 → ⊥) → 0 < (link_at t.links j).count
+      by_count (inl none) = absurd (h.written.defends j facts.inside none defends child-proved)
+      by_count (inr more) = omega (arith, more)
+
+    pub child-inside : j < length t.links
+    child-inside = facts.inside
+
+    pub notes-long : length s.notes.items ≡ length t.links
+    notes-long = sym (length-map s.notes.items (λ (n : Note). n.at)) ∙ h.game.moves
+
+    kids : List Note
+    kids = take (link_at t.links j).count (drop (link_at t.links j).first s.notes.items)
+
+    kids-length : length (take (link_at t.links j).count (drop (link_at t.links j).first s.notes.items)) ≡ (link_at t.links j).count
+    kids-length =
+        let a = length-take (link_at t.links j).count (drop (link_at t.links j).first s.notes.items) in
+        let b = length-drop (link_at t.links j).first s.notes.items in
+        let within = h.tree.linked.within j facts.inside in
+        let long = notes-long in
+        omega (arith, a, b, within, long)
+
+    kid-note : (k : ℕ) → k < (link_at t.links j).count → note_at (take (link_at t.links j).count (drop (link_at t.links j).first s.notes.items)) k ≡ note_at s.notes.items ((link_at t.links j).first + k)
+    kid-note k low = get_or-take (link_at t.links j).count (drop (link_at t.links j).first s.notes.items) k no_note low ∙ get_or-drop (link_at t.links j).first s.notes.items k no_note
+
+    -- the moves of the children are all replies
+    pub kids-all : map (λ n. n.at) (take (link_at t.links j).count (drop (link_at t.links j).first s.notes.items)) ≡ replies_at rule (board_at (game_of rule s t) j)
+    kids-all =
+        let all : AreAllReplies rule (board_at (game_of rule s t) j) (moves_of (link_at t.links j) (map (λ n. n.at) s.notes.items)) =
+        subst (λ (k : Kind). HasTried k rule (left_at (game_of rule s t).left j) (board_at (game_of rule s t) j) (moves_of (link_at t.links j) (map (λ n. n.at) s.notes.items))) defends (h.game.inner j facts.inside child-some) in
+        sym (ap (take (link_at t.links j).count) (drop-map (λ (n : Note). n.at) (link_at t.links j).first s.notes.items) ∙ take-map (λ (n : Note). n.at) (link_at t.links j).count (drop (link_at t.links j).first s.notes.items)) ∙ all.all
+
+    none-saves : AreAllReplies rule (board_at (game_of rule s t) j) (moves_of (link_at t.links j) (map (λ n. n.at) s.notes.items))
+    none-saves = subst (λ (k : Kind). HasTried k rule (left_at (game_of rule s t).left j) (board_at (game_of rule s t) j) (moves_of (link_at t.links j) (map (λ n. n.at) s.notes.items))) defends (h.game.inner j facts.inside child-some)
+
+    pub kids-rising : is_rising (map answer_of (take (link_at t.links j).count (drop (link_at t.links j).first s.notes.items))) ≡ true
+    kids-rising = noted-rising (board_at (game_of rule s t) j) _ (take (link_at t.links j).count (drop (link_at t.links j).first s.notes.items)) kids-all
+
+    -- the board and the moves left of each child, and its win
+    own-total : total (map (λ n. n.proof) (children_of (link_at t.links j) t.numbers)) ≡ 0
+    own-total =
+        let own : numbers_at t.numbers j ≡ combined Defend (children_of (link_at t.links j) t.numbers) = h.tree.numbered.combined_at j facts.inside child-some ∙ ap (λ (k : Kind). combined k (children_of (link_at t.links j) t.numbers)) defends in
+        ap (λ (n : Numbers). n.proof) (sym own ∙ child-proved)
+
+    kid-win : (k : ℕ) → k < (link_at t.links j).count
+        → IsWrittenWin rule (left_at (game_of rule s t).left j) (after (board_at (game_of rule s t) j) (note_at s.notes.items ((link_at t.links j).first + k)).at) c (win_of (note_at s.notes.items ((link_at t.links j).first + k)))
+    kid-win k low =
+        let m : ℕ = (link_at t.links j).first + k in
+        let kid : IsChild (link_at t.links j) m = record { from_first = omega arith; below_end = omega (arith, low) } in
+        let f = child-of (game_of rule s t) h.tree h.game j m facts.inside kid in
+        let attacks : (link_at t.links m).kind ≡ Attack = f.kind ∙ ap other_kind defends in
+        let numbers : numbers_at t.numbers m ≡ settled_numbers true =
+        settled-proved (numbers_at t.numbers m) (h.tree.numbered.each m f.inside) (each-zero (game_of rule s t) h.tree h.game j facts.inside (λ n. n.proof) own-total m kid) in
+        let beside : IsOnWayUp t.links node m → ⊥ = λ way.
+        let low_way = above-low t.links h.tree.linked way.0 node inside in
+        let at = way.1 in
+        let first = facts.later in
+        let second = f.later in
+        omega (arith, low_way, at, first, second) in
+        let some = h.written.all m f.inside attacks numbers beside in
+        let win = (h.written.true_wins m f.inside some).0 in
+        let moved : move_at (map (λ n. n.at) s.notes.items) m ≡ (note_at s.notes.items m).at = get_or-map (λ (n : Note). n.at) s.notes.items m no_note nowhere (let long = notes-long in let i = f.inside in omega (arith, long, i)) in
+        let left : left_at (game_of rule s t).left m ≡ left_at (game_of rule s t).left j = ap (λ (q : Kind). left_before q (left_at (game_of rule s t).left m)) (sym attacks) ∙ f.fewer in
+        let board : board_at (game_of rule s t) m ≡ after (board_at (game_of rule s t) j) (note_at s.notes.items m).at = f.board ∙ ap (after (board_at (game_of rule s t) j)) moved in
+        subst (λ (n : ℕ). IsWrittenWin rule n (after (board_at (game_of rule s t) j) (note_at s.notes.items m).at) c (win_of (note_at s.notes.items m))) left
+        (subst (λ (b : Grid). IsWrittenWin rule (left_at (game_of rule s t).left m) b c (win_of (note_at s.notes.items m))) board win)
+
+    kids-win : (k : ℕ) → k < length (take (link_at t.links j).count (drop (link_at t.links j).first s.notes.items))
+        → IsWrittenWin rule (left_at (game_of rule s t).left j) (after (board_at (game_of rule s t) j) (note_at (take (link_at t.links j).count (drop (link_at t.links j).first s.notes.items)) k).at) c (win_of (note_at (take (link_at t.links j).count (drop (link_at t.links j).first s.notes.items)) k))
+    kids-win k low =
+        let below : k < (link_at t.links j).count = let e = kids-length in omega (arith, e, low) in
+        subst (λ (n : Note). IsWrittenWin rule (left_at (game_of rule s t).left j) (after (board_at (game_of rule s t) j) n.at) c (win_of n)) (sym (kid-note k below)) (kid-win k below)
+
+    pub kids-below : All (λ r. r.next < length c) (map answer_of (take (link_at t.links j).count (drop (link_at t.links j).first s.notes.items)))
+    kids-below k d low =
+        let long = length-map (take (link_at t.links j).count (drop (link_at t.links j).first s.notes.items)) answer_of in
+        let at : get_or (map answer_of (take (link_at t.links j).count (drop (link_at t.links j).first s.notes.items))) k d ≡ answer_of (note_at (take (link_at t.links j).count (drop (link_at t.links j).first s.notes.items)) k) =
+        get_or-map answer_of (take (link_at t.links j).count (drop (link_at t.links j).first s.notes.items)) k no_note d (omega (arith, long, low)) in
+        subst (λ (r : Reply). r.next < length c) (sym at) (kids-win k (omega (arith, long, low))).in_compiler
+
+    -- the node with these answers is a win at the node
+    module _ (more : List Node) (i : ℕ) (p : Point) (move : (note_at s.notes.items j).at ≡ p) (compiled : IsCompiled (c ++ more))
+        (at : slice_get (c ++ more) i ≡ Some (answering_node p (map answer_of (take (link_at t.links j).count (drop (link_at t.links j).first s.notes.items)))))
+        (answered : All (λ r. answer_at (c ++ more) i r.at ≡ Some r.next) (map answer_of (take (link_at t.links j).count (drop (link_at t.links j).first s.notes.items)))) where
+      pub node-win : IsWrittenWin rule (left_at (game_of rule s t).left node) (board_at (game_of rule s t) node) (c ++ more) (record { node = i; moves = greatest (map (λ m. m.moves) (take (link_at t.links j).count (drop (link_at t.links j).first s.notes.items))) + 1 })
+      node-win =
+          let b : Grid = board_at (game_of rule s t) node in
+          let moved : move_at (map (λ n. n.at) s.notes.items) j ≡ p = get_or-map (λ (n : Note). n.at) s.notes.items j no_note nowhere (let long = notes-long in let f = facts.inside in omega (arith, long, f)) ∙ move in
+          let on : outcome rule b p ≡ GoesOn = ap (outcome rule b) (sym moved) ∙ facts.on in
+          let there : board_at (game_of rule s t) j ≡ after b p = facts.board ∙ ap (after b) moved in
+          let left : suc (left_at (game_of rule s t).left j) ≡ left_at (game_of rule s t).left node = ap (λ (q : Kind). left_before q (left_at (game_of rule s t).left j)) (sym defends) ∙ facts.fewer in
+          let saves = none-saves in
+          let all = kids-all in
+          subst (λ (n : ℕ). IsWrittenWin rule n b (c ++ more) (record { node = i; moves = greatest (map (λ m. m.moves) (take (link_at t.links j).count (drop (link_at t.links j).first s.notes.items))) + 1 })) left
+          (written-node rule b p on (c ++ more) (IsTable-lower (c ++ more) compiled.table) (take (link_at t.links j).count (drop (link_at t.links j).first s.notes.items)) (left_at (game_of rule s t).left j)
+          (subst (λ (d : Grid). map (λ n. n.at) (take (link_at t.links j).count (drop (link_at t.links j).first s.notes.items)) ≡ replies_at rule d) there all)
+          (λ q. subst (λ (d : Grid). LosesOr (outcome rule d q) (Unit {0})) there (saves.none_saves q))
+          (λ k low. subst (λ (d : Grid). IsWrittenWin rule (left_at (game_of rule s t).left j) (after d (note_at (take (link_at t.links j).count (drop (link_at t.links j).first s.notes.items)) k).at) (c ++ more) (win_of (note_at (take (link_at t.links j).count (drop (link_at t.links j).first s.notes.items)) k))) there
+          (growth_keeps-wins rule (left_at (game_of rule s t).left j) (after (board_at (game_of rule s t) j) (note_at (take (link_at t.links j).count (drop (link_at t.links j).first s.notes.items)) k).at) c more (win_of (note_at (take (link_at t.links j).count (drop (link_at t.links j).first s.notes.items)) k)) lower (kids-win k low)))
+          i at answered)
+
+  -- ---- the search with one win more
+
+  module _ (more : List Node) (few : length more ≤ 1) (compiled : IsCompiled (c ++ more)) (win : WrittenWin) (some : 0 < win.moves)
+      (true_win : IsNotedWin rule (left_at (game_of rule s t).left node) (board_at (game_of rule s t) node) (c ++ more) win)
+      (u : Search) (rest : u ≡ record s { notes = u.notes }) (items : u.notes.items ≡ noted_won s.notes.items node win) where
+    here : note_at u.notes.items node ≡ record (note_at s.notes.items node) { moves = win.moves; node = win.node }
+    here = ap (λ (l : List Note). note_at l node) items
+        ∙ get_or-set_same s.notes.items node (record (note_at s.notes.items node) { moves = win.moves; node = win.node }) no_note (let long = length-map s.notes.items (λ (n : Note). n.at) in let e = h.game.moves in omega (arith, long, e, inside))
+
+    other-note : (i : ℕ) → i ≢ node → note_at u.notes.items i ≡ note_at s.notes.items i
+    other-note i other = ap (λ (l : List Note). note_at l i) items ∙ get_or-set_other s.notes.items node i (record (note_at s.notes.items node) { moves = win.moves; node = win.node }) no_note other
+
+    same_left : (i : ℕ) → (note_at u.notes.items i).left ≡ (note_at s.notes.items i).left
+    same_left i = elim (cases_eq i node) [
+      | inl e ↦ ap (λ (k : ℕ). (note_at u.notes.items k).left) e ∙ ap (λ (n : Note). n.left) here ∙ ap (λ (k : ℕ). (note_at s.notes.items k).left) (sym e)
+      | inr n ↦ ap (λ (n : Note). n.left) (other-note i n)
+    ]
+
+    pub won-keeps : KeepsTree s u
+    won-keeps = record {
+      rest = rest ∙ again;
+      places = λ r v. ap (λ (w : Search). game_of r w v) rest ∙ won-places r s v u.notes.items node win items;
+    } where
+      again : record s { notes = u.notes } ≡ record s { notes = u.notes; settled = u.settled }
+      again = ap (λ (w : Search). record s { notes = u.notes; settled = w.settled }) (sym rest)
+
+    now-some : 0 < (note_at u.notes.items node).moves
+    now-some = subst (λ (n : Note). 0 < n.moves) (sym here) some
+
+    settled-here : is_settled (numbers_at t.numbers node) ≡ true
+    settled-here = ap is_settled proved
+
+    won-written : AreWritten (game_of rule s t) u.notes.items (c ++ more) (IsAbove t.links node)
+    won-written =
+        let grown = written-grown (game_of rule s t) s.notes.items c more (IsOnWayUp t.links node) lower h.written in
+        record {
+          true_wins = λ i low positive. elim (cases_eq i node) [
+            | inl e ↦
+                subst (λ (k : ℕ). IsNotedWin rule (left_at (game_of rule s t).left k) (board_at (game_of rule s t) k) (c ++ more) (win_of (note_at u.notes.items k))) (sym e)
+                (subst (λ (n : Note). IsNotedWin rule (left_at (game_of rule s t).left node) (board_at (game_of rule s t) node) (c ++ more) (win_of n)) (sym here) true_win)
+            | inr other ↦
+                subst (λ (n : Note). IsNotedWin rule (left_at (game_of rule s t).left i) (board_at (game_of rule s t) i) (c ++ more) (win_of n)) (sym (other-note i other))
+                (grown.true_wins i low (subst (λ (n : Note). 0 < n.moves) (other-note i other) positive))
+          ];
+          fresh = λ i low none unsettled. elim (cases_eq i node) [
+            | inl e ↦ let is : is_settled (numbers_at t.numbers i) ≡ true = ap (λ (k : ℕ). is_settled (numbers_at t.numbers k)) e ∙ settled-here in let bad : true ≡ false = sym is ∙ unsettled in cc
+            | inr other ↦ ap (λ (n : Note). n.moves) (other-note i other) ∙ h.written.fresh i low none unsettled
+          ];
+          leaves = λ i low none attacks numbers. elim (cases_eq i node) [
+            | inl e ↦ subst (λ (k : ℕ). 0 < (note_at u.notes.items k).moves) (sym e) now-some
+            | inr other ↦ subst (λ (n : Note). 0 < n.moves) (sym (other-note i other)) (h.written.leaves i low none attacks numbers)
+          ];
+          defends = h.written.defends;
+          all = λ i low attacks numbers beside. elim (cases_eq i node) [
+            | inl e ↦ subst (λ (k : ℕ). 0 < (note_at u.notes.items k).moves) (sym e) now-some
+            | inr other ↦ subst (λ (n : Note). 0 < n.moves) (sym (other-note i other)) (h.written.all i low attacks numbers (λ way. beside (way, other)))
+          ];
+        }
+
+    won-few : length (c ++ more) + sum_below (length t.links) (unwritten t u.notes.items) ≤ s.before + s.attacked
+    won-few =
+        let less = sum-less (length t.links) (unwritten t u.notes.items) (unwritten t s.notes.items) node 1 inside
+        (λ j low other. let e = ap (λ (n : Note). one_where (is_attack (link_at t.links j).kind && nat_eq n.moves 0)) (other-note j other) in omega (arith, e))
+        (let a = now-none in let b = was-one in omega (arith, a, b)) in
+        let long = length-append c more in
+        let old = h.few in
+        omega (arith, less, long, few, old) where
+          now-none : unwritten t u.notes.items node ≡ 0
+          now-none =
+              ap (λ r. one_where (is_attack (link_at t.links node).kind && r)) (ne_eqb (note_at u.notes.items node).moves 0 (λ e. let more = now-some in omega (arith, e, more)))
+              ∙ no-one (is_attack (link_at t.links node).kind) where
+                no-one : (r : Bool) → one_where (r && false) ≡ 0
+                no-one true = refl
+                no-one false = refl
+
+          was-one : unwritten t s.notes.items node ≡ 1
+          was-one =
+              ap (λ (k : Kind). one_where (is_attack k && nat_eq (note_at s.notes.items node).moves 0)) attack
+              ∙ ap (λ r. one_where r) (eq-eqb (note_at s.notes.items node).moves 0 unwon)
+
+    pub won-searching : IsSearching rule u t (c ++ more) (IsAbove t.links node)
+    won-searching =
+        let same : game_of rule u t ≡ game_of rule s t = won-keeps.places rule t in
+        subst (λ (w : Search). IsSearching rule w t (c ++ more) (IsAbove t.links node)) (sym rest) (record {
+          tree = h.tree;
+          game = subst IsGameTree (sym (won-places rule s t u.notes.items node win items)) h.game;
+          depth = same_left 0 ∙ h.depth;
+          depth_fits = h.depth_fits;
+          budget_fits = h.budget_fits;
+          written = subst (λ (g : GameTree). AreWritten g u.notes.items (c ++ more) (IsAbove t.links node)) (sym (won-places rule s t u.notes.items node win items)) won-written;
+          remembered = table-grown rule c more s.settled lower h.remembered;
+          counted = subst (λ (g : GameTree). IsCounted g s.budget s.attacked s.defended) (sym (won-places rule s t u.notes.items node win items)) h.counted;
+          compiled = compiled;
+          few = won-few;
+        })

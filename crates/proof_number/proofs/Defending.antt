@@ -1,0 +1,458 @@
+-- A leaf of the defender is settled where a reply leaves no win, or else gets a child for each reply.
+use Rattle.std.proofs.Common.{◌≡◌, inl, inr, ℕ, suc, ◌+◌, ◌-◌, ◌<◌, ◌≤◌, Bool, true, false, cond, ◌&&◌, not, refl, sym, ap, subst, ◌∙◌, arith, List, [], ◌∷◌, ◌++◌, length, map, get_or}
+use Rattle.std.specs.Prelude.{Option, Some, None}
+use Rattle.std.specs.List.{All, sum_by}
+use Rattle.std.proofs.lemmas.Bool.{eq-eqb, ne_eqb}
+use Rattle.std.proofs.lemmas.List.{get_or-map, length-map}
+use Rattle.std.proofs.lemmas.List.Elements.{All-from_get_or}
+use Rattle.std.proofs.lemmas.List.Sums.{sum_by-cons, sum_by-le}
+use Rattle.std.proofs.lemmas.List.Filters.{length-filter_both}
+use Rattle.game_rules.specs.Grid.{Grid, is_empty, points_of}
+use Rattle.game_rules.specs.Shapes.{five}
+use Rattle.game_rules.specs.Play.{IsPosition, foul_of, mover, outcome, outcome_by, after}
+use Rattle.game_rules.specs.Games.{LosesOr, WinsByThreats, has_five, if_goes_on}
+use Rattle.game_rules.specs.declared.RuleKind.{RuleKind}
+use Rattle.game_rules.specs.declared.Foul.{Foul}
+use Rattle.game_rules.specs.declared.Outcome.{Outcome}
+use Rattle.game_rules.specs.declared.Outcome.TheVariants.{Refused, Wins, Fouls, Draws, GoesOn}
+use Rattle.game_rules.specs.declared.Point.{Point}
+use Rattle.game_rules.proofs.Points.{any_witness}
+use Rattle.game_rules.proofs.Positions.{IsPosition-after}
+use Rattle.strategy_graph.specs.declared.Node.{Node}
+use Rattle.strategy_graph.specs.declared.TheConstants.{MAX_NODES}
+use Rattle.strategy_graph.proofs.Filling.{IsTable-lower}
+use Rattle.strategy_compiler.specs.Nodes.{IsCompiled}
+use Rattle.proof_tree.specs.Combining.{is_settled, no_numbers, settled_numbers}
+use Rattle.proof_tree.specs.Trees.{Tree, link_at, numbers_at}
+use Rattle.proof_tree.specs.declared.Kind.{Kind}
+use Rattle.proof_tree.specs.declared.Kind.TheVariants.{Attack, Defend}
+use Rattle.proof_tree.specs.declared.Numbers.{Numbers}
+use Rattle.proof_number.specs.ThreatGame.{behind_replies, threat_tree}
+use Rattle.proof_number.specs.Attacks.{goes_on, has_reply}
+use Rattle.proof_number.specs.declared.notes.Note.{Note}
+use Rattle.proof_number.specs.declared.replies.Child.{Child}
+use Rattle.proof_number.specs.declared.replies.Children.{Children}
+use Rattle.proof_number.specs.declared.replies.Judged.{Judged}
+use Rattle.proof_number.specs.declared.replies.Judged.TheVariants.{Five, Double as DoubleWins, Last, Open}
+use Rattle.proof_number.specs.declared.search.Search.{Search}
+use Rattle.proof_number.specs.Children.{AreSettled, IsSettledChild, child_at, no_child, open_numbers}
+use Rattle.proof_number.specs.Growth.{GrowsBy}
+use Rattle.proof_number.specs.Notes.{no_note, note_at, win_of}
+use Rattle.proof_number.specs.Replies.{AreChildren, HasEscape, IsChild, IsJudged, counted_for, is_open, moves_for, nodes_for, replies_at}
+use Rattle.proof_number.specs.GameTrees.{AreAllReplies, CanGrow, GameTree, HasTried, TellsTruly, WinsAt, board_at, left_at}
+use Rattle.proof_number.specs.Remembered.{IsTrueTable}
+use Rattle.proof_number.specs.Searches.{Grows, HasGrown, HasSpent, IsAtLeaf, IsExpandedAt, IsNotedWin, IsSettledAt, StandsAt, attacks_behind, behind_at, defences_behind, game_of, sum_below}
+use Rattle.proof_number.proofs.ChildLaws.{counted-three, few-points}
+use Rattle.proof_number.proofs.Expanded.{IsNewNote, expanded-grown, new_behind, unwritten_child}
+use Rattle.proof_number.proofs.Expanding.{IsNewChild}
+use Rattle.proof_number.proofs.Growing.{lost-grown}
+use Rattle.proof_number.proofs.Remembering.{table-grown}
+use Rattle.proof_number.proofs.Settling.{one_where}
+use Rattle.proof_number.proofs.Steps.{leaf-lawful, leaf-noted}
+use Rattle.proof_number.proofs.Sums.{sum-le, sum-less, sum-list}
+use Rattle.proof_number.proofs.TreeLaws.{children-within, counted-few}
+use Rattle.proof_number.proofs.Trying.{escape-saves, win-has_five}
+use Rattle.proof_number.proofs.Widening.{IsFresh, fresh-sum, sum-nothing}
+
+-- ---- where a reply goes on, none fills the board
+
+on-goes : (o : Outcome) → goes_on o ≡ true → o ≡ GoesOn
+on-goes Refused h = cc
+on-goes Wins h = cc
+on-goes (Fouls f) h = cc
+on-goes Draws h = cc
+on-goes GoesOn h = refl
+
+not-last : (e w l : Bool) (f : Option Foul) → outcome_by e w f l ≡ GoesOn → l ≡ false
+not-last e w false f h = refl
+not-last false w true None h = cc
+not-last false w true (Some f) h = cc
+not-last true true true None h = cc
+not-last true true true (Some f) h = cc
+not-last true false true None h = cc
+not-last true false true (Some f) h = cc
+
+none-draws : (e w l : Bool) (f : Option Foul) → l ≡ false → (outcome_by e w f l ≡ Wins → ⊥) → LosesOr (outcome_by e w f l) (Unit {0})
+none-draws e w true f more no_win = cc
+none-draws false w false None more no_win = tt
+none-draws false w false (Some f) more no_win = tt
+none-draws true true false None more no_win = no_win refl
+none-draws true true false (Some f) more no_win = no_win refl
+none-draws true false false None more no_win = tt
+none-draws true false false (Some f) more no_win = tt
+
+-- no reply wins or fills the board, where the side to move has no five point and some reply goes on
+pub none-saves : (rule : RuleKind) (b : Grid) → has_five rule b (mover b) ≡ false → has_reply rule b ≡ true → (q : Point) → LosesOr (outcome rule b q) (Unit {0})
+unfolding outcome
+none-saves rule b none reply q =
+    let going = any_witness (λ p. goes_on (outcome rule b p)) (points_of b) reply in
+    let more = not-last (is_empty b going.0) (five rule b (mover b) going.0) _ (foul_of rule b (mover b) going.0) (on-goes (outcome rule b going.0) going.1) in
+    none-draws (is_empty b q) (five rule b (mover b) q) _ (foul_of rule b (mover b) q) more (λ wins. let has = win-has_five rule b q wins in let bad : true ≡ false = sym has ∙ none in cc)
+
+-- ---- what is counted for the children
+
+counted-one : (judged : Judged) → 1 ≤ counted_for judged
+counted-one (Five w) = omega arith
+counted-one (DoubleWins d nodes) = omega arith
+counted-one (Last p) = omega arith
+counted-one Open = omega arith
+
+-- 1 for an open child
+abbrev open_one : Child → ℕ
+open_one child = one_where (is_open child.judged)
+
+counted-parts : (judged : Judged) → nodes_for judged + one_where (is_open judged) ≤ counted_for judged
+counted-parts (Five w) = omega arith
+counted-parts (DoubleWins d nodes) = omega arith
+counted-parts (Last p) = omega arith
+counted-parts Open = omega arith
+
+sum-parts : (f g h : Child → ℕ) → ((x : Child) → f x + g x ≤ h x) → (xs : List Child) → sum_by f xs + sum_by g xs ≤ sum_by h xs
+sum-parts f g h low [] = omega arith
+sum-parts f g h low (x ∷ xs) =
+    let rest = sum-parts f g h low xs in
+    let here = low x in
+    let a = sum_by-cons f x xs in
+    let b = sum_by-cons g x xs in
+    let d = sum_by-cons h x xs in
+    omega (arith, rest, here, a, b, d)
+
+sum-many : (h : Child → ℕ) → ((x : Child) → 1 ≤ h x) → (xs : List Child) → length xs ≤ sum_by h xs
+sum-many h one [] = omega arith
+sum-many h one (x ∷ xs) = let rest = sum-many h one xs in let here = one x in let d = sum_by-cons h x xs in omega (arith, rest, here, d)
+
+-- children settled at what is the same
+pub settled-same : (rule : RuleKind) (l k : ℕ) (b c : Grid) (d : List Node) (xs ys : List Child) (ns more : List Numbers) (ps ms : List Note) → l ≡ k → b ≡ c → xs ≡ ys → more ≡ ns → ms ≡ ps
+    → AreSettled rule l b d xs (length xs) ns ps → AreSettled rule k c d ys (length ys) more ms
+settled-same rule l k b c d xs ys ns more ps ms el eb ex en em h = rw (← el, ← eb, ← ex, en, em) h
+
+-- the points of notes
+same-points : (ms : List Note) (items : List Child) → length ms ≡ length items → ((j : ℕ) → j < length items → (note_at ms j).at ≡ (child_at items j).at) → map (λ (n : Note). n.at) ms ≡ map (λ (child : Child). child.at) items
+same-points [] [] e h = refl
+same-points [] (x ∷ items) e h = absurd (omega (arith, e))
+same-points (m ∷ ms) [] e h = absurd (omega (arith, e))
+same-points (m ∷ ms) (x ∷ items) e h =
+    ap (λ (p : Point). p ∷ map (λ (n : Note). n.at) ms) (h 0 (omega arith))
+    ∙ ap (λ (ps : List Point). x.at ∷ ps) (same-points ms items (omega (arith, e)) (λ j low. h (suc j) (omega (arith, low))))
+
+-- open and settled numbers are apart
+open-apart : (r : Bool) → open_numbers ≡ settled_numbers r → ⊥
+open-apart true e = let bad : 1 ≡ 0 = ap (λ (n : Numbers). n.proof) e in omega (arith, bad)
+open-apart false e = let bad : 1 ≡ 0 = ap (λ (n : Numbers). n.disproof) e in omega (arith, bad)
+
+proved-apart : settled_numbers true ≡ settled_numbers false → ⊥
+proved-apart e = let bad : 4294967295 ≡ 0 = ap (λ (n : Numbers). n.disproof) e in omega (arith, bad)
+
+-- ---- one child
+
+module _ (rule : RuleKind) (left : ℕ) (b : Grid) (d : List Node) (child : Child) (numbers : Numbers) (note : Note) (is : IsChild rule left b child) (settled : IsSettledChild rule left b d child numbers note) where
+  fresh-by : (r : Bool) → is_open child.judged ≡ r → IsFresh numbers
+  fresh-by true e = inl (settled.unproved e).0
+  fresh-by false e = inr (settled.proved e).0
+
+  pub child-fresh : IsFresh numbers
+  child-fresh = fresh-by (is_open child.judged) refl
+
+  -- an open child can grow
+  grows-by : (judged : Judged) → child.judged ≡ judged → is_settled numbers ≡ false → (has_five rule (after b child.at) (mover (after b child.at)) ≡ false) × (2 ≤ left)
+  grows-by (Five w) e open_is = let proved = ap is_settled (settled.proved (ap is_open e)).0 in let bad : true ≡ false = sym proved ∙ open_is in cc
+  grows-by (DoubleWins double nodes) e open_is = let proved = ap is_settled (settled.proved (ap is_open e)).0 in let bad : true ≡ false = sym proved ∙ open_is in cc
+  grows-by (Last p) e open_is = let proved = ap is_settled (settled.proved (ap is_open e)).0 in let bad : true ≡ false = sym proved ∙ open_is in cc
+  grows-by Open e open_is =
+      let enough = is.enough in
+      let two = ap moves_for e in
+      (subst (λ (judged : Judged). IsJudged rule (after b child.at) judged) e is.judged, omega (arith, enough, two))
+
+  tells-by : (r : Bool) → is_open child.judged ≡ r → TellsTruly numbers (WinsByThreats rule left (after b child.at))
+  tells-by true e = record {
+    proved = λ k. absurd (open-apart true (sym (settled.unproved e).0 ∙ k));
+    disproved = λ k w. open-apart false (sym (settled.unproved e).0 ∙ k);
+  }
+  tells-by false e = record {
+    proved = λ k. (settled.proved e).2.1;
+    disproved = λ k w. proved-apart (sym (settled.proved e).0 ∙ k);
+  }
+
+  new-child : IsNewChild rule Defend left b child.at left numbers
+  new-child = record {
+    on = is.on;
+    fewer = refl;
+    grows = grows-by child.judged refl;
+    tells = tells-by (is_open child.judged) refl;
+  }
+
+  pub child-new : IsNewChild rule Defend left b note.at note.left numbers
+  child-new = subst (λ (p : Point). IsNewChild rule Defend left b p note.left numbers) (sym settled.at) (subst (λ (n : ℕ). IsNewChild rule Defend left b child.at n numbers) (sym settled.left_is) new-child)
+
+  wins-by : (r : Bool) → is_open child.judged ≡ r → 0 < note.moves → IsNotedWin rule left (after b child.at) d (win_of note)
+  wins-by true e some = absurd (let none = (settled.unproved e).1 in omega (arith, none, some))
+  wins-by false e some = (settled.proved e).2
+
+  fresh-note : (r : Bool) → is_open child.judged ≡ r → is_settled numbers ≡ false → note.moves ≡ 0
+  fresh-note true e open_is = (settled.unproved e).1
+  fresh-note false e open_is = let proved = ap is_settled (settled.proved e).0 in let bad : true ≡ false = sym proved ∙ open_is in cc
+
+  proved-note : (r : Bool) → is_open child.judged ≡ r → numbers ≡ settled_numbers true → 0 < note.moves
+  proved-note true e proved = absurd (open-apart true (sym (settled.unproved e).0 ∙ proved))
+  proved-note false e proved = (settled.proved e).1
+
+  pub child-noted : IsNewNote rule Defend b d note numbers
+  child-noted = record {
+    true_win = λ some.
+        subst (λ (n : ℕ). IsNotedWin rule n (after b note.at) d (win_of note)) (sym settled.left_is)
+        (subst (λ (p : Point). IsNotedWin rule left (after b p) d (win_of note)) (sym settled.at) (wins-by (is_open child.judged) refl some));
+    fresh = fresh-note (is_open child.judged) refl;
+    proved = λ proved. (refl, proved-note (is_open child.judged) refl proved);
+  }
+
+  -- a child without a win is open
+  unwritten-by : (r : Bool) → is_open child.judged ≡ r → unwritten_child Defend note ≡ one_where r
+  unwritten-by true e = ap one_where (eq-eqb note.moves 0 (settled.unproved e).1)
+  unwritten-by false e = ap one_where (ne_eqb note.moves 0 (λ none. let some = (settled.proved e).1 in omega (arith, none, some)))
+
+  pub child-unwritten : unwritten_child Defend note ≡ one_where (is_open child.judged)
+  child-unwritten = unwritten-by (is_open child.judged) refl
+
+  -- what is counted behind it
+  behind-by : (f : Kind → RuleKind → ℕ → Grid → ℕ) → ((n : ℕ) (c : Grid) → f Attack rule n c ≡ threat_tree rule n c - 1) → (r : Bool) → is_open child.judged ≡ r
+      → new_behind f rule Defend b note numbers ≡ cond r (threat_tree rule left (after b child.at) - 1) 0
+  behind-by f trees true e =
+      ap (λ (n : Numbers). cond (not (is_settled n)) (f Attack rule note.left (after b note.at)) 0) (settled.unproved e).0
+      ∙ trees note.left (after b note.at)
+      ∙ ap (λ (n : ℕ). threat_tree rule n (after b note.at) - 1) settled.left_is
+      ∙ ap (λ (p : Point). threat_tree rule left (after b p) - 1) settled.at
+  behind-by f trees false e = ap (λ (n : Numbers). cond (not (is_settled n)) (f Attack rule note.left (after b note.at)) 0) (settled.proved e).0
+
+  pub child-behind : (f : Kind → RuleKind → ℕ → Grid → ℕ) → ((n : ℕ) (c : Grid) → f Attack rule n c ≡ threat_tree rule n c - 1)
+      → new_behind f rule Defend b note numbers ≡ cond (is_open child.judged) (threat_tree rule left (after b child.at) - 1) 0
+  child-behind f trees = behind-by f trees (is_open child.judged) refl
+
+-- what is counted behind a child of b, if it is open
+abbrev open_behind : RuleKind → ℕ → Grid → Child → ℕ
+open_behind rule left b child = cond (is_open child.judged) (threat_tree rule left (after b child.at) - 1) 0
+
+-- what is counted for a child and behind it is no more than the game has there
+whole-by : (rule : RuleKind) (left : ℕ) (c : Grid) (judged : Judged) → counted_for judged ≤ threat_tree rule left c → counted_for judged + cond (is_open judged) (threat_tree rule left c - 1) 0 ≤ threat_tree rule left c
+whole-by rule left c (Five w) few = omega (arith, few)
+whole-by rule left c (DoubleWins d nodes) few = omega (arith, few)
+whole-by rule left c (Last p) few = omega (arith, few)
+whole-by rule left c Open few = omega (arith, few)
+
+child-whole : (rule : RuleKind) (left : ℕ) (b : Grid) → IsPosition rule b → (child : Child) → IsChild rule left b child
+    → counted_for child.judged + open_behind rule left b child ≤ if_goes_on (outcome rule b child.at) (threat_tree rule left (after b child.at))
+child-whole rule left b lawful child is =
+    let few = counted-few rule left (after b child.at) child.judged (IsPosition-after rule b child.at lawful is.on) is.judged is.enough in
+    subst (λ (o : Outcome). counted_for child.judged + open_behind rule left b child ≤ if_goes_on o (threat_tree rule left (after b child.at))) (sym is.on) (whole-by rule left (after b child.at) child.judged few)
+
+-- ---- at a leaf of the defender
+
+module _ (rule : RuleKind) (s : Search) (t : Tree) (c : List Node) (leaf : ℕ) (view : Grid) (stands : StandsAt rule s t c leaf view) (defend : (link_at t.links leaf).kind ≡ Defend) where
+  here : IsAtLeaf rule s t c leaf view
+  unfolding StandsAt
+  here = stands
+
+  left-noted : left_at (game_of rule s t).left leaf ≡ (note_at s.notes.items leaf).left
+  left-noted = get_or-map (λ (n : Note). n.left) s.notes.items leaf no_note 0 (leaf-noted rule s t c leaf view stands)
+
+  can-grow : CanGrow Defend rule (left_at (game_of rule s t).left leaf) (board_at (game_of rule s t) leaf)
+  can-grow = subst (λ (q : Kind). CanGrow q rule (left_at (game_of rule s t).left leaf) (board_at (game_of rule s t) leaf)) defend (here.searching.game.open_leaf leaf here.in_tree here.childless here.leaf_open)
+
+  pub defend-no_five : has_five rule view (mover view) ≡ false
+  defend-no_five = subst (λ (b : Grid). has_five rule b (mover b) ≡ false) (sym here.view_is) can-grow.0
+
+  pub defend-moves : 1 ≤ (note_at s.notes.items leaf).left
+  defend-moves = subst (λ (n : ℕ). 1 ≤ n) left-noted can-grow.1
+
+  pub defend-reply : has_reply rule view ≡ true
+  defend-reply = subst (λ (b : Grid). has_reply rule b ≡ true) (sym here.view_is) can-grow.2
+
+  -- what is known of the kind, the moves and the board of the leaf
+  at-leaf-is : (P : Kind → ℕ → Grid → Type 0) → P Defend (note_at s.notes.items leaf).left view → P (link_at t.links leaf).kind (left_at (game_of rule s t).left leaf) (board_at (game_of rule s t) leaf)
+  at-leaf-is P h =
+      subst (λ (k : Kind). P k (left_at (game_of rule s t).left leaf) (board_at (game_of rule s t) leaf)) (sym defend)
+      (subst (λ (n : ℕ). P Defend n (board_at (game_of rule s t) leaf)) (sym left-noted)
+      (subst (P Defend (note_at s.notes.items leaf).left) here.view_is h))
+
+  -- where a reply leaves no win the leaf is settled
+  pub escape-grows : HasEscape rule (note_at s.notes.items leaf).left view → (u : Tree) → IsSettledAt t u leaf false → (b : Grid) → b ≡ s.board → Grows rule s (record s { board = b }) t u c leaf
+  unfolding Grows
+  escape-grows escape u st b same =
+      lost-grown rule s t c leaf view here u st (record s { board = b }) refl same here.searching.remembered
+      (at-leaf-is (λ k n d. WinsAt k rule n d → ⊥) (escape-saves rule (note_at s.notes.items leaf).left view escape))
+
+  -- the positions behind the leaf are counted from the root
+  attacks-fit : s.attacked + behind_replies rule (threat_tree rule (note_at s.notes.items leaf).left) view ≤ threat_tree rule s.depth s.root
+  attacks-fit =
+      let g : GameTree = game_of rule s t in
+      let count : ℕ = behind_replies rule (threat_tree rule (note_at s.notes.items leaf).left) view in
+      let own : behind_at attacks_behind g leaf ≡ count =
+      ap (λ r. cond (r && not (is_settled (numbers_at t.numbers leaf))) (attacks_behind (link_at t.links leaf).kind rule (left_at g.left leaf) (board_at g leaf)) 0) (eq-eqb (link_at t.links leaf).count 0 here.childless)
+      ∙ ap (λ r. cond (not r) (attacks_behind (link_at t.links leaf).kind rule (left_at g.left leaf) (board_at g leaf)) 0) here.leaf_open
+      ∙ at-leaf-is (λ k n b. attacks_behind k rule n b ≡ count) refl in
+      let nothing = sum-nothing (length t.links) (λ i. 0) (λ i l. refl) in
+      let low = sum-less (length t.links) (λ i. 0) (behind_at attacks_behind g) leaf count here.in_tree (λ j l other. omega arith) (omega (arith, own)) in
+      let first : left_at g.left 0 ≡ s.depth = get_or-map (λ (n : Note). n.left) s.notes.items 0 no_note 0 (let l = leaf-noted rule s t c leaf view stands in omega (arith, l)) ∙ here.searching.depth in
+      let root_is : threat_tree rule (left_at g.left 0) s.root ≡ threat_tree rule s.depth s.root = ap (λ (n : ℕ). threat_tree rule n s.root) first in
+      let all = here.searching.counted.attacks in
+      omega (arith, nothing, low, root_is, all)
+
+  pub lawful-here : IsPosition rule view
+  lawful-here = leaf-lawful rule s t c leaf view stands
+
+  module _ (children : Children) (are : AreChildren rule (note_at s.notes.items leaf).left view children) where
+    -- where the budget does not reach, the game has more positions
+    pub replies-spent : s.budget < s.attacked + children.count → (b : Grid) → b ≡ s.board → HasSpent rule s (record s { board = b }) t t
+    replies-spent over b same = record {
+      spent = (let a = attacks-fit in let few = are.few in omega (arith, a, few, over));
+      same = refl;
+      keeps = record { rest = ap (λ (x : Grid). record s { board = x }) same; places = λ r w. refl };
+    }
+
+    nodes-few : sum_by (λ (x : Child). nodes_for x.judged) children.all.items + sum_by open_one children.all.items ≤ children.count
+    nodes-few =
+        let parts = sum-parts (λ (x : Child). nodes_for x.judged) open_one (λ (x : Child). counted_for x.judged) (λ x. counted-parts x.judged) children.all.items in
+        let is = are.count_is in
+        omega (arith, parts, is)
+
+    pub children-many : length children.all.items ≤ children.count
+    children-many =
+        let many = sum-many (λ (x : Child). counted_for x.judged) (λ x. counted-one x.judged) children.all.items in
+        let is = are.count_is in
+        omega (arith, many, is)
+
+    -- few are counted
+    pub replies-few : children.count ≤ 3072
+    replies-few =
+        let view_board : IsPosition rule view = lawful-here in
+        let each : All (λ (x : Child). counted_for x.judged ≤ 3) children.all.items = λ k x low. counted-three rule (after view (get_or children.all.items k x).at) (get_or children.all.items k x).judged (are.each k x low).judged in
+        let sum = sum_by-le (λ (x : Child). counted_for x.judged) 3 children.all.items each in
+        let is = are.count_is in
+        let points = ap length are.points in
+        let size = length-map children.all.items (λ (x : Child). x.at) in
+        let both = length-filter_both (λ (q : Point). goes_on (outcome rule view q)) (λ (q : Point). not (goes_on (outcome rule view q))) (λ q. refl) (points_of view) in
+        let most = few-points view view_board.board in
+        omega (arith, sum, is, points, size, both, most)
+
+    -- where the compiler is full, more positions are counted than it has room for
+    pub replies-full : {E : Type 0} → s.attacked + children.count ≤ s.budget → (E → MAX_NODES < length c + sum_by (λ (x : Child). nodes_for x.judged) children.all.items) → E → (MAX_NODES < s.before + s.budget) × (MAX_NODES < s.before + threat_tree rule s.depth s.root)
+    replies-full fits refused e =
+        let over = refused e in
+        let nodes = nodes-few in
+        let a = attacks-fit in
+        let few = are.few in
+        let size = here.searching.few in
+        (omega (arith, over, nodes, size, fits), omega (arith, over, nodes, size, a, few))
+
+    -- what is counted and stands behind the children is no more than the game has there
+    counted-whole : children.count + sum_by (open_behind rule (note_at s.notes.items leaf).left view) children.all.items ≤ behind_replies rule (threat_tree rule (note_at s.notes.items leaf).left) view
+    counted-whole =
+        let left : ℕ = (note_at s.notes.items leaf).left in
+        let whole = children-within rule left view lawful-here (λ (x : Child). counted_for x.judged + open_behind rule left view x) (child-whole rule left view lawful-here) children.all.items are.points are.each in
+        let parts = sum-parts (λ (x : Child). counted_for x.judged) (open_behind rule left view) (λ (x : Child). counted_for x.judged + open_behind rule left view x) (λ x. omega arith) children.all.items in
+        let is = are.count_is in
+        omega (arith, whole, parts, is)
+
+    module _ (d : List Node) (more : List Numbers) (ms : List Note) (settled : AreSettled rule (note_at s.notes.items leaf).left view d children.all.items (length children.all.items) more ms) where
+      low-than : (j : ℕ) → j < length more → j < length children.all.items
+      low-than j low = let e = settled.numbers_count in omega (arith, e, low)
+
+      is-child : (j : ℕ) → j < length more → IsChild rule (note_at s.notes.items leaf).left view (child_at children.all.items j)
+      is-child j low = are.each j no_child (low-than j low)
+
+      is-settled : (j : ℕ) → j < length more → IsSettledChild rule (note_at s.notes.items leaf).left view d (child_at children.all.items j) (numbers_at more j) (note_at ms j)
+      is-settled j low = settled.each j (low-than j low)
+
+      pub all-fresh : All IsFresh more
+      all-fresh = All-from_get_or IsFresh more no_numbers (λ j low.
+          child-fresh rule (note_at s.notes.items leaf).left view d (child_at children.all.items j) (numbers_at more j) (note_at ms j) (is-child j low) (is-settled j low))
+
+      pub some-new : 0 < length more
+      some-new = let e = settled.numbers_count in let some = are.some in omega (arith, e, some)
+
+      pub few-new : s.attacked + children.count ≤ s.budget → length more ≤ s.budget
+      few-new fits = let e = settled.numbers_count in let many = children-many in omega (arith, e, many, fits)
+
+      points-are : map (λ (n : Note). n.at) ms ≡ replies_at rule view
+      points-are = same-points ms children.all.items settled.notes_count (λ j low. (settled.each j low).at) ∙ are.points
+
+      child-at : (j : ℕ) → j < length more → IsNewChild rule (link_at t.links leaf).kind (left_at (game_of rule s t).left leaf) (board_at (game_of rule s t) leaf) (note_at ms j).at (note_at ms j).left (numbers_at more j)
+      child-at j low =
+          at-leaf-is (λ k n b. IsNewChild rule k n b (note_at ms j).at (note_at ms j).left (numbers_at more j))
+          (child-new rule (note_at s.notes.items leaf).left view d (child_at children.all.items j) (numbers_at more j) (note_at ms j) (is-child j low) (is-settled j low))
+
+      noted-at : (j : ℕ) → j < length more → IsNewNote rule (link_at t.links leaf).kind (board_at (game_of rule s t) leaf) d (note_at ms j) (numbers_at more j)
+      noted-at j low =
+          at-leaf-is (λ k n b. IsNewNote rule k b d (note_at ms j) (numbers_at more j))
+          (child-noted rule (note_at s.notes.items leaf).left view d (child_at children.all.items j) (numbers_at more j) (note_at ms j) (is-child j low) (is-settled j low))
+
+      tried-here : HasTried (link_at t.links leaf).kind rule (left_at (game_of rule s t).left leaf) (board_at (game_of rule s t) leaf) (map (λ (n : Note). n.at) ms)
+      tried-here =
+          let all : AreAllReplies rule view (map (λ (n : Note). n.at) ms) = record { all = points-are; none_saves = none-saves rule view defend-no_five defend-reply } in
+          at-leaf-is (λ k n b. HasTried k rule n b (map (λ (n : Note). n.at) ms)) all
+
+      -- sums over the new children, by what is judged of each
+      children-sum : (f : ℕ → ℕ) (h : Child → ℕ) → ((j : ℕ) → j < length more → f j ≡ h (child_at children.all.items j)) → sum_below (length more) f ≤ sum_by h children.all.items
+      children-sum f h same =
+          let low = sum-le (length more) f (λ j. h (child_at children.all.items j)) (λ j l. let e = same j l in omega (arith, e)) in
+          let all = sum-list h no_child children.all.items in
+          let size : sum_below (length more) (λ j. h (child_at children.all.items j)) ≡ sum_below (length children.all.items) (λ j. h (child_at children.all.items j)) =
+          ap (λ (n : ℕ). sum_below n (λ j. h (child_at children.all.items j))) settled.numbers_count in
+          omega (arith, low, all, size)
+
+      behind-new : (f : Kind → RuleKind → ℕ → Grid → ℕ) → ((n : ℕ) (b : Grid) → f Attack rule n b ≡ threat_tree rule n b - 1)
+          → sum_below (length more) (λ j. new_behind f rule (link_at t.links leaf).kind (board_at (game_of rule s t) leaf) (note_at ms j) (numbers_at more j)) ≤ sum_by (open_behind rule (note_at s.notes.items leaf).left view) children.all.items
+      behind-new f trees = children-sum
+          (λ j. new_behind f rule (link_at t.links leaf).kind (board_at (game_of rule s t) leaf) (note_at ms j) (numbers_at more j)) (open_behind rule (note_at s.notes.items leaf).left view)
+          (λ j low.
+          at-leaf-is (λ k n b. new_behind f rule k b (note_at ms j) (numbers_at more j) ≡ open_behind rule (note_at s.notes.items leaf).left view (child_at children.all.items j))
+          (child-behind rule (note_at s.notes.items leaf).left view d (child_at children.all.items j) (numbers_at more j) (note_at ms j) (is-child j low) (is-settled j low) f trees))
+
+      unwritten-new : sum_below (length more) (λ j. unwritten_child (link_at t.links leaf).kind (note_at ms j)) ≤ sum_by open_one children.all.items
+      unwritten-new = children-sum (λ j. unwritten_child (link_at t.links leaf).kind (note_at ms j)) open_one (λ j low.
+          at-leaf-is (λ k n b. unwritten_child k (note_at ms j) ≡ open_one (child_at children.all.items j))
+          (child-unwritten rule (note_at s.notes.items leaf).left view d (child_at children.all.items j) (numbers_at more j) (note_at ms j) (is-child j low) (is-settled j low)))
+
+    module _ (d : List Node) (grown : GrowsBy c d (sum_by (λ (x : Child). nodes_for x.judged) children.all.items)) (compiled : IsCompiled d) (more : List Numbers) (ms : List Note)
+        (settled : AreSettled rule (note_at s.notes.items leaf).left view d children.all.items (length children.all.items) more ms) (u : Tree) (e : IsExpandedAt t u leaf more)
+        (v : Search) (items : v.notes.items ≡ s.notes.items ++ ms) (rest : v ≡ record s { board = v.board; notes = v.notes; attacked = s.attacked + children.count }) (same_board : v.board ≡ s.board) (fits : s.attacked + children.count ≤ s.budget) where
+      count-is : v.attacked ≡ s.attacked + children.count
+      count-is = ap (λ (w : Search). w.attacked) rest
+
+      defended-is : v.defended ≡ s.defended
+      defended-is = ap (λ (w : Search). w.defended) rest
+
+      settled-now : AreSettled rule (note_at s.notes.items leaf).left view (c ++ grown.added) children.all.items (length children.all.items) more ms
+      settled-now = subst (λ (x : List Node). AreSettled rule (note_at s.notes.items leaf).left view x children.all.items (length children.all.items) more ms) grown.is settled
+
+      pub replies-grow : Grows rule s v t u d leaf
+      unfolding Grows
+      replies-grow =
+          let left : ℕ = (note_at s.notes.items leaf).left in
+          let count = count-is in
+          let defended = defended-is in
+          let whole = counted-whole in
+          let attacks = behind-new (c ++ grown.added) more ms settled-now attacks_behind (λ n b. refl) in
+          let defences = behind-new (c ++ grown.added) more ms settled-now defences_behind (λ n b. refl) in
+          let attacks_left : attacks_behind (link_at t.links leaf).kind rule (left_at (game_of rule s t).left leaf) (board_at (game_of rule s t) leaf) ≡ behind_replies rule (threat_tree rule left) view = at-leaf-is (λ k n b. attacks_behind k rule n b ≡ behind_replies rule (threat_tree rule left) view) refl in
+          let defences_left : defences_behind (link_at t.links leaf).kind rule (left_at (game_of rule s t).left leaf) (board_at (game_of rule s t) leaf) ≡ behind_replies rule (threat_tree rule left) view - 1 = at-leaf-is (λ k n b. defences_behind k rule n b ≡ behind_replies rule (threat_tree rule left) view - 1) refl in
+          let unwritten = unwritten-new (c ++ grown.added) more ms settled-now in
+          let nodes = nodes-few in
+          let added = grown.few in
+          let many = children-many in
+          let size = settled.numbers_count in
+          let some = are.some in
+          let defended_fits = here.searching.counted.defended_fits in
+          let same_table : v.settled ≡ s.settled = ap (λ (w : Search). w.settled) rest in
+          subst (λ (x : List Node). HasGrown rule s v t u x leaf) (sym grown.is)
+          (expanded-grown rule s t c leaf view here u more e v grown.added
+          (rest ∙ ap (λ (w : Search). record s { board = v.board; notes = v.notes; settled = w.settled; attacked = w.attacked; defended = w.defended }) (sym rest))
+          same_board (subst IsCompiled grown.is compiled)
+          (table-grown rule c grown.added v.settled (IsTable-lower c here.searching.compiled.table) (subst (IsTrueTable rule c) (sym same_table) here.searching.remembered))
+          ms items (settled.notes_count ∙ sym settled.numbers_count) (some-new d more ms settled)
+          (tried-here d more ms settled) (child-at d more ms settled) (noted-at (c ++ grown.added) more ms settled-now)
+          (omega (arith, count)) (omega (arith, defended)) (omega (arith, count, fits)) (omega (arith, defended, defended_fits))
+          (omega (arith, count, defended, many, size))
+          (λ kind. fresh-sum kind more (all-fresh d more ms settled))
+          (omega (arith, count, nodes, added, unwritten))
+          (omega (arith, count, attacks, whole, attacks_left))
+          (omega (arith, defended, defences, whole, many, some, defences_left)))

@@ -1,0 +1,139 @@
+-- The end of the search: what the note and the numbers of the root tell.
+use Rattle.std.proofs.Common.{◌≡◌, ◌∙◌, inl, inr, ℕ, zero, suc, ◌+◌, ◌*◌, ◌<◌, ◌≤◌, Bool, true, false, cond, sym, ap, subst, arith, List, length, get_or, min}
+use Rattle.std.specs.Prelude.{Some, None}
+use Rattle.std.proofs.lemmas.List.{get_or-map, get_or_default, length-map}
+use Rattle.game_rules.specs.Grid.{Grid}
+use Rattle.game_rules.specs.Games.{WinsByThreats, WinsWithin}
+use Rattle.game_rules.specs.declared.RuleKind.{RuleKind}
+use Rattle.game_rules.proofs.Games.{WinsByFours-WinsByThreats}
+use Rattle.strategy_graph.specs.declared.Node.{Node}
+use Rattle.strategy_graph.specs.declared.TheConstants.{MAX_NODES}
+use Rattle.strategy_graph.proofs.Soundness.{accepted-wins}
+use Rattle.strategy_compiler.specs.declared.wins.WrittenWin.{WrittenWin}
+use Rattle.proof_tree.specs.Combining.{is_settled, settled_numbers}
+use Rattle.proof_tree.specs.Trees.{Tree, numbers_at}
+use Rattle.proof_tree.specs.declared.Kind.{Kind}
+use Rattle.proof_number.specs.declared.notes.Note.{Note}
+use Rattle.proof_number.specs.declared.search.Search.{Search}
+use Rattle.proof_number.specs.Answers.{HasNoThreatWin, IsThreatWin}
+use Rattle.proof_number.specs.Notes.{no_note, note_at, noted_win, win_of}
+use Rattle.proof_number.specs.GameTrees.{GameTree, TellsTruly, WinsAt, board_at, left_at}
+use Rattle.proof_number.specs.Searches.{IsNotedWin, IsSearching, Searches, closed_nodes, game_of, is_open_leaf, sum_below}
+use Rattle.proof_number.proofs.GameBoards.{board-root}
+use Rattle.proof_number.proofs.GameTruths.{all-tell, settled-one}
+use Rattle.proof_number.proofs.Recording.{noted-none, noted-some}
+use Rattle.proof_number.proofs.Sums.{sum-suc, sum-zero}
+
+-- no more than all are counted
+sum-ones : (n : ℕ) (f : ℕ → Bool) → sum_below n (λ i. cond (f i) 0 1) ≤ n
+sum-ones zero f = let a = sum-zero (λ i. cond (f i) 0 1) in omega (arith, a)
+sum-ones (suc n) f =
+    let a = sum-suc n (λ i. cond (f i) 0 1) in
+    let rest = sum-ones n f in
+    let here = one-least (f n) in
+    omega (arith, a, rest, here) where
+      one-least : (r : Bool) → cond r 0 1 ≤ 1
+      one-least true = omega arith
+      one-least false = omega arith
+
+module _ (rule : RuleKind) (s : Search) (t : Tree) (c : List Node) (searches : Searches rule s t c (λ i. ⊥)) where
+  h : IsSearching rule s t c (λ i. ⊥)
+  unfolding Searches
+  h = searches
+
+  abbrev Game : GameTree
+  Game = game_of rule s t
+
+  root-inside : 0 < length t.links
+  root-inside = h.tree.linked.some
+
+  -- the nodes are closed one by one, and there are no more than both budgets
+  pub closed-few : closed_nodes t ≤ 2 * s.budget
+  closed-few =
+      let a = sum-ones (length t.links) (is_open_leaf t) in
+      let b = h.counted.nodes in
+      let d = h.counted.attacked_fits in
+      let e = h.counted.defended_fits in
+      omega (arith, a, b, d, e)
+
+  pub root-noted : 0 < length s.notes.items
+  root-noted = let a = root-inside in let b = length-map s.notes.items (λ (n : Note). n.at) in let e = h.game.moves in omega (arith, a, b, e)
+
+  root-left : left_at Game.left 0 ≡ s.depth
+  root-left = get_or-map (λ (n : Note). n.left) s.notes.items 0 no_note 0 root-noted ∙ h.depth
+
+  root-board : board_at Game 0 ≡ s.root
+  root-board = board-root Game.tree.links Game.moves Game.start h.tree.linked
+
+  root-tells : TellsTruly (numbers_at t.numbers 0) (WinsByThreats rule s.depth s.root)
+  root-tells =
+      subst (λ (b : Grid). TellsTruly (numbers_at t.numbers 0) (WinsByThreats rule s.depth b)) root-board
+      (subst (λ (n : ℕ). TellsTruly (numbers_at t.numbers 0) (WinsByThreats rule n (board_at Game 0))) root-left
+      (subst (λ (k : Kind). TellsTruly (numbers_at t.numbers 0) (WinsAt k rule (left_at Game.left 0) (board_at Game 0))) h.tree.linked.root_attacks
+      (all-tell Game h.tree h.game 0 root-inside)))
+
+  -- where a win is noted
+  module _ (w : WrittenWin) (e : noted_win (note_at s.notes.items 0) ≡ Some w) where
+    noted-there : IsNotedWin rule s.depth s.root c w
+    noted-there =
+        let noted = noted-some (note_at s.notes.items 0) w e in
+        subst (IsNotedWin rule s.depth s.root c) noted.1
+        (subst (λ (b : Grid). IsNotedWin rule s.depth b c (win_of (note_at s.notes.items 0))) root-board
+        (subst (λ (n : ℕ). IsNotedWin rule n (board_at Game 0) c (win_of (note_at s.notes.items 0))) root-left (h.written.true_wins 0 root-inside noted.0)))
+
+    pub root-win : IsThreatWin rule s.depth s.root c w
+    root-win = record {
+      written = noted-there.0;
+      by_threats = noted-there.1;
+      within = subst (λ (k : ℕ). WinsWithin rule k s.root) noted-there.0.deep (accepted-wins rule c w.node s.root noted-there.0.accepted);
+    }
+
+    pub root-proved : is_settled (numbers_at t.numbers 0) ≡ true → numbers_at t.numbers 0 ≡ settled_numbers true
+    root-proved settled = elim (settled-one (numbers_at t.numbers 0) settled) [
+      | inl proved ↦ proved
+      | inr lost ↦ absurd (root-tells.disproved lost noted-there.1)
+    ]
+
+  -- where none is
+  module _ (e : noted_win (note_at s.notes.items 0) ≡ None) (settled : is_settled (numbers_at t.numbers 0) ≡ true) where
+    pub root-lost : numbers_at t.numbers 0 ≡ settled_numbers false
+    root-lost = elim (settled-one (numbers_at t.numbers 0) settled) [
+      | inl proved ↦
+          let some = h.written.all 0 root-inside h.tree.linked.root_attacks proved (λ bad. bad) in
+          let none = noted-none (note_at s.notes.items 0) e in
+          absurd (omega (arith, some, none))
+      | inr lost ↦ lost
+    ]
+
+    pub root-none : HasNoThreatWin rule s.depth s.root
+    root-none = record {
+      no_threats = λ wins. root-tells.disproved root-lost wins;
+      no_fours = λ wins. root-tells.disproved root-lost (WinsByFours-WinsByThreats rule s.depth s.root wins);
+    }
+
+  -- the same of the note as it was read, and of the depth and the board that the search was begun for
+  module _ (n : ℕ) (b : Grid) (deep : s.depth ≡ n) (from : s.root ≡ b) (note : Note) (read : note ≡ get_or s.notes.items 0 note) where
+    root-note : note_at s.notes.items 0 ≡ note
+    root-note = get_or_default s.notes.items 0 no_note note root-noted ∙ sym read
+
+    pub told-win : (w : WrittenWin) → Some w ≡ noted_win note → IsThreatWin rule n b c w
+    told-win w e =
+        subst (λ (d : Grid). IsThreatWin rule n d c w) from
+        (subst (λ (m : ℕ). IsThreatWin rule m s.root c w) deep (root-win w (ap noted_win root-note ∙ sym e)))
+
+    pub told-proved : (w : WrittenWin) → Some w ≡ noted_win note → is_settled (numbers_at t.numbers 0) ≡ true → numbers_at t.numbers 0 ≡ settled_numbers true
+    told-proved w e = root-proved w (ap noted_win root-note ∙ sym e)
+
+    pub told-none : None ≡ noted_win note → is_settled (numbers_at t.numbers 0) ≡ true → HasNoThreatWin rule n b
+    told-none e settled =
+        subst (HasNoThreatWin rule n) from
+        (subst (λ (m : ℕ). HasNoThreatWin rule m s.root) deep (root-none (ap noted_win root-note ∙ sym e) settled))
+
+    pub told-lost : None ≡ noted_win note → is_settled (numbers_at t.numbers 0) ≡ true → numbers_at t.numbers 0 ≡ settled_numbers false
+    told-lost e = root-lost (ap noted_win root-note ∙ sym e)
+
+-- ---- counts
+
+-- where a search that was begun for this is full, more positions are counted than the compiler has room for
+pub begun-full : {E : Type 0} (length budget positions : ℕ) → 1 ≤ budget → 1 ≤ positions → (E → MAX_NODES < length + 1) → E → MAX_NODES < length + min budget positions
+begun-full length budget positions some more refused e = let over = refused e in omega (arith, over, some, more)

@@ -1,0 +1,322 @@
+-- In a tree that stands for a game every node tells truly whether the attacker wins: from the last node to the first, since the
+-- children of a node come after it.
+use Rattle.std.proofs.Common.{◌≡◌, ◌⊎◌, inl, inr, ℕ, zero, suc, ◌+◌, ◌-◌, ◌<◌, ◌≤◌, Bool, true, false, cond, ◌&&◌, ◌||◌, refl, sym, ap, subst, ◌∙◌, arith, List, [], ◌∷◌, map, length, take, drop, get_or, nat_eq, Contains}
+use Rattle.std.specs.Prelude.{IsTrue}
+use Rattle.std.specs.List.{list_any, filter}
+use Rattle.std.proofs.lemmas.Bool.{cases_eq}
+use Rattle.std.proofs.lemmas.Bool.Decides.{Decides-eqb}
+use Rattle.std.proofs.lemmas.List.{get_or-take, get_or-drop, get_or_default, length-take, length-drop}
+use Rattle.std.proofs.lemmas.List.Elements.{Contains-get_or}
+use Rattle.game_rules.specs.Grid.{Grid, points_of}
+use Rattle.game_rules.specs.Shapes.{is_same_point}
+use Rattle.game_rules.specs.Play.{outcome, mover, after}
+use Rattle.game_rules.specs.Games.{WinsOr, LosesOr, WinsByThreats, has_threat}
+use Rattle.game_rules.specs.declared.RuleKind.{RuleKind}
+use Rattle.game_rules.specs.declared.Outcome.{Outcome}
+use Rattle.game_rules.specs.declared.Outcome.TheVariants.{Refused, Wins, Fouls, Draws, GoesOn}
+use Rattle.game_rules.specs.declared.Point.{Point}
+use Rattle.game_rules.proofs.Positions.{GoesOn-on}
+use Rattle.game_rules.proofs.Points.{points-found, is_same_point-itself, is_same_point-same}
+use Rattle.proof_tree.specs.Combining.{AreNumbers, combined, is_settled, least, no_numbers, other_kind, plus, settled_numbers, total}
+use Rattle.proof_tree.specs.Trees.{IsChild, IsTree, children_of, link_at, numbers_at}
+use Rattle.proof_tree.specs.declared.TheConstants.{INFINITE}
+use Rattle.proof_tree.specs.declared.Kind.{Kind}
+use Rattle.proof_tree.specs.declared.Kind.TheVariants.{Attack, Defend}
+use Rattle.proof_tree.specs.declared.Link.{Link}
+use Rattle.proof_tree.specs.declared.Numbers.{Numbers}
+use Rattle.proof_number.specs.GameTrees.{GameTree, IsGameTree, HasTried, AreTried, LosesToThreats, TellsTruly, WinsAt, board_at, left_at, left_before, move_at, moves_of, nowhere}
+use Rattle.proof_number.specs.Attacks.{goes_on}
+use Rattle.proof_number.specs.Replies.{replies_at}
+use Rattle.proof_number.proofs.GameBoards.{board-step}
+
+-- ---- numbers
+
+-- where the least number is 0, one of them is
+pub least-zero : (f : Numbers → ℕ) (ns : List Numbers) → least (map f ns) ≡ 0 → (k : ℕ) × (k < length ns) × (f (get_or ns k no_numbers) ≡ 0)
+least-zero f [] e = absurd (omega (arith, e))
+least-zero f (n ∷ ns) e = elim (cases_eq (f n) 0) [
+  | inl here ↦ (0, omega arith, here)
+  | inr more ↦
+      let rest : least (map f ns) ≡ 0 = omega (arith, e) in
+      let later = least-zero f ns rest in
+      (suc later.0, (let inside = later.1 in omega (arith, inside)), later.2)
+]
+
+plus-zero : (x y : ℕ) → plus x y ≡ 0 → (x ≡ 0) × (y ≡ 0)
+plus-zero x y e = by_tests (nat_eq x INFINITE || nat_eq y INFINITE) e where
+  by_tests : (r : Bool) → cond r INFINITE (x + y) ≡ 0 → (x ≡ 0) × (y ≡ 0)
+  by_tests true e = absurd (omega (arith, e))
+  by_tests false e = (omega (arith, e), omega (arith, e))
+
+-- where the sum is 0, each number is
+pub total-zero : (f : Numbers → ℕ) (ns : List Numbers) → total (map f ns) ≡ 0 → (k : ℕ) → k < length ns → f (get_or ns k no_numbers) ≡ 0
+total-zero f [] e k inside = absurd (omega arith)
+total-zero f (n ∷ ns) e zero inside = (plus-zero (f n) (total (map f ns)) e).0
+total-zero f (n ∷ ns) e (suc k) inside = total-zero f ns (plus-zero (f n) (total (map f ns)) e).1 k (omega arith)
+
+and_both : (a b : Bool) → (a && b) ≡ true → (a ≡ true) × (b ≡ true)
+and_both true b h = (refl, h)
+and_both false b h = cc
+
+either : (a b : Bool) → (a || b) ≡ true → (a ≡ true) ⊎ (b ≡ true)
+either true b h = inl refl
+either false b h = inr h
+
+-- settled numbers are one pair or the other
+pub settled-one : (n : Numbers) → is_settled n ≡ true → (n ≡ settled_numbers true) ⊎ (n ≡ settled_numbers false)
+settled-one n s = elim (either (nat_eq n.proof 0 && nat_eq n.disproof INFINITE) (nat_eq n.proof INFINITE && nat_eq n.disproof 0) s) [
+  | inl h ↦
+      let p : n.proof ≡ 0 = (Decides-eqb n.proof 0).0 (and_both (nat_eq n.proof 0) (nat_eq n.disproof INFINITE) h).0 in
+      let d : n.disproof ≡ INFINITE = (Decides-eqb n.disproof INFINITE).0 (and_both (nat_eq n.proof 0) (nat_eq n.disproof INFINITE) h).1 in
+      inl (λ i. record { proof = p i; disproof = d i })
+  | inr h ↦
+      let p : n.proof ≡ INFINITE = (Decides-eqb n.proof INFINITE).0 (and_both (nat_eq n.proof INFINITE) (nat_eq n.disproof 0) h).0 in
+      let d : n.disproof ≡ 0 = (Decides-eqb n.disproof 0).0 (and_both (nat_eq n.proof INFINITE) (nat_eq n.disproof 0) h).1 in
+      inr (λ i. record { proof = p i; disproof = d i })
+]
+
+pub settled-proved : (n : Numbers) → AreNumbers n → n.proof ≡ 0 → n ≡ settled_numbers true
+settled-proved n (inl s) none = elim (settled-one n s) [
+  | inl same ↦ same
+  | inr other ↦ let p : n.proof ≡ INFINITE = ap (λ (m : Numbers). m.proof) other in absurd (omega (arith, p, none))
+]
+settled-proved n (inr more) none = let above = more.proof_above in absurd (omega (arith, above, none))
+
+pub settled-disproved : (n : Numbers) → AreNumbers n → n.disproof ≡ 0 → n ≡ settled_numbers false
+settled-disproved n (inl s) none = elim (settled-one n s) [
+  | inr same ↦ same
+  | inl other ↦ let p : n.disproof ≡ INFINITE = ap (λ (m : Numbers). m.disproof) other in absurd (omega (arith, p, none))
+]
+settled-disproved n (inr more) none = let above = more.disproof_above in absurd (omega (arith, above, none))
+
+-- ---- children and their moves
+
+pub child-move : (l : Link) (moves : List Point) (j : ℕ) → l.first + l.count ≤ length moves → IsChild l j → Contains (moves_of l moves) (move_at moves j)
+child-move l moves j fits child =
+    let first = child.from_first in
+    let low = child.below_end in
+    let k : ℕ = j - l.first in
+    let inside : k < length (take l.count (drop l.first moves)) =
+    let a = length-take l.count (drop l.first moves) in
+    let b = length-drop l.first moves in
+    omega (arith, a, b, first, low, fits) in
+    let at : get_or (take l.count (drop l.first moves)) k nowhere ≡ move_at moves j =
+    get_or-take l.count (drop l.first moves) k nowhere (omega (arith, first, low)) ∙ get_or-drop l.first moves k nowhere ∙ ap (λ (m : ℕ). move_at moves m) (omega (arith, first)) in
+    subst (Contains (moves_of l moves)) at (Contains-get_or (moves_of l moves) k nowhere inside)
+
+pub move-child : (l : Link) (moves : List Point) (p : Point) → l.first + l.count ≤ length moves → Contains (moves_of l moves) p → (j : ℕ) × IsChild l j × (move_at moves j ≡ p)
+move-child l moves p fits (k, inside, at) =
+    let a = length-take l.count (drop l.first moves) in
+    let b = length-drop l.first moves in
+    let low : k < l.count = omega (arith, a, inside) in
+    let within : l.first + k < length moves = omega (arith, low, fits) in (
+      l.first + k,
+      record { from_first = omega arith; below_end = omega (arith, low) },
+      get_or_default moves (l.first + k) nowhere p within ∙ sym (get_or-drop l.first moves k p) ∙ sym (get_or-take l.count (drop l.first moves) k p low) ∙ at,
+    )
+
+-- the numbers of the k-th child
+pub child-numbers : (l : Link) (numbers : List Numbers) (k : ℕ) → k < l.count → get_or (children_of l numbers) k no_numbers ≡ numbers_at numbers (l.first + k)
+child-numbers l numbers k low = get_or-take l.count (drop l.first numbers) k no_numbers low ∙ get_or-drop l.first numbers k no_numbers
+
+-- a reply that goes on is listed
+passing-listed : (f : Point → Bool) (q : Point) (ps : List Point) → list_any (λ x. f x && is_same_point x q) ps ≡ true → Contains (filter f ps) q
+passing-listed f q [] h = cc
+passing-listed f q (p ∷ ps) h = by_tests (f p) (is_same_point p q) refl h (passing-listed f q ps) where
+  deeper : (x : Point) (xs : List Point) → Contains xs q → Contains (x ∷ xs) q
+  deeper x xs (k, inside, at) = (suc k, omega (arith, inside), at)
+
+  by_tests : (r s : Bool) → is_same_point p q ≡ s → ((r && s) || list_any (λ x. f x && is_same_point x q) ps) ≡ true → (list_any (λ x. f x && is_same_point x q) ps ≡ true → Contains (filter f ps) q) → Contains (cond r (p ∷ filter f ps) (filter f ps)) q
+  by_tests true true same h later = (0, omega arith, is_same_point-same p q same)
+  by_tests true false same h later = deeper p (filter f ps) (later h)
+  by_tests false s same h later = later h
+
+pub reply-listed : (rule : RuleKind) (c : Grid) (q : Point) → outcome rule c q ≡ GoesOn → Contains (replies_at rule c) q
+reply-listed rule c q on =
+    passing-listed (λ x. goes_on (outcome rule c x)) q (points_of c)
+    (points-found c (λ x. goes_on (outcome rule c x) && is_same_point x q) q (GoesOn-on rule c q on)
+    (ap (λ o. goes_on o && is_same_point q q) on ∙ is_same_point-itself q))
+
+-- ---- the tree
+
+-- what holds of a child of node i
+pub record IsChildOf (g : GameTree) (i j : ℕ) : Type 0 where
+  pub inside : j < length g.tree.links
+  pub later : i < j
+  pub kind : (link_at g.tree.links j).kind ≡ other_kind (link_at g.tree.links i).kind
+  pub board : board_at g j ≡ after (board_at g i) (move_at g.moves j)
+  pub on : outcome g.rule (board_at g i) (move_at g.moves j) ≡ GoesOn
+  pub fewer : left_before (link_at g.tree.links j).kind (left_at g.left j) ≡ left_at g.left i
+
+tried-attack : (rule : RuleKind) (l : ℕ) (b : Grid) (ms : List Point) → HasTried Attack rule l b ms → (n : ℕ) × (l ≡ suc n) × AreTried rule n b ms
+tried-attack rule zero b ms h = absurd h
+tried-attack rule (suc n) b ms h = (n, refl, h)
+
+by_move : (rule : RuleKind) (n : ℕ) (b : Grid) (p : Point) → outcome rule b p ≡ GoesOn → has_threat rule (after b p) (mover b) ≡ true → LosesToThreats rule n (after b p) → WinsByThreats rule (suc n) b
+by_move rule n b p on threat loses =
+    (p, subst (λ (o : Outcome). WinsOr o (IsTrue (has_threat rule (after b p) (mover b)) × LosesToThreats rule n (after b p))) (sym on) (threat, loses))
+
+loses-on : (o : Outcome) (V W : Type 0) → LosesOr o V → (o ≡ GoesOn → W) → LosesOr o W
+loses-on Refused V W h f = tt
+loses-on Wins V W h f = h
+loses-on (Fouls x) V W h f = tt
+loses-on Draws V W h f = h
+loses-on GoesOn V W h f = f refl
+
+module _ (g : GameTree) (ok : IsTree g.tree) (game : IsGameTree g) where
+  pub child-of : (i j : ℕ) → i < length g.tree.links → IsChild (link_at g.tree.links i) j → IsChildOf g i j
+  child-of i j inside child =
+      let w = ok.linked in
+      let first = child.from_first in
+      let low = child.below_end in
+      let some : 0 < (link_at g.tree.links i).count = omega (arith, first, low) in
+      let after_i = w.later i inside some in
+      let within = w.within i inside in
+      let here : j < length g.tree.links = omega (arith, low, within) in
+      let positive : 0 < j = omega (arith, after_i, first) in
+      let parent : (link_at g.tree.links j).parent ≡ i = w.parents i j inside child in
+      record {
+        inside = here;
+        later = omega (arith, after_i, first);
+        kind = w.kinds i j inside child;
+        board = board-step g.tree.links g.moves g.start w j positive here ∙ ap (λ (p : ℕ). after (board_at g p) (move_at g.moves j)) parent;
+        on = subst (λ (p : ℕ). outcome g.rule (board_at g p) (move_at g.moves j) ≡ GoesOn) parent (game.on j positive here);
+        fewer = game.fewer j positive here ∙ ap (left_at g.left) parent;
+      }
+
+  -- node i tells truly whether the attacker wins
+  abbrev pub Tells : ℕ → Type 0
+  Tells i = TellsTruly (numbers_at g.tree.numbers i) (WinsAt (link_at g.tree.links i).kind g.rule (left_at g.left i) (board_at g i))
+
+  fits : (i : ℕ) → i < length g.tree.links → (link_at g.tree.links i).first + (link_at g.tree.links i).count ≤ length g.moves
+  fits i inside = let within = ok.linked.within i inside in let same = game.moves in omega (arith, within, same)
+
+  fits_numbers : (i : ℕ) → i < length g.tree.links → length (children_of (link_at g.tree.links i) g.tree.numbers) ≡ (link_at g.tree.links i).count
+  fits_numbers i inside =
+      let within = ok.linked.within i inside in
+      let same = ok.numbered.count in
+      let a = length-take (link_at g.tree.links i).count (drop (link_at g.tree.links i).first g.tree.numbers) in
+      let b = length-drop (link_at g.tree.links i).first g.tree.numbers in
+      omega (arith, a, b, within, same)
+
+  kth : (i k : ℕ) → k < (link_at g.tree.links i).count → IsChild (link_at g.tree.links i) ((link_at g.tree.links i).first + k)
+  kth i k low = record { from_first = omega arith; below_end = omega (arith, low) }
+
+  -- where the least of the numbers of the children is 0, a child has it; where the sum is, each has it
+  module _ (i : ℕ) (inside : i < length g.tree.links) (f : Numbers → ℕ) where
+    some-zero : least (map f (children_of (link_at g.tree.links i) g.tree.numbers)) ≡ 0 → (j : ℕ) × IsChild (link_at g.tree.links i) j × (f (numbers_at g.tree.numbers j) ≡ 0)
+    some-zero e =
+        let l = link_at g.tree.links i in
+        let found = least-zero f (children_of l g.tree.numbers) e in
+        let low : found.0 < l.count = let a = found.1 in let b = fits_numbers i inside in omega (arith, a, b) in
+        (l.first + found.0, kth i found.0 low, ap f (sym (child-numbers l g.tree.numbers found.0 low)) ∙ found.2)
+
+    pub each-zero : total (map f (children_of (link_at g.tree.links i) g.tree.numbers)) ≡ 0 → (j : ℕ) → IsChild (link_at g.tree.links i) j → f (numbers_at g.tree.numbers j) ≡ 0
+    each-zero e j child =
+        let l = link_at g.tree.links i in
+        let first = child.from_first in
+        let end = child.below_end in
+        let k : ℕ = j - l.first in
+        let low : k < l.count = omega (arith, first, end) in
+        let back : l.first + k ≡ j = omega (arith, first) in
+        ap (λ (m : ℕ). f (numbers_at g.tree.numbers m)) (sym back) ∙ ap f (sym (child-numbers l g.tree.numbers k low))
+        ∙ total-zero f (children_of l g.tree.numbers) e k (let b = fits_numbers i inside in omega (arith, b, low))
+
+  -- ---- one node, where its children tell truly
+
+  module _ (i : ℕ) (inside : i < length g.tree.links) (some : 0 < (link_at g.tree.links i).count) (told : (j : ℕ) → IsChild (link_at g.tree.links i) j → Tells j) where
+    abbrev Own : Kind → Type 0
+    Own kind = HasTried kind g.rule (left_at g.left i) (board_at g i) (moves_of (link_at g.tree.links i) g.moves)
+
+    -- the attacker wins at an attacker's node by a child where it wins
+    attack-by : (link_at g.tree.links i).kind ≡ Attack → Own Attack → (j : ℕ) → IsChild (link_at g.tree.links i) j → WinsAt (link_at g.tree.links j).kind g.rule (left_at g.left j) (board_at g j) → WinsByThreats g.rule (left_at g.left i) (board_at g i)
+    attack-by kind own j child wins =
+        let c = child-of i j inside child in
+        let tried = tried-attack g.rule (left_at g.left i) (board_at g i) (moves_of (link_at g.tree.links i) g.moves) own in
+        let listed = child-move (link_at g.tree.links i) g.moves j (fits i inside) child in
+        let defends : (link_at g.tree.links j).kind ≡ Defend = c.kind ∙ ap other_kind kind in
+        let less : suc (left_at g.left j) ≡ left_at g.left i = ap (λ (k : Kind). left_before k (left_at g.left j)) (sym defends) ∙ c.fewer in
+        let same : left_at g.left j ≡ tried.0 = let e = tried.1 in omega (arith, less, e) in
+        let loses : LosesToThreats g.rule (left_at g.left j) (board_at g j) = subst (λ (k : Kind). WinsAt k g.rule (left_at g.left j) (board_at g j)) defends wins in
+        let there : LosesToThreats g.rule tried.0 (after (board_at g i) (move_at g.moves j)) =
+        subst (λ (n : ℕ). LosesToThreats g.rule n (after (board_at g i) (move_at g.moves j))) same
+        (subst (LosesToThreats g.rule (left_at g.left j)) c.board loses) in
+        subst (λ (n : ℕ). WinsByThreats g.rule n (board_at g i)) (sym tried.1) (by_move g.rule tried.0 (board_at g i) (move_at g.moves j) c.on (tried.2.threat (move_at g.moves j) listed) there)
+
+    -- and where it wins there, it wins at a child
+    attack-through : (link_at g.tree.links i).kind ≡ Attack → Own Attack → WinsByThreats g.rule (left_at g.left i) (board_at g i)
+        → (j : ℕ) × IsChild (link_at g.tree.links i) j × WinsAt (link_at g.tree.links j).kind g.rule (left_at g.left j) (board_at g j)
+    attack-through kind own wins =
+        let tried = tried-attack g.rule (left_at g.left i) (board_at g i) (moves_of (link_at g.tree.links i) g.moves) own in
+        let found = tried.2.enough (subst (λ (n : ℕ). WinsByThreats g.rule n (board_at g i)) tried.1 wins) in
+        let child = move-child (link_at g.tree.links i) g.moves found.0 (fits i inside) found.1 in
+        let c = child-of i child.0 inside child.1 in
+        let defends : (link_at g.tree.links child.0).kind ≡ Defend = c.kind ∙ ap other_kind kind in
+        let less : suc (left_at g.left child.0) ≡ left_at g.left i = ap (λ (k : Kind). left_before k (left_at g.left child.0)) (sym defends) ∙ c.fewer in
+        let same : tried.0 ≡ left_at g.left child.0 = let e = tried.1 in omega (arith, less, e) in
+        let there : board_at g child.0 ≡ after (board_at g i) found.0 = c.board ∙ ap (after (board_at g i)) child.2 in
+        let loses : LosesToThreats g.rule (left_at g.left child.0) (board_at g child.0) =
+        subst (λ (n : ℕ). LosesToThreats g.rule n (board_at g child.0)) same (subst (LosesToThreats g.rule tried.0) (sym there) found.2) in
+        (child.0, child.1, subst (λ (k : Kind). WinsAt k g.rule (left_at g.left child.0) (board_at g child.0)) (sym defends) loses)
+
+    -- the attacker wins at a defender's node where it wins at each child
+    defend-by : (link_at g.tree.links i).kind ≡ Defend → Own Defend → ((j : ℕ) → IsChild (link_at g.tree.links i) j → WinsAt (link_at g.tree.links j).kind g.rule (left_at g.left j) (board_at g j)) → LosesToThreats g.rule (left_at g.left i) (board_at g i)
+    defend-by kind own wins q = loses-on (outcome g.rule (board_at g i) q) (Unit {0}) (WinsByThreats g.rule (left_at g.left i) (after (board_at g i) q)) (own.none_saves q) (λ on.
+        let listed : Contains (moves_of (link_at g.tree.links i) g.moves) q = subst (λ (ms : List Point). Contains ms q) (sym own.all) (reply-listed g.rule (board_at g i) q on) in
+        let child = move-child (link_at g.tree.links i) g.moves q (fits i inside) listed in
+        let c = child-of i child.0 inside child.1 in
+        let attacks : (link_at g.tree.links child.0).kind ≡ Attack = c.kind ∙ ap other_kind kind in
+        let same : left_at g.left child.0 ≡ left_at g.left i = ap (λ (k : Kind). left_before k (left_at g.left child.0)) (sym attacks) ∙ c.fewer in
+        let there : board_at g child.0 ≡ after (board_at g i) q = c.board ∙ ap (after (board_at g i)) child.2 in
+        let win : WinsByThreats g.rule (left_at g.left child.0) (board_at g child.0) = subst (λ (k : Kind). WinsAt k g.rule (left_at g.left child.0) (board_at g child.0)) attacks (wins child.0 child.1) in
+        subst (λ (n : ℕ). WinsByThreats g.rule n (after (board_at g i) q)) same (subst (WinsByThreats g.rule (left_at g.left child.0)) there win))
+
+    -- and where it wins there, it wins at each child
+    defend-through : (link_at g.tree.links i).kind ≡ Defend → LosesToThreats g.rule (left_at g.left i) (board_at g i) → (j : ℕ) → IsChild (link_at g.tree.links i) j → WinsAt (link_at g.tree.links j).kind g.rule (left_at g.left j) (board_at g j)
+    defend-through kind loses j child =
+        let c = child-of i j inside child in
+        let attacks : (link_at g.tree.links j).kind ≡ Attack = c.kind ∙ ap other_kind kind in
+        let same : left_at g.left j ≡ left_at g.left i = ap (λ (k : Kind). left_before k (left_at g.left j)) (sym attacks) ∙ c.fewer in
+        let win : WinsByThreats g.rule (left_at g.left i) (after (board_at g i) (move_at g.moves j)) =
+        subst (λ (o : Outcome). LosesOr o (WinsByThreats g.rule (left_at g.left i) (after (board_at g i) (move_at g.moves j)))) c.on (loses (move_at g.moves j)) in
+        subst (λ (k : Kind). WinsAt k g.rule (left_at g.left j) (board_at g j)) (sym attacks)
+        (subst (λ (n : ℕ). WinsByThreats g.rule n (board_at g j)) (sym same) (subst (WinsByThreats g.rule (left_at g.left i)) (sym c.board) win))
+
+    each : (j : ℕ) → IsChild (link_at g.tree.links i) j → AreNumbers (numbers_at g.tree.numbers j)
+    each j child = ok.numbered.each j (child-of i j inside child).inside
+
+    own-numbers : (kind : Kind) → (link_at g.tree.links i).kind ≡ kind → numbers_at g.tree.numbers i ≡ combined kind (children_of (link_at g.tree.links i) g.tree.numbers)
+    own-numbers kind e = ok.numbered.combined_at i inside some ∙ ap (λ (k : Kind). combined k (children_of (link_at g.tree.links i) g.tree.numbers)) e
+
+    inner-tells : (kind : Kind) → (link_at g.tree.links i).kind ≡ kind → Own kind → TellsTruly (numbers_at g.tree.numbers i) (WinsAt kind g.rule (left_at g.left i) (board_at g i))
+    inner-tells Attack kind own = record {
+      proved = λ h.
+          let nothing : least (map (λ n. n.proof) (children_of (link_at g.tree.links i) g.tree.numbers)) ≡ 0 = ap (λ (n : Numbers). n.proof) (sym (own-numbers Attack kind) ∙ h) in
+          let child = some-zero i inside (λ n. n.proof) nothing in
+          attack-by kind own child.0 child.1 ((told child.0 child.1).proved (settled-proved (numbers_at g.tree.numbers child.0) (each child.0 child.1) child.2));
+      disproved = λ h wins.
+          let nothing : total (map (λ n. n.disproof) (children_of (link_at g.tree.links i) g.tree.numbers)) ≡ 0 = ap (λ (n : Numbers). n.disproof) (sym (own-numbers Attack kind) ∙ h) in
+          let child = attack-through kind own wins in
+          (told child.0 child.1).disproved (settled-disproved (numbers_at g.tree.numbers child.0) (each child.0 child.1) (each-zero i inside (λ n. n.disproof) nothing child.0 child.1)) child.2;
+    }
+    inner-tells Defend kind own = record {
+      proved = λ h.
+          let nothing : total (map (λ n. n.proof) (children_of (link_at g.tree.links i) g.tree.numbers)) ≡ 0 = ap (λ (n : Numbers). n.proof) (sym (own-numbers Defend kind) ∙ h) in
+          defend-by kind own (λ j child. (told j child).proved (settled-proved (numbers_at g.tree.numbers j) (each j child) (each-zero i inside (λ n. n.proof) nothing j child)));
+      disproved = λ h loses.
+          let nothing : least (map (λ n. n.disproof) (children_of (link_at g.tree.links i) g.tree.numbers)) ≡ 0 = ap (λ (n : Numbers). n.disproof) (sym (own-numbers Defend kind) ∙ h) in
+          let child = some-zero i inside (λ n. n.disproof) nothing in
+          (told child.0 child.1).disproved (settled-disproved (numbers_at g.tree.numbers child.0) (each child.0 child.1) child.2) (defend-through kind loses child.0 child.1);
+    }
+
+  -- ---- all nodes, from the last to the first
+
+  tells-from : (n i : ℕ) → length g.tree.links ≤ i + n → i < length g.tree.links → Tells i
+  tells-from zero i far inside = absurd (omega arith)
+  tells-from (suc n) i far inside = by_count (cases_eq (link_at g.tree.links i).count 0) (λ j child. let c = child-of i j inside child in let later = c.later in tells-from n j (omega (arith, far, later)) c.inside) where
+    by_count : ((link_at g.tree.links i).count ≡ 0) ⊎ ((link_at g.tree.links i).count ≡ 0 → ⊥) → ((j : ℕ) → IsChild (link_at g.tree.links i) j → Tells j) → Tells i
+    by_count (inl none) told = game.leaf i inside none
+    by_count (inr more) told = let some : 0 < (link_at g.tree.links i).count = omega (arith, more) in inner-tells i inside some told (link_at g.tree.links i).kind refl (game.inner i inside some)
+
+  pub all-tell : (i : ℕ) → i < length g.tree.links → Tells i
+  all-tell i inside = tells-from (length g.tree.links) i (omega arith) inside

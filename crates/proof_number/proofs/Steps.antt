@@ -1,0 +1,223 @@
+-- The steps of a search, in the words of its contracts.
+use Rattle.std.proofs.Common.{◌≡◌, ℕ, zero, suc, ◌+◌, ◌<◌, ◌≤◌, Bool, true, false, sym, ap, subst, ◌∙◌, arith, List, [], ◌++◌, append-nil, length}
+use Rattle.std.specs.Prelude.{Some, Result, Ok, Err}
+use Rattle.strategy_compiler.specs.declared.error.SearchError.{SearchError}
+use Rattle.proof_number.specs.declared.search.Step.{Step}
+use Rattle.proof_number.specs.declared.search.Step.TheVariants.{Done, Spent}
+use Rattle.std.proofs.lemmas.List.{get_or-map, length-map}
+use Rattle.game_rules.specs.Grid.{Grid}
+use Rattle.game_rules.specs.Play.{IsPosition, mover}
+use Rattle.game_rules.specs.Games.{WinsByThreats, WinsWithin, has_five}
+use Rattle.game_rules.specs.declared.RuleKind.{RuleKind}
+use Rattle.position_table.specs.Packing.{Packed, packed}
+use Rattle.position_table.specs.Remembering.{value_under, looked_up}
+use Rattle.strategy_graph.specs.declared.Node.{Node}
+use Rattle.strategy_graph.specs.Tables.{depth}
+use Rattle.strategy_graph.proofs.Filling.{IsTable-lower}
+use Rattle.strategy_graph.proofs.Soundness.{accepted-wins}
+use Rattle.strategy_compiler.specs.declared.wins.WrittenWin.{WrittenWin}
+use Rattle.strategy_compiler.specs.Nodes.{IsCompiled}
+use Rattle.strategy_compiler.specs.Wins.{IsWrittenWin}
+use Rattle.proof_tree.specs.Combining.{is_settled, settled_numbers}
+use Rattle.proof_tree.specs.Trees.{IsTree, OthersStay, Tree, leaf_sum, link_at, most_proving, numbers_at}
+use Rattle.proof_tree.specs.declared.Kind.{Kind}
+use Rattle.proof_tree.specs.declared.Kind.TheVariants.{Attack}
+use Rattle.proof_number.specs.ThreatGame.{threat_tree}
+use Rattle.proof_number.specs.declared.notes.Note.{Note}
+use Rattle.proof_number.specs.declared.notes.Settled.{Settled}
+use Rattle.proof_number.specs.Notes.{no_note, note_at}
+use Rattle.proof_number.specs.declared.search.Search.{Search}
+use Rattle.proof_number.specs.GameTrees.{CanGrow, WinsAt, board_at, left_at}
+use Rattle.proof_number.specs.Remembered.{IsTrueOf, IsTrueTable}
+use Rattle.proof_number.specs.Searches.{Searches, Grows, HasGrown, HasSpent, HasStayed, KeepsTree, OnStep, IsAtLeaf, IsNotedWin, IsSettledAt, StandsAt, game_of, noted_won}
+use Rattle.proof_number.proofs.GameBoards.{left-low, position-at}
+use Rattle.proof_number.proofs.Growing.{lost-grown, won-grown}
+use Rattle.proof_number.proofs.TreeLaws.{tree-positive}
+use Rattle.proof_number.proofs.Remembering.{found-true, table-grown, true-looked}
+
+-- a written win has a move
+pub win-some : (rule : RuleKind) (n : ℕ) (b : Grid) (c : List Node) (win : WrittenWin) → IsWrittenWin rule n b c win → 0 < win.moves
+win-some rule n b c win h = by_moves win.moves h.deep where
+  by_moves : (m : ℕ) → depth c win.node ≡ m → 0 < m
+  by_moves zero e = absurd (subst (λ (k : ℕ). WinsWithin rule k b) e (accepted-wins rule c win.node b h.accepted))
+  by_moves (suc m) e = omega arith
+
+module _ (rule : RuleKind) (s : Search) (t : Tree) (c : List Node) (leaf : ℕ) (view : Grid) (stands : StandsAt rule s t c leaf view) where
+  at-leaf : IsAtLeaf rule s t c leaf view
+  unfolding StandsAt
+  at-leaf = stands
+
+  pub leaf-inside : leaf < length t.links
+  leaf-inside = at-leaf.in_tree
+
+  pub root-open : is_settled (numbers_at t.numbers 0) ≡ false
+  root-open = at-leaf.root_open
+
+  pub leaf-is : leaf ≡ most_proving t
+  leaf-is = at-leaf.leaf_is
+
+  pub leaf-noted : leaf < length s.notes.items
+  leaf-noted = let same = at-leaf.searching.game.moves in let long = length-map s.notes.items (λ (n : Note). n.at) in let low = at-leaf.in_tree in omega (arith, same, long, low)
+
+  pub leaf-compiled : IsCompiled c
+  leaf-compiled = at-leaf.searching.compiled
+
+  pub leaf-lawful : IsPosition rule view
+  leaf-lawful = subst (IsPosition rule) (sym at-leaf.view_is) (position-at (game_of rule s t) at-leaf.searching.tree.linked at-leaf.searching.game leaf at-leaf.in_tree)
+
+  pub leaf-board : s.board ≡ view
+  leaf-board = at-leaf.board_is ∙ sym at-leaf.view_is
+
+  grows-with : (kind : Kind) → (link_at t.links leaf).kind ≡ kind → CanGrow kind rule (left_at (game_of rule s t).left leaf) (board_at (game_of rule s t) leaf)
+  grows-with kind e = subst (λ (q : Kind). CanGrow q rule (left_at (game_of rule s t).left leaf) (board_at (game_of rule s t) leaf)) e (at-leaf.searching.game.open_leaf leaf at-leaf.in_tree at-leaf.childless at-leaf.leaf_open)
+
+  left-noted : left_at (game_of rule s t).left leaf ≡ (note_at s.notes.items leaf).left
+  left-noted = get_or-map (λ (n : Note). n.left) s.notes.items leaf no_note 0 leaf-noted
+
+  -- few moves are left
+  pub left-few : (note_at s.notes.items leaf).left ≤ 60
+  left-few =
+      let low = left-low (game_of rule s t) at-leaf.searching.tree.linked at-leaf.searching.game leaf at-leaf.in_tree in
+      let root : left_at (game_of rule s t).left 0 ≡ (note_at s.notes.items 0).left = get_or-map (λ (n : Note). n.left) s.notes.items 0 no_note 0 (let l = leaf-noted in omega (arith, l)) in
+      let depth_is = at-leaf.searching.depth in
+      let fits = at-leaf.searching.depth_fits in
+      let own = left-noted in
+      omega (arith, low, root, depth_is, fits, own)
+
+  -- at an attacker's leaf
+  module _ (attack : (link_at t.links leaf).kind ≡ Attack) where
+    pub attack-no_five : has_five rule view (mover view) ≡ false
+    attack-no_five = subst (λ (b : Grid). has_five rule b (mover b) ≡ false) (sym at-leaf.view_is) (grows-with Attack attack).0
+
+    pub attack-moves : 2 ≤ (note_at s.notes.items leaf).left
+    attack-moves = subst (λ (n : ℕ). 2 ≤ n) left-noted (grows-with Attack attack).1
+
+    -- a win is known of the board of the view, and it is settled as won
+    module _ (u : Tree) (st : IsSettledAt t u leaf true) (v : Search) (more : List Node) (rest : v ≡ record s { board = v.board; notes = v.notes; settled = v.settled; attacked = v.attacked }) (same_board : v.board ≡ s.board)
+        (d : List Node) (grown : d ≡ c ++ more) (compiled : IsCompiled d) (win : WrittenWin) (items : v.notes.items ≡ noted_won s.notes.items leaf win)
+        (noted : IsNotedWin rule (note_at s.notes.items leaf).left view d win) (grows : s.attacked ≤ v.attacked) (fits : v.attacked ≤ s.budget) (behind : v.attacked + 1 ≤ s.attacked + threat_tree rule (note_at s.notes.items leaf).left view)
+        (short : s.attacked + length more ≤ v.attacked + 1) (table : IsTrueTable rule c v.settled) where
+      pub won-step : Grows rule s v t u d leaf
+      unfolding Grows
+      won-step =
+          let w : IsNotedWin rule (left_at (game_of rule s t).left leaf) (board_at (game_of rule s t) leaf) (c ++ more) win =
+          subst (λ (x : List Node). IsNotedWin rule (left_at (game_of rule s t).left leaf) (board_at (game_of rule s t) leaf) x win) grown
+          (subst (λ (n : ℕ). IsNotedWin rule n (board_at (game_of rule s t) leaf) d win) (sym left-noted) (subst (λ (b : Grid). IsNotedWin rule (note_at s.notes.items leaf).left b d win) at-leaf.view_is noted)) in
+          let tree_is : threat_tree rule (note_at s.notes.items leaf).left view ≡ threat_tree rule (left_at (game_of rule s t).left leaf) (board_at (game_of rule s t) leaf) =
+          ap (λ (n : ℕ). threat_tree rule n view) (sym left-noted) ∙ ap (threat_tree rule (left_at (game_of rule s t).left leaf)) at-leaf.view_is in
+          subst (λ (x : List Node). HasGrown rule s v t u x leaf) (sym grown)
+          (won-grown rule s t c leaf view at-leaf attack u st v more rest same_board (subst IsCompiled grown compiled)
+          (table-grown rule c more v.settled (IsTable-lower c at-leaf.searching.compiled.table) table) win items (win-some rule (left_at (game_of rule s t).left leaf) (board_at (game_of rule s t) leaf) (c ++ more) win w.0) w.0 w.1
+          grows fits (omega (arith, behind, tree_is)) short)
+
+    -- none is known to be there
+    module _ (u : Tree) (st : IsSettledAt t u leaf false) (v : Search) (rest : v ≡ record s { board = v.board; settled = v.settled }) (same_board : v.board ≡ s.board) (table : IsTrueTable rule c v.settled)
+        (none : WinsByThreats rule (note_at s.notes.items leaf).left view → ⊥) where
+      pub lost-step : Grows rule s v t u c leaf
+      unfolding Grows
+      lost-step = lost-grown rule s t c leaf view at-leaf u st v rest same_board table (λ wins.
+          let win : WinsByThreats rule (left_at (game_of rule s t).left leaf) (board_at (game_of rule s t) leaf) = subst (λ (q : Kind). WinsAt q rule (left_at (game_of rule s t).left leaf) (board_at (game_of rule s t) leaf)) attack wins in
+          none (subst (λ (n : ℕ). WinsByThreats rule n view) left-noted (subst (WinsByThreats rule (left_at (game_of rule s t).left leaf)) (sym at-leaf.view_is) win)))
+
+    -- what is found in the table holds of the view
+    pub leaf-found : (w : Grid) (v : Settled) → w ≡ view → Some v ≡ value_under (packed w, (note_at s.notes.items leaf).left) s.settled → IsTrueOf rule c (note_at s.notes.items leaf).left view v
+    leaf-found w v same found = found-true rule c view w (note_at s.notes.items leaf).left v s.settled leaf-lawful same at-leaf.searching.remembered found
+
+  pub leaf-table : IsTrueTable rule c s.settled
+  leaf-table = at-leaf.searching.remembered
+
+  pub leaf-budget : s.attacked ≤ s.budget
+  leaf-budget = at-leaf.searching.counted.attacked_fits
+
+-- what stays where only the notes and the table changed
+pub rest-of : (s mid v : Search) → mid ≡ record s { settled = mid.settled } → v ≡ record mid { notes = v.notes } → v ≡ record s { board = v.board; notes = v.notes; settled = v.settled; attacked = v.attacked }
+rest-of s mid v first second =
+    let e : v ≡ record s { notes = v.notes; settled = mid.settled } = second ∙ ap (λ (w : Search). record w { notes = v.notes }) first in
+    e ∙ ap (λ (w : Search). record s { board = w.board; notes = v.notes; settled = w.settled; attacked = w.attacked }) (sym e)
+
+-- a leaf that is settled by the tree, as the leaf of a search
+pub settled-at : (t u : Tree) (leaf : ℕ) (p : Bool) → leaf ≡ most_proving t → u.links ≡ t.links → numbers_at u.numbers (most_proving t) ≡ settled_numbers p → OthersStay t.links (most_proving t) t.numbers u.numbers
+    → ((kind : Kind) → leaf_sum kind u.links u.numbers ≤ leaf_sum kind t.links t.numbers) → IsTree u → IsSettledAt t u leaf p
+settled-at t u leaf p is links settled others leaves tree = record {
+  links = links;
+  settled = ap (numbers_at u.numbers) is ∙ settled;
+  others = subst (λ (i : ℕ). OthersStay t.links i t.numbers u.numbers) (sym is) others;
+  leaves = leaves;
+  tree = tree;
+}
+
+module _ (rule : RuleKind) (s : Search) (t : Tree) (c : List Node) (leaf : ℕ) (view : Grid) (stands : StandsAt rule s t c leaf view) (attack : (link_at t.links leaf).kind ≡ Attack)
+    (mid : Search) (first : mid ≡ record s { settled = mid.settled }) (key : Packed × ℕ) (looked : mid.settled ≡ looked_up key s.settled) where
+  table-now : IsTrueTable rule c mid.settled
+  table-now = true-looked rule c s.settled mid.settled key looked (leaf-table rule s t c leaf view stands)
+
+  -- what is remembered as won is settled so
+  pub recalled-won : (u : Tree) → IsSettledAt t u leaf true → (v : Search) → v ≡ record mid { notes = v.notes } → (win : WrittenWin) → v.notes.items ≡ noted_won mid.notes.items leaf win
+      → IsNotedWin rule (note_at s.notes.items leaf).left view c win → Grows rule s v t u c leaf
+  recalled-won u st v second win items noted =
+      let count : v.attacked ≡ s.attacked = ap (λ (w : Search). w.attacked) second ∙ ap (λ (w : Search). w.attacked) first in
+      let board : v.board ≡ s.board = ap (λ (w : Search). w.board) second ∙ ap (λ (w : Search). w.board) first in
+      let fits = leaf-budget rule s t c leaf view stands in
+      let positive = tree-positive rule (note_at s.notes.items leaf).left view in
+      won-step rule s t c leaf view stands attack u st v [] (rest-of s mid v first second) board c (sym (append-nil c)) (leaf-compiled rule s t c leaf view stands) win
+      (items ∙ ap (λ (w : Search). noted_won w.notes.items leaf win) first) noted (omega (arith, count)) (omega (arith, count, fits)) (omega (arith, count, positive)) (omega (arith, count))
+      (subst (IsTrueTable rule c) (sym (ap (λ (w : Search). w.settled) second)) table-now)
+
+  -- and what is remembered as lost
+  pub recalled-lost : (u : Tree) → IsSettledAt t u leaf false → (WinsByThreats rule (note_at s.notes.items leaf).left view → ⊥) → Grows rule s mid t u c leaf
+  recalled-lost u st none =
+      lost-step rule s t c leaf view stands attack u st mid (first ∙ ap (λ (w : Search). record s { board = w.board; settled = mid.settled }) (sym first)) (ap (λ (w : Search). w.board) first) table-now none
+
+  -- the search stands at the leaf as before
+  pub recalled-stands : StandsAt rule mid t c leaf view
+  unfolding StandsAt Searches
+  recalled-stands =
+      let h = at-leaf rule s t c leaf view stands in
+      subst (λ (w : Search). IsAtLeaf rule w t c leaf view) (sym first) (record {
+        searching = record {
+          tree = h.searching.tree;
+          game = h.searching.game;
+          depth = h.searching.depth;
+          depth_fits = h.searching.depth_fits;
+          budget_fits = h.searching.budget_fits;
+          written = h.searching.written;
+          remembered = table-now;
+          counted = h.searching.counted;
+          compiled = h.searching.compiled;
+          few = h.searching.few;
+        };
+        root_open = h.root_open;
+        leaf_is = h.leaf_is;
+        in_tree = h.in_tree;
+        childless = h.childless;
+        leaf_open = h.leaf_open;
+        view_is = h.view_is;
+        board_is = h.board_is;
+      })
+
+-- ---- a step after a look at the table is one from before it
+
+module _ (rule : RuleKind) (s mid v : Search) (t u : Tree) (d : List Node) (leaf : ℕ) (first : mid ≡ record s { settled = mid.settled }) where
+  grown-from : HasGrown rule (record s { settled = mid.settled }) v t u d leaf → HasGrown rule s v t u d leaf
+  grown-from h = record {
+    searching = h.searching;
+    in_tree = h.in_tree;
+    aim = record { depth = h.aim.depth; budget = h.aim.budget; before = h.aim.before; root = h.aim.root };
+    board = h.board;
+    place = h.place;
+    progress = h.progress;
+    longer = h.longer;
+  }
+
+  keeps-from : KeepsTree (record s { settled = mid.settled }) v → KeepsTree s v
+  keeps-from h = record { rest = h.rest; places = h.places }
+
+  pub step-from : (r : Result Step SearchError) → OnStep r (Grows rule mid v t u d leaf) (HasSpent rule mid v t u) (HasStayed mid v t u) → OnStep r (Grows rule s v t u d leaf) (HasSpent rule s v t u) (HasStayed s v t u)
+  unfolding Grows
+  step-from (Ok Done) h = grown-from (subst (λ (w : Search). HasGrown rule w v t u d leaf) first h)
+  step-from (Ok Spent) h =
+      let k : HasSpent rule (record s { settled = mid.settled }) v t u = subst (λ (w : Search). HasSpent rule w v t u) first h in
+      record { spent = k.spent; same = k.same; keeps = keeps-from k.keeps }
+  step-from (Err e) h =
+      let k : HasStayed (record s { settled = mid.settled }) v t u = subst (λ (w : Search). HasStayed w v t u) first h in
+      record { same = k.same; keeps = keeps-from k.keeps }

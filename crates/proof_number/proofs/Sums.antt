@@ -1,0 +1,64 @@
+-- Sums over the first numbers: how they change where one term does, or where terms are added.
+use Rattle.std.proofs.Common.{◌≡◌, ◌≢◌, ◌⊎◌, inl, inr, ℕ, zero, suc, ◌+◌, ◌<◌, ◌≤◌, refl, sym, ap, subst, ◌∙◌, zero-add, arith, List, [], ◌∷◌, length, get_or}
+use Rattle.std.specs.List.{sum_by}
+use Rattle.std.proofs.lemmas.List.Sums.{sum_by-cons}
+use Rattle.std.proofs.lemmas.Bool.{cases_eq}
+use Rattle.proof_number.specs.Searches.{sum_below}
+
+pub sum-suc : (n : ℕ) (f : ℕ → ℕ) → sum_below (suc n) f ≡ sum_below n f + f n
+unfolding sum_below
+sum-suc n f = refl
+
+pub sum-zero : (f : ℕ → ℕ) → sum_below 0 f ≡ 0
+unfolding sum_below
+sum-zero f = refl
+
+-- terms that are no greater
+pub sum-le : (n : ℕ) (f g : ℕ → ℕ) → ((i : ℕ) → i < n → f i ≤ g i) → sum_below n f ≤ sum_below n g
+sum-le zero f g h = let a = sum-zero f in let b = sum-zero g in omega (arith, a, b)
+sum-le (suc n) f g h =
+    let a = sum-suc n f in
+    let b = sum-suc n g in
+    let rest = sum-le n f g (λ i low. h i (omega arith)) in
+    let here = h n (omega arith) in
+    omega (arith, a, b, rest, here)
+
+-- the same, and one term is less by d or more
+pub sum-less : (n : ℕ) (f g : ℕ → ℕ) (i d : ℕ) → i < n → ((j : ℕ) → j < n → j ≢ i → f j ≤ g j) → f i + d ≤ g i → sum_below n f + d ≤ sum_below n g
+sum-less zero f g i d inside h less = absurd (omega arith)
+sum-less (suc n) f g i d inside h less = by_last (cases_eq n i) (λ low. sum-less n f g i d low (λ j l ne. h j (omega arith) ne) less) where
+  by_last : (n ≡ i) ⊎ (n ≡ i → ⊥) → (i < n → sum_below n f + d ≤ sum_below n g) → sum_below (suc n) f + d ≤ sum_below (suc n) g
+  by_last (inl same) later =
+      let a = sum-suc n f in
+      let b = sum-suc n g in
+      let rest = sum-le n f g (λ j l. h j (omega arith) (λ e. omega (arith, e, same))) in
+      let here : f n + d ≤ g n = subst (λ (k : ℕ). f k + d ≤ g k) (sym same) less in
+      omega (arith, a, b, rest, here)
+  by_last (inr other) later =
+      let a = sum-suc n f in
+      let b = sum-suc n g in
+      let rest = later (omega (arith, other)) in
+      let here = h n (omega arith) other in
+      omega (arith, a, b, rest, here)
+
+-- further terms
+pub sum-more : (n k : ℕ) (f : ℕ → ℕ) → sum_below (n + k) f ≡ sum_below n f + sum_below k (λ j. f (n + j))
+sum-more n zero f = let a = sum-zero (λ j. f (n + j)) in let e : n + 0 ≡ n = omega arith in ap (λ (m : ℕ). sum_below m f) e ∙ omega (arith, a)
+sum-more n (suc k) f =
+    let a = sum-suc (n + k) f in
+    let b = sum-suc k (λ j. f (n + j)) in
+    let rest = sum-more n k f in
+    let e : n + suc k ≡ suc (n + k) = omega arith in
+    ap (λ (m : ℕ). sum_below m f) e ∙ omega (arith, a, b, rest)
+
+-- a sum over a list by its places
+pub sum-list : {X : Type 0} (h : X → ℕ) (d : X) (xs : List X) → sum_below (length xs) (λ j. h (get_or xs j d)) ≡ sum_by h xs
+sum-list h d [] = sum-zero (λ j. h (get_or [] j d))
+sum-list h d (x ∷ xs) =
+    let F : ℕ → ℕ = λ j. h (get_or (x ∷ xs) j d) in
+    let e : suc (length xs) ≡ 1 + length xs = omega arith in
+    let same : sum_below (length xs) (λ j. F (1 + j)) ≡ sum_below (length xs) (λ j. h (get_or xs j d)) = ap (sum_below (length xs)) (λ i j. F (one_more j i)) in
+    let first : sum_below 1 F ≡ h x = sum-suc 0 F ∙ ap (λ (m : ℕ). m + h x) (sum-zero F) ∙ zero-add (h x) in
+    ap (λ (m : ℕ). sum_below m F) e ∙ sum-more 1 (length xs) F ∙ ap (λ (m : ℕ). sum_below 1 F + m) (same ∙ sum-list h d xs) ∙ ap (λ (m : ℕ). m + sum_by h xs) first ∙ sym (sum_by-cons h x xs) where
+      one_more : (j : ℕ) → 1 + j ≡ suc j
+      one_more j = omega arith

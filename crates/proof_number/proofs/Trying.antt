@@ -1,0 +1,98 @@
+-- The moves that have to be tried are enough: where there is a win by threats, one of them wins.
+use Rattle.std.proofs.Common.{◌≡◌, ℕ, zero, suc, ◌≤◌, Bool, true, false, cond, ◌&&◌, ◌||◌, refl, sym, ap, subst, ◌∙◌, arith, List, [], ◌∷◌, Contains}
+use Rattle.std.specs.Prelude.{IsTrue, Option, Some, None}
+use Rattle.std.specs.List.{list_any, filter}
+use Rattle.game_rules.specs.Grid.{Grid, is_empty, is_on, points_of}
+use Rattle.game_rules.specs.Shapes.{five, is_same_point}
+use Rattle.game_rules.specs.Play.{outcome, outcome_by, foul_of, mover, after}
+use Rattle.game_rules.specs.Games.{WinsOr, LosesOr, WinsByThreats, has_five, has_threat}
+use Rattle.game_rules.specs.declared.RuleKind.{RuleKind}
+use Rattle.game_rules.specs.declared.Foul.{Foul}
+use Rattle.game_rules.specs.declared.Outcome.{Outcome}
+use Rattle.game_rules.specs.declared.Outcome.TheVariants.{Refused, Wins, Fouls, Draws, GoesOn}
+use Rattle.game_rules.specs.declared.Point.{Point}
+use Rattle.game_rules.proofs.Boards.{is_empty-on}
+use Rattle.game_rules.proofs.Points.{points-found, any_witness, is_same_point-itself, is_same_point-same}
+use Rattle.game_rules.proofs.Positions.{GoesOn-on}
+use Rattle.threat_moves.specs.FourMoves.{goes_on_with}
+use Rattle.proof_number.specs.ThreatGame.{is_threat_move}
+use Rattle.proof_number.specs.Attacks.{OthersFail, is_tried, saves, tried_moves}
+use Rattle.proof_number.specs.Replies.{HasEscape}
+use Rattle.proof_number.specs.GameTrees.{LosesToThreats}
+
+-- a winning move is a five point
+wins-parts : (e f l : Bool) (o : Option Foul) → outcome_by e f o l ≡ Wins → (e ≡ true) × (f ≡ true)
+wins-parts true true l None h = (refl, refl)
+wins-parts true true l (Some g) h = (refl, refl)
+wins-parts true false true None h = cc
+wins-parts true false false None h = cc
+wins-parts true false l (Some g) h = cc
+wins-parts false f l None h = cc
+wins-parts false f l (Some g) h = cc
+
+pub win-has_five : (rule : RuleKind) (b : Grid) (p : Point) → outcome rule b p ≡ Wins → has_five rule b (mover b) ≡ true
+unfolding outcome
+win-has_five rule b p h =
+    let parts = wins-parts (is_empty b p) (five rule b (mover b) p) _ (foul_of rule b (mover b) p) h in
+    points-found b (five rule b (mover b)) p (is_empty-on b p parts.0) parts.1
+
+-- a point of the board that passes a test is among those that do
+passing-listed : (f : Point → Bool) (q : Point) (ps : List Point) → list_any (λ x. f x && is_same_point x q) ps ≡ true → Contains (filter f ps) q
+passing-listed f q [] h = cc
+passing-listed f q (p ∷ ps) h = by_tests (f p) (is_same_point p q) refl h (passing-listed f q ps) where
+  deeper : (x : Point) (xs : List Point) → Contains xs q → Contains (x ∷ xs) q
+  deeper x xs (k, inside, at) = (suc k, omega (arith, inside), at)
+
+  by_tests : (r s : Bool) → is_same_point p q ≡ s → ((r && s) || list_any (λ x. f x && is_same_point x q) ps) ≡ true → (list_any (λ x. f x && is_same_point x q) ps ≡ true → Contains (filter f ps) q) → Contains (cond r (p ∷ filter f ps) (filter f ps)) q
+  by_tests true true same h later = (0, omega arith, is_same_point-same p q same)
+  by_tests true false same h later = deeper p (filter f ps) (later h)
+  by_tests false s same h later = later h
+
+tried-listed : (rule : RuleKind) (b : Grid) (p : Point) → is_on b p ≡ true → is_tried rule b p ≡ true → Contains (tried_moves rule b) p
+tried-listed rule b p on tried =
+    passing-listed (is_tried rule b) p (points_of b)
+    (points-found b (λ x. is_tried rule b x && is_same_point x p) p on (ap (λ r. r && is_same_point p p) tried ∙ is_same_point-itself p))
+
+saved : (o : Outcome) (W : Type 0) → saves o ≡ true → LosesOr o W → ⊥
+saved Refused W h k = cc
+saved Wins W h k = k
+saved (Fouls f) W h k = cc
+saved Draws W h k = k
+saved GoesOn W h k = cc
+
+pub tried-enough : (rule : RuleKind) (n : ℕ) (b : Grid) → has_five rule b (mover b) ≡ false → OthersFail rule b → WinsByThreats rule (suc n) b → (p : Point) × Contains (tried_moves rule b) p × LosesToThreats rule n (after b p)
+unfolding is_threat_move
+tried-enough rule n b none others (p, win) = by_outcome (outcome rule b p) refl win where
+  Goal : Type 0
+  Goal = (q : Point) × Contains (tried_moves rule b) q × LosesToThreats rule n (after b q)
+
+  on-goes : outcome rule b p ≡ GoesOn → IsTrue (has_threat rule (after b p) (mover b)) → LosesToThreats rule n (after b p) → (q : Point) × Contains (tried_moves rule b) q × LosesToThreats rule n (after b q)
+  on-goes go threat loses = by_test (is_tried rule b p) refl where
+    threat-move : is_threat_move rule b p ≡ true
+    threat-move = ap (λ o. goes_on_with o (has_threat rule (after b p) (mover b))) go ∙ threat
+
+    by_test : (r : Bool) → is_tried rule b p ≡ r → (q : Point) × Contains (tried_moves rule b) q × LosesToThreats rule n (after b q)
+    by_test true e = (p, tried-listed rule b p (GoesOn-on rule b p go) e, loses)
+    by_test false e =
+        let saving = any_witness (λ q. saves (outcome rule (after b p) q)) (points_of (after b p)) (others.fails p threat-move e) in
+        absurd (saved (outcome rule (after b p) saving.0) (WinsByThreats rule n (after (after b p) saving.0)) saving.1 (loses saving.0))
+
+  by_outcome : (o : Outcome) → outcome rule b p ≡ o → WinsOr o (IsTrue (has_threat rule (after b p) (mover b)) × LosesToThreats rule n (after b p)) → (q : Point) × Contains (tried_moves rule b) q × LosesToThreats rule n (after b q)
+  by_outcome Refused e w = absurd w
+  by_outcome Wins e w = absurd (let yes_five = win-has_five rule b p e in let bad : true ≡ false = sym yes_five ∙ none in cc)
+  by_outcome (Fouls f) e w = absurd w
+  by_outcome Draws e w = absurd w
+  by_outcome GoesOn e w = on-goes e w.0 w.1
+
+-- where no move has to be tried there is no win by threats
+pub none-tried : (rule : RuleKind) (n : ℕ) (b : Grid) → has_five rule b (mover b) ≡ false → OthersFail rule b → tried_moves rule b ≡ [] → 1 ≤ n → WinsByThreats rule n b → ⊥
+none-tried rule zero b none others empty some win = absurd win
+none-tried rule (suc n) b none others empty some win =
+    let found = tried-enough rule n b none others win in
+    let listed : Contains [] found.0 = subst (λ (ps : List Point). Contains ps found.0) empty found.1 in
+    let inside = listed.1 in
+    omega (arith, inside)
+
+-- where a reply leaves no win the attacker does not win whatever the reply
+pub escape-saves : (rule : RuleKind) (n : ℕ) (c : Grid) → HasEscape rule n c → LosesToThreats rule n c → ⊥
+escape-saves rule n c escape loses = escape.no_win (subst (λ (o : Outcome). LosesOr o (WinsByThreats rule n (after c escape.reply))) escape.on (loses escape.reply))

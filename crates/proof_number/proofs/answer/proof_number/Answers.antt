@@ -1,0 +1,67 @@
+use Rattle.std.proofs.Common.{rules, ◌≡◌, ◌∙◌, ◌<◌, [], append-nil, ℕ, sym, ap, arith, refl}
+use Rattle.proof_tree.specs.Combining.{is_settled}
+use Rattle.proof_number.specs.Searches.{Searches, closed_nodes}
+use Rattle.proof_number.proofs.Ending.{begun-full, closed-few, root-noted, told-lost, told-none, told-proved, told-win}
+use Rattle.proof_number.proofs.StepLaws.{on-done, searched-tree}
+use Rattle.proof_number.proofs.TreeLaws.{tree-positive}
+use Rattle.proof_number.proofs.answer.proof_number.Goals as goal
+
+pub returns-in_err-begin-clause-full : goal.returns-in_err-begin-clause-full
+returns-in_err-begin-clause-full g c =
+    let some = tree-positive g.R.Rule.KIND c.args.depth (g.V.Seen.position c.args.view.now) in
+    let many = begun-full _ _ _ c.requires.some_budget some c.in_err-begin.ensures.full in
+    search rules
+
+pub loop-alloc-init : goal.loop-alloc-init
+loop-alloc-init g c = record {
+  searching = c.in_ok-begin.ensures.searching;
+  aim = record { depth = refl; budget = refl; before = refl; root = refl };
+  view = c.in_ok-begin.ensures.same ∙ sym (c.in_ok-begin.ensures.aim.root ∙ c.in_ok-search.ensures.begins.root_is ∙ c.board.ensures.board);
+  board = c.in_ok-begin.ensures.board ∙ c.in_ok-search.ensures.begins.board_is ∙ sym (c.in_ok-begin.ensures.aim.root ∙ c.in_ok-search.ensures.begins.root_is);
+  longer = omega arith;
+  kept = ([], sym (append-nil c.begin.new.compiler));
+}
+
+pub loop-alloc-smaller : goal.loop-alloc-smaller
+loop-alloc-smaller g c =
+    let more : closed_nodes c.loop-alloc.tree < closed_nodes c.step.new.tree = on-done c.in_ok-step.field-0 (closed_nodes c.loop-alloc.tree < closed_nodes c.step.new.tree) ℕ ℕ c.in-Done.is c.in_ok-step.ensures.progress in
+    let searching : Searches g.R.Rule.KIND c.step.new.self c.step.new.tree c.step.new.compiler (λ i. ⊥) = on-done c.in_ok-step.field-0 (Searches g.R.Rule.KIND c.step.new.self c.step.new.tree c.step.new.compiler (λ i. ⊥)) (c.step.new.tree ≡ c.loop-alloc.tree) ℕ c.in-Done.is c.in_ok-step.ensures.searching in
+    let few = closed-few g.R.Rule.KIND c.step.new.self c.step.new.tree c.step.new.compiler searching in
+    let same = c.in_ok-step.ensures.aim.budget in
+    omega (arith, more, few, same)
+
+pub index-requires : goal.index-requires
+index-requires g c = let low = root-noted g.R.Rule.KIND c.loop-alloc.search c.loop-alloc.tree c.loop-alloc.compiler c.loop-alloc.invariant.searching in omega (arith, low)
+
+pub returns-in-Some-clause-win : goal.returns-in-Some-clause-win
+returns-in-Some-clause-win g c =
+    told-win g.R.Rule.KIND c.loop-alloc.search c.loop-alloc.tree c.loop-alloc.compiler c.loop-alloc.invariant.searching c.args.depth (g.V.Seen.position c.args.view.now)
+    (c.loop-alloc.invariant.aim.depth ∙ c.in_ok-begin.ensures.aim.depth ∙ c.in_ok-search.ensures.begins.depth_is)
+    (c.loop-alloc.invariant.aim.root ∙ c.in_ok-begin.ensures.aim.root ∙ c.in_ok-search.ensures.begins.root_is ∙ c.board.ensures.board) c.index.result.now c.index.ensures c.in-Some.win c.in-Some.ensures.win
+
+pub returns-in-Some-clause-root : goal.returns-in-Some-clause-root
+returns-in-Some-clause-root g c =
+    told-proved g.R.Rule.KIND c.loop-alloc.search c.loop-alloc.tree c.loop-alloc.compiler c.loop-alloc.invariant.searching c.args.depth (g.V.Seen.position c.args.view.now)
+    (c.loop-alloc.invariant.aim.depth ∙ c.in_ok-begin.ensures.aim.depth ∙ c.in_ok-search.ensures.begins.depth_is)
+    (c.loop-alloc.invariant.aim.root ∙ c.in_ok-begin.ensures.aim.root ∙ c.in_ok-search.ensures.begins.root_is ∙ c.board.ensures.board) c.index.result.now c.index.ensures c.in-Some.win c.in-Some.ensures.win
+    (ap is_settled (sym c.numbers.ensures.numbers) ∙ sym c.is_settled.ensures.settled ∙ c.loop-alloc-test.false)
+
+pub returns-in-Some-clause-tree : goal.returns-in-Some-clause-tree
+returns-in-Some-clause-tree g c = searched-tree g.R.Rule.KIND c.loop-alloc.search c.loop-alloc.tree c.loop-alloc.compiler c.loop-alloc.invariant.searching
+
+pub returns-clause-none : goal.returns-clause-none
+returns-clause-none g c e =
+    told-none g.R.Rule.KIND c.loop-alloc.search c.loop-alloc.tree c.loop-alloc.compiler c.loop-alloc.invariant.searching c.args.depth (g.V.Seen.position c.args.view.now)
+    (c.loop-alloc.invariant.aim.depth ∙ c.in_ok-begin.ensures.aim.depth ∙ c.in_ok-search.ensures.begins.depth_is)
+    (c.loop-alloc.invariant.aim.root ∙ c.in_ok-begin.ensures.aim.root ∙ c.in_ok-search.ensures.begins.root_is ∙ c.board.ensures.board) c.index.result.now c.index.ensures c.in-None.ensures.win
+    (ap is_settled (sym c.numbers.ensures.numbers) ∙ sym c.is_settled.ensures.settled ∙ c.loop-alloc-test.false)
+
+pub returns-clause-root : goal.returns-clause-root
+returns-clause-root g c =
+    told-lost g.R.Rule.KIND c.loop-alloc.search c.loop-alloc.tree c.loop-alloc.compiler c.loop-alloc.invariant.searching c.args.depth (g.V.Seen.position c.args.view.now)
+    (c.loop-alloc.invariant.aim.depth ∙ c.in_ok-begin.ensures.aim.depth ∙ c.in_ok-search.ensures.begins.depth_is)
+    (c.loop-alloc.invariant.aim.root ∙ c.in_ok-begin.ensures.aim.root ∙ c.in_ok-search.ensures.begins.root_is ∙ c.board.ensures.board) c.index.result.now c.index.ensures c.in-None.ensures.win
+    (ap is_settled (sym c.numbers.ensures.numbers) ∙ sym c.is_settled.ensures.settled ∙ c.loop-alloc-test.false)
+
+pub returns-clause-tree : goal.returns-clause-tree
+returns-clause-tree g c = searched-tree g.R.Rule.KIND c.loop-alloc.search c.loop-alloc.tree c.loop-alloc.compiler c.loop-alloc.invariant.searching

@@ -1,0 +1,21 @@
+use Rattle.std.proofs.Common.{refl, arith}
+use Rattle.game_rules.specs.Grid.{Grid}
+use Rattle.game_rules.specs.Play.{after}
+use Rattle.proof_number.specs.declared.replies.Judged.TheVariants.{Last}
+use Rattle.proof_number.proofs.ChildLaws.{child-is, escape-is}
+use Rattle.proof_number.proofs.replies.judge_quiet.Goals as goal
+
+pub returns-then-moves-gt1-clause-judgement : goal.returns-then-moves-gt1-clause-judgement
+returns-then-moves-gt1-clause-judgement g c =
+    let b : Grid = g.V.Seen.position c.args.view.now in
+    child-is g.R.Rule.KIND c.args.moves b c.args.q c.requires.on (after b c.args.q) c.judge_double.result 2 refl c.judge_double.ensures.judged c.judge_double.ensures.enough (omega arith)
+
+pub returns-in-Some-clause-judgement : goal.returns-in-Some-clause-judgement
+returns-in-Some-clause-judgement g c =
+    let b : Grid = g.V.Seen.position c.args.view.now in
+    child-is g.R.Rule.KIND c.args.moves b c.args.q c.requires.on (after b c.args.q) (Last c.in-Some.p) 1 refl c.in-Some.ensures.last (omega arith) c.requires.some_moves
+
+pub returns-in-None-clause-judgement : goal.returns-in-None-clause-judgement
+returns-in-None-clause-judgement g c =
+    let b : Grid = g.V.Seen.position c.args.view.now in
+    escape-is g.R.Rule.KIND c.args.moves b c.args.q c.requires.on (after b c.args.q) c.requires.some_moves (omega arith) refl c.in-None.ensures.no_win

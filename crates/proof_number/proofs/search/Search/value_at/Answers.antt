@@ -1,0 +1,39 @@
+use Rattle.std.proofs.Common.{◌≡◌, ◌∙◌, sym, ap, inl, inr, true, false}
+use Rattle.proof_tree.specs.Combining.{is_settled, settled_numbers}
+use Rattle.proof_tree.specs.Trees.{numbers_at}
+use Rattle.proof_tree.specs.declared.Link.{Link}
+use Rattle.proof_tree.specs.declared.Numbers.{Numbers}
+use Rattle.proof_number.proofs.Recording.{settled-lost, settled-won}
+use Rattle.proof_number.proofs.Recorded.{lost-there, other-searches, won-there}
+use Rattle.proof_number.proofs.search.Search.value_at.Goals as goal
+
+pub returns-in-Defend-clause-searching : goal.returns-in-Defend-clause-searching
+returns-in-Defend-clause-searching g c =
+    other-searches g.R.Rule.KIND c.args.self.now c.args.tree.now c.args.compiler.now c.args.node c.requires.searching (inl (ap (λ (l : Link). l.kind) (sym c.link.ensures.link) ∙ c.in-Defend.is))
+
+pub returns-then-not-is_settled-clause-searching : goal.returns-then-not-is_settled-clause-searching
+returns-then-not-is_settled-clause-searching g c =
+    let unsettled : is_settled (numbers_at c.args.tree.now.numbers c.args.node) ≡ false = ap is_settled (sym c.numbers-numbers.ensures.numbers) ∙ sym c.is_settled.ensures.settled ∙ c.if-not-is_settled.true in
+    other-searches g.R.Rule.KIND c.args.self.now c.args.tree.now c.args.compiler.now c.args.node c.requires.searching
+    (inr (λ proved. let bad : false ≡ true = sym unsettled ∙ ap is_settled proved in cc))
+
+pub returns-then-numbers-ne0-clause-value : goal.returns-then-numbers-ne0-clause-value
+returns-then-numbers-ne0-clause-value g c =
+    let settled : is_settled (numbers_at c.args.tree.now.numbers c.args.node) ≡ true = ap is_settled (sym c.numbers-numbers.ensures.numbers) ∙ sym c.is_settled.ensures.settled ∙ c.if-not-is_settled.false in
+    let lost : numbers_at c.args.tree.now.numbers c.args.node ≡ settled_numbers false =
+    settled-lost (numbers_at c.args.tree.now.numbers c.args.node) settled (λ nothing. c.if-numbers-ne0.true (ap (λ (n : Numbers). n.proof) c.numbers-numbers.ensures.numbers ∙ nothing)) in
+    lost-there g.R.Rule.KIND c.args.self.now c.args.tree.now c.args.compiler.now c.args.node c.requires.searching c.requires.in_tree (ap (λ (l : Link). l.kind) (sym c.link.ensures.link) ∙ c.in-Attack.is) lost
+
+pub returns-then-numbers-ne0-clause-searching : goal.returns-then-numbers-ne0-clause-searching
+returns-then-numbers-ne0-clause-searching g c =
+    other-searches g.R.Rule.KIND c.args.self.now c.args.tree.now c.args.compiler.now c.args.node c.requires.searching
+    (inr (λ proved. c.if-numbers-ne0.true (ap (λ (n : Numbers). n.proof) (c.numbers-numbers.ensures.numbers ∙ proved))))
+
+pub returns-in-Ok-clause-value : goal.returns-in-Ok-clause-value
+returns-in-Ok-clause-value g c =
+    let settled : is_settled (numbers_at c.args.tree.now.numbers c.args.node) ≡ true = ap is_settled (sym c.numbers-numbers.ensures.numbers) ∙ sym c.is_settled.ensures.settled ∙ c.if-not-is_settled.false in
+    let won : numbers_at c.args.tree.now.numbers c.args.node ≡ settled_numbers true =
+    settled-won (numbers_at c.args.tree.now.numbers c.args.node) settled (ap (λ (n : Numbers). n.proof) (sym c.numbers-numbers.ensures.numbers) ∙ c.if-numbers-ne0.false) in (
+      c.in-Ok.ensures.win,
+      won-there g.R.Rule.KIND c.args.self.now c.args.tree.now c.args.compiler.now c.args.node c.requires.searching c.requires.in_tree (ap (λ (l : Link). l.kind) (sym c.link.ensures.link) ∙ c.in-Attack.is) won,
+    )

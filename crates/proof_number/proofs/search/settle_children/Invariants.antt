@@ -1,0 +1,13 @@
+use Rattle.std.proofs.Common.{◌≡◌, take}
+use Rattle.std.specs.List.{sum_by}
+use Rattle.proof_number.specs.Children.{AreSettled}
+use Rattle.proof_number.specs.Growth.{GrowsBy}
+use Rattle.proof_number.specs.Replies.{nodes_for}
+use Rattle.proof_number.proofs.search.settle_children.Given as goal
+
+-- the view is as before, the children so far are settled, and the compiler has grown by their nodes
+abbrev pub invariant-loop-child : goal.invariant-loop-child
+invariant-loop-child g l =
+    (g.V.Seen.position l.view ≡ g.V.Seen.position l.fn.view)
+    × AreSettled g.R.Rule.KIND l.left (g.V.Seen.position l.fn.view) l.compiler l.children l.child-index l.numbers.items l.notes.items
+    × GrowsBy l.fn.compiler l.compiler (sum_by (λ child. nodes_for child.judged) (take l.child-index l.children))

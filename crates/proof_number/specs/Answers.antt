@@ -1,0 +1,36 @@
+-- What the answers of the search for wins by threats say.
+use Rattle.std.specs.Prelude.{◌≡◌, ℕ, List, true, false}
+use Rattle.game_rules.specs.Grid.{Grid}
+use Rattle.game_rules.specs.Games.{WinsByFours, WinsByThreats, WinsWithin}
+use Rattle.game_rules.specs.declared.RuleKind.{RuleKind}
+use Rattle.strategy_graph.specs.declared.Node.{Node}
+use Rattle.strategy_compiler.specs.declared.wins.WrittenWin.{WrittenWin}
+use Rattle.strategy_compiler.specs.Wins.{IsWrittenWin}
+use Rattle.proof_tree.specs.Combining.{is_settled, settled_numbers}
+use Rattle.proof_tree.specs.declared.Numbers.{Numbers}
+use Rattle.proof_number.specs.declared.answer.ProofAnswer.{ProofAnswer}
+use Rattle.proof_number.specs.declared.answer.ProofAnswer.TheVariants.{Win, None, Spent}
+
+-- P holds of the win, if the answer is one
+abbrev pub OnWin : ProofAnswer → (WrittenWin → Type 0) → Type 0
+OnWin (Win win) P = P win
+OnWin None P = Unit {0}
+OnWin Spent P = Unit {0}
+
+-- A written win by threats: the side to move wins by threats within the limit, and wins within the moves of the win whatever the
+-- replies.
+pub record IsThreatWin (rule : RuleKind) (limit : ℕ) (b : Grid) (t : List Node) (win : WrittenWin) : Type 0 where
+  pub written : IsWrittenWin rule limit b t win
+  pub by_threats : WinsByThreats rule limit b
+  pub within : WinsWithin rule win.moves b
+
+-- there is no win by threats within the limit, and none by continuous fours
+pub record HasNoThreatWin (rule : RuleKind) (limit : ℕ) (b : Grid) : Type 0 where
+  pub no_threats : ¬ WinsByThreats rule limit b
+  pub no_fours : ¬ WinsByFours rule limit b
+
+-- what the numbers of the root say after each answer: it is proved, disproved, or not settled
+abbrev pub RootSays : ProofAnswer → Numbers → Type 0
+RootSays (Win win) n = n ≡ settled_numbers true
+RootSays None n = n ≡ settled_numbers false
+RootSays Spent n = is_settled n ≡ false

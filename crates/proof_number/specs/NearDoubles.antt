@@ -1,0 +1,43 @@
+-- Where a stone can make new double points.
+use Rattle.std.specs.Prelude.{◌≡◌, ℕ, ◌+◌, ◌==◌, Bool, true, false, ◌&&◌}
+use Rattle.std.specs.List.{list_any}
+use Rattle.game_rules.specs.Grid.{Grid, is_empty, put, points_of, axes}
+use Rattle.game_rules.specs.Games.{five_points, is_double_point}
+use Rattle.game_rules.specs.declared.RuleKind.{RuleKind}
+use Rattle.game_rules.specs.declared.Side.{Side}
+use Rattle.game_rules.specs.declared.Axis.{Axis}
+use Rattle.game_rules.specs.declared.Axis.TheVariants.{Row, Column, Down, Up}
+use Rattle.game_rules.specs.declared.Point.{Point}
+use Rattle.row_shapes.specs.FivePoints.{in_short}
+use Rattle.row_shapes.specs.declared.fives.FivePoints.{FivePoints}
+use Rattle.row_shapes.specs.declared.fives.FivePoints.TheVariants.{None as NoPoint, One, Several}
+use Rattle.threat_moves.specs.ThreeMoves.{is_several}
+
+-- whether q is on the line of the axis through p
+abbrev pub same_line : Axis → Point → Point → Bool
+same_line Row p q = q.y == p.y
+same_line Column p q = q.x == p.x
+same_line Down p q = q.x + p.y == p.x + q.y
+same_line Up p q = q.x + q.y == p.x + p.y
+
+-- whether two points are on one line of some axis
+abbrev pub is_aligned : Point → Point → Bool
+is_aligned p q = list_any (λ d. same_line d p q) axes
+
+-- whether there is a five point
+abbrev pub is_some_point : FivePoints → Bool
+is_some_point NoPoint = false
+is_some_point (One w) = true
+is_some_point Several = true
+
+-- whether the point is empty and a stone of the side on it leaves the side two five points or more
+abbrev pub makes_two : RuleKind → Grid → Side → Point → Bool
+makes_two rule b s q = is_empty b q && is_several (in_short (five_points rule (put b s q) s))
+
+-- whether some point does
+abbrev pub some_makes_two : RuleKind → Grid → Side → Bool
+some_makes_two rule b s = list_any (makes_two rule b s) (points_of b)
+
+-- a point on no line with p is no double point of the side
+pub record FarAreNone (rule : RuleKind) (b : Grid) (s : Side) (p : Point) : Type 0 where
+  pub none : (q : Point) → is_aligned p q ≡ false → is_double_point rule b s q ≡ false

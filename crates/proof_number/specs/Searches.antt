@@ -1,0 +1,209 @@
+-- What holds of a search between its steps: its tree stands for the game, won positions are written, and positions are counted.
+use Rattle.std.specs.Prelude.{◌≡◌, Result, Ok, Err, slice_set, ℕ, zero, suc, ◌+◌, ◌-◌, ◌<◌, ◌≤◌, Bool, true, false, ◌&&◌, not, nat_eq, if◌then◌else◌, List, [], ◌++◌, length}
+use Rattle.game_rules.specs.Grid.{Grid}
+use Rattle.game_rules.specs.Games.{WinsByThreats}
+use Rattle.game_rules.specs.declared.RuleKind.{RuleKind}
+use Rattle.strategy_graph.specs.declared.Node.{Node}
+use Rattle.strategy_compiler.specs.Nodes.{IsCompiled}
+use Rattle.strategy_compiler.specs.Wins.{IsWrittenWin}
+use Rattle.proof_tree.specs.Combining.{is_settled, settled_numbers}
+use Rattle.proof_tree.specs.Trees.{IsOnWayUp, IsTree, OthersStay, Tree, grown_links, leaf_sum, link_at, most_proving, numbers_at}
+use Rattle.proof_tree.specs.declared.Link.{Link}
+use Rattle.proof_tree.specs.declared.Numbers.{Numbers}
+use Rattle.proof_tree.specs.declared.Kind.{Kind}
+use Rattle.proof_tree.specs.declared.Kind.TheVariants.{Attack, Defend}
+use Rattle.proof_number.specs.declared.TheConstants.{MAX_DEPTH, MAX_BUDGET}
+use Rattle.proof_number.specs.declared.notes.Note.{Note}
+use Rattle.proof_number.specs.declared.search.Search.{Search}
+use Rattle.proof_number.specs.declared.search.Step.{Step}
+use Rattle.proof_number.specs.declared.search.Step.TheVariants.{Done, Spent}
+use Rattle.strategy_compiler.specs.declared.error.SearchError.{SearchError}
+use Rattle.strategy_compiler.specs.declared.wins.WrittenWin.{WrittenWin}
+use Rattle.proof_number.specs.ThreatGame.{behind_replies, threat_tree}
+use Rattle.proof_number.specs.Notes.{note_at, win_of}
+use Rattle.proof_number.specs.GameTrees.{GameTree, IsGameTree, board_at, left_at, noted_tree}
+use Rattle.proof_number.specs.Remembered.{IsTrueTable}
+
+-- the tree of the search as a tree of the game
+abbrev pub game_of : RuleKind → Search → Tree → GameTree
+game_of rule s t = noted_tree rule s.root t s.notes.items
+
+-- the search is for the same as before
+pub record IsSameAim (old new : Search) : Type 0 where
+  pub depth : new.depth ≡ old.depth
+  pub budget : new.budget ≡ old.budget
+  pub before : new.before ≡ old.before
+  pub root : new.root ≡ old.root
+
+-- a win by threats within so many moves that is written
+abbrev pub IsNotedWin : RuleKind → ℕ → Grid → List Node → WrittenWin → Type 0
+IsNotedWin rule n b c win = IsWrittenWin rule n b c win × WinsByThreats rule n b
+
+-- Notes tell wins by threats that are written at the boards of their nodes. Each proved node of the attacker has one, but for those for which
+-- way holds and that are no leaves. Open leaves have none, and no leaf of the defender is proved.
+pub record AreWritten (g : GameTree) (notes : List Note) (c : List Node) (way : ℕ → Type 0) : Type 0 where
+  pub true_wins : (i : ℕ) → i < length g.tree.links → 0 < (note_at notes i).moves → IsNotedWin g.rule (left_at g.left i) (board_at g i) c (win_of (note_at notes i))
+  pub fresh : (i : ℕ) → i < length g.tree.links → (link_at g.tree.links i).count ≡ 0 → is_settled (numbers_at g.tree.numbers i) ≡ false → (note_at notes i).moves ≡ 0
+  pub leaves : (i : ℕ) → i < length g.tree.links → (link_at g.tree.links i).count ≡ 0 → (link_at g.tree.links i).kind ≡ Attack → numbers_at g.tree.numbers i ≡ settled_numbers true → 0 < (note_at notes i).moves
+  pub defends : (i : ℕ) → i < length g.tree.links → (link_at g.tree.links i).count ≡ 0 → (link_at g.tree.links i).kind ≡ Defend → numbers_at g.tree.numbers i ≡ settled_numbers true → ⊥
+  pub all : (i : ℕ) → i < length g.tree.links → (link_at g.tree.links i).kind ≡ Attack → numbers_at g.tree.numbers i ≡ settled_numbers true → ¬ way i → 0 < (note_at notes i).moves
+
+-- the sum of f at the first n numbers
+unfoldable pub sum_below : ℕ → (ℕ → ℕ) → ℕ
+sum_below zero f = 0
+sum_below (suc n) f = sum_below n f + f n
+
+-- whether node i is a leaf that is not settled
+abbrev pub is_open_leaf : Tree → ℕ → Bool
+is_open_leaf t i = nat_eq (link_at t.links i).count 0 && not (is_settled (numbers_at t.numbers i))
+
+-- whether the kind is that of the attacker
+abbrev pub is_attack : Kind → Bool
+is_attack Attack = true
+is_attack Defend = false
+
+-- how many nodes are none of the open leaves
+abbrev pub closed_nodes : Tree → ℕ
+closed_nodes t = sum_below (length t.links) (λ i. if is_open_leaf t i then 0 else 1)
+
+-- how many positions of the attacker may be counted behind an open leaf
+abbrev pub attacks_behind : Kind → RuleKind → ℕ → Grid → ℕ
+attacks_behind Attack rule n b = threat_tree rule n b - 1
+attacks_behind Defend rule n b = behind_replies rule (threat_tree rule n) b
+
+-- how many positions of the defender may be counted behind an open leaf
+abbrev pub defences_behind : Kind → RuleKind → ℕ → Grid → ℕ
+defences_behind Attack rule n b = threat_tree rule n b - 1
+defences_behind Defend rule n b = behind_replies rule (threat_tree rule n) b - 1
+
+-- what is counted behind node i, if it is an open leaf
+abbrev pub behind_at : (Kind → RuleKind → ℕ → Grid → ℕ) → GameTree → ℕ → ℕ
+behind_at count g i = if is_open_leaf g.tree i then count (link_at g.tree.links i).kind g.rule (left_at g.left i) (board_at g i) else 0
+
+-- what is counted behind all open leaves
+abbrev pub behind_leaves : (Kind → RuleKind → ℕ → Grid → ℕ) → GameTree → ℕ
+behind_leaves count g = sum_below (length g.tree.links) (behind_at count g)
+
+-- So many positions of each side are counted: no more than the budget, and with those behind the open leaves no more than the game
+-- of threats has from the root. Each node counts as one. Once the root has
+-- children the numbers of all leaves add up to no more than there are nodes.
+pub record IsCounted (g : GameTree) (budget attacked defended : ℕ) : Type 0 where
+  pub attacks : attacked + behind_leaves attacks_behind g ≤ threat_tree g.rule (left_at g.left 0) g.start
+  pub defences : defended + behind_leaves defences_behind g ≤ threat_tree g.rule (left_at g.left 0) g.start
+  pub nodes : length g.tree.links ≤ attacked + defended
+  pub attacked_fits : attacked ≤ budget
+  pub defended_fits : defended ≤ budget
+  pub leaves : (kind : Kind) → 1 < length g.tree.links → leaf_sum kind g.tree.links g.tree.numbers ≤ length g.tree.links
+
+-- 1 for a node of the attacker whose note tells no win
+abbrev pub unwritten : Tree → List Note → ℕ → ℕ
+unwritten t notes i = if is_attack (link_at t.links i).kind && nat_eq (note_at notes i).moves 0 then 1 else 0
+
+-- What holds of a search, its tree and the nodes of its compiler between steps, and on the way back from a leaf, where the nodes
+-- for which way holds may be proved and have no win yet. No more nodes were added to the compiler than positions are counted,
+-- beside one for each node of the attacker without a win.
+pub record IsSearching (rule : RuleKind) (s : Search) (t : Tree) (c : List Node) (way : ℕ → Type 0) : Type 0 where
+  pub tree : IsTree t
+  pub game : IsGameTree (game_of rule s t)
+  pub depth : (note_at s.notes.items 0).left ≡ s.depth
+  pub depth_fits : s.depth ≤ MAX_DEPTH
+  pub budget_fits : s.budget ≤ MAX_BUDGET
+  pub written : AreWritten (game_of rule s t) s.notes.items c way
+  pub remembered : IsTrueTable rule c s.settled
+  pub counted : IsCounted (game_of rule s t) s.budget s.attacked s.defended
+  pub compiled : IsCompiled c
+  pub few : length c + sum_below (length t.links) (unwritten t s.notes.items) ≤ s.before + s.attacked
+
+-- the same as one word, which proofs open where they need a part of it
+unfoldable pub Searches : RuleKind → Search → Tree → List Node → (ℕ → Type 0) → Type 0
+Searches rule s t c way = IsSearching rule s t c way
+
+-- nothing but what is noted and remembered has changed, and the tree stands for the same game
+pub record KeepsTree (old new : Search) : Type 0 where
+  pub rest : new ≡ record old { notes = new.notes; settled = new.settled }
+  pub places : (rule : RuleKind) (t : Tree) → game_of rule new t ≡ game_of rule old t
+
+-- node j is above node i
+abbrev pub IsAbove : List Link → ℕ → ℕ → Type 0
+IsAbove links i j = IsOnWayUp links i j × (¬ (j ≡ i))
+
+-- The search is at the most-proving leaf of its tree, which is open: the view and the board are that of the leaf.
+pub record IsAtLeaf (rule : RuleKind) (s : Search) (t : Tree) (c : List Node) (leaf : ℕ) (view : Grid) : Type 0 where
+  pub searching : IsSearching rule s t c (λ i. ⊥)
+  pub root_open : is_settled (numbers_at t.numbers 0) ≡ false
+  pub leaf_is : leaf ≡ most_proving t
+  pub in_tree : leaf < length t.links
+  pub childless : (link_at t.links leaf).count ≡ 0
+  pub leaf_open : is_settled (numbers_at t.numbers leaf) ≡ false
+  pub view_is : view ≡ board_at (game_of rule s t) leaf
+  pub board_is : s.board ≡ board_at (game_of rule s t) leaf
+
+-- the same as one word
+unfoldable pub StandsAt : RuleKind → Search → Tree → List Node → ℕ → Grid → Type 0
+StandsAt rule s t c leaf view = IsAtLeaf rule s t c leaf view
+
+-- The leaf is settled or has children: all holds again but that proved nodes from the leaf up to the root may have no win, and one
+-- open leaf fewer is left to be closed.
+pub record HasGrown (rule : RuleKind) (old new : Search) (t u : Tree) (d : List Node) (leaf : ℕ) : Type 0 where
+  pub searching : IsSearching rule new u d (IsOnWayUp u.links leaf)
+  pub in_tree : leaf < length u.links
+  pub aim : IsSameAim old new
+  pub board : new.board ≡ old.board
+  pub place : board_at (game_of rule new u) leaf ≡ board_at (game_of rule old t) leaf
+  pub progress : closed_nodes t < closed_nodes u
+  pub longer : length t.links ≤ length u.links
+
+-- the same as one word
+unfoldable pub Grows : RuleKind → Search → Search → Tree → Tree → List Node → ℕ → Type 0
+Grows rule old new t u d leaf = HasGrown rule old new t u d leaf
+
+-- the budget is less than the game of threats has positions, and the tree is as it was
+pub record HasSpent (rule : RuleKind) (old new : Search) (t u : Tree) : Type 0 where
+  pub spent : old.budget < threat_tree rule old.depth old.root
+  pub same : u ≡ t
+  pub keeps : KeepsTree old new
+
+-- the tree is as it was
+pub record HasStayed (old new : Search) (t u : Tree) : Type 0 where
+  pub same : u ≡ t
+  pub keeps : KeepsTree old new
+
+-- what holds after a step: the first if it is done, the second if the budget is spent, and the third after a refusal
+abbrev pub OnStep : Result Step SearchError → Type 0 → Type 0 → Type 0 → Type 0
+OnStep (Ok Done) D S E = D
+OnStep (Ok Spent) D S E = S
+OnStep (Err e) D S E = E
+
+-- the leaf of the tree is settled, and only the numbers above it changed
+pub record IsSettledAt (t u : Tree) (leaf : ℕ) (proved : Bool) : Type 0 where
+  pub links : u.links ≡ t.links
+  pub settled : numbers_at u.numbers leaf ≡ settled_numbers proved
+  pub others : OthersStay t.links leaf t.numbers u.numbers
+  pub leaves : (kind : Kind) → leaf_sum kind u.links u.numbers ≤ leaf_sum kind t.links t.numbers
+  pub tree : IsTree u
+
+-- the leaf of the tree is given children with these numbers, and only the numbers above it changed
+pub record IsExpandedAt (t u : Tree) (leaf : ℕ) (more : List Numbers) : Type 0 where
+  pub links : u.links ≡ grown_links t.links leaf (length more)
+  pub others : OthersStay u.links leaf (t.numbers ++ more) u.numbers
+  pub children : (j : ℕ) → j < length more → numbers_at u.numbers (length t.links + j) ≡ numbers_at more j
+  pub leaves : (kind : Kind) → leaf_sum kind u.links u.numbers ≤ leaf_sum kind u.links (t.numbers ++ more)
+  pub tree : IsTree u
+
+-- the notes after node i is won
+abbrev pub noted_won : List Note → ℕ → WrittenWin → List Note
+noted_won notes i win = slice_set notes i (record (note_at notes i) { moves = win.moves; node = win.node })
+
+-- what a search begins with
+pub record IsNew (depth budget before : ℕ) (b : Grid) (s : Search) : Type 0 where
+  pub depth_is : s.depth ≡ depth
+  pub budget_is : s.budget ≡ budget
+  pub before_is : s.before ≡ before
+  pub root_is : s.root ≡ b
+  pub board_is : s.board ≡ b
+  pub one : length s.notes.items ≡ 1
+  pub left : (note_at s.notes.items 0).left ≡ depth
+  pub unwon : (note_at s.notes.items 0).moves ≡ 0
+  pub none : s.settled.entries ≡ []
+  pub attacked_is : s.attacked ≡ 1
+  pub defended_is : s.defended ≡ 0

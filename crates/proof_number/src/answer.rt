@@ -1,0 +1,87 @@
+//! The answer of the search.
+#![tactic(auto)]
+
+ghost use Rattle.std.specs.Prelude.{◌≡◌, ◌≤◌, ◌<◌, ◌+◌, ◌++◌, List, false, length, min, IfOk, IsErrOf};
+ghost use Rattle.strategy_graph.specs.declared.Node.{Node};
+ghost use Rattle.strategy_graph.specs.declared.TheConstants.{MAX_NODES};
+ghost use Rattle.proof_tree.specs.Combining.{is_settled};
+ghost use Rattle.proof_tree.specs.Trees.{IsTree, numbers_at};
+ghost use Rattle.proof_number.specs.declared.TheConstants.{MAX_DEPTH, MAX_BUDGET};
+ghost use Rattle.proof_number.specs.ThreatGame.{threat_tree};
+ghost use Rattle.proof_number.specs.Answers.{OnWin, IsThreatWin, HasNoThreatWin, RootSays};
+
+use crate::search::{Search, Step};
+use foul_judge::Seen;
+use proof_tree::ProofTree;
+use row_shapes::Rule;
+use std::alloc::Global;
+use strategy_compiler::{Compiler, SearchError, WrittenWin};
+
+/// What the search for a win by threats finds.
+#[derive(Clone, Copy, Debug, PartialEq, Eq)]
+pub enum ProofAnswer {
+    /// A win by threats within the depth.
+    Win(WrittenWin),
+    /// There is none.
+    None,
+    /// The game of threats has more positions than the budget.
+    Spent,
+}
+
+/// Searches a win by threats for the side to move within `depth` moves, 1 to `MAX_DEPTH`, with a budget of positions to look
+/// at, 1 to `MAX_BUDGET`. A position counts each time that the attacker is to move in it. The tree has one node, which is not
+/// settled, and grows.
+///
+/// - `Win` comes only where there is such a win. The node is accepted and wins within its moves, at most `depth`, whatever
+///   the replies. The root of the tree is proved.
+/// - `None` comes only where there is none within `depth` moves, and so none by continuous fours. The root is disproved.
+/// - `Spent` comes only where the game of threats has more positions within `depth` moves than the budget. The root is not
+///   settled.
+///
+/// `Full` comes only where the compiler has no room for as many nodes as positions may be counted; `Memory` where there is
+/// no memory. After each answer and refusal the view is as before, and the compiler's earlier nodes stay; the tree keeps the
+/// nodes that were made.
+pub fn proof_number<R: Rule, V: Seen<R>>(
+    alloc: Global,
+    view: &mut V,
+    depth: u32,
+    budget: u64,
+    tree: &mut ProofTree,
+    compiler: &mut Compiler,
+) -> Result<ProofAnswer, SearchError>
+    requires some_depth { 1 ≤ depth }
+    requires depth_fits { depth ≤ MAX_DEPTH }
+    requires some_budget { 1 ≤ budget }
+    requires budget_fits { budget ≤ MAX_BUDGET }
+    requires one_node { length tree.old.links ≡ 1 }
+    requires open { is_settled (numbers_at tree.old.numbers 0) ≡ false }
+    ensures win { IfOk result (λ a. OnWin a (IsThreatWin R.KIND depth (V.position view.old) compiler.new)) }
+    ensures none { IfOk result (λ a. a ≡ ProofAnswer.None → HasNoThreatWin R.KIND depth (V.position view.old)) }
+    ensures spent { IfOk result (λ a. a ≡ ProofAnswer.Spent → budget < threat_tree R.KIND depth (V.position view.old)) }
+    ensures root { IfOk result (λ a. RootSays a (numbers_at tree.new.numbers 0)) }
+
+    // What every answer and refusal leaves, and when the compiler is full.
+    ensures tree { IsTree tree.new }
+    ensures grows { length tree.old.links ≤ length tree.new.links }
+    ensures kept { (more : List Node) × (compiler.new ≡ compiler.old ++ more) }
+    ensures full { IsErrOf result SearchError.Full
+        → MAX_NODES < length compiler.old + min budget (threat_tree R.KIND depth (V.position view.old)) }
+    ensures full_now { IsErrOf result SearchError.Full → length compiler.new ≡ MAX_NODES }
+    ensures same { V.position view.new ≡ V.position view.old }
+{
+    // This tells what holds of every tree.
+    tree.len();
+    let before = compiler.len();
+    let mut search = Search::new(alloc, view.board(), depth as u8, budget, before)?;
+    search.begin::<R, V>(alloc, view, tree, compiler)?;
+    while !tree.numbers(0).is_settled() {
+        match search.step::<R, V>(alloc, view, tree, compiler)? {
+            Step::Done => {}
+            Step::Spent => return Ok(ProofAnswer::Spent),
+        }
+    }
+    match search.notes[0].win() {
+        Some(win) => Ok(ProofAnswer::Win(win)),
+        None => Ok(ProofAnswer::None),
+    }
+}

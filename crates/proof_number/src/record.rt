@@ -1,0 +1,259 @@
+//! Positions of the attacker that are settled: they are compiled, if they are won, and remembered.
+#![tactic(auto)]
+
+ghost use Rattle.std.specs.Prelude.{◌≡◌, ◌⊎◌, All, Some, slice_get, OnErr, ◌<◌, ◌≤◌, ◌+◌, ℕ, true, ◌++◌, List, map, take, drop, length, IfOk, IfSome, OnOk, IsErrOf};
+ghost use Rattle.strategy_graph.specs.declared.Node.{Node};
+ghost use Rattle.strategy_graph.specs.declared.TheConstants.{MAX_NODES};
+ghost use Rattle.position_table.specs.Packing.{packed};
+ghost use Rattle.position_table.specs.Remembering.{kept};
+ghost use Rattle.strategy_graph.specs.Tables.{answer_at, greatest, is_rising};
+ghost use Rattle.strategy_compiler.specs.Nodes.{IsCompiled, PutsIn, answering_node};
+ghost use Rattle.strategy_compiler.specs.Wins.{IsWrittenWin};
+ghost use Rattle.proof_tree.specs.Combining.{settled_numbers};
+ghost use Rattle.proof_tree.specs.Trees.{IsTree, IsChild, IsOnWayUp, link_at, numbers_at};
+ghost use Rattle.proof_tree.specs.declared.Kind.{Kind as AnyKind};
+ghost use Rattle.proof_number.specs.Notes.{note_at, answer_of};
+ghost use Rattle.proof_number.specs.GameTrees.{board_at, left_at};
+ghost use Rattle.proof_number.specs.Remembered.{IsTrueOf, IsTrueTable};
+ghost use Rattle.proof_number.specs.Searches.{Searches, IsAbove, KeepsTree, game_of, noted_won};
+
+use crate::notes::{Note, Settled};
+use crate::search::Search;
+use foul_judge::Seen;
+use position_table::PackedPosition;
+use proof_tree::{Kind, Link, ProofTree};
+use row_shapes::Rule;
+use std::alloc::{AllocError, Global};
+use stone_board::Point;
+use strategy_compiler::{Compiler, SearchError, WrittenWin};
+use strategy_graph::Reply;
+
+impl Search {
+    /// Compiles and remembers the position of a node, if it is an attacker's and settled. The view is at the node.
+    pub(crate) fn record<R: Rule, V: Seen<R>>(
+        &mut self,
+        alloc: Global,
+        view: &V,
+        tree: &ProofTree,
+        compiler: &mut Compiler,
+        node: u32,
+    ) -> Result<(), SearchError>
+        requires in_tree { node < length tree.now.links }
+        requires searching { Searches R.KIND self.old tree.now compiler.old (IsOnWayUp tree.now.links node) }
+        requires view { V.position view.now ≡ board_at (game_of R.KIND self.old tree.now) node }
+        ensures searching { OnOk result (Searches R.KIND self.new tree.now compiler.new (IsAbove tree.now.links node)) }
+        ensures keeps { KeepsTree self.old self.new }
+        ensures kept { (more : List Node) × (compiler.new ≡ compiler.old ++ more) }
+        ensures full { IsErrOf result SearchError.Full → MAX_NODES < self.old.before + self.old.attacked }
+        ensures full_now { IsErrOf result SearchError.Full → length compiler.new ≡ MAX_NODES }
+    {
+        match self.value_at::<R>(alloc, tree, compiler, node) {
+            Err(error) => Err(error),
+            Ok(None) => Ok(()),
+            Ok(Some(value)) => {
+                let moves = self.notes[node as usize].left as u32;
+                self.remember::<R, V>(view, moves, value);
+                Ok(())
+            }
+        }
+    }
+
+    /// What is known of a node of the attacker that is settled; the win is compiled.
+    fn value_at<R: Rule>(
+        &mut self,
+        alloc: Global,
+        tree: &ProofTree,
+        compiler: &mut Compiler,
+        node: u32,
+    ) -> Result<Option<Settled>, SearchError>
+        requires in_tree { node < length tree.now.links }
+        requires searching { Searches R.KIND self.old tree.now compiler.old (IsOnWayUp tree.now.links node) }
+        ensures value { IfOk result (λ found. IfSome found (IsTrueOf R.KIND compiler.new
+            (left_at (game_of R.KIND self.old tree.now).left node) (board_at (game_of R.KIND self.old tree.now) node))) }
+        ensures searching { OnOk result (Searches R.KIND self.new tree.now compiler.new (IsAbove tree.now.links node)) }
+        ensures keeps { KeepsTree self.old self.new }
+        ensures kept { (more : List Node) × (compiler.new ≡ compiler.old ++ more) }
+        ensures full { IsErrOf result SearchError.Full → MAX_NODES < self.old.before + self.old.attacked }
+        ensures full_now { IsErrOf result SearchError.Full → length compiler.new ≡ MAX_NODES }
+    {
+        match tree.link(node).kind {
+            Kind::Defend => Ok(None),
+            Kind::Attack => {
+                let numbers = tree.numbers(node);
+                if !numbers.is_settled() {
+                    return Ok(None);
+                }
+                if numbers.proof != 0 {
+                    return Ok(Some(Settled::Lost));
+                }
+                match self.compiled::<R>(alloc, tree, compiler, node) {
+                    Err(error) => Err(error),
+                    Ok(win) => Ok(Some(Settled::Won(win))),
+                }
+            }
+        }
+    }
+
+    /// The win of a proved node of the attacker, compiled if it is not yet.
+    fn compiled<R: Rule>(
+        &mut self,
+        alloc: Global,
+        tree: &ProofTree,
+        compiler: &mut Compiler,
+        node: u32,
+    ) -> Result<WrittenWin, SearchError>
+        requires in_tree { node < length tree.now.links }
+        requires searching { Searches R.KIND self.old tree.now compiler.old (IsOnWayUp tree.now.links node) }
+        requires attack { (link_at tree.now.links node).kind ≡ AnyKind.Attack }
+        requires proved { numbers_at tree.now.numbers node ≡ settled_numbers true }
+        ensures win { IfOk result (IsWrittenWin R.KIND (left_at (game_of R.KIND self.old tree.now).left node)
+            (board_at (game_of R.KIND self.old tree.now) node) compiler.new) }
+        ensures searching { OnOk result (Searches R.KIND self.new tree.now compiler.new (IsAbove tree.now.links node)) }
+        ensures keeps { KeepsTree self.old self.new }
+        ensures kept { (more : List Node) × (compiler.new ≡ compiler.old ++ more) }
+        ensures full { IsErrOf result SearchError.Full → MAX_NODES < self.old.before + self.old.attacked }
+        ensures full_now { IsErrOf result SearchError.Full → length compiler.new ≡ MAX_NODES }
+    {
+        match self.notes[node as usize].win() {
+            Some(win) => Ok(win),
+            None => self.compile::<R>(alloc, tree, compiler, node),
+        }
+    }
+
+    /// Compiles the win of a proved node of the attacker of the wins after each reply to the first move that is proved.
+    fn compile<R: Rule>(
+        &mut self,
+        alloc: Global,
+        tree: &ProofTree,
+        compiler: &mut Compiler,
+        node: u32,
+    ) -> Result<WrittenWin, SearchError>
+        requires in_tree { node < length tree.now.links }
+        requires searching { Searches R.KIND self.old tree.now compiler.old (IsOnWayUp tree.now.links node) }
+        requires attack { (link_at tree.now.links node).kind ≡ AnyKind.Attack }
+        requires proved { numbers_at tree.now.numbers node ≡ settled_numbers true }
+        requires unwritten { (note_at self.old.notes.items node).moves ≡ 0 }
+        ensures win { IfOk result (IsWrittenWin R.KIND (left_at (game_of R.KIND self.old tree.now).left node)
+            (board_at (game_of R.KIND self.old tree.now) node) compiler.new) }
+        ensures searching { OnOk result (Searches R.KIND self.new tree.now compiler.new (IsAbove tree.now.links node)) }
+        ensures keeps { KeepsTree self.old self.new }
+        ensures kept { (more : List Node) × (compiler.new ≡ compiler.old ++ more) }
+        ensures full { IsErrOf result SearchError.Full → MAX_NODES < self.old.before + self.old.attacked }
+        ensures full_now { IsErrOf result SearchError.Full → length compiler.new ≡ MAX_NODES }
+    {
+        let proved = first_proved(tree, node);
+        let link = tree.link(proved);
+        let attack = self.notes[proved as usize].at;
+        let notes = kids(self.notes.as_slice(), link);
+        match compile_answers(alloc, compiler, attack, notes) {
+            Err(error) => Err(error),
+            Ok(win) => {
+                self.note_win(node, win);
+                Ok(win)
+            }
+        }
+    }
+
+    /// Notes the win of a node.
+    pub(crate) fn note_win(&mut self, node: u32, win: WrittenWin)
+        requires noted { node < length self.old.notes.items }
+        requires few { win.moves < 256 }
+        ensures notes { self.new.notes.items ≡ noted_won self.old.notes.items node win }
+        ensures rest { self.new ≡ record self.old { notes = self.new.notes } }
+    {
+        self.notes[node as usize] = self.notes[node as usize].won(win);
+    }
+
+    /// Remembers what is known of the position of the view within so many moves.
+    fn remember<R: Rule, V: Seen<R>>(&mut self, view: &V, moves: u32, value: Settled)
+        ensures settled { (self.new.settled ≡ kept (packed (V.position view.now), moves) value self.old.settled)
+            ⊎ (self.new.settled ≡ self.old.settled) }
+        ensures rest { self.new ≡ record self.old { settled = self.new.settled } }
+    {
+        // Without memory the position is not remembered, and nothing else changes.
+        let _ = self
+            .settled
+            .keep(PackedPosition::of(view.board()), moves, value);
+    }
+}
+
+/// Compiles the node that plays this attack and answers the replies with the nodes of these notes.
+fn compile_answers(
+    alloc: Global,
+    compiler: &mut Compiler,
+    attack: Point,
+    notes: &[Note],
+) -> Result<WrittenWin, SearchError>
+    requires rising { is_rising (map answer_of notes.now) ≡ true }
+    requires below { All (λ r. r.next < length compiler.old) (map answer_of notes.now) }
+    ensures node { IfOk result (λ win. slice_get compiler.new win.node ≡ Some (answering_node attack (map answer_of notes.now))) }
+    ensures answers { IfOk result
+        (λ win. All (λ r. answer_at compiler.new win.node r.at ≡ Some r.next) (map answer_of notes.now)) }
+    ensures moves { IfOk result (λ win. win.moves ≡ greatest (map (λ n. n.moves) notes.now) + 1) }
+    ensures compiled { OnOk result (IsCompiled compiler.new) }
+    ensures put_in { OnOk result
+        (PutsIn compiler.old (answering_node attack (map answer_of notes.now)) compiler.new) }
+    ensures unchanged { OnErr result (compiler.new ≡ compiler.old) }
+    ensures full { IsErrOf result SearchError.Full → length compiler.old ≡ MAX_NODES }
+{
+    let answers = answers_of(alloc, notes)?;
+    let most = most_moves(notes);
+    let node = compiler.node(attack, answers.as_slice())?;
+    Ok(WrittenWin {
+        node,
+        moves: most + 1,
+    })
+}
+
+/// The notes of the children of a node with this link.
+fn kids(notes: &[Note], link: Link) -> &[Note]
+    requires fits { link.first + link.count ≤ length notes.now }
+    ensures kids { result.now ≡ take link.count (drop link.first notes.now) }
+{
+    let first = link.first as usize;
+    &notes[first..first + link.count as usize]
+}
+
+/// The answers to the replies that lead to the nodes with these notes.
+fn answers_of(alloc: Global, notes: &[Note]) -> Result<Vec<Reply>, AllocError>
+    ensures all { IfOk result (λ all. all.items ≡ map answer_of notes.now) }
+{
+    notes
+        .iter()
+        .map(|note| Reply {
+            at: note.at,
+            next: note.node,
+        })
+        .collect(alloc)
+}
+
+/// The most moves that the wins of the nodes with these notes take.
+fn most_moves(notes: &[Note]) -> u32
+    ensures most { result ≡ greatest (map (λ n. n.moves) notes.now) }
+    ensures few { result < 256 }
+{
+    let mut most: u32 = 0;
+    for note in notes {
+        most = most.max(u32::from(note.moves));
+    }
+    most
+}
+
+/// The first child of a proved node of the attacker that is proved.
+fn first_proved(tree: &ProofTree, node: u32) -> u32
+    requires in_tree { node < length tree.now.links }
+    requires some { 0 < (link_at tree.now.links node).count }
+    requires attack { (link_at tree.now.links node).kind ≡ AnyKind.Attack }
+    requires proved { numbers_at tree.now.numbers node ≡ settled_numbers true }
+    ensures child { IsChild (link_at tree.now.links node) result }
+    ensures proved { (numbers_at tree.now.numbers result).proof ≡ 0 }
+{
+    let _len = tree.len();
+    let link = tree.link(node);
+    for i in link.first..link.first + link.count {
+        if tree.numbers(i).proof == 0 {
+            return i;
+        }
+    }
+    unreachable!()
+}

@@ -1,0 +1,136 @@
+//! Searches on worked positions, and what the tree shows after them.
+use crate::{ProofAnswer, proof_number};
+use foul_judge::Position;
+use proof_tree::{INFINITE, Numbers, ProofTree};
+use row_shapes::{Freestyle, Renju, Rule};
+use std::alloc::Global;
+use std::process::Abort;
+use std::test::Fail;
+use stone_board::{Board, Point, Side};
+use strategy_compiler::Compiler;
+
+fn add(board: &mut Board, side: Side, stones: &[(u8, u8)]) {
+    for (x, y) in stones {
+        let p = Point { x: *x, y: *y };
+        if board.is_empty(p) {
+            board.put(p, side);
+        }
+    }
+}
+
+/// The four stones round a point that make a three on two axes: the three in the middle wins within three moves.
+const CROSS: [(u8, u8); 4] = [(7, 6), (6, 7), (8, 7), (7, 8)];
+
+const CORNERS: [(u8, u8); 4] = [(0, 0), (14, 0), (0, 14), (14, 14)];
+
+const FIVE_AND_SIX: [(u8, u8); 9] = [
+    (7, 4),
+    (7, 5),
+    (7, 6),
+    (3, 7),
+    (4, 7),
+    (5, 7),
+    (6, 7),
+    (7, 8),
+    (7, 9),
+];
+
+const EDGES: [(u8, u8); 9] = [
+    (0, 0),
+    (4, 0),
+    (10, 0),
+    (14, 0),
+    (2, 7),
+    (0, 14),
+    (4, 14),
+    (10, 14),
+    (14, 14),
+];
+
+/// What a search answers, in numbers: the moves of a win, 0 where there is none, and 100 where the budget is spent; with the
+/// numbers of the root, and the count of the nodes of its tree.
+fn searched<R: Rule>(
+    rt: &impl Abort,
+    alloc: Global,
+    black: &[(u8, u8)],
+    white: &[(u8, u8)],
+    depth: u32,
+    budget: u64,
+) -> Result<(u32, Numbers, u32), Fail> {
+    let mut board = Board::empty(alloc, 15, 15)?;
+    add(&mut board, Side::Black, black);
+    add(&mut board, Side::White, white);
+    let Ok(mut view) = Position::<R>::from_board(board) else {
+        return Err(Fail::from("unlawful"));
+    };
+    let mut tree = ProofTree::new(alloc)?;
+    let mut compiler = Compiler::new(alloc);
+    assert!(rt; depth > 0 && depth < 10 && budget > 0 && budget < 100_000);
+    let found = proof_number::<R, Position<R>>(
+        alloc,
+        &mut view,
+        depth,
+        budget,
+        &mut tree,
+        &mut compiler,
+    );
+    let moves = match found {
+        Ok(ProofAnswer::Win(win)) => win.moves,
+        Ok(ProofAnswer::None) => 0,
+        Ok(ProofAnswer::Spent) => 100,
+        Err(_) => return Err(Fail::from("refused")),
+    };
+    let len = tree.len();
+    assert!(rt; len > 0);
+    Ok((moves, tree.numbers(0), len))
+}
+
+#[test]
+fn two_moves_do_not_win_by_a_quiet_three(rt: HostRuntime) -> Result<(), Fail> {
+    let alloc = rt.alloc();
+    let (moves, root, len) = searched::<Freestyle>(&rt, alloc, &CROSS, &CORNERS, 2, 50_000)?;
+    assert_eq!(rt; moves, 0);
+    assert_eq!(rt;
+        root,
+        Numbers {
+            proof: INFINITE,
+            disproof: 0
+        }
+    );
+    assert!(rt; len > 1);
+    Ok(())
+}
+
+#[test]
+fn three_moves_win_by_a_quiet_three(rt: HostRuntime) -> Result<(), Fail> {
+    let alloc = rt.alloc();
+    let (moves, root, _) = searched::<Freestyle>(&rt, alloc, &CROSS, &CORNERS, 3, 50_000)?;
+    assert_eq!(rt; moves, 3);
+    assert_eq!(rt;
+        root,
+        Numbers {
+            proof: 0,
+            disproof: INFINITE
+        }
+    );
+    Ok(())
+}
+
+#[test]
+fn a_five_wins_at_once(rt: HostRuntime) -> Result<(), Fail> {
+    let alloc = rt.alloc();
+    let (moves, _, len) = searched::<Renju>(&rt, alloc, &FIVE_AND_SIX, &EDGES, 1, 1)?;
+    assert_eq!(rt; moves, 1);
+    assert_eq!(rt; len, 1);
+    Ok(())
+}
+
+#[test]
+fn one_position_is_not_enough(rt: HostRuntime) -> Result<(), Fail> {
+    let alloc = rt.alloc();
+    let (moves, root, _) = searched::<Freestyle>(&rt, alloc, &CROSS, &CORNERS, 3, 1)?;
+    assert_eq!(rt; moves, 100);
+    let settled = root.is_settled();
+    assert!(rt; !settled);
+    Ok(())
+}
