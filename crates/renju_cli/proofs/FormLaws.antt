@@ -6,7 +6,7 @@ use Rattle.std.specs.Str.Parse.{digits_value}
 use Rattle.std.specs.Fmt.{decimal}
 use Rattle.std.proofs.lemmas.Fmt.{decimal_is_IsNumeral}
 use Rattle.renju_cli.specs.declared.commands.Form.{Form}
-use Rattle.renju_cli.specs.declared.commands.Form.TheVariants.{Check, Foul, Fours, Threats, Brain, BrainWith, Drill}
+use Rattle.renju_cli.specs.declared.commands.Form.TheVariants.{Check, Foul, Fours, Threats, Solve, Brain, BrainWith, Drill}
 use Rattle.renju_cli.specs.declared.TheConstants.{MAX_WORK}
 use Rattle.renju_cli.specs.Commands.{command, IsForm, HasForm}
 
@@ -20,9 +20,10 @@ form_told words =
     if bytes_eq (get_or words 0 []) (codes "check") then Check (number_at words 1)
     else (if bytes_eq (get_or words 0 []) (codes "fours") then Fours (number_at words 1) (number_at words 2)
     else (if bytes_eq (get_or words 0 []) (codes "threats") then Threats (number_at words 1) (number_at words 2)
+    else (if bytes_eq (get_or words 0 []) (codes "solve") then Solve (number_at words 1) (number_at words 2)
     else (if bytes_eq (get_or words 0 []) (codes "foul") then Foul
     else (if bytes_eq (get_or words 0 []) (codes "drill") then Drill (number_at words 1)
-    else (if nat_lt 1 (length words) then BrainWith else Brain)))))
+    else (if nat_lt 1 (length words) then BrainWith else Brain))))))
 
 number-written : (n : ℕ) → n ≤ MAX_WORK → digits_value 10 (decimal n) ≡ n
 number-written n few = let d = decimal_is_IsNumeral n (omega (arith, few)) in d.1
@@ -46,6 +47,12 @@ form-spelled words (Threats limit nodes) range =
     let limits = number-written limit (omega (arith, limit_most)) in
     let budgets = number-written nodes (omega (arith, nodes_most)) in
     λ i. Threats (limits i) (budgets i)
+form-spelled words (Solve depth nodes) range =
+    let depth_most = range.1 in
+    let nodes_most = range.3 in
+    let depths = number-written depth (omega (arith, depth_most)) in
+    let budgets = number-written nodes (omega (arith, nodes_most)) in
+    λ i. Solve (depths i) (budgets i)
 
 pub told-form : (words : List (List ℕ)) (form : Form) → IsForm words form → form_told words ≡ form
 told-form words form is = ap form_told is.spelled ∙ form-spelled words form is.in_range

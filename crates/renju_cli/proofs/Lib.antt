@@ -7,6 +7,8 @@ mod FoulLaws
 mod PositionLaws
 mod FoursLaws
 mod ThreatsLaws
+mod SolveLaws
+mod Solutions
 mod BrainLaws
 mod DrillBoards
 mod DrillTelling

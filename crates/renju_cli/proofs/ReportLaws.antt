@@ -1,13 +1,14 @@
 -- What follows of a run from its report: the command of its form did what it does, and so answered where it is sure to.
 use Rattle.std.proofs.Common.{◌≡◌, inl, inr, sym, ap, subst, ℕ, List}
 use Rattle.renju_cli.specs.declared.commands.Form.{Form}
-use Rattle.renju_cli.specs.declared.commands.Form.TheVariants.{Check, Foul, Fours, Threats, Brain, BrainWith, Drill}
+use Rattle.renju_cli.specs.declared.commands.Form.TheVariants.{Check, Foul, Fours, Threats, Solve, Brain, BrainWith, Drill}
 use Rattle.renju_cli.specs.Runs.{Run}
 use Rattle.renju_cli.specs.Forms.{HasWords}
 use Rattle.renju_cli.specs.Checks.{check_command, ShowsWin}
 use Rattle.renju_cli.specs.Fouls.{foul_command}
 use Rattle.renju_cli.specs.Fours.{fours_command, ShowsSearch}
 use Rattle.renju_cli.specs.Threats.{threats_command, ShowsSequence}
+use Rattle.renju_cli.specs.Solves.{solve_command, ShowsSolution}
 use Rattle.renju_cli.specs.Brains.{brain_with_words, IsFileName, second_word, IsBrainWith, ShowsHeldGames}
 use Rattle.renju_cli.specs.Drills.{ShowsDrill}
 use Rattle.renju_cli.specs.Commands.{command, IsForm}
@@ -20,6 +21,7 @@ use Rattle.renju_cli.proofs.BrainLaws.{brain-answers, brain-with-answers, brain-
 use Rattle.renju_cli.proofs.FoursLaws.{fours-answers, fours-searched}
 use Rattle.renju_cli.proofs.DrillLaws.{drill-answers, drill-shown}
 use Rattle.renju_cli.proofs.ThreatsLaws.{threats-answers, threats-searched}
+use Rattle.renju_cli.proofs.SolveLaws.{solve-answers, solve-shown}
 
 -- the command of the words did what it does
 does-of : (run : Run) → Report run → (form : Form) → IsForm run.words form → (command run.words form).Does run
@@ -35,6 +37,7 @@ answers BrainWith run does = brain-with-answers (second_word run.words) run does
 answers (Drill number) run does = drill-answers number run does
 answers (Fours depth nodes) run does = answers-told (fours_command depth nodes) (fours-answers depth nodes) run does
 answers (Threats limit nodes) run does = answers-told (threats_command limit nodes) (threats-answers limit nodes) run does
+answers (Solve depth nodes) run does = answers-told (solve_command depth nodes) (solve-answers depth nodes) run does
 
 -- what `brain FILE` did with its second word is the report of its run
 pub file-reported : (run : Run) (name : List ℕ) → IsForm run.words BrainWith → name ≡ second_word run.words → IsBrainWith name run → Report run
@@ -61,3 +64,6 @@ report-drilled run report n is done = drill-shown n run (does-of run report (Dri
 
 pub report-sequences : (run : Run) → Report run → ShowsSequence run
 report-sequences run report limit nodes is = threats-searched limit nodes run (does-of run report (Threats limit nodes) is)
+
+pub report-solved : (run : Run) → Report run → ShowsSolution run
+report-solved run report depth nodes is = solve-shown depth nodes run (does-of run report (Solve depth nodes) is)

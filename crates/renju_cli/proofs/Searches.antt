@@ -14,7 +14,7 @@ use Rattle.renju_cli.specs.declared.answer.Answer.{Answer}
 use Rattle.renju_cli.specs.declared.status.Status.TheVariants.{Done, NotFound}
 use Rattle.renju_cli.specs.Fours.{none_line, IsFourText, SearchSays}
 
-not-above : (n m : ℕ) → (n < m → ⊥) → m ≤ n
+pub not-above : (n m : ℕ) → (n < m → ⊥) → m ≤ n
 not-above n m h = elim (cases_lt n m) [ inl more ↦ absurd (h more) | inr less ↦ less ]
 
 -- the answer that has the text of a win's table is what is said of the position

@@ -20,7 +20,7 @@ use Rattle.brain_session.specs.Sessions.{answers_from, state_after, session_text
 use Rattle.brain_session.specs.Serving.{Served, HasAnswered, HasNoEnd, IsReadToEnd, StopsAtRead, StopsAtWrite, StopsAtStep, within_limit, IsTooLong}
 use Rattle.brain_session.specs.HeldGames.{BeginsHeldGame, HeldGameGoesWell, IsTight}
 use Rattle.renju_cli.specs.declared.status.Status.{Status}
-use Rattle.renju_cli.specs.declared.status.Status.TheVariants.{Done, Usage, ShelfFault, RefusedText, RefusedTable, Spent, Memory, ReadFault, WriteFault, NotFound, TooLong}
+use Rattle.renju_cli.specs.declared.status.Status.TheVariants.{Done, Usage, ShelfFault, RefusedText, RefusedTable, Spent, Memory, ReadFault, WriteFault, NotFound, TooLong, Full}
 use Rattle.renju_cli.specs.declared.brain.Loaded.{Loaded}
 use Rattle.renju_cli.specs.declared.brain.Loaded.TheVariants.{Holds, Tells}
 use Rattle.renju_cli.specs.declared.TheConstants.{BRAIN_WORK}
@@ -77,6 +77,7 @@ EndsSession v input output RefusedText = ⊥
 EndsSession v input output RefusedTable = ⊥
 EndsSession v input output Spent = ⊥
 EndsSession v input output NotFound = ⊥
+EndsSession v input output Full = ⊥
 
 -- the status of a session that ended so
 abbrev pub session_status : Result (Unit {0}) ServeError → Status

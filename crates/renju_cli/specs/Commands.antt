@@ -1,13 +1,14 @@
 -- The commands, by their forms of words.
 use Rattle.std.specs.Prelude.{ℕ, List}
 use Rattle.renju_cli.specs.declared.commands.Form.{Form}
-use Rattle.renju_cli.specs.declared.commands.Form.TheVariants.{Check, Foul, Fours, Threats, Brain, BrainWith, Drill}
+use Rattle.renju_cli.specs.declared.commands.Form.TheVariants.{Check, Foul, Fours, Threats, Solve, Brain, BrainWith, Drill}
 use Rattle.renju_cli.specs.Forms.{Command, IsSpelled}
 use Rattle.renju_cli.specs.Told.{told}
 use Rattle.renju_cli.specs.Checks.{check_command}
 use Rattle.renju_cli.specs.Fouls.{foul_command}
 use Rattle.renju_cli.specs.Fours.{fours_command}
 use Rattle.renju_cli.specs.Threats.{threats_command}
+use Rattle.renju_cli.specs.Solves.{solve_command}
 use Rattle.renju_cli.specs.Brains.{second_word, brain_command, brain_with_command}
 use Rattle.renju_cli.specs.Drills.{drill_command}
 
@@ -17,6 +18,7 @@ command words (Check work) = told (check_command work)
 command words Foul = told foul_command
 command words (Fours depth nodes) = told (fours_command depth nodes)
 command words (Threats limit nodes) = told (threats_command limit nodes)
+command words (Solve depth nodes) = told (solve_command depth nodes)
 command words Brain = brain_command
 command words BrainWith = brain_with_command (second_word words)
 command words (Drill number) = drill_command number

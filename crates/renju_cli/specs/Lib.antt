@@ -10,6 +10,7 @@ pub mod Checks
 pub mod Fouls
 pub mod Fours
 pub mod Threats
+pub mod Solves
 pub mod Brains
 -- the drill: its draws and positions, its games, and the command
 pub mod Draws

@@ -1,7 +1,7 @@
 -- The statuses of the program and their numbers.
 use Rattle.std.specs.Prelude.{ℕ}
 use Rattle.renju_cli.specs.declared.status.Status.{Status}
-use Rattle.renju_cli.specs.declared.status.Status.TheVariants.{Done, Usage, ShelfFault, RefusedText, RefusedTable, Spent, Memory, ReadFault, WriteFault, NotFound, TooLong}
+use Rattle.renju_cli.specs.declared.status.Status.TheVariants.{Done, Usage, ShelfFault, RefusedText, RefusedTable, Spent, Memory, ReadFault, WriteFault, NotFound, TooLong, Full}
 
 -- the number that the program ends with
 abbrev pub status_number : Status → ℕ
@@ -16,3 +16,4 @@ status_number ReadFault = 7
 status_number WriteFault = 8
 status_number NotFound = 9
 status_number TooLong = 11
+status_number Full = 12

@@ -1,4 +1,6 @@
 //! What is due for words and an input: a status, and the text that goes with it.
+//!
+//! A command works out all of its answer before a byte of it is written, so a run writes one text or none.
 #![tactic(auto)]
 
 ghost use Rattle.std.specs.Prelude.{◌≡◌, IfOk};

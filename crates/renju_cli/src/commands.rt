@@ -14,15 +14,16 @@ use crate::check::Check;
 use crate::drill::drill;
 use crate::fouls::ListFouls;
 use crate::fours::Fours;
+use crate::solve::Solve;
 use crate::threats::FindSequence;
 use crate::told::{deliver, tell};
-use crate::{Status, brain, check, drill as drill_words, fouls, fours, threats};
+use crate::{Status, brain, check, drill as drill_words, fouls, fours, solve, threats};
 use renju_io::{Shelf, Sink, Source};
 use std::alloc::Global;
 
 /// The line that words without a form are answered with.
 pub const USAGE: &str =
-    "usage: renju check WORK, foul, fours DEPTH NODES, threats LENGTH NODES, solve DEPTH NODES, brain [FILE], drill N, image SYMMETRY, referee [FILE], defend DEPTH NODES, bind FILE .., book WORK\n";
+    "usage: renju check WORK, foul, fours DEPTH NODES, threats LENGTH NODES, solve DEPTH NODES, brain [FILE], drill N\n";
 
 /// A form of words: the command and its numbers.
 #[derive(Clone, Copy, Debug, PartialEq, Eq)]
@@ -35,6 +36,8 @@ pub enum Form {
     Fours { depth: u32, nodes: u64 },
     /// `threats LENGTH NODES`, with LENGTH from 1 to `MAX_LENGTH` and NODES from 1 to `MAX_SEARCHED`.
     Threats { length: u32, nodes: u64 },
+    /// `solve DEPTH NODES`, with DEPTH and NODES as those of `fours`.
+    Solve { depth: u32, nodes: u64 },
     /// `brain`.
     Brain,
     /// `brain FILE`, with a FILE that is not empty. It is the second word.
@@ -55,6 +58,7 @@ pub(crate) fn form_of(words: &[String]) -> Option<Form>
         "foul" => fouls::form(rest),
         "fours" => fours::form(rest),
         "threats" => threats::form(rest),
+        "solve" => solve::form(rest),
         "brain" => brain::form(rest),
         "drill" => drill_words::form(rest),
         _ => None,
@@ -85,6 +89,7 @@ pub(crate) fn run<I: Source, O: Sink, F: Shelf>(
             input,
             output,
         ),
+        Some(Form::Solve { depth, nodes }) => tell(alloc, &Solve { depth, nodes }, input, output),
         Some(Form::Brain) => play(alloc, None, input, output),
         Some(Form::BrainWith) => play_with(alloc, words[1].as_str(), input, output, shelf),
         Some(Form::Drill { number }) => drill(alloc, number, output),

@@ -1,4 +1,6 @@
 //! What the drill counts.
+//!
+//! The counts of a part are added to those of the rest: so what is counted doesn't depend on the order of the games.
 #![tactic(auto)]
 
 ghost use Rattle.std.specs.Prelude.{◌≡◌, ◌+◌, ◌<◌};

@@ -6,9 +6,11 @@
 
 ghost use Rattle.std.specs.Prelude.{◌≡◌, ◌≤◌, ◌∷◌, ℕ, codes, map, IfOk, MatchOption, string_bytes};
 ghost use Rattle.game_rules.specs.Play.{IsPosition};
+ghost use Rattle.strategy_compiler.specs.Wins.{IsWrittenWin};
 ghost use Rattle.four_search.specs.Answers.{IsFourWin};
 ghost use Rattle.renju_cli.specs.Commands.{IsForm, HasForm};
 ghost use Rattle.renju_cli.specs.Fours.{SearchSays, IsFourText, none_line};
+ghost use Rattle.renju_cli.specs.Solves.{IsWinText};
 
 use crate::answer::{Answer, spent};
 use crate::numbers::count;
@@ -107,18 +109,20 @@ fn search_under<R: Rule>(
     }
 }
 
-/// The table of a win by fours, as a text.
-fn win_text(
+/// The table of a win, as a text: by fours, or any.
+pub(crate) fn win_text(
     alloc: Global,
     kind: RuleKind,
     board: &Board,
     compiler: Compiler,
     win: WrittenWin,
 ) -> Result<Answer, AllocError>
-    requires win { (limit : ℕ) × (limit ≤ MAX_DEPTH) × IsFourWin kind limit board.now compiler win }
+    requires win { (limit : ℕ) × (limit ≤ MAX_DEPTH) × IsWrittenWin kind limit board.now compiler win }
     ensures status { IfOk result (λ answer. answer.status ≡ Status.Done) }
     ensures text { IfOk result (λ answer. (limit : ℕ) → IsFourWin kind limit board.now compiler win
         → IsFourText limit (record { kind = kind; board = board.now }) answer.text.items) }
+    ensures shown { IfOk result (λ answer. (limit : ℕ) → IsWrittenWin kind limit board.now compiler win
+        → IsWinText limit (record { kind = kind; board = board.now }) answer.text.items) }
 {
     let table = compiler.finish_win(win)?;
     let root = Root::Attack(table.len() - 1);

@@ -19,6 +19,7 @@ mod numbers;
 mod positions;
 mod refusals;
 mod run;
+mod solve;
 mod status;
 mod threats;
 mod told;
@@ -33,7 +34,7 @@ pub const MAX_WORK: u64 = 1_000_000_000_000;
 /// The most arrivals that `brain` allows the table of its FILE.
 pub const BRAIN_WORK: u64 = 2_000_000;
 
-/// The most positions that `fours`, and the most lists of threats that `threats`, may be allowed to look at.
+/// The most positions that `fours` and `solve`, and the most lists of threats that `threats`, may be allowed to look at.
 pub const MAX_SEARCHED: u64 = 10_000_000;
 
 /// The greatest number of a drill.

@@ -1,4 +1,6 @@
 //! Numbers among the words of a command.
+//!
+//! One spelling a number: no sign, no leading zero, nothing after the digits.
 #![tactic(auto)]
 
 ghost use Rattle.std.specs.Prelude.{◌≡◌, ◌≤◌, string_bytes};

@@ -1,4 +1,7 @@
 //! What is said of a text that is refused: a line with the fault that it has.
+//!
+//! Each fault of a text has a line of its own, with the place of the fault where it has one: the first that is found, in the
+//! order of the text.
 #![tactic(auto)]
 
 ghost use Rattle.std.specs.Prelude.{◌≡◌, ◌≢◌, ◌++◌, IfOk, Ok, string_bytes};

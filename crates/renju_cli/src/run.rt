@@ -9,6 +9,7 @@ ghost use Rattle.renju_cli.specs.Runs.{change, run_of, KeepsDevices};
 ghost use Rattle.renju_cli.specs.Checks.{ShowsWin};
 ghost use Rattle.renju_cli.specs.Fours.{ShowsSearch};
 ghost use Rattle.renju_cli.specs.Threats.{ShowsSequence};
+ghost use Rattle.renju_cli.specs.Solves.{ShowsSolution};
 ghost use Rattle.renju_cli.specs.Brains.{ShowsHeldGames};
 ghost use Rattle.renju_cli.specs.Drills.{ShowsDrill};
 ghost use Rattle.renju_cli.specs.Reports.{Report, IsComplete};
@@ -21,8 +22,8 @@ use std::alloc::Global;
 /// the shelf, writes to the output, and answers the status to exit with.
 ///
 /// The status and the text that are due are those of `Status` and of the commands. Words without a form get the usage line
-/// and status 1, and leave the input unasked, as `drill` does. `check`, `foul`, `fours` and `threats` speak of an input only once it
-/// was read to its end; a brain answers each line before it reads the next. Only `brain FILE` asks the shelf, and no command
+/// and status 1, and leave the input unasked, as `drill` does. `check`, `foul`, `fours`, `threats` and `solve` speak of an input only
+/// once it was read to its end; a brain answers each line before it reads the next. Only `brain FILE` asks the shelf, and no command
 /// changes it. A failing
 /// output gives status 8 in place of the status that was due, and the output then has the front of the text; want of memory
 /// gives 6 and a failing input 7, and then nothing is written, or by a brain that serves the answers to the lines before.
@@ -46,6 +47,10 @@ pub fn run_renju<I: Source, O: Sink, F: Shelf>(
         (change O.written O.faults output.old output.new) (change F.files F.faults shelf.old shelf.new) result) }
     // What statuses 0, 9 and 5 of `threats` show: the first sequence of threats, that there is none, or too small a budget.
     ensures sequences { ShowsSequence (run_of (map string_bytes words.now) (change I.left I.faults input.old input.new)
+        (change O.written O.faults output.old output.new) (change F.files F.faults shelf.old shelf.new) result) }
+    // What statuses 0, 9, 5 and 12 of `solve` show: an accepted table of a win, that there is none by threats, too small a budget,
+    // or no room for a table; and where it is sure to find the win.
+    ensures solved { ShowsSolution (run_of (map string_bytes words.now) (change I.left I.faults input.old input.new)
         (change O.written O.faults output.old output.new) (change F.files F.faults shelf.old shelf.new) result) }
     // What `brain FILE` shows: where FILE is a table that is accepted, the games that are played by it are won.
     ensures held_games { ShowsHeldGames (run_of (map string_bytes words.now) (change I.left I.faults input.old input.new)

@@ -29,6 +29,8 @@ pub enum Status {
     NotFound,
     /// The input has more bytes than a command takes.
     TooLong,
+    /// A table has no room for as many nodes as a win may need.
+    Full,
 }
 
 impl Status {
@@ -48,6 +50,7 @@ impl Status {
             Status::WriteFault => 8,
             Status::NotFound => 9,
             Status::TooLong => 11,
+            Status::Full => 12,
         }
     }
 }

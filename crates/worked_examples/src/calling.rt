@@ -1,5 +1,5 @@
-//! Callers of crates that one may want alone: the judge of fouls, the checker of tables, the search for sequences of threats, the
-//! readers and writers of texts.
+//! Callers of crates that one may want alone: the judge of fouls, the checker of tables, the searches for sequences of threats and
+//! for wins by threats, the readers and writers of texts.
 //!
 //! Each caller is proved from the public contracts of what it calls, and a test runs it. `docs/CALLING.md` shows these lines.
 #![tactic(auto)]
@@ -9,15 +9,19 @@ ghost use Rattle.game_rules.specs.Grid.{is_empty};
 ghost use Rattle.game_rules.specs.Play.{foul_of};
 ghost use Rattle.game_rules.specs.Games.{WinsWithin};
 ghost use Rattle.threat_space.specs.Sequences.{first_sequence};
+ghost use Rattle.proof_number.specs.declared.TheConstants.{MAX_BUDGET, MAX_DEPTH};
 
 use foul_judge::{Position, foul_at};
 use game_rules::{Point, RuleKind, Side};
 use position_files::{FileError, TableFile, read_position, read_table, write_position};
+use proof_number::{MAX_BUDGET, MAX_DEPTH, ProofAnswer, SearchError, proof_number};
+use proof_tree::ProofTree;
 use row_shapes::{Freestyle, Renju, Rule};
 use std::alloc::{AllocError, Global};
 use std::test::Fail;
 use stone_board::Board;
 use strategy_checker::{Verdict, check};
+use strategy_compiler::Compiler;
 use strategy_graph::{Root, Table};
 use threat_space::{MAX_LENGTH, SpaceAnswer, threat_space};
 
@@ -127,6 +131,54 @@ fn white_has_a_double_three(rt: HostRuntime) -> Result<(), Fail> {
         (Side::Black, 1, Some(false)),
     ] {
         assert_eq!(rt; has_sequence(rt.alloc(), &mut board, side, 1, lists)?, told);
+    }
+    Ok(())
+}
+
+/// Within how many moves the side to move wins whatever the replies, if a search by threats finds a win within so many moves, with
+/// so many positions to look at.
+fn moves_by_threats<R: Rule>(
+    alloc: Global,
+    position: &mut Position<R>,
+    depth: u32,
+    budget: u64,
+) -> Result<Option<u32>, SearchError>
+    requires some_depth { 1 ≤ depth }
+    requires depth_fits { depth ≤ MAX_DEPTH }
+    requires some_budget { 1 ≤ budget }
+    requires budget_fits { budget ≤ MAX_BUDGET }
+    ensures wins { IfOk result (λ found. IfSome found (λ moves. WinsWithin R.KIND moves position.old)) }
+    ensures same { position.new ≡ position.old }
+{
+    let mut tree = ProofTree::new(alloc)?;
+    let mut compiler = Compiler::new(alloc);
+    match proof_number::<R, Position<R>>(
+        alloc,
+        position,
+        depth,
+        budget,
+        &mut tree,
+        &mut compiler,
+    )? {
+        ProofAnswer::Win(win) => Ok(Some(win.moves)),
+        ProofAnswer::None => Ok(None),
+        ProofAnswer::Spent => Ok(None),
+    }
+}
+
+#[test]
+fn two_threes_win_in_three_moves(rt: HostRuntime) -> Result<(), Fail> {
+    let text =
+        b"renju-position 1\nrule freestyle\nsize 15\nblack 7,6 6,7 8,7 7,8\nwhite 0,0 14,0 0,14 14,14\n";
+    let file = read_position(rt.alloc(), text)?;
+    let Ok(mut position) = Position::<Freestyle>::from_board(file.board) else {
+        return Err(Fail::from("the position is not lawful"));
+    };
+    for (depth, moves) in [(3, Some(3)), (2, None)] {
+        assert_eq!(rt;
+            moves_by_threats(rt.alloc(), &mut position, depth, 50_000)?,
+            moves
+        );
     }
     Ok(())
 }

@@ -1,7 +1,7 @@
 //! The command `check`.
 #![tactic(auto)]
 
-use crate::inputs::{ONE_ANSWER_WRONG, TWO_MOVES_TABLE};
+use crate::inputs::{BLOCK_FOULS_TABLE, ONE_ANSWER_WRONG, TWO_MOVES_TABLE};
 use crate::runs::{Example, answers_as_worked_out};
 use std::test::Fail;
 
@@ -10,9 +10,6 @@ const SIX_FREESTYLE: &str =
 
 const SIX_EXACT: &str =
     "renju-table 1\nrule exact\nsize 15\nblack 2,7 3,7 5,7 6,7 7,7\nwhite 0,0 7,0 14,0 0,14 14,14\nmoves 1\nnodes 1\n4,7 wins\n";
-
-const BLOCK_FOULS: &str =
-    "renju-table 1\nrule renju\nsize 15\nblack 7,0 7,1 7,2 2,3 7,4 7,5\nwhite 3,3 4,3 5,3 12,14 14,14\nmoves 2\nnodes 2\n7,3 wins\n6,3 rest 0\n";
 
 const OPPONENT_FIRST: &str =
     "renju-table 2\nrule freestyle\nsize 15\nblack 4,7 5,7 6,7 7,7\nwhite 0,0 2,0 4,0\nmoves 1\nnodes 2\n8,7 wins\n3,7 wins\nstart rest 0 8,7>1\n";
@@ -59,7 +56,7 @@ const EXAMPLES: [Example; 16] = [
     Example {
         name: "the only block is an overline",
         words: "check 213",
-        input: BLOCK_FOULS,
+        input: BLOCK_FOULS_TABLE,
         status: 0,
         output: "accepted in 2 moves, 213 arrivals\n",
     },

@@ -3,7 +3,7 @@
 //! The counts are those that a separately written program counted, which shares nothing with this repository.
 #![tactic(auto)]
 
-use crate::runs::{Example, Failing, answers_as_worked_out, run_failing};
+use crate::runs::{Example, Failing, answers_as_worked_out, run_failing, run_sound};
 use std::test::Fail;
 
 const EXAMPLES: [Example; 4] = [
@@ -40,6 +40,18 @@ const EXAMPLES: [Example; 4] = [
 #[test]
 fn drills_count_as_counted_elsewhere(rt: HostRuntime) -> Result<(), Fail> {
     answers_as_worked_out(&rt, rt.alloc(), &EXAMPLES)
+}
+
+#[test]
+fn two_runs_of_a_drill_write_the_same(rt: HostRuntime) -> Result<(), Fail> {
+    let first = run_sound(rt.alloc(), "drill 7", b"")?;
+    let second = run_sound(rt.alloc(), "drill 7", b"")?;
+    assert_eq!(rt; first.output.as_slice(), second.output.as_slice());
+    assert_eq!(rt;
+        first.output.as_slice(),
+        b"drill 7\npositions 60\nwins 47 none 13 spent 0\naccepted 47\ngames 47 moves 79\n".as_slice()
+    );
+    Ok(())
 }
 
 #[test]

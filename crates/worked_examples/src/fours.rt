@@ -1,12 +1,12 @@
 //! The command `fours`, and `check` over what it writes.
 #![tactic(auto)]
 
-use crate::inputs::TWO_MOVES;
+use crate::inputs::{
+    BLOCK_FOULS, BLOCK_FOULS_TABLE, FIVE_AND_SIX, FIVE_AND_SIX_TABLE, NO_STONES, TWO_MOVES,
+    TWO_MOVES_TABLE,
+};
 use crate::runs::{Example, answers_as_worked_out, run_sound};
 use std::test::Fail;
-
-const BLOCK_FOULS: &str =
-    "renju-position 1\nrule renju\nsize 15\nblack 7,0 7,1 7,2 2,3 7,4 7,5\nwhite 3,3 4,3 5,3 12,14 14,14\n";
 
 const BLOCK_HOLDS: &str =
     "renju-position 1\nrule freestyle\nsize 15\nblack 7,0 7,1 7,2 2,3 7,4 7,5\nwhite 3,3 4,3 5,3 12,14 14,14\n";
@@ -14,15 +14,13 @@ const BLOCK_HOLDS: &str =
 const BLOCK_GOES_ON: &str =
     "renju-position 1\nrule exact\nsize 15\nblack 7,0 7,1 7,2 2,3 7,4 7,5\nwhite 3,3 4,3 5,3 12,14 14,14\n";
 
-const NO_STONES: &str = "renju-position 1\nrule freestyle\nsize 15\nblack\nwhite\n";
-
 const EXAMPLES: [Example; 17] = [
     Example {
         name: "a straight four in two moves",
         words: "fours 5 3",
         input: TWO_MOVES,
         status: 0,
-        output: "renju-table 1\nrule freestyle\nsize 15\nblack 5,7 6,7 7,7\nwhite 0,0 2,0 4,0\nmoves 2\nnodes 3\n3,7 wins\n8,7 wins\n4,7 rest 0 3,7>1\n",
+        output: TWO_MOVES_TABLE,
     },
     Example {
         name: "one position too few",
@@ -43,7 +41,7 @@ const EXAMPLES: [Example; 17] = [
         words: "fours 5 2",
         input: BLOCK_FOULS,
         status: 0,
-        output: "renju-table 1\nrule renju\nsize 15\nblack 7,0 7,1 7,2 2,3 7,4 7,5\nwhite 3,3 4,3 5,3 12,14 14,14\nmoves 2\nnodes 2\n7,3 wins\n6,3 rest 0\n",
+        output: BLOCK_FOULS_TABLE,
     },
     Example {
         name: "the same four where no block is a foul",
@@ -90,9 +88,9 @@ const EXAMPLES: [Example; 17] = [
     Example {
         name: "five in the row goes before six in the column",
         words: "fours 1 1",
-        input: "renju-position 1\nrule renju\nsize 15\nblack 7,4 7,5 7,6 3,7 4,7 5,7 6,7 7,8 7,9\nwhite 0,0 4,0 10,0 14,0 2,7 0,14 4,14 10,14 14,14\n",
+        input: FIVE_AND_SIX,
         status: 0,
-        output: "renju-table 1\nrule renju\nsize 15\nblack 7,4 7,5 7,6 3,7 4,7 5,7 6,7 7,8 7,9\nwhite 0,0 4,0 10,0 14,0 2,7 0,14 4,14 10,14 14,14\nmoves 1\nnodes 1\n7,7 wins\n",
+        output: FIVE_AND_SIX_TABLE,
     },
     Example {
         name: "one position too few where a block is a foul",

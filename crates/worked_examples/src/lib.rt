@@ -22,7 +22,11 @@ mod held_sessions;
 #[cfg(test)]
 mod inputs;
 #[cfg(test)]
+mod replays;
+#[cfg(test)]
 mod runs;
+#[cfg(test)]
+mod solves;
 #[cfg(test)]
 mod texts;
 #[cfg(test)]

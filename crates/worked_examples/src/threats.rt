@@ -1,12 +1,9 @@
 //! The command `threats`.
 #![tactic(auto)]
 
-use crate::inputs::TWO_MOVES;
+use crate::inputs::{DIAMOND, TWO_MOVES};
 use crate::runs::{Example, answers_as_worked_out};
 use std::test::Fail;
-
-const DIAMOND: &str =
-    "renju-position 1\nrule freestyle\nsize 15\nblack 7,6 6,7 8,7 7,8\nwhite 0,0 14,0 0,14 14,14\n";
 
 const DIAMOND_FOULS: &str =
     "renju-position 1\nrule renju\nsize 15\nblack 7,6 6,7 8,7 7,8\nwhite 0,0 14,0 0,14 14,14\n";

@@ -8,7 +8,7 @@ use std::test::Fail;
 
 /// No words, words of no command, words of a command that are too few or too many, and words that are no number in its
 /// range: zeros, leading zeros, signs, fractions, letters, and numbers that are 1 but for a power of two.
-const FORMLESS: [&str; 39] = [
+const FORMLESS: [&str; 45] = [
     "",
     "help",
     "--help",
@@ -48,6 +48,12 @@ const FORMLESS: [&str; 39] = [
     "threats 1 0",
     "threats 1 1 1",
     "threats 4294967297 1",
+    "solve",
+    "solve 5",
+    "solve 0 1",
+    "solve 5 0",
+    "solve 5 3 1",
+    "solve 4294967297 1",
 ];
 
 /// Devices of which the input is not to be asked, and the output for one write alone.
@@ -58,7 +64,7 @@ const UNASKED: Failing<'static> = Failing {
     kept: 0,
 };
 
-const EXAMPLES: [Example; 9] = [
+const EXAMPLES: [Example; 13] = [
     Example {
         name: "the most work",
         words: "check 1000000000000",
@@ -111,6 +117,34 @@ const EXAMPLES: [Example; 9] = [
     Example {
         name: "more than the most threats",
         words: "threats 31 1",
+        input: TWO_MOVES,
+        status: 1,
+        output: USAGE,
+    },
+    Example {
+        name: "the greatest depth and the most positions of solve",
+        words: "solve 60 10000000",
+        input: TWO_MOVES,
+        status: 0,
+        output: TWO_MOVES_TABLE,
+    },
+    Example {
+        name: "more than the greatest depth of solve",
+        words: "solve 61 1",
+        input: TWO_MOVES,
+        status: 1,
+        output: USAGE,
+    },
+    Example {
+        name: "more than the most positions of solve",
+        words: "solve 1 10000001",
+        input: TWO_MOVES,
+        status: 1,
+        output: USAGE,
+    },
+    Example {
+        name: "more than the greatest drill",
+        words: "drill 1000000",
         input: TWO_MOVES,
         status: 1,
         output: USAGE,

@@ -1,7 +1,7 @@
 use Rattle.std.proofs.Common.{◌≡◌, List, ℕ, [], ◌∷◌, ◌∙◌, ap, sym, subst, get_or}
 use Rattle.std.specs.Prelude.{codes, string_bytes, Option, MatchOption}
 use Rattle.renju_cli.specs.declared.commands.Form.{Form}
-use Rattle.renju_cli.specs.declared.commands.Form.TheVariants.{Check, Foul, Fours, Threats, Brain, BrainWith, Drill}
+use Rattle.renju_cli.specs.declared.commands.Form.TheVariants.{Check, Foul, Fours, Threats, Solve, Brain, BrainWith, Drill}
 use Rattle.renju_cli.specs.Commands.{command, HasForm, IsForm}
 use Rattle.renju_cli.proofs.Words.{no-words as none, first-word}
 use Rattle.renju_cli.proofs.FormLaws.{no-words, no-command}
@@ -38,6 +38,12 @@ returns-in-threats c =
     let words = first-word string_bytes c.args.words.now c.name-item.result c.in-len1-up.len_at_least c.name-item.is in
     record { form = told-of c.form-in-threats.result _ _ _ _ words name c.form-in-threats.ensures.form }
 
+pub returns-in-solve : goal.returns-in-solve
+returns-in-solve c =
+    let name : string_bytes c.name-item.result ≡ codes "solve" = sym c.as_str.ensures.value ∙ c.in-solve.is in
+    let words = first-word string_bytes c.args.words.now c.name-item.result c.in-len1-up.len_at_least c.name-item.is in
+    record { form = told-of c.form-in-solve.result _ _ _ _ words name c.form-in-solve.ensures.form }
+
 pub returns-in-brain : goal.returns-in-brain
 returns-in-brain c =
     let name : string_bytes c.name-item.result ≡ codes "brain" = sym c.as_str.ensures.value ∙ c.in-brain.is in
@@ -60,6 +66,7 @@ returns-in_default-as_str c =
       | Foul ↦ λ is. c.in_default-as_str.not-foul (c.as_str.ensures.value ∙ is)
       | Fours depth nodes ↦ λ is. c.in_default-as_str.not-fours (c.as_str.ensures.value ∙ is)
       | Threats limit nodes ↦ λ is. c.in_default-as_str.not-threats (c.as_str.ensures.value ∙ is)
+      | Solve depth nodes ↦ λ is. c.in_default-as_str.not-solve (c.as_str.ensures.value ∙ is)
       | Brain ↦ λ is. c.in_default-as_str.not-brain (c.as_str.ensures.value ∙ is)
       | BrainWith ↦ λ is. c.in_default-as_str.not-brain (c.as_str.ensures.value ∙ is)
       | Drill number ↦ λ is. c.in_default-as_str.not-drill (c.as_str.ensures.value ∙ is)

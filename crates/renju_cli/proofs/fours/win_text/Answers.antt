@@ -4,15 +4,15 @@ use Rattle.renju_cli.proofs.fours.win_text.Goals as goal
 
 pub write_table-requires-clause-on_board : goal.write_table-requires-clause-on_board
 write_table-requires-clause-on_board c =
-    let made = c.in_ok-table.ensures.win c.args.kind c.requires.win.0 c.args.board.now c.requires.win.2.written in
+    let made = c.in_ok-table.ensures.win c.args.kind c.requires.win.0 c.args.board.now c.requires.win.2 in
     made.on_board
 
 pub write_table-requires-clause-root : goal.write_table-requires-clause-root
 write_table-requires-clause-root c =
-    let made = c.in_ok-table.ensures.win c.args.kind c.requires.win.0 c.args.board.now c.requires.win.2.written in
+    let made = c.in_ok-table.ensures.win c.args.kind c.requires.win.0 c.args.board.now c.requires.win.2 in
     let some = c.in_ok-table.ensures.some in
     let count = c.len.ensures.count in
-    let within = c.requires.win.2.written.within in
+    let within = c.requires.win.2.within in
     let most = c.requires.win.1 in
     (omega (arith, some, count), made.some_moves, omega (arith, within, most))
 
@@ -31,5 +31,19 @@ returns-clause-text c = λ limit win.
         deep = made.deep;
         short = subst (λ (n : ℕ). n ≤ b.width * b.height * c.args.win.moves) (sym (c.in_ok-table.ensures.same.same_arrivals c.args.kind b)) win.short;
       };
+      written = rw c.len.ensures.count at c.in_ok-write_table.ensures.written;
+    }
+
+pub returns-clause-shown : goal.returns-clause-shown
+returns-clause-shown c = λ limit win.
+    let made = c.in_ok-table.ensures.win c.args.kind limit c.args.board.now win in
+    record {
+      moves = c.args.win.moves;
+      table = c.in_ok-table.table;
+      within = win.within;
+      accepted = made.accepted;
+      deep = made.deep;
+      different = c.in_ok-table.ensures.different;
+      reached = c.in_ok-table.ensures.reached;
       written = rw c.len.ensures.count at c.in_ok-write_table.ensures.written;
     }

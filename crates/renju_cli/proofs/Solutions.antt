@@ -1,0 +1,79 @@
+-- What is said of the position of a text, by the step of `solve` that decides.
+use Rattle.std.proofs.Common.{◌≡◌, inl, inr, ℕ, ◌<◌, sym, subst, List}
+use Rattle.std.specs.Prelude.{Result, Ok, Err, IfOk}
+use Rattle.game_rules.specs.Grid.{Grid}
+use Rattle.game_rules.specs.declared.RuleKind.{RuleKind}
+use Rattle.strategy_graph.specs.declared.Node.{Node}
+use Rattle.strategy_compiler.specs.declared.wins.WrittenWin.{WrittenWin}
+use Rattle.strategy_compiler.specs.Wins.{IsWrittenWin}
+use Rattle.four_search.specs.Answers.{IsFourWin}
+use Rattle.four_search.specs.FourGame.{four_cost}
+use Rattle.position_files.specs.declared.PositionFile.{PositionFile}
+use Rattle.renju_cli.specs.declared.answer.Answer.{Answer}
+use Rattle.renju_cli.specs.declared.status.Status.TheVariants.{Done, NotFound, Full}
+use Rattle.game_rules.specs.Games.{WinsByThreats}
+use Rattle.renju_cli.specs.Fours.{IsFourText, none_line}
+use Rattle.renju_cli.specs.Solves.{IsWinText, SolutionSays, IsWonByFours, IsLeftOver, MayBeTooGreat, full_line}
+use Rattle.renju_cli.proofs.Searches.{not-above}
+
+-- the position at a board under a rule
+abbrev pub file_at : RuleKind → Grid → PositionFile
+file_at rule b = record { kind = rule; board = b }
+
+-- what is said of the position at the board of a text is said of the text's
+pub said-of-file : {E : Type 0} (r : Result Answer E) (limit nodes : ℕ) (file : PositionFile) (rule : RuleKind) (p : Grid) → file.kind ≡ rule → p ≡ file.board
+    → IfOk r (λ a. SolutionSays limit nodes (file_at rule p) a.status a.text.items) → IfOk r (λ a. SolutionSays limit nodes file a.status a.text.items)
+said-of-file r limit nodes file rule p kind here says =
+    let same : file_at rule p ≡ file = λ i. record { kind = sym kind i; board = here i } in
+    subst (λ (f : PositionFile). IfOk r (λ a. SolutionSays limit nodes f a.status a.text.items)) same says
+
+module _ {E : Type 0} (r : Result Answer E) (limit nodes : ℕ) (rule : RuleKind) (p b : Grid) (there : b ≡ p) (compiled : List Node) (win : WrittenWin) where
+  -- the text of the table of a win of the first step is what is said
+  pub first-says : IsFourWin rule limit p compiled win → (nodes < four_cost rule limit p → ⊥) → IfOk r (λ a. a.status ≡ Done)
+      → IfOk r (λ a. (limit : ℕ) → IsFourWin rule limit b compiled win → IsFourText limit (file_at rule b) a.text.items)
+      → IfOk r (λ a. (limit : ℕ) → IsWrittenWin rule limit b compiled win → IsWinText limit (file_at rule b) a.text.items)
+      → IfOk r (λ a. SolutionSays limit nodes (file_at rule p) a.status a.text.items)
+  first-says is few done text shown = elim r as (λ (r : Result Answer E). IfOk r (λ a. a.status ≡ Done)
+      → IfOk r (λ a. (limit : ℕ) → IsFourWin rule limit b compiled win → IsFourText limit (file_at rule b) a.text.items)
+      → IfOk r (λ a. (limit : ℕ) → IsWrittenWin rule limit b compiled win → IsWinText limit (file_at rule b) a.text.items)
+      → IfOk r (λ a. SolutionSays limit nodes (file_at rule p) a.status a.text.items)) [
+        | Ok a ↦ λ done text shown.
+            let at : IsFourWin rule limit b compiled win = subst (λ (c : Grid). IsFourWin rule limit c compiled win) (sym there) is in
+            let written : IsFourText limit (file_at rule p) a.text.items = subst (λ (c : Grid). IsFourText limit (file_at rule c) a.text.items) there (text limit at) in
+            let win_text : IsWinText limit (file_at rule p) a.text.items = subst (λ (c : Grid). IsWinText limit (file_at rule c) a.text.items) there (shown limit at.written) in
+            inl (record { found = record { enough = not-above nodes (four_cost rule limit p) few; win = written; ends = done }; win = win_text })
+        | Err e ↦ λ done text shown. tt
+      ] done text shown
+
+  -- so is that of a later one
+  pub later-says : IsWrittenWin rule limit p compiled win → ¬ IsWonByFours limit nodes (file_at rule p) → IfOk r (λ a. a.status ≡ Done)
+      → IfOk r (λ a. (limit : ℕ) → IsWrittenWin rule limit b compiled win → IsWinText limit (file_at rule b) a.text.items)
+      → IfOk r (λ a. SolutionSays limit nodes (file_at rule p) a.status a.text.items)
+  later-says is later done shown = elim r as (λ (r : Result Answer E). IfOk r (λ a. a.status ≡ Done)
+      → IfOk r (λ a. (limit : ℕ) → IsWrittenWin rule limit b compiled win → IsWinText limit (file_at rule b) a.text.items)
+      → IfOk r (λ a. SolutionSays limit nodes (file_at rule p) a.status a.text.items)) [
+        | Ok a ↦ λ done shown.
+            let at : IsWrittenWin rule limit b compiled win = subst (λ (c : Grid). IsWrittenWin rule limit c compiled win) (sym there) is in
+            let win_text : IsWinText limit (file_at rule p) a.text.items = subst (λ (c : Grid). IsWinText limit (file_at rule c) a.text.items) there (shown limit at) in
+            inr (inl (record { later = later; win = win_text; ends = done }))
+        | Err e ↦ λ done shown. tt
+      ] done shown
+
+module _ {E : Type 0} (r : Result Answer E) (limit nodes : ℕ) (file : PositionFile) where
+  -- what is said where the last step finds none
+  pub unwon-says : IsLeftOver limit nodes file → ¬ WinsByThreats file.kind limit file.board → IfOk r (λ a. a.status ≡ NotFound) → IfOk r (λ a. a.text.items ≡ none_line)
+      → IfOk r (λ a. SolutionSays limit nodes file a.status a.text.items)
+  unwon-says left none ends line = elim r as (λ (r : Result Answer E). IfOk r (λ a. a.status ≡ NotFound) → IfOk r (λ a. a.text.items ≡ none_line)
+      → IfOk r (λ a. SolutionSays limit nodes file a.status a.text.items)) [
+        | Ok a ↦ λ ends line. inr (inr (inl (record { left = left; none = none; ends = ends; line = line })))
+        | Err e ↦ λ ends line. tt
+      ] ends line
+
+  -- and where a table has no room
+  pub full-says : ¬ IsWonByFours limit nodes file → MayBeTooGreat limit nodes file → IfOk r (λ a. a.status ≡ Full) → IfOk r (λ a. a.text.items ≡ full_line)
+      → IfOk r (λ a. SolutionSays limit nodes file a.status a.text.items)
+  full-says later great ends line = elim r as (λ (r : Result Answer E). IfOk r (λ a. a.status ≡ Full) → IfOk r (λ a. a.text.items ≡ full_line)
+      → IfOk r (λ a. SolutionSays limit nodes file a.status a.text.items)) [
+        | Ok a ↦ λ ends line. inr (inr (inr (inr (record { later = later; great = great; ends = ends; line = line }))))
+        | Err e ↦ λ ends line. tt
+      ] ends line

@@ -1,0 +1,175 @@
+-- The command `solve`: its words, what it says of its input, and what its statuses show.
+use Rattle.std.specs.Prelude.{◌≡◌, ◌⊎◌, ℕ, ◌≤◌, ◌<◌, min, true, List, [], ◌∷◌, length, codes, Option, Some, IfSome}
+use Rattle.std.specs.Fmt.{decimal}
+use Rattle.game_rules.specs.Games.{WinsByFours, WinsByThreats, WinsWithin}
+use Rattle.game_rules.specs.declared.Point.{Point}
+use Rattle.strategy_graph.specs.declared.Node.{Node}
+use Rattle.strategy_graph.specs.declared.TheConstants.{MAX_NODES}
+use Rattle.strategy_graph.specs.Tables.{depth}
+use Rattle.strategy_graph.specs.Acceptance.{Accepted}
+use Rattle.strategy_compiler.specs.Walks.{AreDifferent, Reaches, last}
+use Rattle.four_search.specs.FourGame.{four_cost}
+use Rattle.threat_moves.specs.declared.threat_list.Threat.{Threat}
+use Rattle.threat_space.specs.declared.TheConstants.{MAX_LENGTH}
+use Rattle.line_proof.specs.Lines.{line_wins, line_tree}
+use Rattle.proof_number.specs.ThreatGame.{threat_tree}
+use Rattle.text_lines.specs.Lines.{ended}
+use Rattle.position_files.specs.declared.PositionFile.{PositionFile}
+use Rattle.position_files.specs.Tables.{IsTextOfTable}
+use Rattle.position_files.specs.Faults.{IsPositionFault}
+use Rattle.renju_io.specs.Told.{Takes}
+use Rattle.renju_cli.specs.declared.status.Status.{Status}
+use Rattle.renju_cli.specs.declared.status.Status.TheVariants.{Done, Spent, NotFound, Full}
+use Rattle.renju_cli.specs.Statuses.{status_number}
+use Rattle.renju_cli.specs.Texts.{spent_line}
+use Rattle.renju_cli.specs.Runs.{Change, Run}
+use Rattle.renju_cli.specs.Forms.{HasWords}
+use Rattle.renju_cli.specs.Told.{ToldCommand, IsYielded}
+use Rattle.renju_cli.specs.Refusals.{IsRefusedText}
+use Rattle.renju_cli.specs.Fouls.{IsPositionAt}
+use Rattle.renju_cli.specs.Threats.{sequence_at, cost_at}
+use Rattle.renju_cli.specs.Fours.{none_line, table_at, AreLimits, IsFoundWin}
+
+-- a table of the win would have too many nodes
+abbrev pub full_line : List ℕ
+full_line = ended (codes "table full")
+
+-- the win of the first step: there is a win by fours, and the budget is enough for the search of it
+pub record IsWonByFours (limit nodes : ℕ) (file : PositionFile) : Type 0 where
+  pub wins : WinsByFours file.kind limit file.board
+  pub enough : four_cost file.kind limit file.board ≤ nodes
+
+-- the most threats of a sequence that is searched within so many moves
+abbrev pub most_threats : ℕ → ℕ
+most_threats limit = min limit MAX_LENGTH
+
+-- the threats of the first sequence of the side to move, for whose search the budget is enough
+pub record IsFirstLine (limit nodes : ℕ) (file : PositionFile) (line : List Threat) : Type 0 where
+  pub final : Point
+  pub first : sequence_at (most_threats limit) file ≡ Some (line, final)
+  pub enough : cost_at (most_threats limit) file ≤ nodes
+
+-- the win of the second step: the first sequence is found within the budget, and wins along its threats
+pub record IsWonByLine (limit nodes : ℕ) (file : PositionFile) : Type 0 where
+  pub line : List Threat
+  pub first : IsFirstLine limit nodes file line
+  pub wins : line_wins file.kind line limit file.board ≡ true
+
+-- The text is that of a table at the position whose last node is accepted there, is as deep as the number of moves, no more than
+-- the limit, and reaches each node; no two nodes are equal.
+pub record IsWinText (limit : ℕ) (file : PositionFile) (text : List ℕ) : Type 0 where
+  pub moves : ℕ
+  pub table : List Node
+  pub within : moves ≤ limit
+  pub accepted : Accepted file.kind table (last table) file.board
+  pub deep : depth table (last table) ≡ moves
+  pub different : AreDifferent table
+  pub reached : (i : ℕ) → i < length table → Reaches table (last table) i
+  pub written : IsTextOfTable (table_at file moves table) text
+
+-- the win of the first step is what `fours` writes
+pub record IsFirstWin (limit nodes : ℕ) (file : PositionFile) (status : Status) (text : List ℕ) : Type 0 where
+  pub found : IsFoundWin limit nodes file status text
+  pub win : IsWinText limit file text
+
+-- a win of a later step than the first is written
+pub record IsLaterWin (limit nodes : ℕ) (file : PositionFile) (status : Status) (text : List ℕ) : Type 0 where
+  pub later : ¬ IsWonByFours limit nodes file
+  pub win : IsWinText limit file text
+  pub ends : status ≡ Done
+
+-- no win of the first two steps
+pub record IsLeftOver (limit nodes : ℕ) (file : PositionFile) : Type 0 where
+  pub no_fours : ¬ IsWonByFours limit nodes file
+  pub no_line : ¬ IsWonByLine limit nodes file
+
+-- the first two steps have no win, and there is none by threats
+pub record IsUnwon (limit nodes : ℕ) (file : PositionFile) (status : Status) (text : List ℕ) : Type 0 where
+  pub left : IsLeftOver limit nodes file
+  pub none : ¬ WinsByThreats file.kind limit file.board
+  pub ends : status ≡ NotFound
+  pub line : text ≡ none_line
+
+-- the first two steps have no win, and the game of threats has more positions than the budget
+pub record IsUndecided (limit nodes : ℕ) (file : PositionFile) (status : Status) (text : List ℕ) : Type 0 where
+  pub left : IsLeftOver limit nodes file
+  pub more : nodes < threat_tree file.kind limit file.board
+  pub ends : status ≡ Spent
+  pub line : text ≡ spent_line
+
+-- more nodes than a table has may be needed: for the proof of the first sequence, or for the game of threats within the budget
+abbrev pub MayBeTooGreat : ℕ → ℕ → PositionFile → Type 0
+MayBeTooGreat limit nodes file =
+    ((line : List Threat) × IsFirstLine limit nodes file line × (MAX_NODES < line_tree file.kind line limit file.board))
+    ⊎ (MAX_NODES < min nodes (threat_tree file.kind limit file.board))
+
+-- the first step has no win, and a later one has no room for its table
+pub record IsTooGreat (limit nodes : ℕ) (file : PositionFile) (status : Status) (text : List ℕ) : Type 0 where
+  pub later : ¬ IsWonByFours limit nodes file
+  pub great : MayBeTooGreat limit nodes file
+  pub ends : status ≡ Full
+  pub line : text ≡ full_line
+
+-- What is said of a position within so many moves and with so many positions to look at: the win of the first step, which is that
+-- of `fours`; a win of a later one; or why there is none.
+abbrev pub SolutionSays : ℕ → ℕ → PositionFile → Status → List ℕ → Type 0
+SolutionSays limit nodes file status text =
+    IsFirstWin limit nodes file status text
+    ⊎ IsLaterWin limit nodes file status text
+    ⊎ IsUnwon limit nodes file status text
+    ⊎ IsUndecided limit nodes file status text
+    ⊎ IsTooGreat limit nodes file status text
+
+-- What `solve` says of an input that it has read whole: why the text is refused, or else what is said of the position.
+abbrev pub SolveSays : ℕ → ℕ → List ℕ → Status → List ℕ → Type 0
+SolveSays limit nodes input status text =
+    IsRefusedText (IsPositionFault input) status text ⊎ ((file : PositionFile) × IsPositionAt file input × SolutionSays limit nodes file status text)
+
+-- the words `solve DEPTH NODES`, with both numbers in decimal without leading zeros
+abbrev pub solve_words : ℕ → ℕ → List (List ℕ)
+solve_words depth nodes = codes "solve" ∷ decimal depth ∷ decimal nodes ∷ []
+
+-- `solve DEPTH NODES`. It answers for a lawful position whose game of threats has no more positions than are allowed: it finds a
+-- win or none, or has no room for a table.
+abbrev pub solve_command : ℕ → ℕ → ToldCommand
+solve_command depth nodes = record {
+  words = solve_words depth nodes;
+  in_range = AreLimits depth nodes;
+  Says = SolveSays depth nodes;
+  IsAnswerable = λ input. (file : PositionFile) × IsPositionAt file input × (threat_tree file.kind depth file.board ≤ nodes);
+  IsAnswer = λ status. (status ≡ Done) ⊎ (status ≡ NotFound) ⊎ (status ≡ Full);
+}
+
+-- The output took the text of a table whose last node is accepted, whole, and the side to move wins within the limit.
+pub record WritesSolution (limit : ℕ) (file : PositionFile) (output : Change (Option (List ℕ))) : Type 0 where
+  pub text : List ℕ
+  pub win : IsWinText limit file text
+  pub whole : Takes output.before text output.after
+  pub wins : WinsWithin file.kind limit file.board
+
+-- the statuses of `solve` that speak of a position
+abbrev pub SpeaksOfSolution : ℕ → Type 0
+SpeaksOfSolution number = (number ≡ status_number Done) ⊎ (number ≡ status_number NotFound) ⊎ (number ≡ status_number Spent) ⊎ (number ≡ status_number Full)
+
+-- What the statuses of `solve` say of the lawful position that is the input: 0 that the table of a win is written; 9 that there
+-- is no win by threats; 5 that their game has more positions than the budget; 12 that a table may have too many nodes. One of
+-- them comes, unless the status is one that stands in place of each. Where the first step has a win it is 0, and where the
+-- second has one 0 or 12.
+pub record IsSolved (limit nodes : ℕ) (file : PositionFile) (run : Run) : Type 0 where
+  pub won : run.status ≡ status_number Done → WritesSolution limit file run.output
+  pub none : run.status ≡ status_number NotFound → ¬ WinsByThreats file.kind limit file.board
+  pub spent : run.status ≡ status_number Spent → nodes < threat_tree file.kind limit file.board
+  pub full : run.status ≡ status_number Full → MayBeTooGreat limit nodes file
+  pub by_fours : IsWonByFours limit nodes file → (run.status ≡ status_number Done) ⊎ IsYielded run.status
+  pub by_line : IsWonByLine limit nodes file → (run.status ≡ status_number Done) ⊎ (run.status ≡ status_number Full) ⊎ IsYielded run.status
+  pub only : SpeaksOfSolution run.status ⊎ IsYielded run.status
+
+-- Where a status of `solve` speaks of a position, the bytes are the text of a lawful one; and of each lawful position whose text
+-- they are the statuses say this.
+pub record SolutionShows (limit nodes : ℕ) (bytes : List ℕ) (run : Run) : Type 0 where
+  pub lawful : SpeaksOfSolution run.status → (file : PositionFile) × IsPositionAt file bytes
+  pub says : (file : PositionFile) → IsPositionAt file bytes → IsSolved limit nodes file run
+
+-- The headline of the solver: what the statuses of `solve` show, where the input tells its bytes.
+abbrev pub ShowsSolution : Run → Type 0
+ShowsSolution run = (depth nodes : ℕ) → HasWords run.words (solve_words depth nodes) (AreLimits depth nodes) → IfSome run.input.before (λ bytes. SolutionShows depth nodes bytes run)

@@ -1,0 +1,220 @@
+//! The command `solve`: a win that some table shows, by fours, along a sequence of threats, or by threats whatever the order.
+//!
+//! Three steps are taken, each with a new compiler. A win by continuous fours is what `fours` writes. Else the first sequence of
+//! threats is searched, and proved against all replies. Else the game of threats is searched, led by proof numbers, and its
+//! answer decides. That the budget of the first two steps was spent is not told.
+#![tactic(auto)]
+
+ghost use Rattle.std.specs.Prelude.{◌≡◌, ◌≤◌, ◌∷◌, List, codes, map, IfOk, MatchOption, string_bytes};
+ghost use Rattle.game_rules.specs.Play.{IsPosition};
+ghost use Rattle.threat_moves.specs.declared.threat_list.Threat.{Threat};
+ghost use Rattle.renju_cli.specs.Commands.{IsForm, HasForm};
+ghost use Rattle.renju_cli.specs.Solves.{SolutionSays, IsWonByFours, IsFirstLine, IsLeftOver, full_line};
+
+use crate::answer::{Answer, spent};
+use crate::fours::{none, win_text};
+use crate::numbers::count;
+use crate::refusals::refused_text;
+use crate::told::Told;
+use crate::{Form, MAX_SEARCHED, Status};
+use foul_judge::{Position, Seen};
+use four_search::{FourAnswer, MAX_DEPTH, four_search};
+use line_proof::{LineAnswer, prove_line};
+use position_files::{PositionFile, read_position};
+use proof_number::{ProofAnswer, proof_number};
+use proof_tree::ProofTree;
+use row_shapes::{Rule, under_rule};
+use std::alloc::{AllocError, Global};
+use strategy_compiler::{Compiler, SearchError};
+use threat_moves::Threats;
+use threat_space::{MAX_LENGTH, SpaceAnswer, threat_space};
+
+/// The form of `solve` and the words after it, if they are DEPTH and NODES.
+pub(crate) fn form(rest: &[String]) -> Option<Form>
+    ensures form { MatchOption result (¬ HasForm (codes "solve" ∷ map string_bytes rest.now)) (λ form. IsForm (codes "solve" ∷ map string_bytes rest.now) form) }
+{
+    let [depth, nodes] = rest else {
+        return None;
+    };
+    let depth = count(depth, u64::from(MAX_DEPTH))? as u32;
+    let nodes = count(nodes, MAX_SEARCHED)?;
+    Some(Form::Solve { depth, nodes })
+}
+
+/// `solve DEPTH NODES`.
+#[derive(Clone, Copy)]
+pub(crate) struct Solve {
+    pub depth: u32,
+    pub nodes: u64,
+}
+
+impl Told for Solve {
+    ghost use Rattle.std.specs.Prelude.{◌≤◌};
+    ghost use Rattle.four_search.specs.declared.TheConstants.{MAX_DEPTH};
+    ghost use Rattle.renju_cli.specs.declared.TheConstants.{MAX_SEARCHED};
+    ghost use Rattle.renju_cli.specs.Solves.{SolveSays};
+
+    ghost in_range = { λ c. (1 ≤ c.depth) × (c.depth ≤ MAX_DEPTH) × (1 ≤ c.nodes) × (c.nodes ≤ MAX_SEARCHED) };
+
+    ghost says = { λ c. SolveSays c.depth c.nodes };
+
+    fn say(&self, alloc: Global, bytes: &[u8]) -> Result<Answer, AllocError> {
+        match read_position(alloc, bytes) {
+            Ok(file) => solve_file(alloc, file, self.depth, self.nodes),
+            Err(error) => refused_text(alloc, error),
+        }
+    }
+}
+
+/// What is said of a position.
+fn solve_file(
+    alloc: Global,
+    file: PositionFile,
+    depth: u32,
+    nodes: u64,
+) -> Result<Answer, AllocError>
+    requires lawful { IsPosition file.kind file.board }
+    requires some_depth { 1 ≤ depth }
+    requires depth_fits { depth ≤ MAX_DEPTH }
+    requires some_nodes { 1 ≤ nodes }
+    requires nodes_fit { nodes ≤ MAX_SEARCHED }
+    ensures says { IfOk result (λ answer. SolutionSays depth nodes file answer.status answer.text.items) }
+{
+    under_rule!(file.kind, solve_under(alloc, file, depth, nodes))
+}
+
+/// The same under the rule of the text: the first step, and else the later ones.
+fn solve_under<R: Rule>(
+    alloc: Global,
+    file: PositionFile,
+    depth: u32,
+    nodes: u64,
+) -> Result<Answer, AllocError>
+    requires kind { file.kind ≡ R.KIND }
+    requires lawful { IsPosition file.kind file.board }
+    requires some_depth { 1 ≤ depth }
+    requires depth_fits { depth ≤ MAX_DEPTH }
+    requires some_nodes { 1 ≤ nodes }
+    requires nodes_fit { nodes ≤ MAX_SEARCHED }
+    ensures says { IfOk result (λ answer. SolutionSays depth nodes file answer.status answer.text.items) }
+{
+    let mut position = Position::<R>::new(file.board);
+    let mut compiler = Compiler::new(alloc);
+    match four_search::<R, Position<R>>(alloc, &mut position, depth, nodes, &mut compiler) {
+        Ok(FourAnswer::Win(win)) => {
+            let board = position.into_board();
+            win_text(alloc, R::KIND, &board, compiler, win)
+        }
+        Ok(FourAnswer::None) => by_line(alloc, position, depth, nodes),
+        Ok(FourAnswer::Spent) => by_line(alloc, position, depth, nodes),
+        Err(SearchError::Full) => unreachable!(),
+        Err(SearchError::Memory) => Err(AllocError),
+    }
+}
+
+/// The second step, and else the third.
+fn by_line<R: Rule>(
+    alloc: Global,
+    position: Position<R>,
+    depth: u32,
+    nodes: u64,
+) -> Result<Answer, AllocError>
+    requires some_depth { 1 ≤ depth }
+    requires depth_fits { depth ≤ MAX_DEPTH }
+    requires some_nodes { 1 ≤ nodes }
+    requires nodes_fit { nodes ≤ MAX_SEARCHED }
+    requires no_fours { ¬ IsWonByFours depth nodes (record { kind = R.KIND; board = position }) }
+    ensures says { IfOk result (λ answer. SolutionSays depth nodes (record { kind = R.KIND; board = position }) answer.status answer.text.items) }
+{
+    match first_line(alloc, &position, depth, nodes)? {
+        Some(line) => prove_first(alloc, position, &line, depth, nodes),
+        None => by_threats(alloc, position, depth, nodes),
+    }
+}
+
+/// The threats of the first sequence of the side to move, if the budget is enough for the search and there is one.
+fn first_line<R: Rule>(
+    alloc: Global,
+    position: &Position<R>,
+    depth: u32,
+    nodes: u64,
+) -> Result<Option<Threats>, AllocError>
+    requires some_depth { 1 ≤ depth }
+    requires some_nodes { 1 ≤ nodes }
+    ensures line { IfOk result (λ found. MatchOption found ((line : List Threat) → ¬ IsFirstLine depth nodes (record { kind = R.KIND; board = position.now }) line)
+        (λ line. IsFirstLine depth nodes (record { kind = R.KIND; board = position.now }) line)) }
+{
+    let mut board = position.board().copy()?;
+    let length = depth.min(MAX_LENGTH);
+    match threat_space::<R>(alloc, &mut board, position.side(), length, nodes)? {
+        SpaceAnswer::Sequence(line, _) => Ok(Some(line)),
+        SpaceAnswer::None => Ok(None),
+        SpaceAnswer::Spent => Ok(None),
+    }
+}
+
+/// What the proof of the first sequence comes to, and else the third step.
+fn prove_first<R: Rule>(
+    alloc: Global,
+    position: Position<R>,
+    line: &Threats,
+    depth: u32,
+    nodes: u64,
+) -> Result<Answer, AllocError>
+    requires some_depth { 1 ≤ depth }
+    requires depth_fits { depth ≤ MAX_DEPTH }
+    requires some_nodes { 1 ≤ nodes }
+    requires nodes_fit { nodes ≤ MAX_SEARCHED }
+    requires no_fours { ¬ IsWonByFours depth nodes (record { kind = R.KIND; board = position }) }
+    requires line { IsFirstLine depth nodes (record { kind = R.KIND; board = position }) line.now }
+    ensures says { IfOk result (λ answer. SolutionSays depth nodes (record { kind = R.KIND; board = position }) answer.status answer.text.items) }
+{
+    let mut view = position;
+    let mut compiler = Compiler::new(alloc);
+    match prove_line::<R, Position<R>>(alloc, &mut view, line, depth, &mut compiler) {
+        Ok(LineAnswer::Proved(win)) => {
+            let board = view.into_board();
+            win_text(alloc, R::KIND, &board, compiler, win)
+        }
+        Ok(LineAnswer::Fails) => by_threats(alloc, view, depth, nodes),
+        Err(SearchError::Full) => full(alloc),
+        Err(SearchError::Memory) => Err(AllocError),
+    }
+}
+
+/// The third step, whose answer decides.
+fn by_threats<R: Rule>(
+    alloc: Global,
+    position: Position<R>,
+    depth: u32,
+    nodes: u64,
+) -> Result<Answer, AllocError>
+    requires some_depth { 1 ≤ depth }
+    requires depth_fits { depth ≤ MAX_DEPTH }
+    requires some_nodes { 1 ≤ nodes }
+    requires nodes_fit { nodes ≤ MAX_SEARCHED }
+    requires left { IsLeftOver depth nodes (record { kind = R.KIND; board = position }) }
+    ensures says { IfOk result (λ answer. SolutionSays depth nodes (record { kind = R.KIND; board = position }) answer.status answer.text.items) }
+{
+    let mut view = position;
+    let mut compiler = Compiler::new(alloc);
+    let mut tree = ProofTree::new(alloc)?;
+    match proof_number::<R, Position<R>>(alloc, &mut view, depth, nodes, &mut tree, &mut compiler) {
+        Ok(ProofAnswer::Win(win)) => {
+            let board = view.into_board();
+            win_text(alloc, R::KIND, &board, compiler, win)
+        }
+        Ok(ProofAnswer::None) => none(alloc),
+        Ok(ProofAnswer::Spent) => spent(alloc),
+        Err(SearchError::Full) => full(alloc),
+        Err(SearchError::Memory) => Err(AllocError),
+    }
+}
+
+/// The answer where a table has no room for more nodes.
+fn full(alloc: Global) -> Result<Answer, AllocError>
+    ensures status { IfOk result (λ answer. answer.status ≡ Status.Full) }
+    ensures text { IfOk result (λ answer. answer.text.items ≡ full_line) }
+{
+    Ok(Answer::told(Status::Full, String::from_str(alloc, "table full\n")?))
+}
