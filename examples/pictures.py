@@ -1,16 +1,24 @@
 #!/usr/bin/env python3
-"""Draws each text of this folder as a board, NAME.svg beside NAME.txt. --check compares what is drawn with what is there.
+"""Draws each text of this folder as a board, NAME.svg beside NAME.txt. --check compares what is drawn with what is there. Other words
+are paths of texts, each of which is drawn beside itself.
 
-Of a table the attack of its root stands on the board as stone 1, and a ring 3 is on each point where the next attack can come.
-MARKS has what else is shown: by the text's name, the points and what is written on them.
+Of a table the first move is shown, and its answers: the attack of the root stands on the board with a dot; each listed reply is
+a small stone with a number, and its answer a ring with this number; a ring with a star is the answer to all other replies that
+go on. A cross is a reply that is a foul, as the program says. MARKS has what else is shown: by the text's name, the points and
+what is written on them.
 """
+import subprocess
 import sys
 from pathlib import Path
 
 HERE = Path(__file__).resolve().parent
+PROGRAM = HERE.parent / "renju"
 MARKS = {
     "allowed-double-three": {"7,7": "*", "5,7": "x", "6,9": "x", "7,9": "x"},
     "double-three": {"7,7": "*", "5,7": "x", "9,7": "x"},
+    "quiet-three": {"7,2": "1", "6,2": "2", "5,3": "3", "4,4": "4"},
+    "block-fouls": {"14,10": "1", "10,13": "2", "10,12": "3", "10,10": "x"},
+    "defended": {"8,5": "1", "6,5": "2"},
 }
 STEP, EDGE = 34, 52
 LINE, INK = "#5a4326", "#6d5330"
@@ -22,25 +30,47 @@ DEFINED = """<defs>
 
 
 class Board:
-    """What a text says of a board: its size, its stones, and the first moves of a table."""
+    """What a text says of a board: its rule, its size, its stones, and the first move of a table with its answers."""
 
     def __init__(self, text):
         lines = text.splitlines()
+        self.rule = lines[1].split()[1]
         size = lines[2].split()[1].split(",")
         self.width, self.height = int(size[0]), int(size[-1])
         self.stones = {point: side for side, line in zip(("black", "white"), lines[3:5]) for point in line.split()[1:]}
         counts = [list(self.stones.values()).count(side) for side in ("black", "white")]
         self.mover = "black" if counts[0] == counts[1] else "white"
-        self.first, self.next = None, []
+        self.attack, self.rest, self.answers = None, None, {}
         if lines[0] == "renju-table 1":
-            self.play_root([line.split() for line in lines[7:]])
+            self.read_root([line.split() for line in lines[7:]])
 
-    def play_root(self, nodes):
-        """Takes the attack of the last node, and those of the nodes that it names, each once."""
-        attack, rest, *names = nodes[-1]
-        named = [int(name.rpartition(">")[2]) for name in names]
-        self.first = attack
-        self.next = [] if rest == "wins" else sorted({nodes[number][0] for number in named})
+    def read_root(self, nodes):
+        """Takes the attack of the last node, its answer to each listed reply, and its answer to all others."""
+        self.attack, rest, *more = nodes[-1]
+        if rest == "rest":
+            self.rest, more = nodes[int(more[0])][0], more[1:]
+        for reply, _, number in (name.partition(">") for name in more):
+            self.answers[reply] = nodes[int(number)][0]
+
+    def fouls(self):
+        """The replies to the attack that are fouls."""
+        if self.rule != "renju" or self.mover != "white" or self.attack is None:
+            return []
+        side = lambda name: " ".join([name, *sorted((p for p in stones if stones[p] == name), key=lambda p: [int(n) for n in p.split(",")][::-1])])
+        stones = {**self.stones, self.attack: "white"}
+        size = f"{self.width}" if self.width == self.height else f"{self.width},{self.height}"
+        text = "\n".join(["renju-position 1", "rule renju", f"size {size}", side("black"), side("white")]) + "\n"
+        told = subprocess.run([PROGRAM, "foul"], input=text.encode(), capture_output=True, check=True).stdout.decode()
+        return [line.split()[1] for line in told.splitlines()[1:]]
+
+    def marks(self):
+        """What is written on empty points: on each the numbers of the replies that it answers, or a star, and crosses."""
+        marks = {point: "x" for point in self.fouls()}
+        for number, answer in enumerate(self.answers.values(), 1):
+            marks[answer] = f"{marks[answer]},{number}" if answer in marks else f"{number}"
+        if self.rest:
+            marks[self.rest] = f"{marks[self.rest]},*" if self.rest in marks else "*"
+        return marks
 
 
 def at(point):
@@ -84,14 +114,23 @@ def stone(point, side, text=None):
 
 
 def mark(point, text):
-    """A ring with a number or a sign, or a cross, on an empty point."""
+    """A ring with numbers or a sign, or a cross, on an empty point."""
     x, y = at(point)
     if text == "x":
         yield f'<path d="M{x - 8} {y - 8}L{x + 8} {y + 8}M{x - 8} {y + 8}L{x + 8} {y - 8}" stroke="#b3261e" stroke-width="3.4" stroke-linecap="round"/>'
         return
     yield f'<circle cx="{x}" cy="{y}" r="13" fill="#efd29b" stroke="#1d5c8f" stroke-width="2"/>'
     # A star hangs high in its line.
-    yield label(x, y + (5 if text == "*" else 0), text, "#1d5c8f", 22 if text == "*" else 15)
+    size = 22 if text == "*" else 15 if len(text) < 3 else 11
+    yield label(x, y + (5 if text == "*" else 0), text, "#1d5c8f", size)
+
+
+def reply(point, side, number):
+    """A small stone with a number, in the corner of its point, where a ring may stand too."""
+    x, y = at(point)
+    x, y = x + 11, y - 11
+    yield f'<circle cx="{x}" cy="{y}" r="7.5" fill="url(#{side})" stroke="{"#000" if side == "black" else "#8c867b"}" stroke-width="0.7"/>'
+    yield label(x, y, number, "#fff" if side == "black" else "#111", 10)
 
 
 def picture(name, text):
@@ -108,27 +147,34 @@ def picture(name, text):
         '<g font-family="DejaVu Sans, Verdana, Arial, sans-serif" text-anchor="middle">',
         *names(board),
     ]
-    marks = {**{point: "3" for point in board.next}, **MARKS.get(name, {})}
+    marks = {**board.marks(), **MARKS.get(name, {})}
     for point, side in board.stones.items():
         parts += stone(point, side)
-    if board.first:
-        parts += stone(board.first, board.mover, "1")
+    if board.attack:
+        parts += stone(board.attack, board.mover, "●")
     for point, sign in marks.items():
         parts += mark(point, sign)
+    for number, point in enumerate(board.answers, 1):
+        parts += reply(point, "white" if board.mover == "black" else "black", number)
     return "\n".join([*parts, "</g>", "</svg>"]) + "\n"
 
 
 def main():
+    words = sys.argv[1:]
+    if words and words != ["--check"]:
+        for path in map(Path, words):
+            path.with_suffix(".svg").write_text(picture(path.stem, path.read_text()))
+        return 0
     failed = 0
-    for path in sorted(HERE.glob("*.txt")):
+    for path in sorted(HERE.rglob("*.txt")):
         text, there = path.read_text(), path.with_suffix(".svg")
-        if not text.startswith("renju-"):
+        if not text.startswith("renju-") or not (there.exists() or path.parent == HERE):
             continue
         drawn = picture(path.stem, text)
-        if "--check" not in sys.argv[1:]:
+        if not words:
             there.write_text(drawn)
         elif not there.exists() or there.read_text() != drawn:
-            print(f"FAILED examples/{there.name}: it isn't what examples/pictures.py draws; run that script")
+            print(f"FAILED {there.relative_to(HERE.parent)}: it isn't what examples/pictures.py draws; run that script")
             failed = 1
     return failed
 
