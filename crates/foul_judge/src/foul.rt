@@ -6,15 +6,16 @@
 //! lent. (RIF Rules of Renju; which double-threes are allowed to stand is decided by this recursion alone.)
 #![tactic(auto)]
 
-ghost use Rattle.std.specs.Prelude.{◌≡◌, ◌<◌, IsTrue, nat_le, ◌==◌, map};
+ghost use Rattle.std.specs.Prelude.{◌≡◌, ◌<◌, ◌≤◌, IsTrue, nat_le, ◌==◌, map};
 ghost use Rattle.std.specs.List.{list_any, count_by, sum_by};
 ghost use Rattle.game_rules.specs.Grid.{IsBoard, is_empty, holds, along as along_lem, axes};
 ghost use Rattle.game_rules.specs.Shapes.{is_line_three_at, run_of, fours_of};
 ghost use Rattle.game_rules.specs.Play.{is_three as is_three_lem, stone_foul as stone_foul_lem, black_foul as black_foul_lem, foul_of};
-ghost use Rattle.foul_judge.specs.ShortCut.{has_line_three as has_line_three_lem};
+ghost use Rattle.row_shapes.specs.Reach.{stones_in_reach};
+ghost use Rattle.foul_judge.specs.ShortCut.{reaches_of, has_line_three as has_line_three_lem};
 ghost use Rattle.foul_judge.specs.Threes.{free_three};
 
-use crate::short_cut::may_foul;
+use crate::short_cut::{may_foul, may_have_two_threes, reaches};
 use game_rules::Foul;
 use row_shapes::{Rule, five_at, fours_through, three_points};
 use stone_board::{Axis, Board, Point, Side};
@@ -40,11 +41,12 @@ fn black_foul<R: Rule>(board: &mut Board, p: Point) -> Option<Foul>
     ensures foul { result ≡ black_foul_lem R.KIND board.old p }
     ensures same { board.new ≡ board.old }
 {
-    if !may_foul(board, p) {
+    let reaches = reaches(board, p);
+    if !may_foul(&reaches) {
         return None;
     }
     board.put(p, Side::Black);
-    let result = stone_foul::<R>(board, p);
+    let result = stone_foul::<R>(board, p, &reaches);
     board.lift(p);
     result
 }
@@ -52,9 +54,10 @@ fn black_foul<R: Rule>(board: &mut Board, p: Point) -> Option<Foul>
 /// The foul that Black's stone on `p` makes.
 #[cycle(fouls)]
 #[tactic(auto, unfolding(game_rules::specs::Play::stone_foul))]
-fn stone_foul<R: Rule>(board: &mut Board, p: Point) -> Option<Foul>
+fn stone_foul<R: Rule>(board: &mut Board, p: Point, reaches: &[u32; 4]) -> Option<Foul>
     requires board { IsBoard board.old }
     requires stone { IsTrue (holds board.old Side.Black p) }
+    requires reaches { reaches.now ≡ reaches_of board.old p }
     ensures foul { result ≡ stone_foul_lem R.KIND board.old p (black_foul_lem R.KIND board.old) }
     ensures same { board.new ≡ board.old }
 {
@@ -63,9 +66,9 @@ fn stone_foul<R: Rule>(board: &mut Board, p: Point) -> Option<Foul>
         None
     } else if has_overline(&runs) {
         Some(Foul::Overline)
-    } else if fours::<R>(board, p) >= 2 {
+    } else if fours::<R>(board, p, reaches) >= 2 {
         Some(Foul::DoubleFour)
-    } else if has_two_threes::<R>(board, p) {
+    } else if has_two_threes::<R>(board, p, reaches) {
         Some(Foul::DoubleThree)
     } else {
         None
@@ -73,15 +76,19 @@ fn stone_foul<R: Rule>(board: &mut Board, p: Point) -> Option<Foul>
 }
 
 /// Whether two axes are threes of Black's stone on `p`. The judge asks itself about no further stone where fewer than two
-/// axes have three points as far as their lines decide, nor once two threes are found.
+/// axes have the stones for a three, or three points as far as their lines decide, nor once two threes are found.
 #[cycle(fouls)]
-fn has_two_threes<R: Rule>(board: &mut Board, p: Point) -> bool
+fn has_two_threes<R: Rule>(board: &mut Board, p: Point, reaches: &[u32; 4]) -> bool
     requires board { IsBoard board.old }
     requires stone { IsTrue (holds board.old Side.Black p) }
+    requires reaches { reaches.now ≡ reaches_of board.old p }
     ensures two { result ≡ nat_le 2 (count_by (λ d. is_three_lem R.KIND board.old d p (black_foul_lem R.KIND board.old)) axes) }
     ensures same { board.new ≡ board.old }
 {
-    if line_threes::<R>(board, p) < 2 {
+    if !may_have_two_threes(reaches) {
+        return false;
+    }
+    if line_threes::<R>(board, p, reaches) < 2 {
         return false;
     }
     let row = is_three::<R>(board, Axis::Row, p);
@@ -158,31 +165,52 @@ fn has_overline(runs: &[u32; 4]) -> bool
 }
 
 /// The number of fours of Black's stone on `p`, added over the four axes.
-fn fours<R: Rule>(board: &Board, p: Point) -> u32
+fn fours<R: Rule>(board: &Board, p: Point, reaches: &[u32; 4]) -> u32
     requires stone { IsTrue (holds board.now Side.Black p) }
+    requires reaches { reaches.now ≡ reaches_of board.now p }
     ensures fours { result ≡ sum_by (λ d. fours_of R.KIND board.now Side.Black d p) axes }
 {
-    fours_through::<R>(board, p, Axis::Row)
-        + fours_through::<R>(board, p, Axis::Column)
-        + fours_through::<R>(board, p, Axis::Down)
-        + fours_through::<R>(board, p, Axis::Up)
+    fours_on::<R>(board, Axis::Row, p, reaches[0])
+        + fours_on::<R>(board, Axis::Column, p, reaches[1])
+        + fours_on::<R>(board, Axis::Down, p, reaches[2])
+        + fours_on::<R>(board, Axis::Up, p, reaches[3])
+}
+
+/// The number of fours of Black's stone on `p` on the axis. With fewer than three stones within reach it has none, and is
+/// not looked at.
+fn fours_on<R: Rule>(board: &Board, axis: Axis, p: Point, reach: u32) -> u32
+    requires stone { IsTrue (holds board.now Side.Black p) }
+    requires reach { reach ≡ stones_in_reach board.now Side.Black axis p }
+    ensures fours { result ≡ fours_of R.KIND board.now Side.Black axis p }
+    ensures bound { result ≤ 20 }
+{
+    if reach < 3 {
+        0
+    } else {
+        fours_through::<R>(board, p, axis)
+    }
 }
 
 /// How many axes have a three point of Black's stone on `p`, as far as the axis decides.
-fn line_threes<R: Rule>(board: &Board, p: Point) -> u32
+fn line_threes<R: Rule>(board: &Board, p: Point, reaches: &[u32; 4]) -> u32
+    requires board { IsBoard board.now }
     requires stone { IsTrue (holds board.now Side.Black p) }
+    requires reaches { reaches.now ≡ reaches_of board.now p }
     ensures threes { result ≡ count_by (λ d. has_line_three_lem R.KIND board.now d p) axes }
 {
-    u32::from(has_line_three::<R>(board, Axis::Row, p))
-        + u32::from(has_line_three::<R>(board, Axis::Column, p))
-        + u32::from(has_line_three::<R>(board, Axis::Down, p))
-        + u32::from(has_line_three::<R>(board, Axis::Up, p))
+    u32::from(has_line_three::<R>(board, Axis::Row, p, reaches[0]))
+        + u32::from(has_line_three::<R>(board, Axis::Column, p, reaches[1]))
+        + u32::from(has_line_three::<R>(board, Axis::Down, p, reaches[2]))
+        + u32::from(has_line_three::<R>(board, Axis::Up, p, reaches[3]))
 }
 
-/// Whether the axis has a three point of Black's stone on `p`, as far as the axis decides.
-fn has_line_three<R: Rule>(board: &Board, axis: Axis, p: Point) -> bool
+/// Whether the axis has a three point of Black's stone on `p`, as far as the axis decides. With fewer than two stones within
+/// reach it has none, and is not looked at.
+fn has_line_three<R: Rule>(board: &Board, axis: Axis, p: Point, reach: u32) -> bool
+    requires board { IsBoard board.now }
     requires stone { IsTrue (holds board.now Side.Black p) }
+    requires reach { reach ≡ stones_in_reach board.now Side.Black axis p }
     ensures three { result ≡ has_line_three_lem R.KIND board.now axis p }
 {
-    three_points::<R>(board, p, axis) != 0
+    reach >= 2 && three_points::<R>(board, p, axis) != 0
 }

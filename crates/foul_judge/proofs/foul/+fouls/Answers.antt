@@ -10,7 +10,8 @@ use Rattle.stone_board.specs.Steps.{holds_stone}
 use Rattle.stone_board.proofs.Looks.{kept-Some}
 use Rattle.stone_board.proofs.Stones.{put-holds_stone}
 use Rattle.foul_judge.proofs.ThreePlaces.{foul-step, three_by_place, no_three, no_free_three, line_three-empty, free_three-line, not_free, none_by, bit_clear, answer_at}
-use Rattle.foul_judge.proofs.MayFoul.{no_foul, no_two_threes}
+use Rattle.foul_judge.proofs.MayFoul.{reaches_of-put, no_foul, few_threes, no_two_threes}
+use Rattle.foul_judge.specs.ShortCut.{reaches_of, may_have_two_threes, may_foul}
 use Rattle.foul_judge.specs.Threes.{free_three}
 use Rattle.foul_judge.proofs.foul.+fouls.Goals as goal
 use Rattle.foul_judge.proofs.foul.+fouls.Goals.{is_three-else-line_points-place-eq1-via-then-line_points-place-eq1+else-is_free_three, is_three-else-line_points-place-eq1-via-else-line_points-place-eq1}
@@ -21,10 +22,16 @@ black_foul-stone_foul-result-requires g t c =
     let less : 5 * empties_of c.put.new.self + 4 < 5 * empties_of c.args.board.now = rw c.put.ensures.put (omega (arith, fewer)) in
     let board : IsBoard c.put.new.self = rw c.put.ensures.put (IsBoard-put c.args.board.now Black c.args.p c.put.ensures.board) in
     let stone : holds c.put.new.self Black c.args.p ≡ true = rw c.put.ensures.put (holds-put_same c.args.board.now Black c.args.p c.put.ensures.board (is_empty-on c.args.board.now c.args.p c.requires.empty)) in
+    let reaches : c.reaches-reaches.result ≡ reaches_of c.put.new.self c.args.p = rw c.put.ensures.put (c.reaches-reaches.ensures.reaches ∙ sym (reaches_of-put c.args.board.now c.args.p (is_empty-on c.args.board.now c.args.p c.requires.empty))) in
     search rules
 
 pub black_foul-returns-then-not-may_foul-clause-foul : goal.black_foul-returns-then-not-may_foul-clause-foul
-black_foul-returns-then-not-may_foul-clause-foul g t c = sym (no_foul g.R.Rule.KIND c.args.board.now c.args.p c.may_foul.ensures.board c.requires.empty (sym c.may_foul.ensures.may ∙ c.if-not-may_foul.true))
+black_foul-returns-then-not-may_foul-clause-foul g t c =
+    sym (no_foul g.R.Rule.KIND c.args.board.now c.args.p c.reaches-reaches.ensures.board c.requires.empty (ap may_foul (sym c.reaches-reaches.ensures.reaches) ∙ sym c.may_foul.ensures.may ∙ c.if-not-may_foul.true))
+
+pub has_two_threes-returns-then-not-may_have_two_threes-clause-two : goal.has_two_threes-returns-then-not-may_have_two_threes-clause-two
+has_two_threes-returns-then-not-may_have_two_threes-clause-two g t c =
+    sym (few_threes g.R.Rule.KIND c.args.board.now c.args.p c.requires.stone c.requires.board (ap may_have_two_threes (sym c.requires.reaches) ∙ sym c.may_have_two_threes.ensures.may ∙ c.if-not-may_have_two_threes.true))
 
 pub has_two_threes-returns-then-line_threes-lt2-clause-two : goal.has_two_threes-returns-then-line_threes-lt2-clause-two
 has_two_threes-returns-then-line_threes-lt2-clause-two g t c = sym (no_two_threes g.R.Rule.KIND c.args.board.now c.args.p c.requires.board c.requires.stone c.line_threes.result c.line_threes.ensures.threes c.if-line_threes-lt2.true)
