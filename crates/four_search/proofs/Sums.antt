@@ -8,7 +8,7 @@ use Rattle.game_rules.specs.Shapes.{is_same_point}
 use Rattle.game_rules.specs.declared.Point.{Point}
 use Rattle.game_rules.proofs.Points.{is_same_point-same}
 use Rattle.four_search.proofs.Naming.{among_points}
-use Rattle.four_search.proofs.Reading.{From, Following, Following-later, rows-following}
+use Rattle.strategy_graph.proofs.ReadingOrder.{From, Following, Following-later, rows-following}
 use Rattle.std.proofs.Common.{length-append}
 
 -- each number is at most 1
@@ -56,7 +56,7 @@ module _ (f : Point → ℕ) (w : Point) (most : ℕ) (some : 1 ≤ most) (high 
   after_w : (ps : List Point) → Following w.y (w.x + 1) ps → AllByRecursion (λ q. f q ≤ 1) ps
   unfolding Following
   after_w [] h = tt
-  after_w (q ∷ ps) h = (each q (not_after w q h.0), after_w ps (Following-later w q ps h.0 h.1))
+  after_w (q ∷ ps) h = (each q (not_after w q h.0), after_w ps (Following-later w.y (w.x + 1) q ps h.0 h.1))
 
   sum-once-from : (y x : ℕ) (ps : List Point) → Following y x ps → sum_by f ps + 1 ≤ length ps + most
   unfolding Following

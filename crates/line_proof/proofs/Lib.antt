@@ -2,8 +2,7 @@
 
 -- lists of nodes that grow
 mod Growing
--- replies in reading order; the cost of two fours
-mod Reading
+-- the cost of two fours
 mod Costs
 -- the node that has the answers to all replies
 mod Forking

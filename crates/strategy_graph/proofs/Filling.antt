@@ -1,5 +1,5 @@
--- Tables that a node is added to, and lists of depths that grow node by node.
-use Rattle.std.proofs.Common.{◌≡◌, ℕ, zero, suc, ◌+◌, ◌≤◌, ◌<◌, true, List, [], ◌∷◌, ◌++◌, length, map, ◌⊎◌, inl, inr, refl, sym, ap, subst, ◌∙◌, arith, length-append, add-one, get_or}
+-- Tables that a node is added to, with the depths of their nodes.
+use Rattle.std.proofs.Common.{◌≡◌, ℕ, zero, suc, ◌+◌, ◌≤◌, ◌<◌, true, List, [], ◌∷◌, ◌++◌, length, map, ◌⊎◌, inl, inr, refl, sym, ap, subst, ◌∙◌, arith, length-append, get_or}
 use Rattle.std.specs.Prelude.{Option, Some, None, IfSome, slice_get, slice_index, nat_lt}
 use Rattle.std.specs.List.{list_all}
 use Rattle.std.proofs.lemmas.Option.{slice_get_read}
@@ -10,8 +10,9 @@ use Rattle.game_rules.specs.declared.Point.{Point}
 use Rattle.strategy_graph.specs.declared.Reply.{Reply}
 use Rattle.strategy_graph.specs.declared.Rest.{Rest}
 use Rattle.strategy_graph.specs.declared.TheConstants.{MAX_NODES}
-use Rattle.strategy_graph.specs.Tables.{Answers, answers_of, answer, named, names_below, NamesLower, IsNode, IsTable, greatest, node_depth, depth_within, depth, start_depth}
+use Rattle.strategy_graph.specs.Tables.{Answers, answers_of, answer, named, names_below, NamesLower, IsNode, IsTable, AreDepths, IsTableWithDepths, greatest, node_depth, depth_within, depth, start_depth}
 use Rattle.strategy_graph.proofs.Fuel.{depth-step}
+use Rattle.strategy_graph.proofs.Growth.{growth-same, growth-same-start}
 use Rattle.strategy_graph.proofs.Answering.{answer-below}
 use Rattle.game_rules.proofs.Boards.{and_left, and_right}
 use borrow.Author.Tests.{ltb-true}
@@ -53,7 +54,7 @@ within_le zero t i = omega arith
 within_le (suc k) t i = node_depth_le (slice_get t i) (depth_within k t) k (within_le k t)
 
 -- no node is deeper than one more than its number
-pub depth-le : (t : List Node) (i : ℕ) → depth t i ≤ suc i
+depth-le : (t : List Node) (i : ℕ) → depth t i ≤ suc i
 depth-le t i = within_le (suc i) t i
 
 greatest_same : (p : ℕ → ℕ) (d : ℕ → ℕ) (k : ℕ) → ((j : ℕ) → j < k → p j ≡ d j) → (js : List ℕ) → list_all (λ j. nat_lt j k) js ≡ true → greatest (map p js) ≡ greatest (map d js)
@@ -63,46 +64,62 @@ greatest_same p d k h (j ∷ js) all =
     let rest : greatest (map p js) ≡ greatest (map d js) = greatest_same p d k h js (and_right (nat_lt j k) _ all) in
     rw (here, rest) refl
 
--- the depths of the first k nodes, in their order
-pub record DepthsUpTo (t : List Node) (ds : List ℕ) (k : ℕ) : Type 0 where
-  pub count : length ds ≡ k
-  pub each : (i : ℕ) → i < k → slice_index ds i ≡ depth t i
+greatest_under : (p : ℕ → ℕ) (k : ℕ) → ((j : ℕ) → j < k → p j ≤ k) → (js : List ℕ) → list_all (λ j. nat_lt j k) js ≡ true → greatest (map p js) ≤ k
+greatest_under p k h [] all = omega arith
+greatest_under p k h (j ∷ js) all =
+    let here : p j ≤ k = h j (ltb-true _ _ (and_left (nat_lt j k) _ all)) in
+    let rest : greatest (map p js) ≤ k = greatest_under p k h js (and_right (nat_lt j k) _ all) in
+    omega (arith, here, rest)
 
 -- the greatest depth by the list is that of the table
-pub greatest-depths : (t : List Node) (ds : List ℕ) (k : ℕ) → DepthsUpTo t ds k → (a : Answers) → names_below a k ≡ true → greatest (map (λ j. slice_index ds j) (named a)) ≡ start_depth t a
-greatest-depths t ds k h a below = greatest_same (λ j. slice_index ds j) (depth t) k h.each (named a) below
+greatest-depths : (t : List Node) (ds : List ℕ) → AreDepths t ds → (a : Answers) → names_below a (length t) ≡ true → greatest (map (λ j. slice_index ds j) (named a)) ≡ start_depth t a
+greatest-depths t ds h a below = greatest_same (λ j. slice_index ds j) (depth t) (length t) h.each (named a) below
+
+-- the nodes that are named are no deeper than the table is long
+pub greatest-le : (t : List Node) (ds : List ℕ) → AreDepths t ds → (a : Answers) → names_below a (length t) ≡ true → greatest (map (λ j. slice_index ds j) (named a)) ≤ length t
+greatest-le t ds h a below = greatest_under (λ j. slice_index ds j) (length t) (λ j l. let e = h.each j l in let most = depth-le t j in omega (arith, e, most)) (named a) below
 
 node_depth-at : (t : List Node) (i : ℕ) (n : Node) → NamesLower t → slice_get t i ≡ Some n → depth t i ≡ suc (start_depth t (answers_of n))
 node_depth-at t i n lower e = depth-step t lower i ∙ ap (λ (o : Option Node). node_depth o (depth t)) e
 
--- the depth of the next node, by the depths of those before it
-pub next-depth : (t : List Node) (ds : List ℕ) (k : ℕ) (n : Node) → NamesLower t → DepthsUpTo t ds k → slice_get t k ≡ Some n → suc (greatest (map (λ j. slice_index ds j) (named (answers_of n)))) ≡ depth t k
-next-depth t ds k n lower h e = ap suc (greatest-depths t ds k h (answers_of n) (lower.lower k n e)) ∙ sym (node_depth-at t k n lower e)
+last_node : (t : List Node) (n : Node) → slice_get (t ++ n ∷ []) (length t) ≡ Some n
+last_node [] n = refl
+last_node (m ∷ t) n = last_node t n
 
-pub DepthsUpTo-push : (t : List Node) (ds : List ℕ) (k d : ℕ) → DepthsUpTo t ds k → d ≡ depth t k → DepthsUpTo t (ds ++ d ∷ []) (k + 1)
-DepthsUpTo-push t ds k d h e = record {
-  count = let n = h.count in omega (arith, n, length-append ds (d ∷ []));
-  each = λ i l. elim (cases_lt i k) [
-    | inl less ↦ get_or_append_left ds (d ∷ []) 0 i (let n = h.count in omega (arith, n, less)) ∙ h.each i less
+-- a node that is added is one deeper than the deepest that it names
+added_depth : (t : List Node) (ds : List ℕ) (n : Node) → NamesLower t → NamesLower (t ++ n ∷ []) → AreDepths t ds → names_below (answers_of n) (length t) ≡ true → depth (t ++ n ∷ []) (length t) ≡ suc (greatest (map (λ j. slice_index ds j) (named (answers_of n))))
+added_depth t ds n lower longer h below =
+    node_depth-at (t ++ n ∷ []) (length t) n longer (last_node t n)
+    ∙ ap suc ((growth-same-start t (n ∷ []) lower (answers_of n) below).same_depth ∙ sym (greatest-depths t ds h (answers_of n) below))
+
+AreDepths-push : (t : List Node) (ds : List ℕ) (n : Node) (d : ℕ) → NamesLower t → AreDepths t ds → d ≡ depth (t ++ n ∷ []) (length t) → AreDepths (t ++ n ∷ []) (ds ++ d ∷ [])
+AreDepths-push t ds n d lower h e = record {
+  count = let count = h.count in omega (arith, count, length-append ds (d ∷ []), length-append t (n ∷ []));
+  each = λ i l. elim (cases_lt i (length t)) [
+    | inl less ↦
+        get_or_append_left ds (d ∷ []) 0 i (let count = h.count in omega (arith, count, less)) ∙ h.each i less
+        ∙ sym ((growth-same t (n ∷ []) lower i less).same_depth)
     | inr more ↦
-        let same : k ≡ i = omega arith in
-        get_or_push ds d 0 i (h.count ∙ same) ∙ e ∙ ap (λ (j : ℕ). depth t j) same
+        let same : length t ≡ i = omega (arith, l, more, length-append t (n ∷ [])) in
+        get_or_push ds d 0 i (h.count ∙ same) ∙ e ∙ ap (λ (j : ℕ). depth (t ++ n ∷ []) j) same
   ];
 }
 
--- ---- the same where a node is read in parts
+-- a table and its depths stay so when such a node is added with its depth
+pub IsTableWithDepths-push : (t : List Node) (ds : List ℕ) (n : Node) (m : ℕ) → IsTableWithDepths t ds → IsNode n (length t) → length t < MAX_NODES → m ≡ greatest (map (λ j. slice_index ds j) (named (answers_of n))) → IsTableWithDepths (t ++ n ∷ []) (ds ++ (m + 1) ∷ [])
+IsTableWithDepths-push t ds n m h new room value =
+    let longer : IsTable (t ++ n ∷ []) = IsTable-push t n h.table new room in
+    let added = added_depth t ds n (IsTable-lower t h.table) (IsTable-lower (t ++ n ∷ []) longer) h.counted new.below in
+    record { table = longer; counted = AreDepths-push t ds n (m + 1) (IsTable-lower t h.table) h.counted (omega (arith, added, value)) }
 
-pub names_below-read : (t : List Node) (k m : ℕ) (n : Node) (rs : List Reply) → NamesLower t → slice_get t k ≡ Some n → rs ≡ n.replies → m ≡ k → names_below (record { replies = rs; rest = n.rest }) m ≡ true
-names_below-read t k m n rs lower e same h = rw (same, h) (lower.lower k n e)
+-- ---- the same where answers are read in parts
 
-pub depth-read : (t : List Node) (ds es : List ℕ) (k m : ℕ) (n : Node) (rs : List Reply) → NamesLower t → DepthsUpTo t ds k → slice_get t k ≡ Some n → rs ≡ n.replies → es ≡ ds → m ≡ greatest (map (λ j. slice_index es j) (named (record { replies = rs; rest = n.rest }))) → m + 1 ≡ depth t k
-depth-read t ds es k m n rs lower h e same list value =
-    ap (λ (x : ℕ). x + 1) value
-    ∙ rw (same, list, add-one) (next-depth t ds k n lower h e)
+pub greatest-read : (ds es : List ℕ) (a : Answers) (rs : List Reply) (r : Rest) (m : ℕ) → es ≡ ds → rs ≡ a.replies → r ≡ a.rest → m ≡ greatest (map (λ j. slice_index es j) (named (record { replies = rs; rest = r }))) → m ≡ greatest (map (λ j. slice_index ds j) (named a))
+greatest-read ds es a rs r m list same last value = value ∙ rw (same, last, list) refl
 
-pub start_depth-read : (t u : List Node) (ds es : List ℕ) (k : ℕ) (a : Answers) (rs : List Reply) (r : Rest) (m : ℕ) → u ≡ t → DepthsUpTo u ds k → names_below a k ≡ true → rs ≡ a.replies → r ≡ a.rest → es ≡ ds → m ≡ greatest (map (λ j. slice_index es j) (named (record { replies = rs; rest = r }))) → m ≡ start_depth t a
-start_depth-read t u ds es k a rs r m table h below same last list value =
-    value ∙ rw (same, last, list) (greatest-depths u ds k h a below) ∙ ap (λ (x : List Node). start_depth x a) table
+pub start_depth-read : (t u : List Node) (ds : List ℕ) (a : Answers) (m : ℕ) → u ≡ t → AreDepths u ds → names_below a (length t) ≡ true → m ≡ greatest (map (λ j. slice_index ds j) (named a)) → m ≡ start_depth t a
+start_depth-read t u ds a m table h below value =
+    value ∙ greatest-depths u ds h a (rw table below) ∙ ap (λ (x : List Node). start_depth x a) table
 
 -- the answer of a node of a table is a lower node
 answer_lower : (a : Answers) (i : ℕ) (q : Point) (o : Option ℕ) → names_below a i ≡ true → o ≡ answer a q → IfSome o (λ j. j < i)

@@ -1,8 +1,10 @@
 -- The laws of tables. What is declared by `pub mod` the layers above may cite; the rest serves this crate alone.
 
--- what holds of the answer to a reply; replies that rise; the nodes that answers name; `==` of nodes
+-- what holds of the answer to a reply; replies that rise, as those at points in reading order do; the nodes that answers name;
+-- `==` of nodes
 pub mod Answering
 pub mod Rising
+pub mod ReadingOrder
 pub mod Naming
 pub mod Equal
 -- depth, acceptance and arrivals by the nodes that are named; tables that grow, or hold copies under other numbers

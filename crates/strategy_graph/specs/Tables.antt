@@ -1,5 +1,5 @@
 -- Tables of answers: what a node names, the answer to a reply, and depths.
-use Rattle.std.specs.Prelude.{◌≡◌, ℕ, zero, suc, ◌≤◌, max, Bool, true, false, ◌&&◌, ◌||◌, ◌==◌, nat_lt, List, [], ◌∷◌, ◌++◌, map, length, Option, Some, None, slice_get}
+use Rattle.std.specs.Prelude.{◌≡◌, ℕ, zero, suc, ◌≤◌, ◌<◌, max, Bool, true, false, ◌&&◌, ◌||◌, ◌==◌, nat_lt, List, [], ◌∷◌, ◌++◌, map, length, Option, Some, None, slice_get, slice_index}
 use Rattle.std.specs.List.{list_all, find, AllByRecursion}
 use Rattle.std.specs.Option.{option_map, option_or, option_and_then}
 use Rattle.game_rules.specs.Grid.{Grid, is_on}
@@ -127,3 +127,13 @@ depth t i = depth_within (suc i) t i
 -- the depth of a start: the greatest depth of the nodes that it names, or 0 if it names none
 abbrev pub start_depth : List Node → Answers → ℕ
 start_depth t a = greatest (map (depth t) (named a))
+
+-- the depths of the nodes of the table, in the order of the nodes
+pub record AreDepths (t : List Node) (depths : List ℕ) : Type 0 where
+  pub count : length depths ≡ length t
+  pub each : (i : ℕ) → i < length t → slice_index depths i ≡ depth t i
+
+-- a table, and the depths of its nodes
+pub record IsTableWithDepths (t : List Node) (depths : List ℕ) : Type 0 where
+  pub table : IsTable t
+  pub counted : AreDepths t depths

@@ -1,12 +1,11 @@
-//! Depths of nodes. Each node names only lower ones, so the depths are counted in the order of the nodes, and no node
-//! asks for a depth that is not known yet.
+//! Depths of nodes. Each node names only lower ones, so that the depth of a node follows from depths that are known
+//! when it is added.
 #![tactic(auto)]
 
-ghost use Rattle.std.specs.Prelude.{◌≡◌, ◌≤◌, ◌<◌, ◌+◌, true, ℕ, map, length, slice_index, IfOk, EachIndex};
-ghost use Rattle.strategy_graph.specs.Tables.{NamesLower, depth, greatest, named, names_below};
+ghost use Rattle.std.specs.Prelude.{◌≡◌, true, map, length, slice_index};
+ghost use Rattle.strategy_graph.specs.Tables.{greatest, named, names_below};
 
-use crate::{MAX_NODES, Node, Reply, Rest};
-use std::alloc::{AllocError, Global};
+use crate::{Reply, Rest};
 
 /// The greatest depth of the nodes that the replies and the rest name, or 0 if they name none.
 pub(crate) fn deepest(replies: &[Reply], rest: Rest, depths: &[u32]) -> u32
@@ -23,22 +22,4 @@ pub(crate) fn deepest(replies: &[Reply], rest: Rest, depths: &[u32]) -> u32
         most = most.max(depths[reply.next as usize]);
     }
     most
-}
-
-/// The depths of the first `count` nodes.
-pub(crate) fn depths_of(alloc: Global, nodes: &[Node], count: u32) -> Result<Vec<u32>, AllocError>
-    requires lower { NamesLower nodes.now }
-    requires counted { count ≤ length nodes.now }
-    requires few { count ≤ MAX_NODES }
-    ensures count { IfOk result (λ ds. length ds.items ≡ count) }
-    ensures depths { IfOk result
-        (λ ds. (i : ℕ) → i < count → slice_index ds.items i ≡ depth nodes.now i) }
-{
-    let mut depths = Vec::with_capacity(alloc, count as usize)?;
-    for i in 0..count {
-        let node = &nodes[i as usize];
-        let below = deepest(node.replies.as_slice(), node.rest, depths.as_slice());
-        depths.push(below + 1)?;
-    }
-    Ok(depths)
 }

@@ -1,14 +1,15 @@
 //! A table: nodes that name only lower ones.
 //!
 //! It is filled from the bottom up, and each node is checked against those that are there when it is added. So there is
-//! no circle, what is counted node by node ends, and a table never has to be checked again.
+//! no circle, what is counted node by node ends, and a table never has to be checked again. The depth of each node is
+//! counted when it is added, from those of the nodes that it names, and kept beside the nodes.
 #![tactic(auto)]
 
-ghost use Rattle.std.specs.Prelude.{◌≡◌, ◌↔◌, ◌<◌, ◌++◌, [], ◌∷◌, IsTrue, true, false, List, length, slice_get, Some, IfOk, IfSome, OnOk, OnErr, IsErrOf};
+ghost use Rattle.std.specs.Prelude.{◌≡◌, ◌↔◌, ◌<◌, ◌++◌, [], ◌∷◌, IsTrue, true, false, List, length, slice_get, Some, IfOk, IfSome, IsOk, OnOk, OnErr, IsErrOf};
 ghost use Rattle.strategy_graph.specs.Roots.{root_below, root_depth};
 ghost use Rattle.strategy_graph.specs.Tables.{IsTable, answer_at, is_rising, is_winning, names_below, names_nodes_of, depth, start_depth};
 
-use crate::depths::{deepest, depths_of};
+use crate::depths::deepest;
 use crate::replies::{answer_among, are_all_below};
 use crate::{MAX_NODES, Node, Root, Start};
 use game_rules::Point;
@@ -21,18 +22,19 @@ use thiserror::Error;
 #[derive(Debug, Drop)]
 pub struct Table {
     nodes: Vec<Node>,
+    depths: Vec<u32>,
 }
 
 impl Model for Table {
     ghost use Rattle.std.specs.Prelude.{List};
     ghost use Rattle.strategy_graph.specs.declared.Node.{Node};
-    ghost use Rattle.strategy_graph.specs.Tables.{IsTable};
+    ghost use Rattle.strategy_graph.specs.Tables.{IsTableWithDepths};
 
     ghost Value = { List Node };
 
     ghost view = { λ t. t.nodes.items };
 
-    ghost invariant = { λ t. IsTable t.nodes.items };
+    ghost invariant = { λ t. IsTableWithDepths t.nodes.items t.depths.items };
 }
 
 /// Why a node is not added. The first that holds is answered.
@@ -47,7 +49,7 @@ pub enum PushError {
     /// The table has `MAX_NODES` nodes.
     #[error("the table is full")]
     Full,
-    /// There is no memory for the node.
+    /// There is no memory for the node and its depth.
     #[error("out of memory")]
     Memory,
 }
@@ -59,6 +61,7 @@ impl Table {
     {
         Table {
             nodes: Vec::new(alloc),
+            depths: Vec::new(alloc),
         }
     }
 
@@ -103,7 +106,7 @@ impl Table {
     /// - `NotBelow`, exactly where the node names a number that is not below the length of the table;
     /// - `NotRising`, exactly where its replies do not rise strictly in reading order;
     /// - `Full`, exactly where the table has `MAX_NODES` nodes;
-    /// - `Memory`, where there is no memory for it.
+    /// - `Memory`, where there is no memory for it and its depth.
     pub fn push(&mut self, node: Node) -> Result<u32, PushError>
         requires winning { is_winning node.rest ≡ true → node.replies ≡ [] }
         ensures number { IfOk result (λ i. i ≡ length self.old) }
@@ -129,37 +132,45 @@ impl Table {
         if number == MAX_NODES {
             return Err(PushError::Full);
         }
+        let below = deepest(node.replies.as_slice(), node.rest, self.depths.as_slice());
+        if self.depths.push(below + 1).is_err() {
+            return Err(PushError::Memory);
+        }
         if self.nodes.push(node).is_err() {
+            // The depth goes again, so that the table is as it was.
+            self.depths.pop();
             return Err(PushError::Memory);
         }
         Ok(number)
     }
 
     /// The depth of node `i`: 1 for a node that names no other, else 1 more than the greatest depth of those that it
-    /// names. Where the node is accepted, a game from it is won with at most so many attacks.
+    /// names. Where the node is accepted, a game from it is won with at most so many attacks. The depths are counted as
+    /// the nodes are added, so that it asks for no memory and always answers `Ok`.
     pub fn depth(&self, i: u32) -> Result<u32, AllocError>
         requires in_table { i < length self.now }
         ensures depth { IfOk result (λ d. d ≡ depth self.now i) }
+        ensures always { IsOk result }
     {
-        let depths = depths_of(*self.nodes.allocator(), self.nodes.as_slice(), i + 1)?;
-        Ok(depths[i as usize])
+        Ok(self.depths[i as usize])
     }
 
     /// The depth of a start, which names only nodes of the table: the greatest depth of those that it names, or 0 if it
-    /// names none.
+    /// names none. It looks only at what the start names, asks for no memory and always answers `Ok`.
     pub fn start_depth(&self, start: &Start) -> Result<u32, AllocError>
         requires below { names_below start.now (length self.now) ≡ true }
         ensures depth { IfOk result (λ d. d ≡ start_depth self.now start.now) }
+        ensures always { IsOk result }
     {
-        let len = self.nodes.len() as u32;
-        let depths = depths_of(*self.nodes.allocator(), self.nodes.as_slice(), len)?;
-        Ok(deepest(start.replies().as_slice(), start.rest(), depths.as_slice()))
+        let depths = self.depths.as_slice();
+        Ok(deepest(start.replies().as_slice(), start.rest(), depths))
     }
 
-    /// The depth of a root, which names only nodes of the table.
+    /// The depth of a root, which names only nodes of the table. It asks for no memory and always answers `Ok`.
     pub fn root_depth(&self, root: &Root) -> Result<u32, AllocError>
         requires below { root_below root.now (length self.now) ≡ true }
         ensures depth { IfOk result (λ d. d ≡ root_depth self.now root.now) }
+        ensures always { IsOk result }
     {
         match root {
             Root::Attack(number) => self.depth(*number),

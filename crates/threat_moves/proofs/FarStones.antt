@@ -1,10 +1,10 @@
 -- A stone of the other side that stands away from a three leaves the three as it was: whether a point gives a straight four is
 -- decided by the places of the three's line.
-use Rattle.std.proofs.Common.{◌≡◌, ◌≢◌, inl, inr, ℕ, ◌+◌, ◌-◌, ◌≤◌, ◌<◌, Bool, true, false, ◌&&◌, not, refl, sym, ap, subst, ◌∙◌, arith, nat_eq}
+use Rattle.std.proofs.Common.{◌≡◌, ◌≢◌, inl, inr, ℕ, ◌+◌, ◌-◌, ◌≤◌, ◌<◌, Bool, true, false, ◌&&◌, not, refl, sym, ap, ◌∙◌, arith, nat_eq}
 use Rattle.std.specs.Prelude.{Option, Some, None, is_none, nat_le}
 use Rattle.std.proofs.lemmas.Bool.Decides.{nat_tests}
-use Rattle.game_rules.specs.Grid.{Grid, IsBoard, is_on, is_empty, is_stone_of, stone_of, put, along, points_of, holds}
-use Rattle.game_rules.specs.Shapes.{row_wins, is_line_three_point, five}
+use Rattle.game_rules.specs.Grid.{Grid, IsBoard, is_empty, is_stone_of, stone_of, put, along, points_of, holds}
+use Rattle.game_rules.specs.Shapes.{is_line_three_point, five}
 use Rattle.game_rules.specs.Play.{foul_of, black_foul, has_fouls, other}
 use Rattle.game_rules.specs.declared.RuleKind.{RuleKind}
 use Rattle.game_rules.specs.declared.RuleKind.TheVariants.{Freestyle, Exact, Renju}

@@ -4,8 +4,8 @@ use Rattle.std.proofs.Common.{◌≡◌, inl, inr, ℕ, ◌+◌, ◌-◌, ◌≤
 use Rattle.std.specs.Prelude.{◌==◌, Option, Some, None, is_none}
 use Rattle.std.specs.Int.{bit_at}
 use Rattle.std.proofs.lemmas.Nat.Bits.{bit_at-zero}
-use Rattle.std.specs.List.{list_any, filter, sum_by, count_by, range_with_len}
-use Rattle.std.proofs.lemmas.Bool.{or_right, false_from_ne_true}
+use Rattle.std.specs.List.{list_any, filter, sum_by, count_by}
+use Rattle.std.proofs.lemmas.Bool.{or_right}
 use Rattle.std.proofs.lemmas.Bool.Decides.{nat_tests}
 use Rattle.game_rules.specs.Grid.{Grid, IsBoard, is_on, is_empty, put, along, axes, points_of, holds}
 use Rattle.game_rules.specs.Shapes.{row_wins, stones_ahead, stones_behind, run_of, line_bound, stone_at, wins_on, wins_at, place_stone, place_wins, fours_of, is_line_three_point, is_line_three_at, is_three_point, three_points_of, five}

@@ -1,11 +1,11 @@
 -- Where a side without fouls has no five point, a final point depends on a gain only if both are on one line: the stone on the gain
 -- plays no part in the runs through any other point.
-use Rattle.std.proofs.Common.{◌≡◌, ◌≢◌, inl, inr, ℕ, suc, ◌+◌, ◌-◌, ◌≤◌, ◌<◌, Bool, true, false, cond, ◌&&◌, ◌||◌, not, List, [], ◌∷◌, length, get_or, refl, sym, ap, subst, ◌∙◌, arith, nat_eq, nat_le}
+use Rattle.std.proofs.Common.{◌≡◌, ◌≢◌, inl, inr, ℕ, suc, ◌-◌, ◌≤◌, ◌<◌, Bool, true, false, cond, ◌&&◌, ◌||◌, not, List, [], ◌∷◌, length, get_or, refl, sym, ap, subst, ◌∙◌, arith, nat_le}
 use Rattle.std.specs.Prelude.{Option, Some, None, is_none}
-use Rattle.std.specs.List.{list_any, filter}
+use Rattle.std.specs.List.{filter}
 use Rattle.std.proofs.lemmas.Bool.{false_from_ne_true}
 use Rattle.std.proofs.lemmas.Bool.Decides.{nat_tests}
-use Rattle.game_rules.specs.Grid.{Grid, IsBoard, is_on, is_empty, is_empty_cell, is_stone_of, cell_at, put, lift, along, axes, points_of, holds}
+use Rattle.game_rules.specs.Grid.{Grid, IsBoard, is_on, is_empty, is_empty_cell, is_stone_of, cell_at, put, lift, along, points_of, holds}
 use Rattle.game_rules.specs.Shapes.{row_wins, run_of, stones_ahead, stones_behind, line_bound, stone_at, wins_on, five}
 use Rattle.game_rules.specs.Play.{foul_of, has_fouls}
 use Rattle.game_rules.specs.Games.{is_double_point, has_five, five_points}
@@ -18,12 +18,12 @@ use Rattle.game_rules.specs.declared.Axis.{Axis}
 use Rattle.game_rules.specs.declared.Axis.TheVariants.{Row, Column, Down, Up}
 use Rattle.game_rules.specs.declared.Point.{Point}
 use Rattle.game_rules.proofs.Axes.{axis_of, some_axis, no_axis}
-use Rattle.game_rules.proofs.Boards.{Apart, not-apart, and_left, and_right, is_empty-on, is_empty-put, same_or_apart, empty_holds, holds-put_other, holds-put_same, prefix_len-same, run_of-put}
+use Rattle.game_rules.proofs.Boards.{Apart, and_left, and_right, is_empty-on, is_empty-put, same_or_apart, empty_holds, holds-put_other, holds-put_same, prefix_len-same, run_of-put}
 use Rattle.game_rules.proofs.Lines.{OnLine, along-OnLine}
 use Rattle.game_rules.proofs.Positions.{IsBoard-put, IsBoard-lift, put-lift, stone_at-else}
 use Rattle.stone_board.specs.Steps.{holds_stone}
 use Rattle.threat_moves.specs.declared.threat_list.Threat.{Threat}
-use Rattle.threat_space.specs.Sequences.{without_stone, played, played_all, is_final_point, final_depends, all_needed, is_sequence}
+use Rattle.threat_space.specs.Sequences.{played, played_all, is_final_point, final_depends, all_needed, is_sequence}
 use Rattle.threat_space.specs.Lines.{same_line, is_aligned, EndsAligned}
 use Rattle.threat_space.proofs.Stones.{no_five, new-final}
 

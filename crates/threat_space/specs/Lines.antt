@@ -1,5 +1,5 @@
 -- Points of one line: where the final point of a sequence has to be.
-use Rattle.std.specs.Prelude.{◌≡◌, ℕ, ◌+◌, ◌==◌, Bool, false, List}
+use Rattle.std.specs.Prelude.{◌≡◌, ◌+◌, ◌==◌, Bool, false, List}
 use Rattle.std.specs.List.{list_any}
 use Rattle.game_rules.specs.Grid.{Grid, axes}
 use Rattle.game_rules.specs.declared.RuleKind.{RuleKind}

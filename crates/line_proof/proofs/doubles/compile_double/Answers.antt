@@ -7,7 +7,7 @@ use Rattle.strategy_compiler.specs.Nodes.{answering_node}
 use Rattle.line_proof.specs.Replies.{Extends}
 use Rattle.line_proof.specs.Doubles.{answers_to_each}
 use Rattle.line_proof.proofs.Growing.{extends-put, extends-then, extends-same}
-use Rattle.line_proof.proofs.Reading.{points-rising}
+use Rattle.strategy_graph.proofs.ReadingOrder.{points-rising}
 use Rattle.line_proof.proofs.Doubling.{each-points, each-below, get-grown, given-at}
 use Rattle.line_proof.proofs.doubles.compile_double.Goals as goal
 

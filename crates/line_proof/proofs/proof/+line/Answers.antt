@@ -16,7 +16,7 @@ use Rattle.line_proof.specs.Answers.{OnProved, is_proved}
 use Rattle.line_proof.specs.Doubles.{IsDouble}
 use Rattle.line_proof.specs.Replies.{AreAnswers, AnswersAll, FindsAnswers}
 use Rattle.line_proof.proofs.Growing.{extends-itself, extends-then}
-use Rattle.line_proof.proofs.Reading.{replies-rising}
+use Rattle.strategy_graph.proofs.ReadingOrder.{replies-rising}
 use Rattle.line_proof.proofs.Gathering.{lower_of, answers-grown, answers-more, answers-few, few-step, rest-step, lose-step}
 use Rattle.line_proof.proofs.Doubling.{hint-grown}
 use Rattle.line_proof.proofs.Steps.{no_moves-wins, quick-wins, quick-tree, quick-full, double-quick, double-full, five-quick, five-full, of-some, on-ok, five-refutes, move-wins, move-tree, no-value}

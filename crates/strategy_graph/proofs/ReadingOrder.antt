@@ -1,4 +1,4 @@
--- Replies whose points are points of a board, some left out, rise in reading order.
+-- Points in reading order, and replies at such points, which rise.
 use Rattle.std.proofs.Common.{◌≡◌, ◌⊎◌, inl, inr, ℕ, zero, suc, ◌+◌, ◌≤◌, ◌<◌, Bool, true, false, cond, refl, sym, subst, arith, List, [], ◌∷◌, ◌++◌, map, nat_lt, nat_eq, eq-eqb}
 use Rattle.std.specs.List.{list_all, filter, flat_map, range_with_len}
 use Rattle.std.proofs.lemmas.Bool.Decides.{nat_tests}
@@ -9,11 +9,11 @@ use Rattle.strategy_graph.specs.declared.Reply.{Reply}
 use Rattle.strategy_graph.specs.Tables.{precedes, is_rising}
 
 -- p is at x of row y, or after it
-abbrev From : ℕ → ℕ → Point → Type 0
+abbrev pub From : ℕ → ℕ → Point → Type 0
 From y x p = (y < p.y) ⊎ ((y ≡ p.y) × (x ≤ p.x))
 
 -- the points come one after another in reading order, from x of row y on
-unfoldable Following : ℕ → ℕ → List Point → Type 0
+unfoldable pub Following : ℕ → ℕ → List Point → Type 0
 Following y x [] = Unit {0}
 Following y x (p ∷ ps) = From y x p × Following p.y (p.x + 1) ps
 
@@ -31,7 +31,7 @@ unfolding Following
 row-following y x zero ps h = Following-row y x ps h
 row-following y x (suc n) ps h = (inr (refl, omega arith), row-following y (x + 1) n ps h)
 
-rows-following : (w y n : ℕ) → Following y 0 (flat_map (λ z. row_from z 0 w) (range_with_len y n))
+pub rows-following : (w y n : ℕ) → Following y 0 (flat_map (λ z. row_from z 0 w) (range_with_len y n))
 unfolding Following
 rows-following w y zero = tt
 rows-following w y (suc n) = row-following y 0 w _ (rows-following w (y + 1) n)
@@ -42,7 +42,8 @@ later p q (inl h) y x (inr k) = let e = k.0 in inl (omega (arith, e))
 later p q (inr h) y x (inl k) = let e = h.0 in inl (omega (arith, e))
 later p q (inr h) y x (inr k) = let e = h.0 in let f = k.0 in let g = h.1 in let l = k.1 in inr (omega (arith, e, f), omega (arith, g, l))
 
-Following-later : (y x : ℕ) (p : Point) (ps : List Point) → From y x p → Following p.y (p.x + 1) ps → Following y x ps
+-- points that follow a later one follow the earlier one too
+pub Following-later : (y x : ℕ) (p : Point) (ps : List Point) → From y x p → Following p.y (p.x + 1) ps → Following y x ps
 unfolding Following
 Following-later y x p [] h k = k
 Following-later y x p (q ∷ ps) h k = (later p q k.0 y x h, k.1)
@@ -56,7 +57,7 @@ filter-following f y x (p ∷ ps) h = by_test (f p) (filter-following f p.y (p.x
   by_test true rest = (h.0, rest)
   by_test false rest = Following-later y x p (filter f ps) h.0 rest
 
-precedes-from : (p q : Point) → From p.y (p.x + 1) q → precedes p q ≡ true
+pub precedes-from : (p q : Point) → From p.y (p.x + 1) q → precedes p q ≡ true
 precedes-from p q (inl h) = let e : nat_lt p.y q.y ≡ true = grind (arith, nat_tests) in rw e refl
 precedes-from p q (inr h) =
     let e : nat_eq p.y q.y ≡ true = eq-eqb _ _ h.0 in
@@ -80,6 +81,7 @@ replies-rise y x (r ∷ rs) h =
     rw (all-after r.at r.at.y (r.at.x + 1) rs (λ q k. k) h.1)
     (replies-rise r.at.y (r.at.x + 1) rs h.1)
 
+-- replies at the points of a board that pass a test, in reading order, rise
 pub replies-rising : (b : Grid) (f : Point → Bool) (rs : List Reply) → map (λ r. r.at) rs ≡ filter f (points_of b) → is_rising rs ≡ true
 replies-rising b f rs e =
     replies-rise 0 0 rs (subst (λ (ps : List Point). Following 0 0 ps) (sym e) (filter-following f 0 0 (points_of b) (rows-following b.width 0 b.height)))
