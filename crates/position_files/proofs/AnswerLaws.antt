@@ -20,7 +20,7 @@ use Rattle.position_files.proofs.Spellings.{side_fits}
 use Rattle.position_files.specs.Tables.{arrow, reply_text, replies_text, rest_text, answers_text, node_line, start_line}
 use Rattle.text_lines.specs.Reading.{Reads, Gives, ReadsLine, GivesLine, IsWithin, is_free, tail_text}
 use Rattle.position_files.specs.Boards.{IsSide}
-use Rattle.position_files.specs.Answers.{ReplyFits, RestFits, AnswersFit, NodeFits, StartFits, answers_with}
+use Rattle.position_files.specs.Answers.{ReplyFits, RestFits, OpenRestFits, AnswersFit, NodeFits, StartFits, answers_with}
 use Rattle.text_lines.proofs.Cuts.{same_word, is_free-append}
 use Rattle.text_lines.proofs.Decimals.{decimal-free}
 use Rattle.text_lines.proofs.Items.{AreItems, items_tail, items_text-injective}
@@ -71,21 +71,27 @@ rest_words bytes word tail Wins after parts free e = same_word space word tail (
 rest_words bytes word tail (To j) after parts free e = same_word space word tail (codes "rest") (Some (decimal j ++ tail_text space after)) free refl (sym parts ∙ e)
 rest_words bytes word tail Nothing after parts free e = same_word space word tail (codes "only") after free refl (sym parts ∙ e)
 
-pub no_rest_word : (bytes word : List ℕ) (tail : Option (List ℕ)) → bytes ≡ word ++ tail_text space tail → is_free space word ≡ true → (word ≡ codes "wins" → ⊥) → (word ≡ codes "only" → ⊥) → (word ≡ codes "rest" → ⊥) → (found : Rest × Option (List ℕ)) → RestFits found.0 → bytes ≡ rest_text found.0 ++ tail_text space found.1 → ⊥
-no_rest_word bytes word tail parts free not_wins not_only not_rest (Wins, after) fits e = not_wins (rest_words bytes word tail Wins after parts free e).0
-no_rest_word bytes word tail parts free not_wins not_only not_rest (To j, after) fits e = not_rest (rest_words bytes word tail (To j) after parts free e).0
-no_rest_word bytes word tail parts free not_wins not_only not_rest (Nothing, after) fits e = not_only (rest_words bytes word tail Nothing after parts free e).0
+pub no_rest_word : (bytes word : List ℕ) (tail : Option (List ℕ)) → bytes ≡ word ++ tail_text space tail → is_free space word ≡ true → (word ≡ codes "only" → ⊥) → (word ≡ codes "rest" → ⊥) → (found : Rest × Option (List ℕ)) → OpenRestFits found.0 → bytes ≡ rest_text found.0 ++ tail_text space found.1 → ⊥
+no_rest_word bytes word tail parts free not_only not_rest (Wins, after) fits e = absurd fits
+no_rest_word bytes word tail parts free not_only not_rest (To j, after) fits e = not_rest (rest_words bytes word tail (To j) after parts free e).0
+no_rest_word bytes word tail parts free not_only not_rest (Nothing, after) fits e = not_only (rest_words bytes word tail Nothing after parts free e).0
 
-pub no_rest_number : (bytes word text next : List ℕ) (tail after_next : Option (List ℕ)) → bytes ≡ word ++ tail_text space tail → is_free space word ≡ true → (word ≡ codes "wins" → ⊥) → (word ≡ codes "only" → ⊥) → tail ≡ Some text → text ≡ next ++ tail_text space after_next → is_free space next ≡ true → ((n : ℕ) → n < 2 ^ 32 → next ≡ decimal n → ⊥)
-    → (found : Rest × Option (List ℕ)) → RestFits found.0 → bytes ≡ rest_text found.0 ++ tail_text space found.1 → ⊥
-no_rest_number bytes word text next tail after_next parts free not_wins not_only is text_parts free_next none (Wins, after) fits e = not_wins (rest_words bytes word tail Wins after parts free e).0
-no_rest_number bytes word text next tail after_next parts free not_wins not_only is text_parts free_next none (To j, after) fits e =
+pub no_rest_number : (bytes word text next : List ℕ) (tail after_next : Option (List ℕ)) → bytes ≡ word ++ tail_text space tail → is_free space word ≡ true → (word ≡ codes "only" → ⊥) → tail ≡ Some text → text ≡ next ++ tail_text space after_next → is_free space next ≡ true → ((n : ℕ) → n < 2 ^ 32 → next ≡ decimal n → ⊥)
+    → (found : Rest × Option (List ℕ)) → OpenRestFits found.0 → bytes ≡ rest_text found.0 ++ tail_text space found.1 → ⊥
+no_rest_number bytes word text next tail after_next parts free not_only is text_parts free_next none (Wins, after) fits e = absurd fits
+no_rest_number bytes word text next tail after_next parts free not_only is text_parts free_next none (To j, after) fits e =
     let words = rest_words bytes word tail (To j) after parts free e in
     let whole : Some text ≡ Some (decimal j ++ tail_text space after) = sym is ∙ words.1 in
     let text_is : text ≡ decimal j ++ tail_text space after = let f : text ≡ decimal j ++ tail_text space after = cc in f in
     let few : j < 2 ^ 32 = fits in
     none j fits (same_word space next after_next (decimal j) after free_next (decimal-free space j (inl (omega arith)) (omega (arith, few))) (sym text_parts ∙ text_is)).0
-no_rest_number bytes word text next tail after_next parts free not_wins not_only is text_parts free_next none (Nothing, after) fits e = not_only (rest_words bytes word tail Nothing after parts free e).0
+no_rest_number bytes word text next tail after_next parts free not_only is text_parts free_next none (Nothing, after) fits e = not_only (rest_words bytes word tail Nothing after parts free e).0
+
+-- a rest that is not winning fits
+open_fits : (r : Rest) → OpenRestFits r → RestFits r
+open_fits Wins fits = tt
+open_fits (To j) fits = fits
+open_fits Nothing fits = fits
 
 -- a text begins with one rest
 pub rest_same : (r : Rest) (t : Option (List ℕ)) (q : Rest) (u : Option (List ℕ)) → RestFits r → RestFits q → rest_text r ++ tail_text space t ≡ rest_text q ++ tail_text space u → (r ≡ q) × (t ≡ u)
@@ -107,10 +113,20 @@ rest_same Nothing t Nothing u fr fq e = (refl, (same_word space (codes "only") t
 -- ---- answers, nodes
 
 module _ (width height : ℕ) (wide : IsSide width) (high : IsSide height) where
-  pub no_rest : (bytes : List ℕ) → Reads {X = Rest × Option (List ℕ)} (λ found. RestFits found.0) (λ found. rest_text found.0 ++ tail_text space found.1) None bytes → (found : List Reply × Rest) → AnswersFit width height (answers_with found) → bytes ≡ answers_text (answers_with found) → ⊥
-  no_rest bytes none found fits e =
-      let tail = items_tail reply_text found.0 in
-      none (found.1, tail.0) fits.rest (e ∙ ap (λ (l : List ℕ). rest_text found.1 ++ l) tail.1)
+  -- the answers of a rest that wins are spelled by its word alone
+  wins_word : (found : List Reply × Rest) → AnswersFit width height (answers_with found) → found.1 ≡ Wins → answers_text (answers_with found) ≡ codes "wins"
+  wins_word (rs, r) fits e =
+      let none : rs ≡ [] = fits.winning (ap is_winning e) in
+      rw (e, none) refl
+
+  pub no_rest : (bytes : List ℕ) → (bytes ≡ codes "wins" → ⊥) → Reads {X = Rest × Option (List ℕ)} (λ found. OpenRestFits found.0) (λ found. rest_text found.0 ++ tail_text space found.1) None bytes → (found : List Reply × Rest) → AnswersFit width height (answers_with found) → bytes ≡ answers_text (answers_with found) → ⊥
+  no_rest bytes not_wins none (rs, Wins) fits e = not_wins (e ∙ wins_word (rs, Wins) fits refl)
+  no_rest bytes not_wins none (rs, To j) fits e =
+      let tail = items_tail reply_text rs in
+      none (To j, tail.0) fits.rest (e ∙ ap (λ (l : List ℕ). rest_text (To j) ++ l) tail.1)
+  no_rest bytes not_wins none (rs, Nothing) fits e =
+      let tail = items_tail reply_text rs in
+      none (Nothing, tail.0) tt (e ∙ ap (λ (l : List ℕ). rest_text Nothing ++ l) tail.1)
 
   after_rest : (bytes : List ℕ) (r : Rest) (tail : Option (List ℕ)) → RestFits r → bytes ≡ rest_text r ++ tail_text space tail → (found : List Reply × Rest) → AnswersFit width height (answers_with found) → bytes ≡ answers_text (answers_with found) → (r ≡ found.1) × (tail_text space tail ≡ replies_text found.0)
   after_rest bytes r tail fits_r parts found fits e =
@@ -118,16 +134,10 @@ module _ (width height : ℕ) (wide : IsSide width) (high : IsSide height) where
       let same = rest_same r tail found.1 other.0 fits_r fits.rest (sym parts ∙ e ∙ ap (λ (l : List ℕ). rest_text found.1 ++ l) other.1) in
       (same.0, ap (tail_text space) same.1 ∙ sym other.1)
 
-  pub no_replies : (fault : Fault) (bytes : List ℕ) (r : Rest) (tail : Option (List ℕ)) → RestFits r → bytes ≡ rest_text r ++ tail_text space tail → Gives (AllByRecursion (ReplyFits width height)) replies_text (Err fault) (tail_text space tail)
+  pub no_replies : (fault : Fault) (bytes : List ℕ) (r : Rest) (tail : Option (List ℕ)) → OpenRestFits r → bytes ≡ rest_text r ++ tail_text space tail → Gives (AllByRecursion (ReplyFits width height)) replies_text (Err fault) (tail_text space tail)
       → Gives {X = List Reply × Rest} (λ found. AnswersFit width height (answers_with found)) (λ found. answers_text (answers_with found)) (Err fault) bytes
-  no_replies Bad bytes r tail fits_r parts h = λ found fits e. h found.0 fits.replies (after_rest bytes r tail fits_r parts found fits e).1
+  no_replies Bad bytes r tail fits_r parts h = λ found fits e. h found.0 fits.replies (after_rest bytes r tail (open_fits r fits_r) parts found fits e).1
   no_replies Memory bytes r tail fits_r parts h = tt
-
-  pub wins_alone : (bytes : List ℕ) (r : Rest) (tail : Option (List ℕ)) (rs : List Reply) → RestFits r → bytes ≡ rest_text r ++ tail_text space tail → AllByRecursion (ReplyFits width height) rs → tail_text space tail ≡ replies_text rs → is_winning r ≡ true → (found : List Reply × Rest) → AnswersFit width height (answers_with found) → bytes ≡ answers_text (answers_with found) → rs ≡ []
-  wins_alone bytes r tail rs fits_r parts fits_rs text wins found fits e =
-      let same = after_rest bytes r tail fits_r parts found fits e in
-      let none : found.0 ≡ [] = fits.winning (ap is_winning (sym same.0) ∙ wins) in
-      items_text-injective (ReplyFits width height) reply_text (reply_items width height wide high) rs found.0 fits_rs fits.replies (sym text ∙ same.1) ∙ none
 
   pub node_words : (line a : List ℕ) (t : Option (List ℕ)) (n : Node) → NodeFits width height n → line ≡ a ++ tail_text space t → is_free space a ≡ true → line ≡ node_line n → (a ≡ point_text n.attack) × (t ≡ Some (answers_text (answers_of n)))
   node_words line a t n fits parts free e =

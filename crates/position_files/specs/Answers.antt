@@ -21,6 +21,12 @@ RestFits Wins = Unit {0}
 RestFits (To j) = j < 2 ^ 32
 RestFits Nothing = Unit {0}
 
+-- the rest is not winning, and names no node, or one by a number of 32 bits
+abbrev pub OpenRestFits : Rest → Type 0
+OpenRestFits Wins = ⊥
+OpenRestFits (To j) = j < 2 ^ 32
+OpenRestFits Nothing = Unit {0}
+
 -- the replies and the rest fit, and a rest that wins comes with no replies
 pub record AnswersFit (width height : ℕ) (a : Answers) : Type 0 where
   pub replies : AllByRecursion (ReplyFits width height) a.replies

@@ -1,6 +1,5 @@
 -- What a table's text has between its first line and its root.
 use Rattle.std.specs.Prelude.{◌≡◌, ℕ, List, ◌++◌, length, Some}
-use Rattle.std.specs.List.{AllByRecursion}
 use Rattle.game_rules.specs.Grid.{IsBoard}
 use Rattle.game_rules.specs.Play.{IsPosition}
 use Rattle.strategy_graph.specs.Tables.{IsTable, TableOnBoard}

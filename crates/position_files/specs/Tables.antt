@@ -1,8 +1,8 @@
 -- The text of a table, line by line, and which bytes are one.
 use Rattle.std.specs.Prelude.{◌≡◌, ℕ, ◌+◌, ◌≤◌, true, List, [], ◌∷◌, ◌++◌, map, length, codes}
-use Rattle.std.specs.List.{flat_map, AllByRecursion}
+use Rattle.std.specs.List.{flat_map}
 use Rattle.std.specs.Fmt.{decimal}
-use Rattle.game_rules.specs.Grid.{Grid, IsBoard, is_on}
+use Rattle.game_rules.specs.Grid.{Grid, IsBoard}
 use Rattle.game_rules.specs.declared.RuleKind.{RuleKind}
 use Rattle.strategy_graph.specs.Tables.{Answers, answers_of, IsTable, IsStart, names_below, RepliesOn, TableOnBoard}
 use Rattle.strategy_graph.specs.declared.Reply.{Reply}

@@ -13,7 +13,7 @@ ghost use Rattle.text_lines.specs.Spellings.{space};
 ghost use Rattle.position_files.specs.Tables.{answers_text, node_line as node_line_lem, replies_text, reply_text, rest_text, start_line as start_line_lem};
 ghost use Rattle.text_lines.specs.Reading.{Gives, GivesLine, Reads, tail_text};
 ghost use Rattle.position_files.specs.Boards.{IsSide};
-ghost use Rattle.position_files.specs.Answers.{AnswersFit, NodeFits, ReplyFits, RestFits, StartFits, answers_with};
+ghost use Rattle.position_files.specs.Answers.{AnswersFit, NodeFits, OpenRestFits, ReplyFits, StartFits, answers_with};
 
 use std::alloc::Global;
 use strategy_graph::{Node, Replies, Reply, Rest, Start};
@@ -51,16 +51,13 @@ fn replies(alloc: Global, tail: Option<&[u8]>, width: u8, height: u8) -> Result<
     Ok(replies)
 }
 
-/// What answers the replies that are not listed, and what follows it from the next space on.
+/// What answers the replies that are not listed, but for a rest that wins, and what follows it from the next space on.
 fn rest(bytes: &[u8]) -> Option<(Rest, Option<&[u8]>)>
-    ensures rest { Reads {X = Rest × Option (List ℕ)} (λ found. RestFits found.0)
+    ensures rest { Reads {X = Rest × Option (List ℕ)} (λ found. OpenRestFits found.0)
         (λ found. rest_text found.0 ++ tail_text space found.1)
         (option_map (λ found. (found.0, option_copied found.1)) result) bytes.now }
 {
     let (word, tail) = cut(bytes, b' ');
-    if is_text(word, b"wins") {
-        return Some((Rest::Wins, tail));
-    }
     if is_text(word, b"only") {
         return Some((Rest::Nothing, tail));
     }
@@ -71,7 +68,8 @@ fn rest(bytes: &[u8]) -> Option<(Rest, Option<&[u8]>)>
     Some((Rest::To(number(next, u32::MAX)?), tail))
 }
 
-/// What answers all replies: those that are listed, and the others. A rest that wins comes with no replies.
+/// What answers all replies: those that are listed, and the others. A rest that wins comes with no replies, and so it is read as
+/// the one word.
 pub(crate) fn answers(
     alloc: Global,
     bytes: &[u8],
@@ -83,13 +81,13 @@ pub(crate) fn answers(
     ensures answers { Gives (λ found. AnswersFit width height (answers_with found))
         (λ found. answers_text (answers_with found)) result bytes.now }
 {
+    if is_text(bytes, b"wins") {
+        return Ok((Replies::new(alloc), Rest::Wins));
+    }
     let Some((rest, tail)) = rest(bytes) else {
         return Err(Fault::Bad);
     };
     let replies = replies(alloc, tail, width, height)?;
-    if rest.is_winning() && !replies.is_empty() {
-        return Err(Fault::Bad);
-    }
     Ok((replies, rest))
 }
 
