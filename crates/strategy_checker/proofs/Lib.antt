@@ -6,3 +6,4 @@ pub mod Holding
 mod Walking
 mod Refusals
 mod Remembering
+mod Sureness

@@ -1,8 +1,10 @@
--- How a walk through a table stops before it has met every reply, and what it remembers.
-use Rattle.std.specs.Prelude.{◌≡◌, ℕ, List, [], ◌∷◌, ◌++◌}
+-- How a walk through a table stops before it has met every reply, what it remembers, and which answers are sure.
+use Rattle.std.specs.Prelude.{◌≡◌, ◌==◌, ◌&&◌, ℕ, Bool, true, false, not, Option, Some, None, List, [], ◌∷◌, ◌++◌, slice_get}
 use Rattle.std.specs.List.{Contains}
+use Rattle.std.specs.Option.{option_map}
 use Rattle.game_rules.specs.Grid.{Grid}
-use Rattle.game_rules.specs.Play.{IsPosition}
+use Rattle.game_rules.specs.Play.{IsPosition, mover, other}
+use Rattle.game_rules.specs.Shapes.{five, is_same_point}
 use Rattle.game_rules.specs.declared.Point.{Point}
 use Rattle.game_rules.specs.declared.RuleKind.{RuleKind}
 use Rattle.position_table.specs.Packing.{Packed, packed}
@@ -11,6 +13,8 @@ use Rattle.strategy_graph.specs.Acceptance.{Accepted}
 use Rattle.strategy_graph.specs.Arrivals.{arrivals}
 use Rattle.strategy_graph.specs.declared.Node.{Node}
 use Rattle.strategy_graph.specs.declared.Why.{Why}
+use Rattle.strategy_graph.specs.Tables.{IsTable}
+use Rattle.strategy_checker.specs.declared.walk.Sure.{Sure}
 use Rattle.strategy_checker.specs.declared.walk.Stop.{Stop}
 use Rattle.strategy_checker.specs.declared.walk.Stop.TheVariants.{Fault, Spent, Memory}
 
@@ -35,3 +39,14 @@ pub record IsTrueEntry (rule : RuleKind) (t : List Node) (e : (Packed × ℕ) ×
 -- each entry that is remembered is true
 pub record IsTrueMemo (rule : RuleKind) (t : List Node) (memo : Remembered ℕ) : Type 0 where
   pub each : (e : (Packed × ℕ) × ℕ) → Contains memo.entries e → IsTrueEntry rule t e
+
+-- it is a node of the table with its attack, and the attack is a five point of the side that is not to move at b
+pub record IsSure (rule : RuleKind) (t : List Node) (b : Grid) (s : Sure) : Type 0 where
+  pub table : IsTable t
+  pub attack : option_map (λ n. n.attack) (slice_get t s.node) ≡ Some s.attack
+  pub five_point : five rule b (other (mover b)) s.attack ≡ true
+
+-- whether node i is the one that is sure, and its attack is not on q
+abbrev pub is_sure_after : Option Sure → ℕ → Point → Bool
+is_sure_after None i q = false
+is_sure_after (Some s) i q = (s.node == i) && not (is_same_point s.attack q)

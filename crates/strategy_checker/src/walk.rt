@@ -2,20 +2,22 @@
 //!
 //! The walk goes through the games that the table plays: one recursion for each attack, so that it is no deeper than the
 //! points of the board allow, however long the table is. It plays and takes back on the position that it was lent. A
-//! node that was walked through at the same position before is not walked again, where the memo has the pair. A fault
-//! ends the walk, and the moves that led there are noted on the way back, the last one first.
+//! node that was walked through at the same position before is not walked again, where the memo has the pair. Where the
+//! attack of the node of the rest is a five point already before the replies, that is asked once, and those that this node
+//! answers are counted without being played, all but one on that point. A fault ends the walk, and the moves that led there
+//! are noted on the way back, the last one first.
 #![tactic(auto)]
 
-ghost use Rattle.std.specs.Prelude.{◌≡◌, ◌<◌, ◌+◌, ◌^◌, [], true, false, List, length, reverse, slice_get, Some, IfErr, OnOk};
-ghost use Rattle.game_rules.specs.Play.{IsPosition, outcome};
+ghost use Rattle.std.specs.Prelude.{◌≡◌, ◌<◌, ◌+◌, ◌^◌, [], true, false, List, length, reverse, slice_get, Some, IfErr, IfSome, OnOk};
+ghost use Rattle.game_rules.specs.Play.{IsPosition, after, outcome};
 ghost use Rattle.game_rules.specs.declared.RuleKind.{RuleKind as AnyRule};
-ghost use Rattle.strategy_graph.specs.Tables.{IsTable, is_winning, names_below};
+ghost use Rattle.strategy_graph.specs.Tables.{Answers, IsTable, answer as answer_lem, is_winning, names_below, rest_node};
 ghost use Rattle.strategy_graph.specs.declared.Node.{Node as AnyNode};
 ghost use Rattle.strategy_graph.specs.Acceptance.{Accepted, AcceptedStart, Meets};
 ghost use Rattle.strategy_graph.specs.Arrivals.{arrivals, arrivals_after, arrivals_at, start_arrivals};
 ghost use Rattle.strategy_graph.specs.Leads.{Leads, LeadsStart};
 ghost use Rattle.strategy_graph.specs.Roots.{AcceptedRoot, LeadsRoot, root_arrivals, root_below};
-ghost use Rattle.strategy_checker.specs.Walks.{Stopped, IsNoted, IsTrueMemo};
+ghost use Rattle.strategy_checker.specs.Walks.{Stopped, IsNoted, IsSure, IsTrueMemo, is_sure_after};
 
 use crate::Why;
 use crate::memo::Memo;
@@ -255,19 +257,22 @@ impl Walk {
             (self.old.left < arrivals_after R.KIND (record { replies = replies.now; rest = rest }) (arrivals R.KIND table.now) position.old)) }
         ensures same { position.new ≡ position.old }
     {
+        let sure = sure_answer(table, rest, position);
         for q in position.board().points() {
-            self.meet(table, replies, rest, position, q)?;
+            self.meet(table, replies, rest, sure, position, q)?;
         }
         Ok(())
     }
 
-    /// Walks on from the reply `q` at a position, which is the same afterwards.
+    /// Walks on from the reply `q` at a position, which is the same afterwards. Where the node that answers it is sure to win,
+    /// the one arrival there is counted, and the reply is not played.
     #[cycle(walk)]
     fn meet<R: Rule>(
         &mut self,
         table: &Table,
         replies: &Replies,
         rest: Rest,
+        sure: Option<Sure>,
         position: &mut Position<R>,
         q: Point,
     ) -> Result<(), Stop>
@@ -276,6 +281,7 @@ impl Walk {
         requires lawful { IsPosition R.KIND position.old }
         requires no_line { self.old.line ≡ [] }
         requires memo { IsTrueMemo R.KIND table.now self.old.memo }
+        requires sure { IfSome sure (IsSure R.KIND table.now position.old) }
         ensures met { OnOk result
             (Meets R.KIND (record { replies = replies.now; rest = rest })
             (Accepted R.KIND table.now) position.old q) }
@@ -297,15 +303,48 @@ impl Walk {
             Outcome::GoesOn => match answer_among(replies, rest, q) {
                 None => Err(self.fault(q, Why::NoAnswer)),
                 Some(next) => {
-                    position.play(q);
-                    let walked = self.visit(table, next, position);
-                    position.undo(q);
-                    match walked {
-                        Ok(()) => Ok(()),
-                        Err(stop) => Err(self.noted(q, stop)),
+                    if wins_for_sure(sure, next, q) {
+                        self.arrive()
+                    } else {
+                        self.answer(table, next, position, q)
                     }
                 }
             },
+        }
+    }
+
+    /// Walks on from the reply `q`, which goes on and is answered by the node `next`. The position is the same afterwards.
+    #[cycle(walk)]
+    fn answer<R: Rule>(
+        &mut self,
+        table: &Table,
+        next: u32,
+        position: &mut Position<R>,
+        q: Point,
+    ) -> Result<(), Stop>
+        requires in_table { next < length table.now }
+        requires goes_on { outcome R.KIND position.old q ≡ Outcome.GoesOn }
+        requires lawful { IsPosition R.KIND position.old }
+        requires no_line { self.old.line ≡ [] }
+        requires memo { IsTrueMemo R.KIND table.now self.old.memo }
+        ensures accepted { OnOk result (Accepted R.KIND table.now next (after position.old q)) }
+        ensures counted { OnOk result
+            (self.new.left + arrivals R.KIND table.now next (after position.old q) ≡ self.old.left) }
+        ensures no_line { OnOk result (self.new.line ≡ []) }
+        ensures memo { OnOk result (IsTrueMemo R.KIND table.now self.new.memo) }
+
+        // The line leads to the fault from all answers that answer the reply by this node.
+        ensures stopped { IfErr result (Stopped
+            (λ why. (a : Answers) → answer_lem a q ≡ Some next → LeadsStart R.KIND table.now a position.old (reverse self.new.line) why)
+            (self.old.left < arrivals R.KIND table.now next (after position.old q))) }
+        ensures same { position.new ≡ position.old }
+    {
+        position.play(q);
+        let walked = self.visit(table, next, position);
+        position.undo(q);
+        match walked {
+            Ok(()) => Ok(()),
+            Err(stop) => Err(self.noted(q, stop)),
         }
     }
 
@@ -359,5 +398,37 @@ impl Walk {
             Stop::Spent => Stop::Spent,
             Stop::Memory => Stop::Memory,
         }
+    }
+}
+
+/// A node whose attack is a five point of the side that is not to move: it wins after each reply that goes on elsewhere.
+#[derive(Clone, Copy)]
+struct Sure {
+    node: u32,
+    attack: Point,
+}
+
+/// The node of the rest, where its attack is a five point of the side that is not to move.
+fn sure_answer<R: Rule>(table: &Table, rest: Rest, position: &Position<R>) -> Option<Sure>
+    requires below { IfSome (rest_node rest) (λ j. j < length table.now) }
+    ensures sure { IfSome result (IsSure R.KIND table.now position.now) }
+{
+    let node = rest.node()?;
+    let attack = table.node(node).attack;
+    let attacker = position.side().other();
+    if position.board().is_empty(attack) && position.five(attacker, attack) {
+        Some(Sure { node, attack })
+    } else {
+        None
+    }
+}
+
+/// Whether the node wins for sure after the reply `q`.
+fn wins_for_sure(sure: Option<Sure>, node: u32, q: Point) -> bool
+    ensures sure { result ≡ is_sure_after sure node q }
+{
+    match sure {
+        None => false,
+        Some(found) => found.node == node && found.attack != q,
     }
 }

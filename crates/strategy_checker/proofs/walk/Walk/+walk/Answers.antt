@@ -17,66 +17,112 @@ use Rattle.strategy_graph.specs.Leads.{Leads, LeadsStart}
 use Rattle.strategy_graph.proofs.Filling.{IsTable-lower}
 use Rattle.strategy_graph.proofs.Growth.{names_below-more}
 use Rattle.strategy_graph.proofs.Answering.{answer-below}
-use Rattle.strategy_graph.proofs.Steps.{arrivals-positive, accepted-by-win, accepted-by-replies, arrivals-by-replies, arrivals-one, arrivals-answer, met-all, leads-answer}
+use Rattle.strategy_graph.proofs.Steps.{arrivals-positive, accepted-by-win, accepted-by-replies, arrivals-by-replies, arrivals-one, arrivals-answer, met-answer, met-all, leads-answer}
 use Rattle.strategy_checker.proofs.Walking.{played-lawful, played-fewer, played-stone, lifted-back, lifted-unwon, fault-stops, noted-stops, stops-map, attack-leads, attack-then-leads, All-first, All-none, sum-first, on-ok, on-ok-map}
 use Rattle.strategy_checker.proofs.Remembering.{true-looked, true-kept, found-accepted, found-counted}
+use Rattle.strategy_checker.proofs.Sureness.{sure-accepted}
 use Rattle.strategy_checker.specs.Walks.{IsTrueMemo}
 use Rattle.strategy_checker.proofs.walk.Walk.+walk.Goals as goal
 
--- ---- a reply
+-- ---- the answer to a reply
 
-pub meet-visit-walked-requires : goal.meet-visit-walked-requires
-meet-visit-walked-requires g t c κs within =
+pub answer-visit-walked-requires : goal.answer-visit-walked-requires
+answer-visit-walked-requires g t c κs within =
     let b : Grid = c.args.position.now in
-    let on : outcome g.R.Rule.KIND b c.args.q ≡ GoesOn = sym c.in-GoesOn.ensures.outcome in
-    let there : c.play.new.self ≡ after b c.args.q = c.play.ensures.played ∙ ap (λ (w : Grid). after w c.args.q) c.outcome.ensures.same in
+    let on : outcome g.R.Rule.KIND b c.args.q ≡ GoesOn = c.requires.goes_on in
+    let there : c.play.new.self ≡ after b c.args.q = c.play.ensures.played in
     let lawful : IsPosition g.R.Rule.KIND c.play.new.self = played-lawful g.R.Rule.KIND b c.args.q c.requires.lawful on c.play.new.self there in
     let fewer = played-fewer g.R.Rule.KIND b c.args.q c.requires.lawful on c.play.new.self there in
-    let less : 5 * empties_of c.play.new.self + 2 < 5 * empties_of b + 3 = omega (arith, fewer) in
-    let below : c.in-Some.next < length c.args.table.now = answer-below (record { replies = c.args.replies.now; rest = c.args.rest }) (length c.args.table.now) c.args.q c.in-Some.next c.requires.below (sym c.in-Some.ensures.answer) in
+    let less : 6 * empties_of c.play.new.self + 2 < 6 * empties_of b + 3 = omega (arith, fewer) in
     search rules
 
-pub meet-undo-requires-clause-stone : goal.meet-undo-requires-clause-stone
-meet-undo-requires-clause-stone g t c =
-    played-stone g.R.Rule.KIND c.args.position.now c.args.q c.requires.lawful (sym c.in-GoesOn.ensures.outcome) _
-    (c.visit-walked.ensures.same ∙ c.play.ensures.played ∙ ap (λ (w : Grid). after w c.args.q) c.outcome.ensures.same)
+pub answer-undo-requires-clause-stone : goal.answer-undo-requires-clause-stone
+answer-undo-requires-clause-stone g t c =
+    played-stone g.R.Rule.KIND c.args.position.now c.args.q c.requires.lawful c.requires.goes_on _
+    (c.visit-walked.ensures.same ∙ c.play.ensures.played)
 
-pub meet-undo-requires-clause-unwon : goal.meet-undo-requires-clause-unwon
-meet-undo-requires-clause-unwon g t c =
-    lifted-unwon g.R.Rule.KIND c.args.position.now c.args.q c.requires.lawful (sym c.in-GoesOn.ensures.outcome) _
-    (c.visit-walked.ensures.same ∙ c.play.ensures.played ∙ ap (λ (w : Grid). after w c.args.q) c.outcome.ensures.same)
+pub answer-undo-requires-clause-unwon : goal.answer-undo-requires-clause-unwon
+answer-undo-requires-clause-unwon g t c =
+    lifted-unwon g.R.Rule.KIND c.args.position.now c.args.q c.requires.lawful c.requires.goes_on _
+    (c.visit-walked.ensures.same ∙ c.play.ensures.played)
 
-pub meet-returns-in-Ok-clause-same : goal.meet-returns-in-Ok-clause-same
-meet-returns-in-Ok-clause-same g t c =
+pub answer-returns-in-Ok-clause-accepted : goal.answer-returns-in-Ok-clause-accepted
+answer-returns-in-Ok-clause-accepted g t c =
+    subst (Accepted g.R.Rule.KIND c.args.table.now c.args.next) c.play.ensures.played c.in-Ok.ensures.accepted
+
+pub answer-returns-in-Ok-clause-counted : goal.answer-returns-in-Ok-clause-counted
+answer-returns-in-Ok-clause-counted g t c =
+    subst (λ (w : Grid). c.visit-walked.new.self.left + arrivals g.R.Rule.KIND c.args.table.now c.args.next w ≡ c.args.self.now.left) c.play.ensures.played c.in-Ok.ensures.counted
+
+pub answer-returns-in-Ok-clause-same : goal.answer-returns-in-Ok-clause-same
+answer-returns-in-Ok-clause-same g t c =
     c.undo.ensures.undone
-    ∙ lifted-back g.R.Rule.KIND c.args.position.now c.args.q c.requires.lawful (sym c.in-GoesOn.ensures.outcome) _
-    (c.visit-walked.ensures.same ∙ c.play.ensures.played ∙ ap (λ (w : Grid). after w c.args.q) c.outcome.ensures.same)
+    ∙ lifted-back g.R.Rule.KIND c.args.position.now c.args.q c.requires.lawful c.requires.goes_on _
+    (c.visit-walked.ensures.same ∙ c.play.ensures.played)
 
-pub meet-returns-in-Err-clause-stopped : goal.meet-returns-in-Err-clause-stopped
-meet-returns-in-Err-clause-stopped g t c =
-    let a : Answers = record { replies = c.args.replies.now; rest = c.args.rest } in
+pub answer-returns-in-Err-clause-stopped : goal.answer-returns-in-Err-clause-stopped
+answer-returns-in-Err-clause-stopped g t c =
     let b : Grid = c.args.position.now in
-    let on : outcome g.R.Rule.KIND b c.args.q ≡ GoesOn = sym c.in-GoesOn.ensures.outcome in
-    let there : c.play.new.self ≡ after b c.args.q = c.play.ensures.played ∙ ap (λ (w : Grid). after w c.args.q) c.outcome.ensures.same in
-    let answered : answer a c.args.q ≡ Some c.in-Some.next = sym c.in-Some.ensures.answer in
-    let count = arrivals-answer g.R.Rule.KIND c.args.table.now a b c.args.q c.in-Some.next on answered in
+    let there : c.play.new.self ≡ after b c.args.q = c.play.ensures.played in
     noted-stops
-    (Leads g.R.Rule.KIND c.args.table.now c.in-Some.next c.play.new.self)
-    (LeadsStart g.R.Rule.KIND c.args.table.now a b)
-    (c.args.self.now.left < arrivals g.R.Rule.KIND c.args.table.now c.in-Some.next c.play.new.self)
-    (c.args.self.now.left < arrivals_at g.R.Rule.KIND a (arrivals g.R.Rule.KIND c.args.table.now) b c.args.q)
+    (Leads g.R.Rule.KIND c.args.table.now c.args.next c.play.new.self)
+    (λ line why. (a : Answers) → answer a c.args.q ≡ Some c.args.next → LeadsStart g.R.Rule.KIND c.args.table.now a b line why)
+    (c.args.self.now.left < arrivals g.R.Rule.KIND c.args.table.now c.args.next c.play.new.self)
+    (c.args.self.now.left < arrivals g.R.Rule.KIND c.args.table.now c.args.next (after b c.args.q))
     c.args.q c.visit-walked.new.self.line c.noted.new.self.line c.in-Err.stop c.noted.result
-    (λ line why leads. leads-answer g.R.Rule.KIND c.args.table.now a b c.args.q c.in-Some.next line why on answered
-    (subst (λ (w : Grid). Leads g.R.Rule.KIND c.args.table.now c.in-Some.next w line why) there leads))
-    (λ short. rw (count, ← there) short)
+    (λ line why leads a answered. leads-answer g.R.Rule.KIND c.args.table.now a b c.args.q c.args.next line why c.requires.goes_on answered
+    (subst (λ (w : Grid). Leads g.R.Rule.KIND c.args.table.now c.args.next w line why) there leads))
+    (λ short. rw (← there) short)
     c.in-Err.ensures.stopped
     c.noted.ensures.noted
 
-pub meet-returns-in-Err-clause-same : goal.meet-returns-in-Err-clause-same
-meet-returns-in-Err-clause-same g t c =
+pub answer-returns-in-Err-clause-same : goal.answer-returns-in-Err-clause-same
+answer-returns-in-Err-clause-same g t c =
     c.undo.ensures.undone
-    ∙ lifted-back g.R.Rule.KIND c.args.position.now c.args.q c.requires.lawful (sym c.in-GoesOn.ensures.outcome) _
-    (c.visit-walked.ensures.same ∙ c.play.ensures.played ∙ ap (λ (w : Grid). after w c.args.q) c.outcome.ensures.same)
+    ∙ lifted-back g.R.Rule.KIND c.args.position.now c.args.q c.requires.lawful c.requires.goes_on _
+    (c.visit-walked.ensures.same ∙ c.play.ensures.played)
+
+-- ---- a reply
+
+pub meet-answer-requires : goal.meet-answer-requires
+meet-answer-requires g t c κs within =
+    let same : c.outcome.new.self ≡ c.args.position.now = c.outcome.ensures.same in
+    let less : 6 * empties_of c.outcome.new.self + 3 < 6 * empties_of c.args.position.now + 4 = rw same (omega arith) in
+    let lawful : IsPosition g.R.Rule.KIND c.outcome.new.self = rw same c.requires.lawful in
+    let on : outcome g.R.Rule.KIND c.outcome.new.self c.args.q ≡ GoesOn = rw same (sym c.in-GoesOn.ensures.outcome) in
+    let below : c.in-Some.next < length c.args.table.now = answer-below (record { replies = c.args.replies.now; rest = c.args.rest }) (length c.args.table.now) c.args.q c.in-Some.next c.requires.below (sym c.in-Some.ensures.answer) in
+    search rules
+
+pub meet-returns-then-wins_for_sure-clause-met : goal.meet-returns-then-wins_for_sure-clause-met
+meet-returns-then-wins_for_sure-clause-met g t c =
+    let a : Answers = record { replies = c.args.replies.now; rest = c.args.rest } in
+    let b : Grid = c.args.position.now in
+    let on : outcome g.R.Rule.KIND b c.args.q ≡ GoesOn = sym c.in-GoesOn.ensures.outcome in
+    let won = sure-accepted g.R.Rule.KIND c.args.table.now b c.args.q c.requires.lawful on c.args.sure c.in-Some.next c.requires.sure (sym c.wins_for_sure.ensures.sure ∙ c.if-wins_for_sure.true) in
+    on-ok c.arrive.result (Meets g.R.Rule.KIND a (Accepted g.R.Rule.KIND c.args.table.now) b c.args.q)
+    (met-answer g.R.Rule.KIND c.args.table.now a b c.args.q c.in-Some.next on (sym c.in-Some.ensures.answer) won.0)
+
+pub meet-returns-then-wins_for_sure-clause-counted : goal.meet-returns-then-wins_for_sure-clause-counted
+meet-returns-then-wins_for_sure-clause-counted g t c =
+    let a : Answers = record { replies = c.args.replies.now; rest = c.args.rest } in
+    let b : Grid = c.args.position.now in
+    let on : outcome g.R.Rule.KIND b c.args.q ≡ GoesOn = sym c.in-GoesOn.ensures.outcome in
+    let won = sure-accepted g.R.Rule.KIND c.args.table.now b c.args.q c.requires.lawful on c.args.sure c.in-Some.next c.requires.sure (sym c.wins_for_sure.ensures.sure ∙ c.if-wins_for_sure.true) in
+    let one = arrivals-answer g.R.Rule.KIND c.args.table.now a b c.args.q c.in-Some.next on (sym c.in-Some.ensures.answer) ∙ won.1 in
+    on-ok-map c.arrive.result (c.arrive.new.self.left + 1 ≡ c.args.self.now.left) (c.arrive.new.self.left + arrivals_at g.R.Rule.KIND a (arrivals g.R.Rule.KIND c.args.table.now) b c.args.q ≡ c.args.self.now.left)
+    (λ counted. omega (arith, one, counted)) c.arrive.ensures.counted
+
+pub meet-returns-then-wins_for_sure-clause-stopped : goal.meet-returns-then-wins_for_sure-clause-stopped
+meet-returns-then-wins_for_sure-clause-stopped g t c =
+    let a : Answers = record { replies = c.args.replies.now; rest = c.args.rest } in
+    let b : Grid = c.args.position.now in
+    let on : outcome g.R.Rule.KIND b c.args.q ≡ GoesOn = sym c.in-GoesOn.ensures.outcome in
+    let won = sure-accepted g.R.Rule.KIND c.args.table.now b c.args.q c.requires.lawful on c.args.sure c.in-Some.next c.requires.sure (sym c.wins_for_sure.ensures.sure ∙ c.if-wins_for_sure.true) in
+    let one = arrivals-answer g.R.Rule.KIND c.args.table.now a b c.args.q c.in-Some.next on (sym c.in-Some.ensures.answer) ∙ won.1 in
+    IfErr-weaker c.arrive.result _ _
+    (λ stop h. stops-map (λ why. ⊥) (λ why. LeadsStart g.R.Rule.KIND c.args.table.now a b (reverse c.arrive.new.self.line) why) (c.args.self.now.left ≡ 0) (c.args.self.now.left < arrivals_at g.R.Rule.KIND a (arrivals g.R.Rule.KIND c.args.table.now) b c.args.q) stop
+    (λ why no. absurd no) (λ none. omega (arith, one, none)) h)
+    c.arrive.ensures.stopped
 
 -- ---- all replies
 
@@ -124,7 +170,7 @@ visit-returns-then-is_winning-clause-stopped g t c =
 pub visit-go_on-requires : goal.visit-go_on-requires
 visit-go_on-requires g t c κs within =
     let same : c.outcome.new.self ≡ c.args.position.now = c.outcome.ensures.same in
-    let less : 5 * empties_of c.outcome.new.self + 1 < 5 * empties_of c.args.position.now + 2 = rw same (omega arith) in
+    let less : 6 * empties_of c.outcome.new.self + 1 < 6 * empties_of c.args.position.now + 2 = rw same (omega arith) in
     let lawful : IsPosition g.R.Rule.KIND c.outcome.new.self = rw same c.requires.lawful in
     let on : outcome g.R.Rule.KIND c.outcome.new.self c.node-node.result.now.attack ≡ GoesOn = rw same (sym c.in-GoesOn.ensures.outcome) in
     let more : is_winning c.node-node.result.now.rest ≡ false = sym c.is_winning.ensures.wins ∙ c.if-is_winning.false in
@@ -203,7 +249,7 @@ go_on-returns-in-Some-clause-stopped g t c =
 
 pub go_on-attack-requires : goal.go_on-attack-requires
 go_on-attack-requires g t c κs within =
-    let less : 5 * empties_of c.args.position.now < 5 * empties_of c.args.position.now + 1 = omega arith in
+    let less : 6 * empties_of c.args.position.now < 6 * empties_of c.args.position.now + 1 = omega arith in
     let looked : IsTrueMemo g.R.Rule.KIND c.args.table.now c.find.new.self = true-looked g.R.Rule.KIND c.args.table.now c.args.self.now.memo c.find.new.self (packed c.board.result.now, c.args.i) c.find.ensures.entries c.requires.memo in
     search rules
 
@@ -217,7 +263,7 @@ attack-meet_all-met-requires g t c κs within =
     let there : c.play.new.self ≡ after b p = c.play.ensures.played in
     let lawful : IsPosition g.R.Rule.KIND c.play.new.self = played-lawful g.R.Rule.KIND b p c.requires.lawful on c.play.new.self there in
     let fewer = played-fewer g.R.Rule.KIND b p c.requires.lawful on c.play.new.self there in
-    let less : 5 * empties_of c.play.new.self + 4 < 5 * empties_of b = omega (arith, fewer) in
+    let less : 6 * empties_of c.play.new.self + 5 < 6 * empties_of b = omega (arith, fewer) in
     let there_is : c.args.i < length c.args.table.now = slice_get_within c.args.table.now c.args.i c.args.node.now c.requires.node in
     let low : names_below (answers_of c.args.node.now) c.args.i ≡ true = (IsTable-lower c.args.table.now c.requires.table).lower c.args.i c.args.node.now c.requires.node in
     let below : names_below (answers_of c.args.node.now) (length c.args.table.now) ≡ true = names_below-more (answers_of c.args.node.now) c.args.i (length c.args.table.now) (omega (arith, there_is)) low in

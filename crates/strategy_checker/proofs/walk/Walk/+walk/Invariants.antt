@@ -9,19 +9,22 @@ use Rattle.strategy_checker.proofs.walk.Walk.+walk.Given as goal
 
 -- each attack and each reply takes a point
 abbrev pub decreases-visit : goal.decreases-visit
-decreases-visit g l = 5 * empties_of l.position.now + 2
+decreases-visit g l = 6 * empties_of l.position.now + 2
 
 abbrev pub decreases-go_on : goal.decreases-go_on
-decreases-go_on g l = 5 * empties_of l.position.now + 1
+decreases-go_on g l = 6 * empties_of l.position.now + 1
 
 abbrev pub decreases-attack : goal.decreases-attack
-decreases-attack g l = 5 * empties_of l.position.now
+decreases-attack g l = 6 * empties_of l.position.now
 
 abbrev pub decreases-meet_all : goal.decreases-meet_all
-decreases-meet_all g l = 5 * empties_of l.position.now + 4
+decreases-meet_all g l = 6 * empties_of l.position.now + 5
 
 abbrev pub decreases-meet : goal.decreases-meet
-decreases-meet g l = 5 * empties_of l.position.now + 3
+decreases-meet g l = 6 * empties_of l.position.now + 4
+
+abbrev pub decreases-answer : goal.decreases-answer
+decreases-answer g l = 6 * empties_of l.position.now + 3
 
 -- all replies are met once those left are, and the arrivals behind those left are still to be counted
 abbrev pub invariant-meet_all-loop-q : goal.invariant-meet_all-loop-q

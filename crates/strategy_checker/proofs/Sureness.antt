@@ -1,0 +1,69 @@
+-- A node that is sure wins after each reply that goes on elsewhere: its attack stays a five point.
+use Rattle.std.proofs.Common.{◌≡◌, ℕ, Bool, true, false, not, refl, sym, ap, ◌∙◌, arith, List, nat_eq}
+use Rattle.std.specs.Prelude.{Option, Some, None, IfSome, slice_get}
+use Rattle.std.specs.Option.{option_map}
+use Rattle.std.proofs.lemmas.Bool.Decides.{nat_tests}
+use Rattle.game_rules.specs.Grid.{Grid, empties_of}
+use Rattle.game_rules.specs.Shapes.{five}
+use Rattle.game_rules.specs.Play.{IsPosition, outcome, outcome_by, foul_of, mover, other, after}
+use Rattle.game_rules.specs.declared.RuleKind.{RuleKind}
+use Rattle.game_rules.specs.declared.Foul.{Foul}
+use Rattle.game_rules.specs.declared.Outcome.TheVariants.{Wins, GoesOn}
+use Rattle.game_rules.specs.declared.Side.{Side}
+use Rattle.game_rules.specs.declared.Point.{Point}
+use Rattle.game_rules.proofs.Boards.{and_left, and_right, Apart}
+use Rattle.game_rules.proofs.Points.{is_same_point-apart}
+use Rattle.game_rules.proofs.Fives.{five-empty, five-other}
+use Rattle.game_rules.proofs.Positions.{GoesOn-empty, mover-then}
+use Rattle.strategy_graph.specs.declared.Node.{Node}
+use Rattle.strategy_graph.specs.Acceptance.{Accepted}
+use Rattle.strategy_graph.specs.Arrivals.{arrivals}
+use Rattle.strategy_graph.proofs.Filling.{IsTable-lower}
+use Rattle.strategy_graph.proofs.Steps.{accepted-by-win, arrivals-one}
+use Rattle.strategy_checker.specs.declared.walk.Sure.{Sure}
+use Rattle.strategy_checker.specs.Walks.{IsSure, is_sure_after}
+
+wins_by : (l : Bool) (o : Option Foul) → outcome_by true true o l ≡ Wins
+wins_by l None = refl
+wins_by l (Some f) = refl
+
+-- a five point of the side to move wins
+five-outcome : (rule : RuleKind) (b : Grid) (p : Point) → five rule b (mover b) p ≡ true → outcome rule b p ≡ Wins
+unfolding outcome
+five-outcome rule b p h =
+    ap (λ e. outcome_by e (five rule b (mover b) p) (foul_of rule b (mover b) p) (nat_eq (empties_of b) 1)) (five-empty rule b (mover b) p h)
+    ∙ ap (λ f. outcome_by true f (foul_of rule b (mover b) p) (nat_eq (empties_of b) 1)) h
+    ∙ wins_by (nat_eq (empties_of b) 1) (foul_of rule b (mover b) p)
+
+not_true : (r : Bool) → not r ≡ true → r ≡ false
+not_true true h = cc
+not_true false h = refl
+
+module _ (rule : RuleKind) (t : List Node) (b : Grid) (q : Point) (lawful : IsPosition rule b) (on : outcome rule b q ≡ GoesOn) where
+  -- a five point of the side that is not to move wins after a reply elsewhere
+  outcome-after : (w : Point) → five rule b (other (mover b)) w ≡ true → Apart q w → outcome rule (after b q) w ≡ Wins
+  outcome-after w h apart = five-outcome rule (after b q) w
+      (ap (λ (s : Side). five rule (after b q) s w) (mover-then rule b q lawful on)
+      ∙ five-other b (mover b) q lawful.board (GoesOn-empty rule b q on) rule w apart ∙ h)
+
+  -- what is sure is accepted after such a reply, and is the one arrival there
+  pub sure-accepted : (sure : Option Sure) (i : ℕ) → IfSome sure (IsSure rule t b) → is_sure_after sure i q ≡ true → Accepted rule t i (after b q) × (arrivals rule t i (after b q) ≡ 1)
+  sure-accepted None i is h = cc
+  sure-accepted (Some s) i is h = by_node (slice_get t s.node) refl is.attack where
+    here : nat_eq s.node i ≡ true
+    here = and_left (nat_eq s.node i) _ h
+
+    apart : Apart q s.attack
+    apart =
+        let else = is_same_point-apart s.attack q (not_true _ (and_right (nat_eq s.node i) _ h)) in
+        record { apart = λ x y. else.apart (sym x) (sym y) }
+
+    by_node : (o : Option Node) → slice_get t s.node ≡ o → option_map (λ n. n.attack) o ≡ Some s.attack → Accepted rule t i (after b q) × (arrivals rule t i (after b q) ≡ 1)
+    by_node None e k = cc
+    by_node (Some n) e k =
+        let same : s.node ≡ i = grind (arith, nat_tests, here) in
+        let at : slice_get t i ≡ Some n = ap (slice_get t) (sym same) ∙ e in
+        let attack : n.attack ≡ s.attack = cc in
+        let wins : outcome rule (after b q) n.attack ≡ Wins = ap (outcome rule (after b q)) attack ∙ outcome-after s.attack is.five_point apart in
+        let lower = IsTable-lower t is.table in
+        (accepted-by-win rule t lower i (after b q) n at wins, arrivals-one rule t lower i (after b q) n at Wins wins (λ e. cc))
