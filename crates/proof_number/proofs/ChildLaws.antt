@@ -159,13 +159,11 @@ module _ (rule : RuleKind) (moves : ℕ) (c : Grid) (q : Point) (on : outcome ru
     enough = omega (arith, enough, l);
   }
 
-  -- an escape, with one move
-  pub escape-is : (d : Grid) → 1 ≤ moves → moves ≤ 1 → d ≡ after c q → (WinsByThreats rule 1 d → ⊥) → EscapesBy rule moves c q
-  escape-is d some few played none = record {
+  -- an escape, where after it there is no win within the moves that are left
+  pub escape-is : (d : Grid) (n : ℕ) → moves ≡ n → d ≡ after c q → (WinsByThreats rule n d → ⊥) → EscapesBy rule moves c q
+  escape-is d n left played none = record {
     on = on;
-    no_win = λ win.
-        let one : moves ≡ 1 = omega (arith, some, few) in
-        none (subst (λ (e : Grid). WinsByThreats rule 1 e) (sym played) (subst (λ (k : ℕ). WinsByThreats rule k (after c q)) one win));
+    no_win = λ win. none (subst (λ (e : Grid). WinsByThreats rule n e) (sym played) (subst (λ (k : ℕ). WinsByThreats rule k (after c q)) left win));
   }
 
 -- an escape by one reply

@@ -2,8 +2,7 @@
 use Rattle.std.proofs.Common.{◌≡◌, ◌≤◌, ℕ, Bool, true, false, ◌&&◌, not, cond, refl, sym, ap, ◌∙◌, arith, nat_eq}
 use Rattle.std.specs.Prelude.{Option, None}
 use Rattle.std.proofs.lemmas.Bool.Decides.{nat_tests}
-use Rattle.std.specs.List.{list_any}
-use Rattle.game_rules.specs.Grid.{Grid, is_empty, is_on, empties_of, points_of}
+use Rattle.game_rules.specs.Grid.{Grid, is_empty, empties_of, points_of}
 use Rattle.game_rules.specs.Shapes.{five, is_same_point}
 use Rattle.game_rules.specs.Play.{IsPosition, outcome, outcome_by, mover, after, has_fouls, foul_of, black_foul}
 use Rattle.game_rules.specs.Games.{has_five}

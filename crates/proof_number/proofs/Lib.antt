@@ -16,7 +16,6 @@ pub mod GrowthLaws
 pub mod WrittenLaws
 pub mod DoubleNodes
 mod SettleLaws
-mod ReplyOrder
 -- the replies, one after another
 mod ChildLaws
 -- the boards of the nodes of a tree; settled numbers are true; moves played and taken back
@@ -26,8 +25,11 @@ mod GameWalks
 -- the moves that have to be tried are enough, and how many positions stand behind them
 mod Trying
 mod Counting
--- the win of a proved node is compiled; what is remembered
+-- where an escape meets each of them there is no win
+mod Escaping
+-- answers in reading order rise
 mod Rising
+-- the win of a proved node is compiled; what is remembered
 mod Records
 mod Remembering
 mod Compiling

@@ -1,5 +1,5 @@
 -- Where a stone can make new double points.
-use Rattle.std.specs.Prelude.{◌≡◌, ℕ, ◌+◌, ◌==◌, Bool, true, false, ◌&&◌}
+use Rattle.std.specs.Prelude.{◌≡◌, ◌+◌, ◌==◌, Bool, true, false, ◌&&◌}
 use Rattle.std.specs.List.{list_any}
 use Rattle.game_rules.specs.Grid.{Grid, is_empty, put, points_of, axes}
 use Rattle.game_rules.specs.Games.{five_points, is_double_point}

@@ -1,4 +1,8 @@
 //! The answer of the search.
+//!
+//! The root is looked at first. Then one step follows another, each of which settles the most-proving leaf or gives it its
+//! children, until the numbers of the root are settled or the budget is spent. What the root says then is the answer, and its
+//! win is compiled already.
 #![tactic(auto)]
 
 ghost use Rattle.std.specs.Prelude.{◌≡◌, ◌≤◌, ◌<◌, ◌+◌, ◌++◌, List, false, length, min, IfOk, IsErrOf};

@@ -1,4 +1,7 @@
 //! The first look at the root: a five point, or one move alone.
+//!
+//! With a five point the root is won at once, and with one move left no other win is possible but a move to which each reply
+//! fouls. So a tree is grown only where the attacker has no five point and two moves or more.
 #![tactic(auto)]
 
 ghost use Rattle.std.specs.Prelude.{◌≡◌, ◌<◌, ◌≤◌, ◌+◌, ℕ, false, ◌++◌, List, length, OnOk, IsErrOf};

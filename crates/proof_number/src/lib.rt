@@ -11,6 +11,7 @@ mod answer;
 mod attacks;
 mod begin;
 mod doubles;
+mod escapes;
 mod last_moves;
 mod notes;
 mod record;

@@ -1,4 +1,7 @@
 //! What the search knows of the nodes of its tree beside their numbers, and of positions that were settled.
+//!
+//! The tree has numbers and kinds alone. The move that leads to a node, the moves that are left there and the win that was
+//! compiled for it stand in a list of notes beside it, one for each node, so that a node stays small.
 #![tactic(auto)]
 
 ghost use Rattle.std.specs.Prelude.{◌≡◌, ◌<◌, ◌^◌};

@@ -1,4 +1,8 @@
 //! Positions of the attacker that are settled: they are compiled, if they are won, and remembered.
+//!
+//! On the way back from a leaf each node of the attacker that its numbers prove gets its win: the proved attack, with the
+//! answers to all replies, whose wins are compiled already. So a win of the root is a table as soon as it is proved. What is
+//! settled, won or not, is remembered under its position and the moves that were left.
 #![tactic(auto)]
 
 ghost use Rattle.std.specs.Prelude.{◌≡◌, ◌⊎◌, All, Some, slice_get, OnErr, ◌<◌, ◌≤◌, ◌+◌, ℕ, true, ◌++◌, List, map, take, drop, length, IfOk, IfSome, OnOk, IsErrOf};

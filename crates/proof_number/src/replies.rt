@@ -1,7 +1,8 @@
 //! The replies to a move of the attacker.
 //!
 //! All replies that go on are taken. Most are settled at once: one that leaves the attacker a five point, or a double point
-//! while the other side has no five point. The five points and the double points before the reply tell of those after it.
+//! while the other side has no five point. The five points and the double points before the reply tell of those after it. Where
+//! the attacker has one or two moves left it is seen at once whether a reply escapes.
 #![tactic(auto)]
 
 ghost use Rattle.std.specs.Prelude.{◌≡◌, ◌<◌, ◌≤◌, ◌+◌, ℕ, true, false, All, length, IfOk, IfSome, IfNone, IsTrue, is_none, IsErrOf, OnOk, [], ◌∷◌, ◌++◌, not};
@@ -14,11 +15,12 @@ ghost use Rattle.strategy_graph.specs.declared.TheConstants.{MAX_NODES};
 ghost use Rattle.proof_number.specs.Growth.{GrowsBy};
 ghost use Rattle.proof_number.specs.FreeMoves.{EachGoesOn};
 ghost use Rattle.proof_number.specs.Attacks.{has_reply, is_last_move, LeavesBoth};
-ghost use Rattle.proof_number.specs.Replies.{AreReplies, IsJudged, IsJudgement, IsBeside, is_beside as is_beside_lem, moves_for, is_open, counted_for, nodes_for};
+ghost use Rattle.proof_number.specs.Replies.{AreReplies, IsJudged, IsJudgement, IsBeside, is_beside as is_beside_lem, moves_for, is_open as is_open_lem, counted_for, nodes_for};
 ghost use Rattle.proof_number.specs.Answers.{IsThreatWin};
 
 use crate::attacks::{each_goes_on, goes_on_where};
 use crate::doubles::{Double, answers_of, compile_double, first_doubles, is_same};
+use crate::escapes::fails_after;
 use crate::last_moves::last_move;
 use crate::written::{compile_five, compile_last};
 use foul_judge::{Outcome, Seen};
@@ -145,7 +147,7 @@ fn each_reply<R: Rule, V: Seen<R>>(
     };
     let free = each_goes_on::<R, V>(view);
     for q in view.board().points() {
-        match judge::<R, V>(view, board, free, q, moves, fives, doubles) {
+        match judge::<R, V>(alloc, view, board, free, q, moves, fives, doubles)? {
             Judgement::NoReply => {}
             Judgement::Escape => return Ok(None),
             Judgement::Known(judged) => children.add(q, judged)?,
@@ -168,6 +170,7 @@ fn counted(judged: Judged) -> u64
 /// What is known of the point `q` as a reply, where before it the attacker has these five points and these double points. It may be
 /// told that each move on an empty point goes on.
 fn judge<R: Rule, V: Seen<R>>(
+    alloc: Global,
     view: &mut V,
     board: &mut Board,
     free: bool,
@@ -175,7 +178,7 @@ fn judge<R: Rule, V: Seen<R>>(
     moves: u32,
     fives: &Points,
     doubles: &[Double],
-) -> Judgement
+) -> Result<Judgement, AllocError>
     requires lawful { IsPosition R.KIND (V.position view.old) }
     requires each { IsTrue free → EachGoesOn R.KIND (V.position view.old) }
     requires some_moves { 1 ≤ moves }
@@ -183,48 +186,60 @@ fn judge<R: Rule, V: Seen<R>>(
     requires copy { board.old ≡ V.position view.old }
     requires fives { fives.now ≡ five_points_lem R.KIND (V.position view.old) (other (mover (V.position view.old))) }
     requires doubles { All (LeavesBoth R.KIND (V.position view.old) (other (mover (V.position view.old)))) doubles.now }
-    ensures judgement { IsJudgement R.KIND moves (V.position view.old) q result }
+    ensures judgement { IfOk result (IsJudgement R.KIND moves (V.position view.old) q) }
     ensures same { V.position view.new ≡ V.position view.old }
     ensures same_board { board.new ≡ board.old }
 {
     if !goes_on_where::<R, V>(view, free, q) {
-        return Judgement::NoReply;
+        return Ok(Judgement::NoReply);
     }
     match five_beside(fives, q) {
-        Some(five) => Judgement::Known(Judged::Five(five)),
-        None => judge_quiet::<R, V>(view, board, q, moves, doubles),
+        Some(five) => Ok(Judgement::Known(Judged::Five(five))),
+        None => judge_quiet::<R, V>(alloc, view, board, q, moves, doubles),
     }
 }
 
 /// The same of a reply that goes on and leaves the attacker no five point.
 fn judge_quiet<R: Rule, V: Seen<R>>(
+    alloc: Global,
     view: &mut V,
     board: &mut Board,
     q: Point,
     moves: u32,
     doubles: &[Double],
-) -> Judgement
+) -> Result<Judgement, AllocError>
     requires some_moves { 1 ≤ moves }
     requires no_five { has_five_lem R.KIND (V.position view.old) (mover (V.position view.old)) ≡ false }
     requires on { outcome_lem R.KIND (V.position view.old) q ≡ Outcome.GoesOn }
     requires none { has_five_lem R.KIND (after (V.position view.old) q) (mover (after (V.position view.old) q)) ≡ false }
     requires copy { board.old ≡ V.position view.old }
     requires doubles { All (LeavesBoth R.KIND (V.position view.old) (other (mover (V.position view.old)))) doubles.now }
-    ensures judgement { IsJudgement R.KIND moves (V.position view.old) q result }
+    ensures judgement { IfOk result (IsJudgement R.KIND moves (V.position view.old) q) }
     ensures same { V.position view.new ≡ V.position view.old }
     ensures same_board { board.new ≡ board.old }
 {
-    if moves > 1 {
-        return Judgement::Known(judge_double::<R, V>(view, q, doubles));
+    if moves == 1 {
+        return Ok(match last_after::<R, V>(view, board, q) {
+            Some(p) => Judgement::Known(Judged::Last(p)),
+            None => Judgement::Escape,
+        });
     }
-    match last_after::<R, V>(view, board, q) {
-        Some(p) => Judgement::Known(Judged::Last(p)),
-        None => Judgement::Escape,
+    let judged = judge_double::<R, V>(view, q, doubles);
+    if moves == 2 && is_open(judged) && fails_after::<R, V>(alloc, view, board, q)? {
+        return Ok(Judgement::Escape);
     }
+    Ok(Judgement::Known(judged))
+}
+
+/// Whether nothing is known.
+fn is_open(judged: Judged) -> bool
+    ensures open { result ≡ is_open_lem judged }
+{
+    matches!(judged, Judged::Open)
 }
 
 /// The first of the five points that is not `q`.
-fn five_beside(fives: &Points, q: Point) -> Option<Point>
+pub(crate) fn five_beside(fives: &Points, q: Point) -> Option<Point>
     ensures beside { result ≡ find (λ w. not (is_same_point w q)) fives.now }
 {
     for five in fives.as_slice() {
@@ -236,7 +251,11 @@ fn five_beside(fives: &Points, q: Point) -> Option<Point>
 }
 
 /// A last move after the reply `q`, which goes on, if there is one. The attacker has no five point after it.
-fn last_after<R: Rule, V: Seen<R>>(view: &mut V, board: &mut Board, q: Point) -> Option<Point>
+pub(crate) fn last_after<R: Rule, V: Seen<R>>(
+    view: &mut V,
+    board: &mut Board,
+    q: Point,
+) -> Option<Point>
     requires on { outcome_lem R.KIND (V.position view.old) q ≡ Outcome.GoesOn }
     requires none { has_five_lem R.KIND (after (V.position view.old) q) (mover (after (V.position view.old) q)) ≡ false }
     requires copy { board.old ≡ V.position view.old }
@@ -313,7 +332,7 @@ pub(crate) fn settle_child<R: Rule, V: Seen<R>>(
     requires judged { IsJudged R.KIND (after (V.position view.old) child.at) child.judged }
     ensures win { IfOk result (λ found. IfSome found (λ win. (moves : ℕ) → moves_for child.judged ≤ moves
         → IsThreatWin R.KIND moves (after (V.position view.old) child.at) compiler.new win)) }
-    ensures open { IfOk result (λ found. is_none found ≡ is_open child.judged) }
+    ensures open { IfOk result (λ found. is_none found ≡ is_open_lem child.judged) }
     ensures grows { GrowsBy compiler.old compiler.new (nodes_for child.judged) }
     ensures full { IsErrOf result SearchError.Full → MAX_NODES < length compiler.old + nodes_for child.judged }
     ensures full_now { IsErrOf result SearchError.Full → length compiler.new ≡ MAX_NODES }

@@ -1,4 +1,7 @@
 //! Wins of one move, compiled.
+//!
+//! A five point is a winning node. A move to which each reply fouls is a node that goes on and has no answers, since no reply
+//! needs one.
 #![tactic(auto)]
 
 ghost use Rattle.std.specs.Prelude.{◌≡◌, ◌<◌, ◌≤◌, ◌+◌, ℕ, true, length, IfOk, IsErrOf};

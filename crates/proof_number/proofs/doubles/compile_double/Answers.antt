@@ -12,7 +12,7 @@ use Rattle.proof_number.specs.Replies.{double_answers, has_reply_at, has_reply_b
 use Rattle.proof_number.proofs.GrowthLaws.{nodes-grow, all-grow, node-stays}
 use Rattle.proof_number.proofs.FreeMoves.{double-safe}
 use Rattle.proof_number.proofs.DoubleNodes.{compiled-double, double-below}
-use Rattle.proof_number.proofs.ReplyOrder.{answers-rising}
+use Rattle.proof_number.proofs.Rising.{answers-rising}
 use Rattle.proof_number.proofs.doubles.compile_double.Goals as goal
 
 pub node-requires-clause-rising : goal.node-requires-clause-rising

@@ -4,6 +4,7 @@ use Rattle.game_rules.specs.Grid.{Grid}
 use Rattle.game_rules.specs.Play.{IsPosition}
 use Rattle.game_rules.specs.declared.Point.{Point}
 use Rattle.proof_number.specs.FreeMoves.{EachGoesOn}
+use Rattle.proof_number.specs.Replies.{IsJudgement}
 use Rattle.proof_number.proofs.ChildLaws.{SoFar, all-children, room-is, step-more}
 use Rattle.proof_number.proofs.replies.each_reply.Goals as goal
 
@@ -18,7 +19,7 @@ loop-q-preserved g c =
       c.judge.ensures.same ∙ c.loop-q.invariant.0,
       c.judge.ensures.same_board ∙ c.loop-q.invariant.1,
       step-more g.R.Rule.KIND c.args.moves b (g.V.Seen.position c.loop-q.view) c.loop-q.invariant.0 c.loop-q.children.all.items c.loop-q.children.count c.in-Some.q c.next.new.self c.loop-q.q-iterator next c.loop-q.invariant.2
-          c.in-Known.judged c.in-Known.ensures.judgement c.add.new.self.all.items c.add.new.self.count c.in_ok-add-in-Known.ensures.all c.in_ok-add-in-Known.ensures.count,
+          c.in-Known.judged (subst (IsJudgement g.R.Rule.KIND c.args.moves (g.V.Seen.position c.loop-q.view) c.in-Some.q) c.in-Known.is c.in_ok-judge.ensures.judgement) c.add.new.self.all.items c.add.new.self.count c.in_ok-add-in-Known.ensures.all c.in_ok-add-in-Known.ensures.count,
     )
 
 pub returns-clause-replies : goal.returns-clause-replies

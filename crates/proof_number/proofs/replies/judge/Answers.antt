@@ -1,5 +1,5 @@
 use Rattle.std.proofs.Common.{◌≡◌, ap, sym, subst, refl, ◌∙◌, arith}
-use Rattle.std.specs.Prelude.{All}
+use Rattle.std.specs.Prelude.{All, IfOk}
 use Rattle.game_rules.specs.Grid.{Grid}
 use Rattle.game_rules.specs.Games.{has_five}
 use Rattle.game_rules.specs.Play.{outcome, mover, other, after}
@@ -43,4 +43,4 @@ judge_quiet-requires-clause-copy g c = c.requires.copy ∙ sym c.goes_on_where.e
 
 pub returns-in-None-clause-judgement : goal.returns-in-None-clause-judgement
 returns-in-None-clause-judgement g c =
-    subst (λ (b : Grid). IsJudgement g.R.Rule.KIND c.args.moves b c.args.q c.judge_quiet.result) c.goes_on_where.ensures.same c.judge_quiet.ensures.judgement
+    subst (λ (b : Grid). IfOk c.judge_quiet.result (IsJudgement g.R.Rule.KIND c.args.moves b c.args.q)) c.goes_on_where.ensures.same c.judge_quiet.ensures.judgement
