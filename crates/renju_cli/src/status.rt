@@ -1,4 +1,6 @@
 //! The statuses that the program ends with.
+//!
+//! Each has one number, which scripts read. A number has one meaning for all commands, and no number is given twice.
 #![tactic(auto)]
 
 ghost use Rattle.std.specs.Prelude.{◌≡◌};
