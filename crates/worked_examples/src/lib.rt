@@ -32,6 +32,8 @@ mod texts;
 #[cfg(test)]
 mod threats;
 #[cfg(test)]
+mod views;
+#[cfg(test)]
 mod words;
 
 pub use held_sessions::{
