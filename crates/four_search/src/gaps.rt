@@ -24,6 +24,7 @@ pub(crate) struct Gaps {
 }
 
 /// What stands from `p` in that way, where the stones are those of the side.
+#[inline(always)]
 pub(crate) fn gaps_from(board: &Board, side: Side, axis: Axis, way: Way, p: Point) -> Gaps
     requires on { IsTrue (is_on board.now p) }
     ensures gaps { TellsGaps board.now side axis way p result }
@@ -45,6 +46,7 @@ pub(crate) fn gaps_from(board: &Board, side: Side, axis: Axis, way: Way, p: Poin
 }
 
 /// The same where the stones next to the point and the first gap are known.
+#[inline(always)]
 fn past_gap(board: &Board, side: Side, axis: Axis, way: Way, near: u32, first: Point) -> Gaps
     requires on { IsTrue (is_on board.now first) }
     ensures near { result.near ≡ near }
@@ -75,6 +77,7 @@ fn past_gap(board: &Board, side: Side, axis: Axis, way: Way, near: u32, first: P
 }
 
 /// The point past so many stones, which are those next to `p`, if it is on the board and empty.
+#[inline(always)]
 fn gap(board: &Board, side: Side, axis: Axis, way: Way, p: Point, stones: u32) -> Option<Point>
     requires on { IsTrue (is_on board.now p) }
     requires stones { stones ≡ stones_towards_lem way board.now side axis p }

@@ -50,6 +50,7 @@ pub(crate) fn form(rest: &[String]) -> Option<Form>
 
 /// `brain FILE`: serves the input by a brain that holds the table of the file, once it is accepted, and else writes why it is not
 /// held. The input is asked only by a brain that holds the table.
+#[inline(never)]
 pub(crate) fn play_with<I: Source, O: Sink, F: Shelf>(
     alloc: Global,
     file: &str,
@@ -82,6 +83,7 @@ pub(crate) fn play_with<I: Source, O: Sink, F: Shelf>(
 }
 
 /// Serves the lines of the input by a brain that holds this, or nothing.
+#[inline(never)]
 pub(crate) fn play<I: Source, O: Sink>(
     alloc: Global,
     held: Option<Held>,

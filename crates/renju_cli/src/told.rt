@@ -35,6 +35,8 @@ pub(crate) trait Told {
 }
 
 /// Reads the input, and writes what the command says of it. Nothing is written before the input was read to its end.
+// Commands are not inlined, so that none has the locals of all others on its stack.
+#[inline(never)]
 pub(crate) fn tell<C: Told, I: Source, O: Sink>(
     alloc: Global,
     command: &C,

@@ -26,7 +26,7 @@ pub enum ReadAllError {
 }
 
 // How many bytes one read asks for: few, so that a small input does not pay for a large piece.
-const READ_BYTES: usize = 16_384;
+const READ_BYTES: usize = 8_192;
 
 /// The bytes of a source to the end of its input, of which there are at most `MAX_INPUT_BYTES`. After an `Err` the
 /// source has given what was read.

@@ -109,6 +109,7 @@ pub(crate) fn are_stones(stones: &[bool; 9], first: u8, gap: u8) -> bool
 
 /// Whether these are four stones of a four of the stone on `p`.
 #[tactic(auto, unfolding(crate::specs::Gaps::is_four))]
+#[inline(always)]
 fn is_four<R: Rule>(
     board: &Board,
     side: Side,
@@ -130,6 +131,7 @@ fn is_four<R: Rule>(
 }
 
 /// The number of fours among the five places that begin so many steps behind `p`, but for those without the first of them.
+#[inline(always)]
 fn fours_from<R: Rule>(
     board: &Board,
     side: Side,

@@ -29,6 +29,7 @@ pub fn fives_made<R: Rule>(board: &Board, side: Side, p: Point) -> FivePoints
 }
 
 /// The five points told so far, and those at the two ends on one axis of the run of a new stone on `p`.
+#[inline(always)]
 pub fn with_axis<R: Rule>(
     board: &Board,
     side: Side,
@@ -55,6 +56,7 @@ pub fn with_axis<R: Rule>(
 /// The end in that way of the run of a new stone on `p`, if a further stone there wins on the axis. `near` stones stand
 /// next to `p` in that way, and `far` in the other.
 #[tactic(auto, unfolding(crate::specs::FiveEnds::end_five))]
+#[inline(always)]
 fn end_five<R: Rule>(
     board: &Board,
     side: Side,
@@ -84,6 +86,7 @@ fn end_five<R: Rule>(
 }
 
 /// Whether the end `q` is empty, and a stone on it wins on the axis, where it joins a run of `length` stones.
+#[inline(always)]
 fn joins_to_win<R: Rule>(
     board: &Board,
     side: Side,

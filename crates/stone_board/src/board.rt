@@ -296,6 +296,7 @@ impl Board {
     }
 
     /// The point so many steps from the point in one way along the axis, if it is on the board.
+    #[inline(always)]
     pub fn step_towards(&self, way: Way, axis: Axis, p: Point, k: u8) -> Option<Point>
         requires on { IsTrue (is_on self.now p) }
         requires near { k ≤ 64 }
