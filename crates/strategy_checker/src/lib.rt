@@ -8,7 +8,6 @@
 
 mod checks;
 mod held;
-mod memo;
 #[cfg(test)]
 mod tests;
 mod walk;
@@ -20,9 +19,6 @@ pub use strategy_graph::Why;
 
 /// The most roots that are held with one table.
 pub const MAX_ROOTS: u32 = 1_000;
-
-/// The most pairs of a node and a position that a walk remembers.
-pub(crate) const MEMO_ENTRIES: u32 = 65_536;
 
 /// What the checker says of a table at a position.
 #[derive(Debug, Drop)]

@@ -20,12 +20,21 @@ ghost use Rattle.strategy_graph.specs.Roots.{AcceptedRoot, LeadsRoot, root_arriv
 ghost use Rattle.strategy_checker.specs.Walks.{Stopped, IsNoted, IsSure, IsTrueMemo, is_sure_after};
 
 use crate::Why;
-use crate::memo::Memo;
 use foul_judge::{Outcome, Position, Seen};
+use position_table::LateTable;
 use row_shapes::Rule;
 use std::alloc::Global;
 use stone_board::{Point, Points};
 use strategy_graph::{Node, Replies, Rest, Root, Start, Table, answer_among};
+
+/// The most pairs of a node and a position that a walk remembers.
+const MEMO_ENTRIES: u32 = 65_536;
+
+/// The least arrivals of a pair that is remembered. Fewer are walked again in about the time of a look.
+const LEAST_ARRIVALS: u64 = 64;
+
+/// How many such pairs pass before any is remembered.
+const PAIRS_BEFORE: u32 = 64;
 
 /// Why a walk ends before every reply is met.
 #[derive(Clone, Copy)]
@@ -45,8 +54,8 @@ pub(crate) struct Walk {
     pub(crate) left: u64,
     /// The moves that led to the fault, the last one first. There are none before a fault is found.
     pub(crate) line: Points,
-    /// The pairs of a node and a position that were accepted.
-    memo: Memo,
+    /// The arrivals of the nodes that were accepted, each under its position and with the node as tag.
+    memo: LateTable,
 }
 
 impl Walk {
@@ -59,7 +68,7 @@ impl Walk {
         Walk {
             left: work,
             line: Points::new(alloc),
-            memo: Memo::new(alloc),
+            memo: LateTable::new(alloc, MEMO_ENTRIES, LEAST_ARRIVALS, PAIRS_BEFORE),
         }
     }
 

@@ -214,18 +214,18 @@ visit-returns-in-Draws-clause-stopped g t c =
 pub go_on-overflow_sub-others : goal.go_on-overflow_sub-others
 go_on-overflow_sub-others g t c =
     let some = arrivals-positive g.R.Rule.KIND c.args.table.now c.args.i c.args.position.now in
-    let counted = found-counted g.R.Rule.KIND c.args.table.now c.args.position.now c.board.result.now c.args.i c.in-Some.arrivals c.requires.lawful c.board.ensures.board c.args.self.now.memo c.requires.memo c.in-Some.ensures.arrivals in
+    let counted = found-counted g.R.Rule.KIND c.args.table.now c.args.position.now c.board.result.now c.args.i c.in-Some.arrivals c.requires.lawful c.board.ensures.board c.args.self.now.memo c.requires.memo c.in-Some.ensures.value in
     omega (arith, some, counted)
 
 pub go_on-returns-in-Some-clause-accepted : goal.go_on-returns-in-Some-clause-accepted
 go_on-returns-in-Some-clause-accepted g t c =
     on-ok c.take.result (Accepted g.R.Rule.KIND c.args.table.now c.args.i c.args.position.now)
-    (found-accepted g.R.Rule.KIND c.args.table.now c.args.position.now c.board.result.now c.args.i c.in-Some.arrivals c.requires.lawful c.board.ensures.board c.args.self.now.memo c.requires.memo c.in-Some.ensures.arrivals)
+    (found-accepted g.R.Rule.KIND c.args.table.now c.args.position.now c.board.result.now c.args.i c.in-Some.arrivals c.requires.lawful c.board.ensures.board c.args.self.now.memo c.requires.memo c.in-Some.ensures.value)
 
 pub go_on-returns-in-Some-clause-counted : goal.go_on-returns-in-Some-clause-counted
 go_on-returns-in-Some-clause-counted g t c =
     let some = arrivals-positive g.R.Rule.KIND c.args.table.now c.args.i c.args.position.now in
-    let counted = found-counted g.R.Rule.KIND c.args.table.now c.args.position.now c.board.result.now c.args.i c.in-Some.arrivals c.requires.lawful c.board.ensures.board c.args.self.now.memo c.requires.memo c.in-Some.ensures.arrivals in
+    let counted = found-counted g.R.Rule.KIND c.args.table.now c.args.position.now c.board.result.now c.args.i c.in-Some.arrivals c.requires.lawful c.board.ensures.board c.args.self.now.memo c.requires.memo c.in-Some.ensures.value in
     on-ok-map c.take.result (c.take.new.self.left + (c.in-Some.arrivals - 1) ≡ c.args.self.now.left) (c.take.new.self.left + arrivals g.R.Rule.KIND c.args.table.now c.args.i c.args.position.now ≡ c.args.self.now.left + 1)
     (λ taken. omega (arith, some, counted, taken)) c.take.ensures.counted
 
@@ -241,7 +241,7 @@ go_on-returns-in-Some-clause-memo g t c =
 pub go_on-returns-in-Some-clause-stopped : goal.go_on-returns-in-Some-clause-stopped
 go_on-returns-in-Some-clause-stopped g t c =
     let some = arrivals-positive g.R.Rule.KIND c.args.table.now c.args.i c.args.position.now in
-    let counted = found-counted g.R.Rule.KIND c.args.table.now c.args.position.now c.board.result.now c.args.i c.in-Some.arrivals c.requires.lawful c.board.ensures.board c.args.self.now.memo c.requires.memo c.in-Some.ensures.arrivals in
+    let counted = found-counted g.R.Rule.KIND c.args.table.now c.args.position.now c.board.result.now c.args.i c.in-Some.arrivals c.requires.lawful c.board.ensures.board c.args.self.now.memo c.requires.memo c.in-Some.ensures.value in
     IfErr-weaker c.take.result _ _
     (λ stop h. stops-map (λ why. ⊥) (λ why. Leads g.R.Rule.KIND c.args.table.now c.args.i c.args.position.now (reverse c.take.new.self.line) why) (c.args.self.now.left < c.in-Some.arrivals - 1) (c.args.self.now.left + 1 < arrivals g.R.Rule.KIND c.args.table.now c.args.i c.args.position.now) stop
     (λ why no. absurd no) (λ short. omega (arith, some, counted, short)) h)
