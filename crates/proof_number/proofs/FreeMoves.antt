@@ -10,9 +10,10 @@ use Rattle.game_rules.specs.declared.RuleKind.{RuleKind}
 use Rattle.game_rules.specs.declared.Side.{Side}
 use Rattle.game_rules.specs.declared.Foul.{Foul}
 use Rattle.game_rules.specs.declared.Point.{Point}
-use Rattle.game_rules.proofs.Boards.{and_left, and_right, is_empty-on}
+use Rattle.game_rules.proofs.Boards.{and_left, and_right}
 use Rattle.game_rules.proofs.Positions.{GoesOn-on, mover-then}
 use Rattle.game_rules.proofs.Points.{points-found, any_witness, taken_refused, is_same_point-itself, is_same_point-same}
+use Rattle.threat_moves.proofs.OffLines.{no_five}
 use Rattle.proof_number.specs.declared.doubles.Double.{Double}
 use Rattle.proof_number.specs.Attacks.{goes_on, IsDoubleWin}
 use Rattle.proof_number.specs.Replies.{has_reply_at}
@@ -26,21 +27,13 @@ not_one n h = grind (arith, nat_tests)
 no_foul : (rule : RuleKind) (b : Grid) (s : Side) (q : Point) → has_fouls rule s ≡ false → foul_of rule b s q ≡ None
 no_foul rule b s q calm = ap (λ r. cond r (black_foul rule b q) None) calm
 
-no_five : (rule : RuleKind) (b : Grid) (s : Side) (q : Point) → has_five rule b s ≡ false → is_empty b q ≡ true → five rule b s q ≡ false
-no_five rule b s q none empty = by_test (five rule b s q) refl where
-  by_test : (r : Bool) → five rule b s q ≡ r → five rule b s q ≡ false
-  by_test false e = e
-  by_test true e =
-      let some : has_five rule b s ≡ true = points-found b (five rule b s) q (is_empty-on b q empty) e in
-      let bad : false ≡ true = sym none ∙ some in cc
-
 -- without a five point and fouls, and with two empty points or more, each goes on
 pub each-goes_on : (rule : RuleKind) (b : Grid) → has_five rule b (mover b) ≡ false → has_fouls rule (mover b) ≡ false → 2 ≤ empties_of b → EachGoesOn rule b
 unfolding outcome
 each-goes_on rule b none calm many = record {
   on = λ q empty.
       ap (λ e. outcome_by e (five rule b (mover b) q) (foul_of rule b (mover b) q) (nat_eq (empties_of b) 1)) empty
-      ∙ ap (λ f. outcome_by true f (foul_of rule b (mover b) q) (nat_eq (empties_of b) 1)) (no_five rule b (mover b) q none empty)
+      ∙ ap (λ f. outcome_by true f (foul_of rule b (mover b) q) (nat_eq (empties_of b) 1)) (no_five rule b (mover b) q none)
       ∙ ap (λ (o : Option Foul). outcome_by true false o (nat_eq (empties_of b) 1)) (no_foul rule b (mover b) q calm)
       ∙ ap (λ l. outcome_by true false None l) (not_one (empties_of b) many);
 }

@@ -1,28 +1,16 @@
 -- Where a stone can make new double points.
-use Rattle.std.specs.Prelude.{◌≡◌, ◌+◌, ◌==◌, Bool, true, false, ◌&&◌}
+use Rattle.std.specs.Prelude.{◌≡◌, Bool, true, false, ◌&&◌}
 use Rattle.std.specs.List.{list_any}
-use Rattle.game_rules.specs.Grid.{Grid, is_empty, put, points_of, axes}
+use Rattle.game_rules.specs.Grid.{Grid, is_empty, put, points_of}
 use Rattle.game_rules.specs.Games.{five_points, is_double_point}
 use Rattle.game_rules.specs.declared.RuleKind.{RuleKind}
 use Rattle.game_rules.specs.declared.Side.{Side}
-use Rattle.game_rules.specs.declared.Axis.{Axis}
-use Rattle.game_rules.specs.declared.Axis.TheVariants.{Row, Column, Down, Up}
 use Rattle.game_rules.specs.declared.Point.{Point}
 use Rattle.row_shapes.specs.FivePoints.{in_short}
 use Rattle.row_shapes.specs.declared.fives.FivePoints.{FivePoints}
 use Rattle.row_shapes.specs.declared.fives.FivePoints.TheVariants.{None as NoPoint, One, Several}
+use Rattle.threat_moves.specs.Lines.{is_aligned}
 use Rattle.threat_moves.specs.ThreeMoves.{is_several}
-
--- whether q is on the line of the axis through p
-abbrev pub same_line : Axis → Point → Point → Bool
-same_line Row p q = q.y == p.y
-same_line Column p q = q.x == p.x
-same_line Down p q = q.x + p.y == p.x + q.y
-same_line Up p q = q.x + q.y == p.x + p.y
-
--- whether two points are on one line of some axis
-abbrev pub is_aligned : Point → Point → Bool
-is_aligned p q = list_any (λ d. same_line d p q) axes
 
 -- whether there is a five point
 abbrev pub is_some_point : FivePoints → Bool

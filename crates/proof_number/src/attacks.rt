@@ -12,10 +12,11 @@ ghost use Rattle.game_rules.specs.Shapes.{is_same_point};
 ghost use Rattle.game_rules.specs.Play.{IsPosition, outcome as outcome_lem, mover, other, after};
 ghost use Rattle.game_rules.specs.Games.{has_five as has_five_lem, five_points as five_points_lem, has_threat, is_double_point};
 ghost use Rattle.row_shapes.specs.FivePoints.{in_short};
+ghost use Rattle.threat_moves.specs.Lines.{is_aligned as is_aligned_lem};
 ghost use Rattle.threat_moves.specs.ThreeMoves.{is_several as is_several_lem, has_double_point};
 ghost use Rattle.proof_number.specs.ThreatGame.{is_threat_move as is_threat_move_lem};
 ghost use Rattle.proof_number.specs.FreeMoves.{EachGoesOn};
-ghost use Rattle.proof_number.specs.NearDoubles.{FarAreNone, is_aligned as is_aligned_lem, is_some_point as is_some_point_lem, makes_two as makes_two_lem, some_makes_two as some_makes_two_lem};
+ghost use Rattle.proof_number.specs.NearDoubles.{FarAreNone, is_some_point as is_some_point_lem, makes_two as makes_two_lem, some_makes_two as some_makes_two_lem};
 ghost use Rattle.proof_number.specs.Attacks.{AreAttacks, IsAttempt, IsDoubleWin, best_reply as best_reply_lem, goes_on as goes_on_lem, takes as takes_lem};
 
 use crate::doubles::{Double, double_at};
@@ -24,7 +25,7 @@ use foul_judge::{Outcome, Seen};
 use row_shapes::{FivePoints, Rule};
 use std::alloc::{AllocError, Global};
 use stone_board::{Board, Point, Points, Side};
-use threat_moves::{is_four_move, is_new_double_point, is_three_move};
+use threat_moves::{is_aligned, is_four_move, is_new_double_point, is_three_move};
 
 /// What the moves of the attacker come to, where it has no five point and two moves or more.
 #[derive(Drop)]
@@ -346,15 +347,6 @@ fn is_far(loud: bool, p: Point, q: Point) -> bool
     ensures far { result ≡ (not loud && not (is_aligned_lem p q)) }
 {
     !loud && !is_aligned(p, q)
-}
-
-/// Whether the two points are on one line.
-fn is_aligned(p: Point, q: Point) -> bool
-    ensures aligned { result ≡ is_aligned_lem p q }
-{
-    let (x, y) = (u16::from(p.x), u16::from(p.y));
-    let (other_x, other_y) = (u16::from(q.x), u16::from(q.y));
-    other_y == y || other_x == x || other_x + y == x + other_y || other_x + other_y == x + y
 }
 
 /// What the replies to a move that goes on come to.

@@ -1,16 +1,12 @@
 -- Stones put on points one after another, and what is needed of threats one after another.
 use Rattle.std.proofs.Common.{◌≡◌, ℕ, suc, ◌+◌, ◌<◌, Bool, true, false, ◌&&◌, ◌||◌, not, List, ◌∷◌, drop, length, get_or, refl, sym, ap, ◌∙◌, add-one, drop-cons}
-use Rattle.std.proofs.lemmas.Bool.{false_from_ne_true}
 use Rattle.game_rules.specs.Grid.{Grid}
-use Rattle.game_rules.specs.Shapes.{five}
 use Rattle.game_rules.specs.Games.{is_double_point, has_five}
 use Rattle.game_rules.specs.declared.RuleKind.{RuleKind}
 use Rattle.game_rules.specs.declared.Side.{Side}
 use Rattle.game_rules.specs.declared.Point.{Point}
-use Rattle.game_rules.proofs.Boards.{is_empty-on}
-use Rattle.game_rules.proofs.Fives.{five-empty}
-use Rattle.game_rules.proofs.Points.{points-found}
 use Rattle.threat_moves.specs.declared.threat_list.Threat.{Threat}
+use Rattle.threat_moves.proofs.OffLines.{no_five}
 use Rattle.threat_space.specs.Sequences.{with_stone, with_stones, played, is_final_point, threat_depends, is_needed, all_needed}
 
 -- the point that stands where there is none
@@ -37,12 +33,6 @@ module _ (rule : RuleKind) (s : Side) (f : Point) where
   all-next b i ts t low at = ap (all_needed rule s f b) (drop-at i ts t low at)
 
 -- where the side has no five point, a final point is a double point
-pub no_five : (rule : RuleKind) (b : Grid) (s : Side) (p : Point) → has_five rule b s ≡ false → five rule b s p ≡ false
-no_five rule b s p none = false_from_ne_true _ (λ h.
-    let found = points-found b (five rule b s) p (is_empty-on b p (five-empty rule b s p h)) h in
-    let differ : false ≡ true = sym none ∙ found in
-    cc)
-
 pub new-final : (rule : RuleKind) (b : Grid) (s : Side) (p : Point) → has_five rule b s ≡ false → is_final_point rule b s p ≡ is_double_point rule b s p
 unfolding is_final_point
 new-final rule b s p none = ap (λ r. r || is_double_point rule b s p) (no_five rule b s p none)

@@ -8,13 +8,15 @@ ghost use Rattle.std.specs.Prelude.{◌≡◌, IfOk, IfSome};
 ghost use Rattle.game_rules.specs.Grid.{Grid};
 ghost use Rattle.game_rules.specs.Games.{has_five as has_five_lem};
 ghost use Rattle.threat_space.specs.Sequences.{played_all, is_final_point as is_final_point_lem, threat_depends as threat_depends_lem, final_depends as final_depends_lem, is_needed as is_needed_lem, all_needed as all_needed_lem, is_sequence as is_sequence_lem, final_of as final_of_lem};
-ghost use Rattle.threat_space.specs.Lines.{is_aligned as is_aligned_lem, EndsAligned};
+ghost use Rattle.threat_space.specs.Lines.{EndsAligned};
 
 use crate::boards::{played, without};
 use row_shapes::{Rule, five_at, has_five};
 use std::alloc::AllocError;
 use stone_board::{Board, Point, Side};
-use threat_moves::{Threat, has_fouls, is_double_point, is_new_double_point, is_threat};
+use threat_moves::{
+    Threat, has_fouls, is_aligned, is_double_point, is_new_double_point, is_threat,
+};
 
 /// The least final point with which the list of threats is a sequence, if there is one. The threats lead from the first
 /// board to the second, which is as before.
@@ -60,15 +62,6 @@ fn gain_aligned<R: Rule>(
         return None;
     }
     Some(gain)
-}
-
-/// Whether two points are on one line of some axis.
-fn is_aligned(p: Point, q: Point) -> bool
-    ensures aligned { result ≡ is_aligned_lem p q }
-{
-    let (x, y) = (u16::from(p.x), u16::from(p.y));
-    let (other_x, other_y) = (u16::from(q.x), u16::from(q.y));
-    other_y == y || other_x == x || other_x + y == x + other_y || other_x + other_y == x + y
 }
 
 /// Whether the list of threats is a sequence with this final point. The threats lead from the first board to the second, of

@@ -1,4 +1,4 @@
-use Rattle.std.proofs.Common.{true, false, ap, sym, ◌∙◌}
+use Rattle.std.proofs.Common.{ap, sym, ◌∙◌}
 use Rattle.game_rules.specs.Grid.{Grid, is_empty}
 use Rattle.proof_number.proofs.NearDoubles.{taken-no_move, no_threat-no_move, threat-move}
 use Rattle.proof_number.proofs.attacks.is_new_threat.Goals as goal

@@ -1,4 +1,4 @@
-use Rattle.std.proofs.Common.{◌≡◌, true, false, ap, sym, ◌∙◌}
+use Rattle.std.proofs.Common.{◌≡◌, false, ap, sym, ◌∙◌}
 use Rattle.game_rules.specs.Grid.{Grid, is_empty, put}
 use Rattle.game_rules.specs.Play.{mover, after}
 use Rattle.game_rules.specs.Games.{has_five}
