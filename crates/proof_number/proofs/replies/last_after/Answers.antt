@@ -1,19 +1,15 @@
-use Rattle.std.proofs.Common.{◌≡◌, true, ap, sym, subst, ◌∙◌}
+use Rattle.std.proofs.Common.{ap, subst, ◌∙◌}
 use Rattle.std.specs.Prelude.{IfNone}
-use Rattle.game_rules.specs.Grid.{Grid, is_empty, put, lift}
+use Rattle.game_rules.specs.Grid.{Grid}
 use Rattle.game_rules.specs.Games.{has_five, WinsByThreats}
 use Rattle.game_rules.specs.Play.{mover}
-use Rattle.game_rules.specs.declared.Side.{Side}
-use Rattle.game_rules.proofs.Boards.{lift-put}
-use Rattle.game_rules.proofs.Positions.{GoesOn-empty}
-use Rattle.stone_board.specs.Steps.{holds_stone}
-use Rattle.stone_board.proofs.Stones.{put-holds_stone}
 use Rattle.threat_moves.proofs.Undo.{stone_back, lift_back, unwon_back}
+use Rattle.proof_number.proofs.BothBoards.{copy-empty, copy-played, copy-stone, copy-back}
 use Rattle.proof_number.proofs.replies.last_after.Goals as goal
 
 pub put-requires : goal.put-requires
 put-requires g c =
-    record { empty = ap (λ (b : Grid). is_empty b c.args.q) c.requires.copy ∙ GoesOn-empty g.R.Rule.KIND (g.V.Seen.position c.args.view.now) c.args.q c.requires.on }
+    record { empty = copy-empty g.R.Rule.KIND c.args.q c.requires.copy c.requires.on }
 
 pub last_move-found-requires-clause-none : goal.last_move-found-requires-clause-none
 last_move-found-requires-clause-none g c =
@@ -21,14 +17,11 @@ last_move-found-requires-clause-none g c =
 
 pub last_move-found-requires-clause-copy : goal.last_move-found-requires-clause-copy
 last_move-found-requires-clause-copy g c =
-    let b : Grid = g.V.Seen.position c.args.view.now in
-    c.put.ensures.put ∙ ap (λ (w : Grid). put w c.side-defender.result c.args.q) c.requires.copy
-    ∙ ap (λ (s : Side). put b s c.args.q) c.side-defender.ensures.side ∙ sym c.play.ensures.played
+    copy-played g.R.Rule.KIND c.args.q c.requires.copy c.requires.on c.side-defender.result c.put.ensures.put c.side-defender.ensures.side c.play.ensures.played
 
 pub lift-requires : goal.lift-requires
 lift-requires g c =
-    let empty : is_empty c.args.board.now c.args.q ≡ true = ap (λ (b : Grid). is_empty b c.args.q) c.requires.copy ∙ GoesOn-empty g.R.Rule.KIND (g.V.Seen.position c.args.view.now) c.args.q c.requires.on in
-    record { stone = ap (λ (b : Grid). holds_stone b c.args.q) (c.last_move-found.ensures.same_board ∙ c.put.ensures.put) ∙ put-holds_stone c.args.board.now c.side-defender.result c.args.q c.put.ensures.board empty }
+    record { stone = copy-stone g.R.Rule.KIND c.args.q c.requires.copy c.requires.on c.side-defender.result c.put.ensures.put c.put.ensures.board c.last_move-found.ensures.same_board }
 
 pub undo-requires-clause-stone : goal.undo-requires-clause-stone
 undo-requires-clause-stone g c =
@@ -44,8 +37,7 @@ returns-clause-same g c =
 
 pub returns-clause-same_board : goal.returns-clause-same_board
 returns-clause-same_board g c =
-    let empty : is_empty c.args.board.now c.args.q ≡ true = ap (λ (b : Grid). is_empty b c.args.q) c.requires.copy ∙ GoesOn-empty g.R.Rule.KIND (g.V.Seen.position c.args.view.now) c.args.q c.requires.on in
-    c.lift.ensures.lift ∙ ap (λ (b : Grid). lift b c.args.q) (c.last_move-found.ensures.same_board ∙ c.put.ensures.put) ∙ lift-put c.args.board.now c.side-defender.result c.args.q empty
+    copy-back g.R.Rule.KIND c.args.q c.requires.copy c.requires.on c.side-defender.result c.put.ensures.put c.last_move-found.ensures.same_board c.lift.ensures.lift
 
 pub returns-clause-no_win : goal.returns-clause-no_win
 returns-clause-no_win g c =
