@@ -23,10 +23,10 @@ use Rattle.stone_board.specs.declared.board.Way.{Way}
 use Rattle.stone_board.specs.declared.board.Way.TheVariants.{Ahead, Behind}
 use Rattle.stone_board.specs.Steps.{towards, opposite, stones_towards}
 use Rattle.row_shapes.specs.Threes.{wins_past, is_open_four}
+use Rattle.row_shapes.proofs.Ways.{go}
 use Rattle.row_shapes.proofs.ThreePoints.{three-open, three_empty, three_first, three_near}
 use Rattle.threat_moves.specs.Threats.{is_straight_point, has_straight_point, stops_three}
 use Rattle.threat_moves.specs.FiveEnds.{is_near, IsSure, CostsAreNear}
-use Rattle.threat_moves.proofs.Rays.{go}
 use Rattle.threat_moves.proofs.StraightPoints.{straight-line, line_three, stone_kept}
 use Rattle.threat_moves.proofs.GainLaws.{empty-stops}
 use Rattle.threat_moves.proofs.FewerEmpties.{white-no_foul}

@@ -25,9 +25,9 @@ use Rattle.stone_board.specs.Steps.{opposite, towards, stones_towards}
 use Rattle.row_shapes.specs.Gaps.{is_four, are_stones, fours_from}
 use Rattle.row_shapes.specs.Threes.{wins_past, is_open_four}
 use Rattle.row_shapes.proofs.Counting.{fours_of-gap}
+use Rattle.row_shapes.proofs.Ways.{go}
 use Rattle.row_shapes.proofs.ThreePoints.{three-open, three_empty, three_first, three_near}
 use Rattle.foul_judge.specs.ShortCut.{has_line_three}
-use Rattle.threat_moves.proofs.Rays.{go}
 use Rattle.threat_moves.proofs.StraightPoints.{three_by}
 
 -- ---- tests

@@ -12,16 +12,36 @@ use Rattle.game_rules.specs.declared.Point.{Point}
 use Rattle.game_rules.proofs.Boards.{and_left, and_right, empty_holds, is_empty-on, holds-put_same}
 use Rattle.game_rules.proofs.Points.{points-found, any_witness, none_of, is_same_point-itself, is_same_point-same}
 use Rattle.game_rules.proofs.Lines.{along-zero}
+use Rattle.game_rules.proofs.Positions.{holds-put_more}
+use Rattle.game_rules.proofs.Rows.{any_found, or_cases}
 use Rattle.stone_board.specs.declared.board.Way.{Way}
 use Rattle.stone_board.specs.declared.board.Way.TheVariants.{Ahead, Behind}
 use Rattle.stone_board.specs.Steps.{towards, stones_towards}
 use Rattle.row_shapes.specs.FiveEnds.{kept_five}
 use Rattle.row_shapes.specs.Reach.{stones_past, reach_towards, stones_in_reach}
 use Rattle.row_shapes.specs.Rule.{fewer_never}
+use Rattle.row_shapes.proofs.Ways.{go, go-same, go-towards, else_at, leads, run_towards, run_before_end}
 use Rattle.threat_moves.specs.declared.threat_list.ThreatKind.TheVariants.{Four}
 use Rattle.threat_moves.specs.Threats.{fills_five, makes_threat}
 use Rattle.threat_moves.specs.FiveEnds.{five_end, is_five_end}
-use Rattle.threat_moves.proofs.Rays.{go, go-same, go-towards, else_at, put_more, leads, run_towards, run_before_end, in_run_towards}
+
+-- ---- stones next to a point
+
+-- a stone takes no other away
+put_more : (b : Grid) (s : Side) (q : Point) (o : Option Point) → IsBoard b → is_empty b q ≡ true → stone_at b s o ≡ true → stone_at (put b s q) s o ≡ true
+put_more b s q None ok empty h = h
+put_more b s q (Some r) ok empty h = holds-put_more b s q r ok empty h
+
+is_at-here : (q : Point) (o : Option Point) → o ≡ Some q → is_at q o ≡ true
+is_at-here q o e = rw e (is_same_point-itself q)
+
+-- a point of the stones next to p, in either way, is in the run
+in_run_towards : (b : Grid) (s : Side) (w : Way) (d : Axis) (p q : Point) (k : ℕ) → go w d p k 0 ≡ Some q → 1 ≤ k → k ≤ stones_towards w b s d p → is_in_run b s d p q ≡ true
+in_run_towards b s Ahead d p q k here low high =
+    let ahead = any_found (λ j. is_at q (along d p j 0)) (1 + stones_ahead b s d p) 0 k (omega arith) (omega arith) (is_at-here q (along d p k 0) here) in
+    rw ahead refl
+in_run_towards b s Behind d p q k here low high =
+    or_cases _ _ (λ miss. any_found (λ j. is_at q (along d p 0 j)) (stones_behind b s d p) 1 k low (omega arith) (is_at-here q (along d p 0 k) here))
 
 -- ---- tests
 

@@ -7,8 +7,7 @@ pub mod FourLaws
 pub mod Fates
 -- only the block of a four needs an answer of its own
 pub mod BlockLaw
--- lines in one of two ways; where a four is filled, and a three becomes a straight four; few stones make no threat
-mod Rays
+-- where a four is filled, and a three becomes a straight four; few stones make no threat
 pub mod FourEnds
 pub mod StraightPoints
 -- gains and double points
