@@ -8,6 +8,7 @@ use Rattle.std.proofs.lemmas.Fmt.{decimal_is_IsNumeral}
 use Rattle.renju_cli.specs.declared.commands.Form.{Form}
 use Rattle.renju_cli.specs.declared.commands.Form.TheVariants.{Check, Foul, Fours, Threats, Solve, Brain, BrainWith, Drill}
 use Rattle.renju_cli.specs.declared.TheConstants.{MAX_WORK}
+use Rattle.renju_cli.specs.Forms.{HasWords}
 use Rattle.renju_cli.specs.Commands.{command, IsForm, HasForm}
 
 -- the number that a word writes
@@ -63,6 +64,10 @@ one-form words form other is also = sym (told-form words form is) ∙ told-form 
 -- words that have a form have the one that they tell
 pub has-told : (words : List (List ℕ)) → HasForm words → IsForm words (form_told words)
 has-told words h = subst (λ (f : Form). IsForm words f) (sym (told-form words h.0 h.1)) h.1
+
+-- the words after a name are those that are wanted after it
+pub after-name : {holds : Type 0} (name : List ℕ) (words wanted : List (List ℕ)) → HasWords (name ∷ words) (name ∷ wanted) holds → HasWords words wanted holds
+after-name name words wanted is = record { spelled = let same = is.spelled in cc; in_range = is.in_range }
 
 -- no words have no form
 pub no-words : ¬ HasForm []

@@ -1,29 +1,17 @@
 -- The command `fours`: its words, its answers, and what its statuses 0, 9 and 5 show.
-use Rattle.std.proofs.Common.{◌≡◌, inl, inr, sym, ap, ◌∙◌, ◌⊎◌, ℕ, ◌≤◌, List, [], ◌∷◌, arith}
-use Rattle.std.specs.Prelude.{codes, IfSome}
-use Rattle.std.specs.Fmt.{decimal}
-use Rattle.four_search.specs.declared.TheConstants.{MAX_DEPTH}
+use Rattle.std.proofs.Common.{◌≡◌, inl, inr, sym, ap, ◌∙◌, ◌⊎◌, ℕ, List, arith}
+use Rattle.std.specs.Prelude.{IfSome}
 use Rattle.position_files.specs.declared.PositionFile.{PositionFile}
 use Rattle.renju_io.specs.Told.{Takes}
 use Rattle.renju_cli.specs.declared.status.Status.{Status}
 use Rattle.renju_cli.specs.declared.status.Status.TheVariants.{Done, NotFound}
-use Rattle.renju_cli.specs.declared.TheConstants.{MAX_SEARCHED}
 use Rattle.renju_cli.specs.Statuses.{status_number}
 use Rattle.renju_cli.specs.Runs.{Run}
 use Rattle.renju_cli.specs.Told.{IsTold, IsYielded}
 use Rattle.renju_cli.specs.Fouls.{IsPositionAt}
 use Rattle.renju_cli.specs.Fours.{SearchSays, FoursSays, fours_command, IsSearched, SpeaksOfPosition, SearchShows}
-use Rattle.renju_cli.specs.Commands.{HasForm}
-use Rattle.renju_cli.proofs.FormLaws.{has-told}
 use Rattle.renju_cli.proofs.ToldLaws.{IsWhole, whole-or-yielded, given-told, every-told}
 use Rattle.renju_cli.proofs.PositionLaws.{said-of-position, yielded-silent, refused-silent}
-
--- `fours` and words that are no two numbers in its ranges have no form
-pub no-fours : (rest : List (List ℕ)) → ((depth nodes : ℕ) → (1 ≤ depth) × (depth ≤ MAX_DEPTH) → (1 ≤ nodes) × (nodes ≤ MAX_SEARCHED) → rest ≡ decimal depth ∷ decimal nodes ∷ [] → ⊥) → ¬ HasForm (codes "fours" ∷ rest)
-no-fours rest none h =
-    let is = has-told (codes "fours" ∷ rest) h in
-    let spelled = is.spelled in
-    none _ _ (is.in_range.0, is.in_range.1) (is.in_range.2, is.in_range.3) (cc)
 
 -- what is said of a position for which the budget is enough is an answer
 pub fours-answers : (limit nodes : ℕ) (bytes : List ℕ) → (fours_command limit nodes).IsAnswerable bytes → (status : Status) (text : List ℕ) → FoursSays limit nodes bytes status text → (fours_command limit nodes).IsAnswer status

@@ -1,33 +1,21 @@
 -- The command `solve`: its words, its answers, and what its statuses show.
-use Rattle.std.proofs.Common.{◌≡◌, true, inl, inr, sym, ap, subst, ◌∙◌, ◌⊎◌, ℕ, ◌≤◌, List, [], ◌∷◌, arith}
-use Rattle.std.specs.Prelude.{codes, IfSome}
-use Rattle.std.specs.Fmt.{decimal}
+use Rattle.std.proofs.Common.{◌≡◌, true, inl, inr, sym, ap, subst, ◌∙◌, ◌⊎◌, ℕ, List, arith}
+use Rattle.std.specs.Prelude.{IfSome}
 use Rattle.game_rules.specs.Games.{WinsWithin}
 use Rattle.game_rules.proofs.Games.{WinsUnder-more}
 use Rattle.strategy_graph.proofs.Soundness.{accepted-wins}
 use Rattle.strategy_compiler.specs.Walks.{last}
-use Rattle.four_search.specs.declared.TheConstants.{MAX_DEPTH}
 use Rattle.position_files.specs.declared.PositionFile.{PositionFile}
 use Rattle.renju_io.specs.Told.{Takes}
 use Rattle.renju_cli.specs.declared.status.Status.{Status}
 use Rattle.renju_cli.specs.declared.status.Status.TheVariants.{Done, NotFound, Full}
-use Rattle.renju_cli.specs.declared.TheConstants.{MAX_SEARCHED}
 use Rattle.renju_cli.specs.Statuses.{status_number}
 use Rattle.renju_cli.specs.Runs.{Run}
 use Rattle.renju_cli.specs.Told.{IsTold, IsYielded}
 use Rattle.renju_cli.specs.Fouls.{IsPositionAt}
 use Rattle.renju_cli.specs.Solves.{IsWinText, SolutionSays, SolveSays, solve_command, WritesSolution, SpeaksOfSolution, IsSolved, SolutionShows}
-use Rattle.renju_cli.specs.Commands.{HasForm}
-use Rattle.renju_cli.proofs.FormLaws.{has-told}
 use Rattle.renju_cli.proofs.PositionLaws.{said-of-position}
 use Rattle.renju_cli.proofs.ToldLaws.{IsWhole, whole-or-yielded, given-told, every-told}
-
--- `solve` and words that are no two numbers in its ranges have no form
-pub no-solve : (rest : List (List ℕ)) → ((depth nodes : ℕ) → (1 ≤ depth) × (depth ≤ MAX_DEPTH) → (1 ≤ nodes) × (nodes ≤ MAX_SEARCHED) → rest ≡ decimal depth ∷ decimal nodes ∷ [] → ⊥) → ¬ HasForm (codes "solve" ∷ rest)
-no-solve rest none h =
-    let is = has-told (codes "solve" ∷ rest) h in
-    let spelled = is.spelled in
-    none _ _ (is.in_range.0, is.in_range.1) (is.in_range.2, is.in_range.3) (cc)
 
 -- what is said of a position for which the budget is enough is an answer
 pub solve-answers : (limit nodes : ℕ) (bytes : List ℕ) → (solve_command limit nodes).IsAnswerable bytes → (status : Status) (text : List ℕ) → SolveSays limit nodes bytes status text → (solve_command limit nodes).IsAnswer status

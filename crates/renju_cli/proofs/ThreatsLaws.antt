@@ -1,30 +1,18 @@
 -- The command `threats`: its words, its answers, and what its statuses 0, 9 and 5 show.
-use Rattle.std.proofs.Common.{◌≡◌, inl, inr, sym, ap, subst, ◌∙◌, ◌⊎◌, ℕ, ◌≤◌, List, [], ◌∷◌, arith}
-use Rattle.std.specs.Prelude.{codes, IfSome}
-use Rattle.std.specs.Fmt.{decimal}
-use Rattle.threat_space.specs.declared.TheConstants.{MAX_LENGTH}
+use Rattle.std.proofs.Common.{◌≡◌, inl, inr, sym, ap, subst, ◌∙◌, ◌⊎◌, ℕ, List, arith}
+use Rattle.std.specs.Prelude.{IfSome}
 use Rattle.position_files.specs.declared.PositionFile.{PositionFile}
 use Rattle.renju_io.specs.Told.{Takes}
 use Rattle.renju_cli.specs.declared.status.Status.{Status}
 use Rattle.renju_cli.specs.declared.status.Status.TheVariants.{Done, NotFound}
-use Rattle.renju_cli.specs.declared.TheConstants.{MAX_SEARCHED}
 use Rattle.renju_cli.specs.Statuses.{status_number}
 use Rattle.renju_cli.specs.Runs.{Run}
 use Rattle.renju_cli.specs.Told.{IsTold, IsYielded}
 use Rattle.renju_cli.specs.Fouls.{IsPositionAt}
 use Rattle.renju_cli.specs.Fours.{SpeaksOfPosition}
 use Rattle.renju_cli.specs.Threats.{SequenceSays, ThreatsSays, threats_command, IsSequenceSearched, SequenceShows}
-use Rattle.renju_cli.specs.Commands.{HasForm}
-use Rattle.renju_cli.proofs.FormLaws.{has-told}
 use Rattle.renju_cli.proofs.ToldLaws.{IsWhole, whole-or-yielded, given-told, every-told}
 use Rattle.renju_cli.proofs.PositionLaws.{said-of-position, yielded-silent, refused-silent}
-
--- `threats` and words that are no two numbers in its ranges have no form
-pub no-threats : (rest : List (List ℕ)) → ((limit nodes : ℕ) → (1 ≤ limit) × (limit ≤ MAX_LENGTH) → (1 ≤ nodes) × (nodes ≤ MAX_SEARCHED) → rest ≡ decimal limit ∷ decimal nodes ∷ [] → ⊥) → ¬ HasForm (codes "threats" ∷ rest)
-no-threats rest none h =
-    let is = has-told (codes "threats" ∷ rest) h in
-    let spelled = is.spelled in
-    none _ _ (is.in_range.0, is.in_range.1) (is.in_range.2, is.in_range.3) (cc)
 
 -- what is said of a position for which the budget is enough is an answer
 pub threats-answers : (limit nodes : ℕ) (bytes : List ℕ) → (threats_command limit nodes).IsAnswerable bytes → (status : Status) (text : List ℕ) → ThreatsSays limit nodes bytes status text → (threats_command limit nodes).IsAnswer status

@@ -1,5 +1,6 @@
 -- What a form of words stands for.
-use Rattle.std.specs.Prelude.{◌≡◌, ℕ, List}
+use Rattle.std.specs.Prelude.{◌≡◌, ℕ, ◌≤◌, List, [], ◌∷◌}
+use Rattle.std.specs.Fmt.{decimal}
 use Rattle.renju_cli.specs.Runs.{Run}
 
 -- A command with its numbers: its words, what has to hold of the numbers, what it does in a run, and where it is sure to
@@ -18,3 +19,8 @@ pub record HasWords (words wanted : List (List ℕ)) (holds : Type 0) : Type 0 w
 -- the words are those of the command, whose numbers are in their ranges
 abbrev pub IsSpelled : List (List ℕ) → Command → Type 0
 IsSpelled words command = HasWords words command.words command.in_range
+
+-- the words are two numbers in decimal without leading zeros, each from 1 to the most for it
+abbrev pub AreTwoCounts : ℕ → ℕ → List (List ℕ) → ℕ → ℕ → Type 0
+AreTwoCounts first_most second_most words first second =
+    HasWords words (decimal first ∷ decimal second ∷ []) ((1 ≤ first) × (first ≤ first_most) × (1 ≤ second) × (second ≤ second_most))

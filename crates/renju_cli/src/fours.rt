@@ -13,7 +13,7 @@ ghost use Rattle.renju_cli.specs.Fours.{SearchSays, IsFourText, none_line};
 ghost use Rattle.renju_cli.specs.Solves.{IsWinText};
 
 use crate::answer::{Answer, spent};
-use crate::numbers::count;
+use crate::numbers::two_counts;
 use crate::refusals::refused_text;
 use crate::told::Told;
 use crate::{Form, MAX_SEARCHED, Status};
@@ -31,12 +31,11 @@ use strategy_graph::Root;
 pub(crate) fn form(rest: &[String]) -> Option<Form>
     ensures form { MatchOption result (¬ HasForm (codes "fours" ∷ map string_bytes rest.now)) (λ form. IsForm (codes "fours" ∷ map string_bytes rest.now) form) }
 {
-    let [depth, nodes] = rest else {
-        return None;
-    };
-    let depth = count(depth, u64::from(MAX_DEPTH))? as u32;
-    let nodes = count(nodes, MAX_SEARCHED)?;
-    Some(Form::Fours { depth, nodes })
+    let (depth, nodes) = two_counts(rest, u64::from(MAX_DEPTH), MAX_SEARCHED)?;
+    Some(Form::Fours {
+        depth: depth as u32,
+        nodes,
+    })
 }
 
 /// `fours DEPTH NODES`.

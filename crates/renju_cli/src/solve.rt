@@ -13,7 +13,7 @@ ghost use Rattle.renju_cli.specs.Solves.{SolutionSays, IsWonByFours, IsFirstLine
 
 use crate::answer::{Answer, spent};
 use crate::fours::{none, win_text};
-use crate::numbers::count;
+use crate::numbers::two_counts;
 use crate::refusals::refused_text;
 use crate::told::Told;
 use crate::{Form, MAX_SEARCHED, Status};
@@ -33,12 +33,11 @@ use threat_space::{MAX_LENGTH, SpaceAnswer, threat_space};
 pub(crate) fn form(rest: &[String]) -> Option<Form>
     ensures form { MatchOption result (¬ HasForm (codes "solve" ∷ map string_bytes rest.now)) (λ form. IsForm (codes "solve" ∷ map string_bytes rest.now) form) }
 {
-    let [depth, nodes] = rest else {
-        return None;
-    };
-    let depth = count(depth, u64::from(MAX_DEPTH))? as u32;
-    let nodes = count(nodes, MAX_SEARCHED)?;
-    Some(Form::Solve { depth, nodes })
+    let (depth, nodes) = two_counts(rest, u64::from(MAX_DEPTH), MAX_SEARCHED)?;
+    Some(Form::Solve {
+        depth: depth as u32,
+        nodes,
+    })
 }
 
 /// `solve DEPTH NODES`.

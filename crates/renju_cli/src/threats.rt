@@ -13,7 +13,7 @@ ghost use Rattle.renju_cli.specs.Threats.{SequenceSays, kind_word as kind_word_l
 
 use crate::answer::{Answer, spent};
 use crate::fours::none;
-use crate::numbers::count;
+use crate::numbers::two_counts;
 use crate::refusals::refused_text;
 use crate::told::Told;
 use crate::{Form, MAX_SEARCHED, Status};
@@ -30,12 +30,11 @@ use threat_space::{MAX_LENGTH, SpaceAnswer, threat_space};
 pub(crate) fn form(rest: &[String]) -> Option<Form>
     ensures form { MatchOption result (¬ HasForm (codes "threats" ∷ map string_bytes rest.now)) (λ form. IsForm (codes "threats" ∷ map string_bytes rest.now) form) }
 {
-    let [length, nodes] = rest else {
-        return None;
-    };
-    let length = count(length, u64::from(MAX_LENGTH))? as u32;
-    let nodes = count(nodes, MAX_SEARCHED)?;
-    Some(Form::Threats { length, nodes })
+    let (length, nodes) = two_counts(rest, u64::from(MAX_LENGTH), MAX_SEARCHED)?;
+    Some(Form::Threats {
+        length: length as u32,
+        nodes,
+    })
 }
 
 /// `threats LENGTH NODES`.

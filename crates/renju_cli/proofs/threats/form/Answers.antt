@@ -1,34 +1,15 @@
-use Rattle.std.proofs.Common.{◌≡◌, List, ◌∷◌, length, String, Global, arith}
-use Rattle.std.specs.Prelude.{codes, map, string_bytes}
+use Rattle.std.proofs.Common.{ℕ, List, ◌∷◌, []}
+use Rattle.std.specs.Prelude.{codes}
 use Rattle.std.specs.Fmt.{decimal}
+use Rattle.renju_cli.specs.Forms.{HasWords}
+use Rattle.renju_cli.specs.Threats.{AreLengthAndNodes}
 use Rattle.renju_cli.specs.Commands.{HasForm}
-use Rattle.renju_cli.proofs.Words.{same-count, two-words}
-use Rattle.renju_cli.proofs.ThreatsLaws.{no-threats}
+use Rattle.renju_cli.proofs.FormLaws.{has-told, after-name}
 use Rattle.renju_cli.proofs.threats.form.Goals as goal
 
--- fewer words than two, or more
-other-count : (rest : List (String Global)) → (length rest ≡ 2 → ⊥) → ¬ HasForm (codes "threats" ∷ map string_bytes rest)
-other-count rest other = no-threats _ (λ limit nodes short many is. other (same-count string_bytes _ _ is))
+-- words that have the form have its two numbers
+no-threats : (rest : List (List ℕ)) → ((limit nodes : ℕ) → ¬ HasWords rest (decimal limit ∷ decimal nodes ∷ []) (AreLengthAndNodes limit nodes)) → ¬ HasForm (codes "threats" ∷ rest)
+no-threats rest none h = none _ _ (after-name (codes "threats") rest _ (has-told (codes "threats" ∷ rest) h))
 
-pub returns-in_default : goal.returns-in_default
-returns-in_default c = record { form = other-count _ (λ two. omega (arith, two)) }
-
-pub returns-in_default-2 : goal.returns-in_default-2
-returns-in_default-2 c = record { form = other-count _ (λ two. omega (arith, two)) }
-
--- a word that is no number in its range
 pub returns-in_err-length : goal.returns-in_err-length
-returns-in_err-length c = rw c.from_residual.ensures (record {
-  form = no-threats _ (λ limit nodes short many is.
-      let words = two-words string_bytes c.args.rest.now c.length-item.result c.nodes-item.result (omega arith) c.length-item.is c.nodes-item.is in
-      let same : string_bytes c.length-item.result ≡ decimal limit = cc in
-      c.in_err-length.ensures.number limit (rw c.from.ensures short) same);
-})
-
-pub returns-in_err-nodes : goal.returns-in_err-nodes
-returns-in_err-nodes c = rw c.from_residual-in_err-nodes.ensures (record {
-  form = no-threats _ (λ limit nodes short many is.
-      let words = two-words string_bytes c.args.rest.now c.length-item.result c.nodes-item.result (omega arith) c.length-item.is c.nodes-item.is in
-      let same : string_bytes c.nodes-item.result ≡ decimal nodes = cc in
-      c.in_err-nodes.ensures.number nodes many same);
-})
+returns-in_err-length c = rw c.from_residual.ensures (record { form = no-threats _ (λ limit nodes are. c.in_err-length.ensures.numbers limit nodes (rw c.from.ensures are)) })
