@@ -12,10 +12,9 @@ use Rattle.renju_cli.specs.declared.status.Status.TheVariants.{Done, NotFound, F
 use Rattle.renju_cli.specs.Statuses.{status_number}
 use Rattle.renju_cli.specs.Runs.{Run}
 use Rattle.renju_cli.specs.Told.{IsTold, IsYielded}
-use Rattle.renju_cli.specs.Fouls.{IsPositionAt}
-use Rattle.renju_cli.specs.Solves.{IsWinText, SolutionSays, SolveSays, solve_command, WritesSolution, SpeaksOfSolution, IsSolved, SolutionShows}
-use Rattle.renju_cli.proofs.PositionLaws.{said-of-position}
-use Rattle.renju_cli.proofs.ToldLaws.{IsWhole, whole-or-yielded, given-told, every-told}
+use Rattle.renju_cli.specs.Searches.{ShowsOfPosition}
+use Rattle.renju_cli.specs.Solves.{IsWinText, SolutionSays, SolveSays, solve_command, WritesSolution, SpeaksOfSolution, IsSolved}
+use Rattle.renju_cli.proofs.PositionLaws.{said-of-position, shows-of-position}
 
 -- what is said of a position for which the budget is enough is an answer
 pub solve-answers : (limit nodes : ℕ) (bytes : List ℕ) → (solve_command limit nodes).IsAnswerable bytes → (status : Status) (text : List ℕ) → SolveSays limit nodes bytes status text → (solve_command limit nodes).IsAnswer status
@@ -32,13 +31,9 @@ solve-answers limit nodes bytes can status text says = by-solution (said-of-posi
 
 -- ---- the statuses
 
--- a status that stands in place of others speaks of no position
-yielded-silent : (number : ℕ) → IsYielded number → SpeaksOfSolution number → ⊥
-yielded-silent number y e = grind arith
-
--- nor does that of a refused text
-refused-silent : (number : ℕ) → number ≡ 3 → SpeaksOfSolution number → ⊥
-refused-silent number y e = grind arith
+-- a status that stands in place of others speaks of no position, nor does that of a refused text
+silent : (number : ℕ) → IsYielded number ⊎ (number ≡ 3) → SpeaksOfSolution number → ⊥
+silent number other e = grind arith
 
 module _ (limit nodes : ℕ) (run : Run) where
   module _ (file : PositionFile) (text : List ℕ) (whole : Takes run.output.before text run.output.after) where
@@ -100,34 +95,17 @@ module _ (limit nodes : ℕ) (run : Run) where
           only = inl (inr (inr (inr here)));
         }
 
-  yielded-solved : IsYielded run.status → (file : PositionFile) → IsSolved limit nodes file run
-  yielded-solved y file = record {
-    won = λ e. absurd (yielded-silent run.status y (inl e));
-    none = λ e. absurd (yielded-silent run.status y (inr (inl e)));
-    spent = λ e. absurd (yielded-silent run.status y (inr (inr (inl e))));
-    full = λ e. absurd (yielded-silent run.status y (inr (inr (inr e))));
+  yielded-solved : (file : PositionFile) → IsYielded run.status → IsSolved limit nodes file run
+  yielded-solved file y = record {
+    won = λ e. absurd (silent run.status (inl y) (inl e));
+    none = λ e. absurd (silent run.status (inl y) (inr (inl e)));
+    spent = λ e. absurd (silent run.status (inl y) (inr (inr (inl e))));
+    full = λ e. absurd (silent run.status (inl y) (inr (inr (inr e))));
     by_fours = λ h. inr y;
     by_line = λ h. inr (inr y);
     only = inr y;
   }
 
-  lawful-by : (bytes : List ℕ) (status : Status) (text : List ℕ) → run.status ≡ status_number status → SolveSays limit nodes bytes status text → SpeaksOfSolution run.status → (file : PositionFile) × IsPositionAt file bytes
-  lawful-by bytes status text ends (inr said) speaks = (said.0, said.1)
-  lawful-by bytes status text ends (inl refused) speaks = absurd (refused-silent run.status (ends ∙ ap status_number refused.ends) speaks)
-
-  shows-by : (bytes : List ℕ) (status : Status) (text : List ℕ) → run.status ≡ status_number status → Takes run.output.before text run.output.after → SolveSays limit nodes bytes status text → SolutionShows limit nodes bytes run
-  shows-by bytes status text ends whole says = record {
-    lawful = lawful-by bytes status text ends says;
-    says = λ file is. solved-by file text whole status ends (said-of-position (SolutionSays limit nodes) bytes file is status text says);
-  }
-
-  by-end : IsWhole (SolveSays limit nodes) run ⊎ IsYielded run.status → IfSome run.input.before (λ bytes. SolutionShows limit nodes bytes run)
-  by-end (inl w) = given-told (λ bytes. SolutionShows limit nodes bytes run) run.input.before w.bytes w.given (shows-by w.bytes w.status w.text w.ends w.whole w.says)
-  by-end (inr y) = every-told (λ bytes. SolutionShows limit nodes bytes run) run.input.before (λ bytes. record {
-    lawful = λ speaks. absurd (yielded-silent run.status y speaks);
-    says = λ file is. yielded-solved y file;
-  })
-
   -- what `solve` did in a run
-  pub solve-shown : IsTold (SolveSays limit nodes) run → IfSome run.input.before (λ bytes. SolutionShows limit nodes bytes run)
-  solve-shown told = by-end (whole-or-yielded (SolveSays limit nodes) run told)
+  pub solve-shown : IsTold (SolveSays limit nodes) run → IfSome run.input.before (ShowsOfPosition (SpeaksOfSolution run.status) (λ file. IsSolved limit nodes file run))
+  solve-shown = shows-of-position (SolutionSays limit nodes) SpeaksOfSolution silent run (λ file. IsSolved limit nodes file run) (λ file status text ends whole. solved-by file text whole status ends) yielded-solved

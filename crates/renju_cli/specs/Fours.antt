@@ -21,13 +21,13 @@ use Rattle.renju_io.specs.Told.{Takes}
 use Rattle.renju_cli.specs.declared.status.Status.{Status}
 use Rattle.renju_cli.specs.declared.status.Status.TheVariants.{Done, Spent, NotFound}
 use Rattle.renju_cli.specs.declared.TheConstants.{MAX_SEARCHED}
-use Rattle.renju_cli.specs.Statuses.{status_number}
 use Rattle.renju_cli.specs.Texts.{spent_line}
 use Rattle.renju_cli.specs.Runs.{Change, Run}
 use Rattle.renju_cli.specs.Forms.{HasWords}
-use Rattle.renju_cli.specs.Told.{ToldCommand, IsYielded}
+use Rattle.renju_cli.specs.Told.{ToldCommand}
 use Rattle.renju_cli.specs.Refusals.{IsRefusedText}
 use Rattle.renju_cli.specs.Fouls.{IsPositionAt}
+use Rattle.renju_cli.specs.Searches.{SpeaksOfPosition, IsSearched, ShowsOfPosition}
 
 -- there is none of what was searched
 abbrev pub none_line : List ℕ
@@ -107,25 +107,14 @@ pub record WritesWin (limit : ℕ) (file : PositionFile) (output : Change (Optio
   pub win : IsFourText limit file text
   pub whole : Takes output.before text output.after
 
--- the statuses of `fours` that speak of a position
-abbrev pub SpeaksOfPosition : ℕ → Type 0
-SpeaksOfPosition number = (number ≡ status_number Done) ⊎ (number ≡ status_number NotFound) ⊎ (number ≡ status_number Spent)
-
 -- What the statuses of `fours` say of the lawful position that is the input: 0 that there is a win by fours and the budget is
--- enough, and its table is written; 9 that there is none and the budget is enough; 5 that the budget is not enough. One of them
--- comes, so each comes exactly there, unless the status is one that stands in place of each.
-pub record IsSearched (limit nodes : ℕ) (file : PositionFile) (run : Run) : Type 0 where
-  pub found : run.status ≡ status_number Done → (four_cost file.kind limit file.board ≤ nodes) × WritesWin limit file run.output
-  pub none : run.status ≡ status_number NotFound → (four_cost file.kind limit file.board ≤ nodes) × ¬ WinsByFours file.kind limit file.board
-  pub spent : run.status ≡ status_number Spent → nodes < four_cost file.kind limit file.board
-  pub only : SpeaksOfPosition run.status ⊎ IsYielded run.status
-
--- Where a status of `fours` speaks of a position, the bytes are the text of a lawful one; and of each lawful position whose text
--- they are the statuses say this.
-pub record SearchShows (limit nodes : ℕ) (bytes : List ℕ) (run : Run) : Type 0 where
-  pub lawful : SpeaksOfPosition run.status → (file : PositionFile) × IsPositionAt file bytes
-  pub says : (file : PositionFile) → IsPositionAt file bytes → IsSearched limit nodes file run
+-- enough, and its table is written; 9 that there is none and the budget is enough; 5 that the budget is not enough.
+abbrev pub IsSearchedByFours : ℕ → ℕ → PositionFile → Run → Type 0
+IsSearchedByFours limit nodes file run =
+    IsSearched (four_cost file.kind limit file.board) nodes (WritesWin limit file run.output) (¬ WinsByFours file.kind limit file.board) run
 
 -- The headline of the search: what the statuses of `fours` show, where the input tells its bytes.
 abbrev pub ShowsSearch : Run → Type 0
-ShowsSearch run = (depth nodes : ℕ) → HasWords run.words (fours_words depth nodes) (AreLimits depth nodes) → IfSome run.input.before (λ bytes. SearchShows depth nodes bytes run)
+ShowsSearch run =
+    (depth nodes : ℕ) → HasWords run.words (fours_words depth nodes) (AreLimits depth nodes)
+    → IfSome run.input.before (ShowsOfPosition (SpeaksOfPosition run.status) (λ file. IsSearchedByFours depth nodes file run))

@@ -5,9 +5,10 @@ pub mod Runs
 pub mod Forms
 pub mod Told
 pub mod Refusals
--- a file for each command
+-- a file for each command, and one for what the statuses of the searches show
 pub mod Checks
 pub mod Fouls
+pub mod Searches
 pub mod Fours
 pub mod Threats
 pub mod Solves

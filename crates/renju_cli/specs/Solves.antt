@@ -27,6 +27,7 @@ use Rattle.renju_cli.specs.Forms.{HasWords}
 use Rattle.renju_cli.specs.Told.{ToldCommand, IsYielded}
 use Rattle.renju_cli.specs.Refusals.{IsRefusedText}
 use Rattle.renju_cli.specs.Fouls.{IsPositionAt}
+use Rattle.renju_cli.specs.Searches.{ShowsOfPosition}
 use Rattle.renju_cli.specs.Threats.{sequence_at, cost_at}
 use Rattle.renju_cli.specs.Fours.{none_line, table_at, AreLimits, IsFoundWin}
 
@@ -164,12 +165,8 @@ pub record IsSolved (limit nodes : ℕ) (file : PositionFile) (run : Run) : Type
   pub by_line : IsWonByLine limit nodes file → (run.status ≡ status_number Done) ⊎ (run.status ≡ status_number Full) ⊎ IsYielded run.status
   pub only : SpeaksOfSolution run.status ⊎ IsYielded run.status
 
--- Where a status of `solve` speaks of a position, the bytes are the text of a lawful one; and of each lawful position whose text
--- they are the statuses say this.
-pub record SolutionShows (limit nodes : ℕ) (bytes : List ℕ) (run : Run) : Type 0 where
-  pub lawful : SpeaksOfSolution run.status → (file : PositionFile) × IsPositionAt file bytes
-  pub says : (file : PositionFile) → IsPositionAt file bytes → IsSolved limit nodes file run
-
 -- The headline of the solver: what the statuses of `solve` show, where the input tells its bytes.
 abbrev pub ShowsSolution : Run → Type 0
-ShowsSolution run = (depth nodes : ℕ) → HasWords run.words (solve_words depth nodes) (AreLimits depth nodes) → IfSome run.input.before (λ bytes. SolutionShows depth nodes bytes run)
+ShowsSolution run =
+    (depth nodes : ℕ) → HasWords run.words (solve_words depth nodes) (AreLimits depth nodes)
+    → IfSome run.input.before (ShowsOfPosition (SpeaksOfSolution run.status) (λ file. IsSolved depth nodes file run))

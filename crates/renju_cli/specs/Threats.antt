@@ -19,14 +19,14 @@ use Rattle.renju_io.specs.Told.{Takes}
 use Rattle.renju_cli.specs.declared.status.Status.{Status}
 use Rattle.renju_cli.specs.declared.status.Status.TheVariants.{Done, Spent, NotFound}
 use Rattle.renju_cli.specs.declared.TheConstants.{MAX_SEARCHED}
-use Rattle.renju_cli.specs.Statuses.{status_number}
 use Rattle.renju_cli.specs.Texts.{spent_line}
 use Rattle.renju_cli.specs.Runs.{Change, Run}
 use Rattle.renju_cli.specs.Forms.{HasWords}
-use Rattle.renju_cli.specs.Told.{ToldCommand, IsYielded}
+use Rattle.renju_cli.specs.Told.{ToldCommand}
 use Rattle.renju_cli.specs.Refusals.{IsRefusedText}
 use Rattle.renju_cli.specs.Fouls.{IsPositionAt}
-use Rattle.renju_cli.specs.Fours.{none_line, SpeaksOfPosition}
+use Rattle.renju_cli.specs.Searches.{SpeaksOfPosition, IsSearched, ShowsOfPosition}
+use Rattle.renju_cli.specs.Fours.{none_line}
 
 -- the words of the kinds
 abbrev pub kind_word : ThreatKind → List ℕ
@@ -115,21 +115,12 @@ pub record WritesSequence (limit : ℕ) (file : PositionFile) (output : Change (
   pub whole : Takes output.before (sequence_text threats last) output.after
 
 -- What the statuses of `threats` say of the lawful position that is the input: 0 that there is a sequence and the budget is
--- enough, and the first one is written; 9 that there is none and the budget is enough; 5 that the budget is not enough. One
--- of them comes, so each comes exactly there, unless the status is one that stands in place of each.
-pub record IsSequenceSearched (limit nodes : ℕ) (file : PositionFile) (run : Run) : Type 0 where
-  pub found : run.status ≡ status_number Done → (cost_at limit file ≤ nodes) × WritesSequence limit file run.output
-  pub none : run.status ≡ status_number NotFound → (cost_at limit file ≤ nodes) × (sequence_at limit file ≡ None)
-  pub spent : run.status ≡ status_number Spent → nodes < cost_at limit file
-  pub only : SpeaksOfPosition run.status ⊎ IsYielded run.status
-
--- Where a status of `threats` speaks of a position, the bytes are the text of a lawful one; and of each lawful position whose
--- text they are the statuses say this.
-pub record SequenceShows (limit nodes : ℕ) (bytes : List ℕ) (run : Run) : Type 0 where
-  pub lawful : SpeaksOfPosition run.status → (file : PositionFile) × IsPositionAt file bytes
-  pub says : (file : PositionFile) → IsPositionAt file bytes → IsSequenceSearched limit nodes file run
+-- enough, and the first one is written; 9 that there is none and the budget is enough; 5 that the budget is not enough.
+abbrev pub IsSequenceSearched : ℕ → ℕ → PositionFile → Run → Type 0
+IsSequenceSearched limit nodes file run = IsSearched (cost_at limit file) nodes (WritesSequence limit file run.output) (sequence_at limit file ≡ None) run
 
 -- The headline of the search for sequences: what the statuses of `threats` show, where the input tells its bytes.
 abbrev pub ShowsSequence : Run → Type 0
 ShowsSequence run =
-    (limit nodes : ℕ) → HasWords run.words (threats_words limit nodes) (AreLengthAndNodes limit nodes) → IfSome run.input.before (λ bytes. SequenceShows limit nodes bytes run)
+    (limit nodes : ℕ) → HasWords run.words (threats_words limit nodes) (AreLengthAndNodes limit nodes)
+    → IfSome run.input.before (ShowsOfPosition (SpeaksOfPosition run.status) (λ file. IsSequenceSearched limit nodes file run))
