@@ -1,10 +1,9 @@
 -- The win of a proved node of the attacker, made of those after each reply to a proved move.
-use Rattle.std.proofs.Common.{◌≡◌, ◌⊎◌, inl, inr, ℕ, zero, suc, ◌+◌, ◌≤◌, ◌<◌, Bool, true, false, cond, ◌&&◌, not, refl, sym, ap, subst, ◌∙◌, arith, List, [], ◌∷◌, ◌++◌, map, length, get_or, nat_eq, Contains}
+use Rattle.std.proofs.Common.{◌≡◌, ℕ, zero, suc, ◌+◌, ◌≤◌, ◌<◌, Bool, true, false, cond, ◌&&◌, not, refl, sym, ap, subst, ◌∙◌, arith, List, [], ◌∷◌, ◌++◌, map, length, get_or, nat_eq, Contains}
 use Rattle.std.specs.Prelude.{Option, Some, None, All, slice_get}
 use Rattle.std.specs.Option.{option_and_then, option_eq}
 use Rattle.std.specs.List.{list_all, find, filter, AllByRecursion}
 use Rattle.std.proofs.lemmas.List.{get_or-map, length-map}
-use Rattle.std.proofs.lemmas.List.Elements.{All-from_recursion}
 use Rattle.std.proofs.lemmas.Option.{slice_get_within}
 use Rattle.game_rules.specs.Grid.{Grid, is_on, points_of}
 use Rattle.game_rules.specs.Play.{outcome, after}
@@ -17,13 +16,12 @@ use Rattle.game_rules.proofs.Points.{filter-passes}
 use Rattle.game_rules.proofs.Positions.{GoesOn-on}
 use Rattle.strategy_graph.specs.declared.Node.{Node}
 use Rattle.strategy_graph.specs.declared.Reply.{Reply}
-use Rattle.strategy_graph.specs.Tables.{NamesLower, NamesOnBoard, answer, answer_at, answers_of, depth, greatest, is_winning, named, node_depth, rest_nodes}
+use Rattle.strategy_graph.specs.Tables.{NamesLower, answer, answer_at, answers_of, depth, greatest, is_winning, named, node_depth, rest_nodes}
 use Rattle.strategy_graph.specs.Acceptance.{Accepted, Answered}
 use Rattle.strategy_graph.proofs.Answering.{answer-greatest}
 use Rattle.strategy_graph.proofs.Fuel.{depth-step}
 use Rattle.strategy_graph.proofs.Steps.{accepted-by-replies}
 use Rattle.strategy_compiler.specs.Nodes.{answering_node, brief_answers, commonest_next, rest_of}
-use Rattle.strategy_compiler.specs.Walks.{Reaches, Itself, Through}
 use Rattle.strategy_compiler.specs.Wins.{IsWrittenWin, StaysOnBoard}
 use Rattle.proof_tree.specs.Combining.{combined, least, settled_numbers}
 use Rattle.proof_tree.specs.Trees.{IsChild, IsTree, Tree, children_of, link_at, numbers_at}
@@ -38,6 +36,7 @@ use Rattle.proof_number.specs.Attacks.{goes_on}
 use Rattle.proof_number.specs.Replies.{replies_at}
 use Rattle.proof_number.specs.Notes.{answer_of, no_note, note_at, win_of}
 use Rattle.proof_number.proofs.GameTruths.{least-zero, child-numbers, reply-listed}
+use Rattle.proof_number.proofs.WrittenLaws.{stays-by, stays-before}
 
 -- ---- a proved child
 
@@ -123,33 +122,6 @@ loses-on (Fouls x) V W h f = tt
 loses-on Draws V W h f = h
 loses-on GoesOn V W h f = f refl
 
--- ---- what a node reaches
-
-reach-cases : (t : List Node) (i k : ℕ) → Reaches t i k → (i ≡ k) ⊎ ((j : ℕ) × (n : Node) × (slice_get t i ≡ Some n) × Contains (named (answers_of n)) j × Reaches t j k)
-reach-cases t _ _ (Itself i) = inl refl
-reach-cases t _ _ (Through i j k n at names rest) = inr (j, n, at, names, rest)
-
-contained : (P : ℕ → Type 0) (js : List ℕ) (j : ℕ) → AllByRecursion P js → Contains js j → P j
-contained P js j all c = subst P c.2 (All-from_recursion P js all c.0 j c.1)
-
--- a node whose names stay on the board does so too
-stays-by : (b : Grid) (t : List Node) (i : ℕ) (n : Node) → slice_get t i ≡ Some n → NamesOnBoard b n → AllByRecursion (StaysOnBoard b t) (named (answers_of n)) → StaysOnBoard b t i
-stays-by b t i n at on all k m reach here = elim (reach-cases t i k reach) [
-  | inl same ↦
-      let e : Some n ≡ Some m = sym at ∙ ap (slice_get t) same ∙ here in
-      let f : n ≡ m = cc in
-      subst (NamesOnBoard b) f on
-  | inr step ↦
-      let e : Some n ≡ Some step.1 = sym at ∙ step.2 in
-      let f : step.1 ≡ n = cc in
-      let names : Contains (named (answers_of n)) step.0 = subst (λ (m : Node). Contains (named (answers_of m)) step.0) f step.3 in
-      contained (StaysOnBoard b t) (named (answers_of n)) step.0 all names k m step.4 here
-]
-
--- two moves change no size
-on_before : (b : Grid) (p q : Point) (t : List Node) (i : ℕ) → StaysOnBoard (after (after b p) q) t i → StaysOnBoard b t i
-on_before b p q t i h k n reach here = let there = h k n reach here in record { attack = there.attack; replies = there.replies }
-
 no-win-rest : (o : Option ℕ) → is_winning (rest_of o) ≡ false
 no-win-rest None = refl
 no-win-rest (Some j) = refl
@@ -230,7 +202,7 @@ module _ (rule : RuleKind) (b : Grid) (p : Point) (on : outcome rule b p ≡ Goe
         replies = all_filter (λ r. is_on b r.at ≡ true) (λ r. not (option_eq nat_eq (Some r.next) (commonest_next (map answer_of kids)))) (map answer_of kids)
             (all_mapped (λ r. is_on b r.at ≡ true) answer_of kids (by_index (λ m. is_on b m.at ≡ true) no_note kids (λ k low. GoesOn-on rule (after b p) (note_at kids k).at (kid-on k low))));
       })
-      (named-all (StaysOnBoard b t) (λ k low. on_before b p (note_at kids k).at t (note_at kids k).node (wins k low).on_board))
+      (named-all (StaysOnBoard b t) (λ k low. stays-before b p (note_at kids k).at t (note_at kids k).node (wins k low).on_board))
 
   -- it is a win of one more move
   pub written-node : IsWrittenWin rule (suc n) b t (record { node = i; moves = greatest (map (λ m. m.moves) kids) + 1 })
