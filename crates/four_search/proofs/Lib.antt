@@ -10,7 +10,7 @@ mod Deepening
 -- the plan of a win, and the nodes that stand for it
 mod Planning
 mod Growing
-mod Naming
+pub mod Naming
 mod Sums
 pub mod Written
 -- one move of a win by fours, and the node that stands for its plan

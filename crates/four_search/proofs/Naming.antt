@@ -37,7 +37,7 @@ all_map : {X Y : Type 0} (Q : Y → Type 0) (h : X → Y) (xs : List X) → AllB
 all_map Q h [] a = tt
 all_map Q h (x ∷ xs) a = (a.0, all_map Q h xs a.1)
 
-all_filter : {X : Type 0} (Q : X → Type 0) (f : X → Bool) (xs : List X) → AllByRecursion Q xs → AllByRecursion Q (filter f xs)
+pub all_filter : {X : Type 0} (Q : X → Type 0) (f : X → Bool) (xs : List X) → AllByRecursion Q xs → AllByRecursion Q (filter f xs)
 all_filter Q f [] a = tt
 all_filter Q f (x ∷ xs) a = by_test (f x) (all_filter Q f xs a.1) where
   by_test : (r : Bool) → AllByRecursion Q (filter f xs) → AllByRecursion Q (cond r (x ∷ filter f xs) (filter f xs))
@@ -62,7 +62,7 @@ found_all P f (k ∷ js) j a h = by_test (f k) h (found_all P f js j a.1) where
   by_test true h rest = let same : k ≡ j = cc in subst P same a.0
   by_test false h rest = rest h
 
-all_map_next : (P : ℕ → Type 0) (rs : List Reply) (js : List ℕ) → AllByRecursion (λ r. P r.next) rs → AllByRecursion P js → AllByRecursion P (map (λ r. r.next) rs ++ js)
+pub all_map_next : (P : ℕ → Type 0) (rs : List Reply) (js : List ℕ) → AllByRecursion (λ r. P r.next) rs → AllByRecursion P js → AllByRecursion P (map (λ r. r.next) rs ++ js)
 all_map_next P [] js a c = c
 all_map_next P (r ∷ rs) js a c = (a.0, all_map_next P rs js a.1 c)
 

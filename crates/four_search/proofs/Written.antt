@@ -65,7 +65,7 @@ contained : (P : ℕ → Type 0) (js : List ℕ) (j : ℕ) → AllByRecursion P 
 contained P js j all c = subst P c.2 (All-from_recursion P js all c.0 j c.1)
 
 -- a node whose names stay on the board does so too
-stays-by : (b : Grid) (t : List Node) (i : ℕ) (n : Node) → slice_get t i ≡ Some n → NamesOnBoard b n → AllByRecursion (StaysOnBoard b t) (named (answers_of n)) → StaysOnBoard b t i
+pub stays-by : (b : Grid) (t : List Node) (i : ℕ) (n : Node) → slice_get t i ≡ Some n → NamesOnBoard b n → AllByRecursion (StaysOnBoard b t) (named (answers_of n)) → StaysOnBoard b t i
 stays-by b t i n at on all k m reach here = elim (reach-cases t i k reach) [
   | inl same ↦
       let e : Some n ≡ Some m = sym at ∙ ap (slice_get t) same ∙ here in
@@ -86,7 +86,7 @@ lower_of : (t : List Node) → IsTable t → NamesLower t
 lower_of t table = record { lower = λ i n at. (table.nodes i n at).below }
 
 -- two moves change no size
-on_before : (b : Grid) (p q : Point) (n : Node) → NamesOnBoard (after (after b p) q) n → NamesOnBoard b n
+pub on_before : (b : Grid) (p q : Point) (n : Node) → NamesOnBoard (after (after b p) q) n → NamesOnBoard b n
 on_before b p q n h = record { attack = h.attack; replies = h.replies }
 
 -- a board has a point for each move

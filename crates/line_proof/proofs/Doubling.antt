@@ -35,12 +35,14 @@ use Rattle.threat_moves.specs.FourMoves.{goes_on_with, is_four_move}
 use Rattle.threat_moves.specs.OneBlock.{block_wins}
 use Rattle.threat_moves.proofs.BlockLaw.{five-outcome, block_decides}
 use Rattle.four_search.specs.Plans.{at_or_beside}
+use Rattle.four_search.proofs.Naming.{all_filter, greatest-all}
+use Rattle.four_search.proofs.Written.{stays-by}
 use Rattle.strategy_compiler.specs.declared.wins.WrittenWin.{WrittenWin}
 use Rattle.line_proof.specs.declared.doubles.Double.{Double}
 use Rattle.line_proof.specs.declared.doubles.Pair.{Pair}
 use Rattle.line_proof.specs.Replies.{Extends}
 use Rattle.line_proof.specs.Doubles.{IsPressed, IsDouble, answers_to_each}
-use Rattle.line_proof.proofs.Forking.{stays-by, all-kept, all-mapped, all-named, not-winning, greatest-most, still-found, reply-at}
+use Rattle.line_proof.proofs.Forking.{all-mapped, all-named, not-winning, still-found, reply-at}
 
 -- ---- answers to all points
 
@@ -189,7 +191,7 @@ module _ (rule : RuleKind) (d : Grid) (lawful : IsPosition rule d) (s : Point) (
         let step : depth t node ≡ suc (greatest (map (depth t) (named (brief_answers (answers_to_each d.width d.height ends.first at_first beside))))) = depth-step t lower node ∙ ap (λ (o : Option Node). node_depth o (depth t)) at in
         let second = winning-depth at_first ends.second takes_second in
         let first = winning-depth beside ends.first takes_first in
-        let high = greatest-most (depth t) 1 (named (brief_answers (answers_to_each d.width d.height ends.first at_first beside)))
+        let high = greatest-all (depth t) 1 (named (brief_answers (answers_to_each d.width d.height ends.first at_first beside)))
         (all-named (λ j. depth t j ≤ 1) (answers_to_each d.width d.height ends.first at_first beside)
         (next-each (λ j. depth t j ≤ 1) ends.first at_first beside (omega (arith, second)) (omega (arith, first)) (points_of d))) in
         let low = answer-greatest (depth t) (brief_answers (answers_to_each d.width d.height ends.first at_first beside)) ends.first _ (answer-on ends.first (on-end ends.first pressed.open_ends.first)) in
@@ -200,7 +202,7 @@ module _ (rule : RuleKind) (d : Grid) (lawful : IsPosition rule d) (s : Point) (
     node-stays = stays-by d t node (answering_node s (answers_to_each d.width d.height ends.first at_first beside)) at
         (record {
           attack = GoesOn-on rule d s pressed.goes_on;
-          replies = all-kept (λ r. is_on d r.at ≡ true) _ (answers_to_each d.width d.height ends.first at_first beside) (at-all (λ q. is_on d q ≡ true) ends.first at_first beside (points_of d) (points-on d));
+          replies = all_filter (λ r. is_on d r.at ≡ true) _ (answers_to_each d.width d.height ends.first at_first beside) (at-all (λ q. is_on d q ≡ true) ends.first at_first beside (points_of d) (points-on d));
         })
         (all-named (StaysOnBoard d t) (answers_to_each d.width d.height ends.first at_first beside)
         (next-each (StaysOnBoard d t) ends.first at_first beside

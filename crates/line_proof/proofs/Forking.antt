@@ -1,9 +1,9 @@
 -- The node that plays a move and has answers to all replies to it wins.
-use Rattle.std.proofs.Common.{◌≡◌, ◌⊎◌, inl, inr, ℕ, suc, ◌+◌, ◌≤◌, Bool, true, false, cond, ◌||◌, refl, sym, ap, subst, ◌∙◌, arith, List, [], ◌∷◌, ◌++◌, map}
-use Rattle.std.specs.Prelude.{Option, Some, None, All, Contains, slice_get}
+use Rattle.std.proofs.Common.{◌≡◌, ℕ, suc, ◌+◌, ◌≤◌, Bool, true, false, cond, ◌||◌, refl, sym, ap, subst, ◌∙◌, arith, List, [], ◌∷◌, map}
+use Rattle.std.specs.Prelude.{Option, Some, None, All, slice_get}
 use Rattle.std.specs.Option.{option_and_then}
 use Rattle.std.specs.List.{AllByRecursion, list_any, filter, find}
-use Rattle.std.proofs.lemmas.List.Elements.{All-from_recursion, recursion_from_All}
+use Rattle.std.proofs.lemmas.List.Elements.{recursion_from_All}
 use Rattle.std.proofs.lemmas.Option.{slice_get_within}
 use Rattle.game_rules.specs.Grid.{Grid, is_on, points_of}
 use Rattle.game_rules.specs.Shapes.{is_same_point}
@@ -18,64 +18,27 @@ use Rattle.game_rules.proofs.Games.{each_reply}
 use Rattle.game_rules.proofs.Positions.{GoesOn-on}
 use Rattle.strategy_graph.specs.declared.Node.{Node}
 use Rattle.strategy_graph.specs.declared.Reply.{Reply}
-use Rattle.strategy_graph.specs.Tables.{answers_of, answer, answer_at, is_winning, NamesLower, NamesOnBoard, depth, node_depth, named, rest_nodes, greatest}
+use Rattle.strategy_graph.specs.Tables.{answers_of, answer, answer_at, is_winning, NamesLower, depth, node_depth, named, rest_nodes, greatest}
 use Rattle.strategy_graph.specs.Acceptance.{Meets, Accepted}
 use Rattle.strategy_graph.proofs.Answering.{answer-greatest}
 use Rattle.strategy_graph.proofs.Fuel.{depth-step}
 use Rattle.strategy_graph.proofs.Steps.{accepted-by-replies, met-no_move, met-foul, met-answer}
-use Rattle.strategy_compiler.specs.Walks.{Reaches, Itself, Through}
 use Rattle.strategy_compiler.specs.Nodes.{IsCompiled, PutsIn, answering_node, brief_answers, commonest_next, rest_of}
 use Rattle.strategy_compiler.specs.Wins.{IsWrittenWin, StaysOnBoard, GrowthKeepsWins}
 use Rattle.threat_moves.specs.FourMoves.{goes_on_with}
+use Rattle.four_search.proofs.Naming.{all_filter, all_map_next, greatest-all}
+use Rattle.four_search.proofs.Written.{stays-by, on_before}
 use Rattle.line_proof.specs.declared.answers.Answering.{Answering}
 use Rattle.line_proof.specs.Lines.{each_loses}
 use Rattle.line_proof.specs.Replies.{IsWonAt, AnswersAll}
 use Rattle.line_proof.proofs.Growing.{extends-put}
 use Rattle.line_proof.proofs.Gathering.{lower_of, all-grown}
 
--- ---- what a node reaches
-
-reach-cases : (t : List Node) (i k : ℕ) → Reaches t i k → (i ≡ k) ⊎ ((j : ℕ) × (n : Node) × (slice_get t i ≡ Some n) × Contains (named (answers_of n)) j × Reaches t j k)
-reach-cases t _ _ (Itself i) = inl refl
-reach-cases t _ _ (Through i j k n at names rest) = inr (j, n, at, names, rest)
-
-contained : (P : ℕ → Type 0) (js : List ℕ) (j : ℕ) → AllByRecursion P js → Contains js j → P j
-contained P js j all c = subst P c.2 (All-from_recursion P js all c.0 j c.1)
-
--- a node whose names stay on the board does so too
-pub stays-by : (b : Grid) (t : List Node) (i : ℕ) (n : Node) → slice_get t i ≡ Some n → NamesOnBoard b n → AllByRecursion (StaysOnBoard b t) (named (answers_of n)) → StaysOnBoard b t i
-stays-by b t i n at on all k m reach here = elim (reach-cases t i k reach) [
-  | inl same ↦
-      let e : Some n ≡ Some m = sym at ∙ ap (slice_get t) same ∙ here in
-      let f : n ≡ m = cc in
-      subst (NamesOnBoard b) f on
-  | inr step ↦
-      let e : Some n ≡ Some step.1 = sym at ∙ step.2 in
-      let f : step.1 ≡ n = cc in
-      let names : Contains (named (answers_of n)) step.0 = subst (λ (m : Node). Contains (named (answers_of m)) step.0) f step.3 in
-      contained (StaysOnBoard b t) (named (answers_of n)) step.0 all names k m step.4 here
-]
-
--- two moves change no size
-pub on_before : (b : Grid) (p q : Point) (n : Node) → NamesOnBoard (after (after b p) q) n → NamesOnBoard b n
-on_before b p q n h = record { attack = h.attack; replies = h.replies }
-
 -- ---- lists
-
-pub all-kept : (P : Reply → Type 0) (f : Reply → Bool) (rs : List Reply) → AllByRecursion P rs → AllByRecursion P (filter f rs)
-all-kept P f [] h = tt
-all-kept P f (r ∷ rs) h = by_test (f r) (all-kept P f rs h.1) where
-  by_test : (b : Bool) → AllByRecursion P (filter f rs) → AllByRecursion P (cond b (r ∷ filter f rs) (filter f rs))
-  by_test true rest = (h.0, rest)
-  by_test false rest = rest
 
 pub all-mapped : (P Q : Reply → Type 0) → ((r : Reply) → P r → Q r) → (rs : List Reply) → AllByRecursion P rs → AllByRecursion Q rs
 all-mapped P Q f [] h = tt
 all-mapped P Q f (r ∷ rs) h = (f r h.0, all-mapped P Q f rs h.1)
-
-all-next : (P : ℕ → Type 0) (rs : List Reply) (js : List ℕ) → AllByRecursion (λ r. P r.next) rs → AllByRecursion P js → AllByRecursion P (map (λ r. r.next) rs ++ js)
-all-next P [] js h k = k
-all-next P (r ∷ rs) js h k = (h.0, all-next P rs js h.1 k)
 
 all-found : (P : ℕ → Type 0) (f : ℕ → Bool) (rs : List Reply) → AllByRecursion (λ r. P r.next) rs → (j : ℕ) → find f (map (λ r. r.next) rs) ≡ Some j → P j
 all-found P f [] h j e = cc
@@ -91,16 +54,12 @@ all-rest P (Some j) f = (f j refl, tt)
 -- what holds of each given node holds of each that is named
 pub all-named : (P : ℕ → Type 0) (rs : List Reply) → AllByRecursion (λ r. P r.next) rs → AllByRecursion P (named (brief_answers rs))
 all-named P rs h =
-    all-next P (brief_answers rs).replies _ (all-kept (λ r. P r.next) _ rs h)
+    all_map_next P (brief_answers rs).replies _ (all_filter (λ r. P r.next) _ rs h)
     (all-rest P (commonest_next rs) (λ j e. all-found P _ rs h j e))
 
 pub not-winning : (o : Option ℕ) → is_winning (rest_of o) ≡ false
 not-winning None = refl
 not-winning (Some j) = refl
-
-pub greatest-most : (d : ℕ → ℕ) (k : ℕ) (js : List ℕ) → AllByRecursion (λ j. d j ≤ k) js → greatest (map d js) ≤ k
-greatest-most d k [] h = omega arith
-greatest-most d k (j ∷ js) h = let low = h.0 in let rest = greatest-most d k js h.1 in omega (arith, low, rest)
 
 greatest-next : (d : ℕ → ℕ) (k : ℕ) (rs : List Reply) → AllByRecursion (λ r. d r.next ≤ k) rs → greatest (map d (map (λ r. r.next) rs)) ≤ k
 greatest-next d k [] h = omega arith
@@ -209,7 +168,7 @@ module _ (rule : RuleKind) (n : ℕ) (b : Grid) (p : Point) (on : outcome rule b
   node-deep =
       let step : depth t i ≡ suc (greatest (map (depth t) (named (brief_answers a.replies.items)))) = depth-step t lower i ∙ ap (λ (o : Option Node). node_depth o (depth t)) at in
       let most = all.answers.most in
-      let high = greatest-most (depth t) (greatest (map (depth t) (map (λ r. r.next) a.replies.items))) (named (brief_answers a.replies.items))
+      let high = greatest-all (depth t) (greatest (map (depth t) (map (λ r. r.next) a.replies.items))) (named (brief_answers a.replies.items))
       (all-named (λ j. depth t j ≤ greatest (map (depth t) (map (λ r. r.next) a.replies.items))) a.replies.items
       (each-most (depth t) _ a.replies.items (omega arith))) in
       let low = greatest-next (depth t) (greatest (map (depth t) (named (brief_answers a.replies.items)))) a.replies.items
@@ -227,7 +186,7 @@ module _ (rule : RuleKind) (n : ℕ) (b : Grid) (p : Point) (on : outcome rule b
   node-stays = stays-by b t i (answering_node p a.replies.items) at
       (record {
         attack = GoesOn-on rule b p on;
-        replies = all-kept (λ r. is_on b r.at ≡ true) _ a.replies.items
+        replies = all_filter (λ r. is_on b r.at ≡ true) _ a.replies.items
             (all-mapped (λ r. outcome rule (after b p) r.at ≡ GoesOn) (λ r. is_on b r.at ≡ true) (λ r e. GoesOn-on rule (after b p) r.at e) a.replies.items answered-on);
       })
       (all-named (StaysOnBoard b t) a.replies.items
