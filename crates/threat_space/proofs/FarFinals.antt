@@ -19,9 +19,10 @@ use Rattle.game_rules.proofs.Positions.{IsBoard-lift, put-lift}
 use Rattle.stone_board.specs.Steps.{holds_stone}
 use Rattle.threat_moves.specs.Lines.{is_aligned}
 use Rattle.threat_moves.specs.declared.threat_list.Threat.{Threat}
+use Rattle.threat_moves.proofs.GainLaws.{several}
 use Rattle.threat_moves.proofs.OffLines.{no_five_less, more_fives, open_less}
 use Rattle.threat_space.specs.Sequences.{played, played_all, is_final_point, final_depends, all_needed, is_sequence}
-use Rattle.threat_space.specs.Lines.{EndsAligned}
+use Rattle.threat_space.specs.Lines.{has_point, may_make_two, HasPairsAfter, EndsNear}
 use Rattle.threat_space.proofs.Stones.{new-final}
 
 side_there : (c : Cell) → not (is_empty_cell c) ≡ true → (t : Side) × (is_stone_of t c ≡ true)
@@ -107,8 +108,8 @@ module _ (rule : RuleKind) (s : Side) (f : Point) where
       let place : length (u ∷ v ∷ us) - 1 ≡ suc (length (v ∷ us) - 1) = omega arith in
       last_needed (played b s u) (v ∷ us) t (omega arith) (is ∙ ap (λ k. get_or (u ∷ v ∷ us) k t) place) (and_right _ _ h)
 
--- so a list whose final point is on no line with its last gain is no sequence
-pub ends-aligned : (rule : RuleKind) (s : Side) (start b : Grid) (ts : List Threat) (t : Threat) → IsBoard b → b ≡ played_all start s ts → 0 < length ts → t ≡ get_or ts (length ts - 1) t → has_fouls rule s ≡ false → has_five rule b s ≡ false → EndsAligned rule s start ts t.gain
+-- so where the side has no fouls, a list whose final point is on no line with its last gain is no sequence
+ends-aligned : (rule : RuleKind) (s : Side) (start b : Grid) (ts : List Threat) (t : Threat) → IsBoard b → b ≡ played_all start s ts → 0 < length ts → t ≡ get_or ts (length ts - 1) t → has_fouls rule s ≡ false → has_five rule b s ≡ false → (f : Point) → is_aligned t.gain f ≡ false → is_sequence rule s start ts f ≡ false
 unfolding is_sequence
 ends-aligned rule s start b ts t ok is some last free none f off = false_from_ne_true _ (λ h.
     let final : is_final_point rule b s f ≡ true = ap (λ (c : Grid). is_final_point rule c s f) is ∙ and_left (is_final_point rule (played_all start s ts) s f) _ h in
@@ -116,3 +117,27 @@ ends-aligned rule s start b ts t ok is some last free none f off = false_from_ne
     let no : final_depends rule b s t.gain f ≡ false = far_final rule b s t.gain f ok off free none final in
     let bad : true ≡ false = sym needed ∙ no in
     cc)
+
+-- and where it has some, such a final point is one at which a stone makes two five points
+final-pair : (rule : RuleKind) (b : Grid) (s : Side) (f : Point) → has_five rule b s ≡ false → is_final_point rule b s f ≡ true → may_make_two rule b s f ≡ true
+unfolding is_double_point
+final-pair rule b s f none h =
+    let double : is_double_point rule b s f ≡ true = sym (new-final rule b s f none) ∙ h in
+    let two : nat_le 2 (length (five_points rule (put b s f) s)) ≡ true = and_right (is_empty b f && not (five rule b s f) && is_none (foul_of rule b s f)) _ double in
+    both (is_empty b f) (has_five rule b s) _ (final_empty rule b s f none h) (several (five_points rule (put b s f) s) ∙ two) where
+      both : (r t u : Bool) → r ≡ true → u ≡ true → (r && (t || u)) ≡ true
+      both true true u e k = refl
+      both true false u e k = k
+      both false t u e k = e
+
+-- a list with a final point that is on no line with its last gain, and is none of the pairs, is no sequence
+pub ends-near : (rule : RuleKind) (s : Side) (start b : Grid) (ts : List Threat) (t : Threat) (far : List Point) → IsBoard b → b ≡ played_all start s ts → 0 < length ts → t ≡ get_or ts (length ts - 1) t → has_five rule b s ≡ false → HasPairsAfter rule b s ts far → EndsNear rule s start ts t.gain far
+unfolding is_sequence
+ends-near rule s start b ts t far ok is some last none pairs f off not_far = by_fouls (has_fouls rule s) refl where
+  by_fouls : (r : Bool) → has_fouls rule s ≡ r → is_sequence rule s start ts f ≡ false
+  by_fouls false free = ends-aligned rule s start b ts t ok is some last free none f off
+  by_fouls true fouls = false_from_ne_true _ (λ h.
+      let final : is_final_point rule b s f ≡ true = ap (λ (c : Grid). is_final_point rule c s f) is ∙ and_left (is_final_point rule (played_all start s ts) s f) _ h in
+      let there : has_point far f ≡ true = pairs fouls t some last none f off (final-pair rule b s f none final) in
+      let bad : false ≡ true = sym not_far ∙ there in
+      cc)

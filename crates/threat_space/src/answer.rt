@@ -48,7 +48,7 @@ pub fn threat_space<R: Rule>(
     let mut path = Threats::new(alloc);
     let mut left = budget;
     for count in 0..length + 1 {
-        let found = walk::<R>(alloc, &start, board, side, count, &mut path, left)?;
+        let found = walk::<R>(alloc, &start, board, side, count, &mut path, &[], left)?;
         match found {
             Looked::Sequence(threats, last) => return Ok(SpaceAnswer::Sequence(threats, last)),
             Looked::NoSequence(rest) => {

@@ -10,6 +10,7 @@
 mod answer;
 mod boards;
 mod needs;
+mod pairs;
 #[cfg(test)]
 mod tests;
 mod walk;

@@ -8,53 +8,55 @@ ghost use Rattle.std.specs.Prelude.{◌≡◌, IfOk, IfSome};
 ghost use Rattle.game_rules.specs.Grid.{Grid};
 ghost use Rattle.game_rules.specs.Games.{has_five as has_five_lem};
 ghost use Rattle.threat_space.specs.Sequences.{played_all, is_final_point as is_final_point_lem, threat_depends as threat_depends_lem, final_depends as final_depends_lem, is_needed as is_needed_lem, all_needed as all_needed_lem, is_sequence as is_sequence_lem, final_of as final_of_lem};
-ghost use Rattle.threat_space.specs.Lines.{EndsAligned};
+ghost use Rattle.threat_space.specs.Lines.{EndsNear, HasPairsAfter};
 
 use crate::boards::{played, without};
+use crate::pairs::has_point;
 use row_shapes::{Rule, five_at, has_five};
 use std::alloc::AllocError;
 use stone_board::{Board, Point, Side};
-use threat_moves::{
-    Threat, has_fouls, is_aligned, is_double_point, is_new_double_point, is_threat,
-};
+use threat_moves::{Threat, is_aligned, is_double_point, is_new_double_point, is_threat};
 
 /// The least final point with which the list of threats is a sequence, if there is one. The threats lead from the first
-/// board to the second, which is as before.
+/// board to the second, which is as before. Where the side has fouls, `far` are the pairs that are on no line with the last gain.
 #[tactic(auto, unfolding(crate::specs::Sequences::final_of))]
 pub(crate) fn final_of<R: Rule>(
     start: &Board,
     board: &mut Board,
     side: Side,
     threats: &[Threat],
+    far: &[Point],
 ) -> Result<Option<Point>, AllocError>
     requires played { board.old ≡ played_all start.now side threats.now }
+    requires far { HasPairsAfter R.KIND board.old side threats.now far.now }
     ensures least { IfOk result (λ found. found ≡ final_of_lem R.KIND side start.now threats.now) }
     ensures same { board.new ≡ board.old }
 {
     let some_five = has_five::<R>(board, side);
-    let aligned = gain_aligned::<R>(board, side, threats, some_five);
+    let last_gain = last_gain::<R>(board, side, threats, some_five, far);
     for p in start.points() {
-        if is_sequence::<R>(start, board, side, threats, p, some_five, aligned)? {
+        if is_sequence::<R>(start, board, side, threats, p, some_five, last_gain, far)? {
             return Ok(Some(p));
         }
     }
     Ok(None)
 }
 
-/// The last gain, if it holds its stone and a final point has to be on a line with it: that is so where the side has no fouls
-/// and, as is told, no five point. Else a final point far from a gain may depend on it. The threats lead from some board to
-/// this one.
-fn gain_aligned<R: Rule>(
+/// The last gain, if a final point has to be on a line with it or to be one of `far`: that is so where the side, as is told, has no
+/// five point. The threats lead from some board to this one.
+fn last_gain<R: Rule>(
     board: &Board,
     side: Side,
     threats: &[Threat],
     some_five: bool,
+    far: &[Point],
 ) -> Option<Point>
     requires five { some_five ≡ has_five_lem R.KIND board.now side }
-    ensures aligned { IfSome result (λ g. (start : Grid) → board.now ≡ played_all start side threats.now → EndsAligned R.KIND side start threats.now g) }
+    requires far { HasPairsAfter R.KIND board.now side threats.now far.now }
+    ensures near { IfSome result (λ g. (start : Grid) → board.now ≡ played_all start side threats.now → EndsNear R.KIND side start threats.now g far.now) }
 {
     let count = threats.len();
-    if some_five || has_fouls::<R>(side) || count == 0 {
+    if some_five || count == 0 {
         return None;
     }
     let gain = threats[count - 1].gain;
@@ -66,7 +68,7 @@ fn gain_aligned<R: Rule>(
 
 /// Whether the list of threats is a sequence with this final point. The threats lead from the first board to the second, of
 /// which it is told whether the side has a five point there, and a gain, if there is one, with which a final point has to be on a
-/// line. It is as before.
+/// line if it is not one of `far`. It is as before.
 #[tactic(auto, unfolding(crate::specs::Sequences::is_sequence))]
 fn is_sequence<R: Rule>(
     start: &Board,
@@ -75,16 +77,17 @@ fn is_sequence<R: Rule>(
     threats: &[Threat],
     last: Point,
     some_five: bool,
-    aligned: Option<Point>,
+    last_gain: Option<Point>,
+    far: &[Point],
 ) -> Result<bool, AllocError>
     requires played { board.old ≡ played_all start.now side threats.now }
     requires five { some_five ≡ has_five_lem R.KIND board.old side }
-    requires aligned { IfSome aligned (λ g. EndsAligned R.KIND side start.now threats.now g) }
+    requires near { IfSome last_gain (λ g. EndsNear R.KIND side start.now threats.now g far.now) }
     ensures sequence { IfOk result (λ found. found ≡ is_sequence_lem R.KIND side start.now threats.now last) }
     ensures same { board.new ≡ board.old }
 {
-    if let Some(gain) = aligned {
-        if !is_aligned(gain, last) {
+    if let Some(gain) = last_gain {
+        if !is_aligned(gain, last) && !has_point(far, last) {
             return Ok(false);
         }
     }

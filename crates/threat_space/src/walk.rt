@@ -5,14 +5,17 @@
 #![tactic(auto)]
 
 ghost use Rattle.std.specs.Prelude.{◌≡◌, ◌++◌, [], ◌∷◌, map, IfOk, OnOk};
+ghost use Rattle.game_rules.specs.Grid.{IsBoard};
 ghost use Rattle.threat_space.specs.Sequences.{played_all, final_of as final_of_lem, lists_of, lists_from};
+ghost use Rattle.threat_space.specs.Lines.{HasPairsAfter, HasPairsOf};
 ghost use Rattle.threat_space.specs.Looking.{looked};
 
 use crate::boards::played;
 use crate::needs::final_of;
+use crate::pairs::pairs;
 use row_shapes::Rule;
 use std::alloc::{AllocError, Global};
-use stone_board::{Board, Point, Side};
+use stone_board::{Board, Point, Points, Side};
 use threat_moves::{Threat, Threats, threats_at};
 
 /// What is found among some lists, with what is left of the budget.
@@ -27,7 +30,7 @@ pub(crate) enum Looked {
 }
 
 /// Looks at the lists that begin with those of the path, which leads from the first board to the second, and go on with exactly
-/// so many threats more. The board and the path are as before.
+/// so many threats more. Where these are none, `far` are the pairs far from the last gain. The board and the path are as before.
 #[cycle(walk)]
 pub(crate) fn walk<R: Rule>(
     alloc: Global,
@@ -36,16 +39,19 @@ pub(crate) fn walk<R: Rule>(
     side: Side,
     more: u32,
     path: &mut Threats,
+    far: &[Point],
     budget: u64,
 ) -> Result<Looked, AllocError>
     requires played { board.old ≡ played_all start.now side path.old }
+    requires far { more ≡ 0 → HasPairsAfter R.KIND board.old side path.old far.now }
     ensures looked { IfOk result (λ found. found ≡ looked (final_of_lem R.KIND side start.now) budget (map (λ ts. path.old ++ ts) (lists_of R.KIND side more board.old))) }
     ensures same { board.new ≡ board.old }
     ensures path { IfOk result (λ found. path.new ≡ path.old) }
 {
     if more == 0 {
-        return look_at::<R>(alloc, start, board, side, path, budget);
+        return look_at::<R>(alloc, start, board, side, path, far, budget);
     }
+    let far = pairs_before_last::<R>(alloc, board, side, more)?;
     let mut left = budget;
     for gain in board.points() {
         if board.is_empty(gain) {
@@ -58,6 +64,7 @@ pub(crate) fn walk<R: Rule>(
                 threats.as_slice(),
                 more - 1,
                 path,
+                far.as_slice(),
                 left,
             )? {
                 Looked::NoSequence(rest) => left = rest,
@@ -68,7 +75,23 @@ pub(crate) fn walk<R: Rule>(
     Ok(Looked::NoSequence(left))
 }
 
-/// The same of the lists that go on with one of these threats and then with so many more.
+/// The pairs of the board where just one threat more is to come, and else none.
+fn pairs_before_last<R: Rule>(
+    alloc: Global,
+    board: &Board,
+    side: Side,
+    more: u32,
+) -> Result<Points, AllocError>
+    ensures pairs { IfOk result (λ found. more ≡ 1 → HasPairsOf R.KIND board.now side found) }
+{
+    if more == 1 {
+        return pairs::<R>(alloc, board, side);
+    }
+    Ok(Points::new(alloc))
+}
+
+/// The same of the lists that go on with one of these threats and then with so many more. Where these are none, `far` are the pairs of
+/// the board.
 #[cycle(walk)]
 fn walk_from<R: Rule>(
     alloc: Global,
@@ -78,9 +101,12 @@ fn walk_from<R: Rule>(
     threats: &[Threat],
     more: u32,
     path: &mut Threats,
+    far: &[Point],
     budget: u64,
 ) -> Result<Looked, AllocError>
     requires played { board.now ≡ played_all start.now side path.old }
+    requires board { IsBoard board.now }
+    requires far { more ≡ 0 → HasPairsOf R.KIND board.now side far.now }
     ensures looked { IfOk result (λ found. found ≡ looked (final_of_lem R.KIND side start.now) budget (map (λ ts. path.old ++ ts) (lists_from (lists_of R.KIND side more) side board.now threats.now))) }
     ensures path { IfOk result (λ found. path.new ≡ path.old) }
 {
@@ -88,7 +114,7 @@ fn walk_from<R: Rule>(
     for threat in threats {
         let mut next = played(board, side, threat)?;
         lengthen(alloc, path, threat)?;
-        let found = walk::<R>(alloc, start, &mut next, side, more, path, left)?;
+        let found = walk::<R>(alloc, start, &mut next, side, more, path, far, left)?;
         path.drop_last();
         match found {
             Looked::NoSequence(rest) => left = rest,
@@ -112,16 +138,18 @@ fn look_at<R: Rule>(
     board: &mut Board,
     side: Side,
     path: &Threats,
+    far: &[Point],
     budget: u64,
 ) -> Result<Looked, AllocError>
     requires played { board.old ≡ played_all start.now side path.now }
+    requires far { HasPairsAfter R.KIND board.old side path.now far.now }
     ensures looked { IfOk result (λ found. found ≡ looked (final_of_lem R.KIND side start.now) budget (path.now ∷ [])) }
     ensures same { board.new ≡ board.old }
 {
     if budget == 0 {
         return Ok(Looked::Spent);
     }
-    match final_of::<R>(start, board, side, path.as_slice())? {
+    match final_of::<R>(start, board, side, path.as_slice(), far)? {
         Some(last) => Ok(Looked::Sequence(path.copy(alloc)?, last)),
         None => Ok(Looked::NoSequence(budget - 1)),
     }

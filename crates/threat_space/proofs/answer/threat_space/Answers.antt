@@ -1,4 +1,4 @@
-use Rattle.std.proofs.Common.{◌≡◌, ◌≢◌, ℕ, ◌+◌, ◌-◌, List, [], ap, sym, ◌∙◌, arith}
+use Rattle.std.proofs.Common.{◌≡◌, ◌≢◌, ℕ, ◌+◌, ◌-◌, List, [], length, ap, sym, ◌∙◌, arith}
 use Rattle.std.specs.Prelude.{Option}
 use Rattle.game_rules.specs.Grid.{Grid}
 use Rattle.game_rules.specs.declared.Point.{Point}
@@ -12,6 +12,7 @@ use Rattle.threat_space.proofs.answer.threat_space.Goals as goal
 pub walk-requires : goal.walk-requires
 walk-requires g c = record {
   played = c.loop-count.invariant.same ∙ sym c.in_ok-start.ensures.copy ∙ ap (played_all c.in_ok-start.start c.args.side) (sym c.loop-count.invariant.path);
+  far = λ none fouls t some last. absurd (let e : length c.loop-count.path ≡ 0 = ap length c.loop-count.invariant.path in omega (arith, some, e));
 }
 
 pub loop-count-preserved : goal.loop-count-preserved

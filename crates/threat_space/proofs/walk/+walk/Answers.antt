@@ -1,11 +1,13 @@
 use Rattle.std.proofs.Common.{rules, ◌≡◌, ◌+◌, ◌-◌, ◌*◌, ◌<◌, ◌++◌, false, List, [], ◌∷◌, ap, sym, subst, ◌∙◌, arith}
 use Rattle.std.specs.Prelude.{IfOk, Option}
-use Rattle.game_rules.specs.Grid.{Grid, is_empty}
+use Rattle.game_rules.specs.Grid.{Grid, IsBoard, is_empty}
 use Rattle.game_rules.specs.declared.Point.{Point}
 use Rattle.threat_moves.specs.declared.threat_list.Threat.{Threat}
 use Rattle.threat_moves.specs.Threats.{threats_at}
 use Rattle.threat_space.specs.Sequences.{final_of, lists_of, played, played_all}
+use Rattle.threat_space.specs.Lines.{HasPairsOf, HasPairsAfter}
 use Rattle.threat_space.specs.Looking.{looked}
+use Rattle.threat_space.proofs.FarPairs.{pairs-after}
 use Rattle.threat_space.proofs.Looked.{after_path, from_threats, from_threat, lists-none, played-more, shorter, gain-goes_on, gain-ends, gain-passes, gains-none, gains-all, threat-goes_on, threat-ends}
 use Rattle.threat_space.proofs.walk.+walk.Goals as goal
 
@@ -19,6 +21,11 @@ walk-walk_from-requires g t c κs within =
     let same : c.threats_at.new.board ≡ c.args.board.now = c.threats_at.ensures.same ∙ c.loop-gain.invariant.same in
     let played : c.threats_at.new.board ≡ played_all c.args.start.now c.args.side c.loop-gain.path = same ∙ c.requires.played ∙ ap (played_all c.args.start.now c.args.side) (sym c.loop-gain.invariant.path) in
     let less : 2 * (c.args.more - 1) + 1 < 2 * c.args.more = let some = c.if-more-eq0.false in omega (arith, some) in
+    let board : IsBoard c.threats_at.new.board = subst IsBoard (sym c.threats_at.ensures.same) c.is_empty.ensures.board in
+    let one : c.args.more - 1 ≡ 0 → c.args.more ≡ 1 = λ e. let some = c.if-more-eq0.false in omega (arith, some, e) in
+    let pairs : c.args.more - 1 ≡ 0 → HasPairsOf g.R.Rule.KIND c.threats_at.new.board c.args.side c.as_slice-then-is_empty.result.now = λ e.
+    subst (λ (ps : List Point). HasPairsOf g.R.Rule.KIND c.threats_at.new.board c.args.side ps) (sym c.as_slice-then-is_empty.ensures.items)
+    (subst (λ (w : Grid). HasPairsOf g.R.Rule.KIND w c.args.side c.in_ok-far.far) (sym same) (c.in_ok-far.ensures.pairs (one e))) in
     search rules
 
 pub walk-loop-gain-preserved-then-is_empty : goal.walk-loop-gain-preserved-then-is_empty
@@ -86,6 +93,9 @@ walk_from-walk-requires g t c κs within =
     ∙ sym (played-more c.args.start.now c.args.side c.args.path.now c.threat-item.result)
     ∙ ap (played_all c.args.start.now c.args.side) (sym longer) in
     let less : 2 * c.args.more < 2 * c.args.more + 1 = omega arith in
+    let pairs : c.args.more ≡ 0 → HasPairsAfter g.R.Rule.KIND c.in_ok-next.next c.args.side c.lengthen.new.path c.args.far.now = λ e.
+    subst (λ (w : Grid). HasPairsAfter g.R.Rule.KIND w c.args.side c.lengthen.new.path c.args.far.now) (sym c.in_ok-next.ensures.played)
+    (pairs-after g.R.Rule.KIND c.args.board.now c.args.side c.args.path.now c.lengthen.new.path c.threat-item.result c.args.far.now c.requires.board (c.requires.far e) longer) in
     search rules
 
 pub walk_from-loop-threat-preserved : goal.walk_from-loop-threat-preserved

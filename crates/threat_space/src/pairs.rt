@@ -1,0 +1,71 @@
+//! Pairs: points at which a stone leaves its side two five points or more.
+//!
+//! A final point that is on no line with the last gain was one where a stone made two five points before that gain: then the gain has
+//! only freed it of a foul. Such points are few, and are told once for all threats that may come last.
+#![tactic(auto)]
+
+ghost use Rattle.std.specs.Prelude.{◌≡◌, IfOk, true};
+ghost use Rattle.std.specs.List.{filter};
+ghost use Rattle.game_rules.specs.Grid.{points_of};
+ghost use Rattle.game_rules.specs.Shapes.{is_same_point as is_same_point_lem};
+ghost use Rattle.game_rules.specs.Games.{has_five as has_five_lem};
+ghost use Rattle.threat_space.specs.Lines.{HasPairsOf, has_point as has_point_lem, may_make_two as may_make_two_lem};
+
+use row_shapes::{FivePoints, Rule, fives_made, has_five};
+use std::alloc::{AllocError, Global};
+use stone_board::{Board, Point, Points, Side};
+use threat_moves::has_fouls;
+
+/// The points at which a stone of the side leaves it two five points or more, or all empty ones where it has one already, if the
+/// side has fouls. Else none are asked for. `Err` says that memory ran out.
+pub(crate) fn pairs<R: Rule>(alloc: Global, board: &Board, side: Side) -> Result<Points, AllocError>
+    ensures pairs { IfOk result (λ found. HasPairsOf R.KIND board.now side found) }
+{
+    if has_fouls::<R>(side) {
+        return all_pairs::<R>(alloc, board, side);
+    }
+    Ok(Points::new(alloc))
+}
+
+/// The same for any side.
+fn all_pairs<R: Rule>(alloc: Global, board: &Board, side: Side) -> Result<Points, AllocError>
+    ensures pairs { IfOk result (λ found. found ≡ filter (may_make_two_lem R.KIND board.now side) (points_of board.now)) }
+{
+    let some_five = has_five::<R>(board, side);
+    let mut found = Points::new(alloc);
+    for p in board.points() {
+        if may_make_two::<R>(board, side, p, some_five) {
+            found.push(p)?;
+        }
+    }
+    Ok(found)
+}
+
+/// Whether the point is empty and a stone of the side on it leaves the side two five points or more, or it has one already, as is
+/// told.
+fn may_make_two<R: Rule>(board: &Board, side: Side, p: Point, some_five: bool) -> bool
+    requires five { some_five ≡ has_five_lem R.KIND board.now side }
+    ensures two { result ≡ may_make_two_lem R.KIND board.now side p }
+{
+    if !board.is_empty(p) {
+        return false;
+    }
+    if some_five {
+        return true;
+    }
+    matches!(fives_made::<R>(board, side, p), FivePoints::Several)
+}
+
+/// Whether the point is one of the list.
+pub(crate) fn has_point(points: &[Point], p: Point) -> bool
+    ensures has { result ≡ has_point_lem points.now p }
+{
+    points.iter().any(|q| is_same(*q, p))
+}
+
+/// Whether two points are one.
+fn is_same(p: Point, q: Point) -> bool
+    ensures same { result ≡ is_same_point_lem p q }
+{
+    p.x == q.x && p.y == q.y
+}
