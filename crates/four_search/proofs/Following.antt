@@ -16,16 +16,17 @@ use Rattle.game_rules.specs.declared.Point.{Point}
 use Rattle.game_rules.proofs.Points.{points-found, is_same_point-itself}
 use Rattle.game_rules.proofs.Games.{each_reply}
 use Rattle.game_rules.proofs.Positions.{IsPosition-after, GoesOn-on}
+use Rattle.game_rules.proofs.Outcomes.{five-outcome}
+use Rattle.game_rules.proofs.Places.{find-passes}
 use Rattle.strategy_graph.specs.declared.Node.{Node}
 use Rattle.strategy_graph.specs.Tables.{answers_of, answer, answer_at, IsTable}
 use Rattle.strategy_graph.specs.Acceptance.{Answered, Accepted}
 use Rattle.strategy_graph.specs.Leads.{AtNode}
 use Rattle.strategy_graph.proofs.Answering.{Answered-map}
 use Rattle.strategy_compiler.specs.Trees.{Tree, Branches, Leaf, Fork, StandsFor, StandsForAll}
-use Rattle.threat_moves.proofs.BlockLaw.{five-outcome}
 use Rattle.four_search.specs.FourGame.{least_moves}
 use Rattle.four_search.specs.Plans.{branches_for, plan_from, four_plan}
-use Rattle.four_search.proofs.Trying.{find-passes, move-is}
+use Rattle.four_search.proofs.Trying.{move-is}
 use Rattle.four_search.proofs.Planning.{any-find, plan-fork}
 use Rattle.four_search.proofs.Naming.{answer-at}
 use Rattle.four_search.proofs.Deepening.{wins-more}

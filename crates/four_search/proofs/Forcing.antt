@@ -5,7 +5,7 @@ use Rattle.std.specs.List.{list_all, filter}
 use Rattle.std.proofs.lemmas.Bool.Decides.{nat_tests}
 use Rattle.game_rules.specs.Grid.{Grid, is_on, is_empty, empties_of, points_of}
 use Rattle.game_rules.specs.Shapes.{five, is_same_point}
-use Rattle.game_rules.specs.Play.{IsPosition, outcome, outcome_by, foul_of, has_fouls, mover, other, after, black_foul}
+use Rattle.game_rules.specs.Play.{IsPosition, outcome, outcome_by, foul_of, has_fouls, mover, other, after, black_foul, goes_on_with}
 use Rattle.game_rules.specs.Games.{has_five, five_points, loses_or, starts_win, wins_under, wins_by_fours}
 use Rattle.game_rules.specs.declared.RuleKind.{RuleKind}
 use Rattle.game_rules.specs.declared.Side.{Side}
@@ -16,11 +16,12 @@ use Rattle.game_rules.proofs.Boards.{and_left, and_right, is_empty-on}
 use Rattle.game_rules.proofs.Positions.{IsPosition-after, GoesOn-empty, mover-then, mover-other}
 use Rattle.game_rules.proofs.Points.{points-found, any_witness, none_of, all_at, filter-none, filter-passes, is_same_point-itself, is_same_point-same}
 use Rattle.game_rules.proofs.Fives.{five-empty}
-use Rattle.game_rules.proofs.Distinct.{two_passing-apart}
+use Rattle.game_rules.proofs.Places.{two_passing-apart}
+use Rattle.game_rules.proofs.Outcomes.{reply-stays, no_fouls-none, goes_on_with-else}
 use Rattle.threat_moves.specs.declared.block.BlockAnswer.{BlockAnswer}
 use Rattle.threat_moves.specs.declared.block.BlockAnswer.TheVariants.{Lost, Won, Draw, One}
 use Rattle.threat_moves.specs.Blocks.{fate}
-use Rattle.threat_moves.specs.FourMoves.{goes_on_with, is_four_move}
+use Rattle.threat_moves.specs.FourMoves.{is_four_move}
 use Rattle.threat_moves.specs.OneBlock.{all_foul, block_wins}
 use Rattle.threat_moves.proofs.FourLaws.{four-goes_on, four-five}
 use Rattle.threat_moves.proofs.BlockLaw.{block_decides}
@@ -136,22 +137,6 @@ module _ (rule : RuleKind) (moves budget : ℕ) (b : Grid) (lawful : IsPosition 
 
 -- ---- the last move
 
-no_fouls : (rule : RuleKind) (c : Grid) (s : Side) (w : Point) → has_fouls rule s ≡ false → foul_of rule c s w ≡ NoFoul
-no_fouls rule c s w h = ap (λ r. cond r (black_foul rule c w) NoFoul) h
-
-goes_through : (f l : Bool) → loses_or (outcome_by true f NoFoul l) false ≡ false
-goes_through true l = refl
-goes_through false true = refl
-goes_through false false = refl
-
--- without fouls a reply on an empty point does not lose at once
-reply-stays : (rule : RuleKind) (c : Grid) (w : Point) → is_empty c w ≡ true → has_fouls rule (mover c) ≡ false → loses_or (outcome rule c w) false ≡ false
-unfolding outcome
-reply-stays rule c w empty h =
-    ap (λ o. loses_or (outcome_by (is_empty c w) (five rule c (mover c) w) o (nat_eq (empties_of c) 1)) false) (no_fouls rule c (mover c) w h)
-    ∙ ap (λ e. loses_or (outcome_by e (five rule c (mover c) w) NoFoul (nat_eq (empties_of c) 1)) false) empty
-    ∙ goes_through (five rule c (mover c) w) (nat_eq (empties_of c) 1)
-
 not_all-foul : (rule : RuleKind) (c : Grid) (w : Point) → is_empty c w ≡ true → has_fouls rule (mover c) ≡ false → all_foul rule c ≡ false
 not_all-foul rule c w empty h = by_test (all_foul rule c) refl where
   by_test : (r : Bool) → all_foul rule c ≡ r → r ≡ false
@@ -214,13 +199,6 @@ goes_on_with-false Wins = refl
 goes_on_with-false (Fouls f) = refl
 goes_on_with-false Draws = refl
 goes_on_with-false GoesOn = refl
-
-goes_on_with-else : (o : Outcome) (r : Bool) → (o ≡ GoesOn → ⊥) → goes_on_with o r ≡ false
-goes_on_with-else Refused r h = refl
-goes_on_with-else Wins r h = refl
-goes_on_with-else (Fouls f) r h = refl
-goes_on_with-else Draws r h = refl
-goes_on_with-else GoesOn r h = absurd (h refl)
 
 -- a move that makes no five point is no four
 pub none-no_four : (rule : RuleKind) (b : Grid) (p : Point) → has_five rule (after b p) (mover b) ≡ false → is_four_move rule b p ≡ false

@@ -17,7 +17,8 @@ use Rattle.game_rules.proofs.Boards.{is_empty-on, Apart, cell_at-put_same, same_
 use Rattle.game_rules.proofs.Positions.{GoesOn-empty, IsPosition-after, mover-after, mover-then}
 use Rattle.game_rules.proofs.Fives.{five-other, five-empty}
 use Rattle.game_rules.proofs.Points.{filter-none, is_same_point-itself, is_same_point-same}
-use Rattle.game_rules.proofs.Distinct.{two_passing-apart}
+use Rattle.game_rules.proofs.Places.{two_passing-apart}
+use Rattle.game_rules.proofs.Places.{find-passes}
 use Rattle.strategy_graph.specs.declared.Node.{Node}
 use Rattle.strategy_graph.specs.declared.Reply.{Reply}
 use Rattle.strategy_compiler.specs.Trees.{Tree, Branches, Leaf, Fork, StandsFor, AnswersBranches, GrowthKeepsTrees}
@@ -30,7 +31,7 @@ use Rattle.threat_moves.proofs.BlockLaw.{block_decides}
 use Rattle.four_search.specs.Searching.{line_behind, line_from, four_line}
 use Rattle.four_search.specs.Plans.{branch_if, branches_for, plan_from, four_plan, answer_if, answers_for, at_or_beside}
 use Rattle.four_search.specs.Growth.{GrowsBy}
-use Rattle.four_search.proofs.Trying.{find-passes, move-is, no_four}
+use Rattle.four_search.proofs.Trying.{move-is, no_four}
 
 -- ---- answers and branches
 

@@ -7,6 +7,7 @@ use Rattle.game_rules.specs.Grid.{Grid, points_of, row_from}
 use Rattle.game_rules.specs.Shapes.{is_same_point}
 use Rattle.game_rules.specs.declared.Point.{Point}
 use Rattle.game_rules.proofs.Points.{is_same_point-same}
+use Rattle.game_rules.proofs.Places.{points_length}
 use Rattle.four_search.proofs.Naming.{among_points}
 use Rattle.strategy_graph.proofs.ReadingOrder.{From, Following, Following-later, rows-following}
 use Rattle.std.proofs.Common.{length-append}
@@ -77,15 +78,3 @@ module _ (f : Point → ℕ) (w : Point) (most : ℕ) (some : 1 ≤ most) (high 
   -- all but one are at most 1
   pub sum-once : (b : Grid) → sum_by f (points_of b) + 1 ≤ length (points_of b) + most
   sum-once b = sum-once-from 0 0 (points_of b) (rows-following b.width 0 b.height)
-
--- the points of a board
-pub length-points : (b : Grid) → length (points_of b) ≡ b.height * b.width
-length-points b = rows 0 b.height where
-  rows : (y n : ℕ) → length (flat_map (λ z. row_from z 0 b.width) (range_with_len y n)) ≡ n * b.width
-  rows y zero = omega arith
-  rows y (suc n) =
-      let e = length-append (row_from y 0 b.width) (flat_map (λ z. row_from z 0 b.width) (range_with_len (y + 1) n)) in
-      let row : length (row_from y 0 b.width) ≡ b.width = length-map-range_with_len (λ x. let p : Point = record { x = x; y = y } in p) 0 b.width in
-      let rest = rows (y + 1) n in
-      let m : suc n * b.width ≡ b.width + n * b.width = omega arith in
-      omega (arith, e, row, rest, m)

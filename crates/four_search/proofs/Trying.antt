@@ -6,14 +6,15 @@ use Rattle.std.proofs.lemmas.Bool.Decides.{nat_tests}
 use Rattle.std.proofs.lemmas.List.Sums.{sum_by-cons}
 use Rattle.game_rules.specs.Grid.{Grid, is_empty, points_of}
 use Rattle.game_rules.specs.Shapes.{five, is_at, is_same_point}
-use Rattle.game_rules.specs.Play.{IsPosition, outcome, mover, after}
+use Rattle.game_rules.specs.Play.{IsPosition, outcome, mover, after, goes_on_with}
 use Rattle.game_rules.specs.Games.{has_five, wins_or, starts_win, wins_under, wins_by_fours, four_move}
 use Rattle.game_rules.specs.declared.RuleKind.{RuleKind}
 use Rattle.game_rules.specs.declared.Outcome.{Outcome}
 use Rattle.game_rules.specs.declared.Outcome.TheVariants.{Refused, Wins, Fouls, Draws, GoesOn}
 use Rattle.game_rules.specs.declared.Point.{Point}
 use Rattle.game_rules.proofs.Points.{taken_refused, is_same_point-itself, is_same_point-same}
-use Rattle.threat_moves.specs.FourMoves.{goes_on_with, is_four_move}
+use Rattle.game_rules.proofs.Places.{find-passes}
+use Rattle.threat_moves.specs.FourMoves.{is_four_move}
 use Rattle.threat_moves.specs.declared.block.BlockAnswer.{BlockAnswer}
 use Rattle.threat_moves.specs.declared.block.BlockAnswer.TheVariants.{Lost, One}
 use Rattle.threat_moves.specs.Blocks.{fate}
@@ -164,13 +165,6 @@ module _ (rule : RuleKind) (n : ℕ) (b : Grid) (lawful : IsPosition rule b) (no
       ∙ step_by left p ps (test p)
 
 -- ---- the chosen move
-
-pub find-passes : (f : Point → Bool) (ps : List Point) (p : Point) → find f ps ≡ Some p → f p ≡ true
-find-passes f [] p h = cc
-find-passes f (x ∷ ps) p h = by_test (f x) refl h (find-passes f ps p) where
-  by_test : (r : Bool) → f x ≡ r → cond r (Some x) (find f ps) ≡ Some p → (find f ps ≡ Some p → f p ≡ true) → f p ≡ true
-  by_test true e k rest = let same : x ≡ p = cc in subst (λ (q : Point). f q ≡ true) same e
-  by_test false e k rest = rest k
 
 not_found : (f : Point → Bool) (ps : List Point) (p : Point) → f p ≡ false → is_at p (find f ps) ≡ false
 not_found f ps p h = by_find (find f ps) refl where

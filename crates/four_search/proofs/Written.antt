@@ -7,7 +7,7 @@ use Rattle.std.proofs.lemmas.List.Elements.{All-from_recursion}
 use Rattle.std.proofs.lemmas.Bool.{cases_lt}
 use Rattle.game_rules.specs.Grid.{Grid, IsBoard, is_on, is_empty, is_empty_cell, cell_at, points_of}
 use Rattle.game_rules.specs.Shapes.{five, is_same_point}
-use Rattle.game_rules.specs.Play.{IsPosition, outcome, mover, after}
+use Rattle.game_rules.specs.Play.{IsPosition, outcome, mover, after, goes_on_with}
 use Rattle.game_rules.specs.Games.{LosesOr, has_five, wins_or, loses_or, starts_win, wins_under, WinsByFours, wins_by_fours, four_move, if_goes_on}
 use Rattle.game_rules.specs.declared.RuleKind.{RuleKind}
 use Rattle.game_rules.specs.declared.Outcome.{Outcome}
@@ -18,6 +18,8 @@ use Rattle.game_rules.proofs.Points.{points-found, all_of, taken_refused, is_sam
 use Rattle.game_rules.proofs.Games.{each_reply, LosesOr-loses_or, test-WinsUnder, WinsUnder-test}
 use Rattle.game_rules.proofs.Positions.{IsPosition-after, GoesOn-on, GoesOn-empty}
 use Rattle.game_rules.proofs.Fives.{five-empty}
+use Rattle.game_rules.proofs.Outcomes.{five-outcome}
+use Rattle.game_rules.proofs.Places.{points_length, find-passes}
 use Rattle.strategy_graph.specs.declared.Node.{Node}
 use Rattle.strategy_graph.specs.declared.Reply.{Reply}
 use Rattle.strategy_graph.specs.declared.Rest.{Rest}
@@ -31,20 +33,20 @@ use Rattle.strategy_graph.proofs.Fuel.{depth-step}
 use Rattle.strategy_graph.proofs.Steps.{accepted-by-win, accepted-by-replies, arrivals-by-replies, arrivals-winning}
 use Rattle.strategy_compiler.specs.Trees.{Tree, Branches, Leaf, Fork, NoBranch, Branch, StandsFor, StandsForAll, AnswersBriefly, replies_of}
 use Rattle.strategy_compiler.specs.Walks.{Reaches, Itself, Through}
-use Rattle.threat_moves.proofs.BlockLaw.{five-outcome, five-wins, block_decides, others_leave_five}
+use Rattle.threat_moves.proofs.BlockLaw.{five-wins, block_decides, others_leave_five}
 use Rattle.threat_moves.proofs.FourLaws.{one-goes_on}
 use Rattle.threat_moves.specs.declared.block.BlockAnswer.{BlockAnswer}
 use Rattle.threat_moves.specs.declared.block.BlockAnswer.TheVariants.{Lost, Won, Draw, One}
-use Rattle.threat_moves.specs.FourMoves.{goes_on_with, is_four_move}
+use Rattle.threat_moves.specs.FourMoves.{is_four_move}
 use Rattle.threat_moves.specs.Blocks.{fate}
 use Rattle.threat_moves.specs.OneBlock.{block_wins, LeavesFive}
 use Rattle.strategy_compiler.specs.Wins.{StaysOnBoard}
 use Rattle.four_search.specs.Answers.{IsFourWin}
 use Rattle.four_search.specs.Plans.{branches_for, four_plan}
-use Rattle.four_search.proofs.Trying.{find-passes, move-is, wins-is}
+use Rattle.four_search.proofs.Trying.{move-is, wins-is}
 use Rattle.four_search.proofs.Planning.{any-find, plan-leaf, plan-fork, plan-goes_on, wins-some}
 use Rattle.four_search.proofs.Naming.{named-all, answers-each, answer-at, greatest-all, listed-on}
-use Rattle.four_search.proofs.Sums.{sum-ones-but, sum-once, length-points}
+use Rattle.four_search.proofs.Sums.{sum-ones-but, sum-once}
 use Rattle.four_search.proofs.Deepening.{NoWinUpTo, wins-more, least-win}
 
 -- what is known of a node that stands for the plan of a win within n moves
@@ -298,7 +300,7 @@ module _ (rule : RuleKind) (t : List Node) (table : IsTable t) (i m : ℕ) (b : 
   size_grows = omega arith
 
   points_are : length (points_of b) ≡ b.width * b.height
-  points_are = length-points b ∙ (let e : b.height * b.width ≡ b.width * b.height = grind arith in e)
+  points_are = points_length b
 
   -- the four's own point is taken
   none_at : count p ≡ 0

@@ -9,9 +9,11 @@ pub mod Lines
 pub mod Runs
 -- a move that goes on, and one that is taken back; who moves after it
 pub mod Positions
--- tests of the points of a board, which are listed once each; five points
+-- tests of the points of a board; its points as a list; five points
 pub mod Points
-pub mod Distinct
+pub mod Places
 pub mod Fives
+-- what an outcome says of the move that has it
+pub mod Outcomes
 -- won games: stronger demands, more moves, tests and facts
 pub mod Games

@@ -74,6 +74,46 @@ outcome_by empty wins None last = if not empty then Refused else if wins then Wi
 unfoldable pub outcome : RuleKind → Grid → Point → Outcome
 outcome rule b p = outcome_by (is_empty b p) (five rule b (mover b) p) (foul_of rule b (mover b) p) (empties_of b == 1)
 
+-- whether the game goes on after a move with this outcome
+abbrev pub goes_on : Outcome → Bool
+goes_on Refused = false
+goes_on Wins = false
+goes_on (Fouls f) = false
+goes_on Draws = false
+goes_on GoesOn = true
+
+-- whether it goes on, and the test says so too
+abbrev pub goes_on_with : Outcome → Bool → Bool
+goes_on_with Refused test = false
+goes_on_with Wins test = false
+goes_on_with (Fouls f) test = false
+goes_on_with Draws test = false
+goes_on_with GoesOn test = test
+
+-- whether a move with this outcome wins
+abbrev pub is_win : Outcome → Bool
+is_win Refused = false
+is_win Wins = true
+is_win (Fouls f) = false
+is_win Draws = false
+is_win GoesOn = false
+
+-- whether it is a foul
+abbrev pub is_foul : Outcome → Bool
+is_foul Refused = false
+is_foul Wins = false
+is_foul (Fouls f) = true
+is_foul Draws = false
+is_foul GoesOn = false
+
+-- whether it wins or fills the board
+abbrev pub saves : Outcome → Bool
+saves Refused = false
+saves Wins = true
+saves (Fouls f) = false
+saves Draws = true
+saves GoesOn = false
+
 -- the board after the side to move has put its stone on p, a point of the board
 abbrev pub after : Grid → Point → Grid
 after b p = put b (mover b) p

@@ -8,6 +8,7 @@ use Rattle.game_rules.specs.Play.{IsPosition, mover, after}
 use Rattle.game_rules.specs.Games.{has_five, wins_by_fours, four_move}
 use Rattle.game_rules.specs.declared.RuleKind.{RuleKind}
 use Rattle.game_rules.specs.declared.Point.{Point}
+use Rattle.game_rules.proofs.Places.{points_length, points_few}
 use Rattle.threat_moves.specs.declared.block.BlockAnswer.{BlockAnswer}
 use Rattle.threat_moves.specs.declared.block.BlockAnswer.TheVariants.{Lost, Won, Draw, One}
 use Rattle.threat_moves.specs.FourMoves.{is_four_move}
@@ -30,30 +31,6 @@ sum-ones f each (p ∷ ps) =
     let low = each p in
     let rest = sum-ones f each ps in
     omega (arith, e, low, rest)
-
-length-row : (y x n : ℕ) → length (row_from y x n) ≡ n
-length-row y x zero = refl
-length-row y x (suc n) = ap suc (length-row y (x + 1) n)
-
-length-rows : (w y n : ℕ) → length (flat_map (λ z. row_from z 0 w) (range_with_len y n)) ≡ n * w
-length-rows w y zero = omega arith
-length-rows w y (suc n) =
-    let e : length (flat_map (λ z. row_from z 0 w) (range_with_len y (suc n))) ≡ length (row_from y 0 w) + length (flat_map (λ z. row_from z 0 w) (range_with_len (y + 1) n)) =
-    length-append (row_from y 0 w) (flat_map (λ z. row_from z 0 w) (range_with_len (y + 1) n)) in
-    let row = length-row y 0 w in
-    let rest = length-rows w (y + 1) n in
-    omega (arith, e, row, rest)
-
-length-points : (b : Grid) → length (points_of b) ≡ b.height * b.width
-length-points b = length-rows b.width 0 b.height
-
-points-few : (b : Grid) → IsBoard b → length (points_of b) ≤ 1024
-points-few b ok =
-    let e = length-points b in
-    let w = ok.width_fits in
-    let h = ok.height_fits in
-    let most : b.height * b.width ≤ 1024 = grind arith in
-    omega (arith, e, most)
 
 -- ---- the positions of two fours
 
@@ -81,7 +58,7 @@ module _ (rule : RuleKind) (b : Grid) (lawful : IsPosition rule b) where
     sum =
         let cut = sum-until (behind_move rule b (four_tree rule 1)) (λ p. is_at p (four_move rule 2 b)) (points_of b) in
         let ones = sum-ones (behind_move rule b (four_tree rule 1)) behind-one (points_of b) in
-        let few = points-few b lawful.board in
+        let few = points_few b lawful.board in
         omega (arith, cut, ones, few)
 
     by_five : (r : Bool) → cond r 1 (1 + sum_by (behind_move rule b (four_tree rule 1)) (tried rule 2 b)) ≤ 1025

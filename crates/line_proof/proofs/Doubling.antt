@@ -8,7 +8,7 @@ use Rattle.std.proofs.lemmas.Option.{slice_get_within}
 use Rattle.std.proofs.lemmas.Bool.Decides.{nat_tests}
 use Rattle.game_rules.specs.Grid.{Grid, is_on, points_of, points_within, row_from}
 use Rattle.game_rules.specs.Shapes.{five, is_same_point}
-use Rattle.game_rules.specs.Play.{IsPosition, outcome, mover, after, other}
+use Rattle.game_rules.specs.Play.{IsPosition, outcome, mover, after, other, goes_on_with}
 use Rattle.game_rules.specs.Games.{LosesOr, has_five, wins_or, loses_or, starts_win, wins_under, wins_by_fours}
 use Rattle.game_rules.specs.declared.RuleKind.{RuleKind}
 use Rattle.game_rules.specs.declared.Outcome.{Outcome}
@@ -19,6 +19,7 @@ use Rattle.game_rules.proofs.Points.{points-found, is_same_point-itself, is_same
 use Rattle.game_rules.proofs.Games.{each_reply}
 use Rattle.game_rules.proofs.Positions.{IsPosition-after, GoesOn-on, GoesOn-empty, mover-other, mover-then}
 use Rattle.game_rules.proofs.Fives.{five-empty, five-other}
+use Rattle.game_rules.proofs.Outcomes.{five-outcome}
 use Rattle.strategy_graph.specs.declared.Node.{Node}
 use Rattle.strategy_graph.specs.declared.Reply.{Reply}
 use Rattle.strategy_graph.specs.Tables.{answers_of, answer, answer_at, NamesLower, depth, node_depth, named, greatest}
@@ -31,9 +32,9 @@ use Rattle.strategy_compiler.specs.Wins.{IsWrittenWin, StaysOnBoard}
 use Rattle.strategy_compiler.proofs.Standing.{slice_get-longer}
 use Rattle.threat_moves.specs.declared.block.BlockAnswer.TheVariants.{Lost, Won}
 use Rattle.threat_moves.specs.Blocks.{by_fives, fate}
-use Rattle.threat_moves.specs.FourMoves.{goes_on_with, is_four_move}
+use Rattle.threat_moves.specs.FourMoves.{is_four_move}
 use Rattle.threat_moves.specs.OneBlock.{block_wins}
-use Rattle.threat_moves.proofs.BlockLaw.{five-outcome, block_decides}
+use Rattle.threat_moves.proofs.BlockLaw.{block_decides}
 use Rattle.four_search.specs.Plans.{at_or_beside}
 use Rattle.four_search.proofs.Naming.{all_filter, greatest-all}
 use Rattle.four_search.proofs.Written.{stays-by}

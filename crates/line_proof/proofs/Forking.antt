@@ -7,7 +7,7 @@ use Rattle.std.proofs.lemmas.List.Elements.{recursion_from_All}
 use Rattle.std.proofs.lemmas.Option.{slice_get_within}
 use Rattle.game_rules.specs.Grid.{Grid, is_on, points_of}
 use Rattle.game_rules.specs.Shapes.{is_same_point}
-use Rattle.game_rules.specs.Play.{outcome, after}
+use Rattle.game_rules.specs.Play.{outcome, after, goes_on_with}
 use Rattle.game_rules.specs.Games.{LosesOr}
 use Rattle.game_rules.specs.declared.RuleKind.{RuleKind}
 use Rattle.game_rules.specs.declared.Outcome.{Outcome}
@@ -25,7 +25,6 @@ use Rattle.strategy_graph.proofs.Fuel.{depth-step}
 use Rattle.strategy_graph.proofs.Steps.{accepted-by-replies, met-no_move, met-foul, met-answer}
 use Rattle.strategy_compiler.specs.Nodes.{IsCompiled, PutsIn, answering_node, brief_answers, commonest_next, rest_of}
 use Rattle.strategy_compiler.specs.Wins.{IsWrittenWin, StaysOnBoard, GrowthKeepsWins}
-use Rattle.threat_moves.specs.FourMoves.{goes_on_with}
 use Rattle.four_search.proofs.Naming.{all_filter, all_map_next, greatest-all}
 use Rattle.four_search.proofs.Written.{stays-by, on_before}
 use Rattle.line_proof.specs.declared.answers.Answering.{Answering}

@@ -5,7 +5,7 @@ use Rattle.std.specs.List.{AllByRecursion, list_all, sum_by}
 use Rattle.std.proofs.lemmas.List.Sums.{sum_by-cons}
 use Rattle.std.proofs.lemmas.List.Elements.{All-from_recursion}
 use Rattle.game_rules.specs.Grid.{Grid}
-use Rattle.game_rules.specs.Play.{outcome, after}
+use Rattle.game_rules.specs.Play.{outcome, after, goes_on_with}
 use Rattle.game_rules.specs.Games.{loses_or, if_goes_on}
 use Rattle.game_rules.specs.declared.RuleKind.{RuleKind}
 use Rattle.game_rules.specs.declared.Outcome.{Outcome}
@@ -17,7 +17,6 @@ use Rattle.strategy_graph.specs.Tables.{NamesLower, depth, greatest}
 use Rattle.strategy_compiler.specs.Nodes.{IsCompiled}
 use Rattle.strategy_compiler.specs.declared.wins.WrittenWin.{WrittenWin}
 use Rattle.strategy_compiler.specs.Wins.{IsWrittenWin, GrowthKeepsWins}
-use Rattle.threat_moves.specs.FourMoves.{goes_on_with}
 use Rattle.line_proof.specs.declared.answers.Answering.{Answering}
 use Rattle.line_proof.specs.Replies.{Extends, IsWonAt, AreAnswers, AnswersAll, answered, going_on}
 

@@ -4,7 +4,7 @@ use Rattle.std.specs.Prelude.{Option, Some, None, IfSome, Result, Ok, Err, OnOk}
 use Rattle.std.specs.List.{filter, find}
 use Rattle.game_rules.specs.Grid.{Grid, points_of}
 use Rattle.game_rules.specs.Shapes.{five}
-use Rattle.game_rules.specs.Play.{mover}
+use Rattle.game_rules.specs.Play.{mover, goes_on_with}
 use Rattle.game_rules.specs.Games.{LosesOr, has_five, wins_by_fours}
 use Rattle.game_rules.specs.declared.RuleKind.{RuleKind}
 use Rattle.game_rules.specs.declared.Outcome.{Outcome}
@@ -12,8 +12,8 @@ use Rattle.game_rules.specs.declared.Outcome.TheVariants.{Refused, Wins as WinsN
 use Rattle.game_rules.specs.declared.Point.{Point}
 use Rattle.game_rules.proofs.Points.{any_witness}
 use Rattle.game_rules.proofs.Games.{each_reply}
-use Rattle.threat_moves.specs.FourMoves.{goes_on_with}
-use Rattle.threat_moves.proofs.BlockLaw.{five-wins, five-outcome}
+use Rattle.game_rules.proofs.Outcomes.{five-outcome, goes_on_with-else}
+use Rattle.threat_moves.proofs.BlockLaw.{five-wins}
 use Rattle.threat_moves.specs.declared.threat_list.Threat.{Threat}
 use Rattle.line_proof.specs.Lines.{line_wins, line_tree, line_move, each_loses, block_of, block_or_gain, move_wins, behind_replies}
 
@@ -112,14 +112,6 @@ on-ok (Err e) p = tt
 pub no-value : {X : Type 0} (o : Option X) → ((x : X) → o ≡ Some x → ⊥) → o ≡ None
 no-value None f = refl
 no-value (Some x) f = absurd (f x refl)
-
--- a move that does not go on
-pub stops-with : (o : Outcome) (r : Bool) → (o ≡ GoesOn → ⊥) → goes_on_with o r ≡ false
-stops-with Refused r h = refl
-stops-with WinsNow r h = refl
-stops-with (Fouls f) r h = refl
-stops-with Draws r h = refl
-stops-with GoesOn r h = absurd (h refl)
 
 -- ---- the first of those that pass
 

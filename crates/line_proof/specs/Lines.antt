@@ -3,12 +3,11 @@ use Rattle.std.specs.Prelude.{ℕ, zero, suc, ◌+◌, min, Bool, true, false, i
 use Rattle.std.specs.List.{list_all, sum_by, find}
 use Rattle.game_rules.specs.Grid.{Grid, points_of}
 use Rattle.game_rules.specs.Shapes.{five}
-use Rattle.game_rules.specs.Play.{outcome, mover, after, other}
+use Rattle.game_rules.specs.Play.{outcome, mover, after, other, goes_on_with}
 use Rattle.game_rules.specs.Games.{wins_by_fours, loses_or, if_goes_on}
 use Rattle.game_rules.specs.declared.RuleKind.{RuleKind}
 use Rattle.game_rules.specs.declared.Point.{Point}
 use Rattle.threat_moves.specs.declared.threat_list.Threat.{Threat}
-use Rattle.threat_moves.specs.FourMoves.{goes_on_with}
 
 -- the gain of the first threat, and the threats after it
 abbrev pub first_gain : List Threat → Option (Point × List Threat)

@@ -2,14 +2,13 @@
 use Rattle.std.specs.Prelude.{◌≡◌, ℕ, Bool, true, false, List, ◌++◌, map, Option, Some, None}
 use Rattle.std.specs.List.{filter, AllByRecursion}
 use Rattle.game_rules.specs.Grid.{Grid, points_of}
-use Rattle.game_rules.specs.Play.{outcome, after}
+use Rattle.game_rules.specs.Play.{outcome, after, goes_on_with}
 use Rattle.game_rules.specs.declared.RuleKind.{RuleKind}
 use Rattle.game_rules.specs.declared.Point.{Point}
 use Rattle.strategy_graph.specs.declared.Reply.{Reply}
 use Rattle.strategy_graph.specs.declared.Node.{Node}
 use Rattle.strategy_graph.specs.Tables.{depth, greatest}
 use Rattle.strategy_compiler.specs.Wins.{IsWrittenWin}
-use Rattle.threat_moves.specs.FourMoves.{goes_on_with}
 use Rattle.line_proof.specs.declared.answers.Answering.{Answering}
 
 -- the nodes stay, and others may be added at the end

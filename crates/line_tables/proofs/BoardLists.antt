@@ -1,60 +1,13 @@
 -- Lists with an item for each point of a board, in reading order.
-use Rattle.std.proofs.Common.{◌≡◌, ℕ, zero, suc, ◌+◌, ◌*◌, ◌≤◌, ◌<◌, Bool, true, false, ◌&&◌, List, [], ◌∷◌, ◌++◌, length, refl, ap, ◌∙◌, arith, nat_lt}
+use Rattle.std.proofs.Common.{◌≡◌, ◌*◌, Bool, true, refl, ◌∙◌, List, ◌∷◌, length}
 use Rattle.std.specs.Prelude.{Some, map, slice_get}
-use Rattle.std.specs.List.{flat_map, range_with_len, list_all}
-use Rattle.std.proofs.lemmas.Bool.Decides.{nat_tests}
-use Rattle.std.proofs.Math.ListN.{length-append}
+use Rattle.std.specs.List.{list_all}
+use Rattle.std.proofs.lemmas.Bool.{and_parts}
 use Rattle.std.proofs.lemmas.List.{length-map}
 use Rattle.std.proofs.lemmas.Option.{slice_get-map}
-use Rattle.game_rules.specs.Grid.{Grid, is_on, place_of, points_of, row_from}
+use Rattle.game_rules.specs.Grid.{Grid, is_on, place_of, points_of}
 use Rattle.game_rules.specs.declared.Point.{Point}
-use Rattle.game_rules.proofs.Boards.{on_x, on_y}
-
--- ---- where a point stands in the list of all
-
-slice_get-left : {X : Type 0} (xs ys : List X) (i : ℕ) → i < length xs → slice_get (xs ++ ys) i ≡ slice_get xs i
-slice_get-left [] ys i h = absurd (omega arith)
-slice_get-left (x ∷ xs) ys zero h = refl
-slice_get-left (x ∷ xs) ys (suc i) h = slice_get-left xs ys i (omega arith)
-
-slice_get-right : {X : Type 0} (xs ys : List X) (i : ℕ) → slice_get (xs ++ ys) (length xs + i) ≡ slice_get ys i
-slice_get-right [] ys i = let e : 0 + i ≡ i = omega arith in rw e refl
-slice_get-right (x ∷ xs) ys i = let e : suc (length xs) + i ≡ suc (length xs + i) = omega arith in rw e (slice_get-right xs ys i)
-
-row_length : (y x n : ℕ) → length (row_from y x n) ≡ n
-row_length y x zero = refl
-row_length y x (suc n) = ap suc (row_length y (x + 1) n)
-
-row_get : (y x n i : ℕ) → i < n → slice_get (row_from y x n) i ≡ Some (record { x = x + i; y = y })
-row_get y x zero i h = absurd (omega arith)
-row_get y x (suc n) zero h = let e : x + 0 ≡ x = omega arith in rw e refl
-row_get y x (suc n) (suc i) h = let e : x + suc i ≡ x + 1 + i = omega arith in rw e (row_get y (x + 1) n i (omega arith))
-
-rows_get : (width a n k x : ℕ) → k < n → x < width → slice_get (flat_map (λ y. row_from y 0 width) (range_with_len a n)) (k * width + x) ≡ Some (record { x = x; y = a + k })
-rows_get width a zero k x low h = absurd (omega arith)
-rows_get width a (suc n) zero x low h =
-    let e : 0 * width + x ≡ x = omega arith in
-    let f : a + 0 ≡ a = omega arith in
-    let g : 0 + x ≡ x = omega arith in
-    let size : x < length (row_from a 0 width) = rw (row_length a 0 width) h in
-    rw (e, f) (slice_get-left (row_from a 0 width) _ x size ∙ rw g at (row_get a 0 width x h))
-rows_get width a (suc n) (suc k) x low h =
-    let e : suc k * width + x ≡ length (row_from a 0 width) + (k * width + x) = rw (row_length a 0 width) (omega arith) in
-    let f : a + suc k ≡ a + 1 + k = omega arith in
-    rw (e, f) (slice_get-right (row_from a 0 width) _ (k * width + x) ∙ rows_get width (a + 1) n k x (omega arith) h)
-
-pub points_get : (b : Grid) (q : Point) → is_on b q ≡ true → slice_get (points_of b) (place_of b q) ≡ Some q
-points_get b q on = let e : 0 + q.y ≡ q.y = omega arith in rw e at (rows_get b.width 0 b.height q.y q.x (on_y b q on) (on_x b q on))
-
-rows_length : (width a n : ℕ) → length (flat_map (λ y. row_from y 0 width) (range_with_len a n)) ≡ width * n
-rows_length width a zero = omega arith
-rows_length width a (suc n) =
-    let rest = rows_length width (a + 1) n in
-    let row = row_length a 0 width in
-    length-append (row_from a 0 width) _ ∙ omega arith
-
-pub points_length : (b : Grid) → length (points_of b) ≡ b.width * b.height
-points_length b = rows_length b.width 0 b.height
+use Rattle.game_rules.proofs.Places.{points_get, points_length}
 
 -- a list of what is told of each point
 pub told_at : {X : Type 0} (f : Point → X) (b : Grid) (q : Point) → is_on b q ≡ true → slice_get (map f (points_of b)) (place_of b q) ≡ Some (f q)
@@ -63,34 +16,5 @@ told_at f b q on = slice_get-map f (points_of b) (place_of b q) ∙ rw (points_g
 pub told_length : {X : Type 0} (f : Point → X) (b : Grid) → length (map f (points_of b)) ≡ b.width * b.height
 told_length f b = length-map (points_of b) f ∙ points_length b
 
--- ---- all points of the list are on the board
-
-on_by : (b : Grid) (x y : ℕ) → x < b.width → y < b.height → is_on b (record { x = x; y = y }) ≡ true
-on_by b x y low high =
-    let e : nat_lt x b.width ≡ true = grind (arith, nat_tests) in
-    let f : nat_lt y b.height ≡ true = grind (arith, nat_tests) in
-    rw (e, f) refl
-
-all-append : (f : Point → Bool) (xs ys : List Point) → list_all f xs ≡ true → list_all f ys ≡ true → list_all f (xs ++ ys) ≡ true
-all-append f [] ys h k = k
-all-append f (x ∷ xs) ys h k = by_test (f x) h (all-append f xs ys) where
-  by_test : (r : Bool) → (r && list_all f xs) ≡ true → (list_all f xs ≡ true → list_all f ys ≡ true → list_all f (xs ++ ys) ≡ true) → (r && list_all f (xs ++ ys)) ≡ true
-  by_test true h more = more h k
-  by_test false h more = cc
-
-row_on : (b : Grid) (y x n : ℕ) → y < b.height → x + n ≤ b.width → list_all (is_on b) (row_from y x n) ≡ true
-row_on b y x zero low high = refl
-row_on b y x (suc n) low high = rw (on_by b x y (omega arith) low) (row_on b y (x + 1) n low (omega arith))
-
-rows_on : (b : Grid) (a n : ℕ) → a + n ≤ b.height → list_all (is_on b) (flat_map (λ y. row_from y 0 b.width) (range_with_len a n)) ≡ true
-rows_on b a zero high = refl
-rows_on b a (suc n) high = all-append (is_on b) (row_from a 0 b.width) _ (row_on b a 0 b.width (omega arith) (omega arith)) (rows_on b (a + 1) n (omega arith))
-
-pub points_on : (b : Grid) → list_all (is_on b) (points_of b) ≡ true
-points_on b = rows_on b 0 b.height (omega arith)
-
 pub first_on : (f : Point → Bool) (p : Point) (ps : List Point) → list_all f (p ∷ ps) ≡ true → (f p ≡ true) × (list_all f ps ≡ true)
-first_on f p ps h = by_test (f p) refl h where
-  by_test : (r : Bool) → f p ≡ r → (r && list_all f ps) ≡ true → (f p ≡ true) × (list_all f ps ≡ true)
-  by_test true e h = (e, h)
-  by_test false e h = cc
+first_on f p ps h = and_parts (f p) (list_all f ps) h

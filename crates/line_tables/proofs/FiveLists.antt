@@ -11,7 +11,8 @@ use Rattle.game_rules.specs.declared.Point.{Point}
 use Rattle.game_rules.proofs.Boards.{on_x, on_y}
 use Rattle.game_rules.proofs.Points.{is_same_point-itself, is_same_point-same}
 use Rattle.line_tables.specs.Lists.{is_before, with_point, without_point, with_told, told_of}
-use Rattle.line_tables.proofs.BoardLists.{points_length, points_on, first_on}
+use Rattle.game_rules.proofs.Places.{points_length, points_on}
+use Rattle.line_tables.proofs.BoardLists.{first_on}
 
 -- ---- the place of a point
 

@@ -1,9 +1,10 @@
 -- Moves of the game of threats: which of them have to be tried, and what each other comes to.
 use Rattle.std.proofs.Common.{◌≡◌, ◌≢◌, Bool, true, false, cond, ◌&&◌, ◌||◌, not, refl, sym, ap, ◌∙◌, List, [], ◌∷◌}
+use Rattle.std.proofs.Math.Bool.{and-true, and-false}
 use Rattle.std.specs.List.{list_any, list_all}
 use Rattle.game_rules.specs.Grid.{Grid, IsBoard, is_empty, points_of}
 use Rattle.game_rules.specs.Shapes.{five, is_same_point}
-use Rattle.game_rules.specs.Play.{IsPosition, outcome, mover, other, after}
+use Rattle.game_rules.specs.Play.{IsPosition, outcome, mover, other, after, goes_on_with, goes_on, saves}
 use Rattle.game_rules.specs.Games.{has_five, five_points, has_threat, is_double_point, loses_or}
 use Rattle.game_rules.specs.declared.RuleKind.{RuleKind}
 use Rattle.game_rules.specs.declared.Outcome.{Outcome}
@@ -13,18 +14,18 @@ use Rattle.game_rules.proofs.Boards.{is_empty-on}
 use Rattle.game_rules.proofs.Positions.{GoesOn-empty, GoesOn-on, mover-then}
 use Rattle.game_rules.proofs.Points.{points-found, any_witness, all_at, is_same_point-itself, is_same_point-same}
 use Rattle.game_rules.proofs.Fives.{five-empty}
+use Rattle.game_rules.proofs.Outcomes.{five-outcome, goes_on_with-parts, goes_on-is, loses_or-none}
 use Rattle.row_shapes.specs.declared.fives.FivePoints.{FivePoints}
 use Rattle.row_shapes.specs.declared.fives.FivePoints.TheVariants.{None as NoPoint, One, Several}
 use Rattle.row_shapes.specs.FivePoints.{in_short}
 use Rattle.row_shapes.proofs.FiveLaws.{has_five-none, has_five-one, none-left, one-left, one-taken, several-left}
-use Rattle.threat_moves.specs.FourMoves.{goes_on_with, is_four_move}
+use Rattle.threat_moves.specs.FourMoves.{is_four_move}
 use Rattle.threat_moves.specs.ThreeMoves.{is_three_move}
 use Rattle.threat_moves.specs.OneBlock.{all_foul}
-use Rattle.threat_moves.proofs.BlockLaw.{five-outcome}
 use Rattle.proof_number.specs.declared.attacks.Attempt.TheVariants.{Tried, Passed}
 use Rattle.proof_number.specs.declared.attacks.BestReply.TheVariants.{GoesOn as SomeGoesOn, Saves, Fouls as EachFouls}
 use Rattle.proof_number.specs.ThreatGame.{is_threat_move}
-use Rattle.proof_number.specs.Attacks.{goes_on, saves, has_reply, has_saving, best_reply, is_fouled, is_last_move, is_tried, is_settled_move, IsAttempt, OthersFail, takes}
+use Rattle.proof_number.specs.Attacks.{has_reply, has_saving, best_reply, is_fouled, is_last_move, is_tried, is_settled_move, IsAttempt, OthersFail, takes}
 
 -- ---- a threat move is a four move or a three move
 
@@ -35,13 +36,6 @@ goes_on-split (Fouls g) f d = refl
 goes_on-split Draws f d = refl
 goes_on-split GoesOn true d = refl
 goes_on-split GoesOn false d = refl
-
-goes_on-parts : (o : Outcome) (r : Bool) → goes_on_with o r ≡ true → (o ≡ GoesOn) × (r ≡ true)
-goes_on-parts Refused r h = cc
-goes_on-parts Wins r h = cc
-goes_on-parts (Fouls f) r h = cc
-goes_on-parts Draws r h = cc
-goes_on-parts GoesOn r h = (refl, h)
 
 module _ (rule : RuleKind) (b : Grid) (p : Point) where
   threat-split : is_threat_move rule b p ≡ (is_four_move rule b p || is_three_move rule b p)
@@ -56,7 +50,7 @@ module _ (rule : RuleKind) (b : Grid) (p : Point) where
 
   threat-parts : is_threat_move rule b p ≡ true → (outcome rule b p ≡ GoesOn) × (has_threat rule (after b p) (mover b) ≡ true)
   unfolding is_threat_move
-  threat-parts h = goes_on-parts (outcome rule b p) (has_threat rule (after b p) (mover b)) h
+  threat-parts h = goes_on_with-parts (outcome rule b p) (has_threat rule (after b p) (mover b)) h
 
   -- a threat move goes on
   pub threat-goes_on : is_threat_move rule b p ≡ true → outcome rule b p ≡ GoesOn
@@ -81,17 +75,10 @@ or_none : (a b : Bool) → (a || b) ≡ false → a ≡ false
 or_none true b h = cc
 or_none false b h = refl
 
-fouls-one : (o : Outcome) → goes_on o ≡ false → saves o ≡ false → loses_or o false ≡ true
-fouls-one Refused g s = refl
-fouls-one Wins g s = cc
-fouls-one (Fouls f) g s = refl
-fouls-one Draws g s = cc
-fouls-one GoesOn g s = cc
-
 fouls-all : (o : Point → Outcome) (ps : List Point) → list_any (λ q. goes_on (o q)) ps ≡ false → list_any (λ q. saves (o q)) ps ≡ false → list_all (λ q. loses_or (o q) false) ps ≡ true
 fouls-all o [] g s = refl
 fouls-all o (p ∷ ps) g s =
-    ap (λ r. r && list_all (λ q. loses_or (o q) false) ps) (fouls-one (o p) (or_none (goes_on (o p)) _ g) (or_none (saves (o p)) _ s))
+    ap (λ r. r && list_all (λ q. loses_or (o q) false) ps) (loses_or-none (o p) (or_none (goes_on (o p)) _ g) (or_none (saves (o p)) _ s))
     ∙ fouls-all o ps (or_right (goes_on (o p)) _ g) (or_right (saves (o p)) _ s)
 
 module _ (rule : RuleKind) (c : Grid) where
@@ -160,22 +147,15 @@ fouled-is rule c = by_tests (has_reply rule c) (has_saving rule c) ∙ sym (foul
   by_tests false false = refl
 
 module _ (rule : RuleKind) (b : Grid) (p : Point) where
-  with_yes : (a : Bool) → (a && true) ≡ a
-  with_yes true = refl
-  with_yes false = refl
-
-  with_no : (a : Bool) → (a && false) ≡ false
-  with_no true = refl
-  with_no false = refl
 
   -- where each reply fouls, a threat move is a last move
   pub fouled-last : all_foul rule (after b p) ≡ true → is_threat_move rule b p ≡ is_last_move rule b p
   unfolding is_last_move
-  fouled-last h = sym (ap (λ r. is_threat_move rule b p && r) h ∙ with_yes (is_threat_move rule b p))
+  fouled-last h = sym (ap (λ r. is_threat_move rule b p && r) h ∙ and-true (is_threat_move rule b p))
 
   pub unfouled-last : all_foul rule (after b p) ≡ false → false ≡ is_last_move rule b p
   unfolding is_last_move
-  unfouled-last h = sym (ap (λ r. is_threat_move rule b p && r) h ∙ with_no (is_threat_move rule b p))
+  unfouled-last h = sym (ap (λ r. is_threat_move rule b p && r) h ∙ and-false (is_threat_move rule b p))
 
   pub stopped-last : goes_on (outcome rule b p) ≡ false → false ≡ is_last_move rule b p
   unfolding is_last_move is_threat_move
@@ -186,13 +166,6 @@ module _ (rule : RuleKind) (b : Grid) (p : Point) where
     by_outcome (Fouls g) r f h = refl
     by_outcome Draws r f h = refl
     by_outcome GoesOn r f h = cc
-
-pub goes_on-is : (o : Outcome) → goes_on o ≡ true → o ≡ GoesOn
-goes_on-is Refused h = cc
-goes_on-is Wins h = cc
-goes_on-is (Fouls f) h = cc
-goes_on-is Draws h = cc
-goes_on-is GoesOn h = refl
 
 -- ---- which five points of the other side a move takes
 
@@ -245,10 +218,6 @@ module _ (rule : RuleKind) (b : Grid) (p : Point) where
   and_never true c = refl
   and_never false c = refl
 
-  and_none : (a : Bool) → (a && false) ≡ false
-  and_none true = refl
-  and_none false = refl
-
   -- a move that leaves the other side a five point need not be tried
   pub unsafe-passed : IsPosition rule b → (is_empty b p ≡ true → has_five rule (after b p) (other (mover b)) ≡ true) → IsAttempt rule b p Passed
   unfolding is_tried is_settled_move
@@ -276,7 +245,7 @@ module _ (rule : RuleKind) (b : Grid) (p : Point) where
     unfolding is_tried is_settled_move
     saved-passed best =
         let told = best-saves rule (after b p) best in (
-          ap (λ r. is_threat_move rule b p && not (has_five rule (after b p) (other (mover b))) && r) told.0 ∙ and_none (is_threat_move rule b p && not (has_five rule (after b p) (other (mover b)))),
+          ap (λ r. is_threat_move rule b p && not (has_five rule (after b p) (other (mover b))) && r) told.0 ∙ and-false (is_threat_move rule b p && not (has_five rule (after b p) (other (mover b)))),
           ap (λ r. not (is_threat_move rule b p) || is_tried rule b p || r) told.1 ∙ or_last (not (is_threat_move rule b p)) (is_tried rule b p),
         )
 

@@ -7,16 +7,17 @@ use Rattle.std.proofs.lemmas.List.FromFn.{length-map-range_with_len}
 use Rattle.std.proofs.lemmas.List.{map-append}
 use Rattle.std.proofs.lemmas.Nat.{mul-le}
 use Rattle.game_rules.specs.Grid.{Grid, IsBoard, points_of, row_from}
-use Rattle.game_rules.specs.Play.{IsPosition, outcome, after}
+use Rattle.game_rules.specs.Play.{IsPosition, outcome, after, goes_on}
 use Rattle.game_rules.specs.Games.{WinsByThreats}
 use Rattle.game_rules.specs.declared.RuleKind.{RuleKind}
 use Rattle.game_rules.specs.declared.Outcome.TheVariants.{GoesOn}
 use Rattle.game_rules.specs.declared.Point.{Point}
+use Rattle.game_rules.proofs.Places.{points_few}
 use Rattle.proof_number.specs.declared.replies.Child.{Child}
 use Rattle.proof_number.specs.declared.replies.Children.{Children}
 use Rattle.proof_number.specs.declared.replies.Judged.{Judged}
 use Rattle.proof_number.specs.declared.replies.Judged.TheVariants.{Five, Double as DoubleWins, Last, Open}
-use Rattle.proof_number.specs.Attacks.{goes_on, has_reply}
+use Rattle.proof_number.specs.Attacks.{has_reply}
 use Rattle.proof_number.specs.Replies.{IsJudged, IsChild, EscapesBy, HasEscape, AreChildren, moves_for, one_if, has_reply_at, has_reply_beside, counted_for, replies_at}
 use Rattle.proof_number.proofs.TreeLaws.{children-few}
 
@@ -35,26 +36,6 @@ counted-three rule b (DoubleWins d nodes) h =
     omega (arith, are, first, second)
 counted-three rule b (Last p) h = omega arith
 counted-three rule b Open h = omega arith
-
--- ---- the points of a board
-
-length-points : (b : Grid) → length (points_of b) ≡ b.height * b.width
-length-points b = rows 0 b.height where
-  rows : (y n : ℕ) → length (flat_map (λ z. row_from z 0 b.width) (range_with_len y n)) ≡ n * b.width
-  rows y zero = omega arith
-  rows y (suc n) =
-      let e = length-append (row_from y 0 b.width) (flat_map (λ z. row_from z 0 b.width) (range_with_len (y + 1) n)) in
-      let row : length (row_from y 0 b.width) ≡ b.width = length-map-range_with_len (λ x. let p : Point = record { x = x; y = y } in p) 0 b.width in
-      let rest = rows (y + 1) n in
-      let m : suc n * b.width ≡ b.width + n * b.width = omega arith in
-      omega (arith, e, row, rest, m)
-
--- a board has 1,024 points at most
-pub few-points : (b : Grid) → IsBoard b → length (points_of b) ≤ 1024
-few-points b ok =
-    let e = length-points b in
-    let most : b.height * b.width ≤ 32 * 32 = mul-le b.height b.width 32 32 ok.height_fits ok.width_fits in
-    omega (arith, e, most)
 
 -- ---- the children so far
 
@@ -135,7 +116,7 @@ pub room-is : (rule : RuleKind) (moves : ℕ) (c : Grid) (all : List Child) (cou
 room-is rule moves c all count left ok so_far =
     let short = so_far.short in
     let low = so_far.low in
-    let few = few-points c ok in
+    let few = points_few c ok in
     omega (arith, short, low, few)
 
 -- one more child

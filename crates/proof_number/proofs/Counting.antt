@@ -2,32 +2,22 @@
 use Rattle.std.proofs.Common.{◌≡◌, ℕ, zero, suc, ◌+◌, ◌<◌, ◌≤◌, Bool, true, false, cond, ◌&&◌, ◌||◌, not, refl, ap, arith, List, [], ◌∷◌, length, get_or}
 use Rattle.std.specs.List.{list_any, list_all, filter, sum_by}
 use Rattle.std.proofs.lemmas.List.Sums.{sum_by-cons}
+use Rattle.std.proofs.lemmas.Bool.{and_parts, not-true}
 use Rattle.game_rules.specs.Grid.{Grid, points_of}
-use Rattle.game_rules.specs.Play.{outcome, mover, other, after}
+use Rattle.game_rules.specs.Play.{outcome, mover, other, after, goes_on_with, goes_on}
 use Rattle.game_rules.specs.Games.{has_five, has_threat, if_goes_on}
 use Rattle.game_rules.specs.declared.RuleKind.{RuleKind}
 use Rattle.game_rules.specs.declared.Outcome.{Outcome}
 use Rattle.game_rules.specs.declared.Outcome.TheVariants.{Refused, Wins, Fouls, Draws, GoesOn}
 use Rattle.game_rules.specs.declared.Point.{Point}
 use Rattle.game_rules.proofs.Points.{filter-passes}
-use Rattle.threat_moves.specs.FourMoves.{goes_on_with}
+use Rattle.game_rules.proofs.Outcomes.{if_goes_on-one, goes_on_with-parts}
 use Rattle.proof_number.specs.ThreatGame.{behind_replies, is_safe_threat, is_threat_move, threat_tree}
-use Rattle.proof_number.specs.Attacks.{goes_on, has_reply, is_tried, tried_moves}
+use Rattle.proof_number.specs.Attacks.{has_reply, is_tried, tried_moves}
 use Rattle.proof_number.specs.GameTrees.{nowhere, move_at}
 use Rattle.proof_number.proofs.TreeLaws.{tree-positive}
 
-and_both : (a b : Bool) → (a && b) ≡ true → (a ≡ true) × (b ≡ true)
-and_both true b h = (refl, h)
-and_both false b h = cc
-
 -- ---- a move that has to be tried
-
-on-by : (o : Outcome) (t : Bool) → goes_on_with o t ≡ true → (o ≡ GoesOn) × (t ≡ true)
-on-by Refused t h = cc
-on-by Wins t h = cc
-on-by (Fouls f) t h = cc
-on-by Draws t h = cc
-on-by GoesOn t h = (refl, h)
 
 -- what a move that has to be tried is
 pub record IsTriedMove (rule : RuleKind) (b : Grid) (p : Point) : Type 0 where
@@ -37,22 +27,18 @@ pub record IsTriedMove (rule : RuleKind) (b : Grid) (p : Point) : Type 0 where
   pub reply : has_reply rule (after b p) ≡ true
   pub is_safe : is_safe_threat rule b p ≡ true
 
-not-true : (r : Bool) → not r ≡ true → r ≡ false
-not-true true h = cc
-not-true false h = refl
-
 pub tried-is : (rule : RuleKind) (b : Grid) (p : Point) → is_tried rule b p ≡ true → IsTriedMove rule b p
 unfolding is_tried is_threat_move
 tried-is rule b p h =
-    let parts = and_both (is_safe_threat rule b p) (has_reply rule (after b p)) h in
-    let more = and_both (is_threat_move rule b p) (not (has_five rule (after b p) (other (mover b)))) parts.0 in
-    let moves = on-by (outcome rule b p) (has_threat rule (after b p) (mover b)) more.0 in
+    let parts = and_parts (is_safe_threat rule b p) (has_reply rule (after b p)) h in
+    let more = and_parts (is_threat_move rule b p) (not (has_five rule (after b p) (other (mover b)))) parts.0 in
+    let moves = goes_on_with-parts (outcome rule b p) (has_threat rule (after b p) (mover b)) more.0 in
     record { on = moves.0; threat = moves.1; safe = not-true (has_five rule (after b p) (other (mover b))) more.1; reply = parts.1; is_safe = parts.0 }
 
 passes-at : (f : Point → Bool) (ps : List Point) → list_all f ps ≡ true → (k : ℕ) → k < length ps → f (get_or ps k nowhere) ≡ true
 passes-at f [] h k low = absurd (omega arith)
-passes-at f (p ∷ ps) h zero low = (and_both (f p) (list_all f ps) h).0
-passes-at f (p ∷ ps) h (suc k) low = passes-at f ps (and_both (f p) (list_all f ps) h).1 k (omega arith)
+passes-at f (p ∷ ps) h zero low = (and_parts (f p) (list_all f ps) h).0
+passes-at f (p ∷ ps) h (suc k) low = passes-at f ps (and_parts (f p) (list_all f ps) h).1 k (omega arith)
 
 pub tried-at : (rule : RuleKind) (b : Grid) (k : ℕ) → k < length (tried_moves rule b) → IsTriedMove rule b (move_at (tried_moves rule b) k)
 tried-at rule b k low = tried-is rule b (move_at (tried_moves rule b) k) (passes-at (is_tried rule b) (tried_moves rule b) (filter-passes (is_tried rule b) (points_of b)) k low)
@@ -82,14 +68,6 @@ tried-behind rule n b none =
 
 -- ---- replies
 
--- where a reply goes on, the game has a position behind the replies
-counts-one : (o : Outcome) (k : ℕ) → 1 ≤ k → goes_on o ≡ true → 1 ≤ if_goes_on o k
-counts-one Refused k l h = cc
-counts-one Wins k l h = cc
-counts-one (Fouls f) k l h = cc
-counts-one Draws k l h = cc
-counts-one GoesOn k l h = l
-
 some-counts : (f : Point → Bool) (h : Point → ℕ) → ((p : Point) → f p ≡ true → 1 ≤ h p) → (ps : List Point) → list_any f ps ≡ true → 1 ≤ sum_by h ps
 some-counts f h one [] e = cc
 some-counts f h one (p ∷ ps) e = by_test (f p) refl e (some-counts f h one ps) where
@@ -99,4 +77,4 @@ some-counts f h one (p ∷ ps) e = by_test (f p) refl e (some-counts f h one ps)
 
 pub replies-positive : (rule : RuleKind) (n : ℕ) (c : Grid) → has_reply rule c ≡ true → 1 ≤ behind_replies rule (threat_tree rule n) c
 replies-positive rule n c some =
-    some-counts (λ q. goes_on (outcome rule c q)) (λ q. if_goes_on (outcome rule c q) (threat_tree rule n (after c q))) (λ q h. counts-one (outcome rule c q) (threat_tree rule n (after c q)) (tree-positive rule n (after c q)) h) (points_of c) some
+    some-counts (λ q. goes_on (outcome rule c q)) (λ q. if_goes_on (outcome rule c q) (threat_tree rule n (after c q))) (λ q h. if_goes_on-one (outcome rule c q) (threat_tree rule n (after c q)) (tree-positive rule n (after c q)) h) (points_of c) some

@@ -9,7 +9,7 @@ use Rattle.std.proofs.lemmas.List.Sums.{sum_by-cons, sum_by-le}
 use Rattle.std.proofs.lemmas.List.Filters.{length-filter_both}
 use Rattle.game_rules.specs.Grid.{Grid, is_empty, points_of}
 use Rattle.game_rules.specs.Shapes.{five}
-use Rattle.game_rules.specs.Play.{IsPosition, foul_of, mover, outcome, outcome_by, after}
+use Rattle.game_rules.specs.Play.{IsPosition, foul_of, mover, outcome, outcome_by, after, goes_on}
 use Rattle.game_rules.specs.Games.{LosesOr, WinsByThreats, has_five, if_goes_on}
 use Rattle.game_rules.specs.declared.RuleKind.{RuleKind}
 use Rattle.game_rules.specs.declared.Foul.{Foul}
@@ -18,6 +18,8 @@ use Rattle.game_rules.specs.declared.Outcome.TheVariants.{Refused, Wins, Fouls, 
 use Rattle.game_rules.specs.declared.Point.{Point}
 use Rattle.game_rules.proofs.Points.{any_witness}
 use Rattle.game_rules.proofs.Positions.{IsPosition-after}
+use Rattle.game_rules.proofs.Outcomes.{goes_on-is}
+use Rattle.game_rules.proofs.Places.{points_few}
 use Rattle.strategy_graph.specs.declared.Node.{Node}
 use Rattle.strategy_graph.specs.declared.TheConstants.{MAX_NODES}
 use Rattle.strategy_graph.proofs.Filling.{IsTable-lower}
@@ -28,7 +30,7 @@ use Rattle.proof_tree.specs.declared.Kind.{Kind}
 use Rattle.proof_tree.specs.declared.Kind.TheVariants.{Attack, Defend}
 use Rattle.proof_tree.specs.declared.Numbers.{Numbers}
 use Rattle.proof_number.specs.ThreatGame.{behind_replies, threat_tree}
-use Rattle.proof_number.specs.Attacks.{goes_on, has_reply}
+use Rattle.proof_number.specs.Attacks.{has_reply}
 use Rattle.proof_number.specs.declared.notes.Note.{Note}
 use Rattle.proof_number.specs.declared.replies.Child.{Child}
 use Rattle.proof_number.specs.declared.replies.Children.{Children}
@@ -42,7 +44,7 @@ use Rattle.proof_number.specs.Replies.{AreChildren, HasEscape, IsChild, IsJudged
 use Rattle.proof_number.specs.GameTrees.{AreAllReplies, CanGrow, GameTree, HasTried, TellsTruly, WinsAt, board_at, left_at}
 use Rattle.proof_number.specs.Remembered.{IsTrueTable}
 use Rattle.proof_number.specs.Searches.{Grows, HasGrown, HasSpent, IsAtLeaf, IsExpandedAt, IsNotedWin, IsSettledAt, StandsAt, attacks_behind, behind_at, defences_behind, game_of, sum_below}
-use Rattle.proof_number.proofs.ChildLaws.{counted-three, few-points}
+use Rattle.proof_number.proofs.ChildLaws.{counted-three}
 use Rattle.proof_number.proofs.Expanded.{IsNewNote, expanded-grown, new_behind, unwritten_child}
 use Rattle.proof_number.proofs.Expanding.{IsNewChild}
 use Rattle.proof_number.proofs.Growing.{lost-grown}
@@ -55,13 +57,6 @@ use Rattle.proof_number.proofs.Trying.{escape-saves, win-has_five}
 use Rattle.proof_number.proofs.Widening.{IsFresh, fresh-sum, sum-nothing}
 
 -- ---- where a reply goes on, none fills the board
-
-on-goes : (o : Outcome) → goes_on o ≡ true → o ≡ GoesOn
-on-goes Refused h = cc
-on-goes Wins h = cc
-on-goes (Fouls f) h = cc
-on-goes Draws h = cc
-on-goes GoesOn h = refl
 
 not-last : (e w l : Bool) (f : Option Foul) → outcome_by e w f l ≡ GoesOn → l ≡ false
 not-last e w false f h = refl
@@ -86,7 +81,7 @@ pub none-saves : (rule : RuleKind) (b : Grid) → has_five rule b (mover b) ≡ 
 unfolding outcome
 none-saves rule b none reply q =
     let going = any_witness (λ p. goes_on (outcome rule b p)) (points_of b) reply in
-    let more = not-last (is_empty b going.0) (five rule b (mover b) going.0) _ (foul_of rule b (mover b) going.0) (on-goes (outcome rule b going.0) going.1) in
+    let more = not-last (is_empty b going.0) (five rule b (mover b) going.0) _ (foul_of rule b (mover b) going.0) (goes_on-is (outcome rule b going.0) going.1) in
     none-draws (is_empty b q) (five rule b (mover b) q) _ (foul_of rule b (mover b) q) more (λ wins. let has = win-has_five rule b q wins in let bad : true ≡ false = sym has ∙ none in cc)
 
 -- ---- what is counted for the children
@@ -330,7 +325,7 @@ module _ (rule : RuleKind) (s : Search) (t : Tree) (c : List Node) (leaf : ℕ) 
         let points = ap length are.points in
         let size = length-map children.all.items (λ (x : Child). x.at) in
         let both = length-filter_both (λ (q : Point). goes_on (outcome rule view q)) (λ (q : Point). not (goes_on (outcome rule view q))) (λ q. refl) (points_of view) in
-        let most = few-points view view_board.board in
+        let most = points_few view view_board.board in
         omega (arith, sum, is, points, size, both, most)
 
     -- where the compiler is full, more positions are counted than it has room for

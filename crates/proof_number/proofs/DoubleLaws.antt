@@ -3,7 +3,7 @@ use Rattle.std.proofs.Common.{◌≡◌, ℕ, ◌≤◌, Bool, true, false, cond
 use Rattle.std.specs.List.{list_any, list_all, filter}
 use Rattle.game_rules.specs.Grid.{Grid, is_empty, put, points_of}
 use Rattle.game_rules.specs.Shapes.{five, is_same_point}
-use Rattle.game_rules.specs.Play.{IsPosition, outcome, mover, other, after}
+use Rattle.game_rules.specs.Play.{IsPosition, outcome, mover, other, after, goes_on_with}
 use Rattle.game_rules.specs.Games.{has_five, five_points, starts_win, wins_by_fours, wins_under, WinsByFours, WinsByThreats, LosesOr, loses_or, wins_or}
 use Rattle.game_rules.specs.declared.RuleKind.{RuleKind}
 use Rattle.game_rules.specs.declared.Side.{Side}
@@ -12,10 +12,10 @@ use Rattle.game_rules.specs.declared.Point.{Point}
 use Rattle.game_rules.proofs.Boards.{and_left, and_right, is_empty-on, other-other}
 use Rattle.game_rules.proofs.Positions.{GoesOn-on, mover-then}
 use Rattle.game_rules.proofs.Points.{points-found, filter-passes, is_same_point-itself, is_same_point-same, apart-is_same_point}
-use Rattle.game_rules.proofs.Distinct.{two_passing-apart}
+use Rattle.game_rules.proofs.Places.{two_passing-apart}
 use Rattle.game_rules.proofs.Fives.{five-empty}
 use Rattle.game_rules.proofs.Games.{WinsUnder-more, WinsByFours-WinsByThreats, test-WinsUnder, each_reply}
-use Rattle.threat_moves.specs.FourMoves.{goes_on_with, is_four_move}
+use Rattle.threat_moves.specs.FourMoves.{is_four_move}
 use Rattle.threat_moves.specs.declared.block.BlockAnswer.TheVariants.{Lost, Won}
 use Rattle.threat_moves.specs.Blocks.{by_fives, fate}
 use Rattle.threat_moves.specs.OneBlock.{block_wins}

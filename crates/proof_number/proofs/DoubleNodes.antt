@@ -6,7 +6,7 @@ use Rattle.std.specs.Option.{option_eq, option_and_then}
 use Rattle.std.proofs.lemmas.List.Elements.{All-from_recursion}
 use Rattle.game_rules.specs.Grid.{Grid, is_on, points_of}
 use Rattle.game_rules.specs.Shapes.{five, is_same_point}
-use Rattle.game_rules.specs.Play.{IsPosition, outcome, mover, other, after}
+use Rattle.game_rules.specs.Play.{IsPosition, outcome, mover, other, after, goes_on}
 use Rattle.game_rules.specs.Games.{LosesOr, WinsByFours}
 use Rattle.game_rules.specs.declared.RuleKind.{RuleKind}
 use Rattle.game_rules.specs.declared.Side.{Side}
@@ -15,6 +15,7 @@ use Rattle.game_rules.specs.declared.Outcome.TheVariants.{Refused, Wins as WinsN
 use Rattle.game_rules.specs.declared.Point.{Point}
 use Rattle.game_rules.proofs.Positions.{GoesOn-on, IsPosition-after}
 use Rattle.game_rules.proofs.Points.{points-found, any_witness, is_same_point-itself, is_same_point-same}
+use Rattle.game_rules.proofs.Outcomes.{goes_on-is}
 use Rattle.strategy_graph.specs.declared.Node.{Node}
 use Rattle.strategy_graph.specs.declared.Reply.{Reply}
 use Rattle.strategy_graph.specs.Tables.{answers_of, answer, answer_at, is_winning, IsTable, RepliesOn, depth, node_depth, named, greatest, rest_nodes}
@@ -26,10 +27,9 @@ use Rattle.strategy_graph.proofs.Steps.{accepted-by-replies}
 use Rattle.strategy_compiler.specs.Nodes.{PutsIn, winning_node, answering_node, answers_beside, brief_answers, commonest_next, rest_of}
 use Rattle.strategy_compiler.specs.Wins.{StaysOnBoard}
 use Rattle.proof_number.specs.declared.doubles.Double.{Double}
-use Rattle.proof_number.specs.Attacks.{goes_on, IsDoubleWin}
+use Rattle.proof_number.specs.Attacks.{IsDoubleWin}
 use Rattle.proof_number.specs.Replies.{answer_by, node_for, double_answers, has_reply_at, has_reply_beside}
 use Rattle.proof_number.specs.Answers.{IsThreatWin}
-use Rattle.proof_number.proofs.AttackLaws.{goes_on-is}
 use Rattle.proof_number.proofs.ReplyLaws.{beside-five}
 use Rattle.proof_number.proofs.DoubleLaws.{back_turn, double-lost, double-threats}
 use Rattle.proof_number.specs.Growth.{GrowsBy}

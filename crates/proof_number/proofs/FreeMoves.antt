@@ -4,7 +4,7 @@ use Rattle.std.specs.Prelude.{Option, None}
 use Rattle.std.proofs.lemmas.Bool.Decides.{nat_tests}
 use Rattle.game_rules.specs.Grid.{Grid, is_empty, empties_of, points_of}
 use Rattle.game_rules.specs.Shapes.{five, is_same_point}
-use Rattle.game_rules.specs.Play.{IsPosition, outcome, outcome_by, mover, after, has_fouls, foul_of, black_foul}
+use Rattle.game_rules.specs.Play.{IsPosition, outcome, outcome_by, mover, after, has_fouls, foul_of, black_foul, goes_on}
 use Rattle.game_rules.specs.Games.{has_five}
 use Rattle.game_rules.specs.declared.RuleKind.{RuleKind}
 use Rattle.game_rules.specs.declared.Side.{Side}
@@ -13,12 +13,12 @@ use Rattle.game_rules.specs.declared.Point.{Point}
 use Rattle.game_rules.proofs.Boards.{and_left, and_right}
 use Rattle.game_rules.proofs.Positions.{GoesOn-on, mover-then}
 use Rattle.game_rules.proofs.Points.{points-found, any_witness, taken_refused, is_same_point-itself, is_same_point-same}
+use Rattle.game_rules.proofs.Outcomes.{goes_on-is}
 use Rattle.threat_moves.proofs.OffLines.{no_five}
 use Rattle.proof_number.specs.declared.doubles.Double.{Double}
-use Rattle.proof_number.specs.Attacks.{goes_on, IsDoubleWin}
+use Rattle.proof_number.specs.Attacks.{IsDoubleWin}
 use Rattle.proof_number.specs.Replies.{has_reply_at}
 use Rattle.proof_number.specs.FreeMoves.{EachGoesOn}
-use Rattle.proof_number.proofs.AttackLaws.{goes_on-is}
 use Rattle.proof_number.proofs.TreeLaws.{still-safe}
 
 not_one : (n : ℕ) → 2 ≤ n → nat_eq n 1 ≡ false

@@ -3,13 +3,13 @@
 use Rattle.std.proofs.Common.{◌≡◌, ◌⊎◌, inl, inr, ℕ, zero, suc, ◌+◌, ◌-◌, ◌<◌, ◌≤◌, Bool, true, false, cond, ◌&&◌, ◌||◌, refl, sym, ap, subst, ◌∙◌, arith, List, [], ◌∷◌, map, length, take, drop, get_or, nat_eq, Contains}
 use Rattle.std.specs.Prelude.{IsTrue}
 use Rattle.std.specs.List.{list_any, filter}
-use Rattle.std.proofs.lemmas.Bool.{cases_eq}
+use Rattle.std.proofs.lemmas.Bool.{cases_eq, and_parts, or_cases}
 use Rattle.std.proofs.lemmas.Bool.Decides.{Decides-eqb}
 use Rattle.std.proofs.lemmas.List.{get_or-take, get_or-drop, get_or_default, length-take, length-drop}
 use Rattle.std.proofs.lemmas.List.Elements.{Contains-get_or}
 use Rattle.game_rules.specs.Grid.{Grid, points_of}
 use Rattle.game_rules.specs.Shapes.{is_same_point}
-use Rattle.game_rules.specs.Play.{outcome, mover, after}
+use Rattle.game_rules.specs.Play.{outcome, mover, after, goes_on}
 use Rattle.game_rules.specs.Games.{WinsOr, LosesOr, WinsByThreats, has_threat}
 use Rattle.game_rules.specs.declared.RuleKind.{RuleKind}
 use Rattle.game_rules.specs.declared.Outcome.{Outcome}
@@ -17,6 +17,8 @@ use Rattle.game_rules.specs.declared.Outcome.TheVariants.{Refused, Wins, Fouls, 
 use Rattle.game_rules.specs.declared.Point.{Point}
 use Rattle.game_rules.proofs.Positions.{GoesOn-on}
 use Rattle.game_rules.proofs.Points.{points-found, is_same_point-itself, is_same_point-same}
+use Rattle.game_rules.proofs.Outcomes.{LosesOr-on}
+use Rattle.game_rules.proofs.Places.{points_passing}
 use Rattle.proof_tree.specs.Combining.{AreNumbers, combined, is_settled, least, no_numbers, other_kind, plus, settled_numbers, total}
 use Rattle.proof_tree.specs.Trees.{IsChild, IsTree, children_of, link_at, numbers_at}
 use Rattle.proof_tree.specs.declared.TheConstants.{INFINITE}
@@ -25,7 +27,6 @@ use Rattle.proof_tree.specs.declared.Kind.TheVariants.{Attack, Defend}
 use Rattle.proof_tree.specs.declared.Link.{Link}
 use Rattle.proof_tree.specs.declared.Numbers.{Numbers}
 use Rattle.proof_number.specs.GameTrees.{GameTree, IsGameTree, HasTried, AreTried, LosesToThreats, TellsTruly, WinsAt, board_at, left_at, left_before, move_at, moves_of, nowhere}
-use Rattle.proof_number.specs.Attacks.{goes_on}
 use Rattle.proof_number.specs.Replies.{replies_at}
 use Rattle.proof_number.proofs.GameBoards.{board-step}
 
@@ -54,24 +55,16 @@ total-zero f [] e k inside = absurd (omega arith)
 total-zero f (n ∷ ns) e zero inside = (plus-zero (f n) (total (map f ns)) e).0
 total-zero f (n ∷ ns) e (suc k) inside = total-zero f ns (plus-zero (f n) (total (map f ns)) e).1 k (omega arith)
 
-and_both : (a b : Bool) → (a && b) ≡ true → (a ≡ true) × (b ≡ true)
-and_both true b h = (refl, h)
-and_both false b h = cc
-
-either : (a b : Bool) → (a || b) ≡ true → (a ≡ true) ⊎ (b ≡ true)
-either true b h = inl refl
-either false b h = inr h
-
 -- settled numbers are one pair or the other
 pub settled-one : (n : Numbers) → is_settled n ≡ true → (n ≡ settled_numbers true) ⊎ (n ≡ settled_numbers false)
-settled-one n s = elim (either (nat_eq n.proof 0 && nat_eq n.disproof INFINITE) (nat_eq n.proof INFINITE && nat_eq n.disproof 0) s) [
+settled-one n s = elim (or_cases (nat_eq n.proof 0 && nat_eq n.disproof INFINITE) (nat_eq n.proof INFINITE && nat_eq n.disproof 0) s) [
   | inl h ↦
-      let p : n.proof ≡ 0 = (Decides-eqb n.proof 0).0 (and_both (nat_eq n.proof 0) (nat_eq n.disproof INFINITE) h).0 in
-      let d : n.disproof ≡ INFINITE = (Decides-eqb n.disproof INFINITE).0 (and_both (nat_eq n.proof 0) (nat_eq n.disproof INFINITE) h).1 in
+      let p : n.proof ≡ 0 = (Decides-eqb n.proof 0).0 (and_parts (nat_eq n.proof 0) (nat_eq n.disproof INFINITE) h).0 in
+      let d : n.disproof ≡ INFINITE = (Decides-eqb n.disproof INFINITE).0 (and_parts (nat_eq n.proof 0) (nat_eq n.disproof INFINITE) h).1 in
       inl (λ i. record { proof = p i; disproof = d i })
   | inr h ↦
-      let p : n.proof ≡ INFINITE = (Decides-eqb n.proof INFINITE).0 (and_both (nat_eq n.proof INFINITE) (nat_eq n.disproof 0) h).0 in
-      let d : n.disproof ≡ 0 = (Decides-eqb n.disproof 0).0 (and_both (nat_eq n.proof INFINITE) (nat_eq n.disproof 0) h).1 in
+      let p : n.proof ≡ INFINITE = (Decides-eqb n.proof INFINITE).0 (and_parts (nat_eq n.proof INFINITE) (nat_eq n.disproof 0) h).0 in
+      let d : n.disproof ≡ 0 = (Decides-eqb n.disproof 0).0 (and_parts (nat_eq n.proof INFINITE) (nat_eq n.disproof 0) h).1 in
       inr (λ i. record { proof = p i; disproof = d i })
 ]
 
@@ -119,23 +112,8 @@ move-child l moves p fits (k, inside, at) =
 pub child-numbers : (l : Link) (numbers : List Numbers) (k : ℕ) → k < l.count → get_or (children_of l numbers) k no_numbers ≡ numbers_at numbers (l.first + k)
 child-numbers l numbers k low = get_or-take l.count (drop l.first numbers) k no_numbers low ∙ get_or-drop l.first numbers k no_numbers
 
--- a reply that goes on is listed
-passing-listed : (f : Point → Bool) (q : Point) (ps : List Point) → list_any (λ x. f x && is_same_point x q) ps ≡ true → Contains (filter f ps) q
-passing-listed f q [] h = cc
-passing-listed f q (p ∷ ps) h = by_tests (f p) (is_same_point p q) refl h (passing-listed f q ps) where
-  deeper : (x : Point) (xs : List Point) → Contains xs q → Contains (x ∷ xs) q
-  deeper x xs (k, inside, at) = (suc k, omega (arith, inside), at)
-
-  by_tests : (r s : Bool) → is_same_point p q ≡ s → ((r && s) || list_any (λ x. f x && is_same_point x q) ps) ≡ true → (list_any (λ x. f x && is_same_point x q) ps ≡ true → Contains (filter f ps) q) → Contains (cond r (p ∷ filter f ps) (filter f ps)) q
-  by_tests true true same h later = (0, omega arith, is_same_point-same p q same)
-  by_tests true false same h later = deeper p (filter f ps) (later h)
-  by_tests false s same h later = later h
-
 pub reply-listed : (rule : RuleKind) (c : Grid) (q : Point) → outcome rule c q ≡ GoesOn → Contains (replies_at rule c) q
-reply-listed rule c q on =
-    passing-listed (λ x. goes_on (outcome rule c x)) q (points_of c)
-    (points-found c (λ x. goes_on (outcome rule c x) && is_same_point x q) q (GoesOn-on rule c q on)
-    (ap (λ o. goes_on o && is_same_point q q) on ∙ is_same_point-itself q))
+reply-listed rule c q on = points_passing c (λ x. goes_on (outcome rule c x)) q (GoesOn-on rule c q on) (ap goes_on on)
 
 -- ---- the tree
 
@@ -155,13 +133,6 @@ tried-attack rule (suc n) b ms h = (n, refl, h)
 by_move : (rule : RuleKind) (n : ℕ) (b : Grid) (p : Point) → outcome rule b p ≡ GoesOn → has_threat rule (after b p) (mover b) ≡ true → LosesToThreats rule n (after b p) → WinsByThreats rule (suc n) b
 by_move rule n b p on threat loses =
     (p, subst (λ (o : Outcome). WinsOr o (IsTrue (has_threat rule (after b p) (mover b)) × LosesToThreats rule n (after b p))) (sym on) (threat, loses))
-
-loses-on : (o : Outcome) (V W : Type 0) → LosesOr o V → (o ≡ GoesOn → W) → LosesOr o W
-loses-on Refused V W h f = tt
-loses-on Wins V W h f = h
-loses-on (Fouls x) V W h f = tt
-loses-on Draws V W h f = h
-loses-on GoesOn V W h f = f refl
 
 module _ (g : GameTree) (ok : IsTree g.tree) (game : IsGameTree g) where
   pub child-of : (i j : ℕ) → i < length g.tree.links → IsChild (link_at g.tree.links i) j → IsChildOf g i j
@@ -261,7 +232,7 @@ module _ (g : GameTree) (ok : IsTree g.tree) (game : IsGameTree g) where
 
     -- the attacker wins at a defender's node where it wins at each child
     defend-by : (link_at g.tree.links i).kind ≡ Defend → Own Defend → ((j : ℕ) → IsChild (link_at g.tree.links i) j → WinsAt (link_at g.tree.links j).kind g.rule (left_at g.left j) (board_at g j)) → LosesToThreats g.rule (left_at g.left i) (board_at g i)
-    defend-by kind own wins q = loses-on (outcome g.rule (board_at g i) q) (Unit {0}) (WinsByThreats g.rule (left_at g.left i) (after (board_at g i) q)) (own.none_saves q) (λ on.
+    defend-by kind own wins q = LosesOr-on (outcome g.rule (board_at g i) q) (Unit {0}) (WinsByThreats g.rule (left_at g.left i) (after (board_at g i) q)) (own.none_saves q) (λ on.
         let listed : Contains (moves_of (link_at g.tree.links i) g.moves) q = subst (λ (ms : List Point). Contains ms q) (sym own.all) (reply-listed g.rule (board_at g i) q on) in
         let child = move-child (link_at g.tree.links i) g.moves q (fits i inside) listed in
         let c = child-of i child.0 inside child.1 in

@@ -17,6 +17,7 @@ use Rattle.game_rules.proofs.Positions.{GoesOn-on, mover-then}
 use Rattle.game_rules.proofs.Points.{points-found, any_witness, all_of, all_at}
 use Rattle.game_rules.proofs.Fives.{five-empty}
 use Rattle.game_rules.proofs.Games.{LosesOr-loses_or, each_reply}
+use Rattle.game_rules.proofs.Outcomes.{reply-stays, no_fouls-none}
 use Rattle.threat_moves.specs.Threats.{is_gain}
 use Rattle.threat_moves.specs.OneBlock.{all_foul}
 use Rattle.threat_moves.proofs.BlockLaw.{no-reply-wins}
@@ -58,22 +59,6 @@ threat-empty rule c s h = by_test (has_five rule c s) refl h where
   by_test : (r : Bool) → has_five rule c s ≡ r → (r || list_any (is_double_point rule c s) (points_of c)) ≡ true → (w : Point) × (is_empty c w ≡ true)
   by_test true e k = let found = any_witness (five rule c s) (points_of c) e in (found.0, five-empty rule c s found.0 found.1)
   by_test false e k = let found = any_witness (is_double_point rule c s) (points_of c) k in (found.0, double-empty rule c s found.0 found.1)
-
-no_foul : (rule : RuleKind) (c : Grid) (s : Side) (w : Point) → has_fouls rule s ≡ false → foul_of rule c s w ≡ None
-no_foul rule c s w h = ap (λ r. cond r (black_foul rule c w) None) h
-
-stays_by : (f l : Bool) → loses_or (outcome_by true f None l) false ≡ false
-stays_by true l = refl
-stays_by false true = refl
-stays_by false false = refl
-
--- without fouls a reply on an empty point does not lose at once
-reply-stays : (rule : RuleKind) (c : Grid) (w : Point) → is_empty c w ≡ true → has_fouls rule (mover c) ≡ false → loses_or (outcome rule c w) false ≡ false
-unfolding outcome
-reply-stays rule c w empty h =
-    ap (λ (o : Option Foul). loses_or (outcome_by (is_empty c w) (five rule c (mover c) w) o (nat_eq (empties_of c) 1)) false) (no_foul rule c (mover c) w h)
-    ∙ ap (λ e. loses_or (outcome_by e (five rule c (mover c) w) None (nat_eq (empties_of c) 1)) false) empty
-    ∙ stays_by (five rule c (mover c) w) (nat_eq (empties_of c) 1)
 
 module _ (rule : RuleKind) (b : Grid) (lawful : IsPosition rule b) (none : has_five rule b (mover b) ≡ false) where
   one-last : WinsByThreats rule 1 b → (p : Point) × (is_last_move rule b p ≡ true)

@@ -4,7 +4,7 @@ use Rattle.std.proofs.Common.{◌≡◌, Bool, true, false, ◌&&◌, ◌||◌, 
 use Rattle.std.proofs.lemmas.Bool.{false_from_ne_true}
 use Rattle.std.proofs.lemmas.Bool.Decides.{nat_tests}
 use Rattle.game_rules.specs.Grid.{Grid, IsBoard, is_empty, put}
-use Rattle.game_rules.specs.Play.{outcome, mover, after}
+use Rattle.game_rules.specs.Play.{outcome, mover, after, goes_on_with, goes_on}
 use Rattle.game_rules.specs.Games.{is_double_point, has_five, has_threat, five_points}
 use Rattle.game_rules.specs.declared.RuleKind.{RuleKind}
 use Rattle.game_rules.specs.declared.Side.{Side}
@@ -17,13 +17,11 @@ use Rattle.row_shapes.specs.FivePoints.{in_short}
 use Rattle.row_shapes.specs.declared.fives.FivePoints.{FivePoints}
 use Rattle.row_shapes.specs.declared.fives.FivePoints.TheVariants.{None as NoPoint, One, Several}
 use Rattle.row_shapes.proofs.FiveLaws.{has_five-none, has_five-one, has_five-several}
-use Rattle.threat_moves.specs.FourMoves.{goes_on_with}
 use Rattle.threat_moves.specs.Lines.{is_aligned}
 use Rattle.threat_moves.specs.ThreeMoves.{is_several, has_double_point}
 use Rattle.threat_moves.proofs.GainLaws.{several, few-double, taken-no_gain, no_gain-double}
 use Rattle.threat_moves.proofs.OffLines.{more_fives, open_less}
 use Rattle.proof_number.specs.ThreatGame.{is_threat_move}
-use Rattle.proof_number.specs.Attacks.{goes_on}
 use Rattle.proof_number.specs.NearDoubles.{is_some_point, makes_two, some_makes_two, FarAreNone}
 
 -- ---- a stone on p, and then one on q, which is on no line with p

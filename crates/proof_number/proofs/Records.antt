@@ -6,7 +6,7 @@ use Rattle.std.specs.List.{list_all, find, filter, AllByRecursion}
 use Rattle.std.proofs.lemmas.List.{get_or-map, length-map}
 use Rattle.std.proofs.lemmas.Option.{slice_get_within}
 use Rattle.game_rules.specs.Grid.{Grid, is_on, points_of}
-use Rattle.game_rules.specs.Play.{outcome, after}
+use Rattle.game_rules.specs.Play.{outcome, after, goes_on}
 use Rattle.game_rules.specs.Games.{LosesOr}
 use Rattle.game_rules.specs.declared.RuleKind.{RuleKind}
 use Rattle.game_rules.specs.declared.Outcome.{Outcome}
@@ -14,6 +14,7 @@ use Rattle.game_rules.specs.declared.Outcome.TheVariants.{Refused, Wins as WinsN
 use Rattle.game_rules.specs.declared.Point.{Point}
 use Rattle.game_rules.proofs.Points.{filter-passes}
 use Rattle.game_rules.proofs.Positions.{GoesOn-on}
+use Rattle.game_rules.proofs.Outcomes.{goes_on-is, LosesOr-on}
 use Rattle.strategy_graph.specs.declared.Node.{Node}
 use Rattle.strategy_graph.specs.declared.Reply.{Reply}
 use Rattle.strategy_graph.specs.Tables.{NamesLower, answer, answer_at, answers_of, depth, greatest, is_winning, named, node_depth, rest_nodes}
@@ -32,7 +33,6 @@ use Rattle.proof_tree.specs.declared.Numbers.{Numbers}
 use Rattle.std.proofs.Common.{drop}
 use Rattle.std.proofs.lemmas.List.{length-take, length-drop}
 use Rattle.proof_number.specs.declared.notes.Note.{Note}
-use Rattle.proof_number.specs.Attacks.{goes_on}
 use Rattle.proof_number.specs.Replies.{replies_at}
 use Rattle.proof_number.specs.Notes.{answer_of, no_note, note_at, win_of}
 use Rattle.proof_number.proofs.GameTruths.{least-zero, child-numbers, reply-listed}
@@ -108,20 +108,6 @@ list-passes f (n ∷ ns) h = by_test (f n.at) refl h (list-passes f ns) where
   by_test true e rest later = (e, later rest)
   by_test false e rest later = cc
 
-goes-on-is : (o : Outcome) → goes_on o ≡ true → o ≡ GoesOn
-goes-on-is Refused h = cc
-goes-on-is WinsNow h = cc
-goes-on-is (Fouls f) h = cc
-goes-on-is Draws h = cc
-goes-on-is GoesOn h = refl
-
-loses-on : (o : Outcome) (V W : Type 0) → LosesOr o V → (o ≡ GoesOn → W) → LosesOr o W
-loses-on Refused V W h f = tt
-loses-on WinsNow V W h f = h
-loses-on (Fouls x) V W h f = tt
-loses-on Draws V W h f = h
-loses-on GoesOn V W h f = f refl
-
 no-win-rest : (o : Option ℕ) → is_winning (rest_of o) ≡ false
 no-win-rest None = refl
 no-win-rest (Some j) = refl
@@ -168,11 +154,11 @@ module _ (rule : RuleKind) (b : Grid) (p : Point) (on : outcome rule b p ≡ Goe
   kid-on : (k : ℕ) → k < length kids → outcome rule (after b p) (note_at kids k).at ≡ GoesOn
   kid-on k low =
       let passes : list_all (λ q. goes_on (outcome rule (after b p) q)) (map (λ m. m.at) kids) ≡ true = ap (list_all (λ q. goes_on (outcome rule (after b p) q))) all ∙ filter-passes (λ q. goes_on (outcome rule (after b p) q)) (points_of (after b p)) in
-      goes-on-is (outcome rule (after b p) (note_at kids k).at) (at_index (λ m. goes_on (outcome rule (after b p) m.at) ≡ true) no_note kids (list-passes (λ q. goes_on (outcome rule (after b p) q)) kids passes) k low)
+      goes_on-is (outcome rule (after b p) (note_at kids k).at) (at_index (λ m. goes_on (outcome rule (after b p) m.at) ≡ true) no_note kids (list-passes (λ q. goes_on (outcome rule (after b p) q)) kids passes) k low)
 
   accepted : Accepted rule t i b
   accepted = accepted-by-replies rule t lower i b (answering_node p (map answer_of kids)) at on (no-win-rest (commonest_next (map answer_of kids))) (λ q.
-      loses-on (outcome rule (after b p) q) (Unit {0}) (Answered (answer (answers_of (answering_node p (map answer_of kids))) q) (λ j. Accepted rule t j (after (after b p) q))) (none_saves q) (λ go.
+      LosesOr-on (outcome rule (after b p) q) (Unit {0}) (Answered (answer (answers_of (answering_node p (map answer_of kids))) q) (λ j. Accepted rule t j (after (after b p) q))) (none_saves q) (λ go.
       let kid = kid-of q go in
       let said : answer (answers_of (answering_node p (map answer_of kids))) q ≡ Some (note_at kids kid.0).node =
       ap (answer (answers_of (answering_node p (map answer_of kids)))) (sym kid.2) ∙ kid-answer kid.0 kid.1 in

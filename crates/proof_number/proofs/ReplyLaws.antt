@@ -4,6 +4,7 @@ use Rattle.std.specs.Prelude.{Some, None, All}
 use Rattle.std.specs.List.{list_all, filter, find}
 use Rattle.std.proofs.lemmas.List.{set_comm}
 use Rattle.std.proofs.lemmas.Nat.{same_from_place}
+use Rattle.std.proofs.lemmas.Bool.{not-true}
 use Rattle.game_rules.specs.Grid.{Grid, is_on, is_empty, put, place_of, stone_of, points_of}
 use Rattle.game_rules.specs.Shapes.{five, is_same_point}
 use Rattle.game_rules.specs.Play.{IsPosition, outcome, mover, other, after}
@@ -17,6 +18,7 @@ use Rattle.game_rules.proofs.Boards.{Apart, and_left, and_right, is_empty-on, is
 use Rattle.game_rules.proofs.Positions.{GoesOn-empty, IsBoard-put, mover-then}
 use Rattle.game_rules.proofs.Points.{filter-passes, filter-none, is_same_point-apart, is_same_point-itself, is_same_point-same}
 use Rattle.game_rules.proofs.Fives.{five-other}
+use Rattle.game_rules.proofs.Places.{find-in}
 use Rattle.row_shapes.proofs.FiveLaws.{left-points, without}
 use Rattle.proof_number.specs.declared.doubles.Double.{Double}
 use Rattle.proof_number.specs.Attacks.{LeavesBoth}
@@ -39,15 +41,6 @@ back p q d = record { apart = λ x y. d.apart (sym x) (sym y) }
 
 -- ---- lists
 
-find-in : (f g : Point → Bool) (ps : List Point) (w : Point) → list_all g ps ≡ true → find f ps ≡ Some w → (f w ≡ true) × (g w ≡ true)
-find-in f g [] w all h = cc
-find-in f g (p ∷ ps) w all h = by_test (f p) refl h (find-in f g ps w (and_right (g p) _ all)) where
-  by_test : (r : Bool) → f p ≡ r → cond r (Some p) (find f ps) ≡ Some w → (find f ps ≡ Some w → (f w ≡ true) × (g w ≡ true)) → (f w ≡ true) × (g w ≡ true)
-  by_test true e k rest =
-      let same : p ≡ w = cc in
-      (subst (λ (x : Point). f x ≡ true) same e, subst (λ (x : Point). g x ≡ true) same (and_left (g p) _ all))
-  by_test false e k rest = rest k
-
 find-none : (f g : Point → Bool) → ((x : Point) → f x ≡ false → g x ≡ false) → (ps : List Point) → find f ps ≡ None → filter g ps ≡ []
 find-none f g out [] h = refl
 find-none f g out (p ∷ ps) h = by_test (f p) refl h (find-none f g out ps) where
@@ -63,10 +56,6 @@ other_way q x h = by_test (is_same_point x q) refl h where
       let same : x ≡ q = is_same_point-same x q e in
       ap (λ (z : Point). not (is_same_point q z)) same ∙ ap not (is_same_point-itself q)
   by_test false e k = cc
-
-not_false : (r : Bool) → not r ≡ true → r ≡ false
-not_false true h = cc
-not_false false h = refl
 
 -- ---- after the reply q at c
 
@@ -88,7 +77,7 @@ module _ (rule : RuleKind) (c : Grid) (q : Point) (lawful : IsPosition rule c) (
   first-beside fives w are found =
       let all : list_all (five rule c (other (mover c))) fives ≡ true = ap (list_all (five rule c (other (mover c)))) are ∙ filter-passes (five rule c (other (mover c))) (points_of c) in
       let both = find-in (λ x. not (is_same_point x q)) (five rule c (other (mover c))) fives w all (sym found) in
-      beside-five w both.1 (not_false (is_same_point w q) both.0)
+      beside-five w both.1 (not-true (is_same_point w q) both.0)
 
   -- with none beside it, none is left
   pub none-beside : (fives : List Point) → fives ≡ five_points rule c (other (mover c)) → None ≡ find (λ x. not (is_same_point x q)) fives → has_five rule (after c q) (mover (after c q)) ≡ false
@@ -107,9 +96,9 @@ module _ (rule : RuleKind) (c : Grid) (q : Point) (lawful : IsPosition rule c) (
   -- a stone beside a double point and its two five points leaves all three
   pub both-kept : (d : Double) → LeavesBoth rule c (other (mover c)) d → IsBeside d q → LeavesBoth rule (after c q) (mover (after c q)) d
   both-kept d both beside =
-      let at : Apart d.at q = is_same_point-apart d.at q (not_false (is_same_point d.at q) (and_left (not (is_same_point d.at q)) _ (and_left (not (is_same_point d.at q) && not (is_same_point d.first q)) _ beside))) in
-      let first : Apart d.first q = is_same_point-apart d.first q (not_false (is_same_point d.first q) (and_right (not (is_same_point d.at q)) _ (and_left (not (is_same_point d.at q) && not (is_same_point d.first q)) _ beside))) in
-      let second : Apart d.second q = is_same_point-apart d.second q (not_false (is_same_point d.second q) (and_right (not (is_same_point d.at q) && not (is_same_point d.first q)) _ beside)) in
+      let at : Apart d.at q = is_same_point-apart d.at q (not-true (is_same_point d.at q) (and_left (not (is_same_point d.at q)) _ (and_left (not (is_same_point d.at q) && not (is_same_point d.first q)) _ beside))) in
+      let first : Apart d.first q = is_same_point-apart d.first q (not-true (is_same_point d.first q) (and_right (not (is_same_point d.at q)) _ (and_left (not (is_same_point d.at q) && not (is_same_point d.first q)) _ beside))) in
+      let second : Apart d.second q = is_same_point-apart d.second q (not-true (is_same_point d.second q) (and_right (not (is_same_point d.at q) && not (is_same_point d.first q)) _ beside)) in
       subst (λ (s : Side). LeavesBoth rule (after c q) s d) (sym turn)
       (record {
         empty = is_empty-put c (mover c) q d.at (is_empty-on c q empty) (back d.at q at) ∙ both.empty;

@@ -5,7 +5,7 @@ use Rattle.std.specs.List.{list_any, filter, sum_by}
 use Rattle.std.proofs.lemmas.List.Sums.{sum_by-cons}
 use Rattle.game_rules.specs.Grid.{Grid, is_on, points_of}
 use Rattle.game_rules.specs.Shapes.{is_same_point}
-use Rattle.game_rules.specs.Play.{IsPosition, outcome, mover, other, after}
+use Rattle.game_rules.specs.Play.{IsPosition, outcome, mover, other, after, goes_on}
 use Rattle.game_rules.specs.Games.{has_five, if_goes_on, is_double_point}
 use Rattle.game_rules.specs.declared.RuleKind.{RuleKind}
 use Rattle.game_rules.specs.declared.Outcome.{Outcome}
@@ -15,13 +15,14 @@ use Rattle.game_rules.proofs.Boards.{is_empty-on}
 use Rattle.game_rules.proofs.Positions.{GoesOn-empty, GoesOn-on, IsPosition-after}
 use Rattle.game_rules.proofs.Points.{points-found, is_same_point-itself, is_same_point-same}
 use Rattle.game_rules.proofs.Fives.{five-empty}
+use Rattle.game_rules.proofs.Outcomes.{if_goes_on-one}
 use Rattle.row_shapes.proofs.FiveLaws.{has_five-none, none-left, none-short}
 use Rattle.proof_number.specs.declared.doubles.Double.{Double}
 use Rattle.proof_number.specs.declared.replies.Judged.{Judged}
 use Rattle.proof_number.specs.declared.replies.Judged.TheVariants.{Five, Double as DoubleWins, Last, Open}
 use Rattle.proof_number.specs.declared.replies.Child.{Child}
 use Rattle.proof_number.specs.ThreatGame.{is_threat_move, is_safe_threat, behind_replies, threat_tree}
-use Rattle.proof_number.specs.Attacks.{goes_on, IsDoubleWin}
+use Rattle.proof_number.specs.Attacks.{IsDoubleWin}
 use Rattle.proof_number.specs.Replies.{answer_nodes, one_if, IsJudged, IsChild, counted_for, moves_for}
 use Rattle.proof_number.proofs.AttackLaws.{threat-by}
 
@@ -65,13 +66,6 @@ sum-two f g a low (p ∷ ps) =
     let second = one-or (g p && not (a p)) (list_any (λ q. g q && not (a q)) ps) in
     omega (arith, here, later, split, first, second)
 
-counts-one : (o : Outcome) (k : ℕ) → 1 ≤ k → goes_on o ≡ true → 1 ≤ if_goes_on o k
-counts-one Refused k l h = cc
-counts-one Wins k l h = cc
-counts-one (Fouls f) k l h = cc
-counts-one Draws k l h = cc
-counts-one GoesOn k l h = l
-
 -- ---- the game of threats has at least as many positions
 
 tree_by : (r : Bool) (k : ℕ) → 1 ≤ cond r 1 (1 + k)
@@ -110,7 +104,7 @@ module _ (rule : RuleKind) (b : Grid) (d : Double) (lawful : IsPosition rule b) 
       let total : threat_tree rule (suc (suc n)) b ≡ 1 + sum_by f (points_of b) = ap (λ r. cond r 1 (1 + sum_by f (points_of b))) none in
       let least = sum-least f b d.at (GoesOn-on rule b d.at wins.on) in
       let two = sum-two (λ q. if_goes_on (outcome rule c q) (threat_tree rule (suc n) (after c q))) (λ q. goes_on (outcome rule c q)) (λ q. is_same_point q d.first)
-      (λ q h. counts-one (outcome rule c q) (threat_tree rule (suc n) (after c q)) (tree-positive rule (suc n) (after c q)) h) (points_of c) in
+      (λ q h. if_goes_on-one (outcome rule c q) (threat_tree rule (suc n) (after c q)) (tree-positive rule (suc n) (after c q)) h) (points_of c) in
       omega (arith, here, total, least, two)
 
 two_more : (n : ℕ) → 2 ≤ n → (m : ℕ) × (n ≡ suc (suc m))

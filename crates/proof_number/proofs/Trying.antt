@@ -4,7 +4,7 @@ use Rattle.std.specs.Prelude.{IsTrue, Option, Some, None}
 use Rattle.std.specs.List.{list_any, filter}
 use Rattle.game_rules.specs.Grid.{Grid, is_empty, is_on, points_of}
 use Rattle.game_rules.specs.Shapes.{five, is_same_point}
-use Rattle.game_rules.specs.Play.{outcome, outcome_by, foul_of, mover, after}
+use Rattle.game_rules.specs.Play.{outcome, outcome_by, foul_of, mover, after, goes_on_with, saves}
 use Rattle.game_rules.specs.Games.{WinsOr, LosesOr, WinsByThreats, has_five, has_threat}
 use Rattle.game_rules.specs.declared.RuleKind.{RuleKind}
 use Rattle.game_rules.specs.declared.Foul.{Foul}
@@ -14,44 +14,21 @@ use Rattle.game_rules.specs.declared.Point.{Point}
 use Rattle.game_rules.proofs.Boards.{is_empty-on}
 use Rattle.game_rules.proofs.Points.{points-found, any_witness, is_same_point-itself, is_same_point-same}
 use Rattle.game_rules.proofs.Positions.{GoesOn-on}
-use Rattle.threat_moves.specs.FourMoves.{goes_on_with}
+use Rattle.game_rules.proofs.Outcomes.{outcome-five}
+use Rattle.game_rules.proofs.Places.{points_passing}
+use Rattle.game_rules.proofs.Fives.{five-empty}
 use Rattle.proof_number.specs.ThreatGame.{is_threat_move}
-use Rattle.proof_number.specs.Attacks.{OthersFail, is_tried, saves, tried_moves}
+use Rattle.proof_number.specs.Attacks.{OthersFail, is_tried, tried_moves}
 use Rattle.proof_number.specs.Replies.{HasEscape}
 use Rattle.proof_number.specs.GameTrees.{LosesToThreats}
 
--- a winning move is a five point
-wins-parts : (e f l : Bool) (o : Option Foul) → outcome_by e f o l ≡ Wins → (e ≡ true) × (f ≡ true)
-wins-parts true true l None h = (refl, refl)
-wins-parts true true l (Some g) h = (refl, refl)
-wins-parts true false true None h = cc
-wins-parts true false false None h = cc
-wins-parts true false l (Some g) h = cc
-wins-parts false f l None h = cc
-wins-parts false f l (Some g) h = cc
-
 pub win-has_five : (rule : RuleKind) (b : Grid) (p : Point) → outcome rule b p ≡ Wins → has_five rule b (mover b) ≡ true
-unfolding outcome
 win-has_five rule b p h =
-    let parts = wins-parts (is_empty b p) (five rule b (mover b) p) _ (foul_of rule b (mover b) p) h in
-    points-found b (five rule b (mover b)) p (is_empty-on b p parts.0) parts.1
-
--- a point of the board that passes a test is among those that do
-passing-listed : (f : Point → Bool) (q : Point) (ps : List Point) → list_any (λ x. f x && is_same_point x q) ps ≡ true → Contains (filter f ps) q
-passing-listed f q [] h = cc
-passing-listed f q (p ∷ ps) h = by_tests (f p) (is_same_point p q) refl h (passing-listed f q ps) where
-  deeper : (x : Point) (xs : List Point) → Contains xs q → Contains (x ∷ xs) q
-  deeper x xs (k, inside, at) = (suc k, omega (arith, inside), at)
-
-  by_tests : (r s : Bool) → is_same_point p q ≡ s → ((r && s) || list_any (λ x. f x && is_same_point x q) ps) ≡ true → (list_any (λ x. f x && is_same_point x q) ps ≡ true → Contains (filter f ps) q) → Contains (cond r (p ∷ filter f ps) (filter f ps)) q
-  by_tests true true same h later = (0, omega arith, is_same_point-same p q same)
-  by_tests true false same h later = deeper p (filter f ps) (later h)
-  by_tests false s same h later = later h
+    let five_here = outcome-five rule b p h in
+    points-found b (five rule b (mover b)) p (is_empty-on b p (five-empty rule b (mover b) p five_here)) five_here
 
 tried-listed : (rule : RuleKind) (b : Grid) (p : Point) → is_on b p ≡ true → is_tried rule b p ≡ true → Contains (tried_moves rule b) p
-tried-listed rule b p on tried =
-    passing-listed (is_tried rule b) p (points_of b)
-    (points-found b (λ x. is_tried rule b x && is_same_point x p) p on (ap (λ r. r && is_same_point p p) tried ∙ is_same_point-itself p))
+tried-listed rule b p on tried = points_passing b (is_tried rule b) p on tried
 
 saved : (o : Outcome) (W : Type 0) → saves o ≡ true → LosesOr o W → ⊥
 saved Refused W h k = cc

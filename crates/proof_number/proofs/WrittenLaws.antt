@@ -14,6 +14,7 @@ use Rattle.game_rules.specs.declared.Point.{Point}
 use Rattle.game_rules.proofs.Boards.{is_empty-on}
 use Rattle.game_rules.proofs.Positions.{GoesOn-on}
 use Rattle.game_rules.proofs.Fives.{five-empty}
+use Rattle.game_rules.proofs.Outcomes.{five-outcome}
 use Rattle.strategy_graph.specs.declared.Node.{Node}
 use Rattle.strategy_graph.specs.Tables.{answers_of, answer, IsTable, NamesOnBoard, depth, node_depth, named}
 use Rattle.strategy_graph.specs.Acceptance.{Answered, Accepted}
@@ -24,7 +25,6 @@ use Rattle.strategy_graph.proofs.Steps.{accepted-by-win, accepted-by-replies}
 use Rattle.strategy_compiler.specs.Nodes.{winning_node, answering_node}
 use Rattle.strategy_compiler.specs.Walks.{Reaches, Itself, Through}
 use Rattle.strategy_compiler.specs.Wins.{StaysOnBoard}
-use Rattle.threat_moves.proofs.BlockLaw.{five-outcome}
 use Rattle.proof_number.specs.Attacks.{is_last_move}
 use Rattle.proof_number.specs.Answers.{IsThreatWin}
 use Rattle.proof_number.proofs.LastLaws.{last-goes_on, last-fouled, last-wins}

@@ -3,7 +3,7 @@ use Rattle.std.specs.Prelude.{◌≡◌, Bool, true, false, ◌&&◌, ◌||◌, 
 use Rattle.std.specs.List.{list_any, filter}
 use Rattle.game_rules.specs.Grid.{Grid, points_of, is_empty, put}
 use Rattle.game_rules.specs.Shapes.{five, is_same_point}
-use Rattle.game_rules.specs.Play.{outcome, mover, after, other}
+use Rattle.game_rules.specs.Play.{outcome, goes_on, saves, mover, after, other}
 use Rattle.game_rules.specs.Games.{has_five}
 use Rattle.game_rules.specs.declared.RuleKind.{RuleKind}
 use Rattle.game_rules.specs.declared.Side.{Side}
@@ -21,22 +21,6 @@ use Rattle.proof_number.specs.declared.attacks.BestReply.{BestReply}
 use Rattle.proof_number.specs.declared.attacks.BestReply.TheVariants.{GoesOn as SomeGoesOn, Saves, Fouls as EachFouls}
 use Rattle.proof_number.specs.declared.doubles.Double.{Double}
 use Rattle.proof_number.specs.ThreatGame.{is_threat_move, is_safe_threat}
-
--- whether the game goes on
-abbrev pub goes_on : Outcome → Bool
-goes_on Refused = false
-goes_on Wins = false
-goes_on (Fouls f) = false
-goes_on Draws = false
-goes_on GoesOn = true
-
--- whether the move wins or fills the board
-abbrev pub saves : Outcome → Bool
-saves Refused = false
-saves Wins = true
-saves (Fouls f) = false
-saves Draws = true
-saves GoesOn = false
 
 -- whether some move of the side to move goes on
 abbrev pub has_reply : RuleKind → Grid → Bool

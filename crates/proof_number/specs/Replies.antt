@@ -3,7 +3,7 @@ use Rattle.std.specs.Prelude.{◌≡◌, ℕ, ◌+◌, ◌<◌, ◌≤◌, Bool,
 use Rattle.std.specs.List.{list_any, filter, sum_by}
 use Rattle.game_rules.specs.Grid.{Grid, points_of}
 use Rattle.game_rules.specs.Shapes.{five, is_same_point}
-use Rattle.game_rules.specs.Play.{outcome, mover, after}
+use Rattle.game_rules.specs.Play.{outcome, mover, after, goes_on}
 use Rattle.game_rules.specs.Games.{WinsByThreats, has_five}
 use Rattle.game_rules.specs.declared.RuleKind.{RuleKind}
 use Rattle.game_rules.specs.declared.Outcome.TheVariants.{GoesOn}
@@ -17,7 +17,7 @@ use Rattle.proof_number.specs.declared.replies.Judgement.TheVariants.{NoReply, E
 use Rattle.proof_number.specs.declared.replies.Child.{Child}
 use Rattle.proof_number.specs.declared.replies.Children.{Children}
 use Rattle.proof_number.specs.ThreatGame.{behind_replies, threat_tree}
-use Rattle.proof_number.specs.Attacks.{goes_on, is_last_move, IsDoubleWin}
+use Rattle.proof_number.specs.Attacks.{is_last_move, IsDoubleWin}
 
 -- whether the reply w goes on
 abbrev pub has_reply_at : RuleKind → Grid → Point → Bool

@@ -2,11 +2,10 @@
 use Rattle.std.specs.Prelude.{ℕ, zero, suc, ◌+◌, Bool, ◌&&◌, not, if◌then◌else◌}
 use Rattle.std.specs.List.{sum_by}
 use Rattle.game_rules.specs.Grid.{Grid, points_of}
-use Rattle.game_rules.specs.Play.{outcome, mover, after, other}
+use Rattle.game_rules.specs.Play.{outcome, mover, after, other, goes_on_with}
 use Rattle.game_rules.specs.Games.{has_five, has_threat, if_goes_on}
 use Rattle.game_rules.specs.declared.RuleKind.{RuleKind}
 use Rattle.game_rules.specs.declared.Point.{Point}
-use Rattle.threat_moves.specs.FourMoves.{goes_on_with}
 
 -- a move of the game of threats: it goes on and leaves its side a five point or a double point
 unfoldable pub is_threat_move : RuleKind → Grid → Point → Bool

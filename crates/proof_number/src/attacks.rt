@@ -9,7 +9,7 @@
 ghost use Rattle.std.specs.Prelude.{◌≡◌, ◌&&◌, not, true, false, IfOk, IfSome, IsTrue};
 ghost use Rattle.game_rules.specs.Grid.{Grid, is_empty, put};
 ghost use Rattle.game_rules.specs.Shapes.{is_same_point};
-ghost use Rattle.game_rules.specs.Play.{IsPosition, outcome as outcome_lem, mover, other, after};
+ghost use Rattle.game_rules.specs.Play.{IsPosition, outcome as outcome_lem, mover, other, after, goes_on as goes_on_lem};
 ghost use Rattle.game_rules.specs.Games.{has_five as has_five_lem, five_points as five_points_lem, has_threat, is_double_point};
 ghost use Rattle.row_shapes.specs.FivePoints.{in_short};
 ghost use Rattle.threat_moves.specs.Lines.{is_aligned as is_aligned_lem};
@@ -17,7 +17,7 @@ ghost use Rattle.threat_moves.specs.ThreeMoves.{is_several as is_several_lem, ha
 ghost use Rattle.proof_number.specs.ThreatGame.{is_threat_move as is_threat_move_lem};
 ghost use Rattle.proof_number.specs.FreeMoves.{EachGoesOn};
 ghost use Rattle.proof_number.specs.NearDoubles.{FarAreNone, is_some_point as is_some_point_lem, makes_two as makes_two_lem, some_makes_two as some_makes_two_lem};
-ghost use Rattle.proof_number.specs.Attacks.{AreAttacks, IsAttempt, IsDoubleWin, best_reply as best_reply_lem, goes_on as goes_on_lem, takes as takes_lem};
+ghost use Rattle.proof_number.specs.Attacks.{AreAttacks, IsAttempt, IsDoubleWin, best_reply as best_reply_lem, takes as takes_lem};
 
 use crate::doubles::{Double, double_at};
 use crate::last_moves::has_fouls;

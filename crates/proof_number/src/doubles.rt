@@ -7,13 +7,13 @@
 ghost use Rattle.std.specs.Prelude.{◌≡◌, ◌<◌, ◌≤◌, ◌+◌, ◌||◌, ◌&&◌, not, ℕ, true, false, if◌then◌else◌, All, length, slice_get, Some, IfOk, IfSome, IsTrue, IsErrOf, OnOk};
 ghost use Rattle.game_rules.specs.Grid.{is_empty, points_of};
 ghost use Rattle.game_rules.specs.Shapes.{is_same_point};
-ghost use Rattle.game_rules.specs.Play.{IsPosition, outcome as outcome_lem, mover, after};
+ghost use Rattle.game_rules.specs.Play.{IsPosition, outcome as outcome_lem, mover, after, goes_on as goes_on_lem};
 ghost use Rattle.game_rules.specs.declared.Outcome.{Outcome};
 ghost use Rattle.game_rules.specs.Games.{has_five as has_five_lem};
 ghost use Rattle.strategy_graph.specs.declared.TheConstants.{MAX_NODES};
 ghost use Rattle.strategy_compiler.specs.Nodes.{IsCompiled, winning_node};
 ghost use Rattle.proof_number.specs.Growth.{GrowsBy};
-ghost use Rattle.proof_number.specs.Attacks.{LeavesBoth, IsDoubleWin, goes_on as goes_on_lem};
+ghost use Rattle.proof_number.specs.Attacks.{LeavesBoth, IsDoubleWin};
 ghost use Rattle.proof_number.specs.Replies.{answer_nodes, has_reply_at, has_reply_beside, one_if, double_answers as double_answers_lem, node_for};
 ghost use Rattle.proof_number.specs.Answers.{IsThreatWin};
 

@@ -12,7 +12,7 @@ use Rattle.game_rules.specs.declared.Point.{Point}
 use Rattle.game_rules.proofs.Boards.{Apart, same_or_apart, and_left, and_right, empty_holds, is_empty-on, holds-put_same}
 use Rattle.game_rules.proofs.Points.{points-found, filter-passes, filter-none, filter-some, is_same_point-itself, apart-is_same_point}
 use Rattle.game_rules.proofs.Fives.{five-empty, five-other}
-use Rattle.game_rules.proofs.Distinct.{two_passing-apart}
+use Rattle.game_rules.proofs.Places.{two_passing-apart}
 use Rattle.row_shapes.specs.declared.fives.FivePoints.{FivePoints}
 use Rattle.row_shapes.specs.declared.fives.FivePoints.TheVariants.{None, One, Several}
 use Rattle.row_shapes.specs.FivePoints.{in_short}

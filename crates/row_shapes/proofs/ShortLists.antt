@@ -12,7 +12,7 @@ use Rattle.row_shapes.specs.declared.fives.FivePoints.{FivePoints}
 use Rattle.row_shapes.specs.declared.fives.FivePoints.TheVariants.{None as NoPoint, One, Several}
 use Rattle.row_shapes.specs.FivePoints.{in_short}
 use Rattle.row_shapes.specs.FiveEnds.{with_more}
-use Rattle.game_rules.proofs.Distinct.{two_passing-apart}
+use Rattle.game_rules.proofs.Places.{two_passing-apart}
 
 -- the list of a point, if there is one
 abbrev pub listed : Option Point → List Point

@@ -3,6 +3,7 @@ use Rattle.std.proofs.Common.{◌≡◌, ℕ, Bool, true, false, not, refl, sym,
 use Rattle.std.specs.Prelude.{Option, Some, None, IfSome, slice_get}
 use Rattle.std.specs.Option.{option_map}
 use Rattle.std.proofs.lemmas.Bool.Decides.{nat_tests}
+use Rattle.std.proofs.lemmas.Bool.{not-true}
 use Rattle.game_rules.specs.Grid.{Grid, empties_of}
 use Rattle.game_rules.specs.Shapes.{five}
 use Rattle.game_rules.specs.Play.{IsPosition, outcome, outcome_by, foul_of, mover, other, after}
@@ -15,6 +16,7 @@ use Rattle.game_rules.proofs.Boards.{and_left, and_right, Apart}
 use Rattle.game_rules.proofs.Points.{is_same_point-apart}
 use Rattle.game_rules.proofs.Fives.{five-empty, five-other}
 use Rattle.game_rules.proofs.Positions.{GoesOn-empty, mover-then}
+use Rattle.game_rules.proofs.Outcomes.{five-outcome}
 use Rattle.strategy_graph.specs.declared.Node.{Node}
 use Rattle.strategy_graph.specs.Acceptance.{Accepted}
 use Rattle.strategy_graph.specs.Arrivals.{arrivals}
@@ -22,22 +24,6 @@ use Rattle.strategy_graph.proofs.Filling.{IsTable-lower}
 use Rattle.strategy_graph.proofs.Steps.{accepted-by-win, arrivals-one}
 use Rattle.strategy_checker.specs.declared.walk.Sure.{Sure}
 use Rattle.strategy_checker.specs.Walks.{IsSure, is_sure_after}
-
-wins_by : (l : Bool) (o : Option Foul) → outcome_by true true o l ≡ Wins
-wins_by l None = refl
-wins_by l (Some f) = refl
-
--- a five point of the side to move wins
-five-outcome : (rule : RuleKind) (b : Grid) (p : Point) → five rule b (mover b) p ≡ true → outcome rule b p ≡ Wins
-unfolding outcome
-five-outcome rule b p h =
-    ap (λ e. outcome_by e (five rule b (mover b) p) (foul_of rule b (mover b) p) (nat_eq (empties_of b) 1)) (five-empty rule b (mover b) p h)
-    ∙ ap (λ f. outcome_by true f (foul_of rule b (mover b) p) (nat_eq (empties_of b) 1)) h
-    ∙ wins_by (nat_eq (empties_of b) 1) (foul_of rule b (mover b) p)
-
-not_true : (r : Bool) → not r ≡ true → r ≡ false
-not_true true h = cc
-not_true false h = refl
 
 module _ (rule : RuleKind) (t : List Node) (b : Grid) (q : Point) (lawful : IsPosition rule b) (on : outcome rule b q ≡ GoesOn) where
   -- a five point of the side that is not to move wins after a reply elsewhere
@@ -55,7 +41,7 @@ module _ (rule : RuleKind) (t : List Node) (b : Grid) (q : Point) (lawful : IsPo
 
     apart : Apart q s.attack
     apart =
-        let else = is_same_point-apart s.attack q (not_true _ (and_right (nat_eq s.node i) _ h)) in
+        let else = is_same_point-apart s.attack q (not-true _ (and_right (nat_eq s.node i) _ h)) in
         record { apart = λ x y. else.apart (sym x) (sym y) }
 
     by_node : (o : Option Node) → slice_get t s.node ≡ o → option_map (λ n. n.attack) o ≡ Some s.attack → Accepted rule t i (after b q) × (arrivals rule t i (after b q) ≡ 1)

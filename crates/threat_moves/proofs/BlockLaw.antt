@@ -15,72 +15,22 @@ use Rattle.game_rules.specs.declared.Point.{Point}
 use Rattle.game_rules.proofs.Boards.{and_left, and_right, is_empty-on, is_empty-put, Apart, same_or_apart, empties_of-put}
 use Rattle.game_rules.proofs.Points.{points-found, any_witness, all_of, all_at, filter-passes, filter-none}
 use Rattle.game_rules.proofs.Fives.{five-empty, five-other}
-use Rattle.game_rules.proofs.Distinct.{two_passing-apart}
+use Rattle.game_rules.proofs.Places.{two_passing-apart}
 use Rattle.game_rules.proofs.Positions.{IsBoard-put, IsPosition-after, GoesOn-empty, mover-after, mover-then}
+use Rattle.game_rules.proofs.Outcomes.{five-outcome, outcome-five, refused-taken, loses_or-by, draws-last}
 use Rattle.threat_moves.specs.declared.block.BlockAnswer.TheVariants.{Lost}
 use Rattle.threat_moves.specs.Blocks.{by_block, by_fives, fate}
 use Rattle.threat_moves.specs.OneBlock.{block_wins, BlockDecides, LeavesFive, OthersLeaveFive}
 use Rattle.threat_moves.proofs.FourLaws.{four-goes_on, four-five}
 
--- ---- outcomes
-
-wins_by : (l : Bool) (o : Option Foul) → outcome_by true true o l ≡ Wins
-wins_by l None = refl
-wins_by l (Some f) = refl
-
--- a five point wins
-pub five-outcome : (rule : RuleKind) (b : Grid) (p : Point) → five rule b (mover b) p ≡ true → outcome rule b p ≡ Wins
-unfolding outcome
-five-outcome rule b p h =
-    ap (λ e. outcome_by e (five rule b (mover b) p) (foul_of rule b (mover b) p) (nat_eq (empties_of b) 1)) (five-empty rule b (mover b) p h)
-    ∙ ap (λ f. outcome_by true f (foul_of rule b (mover b) p) (nat_eq (empties_of b) 1)) h
-    ∙ wins_by (nat_eq (empties_of b) 1) (foul_of rule b (mover b) p)
-
-wins_parts : (e f l : Bool) (o : Option Foul) → outcome_by e f o l ≡ Wins → (e ≡ true) × (f ≡ true)
-wins_parts true true l o h = (refl, refl)
-wins_parts true false true None h = cc
-wins_parts true false false None h = cc
-wins_parts true false l (Some f) h = cc
-wins_parts false f l None h = cc
-wins_parts false f l (Some g) h = cc
-
--- what wins is a five point
-pub outcome-five : (rule : RuleKind) (b : Grid) (p : Point) → outcome rule b p ≡ Wins → five rule b (mover b) p ≡ true
-unfolding outcome
-outcome-five rule b p h = (wins_parts (is_empty b p) (five rule b (mover b) p) (nat_eq (empties_of b) 1) (foul_of rule b (mover b) p) h).1
-
-draws_parts : (e f l : Bool) (o : Option Foul) → outcome_by e f o l ≡ Draws → (e ≡ true) × (l ≡ true)
-draws_parts true true l None h = cc
-draws_parts true true l (Some g) h = cc
-draws_parts true false true None h = (refl, refl)
-draws_parts true false false None h = cc
-draws_parts true false l (Some f) h = cc
-draws_parts false f l None h = cc
-draws_parts false f l (Some g) h = cc
-
-refused_parts : (e f l : Bool) (o : Option Foul) → outcome_by e f o l ≡ Refused → e ≡ false
-refused_parts true true l None h = cc
-refused_parts true true l (Some g) h = cc
-refused_parts true false true None h = cc
-refused_parts true false false None h = cc
-refused_parts true false l (Some f) h = cc
-refused_parts false f l o h = refl
-
-refused-taken : (rule : RuleKind) (b : Grid) (p : Point) → outcome rule b p ≡ Refused → is_empty b p ≡ false
-unfolding outcome
-refused-taken rule b p h = refused_parts (is_empty b p) (five rule b (mover b) p) (nat_eq (empties_of b) 1) (foul_of rule b (mover b) p) h
-
 module _ (rule : RuleKind) (c : Grid) (q : Point) (draws : outcome rule c q ≡ Draws) where
-  drawn : (is_empty c q ≡ true) × (nat_eq (empties_of c) 1 ≡ true)
-  unfolding outcome
-  drawn = draws_parts (is_empty c q) (five rule c (mover c) q) (nat_eq (empties_of c) 1) (foul_of rule c (mover c) q) draws
 
   -- a move that draws leaves no other point empty
   no_other_empty : IsPosition rule c → (w : Point) → is_empty c w ≡ true → Apart q w → ⊥
   no_other_empty lawful w empty apart =
-      let one : empties_of c ≡ 1 = let last = drawn.1 in grind (arith, nat_tests) in
-      let here = empties_of-put c (mover c) q lawful.board drawn.0 in
-      let still : is_empty (after c q) w ≡ true = is_empty-put c (mover c) q w (is_empty-on c q drawn.0) apart ∙ empty in
+      let one : empties_of c ≡ 1 = let last = (draws-last rule c q draws).1 in grind (arith, nat_tests) in
+      let here = empties_of-put c (mover c) q lawful.board (draws-last rule c q draws).0 in
+      let still : is_empty (after c q) w ≡ true = is_empty-put c (mover c) q w (is_empty-on c q (draws-last rule c q draws).0) apart ∙ empty in
       let there = empties_of-put (after c q) (mover c) w (IsBoard-put c (mover c) q lawful.board) still in
       absurd (omega (arith, one, here, there))
 
@@ -98,13 +48,6 @@ five-wins rule b n h =
 no-wins : (rule : RuleKind) (b : Grid) → wins_by_fours rule zero b ≡ false
 unfolding wins_under
 no-wins rule b = refl
-
-loses_by : (o : Outcome) (r : Bool) → (o ≡ Wins → ⊥) → (o ≡ Draws → ⊥) → (o ≡ GoesOn → r ≡ true) → loses_or o r ≡ true
-loses_by Refused r no_win no_draw on = refl
-loses_by Wins r no_win no_draw on = absurd (no_win refl)
-loses_by (Fouls f) r no_win no_draw on = refl
-loses_by Draws r no_win no_draw on = absurd (no_draw refl)
-loses_by GoesOn r no_win no_draw on = on refl
 
 -- ---- after a four: c, where the defender is to move
 
@@ -128,7 +71,7 @@ module _ (rule : RuleKind) (c : Grid) (lawful : IsPosition rule c) where
   -- a reply beside a five point of the attacker loses
   beside-lost : (n : ℕ) → has_five rule c (mover c) ≡ false → (w : Point) → five rule c (other (mover c)) w ≡ true → (q : Point) → Apart q w → lost (suc n) q ≡ true
   unfolding lost
-  beside-lost n none w h q apart = loses_by (outcome rule c q) _
+  beside-lost n none w h q apart = loses_or-by (outcome rule c q) _
       (no-reply-wins none q)
       (λ draws. no_other_empty rule c q draws lawful w (five-empty rule c (other (mover c)) w h) apart)
       (λ on. five-wins rule (after c q) n (five-stays q w on h apart))

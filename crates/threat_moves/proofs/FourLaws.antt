@@ -1,22 +1,16 @@
 -- Four moves: what they are, and what their lists hold.
 use Rattle.std.proofs.Common.{◌≡◌, Bool, true, false, cond, refl, sym, ap, ◌∙◌, List, [], ◌∷◌}
 use Rattle.game_rules.specs.Grid.{Grid}
-use Rattle.game_rules.specs.Play.{outcome, mover, after, other}
+use Rattle.game_rules.specs.Play.{outcome, mover, after, other, goes_on_with}
 use Rattle.game_rules.specs.Games.{has_five, five_points}
 use Rattle.game_rules.specs.declared.RuleKind.{RuleKind}
 use Rattle.game_rules.specs.declared.Outcome.{Outcome}
 use Rattle.game_rules.specs.declared.Outcome.TheVariants.{Refused, Wins, Fouls, Draws, GoesOn}
 use Rattle.game_rules.specs.declared.Point.{Point}
+use Rattle.game_rules.proofs.Outcomes.{goes_on_with-parts}
 use Rattle.threat_moves.specs.declared.block.BlockAnswer.TheVariants.{Lost, One}
 use Rattle.threat_moves.specs.Blocks.{by_block, by_fives, fate}
-use Rattle.threat_moves.specs.FourMoves.{goes_on_with, is_four_move}
-
-goes_on_with-parts : (o : Outcome) (r : Bool) → goes_on_with o r ≡ true → (o ≡ GoesOn) × (r ≡ true)
-goes_on_with-parts Refused r h = cc
-goes_on_with-parts Wins r h = cc
-goes_on_with-parts (Fouls f) r h = cc
-goes_on_with-parts Draws r h = cc
-goes_on_with-parts GoesOn r h = (refl, h)
+use Rattle.threat_moves.specs.FourMoves.{is_four_move}
 
 -- a four move goes on
 pub four-goes_on : (rule : RuleKind) (b : Grid) (p : Point) → is_four_move rule b p ≡ true → outcome rule b p ≡ GoesOn

@@ -3,9 +3,10 @@ use Rattle.std.proofs.Common.{◌≡◌, ◌≤◌, Bool, true, false, cond, ◌
 use Rattle.std.specs.Prelude.{nat_le}
 use Rattle.std.specs.List.{flat_map}
 use Rattle.std.proofs.lemmas.Bool.Decides.{nat_tests}
+use Rattle.std.proofs.Math.Bool.{and-false, and-true}
 use Rattle.game_rules.specs.Grid.{Grid, is_empty, put, axes}
 use Rattle.game_rules.specs.Shapes.{five}
-use Rattle.game_rules.specs.Play.{other, outcome, mover}
+use Rattle.game_rules.specs.Play.{other, outcome, mover, goes_on_with}
 use Rattle.game_rules.specs.Games.{five_points, is_double_point}
 use Rattle.game_rules.specs.declared.RuleKind.{RuleKind}
 use Rattle.game_rules.specs.declared.Side.{Side}
@@ -16,7 +17,6 @@ use Rattle.game_rules.proofs.Boards.{and_left}
 use Rattle.row_shapes.specs.FivePoints.{in_short}
 use Rattle.threat_moves.specs.declared.threat_list.ThreatKind.{ThreatKind}
 use Rattle.threat_moves.specs.Threats.{is_gain, is_threat, makes_threat, stops_three, has_straight_point, threats_on, threats_at}
-use Rattle.threat_moves.specs.FourMoves.{goes_on_with}
 use Rattle.threat_moves.specs.ThreeMoves.{is_several, is_three_move, makes_double_point}
 
 module _ (rule : RuleKind) (b : Grid) (s : Side) (g : Point) where
@@ -63,19 +63,11 @@ module _ (rule : RuleKind) (b : Grid) (s : Side) (g : Point) where
   pub gain-double : is_gain rule b s g ≡ true → is_double_point rule b s g ≡ is_several (in_short (five_points rule (put b s g) s))
   gain-double h = double-parts rule b s g ∙ ap (λ r. r && nat_le 2 (length (five_points rule (put b s g) s))) h ∙ sym (several (five_points rule (put b s g) s))
 
-  few_by : (r : Bool) → (r && false) ≡ false
-  few_by true = refl
-  few_by false = refl
-
   pub few-double : is_several (in_short (five_points rule (put b s g) s)) ≡ false → is_double_point rule b s g ≡ false
-  few-double h = double-parts rule b s g ∙ ap (λ r. is_gain rule b s g && r) (sym (several (five_points rule (put b s g) s)) ∙ h) ∙ few_by (is_gain rule b s g)
-
-  and_yes : (r : Bool) → (r && true) ≡ r
-  and_yes true = refl
-  and_yes false = refl
+  few-double h = double-parts rule b s g ∙ ap (λ r. is_gain rule b s g && r) (sym (several (five_points rule (put b s g) s)) ∙ h) ∙ and-false (is_gain rule b s g)
 
   pub several-double : is_several (in_short (five_points rule (put b s g) s)) ≡ true → is_double_point rule b s g ≡ is_gain rule b s g
-  several-double h = double-parts rule b s g ∙ ap (λ r. is_gain rule b s g && r) (sym (several (five_points rule (put b s g) s)) ∙ h) ∙ and_yes (is_gain rule b s g)
+  several-double h = double-parts rule b s g ∙ ap (λ r. is_gain rule b s g && r) (sym (several (five_points rule (put b s g) s)) ∙ h) ∙ and-true (is_gain rule b s g)
 
 -- ---- costs of a three
 

@@ -1,21 +1,11 @@
 -- Moves that make fours.
-use Rattle.std.specs.Prelude.{Bool, false, List}
+use Rattle.std.specs.Prelude.{Bool, List}
 use Rattle.std.specs.List.{filter}
 use Rattle.game_rules.specs.Grid.{Grid, points_of}
-use Rattle.game_rules.specs.Play.{outcome, mover, after}
+use Rattle.game_rules.specs.Play.{outcome, goes_on_with, mover, after}
 use Rattle.game_rules.specs.Games.{has_five}
 use Rattle.game_rules.specs.declared.RuleKind.{RuleKind}
-use Rattle.game_rules.specs.declared.Outcome.{Outcome}
-use Rattle.game_rules.specs.declared.Outcome.TheVariants.{Refused, Wins, Fouls, Draws, GoesOn}
 use Rattle.game_rules.specs.declared.Point.{Point}
-
--- whether the game goes on, and the test holds
-abbrev pub goes_on_with : Outcome → Bool → Bool
-goes_on_with Refused test = false
-goes_on_with Wins test = false
-goes_on_with (Fouls f) test = false
-goes_on_with Draws test = false
-goes_on_with GoesOn test = test
 
 -- a four move: it goes on, and after it the side that made it has a five point
 unfoldable pub is_four_move : RuleKind → Grid → Point → Bool

@@ -2,14 +2,13 @@
 use Rattle.std.specs.Prelude.{Bool, true, false, ◌&&◌, not, List}
 use Rattle.std.specs.List.{list_any, filter}
 use Rattle.game_rules.specs.Grid.{Grid, put, points_of}
-use Rattle.game_rules.specs.Play.{outcome, mover}
+use Rattle.game_rules.specs.Play.{outcome, mover, goes_on_with}
 use Rattle.game_rules.specs.Games.{has_five, is_double_point}
 use Rattle.game_rules.specs.declared.RuleKind.{RuleKind}
 use Rattle.game_rules.specs.declared.Side.{Side}
 use Rattle.game_rules.specs.declared.Point.{Point}
 use Rattle.row_shapes.specs.declared.fives.FivePoints.{FivePoints}
 use Rattle.row_shapes.specs.declared.fives.FivePoints.TheVariants.{None as NoPoint, One, Several}
-use Rattle.threat_moves.specs.FourMoves.{goes_on_with}
 
 -- whether the side has a double point
 abbrev pub has_double_point : RuleKind → Grid → Side → Bool

@@ -2,7 +2,7 @@
 use Rattle.std.proofs.Common.{◌≡◌, ◌⊎◌, inl, inr, ℕ, Bool, true, false, ◌&&◌, ◌||◌, not, List, refl, nat_eq}
 use Rattle.std.specs.Prelude.{Option, Some, None, slice_get}
 use Rattle.std.specs.List.{list_all}
-use Rattle.std.proofs.lemmas.Bool.{or_cases}
+use Rattle.std.proofs.lemmas.Bool.{or_cases, not-true}
 use Rattle.game_rules.specs.Grid.{Grid, is_on, is_empty, points_of, empties_of}
 use Rattle.game_rules.specs.Shapes.{five}
 use Rattle.game_rules.specs.Play.{outcome, outcome_by, foul_of, mover, after}
@@ -56,10 +56,6 @@ answer_wins rule t (Some j) c = node_wins rule (slice_get t j) c
 abbrev pub is_met : RuleKind → List Node → Answers → Grid → (Point → Bool) → Point → Bool
 is_met rule t a b skip q = skip q || (not (is_empty b q) || (not (five rule b (mover b) q) && answer_wins rule t (answer a q) (after b q)))
 
-not_true : (r : Bool) → not r ≡ true → r ≡ false
-not_true true h = cc
-not_true false h = refl
-
 module _ (rule : RuleKind) (t : List Node) (lower : NamesLower t) (a : Answers) (b : Grid) (some : nat_eq (empties_of b) 1 ≡ false) (q : Point) where
   by_node : (j : ℕ) (o : Option Node) → slice_get t j ≡ o → node_wins rule o (after b q) ≡ true → Accepted rule t j (after b q)
   by_node j None e h = cc
@@ -73,7 +69,7 @@ module _ (rule : RuleKind) (t : List Node) (lower : NamesLower t) (a : Answers) 
 
   by_empty : (r : Bool) → is_empty b q ≡ r → (not r || (not (five rule b (mover b) q) && answer_wins rule t (answer a q) (after b q))) ≡ true → Meets rule a (Accepted rule t) b q
   by_empty false e h = met-no_move rule t a b q (taken_refused rule b q e)
-  by_empty true e h = elim (quiet_move rule b q e (not_true (five rule b (mover b) q) (and_left (not (five rule b (mover b) q)) _ h)) some) [
+  by_empty true e h = elim (quiet_move rule b q e (not-true (five rule b (mover b) q) (and_left (not (five rule b (mover b) q)) _ h)) some) [
     | inl on ↦ by_answer (answer a q) refl (and_right (not (five rule b (mover b) q)) _ h) on
     | inr foul ↦ met-foul rule t a b q foul.0 foul.1
   ]

@@ -3,7 +3,7 @@ use Rattle.std.proofs.Common.{◌≡◌, ◌≢◌, ℕ, suc, ◌+◌, ◌≤◌
 use Rattle.std.specs.Prelude.{Option, Some, None, nat_le}
 use Rattle.std.specs.List.{list_all, list_any, find, sum_by}
 use Rattle.std.proofs.lemmas.List.Sums.{sum_by-le}
-use Rattle.std.proofs.lemmas.Bool.{or_cases}
+use Rattle.std.proofs.lemmas.Bool.{or_cases, not-true}
 use Rattle.std.proofs.lemmas.Bool.Decides.{nat_tests}
 use Rattle.game_rules.specs.Grid.{Grid, is_on, is_empty, row_from, points_of, empties_of}
 use Rattle.game_rules.specs.Shapes.{five, is_same_point, is_at}
@@ -112,15 +112,11 @@ spare p = if is_same_point (point_at 14 14) p then point_at 13 14 else point_at 
 abbrev leaves_spare : Grid → Point → Bool
 leaves_spare c p = not (five Freestyle c (mover c) p) && (not (is_empty c p) || (is_on c (spare p) && is_going (outcome Freestyle (after c p) (spare p))))
 
-not_true : (r : Bool) → not r ≡ true → r ≡ false
-not_true true h = cc
-not_true false h = refl
-
 -- where each move leaves a spare point, nobody wins at once
 spare_none : (c : Grid) (demand : Grid → Side → Bool) (next : Grid → Bool) → ((b : Grid) → next b ≡ false) → (p : Point) → leaves_spare c p ≡ true → starts_win demand Freestyle c next p ≡ false
 spare_none c demand next never p h = by_empty (is_empty c p) refl (and_right (not (five Freestyle c (mover c) p)) _ h) where
   quiet : outcome Freestyle c p ≢ WinsNow
-  quiet = not_wins Freestyle c p (not_true (five Freestyle c (mover c) p) (and_left (not (five Freestyle c (mover c) p)) _ h))
+  quiet = not_wins Freestyle c p (not-true (five Freestyle c (mover c) p) (and_left (not (five Freestyle c (mover c) p)) _ h))
 
   by_empty : (r : Bool) → is_empty c p ≡ r → (not r || (is_on c (spare p) && is_going (outcome Freestyle (after c p) (spare p)))) ≡ true → starts_win demand Freestyle c next p ≡ false
   by_empty false e k = ap (λ (o : Outcome). wins_or o (demand (after c p) (mover c) && list_all (λ q. loses_or (outcome Freestyle (after c p) q) (next (after (after c p) q))) (points_of c))) (taken_refused Freestyle c p e)
@@ -164,7 +160,7 @@ reply_loses b q some h = by_empty (is_empty b q) refl h where
   by_empty false e k = ap (λ (o : Outcome). loses_or o (wins_by_fours Freestyle 1 (after b q))) (taken_refused Freestyle b q e)
   by_empty true e k =
       let rest = and_right (not (five Freestyle b (mover b) q)) _ k in
-      some_left (is_empty b q) (five Freestyle b (mover b) q) (nat_eq (empties_of b) 1) (foul_of Freestyle b (mover b) q) (not_true (five Freestyle b (mover b) q) (and_left (not (five Freestyle b (mover b) q)) _ k)) some _
+      some_left (is_empty b q) (five Freestyle b (mover b) q) (nat_eq (empties_of b) 1) (foul_of Freestyle b (mover b) q) (not-true (five Freestyle b (mover b) q) (and_left (not (five Freestyle b (mover b) q)) _ k)) some _
       (λ empty. win_at_once (after b q) (five_left q) (and_left (is_empty (after b q) (five_left q)) _ rest) (and_right (is_empty (after b q) (five_left q)) _ rest))
 
 three_tested : list_all (leaves_spare three_board) (points_of three_board) ≡ true
@@ -372,8 +368,8 @@ none_before p h = elim (or_cases (is_same_point (point_at 3 7) p) _ h) [
   | inl same ↦ subst (λ (q : Point). starts_win (has_five Freestyle) Freestyle three_board (wins_by_fours Freestyle 1) q ≡ false) (is_same_point-same (point_at 3 7) p same) block_starts_none
   | inr k ↦
       no_start-demand Freestyle (has_five Freestyle) three_board (wins_by_fours Freestyle 1) p
-      (not_wins Freestyle three_board p (not_true (five Freestyle three_board (mover three_board) p) (and_left (not (five Freestyle three_board (mover three_board) p)) _ k)))
-      (not_true (has_five Freestyle (after three_board p) (mover three_board)) (and_right (not (five Freestyle three_board (mover three_board) p)) _ k))
+      (not_wins Freestyle three_board p (not-true (five Freestyle three_board (mover three_board) p) (and_left (not (five Freestyle three_board (mover three_board) p)) _ k)))
+      (not-true (has_five Freestyle (after three_board p) (mover three_board)) (and_right (not (five Freestyle three_board (mover three_board) p)) _ k))
 ]
 
 pub first_move : four_move Freestyle 2 three_board ≡ Some (point_at 4 7)

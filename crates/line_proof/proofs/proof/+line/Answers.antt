@@ -1,14 +1,13 @@
 use Rattle.std.proofs.Common.{rules, ◌≡◌, ℕ, ◌≤◌, ◌<◌, Bool, true, false, sym, ap, subst, ◌∙◌, arith, length, min, IfOk, OnOk}
 use Rattle.std.specs.Prelude.{Option, Some, None, IfSome, is_some, IsErrOf}
 use Rattle.game_rules.specs.Grid.{Grid}
-use Rattle.game_rules.specs.Play.{outcome, mover, after}
+use Rattle.game_rules.specs.Play.{outcome, mover, after, goes_on_with}
 use Rattle.game_rules.specs.Games.{has_five, wins_by_fours}
 use Rattle.strategy_graph.specs.declared.TheConstants.{MAX_NODES}
 use Rattle.strategy_compiler.specs.declared.wins.WrittenWin.{WrittenWin}
 use Rattle.strategy_compiler.specs.declared.error.SearchError.TheVariants.{Full}
 use Rattle.strategy_compiler.specs.Wins.{IsWrittenWin}
 use Rattle.threat_moves.proofs.Undo.{stone_back, lift_back, unwon_back}
-use Rattle.threat_moves.specs.FourMoves.{goes_on_with}
 use Rattle.line_proof.specs.declared.answers.Answering.{Answering}
 use Rattle.line_proof.specs.declared.proof.LineAnswer.{LineAnswer}
 use Rattle.line_proof.specs.Lines.{line_wins, line_tree, each_loses}

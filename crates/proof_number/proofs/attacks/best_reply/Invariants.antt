@@ -1,7 +1,7 @@
 use Rattle.std.proofs.Common.{◌≡◌, ◌||◌}
 use Rattle.std.specs.List.{list_any}
-use Rattle.game_rules.specs.Play.{outcome}
-use Rattle.proof_number.specs.Attacks.{goes_on, saves, has_reply, has_saving}
+use Rattle.game_rules.specs.Play.{outcome, goes_on, saves}
+use Rattle.proof_number.specs.Attacks.{has_reply, has_saving}
 use Rattle.proof_number.proofs.attacks.best_reply.Given as goal
 
 -- the view is as before; some point left goes on exactly where some point does, and so with those that save

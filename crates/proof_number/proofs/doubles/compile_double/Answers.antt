@@ -1,13 +1,12 @@
 use Rattle.std.proofs.Common.{◌≡◌, ◌<◌, ℕ, ap, sym, subst, ◌∙◌, List, length}
 use Rattle.std.specs.Prelude.{All}
 use Rattle.game_rules.specs.Grid.{Grid}
-use Rattle.game_rules.specs.Play.{after, outcome, mover}
+use Rattle.game_rules.specs.Play.{after, outcome, mover, goes_on}
 use Rattle.game_rules.specs.Games.{has_five}
 use Rattle.strategy_graph.specs.declared.Node.{Node}
 use Rattle.strategy_graph.specs.declared.Reply.{Reply}
 use Rattle.strategy_graph.specs.Tables.{is_rising}
 use Rattle.strategy_compiler.specs.Nodes.{winning_node, answering_node}
-use Rattle.proof_number.specs.Attacks.{goes_on}
 use Rattle.proof_number.specs.Replies.{double_answers, has_reply_at, has_reply_beside, node_for, one_if}
 use Rattle.proof_number.proofs.GrowthLaws.{nodes-grow, all-grow, node-stays}
 use Rattle.proof_number.proofs.FreeMoves.{double-safe}

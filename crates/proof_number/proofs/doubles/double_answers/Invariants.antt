@@ -1,7 +1,6 @@
 use Rattle.std.proofs.Common.{◌≡◌, ◌++◌, map}
 use Rattle.std.specs.List.{filter}
-use Rattle.game_rules.specs.Play.{outcome}
-use Rattle.proof_number.specs.Attacks.{goes_on}
+use Rattle.game_rules.specs.Play.{outcome, goes_on}
 use Rattle.proof_number.specs.Replies.{answer_by, node_for, double_answers}
 use Rattle.proof_number.proofs.doubles.double_answers.Given as goal
 

@@ -1,8 +1,7 @@
 use Rattle.std.proofs.Common.{◌≡◌, ◌&&◌, not}
 use Rattle.std.specs.List.{list_any}
 use Rattle.game_rules.specs.Shapes.{is_same_point}
-use Rattle.game_rules.specs.Play.{outcome}
-use Rattle.proof_number.specs.Attacks.{goes_on}
+use Rattle.game_rules.specs.Play.{outcome, goes_on}
 use Rattle.proof_number.specs.Replies.{has_reply_beside}
 use Rattle.proof_number.proofs.doubles.goes_on_beside.Given as goal
 

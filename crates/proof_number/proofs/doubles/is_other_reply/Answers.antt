@@ -1,7 +1,6 @@
 use Rattle.std.proofs.Common.{sym, ◌∙◌}
 use Rattle.game_rules.specs.Shapes.{is_same_point}
-use Rattle.game_rules.specs.Play.{outcome}
-use Rattle.proof_number.specs.Attacks.{goes_on}
+use Rattle.game_rules.specs.Play.{outcome, goes_on}
 use Rattle.proof_number.proofs.FreeMoves.{other-same, other-apart}
 use Rattle.proof_number.proofs.doubles.is_other_reply.Goals as goal
 

@@ -3,7 +3,7 @@ use Rattle.game_rules.specs.Grid.{Grid}
 use Rattle.game_rules.specs.Games.{has_five}
 use Rattle.game_rules.specs.Play.{outcome, mover, after}
 use Rattle.game_rules.specs.declared.Outcome.TheVariants.{GoesOn}
-use Rattle.proof_number.proofs.AttackLaws.{goes_on-is}
+use Rattle.game_rules.proofs.Outcomes.{goes_on-is}
 use Rattle.proof_number.proofs.ReplyLaws.{none-beside}
 use Rattle.proof_number.proofs.escapes.escapes_by.Goals as goal
 

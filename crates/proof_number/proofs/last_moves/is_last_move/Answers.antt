@@ -1,9 +1,10 @@
 use Rattle.std.proofs.Common.{ap, sym, ◌∙◌}
 use Rattle.game_rules.specs.Grid.{Grid}
 use Rattle.game_rules.specs.Play.{outcome, after}
+use Rattle.game_rules.proofs.Outcomes.{goes_on-is}
 use Rattle.threat_moves.specs.OneBlock.{all_foul}
 use Rattle.proof_number.specs.ThreatGame.{is_threat_move}
-use Rattle.proof_number.proofs.AttackLaws.{goes_on-is, fouled-last, unfouled-last, stopped-last}
+use Rattle.proof_number.proofs.AttackLaws.{fouled-last, unfouled-last, stopped-last}
 use Rattle.proof_number.proofs.last_moves.is_last_move.Goals as goal
 
 pub returns-then-not-goes_on-clause-last : goal.returns-then-not-goes_on-clause-last

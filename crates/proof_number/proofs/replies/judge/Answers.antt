@@ -4,10 +4,10 @@ use Rattle.game_rules.specs.Grid.{Grid}
 use Rattle.game_rules.specs.Games.{has_five}
 use Rattle.game_rules.specs.Play.{outcome, mover, other, after}
 use Rattle.game_rules.specs.declared.Outcome.TheVariants.{GoesOn}
+use Rattle.game_rules.proofs.Outcomes.{goes_on-is}
 use Rattle.proof_number.specs.Attacks.{LeavesBoth}
 use Rattle.proof_number.specs.declared.replies.Judged.TheVariants.{Five}
 use Rattle.proof_number.specs.Replies.{IsJudgement}
-use Rattle.proof_number.proofs.AttackLaws.{goes_on-is}
 use Rattle.proof_number.proofs.ReplyLaws.{first-beside, none-beside}
 use Rattle.proof_number.proofs.ChildLaws.{child-is}
 use Rattle.proof_number.proofs.replies.judge.Goals as goal
