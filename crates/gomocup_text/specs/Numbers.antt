@@ -3,12 +3,9 @@ use Rattle.std.specs.Prelude.{ℕ, Bool, ◌&&◌, ◌==◌, if◌then◌else◌
 use Rattle.std.specs.Char.{is_ascii_digit}
 use Rattle.std.specs.List.{list_all, before_first, after_first}
 use Rattle.std.specs.Str.Parse.{digits_value}
+use Rattle.text_lines.specs.Spellings.{comma}
 use Rattle.gomocup_text.specs.Words.{trimmed}
 use Rattle.gomocup_text.specs.declared.TheConstants.{MAX_DIGITS}
-
--- what stands between two numbers
-abbrev pub comma : ℕ
-comma = 44
 
 -- one to nine digits; leading zeros are taken
 abbrev pub is_number : List ℕ → Bool

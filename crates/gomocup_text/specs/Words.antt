@@ -2,12 +2,9 @@
 use Rattle.std.specs.Prelude.{ℕ, ◌-◌, Bool, ◌||◌, ◌==◌, if◌then◌else◌, List, length, take, drop, Option, Some, None, codes, slice_index}
 use Rattle.std.specs.List.{prefix_len, suffix_len, before_first, after_first}
 use Rattle.std.specs.Str.{str_eq_ignore_ascii_case}
+use Rattle.text_lines.specs.Spellings.{space}
 use Rattle.gomocup_text.specs.declared.words.Word.{Word}
 use Rattle.gomocup_text.specs.declared.words.Word.TheVariants.{Start, RectStart, Turn, Takeback, Begin, Board, Done, Restart, About, End, Info}
-
--- a space
-abbrev pub space : ℕ
-space = 32
 
 -- a tab
 abbrev pub tab : ℕ
