@@ -8,8 +8,12 @@ use Rattle.lru.specs.LruCache.{LruCache, IsValid, put_entries}
 use Rattle.lru.proofs.CallerLemmas.{Contains-lookup_entry, Contains-lookup, Contains-promoted, Contains-take, Contains-remove_entry}
 use Rattle.lru.proofs.Splits.{Contains-cons}
 use Rattle.game_rules.proofs.Boards.{and_left, and_right}
-use Rattle.position_table.specs.Packing.{Packed}
-use Rattle.position_table.specs.Remembering.{Remembered, TestTells, same_packed, same_key, value_under, looked_up, kept}
+use Rattle.game_rules.specs.Grid.{Grid}
+use Rattle.game_rules.specs.Play.{IsPosition}
+use Rattle.game_rules.specs.declared.RuleKind.{RuleKind}
+use Rattle.position_table.specs.Packing.{Packed, packed}
+use Rattle.position_table.specs.Remembering.{Remembered, IsTrueEntry, IsTrueTable, TestTells, same_packed, same_key, value_under, looked_up, kept}
+use Rattle.position_table.proofs.Packing.{packed-tells}
 
 same_bytes : (s t : List ℕ) → pointwise nat_eq s t ≡ true → s ≡ t
 same_bytes [] [] h = refl
@@ -99,3 +103,45 @@ module _ {V : Type 0} (key : Packed × ℕ) (t : Remembered V) where
     | inl same ↦ inr same
     | inr old ↦ inl (Contains-remove_entry (same_key key) t.entries e old)
   ]
+
+-- ---- what is remembered is true, and stays true
+
+module _ {V : Type 0} (rule : RuleKind) (says : Grid → ℕ → V → Type 0) where
+  -- of a table without entries
+  pub true-none : (t : Remembered V) → t.entries ≡ [] → IsTrueTable V rule says t
+  true-none t none = record { each = λ e there. absurd (no_entry e (subst (λ (es : List ((Packed × ℕ) × V)). Contains es e) none there)) } where
+    no_entry : (e : (Packed × ℕ) × V) → Contains [] e → ⊥
+    no_entry e there = let within = there.1 in omega arith
+
+  -- after a look, or where none was taken
+  pub true-looked : (t after : Remembered V) (key : Packed × ℕ) → (after ≡ looked_up key t) ⊎ (after ≡ t) → IsTrueTable V rule says t → IsTrueTable V rule says after
+  true-looked t after key (inl is) true_of = rw is (record { each = λ e there. true_of.each e (looked_up-before key t e there) })
+  true-looked t after key (inr is) true_of = rw is true_of
+
+  -- where more is said of what is remembered
+  pub true-weaker : (more : Grid → ℕ → V → Type 0) → ((b : Grid) (tag : ℕ) (value : V) → says b tag value → more b tag value) → (t : Remembered V) → IsTrueTable V rule says t → IsTrueTable V rule more t
+  true-weaker more weaker t true_of = record {
+    each = λ e there. record { holds = λ b lawful key. weaker b e.0.1 e.1 ((true_of.each e there).holds b lawful key) };
+  }
+
+  module _ (b w : Grid) (tag : ℕ) (value : V) (t : Remembered V) (lawful : IsPosition rule b) (same : w ≡ b) (true_of : IsTrueTable V rule says t) where
+    -- what is found at a position holds there
+    pub true-found : Some value ≡ value_under (packed w, tag) t → says b tag value
+    true-found found =
+        let there : value_under (packed b, tag) t ≡ Some value = subst (λ (v : Grid). value_under (packed v, tag) t ≡ Some value) same (sym found) in
+        (true_of.each ((packed b, tag), value) (value_under-kept (packed b, tag) t value there)).holds b lawful refl
+
+    -- what holds at a position holds at each with its key, and may be kept
+    true-with : says b tag value → IsTrueTable V rule says (kept (packed b, tag) value t)
+    true-with holds = record {
+      each = λ e there. elim (kept-before (packed b, tag) t value e there) [
+        | inl old ↦ true_of.each e old
+        | inr new ↦ subst (IsTrueEntry V rule says) new (record {
+          holds = λ c at key. subst (λ (v : Grid). says v tag value) (packed-tells b c lawful.board at.board (sym key)) holds;
+        })
+      ];
+    }
+
+    pub true-kept : (after : Remembered V) → says b tag value → (after ≡ kept (packed w, tag) value t) ⊎ (after ≡ t) → IsTrueTable V rule says after
+    true-kept after holds (inl is) = rw is (subst (λ (v : Grid). IsTrueTable V rule says (kept (packed v, tag) value t)) (sym same) (true-with holds))
+    true-kept after holds (inr is) = rw is true_of

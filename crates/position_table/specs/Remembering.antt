@@ -3,8 +3,12 @@ use Rattle.std.specs.Prelude.{◌≡◌, ℕ, Bool, ◌&&◌, nat_eq, List, ◌�
 use Rattle.std.specs.Bool.{Decides}
 use Rattle.std.specs.Option.{option_map_or}
 use Rattle.std.specs.Cmp.Lexicographic.{pointwise}
+use Rattle.std.specs.List.{Contains}
 use Rattle.std.specs.Map.{lookup, lookup_entry, remove_entry}
-use Rattle.position_table.specs.Packing.{Packed}
+use Rattle.game_rules.specs.Grid.{Grid}
+use Rattle.game_rules.specs.Play.{IsPosition}
+use Rattle.game_rules.specs.declared.RuleKind.{RuleKind}
+use Rattle.position_table.specs.Packing.{Packed, packed}
 
 -- the entries, the latest used first, each a packed board and a tag with the value that was kept under them, and how many
 -- there may be
@@ -37,3 +41,11 @@ looked_up key t =
 -- where the capacity would be passed the last entry is gone
 abbrev pub kept : {V : Type 0} → Packed × ℕ → V → Remembered V → Remembered V
 kept key value t = record t { entries = take t.capacity ((key, value) ∷ remove_entry (same_key key) t.entries) }
+
+-- what is said of a board, a tag and a value holds of the entry at each lawful position with its key
+pub record IsTrueEntry (V : Type 0) (rule : RuleKind) (says : Grid → ℕ → V → Type 0) (e : (Packed × ℕ) × V) : Type 0 where
+  pub holds : (b : Grid) → IsPosition rule b → packed b ≡ e.0.0 → says b e.0.1 e.1
+
+-- what is remembered is true: it holds of each entry
+pub record IsTrueTable (V : Type 0) (rule : RuleKind) (says : Grid → ℕ → V → Type 0) (t : Remembered V) : Type 0 where
+  pub each : (e : (Packed × ℕ) × V) → Contains t.entries e → IsTrueEntry V rule says e

@@ -23,7 +23,7 @@ use Rattle.proof_number.specs.declared.notes.Note.{Note}
 use Rattle.proof_number.specs.declared.search.Search.{Search}
 use Rattle.proof_number.specs.Notes.{no_note, note_at}
 use Rattle.proof_number.specs.GameTrees.{AreTried, GameTree, HasTried, board_at, left_at, move_at, nowhere}
-use Rattle.proof_number.specs.Remembered.{IsTrueTable}
+use Rattle.proof_number.specs.Remembered.{IsTrueMemo}
 use Rattle.proof_number.specs.Searches.{Grows, HasGrown, HasSpent, IsAtLeaf, IsExpandedAt, IsSettledAt, StandsAt, attacks_behind, behind_at, defences_behind, game_of, sum_below}
 use Rattle.proof_number.proofs.Counting.{IsTriedMove, replies-positive, tried-at, tried-behind}
 use Rattle.proof_number.proofs.Expanded.{IsNewNote, expanded-grown, new_behind, unwritten_child}
@@ -246,7 +246,7 @@ module _ (rule : RuleKind) (s : Search) (t : Tree) (c : List Node) (leaf : ℕ) 
           (rest ∙ ap (λ (w : Search). record s { board = w.board; notes = v.notes; settled = w.settled; attacked = w.attacked; defended = w.defended }) (sym rest))
           (ap (λ (w : Search). w.board) rest)
           (subst IsCompiled (sym (append-nil c)) (leaf-compiled rule s t c leaf s.board stands))
-          (subst (λ (d : List Node). IsTrueTable rule d v.settled) (sym (append-nil c)) (subst (IsTrueTable rule c) (sym same_table) here.searching.remembered))
+          (subst (λ (d : List Node). IsTrueMemo rule d v.settled) (sym (append-nil c)) (subst (IsTrueMemo rule c) (sym same_table) here.searching.remembered))
           ms items (ap length noted ∙ length-map (tried_moves rule s.board) (open_note m) ∙ sym long) (omega (arith, some, size))
           tried-here child-at noted-at
           (omega (arith, count)) (omega (arith, defended)) (omega (arith, count, budget)) (omega (arith, defended, fits))

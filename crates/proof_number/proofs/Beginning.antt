@@ -27,10 +27,11 @@ use Rattle.proof_number.specs.Answers.{IsThreatWin}
 use Rattle.proof_number.specs.Growth.{GrowsBy}
 use Rattle.proof_number.specs.Notes.{no_note, note_at, win_of}
 use Rattle.proof_number.specs.GameTrees.{CanGrow, GameTree, IsGameTree, TellsTruly, WinsAt, board_at, left_at}
+use Rattle.proof_number.specs.Remembered.{IsTrueOf}
 use Rattle.proof_number.specs.Searches.{AreWritten, IsCounted, IsNew, IsNotedWin, IsSettledAt, Searches, attacks_behind, behind_at, behind_leaves, defences_behind, game_of, is_attack, noted_won, sum_below, unwritten}
 use Rattle.proof_number.proofs.GameBoards.{board-root}
 use Rattle.proof_number.proofs.GrowthLaws.{grows-length}
-use Rattle.proof_number.proofs.Remembering.{true-none}
+use Rattle.position_table.proofs.Remembering.{true-none}
 use Rattle.proof_number.proofs.Settling.{one_where}
 use Rattle.proof_number.proofs.Steps.{win-some}
 use Rattle.proof_number.proofs.Sums.{sum-suc, sum-zero}
@@ -203,7 +204,7 @@ module _ (rule : RuleKind) (s : Search) (t : Tree) (c : List Node) (begun : IsBe
     depth_fits = begun.depth_fits;
     budget_fits = begun.budget_fits;
     written = lone-written;
-    remembered = true-none rule c s.settled begun.none;
+    remembered = true-none rule (IsTrueOf rule c) s.settled begun.none;
     counted = lone-counted;
     compiled = begun.compiled;
     few = (

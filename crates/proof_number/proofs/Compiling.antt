@@ -32,7 +32,7 @@ use Rattle.proof_number.specs.GameTrees.{AreAllReplies, GameTree, HasTried, IsGa
 use Rattle.proof_number.specs.Searches.{AreWritten, IsAbove, IsCounted, IsNotedWin, IsSearching, KeepsTree, game_of, is_attack, noted_won, sum_below, unwritten}
 use Rattle.proof_number.proofs.GameTruths.{IsChildOf, child-of, each-zero, settled-proved}
 use Rattle.proof_number.proofs.Records.{written-node}
-use Rattle.proof_number.proofs.Remembering.{table-grown}
+use Rattle.proof_number.proofs.Remembering.{memo-grown}
 use Rattle.proof_number.proofs.Rising.{noted-rising}
 use Rattle.proof_number.proofs.Settling.{one_where, written-grown}
 use Rattle.proof_number.proofs.Sums.{sum-less}
@@ -272,7 +272,7 @@ module _ (rule : RuleKind) (s : Search) (t : Tree) (c : List Node) (node : ℕ) 
           depth_fits = h.depth_fits;
           budget_fits = h.budget_fits;
           written = subst (λ (g : GameTree). AreWritten g u.notes.items (c ++ more) (IsAbove t.links node)) (sym (won-places rule s t u.notes.items node win items)) won-written;
-          remembered = table-grown rule c more s.settled lower h.remembered;
+          remembered = memo-grown rule c more s.settled lower h.remembered;
           counted = subst (λ (g : GameTree). IsCounted g s.budget s.attacked s.defended) (sym (won-places rule s t u.notes.items node win items)) h.counted;
           compiled = compiled;
           few = won-few;

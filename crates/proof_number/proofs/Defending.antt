@@ -42,13 +42,13 @@ use Rattle.proof_number.specs.Growth.{GrowsBy}
 use Rattle.proof_number.specs.Notes.{no_note, note_at, win_of}
 use Rattle.proof_number.specs.Replies.{AreChildren, HasEscape, IsChild, IsJudged, counted_for, is_open, moves_for, nodes_for, replies_at}
 use Rattle.proof_number.specs.GameTrees.{AreAllReplies, CanGrow, GameTree, HasTried, TellsTruly, WinsAt, board_at, left_at}
-use Rattle.proof_number.specs.Remembered.{IsTrueTable}
+use Rattle.proof_number.specs.Remembered.{IsTrueMemo}
 use Rattle.proof_number.specs.Searches.{Grows, HasGrown, HasSpent, IsAtLeaf, IsExpandedAt, IsNotedWin, IsSettledAt, StandsAt, attacks_behind, behind_at, defences_behind, game_of, sum_below}
 use Rattle.proof_number.proofs.ChildLaws.{counted-three}
 use Rattle.proof_number.proofs.Expanded.{IsNewNote, expanded-grown, new_behind, unwritten_child}
 use Rattle.proof_number.proofs.Expanding.{IsNewChild}
 use Rattle.proof_number.proofs.Growing.{lost-grown}
-use Rattle.proof_number.proofs.Remembering.{table-grown}
+use Rattle.proof_number.proofs.Remembering.{memo-grown}
 use Rattle.proof_number.proofs.Settling.{one_where}
 use Rattle.proof_number.proofs.Steps.{leaf-lawful, leaf-noted}
 use Rattle.proof_number.proofs.Sums.{sum-le, sum-less, sum-list}
@@ -442,7 +442,7 @@ module _ (rule : RuleKind) (s : Search) (t : Tree) (c : List Node) (leaf : ℕ) 
           (expanded-grown rule s t c leaf view here u more e v grown.added
           (rest ∙ ap (λ (w : Search). record s { board = v.board; notes = v.notes; settled = w.settled; attacked = w.attacked; defended = w.defended }) (sym rest))
           same_board (subst IsCompiled grown.is compiled)
-          (table-grown rule c grown.added v.settled (IsTable-lower c here.searching.compiled.table) (subst (IsTrueTable rule c) (sym same_table) here.searching.remembered))
+          (memo-grown rule c grown.added v.settled (IsTable-lower c here.searching.compiled.table) (subst (IsTrueMemo rule c) (sym same_table) here.searching.remembered))
           ms items (settled.notes_count ∙ sym settled.numbers_count) (some-new d more ms settled)
           (tried-here d more ms settled) (child-at d more ms settled) (noted-at (c ++ grown.added) more ms settled-now)
           (omega (arith, count)) (omega (arith, defended)) (omega (arith, count, fits)) (omega (arith, defended, defended_fits))

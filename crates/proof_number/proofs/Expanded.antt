@@ -21,7 +21,7 @@ use Rattle.proof_number.specs.declared.notes.Note.{Note}
 use Rattle.proof_number.specs.declared.search.Search.{Search}
 use Rattle.proof_number.specs.Notes.{no_note, note_at, win_of}
 use Rattle.proof_number.specs.GameTrees.{GameTree, HasTried, IsGameTree, board_at, board_of, left_at, move_at, noted_tree, nowhere}
-use Rattle.proof_number.specs.Remembered.{IsTrueTable}
+use Rattle.proof_number.specs.Remembered.{IsTrueMemo}
 use Rattle.proof_number.specs.Searches.{AreWritten, HasGrown, IsAtLeaf, IsCounted, IsExpandedAt, IsNotedWin, IsSearching, attacks_behind, behind_at, defences_behind, game_of, is_attack, sum_below, unwritten}
 use Rattle.proof_number.proofs.Expanding.{IsLonger, IsNewChild, longer, game-grown, behind-grown, child-behind, child-counts, closed-grown, old-board, new-board, old-kind, old-left, new-kind, new-left, old-numbers, split}
 use Rattle.proof_number.proofs.Settling.{one_where, written-grown}
@@ -51,7 +51,7 @@ new_behind f rule kind b note numbers = cond (not (is_settled numbers)) (f (othe
 
 module _ (rule : RuleKind) (s : Search) (t : Tree) (c : List Node) (leaf : ℕ) (view : Grid) (h : IsAtLeaf rule s t c leaf view) (u : Tree) (more : List Numbers) (e : IsExpandedAt t u leaf more)
     (v : Search) (nodes : List Node) (rest : v ≡ record s { board = v.board; notes = v.notes; settled = v.settled; attacked = v.attacked; defended = v.defended }) (same_board : v.board ≡ s.board)
-    (compiled : IsCompiled (c ++ nodes)) (table : IsTrueTable rule (c ++ nodes) v.settled) (ms : List Note) (items : v.notes.items ≡ s.notes.items ++ ms) (many : length ms ≡ length more) (some : 0 < length more)
+    (compiled : IsCompiled (c ++ nodes)) (table : IsTrueMemo rule (c ++ nodes) v.settled) (ms : List Note) (items : v.notes.items ≡ s.notes.items ++ ms) (many : length ms ≡ length more) (some : 0 < length more)
     (tried : HasTried (link_at t.links leaf).kind rule (left_at (game_of rule s t).left leaf) (board_at (game_of rule s t) leaf) (map (λ n. n.at) ms))
     (each : (j : ℕ) → j < length more → IsNewChild rule (link_at t.links leaf).kind (left_at (game_of rule s t).left leaf) (board_at (game_of rule s t) leaf) (note_at ms j).at (note_at ms j).left (numbers_at more j))
     (noted : (j : ℕ) → j < length more → IsNewNote rule (link_at t.links leaf).kind (board_at (game_of rule s t) leaf) (c ++ nodes) (note_at ms j) (numbers_at more j))

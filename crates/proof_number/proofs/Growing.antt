@@ -20,7 +20,7 @@ use Rattle.proof_number.specs.declared.notes.Note.{Note}
 use Rattle.proof_number.specs.declared.search.Search.{Search}
 use Rattle.proof_number.specs.Notes.{no_note, note_at, win_of}
 use Rattle.proof_number.specs.GameTrees.{GameTree, IsGameTree, TellsTruly, WinsAt, board_at, left_at, noted_tree}
-use Rattle.proof_number.specs.Remembered.{IsTrueTable}
+use Rattle.proof_number.specs.Remembered.{IsTrueMemo}
 use Rattle.proof_number.specs.Searches.{AreWritten, HasGrown, IsAtLeaf, IsCounted, IsNotedWin, IsSearching, IsSettledAt, attacks_behind, closed_nodes, game_of, is_attack, noted_won, sum_below, unwritten}
 use Rattle.proof_number.proofs.Compiling.{won-places}
 use Rattle.proof_number.proofs.Settling.{one_where, closed-settled, counted-settled, game-settled, written-grown, written-settled}
@@ -29,7 +29,7 @@ use Rattle.proof_number.proofs.Sums.{sum-less}
 -- the search s at its leaf, and v after the leaf is settled in the tree u; c grows by more nodes
 module _ (rule : RuleKind) (s : Search) (t : Tree) (c : List Node) (leaf : ℕ) (view : Grid) (h : IsAtLeaf rule s t c leaf view) (u : Tree) (p : Bool) (st : IsSettledAt t u leaf p)
     (v : Search) (more : List Node) (rest : v ≡ record s { board = v.board; notes = v.notes; settled = v.settled; attacked = v.attacked }) (same_board : v.board ≡ s.board)
-    (compiled : IsCompiled (c ++ more)) (table : IsTrueTable rule (c ++ more) v.settled)
+    (compiled : IsCompiled (c ++ more)) (table : IsTrueMemo rule (c ++ more) v.settled)
     (truth : TellsTruly (settled_numbers p) (WinsAt (link_at t.links leaf).kind rule (left_at (game_of rule s t).left leaf) (board_at (game_of rule s t) leaf)))
     (grows : s.attacked ≤ v.attacked) (fits : v.attacked ≤ s.budget) (behind : v.attacked ≤ s.attacked + attacks_behind (link_at t.links leaf).kind rule (left_at (game_of rule s t).left leaf) (board_at (game_of rule s t) leaf))
     (places : (w : Tree) → noted_tree rule s.root w v.notes.items ≡ game_of rule s w) (depth : (note_at v.notes.items 0).left ≡ (note_at s.notes.items 0).left)
@@ -98,7 +98,7 @@ tells-lost W lost = record { proved = λ e. absurd (unlike (settled_numbers fals
 -- an attacker's leaf is settled as won
 module _ (rule : RuleKind) (s : Search) (t : Tree) (c : List Node) (leaf : ℕ) (view : Grid) (h : IsAtLeaf rule s t c leaf view) (attack : (link_at t.links leaf).kind ≡ Attack) (u : Tree) (st : IsSettledAt t u leaf true)
     (v : Search) (more : List Node) (rest : v ≡ record s { board = v.board; notes = v.notes; settled = v.settled; attacked = v.attacked }) (same_board : v.board ≡ s.board)
-    (compiled : IsCompiled (c ++ more)) (table : IsTrueTable rule (c ++ more) v.settled) (win : WrittenWin) (items : v.notes.items ≡ noted_won s.notes.items leaf win) (some : 0 < win.moves)
+    (compiled : IsCompiled (c ++ more)) (table : IsTrueMemo rule (c ++ more) v.settled) (win : WrittenWin) (items : v.notes.items ≡ noted_won s.notes.items leaf win) (some : 0 < win.moves)
     (written : IsWrittenWin rule (left_at (game_of rule s t).left leaf) (board_at (game_of rule s t) leaf) (c ++ more) win)
     (wins : WinsByThreats rule (left_at (game_of rule s t).left leaf) (board_at (game_of rule s t) leaf))
     (grows : s.attacked ≤ v.attacked) (fits : v.attacked ≤ s.budget) (behind : v.attacked ≤ s.attacked + attacks_behind Attack rule (left_at (game_of rule s t).left leaf) (board_at (game_of rule s t) leaf))
@@ -154,7 +154,7 @@ module _ (rule : RuleKind) (s : Search) (t : Tree) (c : List Node) (leaf : ℕ) 
 
 -- a leaf is settled as lost
 module _ (rule : RuleKind) (s : Search) (t : Tree) (c : List Node) (leaf : ℕ) (view : Grid) (h : IsAtLeaf rule s t c leaf view) (u : Tree) (st : IsSettledAt t u leaf false)
-    (v : Search) (rest : v ≡ record s { board = v.board; settled = v.settled }) (same_board : v.board ≡ s.board) (table : IsTrueTable rule c v.settled)
+    (v : Search) (rest : v ≡ record s { board = v.board; settled = v.settled }) (same_board : v.board ≡ s.board) (table : IsTrueMemo rule c v.settled)
     (lost : WinsAt (link_at t.links leaf).kind rule (left_at (game_of rule s t).left leaf) (board_at (game_of rule s t) leaf) → ⊥) where
   pub lost-grown : HasGrown rule s v t u c leaf
   lost-grown =
@@ -164,7 +164,7 @@ module _ (rule : RuleKind) (s : Search) (t : Tree) (c : List Node) (leaf : ℕ) 
       subst (λ (x : Search). HasGrown rule s x t u c leaf) (sym rest)
       (subst (λ (d : List Node). HasGrown rule s (record s { board = v.board; settled = v.settled }) t u d leaf) nil
       (settled-grown rule s t c leaf view h u false st (record s { board = v.board; settled = v.settled }) [] refl same_board
-      (subst IsCompiled (sym nil) k.compiled) (subst (λ (d : List Node). IsTrueTable rule d v.settled) (sym nil) table)
+      (subst IsCompiled (sym nil) k.compiled) (subst (λ (d : List Node). IsTrueMemo rule d v.settled) (sym nil) table)
       (tells-lost (WinsAt (link_at t.links leaf).kind rule (left_at (game_of rule s t).left leaf) (board_at (game_of rule s t) leaf)) lost)
       (omega arith) k.counted.attacked_fits (omega arith) (λ x. refl) refl (λ i other. refl)
       (λ positive. subst (λ (d : List Node). IsNotedWin rule (left_at (game_of rule s t).left leaf) (board_at (game_of rule s t) leaf) d (win_of (note_at s.notes.items leaf))) (sym nil) (k.written.true_wins leaf h.in_tree positive))

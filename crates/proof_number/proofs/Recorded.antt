@@ -22,7 +22,7 @@ use Rattle.proof_number.specs.Remembered.{IsTrueOf}
 use Rattle.proof_number.specs.Searches.{IsAbove, IsSearching, Searches, game_of}
 use Rattle.proof_number.proofs.GameBoards.{position-at}
 use Rattle.proof_number.proofs.Recording.{lost-node, noted-some, remembered-searching, way-above, way-parent, way-root, won-node}
-use Rattle.proof_number.proofs.Remembering.{true-kept}
+use Rattle.position_table.proofs.Remembering.{true-kept}
 
 module _ (rule : RuleKind) (s : Search) (t : Tree) (c : List Node) (node : ℕ) (searches : Searches rule s t c (IsOnWayUp t.links node)) where
   h : IsSearching rule s t c (IsOnWayUp t.links node)
@@ -76,12 +76,13 @@ module _ (rule : RuleKind) (s : Search) (t : Tree) (c : List Node) (node : ℕ) 
 
   -- what is true of the node is kept in the table
   pub kept-searches : (u : Search) (w : Grid) (n : ℕ) (v : Settled) → node < length t.links → u ≡ record s { settled = u.settled } → w ≡ board_at (game_of rule s t) node → n ≡ left_at (game_of rule s t).left node
-      → IsTrueOf rule c (left_at (game_of rule s t).left node) (board_at (game_of rule s t) node) v → (u.settled ≡ kept (packed w, n) v s.settled) ⊎ (u.settled ≡ s.settled) → Searches rule u t c (IsAbove t.links node)
+      → IsTrueOf rule c (board_at (game_of rule s t) node) (left_at (game_of rule s t).left node) v → (u.settled ≡ kept (packed w, n) v s.settled) ⊎ (u.settled ≡ s.settled) → Searches rule u t c (IsAbove t.links node)
   unfolding Searches
   kept-searches u w n v inside rest there left true_of keeps =
       remembered-searching rule s u t c (IsAbove t.links node) rest
-      (true-kept rule c (board_at (game_of rule s t) node) w n v s.settled u.settled (position-at (game_of rule s t) above.tree.linked above.game node inside) there
-      (subst (λ (m : ℕ). IsTrueOf rule c m (board_at (game_of rule s t) node) v) (sym left) true_of) keeps above.remembered) above
+      (true-kept rule (IsTrueOf rule c) (board_at (game_of rule s t) node) w n v s.settled
+      (position-at (game_of rule s t) above.tree.linked above.game node inside) there above.remembered u.settled
+      (subst (λ (m : ℕ). IsTrueOf rule c (board_at (game_of rule s t) node) m v) (sym left) true_of) keeps) above
 
   pub above-inside : node < length t.links → node < length s.notes.items
   above-inside inside = let long = length-map s.notes.items (λ (n : Note). n.at) in let e = above.game.moves in omega (arith, long, e, inside)

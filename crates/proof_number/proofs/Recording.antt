@@ -16,7 +16,7 @@ use Rattle.proof_number.specs.declared.notes.Note.{Note}
 use Rattle.proof_number.specs.declared.search.Search.{Search}
 use Rattle.proof_number.specs.Notes.{note_at, noted_win, win_of}
 use Rattle.proof_number.specs.GameTrees.{WinsAt, board_at, left_at}
-use Rattle.proof_number.specs.Remembered.{IsTrueTable}
+use Rattle.proof_number.specs.Remembered.{IsTrueMemo}
 use Rattle.proof_number.specs.Searches.{IsAbove, IsSameAim, IsSearching, KeepsTree, game_of}
 use Rattle.proof_number.proofs.GameTruths.{all-tell, settled-one}
 
@@ -152,7 +152,7 @@ settled-won n s none = elim (settled-one n s) [
 
 -- ---- what is remembered
 
-pub remembered-searching : (rule : RuleKind) (s u : Search) (t : Tree) (c : List Node) (way : ℕ → Type 0) → u ≡ record s { settled = u.settled } → IsTrueTable rule c u.settled → IsSearching rule s t c way → IsSearching rule u t c way
+pub remembered-searching : (rule : RuleKind) (s u : Search) (t : Tree) (c : List Node) (way : ℕ → Type 0) → u ≡ record s { settled = u.settled } → IsTrueMemo rule c u.settled → IsSearching rule s t c way → IsSearching rule u t c way
 remembered-searching rule s u t c way rest table h = subst (λ (w : Search). IsSearching rule w t c way) (sym rest) (record {
   tree = h.tree;
   game = h.game;

@@ -1,5 +1,5 @@
 -- The steps of a search, in the words of its contracts.
-use Rattle.std.proofs.Common.{◌≡◌, ℕ, zero, suc, ◌+◌, ◌<◌, ◌≤◌, Bool, true, false, sym, ap, subst, ◌∙◌, arith, List, [], ◌++◌, append-nil, length}
+use Rattle.std.proofs.Common.{◌≡◌, ℕ, zero, suc, ◌+◌, ◌<◌, ◌≤◌, Bool, true, false, inl, sym, ap, subst, ◌∙◌, arith, List, [], ◌++◌, append-nil, length}
 use Rattle.std.specs.Prelude.{Some, Result, Ok, Err}
 use Rattle.strategy_compiler.specs.declared.error.SearchError.{SearchError}
 use Rattle.proof_number.specs.declared.search.Step.{Step}
@@ -28,12 +28,13 @@ use Rattle.proof_number.specs.declared.notes.Settled.{Settled}
 use Rattle.proof_number.specs.Notes.{no_note, note_at}
 use Rattle.proof_number.specs.declared.search.Search.{Search}
 use Rattle.proof_number.specs.GameTrees.{CanGrow, WinsAt, board_at, left_at}
-use Rattle.proof_number.specs.Remembered.{IsTrueOf, IsTrueTable}
+use Rattle.proof_number.specs.Remembered.{IsTrueOf, IsTrueMemo}
 use Rattle.proof_number.specs.Searches.{Searches, Grows, HasGrown, HasSpent, HasStayed, KeepsTree, OnStep, IsAtLeaf, IsNotedWin, IsSettledAt, StandsAt, game_of, noted_won}
 use Rattle.proof_number.proofs.GameBoards.{left-low, position-at}
 use Rattle.proof_number.proofs.Growing.{lost-grown, won-grown}
 use Rattle.proof_number.proofs.TreeLaws.{tree-positive}
-use Rattle.proof_number.proofs.Remembering.{found-true, table-grown, true-looked}
+use Rattle.position_table.proofs.Remembering.{true-found, true-looked}
+use Rattle.proof_number.proofs.Remembering.{memo-grown}
 
 -- a written win has a move
 pub win-some : (rule : RuleKind) (n : ℕ) (b : Grid) (c : List Node) (win : WrittenWin) → IsWrittenWin rule n b c win → 0 < win.moves
@@ -96,7 +97,7 @@ module _ (rule : RuleKind) (s : Search) (t : Tree) (c : List Node) (leaf : ℕ) 
     module _ (u : Tree) (st : IsSettledAt t u leaf true) (v : Search) (more : List Node) (rest : v ≡ record s { board = v.board; notes = v.notes; settled = v.settled; attacked = v.attacked }) (same_board : v.board ≡ s.board)
         (d : List Node) (grown : d ≡ c ++ more) (compiled : IsCompiled d) (win : WrittenWin) (items : v.notes.items ≡ noted_won s.notes.items leaf win)
         (noted : IsNotedWin rule (note_at s.notes.items leaf).left view d win) (grows : s.attacked ≤ v.attacked) (fits : v.attacked ≤ s.budget) (behind : v.attacked + 1 ≤ s.attacked + threat_tree rule (note_at s.notes.items leaf).left view)
-        (short : s.attacked + length more ≤ v.attacked + 1) (table : IsTrueTable rule c v.settled) where
+        (short : s.attacked + length more ≤ v.attacked + 1) (table : IsTrueMemo rule c v.settled) where
       pub won-step : Grows rule s v t u d leaf
       unfolding Grows
       won-step =
@@ -107,11 +108,11 @@ module _ (rule : RuleKind) (s : Search) (t : Tree) (c : List Node) (leaf : ℕ) 
           ap (λ (n : ℕ). threat_tree rule n view) (sym left-noted) ∙ ap (threat_tree rule (left_at (game_of rule s t).left leaf)) at-leaf.view_is in
           subst (λ (x : List Node). HasGrown rule s v t u x leaf) (sym grown)
           (won-grown rule s t c leaf view at-leaf attack u st v more rest same_board (subst IsCompiled grown compiled)
-          (table-grown rule c more v.settled (IsTable-lower c at-leaf.searching.compiled.table) table) win items (win-some rule (left_at (game_of rule s t).left leaf) (board_at (game_of rule s t) leaf) (c ++ more) win w.0) w.0 w.1
+          (memo-grown rule c more v.settled (IsTable-lower c at-leaf.searching.compiled.table) table) win items (win-some rule (left_at (game_of rule s t).left leaf) (board_at (game_of rule s t) leaf) (c ++ more) win w.0) w.0 w.1
           grows fits (omega (arith, behind, tree_is)) short)
 
     -- none is known to be there
-    module _ (u : Tree) (st : IsSettledAt t u leaf false) (v : Search) (rest : v ≡ record s { board = v.board; settled = v.settled }) (same_board : v.board ≡ s.board) (table : IsTrueTable rule c v.settled)
+    module _ (u : Tree) (st : IsSettledAt t u leaf false) (v : Search) (rest : v ≡ record s { board = v.board; settled = v.settled }) (same_board : v.board ≡ s.board) (table : IsTrueMemo rule c v.settled)
         (none : WinsByThreats rule (note_at s.notes.items leaf).left view → ⊥) where
       pub lost-step : Grows rule s v t u c leaf
       unfolding Grows
@@ -120,10 +121,11 @@ module _ (rule : RuleKind) (s : Search) (t : Tree) (c : List Node) (leaf : ℕ) 
           none (subst (λ (n : ℕ). WinsByThreats rule n view) left-noted (subst (WinsByThreats rule (left_at (game_of rule s t).left leaf)) (sym at-leaf.view_is) win)))
 
     -- what is found in the table holds of the view
-    pub leaf-found : (w : Grid) (v : Settled) → w ≡ view → Some v ≡ value_under (packed w, (note_at s.notes.items leaf).left) s.settled → IsTrueOf rule c (note_at s.notes.items leaf).left view v
-    leaf-found w v same found = found-true rule c view w (note_at s.notes.items leaf).left v s.settled leaf-lawful same at-leaf.searching.remembered found
+    pub leaf-found : (w : Grid) (v : Settled) → w ≡ view → Some v ≡ value_under (packed w, (note_at s.notes.items leaf).left) s.settled → IsTrueOf rule c view (note_at s.notes.items leaf).left v
+    leaf-found w v same found =
+        true-found rule (IsTrueOf rule c) view w (note_at s.notes.items leaf).left v s.settled leaf-lawful same at-leaf.searching.remembered found
 
-  pub leaf-table : IsTrueTable rule c s.settled
+  pub leaf-table : IsTrueMemo rule c s.settled
   leaf-table = at-leaf.searching.remembered
 
   pub leaf-budget : s.attacked ≤ s.budget
@@ -148,8 +150,8 @@ settled-at t u leaf p is links settled others leaves tree = record {
 
 module _ (rule : RuleKind) (s : Search) (t : Tree) (c : List Node) (leaf : ℕ) (view : Grid) (stands : StandsAt rule s t c leaf view) (attack : (link_at t.links leaf).kind ≡ Attack)
     (mid : Search) (first : mid ≡ record s { settled = mid.settled }) (key : Packed × ℕ) (looked : mid.settled ≡ looked_up key s.settled) where
-  table-now : IsTrueTable rule c mid.settled
-  table-now = true-looked rule c s.settled mid.settled key looked (leaf-table rule s t c leaf view stands)
+  table-now : IsTrueMemo rule c mid.settled
+  table-now = true-looked rule (IsTrueOf rule c) s.settled mid.settled key (inl looked) (leaf-table rule s t c leaf view stands)
 
   -- what is remembered as won is settled so
   pub recalled-won : (u : Tree) → IsSettledAt t u leaf true → (v : Search) → v ≡ record mid { notes = v.notes } → (win : WrittenWin) → v.notes.items ≡ noted_won mid.notes.items leaf win
@@ -161,7 +163,7 @@ module _ (rule : RuleKind) (s : Search) (t : Tree) (c : List Node) (leaf : ℕ) 
       let positive = tree-positive rule (note_at s.notes.items leaf).left view in
       won-step rule s t c leaf view stands attack u st v [] (rest-of s mid v first second) board c (sym (append-nil c)) (leaf-compiled rule s t c leaf view stands) win
       (items ∙ ap (λ (w : Search). noted_won w.notes.items leaf win) first) noted (omega (arith, count)) (omega (arith, count, fits)) (omega (arith, count, positive)) (omega (arith, count))
-      (subst (IsTrueTable rule c) (sym (ap (λ (w : Search). w.settled) second)) table-now)
+      (subst (IsTrueMemo rule c) (sym (ap (λ (w : Search). w.settled) second)) table-now)
 
   -- and what is remembered as lost
   pub recalled-lost : (u : Tree) → IsSettledAt t u leaf false → (WinsByThreats rule (note_at s.notes.items leaf).left view → ⊥) → Grows rule s mid t u c leaf

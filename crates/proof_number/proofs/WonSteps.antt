@@ -24,7 +24,7 @@ use Rattle.proof_number.specs.Growth.{GrowsBy}
 use Rattle.proof_number.specs.Notes.{no_note, note_at}
 use Rattle.proof_number.specs.Replies.{answer_nodes}
 use Rattle.proof_number.specs.GameTrees.{GameTree, board_at, left_at}
-use Rattle.proof_number.specs.Remembered.{IsTrueTable}
+use Rattle.proof_number.specs.Remembered.{IsTrueMemo}
 use Rattle.proof_number.specs.Searches.{Grows, HasSpent, IsAtLeaf, IsSettledAt, StandsAt, attacks_behind, behind_at, game_of, is_attack, noted_won, sum_below, unwritten}
 use Rattle.proof_number.proofs.Recording.{keeps-all}
 use Rattle.proof_number.proofs.Settling.{one_where}
@@ -130,4 +130,4 @@ module _ (rule : RuleKind) (s : Search) (t : Tree) (c : List Node) (leaf : ℕ) 
           (rest ∙ ap (λ (w : Search). record s { board = w.board; notes = v.notes; settled = w.settled; attacked = w.attacked }) (sym rest))
           (ap (λ (w : Search). w.board) rest) d grown.is compiled win items (is.written, is.by_threats)
           (omega (arith, count)) (omega (arith, count, fits)) (omega (arith, count, few)) (omega (arith, count, long))
-          (subst (λ (w : Search). IsTrueTable rule c w.settled) (sym rest) here.searching.remembered)
+          (subst (λ (w : Search). IsTrueMemo rule c w.settled) (sym rest) here.searching.remembered)

@@ -22,7 +22,7 @@ use Rattle.strategy_compiler.specs.declared.wins.WrittenWin.{WrittenWin}
 use Rattle.proof_number.specs.ThreatGame.{behind_replies, threat_tree}
 use Rattle.proof_number.specs.Notes.{note_at, win_of}
 use Rattle.proof_number.specs.GameTrees.{GameTree, IsGameTree, board_at, left_at, noted_tree}
-use Rattle.proof_number.specs.Remembered.{IsTrueTable}
+use Rattle.proof_number.specs.Remembered.{IsTrueMemo}
 
 -- the tree of the search as a tree of the game
 abbrev pub game_of : RuleKind → Search → Tree → GameTree
@@ -109,7 +109,7 @@ pub record IsSearching (rule : RuleKind) (s : Search) (t : Tree) (c : List Node)
   pub depth_fits : s.depth ≤ MAX_DEPTH
   pub budget_fits : s.budget ≤ MAX_BUDGET
   pub written : AreWritten (game_of rule s t) s.notes.items c way
-  pub remembered : IsTrueTable rule c s.settled
+  pub remembered : IsTrueMemo rule c s.settled
   pub counted : IsCounted (game_of rule s t) s.budget s.attacked s.defended
   pub compiled : IsCompiled c
   pub few : length c + sum_below (length t.links) (unwritten t s.notes.items) ≤ s.before + s.attacked

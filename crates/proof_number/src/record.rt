@@ -18,7 +18,7 @@ ghost use Rattle.proof_tree.specs.Trees.{IsTree, IsChild, IsOnWayUp, link_at, nu
 ghost use Rattle.proof_tree.specs.declared.Kind.{Kind as AnyKind};
 ghost use Rattle.proof_number.specs.Notes.{note_at, answer_of};
 ghost use Rattle.proof_number.specs.GameTrees.{board_at, left_at};
-ghost use Rattle.proof_number.specs.Remembered.{IsTrueOf, IsTrueTable};
+ghost use Rattle.proof_number.specs.Remembered.{IsTrueOf, IsTrueMemo};
 ghost use Rattle.proof_number.specs.Searches.{Searches, IsAbove, KeepsTree, game_of, noted_won};
 
 use crate::notes::{Note, Settled};
@@ -73,7 +73,7 @@ impl Search {
         requires in_tree { node < length tree.now.links }
         requires searching { Searches R.KIND self.old tree.now compiler.old (IsOnWayUp tree.now.links node) }
         ensures value { IfOk result (λ found. IfSome found (IsTrueOf R.KIND compiler.new
-            (left_at (game_of R.KIND self.old tree.now).left node) (board_at (game_of R.KIND self.old tree.now) node))) }
+            (board_at (game_of R.KIND self.old tree.now) node) (left_at (game_of R.KIND self.old tree.now).left node))) }
         ensures searching { OnOk result (Searches R.KIND self.new tree.now compiler.new (IsAbove tree.now.links node)) }
         ensures keeps { KeepsTree self.old self.new }
         ensures kept { (more : List Node) × (compiler.new ≡ compiler.old ++ more) }

@@ -5,5 +5,4 @@ pub mod Holding
 -- the walk, and the verdict on it
 mod Walking
 mod Refusals
-mod Remembering
 mod Sureness

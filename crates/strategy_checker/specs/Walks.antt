@@ -1,14 +1,12 @@
 -- How a walk through a table stops before it has met every reply, what it remembers, and which answers are sure.
 use Rattle.std.specs.Prelude.{◌≡◌, ◌==◌, ◌&&◌, ℕ, Bool, true, false, not, Option, Some, None, List, [], ◌∷◌, ◌++◌, slice_get}
-use Rattle.std.specs.List.{Contains}
 use Rattle.std.specs.Option.{option_map}
 use Rattle.game_rules.specs.Grid.{Grid}
-use Rattle.game_rules.specs.Play.{IsPosition, mover, other}
+use Rattle.game_rules.specs.Play.{mover, other}
 use Rattle.game_rules.specs.Shapes.{five, is_same_point}
 use Rattle.game_rules.specs.declared.Point.{Point}
 use Rattle.game_rules.specs.declared.RuleKind.{RuleKind}
-use Rattle.position_table.specs.Packing.{Packed, packed}
-use Rattle.position_table.specs.Remembering.{Remembered}
+use Rattle.position_table.specs.Remembering.{Remembered, IsTrueTable}
 use Rattle.strategy_graph.specs.Acceptance.{Accepted}
 use Rattle.strategy_graph.specs.Arrivals.{arrivals}
 use Rattle.strategy_graph.specs.declared.Node.{Node}
@@ -31,14 +29,14 @@ IsNoted p old new (Fault why) stop = Stopped (λ w. (w ≡ why) × (new ≡ old 
 IsNoted p old new Spent stop = stop ≡ Spent
 IsNoted p old new Memory stop = stop ≡ Memory
 
--- at each lawful position with the key of the entry, the node that is its tag is accepted, and its value is their arrivals
-pub record IsTrueEntry (rule : RuleKind) (t : List Node) (e : (Packed × ℕ) × ℕ) : Type 0 where
-  pub accepted : (b : Grid) → IsPosition rule b → packed b ≡ e.0.0 → Accepted rule t e.0.1 b
-  pub counted : (b : Grid) → IsPosition rule b → packed b ≡ e.0.0 → arrivals rule t e.0.1 b ≡ e.1
+-- node i is accepted at the board, with so many arrivals
+pub record IsWalked (rule : RuleKind) (t : List Node) (b : Grid) (i n : ℕ) : Type 0 where
+  pub accepted : Accepted rule t i b
+  pub counted : arrivals rule t i b ≡ n
 
--- each entry that is remembered is true
-pub record IsTrueMemo (rule : RuleKind) (t : List Node) (memo : Remembered ℕ) : Type 0 where
-  pub each : (e : (Packed × ℕ) × ℕ) → Contains memo.entries e → IsTrueEntry rule t e
+-- what a walk remembers is true: under a board and a node stand the arrivals of the node, which is accepted there
+abbrev pub IsTrueMemo : RuleKind → List Node → Remembered ℕ → Type 0
+IsTrueMemo rule t memo = IsTrueTable ℕ rule (IsWalked rule t) memo
 
 -- it is a node of the table with its attack, and the attack is a five point of the side that is not to move at b
 pub record IsSure (rule : RuleKind) (t : List Node) (b : Grid) (s : Sure) : Type 0 where

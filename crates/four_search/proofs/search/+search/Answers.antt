@@ -20,8 +20,9 @@ use Rattle.four_search.specs.Searching.{found_trying, found_behind, found_answer
 use Rattle.four_search.proofs.Trying.{try_all, try_all-none, step_at, step-goes_on, step-ends, found-nothing, answering-no-more, behind-else}
 use Rattle.four_search.proofs.Forcing.{block-none, block-threat, block-last, trying-else, trying-goes}
 use Rattle.position_table.specs.Packing.{packed}
-use Rattle.four_search.specs.Remembering.{IsTrueMemo}
-use Rattle.four_search.proofs.Remembering.{true-looked, found-remembered, true-kept}
+use Rattle.position_table.proofs.Remembering.{true-looked, true-found, true-kept}
+use Rattle.four_search.specs.Remembering.{IsTrueMemo, IsDenied}
+use Rattle.four_search.proofs.Remembering.{denied-found, found-denied}
 use Rattle.four_search.proofs.search.+search.Goals as goal
 use Rattle.four_search.proofs.search.+search.Goals.{try_makers-then-takes+in_ok-found+in-NoWin, try_makers-else-takes}
 
@@ -135,21 +136,24 @@ behind-returns-in_default g t c =
 pub remembered-returns-in-Some-clause-found : goal.remembered-returns-in-Some-clause-found
 remembered-returns-in-Some-clause-found g t c =
     let b : Grid = g.V.Seen.position c.args.view.now in
-    found-remembered g.R.Rule.KIND b c.board.result.now c.args.moves c.args.budget c.requires.lawful c.board.ensures.board c.in-Some.count c.args.memo.now c.without_win.result c.requires.memo c.in-Some.ensures.count c.without_win.ensures.found
+    denied-found g.R.Rule.KIND b c.args.moves c.args.budget c.in-Some.count c.without_win.result
+    (true-found g.R.Rule.KIND (IsDenied g.R.Rule.KIND) b c.board.result.now c.args.moves c.in-Some.count c.args.memo.now c.requires.lawful c.board.ensures.board c.requires.memo c.in-Some.ensures.count)
+    c.without_win.ensures.found
 
 pub remembered-returns-in-Some-clause-memo : goal.remembered-returns-in-Some-clause-memo
-remembered-returns-in-Some-clause-memo g t c = true-looked g.R.Rule.KIND c.args.memo.now _ (packed c.board.result.now, c.args.moves) c.find.ensures.entries c.requires.memo
+remembered-returns-in-Some-clause-memo g t c = true-looked g.R.Rule.KIND (IsDenied g.R.Rule.KIND) c.args.memo.now _ (packed c.board.result.now, c.args.moves) c.find.ensures.entries c.requires.memo
 
 pub remembered-search_on-requires : goal.remembered-search_on-requires
 remembered-search_on-requires g t c κs within =
-    let memo : IsTrueMemo g.R.Rule.KIND c.find.new.self = true-looked g.R.Rule.KIND c.args.memo.now _ (packed c.board.result.now, c.args.moves) c.find.ensures.entries c.requires.memo in
+    let memo : IsTrueMemo g.R.Rule.KIND c.find.new.self = true-looked g.R.Rule.KIND (IsDenied g.R.Rule.KIND) c.args.memo.now _ (packed c.board.result.now, c.args.moves) c.find.ensures.entries c.requires.memo in
     search rules
 
 pub remembered-returns-in-NoWin-clause-memo : goal.remembered-returns-in-NoWin-clause-memo
 remembered-returns-in-NoWin-clause-memo g t c =
     let b : Grid = g.V.Seen.position c.args.view.now in
-    true-kept g.R.Rule.KIND b c.board-in-NoWin.result.now c.args.moves c.args.budget c.requires.lawful (c.board-in-NoWin.ensures.board ∙ c.in_ok-found.ensures.same) c.in-NoWin.left c.search_on.new.memo _
-    (sym c.in-NoWin.is ∙ c.in_ok-found.ensures.found) c.keep.ensures.kept c.in_ok-found.ensures.memo
+    true-kept g.R.Rule.KIND (IsDenied g.R.Rule.KIND) b c.board-in-NoWin.result.now c.args.moves (c.args.budget - c.in-NoWin.left) c.search_on.new.memo
+    c.requires.lawful (c.board-in-NoWin.ensures.board ∙ c.in_ok-found.ensures.same) c.in_ok-found.ensures.memo _
+    (found-denied g.R.Rule.KIND b c.args.moves c.args.budget c.in-NoWin.left (sym c.in-NoWin.is ∙ c.in_ok-found.ensures.found)) c.keep.ensures.kept
 
 pub search_on-returns-then-rules_out-clause-found : goal.search_on-returns-then-rules_out-clause-found
 search_on-returns-then-rules_out-clause-found g t c =

@@ -1,4 +1,4 @@
-use Rattle.std.proofs.Common.{rules, ◌≡◌, Bool, ◌+◌, ◌-◌, ◌*◌, ◌<◌, ℕ, [], true, false, length, reverse, refl, sym, ap, subst, ◌∙◌, arith}
+use Rattle.std.proofs.Common.{rules, ◌≡◌, Bool, ◌+◌, ◌-◌, ◌*◌, ◌<◌, ℕ, [], true, false, length, reverse, refl, inl, sym, ap, subst, ◌∙◌, arith}
 use Rattle.std.specs.Prelude.{Some, None, if◌then◌else◌}
 use Rattle.std.proofs.lemmas.Option.{slice_get_within}
 use Rattle.std.proofs.lemmas.Result.{err_from_is_err_and, IfErr-weaker}
@@ -19,9 +19,9 @@ use Rattle.strategy_graph.proofs.Growth.{names_below-more}
 use Rattle.strategy_graph.proofs.Answering.{answer-below}
 use Rattle.strategy_graph.proofs.Steps.{arrivals-positive, accepted-by-win, accepted-by-replies, arrivals-by-replies, arrivals-one, arrivals-answer, met-answer, met-all, leads-answer}
 use Rattle.strategy_checker.proofs.Walking.{played-lawful, played-fewer, played-stone, lifted-back, lifted-unwon, fault-stops, noted-stops, stops-map, attack-leads, attack-then-leads, All-first, All-none, sum-first, on-ok, on-ok-map}
-use Rattle.strategy_checker.proofs.Remembering.{true-looked, true-kept, found-accepted, found-counted}
+use Rattle.position_table.proofs.Remembering.{true-looked, true-kept, true-found}
 use Rattle.strategy_checker.proofs.Sureness.{sure-accepted}
-use Rattle.strategy_checker.specs.Walks.{IsTrueMemo}
+use Rattle.strategy_checker.specs.Walks.{IsTrueMemo, IsWalked}
 use Rattle.strategy_checker.proofs.walk.Walk.+walk.Goals as goal
 
 -- ---- the answer to a reply
@@ -214,18 +214,18 @@ visit-returns-in-Draws-clause-stopped g t c =
 pub go_on-overflow_sub-others : goal.go_on-overflow_sub-others
 go_on-overflow_sub-others g t c =
     let some = arrivals-positive g.R.Rule.KIND c.args.table.now c.args.i c.args.position.now in
-    let counted = found-counted g.R.Rule.KIND c.args.table.now c.args.position.now c.board.result.now c.args.i c.in-Some.arrivals c.requires.lawful c.board.ensures.board c.args.self.now.memo c.requires.memo c.in-Some.ensures.value in
+    let counted = (true-found g.R.Rule.KIND (IsWalked g.R.Rule.KIND c.args.table.now) c.args.position.now c.board.result.now c.args.i c.in-Some.arrivals c.args.self.now.memo c.requires.lawful c.board.ensures.board c.requires.memo c.in-Some.ensures.value).counted in
     omega (arith, some, counted)
 
 pub go_on-returns-in-Some-clause-accepted : goal.go_on-returns-in-Some-clause-accepted
 go_on-returns-in-Some-clause-accepted g t c =
     on-ok c.take.result (Accepted g.R.Rule.KIND c.args.table.now c.args.i c.args.position.now)
-    (found-accepted g.R.Rule.KIND c.args.table.now c.args.position.now c.board.result.now c.args.i c.in-Some.arrivals c.requires.lawful c.board.ensures.board c.args.self.now.memo c.requires.memo c.in-Some.ensures.value)
+    (true-found g.R.Rule.KIND (IsWalked g.R.Rule.KIND c.args.table.now) c.args.position.now c.board.result.now c.args.i c.in-Some.arrivals c.args.self.now.memo c.requires.lawful c.board.ensures.board c.requires.memo c.in-Some.ensures.value).accepted
 
 pub go_on-returns-in-Some-clause-counted : goal.go_on-returns-in-Some-clause-counted
 go_on-returns-in-Some-clause-counted g t c =
     let some = arrivals-positive g.R.Rule.KIND c.args.table.now c.args.i c.args.position.now in
-    let counted = found-counted g.R.Rule.KIND c.args.table.now c.args.position.now c.board.result.now c.args.i c.in-Some.arrivals c.requires.lawful c.board.ensures.board c.args.self.now.memo c.requires.memo c.in-Some.ensures.value in
+    let counted = (true-found g.R.Rule.KIND (IsWalked g.R.Rule.KIND c.args.table.now) c.args.position.now c.board.result.now c.args.i c.in-Some.arrivals c.args.self.now.memo c.requires.lawful c.board.ensures.board c.requires.memo c.in-Some.ensures.value).counted in
     on-ok-map c.take.result (c.take.new.self.left + (c.in-Some.arrivals - 1) ≡ c.args.self.now.left) (c.take.new.self.left + arrivals g.R.Rule.KIND c.args.table.now c.args.i c.args.position.now ≡ c.args.self.now.left + 1)
     (λ taken. omega (arith, some, counted, taken)) c.take.ensures.counted
 
@@ -234,14 +234,14 @@ go_on-returns-in-Some-clause-no_line g t c = on-ok c.take.result (c.take.new.sel
 
 pub go_on-returns-in-Some-clause-memo : goal.go_on-returns-in-Some-clause-memo
 go_on-returns-in-Some-clause-memo g t c =
-    let looked : IsTrueMemo g.R.Rule.KIND c.args.table.now c.find.new.self = true-looked g.R.Rule.KIND c.args.table.now c.args.self.now.memo c.find.new.self (packed c.board.result.now, c.args.i) c.find.ensures.entries c.requires.memo in
+    let looked : IsTrueMemo g.R.Rule.KIND c.args.table.now c.find.new.self = true-looked g.R.Rule.KIND (IsWalked g.R.Rule.KIND c.args.table.now) c.args.self.now.memo c.find.new.self (packed c.board.result.now, c.args.i) (inl c.find.ensures.entries) c.requires.memo in
     on-ok c.take.result (IsTrueMemo g.R.Rule.KIND c.args.table.now c.take.new.self.memo)
     (subst (λ (m : Remembered ℕ). IsTrueMemo g.R.Rule.KIND c.args.table.now m) (sym c.take.ensures.memo) looked)
 
 pub go_on-returns-in-Some-clause-stopped : goal.go_on-returns-in-Some-clause-stopped
 go_on-returns-in-Some-clause-stopped g t c =
     let some = arrivals-positive g.R.Rule.KIND c.args.table.now c.args.i c.args.position.now in
-    let counted = found-counted g.R.Rule.KIND c.args.table.now c.args.position.now c.board.result.now c.args.i c.in-Some.arrivals c.requires.lawful c.board.ensures.board c.args.self.now.memo c.requires.memo c.in-Some.ensures.value in
+    let counted = (true-found g.R.Rule.KIND (IsWalked g.R.Rule.KIND c.args.table.now) c.args.position.now c.board.result.now c.args.i c.in-Some.arrivals c.args.self.now.memo c.requires.lawful c.board.ensures.board c.requires.memo c.in-Some.ensures.value).counted in
     IfErr-weaker c.take.result _ _
     (λ stop h. stops-map (λ why. ⊥) (λ why. Leads g.R.Rule.KIND c.args.table.now c.args.i c.args.position.now (reverse c.take.new.self.line) why) (c.args.self.now.left < c.in-Some.arrivals - 1) (c.args.self.now.left + 1 < arrivals g.R.Rule.KIND c.args.table.now c.args.i c.args.position.now) stop
     (λ why no. absurd no) (λ short. omega (arith, some, counted, short)) h)
@@ -250,7 +250,7 @@ go_on-returns-in-Some-clause-stopped g t c =
 pub go_on-attack-requires : goal.go_on-attack-requires
 go_on-attack-requires g t c κs within =
     let less : 6 * empties_of c.args.position.now < 6 * empties_of c.args.position.now + 1 = omega arith in
-    let looked : IsTrueMemo g.R.Rule.KIND c.args.table.now c.find.new.self = true-looked g.R.Rule.KIND c.args.table.now c.args.self.now.memo c.find.new.self (packed c.board.result.now, c.args.i) c.find.ensures.entries c.requires.memo in
+    let looked : IsTrueMemo g.R.Rule.KIND c.args.table.now c.find.new.self = true-looked g.R.Rule.KIND (IsWalked g.R.Rule.KIND c.args.table.now) c.args.self.now.memo c.find.new.self (packed c.board.result.now, c.args.i) (inl c.find.ensures.entries) c.requires.memo in
     search rules
 
 -- ---- an attack
@@ -358,5 +358,5 @@ attack-returns-in-Ok-clause-memo g t c =
     let counted : arrivals g.R.Rule.KIND c.args.table.now c.args.i b ≡ c.args.self.now.left + 1 - c.meet_all-met.new.self.left = omega (arith, all, behind) in
     let back : c.undo.new.self ≡ b = c.undo.ensures.undone
     ∙ lifted-back g.R.Rule.KIND b n.attack c.requires.lawful c.requires.goes_on _ (c.meet_all-met.ensures.same ∙ c.play.ensures.played) in
-    true-kept g.R.Rule.KIND c.args.table.now b c.board.result.now c.args.i (c.args.self.now.left + 1 - c.meet_all-met.new.self.left) c.requires.lawful (c.board.ensures.board ∙ back)
-    c.meet_all-met.new.self.memo c.keep.new.self accepted counted c.keep.ensures.kept c.in-Ok.ensures.memo
+    true-kept g.R.Rule.KIND (IsWalked g.R.Rule.KIND c.args.table.now) b c.board.result.now c.args.i (c.args.self.now.left + 1 - c.meet_all-met.new.self.left) c.meet_all-met.new.self.memo
+    c.requires.lawful (c.board.ensures.board ∙ back) c.in-Ok.ensures.memo c.keep.new.self (record { accepted = accepted; counted = counted }) c.keep.ensures.kept
