@@ -151,6 +151,10 @@ class Node:
     rest: object
     replies: list
 
+    def named(self):
+        """The nodes that it names: those of the listed replies, and then that of the rest."""
+        return [*(place for _, place in self.replies), *([self.rest] if self.rest is not None else [])]
+
 
 @dataclass
 class Table:
@@ -163,6 +167,47 @@ class Table:
 
     def root(self):
         return self.start or self.nodes[-1]
+
+    def attacker(self):
+        """The side that plays by the table."""
+        return self.position.side() if not self.start else other(self.position.side())
+
+    def depths(self):
+        """The most moves of the attacker from each node on."""
+        found = []
+        for node in self.nodes:
+            found.append(1 + max((found[place] for place in node.named()), default=0))
+        return found
+
+    def longest_line(self):
+        """Moves of a game against the table in which each reply leads to a node of the greatest depth."""
+        depths, position, node, line = self.depths(), self.position, self.root(), []
+        while True:
+            if node.attack:
+                line.append(node.attack)
+                position = position.after(node.attack)
+            places = node.named()
+            if not places:
+                return line
+            place = max(places, key=lambda it: depths[it])
+            listed = [reply for reply, name in node.replies if name == place]
+            reply = listed[0] if listed else unlisted(position, node)
+            if not reply:
+                return line
+            line.append(reply)
+            position, node = position.after(reply), self.nodes[place]
+
+
+def other(side):
+    return SIDES[1 - SIDES.index(side)]
+
+
+def unlisted(position, node):
+    """The empty point next to the attack that the node doesn't list and that is no foul."""
+    taken = {reply for reply, _ in node.replies} | set(position.stones()) | set(position.fouls())
+    x, y = node.attack or (0, 0)
+    free = [(a, b) for b in range(position.height) for a in range(position.width) if (a, b) not in taken]
+    return min(free, key=lambda p: max(abs(p[0] - x), abs(p[1] - y)), default=None)
 
 
 def asked(words, text):
