@@ -1,9 +1,13 @@
 #!/usr/bin/env python3
 """Works out which definitions a reader has to believe, from the specs and the sources, and writes docs/DEFINITIONS.md.
 
---check compares the document with what is worked out now, and prints what differs. --text prints the definitions of the first
-list themselves, in reading order.
+    definitions.py [--check | --text [CLAUSE]]
+
+--check compares the document with what is worked out now, and prints what differs. --text prints what a clause of the program's
+top call rests on, `won` where none is named: the clause, the types and limits as they stand in the sources, the definitions in
+reading order, and the names of the toolchain's words.
 """
+import os
 import re
 import sys
 import textwrap
@@ -88,6 +92,11 @@ class Repository:
                 found.append(self.resolve(crate, scope, it))
         return [it for it in dict.fromkeys(found) if it]
 
+    def std_in_clause(self, text, scope):
+        """The toolchain's words that a clause itself has, each with its path."""
+        named = {scope[name] for name in cited_in(text) if name in scope and name not in bound_in(text)}
+        return {(path, there) for path, there in named if there and not path.startswith("rust.") and path.split(".")[1] not in self.crates}
+
     def in_word(self, word):
         found, own = [], {}
         for it in self.crates[word.crate].words[word.module]:
@@ -103,8 +112,8 @@ class Repository:
                         continue
                     target = resolve_spec(self.crates, path, there)
                     is_form = path.endswith("TheVariants") or isinstance(target, Word) and there != target.name
-                    if not target and name not in bound | left and "specs" in path:
-                        self.of_std.setdefault(word, set()).add(there)
+                    if not target and name not in bound | left:
+                        self.of_std.setdefault(word, set()).add((path, there))
                 else:
                     continue
                 if name not in bound and (is_form or name not in left):
@@ -238,9 +247,10 @@ class Document:
     def claims(self, title, keep, text):
         clauses = [f"{key} {name} {{ {said} }}" for key, name, said in self.call.clauses if keep(name)]
         clauses = [line for it in clauses for line in textwrap.wrap(it, 110, subsequent_indent="    ", break_long_words=False)]
-        self.section(title, self.repository.closure(self.repository.in_call(self.call, keep)), text, clauses)
+        std = {it for _, name, said in self.call.clauses if keep(name) for it in self.repository.std_in_clause(said, self.call.scope)}
+        self.section(title, self.repository.closure(self.repository.in_call(self.call, keep)), text, clauses, std)
 
-    def section(self, title, found, text, clauses=()):
+    def section(self, title, found, text, clauses=(), std=()):
         new = {it: None for it in found if it not in self.told}
         self.told.update(new)
         words = [it for it in new if isinstance(it, Word)]
@@ -250,9 +260,10 @@ class Document:
             self.add("```", *clauses, "```")
         for crate in self.repository.crates.values():
             self.of_crate(crate, new)
-        std = sorted({name for it in words for name in self.repository.of_std.get(it, ()) if re.fullmatch(NAME, name)})
-        if clauses and std:
-            self.add("Of the toolchain's library they use " + ", ".join(f"`{name}`" for name in std) + ".")
+        std = {*std, *(it for word in words for it in self.repository.of_std.get(word, ()))}
+        names = sorted({name for _, name in std if re.fullmatch(NAME, name)})
+        if clauses and names:
+            self.add("Of the toolchain's library they use " + ", ".join(f"`{name}`" for name in names) + ".")
 
     def of_crate(self, crate, new):
         types = [it for it in crate.types.values() if it in new]
@@ -277,7 +288,7 @@ What an answer of `renju` says is said by clauses, and the clauses by definition
 
 The main claims are the clauses of `{call}` in `{place}`. List 1 is what the first of them rests on, and list 2 what the others add; no further word plays a part in them. The lists after these are for a reader of a crate of its own.
 
-The page is worked out by `docs/definitions.py` from the specs and the sources, and the tests of the repository compare; `docs/definitions.py --text` prints the definitions of list 1 one after the other.
+The page is worked out by `docs/definitions.py` from the specs and the sources, and the tests of the repository compare; `docs/definitions.py --text CLAUSE` prints all that a clause rests on, one after the other: types and limits as they stand in the sources, the definitions, and the names of the toolchain's words.
 
 Contracts speak of plain values: a board is a width, a height and a list of cells; a table is a list of nodes; a text is a list of bytes; numbers are whole numbers without limit. Sources: the RIF Rules of Renju for fours, straight fours, threes, overlines and fouls; Allis, van den Herik and Huntjens, "Go-Moku and Threat-Space Search", for wins by fours and by threats. Which double-threes are allowed to stand is this program's own rule, and its definition says so.
 """
@@ -294,16 +305,42 @@ What proofs alone cite, or nothing does yet: {count} definitions in {lines} line
 """
 
 
-def text_of_first(repository, document):
-    """The definitions of the first list, as they stand in the specs."""
-    found = repository.closure(repository.in_call(document.call, lambda name: name in FIRST))
+def text_of_clause(repository, call, clause):
+    """What a clause rests on: the clause, and then of each crate its types and limits and its definitions, as they stand."""
+    said = [(key, text) for key, name, text in call.clauses if name == clause]
+    if not said:
+        raise Unread(f"{call.name} has no clause {clause}; it has {', '.join(name for _, name, _ in call.clauses)}")
+    found = repository.closure(repository.in_call(call, lambda name: name == clause))
+    yield f"-- The clause `{clause}` of `{call.name}`, in crates/{call.crate}/src, and all that it rests on."
+    for key, text in said:
+        yield from ["", *textwrap.wrap(f"{key} {clause} {{ {text} }}", 120, subsequent_indent="    ", break_long_words=False)]
     for crate in repository.crates.values():
+        sources = [it.source for it in [*crate.types.values(), *crate.consts.values()] if it in found]
+        if sources:
+            yield from ["", f"-- Types and limits of {crate.name}, in crates/{crate.name}/src", *(f"\n{it}" for it in sources)]
         for module in repository.modules(crate):
             words = [it for it in crate.words[module] if it in found]
             if words:
-                print(f"-- {crate.name}.specs.{module}: {crate.headers[module]}\n")
+                yield f"\n-- {crate.name}.specs.{module}: {crate.headers[module]}"
             for it in words:
-                print(f"-- {it.comment}", *it.lines, "", sep="\n")
+                yield from ["", f"-- {it.comment}" if it.comment else f"-- {NO_COMMENT}", *it.lines]
+    std = {it for word in found for it in repository.of_std.get(word, ())}
+    for _, text in said:
+        std |= repository.std_in_clause(text, call.scope)
+    yield from words_of_toolchain(std)
+
+
+def words_of_toolchain(named):
+    """The toolchain's words by their places, and how to look them up."""
+    places = {}
+    for path, name in named:
+        if re.fullmatch(NAME, name):
+            places.setdefault(path, []).append(name)
+    yield "\n-- The toolchain's words, by their places:\n"
+    for path in sorted(places):
+        yield from textwrap.wrap(f"{path}: {', '.join(sorted(places[path]))}", 120, subsequent_indent="    ", break_on_hyphens=False)
+    yield "\n-- In the folder of a crate, `rt lemma WORD` shows the definition of a word. Those of lib.NAME stand in"
+    yield "-- rattle/logic/Lib/NAME.antt, beside the page whose path `rt doc` prints."
 
 
 def differences(wanted, there):
@@ -318,24 +355,41 @@ def differences(wanted, there):
         yield "  the lines stand in another order"
 
 
-def main():
-    try:
-        repository = Repository()
-        document = Document(repository)
-        text = document.write()
-    except Unread as error:
-        print(f"FAILED docs/definitions.py: {error}")
-        return 1
-    if "--text" in sys.argv[1:]:
-        text_of_first(repository, document)
-    elif "--check" in sys.argv[1:]:
-        there = DOCUMENT.read_text() if DOCUMENT.exists() else ""
-        if text != there:
-            print(*differences(text, there), sep="\n")
-            return 1
+def checked(text):
+    there = DOCUMENT.read_text() if DOCUMENT.exists() else ""
+    if text != there:
+        print(*differences(text, there), sep="\n")
+    return 0 if text == there else 1
+
+
+def run(words):
+    document = Document(Repository())
+    text = document.write()
+    if words == ["--check"]:
+        return checked(text)
+    if words[:1] == ["--text"]:
+        print(*text_of_clause(document.repository, document.call, *(words[1:] or FIRST)), sep="\n")
     else:
         DOCUMENT.write_text(text)
     return 0
+
+
+def main():
+    words = sys.argv[1:]
+    if words not in ([], ["--check"]) and not (words[0] == "--text" and len(words) < 3):
+        print(__doc__, file=sys.stdout if words[0] in ("-h", "--help") else sys.stderr)
+        return 0 if words[0] in ("-h", "--help") else 2
+    try:
+        status = run(words)
+        sys.stdout.flush()
+        return status
+    except Unread as error:
+        print(f"FAILED docs/definitions.py: {error}")
+        return 1
+    except BrokenPipeError:
+        # Who read the output has gone.
+        os.dup2(os.open(os.devnull, os.O_WRONLY), sys.stdout.fileno())
+        return 1
 
 
 if __name__ == "__main__":

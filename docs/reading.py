@@ -1,7 +1,7 @@
 """Reads the crates of the repository: the definitions of their specs, and the types, limits and contracts of their sources.
 
 It knows no crate, module or word by name. A word of specs is a Word, a type or trait of sources a Type, a limit a Const, and each
-knows which others it cites. What is not of the repository, as std's words, is left out, but kept by name in `of_std`.
+knows which others it cites. What is not of the repository, as std's words, is left out, but kept with its path in `of_std`.
 """
 import re
 from dataclasses import dataclass, field
@@ -45,6 +45,7 @@ class Type:
     seen: str = ""  # the Value of its Model
     scope: dict = field(default_factory=dict)
     said: list = field(default_factory=list)  # (text, scope) of what its invariant and its impls say
+    source: str = ""  # as it stands, with its doc
     is_public: bool = False
 
 
@@ -56,6 +57,7 @@ class Const:
     name: str
     doc: str
     value: str
+    source: str = ""
     is_public: bool = False
 
 

@@ -77,6 +77,7 @@ class File:
             next_place = self.after_item(at, end)
             if found and found.group(2):
                 self.item(found, next_place, self.doc(last, at), scope, owner, generics)
+                self.keep_source(found, self.text[last:next_place].strip("\n"))
             at = last = next_place
 
     def after_item(self, at, end):
@@ -133,6 +134,14 @@ class File:
             value = self.text[found.end() : after - 1].partition("=")[2].strip()
             self.crate.consts.setdefault(name, Const(self.crate.name, name, doc, value))
         return self.ghost_member(found, after, doc, scope, owner) if kind == "ghost" and owner else None
+
+    def keep_source(self, found, text):
+        """Keeps how a type or a limit of this crate stands in its file."""
+        name = re.match(r"\s*(\w+)", self.blanked[found.end() :])
+        kept = {"struct": self.crate.types, "enum": self.crate.types, "trait": self.crate.types, "const": self.crate.consts}
+        it = kept.get(found.group(2), {}).get(name and name.group(1))
+        if it and not it.source:
+            it.source = text
 
     def ghost_member(self, found, after, doc, scope, owner):
         text = " ".join(self.text_of(found.end(), after - 1).split())
