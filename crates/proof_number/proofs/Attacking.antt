@@ -17,21 +17,21 @@ use Rattle.proof_tree.specs.Trees.{Tree, link_at, numbers_at}
 use Rattle.proof_tree.specs.declared.Kind.{Kind}
 use Rattle.proof_tree.specs.declared.Kind.TheVariants.{Attack, Defend}
 use Rattle.proof_tree.specs.declared.Numbers.{Numbers}
-use Rattle.proof_number.specs.ThreatGame.{behind_replies, threat_tree}
-use Rattle.proof_number.specs.Attacks.{OthersFail, tried_moves}
+use Rattle.threat_game.specs.ThreatGame.{behind_replies, threat_tree, move_at, nowhere}
+use Rattle.threat_game.specs.Attacks.{OthersFail, tried_moves}
 use Rattle.proof_number.specs.declared.notes.Note.{Note}
 use Rattle.proof_number.specs.declared.search.Search.{Search}
 use Rattle.proof_number.specs.Notes.{no_note, note_at}
-use Rattle.proof_number.specs.GameTrees.{AreTried, GameTree, HasTried, board_at, left_at, move_at, nowhere}
+use Rattle.proof_number.specs.GameTrees.{AreTried, GameTree, HasTried, board_at, left_at}
 use Rattle.proof_number.specs.Remembered.{IsTrueMemo}
 use Rattle.proof_number.specs.Searches.{Grows, HasGrown, HasSpent, IsAtLeaf, IsExpandedAt, IsSettledAt, StandsAt, attacks_behind, behind_at, defences_behind, game_of, sum_below}
-use Rattle.proof_number.proofs.Counting.{IsTriedMove, replies-positive, tried-at, tried-behind}
+use Rattle.threat_game.proofs.Counting.{IsTriedMove, replies-positive, tried-at, tried-behind}
 use Rattle.proof_number.proofs.Expanded.{IsNewNote, expanded-grown, new_behind, unwritten_child}
 use Rattle.proof_number.proofs.Expanding.{IsNewChild}
 use Rattle.proof_number.proofs.Recording.{keeps-all}
 use Rattle.proof_number.proofs.Steps.{attack-moves, attack-no_five, leaf-compiled, leaf-lawful, leaf-noted, lost-step}
 use Rattle.proof_number.proofs.Sums.{sum-le, sum-less, sum-list}
-use Rattle.proof_number.proofs.Trying.{none-tried, tried-enough}
+use Rattle.threat_game.proofs.Trying.{none-tried, tried-enough}
 use Rattle.proof_number.proofs.Widening.{IsFresh, fresh-sum, sum-nothing, sum-under}
 
 -- the note of a node of which nothing is known

@@ -20,22 +20,22 @@ use Rattle.proof_tree.specs.Trees.{IsTree, Tree, chosen, link_at, most_proving, 
 use Rattle.proof_tree.specs.declared.Kind.{Kind}
 use Rattle.proof_tree.specs.declared.Kind.TheVariants.{Attack, Defend}
 use Rattle.proof_tree.specs.declared.Numbers.{Numbers}
-use Rattle.proof_number.specs.ThreatGame.{threat_tree}
+use Rattle.threat_game.specs.ThreatGame.{threat_tree}
 use Rattle.proof_number.specs.declared.notes.Note.{Note}
 use Rattle.proof_number.specs.declared.search.Search.{Search}
-use Rattle.proof_number.specs.Answers.{IsThreatWin}
-use Rattle.proof_number.specs.Growth.{GrowsBy}
+use Rattle.threat_game.specs.Wins.{IsThreatWin}
+use Rattle.threat_game.specs.Growth.{GrowsBy}
 use Rattle.proof_number.specs.Notes.{no_note, note_at, win_of}
 use Rattle.proof_number.specs.GameTrees.{CanGrow, GameTree, IsGameTree, TellsTruly, WinsAt, board_at, left_at}
 use Rattle.proof_number.specs.Remembered.{IsTrueOf}
 use Rattle.proof_number.specs.Searches.{AreWritten, IsCounted, IsNew, IsNotedWin, IsSettledAt, Searches, attacks_behind, behind_at, behind_leaves, defences_behind, game_of, is_attack, noted_won, sum_below, unwritten}
 use Rattle.proof_number.proofs.GameBoards.{board-root}
-use Rattle.proof_number.proofs.GrowthLaws.{grows-length}
+use Rattle.threat_game.proofs.GrowthLaws.{grows-length}
 use Rattle.position_table.proofs.Remembering.{true-none}
 use Rattle.proof_number.proofs.Settling.{one_where}
 use Rattle.proof_number.proofs.Steps.{win-some}
 use Rattle.proof_number.proofs.Sums.{sum-suc, sum-zero}
-use Rattle.proof_number.proofs.TreeLaws.{tree-positive}
+use Rattle.threat_game.proofs.TreeLaws.{tree-positive}
 
 -- ---- five points that are listed
 

@@ -16,13 +16,13 @@ use Rattle.proof_tree.specs.Combining.{no_numbers}
 use Rattle.proof_tree.specs.Trees.{numbers_at}
 use Rattle.proof_tree.specs.declared.Numbers.{Numbers}
 use Rattle.proof_number.specs.declared.notes.Note.{Note}
-use Rattle.proof_number.specs.declared.replies.Child.{Child}
-use Rattle.proof_number.specs.Answers.{IsThreatWin}
+use Rattle.threat_game.specs.declared.replies.Child.{Child}
+use Rattle.threat_game.specs.Wins.{IsThreatWin}
 use Rattle.proof_number.specs.Children.{AreSettled, IsSettledChild, child_at, child_note, child_numbers, no_child}
-use Rattle.proof_number.specs.Growth.{GrowsBy}
+use Rattle.threat_game.specs.Growth.{GrowsBy}
 use Rattle.proof_number.specs.Notes.{no_note, note_at, win_of}
-use Rattle.proof_number.specs.Replies.{is_open, moves_for, nodes_for}
-use Rattle.proof_number.proofs.GrowthLaws.{grows-length, grows-then}
+use Rattle.threat_game.specs.Replies.{is_open, moves_for, nodes_for}
+use Rattle.threat_game.proofs.GrowthLaws.{grows-length, grows-then}
 use Rattle.proof_number.proofs.Steps.{win-some}
 
 -- what is noted first of a child

@@ -27,8 +27,9 @@ use Rattle.proof_tree.specs.declared.Numbers.{Numbers}
 use Rattle.proof_number.specs.declared.notes.Note.{Note}
 use Rattle.proof_number.specs.declared.search.Search.{Search}
 use Rattle.proof_number.specs.Notes.{answer_of, no_note, note_at, win_of}
-use Rattle.proof_number.specs.Replies.{replies_at}
-use Rattle.proof_number.specs.GameTrees.{AreAllReplies, GameTree, HasTried, IsGameTree, board_at, left_at, left_before, move_at, moves_of, noted_tree, nowhere}
+use Rattle.threat_game.specs.Replies.{replies_at}
+use Rattle.proof_number.specs.GameTrees.{AreAllReplies, GameTree, HasTried, IsGameTree, board_at, left_at, left_before, moves_of, noted_tree}
+use Rattle.threat_game.specs.ThreatGame.{move_at, nowhere}
 use Rattle.proof_number.specs.Searches.{AreWritten, IsAbove, IsCounted, IsNotedWin, IsSearching, KeepsTree, game_of, is_attack, noted_won, sum_below, unwritten}
 use Rattle.proof_number.proofs.GameTruths.{IsChildOf, child-of, each-zero, settled-proved}
 use Rattle.proof_number.proofs.Records.{written-node}

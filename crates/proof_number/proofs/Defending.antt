@@ -29,22 +29,22 @@ use Rattle.proof_tree.specs.Trees.{Tree, link_at, numbers_at}
 use Rattle.proof_tree.specs.declared.Kind.{Kind}
 use Rattle.proof_tree.specs.declared.Kind.TheVariants.{Attack, Defend}
 use Rattle.proof_tree.specs.declared.Numbers.{Numbers}
-use Rattle.proof_number.specs.ThreatGame.{behind_replies, threat_tree}
-use Rattle.proof_number.specs.Attacks.{has_reply}
+use Rattle.threat_game.specs.ThreatGame.{behind_replies, threat_tree}
+use Rattle.threat_game.specs.Attacks.{has_reply}
 use Rattle.proof_number.specs.declared.notes.Note.{Note}
-use Rattle.proof_number.specs.declared.replies.Child.{Child}
-use Rattle.proof_number.specs.declared.replies.Children.{Children}
-use Rattle.proof_number.specs.declared.replies.Judged.{Judged}
-use Rattle.proof_number.specs.declared.replies.Judged.TheVariants.{Five, Double as DoubleWins, Last, Open}
+use Rattle.threat_game.specs.declared.replies.Child.{Child}
+use Rattle.threat_game.specs.declared.replies.Children.{Children}
+use Rattle.threat_game.specs.declared.replies.Judged.{Judged}
+use Rattle.threat_game.specs.declared.replies.Judged.TheVariants.{Five, Double as DoubleWins, Last, Open}
 use Rattle.proof_number.specs.declared.search.Search.{Search}
 use Rattle.proof_number.specs.Children.{AreSettled, IsSettledChild, child_at, no_child, open_numbers}
-use Rattle.proof_number.specs.Growth.{GrowsBy}
+use Rattle.threat_game.specs.Growth.{GrowsBy}
 use Rattle.proof_number.specs.Notes.{no_note, note_at, win_of}
-use Rattle.proof_number.specs.Replies.{AreChildren, HasEscape, IsChild, IsJudged, counted_for, is_open, moves_for, nodes_for, replies_at}
+use Rattle.threat_game.specs.Replies.{AreChildren, HasEscape, IsChild, IsJudged, counted_for, is_open, moves_for, nodes_for, replies_at}
 use Rattle.proof_number.specs.GameTrees.{AreAllReplies, CanGrow, GameTree, HasTried, TellsTruly, WinsAt, board_at, left_at}
 use Rattle.proof_number.specs.Remembered.{IsTrueMemo}
 use Rattle.proof_number.specs.Searches.{Grows, HasGrown, HasSpent, IsAtLeaf, IsExpandedAt, IsNotedWin, IsSettledAt, StandsAt, attacks_behind, behind_at, defences_behind, game_of, sum_below}
-use Rattle.proof_number.proofs.ChildLaws.{counted-three}
+use Rattle.threat_game.proofs.ChildLaws.{counted-three}
 use Rattle.proof_number.proofs.Expanded.{IsNewNote, expanded-grown, new_behind, unwritten_child}
 use Rattle.proof_number.proofs.Expanding.{IsNewChild}
 use Rattle.proof_number.proofs.Growing.{lost-grown}
@@ -52,8 +52,8 @@ use Rattle.proof_number.proofs.Remembering.{memo-grown}
 use Rattle.proof_number.proofs.Settling.{one_where}
 use Rattle.proof_number.proofs.Steps.{leaf-lawful, leaf-noted}
 use Rattle.proof_number.proofs.Sums.{sum-le, sum-less, sum-list}
-use Rattle.proof_number.proofs.TreeLaws.{children-within, counted-few}
-use Rattle.proof_number.proofs.Trying.{escape-saves, win-has_five}
+use Rattle.threat_game.proofs.TreeLaws.{children-within, counted-few}
+use Rattle.threat_game.proofs.Trying.{escape-saves, win-has_five}
 use Rattle.proof_number.proofs.Widening.{IsFresh, fresh-sum, sum-nothing}
 
 -- ---- where a reply goes on, none fills the board

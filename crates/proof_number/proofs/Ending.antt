@@ -15,7 +15,8 @@ use Rattle.proof_tree.specs.Trees.{Tree, numbers_at}
 use Rattle.proof_tree.specs.declared.Kind.{Kind}
 use Rattle.proof_number.specs.declared.notes.Note.{Note}
 use Rattle.proof_number.specs.declared.search.Search.{Search}
-use Rattle.proof_number.specs.Answers.{HasNoThreatWin, IsThreatWin}
+use Rattle.proof_number.specs.Answers.{HasNoThreatWin}
+use Rattle.threat_game.specs.Wins.{IsThreatWin}
 use Rattle.proof_number.specs.Notes.{no_note, note_at, noted_win, win_of}
 use Rattle.proof_number.specs.GameTrees.{GameTree, TellsTruly, WinsAt, board_at, left_at}
 use Rattle.proof_number.specs.Searches.{IsNotedWin, IsSearching, Searches, closed_nodes, game_of, is_open_leaf, sum_below}

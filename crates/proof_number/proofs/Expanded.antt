@@ -16,11 +16,11 @@ use Rattle.proof_tree.specs.declared.Kind.TheVariants.{Attack, Defend}
 use Rattle.proof_tree.specs.declared.Link.{Link}
 use Rattle.proof_tree.specs.declared.Numbers.{Numbers}
 use Rattle.proof_tree.proofs.SumLaws.{leaf_sum-grown}
-use Rattle.proof_number.specs.ThreatGame.{threat_tree}
+use Rattle.threat_game.specs.ThreatGame.{threat_tree, move_at, nowhere}
 use Rattle.proof_number.specs.declared.notes.Note.{Note}
 use Rattle.proof_number.specs.declared.search.Search.{Search}
 use Rattle.proof_number.specs.Notes.{no_note, note_at, win_of}
-use Rattle.proof_number.specs.GameTrees.{GameTree, HasTried, IsGameTree, board_at, board_of, left_at, move_at, noted_tree, nowhere}
+use Rattle.proof_number.specs.GameTrees.{GameTree, HasTried, IsGameTree, board_at, board_of, left_at, noted_tree}
 use Rattle.proof_number.specs.Remembered.{IsTrueMemo}
 use Rattle.proof_number.specs.Searches.{AreWritten, HasGrown, IsAtLeaf, IsCounted, IsExpandedAt, IsNotedWin, IsSearching, attacks_behind, behind_at, defences_behind, game_of, is_attack, sum_below, unwritten}
 use Rattle.proof_number.proofs.Expanding.{IsLonger, IsNewChild, longer, game-grown, behind-grown, child-behind, child-counts, closed-grown, old-board, new-board, old-kind, old-left, new-kind, new-left, old-numbers, split}

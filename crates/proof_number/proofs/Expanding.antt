@@ -14,7 +14,8 @@ use Rattle.proof_tree.specs.declared.Kind.{Kind}
 use Rattle.proof_tree.specs.declared.Kind.TheVariants.{Attack}
 use Rattle.proof_tree.specs.declared.Link.{Link}
 use Rattle.proof_tree.specs.declared.Numbers.{Numbers}
-use Rattle.proof_number.specs.GameTrees.{CanGrow, GameTree, HasTried, IsGameTree, TellsTruly, WinsAt, board_at, board_of, left_at, left_before, move_at, moves_of, nowhere}
+use Rattle.proof_number.specs.GameTrees.{CanGrow, GameTree, HasTried, IsGameTree, TellsTruly, WinsAt, board_at, board_of, left_at, left_before, moves_of}
+use Rattle.threat_game.specs.ThreatGame.{move_at, nowhere}
 use Rattle.proof_number.specs.Searches.{behind_at, behind_leaves, closed_nodes, is_open_leaf, sum_below}
 use Rattle.proof_number.proofs.GameBoards.{board-kept, board-step}
 use Rattle.proof_number.proofs.Settling.{leaf-beside, one_unless}

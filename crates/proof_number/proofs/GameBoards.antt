@@ -9,7 +9,8 @@ use Rattle.proof_tree.specs.Trees.{IsLinked, link_at}
 use Rattle.proof_tree.specs.declared.Kind.{Kind}
 use Rattle.proof_tree.specs.declared.Kind.TheVariants.{Attack, Defend}
 use Rattle.proof_tree.specs.declared.Link.{Link}
-use Rattle.proof_number.specs.GameTrees.{GameTree, IsGameTree, board_at, board_of, board_within, left_at, left_before, move_at}
+use Rattle.proof_number.specs.GameTrees.{GameTree, IsGameTree, board_at, board_of, board_within, left_at, left_before}
+use Rattle.threat_game.specs.ThreatGame.{move_at}
 
 positive : (i : ℕ) → nat_eq i 0 ≡ false → 0 < i
 positive zero e = cc

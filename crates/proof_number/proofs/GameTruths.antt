@@ -26,8 +26,9 @@ use Rattle.proof_tree.specs.declared.Kind.{Kind}
 use Rattle.proof_tree.specs.declared.Kind.TheVariants.{Attack, Defend}
 use Rattle.proof_tree.specs.declared.Link.{Link}
 use Rattle.proof_tree.specs.declared.Numbers.{Numbers}
-use Rattle.proof_number.specs.GameTrees.{GameTree, IsGameTree, HasTried, AreTried, LosesToThreats, TellsTruly, WinsAt, board_at, left_at, left_before, move_at, moves_of, nowhere}
-use Rattle.proof_number.specs.Replies.{replies_at}
+use Rattle.proof_number.specs.GameTrees.{GameTree, IsGameTree, HasTried, AreTried, TellsTruly, WinsAt, board_at, left_at, left_before, moves_of}
+use Rattle.threat_game.specs.ThreatGame.{LosesToThreats, move_at, nowhere}
+use Rattle.threat_game.specs.Replies.{replies_at}
 use Rattle.proof_number.proofs.GameBoards.{board-step}
 
 -- ---- numbers

@@ -11,7 +11,8 @@ use Rattle.stone_board.proofs.Stones.{put-holds_stone}
 use Rattle.threat_moves.proofs.Undo.{stone_back, lift_back, unwon_back}
 use Rattle.proof_tree.specs.Trees.{IsTree, link_at}
 use Rattle.proof_number.specs.declared.notes.Note.{Note}
-use Rattle.proof_number.specs.GameTrees.{GameTree, IsGameTree, board_at, left_at, move_at, nowhere}
+use Rattle.proof_number.specs.GameTrees.{GameTree, IsGameTree, board_at, left_at}
+use Rattle.threat_game.specs.ThreatGame.{move_at, nowhere}
 use Rattle.proof_number.proofs.GameBoards.{board-step, position-at}
 
 -- the move and the moves left of a node are those of its note

@@ -33,10 +33,10 @@ use Rattle.proof_tree.specs.declared.Numbers.{Numbers}
 use Rattle.std.proofs.Common.{drop}
 use Rattle.std.proofs.lemmas.List.{length-take, length-drop}
 use Rattle.proof_number.specs.declared.notes.Note.{Note}
-use Rattle.proof_number.specs.Replies.{replies_at}
+use Rattle.threat_game.specs.Replies.{replies_at}
 use Rattle.proof_number.specs.Notes.{answer_of, no_note, note_at, win_of}
 use Rattle.proof_number.proofs.GameTruths.{least-zero, child-numbers, reply-listed}
-use Rattle.proof_number.proofs.WrittenLaws.{stays-by, stays-before}
+use Rattle.threat_game.proofs.WrittenLaws.{stays-by, stays-before}
 
 -- ---- a proved child
 

@@ -1,4 +1,4 @@
--- Answers to the replies of a board, taken in reading order, rise.
+-- Answers by the notes of a node, taken in reading order, rise.
 use Rattle.std.proofs.Common.{◌≡◌, ◌∙◌, ℕ, Bool, true, List, map}
 use Rattle.std.specs.List.{filter}
 use Rattle.std.proofs.lemmas.List.{map-id}
@@ -9,13 +9,7 @@ use Rattle.strategy_graph.specs.Tables.{is_rising}
 use Rattle.strategy_graph.proofs.ReadingOrder.{replies-rising}
 use Rattle.proof_number.specs.declared.notes.Note.{Note}
 use Rattle.proof_number.specs.Notes.{answer_of}
-use Rattle.proof_number.specs.Replies.{answer_by}
-
--- the answers to the replies that pass a test
-pub answers-rising : (f : Point → Bool) (next : Point → ℕ) (b : Grid) → is_rising (map (answer_by next) (filter f (points_of b))) ≡ true
-answers-rising f next b =
-    let replies : List Point = filter f (points_of b) in
-    replies-rising b f (map (answer_by next) replies) (map-map (λ r. r.at) (answer_by next) replies ∙ map-id replies)
+use Rattle.threat_game.specs.Replies.{answer_by}
 
 -- the answers by notes whose moves are the points of a board that pass a test
 pub noted-rising : (b : Grid) (f : Point → Bool) (ns : List Note) → map (λ n. n.at) ns ≡ filter f (points_of b) → is_rising (map answer_of ns) ≡ true

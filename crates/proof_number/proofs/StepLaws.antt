@@ -8,7 +8,7 @@ use Rattle.strategy_graph.specs.declared.Node.{Node}
 use Rattle.strategy_graph.specs.declared.TheConstants.{MAX_NODES}
 use Rattle.proof_tree.specs.Combining.{is_settled}
 use Rattle.proof_tree.specs.Trees.{IsOnWayUp, IsTree, Tree, link_at, most_proving, numbers_at}
-use Rattle.proof_number.specs.ThreatGame.{threat_tree}
+use Rattle.threat_game.specs.ThreatGame.{threat_tree}
 use Rattle.proof_number.specs.declared.notes.Note.{Note}
 use Rattle.proof_number.specs.declared.search.Search.{Search}
 use Rattle.proof_number.specs.declared.search.Step.{Step}

@@ -22,7 +22,7 @@ use Rattle.proof_tree.specs.Combining.{is_settled, settled_numbers}
 use Rattle.proof_tree.specs.Trees.{IsTree, OthersStay, Tree, leaf_sum, link_at, most_proving, numbers_at}
 use Rattle.proof_tree.specs.declared.Kind.{Kind}
 use Rattle.proof_tree.specs.declared.Kind.TheVariants.{Attack}
-use Rattle.proof_number.specs.ThreatGame.{threat_tree}
+use Rattle.threat_game.specs.ThreatGame.{threat_tree}
 use Rattle.proof_number.specs.declared.notes.Note.{Note}
 use Rattle.proof_number.specs.declared.notes.Settled.{Settled}
 use Rattle.proof_number.specs.Notes.{no_note, note_at}
@@ -32,7 +32,7 @@ use Rattle.proof_number.specs.Remembered.{IsTrueOf, IsTrueMemo}
 use Rattle.proof_number.specs.Searches.{Searches, Grows, HasGrown, HasSpent, HasStayed, KeepsTree, OnStep, IsAtLeaf, IsNotedWin, IsSettledAt, StandsAt, game_of, noted_won}
 use Rattle.proof_number.proofs.GameBoards.{left-low, position-at}
 use Rattle.proof_number.proofs.Growing.{lost-grown, won-grown}
-use Rattle.proof_number.proofs.TreeLaws.{tree-positive}
+use Rattle.threat_game.proofs.TreeLaws.{tree-positive}
 use Rattle.position_table.proofs.Remembering.{true-found, true-looked}
 use Rattle.proof_number.proofs.Remembering.{memo-grown}
 

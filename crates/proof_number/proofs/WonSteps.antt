@@ -14,15 +14,15 @@ use Rattle.proof_tree.specs.Combining.{is_settled}
 use Rattle.proof_tree.specs.Trees.{Tree, link_at, numbers_at}
 use Rattle.proof_tree.specs.declared.Kind.{Kind}
 use Rattle.proof_tree.specs.declared.Kind.TheVariants.{Attack}
-use Rattle.proof_number.specs.ThreatGame.{threat_tree}
-use Rattle.proof_number.specs.declared.doubles.Double.{Double}
+use Rattle.threat_game.specs.ThreatGame.{threat_tree}
+use Rattle.threat_game.specs.declared.doubles.Double.{Double}
 use Rattle.proof_number.specs.declared.notes.Note.{Note}
 use Rattle.proof_number.specs.declared.search.Search.{Search}
-use Rattle.proof_number.specs.Answers.{IsThreatWin}
-use Rattle.proof_number.specs.Attacks.{IsDoubleWin}
-use Rattle.proof_number.specs.Growth.{GrowsBy}
+use Rattle.threat_game.specs.Wins.{IsThreatWin}
+use Rattle.threat_game.specs.Attacks.{IsDoubleWin}
+use Rattle.threat_game.specs.Growth.{GrowsBy}
 use Rattle.proof_number.specs.Notes.{no_note, note_at}
-use Rattle.proof_number.specs.Replies.{answer_nodes}
+use Rattle.threat_game.specs.Replies.{answer_nodes}
 use Rattle.proof_number.specs.GameTrees.{GameTree, board_at, left_at}
 use Rattle.proof_number.specs.Remembered.{IsTrueMemo}
 use Rattle.proof_number.specs.Searches.{Grows, HasSpent, IsAtLeaf, IsSettledAt, StandsAt, attacks_behind, behind_at, game_of, is_attack, noted_won, sum_below, unwritten}
@@ -30,7 +30,7 @@ use Rattle.proof_number.proofs.Recording.{keeps-all}
 use Rattle.proof_number.proofs.Settling.{one_where}
 use Rattle.proof_number.proofs.Steps.{attack-moves, attack-no_five, leaf-board, leaf-lawful, leaf-noted, left-few, won-step}
 use Rattle.proof_number.proofs.Sums.{sum-less, sum-suc, sum-zero}
-use Rattle.proof_number.proofs.TreeLaws.{double-counted, tree-positive}
+use Rattle.threat_game.proofs.TreeLaws.{double-counted, tree-positive}
 
 no-sum : (n : ℕ) → sum_below n (λ i. 0) ≡ 0
 no-sum zero = sum-zero (λ i. 0)

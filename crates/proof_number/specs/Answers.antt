@@ -17,13 +17,6 @@ OnWin (Win win) P = P win
 OnWin None P = Unit {0}
 OnWin Spent P = Unit {0}
 
--- A written win by threats: the side to move wins by threats within the limit, and wins within the moves of the win whatever the
--- replies.
-pub record IsThreatWin (rule : RuleKind) (limit : ℕ) (b : Grid) (t : List Node) (win : WrittenWin) : Type 0 where
-  pub written : IsWrittenWin rule limit b t win
-  pub by_threats : WinsByThreats rule limit b
-  pub within : WinsWithin rule win.moves b
-
 -- there is no win by threats within the limit, and none by continuous fours
 pub record HasNoThreatWin (rule : RuleKind) (limit : ℕ) (b : Grid) : Type 0 where
   pub no_threats : ¬ WinsByThreats rule limit b

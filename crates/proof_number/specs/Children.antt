@@ -9,11 +9,11 @@ use Rattle.proof_tree.specs.Combining.{settled_numbers}
 use Rattle.proof_tree.specs.Trees.{numbers_at}
 use Rattle.proof_tree.specs.declared.Numbers.{Numbers}
 use Rattle.proof_number.specs.declared.notes.Note.{Note}
-use Rattle.proof_number.specs.declared.replies.Child.{Child}
-use Rattle.proof_number.specs.declared.replies.Judged.TheVariants.{Five}
-use Rattle.proof_number.specs.GameTrees.{nowhere}
+use Rattle.threat_game.specs.declared.replies.Child.{Child}
+use Rattle.threat_game.specs.declared.replies.Judged.TheVariants.{Five}
+use Rattle.threat_game.specs.ThreatGame.{nowhere}
 use Rattle.proof_number.specs.Notes.{note_at, win_of}
-use Rattle.proof_number.specs.Replies.{is_open}
+use Rattle.threat_game.specs.Replies.{is_open}
 use Rattle.proof_number.specs.Searches.{IsNotedWin}
 
 -- the numbers of a node of which nothing is known

@@ -14,8 +14,9 @@ use Rattle.proof_tree.specs.declared.Kind.TheVariants.{Attack, Defend}
 use Rattle.proof_tree.specs.declared.Link.{Link}
 use Rattle.proof_tree.specs.declared.Numbers.{Numbers}
 use Rattle.proof_number.specs.declared.notes.Note.{Note}
-use Rattle.proof_number.specs.Attacks.{has_reply}
-use Rattle.proof_number.specs.Replies.{replies_at}
+use Rattle.threat_game.specs.Attacks.{has_reply}
+use Rattle.threat_game.specs.Replies.{replies_at}
+use Rattle.threat_game.specs.ThreatGame.{move_at, LosesToThreats}
 
 -- A tree of numbers that stands for a game: the rule, the board of the root, and for each node the move that leads to it and how
 -- many moves of the attacker are left there.
@@ -29,14 +30,6 @@ pub record GameTree : Type 0 where
 -- the tree with what is noted of its nodes
 abbrev pub noted_tree : RuleKind → Grid → Tree → List Note → GameTree
 noted_tree rule b t notes = record { rule = rule; start = b; tree = t; moves = map (λ n. n.at) notes; left = map (λ n. n.left) notes }
-
--- what a read past the end of a list of moves gives
-abbrev pub nowhere : Point
-nowhere = record { x = 0; y = 0 }
-
--- the move that leads to node i
-abbrev pub move_at : List Point → ℕ → Point
-move_at moves i = slice_index_or moves i nowhere
 
 -- the moves that are left at node i
 abbrev pub left_at : List ℕ → ℕ → ℕ
@@ -59,10 +52,6 @@ board_at g i = board_of g.tree.links g.moves g.start i
 -- the moves that lead to the children of a node with this link
 abbrev pub moves_of : Link → List Point → List Point
 moves_of link moves = take link.count (drop link.first moves)
-
--- whatever the reply, it is no move, fouls, or leads to a win by threats within so many moves
-abbrev pub LosesToThreats : RuleKind → ℕ → Grid → Type 0
-LosesToThreats rule n c = (q : Point) → LosesOr (outcome rule c q) (WinsByThreats rule n (after c q))
 
 -- the attacker wins by threats within so many moves: at an attacker's node by a move of its own, at a defender's whatever the
 -- reply

@@ -1,9 +1,3 @@
-pub mod ThreatGame
-pub mod Growth
-pub mod Attacks
-pub mod FreeMoves
-pub mod NearDoubles
-pub mod Replies
 pub mod Notes
 pub mod GameTrees
 pub mod Remembered

@@ -19,7 +19,7 @@ use Rattle.proof_number.specs.declared.search.Step.{Step}
 use Rattle.proof_number.specs.declared.search.Step.TheVariants.{Done, Spent}
 use Rattle.strategy_compiler.specs.declared.error.SearchError.{SearchError}
 use Rattle.strategy_compiler.specs.declared.wins.WrittenWin.{WrittenWin}
-use Rattle.proof_number.specs.ThreatGame.{behind_replies, threat_tree}
+use Rattle.threat_game.specs.ThreatGame.{behind_replies, threat_tree}
 use Rattle.proof_number.specs.Notes.{note_at, win_of}
 use Rattle.proof_number.specs.GameTrees.{GameTree, IsGameTree, board_at, left_at, noted_tree}
 use Rattle.proof_number.specs.Remembered.{IsTrueMemo}

@@ -11,8 +11,9 @@ ghost use Rattle.strategy_graph.specs.declared.TheConstants.{MAX_NODES};
 ghost use Rattle.proof_tree.specs.Combining.{is_settled};
 ghost use Rattle.proof_tree.specs.Trees.{IsTree, numbers_at};
 ghost use Rattle.proof_number.specs.declared.TheConstants.{MAX_DEPTH, MAX_BUDGET};
-ghost use Rattle.proof_number.specs.ThreatGame.{threat_tree};
-ghost use Rattle.proof_number.specs.Answers.{OnWin, IsThreatWin, HasNoThreatWin, RootSays};
+ghost use Rattle.threat_game.specs.ThreatGame.{threat_tree};
+ghost use Rattle.proof_number.specs.Answers.{OnWin, HasNoThreatWin, RootSays};
+ghost use Rattle.threat_game.specs.Wins.{IsThreatWin};
 
 use crate::search::{Search, Step};
 use foul_judge::Seen;

@@ -15,14 +15,13 @@ ghost use Rattle.proof_tree.specs.Trees.{IsTree, numbers_at};
 ghost use Rattle.proof_number.specs.declared.TheConstants.{MAX_DEPTH, MAX_BUDGET};
 ghost use Rattle.proof_number.specs.Searches.{Searches, IsSameAim, IsNew};
 
-use crate::last_moves::last_move;
 use crate::search::Search;
-use crate::written::{compile_five, compile_last};
 use foul_judge::Seen;
 use proof_tree::ProofTree;
 use row_shapes::Rule;
 use std::alloc::Global;
 use strategy_compiler::{Compiler, SearchError};
+use threat_game::{compile_five, compile_last, last_move};
 
 impl Search {
     /// Settles the root where its attacker has a five point, or one move alone.

@@ -8,19 +8,13 @@
 #![tactic(auto)]
 
 mod answer;
-mod attacks;
 mod begin;
-mod doubles;
-mod escapes;
-mod last_moves;
 mod notes;
 mod record;
-mod replies;
 mod search;
 #[cfg(test)]
 mod tests;
 mod walk;
-mod written;
 
 pub use answer::{ProofAnswer, proof_number};
 pub use strategy_compiler::SearchError;

@@ -18,22 +18,17 @@ ghost use Rattle.proof_tree.specs.Combining.{AreNumbers, is_settled};
 ghost use Rattle.proof_tree.specs.declared.TheConstants.{INFINITE};
 ghost use Rattle.proof_tree.specs.Trees.{IsTree, grown_links, leaf_sum, link_at, most_proving, numbers_at};
 ghost use Rattle.proof_tree.specs.declared.Kind.{Kind as AnyKind};
-ghost use Rattle.proof_number.specs.ThreatGame.{threat_tree};
-ghost use Rattle.proof_number.specs.Attacks.{IsDoubleWin, OthersFail, is_last_move, tried_moves};
-ghost use Rattle.proof_number.specs.Growth.{GrowsBy};
-ghost use Rattle.proof_number.specs.Replies.{IsChild, nodes_for};
+ghost use Rattle.threat_game.specs.ThreatGame.{threat_tree};
+ghost use Rattle.threat_game.specs.Attacks.{IsDoubleWin, OthersFail, is_last_move, tried_moves};
+ghost use Rattle.threat_game.specs.Growth.{GrowsBy};
+ghost use Rattle.threat_game.specs.Replies.{IsChild, nodes_for};
 ghost use Rattle.proof_number.specs.Children.{AreSettled, child_note, child_numbers};
 ghost use Rattle.proof_number.specs.Notes.{note_at};
 ghost use Rattle.proof_number.specs.GameTrees.{board_at, left_at};
 ghost use Rattle.proof_number.specs.Searches.{Searches, IsSameAim, StandsAt, Grows, HasSpent, HasStayed, OnStep, IsSettledAt, IsExpandedAt, IsNew, KeepsTree, closed_nodes, game_of, noted_won};
 
 use crate::REMEMBERED;
-use crate::attacks::{Attacks, find_attacks};
-use crate::doubles::{Double, answers_of, compile_double};
-use crate::last_moves::last_move;
 use crate::notes::{Note, Settled};
-use crate::replies::{Child, replies, settle_child};
-use crate::written::{compile_five, compile_last};
 use foul_judge::Seen;
 use position_table::{PackedPosition, WholeTable};
 use proof_tree::{Kind, Numbers, ProofTree};
@@ -41,6 +36,10 @@ use row_shapes::Rule;
 use std::alloc::{AllocError, Global};
 use stone_board::{Board, Point};
 use strategy_compiler::{Compiler, SearchError, WrittenWin};
+use threat_game::{
+    Attacks, Child, Double, answers_of, compile_double, compile_five, compile_last, find_attacks,
+    judge_replies, last_move, settle_child,
+};
 
 /// What a step of the search did.
 #[derive(Clone, Copy, Debug, PartialEq, Eq)]
@@ -382,7 +381,7 @@ impl Search {
         ensures full_now { IsErrOf result SearchError.Full → length compiler.new ≡ MAX_NODES }
     {
         let left = self.notes[leaf as usize].left;
-        match replies::<R, V>(alloc, view, &mut self.board, u32::from(left))? {
+        match judge_replies::<R, V>(alloc, view, &mut self.board, u32::from(left))? {
             None => {
                 tree.settle(false);
                 Ok(Step::Done)

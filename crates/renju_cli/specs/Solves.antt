@@ -12,7 +12,7 @@ use Rattle.four_search.specs.FourGame.{four_cost}
 use Rattle.threat_moves.specs.declared.threat_list.Threat.{Threat}
 use Rattle.threat_space.specs.declared.TheConstants.{MAX_LENGTH}
 use Rattle.line_proof.specs.Lines.{line_wins, line_tree}
-use Rattle.proof_number.specs.ThreatGame.{threat_tree}
+use Rattle.threat_game.specs.ThreatGame.{threat_tree}
 use Rattle.text_lines.specs.Lines.{ended}
 use Rattle.position_files.specs.declared.PositionFile.{PositionFile}
 use Rattle.position_files.specs.Tables.{IsTextOfTable}

@@ -3,7 +3,7 @@ use Rattle.proof_tree.specs.Combining.{is_settled}
 use Rattle.proof_number.specs.Searches.{Searches, closed_nodes}
 use Rattle.proof_number.proofs.Ending.{begun-full, closed-few, root-noted, told-lost, told-none, told-proved, told-win}
 use Rattle.proof_number.proofs.StepLaws.{on-done, searched-tree}
-use Rattle.proof_number.proofs.TreeLaws.{tree-positive}
+use Rattle.threat_game.proofs.TreeLaws.{tree-positive}
 use Rattle.proof_number.proofs.answer.proof_number.Goals as goal
 
 pub returns-in_err-begin-clause-full : goal.returns-in_err-begin-clause-full

@@ -6,10 +6,10 @@ use Rattle.strategy_graph.specs.declared.TheConstants.{MAX_NODES}
 use Rattle.strategy_graph.proofs.Filling.{IsTable-lower}
 use Rattle.strategy_compiler.specs.declared.wins.WrittenWin.{WrittenWin}
 use Rattle.proof_number.specs.declared.notes.Note.{Note}
-use Rattle.proof_number.specs.declared.replies.Child.{Child}
-use Rattle.proof_number.specs.Answers.{IsThreatWin}
+use Rattle.threat_game.specs.declared.replies.Child.{Child}
+use Rattle.threat_game.specs.Wins.{IsThreatWin}
 use Rattle.proof_number.specs.Children.{child_at, child_note, no_child}
-use Rattle.proof_number.specs.Replies.{moves_for}
+use Rattle.threat_game.specs.Replies.{moves_for}
 use Rattle.proof_number.proofs.ChildNotes.{more-settled, moves-few, no-room, nodes-more, nodes-within}
 use Rattle.proof_number.proofs.search.settle_children.Goals as goal
 

@@ -1,8 +1,8 @@
 use Rattle.std.proofs.Common.{◌≡◌, take}
 use Rattle.std.specs.List.{sum_by}
 use Rattle.proof_number.specs.Children.{AreSettled}
-use Rattle.proof_number.specs.Growth.{GrowsBy}
-use Rattle.proof_number.specs.Replies.{nodes_for}
+use Rattle.threat_game.specs.Growth.{GrowsBy}
+use Rattle.threat_game.specs.Replies.{nodes_for}
 use Rattle.proof_number.proofs.search.settle_children.Given as goal
 
 -- the view is as before, the children so far are settled, and the compiler has grown by their nodes

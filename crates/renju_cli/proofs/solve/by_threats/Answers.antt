@@ -4,8 +4,9 @@ use Rattle.game_rules.specs.declared.RuleKind.{RuleKind}
 use Rattle.strategy_graph.specs.declared.Node.{Node}
 use Rattle.strategy_graph.specs.declared.TheConstants.{MAX_NODES}
 use Rattle.strategy_compiler.specs.Wins.{IsWrittenWin}
-use Rattle.proof_number.specs.ThreatGame.{threat_tree}
-use Rattle.proof_number.specs.Answers.{OnWin, IsThreatWin}
+use Rattle.threat_game.specs.ThreatGame.{threat_tree}
+use Rattle.proof_number.specs.Answers.{OnWin}
+use Rattle.threat_game.specs.Wins.{IsThreatWin}
 use Rattle.proof_number.specs.declared.answer.ProofAnswer.{ProofAnswer}
 use Rattle.renju_cli.specs.Solves.{IsWinText}
 use Rattle.renju_cli.proofs.Solutions.{file_at, later-says, unwon-says, full-says}

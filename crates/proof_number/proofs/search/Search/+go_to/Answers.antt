@@ -7,7 +7,8 @@ use Rattle.proof_tree.specs.declared.Link.{Link}
 use Rattle.proof_number.specs.declared.notes.Note.{Note}
 use Rattle.proof_number.specs.declared.search.Search.{Search}
 use Rattle.proof_number.specs.Notes.{no_note}
-use Rattle.proof_number.specs.GameTrees.{GameTree, board_at, move_at}
+use Rattle.proof_number.specs.GameTrees.{GameTree, board_at}
+use Rattle.threat_game.specs.ThreatGame.{move_at}
 use Rattle.proof_number.specs.Searches.{game_of}
 use Rattle.proof_number.proofs.GameBoards.{board-root}
 use Rattle.proof_number.proofs.GameWalks.{noted-move, move-on, move-empty, board-after}

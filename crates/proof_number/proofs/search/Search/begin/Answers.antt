@@ -3,7 +3,7 @@ use Rattle.game_rules.specs.Grid.{Grid}
 use Rattle.game_rules.specs.Play.{mover}
 use Rattle.game_rules.specs.Games.{five_points}
 use Rattle.proof_number.specs.declared.search.Search.{Search}
-use Rattle.proof_number.specs.Answers.{IsThreatWin}
+use Rattle.threat_game.specs.Wins.{IsThreatWin}
 use Rattle.proof_number.proofs.Beginning.{begun-open, begun-won, few-moves, listed-first, listed-none, lone-leaf}
 use Rattle.proof_number.proofs.search.Search.begin.Goals as goal
 

@@ -3,7 +3,7 @@ use Rattle.std.specs.List.{All}
 use Rattle.std.proofs.lemmas.List.{get_or_default, length-replicate, nil_from_length}
 use Rattle.std.proofs.lemmas.List.Elements.{All-replicate}
 use Rattle.game_rules.specs.declared.Point.{Point}
-use Rattle.proof_number.specs.Attacks.{tried_moves}
+use Rattle.threat_game.specs.Attacks.{tried_moves}
 use Rattle.proof_number.specs.declared.notes.Note.{Note}
 use Rattle.proof_number.specs.declared.search.Search.{Search}
 use Rattle.proof_number.specs.Notes.{no_note, note_at}

@@ -1,9 +1,9 @@
 use Rattle.std.proofs.Common.{rules, ◌≡◌, ◌+◌, ℕ, ap, subst, arith}
 use Rattle.game_rules.specs.Grid.{Grid}
-use Rattle.proof_number.specs.Answers.{IsThreatWin}
-use Rattle.proof_number.specs.Growth.{GrowsBy}
+use Rattle.threat_game.specs.Wins.{IsThreatWin}
+use Rattle.threat_game.specs.Growth.{GrowsBy}
 use Rattle.proof_number.specs.Notes.{note_at}
-use Rattle.proof_number.specs.Replies.{answer_nodes}
+use Rattle.threat_game.specs.Replies.{answer_nodes}
 use Rattle.proof_number.proofs.Steps.{attack-moves, leaf-is, leaf-noted, root-open}
 use Rattle.proof_number.proofs.WonSteps.{attacked-few, counted-step, double-fits, double-full, spent-there, win-few}
 use Rattle.proof_number.proofs.search.Search.win_double.Goals as goal

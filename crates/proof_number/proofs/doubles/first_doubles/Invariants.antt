@@ -1,8 +1,0 @@
-use Rattle.std.proofs.Common.{◌≡◌}
-use Rattle.std.specs.Prelude.{All}
-use Rattle.proof_number.specs.Attacks.{LeavesBoth}
-use Rattle.proof_number.proofs.doubles.first_doubles.Given as goal
-
--- the board is as before, and what was found leaves two five points
-abbrev pub invariant-loop-p : goal.invariant-loop-p
-invariant-loop-p g l = (l.board ≡ l.fn.board) × All (LeavesBoth g.R.Rule.KIND l.fn.board l.side) l.found.items

@@ -1,6 +1,0 @@
-use Rattle.std.proofs.Common.{◌≡◌}
-use Rattle.proof_number.proofs.escapes.has_escape.Given as goal
-
--- the view is as before, and the board
-abbrev pub invariant-loop-q : goal.invariant-loop-q
-invariant-loop-q g l = (g.V.Seen.position l.view ≡ g.V.Seen.position l.fn.view) × (l.board ≡ l.fn.board)

@@ -1,6 +1,0 @@
-use Rattle.std.proofs.Common.{◌≡◌}
-use Rattle.proof_number.proofs.replies.still_double.Given as goal
-
--- the view is as before
-abbrev pub invariant-loop-double : goal.invariant-loop-double
-invariant-loop-double g l = g.V.Seen.position l.view ≡ g.V.Seen.position l.fn.view

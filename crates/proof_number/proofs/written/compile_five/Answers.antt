@@ -1,5 +1,0 @@
-use Rattle.proof_number.proofs.WrittenLaws.{five-written}
-use Rattle.proof_number.proofs.written.compile_five.Goals as goal
-
-pub returns-clause-win : goal.returns-clause-win
-returns-clause-win c = five-written c.winning.new.self c.winning.ensures.compiled.table c.in_ok-node.node c.args.five c.in_ok-node.ensures.node

@@ -1,5 +1,0 @@
-use Rattle.proof_number.proofs.WrittenLaws.{last-written}
-use Rattle.proof_number.proofs.written.compile_last.Goals as goal
-
-pub returns-clause-win : goal.returns-clause-win
-returns-clause-win c = last-written c.node.new.self c.node.ensures.compiled.table c.in_ok-node.node c.args.attack c.in_ok-node.ensures.node

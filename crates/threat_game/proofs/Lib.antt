@@ -1,0 +1,29 @@
+-- The laws of the game of threats. What is declared by `pub mod` the layers above may cite; the rest serves this crate alone.
+
+-- moves that have to be tried; what a reply leaves; positions counted
+mod AttackLaws
+mod ReplyLaws
+pub mod TreeLaws
+-- wins by a double point and by a last move
+mod DoubleLaws
+mod LastLaws
+-- moves where each goes on
+mod FreeMoves
+-- a move on a view and on a copy of its board, taken back on both
+mod BothBoards
+-- new double points are on the lines of the stone just put
+mod NearDoubles
+-- their nodes, and how these are added
+pub mod GrowthLaws
+pub mod WrittenLaws
+mod DoubleNodes
+mod SettleLaws
+-- the replies, one after another
+pub mod ChildLaws
+-- the moves that have to be tried are enough, and how many positions stand behind them
+pub mod Trying
+pub mod Counting
+-- where an escape meets each of them there is no win
+mod Escaping
+-- answers in reading order rise
+mod Rising

@@ -1,0 +1,36 @@
+use Rattle.std.proofs.Common.{rules, ◌≡◌, sym, subst, ◌∙◌, arith, List, [], ◌∷◌}
+use Rattle.std.proofs.lemmas.Grind.{common_steps}
+use Rattle.game_rules.specs.Grid.{Grid}
+use Rattle.game_rules.specs.Play.{IsPosition}
+use Rattle.game_rules.specs.declared.Point.{Point}
+use Rattle.threat_game.specs.FreeMoves.{EachGoesOn}
+use Rattle.threat_game.specs.Replies.{IsJudgement}
+use Rattle.threat_game.proofs.ChildLaws.{SoFar, all-children, room-is, step-more}
+use Rattle.threat_game.proofs.replies.each_reply.Goals as goal
+
+pub add-requires-clause-room : goal.add-requires-clause-room
+add-requires-clause-room g c =
+    room-is g.R.Rule.KIND c.args.moves (g.V.Seen.position c.args.view.now) c.loop-q.children.all.items c.loop-q.children.count c.loop-q.q-iterator c.requires.lawful.board c.loop-q.invariant.2
+
+pub loop-q-preserved : goal.loop-q-preserved
+loop-q-preserved g c =
+    let b : Grid = g.V.Seen.position c.args.view.now in
+    let next : c.loop-q.q-iterator ≡ c.in-Some.q ∷ c.next.new.self = first_of (search rules, grind (arith, common_steps)) in (
+      c.judge.ensures.same ∙ c.loop-q.invariant.0,
+      c.judge.ensures.same_board ∙ c.loop-q.invariant.1,
+      step-more g.R.Rule.KIND c.args.moves b (g.V.Seen.position c.loop-q.view) c.loop-q.invariant.0 c.loop-q.children.all.items c.loop-q.children.count c.in-Some.q c.next.new.self c.loop-q.q-iterator next c.loop-q.invariant.2
+          c.in-Known.judged (subst (IsJudgement g.R.Rule.KIND c.args.moves (g.V.Seen.position c.loop-q.view) c.in-Some.q) c.in-Known.is c.in_ok-judge.ensures.judgement) c.add.new.self.all.items c.add.new.self.count c.in_ok-add-in-Known.ensures.all c.in_ok-add-in-Known.ensures.count,
+    )
+
+pub returns-clause-replies : goal.returns-clause-replies
+returns-clause-replies g c =
+    let b : Grid = g.V.Seen.position c.args.view.now in
+    let done : c.loop-q.q-iterator ≡ [] = first_of (search rules, grind (arith, common_steps)) in
+    all-children g.R.Rule.KIND c.args.moves b c.requires.lawful c.requires.reply c.loop-q.children
+    (subst (λ (ps : List Point). SoFar g.R.Rule.KIND c.args.moves b c.loop-q.children.all.items c.loop-q.children.count ps) done c.loop-q.invariant.2)
+
+pub judge-requires-clause-lawful : goal.judge-requires-clause-lawful
+judge-requires-clause-lawful g c = subst (λ (b : Grid). IsPosition g.R.Rule.KIND b) (sym c.loop-q.invariant.0) c.requires.lawful
+
+pub judge-requires-clause-each : goal.judge-requires-clause-each
+judge-requires-clause-each g c = λ h. subst (λ (b : Grid). EachGoesOn g.R.Rule.KIND b) (sym c.loop-q.invariant.0) (c.each_goes_on-free.ensures.each h)

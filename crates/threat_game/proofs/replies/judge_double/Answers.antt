@@ -1,0 +1,46 @@
+use Rattle.std.proofs.Common.{ap, sym, subst, ◌∙◌}
+use Rattle.std.specs.Prelude.{All}
+use Rattle.game_rules.specs.Grid.{Grid}
+use Rattle.game_rules.specs.Games.{has_five}
+use Rattle.game_rules.specs.Play.{mover, other, after}
+use Rattle.game_rules.proofs.Positions.{GoesOn-empty, mover-other}
+use Rattle.row_shapes.proofs.FiveLaws.{has_five-none}
+use Rattle.threat_moves.proofs.Undo.{stone_back, lift_back, unwon_back}
+use Rattle.threat_game.specs.Attacks.{LeavesBoth}
+use Rattle.threat_game.specs.Replies.{IsBeside, IsJudged}
+use Rattle.threat_game.proofs.ReplyLaws.{all-kept}
+use Rattle.threat_game.proofs.replies.judge_double.Goals as goal
+
+pub fives_made-requires-clause-empty : goal.fives_made-requires-clause-empty
+fives_made-requires-clause-empty g c = GoesOn-empty g.R.Rule.KIND (g.V.Seen.position c.args.view.now) c.args.q c.requires.on
+
+pub still_double-found-requires-clause-none : goal.still_double-found-requires-clause-none
+still_double-found-requires-clause-none g c = ap (λ (b : Grid). has_five g.R.Rule.KIND b (mover b)) c.play.ensures.played ∙ c.requires.none
+
+pub still_double-found-requires-clause-safe : goal.still_double-found-requires-clause-safe
+still_double-found-requires-clause-safe g c =
+    let b : Grid = g.V.Seen.position c.args.view.now in
+    ap (λ (w : Grid). has_five g.R.Rule.KIND w (other (mover w))) c.play.ensures.played
+    ∙ ap (has_five g.R.Rule.KIND (after b c.args.q)) (mover-other g.R.Rule.KIND b c.args.q c.play.ensures.lawful c.requires.on)
+    ∙ has_five-none g.R.Rule.KIND (after b c.args.q) (mover b) (sym c.in-None.ensures.made)
+
+pub still_double-found-requires-clause-doubles : goal.still_double-found-requires-clause-doubles
+still_double-found-requires-clause-doubles g c =
+    let b : Grid = g.V.Seen.position c.args.view.now in
+    subst (λ (w : Grid). All (λ d. IsBeside d c.args.q → LeavesBoth g.R.Rule.KIND w (mover w) d) c.args.doubles.now) (sym c.play.ensures.played)
+    (all-kept g.R.Rule.KIND b c.args.q c.play.ensures.lawful c.requires.on c.args.doubles.now c.requires.doubles)
+
+pub undo-requires-clause-stone : goal.undo-requires-clause-stone
+undo-requires-clause-stone g c =
+    stone_back g.R.Rule.KIND (g.V.Seen.position c.args.view.now) _ c.args.q c.play.ensures.lawful c.requires.on (c.still_double-found.ensures.same ∙ c.play.ensures.played)
+
+pub undo-requires-clause-unwon : goal.undo-requires-clause-unwon
+undo-requires-clause-unwon g c =
+    unwon_back g.R.Rule.KIND (g.V.Seen.position c.args.view.now) _ c.args.q c.play.ensures.lawful c.requires.on (c.still_double-found.ensures.same ∙ c.play.ensures.played)
+
+pub returns-in-None-clause-judged : goal.returns-in-None-clause-judged
+returns-in-None-clause-judged g c = subst (λ (b : Grid). IsJudged g.R.Rule.KIND b c.still_double-found.result) c.play.ensures.played c.still_double-found.ensures.judged
+
+pub returns-in-None-clause-same : goal.returns-in-None-clause-same
+returns-in-None-clause-same g c =
+    c.undo.ensures.undone ∙ lift_back g.R.Rule.KIND (g.V.Seen.position c.args.view.now) _ c.args.q c.play.ensures.lawful c.requires.on (c.still_double-found.ensures.same ∙ c.play.ensures.played)

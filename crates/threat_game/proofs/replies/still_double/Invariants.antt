@@ -1,0 +1,6 @@
+use Rattle.std.proofs.Common.{◌≡◌}
+use Rattle.threat_game.proofs.replies.still_double.Given as goal
+
+-- the view is as before
+abbrev pub invariant-loop-double : goal.invariant-loop-double
+invariant-loop-double g l = g.V.Seen.position l.view ≡ g.V.Seen.position l.fn.view

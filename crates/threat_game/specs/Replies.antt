@@ -1,0 +1,138 @@
+-- The replies to a move of the attacker, and what is known at once of the positions after them.
+use Rattle.std.specs.Prelude.{◌≡◌, ℕ, ◌+◌, ◌<◌, ◌≤◌, Bool, false, true, ◌&&◌, not, if◌then◌else◌, List, map, length, All, Option, Some, None}
+use Rattle.std.specs.List.{list_any, filter, sum_by}
+use Rattle.game_rules.specs.Grid.{Grid, points_of}
+use Rattle.game_rules.specs.Shapes.{five, is_same_point}
+use Rattle.game_rules.specs.Play.{outcome, mover, after, goes_on}
+use Rattle.game_rules.specs.Games.{WinsByThreats, has_five}
+use Rattle.game_rules.specs.declared.RuleKind.{RuleKind}
+use Rattle.game_rules.specs.declared.Outcome.TheVariants.{GoesOn}
+use Rattle.game_rules.specs.declared.Point.{Point}
+use Rattle.strategy_graph.specs.declared.Reply.{Reply}
+use Rattle.threat_game.specs.declared.doubles.Double.{Double}
+use Rattle.threat_game.specs.declared.replies.Judged.{Judged}
+use Rattle.threat_game.specs.declared.replies.Judged.TheVariants.{Five, Double as DoubleWins, Last, Open}
+use Rattle.threat_game.specs.declared.replies.Judgement.{Judgement}
+use Rattle.threat_game.specs.declared.replies.Judgement.TheVariants.{NoReply, Escape, Known}
+use Rattle.threat_game.specs.declared.replies.Child.{Child}
+use Rattle.threat_game.specs.declared.replies.Children.{Children}
+use Rattle.threat_game.specs.ThreatGame.{behind_replies, threat_tree}
+use Rattle.threat_game.specs.Attacks.{is_last_move, IsDoubleWin}
+
+-- whether the reply w goes on
+abbrev pub has_reply_at : RuleKind → Grid → Point → Bool
+has_reply_at rule c w = list_any (λ q. goes_on (outcome rule c q) && is_same_point q w) (points_of c)
+
+-- whether another reply than w goes on
+abbrev pub has_reply_beside : RuleKind → Grid → Point → Bool
+has_reply_beside rule c w = list_any (λ q. goes_on (outcome rule c q) && not (is_same_point q w)) (points_of c)
+
+-- 1 for yes, and 0 for no
+abbrev pub one_if : Bool → ℕ
+one_if test = if test then 1 else 0
+
+-- how many winning nodes answer the replies to a double point: one the reply on its first five point, and one all others
+abbrev pub answer_nodes : RuleKind → Grid → Double → ℕ
+answer_nodes rule b d = one_if (has_reply_at rule (after b d.at) d.first) + one_if (has_reply_beside rule (after b d.at) d.first)
+
+-- a double point wins at b, where the side to move has no five point, and so many nodes answer the replies to it
+pub record IsJudgedDouble (rule : RuleKind) (b : Grid) (d : Double) (nodes : ℕ) : Type 0 where
+  pub no_five : has_five rule b (mover b) ≡ false
+  pub wins : IsDoubleWin rule b d
+  pub nodes_are : nodes ≡ answer_nodes rule b d
+
+-- what is judged of b is true; of an open position nothing is but that the side to move has no five point
+abbrev pub IsJudged : RuleKind → Grid → Judged → Type 0
+IsJudged rule b (Five w) = five rule b (mover b) w ≡ true
+IsJudged rule b (DoubleWins d nodes) = IsJudgedDouble rule b d nodes
+IsJudged rule b (Last p) = is_last_move rule b p ≡ true
+IsJudged rule b Open = has_five rule b (mover b) ≡ false
+
+-- the moves that a win of this kind takes; an open position has two moves or more
+abbrev pub moves_for : Judged → ℕ
+moves_for (Five w) = 1
+moves_for (DoubleWins d nodes) = 2
+moves_for (Last p) = 1
+moves_for Open = 2
+
+-- whether nothing is known
+abbrev pub is_open : Judged → Bool
+is_open (Five w) = false
+is_open (DoubleWins d nodes) = false
+is_open (Last p) = false
+is_open Open = true
+
+-- how many positions of the attacker are counted for a position of which this is judged
+abbrev pub counted_for : Judged → ℕ
+counted_for (Five w) = 1
+counted_for (DoubleWins d nodes) = 1 + nodes
+counted_for (Last p) = 1
+counted_for Open = 1
+
+-- how many nodes are compiled at most for a win that is judged so; for an open position none is
+abbrev pub nodes_for : Judged → ℕ
+nodes_for (Five w) = 1
+nodes_for (DoubleWins d nodes) = 1 + nodes
+nodes_for (Last p) = 1
+nodes_for Open = 0
+
+-- what is judged after a reply at c is true, and so many moves are enough for it
+pub record IsChild (rule : RuleKind) (moves : ℕ) (c : Grid) (child : Child) : Type 0 where
+  pub on : outcome rule c child.at ≡ GoesOn
+  pub judged : IsJudged rule (after c child.at) child.judged
+  pub enough : moves_for child.judged ≤ moves
+
+-- there is no win by threats within so many moves after this reply, which goes on
+pub record EscapesBy (rule : RuleKind) (moves : ℕ) (c : Grid) (q : Point) : Type 0 where
+  pub on : outcome rule c q ≡ GoesOn
+  pub no_win : ¬ WinsByThreats rule moves (after c q)
+
+-- what is said of a point as a reply at c is true, where the attacker has so many more moves
+abbrev pub IsJudgement : RuleKind → ℕ → Grid → Point → Judgement → Type 0
+IsJudgement rule moves c q NoReply = goes_on (outcome rule c q) ≡ false
+IsJudgement rule moves c q Escape = EscapesBy rule moves c q
+IsJudgement rule moves c q (Known judged) = IsChild rule moves c (record { at = q; judged = judged })
+
+-- the replies that go on, in reading order
+abbrev pub replies_at : RuleKind → Grid → List Point
+replies_at rule c = filter (λ q. goes_on (outcome rule c q)) (points_of c)
+
+-- The children are the replies that go on at c, where the attacker has so many more moves. As many positions are counted as for
+-- all of them, and no more than the game of threats has.
+pub record AreChildren (rule : RuleKind) (moves : ℕ) (c : Grid) (children : Children) : Type 0 where
+  pub points : map (λ child. child.at) children.all.items ≡ replies_at rule c
+  pub some : 0 < length children.all.items
+  pub each : All (IsChild rule moves c) children.all.items
+  pub count_is : children.count ≡ sum_by (λ child. counted_for child.judged) children.all.items
+  pub few : children.count ≤ behind_replies rule (threat_tree rule moves) c
+
+-- after some reply that goes on there is no win by threats within so many moves
+pub record HasEscape (rule : RuleKind) (moves : ℕ) (c : Grid) : Type 0 where
+  pub reply : Point
+  pub on : outcome rule c reply ≡ GoesOn
+  pub no_win : ¬ WinsByThreats rule moves (after c reply)
+
+-- what the replies come to: children, or none where there is an escape
+abbrev pub AreReplies : RuleKind → ℕ → Grid → Option Children → Type 0
+AreReplies rule moves c None = HasEscape rule moves c
+AreReplies rule moves c (Some children) = AreChildren rule moves c children
+
+-- node i for the reply w, and node j for any other
+abbrev pub node_for : Point → ℕ → ℕ → Point → ℕ
+node_for w i j q = if is_same_point q w then i else j
+
+-- the answer to a reply by this node
+abbrev pub answer_by : (Point → ℕ) → Point → Reply
+answer_by next q = record { at = q; next = next q }
+
+-- the answers to all replies that go on: node i to the reply w, and node j to each other
+abbrev pub double_answers : RuleKind → Grid → Point → ℕ → ℕ → List Reply
+double_answers rule c w i j = map (answer_by (node_for w i j)) (replies_at rule c)
+
+-- whether a stone on q leaves the double point and its two five points empty
+abbrev pub is_beside : Double → Point → Bool
+is_beside d q = not (is_same_point d.at q) && not (is_same_point d.first q) && not (is_same_point d.second q)
+
+-- a stone on q leaves the double point and its two five points empty
+abbrev pub IsBeside : Double → Point → Type 0
+IsBeside d q = is_beside d q ≡ true

@@ -1,0 +1,382 @@
+//! The moves of the attacker.
+//!
+//! A move of the game of threats goes on and leaves its side a five point or a double point. A double point that stands already
+//! wins at once where the other side has no five point. Else each move of the game is tried; where the other side has a five
+//! point, the one move that may help is to take it. Where no point makes two five points yet, a new double point is on a line with
+//! the stone that makes it, so no other is looked at.
+#![tactic(auto)]
+
+ghost use Rattle.std.specs.Prelude.{◌≡◌, ◌&&◌, not, true, false, IfOk, IfSome, IsTrue};
+ghost use Rattle.game_rules.specs.Grid.{Grid, is_empty, put};
+ghost use Rattle.game_rules.specs.Shapes.{is_same_point};
+ghost use Rattle.game_rules.specs.Play.{IsPosition, outcome as outcome_lem, mover, other, after, goes_on as goes_on_lem};
+ghost use Rattle.game_rules.specs.Games.{has_five as has_five_lem, five_points as five_points_lem, has_threat, is_double_point};
+ghost use Rattle.row_shapes.specs.FivePoints.{in_short};
+ghost use Rattle.threat_moves.specs.Lines.{is_aligned as is_aligned_lem};
+ghost use Rattle.threat_moves.specs.ThreeMoves.{is_several as is_several_lem, has_double_point};
+ghost use Rattle.threat_game.specs.ThreatGame.{is_threat_move as is_threat_move_lem};
+ghost use Rattle.threat_game.specs.FreeMoves.{EachGoesOn};
+ghost use Rattle.threat_game.specs.NearDoubles.{FarAreNone, is_some_point as is_some_point_lem, makes_two as makes_two_lem, some_makes_two as some_makes_two_lem};
+ghost use Rattle.threat_game.specs.Attacks.{AreAttacks, IsAttempt, IsDoubleWin, best_reply as best_reply_lem, takes as takes_lem};
+
+use crate::doubles::{Double, double_at};
+use crate::last_moves::has_fouls;
+use foul_judge::{Outcome, Seen};
+use row_shapes::{FivePoints, Rule};
+use std::alloc::{AllocError, Global};
+use stone_board::{Board, Point, Points, Side};
+use threat_moves::{is_aligned, is_four_move, is_new_double_point, is_three_move};
+
+/// What the moves of the attacker come to, where it has no five point and two moves or more.
+#[derive(Drop)]
+pub enum Attacks {
+    /// This double point goes on, and the other side has no five point.
+    Double(Double),
+    /// After this move each reply fouls.
+    NoReply(Point),
+    /// The moves to be tried, in reading order: after each the other side has no five point, and a reply that goes on. To each
+    /// other move of the game of threats a reply wins or fills the board.
+    Moves(Points),
+}
+
+/// What is to be done with a move.
+#[derive(Clone, Copy, Debug, PartialEq, Eq)]
+enum Attempt {
+    /// It has to be tried.
+    Tried,
+    /// Each reply to it fouls.
+    Last,
+    /// It need not be tried.
+    Passed,
+}
+
+/// What the moves of a side come to.
+#[derive(Clone, Copy, Debug, PartialEq, Eq)]
+pub enum BestReply {
+    /// One goes on.
+    GoesOn,
+    /// None goes on, and one wins or fills the board.
+    Saves,
+    /// Each fouls.
+    Fouls,
+}
+
+/// The moves of the attacker. The view is as before, also where memory ran out, and so is the board, a copy of its own.
+pub fn find_attacks<R: Rule, V: Seen<R>>(
+    alloc: Global,
+    view: &mut V,
+    board: &mut Board,
+) -> Result<Attacks, AllocError>
+    requires none { has_five_lem R.KIND (V.position view.old) (mover (V.position view.old)) ≡ false }
+    requires copy { board.old ≡ V.position view.old }
+    ensures attacks { IfOk result (λ a. AreAttacks R.KIND (V.position view.old) a) }
+    ensures same { V.position view.new ≡ V.position view.old }
+    ensures same_board { board.new ≡ board.old }
+{
+    let attacker = view.side();
+    let threat = view.fives_in_short(attacker.other());
+    let loud = some_makes_two::<R, V>(view);
+    if let FivePoints::None = threat {
+        match find_double::<R, V>(alloc, view, board, loud)? {
+            Some(double) => Ok(Attacks::Double(double)),
+            None => find_moves::<R, V>(alloc, view, board, threat, loud),
+        }
+    } else {
+        find_moves::<R, V>(alloc, view, board, threat, loud)
+    }
+}
+
+/// A double point that goes on, if there is one. Neither side has a five point. It may be told that no point makes two.
+fn find_double<R: Rule, V: Seen<R>>(
+    alloc: Global,
+    view: &mut V,
+    board: &mut Board,
+    loud: bool,
+) -> Result<Option<Double>, AllocError>
+    requires none { has_five_lem R.KIND (V.position view.old) (mover (V.position view.old)) ≡ false }
+    requires safe { has_five_lem R.KIND (V.position view.old) (other (mover (V.position view.old))) ≡ false }
+    requires copy { board.old ≡ V.position view.old }
+    ensures double { IfOk result (λ found. IfSome found (IsDoubleWin R.KIND (V.position view.old))) }
+    ensures same { V.position view.new ≡ V.position view.old }
+    ensures same_board { board.new ≡ board.old }
+{
+    if !loud {
+        return Ok(None);
+    }
+    for p in view.board().points() {
+        if makes_two::<R, V>(view, p) {
+            if let Outcome::GoesOn = view.outcome(p) {
+                let side = view.side();
+                return double_at::<R>(alloc, board, side, p);
+            }
+        }
+    }
+    Ok(None)
+}
+
+/// Whether a stone of the side to move on some point leaves it two five points or more. It has none.
+fn some_makes_two<R: Rule, V: Seen<R>>(view: &V) -> bool
+    requires none { has_five_lem R.KIND (V.position view.now) (mover (V.position view.now)) ≡ false }
+    ensures some { result ≡ some_makes_two_lem R.KIND (V.position view.now) (mover (V.position view.now)) }
+{
+    for p in view.board().points() {
+        if makes_two::<R, V>(view, p) {
+            return true;
+        }
+    }
+    false
+}
+
+/// Whether the point is empty and a stone of the side to move, which has no five point, leaves it two there or more.
+fn makes_two<R: Rule, V: Seen<R>>(view: &V, p: Point) -> bool
+    requires none { has_five_lem R.KIND (V.position view.now) (mover (V.position view.now)) ≡ false }
+    ensures two { result ≡ makes_two_lem R.KIND (V.position view.now) (mover (V.position view.now)) p }
+{
+    if !view.board().is_empty(p) {
+        return false;
+    }
+    is_several(view.fives_made(p))
+}
+
+/// Whether there are two five points or more.
+fn is_several(fives: FivePoints) -> bool
+    ensures several { result ≡ is_several_lem fives }
+{
+    matches!(fives, FivePoints::Several)
+}
+
+/// Whether there is a five point.
+fn is_some_point(fives: FivePoints) -> bool
+    ensures some { result ≡ is_some_point_lem fives }
+{
+    !matches!(fives, FivePoints::None)
+}
+
+/// The moves to be tried, or one to which each reply fouls. The other side has these five points.
+fn find_moves<R: Rule, V: Seen<R>>(
+    alloc: Global,
+    view: &mut V,
+    board: &mut Board,
+    threat: FivePoints,
+    loud: bool,
+) -> Result<Attacks, AllocError>
+    requires loud { loud ≡ some_makes_two_lem R.KIND (V.position view.old) (mover (V.position view.old)) }
+    requires none { has_five_lem R.KIND (V.position view.old) (mover (V.position view.old)) ≡ false }
+    requires lawful { IsPosition R.KIND (V.position view.old) }
+    requires copy { board.old ≡ V.position view.old }
+    requires told { threat ≡ in_short (five_points_lem R.KIND (V.position view.old) (other (mover (V.position view.old)))) }
+    ensures attacks { IfOk result (λ a. AreAttacks R.KIND (V.position view.old) a) }
+    ensures same { V.position view.new ≡ V.position view.old }
+    ensures same_board { board.new ≡ board.old }
+{
+    let mut moves = Points::new(alloc);
+    for p in view.board().points() {
+        match judge_move::<R, V>(view, board, threat, loud, p) {
+            Attempt::Tried => moves.push(p)?,
+            Attempt::Last => return Ok(Attacks::NoReply(p)),
+            Attempt::Passed => {}
+        }
+    }
+    Ok(Attacks::Moves(moves))
+}
+
+/// What is to be done with the move.
+fn judge_move<R: Rule, V: Seen<R>>(
+    view: &mut V,
+    board: &mut Board,
+    threat: FivePoints,
+    loud: bool,
+    p: Point,
+) -> Attempt
+    requires loud { loud ≡ some_makes_two_lem R.KIND (V.position view.old) (mover (V.position view.old)) }
+    requires none { has_five_lem R.KIND (V.position view.old) (mover (V.position view.old)) ≡ false }
+    requires lawful { IsPosition R.KIND (V.position view.old) }
+    requires copy { board.old ≡ V.position view.old }
+    requires told { threat ≡ in_short (five_points_lem R.KIND (V.position view.old) (other (mover (V.position view.old)))) }
+    ensures attempt { IsAttempt R.KIND (V.position view.old) p result }
+    ensures same { V.position view.new ≡ V.position view.old }
+    ensures same_board { board.new ≡ board.old }
+{
+    if !takes(threat, p) {
+        return Attempt::Passed;
+    }
+    if !is_new_threat::<R, V>(view, board, loud, p) {
+        return Attempt::Passed;
+    }
+    match best_reply_to::<R, V>(view, p) {
+        BestReply::GoesOn => Attempt::Tried,
+        BestReply::Saves => Attempt::Passed,
+        BestReply::Fouls => Attempt::Last,
+    }
+}
+
+/// Whether a move may leave the other side no five point, where that has these: it has none, or the move takes the only one.
+fn takes(threat: FivePoints, p: Point) -> bool
+    ensures takes { result ≡ takes_lem threat p }
+{
+    match threat {
+        FivePoints::None => true,
+        FivePoints::One(w) => w.x == p.x && w.y == p.y,
+        FivePoints::Several => false,
+    }
+}
+
+/// Whether the move goes on.
+pub fn goes_on<R: Rule, V: Seen<R>>(view: &mut V, p: Point) -> bool
+    ensures on { result ≡ goes_on_lem (outcome_lem R.KIND (V.position view.old) p) }
+    ensures lawful { IsPosition R.KIND (V.position view.old) }
+    ensures same { V.position view.new ≡ V.position view.old }
+{
+    matches!(view.outcome(p), Outcome::GoesOn)
+}
+
+/// Whether each move of the side to move on an empty point goes on, as far as is told at once: it has no five point, and where it
+/// has no fouls and two points or more are empty, each does.
+pub fn each_goes_on<R: Rule, V: Seen<R>>(view: &V) -> bool
+    requires none { has_five_lem R.KIND (V.position view.now) (mover (V.position view.now)) ≡ false }
+    ensures each { IsTrue result → EachGoesOn R.KIND (V.position view.now) }
+{
+    !has_fouls::<R>(view.side()) && view.board().empties() >= 2
+}
+
+/// Whether the move goes on, where it may be told that each on an empty point does.
+pub fn goes_on_where<R: Rule, V: Seen<R>>(view: &mut V, each: bool, p: Point) -> bool
+    requires each { IsTrue each → EachGoesOn R.KIND (V.position view.old) }
+    ensures on { result ≡ goes_on_lem (outcome_lem R.KIND (V.position view.old) p) }
+    ensures same { V.position view.new ≡ V.position view.old }
+{
+    if each {
+        view.board().is_empty(p)
+    } else {
+        goes_on::<R, V>(view, p)
+    }
+}
+
+/// Whether the move goes on and leaves its side a five point or a double point.
+pub fn is_threat_move<R: Rule, V: Seen<R>>(view: &mut V, board: &mut Board, p: Point) -> bool
+    requires copy { board.old ≡ V.position view.old }
+    ensures threat { result ≡ is_threat_move_lem R.KIND (V.position view.old) p }
+    ensures same { V.position view.new ≡ V.position view.old }
+    ensures same_board { board.new ≡ board.old }
+{
+    if is_four_move::<R, V>(view, p) {
+        return true;
+    }
+    is_three_move::<R, V>(view, board, p)
+}
+
+/// The same where the side has no five point. It may be told that no point makes two.
+fn is_new_threat<R: Rule, V: Seen<R>>(view: &mut V, board: &mut Board, loud: bool, p: Point) -> bool
+    requires loud { loud ≡ some_makes_two_lem R.KIND (V.position view.old) (mover (V.position view.old)) }
+    requires none { has_five_lem R.KIND (V.position view.old) (mover (V.position view.old)) ≡ false }
+    requires copy { board.old ≡ V.position view.old }
+    ensures threat { result ≡ is_threat_move_lem R.KIND (V.position view.old) p }
+    ensures same { V.position view.new ≡ V.position view.old }
+    ensures same_board { board.new ≡ board.old }
+{
+    if !view.board().is_empty(p) {
+        return false;
+    }
+    if !leaves_threat::<R, V>(view, board, loud, p) {
+        return false;
+    }
+    goes_on::<R, V>(view, p)
+}
+
+/// Whether a stone of the side to move on an empty point leaves it a five point or a double point. It has no five point before.
+fn leaves_threat<R: Rule, V: Seen<R>>(view: &V, board: &mut Board, loud: bool, p: Point) -> bool
+    requires empty { IsTrue (is_empty (V.position view.now) p) }
+    requires loud { loud ≡ some_makes_two_lem R.KIND (V.position view.now) (mover (V.position view.now)) }
+    requires none { has_five_lem R.KIND (V.position view.now) (mover (V.position view.now)) ≡ false }
+    requires copy { board.old ≡ V.position view.now }
+    ensures threat { result ≡ has_threat R.KIND (after (V.position view.now) p) (mover (V.position view.now)) }
+    ensures same_board { board.new ≡ board.old }
+{
+    let side = view.side();
+    if is_some_point(view.fives_made(p)) {
+        return true;
+    }
+    leaves_double::<R>(board, side, loud, p)
+}
+
+/// Whether the side's stone on an empty point, which leaves it no five point, leaves it a double point. The board is as before.
+fn leaves_double<R: Rule>(board: &mut Board, side: Side, loud: bool, p: Point) -> bool
+    requires empty { IsTrue (is_empty board.old p) }
+    requires loud { loud ≡ some_makes_two_lem R.KIND board.old side }
+    requires none { has_five_lem R.KIND (put board.old side p) side ≡ false }
+    ensures double { result ≡ has_double_point R.KIND (put board.old side p) side }
+    ensures same { board.new ≡ board.old }
+{
+    board.put(p, side);
+    let double = has_double::<R>(board, side, loud, p);
+    board.lift(p);
+    double
+}
+
+/// Whether the side, which has no five point, has a double point. It may be told that it has none away from the lines of `p`.
+/// The board is as before.
+fn has_double<R: Rule>(board: &mut Board, side: Side, loud: bool, p: Point) -> bool
+    requires none { has_five_lem R.KIND board.old side ≡ false }
+    requires far { loud ≡ false → FarAreNone R.KIND board.old side p }
+    ensures double { result ≡ has_double_point R.KIND board.old side }
+    ensures same { board.new ≡ board.old }
+{
+    for q in board.points() {
+        if is_double_by::<R>(board, side, loud, p, q) {
+            return true;
+        }
+    }
+    false
+}
+
+/// Whether the point `q` is a double point of the side, as `has_double` is told. The board is as before.
+fn is_double_by<R: Rule>(board: &mut Board, side: Side, loud: bool, p: Point, q: Point) -> bool
+    requires none { has_five_lem R.KIND board.old side ≡ false }
+    requires far { loud ≡ false → FarAreNone R.KIND board.old side p }
+    ensures double { result ≡ is_double_point R.KIND board.old side q }
+    ensures same { board.new ≡ board.old }
+{
+    if is_far(loud, p, q) {
+        return false;
+    }
+    is_new_double_point::<R>(board, side, q)
+}
+
+/// Whether no point makes two, and the two points are on no line.
+fn is_far(loud: bool, p: Point, q: Point) -> bool
+    ensures far { result ≡ (not loud && not (is_aligned_lem p q)) }
+{
+    !loud && !is_aligned(p, q)
+}
+
+/// What the replies to a move that goes on come to.
+pub fn best_reply_to<R: Rule, V: Seen<R>>(view: &mut V, p: Point) -> BestReply
+    requires on { outcome_lem R.KIND (V.position view.old) p ≡ Outcome.GoesOn }
+    ensures best { result ≡ best_reply_lem R.KIND (after (V.position view.old) p) }
+    ensures same { V.position view.new ≡ V.position view.old }
+{
+    view.play(p);
+    let best = best_reply::<R, V>(view);
+    view.undo(p);
+    best
+}
+
+/// What the moves of the side to move come to.
+fn best_reply<R: Rule, V: Seen<R>>(view: &mut V) -> BestReply
+    ensures best { result ≡ best_reply_lem R.KIND (V.position view.old) }
+    ensures same { V.position view.new ≡ V.position view.old }
+{
+    let mut saved = false;
+    for q in view.board().points() {
+        match view.outcome(q) {
+            Outcome::GoesOn => return BestReply::GoesOn,
+            Outcome::Wins | Outcome::Draws => saved = true,
+            Outcome::Refused | Outcome::Fouls(_) => {}
+        }
+    }
+    if saved {
+        BestReply::Saves
+    } else {
+        BestReply::Fouls
+    }
+}

@@ -1,0 +1,265 @@
+//! Wins by a double point: two moves, where the other side has no five point.
+//!
+//! After a stone on it there are two five points, so each reply leaves one. The first is played, and the second where the
+//! reply took the first.
+#![tactic(auto)]
+
+ghost use Rattle.std.specs.Prelude.{◌≡◌, ◌<◌, ◌≤◌, ◌+◌, ◌||◌, ◌&&◌, not, ℕ, true, false, if◌then◌else◌, All, length, slice_get, Some, IfOk, IfSome, IsTrue, IsErrOf, OnOk};
+ghost use Rattle.game_rules.specs.Grid.{is_empty, points_of};
+ghost use Rattle.game_rules.specs.Shapes.{is_same_point};
+ghost use Rattle.game_rules.specs.Play.{IsPosition, outcome as outcome_lem, mover, after, goes_on as goes_on_lem};
+ghost use Rattle.game_rules.specs.declared.Outcome.{Outcome};
+ghost use Rattle.game_rules.specs.Games.{has_five as has_five_lem};
+ghost use Rattle.strategy_graph.specs.declared.TheConstants.{MAX_NODES};
+ghost use Rattle.strategy_compiler.specs.Nodes.{IsCompiled, winning_node};
+ghost use Rattle.threat_game.specs.Growth.{GrowsBy};
+ghost use Rattle.threat_game.specs.Attacks.{LeavesBoth, IsDoubleWin};
+ghost use Rattle.threat_game.specs.Replies.{answer_nodes, has_reply_at, has_reply_beside, one_if, double_answers as double_answers_lem, node_for};
+ghost use Rattle.threat_game.specs.Wins.{IsThreatWin};
+
+use crate::attacks::{each_goes_on, goes_on, goes_on_where};
+use foul_judge::Seen;
+use row_shapes::Rule;
+use std::alloc::{AllocError, Global};
+use stone_board::{Board, Point, Side};
+use strategy_compiler::{Compiler, SearchError, WrittenWin};
+use strategy_graph::Reply;
+use threat_moves::is_new_double_point;
+
+/// So many double points are kept at most to settle replies by.
+const MOST_KEPT: usize = 4;
+
+/// A double point, and two five points after a stone on it.
+#[derive(Clone, Copy, Debug, PartialEq, Eq)]
+pub struct Double {
+    pub at: Point,
+    pub first: Point,
+    pub second: Point,
+}
+
+/// The double point at an empty point whose stone leaves two five points or more, if it does. The board is as before.
+pub fn double_at<R: Rule>(
+    alloc: Global,
+    board: &mut Board,
+    side: Side,
+    at: Point,
+) -> Result<Option<Double>, AllocError>
+    requires empty { IsTrue (is_empty board.old at) }
+    ensures both { IfOk result (λ found. IfSome found (LeavesBoth R.KIND board.old side)) }
+    ensures here { IfOk result (λ found. IfSome found (λ d. d.at ≡ at)) }
+    ensures same { board.new ≡ board.old }
+{
+    board.put(at, side);
+    let points = row_shapes::five_points::<R>(alloc, board, side);
+    board.lift(at);
+    match points?.as_slice() {
+        [first, second, ..] => Ok(Some(Double {
+            at,
+            first: *first,
+            second: *second,
+        })),
+        _ => Ok(None),
+    }
+}
+
+/// The first double points of the side, which has no five point. The board is as before.
+pub fn first_doubles<R: Rule>(
+    alloc: Global,
+    board: &mut Board,
+    side: Side,
+) -> Result<Vec<Double>, AllocError>
+    requires none { has_five_lem R.KIND board.old side ≡ false }
+    ensures each { IfOk result (λ found. All (LeavesBoth R.KIND board.old side) found.items) }
+    ensures same { board.new ≡ board.old }
+{
+    let mut found = Vec::new(alloc);
+    for p in board.points() {
+        if found.len() < MOST_KEPT && is_new_double_point::<R>(board, side, p) {
+            if let Some(double) = double_at::<R>(alloc, board, side, p)? {
+                found.push(double)?;
+            }
+        }
+    }
+    Ok(found)
+}
+
+/// Which replies go on: the one on the first five point of a double point, and some other.
+#[derive(Clone, Copy)]
+struct Replied {
+    at: bool,
+    beside: bool,
+}
+
+/// Which replies go on where the other side is to move.
+fn replies_by<R: Rule, V: Seen<R>>(view: &mut V, first: Point) -> Replied
+    ensures at { result.at ≡ has_reply_at R.KIND (V.position view.old) first }
+    ensures beside { result.beside ≡ has_reply_beside R.KIND (V.position view.old) first }
+    ensures same { V.position view.new ≡ V.position view.old }
+{
+    let at = goes_on::<R, V>(view, first);
+    let beside = goes_on_beside::<R, V>(view, first);
+    Replied { at, beside }
+}
+
+/// Whether some reply goes on that isn't on the point.
+fn goes_on_beside<R: Rule, V: Seen<R>>(view: &mut V, first: Point) -> bool
+    ensures beside { result ≡ has_reply_beside R.KIND (V.position view.old) first }
+    ensures same { V.position view.new ≡ V.position view.old }
+{
+    for q in view.board().points() {
+        if is_other_reply::<R, V>(view, first, q) {
+            return true;
+        }
+    }
+    false
+}
+
+/// Whether the reply `q` goes on, and isn't on the point.
+fn is_other_reply<R: Rule, V: Seen<R>>(view: &mut V, first: Point, q: Point) -> bool
+    ensures reply { result ≡ (goes_on_lem (outcome_lem R.KIND (V.position view.old) q) && not (is_same_point q first)) }
+    ensures same { V.position view.new ≡ V.position view.old }
+{
+    if is_same(q, first) {
+        return false;
+    }
+    goes_on::<R, V>(view, q)
+}
+
+/// Whether the two points are one.
+pub fn is_same(p: Point, q: Point) -> bool
+    ensures same { result ≡ is_same_point p q }
+{
+    p.x == q.x && p.y == q.y
+}
+
+/// The same after the double point, which goes on.
+fn replies_to<R: Rule, V: Seen<R>>(view: &mut V, double: Double) -> Replied
+    requires on { outcome_lem R.KIND (V.position view.old) double.at ≡ Outcome.GoesOn }
+    ensures at { result.at ≡ has_reply_at R.KIND (after (V.position view.old) double.at) double.first }
+    ensures beside { result.beside ≡ has_reply_beside R.KIND (after (V.position view.old) double.at) double.first }
+    ensures lawful { IsPosition R.KIND (V.position view.old) }
+    ensures same { V.position view.new ≡ V.position view.old }
+{
+    view.play(double.at);
+    let found = replies_by::<R, V>(view, double.first);
+    view.undo(double.at);
+    found
+}
+
+/// How many winning nodes answer the replies to the double point, which goes on: two at most.
+pub fn answers_of<R: Rule, V: Seen<R>>(view: &mut V, double: Double) -> u64
+    requires on { outcome_lem R.KIND (V.position view.old) double.at ≡ Outcome.GoesOn }
+    ensures nodes { result ≡ answer_nodes R.KIND (V.position view.old) double }
+    ensures few { result ≤ 2 }
+    ensures same { V.position view.new ≡ V.position view.old }
+{
+    let found = replies_to::<R, V>(view, double);
+    u64::from(found.at) + u64::from(found.beside)
+}
+
+/// Compiles the win by a double point. The view is as before; the nodes of the compiler stay, those added before a refusal too.
+pub fn compile_double<R: Rule, V: Seen<R>>(
+    alloc: Global,
+    view: &mut V,
+    double: Double,
+    compiler: &mut Compiler,
+) -> Result<WrittenWin, SearchError>
+    requires wins { IsDoubleWin R.KIND (V.position view.old) double }
+    ensures win { IfOk result (λ win. (moves : ℕ) → 2 ≤ moves → IsThreatWin R.KIND moves (V.position view.old) compiler.new win) }
+    ensures grows { GrowsBy compiler.old compiler.new (1 + answer_nodes R.KIND (V.position view.old) double) }
+    ensures full { IsErrOf result SearchError.Full
+        → MAX_NODES < length compiler.old + 1 + answer_nodes R.KIND (V.position view.old) double }
+    ensures full_now { IsErrOf result SearchError.Full → length compiler.new ≡ MAX_NODES }
+    ensures same { V.position view.new ≡ V.position view.old }
+{
+    let found = replies_to::<R, V>(view, double);
+    let at_first = winning_if(compiler, found.at, double.second)?;
+    let beside = winning_if(compiler, found.beside, double.first)?;
+    let answers = answers_to::<R, V>(alloc, view, double, at_first, beside)?;
+    let node = compiler.node(double.at, answers.as_slice())?;
+    Ok(WrittenWin {
+        node,
+        moves: moves_with(found),
+    })
+}
+
+/// The moves of a win by a double point: one alone where no reply goes on.
+fn moves_with(found: Replied) -> u32
+    ensures moves { result ≡ (if found.at || found.beside then 2 else 1) }
+{
+    if found.at || found.beside { 2 } else { 1 }
+}
+
+/// The winning node with this attack, where it is needed, and else any number.
+fn winning_if(compiler: &mut Compiler, needed: bool, attack: Point) -> Result<u32, SearchError>
+    ensures node { IfOk result (λ i. needed ≡ true → slice_get compiler.new i ≡ Some (winning_node attack)) }
+    ensures compiled { OnOk result (IsCompiled compiler.new) }
+    ensures grows { GrowsBy compiler.old compiler.new (one_if needed) }
+    ensures full { IsErrOf result SearchError.Full → MAX_NODES < length compiler.old + one_if needed }
+    ensures full_now { IsErrOf result SearchError.Full → length compiler.new ≡ MAX_NODES }
+{
+    if needed {
+        return Ok(compiler.winning(attack)?);
+    }
+    compiler.len();
+    Ok(0)
+}
+
+/// The answers to all replies to the double point that go on: a node to that on the first five point, another to each other.
+fn answers_to<R: Rule, V: Seen<R>>(
+    alloc: Global,
+    view: &mut V,
+    double: Double,
+    at_first: u32,
+    beside: u32,
+) -> Result<Vec<Reply>, AllocError>
+    requires on { outcome_lem R.KIND (V.position view.old) double.at ≡ Outcome.GoesOn }
+    requires none { has_five_lem R.KIND (after (V.position view.old) double.at) (mover (after (V.position view.old) double.at)) ≡ false }
+    ensures answers { IfOk result
+        (λ found. found.items ≡ double_answers_lem R.KIND (after (V.position view.old) double.at) double.first at_first beside) }
+    ensures same { V.position view.new ≡ V.position view.old }
+{
+    view.play(double.at);
+    let found = double_answers::<R, V>(alloc, view, double.first, at_first, beside);
+    view.undo(double.at);
+    found
+}
+
+/// The same where the other side is to move, which has no five point.
+fn double_answers<R: Rule, V: Seen<R>>(
+    alloc: Global,
+    view: &mut V,
+    first: Point,
+    at_first: u32,
+    beside: u32,
+) -> Result<Vec<Reply>, AllocError>
+    requires none { has_five_lem R.KIND (V.position view.old) (mover (V.position view.old)) ≡ false }
+    ensures answers { IfOk result
+        (λ found. found.items ≡ double_answers_lem R.KIND (V.position view.old) first at_first beside) }
+    ensures same { V.position view.new ≡ V.position view.old }
+{
+    let free = each_goes_on::<R, V>(view);
+    let mut found = Vec::new(alloc);
+    for q in view.board().points() {
+        if goes_on_where::<R, V>(view, free, q) {
+            found.push(Reply {
+                at: q,
+                next: node_to(q, first, at_first, beside),
+            })?;
+        }
+    }
+    Ok(found)
+}
+
+/// The first node for the reply on the five point, and the second for another.
+fn node_to(q: Point, first: Point, at_first: u32, beside: u32) -> u32
+    ensures node { result ≡ node_for first at_first beside q }
+{
+    if is_same(q, first) { at_first } else { beside }
+}
+
+/// Adds the answer to one more reply.
+pub fn add_answer(answers: &mut Vec<Reply>, at: Point, next: u32) -> Result<(), AllocError> {
+    answers.push(Reply { at, next })?;
+    Ok(())
+}

@@ -1,0 +1,349 @@
+//! The replies to a move of the attacker.
+//!
+//! All replies that go on are taken. Most are settled at once: one that leaves the attacker a five point, or a double point
+//! while the other side has no five point. The five points and the double points before the reply tell of those after it. Where
+//! the attacker has one or two moves left it is seen at once whether a reply escapes.
+#![tactic(auto)]
+
+ghost use Rattle.std.specs.Prelude.{◌≡◌, ◌<◌, ◌≤◌, ◌+◌, ℕ, true, false, All, length, IfOk, IfSome, IfNone, IsTrue, is_none, IsErrOf, OnOk, [], ◌∷◌, ◌++◌, not};
+ghost use Rattle.std.specs.List.{find};
+ghost use Rattle.game_rules.specs.Grid.{Grid};
+ghost use Rattle.game_rules.specs.Shapes.{is_same_point};
+ghost use Rattle.game_rules.specs.Play.{IsPosition, outcome as outcome_lem, mover, other, after};
+ghost use Rattle.game_rules.specs.Games.{WinsByThreats, has_five as has_five_lem, five_points as five_points_lem};
+ghost use Rattle.strategy_graph.specs.declared.TheConstants.{MAX_NODES};
+ghost use Rattle.threat_game.specs.Growth.{GrowsBy};
+ghost use Rattle.threat_game.specs.FreeMoves.{EachGoesOn};
+ghost use Rattle.threat_game.specs.Attacks.{has_reply, is_last_move, LeavesBoth};
+ghost use Rattle.threat_game.specs.Replies.{AreReplies, IsJudged, IsJudgement, IsBeside, is_beside as is_beside_lem, moves_for, is_open as is_open_lem, counted_for, nodes_for};
+ghost use Rattle.threat_game.specs.Wins.{IsThreatWin};
+
+use crate::attacks::{each_goes_on, goes_on_where};
+use crate::doubles::{Double, answers_of, compile_double, first_doubles, is_same};
+use crate::escapes::fails_after;
+use crate::last_moves::last_move;
+use crate::written::{compile_five, compile_last};
+use foul_judge::{Outcome, Seen};
+use row_shapes::{FivePoints, Rule};
+use std::alloc::{AllocError, Global};
+use stone_board::{Board, Point, Points, Side};
+use strategy_compiler::{Compiler, SearchError, WrittenWin};
+
+/// What is known at once of a position of the attacker.
+#[derive(Clone, Copy, Debug, PartialEq, Eq)]
+pub enum Judged {
+    /// This is a five point of the attacker.
+    Five(Point),
+    /// After this double point each reply that goes on leaves a five point. So many nodes answer them.
+    Double(Double, u64),
+    /// After this move each reply fouls.
+    Last(Point),
+    /// Nothing.
+    Open,
+}
+
+/// What is known of a point as a reply.
+#[derive(Clone, Copy, Debug, PartialEq, Eq)]
+enum Judgement {
+    /// It does not go on.
+    NoReply,
+    /// After it there is no win within the moves left.
+    Escape,
+    /// This is known of the position after it.
+    Known(Judged),
+}
+
+/// A reply, and what is known of the position after it.
+#[derive(Clone, Copy, Debug, PartialEq, Eq)]
+pub struct Child {
+    pub at: Point,
+    pub judged: Judged,
+}
+
+/// The replies to an attack, all of them that go on, and how many positions of the attacker are counted for them.
+#[derive(Drop)]
+pub struct Children {
+    pub all: Vec<Child>,
+    pub count: u64,
+}
+
+impl Children {
+    /// Adds the child after one more reply.
+    fn add(&mut self, at: Point, judged: Judged) -> Result<(), AllocError>
+        requires few { counted_for judged ≤ 3 }
+        requires room { self.old.count ≤ 3100 }
+        ensures all { OnOk result (self.new.all.items ≡ self.old.all.items ++ (record { at = at; judged = judged }) ∷ []) }
+        ensures count { OnOk result (self.new.count ≡ self.old.count + counted_for judged) }
+    {
+        self.all.push(Child { at, judged })?;
+        self.count += counted(judged);
+        Ok(())
+    }
+}
+
+/// The replies of the side to move, which has no five point but a move that goes on, where the attacker has so many more moves,
+/// at least 1; or `None` where after one of them there is no win. The view is as before, also where memory ran out, and so
+/// is the board, a copy of its own.
+pub fn judge_replies<R: Rule, V: Seen<R>>(
+    alloc: Global,
+    view: &mut V,
+    board: &mut Board,
+    moves: u32,
+) -> Result<Option<Children>, AllocError>
+    requires some_moves { 1 ≤ moves }
+    requires no_five { has_five_lem R.KIND (V.position view.old) (mover (V.position view.old)) ≡ false }
+    requires reply { has_reply R.KIND (V.position view.old) ≡ true }
+    requires copy { board.old ≡ V.position view.old }
+    ensures replies { IfOk result (λ found. AreReplies R.KIND moves (V.position view.old) found) }
+    ensures same { V.position view.new ≡ V.position view.old }
+    ensures same_board { board.new ≡ board.old }
+{
+    let attacker = view.side().other();
+    let fives = view.five_points(alloc, attacker)?;
+    let doubles = doubles_for::<R>(alloc, board, attacker, fives.len())?;
+    each_reply::<R, V>(alloc, view, board, moves, &fives, doubles.as_slice())
+}
+
+/// Double points of the side, if it has no five point. It has so many.
+fn doubles_for<R: Rule>(
+    alloc: Global,
+    board: &mut Board,
+    side: Side,
+    fives: usize,
+) -> Result<Vec<Double>, AllocError>
+    requires fives { fives ≡ length (five_points_lem R.KIND board.old side) }
+    ensures each { IfOk result (λ found. All (LeavesBoth R.KIND board.old side) found.items) }
+    ensures same { board.new ≡ board.old }
+{
+    if fives == 0 {
+        return first_doubles::<R>(alloc, board, side);
+    }
+    Ok(Vec::new(alloc))
+}
+
+/// The children, where the attacker has these five points and these double points before the reply.
+fn each_reply<R: Rule, V: Seen<R>>(
+    alloc: Global,
+    view: &mut V,
+    board: &mut Board,
+    moves: u32,
+    fives: &Points,
+    doubles: &[Double],
+) -> Result<Option<Children>, AllocError>
+    requires lawful { IsPosition R.KIND (V.position view.old) }
+    requires some_moves { 1 ≤ moves }
+    requires no_five { has_five_lem R.KIND (V.position view.old) (mover (V.position view.old)) ≡ false }
+    requires reply { has_reply R.KIND (V.position view.old) ≡ true }
+    requires copy { board.old ≡ V.position view.old }
+    requires fives { fives.now ≡ five_points_lem R.KIND (V.position view.old) (other (mover (V.position view.old))) }
+    requires doubles { All (LeavesBoth R.KIND (V.position view.old) (other (mover (V.position view.old)))) doubles.now }
+    ensures replies { IfOk result (λ found. AreReplies R.KIND moves (V.position view.old) found) }
+    ensures same { V.position view.new ≡ V.position view.old }
+    ensures same_board { board.new ≡ board.old }
+{
+    let mut children = Children {
+        all: Vec::new(alloc),
+        count: 0,
+    };
+    let free = each_goes_on::<R, V>(view);
+    for q in view.board().points() {
+        match judge::<R, V>(alloc, view, board, free, q, moves, fives, doubles)? {
+            Judgement::NoReply => {}
+            Judgement::Escape => return Ok(None),
+            Judgement::Known(judged) => children.add(q, judged)?,
+        }
+    }
+    Ok(Some(children))
+}
+
+/// How many positions of the attacker are counted for one that is judged so.
+fn counted(judged: Judged) -> u64
+    requires few { counted_for judged ≤ 3 }
+    ensures counted { result ≡ counted_for judged }
+{
+    match judged {
+        Judged::Double(_, nodes) => 1 + nodes,
+        Judged::Five(_) | Judged::Last(_) | Judged::Open => 1,
+    }
+}
+
+/// What is known of the point `q` as a reply, where before it the attacker has these five points and these double points. It may be
+/// told that each move on an empty point goes on.
+fn judge<R: Rule, V: Seen<R>>(
+    alloc: Global,
+    view: &mut V,
+    board: &mut Board,
+    free: bool,
+    q: Point,
+    moves: u32,
+    fives: &Points,
+    doubles: &[Double],
+) -> Result<Judgement, AllocError>
+    requires lawful { IsPosition R.KIND (V.position view.old) }
+    requires each { IsTrue free → EachGoesOn R.KIND (V.position view.old) }
+    requires some_moves { 1 ≤ moves }
+    requires no_five { has_five_lem R.KIND (V.position view.old) (mover (V.position view.old)) ≡ false }
+    requires copy { board.old ≡ V.position view.old }
+    requires fives { fives.now ≡ five_points_lem R.KIND (V.position view.old) (other (mover (V.position view.old))) }
+    requires doubles { All (LeavesBoth R.KIND (V.position view.old) (other (mover (V.position view.old)))) doubles.now }
+    ensures judgement { IfOk result (IsJudgement R.KIND moves (V.position view.old) q) }
+    ensures same { V.position view.new ≡ V.position view.old }
+    ensures same_board { board.new ≡ board.old }
+{
+    if !goes_on_where::<R, V>(view, free, q) {
+        return Ok(Judgement::NoReply);
+    }
+    match five_beside(fives, q) {
+        Some(five) => Ok(Judgement::Known(Judged::Five(five))),
+        None => judge_quiet::<R, V>(alloc, view, board, q, moves, doubles),
+    }
+}
+
+/// The same of a reply that goes on and leaves the attacker no five point.
+fn judge_quiet<R: Rule, V: Seen<R>>(
+    alloc: Global,
+    view: &mut V,
+    board: &mut Board,
+    q: Point,
+    moves: u32,
+    doubles: &[Double],
+) -> Result<Judgement, AllocError>
+    requires some_moves { 1 ≤ moves }
+    requires no_five { has_five_lem R.KIND (V.position view.old) (mover (V.position view.old)) ≡ false }
+    requires on { outcome_lem R.KIND (V.position view.old) q ≡ Outcome.GoesOn }
+    requires none { has_five_lem R.KIND (after (V.position view.old) q) (mover (after (V.position view.old) q)) ≡ false }
+    requires copy { board.old ≡ V.position view.old }
+    requires doubles { All (LeavesBoth R.KIND (V.position view.old) (other (mover (V.position view.old)))) doubles.now }
+    ensures judgement { IfOk result (IsJudgement R.KIND moves (V.position view.old) q) }
+    ensures same { V.position view.new ≡ V.position view.old }
+    ensures same_board { board.new ≡ board.old }
+{
+    if moves == 1 {
+        return Ok(match last_after::<R, V>(view, board, q) {
+            Some(p) => Judgement::Known(Judged::Last(p)),
+            None => Judgement::Escape,
+        });
+    }
+    let judged = judge_double::<R, V>(view, q, doubles);
+    if moves == 2 && is_open(judged) && fails_after::<R, V>(alloc, view, board, q)? {
+        return Ok(Judgement::Escape);
+    }
+    Ok(Judgement::Known(judged))
+}
+
+/// Whether nothing is known.
+fn is_open(judged: Judged) -> bool
+    ensures open { result ≡ is_open_lem judged }
+{
+    matches!(judged, Judged::Open)
+}
+
+/// The first of the five points that is not `q`.
+pub fn five_beside(fives: &Points, q: Point) -> Option<Point>
+    ensures beside { result ≡ find (λ w. not (is_same_point w q)) fives.now }
+{
+    for five in fives.as_slice() {
+        if !is_same(*five, q) {
+            return Some(*five);
+        }
+    }
+    None
+}
+
+/// A last move after the reply `q`, which goes on, if there is one. The attacker has no five point after it.
+pub fn last_after<R: Rule, V: Seen<R>>(view: &mut V, board: &mut Board, q: Point) -> Option<Point>
+    requires on { outcome_lem R.KIND (V.position view.old) q ≡ Outcome.GoesOn }
+    requires none { has_five_lem R.KIND (after (V.position view.old) q) (mover (after (V.position view.old) q)) ≡ false }
+    requires copy { board.old ≡ V.position view.old }
+    ensures last { IfSome result (λ p. is_last_move R.KIND (after (V.position view.old) q) p ≡ true) }
+    ensures no_win { IfNone result (¬ WinsByThreats R.KIND 1 (after (V.position view.old) q)) }
+    ensures same { V.position view.new ≡ V.position view.old }
+    ensures same_board { board.new ≡ board.old }
+{
+    let defender = view.side();
+    view.play(q);
+    board.put(q, defender);
+    let found = last_move::<R, V>(view, board);
+    board.lift(q);
+    view.undo(q);
+    found
+}
+
+/// What is known after the reply `q`, which goes on, where the attacker has two more moves or more and no five point after it.
+fn judge_double<R: Rule, V: Seen<R>>(view: &mut V, q: Point, doubles: &[Double]) -> Judged
+    requires no_five { has_five_lem R.KIND (V.position view.old) (mover (V.position view.old)) ≡ false }
+    requires on { outcome_lem R.KIND (V.position view.old) q ≡ Outcome.GoesOn }
+    requires none { has_five_lem R.KIND (after (V.position view.old) q) (mover (after (V.position view.old) q)) ≡ false }
+    requires doubles { All (LeavesBoth R.KIND (V.position view.old) (other (mover (V.position view.old)))) doubles.now }
+    ensures judged { IsJudged R.KIND (after (V.position view.old) q) result }
+    ensures enough { moves_for result ≤ 2 }
+    ensures same { V.position view.new ≡ V.position view.old }
+{
+    if let FivePoints::None = view.fives_made(q) {
+        view.play(q);
+        let found = still_double::<R, V>(view, q, doubles);
+        view.undo(q);
+        found
+    } else {
+        Judged::Open
+    }
+}
+
+/// The first of the double points that wins still after the reply `q`, if one does, where the attacker is to move.
+fn still_double<R: Rule, V: Seen<R>>(view: &mut V, q: Point, doubles: &[Double]) -> Judged
+    requires none { has_five_lem R.KIND (V.position view.old) (mover (V.position view.old)) ≡ false }
+    requires safe { has_five_lem R.KIND (V.position view.old) (other (mover (V.position view.old))) ≡ false }
+    requires doubles { All (λ d. IsBeside d q → LeavesBoth R.KIND (V.position view.old) (mover (V.position view.old)) d) doubles.now }
+    ensures judged { IsJudged R.KIND (V.position view.old) result }
+    ensures enough { moves_for result ≤ 2 }
+    ensures same { V.position view.new ≡ V.position view.old }
+{
+    for double in doubles {
+        if is_beside(*double, q) {
+            if let Outcome::GoesOn = view.outcome(double.at) {
+                let nodes = answers_of::<R, V>(view, *double);
+                return Judged::Double(*double, nodes);
+            }
+        }
+    }
+    Judged::Open
+}
+
+/// Whether a stone of the other side on `q` leaves the double point and its two five points empty.
+fn is_beside(double: Double, q: Point) -> bool
+    ensures beside { result ≡ is_beside_lem double q }
+{
+    !is_same(double.at, q) && !is_same(double.first, q) && !is_same(double.second, q)
+}
+
+/// Compiles the win after the reply of a child, unless it is open. The view is as before; the nodes of the compiler stay, those
+/// added before a refusal too.
+pub fn settle_child<R: Rule, V: Seen<R>>(
+    alloc: Global,
+    view: &mut V,
+    child: Child,
+    compiler: &mut Compiler,
+) -> Result<Option<WrittenWin>, SearchError>
+    requires on { outcome_lem R.KIND (V.position view.old) child.at ≡ Outcome.GoesOn }
+    requires judged { IsJudged R.KIND (after (V.position view.old) child.at) child.judged }
+    ensures win { IfOk result (λ found. IfSome found (λ win. (moves : ℕ) → moves_for child.judged ≤ moves
+        → IsThreatWin R.KIND moves (after (V.position view.old) child.at) compiler.new win)) }
+    ensures open { IfOk result (λ found. is_none found ≡ is_open_lem child.judged) }
+    ensures grows { GrowsBy compiler.old compiler.new (nodes_for child.judged) }
+    ensures full { IsErrOf result SearchError.Full → MAX_NODES < length compiler.old + nodes_for child.judged }
+    ensures full_now { IsErrOf result SearchError.Full → length compiler.new ≡ MAX_NODES }
+    ensures same { V.position view.new ≡ V.position view.old }
+{
+    view.side();
+    match child.judged {
+        Judged::Open => Ok(None),
+        Judged::Five(five) => Ok(Some(compile_five(compiler, five)?)),
+        Judged::Last(attack) => Ok(Some(compile_last(compiler, attack)?)),
+        Judged::Double(double, _) => {
+            view.play(child.at);
+            let found = compile_double::<R, V>(alloc, view, double, compiler);
+            view.undo(child.at);
+            Ok(Some(found?))
+        }
+    }
+}
