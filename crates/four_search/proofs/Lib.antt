@@ -26,7 +26,6 @@ mod Taking
 -- what a search remembers
 mod Remembering
 -- moves that make no five
-mod Outcomes
 -- the gaps from all stones
 mod Scanning
 -- points that no move on their lines has changed

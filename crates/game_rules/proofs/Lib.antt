@@ -9,6 +9,7 @@ pub mod Lines
 pub mod Runs
 -- a move that goes on, and one that is taken back; who moves after it
 pub mod Positions
+pub mod Undo
 -- tests of the points of a board; its points as a list; five points
 pub mod Points
 pub mod Places

@@ -1,7 +1,7 @@
 -- The points of a board as a list: how many there are, where each stands, that all are on the board and rise, and those of them
 -- that pass a test.
 use Rattle.std.proofs.Common.{◌≡◌, ℕ, zero, suc, ◌+◌, ◌*◌, ◌<◌, ◌≤◌, Bool, true, false, cond, ◌&&◌, ◌||◌, refl, sym, ap, subst, ◌∙◌, arith, List, [], ◌∷◌, ◌++◌, map, length, length-append, nat_lt, Contains}
-use Rattle.std.specs.Prelude.{Option, Some, None, slice_get}
+use Rattle.std.specs.Prelude.{Option, Some, None, slice_get, unwrap_or}
 use Rattle.std.specs.List.{flat_map, range_with_len, filter, find, list_all, list_any}
 use Rattle.std.proofs.lemmas.Bool.{lt-ltb}
 use Rattle.std.proofs.lemmas.Nat.{mul-le}
@@ -138,6 +138,16 @@ module _ (width : ℕ) where
   unfolding Rising
   rising-first k p ps h = h
 
+  -- points at different places are not one
+  pub earlier-differs : (p q : Point) → place p < place q → is_same_point p q ≡ false
+  unfolding place
+  earlier-differs p q less = by_test (is_same_point p q) refl where
+    by_test : (r : Bool) → is_same_point p q ≡ r → r ≡ false
+    by_test false e = refl
+    by_test true e =
+        let l : place q < place q = subst (λ (x : Point). place x < place q) (is_same_point-same p q e) less in
+        absurd (omega (arith, l))
+
   filter-rising : (f : Point → Bool) (k : ℕ) (ps : List Point) → Rising k ps → Rising k (filter f ps)
   unfolding Rising
   filter-rising f k [] h = h
@@ -194,3 +204,12 @@ find-passes f ps w h = (find-in f (λ q. true) ps w (always ps) h).0 where
   always : (qs : List Point) → list_all (λ q. true) qs ≡ true
   always [] = refl
   always (q ∷ qs) = always qs
+
+-- where the test holds somewhere, it holds of what is found
+pub find-some : (f : Point → Bool) (ps : List Point) (d : Point) → list_any f ps ≡ true → f (unwrap_or (find f ps) d) ≡ true
+find-some f [] d h = cc
+find-some f (x ∷ ps) d h = by_test (f x) refl h (find-some f ps d) where
+  by_test : (r : Bool) → f x ≡ r → (r || list_any f ps) ≡ true → (list_any f ps ≡ true → f (unwrap_or (find f ps) d) ≡ true)
+      → f (unwrap_or (cond r (Some x) (find f ps)) d) ≡ true
+  by_test true e h rest = e
+  by_test false e h rest = rest h

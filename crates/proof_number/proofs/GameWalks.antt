@@ -8,7 +8,7 @@ use Rattle.game_rules.specs.declared.Point.{Point}
 use Rattle.game_rules.proofs.Positions.{GoesOn-empty}
 use Rattle.stone_board.specs.Steps.{holds_stone}
 use Rattle.stone_board.proofs.Stones.{put-holds_stone}
-use Rattle.threat_moves.proofs.Undo.{stone_back, lift_back, unwon_back}
+use Rattle.game_rules.proofs.Undo.{stone_back, lift_back, unwon_back}
 use Rattle.proof_tree.specs.Trees.{IsTree, link_at}
 use Rattle.proof_number.specs.declared.notes.Note.{Note}
 use Rattle.proof_number.specs.GameTrees.{GameTree, IsGameTree, board_at, left_at}

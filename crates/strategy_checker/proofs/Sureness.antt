@@ -1,20 +1,19 @@
 -- A node that is sure wins after each reply that goes on elsewhere: its attack stays a five point.
-use Rattle.std.proofs.Common.{◌≡◌, ℕ, Bool, true, false, not, refl, sym, ap, ◌∙◌, arith, List, nat_eq}
+use Rattle.std.proofs.Common.{◌≡◌, ℕ, true, refl, sym, ap, ◌∙◌, arith, List, nat_eq}
 use Rattle.std.specs.Prelude.{Option, Some, None, IfSome, slice_get}
 use Rattle.std.specs.Option.{option_map}
 use Rattle.std.proofs.lemmas.Bool.Decides.{nat_tests}
 use Rattle.std.proofs.lemmas.Bool.{not-true}
-use Rattle.game_rules.specs.Grid.{Grid, empties_of}
+use Rattle.game_rules.specs.Grid.{Grid}
 use Rattle.game_rules.specs.Shapes.{five}
-use Rattle.game_rules.specs.Play.{IsPosition, outcome, outcome_by, foul_of, mover, other, after}
+use Rattle.game_rules.specs.Play.{IsPosition, outcome, mover, other, after}
 use Rattle.game_rules.specs.declared.RuleKind.{RuleKind}
-use Rattle.game_rules.specs.declared.Foul.{Foul}
 use Rattle.game_rules.specs.declared.Outcome.TheVariants.{Wins, GoesOn}
 use Rattle.game_rules.specs.declared.Side.{Side}
 use Rattle.game_rules.specs.declared.Point.{Point}
 use Rattle.game_rules.proofs.Boards.{and_left, and_right, Apart}
 use Rattle.game_rules.proofs.Points.{is_same_point-apart}
-use Rattle.game_rules.proofs.Fives.{five-empty, five-other}
+use Rattle.game_rules.proofs.Fives.{five-other}
 use Rattle.game_rules.proofs.Positions.{GoesOn-empty, mover-then}
 use Rattle.game_rules.proofs.Outcomes.{five-outcome}
 use Rattle.strategy_graph.specs.declared.Node.{Node}

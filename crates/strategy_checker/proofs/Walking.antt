@@ -1,18 +1,18 @@
 -- A move played and taken back, what a stop says once a move is noted, and the replies that are left.
-use Rattle.std.proofs.Common.{◌≡◌, ℕ, ◌+◌, true, false, List, [], ◌∷◌, ◌++◌, reverse, sym, ap, ◌∙◌}
+use Rattle.std.proofs.Common.{◌≡◌, ℕ, ◌+◌, false, List, [], ◌∷◌, ◌++◌, reverse, sym, ap, ◌∙◌}
 use Rattle.std.specs.Prelude.{Option, Some, slice_get, Result, Ok, Err, OnOk}
 use Rattle.std.specs.List.{All, sum_by}
 use Rattle.std.proofs.lemmas.List.{reverse-append}
 use Rattle.std.proofs.lemmas.List.Elements.{All-cons, All-nil}
 use Rattle.std.proofs.lemmas.List.Sums.{sum_by-cons}
-use Rattle.game_rules.specs.Grid.{Grid, holds, lift, empties_of}
-use Rattle.game_rules.specs.Play.{IsPosition, IsUnwon, outcome, after, mover, other}
+use Rattle.game_rules.specs.Grid.{Grid, empties_of}
+use Rattle.game_rules.specs.Play.{IsPosition, outcome, after, mover}
 use Rattle.game_rules.specs.declared.RuleKind.{RuleKind}
 use Rattle.game_rules.specs.declared.Outcome.{Outcome}
 use Rattle.game_rules.specs.declared.Outcome.TheVariants.{GoesOn}
 use Rattle.game_rules.specs.declared.Point.{Point}
 use Rattle.game_rules.proofs.Boards.{empties_of-put}
-use Rattle.game_rules.proofs.Positions.{IsPosition-after, GoesOn-empty, after-stone, lift-after}
+use Rattle.game_rules.proofs.Positions.{IsPosition-after, GoesOn-empty}
 use Rattle.strategy_graph.specs.declared.Node.{Node}
 use Rattle.strategy_graph.specs.declared.Why.{Why}
 use Rattle.strategy_graph.specs.Tables.{Answers, answers_of, answer, is_winning}
@@ -30,15 +30,6 @@ module _ (rule : RuleKind) (b : Grid) (p : Point) (lawful : IsPosition rule b) (
 
   pub played-fewer : (c : Grid) → c ≡ after b p → empties_of c + 1 ≡ empties_of b
   played-fewer c there = rw there (empties_of-put b (mover b) p lawful.board (GoesOn-empty rule b p on))
-
-  pub played-stone : (c : Grid) → c ≡ after b p → holds c (other (mover c)) p ≡ true
-  played-stone c there = rw there (after-stone rule b p lawful on)
-
-  pub lifted-back : (c : Grid) → c ≡ after b p → lift c p ≡ b
-  lifted-back c there = ap (λ (w : Grid). lift w p) there ∙ lift-after rule b p lawful on
-
-  pub lifted-unwon : (c : Grid) → c ≡ after b p → IsUnwon rule (lift c p)
-  lifted-unwon c there = rw (lifted-back c there) lawful.unwon
 
 -- ---- stops
 

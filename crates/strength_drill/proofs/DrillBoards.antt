@@ -4,7 +4,7 @@ use Rattle.std.proofs.Common.{◌≡◌, ◌⊎◌, inl, inr, refl, sym, ap, sub
 use Rattle.std.specs.Prelude.{slice_index_or, nat_lt}
 use Rattle.std.specs.List.{flat_map, range_with_len, filter, list_any}
 use Rattle.std.proofs.Math.Nat.{div-lt_iff_lt-mul}
-use Rattle.std.proofs.lemmas.Bool.{lt-ltb}
+use Rattle.std.proofs.lemmas.Bool.{lt-ltb, or_cases}
 use Rattle.std.proofs.lemmas.List.{ext_get_or}
 use Rattle.std.proofs.lemmas.List.Folds.{list_any-append}
 use Rattle.game_rules.specs.Grid.{Grid, IsBoard, is_on, is_empty, is_empty_cell, is_stone_of, stone_of, cell_at, holds, put, row_from, points_of}
@@ -18,82 +18,11 @@ use Rattle.game_rules.specs.declared.Point.{Point}
 use Rattle.game_rules.proofs.Boards.{same_or_apart, and_right, is_empty-cell, cell_at-put_other, cell_at-put_same}
 use Rattle.game_rules.proofs.Points.{points-found, is_same_point-itself, is_same_point-same, apart-is_same_point}
 use Rattle.game_rules.proofs.Positions.{IsBoard-put}
+use Rattle.game_rules.proofs.Places.{listed_on}
 use Rattle.brain_session.specs.declared.batch.BatchStone.{BatchStone}
 use Rattle.brain_session.specs.States.{empty_board}
 use Rattle.brain_session.specs.Batches.{side_of, with_stones}
 use Rattle.brain_session.proofs.Rounds.{empty-board, empty-empty}
-
--- ---- points in reading order
-
-module _ (width : ℕ) where
-  pub place : Point → ℕ
-  place p = p.y * width + p.x
-
-  -- the places rise, from k on
-  pub Rising : ℕ → List Point → Type 0
-  Rising k [] = Unit {0}
-  Rising k (p ∷ ps) = (k ≤ place p) × Rising (place p + 1) ps
-
-  row-rising : (y x n : ℕ) (ps : List Point) → Rising (y * width + x + n) ps → Rising (y * width + x) (row_from y x n ++ ps)
-  unfolding Rising place
-  row-rising y x zero ps h = let e : y * width + x + 0 ≡ y * width + x = omega arith in subst (λ k. Rising k ps) e h
-  row-rising y x (suc n) ps h = (
-    omega arith,
-    let e : y * width + x + suc n ≡ y * width + (x + 1) + n = omega arith in
-        let f : y * width + (x + 1) ≡ y * width + x + 1 = omega arith in
-        subst (λ k. Rising k (row_from y (x + 1) n ++ ps)) f (row-rising y (x + 1) n ps (subst (λ k. Rising k ps) e h)),
-  )
-
-  pub rows-rising : (y n : ℕ) → Rising (y * width) (flat_map (λ z. row_from z 0 width) (range_with_len y n))
-  unfolding Rising
-  rows-rising y zero = tt
-  rows-rising y (suc n) =
-      let e : (y + 1) * width ≡ y * width + 0 + width = omega arith in
-      let f : y * width + 0 ≡ y * width = omega arith in
-      subst (λ k. Rising k (row_from y 0 width ++ flat_map (λ z. row_from z 0 width) (range_with_len (y + 1) n))) f
-      (row-rising y 0 width _ (subst (λ k. Rising k (flat_map (λ z. row_from z 0 width) (range_with_len (y + 1) n))) e (rows-rising (y + 1) n)))
-
-  -- the first point, and those after it
-  pub rising-first : (k : ℕ) (p : Point) (ps : List Point) → Rising k (p ∷ ps) → (k ≤ place p) × Rising (place p + 1) ps
-  unfolding Rising
-  rising-first k p ps h = h
-
-  -- two points at different places are not one
-  pub before-differs : (p q : Point) → place p < place q → is_same_point p q ≡ false
-  unfolding place
-  before-differs p q less = by_test (is_same_point p q) refl where
-    by_test : (r : Bool) → is_same_point p q ≡ r → r ≡ false
-    by_test false e = refl
-    by_test true e = let same = is_same_point-same p q e in absurd (let l : place q < place q = subst (λ (x : Point). place x < place q) same less in omega (arith, l))
-
--- ---- the points of a board are on it
-
-on-by : (b : Grid) (p : Point) → p.x < b.width → p.y < b.height → is_on b p ≡ true
-on-by b p x y = rw (lt-ltb p.x b.width x, lt-ltb p.y b.height y) refl
-
-or-cases : (a b : Bool) → (a || b) ≡ true → (a ≡ true) ⊎ (b ≡ true)
-or-cases true b h = inl refl
-or-cases false b h = inr h
-
-in-row : (y x n : ℕ) (q : Point) → list_any (λ p. is_same_point p q) (row_from y x n) ≡ true → (q.y ≡ y) × (q.x < x + n)
-in-row y x zero q h = cc
-in-row y x (suc n) q h = elim (or-cases (is_same_point (record { x = x; y = y }) q) _ h) [
-  | inl here ↦
-      let same : record { x = x; y = y } ≡ q = is_same_point-same (record { x = x; y = y }) q here in
-      let across : x ≡ q.x = ap (λ (p : Point). p.x) same in
-      (sym (ap (λ (p : Point). p.y) same), omega (arith, across))
-  | inr later ↦ let rest = in-row y (x + 1) n q later in let l = rest.1 in (rest.0, omega (arith, l))
-]
-
-in-rows : (width y n : ℕ) (q : Point) → list_any (λ p. is_same_point p q) (flat_map (λ z. row_from z 0 width) (range_with_len y n)) ≡ true → (q.x < width) × (q.y < y + n)
-in-rows width y zero q h = cc
-in-rows width y (suc n) q h = elim (or-cases (list_any (λ p. is_same_point p q) (row_from y 0 width)) _ (sym (list_any-append (λ p. is_same_point p q) (row_from y 0 width) _) ∙ h)) [
-  | inl here ↦ let row = in-row y 0 width q here in let e = row.0 in let l = row.1 in (omega (arith, l), omega (arith, e))
-  | inr later ↦ let rest = in-rows width (y + 1) n q later in let l = rest.1 in (rest.0, omega (arith, l))
-]
-
-pub points-on : (b : Grid) (q : Point) → list_any (λ p. is_same_point p q) (points_of b) ≡ true → is_on b q ≡ true
-points-on b q h = let in_rows = in-rows b.width 0 b.height q h in let low = in_rows.1 in on-by b q in_rows.0 (omega (arith, low))
 
 -- ---- boards with the same cells
 
@@ -113,7 +42,7 @@ same-at b c board wide same k less =
     let at : k / b.width * b.width + k % b.width ≡ k = omega (arith, some_width) in
     let there : k / b.width * c.width + k % b.width ≡ k = ap (λ (w : ℕ). k / b.width * w + k % b.width) wide ∙ at in
     sym (ap (λ (i : ℕ). slice_index_or c.cells i Empty) there)
-    ∙ same p (on-by b p across rows)
+    ∙ same p (rw (lt-ltb p.x b.width across, lt-ltb p.y b.height rows) refl)
     ∙ ap (λ (i : ℕ). slice_index_or b.cells i Empty) at
 
 -- two boards of one size that have the same cell at each point are one
@@ -159,7 +88,7 @@ makes-empty : (b c : Grid) (p : Point) (ps : List Point) → is_empty b p ≡ tr
 unfolding Makes
 makes-empty b c p ps empty makes q on = elim (makes q on) [
   | inl same ↦ inl same
-  | inr later ↦ elim (or-cases (is_same_point p q) _ later.1) [
+  | inr later ↦ elim (or_cases (is_same_point p q) _ later.1) [
     | inl here ↦
         let none : cell_at b p ≡ Empty = is_empty-cell (cell_at b p) (and_right (is_on b p) (is_empty_cell (cell_at b p)) empty) in
         inl (later.0 ∙ sym none ∙ ap (cell_at b) (is_same_point-same p q here))
@@ -224,7 +153,7 @@ rebuilt b board (p ∷ ps) on c like makes = by_test (is_empty b p) refl (λ d a
 pub stones-make : (b : Grid) → IsBoard b → with_stones (mover b) (empty_board b.width b.height) (stones_at b (points_of b)) ≡ b
 unfolding Makes
 stones-make b board =
-    rebuilt b board (points_of b) (points-on b) (empty_board b.width b.height)
+    rebuilt b board (points_of b) (listed_on b) (empty_board b.width b.height)
     (record { board = empty-board b board; wide = refl; high = refl })
     (λ q on. inr (
       is_empty-cell (cell_at (empty_board b.width b.height) q) (and_right (is_on b q) (is_empty_cell (cell_at (empty_board b.width b.height) q)) (empty-empty b.width b.height q on)),

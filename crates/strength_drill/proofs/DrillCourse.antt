@@ -11,6 +11,7 @@ use Rattle.game_rules.specs.declared.Outcome.TheVariants.{Wins as WinsNow, GoesO
 use Rattle.game_rules.specs.declared.Point.{Point}
 use Rattle.game_rules.proofs.Boards.{is_empty-on}
 use Rattle.game_rules.proofs.Points.{points-found}
+use Rattle.game_rules.proofs.Places.{find-some}
 use Rattle.stone_board.specs.Order.{points_left}
 use Rattle.strategy_checker.specs.HeldRoots.{HeldTable}
 use Rattle.gomocup_text.specs.declared.Command.{Command as Asked}
@@ -31,15 +32,8 @@ use Rattle.strength_drill.proofs.DrillOpening.{IsOpened}
 
 -- ---- a drawn move is at an empty point
 
-found-one : (f : Point → Bool) (ps : List Point) (d : Point) → list_any f ps ≡ true → f (unwrap_or (find f ps) d) ≡ true
-found-one f [] d h = cc
-found-one f (x ∷ ps) d h = by_test (f x) refl h (found-one f ps d) where
-  by_test : (r : Bool) → f x ≡ r → (r || list_any f ps) ≡ true → (list_any f ps ≡ true → f (unwrap_or (find f ps) d) ≡ true) → f (unwrap_or (cond r (Some x) (find f ps)) d) ≡ true
-  by_test true e h rest = e
-  by_test false e h rest = rest h
-
 found-either : (f : Point → Bool) (ps qs : List Point) (d : Point) → list_any f qs ≡ true → f (unwrap_or (option_or (find f ps) (find f qs)) d) ≡ true
-found-either f [] qs d h = found-one f qs d h
+found-either f [] qs d h = find-some f qs d h
 found-either f (x ∷ ps) qs d h = by_test (f x) refl (found-either f ps qs d h) where
   by_test : (r : Bool) → f x ≡ r → f (unwrap_or (option_or (find f ps) (find f qs)) d) ≡ true → f (unwrap_or (option_or (cond r (Some x) (find f ps)) (find f qs)) d) ≡ true
   by_test true e rest = e

@@ -11,6 +11,7 @@ use Rattle.game_rules.specs.declared.RuleKind.{RuleKind}
 use Rattle.game_rules.specs.declared.RuleKind.TheVariants.{Freestyle, Exact, Renju}
 use Rattle.game_rules.specs.declared.Point.{Point}
 use Rattle.game_rules.proofs.Points.{is_same_point-itself}
+use Rattle.game_rules.proofs.Places.{place, Rising, rows-rising, rising-first, earlier-differs, listed_on}
 use Rattle.foul_judge.specs.Lawful.{refusal}
 use Rattle.foul_judge.proofs.Lawfulness.{none_from_lawful}
 use Rattle.strategy_graph.specs.declared.roots.Root.TheVariants.{Attack}
@@ -29,7 +30,7 @@ use Rattle.brain_session.proofs.PlayedMoves.{same_board-itself}
 use Rattle.brain_session.proofs.LawfulStates.{BatchFits, IsKept, next-lawful, new-lawful}
 use Rattle.strength_drill.specs.declared.positions.TheConstants.{SIDE}
 use Rattle.strength_drill.specs.DrillGames.{wish_of, stone_line, stone_lines, position_lines, told_all}
-use Rattle.strength_drill.proofs.DrillBoards.{place, Rising, rows-rising, rising-first, before-differs, points-on, stone_at, stones_at, stones-make}
+use Rattle.strength_drill.proofs.DrillBoards.{stone_at, stones_at, stones-make}
 
 -- a brain that holds this and reads a batch with these stones, none of them bad, on a board of the drill
 abbrev pub batch_read : HeldTable → ℕ → List BatchStone → State
@@ -59,7 +60,7 @@ before-push width k (x ∷ ss) s h low = (h.0, before-push width k ss s h.1 low)
 before-apart : (width : ℕ) (p : Point) (ss : List BatchStone) → Before width (place width p) ss → has_stone_at ss p ≡ false
 unfolding Before
 before-apart width p [] h = refl
-before-apart width p (s ∷ ss) h = ap (λ (r : Bool). r || has_stone_at ss p) (before-differs width s.at p h.0) ∙ before-apart width p ss h.1
+before-apart width p (s ∷ ss) h = ap (λ (r : Bool). r || has_stone_at ss p) (earlier-differs width s.at p h.0) ∙ before-apart width p ss h.1
 
 -- a line of a stone on the board, where no stone is yet, adds the stone
 with_known : (own on taken : Bool) (stones : List BatchStone) (p : Point) → on ≡ true → taken ≡ false
@@ -122,7 +123,7 @@ module _ (h : HeldTable) (w : ℕ) (b : Grid) (wide : b.width ≡ SIDE) (high : 
 pub told-position : (h : HeldTable) (rule : RuleKind) (b : Grid) → b.width ≡ SIDE → b.height ≡ SIDE → told_all (new_brain h) (position_lines rule b) ≡ batch_read h (wish_of rule) (stones_at b (points_of b))
 unfolding row_of On
 told-position h rule b wide high =
-    told-stones h (wish_of rule) b wide high (points_of b) (0 * b.width) [] (rows-rising b.width 0 b.height) (points-on b) (before-none b.width (0 * b.width))
+    told-stones h (wish_of rule) b wide high (points_of b) (0 * b.width) [] (rows-rising b.width 0 b.height) (listed_on b) (before-none b.width (0 * b.width))
 
 -- what a brain is told leaves it lawful, and holding what it holds
 pub told-kept : (h : HeldTable) (s : State) (cs : List Asked) → IsKept h s → IsKept h (told_all s cs)

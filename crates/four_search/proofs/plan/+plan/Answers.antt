@@ -4,7 +4,7 @@ use Rattle.game_rules.specs.Play.{IsPosition, after, mover, outcome}
 use Rattle.game_rules.specs.Games.{has_five, five_points}
 use Rattle.game_rules.specs.declared.Point.{Point}
 use Rattle.game_rules.proofs.Positions.{IsPosition-after}
-use Rattle.threat_moves.proofs.Undo.{stone_back, lift_back, unwon_back}
+use Rattle.game_rules.proofs.Undo.{stone_back, lift_back, unwon_back}
 use Rattle.four_search.proofs.Growing.{grows-then, grows-more, grows-length}
 use Rattle.four_search.proofs.Planning.{plan-some, plan-goes_on, plan-one, plan-wins, plan-block, plan-not-lost, plan-not-draw, chosen-last, line-some, stands-grown, no-fives, plan-five, plan-four, wins-some}
 use Rattle.four_search.proofs.plan.+plan.Goals as goal

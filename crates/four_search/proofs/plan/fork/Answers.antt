@@ -4,7 +4,7 @@ use Rattle.game_rules.specs.Grid.{Grid, points_of}
 use Rattle.game_rules.specs.Play.{outcome}
 use Rattle.strategy_graph.specs.declared.Reply.{Reply}
 use Rattle.strategy_graph.specs.Tables.{is_rising}
-use Rattle.threat_moves.proofs.Undo.{stone_back, lift_back, unwon_back}
+use Rattle.game_rules.proofs.Undo.{stone_back, lift_back, unwon_back}
 use Rattle.four_search.specs.Plans.{answers_for, at_or_beside}
 use Rattle.four_search.proofs.Planning.{answers-below, at_or_beside-below}
 use Rattle.four_search.proofs.Reading.{answers-rising}

@@ -1,7 +1,7 @@
 use Rattle.std.proofs.Common.{◌≡◌, false, ap, sym, ◌∙◌}
 use Rattle.game_rules.specs.Grid.{Grid, empties_of}
 use Rattle.game_rules.specs.Play.{mover, has_fouls}
-use Rattle.four_search.proofs.Outcomes.{outcome-last, outcome-more}
+use Rattle.game_rules.proofs.Outcomes.{outcome-last, outcome-more}
 use Rattle.four_search.proofs.search.no_five_outcome.Goals as goal
 
 pub returns-then-empties-eq1-clause-outcome : goal.returns-then-empties-eq1-clause-outcome

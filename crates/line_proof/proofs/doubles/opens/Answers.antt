@@ -1,5 +1,5 @@
 use Rattle.std.proofs.Common.{◌∙◌}
-use Rattle.threat_moves.proofs.Undo.{stone_back, lift_back, unwon_back}
+use Rattle.game_rules.proofs.Undo.{stone_back, lift_back, unwon_back}
 use Rattle.line_proof.proofs.doubles.opens.Goals as goal
 
 pub undo-requires-clause-stone : goal.undo-requires-clause-stone

@@ -3,7 +3,7 @@ use Rattle.std.specs.Prelude.{IfOk, IsTrue}
 use Rattle.game_rules.specs.Grid.{Grid}
 use Rattle.game_rules.specs.Games.{has_five, WinsByThreats}
 use Rattle.game_rules.specs.Play.{mover}
-use Rattle.threat_moves.proofs.Undo.{stone_back, lift_back, unwon_back}
+use Rattle.game_rules.proofs.Undo.{stone_back, lift_back, unwon_back}
 use Rattle.threat_game.proofs.BothBoards.{copy-empty, copy-played, copy-stone, copy-back}
 use Rattle.threat_game.proofs.escapes.fails_after.Goals as goal
 

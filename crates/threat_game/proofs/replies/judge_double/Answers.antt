@@ -5,7 +5,7 @@ use Rattle.game_rules.specs.Games.{has_five}
 use Rattle.game_rules.specs.Play.{mover, other, after}
 use Rattle.game_rules.proofs.Positions.{GoesOn-empty, mover-other}
 use Rattle.row_shapes.proofs.FiveLaws.{has_five-none}
-use Rattle.threat_moves.proofs.Undo.{stone_back, lift_back, unwon_back}
+use Rattle.game_rules.proofs.Undo.{stone_back, lift_back, unwon_back}
 use Rattle.threat_game.specs.Attacks.{LeavesBoth}
 use Rattle.threat_game.specs.Replies.{IsBeside, IsJudged}
 use Rattle.threat_game.proofs.ReplyLaws.{all-kept}

@@ -1,5 +1,5 @@
 use Rattle.std.proofs.Common.{◌∙◌}
-use Rattle.threat_moves.proofs.Undo.{stone_back, lift_back, unwon_back}
+use Rattle.game_rules.proofs.Undo.{stone_back, lift_back, unwon_back}
 use Rattle.threat_game.proofs.SettleLaws.{five-settled, last-settled, double-settled}
 use Rattle.threat_game.proofs.replies.settle_child.Goals as goal
 

@@ -1,7 +1,7 @@
 use Rattle.std.proofs.Common.{◌∙◌}
 use Rattle.game_rules.specs.Grid.{Grid}
 use Rattle.threat_moves.proofs.FourLaws.{four-goes_on}
-use Rattle.threat_moves.proofs.Undo.{stone_back, lift_back, unwon_back}
+use Rattle.game_rules.proofs.Undo.{stone_back, lift_back, unwon_back}
 use Rattle.threat_moves.proofs.block.forced.Goals as goal
 
 pub play-requires : goal.play-requires

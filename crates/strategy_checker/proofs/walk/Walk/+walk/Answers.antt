@@ -8,6 +8,7 @@ use Rattle.game_rules.specs.declared.Outcome.TheVariants.{Refused, Wins, Fouls, 
 use Rattle.game_rules.specs.declared.Point.{Point}
 use Rattle.position_table.specs.Packing.{packed}
 use Rattle.position_table.specs.Remembering.{Remembered}
+use Rattle.game_rules.proofs.Undo.{stone_back, lift_back, unwon_back}
 use Rattle.strategy_graph.specs.declared.Node.{Node}
 use Rattle.strategy_graph.specs.declared.Why.TheVariants.{AttackRefused, AttackFouls, AttackDraws, NotWon}
 use Rattle.strategy_graph.specs.Tables.{Answers, answers_of, answer, is_winning, names_below}
@@ -18,7 +19,7 @@ use Rattle.strategy_graph.proofs.Filling.{IsTable-lower}
 use Rattle.strategy_graph.proofs.Growth.{names_below-more}
 use Rattle.strategy_graph.proofs.Answering.{answer-below}
 use Rattle.strategy_graph.proofs.Steps.{arrivals-positive, accepted-by-win, accepted-by-replies, arrivals-by-replies, arrivals-one, arrivals-answer, met-answer, met-all, leads-answer}
-use Rattle.strategy_checker.proofs.Walking.{played-lawful, played-fewer, played-stone, lifted-back, lifted-unwon, fault-stops, noted-stops, stops-map, attack-leads, attack-then-leads, All-first, All-none, sum-first, on-ok, on-ok-map}
+use Rattle.strategy_checker.proofs.Walking.{played-lawful, played-fewer, fault-stops, noted-stops, stops-map, attack-leads, attack-then-leads, All-first, All-none, sum-first, on-ok, on-ok-map}
 use Rattle.position_table.proofs.Remembering.{true-looked, true-kept, true-found}
 use Rattle.strategy_checker.proofs.Sureness.{sure-accepted}
 use Rattle.strategy_checker.specs.Walks.{IsTrueMemo, IsWalked}
@@ -38,12 +39,12 @@ answer-visit-walked-requires g t c κs within =
 
 pub answer-undo-requires-clause-stone : goal.answer-undo-requires-clause-stone
 answer-undo-requires-clause-stone g t c =
-    played-stone g.R.Rule.KIND c.args.position.now c.args.q c.requires.lawful c.requires.goes_on _
+    stone_back g.R.Rule.KIND c.args.position.now _ c.args.q c.requires.lawful c.requires.goes_on
     (c.visit-walked.ensures.same ∙ c.play.ensures.played)
 
 pub answer-undo-requires-clause-unwon : goal.answer-undo-requires-clause-unwon
 answer-undo-requires-clause-unwon g t c =
-    lifted-unwon g.R.Rule.KIND c.args.position.now c.args.q c.requires.lawful c.requires.goes_on _
+    unwon_back g.R.Rule.KIND c.args.position.now _ c.args.q c.requires.lawful c.requires.goes_on
     (c.visit-walked.ensures.same ∙ c.play.ensures.played)
 
 pub answer-returns-in-Ok-clause-accepted : goal.answer-returns-in-Ok-clause-accepted
@@ -57,7 +58,7 @@ answer-returns-in-Ok-clause-counted g t c =
 pub answer-returns-in-Ok-clause-same : goal.answer-returns-in-Ok-clause-same
 answer-returns-in-Ok-clause-same g t c =
     c.undo.ensures.undone
-    ∙ lifted-back g.R.Rule.KIND c.args.position.now c.args.q c.requires.lawful c.requires.goes_on _
+    ∙ lift_back g.R.Rule.KIND c.args.position.now _ c.args.q c.requires.lawful c.requires.goes_on
     (c.visit-walked.ensures.same ∙ c.play.ensures.played)
 
 pub answer-returns-in-Err-clause-stopped : goal.answer-returns-in-Err-clause-stopped
@@ -79,7 +80,7 @@ answer-returns-in-Err-clause-stopped g t c =
 pub answer-returns-in-Err-clause-same : goal.answer-returns-in-Err-clause-same
 answer-returns-in-Err-clause-same g t c =
     c.undo.ensures.undone
-    ∙ lifted-back g.R.Rule.KIND c.args.position.now c.args.q c.requires.lawful c.requires.goes_on _
+    ∙ lift_back g.R.Rule.KIND c.args.position.now _ c.args.q c.requires.lawful c.requires.goes_on
     (c.visit-walked.ensures.same ∙ c.play.ensures.played)
 
 -- ---- a reply
@@ -272,13 +273,13 @@ attack-meet_all-met-requires g t c κs within =
 pub attack-undo-requires-clause-stone : goal.attack-undo-requires-clause-stone
 attack-undo-requires-clause-stone g t c =
     let p : Point = c.args.node.now.attack in
-    played-stone g.R.Rule.KIND c.args.position.now p c.requires.lawful (c.requires.goes_on) _
+    stone_back g.R.Rule.KIND c.args.position.now _ p c.requires.lawful (c.requires.goes_on)
     (c.meet_all-met.ensures.same ∙ c.play.ensures.played)
 
 pub attack-undo-requires-clause-unwon : goal.attack-undo-requires-clause-unwon
 attack-undo-requires-clause-unwon g t c =
     let p : Point = c.args.node.now.attack in
-    lifted-unwon g.R.Rule.KIND c.args.position.now p c.requires.lawful (c.requires.goes_on) _
+    unwon_back g.R.Rule.KIND c.args.position.now _ p c.requires.lawful (c.requires.goes_on)
     (c.meet_all-met.ensures.same ∙ c.play.ensures.played)
 
 pub attack-returns-in-Ok-clause-accepted : goal.attack-returns-in-Ok-clause-accepted
@@ -311,7 +312,7 @@ pub attack-returns-in-Ok-clause-same : goal.attack-returns-in-Ok-clause-same
 attack-returns-in-Ok-clause-same g t c =
     let p : Point = c.args.node.now.attack in
     c.undo.ensures.undone
-    ∙ lifted-back g.R.Rule.KIND c.args.position.now p c.requires.lawful (c.requires.goes_on) _
+    ∙ lift_back g.R.Rule.KIND c.args.position.now _ p c.requires.lawful (c.requires.goes_on)
     (c.meet_all-met.ensures.same ∙ c.play.ensures.played)
 
 pub attack-returns-in-Err-clause-stopped : goal.attack-returns-in-Err-clause-stopped
@@ -340,7 +341,7 @@ pub attack-returns-in-Err-clause-same : goal.attack-returns-in-Err-clause-same
 attack-returns-in-Err-clause-same g t c =
     let p : Point = c.args.node.now.attack in
     c.undo.ensures.undone
-    ∙ lifted-back g.R.Rule.KIND c.args.position.now p c.requires.lawful (c.requires.goes_on) _
+    ∙ lift_back g.R.Rule.KIND c.args.position.now _ p c.requires.lawful (c.requires.goes_on)
     (c.meet_all-met.ensures.same ∙ c.play.ensures.played)
 
 pub attack-returns-in-Ok-clause-memo : goal.attack-returns-in-Ok-clause-memo
@@ -357,6 +358,6 @@ attack-returns-in-Ok-clause-memo g t c =
     subst (λ (w : Grid). c.meet_all-met.new.self.left + arrivals_after g.R.Rule.KIND a (arrivals g.R.Rule.KIND c.args.table.now) w ≡ c.args.self.now.left) there c.in-Ok.ensures.counted in
     let counted : arrivals g.R.Rule.KIND c.args.table.now c.args.i b ≡ c.args.self.now.left + 1 - c.meet_all-met.new.self.left = omega (arith, all, behind) in
     let back : c.undo.new.self ≡ b = c.undo.ensures.undone
-    ∙ lifted-back g.R.Rule.KIND b n.attack c.requires.lawful c.requires.goes_on _ (c.meet_all-met.ensures.same ∙ c.play.ensures.played) in
+    ∙ lift_back g.R.Rule.KIND b _ n.attack c.requires.lawful c.requires.goes_on (c.meet_all-met.ensures.same ∙ c.play.ensures.played) in
     true-kept g.R.Rule.KIND (IsWalked g.R.Rule.KIND c.args.table.now) b c.board.result.now c.args.i (c.args.self.now.left + 1 - c.meet_all-met.new.self.left) c.meet_all-met.new.self.memo
     c.requires.lawful (c.board.ensures.board ∙ back) c.in-Ok.ensures.memo c.keep.new.self (record { accepted = accepted; counted = counted }) c.keep.ensures.kept
