@@ -13,7 +13,7 @@ use Rattle.game_rules.specs.declared.Point.{Point}
 use Rattle.game_rules.proofs.Boards.{and_left, and_right}
 use Rattle.game_rules.proofs.Positions.{GoesOn-on, mover-then}
 use Rattle.game_rules.proofs.Points.{points-found, any_witness, taken_refused, is_same_point-itself, is_same_point-same}
-use Rattle.threat_moves.proofs.OffLines.{no_five}
+use Rattle.game_rules.proofs.Wins.{no_five}
 use Rattle.proof_number.specs.declared.doubles.Double.{Double}
 use Rattle.proof_number.specs.Attacks.{goes_on, IsDoubleWin}
 use Rattle.proof_number.specs.Replies.{has_reply_at}

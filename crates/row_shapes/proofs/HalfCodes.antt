@@ -4,12 +4,12 @@ use Rattle.std.specs.Prelude.{replicate}
 use Rattle.std.proofs.Math.Nat.{pow-succ'}
 use Rattle.game_rules.specs.Grid.{Grid, IsBoard, put}
 use Rattle.game_rules.specs.Shapes.{stone_at}
+use Rattle.game_rules.specs.Ways.{towards}
 use Rattle.game_rules.specs.declared.Cell.TheVariants.{Empty}
 use Rattle.game_rules.specs.declared.Side.TheVariants.{Black}
 use Rattle.game_rules.specs.declared.Axis.TheVariants.{Row}
+use Rattle.game_rules.specs.declared.Way.TheVariants.{Ahead, Behind}
 use Rattle.game_rules.proofs.Positions.{IsBoard-put}
-use Rattle.stone_board.specs.declared.board.Way.TheVariants.{Ahead, Behind}
-use Rattle.stone_board.specs.Steps.{towards}
 use Rattle.row_shapes.specs.LineCodes.{first_digits}
 use Rattle.row_shapes.specs.LineShapes.{line_cells, line_board, middle}
 use Rattle.row_shapes.specs.Halves.{owns, is_free, half_cells, free_at, SeesLine}

@@ -1,24 +1,19 @@
 -- Lines seen from a point in one of two ways: what holds ahead holds behind.
 use Rattle.std.proofs.Common.{◌≡◌, ◌≢◌, inl, inr, ℕ, ◌+◌, ◌-◌, ◌≤◌, true, refl, sym, ap, ◌∙◌, arith}
 use Rattle.std.specs.Prelude.{Option, Some, None}
-use Rattle.std.proofs.lemmas.Bool.{cases_lt}
-use Rattle.game_rules.specs.Grid.{Grid, IsBoard, is_on, holds, put, along}
-use Rattle.game_rules.specs.Shapes.{stone_at, run_of}
+use Rattle.std.specs.List.{prefix_len, range_with_len}
+use Rattle.std.proofs.lemmas.Bool.{cases_lt, both_ways}
+use Rattle.game_rules.specs.Grid.{Grid, IsBoard, is_on, holds, put}
+use Rattle.game_rules.specs.Shapes.{stone_at, run_of, line_bound}
+use Rattle.game_rules.specs.Ways.{towards, go, opposite, stones_towards}
 use Rattle.game_rules.specs.declared.Side.{Side}
 use Rattle.game_rules.specs.declared.Axis.{Axis}
-use Rattle.game_rules.specs.declared.Axis.TheVariants.{Row, Column, Down, Up}
+use Rattle.game_rules.specs.declared.Way.{Way}
+use Rattle.game_rules.specs.declared.Way.TheVariants.{Ahead, Behind}
 use Rattle.game_rules.specs.declared.Point.{Point}
 use Rattle.game_rules.proofs.Boards.{Apart, holds-put_other, and_left, stones_ahead-put, stones_behind-put, run_of-put}
-use Rattle.game_rules.proofs.Lines.{OnLine, along-OnLine, along-then, along-same, along-zero}
+use Rattle.game_rules.proofs.Lines.{along-steps, along-apart, along-then, along-same, along-zero}
 use Rattle.game_rules.proofs.Runs.{Leads, ahead_leads, behind_leads, ahead_is, behind_is}
-use Rattle.stone_board.specs.declared.board.Way.{Way}
-use Rattle.stone_board.specs.declared.board.Way.TheVariants.{Ahead, Behind}
-use Rattle.stone_board.specs.Steps.{towards, opposite, stones_towards}
-
--- the point so many steps on in that way, and so many back again
-abbrev pub go : Way → Axis → Point → ℕ → ℕ → Option Point
-go Ahead d p x y = along d p x y
-go Behind d p x y = along d p y x
 
 pub go-then : (w : Way) (d : Axis) (p q : Point) (e g x y : ℕ) → go w d p e g ≡ Some q → go w d q x y ≡ go w d p (e + x) (g + y)
 go-then Ahead d p q e g x y h = along-then d p q e g x y h
@@ -32,10 +27,6 @@ pub go-zero : (w : Way) (d : Axis) (p : Point) → go w d p 0 0 ≡ Some p
 go-zero Ahead d p = along-zero d p
 go-zero Behind d p = along-zero d p
 
-pub go-towards : (w : Way) (d : Axis) (p : Point) (k : ℕ) → towards w d p k ≡ go w d p k 0
-go-towards Ahead d p k = refl
-go-towards Behind d p k = refl
-
 pub go-opposite : (w : Way) (d : Axis) (p : Point) (x y : ℕ) → go (opposite w) d p x y ≡ go w d p y x
 go-opposite Ahead d p x y = refl
 go-opposite Behind d p x y = refl
@@ -44,23 +35,14 @@ pub opposite-opposite : (w : Way) → opposite (opposite w) ≡ w
 opposite-opposite Ahead = refl
 opposite-opposite Behind = refl
 
--- points a different number of steps away are not one
-along-apart : (d : Axis) (p q r : Point) (x y x' y' : ℕ) → along d p x y ≡ Some q → along d p x' y' ≡ Some r → x + y' ≢ x' + y → Apart q r
-along-apart d p q r x y x' y' e f differ = by_axis d (along-OnLine d p x y q e) (along-OnLine d p x' y' r f) where
-  by_axis : (d : Axis) → OnLine d p x y q → OnLine d p x' y' r → Apart q r
-  by_axis Row h k = record { apart = λ u v. differ (omega arith) }
-  by_axis Column h k = record { apart = λ u v. differ (omega arith) }
-  by_axis Down h k = record { apart = λ u v. differ (omega arith) }
-  by_axis Up h k = record { apart = λ u v. differ (omega arith) }
+-- the way back
+pub go-back : (w : Way) (d : Axis) (p q : Point) (k : ℕ) → go w d p k 0 ≡ Some q → go w d q 0 k ≡ Some p
+go-back w d p q k here = go-then w d p q k 0 0 k here ∙ go-same w d p (k + 0) (0 + k) 0 0 (omega arith) ∙ go-zero w d p
 
 -- a point is a fixed number of steps away
-pub along-steps : (d : Axis) (p q : Point) (x y x' y' : ℕ) → along d p x y ≡ Some q → along d p x' y' ≡ Some q → x + y' ≡ x' + y
-along-steps d p q x y x' y' e f = by_axis d (along-OnLine d p x y q e) (along-OnLine d p x' y' q f) where
-  by_axis : (d : Axis) → OnLine d p x y q → OnLine d p x' y' q → x + y' ≡ x' + y
-  by_axis Row h k = omega arith
-  by_axis Column h k = omega arith
-  by_axis Down h k = omega arith
-  by_axis Up h k = omega arith
+pub go-steps : (w : Way) (d : Axis) (p q : Point) (x y x' y' : ℕ) → go w d p x y ≡ Some q → go w d p x' y' ≡ Some q → x + y' ≡ x' + y
+go-steps Ahead d p q x y x' y' e f = along-steps d p q x y x' y' e f
+go-steps Behind d p q x y x' y' e f = let back = along-steps d p q y x y' x' e f in omega (arith, back)
 
 pub go-apart : (w : Way) (d : Axis) (p q r : Point) (x y x' y' : ℕ) → go w d p x y ≡ Some q → go w d p x' y' ≡ Some r → x + y' ≢ x' + y → Apart q r
 go-apart Ahead d p q r x y x' y' e f differ = along-apart d p q r x y x' y' e f differ
@@ -91,6 +73,21 @@ module _ (b : Grid) (s : Side) (d : Axis) (p : Point) (on : is_on b p ≡ true) 
   pub leads_back_is : (w : Way) (m : ℕ) → Leads (λ k. stone_at b s (go w d p 0 k)) m → stones_towards (opposite w) b s d p ≡ m
   leads_back_is Ahead m h = behind_is b s d p on m h
   leads_back_is Behind m h = ahead_is b s d p on m h
+
+  -- as many places next to it that hold stones are in its row
+  pub least : (w : Way) (m : ℕ) → ((j : ℕ) → 1 ≤ j → j ≤ m → stone_at b s (go w d p j 0) ≡ true) → m ≤ stones_towards w b s d p
+  least w m all = elim (cases_lt (stones_towards w b s d p) m) [
+    | inl less ↦ absurd (both_ways _ (leads w).stops (all (1 + stones_towards w b s d p) (omega arith) (omega arith)))
+    | inr enough ↦ enough
+  ]
+
+  pub least_back : (w : Way) (m : ℕ) → ((j : ℕ) → 1 ≤ j → j ≤ m → stone_at b s (go w d p 0 j) ≡ true) → m ≤ stones_towards (opposite w) b s d p
+  least_back w m all = least (opposite w) m (λ j low high. ap (stone_at b s) (go-opposite w d p j 0) ∙ all j low high)
+
+-- the row next to a point in one way, as the prefix of its places that hold stones
+pub stones_towards-prefix : (way : Way) (b : Grid) (s : Side) (d : Axis) (p : Point) → prefix_len (λ j. stone_at b s (towards way d p j)) (range_with_len 1 (line_bound b)) ≡ stones_towards way b s d p
+stones_towards-prefix Ahead b s d p = refl
+stones_towards-prefix Behind b s d p = refl
 
 -- ---- a stone, and what stands in its two ways
 
