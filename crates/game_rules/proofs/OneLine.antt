@@ -72,7 +72,8 @@ aligned_itself p = aligned_at Row p p (line_itself Row p)
 
 -- what is on no line with p has p on none
 pub off_back : (p q : Point) → is_aligned p q ≡ false → is_aligned q p ≡ false
-off_back p q off = false_from_ne_true _ (λ h. let some = some_axis (λ d. same_line d q p) h in both_ways _ off (aligned_at some.0 p q (line_back some.0 q p some.1)))
+off_back p q off = false_from_ne_true _
+    (λ h. let some = some_axis (λ d. same_line d q p) h in both_ways _ off (aligned_at some.0 p q (line_back some.0 q p some.1)))
 
 pub off_apart : (p f z : Point) → is_aligned p f ≡ false → is_aligned f z ≡ true → Apart p z
 off_apart p f z off line = elim (same_or_apart p z) [
@@ -83,7 +84,8 @@ off_apart p f z off line = elim (same_or_apart p z) [
 -- ---- points beside a new stone
 
 -- what is empty beside a new stone was empty
-pub empty-before : (b : Grid) (t : Side) (p r : Point) → IsBoard b → is_on b p ≡ true → is_empty (put b t p) r ≡ true → Apart p r × (is_empty b r ≡ true)
+pub empty-before : (b : Grid) (t : Side) (p r : Point) → IsBoard b → is_on b p ≡ true → is_empty (put b t p) r ≡ true
+    → Apart p r × (is_empty b r ≡ true)
 empty-before b t p r ok on h = elim (same_or_apart p r) [
   | inl same ↦ absurd (both_ways _ (empty_holds (put b t p) t r h) (ap (holds (put b t p) t) (sym same) ∙ holds-put_same b t p ok on))
   | inr apart ↦ (apart, sym (is_empty-put b t p r on apart) ∙ h)
@@ -99,12 +101,16 @@ holds-put_others b s p z ok empty = holds-other b (other s) s p ok empty (not_ow
 
 -- ---- two boards with the same stones of the side on a line
 
-stone_alike : (b c : Grid) (s : Side) (o : Option Point) → ((z : Point) → o ≡ Some z → holds b s z ≡ holds c s z) → stone_at b s o ≡ stone_at c s o
+stone_alike : (b c : Grid) (s : Side) (o : Option Point) → ((z : Point) → o ≡ Some z → holds b s z ≡ holds c s z)
+    → stone_at b s o ≡ stone_at c s o
 stone_alike b c s None same = refl
 stone_alike b c s (Some z) same = same z refl
 
-module _ (b c : Grid) (s : Side) (d : Axis) (w : Point) (same : (z : Point) → same_line d w z ≡ true → holds b s z ≡ holds c s z) (bound : line_bound b ≡ line_bound c) where
-  row_alike : (at : ℕ → Option Point) → ((k : ℕ) (z : Point) → at k ≡ Some z → same_line d w z ≡ true) → prefix_len (λ k. stone_at b s (at k)) (range_with_len 1 (line_bound b)) ≡ prefix_len (λ k. stone_at c s (at k)) (range_with_len 1 (line_bound c))
+module _ (b c : Grid) (s : Side) (d : Axis) (w : Point) (same : (z : Point) → same_line d w z ≡ true → holds b s z ≡ holds c s z)
+    (bound : line_bound b ≡ line_bound c) where
+  row_alike : (at : ℕ → Option Point) → ((k : ℕ) (z : Point) → at k ≡ Some z → same_line d w z ≡ true)
+      → prefix_len (λ k. stone_at b s (at k)) (range_with_len 1 (line_bound b))
+      ≡ prefix_len (λ k. stone_at c s (at k)) (range_with_len 1 (line_bound c))
   row_alike at line =
       prefix_len-same _ _ (line_bound b) 1 (λ k l. stone_alike b c s (at k) (λ z e. same z (line k z e)))
       ∙ ap (λ n. prefix_len (λ k. stone_at c s (at k)) (range_with_len 1 n)) bound
@@ -122,7 +128,8 @@ module _ (b c : Grid) (s : Side) (d : Axis) (w : Point) (same : (z : Point) → 
 
   -- and the point wins on the axis alike
   pub wins_alike : (rule : RuleKind) → IsBoard b → IsBoard c → is_empty b w ≡ is_empty c w → wins_on rule b s d w ≡ wins_on rule c s d w
-  wins_alike rule ok_b ok_c empty = wins_on-stones rule b s d w ok_b ∙ rw (empty, ahead_alike, behind_alike) refl ∙ sym (wins_on-stones rule c s d w ok_c)
+  wins_alike rule ok_b ok_c empty = wins_on-stones rule b s d w ok_b ∙ rw (empty, ahead_alike, behind_alike) refl
+      ∙ sym (wins_on-stones rule c s d w ok_c)
 
 -- ---- a stone on f, on two boards
 
@@ -185,7 +192,8 @@ more_pass : (r t : Bool) → (r ≡ true → t ≡ true) → cond r 1 0 ≤ cond
 more_pass true t h = rw (h refl) (omega arith)
 more_pass false t h = omega arith
 
-module _ (rule : RuleKind) (b c : Grid) (s : Side) (f : Point) (keeps : KeepsLines b c s f) (none : has_five rule b s ≡ false) (open_b : is_empty b f ≡ true) where
+module _ (rule : RuleKind) (b c : Grid) (s : Side) (f : Point) (keeps : KeepsLines b c s f) (none : has_five rule b s ≡ false)
+    (open_b : is_empty b f ≡ true) where
   bound : line_bound b ≡ line_bound c
   bound = ap (λ n. n + b.height) keeps.wide ∙ ap (λ n. c.width + n) keeps.high
 
@@ -202,12 +210,14 @@ module _ (rule : RuleKind) (b c : Grid) (s : Side) (f : Point) (keeps : KeepsLin
   pub no_five_kept : five rule c s f ≡ false
   no_five_kept = false_from_ne_true _ (λ h.
       let some = some_axis (λ d. wins_on rule c s d f) h in
-      let alike = wins_alike b c s some.0 f (λ z line. keeps.stones z (aligned_at some.0 f z line)) bound rule keeps.board keeps.next (open_b ∙ sym open_kept) in
+      let alike = wins_alike b c s some.0 f (λ z line. keeps.stones z (aligned_at some.0 f z line)) bound rule keeps.board keeps.next
+      (open_b ∙ sym open_kept) in
       both_ways _ (no_win rule b s some.0 f none) (alike ∙ some.1))
 
   stones_with : (z : Point) → is_aligned f z ≡ true → holds (put b s f) s z ≡ holds (put c s f) s z
   stones_with z line = elim (same_or_apart f z) [
-    | inl same ↦ subst (λ (v : Point). holds (put b s f) s v ≡ holds (put c s f) s v) same (holds-put_same b s f keeps.board on_b ∙ sym (holds-put_same c s f keeps.next on_c))
+    | inl same ↦ subst (λ (v : Point). holds (put b s f) s v ≡ holds (put c s f) s v) same (holds-put_same b s f keeps.board on_b
+        ∙ sym (holds-put_same c s f keeps.next on_c))
     | inr apart ↦ holds-put_other b s s f z on_b apart ∙ keeps.stones z line ∙ sym (holds-put_other c s s f z on_c apart)
   ]
 
@@ -220,13 +230,17 @@ module _ (rule : RuleKind) (b c : Grid) (s : Side) (f : Point) (keeps : KeepsLin
     by_line : (d : Axis) → wins_on rule (put b s f) s d w ≡ true → (r : Bool) → same_line d w f ≡ r → five rule (put c s f) s w ≡ true
     by_line d wins false off =
         let now : is_empty (put b s f) w ≡ true = and_left (is_empty (put b s f) w) _ wins in
-        let alike = wins_alike (put b s f) b s d w (λ z line. holds-put_other b s s f z on_b (line_apart d w f z off line)) refl rule (IsBoard-put b s f keeps.board) keeps.board (now ∙ sym (empty-before b s f w keeps.board on_b now).1) in
+        let alike = wins_alike (put b s f) b s d w (λ z line. holds-put_other b s s f z on_b (line_apart d w f z off line)) refl rule
+        (IsBoard-put b s f keeps.board) keeps.board (now ∙ sym (empty-before b s f w keeps.board on_b now).1) in
         absurd (both_ways _ (no_win rule b s d w none) (sym alike ∙ wins))
     by_line d wins true line =
         let now : is_empty (put b s f) w ≡ true = and_left (is_empty (put b s f) w) _ wins in
         let before = empty-before b s f w keeps.board on_b now in
-        let then : is_empty (put c s f) w ≡ true = is_empty-put c s f w on_c before.0 ∙ keeps.empties w (aligned_at d f w (line_back d w f line)) before.1 in
-        let alike = wins_alike (put b s f) (put c s f) s d w (λ z there. stones_with z (aligned_at d f z (line_join d w f z line there))) bound rule (IsBoard-put b s f keeps.board) (IsBoard-put c s f keeps.next) (now ∙ sym then) in
+        let then : is_empty (put c s f) w ≡ true = is_empty-put c s f w on_c before.0
+        ∙ keeps.empties w (aligned_at d f w (line_back d w f line)) before.1 in
+        let alike = wins_alike (put b s f) (put c s f) s d w
+        (λ z there. stones_with z (aligned_at d f z (line_join d w f z line there))) bound rule (IsBoard-put b s f keeps.board)
+        (IsBoard-put c s f keeps.next) (now ∙ sym then) in
         axis_of (λ d. wins_on rule (put c s f) s d w) d (sym alike ∙ wins)
 
   points_same : points_of b ≡ points_of c
@@ -235,11 +249,14 @@ module _ (rule : RuleKind) (b c : Grid) (s : Side) (f : Point) (keeps : KeepsLin
   -- so it makes as many there, or more
   pub more_fives : length (five_points rule (put b s f) s) ≤ length (five_points rule (put c s f) s)
   more_fives =
-      let more = sum_by-le-sum_by (λ w. cond (five rule (put b s f) s w) 1 0) (λ w. cond (five rule (put c s f) s w) 1 0) (points_of b) (λ w. more_pass _ _ (five_kept w)) in
-      rw (length-filter (five rule (put b s f) s) (points_of b), sym points_same, length-filter (five rule (put c s f) s) (points_of b)) more
+      let here : Point → Bool = five rule (put b s f) s in
+      let there : Point → Bool = five rule (put c s f) s in
+      let more = sum_by-le-sum_by (λ w. cond (here w) 1 0) (λ w. cond (there w) 1 0) (points_of b) (λ w. more_pass _ _ (five_kept w)) in
+      rw (length-filter here (points_of b), sym points_same, length-filter there (points_of b)) more
 
 -- where each of two boards keeps the lines of the other, a stone makes the same five points on both
-module _ (rule : RuleKind) (b c : Grid) (s : Side) (f : Point) (on : KeepsLines b c s f) (back : KeepsLines c b s f) (none_b : has_five rule b s ≡ false) (none_c : has_five rule c s ≡ false) (open_b : is_empty b f ≡ true) where
+module _ (rule : RuleKind) (b c : Grid) (s : Side) (f : Point) (on : KeepsLines b c s f) (back : KeepsLines c b s f)
+    (none_b : has_five rule b s ≡ false) (none_c : has_five rule c s ≡ false) (open_b : is_empty b f ≡ true) where
   same_five : (w : Point) → five rule (put b s f) s w ≡ five rule (put c s f) s w
   same_five w = by_tests (five rule (put b s f) s w) (five rule (put c s f) s w) refl refl where
     by_tests : (r t : Bool) → five rule (put b s f) s w ≡ r → five rule (put c s f) s w ≡ t → r ≡ t
@@ -248,7 +265,9 @@ module _ (rule : RuleKind) (b c : Grid) (s : Side) (f : Point) (on : KeepsLines 
     by_tests false false e h = refl
 
   pub same_points : five_points rule (put b s f) s ≡ five_points rule (put c s f) s
-  same_points = ap (filter (five rule (put b s f) s)) (points_same rule b c s f on none_b open_b) ∙ ap (λ (test : Point → Bool). filter test (points_of c)) (λ i w. same_five w i)
+  same_points = ap (filter (five rule (put b s f) s)) (points_same rule b c s f on none_b open_b)
+      ∙ ap (λ (test : Point → Bool). filter test (points_of c)) (λ i w. same_five w i)
 
   pub same_has_five : has_five rule (put b s f) s ≡ has_five rule (put c s f) s
-  same_has_five = ap (list_any (five rule (put b s f) s)) (points_same rule b c s f on none_b open_b) ∙ ap (λ (test : Point → Bool). list_any test (points_of c)) (λ i w. same_five w i)
+  same_has_five = ap (list_any (five rule (put b s f) s)) (points_same rule b c s f on none_b open_b)
+      ∙ ap (λ (test : Point → Bool). list_any test (points_of c)) (λ i w. same_five w i)

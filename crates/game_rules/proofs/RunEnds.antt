@@ -44,14 +44,20 @@ one_axis p q x y u v h k Up Down l m = absurd (omega arith)
 one_axis p q x y u v h k Up Up l m = refl
 
 axes_by : (d e : Axis) (p q : Point) (w v : Way) (j k : ℕ) → 1 ≤ j → 1 ≤ k → go w d p j 0 ≡ Some q → go v e p k 0 ≡ Some q → d ≡ e
-axes_by d e p q Ahead Ahead j k low some h f = one_axis p q j 0 k 0 (λ z. absurd (omega arith)) (λ z. absurd (omega arith)) d e (along-OnLine d p j 0 q h) (along-OnLine e p k 0 q f)
-axes_by d e p q Ahead Behind j k low some h f = one_axis p q j 0 0 k (λ z. absurd (omega arith)) (λ z. absurd (omega arith)) d e (along-OnLine d p j 0 q h) (along-OnLine e p 0 k q f)
-axes_by d e p q Behind Ahead j k low some h f = one_axis p q 0 j k 0 (λ z. absurd (omega arith)) (λ z. absurd (omega arith)) d e (along-OnLine d p 0 j q h) (along-OnLine e p k 0 q f)
-axes_by d e p q Behind Behind j k low some h f = one_axis p q 0 j 0 k (λ z. absurd (omega arith)) (λ z. absurd (omega arith)) d e (along-OnLine d p 0 j q h) (along-OnLine e p 0 k q f)
+axes_by d e p q Ahead Ahead j k low some h f = one_axis p q j 0 k 0 (λ z. absurd (omega arith)) (λ z. absurd (omega arith)) d e
+    (along-OnLine d p j 0 q h) (along-OnLine e p k 0 q f)
+axes_by d e p q Ahead Behind j k low some h f = one_axis p q j 0 0 k (λ z. absurd (omega arith)) (λ z. absurd (omega arith)) d e
+    (along-OnLine d p j 0 q h) (along-OnLine e p 0 k q f)
+axes_by d e p q Behind Ahead j k low some h f = one_axis p q 0 j k 0 (λ z. absurd (omega arith)) (λ z. absurd (omega arith)) d e
+    (along-OnLine d p 0 j q h) (along-OnLine e p k 0 q f)
+axes_by d e p q Behind Behind j k low some h f = one_axis p q 0 j 0 k (λ z. absurd (omega arith)) (λ z. absurd (omega arith)) d e
+    (along-OnLine d p 0 j q h) (along-OnLine e p 0 k q f)
 
 -- an end of a run on one axis is none on another
-pub ends_differ : (b : Grid) (s : Side) (p q : Point) (d e : Axis) (w v : Way) → run_end b s d w p ≡ Some q → run_end b s e v p ≡ Some q → d ≡ e
-ends_differ b s p q d e w v h f = axes_by d e p q w v (1 + stones_towards w b s d p) (1 + stones_towards v b s e p) (omega arith) (omega arith) h f
+pub ends_differ : (b : Grid) (s : Side) (p q : Point) (d e : Axis) (w v : Way) → run_end b s d w p ≡ Some q → run_end b s e v p ≡ Some q
+    → d ≡ e
+ends_differ b s p q d e w v h f = axes_by d e p q w v (1 + stones_towards w b s d p) (1 + stones_towards v b s e p) (omega arith)
+    (omega arith) h f
 
 -- and it is not the point of the stone
 pub end_apart : (b : Grid) (s : Side) (p q : Point) (d : Axis) (w : Way) → run_end b s d w p ≡ Some q → Apart p q
@@ -82,7 +88,8 @@ module _ (b : Grid) (s : Side) (p : Point) (ok : IsBoard b) (empty : is_empty b 
 
       as_far : stones_towards (opposite v) b s d p ≡ stones_towards v b s d q
       as_far = leads_back_is b s d p on_p v (stones_towards v b s d q) (record {
-        holds = λ j low high. ap (stone_at b s) (from j (far v - j) 0 (omega arith)) ∙ (leads b s d q on_q v).holds (far v - j) (omega arith) (omega arith);
+        holds = λ j low high. ap (stone_at b s) (from j (far v - j) 0 (omega arith))
+            ∙ (leads b s d q on_q v).holds (far v - j) (omega arith) (omega arith);
         stops = ap (stone_at b s) last ∙ bare;
       })
 
@@ -94,17 +101,20 @@ module _ (b : Grid) (s : Side) (p : Point) (ok : IsBoard b) (empty : is_empty b 
     })
 
   -- a point that is no end on the axis wins there as before
-  pub wins_same : (rule : RuleKind) (q : Point) → Apart p q → (d : Axis) → ((v : Way) → is_empty b q ≡ true → run_end b s d v p ≢ Some q) → wins_on rule (put b s p) s d q ≡ wins_on rule b s d q
+  pub wins_same : (rule : RuleKind) (q : Point) → Apart p q → (d : Axis) → ((v : Way) → is_empty b q ≡ true → run_end b s d v p ≢ Some q)
+      → wins_on rule (put b s p) s d q ≡ wins_on rule b s d q
   wins_same rule q apart d no_end =
       wins_on-stones rule (put b s p) s d q (IsBoard-put b s p ok)
-      ∙ ap (λ r. r && row_wins rule s (1 + stones_ahead (put b s p) s d q + stones_behind (put b s p) s d q)) (is_empty-put b s p q on_p apart)
+      ∙ ap (λ r. r && row_wins rule s (1 + stones_ahead (put b s p) s d q + stones_behind (put b s p) s d q))
+      (is_empty-put b s p q on_p apart)
       ∙ and-same (is_empty b q) _ _ (λ free. rw (many free Ahead, many free Behind) refl)
       ∙ sym (wins_on-stones rule b s d q ok) where
         many : is_empty b q ≡ true → (v : Way) → stones_towards v (put b s p) s d q ≡ stones_towards v b s d q
         many free = as_many q (is_empty-on b q free) (empty_holds b s q free) d (λ v. no_end v free)
 
   -- a point that wins and did not before is an end
-  pub new_end : (rule : RuleKind) (d : Axis) (q : Point) → wins_on rule b s d q ≡ false → wins_on rule (put b s p) s d q ≡ true → (w : Way) × (run_end b s d w p ≡ Some q)
+  pub new_end : (rule : RuleKind) (d : Axis) (q : Point) → wins_on rule b s d q ≡ false → wins_on rule (put b s p) s d q ≡ true
+      → (w : Way) × (run_end b s d w p ≡ Some q)
   new_end rule d q none wins = elim (is_at_or_not (run_end b s d Ahead p) q) [
     | inl here ↦ (Ahead, here)
     | inr not_ahead ↦ elim (is_at_or_not (run_end b s d Behind p) q) [
@@ -122,14 +132,18 @@ module _ (b : Grid) (s : Side) (p : Point) (ok : IsBoard b) (empty : is_empty b 
 -- ---- a stone on the empty end of a run
 
 -- a point of the stones next to p, in either way, is in the run
-in_run_towards : (b : Grid) (s : Side) (w : Way) (d : Axis) (p q : Point) (k : ℕ) → go w d p k 0 ≡ Some q → 1 ≤ k → k ≤ stones_towards w b s d p → is_in_run b s d p q ≡ true
+in_run_towards : (b : Grid) (s : Side) (w : Way) (d : Axis) (p q : Point) (k : ℕ) → go w d p k 0 ≡ Some q → 1 ≤ k
+    → k ≤ stones_towards w b s d p → is_in_run b s d p q ≡ true
 in_run_towards b s Ahead d p q k here low high =
-    or_left _ _ (any_found (λ j. is_at q (along d p j 0)) (1 + stones_ahead b s d p) 0 k (omega arith) (omega arith) (is_at-here q (along d p k 0) here))
+    or_left _ _ (any_found (λ j. is_at q (along d p j 0)) (1 + stones_ahead b s d p) 0 k (omega arith) (omega arith)
+    (is_at-here q (along d p k 0) here))
 in_run_towards b s Behind d p q k here low high =
-    or_right _ _ (any_found (λ j. is_at q (along d p 0 j)) (stones_behind b s d p) 1 k low (omega arith) (is_at-here q (along d p 0 k) here))
+    or_right _ _
+    (any_found (λ j. is_at q (along d p 0 j)) (stones_behind b s d p) 1 k low (omega arith) (is_at-here q (along d p 0 k) here))
 
 -- q is the end in that way of the run through the stone on p, and empty
-module _ (b : Grid) (s : Side) (w : Way) (d : Axis) (p q : Point) (ok : IsBoard b) (mine : holds b s p ≡ true) (empty : is_empty b q ≡ true) (here : run_end b s d w p ≡ Some q) where
+module _ (b : Grid) (s : Side) (w : Way) (d : Axis) (p q : Point) (ok : IsBoard b) (mine : holds b s p ≡ true) (empty : is_empty b q ≡ true)
+    (here : run_end b s d w p ≡ Some q) where
   filled_p : is_on b p ≡ true
   filled_p = and_left (is_on b p) _ mine
 
@@ -143,7 +157,8 @@ module _ (b : Grid) (s : Side) (w : Way) (d : Axis) (p q : Point) (ok : IsBoard 
   more = stones_towards w b s d q
 
   from_q : (j : ℕ) → 1 + near ≤ j → go w d p j 0 ≡ go w d q (j - (1 + near)) 0
-  from_q j low = go-same w d p j 0 (1 + near + (j - (1 + near))) (0 + 0) (omega arith) ∙ sym (go-then w d p q (1 + near) 0 (j - (1 + near)) 0 here)
+  from_q j low = go-same w d p j 0 (1 + near + (j - (1 + near))) (0 + 0) (omega arith)
+      ∙ sym (go-then w d p q (1 + near) 0 (j - (1 + near)) 0 here)
 
   -- its stone joins the run to what stands past it
   pub end_joins : stones_towards w (put b s q) s d p ≡ 1 + near + more
@@ -152,14 +167,16 @@ module _ (b : Grid) (s : Side) (w : Way) (d : Axis) (p q : Point) (ok : IsBoard 
     inside j low high = elim (cases_lt near j) [
       | inr old ↦ stone_at-more b s q ok empty (go w d p j 0) ((leads b s d p filled_p w).holds j low old)
       | inl new ↦ elim (cases_lt (1 + near) j) [
-        | inl past ↦ stone_at-more b s q ok empty (go w d p j 0) (ap (stone_at b s) (from_q j (omega arith)) ∙ (leads b s d q filled_q w).holds (j - (1 + near)) (omega arith) (omega arith))
+        | inl past ↦ stone_at-more b s q ok empty (go w d p j 0) (ap (stone_at b s) (from_q j (omega arith))
+            ∙ (leads b s d q filled_q w).holds (j - (1 + near)) (omega arith) (omega arith))
         | inr last ↦ ap (stone_at (put b s q) s) (go-same w d p j 0 (1 + near) 0 (omega arith) ∙ here) ∙ holds-put_same b s q ok filled_q
       ]
     ]
 
     stop : stone_at (put b s q) s (go w d p (1 + (1 + near + more)) 0) ≡ false
     stop = else_at b s w d p q (1 + near) 0 (1 + (1 + near + more)) 0 filled_q here (λ same. absurd (omega arith))
-        ∙ ap (stone_at b s) (from_q (1 + (1 + near + more)) (omega arith) ∙ go-same w d q (1 + (1 + near + more) - (1 + near)) 0 (1 + more) 0 (omega arith))
+        ∙ ap (stone_at b s) (from_q (1 + (1 + near + more)) (omega arith)
+        ∙ go-same w d q (1 + (1 + near + more) - (1 + near)) 0 (1 + more) 0 (omega arith))
         ∙ (leads b s d q filled_q w).stops
 
   -- and leaves what stands in the other way

@@ -44,12 +44,14 @@ pub go-steps : (w : Way) (d : Axis) (p q : Point) (x y x' y' : ℕ) → go w d p
 go-steps Ahead d p q x y x' y' e f = along-steps d p q x y x' y' e f
 go-steps Behind d p q x y x' y' e f = let back = along-steps d p q y x y' x' e f in omega (arith, back)
 
-pub go-apart : (w : Way) (d : Axis) (p q r : Point) (x y x' y' : ℕ) → go w d p x y ≡ Some q → go w d p x' y' ≡ Some r → x + y' ≢ x' + y → Apart q r
+pub go-apart : (w : Way) (d : Axis) (p q r : Point) (x y x' y' : ℕ) → go w d p x y ≡ Some q → go w d p x' y' ≡ Some r → x + y' ≢ x' + y
+    → Apart q r
 go-apart Ahead d p q r x y x' y' e f differ = along-apart d p q r x y x' y' e f differ
 go-apart Behind d p q r x y x' y' e f differ = along-apart d p q r y x y' x' e f (λ same. differ (omega arith))
 
 -- a stone changes no place a different number of steps away
-pub else_at : (b : Grid) (s : Side) (w : Way) (d : Axis) (p q : Point) (e g x y : ℕ) → is_on b q ≡ true → go w d p e g ≡ Some q → e + y ≢ x + g → stone_at (put b s q) s (go w d p x y) ≡ stone_at b s (go w d p x y)
+pub else_at : (b : Grid) (s : Side) (w : Way) (d : Axis) (p q : Point) (e g x y : ℕ) → is_on b q ≡ true → go w d p e g ≡ Some q
+    → e + y ≢ x + g → stone_at (put b s q) s (go w d p x y) ≡ stone_at b s (go w d p x y)
 else_at b s w d p q e g x y on here differ = by_point (go w d p x y) refl where
   by_point : (o : Option Point) → go w d p x y ≡ o → stone_at (put b s q) s o ≡ stone_at b s o
   by_point None f = refl
@@ -81,18 +83,21 @@ module _ (b : Grid) (s : Side) (d : Axis) (p : Point) (on : is_on b p ≡ true) 
     | inr enough ↦ enough
   ]
 
-  pub least_back : (w : Way) (m : ℕ) → ((j : ℕ) → 1 ≤ j → j ≤ m → stone_at b s (go w d p 0 j) ≡ true) → m ≤ stones_towards (opposite w) b s d p
+  pub least_back : (w : Way) (m : ℕ) → ((j : ℕ) → 1 ≤ j → j ≤ m → stone_at b s (go w d p 0 j) ≡ true)
+      → m ≤ stones_towards (opposite w) b s d p
   least_back w m all = least (opposite w) m (λ j low high. ap (stone_at b s) (go-opposite w d p j 0) ∙ all j low high)
 
 -- the row next to a point in one way, as the prefix of its places that hold stones
-pub stones_towards-prefix : (way : Way) (b : Grid) (s : Side) (d : Axis) (p : Point) → prefix_len (λ j. stone_at b s (towards way d p j)) (range_with_len 1 (line_bound b)) ≡ stones_towards way b s d p
+pub stones_towards-prefix : (way : Way) (b : Grid) (s : Side) (d : Axis) (p : Point)
+    → prefix_len (λ j. stone_at b s (towards way d p j)) (range_with_len 1 (line_bound b)) ≡ stones_towards way b s d p
 stones_towards-prefix Ahead b s d p = refl
 stones_towards-prefix Behind b s d p = refl
 
 -- ---- a stone, and what stands in its two ways
 
 -- a run through the new stone, from either of the two ways
-pub run_towards : (b : Grid) (s : Side) (w : Way) (d : Axis) (q : Point) → IsBoard b → is_on b q ≡ true → run_of (put b s q) s d q ≡ 1 + stones_towards w b s d q + stones_towards (opposite w) b s d q
+pub run_towards : (b : Grid) (s : Side) (w : Way) (d : Axis) (q : Point) → IsBoard b → is_on b q ≡ true
+    → run_of (put b s q) s d q ≡ 1 + stones_towards w b s d q + stones_towards (opposite w) b s d q
 run_towards b s Ahead d q ok on = run_of-put b s q on ok d
 run_towards b s Behind d q ok on = let run = run_of-put b s q on ok d in omega (arith, run)
 
@@ -103,33 +108,46 @@ module _ (b : Grid) (s : Side) (p : Point) (on : is_on b p ≡ true) where
   towards-put Behind d = stones_behind-put b s p on s d
 
   -- and nothing that stands past another point of its line
-  pub beyond-put : (w : Way) (d : Axis) (k : ℕ) (e : Point) → go w d p (1 + k) 0 ≡ Some e → is_on b e ≡ true → stones_towards w (put b s p) s d e ≡ stones_towards w b s d e
+  pub beyond-put : (w : Way) (d : Axis) (k : ℕ) (e : Point) → go w d p (1 + k) 0 ≡ Some e → is_on b e ≡ true
+      → stones_towards w (put b s p) s d e ≡ stones_towards w b s d e
   beyond-put w d k e here on_e = leads_is (put b s p) s d e on_e w (stones_towards w b s d e) (record {
     holds = λ j low high. same j ∙ (leads b s d e on_e w).holds j low high;
     stops = same (1 + stones_towards w b s d e) ∙ (leads b s d e on_e w).stops;
   }) where
     same : (j : ℕ) → stone_at (put b s p) s (go w d e j 0) ≡ stone_at b s (go w d e j 0)
     same j =
-        let place : go w d e j 0 ≡ go w d p (1 + k + j) 0 = go-then w d p e (1 + k) 0 j 0 here ∙ go-same w d p (1 + k + j) (0 + 0) (1 + k + j) 0 (omega arith) in
-        ap (stone_at (put b s p) s) place ∙ else_at b s w d p p 0 0 (1 + k + j) 0 on (go-zero w d p) (λ same. absurd (omega arith)) ∙ ap (stone_at b s) (sym place)
+        let place : go w d e j 0 ≡ go w d p (1 + k + j) 0 = go-then w d p e (1 + k) 0 j 0 here
+        ∙ go-same w d p (1 + k + j) (0 + 0) (1 + k + j) 0 (omega arith) in
+        ap (stone_at (put b s p) s) place ∙ else_at b s w d p p 0 0 (1 + k + j) 0 on (go-zero w d p) (λ same. absurd (omega arith))
+        ∙ ap (stone_at b s) (sym place)
 
 -- ---- the first point past a run
 
 -- e is the first point past the run through p in that way: the run is what it has behind it
-module _ (b : Grid) (s : Side) (w : Way) (d : Axis) (p e : Point) (mine : holds b s p ≡ true) (here : go w d p (1 + stones_towards w b s d p) 0 ≡ Some e) (on : is_on b e ≡ true) where
+module _ (b : Grid) (s : Side) (w : Way) (d : Axis) (p e : Point) (mine : holds b s p ≡ true)
+    (here : go w d p (1 + stones_towards w b s d p) 0 ≡ Some e) (on : is_on b e ≡ true) where
   on_p : is_on b p ≡ true
   on_p = and_left (is_on b p) _ mine
 
   from_e : (x y x' y' : ℕ) → 1 + stones_towards w b s d p + x + y' ≡ x' + y → stone_at b s (go w d e x y) ≡ stone_at b s (go w d p x' y')
-  from_e x y x' y' h = ap (stone_at b s) (go-then w d p e (1 + stones_towards w b s d p) 0 x y here ∙ go-same w d p (1 + stones_towards w b s d p + x) (0 + y) x' y' (omega arith))
+  from_e x y x' y' h = ap (stone_at b s) (go-then w d p e (1 + stones_towards w b s d p) 0 x y here
+      ∙ go-same w d p (1 + stones_towards w b s d p + x) (0 + y) x' y' (omega arith))
 
   pub run_before_end : stones_towards (opposite w) b s d e ≡ stones_towards w b s d p + 1 + stones_towards (opposite w) b s d p
-  run_before_end = leads_back_is b s d e on w _ (record { holds = inside; stops = from_e 0 (1 + (stones_towards w b s d p + 1 + stones_towards (opposite w) b s d p)) 0 (1 + stones_towards (opposite w) b s d p) (omega arith) ∙ (leads_back b s d p on_p w).stops }) where
+  run_before_end = leads_back_is b s d e on w _ (record {
+    holds = inside;
+    stops =
+        from_e 0 (1 + (stones_towards w b s d p + 1 + stones_towards (opposite w) b s d p)) 0 (1 + stones_towards (opposite w) b s d p)
+        (omega arith)
+        ∙ (leads_back b s d p on_p w).stops;
+  }) where
     inside : (j : ℕ) → 1 ≤ j → j ≤ stones_towards w b s d p + 1 + stones_towards (opposite w) b s d p → stone_at b s (go w d e 0 j) ≡ true
     inside j low high = elim (cases_lt (stones_towards w b s d p + 1) j) [
-      | inl past ↦ from_e 0 j 0 (j - (stones_towards w b s d p + 1)) (omega arith) ∙ (leads_back b s d p on_p w).holds (j - (stones_towards w b s d p + 1)) (omega arith) (omega arith)
+      | inl past ↦ from_e 0 j 0 (j - (stones_towards w b s d p + 1)) (omega arith)
+          ∙ (leads_back b s d p on_p w).holds (j - (stones_towards w b s d p + 1)) (omega arith) (omega arith)
       | inr more ↦ elim (cases_lt j (stones_towards w b s d p + 1)) [
-        | inl less ↦ from_e 0 j (stones_towards w b s d p + 1 - j) 0 (omega arith) ∙ (leads b s d p on_p w).holds (stones_towards w b s d p + 1 - j) (omega arith) (omega arith)
+        | inl less ↦ from_e 0 j (stones_towards w b s d p + 1 - j) 0 (omega arith)
+            ∙ (leads b s d p on_p w).holds (stones_towards w b s d p + 1 - j) (omega arith) (omega arith)
         | inr last ↦ from_e 0 j 0 0 (omega arith) ∙ ap (stone_at b s) (go-zero w d p) ∙ mine
       ]
     ]

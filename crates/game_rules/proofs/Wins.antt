@@ -21,16 +21,19 @@ use Rattle.game_rules.proofs.Ways.{run_towards}
 
 module _ (rule : RuleKind) (b : Grid) (s : Side) where
   -- no stone has to be put to tell whether a point wins
-  pub wins_on-stones : (d : Axis) (p : Point) → IsBoard b → wins_on rule b s d p ≡ (is_empty b p && row_wins rule s (1 + stones_ahead b s d p + stones_behind b s d p))
+  pub wins_on-stones : (d : Axis) (p : Point) → IsBoard b
+      → wins_on rule b s d p ≡ (is_empty b p && row_wins rule s (1 + stones_ahead b s d p + stones_behind b s d p))
   wins_on-stones d p ok = and-same (is_empty b p) _ _ (λ empty. ap (row_wins rule s) (run_of-put b s p (is_empty-on b p empty) ok d))
 
   -- the same from either of the two ways
-  pub wins_on-ways : (w : Way) (d : Axis) (p : Point) → IsBoard b → wins_on rule b s d p ≡ (is_empty b p && row_wins rule s (1 + stones_towards w b s d p + stones_towards (opposite w) b s d p))
+  pub wins_on-ways : (w : Way) (d : Axis) (p : Point) → IsBoard b
+      → wins_on rule b s d p ≡ (is_empty b p && row_wins rule s (1 + stones_towards w b s d p + stones_towards (opposite w) b s d p))
   wins_on-ways w d p ok = and-same (is_empty b p) _ _ (λ empty. ap (row_wins rule s) (run_towards b s w d p ok (is_empty-on b p empty)))
 
   -- where the side has no five point, no point is one, or wins on an axis
   pub no_five : (p : Point) → has_five rule b s ≡ false → five rule b s p ≡ false
-  no_five p none = false_from_ne_true _ (λ h. both_ways _ none (points-found b (five rule b s) p (is_empty-on b p (five-empty rule b s p h)) h))
+  no_five p none = false_from_ne_true _
+      (λ h. both_ways _ none (points-found b (five rule b s) p (is_empty-on b p (five-empty rule b s p h)) h))
 
   pub no_win : (d : Axis) (p : Point) → has_five rule b s ≡ false → wins_on rule b s d p ≡ false
   no_win d p none = no_axis (λ d. wins_on rule b s d p) (no_five p none) d

@@ -1,8 +1,10 @@
 -- What stands within reach of a stone: three others where it is in a four, two where it has a three point.
-use Rattle.std.proofs.Common.{◌≡◌, ◌≢◌, inl, inr, ℕ, ◌+◌, ◌-◌, ◌≤◌, ◌<◌, Bool, true, false, cond, ◌&&◌, ◌||◌, not, refl, sym, ap, ◌∙◌, arith, nat_eq, nat_lt, eq-eqb}
-use Rattle.std.specs.Prelude.{Option, Some, None, IsTrue}
+use Rattle.std.proofs.Common.{◌≡◌, ◌≢◌, inl, inr, ℕ, zero, suc, ◌+◌, ◌-◌, ◌≤◌, ◌<◌, Bool, true, false, cond, ◌&&◌, ◌||◌, not, refl, sym, ap, ◌∙◌, arith, nat_eq, eq-eqb}
+use Rattle.std.specs.Prelude.{Option, Some, None}
+use Rattle.std.specs.List.{range_with_len, sum_by}
 use Rattle.std.proofs.lemmas.Bool.{cases_lt, false_from_ne_true}
 use Rattle.std.proofs.lemmas.Bool.Decides.{nat_tests}
+use Rattle.std.proofs.lemmas.List.Sums.{sum_by-cons}
 use Rattle.game_rules.specs.Grid.{Grid, IsBoard, is_on, is_empty, holds, put, along}
 use Rattle.game_rules.specs.Shapes.{stone_at, wins_at, fours_of, place_stone, place_wins, is_line_three_point}
 use Rattle.game_rules.specs.Ways.{towards, opposite, stones_towards, go}
@@ -16,11 +18,10 @@ use Rattle.game_rules.proofs.Rows.{all_in_range}
 use Rattle.game_rules.proofs.Boards.{Apart, empty_holds, and_left, and_right, is_empty-on, is_empty-put}
 use Rattle.game_rules.proofs.Lines.{along-same}
 use Rattle.game_rules.proofs.Ways.{go-then, go-same, go-zero, go-apart, leads_is, towards-put, beyond-put, least, least_back}
-use Rattle.row_shapes.specs.Gaps.{is_four, are_stones}
+use Rattle.row_shapes.specs.Gaps.{is_four, are_stones, fours_from}
 use Rattle.row_shapes.specs.Reach.{stones_past, reach_towards, stones_in_reach}
 use Rattle.row_shapes.proofs.Counting.{fours_of-gap}
 use Rattle.row_shapes.proofs.ThreePoints.{three_first, three_empty, first_open}
-use borrow.Author.Tests.{ltb-true}
 
 -- ---- a stone changes nothing that is within reach of its point
 
@@ -46,6 +47,15 @@ module _ (b : Grid) (s : Side) (p : Point) (on : is_on b p ≡ true) where
   reach-put d = rw (reach_towards-put Ahead d, reach_towards-put Behind d) refl
 
 -- ---- what a four has within reach
+
+-- a sum of nothing
+sum_none : (f : ℕ → ℕ) (n a : ℕ) → ((k : ℕ) → a ≤ k → k < a + n → f k ≡ 0) → sum_by f (range_with_len a n) ≡ 0
+sum_none f zero a h = refl
+sum_none f (suc n) a h =
+    let here = h a (omega arith) (omega arith) in
+    let rest = sum_none f n (a + 1) (λ k low high. h k (omega arith) (omega arith)) in
+    let none : f a + sum_by f (range_with_len (a + 1) n) ≡ 0 = omega (arith, here, rest) in
+    sum_by-cons f a (range_with_len (a + 1) n) ∙ none
 
 module _ (b : Grid) (s : Side) (d : Axis) (p : Point) (on : is_on b p ≡ true) where
   -- four stones of one row
@@ -152,30 +162,10 @@ module _ (b : Grid) (s : Side) (d : Axis) (p : Point) (on : is_on b p ≡ true) 
 
   -- where fewer than three stones are within reach of a point, its stone is in no four
   pub few-no_fours : (rule : RuleKind) → stones_in_reach b s d p < 3 → fours_of rule b s d p ≡ 0
-  few-no_fours rule few = fours_of-gap rule b s d p ∙ rw (
-    no 0 1 refl refl,
-    no 0 2 refl refl,
-    no 0 3 refl refl,
-    no 0 4 refl refl,
-    no 1 1 refl refl,
-    no 1 2 refl refl,
-    no 1 3 refl refl,
-    no 1 4 refl refl,
-    no 2 1 refl refl,
-    no 2 2 refl refl,
-    no 2 3 refl refl,
-    no 2 4 refl refl,
-    no 3 1 refl refl,
-    no 3 2 refl refl,
-    no 3 3 refl refl,
-    no 3 4 refl refl,
-    no 4 1 refl refl,
-    no 4 2 refl refl,
-    no 4 3 refl refl,
-    no 4 4 refl refl,
-  ) refl where
-    no : (first gap : ℕ) → IsTrue (nat_lt first 5) → IsTrue (nat_lt gap 5) → is_four (place_stone b s d p) (place_wins rule b s d p) first gap ≡ false
-    no first gap l n = no_four rule first gap (ltb-true _ _ l) (ltb-true _ _ n) few
+  few-no_fours rule few = fours_of-gap rule b s d p
+      ∙ sum_none (λ first. fours_from (place_stone b s d p) (place_wins rule b s d p) first) 5 0 (λ first low high.
+      sum_none (λ gap. cond (is_four (place_stone b s d p) (place_wins rule b s d p) first gap) 1 0) 4 1 (λ gap some near.
+      ap (λ r. cond r 1 0) (no_four rule first gap (omega arith) (omega arith) few)))
 
   -- where fewer than two are, it has no three point
   pub few-no_three : (rule : RuleKind) (q : Point) → IsBoard b → holds b s p ≡ true → stones_in_reach b s d p < 2 → is_line_three_point rule b s d p q ≡ false
