@@ -3,6 +3,7 @@ use Rattle.std.proofs.Common.{◌≡◌, ◌≢◌, inl, inr, ℕ, ◌+◌, ◌*
 use Rattle.std.specs.Prelude.{Option, Some, None, nat_lt, ◌==◌, if◌then◌else◌}
 use Rattle.std.specs.List.{list_any, filter}
 use Rattle.std.proofs.lemmas.Bool.{and_from, both_ways, cases_lt, false_from_ne_true}
+use Rattle.std.proofs.Math.Bool.{or-false}
 use Rattle.game_rules.specs.Grid.{Grid, IsBoard, is_on, is_empty, put, points_of, axes}
 use Rattle.game_rules.specs.Shapes.{five, wins_on, is_at}
 use Rattle.game_rules.specs.Games.{five_points}
@@ -42,22 +43,10 @@ no_end b s d w p q h free e = both_ways _ h (end_yes b s d w p q free e)
 
 -- where no other axis wins, the one decides
 by_axis : (f : Axis → Bool) (d : Axis) → ((e : Axis) → e ≢ d → f e ≡ false) → list_any f axes ≡ f d
-by_axis f Row h = rw (h Column (λ e. cc), h Down (λ e. cc), h Up (λ e. cc)) (last (f Row)) where
-  last : (r : Bool) → (r || false) ≡ r
-  last true = refl
-  last false = refl
-by_axis f Column h = rw (h Row (λ e. cc), h Down (λ e. cc), h Up (λ e. cc)) (last (f Column)) where
-  last : (r : Bool) → (r || false) ≡ r
-  last true = refl
-  last false = refl
-by_axis f Down h = rw (h Row (λ e. cc), h Column (λ e. cc), h Up (λ e. cc)) (last (f Down)) where
-  last : (r : Bool) → (r || false) ≡ r
-  last true = refl
-  last false = refl
-by_axis f Up h = rw (h Row (λ e. cc), h Column (λ e. cc), h Down (λ e. cc)) (last (f Up)) where
-  last : (r : Bool) → (r || false) ≡ r
-  last true = refl
-  last false = refl
+by_axis f Row h = rw (h Column (λ e. cc), h Down (λ e. cc), h Up (λ e. cc)) (or-false (f Row))
+by_axis f Column h = rw (h Row (λ e. cc), h Down (λ e. cc), h Up (λ e. cc)) (or-false (f Column))
+by_axis f Down h = rw (h Row (λ e. cc), h Column (λ e. cc), h Up (λ e. cc)) (or-false (f Down))
+by_axis f Up h = rw (h Row (λ e. cc), h Column (λ e. cc), h Down (λ e. cc)) (or-false (f Up))
 
 five_false : (rule : RuleKind) (b : Grid) (s : Side) (q : Point) → is_empty b q ≡ false → five rule b s q ≡ false
 five_false rule b s q taken = false_from_ne_true _ (λ h. both_ways _ taken (five-empty rule b s q h))
@@ -83,64 +72,53 @@ module _ (rule : RuleKind) (b : Grid) (s : Side) (p : Point) (ok : IsBoard b) (e
   end_wins_same : (d : Axis) (w : Way) (q : Point) → run_end b s d w p ≡ Some q → (e : Axis) → e ≢ d → wins_on rule next s e q ≡ wins_on rule b s e q
   end_wins_same d w q here e other_axis = wins_same b s p ok empty rule q (end_apart b s p q d w here) e (λ v free there. other_axis (ends_differ b s p q e d v w there here))
 
-  only_next : (d : Axis) (w : Way) (q : Point) → run_end b s d w p ≡ Some q → five rule b s q ≡ false → five rule next s q ≡ wins_on rule next s d q
-  only_next d w q here none = by_axis (λ e. wins_on rule next s e q) d (λ e other_axis. end_wins_same d w q here e other_axis ∙ no_axis (λ e. wins_on rule b s e q) none e)
-
-  only_before : (d : Axis) (w : Way) (q : Point) → run_end b s d w p ≡ Some q → five rule next s q ≡ false → five rule b s q ≡ wins_on rule b s d q
-  only_before d w q here none = by_axis (λ e. wins_on rule b s e q) d (λ e other_axis. sym (end_wins_same d w q here e other_axis) ∙ no_axis (λ e. wins_on rule next s e q) none e)
-
   not_told : (v : Bool) (test : Point → Bool) (q : Point) → Apart p q → told_of p v test q ≡ test q
   not_told v test q apart = ap (λ r. cond r v (test q)) (apart-is_same_point p q apart)
 
-  told_itself : (v : Bool) (test : Point → Bool) → told_of p v test p ≡ v
-  told_itself v test = ap (λ r. cond r v (test p)) (is_same_point-itself p)
+  -- a list of the five points of f is one of those of g, once the point is told, where all others are the same
+  told_all : (points : List Point) (f g : Grid) (t : Side) (v : Bool) → five rule g t p ≡ v → ((q : Point) → Apart p q → five rule f t q ≡ five rule g t q)
+      → points ≡ filter (told_of p v (five rule f t)) (points_of b) → points ≡ filter (five rule g t) (points_of b)
+  told_all points f g t v here same listed = listed ∙ filter_agree b (told_of p v (five rule f t)) (five rule g t) (λ q on_q. elim (same_or_apart p q) [
+    | inl at ↦ subst (λ (r : Point). told_of p v (five rule f t) r ≡ five rule g t r) at (ap (λ r. cond r v (five rule f t p)) (is_same_point-itself p) ∙ sym here)
+    | inr apart ↦ not_told v (five rule f t) q apart ∙ same q apart
+  ])
 
-  -- ---- after the stone came
+  -- and but for the ends, where those are the same on all other axes
+  told_but_ends : (points : List Point) (room : ℕ) (f g : Grid) (v : Bool) → five rule g s p ≡ v
+      → ((q : Point) → Apart p q → ((d : Axis) (w : Way) → is_end g s d w p q ≡ false) → five rule f s q ≡ five rule g s q)
+      → ((d : Axis) (w : Way) (q : Point) → run_end g s d w p ≡ Some q → Apart p q × ((e : Axis) → e ≢ d → wins_on rule g s e q ≡ wins_on rule f s e q))
+      → g.width * g.height ≤ room → points ≡ filter (told_of p v (five rule f s)) (points_of g) → TellsButEnds rule g s p 0 points room
+  told_but_ends points room f g v here away ends fits listed = record {
+    test = told_of p v (five rule f s);
+    listed = listed;
+    fits = fits;
+    right = λ q on_q none. elim (same_or_apart p q) [
+      | inl at ↦ subst (λ (r : Point). told_of p v (five rule f s) r ≡ five rule g s r) at (ap (λ r. cond r v (five rule f s p)) (is_same_point-itself p) ∙ sym here)
+      | inr apart ↦ not_told v (five rule f s) q apart ∙ away q apart (λ d w. none d w (omega arith))
+    ];
+    only = λ d w q low end unlisted.
+        let other = ends d w q (end_is g s d w p q end) in
+        let none : five rule f s q ≡ false = sym (not_told v (five rule f s) q other.0) ∙ unlisted in
+        by_axis (λ e. wins_on rule g s e q) d (λ e other_axis. other.1 e other_axis ∙ no_axis (λ e. wins_on rule f s e q) none e);
+  }
 
-  still_free : (q : Point) → Apart p q → is_empty next q ≡ is_empty b q
-  still_free q apart = is_empty-put b s p q on apart
+  -- ---- after the stone came, and after it went
 
   pub played_but_ends : (points : List Point) (room : ℕ) → b.width * b.height ≤ room → points ≡ filter (told_of p false (five rule b s)) (points_of b) → TellsButEnds rule next s p 0 points room
-  played_but_ends points room fits listed = record {
-    test = told_of p false (five rule b s);
-    listed = listed;
-    fits = fits;
-    right = λ q on_q none. elim (same_or_apart p q) [
-      | inl same ↦ subst (λ (r : Point). told_of p false (five rule b s) r ≡ five rule next s r) same (told_itself false (five rule b s) ∙ sym (five_false rule next s p taken))
-      | inr apart ↦ not_told false (five rule b s) q apart ∙ sym (away_same q apart (λ d w free e. no_end next s d w p q (none d w (omega arith)) (still_free q apart ∙ free) (end_same b s p on d w ∙ e)))
-    ];
-    only = λ d w q low here unlisted.
-        let end : run_end b s d w p ≡ Some q = sym (end_same b s p on d w) ∙ end_is next s d w p q here in
-        only_next d w q end (sym (not_told false (five rule b s) q (end_apart b s p q d w end)) ∙ unlisted);
-  }
-
-  pub played_others : (points : List Point) → points ≡ filter (told_of p false (five rule b (other s))) (points_of b) → points ≡ five_points rule next (other s)
-  played_others points listed = listed ∙ filter_agree b (told_of p false (five rule b (other s))) (five rule next (other s)) (λ q on_q. elim (same_or_apart p q) [
-    | inl same ↦ subst (λ (r : Point). told_of p false (five rule b (other s)) r ≡ five rule next (other s) r) same (told_itself false (five rule b (other s)) ∙ sym (five_false rule next (other s) p taken))
-    | inr apart ↦ not_told false (five rule b (other s)) q apart ∙ sym (five-other b s p ok empty rule q apart)
-  ])
-
-  -- ---- after it went
+  played_but_ends points room = told_but_ends points room b next false (five_false rule next s p taken)
+      (λ q apart none. sym (away_same q apart (λ d w free e. no_end next s d w p q (none d w) (is_empty-put b s p q on apart ∙ free) (end_same b s p on d w ∙ e))))
+      (λ d w q here. let end = sym (end_same b s p on d w) ∙ here in (end_apart b s p q d w end, end_wins_same d w q end))
 
   pub undone_but_ends : (points : List Point) (room : ℕ) → b.width * b.height ≤ room → points ≡ filter (told_of p (five rule b s p) (five rule next s)) (points_of b) → TellsButEnds rule b s p 0 points room
-  undone_but_ends points room fits listed = record {
-    test = told_of p (five rule b s p) (five rule next s);
-    listed = listed;
-    fits = fits;
-    right = λ q on_q none. elim (same_or_apart p q) [
-      | inl same ↦ subst (λ (r : Point). told_of p (five rule b s p) (five rule next s) r ≡ five rule b s r) same (told_itself (five rule b s p) (five rule next s))
-      | inr apart ↦ not_told (five rule b s p) (five rule next s) q apart ∙ away_same q apart (λ d w free e. no_end b s d w p q (none d w (omega arith)) free e)
-    ];
-    only = λ d w q low here unlisted.
-        let end : run_end b s d w p ≡ Some q = end_is b s d w p q here in
-        only_before d w q end (sym (not_told (five rule b s p) (five rule next s) q (end_apart b s p q d w end)) ∙ unlisted);
-  }
+  undone_but_ends points room = told_but_ends points room next b (five rule b s p) refl
+      (λ q apart none. away_same q apart (λ d w free. no_end b s d w p q (none d w) free))
+      (λ d w q here. (end_apart b s p q d w here, λ e other_axis. sym (end_wins_same d w q here e other_axis)))
+
+  pub played_others : (points : List Point) → points ≡ filter (told_of p false (five rule b (other s))) (points_of b) → points ≡ five_points rule next (other s)
+  played_others points = told_all points b next (other s) false (five_false rule next (other s) p taken) (λ q apart. sym (five-other b s p ok empty rule q apart))
 
   pub undone_others : (points : List Point) → points ≡ filter (told_of p (five rule b (other s) p) (five rule next (other s))) (points_of b) → points ≡ five_points rule b (other s)
-  undone_others points listed = listed ∙ filter_agree b (told_of p (five rule b (other s) p) (five rule next (other s))) (five rule b (other s)) (λ q on_q. elim (same_or_apart p q) [
-    | inl same ↦ subst (λ (r : Point). told_of p (five rule b (other s) p) (five rule next (other s)) r ≡ five rule b (other s) r) same (told_itself (five rule b (other s) p) (five rule next (other s)))
-    | inr apart ↦ not_told (five rule b (other s) p) (five rule next (other s)) q apart ∙ five-other b s p ok empty rule q apart
-  ])
+  undone_others points = told_all points next b (other s) (five rule b (other s) p) refl (λ q apart. five-other b s p ok empty rule q apart)
 
 -- ---- the ends, one after another
 

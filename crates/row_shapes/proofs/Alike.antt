@@ -6,7 +6,7 @@ use Rattle.std.specs.Int.{bit_at}
 use Rattle.std.specs.List.{sum_by, range_with_len}
 use Rattle.std.proofs.lemmas.Bool.{cases_lt}
 use Rattle.std.proofs.lemmas.Bool.Decides.{nat_tests}
-use Rattle.game_rules.specs.Grid.{Grid, IsBoard, is_on, is_empty, holds, put, along}
+use Rattle.game_rules.specs.Grid.{Grid, IsBoard, is_on, is_empty, holds, along}
 use Rattle.game_rules.specs.Shapes.{row_wins, stone_at, run_of, wins_on, wins_at, is_straight, is_line_three_at}
 use Rattle.game_rules.specs.Ways.{towards, opposite, stones_towards, go, run_end}
 use Rattle.game_rules.specs.declared.RuleKind.{RuleKind}
