@@ -4,18 +4,18 @@ use Rattle.std.specs.Prelude.{Option, Some, None}
 use Rattle.std.specs.Option.{option_or, option_map, option_eq}
 use Rattle.std.specs.List.{list_any, list_all, find, cons_option, filter, filter_map, AllByRecursion}
 use Rattle.game_rules.specs.Shapes.{is_same_point}
+use Rattle.game_rules.specs.Points.{precedes}
 use Rattle.game_rules.specs.declared.Outcome.{Outcome}
 use Rattle.game_rules.specs.declared.Outcome.TheVariants.{Refused, Wins as WinsNow, Fouls, Draws, GoesOn}
 use Rattle.game_rules.specs.declared.Point.{Point}
 use Rattle.game_rules.proofs.Boards.{and_left, and_right}
-use Rattle.game_rules.proofs.Points.{is_same_point-itself, is_same_point-same}
+use Rattle.game_rules.proofs.Points.{is_same_point-itself, is_same_point-same, precedes-differs}
 use Rattle.strategy_graph.specs.declared.Node.{Node}
 use Rattle.strategy_graph.specs.declared.Reply.{Reply}
 use Rattle.strategy_graph.specs.declared.Rest.{Rest}
 use Rattle.strategy_graph.specs.declared.Rest.TheVariants.{Wins, To, Nothing}
-use Rattle.strategy_graph.specs.Tables.{Answers, listed_node, answer, rest_node, rest_nodes, named, precedes, is_rising, greatest}
+use Rattle.strategy_graph.specs.Tables.{Answers, listed_node, answer, rest_node, rest_nodes, named, is_rising, greatest}
 use Rattle.strategy_graph.specs.Acceptance.{Answered}
-use Rattle.strategy_graph.proofs.Rising.{precedes-differs}
 use Rattle.strategy_compiler.specs.Trees.{Tree, StandsFor, StandsForAll, AnswersBriefly, replies_of, commonest, answers_to}
 use Rattle.four_search.specs.Plans.{branch_if, branches_for}
 

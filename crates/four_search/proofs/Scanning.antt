@@ -2,7 +2,7 @@
 use Rattle.std.proofs.Common.{◌≡◌, ◌⊎◌, inl, inr, ◌+◌, ◌≤◌, Bool, true, false, ◌||◌, refl, sym, ap, subst, ◌∙◌, arith, List, [], ◌∷◌, map}
 use Rattle.std.specs.List.{filter, list_any}
 use Rattle.game_rules.specs.Grid.{Grid, IsBoard, is_on, is_empty, put, points_of}
-use Rattle.game_rules.specs.Shapes.{is_same_point, stones_ahead, stones_behind, run_of, wins_on, five}
+use Rattle.game_rules.specs.Shapes.{is_same_point, stones_ahead, stones_behind, wins_on, five}
 use Rattle.game_rules.specs.Play.{mover}
 use Rattle.game_rules.specs.Games.{has_five}
 use Rattle.game_rules.specs.declared.RuleKind.{RuleKind}
@@ -10,14 +10,16 @@ use Rattle.game_rules.specs.declared.Side.{Side}
 use Rattle.game_rules.specs.declared.Axis.{Axis}
 use Rattle.game_rules.specs.declared.Axis.TheVariants.{Row, Column, Down, Up}
 use Rattle.game_rules.specs.declared.Point.{Point}
-use Rattle.game_rules.proofs.Boards.{and_left, and_right, is_empty-on, run_of-put}
+use Rattle.game_rules.proofs.Axes.{some_axis}
+use Rattle.game_rules.proofs.Boards.{and_left, and_right, is_empty-on}
 use Rattle.game_rules.proofs.Points.{points-found, any_witness, is_same_point-itself, is_same_point-same}
 use Rattle.game_rules.proofs.Positions.{IsBoard-put}
+use Rattle.game_rules.proofs.Wins.{wins_on-stones, row_wins-five}
+use Rattle.game_rules.proofs.OneLine.{empty-before}
 use Rattle.four_search.specs.declared.makers.Maker.{Maker}
 use Rattle.four_search.specs.Gaps.{IsStoneGap}
 use Rattle.four_search.specs.Makers.{makes, maker_at, makers_of, has_maker, AreMakers, Joins}
-use Rattle.four_search.proofs.Covering.{empty-before, five_on}
-use Rattle.four_search.proofs.GapRuns.{InRun, in_run, five_stones, gap-from_runs, stone-in_run}
+use Rattle.four_search.proofs.GapRuns.{InRun, in_run, gap-from_runs, stone-in_run}
 use Rattle.four_search.proofs.Listing.{makers-all}
 
 -- ---- a gap from some stone
@@ -28,19 +30,17 @@ module _ (rule : RuleKind) (b : Grid) (s : Side) (q : Point) (ok : IsBoard b) (e
 
   gap_by : (r : Point) (d : Axis) → wins_on rule (put b s q) s d r ≡ true → SomeGap
   gap_by r d wins =
-      let open_r : is_empty (put b s q) r ≡ true = and_left (is_empty (put b s q) r) _ wins in
-      let free = empty-before b s q r ok empty open_r in
-      let run : InRun (put b s q) s d r q = in_run rule b s q r d ok empty none free.1 wins in
-      let many = five_stones rule s (run_of (put (put b s q) s r) s d r) (and_right (is_empty (put b s q) r) _ wins) in
-      let all = run_of-put (put b s q) s r (is_empty-on (put b s q) r open_r) (IsBoard-put b s q ok) d in
-      let long : 5 ≤ 1 + stones_ahead (put b s q) s d r + stones_behind (put b s q) s d r = omega (arith, many, all) in
+      let free = empty-before b s q r ok (is_empty-on b q empty) (and_left (is_empty (put b s q) r) _ wins) in
+      let run : InRun (put b s q) s d r q = in_run rule b s q r d ok empty none wins in
+      let long : 5 ≤ 1 + stones_ahead (put b s q) s d r + stones_behind (put b s q) s d r =
+      row_wins-five rule s _ (and_right (is_empty (put b s q) r) _ (sym (wins_on-stones rule (put b s q) s d r (IsBoard-put b s q ok)) ∙ wins)) in
       let stone = stone-in_run b s d q r ok empty free.1 run long in
       (stone.0, (stone.1, gap-from_runs rule b s d stone.0 q r ok stone.1 empty free.1 stone.2 run long))
 
   gap-some : has_five rule (put b s q) s ≡ true → SomeGap
   gap-some h =
       let some = any_witness (five rule (put b s q) s) (points_of (put b s q)) h in
-      let there = five_on rule (put b s q) s some.0 some.1 in
+      let there = some_axis (λ d. wins_on rule (put b s q) s d some.0) some.1 in
       gap_by some.0 there.0 there.1
 
 -- ---- stone after stone

@@ -1,17 +1,18 @@
 -- Gaps beside a stone: the empty points that stones of its side part from it.
-use Rattle.std.specs.Prelude.{◌≡◌, ℕ, ◌+◌, ◌≤◌, true, ◌⊎◌, if◌then◌else◌, Option, Some, None}
+use Rattle.std.specs.Prelude.{◌≡◌, ℕ, ◌+◌, ◌≤◌, true, ◌⊎◌, Option, Some}
 use Rattle.game_rules.specs.Grid.{Grid, is_empty, holds}
+use Rattle.game_rules.specs.Ways.{opposite, stones_towards, run_end}
 use Rattle.game_rules.specs.declared.Side.{Side}
 use Rattle.game_rules.specs.declared.Axis.{Axis}
 use Rattle.game_rules.specs.declared.Point.{Point}
-use Rattle.stone_board.specs.declared.board.Way.{Way}
-use Rattle.stone_board.specs.declared.board.Way.TheVariants.{Ahead, Behind}
-use Rattle.stone_board.specs.Steps.{towards, opposite, stones_towards}
+use Rattle.game_rules.specs.declared.Way.{Way}
+use Rattle.game_rules.specs.declared.Way.TheVariants.{Ahead, Behind}
+use Rattle.stone_board.specs.Steps.{kept_empty}
 use Rattle.four_search.specs.declared.gaps.Gaps.{Gaps}
 
 -- q is the point past the stones of the side next to p in that way
 abbrev pub IsPast : Grid → Side → Axis → Way → Point → Point → Type 0
-IsPast b s d w p q = towards w d p (1 + stones_towards w b s d p) ≡ Some q
+IsPast b s d w p q = run_end b s d w p ≡ Some q
 
 -- q and r are the first two gaps from the stone on p in that way; beside it, between them and past them stand three stones or
 -- more, with that on p
@@ -48,14 +49,9 @@ IsGap b s p x = (d : Axis) × IsGapOn b s d p x
 abbrev pub IsStoneGap : Grid → Side → Point → Point → Type 0
 IsStoneGap b s p x = (holds b s p ≡ true) × IsGap b s p x
 
--- the point, if there is one and it is empty
-abbrev pub kept_empty : Grid → Option Point → Option Point
-kept_empty b None = None
-kept_empty b (Some q) = if is_empty b q then Some q else None
-
 -- the point past the stones of the side next to p in that way, if it is on the board and empty
 abbrev pub next_gap : Grid → Side → Axis → Way → Point → Option Point
-next_gap b s d w p = kept_empty b (towards w d p (1 + stones_towards w b s d p))
+next_gap b s d w p = kept_empty b (run_end b s d w p)
 
 -- what stands from p in that way: stones, a gap, stones, a gap, stones
 pub record TellsGaps (b : Grid) (s : Side) (d : Axis) (w : Way) (p : Point) (g : Gaps) : Type 0 where

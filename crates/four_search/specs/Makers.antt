@@ -1,19 +1,17 @@
 -- The points at which a stone of the side to move makes a five point.
-use Rattle.std.specs.Prelude.{◌≡◌, ℕ, suc, ◌+◌, Bool, true, false, ◌&&◌, ◌||◌, ◌==◌, if◌then◌else◌, List, [], ◌∷◌, map}
+use Rattle.std.specs.Prelude.{◌≡◌, ℕ, suc, ◌+◌, Bool, true, false, ◌&&◌, if◌then◌else◌, List, [], ◌∷◌, map}
 use Rattle.std.specs.List.{filter, list_any}
 use Rattle.game_rules.specs.Grid.{Grid, is_empty, points_of}
 use Rattle.game_rules.specs.Shapes.{is_same_point}
 use Rattle.game_rules.specs.Play.{IsPosition, outcome, mover, after}
 use Rattle.game_rules.specs.Games.{has_five, five_points}
+use Rattle.game_rules.specs.Points.{precedes}
 use Rattle.game_rules.specs.declared.RuleKind.{RuleKind}
 use Rattle.game_rules.specs.declared.Outcome.TheVariants.{GoesOn}
-use Rattle.game_rules.specs.declared.Axis.{Axis}
-use Rattle.game_rules.specs.declared.Axis.TheVariants.{Row, Column, Down, Up}
 use Rattle.game_rules.specs.declared.Point.{Point}
 use Rattle.row_shapes.specs.FivePoints.{in_short}
 use Rattle.row_shapes.specs.declared.fives.FivePoints.{FivePoints}
 use Rattle.row_shapes.specs.declared.fives.FivePoints.TheVariants.{None, One, Several}
-use Rattle.strategy_graph.specs.Tables.{precedes}
 use Rattle.four_search.specs.declared.makers.Maker.{Maker}
 
 -- whether the point is empty, and with a stone on it the side to move has a five point
@@ -76,17 +74,6 @@ pub record AfterReply (rule : RuleKind) (ms : List Maker) (p w : Point) (b : Gri
   pub from : AfterFour rule ms p four
   pub on : outcome rule four w ≡ GoesOn
   pub is : b ≡ after four w
-
--- whether two points are on one line of the axis
-abbrev pub on_line : Axis → Point → Point → Bool
-on_line Row p q = p.y == q.y
-on_line Column p q = p.x == q.x
-on_line Down p q = p.x + q.y == q.x + p.y
-on_line Up p q = p.x + p.y == q.x + q.y
-
--- whether two points are on one line of some axis
-abbrev pub on_lines : Point → Point → Bool
-on_lines p q = on_line Row p q || on_line Column p q || on_line Down p q || on_line Up p q
 
 -- m is one of the points that made a five point in the lawful position from which b comes by the moves p and w
 pub record WasMaker (rule : RuleKind) (p w : Point) (b : Grid) (m : Maker) : Type 0 where

@@ -6,7 +6,7 @@
 
 ghost use Rattle.std.specs.Prelude.{◌≡◌, ◌<◌, true, IsTrue, Some};
 ghost use Rattle.game_rules.specs.Grid.{is_on};
-ghost use Rattle.stone_board.specs.Steps.{stones_towards as stones_towards_lem};
+ghost use Rattle.game_rules.specs.Ways.{stones_towards as stones_towards_lem};
 ghost use Rattle.four_search.specs.Gaps.{next_gap as next_gap_lem, TellsGaps};
 ghost use Rattle.game_rules.specs.declared.Point.{Point};
 

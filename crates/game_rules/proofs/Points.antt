@@ -1,12 +1,13 @@
 -- Facts about all points of a board: lists, tests, and points off the board.
 use Rattle.std.proofs.Common.{◌≡◌, ℕ, Bool, true, false, ◌&&◌, ◌||◌, not, cond, refl, sym, ap, subst, ◌∙◌, arith, List, [], ◌∷◌, map, nat_eq, eq-eqb}
 use Rattle.std.specs.List.{list_any, list_all, filter, flat_map, range_with_len}
-use Rattle.std.specs.Prelude.{Option, Some, None}
+use Rattle.std.specs.Prelude.{Option, Some, None, nat_lt, ◌==◌}
 use Rattle.std.proofs.lemmas.Bool.{false_from_ne_true}
 use Rattle.std.proofs.lemmas.Bool.Decides.{nat_tests}
 use Rattle.std.proofs.lemmas.List.Folds.{list_any-append}
 use Rattle.game_rules.specs.Grid.{Grid, is_on, is_empty, points_of, row_from}
-use Rattle.game_rules.specs.Shapes.{five, is_same_point}
+use Rattle.game_rules.specs.Points.{precedes}
+use Rattle.game_rules.specs.Shapes.{five, is_at, is_same_point}
 use Rattle.game_rules.specs.Play.{outcome, outcome_by, foul_of, mover}
 use Rattle.game_rules.specs.Games.{WinsOr}
 use Rattle.game_rules.specs.declared.RuleKind.{RuleKind}
@@ -92,6 +93,34 @@ is_same_point-apart w q h = record {
 
 pub apart-is_same_point : (p q : Point) → Apart p q → is_same_point p q ≡ false
 apart-is_same_point p q apart = false_from_ne_true (is_same_point p q) (λ e. not-apart q (subst (λ (r : Point). Apart r q) (is_same_point-same p q e) apart))
+
+-- where there is a point, and it is q
+pub is_at-here : (q : Point) (o : Option Point) → o ≡ Some q → is_at q o ≡ true
+is_at-here q o e = rw e (is_same_point-itself q)
+
+pub is_at-Some : (q : Point) (o : Option Point) → is_at q o ≡ true → o ≡ Some q
+is_at-Some q None h = cc
+is_at-Some q (Some p) h = ap Some (sym (is_same_point-same q p h))
+
+-- ---- the order of points
+
+precedes-by : (a b c x y z : ℕ) → (nat_lt a b || (a == b && nat_lt x y)) ≡ true → (nat_lt b c || (b == c && nat_lt y z)) ≡ true → (nat_lt a c || (a == c && nat_lt x z)) ≡ true
+precedes-by a b c x y z h k = grind (arith, nat_tests)
+
+pub precedes-trans : (p q r : Point) → precedes p q ≡ true → precedes q r ≡ true → precedes p r ≡ true
+precedes-trans p q r h k = precedes-by p.y q.y r.y p.x q.x r.x h k
+
+precedes-differs_by : (a b c d : ℕ) → (nat_lt b d || (b == d && nat_lt a c)) ≡ true → (a == c && b == d) ≡ false
+precedes-differs_by a b c d h = grind (arith, nat_tests)
+
+-- a point before another is not the same
+pub precedes-differs : (p q : Point) → precedes p q ≡ true → is_same_point p q ≡ false
+precedes-differs p q h = precedes-differs_by p.x p.y q.x q.y h
+
+pub precedes-differs_back : (p q : Point) → precedes p q ≡ true → is_same_point q p ≡ false
+precedes-differs_back p q h = back_by p.x p.y q.x q.y h where
+  back_by : (a b c d : ℕ) → (nat_lt b d || (b == d && nat_lt a c)) ≡ true → (c == a && d == b) ≡ false
+  back_by a b c d h = grind (arith, nat_tests)
 
 -- ---- the points that pass a test
 

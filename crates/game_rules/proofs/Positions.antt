@@ -71,11 +71,12 @@ module _ (b : Grid) (s : Side) (p : Point) (ok : IsBoard b) (empty : is_empty b 
     | inr apart ↦ holds-put_other b s t p q on_p apart
   ]
 
-  stone_at-more : (o : Option Point) → stone_at b s o ≡ true → stone_at (put b s p) s o ≡ true
+  -- and none of its own goes
+  pub stone_at-more : (o : Option Point) → stone_at b s o ≡ true → stone_at (put b s p) s o ≡ true
   stone_at-more None h = h
   stone_at-more (Some q) h = holds-put_more b s p q ok empty h
 
-  not_before : (o : Option Point) → stone_at (put b s p) s o ≡ false → stone_at b s o ≡ false
+  pub not_before : (o : Option Point) → stone_at (put b s p) s o ≡ false → stone_at b s o ≡ false
   not_before o h = by_test (stone_at b s o) refl where
     by_test : (r : Bool) → stone_at b s o ≡ r → r ≡ false
     by_test false e = refl

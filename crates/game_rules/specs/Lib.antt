@@ -1,6 +1,9 @@
 pub mod Grid
+pub mod Points
+pub mod Lines
 pub mod Fours
 pub mod Shapes
+pub mod Ways
 pub mod Play
 pub mod Games
 pub mod Laws

@@ -1,7 +1,7 @@
 //! The rules of five in a row: the plain types that every layer speaks of, and, in `specs/`, the definitions of
 //! boards, runs, fives, fours, threes, fouls, outcomes, lawful positions and won games.
 //!
-//! The crate computes nothing but the other side. What it offers to the layers above are these types, the words of its `specs/`, and the
+//! The crate computes nothing but the other side, the other way, and how two points stand to each other. What it offers to the layers above are these types, the words of its `specs/`, and the
 //! laws about those words: the main ones as contracts, all of them in its `proofs/Lib.antt`.
 //!
 //! Sources: the RIF Rules of Renju for fours, straight fours, threes, overlines and the fouls of Black. Which
@@ -60,11 +60,66 @@ pub enum Axis {
     Up,
 }
 
+/// The two ways along an axis from a point: a step ahead adds what the axis says, a step behind takes it away.
+#[derive(Clone, Copy, Debug, PartialEq, Eq)]
+pub enum Way {
+    Ahead,
+    Behind,
+}
+
+impl Way {
+    ghost use Rattle.std.specs.Prelude.{◌≡◌};
+    ghost use Rattle.game_rules.specs.Ways.{opposite as opposite_lem};
+
+    /// The other way.
+    pub fn opposite(self) -> Way
+        ensures opposite { result ≡ opposite_lem self }
+    {
+        match self {
+            Way::Ahead => Way::Behind,
+            Way::Behind => Way::Ahead,
+        }
+    }
+}
+
 /// A point: its column `x` and its row `y`, both counted from 0. Reading order is by y, then by x.
 #[derive(Clone, Copy, Debug, Default, PartialEq, Eq, Hash)]
 pub struct Point {
     pub x: u8,
     pub y: u8,
+}
+
+impl Point {
+    ghost use Rattle.std.specs.Prelude.{◌≡◌};
+    ghost use Rattle.game_rules.specs.Shapes.{is_same_point};
+    ghost use Rattle.game_rules.specs.Lines.{is_aligned as is_aligned_lem};
+    ghost use Rattle.game_rules.specs.Points.{precedes as precedes_lem};
+
+    /// Whether it is that point.
+    #[inline(always)]
+    pub fn is(self, other: Point) -> bool
+        ensures same { result ≡ is_same_point self other }
+    {
+        self.x == other.x && self.y == other.y
+    }
+
+    /// Whether it comes before that point in reading order.
+    #[inline(always)]
+    pub fn precedes(self, other: Point) -> bool
+        ensures precedes { result ≡ precedes_lem self other }
+    {
+        self.y < other.y || self.y == other.y && self.x < other.x
+    }
+
+    /// Whether the two points are on one line of some axis. They need be on no board.
+    #[inline(always)]
+    pub fn is_aligned(self, other: Point) -> bool
+        ensures aligned { result ≡ is_aligned_lem self other }
+    {
+        let (x, y) = (u16::from(self.x), u16::from(self.y));
+        let (other_x, other_y) = (u16::from(other.x), u16::from(other.y));
+        other_y == y || other_x == x || other_x + y == x + other_y || other_x + other_y == x + y
+    }
 }
 
 /// What a look at a place finds: a place off the board, or a point and what stands on it.

@@ -1,76 +1,55 @@
 -- The list of the five points, end by end.
-use Rattle.std.proofs.Common.{◌≡◌, ◌≢◌, ◌⊎◌, inl, inr, ℕ, ◌*◌, ◌≤◌, Bool, true, false, cond, ◌&&◌, ◌||◌, List, [], refl, sym, ap, subst, ◌∙◌}
-use Rattle.std.specs.Prelude.{Option, Some, None}
+use Rattle.std.proofs.Common.{◌≡◌, ◌≢◌, inl, inr, ℕ, ◌+◌, ◌*◌, ◌%◌, ◌≤◌, ◌<◌, Bool, true, false, cond, ◌&&◌, ◌||◌, List, [], refl, sym, ap, subst, ◌∙◌, arith}
+use Rattle.std.specs.Prelude.{Option, Some, None, nat_lt, ◌==◌, if◌then◌else◌}
 use Rattle.std.specs.List.{list_any, filter}
-use Rattle.std.proofs.lemmas.Bool.{false_from_ne_true}
+use Rattle.std.proofs.lemmas.Bool.{and_from, both_ways, cases_lt, false_from_ne_true}
+use Rattle.std.proofs.Math.Bool.{or-false}
 use Rattle.game_rules.specs.Grid.{Grid, IsBoard, is_on, is_empty, put, points_of, axes}
 use Rattle.game_rules.specs.Shapes.{five, wins_on, is_at}
 use Rattle.game_rules.specs.Games.{five_points}
 use Rattle.game_rules.specs.Play.{other}
+use Rattle.game_rules.specs.Ways.{run_end}
 use Rattle.game_rules.specs.declared.RuleKind.{RuleKind}
 use Rattle.game_rules.specs.declared.Side.{Side}
 use Rattle.game_rules.specs.declared.Axis.{Axis}
 use Rattle.game_rules.specs.declared.Axis.TheVariants.{Row, Column, Down, Up}
+use Rattle.game_rules.specs.declared.Way.{Way}
+use Rattle.game_rules.specs.declared.Way.TheVariants.{Ahead, Behind}
 use Rattle.game_rules.specs.declared.Point.{Point}
 use Rattle.game_rules.proofs.Axes.{no_axis}
 use Rattle.game_rules.proofs.Boards.{Apart, and_left, and_right, same_or_apart, is_empty-on, empty_holds, holds-put_same, is_empty-put}
-use Rattle.game_rules.proofs.Fives.{five-empty}
-use Rattle.game_rules.proofs.Points.{is_same_point-same, is_same_point-itself, apart-is_same_point, filter-none, points-found}
-use Rattle.stone_board.specs.declared.board.Way.{Way}
-use Rattle.stone_board.specs.declared.board.Way.TheVariants.{Ahead, Behind}
-use Rattle.line_tables.specs.Lists.{told_of}
-use Rattle.line_tables.specs.Tables.{DecidesEnd, TellsButEnds, run_end, is_end, told_end}
-use Rattle.line_tables.proofs.FiveLists.{filter_agree}
-use Rattle.line_tables.proofs.RunEnds.{wins_same, other_five, ends_differ, end_apart, end_same}
+use Rattle.game_rules.proofs.Fives.{five-empty, five-other}
+use Rattle.game_rules.proofs.Points.{is_at-here, is_at-Some, is_same_point-itself, apart-is_same_point, filter-none, points-found}
+use Rattle.game_rules.proofs.RunEnds.{wins_same, ends_differ, end_apart, end_same}
+use Rattle.line_tables.specs.Lists.{told_of, with_told}
+use Rattle.line_tables.specs.Tables.{TellsSide, TellsButEnds, is_end, end_number}
+use Rattle.line_tables.proofs.FiveLists.{filter_agree, filter_told}
 
 -- ---- one end
 
-is_at-is : (q : Point) (o : Option Point) → is_at q o ≡ true → o ≡ Some q
-is_at-is q None h = cc
-is_at-is q (Some r) h = ap Some (sym (is_same_point-same q r h))
-
-is_at-none : (q : Point) (o : Option Point) → o ≡ Some q → is_at q o ≡ true
-is_at-none q o h = ap (is_at q) h ∙ is_same_point-itself q
-
 pub end_is : (b : Grid) (s : Side) (d : Axis) (w : Way) (p q : Point) → is_end b s d w p q ≡ true → run_end b s d w p ≡ Some q
-end_is b s d w p q h = is_at-is q _ (and_right (is_empty b q) _ h)
+end_is b s d w p q h = is_at-Some q _ (and_right (is_empty b q) _ h)
 
 pub end_free : (b : Grid) (s : Side) (d : Axis) (w : Way) (p q : Point) → is_end b s d w p q ≡ true → is_empty b q ≡ true
 end_free b s d w p q h = and_left (is_empty b q) _ h
 
-both_true : (a c : Bool) → a ≡ true → c ≡ true → (a && c) ≡ true
-both_true true c h k = k
-both_true false c h k = cc
-
 pub end_yes : (b : Grid) (s : Side) (d : Axis) (w : Way) (p q : Point) → is_empty b q ≡ true → run_end b s d w p ≡ Some q → is_end b s d w p q ≡ true
-end_yes b s d w p q free h = both_true (is_empty b q) _ free (is_at-none q _ h)
+end_yes b s d w p q free h = and_from (is_empty b q) _ free (is_at-here q _ h)
 
 no_end : (b : Grid) (s : Side) (d : Axis) (w : Way) (p q : Point) → is_end b s d w p q ≡ false → is_empty b q ≡ true → run_end b s d w p ≢ Some q
-no_end b s d w p q h free e = let yes = end_yes b s d w p q free e in let differ : false ≡ true = sym h ∙ yes in absurd (cc)
+no_end b s d w p q h free e = both_ways _ h (end_yes b s d w p q free e)
 
 -- ---- five points by one axis
 
 -- where no other axis wins, the one decides
 by_axis : (f : Axis → Bool) (d : Axis) → ((e : Axis) → e ≢ d → f e ≡ false) → list_any f axes ≡ f d
-by_axis f Row h = rw (h Column (λ e. cc), h Down (λ e. cc), h Up (λ e. cc)) (last (f Row)) where
-  last : (r : Bool) → (r || false) ≡ r
-  last true = refl
-  last false = refl
-by_axis f Column h = rw (h Row (λ e. cc), h Down (λ e. cc), h Up (λ e. cc)) (last (f Column)) where
-  last : (r : Bool) → (r || false) ≡ r
-  last true = refl
-  last false = refl
-by_axis f Down h = rw (h Row (λ e. cc), h Column (λ e. cc), h Up (λ e. cc)) (last (f Down)) where
-  last : (r : Bool) → (r || false) ≡ r
-  last true = refl
-  last false = refl
-by_axis f Up h = rw (h Row (λ e. cc), h Column (λ e. cc), h Down (λ e. cc)) (last (f Up)) where
-  last : (r : Bool) → (r || false) ≡ r
-  last true = refl
-  last false = refl
+by_axis f Row h = rw (h Column (λ e. cc), h Down (λ e. cc), h Up (λ e. cc)) (or-false (f Row))
+by_axis f Column h = rw (h Row (λ e. cc), h Down (λ e. cc), h Up (λ e. cc)) (or-false (f Column))
+by_axis f Down h = rw (h Row (λ e. cc), h Column (λ e. cc), h Up (λ e. cc)) (or-false (f Down))
+by_axis f Up h = rw (h Row (λ e. cc), h Column (λ e. cc), h Down (λ e. cc)) (or-false (f Up))
 
 five_false : (rule : RuleKind) (b : Grid) (s : Side) (q : Point) → is_empty b q ≡ false → five rule b s q ≡ false
-five_false rule b s q taken = false_from_ne_true _ (λ h. let free = five-empty rule b s q h in let differ : false ≡ true = sym taken ∙ free in cc)
+five_false rule b s q taken = false_from_ne_true _ (λ h. both_ways _ taken (five-empty rule b s q h))
 
 same_fives : (rule : RuleKind) (b c : Grid) (s : Side) (q : Point) → ((d : Axis) → wins_on rule c s d q ≡ wins_on rule b s d q) → five rule c s q ≡ five rule b s q
 same_fives rule b c s q h = rw (h Row, h Column, h Down, h Up) refl
@@ -83,7 +62,7 @@ module _ (rule : RuleKind) (b : Grid) (s : Side) (p : Point) (ok : IsBoard b) (e
   next = put b s p
 
   taken : is_empty next p ≡ false
-  taken = false_from_ne_true _ (λ free. let bare = empty_holds next s p free in let mine = holds-put_same b s p ok on in let differ : false ≡ true = sym bare ∙ mine in cc)
+  taken = false_from_ne_true _ (λ free. both_ways _ (empty_holds next s p free) (holds-put_same b s p ok on))
 
   -- a point that is no end before the stone comes, nor its own, stays what it is
   away_same : (q : Point) → Apart p q → ((d : Axis) (w : Way) → is_empty b q ≡ true → run_end b s d w p ≢ Some q) → five rule next s q ≡ five rule b s q
@@ -93,127 +72,132 @@ module _ (rule : RuleKind) (b : Grid) (s : Side) (p : Point) (ok : IsBoard b) (e
   end_wins_same : (d : Axis) (w : Way) (q : Point) → run_end b s d w p ≡ Some q → (e : Axis) → e ≢ d → wins_on rule next s e q ≡ wins_on rule b s e q
   end_wins_same d w q here e other_axis = wins_same b s p ok empty rule q (end_apart b s p q d w here) e (λ v free there. other_axis (ends_differ b s p q e d v w there here))
 
-  only_next : (d : Axis) (w : Way) (q : Point) → run_end b s d w p ≡ Some q → five rule b s q ≡ false → five rule next s q ≡ wins_on rule next s d q
-  only_next d w q here none = by_axis (λ e. wins_on rule next s e q) d (λ e other_axis. end_wins_same d w q here e other_axis ∙ no_axis (λ e. wins_on rule b s e q) none e)
-
-  only_before : (d : Axis) (w : Way) (q : Point) → run_end b s d w p ≡ Some q → five rule next s q ≡ false → five rule b s q ≡ wins_on rule b s d q
-  only_before d w q here none = by_axis (λ e. wins_on rule b s e q) d (λ e other_axis. sym (end_wins_same d w q here e other_axis) ∙ no_axis (λ e. wins_on rule next s e q) none e)
-
   not_told : (v : Bool) (test : Point → Bool) (q : Point) → Apart p q → told_of p v test q ≡ test q
   not_told v test q apart = ap (λ r. cond r v (test q)) (apart-is_same_point p q apart)
 
-  told_itself : (v : Bool) (test : Point → Bool) → told_of p v test p ≡ v
-  told_itself v test = ap (λ r. cond r v (test p)) (is_same_point-itself p)
+  -- a list of the five points of f is one of those of g, once the point is told, where all others are the same
+  told_all : (points : List Point) (f g : Grid) (t : Side) (v : Bool) → five rule g t p ≡ v → ((q : Point) → Apart p q → five rule f t q ≡ five rule g t q)
+      → points ≡ filter (told_of p v (five rule f t)) (points_of b) → points ≡ filter (five rule g t) (points_of b)
+  told_all points f g t v here same listed = listed ∙ filter_agree b (told_of p v (five rule f t)) (five rule g t) (λ q on_q. elim (same_or_apart p q) [
+    | inl at ↦ subst (λ (r : Point). told_of p v (five rule f t) r ≡ five rule g t r) at (ap (λ r. cond r v (five rule f t p)) (is_same_point-itself p) ∙ sym here)
+    | inr apart ↦ not_told v (five rule f t) q apart ∙ same q apart
+  ])
 
-  -- ---- after the stone came
-
-  still_free : (q : Point) → Apart p q → is_empty next q ≡ is_empty b q
-  still_free q apart = is_empty-put b s p q on apart
-
-  pub played_but_ends : (points : List Point) (room : ℕ) → b.width * b.height ≤ room → points ≡ filter (told_of p false (five rule b s)) (points_of b) → TellsButEnds rule next s p points room
-  played_but_ends points room fits listed = record {
-    test = told_of p false (five rule b s);
+  -- and but for the ends, where those are the same on all other axes
+  told_but_ends : (points : List Point) (room : ℕ) (f g : Grid) (v : Bool) → five rule g s p ≡ v
+      → ((q : Point) → Apart p q → ((d : Axis) (w : Way) → is_end g s d w p q ≡ false) → five rule f s q ≡ five rule g s q)
+      → ((d : Axis) (w : Way) (q : Point) → run_end g s d w p ≡ Some q → Apart p q × ((e : Axis) → e ≢ d → wins_on rule g s e q ≡ wins_on rule f s e q))
+      → g.width * g.height ≤ room → points ≡ filter (told_of p v (five rule f s)) (points_of g) → TellsButEnds rule g s p 0 points room
+  told_but_ends points room f g v here away ends fits listed = record {
+    test = told_of p v (five rule f s);
     listed = listed;
     fits = fits;
     right = λ q on_q none. elim (same_or_apart p q) [
-      | inl same ↦ subst (λ (r : Point). told_of p false (five rule b s) r ≡ five rule next s r) same (told_itself false (five rule b s) ∙ sym (five_false rule next s p taken))
-      | inr apart ↦ not_told false (five rule b s) q apart ∙ sym (away_same q apart (λ d w free e. no_end next s d w p q (none d w) (still_free q apart ∙ free) (end_same b s p on d w ∙ e)))
+      | inl at ↦ subst (λ (r : Point). told_of p v (five rule f s) r ≡ five rule g s r) at (ap (λ r. cond r v (five rule f s p)) (is_same_point-itself p) ∙ sym here)
+      | inr apart ↦ not_told v (five rule f s) q apart ∙ away q apart (λ d w. none d w (omega arith))
     ];
-    only = λ d w q here unlisted.
-        let end : run_end b s d w p ≡ Some q = sym (end_same b s p on d w) ∙ end_is next s d w p q here in
-        only_next d w q end (sym (not_told false (five rule b s) q (end_apart b s p q d w end)) ∙ unlisted);
+    only = λ d w q low end unlisted.
+        let other = ends d w q (end_is g s d w p q end) in
+        let none : five rule f s q ≡ false = sym (not_told v (five rule f s) q other.0) ∙ unlisted in
+        by_axis (λ e. wins_on rule g s e q) d (λ e other_axis. other.1 e other_axis ∙ no_axis (λ e. wins_on rule f s e q) none e);
   }
+
+  -- ---- after the stone came, and after it went
+
+  pub played_but_ends : (points : List Point) (room : ℕ) → b.width * b.height ≤ room → points ≡ filter (told_of p false (five rule b s)) (points_of b) → TellsButEnds rule next s p 0 points room
+  played_but_ends points room = told_but_ends points room b next false (five_false rule next s p taken)
+      (λ q apart none. sym (away_same q apart (λ d w free e. no_end next s d w p q (none d w) (is_empty-put b s p q on apart ∙ free) (end_same b s p on d w ∙ e))))
+      (λ d w q here. let end = sym (end_same b s p on d w) ∙ here in (end_apart b s p q d w end, end_wins_same d w q end))
+
+  pub undone_but_ends : (points : List Point) (room : ℕ) → b.width * b.height ≤ room → points ≡ filter (told_of p (five rule b s p) (five rule next s)) (points_of b) → TellsButEnds rule b s p 0 points room
+  undone_but_ends points room = told_but_ends points room next b (five rule b s p) refl
+      (λ q apart none. away_same q apart (λ d w free. no_end b s d w p q (none d w) free))
+      (λ d w q here. (end_apart b s p q d w here, λ e other_axis. sym (end_wins_same d w q here e other_axis)))
 
   pub played_others : (points : List Point) → points ≡ filter (told_of p false (five rule b (other s))) (points_of b) → points ≡ five_points rule next (other s)
-  played_others points listed = listed ∙ filter_agree b (told_of p false (five rule b (other s))) (five rule next (other s)) (λ q on_q. elim (same_or_apart p q) [
-    | inl same ↦ subst (λ (r : Point). told_of p false (five rule b (other s)) r ≡ five rule next (other s) r) same (told_itself false (five rule b (other s)) ∙ sym (five_false rule next (other s) p taken))
-    | inr apart ↦ not_told false (five rule b (other s)) q apart ∙ sym (other_five b s p ok empty rule q apart)
-  ])
-
-  -- ---- after it went
-
-  pub undone_but_ends : (points : List Point) (room : ℕ) → b.width * b.height ≤ room → points ≡ filter (told_of p (five rule b s p) (five rule next s)) (points_of b) → TellsButEnds rule b s p points room
-  undone_but_ends points room fits listed = record {
-    test = told_of p (five rule b s p) (five rule next s);
-    listed = listed;
-    fits = fits;
-    right = λ q on_q none. elim (same_or_apart p q) [
-      | inl same ↦ subst (λ (r : Point). told_of p (five rule b s p) (five rule next s) r ≡ five rule b s r) same (told_itself (five rule b s p) (five rule next s))
-      | inr apart ↦ not_told (five rule b s p) (five rule next s) q apart ∙ away_same q apart (λ d w free e. no_end b s d w p q (none d w) free e)
-    ];
-    only = λ d w q here unlisted.
-        let end : run_end b s d w p ≡ Some q = end_is b s d w p q here in
-        only_before d w q end (sym (not_told (five rule b s p) (five rule next s) q (end_apart b s p q d w end)) ∙ unlisted);
-  }
+  played_others points = told_all points b next (other s) false (five_false rule next (other s) p taken) (λ q apart. sym (five-other b s p ok empty rule q apart))
 
   pub undone_others : (points : List Point) → points ≡ filter (told_of p (five rule b (other s) p) (five rule next (other s))) (points_of b) → points ≡ five_points rule b (other s)
-  undone_others points listed = listed ∙ filter_agree b (told_of p (five rule b (other s) p) (five rule next (other s))) (five rule b (other s)) (λ q on_q. elim (same_or_apart p q) [
-    | inl same ↦ subst (λ (r : Point). told_of p (five rule b (other s) p) (five rule next (other s)) r ≡ five rule b (other s) r) same (told_itself (five rule b (other s) p) (five rule next (other s)))
-    | inr apart ↦ not_told (five rule b (other s) p) (five rule next (other s)) q apart ∙ other_five b s p ok empty rule q apart
-  ])
+  undone_others points = told_all points next b (other s) (five rule b (other s) p) refl (λ q apart. five-other b s p ok empty rule q apart)
 
--- ---- all ends, one after another
+-- ---- the ends, one after another
 
--- a test told anew answers as it did, or rightly
-told_or_kept : (c f t r : Bool) → (t ≡ f) ⊎ (t ≡ r) → (cond c f t ≡ f) ⊎ (cond c f t ≡ r)
-told_or_kept true f t r h = inl refl
-told_or_kept false f t r h = h
+-- the end with a number
+abbrev axis_at : ℕ → Axis
+axis_at n = if nat_lt n 2 then Row else if nat_lt n 4 then Column else if nat_lt n 6 then Down else Up
 
--- it is right where it is told, or was right
-told_right : (c f t : Bool) → (c ≡ false → t ≡ f) → cond c f t ≡ f
-told_right true f t h = refl
-told_right false f t h = h refl
+abbrev way_at : ℕ → Way
+way_at n = if n % 2 == 0 then Ahead else Behind
+
+numbered : (d : Axis) (w : Way) → (axis_at (end_number d w) ≡ d) × (way_at (end_number d w) ≡ w) × (end_number d w < 8)
+numbered Row Ahead = (refl, refl, omega arith)
+numbered Row Behind = (refl, refl, omega arith)
+numbered Column Ahead = (refl, refl, omega arith)
+numbered Column Behind = (refl, refl, omega arith)
+numbered Down Ahead = (refl, refl, omega arith)
+numbered Down Behind = (refl, refl, omega arith)
+numbered Up Ahead = (refl, refl, omega arith)
+numbered Up Behind = (refl, refl, omega arith)
 
 module _ (rule : RuleKind) (b : Grid) (s : Side) (p : Point) where
-  abbrev pub told : Axis → Way → (Point → Bool) → Point → Bool
-  told d w test = told_end rule b s d w p test
+  -- where no end from the k-th on is left, the list is right
+  pub all_told : (points : List Point) (room : ℕ) → TellsButEnds rule b s p 8 points room → TellsSide rule b s points room
+  all_told points room h = record {
+    told = h.listed ∙ filter_agree b h.test (five rule b s) (λ q on_q. h.right q on_q (λ d w high. absurd (let few = (numbered d w).2 in omega (arith, few, high))));
+    fits = h.fits;
+  }
 
-  -- answers that are right, or those of the first test
-  pub record Between (first test : Point → Bool) : Type 0 where
-    pub each : (q : Point) → (test q ≡ five rule b s q) ⊎ (test q ≡ first q)
+  module _ (d : Axis) (w : Way) (points : List Point) (room : ℕ) (h : TellsButEnds rule b s p (end_number d w) points room) where
+    -- an end from there on is this one or one from the next on
+    next_on : (q : Point) → is_end b s d w p q ≡ false → ((e : Axis) (v : Way) → 1 + end_number d w ≤ end_number e v → is_end b s e v p q ≡ false) → (e : Axis) (v : Way) → end_number d w ≤ end_number e v → is_end b s e v p q ≡ false
+    next_on q here away e v low = elim (cases_lt (end_number d w) (end_number e v)) [
+      | inl later ↦ away e v (omega arith)
+      | inr same ↦
+          let number : end_number d w ≡ end_number e v = omega arith in
+          let axis : d ≡ e = sym (numbered d w).0 ∙ ap axis_at number ∙ (numbered e v).0 in
+          let way : w ≡ v = sym (numbered d w).1 ∙ ap way_at number ∙ (numbered e v).1 in
+          ap (λ (v : Way). is_end b s e v p q) (sym way) ∙ ap (λ (e : Axis). is_end b s e w p q) (sym axis) ∙ here
+    ]
 
-  pub between_start : (first : Point → Bool) → Between first first
-  between_start first = record { each = λ q. inr refl }
+    -- where nothing is listed, only the axis decides
+    pub end_decides : (q : Point) → is_empty b q ≡ true → run_end b s d w p ≡ Some q → points ≡ [] → five rule b s q ≡ wins_on rule b s d q
+    end_decides q free here none = h.only d w q (omega arith) (end_yes b s d w p q free here)
+        (false_from_ne_true _ (λ yes. both_ways _ (filter-none h.test (points_of b) (sym h.listed ∙ none)) (points-found b h.test q (is_empty-on b q free) yes)))
 
-  pub between_next : (first test : Point → Bool) (d : Axis) (w : Way) → Between first test → Between first (told d w test)
-  between_next first test d w h = record { each = λ q. told_or_kept (is_end b s d w p q) (five rule b s q) (test q) (first q) (h.each q) }
+    -- where there is no such end, nothing has to be told
+    pub none_told : ((q : Point) → is_end b s d w p q ≡ false) → TellsButEnds rule b s p (1 + end_number d w) points room
+    none_told none = record {
+      test = h.test;
+      listed = h.listed;
+      fits = h.fits;
+      right = λ q on_q away. h.right q on_q (next_on q (none q) away);
+      only = λ e v q low. h.only e v q (omega arith);
+    }
 
-  -- where nothing is listed, only the axis decides
-  pub decides_end : (points : List Point) (room : ℕ) (h : TellsButEnds rule b s p points room) (test : Point → Bool) → Between h.test test → (now : List Point) → now ≡ filter test (points_of b) → now ≡ [] → (d : Axis) (w : Way) → DecidesEnd rule b s d w p
-  decides_end points room h test between now listed none d w = record {
-    only = λ q end.
-        let unlisted : test q ≡ false = not_listed q (is_empty-on b q (end_free b s d w p q end)) in
-        elim (between.each q) [
-          | inl right ↦ let no : five rule b s q ≡ false = sym right ∙ unlisted in no ∙ sym (no_axis (λ e. wins_on rule b s e q) no d)
-          | inr first ↦ h.only d w q end (sym first ∙ unlisted)
-        ];
-  } where
-    not_listed : (q : Point) → is_on b q ≡ true → test q ≡ false
-    not_listed q on_q = false_from_ne_true _ (λ yes.
-        let some = points-found b test q on_q yes in
-        let no = filter-none test (points_of b) (sym listed ∙ none) in
-        let differ : false ≡ true = sym no ∙ some in
-        cc)
+    -- where there is one, it is told
+    pub end_told : (q : Point) → is_empty b q ≡ true → run_end b s d w p ≡ Some q → (now : List Point) (more : ℕ) → now ≡ with_told q (five rule b s q) points → room ≤ more → TellsButEnds rule b s p (1 + end_number d w) now more
+    end_told q free here now more e low = record {
+      test = told_of q (five rule b s q) h.test;
+      listed = e ∙ ap (with_told q (five rule b s q)) h.listed ∙ filter_told b q (five rule b s q) h.test (is_empty-on b q free);
+      fits = let fits = h.fits in omega arith;
+      right = λ r on_r away. elim (same_or_apart q r) [
+        | inl same ↦ subst (λ (r : Point). told_of q (five rule b s q) h.test r ≡ five rule b s r) same itself
+        | inr apart ↦ kept r apart ∙ h.right r on_r (next_on r (no_other r apart) away)
+      ];
+      only = λ a v r number end unlisted. elim (same_or_apart q r) [
+        | inl same ↦ subst (λ (r : Point). told_of q (five rule b s q) h.test r ≡ false → five rule b s r ≡ wins_on rule b s a r) same
+            (λ no. let none : five rule b s q ≡ false = sym itself ∙ no in none ∙ sym (no_axis (λ e. wins_on rule b s e q) none a)) unlisted
+        | inr apart ↦ h.only a v r (omega arith) end (sym (kept r apart) ∙ unlisted)
+      ];
+    } where
+      itself : told_of q (five rule b s q) h.test q ≡ five rule b s q
+      itself = ap (λ t. cond t (five rule b s q) (h.test q)) (is_same_point-itself q)
 
-  -- after all ends the list is right
-  pub all_told : (points : List Point) (room : ℕ) (h : TellsButEnds rule b s p points room) (now : List Point) → now ≡ filter (told Up Behind (told Up Ahead (told Down Behind (told Down Ahead (told Column Behind (told Column Ahead (told Row Behind (told Row Ahead h.test)))))))) (points_of b) → now ≡ five_points rule b s
-  all_told points room h now listed = listed ∙ filter_agree b (told Up Behind (told Up Ahead (told Down Behind (told Down Ahead (told Column Behind (told Column Ahead (told Row Behind (told Row Ahead h.test)))))))) (five rule b s) (λ q on_q.
-      told_right (is_end b s Up Behind p q) (five rule b s q) _ (λ ub.
-      told_right (is_end b s Up Ahead p q) (five rule b s q) _ (λ ua.
-      told_right (is_end b s Down Behind p q) (five rule b s q) _ (λ db.
-      told_right (is_end b s Down Ahead p q) (five rule b s q) _ (λ da.
-      told_right (is_end b s Column Behind p q) (five rule b s q) _ (λ cb.
-      told_right (is_end b s Column Ahead p q) (five rule b s q) _ (λ ca.
-      told_right (is_end b s Row Behind p q) (five rule b s q) _ (λ rb.
-      told_right (is_end b s Row Ahead p q) (five rule b s q) _ (λ ra.
-      h.right q on_q (none q ra rb ca cb da db ua ub))))))))))
-    where
-      none : (q : Point) → is_end b s Row Ahead p q ≡ false → is_end b s Row Behind p q ≡ false → is_end b s Column Ahead p q ≡ false → is_end b s Column Behind p q ≡ false → is_end b s Down Ahead p q ≡ false → is_end b s Down Behind p q ≡ false → is_end b s Up Ahead p q ≡ false → is_end b s Up Behind p q ≡ false → (d : Axis) (w : Way) → is_end b s d w p q ≡ false
-      none q ra rb ca cb da db ua ub Row Ahead = ra
-      none q ra rb ca cb da db ua ub Row Behind = rb
-      none q ra rb ca cb da db ua ub Column Ahead = ca
-      none q ra rb ca cb da db ua ub Column Behind = cb
-      none q ra rb ca cb da db ua ub Down Ahead = da
-      none q ra rb ca cb da db ua ub Down Behind = db
-      none q ra rb ca cb da db ua ub Up Ahead = ua
-      none q ra rb ca cb da db ua ub Up Behind = ub
+      kept : (r : Point) → Apart q r → told_of q (five rule b s q) h.test r ≡ h.test r
+      kept r apart = ap (λ t. cond t (five rule b s q) (h.test r)) (apart-is_same_point q r apart)
+
+      no_other : (r : Point) → Apart q r → is_end b s d w p r ≡ false
+      no_other r apart = false_from_ne_true _ (λ yes.
+          let there : Some q ≡ Some r = sym here ∙ end_is b s d w p r yes in
+          let same : q ≡ r = cc in
+          apart.apart (ap (λ (z : Point). z.x) same) (ap (λ (z : Point). z.y) same))

@@ -2,15 +2,17 @@
 use Rattle.std.proofs.Common.{◌≡◌, ℕ, zero, suc, ◌+◌, ◌-◌, ◌*◌, ◌≤◌, ◌<◌, Bool, true, false, cond, ◌&&◌, ◌||◌, not, List, [], ◌∷◌, ◌++◌, length, refl, sym, ap, subst, ◌∙◌, arith, nat_lt, nat_eq, append_assoc}
 use Rattle.std.specs.Prelude.{slice_get}
 use Rattle.std.specs.List.{flat_map, range_with_len, list_all, filter, prefix_len, insert, remove}
+use Rattle.std.proofs.lemmas.Bool.{both_ways, false_from_ne_true}
 use Rattle.std.proofs.lemmas.Bool.Decides.{nat_tests}
 use Rattle.std.proofs.lemmas.List.Elements.{filter-append}
 use Rattle.std.proofs.lemmas.List.Edits.{length-insert}
 use Rattle.game_rules.specs.Grid.{Grid, is_on, points_of, row_from}
 use Rattle.game_rules.specs.Shapes.{is_same_point, is_at}
+use Rattle.game_rules.specs.Points.{precedes}
 use Rattle.game_rules.specs.declared.Point.{Point}
 use Rattle.game_rules.proofs.Boards.{on_x, on_y}
-use Rattle.game_rules.proofs.Points.{is_same_point-itself, is_same_point-same}
-use Rattle.line_tables.specs.Lists.{is_before, with_point, without_point, with_told, told_of}
+use Rattle.game_rules.proofs.Points.{is_same_point-itself, is_same_point-same, precedes-differs, precedes-differs_back}
+use Rattle.line_tables.specs.Lists.{with_point, without_point, with_told, told_of}
 use Rattle.game_rules.proofs.Places.{points_length, points_on}
 use Rattle.line_tables.proofs.BoardLists.{first_on}
 
@@ -22,32 +24,32 @@ one_more n = omega arith
 
 module _ (p : Point) where
   abbrev place : List Point → ℕ
-  place xs = prefix_len (λ q. is_before q p) xs
+  place xs = prefix_len (λ q. precedes q p) xs
 
   pub point_in : (xs : List Point) → is_at p (slice_get xs (place xs)) ≡ true → with_point p xs ≡ xs
   point_in [] h = cc
-  point_in (q ∷ more) h = by_test (is_before q p) h (point_in more) where
+  point_in (q ∷ more) h = by_test (precedes q p) h (point_in more) where
     by_test : (r : Bool) → is_at p (slice_get (q ∷ more) (cond r (1 + place more) 0)) ≡ true → (is_at p (slice_get more (place more)) ≡ true → with_point p more ≡ more) → cond r (q ∷ with_point p more) (cond (is_same_point p q) (q ∷ more) (p ∷ q ∷ more)) ≡ q ∷ more
     by_test true h rest = ap (λ (ps : List Point). q ∷ ps) (rest (rw (one_more (place more)) at h))
     by_test false h rest = rw h refl
 
   pub point_new : (xs : List Point) → is_at p (slice_get xs (place xs)) ≡ false → with_point p xs ≡ insert xs (place xs) p
   point_new [] h = refl
-  point_new (q ∷ more) h = by_test (is_before q p) h (point_new more) where
+  point_new (q ∷ more) h = by_test (precedes q p) h (point_new more) where
     by_test : (r : Bool) → is_at p (slice_get (q ∷ more) (cond r (1 + place more) 0)) ≡ false → (is_at p (slice_get more (place more)) ≡ false → with_point p more ≡ insert more (place more) p) → cond r (q ∷ with_point p more) (cond (is_same_point p q) (q ∷ more) (p ∷ q ∷ more)) ≡ insert (q ∷ more) (cond r (1 + place more) 0) p
     by_test true h rest = rw (one_more (place more)) (ap (λ (ps : List Point). q ∷ ps) (rest (rw (one_more (place more)) at h)))
     by_test false h rest = rw h refl
 
   pub point_out : (xs : List Point) → is_at p (slice_get xs (place xs)) ≡ true → without_point p xs ≡ remove xs (place xs)
   point_out [] h = cc
-  point_out (q ∷ more) h = by_test (is_before q p) h (point_out more) where
+  point_out (q ∷ more) h = by_test (precedes q p) h (point_out more) where
     by_test : (r : Bool) → is_at p (slice_get (q ∷ more) (cond r (1 + place more) 0)) ≡ true → (is_at p (slice_get more (place more)) ≡ true → without_point p more ≡ remove more (place more)) → cond r (q ∷ without_point p more) (cond (is_same_point p q) more (q ∷ more)) ≡ remove (q ∷ more) (cond r (1 + place more) 0)
     by_test true h rest = rw (one_more (place more)) (ap (λ (ps : List Point). q ∷ ps) (rest (rw (one_more (place more)) at h)))
     by_test false h rest = rw h refl
 
   pub point_none : (xs : List Point) → is_at p (slice_get xs (place xs)) ≡ false → without_point p xs ≡ xs
   point_none [] h = refl
-  point_none (q ∷ more) h = by_test (is_before q p) h (point_none more) where
+  point_none (q ∷ more) h = by_test (precedes q p) h (point_none more) where
     by_test : (r : Bool) → is_at p (slice_get (q ∷ more) (cond r (1 + place more) 0)) ≡ false → (is_at p (slice_get more (place more)) ≡ false → without_point p more ≡ more) → cond r (q ∷ without_point p more) (cond (is_same_point p q) more (q ∷ more)) ≡ q ∷ more
     by_test true h rest = ap (λ (ps : List Point). q ∷ ps) (rest (rw (one_more (place more)) at h))
     by_test false h rest = rw h refl
@@ -115,12 +117,12 @@ rows_all : (f : Point → Bool) (width a n : ℕ) → ((v u : ℕ) → a ≤ u �
 rows_all f width a zero h = refl
 rows_all f width a (suc n) h = all-append f (row_from a 0 width) _ (row_all f a 0 width (λ v low high. h v a (omega arith) (omega arith))) (rows_all f width (a + 1) n (λ v u low high. h v u (omega arith) (omega arith)))
 
-earlier_before : (b : Grid) (p : Point) → list_all (λ q. is_before q p) (earlier b p) ≡ true
-earlier_before b p = all-append (λ q. is_before q p) (rows b.width 0 p.y) (row_from p.y 0 p.x)
-    (rows_all (λ q. is_before q p) b.width 0 p.y (λ v u low high. let less : nat_lt u p.y ≡ true = grind (arith, nat_tests) in rw less refl))
-    (row_all (λ q. is_before q p) p.y 0 p.x (λ v low high. in_row v (omega arith)))
+earlier_before : (b : Grid) (p : Point) → list_all (λ q. precedes q p) (earlier b p) ≡ true
+earlier_before b p = all-append (λ q. precedes q p) (rows b.width 0 p.y) (row_from p.y 0 p.x)
+    (rows_all (λ q. precedes q p) b.width 0 p.y (λ v u low high. let less : nat_lt u p.y ≡ true = grind (arith, nat_tests) in rw less refl))
+    (row_all (λ q. precedes q p) p.y 0 p.x (λ v low high. in_row v (omega arith)))
   where
-    in_row : (v : ℕ) → v < p.x → is_before (record { x = v; y = p.y }) p ≡ true
+    in_row : (v : ℕ) → v < p.x → precedes (record { x = v; y = p.y }) p ≡ true
     in_row v h =
         let same : nat_eq p.y p.y ≡ true = grind (arith, nat_tests) in
         let less : nat_lt v p.x ≡ true = grind (arith, nat_tests) in
@@ -128,19 +130,12 @@ earlier_before b p = all-append (λ q. is_before q p) (rows b.width 0 p.y) (row_
         rw (none, same, less) refl
 
 -- no point is before itself
-itself : (p : Point) → is_before p p ≡ false
-itself p =
-    let none_y : nat_lt p.y p.y ≡ false = grind (arith, nat_tests) in
-    let none_x : nat_lt p.x p.x ≡ false = grind (arith, nat_tests) in
-    rw (none_y, none_x) (never (nat_eq p.y p.y))
-  where
-    never : (r : Bool) → (r && false) ≡ false
-    never true = refl
-    never false = refl
+itself : (p : Point) → precedes p p ≡ false
+itself p = false_from_ne_true _ (λ h. both_ways _ (precedes-differs p p h) (is_same_point-itself p))
 
 -- whether q is neither before p nor p
 abbrev is_past : Point → Point → Bool
-is_past p q = not (is_before q p || is_same_point p q)
+is_past p q = not (precedes q p || is_same_point p q)
 
 later_past : (b : Grid) (p : Point) → list_all (is_past p) (later b p) ≡ true
 later_past b p = all-append (is_past p) (row_from p.y (p.x + 1) (b.width - p.x - 1)) (rows b.width (p.y + 1) (b.height - p.y - 1))
@@ -182,44 +177,33 @@ filter_all g h (x ∷ xs) all = let both = first_on h x xs all in by_test (g x) 
   by_test true here rest = rw (here, rest) refl
   by_test false here rest = rest
 
-not_before : (p q : Point) → is_past p q ≡ true → is_before q p ≡ false
-not_before p q h = by_test (is_before q p) refl h where
-  by_test : (r : Bool) → is_before q p ≡ r → not (r || is_same_point p q) ≡ true → r ≡ false
+not_before : (p q : Point) → is_past p q ≡ true → precedes q p ≡ false
+not_before p q h = by_test (precedes q p) refl h where
+  by_test : (r : Bool) → precedes q p ≡ r → not (r || is_same_point p q) ≡ true → r ≡ false
   by_test true e h = cc
   by_test false e h = refl
 
 not_same : (p q : Point) → is_past p q ≡ true → is_same_point p q ≡ false
-not_same p q h = by_tests (is_before q p) (is_same_point p q) h where
+not_same p q h = by_tests (precedes q p) (is_same_point p q) h where
   by_tests : (r t : Bool) → not (r || t) ≡ true → t ≡ false
   by_tests true t h = cc
   by_tests false true h = cc
   by_tests false false h = refl
 
-before-not_same : (p q : Point) → is_before q p ≡ true → is_same_point p q ≡ false
-before-not_same p q h = by_test (is_same_point p q) refl where
-  by_test : (r : Bool) → is_same_point p q ≡ r → r ≡ false
-  by_test false e = refl
-  by_test true e =
-      let same : p ≡ q = is_same_point-same p q e in
-      let here : is_before q q ≡ true = subst (λ (r : Point). is_before q r ≡ true) same h in
-      let no : is_before q q ≡ false = itself q in
-      let differ : true ≡ false = sym here ∙ no in
-      cc
-
 module _ (p : Point) where
-  skip_point : (xs ys : List Point) → list_all (λ q. is_before q p) xs ≡ true → with_point p (xs ++ ys) ≡ xs ++ with_point p ys
+  skip_point : (xs ys : List Point) → list_all (λ q. precedes q p) xs ≡ true → with_point p (xs ++ ys) ≡ xs ++ with_point p ys
   skip_point [] ys h = refl
   skip_point (x ∷ xs) ys h =
-      let both = first_on (λ q. is_before q p) x xs h in
+      let both = first_on (λ q. precedes q p) x xs h in
       ap (λ r. cond r (x ∷ with_point p (xs ++ ys)) (cond (is_same_point p x) (x ∷ (xs ++ ys)) (p ∷ x ∷ (xs ++ ys)))) both.0 ∙ ap (λ (ps : List Point). x ∷ ps) (skip_point xs ys both.1)
 
-  skip_without : (xs ys : List Point) → list_all (λ q. is_before q p) xs ≡ true → without_point p (xs ++ ys) ≡ xs ++ without_point p ys
+  skip_without : (xs ys : List Point) → list_all (λ q. precedes q p) xs ≡ true → without_point p (xs ++ ys) ≡ xs ++ without_point p ys
   skip_without [] ys h = refl
   skip_without (x ∷ xs) ys h =
-      let both = first_on (λ q. is_before q p) x xs h in
+      let both = first_on (λ q. precedes q p) x xs h in
       ap (λ r. cond r (x ∷ without_point p (xs ++ ys)) (cond (is_same_point p x) (xs ++ ys) (x ∷ (xs ++ ys)))) both.0 ∙ ap (λ (ps : List Point). x ∷ ps) (skip_without xs ys both.1)
 
-  skip : (v : Bool) (xs ys : List Point) → list_all (λ q. is_before q p) xs ≡ true → with_told p v (xs ++ ys) ≡ xs ++ with_told p v ys
+  skip : (v : Bool) (xs ys : List Point) → list_all (λ q. precedes q p) xs ≡ true → with_told p v (xs ++ ys) ≡ xs ++ with_told p v ys
   skip true xs ys h = skip_point xs ys h
   skip false xs ys h = skip_without xs ys h
 
@@ -261,12 +245,12 @@ module _ (p : Point) where
         ∙ ap (λ (ps : List Point). cond v (p ∷ ps) ps) (sym same)
         ∙ ap (λ r. cond (cond r v (g p)) (p ∷ filter (told_of p v g) xs) (filter (told_of p v g) xs)) (sym (is_same_point-itself p))
 
-    told_around : (xs ys : List Point) → list_all (λ q. is_before q p) xs ≡ true → list_all (is_past p) ys ≡ true → with_told p v (filter g (xs ++ p ∷ ys)) ≡ filter (told_of p v g) (xs ++ p ∷ ys)
+    told_around : (xs ys : List Point) → list_all (λ q. precedes q p) xs ≡ true → list_all (is_past p) ys ≡ true → with_told p v (filter g (xs ++ p ∷ ys)) ≡ filter (told_of p v g) (xs ++ p ∷ ys)
     told_around xs ys before past =
         ap (with_told p v) (filter-append g xs (p ∷ ys))
-        ∙ skip v (filter g xs) (filter g (p ∷ ys)) (filter_all g (λ q. is_before q p) xs before)
+        ∙ skip v (filter g xs) (filter g (p ∷ ys)) (filter_all g (λ q. precedes q p) xs before)
         ∙ ap (λ (ps : List Point). filter g xs ++ ps) (told_here ys past)
-        ∙ ap (λ (ps : List Point). ps ++ filter (told_of p v g) (p ∷ ys)) (sym (filter_same (told_of p v g) g (λ q. is_before q p) (λ q first. ap (λ r. cond r v (g q)) (before-not_same p q first)) xs before))
+        ∙ ap (λ (ps : List Point). ps ++ filter (told_of p v g) (p ∷ ys)) (sym (filter_same (told_of p v g) g (λ q. precedes q p) (λ q first. ap (λ r. cond r v (g q)) (precedes-differs_back q p first)) xs before))
         ∙ sym (filter-append (told_of p v g) xs (p ∷ ys))
 
 -- the list of the points of a board that pass a test, with one told anew
@@ -294,8 +278,8 @@ filter_fits b g = let fewer = filter_fewer g (points_of b) in let all = points_l
 
 -- ---- the place as the code finds it
 
-module _ (p : Point) (xs : List Point) (i : ℕ) (first : i ≡ prefix_len (λ q. is_before q p) xs) (r : Bool) (has : r ≡ is_at p (slice_get xs i)) where
-  found_as : (v : Bool) → r ≡ v → is_at p (slice_get xs (prefix_len (λ q. is_before q p) xs)) ≡ v
+module _ (p : Point) (xs : List Point) (i : ℕ) (first : i ≡ prefix_len (λ q. precedes q p) xs) (r : Bool) (has : r ≡ is_at p (slice_get xs i)) where
+  found_as : (v : Bool) → r ≡ v → is_at p (slice_get xs (prefix_len (λ q. precedes q p) xs)) ≡ v
   found_as v h = ap (λ n. is_at p (slice_get xs n)) (sym first) ∙ sym has ∙ h
 
   pub is_in_already : r ≡ true → xs ≡ with_point p xs

@@ -8,7 +8,7 @@ use Rattle.game_rules.specs.declared.Side.{Side}
 use Rattle.game_rules.specs.declared.Side.TheVariants.{Black, White}
 use Rattle.game_rules.specs.declared.Axis.{Axis}
 use Rattle.game_rules.specs.declared.Point.{Point}
-use Rattle.stone_board.specs.declared.board.Way.{Way}
+use Rattle.game_rules.specs.declared.Way.{Way}
 use Rattle.stone_board.specs.Walks.{goes_on, stride, place_after, steps_left}
 use Rattle.stone_board.proofs.Strides.{Walked, Walked-place, Walked-back, StepOn, step_on, place_walk}
 use Rattle.row_shapes.specs.Rule.{reach_of}

@@ -8,24 +8,23 @@ use Rattle.std.proofs.lemmas.Option.{slice_get_within, slice_get-get_or, get_or_
 use Rattle.std.proofs.lemmas.Bool.{or_parts, false_from_ne_true}
 use Rattle.game_rules.specs.Grid.{Grid, IsBoard, is_on, is_empty, holds, place_of, put, lift}
 use Rattle.game_rules.specs.Shapes.{is_at}
+use Rattle.game_rules.specs.Ways.{towards}
 use Rattle.game_rules.specs.declared.RuleKind.{RuleKind}
 use Rattle.game_rules.specs.declared.Side.{Side}
 use Rattle.game_rules.specs.declared.Side.TheVariants.{Black, White}
 use Rattle.game_rules.specs.declared.Axis.{Axis}
 use Rattle.game_rules.specs.declared.Axis.TheVariants.{Row, Column, Down, Up}
 use Rattle.game_rules.specs.declared.Point.{Point}
+use Rattle.game_rules.specs.declared.Way.{Way}
+use Rattle.game_rules.specs.declared.Way.TheVariants.{Ahead, Behind}
 use Rattle.game_rules.proofs.Boards.{Apart, same_or_apart, is_empty-on, and_left, on_x, on_y}
-use Rattle.game_rules.proofs.Lines.{OnLine, along-OnLine}
+use Rattle.game_rules.proofs.Lines.{OnLine, along-OnLine, along-steps}
 use Rattle.game_rules.proofs.Points.{is_same_point-itself, is_same_point-same}
 use Rattle.game_rules.proofs.Positions.{IsBoard-lift, put-lift, lift-empty}
 use Rattle.game_rules.proofs.Rows.{any_found, any_none}
-use Rattle.stone_board.specs.declared.board.Way.{Way}
-use Rattle.stone_board.specs.declared.board.Way.TheVariants.{Ahead, Behind}
-use Rattle.stone_board.specs.Steps.{towards}
 use Rattle.stone_board.specs.Walks.{steps_left}
 use Rattle.row_shapes.specs.Rule.{reach_of}
 use Rattle.row_shapes.specs.LineCodes.{line_code}
-use Rattle.row_shapes.proofs.Ways.{along-steps}
 use Rattle.line_tables.specs.declared.axis_codes.Change.{Change}
 use Rattle.line_tables.specs.declared.axis_codes.Change.TheVariants.{Put, Lift}
 use Rattle.line_tables.specs.declared.axis_codes.Codes.{Codes}

@@ -7,24 +7,24 @@ use Rattle.std.proofs.lemmas.Bool.Decides.{nat_tests}
 use Rattle.game_rules.specs.Grid.{Grid, IsBoard, is_on, is_empty, put, along}
 use Rattle.game_rules.specs.Shapes.{row_wins, stone_at, run_of, wins_on, wins_at, five, fours_of, place_stone, place_wins}
 use Rattle.game_rules.specs.Games.{has_five}
+use Rattle.game_rules.specs.Ways.{opposite, stones_towards, go, run_end}
 use Rattle.game_rules.specs.declared.RuleKind.{RuleKind}
 use Rattle.game_rules.specs.declared.RuleKind.TheVariants.{Freestyle, Exact, Renju}
 use Rattle.game_rules.specs.declared.Side.{Side}
 use Rattle.game_rules.specs.declared.Side.TheVariants.{Black, White}
 use Rattle.game_rules.specs.declared.Axis.{Axis}
 use Rattle.game_rules.specs.declared.Point.{Point}
-use Rattle.game_rules.proofs.Axes.{axis_of}
+use Rattle.game_rules.specs.declared.Way.{Way}
+use Rattle.game_rules.specs.declared.Way.TheVariants.{Ahead, Behind}
+use Rattle.game_rules.proofs.Rows.{all_range}
 use Rattle.game_rules.proofs.Boards.{and_left, and_right, is_empty-on, holds-put_same}
-use Rattle.game_rules.proofs.Points.{points-found}
-use Rattle.stone_board.specs.declared.board.Way.{Way}
-use Rattle.stone_board.specs.declared.board.Way.TheVariants.{Ahead, Behind}
-use Rattle.stone_board.specs.Steps.{towards, opposite, stones_towards}
+use Rattle.game_rules.proofs.Ways.{go-then, go-same, go-zero, leads, leads_back, towards-put, beyond-put}
+use Rattle.game_rules.proofs.Wins.{wins_on-ways, no_win}
 use Rattle.row_shapes.specs.Gaps.{fours_from, is_four, are_stones}
 use Rattle.row_shapes.specs.FiveEnds.{kept_five, end_five, with_more, with_axis}
 use Rattle.row_shapes.specs.declared.fives.FivePoints.{FivePoints}
 use Rattle.row_shapes.proofs.Counting.{fours_by_gap, fours_of-gap}
 use Rattle.row_shapes.proofs.NewFives.{end_joins}
-use Rattle.row_shapes.proofs.Ways.{go, go-then, go-same, go-zero, go-towards, leads, leads_back, run_towards, towards-put, beyond-put}
 
 -- ---- no four
 
@@ -47,10 +47,6 @@ each_none f h (suc (suc zero)) low high = no_by (f 2) (omega arith)
 each_none f h (suc (suc (suc zero))) low high = no_by (f 3) (omega arith)
 each_none f h (suc (suc (suc (suc zero)))) low high = no_by (f 4) (omega arith)
 each_none f h (suc (suc (suc (suc (suc k))))) low high = absurd (omega arith)
-
-all_range : (f : ℕ → Bool) (n a : ℕ) → ((k : ℕ) → a ≤ k → k < a + n → f k ≡ true) → list_all f (range_with_len a n) ≡ true
-all_range f zero a h = refl
-all_range f (suc n) a h = ap (λ r. r && list_all f (range_with_len (a + 1) n)) (h a (omega arith) (omega arith)) ∙ all_range f n (a + 1) (λ k low high. h k (omega arith) (omega arith))
 
 module _ (stone wins : ℕ → Bool) (none : fours_by_gap stone wins ≡ 0) where
   no_four : (first gap : ℕ) → first < 5 → 1 ≤ gap → gap ≤ 4 → is_four stone wins first gap ≡ false
@@ -99,7 +95,7 @@ module _ (rule : RuleKind) (b : Grid) (s : Side) (p : Point) (ok : IsBoard b) (e
   on_p : is_on b p ≡ true
   on_p = is_empty-on b p empty
 
-  module _ (w : Way) (q : Point) (end : towards w d p (1 + stones_towards w b s d p) ≡ Some q) (on_q : is_on b q ≡ true) where
+  module _ (w : Way) (q : Point) (here : run_end b s d w p ≡ Some q) (on_q : is_on b q ≡ true) where
     abbrev near : ℕ
     near = stones_towards w b s d p
 
@@ -108,9 +104,6 @@ module _ (rule : RuleKind) (b : Grid) (s : Side) (p : Point) (ok : IsBoard b) (e
 
     abbrev beyond : ℕ
     beyond = stones_towards w b s d q
-
-    here : go w d p (1 + near) 0 ≡ Some q
-    here = sym (go-towards w d p (1 + near)) ∙ end
 
     at : (x y x' y' : ℕ) → x + y' ≡ x' + y → stone_at next s (go w d p x' y') ≡ true → stone_at next s (go w d p x y) ≡ true
     at x y x' y' e h = ap (stone_at next s) (go-same w d p x y x' y' e) ∙ h
@@ -149,52 +142,46 @@ module _ (rule : RuleKind) (b : Grid) (s : Side) (p : Point) (ok : IsBoard b) (e
       wins_here : (i : ℕ) → along d p i 4 ≡ Some q → place_wins rule next s d p i ≡ true
       wins_here i e = ap (wins_at rule next s d) e ∙ win
 
-  contradiction : (w : Way) (q : Point) (end : towards w d p (1 + stones_towards w b s d p) ≡ Some q) (on_q : is_on b q ≡ true) → wins_on rule next s d q ≡ true → stones_towards w b s d p + stones_towards (opposite w) b s d p ≤ 3 → 3 ≤ stones_towards w b s d p + stones_towards (opposite w) b s d p + stones_towards w b s d q → fours_of rule next s d p ≡ 0 → ⊥
+  contradiction : (w : Way) (q : Point) (end : run_end b s d w p ≡ Some q) (on_q : is_on b q ≡ true) → wins_on rule next s d q ≡ true → stones_towards w b s d p + stones_towards (opposite w) b s d p ≤ 3 → 3 ≤ stones_towards w b s d p + stones_towards (opposite w) b s d p + stones_towards w b s d q → fours_of rule next s d p ≡ 0 → ⊥
   contradiction Ahead q end on_q win short long none =
       no_window (place_stone next s d p) (place_wins rule next s d p) (no_fours Ahead q end on_q win short long none)
       (stones_towards Behind b s d p) (stones_towards Behind b s d p + stones_towards Ahead b s d p + 1) (omega arith) (omega arith) (omega arith) (λ same. absurd (omega arith))
       (λ i small other. run_stone Ahead q end on_q (i + 4 - stones_towards Behind b s d p) 4 (omega arith) (omega arith) (λ same. other (omega arith)))
       (wins_here Ahead q end on_q win short long none (stones_towards Behind b s d p + stones_towards Ahead b s d p + 1 + 4 - stones_towards Behind b s d p)
-      (go-same Ahead d p (stones_towards Behind b s d p + stones_towards Ahead b s d p + 1 + 4 - stones_towards Behind b s d p) 4 (1 + stones_towards Ahead b s d p) 0 (omega arith) ∙ here Ahead q end on_q))
+      (go-same Ahead d p (stones_towards Behind b s d p + stones_towards Ahead b s d p + 1 + 4 - stones_towards Behind b s d p) 4 (1 + stones_towards Ahead b s d p) 0 (omega arith) ∙ end))
   contradiction Behind q end on_q win short long none = elim (cases_lt (stones_towards Behind b s d p + stones_towards Ahead b s d p) 3) [
     | inl gap ↦ no_window (place_stone next s d p) (place_wins rule next s d p) (no_fours Behind q end on_q win short long none)
         (4 - stones_towards Ahead b s d p) (3 - stones_towards Behind b s d p - stones_towards Ahead b s d p) (omega arith) (omega arith) (omega arith) (λ same. absurd (omega arith))
         (λ i small other. run_stone Behind q end on_q 4 (i + 4 - (4 - stones_towards Ahead b s d p)) (omega arith) (omega arith) (λ same. other (omega arith)))
         (wins_here Behind q end on_q win short long none (3 - stones_towards Behind b s d p - stones_towards Ahead b s d p + 4 - (4 - stones_towards Ahead b s d p))
-        (go-same Behind d p 4 (3 - stones_towards Behind b s d p - stones_towards Ahead b s d p + 4 - (4 - stones_towards Ahead b s d p)) (1 + stones_towards Behind b s d p) 0 (omega arith) ∙ here Behind q end on_q))
+        (go-same Behind d p 4 (3 - stones_towards Behind b s d p - stones_towards Ahead b s d p + 4 - (4 - stones_towards Ahead b s d p)) (1 + stones_towards Behind b s d p) 0 (omega arith) ∙ end))
     | inr row ↦ no_row (place_stone next s d p) (place_wins rule next s d p) (no_fours Behind q end on_q win short long none)
         (stones_towards Behind b s d p) (omega arith)
         (λ i small. run_stone Behind q end on_q 4 (i + 4 - stones_towards Behind b s d p) (omega arith) (omega arith) (λ same. absurd (omega arith)))
         (wins_here Behind q end on_q win short long none (3 - stones_towards Behind b s d p)
-        (go-same Behind d p 4 (3 - stones_towards Behind b s d p) (1 + stones_towards Behind b s d p) 0 (omega arith) ∙ here Behind q end on_q))
+        (go-same Behind d p 4 (3 - stones_towards Behind b s d p) (1 + stones_towards Behind b s d p) 0 (omega arith) ∙ end))
   ]
 
   module _ (bare : has_five rule b s ≡ false) (none : fours_of rule next s d p ≡ 0) where
-    loses : row_wins rule s (run_of next s d p) ≡ false
-    loses = false_from_ne_true _ (λ yes.
-        let win : wins_on rule b s d p ≡ true = ap (λ r. r && row_wins rule s (run_of next s d p)) empty ∙ yes in
-        let some = points-found b (five rule b s) p on_p (axis_of (λ e. wins_on rule b s e p) d win) in
-        let differ : false ≡ true = sym bare ∙ some in
-        cc)
+    short : (w : Way) → row_wins rule s (1 + stones_towards w b s d p + stones_towards (opposite w) b s d p) ≡ false
+    short w = sym (wins_on-ways rule b s w d p ok ∙ ap (λ r. r && row_wins rule s (1 + stones_towards w b s d p + stones_towards (opposite w) b s d p)) empty) ∙ no_win rule b s d p bare
 
-    no_win : (w : Way) (q : Point) → towards w d p (1 + stones_towards w b s d p) ≡ Some q → wins_on rule next s d q ≡ true → ⊥
-    no_win w q end win =
+    loses : (w : Way) (q : Point) → run_end b s d w p ≡ Some q → wins_on rule next s d q ≡ true → ⊥
+    loses w q end win =
         let joins : (is_empty b q && row_wins rule s (1 + (1 + stones_towards w b s d p + stones_towards (opposite w) b s d p) + stones_towards w b s d q)) ≡ true = sym (end_joins b s p ok empty w d q end rule) ∙ win in
         let on_q : is_on b q ≡ true = is_empty-on b q (and_left (is_empty b q) _ joins) in
-        let run = run_towards b s w d p ok on_p in
-        let short : row_wins rule s (1 + stones_towards w b s d p + stones_towards (opposite w) b s d p) ≡ false = ap (row_wins rule s) (sym run) ∙ loses in
-        let lengths = run_short rule s (1 + stones_towards w b s d p + stones_towards (opposite w) b s d p) (1 + (1 + stones_towards w b s d p + stones_towards (opposite w) b s d p) + stones_towards w b s d q) (and_right (is_empty b q) _ joins) short (omega arith) in
+        let lengths = run_short rule s (1 + stones_towards w b s d p + stones_towards (opposite w) b s d p) (1 + (1 + stones_towards w b s d p + stones_towards (opposite w) b s d p) + stones_towards w b s d q) (and_right (is_empty b q) _ joins) (short w) (omega arith) in
         let low = lengths.0 in
         let high = lengths.1 in
         contradiction w q end on_q win (omega (arith, low)) (omega (arith, high)) none
 
-    kept_none : (w : Way) (o : Option Point) → towards w d p (1 + stones_towards w b s d p) ≡ o → kept_five rule next s d o ≡ None
+    kept_none : (w : Way) (o : Option Point) → run_end b s d w p ≡ o → kept_five rule next s d o ≡ None
     kept_none w None e = refl
-    kept_none w (Some q) e = ap (λ r. cond r (Some q) None) (false_from_ne_true _ (λ win. no_win w q e win))
+    kept_none w (Some q) e = ap (λ r. cond r (Some q) None) (false_from_ne_true _ (λ win. loses w q e win))
 
     no_end : (w : Way) → end_five rule b s d p w ≡ None
     unfolding end_five
-    no_end w = kept_none w (towards w d p (1 + stones_towards w b s d p)) refl
+    no_end w = kept_none w (run_end b s d w p) refl
 
     -- such an axis tells nothing
     pub nothing_told : (found : FivePoints) → found ≡ with_axis rule b s p found d

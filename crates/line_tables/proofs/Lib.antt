@@ -10,8 +10,6 @@ mod BoardLists
 mod Shapes
 -- the list of five points with one point told anew
 mod FiveLists
--- where a stone changes the five points
-mod RunEnds
 -- the list of five points, end by end
 mod EndTests
 mod EndCalls

@@ -3,21 +3,20 @@ use Rattle.std.proofs.Common.{◌≡◌, ◌≢◌, ◌⊎◌, inl, inr, ℕ, ze
 use Rattle.std.specs.Prelude.{Option, Some, None, map}
 use Rattle.std.proofs.lemmas.Bool.Decides.{nat_tests}
 use Rattle.game_rules.specs.Grid.{Grid, IsBoard, is_on, is_empty, is_stone_of, stone_of, holds, put, along}
+use Rattle.game_rules.specs.Ways.{towards}
 use Rattle.game_rules.specs.declared.RuleKind.{RuleKind}
 use Rattle.game_rules.specs.declared.RuleKind.TheVariants.{Freestyle, Exact, Renju}
 use Rattle.game_rules.specs.declared.Side.{Side}
 use Rattle.game_rules.specs.declared.Side.TheVariants.{Black, White}
 use Rattle.game_rules.specs.declared.Axis.{Axis}
 use Rattle.game_rules.specs.declared.Point.{Point}
+use Rattle.game_rules.specs.declared.Way.{Way}
+use Rattle.game_rules.specs.declared.Way.TheVariants.{Ahead, Behind}
 use Rattle.game_rules.proofs.Boards.{same_or_apart, is_empty-on, is_empty-put, holds-put_other, cell_at-put_same, stone_of-taken}
-use Rattle.game_rules.proofs.Lines.{along-then, along-same, along-zero}
+use Rattle.game_rules.proofs.Lines.{along-then, along-same, along-zero, along-steps}
 use Rattle.game_rules.proofs.Positions.{is_at_or_not}
-use Rattle.stone_board.specs.declared.board.Way.{Way}
-use Rattle.stone_board.specs.declared.board.Way.TheVariants.{Ahead, Behind}
-use Rattle.stone_board.specs.Steps.{towards}
 use Rattle.row_shapes.specs.Rule.{reach_of}
 use Rattle.row_shapes.specs.LineCodes.{digit_at, from_digits, places_beside, line_code}
-use Rattle.row_shapes.proofs.Ways.{along-steps}
 use Rattle.row_shapes.proofs.ReachLaw.{digit_low}
 use Rattle.line_tables.specs.Codes.{digit_of_stone, weight}
 

@@ -5,13 +5,15 @@ use Rattle.game_rules.specs.Grid.{Grid, is_on, is_empty, points_of}
 use Rattle.game_rules.specs.Shapes.{five, wins_on, is_at}
 use Rattle.game_rules.specs.Play.{IsPosition}
 use Rattle.game_rules.specs.Games.{five_points}
+use Rattle.game_rules.specs.Ways.{run_end}
 use Rattle.game_rules.specs.declared.RuleKind.{RuleKind}
 use Rattle.game_rules.specs.declared.Side.{Side}
 use Rattle.game_rules.specs.declared.Side.TheVariants.{Black, White}
 use Rattle.game_rules.specs.declared.Axis.{Axis}
+use Rattle.game_rules.specs.declared.Axis.TheVariants.{Row, Column, Down, Up}
 use Rattle.game_rules.specs.declared.Point.{Point}
-use Rattle.stone_board.specs.declared.board.Way.{Way}
-use Rattle.stone_board.specs.Steps.{towards, stones_towards}
+use Rattle.game_rules.specs.declared.Way.{Way}
+use Rattle.game_rules.specs.declared.Way.TheVariants.{Ahead, Behind}
 
 -- the list of all five points of the side in reading order, in a list with room for all points of the board
 pub record TellsSide (rule : RuleKind) (b : Grid) (s : Side) (points : List Point) (room : ℕ) : Type 0 where
@@ -26,38 +28,26 @@ pub record TellsFives (rule : RuleKind) (b : Grid) (black white : List Point) (b
 
 -- ---- the ends of the runs of a stone
 
--- the first point in that way that holds no stone of the side, if there is one
-abbrev pub run_end : Grid → Side → Axis → Way → Point → Option Point
-run_end b s d w p = towards w d p (1 + stones_towards w b s d p)
-
 -- whether the point is empty, and it is that end
 abbrev pub is_end : Grid → Side → Axis → Way → Point → Point → Bool
 is_end b s d w p q = is_empty b q && is_at q (run_end b s d w p)
 
--- the point, if there is one and it is empty
-abbrev pub kept_empty : Grid → Option Point → Option Point
-kept_empty b None = None
-kept_empty b (Some q) = if is_empty b q then Some q else None
+-- the number of that end, as they are told one after another
+abbrev pub end_number : Axis → Way → ℕ
+end_number Row Ahead = 0
+end_number Row Behind = 1
+end_number Column Ahead = 2
+end_number Column Behind = 3
+end_number Down Ahead = 4
+end_number Down Behind = 5
+end_number Up Ahead = 6
+end_number Up Behind = 7
 
--- the test, with the answer of that end told anew
-abbrev pub told_end : RuleKind → Grid → Side → Axis → Way → Point → (Point → Bool) → Point → Bool
-told_end rule b s d w p test q = if is_end b s d w p q then five rule b s q else test q
-
--- some points of the board in reading order, in a list with room for all
-pub record AreListed (b : Grid) (points : List Point) (room : ℕ) : Type 0 where
+-- a list of the five points of the side that is right but for the ends of the runs of a stone on p from the k-th on, of which one
+-- that is not listed can be a five point only by the axis of the run
+pub record TellsButEnds (rule : RuleKind) (b : Grid) (s : Side) (p : Point) (k : ℕ) (points : List Point) (room : ℕ) : Type 0 where
   pub test : Point → Bool
   pub listed : points ≡ filter test (points_of b)
   pub fits : b.width * b.height ≤ room
-
--- that end is a five point only where it is one by this axis
-pub record DecidesEnd (rule : RuleKind) (b : Grid) (s : Side) (d : Axis) (w : Way) (p : Point) : Type 0 where
-  pub only : (q : Point) → is_end b s d w p q ≡ true → five rule b s q ≡ wins_on rule b s d q
-
--- a list of the five points of the side that is right but for the ends of the runs of a stone on p, in which an end that is not
--- listed can be a five point only by the axis of the run
-pub record TellsButEnds (rule : RuleKind) (b : Grid) (s : Side) (p : Point) (points : List Point) (room : ℕ) : Type 0 where
-  pub test : Point → Bool
-  pub listed : points ≡ filter test (points_of b)
-  pub fits : b.width * b.height ≤ room
-  pub right : (q : Point) → is_on b q ≡ true → ((d : Axis) (w : Way) → is_end b s d w p q ≡ false) → test q ≡ five rule b s q
-  pub only : (d : Axis) (w : Way) (q : Point) → is_end b s d w p q ≡ true → test q ≡ false → five rule b s q ≡ wins_on rule b s d q
+  pub right : (q : Point) → is_on b q ≡ true → ((d : Axis) (w : Way) → k ≤ end_number d w → is_end b s d w p q ≡ false) → test q ≡ five rule b s q
+  pub only : (d : Axis) (w : Way) (q : Point) → k ≤ end_number d w → is_end b s d w p q ≡ true → test q ≡ false → five rule b s q ≡ wins_on rule b s d q

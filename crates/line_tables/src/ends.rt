@@ -5,15 +5,16 @@
 //! other point is asked.
 #![tactic(auto)]
 
-ghost use Rattle.std.specs.Prelude.{◌≡◌, ◌≤◌, ◌*◌, ℕ, Bool, IsTrue, [], List, length, if◌then◌else◌};
-ghost use Rattle.std.specs.List.{filter};
+ghost use Rattle.std.specs.Prelude.{◌≡◌, ◌≤◌, ◌+◌, Bool, IsTrue, [], length};
 ghost use Rattle.std.specs.Vec.{vec_capacity};
-ghost use Rattle.game_rules.specs.Grid.{IsBoard, is_on, is_empty, holds, put as put_lem, lift as lift_lem, points_of};
+ghost use Rattle.stone_board.specs.Steps.{kept_empty};
+ghost use Rattle.game_rules.specs.Grid.{IsBoard, is_on, is_empty, holds, put as put_lem, lift as lift_lem};
 ghost use Rattle.game_rules.specs.Shapes.{five as five_lem, wins_on as wins_on_lem};
 ghost use Rattle.game_rules.specs.Play.{other as other_lem};
+ghost use Rattle.game_rules.specs.Ways.{run_end};
 ghost use Rattle.game_rules.specs.declared.Point.{Point};
 ghost use Rattle.line_tables.specs.Lists.{with_told};
-ghost use Rattle.line_tables.specs.Tables.{TellsSide, AreListed, DecidesEnd, TellsButEnds, run_end, kept_empty, told_end};
+ghost use Rattle.line_tables.specs.Tables.{TellsSide, TellsButEnds, end_number};
 
 use crate::codes::LineCodes;
 use crate::five_list::FiveList;
@@ -64,7 +65,7 @@ pub(crate) fn after_undo<R: Rule>(
 /// Tells the ends of the runs through a point of which a stone of the side came or went.
 fn tell_ends<R: Rule>(fives: &mut FiveList, codes: &LineCodes<R>, side: Side, p: Point)
     requires on { IsTrue (is_on codes.now p) }
-    requires told { TellsButEnds R.KIND codes.now side p fives.old.points.items (vec_capacity fives.old.points) }
+    requires told { TellsButEnds R.KIND codes.now side p 0 fives.old.points.items (vec_capacity fives.old.points) }
     ensures told { TellsSide R.KIND codes.now side fives.new.points.items (vec_capacity fives.new.points) }
 {
     tell_end(fives, codes, side, Axis::Row, Way::Ahead, p);
@@ -77,7 +78,7 @@ fn tell_ends<R: Rule>(fives: &mut FiveList, codes: &LineCodes<R>, side: Side, p:
     tell_end(fives, codes, side, Axis::Up, Way::Behind, p);
 }
 
-/// Tells the first point in that way that holds no stone of the side.
+/// Tells the first point in that way that holds no stone of the side, where those before it are right.
 fn tell_end<R: Rule>(
     fives: &mut FiveList,
     codes: &LineCodes<R>,
@@ -87,10 +88,8 @@ fn tell_end<R: Rule>(
     p: Point,
 )
     requires on { IsTrue (is_on codes.now p) }
-    requires listed { AreListed codes.now fives.old.points.items (vec_capacity fives.old.points) }
-    requires only { fives.old.points.items ≡ [] → DecidesEnd R.KIND codes.now side axis way p }
-    ensures told { (test : Point → Bool) → fives.old.points.items ≡ filter test (points_of codes.now) → fives.new.points.items ≡ filter (told_end R.KIND codes.now side axis way p test) (points_of codes.now) }
-    ensures listed { AreListed codes.now fives.new.points.items (vec_capacity fives.new.points) }
+    requires told { TellsButEnds R.KIND codes.now side p (end_number axis way) fives.old.points.items (vec_capacity fives.old.points) }
+    ensures told { TellsButEnds R.KIND codes.now side p (1 + end_number axis way) fives.new.points.items (vec_capacity fives.new.points) }
 {
     match empty_end(codes.board(), side, axis, way, p) {
         None => {}

@@ -6,8 +6,9 @@
 ghost use Rattle.std.specs.Prelude.{◌≡◌, ◌+◌, ◌==◌, ◌≤◌, ◌<◌, IsTrue, [], ◌++◌, ◌∷◌, IfOk, length, slice_get};
 ghost use Rattle.std.specs.List.{prefix_len};
 ghost use Rattle.std.specs.Vec.{vec_capacity};
-ghost use Rattle.game_rules.specs.Shapes.{is_same_point as is_same_point_lem, is_at};
-ghost use Rattle.line_tables.specs.Lists.{is_before as is_before_lem, with_point, without_point, with_told};
+ghost use Rattle.game_rules.specs.Shapes.{is_at};
+ghost use Rattle.game_rules.specs.Points.{precedes};
+ghost use Rattle.line_tables.specs.Lists.{with_point, without_point, with_told};
 
 use std::alloc::{AllocError, Global};
 use stone_board::Point;
@@ -93,11 +94,11 @@ impl FiveList {
     /// The index of the first point of the list that is not before `p` in reading order.
     #[inline(always)]
     fn first_not_before(&self, p: Point) -> usize
-        ensures first { result ≡ prefix_len (λ q. is_before_lem q p) self.now.points.items }
+        ensures first { result ≡ prefix_len (λ q. precedes q p) self.now.points.items }
         ensures within { result ≤ length self.now.points.items }
     {
         for (i, q) in self.points.iter().enumerate() {
-            if !is_before(*q, p) {
+            if !q.precedes(p) {
                 return i;
             }
         }
@@ -110,22 +111,6 @@ impl FiveList {
         ensures has { result ≡ is_at p (slice_get self.now.points.items i) }
         ensures within { IsTrue result → i < length self.now.points.items }
     {
-        i < self.points.len() && is_same(p, self.points[i])
+        i < self.points.len() && p.is(self.points[i])
     }
-}
-
-/// Whether the point `q` comes before `p` in reading order.
-#[inline(always)]
-fn is_before(q: Point, p: Point) -> bool
-    ensures before { result ≡ is_before_lem q p }
-{
-    q.y < p.y || q.y == p.y && q.x < p.x
-}
-
-/// Whether two points are one.
-#[inline(always)]
-fn is_same(p: Point, q: Point) -> bool
-    ensures same { result ≡ is_same_point_lem p q }
-{
-    p.x == q.x && p.y == q.y
 }

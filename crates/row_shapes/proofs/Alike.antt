@@ -6,25 +6,26 @@ use Rattle.std.specs.Int.{bit_at}
 use Rattle.std.specs.List.{sum_by, range_with_len}
 use Rattle.std.proofs.lemmas.Bool.{cases_lt}
 use Rattle.std.proofs.lemmas.Bool.Decides.{nat_tests}
-use Rattle.game_rules.specs.Grid.{Grid, IsBoard, is_on, is_empty, holds, put, along}
+use Rattle.game_rules.specs.Grid.{Grid, IsBoard, is_on, is_empty, holds, along}
 use Rattle.game_rules.specs.Shapes.{row_wins, stone_at, run_of, wins_on, wins_at, is_straight, is_line_three_at}
+use Rattle.game_rules.specs.Ways.{towards, opposite, stones_towards, go, run_end}
 use Rattle.game_rules.specs.declared.RuleKind.{RuleKind}
 use Rattle.game_rules.specs.declared.RuleKind.TheVariants.{Freestyle, Exact, Renju}
 use Rattle.game_rules.specs.declared.Side.{Side}
 use Rattle.game_rules.specs.declared.Side.TheVariants.{Black, White}
 use Rattle.game_rules.specs.declared.Axis.{Axis}
 use Rattle.game_rules.specs.declared.Point.{Point}
-use Rattle.game_rules.proofs.Boards.{and_left, is_empty-on}
+use Rattle.game_rules.specs.declared.Way.{Way}
+use Rattle.game_rules.specs.declared.Way.TheVariants.{Ahead, Behind}
+use Rattle.game_rules.proofs.Boards.{and_left, and-same, is_empty-on}
 use Rattle.game_rules.proofs.Runs.{Leads}
-use Rattle.stone_board.specs.declared.board.Way.{Way}
-use Rattle.stone_board.specs.declared.board.Way.TheVariants.{Ahead, Behind}
-use Rattle.stone_board.specs.Steps.{towards, opposite, stones_towards}
+use Rattle.game_rules.proofs.Ways.{go-then, go-same, leads, run_before_end}
+use Rattle.game_rules.proofs.Wins.{wins_on-ways}
 use Rattle.row_shapes.specs.Rule.{reach_of}
 use Rattle.row_shapes.specs.LineShapes.{rule_of_reach, three_bits}
 use Rattle.row_shapes.specs.Reach.{stones_past}
 use Rattle.row_shapes.specs.Halves.{free_at}
 use Rattle.row_shapes.specs.Threes.{wins_past, is_open_four, three_place, bit_of}
-use Rattle.row_shapes.proofs.Ways.{go, go-then, go-same, go-towards, leads, run_before_end, run_towards}
 use Rattle.row_shapes.proofs.ThreePoints.{straight_towards, three_at, taken_three, no_place, three_bits as three_bits-at}
 
 -- ---- tests that agree up to some number
@@ -133,26 +134,22 @@ module _ (r : ℕ) (rule : RuleKind) (b : Grid) (s : Side) (d : Axis) (p : Point
 
   -- a place next to four stones wins as its own cell and the next one decide
   pub past_value : (w : Way) (k : ℕ) → wins_past rule b s d w (towards w d p k) ≡ (free_at b (go w d p k 0) && (nat_eq r 4 || not (stone_at b s (go w d p (1 + k) 0))))
-  past_value w k = ap (wins_past rule b s d w) (go-towards w d p k) ∙ by_point (go w d p k 0) refl where
+  past_value w k = by_point (go w d p k 0) refl where
     by_point : (o : Option Point) → go w d p k 0 ≡ o → wins_past rule b s d w o ≡ (free_at b o && (nat_eq r 4 || not (stone_at b s (go w d p (1 + k) 0))))
     by_point None h = refl
     by_point (Some q) h = past_point w k q (is_empty b q) h refl
 
   -- the end of a run of four
-  end_point : (w : Way) (e : Point) (t : Bool) → go w d p (1 + stones_towards w b s d p) 0 ≡ Some e → stones_towards w b s d p + stones_towards (opposite w) b s d p ≡ 3 → is_empty b e ≡ t → wins_on rule b s d e ≡ (is_empty b e && row_wins rule s (5 + stones_towards w b s d e))
-  end_point w e false here four h = rw h refl
-  end_point w e true here four h =
-      let on_e : is_on b e ≡ true = is_empty-on b e h in
-      let run = run_towards b s w d e ok on_e in
-      let before = run_before_end b s w d p e mine here on_e in
-      let five : run_of (put b s e) s d e ≡ 5 + stones_towards w b s d e = omega (arith, run, before, four) in
-      rw (h, five) refl
+  end_point : (w : Way) (e : Point) → run_end b s d w p ≡ Some e → stones_towards w b s d p + stones_towards (opposite w) b s d p ≡ 3 → wins_on rule b s d e ≡ (is_empty b e && row_wins rule s (5 + stones_towards w b s d e))
+  end_point w e here four = wins_on-ways rule b s w d e ok ∙ and-same (is_empty b e) _ _ (λ free. ap (row_wins rule s) (five (is_empty-on b e free))) where
+    five : is_on b e ≡ true → 1 + stones_towards w b s d e + stones_towards (opposite w) b s d e ≡ 5 + stones_towards w b s d e
+    five on = let before = run_before_end b s w d p e mine here on in omega (arith, before, four)
 
-  end_value : (w : Way) → stones_towards w b s d p + stones_towards (opposite w) b s d p ≡ 3 → wins_at rule b s d (towards w d p (1 + stones_towards w b s d p)) ≡ wins_past rule b s d w (towards w d p (1 + stones_towards w b s d p))
-  end_value w four = by_point (towards w d p (1 + stones_towards w b s d p)) refl where
-    by_point : (o : Option Point) → towards w d p (1 + stones_towards w b s d p) ≡ o → wins_at rule b s d o ≡ wins_past rule b s d w o
+  end_value : (w : Way) → stones_towards w b s d p + stones_towards (opposite w) b s d p ≡ 3 → wins_at rule b s d (run_end b s d w p) ≡ wins_past rule b s d w (run_end b s d w p)
+  end_value w four = by_point (run_end b s d w p) refl where
+    by_point : (o : Option Point) → run_end b s d w p ≡ o → wins_at rule b s d o ≡ wins_past rule b s d w o
     by_point None h = refl
-    by_point (Some e) h = end_point w e (is_empty b e) (sym (go-towards w d p (1 + stones_towards w b s d p)) ∙ h) four refl
+    by_point (Some e) h = end_point w e h four
 
   straight_by : (t : Bool) → nat_eq (stones_towards Ahead b s d p + stones_towards Behind b s d p) 3 ≡ t → is_straight rule b s d p ≡ is_open_four rule b s d p Ahead (stones_towards Ahead b s d p) (stones_towards Behind b s d p)
   straight_by false h = straight_towards rule b s Ahead d p mine ∙ rw h refl
@@ -281,8 +278,8 @@ module _ (rule : RuleKind) (b : Grid) (s : Side) (d : Axis) (p : Point) (ok : Is
   pub three_value : is_line_three_at rule b s d p (towards w d p (1 + stones_towards w b s d p)) ≡ (free_at b (go w d p (1 + stones_towards w b s d p) 0) && is_open_four rule b s d p w (1 + stones_towards w b s d p + first_past) (stones_towards (opposite w) b s d p))
   three_value = by_point (go w d p (1 + stones_towards w b s d p) 0) refl where
     by_point : (o : Option Point) → go w d p (1 + stones_towards w b s d p) 0 ≡ o → is_line_three_at rule b s d p (towards w d p (1 + stones_towards w b s d p)) ≡ (free_at b o && is_open_four rule b s d p w (1 + stones_towards w b s d p + stones_past w b s d o) (stones_towards (opposite w) b s d p))
-    by_point None h = ap (is_line_three_at rule b s d p) (go-towards w d p (1 + stones_towards w b s d p) ∙ h)
-    by_point (Some q) h = three_point q (is_empty b q) (go-towards w d p (1 + stones_towards w b s d p) ∙ h) refl
+    by_point None h = ap (is_line_three_at rule b s d p) h
+    by_point (Some q) h = three_point q (is_empty b q) h refl
 
 module _ (r : ℕ) (rule kind : RuleKind) (b c : Grid) (s t : Side) (d e : Axis) (p q : Point) (both : Both r rule kind b c s t d e p q) where
   past_points : (w : Way) (k : ℕ) (o u : Option Point) → go w d p k 0 ≡ o → go w e q k 0 ≡ u → k ≤ r → free_at b o ≡ true → free_at c u ≡ true → min (r - k) (stones_past w b s d o) ≡ min (r - k) (stones_past w c t e u)

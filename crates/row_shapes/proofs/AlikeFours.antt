@@ -5,20 +5,21 @@ use Rattle.std.specs.List.{list_all, sum_by, range_with_len}
 use Rattle.std.proofs.lemmas.Bool.{cases_lt}
 use Rattle.game_rules.specs.Grid.{Grid, IsBoard, is_on, is_empty, along}
 use Rattle.game_rules.specs.Shapes.{row_wins, stone_at, wins_on, wins_at, fours_of, place_stone, place_wins}
+use Rattle.game_rules.specs.Ways.{stones_towards, go}
 use Rattle.game_rules.specs.declared.RuleKind.{RuleKind}
 use Rattle.game_rules.specs.declared.Side.{Side}
 use Rattle.game_rules.specs.declared.Axis.{Axis}
 use Rattle.game_rules.specs.declared.Point.{Point}
-use Rattle.game_rules.proofs.Boards.{is_empty-on}
+use Rattle.game_rules.specs.declared.Way.{Way}
+use Rattle.game_rules.specs.declared.Way.TheVariants.{Ahead, Behind}
+use Rattle.game_rules.proofs.Rows.{all_in_range}
+use Rattle.game_rules.proofs.Boards.{and-same, is_empty-on}
 use Rattle.game_rules.proofs.Lines.{along-then, along-same, along-zero}
-use Rattle.stone_board.specs.declared.board.Way.{Way}
-use Rattle.stone_board.specs.declared.board.Way.TheVariants.{Ahead, Behind}
-use Rattle.stone_board.specs.Steps.{stones_towards}
+use Rattle.game_rules.proofs.Ways.{leads_is, least}
+use Rattle.game_rules.proofs.Wins.{wins_on-stones}
 use Rattle.row_shapes.specs.Gaps.{is_four, are_stones, fours_from}
 use Rattle.row_shapes.specs.Halves.{free_at}
 use Rattle.row_shapes.proofs.Counting.{fours_by_gap, fours_of-gap}
-use Rattle.row_shapes.proofs.Ways.{go, leads_is, run_towards}
-use Rattle.row_shapes.proofs.Reaches.{least, all_in_range}
 use Rattle.row_shapes.proofs.Alike.{wins_by, le_true, eq_true, eq_false, eq_from, Both}
 
 -- ---- tests over ranges
@@ -60,9 +61,6 @@ module _ (b : Grid) (s : Side) (d : Axis) (x : Point) (on : is_on b x ≡ true) 
   just : stone_at b s (go w d x (1 + m) 0) ≡ false → stones_towards w b s d x ≡ m
   just stop = leads_is b s d x on w m (record { holds = all; stops = stop })
 
-  at_least : m ≤ stones_towards w b s d x
-  at_least = least b s d x on x on w m all
-
   more_at : stone_at b s (go w d x (1 + m) 0) ≡ true → (j : ℕ) → 1 ≤ j → j ≤ 1 + m → stone_at b s (go w d x j 0) ≡ true
   more_at stone j low high = elim (cases_lt m j) [
     | inl last ↦ let same : 1 + m ≡ j = omega arith in ap (λ k. stone_at b s (go w d x k 0)) (sym same) ∙ stone
@@ -70,7 +68,7 @@ module _ (b : Grid) (s : Side) (d : Axis) (x : Point) (on : is_on b x ≡ true) 
   ]
 
   more : stone_at b s (go w d x (1 + m) 0) ≡ true → m < stones_towards w b s d x
-  more stone = let far = least b s d x on x on w (1 + m) (more_at stone) in omega (arith, far)
+  more stone = let far = least b s d x on w (1 + m) (more_at stone) in omega (arith, far)
 
 module _ (r : ℕ) (rule : RuleKind) (b : Grid) (s : Side) (d : Axis) (p : Point) (ok : IsBoard b) (reads : (n : ℕ) → row_wins rule s n ≡ wins_by r n) (a j : ℕ) (from : a ≤ j) (to : j ≤ a + 4)
     (full : (i : ℕ) → a ≤ i → i ≤ a + 4 → i ≢ j → stone_at b s (along d p i 4) ≡ true) where
@@ -96,23 +94,19 @@ module _ (r : ℕ) (rule : RuleKind) (b : Grid) (s : Side) (d : Axis) (p : Point
     window_wins : row_wins rule s (1 + stones_towards Ahead b s d x + stones_towards Behind b s d x) ≡ (nat_eq r 4 || (not (stone_at b s (along d p a 5)) && not (stone_at b s (along d p (a + 5) 4))))
     window_wins =
         reads _ ∙ exact_by (nat_eq r 4) (stone_at b s (along d p (a + 5) 4)) (stone_at b s (along d p a 5)) _ _ (a + 4 - j) (j - a) (omega arith)
-        (at_least b s d x on Ahead (a + 4 - j) ahead_all) (at_least b s d x on Behind (j - a) behind_all)
+        (least b s d x on Ahead (a + 4 - j) ahead_all) (least b s d x on Behind (j - a) behind_all)
         (λ e. just b s d x on Ahead (a + 4 - j) ahead_all (ahead_next ∙ e)) (λ e. more b s d x on Ahead (a + 4 - j) ahead_all (ahead_next ∙ e))
         (λ e. just b s d x on Behind (j - a) behind_all (behind_next ∙ e)) (λ e. more b s d x on Behind (j - a) behind_all (behind_next ∙ e))
 
-  window_point : (x : Point) (u : Bool) → along d p j 4 ≡ Some x → is_empty b x ≡ u → wins_on rule b s d x ≡ (is_empty b x && (nat_eq r 4 || (not (stone_at b s (along d p a 5)) && not (stone_at b s (along d p (a + 5) 4)))))
-  window_point x false here e = rw e refl
-  window_point x true here e =
-      let on : is_on b x ≡ true = is_empty-on b x e in
-      let run = run_towards b s Ahead d x ok on in
-      rw (e, run, window_wins x here on) refl
+  window_point : (x : Point) → along d p j 4 ≡ Some x → wins_on rule b s d x ≡ (is_empty b x && (nat_eq r 4 || (not (stone_at b s (along d p a 5)) && not (stone_at b s (along d p (a + 5) 4)))))
+  window_point x here = wins_on-stones rule b s d x ok ∙ and-same (is_empty b x) _ _ (λ e. window_wins x here (is_empty-on b x e))
 
   -- the place left out of a window of stones wins as its cell and those beside the window decide
   pub window_value : place_wins rule b s d p j ≡ (free_at b (along d p j 4) && (nat_eq r 4 || (not (stone_at b s (along d p a 5)) && not (stone_at b s (along d p (a + 5) 4)))))
   window_value = by_point (along d p j 4) refl where
     by_point : (o : Option Point) → along d p j 4 ≡ o → wins_at rule b s d o ≡ (free_at b o && (nat_eq r 4 || (not (stone_at b s (along d p a 5)) && not (stone_at b s (along d p (a + 5) 4)))))
     by_point None h = refl
-    by_point (Some x) h = window_point x (is_empty b x) h refl
+    by_point (Some x) h = window_point x h
 
 -- the places of a window of stones, but for the one that is left out, hold stones
 pub kept : (b : Grid) (s : Side) (d : Axis) (p : Point) (first gap i : ℕ) → first < 5 → are_stones (place_stone b s d p) first gap ≡ true → 4 - first ≤ i → i < 9 - first → i + first ≢ gap + 4 → stone_at b s (along d p i 4) ≡ true

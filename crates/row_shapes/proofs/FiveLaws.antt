@@ -1,6 +1,7 @@
 -- Five points told in short, and what a stone leaves of those of the other side.
 use Rattle.std.proofs.Common.{◌≡◌, ◌≢◌, inl, inr, Bool, true, false, cond, ◌&&◌, not, refl, sym, ap, subst, ◌∙◌, List, [], ◌∷◌}
 use Rattle.std.specs.List.{list_all, filter}
+use Rattle.std.proofs.lemmas.Bool.{false_from_ne_true}
 use Rattle.std.proofs.Math.Bool.{and-true, and-false}
 use Rattle.game_rules.specs.Grid.{Grid, IsBoard, is_empty, put, points_of}
 use Rattle.game_rules.specs.Shapes.{five, is_same_point}
@@ -9,10 +10,11 @@ use Rattle.game_rules.specs.Games.{has_five, five_points}
 use Rattle.game_rules.specs.declared.RuleKind.{RuleKind}
 use Rattle.game_rules.specs.declared.Side.{Side}
 use Rattle.game_rules.specs.declared.Point.{Point}
-use Rattle.game_rules.proofs.Boards.{Apart, same_or_apart, and_left, and_right, empty_holds, is_empty-on, holds-put_same}
+use Rattle.game_rules.proofs.Boards.{Apart, not-apart, same_or_apart, and_left, and_right, is_empty-on}
 use Rattle.game_rules.proofs.Points.{points-found, filter-passes, filter-none, filter-some, is_same_point-itself, apart-is_same_point}
 use Rattle.game_rules.proofs.Fives.{five-empty, five-other}
 use Rattle.game_rules.proofs.Places.{two_passing-apart}
+use Rattle.game_rules.proofs.OneLine.{empty-before}
 use Rattle.row_shapes.specs.declared.fives.FivePoints.{FivePoints}
 use Rattle.row_shapes.specs.declared.fives.FivePoints.TheVariants.{None, One, Several}
 use Rattle.row_shapes.specs.FivePoints.{in_short}
@@ -80,13 +82,7 @@ filter-both f g (x ∷ xs) = by_test (f x) (filter-both f g xs) where
 module _ (rule : RuleKind) (b : Grid) (s : Side) (p : Point) (ok : IsBoard b) (empty : is_empty b p ≡ true) where
   -- the point with the stone is no five point
   taken : (t : Side) → five rule (put b s p) t p ≡ false
-  taken t = by_test (five rule (put b s p) t p) refl where
-    by_test : (r : Bool) → five rule (put b s p) t p ≡ r → r ≡ false
-    by_test true e =
-        let none = empty_holds (put b s p) s p (five-empty rule (put b s p) t p e) in
-        let no : false ≡ true = sym none ∙ holds-put_same b s p ok (is_empty-on b p empty) in
-        cc
-    by_test false e = refl
+  taken t = false_from_ne_true _ (λ h. not-apart p (empty-before b s p p ok (is_empty-on b p empty) (five-empty rule (put b s p) t p h)).0)
 
   five-left : (q : Point) → five rule (put b s p) (other s) q ≡ (five rule b (other s) q && not (is_same_point p q))
   five-left q = elim (same_or_apart p q) [

@@ -4,12 +4,14 @@ use Rattle.std.specs.Prelude.{replicate}
 use Rattle.std.proofs.Math.Nat.{pow-succ'}
 use Rattle.game_rules.specs.Grid.{Grid, IsBoard, put}
 use Rattle.game_rules.specs.Shapes.{stone_at}
+use Rattle.game_rules.specs.Ways.{towards}
+use Rattle.game_rules.specs.declared.Cell.{Cell}
 use Rattle.game_rules.specs.declared.Cell.TheVariants.{Empty}
 use Rattle.game_rules.specs.declared.Side.TheVariants.{Black}
 use Rattle.game_rules.specs.declared.Axis.TheVariants.{Row}
+use Rattle.game_rules.specs.declared.Way.{Way}
+use Rattle.game_rules.specs.declared.Way.TheVariants.{Ahead, Behind}
 use Rattle.game_rules.proofs.Positions.{IsBoard-put}
-use Rattle.stone_board.specs.declared.board.Way.TheVariants.{Ahead, Behind}
-use Rattle.stone_board.specs.Steps.{towards}
 use Rattle.row_shapes.specs.LineCodes.{first_digits}
 use Rattle.row_shapes.specs.LineShapes.{line_cells, line_board, middle}
 use Rattle.row_shapes.specs.Halves.{owns, is_free, half_cells, free_at, SeesLine}
@@ -46,43 +48,24 @@ board_of reach digits = record { width = 2 * reach + 1; height = 5; cells = line
 abbrev stone_board : ℕ → ℕ → ℕ → Grid
 stone_board reach low high = put (board_of reach (first_digits reach low ++ first_digits reach high)) Black (middle reach)
 
+-- what holds of the places 1 to 5 holds of each of them
+each_near : (P : ℕ → Type 0) → P 1 → P 2 → P 3 → P 4 → P 5 → (k : ℕ) → 1 ≤ k → k ≤ 5 → P k
+each_near P one two three four five zero some near = absurd (omega arith)
+each_near P one two three four five (suc zero) some near = one
+each_near P one two three four five (suc (suc zero)) some near = two
+each_near P one two three four five (suc (suc (suc zero))) some near = three
+each_near P one two three four five (suc (suc (suc (suc zero)))) some near = four
+each_near P one two three four five (suc (suc (suc (suc (suc zero))))) some near = five
+each_near P one two three four five (suc (suc (suc (suc (suc (suc k)))))) some near = absurd (omega arith)
+
+-- the place so many steps from the middle holds a stone, or is empty, as the half says
+abbrev SameStone : ℕ → ℕ → ℕ → Way → List Cell → ℕ → Type 0
+SameStone reach low high w half k = stone_at (stone_board reach low high) Black (towards w Row (middle reach) k) ≡ owns half k
+
+abbrev SameFree : ℕ → ℕ → ℕ → Way → List Cell → ℕ → Type 0
+SameFree reach low high w half k = free_at (stone_board reach low high) (towards w Row (middle reach) k) ≡ is_free half k
+
 module _ (low high : ℕ) where
-  four_ahead_stones : (k : ℕ) → 1 ≤ k → k ≤ 5 → stone_at (stone_board 4 low high) Black (towards Ahead Row (middle 4) k) ≡ owns (half_cells Ahead 4 high) k
-  four_ahead_stones zero some near = absurd (omega arith)
-  four_ahead_stones (suc zero) some near = refl
-  four_ahead_stones (suc (suc zero)) some near = refl
-  four_ahead_stones (suc (suc (suc zero))) some near = refl
-  four_ahead_stones (suc (suc (suc (suc zero)))) some near = refl
-  four_ahead_stones (suc (suc (suc (suc (suc zero))))) some near = refl
-  four_ahead_stones (suc (suc (suc (suc (suc (suc k)))))) some near = absurd (omega arith)
-
-  four_ahead_frees : (k : ℕ) → 1 ≤ k → k ≤ 5 → free_at (stone_board 4 low high) (towards Ahead Row (middle 4) k) ≡ is_free (half_cells Ahead 4 high) k
-  four_ahead_frees zero some near = absurd (omega arith)
-  four_ahead_frees (suc zero) some near = refl
-  four_ahead_frees (suc (suc zero)) some near = refl
-  four_ahead_frees (suc (suc (suc zero))) some near = refl
-  four_ahead_frees (suc (suc (suc (suc zero)))) some near = refl
-  four_ahead_frees (suc (suc (suc (suc (suc zero))))) some near = refl
-  four_ahead_frees (suc (suc (suc (suc (suc (suc k)))))) some near = absurd (omega arith)
-
-  four_behind_stones : (k : ℕ) → 1 ≤ k → k ≤ 5 → stone_at (stone_board 4 low high) Black (towards Behind Row (middle 4) k) ≡ owns (half_cells Behind 4 low) k
-  four_behind_stones zero some near = absurd (omega arith)
-  four_behind_stones (suc zero) some near = refl
-  four_behind_stones (suc (suc zero)) some near = refl
-  four_behind_stones (suc (suc (suc zero))) some near = refl
-  four_behind_stones (suc (suc (suc (suc zero)))) some near = refl
-  four_behind_stones (suc (suc (suc (suc (suc zero))))) some near = refl
-  four_behind_stones (suc (suc (suc (suc (suc (suc k)))))) some near = absurd (omega arith)
-
-  four_behind_frees : (k : ℕ) → 1 ≤ k → k ≤ 5 → free_at (stone_board 4 low high) (towards Behind Row (middle 4) k) ≡ is_free (half_cells Behind 4 low) k
-  four_behind_frees zero some near = absurd (omega arith)
-  four_behind_frees (suc zero) some near = refl
-  four_behind_frees (suc (suc zero)) some near = refl
-  four_behind_frees (suc (suc (suc zero))) some near = refl
-  four_behind_frees (suc (suc (suc (suc zero)))) some near = refl
-  four_behind_frees (suc (suc (suc (suc (suc zero))))) some near = refl
-  four_behind_frees (suc (suc (suc (suc (suc (suc k)))))) some near = absurd (omega arith)
-
   four_board : IsBoard (stone_board 4 low high)
   four_board = IsBoard-put (board_of 4 (first_digits 4 low ++ first_digits 4 high)) Black (middle 4) (record { wide = omega arith; width_fits = omega arith; high = omega arith; height_fits = omega arith; filled = refl })
 
@@ -90,45 +73,17 @@ module _ (low high : ℕ) where
   four_line = record {
     board = four_board;
     stone = refl;
-    forth = record { places = refl; stones = four_ahead_stones; frees = four_ahead_frees };
-    back = record { places = refl; stones = four_behind_stones; frees = four_behind_frees };
+    forth = record {
+      places = refl;
+      stones = each_near (SameStone 4 low high Ahead (half_cells Ahead 4 high)) refl refl refl refl refl;
+      frees = each_near (SameFree 4 low high Ahead (half_cells Ahead 4 high)) refl refl refl refl refl;
+    };
+    back = record {
+      places = refl;
+      stones = each_near (SameStone 4 low high Behind (half_cells Behind 4 low)) refl refl refl refl refl;
+      frees = each_near (SameFree 4 low high Behind (half_cells Behind 4 low)) refl refl refl refl refl;
+    };
   }
-
-  five_ahead_stones : (k : ℕ) → 1 ≤ k → k ≤ 5 → stone_at (stone_board 5 low high) Black (towards Ahead Row (middle 5) k) ≡ owns (half_cells Ahead 5 high) k
-  five_ahead_stones zero some near = absurd (omega arith)
-  five_ahead_stones (suc zero) some near = refl
-  five_ahead_stones (suc (suc zero)) some near = refl
-  five_ahead_stones (suc (suc (suc zero))) some near = refl
-  five_ahead_stones (suc (suc (suc (suc zero)))) some near = refl
-  five_ahead_stones (suc (suc (suc (suc (suc zero))))) some near = refl
-  five_ahead_stones (suc (suc (suc (suc (suc (suc k)))))) some near = absurd (omega arith)
-
-  five_ahead_frees : (k : ℕ) → 1 ≤ k → k ≤ 5 → free_at (stone_board 5 low high) (towards Ahead Row (middle 5) k) ≡ is_free (half_cells Ahead 5 high) k
-  five_ahead_frees zero some near = absurd (omega arith)
-  five_ahead_frees (suc zero) some near = refl
-  five_ahead_frees (suc (suc zero)) some near = refl
-  five_ahead_frees (suc (suc (suc zero))) some near = refl
-  five_ahead_frees (suc (suc (suc (suc zero)))) some near = refl
-  five_ahead_frees (suc (suc (suc (suc (suc zero))))) some near = refl
-  five_ahead_frees (suc (suc (suc (suc (suc (suc k)))))) some near = absurd (omega arith)
-
-  five_behind_stones : (k : ℕ) → 1 ≤ k → k ≤ 5 → stone_at (stone_board 5 low high) Black (towards Behind Row (middle 5) k) ≡ owns (half_cells Behind 5 low) k
-  five_behind_stones zero some near = absurd (omega arith)
-  five_behind_stones (suc zero) some near = refl
-  five_behind_stones (suc (suc zero)) some near = refl
-  five_behind_stones (suc (suc (suc zero))) some near = refl
-  five_behind_stones (suc (suc (suc (suc zero)))) some near = refl
-  five_behind_stones (suc (suc (suc (suc (suc zero))))) some near = refl
-  five_behind_stones (suc (suc (suc (suc (suc (suc k)))))) some near = absurd (omega arith)
-
-  five_behind_frees : (k : ℕ) → 1 ≤ k → k ≤ 5 → free_at (stone_board 5 low high) (towards Behind Row (middle 5) k) ≡ is_free (half_cells Behind 5 low) k
-  five_behind_frees zero some near = absurd (omega arith)
-  five_behind_frees (suc zero) some near = refl
-  five_behind_frees (suc (suc zero)) some near = refl
-  five_behind_frees (suc (suc (suc zero))) some near = refl
-  five_behind_frees (suc (suc (suc (suc zero)))) some near = refl
-  five_behind_frees (suc (suc (suc (suc (suc zero))))) some near = refl
-  five_behind_frees (suc (suc (suc (suc (suc (suc k)))))) some near = absurd (omega arith)
 
   five_board : IsBoard (stone_board 5 low high)
   five_board = IsBoard-put (board_of 5 (first_digits 5 low ++ first_digits 5 high)) Black (middle 5) (record { wide = omega arith; width_fits = omega arith; high = omega arith; height_fits = omega arith; filled = refl })
@@ -137,8 +92,16 @@ module _ (low high : ℕ) where
   five_line = record {
     board = five_board;
     stone = refl;
-    forth = record { places = refl; stones = five_ahead_stones; frees = five_ahead_frees };
-    back = record { places = refl; stones = five_behind_stones; frees = five_behind_frees };
+    forth = record {
+      places = refl;
+      stones = each_near (SameStone 5 low high Ahead (half_cells Ahead 5 high)) refl refl refl refl refl;
+      frees = each_near (SameFree 5 low high Ahead (half_cells Ahead 5 high)) refl refl refl refl refl;
+    };
+    back = record {
+      places = refl;
+      stones = each_near (SameStone 5 low high Behind (half_cells Behind 5 low)) refl refl refl refl refl;
+      frees = each_near (SameFree 5 low high Behind (half_cells Behind 5 low)) refl refl refl refl refl;
+    };
   }
 
 code_four : (low high : ℕ) → low < 3 ^ 4 → SeesLine (half_cells Ahead 4 high) (half_cells Behind 4 low) (put (line_board 4 (low + 3 ^ 4 * high)) Black (middle 4)) (middle 4)

@@ -10,8 +10,8 @@ use Rattle.game_rules.specs.declared.RuleKind.{RuleKind}
 use Rattle.game_rules.specs.declared.Side.TheVariants.{Black}
 use Rattle.game_rules.specs.declared.Axis.TheVariants.{Row}
 use Rattle.game_rules.specs.declared.Point.{Point}
+use Rattle.game_rules.specs.declared.Way.TheVariants.{Ahead, Behind}
 use Rattle.game_rules.proofs.Lines.{along-same, along-zero}
-use Rattle.stone_board.specs.declared.board.Way.TheVariants.{Ahead, Behind}
 use Rattle.row_shapes.specs.Gaps.{listed, is_four, are_stones, fours_from}
 use Rattle.row_shapes.specs.Halves.{owns, nine_places, free_place, wins_window, is_four_off, fours_off, free_at, SeesLine}
 use Rattle.row_shapes.proofs.Counting.{fours_of-gap}

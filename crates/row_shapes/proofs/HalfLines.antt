@@ -8,22 +8,22 @@ use Rattle.std.proofs.lemmas.List.{get_or-drop, get_or_past}
 use Rattle.std.proofs.lemmas.List.Sums.{prefix_len_passes, prefix_len_stops, prefix_len-le-length}
 use Rattle.game_rules.specs.Grid.{Grid, is_on, is_empty, is_stone_of, along}
 use Rattle.game_rules.specs.Shapes.{row_wins, stone_at, run_of, fours_of, is_straight, is_line_three_at}
+use Rattle.game_rules.specs.Ways.{towards, opposite, stones_towards, go}
 use Rattle.game_rules.specs.declared.Cell.{Cell}
 use Rattle.game_rules.specs.declared.Cell.TheVariants.{White as WhiteStone}
 use Rattle.game_rules.specs.declared.RuleKind.{RuleKind}
 use Rattle.game_rules.specs.declared.Side.TheVariants.{Black}
 use Rattle.game_rules.specs.declared.Axis.TheVariants.{Row}
 use Rattle.game_rules.specs.declared.Point.{Point}
+use Rattle.game_rules.specs.declared.Way.{Way}
+use Rattle.game_rules.specs.declared.Way.TheVariants.{Ahead, Behind}
 use Rattle.game_rules.proofs.Boards.{and_left, is_empty-on}
 use Rattle.game_rules.proofs.Runs.{Leads}
-use Rattle.stone_board.specs.declared.board.Way.{Way}
-use Rattle.stone_board.specs.declared.board.Way.TheVariants.{Ahead, Behind}
-use Rattle.stone_board.specs.Steps.{towards, opposite, stones_towards}
+use Rattle.game_rules.proofs.Ways.{go-then, go-same, leads}
 use Rattle.row_shapes.specs.Halves.{owns, is_free, row_past, row_beyond, wins_off, is_open, three_off, free_at, SeesHalf, SeesLine}
 use Rattle.row_shapes.specs.LineShapes.{three_bits}
 use Rattle.row_shapes.specs.Reach.{stones_past}
 use Rattle.row_shapes.specs.Threes.{wins_past, is_open_four, three_place, place_towards, bit_of}
-use Rattle.row_shapes.proofs.Ways.{go, go-then, go-same, go-towards, leads}
 use Rattle.row_shapes.proofs.Alike.{wins_by, wins_same, le_same, le_true, le_false, eq_false, eq_from, leads_alike, past_value, straight_value, run_value, three_value}
 use Rattle.row_shapes.proofs.Reaches.{few-no_fours}
 use Rattle.row_shapes.proofs.ThreeBits.{eleven_bits}
@@ -75,10 +75,10 @@ module _ (r : ℕ) (rule : RuleKind) (front rear : List Cell) (b : Grid) (p : Po
   on_p = and_left (is_on b p) _ sees.stone
 
   pub stones : (w : Way) (k : ℕ) → 1 ≤ k → k ≤ 5 → stone_at b Black (go w Row p k 0) ≡ owns (half w) k
-  stones w k some near = ap (stone_at b Black) (sym (go-towards w Row p k)) ∙ (seen w).stones k some near
+  stones w k some near = (seen w).stones k some near
 
   pub frees : (w : Way) (k : ℕ) → 1 ≤ k → k ≤ 5 → free_at b (go w Row p k 0) ≡ is_free (half w) k
-  frees w k some near = ap (free_at b) (sym (go-towards w Row p k)) ∙ (seen w).frees k some near
+  frees w k some near = (seen w).frees k some near
 
   -- the stones next to the middle, up to five
   near : (w : Way) → min 5 (stones_towards w b Black Row p) ≡ row_past (half w) 0

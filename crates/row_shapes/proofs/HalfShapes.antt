@@ -8,7 +8,7 @@ use Rattle.game_rules.specs.declared.RuleKind.TheVariants.{Freestyle, Exact}
 use Rattle.game_rules.specs.declared.Side.TheVariants.{Black}
 use Rattle.game_rules.specs.declared.Axis.TheVariants.{Row}
 use Rattle.game_rules.specs.declared.Point.{Point}
-use Rattle.stone_board.specs.declared.board.Way.TheVariants.{Ahead, Behind}
+use Rattle.game_rules.specs.declared.Way.TheVariants.{Ahead, Behind}
 use Rattle.row_shapes.specs.Halves.{row_past, row_beyond, is_open, three_off, nine_places, fours_off, rule_by, SeesLine}
 use Rattle.row_shapes.specs.LineShapes.{three_bits}
 use Rattle.row_shapes.specs.Threes.{bit_of}

@@ -9,8 +9,8 @@ use Rattle.game_rules.specs.Grid.{Grid, put}
 use Rattle.game_rules.specs.declared.Axis.TheVariants.{Row}
 use Rattle.game_rules.specs.declared.Point.{Point}
 use Rattle.game_rules.specs.declared.Side.TheVariants.{Black}
-use Rattle.stone_board.specs.declared.board.Way.{Way}
-use Rattle.stone_board.specs.declared.board.Way.TheVariants.{Ahead, Behind}
+use Rattle.game_rules.specs.declared.Way.{Way}
+use Rattle.game_rules.specs.declared.Way.TheVariants.{Ahead, Behind}
 use Rattle.row_shapes.specs.HalfTables.{TellsHalves}
 use Rattle.row_shapes.specs.Halves.{half_cells, rule_by, SeesLine}
 use Rattle.row_shapes.specs.LineShapes.{line_board, middle, shape_of, shape_at, stone_shape}

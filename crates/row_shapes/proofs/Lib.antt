@@ -6,12 +6,10 @@ pub mod ThreePoints
 pub mod Reaches
 -- five points in short, and what a stone leaves of them
 pub mod FiveLaws
--- lines seen in one of two ways; the five points that a stone makes; the law of reach
-pub mod Ways
+-- the five points that a stone makes; the law of reach
 pub mod NewFives
 pub mod ReachLaw
--- where tests hold; short lists
-mod Finds
+-- short lists
 mod ShortLists
 -- lines that look the same within reach, and what a stone makes on them
 mod Alike

@@ -3,6 +3,7 @@ use Rattle.std.proofs.Common.{◌≡◌, ◌≢◌, ℕ, zero, suc, ◌+◌, ◌
 use Rattle.std.specs.Prelude.{Option, Some, None, map, replicate}
 use Rattle.game_rules.specs.Grid.{Grid, IsBoard, is_on, is_empty, is_empty_cell, is_stone_of, holds, put, along}
 use Rattle.game_rules.specs.Shapes.{row_wins, stone_at}
+use Rattle.game_rules.specs.Ways.{go}
 use Rattle.game_rules.specs.declared.RuleKind.{RuleKind}
 use Rattle.game_rules.specs.declared.RuleKind.TheVariants.{Freestyle, Exact, Renju}
 use Rattle.game_rules.specs.declared.Side.{Side}
@@ -11,15 +12,15 @@ use Rattle.game_rules.specs.declared.Axis.{Axis}
 use Rattle.game_rules.specs.declared.Axis.TheVariants.{Row}
 use Rattle.game_rules.specs.declared.Cell.TheVariants.{Empty}
 use Rattle.game_rules.specs.declared.Point.{Point}
+use Rattle.game_rules.specs.declared.Way.{Way}
+use Rattle.game_rules.specs.declared.Way.TheVariants.{Ahead, Behind}
 use Rattle.game_rules.proofs.Boards.{is_empty-on, is_empty-put, empty_holds, holds-put_same}
 use Rattle.game_rules.proofs.Positions.{IsBoard-put}
 use Rattle.game_rules.proofs.Lines.{along-same}
-use Rattle.stone_board.specs.declared.board.Way.{Way}
-use Rattle.stone_board.specs.declared.board.Way.TheVariants.{Ahead, Behind}
+use Rattle.game_rules.proofs.Ways.{go-zero, go-apart, else_at}
 use Rattle.row_shapes.specs.LineCodes.{digit_at, from_digits, first_digits, places_beside, line_code}
 use Rattle.row_shapes.specs.LineShapes.{LawOfReach, IsShape, cell_of_digit, line_cells, middle, stone_shape, shape_at, shape_of}
 use Rattle.row_shapes.specs.Halves.{free_at}
-use Rattle.row_shapes.proofs.Ways.{go, go-zero, go-apart, else_at}
 use Rattle.row_shapes.proofs.Alike.{wins_by, wins-reach, wins-line, Alike, Both, five-alike, over-alike, straight-alike, three-alike}
 use Rattle.row_shapes.proofs.AlikeFours.{fours-alike}
 

@@ -1,28 +1,27 @@
 -- What stands within reach of a stone: three others where it is in a four, two where it has a three point.
-use Rattle.std.proofs.Common.{◌≡◌, ◌≢◌, inl, inr, ℕ, zero, suc, ◌+◌, ◌-◌, ◌≤◌, ◌<◌, Bool, true, false, cond, ◌&&◌, ◌||◌, not, refl, sym, ap, ◌∙◌, arith, nat_eq, nat_lt, eq-eqb}
-use Rattle.std.specs.Prelude.{Option, Some, None, IsTrue}
-use Rattle.std.specs.List.{list_all, range_with_len}
+use Rattle.std.proofs.Common.{◌≡◌, ◌≢◌, inl, inr, ℕ, zero, suc, ◌+◌, ◌-◌, ◌≤◌, ◌<◌, Bool, true, false, cond, ◌&&◌, ◌||◌, not, refl, sym, ap, ◌∙◌, arith, nat_eq, eq-eqb}
+use Rattle.std.specs.Prelude.{Option, Some, None}
+use Rattle.std.specs.List.{range_with_len, sum_by}
 use Rattle.std.proofs.lemmas.Bool.{cases_lt, false_from_ne_true}
 use Rattle.std.proofs.lemmas.Bool.Decides.{nat_tests}
-use Rattle.game_rules.specs.Grid.{Grid, IsBoard, is_on, is_empty, is_empty_cell, is_stone_of, cell_at, holds, put, along}
+use Rattle.std.proofs.lemmas.List.Sums.{sum_by-cons}
+use Rattle.game_rules.specs.Grid.{Grid, IsBoard, is_on, is_empty, holds, put, along}
 use Rattle.game_rules.specs.Shapes.{stone_at, wins_at, fours_of, place_stone, place_wins, is_line_three_point}
+use Rattle.game_rules.specs.Ways.{towards, opposite, stones_towards, go}
 use Rattle.game_rules.specs.declared.RuleKind.{RuleKind}
 use Rattle.game_rules.specs.declared.Side.{Side}
 use Rattle.game_rules.specs.declared.Axis.{Axis}
-use Rattle.game_rules.specs.declared.Cell.{Cell}
-use Rattle.game_rules.specs.declared.Cell.TheVariants.{Empty, Black as BlackStone, White as WhiteStone}
 use Rattle.game_rules.specs.declared.Point.{Point}
-use Rattle.game_rules.proofs.Boards.{Apart, and_left, and_right, is_empty-on, is_empty-put}
+use Rattle.game_rules.specs.declared.Way.{Way}
+use Rattle.game_rules.specs.declared.Way.TheVariants.{Ahead, Behind}
+use Rattle.game_rules.proofs.Rows.{all_in_range}
+use Rattle.game_rules.proofs.Boards.{Apart, empty_holds, and_left, and_right, is_empty-on, is_empty-put}
 use Rattle.game_rules.proofs.Lines.{along-same}
-use Rattle.stone_board.specs.declared.board.Way.{Way}
-use Rattle.stone_board.specs.declared.board.Way.TheVariants.{Ahead, Behind}
-use Rattle.stone_board.specs.Steps.{towards, opposite, stones_towards}
-use Rattle.row_shapes.specs.Gaps.{is_four, are_stones}
+use Rattle.game_rules.proofs.Ways.{go-then, go-same, go-zero, go-apart, leads_is, towards-put, beyond-put, least, least_back}
+use Rattle.row_shapes.specs.Gaps.{is_four, are_stones, fours_from}
 use Rattle.row_shapes.specs.Reach.{stones_past, reach_towards, stones_in_reach}
 use Rattle.row_shapes.proofs.Counting.{fours_of-gap}
 use Rattle.row_shapes.proofs.ThreePoints.{three_first, three_empty, first_open}
-use Rattle.row_shapes.proofs.Ways.{go, go-then, go-same, go-zero, go-towards, go-apart, leads, leads_is, leads_back, towards-put, beyond-put}
-use borrow.Author.Tests.{ltb-true}
 
 -- ---- a stone changes nothing that is within reach of its point
 
@@ -39,7 +38,7 @@ module _ (b : Grid) (s : Side) (p : Point) (on : is_on b p ≡ true) where
   past-put w d k = by_point (towards w d p (1 + k)) refl where
     by_point : (o : Option Point) → towards w d p (1 + k) ≡ o → stones_past w (put b s p) s d o ≡ stones_past w b s d o
     by_point None h = refl
-    by_point (Some e) h = past_by w d k e (sym (go-towards w d p (1 + k)) ∙ h) (is_empty b e) refl
+    by_point (Some e) h = past_by w d k e (h) (is_empty b e) refl
 
   reach_towards-put : (w : Way) (d : Axis) → reach_towards w (put b s p) s d p ≡ reach_towards w b s d p
   reach_towards-put w d = rw (towards-put b s p on w d, towards-put b s p on (opposite w) d, past-put w d (stones_towards w b s d p)) refl
@@ -49,61 +48,36 @@ module _ (b : Grid) (s : Side) (p : Point) (on : is_on b p ≡ true) where
 
 -- ---- what a four has within reach
 
-no_stone : (s : Side) (c : Cell) (on : Bool) → (on && is_empty_cell c) ≡ true → (on && is_stone_of s c) ≡ false
-no_stone s Empty true h = refl
-no_stone s BlackStone true h = cc
-no_stone s WhiteStone true h = cc
-no_stone s c false h = cc
-
-pub all_in_range : (f : ℕ → Bool) (n a k : ℕ) → list_all f (range_with_len a n) ≡ true → a ≤ k → k < a + n → f k ≡ true
-all_in_range f zero a k h low high = absurd (omega arith)
-all_in_range f (suc n) a k h low high = elim (cases_lt a k) [
-  | inl more ↦ all_in_range f n (a + 1) k (and_right (f a) _ h) (omega arith) (omega arith)
-  | inr less ↦ let same : a ≡ k = omega arith in ap f (sym same) ∙ and_left (f a) _ h
-]
+-- a sum of nothing
+sum_none : (f : ℕ → ℕ) (n a : ℕ) → ((k : ℕ) → a ≤ k → k < a + n → f k ≡ 0) → sum_by f (range_with_len a n) ≡ 0
+sum_none f zero a h = refl
+sum_none f (suc n) a h =
+    let here = h a (omega arith) (omega arith) in
+    let rest = sum_none f n (a + 1) (λ k low high. h k (omega arith) (omega arith)) in
+    let none : f a + sum_by f (range_with_len (a + 1) n) ≡ 0 = omega (arith, here, rest) in
+    sum_by-cons f a (range_with_len (a + 1) n) ∙ none
 
 module _ (b : Grid) (s : Side) (d : Axis) (p : Point) (on : is_on b p ≡ true) where
-  -- as many places next to a point that hold stones are in its row
-  pub least : (q : Point) → is_on b q ≡ true → (w : Way) (m : ℕ) → ((j : ℕ) → 1 ≤ j → j ≤ m → stone_at b s (go w d q j 0) ≡ true) → m ≤ stones_towards w b s d q
-  least q here w m all = elim (cases_lt (stones_towards w b s d q) m) [
-    | inl less ↦ absurd (
-        let stop = (leads b s d q here w).stops in
-        let stone = all (1 + stones_towards w b s d q) (omega arith) (omega arith) in
-        let differ : true ≡ false = sym stone ∙ stop in
-        cc)
-    | inr enough ↦ omega arith
-  ]
-
-  least_back : (w : Way) (m : ℕ) → ((j : ℕ) → 1 ≤ j → j ≤ m → stone_at b s (go w d p 0 j) ≡ true) → m ≤ stones_towards (opposite w) b s d p
-  least_back w m all = elim (cases_lt (stones_towards (opposite w) b s d p) m) [
-    | inl less ↦ absurd (
-        let stop = (leads_back b s d p on w).stops in
-        let stone = all (1 + stones_towards (opposite w) b s d p) (omega arith) (omega arith) in
-        let differ : true ≡ false = sym stone ∙ stop in
-        cc)
-    | inr enough ↦ omega arith
-  ]
-
   -- four stones of one row
   row_reach : (w : Way) (fore aft : ℕ) → 3 ≤ fore + aft → ((j : ℕ) → 1 ≤ j → j ≤ fore → stone_at b s (go w d p j 0) ≡ true) → ((j : ℕ) → 1 ≤ j → j ≤ aft → stone_at b s (go w d p 0 j) ≡ true) → 3 ≤ reach_towards w b s d p
   row_reach w fore aft three before behind =
-      let near = least p on w fore before in
-      let far = least_back w aft behind in
+      let near = least b s d p on w fore before in
+      let far = least_back b s d p on w aft behind in
       omega (arith, near, far, three)
 
   -- four stones of five places, of which the one that is g steps on is empty
   gap_reach : (w : Way) (g fore aft : ℕ) (e : Point) → 1 ≤ g → g ≤ fore → fore + aft ≡ 4 → ((j : ℕ) → 1 ≤ j → j ≤ fore → j ≢ g → stone_at b s (go w d p j 0) ≡ true) → ((j : ℕ) → 1 ≤ j → j ≤ aft → stone_at b s (go w d p 0 j) ≡ true) → go w d p g 0 ≡ Some e → is_empty b e ≡ true → 3 ≤ reach_towards w b s d p
   gap_reach w g fore aft e low high five before behind here empty =
-      let none : holds b s e ≡ false = no_stone s (cell_at b e) (is_on b e) empty in
+      let none : holds b s e ≡ false = empty_holds b s e empty in
       let next : 1 + (g - 1) ≡ g = omega arith in
       let near : stones_towards w b s d p ≡ g - 1 = leads_is b s d p on w (g - 1) (record {
         holds = λ j from to. before j from (omega arith) (λ same. absurd (omega arith));
         stops = ap (λ k. stone_at b s (go w d p k 0)) next ∙ ap (stone_at b s) here ∙ none;
       }) in
-      let far = least_back w aft behind in
-      let beyond = least e (is_empty-on b e empty) w (fore - g) (λ j from to.
+      let far = least_back b s d p on w aft behind in
+      let beyond = least b s d e (is_empty-on b e empty) w (fore - g) (λ j from to.
       ap (stone_at b s) (go-then w d p e g 0 j 0 here ∙ go-same w d p (g + j) (0 + 0) (g + j) 0 (omega arith)) ∙ before (g + j) (omega arith) (omega arith) (λ same. absurd (omega arith))) in
-      let there : towards w d p (1 + stones_towards w b s d p) ≡ Some e = go-towards w d p (1 + stones_towards w b s d p) ∙ ap (λ k. go w d p (1 + k) 0) near ∙ ap (λ k. go w d p k 0) next ∙ here in
+      let there : towards w d p (1 + stones_towards w b s d p) ≡ Some e = ap (λ k. go w d p (1 + k) 0) near ∙ ap (λ k. go w d p k 0) next ∙ here in
       let past : stones_past w b s d (towards w d p (1 + stones_towards w b s d p)) ≡ stones_towards w b s d e = ap (stones_past w b s d) there ∙ ap (λ r. cond r (stones_towards w b s d e) 0) empty in
       omega (arith, near, far, beyond, past, five, low, high)
 
@@ -188,36 +162,16 @@ module _ (b : Grid) (s : Side) (d : Axis) (p : Point) (on : is_on b p ≡ true) 
 
   -- where fewer than three stones are within reach of a point, its stone is in no four
   pub few-no_fours : (rule : RuleKind) → stones_in_reach b s d p < 3 → fours_of rule b s d p ≡ 0
-  few-no_fours rule few = fours_of-gap rule b s d p ∙ rw (
-    no 0 1 refl refl,
-    no 0 2 refl refl,
-    no 0 3 refl refl,
-    no 0 4 refl refl,
-    no 1 1 refl refl,
-    no 1 2 refl refl,
-    no 1 3 refl refl,
-    no 1 4 refl refl,
-    no 2 1 refl refl,
-    no 2 2 refl refl,
-    no 2 3 refl refl,
-    no 2 4 refl refl,
-    no 3 1 refl refl,
-    no 3 2 refl refl,
-    no 3 3 refl refl,
-    no 3 4 refl refl,
-    no 4 1 refl refl,
-    no 4 2 refl refl,
-    no 4 3 refl refl,
-    no 4 4 refl refl,
-  ) refl where
-    no : (first gap : ℕ) → IsTrue (nat_lt first 5) → IsTrue (nat_lt gap 5) → is_four (place_stone b s d p) (place_wins rule b s d p) first gap ≡ false
-    no first gap l n = no_four rule first gap (ltb-true _ _ l) (ltb-true _ _ n) few
+  few-no_fours rule few = fours_of-gap rule b s d p
+      ∙ sum_none (λ first. fours_from (place_stone b s d p) (place_wins rule b s d p) first) 5 0 (λ first low high.
+      sum_none (λ gap. cond (is_four (place_stone b s d p) (place_wins rule b s d p) first gap) 1 0) 4 1 (λ gap some near.
+      ap (λ r. cond r 1 0) (no_four rule first gap (omega arith) (omega arith) few)))
 
   -- where fewer than two are, it has no three point
   pub few-no_three : (rule : RuleKind) (q : Point) → IsBoard b → holds b s p ≡ true → stones_in_reach b s d p < 2 → is_line_three_point rule b s d p q ≡ false
   few-no_three rule q ok mine few = false_from_ne_true _ (λ h.
       let w = three_first rule b s d p q ok mine h in
-      let there : towards w.0 d p (1 + stones_towards w.0 b s d p) ≡ Some q = go-towards w.0 d p (1 + stones_towards w.0 b s d p) ∙ w.1 in
+      let there : towards w.0 d p (1 + stones_towards w.0 b s d p) ≡ Some q = w.1 in
       let sum = first_open rule b s d p ok mine w.0 q there h in
       let past : stones_past w.0 b s d (towards w.0 d p (1 + stones_towards w.0 b s d p)) ≡ stones_towards w.0 b s d q =
       ap (stones_past w.0 b s d) there ∙ ap (λ r. cond r (stones_towards w.0 b s d q) 0) (three_empty rule b s d p q h) in

@@ -1,39 +1,29 @@
 -- A three point of a stone is the first point in one of the two ways that holds no stone of its side.
-use Rattle.std.proofs.Common.{◌≡◌, ◌≢◌, inl, inr, ℕ, ◌+◌, ◌-◌, ◌≤◌, ◌<◌, max, Bool, true, false, cond, ◌&&◌, not, refl, sym, ap, ◌∙◌, arith, nat_eq, eq-eqb}
+use Rattle.std.proofs.Common.{◌≡◌, ℕ, ◌+◌, ◌-◌, ◌≤◌, ◌<◌, max, Bool, true, false, cond, ◌&&◌, not, refl, sym, ap, ◌∙◌, arith, nat_eq, eq-eqb}
 use Rattle.std.specs.Prelude.{Option, Some, None}
-use Rattle.std.specs.List.{list_any, range_with_len}
-use Rattle.std.proofs.lemmas.Bool.{cases_lt, or_cases as either}
 use Rattle.std.proofs.lemmas.Bool.Decides.{nat_tests}
 use Rattle.std.proofs.Math.Bool.{and-true, and-false}
 use Rattle.std.proofs.lemmas.Nat.Bits.{bit_at_or, bit_at-lt, bit_at-zero, bit_at-pow_same, bit_at-pow_other}
 use Rattle.std.specs.Prelude.{bit_or}
 use Rattle.std.specs.Int.{bit_at}
-use Rattle.game_rules.specs.Grid.{Grid, IsBoard, is_on, is_empty, cell_at, holds, put, along}
-use Rattle.game_rules.specs.Shapes.{row_wins, stone_at, run_of, wins_on, wins_at, is_straight, is_at, is_in_run, gives_straight, is_line_three_point, is_line_three_at, stones_ahead, stones_behind}
+use Rattle.game_rules.specs.Grid.{Grid, IsBoard, is_on, is_empty, holds, put, along}
+use Rattle.game_rules.specs.Shapes.{row_wins, wins_on, wins_at, is_straight, is_in_run, gives_straight, is_line_three_point, is_line_three_at, stones_ahead, stones_behind}
+use Rattle.game_rules.specs.Ways.{towards, opposite, stones_towards, go, run_end}
 use Rattle.game_rules.specs.declared.RuleKind.{RuleKind}
-use Rattle.game_rules.specs.declared.RuleKind.TheVariants.{Freestyle, Exact, Renju}
 use Rattle.game_rules.specs.declared.Side.{Side}
-use Rattle.game_rules.specs.declared.Side.TheVariants.{Black, White}
 use Rattle.game_rules.specs.declared.Axis.{Axis}
-use Rattle.game_rules.specs.declared.Cell.TheVariants.{Empty}
 use Rattle.game_rules.specs.declared.Point.{Point}
-use Rattle.game_rules.proofs.Points.{is_same_point-itself}
-use Rattle.game_rules.proofs.Boards.{Apart, is_empty-put, is_empty-cell, and_left, and_right, is_empty-on, holds-put_same}
+use Rattle.game_rules.specs.declared.Way.{Way}
+use Rattle.game_rules.specs.declared.Way.TheVariants.{Ahead, Behind}
+use Rattle.game_rules.proofs.Boards.{Apart, and-same, is_empty-put, and_left, and_right, is_empty-on}
 use Rattle.game_rules.proofs.Positions.{holds-put_more, IsBoard-put}
-use Rattle.game_rules.proofs.Rows.{any_found, or_cases}
-use Rattle.game_rules.proofs.Lines.{along-same, along-zero}
-use Rattle.stone_board.specs.declared.board.Way.{Way}
-use Rattle.stone_board.specs.declared.board.Way.TheVariants.{Ahead, Behind}
-use Rattle.stone_board.specs.Steps.{kept_on, towards, opposite, stones_towards}
+use Rattle.game_rules.proofs.Lines.{along-same, along-steps}
+use Rattle.game_rules.proofs.Ways.{go-then, go-same, go-opposite, go-apart, opposite-opposite, run_before_end, beyond-put}
+use Rattle.game_rules.proofs.Wins.{wins_on-ways}
+use Rattle.game_rules.proofs.RunEnds.{end_joins, end_leaves, end_in_run, in_run-end}
+use Rattle.stone_board.specs.Steps.{kept_on}
+use Rattle.row_shapes.specs.Rule.{fewer_never}
 use Rattle.row_shapes.specs.Threes.{wins_past, is_open_four, three_place, place_towards, bit_of}
-use Rattle.row_shapes.proofs.Finds.{any_in_range, is_at-Some}
-use Rattle.row_shapes.proofs.Ways.{along-steps, go, go-then, go-same, go-towards, go-opposite, go-apart, opposite-opposite, else_at, leads, leads_is, leads_back, leads_back_is, run_before_end, run_towards}
-
--- ---- a stone beside others
-
-put_more : (b : Grid) (s : Side) (q : Point) (o : Option Point) → IsBoard b → is_empty b q ≡ true → stone_at b s o ≡ true → stone_at (put b s q) s o ≡ true
-put_more b s q None ok empty h = h
-put_more b s q (Some r) ok empty h = holds-put_more b s q r ok empty h
 
 -- ---- the end of a run
 
@@ -51,39 +41,28 @@ module _ (rule : RuleKind) (b : Grid) (s : Side) (w : Way) (d : Axis) (p q : Poi
     apart = go-apart w d p q e x y (1 + reach) 0 here end (λ same. absurd (omega arith))
 
     stones_past : is_on b e ≡ true → stones_towards w (put b s q) s d e ≡ stones_towards w b s d e
-    stones_past on = leads_is (put b s q) s d e on w (stones_towards w b s d e) (record {
-      holds = λ j low high. same j ∙ (leads b s d e on w).holds j low high;
-      stops = same (1 + stones_towards w b s d e) ∙ (leads b s d e on w).stops;
-    }) where
-      same : (k : ℕ) → stone_at (put b s q) s (go w d e k 0) ≡ stone_at b s (go w d e k 0)
-      same k =
-          let place : go w d e k 0 ≡ go w d p (1 + reach + k) 0 = go-then w d p e (1 + reach) 0 k 0 end ∙ go-same w d p (1 + reach + k) (0 + 0) (1 + reach + k) 0 (omega arith) in
-          ap (stone_at (put b s q) s) place ∙ else_at b s w d p q x y (1 + reach + k) 0 filled_on here (λ same. absurd (omega arith)) ∙ ap (stone_at b s) (sym place)
+    stones_past on = beyond-put b s q filled_on w d (reach + y - x) e
+        (go-then w d p q x y (1 + (reach + y - x)) 0 here ∙ go-same w d p (x + (1 + (reach + y - x))) (y + 0) (1 + reach) 0 (omega arith) ∙ end) on
 
-    end_wins_by : reach + stones_towards (opposite w) (put b s q) s d p ≡ 3 → (r : Bool) → is_empty b e ≡ r → wins_on rule (put b s q) s d e ≡ (is_empty b e && row_wins rule s (5 + stones_towards w b s d e))
-    end_wins_by four true h =
-        let on : is_on b e ≡ true = is_empty-on b e h in
-        let run = run_towards (put b s q) s w d e (IsBoard-put b s q ok) on in
-        let before = run_before_end (put b s q) s w d p e mine end on in
-        let past = stones_past on in
-        let five : run_of (put (put b s q) s e) s d e ≡ 5 + stones_towards w b s d e = omega (arith, run, before, past, four) in
-        rw (is_empty-put b s q e filled_on apart, h, five) refl
-    end_wins_by four false h = rw (is_empty-put b s q e filled_on apart, h) refl
+    end_wins_by : reach + stones_towards (opposite w) (put b s q) s d p ≡ 3 → wins_on rule (put b s q) s d e ≡ (is_empty b e && row_wins rule s (5 + stones_towards w b s d e))
+    end_wins_by four =
+        wins_on-ways rule (put b s q) s w d e (IsBoard-put b s q ok)
+        ∙ ap (λ r. r && row_wins rule s (1 + stones_towards w (put b s q) s d e + stones_towards (opposite w) (put b s q) s d e)) (is_empty-put b s q e filled_on apart)
+        ∙ and-same (is_empty b e) _ _ (λ free. ap (row_wins rule s) (five (is_empty-on b e free))) where
+          five : is_on b e ≡ true → 1 + stones_towards w (put b s q) s d e + stones_towards (opposite w) (put b s q) s d e ≡ 5 + stones_towards w b s d e
+          five on =
+              let before = run_before_end (put b s q) s w d p e mine end on in
+              let past = stones_past on in
+              omega (arith, before, past, four)
 
   -- a stone at the end of the run wins where it wins with the stones past it
   end_wins : x ≤ reach + y → reach + stones_towards (opposite w) (put b s q) s d p ≡ 3 → wins_at rule (put b s q) s d (towards w d p (1 + reach)) ≡ wins_past rule b s d w (towards w d p (1 + reach))
   end_wins near four = by_point (towards w d p (1 + reach)) refl where
     by_point : (o : Option Point) → towards w d p (1 + reach) ≡ o → wins_at rule (put b s q) s d o ≡ wins_past rule b s d w o
     by_point None h = refl
-    by_point (Some e) h = end_wins_by e (sym (go-towards w d p (1 + reach)) ∙ h) near four (is_empty b e) refl
+    by_point (Some e) h = end_wins_by e h near four
 
 -- ---- the first point that holds no stone of the side
-
-four_wins : (rule : RuleKind) (s : Side) → row_wins rule s 4 ≡ false
-four_wins Freestyle s = refl
-four_wins Exact s = refl
-four_wins Renju Black = refl
-four_wins Renju White = refl
 
 four_by : (n m : ℕ) → n ≡ m + 1 → nat_eq n 4 ≡ nat_eq m 3
 four_by n m e = by_test (nat_eq m 3) refl where
@@ -108,17 +87,6 @@ straight_towards rule b s Behind d p mine =
     let same : nat_eq (1 + stones_ahead b s d p + stones_behind b s d p) 4 ≡ nat_eq (stones_behind b s d p + stones_ahead b s d p) 3 = four_by _ _ (omega arith) in
     rw (mine, same) (and-swap (nat_eq (stones_behind b s d p + stones_ahead b s d p) 3) (wins_at rule b s d (along d p (1 + stones_ahead b s d p) 0)) (wins_at rule b s d (along d p 0 (1 + stones_behind b s d p))))
 
-is_at-here : (q : Point) (o : Option Point) → o ≡ Some q → is_at q o ≡ true
-is_at-here q o e = rw e (is_same_point-itself q)
-
--- a point of the stones next to p, in either way, is in the run
-in_run_towards : (b : Grid) (s : Side) (w : Way) (d : Axis) (p q : Point) (k : ℕ) → go w d p k 0 ≡ Some q → 1 ≤ k → k ≤ stones_towards w b s d p → is_in_run b s d p q ≡ true
-in_run_towards b s Ahead d p q k here low high =
-    let ahead = any_found (λ j. is_at q (along d p j 0)) (1 + stones_ahead b s d p) 0 k (omega arith) (omega arith) (is_at-here q (along d p k 0) here) in
-    rw ahead refl
-in_run_towards b s Behind d p q k here low high =
-    or_cases _ _ (λ miss. any_found (λ j. is_at q (along d p 0 j)) (stones_behind b s d p) 1 k low (omega arith) (is_at-here q (along d p 0 k) here))
-
 -- q is the first point in that way that holds no stone of the side, and it is empty
 module _ (rule : RuleKind) (b : Grid) (s : Side) (w : Way) (d : Axis) (p q : Point) (ok : IsBoard b) (mine : holds b s p ≡ true) (empty : is_empty b q ≡ true) (here : go w d p (1 + stones_towards w b s d p) 0 ≡ Some q) where
   on_p : is_on b p ≡ true
@@ -139,43 +107,21 @@ module _ (rule : RuleKind) (b : Grid) (s : Side) (w : Way) (d : Axis) (p q : Poi
   abbrev more : ℕ
   more = stones_towards w b s d q
 
-  from_q : (j : ℕ) → 1 + near ≤ j → go w d p j 0 ≡ go w d q (j - (1 + near)) 0
-  from_q j low = go-same w d p j 0 (1 + near + (j - (1 + near))) (0 + 0) (omega arith) ∙ sym (go-then w d p q (1 + near) 0 (j - (1 + near)) 0 here)
-
   fore : stones_towards w (put b s q) s d p ≡ 1 + near + more
-  fore = leads_is (put b s q) s d p on_p w (1 + near + more) (record { holds = inside; stops = stop }) where
-    inside : (j : ℕ) → 1 ≤ j → j ≤ 1 + near + more → stone_at (put b s q) s (go w d p j 0) ≡ true
-    inside j low high = elim (cases_lt near j) [
-      | inr old ↦ put_more b s q (go w d p j 0) ok empty ((leads b s d p on_p w).holds j low old)
-      | inl new ↦ elim (cases_lt (1 + near) j) [
-        | inl past ↦ put_more b s q (go w d p j 0) ok empty (ap (stone_at b s) (from_q j (omega arith)) ∙ (leads b s d q on_q w).holds (j - (1 + near)) (omega arith) (omega arith))
-        | inr last ↦ ap (stone_at (put b s q) s) (go-same w d p j 0 (1 + near) 0 (omega arith) ∙ here) ∙ holds-put_same b s q ok on_q
-      ]
-    ]
-
-    stop : stone_at (put b s q) s (go w d p (1 + (1 + near + more)) 0) ≡ false
-    stop = else_at b s w d p q (1 + near) 0 (1 + (1 + near + more)) 0 on_q here (λ same. absurd (omega arith))
-        ∙ ap (stone_at b s) (from_q (1 + (1 + near + more)) (omega arith) ∙ go-same w d q (1 + (1 + near + more) - (1 + near)) 0 (1 + more) 0 (omega arith))
-        ∙ (leads b s d q on_q w).stops
+  fore = end_joins b s w d p q ok mine empty here
 
   back : stones_towards (opposite w) (put b s q) s d p ≡ far
-  back = leads_back_is (put b s q) s d p on_p w far (record {
-    holds = λ j low high. same j ∙ (leads_back b s d p on_p w).holds j low high;
-    stops = same (1 + far) ∙ (leads_back b s d p on_p w).stops;
-  }) where
-    same : (j : ℕ) → stone_at (put b s q) s (go w d p 0 j) ≡ stone_at b s (go w d p 0 j)
-    same j = else_at b s w d p q (1 + near) 0 0 j on_q here (λ same. absurd (omega arith))
+  back = end_leaves b s w d p q ok mine empty here
 
   -- with a stone on q the run is of four, and q no five point of this axis
   no_win : 1 + near + more + far ≡ 3 → wins_on rule b s d q ≡ false
   no_win four =
-      let run = run_towards b s w d q ok on_q in
       let before = run_before_end b s w d p q mine here on_q in
-      let long : run_of (put b s q) s d q ≡ 4 = omega (arith, run, before, four) in
-      rw (empty, long) (four_wins rule s)
+      let long : 1 + more + stones_towards (opposite w) b s d q ≡ 4 = omega (arith, before, four) in
+      wins_on-ways rule b s w d q ok ∙ rw (empty, long) (fewer_never rule s 4 (omega arith))
 
   in_run : is_in_run (put b s q) s d p q ≡ true
-  in_run = in_run_towards (put b s q) s w d p q (1 + near) here (omega arith) (let e = fore in omega (arith, e))
+  in_run = end_in_run b s w d p q ok mine empty here
 
   fore_wins : 1 + near + more + far ≡ 3 → wins_at rule (put b s q) s d (towards w d p (1 + stones_towards w (put b s q) s d p)) ≡ wins_past rule b s d w (towards w d p (1 + (1 + near + more)))
   fore_wins four =
@@ -214,53 +160,8 @@ module _ (rule : RuleKind) (b : Grid) (s : Side) (d : Axis) (p q : Point) (ok : 
   unfolding is_line_three_point gives_straight
   three_in_run h = and_right (is_straight rule (put b s q) s d p) _ (and_right (is_empty b q && not (wins_on rule b s d q)) _ h)
 
-  not_stone : is_empty b q ≡ true → holds b s q ≡ false
-  not_stone empty =
-      let none : cell_at b q ≡ Empty = is_empty-cell (cell_at b q) (and_right (is_on b q) _ empty) in
-      rw (is_empty-on b q empty, none) refl
-
-  -- an empty point of the run that its stone gives is the first that holds no stone of the side
-  first_in : is_empty b q ≡ true → (w : Way) (k : ℕ) → go w d p k 0 ≡ Some q → 1 ≤ k → k ≤ stones_towards w (put b s q) s d p → k ≡ 1 + stones_towards w b s d p
-  first_in empty w k here low high =
-      let on : is_on b p ≡ true = and_left (is_on b p) _ mine in
-      elim (cases_lt (stones_towards w b s d p) k) [
-        | inr inside ↦ absurd (let stone = (leads b s d p on w).holds k low inside in let no = not_stone empty in let e : holds b s q ≡ true = ap (stone_at b s) (sym here) ∙ stone in let differ : false ≡ true = sym no ∙ e in cc)
-        | inl past ↦ elim (cases_lt (1 + stones_towards w b s d p) k) [
-          | inl beyond ↦ absurd (
-              let stone = (leads (put b s q) s d p on w).holds (1 + stones_towards w b s d p) (omega arith) (omega arith) in
-              let same = else_at b s w d p q k 0 (1 + stones_towards w b s d p) 0 (is_empty-on b q empty) here (λ same. absurd (omega arith)) in
-              let differ : true ≡ false = sym stone ∙ same ∙ (leads b s d p on w).stops in
-              cc)
-          | inr not_beyond ↦ omega arith
-        ]
-      ]
-
-  not_here : is_empty b q ≡ true → along d p 0 0 ≢ Some q
-  not_here empty here =
-      let same : Some p ≡ Some q = sym (along-zero d p) ∙ here in
-      let stone : holds b s q ≡ true = ap (stone_at b s) (sym same) ∙ mine in
-      let none = not_stone empty in
-      let differ : false ≡ true = sym none ∙ stone in
-      cc
-
-  pub three_first : is_line_three_point rule b s d p q ≡ true → (w : Way) × (go w d p (1 + stones_towards w b s d p) 0 ≡ Some q)
-  three_first h =
-      let empty = three_empty rule b s d p q h in
-      elim (either (list_any (λ k. is_at q (along d p k 0)) (range_with_len 0 (1 + stones_ahead (put b s q) s d p))) _ (three_in_run h)) [
-        | inl ahead ↦
-            let k = any_in_range (λ k. is_at q (along d p k 0)) (1 + stones_ahead (put b s q) s d p) 0 ahead in
-            let here = is_at-Some q (along d p k.0 0) k.3 in
-            (Ahead, ap (λ j. along d p j 0) (sym (first_in empty Ahead k.0 here (steps k.0 here) (let high = k.2 in omega (arith, high)))) ∙ here)
-        | inr behind ↦
-            let k = any_in_range (λ k. is_at q (along d p 0 k)) (stones_behind (put b s q) s d p) 1 behind in
-            let here = is_at-Some q (along d p 0 k.0) k.3 in
-            (Behind, ap (λ j. along d p 0 j) (sym (first_in empty Behind k.0 here k.1 (let high = k.2 in omega (arith, high)))) ∙ here)
-      ] where
-        steps : (k : ℕ) → along d p k 0 ≡ Some q → 1 ≤ k
-        steps k here = elim (cases_lt 0 k) [
-          | inl some ↦ omega arith
-          | inr none ↦ absurd (let zero : k ≡ 0 = omega arith in not_here (three_empty rule b s d p q h) (ap (λ j. along d p j 0) (sym zero) ∙ here))
-        ]
+  pub three_first : is_line_three_point rule b s d p q ≡ true → (w : Way) × (run_end b s d w p ≡ Some q)
+  three_first h = in_run-end b s d p q ok mine (three_empty rule b s d p q h) (three_in_run h)
 
 -- ---- points that are none
 
@@ -288,7 +189,7 @@ module _ (rule : RuleKind) (b : Grid) (s : Side) (d : Axis) (p : Point) (ok : Is
   pub three_at : (w : Way) (near far : ℕ) (q : Point) → near ≡ stones_towards w b s d p → far ≡ stones_towards (opposite w) b s d p → towards w d p (1 + near) ≡ Some q → is_empty b q ≡ true → is_line_three_at rule b s d p (towards w d p (1 + near)) ≡ is_open_four rule b s d p w (1 + near + stones_towards w b s d q) far
   three_at w near far q n f here empty =
       let first_here : first w ≡ Some q = ap (λ k. towards w d p (1 + k)) (sym n) ∙ here in
-      rw (here, n, f) (three-open rule b s w d p q ok mine empty (sym (go-towards w d p (1 + stones_towards w b s d p)) ∙ first_here))
+      rw (here, n, f) (three-open rule b s w d p q ok mine empty (first_here))
 
   -- its place
   abbrev place : Way → ℕ
@@ -302,7 +203,7 @@ module _ (rule : RuleKind) (b : Grid) (s : Side) (d : Axis) (p : Point) (ok : Is
   -- the first point in a way is a three point only where the run that its stone gives is of four
   pub first_open : (w : Way) (q : Point) → first w ≡ Some q → is_line_three_point rule b s d p q ≡ true → 1 + stones_towards w b s d p + stones_towards w b s d q + stones_towards (opposite w) b s d p ≡ 3
   first_open w q e h =
-      let same = three-open rule b s w d p q ok mine (three_empty rule b s d p q h) (sym (go-towards w d p (1 + stones_towards w b s d p)) ∙ e) in
+      let same = three-open rule b s w d p q ok mine (three_empty rule b s d p q h) (e) in
       open_few w _ _ (sym same ∙ h)
 
   -- so few stones stand next to p
@@ -352,7 +253,7 @@ module _ (rule : RuleKind) (b : Grid) (s : Side) (d : Axis) (p : Point) (ok : Is
     by_point None e h = cc
     by_point (Some q) e h =
         let w = three_first rule b s d p q ok mine h in
-        set w.0 (bit_set w.0 i (place_is w.0 q i w.1 e) (ap (is_line_three_at rule b s d p) (go-towards w.0 d p (1 + stones_towards w.0 b s d p) ∙ w.1) ∙ h))
+        set w.0 (bit_set w.0 i (place_is w.0 q i w.1 e) (ap (is_line_three_at rule b s d p) w.1 ∙ h))
 
     by_test : (r : Bool) → is_line_three_at rule b s d p (along d p i 5) ≡ r → max (bit_at (bit_of (three_place rule b s d p Ahead)) i) (bit_at (bit_of (three_place rule b s d p Behind)) i) ≡ cond r 1 0
     by_test true h = by_point (along d p i 5) refl h
@@ -369,6 +270,6 @@ module _ (rule : RuleKind) (b : Grid) (s : Side) (d : Axis) (p : Point) (ok : Is
   pub three_near : (q : Point) → is_line_three_point rule b s d p q ≡ true → (i : ℕ) × (i < 11) × (along d p i 5 ≡ Some q)
   three_near q h =
       let w = three_first rule b s d p q ok mine h in
-      let here : first w.0 ≡ Some q = go-towards w.0 d p (1 + stones_towards w.0 b s d p) ∙ w.1 in
+      let here : first w.0 ≡ Some q = w.1 in
       let small : stones_towards w.0 b s d p ≤ 2 = let fewer = few w.0 (ap (is_line_three_at rule b s d p) here ∙ h) in omega (arith, fewer) in
       (place w.0, place_below w.0 small, sym (place_at w.0 small) ∙ here)

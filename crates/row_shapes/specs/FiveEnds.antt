@@ -3,13 +3,13 @@
 use Rattle.std.specs.Prelude.{ℕ, ◌+◌, Bool, ◌&&◌, if◌then◌else◌, Option, Some, None}
 use Rattle.game_rules.specs.Grid.{Grid, is_empty, put}
 use Rattle.game_rules.specs.Shapes.{row_wins, wins_on, is_same_point}
+use Rattle.game_rules.specs.Ways.{stones_towards, run_end}
 use Rattle.game_rules.specs.declared.RuleKind.{RuleKind}
 use Rattle.game_rules.specs.declared.Side.{Side}
 use Rattle.game_rules.specs.declared.Axis.{Axis}
 use Rattle.game_rules.specs.declared.Point.{Point}
-use Rattle.stone_board.specs.declared.board.Way.{Way}
-use Rattle.stone_board.specs.declared.board.Way.TheVariants.{Ahead, Behind}
-use Rattle.stone_board.specs.Steps.{towards, stones_towards}
+use Rattle.game_rules.specs.declared.Way.{Way}
+use Rattle.game_rules.specs.declared.Way.TheVariants.{Ahead, Behind}
 use Rattle.row_shapes.specs.declared.fives.FivePoints.{FivePoints}
 use Rattle.row_shapes.specs.declared.fives.FivePoints.TheVariants.{None as NoPoint, One, Several}
 
@@ -21,7 +21,7 @@ kept_five rule b s d (Some q) = if wins_on rule b s d q then Some q else None
 -- the end of the run of a new stone of the side on p in that way, if a further stone there wins on the axis: the end is the
 -- first point in that way that holds no stone of the side
 unfoldable pub end_five : RuleKind → Grid → Side → Axis → Point → Way → Option Point
-end_five rule b s d p way = kept_five rule (put b s p) s d (towards way d p (1 + stones_towards way b s d p))
+end_five rule b s d p way = kept_five rule (put b s p) s d (run_end b s d way p)
 
 -- whether the point is empty, and a stone on it wins where it joins a run of so many stones, which ends before it, to the
 -- stones past it in that way

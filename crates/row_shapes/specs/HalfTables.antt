@@ -1,6 +1,6 @@
 -- Lists of halves of lines.
 use Rattle.std.specs.Prelude.{◌≡◌, ℕ, ◌<◌, List, length, Some, slice_get}
-use Rattle.stone_board.specs.declared.board.Way.{Way}
+use Rattle.game_rules.specs.declared.Way.{Way}
 use Rattle.row_shapes.specs.Halves.{half_cells}
 use Rattle.row_shapes.specs.declared.halves.Half.{Half}
 

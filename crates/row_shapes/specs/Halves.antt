@@ -5,6 +5,7 @@ use Rattle.std.specs.Prelude.{◌≡◌, ℕ, ◌+◌, ◌-◌, ◌≤◌, Bool,
 use Rattle.std.specs.List.{count_by, prefix_len, range_with_len}
 use Rattle.game_rules.specs.Grid.{Grid, IsBoard, is_empty, is_empty_cell, is_stone_of, holds}
 use Rattle.game_rules.specs.Shapes.{stone_at}
+use Rattle.game_rules.specs.Ways.{towards}
 use Rattle.game_rules.specs.declared.Cell.{Cell}
 use Rattle.game_rules.specs.declared.Cell.TheVariants.{White as WhiteStone}
 use Rattle.game_rules.specs.declared.RuleKind.{RuleKind}
@@ -12,9 +13,8 @@ use Rattle.game_rules.specs.declared.RuleKind.TheVariants.{Freestyle, Exact}
 use Rattle.game_rules.specs.declared.Side.TheVariants.{Black}
 use Rattle.game_rules.specs.declared.Axis.TheVariants.{Row}
 use Rattle.game_rules.specs.declared.Point.{Point}
-use Rattle.stone_board.specs.declared.board.Way.{Way}
-use Rattle.stone_board.specs.declared.board.Way.TheVariants.{Ahead, Behind}
-use Rattle.stone_board.specs.Steps.{towards}
+use Rattle.game_rules.specs.declared.Way.{Way}
+use Rattle.game_rules.specs.declared.Way.TheVariants.{Ahead, Behind}
 use Rattle.row_shapes.specs.Gaps.{listed, are_stones}
 use Rattle.row_shapes.specs.LineCodes.{first_digits}
 use Rattle.row_shapes.specs.LineShapes.{cell_of_digit}

@@ -3,13 +3,13 @@
 use Rattle.std.specs.Prelude.{ℕ, ◌+◌, ◌-◌, ◌^◌, Bool, false, ◌&&◌, ◌==◌, if◌then◌else◌, Option, Some, None}
 use Rattle.game_rules.specs.Grid.{Grid, is_empty}
 use Rattle.game_rules.specs.Shapes.{row_wins, is_line_three_at}
+use Rattle.game_rules.specs.Ways.{towards, opposite, stones_towards, run_end}
 use Rattle.game_rules.specs.declared.RuleKind.{RuleKind}
 use Rattle.game_rules.specs.declared.Side.{Side}
 use Rattle.game_rules.specs.declared.Axis.{Axis}
 use Rattle.game_rules.specs.declared.Point.{Point}
-use Rattle.stone_board.specs.declared.board.Way.{Way}
-use Rattle.stone_board.specs.declared.board.Way.TheVariants.{Ahead, Behind}
-use Rattle.stone_board.specs.Steps.{towards, opposite, stones_towards}
+use Rattle.game_rules.specs.declared.Way.{Way}
+use Rattle.game_rules.specs.declared.Way.TheVariants.{Ahead, Behind}
 
 -- whether there is such a point, it is empty, and a stone there joins four on one side of it to a run that wins
 abbrev pub wins_past : RuleKind → Grid → Side → Axis → Way → Option Point → Bool
@@ -29,7 +29,7 @@ place_towards Behind k = 5 - k
 -- the place of the three point in that way, if there is one: it is the first that holds no stone of the side
 abbrev pub three_place : RuleKind → Grid → Side → Axis → Point → Way → Option ℕ
 three_place rule b s d p way =
-    if is_line_three_at rule b s d p (towards way d p (1 + stones_towards way b s d p))
+    if is_line_three_at rule b s d p (run_end b s d way p)
     then Some (place_towards way (1 + stones_towards way b s d p)) else None
 
 -- the number with this bit alone

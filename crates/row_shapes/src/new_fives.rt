@@ -8,7 +8,7 @@
 ghost use Rattle.std.specs.Prelude.{◌≡◌, ◌<◌, false, IsTrue, Some};
 ghost use Rattle.game_rules.specs.Grid.{IsBoard, is_on, is_empty, put};
 ghost use Rattle.game_rules.specs.Games.{five_points, has_five};
-ghost use Rattle.stone_board.specs.Steps.{opposite, stones_towards as stones_towards_lem};
+ghost use Rattle.game_rules.specs.Ways.{opposite, stones_towards as stones_towards_lem};
 ghost use Rattle.row_shapes.specs.FivePoints.{in_short};
 ghost use Rattle.row_shapes.specs.FiveEnds.{end_five as end_five_lem, with_more as with_more_lem, with_axis as with_axis_lem, joins_to_win as joins_to_win_lem};
 

@@ -7,7 +7,8 @@
 
 ghost use Rattle.std.specs.Prelude.{◌≡◌, ◌≤◌, ◌+◌, IsTrue};
 ghost use Rattle.game_rules.specs.Grid.{IsBoard, is_on};
-ghost use Rattle.stone_board.specs.Steps.{kept_on, towards as towards_lem};
+ghost use Rattle.game_rules.specs.Ways.{towards as towards_lem};
+ghost use Rattle.stone_board.specs.Steps.{kept_on};
 ghost use Rattle.row_shapes.specs.Reach.{stones_past as stones_past_lem, stones_in_reach as stones_in_reach_lem};
 
 use stone_board::{Axis, Board, Point, Side, Way};

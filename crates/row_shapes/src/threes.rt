@@ -11,7 +11,8 @@ ghost use Rattle.std.specs.Int.{bit_at};
 ghost use Rattle.game_rules.specs.declared.Side.{Side};
 ghost use Rattle.game_rules.specs.Grid.{IsBoard, is_on, holds, along as along_lem};
 ghost use Rattle.game_rules.specs.Shapes.{is_line_three_at};
-ghost use Rattle.stone_board.specs.Steps.{holds_stone, opposite, towards as towards_lem, stones_towards as stones_towards_lem};
+ghost use Rattle.game_rules.specs.Ways.{opposite, towards as towards_lem, stones_towards as stones_towards_lem};
+ghost use Rattle.stone_board.specs.Steps.{holds_stone};
 ghost use Rattle.row_shapes.specs.Threes.{wins_past as wins_past_lem, is_open_four as is_open_four_lem, place_towards as place_towards_lem, three_place as three_place_lem, bit_of as bit_of_lem};
 
 use crate::Rule;

@@ -1,15 +1,9 @@
 -- What stands at steps along an axis.
 use Rattle.std.proofs.Common.{◌≡◌, Bool, true, false, cond, refl, sym, ap, ◌∙◌}
 use Rattle.std.specs.Prelude.{Option, Some, None}
-use Rattle.std.specs.List.{prefix_len, range_with_len}
 use Rattle.game_rules.specs.Grid.{Grid, is_on}
-use Rattle.game_rules.specs.Shapes.{stone_at, line_bound}
-use Rattle.game_rules.specs.declared.Side.{Side}
 use Rattle.game_rules.specs.declared.Point.{Point}
-use Rattle.game_rules.specs.declared.Axis.{Axis}
-use Rattle.stone_board.specs.declared.board.Way.{Way}
-use Rattle.stone_board.specs.declared.board.Way.TheVariants.{Ahead, Behind}
-use Rattle.stone_board.specs.Steps.{kept_on, towards, stones_towards}
+use Rattle.stone_board.specs.Steps.{kept_on}
 
 -- a point that is kept is the point, and on the board
 kept_by : (b : Grid) (p q : Point) (r : Bool) → is_on b p ≡ r → cond r (Some p) None ≡ Some q → (p ≡ q) × (is_on b p ≡ true)
@@ -21,8 +15,3 @@ kept-Some b None q h = cc
 kept-Some b (Some p) q h =
     let both = kept_by b p q (is_on b p) refl h in
     (ap Some both.0, ap (is_on b) (sym both.0) ∙ both.1)
-
--- the row next to a point in one way, as the prefix of its places that hold stones
-pub stones_towards-prefix : (way : Way) (b : Grid) (s : Side) (d : Axis) (p : Point) → prefix_len (λ j. stone_at b s (towards way d p j)) (range_with_len 1 (line_bound b)) ≡ stones_towards way b s d p
-stones_towards-prefix Ahead b s d p = refl
-stones_towards-prefix Behind b s d p = refl

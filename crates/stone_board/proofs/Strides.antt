@@ -5,18 +5,18 @@ use Rattle.std.proofs.Math.Nat.{add-mul, mul-add}
 use Rattle.std.proofs.lemmas.Bool.Decides.{nat_tests}
 use Rattle.game_rules.specs.Grid.{Grid, IsBoard, is_on, place_of, holds, cell_at, is_stone_of}
 use Rattle.game_rules.specs.Shapes.{stone_at}
+use Rattle.game_rules.specs.Ways.{towards}
 use Rattle.game_rules.specs.declared.Side.{Side}
 use Rattle.game_rules.specs.declared.Cell.{Cell}
 use Rattle.game_rules.specs.declared.Cell.TheVariants.{Empty}
 use Rattle.game_rules.specs.declared.Axis.{Axis}
 use Rattle.game_rules.specs.declared.Axis.TheVariants.{Row, Column, Down, Up}
 use Rattle.game_rules.specs.declared.Point.{Point}
+use Rattle.game_rules.specs.declared.Way.{Way}
+use Rattle.game_rules.specs.declared.Way.TheVariants.{Ahead, Behind}
 use Rattle.game_rules.proofs.Boards.{on_x, on_y, place_fits}
 use Rattle.game_rules.proofs.Lines.{OnLine, along-OnLine, OnLine-along}
 use Rattle.stone_board.proofs.Counts.{same_item}
-use Rattle.stone_board.specs.declared.board.Way.{Way}
-use Rattle.stone_board.specs.declared.board.Way.TheVariants.{Ahead, Behind}
-use Rattle.stone_board.specs.Steps.{towards}
 use Rattle.stone_board.specs.Walks.{goes_on, stride, place_after, steps_left}
 
 -- the place is so far on from a place, or back

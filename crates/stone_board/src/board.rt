@@ -9,35 +9,15 @@ ghost use Rattle.std.specs.List.{find};
 ghost use Rattle.game_rules.specs.declared.Side.{Side};
 ghost use Rattle.game_rules.specs.Grid.{IsBoard, is_on, is_empty as is_empty_lem, holds as holds_lem, cell_at, put as put_lem, lift as lift_lem, look_at, step as step_lem, stones_of, empties_of, points_of, is_stone_of as is_stone_of_lem, point_of as point_of_lem, along as along_lem, shift as shift_lem};
 ghost use Rattle.game_rules.specs.Shapes.{run_of, stone_at, stones_ahead as stones_ahead_lem, stones_behind as stones_behind_lem};
+ghost use Rattle.game_rules.specs.Ways.{stones_towards as stones_towards_lem, towards as towards_lem};
 ghost use Rattle.stone_board.specs.Order.{points_left, first_empty_from as first_empty_from_lem};
-ghost use Rattle.stone_board.specs.Steps.{holds_stone, kept_on, stones_towards as stones_towards_lem, towards as towards_lem};
+ghost use Rattle.stone_board.specs.Steps.{holds_stone, kept_on};
 
 use crate::ReadingOrder;
 use crate::walks::{goes_on, place_after, steps_left, stride};
-use game_rules::{Axis, Cell, Look, MAX_SIDE, MIN_SIDE, Point, Side};
+use game_rules::{Axis, Cell, Look, MAX_SIDE, MIN_SIDE, Point, Side, Way};
 use std::alloc::{AllocError, Global};
 use std::marker::Model;
-
-/// The two ways along an axis from a point: a step ahead adds what the axis says, a step behind takes it away.
-#[derive(Clone, Copy, Debug, PartialEq, Eq)]
-pub enum Way {
-    Ahead,
-    Behind,
-}
-
-impl Way {
-    ghost use Rattle.stone_board.specs.Steps.{opposite as opposite_lem};
-
-    /// The other way.
-    pub fn opposite(self) -> Way
-        ensures opposite { result ≡ opposite_lem self }
-    {
-        match self {
-            Way::Ahead => Way::Behind,
-            Way::Behind => Way::Ahead,
-        }
-    }
-}
 
 /// A board of cells.
 #[derive(Drop)]

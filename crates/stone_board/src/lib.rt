@@ -11,8 +11,8 @@ mod points;
 mod tests;
 mod walks;
 
-pub use board::{Board, Way};
-pub use game_rules::{Axis, Cell, Look, MAX_SIDE, MIN_SIDE, Point, Side};
+pub use board::Board;
+pub use game_rules::{Axis, Cell, Look, MAX_SIDE, MIN_SIDE, Point, Side, Way};
 pub use order::ReadingOrder;
 pub use points::Points;
 pub use walks::{goes_on, place_after, steps_left, stride};

@@ -36,6 +36,18 @@ fn stones_come_and_go(rt: HostRuntime) -> Result<(), Fail> {
 }
 
 #[test]
+fn points_stand_to_each_other(rt: HostRuntime) -> Result<(), Fail> {
+    let p = Point { x: 2, y: 3 };
+    let beside = Point { x: 3, y: 3 };
+    let below = Point { x: 0, y: 4 };
+    assert!(rt; p.is(p) && !p.is(beside));
+    assert!(rt; p.precedes(beside) && beside.precedes(below) && !below.precedes(p));
+    assert!(rt; p.is_aligned(beside) && p.is_aligned(Point { x: 5, y: 0 }) && !p.is_aligned(below));
+    assert_eq!(rt; Way::Ahead.opposite(), Way::Behind);
+    Ok(())
+}
+
+#[test]
 fn looks_along_a_line(rt: HostRuntime) -> Result<(), Fail> {
     let mut board = Board::empty(rt.alloc(), 6, 5)?;
     put_all(&rt, &mut board, Side::Black, &[(1, 3), (2, 2), (3, 1)]);

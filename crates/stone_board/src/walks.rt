@@ -8,8 +8,7 @@
 ghost use Rattle.std.specs.Prelude.{◌≡◌, ◌<◌, ◌≤◌, ◌^◌, false};
 ghost use Rattle.stone_board.specs.Walks.{goes_on as goes_on_lem, stride as stride_lem, place_after as place_after_lem, steps_left as steps_left_lem};
 
-use crate::Way;
-use game_rules::{Axis, Point};
+use game_rules::{Axis, Point, Way};
 
 /// Whether a step in one way along the axis goes on in reading order, and not back.
 #[inline(always)]

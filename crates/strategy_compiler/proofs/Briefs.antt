@@ -9,15 +9,16 @@ use Rattle.std.proofs.lemmas.List.Elements.{All-from_recursion, All-filter}
 use Rattle.std.proofs.lemmas.List.{length-map, get_or-map}
 use Rattle.std.proofs.lemmas.Result.{IfOk-weaker}
 use Rattle.game_rules.specs.Shapes.{is_same_point}
+use Rattle.game_rules.specs.Points.{precedes}
 use Rattle.game_rules.specs.declared.Point.{Point}
 use Rattle.game_rules.proofs.Boards.{and_left, and_right}
-use Rattle.game_rules.proofs.Points.{is_same_point-itself}
+use Rattle.game_rules.proofs.Points.{is_same_point-itself, precedes-differs, precedes-differs_back}
 use Rattle.strategy_graph.specs.declared.Reply.{Reply}
 use Rattle.strategy_graph.specs.declared.Rest.TheVariants.{Wins}
 use Rattle.strategy_graph.specs.declared.Node.{Node}
-use Rattle.strategy_graph.specs.Tables.{Answers, answers_of, answer, answer_at, listed_node, precedes, is_rising, is_winning, named, rest_node, rest_nodes, IsNode}
+use Rattle.strategy_graph.specs.Tables.{Answers, answers_of, answer, answer_at, listed_node, is_rising, is_winning, named, rest_node, rest_nodes, IsNode}
 use Rattle.strategy_graph.specs.Acceptance.{Answered}
-use Rattle.strategy_graph.proofs.Rising.{is_rising-filter, precedes-differs, precedes-differs_back}
+use Rattle.strategy_graph.proofs.Rising.{is_rising-filter}
 use Rattle.strategy_graph.specs.Leads.{AtNode}
 use Rattle.strategy_compiler.specs.Trees.{Tree, Branches, Leaf, Fork, NoBranch, Branch, StandsFor, StandsForAll, AnswersBranches, AnswersBriefly, replies_of, answers_to, commonest}
 use Rattle.strategy_compiler.specs.Nodes.{NamesOnly, PutsIn, answering_node, answers_beside, brief_answers, commonest_next, rest_of, winning_node}

@@ -4,9 +4,10 @@ use Rattle.std.specs.List.{list_all, filter, flat_map, range_with_len}
 use Rattle.std.proofs.lemmas.Bool.Decides.{nat_tests}
 use Rattle.std.proofs.lemmas.Bool.{or_right}
 use Rattle.game_rules.specs.Grid.{Grid, points_of, row_from}
+use Rattle.game_rules.specs.Points.{precedes}
 use Rattle.game_rules.specs.declared.Point.{Point}
 use Rattle.strategy_graph.specs.declared.Reply.{Reply}
-use Rattle.strategy_graph.specs.Tables.{precedes, is_rising}
+use Rattle.strategy_graph.specs.Tables.{is_rising}
 
 -- p is at x of row y, or after it
 abbrev pub From : ℕ → ℕ → Point → Type 0

@@ -6,22 +6,17 @@ use Rattle.std.proofs.lemmas.List.Sums.{AllPass-from_list_all}
 use Rattle.std.proofs.Math.ListN.{drop_of_length-le}
 use Rattle.std.proofs.lemmas.Bool.Decides.{nat_tests}
 use Rattle.game_rules.specs.Shapes.{is_same_point}
+use Rattle.game_rules.specs.Points.{precedes}
 use Rattle.game_rules.specs.declared.Point.{Point}
 use Rattle.strategy_graph.specs.declared.Reply.{Reply}
-use Rattle.strategy_graph.specs.Tables.{precedes, is_rising, listed_node}
+use Rattle.strategy_graph.specs.Tables.{is_rising, listed_node}
 use Rattle.game_rules.proofs.Boards.{and_left, and_right}
-use Rattle.game_rules.proofs.Points.{is_same_point-itself}
+use Rattle.game_rules.proofs.Points.{is_same_point-itself, precedes-trans, precedes-differs, precedes-differs_back}
 
 -- each reply comes after the one before it, and the first after p
 abbrev pub climbs : Point → List Reply → Bool
 climbs p [] = true
 climbs p (r ∷ rs) = precedes p r.at && climbs r.at rs
-
-precedes-by : (a b c x y z : ℕ) → (nat_lt a b || (a == b && nat_lt x y)) ≡ true → (nat_lt b c || (b == c && nat_lt y z)) ≡ true → (nat_lt a c || (a == c && nat_lt x z)) ≡ true
-precedes-by a b c x y z h k = grind (arith, nat_tests)
-
-precedes-trans : (p q r : Point) → precedes p q ≡ true → precedes q r ≡ true → precedes p r ≡ true
-precedes-trans p q r h k = precedes-by p.y q.y r.y p.x q.x r.x h k
 
 all_after : (p q : Point) → precedes p q ≡ true → (rs : List Reply) → list_all (λ s. precedes q s.at) rs ≡ true → list_all (λ s. precedes p s.at) rs ≡ true
 all_after p q h [] k = refl
@@ -47,18 +42,6 @@ pub climbs-drop : (p : Point) (rs : List Reply) (i : ℕ) (d : Reply) → i < le
 climbs-drop p rs i d l = rw (add-one, drop-cons rs i d) refl
 
 -- ---- what is listed of rising replies
-
-precedes-differs_by : (a b c d : ℕ) → (nat_lt b d || (b == d && nat_lt a c)) ≡ true → (a == c && b == d) ≡ false
-precedes-differs_by a b c d h = grind (arith, nat_tests)
-
--- a point before another is not the same
-pub precedes-differs : (p q : Point) → precedes p q ≡ true → is_same_point p q ≡ false
-precedes-differs p q h = precedes-differs_by p.x p.y q.x q.y h
-
-pub precedes-differs_back : (p q : Point) → precedes p q ≡ true → is_same_point q p ≡ false
-precedes-differs_back p q h = back_by p.x p.y q.x q.y h where
-  back_by : (a b c d : ℕ) → (nat_lt b d || (b == d && nat_lt a c)) ≡ true → (c == a && d == b) ≡ false
-  back_by a b c d h = grind (arith, nat_tests)
 
 -- nothing is listed for a point before all of them, some of them left out or not
 none_listed : (f : Reply → Bool) (p : Point) (rs : List Reply) → list_all (λ s. precedes p s.at) rs ≡ true → listed_node (filter f rs) p ≡ None

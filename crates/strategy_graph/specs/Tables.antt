@@ -4,6 +4,7 @@ use Rattle.std.specs.List.{list_all, find, AllByRecursion}
 use Rattle.std.specs.Option.{option_map, option_or, option_and_then}
 use Rattle.game_rules.specs.Grid.{Grid, is_on}
 use Rattle.game_rules.specs.Shapes.{is_same_point}
+use Rattle.game_rules.specs.Points.{precedes}
 use Rattle.game_rules.specs.declared.Point.{Point}
 use Rattle.strategy_graph.specs.declared.Reply.{Reply}
 use Rattle.strategy_graph.specs.declared.Rest.{Rest}
@@ -61,10 +62,6 @@ names_below a k = list_all (λ j. nat_lt j k) (named a)
 -- whether the node names only nodes of the table
 abbrev pub names_nodes_of : List Node → Node → Bool
 names_nodes_of t n = names_below (answers_of n) (length t)
-
--- whether p comes before q in reading order: by y, then by x
-abbrev pub precedes : Point → Point → Bool
-precedes p q = nat_lt p.y q.y || (p.y == q.y && nat_lt p.x q.x)
 
 -- whether the replies rise strictly in reading order: each comes before all later ones
 abbrev pub is_rising : List Reply → Bool

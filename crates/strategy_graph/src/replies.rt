@@ -6,20 +6,13 @@
 
 ghost use Rattle.std.specs.Prelude.{◌≡◌, ◌↔◌, ◌<◌, ◌&&◌, nat_lt, [], ◌∷◌, ◌++◌, length, slice_get, Some, OnOk, OnErr, IsTrue};
 ghost use Rattle.std.specs.List.{list_all};
-ghost use Rattle.strategy_graph.specs.Tables.{answer, is_rising, listed_node, names_below, precedes as precedes_lem};
+ghost use Rattle.strategy_graph.specs.Tables.{answer, is_rising, listed_node, names_below};
 
 use crate::{Reply, Rest};
 use game_rules::Point;
 use std::alloc::{AllocError, Global};
 use std::hash::{Hash, Hasher};
 use std::marker::Model;
-
-/// Whether `p` comes before `q` in reading order: by y, then by x.
-fn precedes(p: Point, q: Point) -> bool
-    ensures order { result ≡ precedes_lem p q }
-{
-    p.y < q.y || (p.y == q.y && p.x < q.x)
-}
 
 fn rises(replies: &[Reply]) -> bool
     ensures rising { result ≡ is_rising replies.now }
@@ -29,7 +22,7 @@ fn rises(replies: &[Reply]) -> bool
     };
     let mut last = first.at;
     for reply in others {
-        if !precedes(last, reply.at) {
+        if !last.precedes(reply.at) {
             return false;
         }
         last = reply.at;

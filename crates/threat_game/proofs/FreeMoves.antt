@@ -14,12 +14,12 @@ use Rattle.game_rules.proofs.Boards.{and_left, and_right}
 use Rattle.game_rules.proofs.Positions.{GoesOn-on, mover-then}
 use Rattle.game_rules.proofs.Points.{points-found, any_witness, taken_refused, is_same_point-itself, is_same_point-same}
 use Rattle.game_rules.proofs.Outcomes.{goes_on-is}
-use Rattle.threat_moves.proofs.OffLines.{no_five}
 use Rattle.threat_game.specs.declared.doubles.Double.{Double}
 use Rattle.threat_game.specs.Attacks.{IsDoubleWin}
 use Rattle.threat_game.specs.Replies.{has_reply_at}
 use Rattle.threat_game.specs.FreeMoves.{EachGoesOn}
 use Rattle.threat_game.proofs.TreeLaws.{still-safe}
+use Rattle.game_rules.proofs.Wins.{no_five}
 
 not_one : (n : ℕ) → 2 ≤ n → nat_eq n 1 ≡ false
 not_one n h = grind (arith, nat_tests)

@@ -6,6 +6,7 @@ use Rattle.std.proofs.lemmas.Bool.Decides.{nat_tests}
 use Rattle.game_rules.specs.Grid.{Grid, IsBoard, is_empty, put}
 use Rattle.game_rules.specs.Play.{outcome, mover, after, goes_on_with, goes_on}
 use Rattle.game_rules.specs.Games.{is_double_point, has_five, has_threat, five_points}
+use Rattle.game_rules.specs.Lines.{is_aligned}
 use Rattle.game_rules.specs.declared.RuleKind.{RuleKind}
 use Rattle.game_rules.specs.declared.Side.{Side}
 use Rattle.game_rules.specs.declared.Outcome.{Outcome}
@@ -13,14 +14,13 @@ use Rattle.game_rules.specs.declared.Outcome.TheVariants.{Refused, Wins, Fouls, 
 use Rattle.game_rules.specs.declared.Point.{Point}
 use Rattle.game_rules.proofs.Boards.{and_left, and_right, is_empty-on}
 use Rattle.game_rules.proofs.Points.{points-found, taken_refused}
+use Rattle.game_rules.proofs.OneLine.{put-kept, open_kept, more_fives}
 use Rattle.row_shapes.specs.FivePoints.{in_short}
 use Rattle.row_shapes.specs.declared.fives.FivePoints.{FivePoints}
 use Rattle.row_shapes.specs.declared.fives.FivePoints.TheVariants.{None as NoPoint, One, Several}
 use Rattle.row_shapes.proofs.FiveLaws.{has_five-none, has_five-one, has_five-several}
-use Rattle.threat_moves.specs.Lines.{is_aligned}
 use Rattle.threat_moves.specs.ThreeMoves.{is_several, has_double_point}
 use Rattle.threat_moves.proofs.GainLaws.{several, few-double, taken-no_gain, no_gain-double}
-use Rattle.threat_moves.proofs.OffLines.{more_fives, open_less}
 use Rattle.threat_game.specs.ThreatGame.{is_threat_move}
 use Rattle.threat_game.specs.NearDoubles.{is_some_point, makes_two, some_makes_two, FarAreNone}
 
@@ -37,9 +37,9 @@ module _ (rule : RuleKind) (b : Grid) (s : Side) (p q : Point) (ok : IsBoard b) 
   few_after : some_makes_two rule b s ≡ false → is_several (in_short (five_points rule full s)) ≡ false
   few_after quiet = false_from_ne_true _ (λ two.
       let many : nat_le 2 (length (five_points rule full s)) ≡ true = sym (several (five_points rule full s)) ∙ two in
-      let on_p = is_empty-on b p empty in
-      let count = more_fives rule b s s p q ok on_p off none free_q in
-      let open_q : is_empty b q ≡ true = open_less rule b s s p q ok on_p off none free_q in
+      let keeps = put-kept b s s p q ok (is_empty-on b p empty) off in
+      let count = more_fives rule (put b s p) b s q keeps none free_q in
+      let open_q : is_empty b q ≡ true = open_kept rule (put b s p) b s q keeps none free_q in
       let still : nat_le 2 (length (five_points rule rest s)) ≡ true = grind (arith, nat_tests) in
       let here : makes_two rule b s q ≡ true = ap (λ r. r && is_several (in_short (five_points rule rest s))) open_q ∙ several (five_points rule rest s) ∙ still in
       let some : some_makes_two rule b s ≡ true = points-found b (makes_two rule b s) q (is_empty-on b q open_q) here in

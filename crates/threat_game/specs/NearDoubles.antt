@@ -3,13 +3,13 @@ use Rattle.std.specs.Prelude.{◌≡◌, Bool, true, false, ◌&&◌}
 use Rattle.std.specs.List.{list_any}
 use Rattle.game_rules.specs.Grid.{Grid, is_empty, put, points_of}
 use Rattle.game_rules.specs.Games.{five_points, is_double_point}
+use Rattle.game_rules.specs.Lines.{is_aligned}
 use Rattle.game_rules.specs.declared.RuleKind.{RuleKind}
 use Rattle.game_rules.specs.declared.Side.{Side}
 use Rattle.game_rules.specs.declared.Point.{Point}
 use Rattle.row_shapes.specs.FivePoints.{in_short}
 use Rattle.row_shapes.specs.declared.fives.FivePoints.{FivePoints}
 use Rattle.row_shapes.specs.declared.fives.FivePoints.TheVariants.{None as NoPoint, One, Several}
-use Rattle.threat_moves.specs.Lines.{is_aligned}
 use Rattle.threat_moves.specs.ThreeMoves.{is_several}
 
 -- whether there is a five point

@@ -11,8 +11,8 @@ ghost use Rattle.game_rules.specs.Grid.{Grid, is_empty, put};
 ghost use Rattle.game_rules.specs.Shapes.{is_same_point};
 ghost use Rattle.game_rules.specs.Play.{IsPosition, outcome as outcome_lem, mover, other, after, goes_on as goes_on_lem};
 ghost use Rattle.game_rules.specs.Games.{has_five as has_five_lem, five_points as five_points_lem, has_threat, is_double_point};
+ghost use Rattle.game_rules.specs.Lines.{is_aligned as is_aligned_lem};
 ghost use Rattle.row_shapes.specs.FivePoints.{in_short};
-ghost use Rattle.threat_moves.specs.Lines.{is_aligned as is_aligned_lem};
 ghost use Rattle.threat_moves.specs.ThreeMoves.{is_several as is_several_lem, has_double_point};
 ghost use Rattle.threat_game.specs.ThreatGame.{is_threat_move as is_threat_move_lem};
 ghost use Rattle.threat_game.specs.FreeMoves.{EachGoesOn};
@@ -25,7 +25,7 @@ use foul_judge::{Outcome, Seen};
 use row_shapes::{FivePoints, Rule};
 use std::alloc::{AllocError, Global};
 use stone_board::{Board, Point, Points, Side};
-use threat_moves::{is_aligned, is_four_move, is_new_double_point, is_three_move};
+use threat_moves::{is_four_move, is_new_double_point, is_three_move};
 
 /// What the moves of the attacker come to, where it has no five point and two moves or more.
 #[derive(Drop)]
@@ -216,7 +216,7 @@ fn takes(threat: FivePoints, p: Point) -> bool
 {
     match threat {
         FivePoints::None => true,
-        FivePoints::One(w) => w.x == p.x && w.y == p.y,
+        FivePoints::One(w) => w.is(p),
         FivePoints::Several => false,
     }
 }
@@ -346,7 +346,7 @@ fn is_double_by<R: Rule>(board: &mut Board, side: Side, loud: bool, p: Point, q:
 fn is_far(loud: bool, p: Point, q: Point) -> bool
     ensures far { result ≡ (not loud && not (is_aligned_lem p q)) }
 {
-    !loud && !is_aligned(p, q)
+    !loud && !p.is_aligned(q)
 }
 
 /// What the replies to a move that goes on come to.

@@ -6,6 +6,7 @@ use Rattle.std.proofs.lemmas.Bool.Decides.{nat_tests}
 use Rattle.game_rules.specs.Grid.{Grid, IsBoard, is_empty, is_stone_of, stone_of, put, along, points_of, holds}
 use Rattle.game_rules.specs.Shapes.{is_line_three_point, five}
 use Rattle.game_rules.specs.Play.{foul_of, black_foul, has_fouls, other}
+use Rattle.game_rules.specs.Ways.{towards, opposite, stones_towards, go}
 use Rattle.game_rules.specs.declared.RuleKind.{RuleKind}
 use Rattle.game_rules.specs.declared.RuleKind.TheVariants.{Freestyle, Exact, Renju}
 use Rattle.game_rules.specs.declared.Side.{Side}
@@ -14,16 +15,15 @@ use Rattle.game_rules.specs.declared.Foul.{Foul}
 use Rattle.game_rules.specs.declared.Axis.{Axis}
 use Rattle.game_rules.specs.declared.Axis.TheVariants.{Row, Column, Down, Up}
 use Rattle.game_rules.specs.declared.Point.{Point}
+use Rattle.game_rules.specs.declared.Way.{Way}
+use Rattle.game_rules.specs.declared.Way.TheVariants.{Ahead, Behind}
 use Rattle.game_rules.proofs.Boards.{Apart, and_left, and_right, is_empty-on, is_empty-put, same_or_apart, other-other, stone_of-other}
 use Rattle.game_rules.proofs.Fives.{five-other}
 use Rattle.game_rules.proofs.Lines.{OnLine, along-OnLine, along-same}
 use Rattle.game_rules.proofs.Points.{any_witness, points-found}
 use Rattle.game_rules.proofs.Positions.{IsBoard-put, ahead-other, behind-other}
-use Rattle.stone_board.specs.declared.board.Way.{Way}
-use Rattle.stone_board.specs.declared.board.Way.TheVariants.{Ahead, Behind}
-use Rattle.stone_board.specs.Steps.{towards, opposite, stones_towards}
+use Rattle.game_rules.proofs.OneLine.{holds-put_others, towards_alike}
 use Rattle.row_shapes.specs.Threes.{wins_past, is_open_four}
-use Rattle.row_shapes.proofs.Ways.{go}
 use Rattle.row_shapes.proofs.ThreePoints.{three-open, three_empty, three_first, three_near}
 use Rattle.threat_moves.specs.Threats.{is_straight_point, has_straight_point, stops_three}
 use Rattle.threat_moves.specs.FiveEnds.{is_near, IsSure, CostsAreNear}
@@ -78,12 +78,8 @@ module _ (rule : RuleKind) (b : Grid) (s : Side) (d : Axis) (p z : Point) (ok : 
   mine_later : holds later s p ≡ true
   mine_later = stone_kept b s (other s) p z mine empty
 
-  not_mine : is_stone_of s (stone_of (other s)) ≡ false
-  not_mine = ap (λ (t : Side). is_stone_of t (stone_of (other s))) (sym (other-other s)) ∙ stone_of-other (other s)
-
   towards_same : (w : Way) (e : Axis) (q : Point) → stones_towards w later s e q ≡ stones_towards w b s e q
-  towards_same Ahead e q = ahead-other b (other s) s z ok empty not_mine e q
-  towards_same Behind e q = behind-other b (other s) s z ok empty not_mine e q
+  towards_same w e q = towards_alike later b s e q (λ r line. holds-put_others b s z r ok empty) refl w
 
   empty_same : (q : Point) → q ≢ z → is_empty later q ≡ is_empty b q
   empty_same q differ = elim (same_or_apart z q) [

@@ -10,22 +10,22 @@ use Rattle.std.proofs.lemmas.Bool.Decides.{nat_tests}
 use Rattle.game_rules.specs.Grid.{Grid, IsBoard, is_on, is_empty, put, along, axes, points_of, holds}
 use Rattle.game_rules.specs.Shapes.{row_wins, stones_ahead, stones_behind, run_of, line_bound, stone_at, wins_on, wins_at, place_stone, place_wins, fours_of, is_line_three_point, is_line_three_at, is_three_point, three_points_of, five}
 use Rattle.game_rules.specs.Play.{first_foul, is_three, stone_foul, black_foul, black_foul_within}
+use Rattle.game_rules.specs.Ways.{opposite, towards, stones_towards, go}
 use Rattle.game_rules.specs.declared.RuleKind.{RuleKind}
 use Rattle.game_rules.specs.declared.Side.TheVariants.{Black, White}
 use Rattle.game_rules.specs.declared.Foul.{Foul}
 use Rattle.game_rules.specs.declared.Axis.{Axis}
 use Rattle.game_rules.specs.declared.Axis.TheVariants.{Row, Column, Down, Up}
 use Rattle.game_rules.specs.declared.Point.{Point}
+use Rattle.game_rules.specs.declared.Way.{Way}
+use Rattle.game_rules.specs.declared.Way.TheVariants.{Ahead, Behind}
 use Rattle.game_rules.proofs.Boards.{Apart, and_left, and_right, is_empty-on, is_empty-put, same_or_apart, empty_holds, holds-put_other, holds-put_same, prefix_len-same, run_of-put, empties_of-put}
 use Rattle.game_rules.proofs.Positions.{IsBoard-put, holds-other}
 use Rattle.game_rules.proofs.Rows.{any_found, any_none}
-use Rattle.stone_board.specs.declared.board.Way.{Way}
-use Rattle.stone_board.specs.declared.board.Way.TheVariants.{Ahead, Behind}
-use Rattle.stone_board.specs.Steps.{opposite, towards, stones_towards}
+use Rattle.game_rules.proofs.OneLine.{empty-before, towards_alike, wins_alike}
 use Rattle.row_shapes.specs.Gaps.{is_four, are_stones, fours_from}
 use Rattle.row_shapes.specs.Threes.{wins_past, is_open_four}
 use Rattle.row_shapes.proofs.Counting.{fours_of-gap}
-use Rattle.row_shapes.proofs.Ways.{go}
 use Rattle.row_shapes.proofs.ThreePoints.{three-open, three_empty, three_first, three_near}
 use Rattle.foul_judge.specs.ShortCut.{has_line_three}
 use Rattle.threat_moves.proofs.StraightPoints.{three_by}
@@ -122,44 +122,22 @@ module _ (b : Grid) (q z : Point) (ok : IsBoard b) (free_q : is_empty b q ≡ tr
   stone_same None = refl
   stone_same (Some r) = holds_same r
 
-  ahead_same : (d : Axis) (r : Point) → stones_ahead late Black d r ≡ stones_ahead early Black d r
-  ahead_same d r = prefix_len-same _ _ (line_bound b) 1 (λ k l. stone_same (along d r k 0))
-
-  behind_same : (d : Axis) (r : Point) → stones_behind late Black d r ≡ stones_behind early Black d r
-  behind_same d r = prefix_len-same _ _ (line_bound b) 1 (λ k l. stone_same (along d r 0 k))
-
   towards_same : (w : Way) (d : Axis) (r : Point) → stones_towards w late Black d r ≡ stones_towards w early Black d r
-  towards_same Ahead d r = ahead_same d r
-  towards_same Behind d r = behind_same d r
+  towards_same w d r = towards_alike late early Black d r (λ z line. holds_same z) refl w
 
   run_same : (d : Axis) → run_of late Black d q ≡ run_of early Black d q
-  run_same d = rw (holds_same q, ahead_same d q, behind_same d q) refl
+  run_same d = rw (holds_same q, towards_same Ahead d q, towards_same Behind d q) refl
 
   fewer_empties : (r : Point) → is_empty late r ≡ true → is_empty early r ≡ true
-  fewer_empties r h = elim (same_or_apart q r) [
-    | inl same ↦ absurd (
-        let none : holds late Black q ≡ false = empty_holds late Black q (ap (is_empty late) same ∙ h) in
-        let bad : true ≡ false = sym mine_late ∙ none in
-        cc)
-    | inr other ↦
-        let left : is_empty white r ≡ true = sym (is_empty-put white Black q r on_q other) ∙ h in
-        elim (same_or_apart z r) [
-          | inl taken ↦ absurd (
-              let none : holds white White z ≡ false = empty_holds white White z (ap (is_empty white) taken ∙ left) in
-              let bad : true ≡ false = sym (holds-put_same b White z ok on_z) ∙ none in
-              cc)
-          | inr far ↦ is_empty-put b Black q r on_q other ∙ sym (is_empty-put b White z r on_z far) ∙ left
-        ]
-  ]
+  fewer_empties r h =
+      let left = empty-before white Black q r ok_white on_q h in
+      is_empty-put b Black q r on_q left.0 ∙ (empty-before b White z r ok on_z left.1).1
 
   module _ (rule : RuleKind) where
     fewer_wins : (d : Axis) (r : Point) → wins_on rule late Black d r ≡ true → wins_on rule early Black d r ≡ true
     fewer_wins d r h =
         let now = and_left (is_empty late r) _ h in
-        let before = fewer_empties r now in
-        let same : run_of (put late Black r) Black d r ≡ run_of (put early Black r) Black d r =
-        run_of-put late Black r (is_empty-on late r now) ok_late d ∙ rw (ahead_same d r, behind_same d r) refl ∙ sym (run_of-put early Black r (is_empty-on early r before) ok_early d) in
-        ap (λ t. t && row_wins rule Black (run_of (put early Black r) Black d r)) before ∙ ap (row_wins rule Black) (sym same) ∙ and_right (is_empty late r) _ h
+        sym (wins_alike late early Black d r (λ z line. holds_same z) refl rule ok_late ok_early (now ∙ sym (fewer_empties r now))) ∙ h
 
     fewer_wins_at : (d : Axis) (o : Option Point) → wins_at rule late Black d o ≡ true → wins_at rule early Black d o ≡ true
     fewer_wins_at d None h = h

@@ -10,8 +10,6 @@ pub mod FourEnds
 pub mod StraightPoints
 -- gains and double points
 pub mod GainLaws
--- points of one line; a stone plays no part in the runs of a line that it is not on
-pub mod OffLines
 -- stones away from a three leave it as it was, and a white stone frees no three that makes a foul
 pub mod FewerEmpties
 pub mod FarStones

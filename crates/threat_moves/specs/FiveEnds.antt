@@ -5,15 +5,15 @@ use Rattle.std.specs.List.{count_by}
 use Rattle.game_rules.specs.Grid.{Grid, is_empty, put, axes}
 use Rattle.game_rules.specs.Shapes.{is_at}
 use Rattle.game_rules.specs.Play.{has_fouls}
+use Rattle.game_rules.specs.Ways.{run_end}
 use Rattle.game_rules.specs.declared.RuleKind.{RuleKind}
 use Rattle.game_rules.specs.declared.Side.{Side}
 use Rattle.game_rules.specs.declared.Side.TheVariants.{Black}
 use Rattle.game_rules.specs.declared.Axis.{Axis}
 use Rattle.game_rules.specs.declared.Axis.TheVariants.{Row, Column, Down, Up}
 use Rattle.game_rules.specs.declared.Point.{Point}
-use Rattle.stone_board.specs.declared.board.Way.{Way}
-use Rattle.stone_board.specs.declared.board.Way.TheVariants.{Ahead, Behind}
-use Rattle.stone_board.specs.Steps.{towards, stones_towards}
+use Rattle.game_rules.specs.declared.Way.{Way}
+use Rattle.game_rules.specs.declared.Way.TheVariants.{Ahead, Behind}
 use Rattle.row_shapes.specs.FiveEnds.{kept_five}
 use Rattle.foul_judge.specs.ShortCut.{has_line_three}
 use Rattle.threat_moves.specs.Threats.{is_straight_point, stops_three}
@@ -21,7 +21,7 @@ use Rattle.threat_moves.specs.Threats.{is_straight_point, stops_three}
 -- the first point in that way from the side's stone on g that holds no stone of the side, if a stone of the side there wins on
 -- the axis
 abbrev pub five_end : RuleKind → Grid → Side → Axis → Point → Way → Option Point
-five_end rule b s d g way = kept_five rule b s d (towards way d g (1 + stones_towards way b s d g))
+five_end rule b s d g way = kept_five rule b s d (run_end b s d way g)
 
 -- whether c is such an end in one of the two ways
 abbrev pub is_five_end : RuleKind → Grid → Side → Axis → Point → Point → Bool

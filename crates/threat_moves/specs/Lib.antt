@@ -4,4 +4,3 @@ pub mod OneBlock
 pub mod Threats
 pub mod ThreeMoves
 pub mod FiveEnds
-pub mod Lines

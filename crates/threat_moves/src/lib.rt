@@ -11,7 +11,6 @@ mod doubles;
 mod five_points;
 mod gains;
 mod laws;
-mod lines;
 mod moves;
 #[cfg(test)]
 mod tests;
@@ -22,7 +21,6 @@ pub use doubles::{is_double_point, is_new_double_point, is_three_move, three_mov
 pub use five_points::{fives, fives_in_short, fives_made, has_five};
 pub use gains::{has_fouls, is_gain, is_threat, threats_at};
 pub use laws::{block_decides, others_leave_five};
-pub use lines::is_aligned;
 pub use moves::{four_moves, is_four_move};
 pub use row_shapes::FivePoints;
 pub use threat_list::{Threat, ThreatKind, Threats};

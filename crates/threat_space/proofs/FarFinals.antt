@@ -8,6 +8,7 @@ use Rattle.game_rules.specs.Grid.{Grid, IsBoard, is_on, is_empty, is_empty_cell,
 use Rattle.game_rules.specs.Shapes.{five}
 use Rattle.game_rules.specs.Play.{foul_of, has_fouls}
 use Rattle.game_rules.specs.Games.{is_double_point, has_five, five_points}
+use Rattle.game_rules.specs.Lines.{is_aligned}
 use Rattle.game_rules.specs.declared.RuleKind.{RuleKind}
 use Rattle.game_rules.specs.declared.Side.{Side}
 use Rattle.game_rules.specs.declared.Side.TheVariants.{Black, White}
@@ -16,11 +17,10 @@ use Rattle.game_rules.specs.declared.Cell.TheVariants.{Empty, Black as BlackSton
 use Rattle.game_rules.specs.declared.Point.{Point}
 use Rattle.game_rules.proofs.Boards.{and_left, and_right}
 use Rattle.game_rules.proofs.Positions.{IsBoard-lift, put-lift}
+use Rattle.game_rules.proofs.OneLine.{KeepsLines, put-kept, open_kept, no_five_kept, more_fives}
 use Rattle.stone_board.specs.Steps.{holds_stone}
-use Rattle.threat_moves.specs.Lines.{is_aligned}
 use Rattle.threat_moves.specs.declared.threat_list.Threat.{Threat}
 use Rattle.threat_moves.proofs.GainLaws.{several}
-use Rattle.threat_moves.proofs.OffLines.{no_five_less, more_fives, open_less}
 use Rattle.threat_space.specs.Sequences.{played, played_all, is_final_point, final_depends, all_needed, is_sequence}
 use Rattle.threat_space.specs.Lines.{has_point, may_make_two, HasPairsAfter, EndsNear}
 use Rattle.threat_space.proofs.Stones.{new-final}
@@ -39,38 +39,23 @@ module _ (rule : RuleKind) (b : Grid) (s : Side) (g f : Point) (ok : IsBoard b) 
   abbrev less : Grid
   less = lift b g
 
-  ok_less : IsBoard less
-  ok_less = IsBoard-lift b g ok
-
   on_g : is_on b g ≡ true
   on_g = and_left (is_on b g) _ there
 
-  again : (t : Side) × (put less t g ≡ b)
-  again = let stone = side_there (cell_at b g) (and_right (is_on b g) _ there) in (stone.0, put-lift b stone.0 g (ap (λ r. r && is_stone_of stone.0 (cell_at b g)) on_g ∙ stone.1))
-
-  none_again : has_five rule (put less again.0 g) s ≡ false
-  none_again = ap (λ (c : Grid). has_five rule c s) again.1 ∙ none
-
-  open_again : is_empty (put less again.0 g) f ≡ true
-  open_again = ap (λ (c : Grid). is_empty c f) again.1 ∙ open_f
-
-  abbrev full : Grid
-  full = put b s f
-
-  abbrev rest : Grid
-  rest = put less s f
-
-  more_less : length (five_points rule full s) ≤ length (five_points rule rest s)
-  more_less = subst (λ (c : Grid). length (five_points rule (put c s f) s) ≤ length (five_points rule rest s)) again.1 (more_fives rule less again.0 s g f ok_less on_g off none_again open_again)
+  keeps : KeepsLines b less s f
+  keeps =
+      let stone = side_there (cell_at b g) (and_right (is_on b g) _ there) in
+      let again : put less stone.0 g ≡ b = put-lift b stone.0 g (ap (λ r. r && is_stone_of stone.0 (cell_at b g)) on_g ∙ stone.1) in
+      subst (λ (c : Grid). KeepsLines c less s f) again (put-kept less stone.0 s g f (IsBoard-lift b g ok) on_g off)
 
   double_kept : is_double_point rule b s f ≡ true → is_double_point rule less s f ≡ true
   unfolding is_double_point
   double_kept h =
-      let two : nat_le 2 (length (five_points rule full s)) ≡ true = and_right (is_empty b f && not (five rule b s f) && is_none (foul_of rule b s f)) _ h in
-      let more = more_less in
-      let still : nat_le 2 (length (five_points rule rest s)) ≡ true = grind (arith, nat_tests) in
+      let two : nat_le 2 (length (five_points rule (put b s f) s)) ≡ true = and_right (is_empty b f && not (five rule b s f) && is_none (foul_of rule b s f)) _ h in
+      let more = more_fives rule b less s f keeps none open_f in
+      let still : nat_le 2 (length (five_points rule (put less s f) s)) ≡ true = grind (arith, nat_tests) in
       let no_foul : is_none (foul_of rule less s f) ≡ true = rw free refl in
-      all_four (is_empty less f) (five rule less s f) (is_none (foul_of rule less s f)) (nat_le 2 (length (five_points rule rest s))) (open_less rule less again.0 s g f ok_less on_g off none_again open_again) (no_five_less rule less again.0 s g f ok_less on_g off none_again open_again) no_foul still
+      all_four (is_empty less f) (five rule less s f) (is_none (foul_of rule less s f)) (nat_le 2 (length (five_points rule (put less s f) s))) (open_kept rule b less s f keeps none open_f) (no_five_kept rule b less s f keeps none open_f) no_foul still
 
   final_less : is_final_point rule b s f ≡ true → is_final_point rule less s f ≡ true
   unfolding is_final_point

@@ -5,8 +5,8 @@ use Rattle.game_rules.specs.Games.{is_double_point, has_five}
 use Rattle.game_rules.specs.declared.RuleKind.{RuleKind}
 use Rattle.game_rules.specs.declared.Side.{Side}
 use Rattle.game_rules.specs.declared.Point.{Point}
+use Rattle.game_rules.proofs.Wins.{no_five}
 use Rattle.threat_moves.specs.declared.threat_list.Threat.{Threat}
-use Rattle.threat_moves.proofs.OffLines.{no_five}
 use Rattle.threat_space.specs.Sequences.{with_stone, with_stones, played, is_final_point, threat_depends, is_needed, all_needed}
 
 -- the point that stands where there is none

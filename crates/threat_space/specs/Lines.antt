@@ -5,11 +5,11 @@ use Rattle.game_rules.specs.Grid.{Grid, is_empty, put}
 use Rattle.game_rules.specs.Shapes.{is_same_point}
 use Rattle.game_rules.specs.Play.{has_fouls}
 use Rattle.game_rules.specs.Games.{has_five, five_points}
+use Rattle.game_rules.specs.Lines.{is_aligned}
 use Rattle.game_rules.specs.declared.RuleKind.{RuleKind}
 use Rattle.game_rules.specs.declared.Side.{Side}
 use Rattle.game_rules.specs.declared.Point.{Point}
 use Rattle.row_shapes.specs.FivePoints.{in_short}
-use Rattle.threat_moves.specs.Lines.{is_aligned}
 use Rattle.threat_moves.specs.ThreeMoves.{is_several}
 use Rattle.threat_moves.specs.declared.threat_list.Threat.{Threat}
 use Rattle.threat_space.specs.Sequences.{is_sequence}

@@ -15,7 +15,7 @@ use crate::pairs::has_point;
 use row_shapes::{Rule, five_at, has_five};
 use std::alloc::AllocError;
 use stone_board::{Board, Point, Side};
-use threat_moves::{Threat, is_aligned, is_double_point, is_new_double_point, is_threat};
+use threat_moves::{Threat, is_double_point, is_new_double_point, is_threat};
 
 /// The least final point with which the list of threats is a sequence, if there is one. The threats lead from the first
 /// board to the second, which is as before. Where the side has fouls, `far` are the pairs that are on no line with the last gain.
@@ -87,7 +87,7 @@ fn is_sequence<R: Rule>(
     ensures same { board.new ≡ board.old }
 {
     if let Some(gain) = last_gain {
-        if !is_aligned(gain, last) && !has_point(far, last) {
+        if !gain.is_aligned(last) && !has_point(far, last) {
             return Ok(false);
         }
     }

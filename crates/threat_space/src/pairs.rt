@@ -7,7 +7,6 @@
 ghost use Rattle.std.specs.Prelude.{◌≡◌, IfOk, true};
 ghost use Rattle.std.specs.List.{filter};
 ghost use Rattle.game_rules.specs.Grid.{points_of};
-ghost use Rattle.game_rules.specs.Shapes.{is_same_point as is_same_point_lem};
 ghost use Rattle.game_rules.specs.Games.{has_five as has_five_lem};
 ghost use Rattle.threat_space.specs.Lines.{HasPairsOf, has_point as has_point_lem, may_make_two as may_make_two_lem};
 
@@ -60,12 +59,5 @@ fn may_make_two<R: Rule>(board: &Board, side: Side, p: Point, some_five: bool) -
 pub(crate) fn has_point(points: &[Point], p: Point) -> bool
     ensures has { result ≡ has_point_lem points.now p }
 {
-    points.iter().any(|q| is_same(*q, p))
-}
-
-/// Whether two points are one.
-fn is_same(p: Point, q: Point) -> bool
-    ensures same { result ≡ is_same_point_lem p q }
-{
-    p.x == q.x && p.y == q.y
+    points.iter().any(|q| q.is(p))
 }

@@ -1,5 +1,5 @@
 use Rattle.std.proofs.Common.{◌+◌, true, false, sym, ◌∙◌}
-use Rattle.stone_board.specs.Steps.{towards}
+use Rattle.game_rules.specs.Ways.{towards}
 use Rattle.stone_board.proofs.Looks.{kept-Some}
 use Rattle.row_shapes.proofs.NewFives.{end_by}
 use Rattle.row_shapes.proofs.new_fives.end_five.Goals as goal

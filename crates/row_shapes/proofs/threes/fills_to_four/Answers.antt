@@ -2,7 +2,8 @@ use Rattle.std.proofs.Common.{◌≡◌, ◌+◌, true, false, sym, ap, ◌∙�
 use Rattle.std.specs.Prelude.{None}
 use Rattle.game_rules.specs.Grid.{is_empty}
 use Rattle.game_rules.specs.Shapes.{is_line_three_at}
-use Rattle.stone_board.specs.Steps.{kept_on, towards}
+use Rattle.game_rules.specs.Ways.{towards}
+use Rattle.stone_board.specs.Steps.{kept_on}
 use Rattle.stone_board.proofs.Looks.{kept-Some}
 use Rattle.row_shapes.specs.Threes.{is_open_four}
 use Rattle.row_shapes.proofs.ThreePoints.{three-kept, three_at, taken_three}

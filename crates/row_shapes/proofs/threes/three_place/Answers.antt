@@ -1,6 +1,6 @@
 use Rattle.std.proofs.Common.{◌≡◌, sym, ap, ◌∙◌, arith}
-use Rattle.stone_board.specs.Steps.{opposite, stones_towards}
-use Rattle.stone_board.specs.declared.board.Way.{Way}
+use Rattle.game_rules.specs.Ways.{opposite, stones_towards}
+use Rattle.game_rules.specs.declared.Way.{Way}
 use Rattle.row_shapes.proofs.ThreePoints.{no_place}
 use Rattle.row_shapes.proofs.threes.three_place.Goals as goal
 

@@ -1,10 +1,10 @@
 use Rattle.std.proofs.Common.{below_more, arith, ◌≡◌, ℕ, ◌+◌, ◌≤◌, Bool, true, false, sym, ap, ◌∙◌}
 use Rattle.game_rules.specs.Grid.{Grid, is_on}
 use Rattle.game_rules.specs.Shapes.{stone_at, line_bound}
+use Rattle.game_rules.specs.Ways.{towards}
 use Rattle.game_rules.proofs.Rows.{stops_at, at_next}
-use Rattle.stone_board.specs.Steps.{towards}
+use Rattle.game_rules.proofs.Ways.{stones_towards-prefix}
 use Rattle.stone_board.specs.Walks.{steps_left}
-use Rattle.stone_board.proofs.Looks.{stones_towards-prefix}
 use Rattle.stone_board.proofs.Strides.{walk_back, walk_fits, walk_stone, past_none, left_bounded}
 use Rattle.stone_board.proofs.board.Board.stones_towards.Goals as goal
 

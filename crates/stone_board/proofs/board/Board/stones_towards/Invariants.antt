@@ -1,6 +1,6 @@
 use Rattle.std.proofs.Common.{◌≡◌, ℕ, ◌+◌, ◌<◌, ◌≤◌, true}
 use Rattle.game_rules.specs.Shapes.{stone_at}
-use Rattle.stone_board.specs.Steps.{towards}
+use Rattle.game_rules.specs.Ways.{towards}
 use Rattle.stone_board.proofs.board.Board.stones_towards.Given as goal
 
 -- the places so far hold stones of the side

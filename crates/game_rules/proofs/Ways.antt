@@ -1,24 +1,19 @@
 -- Lines seen from a point in one of two ways: what holds ahead holds behind.
 use Rattle.std.proofs.Common.{◌≡◌, ◌≢◌, inl, inr, ℕ, ◌+◌, ◌-◌, ◌≤◌, true, refl, sym, ap, ◌∙◌, arith}
 use Rattle.std.specs.Prelude.{Option, Some, None}
-use Rattle.std.proofs.lemmas.Bool.{cases_lt}
-use Rattle.game_rules.specs.Grid.{Grid, IsBoard, is_on, holds, put, along}
-use Rattle.game_rules.specs.Shapes.{stone_at, run_of}
+use Rattle.std.specs.List.{prefix_len, range_with_len}
+use Rattle.std.proofs.lemmas.Bool.{cases_lt, both_ways}
+use Rattle.game_rules.specs.Grid.{Grid, IsBoard, is_on, holds, put}
+use Rattle.game_rules.specs.Shapes.{stone_at, run_of, line_bound}
+use Rattle.game_rules.specs.Ways.{towards, go, opposite, stones_towards}
 use Rattle.game_rules.specs.declared.Side.{Side}
 use Rattle.game_rules.specs.declared.Axis.{Axis}
-use Rattle.game_rules.specs.declared.Axis.TheVariants.{Row, Column, Down, Up}
+use Rattle.game_rules.specs.declared.Way.{Way}
+use Rattle.game_rules.specs.declared.Way.TheVariants.{Ahead, Behind}
 use Rattle.game_rules.specs.declared.Point.{Point}
 use Rattle.game_rules.proofs.Boards.{Apart, holds-put_other, and_left, stones_ahead-put, stones_behind-put, run_of-put}
-use Rattle.game_rules.proofs.Lines.{OnLine, along-OnLine, along-then, along-same, along-zero}
+use Rattle.game_rules.proofs.Lines.{along-steps, along-apart, along-then, along-same, along-zero}
 use Rattle.game_rules.proofs.Runs.{Leads, ahead_leads, behind_leads, ahead_is, behind_is}
-use Rattle.stone_board.specs.declared.board.Way.{Way}
-use Rattle.stone_board.specs.declared.board.Way.TheVariants.{Ahead, Behind}
-use Rattle.stone_board.specs.Steps.{towards, opposite, stones_towards}
-
--- the point so many steps on in that way, and so many back again
-abbrev pub go : Way → Axis → Point → ℕ → ℕ → Option Point
-go Ahead d p x y = along d p x y
-go Behind d p x y = along d p y x
 
 pub go-then : (w : Way) (d : Axis) (p q : Point) (e g x y : ℕ) → go w d p e g ≡ Some q → go w d q x y ≡ go w d p (e + x) (g + y)
 go-then Ahead d p q e g x y h = along-then d p q e g x y h
@@ -32,10 +27,6 @@ pub go-zero : (w : Way) (d : Axis) (p : Point) → go w d p 0 0 ≡ Some p
 go-zero Ahead d p = along-zero d p
 go-zero Behind d p = along-zero d p
 
-pub go-towards : (w : Way) (d : Axis) (p : Point) (k : ℕ) → towards w d p k ≡ go w d p k 0
-go-towards Ahead d p k = refl
-go-towards Behind d p k = refl
-
 pub go-opposite : (w : Way) (d : Axis) (p : Point) (x y : ℕ) → go (opposite w) d p x y ≡ go w d p y x
 go-opposite Ahead d p x y = refl
 go-opposite Behind d p x y = refl
@@ -44,30 +35,23 @@ pub opposite-opposite : (w : Way) → opposite (opposite w) ≡ w
 opposite-opposite Ahead = refl
 opposite-opposite Behind = refl
 
--- points a different number of steps away are not one
-along-apart : (d : Axis) (p q r : Point) (x y x' y' : ℕ) → along d p x y ≡ Some q → along d p x' y' ≡ Some r → x + y' ≢ x' + y → Apart q r
-along-apart d p q r x y x' y' e f differ = by_axis d (along-OnLine d p x y q e) (along-OnLine d p x' y' r f) where
-  by_axis : (d : Axis) → OnLine d p x y q → OnLine d p x' y' r → Apart q r
-  by_axis Row h k = record { apart = λ u v. differ (omega arith) }
-  by_axis Column h k = record { apart = λ u v. differ (omega arith) }
-  by_axis Down h k = record { apart = λ u v. differ (omega arith) }
-  by_axis Up h k = record { apart = λ u v. differ (omega arith) }
+-- the way back
+pub go-back : (w : Way) (d : Axis) (p q : Point) (k : ℕ) → go w d p k 0 ≡ Some q → go w d q 0 k ≡ Some p
+go-back w d p q k here = go-then w d p q k 0 0 k here ∙ go-same w d p (k + 0) (0 + k) 0 0 (omega arith) ∙ go-zero w d p
 
 -- a point is a fixed number of steps away
-pub along-steps : (d : Axis) (p q : Point) (x y x' y' : ℕ) → along d p x y ≡ Some q → along d p x' y' ≡ Some q → x + y' ≡ x' + y
-along-steps d p q x y x' y' e f = by_axis d (along-OnLine d p x y q e) (along-OnLine d p x' y' q f) where
-  by_axis : (d : Axis) → OnLine d p x y q → OnLine d p x' y' q → x + y' ≡ x' + y
-  by_axis Row h k = omega arith
-  by_axis Column h k = omega arith
-  by_axis Down h k = omega arith
-  by_axis Up h k = omega arith
+pub go-steps : (w : Way) (d : Axis) (p q : Point) (x y x' y' : ℕ) → go w d p x y ≡ Some q → go w d p x' y' ≡ Some q → x + y' ≡ x' + y
+go-steps Ahead d p q x y x' y' e f = along-steps d p q x y x' y' e f
+go-steps Behind d p q x y x' y' e f = let back = along-steps d p q y x y' x' e f in omega (arith, back)
 
-pub go-apart : (w : Way) (d : Axis) (p q r : Point) (x y x' y' : ℕ) → go w d p x y ≡ Some q → go w d p x' y' ≡ Some r → x + y' ≢ x' + y → Apart q r
+pub go-apart : (w : Way) (d : Axis) (p q r : Point) (x y x' y' : ℕ) → go w d p x y ≡ Some q → go w d p x' y' ≡ Some r → x + y' ≢ x' + y
+    → Apart q r
 go-apart Ahead d p q r x y x' y' e f differ = along-apart d p q r x y x' y' e f differ
 go-apart Behind d p q r x y x' y' e f differ = along-apart d p q r y x y' x' e f (λ same. differ (omega arith))
 
 -- a stone changes no place a different number of steps away
-pub else_at : (b : Grid) (s : Side) (w : Way) (d : Axis) (p q : Point) (e g x y : ℕ) → is_on b q ≡ true → go w d p e g ≡ Some q → e + y ≢ x + g → stone_at (put b s q) s (go w d p x y) ≡ stone_at b s (go w d p x y)
+pub else_at : (b : Grid) (s : Side) (w : Way) (d : Axis) (p q : Point) (e g x y : ℕ) → is_on b q ≡ true → go w d p e g ≡ Some q
+    → e + y ≢ x + g → stone_at (put b s q) s (go w d p x y) ≡ stone_at b s (go w d p x y)
 else_at b s w d p q e g x y on here differ = by_point (go w d p x y) refl where
   by_point : (o : Option Point) → go w d p x y ≡ o → stone_at (put b s q) s o ≡ stone_at b s o
   by_point None f = refl
@@ -92,10 +76,28 @@ module _ (b : Grid) (s : Side) (d : Axis) (p : Point) (on : is_on b p ≡ true) 
   leads_back_is Ahead m h = behind_is b s d p on m h
   leads_back_is Behind m h = ahead_is b s d p on m h
 
+  -- as many places next to it that hold stones are in its row
+  pub least : (w : Way) (m : ℕ) → ((j : ℕ) → 1 ≤ j → j ≤ m → stone_at b s (go w d p j 0) ≡ true) → m ≤ stones_towards w b s d p
+  least w m all = elim (cases_lt (stones_towards w b s d p) m) [
+    | inl less ↦ absurd (both_ways _ (leads w).stops (all (1 + stones_towards w b s d p) (omega arith) (omega arith)))
+    | inr enough ↦ enough
+  ]
+
+  pub least_back : (w : Way) (m : ℕ) → ((j : ℕ) → 1 ≤ j → j ≤ m → stone_at b s (go w d p 0 j) ≡ true)
+      → m ≤ stones_towards (opposite w) b s d p
+  least_back w m all = least (opposite w) m (λ j low high. ap (stone_at b s) (go-opposite w d p j 0) ∙ all j low high)
+
+-- the row next to a point in one way, as the prefix of its places that hold stones
+pub stones_towards-prefix : (way : Way) (b : Grid) (s : Side) (d : Axis) (p : Point)
+    → prefix_len (λ j. stone_at b s (towards way d p j)) (range_with_len 1 (line_bound b)) ≡ stones_towards way b s d p
+stones_towards-prefix Ahead b s d p = refl
+stones_towards-prefix Behind b s d p = refl
+
 -- ---- a stone, and what stands in its two ways
 
 -- a run through the new stone, from either of the two ways
-pub run_towards : (b : Grid) (s : Side) (w : Way) (d : Axis) (q : Point) → IsBoard b → is_on b q ≡ true → run_of (put b s q) s d q ≡ 1 + stones_towards w b s d q + stones_towards (opposite w) b s d q
+pub run_towards : (b : Grid) (s : Side) (w : Way) (d : Axis) (q : Point) → IsBoard b → is_on b q ≡ true
+    → run_of (put b s q) s d q ≡ 1 + stones_towards w b s d q + stones_towards (opposite w) b s d q
 run_towards b s Ahead d q ok on = run_of-put b s q on ok d
 run_towards b s Behind d q ok on = let run = run_of-put b s q on ok d in omega (arith, run)
 
@@ -106,33 +108,46 @@ module _ (b : Grid) (s : Side) (p : Point) (on : is_on b p ≡ true) where
   towards-put Behind d = stones_behind-put b s p on s d
 
   -- and nothing that stands past another point of its line
-  pub beyond-put : (w : Way) (d : Axis) (k : ℕ) (e : Point) → go w d p (1 + k) 0 ≡ Some e → is_on b e ≡ true → stones_towards w (put b s p) s d e ≡ stones_towards w b s d e
+  pub beyond-put : (w : Way) (d : Axis) (k : ℕ) (e : Point) → go w d p (1 + k) 0 ≡ Some e → is_on b e ≡ true
+      → stones_towards w (put b s p) s d e ≡ stones_towards w b s d e
   beyond-put w d k e here on_e = leads_is (put b s p) s d e on_e w (stones_towards w b s d e) (record {
     holds = λ j low high. same j ∙ (leads b s d e on_e w).holds j low high;
     stops = same (1 + stones_towards w b s d e) ∙ (leads b s d e on_e w).stops;
   }) where
     same : (j : ℕ) → stone_at (put b s p) s (go w d e j 0) ≡ stone_at b s (go w d e j 0)
     same j =
-        let place : go w d e j 0 ≡ go w d p (1 + k + j) 0 = go-then w d p e (1 + k) 0 j 0 here ∙ go-same w d p (1 + k + j) (0 + 0) (1 + k + j) 0 (omega arith) in
-        ap (stone_at (put b s p) s) place ∙ else_at b s w d p p 0 0 (1 + k + j) 0 on (go-zero w d p) (λ same. absurd (omega arith)) ∙ ap (stone_at b s) (sym place)
+        let place : go w d e j 0 ≡ go w d p (1 + k + j) 0 = go-then w d p e (1 + k) 0 j 0 here
+        ∙ go-same w d p (1 + k + j) (0 + 0) (1 + k + j) 0 (omega arith) in
+        ap (stone_at (put b s p) s) place ∙ else_at b s w d p p 0 0 (1 + k + j) 0 on (go-zero w d p) (λ same. absurd (omega arith))
+        ∙ ap (stone_at b s) (sym place)
 
 -- ---- the first point past a run
 
 -- e is the first point past the run through p in that way: the run is what it has behind it
-module _ (b : Grid) (s : Side) (w : Way) (d : Axis) (p e : Point) (mine : holds b s p ≡ true) (here : go w d p (1 + stones_towards w b s d p) 0 ≡ Some e) (on : is_on b e ≡ true) where
+module _ (b : Grid) (s : Side) (w : Way) (d : Axis) (p e : Point) (mine : holds b s p ≡ true)
+    (here : go w d p (1 + stones_towards w b s d p) 0 ≡ Some e) (on : is_on b e ≡ true) where
   on_p : is_on b p ≡ true
   on_p = and_left (is_on b p) _ mine
 
   from_e : (x y x' y' : ℕ) → 1 + stones_towards w b s d p + x + y' ≡ x' + y → stone_at b s (go w d e x y) ≡ stone_at b s (go w d p x' y')
-  from_e x y x' y' h = ap (stone_at b s) (go-then w d p e (1 + stones_towards w b s d p) 0 x y here ∙ go-same w d p (1 + stones_towards w b s d p + x) (0 + y) x' y' (omega arith))
+  from_e x y x' y' h = ap (stone_at b s) (go-then w d p e (1 + stones_towards w b s d p) 0 x y here
+      ∙ go-same w d p (1 + stones_towards w b s d p + x) (0 + y) x' y' (omega arith))
 
   pub run_before_end : stones_towards (opposite w) b s d e ≡ stones_towards w b s d p + 1 + stones_towards (opposite w) b s d p
-  run_before_end = leads_back_is b s d e on w _ (record { holds = inside; stops = from_e 0 (1 + (stones_towards w b s d p + 1 + stones_towards (opposite w) b s d p)) 0 (1 + stones_towards (opposite w) b s d p) (omega arith) ∙ (leads_back b s d p on_p w).stops }) where
+  run_before_end = leads_back_is b s d e on w _ (record {
+    holds = inside;
+    stops =
+        from_e 0 (1 + (stones_towards w b s d p + 1 + stones_towards (opposite w) b s d p)) 0 (1 + stones_towards (opposite w) b s d p)
+        (omega arith)
+        ∙ (leads_back b s d p on_p w).stops;
+  }) where
     inside : (j : ℕ) → 1 ≤ j → j ≤ stones_towards w b s d p + 1 + stones_towards (opposite w) b s d p → stone_at b s (go w d e 0 j) ≡ true
     inside j low high = elim (cases_lt (stones_towards w b s d p + 1) j) [
-      | inl past ↦ from_e 0 j 0 (j - (stones_towards w b s d p + 1)) (omega arith) ∙ (leads_back b s d p on_p w).holds (j - (stones_towards w b s d p + 1)) (omega arith) (omega arith)
+      | inl past ↦ from_e 0 j 0 (j - (stones_towards w b s d p + 1)) (omega arith)
+          ∙ (leads_back b s d p on_p w).holds (j - (stones_towards w b s d p + 1)) (omega arith) (omega arith)
       | inr more ↦ elim (cases_lt j (stones_towards w b s d p + 1)) [
-        | inl less ↦ from_e 0 j (stones_towards w b s d p + 1 - j) 0 (omega arith) ∙ (leads b s d p on_p w).holds (stones_towards w b s d p + 1 - j) (omega arith) (omega arith)
+        | inl less ↦ from_e 0 j (stones_towards w b s d p + 1 - j) 0 (omega arith)
+            ∙ (leads b s d p on_p w).holds (stones_towards w b s d p + 1 - j) (omega arith) (omega arith)
         | inr last ↦ from_e 0 j 0 0 (omega arith) ∙ ap (stone_at b s) (go-zero w d p) ∙ mine
       ]
     ]
