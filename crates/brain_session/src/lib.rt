@@ -36,6 +36,9 @@ pub const OWN_MOVES: u32 = 6;
 /// The most positions that such a search may look at.
 pub const OWN_POSITIONS: u64 = 2_000;
 
+/// The most arrivals that a table may have which a brain is to hold.
+pub const BRAIN_WORK: u64 = 2_000_000;
+
 /// The most points that a board has, and so the most stones of a batch and the most moves of a game.
 pub const MAX_POINTS: usize = MAX_SIDE as usize * MAX_SIDE as usize;
 

@@ -35,7 +35,7 @@ use Rattle.brain_session.proofs.LawfulStates.{session-lawful, new-lawful}
 use Rattle.brain_session.proofs.HeldGames.{sessions-go_well, starts-are_tight}
 use Rattle.renju_cli.specs.declared.status.Status.{Status}
 use Rattle.renju_cli.specs.declared.status.Status.TheVariants.{Done, Usage, ShelfFault, RefusedText, RefusedTable, Spent, Memory, ReadFault, WriteFault, NotFound, TooLong, Full}
-use Rattle.renju_cli.specs.declared.TheConstants.{BRAIN_WORK}
+use Rattle.brain_session.specs.declared.TheConstants.{BRAIN_WORK}
 use Rattle.renju_cli.specs.Statuses.{status_number}
 use Rattle.renju_cli.specs.Runs.{Change, Run, HasFailed, IsSound, IsDelivered}
 use Rattle.renju_cli.specs.Checks.{IsTableAt, IsRefusedTable, IsSpentWork}

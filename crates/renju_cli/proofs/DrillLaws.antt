@@ -5,12 +5,12 @@ use Rattle.std.specs.Fmt.{decimal}
 use Rattle.renju_cli.specs.declared.TheConstants.{MAX_DRILL}
 use Rattle.renju_cli.specs.declared.status.Status.TheVariants.{Done}
 use Rattle.renju_io.specs.Told.{Takes}
+use Rattle.strength_drill.proofs.DrillCounts.{only-counts}
 use Rattle.renju_cli.specs.Statuses.{status_number}
 use Rattle.renju_cli.specs.Runs.{Run, IsDelivered, IsOutOfMemory}
 use Rattle.renju_cli.specs.Drills.{IsDrillText, EndsDrill, IsDrill, WritesDrill, AnswersDrill, ShowsCounts}
 use Rattle.renju_cli.specs.Commands.{HasForm}
 use Rattle.renju_cli.proofs.FormLaws.{has-told}
-use Rattle.renju_cli.proofs.DrillCounts.{only-counts}
 
 -- words whose first is `drill`, and whose others are no number in the range, have no form
 pub no-drill : (rest : List (List ℕ)) → ((n : ℕ) → n ≤ MAX_DRILL → rest ≡ decimal n ∷ [] → ⊥) → ¬ HasForm (codes "drill" ∷ rest)

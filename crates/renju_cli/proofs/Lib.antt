@@ -10,13 +10,5 @@ mod ThreatsLaws
 mod SolveLaws
 mod Solutions
 mod BrainLaws
-mod DrillBoards
-mod DrillTelling
-mod DrillTurns
-mod DrillOpening
-mod DrillMaking
-mod DrillCourse
-mod DrillCounts
-mod DrillShares
 mod DrillLaws
 mod ReportLaws

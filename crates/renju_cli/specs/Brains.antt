@@ -23,7 +23,7 @@ use Rattle.renju_cli.specs.declared.status.Status.{Status}
 use Rattle.renju_cli.specs.declared.status.Status.TheVariants.{Done, Usage, ShelfFault, RefusedText, RefusedTable, Spent, Memory, ReadFault, WriteFault, NotFound, TooLong, Full}
 use Rattle.renju_cli.specs.declared.brain.Loaded.{Loaded}
 use Rattle.renju_cli.specs.declared.brain.Loaded.TheVariants.{Holds, Tells}
-use Rattle.renju_cli.specs.declared.TheConstants.{BRAIN_WORK}
+use Rattle.brain_session.specs.declared.TheConstants.{BRAIN_WORK}
 use Rattle.renju_cli.specs.Statuses.{status_number}
 use Rattle.renju_cli.specs.Texts.{too_long_line, shelf_line}
 use Rattle.renju_cli.specs.Runs.{Change, Run, HasFailed, IsSound, IsUnasked, IsDelivered}

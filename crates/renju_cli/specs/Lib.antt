@@ -13,9 +13,6 @@ pub mod Fours
 pub mod Threats
 pub mod Solves
 pub mod Brains
--- the drill: its draws and positions, its games, and the command
-pub mod Draws
-pub mod DrillGames
 pub mod Drills
 -- the list of commands, and what the program does
 pub mod Commands

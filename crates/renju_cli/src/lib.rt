@@ -9,14 +9,10 @@ mod answer;
 mod brain;
 mod check;
 mod commands;
-mod counts;
-mod draws;
 mod drill;
-mod drill_game;
 mod fouls;
 mod fours;
 mod numbers;
-mod positions;
 mod refusals;
 mod run;
 mod solve;
@@ -30,9 +26,6 @@ pub use status::Status;
 
 /// The most arrivals that `check` may be allowed.
 pub const MAX_WORK: u64 = 1_000_000_000_000;
-
-/// The most arrivals that `brain` allows the table of its FILE.
-pub const BRAIN_WORK: u64 = 2_000_000;
 
 /// The most positions that `fours` and `solve`, and the most lists of threats that `threats`, may be allowed to look at.
 pub const MAX_SEARCHED: u64 = 10_000_000;

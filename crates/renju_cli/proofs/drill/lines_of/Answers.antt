@@ -1,11 +1,10 @@
 use Rattle.std.proofs.Common.{◌≡◌, String, Global}
-use Rattle.std.specs.Prelude.{string_bytes}
+use Rattle.std.specs.Prelude.{Result, Ok, Err, IfOk, string_bytes}
 use Rattle.renju_cli.specs.Drills.{IsDrillText, drill_lines}
-use Rattle.renju_cli.proofs.DrillShares.{ok-map}
 use Rattle.renju_cli.proofs.drill.lines_of.Goals as goal
 
 pub returns : goal.returns
-returns c = record {
-  lines = ok-map c.counted_lines.result (λ (t : String Global). string_bytes t ≡ drill_lines c.args.number c.in_ok-counts.counts) (λ (t : String Global). IsDrillText c.args.number (string_bytes t))
-      (λ t e. record { counts = c.in_ok-counts.counts; counted = c.in_ok-counts.ensures.counts; lines = e }) c.counted_lines.ensures.lines;
-}
+returns c = record { lines = by_text c.counted_lines.result c.counted_lines.ensures.lines } where
+  by_text : {E : Type 0} (r : Result (String Global) E) → IfOk r (λ t. string_bytes t ≡ drill_lines c.args.number c.in_ok-counts.counts) → IfOk r (λ t. IsDrillText c.args.number (string_bytes t))
+  by_text (Ok text) lines = record { counts = c.in_ok-counts.counts; counted = c.in_ok-counts.ensures.counted; lines = lines }
+  by_text (Err e) none = none

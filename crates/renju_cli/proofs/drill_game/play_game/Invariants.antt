@@ -1,6 +1,0 @@
-use Rattle.renju_cli.proofs.DrillCourse.{IsAtTurn}
-use Rattle.renju_cli.proofs.drill_game.play_game.Given as goal
-
--- the brain has made a move by the table after as many turns
-abbrev pub invariant-loop-turns : goal.invariant-loop-turns
-invariant-loop-turns g l = IsAtTurn l.fn.held g.R.Rule.KIND l.fn.position l.fn.draws.number l.brain l.draws.number l.position l.at l.turns

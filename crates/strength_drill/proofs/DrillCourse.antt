@@ -1,0 +1,204 @@
+-- A game of the drill as it goes: the brain's state after so many turns, and how the game ends.
+use Rattle.std.proofs.Common.{◌≡◌, ◌⊎◌, inl, inr, refl, sym, ap, subst, ◌∙◌, ℕ, ◌+◌, ◌<◌, Bool, true, false, cond, ◌||◌, List, [], ◌∷◌, add-one, arith}
+use Rattle.std.specs.Prelude.{◌≢◌, Some, None, unwrap_or}
+use Rattle.std.specs.Option.{option_or}
+use Rattle.std.specs.List.{find, list_any}
+use Rattle.std.proofs.lemmas.Bool.{cases_lt}
+use Rattle.game_rules.specs.Grid.{Grid, is_empty, points_of}
+use Rattle.game_rules.specs.Play.{IsPosition, outcome, after}
+use Rattle.game_rules.specs.declared.RuleKind.{RuleKind}
+use Rattle.game_rules.specs.declared.Outcome.TheVariants.{Wins as WinsNow, GoesOn}
+use Rattle.game_rules.specs.declared.Point.{Point}
+use Rattle.game_rules.proofs.Boards.{is_empty-on}
+use Rattle.game_rules.proofs.Points.{points-found}
+use Rattle.stone_board.specs.Order.{points_left}
+use Rattle.strategy_checker.specs.HeldRoots.{HeldTable}
+use Rattle.gomocup_text.specs.declared.Command.{Command as Asked}
+use Rattle.gomocup_text.specs.declared.Command.TheVariants.{Turn}
+use Rattle.gomocup_text.specs.declared.Answer.TheVariants.{Move, Error}
+use Rattle.gomocup_text.specs.declared.ErrorText.TheVariants.{OpponentFoul}
+use Rattle.brain_session.specs.declared.Reaction.{Reaction}
+use Rattle.brain_session.specs.declared.Reaction.TheVariants.{Says}
+use Rattle.brain_session.specs.ChosenMoves.{plain_move}
+use Rattle.brain_session.specs.States.{board_of, State}
+use Rattle.brain_session.specs.Steps.{Step, brain_step}
+use Rattle.brain_session.proofs.LegalMoves.{plain-is_empty}
+use Rattle.strength_drill.specs.Draws.{next_number, drawn, number_after}
+use Rattle.strength_drill.specs.DrillGames.{state_begun, board_now, is_ended, move_said, says_foul, board_point, drawn_move, drawn_turn, after_turns, IsGamePlayed}
+use Rattle.strength_drill.proofs.DrillMaking.{number-next, number-none}
+use Rattle.strength_drill.proofs.DrillTurns.{IsPlaying, IsOver, IsFouled, IsAnswered, attacks, over-now, going-now, board-then, lawful-then, reply-met}
+use Rattle.strength_drill.proofs.DrillOpening.{IsOpened}
+
+-- ---- a drawn move is at an empty point
+
+found-one : (f : Point → Bool) (ps : List Point) (d : Point) → list_any f ps ≡ true → f (unwrap_or (find f ps) d) ≡ true
+found-one f [] d h = cc
+found-one f (x ∷ ps) d h = by_test (f x) refl h (found-one f ps d) where
+  by_test : (r : Bool) → f x ≡ r → (r || list_any f ps) ≡ true → (list_any f ps ≡ true → f (unwrap_or (find f ps) d) ≡ true) → f (unwrap_or (cond r (Some x) (find f ps)) d) ≡ true
+  by_test true e h rest = e
+  by_test false e h rest = rest h
+
+found-either : (f : Point → Bool) (ps qs : List Point) (d : Point) → list_any f qs ≡ true → f (unwrap_or (option_or (find f ps) (find f qs)) d) ≡ true
+found-either f [] qs d h = found-one f qs d h
+found-either f (x ∷ ps) qs d h = by_test (f x) refl (found-either f ps qs d h) where
+  by_test : (r : Bool) → f x ≡ r → f (unwrap_or (option_or (find f ps) (find f qs)) d) ≡ true → f (unwrap_or (option_or (cond r (Some x) (find f ps)) (find f qs)) d) ≡ true
+  by_test true e rest = e
+  by_test false e rest = rest
+
+pub drawn-empty : (rule : RuleKind) (b : Grid) → IsPosition rule b → (v : ℕ) → is_empty b (drawn_move b v) ≡ true
+drawn-empty rule b lawful v =
+    let some = plain-is_empty rule b lawful in
+    found-either (is_empty b) (points_left b.width b.height (board_point v)) (points_of b) (board_point v)
+    (points-found b (is_empty b) (plain_move rule b) (is_empty-on b (plain_move rule b) some) some)
+
+-- ---- one more turn
+
+turn-after : (s : State) (n k : ℕ) → after_turns s n (k + 1) ≡ (brain_step (after_turns s n k) (drawn_turn (board_now (after_turns s n k).place) (drawn (number_after n (k + 1))))).next
+unfolding after_turns
+turn-after s n k = rw add-one refl
+
+pub turn-none : (s : State) (n : ℕ) → after_turns s n 0 ≡ s
+unfolding after_turns
+turn-none s n = refl
+
+-- the line TURN of a point, by its coordinates
+pub turn-as : (x y : ℕ) (q : Point) → x ≡ q.x → y ≡ q.y → Turn x y ≡ Turn q.x q.y
+turn-as x y q across down = ap (λ (m : ℕ). let a : Asked = Turn m y in a) across ∙ ap (λ (m : ℕ). let a : Asked = Turn q.x m in a) down
+
+-- the brain, which began with this at b, has made a move after so many turns, at the board c
+pub record IsAtTurn (h : HeldTable) (rule : RuleKind) (b : Grid) (n : ℕ) (s : State) (number : ℕ) (c : Grid) (at : Point) (turns : ℕ) : Type 0 where
+  pub playing : IsPlaying h rule s turns
+  pub state : s ≡ after_turns (state_begun h rule b) n turns
+  pub drawn : number ≡ number_after n turns
+  pub no_sooner : (k : ℕ) → k < turns → is_ended (after_turns (state_begun h rule b) n k).place ≡ false
+  pub board : c ≡ board_of playing.game
+  pub move : at ≡ playing.node.attack
+
+-- a turn at which the game went on, and those before it
+no-later : (s : State) (n turns : ℕ) → ((k : ℕ) → k < turns → is_ended (after_turns s n k).place ≡ false) → is_ended (after_turns s n turns).place ≡ false → (k : ℕ) → k < turns + 1 → is_ended (after_turns s n k).place ≡ false
+no-later s n turns before here k less = elim (cases_lt k turns) [
+  | inl low ↦ before k low
+  | inr high ↦ let same : turns ≡ k = omega (arith, high, less) in subst (λ (j : ℕ). is_ended (after_turns s n j).place ≡ false) same here
+]
+
+module _ (h : HeldTable) (rule : RuleKind) (b : Grid) (n : ℕ) where
+  abbrev s0 : State
+  s0 = state_begun h rule b
+
+  -- the first move
+  pub course-first : (step : Step) (s : State) (number : ℕ) (c : Grid) (at : Point) → step.next ≡ s0 → IsOpened h rule b step → s ≡ step.next → number ≡ n → c ≡ b → move_said step.reaction ≡ Some at → IsAtTurn h rule b n s number c at 0
+  course-first step s number c at begun opened is same board says =
+      let t : IsAtTurn h rule b n step.next n b opened.playing.node.attack 0 = record {
+        playing = opened.playing;
+        state = begun ∙ sym (turn-none s0 n);
+        drawn = sym (number-none n);
+        no_sooner = λ k less. absurd (omega arith);
+        board = sym opened.board;
+        move = refl;
+      } in
+      let said : move_said step.reaction ≡ Some opened.playing.node.attack = ap move_said opened.says in
+      let move : opened.playing.node.attack ≡ at = cc in
+      subst (λ (x : State). IsAtTurn h rule b n x number c at 0) (sym is)
+      (subst (λ (x : ℕ). IsAtTurn h rule b n step.next x c at 0) (sym same)
+      (subst (λ (x : Grid). IsAtTurn h rule b n step.next n x at 0) (sym board)
+      (subst (λ (x : Point). IsAtTurn h rule b n step.next n b x 0) move t)))
+
+  module _ (s : State) (number : ℕ) (c : Grid) (at : Point) (turns : ℕ) (t : IsAtTurn h rule b n s number c at turns) where
+    pub outcome-at : outcome rule c at ≡ outcome rule (board_of t.playing.game) t.playing.node.attack
+    outcome-at = ap (λ (x : Grid). outcome rule x at) t.board ∙ ap (outcome rule (board_of t.playing.game)) t.move
+
+    played : (turned moves u : ℕ) (e : State) → e ≡ after_turns s0 n turned → IsOver e moves → ((k : ℕ) → k < turned → is_ended (after_turns s0 n k).place ≡ false) → u ≡ number_after n turned → IsGamePlayed s0 n moves true u
+    played turned moves u e state over no_sooner number_is = record {
+      turns = turned;
+      game = over.game;
+      played = record { game = sym (ap (λ (x : State). x.place) state) ∙ over.place; ended = over.ended; no_sooner = no_sooner };
+      moves_made = sym over.made;
+      ends = sym over.won;
+      number = number_is;
+    }
+
+    -- its move wins
+    pub course-won : outcome rule c at ≡ WinsNow → IsGamePlayed s0 n (turns + 1) true number
+    course-won wins = played turns (turns + 1) number s t.state (over-now h rule s turns t.playing (sym outcome-at ∙ wins)) t.no_sooner t.drawn
+
+    -- it wins or goes on
+    pub course-one : outcome rule c at ≢ WinsNow → outcome rule c at ≢ GoesOn → ⊥
+    course-one not_won not_on = elim (attacks h rule s turns t.playing) [ inl wins ↦ not_won (outcome-at ∙ wins) | inr on ↦ not_on (outcome-at ∙ on) ]
+
+    -- there is room for each turn
+    pub course-room : turns < 113
+    course-room = let few = t.playing.few in omega (arith, few)
+
+    -- its move goes on, and the opponent's is drawn
+    module _ (on : outcome rule c at ≡ GoesOn) (c1 : Grid) (board : c1 ≡ after c at) (u v : ℕ) (next : u ≡ next_number number) (draw : v ≡ drawn u) (q : Point) (point : q ≡ drawn_move c1 v) where
+      goes : outcome rule (board_of t.playing.game) t.playing.node.attack ≡ GoesOn
+      goes = sym outcome-at ∙ on
+
+      then_board : c1 ≡ after (board_of t.playing.game) t.playing.node.attack
+      then_board = board ∙ ap (λ (x : Grid). after x at) t.board ∙ ap (after (board_of t.playing.game)) t.move
+
+      pub course-empty : is_empty c1 q ≡ true
+      course-empty =
+          let lawful = subst (IsPosition rule) (sym then_board) (lawful-then h rule s turns t.playing goes) in
+          ap (is_empty c1) point ∙ drawn-empty rule c1 lawful v
+
+      number_then : u ≡ number_after n (turns + 1)
+      number_then = next ∙ ap next_number t.drawn ∙ sym (number-next n turns)
+
+      -- the TURN is that of the definition
+      turn_is : drawn_turn (board_now s.place) (drawn (number_after n (turns + 1))) ≡ Turn q.x q.y
+      turn_is =
+          let shown : board_now s.place ≡ c1 = board-then h rule s turns t.playing goes ∙ sym then_board in
+          ap (λ (x : Grid). drawn_turn x (drawn (number_after n (turns + 1)))) shown
+          ∙ ap (drawn_turn c1) (ap drawn (sym number_then) ∙ sym draw)
+          ∙ ap (λ (x : Point). let a : Asked = Turn x.x x.y in a) (sym point)
+
+      pub then_state : (brain_step s (Turn q.x q.y)).next ≡ after_turns s0 n (turns + 1)
+      then_state =
+          ap (λ (a : Asked). (brain_step s a).next) (sym turn_is)
+          ∙ ap (λ (x : State). (brain_step x (drawn_turn (board_now x.place) (drawn (number_after n (turns + 1))))).next) t.state
+          ∙ sym (turn-after s0 n turns)
+
+      then_sooner : (k : ℕ) → k < turns + 1 → is_ended (after_turns s0 n k).place ≡ false
+      then_sooner = no-later s0 n turns t.no_sooner (subst (λ (x : State). is_ended x.place ≡ false) t.state (going-now h rule s turns t.playing goes))
+
+      pub met : IsFouled (brain_step s (Turn q.x q.y)) (turns + 1) ⊎ IsAnswered h rule c1 q (brain_step s (Turn q.x q.y)) (turns + 1)
+      met = subst (λ (x : Grid). IsFouled (brain_step s (Turn q.x q.y)) (turns + 1) ⊎ IsAnswered h rule x q (brain_step s (Turn q.x q.y)) (turns + 1)) (sym then_board)
+          (reply-met h rule s turns t.playing goes q (subst (λ (x : Grid). is_empty x q ≡ true) then_board course-empty))
+
+      module _ (s1 : State) (r : Reaction) (state : s1 ≡ (brain_step s (Turn q.x q.y)).next) (reaction : r ≡ (brain_step s (Turn q.x q.y)).reaction) where
+        -- what the brain says where the opponent's move is a foul, and where it answers it
+        foul-said : (brain_step s (Turn q.x q.y)).reaction ≡ Says (Error OpponentFoul) → (move_said r ≡ None) × (says_foul r ≡ true)
+        foul-said says = (ap move_said (reaction ∙ says), ap says_foul (reaction ∙ says))
+
+        answer-said : (p : Point) → (brain_step s (Turn q.x q.y)).reaction ≡ Says (Move p) → move_said r ≡ Some p
+        answer-said p says = ap move_said (reaction ∙ says)
+
+        -- it says no move: the opponent's is a foul
+        pub course-ended : move_said r ≡ None → IsGamePlayed s0 n (turns + 1) (says_foul r) u
+        course-ended is = elim met [
+          | inl foul ↦
+              subst (λ (won : Bool). IsGamePlayed s0 n (turns + 1) won u) (sym (foul-said foul.says).1)
+              (played (turns + 1) (turns + 1) u (brain_step s (Turn q.x q.y)).next then_state foul.over then_sooner number_then)
+          | inr answer ↦ let said = answer-said answer.playing.node.attack answer.says in absurd (cc)
+        ]
+
+        -- it says one
+        pub course-next : (p : Point) → move_said r ≡ Some p → IsAtTurn h rule b n s1 u (after c1 q) p (turns + 1)
+        course-next p is = elim met [
+          | inl foul ↦ let said = (foul-said foul.says).0 in absurd (cc)
+          | inr answer ↦
+              let said = answer-said answer.playing.node.attack answer.says in
+              let move : answer.playing.node.attack ≡ p = cc in
+              subst (λ (x : State). IsAtTurn h rule b n x u (after c1 q) p (turns + 1)) (sym state) (record {
+                playing = answer.playing;
+                state = then_state;
+                drawn = number_then;
+                no_sooner = then_sooner;
+                board = sym answer.board;
+                move = sym move;
+              })
+        ]
+
+        pub course-on : (p : Point) → move_said r ≡ Some p → outcome rule c1 q ≡ GoesOn
+        course-on p is = elim met [ inl foul ↦ let said = (foul-said foul.says).0 in absurd (cc) | inr answer ↦ answer.on ]

@@ -1,0 +1,134 @@
+-- A position of the drill, draw by draw.
+use Rattle.std.proofs.Common.{◌≡◌, refl, sym, ap, ◌∙◌, ℕ, zero, suc, ◌+◌, ◌*◌, ◌/◌, ◌^◌, ◌<◌, ◌≤◌, Bool, true, false, cond, ◌&&◌, nat_lt, add-one, arith}
+use Rattle.std.specs.Prelude.{◌≢◌}
+use Rattle.std.proofs.lemmas.Bool.Decides.{nat_tests}
+use Rattle.std.proofs.lemmas.List.{length-replicate}
+use Rattle.game_rules.specs.Grid.{Grid, IsBoard}
+use Rattle.game_rules.specs.Play.{IsPosition, outcome, after}
+use Rattle.game_rules.specs.declared.RuleKind.{RuleKind}
+use Rattle.game_rules.specs.declared.Cell.TheVariants.{Empty}
+use Rattle.game_rules.specs.declared.Outcome.{Outcome}
+use Rattle.game_rules.specs.declared.Outcome.TheVariants.{Refused, Wins as WinsNow, Fouls, Draws, GoesOn}
+use Rattle.game_rules.specs.declared.Point.{Point}
+use Rattle.game_rules.proofs.Positions.{IsPosition-after}
+use Rattle.brain_session.specs.States.{empty_board}
+use Rattle.brain_session.specs.Steps.{goes_on}
+use Rattle.brain_session.proofs.Rounds.{empty-lawful}
+use Rattle.strength_drill.specs.declared.positions.TheConstants.{SIDE, MOST_STONES}
+use Rattle.strength_drill.specs.Draws.{next_number, number_after, draw_at, middle_point, all_stones, with_point, board_drawn}
+
+-- ---- one draw
+
+pub number-next : (s k : ℕ) → number_after s (k + 1) ≡ next_number (number_after s k)
+unfolding number_after
+number-next s k = rw add-one refl
+
+module _ (rule : RuleKind) (b : Grid) (p : Point) where
+  by_tests : (few on : Bool) → Grid
+  by_tests few on = cond (few && on) (after b p) b
+
+  point-by : (few on : Bool) → nat_lt (all_stones b) MOST_STONES ≡ few → goes_on (outcome rule b p) ≡ on → with_point rule b p ≡ cond (few && on) (after b p) b
+  unfolding with_point
+  point-by few on e f = rw (e, f) refl
+
+  -- no more stones are put
+  pub point-many : MOST_STONES ≤ all_stones b → with_point rule b p ≡ b
+  point-many many = let test : nat_lt (all_stones b) MOST_STONES ≡ false = grind (arith, nat_tests) in point-by false (goes_on (outcome rule b p)) test refl
+
+  -- the move does not go on
+  pub point-not : outcome rule b p ≢ GoesOn → with_point rule b p ≡ b
+  point-not other = point-by (nat_lt (all_stones b) MOST_STONES) false refl (not_on (outcome rule b p) other) ∙ neither (nat_lt (all_stones b) MOST_STONES) where
+    not_on : (o : Outcome) → o ≢ GoesOn → goes_on o ≡ false
+    not_on Refused h = refl
+    not_on WinsNow h = refl
+    not_on (Fouls f) h = refl
+    not_on Draws h = refl
+    not_on GoesOn h = absurd (h refl)
+
+    neither : (r : Bool) → cond (r && false) (after b p) b ≡ b
+    neither true = refl
+    neither false = refl
+
+  -- the move is made
+  pub point-on : all_stones b < MOST_STONES → outcome rule b p ≡ GoesOn → with_point rule b p ≡ after b p
+  point-on few on = let test : nat_lt (all_stones b) MOST_STONES ≡ true = grind (arith, nat_tests) in point-by true true test (ap goes_on on)
+
+  -- the board has the same size
+  pub point-wide : (with_point rule b p).width ≡ b.width
+  unfolding with_point
+  point-wide = by_test (nat_lt (all_stones b) MOST_STONES && goes_on (outcome rule b p)) where
+    by_test : (r : Bool) → (cond r (after b p) b).width ≡ b.width
+    by_test true = refl
+    by_test false = refl
+
+  pub point-high : (with_point rule b p).height ≡ b.height
+  unfolding with_point
+  point-high = by_test (nat_lt (all_stones b) MOST_STONES && goes_on (outcome rule b p)) where
+    by_test : (r : Bool) → (cond r (after b p) b).height ≡ b.height
+    by_test true = refl
+    by_test false = refl
+
+  -- and the position is lawful
+  pub point-lawful : IsPosition rule b → IsPosition rule (with_point rule b p)
+  unfolding with_point
+  point-lawful lawful = by_test (nat_lt (all_stones b) MOST_STONES) (outcome rule b p) refl where
+    by_test : (r : Bool) (o : Outcome) → outcome rule b p ≡ o → IsPosition rule (cond (r && goes_on o) (after b p) b)
+    by_test false o e = lawful
+    by_test true Refused e = lawful
+    by_test true WinsNow e = lawful
+    by_test true (Fouls f) e = lawful
+    by_test true Draws e = lawful
+    by_test true GoesOn e = IsPosition-after rule b p lawful e
+
+-- ---- all draws
+
+pub board-next : (rule : RuleKind) (s k : ℕ) → board_drawn rule s (k + 1) ≡ with_point rule (board_drawn rule s k) (middle_point (draw_at s k))
+unfolding board_drawn
+board-next rule s k = rw add-one refl
+
+pub board-wide : (rule : RuleKind) (s k : ℕ) → (board_drawn rule s k).width ≡ SIDE
+unfolding board_drawn
+board-wide rule s zero = refl
+board-wide rule s (suc k) = point-wide rule (board_drawn rule s k) (middle_point (draw_at s k)) ∙ board-wide rule s k
+
+pub board-high : (rule : RuleKind) (s k : ℕ) → (board_drawn rule s k).height ≡ SIDE
+unfolding board_drawn
+board-high rule s zero = refl
+board-high rule s (suc k) = point-high rule (board_drawn rule s k) (middle_point (draw_at s k)) ∙ board-high rule s k
+
+-- the empty board of the drill
+pub side-board : IsBoard (empty_board SIDE SIDE)
+side-board = record {
+  wide = omega arith;
+  width_fits = omega arith;
+  high = omega arith;
+  height_fits = omega arith;
+  filled = length-replicate (SIDE * SIDE) Empty;
+}
+
+pub side-lawful : (rule : RuleKind) → IsPosition rule (empty_board SIDE SIDE)
+side-lawful rule = empty-lawful rule SIDE SIDE side-board
+
+pub board-lawful : (rule : RuleKind) (s k : ℕ) → IsPosition rule (board_drawn rule s k)
+unfolding board_drawn
+board-lawful rule s zero = side-lawful rule
+board-lawful rule s (suc k) = point-lawful rule (board_drawn rule s k) (middle_point (draw_at s k)) (board-lawful rule s k)
+
+-- before any draw
+pub board-none : (rule : RuleKind) (s : ℕ) → board_drawn rule s 0 ≡ empty_board SIDE SIDE
+unfolding board_drawn
+board-none rule s = refl
+
+pub number-none : (s : ℕ) → number_after s 0 ≡ s
+unfolding number_after
+number-none s = refl
+
+-- one more draw, of a board and a number that are those after so many
+pub board-more : (rule : RuleKind) (s k number more : ℕ) (b c : Grid) (v : ℕ) (p : Point) → b ≡ board_drawn rule s k → number ≡ number_after s k → more ≡ next_number number → v ≡ more / 2 ^ 33 → p ≡ middle_point v → c ≡ with_point rule b p → c ≡ board_drawn rule s (k + 1)
+board-more rule s k number more b c v p at same next draw point made =
+    let here : more ≡ number_after s (k + 1) = next ∙ ap next_number same ∙ sym (number-next s k) in
+    let number_is : number_after s (suc k) ≡ number_after s (k + 1) = rw add-one refl in
+    made ∙ ap (λ (x : Grid). with_point rule x p) at ∙ ap (with_point rule (board_drawn rule s k)) (point ∙ ap middle_point (draw ∙ ap (λ (n : ℕ). n / 2 ^ 33) (here ∙ sym number_is))) ∙ sym (board-next rule s k)
+
+pub number-more : (s k number more : ℕ) → number ≡ number_after s k → more ≡ next_number number → more ≡ number_after s (k + 1)
+number-more s k number more same next = next ∙ ap next_number same ∙ sym (number-next s k)

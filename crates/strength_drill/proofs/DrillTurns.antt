@@ -1,0 +1,226 @@
+-- A game of the drill, move by move: what the state of the brain says once it made a move by the held table, and after each TURN.
+use Rattle.std.proofs.Common.{◌≡◌, ◌⊎◌, inl, inr, refl, sym, ap, subst, ◌∙◌, ℕ, ◌+◌, ◌*◌, ◌≤◌, Bool, true, false, cond, not, ◌&&◌, ◌∷◌, arith}
+use Rattle.std.specs.Prelude.{Option, Some}
+use Rattle.game_rules.specs.Grid.{Grid, is_empty, empties_of}
+use Rattle.game_rules.specs.Play.{IsPosition, outcome, mover, other, after}
+use Rattle.game_rules.specs.Games.{WinsOr, LosesOr}
+use Rattle.game_rules.specs.declared.RuleKind.{RuleKind}
+use Rattle.game_rules.specs.declared.Foul.{Foul}
+use Rattle.game_rules.specs.declared.Side.{Side}
+use Rattle.game_rules.specs.declared.Side.TheVariants.{Black, White}
+use Rattle.game_rules.specs.declared.Outcome.{Outcome}
+use Rattle.game_rules.specs.declared.Outcome.TheVariants.{Refused, Wins as WinsNow, Fouls, Draws, GoesOn}
+use Rattle.game_rules.specs.declared.Point.{Point}
+use Rattle.game_rules.proofs.Boards.{empties_of-put, other-other}
+use Rattle.game_rules.proofs.Positions.{IsPosition-after, GoesOn-empty, mover-then}
+use Rattle.strategy_graph.specs.declared.Node.{Node}
+use Rattle.strategy_graph.specs.Tables.{answers_of, answer}
+use Rattle.strategy_graph.specs.Acceptance.{Answered, NotWinning, Meets, AcceptedWithin}
+use Rattle.strategy_graph.proofs.Answering.{Answered-elim}
+use Rattle.strategy_checker.specs.HeldRoots.{HeldTable}
+use Rattle.gomocup_text.specs.declared.Command.TheVariants.{Turn}
+use Rattle.gomocup_text.specs.declared.Answer.TheVariants.{Move, Error}
+use Rattle.gomocup_text.specs.declared.ErrorText.TheVariants.{OpponentFoul}
+use Rattle.brain_session.specs.declared.Reaction.TheVariants.{Says}
+use Rattle.brain_session.specs.States.{Game, board_of, InGame, State}
+use Rattle.brain_session.specs.ChosenMoves.{Choice, chosen, is_foul}
+use Rattle.brain_session.specs.Steps.{Step, rule_of, if_supported, same_side, with_move, move_row, row_of, goes_on, with_choice, step_by, brain_step}
+use Rattle.brain_session.proofs.Courses.{moved}
+use Rattle.brain_session.proofs.HeldSteps.{state_in, by_node, StandsIn, accepted_node, turn_going, chosen-followed, lawful_then, turn_then, parts}
+use Rattle.strength_drill.specs.declared.positions.TheConstants.{SIDE}
+use Rattle.strength_drill.specs.DrillGames.{board_now, is_ended, moves_by, moves_of_brain, is_win, last_wins, is_won}
+
+-- The brain, which holds this, has made a move by the table in a game under the rule, with so many of its moves before; a game on a
+-- board of the drill has room for no more than its points.
+pub record IsPlaying (h : HeldTable) (rule : RuleKind) (s : State) (turns : ℕ) : Type 0 where
+  pub wish : ℕ
+  pub game : Game
+  pub i : ℕ
+  pub node : Node
+  pub more : ℕ
+  pub state : s ≡ state_in h wish (with_choice game (by_node i node))
+  pub stands : StandsIn h game i node more
+  pub rule_is : game.rule ≡ rule
+  pub supported : rule_of wish ≡ Some rule
+  pub made : moves_by game.brain game.start game.moves ≡ turns
+  pub few : empties_of (board_of game) + 2 * turns ≤ 225
+  pub wide : (board_of game).width ≡ SIDE
+  pub high : (board_of game).height ≡ SIDE
+
+-- the game in the state is ended and won, with so many moves of the brain
+pub record IsOver (s : State) (moves : ℕ) : Type 0 where
+  pub game : Game
+  pub place : s.place ≡ InGame game
+  pub ended : game.ended ≡ true
+  pub won : is_won game ≡ true
+  pub made : moves_of_brain game ≡ moves
+
+same_side-itself : (s : Side) → same_side s s ≡ true
+same_side-itself Black = refl
+same_side-itself White = refl
+
+same_side-other : (s : Side) → same_side (other s) s ≡ false
+same_side-other Black = refl
+same_side-other White = refl
+
+-- the side that moves is the brain's, or it is the other
+own-turn : (t s : Side) → t ≡ s → same_side t s ≡ true
+own-turn t s e = ap (λ (x : Side). same_side x s) e ∙ same_side-itself s
+
+other-turn : (t s : Side) → t ≡ other s → same_side t s ≡ false
+other-turn t s e = ap (λ (x : Side). same_side x s) e ∙ same_side-other s
+
+wins_or_goes_on : (o : Outcome) (W : Type 0) → WinsOr o W → (o ≡ WinsNow) ⊎ (o ≡ GoesOn)
+wins_or_goes_on Refused W h = absurd h
+wins_or_goes_on WinsNow W h = inl refl
+wins_or_goes_on (Fouls f) W h = absurd h
+wins_or_goes_on Draws W h = absurd h
+wins_or_goes_on GoesOn W h = inr refl
+
+-- what comes of a TURN at q: a foul, with which the game is over, or the brain's next move
+pub record IsFouled (step : Step) (moves : ℕ) : Type 0 where
+  pub says : step.reaction ≡ Says (Error OpponentFoul)
+  pub over : IsOver step.next moves
+
+pub record IsAnswered (h : HeldTable) (rule : RuleKind) (b : Grid) (q : Point) (step : Step) (moves : ℕ) : Type 0 where
+  pub on : outcome rule b q ≡ GoesOn
+  pub playing : IsPlaying h rule step.next moves
+  pub says : step.reaction ≡ Says (Move playing.node.attack)
+  pub board : board_of playing.game ≡ after b q
+
+module _ (h : HeldTable) (rule : RuleKind) (s : State) (turns : ℕ) (p : IsPlaying h rule s turns) where
+  abbrev pub board_before : Grid
+  board_before = board_of p.game
+
+  -- the game after the brain's move
+  abbrev pub game_now : Game
+  game_now = with_choice p.game (by_node p.i p.node)
+
+  pub attacks : (outcome rule board_before p.node.attack ≡ WinsNow) ⊎ (outcome rule board_before p.node.attack ≡ GoesOn)
+  attacks = wins_or_goes_on (outcome rule board_before p.node.attack) _ (subst (λ (r : RuleKind). WinsOr (outcome r board_before p.node.attack) (NotWinning p.node.rest × ((q : Point) → Meets p.game.rule (answers_of p.node) (AcceptedWithin p.more p.game.rule h.table) (after board_before p.node.attack) q))) p.rule_is p.stands.wins)
+
+  here : (o : Outcome) → outcome rule board_before p.node.attack ≡ o → outcome p.game.rule board_before p.node.attack ≡ o
+  here o e = ap (λ (r : RuleKind). outcome r board_before p.node.attack) p.rule_is ∙ e
+
+  placed-now : s.place ≡ InGame game_now
+  placed-now = ap (λ (t : State). t.place) p.state
+
+  -- ---- the brain's move wins
+  pub over-now : outcome rule board_before p.node.attack ≡ WinsNow → IsOver s (turns + 1)
+  over-now e =
+      let wins = here WinsNow e in
+      let turn = own-turn (mover board_before) p.game.brain p.stands.turn in
+      let ended : game_now.ended ≡ true = ap (λ (o : Outcome). not (goes_on o)) wins in
+      record {
+        game = game_now;
+        place = placed-now;
+        ended = ended;
+        won =
+            ap (λ (r : Bool). r && last_wins p.game.rule p.game.brain p.game.start game_now.moves) ended
+            ∙ ap (λ (r : Bool). cond r (is_win (outcome p.game.rule board_before p.node.attack)) (is_foul (outcome p.game.rule board_before p.node.attack))) turn
+            ∙ ap is_win wins;
+        made = ap (λ (r : Bool). moves_by p.game.brain p.game.start p.game.moves + cond r 1 0) turn ∙ ap (λ (n : ℕ). n + 1) p.made;
+      }
+
+  pub ended-now : outcome rule board_before p.node.attack ≡ WinsNow → is_ended s.place ≡ true
+  ended-now e = ap is_ended placed-now ∙ ap (λ (o : Outcome). not (goes_on o)) (here WinsNow e)
+
+  -- ---- the brain's move goes on
+  module _ (on : outcome rule board_before p.node.attack ≡ GoesOn) where
+    pub going-now : is_ended s.place ≡ false
+    going-now = ap is_ended placed-now ∙ ap (λ (o : Outcome). not (goes_on o)) (here GoesOn on)
+
+    pub board-then : board_now s.place ≡ after board_before p.node.attack
+    board-then = ap board_now placed-now
+
+    pub lawful-then : IsPosition rule (after board_before p.node.attack)
+    lawful-then = subst (λ (r : RuleKind). IsPosition r (after board_before p.node.attack)) p.rule_is (lawful_then h p.game p.i p.node p.more p.stands (here GoesOn on))
+
+    -- a move of the opponent
+    module _ (q : Point) (empty : is_empty (after board_before p.node.attack) q ≡ true) where
+      abbrev there : Outcome
+      there = outcome p.game.rule (after board_before p.node.attack) q
+
+      abbrev now : State
+      now = state_in h p.wish game_now
+
+      row-then : (o : Outcome) → there ≡ o → row_of now (Turn q.x q.y) ≡ move_row now game_now q o
+      row-then o e =
+          turn_going h p.wish game_now q.x q.y (ap (λ (r : Outcome). not (goes_on r)) (here GoesOn on)) (turn_then h p.game p.i p.node p.more p.stands (here GoesOn on))
+          ∙ ap (λ (r : Option RuleKind). if_supported r now (λ rule. move_row now game_now q there)) p.supported
+          ∙ ap (move_row now game_now q) e
+
+      step-then : (o : Outcome) → there ≡ o → brain_step s (Turn q.x q.y) ≡ step_by now (move_row now game_now q o)
+      step-then o e = ap (λ (t : State). brain_step t (Turn q.x q.y)) p.state ∙ ap (step_by now) (row-then o e)
+
+      opponent-turn : same_side (mover (after board_before p.node.attack)) p.game.brain ≡ false
+      opponent-turn = other-turn (mover (after board_before p.node.attack)) p.game.brain (turn_then h p.game p.i p.node p.more p.stands (here GoesOn on))
+
+      made-now : moves_by p.game.brain p.game.start (p.node.attack ∷ p.game.moves) ≡ turns + 1
+      made-now = ap (λ (r : Bool). moves_by p.game.brain p.game.start p.game.moves + cond r 1 0) (own-turn (mover board_before) p.game.brain p.stands.turn) ∙ ap (λ (n : ℕ). n + 1) p.made
+
+      made-then : moves_by p.game.brain p.game.start (q ∷ p.node.attack ∷ p.game.moves) ≡ turns + 1
+      made-then = ap (λ (r : Bool). moves_by p.game.brain p.game.start (p.node.attack ∷ p.game.moves) + cond r 1 0) opponent-turn ∙ ap (λ (n : ℕ). n + 0) made-now ∙ omega arith
+
+      fouled : (f : Foul) → there ≡ Fouls f → IsFouled (brain_step s (Turn q.x q.y)) (turns + 1)
+      fouled f e = subst (λ (t : Step). IsFouled t (turns + 1)) (sym (step-then (Fouls f) e)) (record {
+        says = refl;
+        over = record {
+          game = with_move game_now q true;
+          place = refl;
+          ended = refl;
+          won = ap (λ (r : Bool). cond r (is_win there) (is_foul there)) opponent-turn ∙ ap is_foul e;
+          made = made-then;
+        };
+      })
+
+      answered : there ≡ GoesOn → (j : ℕ) → answer (answers_of p.node) q ≡ Some j → AcceptedWithin p.more p.game.rule h.table j (after (after board_before p.node.attack) q) → IsAnswered h rule (after board_before p.node.attack) q (brain_step s (Turn q.x q.y)) (turns + 1)
+      answered e j reply accepted =
+          let g2 = with_move game_now q false in
+          let next = accepted_node p.game.rule h.table j (board_of g2) p.more accepted in
+          let m = next.1 in
+          let chooses : chosen h g2 ≡ by_node j m = chosen-followed h g2 p.i j p.node m q (p.node.attack ∷ p.game.moves) refl refl p.stands.node reply next.3 in
+          let then_lawful = (lawful_then h p.game p.i p.node p.more p.stands (here GoesOn on)) in
+          let fewer = empties_of-put board_before (mover board_before) p.node.attack p.stands.lawful.board (GoesOn-empty rule board_before p.node.attack on) in
+          let fewer_still = empties_of-put (after board_before p.node.attack) (mover (after board_before p.node.attack)) q then_lawful.board empty in
+          let few = p.few in
+          subst (λ (t : Step). IsAnswered h rule (after board_before p.node.attack) q t (turns + 1))
+          (sym (step-then GoesOn e ∙ ap (λ (c : Choice). let t : Step = record { reaction = Says (Move c.at); next = state_in h p.wish (with_choice g2 c) } in t) chooses))
+          (record {
+            on = ap (λ (r : RuleKind). outcome r (after board_before p.node.attack) q) (sym p.rule_is) ∙ e;
+            playing = record {
+              wish = p.wish;
+              game = g2;
+              i = j;
+              node = m;
+              more = next.0;
+              state = refl;
+              stands = record {
+                node = next.3;
+                wins = next.4;
+                lawful = IsPosition-after p.game.rule (after board_before p.node.attack) q then_lawful e;
+                turn =
+                    mover-then p.game.rule (after board_before p.node.attack) q then_lawful e
+                    ∙ ap other (turn_then h p.game p.i p.node p.more p.stands (here GoesOn on))
+                    ∙ other-other p.game.brain;
+              };
+              rule_is = p.rule_is;
+              supported = p.supported;
+              made = made-then;
+              few = omega (arith, fewer, fewer_still, few);
+              wide = p.wide;
+              high = p.high;
+            };
+            says = refl;
+            board = refl;
+          })
+
+      -- one of the two comes
+      pub reply-met : IsFouled (brain_step s (Turn q.x q.y)) (turns + 1) ⊎ IsAnswered h rule (after board_before p.node.attack) q (brain_step s (Turn q.x q.y)) (turns + 1)
+      reply-met = by_outcome there refl ((parts h p.game p.i p.node p.more p.stands (here GoesOn on)).1 q) where
+        by_outcome : (o : Outcome) → there ≡ o → LosesOr o (Answered (answer (answers_of p.node) q) (λ j. AcceptedWithin p.more p.game.rule h.table j (after (after board_before p.node.attack) q))) → IsFouled (brain_step s (Turn q.x q.y)) (turns + 1) ⊎ IsAnswered h rule (after board_before p.node.attack) q (brain_step s (Turn q.x q.y)) (turns + 1)
+        by_outcome Refused e met = absurd (moved p.game.rule (after board_before p.node.attack) q empty e)
+        by_outcome WinsNow e met = absurd met
+        by_outcome (Fouls f) e met = inl (fouled f e)
+        by_outcome Draws e met = absurd met
+        by_outcome GoesOn e met = inr (Answered-elim (answer (answers_of p.node) q) _ _ (answered e) met)

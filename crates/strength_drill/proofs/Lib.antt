@@ -1,0 +1,15 @@
+-- The laws of the drill. What is declared by `pub mod` the layers above may cite; the rest serves this crate alone.
+
+-- a position, draw by draw
+mod DrillMaking
+-- a brain that is told a position, and its first move
+mod DrillBoards
+mod DrillTelling
+mod DrillOpening
+-- a game, turn by turn
+mod DrillTurns
+mod DrillCourse
+-- a number has one drill, whose tables are all accepted and whose games are all won
+pub mod DrillCounts
+-- what the calls say of one position
+mod DrillShares
