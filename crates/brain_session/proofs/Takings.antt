@@ -23,7 +23,7 @@ use Rattle.brain_session.specs.declared.Reaction.{Reaction}
 use Rattle.brain_session.specs.declared.Reaction.TheVariants.{Silent, Says, Ends}
 use Rattle.brain_session.specs.declared.batch.BatchStone.{BatchStone}
 use Rattle.brain_session.specs.States.{Game, Batch, Place, NoBoard, Fresh, InGame, State, board_of, empty_board, new_game, point_at}
-use Rattle.brain_session.specs.Batches.{spoiled, has_stone_at, with_stone_at, game_from}
+use Rattle.brain_session.specs.Batches.{new_batch, spoiled, has_stone_at, with_stone, with_stone_at, game_from}
 use Rattle.brain_session.specs.ChosenMoves.{chosen}
 use Rattle.brain_session.specs.Steps.{Row, Reacts, Chooses, fails, unread, reading, placed, if_supported, rule_of, same_side, with_choice, move_row, begin_row, turn_row, takeback_row, batch_row, done_row, board_row, board_in, row_of, step_by, brain_step, start_row, restart_row, stone_row, if_not_reading}
 use Rattle.std.specs.Option.{option_map}
@@ -108,17 +108,27 @@ no-stone_at stones p none k d less = by_test (is_same_point (get_or stones k d).
   by_test true e = let some : has_stone_at stones p ≡ true = list_any_at (λ (x : BatchStone). is_same_point x.at p) stones k d less e in cc
   by_test false e = refl
 
--- the stones fit after a line of the batch
-pub fit-with : (b : Grid) (batch : Batch) (at : Option Point) (field : ℕ) → IfSome at (λ q. is_on b q ≡ true) → StonesFit b batch → StonesFit b (with_stone_at batch at field)
-fit-with b batch None field on fit = record { on_board = fit.on_board; distinct = fit.distinct }
-fit-with b batch (Some p) field on fit = by_tests (field == 1 || field == 2) (has_stone_at batch.stones p) refl where
-  by_tests : (r t : Bool) → has_stone_at batch.stones p ≡ t → StonesFit b (if r && not t then record batch { stones = batch.stones ++ record { at = p; own = field == 1 } ∷ [] } else spoiled batch)
-  by_tests true false e = record {
-    on_board = All-push (λ x. is_on b x.at ≡ true) batch.stones (record { at = p; own = field == 1 }) fit.on_board on;
-    distinct = all_pairs_push (λ x u. is_same_point x.at u.at ≡ false) batch.stones (record { at = p; own = field == 1 }) fit.distinct (no-stone_at batch.stones p e);
+-- no stones fit, those of a batch fit that was spoiled, and those after a line of the batch
+pub none_fit : (b : Grid) → StonesFit b new_batch
+none_fit b = record { on_board = λ k d lt. absurd (omega arith); distinct = λ i j d lt within. absurd (omega arith) }
+
+pub spoiled_fits : (b : Grid) (batch : Batch) → StonesFit b batch → StonesFit b (spoiled batch)
+spoiled_fits b batch fit = record { on_board = fit.on_board; distinct = fit.distinct }
+
+pub stone_fits : (b : Grid) (on : Bool) (batch : Batch) (p : Point) (field : ℕ) → (on ≡ true → is_on b p ≡ true) → StonesFit b batch → StonesFit b (with_stone on batch p field)
+stone_fits b on batch p field there fit = by_tests on (field == 1 || field == 2) (has_stone_at batch.stones p) refl refl where
+  by_tests : (o r t : Bool) → on ≡ o → has_stone_at batch.stones p ≡ t → StonesFit b (if o && r && not t then record batch { stones = batch.stones ++ record { at = p; own = field == 1 } ∷ [] } else spoiled batch)
+  by_tests true true false e f = record {
+    on_board = All-push (λ x. is_on b x.at ≡ true) batch.stones (record { at = p; own = field == 1 }) fit.on_board (there e);
+    distinct = all_pairs_push (λ x u. is_same_point x.at u.at ≡ false) batch.stones (record { at = p; own = field == 1 }) fit.distinct (no-stone_at batch.stones p f);
   }
-  by_tests true true e = record { on_board = fit.on_board; distinct = fit.distinct }
-  by_tests false t e = record { on_board = fit.on_board; distinct = fit.distinct }
+  by_tests true true true e f = spoiled_fits b batch fit
+  by_tests true false t e f = spoiled_fits b batch fit
+  by_tests false r t e f = spoiled_fits b batch fit
+
+fit-with : (b : Grid) (batch : Batch) (at : Option Point) (field : ℕ) → IfSome at (λ q. is_on b q ≡ true) → StonesFit b batch → StonesFit b (with_stone_at batch at field)
+fit-with b batch None field on fit = spoiled_fits b batch fit
+fit-with b batch (Some p) field on fit = stone_fits b true batch p field (λ _. on) fit
 
 -- without a board no game begins from a batch
 pub no-board : (rule : RuleKind) (b : Batch) → StonesFit (empty_board 0 0) b → game_from rule (empty_board 0 0) b ≡ None
