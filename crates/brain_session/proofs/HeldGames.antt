@@ -27,8 +27,9 @@ use Rattle.brain_session.specs.HeldGames.{BeginsHeldGame, IsLedTo, HeldGameGoesW
 use Rattle.brain_session.specs.Running.{GoesOnAlong}
 use Rattle.brain_session.proofs.HeldNodes.{first-led, root-accepted, root-no_deeper}
 use Rattle.brain_session.proofs.HeldPlays.{GoesBy}
+use Rattle.brain_session.proofs.Courses.{along-lawful}
 use Rattle.brain_session.proofs.HeldSteps.{state_in, by_node, StandsIn, accepted_node, all-go_well}
-use Rattle.brain_session.proofs.LawfulStates.{LawfulState, IsToMove, LawfulRow, lawful_along, row-lawful, session-lawful, new-lawful}
+use Rattle.brain_session.proofs.LawfulStates.{LawfulState, IsToMove, LawfulRow, row-lawful, session-lawful, new-lawful}
 
 -- a held root that leads to a node in the game, where the moves went on: the node is accepted, and no deeper than the root
 held_led : (h : HeldTable) (g : Game) (i : ℕ) → IsHeld h → first_node g h.roots ≡ Some i → GoesOnAlong g.rule g.start g.moves → Accepted g.rule h.table i (board_of g) × IsLedTo h g i
@@ -60,7 +61,7 @@ stands_where s c g i held lawful b =
       record {
         node = node.3;
         wins = node.4;
-        lawful = lawful_along g.rule g.start g.moves to_move.along;
+        lawful = along-lawful g.rule g.start g.moves to_move.along;
         turn = to_move.turn;
       },
     )

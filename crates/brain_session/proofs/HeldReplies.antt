@@ -1,12 +1,9 @@
 -- Each legal reply that is sent to a brain in a held game is answered.
-use Rattle.std.proofs.Common.{◌≡◌, ℕ, suc, ◌<◌, Bool, true, false, cond, ◌&&◌, not, List, [], ◌∷◌, refl, sym, ap, subst, ◌∙◌, arith}
+use Rattle.std.proofs.Common.{◌≡◌, ℕ, suc, true, false, List, [], ◌∷◌, refl, sym, ap, subst, ◌∙◌, arith}
 use Rattle.std.specs.Prelude.{Option, Some, None, is_some}
 use Rattle.game_rules.specs.Grid.{is_empty}
-use Rattle.game_rules.specs.Shapes.{is_same_point}
-use Rattle.game_rules.specs.Play.{outcome, after, mover, other}
+use Rattle.game_rules.specs.Play.{outcome, after}
 use Rattle.game_rules.specs.Games.{LosesOr}
-use Rattle.game_rules.proofs.Positions.{IsPosition-after, mover-then}
-use Rattle.game_rules.proofs.Boards.{other-other}
 use Rattle.game_rules.specs.declared.RuleKind.{RuleKind}
 use Rattle.game_rules.specs.declared.Side.TheVariants.{White}
 use Rattle.game_rules.specs.declared.Foul.{Foul}
@@ -20,22 +17,19 @@ use Rattle.strategy_graph.specs.Games.{attacks}
 use Rattle.strategy_graph.proofs.Answering.{Answered-elim}
 use Rattle.strategy_checker.specs.HeldRoots.{HeldTable, IsHeld}
 use Rattle.gomocup_text.specs.declared.Command.{Command}
-use Rattle.gomocup_text.specs.declared.Command.TheVariants.{Start, RectStart, Begin, Turn, Board, Stone, Done, Restart, Takeback, Rule, Info, About, End, Blank, Malformed, Unknown}
+use Rattle.gomocup_text.specs.declared.Command.TheVariants.{Turn}
 use Rattle.gomocup_text.specs.declared.Answer.{Answer}
-use Rattle.gomocup_text.specs.declared.Answer.TheVariants.{Ok as SaysOk, Move, Error}
-use Rattle.gomocup_text.specs.declared.ErrorText.{ErrorText}
-use Rattle.gomocup_text.specs.declared.ErrorText.TheVariants.{UnsupportedSize, BadMove, OpponentFoul}
-use Rattle.brain_session.specs.declared.Reaction.{Reaction}
-use Rattle.brain_session.specs.declared.Reaction.TheVariants.{Says}
-use Rattle.brain_session.specs.States.{Game, board_of, empty_board, new_game, point_at, Place, NoBoard, Fresh, InGame, Batch, State, new_brain}
-use Rattle.brain_session.specs.Batches.{game_from}
-use Rattle.brain_session.specs.ChosenMoves.{Choice, chosen}
-use Rattle.brain_session.specs.Steps.{Row, Reacts, Chooses, fails, unread, placed, is_side, place_before, rule_of, if_supported, restart_row, board_row, board_in, stone_row, batch_row, done_row, begin_row, same_side, with_move, move_row, turn_row, last_row, takeback_row, if_not_reading, row_of, goes_on, with_choice, Step, step_by, brain_step}
+use Rattle.gomocup_text.specs.declared.Answer.TheVariants.{Move, Error}
+use Rattle.gomocup_text.specs.declared.ErrorText.TheVariants.{OpponentFoul}
+use Rattle.brain_session.specs.States.{Game, board_of, empty_board, new_game, State, new_brain}
+use Rattle.brain_session.specs.ChosenMoves.{Choice}
+use Rattle.brain_session.specs.Steps.{Row, Reacts, Chooses, rule_of, if_supported, with_move, move_row, row_of, with_choice, Step, step_by, brain_step}
 use Rattle.brain_session.specs.Sessions.{then_answers, answers_from, state_after}
 use Rattle.brain_session.specs.HeldGames.{BeginsHeldGame, AreReplies, turns, game_answers, LegalRepliesAreAnswered}
-use Rattle.brain_session.proofs.HeldPlays.{GoesBy, not_winning, by_foul, by_next, attacks-first, attacks-foul, attacks-next, depth_some, deeper}
-use Rattle.brain_session.proofs.HeldSteps.{state_in, by_node, StandsIn, accepted_node, nothing_more, turn_going, chosen-followed, lawful_then, turn_then, parts}
+use Rattle.brain_session.proofs.HeldPlays.{GoesBy, not_winning, by_foul, by_next, attacks-first, attacks-foul, attacks-next, depth_some}
+use Rattle.brain_session.proofs.HeldSteps.{state_in, by_node, StandsIn, nothing_more, row_then, next_stands, parts}
 use Rattle.brain_session.proofs.HeldWins.{not_refused}
+use Rattle.brain_session.proofs.RowCases.{row-cases}
 use Rattle.brain_session.proofs.LawfulStates.{LawfulState, session-lawful, new-lawful}
 use Rattle.brain_session.proofs.HeldGames.{begins, stands_where}
 
@@ -45,104 +39,31 @@ Supported : State → Row → Type 0
 Supported s (Reacts r next) = Unit {0}
 Supported s (Chooses g) = is_some (rule_of s.wish) ≡ true
 
-module _ (s : State) where
-  by_rule : (u : State) (row : RuleKind → Row) → (is_some (rule_of s.wish) ≡ true → (rule : RuleKind) → Supported s (row rule)) → Supported s (if_supported (rule_of s.wish) u row)
-  unfolding Supported
-  by_rule u row h = by_cases (rule_of s.wish) refl where
-    by_cases : (o : Option RuleKind) → rule_of s.wish ≡ o → Supported s (if_supported o u row)
-    by_cases None e = tt
-    by_cases (Some rule) e = h (ap (λ (o : Option RuleKind). is_some o) e) rule
-
-  by_test : (b : Bool) (x y : Row) → Supported s x → Supported s y → Supported s (cond b x y)
-  by_test true x y h k = h
-  by_test false x y h k = k
-
-  or_fails : (b : Bool) (r : Reaction) (next : State) (e : ErrorText) → Supported s (cond b (Reacts r next) (fails e s))
-  unfolding Supported
-  or_fails true r next e = tt
-  or_fails false r next e = tt
-
-  move_supported : (g : Game) (p : Point) (o : Outcome) → is_some (rule_of s.wish) ≡ true → Supported s (move_row s g p o)
-  unfolding Supported
-  move_supported g p Refused h = tt
-  move_supported g p WinsNow h = tt
-  move_supported g p (Fouls f) h = tt
-  move_supported g p Draws h = tt
-  move_supported g p GoesOn h = h
-
-  turn_supported : (place : Place) (p : Point) → Supported s (turn_row s place p)
-  unfolding Supported
-  turn_supported NoBoard p = tt
-  turn_supported (Fresh width height) p = by_rule s _ (λ h rule. move_supported (new_game rule (empty_board width height) White) p (outcome rule (empty_board width height) p) h)
-  turn_supported (InGame g) p = by_test g.ended _ _ tt (by_test (same_side (mover (board_of g)) g.brain) _ _ tt (by_rule s _ (λ h rule. move_supported g p (outcome g.rule (board_of g) p) h)))
-
-  begin_supported : (place : Place) → Supported s (begin_row s place)
-  unfolding Supported
-  begin_supported NoBoard = tt
-  begin_supported (InGame g) = tt
-  begin_supported (Fresh width height) = by_rule s _ (λ h rule. h)
-
-  done_supported : (batch : Option Batch) → Supported s (done_row s batch)
-  unfolding Supported
-  done_supported None = tt
-  done_supported (Some b) = by_rule (unread s) _ (λ h rule. by_game (game_from rule (board_in s.place) b) h) where
-    by_game : (o : Option Game) → is_some (rule_of s.wish) ≡ true → Supported s (batch_row s o)
-    by_game None h = tt
-    by_game (Some g) h = h
-
-  restart_supported : (place : Place) → Supported s (restart_row s place)
-  unfolding Supported
-  restart_supported NoBoard = tt
-  restart_supported (Fresh width height) = tt
-  restart_supported (InGame g) = tt
-
-  board_supported : (place : Place) → Supported s (board_row s place)
-  unfolding Supported
-  board_supported NoBoard = tt
-  board_supported (Fresh width height) = tt
-  board_supported (InGame g) = tt
-
-  stone_supported : (batch : Option Batch) (p : Point) (field : ℕ) → Supported s (stone_row s batch p field)
-  unfolding Supported
-  stone_supported None p field = tt
-  stone_supported (Some b) p field = tt
-
-  takeback_supported : (place : Place) (p : Point) → Supported s (takeback_row s place p)
-  unfolding Supported
-  takeback_supported NoBoard p = tt
-  takeback_supported (Fresh width height) p = tt
-  takeback_supported (InGame g) p = by_moves g.moves where
-    by_moves : (moves : List Point) → Supported s (last_row s g p moves)
-    by_moves [] = tt
-    by_moves (last ∷ before) = or_fails (is_same_point last p) (Says SaysOk) (placed s (place_before g before)) BadMove
-
-  reading_supported : (batch : Option Batch) (row : Row) → Supported s row → Supported s (if_not_reading s batch (λ _. row))
-  unfolding Supported
-  reading_supported None row h = h
-  reading_supported (Some b) row h = tt
-
-  row_supported : (c : Command) → Supported s (row_of s c)
-  unfolding row_of Supported
-  row_supported (Start n) = or_fails (is_side n && is_side n) (Says SaysOk) (placed s (Fresh n n)) UnsupportedSize
-  row_supported (RectStart width height) = or_fails (is_side width && is_side height) (Says SaysOk) (placed s (Fresh width height)) UnsupportedSize
-  row_supported Restart = restart_supported s.place
-  row_supported About = tt
-  row_supported End = tt
-  row_supported (Rule wish) = tt
-  row_supported Info = tt
-  row_supported Blank = tt
-  row_supported Board = board_supported s.place
-  row_supported (Stone x y field) = stone_supported s.batch (point_at x y) field
-  row_supported Done = done_supported s.batch
-  row_supported Malformed = reading_supported s.batch _ tt
-  row_supported Unknown = reading_supported s.batch _ tt
-  row_supported Begin = reading_supported s.batch _ (begin_supported s.place)
-  row_supported (Turn x y) = reading_supported s.batch _ (turn_supported s.place (point_at x y))
-  row_supported (Takeback x y) = reading_supported s.batch _ (takeback_supported s.place (point_at x y))
-
 supported : (s : State) (c : Command) (g : Game) → row_of s c ≡ Chooses g → is_some (rule_of s.wish) ≡ true
 unfolding Supported
-supported s c g e = subst (Supported s) e (row_supported s c)
+supported s c g e = subst (Supported s) e (row-cases (Supported s) s c (record {
+  ends = λ is. tt;
+  silent = tt;
+  says = λ a. tt;
+  wishes = λ wish. tt;
+  sized = λ width height wide high. tt;
+  again = λ width height some size. tt;
+  reads = λ some. tt;
+  stone = λ b p field read. tt;
+  spoils = λ b read. tt;
+  is_bad = λ a. tt;
+  whole = λ rule b g by_wish read is. ap is_some by_wish;
+  first = λ rule width height by_wish at. ap is_some by_wish;
+  second = λ rule width height p by_wish at. moves rule by_wish (new_game rule (empty_board width height) White) p (outcome rule (empty_board width height) p);
+  later = λ rule g p by_wish at going others. moves rule by_wish g p (outcome g.rule (board_of g) p);
+  back = λ g p before at are. tt;
+})) where
+  moves : (rule : RuleKind) → rule_of s.wish ≡ Some rule → (g : Game) (p : Point) (o : Outcome) → Supported s (move_row s g p o)
+  moves rule by_wish g p Refused = tt
+  moves rule by_wish g p WinsNow = tt
+  moves rule by_wish g p (Fouls f) = tt
+  moves rule by_wish g p Draws = tt
+  moves rule by_wish g p GoesOn = ap is_some by_wish
 
 -- ---- one reply after another
 
@@ -163,7 +84,7 @@ module _ (h : HeldTable) (k w : ℕ) (g : Game) (i : ℕ) (n : Node) (s : Stands
   -- the row of a TURN there
   row_is : (p : Outcome) → outcome g.rule (after (board_of g) n.attack) q ≡ p → row_of (state_in h w (with_choice g (by_node i n))) (Turn q.x q.y) ≡ move_row (state_in h w (with_choice g (by_node i n))) (with_choice g (by_node i n)) q p
   row_is p e =
-      turn_going h w (with_choice g (by_node i n)) q.x q.y (ap (λ (r : Outcome). not (goes_on r)) on) (turn_then h g i n k s on)
+      row_then h g i n k s on w q
       ∙ ap (λ (o : Option RuleKind). if_supported o (state_in h w (with_choice g (by_node i n))) (λ rule. move_row (state_in h w (with_choice g (by_node i n))) (with_choice g (by_node i n)) q (outcome g.rule (after (board_of g) n.attack) q))) wish
       ∙ ap (λ (o : Outcome). move_row (state_in h w (with_choice g (by_node i n))) (with_choice g (by_node i n)) q o) e
 
@@ -181,24 +102,13 @@ module _ (h : HeldTable) (k w : ℕ) (g : Game) (i : ℕ) (n : Node) (s : Stands
   answered : (qs : List Point) → AllAnswered h qs → outcome g.rule (after (board_of g) n.attack) q ≡ GoesOn → (j : ℕ) → answer (answers_of n) q ≡ Some j → AcceptedWithin k g.rule h.table j (after (after (board_of g) n.attack) q) → AreReplies g.rule (after (after (board_of g) n.attack) q) (attacks g.rule h.table j (after (after (board_of g) n.attack) q) qs) qs → GoesBy g.rule h.table (depth_within (suc k) h.table i) i (board_of g) n.attack (q ∷ qs) (answers_from (state_in h w (with_choice g (by_node i n))) (turns (q ∷ qs)))
   unfolding AllAnswered
   answered qs all e j reply accepted are =
-      let s1 = state_in h w (with_choice g (by_node i n)) in
       let g2 = with_move (with_choice g (by_node i n)) q false in
-      let node = accepted_node g.rule h.table j (board_of g2) k accepted in
-      let m = node.1 in
-      let chooses : chosen h g2 ≡ by_node j m = chosen-followed h g2 i j n m q (n.attack ∷ g.moves) refl refl s.node reply node.3 in
-      let lawful = lawful_then h g i n k s on in
-      let stands : StandsIn h g2 j m node.0 = record {
-        node = node.3;
-        wins = node.4;
-        lawful = IsPosition-after g.rule (after (board_of g) n.attack) q lawful e;
-        turn = mover-then g.rule (after (board_of g) n.attack) q lawful e ∙ ap other (turn_then h g i n k s on) ∙ other-other g.brain;
-      } in
-      let less : depth_within (suc node.0) h.table j < depth_within (suc k) h.table i = subst (λ (d : ℕ). depth_within d h.table j < depth_within (suc k) h.table i) node.2 (deeper h.table i n k q j s.node reply) in
-      let said : answers_from s1 (turns (q ∷ qs)) ≡ Move m.attack ∷ answers_from (state_in h w (with_choice g2 (by_node j m))) (turns qs) =
-      answers-row s1 (Turn q.x q.y) (turns qs) _ (row_is GoesOn e) ∙ ap (λ (c : Choice). Move c.at ∷ answers_from (state_in h w (with_choice g2 c)) (turns qs)) chooses in
+      let next = next_stands h g i n k s on q e j reply accepted in
+      let said : answers_from (state_in h w (with_choice g (by_node i n))) (turns (q ∷ qs)) ≡ Move next.node.attack ∷ answers_from (state_in h w (with_choice g2 (by_node j next.node))) (turns qs) =
+      answers-row (state_in h w (with_choice g (by_node i n))) (Turn q.x q.y) (turns qs) _ (row_is GoesOn e) ∙ ap (λ (c : Choice). Move c.at ∷ answers_from (state_in h w (with_choice g2 c)) (turns qs)) next.chooses in
       subst (λ (x : List Answer). GoesBy g.rule h.table (depth_within (suc k) h.table i) i (board_of g) n.attack (q ∷ qs) x) (sym said)
-      (by_next g.rule h.table _ i (board_of g) n s.node (depth_some h.table i n k s.node) on (not_winning n.rest (parts h g i n k s on).0) q _ j m qs _ e reply less
-      (all node.0 w g2 j m stands (ap (λ (o : Option RuleKind). is_some o) wish) are))
+      (by_next g.rule h.table _ i (board_of g) n s.node (depth_some h.table i n k s.node) on (not_winning n.rest (parts h g i n k s on).0) q _ j next.node qs _ e reply next.shallower
+      (all next.more w g2 j next.node next.stands (ap is_some wish) are))
 
   by_reply : (qs : List Point) → AllAnswered h qs → is_empty (after (board_of g) n.attack) q ≡ true → AreReplies g.rule (board_of g) (attacks g.rule h.table i (board_of g) (q ∷ qs)) (q ∷ qs) → (p : Outcome) → outcome g.rule (after (board_of g) n.attack) q ≡ p → LosesOr p (Answered (answer (answers_of n) q) (λ j. AcceptedWithin k g.rule h.table j (after (after (board_of g) n.attack) q))) → GoesBy g.rule h.table (depth_within (suc k) h.table i) i (board_of g) n.attack (q ∷ qs) (answers_from (state_in h w (with_choice g (by_node i n))) (turns (q ∷ qs)))
   by_reply qs all empty are Refused e met = absurd (not_refused g.rule (after (board_of g) n.attack) q empty e)

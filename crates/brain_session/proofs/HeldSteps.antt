@@ -61,45 +61,28 @@ unfolding row_of
 turn_ended h w g x y e = rw e refl
 
 module _ (h : HeldTable) (g : Game) (e : g.ended ≡ true) where
-  pub ended-replies : (w : ℕ) (cs : List Command) → replies (state_in h w g) cs ≡ []
-  unfolding replies row_of
-  ended-replies w [] = refl
-  ended-replies w (Start n ∷ cs) = refl
-  ended-replies w (RectStart n m ∷ cs) = refl
-  ended-replies w (Begin ∷ cs) = ended-replies w cs
-  ended-replies w (Turn x y ∷ cs) = replies-by (state_in h w g) (Turn x y) cs _ (turn_ended h w g x y e) ∙ ended-replies w cs
-  ended-replies w (Board ∷ cs) = refl
-  ended-replies w (Stone x y f ∷ cs) = ended-replies w cs
-  ended-replies w (Done ∷ cs) = ended-replies w cs
-  ended-replies w (Restart ∷ cs) = refl
-  ended-replies w (Takeback x y ∷ cs) = refl
-  ended-replies w (Rule v ∷ cs) = ended-replies v cs
-  ended-replies w (Info ∷ cs) = ended-replies w cs
-  ended-replies w (About ∷ cs) = ended-replies w cs
-  ended-replies w (End ∷ cs) = refl
-  ended-replies w (Blank ∷ cs) = ended-replies w cs
-  ended-replies w (Malformed ∷ cs) = ended-replies w cs
-  ended-replies w (Unknown ∷ cs) = ended-replies w cs
-
-  pub ended-answers : (w : ℕ) (cs : List Command) → answers_to_replies (state_in h w g) cs ≡ []
-  unfolding answers_to_replies row_of
-  ended-answers w [] = refl
-  ended-answers w (Start n ∷ cs) = refl
-  ended-answers w (RectStart n m ∷ cs) = refl
-  ended-answers w (Begin ∷ cs) = ended-answers w cs
-  ended-answers w (Turn x y ∷ cs) = answers-by (state_in h w g) (Turn x y) cs _ (turn_ended h w g x y e) ∙ ended-answers w cs
-  ended-answers w (Board ∷ cs) = refl
-  ended-answers w (Stone x y f ∷ cs) = ended-answers w cs
-  ended-answers w (Done ∷ cs) = ended-answers w cs
-  ended-answers w (Restart ∷ cs) = refl
-  ended-answers w (Takeback x y ∷ cs) = refl
-  ended-answers w (Rule v ∷ cs) = ended-answers v cs
-  ended-answers w (Info ∷ cs) = ended-answers w cs
-  ended-answers w (About ∷ cs) = ended-answers w cs
-  ended-answers w (End ∷ cs) = refl
-  ended-answers w (Blank ∷ cs) = ended-answers w cs
-  ended-answers w (Malformed ∷ cs) = ended-answers w cs
-  ended-answers w (Unknown ∷ cs) = ended-answers w cs
+  none_left : (w : ℕ) (cs : List Command) → (replies (state_in h w g) cs ≡ []) × (answers_to_replies (state_in h w g) cs ≡ [])
+  unfolding replies answers_to_replies row_of
+  none_left w [] = (refl, refl)
+  none_left w (Start n ∷ cs) = (refl, refl)
+  none_left w (RectStart n m ∷ cs) = (refl, refl)
+  none_left w (Begin ∷ cs) = none_left w cs
+  none_left w (Turn x y ∷ cs) =
+      let row = turn_ended h w g x y e in
+      let rest = none_left w cs in
+      (replies-by (state_in h w g) (Turn x y) cs _ row ∙ rest.0, answers-by (state_in h w g) (Turn x y) cs _ row ∙ rest.1)
+  none_left w (Board ∷ cs) = (refl, refl)
+  none_left w (Stone x y f ∷ cs) = none_left w cs
+  none_left w (Done ∷ cs) = none_left w cs
+  none_left w (Restart ∷ cs) = (refl, refl)
+  none_left w (Takeback x y ∷ cs) = (refl, refl)
+  none_left w (Rule v ∷ cs) = none_left v cs
+  none_left w (Info ∷ cs) = none_left w cs
+  none_left w (About ∷ cs) = none_left w cs
+  none_left w (End ∷ cs) = (refl, refl)
+  none_left w (Blank ∷ cs) = none_left w cs
+  none_left w (Malformed ∷ cs) = none_left w cs
+  none_left w (Unknown ∷ cs) = none_left w cs
 
 -- ---- a TURN in a game that goes on
 
@@ -107,12 +90,12 @@ other_side : (s t : Side) → t ≡ other s → same_side t s ≡ false
 other_side Black t e = rw e refl
 other_side White t e = rw e refl
 
-pub turn_going : (h : HeldTable) (w : ℕ) (g : Game) (x y : ℕ) → g.ended ≡ false → mover (board_of g) ≡ other g.brain → row_of (state_in h w g) (Turn x y) ≡ if_supported (rule_of w) (state_in h w g) (λ rule. move_row (state_in h w g) g (point_at x y) (outcome g.rule (board_of g) (point_at x y)))
+turn_going : (h : HeldTable) (w : ℕ) (g : Game) (x y : ℕ) → g.ended ≡ false → mover (board_of g) ≡ other g.brain → row_of (state_in h w g) (Turn x y) ≡ if_supported (rule_of w) (state_in h w g) (λ rule. move_row (state_in h w g) g (point_at x y) (outcome g.rule (board_of g) (point_at x y)))
 unfolding row_of
 turn_going h w g x y e m = let f = other_side g.brain (mover (board_of g)) m in rw (e, f) refl
 
 -- the chosen move where a held node is followed, and its answer to the last move is node j
-pub chosen-followed : (h : HeldTable) (g : Game) (i j : ℕ) (n m : Node) (q : Point) (before : List Point) → g.followed ≡ Some (HeldNode i) → g.moves ≡ q ∷ before → slice_get h.table i ≡ Some n → answer (answers_of n) q ≡ Some j → slice_get h.table j ≡ Some m → chosen h g ≡ by_node j m
+chosen-followed : (h : HeldTable) (g : Game) (i j : ℕ) (n m : Node) (q : Point) (before : List Point) → g.followed ≡ Some (HeldNode i) → g.moves ≡ q ∷ before → slice_get h.table i ≡ Some n → answer (answers_of n) q ≡ Some j → slice_get h.table j ≡ Some m → chosen h g ≡ by_node j m
 unfolding chosen
 chosen-followed h g i j n m q before f ms at w to = rw (f, ms, at, w, to) refl
 
@@ -124,6 +107,14 @@ pub record StandsIn (h : HeldTable) (g : Game) (i : ℕ) (n : Node) (k : ℕ) : 
   pub wins : WinsOr (outcome g.rule (board_of g) n.attack) (NotWinning n.rest × ((q : Point) → Meets g.rule (answers_of n) (AcceptedWithin k g.rule h.table) (after (board_of g) n.attack) q))
   pub lawful : IsPosition g.rule (board_of g)
   pub turn : mover (board_of g) ≡ g.brain
+
+-- in the game g, to which the opponent replied to node i, node j is followed next, which is less deep
+pub record IsNext (h : HeldTable) (g : Game) (i k j : ℕ) : Type 0 where
+  pub node : Node
+  pub more : ℕ
+  pub stands : StandsIn h g j node more
+  pub chooses : chosen h g ≡ by_node j node
+  pub shallower : depth_within (suc more) h.table j < depth_within (suc k) h.table i
 
 -- an accepted node is one of the table
 pub accepted_node : (rule : RuleKind) (t : List Node) (j : ℕ) (b : Grid) (f : ℕ) → AcceptedWithin f rule t j b → (k : ℕ) × (n : Node) × (f ≡ suc k) × (slice_get t j ≡ Some n) × WinsOr (outcome rule b n.attack) (NotWinning n.rest × ((q : Point) → Meets rule (answers_of n) (AcceptedWithin k rule t) (after b n.attack) q))
@@ -158,7 +149,7 @@ nothing_more h g i n k s = by_none g.rule h.table _ i (board_of g) n s.node (dep
 ended_goes : (h : HeldTable) (w : ℕ) (g : Game) (i : ℕ) (n : Node) (k : ℕ) (cs : List Command) → StandsIn h g i n k → not (goes_on (outcome g.rule (board_of g) n.attack)) ≡ true → GoesOver h w g i n k cs
 ended_goes h w g i n k cs s e =
     let g1 = with_choice g (by_node i n) in
-    GoesBy-same g.rule h.table _ i (board_of g) n.attack _ _ _ _ (ended-replies h g1 e w cs) (ended-answers h g1 e w cs) (nothing_more h g i n k s)
+    GoesBy-same g.rule h.table _ i (board_of g) n.attack _ _ _ _ (none_left h g1 e w cs).0 (none_left h g1 e w cs).1 (nothing_more h g i n k s)
 
 -- the board after the attack, which goes on, and whose turn it is there
 module _ (h : HeldTable) (g : Game) (i : ℕ) (n : Node) (k : ℕ) (s : StandsIn h g i n k) (o : outcome g.rule (board_of g) n.attack ≡ GoesOn) where
@@ -185,35 +176,48 @@ module _ (h : HeldTable) (g : Game) (i : ℕ) (n : Node) (k : ℕ) (s : StandsIn
       (answers-by _ (Turn x y) cs _ row ∙ ap (λ (b : Bool). cond b (answers_to_replies (state_in h w (with_choice g (by_node i n))) cs) (Error e ∷ answers_to_replies (state_in h w (with_choice g (by_node i n))) cs)) none)
       next
 
+  -- the row of a TURN
+  pub row_then : (w : ℕ) (q : Point) → row_of (state_in h w (with_choice g (by_node i n))) (Turn q.x q.y)
+      ≡ if_supported (rule_of w) (state_in h w (with_choice g (by_node i n))) (λ rule. move_row (state_in h w (with_choice g (by_node i n))) (with_choice g (by_node i n)) q (outcome g.rule (after (board_of g) n.attack) q))
+  row_then w q = turn_going h w (with_choice g (by_node i n)) q.x q.y (ap (λ (r : Outcome). not (goes_on r)) o) turn_then
+
+  -- a reply that goes on is answered by the attack of the node that answers it
+  pub next_stands : (q : Point) → outcome g.rule (after (board_of g) n.attack) q ≡ GoesOn → (j : ℕ) → answer (answers_of n) q ≡ Some j → AcceptedWithin k g.rule h.table j (after (after (board_of g) n.attack) q) → IsNext h (with_move (with_choice g (by_node i n)) q false) i k j
+  next_stands q on j reply accepted =
+      let g2 = with_move (with_choice g (by_node i n)) q false in
+      let node = accepted_node g.rule h.table j (board_of g2) k accepted in
+      record {
+        node = node.1;
+        more = node.0;
+        stands = record {
+          node = node.3;
+          wins = node.4;
+          lawful = IsPosition-after g.rule (after (board_of g) n.attack) q lawful_then on;
+          turn = mover-then g.rule (after (board_of g) n.attack) q lawful_then on ∙ ap other turn_then ∙ other-other g.brain;
+        };
+        chooses = chosen-followed h g2 i j n node.1 q (n.attack ∷ g.moves) refl refl s.node reply node.3;
+        shallower = subst (λ (d : ℕ). depth_within d h.table j < depth_within (suc k) h.table i) node.2 (deeper h.table i n k q j s.node reply);
+      }
+
   -- a reply that fouls ends the game
   foul_reply : (w x y : ℕ) (cs : List Command) (f : Foul) → outcome g.rule (after (board_of g) n.attack) (point_at x y) ≡ Fouls f → row_of (state_in h w (with_choice g (by_node i n))) (Turn x y) ≡ end_row (state_in h w (with_choice g (by_node i n))) (with_choice g (by_node i n)) (point_at x y) OpponentFoul → GoesOver h w g i n k (Turn x y ∷ cs)
   foul_reply w x y cs f fouls row =
       let g2 = with_move (with_choice g (by_node i n)) (point_at x y) true in
       GoesBy-same g.rule h.table _ i (board_of g) n.attack _ _ _ _
-      (replies-by _ (Turn x y) cs _ row ∙ ap (λ (ps : List Point). point_at x y ∷ ps) (ended-replies h g2 refl w cs))
-      (answers-by _ (Turn x y) cs _ row ∙ ap (λ (said : List Answer). Error OpponentFoul ∷ said) (ended-answers h g2 refl w cs))
+      (replies-by _ (Turn x y) cs _ row ∙ ap (λ (ps : List Point). point_at x y ∷ ps) (none_left h g2 refl w cs).0)
+      (answers-by _ (Turn x y) cs _ row ∙ ap (λ (said : List Answer). Error OpponentFoul ∷ said) (none_left h g2 refl w cs).1)
       (by_foul g.rule h.table _ i (board_of g) n s.node (depth_some h.table i n k s.node) o (not_winning n.rest parts.0) (point_at x y) f fouls)
 
-  -- a reply that goes on is answered by the attack of the node that answers it
   next_reply : (w x y : ℕ) (cs : List Command) → AllGoWell h cs → outcome g.rule (after (board_of g) n.attack) (point_at x y) ≡ GoesOn → row_of (state_in h w (with_choice g (by_node i n))) (Turn x y) ≡ Chooses (with_move (with_choice g (by_node i n)) (point_at x y) false) → (j : ℕ) → answer (answers_of n) (point_at x y) ≡ Some j → AcceptedWithin k g.rule h.table j (after (after (board_of g) n.attack) (point_at x y)) → GoesOver h w g i n k (Turn x y ∷ cs)
   next_reply w x y cs all on row j reply accepted =
       let q = point_at x y in
       let s1 = state_in h w (with_choice g (by_node i n)) in
       let g2 = with_move (with_choice g (by_node i n)) q false in
-      let node = accepted_node g.rule h.table j (board_of g2) k accepted in
-      let m = node.1 in
-      let chooses : chosen h g2 ≡ by_node j m = chosen-followed h g2 i j n m q (n.attack ∷ g.moves) refl refl s.node reply node.3 in
-      let stands : StandsIn h g2 j m node.0 = record {
-        node = node.3;
-        wins = node.4;
-        lawful = IsPosition-after g.rule (after (board_of g) n.attack) q lawful_then on;
-        turn = mover-then g.rule (after (board_of g) n.attack) q lawful_then on ∙ ap other turn_then ∙ other-other g.brain;
-      } in
-      let less : depth_within (suc node.0) h.table j < depth_within (suc k) h.table i = subst (λ (d : ℕ). depth_within d h.table j < depth_within (suc k) h.table i) node.2 (deeper h.table i n k q j s.node reply) in
+      let next = next_stands q on j reply accepted in
       GoesBy-same g.rule h.table _ i (board_of g) n.attack _ _ _ _
-      (replies-by s1 (Turn x y) cs _ row ∙ ap (λ (c : Choice). q ∷ replies (state_in h w (with_choice g2 c)) cs) chooses)
-      (answers-by s1 (Turn x y) cs _ row ∙ ap (λ (c : Choice). Move c.at ∷ answers_to_replies (state_in h w (with_choice g2 c)) cs) chooses)
-      (by_next g.rule h.table _ i (board_of g) n s.node (depth_some h.table i n k s.node) o (not_winning n.rest parts.0) q _ j m _ _ on reply less (all node.0 w g2 j m stands))
+      (replies-by s1 (Turn x y) cs _ row ∙ ap (λ (c : Choice). q ∷ replies (state_in h w (with_choice g2 c)) cs) next.chooses)
+      (answers-by s1 (Turn x y) cs _ row ∙ ap (λ (c : Choice). Move c.at ∷ answers_to_replies (state_in h w (with_choice g2 c)) cs) next.chooses)
+      (by_next g.rule h.table _ i (board_of g) n s.node (depth_some h.table i n k s.node) o (not_winning n.rest parts.0) q _ j next.node _ _ on reply next.shallower (all next.more w g2 j next.node next.stands))
 
   -- a TURN by its row
   turn_by : (w x y : ℕ) (cs : List Command) (r : Option RuleKind) (p : Outcome) → AllGoWell h cs → outcome g.rule (after (board_of g) n.attack) (point_at x y) ≡ p → row_of (state_in h w (with_choice g (by_node i n))) (Turn x y) ≡ if_supported r (state_in h w (with_choice g (by_node i n))) (λ rule. move_row (state_in h w (with_choice g (by_node i n))) (with_choice g (by_node i n)) (point_at x y) p) → LosesOr p (Answered (answer (answers_of n) (point_at x y)) (λ j. AcceptedWithin k g.rule h.table j (after (after (board_of g) n.attack) (point_at x y)))) → GoesOver h w g i n k (Turn x y ∷ cs)
@@ -226,9 +230,7 @@ module _ (h : HeldTable) (g : Game) (i : ℕ) (n : Node) (k : ℕ) (s : StandsIn
 
   going_turn : (w x y : ℕ) (cs : List Command) → AllGoWell h cs → GoesOver h w g i n k (Turn x y ∷ cs)
   going_turn w x y cs all =
-      turn_by w x y cs (rule_of w) (outcome g.rule (after (board_of g) n.attack) (point_at x y)) all refl
-      (turn_going h w (with_choice g (by_node i n)) x y (ap (λ (r : Outcome). not (goes_on r)) o) turn_then)
-      (parts.1 (point_at x y))
+      turn_by w x y cs (rule_of w) (outcome g.rule (after (board_of g) n.attack) (point_at x y)) all refl (row_then w (point_at x y)) (parts.1 (point_at x y))
 
 turn_goes : (h : HeldTable) (cs : List Command) → AllGoWell h cs → (x y : ℕ) → AllGoWell h (Turn x y ∷ cs)
 turn_goes h cs all x y k w g i n s = by_outcome (outcome g.rule (board_of g) n.attack) refl s.wins where

@@ -1,45 +1,41 @@
 -- What is true of the brain's state whatever it was told, as far as held games need it: the moves of a game that is not ended
 -- went on from a lawful position, and those of an ended one did so up to the last.
-use Rattle.std.proofs.Common.{◌≡◌, ◌*◌, ℕ, zero, suc, ◌<◌, Bool, true, false, cond, ◌&&◌, ◌||◌, not, List, [], ◌∷◌, ◌++◌, get_or, length, refl, sym, ap, subst, ◌∙◌, arith, IfSome, nat_eq}
-use Rattle.std.specs.Prelude.{nat_le, Option, Some, None, is_none}
+use Rattle.std.proofs.Common.{◌≡◌, ◌*◌, ℕ, Bool, true, false, cond, not, List, [], ◌∷◌, refl, sym, ap, subst, ◌∙◌, IfSome}
+use Rattle.std.specs.Prelude.{◌≢◌, nat_le, Option, Some, None, is_none}
 use Rattle.std.specs.Option.{option_and_then}
-use Rattle.std.proofs.lemmas.List.Elements.{All-push}
-use Rattle.std.proofs.lemmas.List.Quantifiers.{all_pairs_push}
+use Rattle.std.proofs.lemmas.List.{length-replicate}
+use borrow.Author.Tests.{leb-true}
 use Rattle.game_rules.specs.Grid.{Grid, IsBoard, is_on, put}
-use Rattle.game_rules.specs.Shapes.{is_same_point}
 use Rattle.game_rules.specs.Play.{IsPosition, outcome, mover, other}
+use Rattle.game_rules.specs.declared.TheConstants.{MIN_SIDE}
 use Rattle.game_rules.specs.declared.RuleKind.{RuleKind}
 use Rattle.game_rules.specs.declared.Side.{Side}
 use Rattle.game_rules.specs.declared.Side.TheVariants.{Black, White}
+use Rattle.game_rules.specs.declared.Cell.TheVariants.{Empty}
 use Rattle.game_rules.specs.declared.Outcome.{Outcome}
 use Rattle.game_rules.specs.declared.Outcome.TheVariants.{Refused, Wins as WinsNow, Fouls, Draws, GoesOn}
 use Rattle.game_rules.specs.declared.Point.{Point}
-use Rattle.game_rules.proofs.Positions.{IsPosition-after, mover-then, IsBoard-put}
-use borrow.Author.Tests.{leb-true}
-use Rattle.std.proofs.lemmas.List.{length-replicate}
-use Rattle.game_rules.specs.declared.TheConstants.{MIN_SIDE}
-use Rattle.game_rules.specs.declared.Cell.TheVariants.{Empty}
+use Rattle.game_rules.proofs.Boards.{and_left, and_right}
+use Rattle.game_rules.proofs.Positions.{mover-then, IsBoard-put}
 use Rattle.foul_judge.specs.Lawful.{refusal}
 use Rattle.foul_judge.specs.declared.position.PositionError.{PositionError}
 use Rattle.foul_judge.proofs.Lawfulness.{lawful_from_none}
 use Rattle.strategy_checker.specs.HeldRoots.{HeldTable}
 use Rattle.gomocup_text.specs.declared.Command.{Command}
-use Rattle.gomocup_text.specs.declared.Command.TheVariants.{Start, RectStart, Begin, Turn, Board, Stone, Done, Restart, Takeback, Rule, Info, About, End, Blank, Malformed, Unknown}
-use Rattle.gomocup_text.specs.declared.Answer.TheVariants.{Ok as SaysOk, Unknown as SaysUnknown}
-use Rattle.gomocup_text.specs.declared.ErrorText.{ErrorText}
-use Rattle.gomocup_text.specs.declared.ErrorText.TheVariants.{UnsupportedSize, NoBoard as NoBoardText, NotReading, UnsupportedRule, BadArguments, GameStarted, GameOver, WrongTurn, BadMove}
 use Rattle.brain_session.specs.declared.Reaction.{Reaction}
 use Rattle.brain_session.specs.declared.Reaction.TheVariants.{Silent, Says, Ends}
 use Rattle.brain_session.specs.declared.batch.BatchStone.{BatchStone}
-use Rattle.brain_session.specs.States.{Game, board_after, board_of, empty_board, new_game, point_at, Place, NoBoard, Fresh, InGame, Batch, State, new_brain}
-use Rattle.game_rules.proofs.Boards.{and_left, and_right}
-use Rattle.brain_session.specs.Batches.{side_of, new_batch, spoiled, has_stone_at, with_stone, colour_in, with_stones, lawful_game, game_from}
+use Rattle.brain_session.specs.States.{Game, board_of, empty_board, new_game, Place, NoBoard, Fresh, InGame, Batch, State, new_brain}
+use Rattle.brain_session.specs.Batches.{side_of, colour_in, with_stones, lawful_game, game_from}
 use Rattle.brain_session.specs.ChosenMoves.{Choice, chosen}
-use Rattle.brain_session.specs.Steps.{Row, Reacts, Chooses, fails, unread, placed, rule_of, if_supported, is_side, start_row, restart_row, board_row, board_in, stone_row, batch_row, done_row, begin_row, same_side, with_move, move_row, turn_row, is_bare, place_before, last_row, takeback_row, if_not_reading, row_of, goes_on, with_choice, step_by, brain_step}
+use Rattle.brain_session.specs.Steps.{Row, Reacts, Chooses, placed, is_side, board_in, same_side, with_move, move_row, is_bare, place_before, row_of, goes_on, with_choice, step_by, brain_step}
 use Rattle.brain_session.specs.Sessions.{then_state, state_after}
 use Rattle.brain_session.specs.Running.{GoesOnAlong, StonesFit}
+use Rattle.brain_session.proofs.Courses.{along-lawful}
 use Rattle.brain_session.proofs.Rounds.{empty-mover, empty-lawful, empty-board}
 use Rattle.brain_session.proofs.BatchGames.{batch-mover}
+use Rattle.brain_session.proofs.Takings.{none_fit, spoiled_fits, stone_fits}
+use Rattle.brain_session.proofs.RowCases.{row-cases}
 
 -- the moves of a game, of which the last may have ended it
 abbrev pub WentOn : Bool → RuleKind → Grid → List Point → Type 0
@@ -71,10 +67,6 @@ LawfulRow h (Reacts r next) = LawfulState next × (next.held ≡ h)
 LawfulRow h (Chooses g) = IsToMove g
 
 -- ---- moves that went on
-
-pub lawful_along : (rule : RuleKind) (start : Grid) (moves : List Point) → GoesOnAlong rule start moves → IsPosition rule (board_after start moves)
-lawful_along rule start [] h = h
-lawful_along rule start (p ∷ before) h = IsPosition-after rule (board_after start before) p (lawful_along rule start before h.0) h.1
 
 start_lawful : (rule : RuleKind) (start : Grid) (moves : List Point) → GoesOnAlong rule start moves → IsPosition rule start
 start_lawful rule start [] h = h
@@ -109,75 +101,17 @@ IsBoard-with : (brain : Side) (b : Grid) (stones : List BatchStone) → IsBoard 
 IsBoard-with brain b [] ok = ok
 IsBoard-with brain b (s ∷ stones) ok = IsBoard-with brain (put b (side_of brain s) s.at) stones (IsBoard-put b (side_of brain s) s.at ok)
 
--- ---- errors, and what leaves the place
-
-fails_row : (e : ErrorText) (s : State) → LawfulState s → LawfulRow s.held (fails e s)
-fails_row e s h = (h, refl)
-
-unread_lawful : (s : State) → LawfulState s → LawfulState (unread s)
-unread_lawful s h = record { place = h.place; batch = tt }
-
 placed_lawful : (s : State) (place : Place) → LawfulPlace place → LawfulState (placed s place)
 placed_lawful s place h = record { place = h; batch = tt }
 
-no_stones : (b : Grid) → IsBoard b → BatchFits b new_batch
-no_stones b ok = (ok, record { on_board = λ k d lt. absurd (omega arith); distinct = λ i j d lt within. absurd (omega arith) })
-
--- ---- START, RESTART, BOARD
-
-start_lawful_row : (s : State) (width height : ℕ) → LawfulState s → LawfulRow s.held (start_row s width height)
-start_lawful_row s width height h = by_tests (is_side width) (is_side height) refl refl where
-  by_tests : (w l : Bool) → is_side width ≡ w → is_side height ≡ l → LawfulRow s.held (cond (w && l) (Reacts (Says SaysOk) (placed s (Fresh width height))) (fails UnsupportedSize s))
-  by_tests true true e f = (placed_lawful s (Fresh width height) (IsBoard-empty width height e f), refl)
-  by_tests true false e f = fails_row UnsupportedSize s h
-  by_tests false l e f = fails_row UnsupportedSize s h
-
-restart_lawful : (s : State) (place : Place) → LawfulState s → LawfulPlace place → LawfulRow s.held (restart_row s place)
-restart_lawful s NoBoard h p = fails_row NoBoardText s h
-restart_lawful s (Fresh width height) h p = (placed_lawful s (Fresh width height) p, refl)
-restart_lawful s (InGame g) h p = (placed_lawful s (Fresh g.start.width g.start.height) (empty-board g.start (went_from g.ended g.rule g.start g.moves p).board), refl)
-
-board_lawful : (s : State) (place : Place) → s.place ≡ place → LawfulState s → LawfulPlace place → LawfulRow s.held (board_row s place)
-board_lawful s NoBoard e h p = fails_row NoBoardText s h
-board_lawful s (Fresh width height) e h p = (record { place = h.place; batch = subst (λ (q : Place). BatchFits (board_in q) new_batch) (sym e) (no_stones (empty_board width height) p) }, refl)
-board_lawful s (InGame g) e h p =
-    (record { place = h.place; batch = subst (λ (q : Place). BatchFits (board_in q) new_batch) (sym e) (no_stones (empty_board g.start.width g.start.height) (empty-board g.start (went_from g.ended g.rule g.start g.moves p).board)) }, refl)
-
--- ---- stones
-
-no_stone_at : (stones : List BatchStone) (p : Point) → has_stone_at stones p ≡ false → (k : ℕ) (d : BatchStone) → k < length stones → is_same_point (get_or stones k d).at p ≡ false
-no_stone_at [] p h k d lt = absurd (omega arith)
-no_stone_at (s ∷ stones) p h zero d lt = left (is_same_point s.at p) _ h where
-  left : (a b : Bool) → (a || b) ≡ false → a ≡ false
-  left false b e = refl
-  left true b e = cc
-no_stone_at (s ∷ stones) p h (suc k) d lt = no_stone_at stones p (right (is_same_point s.at p) _ h) k d (omega arith) where
-  right : (a b : Bool) → (a || b) ≡ false → b ≡ false
-  right false b e = e
-  right true b e = cc
-
-with_stone_fits : (b : Grid) (batch : Batch) (p : Point) (field : ℕ) → StonesFit b batch → StonesFit b (with_stone (is_on b p) batch p field)
-with_stone_fits b batch p field h = by_tests (is_on b p) (nat_eq field 1 || nat_eq field 2) (has_stone_at batch.stones p) refl refl where
-  bad : StonesFit b (spoiled batch)
-  bad = record { on_board = h.on_board; distinct = h.distinct }
-
-  by_tests : (on known taken : Bool) → is_on b p ≡ on → has_stone_at batch.stones p ≡ taken → StonesFit b (cond ((on && known) && not taken) (record batch { stones = batch.stones ++ record { at = p; own = nat_eq field 1 } ∷ [] }) (spoiled batch))
-  by_tests true true false e f = record {
-    on_board = All-push (λ s. is_on b s.at ≡ true) batch.stones (record { at = p; own = nat_eq field 1 }) h.on_board e;
-    distinct = all_pairs_push (λ s u. is_same_point s.at u.at ≡ false) batch.stones (record { at = p; own = nat_eq field 1 }) h.distinct (no_stone_at batch.stones p f);
-  }
-  by_tests true true true e f = bad
-  by_tests true false taken e f = bad
-  by_tests false known taken e f = bad
+-- the board of the size of that in a place
+sized_board : (place : Place) → place ≢ NoBoard → LawfulPlace place → IsBoard (board_in place)
+sized_board NoBoard some h = absurd (some refl)
+sized_board (Fresh width height) some h = h
+sized_board (InGame g) some h = empty-board g.start (went_from g.ended g.rule g.start g.moves h).board
 
 batch_of : (s : State) (b : Batch) → s.batch ≡ Some b → LawfulState s → BatchFits (board_in s.place) b
 batch_of s b e h = subst (λ (o : Option Batch). IfSome o (BatchFits (board_in s.place))) e h.batch
-
-stone_lawful : (s : State) (batch : Option Batch) (p : Point) (field : ℕ) → s.batch ≡ batch → LawfulState s → LawfulRow s.held (stone_row s batch p field)
-stone_lawful s None p field e h = (h, refl)
-stone_lawful s (Some b) p field e h =
-    let fits = batch_of s b e h in
-    (record { place = h.place; batch = (fits.0, with_stone_fits (board_in s.place) b p field fits.1) }, refl)
 
 -- ---- DONE
 
@@ -207,28 +141,7 @@ batch_game rule place b fits = by_colour b.bad (colour_in b.stones) refl where
   by_colour false None e = tt
   by_colour false (Some brain) e = by_refusal brain (refusal rule (with_stones brain (board_in place) b.stones)) e refl
 
-done_lawful : (s : State) (batch : Option Batch) → s.batch ≡ batch → LawfulState s → LawfulRow s.held (done_row s batch)
-done_lawful s None e h = fails_row NotReading s h
-done_lawful s (Some b) e h = by_rule (rule_of s.wish) where
-  by_game : (o : Option Game) → IfSome o IsToMove → LawfulRow s.held (batch_row s o)
-  by_game None g = (unread_lawful s h, refl)
-  by_game (Some g) to_move = to_move
-
-  by_rule : (o : Option RuleKind) → LawfulRow s.held (if_supported o (unread s) (λ rule. batch_row s (game_from rule (board_in s.place) b)))
-  by_rule None = (unread_lawful s h, refl)
-  by_rule (Some rule) = by_game (game_from rule (board_in s.place) b) (batch_game rule s.place b (batch_of s b e h))
-
--- ---- BEGIN
-
-begin_lawful : (s : State) (place : Place) → LawfulState s → LawfulPlace place → LawfulRow s.held (begin_row s place)
-begin_lawful s NoBoard h p = fails_row NoBoardText s h
-begin_lawful s (InGame g) h p = fails_row GameStarted s h
-begin_lawful s (Fresh width height) h p = by_rule (rule_of s.wish) where
-  by_rule : (o : Option RuleKind) → LawfulRow s.held (if_supported o s (λ rule. Chooses (new_game rule (empty_board width height) Black)))
-  by_rule None = fails_row UnsupportedRule s h
-  by_rule (Some rule) = record { along = empty-lawful rule width height p; turn = empty-mover width height }
-
--- ---- TURN
+-- ---- a move of the opponent
 
 not_same : (s t : Side) → same_side s t ≡ false → other s ≡ t
 not_same Black Black e = cc
@@ -240,35 +153,16 @@ not_same White White e = cc
 move_lawful : (s : State) (g : Game) (p : Point) → LawfulState s → GoesOnAlong g.rule g.start g.moves → other (mover (board_of g)) ≡ g.brain → LawfulRow s.held (move_row s g p (outcome g.rule (board_of g) p))
 move_lawful s g p h along turn = by_outcome (outcome g.rule (board_of g) p) refl where
   by_outcome : (o : Outcome) → outcome g.rule (board_of g) p ≡ o → LawfulRow s.held (move_row s g p o)
-  by_outcome Refused e = fails_row BadMove s h
+  by_outcome Refused e = (h, refl)
   by_outcome WinsNow e = (placed_lawful s (InGame (with_move g p true)) along, refl)
   by_outcome (Fouls f) e = (placed_lawful s (InGame (with_move g p true)) along, refl)
   by_outcome Draws e = (placed_lawful s (InGame (with_move g p true)) along, refl)
   by_outcome GoesOn e = record {
     along = (along, e);
-    turn = mover-then g.rule (board_of g) p (lawful_along g.rule g.start g.moves along) e ∙ turn;
+    turn = mover-then g.rule (board_of g) p (along-lawful g.rule g.start g.moves along) e ∙ turn;
   }
 
-turn_lawful : (s : State) (place : Place) (p : Point) → LawfulState s → LawfulPlace place → LawfulRow s.held (turn_row s place p)
-turn_lawful s NoBoard p h l = fails_row NoBoardText s h
-turn_lawful s (Fresh width height) p h l = by_rule (rule_of s.wish) where
-  by_rule : (o : Option RuleKind) → LawfulRow s.held (if_supported o s (λ rule. let g = new_game rule (empty_board width height) White in move_row s g p (outcome rule (board_of g) p)))
-  by_rule None = fails_row UnsupportedRule s h
-  by_rule (Some rule) = move_lawful s (new_game rule (empty_board width height) White) p h (empty-lawful rule width height l) (ap other (empty-mover width height))
-turn_lawful s (InGame g) p h l = by_ended g.ended refl where
-  by_rule : g.ended ≡ false → same_side (mover (board_of g)) g.brain ≡ false → (o : Option RuleKind) → LawfulRow s.held (if_supported o s (λ rule. move_row s g p (outcome g.rule (board_of g) p)))
-  by_rule e f None = fails_row UnsupportedRule s h
-  by_rule e f (Some rule) = move_lawful s g p h (not_ended g.ended g.rule g.start g.moves e l) (not_same (mover (board_of g)) g.brain f)
-
-  by_side : g.ended ≡ false → (b : Bool) → same_side (mover (board_of g)) g.brain ≡ b → LawfulRow s.held (cond b (fails WrongTurn s) (if_supported (rule_of s.wish) s (λ rule. move_row s g p (outcome g.rule (board_of g) p))))
-  by_side e true f = fails_row WrongTurn s h
-  by_side e false f = by_rule e f (rule_of s.wish)
-
-  by_ended : (b : Bool) → g.ended ≡ b → LawfulRow s.held (cond b (fails GameOver s) (cond (same_side (mover (board_of g)) g.brain) (fails WrongTurn s) (if_supported (rule_of s.wish) s (λ rule. move_row s g p (outcome g.rule (board_of g) p)))))
-  by_ended true e = fails_row GameOver s h
-  by_ended false e = by_side e (same_side (mover (board_of g)) g.brain) refl
-
--- ---- TAKEBACK
+-- ---- the last move taken back
 
 place_before_lawful : (g : Game) (before : List Point) → GoesOnAlong g.rule g.start before → LawfulPlace (place_before g before)
 place_before_lawful g [] h = by_test (is_bare g.start) where
@@ -277,44 +171,34 @@ place_before_lawful g [] h = by_test (is_bare g.start) where
   by_test false = h
 place_before_lawful g (p ∷ before) h = h
 
-last_lawful : (s : State) (g : Game) (p : Point) (moves : List Point) → LawfulState s → WentOn g.ended g.rule g.start moves → LawfulRow s.held (last_row s g p moves)
-last_lawful s g p [] h l = fails_row BadMove s h
-last_lawful s g p (last ∷ before) h l = by_test (is_same_point last p) where
-  by_test : (b : Bool) → LawfulRow s.held (cond b (Reacts (Says SaysOk) (placed s (place_before g before))) (fails BadMove s))
-  by_test true = (placed_lawful s (place_before g before) (place_before_lawful g before (went_before g.ended g.rule g.start last before l)), refl)
-  by_test false = fails_row BadMove s h
-
-takeback_lawful : (s : State) (place : Place) (p : Point) → LawfulState s → LawfulPlace place → LawfulRow s.held (takeback_row s place p)
-takeback_lawful s NoBoard p h l = fails_row NoBoardText s h
-takeback_lawful s (Fresh width height) p h l = fails_row BadMove s h
-takeback_lawful s (InGame g) p h l = last_lawful s g p g.moves h l
-
 -- ---- each command
 
-reading_lawful : (s : State) (batch : Option Batch) (row : Row) → s.batch ≡ batch → LawfulState s → LawfulRow s.held row → LawfulRow s.held (if_not_reading s batch (λ _. row))
-reading_lawful s None row e h r = r
-reading_lawful s (Some b) row e h r =
-    let fits = batch_of s b e h in
-    (record { place = h.place; batch = (fits.0, record { on_board = fits.1.on_board; distinct = fits.1.distinct }) }, refl)
-
 pub row-lawful : (s : State) (c : Command) → LawfulState s → LawfulRow s.held (row_of s c)
-unfolding row_of
-row-lawful s (Start n) h = start_lawful_row s n n h
-row-lawful s (RectStart width height) h = start_lawful_row s width height h
-row-lawful s Restart h = restart_lawful s s.place h h.place
-row-lawful s About h = (h, refl)
-row-lawful s End h = (h, refl)
-row-lawful s (Rule wish) h = (record { place = h.place; batch = h.batch }, refl)
-row-lawful s Info h = (h, refl)
-row-lawful s Blank h = (h, refl)
-row-lawful s Board h = board_lawful s s.place refl h h.place
-row-lawful s (Stone x y field) h = stone_lawful s s.batch (point_at x y) field refl h
-row-lawful s Done h = done_lawful s s.batch refl h
-row-lawful s Malformed h = reading_lawful s s.batch (fails BadArguments s) refl h (fails_row BadArguments s h)
-row-lawful s Unknown h = reading_lawful s s.batch (Reacts (Says SaysUnknown) s) refl h (h, refl)
-row-lawful s Begin h = reading_lawful s s.batch (begin_row s s.place) refl h (begin_lawful s s.place h h.place)
-row-lawful s (Turn x y) h = reading_lawful s s.batch (turn_row s s.place (point_at x y)) refl h (turn_lawful s s.place (point_at x y) h h.place)
-row-lawful s (Takeback x y) h = reading_lawful s s.batch (takeback_row s s.place (point_at x y)) refl h (takeback_lawful s s.place (point_at x y) h h.place)
+row-lawful s c h = row-cases (LawfulRow s.held) s c (record {
+  ends = λ is. (h, refl);
+  silent = (h, refl);
+  says = λ a. (h, refl);
+  wishes = λ wish. (record { place = h.place; batch = h.batch }, refl);
+  sized = λ width height wide high. (placed_lawful s (Fresh width height) (IsBoard-empty width height wide high), refl);
+  again = λ width height some size. (placed_lawful s (Fresh width height) (subst IsBoard size (sized_board s.place some h.place)), refl);
+  reads = λ some. (record { place = h.place; batch = (sized_board s.place some h.place, none_fit (board_in s.place)) }, refl);
+  stone = λ b p field read.
+      let fits = batch_of s b read h in
+      (record { place = h.place; batch = (fits.0, stone_fits (board_in s.place) (is_on (board_in s.place) p) b p field (λ on. on) fits.1) }, refl);
+  spoils = λ b read. let fits = batch_of s b read h in (record { place = h.place; batch = (fits.0, spoiled_fits (board_in s.place) b fits.1) }, refl);
+  is_bad = λ a. (record { place = h.place; batch = tt }, refl);
+  whole = λ rule b g by_wish read is. subst (λ (o : Option Game). IfSome o IsToMove) is (batch_game rule s.place b (batch_of s b read h));
+  first = λ rule width height by_wish at.
+      record { along = empty-lawful rule width height (subst LawfulPlace at h.place); turn = empty-mover width height };
+  second = λ rule width height p by_wish at.
+      move_lawful s (new_game rule (empty_board width height) White) p h (empty-lawful rule width height (subst LawfulPlace at h.place)) (ap other (empty-mover width height));
+  later = λ rule g p by_wish at going others.
+      move_lawful s g p h (not_ended g.ended g.rule g.start g.moves going (subst LawfulPlace at h.place)) (not_same (mover (board_of g)) g.brain others);
+  back = λ g p before at are.
+      let went = subst LawfulPlace at h.place in
+      let before_it = went_before g.ended g.rule g.start p before (subst (WentOn g.ended g.rule g.start) are went) in
+      (placed_lawful s (place_before g before) (place_before_lawful g before before_it), refl);
+})
 
 -- ---- sessions
 

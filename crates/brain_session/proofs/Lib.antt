@@ -21,6 +21,8 @@ pub mod Courses
 -- the place of a round, and the rows of the protocol in it
 pub mod Rounds
 pub mod Rows
+-- each row that a command may have
+mod RowCases
 -- the side to move on the board of a batch
 pub mod BatchGames
 -- steps of the brain by the rows of their commands

@@ -27,6 +27,49 @@ use Rattle.brain_session.specs.Sessions.{then_answers, answers_from, answer_text
 use Rattle.brain_session.specs.Serving.{TakesCommands, IsWritten, IsAnswered, IsHalfAnswered, Served, HasAnswered, HasNoEnd, IsReadToEnd, StopsAtRead, StopsAtWrite, StopsAtStep, within_limit, IsTooLong}
 use Rattle.brain_session.proofs.SessionLaws.{end_ends, HasNoEnd-none, HasNoEnd-push, answers-append, state-append, answers-one, state-one, answers-end, state-end, state-none, answers-none}
 
+-- what a session has read: the bytes that the source had left as it began, its reader of lines now, and what the source has left
+pub record Reading : Type 0 where
+  pub left_before : Option (List ℕ)
+  pub reader : ReaderState
+  pub left : Option (List ℕ)
+
+-- the reader as a session begins
+abbrev new_reader : ReaderState
+new_reader = record { text = []; kept = []; taken = 0; ended = false }
+
+-- the same session once it has read on, and once the brain stepped and its answer was written
+abbrev pub read_on : Reading → ReaderState → Option (List ℕ) → Reading
+read_on r reader left = record r { reader = reader; left = left }
+
+abbrev pub served_on : Served → State → Option (List ℕ) → Served
+served_on v next written = record v { after = next; written_after = written }
+
+-- the commands of some lines
+abbrev pub asked : List LineText → List Command
+asked told = map command_told told
+
+-- these lines were told
+pub record HasTold (r : Reading) (told : List LineText) : Type 0 where
+  pub takes : TakesLines new_reader r.left_before told r.reader r.left
+  pub few : r.reader.taken ≤ MAX_SESSION_BYTES
+  pub knows : KnowsEnd r.reader r.left
+
+-- a session read these lines, none of which is END, and answered them
+pub record SoFar (r : Reading) (v : Served) : Type 0 where
+  pub told : List LineText
+  pub read : HasTold r told
+  pub no_end : HasNoEnd (asked told)
+  pub answered : HasAnswered v (asked told)
+
+-- and it has read one line more, which asks for this command
+pub record Asked (r : Reading) (v : Served) (c : Command) : Type 0 where
+  pub told : List LineText
+  pub line : LineText
+  pub is : command_told line ≡ c
+  pub read : HasTold r (told ++ (line ∷ []))
+  pub no_end : HasNoEnd (asked told)
+  pub answered : HasAnswered v (asked told)
+
 -- a source gave nothing, or a sink took nothing
 Gives-none : (left : Option (List ℕ)) → Gives left [] left
 Gives-none None = refl
@@ -36,121 +79,90 @@ Takes-none : (written : Option (List ℕ)) → Takes written [] written
 Takes-none None = refl
 Takes-none (Some bytes) = ap (λ xs. Some xs) (sym (append-nil bytes))
 
--- a reader has told these lines of the bytes that it took: it keeps the others, or the input has ended
-abbrev pub Told : List ℕ → List LineText → ReaderState → Option (List ℕ) → Type 0
-Told given told reader left = Tells given told reader.kept ⊎ (reader.ended ≡ true) × TellsLast given told reader.kept left
-
--- the commands of some lines
-abbrev pub asked : List LineText → List Command
-asked told = map command_told told
-
--- a session read these lines, none of which is END, and answered them
-pub record SoFar (before : State) (left written : Option (List ℕ)) (now : State) (reader : ReaderState) (left_now written_now : Option (List ℕ)) : Type 0 where
-  pub given : List ℕ
-  pub told : List LineText
-  pub gives : Gives left given left_now
-  pub counted : reader.taken ≡ length given
-  pub few : reader.taken ≤ MAX_SESSION_BYTES
-  pub tells : Told given told reader left_now
-  pub knows : KnowsEnd reader left_now
-  pub no_end : HasNoEnd (asked told)
-  pub state : now ≡ state_after before (asked told)
-  pub wrote : Takes written (answer_texts (answers_from before (asked told))) written_now
-
--- and it has read one line more, which asks for this command
-pub record Asked (before : State) (left written : Option (List ℕ)) (now : State) (c : Command) (reader : ReaderState) (left_now written_now : Option (List ℕ)) : Type 0 where
-  pub given : List ℕ
-  pub told : List LineText
-  pub line : LineText
-  pub is : command_told line ≡ c
-  pub gives : Gives left given left_now
-  pub counted : reader.taken ≡ length given
-  pub few : reader.taken ≤ MAX_SESSION_BYTES
-  pub tells : Told given (told ++ (line ∷ [])) reader left_now
-  pub knows : KnowsEnd reader left_now
-  pub no_end : HasNoEnd (asked told)
-  pub state : now ≡ state_after before (asked told)
-  pub wrote : Takes written (answer_texts (answers_from before (asked told))) written_now
-
 -- nothing was read yet
-pub SoFar-begun : (before : State) (left written : Option (List ℕ)) (reader : ReaderState) →
-    reader ≡ (record { text = []; kept = []; taken = 0; ended = false }) → SoFar before left written before reader left written
-SoFar-begun before left written reader fresh =
-    let kept = ap (λ (r : ReaderState). r.kept) fresh in
-    let taken = ap (λ (r : ReaderState). r.taken) fresh in
-    let not_ended = ap (λ (r : ReaderState). r.ended) fresh in
-    record {
-      given = [];
-      told = [];
-      gives = Gives-none left;
-      counted = taken;
-      few = omega (arith, taken);
-      tells = inl (record { whatever = λ more. ap (λ bytes. lines (bytes ++ more)) (sym kept) });
-      knows = λ is_ended. cc;
-      no_end = HasNoEnd-none;
-      state = sym (state-none before);
-      wrote = subst (λ (answers : List Answer). Takes written (answer_texts answers) written) (sym (answers-none before)) (Takes-none written);
-    }
+pub SoFar-begun : (s : State) (left written : Option (List ℕ)) (reader : ReaderState) → reader ≡ new_reader →
+    SoFar (record { left_before = left; reader = reader; left = left }) (record { before = s; after = s; written_before = written; written_after = written })
+SoFar-begun s left written reader fresh = subst (λ (x : ReaderState). SoFar (record { left_before = left; reader = x; left = left }) v) (sym fresh) (record {
+  told = [];
+  read = record {
+    takes = record { given = []; gives = Gives-none left; counted = omega arith; tells = inl (record { whatever = λ more. refl }) };
+    few = omega arith;
+    knows = λ is_ended. cc;
+  };
+  no_end = HasNoEnd-none;
+  answered = record {
+    state = sym (state-none s);
+    wrote = subst (λ (answers : List Answer). Takes written (answer_texts answers) written) (sym (answers-none s)) (Takes-none written);
+  };
+}) where
+  v : Served
+  v = record { before = s; after = s; written_before = written; written_after = written }
 
--- the lines of one command
-record OneLine (c : Command) (told : List LineText) : Type 0 where
-  line : LineText
-  only : told ≡ line ∷ []
-  is : command_told line ≡ c
+-- ---- what was read
 
-one_line : (c : Command) (told : List LineText) → c ∷ [] ≡ map command_told told → OneLine c told
+-- the lines of one command, and of none
+one_line : (c : Command) (told : List LineText) → c ∷ [] ≡ asked told → (line : LineText) × (told ≡ line ∷ []) × (command_told line ≡ c)
 one_line c [] are = cc
-one_line c (line ∷ []) are = record { line = line; only = refl; is = cc }
+one_line c (line ∷ []) are = (line, refl, cc)
 one_line c (line ∷ (more ∷ told)) are = cc
 
--- a line told in this call, behind those told before
-told_more : (given more : List ℕ) (told later : List LineText) (kept : List ℕ) (reader : ReaderState) (left : Option (List ℕ)) →
-    Tells given told kept → Told (kept ++ more) later reader left → Told (given ++ more) (told ++ later) reader left
-told_more given more told later kept reader left before (inl tells) =
-    inl (told_adds_up given kept more reader.kept told later before tells)
-told_more given more told later kept reader left before (inr last) = inr (
-  last.0,
-  record {
-    all = told_to_the_end given kept more reader.kept told later left before last.1;
-    none_kept = last.1.none_kept;
-    ended = last.1.ended;
-  },
-)
+no_line : (told : List LineText) → [] ≡ asked told → told ≡ []
+no_line [] are = refl
+no_line (line ∷ told) are = cc
 
--- one more line is read
-pub Asked-next : (before : State) (left written : Option (List ℕ)) (now : State) (reader : ReaderState) (left_now written_now : Option (List ℕ))
-    (c : Command) (next : ReaderState) (left_next : Option (List ℕ)) → SoFar before left written now reader left_now written_now →
-    (reader.ended ≡ true → ⊥) → TakesCommands reader left_now (c ∷ []) next left_next → next.taken ≤ MAX_SESSION_BYTES →
-    (KnowsEnd reader left_now → KnowsEnd next left_next) → Asked before left written now c next left_next written_now
-Asked-next before left written now reader left_now written_now c next left_next so_far reading took few knows =
-    let one = one_line c took.lines took.are in
-    let takes = took.takes in
-    let here : Told (reader.kept ++ takes.given) (one.line ∷ []) next left_next =
-    subst (λ (told : List LineText). Told (reader.kept ++ takes.given) told next left_next) one.only takes.tells in
-    let tells : Tells so_far.given so_far.told reader.kept = elim so_far.tells [ inl tells ↦ tells | inr last ↦ absurd (reading last.0) ] in
+-- a reader that was not told the end keeps what it has not told
+open_tells : (r : Reading) (told : List LineText) (read : HasTold r told) → (r.reader.ended ≡ true → ⊥) → Tells read.takes.given told r.reader.kept
+open_tells r told read reading = elim read.takes.tells [ inl tells ↦ tells | inr last ↦ absurd (reading last.0) ]
+
+-- such a reader
+module _ (r : Reading) (told : List LineText) (read : HasTold r told) (tells : Tells read.takes.given told r.reader.kept) where
+  abbrev front : List ℕ
+  front = read.takes.given
+
+  -- tells more
+  told_then : (later : List LineText) (next : ReaderState) (left : Option (List ℕ)) → TakesLines r.reader r.left later next left → TakesLines new_reader r.left_before (told ++ later) next left
+  told_then later next left takes = record {
+    given = front ++ takes.given;
+    gives = Gives-then r.left_before r.left left front takes.given read.takes.gives takes.gives;
+    counted = omega (arith, read.takes.counted, takes.counted, length-append front takes.given);
+    tells = elim takes.tells [
+      | inl more ↦ inl (told_adds_up front r.reader.kept takes.given next.kept told later tells more)
+      | inr last ↦ inr (last.0, record {
+        all = told_to_the_end front r.reader.kept takes.given next.kept told later left tells last.1;
+        none_kept = last.1.none_kept;
+        ended = last.1.ended;
+      })
+    ];
+  }
+
+  -- or no line ends within what comes
+  open_after : (more : List ℕ) → HasNoLineFeed (r.reader.kept ++ more) → told ≡ lines (whole_lines (front ++ more))
+  open_after more none = told_are_whole (front ++ more) (r.reader.kept ++ more) told (record {
+    whatever = λ later. ap lines (append_assoc front more later) ∙ tells.whatever (more ++ later)
+        ∙ ap (λ bytes. told ++ lines bytes) (sym (append_assoc r.reader.kept more later));
+  }) none
+
+-- one more line is read, where a call tells what may be a command
+pub Asked-told : (r : Reading) (v : Served) (told : Option Command) (c : Command) (next : ReaderState) (left : Option (List ℕ)) → SoFar r v →
+    told ≡ Some c → (r.reader.ended ≡ true → told ≡ None) → TakesCommands r.reader r.left (option_to_list told) next left →
+    next.taken ≤ MAX_SESSION_BYTES → (KnowsEnd r.reader r.left → KnowsEnd next left) → Asked (read_on r next left) v c
+Asked-told r v told c next left so_far is asks took few knows =
+    let one = one_line c took.lines (ap option_to_list (sym is) ∙ took.are) in
     record {
-      given = so_far.given ++ takes.given;
       told = so_far.told;
-      line = one.line;
-      is = one.is;
-      gives = Gives-then left left_now left_next so_far.given takes.given so_far.gives takes.gives;
-      counted = omega (arith, so_far.counted, takes.counted, length-append so_far.given takes.given);
-      few = few;
-      tells = told_more so_far.given takes.given so_far.told (one.line ∷ []) reader.kept next left_next tells here;
-      knows = knows so_far.knows;
+      line = one.0;
+      is = one.2;
+      read = record {
+        takes = told_then r so_far.told so_far.read (open_tells r so_far.told so_far.read (λ e. let none = asks e in cc)) (one.0 ∷ []) next left
+            (subst (λ (ls : List LineText). TakesLines r.reader r.left ls next left) one.1 took.takes);
+        few = few;
+        knows = knows so_far.read.knows;
+      };
       no_end = so_far.no_end;
-      state = so_far.state;
-      wrote = so_far.wrote;
+      answered = so_far.answered;
     }
 
--- and so where a call tells what may be a command
-pub Asked-told : (before : State) (left written : Option (List ℕ)) (now : State) (reader : ReaderState) (left_now written_now : Option (List ℕ))
-    (told : Option Command) (c : Command) (next : ReaderState) (left_next : Option (List ℕ)) → SoFar before left written now reader left_now written_now →
-    told ≡ Some c → (reader.ended ≡ true → told ≡ None) → TakesCommands reader left_now (option_to_list told) next left_next →
-    next.taken ≤ MAX_SESSION_BYTES → (KnowsEnd reader left_now → KnowsEnd next left_next) → Asked before left written now c next left_next written_now
-Asked-told before left written now reader left_now written_now told c next left_next so_far is asks took few knows =
-    Asked-next before left written now reader left_now written_now c next left_next so_far (λ e. let none = asks e in cc)
-    (subst (λ (o : Option Command). TakesCommands reader left_now (option_to_list o) next left_next) is took) few knows
+-- ---- what was answered
 
 -- the answer of a reaction was written
 wrote_one : (r : Reaction) (goes_on : Bool) (written written_after : Option (List ℕ)) → IsWritten r goes_on written written_after →
@@ -164,48 +176,47 @@ goes_on_from Silent written written_after is = λ e. cc
 goes_on_from (Says a) written written_after is = λ e. cc
 goes_on_from Ends written written_after is = let no = is.0 in λ e. cc
 
--- the text of some answers and of others
-texts-append : (xs ys : List Answer) → answer_texts (xs ++ ys) ≡ answer_texts xs ++ answer_texts ys
-texts-append xs ys = flat_map-append answer_text xs ys
+-- END says nothing
+wrote_end : (r : Reaction) (written written_after : Option (List ℕ)) → r ≡ Ends → IsWritten r false written written_after → written_after ≡ written
+wrote_end Silent written written_after e is = is.1
+wrote_end (Says a) written written_after e is = cc
+wrote_end Ends written written_after e is = is.1
 
--- what was said at some commands and then at others was written
-wrote_more : (before : State) (cs ds : List Command) (old mid new : Option (List ℕ)) → HasNoEnd cs →
-    Takes old (answer_texts (answers_from before cs)) mid → Takes mid (answer_texts (answers_from (state_after before cs) ds)) new →
-    Takes old (answer_texts (answers_from before (cs ++ ds))) new
-wrote_more before cs ds old mid new no_end first second =
-    subst (λ (text : List ℕ). Takes old text new)
-    (sym (ap answer_texts (answers-append before cs ds no_end) ∙ texts-append (answers_from before cs) (answers_from (state_after before cs) ds)))
-    (Takes-then old mid new (answer_texts (answers_from before cs)) (answer_texts (answers_from (state_after before cs) ds)) first second)
+-- where these commands, none of which is END, were answered
+module _ (v : Served) (cs : List Command) (no_end : HasNoEnd cs) (answered : HasAnswered v cs) (next : State) where
+  -- and the brain went on from there
+  state_then : (ds : List Command) → next ≡ state_after v.after ds → next ≡ state_after v.before (cs ++ ds)
+  state_then ds state = state ∙ ap (λ s. state_after s ds) answered.state ∙ sym (state-append v.before cs ds no_end)
+
+  -- and others were answered from there
+  answered_then : (ds : List Command) (written : Option (List ℕ)) → next ≡ state_after v.after ds → Takes v.written_after (answer_texts (answers_from v.after ds)) written → HasAnswered (served_on v next written) (cs ++ ds)
+  answered_then ds written state wrote = record {
+    state = state_then ds state;
+    wrote = subst (λ (text : List ℕ). Takes v.written_before text written)
+        (sym (ap answer_texts (answers-append v.before cs ds no_end ∙ ap (λ s. answers_from v.before cs ++ answers_from s ds) (sym answered.state))
+        ∙ flat_map-append answer_text (answers_from v.before cs) (answers_from v.after ds)))
+        (Takes-then v.written_before v.written_after written (answer_texts (answers_from v.before cs)) (answer_texts (answers_from v.after ds)) answered.wrote wrote);
+  }
 
 -- the command is answered, and the session goes on
-pub SoFar-answered : (before : State) (left written : Option (List ℕ)) (now : State) (c : Command) (reader : ReaderState) (left_now written_now : Option (List ℕ))
-    (next : State) (written_next : Option (List ℕ)) → Asked before left written now c reader left_now written_now →
-    IsAnswered now c true next written_now written_next → SoFar before left written next reader left_now written_next
-SoFar-answered before left written now c reader left_now written_now next written_next so_far answered =
-    let cs = asked so_far.told in
-    let all : asked (so_far.told ++ (so_far.line ∷ [])) ≡ cs ++ (c ∷ []) =
-    map-append command_told so_far.told (so_far.line ∷ []) ∙ ap (λ d. cs ++ (d ∷ [])) so_far.is in
-    let goes_on : c ≢ End = λ is. goes_on_from (brain_step now c).reaction written_now written_next answered.wrote
-    (ap (λ d. (brain_step now d).reaction) is ∙ end_ends now) in
-    let state : next ≡ state_after before (cs ++ (c ∷ [])) =
-    answered.state ∙ sym (state-one now c) ∙ ap (λ s. state_after s (c ∷ [])) so_far.state ∙ sym (state-append before cs (c ∷ []) so_far.no_end) in
-    let said : answer_texts (then_answers (brain_step now c).reaction []) ≡ answer_texts (answers_from (state_after before cs) (c ∷ [])) =
-    ap answer_texts (sym (answers-one now c) ∙ ap (λ s. answers_from s (c ∷ [])) so_far.state) in
-    let second = subst (λ (text : List ℕ). Takes written_now text written_next) said
-    (wrote_one (brain_step now c).reaction true written_now written_next answered.wrote) in
-    let wrote = wrote_more before cs (c ∷ []) written written_now written_next so_far.no_end so_far.wrote second in
+pub SoFar-answered : (r : Reading) (v : Served) (c : Command) (next : State) (written : Option (List ℕ)) → Asked r v c →
+    IsAnswered v.after c true next v.written_after written → SoFar r (served_on v next written)
+SoFar-answered r v c next written so_far answered =
+    let all : asked (so_far.told ++ (so_far.line ∷ [])) ≡ asked so_far.told ++ (c ∷ []) =
+    map-append command_told so_far.told (so_far.line ∷ []) ∙ ap (λ d. asked so_far.told ++ (d ∷ [])) so_far.is in
+    let goes_on : c ≢ End = λ is. goes_on_from (brain_step v.after c).reaction v.written_after written answered.wrote
+    (ap (λ d. (brain_step v.after d).reaction) is ∙ end_ends v.after) in
     record {
-      given = so_far.given;
       told = so_far.told ++ (so_far.line ∷ []);
-      gives = so_far.gives;
-      counted = so_far.counted;
-      few = so_far.few;
-      tells = so_far.tells;
-      knows = so_far.knows;
-      no_end = subst HasNoEnd (sym all) (HasNoEnd-push cs c so_far.no_end goes_on);
-      state = subst (λ (ds : List Command). next ≡ state_after before ds) (sym all) state;
-      wrote = subst (λ (ds : List Command). Takes written (answer_texts (answers_from before ds)) written_next) (sym all) wrote;
+      read = so_far.read;
+      no_end = subst HasNoEnd (sym all) (HasNoEnd-push (asked so_far.told) c so_far.no_end goes_on);
+      answered = subst (HasAnswered (served_on v next written)) (sym all)
+          (answered_then v (asked so_far.told) so_far.no_end so_far.answered next (c ∷ []) written (answered.state ∙ sym (state-one v.after c))
+          (subst (λ (answers : List Answer). Takes v.written_after (answer_texts answers) written) (sym (answers-one v.after c))
+          (wrote_one (brain_step v.after c).reaction true v.written_after written answered.wrote)));
     }
+
+-- ---- the whole input
 
 -- what the source has given, where it tells its bytes
 bytes_of : (left left_now : Option (List ℕ)) (given : List ℕ) (P : List ℕ → Type 0) → Gives left given left_now →
@@ -214,44 +225,25 @@ bytes_of left None given P gives holds = subst (λ (l : Option (List ℕ)). IfSo
 bytes_of left (Some more) given P gives holds = subst (λ (l : Option (List ℕ)). IfSome l P) (sym gives) (holds more refl)
 
 -- the lines of an input begin with those told
-record Begins (bytes : List ℕ) (told : List LineText) : Type 0 where
-  later : List LineText
-  is : lines bytes ≡ told ++ later
+begins : (given more : List ℕ) (told : List LineText) (kept : List ℕ) (ended : Bool) → Tells given told kept ⊎ (ended ≡ true) × TellsLast given told kept (Some more) →
+    (later : List LineText) × (lines (given ++ more) ≡ told ++ later)
+begins given more told kept ended (inl tells) = (lines (kept ++ more), tells.whatever more)
+begins given more told kept ended (inr last) =
+    ([], ap (λ m. lines (given ++ m)) last.1.ended ∙ ap lines (append-nil given) ∙ last.1.all ∙ sym (append-nil told))
 
-begins : (given more : List ℕ) (told : List LineText) (reader : ReaderState) → Told given told reader (Some more) → Begins (given ++ more) told
-begins given more told reader (inl tells) = record { later = lines (reader.kept ++ more); is = tells.whatever more }
-begins given more told reader (inr last) = record {
-  later = [];
-  is = ap (λ m. lines (given ++ m)) last.1.ended ∙ ap lines (append-nil given) ∙ last.1.all ∙ sym (append-nil told);
-}
-
--- the commands of an input: those stepped, this one, and others
-pub record Among (cs : List Command) (c : Command) (bytes : List ℕ) : Type 0 where
-  pub later : List Command
-  pub is : commands bytes ≡ cs ++ (c ∷ later)
-
-among_lines : (told : List LineText) (line : LineText) (c : Command) (bytes : List ℕ) → command_told line ≡ c →
-    Begins bytes (told ++ (line ∷ [])) → Among (asked told) c bytes
-among_lines told line c bytes is from = record {
-  later = asked from.later;
-  is = ap asked (from.is ∙ append_assoc told (line ∷ []) from.later)
-      ∙ map-append command_told told (line ∷ from.later) ∙ ap (λ d. asked told ++ (d ∷ asked from.later)) is;
-}
-
-among : (before : State) (left written : Option (List ℕ)) (now : State) (c : Command) (reader : ReaderState) (left_now written_now : Option (List ℕ)) →
-    (so_far : Asked before left written now c reader left_now written_now) → (P : List Command → Type 0) →
-    ((later : List Command) → P (asked so_far.told ++ (c ∷ later))) → IfSome left (λ bytes. P (commands bytes))
-among before left written now c reader left_now written_now so_far P holds =
-    bytes_of left left_now so_far.given (λ bytes. P (commands bytes)) so_far.gives (λ more is.
-    let tells = subst (λ (l : Option (List ℕ)). Told so_far.given (so_far.told ++ (so_far.line ∷ [])) reader l) is so_far.tells in
-    let here = among_lines so_far.told so_far.line c (so_far.given ++ more) so_far.is (begins so_far.given more (so_far.told ++ (so_far.line ∷ [])) reader tells) in
-    subst P (sym here.is) (holds here.later))
-
--- END says nothing
-wrote_end : (r : Reaction) (written written_after : Option (List ℕ)) → r ≡ Ends → IsWritten r false written written_after → written_after ≡ written
-wrote_end Silent written written_after e is = is.1
-wrote_end (Says a) written written_after e is = cc
-wrote_end Ends written written_after e is = is.1
+-- what holds of the commands of the input, whichever come after the one that is asked
+among : (r : Reading) (v : Served) (c : Command) (so_far : Asked r v c) → (P : List Command → Type 0) →
+    ((later : List Command) → P (asked so_far.told ++ (c ∷ later))) → IfSome r.left_before (λ bytes. P (commands bytes))
+among r v c so_far P holds =
+    let takes = so_far.read.takes in
+    let told = so_far.told ++ (so_far.line ∷ []) in
+    bytes_of r.left_before r.left takes.given (λ bytes. P (commands bytes)) takes.gives (λ more is.
+    let from = begins takes.given more told r.reader.kept r.reader.ended
+    (subst (λ (l : Option (List ℕ)). Tells takes.given told r.reader.kept ⊎ (r.reader.ended ≡ true) × TellsLast takes.given told r.reader.kept l) is takes.tells) in
+    let all : commands (takes.given ++ more) ≡ asked so_far.told ++ (c ∷ asked from.0) =
+    ap asked (from.1 ∙ append_assoc so_far.told (so_far.line ∷ []) from.0)
+    ∙ map-append command_told so_far.told (so_far.line ∷ from.0) ∙ ap (λ d. asked so_far.told ++ (d ∷ asked from.0)) so_far.is in
+    subst P (sym all) (holds (asked from.0)))
 
 -- a line told of some bytes is among their whole lines
 end_among : (given : List ℕ) (told : List LineText) (line : LineText) (kept : List ℕ) → command_told line ≡ End →
@@ -264,79 +256,69 @@ end_among given told line kept is tells =
     subst (λ (cs : List Command). Contains cs End) (sym all)
     (Contains-append_left (asked told ++ (End ∷ [])) (asked (lines (whole_lines kept))) End (Contains-push (asked told) End))
 
--- the session ends with this command, which is END
-pub HasAnswered-end : (before : State) (left written : Option (List ℕ)) (now : State) (c : Command) (reader : ReaderState) (left_now written_now : Option (List ℕ))
-    (next : State) (written_next : Option (List ℕ)) → Asked before left written now c reader left_now written_now →
-    IsAnswered now c false next written_now written_next → c ≡ End →
-    IfSome left (λ bytes. HasAnswered (record { before = before; after = next; written_before = written; written_after = written_next }) (commands bytes))
-HasAnswered-end before left written now c reader left_now written_now next written_next so_far answered is =
-    let cs = asked so_far.told in
-    let v : Served = record { before = before; after = next; written_before = written; written_after = written_next } in
-    among before left written now c reader left_now written_now so_far (HasAnswered v) (λ later.
-    let state : next ≡ state_after before (cs ++ (End ∷ later)) =
-    answered.state ∙ ap (λ d. (brain_step now d).next) is ∙ sym (state-end now later)
-    ∙ ap (λ s. state_after s (End ∷ later)) so_far.state ∙ sym (state-append before cs (End ∷ later) so_far.no_end) in
-    let silent : written_next ≡ written_now = wrote_end (brain_step now c).reaction written_now written_next (ap (λ d. (brain_step now d).reaction) is ∙ end_ends now) answered.wrote in
-    let none : [] ≡ answer_texts (answers_from (state_after before cs) (End ∷ later)) = ap answer_texts (sym (answers-end (state_after before cs) later)) in
-    let second : Takes written_now (answer_texts (answers_from (state_after before cs) (End ∷ later))) written_next =
-    subst (λ (text : List ℕ). Takes written_now text written_next) none (subst (Takes written_now []) (sym silent) (Takes-none written_now)) in
-    let wrote = wrote_more before cs (End ∷ later) written written_now written_next so_far.no_end so_far.wrote second in
-    subst (λ (d : Command). HasAnswered v (cs ++ (d ∷ later))) (sym is) (record { state = state; wrote = wrote }))
+-- ---- how a session ends at a command
+
+-- it is END
+pub HasAnswered-end : (r : Reading) (v : Served) (c : Command) (next : State) (written : Option (List ℕ)) → Asked r v c →
+    IsAnswered v.after c false next v.written_after written → c ≡ End → IfSome r.left_before (λ bytes. HasAnswered (served_on v next written) (commands bytes))
+HasAnswered-end r v c next written so_far answered is =
+    let silent : written ≡ v.written_after =
+    wrote_end (brain_step v.after c).reaction v.written_after written (ap (λ d. (brain_step v.after d).reaction) is ∙ end_ends v.after) answered.wrote in
+    among r v c so_far (HasAnswered (served_on v next written)) (λ later.
+    subst (λ (d : Command). HasAnswered (served_on v next written) (asked so_far.told ++ (d ∷ later))) (sym is)
+    (answered_then v (asked so_far.told) so_far.no_end so_far.answered next (End ∷ later) written
+    (answered.state ∙ ap (λ d. (brain_step v.after d).next) is ∙ sym (state-end v.after later))
+    (subst (λ (answers : List Answer). Takes v.written_after (answer_texts answers) written) (sym (answers-end v.after later))
+    (subst (Takes v.written_after []) (sym silent) (Takes-none v.written_after)))))
 
 -- and the source has given END
-pub IsReadToEnd-end : (before : State) (left written : Option (List ℕ)) (now : State) (c : Command) (reader : ReaderState) (left_now written_now : Option (List ℕ)) →
-    Asked before left written now c reader left_now written_now → c ≡ End → IsReadToEnd left left_now
-IsReadToEnd-end before left written now c reader left_now written_now so_far is =
-    let told = so_far.told ++ (so_far.line ∷ []) in
+pub IsReadToEnd-end : (r : Reading) (v : Served) (c : Command) → Asked r v c → c ≡ End → IsReadToEnd r.left_before r.left
+IsReadToEnd-end r v c so_far is =
+    let takes = so_far.read.takes in
     record {
-      given = so_far.given;
-      gives = so_far.gives;
-      few = omega (arith, so_far.few, so_far.counted);
-      ends = elim so_far.tells [
-        | inl tells ↦ inl (end_among so_far.given so_far.told so_far.line reader.kept (so_far.is ∙ is) tells)
+      given = takes.given;
+      gives = takes.gives;
+      few = omega (arith, so_far.read.few, takes.counted);
+      ends = elim takes.tells [
+        | inl tells ↦ inl (end_among takes.given so_far.told so_far.line r.reader.kept (so_far.is ∙ is) tells)
         | inr last ↦ inr last.1.ended
       ];
     }
 
 -- a write failed
-pub StopsAtWrite-asked : (before : State) (left written : Option (List ℕ)) (now : State) (c : Command) (reader : ReaderState) (left_now written_now : Option (List ℕ))
-    (next : State) (written_next : Option (List ℕ)) → Asked before left written now c reader left_now written_now →
-    IsHalfAnswered now c next written_now written_next →
-    IfSome left (λ bytes. StopsAtWrite (record { before = before; after = next; written_before = written; written_after = written_next }) (commands bytes))
-StopsAtWrite-asked before left written now c reader left_now written_now next written_next so_far half =
-    let cs = asked so_far.told in
-    let v : Served = record { before = before; after = next; written_before = written; written_after = written_next } in
-    among before left written now c reader left_now written_now so_far (StopsAtWrite v) (λ later. record {
-      earlier = cs;
-      command = c;
-      later = later;
-      among = refl;
-      no_end = so_far.no_end;
-      answer = half.answer;
-      says = ap (λ s. (brain_step s c).reaction) (sym so_far.state) ∙ half.says;
-      state = half.state ∙ sym (state-one now c) ∙ ap (λ s. state_after s (c ∷ [])) so_far.state ∙ sym (state-append before cs (c ∷ []) so_far.no_end);
-      written = written_now;
-      wrote = so_far.wrote;
-      part = half.part;
-    })
+pub StopsAtWrite-asked : (r : Reading) (v : Served) (c : Command) (next : State) (written : Option (List ℕ)) → Asked r v c →
+    IsHalfAnswered v.after c next v.written_after written → IfSome r.left_before (λ bytes. StopsAtWrite (served_on v next written) (commands bytes))
+StopsAtWrite-asked r v c next written so_far half = among r v c so_far (StopsAtWrite (served_on v next written)) (λ later. record {
+  earlier = asked so_far.told;
+  command = c;
+  later = later;
+  among = refl;
+  no_end = so_far.no_end;
+  answer = half.answer;
+  says = ap (λ s. (brain_step s c).reaction) (sym so_far.answered.state) ∙ half.says;
+  state = state_then v (asked so_far.told) so_far.no_end so_far.answered next (c ∷ []) (half.state ∙ sym (state-one v.after c));
+  written = v.written_after;
+  wrote = so_far.answered.wrote;
+  part = half.part;
+})
 
 -- memory ran out
-pub StopsAtStep-asked : (before : State) (left written : Option (List ℕ)) (now : State) (c : Command) (reader : ReaderState) (left_now written_now : Option (List ℕ))
-    (next : State) (written_next : Option (List ℕ)) → Asked before left written now c reader left_now written_now →
-    takes_none now c ≡ false → next ≡ now → written_next ≡ written_now →
-    IfSome left (λ bytes. StopsAtStep (record { before = before; after = next; written_before = written; written_after = written_next }) (commands bytes))
-StopsAtStep-asked before left written now c reader left_now written_now next written_next so_far needs same unwritten =
-    let cs = asked so_far.told in
-    let v : Served = record { before = before; after = next; written_before = written; written_after = written_next } in
-    among before left written now c reader left_now written_now so_far (StopsAtStep v) (λ later. record {
-      earlier = cs;
-      command = c;
-      later = later;
-      among = refl;
-      no_end = so_far.no_end;
-      answered = record { state = same ∙ so_far.state; wrote = subst (Takes written (answer_texts (answers_from before cs))) (sym unwritten) so_far.wrote };
-      needs_memory = ap (λ s. takes_none s c) (sym so_far.state) ∙ needs;
-    })
+pub StopsAtStep-asked : (r : Reading) (v : Served) (c : Command) (next : State) (written : Option (List ℕ)) → Asked r v c →
+    takes_none v.after c ≡ false → next ≡ v.after → written ≡ v.written_after → IfSome r.left_before (λ bytes. StopsAtStep (served_on v next written) (commands bytes))
+StopsAtStep-asked r v c next written so_far needs same unwritten = among r v c so_far (StopsAtStep (served_on v next written)) (λ later. record {
+  earlier = asked so_far.told;
+  command = c;
+  later = later;
+  among = refl;
+  no_end = so_far.no_end;
+  answered = record {
+    state = same ∙ so_far.answered.state;
+    wrote = subst (Takes v.written_before (answer_texts (answers_from v.before (asked so_far.told)))) (sym unwritten) so_far.answered.wrote;
+  };
+  needs_memory = ap (λ s. takes_none s c) (sym so_far.answered.state) ∙ needs;
+})
+
+-- ---- how a session ends where no command is told
 
 -- the whole input was told
 record AllTold (left left_after : Option (List ℕ)) (told : List LineText) : Type 0 where
@@ -344,134 +326,106 @@ record AllTold (left left_after : Option (List ℕ)) (told : List LineText) : Ty
   gives : Gives left given left_after
   all : lines given ≡ told
   few : length given ≤ MAX_SESSION_BYTES
-  ended : IsAtEnd left_after
 
 -- where nothing is kept and the end is told, these are all lines
-all_lines : (given : List ℕ) (told : List LineText) (reader : ReaderState) (left : Option (List ℕ)) → reader.kept ≡ [] →
-    Told given (told ++ []) reader left → lines given ≡ told
-all_lines given told reader left none (inl tells) =
-    sym (ap lines (append-nil given)) ∙ tells.whatever [] ∙ ap (λ kept. (told ++ []) ++ lines (kept ++ [])) none
+all_lines : (given : List ℕ) (told : List LineText) (kept : List ℕ) (left : Option (List ℕ)) (ended : Bool) → kept ≡ [] →
+    Tells given (told ++ []) kept ⊎ (ended ≡ true) × TellsLast given (told ++ []) kept left → lines given ≡ told
+all_lines given told kept left ended none (inl tells) =
+    sym (ap lines (append-nil given)) ∙ tells.whatever [] ∙ ap (λ rest. (told ++ []) ++ lines (rest ++ [])) none
     ∙ append-nil (told ++ []) ∙ append-nil told
-all_lines given told reader left none (inr last) = last.1.all ∙ append-nil told
+all_lines given told kept left ended none (inr last) = last.1.all ∙ append-nil told
 
--- no command is of no line
-no_line : (told : List LineText) → [] ≡ map command_told told → told ≡ []
-no_line [] are = refl
-no_line (line ∷ told) are = cc
-
--- a call that told the end, of a reader that had not been told it before
-all_told : (before : State) (left written : Option (List ℕ)) (now : State) (reader : ReaderState) (left_now written_now : Option (List ℕ))
-    (next : ReaderState) (left_next : Option (List ℕ)) → (so_far : SoFar before left written now reader left_now written_now) →
-    TakesLines reader left_now [] next left_next → next.kept ≡ [] → next.taken ≡ reader.taken → IsAtEnd left_next →
-    (reader.ended ≡ true → left_next ≡ left_now) → AllTold left left_next so_far.told
-all_told before left written now reader left_now written_now next left_next so_far takes none same at_end stays =
-    elim so_far.tells [
-      | inr last ↦ record {
-        given = so_far.given;
-        gives = subst (Gives left so_far.given) (sym (stays last.0)) so_far.gives;
-        all = last.1.all;
-        few = omega (arith, so_far.few, so_far.counted);
-        ended = at_end;
+-- a call that told the end, of a reader that was told it before or was not
+all_told : (r : Reading) (told : List LineText) (read : HasTold r told) (next : ReaderState) (left : Option (List ℕ)) →
+    TakesLines r.reader r.left [] next left → next.kept ≡ [] → next.taken ≡ r.reader.taken → (r.reader.ended ≡ true → left ≡ r.left) → AllTold r.left_before left told
+all_told r told read next left takes none same stays = elim read.takes.tells [
+  | inr last ↦ record {
+    given = read.takes.given;
+    gives = subst (Gives r.left_before read.takes.given) (sym (stays last.0)) read.takes.gives;
+    all = last.1.all;
+    few = omega (arith, read.few, read.takes.counted);
+  }
+  | inl tells ↦
+      let all = told_then r told read tells [] next left takes in
+      record {
+        given = all.given;
+        gives = all.gives;
+        all = all_lines all.given told next.kept left next.ended none all.tells;
+        few = omega (arith, read.few, all.counted, same);
       }
-      | inl tells ↦ record {
-        given = so_far.given ++ takes.given;
-        gives = Gives-then left left_now left_next so_far.given takes.given so_far.gives takes.gives;
-        all = all_lines (so_far.given ++ takes.given) so_far.told next left_next none
-            (told_more so_far.given takes.given so_far.told [] reader.kept next left_next tells takes.tells);
-        few = omega (arith, so_far.few, so_far.counted, same, takes.counted, length-append so_far.given takes.given);
-        ended = at_end;
-      }
-    ]
+]
 
 -- the end of the input is told
-pub record EndsAt (before : State) (left written : Option (List ℕ)) (now : State) (left_after written_now : Option (List ℕ)) : Type 0 where
-  pub answered : IfSome left (λ bytes. HasAnswered (record { before = before; after = now; written_before = written; written_after = written_now }) (commands bytes))
-  pub read : IsReadToEnd left left_after
+pub record EndsAt (r : Reading) (v : Served) : Type 0 where
+  pub answered : IfSome r.left_before (λ bytes. HasAnswered v (commands bytes))
+  pub read : IsReadToEnd r.left_before r.left
 
-pub EndsAt-told : (before : State) (left written : Option (List ℕ)) (now : State) (reader : ReaderState) (left_now written_now : Option (List ℕ))
-    (next : ReaderState) (left_next : Option (List ℕ)) → SoFar before left written now reader left_now written_now →
-    TakesCommands reader left_now [] next left_next → next ≡ (record reader { ended = true }) → reader.kept ≡ [] →
-    (KnowsEnd reader left_now → IsAtEnd left_next) → (reader.ended ≡ true → left_next ≡ left_now) → EndsAt before left written now left_next written_now
-EndsAt-told before left written now reader left_now written_now next left_next so_far took is none ends stays =
-    let takes = subst (λ (told : List LineText). TakesLines reader left_now told next left_next) (no_line took.lines took.are) took.takes in
-    let all = all_told before left written now reader left_now written_now next left_next so_far takes
-    (ap (λ (r : ReaderState). r.kept) is ∙ none) (ap (λ (r : ReaderState). r.taken) is) (ends so_far.knows) stays in
-    let v : Served = record { before = before; after = now; written_before = written; written_after = written_now } in
-    let answered : HasAnswered v (asked so_far.told) = record { state = so_far.state; wrote = so_far.wrote } in
+pub EndsAt-told : (r : Reading) (v : Served) (next : ReaderState) (left : Option (List ℕ)) → SoFar r v → TakesCommands r.reader r.left [] next left →
+    next ≡ (record r.reader { ended = true }) → r.reader.kept ≡ [] → (KnowsEnd r.reader r.left → IsAtEnd left) → (r.reader.ended ≡ true → left ≡ r.left) → EndsAt (read_on r next left) v
+EndsAt-told r v next left so_far took is none ends stays =
+    let all = all_told r so_far.told so_far.read next left (subst (λ (told : List LineText). TakesLines r.reader r.left told next left) (no_line took.lines took.are) took.takes)
+    (ap (λ (x : ReaderState). x.kept) is ∙ none) (ap (λ (x : ReaderState). x.taken) is) stays in
+    let at_end : IsAtEnd left = ends so_far.read.knows in
     record {
-      answered = bytes_of left left_next all.given (λ bytes. HasAnswered v (commands bytes)) all.gives (λ more ended.
-          let over = subst IsAtEnd ended all.ended in
-          subst (HasAnswered v) (ap asked (sym (ap (λ m. lines (all.given ++ m)) over ∙ ap lines (append-nil all.given) ∙ all.all))) answered);
-      read = record { given = all.given; gives = all.gives; few = all.few; ends = inr all.ended };
+      answered = bytes_of r.left_before left all.given (λ bytes. HasAnswered v (commands bytes)) all.gives (λ more is_left.
+          let over = subst IsAtEnd is_left at_end in
+          subst (HasAnswered v) (ap asked (sym (ap (λ m. lines (all.given ++ m)) over ∙ ap lines (append-nil all.given) ∙ all.all))) so_far.answered);
+      read = record { given = all.given; gives = all.gives; few = all.few; ends = inr at_end };
     }
 
--- the lines told of some bytes, behind which a line stays open
-open_after : (given more : List ℕ) (told : List LineText) (kept : List ℕ) → Tells given told kept → HasNoLineFeed (kept ++ more) →
-    told ≡ lines (whole_lines (given ++ more))
-open_after given more told kept tells none =
-    told_are_whole (given ++ more) (kept ++ more) told (record {
-      whatever = λ later. ap lines (append_assoc given more later) ∙ tells.whatever (more ++ later) ∙ ap (λ bytes. told ++ lines bytes) (sym (append_assoc kept more later));
-    }) none
-
 -- a read failed
-pub StopsAtRead-open : (before : State) (left written : Option (List ℕ)) (now : State) (reader : ReaderState) (left_now written_now : Option (List ℕ))
-    (next : ReaderState) (left_next : Option (List ℕ)) → SoFar before left written now reader left_now written_now → (reader.ended ≡ true → ⊥) →
-    KeepsLine reader left_now next left_next →
-    StopsAtRead (record { before = before; after = now; written_before = written; written_after = written_now }) left left_next
-StopsAtRead-open before left written now reader left_now written_now next left_next so_far reading keeps =
-    let v : Served = record { before = before; after = now; written_before = written; written_after = written_now } in
-    let tells : Tells so_far.given so_far.told reader.kept = elim so_far.tells [ inl tells ↦ tells | inr last ↦ absurd (reading last.0) ] in
-    let whole : asked so_far.told ≡ commands (whole_lines (so_far.given ++ keeps.given)) =
-    ap asked (open_after so_far.given keeps.given so_far.told reader.kept tells keeps.stays.open_still) in
+pub StopsAtRead-open : (r : Reading) (v : Served) (next : ReaderState) (left : Option (List ℕ)) → SoFar r v → (r.reader.ended ≡ true → ⊥) →
+    KeepsLine r.reader r.left next left → StopsAtRead v r.left_before left
+StopsAtRead-open r v next left so_far reading keeps =
+    let read = so_far.read in
+    let whole : asked so_far.told ≡ commands (whole_lines (read.takes.given ++ keeps.given)) =
+    ap asked (open_after r so_far.told read (open_tells r so_far.told read reading) keeps.given keeps.stays.open_still) in
     record {
-      given = so_far.given ++ keeps.given;
-      gives = Gives-then left left_now left_next so_far.given keeps.given so_far.gives keeps.gives;
-      answered = subst (HasAnswered v) whole (record { state = so_far.state; wrote = so_far.wrote });
+      given = read.takes.given ++ keeps.given;
+      gives = Gives-then r.left_before r.left left read.takes.given keeps.given read.takes.gives keeps.gives;
+      answered = subst (HasAnswered v) whole so_far.answered;
       no_end = subst HasNoEnd whole so_far.no_end;
     }
 
 -- the input is too long
-pub record PastLimit (before : State) (left written : Option (List ℕ)) (now : State) (written_now : Option (List ℕ)) : Type 0 where
-  pub answered : IfSome left (λ bytes. HasAnswered (record { before = before; after = now; written_before = written; written_after = written_now }) (commands (within_limit bytes)))
+pub record PastLimit (left : Option (List ℕ)) (v : Served) : Type 0 where
+  pub answered : IfSome left (λ bytes. HasAnswered v (commands (within_limit bytes)))
   pub too_long : IfSome left IsTooLong
 
-goes_past : (before : State) (left written : Option (List ℕ)) (now : State) (reader : ReaderState) (left_now written_now : Option (List ℕ))
-    (next : ReaderState) (left_next : Option (List ℕ)) → SoFar before left written now reader left_now written_now → (reader.ended ≡ true → ⊥) →
-    GoesPast reader left_now next left_next → PastLimit before left written now written_now
-goes_past before left written now reader left_now written_now next left_next so_far reading goes =
-    let v : Served = record { before = before; after = now; written_before = written; written_after = written_now } in
-    let tells : Tells so_far.given so_far.told reader.kept = elim so_far.tells [ inl tells ↦ tells | inr last ↦ absurd (reading last.0) ] in
-    let given = so_far.given ++ goes.given in
-    let long : length given ≡ MAX_SESSION_BYTES = omega (arith, so_far.counted, goes.all, length-append so_far.given goes.given) in
+goes_past : (r : Reading) (v : Served) (next : ReaderState) (left : Option (List ℕ)) → SoFar r v → (r.reader.ended ≡ true → ⊥) →
+    GoesPast r.reader r.left next left → PastLimit r.left_before v
+goes_past r v next left so_far reading goes =
+    let read = so_far.read in
+    let before = read.takes.given in
+    let given = before ++ goes.given in
+    let long : length given ≡ MAX_SESSION_BYTES = omega (arith, read.takes.counted, goes.all, length-append before goes.given) in
     let whole : asked so_far.told ≡ commands (whole_lines given) =
-    ap asked (open_after so_far.given goes.given so_far.told reader.kept tells goes.stays.open_still) in
-    let gives : Gives left (so_far.given ++ (goes.given ++ goes.past)) left_next =
-    Gives-then left left_now left_next so_far.given (goes.given ++ goes.past) so_far.gives goes.gives in
-    let cut : (more : List ℕ) → (so_far.given ++ (goes.given ++ goes.past)) ++ more ≡ given ++ (goes.past ++ more) = λ more.
-    ap (λ bytes. bytes ++ more) (sym (append_assoc so_far.given goes.given goes.past)) ∙ append_assoc given goes.past more in
-    let limit : (more : List ℕ) → commands (whole_lines given) ≡ commands (within_limit ((so_far.given ++ (goes.given ++ goes.past)) ++ more)) = λ more.
-    ap (λ bytes. commands (whole_lines bytes))
+    ap asked (open_after r so_far.told read (open_tells r so_far.told read reading) goes.given goes.stays.open_still) in
+    let gives : Gives r.left_before (before ++ (goes.given ++ goes.past)) left =
+    Gives-then r.left_before r.left left before (goes.given ++ goes.past) read.takes.gives goes.gives in
+    let cut : (more : List ℕ) → (before ++ (goes.given ++ goes.past)) ++ more ≡ given ++ (goes.past ++ more) = λ more.
+    ap (λ bytes. bytes ++ more) (sym (append_assoc before goes.given goes.past)) ∙ append_assoc given goes.past more in
+    let limit : (more : List ℕ) → asked so_far.told ≡ commands (within_limit ((before ++ (goes.given ++ goes.past)) ++ more)) = λ more.
+    whole ∙ ap (λ bytes. commands (whole_lines bytes))
     (sym (ap (take MAX_SESSION_BYTES) (cut more) ∙ ap (λ n. take n (given ++ (goes.past ++ more))) (sym long) ∙ take-append_seam given (goes.past ++ more))) in
     record {
-      answered = bytes_of left left_next (so_far.given ++ (goes.given ++ goes.past)) (λ bytes. HasAnswered v (commands (within_limit bytes))) gives (λ more is.
-          subst (HasAnswered v) (whole ∙ limit more) (record { state = so_far.state; wrote = so_far.wrote }));
-      too_long = bytes_of left left_next (so_far.given ++ (goes.given ++ goes.past)) IsTooLong gives (λ more is. record {
+      answered = bytes_of r.left_before left _ (λ bytes. HasAnswered v (commands (within_limit bytes))) gives (λ more is. subst (HasAnswered v) (limit more) so_far.answered);
+      too_long = bytes_of r.left_before left _ IsTooLong gives (λ more is. record {
         many = omega (arith, long, goes.one, ap length (cut more), length-append given (goes.past ++ more), length-append goes.past more);
-        no_end = subst HasNoEnd (whole ∙ limit more) so_far.no_end;
+        no_end = subst HasNoEnd (limit more) so_far.no_end;
       });
     }
 
-pub PastLimit-taken : (before : State) (left written : Option (List ℕ)) (now : State) (reader : ReaderState) (left_now written_now : Option (List ℕ))
-    (next : ReaderState) (left_next : Option (List ℕ)) → SoFar before left written now reader left_now written_now → (reader.ended ≡ true → ⊥) →
-    TakesTooMany reader left_now next left_next → PastLimit before left written now written_now
-PastLimit-taken before left written now reader left_now written_now next left_next so_far reading (inl goes) =
-    goes_past before left written now reader left_now written_now next left_next so_far reading goes
-PastLimit-taken before left written now reader left_now written_now next left_next so_far reading (inr past) = absurd (omega (arith, past.0, so_far.few))
+pub PastLimit-taken : (r : Reading) (v : Served) (next : ReaderState) (left : Option (List ℕ)) → SoFar r v → (r.reader.ended ≡ true → ⊥) →
+    TakesTooMany r.reader r.left next left → PastLimit r.left_before v
+PastLimit-taken r v next left so_far reading (inl goes) = goes_past r v next left so_far reading goes
+PastLimit-taken r v next left so_far reading (inr past) = absurd (omega (arith, past.0, so_far.read.few))
 
--- what the source has given in all, however the session ends
-pub GivesSome-past : (left left_now left_next : Option (List ℕ)) (given : List ℕ) (reader next : ReaderState) → Gives left given left_now →
-    TakesTooMany reader left_now next left_next → GivesSome left left_next
-GivesSome-past left left_now left_next given reader next gives (inl goes) =
-    Gives-some left left_next (given ++ (goes.given ++ goes.past)) (Gives-then left left_now left_next given (goes.given ++ goes.past) gives goes.gives)
-GivesSome-past left left_now left_next given reader next gives (inr past) =
-    Gives-some left left_next given (subst (Gives left given) (sym past.2) gives)
+-- what the source has given in all, where the input is too long
+pub GivesSome-past : (r : Reading) (v : Served) (next : ReaderState) (left : Option (List ℕ)) → SoFar r v → TakesTooMany r.reader r.left next left → GivesSome r.left_before left
+GivesSome-past r v next left so_far (inl goes) =
+    let takes = so_far.read.takes in
+    Gives-some r.left_before left (takes.given ++ (goes.given ++ goes.past)) (Gives-then r.left_before r.left left takes.given (goes.given ++ goes.past) takes.gives goes.gives)
+GivesSome-past r v next left so_far (inr past) =
+    let takes = so_far.read.takes in
+    Gives-some r.left_before left takes.given (subst (Gives r.left_before takes.given) (sym past.2) takes.gives)

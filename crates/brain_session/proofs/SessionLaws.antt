@@ -1,136 +1,48 @@
 -- What a session says and where it stands, command by command, up to END.
-use Rattle.std.proofs.Common.{◌≡◌, ◌≢◌, Bool, true, false, cond, List, [], ◌∷◌, ◌++◌, refl, sym, ap, ◌∙◌, arith, Option, Some, None, zero, suc, inl, inr}
-use Rattle.std.specs.Prelude.{ℕ, ◌&&◌, Contains}
+use Rattle.std.proofs.Common.{◌≡◌, ◌≢◌, List, [], ◌∷◌, ◌++◌, refl, sym, ap, ◌∙◌, arith, zero, suc, inl, inr}
+use Rattle.std.specs.Prelude.{Contains}
 use Rattle.std.proofs.lemmas.List.Elements.{Contains-append_cases}
-use Rattle.game_rules.specs.declared.RuleKind.{RuleKind}
+use Rattle.game_rules.specs.Play.{outcome}
+use Rattle.game_rules.specs.declared.Side.TheVariants.{White}
 use Rattle.game_rules.specs.declared.Outcome.{Outcome}
 use Rattle.game_rules.specs.declared.Outcome.TheVariants.{Refused, Wins, Fouls, Draws, GoesOn}
 use Rattle.game_rules.specs.declared.Point.{Point}
 use Rattle.gomocup_text.specs.declared.Command.{Command}
-use Rattle.gomocup_text.specs.declared.Command.TheVariants.{Start, RectStart, Begin, Turn, Board, Stone, Done, Restart, Takeback, Rule, Info, About, End, Blank, Malformed, Unknown}
+use Rattle.gomocup_text.specs.declared.Command.TheVariants.{End}
 use Rattle.gomocup_text.specs.declared.Answer.{Answer}
-use Rattle.gomocup_text.specs.declared.Answer.TheVariants.{Ok as SaysOk, Error, Unknown as SaysUnknown}
-use Rattle.gomocup_text.specs.declared.ErrorText.TheVariants.{UnsupportedSize, BadArguments, GameOver, WrongTurn, BadMove}
-use Rattle.game_rules.specs.Play.{outcome, mover}
-use Rattle.game_rules.specs.Shapes.{is_same_point}
-use Rattle.game_rules.specs.declared.Side.TheVariants.{Black, White}
-use Rattle.brain_session.specs.Batches.{game_from}
 use Rattle.brain_session.specs.declared.Reaction.{Reaction}
 use Rattle.brain_session.specs.declared.Reaction.TheVariants.{Silent, Says, Ends}
-use Rattle.brain_session.specs.States.{Game, board_of, empty_board, new_game, point_at, Place, NoBoard, Fresh, InGame, Batch, State}
-use Rattle.brain_session.specs.Steps.{Row, Reacts, Chooses, fails, unread, placed, rule_of, board_in, is_side, same_side, place_before, if_supported, start_row, restart_row, board_row, stone_row, batch_row, done_row, begin_row, move_row, turn_row, last_row, takeback_row, if_not_reading, row_of, step_by, brain_step}
+use Rattle.brain_session.specs.States.{Game, board_of, empty_board, new_game, State}
+use Rattle.brain_session.specs.Steps.{move_row, row_of, step_by, brain_step}
 use Rattle.brain_session.specs.Sessions.{then_answers, answers_from, then_state, state_after}
 use Rattle.brain_session.specs.Serving.{HasNoEnd}
-
--- the row does not end the session
-abbrev Lasts : State → Row → Type 0
-Lasts s row = (step_by s row).reaction ≡ Ends → ⊥
-
-said_lasts : (s next : State) (a : Answer) → Lasts s (Reacts (Says a) next)
-said_lasts s next a = λ e. cc
-
-chosen_lasts : (s : State) (g : Game) → Lasts s (Chooses g)
-chosen_lasts s g = λ e. cc
-
-either_lasts : (s : State) (b : Bool) (one other : Row) → Lasts s one → Lasts s other → Lasts s (cond b one other)
-either_lasts s true one other a b = a
-either_lasts s false one other a b = b
-
-supported_lasts : (s : State) (rule : Option RuleKind) (unsupported : State) (row : RuleKind → Row) → ((kind : RuleKind) → Lasts s (row kind)) →
-    Lasts s (if_supported rule unsupported row)
-supported_lasts s None unsupported row lasts = λ e. cc
-supported_lasts s (Some kind) unsupported row lasts = lasts kind
-
-restart_lasts : (s : State) (place : Place) → Lasts s (restart_row s place)
-restart_lasts s NoBoard = λ e. cc
-restart_lasts s (Fresh width height) = λ e. cc
-restart_lasts s (InGame g) = λ e. cc
-
-board_lasts : (s : State) (place : Place) → Lasts s (board_row s place)
-board_lasts s NoBoard = λ e. cc
-board_lasts s (Fresh width height) = λ e. cc
-board_lasts s (InGame g) = λ e. cc
-
-stone_lasts : (s : State) (batch : Option Batch) (p : Point) (field : ℕ) → Lasts s (stone_row s batch p field)
-stone_lasts s None p field = λ e. cc
-stone_lasts s (Some b) p field = λ e. cc
-
-batch_lasts : (s : State) (game : Option Game) → Lasts s (batch_row s game)
-batch_lasts s None = λ e. cc
-batch_lasts s (Some g) = λ e. cc
-
-done_lasts : (s : State) (batch : Option Batch) → Lasts s (done_row s batch)
-done_lasts s None = λ e. cc
-done_lasts s (Some b) =
-    supported_lasts s (rule_of s.wish) (unread s) (λ rule. batch_row s (game_from rule (board_in s.place) b)) (λ rule. batch_lasts s (game_from rule (board_in s.place) b))
-
-begin_lasts : (s : State) (place : Place) → Lasts s (begin_row s place)
-begin_lasts s NoBoard = λ e. cc
-begin_lasts s (InGame g) = λ e. cc
-begin_lasts s (Fresh width height) =
-    let g : RuleKind → Game = λ rule. new_game rule (empty_board width height) Black in
-    supported_lasts s (rule_of s.wish) s (λ rule. Chooses (g rule)) (λ rule. chosen_lasts s (g rule))
-
-move_lasts : (s : State) (g : Game) (p : Point) (o : Outcome) → Lasts s (move_row s g p o)
-move_lasts s g p Refused = λ e. cc
-move_lasts s g p Wins = λ e. cc
-move_lasts s g p (Fouls f) = λ e. cc
-move_lasts s g p Draws = λ e. cc
-move_lasts s g p GoesOn = λ e. cc
-
-turn_lasts : (s : State) (place : Place) (p : Point) → Lasts s (turn_row s place p)
-turn_lasts s NoBoard p = λ e. cc
-turn_lasts s (Fresh width height) p =
-    let g : RuleKind → Game = λ rule. new_game rule (empty_board width height) White in
-    let row : RuleKind → Row = λ rule. move_row s (g rule) p (outcome rule (board_of (g rule)) p) in
-    supported_lasts s (rule_of s.wish) s row (λ rule. move_lasts s (g rule) p (outcome rule (board_of (g rule)) p))
-turn_lasts s (InGame g) p =
-    let row : RuleKind → Row = λ rule. move_row s g p (outcome g.rule (board_of g) p) in
-    let supported = if_supported (rule_of s.wish) s row in
-    let is_own = same_side (mover (board_of g)) g.brain in
-    either_lasts s g.ended (fails GameOver s) (cond is_own (fails WrongTurn s) supported) (said_lasts s s (Error GameOver))
-    (either_lasts s is_own (fails WrongTurn s) supported (said_lasts s s (Error WrongTurn))
-    (supported_lasts s (rule_of s.wish) s row (λ rule. move_lasts s g p (outcome g.rule (board_of g) p))))
-
-last_lasts : (s : State) (g : Game) (p : Point) (moves : List Point) → Lasts s (last_row s g p moves)
-last_lasts s g p [] = λ e. cc
-last_lasts s g p (last ∷ before) =
-    let back = placed s (place_before g before) in
-    either_lasts s (is_same_point last p) (Reacts (Says SaysOk) back) (fails BadMove s) (said_lasts s back SaysOk) (said_lasts s s (Error BadMove))
-
-takeback_lasts : (s : State) (place : Place) (p : Point) → Lasts s (takeback_row s place p)
-takeback_lasts s NoBoard p = λ e. cc
-takeback_lasts s (Fresh width height) p = λ e. cc
-takeback_lasts s (InGame g) p = last_lasts s g p g.moves
-
-unread_lasts : (s : State) (batch : Option Batch) (row : Unit {0} → Row) → Lasts s (row tt) → Lasts s (if_not_reading s batch row)
-unread_lasts s (Some b) row lasts = λ e. cc
-unread_lasts s None row lasts = lasts
-
-start_lasts : (s : State) (width height : ℕ) → Lasts s (start_row s width height)
-start_lasts s width height =
-    let fresh = placed s (Fresh width height) in
-    either_lasts s (is_side width && is_side height) (Reacts (Says SaysOk) fresh) (fails UnsupportedSize s) (said_lasts s fresh SaysOk) (said_lasts s s (Error UnsupportedSize))
+use Rattle.brain_session.proofs.RowCases.{row-cases}
 
 -- a command whose step ends the session is END
 pub only_end_ends : (s : State) (c : Command) → (brain_step s c).reaction ≡ Ends → c ≡ End
-unfolding row_of
-only_end_ends s (Start n) e = absurd (start_lasts s n n e)
-only_end_ends s (RectStart width height) e = absurd (start_lasts s width height e)
-only_end_ends s Restart e = absurd (restart_lasts s s.place e)
-only_end_ends s About e = cc
-only_end_ends s End e = refl
-only_end_ends s (Rule wish) e = cc
-only_end_ends s Info e = cc
-only_end_ends s Blank e = cc
-only_end_ends s Board e = absurd (board_lasts s s.place e)
-only_end_ends s (Stone x y field) e = absurd (stone_lasts s s.batch (point_at x y) field e)
-only_end_ends s Done e = absurd (done_lasts s s.batch e)
-only_end_ends s Malformed e = absurd (unread_lasts s s.batch (λ _. fails BadArguments s) (said_lasts s s (Error BadArguments)) e)
-only_end_ends s Unknown e = absurd (unread_lasts s s.batch (λ _. Reacts (Says SaysUnknown) s) (said_lasts s s SaysUnknown) e)
-only_end_ends s Begin e = absurd (unread_lasts s s.batch (λ _. begin_row s s.place) (begin_lasts s s.place) e)
-only_end_ends s (Turn x y) e = absurd (unread_lasts s s.batch (λ _. turn_row s s.place (point_at x y)) (turn_lasts s s.place (point_at x y)) e)
-only_end_ends s (Takeback x y) e = absurd (unread_lasts s s.batch (λ _. takeback_row s s.place (point_at x y)) (takeback_lasts s s.place (point_at x y)) e)
+only_end_ends s c = row-cases (λ row. (step_by s row).reaction ≡ Ends → c ≡ End) s c (record {
+  ends = λ is e. is;
+  silent = λ e. cc;
+  says = λ a e. cc;
+  wishes = λ wish e. cc;
+  sized = λ width height wide high e. cc;
+  again = λ width height some size e. cc;
+  reads = λ some e. cc;
+  stone = λ b p field read e. cc;
+  spoils = λ b read e. cc;
+  is_bad = λ a e. cc;
+  whole = λ rule b g supported read is e. cc;
+  first = λ rule width height supported at e. cc;
+  second = λ rule width height p supported at. moves (new_game rule (empty_board width height) White) p (outcome rule (empty_board width height) p);
+  later = λ rule g p supported at going others. moves g p (outcome g.rule (board_of g) p);
+  back = λ g p before at are e. cc;
+}) where
+  moves : (g : Game) (p : Point) (o : Outcome) → (step_by s (move_row s g p o)).reaction ≡ Ends → c ≡ End
+  moves g p Refused e = cc
+  moves g p Wins e = cc
+  moves g p (Fouls f) e = cc
+  moves g p Draws e = cc
+  moves g p GoesOn e = cc
 
 -- END ends the session, and leaves the brain as it is
 pub end_ends : (s : State) → (brain_step s End).reaction ≡ Ends

@@ -1,31 +1,19 @@
 -- The board of a batch, whose stones are put one by one.
-use Rattle.std.proofs.Common.{◌≡◌, ℕ, zero, suc, ◌+◌, ◌*◌, ◌≤◌, ◌<◌, Bool, true, false, cond, refl, sym, ap, ◌∙◌, arith, List, [], ◌∷◌, length, get_or, take, IfSome, MatchOption}
+use Rattle.std.proofs.Common.{◌≡◌, ℕ, zero, suc, ◌+◌, ◌≤◌, ◌<◌, Bool, true, false, cond, refl, sym, ap, ◌∙◌, arith, List, [], ◌∷◌, length, get_or, take, IfSome, MatchOption}
 use Rattle.std.specs.Prelude.{Option, Some, None}
-use Rattle.std.proofs.lemmas.Nat.{mul-add-lt}
-use Rattle.std.proofs.lemmas.List.{get_or-replicate}
 use Rattle.std.proofs.lemmas.List.Sums.{fold_more}
-use Rattle.game_rules.specs.Grid.{Grid, is_on, is_empty, cell_at, place_of, put}
+use Rattle.game_rules.specs.Grid.{Grid, is_on, is_empty, put}
 use Rattle.game_rules.specs.Shapes.{is_same_point}
 use Rattle.game_rules.specs.Play.{other}
 use Rattle.game_rules.specs.declared.Side.{Side}
-use Rattle.game_rules.specs.declared.Cell.TheVariants.{Empty}
 use Rattle.game_rules.specs.declared.Point.{Point}
-use Rattle.game_rules.proofs.Boards.{on_x, on_y, is_empty-on, is_empty-put}
+use Rattle.game_rules.proofs.Boards.{is_empty-on, is_empty-put}
 use Rattle.game_rules.proofs.Points.{is_same_point-apart}
 use Rattle.brain_session.specs.declared.batch.BatchStone.{BatchStone}
 use Rattle.brain_session.specs.States.{Batch, empty_board}
 use Rattle.brain_session.specs.Batches.{side_of, with_stones}
 use Rattle.brain_session.specs.Running.{StonesFit}
-
--- each point of an empty board is empty
-empty_board-empty : (width height : ℕ) (p : Point) → is_on (empty_board width height) p ≡ true → is_empty (empty_board width height) p ≡ true
-empty_board-empty width height p on =
-    let b : Grid = empty_board width height in
-    let x : p.x < width = on_x b p on in
-    let y : p.y < height = on_y b p on in
-    let within : place_of b p < width * height = mul-add-lt p.y width p.x height y x in
-    let cell : cell_at b p ≡ Empty = get_or-replicate (width * height) (place_of b p) Empty Empty within in
-    rw (on, cell) refl
+use Rattle.brain_session.proofs.Rounds.{empty-empty}
 
 -- an item of a list is the same whatever stands for those past its end
 same_item : (stones : List BatchStone) (i : ℕ) (s t : BatchStone) → i < length stones → get_or stones i s ≡ get_or stones i t
@@ -44,7 +32,7 @@ fit-stones (Some b) board stones fit same = rw same (record { on_board = fit.on_
 
 pub waits-first : (stones : List BatchStone) (width height : ℕ) → StonesFit (empty_board width height) (record { stones = stones; bad = false }) → Waits stones 0 (empty_board width height)
 waits-first stones width height fit = record {
-  empty = λ k d from less. empty_board-empty width height (get_or stones k d).at (fit.on_board k d less);
+  empty = λ k d from less. empty-empty width height (get_or stones k d).at (fit.on_board k d less);
 }
 
 pub waits-next : (stones : List BatchStone) (i : ℕ) (start board next : Grid) (side : Side) (d : BatchStone) → StonesFit start (record { stones = stones; bad = false }) → Waits stones i board → i < length stones → next ≡ put board side (get_or stones i d).at → Waits stones (i + 1) next

@@ -6,94 +6,42 @@ use Rattle.std.proofs.lemmas.List.Quantifiers.{all_pairs_push}
 use Rattle.std.proofs.lemmas.List.Folds.{list_any_at}
 use Rattle.game_rules.specs.Grid.{Grid, is_on}
 use Rattle.game_rules.specs.Shapes.{is_same_point}
-use Rattle.game_rules.specs.Play.{outcome, mover}
 use Rattle.game_rules.specs.declared.RuleKind.{RuleKind}
-use Rattle.game_rules.specs.declared.Side.TheVariants.{White}
-use Rattle.game_rules.specs.declared.Outcome.{Outcome}
-use Rattle.game_rules.specs.declared.Outcome.TheVariants.{Refused, Wins, Fouls, Draws, GoesOn}
 use Rattle.game_rules.specs.declared.Point.{Point}
 use Rattle.foul_judge.specs.Lawful.{refusal}
 use Rattle.strategy_checker.specs.HeldRoots.{HeldTable}
 use Rattle.gomocup_text.specs.declared.Command.{Command}
 use Rattle.gomocup_text.specs.declared.Command.TheVariants.{Start, RectStart, Begin, Turn, Board, Stone, Done, Restart, Takeback, Rule, Info, About, End, Blank, Malformed, Unknown}
 use Rattle.gomocup_text.specs.declared.Answer.TheVariants.{About as SaysAbout, Unknown as SaysUnknown}
-use Rattle.gomocup_text.specs.declared.ErrorText.{ErrorText}
-use Rattle.gomocup_text.specs.declared.ErrorText.TheVariants.{NoBoard as NoBoardText, UnsupportedRule, BadArguments, GameOver, WrongTurn, BadMove}
+use Rattle.gomocup_text.specs.declared.ErrorText.TheVariants.{BadArguments}
 use Rattle.brain_session.specs.declared.Reaction.{Reaction}
 use Rattle.brain_session.specs.declared.Reaction.TheVariants.{Silent, Says, Ends}
 use Rattle.brain_session.specs.declared.batch.BatchStone.{BatchStone}
-use Rattle.brain_session.specs.States.{Game, Batch, Place, NoBoard, Fresh, InGame, State, board_of, empty_board, new_game, point_at}
-use Rattle.brain_session.specs.Batches.{spoiled, has_stone_at, with_stone_at, game_from}
+use Rattle.brain_session.specs.States.{Game, Batch, Place, NoBoard, InGame, State, empty_board, point_at}
+use Rattle.brain_session.specs.Batches.{new_batch, spoiled, has_stone_at, with_stone, with_stone_at, game_from}
 use Rattle.brain_session.specs.ChosenMoves.{chosen}
-use Rattle.brain_session.specs.Steps.{Row, Reacts, Chooses, fails, unread, reading, placed, if_supported, rule_of, same_side, with_choice, move_row, begin_row, turn_row, takeback_row, batch_row, done_row, board_row, board_in, row_of, step_by, brain_step, start_row, restart_row, stone_row, if_not_reading}
+use Rattle.brain_session.specs.Steps.{Row, Reacts, fails, unread, reading, placed, if_supported, rule_of, with_choice, begin_row, turn_row, takeback_row, batch_row, done_row, board_row, board_in, row_of, step_by, brain_step, start_row, restart_row, stone_row, if_not_reading}
 use Rattle.std.specs.Option.{option_map}
 use Rattle.game_rules.proofs.Boards.{and_left, and_right, on_x}
 use Rattle.brain_session.specs.Running.{StonesFit}
 use Rattle.brain_session.specs.Memory.{is_following, is_settled, takes_none}
-use Rattle.brain_session.specs.Kept.{IsBegun, IsPointOn, IsRow, IsStateOf, Takes, has_no_place_in_batch, is_spoiled}
+use Rattle.brain_session.specs.Kept.{IsBegun, IsPointOn, IsStateOf, Takes, has_no_place_in_batch, is_spoiled}
 
 none_from : {X : Type 0} (o : Option X) → IsNone o → o ≡ None
 none_from None e = refl
 none_from (Some x) e = absurd (cc)
 
--- ---- rows that keep the rest of the state
-
--- the row keeps the wish and what is held, and no batch is read after it
-abbrev KeepsRest : State → Row → Type 0
-KeepsRest s (Reacts reaction next) = next ≡ record s { place = next.place; batch = None }
-KeepsRest s (Chooses g) = Unit {0}
-
-supported-rest : (s : State) (o : Option RuleKind) (row : RuleKind → Row) → KeepsRest s (fails UnsupportedRule s) → ((k : RuleKind) → KeepsRest s (row k)) → KeepsRest s (if_supported o s row)
-supported-rest s None row none some = none
-supported-rest s (Some k) row none some = some k
-
-choose-row : (s : State) (r : Bool) (a b : Row) → KeepsRest s a → KeepsRest s b → KeepsRest s (if r then a else b)
-choose-row s true a b first second = first
-choose-row s false a b first second = second
-
-module _ (s : State) (none : s.batch ≡ None) where
-  fails-rest : (e : ErrorText) → KeepsRest s (fails e s)
-  fails-rest e = ap (λ (b : Option Batch). record s { batch = b }) none
-
-  move-rest : (g : Game) (p : Point) (o : Outcome) → KeepsRest s (move_row s g p o)
-  move-rest g p Refused = fails-rest BadMove
-  move-rest g p Wins = refl
-  move-rest g p (Fouls f) = refl
-  move-rest g p Draws = refl
-  move-rest g p GoesOn = tt
-
-  turn-rest : (place : Place) (p : Point) → KeepsRest s (turn_row s place p)
-  turn-rest NoBoard p = fails-rest NoBoardText
-  turn-rest (Fresh width height) p =
-      supported-rest s (rule_of s.wish) (λ k. let g : Game = new_game k (empty_board width height) White in move_row s g p (outcome k (board_of g) p)) (fails-rest UnsupportedRule)
-      (λ k. move-rest (new_game k (empty_board width height) White) p (outcome k (empty_board width height) p))
-  turn-rest (InGame g) p =
-      let row : RuleKind → Row = λ k. move_row s g p (outcome g.rule (board_of g) p) in
-      choose-row s g.ended (fails GameOver s) (if same_side (mover (board_of g)) g.brain then fails WrongTurn s else if_supported (rule_of s.wish) s row) (fails-rest GameOver)
-      (choose-row s (same_side (mover (board_of g)) g.brain) (fails WrongTurn s) (if_supported (rule_of s.wish) s row) (fails-rest WrongTurn)
-      (supported-rest s (rule_of s.wish) row (fails-rest UnsupportedRule) (λ k. move-rest g p (outcome g.rule (board_of g) p))))
-
-  -- the step of such a row, by the reaction and the place that it says
-  row-takes : (row : Row) (r : Reaction) (place : Place) → KeepsRest s row → IsRow s.held row r place → Takes row s r (record s { place = place })
-  row-takes (Reacts reaction next) r place rest is =
-      let there : next ≡ record s { place = place } =
-      rest ∙ ap (λ (w : Place). record s { place = w; batch = None }) (sym is.1) ∙ ap (λ (b : Option Batch). record s { place = place; batch = b }) (sym none) in
-      ap (λ (x : Reaction). record { reaction = x; next = next }) (sym is.0) ∙ ap (λ (n : State). record { reaction = r; next = n }) there
-  row-takes (Chooses g) r place rest is =
-      let there : placed s (InGame (with_choice g (chosen s.held g))) ≡ record s { place = place } =
-      ap (λ (w : Place). record s { place = w; batch = None }) (sym is.1) ∙ ap (λ (b : Option Batch). record s { place = place; batch = b }) (sym none) in
-      ap (λ (x : Reaction). record { reaction = x; next = placed s (InGame (with_choice g (chosen s.held g))) }) (sym is.0)
-      ∙ ap (λ (n : State). record { reaction = r; next = n }) there
-
 -- ---- the steps of a round
 
 -- the brain answers a TURN, by what its round did
-pub turn-takes : {E : Type 0} (r : Result Reaction E) (s : State) (place new : Place) (rule : Option RuleKind) (at : Option Point) (p : Point) → s.place ≡ place → rule ≡ rule_of s.wish → IsNone s.batch → IsPointOn (board_in place) p at → IfOk r (λ x. (t : State) (q : Point) → IsStateOf s.held place rule t → IsPointOn (board_in place) q at → IsRow s.held (turn_row t place q) x new) → IfOk r (λ x. Takes (turn_row s s.place p) s x (record s { place = new }))
+pub turn-takes : {E : Type 0} (r : Result Reaction E) (s : State) (place new : Place) (rule : Option RuleKind) (at : Option Point) (p : Point) → s.place ≡ place → rule ≡ rule_of s.wish → IsNone s.batch → IsPointOn (board_in place) p at
+    → IfOk r (λ x. (t : State) (q : Point) → IsStateOf s.held place rule t → IsPointOn (board_in place) q at → Takes (turn_row t place q) t x (placed t new)) → IfOk r (λ x. Takes (turn_row s s.place p) s x (record s { place = new }))
 turn-takes (Err e) s place new rule at p here by_wish none point rows = tt
 turn-takes (Ok x) s place new rule at p here by_wish none point rows =
-    let row : IsRow s.held (turn_row s place p) x new = rows s p (record { held_is = refl; place_is = here; rule_is = sym by_wish }) point in
-    row-takes s (none_from s.batch none) (turn_row s s.place p) x new (turn-rest s (none_from s.batch none) s.place p)
-    (subst (λ (w : Place). IsRow s.held (turn_row s w p) x new) (sym here) row)
+    let unread = none_from s.batch none in
+    let row = rows s p (record { held_is = refl; place_is = here; rule_is = sym by_wish; unread = unread }) point in
+    subst (λ (w : Place). Takes (turn_row s w p) s x (record s { place = new })) (sym here)
+    (subst (λ (b : Option Batch). Takes (turn_row s place p) s x (record s { place = new; batch = b })) (sym unread) row)
 
 -- a point that the brain was told is on the board
 pub told-on : (b : Grid) (p : Point) (at : Option Point) → IsPointOn b p at → IfSome at (λ q. is_on b q ≡ true)
@@ -108,17 +56,27 @@ no-stone_at stones p none k d less = by_test (is_same_point (get_or stones k d).
   by_test true e = let some : has_stone_at stones p ≡ true = list_any_at (λ (x : BatchStone). is_same_point x.at p) stones k d less e in cc
   by_test false e = refl
 
--- the stones fit after a line of the batch
-pub fit-with : (b : Grid) (batch : Batch) (at : Option Point) (field : ℕ) → IfSome at (λ q. is_on b q ≡ true) → StonesFit b batch → StonesFit b (with_stone_at batch at field)
-fit-with b batch None field on fit = record { on_board = fit.on_board; distinct = fit.distinct }
-fit-with b batch (Some p) field on fit = by_tests (field == 1 || field == 2) (has_stone_at batch.stones p) refl where
-  by_tests : (r t : Bool) → has_stone_at batch.stones p ≡ t → StonesFit b (if r && not t then record batch { stones = batch.stones ++ record { at = p; own = field == 1 } ∷ [] } else spoiled batch)
-  by_tests true false e = record {
-    on_board = All-push (λ x. is_on b x.at ≡ true) batch.stones (record { at = p; own = field == 1 }) fit.on_board on;
-    distinct = all_pairs_push (λ x u. is_same_point x.at u.at ≡ false) batch.stones (record { at = p; own = field == 1 }) fit.distinct (no-stone_at batch.stones p e);
+-- no stones fit, those of a batch fit that was spoiled, and those after a line of the batch
+pub none_fit : (b : Grid) → StonesFit b new_batch
+none_fit b = record { on_board = λ k d lt. absurd (omega arith); distinct = λ i j d lt within. absurd (omega arith) }
+
+pub spoiled_fits : (b : Grid) (batch : Batch) → StonesFit b batch → StonesFit b (spoiled batch)
+spoiled_fits b batch fit = record { on_board = fit.on_board; distinct = fit.distinct }
+
+pub stone_fits : (b : Grid) (on : Bool) (batch : Batch) (p : Point) (field : ℕ) → (on ≡ true → is_on b p ≡ true) → StonesFit b batch → StonesFit b (with_stone on batch p field)
+stone_fits b on batch p field there fit = by_tests on (field == 1 || field == 2) (has_stone_at batch.stones p) refl refl where
+  by_tests : (o r t : Bool) → on ≡ o → has_stone_at batch.stones p ≡ t → StonesFit b (if o && r && not t then record batch { stones = batch.stones ++ record { at = p; own = field == 1 } ∷ [] } else spoiled batch)
+  by_tests true true false e f = record {
+    on_board = All-push (λ x. is_on b x.at ≡ true) batch.stones (record { at = p; own = field == 1 }) fit.on_board (there e);
+    distinct = all_pairs_push (λ x u. is_same_point x.at u.at ≡ false) batch.stones (record { at = p; own = field == 1 }) fit.distinct (no-stone_at batch.stones p f);
   }
-  by_tests true true e = record { on_board = fit.on_board; distinct = fit.distinct }
-  by_tests false t e = record { on_board = fit.on_board; distinct = fit.distinct }
+  by_tests true true true e f = spoiled_fits b batch fit
+  by_tests true false t e f = spoiled_fits b batch fit
+  by_tests false r t e f = spoiled_fits b batch fit
+
+fit-with : (b : Grid) (batch : Batch) (at : Option Point) (field : ℕ) → IfSome at (λ q. is_on b q ≡ true) → StonesFit b batch → StonesFit b (with_stone_at batch at field)
+fit-with b batch None field on fit = spoiled_fits b batch fit
+fit-with b batch (Some p) field on fit = stone_fits b true batch p field (λ _. on) fit
 
 -- without a board no game begins from a batch
 pub no-board : (rule : RuleKind) (b : Batch) → StonesFit (empty_board 0 0) b → game_from rule (empty_board 0 0) b ≡ None

@@ -7,8 +7,6 @@ use Rattle.game_rules.specs.Shapes.{is_same_point}
 use Rattle.game_rules.specs.Play.{outcome, after, mover}
 use Rattle.game_rules.specs.Games.{LosesOr, wins_by_fours}
 use Rattle.game_rules.specs.declared.RuleKind.{RuleKind}
-use Rattle.game_rules.specs.declared.Outcome.{Outcome}
-use Rattle.game_rules.specs.declared.Outcome.TheVariants.{Refused, Wins, Fouls, Draws, GoesOn}
 use Rattle.game_rules.specs.declared.Point.{Point}
 use Rattle.strategy_graph.specs.declared.Node.{Node}
 use Rattle.strategy_graph.specs.Tables.{IsTable, answer_at}
@@ -25,13 +23,13 @@ use Rattle.brain_session.specs.declared.own_win.OwnTable.{OwnTable}
 use Rattle.brain_session.specs.States.{Followed, HeldNode, OwnWin, Game, board_after, board_of, empty_board, Place, NoBoard, Fresh, InGame, State}
 use Rattle.gomocup_text.specs.declared.Command.{Command}
 use Rattle.gomocup_text.specs.declared.Command.TheVariants.{Begin, Turn, Takeback, Malformed, Unknown}
-use Rattle.gomocup_text.specs.declared.Answer.TheVariants.{Move, Error}
+use Rattle.gomocup_text.specs.declared.Answer.TheVariants.{Move}
 use Rattle.gomocup_text.specs.declared.ErrorText.{ErrorText}
-use Rattle.gomocup_text.specs.declared.ErrorText.TheVariants.{NoBoard as NoBoardText, UnsupportedRule, GameOver, WrongTurn, BadMove, GameLost, OpponentFoul, GameDrawn}
+use Rattle.gomocup_text.specs.declared.ErrorText.TheVariants.{NoBoard as NoBoardText, UnsupportedRule, GameOver, WrongTurn}
 use Rattle.brain_session.specs.declared.Reaction.{Reaction}
 use Rattle.brain_session.specs.declared.Reaction.TheVariants.{Says}
 use Rattle.brain_session.specs.ChosenMoves.{Choice, chosen, last_move, own_win}
-use Rattle.brain_session.specs.Steps.{Row, Reacts, Chooses, rule_of, same_side, step_by, with_choice, with_move}
+use Rattle.brain_session.specs.Steps.{Row, Reacts, Chooses, rule_of, same_side, step_by, with_choice}
 
 -- a board from which a game began, and the moves since, the last one first
 pub record Moves : Type 0 where
@@ -153,11 +151,6 @@ abbrev pub IsFound : RuleKind → Grid → Option OwnTable → Type 0
 IsFound rule b None = own_win rule b ≡ None
 IsFound rule b (Some own) = IsOwnTable rule b own
 
--- the brain made its chosen move in the game, said so, and this is the game after it
-pub record IsMadeBy (h : HeldTable) (g : Game) (r : Reaction) (after_it : Game) : Type 0 where
-  pub says : r ≡ Says (Move (chosen h g).at)
-  pub next : after_it ≡ with_choice g (chosen h g)
-
 -- what was followed goes on at b after the reply q: its node answers q, and there the guide is a node with the plan of b
 pub record GoesOnAfter (h : HeldTable) (rule : RuleKind) (b : Grid) (guide : Guide) (q : Point) : Type 0 where
   pub in_table : IsInTable h guide
@@ -172,19 +165,21 @@ pub record IsKeptUp (h : HeldTable) (m : Moves) (c : Course) : Type 0 where
   pub running : IsRunning h (game_of m c)
   pub guided : GuidesOn c.ended c.kind (board_after m.start m.moves) c.guide
 
--- the opponent's move p in the game had this outcome: this was said, and this is the game after it
-abbrev pub IsReplyTaken : HeldTable → Game → Point → Outcome → Reaction → Game → Type 0
-IsReplyTaken h g p Refused r next = (r ≡ Says (Error BadMove)) × (next ≡ g)
-IsReplyTaken h g p Wins r next = (r ≡ Says (Error GameLost)) × (next ≡ with_move g p true)
-IsReplyTaken h g p (Fouls f) r next = (r ≡ Says (Error OpponentFoul)) × (next ≡ with_move g p true)
-IsReplyTaken h g p Draws r next = (r ≡ Says (Error GameDrawn)) × (next ≡ with_move g p true)
-IsReplyTaken h g p GoesOn r next = IsMadeBy h (with_move g p false) r next
+-- a state that holds this and is in this place, where no batch is read
+abbrev pub in_place : HeldTable → Place → State
+in_place h place = record { wish = 0; held = h; place = place; batch = None }
 
--- a state that holds this, is in this place, and has this rule by its wish
+-- the reaction of a row, and the place after it, which is this one where the brain makes its chosen move
+abbrev pub IsRow : HeldTable → Row → Reaction → Place → Type 0
+IsRow h (Reacts reaction next) r place = (r ≡ reaction) × (place ≡ next.place)
+IsRow h (Chooses g) r place = (r ≡ Says (Move (chosen h g).at)) × (place ≡ InGame (with_choice g (chosen h g)))
+
+-- a state that holds this, is in this place, has this rule by its wish, and reads no batch
 pub record IsStateOf (h : HeldTable) (place : Place) (rule : Option RuleKind) (s : State) : Type 0 where
   pub held_is : s.held ≡ h
   pub place_is : s.place ≡ place
   pub rule_is : rule_of s.wish ≡ rule
+  pub unread : s.batch ≡ None
 
 -- the point p, told only if it is on the board
 abbrev pub IsPointOn : Grid → Point → Option Point → Type 0
@@ -196,7 +191,7 @@ abbrev pub IsBegun : HeldTable → Option Game → Option (Place × Reaction) �
 IsBegun h None None = Unit {0}
 IsBegun h None (Some made) = ⊥
 IsBegun h (Some g) None = ⊥
-IsBegun h (Some g) (Some made) = (made.1 ≡ Says (Move (chosen h g).at)) × (made.0 ≡ InGame (with_choice g (chosen h g)))
+IsBegun h (Some g) (Some made) = IsRow h (Chooses g) made.1 made.0
 
 -- the step of this row was taken from a state: this was the reaction, and this is the state now
 abbrev pub Takes : Row → State → Reaction → State → Type 0
@@ -234,11 +229,6 @@ turn_refusal (InGame g) rule =
     if g.ended then Some GameOver
     else if same_side (mover (board_of g)) g.brain then Some WrongTurn
     else if is_none rule then Some UnsupportedRule else None
-
--- the reaction of a row, and the place after it, which is this one where the brain makes its chosen move
-abbrev pub IsRow : HeldTable → Row → Reaction → Place → Type 0
-IsRow h (Reacts reaction next) r place = (r ≡ reaction) × (place ≡ next.place)
-IsRow h (Chooses g) r place = (r ≡ Says (Move (chosen h g).at)) × (place ≡ InGame (with_choice g (chosen h g)))
 
 -- whether there are both points, and they are one
 abbrev pub are_one : Option Point → Option Point → Bool

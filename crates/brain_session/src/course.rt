@@ -10,10 +10,10 @@ ghost use Rattle.std.specs.Option.{option_map};
 ghost use Rattle.game_rules.specs.Grid.{is_empty};
 ghost use Rattle.strategy_checker.specs.HeldRoots.{HeldTable};
 ghost use Rattle.game_rules.specs.Play.{outcome, mover, other};
-ghost use Rattle.brain_session.specs.States.{board_of};
+ghost use Rattle.brain_session.specs.States.{InGame, board_of};
 ghost use Rattle.brain_session.specs.ChosenMoves.{by_followed, chosen, first_node, followed_on};
-ghost use Rattle.brain_session.specs.Steps.{goes_on, with_move};
-ghost use Rattle.brain_session.specs.Kept.{IsMadeBy, IsReady, IsReplyTaken, followed_of, game_of, IsKeptUp, StandsAt};
+ghost use Rattle.brain_session.specs.Steps.{Chooses, goes_on, move_row, with_move};
+ghost use Rattle.brain_session.specs.Kept.{IsReady, IsRow, followed_of, game_of, in_place, IsKeptUp, StandsAt};
 
 use crate::Reaction;
 use crate::choice::choose;
@@ -59,8 +59,8 @@ impl Course {
         requires kept { IsKeptUp held.now played.old self.old }
         requires to_reply { other (mover (board_of (game_of played.old self.old))) ≡ self.old.brain }
         requires going { self.old.ended ≡ false }
-        ensures taken { IfOk result (λ r. IsReplyTaken held.now (game_of played.old self.old) p
-            (outcome self.old.kind (board_of (game_of played.old self.old)) p) r (game_of played.new self.new)) }
+        ensures taken { IfOk result (λ r. IsRow held.now (move_row (in_place held.now (InGame (game_of played.old self.old))) (game_of played.old self.old) p
+            (outcome self.old.kind (board_of (game_of played.old self.old)) p)) r (InGame (game_of played.new self.new))) }
         ensures running { OnOk result (IsKeptUp held.now played.new self.new) }
         ensures followed { IsSome self.old.guide → IsOk result }
         ensures settled { IsSome (first_node (with_move (game_of played.old self.old) p false) held.now.roots) → IsOk result }
@@ -89,7 +89,7 @@ impl Course {
         requires to_reply { other (mover (board_of (game_of played.old self.old))) ≡ self.old.brain }
         requires going { self.old.ended ≡ false }
         requires goes_on { outcome self.old.kind (board_of (game_of played.old self.old)) p ≡ Outcome.GoesOn }
-        ensures made { IfOk result (λ r. IsMadeBy held.now (with_move (game_of played.old self.old) p false) r (game_of played.new self.new)) }
+        ensures made { IfOk result (λ r. IsRow held.now (Chooses (with_move (game_of played.old self.old) p false)) r (InGame (game_of played.new self.new))) }
         ensures running { OnOk result (IsKeptUp held.now played.new self.new) }
         ensures followed { IsSome self.old.guide → IsOk result }
         ensures settled { IsSome (first_node (with_move (game_of played.old self.old) p false) held.now.roots) → IsOk result }
@@ -127,7 +127,7 @@ impl Course {
         requires along { GoesOnAlong self.old.kind played.old.start played.old.moves }
         requires to_move { mover (board_of (game_of played.old self.old)) ≡ self.old.brain }
         requires ready { IsReady held.now played.old self.old }
-        ensures made { IfOk result (λ r. IsMadeBy held.now (game_of played.old self.old) r (game_of played.new self.new)) }
+        ensures made { IfOk result (λ r. IsRow held.now (Chooses (game_of played.old self.old)) r (InGame (game_of played.new self.new))) }
         ensures running { OnOk result (IsKeptUp held.now played.new self.new) }
         ensures followed { IsSome (followed_on held.now (game_of played.old self.old)) → IsOk result }
         ensures settled { IsSome (first_node (game_of played.old self.old) held.now.roots) → IsOk result }

@@ -6,15 +6,15 @@
 
 ghost use Rattle.strategy_checker.specs.HeldRoots.{HeldTable};
 ghost use Rattle.game_rules.specs.Grid.{is_on};
-ghost use Rattle.std.specs.Prelude.{◌≡◌, ◌≤◌, true, IsOk, IfOk, OnErr, IfSome, false, OnOk, IsSome};
+ghost use Rattle.std.specs.Prelude.{◌≡◌, ◌≤◌, true, IsOk, IfOk, OnErr, IfSome, None, false, OnOk, IsSome};
 ghost use Rattle.game_rules.specs.declared.TheConstants.{MIN_SIDE, MAX_SIDE};
 ghost use Rattle.game_rules.specs.declared.Point.{Point};
 ghost use Rattle.brain_session.specs.States.{Fresh, State, empty_board, point_at};
 ghost use Rattle.brain_session.specs.Batches.{game_from};
-ghost use Rattle.brain_session.specs.Steps.{begin_row, board_in, takeback_row, turn_row};
+ghost use Rattle.brain_session.specs.Steps.{begin_row, board_in, placed, takeback_row, turn_row};
 ghost use Rattle.brain_session.specs.Running.{IsPlace, StonesFit};
 ghost use Rattle.brain_session.specs.Memory.{is_following, is_settled, is_game};
-ghost use Rattle.brain_session.specs.Kept.{are_one as are_one_lem, IsBegun, IsPointOn, IsRow, IsStateOf, turn_refusal};
+ghost use Rattle.brain_session.specs.Kept.{are_one as are_one_lem, IsBegun, IsPointOn, IsStateOf, Takes, turn_refusal};
 
 use crate::Reaction;
 use crate::batch::BatchReader;
@@ -140,7 +140,7 @@ impl Round {
         rule: Option<RuleKind>,
     ) -> Result<Reaction, AllocError>
         requires place { IsPlace held.now self.old }
-        ensures row { IfOk result (λ r. (s : State) → IsStateOf held.now self.old rule s → IsRow held.now (begin_row s self.old) r self.new) }
+        ensures row { IfOk result (λ r. (s : State) → IsStateOf held.now self.old rule s → Takes (begin_row s self.old) s r (placed s self.new)) }
         ensures started { is_game self.old ≡ true → IsOk result }
         ensures place { OnOk result (IsPlace held.now self.new) }
         ensures unchanged { OnErr result (self.new ≡ self.old) }
@@ -169,7 +169,7 @@ impl Round {
         requires on { IfSome at (λ p. is_on (board_in self.old) p ≡ true) }
         requires place { IsPlace held.now self.old }
         ensures row { IfOk result (λ r. (s : State) (p : Point) → IsStateOf held.now self.old rule s → IsPointOn (board_in self.old) p at
-            → IsRow held.now (turn_row s self.old p) r self.new) }
+            → Takes (turn_row s self.old p) s r (placed s self.new)) }
         ensures following { is_following self.old ≡ true → IsOk result }
         ensures settled { (s : State) (p : Point) → IsStateOf held.now self.old rule s → IsPointOn (board_in self.old) p at
             → is_settled held.now (turn_row s self.old p) ≡ true → IsOk result }
@@ -217,7 +217,7 @@ impl Round {
         requires fresh { is_game self.old ≡ false }
         requires on { is_on (board_in self.old) p ≡ true }
         requires place { IsPlace held.now self.old }
-        ensures row { IfOk result (λ r. (s : State) → IsStateOf held.now self.old rule s → IsRow held.now (turn_row s self.old p) r self.new) }
+        ensures row { IfOk result (λ r. (s : State) → IsStateOf held.now self.old rule s → Takes (turn_row s self.old p) s r (placed s self.new)) }
         ensures settled { (s : State) → IsStateOf held.now self.old rule s → is_settled held.now (turn_row s self.old p) ≡ true → IsOk result }
         ensures place { OnOk result (IsPlace held.now self.new) }
         ensures unchanged { OnErr result (self.new ≡ self.old) }
@@ -235,8 +235,8 @@ impl Round {
     /// from an empty board, no game has begun.
     #[tactic(auto, using(crate::proofs::Rounds::untouched_by))]
     pub(crate) fn take_back(&mut self, at: Option<Point>) -> Reaction
-        ensures row { (s : State) (p : Point) → s.place ≡ self.old → IsPlace s.held self.old → IsPointOn (board_in self.old) p at
-            → IsRow s.held (takeback_row s self.old p) result self.new }
+        ensures row { (s : State) (p : Point) → s.place ≡ self.old → s.batch ≡ None → IsPlace s.held self.old → IsPointOn (board_in self.old) p at
+            → Takes (takeback_row s self.old p) s result (placed s self.new) }
         ensures place { (h : HeldTable) → IsPlace h self.old → IsPlace h self.new }
     {
         if !are_one(self.played.last(), at) {

@@ -11,8 +11,8 @@ use Rattle.game_rules.specs.declared.Side.TheVariants.{Black, White}
 use Rattle.game_rules.specs.declared.Outcome.{Outcome}
 use Rattle.game_rules.specs.declared.Outcome.TheVariants.{Refused, Wins as WinsNow, Fouls, Draws, GoesOn}
 use Rattle.game_rules.specs.declared.Point.{Point}
-use Rattle.game_rules.proofs.Boards.{empties_of-put, other-other}
-use Rattle.game_rules.proofs.Positions.{IsPosition-after, GoesOn-empty, mover-then}
+use Rattle.game_rules.proofs.Boards.{empties_of-put}
+use Rattle.game_rules.proofs.Positions.{GoesOn-empty}
 use Rattle.strategy_graph.specs.declared.Node.{Node}
 use Rattle.strategy_graph.specs.Tables.{answers_of, answer}
 use Rattle.strategy_graph.specs.Acceptance.{Answered, NotWinning, Meets, AcceptedWithin}
@@ -23,10 +23,10 @@ use Rattle.gomocup_text.specs.declared.Answer.TheVariants.{Move, Error}
 use Rattle.gomocup_text.specs.declared.ErrorText.TheVariants.{OpponentFoul}
 use Rattle.brain_session.specs.declared.Reaction.TheVariants.{Says}
 use Rattle.brain_session.specs.States.{Game, board_of, InGame, State}
-use Rattle.brain_session.specs.ChosenMoves.{Choice, chosen, is_foul}
+use Rattle.brain_session.specs.ChosenMoves.{Choice, is_foul}
 use Rattle.brain_session.specs.Steps.{Step, rule_of, if_supported, same_side, with_move, move_row, row_of, goes_on, with_choice, step_by, brain_step}
 use Rattle.brain_session.proofs.Courses.{moved}
-use Rattle.brain_session.proofs.HeldSteps.{state_in, by_node, StandsIn, accepted_node, turn_going, chosen-followed, lawful_then, turn_then, parts}
+use Rattle.brain_session.proofs.HeldSteps.{state_in, by_node, StandsIn, row_then, next_stands, lawful_then, turn_then, parts}
 use Rattle.strength_drill.specs.declared.positions.TheConstants.{SIDE}
 use Rattle.strength_drill.specs.DrillGames.{board_now, is_ended, moves_by, moves_of_brain, is_win, last_wins, is_won}
 
@@ -146,7 +146,7 @@ module _ (h : HeldTable) (rule : RuleKind) (s : State) (turns : ℕ) (p : IsPlay
 
       row-then : (o : Outcome) → there ≡ o → row_of now (Turn q.x q.y) ≡ move_row now game_now q o
       row-then o e =
-          turn_going h p.wish game_now q.x q.y (ap (λ (r : Outcome). not (goes_on r)) (here GoesOn on)) (turn_then h p.game p.i p.node p.more p.stands (here GoesOn on))
+          row_then h p.game p.i p.node p.more p.stands (here GoesOn on) p.wish q
           ∙ ap (λ (r : Option RuleKind). if_supported r now (λ rule. move_row now game_now q there)) p.supported
           ∙ ap (move_row now game_now q) e
 
@@ -177,33 +177,22 @@ module _ (h : HeldTable) (rule : RuleKind) (s : State) (turns : ℕ) (p : IsPlay
       answered : there ≡ GoesOn → (j : ℕ) → answer (answers_of p.node) q ≡ Some j → AcceptedWithin p.more p.game.rule h.table j (after (after board_before p.node.attack) q) → IsAnswered h rule (after board_before p.node.attack) q (brain_step s (Turn q.x q.y)) (turns + 1)
       answered e j reply accepted =
           let g2 = with_move game_now q false in
-          let next = accepted_node p.game.rule h.table j (board_of g2) p.more accepted in
-          let m = next.1 in
-          let chooses : chosen h g2 ≡ by_node j m = chosen-followed h g2 p.i j p.node m q (p.node.attack ∷ p.game.moves) refl refl p.stands.node reply next.3 in
-          let then_lawful = (lawful_then h p.game p.i p.node p.more p.stands (here GoesOn on)) in
+          let next = next_stands h p.game p.i p.node p.more p.stands (here GoesOn on) q e j reply accepted in
           let fewer = empties_of-put board_before (mover board_before) p.node.attack p.stands.lawful.board (GoesOn-empty rule board_before p.node.attack on) in
-          let fewer_still = empties_of-put (after board_before p.node.attack) (mover (after board_before p.node.attack)) q then_lawful.board empty in
+          let fewer_still = empties_of-put (after board_before p.node.attack) (mover (after board_before p.node.attack)) q lawful-then.board empty in
           let few = p.few in
           subst (λ (t : Step). IsAnswered h rule (after board_before p.node.attack) q t (turns + 1))
-          (sym (step-then GoesOn e ∙ ap (λ (c : Choice). let t : Step = record { reaction = Says (Move c.at); next = state_in h p.wish (with_choice g2 c) } in t) chooses))
+          (sym (step-then GoesOn e ∙ ap (λ (c : Choice). let t : Step = record { reaction = Says (Move c.at); next = state_in h p.wish (with_choice g2 c) } in t) next.chooses))
           (record {
             on = ap (λ (r : RuleKind). outcome r (after board_before p.node.attack) q) (sym p.rule_is) ∙ e;
             playing = record {
               wish = p.wish;
               game = g2;
               i = j;
-              node = m;
-              more = next.0;
+              node = next.node;
+              more = next.more;
               state = refl;
-              stands = record {
-                node = next.3;
-                wins = next.4;
-                lawful = IsPosition-after p.game.rule (after board_before p.node.attack) q then_lawful e;
-                turn =
-                    mover-then p.game.rule (after board_before p.node.attack) q then_lawful e
-                    ∙ ap other (turn_then h p.game p.i p.node p.more p.stands (here GoesOn on))
-                    ∙ other-other p.game.brain;
-              };
+              stands = next.stands;
               rule_is = p.rule_is;
               supported = p.supported;
               made = made-then;

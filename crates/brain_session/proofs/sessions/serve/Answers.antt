@@ -1,8 +1,8 @@
-use Rattle.std.proofs.Common.{◌≡◌, ◌∙◌, true, false, ◌++◌, sym, ap, subst, refl, arith, inl, inr, Option, Some, None, Result, Ok, Err}
+use Rattle.std.proofs.Common.{◌≡◌, ◌∙◌, true, false, sym, ap, subst, refl, arith, inl, inr, Option, Some, None, Result, Ok, Err}
 use Rattle.std.specs.Prelude.{IsErrOf}
 use Rattle.std.specs.Option.{option_to_list}
 use Rattle.std.specs.Result.{IsErrAnd}
-use Rattle.renju_io.proofs.GivenBytes.{Gives-then, Gives-some}
+use Rattle.renju_io.proofs.GivenBytes.{Gives-some}
 use Rattle.gomocup_text.specs.declared.Command.{Command}
 use Rattle.brain_session.specs.declared.sessions.ServeError.{ServeError}
 use Rattle.brain_session.specs.declared.sessions.ServeError.TheVariants.{ReadFailed, WriteFailed, Exhausted, Memory}
@@ -28,7 +28,7 @@ not_error o e is = cc
 
 pub loop-lines-init : goal.loop-lines-init
 loop-lines-init g c = record {
-  so_far = SoFar-begun c.args.brain.now (g.S.Source.left c.args.source.now) (g.O.Sink.written c.args.sink.now) c.in-Ok.lines c.in-Ok.ensures.fresh;
+  so_far = SoFar-begun c.args.brain.now _ _ c.in-Ok.lines c.in-Ok.ensures.fresh;
   source_stayed = refl;
   sink_stayed = refl;
 }
@@ -37,13 +37,13 @@ loop-lines-init g c = record {
 pub returns-in_err-command-clause-read_failed : goal.returns-in_err-command-clause-read_failed
 returns-in_err-command-clause-read_failed g c = λ failed.
     let is = same_error c.from_residual.result c.in_err-command.field-0.0 ReadFailed c.from_residual.ensures.1 failed in
-    StopsAtRead-open c.args.brain.now _ _ c.loop-lines.brain c.loop-lines.lines _ _ c.next_command.new.lines _ c.loop-lines.invariant.so_far
+    StopsAtRead-open _ _ c.next_command.new.lines _ c.loop-lines.invariant.so_far
     (λ e. not_error None c.in_err-command.field-0.0 (c.in_err-command.ensures.asks_no_more e).0) (c.in_err-command.ensures.stays (ap (λ x. Err x) is))
 
 too_long : (g : Over) (c : goal.After-drop-lines-inside-in_err-command-2 g) → c.in_err-command.field-0.0 ≡ Exhausted →
-    PastLimit c.args.brain.now (g.S.Source.left c.args.source.now) (g.O.Sink.written c.args.sink.now) c.loop-lines.brain (g.O.Sink.written c.loop-lines.sink)
+    PastLimit (g.S.Source.left c.args.source.now) (record { before = c.args.brain.now; after = c.loop-lines.brain; written_before = g.O.Sink.written c.args.sink.now; written_after = g.O.Sink.written c.loop-lines.sink })
 too_long g c is =
-    PastLimit-taken c.args.brain.now _ _ c.loop-lines.brain c.loop-lines.lines _ _ c.next_command.new.lines _ c.loop-lines.invariant.so_far
+    PastLimit-taken _ _ c.next_command.new.lines _ c.loop-lines.invariant.so_far
     (λ e. not_error None c.in_err-command.field-0.0 (c.in_err-command.ensures.asks_no_more e).0) (c.in_err-command.ensures.past (ap (λ x. Err x) is))
 
 pub returns-in_err-command-clause-exhausted : goal.returns-in_err-command-clause-exhausted
@@ -59,39 +59,40 @@ returns-in_err-command-clause-taken g c =
     let so_far = c.loop-lines.invariant.so_far in
     elim c.in_err-command.ensures.no_other [
       | inl is ↦
-          let keeps = c.in_err-command.ensures.stays (ap (λ x. Err x) is) in
-          Gives-some _ _ (so_far.given ++ keeps.given) (Gives-then _ _ _ so_far.given keeps.given so_far.gives keeps.gives)
-      | inr is ↦ GivesSome-past _ _ _ so_far.given c.loop-lines.lines c.next_command.new.lines so_far.gives (c.in_err-command.ensures.past (ap (λ x. Err x) is))
+          let stops = StopsAtRead-open _ _ c.next_command.new.lines _ so_far (λ e. not_error None c.in_err-command.field-0.0 (c.in_err-command.ensures.asks_no_more e).0) (c.in_err-command.ensures.stays (ap (λ x. Err x) is)) in
+          Gives-some _ _ stops.given stops.gives
+      | inr is ↦ GivesSome-past _ _ c.next_command.new.lines _ so_far (c.in_err-command.ensures.past (ap (λ x. Err x) is))
     ]
 
 -- one more line was read, and its answer was not written, or there was no memory for its step
 asked : (g : Over) (c : goal.After-drop-lines-inside-in_err-answer-3 g) →
-    Asked c.args.brain.now (g.S.Source.left c.args.source.now) (g.O.Sink.written c.args.sink.now) c.loop-lines.brain c.in-Some.command c.next_command.new.lines (g.S.Source.left c.next_command.new.source) (g.O.Sink.written c.loop-lines.sink)
+    Asked (record { left_before = g.S.Source.left c.args.source.now; reader = c.next_command.new.lines; left = g.S.Source.left c.next_command.new.source })
+    (record { before = c.args.brain.now; after = c.loop-lines.brain; written_before = g.O.Sink.written c.args.sink.now; written_after = g.O.Sink.written c.loop-lines.sink }) c.in-Some.command
 asked g c =
-    Asked-told c.args.brain.now _ _ c.loop-lines.brain c.loop-lines.lines _ _ c.in_ok-command.field-0 c.in-Some.command c.next_command.new.lines _ c.loop-lines.invariant.so_far c.in-Some.is
+    Asked-told _ _ c.in_ok-command.field-0 c.in-Some.command c.next_command.new.lines _ c.loop-lines.invariant.so_far c.in-Some.is
     (λ e. ok_is c.in_ok-command.field-0 None (c.in_ok-command.ensures.asks_no_more e).0) c.in_ok-command.ensures.told c.in_ok-command.ensures.limit c.in_ok-command.ensures.knows_end
 
 pub returns-in_err-answer-clause-write_failed : goal.returns-in_err-answer-clause-write_failed
 returns-in_err-answer-clause-write_failed g c = λ failed.
     let is = same_error c.from_residual-in_err-answer.result c.in_err-answer.field-0.0 WriteFailed c.from_residual-in_err-answer.ensures.1 failed in
-    StopsAtWrite-asked c.args.brain.now _ _ c.loop-lines.brain c.in-Some.command c.next_command.new.lines _ _ c.answer.new.brain _ (asked g c)
+    StopsAtWrite-asked _ _ c.in-Some.command c.answer.new.brain _ (asked g c)
     (c.in_err-answer.ensures.write_failed (ap (λ x. Err x) is))
 
 pub returns-in_err-answer-clause-memory : goal.returns-in_err-answer-clause-memory
 returns-in_err-answer-clause-memory g c = λ failed.
     let is = same_error c.from_residual-in_err-answer.result c.in_err-answer.field-0.0 Memory c.from_residual-in_err-answer.ensures.1 failed in
     let none = c.in_err-answer.ensures.memory (ap (λ x. Err x) is) in
-    inr (StopsAtStep-asked c.args.brain.now _ _ c.loop-lines.brain c.in-Some.command c.next_command.new.lines _ _ c.answer.new.brain _ (asked g c)
-    none.0 none.1 none.2)
+    inr (StopsAtStep-asked _ _ c.in-Some.command c.answer.new.brain _ (asked g c) none.0 none.1 none.2)
 
 pub returns-in_err-answer-clause-taken : goal.returns-in_err-answer-clause-taken
-returns-in_err-answer-clause-taken g c = Gives-some _ _ (asked g c).given (asked g c).gives
+returns-in_err-answer-clause-taken g c = Gives-some _ _ (asked g c).read.takes.given (asked g c).read.takes.gives
 
 -- END was read
 asked_end : (g : Over) (c : goal.After-drop-lines-inside-then-not-branch-3 g) →
-    Asked c.args.brain.now (g.S.Source.left c.args.source.now) (g.O.Sink.written c.args.sink.now) c.loop-lines.brain c.in-Some.command c.next_command.new.lines (g.S.Source.left c.next_command.new.source) (g.O.Sink.written c.loop-lines.sink)
+    Asked (record { left_before = g.S.Source.left c.args.source.now; reader = c.next_command.new.lines; left = g.S.Source.left c.next_command.new.source })
+    (record { before = c.args.brain.now; after = c.loop-lines.brain; written_before = g.O.Sink.written c.args.sink.now; written_after = g.O.Sink.written c.loop-lines.sink }) c.in-Some.command
 asked_end g c =
-    Asked-told c.args.brain.now _ _ c.loop-lines.brain c.loop-lines.lines _ _ c.in_ok-command.field-0 c.in-Some.command c.next_command.new.lines _ c.loop-lines.invariant.so_far c.in-Some.is
+    Asked-told _ _ c.in_ok-command.field-0 c.in-Some.command c.next_command.new.lines _ c.loop-lines.invariant.so_far c.in-Some.is
     (λ e. ok_is c.in_ok-command.field-0 None (c.in_ok-command.ensures.asks_no_more e).0) c.in_ok-command.ensures.told c.in_ok-command.ensures.limit c.in_ok-command.ensures.knows_end
 
 stops : (g : Over) (c : goal.After-drop-lines-inside-then-not-branch-3 g) → c.in_ok-answer.field-0 ≡ false
@@ -100,38 +101,37 @@ stops g c = grind (arith, c.if-not-branch.true)
 pub returns-then-not-branch-clause-ok : goal.returns-then-not-branch-clause-ok
 returns-then-not-branch-clause-ok g c =
     let answered = subst (λ goes_on. IsAnswered c.loop-lines.brain c.in-Some.command goes_on c.answer.new.brain (g.O.Sink.written c.loop-lines.sink) (g.O.Sink.written c.answer.new.sink)) (stops g c) c.in_ok-answer.ensures.stepped in
-    HasAnswered-end c.args.brain.now _ _ c.loop-lines.brain c.in-Some.command c.next_command.new.lines _ _ c.answer.new.brain _ (asked_end g c)
-    answered (c.in_ok-answer.ensures.ends (ap (λ b. Ok b) (stops g c)))
+    HasAnswered-end _ _ c.in-Some.command c.answer.new.brain _ (asked_end g c) answered (c.in_ok-answer.ensures.ends (ap (λ b. Ok b) (stops g c)))
 
 pub returns-then-not-branch-clause-ended : goal.returns-then-not-branch-clause-ended
 returns-then-not-branch-clause-ended g c =
-    IsReadToEnd-end c.args.brain.now _ _ c.loop-lines.brain c.in-Some.command c.next_command.new.lines _ _ (asked_end g c)
-    (c.in_ok-answer.ensures.ends (ap (λ b. Ok b) (stops g c)))
+    IsReadToEnd-end _ _ c.in-Some.command (asked_end g c) (c.in_ok-answer.ensures.ends (ap (λ b. Ok b) (stops g c)))
 
 pub returns-then-not-branch-clause-taken : goal.returns-then-not-branch-clause-taken
-returns-then-not-branch-clause-taken g c = Gives-some _ _ (asked_end g c).given (asked_end g c).gives
+returns-then-not-branch-clause-taken g c = Gives-some _ _ (asked_end g c).read.takes.given (asked_end g c).read.takes.gives
 
 -- the session goes on
 pub loop-lines-preserved : goal.loop-lines-preserved
 loop-lines-preserved g c =
     let goes_on : c.in_ok-answer.field-0 ≡ true = grind (arith, c.if-not-branch.false) in
     let now =
-    Asked-told c.args.brain.now _ _ c.loop-lines.brain c.loop-lines.lines _ _ c.in_ok-command.field-0 c.in-Some.command c.next_command.new.lines _ c.loop-lines.invariant.so_far c.in-Some.is
+    Asked-told _ _ c.in_ok-command.field-0 c.in-Some.command c.next_command.new.lines _ c.loop-lines.invariant.so_far c.in-Some.is
     (λ e. ok_is c.in_ok-command.field-0 None (c.in_ok-command.ensures.asks_no_more e).0) c.in_ok-command.ensures.told c.in_ok-command.ensures.limit c.in_ok-command.ensures.knows_end in
     let answered = subst (λ goes_on. IsAnswered c.loop-lines.brain c.in-Some.command goes_on c.answer.new.brain (g.O.Sink.written c.loop-lines.sink) (g.O.Sink.written c.answer.new.sink)) goes_on c.in_ok-answer.ensures.stepped in
     record {
-      so_far = SoFar-answered c.args.brain.now _ _ c.loop-lines.brain c.in-Some.command c.next_command.new.lines _ _ c.answer.new.brain _ now answered;
+      so_far = SoFar-answered _ _ c.in-Some.command c.answer.new.brain _ now answered;
       source_stayed = c.in_ok-command.ensures.uncounted (λ e. cc) ∙ c.loop-lines.invariant.source_stayed;
       sink_stayed = c.in_ok-answer.ensures.sink_uncounted (λ e. cc) ∙ c.loop-lines.invariant.sink_stayed;
     }
 
 -- the input has ended
 ends : (g : Over) (c : goal.After-drop-lines-inside-4 g) →
-    EndsAt c.args.brain.now (g.S.Source.left c.args.source.now) (g.O.Sink.written c.args.sink.now) c.loop-lines.brain (g.S.Source.left c.next_command.new.source) (g.O.Sink.written c.loop-lines.sink)
+    EndsAt (record { left_before = g.S.Source.left c.args.source.now; reader = c.next_command.new.lines; left = g.S.Source.left c.next_command.new.source })
+    (record { before = c.args.brain.now; after = c.loop-lines.brain; written_before = g.O.Sink.written c.args.sink.now; written_after = g.O.Sink.written c.loop-lines.sink })
 ends g c =
     let none = none_is c.in_ok-command.field-0 c.in_default-2.not-Some in
     let told = c.in_ok-command.ensures.end (ap (λ o. Ok o) none) in
-    EndsAt-told c.args.brain.now _ _ c.loop-lines.brain c.loop-lines.lines _ _ c.next_command.new.lines _ c.loop-lines.invariant.so_far
+    EndsAt-told _ _ c.next_command.new.lines _ c.loop-lines.invariant.so_far
     (subst (λ (o : Option Command). TakesCommands c.loop-lines.lines (g.S.Source.left c.loop-lines.source) (option_to_list o) c.next_command.new.lines (g.S.Source.left c.next_command.new.source)) none c.in_ok-command.ensures.told)
     told.0 told.1 told.2 (λ e. ap (λ source. g.S.Source.left source) (c.in_ok-command.ensures.asks_no_more e).2)
 

@@ -7,7 +7,8 @@ use Rattle.brain_session.proofs.sessions.serve.Given as goal
 -- the lines so far are answered, and no device has failed
 abbrev pub invariant-loop-lines : goal.invariant-loop-lines
 invariant-loop-lines g l = record {
-  so_far : SoFar l.fn.brain (g.S.Source.left l.fn.source) (g.O.Sink.written l.fn.sink) l.brain l.lines (g.S.Source.left l.source) (g.O.Sink.written l.sink);
+  so_far : SoFar (record { left_before = g.S.Source.left l.fn.source; reader = l.lines; left = g.S.Source.left l.source })
+      (record { before = l.fn.brain; after = l.brain; written_before = g.O.Sink.written l.fn.sink; written_after = g.O.Sink.written l.sink });
   source_stayed : HasStayed (g.S.Source.faults l.fn.source) (g.S.Source.faults l.source);
   sink_stayed : HasStayed (g.O.Sink.faults l.fn.sink) (g.O.Sink.faults l.sink);
 }

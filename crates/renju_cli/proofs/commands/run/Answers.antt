@@ -2,6 +2,8 @@ use Rattle.std.proofs.Common.{◌≡◌, inl, refl, sym, subst, ◌∙◌, lengt
 use Rattle.std.specs.Prelude.{map, string_bytes}
 use Rattle.renju_cli.specs.declared.commands.Form.{Form}
 use Rattle.renju_cli.specs.declared.commands.Form.TheVariants.{BrainWith}
+use Rattle.renju_cli.specs.Statuses.{status_number}
+use Rattle.renju_cli.specs.Runs.{Run, run_of, change}
 use Rattle.renju_cli.specs.Brains.{second_word}
 use Rattle.renju_cli.specs.Commands.{IsForm}
 use Rattle.renju_cli.proofs.Words.{same-count, word-after}
@@ -21,7 +23,10 @@ returns-in-None-clause-report g c = inl (record {
 pub returns-in-Some-BrainWith-clause-report : goal.returns-in-Some-BrainWith-clause-report
 returns-in-Some-BrainWith-clause-report g c =
     let words = map string_bytes c.args.words.now in
+    let run : Run = run_of words (change g.I.Source.left g.I.Source.faults c.args.input.now c.play_with.new.input)
+    (change g.O.Sink.written g.O.Sink.faults c.args.output.now c.play_with.new.output)
+    (change g.F.Shelf.files g.F.Shelf.faults c.args.shelf.now c.play_with.new.shelf) (status_number c.play_with.result) in
     let form : IsForm words BrainWith = subst (λ (f : Form). IsForm words f) c.in-Some-BrainWith.field-0-is c.in-Some-BrainWith.ensures.form in
     let two : length c.args.words.now ≡ 2 = same-count string_bytes _ _ form.spelled in
     let file : c.as_str.result.now ≡ second_word words = c.as_str.ensures.value ∙ sym (word-after string_bytes c.args.words.now c.index-words-1.result two c.index-words-1.is) in
-    file-reported _ c.as_str.result.now form file (c.play_with.ensures.plays words)
+    file-reported run c.as_str.result.now form file (c.play_with.ensures.plays words)

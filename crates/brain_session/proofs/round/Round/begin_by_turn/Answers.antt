@@ -5,9 +5,9 @@ use Rattle.game_rules.specs.Play.{outcome}
 use Rattle.game_rules.specs.declared.RuleKind.{RuleKind}
 use Rattle.game_rules.specs.declared.Side.TheVariants.{White}
 use Rattle.brain_session.specs.States.{Game, Place, InGame, board_of}
-use Rattle.brain_session.specs.Steps.{board_in, turn_row}
+use Rattle.brain_session.specs.Steps.{board_in, move_row, placed, turn_row}
 use Rattle.brain_session.specs.Memory.{is_game}
-use Rattle.brain_session.specs.Kept.{IsReplyTaken, IsRow, IsStateOf, game_of, place_of}
+use Rattle.brain_session.specs.Kept.{in_place, IsRow, IsStateOf, Takes, game_of, place_of}
 use Rattle.brain_session.proofs.Rounds.{new-game, no-game, round-kept}
 use Rattle.brain_session.proofs.Rows.{first-taken}
 use Rattle.brain_session.proofs.round.Round.begin_by_turn.Goals as goal
@@ -23,9 +23,9 @@ returns-clause-row c = λ s state.
     let view : place_of m o ≡ c.args.self.now = c.self.view_is in
     let none = no-game m o (ap is_game view ∙ c.requires.fresh) c.self.invariant in
     let fresh = sym view ∙ none.0 in
-    let taken = subst (λ (g : Game). IsReplyTaken h g c.args.p (outcome g.rule (board_of g) c.args.p) r next) (new-game m c.new-course.result k White none.1 c.new-course.ensures.begun) c.in_ok-reaction.ensures.taken in
+    let taken = subst (λ (g : Game). IsRow h (move_row (in_place h (InGame g)) g c.args.p (outcome g.rule (board_of g) c.args.p)) r (InGame next)) (new-game m c.new-course.result k White none.1 c.new-course.ensures.begun) c.in_ok-reaction.ensures.taken in
     let at : IsStateOf h c.args.self.now (Some k) s = subst (λ (u : Option RuleKind). IsStateOf h c.args.self.now u s) c.in-Some.is state in
-    subst (λ (w : Place). IsRow h (turn_row s w c.args.p) r (InGame next)) (sym fresh)
+    subst (λ (w : Place). Takes (turn_row s w c.args.p) s r (placed s (InGame next))) (sym fresh)
     (first-taken h m.start.width m.start.height k s c.args.p r next
     (subst (λ (w : Place). IsStateOf h w (Some k) s) fresh at)
     (ap (λ (w : Place). is_on (board_in w) c.args.p) (sym fresh) ∙ c.requires.on)

@@ -6,17 +6,17 @@ use Rattle.gomocup_text.specs.declared.ErrorText.TheVariants.{BadMove}
 use Rattle.brain_session.specs.declared.Reaction.TheVariants.{Says}
 use Rattle.brain_session.specs.States.{Place}
 use Rattle.brain_session.specs.ChosenMoves.{last_move}
-use Rattle.brain_session.specs.Steps.{board_in, takeback_row}
+use Rattle.brain_session.specs.Steps.{board_in, placed, takeback_row}
 use Rattle.brain_session.specs.Running.{IsPlace}
-use Rattle.brain_session.specs.Kept.{IsPointOn, IsRow, are_one, place_of}
+use Rattle.brain_session.specs.Kept.{IsPointOn, Takes, are_one, place_of}
 use Rattle.brain_session.proofs.Rows.{takeback-bad}
 use Rattle.brain_session.proofs.round.Round.take_back.Goals as goal
 
 pub returns-then-not-are_one-clause-row : goal.returns-then-not-are_one-clause-row
-returns-then-not-are_one-clause-row c = λ s p here place point.
+returns-then-not-are_one-clause-row c = λ s p here unread place point.
     let m = c.self.inside.played in
     let o = c.self.inside.course in
     let view : place_of m o ≡ c.args.self.now = c.self.view_is in
     let e : are_one (last_move m.moves) c.args.at ≡ false = ap (λ (x : Option Point). are_one x c.args.at) (sym c.last.ensures.last) ∙ sym c.are_one.ensures.one ∙ c.if-not-are_one.true in
-    subst (λ (w : Place). s.place ≡ w → IsPlace s.held w → IsPointOn (board_in w) p c.args.at → IsRow s.held (takeback_row s w p) (Says (Error BadMove)) w) view
-    (λ a b d. takeback-bad m o s p c.args.at a b d e) here place point
+    subst (λ (w : Place). s.place ≡ w → IsPlace s.held w → IsPointOn (board_in w) p c.args.at → Takes (takeback_row s w p) s (Says (Error BadMove)) (placed s w)) view
+    (λ a b d. takeback-bad m o s p c.args.at a unread b d e) here place point

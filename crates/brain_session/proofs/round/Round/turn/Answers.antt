@@ -6,9 +6,9 @@ use Rattle.gomocup_text.specs.declared.Answer.TheVariants.{Error}
 use Rattle.gomocup_text.specs.declared.ErrorText.TheVariants.{BadMove}
 use Rattle.brain_session.specs.declared.Reaction.TheVariants.{Says}
 use Rattle.brain_session.specs.States.{Game, Place, InGame, State}
-use Rattle.brain_session.specs.Steps.{board_in, turn_row}
-use Rattle.brain_session.specs.Kept.{IsPointOn, IsRound, IsRow, IsStateOf, game_of, place_of, turn_refusal}
-use Rattle.brain_session.proofs.Rows.{turn-off, rows-taken}
+use Rattle.brain_session.specs.Steps.{board_in, placed, turn_row}
+use Rattle.brain_session.specs.Kept.{IsPointOn, IsRound, IsStateOf, Takes, game_of, place_of, turn_refusal}
+use Rattle.brain_session.proofs.Rows.{turn-off, turn-taken}
 use Rattle.brain_session.proofs.Rounds.{round-after}
 use Rattle.brain_session.proofs.round.Round.turn.Goals as goal
 
@@ -18,7 +18,7 @@ returns-in_default-at-clause-row c = λ s p state point.
     let m = c.self.inside.played in
     let o = c.self.inside.course in
     let view : place_of m o ≡ c.args.self.now = c.self.view_is in
-    subst (λ (w : Place). turn_refusal w c.args.rule ≡ None → IsStateOf h w c.args.rule s → is_on (board_in w) p ≡ false → IsRow h (turn_row s w p) (Says (Error BadMove)) w) view
+    subst (λ (w : Place). turn_refusal w c.args.rule ≡ None → IsStateOf h w c.args.rule s → is_on (board_in w) p ≡ false → Takes (turn_row s w p) s (Says (Error BadMove)) (placed s w)) view
     (turn-off h m o c.args.rule s p)
     (sym c.in_default.ensures.error)
     state
@@ -42,6 +42,6 @@ returns-in-Some-course-clause-row c =
     let m = c.self.inside.played in
     let next : Game = game_of c.take_reply.new.played c.take_reply.new.self in
     let here : InGame (game_of m c.in-Some-course.course) ≡ c.args.self.now = ap (place_of m) (sym c.in-Some-course.is) ∙ c.self.view_is in
-    subst (λ (w : Place). turn_refusal w c.args.rule ≡ None → IfOk c.take_reply.result (λ r. (s : State) (p : Point) → IsStateOf h w c.args.rule s → IsPointOn (board_in c.args.self.now) p c.args.at → IsRow h (turn_row s w p) r (InGame next))) here
-    (λ may. rows-taken h (game_of m c.in-Some-course.course) c.args.rule (board_in c.args.self.now) c.args.at c.in-Some-at.p c.take_reply.result next may c.in-Some-at.is c.take_reply.ensures.taken)
+    subst (λ (w : Place). turn_refusal w c.args.rule ≡ None → IfOk c.take_reply.result (λ r. (s : State) (p : Point) → IsStateOf h w c.args.rule s → IsPointOn (board_in c.args.self.now) p c.args.at → Takes (turn_row s w p) s r (placed s (InGame next)))) here
+    (λ may. turn-taken h (game_of m c.in-Some-course.course) c.args.rule (board_in c.args.self.now) c.args.at c.in-Some-at.p c.take_reply.result next may c.in-Some-at.is c.take_reply.ensures.taken)
     (sym c.in_default.ensures.error)
