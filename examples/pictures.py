@@ -260,7 +260,8 @@ def of_repository(is_check):
         elif not there.exists() or there.read_text() != drawn:
             print(f"FAILED examples/{name}.svg: it isn't what examples/pictures.py draws; run that script")
             failed = 1
-    for path in HERE.rglob("*.svg"):
+    # examples/games.py draws those of the games.
+    for path in [*HERE.glob("*.svg"), *HERE.glob("wins/*.svg")]:
         if str(path.relative_to(HERE).with_suffix("")) not in PICTURES:
             print(f"FAILED {path.relative_to(HERE.parent)}: examples/pictures.py doesn't draw it")
             failed = 1
