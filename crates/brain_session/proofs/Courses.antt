@@ -4,7 +4,7 @@ use Rattle.std.specs.Prelude.{Option, Some, None, IfSome, MatchOption, is_some, 
 use Rattle.std.specs.Option.{option_map, option_and_then}
 use Rattle.game_rules.specs.Grid.{Grid, is_empty, empties_of}
 use Rattle.game_rules.specs.Shapes.{five}
-use Rattle.game_rules.specs.Play.{IsPosition, outcome, outcome_by, foul_of, after, mover, other}
+use Rattle.game_rules.specs.Play.{IsPosition, outcome, outcome_by, foul_of, after, mover, other, goes_on}
 use Rattle.game_rules.specs.declared.Foul.{Foul}
 use Rattle.game_rules.specs.declared.RuleKind.{RuleKind}
 use Rattle.game_rules.specs.declared.Outcome.{Outcome}
@@ -12,6 +12,7 @@ use Rattle.game_rules.specs.declared.Outcome.TheVariants.{Refused, Wins, Fouls, 
 use Rattle.game_rules.specs.declared.Point.{Point}
 use Rattle.game_rules.proofs.Positions.{IsPosition-after, mover-other, mover-then}
 use Rattle.game_rules.proofs.Points.{taken_refused}
+use Rattle.game_rules.proofs.Outcomes.{goes_on-is}
 use Rattle.game_rules.specs.Games.{wins_by_fours, wins_under}
 use Rattle.strategy_graph.specs.Tables.{answer_at}
 use Rattle.strategy_checker.specs.HeldRoots.{HeldTable}
@@ -20,7 +21,6 @@ use Rattle.brain_session.specs.declared.guide.Guide.TheVariants.{HeldNode as Hel
 use Rattle.brain_session.specs.declared.course.Course.{Course}
 use Rattle.brain_session.specs.States.{Followed, HeldNode, OwnWin, Game, board_after, board_of}
 use Rattle.brain_session.specs.ChosenMoves.{Choice, or_else, after_reply, last_move, move_by, by_following, followed_on, by_followed, first_node, by_held, own_win, by_own_win, by_plain_move, chosen_anew, chosen}
-use Rattle.brain_session.specs.Steps.{goes_on}
 use Rattle.brain_session.specs.Running.{GoesOnAlong, EndsGame, FollowsAt, FollowsOn, IsOpponentNext, IsPlayed}
 use Rattle.brain_session.specs.Kept.{Moves, GuidesAt, GuidesOn, GoesOnAfter, IsKeptUp, IsInTable, IsReady, NodeStandsAt, StandsAt, followed_of, game_of, guide_after}
 use Rattle.brain_session.proofs.Guiding.{stands-goes_on, goes_on-after}
@@ -65,12 +65,12 @@ pub chosen-moves : (h : HeldTable) (g : Game) → MovesBy h g (chosen h g)
 unfolding chosen
 chosen-moves h g = else-moves h g (by_followed h g) (λ _. chosen_anew h g) (followed-moves h g (followed_on h g)) (anew-moves h g)
 
--- where nothing that was followed goes on, the move is chosen anew
+-- where nothing that was followed goes_on-is on, the move is chosen anew
 pub chosen-anew : (h : HeldTable) (g : Game) → followed_on h g ≡ None → chosen h g ≡ chosen_anew h g
 unfolding chosen
 chosen-anew h g e = ap (λ (o : Option Followed). or_else (option_and_then (by_following h g) o) (λ _. chosen_anew h g)) e
 
--- where what was followed goes on, its move is chosen
+-- where what was followed goes_on-is on, its move is chosen
 pub chosen-followed : (h : HeldTable) (g : Game) (c : Choice) → by_followed h g ≡ Some c → chosen h g ≡ c
 unfolding chosen
 chosen-followed h g c e = ap (λ (o : Option Choice). or_else o (λ _. chosen_anew h g)) e
@@ -87,7 +87,7 @@ pub node-in_table : (h : HeldTable) (rule : RuleKind) (b : Grid) (g : Guide) →
 node-in_table h rule b (HeldGuide node) at = at.0
 node-in_table h rule b (OwnGuide own) at = (at.in_table, wins-some rule own.moves b at.wins)
 
--- what a guide that answered goes on to
+-- what a guide that answered goes_on-is on to
 pub gone_on : (o : Option Guide) (r : Bool) (old new : Guide) → MatchOption o ((r ≡ false) × (new ≡ old)) (λ g. (r ≡ true) × (new ≡ g)) → r ≡ true → o ≡ Some new
 gone_on None r old new answered e = cc
 gone_on (Some g) r old new answered e = ap (λ (x : Guide). Some x) (sym answered.1)
@@ -102,7 +102,7 @@ after-followed h (OwnGuide own) q new e = by_answer (answer_at own.table own.nod
   by_answer None e = cc
   by_answer (Some j) e = ap (option_map followed_of) e
 
--- a course that is ready after the reply q, and follows this guide, which goes on to another
+-- a course that is ready after the reply q, and follows this guide, which goes_on-is on to another
 module _ (h : HeldTable) (m : Moves) (c : Course) (q : Point) (guide new : Guide) (last : last_move m.moves ≡ Some q) (follows : c.guide ≡ Some guide) (ready : IsReady h m c) (after_it : guide_after h guide q ≡ Some new) where
   ready-on : GoesOnAfter h c.kind (board_after m.start m.moves) guide q
   ready-on = subst (λ (o : Option Point). IfSome o (GoesOnAfter h c.kind (board_after m.start m.moves) guide)) last
@@ -126,13 +126,6 @@ ends Wins moved e = tt
 ends (Fouls f) moved e = tt
 ends Draws moved e = tt
 ends GoesOn moved e = absurd (cc)
-
-goes : (o : Outcome) → goes_on o ≡ true → o ≡ GoesOn
-goes Refused e = absurd (cc)
-goes Wins e = absurd (cc)
-goes (Fouls f) e = absurd (cc)
-goes Draws e = absurd (cc)
-goes GoesOn e = refl
 
 unrefused : (wins last : Bool) (o : Option Foul) → outcome_by true wins o last ≢ Refused
 unrefused true last (Some f) e = cc
@@ -167,7 +160,7 @@ module _ (h : HeldTable) (m : Moves) (c : Course) (at : Point) (along : GoesOnAl
   kept-moved guide empty stands moves = by_test (goes_on (outcome c.kind here at)) refl where
     by_test : (r : Bool) → goes_on (outcome c.kind here at) ≡ r → IsKeptUp h (record m { moves = at ∷ m.moves }) (record c { ended = not r; guide = guide })
     by_test true e =
-        let go : outcome c.kind here at ≡ GoesOn = goes (outcome c.kind here at) e in
+        let go : outcome c.kind here at ≡ GoesOn = goes_on-is (outcome c.kind here at) e in
         let guided = guided-after guide go stands moves in
         record {
           running = record { played = (along, go); follows = guided.0; opponent_moves = opponent-after (is_some (option_map followed_of guide)) go };
@@ -187,7 +180,7 @@ ends-empty rule b p ended = by_test (is_empty b p) refl where
   by_test true e = refl
   by_test false e = absurd (subst EndsGame (taken_refused rule b p e) ended)
 
--- a game that goes on, where the opponent makes a move with which it goes on
+-- a game that goes_on-is on, where the opponent makes a move with which it goes_on-is on
 module _ (h : HeldTable) (m : Moves) (c : Course) (p : Point) (kept : IsKeptUp h m c) (going : c.ended ≡ false) (go : outcome c.kind (board_after m.start m.moves) p ≡ GoesOn) where
   abbrev there : Moves
   there = record m { moves = p ∷ m.moves }

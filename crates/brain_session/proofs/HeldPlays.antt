@@ -2,7 +2,7 @@
 use Rattle.std.proofs.Common.{◌≡◌, ℕ, suc, ◌≤◌, ◌<◌, Bool, true, false, cond, List, [], ◌∷◌, ◌++◌, map, length, refl, sym, ap, ◌∙◌, arith}
 use Rattle.std.specs.Prelude.{Option, Some, None, slice_get}
 use Rattle.game_rules.specs.Grid.{Grid}
-use Rattle.game_rules.specs.Play.{outcome, after}
+use Rattle.game_rules.specs.Play.{outcome, after, is_foul}
 use Rattle.game_rules.specs.Games.{WinsOr}
 use Rattle.game_rules.specs.declared.RuleKind.{RuleKind}
 use Rattle.game_rules.specs.declared.Foul.{Foul}
@@ -19,7 +19,6 @@ use Rattle.strategy_graph.specs.Games.{End, Won, Lost, Drawn, NoMove, Open, Ille
 use Rattle.gomocup_text.specs.declared.Answer.{Answer}
 use Rattle.gomocup_text.specs.declared.Answer.TheVariants.{Move, Error}
 use Rattle.gomocup_text.specs.declared.ErrorText.TheVariants.{OpponentFoul}
-use Rattle.brain_session.specs.ChosenMoves.{is_foul}
 use Rattle.brain_session.specs.HeldGames.{ends_with_foul, game_answers, IsWonWithin}
 
 -- the answers to the attack a and to these replies are those of the game from node i at b, which is won within d or open

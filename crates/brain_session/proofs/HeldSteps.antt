@@ -2,7 +2,7 @@
 use Rattle.std.proofs.Common.{◌≡◌, ℕ, zero, suc, ◌<◌, Bool, true, false, cond, not, List, [], ◌∷◌, refl, ap, subst, ◌∙◌}
 use Rattle.std.specs.Prelude.{Option, Some, None, slice_get}
 use Rattle.game_rules.specs.Grid.{Grid}
-use Rattle.game_rules.specs.Play.{IsPosition, outcome, after, mover, other}
+use Rattle.game_rules.specs.Play.{IsPosition, outcome, after, mover, other, goes_on}
 use Rattle.game_rules.specs.Games.{WinsOr, LosesOr}
 use Rattle.game_rules.proofs.Positions.{IsPosition-after, mover-then}
 use Rattle.game_rules.proofs.Games.{WinsOr-map}
@@ -28,7 +28,7 @@ use Rattle.gomocup_text.specs.declared.ErrorText.TheVariants.{UnsupportedRule, G
 use Rattle.brain_session.specs.declared.Reaction.TheVariants.{Says}
 use Rattle.brain_session.specs.States.{HeldNode, Game, board_of, point_at, InGame, State}
 use Rattle.brain_session.specs.ChosenMoves.{Choice, chosen}
-use Rattle.brain_session.specs.Steps.{Row, Chooses, fails, rule_of, if_supported, same_side, with_move, end_row, move_row, row_of, goes_on, with_choice, step_by}
+use Rattle.brain_session.specs.Steps.{Row, Chooses, fails, rule_of, if_supported, same_side, with_move, end_row, move_row, row_of, with_choice, step_by}
 use Rattle.brain_session.specs.HeldGames.{is_no_reply, then_replies, replies, then_answers_to, answers_to_replies}
 use Rattle.brain_session.proofs.HeldPlays.{GoesBy, not_winning, by_none, by_foul, by_next, depth_some, deeper}
 

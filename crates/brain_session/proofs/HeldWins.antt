@@ -2,7 +2,7 @@
 use Rattle.std.proofs.Common.{◌≡◌, ℕ, suc, ◌≤◌, Bool, true, false, List, [], ◌∷◌, get_or, length, refl, sym, subst, arith, ◌⊎◌, inl, inr}
 use Rattle.std.specs.Prelude.{Option, Some, None, slice_get}
 use Rattle.game_rules.specs.Grid.{Grid, is_empty}
-use Rattle.game_rules.specs.Play.{outcome, outcome_by, after}
+use Rattle.game_rules.specs.Play.{outcome, outcome_by, after, is_foul}
 use Rattle.game_rules.specs.Games.{WinsOr, LosesOr}
 use Rattle.game_rules.proofs.Games.{WinsOr-map}
 use Rattle.game_rules.specs.declared.RuleKind.{RuleKind}
@@ -18,7 +18,6 @@ use Rattle.strategy_graph.specs.Acceptance.{Answered, NotWinning, Meets, Accepte
 use Rattle.strategy_graph.specs.Roots.{AcceptedRoot}
 use Rattle.strategy_graph.specs.Games.{End, Won, Lost, Drawn, NoMove, Open, IllegalReply, game, attacks}
 use Rattle.strategy_graph.proofs.Answering.{answer-greatest, Answered-elim}
-use Rattle.brain_session.specs.ChosenMoves.{is_foul}
 use Rattle.brain_session.specs.HeldGames.{IsWonWithin, AreReplies, WinsGames, AnswersAndWins, RootWinsGames, WhoeverHoldsWins}
 use Rattle.brain_session.proofs.HeldPlays.{not_winning, by_none, by_foul, attacks-first, attacks-foul, attacks-next, won_next, depth_some, deeper}
 use Rattle.brain_session.proofs.HeldSteps.{accepted_node}

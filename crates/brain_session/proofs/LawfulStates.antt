@@ -6,7 +6,7 @@ use Rattle.std.specs.Option.{option_and_then}
 use Rattle.std.proofs.lemmas.List.{length-replicate}
 use borrow.Author.Tests.{leb-true}
 use Rattle.game_rules.specs.Grid.{Grid, IsBoard, is_on, put}
-use Rattle.game_rules.specs.Play.{IsPosition, outcome, mover, other}
+use Rattle.game_rules.specs.Play.{IsPosition, outcome, mover, other, goes_on}
 use Rattle.game_rules.specs.declared.TheConstants.{MIN_SIDE}
 use Rattle.game_rules.specs.declared.RuleKind.{RuleKind}
 use Rattle.game_rules.specs.declared.Side.{Side}
@@ -28,7 +28,7 @@ use Rattle.brain_session.specs.declared.batch.BatchStone.{BatchStone}
 use Rattle.brain_session.specs.States.{Game, board_of, empty_board, new_game, Place, NoBoard, Fresh, InGame, Batch, State, new_brain}
 use Rattle.brain_session.specs.Batches.{side_of, colour_in, with_stones, lawful_game, game_from}
 use Rattle.brain_session.specs.ChosenMoves.{Choice, chosen}
-use Rattle.brain_session.specs.Steps.{Row, Reacts, Chooses, placed, is_side, board_in, same_side, with_move, move_row, is_bare, place_before, row_of, goes_on, with_choice, step_by, brain_step}
+use Rattle.brain_session.specs.Steps.{Row, Reacts, Chooses, placed, is_side, board_in, same_side, with_move, move_row, is_bare, place_before, row_of, with_choice, step_by, brain_step}
 use Rattle.brain_session.specs.Sessions.{then_state, state_after}
 use Rattle.brain_session.specs.Running.{GoesOnAlong, StonesFit}
 use Rattle.brain_session.proofs.Courses.{along-lawful}

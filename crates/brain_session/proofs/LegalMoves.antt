@@ -7,7 +7,7 @@ use Rattle.std.proofs.lemmas.Bool.{lt-ltb}
 use Rattle.std.proofs.lemmas.List.Sums.{sum_by-cons}
 use Rattle.game_rules.specs.Grid.{Grid, IsBoard, is_empty, is_empty_cell, cell_at, points_of, empties_of}
 use Rattle.game_rules.specs.Shapes.{five}
-use Rattle.game_rules.specs.Play.{IsPosition, outcome, mover, other}
+use Rattle.game_rules.specs.Play.{IsPosition, outcome, mover, other, is_foul}
 use Rattle.game_rules.specs.declared.RuleKind.{RuleKind}
 use Rattle.game_rules.specs.declared.Cell.{Cell}
 use Rattle.game_rules.specs.declared.Cell.TheVariants.{Empty}
@@ -15,33 +15,10 @@ use Rattle.game_rules.specs.declared.Point.{Point}
 use Rattle.game_rules.proofs.Boards.{and_left, and_right}
 use Rattle.game_rules.proofs.Fives.{five-empty}
 use Rattle.game_rules.proofs.Points.{points-found, filter-passes}
-use Rattle.brain_session.specs.ChosenMoves.{or_else, is_foul, five_to_make, five_to_block, next_to_middle, least_empty, plain_move}
+use Rattle.game_rules.proofs.Places.{find-in, find-passes, find-some}
+use Rattle.brain_session.specs.ChosenMoves.{or_else, five_to_make, five_to_block, next_to_middle, least_empty, plain_move}
 
--- ---- what is found
-
-found-all : (f g : Point → Bool) (ps : List Point) (p : Point) → list_all g ps ≡ true → find f ps ≡ Some p → (f p ≡ true) × (g p ≡ true)
-found-all f g [] p all h = cc
-found-all f g (x ∷ ps) p all h = by_test (f x) refl h (found-all f g ps p (and_right (g x) _ all)) where
-  here : g x ≡ true
-  here = and_left (g x) _ all
-
-  by_test : (r : Bool) → f x ≡ r → cond r (Some x) (find f ps) ≡ Some p → (find f ps ≡ Some p → (f p ≡ true) × (g p ≡ true)) → (f p ≡ true) × (g p ≡ true)
-  by_test true e h rest = let same : x ≡ p = cc in (subst (λ (q : Point). f q ≡ true) same e, subst (λ (q : Point). g q ≡ true) same here)
-  by_test false e h rest = rest h
-
-found : (f : Point → Bool) (ps : List Point) (p : Point) → find f ps ≡ Some p → f p ≡ true
-found f ps p h = (found-all f (λ q. true) ps p (all_true ps) h).0 where
-  all_true : (qs : List Point) → list_all (λ q. true) qs ≡ true
-  all_true [] = refl
-  all_true (q ∷ qs) = all_true qs
-
--- where the test holds somewhere, it holds of what is found
-found-some : (f : Point → Bool) (ps : List Point) (d : Point) → list_any f ps ≡ true → f (unwrap_or (find f ps) d) ≡ true
-found-some f [] d h = cc
-found-some f (x ∷ ps) d h = by_test (f x) refl h (found-some f ps d) where
-  by_test : (r : Bool) → f x ≡ r → (r || list_any f ps) ≡ true → (list_any f ps ≡ true → f (unwrap_or (find f ps) d) ≡ true) → f (unwrap_or (cond r (Some x) (find f ps)) d) ≡ true
-  by_test true e h rest = e
-  by_test false e h rest = rest h
+-- ---- what is find-passes
 
 -- ---- some point is empty
 
@@ -74,20 +51,20 @@ some_empty b ok some =
 least-is_empty : (b : Grid) → IsBoard b → 0 < empties_of b → is_empty b (least_empty b) ≡ true
 least-is_empty b ok some =
     let p = some_empty b ok some in
-    found-some (is_empty b) (points_of b) (record { x = 0; y = 0 }) (points-found b (is_empty b) p.0 (and_left _ (is_empty_cell (cell_at b p.0)) p.1) p.1)
+    find-some (is_empty b) (points_of b) (record { x = 0; y = 0 }) (points-found b (is_empty b) p.0 (and_left _ (is_empty_cell (cell_at b p.0)) p.1) p.1)
 
 make-is_empty : (rule : RuleKind) (b : Grid) (p : Point) → five_to_make rule b ≡ Some p → is_empty b p ≡ true
-make-is_empty rule b p h = five-empty rule b (mover b) p (found (five rule b (mover b)) (points_of b) p h)
+make-is_empty rule b p h = five-empty rule b (mover b) p (find-passes (five rule b (mover b)) (points_of b) p h)
 
 block-is_empty : (rule : RuleKind) (b : Grid) (p : Point) → five_to_block rule b ≡ Some p → is_empty b p ≡ true
 block-is_empty rule b p h =
     five-empty rule b (other (mover b)) p (and_left (five rule b (other (mover b)) p) (not (is_foul (outcome rule b p)))
-    (found (λ q. five rule b (other (mover b)) q && not (is_foul (outcome rule b q))) (points_of b) p h))
+    (find-passes (λ q. five rule b (other (mover b)) q && not (is_foul (outcome rule b q))) (points_of b) p h))
 
 next-is_empty : (rule : RuleKind) (b : Grid) (p : Point) → next_to_middle rule b ≡ Some p → is_empty b p ≡ true
 next-is_empty rule b p h =
     let plain : Point → Bool = λ q. is_empty b q && not (is_foul (outcome rule b q)) in
-    let both = found-all _ plain (filter plain (points_of b)) p (filter-passes plain (points_of b)) h in
+    let both = find-in _ plain (filter plain (points_of b)) p (filter-passes plain (points_of b)) h in
     and_left (is_empty b p) (not (is_foul (outcome rule b p))) both.1
 
 -- a plain move is at an empty point

@@ -4,10 +4,10 @@ use Rattle.std.proofs.lemmas.Bool.{lt-leb, false_from_ne_true}
 use Rattle.std.proofs.lemmas.Bool.{and_left as no_left, and_right as no_right}
 use Rattle.game_rules.specs.Grid.{Grid, is_empty, points_of}
 use Rattle.game_rules.specs.Shapes.{five}
-use Rattle.game_rules.specs.Play.{mover, other, outcome}
+use Rattle.game_rules.specs.Play.{mover, other, outcome, is_foul}
 use Rattle.game_rules.specs.declared.RuleKind.{RuleKind}
 use Rattle.game_rules.specs.declared.Side.{Side}
-use Rattle.brain_session.specs.ChosenMoves.{five_to_block, next_to_middle, off_middle, is_foul}
+use Rattle.brain_session.specs.ChosenMoves.{five_to_block, next_to_middle, off_middle}
 use Rattle.std.specs.Prelude.{Option, Some, None}
 use Rattle.std.specs.List.{find, filter, list_all}
 use Rattle.game_rules.specs.declared.Point.{Point}

@@ -5,15 +5,13 @@ use Rattle.std.specs.Option.{option_map, option_and_then, option_or}
 use lib.Pointwise.{pointwise}
 use Rattle.game_rules.specs.Grid.{Grid, is_empty, points_of, is_empty_cell, is_stone_of}
 use Rattle.game_rules.specs.Shapes.{five}
-use Rattle.game_rules.specs.Play.{outcome, mover, other}
+use Rattle.game_rules.specs.Play.{outcome, mover, other, is_foul}
 use Rattle.game_rules.specs.Games.{four_move}
 use Rattle.game_rules.specs.declared.RuleKind.{RuleKind}
 use Rattle.game_rules.specs.declared.RuleKind.TheVariants.{Freestyle, Exact, Renju}
 use Rattle.game_rules.specs.declared.Cell.{Cell}
 use Rattle.game_rules.specs.declared.Cell.TheVariants.{Empty, Black as BlackStone, White as WhiteStone}
 use Rattle.game_rules.specs.declared.Side.TheVariants.{Black, White}
-use Rattle.game_rules.specs.declared.Outcome.{Outcome}
-use Rattle.game_rules.specs.declared.Outcome.TheVariants.{Refused, Wins, Fouls, Draws, GoesOn}
 use Rattle.game_rules.specs.declared.Point.{Point}
 use Rattle.strategy_graph.specs.declared.roots.Root.{Root}
 use Rattle.strategy_graph.specs.declared.roots.Root.TheVariants.{Attack, Defend}
@@ -119,14 +117,6 @@ abbrev pub by_own_win : HeldTable → Game → Option Choice
 by_own_win h g = option_and_then (λ moves. by_following h g (OwnWin moves)) (own_win g.rule (board_of g))
 
 -- Rules 4 to 7: a plain move, with which nothing is followed.
-
--- whether a move with this outcome is a foul
-abbrev pub is_foul : Outcome → Bool
-is_foul Refused = false
-is_foul Wins = false
-is_foul (Fouls f) = true
-is_foul Draws = false
-is_foul GoesOn = false
 
 -- rule 4: the least five point of the side to move. Where rules 1 to 3 are asked before it, it never applies: a five point is
 -- a win by fours within one move.

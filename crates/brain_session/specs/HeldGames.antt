@@ -5,7 +5,7 @@ use Rattle.game_rules.specs.Games.{LosesOr}
 use Rattle.gomocup_text.specs.Commands.{commands}
 use Rattle.std.specs.Prelude.{◌≡◌, ℕ, ◌<◌, ◌≤◌, Bool, true, false, if◌then◌else◌, List, [], ◌∷◌, ◌++◌, map, length, Some, None, Contains, All, ◌⊎◌}
 use Rattle.game_rules.specs.Grid.{Grid, is_empty}
-use Rattle.game_rules.specs.Play.{outcome, after}
+use Rattle.game_rules.specs.Play.{outcome, after, is_foul}
 use Rattle.game_rules.specs.declared.RuleKind.{RuleKind}
 use Rattle.game_rules.specs.declared.Outcome.TheVariants.{GoesOn}
 use Rattle.game_rules.specs.declared.Point.{Point}
@@ -23,7 +23,7 @@ use Rattle.gomocup_text.specs.declared.ErrorText.TheVariants.{BadMove, Unsupport
 use Rattle.brain_session.specs.declared.Reaction.{Reaction}
 use Rattle.brain_session.specs.declared.Reaction.TheVariants.{Says}
 use Rattle.brain_session.specs.States.{Game, board_of, point_at, State, new_brain}
-use Rattle.brain_session.specs.ChosenMoves.{is_foul, root_node, first_node, by_followed}
+use Rattle.brain_session.specs.ChosenMoves.{root_node, first_node, by_followed}
 use Rattle.brain_session.specs.Steps.{Chooses, row_of, brain_step}
 use Rattle.brain_session.specs.Sessions.{answers_from, state_after}
 

@@ -2,7 +2,7 @@
 use Rattle.std.specs.Prelude.{ℕ, Bool, true, false, ◌&&◌, ◌||◌, not, ◌==◌, nat_le, if◌then◌else◌, List, [], ◌∷◌, Option, Some, None}
 use Rattle.game_rules.specs.Grid.{Grid, is_on, stones_of}
 use Rattle.game_rules.specs.Shapes.{is_same_point}
-use Rattle.game_rules.specs.Play.{outcome, mover}
+use Rattle.game_rules.specs.Play.{outcome, mover, goes_on}
 use Rattle.game_rules.specs.declared.TheConstants.{MIN_SIDE, MAX_SIDE}
 use Rattle.game_rules.specs.declared.RuleKind.{RuleKind}
 use Rattle.game_rules.specs.declared.RuleKind.TheVariants.{Freestyle, Exact, Renju}
@@ -178,14 +178,6 @@ row_of s Unknown = if_not_reading s s.batch (λ _. Reacts (Says SaysUnknown) s)
 row_of s Begin = if_not_reading s s.batch (λ _. begin_row s s.place)
 row_of s (Turn x y) = if_not_reading s s.batch (λ _. turn_row s s.place (point_at x y))
 row_of s (Takeback x y) = if_not_reading s s.batch (λ _. takeback_row s s.place (point_at x y))
-
--- whether a game goes on after a move with this outcome
-abbrev pub goes_on : Outcome → Bool
-goes_on Refused = false
-goes_on Wins = false
-goes_on (Fouls f) = false
-goes_on Draws = false
-goes_on GoesOn = true
 
 -- the game after the brain's choice: with another outcome than that it goes on, it is ended
 abbrev pub with_choice : Game → Choice → Game

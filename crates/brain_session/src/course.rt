@@ -9,10 +9,10 @@ ghost use Rattle.std.specs.Prelude.{◌≡◌, true, false, Some, None, not, IsO
 ghost use Rattle.std.specs.Option.{option_map};
 ghost use Rattle.game_rules.specs.Grid.{is_empty};
 ghost use Rattle.strategy_checker.specs.HeldRoots.{HeldTable};
-ghost use Rattle.game_rules.specs.Play.{outcome, mover, other};
+ghost use Rattle.game_rules.specs.Play.{outcome, mover, other, goes_on};
 ghost use Rattle.brain_session.specs.States.{InGame, board_of};
 ghost use Rattle.brain_session.specs.ChosenMoves.{by_followed, chosen, first_node, followed_on};
-ghost use Rattle.brain_session.specs.Steps.{Chooses, goes_on, move_row, with_move};
+ghost use Rattle.brain_session.specs.Steps.{Chooses, move_row, with_move};
 ghost use Rattle.brain_session.specs.Kept.{IsReady, IsRow, followed_of, game_of, in_place, IsKeptUp, StandsAt};
 
 use crate::Reaction;

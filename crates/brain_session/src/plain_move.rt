@@ -8,9 +8,9 @@ ghost use Rattle.std.specs.Prelude.{◌≡◌, ◌+◌, ◌-◌, max};
 ghost use Rattle.std.specs.List.{find};
 ghost use Rattle.game_rules.specs.Grid.{is_empty, points_of};
 ghost use Rattle.game_rules.specs.Shapes.{five as five_lem};
-ghost use Rattle.game_rules.specs.Play.{outcome};
+ghost use Rattle.game_rules.specs.Play.{outcome, is_foul as is_foul_lem};
 ghost use Rattle.brain_session.specs.Nearer.{is_nearer as is_nearer_lem};
-ghost use Rattle.brain_session.specs.ChosenMoves.{apart as apart_lem, five_to_block as five_to_block_lem, five_to_make as five_to_make_lem, is_foul as is_foul_lem, least_empty as least_empty_lem, next_to_middle as next_to_middle_lem, off_middle as off_middle_lem, plain_move as plain_move_lem};
+ghost use Rattle.brain_session.specs.ChosenMoves.{apart as apart_lem, five_to_block as five_to_block_lem, five_to_make as five_to_make_lem, least_empty as least_empty_lem, next_to_middle as next_to_middle_lem, off_middle as off_middle_lem, plain_move as plain_move_lem};
 
 use foul_judge::{Outcome, mover, outcome_at};
 use game_rules::{Point, Side};

@@ -19,7 +19,7 @@ use Rattle.game_rules.specs.declared.Way.{Way}
 use Rattle.game_rules.specs.declared.Way.TheVariants.{Ahead, Behind}
 use Rattle.game_rules.proofs.Boards.{Apart, same_or_apart, is_empty-on, and_left, on_x, on_y}
 use Rattle.game_rules.proofs.Lines.{OnLine, along-OnLine, along-steps}
-use Rattle.game_rules.proofs.Points.{is_same_point-itself, is_same_point-same}
+use Rattle.game_rules.proofs.Points.{is_same_point-itself, is_same_point-same, is_at-Some}
 use Rattle.game_rules.proofs.Positions.{IsBoard-lift, put-lift, lift-empty}
 use Rattle.game_rules.proofs.Rows.{any_found, any_none}
 use Rattle.stone_board.specs.Walks.{steps_left}
@@ -46,27 +46,23 @@ any_more f (suc n) a h =
     let e : a + suc n ≡ a + 1 + n = omega arith in
     ap (λ r. f a || r) (any_more f n (a + 1) (rw e at h))
 
-is_at-yes : (q : Point) (o : Option Point) → is_at q o ≡ true → o ≡ Some q
-is_at-yes q None h = cc
-is_at-yes q (Some r) h = ap Some (sym (is_same_point-same q r h))
-
 module _ (d : Axis) (p : Point) where
   pub near_found : (w : Way) (n : ℕ) (q : Point) → is_near w d p n q ≡ true → (k : ℕ) × (1 ≤ k) × (k ≤ n) × (towards w d p k ≡ Some q)
   near_found w n q h =
       let found = any_some (λ k. is_at q (towards w d p k)) n 1 h in
-      (found.0, found.1, let high = found.2 in omega arith, is_at-yes q _ found.3)
+      (found.0, found.1, let high = found.2 in omega arith, is_at-Some q _ found.3)
 
   pub near_yes : (w : Way) (n k : ℕ) (q : Point) → 1 ≤ k → k ≤ n → towards w d p k ≡ Some q → is_near w d p n q ≡ true
   near_yes w n k q low high h = any_found (λ k. is_at q (towards w d p k)) n 1 k low (omega arith) (ap (is_at q) h ∙ is_same_point-itself q)
 
   pub near_not : (w : Way) (n : ℕ) (q : Point) → ((k : ℕ) → 1 ≤ k → k ≤ n → towards w d p k ≢ Some q) → is_near w d p n q ≡ false
-  near_not w n q h = any_none (λ k. is_at q (towards w d p k)) n 1 (λ k low high. false_from_ne_true _ (λ e. h k low (omega arith) (is_at-yes q _ e)))
+  near_not w n q h = any_none (λ k. is_at q (towards w d p k)) n 1 (λ k low high. false_from_ne_true _ (λ e. h k low (omega arith) (is_at-Some q _ e)))
 
   near_more : (w : Way) (n : ℕ) (q : Point) → towards w d p (n + 1) ≢ Some q → is_near w d p (n + 1) q ≡ is_near w d p n q
   near_more w n q other =
       let e : n + 1 ≡ suc n = omega arith in
       let f : 1 + n ≡ n + 1 = omega arith in
-      rw e (any_more (λ k. is_at q (towards w d p k)) n 1 (rw f (false_from_ne_true _ (λ h. other (is_at-yes q _ h)))))
+      rw e (any_more (λ k. is_at q (towards w d p k)) n 1 (rw f (false_from_ne_true _ (λ h. other (is_at-Some q _ h)))))
 
   -- a point so many steps away in one way is no other number of steps away, and none in the other way
   steps_differ : (w v : Way) (n k : ℕ) (x : Point) → 1 ≤ k → 1 ≤ n → towards w d p n ≡ Some x → towards v d p k ≡ Some x → (w ≡ v) × (n ≡ k)

@@ -4,7 +4,7 @@ use Rattle.std.specs.Prelude.{◌≢◌}
 use Rattle.std.proofs.lemmas.Bool.Decides.{nat_tests}
 use Rattle.std.proofs.lemmas.List.{length-replicate}
 use Rattle.game_rules.specs.Grid.{Grid, IsBoard}
-use Rattle.game_rules.specs.Play.{IsPosition, outcome, after}
+use Rattle.game_rules.specs.Play.{IsPosition, outcome, after, goes_on}
 use Rattle.game_rules.specs.declared.RuleKind.{RuleKind}
 use Rattle.game_rules.specs.declared.Cell.TheVariants.{Empty}
 use Rattle.game_rules.specs.declared.Outcome.{Outcome}
@@ -12,7 +12,6 @@ use Rattle.game_rules.specs.declared.Outcome.TheVariants.{Refused, Wins as WinsN
 use Rattle.game_rules.specs.declared.Point.{Point}
 use Rattle.game_rules.proofs.Positions.{IsPosition-after}
 use Rattle.brain_session.specs.States.{empty_board}
-use Rattle.brain_session.specs.Steps.{goes_on}
 use Rattle.brain_session.proofs.Rounds.{empty-lawful}
 use Rattle.strength_drill.specs.declared.positions.TheConstants.{SIDE, MOST_STONES}
 use Rattle.strength_drill.specs.Draws.{next_number, number_after, draw_at, middle_point, all_stones, with_point, board_drawn}

@@ -2,7 +2,7 @@
 use Rattle.std.proofs.Common.{◌≡◌, ◌⊎◌, inl, inr, refl, sym, ap, subst, ◌∙◌, ℕ, ◌+◌, ◌*◌, ◌≤◌, Bool, true, false, cond, not, ◌&&◌, ◌∷◌, arith}
 use Rattle.std.specs.Prelude.{Option, Some}
 use Rattle.game_rules.specs.Grid.{Grid, is_empty, empties_of}
-use Rattle.game_rules.specs.Play.{IsPosition, outcome, mover, other, after}
+use Rattle.game_rules.specs.Play.{IsPosition, outcome, mover, other, after, goes_on, is_foul, is_win}
 use Rattle.game_rules.specs.Games.{WinsOr, LosesOr}
 use Rattle.game_rules.specs.declared.RuleKind.{RuleKind}
 use Rattle.game_rules.specs.declared.Foul.{Foul}
@@ -23,12 +23,12 @@ use Rattle.gomocup_text.specs.declared.Answer.TheVariants.{Move, Error}
 use Rattle.gomocup_text.specs.declared.ErrorText.TheVariants.{OpponentFoul}
 use Rattle.brain_session.specs.declared.Reaction.TheVariants.{Says}
 use Rattle.brain_session.specs.States.{Game, board_of, InGame, State}
-use Rattle.brain_session.specs.ChosenMoves.{Choice, is_foul}
-use Rattle.brain_session.specs.Steps.{Step, rule_of, if_supported, same_side, with_move, move_row, row_of, goes_on, with_choice, step_by, brain_step}
+use Rattle.brain_session.specs.ChosenMoves.{Choice}
+use Rattle.brain_session.specs.Steps.{Step, rule_of, if_supported, same_side, with_move, move_row, row_of, with_choice, step_by, brain_step}
 use Rattle.brain_session.proofs.Courses.{moved}
 use Rattle.brain_session.proofs.HeldSteps.{state_in, by_node, StandsIn, row_then, next_stands, lawful_then, turn_then, parts}
 use Rattle.strength_drill.specs.declared.positions.TheConstants.{SIDE}
-use Rattle.strength_drill.specs.DrillGames.{board_now, is_ended, moves_by, moves_of_brain, is_win, last_wins, is_won}
+use Rattle.strength_drill.specs.DrillGames.{board_now, is_ended, moves_by, moves_of_brain, last_wins, is_won}
 
 -- The brain, which holds this, has made a move by the table in a game under the rule, with so many of its moves before; a game on a
 -- board of the drill has room for no more than its points.

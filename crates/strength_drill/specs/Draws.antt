@@ -1,13 +1,12 @@
 -- The draws of the drill, and the positions that are made of them.
 use Rattle.std.specs.Prelude.{ℕ, zero, suc, ◌+◌, ◌*◌, ◌/◌, ◌%◌, ◌^◌, ◌==◌, ◌&&◌, nat_lt, if◌then◌else◌}
 use Rattle.game_rules.specs.Grid.{Grid, stones_of}
-use Rattle.game_rules.specs.Play.{outcome, after}
+use Rattle.game_rules.specs.Play.{outcome, after, goes_on}
 use Rattle.game_rules.specs.declared.RuleKind.{RuleKind}
 use Rattle.game_rules.specs.declared.RuleKind.TheVariants.{Freestyle, Exact, Renju}
 use Rattle.game_rules.specs.declared.Side.TheVariants.{Black, White}
 use Rattle.game_rules.specs.declared.Point.{Point}
 use Rattle.brain_session.specs.States.{empty_board}
-use Rattle.brain_session.specs.Steps.{goes_on}
 use Rattle.strength_drill.specs.declared.draws.TheConstants.{MULTIPLIER, INCREMENT}
 use Rattle.strength_drill.specs.declared.positions.TheConstants.{SIDE, DRAWN_POINTS, MOST_STONES}
 

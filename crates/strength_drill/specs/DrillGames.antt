@@ -3,12 +3,10 @@
 use Rattle.std.specs.Prelude.{◌≡◌, ℕ, zero, suc, ◌+◌, ◌/◌, ◌%◌, ◌<◌, Bool, true, false, ◌&&◌, not, if◌then◌else◌, List, [], ◌∷◌, map, fold, unwrap_or, Option, Some, None}
 use Rattle.std.specs.List.{filter}
 use Rattle.game_rules.specs.Grid.{Grid, is_empty, holds, points_of}
-use Rattle.game_rules.specs.Play.{outcome, mover}
+use Rattle.game_rules.specs.Play.{outcome, mover, is_foul, is_win}
 use Rattle.game_rules.specs.declared.RuleKind.{RuleKind}
 use Rattle.game_rules.specs.declared.RuleKind.TheVariants.{Freestyle, Exact, Renju}
 use Rattle.game_rules.specs.declared.Side.{Side}
-use Rattle.game_rules.specs.declared.Outcome.{Outcome}
-use Rattle.game_rules.specs.declared.Outcome.TheVariants.{Refused, Wins, Fouls, Draws, GoesOn}
 use Rattle.game_rules.specs.declared.Point.{Point}
 use Rattle.stone_board.specs.Order.{first_empty_from}
 use Rattle.strategy_graph.specs.declared.Node.{Node}
@@ -22,7 +20,6 @@ use Rattle.gomocup_text.specs.declared.ErrorText.TheVariants.{OpponentFoul}
 use Rattle.brain_session.specs.declared.Reaction.{Reaction}
 use Rattle.brain_session.specs.declared.Reaction.TheVariants.{Says}
 use Rattle.brain_session.specs.States.{Game, board_after, board_of, empty_board, Place, NoBoard, Fresh, InGame, State, new_brain}
-use Rattle.brain_session.specs.ChosenMoves.{is_foul}
 use Rattle.brain_session.specs.Steps.{same_side, brain_step}
 use Rattle.strength_drill.specs.declared.positions.TheConstants.{SIDE}
 use Rattle.strength_drill.specs.Draws.{number_after, draw_at}
@@ -110,14 +107,6 @@ moves_by s start (p ∷ before) = moves_by s start before + (if same_side (mover
 -- the moves of the brain in the game
 abbrev pub moves_of_brain : Game → ℕ
 moves_of_brain g = moves_by g.brain g.start g.moves
-
--- whether a move with this outcome wins
-abbrev pub is_win : Outcome → Bool
-is_win Refused = false
-is_win Wins = true
-is_win (Fouls f) = false
-is_win Draws = false
-is_win GoesOn = false
 
 -- whether the last of these moves from a start wins for the side: its own wins, or one of the other side is a foul
 abbrev pub last_wins : RuleKind → Side → Grid → List Point → Bool

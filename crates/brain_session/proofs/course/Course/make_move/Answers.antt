@@ -1,9 +1,8 @@
 use Rattle.std.proofs.Common.{◌≡◌, not, ◌∷◌, ap, sym, subst, ◌∙◌}
-use Rattle.game_rules.specs.Play.{outcome}
+use Rattle.game_rules.specs.Play.{outcome, goes_on}
 use Rattle.game_rules.specs.declared.Outcome.{Outcome}
 use Rattle.brain_session.specs.declared.course.Course.{Course}
 use Rattle.brain_session.specs.States.{board_after}
-use Rattle.brain_session.specs.Steps.{goes_on}
 use Rattle.brain_session.specs.Kept.{Moves, IsKeptUp, game_of}
 use Rattle.brain_session.proofs.Courses.{MovesBy, kept-moved, chosen-moves}
 use Rattle.brain_session.proofs.course.Course.make_move.Goals as goal
