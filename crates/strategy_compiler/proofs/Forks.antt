@@ -1,11 +1,11 @@
 -- A node whose attack wins at once is a win, and so is one whose attack goes on and whose answers win after it.
-use Rattle.std.proofs.Common.{◌≡◌, ◌⊎◌, inl, inr, ℕ, zero, suc, ◌+◌, ◌≤◌, ◌<◌, Bool, true, false, cond, not, ◌||◌, refl, sym, ap, subst, ◌∙◌, arith, List, [], ◌∷◌, ◌++◌, map, length, filter}
+use Rattle.std.proofs.Common.{◌≡◌, ◌⊎◌, inl, inr, ℕ, zero, suc, ◌+◌, ◌≤◌, ◌<◌, Bool, true, false, cond, not, ◌||◌, refl, sym, ap, subst, ◌∙◌, arith, List, [], ◌∷◌, ◌++◌, map, length, filter, nat_eq}
 use Rattle.std.specs.Prelude.{Option, Some, None, IsSome, Result, Ok, Err, IfOk, OnOk, All, Contains, slice_get, nat_lt}
-use Rattle.std.specs.List.{list_any, list_all, find, AllByRecursion}
-use Rattle.std.specs.Option.{option_map, option_or}
+use Rattle.std.specs.List.{list_any, list_all, find, cons_option, filter_map, AllByRecursion}
+use Rattle.std.specs.Option.{option_map, option_or, option_eq}
 use Rattle.std.proofs.lemmas.Bool.{or_right}
 use Rattle.std.proofs.lemmas.List.{append-nil}
-use Rattle.std.proofs.lemmas.List.Elements.{All-from_recursion}
+use Rattle.std.proofs.lemmas.List.Elements.{All-from_recursion, Contains-append_cases}
 use Rattle.std.proofs.lemmas.Option.{slice_get_within}
 use Rattle.game_rules.specs.Grid.{Grid, is_on}
 use Rattle.game_rules.specs.Shapes.{is_same_point}
@@ -19,7 +19,9 @@ use Rattle.game_rules.proofs.Points.{off_refused, is_same_point-itself, is_same_
 use Rattle.game_rules.proofs.Positions.{GoesOn-on}
 use Rattle.strategy_graph.specs.declared.Node.{Node}
 use Rattle.strategy_graph.specs.declared.Reply.{Reply}
-use Rattle.strategy_graph.specs.Tables.{answers_of, named, names_below, listed_node, is_rising, NamesLower, NamesOnBoard, depth, node_depth, start_depth, greatest}
+use Rattle.strategy_graph.specs.declared.Rest.{Rest}
+use Rattle.strategy_graph.specs.declared.Rest.TheVariants.{Wins, To, Nothing}
+use Rattle.strategy_graph.specs.Tables.{Answers, answer, rest_node, rest_nodes, answers_of, named, names_below, listed_node, is_rising, NamesLower, NamesOnBoard, depth, node_depth, start_depth, greatest}
 use Rattle.strategy_graph.specs.Acceptance.{Answered, Accepted, AcceptedStart}
 use Rattle.strategy_graph.proofs.Filling.{IsTable-lower}
 use Rattle.strategy_graph.proofs.Fuel.{depth-step}
@@ -30,7 +32,8 @@ use Rattle.strategy_compiler.specs.Starts.{answers_alone, AnswersEach}
 use Rattle.strategy_compiler.specs.Walks.{Reaches, Itself, Through}
 use Rattle.strategy_compiler.specs.Wins.{StaysOnBoard, IsWrittenWin}
 use Rattle.strategy_compiler.specs.Forks.{AnswersWin, WinsAtOnce, WinsByAnswers, IsDoubleThreat, answer_node, two_answers, double_moves}
-use Rattle.strategy_compiler.proofs.Briefs.{all-next, brief-not_winning}
+use Rattle.strategy_compiler.specs.Trees.{AnswersBriefly, commonest, answers_to}
+use Rattle.strategy_compiler.proofs.Briefs.{answered-as-listed, all-next, brief-not_winning}
 use Rattle.strategy_compiler.proofs.Starting.{brief-inside, brief-deep, brief-accepted}
 use Rattle.strategy_compiler.proofs.Winning.{stays-longer}
 
@@ -57,9 +60,21 @@ next-all P [] h j (k, l, e) = absurd (omega arith)
 next-all P (r ∷ rs) h j (zero, l, e) = subst P e h.0
 next-all P (r ∷ rs) h j (suc k, l, e) = next-all P rs h.1 j (k, omega arith, e)
 
+no-names : (P : ℕ → Type 0) (j : ℕ) → Contains [] j → P j
+no-names P j (i, l, e) = absurd (omega arith)
+
+contained : (P : ℕ → Type 0) (js : List ℕ) → AllByRecursion P js → (j : ℕ) → Contains js j → P j
+contained P js h j c = subst P c.2 (All-from_recursion P js h c.0 j c.1)
+
+pub greatest-each : (d : ℕ → ℕ) (k : ℕ) (js : List ℕ) → ((j : ℕ) → Contains js j → d j ≤ k) → greatest (map d js) ≤ k
+greatest-each d k [] h = omega arith
+greatest-each d k (j ∷ js) h =
+    let low = h j (0, omega arith, refl) in
+    let rest = greatest-each d k js (λ i c. h i (suc c.0, (let inside = c.1 in omega (arith, inside)), c.2)) in
+    omega (arith, low, rest)
+
 pub greatest-all : (d : ℕ → ℕ) (k : ℕ) (js : List ℕ) → AllByRecursion (λ j. d j ≤ k) js → greatest (map d js) ≤ k
-greatest-all d k [] h = omega arith
-greatest-all d k (j ∷ js) h = let low = h.0 in let rest = greatest-all d k js h.1 in omega (arith, low, rest)
+greatest-all d k js h = greatest-each d k js (contained (λ j. d j ≤ k) js h)
 
 pub mapped-all : {X Y : Type 0} (P : Y → Type 0) (f : X → Y) (xs : List X) → AllByRecursion (λ x. P (f x)) xs → AllByRecursion P (map f xs)
 mapped-all P f [] h = tt
@@ -69,6 +84,28 @@ mapped-all P f (x ∷ xs) h = (h.0, mapped-all P f xs h.1)
 pub alone-deep : (t : List Node) (answers : List Reply)
     → start_depth t (answers_alone answers) ≡ greatest (map (depth t) (map (λ r. r.next) answers))
 alone-deep t answers = ap (λ (js : List ℕ). greatest (map (depth t) js)) (append-nil (map (λ r. r.next) answers))
+
+-- what passes is still there among those that pass
+pub still-found : (f : Point → Bool) (q : Point) (ps : List Point) → f q ≡ true → list_any (is_same_point q) ps ≡ true
+    → list_any (is_same_point q) (filter f ps) ≡ true
+still-found f q [] h k = cc
+still-found f q (p ∷ ps) h k = by_same (is_same_point q p) refl k (still-found f q ps h) where
+  kept : (b : Bool) → list_any (is_same_point q) (filter f ps) ≡ true
+      → list_any (is_same_point q) (cond b (p ∷ filter f ps) (filter f ps)) ≡ true
+  kept true e = or_right (is_same_point q p) _ e
+  kept false e = e
+
+  here : is_same_point q p ≡ true → list_any (is_same_point q) (cond (f p) (p ∷ filter f ps) (filter f ps)) ≡ true
+  here same =
+      let e : f p ≡ true = ap f (sym (is_same_point-same q p same)) ∙ h in
+      ap (λ b. list_any (is_same_point q) (cond b (p ∷ filter f ps) (filter f ps))) e
+          ∙ ap (λ b. b || list_any (is_same_point q) (filter f ps)) same
+
+  by_same : (b : Bool) → is_same_point q p ≡ b → (b || list_any (is_same_point q) ps) ≡ true
+      → (list_any (is_same_point q) ps ≡ true → list_any (is_same_point q) (filter f ps) ≡ true)
+      → list_any (is_same_point q) (filter f (p ∷ ps)) ≡ true
+  by_same true same k rest = here same
+  by_same false same k rest = kept (f p) (rest k)
 
 -- ---- what a node reaches
 
@@ -95,10 +132,58 @@ stays-by b t i n at on all k m reach here = elim (reach-cases t i k reach) [
 pub stays-before : (b : Grid) (p : Point) (t : List Node) (i : ℕ) → StaysOnBoard (after b p) t i → StaysOnBoard b t i
 stays-before b p t i h k n reach at = let on = h k n reach at in record { attack = on.attack; replies = on.replies }
 
--- ---- a node whose attack wins at once
+-- ---- what answers in brief name
 
-no-names : (P : ℕ → Type 0) (j : ℕ) → Contains [] j → P j
-no-names P j (i, l, e) = absurd (omega arith)
+-- P holds of the answer, if there is one
+abbrev pub IfAnswer : (ℕ → Type 0) → Option ℕ → Type 0
+IfAnswer P None = Unit {0}
+IfAnswer P (Some j) = P j
+
+module _ (P : ℕ → Type 0) (a : Answers) where
+  if-some : (q : Point) (j : ℕ) → answer a q ≡ Some j → IfAnswer P (answer a q) → P j
+  if-some q j e h = subst (IfAnswer P) e h
+
+  listed-named : (rs : List Reply) → AllByRecursion (λ r. answer a r.at ≡ Some r.next) rs
+      → AllByRecursion (λ q. IfAnswer P (answer a q)) (map (λ r. r.at) rs)
+      → AllByRecursion (λ r. P r.next) rs
+  listed-named [] e h = tt
+  listed-named (r ∷ rs) e h = (if-some r.at r.next e.0 h.0, listed-named rs e.1 h.1)
+
+  found-named : (f : ℕ → Bool) (qs : List Point) → AllByRecursion (λ q. IfAnswer P (answer a q)) qs → (j : ℕ)
+      → find f (filter_map (answer a) qs) ≡ Some j → P j
+  found-named f [] h j e = cc
+  found-named f (q ∷ qs) h j e = by_answer (answer a q) h.0 e (found-named f qs h.1 j) where
+    by_answer : (o : Option ℕ) → IfAnswer P o → find f (cons_option o (filter_map (answer a) qs)) ≡ Some j
+        → (find f (filter_map (answer a) qs) ≡ Some j → P j) → P j
+    by_answer None k e later = later e
+    by_answer (Some i) k e later = by_test (f i) e where
+      by_test : (b : Bool) → cond b (Some i) (find f (filter_map (answer a) qs)) ≡ Some j → P j
+      by_test true e = let same : i ≡ j = cc in subst P same k
+      by_test false e = later e
+
+  rest-named : (r : Rest) (js : List ℕ) → rest_node r ≡ commonest js → ((j : ℕ) → commonest js ≡ Some j → P j)
+      → AllByRecursion P (rest_nodes r)
+  rest-named Wins js e h = tt
+  rest-named (To j) js e h = (h j (sym e), tt)
+  rest-named Nothing js e h = tt
+
+  -- what holds of each answer to one of these replies holds of each node that is named
+  pub briefly-named : (qs : List Point) → is_rising a.replies ≡ true → AnswersBriefly a qs
+      → AllByRecursion (λ q. IfAnswer P (answer a q)) qs
+      → (j : ℕ) → Contains (named a) j → P j
+  briefly-named [] rising brief h j c =
+      let none : named a ≡ [] = ap (λ (rs : List Reply). map (λ r. r.next) rs ++ rest_nodes a.rest) brief.1 ∙ ap rest_nodes brief.0 in
+      no-names P j (subst (λ (js : List ℕ). Contains js j) none c)
+  briefly-named (q ∷ qs) rising brief h j c =
+      elim (Contains-append_cases (map (λ r. r.next) a.replies) (rest_nodes a.rest) j c) [
+        | inl listed ↦ next-all P a.replies (listed-named a.replies (answered-as-listed a rising)
+            (subst (AllByRecursion (λ p. IfAnswer P (answer a p))) (sym brief.others_are_listed)
+            (all-filter (λ p. IfAnswer P (answer a p)) (λ q. not (option_eq nat_eq (answer a q) (rest_node a.rest))) (q ∷ qs) h))) j listed
+        | inr rest ↦ contained P (rest_nodes a.rest)
+            (rest-named a.rest (answers_to a (q ∷ qs)) brief.rest_is_commonest (found-named _ (q ∷ qs) h)) j rest
+      ]
+
+-- ---- a node whose attack wins at once
 
 wins-on : (rule : RuleKind) (b : Grid) (p : Point) → outcome rule b p ≡ WinsNow → is_on b p ≡ true
 wins-on rule b p wins = by_test (is_on b p) refl where
@@ -270,18 +355,16 @@ two-points w i j (q ∷ qs) = ap (λ (ps : List Point). q ∷ ps) (two-points w 
 
 -- what holds of the first node, if a reply is the first point, and of the other, if another is, holds of each
 pub two-all : (P : Point → ℕ → Type 0) (w : Point) (i j : ℕ) (qs : List Point)
-    → (list_any (is_same_point w) qs ≡ true → (q : Point) → is_same_point q w ≡ true → P q i)
+    → (list_any (λ q. is_same_point q w) qs ≡ true → (q : Point) → is_same_point q w ≡ true → P q i)
     → (list_any (λ q. not (is_same_point q w)) qs ≡ true → (q : Point) → is_same_point q w ≡ false → P q j)
     → AllByRecursion (λ r. P r.at r.next) (two_answers w i j qs)
 two-all P w i j [] f g = tt
 two-all P w i j (q ∷ qs) f g = (
   by_test (is_same_point q w) refl,
-  two-all P w i j qs (λ e. f (or_right (is_same_point w q) _ e)) (λ e. g (or_right (not (is_same_point q w)) _ e)),
+  two-all P w i j qs (λ e. f (or_right (is_same_point q w) _ e)) (λ e. g (or_right (not (is_same_point q w)) _ e)),
 ) where
   by_test : (b : Bool) → is_same_point q w ≡ b → P q (cond b i j)
-  by_test true e =
-      let back : is_same_point w q ≡ true = ap (λ (x : Point). is_same_point w x) (is_same_point-same q w e) ∙ is_same_point-itself w in
-      f (ap (λ (b : Bool). b || list_any (is_same_point w) qs) back) q e
+  by_test true e = f (ap (λ (b : Bool). b || list_any (λ q. is_same_point q w) qs) e) q e
   by_test false e = g (ap (λ (b : Bool). not b || list_any (λ q. not (is_same_point q w)) qs) e) q e
 
 two-deep : (d : ℕ → ℕ) (rs : List Reply) → AllByRecursion (λ r. d r.next ≡ 1) rs → (qs : List Point) → map (λ r. r.at) rs ≡ qs
@@ -297,7 +380,7 @@ two-deep d (r ∷ rs) h (q ∷ qs) e =
     omega (arith, one, low)
 
 module _ (t : List Node) (lower : NamesLower t) (start first second : Point) (replies : List Point) (i j : ℕ)
-    (at_first : list_any (is_same_point first) replies ≡ true → slice_get t i ≡ Some (winning_node second))
+    (at_first : list_any (λ q. is_same_point q first) replies ≡ true → slice_get t i ≡ Some (winning_node second))
     (beside : list_any (λ q. not (is_same_point q first)) replies ≡ true → slice_get t j ≡ Some (winning_node first)) where
   -- what holds of a node that takes the point that is answered holds of each answer
   taken-all : (P : Point → ℕ → Type 0)

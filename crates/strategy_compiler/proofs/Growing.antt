@@ -1,12 +1,18 @@
 -- Nodes that are added, in steps.
 use Rattle.std.proofs.Common.{◌≡◌, inl, inr, ℕ, ◌+◌, ◌≤◌, List, [], ◌∷◌, ◌++◌, refl, sym, ap, subst, ◌∙◌, arith, length, append_assoc, length-append}
-use Rattle.std.specs.Prelude.{Some, Result, Ok, Err, slice_get}
+use Rattle.std.specs.Prelude.{Some, Result, Ok, Err, OnOk, slice_get}
+use Rattle.game_rules.specs.Grid.{Grid}
+use Rattle.game_rules.specs.declared.RuleKind.{RuleKind}
 use Rattle.strategy_graph.specs.declared.Node.{Node}
+use Rattle.strategy_graph.specs.Tables.{NamesLower}
 use Rattle.strategy_compiler.specs.declared.error.SearchError.{SearchError}
 use Rattle.strategy_compiler.specs.declared.error.SearchError.TheVariants.{Full, Memory}
 use Rattle.strategy_compiler.specs.Nodes.{IsCompiled, PutsIn}
 use Rattle.strategy_compiler.specs.Growth.{GrowsBy, Writes}
+use Rattle.strategy_compiler.specs.declared.wins.WrittenWin.{WrittenWin}
+use Rattle.strategy_compiler.specs.Wins.{IsWrittenWin}
 use Rattle.strategy_compiler.proofs.Standing.{slice_get-longer}
+use Rattle.strategy_compiler.proofs.Winning.{growth_keeps-wins}
 
 -- ---- how they grow
 
@@ -42,6 +48,29 @@ grows-length a b k f = let x = f.few in let e : length b ≡ length a + length f
 pub node-stays : (a b : List Node) (k i : ℕ) (n : Node) → GrowsBy a b k → slice_get a i ≡ Some n → slice_get b i ≡ Some n
 node-stays a b k i n f h = subst (λ (t : List Node). slice_get t i ≡ Some n) (sym f.is) (slice_get-longer a f.added i n h)
 
+pub grows-none : (a b : List Node) → GrowsBy a b 0 → b ≡ a
+grows-none a b f = f.is ∙ nothing f.added f.few where
+  nothing : (xs : List Node) → length xs ≤ 0 → a ++ xs ≡ a
+  nothing [] l = append-none a
+  nothing (x ∷ xs) l = absurd (omega arith)
+
+-- a win stays one
+pub win-stays : (rule : RuleKind) (limit : ℕ) (b : Grid) (t u : List Node) (k : ℕ) (win : WrittenWin) → NamesLower t → GrowsBy t u k
+    → IsWrittenWin rule limit b t win → IsWrittenWin rule limit b u win
+win-stays rule limit b t u k win lower f h =
+    subst (λ (v : List Node). IsWrittenWin rule limit b v win) (sym f.is) (growth_keeps-wins rule limit b t f.added win lower h)
+
+-- a win within fewer moves
+pub win-within : (rule : RuleKind) (n m : ℕ) (b : Grid) (t : List Node) (win : WrittenWin) → n ≤ m → IsWrittenWin rule n b t win
+    → IsWrittenWin rule m b t win
+win-within rule n m b t win l h = record {
+  in_compiler = h.in_compiler;
+  accepted = h.accepted;
+  deep = h.deep;
+  within = let low = h.within in omega (arith, l, low);
+  on_board = h.on_board;
+}
+
 -- ---- what calls write
 
 -- a call that wrote nothing and has an answer, or had no memory
@@ -53,8 +82,9 @@ writes-nothing a b k x compiled e = record {
   full_now = λ h. cc;
 }
 
-pub writes-memory : {A : Type 0} (a b : List Node) (k : ℕ) → GrowsBy a b k → Writes {A = A} a b k (Err Memory)
-writes-memory a b k grows = record { grows = grows; compiled = tt; full = λ h. cc; full_now = λ h. cc }
+pub writes-memory : {A : Type 0} (a b : List Node) (k : ℕ) (s : Result A SearchError) → GrowsBy a b k → s ≡ Err Memory → Writes a b k s
+writes-memory a b k s grows is = record
+    { grows = grows; compiled = subst (λ s. OnOk s (IsCompiled b)) (sym is) tt; full = λ h. cc; full_now = λ h. cc }
 
 -- a call, and another after it that had an answer
 pub writes-then : {A B : Type 0} (a b c : List Node) (j k m : ℕ) (x : A) (s : Result B SearchError) → Writes a b j (Ok x) → Writes b c k s
@@ -74,14 +104,25 @@ writes-more a b j m r f l = record {
   full_now = f.full_now;
 }
 
--- the same of another answer, or of the same refusal
-pub writes-ok : {A B : Type 0} (a b : List Node) (k : ℕ) (x : A) (y : B) → Writes a b k (Ok x) → Writes a b k (Ok y)
-writes-ok a b k x y f = record { grows = f.grows; compiled = f.compiled; full = λ h. cc; full_now = λ h. cc }
+-- a call that tells another answer than the last one in it
+pub writes-tells : {A B : Type 0} (a b : List Node) (j m : ℕ) (x : A) (y : B) → Writes a b j (Ok x) → j ≤ m → Writes a b m (Ok y)
+writes-tells a b j m x y f l = record { grows = grows-more a b j m f.grows l; compiled = f.compiled; full = λ h. cc; full_now = λ h. cc }
 
-pub writes-err : {A B : Type 0} (a b : List Node) (k : ℕ) (e : SearchError) → Writes {A = A} a b k (Err e) → Writes {A = B} a b k (Err e)
-writes-err a b k e f = record {
-  grows = f.grows;
-  compiled = tt;
-  full = λ h. let same : e ≡ Full = cc in f.full (ap Err same);
-  full_now = λ h. let same : e ≡ Full = cc in f.full_now (ap Err same);
-}
+-- a call that fails as one in it does, at once or after another
+pub writes-fails : {A B : Type 0} (a b : List Node) (j m : ℕ) (e : SearchError) (s : Result B SearchError) → Writes {A = A} a b j (Err e)
+    → j ≤ m → s ≡ Err e
+    → Writes a b m s
+writes-fails {B = B} a b j m e s f l is = subst (Writes a b m) (sym is) (writes-more {A = B} a b j m (Err e) failed l) where
+  failed : Writes {A = B} a b j (Err e)
+  failed = record {
+    grows = f.grows;
+    compiled = tt;
+    full = λ h. let same : e ≡ Full = cc in f.full (ap Err same);
+    full_now = λ h. let same : e ≡ Full = cc in f.full_now (ap Err same);
+  }
+
+pub writes-then-fails : {A B C : Type 0} (a b c : List Node) (j k m : ℕ) (x : A) (e : SearchError) (s : Result C SearchError)
+    → Writes a b j (Ok x)
+    → Writes {A = B} b c k (Err e) → j + k ≤ m → s ≡ Err e → Writes a c m s
+writes-then-fails {B = B} {C = C} a b c j k m x e s f g l is = writes-fails {A = B} {B = C} a c m m e s
+    (writes-then a b c j k m x (Err e) f g l) (omega arith) is

@@ -60,4 +60,5 @@ double_moves (q ∷ qs) = 2
 -- the nodes of a win by a double threat: its own, one for the reply on the first point, and one for the others
 abbrev pub double_nodes : Point → List Point → ℕ
 double_nodes first replies =
-    1 + (if list_any (is_same_point first) replies then 1 else 0) + (if list_any (λ q. not (is_same_point q first)) replies then 1 else 0)
+    1 + (if list_any (λ q. is_same_point q first) replies then 1 else 0) +
+        (if list_any (λ q. not (is_same_point q first)) replies then 1 else 0)

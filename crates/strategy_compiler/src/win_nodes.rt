@@ -28,6 +28,7 @@ impl Compiler {
     pub fn leaf(&mut self, attack: Point) -> Result<u32, SearchError>
         ensures node { IfOk result (λ i. slice_get self.new i ≡ Some (winning_node attack)) }
         ensures stands { IfOk result (λ i. StandsFor self.new i (Leaf attack)) }
+        ensures in_compiler { IfOk result (λ i. i < length self.new) }
         ensures wins { IfOk result (λ i. WinsAtOnce attack self.new i) }
         ensures writes { Writes self.old self.new 1 result }
     {
@@ -41,6 +42,7 @@ impl Compiler {
         requires below { All (λ r. r.next < length self.old) answers.now }
         ensures stands { IfOk result (λ i. (branches : Branches)
             → AnswersBranches self.old answers.now branches → StandsFor self.new i (Fork attack branches)) }
+        ensures in_compiler { IfOk result (λ i. i < length self.new) }
         ensures wins { IfOk result (λ i. WinsByAnswers self.old attack answers.now self.new i) }
         ensures writes { Writes self.old self.new 1 result }
     {
@@ -99,9 +101,9 @@ fn double_moves(replies: &[Point]) -> u32
 
 /// Whether the point is one of these.
 fn has_point(p: Point, points: &[Point]) -> bool
-    ensures has { result ≡ list_any (is_same_point p) points.now }
+    ensures has { result ≡ list_any (λ q. is_same_point q p) points.now }
 {
-    points.iter().any(|q| p.x == q.x && p.y == q.y)
+    points.iter().any(|q| q.x == p.x && q.y == p.y)
 }
 
 /// Whether another point is one of these.
