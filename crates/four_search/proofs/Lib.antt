@@ -9,7 +9,6 @@ mod Reading
 mod Deepening
 -- the plan of a win, and the nodes that stand for it
 mod Planning
-mod Growing
 pub mod Naming
 mod Sums
 pub mod Written

@@ -17,8 +17,7 @@ use Rattle.game_rules.proofs.Boards.{is_empty-on, Apart, cell_at-put_same, same_
 use Rattle.game_rules.proofs.Positions.{GoesOn-empty, IsPosition-after, mover-after, mover-then}
 use Rattle.game_rules.proofs.Fives.{five-other, five-empty}
 use Rattle.game_rules.proofs.Points.{filter-none, is_same_point-itself, is_same_point-same}
-use Rattle.game_rules.proofs.Places.{two_passing-apart}
-use Rattle.game_rules.proofs.Places.{find-passes}
+use Rattle.game_rules.proofs.Places.{two_passing-apart, find-passes}
 use Rattle.strategy_graph.specs.declared.Node.{Node}
 use Rattle.strategy_graph.specs.declared.Reply.{Reply}
 use Rattle.strategy_compiler.specs.Trees.{Tree, Branches, Leaf, Fork, StandsFor, AnswersBranches, GrowthKeepsTrees}
@@ -29,9 +28,10 @@ use Rattle.threat_moves.specs.OneBlock.{block_wins, all_foul}
 use Rattle.threat_moves.proofs.FourLaws.{four-goes_on, one-goes_on}
 use Rattle.threat_moves.proofs.BlockLaw.{block_decides}
 use Rattle.four_search.specs.Searching.{line_behind, line_from, four_line}
-use Rattle.four_search.specs.Plans.{branch_if, branches_for, plan_from, four_plan, answer_if, answers_for, at_or_beside}
-use Rattle.four_search.specs.Growth.{GrowsBy}
+use Rattle.four_search.specs.Plans.{branch_if, branches_for, plan_from, four_plan, answer_if, answers_for}
 use Rattle.four_search.proofs.Trying.{move-is, no_four}
+use Rattle.strategy_compiler.specs.Forks.{answer_node}
+use Rattle.strategy_compiler.specs.Growth.{GrowsBy}
 
 -- ---- answers and branches
 
@@ -72,8 +72,8 @@ module _ (o : Point → Outcome) (node : Point → ℕ) (k : ℕ) (low : (q : Po
   pub answers-below : (ps : List Point) → All (λ r. r.next < k) (answers_for o node ps)
   answers-below ps = All-from_recursion (λ r. r.next < k) (answers_for o node ps) (each-below ps)
 
-pub at_or_beside-below : (w : Point) (i j k : ℕ) → i < k → j < k → (q : Point) → at_or_beside w i j q < k
-at_or_beside-below w i j k a b q = by_test (is_same_point q w) where
+pub answer_node-below : (w : Point) (i j k : ℕ) → i < k → j < k → (q : Point) → answer_node w i j q < k
+answer_node-below w i j k a b q = by_test (is_same_point q w) where
   by_test : (r : Bool) → cond r i j < k
   by_test true = a
   by_test false = b
@@ -173,7 +173,7 @@ plan-fork rule n d p none chosen =
 module _ (rule : RuleKind) (c : Grid) (lawful : IsPosition rule c) (t : List Node) (n : ℕ) (some : 0 < n) where
   -- whether the node of this reply stands for the plan after it
   abbrev Stands : Point → ℕ → ℕ → Point → Type 0
-  Stands w i j q = StandsFor t (at_or_beside w i j q) (four_plan rule n (after c q))
+  Stands w i j q = StandsFor t (answer_node w i j q) (four_plan rule n (after c q))
 
   stands-at : (w : Point) (i j : ℕ) (q : Point) → q ≡ w → StandsFor t i (four_plan rule n (after c q)) → Stands w i j q
   stands-at w i j q same h =
@@ -398,23 +398,32 @@ module _ (rule : RuleKind) (n : ℕ) (b : Grid) (p : Point) (lawful : IsPosition
       these = ap (five_points rule (after b p)) turn ∙ sym points
 
       -- one five point, which the defender may not take
-      pub plan-won-one : fate rule (after b p) ≡ Won → 1 ≤ length xs → length xs < 2 → (j : ℕ) → StandsFor t j (Leaf (get_or xs 0 x)) → IfOk r (λ i. (bs : Branches) → AnswersBranches t (answers_for (outcome rule (after d p)) (at_or_beside (get_or xs 0 x) j j) (points_of d)) bs → StandsFor u i (Fork p bs)) → IfOk r (λ i. StandsFor u i (four_plan rule n b))
+      pub plan-won-one : fate rule (after b p) ≡ Won → 1 ≤ length xs → length xs < 2 → (j : ℕ) → StandsFor t j (Leaf (get_or xs 0 x))
+          → IfOk r (λ i. (bs : Branches) → AnswersBranches t
+          (answers_for (outcome rule (after d p)) (answer_node (get_or xs 0 x) j j) (points_of d)) bs → StandsFor u i (Fork p bs))
+          → IfOk r (λ i. StandsFor u i (four_plan rule n b))
       plan-won-one won low high j hj h =
           let whole = these ∙ list_one xs x low high in
-          plan-answers d same (at_or_beside (get_or xs 0 x) j j)
+          plan-answers d same (answer_node (get_or xs 0 x) j j)
           (foul-stands rule (after b p) after_lawful t (n - 1) more (get_or xs 0 x) [] j j whole (won-foul rule (after b p) (get_or xs 0 x) (sym won) whole) hj) h
 
       -- two five points or more
-      pub plan-won-two : 2 ≤ length xs → (i j : ℕ) → StandsFor t i (Leaf (get_or xs 1 x)) → StandsFor t j (Leaf (get_or xs 0 x)) → IfOk r (λ k. (bs : Branches) → AnswersBranches t (answers_for (outcome rule (after d p)) (at_or_beside (get_or xs 0 x) i j) (points_of d)) bs → StandsFor u k (Fork p bs)) → IfOk r (λ k. StandsFor u k (four_plan rule n b))
+      pub plan-won-two : 2 ≤ length xs → (i j : ℕ) → StandsFor t i (Leaf (get_or xs 1 x)) → StandsFor t j (Leaf (get_or xs 0 x))
+          → IfOk r (λ k. (bs : Branches) → AnswersBranches t
+          (answers_for (outcome rule (after d p)) (answer_node (get_or xs 0 x) i j) (points_of d)) bs → StandsFor u k (Fork p bs))
+          → IfOk r (λ k. StandsFor u k (four_plan rule n b))
       plan-won-two low i j hi hj h =
           let whole = list_two xs x low in
-          plan-answers d same (at_or_beside (get_or xs 0 x) i j)
+          plan-answers d same (answer_node (get_or xs 0 x) i j)
           (two-stands rule (after b p) after_lawful t (n - 1) more (get_or xs 0 x) (get_or xs 1 x) whole.0 i j (these ∙ whole.1) hi hj) h
 
     -- one block, which goes on
-    pub plan-one : (d : Grid) → d ≡ b → (w : Point) → fate rule (after b p) ≡ One w → 0 < n - 1 → (i j : ℕ) → StandsFor t i (four_plan rule (n - 1) (after (after b p) w)) → StandsFor t j (Leaf w) → IfOk r (λ k. (bs : Branches) → AnswersBranches t (answers_for (outcome rule (after d p)) (at_or_beside w i j) (points_of d)) bs → StandsFor u k (Fork p bs)) → IfOk r (λ k. StandsFor u k (four_plan rule n b))
+    pub plan-one : (d : Grid) → d ≡ b → (w : Point) → fate rule (after b p) ≡ One w → 0 < n - 1 → (i j : ℕ)
+        → StandsFor t i (four_plan rule (n - 1) (after (after b p) w)) → StandsFor t j (Leaf w)
+        → IfOk r (λ k. (bs : Branches) → AnswersBranches t (answers_for (outcome rule (after d p)) (answer_node w i j) (points_of d)) bs
+        → StandsFor u k (Fork p bs)) → IfOk r (λ k. StandsFor u k (four_plan rule n b))
     plan-one d same w one more i j hi hj h =
-        plan-answers d same (at_or_beside w i j)
+        plan-answers d same (answer_node w i j)
         (one-stands rule (after b p) after_lawful t (n - 1) more w [] i j (one-points rule (after b p) w (sym one)) hi hj) h
 
   -- after the one block the attacker wins

@@ -1,9 +1,8 @@
 -- A node that stands for the plan of a win by fours is accepted, and its depth is at most the moves of the plan; within that
 -- depth there is a win by fours.
 use Rattle.std.proofs.Common.{◌≡◌, ◌⊎◌, inl, inr, ℕ, zero, suc, ◌+◌, ◌*◌, ◌≤◌, ◌<◌, Bool, true, false, ◌&&◌, refl, sym, ap, subst, ◌∙◌, arith, List, [], map, length}
-use Rattle.std.specs.Prelude.{Option, Some, None, slice_get, Contains}
-use Rattle.std.specs.List.{list_all, sum_by, AllByRecursion}
-use Rattle.std.proofs.lemmas.List.Elements.{All-from_recursion}
+use Rattle.std.specs.Prelude.{Option, Some, None, slice_get}
+use Rattle.std.specs.List.{list_all, sum_by}
 use Rattle.std.proofs.lemmas.Bool.{cases_lt}
 use Rattle.game_rules.specs.Grid.{Grid, IsBoard, is_on, is_empty, is_empty_cell, cell_at, points_of}
 use Rattle.game_rules.specs.Shapes.{five, is_same_point}
@@ -17,23 +16,22 @@ use Rattle.game_rules.proofs.Boards.{is_empty-on, cell_at-put_same, stone_of-tak
 use Rattle.game_rules.proofs.Points.{points-found, all_of, taken_refused, is_same_point-itself}
 use Rattle.game_rules.proofs.Games.{each_reply, LosesOr-loses_or, test-WinsUnder, WinsUnder-test}
 use Rattle.game_rules.proofs.Positions.{IsPosition-after, GoesOn-on, GoesOn-empty}
-use Rattle.game_rules.proofs.Fives.{five-empty}
 use Rattle.game_rules.proofs.Outcomes.{five-outcome}
 use Rattle.game_rules.proofs.Places.{points_length, find-passes}
 use Rattle.strategy_graph.specs.declared.Node.{Node}
 use Rattle.strategy_graph.specs.declared.Reply.{Reply}
 use Rattle.strategy_graph.specs.declared.Rest.{Rest}
 use Rattle.strategy_graph.specs.declared.Rest.TheVariants.{Wins, To, Nothing}
-use Rattle.strategy_graph.specs.Tables.{answers_of, answer, is_winning, IsTable, NamesLower, NamesOnBoard, RepliesOn, depth, node_depth, named, greatest}
+use Rattle.strategy_graph.specs.Tables.{answers_of, answer, is_winning, IsTable, NamesLower, depth, node_depth, named, greatest}
 use Rattle.strategy_graph.specs.Acceptance.{Answered, Meets, Accepted}
 use Rattle.strategy_graph.specs.Arrivals.{if_answered, arrivals_at, arrivals}
 use Rattle.strategy_graph.specs.Leads.{AtNode}
 use Rattle.strategy_graph.proofs.Answering.{Answered-map, answer-greatest}
 use Rattle.strategy_graph.proofs.Fuel.{depth-step}
-use Rattle.strategy_graph.proofs.Steps.{accepted-by-win, accepted-by-replies, arrivals-by-replies, arrivals-winning}
+use Rattle.strategy_graph.proofs.Steps.{accepted-by-replies, arrivals-by-replies, arrivals-winning}
 use Rattle.strategy_compiler.specs.Trees.{Tree, Branches, Leaf, Fork, NoBranch, Branch, StandsFor, StandsForAll, AnswersBriefly, replies_of}
-use Rattle.strategy_compiler.specs.Walks.{Reaches, Itself, Through}
 use Rattle.threat_moves.proofs.BlockLaw.{five-wins, block_decides, others_leave_five}
+use Rattle.strategy_compiler.specs.Nodes.{winning_node}
 use Rattle.threat_moves.proofs.FourLaws.{one-goes_on}
 use Rattle.threat_moves.specs.declared.block.BlockAnswer.{BlockAnswer}
 use Rattle.threat_moves.specs.declared.block.BlockAnswer.TheVariants.{Lost, Won, Draw, One}
@@ -45,8 +43,9 @@ use Rattle.four_search.specs.Answers.{IsFourWin}
 use Rattle.four_search.specs.Plans.{branches_for, four_plan}
 use Rattle.four_search.proofs.Trying.{move-is, wins-is}
 use Rattle.four_search.proofs.Planning.{any-find, plan-leaf, plan-fork, plan-goes_on, wins-some}
-use Rattle.four_search.proofs.Naming.{named-all, answers-each, answer-at, greatest-all, listed-on}
+use Rattle.four_search.proofs.Naming.{answers-each, answer-at, listed-on}
 use Rattle.four_search.proofs.Sums.{sum-ones-but, sum-once}
+use Rattle.strategy_compiler.proofs.Forks.{briefly-named, greatest-each, leaf-wins, stays-before, stays-by}
 use Rattle.four_search.proofs.Deepening.{NoWinUpTo, wins-more, least-win}
 
 -- what is known of a node that stands for the plan of a win within n moves
@@ -57,39 +56,12 @@ pub record IsWritten (rule : RuleKind) (t : List Node) (i n : ℕ) (b : Grid) : 
   pub on_board : StaysOnBoard b t i
   pub short : arrivals rule t i b ≤ b.width * b.height * n
 
--- ---- what a node reaches
-
-reach-cases : (t : List Node) (i k : ℕ) → Reaches t i k → (i ≡ k) ⊎ ((j : ℕ) × (n : Node) × (slice_get t i ≡ Some n) × Contains (named (answers_of n)) j × Reaches t j k)
-reach-cases t _ _ (Itself i) = inl refl
-reach-cases t _ _ (Through i j k n at names rest) = inr (j, n, at, names, rest)
-
-contained : (P : ℕ → Type 0) (js : List ℕ) (j : ℕ) → AllByRecursion P js → Contains js j → P j
-contained P js j all c = subst P c.2 (All-from_recursion P js all c.0 j c.1)
-
--- a node whose names stay on the board does so too
-pub stays-by : (b : Grid) (t : List Node) (i : ℕ) (n : Node) → slice_get t i ≡ Some n → NamesOnBoard b n → AllByRecursion (StaysOnBoard b t) (named (answers_of n)) → StaysOnBoard b t i
-stays-by b t i n at on all k m reach here = elim (reach-cases t i k reach) [
-  | inl same ↦
-      let e : Some n ≡ Some m = sym at ∙ ap (slice_get t) same ∙ here in
-      let f : n ≡ m = cc in
-      subst (NamesOnBoard b) f on
-  | inr step ↦
-      let e : Some n ≡ Some step.1 = sym at ∙ step.2 in
-      let f : step.1 ≡ n = cc in
-      let names : Contains (named (answers_of n)) step.0 = subst (λ (m : Node). Contains (named (answers_of m)) step.0) f step.3 in
-      contained (StaysOnBoard b t) (named (answers_of n)) step.0 all names k m step.4 here
-]
-
 at_node : (o : Option Node) (P : Node → Type 0) → AtNode o P → (n : Node) × (o ≡ Some n) × P n
 at_node None P h = absurd h
 at_node (Some n) P h = (n, refl, h)
 
 lower_of : (t : List Node) → IsTable t → NamesLower t
 lower_of t table = record { lower = λ i n at. (table.nodes i n at).below }
-
--- two moves change no size
-pub on_before : (b : Grid) (p q : Point) (n : Node) → NamesOnBoard (after (after b p) q) n → NamesOnBoard b n
-on_before b p q n h = record { attack = h.attack; replies = h.replies }
 
 -- a board has a point for each move
 points-many : (rule : RuleKind) (b : Grid) → IsPosition rule b → (m : ℕ) → 1 ≤ b.width * b.height * suc m
@@ -102,30 +74,31 @@ points-many rule b lawful m =
 
 -- ---- a winning node
 
-no_names : (t : List Node) (i : ℕ) (n : Node) → IsTable t → slice_get t i ≡ Some n → is_winning n.rest ≡ true → named (answers_of n) ≡ []
-no_names t i n table at win = by_rest n.rest win (((table.nodes i n at).winning) win) where
-  by_rest : (r : Rest) → is_winning r ≡ true → n.replies ≡ [] → named (record { replies = n.replies; rest = r }) ≡ []
-  by_rest Wins h e = rw e refl
-  by_rest (To j) h e = cc
-  by_rest Nothing h e = cc
+winning-is : (t : List Node) (i : ℕ) (n : Node) (x : Point) → IsTable t → slice_get t i ≡ Some n → n.attack ≡ x → is_winning n.rest ≡ true
+    → n ≡ winning_node x
+winning-is t i n x table at plays win =
+    let none = (table.nodes i n at).winning win in
+    let rest = by_rest n.rest win in
+    λ k. record { attack = plays k; replies = none k; rest = rest k } where
+      by_rest : (r : Rest) → is_winning r ≡ true → r ≡ Wins
+      by_rest Wins h = refl
+      by_rest (To j) h = cc
+      by_rest Nothing h = cc
 
 module _ (rule : RuleKind) (t : List Node) (table : IsTable t) (i : ℕ) (b : Grid) (lawful : IsPosition rule b) (x : Point) (h : five rule b (mover b) x ≡ true) (some : has_five rule b (mover b) ≡ true) (n : Node) (at : slice_get t i ≡ Some n) (plays : n.attack ≡ x) (win : is_winning n.rest ≡ true) where
-  leaf_depth : depth t i ≡ 1
-  leaf_depth = depth-step t (lower_of t table) i ∙ ap (λ (o : Option Node). node_depth o (depth t)) at ∙ ap (λ (js : List ℕ). suc (greatest (map (depth t) js))) (no_names t i n table at win)
-
   leaf-written : (m : ℕ) → IsWritten rule t i (suc m) b
-  leaf-written m = record {
-    accepted = accepted-by-win rule t (lower_of t table) i b n at (ap (outcome rule b) plays ∙ five-outcome rule b x h);
-    deep = let e = leaf_depth in omega (arith, e);
-    wins = ap (λ (k : ℕ). wins_by_fours rule k b) leaf_depth ∙ five-wins rule b 0 some;
-    on_board = stays-by b t i n at
-        (record {
-          attack = ap (is_on b) plays ∙ is_empty-on b x (five-empty rule b (mover b) x h);
-          replies = subst (RepliesOn b) (sym ((table.nodes i n at).winning win)) tt;
-        })
-        (subst (AllByRecursion (StaysOnBoard b t)) (sym (no_names t i n table at win)) tt);
-    short = let one = arrivals-winning rule t (lower_of t table) i b n at win in let many = points-many rule b lawful m in omega (arith, one, many);
-  }
+  leaf-written m =
+      let won = leaf-wins t (lower_of t table) i x (at ∙ ap Some (winning-is t i n x table at plays win)) rule b
+      (five-outcome rule b x h) in
+      let deep = won.deep in
+      record {
+        accepted = won.accepted;
+        deep = omega (arith, deep);
+        wins = ap (λ (k : ℕ). wins_by_fours rule k b) won.deep ∙ five-wins rule b 0 some;
+        on_board = won.on_board;
+        short = let one = arrivals-winning rule t (lower_of t table) i b n at win in let many = points-many rule b lawful m in omega
+            (arith, one, many);
+      }
 
 -- ---- a node of a four
 
@@ -220,9 +193,10 @@ module _ (rule : RuleKind) (t : List Node) (table : IsTable t) (i m : ℕ) (b : 
 
   written_deep : depth t i ≤ suc m
   written_deep =
-      let each : AllByRecursion (λ j. depth t j ≤ m) (named (answers_of n)) = named-all (λ j. depth t j ≤ m) (answers_of n) _ (table.nodes i n at).rising brief
-      (answers-each t (answers_of n) (outcome rule (after b p)) (λ q. four_plan rule m (after (after b p) q)) (λ j. depth t j ≤ m) (points_of b) (λ q j go s. (next_written q j go s).deep) stands) in
-      let low = greatest-all (depth t) m (named (answers_of n)) each in
+      let low = greatest-each (depth t) m (named (answers_of n))
+      (briefly-named (λ j. depth t j ≤ m) (answers_of n) _ (table.nodes i n at).rising brief
+      (answers-each t (answers_of n) (outcome rule (after b p)) (λ q. four_plan rule m (after (after b p) q)) (λ j. depth t j ≤ m)
+      (points_of b) (λ q j go s. (next_written q j go s).deep) stands)) in
       let e = written_depth in
       omega (arith, low, e)
 
@@ -253,8 +227,10 @@ module _ (rule : RuleKind) (t : List Node) (table : IsTable t) (i m : ℕ) (b : 
         attack = ap (is_on b) plays ∙ GoesOn-on rule b p on;
         replies = listed-on (is_on b) (answers_of n) (outcome rule (after b p)) (λ q. four_plan rule m (after (after b p) q)) (points_of b) (λ q go. GoesOn-on rule (after b p) q go) brief;
       })
-      (named-all (StaysOnBoard b t) (answers_of n) _ (table.nodes i n at).rising brief
-      (answers-each t (answers_of n) (outcome rule (after b p)) (λ q. four_plan rule m (after (after b p) q)) (StaysOnBoard b t) (points_of b) (λ q j go s k n reach here. on_before b p q n ((next_written q j go s).on_board k n reach here)) stands))
+      (briefly-named (StaysOnBoard b t) (answers_of n) _ (table.nodes i n at).rising brief
+      (answers-each t (answers_of n) (outcome rule (after b p)) (λ q. four_plan rule m (after (after b p) q)) (StaysOnBoard b t)
+      (points_of b)
+      (λ q j go s. stays-before b p t j (stays-before (after b p) q t j (next_written q j go s).on_board)) stands))
 
   -- ---- arrivals
 

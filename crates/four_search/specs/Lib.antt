@@ -4,6 +4,5 @@ pub mod Makers
 pub mod Roots
 pub mod Remembering
 pub mod Plans
-pub mod Growth
 pub mod Answers
 pub mod Gaps

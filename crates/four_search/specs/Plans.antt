@@ -1,7 +1,6 @@
 -- The tree of moves of a win by continuous fours.
-use Rattle.std.specs.Prelude.{ℕ, zero, suc, Bool, true, false, if◌then◌else◌, List, [], ◌∷◌, Option, Some, None}
+use Rattle.std.specs.Prelude.{ℕ, zero, suc, Bool, true, false, List, [], ◌∷◌, Option, Some, None}
 use Rattle.game_rules.specs.Grid.{Grid, points_of}
-use Rattle.game_rules.specs.Shapes.{is_same_point}
 use Rattle.game_rules.specs.Play.{outcome, mover, after}
 use Rattle.game_rules.specs.Games.{has_five, four_move}
 use Rattle.game_rules.specs.declared.RuleKind.{RuleKind}
@@ -50,7 +49,3 @@ answer_if GoesOn r rs = r ∷ rs
 abbrev pub answers_for : (Point → Outcome) → (Point → ℕ) → List Point → List Reply
 answers_for o next [] = []
 answers_for o next (q ∷ qs) = answer_if (o q) (record { at = q; next = next q }) (answers_for o next qs)
-
--- node i for the reply w, and node j for any other
-abbrev pub at_or_beside : Point → ℕ → ℕ → Point → ℕ
-at_or_beside w i j q = if is_same_point q w then i else j

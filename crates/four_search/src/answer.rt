@@ -10,7 +10,7 @@ ghost use Rattle.game_rules.specs.Games.{WinsByFours, wins_by_fours};
 ghost use Rattle.strategy_graph.specs.declared.TheConstants.{MAX_NODES};
 ghost use Rattle.four_search.specs.declared.TheConstants.{MAX_DEPTH};
 ghost use Rattle.four_search.specs.FourGame.{four_cost};
-ghost use Rattle.four_search.specs.Growth.{GrowsBy};
+ghost use Rattle.strategy_compiler.specs.Growth.{GrowsBy};
 ghost use Rattle.four_search.specs.Answers.{OnWin, IsFourWin, most_added};
 
 use crate::SearchError;
@@ -66,7 +66,8 @@ pub fn four_search<R: Rule, V: Seen<R>>(
     ensures added { IfOk result (λ a. GrowsBy compiler.old compiler.new (most_added a)) }
 
     // What a refusal leaves, and when the compiler is full.
-    ensures kept { OnErr result (GrowsBy compiler.old compiler.new (2 * depth)) }
+    ensures kept { OnErr result (GrowsBy compiler.old compiler.new
+        (if wins_by_fours R.KIND depth (V.position view.old) then 2 * depth else 0)) }
     ensures full { IsErrOf result SearchError.Full
         → (wins_by_fours R.KIND depth (V.position view.old) ≡ true) × (four_cost R.KIND depth (V.position view.old) ≤ budget) × (MAX_NODES < length compiler.old + 2 * depth) }
     ensures full_now { IsErrOf result SearchError.Full → length compiler.new ≡ MAX_NODES }

@@ -4,25 +4,23 @@
 //! the block has a node of its own. So each move of the win takes two nodes, and the last one at most three.
 #![tactic(auto)]
 
-ghost use Rattle.std.specs.Prelude.{◌≡◌, ◌<◌, ◌≤◌, ◌+◌, ◌-◌, ◌*◌, ℕ, true, false, All, [], length, slice_get, Some, IfOk, OnOk, IsTrue, IsErrOf};
+ghost use Rattle.std.specs.Prelude.{◌≡◌, ◌<◌, ◌-◌, ◌*◌, true, false, [], length, Some, IfOk};
 ghost use Rattle.game_rules.specs.Grid.{points_of};
 ghost use Rattle.game_rules.specs.Play.{IsPosition, outcome as outcome_lem, after, mover};
 ghost use Rattle.game_rules.specs.Games.{wins_by_fours, has_five, five_points, four_move};
 ghost use Rattle.threat_moves.specs.Blocks.{fate as fate_lem};
-ghost use Rattle.strategy_graph.specs.Tables.{is_rising};
-ghost use Rattle.strategy_graph.specs.declared.TheConstants.{MAX_NODES};
-ghost use Rattle.strategy_compiler.specs.Trees.{Branches, Leaf, Fork, StandsFor, AnswersBranches};
-ghost use Rattle.strategy_compiler.specs.Nodes.{IsCompiled};
+ghost use Rattle.strategy_compiler.specs.Trees.{Branches, Fork, StandsFor, AnswersBranches};
+ghost use Rattle.strategy_compiler.specs.Forks.{answer_node as answer_node_lem};
+ghost use Rattle.strategy_compiler.specs.Growth.{Writes};
 ghost use Rattle.four_search.specs.Searching.{four_line, line_behind};
-ghost use Rattle.four_search.specs.Plans.{four_plan, answers_for, at_or_beside as at_or_beside_lem};
-ghost use Rattle.four_search.specs.Growth.{GrowsBy};
+ghost use Rattle.four_search.specs.Plans.{four_plan, answers_for};
 
 use crate::SearchError;
 use foul_judge::{Outcome, Seen};
 use row_shapes::Rule;
 use std::alloc::{AllocError, Global};
 use stone_board::{Point, Points};
-use strategy_compiler::{Compiler, growth_keeps_trees};
+use strategy_compiler::{Compiler, answer_node, growth_keeps_trees};
 use strategy_graph::Reply;
 use threat_moves::{BlockAnswer, fives, forced};
 
@@ -40,18 +38,15 @@ pub(crate) fn compile<R: Rule, V: Seen<R>>(
     requires line { line.now ≡ four_line R.KIND moves (V.position view.old) }
     ensures stands { IfOk result (λ node. StandsFor compiler.new node (four_plan R.KIND moves (V.position view.old))) }
     ensures in_compiler { IfOk result (λ node. node < length compiler.new) }
-    ensures compiled { OnOk result (IsCompiled compiler.new) }
     ensures same { V.position view.new ≡ V.position view.old }
-    ensures grows { GrowsBy compiler.old compiler.new (2 * moves) }
-    ensures full { IsErrOf result SearchError.Full → MAX_NODES < length compiler.old + 2 * moves }
-    ensures full_now { IsErrOf result SearchError.Full → length compiler.new ≡ MAX_NODES }
+    ensures writes { Writes compiler.old compiler.new (2 * moves) result }
 {
     let attacker = view.side();
     let Ok(points) = fives::<R, V>(alloc, view, attacker) else {
         return Err(SearchError::Memory);
     };
     match points.as_slice() {
-        [five, ..] => winning(compiler, *five),
+        [five, ..] => compiler.leaf(*five),
         [] => match line.split_last() {
             None => unreachable!(),
             Some((attack, inner)) => compile_four::<R, V>(
@@ -77,11 +72,8 @@ fn compile_four<R: Rule, V: Seen<R>>(
     requires line { line.now ≡ line_behind (four_line R.KIND (moves - 1)) (after (V.position view.old) p) (fate_lem R.KIND (after (V.position view.old) p)) }
     ensures stands { IfOk result (λ node. StandsFor compiler.new node (four_plan R.KIND moves (V.position view.old))) }
     ensures in_compiler { IfOk result (λ node. node < length compiler.new) }
-    ensures compiled { OnOk result (IsCompiled compiler.new) }
     ensures same { V.position view.new ≡ V.position view.old }
-    ensures grows { GrowsBy compiler.old compiler.new (2 * moves) }
-    ensures full { IsErrOf result SearchError.Full → MAX_NODES < length compiler.old + 2 * moves }
-    ensures full_now { IsErrOf result SearchError.Full → length compiler.new ≡ MAX_NODES }
+    ensures writes { Writes compiler.old compiler.new (2 * moves) result }
 {
     let Ok(answer) = forced::<R, V>(alloc, view, p) else {
         return Err(SearchError::Memory);
@@ -114,16 +106,13 @@ fn compile_one<R: Rule, V: Seen<R>>(
     requires line { line.now ≡ four_line R.KIND (moves - 1) (after (after (V.position view.old) p) block) }
     ensures stands { IfOk result (λ node. StandsFor compiler.new node (four_plan R.KIND moves (V.position view.old))) }
     ensures in_compiler { IfOk result (λ node. node < length compiler.new) }
-    ensures compiled { OnOk result (IsCompiled compiler.new) }
     ensures same { V.position view.new ≡ V.position view.old }
-    ensures grows { GrowsBy compiler.old compiler.new (2 * moves) }
-    ensures full { IsErrOf result SearchError.Full → MAX_NODES < length compiler.old + 2 * moves }
-    ensures full_now { IsErrOf result SearchError.Full → length compiler.new ≡ MAX_NODES }
+    ensures writes { Writes compiler.old compiler.new (2 * moves) result }
 {
     growth_keeps_trees();
     let at_block = compile_after::<R, V>(alloc, view, p, block, moves - 1, line, compiler)?;
-    let beside = winning(compiler, block)?;
-    fork::<R, V>(alloc, view, p, block, at_block, beside, compiler)
+    let beside = compiler.leaf(block)?;
+    block_node::<R, V>(alloc, view, p, block, at_block, beside, compiler)
 }
 
 /// Compiles the plan of the position after `p` and the block, both of which go on.
@@ -143,11 +132,8 @@ fn compile_after<R: Rule, V: Seen<R>>(
     requires line { line.now ≡ four_line R.KIND moves (after (after (V.position view.old) p) block) }
     ensures stands { IfOk result (λ node. StandsFor compiler.new node (four_plan R.KIND moves (after (after (V.position view.old) p) block))) }
     ensures in_compiler { IfOk result (λ node. node < length compiler.new) }
-    ensures compiled { OnOk result (IsCompiled compiler.new) }
     ensures same { V.position view.new ≡ V.position view.old }
-    ensures grows { GrowsBy compiler.old compiler.new (2 * moves) }
-    ensures full { IsErrOf result SearchError.Full → MAX_NODES < length compiler.old + 2 * moves }
-    ensures full_now { IsErrOf result SearchError.Full → length compiler.new ≡ MAX_NODES }
+    ensures writes { Writes compiler.old compiler.new (2 * moves) result }
 {
     view.play(p);
     view.play(block);
@@ -172,15 +158,12 @@ fn compile_won<R: Rule, V: Seen<R>>(
     requires won { fate_lem R.KIND (after (V.position view.old) p) ≡ BlockAnswer.Won }
     ensures stands { IfOk result (λ node. StandsFor compiler.new node (four_plan R.KIND moves (V.position view.old))) }
     ensures in_compiler { IfOk result (λ node. node < length compiler.new) }
-    ensures compiled { OnOk result (IsCompiled compiler.new) }
     ensures same { V.position view.new ≡ V.position view.old }
-    ensures grows { GrowsBy compiler.old compiler.new (2 * moves) }
-    ensures full { IsErrOf result SearchError.Full → MAX_NODES < length compiler.old + 2 * moves }
-    ensures full_now { IsErrOf result SearchError.Full → length compiler.new ≡ MAX_NODES }
+    ensures writes { Writes compiler.old compiler.new (2 * moves) result }
 {
     growth_keeps_trees();
     if moves == 1 {
-        return forking(compiler, p, &[]);
+        return compiler.fork(p, &[]);
     }
     let Ok(points) = fives_after::<R, V>(alloc, view, p) else {
         return Err(SearchError::Memory);
@@ -188,13 +171,13 @@ fn compile_won<R: Rule, V: Seen<R>>(
     match points.as_slice() {
         [] => unreachable!(),
         [block] => {
-            let beside = winning(compiler, *block)?;
-            fork::<R, V>(alloc, view, p, *block, beside, beside, compiler)
+            let beside = compiler.leaf(*block)?;
+            block_node::<R, V>(alloc, view, p, *block, beside, beside, compiler)
         }
         [first, second, ..] => {
-            let beside = winning(compiler, *first)?;
-            let at_first = winning(compiler, *second)?;
-            fork::<R, V>(alloc, view, p, *first, at_first, beside, compiler)
+            let beside = compiler.leaf(*first)?;
+            let at_first = compiler.leaf(*second)?;
+            block_node::<R, V>(alloc, view, p, *first, at_first, beside, compiler)
         }
     }
 }
@@ -217,7 +200,7 @@ fn fives_after<R: Rule, V: Seen<R>>(
 }
 
 /// The node that plays `p` and has one answer to the block, and another to each other reply that goes on.
-fn fork<R: Rule, V: Seen<R>>(
+fn block_node<R: Rule, V: Seen<R>>(
     alloc: Global,
     view: &mut V,
     p: Point,
@@ -230,48 +213,19 @@ fn fork<R: Rule, V: Seen<R>>(
     requires at_block_below { at_block < length compiler.old }
     requires beside_below { beside < length compiler.old }
     ensures stands { IfOk result (λ node. (branches : Branches)
-        → AnswersBranches compiler.old (answers_for (outcome_lem R.KIND (after (V.position view.old) p)) (at_or_beside_lem block at_block beside) (points_of (V.position view.old))) branches
+        → AnswersBranches compiler.old (answers_for (outcome_lem R.KIND (after (V.position view.old) p)) (answer_node_lem block at_block beside) (points_of (V.position view.old))) branches
         → StandsFor compiler.new node (Fork p branches)) }
     ensures in_compiler { IfOk result (λ node. node < length compiler.new) }
-    ensures compiled { OnOk result (IsCompiled compiler.new) }
     ensures same { V.position view.new ≡ V.position view.old }
-    ensures grows { GrowsBy compiler.old compiler.new 1 }
-    ensures full { IsErrOf result SearchError.Full → MAX_NODES ≤ length compiler.old }
-    ensures full_now { IsErrOf result SearchError.Full → length compiler.new ≡ MAX_NODES }
+    ensures writes { Writes compiler.old compiler.new 1 result }
 {
     view.play(p);
     let found = answers::<R, V>(alloc, view, block, at_block, beside);
     view.undo(p);
     match found {
         Err(_) => Err(SearchError::Memory),
-        Ok(answers) => forking(compiler, p, answers.as_slice()),
+        Ok(answers) => compiler.fork(p, answers.as_slice()),
     }
-}
-
-/// The winning node with this attack.
-fn winning(compiler: &mut Compiler, attack: Point) -> Result<u32, SearchError>
-    ensures stands { IfOk result (λ node. StandsFor compiler.new node (Leaf attack)) }
-    ensures in_compiler { IfOk result (λ node. node < length compiler.new) }
-    ensures compiled { OnOk result (IsCompiled compiler.new) }
-    ensures grows { GrowsBy compiler.old compiler.new 1 }
-    ensures full { IsErrOf result SearchError.Full → MAX_NODES ≤ length compiler.old }
-    ensures full_now { IsErrOf result SearchError.Full → length compiler.new ≡ MAX_NODES }
-{
-    Ok(compiler.winning(attack)?)
-}
-
-/// The node with this attack and these answers.
-fn forking(compiler: &mut Compiler, attack: Point, answers: &[Reply]) -> Result<u32, SearchError>
-    requires rising { is_rising answers.now ≡ true }
-    requires below { All (λ r. r.next < length compiler.old) answers.now }
-    ensures stands { IfOk result (λ node. (branches : Branches) → AnswersBranches compiler.old answers.now branches → StandsFor compiler.new node (Fork attack branches)) }
-    ensures in_compiler { IfOk result (λ node. node < length compiler.new) }
-    ensures compiled { OnOk result (IsCompiled compiler.new) }
-    ensures grows { GrowsBy compiler.old compiler.new 1 }
-    ensures full { IsErrOf result SearchError.Full → MAX_NODES ≤ length compiler.old }
-    ensures full_now { IsErrOf result SearchError.Full → length compiler.new ≡ MAX_NODES }
-{
-    Ok(compiler.node(attack, answers)?)
 }
 
 /// The answers at a position where the defender is to move: one node to the block, another to each other reply that goes
@@ -283,7 +237,7 @@ fn answers<R: Rule, V: Seen<R>>(
     at_block: u32,
     beside: u32,
 ) -> Result<Vec<Reply>, AllocError>
-    ensures answers { IfOk result (λ answers. answers.items ≡ answers_for (outcome_lem R.KIND (V.position view.old)) (at_or_beside_lem block at_block beside) (points_of (V.position view.old))) }
+    ensures answers { IfOk result (λ answers. answers.items ≡ answers_for (outcome_lem R.KIND (V.position view.old)) (answer_node_lem block at_block beside) (points_of (V.position view.old))) }
     ensures same { V.position view.new ≡ V.position view.old }
 {
     let mut found = Vec::new(alloc);
@@ -291,20 +245,9 @@ fn answers<R: Rule, V: Seen<R>>(
         if let Outcome::GoesOn = view.outcome(q) {
             found.push(Reply {
                 at: q,
-                next: at_or_beside(q, block, at_block, beside),
+                next: answer_node(q, block, at_block, beside),
             })?;
         }
     }
     Ok(found)
-}
-
-/// The first node for the block, and the second for another point.
-fn at_or_beside(q: Point, block: Point, at_block: u32, beside: u32) -> u32
-    ensures node { result ≡ at_or_beside_lem block at_block beside q }
-{
-    if q.x == block.x && q.y == block.y {
-        at_block
-    } else {
-        beside
-    }
 }

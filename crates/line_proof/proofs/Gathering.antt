@@ -16,28 +16,16 @@ use Rattle.strategy_graph.specs.declared.Reply.{Reply}
 use Rattle.strategy_graph.specs.Tables.{NamesLower, depth, greatest}
 use Rattle.strategy_compiler.specs.Nodes.{IsCompiled}
 use Rattle.strategy_compiler.specs.declared.wins.WrittenWin.{WrittenWin}
-use Rattle.strategy_compiler.specs.Wins.{IsWrittenWin, GrowthKeepsWins}
+use Rattle.strategy_compiler.specs.Wins.{IsWrittenWin}
+use Rattle.strategy_compiler.specs.Growth.{GrowsBy}
+use Rattle.strategy_compiler.proofs.Growing.{win-stays}
 use Rattle.line_proof.specs.declared.answers.Answering.{Answering}
-use Rattle.line_proof.specs.Replies.{Extends, IsWonAt, AreAnswers, AnswersAll, answered, going_on}
+use Rattle.line_proof.specs.Replies.{IsWonAt, AreAnswers, answered, going_on}
 
 pub lower_of : (t : List Node) → IsCompiled t → NamesLower t
 lower_of t ok = record { lower = λ i n at. (ok.table.nodes i n at).below }
 
 -- ---- wins as the nodes grow
-
-pub win-grown : GrowthKeepsWins → (rule : RuleKind) (limit : ℕ) (b : Grid) (t u : List Node) (win : WrittenWin) → NamesLower t → Extends t u → IsWrittenWin rule limit b t win → IsWrittenWin rule limit b u win
-win-grown keeps rule limit b t u win lower grown h =
-    subst (λ (v : List Node). IsWrittenWin rule limit b v win) (sym grown.is) (keeps rule limit b t grown.added win lower h)
-
--- a win within fewer moves
-pub win-within : (rule : RuleKind) (n m : ℕ) (b : Grid) (t : List Node) (win : WrittenWin) → n ≤ m → IsWrittenWin rule n b t win → IsWrittenWin rule m b t win
-win-within rule n m b t win l h = record {
-  in_compiler = h.in_compiler;
-  accepted = h.accepted;
-  deep = h.deep;
-  within = let low = h.within in omega (arith, l, low);
-  on_board = h.on_board;
-}
 
 -- a win whose moves are told as the depth of its node
 pub win-deep : (rule : RuleKind) (n : ℕ) (b : Grid) (t : List Node) (win : WrittenWin) → IsWrittenWin rule n b t win → IsWrittenWin rule n b t (record { node = win.node; moves = depth t win.node })
@@ -49,26 +37,23 @@ win-deep rule n b t win h = record {
   on_board = h.on_board;
 }
 
-module _ (keeps : GrowthKeepsWins) (rule : RuleKind) (n : ℕ) (c : Grid) (t u : List Node) (lower : NamesLower t) (grown : Extends t u) where
+module _ (rule : RuleKind) (n : ℕ) (c : Grid) (t u : List Node) (k : ℕ) (lower : NamesLower t) (grown : GrowsBy t u k) where
   won-grown : (rs : List Reply) → AllByRecursion (IsWonAt rule n t c) rs → AllByRecursion (IsWonAt rule n u c) rs
   won-grown [] h = tt
   won-grown (r ∷ rs) h = (
-    win-deep rule n (after c r.at) u _ (win-grown keeps rule n (after c r.at) t u _ lower grown h.0),
+    win-deep rule n (after c r.at) u _ (win-stays rule n (after c r.at) t u k _ lower grown h.0),
     won-grown rs h.1,
   )
 
   most-grown : (rs : List Reply) → AllByRecursion (IsWonAt rule n t c) rs → greatest (map (depth u) (map (λ r. r.next) rs)) ≡ greatest (map (depth t) (map (λ r. r.next) rs))
   most-grown [] h = refl
   most-grown (r ∷ rs) h =
-      let here : depth u r.next ≡ depth t r.next = (win-grown keeps rule n (after c r.at) t u _ lower grown h.0).deep in
+      let here : depth u r.next ≡ depth t r.next = (win-stays rule n (after c r.at) t u k _ lower grown h.0).deep in
       let rest = most-grown rs h.1 in
       omega (arith, here, rest)
 
   pub answers-grown : (a : Answering) → AreAnswers rule n t c a → AreAnswers rule n u c a
   answers-grown a h = record { wins = won-grown a.replies.items h.wins; most = h.most ∙ sym (most-grown a.replies.items h.wins) }
-
-  pub all-grown : (a : Answering) → AnswersAll rule n t c a → AnswersAll rule n u c a
-  all-grown a h = record { answers = answers-grown a h.answers; all = h.all }
 
 -- ---- no answer, and one more
 
@@ -134,24 +119,15 @@ answers-few rule n t c a h =
 -- ---- one reply more
 
 module _ (rule : RuleKind) (c v : Grid) (same : v ≡ c) (q : Point) (qs rest : List Point) (steps : qs ≡ q ∷ rest) where
-  pub few-step : (count : Grid → ℕ) (before now most : ℕ) → now ≤ before + if_goes_on (outcome rule v q) (count (after v q))
-      → before + sum_by (λ q. if_goes_on (outcome rule c q) (count (after c q))) qs ≤ most
-      → now + sum_by (λ q. if_goes_on (outcome rule c q) (count (after c q))) rest ≤ most
-  few-step count before now most one all =
+  -- the nodes that the points left may need
+  pub few-step : (count : Grid → ℕ)
+      → sum_by (λ q. if_goes_on (outcome rule c q) (count (after c q))) qs ≡ if_goes_on (outcome rule v q) (count (after v q)) + sum_by
+      (λ q. if_goes_on (outcome rule c q) (count (after c q))) rest
+  few-step count =
       let f : Point → ℕ = λ q. if_goes_on (outcome rule c q) (count (after c q)) in
       let here : if_goes_on (outcome rule v q) (count (after v q)) ≡ f q = ap (λ (w : Grid). if_goes_on (outcome rule w q) (count (after w q))) same in
       let split : sum_by f qs ≡ f q + sum_by f rest = ap (sum_by f) steps ∙ sum_by-cons f q rest in
-      omega (arith, one, all, here, split)
-
-  pub full-step : {A : Type 0} (count : Grid → ℕ) (before limit most : ℕ) → (A → limit < before + if_goes_on (outcome rule v q) (count (after v q)))
-      → before + sum_by (λ q. if_goes_on (outcome rule c q) (count (after c q))) qs ≤ most
-      → A → limit < most
-  full-step count before limit most one all a =
-      let f : Point → ℕ = λ q. if_goes_on (outcome rule c q) (count (after c q)) in
-      let here : if_goes_on (outcome rule v q) (count (after v q)) ≡ f q = ap (λ (w : Grid). if_goes_on (outcome rule w q) (count (after w q))) same in
-      let split : sum_by f qs ≡ f q + sum_by f rest = ap (sum_by f) steps ∙ sum_by-cons f q rest in
-      let more = one a in
-      omega (arith, more, all, here, split)
+      omega (arith, here, split)
 
   pub rest-step : (old new : List Point) → new ≡ old ++ going_on rule v (q ∷ []) → new ++ going_on rule c rest ≡ old ++ going_on rule c qs
   rest-step old new e =

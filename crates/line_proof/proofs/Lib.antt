@@ -1,7 +1,5 @@
 -- The laws of line proofs. They serve this crate alone.
 
--- lists of nodes that grow
-mod Growing
 -- the cost of two fours
 mod Costs
 -- the node that has the answers to all replies

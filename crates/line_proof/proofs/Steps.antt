@@ -67,24 +67,22 @@ module _ (rule : RuleKind) (ts : List Threat) (b : Grid) where
       ∙ ap (λ (w : Grid). 1 + behind_replies rule w (λ ts. line_tree rule ts (n - 1)) (line_move rule ts w)) same
       ∙ sym (slow-tree n some slow)
 
-  -- where there is no room for two fours
-  pub quick-full : {A : Type 0} (n : ℕ) (most held : ℕ) → 1 ≤ n → (A → (wins_by_fours rule (min n 2) b ≡ true) × (most < held + 4)) → A → most < held + line_tree rule ts n b
-  quick-full n most held some f a =
-      let both = f a in
-      let many = both.1 in
-      let tree = quick-tree n some both.0 in
-      omega (arith, many, tree)
+  -- two fours need no more nodes than the line
+  pub quick-most : (n : ℕ) → 1 ≤ n → cond (wins_by_fours rule (min n 2) b) 4 0 ≤ line_tree rule ts n b
+  quick-most n some = by_test (wins_by_fours rule (min n 2) b) refl where
+    by_test : (r : Bool) → wins_by_fours rule (min n 2) b ≡ r → cond r 4 0 ≤ line_tree rule ts n b
+    by_test true e = let tree = quick-tree n some e in omega (arith, tree)
+    by_test false e = omega arith
 
   -- where a double threat wins
   pub double-quick : (n : ℕ) → 2 ≤ n → wins_by_fours rule 2 b ≡ true → wins_by_fours rule (min n 2) b ≡ true
   double-quick n l h = let two : min n 2 ≡ 2 = omega arith in ap (λ (k : ℕ). wins_by_fours rule k b) two ∙ h
 
-  pub double-full : {A : Type 0} (n : ℕ) (most held : ℕ) → 2 ≤ n → (A → (wins_by_fours rule 2 b ≡ true) × (most < held + 3)) → A → most < held + line_tree rule ts n b
-  double-full n most held l f a =
-      let both = f a in
-      let many = both.1 in
-      let tree = quick-tree n (omega (arith, l)) (double-quick n l both.0) in
-      omega (arith, many, tree)
+  pub double-most : (n : ℕ) → 2 ≤ n → cond (wins_by_fours rule 2 b) 3 0 ≤ line_tree rule ts n b
+  double-most n l = by_test (wins_by_fours rule 2 b) refl where
+    by_test : (r : Bool) → wins_by_fours rule 2 b ≡ r → cond r 3 0 ≤ line_tree rule ts n b
+    by_test true e = let tree = quick-tree n (omega (arith, l)) (double-quick n l e) in omega (arith, tree)
+    by_test false e = omega arith
 
   -- where there is a five point
   pub five-quick : (n : ℕ) → 1 ≤ n → has_five rule b (mover b) ≡ true → wins_by_fours rule (min n 2) b ≡ true
@@ -92,12 +90,11 @@ module _ (rule : RuleKind) (ts : List Threat) (b : Grid) where
       let e : suc (min n 2 - 1) ≡ min n 2 = omega (arith, l) in
       ap (λ (k : ℕ). wins_by_fours rule k b) (sym e) ∙ five-wins rule b (min n 2 - 1) h
 
-  pub five-full : {A : Type 0} (n : ℕ) (most held : ℕ) → 1 ≤ n → (A → (has_five rule b (mover b) ≡ true) × (most ≤ held)) → A → most < held + line_tree rule ts n b
-  five-full n most held l f a =
-      let both = f a in
-      let many = both.1 in
-      let tree = quick-tree n l (five-quick n l both.0) in
-      omega (arith, many, tree)
+  pub five-most : (n : ℕ) → 1 ≤ n → cond (has_five rule b (mover b)) 1 0 ≤ line_tree rule ts n b
+  five-most n l = by_test (has_five rule b (mover b)) refl where
+    by_test : (r : Bool) → has_five rule b (mover b) ≡ r → cond r 1 0 ≤ line_tree rule ts n b
+    by_test true e = let tree = quick-tree n l (five-quick n l e) in omega (arith, tree)
+    by_test false e = omega arith
 
 -- what holds of a value, if there is one
 pub of-some : {X : Type 0} (P : X → Type 0) (o : Option X) (x : X) → o ≡ Some x → IfSome o P → P x

@@ -1,5 +1,5 @@
--- The answers to the replies at a position, and how the nodes grow while they are found.
-use Rattle.std.specs.Prelude.{◌≡◌, ℕ, Bool, true, false, List, ◌++◌, map, Option, Some, None}
+-- The answers to the replies at a position.
+use Rattle.std.specs.Prelude.{◌≡◌, ℕ, Bool, true, false, List, map, Option, Some, None}
 use Rattle.std.specs.List.{filter, AllByRecursion}
 use Rattle.game_rules.specs.Grid.{Grid, points_of}
 use Rattle.game_rules.specs.Play.{outcome, after, goes_on_with}
@@ -10,11 +10,6 @@ use Rattle.strategy_graph.specs.declared.Node.{Node}
 use Rattle.strategy_graph.specs.Tables.{depth, greatest}
 use Rattle.strategy_compiler.specs.Wins.{IsWrittenWin}
 use Rattle.line_proof.specs.declared.answers.Answering.{Answering}
-
--- the nodes stay, and others may be added at the end
-pub record Extends (old new : List Node) : Type 0 where
-  pub added : List Node
-  pub is : new ≡ old ++ added
 
 -- those of the points that are moves at c that go on
 abbrev pub going_on : RuleKind → Grid → List Point → List Point

@@ -4,23 +4,22 @@
 //! make the node of the move before them.
 #![tactic(auto)]
 
-ghost use Rattle.std.specs.Prelude.{◌≡◌, ◌<◌, ◌≤◌, ◌+◌, ◌++◌, ◌∷◌, [], ℕ, suc, max, true, Bool, All, length, IfOk, OnOk, IsErrOf};
+ghost use Rattle.std.specs.Prelude.{◌≡◌, ◌<◌, ◌++◌, ◌∷◌, [], ℕ, suc, max, true, Bool, All, length, IfOk, OnOk};
 ghost use Rattle.game_rules.specs.Grid.{Grid};
 ghost use Rattle.game_rules.specs.Play.{outcome, after};
 ghost use Rattle.game_rules.specs.declared.RuleKind.{RuleKind};
 ghost use Rattle.game_rules.specs.declared.Outcome.TheVariants.{GoesOn};
 ghost use Rattle.strategy_graph.specs.Tables.{is_rising};
-ghost use Rattle.strategy_graph.specs.declared.TheConstants.{MAX_NODES};
-ghost use Rattle.strategy_compiler.specs.Nodes.{IsCompiled};
+ghost use Rattle.strategy_compiler.specs.Growth.{Writes};
 ghost use Rattle.strategy_compiler.specs.Wins.{IsWrittenWin};
 ghost use Rattle.line_proof.specs.declared.TheConstants.{MAX_DEPTH};
 ghost use Rattle.line_proof.specs.Lines.{each_loses};
-ghost use Rattle.line_proof.specs.Replies.{Extends, AnswersAll};
+ghost use Rattle.line_proof.specs.Replies.{AnswersAll};
 
 use crate::SearchError;
 use std::alloc::AllocError;
 use stone_board::Point;
-use strategy_compiler::{Compiler, WrittenWin, growth_keeps_wins};
+use strategy_compiler::{Compiler, WrittenWin};
 use strategy_graph::Reply;
 
 /// The answers to some replies, and the most moves that one of them takes.
@@ -49,18 +48,12 @@ pub(crate) fn fork(
     requires rising { is_rising answers.now.replies.items ≡ true }
     requires below { All (λ r. r.next < length compiler.old) answers.now.replies.items }
     requires few_moves { answers.now.moves < MAX_DEPTH }
-    requires compiled { IsCompiled compiler.old }
     ensures win { IfOk result (λ win. (rule : RuleKind) (n : ℕ) (b : Grid) (won : Grid → Bool)
         → outcome rule b p ≡ GoesOn → each_loses rule (after b p) won ≡ true → AnswersAll rule n compiler.old (after b p) answers.now
         → IsWrittenWin rule (suc n) b compiler.new win) }
-    ensures compiled { OnOk result (IsCompiled compiler.new) }
-    ensures kept { Extends compiler.old compiler.new }
-    ensures few { OnOk result (length compiler.new ≤ length compiler.old + 1) }
-    ensures full { IsErrOf result SearchError.Full → MAX_NODES ≤ length compiler.old }
-    ensures full_now { IsErrOf result SearchError.Full → length compiler.new ≡ MAX_NODES }
+    ensures writes { Writes compiler.old compiler.new 1 result }
 {
-    growth_keeps_wins();
-    let node = compiler.node(p, answers.replies.as_slice())?;
+    let node = compiler.fork(p, answers.replies.as_slice())?;
     Ok(WrittenWin {
         node,
         moves: answers.moves + 1,

@@ -5,16 +5,15 @@
 //! on there, and whether the two five points are there and the defender has none. No search is made for such a reply.
 #![tactic(auto)]
 
-ghost use Rattle.std.specs.Prelude.{◌≡◌, ◌<◌, ◌≤◌, ◌+◌, true, false, Some, None, length, IfOk, IfSome, OnOk, IsErrOf, IsTrue};
+ghost use Rattle.std.specs.Prelude.{◌≡◌, true, false, if◌then◌else◌, Some, None, IfOk, IfSome, OnOk};
+ghost use Rattle.game_rules.specs.Grid.{IsBoard, points_of};
 ghost use Rattle.game_rules.specs.Shapes.{is_same_point};
 ghost use Rattle.game_rules.specs.Play.{IsPosition, outcome as outcome_lem, mover, other};
 ghost use Rattle.game_rules.specs.Games.{has_five, wins_by_fours};
-ghost use Rattle.strategy_graph.specs.declared.TheConstants.{MAX_NODES};
 ghost use Rattle.strategy_compiler.specs.Nodes.{IsCompiled};
 ghost use Rattle.strategy_compiler.specs.Wins.{IsWrittenWin};
-ghost use Rattle.four_search.specs.Plans.{at_or_beside as at_or_beside_lem};
-ghost use Rattle.line_proof.specs.Replies.{Extends};
-ghost use Rattle.line_proof.specs.Doubles.{AreOpen, IsPressed, IsDouble, answers_to_each as answers_to_each_lem};
+ghost use Rattle.strategy_compiler.specs.Growth.{Writes};
+ghost use Rattle.line_proof.specs.Doubles.{AreOpen, IsPressed, IsDouble};
 
 use crate::SearchError;
 use crate::fives::is_five;
@@ -23,7 +22,6 @@ use row_shapes::{FivePoints, Rule};
 use std::alloc::{AllocError, Global};
 use stone_board::{Board, Point};
 use strategy_compiler::{Compiler, WrittenWin};
-use strategy_graph::Reply;
 
 /// Two points.
 #[derive(Clone, Copy)]
@@ -54,12 +52,7 @@ pub(crate) fn double_win<R: Rule, V: Seen<R>>(
     ensures wins { IfOk result (λ found. IfSome found (λ win. wins_by_fours R.KIND 2 (V.position view.old) ≡ true)) }
     ensures none { IfOk result (λ found. found ≡ None → compiler.new ≡ compiler.old) }
     ensures hint { OnOk result (IfSome hint.new (IsDouble (V.position view.old).width (V.position view.old).height compiler.new)) }
-    ensures compiled { OnOk result (IsCompiled compiler.new) }
-    ensures kept { Extends compiler.old compiler.new }
-    ensures few { OnOk result (length compiler.new ≤ length compiler.old + 3) }
-    ensures full { IsErrOf result SearchError.Full
-        → (wins_by_fours R.KIND 2 (V.position view.old) ≡ true) × (MAX_NODES < length compiler.old + 3) }
-    ensures full_now { IsErrOf result SearchError.Full → length compiler.new ≡ MAX_NODES }
+    ensures writes { Writes compiler.old compiler.new (if wins_by_fours R.KIND 2 (V.position view.old) then 3 else 0) result }
     ensures same { V.position view.new ≡ V.position view.old }
 {
     view.side();
@@ -112,12 +105,7 @@ fn new_double<R: Rule, V: Seen<R>>(
     ensures wins { IfOk result (λ found. IfSome found (λ win. wins_by_fours R.KIND 2 (V.position view.old) ≡ true)) }
     ensures none { IfOk result (λ found. found ≡ None → compiler.new ≡ compiler.old) }
     ensures hint { OnOk result (IfSome hint.new (IsDouble (V.position view.old).width (V.position view.old).height compiler.new)) }
-    ensures compiled { OnOk result (IsCompiled compiler.new) }
-    ensures kept { Extends compiler.old compiler.new }
-    ensures few { OnOk result (length compiler.new ≤ length compiler.old + 3) }
-    ensures full { IsErrOf result SearchError.Full
-        → (wins_by_fours R.KIND 2 (V.position view.old) ≡ true) × (MAX_NODES < length compiler.old + 3) }
-    ensures full_now { IsErrOf result SearchError.Full → length compiler.new ≡ MAX_NODES }
+    ensures writes { Writes compiler.old compiler.new (if wins_by_fours R.KIND 2 (V.position view.old) then 3 else 0) result }
     ensures same { V.position view.new ≡ V.position view.old }
 {
     match pressing::<R, V>(alloc, view)? {
@@ -246,42 +234,25 @@ fn compile_double(
     ensures double { IfOk result (IsDouble board.now.width board.now.height compiler.new) }
     ensures start { IfOk result (λ d. d.start ≡ start) }
     ensures ends { IfOk result (λ d. d.ends ≡ ends) }
-    ensures compiled { OnOk result (IsCompiled compiler.new) }
-    ensures kept { Extends compiler.old compiler.new }
-    ensures few { OnOk result (length compiler.new ≤ length compiler.old + 3) }
-    ensures full { IsErrOf result SearchError.Full → MAX_NODES < length compiler.old + 3 }
-    ensures full_now { IsErrOf result SearchError.Full → length compiler.new ≡ MAX_NODES }
+    ensures writes { Writes compiler.old compiler.new 3 result }
 {
-    let beside = compiler.winning(ends.first)?;
-    let at_first = compiler.winning(ends.second)?;
-    let answers = answers_to_each(alloc, board, ends.first, at_first, beside)?;
-    let node = compiler.node(start, answers.as_slice())?;
-    Ok(Double { start, ends, node })
+    let points = all_points(alloc, board)?;
+    let win = compiler.double(alloc, start, ends.first, ends.second, points.as_slice())?;
+    Ok(Double {
+        start,
+        ends,
+        node: win.node,
+    })
 }
 
-/// An answer to each point of the board: one node to `p`, and the other to any other point.
-fn answers_to_each(
-    alloc: Global,
-    board: &Board,
-    p: Point,
-    at_point: u32,
-    beside: u32,
-) -> Result<Vec<Reply>, AllocError>
-    ensures answers { IfOk result (λ answers. answers.items ≡ answers_to_each_lem board.now.width board.now.height p at_point beside) }
+/// The points of the board, in reading order.
+fn all_points(alloc: Global, board: &Board) -> Result<Vec<Point>, AllocError>
+    ensures points { IfOk result (λ points. points.items ≡ points_of board.now) }
+    ensures board { IsBoard board.now }
 {
-    let mut answers = Vec::new(alloc);
+    let mut points = Vec::new(alloc);
     for q in board.points() {
-        answers.push(Reply {
-            at: q,
-            next: at_or_beside(q, p, at_point, beside),
-        })?;
+        points.push(q)?;
     }
-    Ok(answers)
-}
-
-/// The first node for the point `p`, and the second for another.
-fn at_or_beside(q: Point, p: Point, at_point: u32, beside: u32) -> u32
-    ensures node { result ≡ at_or_beside_lem p at_point beside q }
-{
-    if is_same(q, p) { at_point } else { beside }
+    Ok(points)
 }

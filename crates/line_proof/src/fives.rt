@@ -4,14 +4,13 @@
 //! node, and it is enough to ask whether the point is a five point still.
 #![tactic(auto)]
 
-ghost use Rattle.std.specs.Prelude.{◌≡◌, ◌≤◌, ◌+◌, true, Some, None, length, slice_get, IfOk, IfSome, OnOk, IsErrOf};
+ghost use Rattle.std.specs.Prelude.{◌≡◌, true, if◌then◌else◌, None, IfOk, IfSome};
 ghost use Rattle.game_rules.specs.Shapes.{five as five_lem};
 ghost use Rattle.game_rules.specs.Play.{mover};
 ghost use Rattle.game_rules.specs.Games.{has_five};
-ghost use Rattle.strategy_graph.specs.declared.TheConstants.{MAX_NODES};
-ghost use Rattle.strategy_compiler.specs.Nodes.{IsCompiled, winning_node};
+ghost use Rattle.strategy_compiler.specs.Nodes.{IsCompiled};
+ghost use Rattle.strategy_compiler.specs.Growth.{Writes};
 ghost use Rattle.strategy_compiler.specs.Wins.{IsWrittenWin};
-ghost use Rattle.line_proof.specs.Replies.{Extends};
 
 use crate::SearchError;
 use foul_judge::Seen;
@@ -29,12 +28,8 @@ pub(crate) fn five_win<R: Rule, V: Seen<R>>(
     ensures win { IfOk result (λ found. IfSome found (IsWrittenWin R.KIND 1 (V.position view.now) compiler.new)) }
     ensures wins { IfOk result (λ found. IfSome found (λ win. has_five R.KIND (V.position view.now) (mover (V.position view.now)) ≡ true)) }
     ensures none { IfOk result (λ found. found ≡ None → compiler.new ≡ compiler.old) }
-    ensures compiled { OnOk result (IsCompiled compiler.new) }
-    ensures kept { Extends compiler.old compiler.new }
-    ensures few { OnOk result (length compiler.new ≤ length compiler.old + 1) }
-    ensures full { IsErrOf result SearchError.Full
-        → (has_five R.KIND (V.position view.now) (mover (V.position view.now)) ≡ true) × (MAX_NODES ≤ length compiler.old) }
-    ensures full_now { IsErrOf result SearchError.Full → length compiler.new ≡ MAX_NODES }
+    ensures writes { Writes compiler.old compiler.new
+        (if has_five R.KIND (V.position view.now) (mover (V.position view.now)) then 1 else 0) result }
 {
     let attacker = view.side();
     match five {
@@ -43,22 +38,10 @@ pub(crate) fn five_win<R: Rule, V: Seen<R>>(
             if !is_five::<R, V>(view, attacker, point) {
                 return Ok(None);
             }
-            let node = winning(compiler, point)?;
+            let node = compiler.leaf(point)?;
             Ok(Some(WrittenWin { node, moves: 1 }))
         }
     }
-}
-
-/// The winning node that takes this point.
-fn winning(compiler: &mut Compiler, point: Point) -> Result<u32, SearchError>
-    ensures node { IfOk result (λ i. slice_get compiler.new i ≡ Some (winning_node point)) }
-    ensures compiled { OnOk result (IsCompiled compiler.new) }
-    ensures kept { Extends compiler.old compiler.new }
-    ensures few { OnOk result (length compiler.new ≤ length compiler.old + 1) }
-    ensures full { IsErrOf result SearchError.Full → MAX_NODES ≤ length compiler.old }
-    ensures full_now { IsErrOf result SearchError.Full → length compiler.new ≡ MAX_NODES }
-{
-    Ok(compiler.winning(point)?)
 }
 
 /// Whether the point is a five point of the side.

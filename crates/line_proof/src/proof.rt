@@ -4,16 +4,17 @@
 //! node is put in once each of its replies has one, so a line that fails leaves no node of the moves above the failure.
 #![tactic(auto)]
 
-ghost use Rattle.std.specs.Prelude.{◌≡◌, ◌↔◌, ◌≤◌, ◌<◌, ◌+◌, ◌++◌, ◌∷◌, [], List, Some, None, min, suc, true, false, is_some, length, IfOk, IfSome, OnOk, IsErrOf};
+ghost use Rattle.std.specs.Prelude.{◌≡◌, ◌↔◌, ◌≤◌, ◌<◌, ◌+◌, ◌++◌, ◌∷◌, [], List, Some, None, min, suc, true, false, if◌then◌else◌, is_some, length, IfOk, IfSome, OnOk, IsErrOf};
 ghost use Rattle.game_rules.specs.Play.{outcome as outcome_lem, after};
 ghost use Rattle.game_rules.specs.Games.{wins_by_fours, loses_or, if_goes_on};
 ghost use Rattle.strategy_graph.specs.declared.Node.{Node};
 ghost use Rattle.strategy_graph.specs.declared.TheConstants.{MAX_NODES};
 ghost use Rattle.strategy_compiler.specs.Nodes.{IsCompiled};
 ghost use Rattle.strategy_compiler.specs.Wins.{IsWrittenWin};
+ghost use Rattle.strategy_compiler.specs.Growth.{GrowsBy, Writes};
 ghost use Rattle.line_proof.specs.declared.TheConstants.{MAX_DEPTH};
 ghost use Rattle.line_proof.specs.Lines.{line_wins, line_tree, first_gain, block_of, each_loses, move_wins, behind_each, behind_replies};
-ghost use Rattle.line_proof.specs.Replies.{Extends, AreAnswers, FindsAnswers, answered, going_on};
+ghost use Rattle.line_proof.specs.Replies.{AreAnswers, FindsAnswers, answered, going_on};
 ghost use Rattle.line_proof.specs.Answers.{OnProved, is_proved};
 ghost use Rattle.line_proof.specs.Doubles.{IsDouble};
 
@@ -25,7 +26,7 @@ use four_search::{FourAnswer, four_search};
 use row_shapes::Rule;
 use std::alloc::{AllocError, Global};
 use stone_board::Point;
-use strategy_compiler::{Compiler, SearchError, WrittenWin, growth_keeps_wins};
+use strategy_compiler::{Compiler, SearchError, WrittenWin};
 use threat_moves::{Threat, Threats};
 
 /// What the proof of a line finds.
@@ -58,6 +59,7 @@ pub fn prove_line<R: Rule, V: Seen<R>>(
     ensures proved { IfOk result (λ a. OnProved a (IsWrittenWin R.KIND depth (V.position view.old) compiler.new)) }
     ensures fails { IfOk result (λ a. (a ≡ LineAnswer.Fails) ↔ (line_wins R.KIND sequence.now depth (V.position view.old) ≡ false)) }
     ensures kept { (more : List Node) × (compiler.new ≡ compiler.old ++ more) }
+    ensures added { GrowsBy compiler.old compiler.new (line_tree R.KIND sequence.now depth (V.position view.old)) }
     ensures full { IsErrOf result SearchError.Full → MAX_NODES < length compiler.old + line_tree R.KIND sequence.now depth (V.position view.old) }
     ensures full_now { IsErrOf result SearchError.Full → length compiler.new ≡ MAX_NODES }
     ensures same { V.position view.new ≡ V.position view.old }
@@ -79,11 +81,7 @@ fn prove<R: Rule, V: Seen<R>>(
     requires compiled { IsCompiled compiler.old }
     ensures proved { IfOk result (λ a. OnProved a (IsWrittenWin R.KIND moves (V.position view.old) compiler.new)) }
     ensures wins { IfOk result (λ a. is_proved a ≡ line_wins R.KIND threats.now moves (V.position view.old)) }
-    ensures compiled { OnOk result (IsCompiled compiler.new) }
-    ensures kept { Extends compiler.old compiler.new }
-    ensures few { OnOk result (length compiler.new ≤ length compiler.old + line_tree R.KIND threats.now moves (V.position view.old)) }
-    ensures full { IsErrOf result SearchError.Full → MAX_NODES < length compiler.old + line_tree R.KIND threats.now moves (V.position view.old) }
-    ensures full_now { IsErrOf result SearchError.Full → length compiler.new ≡ MAX_NODES }
+    ensures writes { Writes compiler.old compiler.new (line_tree R.KIND threats.now moves (V.position view.old)) result }
     ensures same { V.position view.new ≡ V.position view.old }
 {
     if moves == 0 {
@@ -110,12 +108,7 @@ fn quick_win<R: Rule, V: Seen<R>>(
     ensures win { IfOk result (λ found. IfSome found (IsWrittenWin R.KIND moves (V.position view.old) compiler.new)) }
     ensures wins { IfOk result (λ found. is_some found ≡ wins_by_fours R.KIND (min moves 2) (V.position view.old)) }
     ensures none { IfOk result (λ found. found ≡ None → compiler.new ≡ compiler.old) }
-    ensures compiled { OnOk result (IsCompiled compiler.new) }
-    ensures kept { Extends compiler.old compiler.new }
-    ensures few { OnOk result (length compiler.new ≤ length compiler.old + 4) }
-    ensures full { IsErrOf result SearchError.Full
-        → (wins_by_fours R.KIND (min moves 2) (V.position view.old) ≡ true) × (MAX_NODES < length compiler.old + 4) }
-    ensures full_now { IsErrOf result SearchError.Full → length compiler.new ≡ MAX_NODES }
+    ensures writes { Writes compiler.old compiler.new (if wins_by_fours R.KIND (min moves 2) (V.position view.old) then 4 else 0) result }
     ensures same { V.position view.new ≡ V.position view.old }
 {
     view.side();
@@ -154,13 +147,8 @@ fn prove_gain<R: Rule, V: Seen<R>>(
     ensures proved { IfOk result (λ a. OnProved a (IsWrittenWin R.KIND (suc moves) (V.position view.old) compiler.new)) }
     ensures wins { IfOk result (λ a. is_proved a
         ≡ move_wins R.KIND (V.position view.old) (λ ts. line_wins R.KIND ts moves) (first_gain threats.now)) }
-    ensures compiled { OnOk result (IsCompiled compiler.new) }
-    ensures kept { Extends compiler.old compiler.new }
-    ensures few { OnOk result (length compiler.new
-        ≤ length compiler.old + (1 + behind_replies R.KIND (V.position view.old) (λ ts. line_tree R.KIND ts moves) (first_gain threats.now))) }
-    ensures full { IsErrOf result SearchError.Full → MAX_NODES
-        < length compiler.old + (1 + behind_replies R.KIND (V.position view.old) (λ ts. line_tree R.KIND ts moves) (first_gain threats.now)) }
-    ensures full_now { IsErrOf result SearchError.Full → length compiler.new ≡ MAX_NODES }
+    ensures writes { Writes compiler.old compiler.new
+        (1 + behind_replies R.KIND (V.position view.old) (λ ts. line_tree R.KIND ts moves) (first_gain threats.now)) result }
     ensures same { V.position view.new ≡ V.position view.old }
 {
     match threats.split_first() {
@@ -191,13 +179,8 @@ fn prove_move<R: Rule, V: Seen<R>>(
     ensures proved { IfOk result (λ a. OnProved a (IsWrittenWin R.KIND (suc moves) (V.position view.old) compiler.new)) }
     ensures wins { IfOk result (λ a. is_proved a
         ≡ move_wins R.KIND (V.position view.old) (λ ts. line_wins R.KIND ts moves) (Some (p, threats.now))) }
-    ensures compiled { OnOk result (IsCompiled compiler.new) }
-    ensures kept { Extends compiler.old compiler.new }
-    ensures few { OnOk result (length compiler.new
-        ≤ length compiler.old + (1 + behind_replies R.KIND (V.position view.old) (λ ts. line_tree R.KIND ts moves) (Some (p, threats.now)))) }
-    ensures full { IsErrOf result SearchError.Full → MAX_NODES
-        < length compiler.old + (1 + behind_replies R.KIND (V.position view.old) (λ ts. line_tree R.KIND ts moves) (Some (p, threats.now))) }
-    ensures full_now { IsErrOf result SearchError.Full → length compiler.new ≡ MAX_NODES }
+    ensures writes { Writes compiler.old compiler.new
+        (1 + behind_replies R.KIND (V.position view.old) (λ ts. line_tree R.KIND ts moves) (Some (p, threats.now))) result }
     ensures same { V.position view.new ≡ V.position view.old }
 {
     match view.outcome(p) {
@@ -222,13 +205,8 @@ fn prove_on<R: Rule, V: Seen<R>>(
     ensures proved { IfOk result (λ a. OnProved a (IsWrittenWin R.KIND (suc moves) (V.position view.old) compiler.new)) }
     ensures wins { IfOk result (λ a. is_proved a
         ≡ each_loses R.KIND (after (V.position view.old) p) (line_wins R.KIND threats.now moves)) }
-    ensures compiled { OnOk result (IsCompiled compiler.new) }
-    ensures kept { Extends compiler.old compiler.new }
-    ensures few { OnOk result (length compiler.new
-        ≤ length compiler.old + (1 + behind_each R.KIND (after (V.position view.old) p) (line_tree R.KIND threats.now moves))) }
-    ensures full { IsErrOf result SearchError.Full → MAX_NODES
-        < length compiler.old + (1 + behind_each R.KIND (after (V.position view.old) p) (line_tree R.KIND threats.now moves)) }
-    ensures full_now { IsErrOf result SearchError.Full → length compiler.new ≡ MAX_NODES }
+    ensures writes { Writes compiler.old compiler.new
+        (1 + behind_each R.KIND (after (V.position view.old) p) (line_tree R.KIND threats.now moves)) result }
     ensures same { V.position view.new ≡ V.position view.old }
 {
     view.play(p);
@@ -254,12 +232,7 @@ fn answer_each<R: Rule, V: Seen<R>>(
     requires compiled { IsCompiled compiler.old }
     ensures found { IfOk result (λ found. FindsAnswers R.KIND moves compiler.new (V.position view.old)
         (each_loses R.KIND (V.position view.old) (line_wins R.KIND threats.now moves)) found) }
-    ensures compiled { OnOk result (IsCompiled compiler.new) }
-    ensures kept { Extends compiler.old compiler.new }
-    ensures few { OnOk result (length compiler.new ≤ length compiler.old + behind_each R.KIND (V.position view.old) (line_tree R.KIND threats.now moves)) }
-    ensures full { IsErrOf result SearchError.Full
-        → MAX_NODES < length compiler.old + behind_each R.KIND (V.position view.old) (line_tree R.KIND threats.now moves) }
-    ensures full_now { IsErrOf result SearchError.Full → length compiler.new ≡ MAX_NODES }
+    ensures writes { Writes compiler.old compiler.new (behind_each R.KIND (V.position view.old) (line_tree R.KIND threats.now moves)) result }
     ensures same { V.position view.new ≡ V.position view.old }
 {
     let defender = view.side();
@@ -314,20 +287,14 @@ fn answer_reply<R: Rule, V: Seen<R>>(
     ensures added { IfOk result (λ loses. loses ≡ true
         → answered answers.new ≡ answered answers.old ++ going_on R.KIND (V.position view.old) (q ∷ [])) }
     ensures hint { OnOk result (IfSome hint.new (IsDouble (V.position view.old).width (V.position view.old).height compiler.new)) }
-    ensures compiled { OnOk result (IsCompiled compiler.new) }
-    ensures kept { Extends compiler.old compiler.new }
-    ensures few { OnOk result (length compiler.new
-        ≤ length compiler.old + if_goes_on (outcome_lem R.KIND (V.position view.old) q) (line_tree R.KIND threats.now moves (after (V.position view.old) q))) }
-    ensures full { IsErrOf result SearchError.Full → MAX_NODES
-        < length compiler.old + if_goes_on (outcome_lem R.KIND (V.position view.old) q) (line_tree R.KIND threats.now moves (after (V.position view.old) q)) }
-    ensures full_now { IsErrOf result SearchError.Full → length compiler.new ≡ MAX_NODES }
+    ensures writes { Writes compiler.old compiler.new
+        (if_goes_on (outcome_lem R.KIND (V.position view.old) q) (line_tree R.KIND threats.now moves (after (V.position view.old) q))) result }
     ensures same { V.position view.new ≡ V.position view.old }
 {
     match view.outcome(q) {
         Outcome::Refused | Outcome::Fouls(_) => Ok(true),
         Outcome::Wins | Outcome::Draws => Ok(false),
         Outcome::GoesOn => {
-            growth_keeps_wins();
             match prove_after::<R, V>(alloc, view, q, threats, moves, five, hint, compiler)? {
                 LineAnswer::Fails => Ok(false),
                 LineAnswer::Proved(win) => {
@@ -358,11 +325,7 @@ fn prove_after<R: Rule, V: Seen<R>>(
     ensures proved { IfOk result (λ a. OnProved a (IsWrittenWin R.KIND moves (after (V.position view.old) q) compiler.new)) }
     ensures wins { IfOk result (λ a. is_proved a ≡ line_wins R.KIND threats.now moves (after (V.position view.old) q)) }
     ensures hint { OnOk result (IfSome hint.new (IsDouble (V.position view.old).width (V.position view.old).height compiler.new)) }
-    ensures compiled { OnOk result (IsCompiled compiler.new) }
-    ensures kept { Extends compiler.old compiler.new }
-    ensures few { OnOk result (length compiler.new ≤ length compiler.old + line_tree R.KIND threats.now moves (after (V.position view.old) q)) }
-    ensures full { IsErrOf result SearchError.Full → MAX_NODES < length compiler.old + line_tree R.KIND threats.now moves (after (V.position view.old) q) }
-    ensures full_now { IsErrOf result SearchError.Full → length compiler.new ≡ MAX_NODES }
+    ensures writes { Writes compiler.old compiler.new (line_tree R.KIND threats.now moves (after (V.position view.old) q)) result }
     ensures same { V.position view.new ≡ V.position view.old }
 {
     view.play(q);
@@ -388,11 +351,7 @@ fn prove_reply<R: Rule, V: Seen<R>>(
     ensures proved { IfOk result (λ a. OnProved a (IsWrittenWin R.KIND moves (V.position view.old) compiler.new)) }
     ensures wins { IfOk result (λ a. is_proved a ≡ line_wins R.KIND threats.now moves (V.position view.old)) }
     ensures hint { OnOk result (IfSome hint.new (IsDouble (V.position view.old).width (V.position view.old).height compiler.new)) }
-    ensures compiled { OnOk result (IsCompiled compiler.new) }
-    ensures kept { Extends compiler.old compiler.new }
-    ensures few { OnOk result (length compiler.new ≤ length compiler.old + line_tree R.KIND threats.now moves (V.position view.old)) }
-    ensures full { IsErrOf result SearchError.Full → MAX_NODES < length compiler.old + line_tree R.KIND threats.now moves (V.position view.old) }
-    ensures full_now { IsErrOf result SearchError.Full → length compiler.new ≡ MAX_NODES }
+    ensures writes { Writes compiler.old compiler.new (line_tree R.KIND threats.now moves (V.position view.old)) result }
     ensures same { V.position view.new ≡ V.position view.old }
 {
     if moves == 0 {
@@ -420,11 +379,7 @@ fn prove_double<R: Rule, V: Seen<R>>(
     ensures proved { IfOk result (λ a. OnProved a (IsWrittenWin R.KIND moves (V.position view.old) compiler.new)) }
     ensures wins { IfOk result (λ a. is_proved a ≡ line_wins R.KIND threats.now moves (V.position view.old)) }
     ensures hint { OnOk result (IfSome hint.new (IsDouble (V.position view.old).width (V.position view.old).height compiler.new)) }
-    ensures compiled { OnOk result (IsCompiled compiler.new) }
-    ensures kept { Extends compiler.old compiler.new }
-    ensures few { OnOk result (length compiler.new ≤ length compiler.old + line_tree R.KIND threats.now moves (V.position view.old)) }
-    ensures full { IsErrOf result SearchError.Full → MAX_NODES < length compiler.old + line_tree R.KIND threats.now moves (V.position view.old) }
-    ensures full_now { IsErrOf result SearchError.Full → length compiler.new ≡ MAX_NODES }
+    ensures writes { Writes compiler.old compiler.new (line_tree R.KIND threats.now moves (V.position view.old)) result }
     ensures same { V.position view.new ≡ V.position view.old }
 {
     if moves < 2 {

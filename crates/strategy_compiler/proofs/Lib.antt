@@ -4,6 +4,8 @@
 pub mod Winning
 pub mod Reaching
 pub mod Standing
+-- how nodes grow, and what calls write
+pub mod Growing
 -- the set of nodes, and the node that answers given replies
 mod Sets
 mod Commonest
@@ -15,5 +17,7 @@ mod Places
 mod Copying
 mod Finishing
 mod Starting
+-- nodes that win
+pub mod Forks
 -- the table of a tree is one
 pub mod Unique

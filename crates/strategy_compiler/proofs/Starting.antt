@@ -94,7 +94,7 @@ or_none (Some j) = refl
 
 module _ (answers : List Reply) (rising : is_rising answers ≡ true) where
   -- the nodes that the answers in brief name are those that answer
-  brief-inside : (j : ℕ) → Contains (named (brief_answers answers)) j → Contains (map (λ r. r.next) answers) j
+  pub brief-inside : (j : ℕ) → Contains (named (brief_answers answers)) j → Contains (map (λ r. r.next) answers) j
   brief-inside j c =
       let js : List ℕ = map (λ r. r.next) answers in
       in-list-contains js j (all-contains (λ k. is_in_list k js) (named (brief_answers answers)) j (brief-named (λ k. is_in_list k js) answers (all-in-list js)) c)
@@ -110,7 +110,7 @@ module _ (answers : List Reply) (rising : is_rising answers ≡ true) where
   alone-inside : (j : ℕ) → Contains (map (λ r. r.next) answers ++ []) j → Contains (map (λ r. r.next) answers) j
   alone-inside j c = elim (Contains-append_cases (map (λ r. r.next) answers) [] j c) [ inl here ↦ here | inr none ↦ absurd (let inside = none.1 in omega (arith, inside)) ]
 
-  brief-deep : (d : ℕ → ℕ) → greatest (map d (named (brief_answers answers))) ≡ greatest (map d (named (answers_alone answers)))
+  pub brief-deep : (d : ℕ → ℕ) → greatest (map d (named (brief_answers answers))) ≡ greatest (map d (named (answers_alone answers)))
   brief-deep d =
       greatest-same d (named (brief_answers answers)) (named (answers_alone answers))
       (λ j c. Contains-append_left (map (λ r. r.next) answers) [] j (brief-inside j c))
@@ -142,7 +142,7 @@ module _ (answers : List Reply) (rising : is_rising answers ≡ true) where
       by_outcome Draws e = refl
       by_outcome GoesOn e = ap (λ (o : Option ℕ). if_answered o (λ j. m j (after b q))) (brief-answer q (all q e))
 
-    brief-accepted : (t : List Node) → AcceptedStart rule t (brief_answers answers) b ≡ AcceptedStart rule t (answers_alone answers) b
+    pub brief-accepted : (t : List Node) → AcceptedStart rule t (brief_answers answers) b ≡ AcceptedStart rule t (answers_alone answers) b
     brief-accepted t = λ i. (q : Point) → met-alike (Accepted rule t) q i
 
     brief-count : (t : List Node) → start_arrivals rule t (brief_answers answers) b ≡ start_arrivals rule t (answers_alone answers) b

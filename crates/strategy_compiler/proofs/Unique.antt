@@ -32,11 +32,12 @@ cons-others x y xs ys e = cc
 -- ---- lists that are related place by place
 
 -- both are there and related, or neither is there
-abbrev pub OptionPair : (ℕ → ℕ → Type 0) → Option ℕ → Option ℕ → Type 0
-OptionPair R None None = Unit {0}
-OptionPair R None (Some k) = ⊥
-OptionPair R (Some j) None = ⊥
-OptionPair R (Some j) (Some k) = R j k
+pub data OptionPair (R : ℕ → ℕ → Type 0) : Option ℕ → Option ℕ → Type 0 where
+  Neither : OptionPair R None None
+  Both : (j k : ℕ) → R j k → OptionPair R (Some j) (Some k)
+
+some-pair : (R : ℕ → ℕ → Type 0) (j k : ℕ) → OptionPair R (Some j) (Some k) → R j k
+some-pair R _ _ (Both j k r) = r
 
 pub data Pairs (R : ℕ → ℕ → Type 0) : List ℕ → List ℕ → Type 0 where
   Ends : Pairs R [] []
@@ -81,11 +82,11 @@ module _ (R : ℕ → ℕ → Type 0) where
     tops-pairs i j is js _ _ r p (Goes x y xs ys s q) = λ k. nat_le (times-pairs x y is js s p k) (times-pairs i j is js r p k) && tops-pairs i j is js xs ys r p q k
 
     find-pairs : (is js xs ys : List ℕ) → Pairs R is js → Pairs R xs ys → OptionPair R (find (λ k. tops k is is) xs) (find (λ k. tops k js js) ys)
-    find-pairs is js _ _ p Ends = tt
+    find-pairs is js _ _ p Ends = Neither
     find-pairs is js _ _ p (Goes x y xs ys s q) =
         by_test (tops x is is) (tops y js js) (tops-pairs x y is js is js s p p) (find-pairs is js xs ys p q) where
           by_test : (a b : Bool) → a ≡ b → OptionPair R (find (λ k. tops k is is) xs) (find (λ k. tops k js js) ys) → OptionPair R (cond a (Some x) (find (λ k. tops k is is) xs)) (cond b (Some y) (find (λ k. tops k js js) ys))
-          by_test true true e h = s
+          by_test true true e h = Both x y s
           by_test true false e h = cc
           by_test false true e h = cc
           by_test false false e h = h
@@ -95,16 +96,10 @@ module _ (R : ℕ → ℕ → Type 0) where
     commonest-pairs is js p = find-pairs is js is js p p
 
     same-pairs : (o p o' p' : Option ℕ) → OptionPair R o o' → OptionPair R p p' → option_eq nat_eq o p ≡ option_eq nat_eq o' p'
-    same-pairs None None None None h k = refl
-    same-pairs None None None (Some b) h k = absurd k
-    same-pairs None (Some a) None None h k = absurd k
-    same-pairs None (Some a) None (Some b) h k = refl
-    same-pairs None p (Some b) p' h k = absurd h
-    same-pairs (Some a) p None p' h k = absurd h
-    same-pairs (Some a) None (Some b) None h k = refl
-    same-pairs (Some a) None (Some b) (Some d) h k = absurd k
-    same-pairs (Some a) (Some c) (Some b) None h k = absurd k
-    same-pairs (Some a) (Some c) (Some b) (Some d) h k = one.apart a c b d h k
+    same-pairs _ _ _ _ Neither Neither = refl
+    same-pairs _ _ _ _ Neither (Both c d r) = refl
+    same-pairs _ _ _ _ (Both a b r) Neither = refl
+    same-pairs _ _ _ _ (Both a b r) (Both c d r') = one.apart a c b d r r'
 
 -- ---- nodes that stand for a same tree
 
@@ -114,22 +109,15 @@ pub record Alike (u v : List Node) (i j : ℕ) : Type 0 where
   pub right : StandsFor v j tree
 
 -- rests and replies with related numbers
-abbrev pub RestPair : (ℕ → ℕ → Type 0) → Rest → Rest → Type 0
-RestPair R Wins Wins = Unit {0}
-RestPair R Wins (To k) = ⊥
-RestPair R Wins Nothing = ⊥
-RestPair R (To j) Wins = ⊥
-RestPair R (To j) (To k) = R j k
-RestPair R (To j) Nothing = ⊥
-RestPair R Nothing Wins = ⊥
-RestPair R Nothing (To k) = ⊥
-RestPair R Nothing Nothing = Unit {0}
+pub data RestPair (R : ℕ → ℕ → Type 0) : Rest → Rest → Type 0 where
+  BothWin : RestPair R Wins Wins
+  BothTo : (j k : ℕ) → R j k → RestPair R (To j) (To k)
+  BothNothing : RestPair R Nothing Nothing
 
-abbrev pub ReplyPairs : (ℕ → ℕ → Type 0) → List Reply → List Reply → Type 0
-ReplyPairs R [] [] = Unit {0}
-ReplyPairs R [] (s ∷ ss) = ⊥
-ReplyPairs R (r ∷ rs) [] = ⊥
-ReplyPairs R (r ∷ rs) (s ∷ ss) = (r.at ≡ s.at) × R r.next s.next × ReplyPairs R rs ss
+pub data ReplyPairs (R : ℕ → ℕ → Type 0) : List Reply → List Reply → Type 0 where
+  NoReplies : ReplyPairs R [] []
+  Replies : (q : Point) (j k : ℕ) (rs ss : List Reply) → R j k → ReplyPairs R rs ss
+      → ReplyPairs R (record { at = q; next = j } ∷ rs) (record { at = q; next = k } ∷ ss)
 
 pub record NodePair (R : ℕ → ℕ → Type 0) (n m : Node) : Type 0 where
   pub attack : n.attack ≡ m.attack
@@ -143,56 +131,41 @@ AtNode-some None n P e h = absurd h
 AtNode-some (Some m) n P e h = let same : m ≡ n = cc in subst P same h
 
 -- what is related to one thing is one
-rest-right : (R S : ℕ → ℕ → Type 0) → ((x y z : ℕ) → R x y → S x z → y ≡ z) → (r s t : Rest) → RestPair R r s → RestPair S r t → s ≡ t
-rest-right R S f Wins Wins Wins h k = refl
-rest-right R S f Wins Wins (To z) h k = absurd k
-rest-right R S f Wins Wins Nothing h k = absurd k
-rest-right R S f Wins (To y) t h k = absurd h
-rest-right R S f Wins Nothing t h k = absurd h
-rest-right R S f (To x) Wins t h k = absurd h
-rest-right R S f (To x) (To y) Wins h k = absurd k
-rest-right R S f (To x) (To y) (To z) h k = ap To (f x y z h k)
-rest-right R S f (To x) (To y) Nothing h k = absurd k
-rest-right R S f (To x) Nothing t h k = absurd h
-rest-right R S f Nothing Wins t h k = absurd h
-rest-right R S f Nothing (To y) t h k = absurd h
-rest-right R S f Nothing Nothing Wins h k = absurd k
-rest-right R S f Nothing Nothing (To z) h k = absurd k
-rest-right R S f Nothing Nothing Nothing h k = refl
+module _ (R S : ℕ → ℕ → Type 0) (f : (x y z : ℕ) → R x y → S x z → y ≡ z) where
+  rest-right : (r s t : Rest) → RestPair R r s → RestPair S r t → s ≡ t
+  rest-right _ _ t BothWin k = win t k where
+    win : (t : Rest) → RestPair S Wins t → Wins ≡ t
+    win _ BothWin = refl
+  rest-right _ _ t (BothTo x y h) k = to t k where
+    to : (t : Rest) → RestPair S (To x) t → To y ≡ t
+    to _ (BothTo _ z k) = ap To (f x y z h k)
+  rest-right _ _ t BothNothing k = nothing t k where
+    nothing : (t : Rest) → RestPair S Nothing t → Nothing ≡ t
+    nothing _ BothNothing = refl
+
+  replies-right : (rs ss ts : List Reply) → ReplyPairs R rs ss → ReplyPairs S rs ts → ss ≡ ts
+  replies-right _ _ ts NoReplies k = none ts k where
+    none : (ts : List Reply) → ReplyPairs S [] ts → [] ≡ ts
+    none _ NoReplies = refl
+  replies-right _ _ ts (Replies q x y rs ss h hs) k = more ts k (λ ts k. replies-right rs ss ts hs k) where
+    more : (ts : List Reply) → ReplyPairs S (record { at = q; next = x } ∷ rs) ts → ((ts : List Reply) → ReplyPairs S rs ts → ss ≡ ts)
+        → record { at = q; next = y } ∷ ss ≡ ts
+    more _ (Replies _ _ z _ ts k ks) later = let next = f x y z h k in let others = later ts ks in λ i. record { at = q; next = next i } ∷
+        others i
 
 flip : (ℕ → ℕ → Type 0) → ℕ → ℕ → Type 0
 flip R x y = R y x
 
 rest-flip : (R : ℕ → ℕ → Type 0) (r s : Rest) → RestPair R r s → RestPair (flip R) s r
 unfolding flip
-rest-flip R Wins Wins h = tt
-rest-flip R Wins (To y) h = absurd h
-rest-flip R Wins Nothing h = absurd h
-rest-flip R (To x) Wins h = absurd h
-rest-flip R (To x) (To y) h = h
-rest-flip R (To x) Nothing h = absurd h
-rest-flip R Nothing Wins h = absurd h
-rest-flip R Nothing (To y) h = absurd h
-rest-flip R Nothing Nothing h = tt
-
-replies-right : (R S : ℕ → ℕ → Type 0) → ((x y z : ℕ) → R x y → S x z → y ≡ z) → (rs ss ts : List Reply) → ReplyPairs R rs ss → ReplyPairs S rs ts → ss ≡ ts
-replies-right R S f [] [] [] h k = refl
-replies-right R S f [] [] (t ∷ ts) h k = absurd k
-replies-right R S f [] (s ∷ ss) ts h k = absurd h
-replies-right R S f (r ∷ rs) [] ts h k = absurd h
-replies-right R S f (r ∷ rs) (s ∷ ss) [] h k = absurd k
-replies-right R S f (r ∷ rs) (s ∷ ss) (t ∷ ts) h k =
-    let at : s.at ≡ t.at = sym h.0 ∙ k.0 in
-    let next : s.next ≡ t.next = f r.next s.next t.next h.1 k.1 in
-    let later = replies-right R S f rs ss ts h.2 k.2 in
-    λ i. record { at = at i; next = next i } ∷ later i
+rest-flip R _ _ BothWin = BothWin
+rest-flip R _ _ (BothTo x y h) = BothTo y x h
+rest-flip R _ _ BothNothing = BothNothing
 
 replies-flip : (R : ℕ → ℕ → Type 0) (rs ss : List Reply) → ReplyPairs R rs ss → ReplyPairs (flip R) ss rs
 unfolding flip
-replies-flip R [] [] h = tt
-replies-flip R [] (s ∷ ss) h = absurd h
-replies-flip R (r ∷ rs) [] h = absurd h
-replies-flip R (r ∷ rs) (s ∷ ss) h = (sym h.0, h.1, replies-flip R rs ss h.2)
+replies-flip R _ _ NoReplies = NoReplies
+replies-flip R _ _ (Replies q x y rs ss h k) = Replies q y x ss rs h (replies-flip R rs ss k)
 
 node-right : (R S : ℕ → ℕ → Type 0) → ((x y z : ℕ) → R x y → S x z → y ≡ z) → (n m l : Node) → NodePair R n m → NodePair S n l → m ≡ l
 node-right R S f n m l h k =
@@ -202,13 +175,13 @@ node-right R S f n m l h k =
     λ i. record { attack = attack i; replies = replies i; rest = rest i }
 
 rest-itself : (r : Rest) → RestPair (λ x y. x ≡ y) r r
-rest-itself Wins = tt
-rest-itself (To j) = refl
-rest-itself Nothing = tt
+rest-itself Wins = BothWin
+rest-itself (To j) = BothTo j j refl
+rest-itself Nothing = BothNothing
 
 replies-itself : (rs : List Reply) → ReplyPairs (λ x y. x ≡ y) rs rs
-replies-itself [] = tt
-replies-itself (r ∷ rs) = (refl, refl, replies-itself rs)
+replies-itself [] = NoReplies
+replies-itself (r ∷ rs) = Replies r.at r.next r.next rs rs refl (replies-itself rs)
 
 node-itself : (n : Node) → NodePair (λ x y. x ≡ y) n n
 node-itself n = record { attack = refl; rest = rest-itself n.rest; replies = replies-itself n.replies }
@@ -221,21 +194,13 @@ unfolding flip
 node-left R S f n m l h k = node-right (flip R) (flip S) f n m l (node-flip R m n h) (node-flip S l n k)
 
 rest-pairs : (R S : ℕ → ℕ → Type 0) → ((x y : ℕ) → R x y → S x y) → (r s : Rest) → RestPair R r s → Pairs S (rest_nodes r) (rest_nodes s)
-rest-pairs R S f Wins Wins h = Ends
-rest-pairs R S f Wins (To y) h = absurd h
-rest-pairs R S f Wins Nothing h = absurd h
-rest-pairs R S f (To x) Wins h = absurd h
-rest-pairs R S f (To x) (To y) h = Goes x y [] [] (f x y h) Ends
-rest-pairs R S f (To x) Nothing h = absurd h
-rest-pairs R S f Nothing Wins h = absurd h
-rest-pairs R S f Nothing (To y) h = absurd h
-rest-pairs R S f Nothing Nothing h = Ends
+rest-pairs R S f _ _ BothWin = Ends
+rest-pairs R S f _ _ (BothTo x y h) = Goes x y [] [] (f x y h) Ends
+rest-pairs R S f _ _ BothNothing = Ends
 
 next-pairs : (R S : ℕ → ℕ → Type 0) → ((x y : ℕ) → R x y → S x y) → (rs ss : List Reply) → ReplyPairs R rs ss → Pairs S (map (λ r. r.next) rs) (map (λ s. s.next) ss)
-next-pairs R S f [] [] h = Ends
-next-pairs R S f [] (s ∷ ss) h = absurd h
-next-pairs R S f (r ∷ rs) [] h = absurd h
-next-pairs R S f (r ∷ rs) (s ∷ ss) h = Goes r.next s.next _ _ (f r.next s.next h.1) (next-pairs R S f rs ss h.2)
+next-pairs R S f _ _ NoReplies = Ends
+next-pairs R S f _ _ (Replies q x y rs ss h k) = Goes x y _ _ (f x y h) (next-pairs R S f rs ss k)
 
 fold-pairs : (R : ℕ → ℕ → Type 0) (f g : List ℕ → ℕ → List ℕ) → ((d e : List ℕ) (x y : ℕ) → R x y → Pairs R d e → Pairs R (f d x) (g e y)) → (js ks d e : List ℕ) → Pairs R js ks → Pairs R d e → Pairs R (fold f d js) (fold g e ks)
 fold-pairs R f g step _ _ d e Ends p = p
@@ -246,7 +211,7 @@ there-at None P h = absurd h
 there-at (Some n) P h = (n, refl)
 
 no_replies : (R : ℕ → ℕ → Type 0) (rs ss : List Reply) → rs ≡ [] → ss ≡ [] → ReplyPairs R rs ss
-no_replies R rs ss e f = subst (λ (xs : List Reply). ReplyPairs R xs ss) (sym e) (subst (ReplyPairs R []) (sym f) tt)
+no_replies R rs ss e f = subst (λ (xs : List Reply). ReplyPairs R xs ss) (sym e) (subst (ReplyPairs R []) (sym f) NoReplies)
 
 winning-rest : (r : Rest) → is_winning r ≡ true → r ≡ Wins
 winning-rest Wins h = refl
@@ -254,14 +219,12 @@ winning-rest (To j) h = cc
 winning-rest Nothing h = cc
 
 rest-by_node : (R : ℕ → ℕ → Type 0) (r s : Rest) (j k : ℕ) → rest_node r ≡ Some j → rest_node s ≡ Some k → R j k → RestPair R r s
-rest-by_node R Wins s j k e f h = cc
-rest-by_node R Nothing s j k e f h = cc
-rest-by_node R (To i) Wins j k e f h = cc
-rest-by_node R (To i) Nothing j k e f h = cc
-rest-by_node R (To i) (To l) j k e f h =
-    let left : j ≡ i = cc in
-    let right : k ≡ l = cc in
-    subst (λ (x : ℕ). R x l) left (subst (λ (x : ℕ). R j x) right h)
+rest-by_node R r s j k e f h =
+    subst (λ (x : Rest). RestPair R x s) (sym (is-to r j e)) (subst (RestPair R (To j)) (sym (is-to s k f)) (BothTo j k h)) where
+      is-to : (r : Rest) (j : ℕ) → rest_node r ≡ Some j → r ≡ To j
+      is-to Wins j e = cc
+      is-to (To i) j e = let same : i ≡ j = cc in ap To same
+      is-to Nothing j e = cc
 
 abbrev pub IsThere : Option ℕ → Type 0
 IsThere None = ⊥
@@ -276,10 +239,8 @@ answers-pairs : (R : ℕ → ℕ → Type 0) (a b : Answers) (qs : List Point) �
 answers-pairs R a b [] h = Ends
 answers-pairs R a b (q ∷ qs) h = by_answers (answer a q) (answer b q) h.0 (answers-pairs R a b qs h.2) where
   by_answers : (o p : Option ℕ) → OptionPair R o p → Pairs R (answers_to a qs) (answers_to b qs) → Pairs R (cons_option o (answers_to a qs)) (cons_option p (answers_to b qs))
-  by_answers None None g k = k
-  by_answers None (Some y) g k = absurd g
-  by_answers (Some x) None g k = absurd g
-  by_answers (Some x) (Some y) g k = Goes x y _ _ g k
+  by_answers _ _ Neither k = k
+  by_answers _ _ (Both x y g) k = Goes x y _ _ g k
 
 others-alike : (R : ℕ → ℕ → Type 0) → TellsApart R → (a b : Answers) (o p : Option ℕ) (qs : List Point) → OptionPair R o p → AnswerPairs R a b qs → filter (λ q. not (option_eq nat_eq (answer a q) o)) qs ≡ filter (λ q. not (option_eq nat_eq (answer b q) p)) qs
 others-alike R one a b o p [] g h = refl
@@ -291,19 +252,20 @@ others-alike R one a b o p (q ∷ qs) g h =
 answer-pair : (R : ℕ → ℕ → Type 0) (a b : Answers) (qs : List Point) (q : Point) (j k : ℕ) → AnswerPairs R a b qs → Contains qs q → answer a q ≡ Some j → answer b q ≡ Some k → R j k
 answer-pair R a b [] q j k h (m, l, e) x y = absurd (omega arith)
 answer-pair R a b (p ∷ qs) q j k h (zero, l, e) x y =
-    subst (λ (o : Option ℕ). OptionPair R o (Some k)) x (subst (λ (o : Option ℕ). OptionPair R (answer a q) o) y (subst (λ (r : Point). OptionPair R (answer a r) (answer b r)) e h.0))
+    some-pair R j k (subst (λ (o : Option ℕ). OptionPair R o (Some k)) x
+        (subst (λ (o : Option ℕ). OptionPair R (answer a q) o) y (subst (λ (r : Point). OptionPair R (answer a r) (answer b r)) e h.0)))
 answer-pair R a b (p ∷ qs) q j k h (suc m, l, e) x y = answer-pair R a b qs q j k h.2 (m, omega arith, e) x y
 
 listed-pairs : (R : ℕ → ℕ → Type 0) (a b : Answers) (qs : List Point) (rs ss : List Reply) → AnswerPairs R a b qs → map (λ r. r.at) rs ≡ map (λ s. s.at) ss → ((q : Point) → Contains (map (λ r. r.at) rs) q → Contains qs q) → AllByRecursion (λ r. answer a r.at ≡ Some r.next) rs → AllByRecursion (λ r. answer b r.at ≡ Some r.next) ss → ReplyPairs R rs ss
-listed-pairs R a b qs [] [] h e inside x y = tt
+listed-pairs R a b qs [] [] h e inside x y = NoReplies
 listed-pairs R a b qs [] (s ∷ ss) h e inside x y = cc
 listed-pairs R a b qs (r ∷ rs) [] h e inside x y = cc
 listed-pairs R a b qs (r ∷ rs) (s ∷ ss) h e inside x y =
-    let at : r.at ≡ s.at = cons-first _ _ _ _ e in (
-      at,
-      answer-pair R a b qs r.at r.next s.next h (inside r.at (0, omega arith, refl)) x.0 (ap (answer b) at ∙ y.0),
-      listed-pairs R a b qs rs ss h (cons-others _ _ _ _ e) (λ q c. inside q (suc c.0, omega arith, c.2)) x.1 y.1,
-    )
+    let at : r.at ≡ s.at = cons-first _ _ _ _ e in
+    subst (λ (q : Point). ReplyPairs R (r ∷ rs) (record { at = q; next = s.next } ∷ ss)) at
+    (Replies r.at r.next s.next rs ss
+        (answer-pair R a b qs r.at r.next s.next h (inside r.at (0, omega arith, refl)) x.0 (ap (answer b) at ∙ y.0))
+    (listed-pairs R a b qs rs ss h (cons-others _ _ _ _ e) (λ q c. inside q (suc c.0, omega arith, c.2)) x.1 y.1))
 
 filter-inside : (p : Point → Bool) (qs : List Point) (q : Point) → Contains (filter p qs) q → Contains qs q
 filter-inside p [] q (k, l, e) = absurd (omega arith)
@@ -329,7 +291,7 @@ module _ (u v : List Node) (tu : IsTable u) (tv : IsTable v) where
         both : (o p : Option ℕ) → answer a q ≡ o → Answered o (λ x. StandsFor u x s) → Answered p (λ y. StandsFor v y s) → OptionPair (AlikeBelow i) o p
         both None p e x y = absurd x
         both (Some m) None e x y = absurd y
-        both (Some m) (Some l) e x y = (record { tree = s; left = x; right = y }, answer-below a i q m low e)
+        both (Some m) (Some l) e x y = Both m l (record { tree = s; left = x; right = y }, answer-below a i q m low e)
 
         there : (o : Option ℕ) → Answered o (λ x. StandsFor u x s) → IsThere o
         there None x = absurd x
@@ -360,9 +322,9 @@ module _ (u v : List Node) (tu : IsTable u) (tv : IsTable v) where
               (answered-as-listed a ((tu.nodes i n at).rising)) (answered-as-listed b ((tv.nodes j m at').rising));
         } where
           by_rest : (o p : Option ℕ) → rest_node n.rest ≡ o → rest_node m.rest ≡ p → OptionPair (AlikeBelow i) o p → RestPair (AlikeBelow i) n.rest m.rest
-          by_rest None p e f g = absurd (first-there (AlikeBelow i) (answers_of n) (answers_of m) q qs h (sym brief.rest_is_commonest ∙ e))
-          by_rest (Some x) None e f g = absurd g
-          by_rest (Some x) (Some y) e f g = rest-by_node (AlikeBelow i) n.rest m.rest x y e f g
+          by_rest _ _ e f Neither = absurd
+              (first-there (AlikeBelow i) (answers_of n) (answers_of m) q qs h (sym brief.rest_is_commonest ∙ e))
+          by_rest _ _ e f (Both x y g) = rest-by_node (AlikeBelow i) n.rest m.rest x y e f g
 
     pair-by : (s : Tree) → StandsFor u i s → StandsFor v j s → NodePair (AlikeBelow i) n m
     unfolding StandsFor
@@ -371,7 +333,8 @@ module _ (u v : List Node) (tu : IsTable u) (tv : IsTable v) where
         let there = AtNode-some (slice_get v j) m (λ n. (n.attack ≡ p) × (is_winning n.rest ≡ true)) at' k in
         record {
           attack = here.0 ∙ sym there.0;
-          rest = subst (λ (r : Rest). RestPair (AlikeBelow i) r m.rest) (sym (winning-rest n.rest here.1)) (subst (RestPair (AlikeBelow i) Wins) (sym (winning-rest m.rest there.1)) tt);
+          rest = subst (λ (r : Rest). RestPair (AlikeBelow i) r m.rest) (sym (winning-rest n.rest here.1))
+              (subst (RestPair (AlikeBelow i) Wins) (sym (winning-rest m.rest there.1)) BothWin);
           replies = no_replies (AlikeBelow i) n.replies m.replies ((tu.nodes i n at).winning here.1) ((tv.nodes j m at').winning there.1);
         }
     pair-by (Fork p NoBranch) h k =
@@ -379,7 +342,8 @@ module _ (u v : List Node) (tu : IsTable u) (tv : IsTable v) where
         let there = AtNode-some (slice_get v j) m (λ n. (n.attack ≡ p) × ((n.rest ≡ Nothing) × (n.replies ≡ [])) × Unit {0}) at' k in
         record {
           attack = here.0 ∙ sym there.0;
-          rest = subst (λ (r : Rest). RestPair (AlikeBelow i) r m.rest) (sym here.1.0) (subst (RestPair (AlikeBelow i) Nothing) (sym there.1.0) tt);
+          rest = subst (λ (r : Rest). RestPair (AlikeBelow i) r m.rest) (sym here.1.0)
+              (subst (RestPair (AlikeBelow i) Nothing) (sym there.1.0) BothNothing);
           replies = no_replies (AlikeBelow i) n.replies m.replies here.1.1 there.1.1;
         }
     pair-by (Fork p (Branch q s bs)) h k =

@@ -5,7 +5,7 @@ use Rattle.game_rules.specs.Grid.{Grid, is_on}
 use Rattle.game_rules.specs.declared.RuleKind.{RuleKind}
 use Rattle.strategy_graph.specs.declared.Node.{Node}
 use Rattle.strategy_graph.specs.declared.Reply.{Reply}
-use Rattle.strategy_graph.specs.Tables.{NamesOnBoard, RepliesOn, TableOnBoard, depth, depth_within, node_depth}
+use Rattle.strategy_graph.specs.Tables.{NamesLower, NamesOnBoard, RepliesOn, TableOnBoard, depth, depth_within, node_depth}
 use Rattle.strategy_graph.specs.Acceptance.{Accepted, AcceptedNode, AcceptedWithin}
 use Rattle.strategy_graph.specs.Laws.{SaysSame}
 use Rattle.strategy_graph.proofs.Growth.{growth-same}
@@ -16,6 +16,12 @@ use Rattle.strategy_compiler.proofs.Reaching.{reaches-shorter, slice_get-shorter
 
 -- ---- a list of nodes that grows
 
+-- what a node reaches stays on the board
+pub stays-longer : (b : Grid) (t more : List Node) → NamesLower t → (i : ℕ) → i < length t → StaysOnBoard b t i → StaysOnBoard b (t ++ more) i
+stays-longer b t more lower i low h k n reach at =
+    let back = reaches-shorter t more lower i k low reach in
+    h k n back (slice_get-shorter t more k n (reaches-inside t lower i k low back) at)
+
 pub growth_keeps-wins : GrowthKeepsWins
 growth_keeps-wins rule limit b t more win lower h =
     let same = growth-same t more lower win.node h.in_compiler in
@@ -24,9 +30,7 @@ growth_keeps-wins rule limit b t more win lower h =
       accepted = (same.same_accepted rule b).1 h.accepted;
       deep = same.same_depth ∙ h.deep;
       within = h.within;
-      on_board = λ k n reach at.
-          let back = reaches-shorter t more lower win.node k h.in_compiler reach in
-          h.on_board k n back (slice_get-shorter t more k n (reaches-inside t lower win.node k h.in_compiler back) at);
+      on_board = stays-longer b t more lower win.node h.in_compiler h.on_board;
     } where
       longer : (t more : List Node) (i : ℕ) → i < length t → i < length (t ++ more)
       longer [] more i l = absurd (omega arith)

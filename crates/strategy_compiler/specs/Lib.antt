@@ -4,3 +4,5 @@ pub mod Orders
 pub mod Nodes
 pub mod Starts
 pub mod Wins
+pub mod Growth
+pub mod Forks

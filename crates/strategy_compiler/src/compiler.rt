@@ -16,6 +16,7 @@ ghost use Rattle.strategy_compiler.specs.Trees.{Tree, Branches, Leaf, Fork, Stan
 ghost use Rattle.strategy_compiler.specs.Walks.{AreDifferent, IsNumberedByWalk, IsTableOf, NamesPointsReached, Reaches, Renumbers, completed, last};
 ghost use Rattle.strategy_compiler.specs.Starts.{IsMadeOfAnswers};
 ghost use Rattle.strategy_compiler.specs.Wins.{IsWinTable, IsWrittenWin};
+ghost use Rattle.strategy_compiler.specs.Forks.{WinsAtOnce, WinsByAnswers};
 ghost use Rattle.strategy_compiler.specs.Nodes.{IsCompiled, NamesOnly, PutsIn, answering_node, winning_node};
 
 use crate::WrittenWin;
@@ -79,13 +80,14 @@ impl Compiler {
     }
 
     /// Puts the winning node with this attack in, and answers its number: that of the node that is there already, or that of
-    /// the new one, which is the last. After an `Err` the nodes are as they were:
+    /// the new one, which is the last. It wins wherever the attack wins at once. After an `Err` the nodes are as they were:
     ///
     /// - `Full`, exactly where the node is new and the compiler has `MAX_NODES` nodes;
     /// - `Memory`, where there is no memory for it.
     pub fn winning(&mut self, attack: Point) -> Result<u32, CompileError>
         ensures node { IfOk result (λ i. slice_get self.new i ≡ Some (winning_node attack)) }
         ensures stands { IfOk result (λ i. StandsFor self.new i (Leaf attack)) }
+        ensures wins { IfOk result (λ i. WinsAtOnce attack self.new i) }
         ensures put_in { OnOk result (PutsIn self.old (winning_node attack) self.new) }
         ensures full { IsErrOf result CompileError.Full
             ↔ ((¬ Contains self.old (winning_node attack)) × (length self.old ≡ MAX_NODES)) }
@@ -107,7 +109,8 @@ impl Compiler {
     /// of the node that is there already, or that of the new one, which is the last. The answers rise strictly in
     /// reading order, and each names a node of the compiler. The rest is the node that answers the most of the
     /// replies, and on a tie the one that answers the earliest; only the answers that differ from it are listed. Without
-    /// answers the rest is `Nothing`. After an `Err` the nodes are as they were:
+    /// answers the rest is `Nothing`. It wins wherever the attack goes on and the answers win after it. After an `Err` the nodes
+    /// are as they were:
     ///
     /// - `Full`, exactly where the node is new and the compiler has `MAX_NODES` nodes, unless memory ends first;
     /// - `Memory`, where there is no memory for it.
@@ -123,6 +126,7 @@ impl Compiler {
         ensures stands { IfOk result
             (λ i. (branches : Branches) → AnswersBranches self.old answers.now branches
             → StandsFor self.new i (Fork attack branches)) }
+        ensures wins { IfOk result (λ i. WinsByAnswers self.old attack answers.now self.new i) }
         ensures put_in { OnOk result
             (PutsIn self.old (answering_node attack answers.now) self.new) }
         ensures full_only { IsErrOf result CompileError.Full

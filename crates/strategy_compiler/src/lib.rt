@@ -17,11 +17,13 @@ mod rests;
 mod starts;
 mod theorems;
 mod walk;
+mod win_nodes;
 mod wins;
 
 pub use compiler::{CompileError, Compiler};
 pub use error::SearchError;
 pub use theorems::{growth_keeps_reach, growth_keeps_trees, growth_keeps_wins, tree_has_one_table};
+pub use win_nodes::answer_node;
 pub use wins::WrittenWin;
 
 #[cfg(test)]

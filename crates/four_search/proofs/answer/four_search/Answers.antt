@@ -1,8 +1,12 @@
-use Rattle.std.proofs.Common.{rules, ◌≡◌, ◌+◌, ◌-◌, ◌<◌, true, false, ap, sym, subst, ◌∙◌, arith, length, ℕ, refl}
+use Rattle.std.proofs.Common.{rules, ◌≡◌, ◌+◌, ◌-◌, ◌<◌, true, false, ap, sym, subst, ◌∙◌, arith, length, ℕ, refl, ◌*◌, Bool, cond, List}
+use Rattle.std.specs.Prelude.{Result, Ok, Err, OnErr}
 use Rattle.game_rules.specs.Grid.{Grid}
 use Rattle.game_rules.specs.Play.{IsPosition}
 use Rattle.four_search.specs.declared.search.Found.TheVariants.{Win, NoWin, Spent}
 use Rattle.four_search.specs.Searching.{found_at}
+use Rattle.strategy_graph.specs.declared.Node.{Node}
+use Rattle.strategy_compiler.specs.Growth.{GrowsBy}
+use Rattle.strategy_compiler.proofs.Growing.{grows-more}
 use Rattle.strategy_compiler.specs.Trees.{StandsFor}
 use Rattle.four_search.specs.Plans.{four_plan}
 use Rattle.four_search.proofs.Deepening.{win-here, win-cost, win-depth, cost-above, none-more, left-more, end-cost, end-none}
@@ -45,9 +49,26 @@ returns-in_err-node-in-Ok-Win-clause-full g c =
     let wins = win-depth g.R.Rule.KIND b c.args.depth c.args.budget c.loop-done.left d c.loop-done-test.true c.loop-done.invariant.none c.loop-done.invariant.spent c.in-Ok-Win.field-0-0 c.in-Ok-Win.line found in
     let fits = win-cost g.R.Rule.KIND b c.args.depth c.args.budget c.loop-done.left d c.loop-done-test.true c.loop-done.invariant.none c.loop-done.invariant.spent c.in-Ok-Win.field-0-0 c.in-Ok-Win.line found in
     let within = c.loop-done-test.true in
-    let many = c.in_err-node-in-Ok-Win.ensures.full in
+    let many = c.in_err-node-in-Ok-Win.ensures.writes.full in
     let nodes : length c.loop-done.compiler ≡ length c.args.compiler.now = ap length c.loop-done.invariant.nodes in
     search rules
+
+any-err : {A E P : Type 0} (r : Result A E) → P → OnErr r P
+any-err (Ok x) p = tt
+any-err (Err e) p = p
+
+pub returns-in_err-node-in-Ok-Win-clause-kept : goal.returns-in_err-node-in-Ok-Win-clause-kept
+returns-in_err-node-in-Ok-Win-clause-kept g c =
+    let b : Grid = g.V.Seen.position c.args.view.now in
+    let d : ℕ = c.loop-done.done in
+    let found : Win c.in-Ok-Win.field-0-0 c.in-Ok-Win.line ≡ found_at g.R.Rule.KIND (d + 1) b c.loop-done.left = sym c.in-Ok-Win.field-0-is ∙ c.in-Ok-Win.ensures.found ∙ ap (λ (w : Grid). found_at g.R.Rule.KIND (d + 1) w c.loop-done.left) c.loop-done.invariant.same in
+    let wins = win-depth g.R.Rule.KIND b c.args.depth c.args.budget c.loop-done.left d c.loop-done-test.true c.loop-done.invariant.none c.loop-done.invariant.spent c.in-Ok-Win.field-0-0 c.in-Ok-Win.line found in
+    let within = c.loop-done-test.true in
+    let grown = grows-more c.loop-done.compiler c.compile.new.compiler _ (2 * c.args.depth) c.in_err-node-in-Ok-Win.ensures.writes.grows
+    (omega (arith, within)) in
+    any-err c.from_residual.result
+    (subst (λ (r : Bool). GrowsBy c.args.compiler.now c.compile.new.compiler (cond r (2 * c.args.depth) 0)) (sym wins)
+    (subst (λ (t : List Node). GrowsBy t c.compile.new.compiler (2 * c.args.depth)) c.loop-done.invariant.nodes grown))
 
 pub returns-in-Ok-Win-clause-win : goal.returns-in-Ok-Win-clause-win
 returns-in-Ok-Win-clause-win g c =
@@ -57,7 +78,10 @@ returns-in-Ok-Win-clause-win g c =
     let lawful : IsPosition g.R.Rule.KIND b = c.side.ensures.lawful in
     let stands : StandsFor c.compile.new.compiler c.in_ok-node-in-Ok-Win.node (four_plan g.R.Rule.KIND (d + 1) b) =
     subst (λ (w : Grid). StandsFor c.compile.new.compiler c.in_ok-node-in-Ok-Win.node (four_plan g.R.Rule.KIND (d + 1) w)) (c.search.ensures.same ∙ c.loop-done.invariant.same) c.in_ok-node-in-Ok-Win.ensures.stands in
-    four-win g.R.Rule.KIND b c.args.depth d c.loop-done-test.true c.loop-done.invariant.none lawful (win-here g.R.Rule.KIND b c.args.depth c.args.budget c.loop-done.left d c.loop-done-test.true c.loop-done.invariant.none c.loop-done.invariant.spent c.in-Ok-Win.field-0-0 c.in-Ok-Win.line found) c.compile.new.compiler c.in_ok-node-in-Ok-Win.ensures.compiled.table c.in_ok-node-in-Ok-Win.node c.in_ok-node-in-Ok-Win.ensures.in_compiler stands
+    four-win g.R.Rule.KIND b c.args.depth d c.loop-done-test.true c.loop-done.invariant.none lawful
+    (win-here g.R.Rule.KIND b c.args.depth c.args.budget c.loop-done.left d c.loop-done-test.true c.loop-done.invariant.none
+    c.loop-done.invariant.spent c.in-Ok-Win.field-0-0 c.in-Ok-Win.line found) c.compile.new.compiler
+    c.in_ok-node-in-Ok-Win.ensures.writes.compiled.table c.in_ok-node-in-Ok-Win.node c.in_ok-node-in-Ok-Win.ensures.in_compiler stands
 
 pub returns-in-Ok-Win-clause-none : goal.returns-in-Ok-Win-clause-none
 returns-in-Ok-Win-clause-none g c =

@@ -5,7 +5,7 @@ use Rattle.game_rules.specs.Games.{has_five, five_points}
 use Rattle.game_rules.specs.declared.Point.{Point}
 use Rattle.game_rules.proofs.Positions.{IsPosition-after}
 use Rattle.game_rules.proofs.Undo.{stone_back, lift_back, unwon_back}
-use Rattle.four_search.proofs.Growing.{grows-then, grows-more, grows-length}
+use Rattle.strategy_compiler.proofs.Growing.{writes-then, writes-then-fails, writes-more}
 use Rattle.four_search.proofs.Planning.{plan-some, plan-goes_on, plan-one, plan-wins, plan-block, plan-not-lost, plan-not-draw, chosen-last, line-some, stands-grown, no-fives, plan-five, plan-four, wins-some}
 use Rattle.four_search.proofs.plan.+plan.Goals as goal
 
@@ -47,17 +47,13 @@ compile-returns-in-len1-up-clause-stands g t c =
     let b : Grid = g.V.Seen.position c.args.view.now in
     let nowhere : Point = record { x = 0; y = 0 } in
     let points : c.as_slice.result.now ≡ five_points g.R.Rule.KIND b (mover b) = c.as_slice.ensures.items ∙ c.in-Ok.ensures.fives ∙ ap (five_points g.R.Rule.KIND b) c.side-attacker.ensures.side in
-    plan-five g.R.Rule.KIND c.args.moves b c.as_slice.result.now nowhere c.winning.new.compiler c.winning.result points c.in-len1-up.len_at_least (wins-some g.R.Rule.KIND c.args.moves b c.requires.wins) c.winning.ensures.stands
+    plan-five g.R.Rule.KIND c.args.moves b c.as_slice.result.now nowhere c.leaf.new.self c.leaf.result points c.in-len1-up.len_at_least
+    (wins-some g.R.Rule.KIND c.args.moves b c.requires.wins) c.leaf.ensures.stands
 
-pub compile-returns-in-len1-up-clause-grows : goal.compile-returns-in-len1-up-clause-grows
-compile-returns-in-len1-up-clause-grows g t c =
+pub compile-returns-in-len1-up-clause-writes : goal.compile-returns-in-len1-up-clause-writes
+compile-returns-in-len1-up-clause-writes g t c =
     let some = wins-some g.R.Rule.KIND c.args.moves (g.V.Seen.position c.args.view.now) c.requires.wins in
-    grows-more _ _ 1 _ c.winning.ensures.grows (omega (arith, some))
-
-pub compile-returns-in-len1-up-clause-full : goal.compile-returns-in-len1-up-clause-full
-compile-returns-in-len1-up-clause-full g t c =
-    let some = wins-some g.R.Rule.KIND c.args.moves (g.V.Seen.position c.args.view.now) c.requires.wins in
-    λ full. let many = c.winning.ensures.full full in omega (arith, some, many)
+    writes-more _ _ 1 _ _ c.leaf.ensures.writes (omega (arith, some))
 
 pub compile-unreachable-requires : goal.compile-unreachable-requires
 compile-unreachable-requires g t c =
@@ -100,20 +96,14 @@ compile_one-compile_after-requires g t c =
     let some = plan-some g.R.Rule.KIND c.args.moves b c.args.p c.requires.lawful c.requires.five c.requires.chosen in
     search rules
 
-pub compile_one-returns-in_err-beside-clause-grows : goal.compile_one-returns-in_err-beside-clause-grows
-compile_one-returns-in_err-beside-clause-grows g t c =
+pub compile_one-returns-in_err-beside-clause-writes : goal.compile_one-returns-in_err-beside-clause-writes
+compile_one-returns-in_err-beside-clause-writes g t c =
     let some = plan-some g.R.Rule.KIND c.args.moves (g.V.Seen.position c.args.view.now) c.args.p c.requires.lawful c.requires.five c.requires.chosen in
-    grows-then _ _ _ (2 * (c.args.moves - 1)) 1 _ c.in_ok-at_block.ensures.grows c.in_err-beside.ensures.grows (omega (arith, some))
+    writes-then-fails _ _ _ (2 * (c.args.moves - 1)) 1 _ _ _ _ c.in_ok-at_block.ensures.writes c.in_err-beside.ensures.writes
+    (omega (arith, some)) (search rules)
 
-pub compile_one-returns-in_err-beside-clause-full : goal.compile_one-returns-in_err-beside-clause-full
-compile_one-returns-in_err-beside-clause-full g t c =
-    let some = plan-some g.R.Rule.KIND c.args.moves (g.V.Seen.position c.args.view.now) c.args.p c.requires.lawful c.requires.five c.requires.chosen in
-    let grown = grows-length _ _ (2 * (c.args.moves - 1)) c.in_ok-at_block.ensures.grows in
-    let many = c.in_err-beside.ensures.full in
-    search rules
-
-pub compile_one-fork-requires-clause-goes_on : goal.compile_one-fork-requires-clause-goes_on
-compile_one-fork-requires-clause-goes_on g t c =
+pub compile_one-block_node-requires-clause-goes_on : goal.compile_one-block_node-requires-clause-goes_on
+compile_one-block_node-requires-clause-goes_on g t c =
     let b : Grid = g.V.Seen.position c.args.view.now in
     ap (λ (w : Grid). outcome g.R.Rule.KIND w c.args.p) c.in_ok-at_block.ensures.same ∙ plan-goes_on g.R.Rule.KIND c.args.moves b c.args.p c.requires.lawful c.requires.five c.requires.chosen
 
@@ -122,20 +112,20 @@ compile_one-returns-clause-stands g t c =
     let b : Grid = g.V.Seen.position c.args.view.now in
     let d : Grid = g.V.Seen.position c.compile_after.new.view in
     let both = plan-wins g.R.Rule.KIND c.args.moves b c.args.p c.requires.lawful c.requires.five c.requires.chosen c.args.block c.requires.one in
-    let at_block = stands-grown c.growth_keeps_trees.ensures.same _ _ 1 c.in_ok-beside.ensures.grows c.in_ok-at_block.at_block _ c.in_ok-at_block.ensures.stands in
-    plan-one g.R.Rule.KIND c.args.moves b c.args.p c.requires.lawful c.requires.five c.requires.chosen c.winning.new.compiler c.fork.new.compiler c.fork.result
-    d c.in_ok-at_block.ensures.same c.args.block c.requires.one both.1 c.in_ok-at_block.at_block c.in_ok-beside.beside at_block c.in_ok-beside.ensures.stands c.fork.ensures.stands
+    let at_block = stands-grown c.growth_keeps_trees.ensures.same _ _ 1 c.in_ok-beside.ensures.writes.grows c.in_ok-at_block.at_block _
+    c.in_ok-at_block.ensures.stands in
+    plan-one g.R.Rule.KIND c.args.moves b c.args.p c.requires.lawful c.requires.five c.requires.chosen c.leaf.new.self
+    c.block_node.new.compiler c.block_node.result
+    d c.in_ok-at_block.ensures.same c.args.block c.requires.one both.1 c.in_ok-at_block.at_block c.in_ok-beside.beside at_block
+    c.in_ok-beside.ensures.stands c.block_node.ensures.stands
 
-pub compile_one-returns-clause-grows : goal.compile_one-returns-clause-grows
-compile_one-returns-clause-grows g t c =
+pub compile_one-returns-clause-writes : goal.compile_one-returns-clause-writes
+compile_one-returns-clause-writes g t c =
     let some = plan-some g.R.Rule.KIND c.args.moves (g.V.Seen.position c.args.view.now) c.args.p c.requires.lawful c.requires.five c.requires.chosen in
-    grows-then _ _ _ (2 * (c.args.moves - 1) + 1) 1 _ (grows-then _ _ _ (2 * (c.args.moves - 1)) 1 (2 * (c.args.moves - 1) + 1) c.in_ok-at_block.ensures.grows c.in_ok-beside.ensures.grows (omega arith)) c.fork.ensures.grows (omega (arith, some))
-
-pub compile_one-returns-clause-full : goal.compile_one-returns-clause-full
-compile_one-returns-clause-full g t c =
-    let some = plan-some g.R.Rule.KIND c.args.moves (g.V.Seen.position c.args.view.now) c.args.p c.requires.lawful c.requires.five c.requires.chosen in
-    let grown = grows-length _ _ (2 * (c.args.moves - 1) + 1) (grows-then _ _ _ (2 * (c.args.moves - 1)) 1 (2 * (c.args.moves - 1) + 1) c.in_ok-at_block.ensures.grows c.in_ok-beside.ensures.grows (omega arith)) in
-    λ full. let many = c.fork.ensures.full full in omega (arith, some, grown, many)
+    writes-then _ _ _ (2 * (c.args.moves - 1) + 1) 1 _ _ _
+    (writes-then _ _ _ (2 * (c.args.moves - 1)) 1
+    (2 * (c.args.moves - 1) + 1) _ _ c.in_ok-at_block.ensures.writes c.in_ok-beside.ensures.writes (omega arith))
+    c.block_node.ensures.writes (omega (arith, some))
 
 pub compile_four-unreachable-requires-in-Draw : goal.compile_four-unreachable-requires-in-Draw
 compile_four-unreachable-requires-in-Draw g t c =

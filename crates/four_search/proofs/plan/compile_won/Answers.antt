@@ -3,14 +3,15 @@ use Rattle.game_rules.specs.Grid.{Grid}
 use Rattle.game_rules.specs.Play.{after, mover, outcome}
 use Rattle.game_rules.specs.Games.{five_points}
 use Rattle.game_rules.specs.declared.Point.{Point}
-use Rattle.four_search.proofs.Growing.{grows-then, grows-more, grows-length}
+use Rattle.strategy_compiler.proofs.Growing.{writes-then, writes-then-fails, writes-fails}
 use Rattle.four_search.proofs.Planning.{plan-some, plan-goes_on, plan-foul, plan-won-one, plan-won-two, plan-won-points, stands-grown}
 use Rattle.four_search.proofs.plan.compile_won.Goals as goal
 
 pub returns-then-moves-eq1-clause-stands : goal.returns-then-moves-eq1-clause-stands
 returns-then-moves-eq1-clause-stands g c =
     let b : Grid = g.V.Seen.position c.args.view.now in
-    plan-foul g.R.Rule.KIND c.args.moves b c.args.p c.requires.lawful c.requires.five c.requires.chosen c.args.compiler.now c.forking.new.compiler c.forking.result c.if-moves-eq1.true c.requires.won c.forking.ensures.stands
+    plan-foul g.R.Rule.KIND c.args.moves b c.args.p c.requires.lawful c.requires.five c.requires.chosen c.args.compiler.now
+    c.fork.new.self c.fork.result c.if-moves-eq1.true c.requires.won c.fork.ensures.stands
 
 pub fives_after-requires : goal.fives_after-requires
 fives_after-requires g c =
@@ -23,19 +24,13 @@ unreachable-requires g c =
     let low : length c.as_slice.result.now < 1 = c.in-empty.len_below in
     plan-won-points g.R.Rule.KIND c.args.moves b c.args.p c.requires.lawful c.requires.five c.requires.chosen c.as_slice.result.now (c.as_slice.ensures.items ∙ c.in-Ok.ensures.fives) c.requires.won low
 
-pub returns-in_err-beside-in-len1-clause-grows : goal.returns-in_err-beside-in-len1-clause-grows
-returns-in_err-beside-in-len1-clause-grows g c =
+pub returns-in_err-beside-in-len1-clause-writes : goal.returns-in_err-beside-in-len1-clause-writes
+returns-in_err-beside-in-len1-clause-writes g c =
     let some = plan-some g.R.Rule.KIND c.args.moves (g.V.Seen.position c.args.view.now) c.args.p c.requires.lawful c.requires.five c.requires.chosen in
-    grows-more _ _ 1 _ c.in_err-beside-in-len1.ensures.grows (omega (arith, some))
+    writes-fails _ _ 1 _ _ _ c.in_err-beside-in-len1.ensures.writes (omega (arith, some)) (search rules)
 
-pub returns-in_err-beside-in-len1-clause-full : goal.returns-in_err-beside-in-len1-clause-full
-returns-in_err-beside-in-len1-clause-full g c =
-    let some = plan-some g.R.Rule.KIND c.args.moves (g.V.Seen.position c.args.view.now) c.args.p c.requires.lawful c.requires.five c.requires.chosen in
-    let many = c.in_err-beside-in-len1.ensures.full in
-    search rules
-
-pub fork-requires-clause-goes_on : goal.fork-requires-clause-goes_on
-fork-requires-clause-goes_on g c =
+pub block_node-requires-clause-goes_on : goal.block_node-requires-clause-goes_on
+block_node-requires-clause-goes_on g c =
     let b : Grid = g.V.Seen.position c.args.view.now in
     ap (λ (w : Grid). outcome g.R.Rule.KIND w c.args.p) c.in-Ok.ensures.same ∙ plan-goes_on g.R.Rule.KIND c.args.moves b c.args.p c.requires.lawful c.requires.five c.requires.chosen
 
@@ -48,49 +43,30 @@ returns-in-len1-clause-stands g c =
     let more : 0 < c.args.moves - 1 = let one = c.if-moves-eq1.false in omega (arith, some, one) in
     let xs : List Point = c.as_slice.result.now in
     let points : xs ≡ five_points g.R.Rule.KIND (after b c.args.p) (mover b) = c.as_slice.ensures.items ∙ c.in-Ok.ensures.fives in
-    plan-won-one g.R.Rule.KIND c.args.moves b c.args.p c.requires.lawful c.requires.five c.requires.chosen c.winning.new.compiler c.fork.new.compiler c.fork.result
+    plan-won-one g.R.Rule.KIND c.args.moves b c.args.p c.requires.lawful c.requires.five c.requires.chosen c.leaf.new.self
+    c.block_node.new.compiler c.block_node.result
     d c.in-Ok.ensures.same nowhere xs points more c.requires.won c.in-len1.len_at_least c.in-len1.len_below
-    c.in_ok-beside-in-len1.beside c.in_ok-beside-in-len1.ensures.stands c.fork.ensures.stands
+    c.in_ok-beside-in-len1.beside c.in_ok-beside-in-len1.ensures.stands c.block_node.ensures.stands
 
-pub returns-in-len1-clause-grows : goal.returns-in-len1-clause-grows
-returns-in-len1-clause-grows g c =
+pub returns-in-len1-clause-writes : goal.returns-in-len1-clause-writes
+returns-in-len1-clause-writes g c =
     let some = plan-some g.R.Rule.KIND c.args.moves (g.V.Seen.position c.args.view.now) c.args.p c.requires.lawful c.requires.five c.requires.chosen in
-    grows-then _ _ _ 1 1 _ c.in_ok-beside-in-len1.ensures.grows c.fork.ensures.grows (omega (arith, some))
+    writes-then _ _ _ 1 1 _ _ _ c.in_ok-beside-in-len1.ensures.writes c.block_node.ensures.writes (omega (arith, some))
 
-pub returns-in-len1-clause-full : goal.returns-in-len1-clause-full
-returns-in-len1-clause-full g c =
+pub returns-in_err-beside-in-len2-up-clause-writes : goal.returns-in_err-beside-in-len2-up-clause-writes
+returns-in_err-beside-in-len2-up-clause-writes g c =
     let some = plan-some g.R.Rule.KIND c.args.moves (g.V.Seen.position c.args.view.now) c.args.p c.requires.lawful c.requires.five c.requires.chosen in
-    let one = c.if-moves-eq1.false in
-    let grown = grows-length _ _ 1 c.in_ok-beside-in-len1.ensures.grows in
-    λ full. let many = c.fork.ensures.full full in omega (arith, some, one, grown, many)
+    writes-fails _ _ 1 _ _ _ c.in_err-beside-in-len2-up.ensures.writes (omega (arith, some)) (search rules)
 
-pub returns-in_err-beside-in-len2-up-clause-grows : goal.returns-in_err-beside-in-len2-up-clause-grows
-returns-in_err-beside-in-len2-up-clause-grows g c =
-    let some = plan-some g.R.Rule.KIND c.args.moves (g.V.Seen.position c.args.view.now) c.args.p c.requires.lawful c.requires.five c.requires.chosen in
-    grows-more _ _ 1 _ c.in_err-beside-in-len2-up.ensures.grows (omega (arith, some))
-
-pub returns-in_err-beside-in-len2-up-clause-full : goal.returns-in_err-beside-in-len2-up-clause-full
-returns-in_err-beside-in-len2-up-clause-full g c =
-    let some = plan-some g.R.Rule.KIND c.args.moves (g.V.Seen.position c.args.view.now) c.args.p c.requires.lawful c.requires.five c.requires.chosen in
-    let many = c.in_err-beside-in-len2-up.ensures.full in
-    search rules
-
-pub returns-in_err-at_first-in-len2-up-clause-grows : goal.returns-in_err-at_first-in-len2-up-clause-grows
-returns-in_err-at_first-in-len2-up-clause-grows g c =
+pub returns-in_err-at_first-in-len2-up-clause-writes : goal.returns-in_err-at_first-in-len2-up-clause-writes
+returns-in_err-at_first-in-len2-up-clause-writes g c =
     let some = plan-some g.R.Rule.KIND c.args.moves (g.V.Seen.position c.args.view.now) c.args.p c.requires.lawful c.requires.five c.requires.chosen in
     let one = c.if-moves-eq1.false in
-    grows-then _ _ _ 1 1 _ c.in_ok-beside-in-len2-up.ensures.grows c.in_err-at_first-in-len2-up.ensures.grows (omega (arith, some, one))
+    writes-then-fails _ _ _ 1 1 _ _ _ _ c.in_ok-beside-in-len2-up.ensures.writes c.in_err-at_first-in-len2-up.ensures.writes
+    (omega (arith, some, one)) (search rules)
 
-pub returns-in_err-at_first-in-len2-up-clause-full : goal.returns-in_err-at_first-in-len2-up-clause-full
-returns-in_err-at_first-in-len2-up-clause-full g c =
-    let some = plan-some g.R.Rule.KIND c.args.moves (g.V.Seen.position c.args.view.now) c.args.p c.requires.lawful c.requires.five c.requires.chosen in
-    let one = c.if-moves-eq1.false in
-    let grown = grows-length _ _ 1 c.in_ok-beside-in-len2-up.ensures.grows in
-    let many = c.in_err-at_first-in-len2-up.ensures.full in
-    search rules
-
-pub fork-requires-in-len2-up-clause-goes_on : goal.fork-requires-in-len2-up-clause-goes_on
-fork-requires-in-len2-up-clause-goes_on g c =
+pub block_node-requires-in-len2-up-clause-goes_on : goal.block_node-requires-in-len2-up-clause-goes_on
+block_node-requires-in-len2-up-clause-goes_on g c =
     let b : Grid = g.V.Seen.position c.args.view.now in
     ap (λ (w : Grid). outcome g.R.Rule.KIND w c.args.p) c.in-Ok.ensures.same ∙ plan-goes_on g.R.Rule.KIND c.args.moves b c.args.p c.requires.lawful c.requires.five c.requires.chosen
 
@@ -103,20 +79,17 @@ returns-clause-stands g c =
     let more : 0 < c.args.moves - 1 = let one = c.if-moves-eq1.false in omega (arith, some, one) in
     let xs : List Point = c.as_slice.result.now in
     let points : xs ≡ five_points g.R.Rule.KIND (after b c.args.p) (mover b) = c.as_slice.ensures.items ∙ c.in-Ok.ensures.fives in
-    let beside = stands-grown c.growth_keeps_trees.ensures.same _ _ 1 c.in_ok-at_first-in-len2-up.ensures.grows c.in_ok-beside-in-len2-up.beside _ c.in_ok-beside-in-len2-up.ensures.stands in
-    plan-won-two g.R.Rule.KIND c.args.moves b c.args.p c.requires.lawful c.requires.five c.requires.chosen c.winning-in-len2-up-2.new.compiler c.fork-in-len2-up.new.compiler c.fork-in-len2-up.result
+    let beside = stands-grown c.growth_keeps_trees.ensures.same _ _ 1 c.in_ok-at_first-in-len2-up.ensures.writes.grows
+    c.in_ok-beside-in-len2-up.beside _ c.in_ok-beside-in-len2-up.ensures.stands in
+    plan-won-two g.R.Rule.KIND c.args.moves b c.args.p c.requires.lawful c.requires.five c.requires.chosen c.leaf-in-len2-up-2.new.self
+    c.block_node-in-len2-up.new.compiler c.block_node-in-len2-up.result
     d c.in-Ok.ensures.same nowhere xs points more c.in-len2-up.len_at_least
-    c.in_ok-at_first-in-len2-up.at_first c.in_ok-beside-in-len2-up.beside c.in_ok-at_first-in-len2-up.ensures.stands beside c.fork-in-len2-up.ensures.stands
+    c.in_ok-at_first-in-len2-up.at_first c.in_ok-beside-in-len2-up.beside c.in_ok-at_first-in-len2-up.ensures.stands beside
+    c.block_node-in-len2-up.ensures.stands
 
-pub returns-clause-grows : goal.returns-clause-grows
-returns-clause-grows g c =
+pub returns-clause-writes : goal.returns-clause-writes
+returns-clause-writes g c =
     let some = plan-some g.R.Rule.KIND c.args.moves (g.V.Seen.position c.args.view.now) c.args.p c.requires.lawful c.requires.five c.requires.chosen in
     let one = c.if-moves-eq1.false in
-    grows-then _ _ _ 2 1 _ (grows-then _ _ _ 1 1 2 c.in_ok-beside-in-len2-up.ensures.grows c.in_ok-at_first-in-len2-up.ensures.grows (omega arith)) c.fork-in-len2-up.ensures.grows (omega (arith, some, one))
-
-pub returns-clause-full : goal.returns-clause-full
-returns-clause-full g c =
-    let some = plan-some g.R.Rule.KIND c.args.moves (g.V.Seen.position c.args.view.now) c.args.p c.requires.lawful c.requires.five c.requires.chosen in
-    let one = c.if-moves-eq1.false in
-    let grown = grows-length _ _ 2 (grows-then _ _ _ 1 1 2 c.in_ok-beside-in-len2-up.ensures.grows c.in_ok-at_first-in-len2-up.ensures.grows (omega arith)) in
-    λ full. let many = c.fork-in-len2-up.ensures.full full in omega (arith, some, one, grown, many)
+    writes-then _ _ _ 2 1 _ _ _ (writes-then _ _ _ 1 1 2 _ _ c.in_ok-beside-in-len2-up.ensures.writes
+    c.in_ok-at_first-in-len2-up.ensures.writes (omega arith)) c.block_node-in-len2-up.ensures.writes (omega (arith, some, one))

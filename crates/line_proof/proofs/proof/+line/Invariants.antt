@@ -1,13 +1,14 @@
-use Rattle.std.proofs.Common.{◌≡◌, ◌+◌, ◌*◌, ◌≤◌, ◌++◌, length}
+use Rattle.std.proofs.Common.{◌≡◌, ◌+◌, ◌-◌, ◌*◌, ◌≤◌, ◌++◌}
 use Rattle.std.specs.Prelude.{IfSome}
 use Rattle.std.specs.List.{list_all, sum_by}
 use Rattle.game_rules.specs.Grid.{points_of}
 use Rattle.game_rules.specs.Play.{outcome, after}
 use Rattle.game_rules.specs.Games.{loses_or, if_goes_on}
+use Rattle.strategy_compiler.specs.Growth.{GrowsBy}
 use Rattle.strategy_compiler.specs.Nodes.{IsCompiled}
 use Rattle.line_proof.specs.Lines.{line_wins, line_tree, each_loses, behind_each}
 use Rattle.line_proof.specs.Doubles.{IsDouble}
-use Rattle.line_proof.specs.Replies.{Extends, AreAnswers, answered, going_on}
+use Rattle.line_proof.specs.Replies.{AreAnswers, answered, going_on}
 use Rattle.line_proof.proofs.proof.+line.Given as goal
 
 abbrev pub decreases-prove : goal.decreases-prove
@@ -43,8 +44,13 @@ abbrev pub invariant-answer_each-loop-q : goal.invariant-answer_each-loop-q
 invariant-answer_each-loop-q g l = record {
   same : g.V.Seen.position l.view ≡ g.V.Seen.position l.fn.view;
   compiled : IsCompiled l.compiler;
-  kept : Extends l.fn.compiler l.compiler;
-  few : length l.compiler + sum_by (λ q. if_goes_on (outcome g.R.Rule.KIND (g.V.Seen.position l.fn.view) q) (line_tree g.R.Rule.KIND l.threats l.moves (after (g.V.Seen.position l.fn.view) q))) l.q-iterator ≤ length l.fn.compiler + behind_each g.R.Rule.KIND (g.V.Seen.position l.fn.view) (line_tree g.R.Rule.KIND l.threats l.moves);
+  left : sum_by (λ q. if_goes_on (outcome g.R.Rule.KIND (g.V.Seen.position l.fn.view) q)
+      (line_tree g.R.Rule.KIND l.threats l.moves (after (g.V.Seen.position l.fn.view) q))) l.q-iterator ≤ behind_each g.R.Rule.KIND
+      (g.V.Seen.position l.fn.view) (line_tree g.R.Rule.KIND l.threats l.moves);
+  grows : GrowsBy l.fn.compiler l.compiler
+      (behind_each g.R.Rule.KIND (g.V.Seen.position l.fn.view) (line_tree g.R.Rule.KIND l.threats l.moves) - sum_by
+      (λ q. if_goes_on (outcome g.R.Rule.KIND (g.V.Seen.position l.fn.view) q)
+      (line_tree g.R.Rule.KIND l.threats l.moves (after (g.V.Seen.position l.fn.view) q))) l.q-iterator);
   hint : IfSome l.hint (IsDouble (g.V.Seen.position l.fn.view).width (g.V.Seen.position l.fn.view).height l.compiler);
   answers : AreAnswers g.R.Rule.KIND l.moves l.compiler (g.V.Seen.position l.fn.view) l.answers;
   rest : answered l.answers ++ going_on g.R.Rule.KIND (g.V.Seen.position l.fn.view) l.q-iterator ≡ going_on g.R.Rule.KIND (g.V.Seen.position l.fn.view) (points_of (g.V.Seen.position l.fn.view));
