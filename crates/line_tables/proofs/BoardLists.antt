@@ -1,8 +1,10 @@
 -- Lists with an item for each point of a board, in reading order.
-use Rattle.std.proofs.Common.{◌≡◌, ℕ, zero, suc, ◌+◌, ◌*◌, ◌≤◌, ◌<◌, Bool, true, false, ◌&&◌, List, [], ◌∷◌, ◌++◌, length, refl, ap, ◌∙◌, arith, nat_lt}
+use Rattle.std.proofs.Common.{◌≡◌, ℕ, zero, suc, ◌+◌, ◌*◌, ◌≤◌, ◌<◌, Bool, true, List, [], ◌∷◌, ◌++◌, length, refl, ap, ◌∙◌, arith, nat_lt}
 use Rattle.std.specs.Prelude.{Some, map, slice_get}
 use Rattle.std.specs.List.{flat_map, range_with_len, list_all}
+use Rattle.std.proofs.lemmas.Bool.{and_from, and_parts}
 use Rattle.std.proofs.lemmas.Bool.Decides.{nat_tests}
+use Rattle.std.proofs.lemmas.List.Folds.{list_all-append}
 use Rattle.std.proofs.Math.ListN.{length-append}
 use Rattle.std.proofs.lemmas.List.{length-map}
 use Rattle.std.proofs.lemmas.Option.{slice_get-map}
@@ -71,26 +73,26 @@ on_by b x y low high =
     let f : nat_lt y b.height ≡ true = grind (arith, nat_tests) in
     rw (e, f) refl
 
-all-append : (f : Point → Bool) (xs ys : List Point) → list_all f xs ≡ true → list_all f ys ≡ true → list_all f (xs ++ ys) ≡ true
-all-append f [] ys h k = k
-all-append f (x ∷ xs) ys h k = by_test (f x) h (all-append f xs ys) where
-  by_test : (r : Bool) → (r && list_all f xs) ≡ true → (list_all f xs ≡ true → list_all f ys ≡ true → list_all f (xs ++ ys) ≡ true) → (r && list_all f (xs ++ ys)) ≡ true
-  by_test true h more = more h k
-  by_test false h more = cc
+pub all-append : (f : Point → Bool) (xs ys : List Point) → list_all f xs ≡ true → list_all f ys ≡ true → list_all f (xs ++ ys) ≡ true
+all-append f xs ys h k = list_all-append f xs ys ∙ and_from (list_all f xs) _ h k
 
-row_on : (b : Grid) (y x n : ℕ) → y < b.height → x + n ≤ b.width → list_all (is_on b) (row_from y x n) ≡ true
-row_on b y x zero low high = refl
-row_on b y x (suc n) low high = rw (on_by b x y (omega arith) low) (row_on b y (x + 1) n low (omega arith))
+pub row_all : (f : Point → Bool) (y : ℕ) (x n : ℕ) → ((v : ℕ) → x ≤ v → v < x + n → f (record { x = v; y = y }) ≡ true)
+    → list_all f (row_from y x n) ≡ true
+row_all f y x zero h = refl
+row_all f y x (suc n) h = rw (h x (omega arith) (omega arith)) (row_all f y (x + 1) n (λ v low high. h v (omega arith) (omega arith)))
 
-rows_on : (b : Grid) (a n : ℕ) → a + n ≤ b.height → list_all (is_on b) (flat_map (λ y. row_from y 0 b.width) (range_with_len a n)) ≡ true
-rows_on b a zero high = refl
-rows_on b a (suc n) high = all-append (is_on b) (row_from a 0 b.width) _ (row_on b a 0 b.width (omega arith) (omega arith)) (rows_on b (a + 1) n (omega arith))
+abbrev pub rows : ℕ → ℕ → ℕ → List Point
+rows width a n = flat_map (λ y. row_from y 0 width) (range_with_len a n)
+
+pub rows_all : (f : Point → Bool) (width a n : ℕ) → ((v u : ℕ) → v < width → a ≤ u → u < a + n → f (record { x = v; y = u }) ≡ true)
+    → list_all f (rows width a n) ≡ true
+rows_all f width a zero h = refl
+rows_all f width a (suc n) h = all-append f (row_from a 0 width) _
+    (row_all f a 0 width (λ v low high. h v a (omega arith) (omega arith) (omega arith)))
+    (rows_all f width (a + 1) n (λ v u near low high. h v u near (omega arith) (omega arith)))
 
 pub points_on : (b : Grid) → list_all (is_on b) (points_of b) ≡ true
-points_on b = rows_on b 0 b.height (omega arith)
+points_on b = rows_all (is_on b) b.width 0 b.height (λ v u near low high. on_by b v u near (omega arith))
 
 pub first_on : (f : Point → Bool) (p : Point) (ps : List Point) → list_all f (p ∷ ps) ≡ true → (f p ≡ true) × (list_all f ps ≡ true)
-first_on f p ps h = by_test (f p) refl h where
-  by_test : (r : Bool) → f p ≡ r → (r && list_all f ps) ≡ true → (f p ≡ true) × (list_all f ps ≡ true)
-  by_test true e h = (e, h)
-  by_test false e h = cc
+first_on f p ps h = and_parts (f p) (list_all f ps) h
