@@ -23,7 +23,8 @@ use Rattle.line_tables.proofs.EndTests.{end_free, end_is, played_but_ends, playe
 
 -- ---- a list in which a point is told anew
 
-pub told_fits : (b : Grid) (points : List Point) (room : ℕ) (test : Point → Bool) → points ≡ filter test (points_of b) → b.width * b.height ≤ room → (q : Point) → is_on b q ≡ true → (v : Bool) → length (with_told q v points) ≤ room
+pub told_fits : (b : Grid) (points : List Point) (room : ℕ) (test : Point → Bool) → points ≡ filter test (points_of b)
+    → b.width * b.height ≤ room → (q : Point) → is_on b q ≡ true → (v : Bool) → length (with_told q v points) ≤ room
 told_fits b points room test listed fits q on v =
     let same : with_told q v points ≡ filter (told_of q v test) (points_of b) = ap (with_told q v) listed ∙ filter_told b q v test on in
     let long : length (with_told q v points) ≡ length (filter (told_of q v test) (points_of b)) = ap length same in
@@ -40,10 +41,17 @@ pub kept-some : (b : Grid) (o : Option Point) (q : Point) → kept_empty b o ≡
 kept-some b None q h = cc
 kept-some b (Some r) q h = let both = kept_by b r q (is_empty b r) refl h in (ap Some both.0, ap (is_empty b) (sym both.0) ∙ both.1)
 
+-- what the code found of an end
+pub end_kept : (b c : Grid) (s : Side) (d : Axis) (w : Way) (p : Point) (o u : Option Point) → o ≡ kept_empty b (run_end b s d w p)
+    → b ≡ c → o ≡ u → kept_empty c (run_end c s d w p) ≡ u
+end_kept b c s d w p o u e same h = sym (e ∙ ap (λ (g : Grid). kept_empty g (run_end g s d w p)) same) ∙ h
+
 -- where none is kept, no point is the end
-pub kept-none : (b : Grid) (s : Side) (d : Axis) (w : Way) (p : Point) → kept_empty b (run_end b s d w p) ≡ None → (q : Point) → is_end b s d w p q ≡ false
+pub kept-none : (b : Grid) (s : Side) (d : Axis) (w : Way) (p : Point) → kept_empty b (run_end b s d w p) ≡ None → (q : Point)
+    → is_end b s d w p q ≡ false
 kept-none b s d w p none q = false_from_ne_true _ (λ yes.
-    let some : kept_empty b (run_end b s d w p) ≡ Some q = ap (kept_empty b) (end_is b s d w p q yes) ∙ ap (λ r. cond r (Some q) None) (end_free b s d w p q yes) in
+    let some : kept_empty b (run_end b s d w p) ≡ Some q = ap (kept_empty b) (end_is b s d w p q yes)
+    ∙ ap (λ r. cond r (Some q) None) (end_free b s d w p q yes) in
     let differ : None ≡ Some q = sym none ∙ some in
     cc)
 
@@ -62,7 +70,8 @@ module _ (rule : RuleKind) (c : Grid) (s : Side) (p : Point) (ok : IsBoard c) (m
   pub came_fits : (t : Side) (points : List Point) (room : ℕ) → TellsSide rule (lift c p) t points room → (v : Bool) → length (with_told p v points) ≤ room
   came_fits t points room h v = told_fits (lift c p) points room (five rule (lift c p) t) h.told h.fits p on_p v
 
-  pub came_own : (points now : List Point) (room more : ℕ) → TellsSide rule (lift c p) s points room → now ≡ with_told p false points → room ≤ more → TellsButEnds rule c s p 0 now more
+  pub came_own : (points now : List Point) (room more : ℕ) → TellsSide rule (lift c p) s points room → now ≡ with_told p false points
+      → room ≤ more → TellsButEnds rule c s p 0 now more
   came_own points now room more h e low = subst (λ (g : Grid). TellsButEnds rule g s p 0 now more) back
       (played_but_ends rule (lift c p) s p (IsBoard-lift c p ok) bare now more (let fits = h.fits in omega arith)
       (e ∙ ap (with_told p false) h.told ∙ filter_told (lift c p) p false (five rule (lift c p) s) on_p))
@@ -80,7 +89,8 @@ module _ (rule : RuleKind) (b : Grid) (s : Side) (p : Point) (ok : IsBoard b) (e
   pub went_fits : (t : Side) (points : List Point) (room : ℕ) → TellsSide rule (put b s p) t points room → (v : Bool) → length (with_told p v points) ≤ room
   went_fits t points room h v = told_fits (put b s p) points room (five rule (put b s p) t) h.told h.fits p (is_empty-on b p empty) v
 
-  pub went_own : (points now : List Point) (room more : ℕ) → TellsSide rule (put b s p) s points room → now ≡ with_told p (five rule b s p) points → room ≤ more → TellsButEnds rule b s p 0 now more
+  pub went_own : (points now : List Point) (room more : ℕ) → TellsSide rule (put b s p) s points room
+      → now ≡ with_told p (five rule b s p) points → room ≤ more → TellsButEnds rule b s p 0 now more
   went_own points now room more h e low = undone_but_ends rule b s p ok empty now more (let fits = h.fits in omega arith)
       (e ∙ ap (with_told p (five rule b s p)) h.told ∙ filter_told b p (five rule b s p) (five rule (put b s p) s) (is_empty-on b p empty))
 

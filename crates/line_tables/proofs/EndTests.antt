@@ -1,11 +1,11 @@
 -- The list of the five points, end by end.
-use Rattle.std.proofs.Common.{◌≡◌, ◌≢◌, inl, inr, ℕ, ◌+◌, ◌*◌, ◌%◌, ◌≤◌, ◌<◌, Bool, true, false, cond, ◌&&◌, ◌||◌, List, [], refl, sym, ap, subst, ◌∙◌, arith}
-use Rattle.std.specs.Prelude.{Option, Some, None, nat_lt, ◌==◌, if◌then◌else◌}
+use Rattle.std.proofs.Common.{◌≡◌, ◌≢◌, inl, inr, ℕ, ◌+◌, ◌*◌, ◌%◌, ◌≤◌, ◌<◌, Bool, true, false, cond, List, [], refl, sym, ap, subst, ◌∙◌, arith}
+use Rattle.std.specs.Prelude.{Some, nat_lt, ◌==◌, if◌then◌else◌}
 use Rattle.std.specs.List.{list_any, filter}
 use Rattle.std.proofs.lemmas.Bool.{and_from, both_ways, cases_lt, false_from_ne_true}
 use Rattle.std.proofs.Math.Bool.{or-false}
 use Rattle.game_rules.specs.Grid.{Grid, IsBoard, is_on, is_empty, put, points_of, axes}
-use Rattle.game_rules.specs.Shapes.{five, wins_on, is_at}
+use Rattle.game_rules.specs.Shapes.{five, wins_on}
 use Rattle.game_rules.specs.Games.{five_points}
 use Rattle.game_rules.specs.Play.{other}
 use Rattle.game_rules.specs.Ways.{run_end}
@@ -76,24 +76,29 @@ module _ (rule : RuleKind) (b : Grid) (s : Side) (p : Point) (ok : IsBoard b) (e
   not_told v test q apart = ap (λ r. cond r v (test q)) (apart-is_same_point p q apart)
 
   -- a list of the five points of f is one of those of g, once the point is told, where all others are the same
-  told_all : (points : List Point) (f g : Grid) (t : Side) (v : Bool) → five rule g t p ≡ v → ((q : Point) → Apart p q → five rule f t q ≡ five rule g t q)
+  told_all : (points : List Point) (f g : Grid) (t : Side) (v : Bool) → five rule g t p ≡ v
+      → ((q : Point) → Apart p q → five rule f t q ≡ five rule g t q)
       → points ≡ filter (told_of p v (five rule f t)) (points_of b) → points ≡ filter (five rule g t) (points_of b)
-  told_all points f g t v here same listed = listed ∙ filter_agree b (told_of p v (five rule f t)) (five rule g t) (λ q on_q. elim (same_or_apart p q) [
-    | inl at ↦ subst (λ (r : Point). told_of p v (five rule f t) r ≡ five rule g t r) at (ap (λ r. cond r v (five rule f t p)) (is_same_point-itself p) ∙ sym here)
-    | inr apart ↦ not_told v (five rule f t) q apart ∙ same q apart
-  ])
+  told_all points f g t v here same listed = listed
+      ∙ filter_agree b (told_of p v (five rule f t)) (five rule g t) (λ q on_q. elim (same_or_apart p q) [
+        | inl at ↦ subst (λ (r : Point). told_of p v (five rule f t) r ≡ five rule g t r) at
+            (ap (λ r. cond r v (five rule f t p)) (is_same_point-itself p) ∙ sym here)
+        | inr apart ↦ not_told v (five rule f t) q apart ∙ same q apart
+      ])
 
   -- and but for the ends, where those are the same on all other axes
   told_but_ends : (points : List Point) (room : ℕ) (f g : Grid) (v : Bool) → five rule g s p ≡ v
       → ((q : Point) → Apart p q → ((d : Axis) (w : Way) → is_end g s d w p q ≡ false) → five rule f s q ≡ five rule g s q)
-      → ((d : Axis) (w : Way) (q : Point) → run_end g s d w p ≡ Some q → Apart p q × ((e : Axis) → e ≢ d → wins_on rule g s e q ≡ wins_on rule f s e q))
+      → ((d : Axis) (w : Way) (q : Point) → run_end g s d w p ≡ Some q
+      → Apart p q × ((e : Axis) → e ≢ d → wins_on rule g s e q ≡ wins_on rule f s e q))
       → g.width * g.height ≤ room → points ≡ filter (told_of p v (five rule f s)) (points_of g) → TellsButEnds rule g s p 0 points room
   told_but_ends points room f g v here away ends fits listed = record {
     test = told_of p v (five rule f s);
     listed = listed;
     fits = fits;
     right = λ q on_q none. elim (same_or_apart p q) [
-      | inl at ↦ subst (λ (r : Point). told_of p v (five rule f s) r ≡ five rule g s r) at (ap (λ r. cond r v (five rule f s p)) (is_same_point-itself p) ∙ sym here)
+      | inl at ↦ subst (λ (r : Point). told_of p v (five rule f s) r ≡ five rule g s r) at
+          (ap (λ r. cond r v (five rule f s p)) (is_same_point-itself p) ∙ sym here)
       | inr apart ↦ not_told v (five rule f s) q apart ∙ away q apart (λ d w. none d w (omega arith))
     ];
     only = λ d w q low end unlisted.
@@ -104,18 +109,23 @@ module _ (rule : RuleKind) (b : Grid) (s : Side) (p : Point) (ok : IsBoard b) (e
 
   -- ---- after the stone came, and after it went
 
-  pub played_but_ends : (points : List Point) (room : ℕ) → b.width * b.height ≤ room → points ≡ filter (told_of p false (five rule b s)) (points_of b) → TellsButEnds rule next s p 0 points room
+  pub played_but_ends : (points : List Point) (room : ℕ) → b.width * b.height ≤ room
+      → points ≡ filter (told_of p false (five rule b s)) (points_of b) → TellsButEnds rule next s p 0 points room
   played_but_ends points room = told_but_ends points room b next false (five_false rule next s p taken)
-      (λ q apart none. sym (away_same q apart (λ d w free e. no_end next s d w p q (none d w) (is_empty-put b s p q on apart ∙ free) (end_same b s p on d w ∙ e))))
+      (λ q apart none. sym (away_same q apart
+      (λ d w free e. no_end next s d w p q (none d w) (is_empty-put b s p q on apart ∙ free) (end_same b s p on d w ∙ e))))
       (λ d w q here. let end = sym (end_same b s p on d w) ∙ here in (end_apart b s p q d w end, end_wins_same d w q end))
 
-  pub undone_but_ends : (points : List Point) (room : ℕ) → b.width * b.height ≤ room → points ≡ filter (told_of p (five rule b s p) (five rule next s)) (points_of b) → TellsButEnds rule b s p 0 points room
+  pub undone_but_ends : (points : List Point) (room : ℕ) → b.width * b.height ≤ room
+      → points ≡ filter (told_of p (five rule b s p) (five rule next s)) (points_of b) → TellsButEnds rule b s p 0 points room
   undone_but_ends points room = told_but_ends points room next b (five rule b s p) refl
       (λ q apart none. away_same q apart (λ d w free. no_end b s d w p q (none d w) free))
       (λ d w q here. (end_apart b s p q d w here, λ e other_axis. sym (end_wins_same d w q here e other_axis)))
 
-  pub played_others : (points : List Point) → points ≡ filter (told_of p false (five rule b (other s))) (points_of b) → points ≡ five_points rule next (other s)
-  played_others points = told_all points b next (other s) false (five_false rule next (other s) p taken) (λ q apart. sym (five-other b s p ok empty rule q apart))
+  pub played_others : (points : List Point) → points ≡ filter (told_of p false (five rule b (other s))) (points_of b)
+      → points ≡ five_points rule next (other s)
+  played_others points = told_all points b next (other s) false (five_false rule next (other s) p taken)
+      (λ q apart. sym (five-other b s p ok empty rule q apart))
 
   pub undone_others : (points : List Point) → points ≡ filter (told_of p (five rule b (other s) p) (five rule next (other s))) (points_of b) → points ≡ five_points rule b (other s)
   undone_others points = told_all points next b (other s) (five rule b (other s) p) refl (λ q apart. five-other b s p ok empty rule q apart)
@@ -143,13 +153,16 @@ module _ (rule : RuleKind) (b : Grid) (s : Side) (p : Point) where
   -- where no end from the k-th on is left, the list is right
   pub all_told : (points : List Point) (room : ℕ) → TellsButEnds rule b s p 8 points room → TellsSide rule b s points room
   all_told points room h = record {
-    told = h.listed ∙ filter_agree b h.test (five rule b s) (λ q on_q. h.right q on_q (λ d w high. absurd (let few = (numbered d w).2 in omega (arith, few, high))));
+    told = h.listed ∙ filter_agree b h.test (five rule b s)
+        (λ q on_q. h.right q on_q (λ d w high. absurd (let few = (numbered d w).2 in omega (arith, few, high))));
     fits = h.fits;
   }
 
   module _ (d : Axis) (w : Way) (points : List Point) (room : ℕ) (h : TellsButEnds rule b s p (end_number d w) points room) where
     -- an end from there on is this one or one from the next on
-    next_on : (q : Point) → is_end b s d w p q ≡ false → ((e : Axis) (v : Way) → 1 + end_number d w ≤ end_number e v → is_end b s e v p q ≡ false) → (e : Axis) (v : Way) → end_number d w ≤ end_number e v → is_end b s e v p q ≡ false
+    next_on : (q : Point) → is_end b s d w p q ≡ false
+        → ((e : Axis) (v : Way) → 1 + end_number d w ≤ end_number e v → is_end b s e v p q ≡ false) → (e : Axis) (v : Way)
+        → end_number d w ≤ end_number e v → is_end b s e v p q ≡ false
     next_on q here away e v low = elim (cases_lt (end_number d w) (end_number e v)) [
       | inl later ↦ away e v (omega arith)
       | inr same ↦
@@ -162,7 +175,8 @@ module _ (rule : RuleKind) (b : Grid) (s : Side) (p : Point) where
     -- where nothing is listed, only the axis decides
     pub end_decides : (q : Point) → is_empty b q ≡ true → run_end b s d w p ≡ Some q → points ≡ [] → five rule b s q ≡ wins_on rule b s d q
     end_decides q free here none = h.only d w q (omega arith) (end_yes b s d w p q free here)
-        (false_from_ne_true _ (λ yes. both_ways _ (filter-none h.test (points_of b) (sym h.listed ∙ none)) (points-found b h.test q (is_empty-on b q free) yes)))
+        (false_from_ne_true _ (λ yes. both_ways _ (filter-none h.test (points_of b) (sym h.listed ∙ none))
+        (points-found b h.test q (is_empty-on b q free) yes)))
 
     -- where there is no such end, nothing has to be told
     pub none_told : ((q : Point) → is_end b s d w p q ≡ false) → TellsButEnds rule b s p (1 + end_number d w) points room
@@ -175,7 +189,8 @@ module _ (rule : RuleKind) (b : Grid) (s : Side) (p : Point) where
     }
 
     -- where there is one, it is told
-    pub end_told : (q : Point) → is_empty b q ≡ true → run_end b s d w p ≡ Some q → (now : List Point) (more : ℕ) → now ≡ with_told q (five rule b s q) points → room ≤ more → TellsButEnds rule b s p (1 + end_number d w) now more
+    pub end_told : (q : Point) → is_empty b q ≡ true → run_end b s d w p ≡ Some q → (now : List Point) (more : ℕ)
+        → now ≡ with_told q (five rule b s q) points → room ≤ more → TellsButEnds rule b s p (1 + end_number d w) now more
     end_told q free here now more e low = record {
       test = told_of q (five rule b s q) h.test;
       listed = e ∙ ap (with_told q (five rule b s q)) h.listed ∙ filter_told b q (five rule b s q) h.test (is_empty-on b q free);

@@ -1,11 +1,11 @@
 -- A stone that is in no four on an axis has no end there that wins, where its side had no five point before it.
 use Rattle.std.proofs.Common.{◌≡◌, ◌≢◌, inl, inr, ℕ, zero, suc, ◌+◌, ◌-◌, ◌≤◌, ◌<◌, Bool, true, false, cond, ◌&&◌, ◌||◌, not, refl, sym, ap, ◌∙◌, arith, nat_eq}
 use Rattle.std.specs.Prelude.{Option, Some, None, count_by}
-use Rattle.std.specs.List.{sum_by, list_all, range_with_len}
+use Rattle.std.specs.List.{sum_by, range_with_len}
 use Rattle.std.proofs.lemmas.Bool.{cases_lt, false_from_ne_true, or_right}
 use Rattle.std.proofs.lemmas.Bool.Decides.{nat_tests}
 use Rattle.game_rules.specs.Grid.{Grid, IsBoard, is_on, is_empty, put, along}
-use Rattle.game_rules.specs.Shapes.{row_wins, stone_at, run_of, wins_on, wins_at, five, fours_of, place_stone, place_wins}
+use Rattle.game_rules.specs.Shapes.{row_wins, stone_at, wins_on, wins_at, fours_of, place_stone, place_wins}
 use Rattle.game_rules.specs.Games.{has_five}
 use Rattle.game_rules.specs.Ways.{opposite, stones_towards, go, run_end}
 use Rattle.game_rules.specs.declared.RuleKind.{RuleKind}
@@ -142,19 +142,23 @@ module _ (rule : RuleKind) (b : Grid) (s : Side) (p : Point) (ok : IsBoard b) (e
       wins_here : (i : ℕ) → along d p i 4 ≡ Some q → place_wins rule next s d p i ≡ true
       wins_here i e = ap (wins_at rule next s d) e ∙ win
 
-  contradiction : (w : Way) (q : Point) (end : run_end b s d w p ≡ Some q) (on_q : is_on b q ≡ true) → wins_on rule next s d q ≡ true → stones_towards w b s d p + stones_towards (opposite w) b s d p ≤ 3 → 3 ≤ stones_towards w b s d p + stones_towards (opposite w) b s d p + stones_towards w b s d q → fours_of rule next s d p ≡ 0 → ⊥
+  contradiction : (w : Way) (q : Point) (end : run_end b s d w p ≡ Some q) (on_q : is_on b q ≡ true) → wins_on rule next s d q ≡ true
+      → stones_towards w b s d p + stones_towards (opposite w) b s d p ≤ 3
+      → 3 ≤ stones_towards w b s d p + stones_towards (opposite w) b s d p + stones_towards w b s d q → fours_of rule next s d p ≡ 0 → ⊥
   contradiction Ahead q end on_q win short long none =
       no_window (place_stone next s d p) (place_wins rule next s d p) (no_fours Ahead q end on_q win short long none)
       (stones_towards Behind b s d p) (stones_towards Behind b s d p + stones_towards Ahead b s d p + 1) (omega arith) (omega arith) (omega arith) (λ same. absurd (omega arith))
       (λ i small other. run_stone Ahead q end on_q (i + 4 - stones_towards Behind b s d p) 4 (omega arith) (omega arith) (λ same. other (omega arith)))
       (wins_here Ahead q end on_q win short long none (stones_towards Behind b s d p + stones_towards Ahead b s d p + 1 + 4 - stones_towards Behind b s d p)
-      (go-same Ahead d p (stones_towards Behind b s d p + stones_towards Ahead b s d p + 1 + 4 - stones_towards Behind b s d p) 4 (1 + stones_towards Ahead b s d p) 0 (omega arith) ∙ end))
+      (go-same Ahead d p (stones_towards Behind b s d p + stones_towards Ahead b s d p + 1 + 4 - stones_towards Behind b s d p) 4
+      (1 + stones_towards Ahead b s d p) 0 (omega arith) ∙ end))
   contradiction Behind q end on_q win short long none = elim (cases_lt (stones_towards Behind b s d p + stones_towards Ahead b s d p) 3) [
     | inl gap ↦ no_window (place_stone next s d p) (place_wins rule next s d p) (no_fours Behind q end on_q win short long none)
         (4 - stones_towards Ahead b s d p) (3 - stones_towards Behind b s d p - stones_towards Ahead b s d p) (omega arith) (omega arith) (omega arith) (λ same. absurd (omega arith))
         (λ i small other. run_stone Behind q end on_q 4 (i + 4 - (4 - stones_towards Ahead b s d p)) (omega arith) (omega arith) (λ same. other (omega arith)))
         (wins_here Behind q end on_q win short long none (3 - stones_towards Behind b s d p - stones_towards Ahead b s d p + 4 - (4 - stones_towards Ahead b s d p))
-        (go-same Behind d p 4 (3 - stones_towards Behind b s d p - stones_towards Ahead b s d p + 4 - (4 - stones_towards Ahead b s d p)) (1 + stones_towards Behind b s d p) 0 (omega arith) ∙ end))
+        (go-same Behind d p 4 (3 - stones_towards Behind b s d p - stones_towards Ahead b s d p + 4 - (4 - stones_towards Ahead b s d p))
+        (1 + stones_towards Behind b s d p) 0 (omega arith) ∙ end))
     | inr row ↦ no_row (place_stone next s d p) (place_wins rule next s d p) (no_fours Behind q end on_q win short long none)
         (stones_towards Behind b s d p) (omega arith)
         (λ i small. run_stone Behind q end on_q 4 (i + 4 - stones_towards Behind b s d p) (omega arith) (omega arith) (λ same. absurd (omega arith)))
@@ -164,13 +168,17 @@ module _ (rule : RuleKind) (b : Grid) (s : Side) (p : Point) (ok : IsBoard b) (e
 
   module _ (bare : has_five rule b s ≡ false) (none : fours_of rule next s d p ≡ 0) where
     short : (w : Way) → row_wins rule s (1 + stones_towards w b s d p + stones_towards (opposite w) b s d p) ≡ false
-    short w = sym (wins_on-ways rule b s w d p ok ∙ ap (λ r. r && row_wins rule s (1 + stones_towards w b s d p + stones_towards (opposite w) b s d p)) empty) ∙ no_win rule b s d p bare
+    short w = sym (wins_on-ways rule b s w d p ok
+        ∙ ap (λ r. r && row_wins rule s (1 + stones_towards w b s d p + stones_towards (opposite w) b s d p)) empty)
+        ∙ no_win rule b s d p bare
 
     loses : (w : Way) (q : Point) → run_end b s d w p ≡ Some q → wins_on rule next s d q ≡ true → ⊥
     loses w q end win =
         let joins : (is_empty b q && row_wins rule s (1 + (1 + stones_towards w b s d p + stones_towards (opposite w) b s d p) + stones_towards w b s d q)) ≡ true = sym (end_joins b s p ok empty w d q end rule) ∙ win in
         let on_q : is_on b q ≡ true = is_empty-on b q (and_left (is_empty b q) _ joins) in
-        let lengths = run_short rule s (1 + stones_towards w b s d p + stones_towards (opposite w) b s d p) (1 + (1 + stones_towards w b s d p + stones_towards (opposite w) b s d p) + stones_towards w b s d q) (and_right (is_empty b q) _ joins) (short w) (omega arith) in
+        let lengths = run_short rule s (1 + stones_towards w b s d p + stones_towards (opposite w) b s d p)
+        (1 + (1 + stones_towards w b s d p + stones_towards (opposite w) b s d p) + stones_towards w b s d q)
+        (and_right (is_empty b q) _ joins) (short w) (omega arith) in
         let low = lengths.0 in
         let high = lengths.1 in
         contradiction w q end on_q win (omega (arith, low)) (omega (arith, high)) none

@@ -1,5 +1,5 @@
 -- A lawful position with the five points of both sides, and how a stone changes them.
-use Rattle.std.specs.Prelude.{◌≡◌, ℕ, ◌+◌, ◌*◌, ◌≤◌, Bool, true, false, ◌&&◌, if◌then◌else◌, List, Option, Some, None}
+use Rattle.std.specs.Prelude.{◌≡◌, ℕ, ◌*◌, ◌≤◌, Bool, true, false, ◌&&◌, List}
 use Rattle.std.specs.List.{filter}
 use Rattle.game_rules.specs.Grid.{Grid, is_on, is_empty, points_of}
 use Rattle.game_rules.specs.Shapes.{five, wins_on, is_at}
