@@ -119,6 +119,7 @@ def main():
     words.add_argument("--rule", default="freestyle"), words.add_argument("--size", default="15")
     words.add_argument("--white", action="store_true"), words.add_argument("file", nargs="?")
     game = begun(words.parse_args())
+    sys.stdin.reconfigure(errors="replace")
     game.show()
     goes_on = True
     while goes_on:
