@@ -78,7 +78,7 @@ class Repository:
         if there is None:
             return None
         if path.startswith("rust."):
-            return self.of_rust(path.removeprefix("rust."), there)
+            return self.of_rust(path[len("rust.") :], there)
         return resolve_spec(self.crates, path, there)
 
     def in_clause(self, crate, text, scope, signature=""):

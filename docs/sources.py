@@ -188,7 +188,7 @@ class File:
                     part = " ".join(part.split()).replace("{ ", "{ ").replace(", }", " }")
                     is_private = is_named and ":" in part.split("{")[0] and not part.startswith("pub ")
                     if not is_private and is_named:
-                        part = part.removeprefix("pub ")
+                        part = re.sub(r"^pub ", "", part)
                         yield re.match(r"\w+", part).group(), part, self.doc(start, at)
                 start = at + 1
                 at += 1
