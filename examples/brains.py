@@ -14,7 +14,7 @@ class Brain:
     def __init__(self, command, seconds=60):
         self.command, self.seconds, self.kept = command, seconds, b""
         try:
-            self.running = subprocess.Popen(command, stdin=subprocess.PIPE, stdout=subprocess.PIPE)
+            self.running = subprocess.Popen(command, bufsize=0, stdin=subprocess.PIPE, stdout=subprocess.PIPE)
         except OSError as error:
             raise Wrong(f"{' '.join(map(str, command))} cannot be started: {error.strerror}")
 
@@ -22,7 +22,6 @@ class Brain:
         """Sends lines that have no answer."""
         try:
             self.running.stdin.write("".join(f"{line}\r\n" for line in lines).encode())
-            self.running.stdin.flush()
         except BrokenPipeError:
             raise Wrong(self.gone())
 
@@ -34,7 +33,7 @@ class Brain:
             left = end - time.monotonic()
             if left <= 0 or not select.select([self.running.stdout], [], [], left)[0]:
                 raise Wrong(f"no answer to {lines[-1]} within {self.seconds} s")
-            piece = self.running.stdout.read1(4096)
+            piece = self.running.stdout.read(4096)
             if not piece:
                 raise Wrong(self.gone())
             self.kept += piece
