@@ -1,5 +1,5 @@
 -- Each point that makes a five point is a gap from some stone, so the gaps from all stones are enough.
-use Rattle.std.proofs.Common.{◌≡◌, ◌⊎◌, inl, inr, ◌+◌, ◌≤◌, Bool, true, false, ◌||◌, refl, sym, ap, subst, ◌∙◌, arith, List, [], ◌∷◌, map}
+use Rattle.std.proofs.Common.{◌≡◌, ◌⊎◌, inl, inr, ◌+◌, ◌≤◌, Bool, true, false, ◌||◌, refl, sym, ap, subst, ◌∙◌, List, [], ◌∷◌, map}
 use Rattle.std.specs.List.{filter, list_any}
 use Rattle.game_rules.specs.Grid.{Grid, IsBoard, is_on, is_empty, put, points_of}
 use Rattle.game_rules.specs.Shapes.{is_same_point, stones_ahead, stones_behind, wins_on, five}
@@ -33,7 +33,8 @@ module _ (rule : RuleKind) (b : Grid) (s : Side) (q : Point) (ok : IsBoard b) (e
       let free = empty-before b s q r ok (is_empty-on b q empty) (and_left (is_empty (put b s q) r) _ wins) in
       let run : InRun (put b s q) s d r q = in_run rule b s q r d ok empty none wins in
       let long : 5 ≤ 1 + stones_ahead (put b s q) s d r + stones_behind (put b s q) s d r =
-      row_wins-five rule s _ (and_right (is_empty (put b s q) r) _ (sym (wins_on-stones rule (put b s q) s d r (IsBoard-put b s q ok)) ∙ wins)) in
+      row_wins-five rule s _
+      (and_right (is_empty (put b s q) r) _ (sym (wins_on-stones rule (put b s q) s d r (IsBoard-put b s q ok)) ∙ wins)) in
       let stone = stone-in_run b s d q r ok empty free.1 run long in
       (stone.0, (stone.1, gap-from_runs rule b s d stone.0 q r ok stone.1 empty free.1 stone.2 run long))
 

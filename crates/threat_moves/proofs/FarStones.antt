@@ -2,8 +2,8 @@
 -- decided by the places of the three's line.
 use Rattle.std.proofs.Common.{◌≡◌, ◌≢◌, inl, inr, ℕ, ◌+◌, ◌-◌, ◌≤◌, ◌<◌, Bool, true, false, ◌&&◌, not, refl, sym, ap, ◌∙◌, arith, nat_eq}
 use Rattle.std.specs.Prelude.{Option, Some, None, is_none, nat_le}
-use Rattle.std.proofs.lemmas.Bool.Decides.{nat_tests}
-use Rattle.game_rules.specs.Grid.{Grid, IsBoard, is_empty, is_stone_of, stone_of, put, along, points_of, holds}
+use Rattle.std.proofs.lemmas.Bool.{eq-eqb, eqb-true, le-leb}
+use Rattle.game_rules.specs.Grid.{Grid, IsBoard, is_empty, put, along, points_of, holds}
 use Rattle.game_rules.specs.Shapes.{is_line_three_point, five}
 use Rattle.game_rules.specs.Play.{foul_of, black_foul, has_fouls, other}
 use Rattle.game_rules.specs.Ways.{towards, opposite, stones_towards, go}
@@ -17,11 +17,11 @@ use Rattle.game_rules.specs.declared.Axis.TheVariants.{Row, Column, Down, Up}
 use Rattle.game_rules.specs.declared.Point.{Point}
 use Rattle.game_rules.specs.declared.Way.{Way}
 use Rattle.game_rules.specs.declared.Way.TheVariants.{Ahead, Behind}
-use Rattle.game_rules.proofs.Boards.{Apart, and_left, and_right, is_empty-on, is_empty-put, same_or_apart, other-other, stone_of-other}
+use Rattle.game_rules.proofs.Boards.{Apart, and_left, and_right, is_empty-on, is_empty-put, same_or_apart, other-other}
 use Rattle.game_rules.proofs.Fives.{five-other}
 use Rattle.game_rules.proofs.Lines.{OnLine, along-OnLine, along-same}
 use Rattle.game_rules.proofs.Points.{any_witness, points-found}
-use Rattle.game_rules.proofs.Positions.{IsBoard-put, ahead-other, behind-other}
+use Rattle.game_rules.proofs.Positions.{IsBoard-put}
 use Rattle.game_rules.proofs.OneLine.{holds-put_others, towards_alike}
 use Rattle.row_shapes.specs.Threes.{wins_past, is_open_four}
 use Rattle.row_shapes.proofs.ThreePoints.{three-open, three_empty, three_first, three_near}
@@ -36,35 +36,30 @@ use Rattle.threat_moves.proofs.FewerEmpties.{white-no_foul}
 -- a point on the eleven places of the line round g passes the test of coordinates
 pub place-near : (d : Axis) (g q : Point) (i : ℕ) → i < 11 → along d g i 5 ≡ Some q → is_near d g q ≡ true
 place-near d g q i low here = by_axis d (along-OnLine d g i 5 q here) where
+  all_three : (r t u : Bool) → r ≡ true → t ≡ true → u ≡ true → (r && t && u) ≡ true
+  all_three r t u e f h = rw (e, f, h) refl
+
   by_axis : (d : Axis) → OnLine d g i 5 q → is_near d g q ≡ true
   by_axis Row h =
       let x = h.0 in
       let y = h.1 in
-      let a : nat_eq q.y g.y ≡ true = grind (arith, nat_tests) in
-      let b : nat_le q.x (g.x + 5) ≡ true = grind (arith, nat_tests) in
-      let c : nat_le g.x (q.x + 5) ≡ true = grind (arith, nat_tests) in
-      rw (a, b, c) refl
+      all_three (nat_eq q.y g.y) (nat_le q.x (g.x + 5)) (nat_le g.x (q.x + 5)) (eq-eqb _ _ (omega arith)) (le-leb _ _ (omega arith))
+      (le-leb _ _ (omega arith))
   by_axis Column h =
       let x = h.0 in
       let y = h.1 in
-      let a : nat_eq q.x g.x ≡ true = grind (arith, nat_tests) in
-      let b : nat_le q.y (g.y + 5) ≡ true = grind (arith, nat_tests) in
-      let c : nat_le g.y (q.y + 5) ≡ true = grind (arith, nat_tests) in
-      rw (a, b, c) refl
+      all_three (nat_eq q.x g.x) (nat_le q.y (g.y + 5)) (nat_le g.y (q.y + 5)) (eq-eqb _ _ (omega arith)) (le-leb _ _ (omega arith))
+      (le-leb _ _ (omega arith))
   by_axis Down h =
       let x = h.0 in
       let y = h.1 in
-      let a : nat_eq (q.x + g.y) (g.x + q.y) ≡ true = grind (arith, nat_tests) in
-      let b : nat_le q.y (g.y + 5) ≡ true = grind (arith, nat_tests) in
-      let c : nat_le g.y (q.y + 5) ≡ true = grind (arith, nat_tests) in
-      rw (a, b, c) refl
+      all_three (nat_eq (q.x + g.y) (g.x + q.y)) (nat_le q.y (g.y + 5)) (nat_le g.y (q.y + 5)) (eq-eqb _ _ (omega arith))
+      (le-leb _ _ (omega arith)) (le-leb _ _ (omega arith))
   by_axis Up h =
       let x = h.0 in
       let y = h.1 in
-      let a : nat_eq (q.x + q.y) (g.x + g.y) ≡ true = grind (arith, nat_tests) in
-      let b : nat_le q.y (g.y + 5) ≡ true = grind (arith, nat_tests) in
-      let c : nat_le g.y (q.y + 5) ≡ true = grind (arith, nat_tests) in
-      rw (a, b, c) refl
+      all_three (nat_eq (q.x + q.y) (g.x + g.y)) (nat_le q.y (g.y + 5)) (nat_le g.y (q.y + 5)) (eq-eqb _ _ (omega arith))
+      (le-leb _ _ (omega arith)) (le-leb _ _ (omega arith))
 
 -- ---- a stone of the other side on an empty point
 
@@ -109,7 +104,7 @@ module _ (rule : RuleKind) (b : Grid) (s : Side) (d : Axis) (p z : Point) (ok : 
       by_sum : (r : Bool) → nat_eq (fore + back) 3 ≡ r → is_open_four rule later s d p w fore back ≡ is_open_four rule b s d p w fore back
       by_sum false e = rw e refl
       by_sum true e =
-          let four : fore + back ≡ 3 = grind (arith, nat_tests) in
+          let four : fore + back ≡ 3 = eqb-true _ _ e in
           let front = past_same w (towards w d p (1 + fore)) (not_towards w (1 + fore) (omega arith)) in
           let rear = past_same (opposite w) (towards (opposite w) d p (1 + back)) (not_towards (opposite w) (1 + back) (omega arith)) in
           rw (front, rear) refl

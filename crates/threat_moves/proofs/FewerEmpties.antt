@@ -8,7 +8,7 @@ use Rattle.std.specs.List.{list_any, filter, sum_by, count_by}
 use Rattle.std.proofs.lemmas.Bool.{or_right}
 use Rattle.std.proofs.lemmas.Bool.Decides.{nat_tests}
 use Rattle.game_rules.specs.Grid.{Grid, IsBoard, is_on, is_empty, put, along, axes, points_of, holds}
-use Rattle.game_rules.specs.Shapes.{row_wins, stones_ahead, stones_behind, run_of, line_bound, stone_at, wins_on, wins_at, place_stone, place_wins, fours_of, is_line_three_point, is_line_three_at, is_three_point, three_points_of, five}
+use Rattle.game_rules.specs.Shapes.{row_wins, run_of, stone_at, wins_on, wins_at, place_stone, place_wins, fours_of, is_line_three_point, is_line_three_at, is_three_point, three_points_of, five}
 use Rattle.game_rules.specs.Play.{first_foul, is_three, stone_foul, black_foul, black_foul_within}
 use Rattle.game_rules.specs.Ways.{opposite, towards, stones_towards, go}
 use Rattle.game_rules.specs.declared.RuleKind.{RuleKind}
@@ -19,7 +19,7 @@ use Rattle.game_rules.specs.declared.Axis.TheVariants.{Row, Column, Down, Up}
 use Rattle.game_rules.specs.declared.Point.{Point}
 use Rattle.game_rules.specs.declared.Way.{Way}
 use Rattle.game_rules.specs.declared.Way.TheVariants.{Ahead, Behind}
-use Rattle.game_rules.proofs.Boards.{Apart, and_left, and_right, is_empty-on, is_empty-put, same_or_apart, empty_holds, holds-put_other, holds-put_same, prefix_len-same, run_of-put, empties_of-put}
+use Rattle.game_rules.proofs.Boards.{Apart, and_left, and_right, is_empty-on, is_empty-put, same_or_apart, holds-put_other, holds-put_same, empties_of-put}
 use Rattle.game_rules.proofs.Positions.{IsBoard-put, holds-other}
 use Rattle.game_rules.proofs.Rows.{any_found, any_none}
 use Rattle.game_rules.proofs.OneLine.{empty-before, towards_alike, wins_alike}

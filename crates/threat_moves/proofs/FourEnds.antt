@@ -1,5 +1,5 @@
 -- A four is filled at one of the two ends of its run, and the run has three other stones within reach.
-use Rattle.std.proofs.Common.{◌≡◌, inl, inr, ℕ, ◌+◌, ◌≤◌, ◌<◌, Bool, true, false, cond, ◌||◌, refl, sym, ap, ◌∙◌, arith}
+use Rattle.std.proofs.Common.{◌≡◌, inl, inr, ◌≤◌, ◌<◌, Bool, true, false, cond, ◌||◌, refl, sym, ap, ◌∙◌, arith}
 use Rattle.std.specs.Prelude.{Option, Some, None, is_some}
 use Rattle.std.specs.List.{filter}
 use Rattle.std.proofs.lemmas.Bool.{both_ways, false_from_ne_true, or_left, or_right, or_cases}
@@ -86,7 +86,8 @@ module _ (rule : RuleKind) (b : Grid) (s : Side) (d : Axis) (g : Point) (ok : Is
         let empty = wins_empty wins in
         let long = row_wins-five rule s _ (and_right (is_empty b c) _ (sym (wins_on-ways rule b s w d c ok) ∙ wins)) in
         let before = run_before_end b s w d g c mine here (is_empty-on b c empty) in
-        let past : stones_past w b s d (run_end b s d w g) ≡ stones_towards w b s d c = ap (stones_past w b s d) here ∙ ap (λ r. cond r (stones_towards w b s d c) 0) empty in
+        let past : stones_past w b s d (run_end b s d w g) ≡ stones_towards w b s d c = ap (stones_past w b s d) here
+        ∙ ap (λ r. cond r (stones_towards w b s d c) 0) empty in
         omega (arith, long, before, past)
 
     few-fills : stones_in_reach b s d g < 2 → fills_five rule b s d g c ≡ false

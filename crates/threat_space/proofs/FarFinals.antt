@@ -1,6 +1,6 @@
 -- Where a side without fouls has no five point, a final point depends on a gain only if both are on one line: the stone on the gain
 -- plays no part in the runs through any other point.
-use Rattle.std.proofs.Common.{◌≡◌, suc, ◌-◌, ◌≤◌, ◌<◌, Bool, true, false, cond, ◌&&◌, ◌||◌, not, List, [], ◌∷◌, length, get_or, refl, sym, ap, subst, ◌∙◌, arith, nat_le}
+use Rattle.std.proofs.Common.{◌≡◌, suc, ◌-◌, ◌<◌, Bool, true, false, cond, ◌&&◌, ◌||◌, not, List, [], ◌∷◌, length, get_or, refl, sym, ap, subst, ◌∙◌, arith, nat_le}
 use Rattle.std.specs.Prelude.{is_none}
 use Rattle.std.proofs.lemmas.Bool.{false_from_ne_true}
 use Rattle.std.proofs.lemmas.Bool.Decides.{nat_tests}
@@ -51,11 +51,14 @@ module _ (rule : RuleKind) (b : Grid) (s : Side) (g f : Point) (ok : IsBoard b) 
   double_kept : is_double_point rule b s f ≡ true → is_double_point rule less s f ≡ true
   unfolding is_double_point
   double_kept h =
-      let two : nat_le 2 (length (five_points rule (put b s f) s)) ≡ true = and_right (is_empty b f && not (five rule b s f) && is_none (foul_of rule b s f)) _ h in
+      let two : nat_le 2 (length (five_points rule (put b s f) s)) ≡ true = and_right
+      (is_empty b f && not (five rule b s f) && is_none (foul_of rule b s f)) _ h in
       let more = more_fives rule b less s f keeps none open_f in
       let still : nat_le 2 (length (five_points rule (put less s f) s)) ≡ true = grind (arith, nat_tests) in
       let no_foul : is_none (foul_of rule less s f) ≡ true = rw free refl in
-      all_four (is_empty less f) (five rule less s f) (is_none (foul_of rule less s f)) (nat_le 2 (length (five_points rule (put less s f) s))) (open_kept rule b less s f keeps none open_f) (no_five_kept rule b less s f keeps none open_f) no_foul still
+      all_four (is_empty less f) (five rule less s f) (is_none (foul_of rule less s f))
+      (nat_le 2 (length (five_points rule (put less s f) s))) (open_kept rule b less s f keeps none open_f)
+      (no_five_kept rule b less s f keeps none open_f) no_foul still
 
   final_less : is_final_point rule b s f ≡ true → is_final_point rule less s f ≡ true
   unfolding is_final_point

@@ -1,6 +1,6 @@
 -- A threat keeps the lines on which its gain is not, but for what it fills. So where a point makes two five points after it, and is
 -- on no line with its gain, it did so before.
-use Rattle.std.proofs.Common.{◌≡◌, ℕ, suc, ◌+◌, ◌-◌, ◌≤◌, ◌<◌, Bool, true, false, cond, ◌&&◌, ◌||◌, List, [], ◌∷◌, ◌++◌, length, get_or, refl, sym, ap, subst, ◌∙◌, arith, nat_le}
+use Rattle.std.proofs.Common.{◌≡◌, suc, ◌-◌, ◌<◌, Bool, true, false, cond, ◌||◌, List, [], ◌∷◌, ◌++◌, length, get_or, refl, sym, ap, subst, ◌∙◌, arith, nat_le}
 use Rattle.std.specs.Prelude.{Result, Ok, Err, IfOk}
 use Rattle.std.specs.List.{filter}
 use Rattle.std.proofs.lemmas.Bool.{and_from, or_right}
@@ -42,21 +42,25 @@ module _ (s : Side) (f : Point) where
   costs-kept b [] ok = keeps_itself b s f ok
   costs-kept b (p ∷ ps) ok =
       let one = cost-kept b p ok in
-      keeps-then (with_stones (with_stone b (other s) p) (other s) ps) (with_stone b (other s) p) b s f (costs-kept (with_stone b (other s) p) ps one.board) one
+      keeps-then (with_stones (with_stone b (other s) p) (other s) ps) (with_stone b (other s) p) b s f
+      (costs-kept (with_stone b (other s) p) ps one.board) one
 
   played-kept : (b : Grid) (t : Threat) → IsBoard b → is_aligned t.gain f ≡ false → KeepsLines (played b s t) b s f
   unfolding played
   played-kept b t ok off =
       let one = gain-kept b t.gain ok off in
-      keeps-then (with_stones (with_stone b s t.gain) (other s) t.costs) (with_stone b s t.gain) b s f (costs-kept (with_stone b s t.gain) t.costs one.board) one
+      keeps-then (with_stones (with_stone b s t.gain) (other s) t.costs) (with_stone b s t.gain) b s f
+      (costs-kept (with_stone b s t.gain) t.costs one.board) one
 
 -- so a point that makes two five points after a threat, and is on no line with its gain, did so before it
-pair_kept : (rule : RuleKind) (b c : Grid) (s : Side) (f : Point) → KeepsLines c b s f → has_five rule c s ≡ false → is_empty c f ≡ true → is_several (in_short (five_points rule (put c s f) s)) ≡ true → may_make_two rule b s f ≡ true
+pair_kept : (rule : RuleKind) (b c : Grid) (s : Side) (f : Point) → KeepsLines c b s f → has_five rule c s ≡ false → is_empty c f ≡ true
+    → is_several (in_short (five_points rule (put c s f) s)) ≡ true → may_make_two rule b s f ≡ true
 pair_kept rule b c s f keeps none open_f h =
     let two : nat_le 2 (length (five_points rule (put c s f) s)) ≡ true = sym (several (five_points rule (put c s f) s)) ∙ h in
     let more = more_fives rule c b s f keeps none open_f in
     let still : nat_le 2 (length (five_points rule (put b s f) s)) ≡ true = grind (arith, nat_tests) in
-    and_from (is_empty b f) _ (open_kept rule c b s f keeps none open_f) (or_right (has_five rule b s) _ (several (five_points rule (put b s f) s) ∙ still))
+    and_from (is_empty b f) _ (open_kept rule c b s f keeps none open_f)
+    (or_right (has_five rule b s) _ (several (five_points rule (put b s f) s) ∙ still))
 
 -- ---- lists of such points
 
@@ -64,7 +68,8 @@ pair_kept rule b c s f keeps none open_f h =
 pub far-pairs : (rule : RuleKind) (b : Grid) (s : Side) (t : Threat) (far : List Point) → IsBoard b → has_fouls rule s ≡ true → HasPairsOf rule b s far → HasFarPairs rule (played b s t) s t.gain far
 far-pairs rule b s t far ok fouls pairs none p off two =
     let open_p : is_empty (played b s t) p ≡ true = and_left (is_empty (played b s t) p) _ two in
-    let here : is_several (in_short (five_points rule (put (played b s t) s p) s)) ≡ true = second (has_five rule (played b s t) s) _ none (and_right (is_empty (played b s t) p) _ two) in
+    let here : is_several (in_short (five_points rule (put (played b s t) s p) s)) ≡ true = second (has_five rule (played b s t) s) _ none
+    (and_right (is_empty (played b s t) p) _ two) in
     pairs fouls p (pair_kept rule b (played b s t) s p (played-kept s p b t ok off) none open_p here) where
       second : (r t : Bool) → r ≡ false → (r || t) ≡ true → t ≡ true
       second r t e h = sym (ap (λ v. v || t) e) ∙ h
