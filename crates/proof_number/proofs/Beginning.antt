@@ -12,6 +12,7 @@ use Rattle.game_rules.specs.declared.Point.{Point}
 use Rattle.game_rules.proofs.Boards.{and_left}
 use Rattle.game_rules.proofs.Points.{filter-none, filter-passes}
 use Rattle.std.specs.List.{list_all}
+use Rattle.position_table.proofs.Remembering.{true-none}
 use Rattle.strategy_graph.specs.declared.Node.{Node}
 use Rattle.strategy_compiler.specs.Nodes.{IsCompiled}
 use Rattle.strategy_compiler.specs.declared.wins.WrittenWin.{WrittenWin}
@@ -24,14 +25,13 @@ use Rattle.threat_game.specs.ThreatGame.{threat_tree}
 use Rattle.proof_number.specs.declared.notes.Note.{Note}
 use Rattle.proof_number.specs.declared.search.Search.{Search}
 use Rattle.threat_game.specs.Wins.{IsThreatWin}
-use Rattle.threat_game.specs.Growth.{GrowsBy}
+use Rattle.strategy_compiler.specs.Growth.{GrowsBy}
 use Rattle.proof_number.specs.Notes.{no_note, note_at, win_of}
 use Rattle.proof_number.specs.GameTrees.{CanGrow, GameTree, IsGameTree, TellsTruly, WinsAt, board_at, left_at}
 use Rattle.proof_number.specs.Remembered.{IsTrueOf}
 use Rattle.proof_number.specs.Searches.{AreWritten, IsCounted, IsNew, IsNotedWin, IsSettledAt, Searches, attacks_behind, behind_at, behind_leaves, defences_behind, game_of, is_attack, noted_won, sum_below, unwritten}
 use Rattle.proof_number.proofs.GameBoards.{board-root}
-use Rattle.threat_game.proofs.GrowthLaws.{grows-length}
-use Rattle.position_table.proofs.Remembering.{true-none}
+use Rattle.strategy_compiler.proofs.Growing.{grows-length}
 use Rattle.proof_number.proofs.Settling.{one_where}
 use Rattle.proof_number.proofs.Steps.{win-some}
 use Rattle.proof_number.proofs.Sums.{sum-suc, sum-zero}

@@ -19,10 +19,10 @@ use Rattle.proof_number.specs.declared.notes.Note.{Note}
 use Rattle.threat_game.specs.declared.replies.Child.{Child}
 use Rattle.threat_game.specs.Wins.{IsThreatWin}
 use Rattle.proof_number.specs.Children.{AreSettled, IsSettledChild, child_at, child_note, child_numbers, no_child}
-use Rattle.threat_game.specs.Growth.{GrowsBy}
+use Rattle.strategy_compiler.specs.Growth.{GrowsBy}
 use Rattle.proof_number.specs.Notes.{no_note, note_at, win_of}
 use Rattle.threat_game.specs.Replies.{is_open, moves_for, nodes_for}
-use Rattle.threat_game.proofs.GrowthLaws.{grows-length, grows-then}
+use Rattle.strategy_compiler.proofs.Growing.{grows-length, grows-then}
 use Rattle.proof_number.proofs.Steps.{win-some}
 
 -- what is noted first of a child

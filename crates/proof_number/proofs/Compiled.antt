@@ -1,15 +1,17 @@
 -- A proved node of the attacker is compiled, in the words of the contracts.
-use Rattle.std.proofs.Common.{◌≡◌, inl, inr, ℕ, zero, suc, ◌&&◌, nat_eq, ◌+◌, ◌<◌, ◌≤◌, true, sym, ap, subst, ◌∙◌, arith, List, [], ◌∷◌, ◌++◌, append-nil, map, length, take, drop}
-use Rattle.std.specs.Prelude.{All, Some, slice_get}
+use Rattle.std.proofs.Common.{◌≡◌, ℕ, zero, suc, ◌&&◌, nat_eq, ◌+◌, ◌<◌, ◌≤◌, true, sym, ap, subst, ◌∙◌, arith, List, ◌++◌, map, length, take, drop}
+use Rattle.std.specs.Prelude.{All, Ok}
 use Rattle.std.proofs.lemmas.Bool.{eq-eqb}
 use Rattle.std.proofs.lemmas.List.{get_or-map, length-map}
 use Rattle.game_rules.specs.declared.RuleKind.{RuleKind}
 use Rattle.game_rules.specs.declared.Point.{Point}
 use Rattle.strategy_graph.specs.declared.Node.{Node}
 use Rattle.strategy_graph.specs.declared.TheConstants.{MAX_NODES}
-use Rattle.strategy_graph.specs.Tables.{answer_at, greatest, is_rising}
+use Rattle.strategy_graph.specs.Tables.{greatest, is_rising}
 use Rattle.strategy_compiler.specs.declared.wins.WrittenWin.{WrittenWin}
-use Rattle.strategy_compiler.specs.Nodes.{IsCompiled, PutsIn, answering_node}
+use Rattle.strategy_compiler.specs.Nodes.{IsCompiled}
+use Rattle.strategy_compiler.specs.Growth.{Writes}
+use Rattle.strategy_compiler.specs.Forks.{WinsByAnswers}
 use Rattle.strategy_compiler.specs.Wins.{IsWrittenWin}
 use Rattle.proof_tree.specs.Combining.{settled_numbers}
 use Rattle.proof_tree.specs.Trees.{IsChild, IsOnWayUp, Tree, link_at, numbers_at}
@@ -30,11 +32,6 @@ use Rattle.proof_number.proofs.Sums.{sum-less, sum-suc, sum-zero}
 sum-zeros : (n : ℕ) → sum_below n (λ i. 0) ≡ 0
 sum-zeros zero = sum-zero (λ i. 0)
 sum-zeros (suc n) = let a = sum-suc n (λ i. 0) in let rest = sum-zeros n in omega (arith, a, rest)
-
--- what is put in is added at the end, at most one node
-pub puts-more : (c : List Node) (n : Node) (d : List Node) → PutsIn c n d → (more : List Node) × (d ≡ c ++ more) × (length more ≤ 1)
-puts-more c n d (inl there) = ([], there.1 ∙ sym (append-nil c), omega arith)
-puts-more c n d (inr fresh) = (n ∷ [], fresh.1, omega arith)
 
 module _ (rule : RuleKind) (s : Search) (t : Tree) (c : List Node) (node : ℕ) (searches : Searches rule s t c (IsOnWayUp t.links node)) (inside : node < length t.links)
     (attack : (link_at t.links node).kind ≡ Attack) (proved : numbers_at t.numbers node ≡ settled_numbers true) (unwon : (note_at s.notes.items node).moves ≡ 0) where
@@ -76,24 +73,25 @@ module _ (rule : RuleKind) (s : Search) (t : Tree) (c : List Node) (node : ℕ) 
       pub compile-below : All (λ r. r.next < length c) (map answer_of kids)
       compile-below = subst (λ (ns : List Note). All (λ r. r.next < length c) (map answer_of ns)) (sym are) (kids-below rule s t c node h inside attack proved unwon j child nothing)
 
-      module _ (d : List Node) (p : Point) (move : (note_at s.notes.items j).at ≡ p) (put : PutsIn c (answering_node p (map answer_of kids)) d) (compiled : IsCompiled d) (win : WrittenWin)
-          (at : slice_get d win.node ≡ Some (answering_node p (map answer_of kids))) (answered : All (λ r. answer_at d win.node r.at ≡ Some r.next) (map answer_of kids)) (moves : win.moves ≡ greatest (map (λ n. n.moves) kids) + 1) where
+      module _ (d : List Node) (p : Point) (move : (note_at s.notes.items j).at ≡ p) (win : WrittenWin) (writes : Writes c d 1 (Ok win))
+          (wins : WinsByAnswers c p (map answer_of kids) d win.node)
+          (moves : win.moves ≡ greatest (map (λ n. n.moves) kids) + 1) where
         added : (more : List Node) × (d ≡ c ++ more) × (length more ≤ 1)
-        added = puts-more c (answering_node p (map answer_of kids)) d put
+        added = (writes.grows.added, writes.grows.is, writes.grows.few)
+
+        compiled : IsCompiled d
+        compiled = writes.compiled
 
         pub compile-kept : (more : List Node) × (d ≡ c ++ more)
-        compile-kept = let a = added in (a.0, a.1)
+        compile-kept = (writes.grows.added, writes.grows.is)
 
         pub compile-won : IsWrittenWin rule (left_at (game_of rule s t).left node) (board_at (game_of rule s t) node) d win
         compile-won =
-            let a = added in
             let K : List Note = take (link_at t.links j).count (drop (link_at t.links j).first s.notes.items) in
             let same : record { node = win.node; moves = greatest (map (λ (n : Note). n.moves) K) + 1 } ≡ win = λ i. record { node = win.node; moves = (ap (λ (ns : List Note). greatest (map (λ (n : Note). n.moves) ns) + 1) (sym are) ∙ sym moves) i } in
             subst (λ (w : WrittenWin). IsWrittenWin rule (left_at (game_of rule s t).left node) (board_at (game_of rule s t) node) d w) same
-            (subst (λ (x : List Node). IsWrittenWin rule (left_at (game_of rule s t).left node) (board_at (game_of rule s t) node) x (record { node = win.node; moves = greatest (map (λ (n : Note). n.moves) K) + 1 })) (sym a.1)
-            (node-win rule s t c node h inside attack proved unwon j child nothing a.0 win.node p move (subst IsCompiled a.1 compiled)
-            (subst (λ (x : List Node). slice_get x win.node ≡ Some (answering_node p (map answer_of K))) a.1 (subst (λ (ns : List Note). slice_get d win.node ≡ Some (answering_node p (map answer_of ns))) are at))
-            (subst (λ (x : List Node). All (λ r. answer_at x win.node r.at ≡ Some r.next) (map answer_of K)) a.1 (subst (λ (ns : List Note). All (λ r. answer_at d win.node r.at ≡ Some r.next) (map answer_of ns)) are answered))))
+            (node-win rule s t c node h inside attack proved unwon j child nothing d win.node p move
+            (subst (λ (ns : List Note). WinsByAnswers c p (map answer_of ns) d win.node) are wins))
 
         pub compile-few : win.moves < 256
         compile-few = let within = compile-won.within in let left = own-left in omega (arith, within, left)
@@ -128,5 +126,5 @@ module _ (rule : RuleKind) (s : Search) (t : Tree) (c : List Node) (node : ℕ) 
       omega (arith, none, less)
 
   -- where the compiler is full, more positions are counted than it has room for
-  pub compile-full : length c ≡ MAX_NODES → MAX_NODES < s.before + s.attacked
+  pub compile-full : MAX_NODES < length c + 1 → MAX_NODES < s.before + s.attacked
   compile-full full = let few = h.few in let one = sum-one in omega (arith, few, one, full)

@@ -1,6 +1,6 @@
 -- A proved node of the attacker is compiled: the nodes behind its proved move have wins, and the search goes on with one more.
 use Rattle.std.proofs.Common.{◌≡◌, ◌≢◌, ◌⊎◌, inl, inr, ℕ, zero, suc, ◌+◌, ◌<◌, ◌≤◌, Bool, true, false, ◌&&◌, refl, sym, ap, subst, ◌∙◌, arith, List, ◌++◌, map, length, take, drop, get_or, nat_eq}
-use Rattle.std.specs.Prelude.{All, Some, slice_get}
+use Rattle.std.specs.Prelude.{All}
 use Rattle.std.proofs.lemmas.Bool.{cases_eq, eq-eqb, ne_eqb}
 use Rattle.std.proofs.lemmas.List.{get_or-map, get_or-take, get_or-drop, get_or-set_same, get_or-set_other, length-map, length-take, length-drop, length-append, take-map, drop-map}
 use Rattle.std.proofs.Math.Seq.{map-set_same}
@@ -12,12 +12,11 @@ use Rattle.game_rules.specs.declared.Point.{Point}
 use Rattle.game_rules.specs.declared.Outcome.TheVariants.{GoesOn}
 use Rattle.strategy_graph.specs.declared.Node.{Node}
 use Rattle.strategy_graph.specs.declared.Reply.{Reply}
-use Rattle.strategy_graph.specs.Tables.{NamesLower, answer_at, greatest, is_rising}
+use Rattle.strategy_graph.specs.Tables.{NamesLower, greatest, is_rising}
 use Rattle.strategy_graph.proofs.Filling.{IsTable-lower}
 use Rattle.strategy_compiler.specs.declared.wins.WrittenWin.{WrittenWin}
-use Rattle.strategy_compiler.specs.Nodes.{IsCompiled, answering_node}
+use Rattle.strategy_compiler.specs.Nodes.{IsCompiled}
 use Rattle.strategy_compiler.specs.Wins.{IsWrittenWin}
-use Rattle.strategy_compiler.proofs.Winning.{growth_keeps-wins}
 use Rattle.proof_tree.specs.Combining.{combined, is_settled, other_kind, settled_numbers, total}
 use Rattle.proof_tree.specs.Trees.{IsChild, IsLinked, IsOnWayUp, Tree, ancestor, children_of, link_at, numbers_at}
 use Rattle.proof_tree.specs.declared.Kind.{Kind}
@@ -32,6 +31,7 @@ use Rattle.proof_number.specs.GameTrees.{AreAllReplies, GameTree, HasTried, IsGa
 use Rattle.threat_game.specs.ThreatGame.{move_at, nowhere}
 use Rattle.proof_number.specs.Searches.{AreWritten, IsAbove, IsCounted, IsNotedWin, IsSearching, KeepsTree, game_of, is_attack, noted_won, sum_below, unwritten}
 use Rattle.proof_number.proofs.GameTruths.{IsChildOf, child-of, each-zero, settled-proved}
+use Rattle.strategy_compiler.specs.Forks.{WinsByAnswers}
 use Rattle.proof_number.proofs.Records.{written-node}
 use Rattle.proof_number.proofs.Remembering.{memo-grown}
 use Rattle.proof_number.proofs.Rising.{noted-rising}
@@ -163,25 +163,38 @@ module _ (rule : RuleKind) (s : Search) (t : Tree) (c : List Node) (node : ℕ) 
         subst (λ (r : Reply). r.next < length c) (sym at) (kids-win k (omega (arith, long, low))).in_compiler
 
     -- the node with these answers is a win at the node
-    module _ (more : List Node) (i : ℕ) (p : Point) (move : (note_at s.notes.items j).at ≡ p) (compiled : IsCompiled (c ++ more))
-        (at : slice_get (c ++ more) i ≡ Some (answering_node p (map answer_of (take (link_at t.links j).count (drop (link_at t.links j).first s.notes.items)))))
-        (answered : All (λ r. answer_at (c ++ more) i r.at ≡ Some r.next) (map answer_of (take (link_at t.links j).count (drop (link_at t.links j).first s.notes.items)))) where
-      pub node-win : IsWrittenWin rule (left_at (game_of rule s t).left node) (board_at (game_of rule s t) node) (c ++ more) (record { node = i; moves = greatest (map (λ m. m.moves) (take (link_at t.links j).count (drop (link_at t.links j).first s.notes.items))) + 1 })
-      node-win =
-          let b : Grid = board_at (game_of rule s t) node in
-          let moved : move_at (map (λ n. n.at) s.notes.items) j ≡ p = get_or-map (λ (n : Note). n.at) s.notes.items j no_note nowhere (let long = notes-long in let f = facts.inside in omega (arith, long, f)) ∙ move in
-          let on : outcome rule b p ≡ GoesOn = ap (outcome rule b) (sym moved) ∙ facts.on in
-          let there : board_at (game_of rule s t) j ≡ after b p = facts.board ∙ ap (after b) moved in
-          let left : suc (left_at (game_of rule s t).left j) ≡ left_at (game_of rule s t).left node = ap (λ (q : Kind). left_before q (left_at (game_of rule s t).left j)) (sym defends) ∙ facts.fewer in
-          let saves = none-saves in
-          let all = kids-all in
-          subst (λ (n : ℕ). IsWrittenWin rule n b (c ++ more) (record { node = i; moves = greatest (map (λ m. m.moves) (take (link_at t.links j).count (drop (link_at t.links j).first s.notes.items))) + 1 })) left
-          (written-node rule b p on (c ++ more) (IsTable-lower (c ++ more) compiled.table) (take (link_at t.links j).count (drop (link_at t.links j).first s.notes.items)) (left_at (game_of rule s t).left j)
-          (subst (λ (d : Grid). map (λ n. n.at) (take (link_at t.links j).count (drop (link_at t.links j).first s.notes.items)) ≡ replies_at rule d) there all)
-          (λ q. subst (λ (d : Grid). LosesOr (outcome rule d q) (Unit {0})) there (saves.none_saves q))
-          (λ k low. subst (λ (d : Grid). IsWrittenWin rule (left_at (game_of rule s t).left j) (after d (note_at (take (link_at t.links j).count (drop (link_at t.links j).first s.notes.items)) k).at) (c ++ more) (win_of (note_at (take (link_at t.links j).count (drop (link_at t.links j).first s.notes.items)) k))) there
-          (growth_keeps-wins rule (left_at (game_of rule s t).left j) (after (board_at (game_of rule s t) j) (note_at (take (link_at t.links j).count (drop (link_at t.links j).first s.notes.items)) k).at) c more (win_of (note_at (take (link_at t.links j).count (drop (link_at t.links j).first s.notes.items)) k)) lower (kids-win k low)))
-          i at answered)
+    module _ (d : List Node) (i : ℕ) (p : Point) (move : (note_at s.notes.items j).at ≡ p)
+        (wins : WinsByAnswers c p (map answer_of (take (link_at t.links j).count (drop (link_at t.links j).first s.notes.items))) d i)
+      where
+        pub node-win : IsWrittenWin rule (left_at (game_of rule s t).left node) (board_at (game_of rule s t) node) d
+            (record {
+              node = i;
+              moves = greatest
+                  (map (λ m. m.moves) (take (link_at t.links j).count (drop (link_at t.links j).first s.notes.items))) + 1;
+            })
+        node-win =
+            let b : Grid = board_at (game_of rule s t) node in
+            let moved : move_at (map (λ n. n.at) s.notes.items) j ≡ p = get_or-map (λ (n : Note). n.at) s.notes.items j no_note nowhere (let long = notes-long in let f = facts.inside in omega (arith, long, f)) ∙ move in
+            let on : outcome rule b p ≡ GoesOn = ap (outcome rule b) (sym moved) ∙ facts.on in
+            let there : board_at (game_of rule s t) j ≡ after b p = facts.board ∙ ap (after b) moved in
+            let left : suc (left_at (game_of rule s t).left j) ≡ left_at (game_of rule s t).left node = ap (λ (q : Kind). left_before q (left_at (game_of rule s t).left j)) (sym defends) ∙ facts.fewer in
+            let saves = none-saves in
+            subst (λ (n : ℕ). IsWrittenWin rule n b d
+            (record {
+              node = i;
+              moves = greatest
+                  (map (λ m. m.moves) (take (link_at t.links j).count (drop (link_at t.links j).first s.notes.items))) + 1;
+            })) left
+            (written-node rule b p on c d (take (link_at t.links j).count (drop (link_at t.links j).first s.notes.items))
+            (left_at (game_of rule s t).left j)
+            (subst (λ (e : Grid). map (λ n. n.at)
+            (take (link_at t.links j).count (drop (link_at t.links j).first s.notes.items)) ≡ replies_at rule e) there kids-all)
+            (λ q. subst (λ (e : Grid). LosesOr (outcome rule e q) (Unit {0})) there (saves.none_saves q))
+            (λ k low. subst (λ (e : Grid). IsWrittenWin rule (left_at (game_of rule s t).left j)
+            (after e (note_at (take (link_at t.links j).count (drop (link_at t.links j).first s.notes.items)) k).at) c
+            (win_of (note_at (take (link_at t.links j).count (drop (link_at t.links j).first s.notes.items)) k))) there
+            (kids-win k low))
+            i wins)
 
   -- ---- the search with one win more
 

@@ -38,7 +38,7 @@ use Rattle.threat_game.specs.declared.replies.Judged.{Judged}
 use Rattle.threat_game.specs.declared.replies.Judged.TheVariants.{Five, Double as DoubleWins, Last, Open}
 use Rattle.proof_number.specs.declared.search.Search.{Search}
 use Rattle.proof_number.specs.Children.{AreSettled, IsSettledChild, child_at, no_child, open_numbers}
-use Rattle.threat_game.specs.Growth.{GrowsBy}
+use Rattle.strategy_compiler.specs.Growth.{GrowsBy}
 use Rattle.proof_number.specs.Notes.{no_note, note_at, win_of}
 use Rattle.threat_game.specs.Replies.{AreChildren, HasEscape, IsChild, IsJudged, counted_for, is_open, moves_for, nodes_for, replies_at}
 use Rattle.proof_number.specs.GameTrees.{AreAllReplies, CanGrow, GameTree, HasTried, TellsTruly, WinsAt, board_at, left_at}

@@ -1,42 +1,33 @@
 -- The win of a proved node of the attacker, made of those after each reply to a proved move.
-use Rattle.std.proofs.Common.{◌≡◌, ℕ, zero, suc, ◌+◌, ◌≤◌, ◌<◌, Bool, true, false, cond, ◌&&◌, not, refl, sym, ap, subst, ◌∙◌, arith, List, [], ◌∷◌, ◌++◌, map, length, get_or, nat_eq, Contains}
-use Rattle.std.specs.Prelude.{Option, Some, None, All, slice_get}
-use Rattle.std.specs.Option.{option_and_then, option_eq}
-use Rattle.std.specs.List.{list_all, find, filter, AllByRecursion}
-use Rattle.std.proofs.lemmas.List.{get_or-map, length-map}
-use Rattle.std.proofs.lemmas.Option.{slice_get_within}
-use Rattle.game_rules.specs.Grid.{Grid, is_on, points_of}
-use Rattle.game_rules.specs.Play.{outcome, after, goes_on}
+use Rattle.std.proofs.Common.{◌≡◌, ℕ, zero, suc, ◌+◌, ◌<◌, Bool, true, false, ◌&&◌, refl, sym, ap, subst, ◌∙◌, arith, List, [], ◌∷◌, map, length, get_or, drop}
+use Rattle.std.specs.List.{list_all, list_any, AllByRecursion}
+use Rattle.std.proofs.lemmas.List.{length-take, length-drop}
+use Rattle.game_rules.specs.Grid.{Grid, points_of}
+use Rattle.game_rules.specs.Shapes.{is_same_point}
+use Rattle.game_rules.specs.Play.{outcome, after}
 use Rattle.game_rules.specs.Games.{LosesOr}
 use Rattle.game_rules.specs.declared.RuleKind.{RuleKind}
-use Rattle.game_rules.specs.declared.Outcome.{Outcome}
-use Rattle.game_rules.specs.declared.Outcome.TheVariants.{Refused, Wins as WinsNow, Fouls, Draws, GoesOn}
+use Rattle.game_rules.specs.declared.Outcome.TheVariants.{GoesOn}
 use Rattle.game_rules.specs.declared.Point.{Point}
-use Rattle.game_rules.proofs.Points.{filter-passes}
+use Rattle.game_rules.proofs.Points.{filter-passes, points-found, is_same_point-itself}
 use Rattle.game_rules.proofs.Positions.{GoesOn-on}
-use Rattle.game_rules.proofs.Outcomes.{goes_on-is, LosesOr-on}
+use Rattle.game_rules.proofs.Outcomes.{goes_on-is}
 use Rattle.strategy_graph.specs.declared.Node.{Node}
-use Rattle.strategy_graph.specs.declared.Reply.{Reply}
-use Rattle.strategy_graph.specs.Tables.{NamesLower, answer, answer_at, answers_of, depth, greatest, is_winning, named, node_depth, rest_nodes}
-use Rattle.strategy_graph.specs.Acceptance.{Accepted, Answered}
-use Rattle.strategy_graph.proofs.Answering.{answer-greatest}
-use Rattle.strategy_graph.proofs.Fuel.{depth-step}
-use Rattle.strategy_graph.proofs.Steps.{accepted-by-replies}
-use Rattle.strategy_compiler.specs.Nodes.{answering_node, brief_answers, commonest_next, rest_of}
-use Rattle.strategy_compiler.specs.Wins.{IsWrittenWin, StaysOnBoard}
+use Rattle.strategy_graph.specs.Tables.{depth, greatest, start_depth}
+use Rattle.strategy_compiler.specs.Starts.{answers_alone}
+use Rattle.strategy_compiler.specs.Wins.{IsWrittenWin}
+use Rattle.strategy_compiler.specs.Forks.{AnswersWin, WinsByAnswers}
+use Rattle.strategy_compiler.proofs.Forks.{IsAnswer, alone-deep, answer-by-win, answers-win, mapped-all, still-found}
 use Rattle.proof_tree.specs.Combining.{combined, least, settled_numbers}
 use Rattle.proof_tree.specs.Trees.{IsChild, IsTree, Tree, children_of, link_at, numbers_at}
 use Rattle.proof_tree.specs.declared.Kind.{Kind}
 use Rattle.proof_tree.specs.declared.Kind.TheVariants.{Attack}
 use Rattle.proof_tree.specs.declared.Link.{Link}
 use Rattle.proof_tree.specs.declared.Numbers.{Numbers}
-use Rattle.std.proofs.Common.{drop}
-use Rattle.std.proofs.lemmas.List.{length-take, length-drop}
 use Rattle.proof_number.specs.declared.notes.Note.{Note}
 use Rattle.threat_game.specs.Replies.{replies_at}
 use Rattle.proof_number.specs.Notes.{answer_of, no_note, note_at, win_of}
-use Rattle.proof_number.proofs.GameTruths.{least-zero, child-numbers, reply-listed}
-use Rattle.threat_game.proofs.WrittenLaws.{stays-by, stays-before}
+use Rattle.proof_number.proofs.GameTruths.{least-zero, child-numbers}
 
 -- ---- a proved child
 
@@ -66,40 +57,14 @@ at_index P d [] h k low = absurd (omega arith)
 at_index P d (x ∷ xs) h zero low = h.0
 at_index P d (x ∷ xs) h (suc k) low = at_index P d xs h.1 k (omega arith)
 
-all_mapped : {X Y : Type 0} (Q : Y → Type 0) (h : X → Y) (xs : List X) → AllByRecursion (λ x. Q (h x)) xs → AllByRecursion Q (map h xs)
-all_mapped Q h [] a = tt
-all_mapped Q h (x ∷ xs) a = (a.0, all_mapped Q h xs a.1)
+deep-notes : (d : ℕ → ℕ) (ns : List Note) → AllByRecursion (λ n. d n.node ≡ n.moves) ns
+    → greatest (map d (map (λ r. r.next) (map answer_of ns))) ≡ greatest (map (λ n. n.moves) ns)
+deep-notes d [] h = refl
+deep-notes d (n ∷ ns) h = let here = h.0 in let rest = deep-notes d ns h.1 in omega (arith, here, rest)
 
-all_filter : {X : Type 0} (Q : X → Type 0) (f : X → Bool) (xs : List X) → AllByRecursion Q xs → AllByRecursion Q (filter f xs)
-all_filter Q f [] a = tt
-all_filter Q f (x ∷ xs) a = by_test (f x) (all_filter Q f xs a.1) where
-  by_test : (r : Bool) → AllByRecursion Q (filter f xs) → AllByRecursion Q (cond r (x ∷ filter f xs) (filter f xs))
-  by_test true k = (a.0, k)
-  by_test false k = k
-
-found_all : (P : ℕ → Type 0) (f : ℕ → Bool) (js : List ℕ) (j : ℕ) → AllByRecursion P js → find f js ≡ Some j → P j
-found_all P f [] j a h = cc
-found_all P f (k ∷ js) j a h = by_test (f k) h (found_all P f js j a.1) where
-  by_test : (r : Bool) → cond r (Some k) (find f js) ≡ Some j → (find f js ≡ Some j → P j) → P j
-  by_test true h rest = let same : k ≡ j = cc in subst P same a.0
-  by_test false h rest = rest h
-
-all_map_next : (P : ℕ → Type 0) (rs : List Reply) (js : List ℕ) → AllByRecursion (λ r. P r.next) rs → AllByRecursion P js → AllByRecursion P (map (λ r. r.next) rs ++ js)
-all_map_next P [] js a c = c
-all_map_next P (r ∷ rs) js a c = (a.0, all_map_next P rs js a.1 c)
-
-greatest-all : (d : ℕ → ℕ) (k : ℕ) (js : List ℕ) → AllByRecursion (λ j. d j ≤ k) js → greatest (map d js) ≤ k
-greatest-all d k [] a = omega arith
-greatest-all d k (j ∷ js) a = let low = a.0 in let rest = greatest-all d k js a.1 in omega (arith, low, rest)
-
-greatest-notes : (k : ℕ) (ns : List Note) → AllByRecursion (λ n. n.moves ≤ k) ns → greatest (map (λ n. n.moves) ns) ≤ k
-greatest-notes k [] a = omega arith
-greatest-notes k (n ∷ ns) a = let low = a.0 in let rest = greatest-notes k ns a.1 in omega (arith, low, rest)
-
-below-greatest : (ns : List Note) (k : ℕ) → k < length ns → (note_at ns k).moves ≤ greatest (map (λ n. n.moves) ns)
-below-greatest [] k low = absurd (omega arith)
-below-greatest (n ∷ ns) zero low = omega arith
-below-greatest (n ∷ ns) (suc k) low = let rest = below-greatest ns k (omega arith) in omega (arith, rest)
+note-points : (ns : List Note) → map (λ r. r.at) (map answer_of ns) ≡ map (λ n. n.at) ns
+note-points [] = refl
+note-points (n ∷ ns) = ap (λ (ps : List Point). n.at ∷ ps) (note-points ns)
 
 list-passes : (f : Point → Bool) (ns : List Note) → list_all f (map (λ n. n.at) ns) ≡ true → AllByRecursion (λ n. f n.at ≡ true) ns
 list-passes f [] h = tt
@@ -108,94 +73,39 @@ list-passes f (n ∷ ns) h = by_test (f n.at) refl h (list-passes f ns) where
   by_test true e rest later = (e, later rest)
   by_test false e rest later = cc
 
-no-win-rest : (o : Option ℕ) → is_winning (rest_of o) ≡ false
-no-win-rest None = refl
-no-win-rest (Some j) = refl
-
 -- ---- the node with these answers
 
-module _ (rule : RuleKind) (b : Grid) (p : Point) (on : outcome rule b p ≡ GoesOn) (t : List Node) (lower : NamesLower t) (kids : List Note) (n : ℕ)
-    (all : map (λ m. m.at) kids ≡ replies_at rule (after b p)) (none_saves : (q : Point) → LosesOr (outcome rule (after b p) q) (Unit {0}))
-    (wins : (k : ℕ) → k < length kids → IsWrittenWin rule n (after (after b p) (note_at kids k).at) t (win_of (note_at kids k)))
-    (i : ℕ) (at : slice_get t i ≡ Some (answering_node p (map answer_of kids))) (answered : All (λ r. answer_at t i r.at ≡ Some r.next) (map answer_of kids)) where
-  node : Node
-  node = answering_node p (map answer_of kids)
-
-  -- what holds of the node of each answer holds of each node that is named
-  named-all : (P : ℕ → Type 0) → ((k : ℕ) → k < length kids → P (note_at kids k).node) → AllByRecursion P (named (answers_of (answering_node p (map answer_of kids))))
-  named-all P each =
-      let nodes : AllByRecursion (λ m. P m.node) kids = by_index (λ m. P m.node) no_note kids each in
-      let next : AllByRecursion (λ r. P r.next) (map answer_of kids) = all_mapped (λ r. P r.next) answer_of kids nodes in
-      let numbers : AllByRecursion P (map (λ r. r.next) (map answer_of kids)) = all_mapped P (λ r. r.next) (map answer_of kids) next in
-      all_map_next P (brief_answers (map answer_of kids)).replies (rest_nodes (brief_answers (map answer_of kids)).rest)
-      (all_filter (λ r. P r.next) (λ r. not (option_eq nat_eq (Some r.next) (commonest_next (map answer_of kids)))) (map answer_of kids) next)
-      (by_rest (commonest_next (map answer_of kids)) (λ j e. found_all P _ (map (λ r. r.next) (map answer_of kids)) j numbers e)) where
-        by_rest : (o : Option ℕ) → ((j : ℕ) → o ≡ Some j → P j) → AllByRecursion P (rest_nodes (rest_of o))
-        by_rest None f = tt
-        by_rest (Some j) f = (f j refl, tt)
-
-  -- each answer is the one to its reply
-  kid-answer : (k : ℕ) → k < length kids → answer (answers_of (answering_node p (map answer_of kids))) (note_at kids k).at ≡ Some (note_at kids k).node
-  kid-answer k low =
-      let here : get_or (map answer_of kids) k (answer_of no_note) ≡ answer_of (note_at kids k) = get_or-map answer_of kids k no_note (answer_of no_note) low in
-      let said = answered k (answer_of no_note) (let long = length-map kids answer_of in omega (arith, long, low)) in
-      let told : answer_at t i (note_at kids k).at ≡ Some (note_at kids k).node = subst (λ (r : Reply). answer_at t i r.at ≡ Some r.next) here said in
-      sym (ap (λ (o : Option Node). option_and_then (λ m. answer (answers_of m) (note_at kids k).at) o) at) ∙ told
-
-  -- a reply that goes on is that of one of the notes
-  kid-of : (q : Point) → outcome rule (after b p) q ≡ GoesOn → (k : ℕ) × (k < length kids) × ((note_at kids k).at ≡ q)
-  kid-of q go =
-      let listed : Contains (map (λ m. m.at) kids) q = subst (λ (ps : List Point). Contains ps q) (sym all) (reply-listed rule (after b p) q go) in
-      let long = length-map kids (λ (m : Note). m.at) in
-      let inside = listed.1 in
-      let low : listed.0 < length kids = omega (arith, long, inside) in
-      (listed.0, low, sym (get_or-map (λ (m : Note). m.at) kids listed.0 no_note q low) ∙ listed.2)
-
-  kid-on : (k : ℕ) → k < length kids → outcome rule (after b p) (note_at kids k).at ≡ GoesOn
+module _ (rule : RuleKind) (c : Grid) (t : List Node) (kids : List Note) (n : ℕ) (all : map (λ m. m.at) kids ≡ replies_at rule c)
+    (none_saves : (q : Point) → LosesOr (outcome rule c q) (Unit {0}))
+    (wins : (k : ℕ) → k < length kids → IsWrittenWin rule n (after c (note_at kids k).at) t (win_of (note_at kids k))) where
+  kid-on : (k : ℕ) → k < length kids → outcome rule c (note_at kids k).at ≡ GoesOn
   kid-on k low =
-      let passes : list_all (λ q. goes_on (outcome rule (after b p) q)) (map (λ m. m.at) kids) ≡ true = ap (list_all (λ q. goes_on (outcome rule (after b p) q))) all ∙ filter-passes (λ q. goes_on (outcome rule (after b p) q)) (points_of (after b p)) in
-      goes_on-is (outcome rule (after b p) (note_at kids k).at) (at_index (λ m. goes_on (outcome rule (after b p) m.at) ≡ true) no_note kids (list-passes (λ q. goes_on (outcome rule (after b p) q)) kids passes) k low)
+      let passes : list_all (λ q. goes_on (outcome rule c q)) (map (λ m. m.at) kids) ≡ true = ap
+      (list_all (λ q. goes_on (outcome rule c q))) all ∙ filter-passes (λ q. goes_on (outcome rule c q)) (points_of c) in
+      goes_on-is (outcome rule c (note_at kids k).at)
+      (at_index (λ m. goes_on (outcome rule c m.at) ≡ true) no_note kids
+      (list-passes (λ q. goes_on (outcome rule c q)) kids passes) k low)
 
-  accepted : Accepted rule t i b
-  accepted = accepted-by-replies rule t lower i b (answering_node p (map answer_of kids)) at on (no-win-rest (commonest_next (map answer_of kids))) (λ q.
-      LosesOr-on (outcome rule (after b p) q) (Unit {0}) (Answered (answer (answers_of (answering_node p (map answer_of kids))) q) (λ j. Accepted rule t j (after (after b p) q))) (none_saves q) (λ go.
-      let kid = kid-of q go in
-      let said : answer (answers_of (answering_node p (map answer_of kids))) q ≡ Some (note_at kids kid.0).node =
-      ap (answer (answers_of (answering_node p (map answer_of kids)))) (sym kid.2) ∙ kid-answer kid.0 kid.1 in
-      let won : Accepted rule t (note_at kids kid.0).node (after (after b p) q) = subst (λ (x : Point). Accepted rule t (note_at kids kid.0).node (after (after b p) x)) kid.2 (wins kid.0 kid.1).accepted in
-      subst (λ (o : Option ℕ). Answered o (λ j. Accepted rule t j (after (after b p) q))) (sym said) won))
+  answers : AnswersWin rule n c t (map answer_of kids)
+  answers = answers-win rule n c t (map answer_of kids) none_saves
+      (λ q go. subst (λ (ps : List Point). list_any (is_same_point q) ps ≡ true) (sym (note-points kids ∙ all))
+      (still-found (λ q. goes_on (outcome rule c q)) q (points_of c) (ap goes_on go)
+      (points-found c (is_same_point q) q (GoesOn-on rule c q go) (is_same_point-itself q))))
+      (mapped-all (IsAnswer rule n c t) answer_of kids (by_index (λ m. IsAnswer rule n c t (answer_of m)) no_note kids
+      (λ k low. answer-by-win rule n c t (answer_of (note_at kids k)) (note_at kids k).moves (kid-on k low) (wins k low))))
 
-  most : ℕ
-  most = greatest (map (λ m. m.moves) kids)
+  deep : start_depth t (answers_alone (map answer_of kids)) ≡ greatest (map (λ m. m.moves) kids)
+  deep = alone-deep t (map answer_of kids)
+      ∙ deep-notes (depth t) kids (by_index (λ m. depth t m.node ≡ m.moves) no_note kids (λ k low. (wins k low).deep))
 
-  deep : depth t i ≡ suc (greatest (map (λ m. m.moves) kids))
-  deep =
-      let step : depth t i ≡ suc (greatest (map (depth t) (named (answers_of (answering_node p (map answer_of kids)))))) =
-      depth-step t lower i ∙ ap (λ (o : Option Node). node_depth o (depth t)) at in
-      let high : greatest (map (depth t) (named (answers_of (answering_node p (map answer_of kids))))) ≤ greatest (map (λ m. m.moves) kids) =
-      greatest-all (depth t) (greatest (map (λ m. m.moves) kids)) (named (answers_of (answering_node p (map answer_of kids))))
-      (named-all (λ j. depth t j ≤ greatest (map (λ m. m.moves) kids)) (λ k low. let is = (wins k low).deep in let below = below-greatest kids k low in omega (arith, is, below))) in
-      let low : greatest (map (λ m. m.moves) kids) ≤ greatest (map (depth t) (named (answers_of (answering_node p (map answer_of kids))))) =
-      greatest-notes (greatest (map (depth t) (named (answers_of (answering_node p (map answer_of kids)))))) kids
-      (by_index (λ m. m.moves ≤ greatest (map (depth t) (named (answers_of (answering_node p (map answer_of kids)))))) no_note kids
-      (λ k l. let is = (wins k l).deep in let up = answer-greatest (depth t) (answers_of (answering_node p (map answer_of kids))) (note_at kids k).at (note_at kids k).node (kid-answer k l) in omega (arith, is, up))) in
-      omega (arith, step, high, low)
-
-  on_board : StaysOnBoard b t i
-  on_board = stays-by b t i (answering_node p (map answer_of kids)) at
-      (record {
-        attack = GoesOn-on rule b p on;
-        replies = all_filter (λ r. is_on b r.at ≡ true) (λ r. not (option_eq nat_eq (Some r.next) (commonest_next (map answer_of kids)))) (map answer_of kids)
-            (all_mapped (λ r. is_on b r.at ≡ true) answer_of kids (by_index (λ m. is_on b m.at ≡ true) no_note kids (λ k low. GoesOn-on rule (after b p) (note_at kids k).at (kid-on k low))));
-      })
-      (named-all (StaysOnBoard b t) (λ k low. stays-before b p (note_at kids k).at t (note_at kids k).node (wins k low).on_board))
-
-  -- it is a win of one more move
-  pub written-node : IsWrittenWin rule (suc n) b t (record { node = i; moves = greatest (map (λ m. m.moves) kids) + 1 })
-  written-node = record {
-    in_compiler = slice_get_within t i (answering_node p (map answer_of kids)) at;
-    accepted = accepted;
-    deep = let is = deep in omega (arith, is);
-    within = let few = greatest-notes n kids (by_index (λ m. m.moves ≤ n) no_note kids (λ k low. (wins k low).within)) in omega (arith, few);
-    on_board = on_board;
-  }
+-- it is a win of one more move
+pub written-node : (rule : RuleKind) (b : Grid) (p : Point) → outcome rule b p ≡ GoesOn → (t u : List Node) (kids : List Note) (n : ℕ)
+    → map (λ m. m.at) kids ≡ replies_at rule (after b p)
+    → ((q : Point) → LosesOr (outcome rule (after b p) q) (Unit {0}))
+    → ((k : ℕ) → k < length kids → IsWrittenWin rule n (after (after b p) (note_at kids k).at) t (win_of (note_at kids k)))
+    → (i : ℕ) → WinsByAnswers t p (map answer_of kids) u i
+    → IsWrittenWin rule (suc n) b u (record { node = i; moves = greatest (map (λ m. m.moves) kids) + 1 })
+written-node rule b p on t u kids n all none_saves wins i by_answers =
+    subst (λ (k : ℕ). IsWrittenWin rule (suc n) b u (record { node = i; moves = k + 1 }))
+    (deep rule (after b p) t kids n all none_saves wins)
+    (by_answers rule n b on (answers rule (after b p) t kids n all none_saves wins))

@@ -1,7 +1,6 @@
 -- Answers by the notes of a node, taken in reading order, rise.
-use Rattle.std.proofs.Common.{◌≡◌, ◌∙◌, ℕ, Bool, true, List, map}
+use Rattle.std.proofs.Common.{◌≡◌, ◌∙◌, Bool, true, List, map}
 use Rattle.std.specs.List.{filter}
-use Rattle.std.proofs.lemmas.List.{map-id}
 use Rattle.std.proofs.lemmas.Simd.{map-map}
 use Rattle.game_rules.specs.Grid.{Grid, points_of}
 use Rattle.game_rules.specs.declared.Point.{Point}
@@ -9,7 +8,6 @@ use Rattle.strategy_graph.specs.Tables.{is_rising}
 use Rattle.strategy_graph.proofs.ReadingOrder.{replies-rising}
 use Rattle.proof_number.specs.declared.notes.Note.{Note}
 use Rattle.proof_number.specs.Notes.{answer_of}
-use Rattle.threat_game.specs.Replies.{answer_by}
 
 -- the answers by notes whose moves are the points of a board that pass a test
 pub noted-rising : (b : Grid) (f : Point → Bool) (ns : List Note) → map (λ n. n.at) ns ≡ filter f (points_of b) → is_rising (map answer_of ns) ≡ true

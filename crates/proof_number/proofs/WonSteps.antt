@@ -20,7 +20,7 @@ use Rattle.proof_number.specs.declared.notes.Note.{Note}
 use Rattle.proof_number.specs.declared.search.Search.{Search}
 use Rattle.threat_game.specs.Wins.{IsThreatWin}
 use Rattle.threat_game.specs.Attacks.{IsDoubleWin}
-use Rattle.threat_game.specs.Growth.{GrowsBy}
+use Rattle.strategy_compiler.specs.Growth.{GrowsBy}
 use Rattle.proof_number.specs.Notes.{no_note, note_at}
 use Rattle.threat_game.specs.Replies.{answer_nodes}
 use Rattle.proof_number.specs.GameTrees.{GameTree, board_at, left_at}
@@ -99,7 +99,7 @@ module _ (rule : RuleKind) (s : Search) (t : Tree) (c : List Node) (leaf : ℕ) 
     full-there added fits few over = let a = behind-fits in let b = node-fits in (omega (arith, b, fits, over), omega (arith, a, b, few, over))
 
     -- the same where the refusal is that of a win by a double point
-    pub double-full : {E : Type 0} (w : Grid) (d : Double) (nodes : ℕ) → w ≡ view → nodes ≡ answer_nodes rule view d → IsDoubleWin rule view d → s.attacked + nodes ≤ s.budget → (E → MAX_NODES < length c + 1 + answer_nodes rule w d)
+    pub double-full : {E : Type 0} (w : Grid) (d : Double) (nodes : ℕ) → w ≡ view → nodes ≡ answer_nodes rule view d → IsDoubleWin rule view d → s.attacked + nodes ≤ s.budget → (E → MAX_NODES < length c + (1 + answer_nodes rule w d))
         → E → (MAX_NODES < s.before + s.budget) × (MAX_NODES < s.before + threat_tree rule s.depth s.root)
     double-full w d nodes same are wins fits refused e =
         let few = double-fits d wins in

@@ -5,13 +5,14 @@
 //! settled, won or not, is remembered under its position and the moves that were left.
 #![tactic(auto)]
 
-ghost use Rattle.std.specs.Prelude.{◌≡◌, ◌⊎◌, All, Some, slice_get, OnErr, ◌<◌, ◌≤◌, ◌+◌, ℕ, true, ◌++◌, List, map, take, drop, length, IfOk, IfSome, OnOk, IsErrOf};
+ghost use Rattle.std.specs.Prelude.{◌≡◌, ◌⊎◌, All, ◌<◌, ◌≤◌, ◌+◌, ℕ, true, ◌++◌, List, map, take, drop, length, IfOk, IfSome, OnOk, IsErrOf};
 ghost use Rattle.strategy_graph.specs.declared.Node.{Node};
 ghost use Rattle.strategy_graph.specs.declared.TheConstants.{MAX_NODES};
 ghost use Rattle.position_table.specs.Packing.{packed};
 ghost use Rattle.position_table.specs.Remembering.{kept};
-ghost use Rattle.strategy_graph.specs.Tables.{answer_at, greatest, is_rising};
-ghost use Rattle.strategy_compiler.specs.Nodes.{IsCompiled, PutsIn, answering_node};
+ghost use Rattle.strategy_graph.specs.Tables.{greatest, is_rising};
+ghost use Rattle.strategy_compiler.specs.Growth.{Writes};
+ghost use Rattle.strategy_compiler.specs.Forks.{WinsByAnswers};
 ghost use Rattle.strategy_compiler.specs.Wins.{IsWrittenWin};
 ghost use Rattle.proof_tree.specs.Combining.{settled_numbers};
 ghost use Rattle.proof_tree.specs.Trees.{IsTree, IsChild, IsOnWayUp, link_at, numbers_at};
@@ -190,19 +191,13 @@ fn compile_answers(
 ) -> Result<WrittenWin, SearchError>
     requires rising { is_rising (map answer_of notes.now) ≡ true }
     requires below { All (λ r. r.next < length compiler.old) (map answer_of notes.now) }
-    ensures node { IfOk result (λ win. slice_get compiler.new win.node ≡ Some (answering_node attack (map answer_of notes.now))) }
-    ensures answers { IfOk result
-        (λ win. All (λ r. answer_at compiler.new win.node r.at ≡ Some r.next) (map answer_of notes.now)) }
+    ensures wins { IfOk result (λ win. WinsByAnswers compiler.old attack (map answer_of notes.now) compiler.new win.node) }
     ensures moves { IfOk result (λ win. win.moves ≡ greatest (map (λ n. n.moves) notes.now) + 1) }
-    ensures compiled { OnOk result (IsCompiled compiler.new) }
-    ensures put_in { OnOk result
-        (PutsIn compiler.old (answering_node attack (map answer_of notes.now)) compiler.new) }
-    ensures unchanged { OnErr result (compiler.new ≡ compiler.old) }
-    ensures full { IsErrOf result SearchError.Full → length compiler.old ≡ MAX_NODES }
+    ensures writes { Writes compiler.old compiler.new 1 result }
 {
     let answers = answers_of(alloc, notes)?;
     let most = most_moves(notes);
-    let node = compiler.node(attack, answers.as_slice())?;
+    let node = compiler.fork(attack, answers.as_slice())?;
     Ok(WrittenWin {
         node,
         moves: most + 1,

@@ -20,7 +20,7 @@ ghost use Rattle.proof_tree.specs.Trees.{IsTree, grown_links, leaf_sum, link_at,
 ghost use Rattle.proof_tree.specs.declared.Kind.{Kind as AnyKind};
 ghost use Rattle.threat_game.specs.ThreatGame.{threat_tree};
 ghost use Rattle.threat_game.specs.Attacks.{IsDoubleWin, OthersFail, is_last_move, tried_moves};
-ghost use Rattle.threat_game.specs.Growth.{GrowsBy};
+ghost use Rattle.strategy_compiler.specs.Growth.{GrowsBy};
 ghost use Rattle.threat_game.specs.Replies.{IsChild, nodes_for};
 ghost use Rattle.proof_number.specs.Children.{AreSettled, child_note, child_numbers};
 ghost use Rattle.proof_number.specs.Notes.{note_at};

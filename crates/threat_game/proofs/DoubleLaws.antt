@@ -1,6 +1,6 @@
 -- Double points: the two five points that a stone leaves, and the win that they are.
 use Rattle.std.proofs.Common.{◌≡◌, ℕ, ◌≤◌, Bool, true, false, cond, ◌&&◌, ◌||◌, refl, sym, ap, ◌∙◌, arith, List, [], ◌∷◌, length, get_or}
-use Rattle.std.specs.List.{list_any, list_all, filter}
+use Rattle.std.specs.List.{list_any, list_all}
 use Rattle.game_rules.specs.Grid.{Grid, is_empty, put, points_of}
 use Rattle.game_rules.specs.Shapes.{five, is_same_point}
 use Rattle.game_rules.specs.Play.{IsPosition, outcome, mover, other, after, goes_on_with}
@@ -15,6 +15,7 @@ use Rattle.game_rules.proofs.Points.{points-found, filter-passes, is_same_point-
 use Rattle.game_rules.proofs.Places.{two_passing-apart}
 use Rattle.game_rules.proofs.Fives.{five-empty}
 use Rattle.game_rules.proofs.Games.{WinsUnder-more, WinsByFours-WinsByThreats, test-WinsUnder, each_reply}
+use Rattle.strategy_compiler.proofs.Forks.{still-found}
 use Rattle.threat_moves.specs.FourMoves.{is_four_move}
 use Rattle.threat_moves.specs.declared.block.BlockAnswer.TheVariants.{Lost, Won}
 use Rattle.threat_moves.specs.Blocks.{by_fives, fate}
@@ -41,24 +42,6 @@ leaves-both rule b s p empty (w ∷ v ∷ more) are many =
 
 -- ---- a double point wins by fours within two moves
 
--- a point that passes is among those that pass
-passing-listed : (f : Point → Bool) (x : Point) → f x ≡ true → (ps : List Point) → list_any (is_same_point x) ps ≡ true → list_any (is_same_point x) (filter f ps) ≡ true
-passing-listed f x h [] among = among
-passing-listed f x h (p ∷ ps) among = by_test (is_same_point x p) refl among (passing-listed f x h ps) where
-  right : (a c : Bool) → c ≡ true → (a || c) ≡ true
-  right true c e = refl
-  right false c e = e
-
-  kept : (r : Bool) → list_any (is_same_point x) (filter f ps) ≡ true → list_any (is_same_point x) (cond r (p ∷ filter f ps) (filter f ps)) ≡ true
-  kept true k = right (is_same_point x p) (list_any (is_same_point x) (filter f ps)) k
-  kept false k = k
-
-  by_test : (r : Bool) → is_same_point x p ≡ r → (r || list_any (is_same_point x) ps) ≡ true → (list_any (is_same_point x) ps ≡ true → list_any (is_same_point x) (filter f ps) ≡ true) → list_any (is_same_point x) (filter f (p ∷ ps)) ≡ true
-  by_test true e k rest =
-      let passes : f p ≡ true = ap f (sym (is_same_point-same x p e)) ∙ h in
-      ap (λ r. list_any (is_same_point x) (cond r (p ∷ filter f ps) (filter f ps))) passes ∙ ap (λ r. r || list_any (is_same_point x) (filter f ps)) e
-  by_test false e k rest = kept (f p) (rest k)
-
 one_of : (a : Bool) → (a || false) ≡ true → a ≡ true
 one_of true h = refl
 one_of false h = h
@@ -84,7 +67,7 @@ module _ (rule : RuleKind) (b : Grid) (d : Double) (lawful : IsPosition rule b) 
   safe_now = ap (has_five rule (after b d.at)) turn ∙ still-safe rule b d.at lawful wins.on wins.safe
 
   five_now : (w : Point) → five rule (after b d.at) (mover b) w ≡ true → list_any (is_same_point w) (five_points rule (after b d.at) (mover b)) ≡ true
-  five_now w h = passing-listed (five rule (after b d.at) (mover b)) w h (points_of (after b d.at))
+  five_now w h = still-found (five rule (after b d.at) (mover b)) w (points_of (after b d.at)) h
       (points-found (after b d.at) (is_same_point w) w (is_empty-on (after b d.at) w (five-empty rule (after b d.at) (mover b) w h)) (is_same_point-itself w))
 
   won : fate rule (after b d.at) ≡ Won

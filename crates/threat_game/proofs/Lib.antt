@@ -13,9 +13,8 @@ mod FreeMoves
 mod BothBoards
 -- new double points are on the lines of the stone just put
 mod NearDoubles
--- their nodes, and how these are added
-pub mod GrowthLaws
-pub mod WrittenLaws
+-- their nodes
+mod WrittenLaws
 mod DoubleNodes
 mod SettleLaws
 -- the replies, one after another
@@ -25,5 +24,3 @@ pub mod Trying
 pub mod Counting
 -- where an escape meets each of them there is no win
 mod Escaping
--- answers in reading order rise
-mod Rising

@@ -1,5 +1,4 @@
 pub mod ThreatGame
-pub mod Growth
 pub mod Attacks
 pub mod FreeMoves
 pub mod NearDoubles

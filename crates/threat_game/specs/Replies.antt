@@ -8,7 +8,6 @@ use Rattle.game_rules.specs.Games.{WinsByThreats, has_five}
 use Rattle.game_rules.specs.declared.RuleKind.{RuleKind}
 use Rattle.game_rules.specs.declared.Outcome.TheVariants.{GoesOn}
 use Rattle.game_rules.specs.declared.Point.{Point}
-use Rattle.strategy_graph.specs.declared.Reply.{Reply}
 use Rattle.threat_game.specs.declared.doubles.Double.{Double}
 use Rattle.threat_game.specs.declared.replies.Judged.{Judged}
 use Rattle.threat_game.specs.declared.replies.Judged.TheVariants.{Five, Double as DoubleWins, Last, Open}
@@ -116,18 +115,6 @@ pub record HasEscape (rule : RuleKind) (moves : ℕ) (c : Grid) : Type 0 where
 abbrev pub AreReplies : RuleKind → ℕ → Grid → Option Children → Type 0
 AreReplies rule moves c None = HasEscape rule moves c
 AreReplies rule moves c (Some children) = AreChildren rule moves c children
-
--- node i for the reply w, and node j for any other
-abbrev pub node_for : Point → ℕ → ℕ → Point → ℕ
-node_for w i j q = if is_same_point q w then i else j
-
--- the answer to a reply by this node
-abbrev pub answer_by : (Point → ℕ) → Point → Reply
-answer_by next q = record { at = q; next = next q }
-
--- the answers to all replies that go on: node i to the reply w, and node j to each other
-abbrev pub double_answers : RuleKind → Grid → Point → ℕ → ℕ → List Reply
-double_answers rule c w i j = map (answer_by (node_for w i j)) (replies_at rule c)
 
 -- whether a stone on q leaves the double point and its two five points empty
 abbrev pub is_beside : Double → Point → Bool

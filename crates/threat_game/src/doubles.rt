@@ -4,17 +4,15 @@
 //! reply took the first.
 #![tactic(auto)]
 
-ghost use Rattle.std.specs.Prelude.{◌≡◌, ◌<◌, ◌≤◌, ◌+◌, ◌||◌, ◌&&◌, not, ℕ, true, false, if◌then◌else◌, All, length, slice_get, Some, IfOk, IfSome, IsTrue, IsErrOf, OnOk};
+ghost use Rattle.std.specs.Prelude.{◌≡◌, ◌≤◌, ◌+◌, ◌&&◌, not, ℕ, false, All, IfOk, IfSome, IsTrue};
 ghost use Rattle.game_rules.specs.Grid.{is_empty, points_of};
 ghost use Rattle.game_rules.specs.Shapes.{is_same_point};
 ghost use Rattle.game_rules.specs.Play.{IsPosition, outcome as outcome_lem, mover, after, goes_on as goes_on_lem};
 ghost use Rattle.game_rules.specs.declared.Outcome.{Outcome};
 ghost use Rattle.game_rules.specs.Games.{has_five as has_five_lem};
-ghost use Rattle.strategy_graph.specs.declared.TheConstants.{MAX_NODES};
-ghost use Rattle.strategy_compiler.specs.Nodes.{IsCompiled, winning_node};
-ghost use Rattle.threat_game.specs.Growth.{GrowsBy};
+ghost use Rattle.strategy_compiler.specs.Growth.{Writes};
 ghost use Rattle.threat_game.specs.Attacks.{LeavesBoth, IsDoubleWin};
-ghost use Rattle.threat_game.specs.Replies.{answer_nodes, has_reply_at, has_reply_beside, one_if, double_answers as double_answers_lem, node_for};
+ghost use Rattle.threat_game.specs.Replies.{answer_nodes, has_reply_at, has_reply_beside, replies_at};
 ghost use Rattle.threat_game.specs.Wins.{IsThreatWin};
 
 use crate::attacks::{each_goes_on, goes_on, goes_on_where};
@@ -166,96 +164,51 @@ pub fn compile_double<R: Rule, V: Seen<R>>(
 ) -> Result<WrittenWin, SearchError>
     requires wins { IsDoubleWin R.KIND (V.position view.old) double }
     ensures win { IfOk result (λ win. (moves : ℕ) → 2 ≤ moves → IsThreatWin R.KIND moves (V.position view.old) compiler.new win) }
-    ensures grows { GrowsBy compiler.old compiler.new (1 + answer_nodes R.KIND (V.position view.old) double) }
-    ensures full { IsErrOf result SearchError.Full
-        → MAX_NODES < length compiler.old + 1 + answer_nodes R.KIND (V.position view.old) double }
-    ensures full_now { IsErrOf result SearchError.Full → length compiler.new ≡ MAX_NODES }
+    ensures writes { Writes compiler.old compiler.new (1 + answer_nodes R.KIND (V.position view.old) double) result }
     ensures same { V.position view.new ≡ V.position view.old }
 {
-    let found = replies_to::<R, V>(view, double);
-    let at_first = winning_if(compiler, found.at, double.second)?;
-    let beside = winning_if(compiler, found.beside, double.first)?;
-    let answers = answers_to::<R, V>(alloc, view, double, at_first, beside)?;
-    let node = compiler.node(double.at, answers.as_slice())?;
-    Ok(WrittenWin {
-        node,
-        moves: moves_with(found),
-    })
+    view.side();
+    let replies = all_replies_to::<R, V>(alloc, view, double)?;
+    compiler.double(
+        alloc,
+        double.at,
+        double.first,
+        double.second,
+        replies.as_slice(),
+    )
 }
 
-/// The moves of a win by a double point: one alone where no reply goes on.
-fn moves_with(found: Replied) -> u32
-    ensures moves { result ≡ (if found.at || found.beside then 2 else 1) }
-{
-    if found.at || found.beside { 2 } else { 1 }
-}
-
-/// The winning node with this attack, where it is needed, and else any number.
-fn winning_if(compiler: &mut Compiler, needed: bool, attack: Point) -> Result<u32, SearchError>
-    ensures node { IfOk result (λ i. needed ≡ true → slice_get compiler.new i ≡ Some (winning_node attack)) }
-    ensures compiled { OnOk result (IsCompiled compiler.new) }
-    ensures grows { GrowsBy compiler.old compiler.new (one_if needed) }
-    ensures full { IsErrOf result SearchError.Full → MAX_NODES < length compiler.old + one_if needed }
-    ensures full_now { IsErrOf result SearchError.Full → length compiler.new ≡ MAX_NODES }
-{
-    if needed {
-        return Ok(compiler.winning(attack)?);
-    }
-    compiler.len();
-    Ok(0)
-}
-
-/// The answers to all replies to the double point that go on: a node to that on the first five point, another to each other.
-fn answers_to<R: Rule, V: Seen<R>>(
+/// All replies to the double point that go on.
+fn all_replies_to<R: Rule, V: Seen<R>>(
     alloc: Global,
     view: &mut V,
     double: Double,
-    at_first: u32,
-    beside: u32,
-) -> Result<Vec<Reply>, AllocError>
+) -> Result<Vec<Point>, AllocError>
     requires on { outcome_lem R.KIND (V.position view.old) double.at ≡ Outcome.GoesOn }
     requires none { has_five_lem R.KIND (after (V.position view.old) double.at) (mover (after (V.position view.old) double.at)) ≡ false }
-    ensures answers { IfOk result
-        (λ found. found.items ≡ double_answers_lem R.KIND (after (V.position view.old) double.at) double.first at_first beside) }
+    ensures all { IfOk result (λ found. found.items ≡ replies_at R.KIND (after (V.position view.old) double.at)) }
     ensures same { V.position view.new ≡ V.position view.old }
 {
     view.play(double.at);
-    let found = double_answers::<R, V>(alloc, view, double.first, at_first, beside);
+    let found = all_replies::<R, V>(alloc, view);
     view.undo(double.at);
     found
 }
 
 /// The same where the other side is to move, which has no five point.
-fn double_answers<R: Rule, V: Seen<R>>(
-    alloc: Global,
-    view: &mut V,
-    first: Point,
-    at_first: u32,
-    beside: u32,
-) -> Result<Vec<Reply>, AllocError>
+fn all_replies<R: Rule, V: Seen<R>>(alloc: Global, view: &mut V) -> Result<Vec<Point>, AllocError>
     requires none { has_five_lem R.KIND (V.position view.old) (mover (V.position view.old)) ≡ false }
-    ensures answers { IfOk result
-        (λ found. found.items ≡ double_answers_lem R.KIND (V.position view.old) first at_first beside) }
+    ensures all { IfOk result (λ found. found.items ≡ replies_at R.KIND (V.position view.old)) }
     ensures same { V.position view.new ≡ V.position view.old }
 {
     let free = each_goes_on::<R, V>(view);
     let mut found = Vec::new(alloc);
     for q in view.board().points() {
         if goes_on_where::<R, V>(view, free, q) {
-            found.push(Reply {
-                at: q,
-                next: node_to(q, first, at_first, beside),
-            })?;
+            found.push(q)?;
         }
     }
     Ok(found)
-}
-
-/// The first node for the reply on the five point, and the second for another.
-fn node_to(q: Point, first: Point, at_first: u32, beside: u32) -> u32
-    ensures node { result ≡ node_for first at_first beside q }
-{
-    if is_same(q, first) { at_first } else { beside }
 }
 
 /// Adds the answer to one more reply.

@@ -12,7 +12,7 @@ ghost use Rattle.game_rules.specs.Shapes.{is_same_point};
 ghost use Rattle.game_rules.specs.Play.{IsPosition, outcome as outcome_lem, mover, other, after};
 ghost use Rattle.game_rules.specs.Games.{WinsByThreats, has_five as has_five_lem, five_points as five_points_lem};
 ghost use Rattle.strategy_graph.specs.declared.TheConstants.{MAX_NODES};
-ghost use Rattle.threat_game.specs.Growth.{GrowsBy};
+ghost use Rattle.strategy_compiler.specs.Growth.{GrowsBy};
 ghost use Rattle.threat_game.specs.FreeMoves.{EachGoesOn};
 ghost use Rattle.threat_game.specs.Attacks.{has_reply, is_last_move, LeavesBoth};
 ghost use Rattle.threat_game.specs.Replies.{AreReplies, IsJudged, IsJudgement, IsBeside, is_beside as is_beside_lem, moves_for, is_open as is_open_lem, counted_for, nodes_for};

@@ -4,12 +4,11 @@
 //! needs one.
 #![tactic(auto)]
 
-ghost use Rattle.std.specs.Prelude.{◌≡◌, ◌<◌, ◌≤◌, ◌+◌, ℕ, true, length, IfOk, IsErrOf};
+ghost use Rattle.std.specs.Prelude.{◌≡◌, ◌≤◌, ℕ, true, IfOk};
 ghost use Rattle.game_rules.specs.Grid.{Grid};
 ghost use Rattle.game_rules.specs.Shapes.{five as five_lem};
 ghost use Rattle.game_rules.specs.Play.{IsPosition, mover};
-ghost use Rattle.strategy_graph.specs.declared.TheConstants.{MAX_NODES};
-ghost use Rattle.threat_game.specs.Growth.{GrowsBy};
+ghost use Rattle.strategy_compiler.specs.Growth.{Writes};
 ghost use Rattle.threat_game.specs.Attacks.{is_last_move};
 ghost use Rattle.threat_game.specs.Wins.{IsThreatWin};
 
@@ -21,11 +20,9 @@ use strategy_compiler::{Compiler, SearchError, WrittenWin};
 pub fn compile_five(compiler: &mut Compiler, five: Point) -> Result<WrittenWin, SearchError>
     ensures win { IfOk result (λ win. (rule : RuleKind) (b : Grid) (moves : ℕ) → IsPosition rule b → five_lem rule b (mover b) five ≡ true → 1 ≤ moves
         → IsThreatWin rule moves b compiler.new win) }
-    ensures grows { GrowsBy compiler.old compiler.new 1 }
-    ensures full { IsErrOf result SearchError.Full → MAX_NODES < length compiler.old + 1 }
-    ensures full_now { IsErrOf result SearchError.Full → length compiler.new ≡ MAX_NODES }
+    ensures writes { Writes compiler.old compiler.new 1 result }
 {
-    let node = compiler.winning(five)?;
+    let node = compiler.leaf(five)?;
     Ok(WrittenWin { node, moves: 1 })
 }
 
@@ -33,10 +30,8 @@ pub fn compile_five(compiler: &mut Compiler, five: Point) -> Result<WrittenWin, 
 pub fn compile_last(compiler: &mut Compiler, attack: Point) -> Result<WrittenWin, SearchError>
     ensures win { IfOk result (λ win. (rule : RuleKind) (b : Grid) (moves : ℕ) → IsPosition rule b → is_last_move rule b attack ≡ true → 1 ≤ moves
         → IsThreatWin rule moves b compiler.new win) }
-    ensures grows { GrowsBy compiler.old compiler.new 1 }
-    ensures full { IsErrOf result SearchError.Full → MAX_NODES < length compiler.old + 1 }
-    ensures full_now { IsErrOf result SearchError.Full → length compiler.new ≡ MAX_NODES }
+    ensures writes { Writes compiler.old compiler.new 1 result }
 {
-    let node = compiler.node(attack, &[])?;
+    let node = compiler.fork(attack, &[])?;
     Ok(WrittenWin { node, moves: 1 })
 }

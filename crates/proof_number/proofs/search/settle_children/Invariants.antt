@@ -1,7 +1,7 @@
 use Rattle.std.proofs.Common.{◌≡◌, take}
 use Rattle.std.specs.List.{sum_by}
 use Rattle.proof_number.specs.Children.{AreSettled}
-use Rattle.threat_game.specs.Growth.{GrowsBy}
+use Rattle.strategy_compiler.specs.Growth.{GrowsBy}
 use Rattle.threat_game.specs.Replies.{nodes_for}
 use Rattle.proof_number.proofs.search.settle_children.Given as goal
 

@@ -41,4 +41,4 @@ returns-in-len1-up-clause-searching g c =
     c.in_ok-win-in-len1-up.ensures.win g.R.Rule.KIND b c.args.self.now.depth c.side-attacker.ensures.lawful (listed-first g.R.Rule.KIND b (mover b) c.as_slice.result.now _ are c.in-len1-up.len_at_least) c.requires.some_depth in
     begun-won g.R.Rule.KIND c.args.self.now c.args.tree.now c.args.compiler.now (g.V.Seen.position c.args.view.now) c.requires.begins c.side-attacker.ensures.lawful c.len.ensures.tree c.requires.one_node c.requires.depth_fits c.requires.some_budget c.requires.budget_fits
     c.settle_won.new.self c.settle_won.new.tree c.compile_five.new.compiler c.in_ok-win-in-len1-up.win (c.settle_won.ensures.rest ∙ ap (λ (w : Search). record c.args.self.now { board = w.board; notes = c.settle_won.new.self.notes }) (sym c.settle_won.ensures.rest)) c.settle_won.ensures.notes
-    c.settle_won.ensures.settled c.compile_five.ensures.grows c.len-in-len1-up.ensures.compiled is
+    c.settle_won.ensures.settled c.compile_five.ensures.writes.grows c.len-in-len1-up.ensures.compiled is

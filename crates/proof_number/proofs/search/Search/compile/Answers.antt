@@ -1,4 +1,4 @@
-use Rattle.std.proofs.Common.{◌≡◌, ◌∙◌, sym, ap, arith, List, [], length, take, drop, append-nil}
+use Rattle.std.proofs.Common.{◌≡◌, ◌∙◌, sym, ap, arith, List, length, take, drop}
 use Rattle.std.proofs.lemmas.List.{get_or_default}
 use Rattle.proof_tree.specs.Trees.{link_at}
 use Rattle.proof_tree.specs.declared.Link.{Link}
@@ -48,14 +48,15 @@ pub returns-in-Err-clause-keeps : goal.returns-in-Err-clause-keeps
 returns-in-Err-clause-keeps g c = keeps-all c.args.self.now
 
 pub returns-in-Err-clause-kept : goal.returns-in-Err-clause-kept
-returns-in-Err-clause-kept g c = ([], c.in-Err.ensures.unchanged ∙ sym (append-nil c.args.compiler.now))
+returns-in-Err-clause-kept g c = (c.in-Err.ensures.writes.grows.added, c.in-Err.ensures.writes.grows.is)
 
 pub returns-in-Err-clause-full : goal.returns-in-Err-clause-full
 returns-in-Err-clause-full g c = λ e.
-    compile-full g.R.Rule.KIND c.args.self.now c.args.tree.now c.args.compiler.now c.args.node c.requires.searching c.requires.in_tree c.requires.attack c.requires.proved c.requires.unwritten (c.in-Err.ensures.full e)
+    compile-full g.R.Rule.KIND c.args.self.now c.args.tree.now c.args.compiler.now c.args.node c.requires.searching c.requires.in_tree
+    c.requires.attack c.requires.proved c.requires.unwritten (c.in-Err.ensures.writes.full e)
 
 pub returns-in-Err-clause-full_now : goal.returns-in-Err-clause-full_now
-returns-in-Err-clause-full_now g c = λ e. ap length c.in-Err.ensures.unchanged ∙ c.in-Err.ensures.full e
+returns-in-Err-clause-full_now g c = c.in-Err.ensures.writes.full_now
 
 pub note_win-requires-clause-noted : goal.note_win-requires-clause-noted
 note_win-requires-clause-noted g c =
@@ -68,7 +69,10 @@ note_win-requires-clause-few g c =
     c.kids-notes.ensures.kids ∙ ap (λ (ns : List Note). take c.link-link.result.count (drop c.link-link.result.first ns)) c.as_slice.ensures.value ∙ ap (λ (l : Link). take l.count (drop l.first items)) c.link-link.ensures.link in
     let low = compile-noted g.R.Rule.KIND c.args.self.now c.args.tree.now c.args.compiler.now c.args.node c.requires.searching c.requires.in_tree c.requires.attack c.requires.proved c.requires.unwritten c.first_proved-proved.result c.first_proved-proved.ensures.child c.first_proved-proved.ensures.proved in
     let move : (note_at items c.first_proved-proved.result).at ≡ c.index.result.now.at = ap (λ (n : Note). n.at) (get_or_default items c.first_proved-proved.result no_note c.index.result.now low ∙ sym c.index.ensures) in
-    compile-few g.R.Rule.KIND c.args.self.now c.args.tree.now c.args.compiler.now c.args.node c.requires.searching c.requires.in_tree c.requires.attack c.requires.proved c.requires.unwritten c.first_proved-proved.result c.first_proved-proved.ensures.child c.first_proved-proved.ensures.proved c.kids-notes.result.now are c.compile_answers.new.compiler c.index.result.now.at move c.in-Ok.ensures.put_in c.in-Ok.ensures.compiled c.in-Ok.win c.in-Ok.ensures.node c.in-Ok.ensures.answers c.in-Ok.ensures.moves
+    compile-few g.R.Rule.KIND c.args.self.now c.args.tree.now c.args.compiler.now c.args.node c.requires.searching c.requires.in_tree
+    c.requires.attack c.requires.proved c.requires.unwritten c.first_proved-proved.result c.first_proved-proved.ensures.child
+    c.first_proved-proved.ensures.proved c.kids-notes.result.now are c.compile_answers.new.compiler c.index.result.now.at move
+    c.in-Ok.win c.in-Ok.ensures.writes c.in-Ok.ensures.wins c.in-Ok.ensures.moves
 
 pub returns-in-Ok-clause-win : goal.returns-in-Ok-clause-win
 returns-in-Ok-clause-win g c =
@@ -77,7 +81,10 @@ returns-in-Ok-clause-win g c =
     c.kids-notes.ensures.kids ∙ ap (λ (ns : List Note). take c.link-link.result.count (drop c.link-link.result.first ns)) c.as_slice.ensures.value ∙ ap (λ (l : Link). take l.count (drop l.first items)) c.link-link.ensures.link in
     let low = compile-noted g.R.Rule.KIND c.args.self.now c.args.tree.now c.args.compiler.now c.args.node c.requires.searching c.requires.in_tree c.requires.attack c.requires.proved c.requires.unwritten c.first_proved-proved.result c.first_proved-proved.ensures.child c.first_proved-proved.ensures.proved in
     let move : (note_at items c.first_proved-proved.result).at ≡ c.index.result.now.at = ap (λ (n : Note). n.at) (get_or_default items c.first_proved-proved.result no_note c.index.result.now low ∙ sym c.index.ensures) in
-    compile-won g.R.Rule.KIND c.args.self.now c.args.tree.now c.args.compiler.now c.args.node c.requires.searching c.requires.in_tree c.requires.attack c.requires.proved c.requires.unwritten c.first_proved-proved.result c.first_proved-proved.ensures.child c.first_proved-proved.ensures.proved c.kids-notes.result.now are c.compile_answers.new.compiler c.index.result.now.at move c.in-Ok.ensures.put_in c.in-Ok.ensures.compiled c.in-Ok.win c.in-Ok.ensures.node c.in-Ok.ensures.answers c.in-Ok.ensures.moves
+    compile-won g.R.Rule.KIND c.args.self.now c.args.tree.now c.args.compiler.now c.args.node c.requires.searching c.requires.in_tree
+    c.requires.attack c.requires.proved c.requires.unwritten c.first_proved-proved.result c.first_proved-proved.ensures.child
+    c.first_proved-proved.ensures.proved c.kids-notes.result.now are c.compile_answers.new.compiler c.index.result.now.at move
+    c.in-Ok.win c.in-Ok.ensures.writes c.in-Ok.ensures.wins c.in-Ok.ensures.moves
 
 pub returns-in-Ok-clause-searching : goal.returns-in-Ok-clause-searching
 returns-in-Ok-clause-searching g c =
@@ -86,7 +93,11 @@ returns-in-Ok-clause-searching g c =
     c.kids-notes.ensures.kids ∙ ap (λ (ns : List Note). take c.link-link.result.count (drop c.link-link.result.first ns)) c.as_slice.ensures.value ∙ ap (λ (l : Link). take l.count (drop l.first items)) c.link-link.ensures.link in
     let low = compile-noted g.R.Rule.KIND c.args.self.now c.args.tree.now c.args.compiler.now c.args.node c.requires.searching c.requires.in_tree c.requires.attack c.requires.proved c.requires.unwritten c.first_proved-proved.result c.first_proved-proved.ensures.child c.first_proved-proved.ensures.proved in
     let move : (note_at items c.first_proved-proved.result).at ≡ c.index.result.now.at = ap (λ (n : Note). n.at) (get_or_default items c.first_proved-proved.result no_note c.index.result.now low ∙ sym c.index.ensures) in
-    compile-searches g.R.Rule.KIND c.args.self.now c.args.tree.now c.args.compiler.now c.args.node c.requires.searching c.requires.in_tree c.requires.attack c.requires.proved c.requires.unwritten c.first_proved-proved.result c.first_proved-proved.ensures.child c.first_proved-proved.ensures.proved c.kids-notes.result.now are c.compile_answers.new.compiler c.index.result.now.at move c.in-Ok.ensures.put_in c.in-Ok.ensures.compiled c.in-Ok.win c.in-Ok.ensures.node c.in-Ok.ensures.answers c.in-Ok.ensures.moves c.note_win.new.self c.note_win.ensures.rest c.note_win.ensures.notes
+    compile-searches g.R.Rule.KIND c.args.self.now c.args.tree.now c.args.compiler.now c.args.node c.requires.searching c.requires.in_tree
+    c.requires.attack c.requires.proved c.requires.unwritten c.first_proved-proved.result c.first_proved-proved.ensures.child
+    c.first_proved-proved.ensures.proved c.kids-notes.result.now are c.compile_answers.new.compiler c.index.result.now.at move
+    c.in-Ok.win c.in-Ok.ensures.writes c.in-Ok.ensures.wins c.in-Ok.ensures.moves c.note_win.new.self c.note_win.ensures.rest
+    c.note_win.ensures.notes
 
 pub returns-in-Ok-clause-keeps : goal.returns-in-Ok-clause-keeps
 returns-in-Ok-clause-keeps g c =
@@ -95,7 +106,11 @@ returns-in-Ok-clause-keeps g c =
     c.kids-notes.ensures.kids ∙ ap (λ (ns : List Note). take c.link-link.result.count (drop c.link-link.result.first ns)) c.as_slice.ensures.value ∙ ap (λ (l : Link). take l.count (drop l.first items)) c.link-link.ensures.link in
     let low = compile-noted g.R.Rule.KIND c.args.self.now c.args.tree.now c.args.compiler.now c.args.node c.requires.searching c.requires.in_tree c.requires.attack c.requires.proved c.requires.unwritten c.first_proved-proved.result c.first_proved-proved.ensures.child c.first_proved-proved.ensures.proved in
     let move : (note_at items c.first_proved-proved.result).at ≡ c.index.result.now.at = ap (λ (n : Note). n.at) (get_or_default items c.first_proved-proved.result no_note c.index.result.now low ∙ sym c.index.ensures) in
-    compile-keeps g.R.Rule.KIND c.args.self.now c.args.tree.now c.args.compiler.now c.args.node c.requires.searching c.requires.in_tree c.requires.attack c.requires.proved c.requires.unwritten c.first_proved-proved.result c.first_proved-proved.ensures.child c.first_proved-proved.ensures.proved c.kids-notes.result.now are c.compile_answers.new.compiler c.index.result.now.at move c.in-Ok.ensures.put_in c.in-Ok.ensures.compiled c.in-Ok.win c.in-Ok.ensures.node c.in-Ok.ensures.answers c.in-Ok.ensures.moves c.note_win.new.self c.note_win.ensures.rest c.note_win.ensures.notes
+    compile-keeps g.R.Rule.KIND c.args.self.now c.args.tree.now c.args.compiler.now c.args.node c.requires.searching c.requires.in_tree
+    c.requires.attack c.requires.proved c.requires.unwritten c.first_proved-proved.result c.first_proved-proved.ensures.child
+    c.first_proved-proved.ensures.proved c.kids-notes.result.now are c.compile_answers.new.compiler c.index.result.now.at move
+    c.in-Ok.win c.in-Ok.ensures.writes c.in-Ok.ensures.wins c.in-Ok.ensures.moves c.note_win.new.self c.note_win.ensures.rest
+    c.note_win.ensures.notes
 
 pub returns-in-Ok-clause-kept : goal.returns-in-Ok-clause-kept
 returns-in-Ok-clause-kept g c =
@@ -104,4 +119,7 @@ returns-in-Ok-clause-kept g c =
     c.kids-notes.ensures.kids ∙ ap (λ (ns : List Note). take c.link-link.result.count (drop c.link-link.result.first ns)) c.as_slice.ensures.value ∙ ap (λ (l : Link). take l.count (drop l.first items)) c.link-link.ensures.link in
     let low = compile-noted g.R.Rule.KIND c.args.self.now c.args.tree.now c.args.compiler.now c.args.node c.requires.searching c.requires.in_tree c.requires.attack c.requires.proved c.requires.unwritten c.first_proved-proved.result c.first_proved-proved.ensures.child c.first_proved-proved.ensures.proved in
     let move : (note_at items c.first_proved-proved.result).at ≡ c.index.result.now.at = ap (λ (n : Note). n.at) (get_or_default items c.first_proved-proved.result no_note c.index.result.now low ∙ sym c.index.ensures) in
-    compile-kept g.R.Rule.KIND c.args.self.now c.args.tree.now c.args.compiler.now c.args.node c.requires.searching c.requires.in_tree c.requires.attack c.requires.proved c.requires.unwritten c.first_proved-proved.result c.first_proved-proved.ensures.child c.first_proved-proved.ensures.proved c.kids-notes.result.now are c.compile_answers.new.compiler c.index.result.now.at move c.in-Ok.ensures.put_in c.in-Ok.ensures.compiled c.in-Ok.win c.in-Ok.ensures.node c.in-Ok.ensures.answers c.in-Ok.ensures.moves
+    compile-kept g.R.Rule.KIND c.args.self.now c.args.tree.now c.args.compiler.now c.args.node c.requires.searching c.requires.in_tree
+    c.requires.attack c.requires.proved c.requires.unwritten c.first_proved-proved.result c.first_proved-proved.ensures.child
+    c.first_proved-proved.ensures.proved c.kids-notes.result.now are c.compile_answers.new.compiler c.index.result.now.at move
+    c.in-Ok.win c.in-Ok.ensures.writes c.in-Ok.ensures.wins c.in-Ok.ensures.moves

@@ -22,7 +22,7 @@ returns-in_ok-win-in-Some-clause-searching g c =
     c.in_ok-win-in-Some.ensures.win g.R.Rule.KIND (g.V.Seen.position c.args.view.now) c.args.self.now.depth c.requires.lawful c.in-Some.ensures.last (omega (arith, one)) in
     begun-won g.R.Rule.KIND c.args.self.now c.args.tree.now c.args.compiler.now (g.V.Seen.position c.args.view.now) c.requires.begins c.requires.lawful c.requires.tree c.requires.one_node (omega (arith, one)) c.requires.some_budget c.requires.budget_fits
     c.settle_won.new.self c.settle_won.new.tree c.compile_last.new.compiler c.in_ok-win-in-Some.win (c.settle_won.ensures.rest ∙ ap (λ (w : Search). record c.args.self.now { board = w.board; notes = c.settle_won.new.self.notes }) (sym c.settle_won.ensures.rest)) c.settle_won.ensures.notes
-    c.settle_won.ensures.settled c.compile_last.ensures.grows c.len.ensures.compiled is
+    c.settle_won.ensures.settled c.compile_last.ensures.writes.grows c.len.ensures.compiled is
 
 pub returns-in-None-clause-searching : goal.returns-in-None-clause-searching
 returns-in-None-clause-searching g c =

@@ -1,7 +1,7 @@
 use Rattle.std.proofs.Common.{rules, ◌≡◌, ◌+◌, ℕ, ap, subst, arith}
 use Rattle.game_rules.specs.Grid.{Grid}
 use Rattle.threat_game.specs.Wins.{IsThreatWin}
-use Rattle.threat_game.specs.Growth.{GrowsBy}
+use Rattle.strategy_compiler.specs.Growth.{GrowsBy}
 use Rattle.proof_number.specs.Notes.{note_at}
 use Rattle.threat_game.specs.Replies.{answer_nodes}
 use Rattle.proof_number.proofs.Steps.{attack-moves, leaf-is, leaf-noted, root-open}
@@ -25,7 +25,7 @@ pub returns-in_err-win-clause-full : goal.returns-in_err-win-clause-full
 returns-in_err-win-clause-full g c =
     let within = c.if-count-self.false in
     let many = double-full g.R.Rule.KIND c.args.self.now c.args.tree.now c.args.compiler.now c.args.leaf (g.V.Seen.position c.args.view.now) c.requires.at_leaf c.requires.attack (g.V.Seen.position c.answers_of.new.view) c.args.double c.answers_of.result
-    c.answers_of.ensures.same c.answers_of.ensures.nodes c.requires.double (omega (arith, within)) c.in_err-win.ensures.full in
+    c.answers_of.ensures.same c.answers_of.ensures.nodes c.requires.double (omega (arith, within)) c.in_err-win.ensures.writes.full in
     search rules
 
 pub settle_won-requires-clause-open : goal.settle_won-requires-clause-open
@@ -56,6 +56,7 @@ returns-clause-step g c =
     let within = c.if-count-self.false in
     let same : answer_nodes g.R.Rule.KIND (g.V.Seen.position c.answers_of.new.view) c.args.double ≡ answer_nodes g.R.Rule.KIND (g.V.Seen.position c.args.view.now) c.args.double = ap (λ (b : Grid). answer_nodes g.R.Rule.KIND b c.args.double) c.answers_of.ensures.same in
     let added : 1 + answer_nodes g.R.Rule.KIND (g.V.Seen.position c.answers_of.new.view) c.args.double ≡ 1 + c.answers_of.result = omega (arith, same, nodes) in
-    let grown : GrowsBy c.args.compiler.now c.compile_double.new.compiler (1 + c.answers_of.result) = subst (λ (k : ℕ). GrowsBy c.args.compiler.now c.compile_double.new.compiler k) added c.compile_double.ensures.grows in
+    let grown : GrowsBy c.args.compiler.now c.compile_double.new.compiler (1 + c.answers_of.result) = subst
+    (λ (k : ℕ). GrowsBy c.args.compiler.now c.compile_double.new.compiler k) added c.compile_double.ensures.writes.grows in
     counted-step g.R.Rule.KIND c.args.self.now c.args.tree.now c.args.compiler.now c.args.leaf (g.V.Seen.position c.args.view.now) c.requires.at_leaf c.requires.attack c.answers_of.result (omega (arith, within)) (omega (arith, few, nodes))
     c.settle_won.new.tree c.settle_won.ensures.settled c.settle_won.new.self c.settle_won.ensures.rest c.compile_double.new.compiler grown c.len.ensures.compiled c.in_ok-win.win c.settle_won.ensures.notes is

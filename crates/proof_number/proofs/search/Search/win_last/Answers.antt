@@ -7,7 +7,8 @@ use Rattle.proof_number.proofs.search.Search.win_last.Goals as goal
 
 pub returns-in_err-win-clause-full : goal.returns-in_err-win-clause-full
 returns-in_err-win-clause-full g c =
-    let many = last-full g.R.Rule.KIND c.args.self.now c.args.tree.now c.args.compiler.now c.args.leaf c.args.self.now.board c.requires.at_leaf c.requires.attack c.in_err-win.ensures.full in
+    let many = last-full g.R.Rule.KIND c.args.self.now c.args.tree.now c.args.compiler.now c.args.leaf c.args.self.now.board
+    c.requires.at_leaf c.requires.attack c.in_err-win.ensures.writes.full in
     search rules
 
 pub settle_won-requires-clause-open : goal.settle_won-requires-clause-open
@@ -33,5 +34,5 @@ returns-clause-step g c =
     let same : c.args.self.now.attacked ≡ c.args.self.now.attacked + 0 = omega arith in
     counted-step g.R.Rule.KIND c.args.self.now c.args.tree.now c.args.compiler.now c.args.leaf c.args.self.now.board c.requires.at_leaf c.requires.attack 0 (omega (arith, fits)) (omega (arith, some))
     c.settle_won.new.tree c.settle_won.ensures.settled c.settle_won.new.self (c.settle_won.ensures.rest ∙ ap (λ (k : ℕ). record c.args.self.now { notes = c.settle_won.new.self.notes; attacked = k }) same)
-    c.compile_last.new.compiler c.compile_last.ensures.grows c.len.ensures.compiled c.in_ok-win.win c.settle_won.ensures.notes
+    c.compile_last.new.compiler c.compile_last.ensures.writes.grows c.len.ensures.compiled c.in_ok-win.win c.settle_won.ensures.notes
     (c.in_ok-win.ensures.win g.R.Rule.KIND c.args.self.now.board (note_at c.args.self.now.notes.items c.args.leaf).left (leaf-lawful g.R.Rule.KIND c.args.self.now c.args.tree.now c.args.compiler.now c.args.leaf c.args.self.now.board c.requires.at_leaf) c.requires.last (omega (arith, two)))

@@ -1,0 +1,19 @@
+use Rattle.std.proofs.Common.{◌∙◌}
+use Rattle.game_rules.proofs.Undo.{stone_back, lift_back, unwon_back}
+use Rattle.threat_game.proofs.doubles.all_replies_to.Goals as goal
+
+pub undo-requires-clause-stone : goal.undo-requires-clause-stone
+undo-requires-clause-stone g c =
+    stone_back g.R.Rule.KIND (g.V.Seen.position c.args.view.now) _ c.args.double.at c.play.ensures.lawful c.requires.on
+    (c.all_replies-found.ensures.same ∙ c.play.ensures.played)
+
+pub undo-requires-clause-unwon : goal.undo-requires-clause-unwon
+undo-requires-clause-unwon g c =
+    unwon_back g.R.Rule.KIND (g.V.Seen.position c.args.view.now) _ c.args.double.at c.play.ensures.lawful c.requires.on
+    (c.all_replies-found.ensures.same ∙ c.play.ensures.played)
+
+pub returns-clause-same : goal.returns-clause-same
+returns-clause-same g c =
+    c.undo.ensures.undone ∙ lift_back g.R.Rule.KIND
+    (g.V.Seen.position c.args.view.now) _ c.args.double.at c.play.ensures.lawful c.requires.on
+    (c.all_replies-found.ensures.same ∙ c.play.ensures.played)
