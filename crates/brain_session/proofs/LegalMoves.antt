@@ -36,7 +36,8 @@ found f ps p h = (found-all f (λ q. true) ps p (all_true ps) h).0 where
   all_true (q ∷ qs) = all_true qs
 
 -- where the test holds somewhere, it holds of what is found
-found-some : (f : Point → Bool) (ps : List Point) (d : Point) → list_any f ps ≡ true → f (unwrap_or (find f ps) d) ≡ true
+-- a point that is looked for where one passes the test passes it
+pub found-some : (f : Point → Bool) (ps : List Point) (d : Point) → list_any f ps ≡ true → f (unwrap_or (find f ps) d) ≡ true
 found-some f [] d h = cc
 found-some f (x ∷ ps) d h = by_test (f x) refl h (found-some f ps d) where
   by_test : (r : Bool) → f x ≡ r → (r || list_any f ps) ≡ true → (list_any f ps ≡ true → f (unwrap_or (find f ps) d) ≡ true) → f (unwrap_or (cond r (Some x) (find f ps)) d) ≡ true
