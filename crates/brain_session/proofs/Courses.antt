@@ -1,5 +1,5 @@
 -- A game that is kept up: after each move of the brain, and after each of the opponent.
-use Rattle.std.proofs.Common.{◌≡◌, ◌≢◌, ℕ, zero, suc, ◌-◌, ◌≤◌, arith, Bool, true, false, not, List, [], ◌∷◌, refl, sym, ap, subst, ◌∙◌}
+use Rattle.std.proofs.Common.{◌≡◌, ◌≢◌, ℕ, ◌-◌, Bool, true, false, not, List, [], ◌∷◌, refl, sym, ap, subst, ◌∙◌}
 use Rattle.std.specs.Prelude.{Option, Some, None, IfSome, MatchOption, is_some, ◌==◌}
 use Rattle.std.specs.Option.{option_map, option_and_then}
 use Rattle.game_rules.specs.Grid.{Grid, is_empty, empties_of}
@@ -8,12 +8,11 @@ use Rattle.game_rules.specs.Play.{IsPosition, outcome, outcome_by, foul_of, afte
 use Rattle.game_rules.specs.declared.Foul.{Foul}
 use Rattle.game_rules.specs.declared.RuleKind.{RuleKind}
 use Rattle.game_rules.specs.declared.Outcome.{Outcome}
-use Rattle.game_rules.specs.declared.Outcome.TheVariants.{Refused, Wins, Fouls, Draws, GoesOn}
+use Rattle.game_rules.specs.declared.Outcome.TheVariants.{Refused, GoesOn}
 use Rattle.game_rules.specs.declared.Point.{Point}
 use Rattle.game_rules.proofs.Positions.{IsPosition-after, mover-other, mover-then}
 use Rattle.game_rules.proofs.Points.{taken_refused}
 use Rattle.game_rules.proofs.Outcomes.{goes_on-is}
-use Rattle.game_rules.specs.Games.{wins_by_fours, wins_under}
 use Rattle.strategy_graph.specs.Tables.{answer_at}
 use Rattle.strategy_checker.specs.HeldRoots.{HeldTable}
 use Rattle.brain_session.specs.declared.guide.Guide.{Guide}
@@ -23,6 +22,7 @@ use Rattle.brain_session.specs.States.{Followed, HeldNode, OwnWin, Game, board_a
 use Rattle.brain_session.specs.ChosenMoves.{Choice, or_else, after_reply, last_move, move_by, by_following, followed_on, by_followed, first_node, by_held, own_win, by_own_win, by_plain_move, chosen_anew, chosen}
 use Rattle.brain_session.specs.Running.{GoesOnAlong, EndsGame, FollowsAt, FollowsOn, IsOpponentNext, IsPlayed}
 use Rattle.brain_session.specs.Kept.{Moves, GuidesAt, GuidesOn, GoesOnAfter, IsKeptUp, IsInTable, IsReady, NodeStandsAt, StandsAt, followed_of, game_of, guide_after}
+use Rattle.brain_session.proofs.OwnWins.{wins_moves}
 use Rattle.brain_session.proofs.Guiding.{stands-goes_on, goes_on-after}
 
 -- ---- the position
@@ -31,6 +31,10 @@ use Rattle.brain_session.proofs.Guiding.{stands-goes_on, goes_on-after}
 pub along-lawful : (rule : RuleKind) (start : Grid) (moves : List Point) → GoesOnAlong rule start moves → IsPosition rule (board_after start moves)
 along-lawful rule start [] h = h
 along-lawful rule start (p ∷ before) h = IsPosition-after rule (board_after start before) p (along-lawful rule start before h.0) h.1
+
+pub start-lawful : (rule : RuleKind) (start : Grid) (moves : List Point) → GoesOnAlong rule start moves → IsPosition rule start
+start-lawful rule start [] h = h
+start-lawful rule start (p ∷ before) h = start-lawful rule start before h.0
 
 -- ---- the chosen move
 
@@ -42,13 +46,9 @@ following-moves : (h : HeldTable) (g : Game) (f : Followed) (o : Option Point) �
 following-moves h g f None e = tt
 following-moves h g f (Some p) e = e
 
-followed-moves : (h : HeldTable) (g : Game) (o : Option Followed) → IfSome (option_and_then (by_following h g) o) (MovesBy h g)
-followed-moves h g None = tt
-followed-moves h g (Some f) = following-moves h g f (move_by h g.rule (board_of g) f) refl
-
-option_and_then-followed : {X : Type 0} (h : HeldTable) (g : Game) (followed : X → Followed) (o : Option X) → IfSome (option_and_then (λ x. by_following h g (followed x)) o) (MovesBy h g)
-option_and_then-followed h g followed None = tt
-option_and_then-followed h g followed (Some x) = following-moves h g (followed x) (move_by h g.rule (board_of g) (followed x)) refl
+followed-moves : {X : Type 0} (h : HeldTable) (g : Game) (followed : X → Followed) (o : Option X) → IfSome (option_and_then (λ x. by_following h g (followed x)) o) (MovesBy h g)
+followed-moves h g followed None = tt
+followed-moves h g followed (Some x) = following-moves h g (followed x) (move_by h g.rule (board_of g) (followed x)) refl
 
 else-moves : (h : HeldTable) (g : Game) (o : Option Choice) (later : Unit {0} → Choice) → IfSome o (MovesBy h g) → MovesBy h g (later tt) → MovesBy h g (or_else o later)
 else-moves h g None later first second = second
@@ -57,40 +57,30 @@ else-moves h g (Some c) later first second = first
 anew-moves : (h : HeldTable) (g : Game) → MovesBy h g (chosen_anew h g)
 unfolding chosen_anew
 anew-moves h g =
-    else-moves h g (by_held h g) (λ _. or_else (by_own_win h g) (λ _. by_plain_move g)) (option_and_then-followed h g (λ i. HeldNode i) (first_node g h.roots))
-    (else-moves h g (by_own_win h g) (λ _. by_plain_move g) (option_and_then-followed h g (λ n. OwnWin n) (own_win g.rule (board_of g))) tt)
+    else-moves h g (by_held h g) (λ _. or_else (by_own_win h g) (λ _. by_plain_move g)) (followed-moves h g (λ i. HeldNode i) (first_node g h.roots))
+    (else-moves h g (by_own_win h g) (λ _. by_plain_move g) (followed-moves h g (λ n. OwnWin n) (own_win g.rule (board_of g))) tt)
 
 -- the chosen move is that by what is followed with it, if anything
 pub chosen-moves : (h : HeldTable) (g : Game) → MovesBy h g (chosen h g)
 unfolding chosen
-chosen-moves h g = else-moves h g (by_followed h g) (λ _. chosen_anew h g) (followed-moves h g (followed_on h g)) (anew-moves h g)
+chosen-moves h g = else-moves h g (by_followed h g) (λ _. chosen_anew h g) (followed-moves h g (λ f. f) (followed_on h g)) (anew-moves h g)
 
--- where nothing that was followed goes_on-is on, the move is chosen anew
+-- where nothing that was followed goes on, the move is chosen anew
 pub chosen-anew : (h : HeldTable) (g : Game) → followed_on h g ≡ None → chosen h g ≡ chosen_anew h g
 unfolding chosen
 chosen-anew h g e = ap (λ (o : Option Followed). or_else (option_and_then (by_following h g) o) (λ _. chosen_anew h g)) e
 
--- where what was followed goes_on-is on, its move is chosen
+-- where what was followed goes on, its move is chosen
 pub chosen-followed : (h : HeldTable) (g : Game) (c : Choice) → by_followed h g ≡ Some c → chosen h g ≡ c
 unfolding chosen
 chosen-followed h g c e = ap (λ (o : Option Choice). or_else o (λ _. chosen_anew h g)) e
 
 -- ---- following
 
-wins-some : (rule : RuleKind) (n : ℕ) (b : Grid) → wins_by_fours rule n b ≡ true → 1 ≤ n
-unfolding wins_under
-wins-some rule zero b wins = cc
-wins-some rule (suc n) b wins = omega arith
-
 -- a guide whose node stands somewhere names a node of its table
 pub node-in_table : (h : HeldTable) (rule : RuleKind) (b : Grid) (g : Guide) → NodeStandsAt h rule b g → IsInTable h g
 node-in_table h rule b (HeldGuide node) at = at.0
-node-in_table h rule b (OwnGuide own) at = (at.in_table, wins-some rule own.moves b at.wins)
-
--- what a guide that answered goes_on-is on to
-pub gone_on : (o : Option Guide) (r : Bool) (old new : Guide) → MatchOption o ((r ≡ false) × (new ≡ old)) (λ g. (r ≡ true) × (new ≡ g)) → r ≡ true → o ≡ Some new
-gone_on None r old new answered e = cc
-gone_on (Some g) r old new answered e = ap (λ (x : Guide). Some x) (sym answered.1)
+node-in_table h rule b (OwnGuide own) at = (at.in_table, wins_moves rule own.moves b at.wins)
 
 after-followed : (h : HeldTable) (g : Guide) (q : Point) (new : Guide) → guide_after h g q ≡ Some new → after_reply h (followed_of g) q ≡ Some (followed_of new)
 after-followed h (HeldGuide node) q new e = by_answer (answer_at h.table node q) e where
@@ -102,8 +92,17 @@ after-followed h (OwnGuide own) q new e = by_answer (answer_at own.table own.nod
   by_answer None e = cc
   by_answer (Some j) e = ap (option_map followed_of) e
 
--- a course that is ready after the reply q, and follows this guide, which goes_on-is on to another
-module _ (h : HeldTable) (m : Moves) (c : Course) (q : Point) (guide new : Guide) (last : last_move m.moves ≡ Some q) (follows : c.guide ≡ Some guide) (ready : IsReady h m c) (after_it : guide_after h guide q ≡ Some new) where
+-- what a guide that answered goes on to
+gone_on : (o : Option Guide) (r : Bool) (old new : Guide) → MatchOption o ((r ≡ false) × (new ≡ old)) (λ g. (r ≡ true) × (new ≡ g)) → r ≡ true → o ≡ Some new
+gone_on None r old new answered e = cc
+gone_on (Some g) r old new answered e = ap (λ (x : Guide). Some x) (sym answered.1)
+
+-- a course that is ready after the reply q, and follows this guide, which answers it and goes on to another
+module _ (h : HeldTable) (m : Moves) (c : Course) (q : Point) (guide new : Guide) (r : Bool) (last : last_move m.moves ≡ Some q) (follows : c.guide ≡ Some guide) (ready : IsReady h m c)
+    (answered : MatchOption (guide_after h guide q) ((r ≡ false) × (new ≡ guide)) (λ g. (r ≡ true) × (new ≡ g))) (yes : r ≡ true) where
+  after_it : guide_after h guide q ≡ Some new
+  after_it = gone_on (guide_after h guide q) r guide new answered yes
+
   ready-on : GoesOnAfter h c.kind (board_after m.start m.moves) guide q
   ready-on = subst (λ (o : Option Point). IfSome o (GoesOnAfter h c.kind (board_after m.start m.moves) guide)) last
       (subst (λ (o : Option Guide). IfSome o (λ guide. IfSome (last_move m.moves) (GoesOnAfter h c.kind (board_after m.start m.moves) guide))) follows ready)
@@ -122,10 +121,8 @@ module _ (h : HeldTable) (m : Moves) (c : Course) (q : Point) (guide new : Guide
 
 ends : (o : Outcome) → o ≢ Refused → goes_on o ≡ false → EndsGame o
 ends Refused moved e = absurd (moved refl)
-ends Wins moved e = tt
-ends (Fouls f) moved e = tt
-ends Draws moved e = tt
 ends GoesOn moved e = absurd (cc)
+ends _ moved e = tt
 
 unrefused : (wins last : Bool) (o : Option Foul) → outcome_by true wins o last ≢ Refused
 unrefused true last (Some f) e = cc
@@ -180,7 +177,7 @@ ends-empty rule b p ended = by_test (is_empty b p) refl where
   by_test true e = refl
   by_test false e = absurd (subst EndsGame (taken_refused rule b p e) ended)
 
--- a game that goes_on-is on, where the opponent makes a move with which it goes_on-is on
+-- a game that goes on, where the opponent makes a move with which it goes on
 module _ (h : HeldTable) (m : Moves) (c : Course) (p : Point) (kept : IsKeptUp h m c) (going : c.ended ≡ false) (go : outcome c.kind (board_after m.start m.moves) p ≡ GoesOn) where
   abbrev there : Moves
   there = record m { moves = p ∷ m.moves }

@@ -7,7 +7,7 @@ use Rattle.game_rules.specs.Play.{outcome}
 use Rattle.game_rules.specs.Games.{LosesOr}
 use Rattle.game_rules.specs.declared.RuleKind.{RuleKind}
 use Rattle.game_rules.specs.declared.Outcome.{Outcome}
-use Rattle.game_rules.specs.declared.Outcome.TheVariants.{Refused, Wins as WinsNow, Fouls, Draws, GoesOn}
+use Rattle.game_rules.specs.declared.Outcome.TheVariants.{Wins as WinsNow, Draws}
 use Rattle.strategy_graph.specs.declared.Node.{Node}
 use Rattle.strategy_graph.specs.declared.roots.Root.{Root}
 use Rattle.strategy_graph.specs.declared.roots.Root.TheVariants.{Attack, Defend}
@@ -26,9 +26,8 @@ use Rattle.brain_session.specs.Sessions.{state_after}
 use Rattle.brain_session.specs.HeldGames.{BeginsHeldGame, IsLedTo, HeldGameGoesWell, HeldGamesGoWell, SessionsGoWell, IsTight, StartsAreTight, replies, answers_to_replies, game_answers, IsWonWithin}
 use Rattle.brain_session.specs.Running.{GoesOnAlong}
 use Rattle.brain_session.proofs.HeldNodes.{first-led, root-accepted, root-no_deeper}
-use Rattle.brain_session.proofs.HeldPlays.{GoesBy}
+use Rattle.brain_session.proofs.HeldSteps.{GoesBy, state_in, by_node, StandsIn, accepted_node, all-go_well}
 use Rattle.brain_session.proofs.Courses.{along-lawful}
-use Rattle.brain_session.proofs.HeldSteps.{state_in, by_node, StandsIn, accepted_node, all-go_well}
 use Rattle.brain_session.proofs.LawfulStates.{LawfulState, IsToMove, LawfulRow, row-lawful, session-lawful, new-lawful}
 
 -- a held root that leads to a node in the game, where the moves went on: the node is accepted, and no deeper than the root
@@ -95,11 +94,9 @@ sessions-go_well held is_held bytes before c later g i e b = held-games-go_well 
 -- ---- starts
 
 tight : (o : Outcome) (W : Type 0) → LosesOr o W → LosesOr o (Unit {0})
-tight Refused W h = tt
 tight WinsNow W h = h
-tight (Fouls f) W h = tt
 tight Draws W h = h
-tight GoesOn W h = tt
+tight _ W h = tt
 
 root_tight : (t : List Node) (rule : RuleKind) (b : Grid) (root : Root) → AcceptedRoot rule t root b → IsTight rule b root
 root_tight t rule b (Attack i) h = tt

@@ -70,14 +70,9 @@ first-led g (r ∷ rs) i h = by_root (root_node g r) refl h (first-led g rs i) w
 
 same_rule-is : (k m : RuleKind) → same_rule k m ≡ true → k ≡ m
 same_rule-is Freestyle Freestyle h = refl
-same_rule-is Freestyle Exact h = cc
-same_rule-is Freestyle Renju h = cc
-same_rule-is Exact Freestyle h = cc
 same_rule-is Exact Exact h = refl
-same_rule-is Exact Renju h = cc
-same_rule-is Renju Freestyle h = cc
-same_rule-is Renju Exact h = cc
 same_rule-is Renju Renju h = refl
+same_rule-is _ _ h = cc
 
 -- a choice that is made only under a test
 if_some : (t : Bool) (o : Option ℕ) (i : ℕ) → cond t o None ≡ Some i → (t ≡ true) × (o ≡ Some i)

@@ -26,10 +26,10 @@ use Rattle.brain_session.specs.ChosenMoves.{Choice}
 use Rattle.brain_session.specs.Steps.{Row, Reacts, Chooses, rule_of, if_supported, with_move, move_row, row_of, with_choice, Step, step_by, brain_step}
 use Rattle.brain_session.specs.Sessions.{then_answers, answers_from, state_after}
 use Rattle.brain_session.specs.HeldGames.{BeginsHeldGame, AreReplies, turns, game_answers, LegalRepliesAreAnswered}
-use Rattle.brain_session.proofs.HeldPlays.{GoesBy, not_winning, by_foul, by_next, attacks-first, attacks-foul, attacks-next, depth_some}
-use Rattle.brain_session.proofs.HeldSteps.{state_in, by_node, StandsIn, nothing_more, row_then, next_stands, parts}
-use Rattle.brain_session.proofs.HeldWins.{not_refused}
+use Rattle.brain_session.proofs.HeldSteps.{GoesBy, not_winning, by_foul, by_next, attacks-first, attacks-foul, attacks-next, depth_some, state_in, by_node, StandsIn, nothing_more, row_then, next_stands, parts}
+use Rattle.brain_session.proofs.Courses.{moved}
 use Rattle.brain_session.proofs.RowCases.{row-cases}
+use Rattle.brain_session.proofs.SessionLaws.{answers-none}
 use Rattle.brain_session.proofs.LawfulStates.{LawfulState, session-lawful, new-lawful}
 use Rattle.brain_session.proofs.HeldGames.{begins, stands_where}
 
@@ -59,21 +59,14 @@ supported s c g e = subst (Supported s) e (row-cases (Supported s) s c (record {
   back = λ g p before at are. tt;
 })) where
   moves : (rule : RuleKind) → rule_of s.wish ≡ Some rule → (g : Game) (p : Point) (o : Outcome) → Supported s (move_row s g p o)
-  moves rule by_wish g p Refused = tt
-  moves rule by_wish g p WinsNow = tt
-  moves rule by_wish g p (Fouls f) = tt
-  moves rule by_wish g p Draws = tt
   moves rule by_wish g p GoesOn = ap is_some by_wish
+  moves rule by_wish g p _ = tt
 
 -- ---- one reply after another
 
 answers-row : (s : State) (c : Command) (cs : List Command) (r : Row) → row_of s c ≡ r → answers_from s (c ∷ cs) ≡ then_answers (step_by s r).reaction (answers_from (step_by s r).next cs)
 unfolding answers_from
 answers-row s c cs r e = rw e refl
-
-no_answers : (s : State) → answers_from s [] ≡ []
-unfolding answers_from
-no_answers s = refl
 
 AllAnswered : HeldTable → List Point → Type 0
 AllAnswered h qs =
@@ -94,7 +87,7 @@ module _ (h : HeldTable) (k w : ℕ) (g : Game) (i : ℕ) (n : Node) (s : Stands
   fouled f [] e are =
       let s1 = state_in h w (with_choice g (by_node i n)) in
       let said : answers_from s1 (turns (q ∷ [])) ≡ Error OpponentFoul ∷ [] =
-      answers-row s1 (Turn q.x q.y) [] _ (row_is (Fouls f) e) ∙ ap (λ (x : List Answer). Error OpponentFoul ∷ x) (no_answers (state_in h w (with_move (with_choice g (by_node i n)) q true))) in
+      answers-row s1 (Turn q.x q.y) [] _ (row_is (Fouls f) e) ∙ ap (λ (x : List Answer). Error OpponentFoul ∷ x) (answers-none (state_in h w (with_move (with_choice g (by_node i n)) q true))) in
       subst (λ (x : List Answer). GoesBy g.rule h.table (depth_within (suc k) h.table i) i (board_of g) n.attack (q ∷ []) x) (sym said)
       (by_foul g.rule h.table _ i (board_of g) n s.node (depth_some h.table i n k s.node) on (not_winning n.rest (parts h g i n k s on).0) q f e)
 
@@ -111,7 +104,7 @@ module _ (h : HeldTable) (k w : ℕ) (g : Game) (i : ℕ) (n : Node) (s : Stands
       (all next.more w g2 j next.node next.stands (ap is_some wish) are))
 
   by_reply : (qs : List Point) → AllAnswered h qs → is_empty (after (board_of g) n.attack) q ≡ true → AreReplies g.rule (board_of g) (attacks g.rule h.table i (board_of g) (q ∷ qs)) (q ∷ qs) → (p : Outcome) → outcome g.rule (after (board_of g) n.attack) q ≡ p → LosesOr p (Answered (answer (answers_of n) q) (λ j. AcceptedWithin k g.rule h.table j (after (after (board_of g) n.attack) q))) → GoesBy g.rule h.table (depth_within (suc k) h.table i) i (board_of g) n.attack (q ∷ qs) (answers_from (state_in h w (with_choice g (by_node i n))) (turns (q ∷ qs)))
-  by_reply qs all empty are Refused e met = absurd (not_refused g.rule (after (board_of g) n.attack) q empty e)
+  by_reply qs all empty are Refused e met = absurd (moved g.rule (after (board_of g) n.attack) q empty e)
   by_reply qs all empty are WinsNow e met = absurd met
   by_reply qs all empty are (Fouls f) e met =
       fouled f qs e (subst (λ (ps : List Point). AreReplies g.rule (board_of g) ps (q ∷ qs)) (attacks-foul g.rule h.table 1 i (board_of g) n s.node (omega arith) on (not_winning n.rest (parts h g i n k s on).0) q qs f e) are).2
@@ -129,7 +122,7 @@ rule_by w h = by_cases (rule_of w) refl h where
 all-answered : (h : HeldTable) (qs : List Point) → AllAnswered h qs
 unfolding AllAnswered
 all-answered h [] k w g i n s wish are =
-    subst (λ (x : List Answer). GoesBy g.rule h.table (depth_within (suc k) h.table i) i (board_of g) n.attack [] x) (sym (no_answers (state_in h w (with_choice g (by_node i n))))) (nothing_more h g i n k s)
+    subst (λ (x : List Answer). GoesBy g.rule h.table (depth_within (suc k) h.table i) i (board_of g) n.attack [] x) (sym (answers-none (state_in h w (with_choice g (by_node i n))))) (nothing_more h g i n k s)
 all-answered h (q ∷ qs) k w g i n s wish are =
     let rule = rule_by w wish in
     let first = attacks-first g.rule h.table 1 i (board_of g) n s.node (omega arith) (q ∷ qs) in

@@ -1,36 +1,154 @@
--- A game in which a held node is followed: what each later command does to it.
-use Rattle.std.proofs.Common.{◌≡◌, ℕ, zero, suc, ◌<◌, Bool, true, false, cond, not, List, [], ◌∷◌, refl, ap, subst, ◌∙◌}
+-- A game in which a held node is followed: how it goes on by one reply, over plain values, and what each later command does to it.
 use Rattle.std.specs.Prelude.{Option, Some, None, slice_get}
+use Rattle.std.proofs.Common.{◌≡◌, ℕ, suc, ◌≤◌, ◌<◌, Bool, true, false, cond, List, [], ◌∷◌, ◌++◌, map, length, refl, sym, ap, ◌∙◌, arith, zero, not, subst}
 use Rattle.game_rules.specs.Grid.{Grid}
-use Rattle.game_rules.specs.Play.{IsPosition, outcome, after, mover, other, goes_on}
+use Rattle.game_rules.specs.Play.{outcome, after, IsPosition, mover, other, goes_on, is_foul}
 use Rattle.game_rules.specs.Games.{WinsOr, LosesOr}
-use Rattle.game_rules.proofs.Positions.{IsPosition-after, mover-then}
-use Rattle.game_rules.proofs.Games.{WinsOr-map}
-use Rattle.game_rules.proofs.Boards.{other-other}
 use Rattle.game_rules.specs.declared.RuleKind.{RuleKind}
-use Rattle.game_rules.specs.declared.Side.{Side}
-use Rattle.game_rules.specs.declared.Side.TheVariants.{Black, White}
 use Rattle.game_rules.specs.declared.Foul.{Foul}
 use Rattle.game_rules.specs.declared.Outcome.{Outcome}
 use Rattle.game_rules.specs.declared.Outcome.TheVariants.{Refused, Wins as WinsNow, Fouls, Draws, GoesOn}
 use Rattle.game_rules.specs.declared.Point.{Point}
+use Rattle.game_rules.specs.declared.Side.{Side}
+use Rattle.game_rules.specs.declared.Side.TheVariants.{Black, White}
+use Rattle.game_rules.proofs.Positions.{IsPosition-after, mover-then}
+use Rattle.game_rules.proofs.Games.{WinsOr-map}
+use Rattle.game_rules.proofs.Boards.{other-other}
+use Rattle.strategy_graph.specs.declared.Rest.{Rest}
+use Rattle.strategy_graph.specs.declared.Rest.TheVariants.{Wins, To, Nothing}
 use Rattle.strategy_graph.specs.declared.Node.{Node}
 use Rattle.strategy_graph.specs.Tables.{answers_of, answer, is_winning, depth_within}
-use Rattle.strategy_graph.specs.Acceptance.{Answered, NotWinning, Meets, AcceptedNode, AcceptedWithin}
-use Rattle.strategy_graph.proofs.Answering.{Answered-elim}
+use Rattle.strategy_graph.specs.Acceptance.{NotWinning, Answered, Meets, AcceptedNode, AcceptedWithin}
+use Rattle.strategy_graph.specs.Games.{End, Won, NoMove, Open, after_attack, one_later, points_on, game, attacks_at, attacks}
+use Rattle.strategy_graph.proofs.Answering.{answer-greatest, Answered-elim}
 use Rattle.strategy_checker.specs.HeldRoots.{HeldTable}
-use Rattle.gomocup_text.specs.declared.Command.{Command}
-use Rattle.gomocup_text.specs.declared.Command.TheVariants.{Start, RectStart, Begin, Turn, Board, Stone, Done, Restart, Takeback, Rule, Info, About, End, Blank, Malformed, Unknown}
 use Rattle.gomocup_text.specs.declared.Answer.{Answer}
 use Rattle.gomocup_text.specs.declared.Answer.TheVariants.{Move, Error}
+use Rattle.gomocup_text.specs.declared.ErrorText.TheVariants.{OpponentFoul, UnsupportedRule, GameOver, BadMove}
+use Rattle.gomocup_text.specs.declared.Command.{Command}
+use Rattle.gomocup_text.specs.declared.Command.TheVariants.{Start, RectStart, Turn, Board, Restart, Takeback, Rule, End as EndCommand}
 use Rattle.gomocup_text.specs.declared.ErrorText.{ErrorText}
-use Rattle.gomocup_text.specs.declared.ErrorText.TheVariants.{UnsupportedRule, GameOver, BadMove, OpponentFoul}
+use Rattle.brain_session.specs.ChosenMoves.{Choice, chosen}
+use Rattle.brain_session.specs.HeldGames.{ends_with_foul, game_answers, IsWonWithin, is_no_reply, then_replies, replies, then_answers_to, answers_to_replies}
 use Rattle.brain_session.specs.declared.Reaction.TheVariants.{Says}
 use Rattle.brain_session.specs.States.{HeldNode, Game, board_of, point_at, InGame, State}
-use Rattle.brain_session.specs.ChosenMoves.{Choice, chosen}
 use Rattle.brain_session.specs.Steps.{Row, Chooses, fails, rule_of, if_supported, same_side, with_move, end_row, move_row, row_of, with_choice, step_by}
-use Rattle.brain_session.specs.HeldGames.{is_no_reply, then_replies, replies, then_answers_to, answers_to_replies}
-use Rattle.brain_session.proofs.HeldPlays.{GoesBy, not_winning, by_none, by_foul, by_next, depth_some, deeper}
+
+-- the answers to the attack a and to these replies are those of the game from node i at b, which is won within d or open
+pub record GoesBy (rule : RuleKind) (t : List Node) (d i : ℕ) (b : Grid) (a : Point) (rs : List Point) (said : List Answer) : Type 0 where
+  pub answers : Move a ∷ said ≡ game_answers rule t i b rs
+  pub won : IsWonWithin d (length rs) (game rule t i b rs)
+
+pub not_winning : (r : Rest) → NotWinning r → is_winning r ≡ false
+not_winning Wins h = absurd h
+not_winning (To j) h = refl
+not_winning Nothing h = refl
+
+-- ---- depths
+
+pub depth_some : (t : List Node) (i : ℕ) (n : Node) (k : ℕ) → slice_get t i ≡ Some n → 1 ≤ depth_within (suc k) t i
+unfolding depth_within
+depth_some t i n k e = rw e (omega arith)
+
+-- the answer to a reply is less deep than the node
+pub deeper : (t : List Node) (i : ℕ) (n : Node) (k : ℕ) (q : Point) (j : ℕ) → slice_get t i ≡ Some n → answer (answers_of n) q ≡ Some j → depth_within k t j < depth_within (suc k) t i
+unfolding depth_within
+deeper t i n k q j e w = let low = answer-greatest (depth_within k t) (answers_of n) q j w in rw e (omega (arith, low))
+
+-- ---- no reply left
+
+no_foul_left : (rule : RuleKind) (b : Grid) (ps : List Point) → ends_with_foul rule b ps [] ≡ false
+no_foul_left rule b [] = refl
+no_foul_left rule b (p ∷ ps) = refl
+
+open_or_won : (o : Outcome) (r : Rest) (d : ℕ) → 1 ≤ d → WinsOr o (Unit {0}) → (o ≡ GoesOn → is_winning r ≡ false) → IsWonWithin d 0 (after_attack o (cond (is_winning r) NoMove Open))
+open_or_won WinsNow r d l h f = (omega arith, l)
+open_or_won GoesOn r d l h f = rw (f refl) l
+open_or_won _ r d l h f = absurd h
+
+-- the answers by the attacks that are played
+answers_of_attacks : RuleKind → Grid → List Point → List Point → List Answer
+answers_of_attacks rule b qs ps = map (λ p. Move p) ps ++ (cond (ends_with_foul rule b ps qs) (Error OpponentFoul ∷ []) [])
+
+said-by : (rule : RuleKind) (t : List Node) (i : ℕ) (b : Grid) (qs ps : List Point) → attacks rule t i b qs ≡ ps → answers_of_attacks rule b qs ps ≡ game_answers rule t i b qs
+unfolding answers_of_attacks
+said-by rule t i b qs ps e = ap (answers_of_attacks rule b qs) (sym e)
+
+none_on : (o : Outcome) (r : Bool) → points_on o (cond r [] []) ≡ []
+none_on GoesOn true = refl
+none_on GoesOn false = refl
+none_on _ r = refl
+
+-- where the reply q goes on, the last reply is a foul if it is one of those after q
+foul-later : (rule : RuleKind) (b : Grid) (p q : Point) (ps qs : List Point) → outcome rule (after b p) q ≡ GoesOn → ends_with_foul rule b (p ∷ ps) (q ∷ qs) ≡ ends_with_foul rule (after (after b p) q) ps qs
+foul-later rule b p q ps [] e = ap is_foul e ∙ sym (no_foul_left rule (after (after b p) q) ps)
+foul-later rule b p q ps (v ∷ qs) e = refl
+
+won_later : (e d n : ℕ) (end : End) → e < d → IsWonWithin e n end → IsWonWithin d (suc n) (one_later end)
+won_later e d n (Won k) less h = let high = h.1 in (omega arith, omega (arith, high))
+won_later e d n Open less h = omega arith
+won_later e d n _ less h = h
+
+first_at : (rule : RuleKind) (b : Grid) (o : Option Node) (n : Node) (next : Node → List Point) → o ≡ Some n → (rest : List Point) × (attacks_at rule o b next ≡ n.attack ∷ rest)
+first_at rule b None n next e = cc
+first_at rule b (Some m) n next e =
+    let same : m ≡ n = cc in
+    let rest = points_on (outcome rule b m.attack) (cond (is_winning m.rest) [] (next m)) in
+    (rest, ap (λ (x : Node). x.attack ∷ rest) same)
+
+module _ (rule : RuleKind) (t : List Node) (d i : ℕ) (b : Grid) (n : Node) (at : slice_get t i ≡ Some n) (l : 1 ≤ d) where
+  pub attacks-none : attacks rule t i b [] ≡ n.attack ∷ []
+  unfolding attacks
+  attacks-none = rw at (ap (λ (ps : List Point). n.attack ∷ ps) (none_on (outcome rule b n.attack) (is_winning n.rest)))
+
+  -- the attack of the node is the first
+  pub attacks-first : (qs : List Point) → (rest : List Point) × (attacks rule t i b qs ≡ n.attack ∷ rest)
+  unfolding attacks
+  attacks-first [] = first_at rule b (slice_get t i) n _ at
+  attacks-first (q ∷ qs) = first_at rule b (slice_get t i) n _ at
+
+  pub by_none : WinsOr (outcome rule b n.attack) (Unit {0}) → (outcome rule b n.attack ≡ GoesOn → is_winning n.rest ≡ false) → GoesBy rule t d i b n.attack [] []
+  unfolding game answers_of_attacks
+  by_none h f = record {
+    answers = said-by rule t i b [] (n.attack ∷ []) attacks-none;
+    won = rw at (open_or_won (outcome rule b n.attack) n.rest d l h f);
+  }
+
+  module _ (o : outcome rule b n.attack ≡ GoesOn) (r : is_winning n.rest ≡ false) (q : Point) where
+    pub attacks-foul : (qs : List Point) (f : Foul) → outcome rule (after b n.attack) q ≡ Fouls f → attacks rule t i b (q ∷ qs) ≡ n.attack ∷ []
+    unfolding attacks
+    attacks-foul qs f e = rw (at, o, r, e) refl
+
+    said_foul : (f : Foul) → outcome rule (after b n.attack) q ≡ Fouls f → Move n.attack ∷ Error OpponentFoul ∷ [] ≡ answers_of_attacks rule b (q ∷ []) (n.attack ∷ [])
+    unfolding answers_of_attacks
+    said_foul f e = rw e refl
+
+    pub by_foul : (f : Foul) → outcome rule (after b n.attack) q ≡ Fouls f → GoesBy rule t d i b n.attack (q ∷ []) (Error OpponentFoul ∷ [])
+    unfolding game
+    by_foul f e = record {
+      answers = said_foul f e ∙ said-by rule t i b (q ∷ []) (n.attack ∷ []) (attacks-foul [] f e);
+      won = rw (at, o, r, e) (omega arith, l);
+    }
+
+    pub attacks-next : (j : ℕ) (rs : List Point) → outcome rule (after b n.attack) q ≡ GoesOn → answer (answers_of n) q ≡ Some j → attacks rule t i b (q ∷ rs) ≡ n.attack ∷ attacks rule t j (after (after b n.attack) q) rs
+    unfolding attacks
+    attacks-next j rs g w = rw (at, o, r, g, w) refl
+
+    said_next : (j : ℕ) (rs : List Point) → outcome rule (after b n.attack) q ≡ GoesOn → Move n.attack ∷ game_answers rule t j (after (after b n.attack) q) rs ≡ answers_of_attacks rule b (q ∷ rs) (n.attack ∷ attacks rule t j (after (after b n.attack) q) rs)
+    unfolding answers_of_attacks
+    said_next j rs g =
+        let ps = attacks rule t j (after (after b n.attack) q) rs in
+        ap (λ (r : Bool). Move n.attack ∷ (map (λ p. Move p) ps ++ cond r (Error OpponentFoul ∷ []) [])) (sym (foul-later rule b n.attack q ps rs g))
+
+    pub won_next : (e j : ℕ) (rs : List Point) → outcome rule (after b n.attack) q ≡ GoesOn → answer (answers_of n) q ≡ Some j → e < d → IsWonWithin e (length rs) (game rule t j (after (after b n.attack) q) rs) → IsWonWithin d (suc (length rs)) (game rule t i b (q ∷ rs))
+    unfolding game
+    won_next e j rs g w less h = rw (at, o, r, g, w) (won_later e d (length rs) _ less h)
+
+    pub by_next : (e j : ℕ) (m : Node) (rs : List Point) (said : List Answer) → outcome rule (after b n.attack) q ≡ GoesOn → answer (answers_of n) q ≡ Some j → e < d → GoesBy rule t e j (after (after b n.attack) q) m.attack rs said → GoesBy rule t d i b n.attack (q ∷ rs) (Move m.attack ∷ said)
+    by_next e j m rs said g w less h = record {
+      answers = ap (λ (x : List Answer). Move n.attack ∷ x) h.answers ∙ said_next j rs g ∙ said-by rule t i b (q ∷ rs) _ (attacks-next j rs g w);
+      won = won_next e j rs g w less h.won;
+    }
 
 -- the state in which this game goes on, with this wish and no batch
 abbrev pub state_in : HeldTable → ℕ → Game → State
@@ -64,29 +182,23 @@ module _ (h : HeldTable) (g : Game) (e : g.ended ≡ true) where
   none_left : (w : ℕ) (cs : List Command) → (replies (state_in h w g) cs ≡ []) × (answers_to_replies (state_in h w g) cs ≡ [])
   unfolding replies answers_to_replies row_of
   none_left w [] = (refl, refl)
-  none_left w (Start n ∷ cs) = (refl, refl)
-  none_left w (RectStart n m ∷ cs) = (refl, refl)
-  none_left w (Begin ∷ cs) = none_left w cs
   none_left w (Turn x y ∷ cs) =
       let row = turn_ended h w g x y e in
       let rest = none_left w cs in
       (replies-by (state_in h w g) (Turn x y) cs _ row ∙ rest.0, answers-by (state_in h w g) (Turn x y) cs _ row ∙ rest.1)
+  none_left w (Start n ∷ cs) = (refl, refl)
+  none_left w (RectStart n m ∷ cs) = (refl, refl)
   none_left w (Board ∷ cs) = (refl, refl)
-  none_left w (Stone x y f ∷ cs) = none_left w cs
-  none_left w (Done ∷ cs) = none_left w cs
   none_left w (Restart ∷ cs) = (refl, refl)
   none_left w (Takeback x y ∷ cs) = (refl, refl)
+  none_left w (EndCommand ∷ cs) = (refl, refl)
   none_left w (Rule v ∷ cs) = none_left v cs
-  none_left w (Info ∷ cs) = none_left w cs
-  none_left w (About ∷ cs) = none_left w cs
-  none_left w (End ∷ cs) = (refl, refl)
-  none_left w (Blank ∷ cs) = none_left w cs
-  none_left w (Malformed ∷ cs) = none_left w cs
-  none_left w (Unknown ∷ cs) = none_left w cs
+  none_left w (_ ∷ cs) = none_left w cs
 
 -- ---- a TURN in a game that goes on
 
-other_side : (s t : Side) → t ≡ other s → same_side t s ≡ false
+-- the other side is not the same
+pub other_side : (s t : Side) → t ≡ other s → same_side t s ≡ false
 other_side Black t e = rw e refl
 other_side White t e = rw e refl
 
@@ -139,11 +251,8 @@ GoesBy-same rule t d i b a rs ps said heard e f h = rw (e, f) h
 pub nothing_more : (h : HeldTable) (g : Game) (i : ℕ) (n : Node) (k : ℕ) → StandsIn h g i n k → GoesBy g.rule h.table (depth_within (suc k) h.table i) i (board_of g) n.attack [] []
 nothing_more h g i n k s = by_none g.rule h.table _ i (board_of g) n s.node (depth_some h.table i n k s.node) (WinsOr-map (outcome g.rule (board_of g) n.attack) _ _ (λ w. tt) s.wins) (going (outcome g.rule (board_of g) n.attack) s.wins) where
   going : (o : Outcome) → WinsOr o (NotWinning n.rest × ((q : Point) → Meets g.rule (answers_of n) (AcceptedWithin k g.rule h.table) (after (board_of g) n.attack) q)) → o ≡ GoesOn → is_winning n.rest ≡ false
-  going Refused w e = cc
-  going WinsNow w e = cc
-  going (Fouls f) w e = cc
-  going Draws w e = cc
   going GoesOn w e = not_winning n.rest w.0
+  going _ w e = cc
 
 -- where the attack wins, or the game is ended for another reason, no later command changes anything
 ended_goes : (h : HeldTable) (w : ℕ) (g : Game) (i : ℕ) (n : Node) (k : ℕ) (cs : List Command) → StandsIn h g i n k → not (goes_on (outcome g.rule (board_of g) n.attack)) ≡ true → GoesOver h w g i n k cs
@@ -162,11 +271,8 @@ module _ (h : HeldTable) (g : Game) (i : ℕ) (n : Node) (k : ℕ) (s : StandsIn
   pub parts : NotWinning n.rest × ((q : Point) → Meets g.rule (answers_of n) (AcceptedWithin k g.rule h.table) (after (board_of g) n.attack) q)
   parts = by_outcome (outcome g.rule (board_of g) n.attack) o s.wins where
     by_outcome : (r : Outcome) → r ≡ GoesOn → WinsOr r (NotWinning n.rest × ((q : Point) → Meets g.rule (answers_of n) (AcceptedWithin k g.rule h.table) (after (board_of g) n.attack) q)) → NotWinning n.rest × ((q : Point) → Meets g.rule (answers_of n) (AcceptedWithin k g.rule h.table) (after (board_of g) n.attack) q)
-    by_outcome Refused e w = cc
-    by_outcome WinsNow e w = cc
-    by_outcome (Fouls f) e w = cc
-    by_outcome Draws e w = cc
     by_outcome GoesOn e w = w
+    by_outcome _ e w = cc
 
   -- a TURN that is no reply changes nothing
   no_reply : (w x y : ℕ) (cs : List Command) (e : ErrorText) → is_no_reply (Says (Error e)) ≡ true → row_of (state_in h w (with_choice g (by_node i n))) (Turn x y) ≡ fails e (state_in h w (with_choice g (by_node i n))) → GoesOver h w g i n k cs → GoesOver h w g i n k (Turn x y ∷ cs)
@@ -235,29 +341,20 @@ module _ (h : HeldTable) (g : Game) (i : ℕ) (n : Node) (k : ℕ) (s : StandsIn
 turn_goes : (h : HeldTable) (cs : List Command) → AllGoWell h cs → (x y : ℕ) → AllGoWell h (Turn x y ∷ cs)
 turn_goes h cs all x y k w g i n s = by_outcome (outcome g.rule (board_of g) n.attack) refl s.wins where
   by_outcome : (r : Outcome) → outcome g.rule (board_of g) n.attack ≡ r → WinsOr r (NotWinning n.rest × ((q : Point) → Meets g.rule (answers_of n) (AcceptedWithin k g.rule h.table) (after (board_of g) n.attack) q)) → GoesOver h w g i n k (Turn x y ∷ cs)
-  by_outcome Refused e v = absurd v
   by_outcome WinsNow e v = ended_goes h w g i n k (Turn x y ∷ cs) s (ap (λ (r : Outcome). not (goes_on r)) e)
-  by_outcome (Fouls f) e v = absurd v
-  by_outcome Draws e v = absurd v
   by_outcome GoesOn e v = going_turn h g i n k s e w x y cs all
+  by_outcome _ e v = absurd v
 
 -- whatever is told later, the answers to the replies are those of the game against the table
 pub all-go_well : (h : HeldTable) (cs : List Command) → AllGoWell h cs
 unfolding replies answers_to_replies row_of
 all-go_well h [] k w g i n s = nothing_more h g i n k s
+all-go_well h (Turn x y ∷ cs) k w g i n s = turn_goes h cs (all-go_well h cs) x y k w g i n s
 all-go_well h (Start m ∷ cs) k w g i n s = nothing_more h g i n k s
 all-go_well h (RectStart l m ∷ cs) k w g i n s = nothing_more h g i n k s
-all-go_well h (Begin ∷ cs) k w g i n s = all-go_well h cs k w g i n s
-all-go_well h (Turn x y ∷ cs) k w g i n s = turn_goes h cs (all-go_well h cs) x y k w g i n s
 all-go_well h (Board ∷ cs) k w g i n s = nothing_more h g i n k s
-all-go_well h (Stone x y f ∷ cs) k w g i n s = all-go_well h cs k w g i n s
-all-go_well h (Done ∷ cs) k w g i n s = all-go_well h cs k w g i n s
 all-go_well h (Restart ∷ cs) k w g i n s = nothing_more h g i n k s
 all-go_well h (Takeback x y ∷ cs) k w g i n s = nothing_more h g i n k s
+all-go_well h (EndCommand ∷ cs) k w g i n s = nothing_more h g i n k s
 all-go_well h (Rule v ∷ cs) k w g i n s = all-go_well h cs k v g i n s
-all-go_well h (Info ∷ cs) k w g i n s = all-go_well h cs k w g i n s
-all-go_well h (About ∷ cs) k w g i n s = all-go_well h cs k w g i n s
-all-go_well h (End ∷ cs) k w g i n s = nothing_more h g i n k s
-all-go_well h (Blank ∷ cs) k w g i n s = all-go_well h cs k w g i n s
-all-go_well h (Malformed ∷ cs) k w g i n s = all-go_well h cs k w g i n s
-all-go_well h (Unknown ∷ cs) k w g i n s = all-go_well h cs k w g i n s
+all-go_well h (_ ∷ cs) k w g i n s = all-go_well h cs k w g i n s

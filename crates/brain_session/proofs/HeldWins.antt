@@ -1,8 +1,8 @@
 -- Whoever answers by an accepted table wins within its depth, whatever legal replies come.
-use Rattle.std.proofs.Common.{◌≡◌, ℕ, suc, ◌≤◌, Bool, true, false, List, [], ◌∷◌, get_or, length, refl, sym, subst, arith, ◌⊎◌, inl, inr}
-use Rattle.std.specs.Prelude.{Option, Some, None, slice_get}
+use Rattle.std.proofs.Common.{◌≡◌, ℕ, suc, ◌≤◌, true, false, List, [], ◌∷◌, get_or, length, refl, sym, subst, arith, ◌⊎◌, inl, inr}
+use Rattle.std.specs.Prelude.{Some, slice_get}
 use Rattle.game_rules.specs.Grid.{Grid, is_empty}
-use Rattle.game_rules.specs.Play.{outcome, outcome_by, after, is_foul}
+use Rattle.game_rules.specs.Play.{outcome, after, is_foul}
 use Rattle.game_rules.specs.Games.{WinsOr, LosesOr}
 use Rattle.game_rules.proofs.Games.{WinsOr-map}
 use Rattle.game_rules.specs.declared.RuleKind.{RuleKind}
@@ -16,32 +16,16 @@ use Rattle.strategy_graph.specs.declared.roots.Root.TheVariants.{Attack, Defend}
 use Rattle.strategy_graph.specs.Tables.{Answers, answers_of, answer, is_winning, depth_within, depth, start_depth}
 use Rattle.strategy_graph.specs.Acceptance.{Answered, NotWinning, Meets, AcceptedWithin, Accepted}
 use Rattle.strategy_graph.specs.Roots.{AcceptedRoot}
-use Rattle.strategy_graph.specs.Games.{End, Won, Lost, Drawn, NoMove, Open, IllegalReply, game, attacks}
+use Rattle.strategy_graph.specs.Games.{End, Won, Open, game, attacks}
 use Rattle.strategy_graph.proofs.Answering.{answer-greatest, Answered-elim}
 use Rattle.brain_session.specs.HeldGames.{IsWonWithin, AreReplies, WinsGames, AnswersAndWins, RootWinsGames, WhoeverHoldsWins}
-use Rattle.brain_session.proofs.HeldPlays.{not_winning, by_none, by_foul, attacks-first, attacks-foul, attacks-next, won_next, depth_some, deeper}
-use Rattle.brain_session.proofs.HeldSteps.{accepted_node}
-
--- a point that is empty is not refused
-not_refused_by : (e w l : Bool) (f : Option Foul) → e ≡ true → outcome_by e w f l ≡ Refused → ⊥
-not_refused_by true true l None e h = cc
-not_refused_by true false true None e h = cc
-not_refused_by true false false None e h = cc
-not_refused_by true true l (Some f) e h = cc
-not_refused_by true false l (Some f) e h = cc
-not_refused_by false w l f e h = cc
-
-pub not_refused : (rule : RuleKind) (b : Grid) (q : Point) → is_empty b q ≡ true → outcome rule b q ≡ Refused → ⊥
-unfolding outcome
-not_refused rule b q e h = not_refused_by (is_empty b q) _ _ _ e h
+use Rattle.brain_session.proofs.Courses.{moved}
+use Rattle.brain_session.proofs.HeldSteps.{not_winning, by_none, by_foul, attacks-first, attacks-foul, attacks-next, won_next, depth_some, deeper, accepted_node}
 
 won_more : (d e n : ℕ) (end : End) → d ≤ e → IsWonWithin d n end → IsWonWithin e n end
 won_more d e n (Won k) less h = let high = h.1 in (h.0, omega (arith, high))
-won_more d e n Lost less h = h
-won_more d e n Drawn less h = h
-won_more d e n NoMove less h = h
 won_more d e n Open less h = omega arith
-won_more d e n IllegalReply less h = h
+won_more d e n _ less h = h
 
 module _ (rule : RuleKind) (t : List Node) where
   WinsOver : List Point → Type 0
@@ -50,11 +34,8 @@ module _ (rule : RuleKind) (t : List Node) where
   -- node i, which is n, is accepted at b
   module _ (i : ℕ) (b : Grid) (n : Node) (k : ℕ) (at : slice_get t i ≡ Some n) (wins : WinsOr (outcome rule b n.attack) (NotWinning n.rest × ((q : Point) → Meets rule (answers_of n) (AcceptedWithin k rule t) (after b n.attack) q))) where
     going : (o : Outcome) → WinsOr o (NotWinning n.rest × ((q : Point) → Meets rule (answers_of n) (AcceptedWithin k rule t) (after b n.attack) q)) → o ≡ GoesOn → NotWinning n.rest × ((q : Point) → Meets rule (answers_of n) (AcceptedWithin k rule t) (after b n.attack) q)
-    going Refused w e = cc
-    going WinsNow w e = cc
-    going (Fouls f) w e = cc
-    going Draws w e = cc
     going GoesOn w e = w
+    going _ w e = cc
 
     none_left : IsWonWithin (depth_within (suc k) t i) 0 (game rule t i b [])
     none_left = (by_none rule t _ i b n at (depth_some t i n k at) (WinsOr-map (outcome rule b n.attack) _ _ (λ w. tt) wins) (λ e. not_winning n.rest (going (outcome rule b n.attack) wins e).0)).won
@@ -69,7 +50,7 @@ module _ (rule : RuleKind) (t : List Node) where
 
       by_reply : (p : Outcome) → outcome rule (after b n.attack) q ≡ p → LosesOr p (Answered (answer (answers_of n) q) (λ j. AcceptedWithin k rule t j (after (after b n.attack) q))) → AreReplies rule b (attacks rule t i b (q ∷ qs)) (q ∷ qs) → IsWonWithin (depth_within (suc k) t i) (suc (length qs)) (game rule t i b (q ∷ qs))
       unfolding WinsOver
-      by_reply Refused e met are = absurd (not_refused rule (after b n.attack) q empty e)
+      by_reply Refused e met are = absurd (moved rule (after b n.attack) q empty e)
       by_reply WinsNow e met are = absurd met
       by_reply (Fouls f) e met are =
           fouled f qs e (subst (λ (ps : List Point). AreReplies rule b ps (q ∷ qs)) (attacks-foul rule t 1 i b n at (omega arith) on winning q qs f e) are).2
@@ -100,7 +81,7 @@ module _ (rule : RuleKind) (t : List Node) where
   start_wins : (a : Answers) (b : Grid) (q : Point) → is_empty b q ≡ true → Meets rule a (Accepted rule t) b q → (is_foul (outcome rule b q) ≡ true) ⊎ AnswersAndWins rule t a b q (start_depth t a)
   start_wins a b q empty met = by_outcome (outcome rule b q) refl met where
     by_outcome : (o : Outcome) → outcome rule b q ≡ o → LosesOr o (Answered (answer a q) (λ j. Accepted rule t j (after b q))) → (is_foul o ≡ true) ⊎ AnswersAndWins rule t a b q (start_depth t a)
-    by_outcome Refused e h = absurd (not_refused rule b q empty e)
+    by_outcome Refused e h = absurd (moved rule b q empty e)
     by_outcome WinsNow e h = absurd h
     by_outcome (Fouls f) e h = inl refl
     by_outcome Draws e h = absurd h

@@ -1,9 +1,8 @@
 -- What is true of the brain's state whatever it was told, as far as held games need it: the moves of a game that is not ended
 -- went on from a lawful position, and those of an ended one did so up to the last.
-use Rattle.std.proofs.Common.{◌≡◌, ◌*◌, ℕ, Bool, true, false, cond, not, List, [], ◌∷◌, refl, sym, ap, subst, ◌∙◌, IfSome}
+use Rattle.std.proofs.Common.{◌≡◌, ℕ, Bool, true, false, cond, not, List, [], ◌∷◌, refl, sym, ap, subst, ◌∙◌, IfSome}
 use Rattle.std.specs.Prelude.{◌≢◌, nat_le, Option, Some, None, is_none}
 use Rattle.std.specs.Option.{option_and_then}
-use Rattle.std.proofs.lemmas.List.{length-replicate}
 use borrow.Author.Tests.{leb-true}
 use Rattle.game_rules.specs.Grid.{Grid, IsBoard, is_on, put}
 use Rattle.game_rules.specs.Play.{IsPosition, outcome, mover, other, goes_on}
@@ -11,9 +10,8 @@ use Rattle.game_rules.specs.declared.TheConstants.{MIN_SIDE}
 use Rattle.game_rules.specs.declared.RuleKind.{RuleKind}
 use Rattle.game_rules.specs.declared.Side.{Side}
 use Rattle.game_rules.specs.declared.Side.TheVariants.{Black, White}
-use Rattle.game_rules.specs.declared.Cell.TheVariants.{Empty}
 use Rattle.game_rules.specs.declared.Outcome.{Outcome}
-use Rattle.game_rules.specs.declared.Outcome.TheVariants.{Refused, Wins as WinsNow, Fouls, Draws, GoesOn}
+use Rattle.game_rules.specs.declared.Outcome.TheVariants.{Refused, GoesOn}
 use Rattle.game_rules.specs.declared.Point.{Point}
 use Rattle.game_rules.proofs.Boards.{and_left, and_right}
 use Rattle.game_rules.proofs.Positions.{mover-then, IsBoard-put}
@@ -31,8 +29,8 @@ use Rattle.brain_session.specs.ChosenMoves.{Choice, chosen}
 use Rattle.brain_session.specs.Steps.{Row, Reacts, Chooses, placed, is_side, board_in, same_side, with_move, move_row, is_bare, place_before, row_of, with_choice, step_by, brain_step}
 use Rattle.brain_session.specs.Sessions.{then_state, state_after}
 use Rattle.brain_session.specs.Running.{GoesOnAlong, StonesFit}
-use Rattle.brain_session.proofs.Courses.{along-lawful}
-use Rattle.brain_session.proofs.Rounds.{empty-mover, empty-lawful, empty-board}
+use Rattle.brain_session.proofs.Courses.{along-lawful, start-lawful}
+use Rattle.brain_session.proofs.Rounds.{empty-mover, empty-lawful, board-sized, empty-board}
 use Rattle.brain_session.proofs.BatchGames.{batch-mover}
 use Rattle.brain_session.proofs.Takings.{none_fit, spoiled_fits, stone_fits}
 use Rattle.brain_session.proofs.RowCases.{row-cases}
@@ -68,14 +66,10 @@ LawfulRow h (Chooses g) = IsToMove g
 
 -- ---- moves that went on
 
-start_lawful : (rule : RuleKind) (start : Grid) (moves : List Point) → GoesOnAlong rule start moves → IsPosition rule start
-start_lawful rule start [] h = h
-start_lawful rule start (p ∷ before) h = start_lawful rule start before h.0
-
 went_from : (ended : Bool) (rule : RuleKind) (start : Grid) (moves : List Point) → WentOn ended rule start moves → IsPosition rule start
-went_from false rule start moves h = start_lawful rule start moves h
+went_from false rule start moves h = start-lawful rule start moves h
 went_from true rule start [] h = h
-went_from true rule start (p ∷ before) h = start_lawful rule start before h
+went_from true rule start (p ∷ before) h = start-lawful rule start before h
 
 -- the moves before the last one went on
 went_before : (ended : Bool) (rule : RuleKind) (start : Grid) (p : Point) (before : List Point) → WentOn ended rule start (p ∷ before) → GoesOnAlong rule start before
@@ -89,13 +83,9 @@ not_ended true rule start moves e h = cc
 -- ---- boards
 
 IsBoard-empty : (width height : ℕ) → is_side width ≡ true → is_side height ≡ true → IsBoard (empty_board width height)
-IsBoard-empty width height w h = record {
-  wide = leb-true _ _ (and_left (nat_le MIN_SIDE width) _ w);
-  width_fits = leb-true _ _ (and_right (nat_le MIN_SIDE width) _ w);
-  high = leb-true _ _ (and_left (nat_le MIN_SIDE height) _ h);
-  height_fits = leb-true _ _ (and_right (nat_le MIN_SIDE height) _ h);
-  filled = length-replicate (width * height) Empty;
-}
+IsBoard-empty width height w h =
+    board-sized width height (leb-true _ _ (and_left (nat_le MIN_SIDE width) _ w)) (leb-true _ _ (and_right (nat_le MIN_SIDE width) _ w))
+    (leb-true _ _ (and_left (nat_le MIN_SIDE height) _ h)) (leb-true _ _ (and_right (nat_le MIN_SIDE height) _ h))
 
 IsBoard-with : (brain : Side) (b : Grid) (stones : List BatchStone) → IsBoard b → IsBoard (with_stones brain b stones)
 IsBoard-with brain b [] ok = ok
@@ -154,13 +144,11 @@ move_lawful : (s : State) (g : Game) (p : Point) → LawfulState s → GoesOnAlo
 move_lawful s g p h along turn = by_outcome (outcome g.rule (board_of g) p) refl where
   by_outcome : (o : Outcome) → outcome g.rule (board_of g) p ≡ o → LawfulRow s.held (move_row s g p o)
   by_outcome Refused e = (h, refl)
-  by_outcome WinsNow e = (placed_lawful s (InGame (with_move g p true)) along, refl)
-  by_outcome (Fouls f) e = (placed_lawful s (InGame (with_move g p true)) along, refl)
-  by_outcome Draws e = (placed_lawful s (InGame (with_move g p true)) along, refl)
   by_outcome GoesOn e = record {
     along = (along, e);
     turn = mover-then g.rule (board_of g) p (along-lawful g.rule g.start g.moves along) e ∙ turn;
   }
+  by_outcome _ e = (placed_lawful s (InGame (with_move g p true)) along, refl)
 
 -- ---- the last move taken back
 
@@ -205,11 +193,8 @@ row-lawful s c h = row-cases (LawfulRow s.held) s c (record {
 choice_lawful : (g : Game) (c : Choice) → IsToMove g → LawfulPlace (InGame (with_choice g c))
 choice_lawful g c h = by_outcome (outcome g.rule (board_of g) c.at) refl where
   by_outcome : (o : Outcome) → outcome g.rule (board_of g) c.at ≡ o → WentOn (not (goes_on o)) g.rule g.start (c.at ∷ g.moves)
-  by_outcome Refused e = h.along
-  by_outcome WinsNow e = h.along
-  by_outcome (Fouls f) e = h.along
-  by_outcome Draws e = h.along
   by_outcome GoesOn e = (h.along, e)
+  by_outcome _ e = h.along
 
 step_lawful : (s : State) (row : Row) → LawfulState s → LawfulRow s.held row → LawfulState (step_by s row).next × ((step_by s row).next.held ≡ s.held)
 step_lawful s (Reacts r next) h l = l

@@ -1,7 +1,7 @@
 -- A plain move is at an empty point, where the position is lawful.
-use Rattle.std.proofs.Common.{◌≡◌, ℕ, zero, suc, ◌+◌, ◌*◌, ◌/◌, ◌%◌, ◌<◌, Bool, true, false, cond, ◌&&◌, ◌||◌, not, refl, ap, subst, ◌∙◌, arith, List, [], ◌∷◌, length, nat_lt}
-use Rattle.std.specs.Prelude.{Option, Some, None, unwrap_or, slice_index_or}
-use Rattle.std.specs.List.{find, filter, list_any, list_all, count_by}
+use Rattle.std.proofs.Common.{◌≡◌, ℕ, zero, suc, ◌+◌, ◌*◌, ◌/◌, ◌%◌, ◌<◌, Bool, true, false, cond, ◌&&◌, ◌||◌, not, refl, ap, ◌∙◌, arith, List, [], ◌∷◌, length, nat_lt}
+use Rattle.std.specs.Prelude.{Option, Some, None, slice_index_or}
+use Rattle.std.specs.List.{filter, count_by}
 use Rattle.std.proofs.Math.Nat.{div-lt_iff_lt-mul}
 use Rattle.std.proofs.lemmas.Bool.{lt-ltb}
 use Rattle.std.proofs.lemmas.List.Sums.{sum_by-cons}
@@ -12,13 +12,11 @@ use Rattle.game_rules.specs.declared.RuleKind.{RuleKind}
 use Rattle.game_rules.specs.declared.Cell.{Cell}
 use Rattle.game_rules.specs.declared.Cell.TheVariants.{Empty}
 use Rattle.game_rules.specs.declared.Point.{Point}
-use Rattle.game_rules.proofs.Boards.{and_left, and_right}
+use Rattle.game_rules.proofs.Boards.{and_left}
 use Rattle.game_rules.proofs.Fives.{five-empty}
 use Rattle.game_rules.proofs.Points.{points-found, filter-passes}
 use Rattle.game_rules.proofs.Places.{find-in, find-passes, find-some}
 use Rattle.brain_session.specs.ChosenMoves.{or_else, five_to_make, five_to_block, next_to_middle, least_empty, plain_move}
-
--- ---- what is find-passes
 
 -- ---- some point is empty
 

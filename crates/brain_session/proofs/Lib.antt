@@ -1,7 +1,5 @@
 -- The laws of the brain. What is declared by `pub mod` the layers above may cite; the rest serves this crate alone.
 
--- the stones of a batch, put one by one
-mod Stones
 -- the point next to the middle
 mod PlainMoves
 -- a board with the moves on it; whether two boards are one
@@ -20,10 +18,9 @@ pub mod Choosing
 pub mod Courses
 -- the place of a round, and the rows of the protocol in it
 pub mod Rounds
-pub mod Rows
 -- each row that a command may have
 mod RowCases
--- the side to move on the board of a batch
+-- the board of a batch, and the side to move on it
 pub mod BatchGames
 -- steps of the brain by the rows of their commands
 pub mod Takings
@@ -35,7 +32,6 @@ pub mod HeldGames
 pub mod HeldReplies
 pub mod HeldWins
 -- games in which a held node is followed: one reply, each later command
-mod HeldPlays
 pub mod HeldSteps
 -- what is true of the state whatever was told
 pub mod LawfulStates

@@ -57,7 +57,7 @@ pub own_win-wins : (rule : RuleKind) (b : Grid) (moves : ℕ) → own_win rule b
 own_win-wins rule b moves h = wins_by rule b OWN_MOVES OWN_POSITIONS moves h
 
 -- and makes a move
-wins_moves : (rule : RuleKind) (n : ℕ) (b : Grid) → wins_by_fours rule n b ≡ true → 1 ≤ n
+pub wins_moves : (rule : RuleKind) (n : ℕ) (b : Grid) → wins_by_fours rule n b ≡ true → 1 ≤ n
 unfolding wins_under
 wins_moves rule zero b h = cc
 wins_moves rule (suc n) b h = omega arith

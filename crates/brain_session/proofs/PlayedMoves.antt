@@ -22,14 +22,9 @@ use Rattle.brain_session.specs.Kept.{Moves, IsKept, without_last}
 
 same_cell-Decides : (a b : Cell) → Decides (same_cell a b) (a ≡ b)
 same_cell-Decides Empty Empty = (λ h. refl, λ h. refl)
-same_cell-Decides Empty BlackStone = (λ h. cc, λ h. cc)
-same_cell-Decides Empty WhiteStone = (λ h. cc, λ h. cc)
-same_cell-Decides BlackStone Empty = (λ h. cc, λ h. cc)
 same_cell-Decides BlackStone BlackStone = (λ h. refl, λ h. refl)
-same_cell-Decides BlackStone WhiteStone = (λ h. cc, λ h. cc)
-same_cell-Decides WhiteStone Empty = (λ h. cc, λ h. cc)
-same_cell-Decides WhiteStone BlackStone = (λ h. cc, λ h. cc)
 same_cell-Decides WhiteStone WhiteStone = (λ h. refl, λ h. refl)
+same_cell-Decides _ _ = (λ h. cc, λ h. cc)
 
 pub same_board-is : (b c : Grid) → same_board b c ≡ true → b ≡ c
 same_board-is b c h =

@@ -26,27 +26,34 @@ pub record RowCases (P : Row → Type 0) (s : State) (c : Command) : Type 0 wher
   pub wishes : (wish : ℕ) → P (Reacts Silent (record s { wish = wish }))
   -- a board of a size that is supported, or that the board there has
   pub sized : (width height : ℕ) → is_side width ≡ true → is_side height ≡ true → P (Reacts (Says SaysOk) (placed s (Fresh width height)))
-  pub again : (width height : ℕ) → s.place ≢ NoBoard → board_in s.place ≡ empty_board width height → P (Reacts (Says SaysOk) (placed s (Fresh width height)))
+  pub again : (width height : ℕ) → s.place ≢ NoBoard → board_in s.place ≡ empty_board width height
+      → P (Reacts (Says SaysOk) (placed s (Fresh width height)))
   -- a batch
   pub reads : s.place ≢ NoBoard → P (Reacts Silent (reading s new_batch))
-  pub stone : (b : Batch) (p : Point) (field : ℕ) → s.batch ≡ Some b → P (Reacts Silent (reading s (with_stone (is_on (board_in s.place) p) b p field)))
+  pub stone : (b : Batch) (p : Point) (field : ℕ) → s.batch ≡ Some b
+      → P (Reacts Silent (reading s (with_stone (is_on (board_in s.place) p) b p field)))
   pub spoils : (b : Batch) → s.batch ≡ Some b → P (Reacts Silent (reading s (spoiled b)))
   pub is_bad : (a : Answer) → P (Reacts (Says a) (unread s))
-  pub whole : (rule : RuleKind) (b : Batch) (g : Game) → rule_of s.wish ≡ Some rule → s.batch ≡ Some b → game_from rule (board_in s.place) b ≡ Some g → P (Chooses g)
+  pub whole : (rule : RuleKind) (b : Batch) (g : Game) → rule_of s.wish ≡ Some rule → s.batch ≡ Some b
+      → game_from rule (board_in s.place) b ≡ Some g → P (Chooses g)
   -- a game: the first move of the brain or of the opponent, a later one of the opponent, and the last one taken back
-  pub first : (rule : RuleKind) (width height : ℕ) → rule_of s.wish ≡ Some rule → s.place ≡ Fresh width height → P (Chooses (new_game rule (empty_board width height) Black))
+  pub first : (rule : RuleKind) (width height : ℕ) → rule_of s.wish ≡ Some rule → s.place ≡ Fresh width height
+      → P (Chooses (new_game rule (empty_board width height) Black))
   pub second : (rule : RuleKind) (width height : ℕ) (p : Point) → rule_of s.wish ≡ Some rule → s.place ≡ Fresh width height
       → P (move_row s (new_game rule (empty_board width height) White) p (outcome rule (empty_board width height) p))
-  pub later : (rule : RuleKind) (g : Game) (p : Point) → rule_of s.wish ≡ Some rule → s.place ≡ InGame g → g.ended ≡ false → same_side (mover (board_of g)) g.brain ≡ false
+  pub later : (rule : RuleKind) (g : Game) (p : Point) → rule_of s.wish ≡ Some rule → s.place ≡ InGame g → g.ended ≡ false
+      → same_side (mover (board_of g)) g.brain ≡ false
       → P (move_row s g p (outcome g.rule (board_of g) p))
-  pub back : (g : Game) (p : Point) (before : List Point) → s.place ≡ InGame g → g.moves ≡ p ∷ before → P (Reacts (Says SaysOk) (placed s (place_before g before)))
+  pub back : (g : Game) (p : Point) (before : List Point) → s.place ≡ InGame g → g.moves ≡ p ∷ before
+      → P (Reacts (Says SaysOk) (placed s (place_before g before)))
 
 module _ (P : Row → Type 0) (s : State) (c : Command) (cases : RowCases P s c) where
   by_test : (r : Bool) (x y : Row) → (r ≡ true → P x) → (r ≡ false → P y) → P (cond r x y)
   by_test true x y h k = h refl
   by_test false x y h k = k refl
 
-  by_rule : (o : Option RuleKind) (u : State) (row : RuleKind → Row) → P (fails UnsupportedRule u) → ((rule : RuleKind) → o ≡ Some rule → P (row rule)) → P (if_supported o u row)
+  by_rule : (o : Option RuleKind) (u : State) (row : RuleKind → Row) → P (fails UnsupportedRule u)
+      → ((rule : RuleKind) → o ≡ Some rule → P (row rule)) → P (if_supported o u row)
   by_rule None u row none some = none
   by_rule (Some rule) u row none some = some rule refl
 
@@ -71,7 +78,8 @@ module _ (P : Row → Type 0) (s : State) (c : Command) (cases : RowCases P s c)
   done_case : (batch : Option Batch) → s.batch ≡ batch → P (done_row s batch)
   done_case None e = cases.says (Error NotReading)
   done_case (Some b) e = by_rule (rule_of s.wish) (unread s) _ (cases.is_bad (Error UnsupportedRule)) (λ rule supported. by_game rule supported (game_from rule (board_in s.place) b) refl) where
-    by_game : (rule : RuleKind) → rule_of s.wish ≡ Some rule → (o : Option Game) → game_from rule (board_in s.place) b ≡ o → P (batch_row s o)
+    by_game : (rule : RuleKind) → rule_of s.wish ≡ Some rule → (o : Option Game) → game_from rule (board_in s.place) b ≡ o
+        → P (batch_row s o)
     by_game rule supported None is = cases.is_bad (Error BadBoard)
     by_game rule supported (Some g) is = cases.whole rule b g supported e is
 

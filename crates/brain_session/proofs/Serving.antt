@@ -111,7 +111,8 @@ no_line [] are = refl
 no_line (line ∷ told) are = cc
 
 -- a reader that was not told the end keeps what it has not told
-open_tells : (r : Reading) (told : List LineText) (read : HasTold r told) → (r.reader.ended ≡ true → ⊥) → Tells read.takes.given told r.reader.kept
+open_tells : (r : Reading) (told : List LineText) (read : HasTold r told) → (r.reader.ended ≡ true → ⊥)
+    → Tells read.takes.given told r.reader.kept
 open_tells r told read reading = elim read.takes.tells [ inl tells ↦ tells | inr last ↦ absurd (reading last.0) ]
 
 -- such a reader
@@ -120,18 +121,22 @@ module _ (r : Reading) (told : List LineText) (read : HasTold r told) (tells : T
   front = read.takes.given
 
   -- tells more
-  told_then : (later : List LineText) (next : ReaderState) (left : Option (List ℕ)) → TakesLines r.reader r.left later next left → TakesLines new_reader r.left_before (told ++ later) next left
+  told_then : (later : List LineText) (next : ReaderState) (left : Option (List ℕ)) → TakesLines r.reader r.left later next left
+      → TakesLines new_reader r.left_before (told ++ later) next left
   told_then later next left takes = record {
     given = front ++ takes.given;
     gives = Gives-then r.left_before r.left left front takes.given read.takes.gives takes.gives;
     counted = omega (arith, read.takes.counted, takes.counted, length-append front takes.given);
     tells = elim takes.tells [
       | inl more ↦ inl (told_adds_up front r.reader.kept takes.given next.kept told later tells more)
-      | inr last ↦ inr (last.0, record {
-        all = told_to_the_end front r.reader.kept takes.given next.kept told later left tells last.1;
-        none_kept = last.1.none_kept;
-        ended = last.1.ended;
-      })
+      | inr last ↦ inr (
+        last.0,
+        record {
+          all = told_to_the_end front r.reader.kept takes.given next.kept told later left tells last.1;
+          none_kept = last.1.none_kept;
+          ended = last.1.ended;
+        },
+      )
     ];
   }
 
@@ -143,7 +148,8 @@ module _ (r : Reading) (told : List LineText) (read : HasTold r told) (tells : T
   }) none
 
 -- one more line is read, where a call tells what may be a command
-pub Asked-told : (r : Reading) (v : Served) (told : Option Command) (c : Command) (next : ReaderState) (left : Option (List ℕ)) → SoFar r v →
+pub Asked-told : (r : Reading) (v : Served) (told : Option Command) (c : Command) (next : ReaderState) (left : Option (List ℕ))
+    → SoFar r v →
     told ≡ Some c → (r.reader.ended ≡ true → told ≡ None) → TakesCommands r.reader r.left (option_to_list told) next left →
     next.taken ≤ MAX_SESSION_BYTES → (KnowsEnd r.reader r.left → KnowsEnd next left) → Asked (read_on r next left) v c
 Asked-told r v told c next left so_far is asks took few knows =
@@ -177,7 +183,8 @@ goes_on_from (Says a) written written_after is = λ e. cc
 goes_on_from Ends written written_after is = let no = is.0 in λ e. cc
 
 -- END says nothing
-wrote_end : (r : Reaction) (written written_after : Option (List ℕ)) → r ≡ Ends → IsWritten r false written written_after → written_after ≡ written
+wrote_end : (r : Reaction) (written written_after : Option (List ℕ)) → r ≡ Ends → IsWritten r false written written_after
+    → written_after ≡ written
 wrote_end Silent written written_after e is = is.1
 wrote_end (Says a) written written_after e is = cc
 wrote_end Ends written written_after e is = is.1
@@ -189,7 +196,8 @@ module _ (v : Served) (cs : List Command) (no_end : HasNoEnd cs) (answered : Has
   state_then ds state = state ∙ ap (λ s. state_after s ds) answered.state ∙ sym (state-append v.before cs ds no_end)
 
   -- and others were answered from there
-  answered_then : (ds : List Command) (written : Option (List ℕ)) → next ≡ state_after v.after ds → Takes v.written_after (answer_texts (answers_from v.after ds)) written → HasAnswered (served_on v next written) (cs ++ ds)
+  answered_then : (ds : List Command) (written : Option (List ℕ)) → next ≡ state_after v.after ds
+      → Takes v.written_after (answer_texts (answers_from v.after ds)) written → HasAnswered (served_on v next written) (cs ++ ds)
   answered_then ds written state wrote = record {
     state = state_then ds state;
     wrote = subst (λ (text : List ℕ). Takes v.written_before text written)
@@ -225,7 +233,8 @@ bytes_of left None given P gives holds = subst (λ (l : Option (List ℕ)). IfSo
 bytes_of left (Some more) given P gives holds = subst (λ (l : Option (List ℕ)). IfSome l P) (sym gives) (holds more refl)
 
 -- the lines of an input begin with those told
-begins : (given more : List ℕ) (told : List LineText) (kept : List ℕ) (ended : Bool) → Tells given told kept ⊎ (ended ≡ true) × TellsLast given told kept (Some more) →
+begins : (given more : List ℕ) (told : List LineText) (kept : List ℕ) (ended : Bool)
+    → Tells given told kept ⊎ (ended ≡ true) × TellsLast given told kept (Some more) →
     (later : List LineText) × (lines (given ++ more) ≡ told ++ later)
 begins given more told kept ended (inl tells) = (lines (kept ++ more), tells.whatever more)
 begins given more told kept ended (inr last) =
@@ -360,7 +369,8 @@ pub record EndsAt (r : Reading) (v : Served) : Type 0 where
   pub answered : IfSome r.left_before (λ bytes. HasAnswered v (commands bytes))
   pub read : IsReadToEnd r.left_before r.left
 
-pub EndsAt-told : (r : Reading) (v : Served) (next : ReaderState) (left : Option (List ℕ)) → SoFar r v → TakesCommands r.reader r.left [] next left →
+pub EndsAt-told : (r : Reading) (v : Served) (next : ReaderState) (left : Option (List ℕ)) → SoFar r v
+    → TakesCommands r.reader r.left [] next left →
     next ≡ (record r.reader { ended = true }) → r.reader.kept ≡ [] → (KnowsEnd r.reader r.left → IsAtEnd left) → (r.reader.ended ≡ true → left ≡ r.left) → EndsAt (read_on r next left) v
 EndsAt-told r v next left so_far took is none ends stays =
     let all = all_told r so_far.told so_far.read next left (subst (λ (told : List LineText). TakesLines r.reader r.left told next left) (no_line took.lines took.are) took.takes)
@@ -422,7 +432,8 @@ PastLimit-taken r v next left so_far reading (inl goes) = goes_past r v next lef
 PastLimit-taken r v next left so_far reading (inr past) = absurd (omega (arith, past.0, so_far.read.few))
 
 -- what the source has given in all, where the input is too long
-pub GivesSome-past : (r : Reading) (v : Served) (next : ReaderState) (left : Option (List ℕ)) → SoFar r v → TakesTooMany r.reader r.left next left → GivesSome r.left_before left
+pub GivesSome-past : (r : Reading) (v : Served) (next : ReaderState) (left : Option (List ℕ)) → SoFar r v
+    → TakesTooMany r.reader r.left next left → GivesSome r.left_before left
 GivesSome-past r v next left so_far (inl goes) =
     let takes = so_far.read.takes in
     Gives-some r.left_before left (takes.given ++ (goes.given ++ goes.past)) (Gives-then r.left_before r.left left takes.given (goes.given ++ goes.past) takes.gives goes.gives)

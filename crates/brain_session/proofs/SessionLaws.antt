@@ -5,7 +5,7 @@ use Rattle.std.proofs.lemmas.List.Elements.{Contains-append_cases}
 use Rattle.game_rules.specs.Play.{outcome}
 use Rattle.game_rules.specs.declared.Side.TheVariants.{White}
 use Rattle.game_rules.specs.declared.Outcome.{Outcome}
-use Rattle.game_rules.specs.declared.Outcome.TheVariants.{Refused, Wins, Fouls, Draws, GoesOn}
+use Rattle.game_rules.specs.declared.Outcome.TheVariants.{GoesOn}
 use Rattle.game_rules.specs.declared.Point.{Point}
 use Rattle.gomocup_text.specs.declared.Command.{Command}
 use Rattle.gomocup_text.specs.declared.Command.TheVariants.{End}
@@ -38,11 +38,8 @@ only_end_ends s c = row-cases (λ row. (step_by s row).reaction ≡ Ends → c �
   back = λ g p before at are e. cc;
 }) where
   moves : (g : Game) (p : Point) (o : Outcome) → (step_by s (move_row s g p o)).reaction ≡ Ends → c ≡ End
-  moves g p Refused e = cc
-  moves g p Wins e = cc
-  moves g p (Fouls f) e = cc
-  moves g p Draws e = cc
   moves g p GoesOn e = cc
+  moves g p _ e = cc
 
 -- END ends the session, and leaves the brain as it is
 pub end_ends : (s : State) → (brain_step s End).reaction ≡ Ends

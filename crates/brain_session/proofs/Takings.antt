@@ -1,5 +1,5 @@
 -- Steps of the brain: the step of a command by what its row says, and the stones of a batch that fit the board.
-use Rattle.std.proofs.Common.{◌≡◌, ◌⊎◌, inl, inr, ℕ, ◌<◌, Bool, true, false, ◌&&◌, ◌||◌, not, refl, sym, ap, subst, ◌∙◌, arith, List, [], ◌∷◌, ◌++◌, length, get_or}
+use Rattle.std.proofs.Common.{◌≡◌, ℕ, ◌<◌, Bool, true, false, ◌&&◌, ◌||◌, not, refl, sym, ap, subst, ◌∙◌, arith, List, [], ◌∷◌, ◌++◌, length, get_or}
 use Rattle.std.specs.Prelude.{Option, Some, None, Result, Ok, Err, IfOk, IfSome, IsOk, IsNone, is_some, All, ◌==◌, if◌then◌else◌}
 use Rattle.std.proofs.lemmas.List.Elements.{All-push}
 use Rattle.std.proofs.lemmas.List.Quantifiers.{all_pairs_push}
@@ -9,21 +9,21 @@ use Rattle.game_rules.specs.Shapes.{is_same_point}
 use Rattle.game_rules.specs.declared.RuleKind.{RuleKind}
 use Rattle.game_rules.specs.declared.Point.{Point}
 use Rattle.foul_judge.specs.Lawful.{refusal}
-use Rattle.strategy_checker.specs.HeldRoots.{HeldTable}
+use Rattle.strategy_checker.specs.HeldRoots.{HeldTable, IsHeld}
 use Rattle.gomocup_text.specs.declared.Command.{Command}
-use Rattle.gomocup_text.specs.declared.Command.TheVariants.{Start, RectStart, Begin, Turn, Board, Stone, Done, Restart, Takeback, Rule, Info, About, End, Blank, Malformed, Unknown}
-use Rattle.gomocup_text.specs.declared.Answer.TheVariants.{About as SaysAbout, Unknown as SaysUnknown}
+use Rattle.gomocup_text.specs.declared.Command.TheVariants.{Begin, Turn, Takeback, Malformed, Unknown}
+use Rattle.gomocup_text.specs.declared.Answer.TheVariants.{Unknown as SaysUnknown}
 use Rattle.gomocup_text.specs.declared.ErrorText.TheVariants.{BadArguments}
 use Rattle.brain_session.specs.declared.Reaction.{Reaction}
-use Rattle.brain_session.specs.declared.Reaction.TheVariants.{Silent, Says, Ends}
+use Rattle.brain_session.specs.declared.Reaction.TheVariants.{Silent, Says}
 use Rattle.brain_session.specs.declared.batch.BatchStone.{BatchStone}
 use Rattle.brain_session.specs.States.{Game, Batch, Place, NoBoard, InGame, State, empty_board, point_at}
 use Rattle.brain_session.specs.Batches.{new_batch, spoiled, has_stone_at, with_stone, with_stone_at, game_from}
 use Rattle.brain_session.specs.ChosenMoves.{chosen}
-use Rattle.brain_session.specs.Steps.{Row, Reacts, fails, unread, reading, placed, if_supported, rule_of, with_choice, begin_row, turn_row, takeback_row, batch_row, done_row, board_row, board_in, row_of, step_by, brain_step, start_row, restart_row, stone_row, if_not_reading}
+use Rattle.brain_session.specs.Steps.{Row, Reacts, fails, unread, reading, placed, if_supported, rule_of, with_choice, begin_row, turn_row, takeback_row, batch_row, done_row, board_in, row_of, step_by, brain_step, if_not_reading}
 use Rattle.std.specs.Option.{option_map}
 use Rattle.game_rules.proofs.Boards.{and_left, and_right, on_x}
-use Rattle.brain_session.specs.Running.{StonesFit}
+use Rattle.brain_session.specs.Running.{IsPlace, IsBrain, StonesFit}
 use Rattle.brain_session.specs.Memory.{is_following, is_settled, takes_none}
 use Rattle.brain_session.specs.Kept.{IsBegun, IsPointOn, IsStateOf, Takes, has_no_place_in_batch, is_spoiled}
 
@@ -44,7 +44,7 @@ turn-takes (Ok x) s place new rule at p here by_wish none point rows =
     (subst (λ (b : Option Batch). Takes (turn_row s place p) s x (record s { place = new; batch = b })) (sym unread) row)
 
 -- a point that the brain was told is on the board
-pub told-on : (b : Grid) (p : Point) (at : Option Point) → IsPointOn b p at → IfSome at (λ q. is_on b q ≡ true)
+told-on : (b : Grid) (p : Point) (at : Option Point) → IsPointOn b p at → IfSome at (λ q. is_on b q ≡ true)
 told-on b p None point = tt
 told-on b p (Some q) point = subst (λ (x : Point). is_on b x ≡ true) (sym point.1) point.0
 
@@ -112,14 +112,25 @@ none-begun h kind place (Some b) none fit =
     subst (λ (g : Option Game). IsBegun h g None) (sym nothing) tt
 
 -- the batch that fits after a line
-pub fit-after : (b : Grid) (old : Option Batch) (at : Option Point) (field : ℕ) → IfSome at (λ q. is_on b q ≡ true) → IfSome old (StonesFit b) → IfSome (option_map (λ x. with_stone_at x at field) old) (StonesFit b)
+fit-after : (b : Grid) (old : Option Batch) (at : Option Point) (field : ℕ) → IfSome at (λ q. is_on b q ≡ true) → IfSome old (StonesFit b) → IfSome (option_map (λ x. with_stone_at x at field) old) (StonesFit b)
 fit-after b None at field on fit = tt
 fit-after b (Some x) at field on fit = fit-with b x at field on fit
 
--- no batch is read, and so none has to fit
-pub fit-none : (b : Grid) (o : Option Batch) → IsNone o → IfSome o (StonesFit b)
-fit-none b None e = tt
-fit-none b (Some x) e = absurd (cc)
+-- the brain as it stands after the line, by what the batch became
+pub stone-running : (s : State) (p : Point) (at : Option Point) (field : ℕ) (next : Option Batch) → IsBrain s → IsPointOn (board_in s.place) p at → next ≡ option_map (λ x. with_stone_at x at field) s.batch → IsBrain (record s { batch = next })
+stone-running s p at field next brain point is = record {
+  held = brain.held;
+  place = brain.place;
+  batch = subst (λ (o : Option Batch). IfSome o (StonesFit (board_in s.place))) (sym is) (fit-after (board_in s.place) s.batch at field (told-on (board_in s.place) p at point) brain.batch);
+}
+
+-- the brain in another place, where no batch is read
+pub placed-running : (s : State) (place : Place) → IsHeld s.held → IsNone s.batch → IsPlace s.held place → IsBrain (record s { place = place })
+placed-running s place held none is = record {
+  held = held;
+  place = is;
+  batch = subst (λ (o : Option Batch). IfSome o (StonesFit (board_in place))) (sym (none_from s.batch none)) tt;
+}
 
 -- ---- the step of each command
 
@@ -130,17 +141,7 @@ outside-row s (Turn x y) b e read = ap (λ (o : Option Batch). if_not_reading s 
 outside-row s (Takeback x y) b e read = ap (λ (o : Option Batch). if_not_reading s o (λ _. takeback_row s s.place (point_at x y))) read
 outside-row s Malformed b e read = ap (λ (o : Option Batch). if_not_reading s o (λ _. fails BadArguments s)) read
 outside-row s Unknown b e read = ap (λ (o : Option Batch). if_not_reading s o (λ _. Reacts (Says SaysUnknown) s)) read
-outside-row s (Start n) b e read = absurd (cc)
-outside-row s (RectStart width height) b e read = absurd (cc)
-outside-row s Restart b e read = absurd (cc)
-outside-row s About b e read = absurd (cc)
-outside-row s End b e read = absurd (cc)
-outside-row s (Rule wish) b e read = absurd (cc)
-outside-row s Info b e read = absurd (cc)
-outside-row s Blank b e read = absurd (cc)
-outside-row s Board b e read = absurd (cc)
-outside-row s (Stone x y field) b e read = absurd (cc)
-outside-row s Done b e read = absurd (cc)
+outside-row s _ b e read = absurd (cc)
 
 -- a command that has no place in the batch that is read
 pub spoiled-step : (s : State) (c : Command) → is_spoiled s c ≡ true → brain_step s c ≡ record { reaction = Silent; next = record s { batch = option_map spoiled s.batch } }
@@ -151,82 +152,22 @@ spoiled-step s c e = by_batch s.batch refl (and_left (is_some s.batch) (has_no_p
       ap (step_by s) (outside-row s c b (and_right (is_some s.batch) (has_no_place_in_batch c) e) read)
       ∙ ap (λ (o : Option Batch). record { reaction = Silent; next = record s { batch = option_map spoiled o } }) (sym read)
 
--- the step of a command whose row is this one
-pub row-of : {E : Type 0} (r : Result Reaction E) (s new : State) (c : Command) (row : Row) → row_of s c ≡ row → IfOk r (λ x. Takes row s x new) → IfOk r (λ x. Takes (row_of s c) s x new)
-row-of r s new c row e takes = subst (λ (w : Row). IfOk r (λ x. Takes w s x new)) (sym e) takes
+-- the step of a command is that of the one that it is
+pub at-command : {E : Type 0} (r : Result Reaction E) (s new : State) (c d : Command) → c ≡ d → IfOk r (λ x. Takes (row_of s d) s x new) → IfOk r (λ x. Takes (row_of s c) s x new)
+at-command r s new c d e takes = subst (λ (b : Command). IfOk r (λ x. Takes (row_of s b) s x new)) (sym e) takes
 
-pub row-is : (s new : State) (c : Command) (row : Row) (r : Reaction) → row_of s c ≡ row → Takes row s r new → Takes (row_of s c) s r new
-row-is s new c row r e takes = subst (λ (w : Row). Takes w s r new) (sym e) takes
+pub said-at : (s new : State) (c d : Command) (r : Reaction) → c ≡ d → Takes (row_of s d) s r new → Takes (row_of s c) s r new
+said-at s new c d r e takes = subst (λ (b : Command). Takes (row_of s b) s r new) (sym e) takes
 
--- the rows of the commands
-module _ (s : State) (c : Command) where
-  pub is-start : (n : ℕ) → c ≡ Start n → row_of s c ≡ start_row s n n
-  unfolding row_of
-  is-start n e = ap (row_of s) e
+-- where no batch is read, the row of a command that has no place in one is its own
+pub row-unread : (s : State) (row : Row) → IsNone s.batch → if_not_reading s s.batch (λ _. row) ≡ row
+row-unread s row none = ap (λ (o : Option Batch). if_not_reading s o (λ _. row)) (none_from s.batch none)
 
-  pub is-rect_start : (width height : ℕ) → c ≡ RectStart width height → row_of s c ≡ start_row s width height
-  unfolding row_of
-  is-rect_start width height e = ap (row_of s) e
+pub if-unread : {E : Type 0} (r : Result Reaction E) (s new : State) (row : Row) → IsNone s.batch → IfOk r (λ x. Takes row s x new) → IfOk r (λ x. Takes (if_not_reading s s.batch (λ _. row)) s x new)
+if-unread r s new row none takes = subst (λ (w : Row). IfOk r (λ x. Takes w s x new)) (sym (row-unread s row none)) takes
 
-  pub is-restart : c ≡ Restart → row_of s c ≡ restart_row s s.place
-  unfolding row_of
-  is-restart e = ap (row_of s) e
-
-  pub is-about : c ≡ About → row_of s c ≡ Reacts (Says SaysAbout) s
-  unfolding row_of
-  is-about e = ap (row_of s) e
-
-  pub is-end : c ≡ End → row_of s c ≡ Reacts Ends s
-  unfolding row_of
-  is-end e = ap (row_of s) e
-
-  pub is-rule : (wish : ℕ) → c ≡ Rule wish → row_of s c ≡ Reacts Silent (record s { wish = wish })
-  unfolding row_of
-  is-rule wish e = ap (row_of s) e
-
-  pub is-info : c ≡ Info → row_of s c ≡ Reacts Silent s
-  unfolding row_of
-  is-info e = ap (row_of s) e
-
-  pub is-blank : c ≡ Blank → row_of s c ≡ Reacts Silent s
-  unfolding row_of
-  is-blank e = ap (row_of s) e
-
-  pub is-unsaid : (c ≡ Info) ⊎ (c ≡ Blank) → row_of s c ≡ Reacts Silent s
-  is-unsaid (inl e) = is-info e
-  is-unsaid (inr e) = is-blank e
-
-  pub is-board : c ≡ Board → row_of s c ≡ board_row s s.place
-  unfolding row_of
-  is-board e = ap (row_of s) e
-
-  pub is-stone : (x y field : ℕ) → c ≡ Stone x y field → row_of s c ≡ stone_row s s.batch (point_at x y) field
-  unfolding row_of
-  is-stone x y field e = ap (row_of s) e
-
-  pub is-done : c ≡ Done → row_of s c ≡ done_row s s.batch
-  unfolding row_of
-  is-done e = ap (row_of s) e
-
-  pub is-begin : c ≡ Begin → IsNone s.batch → row_of s c ≡ begin_row s s.place
-  unfolding row_of
-  is-begin e none = ap (row_of s) e ∙ ap (λ (o : Option Batch). if_not_reading s o (λ _. begin_row s s.place)) (none_from s.batch none)
-
-  pub is-turn : (x y : ℕ) → c ≡ Turn x y → IsNone s.batch → row_of s c ≡ turn_row s s.place (point_at x y)
-  unfolding row_of
-  is-turn x y e none = ap (row_of s) e ∙ ap (λ (o : Option Batch). if_not_reading s o (λ _. turn_row s s.place (point_at x y))) (none_from s.batch none)
-
-  pub is-takeback : (x y : ℕ) → c ≡ Takeback x y → IsNone s.batch → row_of s c ≡ takeback_row s s.place (point_at x y)
-  unfolding row_of
-  is-takeback x y e none = ap (row_of s) e ∙ ap (λ (o : Option Batch). if_not_reading s o (λ _. takeback_row s s.place (point_at x y))) (none_from s.batch none)
-
-  pub is-malformed : c ≡ Malformed → IsNone s.batch → row_of s c ≡ fails BadArguments s
-  unfolding row_of
-  is-malformed e none = ap (row_of s) e ∙ ap (λ (o : Option Batch). if_not_reading s o (λ _. fails BadArguments s)) (none_from s.batch none)
-
-  pub is-unknown : c ≡ Unknown → IsNone s.batch → row_of s c ≡ Reacts (Says SaysUnknown) s
-  unfolding row_of
-  is-unknown e none = ap (row_of s) e ∙ ap (λ (o : Option Batch). if_not_reading s o (λ _. Reacts (Says SaysUnknown) s)) (none_from s.batch none)
+pub said-unread : (s new : State) (row : Row) (r : Reaction) → IsNone s.batch → Takes row s r new → Takes (if_not_reading s s.batch (λ _. row)) s r new
+said-unread s new row r none takes = subst (λ (w : Row). Takes w s r new) (sym (row-unread s row none)) takes
 
 -- a command that has no place in a batch is taken only where none is read
 pub unread-at : (s : State) (c d : Command) → c ≡ d → has_no_place_in_batch d ≡ true → is_spoiled s c ≡ false → IsNone s.batch
@@ -237,9 +178,9 @@ unread-at s c d same outside e = by_some (is_some s.batch) (ap (λ (r : Bool). i
 
 -- a TURN that takes no memory
 pub turn-free : {E : Type 0} (r : Result Reaction E) (s : State) (c : Command) (x y : ℕ) → c ≡ Turn x y → IsNone s.batch → (is_following s.place ≡ true → IsOk r) → (is_settled s.held (turn_row s s.place (point_at x y)) ≡ true → IsOk r) → takes_none s c ≡ true → IsOk r
-turn-free r s c x y is none following settled free =
-    by_following (is_following s.place) refl (subst (λ (d : Command). takes_none s d ≡ true) is free) where
-      by_following : (t : Bool) → is_following s.place ≡ t → takes_none s (Turn x y) ≡ true → IsOk r
-      by_following true e free = following e
-      by_following false e free =
-          settled (ap (is_settled s.held) (sym (is-turn s (Turn x y) x y refl none)) ∙ ap (λ (t : Bool). t || is_settled s.held (row_of s (Turn x y))) (sym e) ∙ free)
+unfolding row_of
+turn-free r s c x y is none following settled free = by_following (is_following s.place) refl (subst (λ (d : Command). takes_none s d ≡ true) is free) where
+  by_following : (t : Bool) → is_following s.place ≡ t → takes_none s (Turn x y) ≡ true → IsOk r
+  by_following true e free = following e
+  by_following false e free =
+      settled (ap (is_settled s.held) (sym (row-unread s (turn_row s s.place (point_at x y)) none)) ∙ ap (λ (t : Bool). t || is_settled s.held (row_of s (Turn x y))) (sym e) ∙ free)

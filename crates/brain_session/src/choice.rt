@@ -17,8 +17,8 @@ ghost use Rattle.brain_session.specs.Kept.{IsInTable, NodeStandsAt, StandsAt, ch
 
 use crate::course::Course;
 use crate::guide::Guide;
-use crate::kinds::own_win;
-use crate::played::Played;
+use crate::moves_on_board::MovesOnBoard;
+use crate::under_rule::own_win;
 use game_rules::Point;
 use std::alloc::{AllocError, Global};
 use strategy_checker::Held;
@@ -37,7 +37,7 @@ pub(crate) fn choose(
     alloc: Global,
     held: &Held,
     course: &Course,
-    played: &mut Played,
+    played: &mut MovesOnBoard,
 ) -> Result<Picked, AllocError>
     requires along { GoesOnAlong course.now.kind played.old.start played.old.moves }
     ensures chosen { IfOk result (λ c. choice_of c ≡ chosen_anew held.now (game_of played.old course.now)) }
@@ -74,7 +74,7 @@ fn by_following(held: &Held, guide: Guide) -> Picked
 }
 
 /// The node to which the first held root leads that leads to one.
-fn held_node(held: &Held, course: &Course, played: &mut Played) -> Option<u32>
+fn held_node(held: &Held, course: &Course, played: &mut MovesOnBoard) -> Option<u32>
     ensures node { result ≡ first_node (game_of played.old course.now) held.now.roots }
     ensures held { IsHeld held.now }
     ensures same { played.new ≡ played.old }
@@ -89,7 +89,7 @@ fn held_node(held: &Held, course: &Course, played: &mut Played) -> Option<u32>
 
 /// The node to which held root `i` leads: under the rule of the game, the root at the board now, or the answer of the start at the
 /// board before the last move.
-fn root_node(held: &Held, i: u32, course: &Course, played: &mut Played) -> Option<u32>
+fn root_node(held: &Held, i: u32, course: &Course, played: &mut MovesOnBoard) -> Option<u32>
     requires held { i < length held.now.roots }
     ensures node { result ≡ option_and_then (root_node_lem (game_of played.old course.now)) (slice_get held.now.roots i) }
     ensures same { played.new ≡ played.old }

@@ -18,7 +18,7 @@ ghost use Rattle.brain_session.specs.Kept.{IsReady, IsRow, followed_of, game_of,
 use crate::Reaction;
 use crate::choice::choose;
 use crate::guide::Guide;
-use crate::played::Played;
+use crate::moves_on_board::MovesOnBoard;
 use foul_judge::Outcome;
 use game_rules::{Point, RuleKind, Side};
 use gomocup_text::{Answer, ErrorText};
@@ -53,7 +53,7 @@ impl Course {
         &mut self,
         alloc: Global,
         held: &Held,
-        played: &mut Played,
+        played: &mut MovesOnBoard,
         p: Point,
     ) -> Result<Reaction, AllocError>
         requires kept { IsKeptUp held.now played.old self.old }
@@ -82,7 +82,7 @@ impl Course {
         &mut self,
         alloc: Global,
         held: &Held,
-        played: &mut Played,
+        played: &mut MovesOnBoard,
         p: Point,
     ) -> Result<Reaction, AllocError>
         requires kept { IsKeptUp held.now played.old self.old }
@@ -105,7 +105,7 @@ impl Course {
     }
 
     /// The opponent's move ends the game.
-    fn end(&mut self, played: &mut Played, p: Point, text: ErrorText) -> Reaction
+    fn end(&mut self, played: &mut MovesOnBoard, p: Point, text: ErrorText) -> Reaction
         requires along { GoesOnAlong self.old.kind played.old.start played.old.moves }
         requires ends { EndsGame (outcome self.old.kind (board_of (game_of played.old self.old)) p) }
         ensures ended { game_of played.new self.new ≡ with_move (game_of played.old self.old) p true }
@@ -122,7 +122,7 @@ impl Course {
         &mut self,
         alloc: Global,
         held: &Held,
-        played: &mut Played,
+        played: &mut MovesOnBoard,
     ) -> Result<Reaction, AllocError>
         requires along { GoesOnAlong self.old.kind played.old.start played.old.moves }
         requires to_move { mover (board_of (game_of played.old self.old)) ≡ self.old.brain }
@@ -146,7 +146,7 @@ impl Course {
         &mut self,
         alloc: Global,
         held: &Held,
-        played: &mut Played,
+        played: &mut MovesOnBoard,
     ) -> Result<Point, AllocError>
         requires along { GoesOnAlong self.old.kind played.old.start played.old.moves }
         requires ready { IsReady held.now played.old self.old }
@@ -168,7 +168,7 @@ impl Course {
     }
 
     /// The move by what was followed before the opponent's last move, if anything was and goes on after it.
-    fn follow(&mut self, held: &Held, played: &Played) -> Option<Point>
+    fn follow(&mut self, held: &Held, played: &MovesOnBoard) -> Option<Point>
         requires along { GoesOnAlong self.old.kind played.now.start played.now.moves }
         requires ready { IsReady held.now played.now self.old }
         ensures none { IfNone result ((followed_on held.now (game_of played.now self.old) ≡ None) × (self.new ≡ self.old)) }

@@ -10,15 +10,15 @@ mod brain;
 mod choice;
 mod course;
 mod guide;
-mod kinds;
 mod laws;
+mod moves_on_board;
 mod own_win;
 mod plain_move;
-mod played;
 mod round;
 mod sessions;
 #[cfg(test)]
 mod tests;
+mod under_rule;
 
 pub use batch::BatchStone;
 pub use brain::Brain;

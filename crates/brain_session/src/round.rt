@@ -19,8 +19,8 @@ ghost use Rattle.brain_session.specs.Kept.{are_one as are_one_lem, IsBegun, IsPo
 use crate::Reaction;
 use crate::batch::BatchReader;
 use crate::course::Course;
-use crate::kinds::lawful;
-use crate::played::Played;
+use crate::moves_on_board::MovesOnBoard;
+use crate::under_rule::lawful;
 use game_rules::{Point, RuleKind, Side};
 use gomocup_text::{Answer, ErrorText};
 use std::alloc::{AllocError, Global};
@@ -30,7 +30,7 @@ use strategy_checker::Held;
 /// A board with the moves on it, and the course of the game, if one has begun. Contracts see the place that this is.
 #[derive(Drop)]
 pub(crate) struct Round {
-    played: Played,
+    played: MovesOnBoard,
     course: Option<Course>,
 }
 
@@ -55,7 +55,7 @@ impl Round {
         ensures fresh { IfOk result (λ r. r ≡ Fresh width height) }
     {
         Ok(Round {
-            played: Played::empty(alloc, width, height)?,
+            played: MovesOnBoard::empty(alloc, width, height)?,
             course: None,
         })
     }
@@ -121,7 +121,7 @@ impl Round {
         let Some(start) = lawful(kind, board) else {
             return Ok(None);
         };
-        let mut played = Played::from(alloc, start)?;
+        let mut played = MovesOnBoard::from(alloc, start)?;
         let mut course = Course::new(kind, brain);
         let reaction = course.make_move(alloc, held, &mut played)?;
         let round = Round {

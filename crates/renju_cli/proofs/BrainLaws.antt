@@ -34,7 +34,7 @@ use Rattle.brain_session.proofs.SessionLaws.{answers-append}
 use Rattle.brain_session.proofs.LawfulStates.{session-lawful, new-lawful}
 use Rattle.brain_session.proofs.HeldGames.{sessions-go_well, starts-are_tight}
 use Rattle.renju_cli.specs.declared.status.Status.{Status}
-use Rattle.renju_cli.specs.declared.status.Status.TheVariants.{Done, Usage, ShelfFault, RefusedText, RefusedTable, Spent, Memory, ReadFault, WriteFault, NotFound, TooLong, Full}
+use Rattle.renju_cli.specs.declared.status.Status.TheVariants.{Done, ShelfFault, RefusedText, RefusedTable, Spent, Memory, ReadFault, WriteFault, TooLong}
 use Rattle.brain_session.specs.declared.TheConstants.{BRAIN_WORK}
 use Rattle.renju_cli.specs.Statuses.{status_number}
 use Rattle.renju_cli.specs.Runs.{Change, Run, HasFailed, IsSound, IsDelivered}
@@ -129,13 +129,7 @@ module _ (held : HeldTable) (run : Run) (bytes : List ℕ) (free : IsUnhinderedS
   by-status TooLong last ends how =
       let long = told-some (λ told. HasAnswered (session_of held last run.output) (commands (within_limit told)) × IsTooLong told) run.input.before bytes free.told how in
       absurd (not-too_long bytes free.fits long.1)
-  by-status Usage last ends how = absurd how
-  by-status ShelfFault last ends how = absurd how
-  by-status RefusedText last ends how = absurd how
-  by-status RefusedTable last ends how = absurd how
-  by-status Spent last ends how = absurd how
-  by-status NotFound last ends how = absurd how
-  by-status Full last ends how = absurd how
+  by-status _ last ends how = absurd how
 
   session-serves : EndsBrain held run.input run.output run.status → HasServed held run bytes ⊎ (run.status ≡ status_number Memory)
   session-serves (inl session) = by-status session.status session.last session.ends session.how

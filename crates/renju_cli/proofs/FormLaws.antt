@@ -29,6 +29,9 @@ form_told words =
 number-written : (n : ℕ) → n ≤ MAX_WORK → digits_value 10 (decimal n) ≡ n
 number-written n few = let d = decimal_is_IsNumeral n (omega (arith, few)) in d.1
 
+two-written : (form : ℕ → ℕ → Form) (m n : ℕ) → m ≤ MAX_WORK → n ≤ MAX_WORK → form (digits_value 10 (decimal m)) (digits_value 10 (decimal n)) ≡ form m n
+two-written form m n first second = let one = number-written m first in let two = number-written n second in λ i. form (one i) (two i)
+
 -- the words of a form tell it
 form-spelled : (words : List (List ℕ)) (form : Form) → (command words form).in_range → form_told (command words form).words ≡ form
 form-spelled words (Check work) range = ap Check (number-written work range.1)
@@ -36,24 +39,9 @@ form-spelled words Foul range = refl
 form-spelled words Brain range = refl
 form-spelled words BrainWith range = refl
 form-spelled words (Drill number) range = ap Drill (number-written number (omega (arith, range)))
-form-spelled words (Fours depth nodes) range =
-    let depth_most = range.1 in
-    let nodes_most = range.3 in
-    let depths = number-written depth (omega (arith, depth_most)) in
-    let budgets = number-written nodes (omega (arith, nodes_most)) in
-    λ i. Fours (depths i) (budgets i)
-form-spelled words (Threats limit nodes) range =
-    let limit_most = range.1 in
-    let nodes_most = range.3 in
-    let limits = number-written limit (omega (arith, limit_most)) in
-    let budgets = number-written nodes (omega (arith, nodes_most)) in
-    λ i. Threats (limits i) (budgets i)
-form-spelled words (Solve depth nodes) range =
-    let depth_most = range.1 in
-    let nodes_most = range.3 in
-    let depths = number-written depth (omega (arith, depth_most)) in
-    let budgets = number-written nodes (omega (arith, nodes_most)) in
-    λ i. Solve (depths i) (budgets i)
+form-spelled words (Fours depth nodes) range = two-written Fours depth nodes (omega (arith, range.1)) (omega (arith, range.3))
+form-spelled words (Threats limit nodes) range = two-written Threats limit nodes (omega (arith, range.1)) (omega (arith, range.3))
+form-spelled words (Solve depth nodes) range = two-written Solve depth nodes (omega (arith, range.1)) (omega (arith, range.3))
 
 pub told-form : (words : List (List ℕ)) (form : Form) → IsForm words form → form_told words ≡ form
 told-form words form is = ap form_told is.spelled ∙ form-spelled words form is.in_range

@@ -8,7 +8,7 @@ use Rattle.game_rules.specs.Play.{IsPosition, outcome, after, goes_on}
 use Rattle.game_rules.specs.declared.RuleKind.{RuleKind}
 use Rattle.game_rules.specs.declared.Cell.TheVariants.{Empty}
 use Rattle.game_rules.specs.declared.Outcome.{Outcome}
-use Rattle.game_rules.specs.declared.Outcome.TheVariants.{Refused, Wins as WinsNow, Fouls, Draws, GoesOn}
+use Rattle.game_rules.specs.declared.Outcome.TheVariants.{GoesOn}
 use Rattle.game_rules.specs.declared.Point.{Point}
 use Rattle.game_rules.proofs.Positions.{IsPosition-after}
 use Rattle.brain_session.specs.States.{empty_board}
@@ -38,11 +38,8 @@ module _ (rule : RuleKind) (b : Grid) (p : Point) where
   pub point-not : outcome rule b p ≢ GoesOn → with_point rule b p ≡ b
   point-not other = point-by (nat_lt (all_stones b) MOST_STONES) false refl (not_on (outcome rule b p) other) ∙ neither (nat_lt (all_stones b) MOST_STONES) where
     not_on : (o : Outcome) → o ≢ GoesOn → goes_on o ≡ false
-    not_on Refused h = refl
-    not_on WinsNow h = refl
-    not_on (Fouls f) h = refl
-    not_on Draws h = refl
     not_on GoesOn h = absurd (h refl)
+    not_on _ h = refl
 
     neither : (r : Bool) → cond (r && false) (after b p) b ≡ b
     neither true = refl
@@ -73,11 +70,8 @@ module _ (rule : RuleKind) (b : Grid) (p : Point) where
   point-lawful lawful = by_test (nat_lt (all_stones b) MOST_STONES) (outcome rule b p) refl where
     by_test : (r : Bool) (o : Outcome) → outcome rule b p ≡ o → IsPosition rule (cond (r && goes_on o) (after b p) b)
     by_test false o e = lawful
-    by_test true Refused e = lawful
-    by_test true WinsNow e = lawful
-    by_test true (Fouls f) e = lawful
-    by_test true Draws e = lawful
     by_test true GoesOn e = IsPosition-after rule b p lawful e
+    by_test true _ e = lawful
 
 -- ---- all draws
 

@@ -2,7 +2,7 @@
 use Rattle.std.proofs.Common.{◌≡◌, ◌⊎◌, inl, inr, refl, sym, ap, subst, ◌∙◌, ℕ, ◌+◌, ◌*◌, ◌≤◌, Bool, true, false, cond, not, ◌&&◌, ◌∷◌, arith}
 use Rattle.std.specs.Prelude.{Option, Some}
 use Rattle.game_rules.specs.Grid.{Grid, is_empty, empties_of}
-use Rattle.game_rules.specs.Play.{IsPosition, outcome, mover, other, after, goes_on, is_foul, is_win}
+use Rattle.game_rules.specs.Play.{IsPosition, outcome, mover, after, goes_on, is_foul, is_win}
 use Rattle.game_rules.specs.Games.{WinsOr, LosesOr}
 use Rattle.game_rules.specs.declared.RuleKind.{RuleKind}
 use Rattle.game_rules.specs.declared.Foul.{Foul}
@@ -26,7 +26,7 @@ use Rattle.brain_session.specs.States.{Game, board_of, InGame, State}
 use Rattle.brain_session.specs.ChosenMoves.{Choice}
 use Rattle.brain_session.specs.Steps.{Step, rule_of, if_supported, same_side, with_move, move_row, row_of, with_choice, step_by, brain_step}
 use Rattle.brain_session.proofs.Courses.{moved}
-use Rattle.brain_session.proofs.HeldSteps.{state_in, by_node, StandsIn, row_then, next_stands, lawful_then, turn_then, parts}
+use Rattle.brain_session.proofs.HeldSteps.{other_side, state_in, by_node, StandsIn, row_then, next_stands, lawful_then, turn_then, parts}
 use Rattle.strength_drill.specs.declared.positions.TheConstants.{SIDE}
 use Rattle.strength_drill.specs.DrillGames.{board_now, is_ended, moves_by, moves_of_brain, last_wins, is_won}
 
@@ -59,23 +59,13 @@ same_side-itself : (s : Side) → same_side s s ≡ true
 same_side-itself Black = refl
 same_side-itself White = refl
 
-same_side-other : (s : Side) → same_side (other s) s ≡ false
-same_side-other Black = refl
-same_side-other White = refl
-
--- the side that moves is the brain's, or it is the other
 own-turn : (t s : Side) → t ≡ s → same_side t s ≡ true
 own-turn t s e = ap (λ (x : Side). same_side x s) e ∙ same_side-itself s
 
-other-turn : (t s : Side) → t ≡ other s → same_side t s ≡ false
-other-turn t s e = ap (λ (x : Side). same_side x s) e ∙ same_side-other s
-
 wins_or_goes_on : (o : Outcome) (W : Type 0) → WinsOr o W → (o ≡ WinsNow) ⊎ (o ≡ GoesOn)
-wins_or_goes_on Refused W h = absurd h
 wins_or_goes_on WinsNow W h = inl refl
-wins_or_goes_on (Fouls f) W h = absurd h
-wins_or_goes_on Draws W h = absurd h
 wins_or_goes_on GoesOn W h = inr refl
+wins_or_goes_on _ W h = absurd h
 
 -- what comes of a TURN at q: a foul, with which the game is over, or the brain's next move
 pub record IsFouled (step : Step) (moves : ℕ) : Type 0 where
@@ -154,7 +144,7 @@ module _ (h : HeldTable) (rule : RuleKind) (s : State) (turns : ℕ) (p : IsPlay
       step-then o e = ap (λ (t : State). brain_step t (Turn q.x q.y)) p.state ∙ ap (step_by now) (row-then o e)
 
       opponent-turn : same_side (mover (after board_before p.node.attack)) p.game.brain ≡ false
-      opponent-turn = other-turn (mover (after board_before p.node.attack)) p.game.brain (turn_then h p.game p.i p.node p.more p.stands (here GoesOn on))
+      opponent-turn = other_side p.game.brain (mover (after board_before p.node.attack)) (turn_then h p.game p.i p.node p.more p.stands (here GoesOn on))
 
       made-now : moves_by p.game.brain p.game.start (p.node.attack ∷ p.game.moves) ≡ turns + 1
       made-now = ap (λ (r : Bool). moves_by p.game.brain p.game.start p.game.moves + cond r 1 0) (own-turn (mover board_before) p.game.brain p.stands.turn) ∙ ap (λ (n : ℕ). n + 1) p.made

@@ -2,14 +2,10 @@
 
 -- a position, draw by draw
 mod DrillMaking
--- a brain that is told a position, and its first move
-mod DrillBoards
+-- a brain that is told a position
 mod DrillTelling
-mod DrillOpening
--- a game, turn by turn
+-- a game, turn by turn, from the first move on
 mod DrillTurns
 mod DrillCourse
 -- a number has one drill, whose tables are all accepted and whose games are all won
 pub mod DrillCounts
--- what the calls say of one position
-mod DrillShares

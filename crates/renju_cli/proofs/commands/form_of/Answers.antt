@@ -15,46 +15,46 @@ pub returns-in_default : goal.returns-in_default
 returns-in_default c = record { form = λ h. no-words (subst HasForm (none string_bytes c.args.words.now c.in_default.len_below) h) }
 
 pub returns-in-check : goal.returns-in-check
-returns-in-check c =
-    let name : string_bytes c.name-item.result ≡ codes "check" = sym c.as_str.ensures.value ∙ c.in-check.is in
-    let words = first-word string_bytes c.args.words.now c.name-item.result c.in-len1-up.len_at_least c.name-item.is in
-    record { form = told-of c.form.result _ _ _ _ words name c.form.ensures.form }
+returns-in-check c = record {
+  form = told-of c.form.result _ _ (codes "check") _ (first-word string_bytes c.args.words.now c.name-item.result c.in-len1-up.len_at_least c.name-item.is)
+      (sym c.as_str.ensures.value ∙ c.in-check.is) c.form.ensures.form;
+}
 
 pub returns-in-foul : goal.returns-in-foul
-returns-in-foul c =
-    let name : string_bytes c.name-item.result ≡ codes "foul" = sym c.as_str.ensures.value ∙ c.in-foul.is in
-    let words = first-word string_bytes c.args.words.now c.name-item.result c.in-len1-up.len_at_least c.name-item.is in
-    record { form = told-of c.form-in-foul.result _ _ _ _ words name c.form-in-foul.ensures.form }
+returns-in-foul c = record {
+  form = told-of c.form-in-foul.result _ _ (codes "foul") _ (first-word string_bytes c.args.words.now c.name-item.result c.in-len1-up.len_at_least c.name-item.is)
+      (sym c.as_str.ensures.value ∙ c.in-foul.is) c.form-in-foul.ensures.form;
+}
 
 pub returns-in-fours : goal.returns-in-fours
-returns-in-fours c =
-    let name : string_bytes c.name-item.result ≡ codes "fours" = sym c.as_str.ensures.value ∙ c.in-fours.is in
-    let words = first-word string_bytes c.args.words.now c.name-item.result c.in-len1-up.len_at_least c.name-item.is in
-    record { form = told-of c.form-in-fours.result _ _ _ _ words name c.form-in-fours.ensures.form }
+returns-in-fours c = record {
+  form = told-of c.form-in-fours.result _ _ (codes "fours") _ (first-word string_bytes c.args.words.now c.name-item.result c.in-len1-up.len_at_least c.name-item.is)
+      (sym c.as_str.ensures.value ∙ c.in-fours.is) c.form-in-fours.ensures.form;
+}
 
 pub returns-in-threats : goal.returns-in-threats
-returns-in-threats c =
-    let name : string_bytes c.name-item.result ≡ codes "threats" = sym c.as_str.ensures.value ∙ c.in-threats.is in
-    let words = first-word string_bytes c.args.words.now c.name-item.result c.in-len1-up.len_at_least c.name-item.is in
-    record { form = told-of c.form-in-threats.result _ _ _ _ words name c.form-in-threats.ensures.form }
+returns-in-threats c = record {
+  form = told-of c.form-in-threats.result _ _ (codes "threats") _ (first-word string_bytes c.args.words.now c.name-item.result c.in-len1-up.len_at_least c.name-item.is)
+      (sym c.as_str.ensures.value ∙ c.in-threats.is) c.form-in-threats.ensures.form;
+}
 
 pub returns-in-solve : goal.returns-in-solve
-returns-in-solve c =
-    let name : string_bytes c.name-item.result ≡ codes "solve" = sym c.as_str.ensures.value ∙ c.in-solve.is in
-    let words = first-word string_bytes c.args.words.now c.name-item.result c.in-len1-up.len_at_least c.name-item.is in
-    record { form = told-of c.form-in-solve.result _ _ _ _ words name c.form-in-solve.ensures.form }
+returns-in-solve c = record {
+  form = told-of c.form-in-solve.result _ _ (codes "solve") _ (first-word string_bytes c.args.words.now c.name-item.result c.in-len1-up.len_at_least c.name-item.is)
+      (sym c.as_str.ensures.value ∙ c.in-solve.is) c.form-in-solve.ensures.form;
+}
 
 pub returns-in-brain : goal.returns-in-brain
-returns-in-brain c =
-    let name : string_bytes c.name-item.result ≡ codes "brain" = sym c.as_str.ensures.value ∙ c.in-brain.is in
-    let words = first-word string_bytes c.args.words.now c.name-item.result c.in-len1-up.len_at_least c.name-item.is in
-    record { form = told-of c.form-in-brain.result _ _ _ _ words name c.form-in-brain.ensures.form }
+returns-in-brain c = record {
+  form = told-of c.form-in-brain.result _ _ (codes "brain") _ (first-word string_bytes c.args.words.now c.name-item.result c.in-len1-up.len_at_least c.name-item.is)
+      (sym c.as_str.ensures.value ∙ c.in-brain.is) c.form-in-brain.ensures.form;
+}
 
 pub returns-in-drill : goal.returns-in-drill
-returns-in-drill c =
-    let name : string_bytes c.name-item.result ≡ codes "drill" = sym c.as_str.ensures.value ∙ c.in-drill.is in
-    let words = first-word string_bytes c.args.words.now c.name-item.result c.in-len1-up.len_at_least c.name-item.is in
-    record { form = told-of c.form-in-drill.result _ _ _ _ words name c.form-in-drill.ensures.form }
+returns-in-drill c = record {
+  form = told-of c.form-in-drill.result _ _ (codes "drill") _ (first-word string_bytes c.args.words.now c.name-item.result c.in-len1-up.len_at_least c.name-item.is)
+      (sym c.as_str.ensures.value ∙ c.in-drill.is) c.form-in-drill.ensures.form;
+}
 
 -- the first word is that of no command
 pub returns-in_default-as_str : goal.returns-in_default-as_str

@@ -7,7 +7,7 @@ use Rattle.four_search.specs.declared.answer.FourAnswer.{FourAnswer}
 use Rattle.strength_drill.specs.declared.drill.TheConstants.{DEPTH}
 use Rattle.strength_drill.specs.declared.counts.Counts.{Counts}
 use Rattle.strength_drill.specs.Counts.{PlaysGame, IsNotHeld, IsShare}
-use Rattle.strength_drill.proofs.DrillShares.{ok-map, share-win, share-none, share-spent}
+use Rattle.strength_drill.proofs.DrillCounts.{ok-map, share-win, share-none, share-spent}
 use Rattle.strength_drill.proofs.drill.share_under.Goals as goal
 
 pub returns-in_ok-table-in-Ok-Win-clause-share : goal.returns-in_ok-table-in-Ok-Win-clause-share

@@ -3,7 +3,7 @@ use Rattle.strategy_compiler.specs.Walks.{last}
 use Rattle.strategy_checker.specs.HeldRoots.{HeldTable}
 use Rattle.strength_drill.specs.DrillGames.{held_at}
 use Rattle.strength_drill.specs.Counts.{AreWithin}
-use Rattle.strength_drill.proofs.DrillShares.{last-below, held-as, holdable-as, plays-as, win-within}
+use Rattle.strength_drill.proofs.DrillCounts.{last-below, held-as, holdable-as, plays-as, win-within}
 use Rattle.strength_drill.proofs.drill.try_table.Goals as goal
 
 pub add-requires-clause-below : goal.add-requires-clause-below

@@ -7,8 +7,7 @@ use Rattle.gomocup_text.specs.declared.Command.TheVariants.{Done}
 use Rattle.brain_session.specs.States.{State, new_brain}
 use Rattle.brain_session.specs.Steps.{brain_step}
 use Rattle.strength_drill.specs.DrillGames.{move_said, position_lines, told_all, state_begun, drawn_move, IsGamePlayed}
-use Rattle.strength_drill.proofs.DrillOpening.{IsOpened, told-as, opened-as}
-use Rattle.strength_drill.proofs.DrillCourse.{IsAtTurn, turn-as, course-first, course-won, course-one, course-ended, course-next, course-on}
+use Rattle.strength_drill.proofs.DrillCourse.{IsOpened, told-as, opened-as, IsAtTurn, turn-as, course-first, course-won, course-one, course-ended, course-next, course-on}
 use Rattle.strength_drill.proofs.drill_game.play_game.Goals as goal
 
 -- the brain says its first move

@@ -1,5 +1,5 @@
 use Rattle.brain_session.specs.States.{empty_board}
-use Rattle.brain_session.proofs.Stones.{fit-stones, waits-next, side-own, side-other, put-more}
+use Rattle.brain_session.proofs.BatchGames.{fit-stones, waits-next, side-own, side-other, put-more}
 use Rattle.brain_session.proofs.batch.BatchReader.board.Goals as goal
 use Rattle.brain_session.proofs.batch.BatchReader.board.Goals.{then-stone, else-stone}
 

@@ -1,7 +1,7 @@
 use Rattle.std.proofs.Common.{◌≡◌, take}
 use Rattle.brain_session.specs.States.{empty_board}
 use Rattle.brain_session.specs.Batches.{with_stones}
-use Rattle.brain_session.proofs.Stones.{Waits}
+use Rattle.brain_session.proofs.BatchGames.{Waits}
 use Rattle.brain_session.proofs.batch.BatchReader.board.Given as goal
 
 -- the stones so far are put, and the points of the others are empty

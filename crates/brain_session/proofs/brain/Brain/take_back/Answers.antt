@@ -1,30 +1,21 @@
 use Rattle.std.proofs.Common.{◌≡◌, ap, subst, ◌∙◌}
-use Rattle.std.specs.Prelude.{IsNone, is_some}
+use Rattle.std.specs.Prelude.{is_some}
 use Rattle.brain_session.specs.States.{State}
-use Rattle.brain_session.specs.Steps.{board_in}
 use Rattle.brain_session.specs.Running.{IsPlace}
 use Rattle.brain_session.specs.Kept.{place_in}
-use Rattle.brain_session.proofs.Takings.{fit-none}
+use Rattle.brain_session.proofs.Takings.{placed-running}
 use Rattle.brain_session.proofs.brain.Brain.take_back.Goals as goal
 
 pub invariant_of-self-2 : goal.invariant_of-self-2
 invariant_of-self-2 c =
     let s : State = record { wish = c.self.inside.wish; held = c.self.inside.held; place = place_in c.self.inside.round; batch = c.self.inside.batch } in
     let view : s ≡ c.args.self.now = c.self.view_is in
-    let none : IsNone c.self.inside.batch = ap (λ (w : State). is_some w.batch) view ∙ c.requires.unread in
-    record {
-      held = c.self.invariant.held;
-      place = c.take_back.ensures.place c.self.inside.held (subst (IsPlace c.self.inside.held) (ap place_in c.in-Some.is) c.self.invariant.place);
-      batch = fit-none (board_in c.take_back.new.self) c.self.inside.batch none;
-    }
+    placed-running s c.take_back.new.self c.self.invariant.held (ap (λ (w : State). is_some w.batch) view ∙ c.requires.unread)
+    (c.take_back.ensures.place s.held (subst (IsPlace s.held) (ap place_in c.in-Some.is) c.self.invariant.place))
 
 pub returns-clause-running : goal.returns-clause-running
 returns-clause-running c =
     let s : State = record { wish = c.self.inside.wish; held = c.self.inside.held; place = place_in c.self.inside.round; batch = c.self.inside.batch } in
     let view : s ≡ c.args.self.now = c.self.view_is in
-    let none : IsNone c.self.inside.batch = ap (λ (w : State). is_some w.batch) view ∙ c.requires.unread in
-    record {
-      held = c.self.invariant.held;
-      place = c.take_back.ensures.place c.self.inside.held (subst (IsPlace c.self.inside.held) (ap place_in c.in-Some.is) c.self.invariant.place);
-      batch = fit-none (board_in c.take_back.new.self) c.self.inside.batch none;
-    }
+    placed-running s c.take_back.new.self c.self.invariant.held (ap (λ (w : State). is_some w.batch) view ∙ c.requires.unread)
+    (c.take_back.ensures.place s.held (subst (IsPlace s.held) (ap place_in c.in-Some.is) c.self.invariant.place))

@@ -8,8 +8,7 @@ use Rattle.brain_session.specs.States.{Game, Place, InGame, board_of}
 use Rattle.brain_session.specs.Steps.{board_in, move_row, placed, turn_row}
 use Rattle.brain_session.specs.Memory.{is_game}
 use Rattle.brain_session.specs.Kept.{in_place, IsRow, IsStateOf, Takes, game_of, place_of}
-use Rattle.brain_session.proofs.Rounds.{new-game, no-game, round-kept}
-use Rattle.brain_session.proofs.Rows.{first-taken}
+use Rattle.brain_session.proofs.Rounds.{new-game, no-game, round-kept, first-taken}
 use Rattle.brain_session.proofs.round.Round.begin_by_turn.Goals as goal
 
 pub returns-clause-row : goal.returns-clause-row

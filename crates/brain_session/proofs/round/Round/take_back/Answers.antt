@@ -9,7 +9,7 @@ use Rattle.brain_session.specs.ChosenMoves.{last_move}
 use Rattle.brain_session.specs.Steps.{board_in, placed, takeback_row}
 use Rattle.brain_session.specs.Running.{IsPlace}
 use Rattle.brain_session.specs.Kept.{IsPointOn, Takes, are_one, place_of}
-use Rattle.brain_session.proofs.Rows.{takeback-bad}
+use Rattle.brain_session.proofs.Rounds.{takeback-bad}
 use Rattle.brain_session.proofs.round.Round.take_back.Goals as goal
 
 pub returns-then-not-are_one-clause-row : goal.returns-then-not-are_one-clause-row

@@ -8,8 +8,7 @@ use Rattle.brain_session.specs.declared.Reaction.TheVariants.{Says}
 use Rattle.brain_session.specs.States.{Game, Place, InGame, State}
 use Rattle.brain_session.specs.Steps.{board_in, placed, turn_row}
 use Rattle.brain_session.specs.Kept.{IsPointOn, IsRound, IsStateOf, Takes, game_of, place_of, turn_refusal}
-use Rattle.brain_session.proofs.Rows.{turn-off, turn-taken}
-use Rattle.brain_session.proofs.Rounds.{round-after}
+use Rattle.brain_session.proofs.Rounds.{turn-off, turn-taken, round-after}
 use Rattle.brain_session.proofs.round.Round.turn.Goals as goal
 
 pub returns-in_default-at-clause-row : goal.returns-in_default-at-clause-row

@@ -13,7 +13,7 @@ ghost use Rattle.brain_session.specs.ChosenMoves.{last_move, plain_move as plain
 ghost use Rattle.brain_session.specs.Steps.{is_bare};
 ghost use Rattle.brain_session.specs.Kept.{without_last};
 
-use crate::kinds::{outcome, plain_move};
+use crate::under_rule::{outcome, plain_move};
 use foul_judge::{Outcome, mover};
 use game_rules::{Point, RuleKind, Side};
 use std::alloc::{AllocError, Global};
@@ -23,13 +23,13 @@ use stone_board::Board;
 /// The board from which a game began, the moves since, with room for all that the board can take, and the board now. Contracts
 /// see the board from which it began, and the moves, the last one first.
 #[derive(Drop)]
-pub(crate) struct Played {
+pub(crate) struct MovesOnBoard {
     start: Board,
     moves: Vec<Point>,
     board: Board,
 }
 
-impl Model for Played {
+impl Model for MovesOnBoard {
     ghost use Rattle.std.specs.Prelude.{reverse, vec_len, vec_capacity};
     ghost use Rattle.brain_session.specs.Kept.{Moves, IsKept};
 
@@ -40,26 +40,26 @@ impl Model for Played {
     ghost invariant = { λ p. IsKept (record { start = p.start; moves = reverse p.moves.items }) p.board (vec_len p.moves) (vec_capacity p.moves) };
 }
 
-impl Played {
+impl MovesOnBoard {
     /// The board of this size with no stone on it, and no moves. `Err` says that memory ran out.
-    pub(crate) fn empty(alloc: Global, width: u8, height: u8) -> Result<Played, AllocError>
+    pub(crate) fn empty(alloc: Global, width: u8, height: u8) -> Result<MovesOnBoard, AllocError>
         requires wide { MIN_SIDE ≤ width }
         requires width_fits { width ≤ MAX_SIDE }
         requires high { MIN_SIDE ≤ height }
         requires height_fits { height ≤ MAX_SIDE }
         ensures empty { IfOk result (λ m. m ≡ record { start = empty_board width height; moves = [] }) }
     {
-        Played::from(alloc, Board::empty(alloc, width, height)?)
+        MovesOnBoard::from(alloc, Board::empty(alloc, width, height)?)
     }
 
     /// This board, and no moves. `Err` says that memory ran out.
-    pub(crate) fn from(alloc: Global, start: Board) -> Result<Played, AllocError>
+    pub(crate) fn from(alloc: Global, start: Board) -> Result<MovesOnBoard, AllocError>
         ensures begun { IfOk result (λ m. m ≡ record { start = start; moves = [] }) }
     {
         let points = usize::from(start.width()) * usize::from(start.height());
         let board = start.copy()?;
         let moves = Vec::with_capacity(alloc, points)?;
-        Ok(Played {
+        Ok(MovesOnBoard {
             start,
             moves,
             board,

@@ -3,7 +3,7 @@ use Rattle.game_rules.specs.Grid.{Grid, is_empty}
 use Rattle.brain_session.specs.States.{board_after}
 use Rattle.brain_session.specs.Kept.{Moves}
 use Rattle.brain_session.proofs.PlayedMoves.{kept-room, kept-pushed}
-use Rattle.brain_session.proofs.played.Played.play.Goals as goal
+use Rattle.brain_session.proofs.moves_on_board.MovesOnBoard.play.Goals as goal
 
 pub push_reserved-requires : goal.push_reserved-requires
 push_reserved-requires c =

@@ -3,7 +3,7 @@ use Rattle.brain_session.specs.States.{board_after}
 use Rattle.brain_session.specs.ChosenMoves.{same_board}
 use Rattle.brain_session.specs.Kept.{Moves}
 use Rattle.brain_session.proofs.PlayedMoves.{same_board-told}
-use Rattle.brain_session.proofs.played.Played.is_at.Goals as goal
+use Rattle.brain_session.proofs.moves_on_board.MovesOnBoard.is_at.Goals as goal
 
 pub returns : goal.returns
 returns c = record {

@@ -4,7 +4,7 @@ use Rattle.brain_session.specs.States.{board_after}
 use Rattle.brain_session.specs.ChosenMoves.{same_board, last_move}
 use Rattle.brain_session.specs.Kept.{Moves, without_last}
 use Rattle.brain_session.proofs.PlayedMoves.{last-cons, kept-as, kept-stone, kept-lift, kept-again, same_board-told}
-use Rattle.brain_session.proofs.played.Played.was_at.Goals as goal
+use Rattle.brain_session.proofs.moves_on_board.MovesOnBoard.was_at.Goals as goal
 
 pub lift-requires : goal.lift-requires
 lift-requires c =

@@ -1,6 +1,6 @@
 use Rattle.std.proofs.Common.{reverse}
 use Rattle.brain_session.proofs.PlayedMoves.{kept-stone, kept-popped, kept-left}
-use Rattle.brain_session.proofs.played.Played.take_back.Goals as goal
+use Rattle.brain_session.proofs.moves_on_board.MovesOnBoard.take_back.Goals as goal
 
 pub lift-requires : goal.lift-requires
 lift-requires c =
