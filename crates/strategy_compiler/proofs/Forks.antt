@@ -99,7 +99,7 @@ still-found f q (p ∷ ps) h k = by_same (is_same_point q p) refl k (still-found
   here same =
       let e : f p ≡ true = ap f (sym (is_same_point-same q p same)) ∙ h in
       ap (λ b. list_any (is_same_point q) (cond b (p ∷ filter f ps) (filter f ps))) e
-          ∙ ap (λ b. b || list_any (is_same_point q) (filter f ps)) same
+      ∙ ap (λ b. b || list_any (is_same_point q) (filter f ps)) same
 
   by_same : (b : Bool) → is_same_point q p ≡ b → (b || list_any (is_same_point q) ps) ≡ true
       → (list_any (is_same_point q) ps ≡ true → list_any (is_same_point q) (filter f ps) ≡ true)

@@ -253,7 +253,7 @@ answer-pair : (R : ℕ → ℕ → Type 0) (a b : Answers) (qs : List Point) (q 
 answer-pair R a b [] q j k h (m, l, e) x y = absurd (omega arith)
 answer-pair R a b (p ∷ qs) q j k h (zero, l, e) x y =
     some-pair R j k (subst (λ (o : Option ℕ). OptionPair R o (Some k)) x
-        (subst (λ (o : Option ℕ). OptionPair R (answer a q) o) y (subst (λ (r : Point). OptionPair R (answer a r) (answer b r)) e h.0)))
+    (subst (λ (o : Option ℕ). OptionPair R (answer a q) o) y (subst (λ (r : Point). OptionPair R (answer a r) (answer b r)) e h.0)))
 answer-pair R a b (p ∷ qs) q j k h (suc m, l, e) x y = answer-pair R a b qs q j k h.2 (m, omega arith, e) x y
 
 listed-pairs : (R : ℕ → ℕ → Type 0) (a b : Answers) (qs : List Point) (rs ss : List Reply) → AnswerPairs R a b qs → map (λ r. r.at) rs ≡ map (λ s. s.at) ss → ((q : Point) → Contains (map (λ r. r.at) rs) q → Contains qs q) → AllByRecursion (λ r. answer a r.at ≡ Some r.next) rs → AllByRecursion (λ r. answer b r.at ≡ Some r.next) ss → ReplyPairs R rs ss
@@ -264,7 +264,7 @@ listed-pairs R a b qs (r ∷ rs) (s ∷ ss) h e inside x y =
     let at : r.at ≡ s.at = cons-first _ _ _ _ e in
     subst (λ (q : Point). ReplyPairs R (r ∷ rs) (record { at = q; next = s.next } ∷ ss)) at
     (Replies r.at r.next s.next rs ss
-        (answer-pair R a b qs r.at r.next s.next h (inside r.at (0, omega arith, refl)) x.0 (ap (answer b) at ∙ y.0))
+    (answer-pair R a b qs r.at r.next s.next h (inside r.at (0, omega arith, refl)) x.0 (ap (answer b) at ∙ y.0))
     (listed-pairs R a b qs rs ss h (cons-others _ _ _ _ e) (λ q c. inside q (suc c.0, omega arith, c.2)) x.1 y.1))
 
 filter-inside : (p : Point → Bool) (qs : List Point) (q : Point) → Contains (filter p qs) q → Contains qs q

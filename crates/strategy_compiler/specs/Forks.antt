@@ -61,4 +61,4 @@ double_moves (q ∷ qs) = 2
 abbrev pub double_nodes : Point → List Point → ℕ
 double_nodes first replies =
     1 + (if list_any (λ q. is_same_point q first) replies then 1 else 0) +
-        (if list_any (λ q. not (is_same_point q first)) replies then 1 else 0)
+    (if list_any (λ q. not (is_same_point q first)) replies then 1 else 0)

@@ -24,7 +24,6 @@ use Rattle.threat_moves.specs.OneBlock.{block_wins, BlockDecides, LeavesFive, Ot
 use Rattle.threat_moves.proofs.FourLaws.{four-goes_on, four-five}
 
 module _ (rule : RuleKind) (c : Grid) (q : Point) (draws : outcome rule c q ≡ Draws) where
-
   -- a move that draws leaves no other point empty
   no_other_empty : IsPosition rule c → (w : Point) → is_empty c w ≡ true → Apart q w → ⊥
   no_other_empty lawful w empty apart =
