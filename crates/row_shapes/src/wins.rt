@@ -11,6 +11,7 @@ use crate::Rule;
 use stone_board::{Axis, Board, Point, Side};
 
 /// Whether the empty point is a five point of the side: whether its stone there makes a winning run on some axis.
+#[inline(always)]
 pub fn five_at<R: Rule>(board: &Board, side: Side, p: Point) -> bool
     requires empty { IsTrue (is_empty board.now p) }
     ensures five { result ≡ five R.KIND board.now side p }
