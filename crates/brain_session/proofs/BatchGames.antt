@@ -1,5 +1,5 @@
 -- The board of a batch, whose stones are put one by one, and the side to move on it.
-use Rattle.std.specs.Prelude.{Option, Some, None, ◌==◌, All, AllPairs, IsSome, if◌then◌else◌}
+use Rattle.std.specs.Prelude.{Option, Some, None, ◌==◌, All, AllPairs, IsSome}
 use Rattle.std.specs.List.{count_by}
 use Rattle.std.proofs.Common.{◌≡◌, ℕ, zero, suc, ◌+◌, ◌≤◌, ◌<◌, Bool, true, false, cond, refl, sym, ap, ◌∙◌, arith, List, [], ◌∷◌, length, get_or, take, IfSome, MatchOption, inl, inr, not}
 use Rattle.std.proofs.lemmas.List.Sums.{fold_more, sum_by-cons}
@@ -13,6 +13,7 @@ use Rattle.game_rules.specs.declared.Side.TheVariants.{Black, White}
 use Rattle.game_rules.proofs.Boards.{is_empty-on, is_empty-put}
 use Rattle.game_rules.proofs.Points.{is_same_point-apart}
 use Rattle.game_rules.proofs.Positions.{IsBoard-put, stones_of-put}
+use Rattle.game_rules.proofs.Cells.{own_stone, other_stone}
 use Rattle.brain_session.specs.declared.batch.BatchStone.{BatchStone}
 use Rattle.brain_session.specs.States.{Batch, empty_board}
 use Rattle.brain_session.specs.Batches.{side_of, with_stones, colour_by, colour_in}
@@ -85,18 +86,6 @@ count_by-same f g (x ∷ xs) same =
     ∙ ap (λ (r : Bool). cond r 1 0 + count_by f xs) (same x)
     ∙ ap (λ (n : ℕ). cond (g x) 1 0 + n) (count_by-same f g xs same)
     ∙ sym (sum_by-cons (λ (y : BatchStone). cond (g y) 1 0) x xs)
-
-own_stone : (brain : Side) (own : Bool) → is_stone_of brain (stone_of (if own then brain else other brain)) ≡ own
-own_stone Black true = refl
-own_stone Black false = refl
-own_stone White true = refl
-own_stone White false = refl
-
-other_stone : (brain : Side) (own : Bool) → is_stone_of (other brain) (stone_of (if own then brain else other brain)) ≡ not own
-other_stone Black true = refl
-other_stone Black false = refl
-other_stone White true = refl
-other_stone White false = refl
 
 mover-by : (brain : Side) (b : Grid) (own others : ℕ) → stones_of b brain ≡ own → stones_of b (other brain) ≡ others → colour_by own others ≡ Some brain → mover b ≡ brain
 mover-by Black b own others mine theirs colour = by_test (own == others) refl where

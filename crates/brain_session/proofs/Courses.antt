@@ -1,18 +1,17 @@
 -- A game that is kept up: after each move of the brain, and after each of the opponent.
 use Rattle.std.proofs.Common.{◌≡◌, ◌≢◌, ℕ, ◌-◌, Bool, true, false, not, List, [], ◌∷◌, refl, sym, ap, subst, ◌∙◌}
-use Rattle.std.specs.Prelude.{Option, Some, None, IfSome, MatchOption, is_some, ◌==◌}
+use Rattle.std.specs.Prelude.{Option, Some, None, IfSome, MatchOption, is_some}
 use Rattle.std.specs.Option.{option_map, option_and_then}
-use Rattle.game_rules.specs.Grid.{Grid, is_empty, empties_of}
-use Rattle.game_rules.specs.Shapes.{five}
-use Rattle.game_rules.specs.Play.{IsPosition, outcome, outcome_by, foul_of, after, mover, other, goes_on}
-use Rattle.game_rules.specs.declared.Foul.{Foul}
+use Rattle.game_rules.specs.Grid.{Grid, is_empty}
+use Rattle.game_rules.specs.Play.{IsPosition, outcome, after, mover, other, goes_on}
 use Rattle.game_rules.specs.declared.RuleKind.{RuleKind}
 use Rattle.game_rules.specs.declared.Outcome.{Outcome}
 use Rattle.game_rules.specs.declared.Outcome.TheVariants.{Refused, GoesOn}
 use Rattle.game_rules.specs.declared.Point.{Point}
 use Rattle.game_rules.proofs.Positions.{IsPosition-after, mover-other, mover-then}
 use Rattle.game_rules.proofs.Points.{taken_refused}
-use Rattle.game_rules.proofs.Outcomes.{goes_on-is}
+use Rattle.game_rules.proofs.Outcomes.{goes_on-is, moved}
+use Rattle.game_rules.proofs.Games.{wins-some}
 use Rattle.strategy_graph.specs.Tables.{answer_at}
 use Rattle.strategy_checker.specs.HeldRoots.{HeldTable}
 use Rattle.brain_session.specs.declared.guide.Guide.{Guide}
@@ -22,7 +21,6 @@ use Rattle.brain_session.specs.States.{Followed, HeldNode, OwnWin, Game, board_a
 use Rattle.brain_session.specs.ChosenMoves.{Choice, or_else, after_reply, last_move, move_by, by_following, followed_on, by_followed, first_node, by_held, own_win, by_own_win, by_plain_move, chosen_anew, chosen}
 use Rattle.brain_session.specs.Running.{GoesOnAlong, EndsGame, FollowsAt, FollowsOn, IsOpponentNext, IsPlayed}
 use Rattle.brain_session.specs.Kept.{Moves, GuidesAt, GuidesOn, GoesOnAfter, IsKeptUp, IsInTable, IsReady, NodeStandsAt, StandsAt, followed_of, game_of, guide_after}
-use Rattle.brain_session.proofs.OwnWins.{wins_moves}
 use Rattle.brain_session.proofs.Guiding.{stands-goes_on, goes_on-after}
 
 -- ---- the position
@@ -80,7 +78,7 @@ chosen-followed h g c e = ap (λ (o : Option Choice). or_else o (λ _. chosen_an
 -- a guide whose node stands somewhere names a node of its table
 pub node-in_table : (h : HeldTable) (rule : RuleKind) (b : Grid) (g : Guide) → NodeStandsAt h rule b g → IsInTable h g
 node-in_table h rule b (HeldGuide node) at = at.0
-node-in_table h rule b (OwnGuide own) at = (at.in_table, wins_moves rule own.moves b at.wins)
+node-in_table h rule b (OwnGuide own) at = (at.in_table, wins-some rule own.moves b at.wins)
 
 after-followed : (h : HeldTable) (g : Guide) (q : Point) (new : Guide) → guide_after h g q ≡ Some new → after_reply h (followed_of g) q ≡ Some (followed_of new)
 after-followed h (HeldGuide node) q new e = by_answer (answer_at h.table node q) e where
@@ -123,22 +121,6 @@ ends : (o : Outcome) → o ≢ Refused → goes_on o ≡ false → EndsGame o
 ends Refused moved e = absurd (moved refl)
 ends GoesOn moved e = absurd (cc)
 ends _ moved e = tt
-
-unrefused : (wins last : Bool) (o : Option Foul) → outcome_by true wins o last ≢ Refused
-unrefused true last (Some f) e = cc
-unrefused false last (Some f) e = cc
-unrefused true last None e = cc
-unrefused false true None e = cc
-unrefused false false None e = cc
-
--- a move to an empty point is not refused
-pub moved : (rule : RuleKind) (b : Grid) (p : Point) → is_empty b p ≡ true → outcome rule b p ≢ Refused
-unfolding outcome
-moved rule b p empty e =
-    let wins : Bool = five rule b (mover b) p in
-    let foul : Option Foul = foul_of rule b (mover b) p in
-    let last : Bool = empties_of b == 1 in
-    unrefused wins last foul (subst (λ (r : Bool). outcome_by r wins foul last ≡ Refused) empty e)
 
 -- a game in which the brain makes a move to an empty point, by what it follows then, is kept up
 module _ (h : HeldTable) (m : Moves) (c : Course) (at : Point) (along : GoesOnAlong c.kind m.start m.moves) (to_move : mover (board_after m.start m.moves) ≡ c.brain) where

@@ -1,22 +1,21 @@
 -- What the brain follows goes on: from the board where a node's attack is to be played to that after it, and to those after each
 -- reply.
-use Rattle.std.proofs.Common.{◌≡◌, ℕ, ◌-◌, Bool, true, false, List, refl, sym, ap, subst, ◌∙◌}
+use Rattle.std.proofs.Common.{◌≡◌, ℕ, ◌-◌, true, List, sym, ap, subst, ◌∙◌}
 use Rattle.std.specs.Prelude.{Option, Some, None, MatchOption, slice_get}
 use Rattle.std.specs.Option.{option_map}
 use Rattle.game_rules.specs.Grid.{Grid, is_empty}
 use Rattle.game_rules.specs.Play.{IsPosition, outcome, after}
-use Rattle.game_rules.specs.Games.{WinsOr, LosesOr, WinsByFours, has_five, wins_by_fours}
+use Rattle.game_rules.specs.Games.{WinsByFours, has_five, wins_by_fours}
 use Rattle.game_rules.specs.declared.RuleKind.{RuleKind}
-use Rattle.game_rules.specs.declared.Outcome.{Outcome}
 use Rattle.game_rules.specs.declared.Outcome.TheVariants.{GoesOn}
 use Rattle.game_rules.specs.declared.Point.{Point}
-use Rattle.game_rules.proofs.Points.{taken_refused}
 use Rattle.game_rules.proofs.Games.{LosesOr-map, test-WinsUnder, WinsUnder-test}
+use Rattle.game_rules.proofs.Outcomes.{going}
 use Rattle.strategy_graph.specs.declared.Node.{Node}
 use Rattle.strategy_graph.specs.Tables.{answer_at, IsTable}
 use Rattle.strategy_graph.specs.Acceptance.{Answered, Accepted}
 use Rattle.strategy_graph.proofs.Answering.{Answered-map}
-use Rattle.strategy_graph.proofs.Following.{accepted-node, accepted-in_table, accepted-replies}
+use Rattle.strategy_graph.proofs.Following.{accepted-in_table, accepted-replies, attack_empty}
 use Rattle.strategy_compiler.specs.Trees.{StandsFor}
 use Rattle.strategy_checker.specs.HeldRoots.{HeldTable}
 use Rattle.four_search.specs.Plans.{four_plan}
@@ -29,21 +28,6 @@ use Rattle.brain_session.specs.ChosenMoves.{move_by}
 use Rattle.brain_session.specs.Kept.{GuidesAt, OwnStandsAt, NodeStandsAt, StandsAt, GoesOnAfter, followed_of, nodes_of}
 
 -- ---- the move
-
--- a move that wins or goes on is at an empty point
-empty_at : (rule : RuleKind) (b : Grid) (p : Point) → WinsOr (outcome rule b p) (Unit {0}) → is_empty b p ≡ true
-empty_at rule b p h = by_test (is_empty b p) refl where
-  by_test : (r : Bool) → is_empty b p ≡ r → r ≡ true
-  by_test true e = refl
-  by_test false e = absurd (subst (λ (o : Outcome). WinsOr o (Unit {0})) (taken_refused rule b p e) h)
-
--- the attack of an accepted node is an empty point
-attack_empty : (rule : RuleKind) (t : List Node) (i : ℕ) (b : Grid) (p : Point) → Accepted rule t i b → option_map (λ n. n.attack) (slice_get t i) ≡ Some p → is_empty b p ≡ true
-attack_empty rule t i b p accepted e =
-    let there = accepted-node rule t i b accepted in
-    let same : Some there.0.attack ≡ Some p = sym (ap (option_map (λ (n : Node). n.attack)) there.1) ∙ e in
-    let at : there.0.attack ≡ p = cc in
-    subst (λ (x : Point). is_empty b x ≡ true) at (empty_at rule b there.0.attack there.2)
 
 -- the attack of the node that is followed is the move by it
 pub held-moves : (h : HeldTable) (rule : RuleKind) (b : Grid) (g : Guide) (node : ℕ) (n : Node) → g ≡ HeldGuide node → slice_get h.table node ≡ Some n → move_by h rule b (followed_of g) ≡ Some n.attack
@@ -103,9 +87,6 @@ own_after h rule b own wins (Some j) answered = record {
   stands = answered.0;
   accepted = answered.1;
 }
-
-going : (o : Outcome) (W : Type 0) → o ≡ GoesOn → LosesOr o W → W
-going o W go h = subst (λ (x : Outcome). LosesOr x W) go h
 
 -- where what is followed goes on at b, and the reply q does, it goes on after the reply
 pub goes_on-after : (h : HeldTable) (rule : RuleKind) (b : Grid) (g : Guide) (q : Point) → FollowsAt h rule b (followed_of g) → GuidesAt rule b g → outcome rule b q ≡ GoesOn → GoesOnAfter h rule (after b q) g q

@@ -4,10 +4,8 @@ use Rattle.std.specs.Prelude.{Some, None, slice_get}
 use Rattle.std.proofs.lemmas.List.Elements.{All-contains}
 use Rattle.game_rules.specs.Grid.{Grid}
 use Rattle.game_rules.specs.Play.{outcome}
-use Rattle.game_rules.specs.Games.{LosesOr}
 use Rattle.game_rules.specs.declared.RuleKind.{RuleKind}
-use Rattle.game_rules.specs.declared.Outcome.{Outcome}
-use Rattle.game_rules.specs.declared.Outcome.TheVariants.{Wins as WinsNow, Draws}
+use Rattle.game_rules.proofs.Outcomes.{tight}
 use Rattle.strategy_graph.specs.declared.Node.{Node}
 use Rattle.strategy_graph.specs.declared.roots.Root.{Root}
 use Rattle.strategy_graph.specs.declared.roots.Root.TheVariants.{Attack, Defend}
@@ -15,6 +13,7 @@ use Rattle.strategy_graph.specs.Tables.{depth_within, depth}
 use Rattle.strategy_graph.specs.Acceptance.{Accepted}
 use Rattle.strategy_graph.specs.Roots.{AcceptedRoot}
 use Rattle.strategy_graph.specs.Games.{game}
+use Rattle.strategy_graph.proofs.Fuel.{accepted_node}
 use Rattle.strategy_checker.specs.HeldRoots.{HeldTable, IsHeldRoot, IsHeld}
 use Rattle.gomocup_text.specs.declared.Command.{Command}
 use Rattle.gomocup_text.specs.declared.Answer.TheVariants.{Move}
@@ -26,7 +25,7 @@ use Rattle.brain_session.specs.Sessions.{state_after}
 use Rattle.brain_session.specs.HeldGames.{BeginsHeldGame, IsLedTo, HeldGameGoesWell, HeldGamesGoWell, SessionsGoWell, IsTight, StartsAreTight, replies, answers_to_replies, game_answers, IsWonWithin}
 use Rattle.brain_session.specs.Running.{GoesOnAlong}
 use Rattle.brain_session.proofs.HeldNodes.{first-led, root-accepted, root-no_deeper}
-use Rattle.brain_session.proofs.HeldSteps.{GoesBy, state_in, by_node, StandsIn, accepted_node, all-go_well}
+use Rattle.brain_session.proofs.HeldSteps.{GoesBy, state_in, by_node, StandsIn, all-go_well}
 use Rattle.brain_session.proofs.Courses.{along-lawful}
 use Rattle.brain_session.proofs.LawfulStates.{LawfulState, IsToMove, LawfulRow, row-lawful, session-lawful, new-lawful}
 
@@ -92,11 +91,6 @@ pub sessions-go_well : SessionsGoWell
 sessions-go_well held is_held bytes before c later g i e b = held-games-go_well held is_held before c later g i b
 
 -- ---- starts
-
-tight : (o : Outcome) (W : Type 0) → LosesOr o W → LosesOr o (Unit {0})
-tight WinsNow W h = h
-tight Draws W h = h
-tight _ W h = tt
 
 root_tight : (t : List Node) (rule : RuleKind) (b : Grid) (root : Root) → AcceptedRoot rule t root b → IsTight rule b root
 root_tight t rule b (Attack i) h = tt

@@ -10,11 +10,13 @@ use Rattle.game_rules.specs.declared.Foul.{Foul}
 use Rattle.game_rules.specs.declared.Outcome.{Outcome}
 use Rattle.game_rules.specs.declared.Outcome.TheVariants.{Refused, Wins as WinsNow, Fouls, Draws, GoesOn}
 use Rattle.game_rules.specs.declared.Point.{Point}
+use Rattle.game_rules.proofs.Outcomes.{moved}
 use Rattle.strategy_graph.specs.declared.Node.{Node}
 use Rattle.strategy_graph.specs.Tables.{answers_of, answer, depth_within}
 use Rattle.strategy_graph.specs.Acceptance.{Answered, AcceptedWithin}
 use Rattle.strategy_graph.specs.Games.{attacks}
 use Rattle.strategy_graph.proofs.Answering.{Answered-elim}
+use Rattle.strategy_graph.proofs.Fuel.{not_winning, depth_some}
 use Rattle.strategy_checker.specs.HeldRoots.{HeldTable, IsHeld}
 use Rattle.gomocup_text.specs.declared.Command.{Command}
 use Rattle.gomocup_text.specs.declared.Command.TheVariants.{Turn}
@@ -26,8 +28,7 @@ use Rattle.brain_session.specs.ChosenMoves.{Choice}
 use Rattle.brain_session.specs.Steps.{Row, Reacts, Chooses, rule_of, if_supported, with_move, move_row, row_of, with_choice, Step, step_by, brain_step}
 use Rattle.brain_session.specs.Sessions.{then_answers, answers_from, state_after}
 use Rattle.brain_session.specs.HeldGames.{BeginsHeldGame, AreReplies, turns, game_answers, LegalRepliesAreAnswered}
-use Rattle.brain_session.proofs.HeldSteps.{GoesBy, not_winning, by_foul, by_next, attacks-first, attacks-foul, attacks-next, depth_some, state_in, by_node, StandsIn, nothing_more, row_then, next_stands, parts}
-use Rattle.brain_session.proofs.Courses.{moved}
+use Rattle.brain_session.proofs.HeldSteps.{GoesBy, by_foul, by_next, attacks-first, attacks-foul, attacks-next, state_in, by_node, StandsIn, nothing_more, row_then, next_stands, parts}
 use Rattle.brain_session.proofs.RowCases.{row-cases}
 use Rattle.brain_session.proofs.SessionLaws.{answers-none}
 use Rattle.brain_session.proofs.LawfulStates.{LawfulState, session-lawful, new-lawful}

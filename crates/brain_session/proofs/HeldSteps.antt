@@ -1,6 +1,6 @@
 -- A game in which a held node is followed: how it goes on by one reply, over plain values, and what each later command does to it.
 use Rattle.std.specs.Prelude.{Option, Some, None, slice_get}
-use Rattle.std.proofs.Common.{◌≡◌, ℕ, suc, ◌≤◌, ◌<◌, Bool, true, false, cond, List, [], ◌∷◌, ◌++◌, map, length, refl, sym, ap, ◌∙◌, arith, zero, not, subst}
+use Rattle.std.proofs.Common.{◌≡◌, ℕ, suc, ◌≤◌, ◌<◌, Bool, true, false, cond, List, [], ◌∷◌, ◌++◌, map, length, refl, sym, ap, ◌∙◌, arith, not, subst}
 use Rattle.game_rules.specs.Grid.{Grid}
 use Rattle.game_rules.specs.Play.{outcome, after, IsPosition, mover, other, goes_on, is_foul}
 use Rattle.game_rules.specs.Games.{WinsOr, LosesOr}
@@ -15,12 +15,13 @@ use Rattle.game_rules.proofs.Positions.{IsPosition-after, mover-then}
 use Rattle.game_rules.proofs.Games.{WinsOr-map}
 use Rattle.game_rules.proofs.Boards.{other-other}
 use Rattle.strategy_graph.specs.declared.Rest.{Rest}
-use Rattle.strategy_graph.specs.declared.Rest.TheVariants.{Wins, To, Nothing}
 use Rattle.strategy_graph.specs.declared.Node.{Node}
 use Rattle.strategy_graph.specs.Tables.{answers_of, answer, is_winning, depth_within}
-use Rattle.strategy_graph.specs.Acceptance.{NotWinning, Answered, Meets, AcceptedNode, AcceptedWithin}
-use Rattle.strategy_graph.specs.Games.{End, Won, NoMove, Open, after_attack, one_later, points_on, game, attacks_at, attacks}
-use Rattle.strategy_graph.proofs.Answering.{answer-greatest, Answered-elim}
+use Rattle.strategy_graph.specs.Acceptance.{NotWinning, Answered, Meets, AcceptedWithin}
+use Rattle.strategy_graph.specs.Games.{End, Won, NoMove, Open, after_attack, one_later, game, attacks}
+use Rattle.strategy_graph.proofs.Answering.{Answered-elim}
+use Rattle.strategy_graph.proofs.Fuel.{not_winning, depth_some, deeper, accepted_node}
+use Rattle.strategy_graph.proofs.Plays.{none_on, first_at}
 use Rattle.strategy_checker.specs.HeldRoots.{HeldTable}
 use Rattle.gomocup_text.specs.declared.Answer.{Answer}
 use Rattle.gomocup_text.specs.declared.Answer.TheVariants.{Move, Error}
@@ -39,21 +40,7 @@ pub record GoesBy (rule : RuleKind) (t : List Node) (d i : ℕ) (b : Grid) (a : 
   pub answers : Move a ∷ said ≡ game_answers rule t i b rs
   pub won : IsWonWithin d (length rs) (game rule t i b rs)
 
-pub not_winning : (r : Rest) → NotWinning r → is_winning r ≡ false
-not_winning Wins h = absurd h
-not_winning (To j) h = refl
-not_winning Nothing h = refl
-
 -- ---- depths
-
-pub depth_some : (t : List Node) (i : ℕ) (n : Node) (k : ℕ) → slice_get t i ≡ Some n → 1 ≤ depth_within (suc k) t i
-unfolding depth_within
-depth_some t i n k e = rw e (omega arith)
-
--- the answer to a reply is less deep than the node
-pub deeper : (t : List Node) (i : ℕ) (n : Node) (k : ℕ) (q : Point) (j : ℕ) → slice_get t i ≡ Some n → answer (answers_of n) q ≡ Some j → depth_within k t j < depth_within (suc k) t i
-unfolding depth_within
-deeper t i n k q j e w = let low = answer-greatest (depth_within k t) (answers_of n) q j w in rw e (omega (arith, low))
 
 -- ---- no reply left
 
@@ -74,11 +61,6 @@ said-by : (rule : RuleKind) (t : List Node) (i : ℕ) (b : Grid) (qs ps : List P
 unfolding answers_of_attacks
 said-by rule t i b qs ps e = ap (answers_of_attacks rule b qs) (sym e)
 
-none_on : (o : Outcome) (r : Bool) → points_on o (cond r [] []) ≡ []
-none_on GoesOn true = refl
-none_on GoesOn false = refl
-none_on _ r = refl
-
 -- where the reply q goes on, the last reply is a foul if it is one of those after q
 foul-later : (rule : RuleKind) (b : Grid) (p q : Point) (ps qs : List Point) → outcome rule (after b p) q ≡ GoesOn → ends_with_foul rule b (p ∷ ps) (q ∷ qs) ≡ ends_with_foul rule (after (after b p) q) ps qs
 foul-later rule b p q ps [] e = ap is_foul e ∙ sym (no_foul_left rule (after (after b p) q) ps)
@@ -88,13 +70,6 @@ won_later : (e d n : ℕ) (end : End) → e < d → IsWonWithin e n end → IsWo
 won_later e d n (Won k) less h = let high = h.1 in (omega arith, omega (arith, high))
 won_later e d n Open less h = omega arith
 won_later e d n _ less h = h
-
-first_at : (rule : RuleKind) (b : Grid) (o : Option Node) (n : Node) (next : Node → List Point) → o ≡ Some n → (rest : List Point) × (attacks_at rule o b next ≡ n.attack ∷ rest)
-first_at rule b None n next e = cc
-first_at rule b (Some m) n next e =
-    let same : m ≡ n = cc in
-    let rest = points_on (outcome rule b m.attack) (cond (is_winning m.rest) [] (next m)) in
-    (rest, ap (λ (x : Node). x.attack ∷ rest) same)
 
 module _ (rule : RuleKind) (t : List Node) (d i : ℕ) (b : Grid) (n : Node) (at : slice_get t i ≡ Some n) (l : 1 ≤ d) where
   pub attacks-none : attacks rule t i b [] ≡ n.attack ∷ []
@@ -227,15 +202,6 @@ pub record IsNext (h : HeldTable) (g : Game) (i k j : ℕ) : Type 0 where
   pub stands : StandsIn h g j node more
   pub chooses : chosen h g ≡ by_node j node
   pub shallower : depth_within (suc more) h.table j < depth_within (suc k) h.table i
-
--- an accepted node is one of the table
-pub accepted_node : (rule : RuleKind) (t : List Node) (j : ℕ) (b : Grid) (f : ℕ) → AcceptedWithin f rule t j b → (k : ℕ) × (n : Node) × (f ≡ suc k) × (slice_get t j ≡ Some n) × WinsOr (outcome rule b n.attack) (NotWinning n.rest × ((q : Point) → Meets rule (answers_of n) (AcceptedWithin k rule t) (after b n.attack) q))
-unfolding AcceptedWithin
-accepted_node rule t j b zero h = absurd h
-accepted_node rule t j b (suc k) h = by_cases (slice_get t j) refl h where
-  by_cases : (o : Option Node) → slice_get t j ≡ o → AcceptedNode rule o (AcceptedWithin k rule t) b → (k' : ℕ) × (n : Node) × (suc k ≡ suc k') × (slice_get t j ≡ Some n) × WinsOr (outcome rule b n.attack) (NotWinning n.rest × ((q : Point) → Meets rule (answers_of n) (AcceptedWithin k' rule t) (after b n.attack) q))
-  by_cases None e w = absurd w
-  by_cases (Some n) e w = (k, n, refl, e, w)
 
 -- the answers to the replies among these commands, where node i is followed from the game g on
 abbrev pub GoesOver : HeldTable → ℕ → Game → ℕ → Node → ℕ → List Command → Type 0

@@ -10,6 +10,7 @@ use Rattle.game_rules.specs.declared.Foul.{Foul}
 use Rattle.game_rules.specs.declared.Outcome.{Outcome}
 use Rattle.game_rules.specs.declared.Outcome.TheVariants.{Refused, Wins as WinsNow, Fouls, Draws, GoesOn}
 use Rattle.game_rules.specs.declared.Point.{Point}
+use Rattle.game_rules.proofs.Outcomes.{moved}
 use Rattle.strategy_graph.specs.declared.Node.{Node}
 use Rattle.strategy_graph.specs.declared.roots.Root.{Root}
 use Rattle.strategy_graph.specs.declared.roots.Root.TheVariants.{Attack, Defend}
@@ -18,9 +19,9 @@ use Rattle.strategy_graph.specs.Acceptance.{Answered, NotWinning, Meets, Accepte
 use Rattle.strategy_graph.specs.Roots.{AcceptedRoot}
 use Rattle.strategy_graph.specs.Games.{End, Won, Open, game, attacks}
 use Rattle.strategy_graph.proofs.Answering.{answer-greatest, Answered-elim}
+use Rattle.strategy_graph.proofs.Fuel.{not_winning, depth_some, deeper, accepted_node}
 use Rattle.brain_session.specs.HeldGames.{IsWonWithin, AreReplies, WinsGames, AnswersAndWins, RootWinsGames, WhoeverHoldsWins}
-use Rattle.brain_session.proofs.Courses.{moved}
-use Rattle.brain_session.proofs.HeldSteps.{not_winning, by_none, by_foul, attacks-first, attacks-foul, attacks-next, won_next, depth_some, deeper, accepted_node}
+use Rattle.brain_session.proofs.HeldSteps.{by_none, by_foul, attacks-first, attacks-foul, attacks-next, won_next}
 
 won_more : (d e n : ℕ) (end : End) → d ≤ e → IsWonWithin d n end → IsWonWithin e n end
 won_more d e n (Won k) less h = let high = h.1 in (h.0, omega (arith, high))

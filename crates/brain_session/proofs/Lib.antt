@@ -35,3 +35,5 @@ pub mod HeldWins
 pub mod HeldSteps
 -- what is true of the state whatever was told
 pub mod LawfulStates
+-- the stones of a batch that makes a board
+pub mod BatchStones

@@ -1,10 +1,10 @@
 -- The win that the brain finds itself, by what the search of it answers.
-use Rattle.std.proofs.Common.{◌≡◌, ℕ, zero, suc, ◌≤◌, ◌<◌, Bool, true, false, cond, nat_le, sym, ap, subst, ◌∙◌, arith, List}
-use Rattle.std.specs.Prelude.{Option, Some, None}
-use Rattle.std.proofs.lemmas.Bool.Decides.{nat_tests}
+use Rattle.std.proofs.Common.{◌≡◌, ℕ, ◌≤◌, ◌<◌, true, false, sym, ap, subst, ◌∙◌, arith, List}
+use Rattle.std.specs.Prelude.{Some, None}
 use Rattle.game_rules.specs.Grid.{Grid}
-use Rattle.game_rules.specs.Games.{wins_by_fours, wins_under}
+use Rattle.game_rules.specs.Games.{wins_by_fours}
 use Rattle.game_rules.specs.declared.RuleKind.{RuleKind}
+use Rattle.game_rules.proofs.Games.{wins-some}
 use Rattle.strategy_graph.specs.declared.Node.{Node}
 use Rattle.strategy_graph.specs.Acceptance.{Accepted}
 use Rattle.strategy_graph.proofs.Following.{accepted-in_table}
@@ -15,24 +15,12 @@ use Rattle.strategy_compiler.specs.declared.wins.WrittenWin.{WrittenWin}
 use Rattle.four_search.specs.Answers.{IsFourWin}
 use Rattle.four_search.specs.FourGame.{four_cost, least_moves}
 use Rattle.four_search.specs.Plans.{four_plan}
-use Rattle.four_search.proofs.Following.{least-none, least-wins}
+use Rattle.four_search.proofs.Following.{least-none}
+use Rattle.four_search.proofs.Costs.{within, above, wins_by}
 use Rattle.brain_session.specs.declared.TheConstants.{OWN_MOVES, OWN_POSITIONS}
 use Rattle.brain_session.specs.declared.own_win.OwnTable.{OwnTable}
 use Rattle.brain_session.specs.ChosenMoves.{own_win}
 use Rattle.brain_session.specs.Kept.{IsOwnTable, OwnStandsAt}
-
-module _ (rule : RuleKind) (b : Grid) (depth budget : ℕ) where
-  abbrev by_cost : Option ℕ
-  by_cost = cond (nat_le (four_cost rule depth b) budget) (least_moves rule depth b) None
-
-  by_test : (r : Bool) → nat_le (four_cost rule depth b) budget ≡ r → by_cost ≡ cond r (least_moves rule depth b) None
-  by_test r e = ap (λ (t : Bool). cond t (least_moves rule depth b) None) e
-
-  within : four_cost rule depth b ≤ budget → by_cost ≡ least_moves rule depth b
-  within fits = by_test true (grind (arith, nat_tests))
-
-  above : budget < four_cost rule depth b → by_cost ≡ None
-  above more = by_test false (grind (arith, nat_tests))
 
 -- there is no such win within the moves
 pub own_win-none : (rule : RuleKind) (b : Grid) → wins_by_fours rule OWN_MOVES b ≡ false → four_cost rule OWN_MOVES b ≤ OWN_POSITIONS → own_win rule b ≡ None
@@ -46,24 +34,11 @@ own_win-spent rule b more = above rule b OWN_MOVES OWN_POSITIONS more
 pub own_win-some : (rule : RuleKind) (b : Grid) (moves : ℕ) → four_cost rule OWN_MOVES b ≤ OWN_POSITIONS → least_moves rule OWN_MOVES b ≡ Some moves → own_win rule b ≡ Some moves
 own_win-some rule b moves fits least = within rule b OWN_MOVES OWN_POSITIONS fits ∙ least
 
--- within the moves of such a win the side to move wins by fours
-wins_by : (rule : RuleKind) (b : Grid) (depth budget moves : ℕ) → by_cost rule b depth budget ≡ Some moves → wins_by_fours rule moves b ≡ true
-wins_by rule b depth budget moves h = by_bool (nat_le (four_cost rule depth b) budget) h where
-  by_bool : (r : Bool) → cond r (least_moves rule depth b) None ≡ Some moves → wins_by_fours rule moves b ≡ true
-  by_bool true e = least-wins rule depth b moves e
-  by_bool false e = cc
-
 pub own_win-wins : (rule : RuleKind) (b : Grid) (moves : ℕ) → own_win rule b ≡ Some moves → wins_by_fours rule moves b ≡ true
 own_win-wins rule b moves h = wins_by rule b OWN_MOVES OWN_POSITIONS moves h
 
--- and makes a move
-pub wins_moves : (rule : RuleKind) (n : ℕ) (b : Grid) → wins_by_fours rule n b ≡ true → 1 ≤ n
-unfolding wins_under
-wins_moves rule zero b h = cc
-wins_moves rule (suc n) b h = omega arith
-
 pub own_table-moves : (rule : RuleKind) (b : Grid) (own : OwnTable) → IsOwnTable rule b own → 1 ≤ own.moves
-own_table-moves rule b own is = wins_moves rule own.moves b (own_win-wins rule b own.moves is.fewest)
+own_table-moves rule b own is = wins-some rule own.moves b (own_win-wins rule b own.moves is.fewest)
 
 -- the table of the win, with its last node, stands at b
 pub own_table-stands : (rule : RuleKind) (b : Grid) (own : OwnTable) → IsOwnTable rule b own → OwnStandsAt rule b own

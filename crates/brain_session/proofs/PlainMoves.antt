@@ -1,5 +1,5 @@
 -- The points of plain moves, where the points of the board come one by one.
-use Rattle.std.proofs.Common.{◌≡◌, ℕ, ◌≤◌, ◌<◌, Bool, true, false, cond, ◌&&◌, not, nat_le, nat_lt, refl, sym, ap, ◌∙◌, arith, List, [], ◌∷◌, leb-true, leb-false, le-leb, ltb-true, ltb-false}
+use Rattle.std.proofs.Common.{◌≡◌, ℕ, ◌≤◌, Bool, true, false, cond, ◌&&◌, not, nat_le, nat_lt, refl, sym, ap, ◌∙◌, List, [], ◌∷◌, le-leb, ltb-true, ltb-false}
 use Rattle.std.proofs.lemmas.Bool.{lt-leb, false_from_ne_true}
 use Rattle.std.proofs.lemmas.Bool.{and_left as no_left, and_right as no_right}
 use Rattle.game_rules.specs.Grid.{Grid, is_empty, points_of}
@@ -11,7 +11,7 @@ use Rattle.brain_session.specs.ChosenMoves.{five_to_block, next_to_middle, off_m
 use Rattle.std.specs.Prelude.{Option, Some, None}
 use Rattle.std.specs.List.{find, filter, list_all}
 use Rattle.game_rules.specs.declared.Point.{Point}
-use Rattle.game_rules.proofs.Boards.{and_left, and_right}
+use Rattle.game_rules.proofs.PointLists.{none_nearer, first_nearest, none_nearer-than, first_nearest-cons}
 use Rattle.brain_session.specs.Nearer.{is_nearer}
 
 -- the nearest of these points and of the best before them: the first of those to which none is nearer
@@ -19,66 +19,18 @@ abbrev pub nearest_of : (Point → ℕ) → Option Point → List Point → Opti
 nearest_of distance best [] = best
 nearest_of distance best (p ∷ ps) = nearest_of distance (cond (is_nearer distance p best) (Some p) best) ps
 
--- whether none of the points is nearer
-abbrev none_nearer : (Point → ℕ) → Point → List Point → Bool
-none_nearer distance p ps = list_all (λ q. nat_le (distance p) (distance q)) ps
-
--- the first of the points to which none is nearer
-abbrev first_nearest : (Point → ℕ) → List Point → Option Point
-first_nearest distance ps = find (λ p. none_nearer distance p ps) ps
-
--- tests that agree find the same
-find-same : (f g : Point → Bool) → ((p : Point) → f p ≡ g p) → (ps : List Point) → find f ps ≡ find g ps
-find-same f g same [] = refl
-find-same f g same (p ∷ ps) = rw (same p, find-same f g same ps) refl
-
 module _ (distance : Point → ℕ) where
-  -- what no point is nearer than, no point is nearer than what is as near
-  none_nearer-than : (p q : Point) (ps : List Point) → distance p ≤ distance q → none_nearer distance q ps ≡ true → none_nearer distance p ps ≡ true
-  none_nearer-than p q [] near h = refl
-  none_nearer-than p q (x ∷ xs) near h =
-      let here : distance q ≤ distance x = leb-true _ _ (and_left (nat_le (distance q) (distance x)) _ h) in
-      let rest : none_nearer distance p xs ≡ true = none_nearer-than p q xs near (and_right (nat_le (distance q) (distance x)) _ h) in
-      rw (le-leb (distance p) (distance x) (omega arith), rest) refl
-
-  -- where one of the points is nearer than p, the nearest of them is
-  nearer-than : (p q : Point) (ps : List Point) → none_nearer distance p ps ≡ false → none_nearer distance q ps ≡ true → distance q < distance p
-  nearer-than p q [] fails holds = cc
-  nearer-than p q (x ∷ xs) fails holds = by_test (nat_le (distance p) (distance x)) refl fails (nearer-than p q xs) where
-    here : distance q ≤ distance x
-    here = leb-true _ _ (and_left (nat_le (distance q) (distance x)) _ holds)
-
-    by_test : (r : Bool) → nat_le (distance p) (distance x) ≡ r → (r && none_nearer distance p xs) ≡ false → (none_nearer distance p xs ≡ false → none_nearer distance q xs ≡ true → distance q < distance p) → distance q < distance p
-    by_test true e h rest = rest h (and_right (nat_le (distance q) (distance x)) _ holds)
-    by_test false e h rest = let far = leb-false (distance p) (distance x) e in let near = here in omega (arith, far, near)
-
-  -- whether the first point is the nearest tells the nearest of all
-  first_nearest-cons : (p : Point) (ps : List Point) → first_nearest distance (p ∷ ps) ≡ cond (none_nearer distance p ps) (Some p) (first_nearest distance ps)
-  first_nearest-cons p ps = rw (le-leb (distance p) (distance p) (omega arith)) (by_test (none_nearer distance p ps) refl) where
-    same : none_nearer distance p ps ≡ false → (q : Point) → (nat_le (distance q) (distance p) && none_nearer distance q ps) ≡ none_nearer distance q ps
-    same fails q = by_rest (none_nearer distance q ps) refl where
-      by_rest : (r : Bool) → none_nearer distance q ps ≡ r → (nat_le (distance q) (distance p) && r) ≡ r
-      by_rest true e = let near = nearer-than p q ps fails e in rw (le-leb (distance q) (distance p) (omega (arith, near))) refl
-      by_rest false e = none (nat_le (distance q) (distance p)) where
-        none : (t : Bool) → (t && false) ≡ false
-        none true = refl
-        none false = refl
-
-    by_test : (r : Bool) → none_nearer distance p ps ≡ r → cond r (Some p) (find (λ q. nat_le (distance q) (distance p) && none_nearer distance q ps) ps) ≡ cond r (Some p) (first_nearest distance ps)
-    by_test true e = refl
-    by_test false e = find-same _ _ (same e) ps
-
   nearest_of-best : (p : Point) (ps : List Point) → nearest_of distance (Some p) ps ≡ cond (none_nearer distance p ps) (Some p) (first_nearest distance ps)
   nearest_of-best p [] = refl
   nearest_of-best p (q ∷ qs) = by_test (nat_lt (distance q) (distance p)) refl (nearest_of-best q qs) (nearest_of-best p qs) where
     all : cond (none_nearer distance p (q ∷ qs)) (Some p) (first_nearest distance (q ∷ qs)) ≡ cond (none_nearer distance p (q ∷ qs)) (Some p) (cond (none_nearer distance q qs) (Some q) (first_nearest distance qs))
-    all = ap (λ (o : Option Point). cond (none_nearer distance p (q ∷ qs)) (Some p) o) (first_nearest-cons q qs)
+    all = ap (λ (o : Option Point). cond (none_nearer distance p (q ∷ qs)) (Some p) o) ((first_nearest-cons distance) q qs)
 
     -- q is not nearer, so it is the nearest only where p is
     by_rest : distance p ≤ distance q → (r : Bool) → none_nearer distance p qs ≡ r → cond r (Some p) (first_nearest distance qs) ≡ cond r (Some p) (cond (none_nearer distance q qs) (Some q) (first_nearest distance qs))
     by_rest near true e = refl
     by_rest near false e =
-        let fails : none_nearer distance q qs ≡ false = false_from_ne_true _ (λ holds. let both = none_nearer-than p q qs near holds in cc) in
+        let fails : none_nearer distance q qs ≡ false = false_from_ne_true _ (λ holds. let both = (none_nearer-than distance) p q qs near holds in cc) in
         rw fails refl
 
     by_test : (r : Bool) → nat_lt (distance q) (distance p) ≡ r → nearest_of distance (Some q) qs ≡ cond (none_nearer distance q qs) (Some q) (first_nearest distance qs) → nearest_of distance (Some p) qs ≡ cond (none_nearer distance p qs) (Some p) (first_nearest distance qs) → nearest_of distance (cond r (Some q) (Some p)) qs ≡ cond (none_nearer distance p (q ∷ qs)) (Some p) (first_nearest distance (q ∷ qs))
@@ -92,10 +44,9 @@ module _ (distance : Point → ℕ) where
   -- the nearest of all is the first to which none is nearer
   pub nearest_of-first : (ps : List Point) → nearest_of distance None ps ≡ find (λ p. list_all (λ q. nat_le (distance p) (distance q)) ps) ps
   nearest_of-first [] = refl
-  nearest_of-first (p ∷ ps) = nearest_of-best p ps ∙ sym (first_nearest-cons p ps)
+  nearest_of-first (p ∷ ps) = nearest_of-best p ps ∙ sym ((first_nearest-cons distance) p ps)
 
   -- ---- a turn of the loop, over those of the points that pass a test
-
   pub nearest_of-turn : (f : Point → Bool) (best next found : Option Point) (p : Point) (ps : List Point) → nearest_of distance best (filter f (p ∷ ps)) ≡ found → next ≡ cond (f p) (cond (is_nearer distance p best) (Some p) best) best → nearest_of distance next (filter f ps) ≡ found
   nearest_of-turn f best next found p ps h e = by_test (f p) h e where
     by_test : (r : Bool) → nearest_of distance best (cond r (p ∷ filter f ps) (filter f ps)) ≡ found → next ≡ cond r (cond (is_nearer distance p best) (Some p) best) best → nearest_of distance next (filter f ps) ≡ found

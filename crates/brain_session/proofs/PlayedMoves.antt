@@ -2,7 +2,6 @@
 use Rattle.std.proofs.Common.{◌≡◌, ℕ, ◌+◌, ◌<◌, Bool, true, refl, sym, ap, subst, ◌∙◌, arith, List, [], ◌∷◌, ◌++◌, reverse, Decides, eqb-true, eq-eqb}
 use Rattle.std.specs.Prelude.{Some}
 use Rattle.std.proofs.lemmas.Bool.Decides.{same_from_decides}
-use Rattle.std.proofs.lemmas.List.{reverse-append}
 use lib.Pointwise.{pointwise, pointwise_decides}
 use Rattle.game_rules.specs.Grid.{Grid, IsBoard, is_empty, put, lift, empties_of}
 use Rattle.game_rules.specs.Play.{mover, after}
@@ -12,6 +11,7 @@ use Rattle.game_rules.specs.declared.Cell.TheVariants.{Empty, Black as BlackSton
 use Rattle.game_rules.specs.declared.Point.{Point}
 use Rattle.game_rules.proofs.Boards.{and_left, and_right, lift-put, empties_of-put}
 use Rattle.game_rules.proofs.Positions.{IsBoard-put}
+use Rattle.game_rules.proofs.PointLists.{reverse-push}
 use Rattle.stone_board.specs.Steps.{holds_stone}
 use Rattle.stone_board.proofs.Stones.{put-holds_stone}
 use Rattle.brain_session.specs.States.{board_after}
@@ -44,9 +44,6 @@ pub same_board-told : (b c : Grid) (r : Bool) → Decides r (b ≡ c) → r ≡ 
 same_board-told b c r h = same_from_decides r (same_board b c) h (same_board-is b c, λ e. subst (λ (g : Grid). same_board b g ≡ true) e (same_board-itself b))
 
 -- ---- the moves, the last one first
-
-pub reverse-push : (ps : List Point) (p : Point) → reverse (ps ++ p ∷ []) ≡ p ∷ reverse ps
-reverse-push ps p = reverse-append ps (p ∷ [])
 
 -- ---- a board and the moves on it
 

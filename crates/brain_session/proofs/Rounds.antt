@@ -1,10 +1,8 @@
 -- The place of a round: empty boards, the size of a board along the moves, the board of a running game, and the rows of the protocol there.
 use Rattle.std.specs.Prelude.{Option, Some, None, Result, Ok, Err, OnOk, OnErr, ◌==◌, nat_lt, is_none, IfOk, if◌then◌else◌}
-use Rattle.std.specs.List.{count_by}
-use Rattle.std.proofs.Common.{◌≡◌, inl, ℕ, zero, suc, ◌*◌, ◌<◌, ◌≤◌, Bool, true, false, ◌&&◌, cond, refl, sym, ap, subst, ◌∙◌, arith, eqb-true, List, [], ◌∷◌, length, get_or, replicate}
+use Rattle.std.proofs.Common.{◌≡◌, inl, ℕ, ◌*◌, ◌<◌, ◌≤◌, Bool, true, false, ◌&&◌, cond, refl, sym, ap, subst, ◌∙◌, arith, eqb-true, List, [], ◌∷◌, replicate}
 use Rattle.std.proofs.Math.Nat.{mul-pos}
 use Rattle.std.proofs.lemmas.List.Folds.{sum_by-replicate}
-use Rattle.std.proofs.lemmas.List.Sums.{sum_by-cons}
 use Rattle.std.proofs.lemmas.List.{length-replicate}
 use Rattle.game_rules.specs.Grid.{Grid, IsBoard, is_on, is_empty, is_empty_cell, is_stone_of, cell_at, place_of as cell_place, holds, stones_of, empties_of}
 use Rattle.game_rules.specs.Play.{IsPosition, outcome, mover}
@@ -13,14 +11,16 @@ use Rattle.game_rules.specs.declared.RuleKind.{RuleKind}
 use Rattle.game_rules.specs.declared.Side.{Side}
 use Rattle.game_rules.specs.declared.Side.TheVariants.{Black, White}
 use Rattle.game_rules.specs.declared.Cell.{Cell}
-use Rattle.game_rules.specs.declared.Cell.TheVariants.{Empty, Black as BlackStone, White as WhiteStone}
+use Rattle.game_rules.specs.declared.Cell.TheVariants.{Empty}
 use Rattle.game_rules.specs.declared.Outcome.TheVariants.{Refused}
 use Rattle.game_rules.specs.declared.Point.{Point}
 use Rattle.game_rules.specs.declared.Outcome.{Outcome}
 use Rattle.game_rules.specs.Shapes.{is_same_point}
 use Rattle.game_rules.proofs.Boards.{and_left, and_right, is_empty-on}
 use Rattle.game_rules.proofs.Positions.{GoesOn-empty}
-use Rattle.game_rules.proofs.Points.{taken_refused, is_same_point-same}
+use Rattle.game_rules.proofs.Points.{taken_refused, same_point-on}
+use Rattle.game_rules.proofs.Outcomes.{moved}
+use Rattle.game_rules.proofs.Cells.{empty_cell, bare-cells, empty_stone}
 use Rattle.strategy_checker.specs.HeldRoots.{HeldTable}
 use Rattle.gomocup_text.specs.declared.Answer.TheVariants.{Error}
 use Rattle.gomocup_text.specs.declared.ErrorText.{ErrorText}
@@ -34,13 +34,9 @@ use Rattle.brain_session.specs.Running.{EndsAlong, IsPlayed, IsRunning, IsPlace}
 use Rattle.brain_session.specs.Kept.{Moves, IsKeptUp, IsRound, IsUntouched, without_last, game_of, place_of, IsPointOn, are_one, in_place, IsRow, IsStateOf, Takes, turn_refusal}
 use Rattle.brain_session.specs.declared.Reaction.{Reaction}
 use Rattle.brain_session.specs.declared.Reaction.TheVariants.{Says}
-use Rattle.brain_session.proofs.Courses.{start-lawful, ends-empty, moved}
+use Rattle.brain_session.proofs.Courses.{start-lawful, ends-empty}
 
 -- ---- empty boards
-
-empty_stone : (s : Side) → is_stone_of s Empty ≡ false
-empty_stone Black = refl
-empty_stone White = refl
 
 -- no stone stands on an empty board
 pub no-stones : (width height : ℕ) (s : Side) → stones_of (empty_board width height) s ≡ 0
@@ -51,11 +47,6 @@ no-stones width height s =
 -- Black is to move on it
 pub empty-mover : (width height : ℕ) → mover (empty_board width height) ≡ Black
 empty-mover width height = rw (no-stones width height Black, no-stones width height White) refl
-
-empty_cell : (n k : ℕ) → get_or (replicate n Empty) k Empty ≡ Empty
-empty_cell zero k = refl
-empty_cell (suc n) zero = refl
-empty_cell (suc n) (suc k) = empty_cell n k
 
 no-stone : (width height : ℕ) (s : Side) (p : Point) → holds (empty_board width height) s p ≡ true → true ≡ false
 no-stone width height s p h =
@@ -119,16 +110,6 @@ pub running-board : (h : HeldTable) (g : Game) → IsRunning h g → IsBoard g.s
 running-board h g run = played-board g.ended g.rule g.start g.moves run.played
 
 -- ---- bare boards
-
--- cells among which no stones are counted are empty
-bare-cells : (cells : List Cell) → count_by (is_stone_of Black) cells ≡ 0 → count_by (is_stone_of White) cells ≡ 0 → cells ≡ replicate (length cells) Empty
-bare-cells [] black white = refl
-bare-cells (Empty ∷ cells) black white =
-    let others : count_by (is_stone_of Black) cells ≡ 0 = let e = sum_by-cons (λ (c : Cell). cond (is_stone_of Black c) 1 0) Empty cells in omega arith in
-    let whites : count_by (is_stone_of White) cells ≡ 0 = let e = sum_by-cons (λ (c : Cell). cond (is_stone_of White c) 1 0) Empty cells in omega arith in
-    ap (λ (cs : List Cell). Empty ∷ cs) (bare-cells cells others whites)
-bare-cells (BlackStone ∷ cells) black white = let e = sum_by-cons (λ (c : Cell). cond (is_stone_of Black c) 1 0) BlackStone cells in absurd (omega arith)
-bare-cells (WhiteStone ∷ cells) black white = let e = sum_by-cons (λ (c : Cell). cond (is_stone_of White c) 1 0) WhiteStone cells in absurd (omega arith)
 
 -- a board on which no stone stands is the empty board of its size
 pub bare-board : (b : Grid) → IsBoard b → is_bare b ≡ true → b ≡ empty_board b.width b.height
@@ -287,9 +268,6 @@ first-taken h width height kind s p r next at on taken =
     (held-takes h s g p (outcome kind (empty_board width height) p) r next at.held_is at.unread (λ refused. absurd (moved kind (empty_board width height) p (empty-empty width height p on) refused)) taken)
 
 -- ---- TAKEBACK
-
-same_point-on : (b : Grid) (p q : Point) → is_same_point p q ≡ true → is_on b p ≡ is_on b q
-same_point-on b p q same = ap (is_on b) (is_same_point-same p q same)
 
 -- the move p is not the last one, if the point that was told is not
 not-last : (b : Grid) (q p : Point) (at : Option Point) → is_on b q ≡ true → IsPointOn b p at → are_one (Some q) at ≡ false → is_same_point q p ≡ false

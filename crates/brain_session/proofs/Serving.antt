@@ -1,23 +1,23 @@
 -- What a session has read, said and become when it comes to its next line, and how it may end there.
-use Rattle.std.proofs.Common.{◌≡◌, ◌≢◌, ◌≤◌, Bool, true, false, List, [], ◌∷◌, ◌++◌, length, take, map, refl, sym, ap, subst, ◌∙◌, append_assoc, arith, length-append, Option, Some, None, ◌⊎◌, inl, inr}
-use Rattle.std.specs.Prelude.{ℕ, Contains, IfSome}
+use Rattle.std.proofs.Common.{◌≡◌, ◌≢◌, ◌≤◌, Bool, true, false, List, [], ◌∷◌, ◌++◌, length, take, refl, sym, ap, subst, ◌∙◌, append_assoc, arith, length-append, Option, Some, None, ◌⊎◌, inl, inr}
+use Rattle.std.specs.Prelude.{ℕ, IfSome}
 use Rattle.std.specs.Option.{option_to_list}
 use Rattle.std.specs.Io.KnownBytes.{IsAtEnd}
 use Rattle.std.proofs.lemmas.List.{append-nil, map-append}
 use Rattle.std.proofs.Math.Seq.{take-append_seam}
 use Rattle.std.proofs.lemmas.Grind.{flat_map-append}
-use Rattle.std.proofs.lemmas.List.Elements.{Contains-append_left, Contains-push}
 use Rattle.renju_io.specs.Told.{Gives, GivesSome, Takes}
-use Rattle.renju_io.specs.Lines.{LineText, lines, whole_lines, HasNoLineFeed, Tells, TellsLast, ReaderState, KnowsEnd, TakesLines, KeepsLine, GoesPast, TakesTooMany}
+use Rattle.renju_io.specs.Lines.{LineText, lines, whole_lines, Tells, TellsLast, ReaderState, KnowsEnd, TakesLines, KeepsLine, GoesPast, TakesTooMany}
 use Rattle.renju_io.specs.declared.TheConstants.{MAX_SESSION_BYTES}
 use Rattle.renju_io.proofs.GivenBytes.{Gives-then, Gives-some}
 use Rattle.renju_io.proofs.TakenText.{Takes-then}
-use Rattle.renju_io.proofs.WholeLines.{told_adds_up, told_to_the_end, told_are_whole, told_then_whole}
+use Rattle.renju_io.proofs.ToldSoFar.{Reading, new_reader, read_on, HasTold, Gives-none, Takes-none, open_tells, told_then, open_after, bytes_of, begins, all_told}
 use Rattle.gomocup_text.specs.Commands.{commands, command_told}
 use Rattle.gomocup_text.specs.Answers.{answer_text}
 use Rattle.gomocup_text.specs.declared.Command.{Command}
 use Rattle.gomocup_text.specs.declared.Command.TheVariants.{End}
 use Rattle.gomocup_text.specs.declared.Answer.{Answer}
+use Rattle.gomocup_text.proofs.AskedLines.{asked, one_line, no_line, end_among}
 use Rattle.brain_session.specs.declared.Reaction.{Reaction}
 use Rattle.brain_session.specs.declared.Reaction.TheVariants.{Silent, Says, Ends}
 use Rattle.brain_session.specs.States.{State}
@@ -27,32 +27,8 @@ use Rattle.brain_session.specs.Sessions.{then_answers, answers_from, answer_text
 use Rattle.brain_session.specs.Serving.{TakesCommands, IsWritten, IsAnswered, IsHalfAnswered, Served, HasAnswered, HasNoEnd, IsReadToEnd, StopsAtRead, StopsAtWrite, StopsAtStep, within_limit, IsTooLong}
 use Rattle.brain_session.proofs.SessionLaws.{end_ends, HasNoEnd-none, HasNoEnd-push, answers-append, state-append, answers-one, state-one, answers-end, state-end, state-none, answers-none}
 
--- what a session has read: the bytes that the source had left as it began, its reader of lines now, and what the source has left
-pub record Reading : Type 0 where
-  pub left_before : Option (List ℕ)
-  pub reader : ReaderState
-  pub left : Option (List ℕ)
-
--- the reader as a session begins
-abbrev new_reader : ReaderState
-new_reader = record { text = []; kept = []; taken = 0; ended = false }
-
--- the same session once it has read on, and once the brain stepped and its answer was written
-abbrev pub read_on : Reading → ReaderState → Option (List ℕ) → Reading
-read_on r reader left = record r { reader = reader; left = left }
-
 abbrev pub served_on : Served → State → Option (List ℕ) → Served
 served_on v next written = record v { after = next; written_after = written }
-
--- the commands of some lines
-abbrev pub asked : List LineText → List Command
-asked told = map command_told told
-
--- these lines were told
-pub record HasTold (r : Reading) (told : List LineText) : Type 0 where
-  pub takes : TakesLines new_reader r.left_before told r.reader r.left
-  pub few : r.reader.taken ≤ MAX_SESSION_BYTES
-  pub knows : KnowsEnd r.reader r.left
 
 -- a session read these lines, none of which is END, and answered them
 pub record SoFar (r : Reading) (v : Served) : Type 0 where
@@ -69,15 +45,6 @@ pub record Asked (r : Reading) (v : Served) (c : Command) : Type 0 where
   pub read : HasTold r (told ++ (line ∷ []))
   pub no_end : HasNoEnd (asked told)
   pub answered : HasAnswered v (asked told)
-
--- a source gave nothing, or a sink took nothing
-Gives-none : (left : Option (List ℕ)) → Gives left [] left
-Gives-none None = refl
-Gives-none (Some bytes) = refl
-
-Takes-none : (written : Option (List ℕ)) → Takes written [] written
-Takes-none None = refl
-Takes-none (Some bytes) = ap (λ xs. Some xs) (sym (append-nil bytes))
 
 -- nothing was read yet
 pub SoFar-begun : (s : State) (left written : Option (List ℕ)) (reader : ReaderState) → reader ≡ new_reader →
@@ -99,53 +66,6 @@ SoFar-begun s left written reader fresh = subst (λ (x : ReaderState). SoFar (re
   v = record { before = s; after = s; written_before = written; written_after = written }
 
 -- ---- what was read
-
--- the lines of one command, and of none
-one_line : (c : Command) (told : List LineText) → c ∷ [] ≡ asked told → (line : LineText) × (told ≡ line ∷ []) × (command_told line ≡ c)
-one_line c [] are = cc
-one_line c (line ∷ []) are = (line, refl, cc)
-one_line c (line ∷ (more ∷ told)) are = cc
-
-no_line : (told : List LineText) → [] ≡ asked told → told ≡ []
-no_line [] are = refl
-no_line (line ∷ told) are = cc
-
--- a reader that was not told the end keeps what it has not told
-open_tells : (r : Reading) (told : List LineText) (read : HasTold r told) → (r.reader.ended ≡ true → ⊥)
-    → Tells read.takes.given told r.reader.kept
-open_tells r told read reading = elim read.takes.tells [ inl tells ↦ tells | inr last ↦ absurd (reading last.0) ]
-
--- such a reader
-module _ (r : Reading) (told : List LineText) (read : HasTold r told) (tells : Tells read.takes.given told r.reader.kept) where
-  abbrev front : List ℕ
-  front = read.takes.given
-
-  -- tells more
-  told_then : (later : List LineText) (next : ReaderState) (left : Option (List ℕ)) → TakesLines r.reader r.left later next left
-      → TakesLines new_reader r.left_before (told ++ later) next left
-  told_then later next left takes = record {
-    given = front ++ takes.given;
-    gives = Gives-then r.left_before r.left left front takes.given read.takes.gives takes.gives;
-    counted = omega (arith, read.takes.counted, takes.counted, length-append front takes.given);
-    tells = elim takes.tells [
-      | inl more ↦ inl (told_adds_up front r.reader.kept takes.given next.kept told later tells more)
-      | inr last ↦ inr (
-        last.0,
-        record {
-          all = told_to_the_end front r.reader.kept takes.given next.kept told later left tells last.1;
-          none_kept = last.1.none_kept;
-          ended = last.1.ended;
-        },
-      )
-    ];
-  }
-
-  -- or no line ends within what comes
-  open_after : (more : List ℕ) → HasNoLineFeed (r.reader.kept ++ more) → told ≡ lines (whole_lines (front ++ more))
-  open_after more none = told_are_whole (front ++ more) (r.reader.kept ++ more) told (record {
-    whatever = λ later. ap lines (append_assoc front more later) ∙ tells.whatever (more ++ later)
-        ∙ ap (λ bytes. told ++ lines bytes) (sym (append_assoc r.reader.kept more later));
-  }) none
 
 -- one more line is read, where a call tells what may be a command
 pub Asked-told : (r : Reading) (v : Served) (told : Option Command) (c : Command) (next : ReaderState) (left : Option (List ℕ))
@@ -226,20 +146,6 @@ SoFar-answered r v c next written so_far answered =
 
 -- ---- the whole input
 
--- what the source has given, where it tells its bytes
-bytes_of : (left left_now : Option (List ℕ)) (given : List ℕ) (P : List ℕ → Type 0) → Gives left given left_now →
-    ((more : List ℕ) → left_now ≡ Some more → P (given ++ more)) → IfSome left P
-bytes_of left None given P gives holds = subst (λ (l : Option (List ℕ)). IfSome l P) (sym gives) tt
-bytes_of left (Some more) given P gives holds = subst (λ (l : Option (List ℕ)). IfSome l P) (sym gives) (holds more refl)
-
--- the lines of an input begin with those told
-begins : (given more : List ℕ) (told : List LineText) (kept : List ℕ) (ended : Bool)
-    → Tells given told kept ⊎ (ended ≡ true) × TellsLast given told kept (Some more) →
-    (later : List LineText) × (lines (given ++ more) ≡ told ++ later)
-begins given more told kept ended (inl tells) = (lines (kept ++ more), tells.whatever more)
-begins given more told kept ended (inr last) =
-    ([], ap (λ m. lines (given ++ m)) last.1.ended ∙ ap lines (append-nil given) ∙ last.1.all ∙ sym (append-nil told))
-
 -- what holds of the commands of the input, whichever come after the one that is asked
 among : (r : Reading) (v : Served) (c : Command) (so_far : Asked r v c) → (P : List Command → Type 0) →
     ((later : List Command) → P (asked so_far.told ++ (c ∷ later))) → IfSome r.left_before (λ bytes. P (commands bytes))
@@ -253,17 +159,6 @@ among r v c so_far P holds =
     ap asked (from.1 ∙ append_assoc so_far.told (so_far.line ∷ []) from.0)
     ∙ map-append command_told so_far.told (so_far.line ∷ from.0) ∙ ap (λ d. asked so_far.told ++ (d ∷ asked from.0)) so_far.is in
     subst P (sym all) (holds (asked from.0)))
-
--- a line told of some bytes is among their whole lines
-end_among : (given : List ℕ) (told : List LineText) (line : LineText) (kept : List ℕ) → command_told line ≡ End →
-    Tells given (told ++ (line ∷ [])) kept → Contains (commands (whole_lines given)) End
-end_among given told line kept is tells =
-    let all : commands (whole_lines given) ≡ (asked told ++ (End ∷ [])) ++ asked (lines (whole_lines kept)) =
-    ap asked (told_then_whole given kept (told ++ (line ∷ [])) tells)
-    ∙ map-append command_told (told ++ (line ∷ [])) (lines (whole_lines kept))
-    ∙ ap (λ cs. cs ++ asked (lines (whole_lines kept))) (map-append command_told told (line ∷ []) ∙ ap (λ d. asked told ++ (d ∷ [])) is) in
-    subst (λ (cs : List Command). Contains cs End) (sym all)
-    (Contains-append_left (asked told ++ (End ∷ [])) (asked (lines (whole_lines kept))) End (Contains-push (asked told) End))
 
 -- ---- how a session ends at a command
 
@@ -328,41 +223,6 @@ StopsAtStep-asked r v c next written so_far needs same unwritten = among r v c s
 })
 
 -- ---- how a session ends where no command is told
-
--- the whole input was told
-record AllTold (left left_after : Option (List ℕ)) (told : List LineText) : Type 0 where
-  given : List ℕ
-  gives : Gives left given left_after
-  all : lines given ≡ told
-  few : length given ≤ MAX_SESSION_BYTES
-
--- where nothing is kept and the end is told, these are all lines
-all_lines : (given : List ℕ) (told : List LineText) (kept : List ℕ) (left : Option (List ℕ)) (ended : Bool) → kept ≡ [] →
-    Tells given (told ++ []) kept ⊎ (ended ≡ true) × TellsLast given (told ++ []) kept left → lines given ≡ told
-all_lines given told kept left ended none (inl tells) =
-    sym (ap lines (append-nil given)) ∙ tells.whatever [] ∙ ap (λ rest. (told ++ []) ++ lines (rest ++ [])) none
-    ∙ append-nil (told ++ []) ∙ append-nil told
-all_lines given told kept left ended none (inr last) = last.1.all ∙ append-nil told
-
--- a call that told the end, of a reader that was told it before or was not
-all_told : (r : Reading) (told : List LineText) (read : HasTold r told) (next : ReaderState) (left : Option (List ℕ)) →
-    TakesLines r.reader r.left [] next left → next.kept ≡ [] → next.taken ≡ r.reader.taken → (r.reader.ended ≡ true → left ≡ r.left) → AllTold r.left_before left told
-all_told r told read next left takes none same stays = elim read.takes.tells [
-  | inr last ↦ record {
-    given = read.takes.given;
-    gives = subst (Gives r.left_before read.takes.given) (sym (stays last.0)) read.takes.gives;
-    all = last.1.all;
-    few = omega (arith, read.few, read.takes.counted);
-  }
-  | inl tells ↦
-      let all = told_then r told read tells [] next left takes in
-      record {
-        given = all.given;
-        gives = all.gives;
-        all = all_lines all.given told next.kept left next.ended none all.tells;
-        few = omega (arith, read.few, all.counted, same);
-      }
-]
 
 -- the end of the input is told
 pub record EndsAt (r : Reading) (v : Served) : Type 0 where

@@ -1,39 +1,24 @@
 -- A board is lawful exactly where nothing is said against it.
-use Rattle.std.proofs.Common.{◌≡◌, ◌⊎◌, inl, inr, ℕ, ◌+◌, ◌<◌, Bool, true, false, cond, ◌||◌, not, refl, sym, ◌∙◌, arith, List, [], ◌∷◌, nat_eq, eq-eqb}
-use Rattle.std.specs.List.{list_any, find}
+use Rattle.std.proofs.Common.{◌≡◌, ◌⊎◌, inl, inr, ℕ, ◌+◌, ◌<◌, Bool, true, false, cond, ◌||◌, not, refl, sym, ◌∙◌, arith, nat_eq, eq-eqb}
+use Rattle.std.specs.List.{find}
 use Rattle.std.specs.Prelude.{Option, Some, None}
 use Rattle.std.proofs.lemmas.Bool.{or_right, or_cases, and_from, false_from_ne_true}
 use Rattle.std.proofs.lemmas.Bool.Decides.{nat_tests}
-use Rattle.game_rules.specs.Grid.{Grid, IsBoard, is_on, holds, points_of, stones_of, empties_of}
-use Rattle.game_rules.specs.Shapes.{row_wins, run_of}
-use Rattle.game_rules.specs.Play.{IsPosition, IsUnwon}
+use Rattle.game_rules.proofs.Common.{Grid, IsBoard, is_on, holds, points_of, stones_of, empties_of, row_wins, run_of, IsPosition, IsUnwon}
 use Rattle.game_rules.specs.declared.RuleKind.{RuleKind}
 use Rattle.game_rules.specs.declared.Side.{Side}
-use Rattle.game_rules.specs.declared.Side.TheVariants.{Black, White}
 use Rattle.game_rules.specs.declared.Axis.{Axis}
 use Rattle.game_rules.specs.declared.Point.{Point}
+use Rattle.game_rules.specs.declared.Side.TheVariants.{Black, White}
 use Rattle.game_rules.proofs.Axes.{axis_of, some_axis}
 use Rattle.game_rules.proofs.Boards.{and_left, and_right}
 use Rattle.game_rules.proofs.Points.{points-found, none_of}
+use Rattle.game_rules.proofs.PointLists.{unfound-none, none-unfound}
 use Rattle.foul_judge.specs.declared.position.PositionError.{PositionError}
 use Rattle.foul_judge.specs.declared.position.PositionError.TheVariants.{BoardFull}
 use Rattle.foul_judge.specs.Lawful.{names_mover, wins_through, is_on_winning_run, won_or_full, refusal}
 
 -- ---- the first of a list
-
-find-None : (f : Point → Bool) (xs : List Point) → find f xs ≡ None → list_any f xs ≡ false
-find-None f [] h = refl
-find-None f (x ∷ xs) h = by_test (f x) h (find-None f xs) where
-  by_test : (r : Bool) → cond r (Some x) (find f xs) ≡ None → (find f xs ≡ None → list_any f xs ≡ false) → (r || list_any f xs) ≡ false
-  by_test true h rest = cc
-  by_test false h rest = rest h
-
-None-find : (f : Point → Bool) (xs : List Point) → list_any f xs ≡ false → find f xs ≡ None
-None-find f [] h = refl
-None-find f (x ∷ xs) h = by_test (f x) h (None-find f xs) where
-  by_test : (r : Bool) → (r || list_any f xs) ≡ false → (list_any f xs ≡ false → find f xs ≡ None) → cond r (Some x) (find f xs) ≡ None
-  by_test true h rest = cc
-  by_test false h rest = rest h
 
 -- ---- counts
 
@@ -60,7 +45,7 @@ module _ (rule : RuleKind) (b : Grid) where
   unwon_from_none none = record {
     no_winning_run = λ s d p mine. false_from_ne_true _ (λ wins.
         let found = points-found b (is_on_winning_run rule b) p (and_left (is_on b p) _ mine) (won_by_side s p (through s d p mine wins)) in
-        let no : false ≡ true = sym (find-None (is_on_winning_run rule b) (points_of b) none) ∙ found in
+        let no : false ≡ true = sym (unfound-none (is_on_winning_run rule b) (points_of b) none) ∙ found in
         cc);
   }
 
@@ -72,7 +57,7 @@ module _ (rule : RuleKind) (b : Grid) where
       cc
 
   none_from_unwon : IsUnwon rule b → find (is_on_winning_run rule b) (points_of b) ≡ None
-  none_from_unwon unwon = None-find _ (points_of b) (none_of _ (points_of b) (λ p h. elim (or_cases (wins_through rule b Black p) _ h) [
+  none_from_unwon unwon = none-unfound _ (points_of b) (none_of _ (points_of b) (λ p h. elim (or_cases (wins_through rule b Black p) _ h) [
     | inl black ↦ not_through unwon Black p black
     | inr white ↦ not_through unwon White p white
   ]))

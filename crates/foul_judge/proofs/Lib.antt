@@ -5,3 +5,5 @@ pub mod Lawfulness
 -- places of three points, and the short cuts of the judge
 pub mod ThreePlaces
 pub mod MayFoul
+pub mod FoulShapes
+pub mod FewerEmpties

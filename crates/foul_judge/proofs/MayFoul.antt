@@ -6,32 +6,24 @@ use Rattle.std.specs.Int.{bit_at}
 use Rattle.std.proofs.lemmas.Bool.{or_parts, false_from_ne_true}
 use Rattle.std.proofs.lemmas.Bool.Decides.{nat_tests}
 use Rattle.std.proofs.lemmas.Nat.Bits.{bit_at-zero, same_from_bits_below}
-use Rattle.game_rules.specs.Grid.{Grid, IsBoard, is_on, is_empty, put, along, axes, holds}
-use Rattle.game_rules.specs.Shapes.{is_line_three_at, is_line_three_point, run_of, fours_of}
-use Rattle.game_rules.specs.Play.{black_foul, stone_foul, first_foul, is_three}
+use Rattle.game_rules.proofs.Common.{Grid, IsBoard, is_on, is_empty, put, along, axes, holds, is_line_three_at, is_line_three_point, run_of, fours_of, black_foul, stone_foul, is_three}
 use Rattle.game_rules.specs.declared.RuleKind.{RuleKind}
-use Rattle.game_rules.specs.declared.Side.TheVariants.{Black}
 use Rattle.game_rules.specs.declared.Axis.{Axis}
-use Rattle.game_rules.specs.declared.Axis.TheVariants.{Row, Column, Down, Up}
 use Rattle.game_rules.specs.declared.Point.{Point}
-use Rattle.game_rules.proofs.Axes.{no_axis}
+use Rattle.game_rules.specs.declared.Side.TheVariants.{Black}
+use Rattle.game_rules.specs.declared.Axis.TheVariants.{Row, Column, Down, Up}
+use Rattle.game_rules.proofs.Axes.{no_axis, fewer_axes}
 use Rattle.game_rules.proofs.Boards.{and_left, is_empty-on, holds-put_same, run_of-put}
 use Rattle.game_rules.proofs.Positions.{IsBoard-put}
 use Rattle.game_rules.proofs.Rows.{any_found, any_none}
+use Rattle.game_rules.proofs.Outcomes.{no_first}
+use Rattle.game_rules.proofs.Threes.{no_line_points}
 use Rattle.row_shapes.specs.Reach.{stones_in_reach}
 use Rattle.row_shapes.proofs.Reaches.{reach-put, few-no_fours, few-no_three}
 use Rattle.foul_judge.specs.ShortCut.{reaches_of, may_have_two_threes, may_foul, has_line_three}
-use Rattle.foul_judge.proofs.ThreePlaces.{foul-step, no_line_points, no_three, not_free}
+use Rattle.foul_judge.proofs.ThreePlaces.{foul-step, no_three, not_free}
 
 -- ---- tests of the four axes
-
-one_more : (r t : Bool) → (r ≡ true → t ≡ true) → cond r 1 0 ≤ cond t 1 0
-one_more true t h = rw (h refl) (omega arith)
-one_more false t h = omega arith
-
--- where one test follows from another, at most as many axes meet the other
-pub fewer_axes : (f g : Axis → Bool) → ((d : Axis) → f d ≡ true → g d ≡ true) → count_by f axes ≤ count_by g axes
-fewer_axes f g h = omega (arith, one_more (f Row) (g Row) (h Row), one_more (f Column) (g Column) (h Column), one_more (f Down) (g Down) (h Down), one_more (f Up) (g Up) (h Up))
 
 -- ---- what the reaches tell of a stone on the board
 
@@ -79,10 +71,6 @@ module _ (rule : RuleKind) (b : Grid) (p : Point) (mine : holds b Black p ≡ tr
 pub reaches_of-put : (b : Grid) (p : Point) → is_on b p ≡ true → reaches_of (put b Black p) p ≡ reaches_of b p
 unfolding reaches_of
 reaches_of-put b p on = cc (reach-put b Black p on Row, reach-put b Black p on Column, reach-put b Black p on Down, reach-put b Black p on Up)
-
-no_first : (r : Bool) → first_foul r false false false ≡ None
-no_first true = refl
-no_first false = refl
 
 module _ (rule : RuleKind) (b : Grid) (p : Point) (ok : IsBoard b) (empty : is_empty b p ≡ true) (no : may_foul (reaches_of b p) ≡ false) where
   abbrev next : Grid

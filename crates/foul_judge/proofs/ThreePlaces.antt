@@ -1,56 +1,32 @@
 -- Three points of a stone are among the places of the line around it, and the search for one that is no foul.
-use Rattle.std.proofs.Common.{◌≡◌, ◌≢◌, ℕ, ◌<◌, ◌/◌, ◌^◌, bit_and, Bool, true, false, cond, ◌&&◌, ◌||◌, not, refl, sym, ap, add-one, ◌∙◌, List, [], ◌∷◌}
-use Rattle.std.specs.List.{list_any, filter}
-use Rattle.std.specs.Prelude.{Option, Some, None, is_some, is_none}
+use Rattle.std.proofs.Common.{◌≡◌, ◌≢◌, ℕ, ◌<◌, ◌/◌, ◌^◌, bit_and, Bool, true, false, cond, ◌&&◌, not, refl, sym, ap, add-one, ◌∙◌, arith, nat_eq}
+use Rattle.std.specs.Prelude.{Option, Some, None, is_none}
 use Rattle.std.specs.Int.{bit_at}
-use Rattle.std.proofs.lemmas.Nat.Bits.{shr_and_one}
-use Rattle.std.proofs.Math.Bool.{and-true, and-false}
-use Rattle.game_rules.specs.Grid.{Grid, IsBoard, is_empty, put, along, points_of, holds}
-use Rattle.game_rules.specs.Shapes.{is_three_point, is_line_three_point, is_line_three_at, three_points_of, five, wins_on}
-use Rattle.game_rules.specs.Play.{black_foul, black_foul_within, stone_foul, is_three}
+use Rattle.std.proofs.lemmas.Nat.Bits.{shr_and_one, bit_at-zero}
+use Rattle.std.proofs.lemmas.Bool.Decides.{nat_tests}
+use Rattle.game_rules.proofs.Common.{Grid, IsBoard, is_empty, put, along, points_of, holds, is_three_point, is_line_three_point, is_line_three_at, five, black_foul, black_foul_within, stone_foul, is_three}
 use Rattle.game_rules.specs.declared.RuleKind.{RuleKind}
-use Rattle.game_rules.specs.declared.Side.TheVariants.{Black}
-use Rattle.game_rules.specs.declared.Foul.{Foul}
 use Rattle.game_rules.specs.declared.Axis.{Axis}
 use Rattle.game_rules.specs.declared.Point.{Point}
-use Rattle.game_rules.proofs.Axes.{no_axis}
+use Rattle.game_rules.specs.declared.Side.TheVariants.{Black}
 use Rattle.game_rules.proofs.Boards.{and_left, is_empty-on, empties_of-put}
 use Rattle.game_rules.proofs.Points.{points-found, none_of}
+use Rattle.game_rules.proofs.Threes.{three_empty, three_point-line, line_three, is_three-free}
+use Rattle.game_rules.proofs.Rows.{any_none}
 use Rattle.stone_board.specs.Steps.{kept_on}
-use Rattle.row_shapes.proofs.ThreePoints.{three_empty, three_near, three-kept}
+use Rattle.stone_board.proofs.Looks.{three-kept}
+use Rattle.row_shapes.proofs.ThreePoints.{three_near}
 use Rattle.foul_judge.specs.Threes.{free_three}
-
-list_any-filter : (f g : Point → Bool) (xs : List Point) → list_any f (filter g xs) ≡ list_any (λ x. g x && f x) xs
-list_any-filter f g [] = refl
-list_any-filter f g (x ∷ xs) = by_test (g x) (list_any-filter f g xs) where
-  by_test : (r : Bool) → list_any f (filter g xs) ≡ list_any (λ x. g x && f x) xs → list_any f (cond r (x ∷ filter g xs) (filter g xs)) ≡ ((r && f x) || list_any (λ x. g x && f x) xs)
-  by_test true h = ap (λ r. f x || r) h
-  by_test false h = h
+use Rattle.foul_judge.specs.ShortCut.{has_line_three}
 
 -- ---- three points and five points
 
 module _ (rule : RuleKind) (b : Grid) (d : Axis) (p : Point) where
-  three_by : (q : Point) (r : Bool) → five rule b Black q ≡ r → is_three_point rule b Black d p q ≡ (is_line_three_point rule b Black d p q && not r)
-  unfolding is_three_point is_line_three_point
-  three_by q true h = rw (h, and-false (is_empty b q)) (sym (and-false _))
-  three_by q false h = rw (h, no_axis (λ d. wins_on rule b Black d q) h d) (sym (and-true _))
-
-  -- a three point is one as far as the axis decides, and no five point
-  three_point-line : (q : Point) → is_three_point rule b Black d p q ≡ (is_line_three_point rule b Black d p q && not (five rule b Black q))
-  three_point-line q = three_by q (five rule b Black q) refl
-
-  line_three : (q : Point) → is_three_point rule b Black d p q ≡ true → is_line_three_point rule b Black d p q ≡ true
-  line_three q h = and_left (is_line_three_point rule b Black d p q) _ (sym (three_point-line q) ∙ h)
-
-  is_three-free : is_three rule b d p (black_foul rule b) ≡ list_any (λ q. is_three_point rule b Black d p q && is_none (black_foul rule b q)) (points_of b)
-  unfolding is_three three_points_of
-  is_three-free = list_any-filter (λ q. is_none (black_foul rule b q)) (is_three_point rule b Black d p) (points_of b)
-
   found_three : (o : Option Point) → free_three rule b d p o ≡ true → is_three rule b d p (black_foul rule b) ≡ true
   found_three None h = cc
   found_three (Some q) h =
-      let on = is_empty-on b q (three_empty rule b Black d p q (line_three q (and_left (is_three_point rule b Black d p q) _ h))) in
-      is_three-free ∙ points-found b (λ q. is_three_point rule b Black d p q && is_none (black_foul rule b q)) q on h
+      let on = is_empty-on b q (three_empty rule b Black d p q ((line_three rule b d p) q (and_left (is_three_point rule b Black d p q) _ h))) in
+      (is_three-free rule b d p) ∙ points-found b (λ q. is_three_point rule b Black d p q && is_none (black_foul rule b q)) q on h
 
   place_found : (i : ℕ) (q : Point) → along d p i 5 ≡ Some q → (is_three_point rule b Black d p q && is_none (black_foul rule b q)) ≡ true → free_three rule b d p (along d p i 5) ≡ true
   place_found i q at h = ap (free_three rule b d p) at ∙ h
@@ -60,18 +36,11 @@ module _ (rule : RuleKind) (b : Grid) (d : Axis) (p : Point) where
   three_by_place i h = found_three (along d p i 5) h
 
   pub no_three : IsBoard b → holds b Black p ≡ true → ((i : ℕ) → i < 11 → free_three rule b d p (along d p i 5) ≡ false) → is_three rule b d p (black_foul rule b) ≡ false
-  no_three ok mine none = is_three-free ∙ none_of _ (points_of b) (λ q h.
-      let near = three_near rule b Black d p ok mine q (line_three q (and_left (is_three_point rule b Black d p q) _ h)) in
+  no_three ok mine none = (is_three-free rule b d p) ∙ none_of _ (points_of b) (λ q h.
+      let near = three_near rule b Black d p ok mine q ((line_three rule b d p) q (and_left (is_three_point rule b Black d p q) _ h)) in
       let yes : free_three rule b d p (along d p near.0 5) ≡ true = place_found near.0 q near.2 h in
       let no = none near.0 near.1 in
       let differ : true ≡ false = sym yes ∙ no in
-      cc)
-
-  -- an axis with no three point, as far as it decides, is no three
-  pub no_line_points : ((q : Point) → is_line_three_point rule b Black d p q ≡ false) → is_three rule b d p (black_foul rule b) ≡ false
-  no_line_points none = is_three-free ∙ none_of _ (points_of b) (λ q h.
-      let yes = line_three q (and_left (is_three_point rule b Black d p q) _ h) in
-      let differ : false ≡ true = sym (none q) ∙ yes in
       cc)
 
 -- a foul, one stone on
@@ -100,17 +69,19 @@ module _ (rule : RuleKind) (b : Grid) (d : Axis) (p : Point) where
       let here : is_line_three_point rule b Black d p q ≡ true = ap (is_line_three_at rule b Black d p) (sym e) ∙ h in
       ap (free_three rule b d p) e ∙ rw (three_point-line rule b d p q, here) refl
 
-pub none_by : (o : Option Foul) (r : Bool) → is_some o ≡ not r → r ≡ is_none o
-none_by None true h = refl
-none_by None false h = cc
-none_by (Some f) true h = cc
-none_by (Some f) false h = refl
-
--- what was answered of a board is so of another that is the same
-pub answer_at : (f : Grid → Bool) (b c : Grid) (r v : Bool) → r ≡ f b → b ≡ c → r ≡ v → f c ≡ v
-answer_at f b c r v e same h = sym (ap f same) ∙ sym e ∙ h
-
 -- a bit that is not set says no
 pub bit_clear : (n i : ℕ) (r : Bool) → bit_at n i ≡ cond r 1 0 → bit_and (n / 2 ^ i) 1 ≢ 1 → r ≡ false
 bit_clear n i true e h = absurd (h (shr_and_one n i ∙ e))
 bit_clear n i false e h = refl
+
+-- no bits, no three points
+pub no_bits : (rule : RuleKind) (b : Grid) (d : Axis) (p : Point) (points : ℕ) → ((i : ℕ) → i < 11 → bit_at points i ≡ cond (is_line_three_at rule b Black d p (along d p i 5)) 1 0) → not (nat_eq points 0) ≡ false → has_line_three rule b d p ≡ false
+unfolding has_line_three
+no_bits rule b d p points bits none = any_none _ 11 0 (λ i low high. clear _ (sym (bits i (omega arith)) ∙ ap (λ n. bit_at n i) (zero (nat_eq points 0) refl) ∙ bit_at-zero i)) where
+  clear : (r : Bool) → ◌≡◌ {A = ℕ} (cond r 1 0) 0 → r ≡ false
+  clear true h = absurd (omega arith)
+  clear false h = refl
+
+  zero : (r : Bool) → nat_eq points 0 ≡ r → points ≡ 0
+  zero true e = grind (arith, nat_tests)
+  zero false e = absurd (let bad : true ≡ false = sym (ap not e) ∙ none in cc)

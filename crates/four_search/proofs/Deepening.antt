@@ -5,8 +5,7 @@ use Rattle.std.specs.List.{find, sum_by, range_with_len}
 use Rattle.std.proofs.lemmas.Bool.{cases_lt}
 use Rattle.std.proofs.lemmas.Bool.Decides.{nat_tests}
 use Rattle.std.proofs.lemmas.List.Sums.{sum_by-cons, sum_by-append}
-use Rattle.game_rules.specs.Grid.{Grid}
-use Rattle.game_rules.specs.Games.{wins_by_fours, has_five}
+use Rattle.game_rules.proofs.Common.{Grid, wins_by_fours, has_five}
 use Rattle.game_rules.specs.declared.RuleKind.{RuleKind}
 use Rattle.game_rules.specs.declared.Point.{Point}
 use Rattle.game_rules.proofs.Games.{WinsUnder-more, test-WinsUnder, WinsUnder-test}

@@ -5,29 +5,26 @@ use Rattle.std.specs.Prelude.{Option, Some, None, slice_get}
 use Rattle.std.specs.List.{find, list_all, range_with_len}
 use Rattle.std.specs.Option.{option_map, option_and_then}
 use Rattle.std.proofs.lemmas.Bool.{cases_lt}
-use Rattle.game_rules.specs.Grid.{Grid, points_of}
-use Rattle.game_rules.specs.Shapes.{five, is_same_point}
-use Rattle.game_rules.specs.Play.{IsPosition, outcome, mover, after}
-use Rattle.game_rules.specs.Games.{LosesOr, has_five, wins_or, loses_or, starts_win, wins_under, wins_by_fours, four_move}
+use Rattle.game_rules.proofs.Common.{Grid, points_of, five, is_same_point, IsPosition, outcome, mover, after, LosesOr, has_five, wins_or, loses_or, starts_win, wins_under, wins_by_fours, four_move}
 use Rattle.game_rules.specs.declared.RuleKind.{RuleKind}
-use Rattle.game_rules.specs.declared.Outcome.{Outcome}
-use Rattle.game_rules.specs.declared.Outcome.TheVariants.{Refused, Wins as WinsNow, Fouls, Draws, GoesOn}
+use Rattle.game_rules.specs.declared.Outcome.TheVariants.{GoesOn}
 use Rattle.game_rules.specs.declared.Point.{Point}
 use Rattle.game_rules.proofs.Points.{points-found, is_same_point-itself}
-use Rattle.game_rules.proofs.Games.{each_reply}
+use Rattle.game_rules.proofs.Games.{each_reply, no_move, goes_on-no_five, none_in_zero}
 use Rattle.game_rules.proofs.Positions.{IsPosition-after, GoesOn-on}
-use Rattle.game_rules.proofs.Outcomes.{five-outcome}
+use Rattle.game_rules.proofs.Outcomes.{loses_by}
 use Rattle.game_rules.proofs.Places.{find-passes}
+use Rattle.game_rules.proofs.PointLists.{any-find}
 use Rattle.strategy_graph.specs.declared.Node.{Node}
 use Rattle.strategy_graph.specs.Tables.{answers_of, answer, answer_at, IsTable}
 use Rattle.strategy_graph.specs.Acceptance.{Answered, Accepted}
-use Rattle.strategy_graph.specs.Leads.{AtNode}
 use Rattle.strategy_graph.proofs.Answering.{Answered-map}
-use Rattle.strategy_compiler.specs.Trees.{Tree, Branches, Leaf, Fork, StandsFor, StandsForAll}
+use Rattle.strategy_compiler.specs.Trees.{Tree, Branches, Fork, StandsFor}
+use Rattle.strategy_compiler.proofs.Standing.{tree_attack, tree-attack, at_fork}
 use Rattle.four_search.specs.FourGame.{least_moves}
 use Rattle.four_search.specs.Plans.{branches_for, plan_from, four_plan}
 use Rattle.four_search.proofs.Trying.{move-is}
-use Rattle.four_search.proofs.Planning.{any-find, plan-fork}
+use Rattle.four_search.proofs.Planning.{plan-fork}
 use Rattle.four_search.proofs.Naming.{answer-at}
 use Rattle.four_search.proofs.Deepening.{wins-more}
 use Rattle.four_search.proofs.Written.{plan-written}
@@ -43,35 +40,7 @@ four_move-some rule (suc n) b wins = by_five (has_five rule b (mover b)) refl wh
   by_five true some = any-find (five rule b (mover b)) (points_of b) some
   by_five false none = any-find (starts_win (has_five rule) rule b (wins_by_fours rule n)) (points_of b) wins
 
-no_move : (rule : RuleKind) (b : Grid) (p : Point) → four_move rule zero b ≡ Some p → ⊥
-unfolding four_move
-no_move rule b p h = cc
-
--- where it goes on there is no five point
-goes_on-no_five : (rule : RuleKind) (n : ℕ) (b : Grid) (p : Point) → four_move rule n b ≡ Some p → outcome rule b p ≡ GoesOn → has_five rule b (mover b) ≡ false
-unfolding four_move
-goes_on-no_five rule zero b p chosen go = cc
-goes_on-no_five rule (suc n) b p chosen go = by_five (has_five rule b (mover b)) chosen where
-  by_five : (r : Bool) → cond r (find (five rule b (mover b)) (points_of b)) (find (starts_win (has_five rule) rule b (wins_by_fours rule n)) (points_of b)) ≡ Some p → r ≡ false
-  by_five true h =
-      let wins : outcome rule b p ≡ WinsNow = five-outcome rule b p (find-passes (five rule b (mover b)) (points_of b) p h) in
-      let bad : WinsNow ≡ GoesOn = sym wins ∙ go in cc
-  by_five false h = refl
-
 -- ---- the attack of its node
-
-tree_attack : Tree → Point
-tree_attack (Leaf p) = p
-tree_attack (Fork p bs) = p
-
-attack_at : (o : Option Node) (P : Node → Type 0) (p : Point) → ((n : Node) → P n → n.attack ≡ p) → AtNode o P → option_map (λ n. n.attack) o ≡ Some p
-attack_at None P p f h = absurd h
-attack_at (Some n) P p f h = ap Some (f n h)
-
-tree-attack : (t : List Node) (i : ℕ) (tree : Tree) → StandsFor t i tree → option_map (λ n. n.attack) (slice_get t i) ≡ Some (tree_attack tree)
-unfolding StandsFor tree_attack
-tree-attack t i (Leaf p) h = attack_at (slice_get t i) _ p (λ n k. k.0) h
-tree-attack t i (Fork p bs) h = attack_at (slice_get t i) _ p (λ n k. k.0) h
 
 from-attack : (wins : Bool) (p : Point) (branches : Point → Branches) → tree_attack (plan_from wins (Some p) branches) ≡ p
 unfolding tree_attack
@@ -102,20 +71,6 @@ pub record PlanAt (rule : RuleKind) (t : List Node) (n j : ℕ) (b : Grid) : Typ
 -- each reply at c is no move, fouls, or goes on, and is answered at node i by a node that stands for the plan within n moves
 abbrev pub PlansOn : RuleKind → List Node → ℕ → ℕ → Grid → Type 0
 PlansOn rule t n i c = (q : Point) → LosesOr (outcome rule c q) (Answered (answer_at t i q) (λ j. PlanAt rule t n j (after c q)))
-
-at_fork : (t : List Node) (i : ℕ) (p : Point) (bs : Branches) → StandsFor t i (Fork p bs) → (n : Node) × (slice_get t i ≡ Some n) × StandsForAll t (answers_of n) bs
-unfolding StandsFor
-at_fork t i p bs h = by_node (slice_get t i) _ (λ n k. k.2) h where
-  by_node : (o : Option Node) (P : Node → Type 0) → ((n : Node) → P n → StandsForAll t (answers_of n) bs) → AtNode o P → (n : Node) × (o ≡ Some n) × StandsForAll t (answers_of n) bs
-  by_node None P f h = absurd h
-  by_node (Some n) P f h = (n, refl, f n h)
-
-loses_by : (o : Outcome) (V W : Type 0) → LosesOr o V → (o ≡ GoesOn → V → W) → LosesOr o W
-loses_by Refused V W h f = tt
-loses_by WinsNow V W h f = h
-loses_by (Fouls g) V W h f = tt
-loses_by Draws V W h f = h
-loses_by GoesOn V W h f = f refl h
 
 module _ (rule : RuleKind) (t : List Node) (table : IsTable t) (m i : ℕ) (b : Grid) (p : Point) (lawful : IsPosition rule b) (chosen : four_move rule (suc m) b ≡ Some p) (go : outcome rule b p ≡ GoesOn) (stands : StandsFor t i (four_plan rule (suc m) b)) where
   none : has_five rule b (mover b) ≡ false
@@ -195,11 +150,7 @@ none-at f (suc d) a k h low high = by_test (f a) refl h (λ none more. none-at f
     | inr less ↦ let same : a ≡ k = omega (arith, less, low) in subst (λ (j : ℕ). f j ≡ false) same e
   ]
 
-never : (rule : RuleKind) (b : Grid) → wins_by_fours rule zero b ≡ false
-unfolding wins_under
-never rule b = refl
-
 -- where there is no fewest number there is no win within n moves
 pub none-wins : (rule : RuleKind) (n : ℕ) (b : Grid) → least_moves rule n b ≡ None → wins_by_fours rule n b ≡ false
-none-wins rule zero b h = never rule b
+none-wins rule zero b h = none_in_zero rule b
 none-wins rule (suc n) b h = none-at (λ k. wins_by_fours rule k b) (suc n) 1 (suc n) h (omega arith) (omega arith)

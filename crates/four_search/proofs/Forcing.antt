@@ -1,40 +1,32 @@
 -- Moves that need not be tried: where the defender has a five point, and at the last move.
-use Rattle.std.proofs.Common.{◌≡◌, ℕ, zero, ◌-◌, ◌<◌, Bool, true, false, cond, refl, sym, ap, subst, ◌∙◌, arith, List, [], ◌∷◌, nat_le, nat_eq}
-use Rattle.std.specs.Prelude.{None as NoFoul}
-use Rattle.std.specs.List.{list_all, filter}
+use Rattle.std.proofs.Common.{◌≡◌, ℕ, zero, ◌-◌, ◌<◌, Bool, true, false, cond, refl, sym, ap, ◌∙◌, arith, List, [], ◌∷◌, nat_le}
+use Rattle.std.specs.List.{filter}
 use Rattle.std.proofs.lemmas.Bool.Decides.{nat_tests}
-use Rattle.game_rules.specs.Grid.{Grid, is_on, is_empty, empties_of, points_of}
-use Rattle.game_rules.specs.Shapes.{five, is_same_point}
-use Rattle.game_rules.specs.Play.{IsPosition, outcome, outcome_by, foul_of, has_fouls, mover, other, after, black_foul, goes_on_with}
-use Rattle.game_rules.specs.Games.{has_five, five_points, loses_or, starts_win, wins_under, wins_by_fours}
+use Rattle.game_rules.proofs.Common.{Grid, is_empty, points_of, five, is_same_point, IsPosition, outcome, has_fouls, mover, other, after, goes_on_with, has_five, five_points, starts_win, wins_by_fours}
 use Rattle.game_rules.specs.declared.RuleKind.{RuleKind}
-use Rattle.game_rules.specs.declared.Side.{Side}
-use Rattle.game_rules.specs.declared.Outcome.{Outcome}
-use Rattle.game_rules.specs.declared.Outcome.TheVariants.{Refused, Wins, Fouls, Draws, GoesOn}
+use Rattle.game_rules.specs.declared.Outcome.TheVariants.{GoesOn}
 use Rattle.game_rules.specs.declared.Point.{Point}
-use Rattle.game_rules.proofs.Boards.{and_left, and_right, is_empty-on}
+use Rattle.game_rules.proofs.Boards.{is_empty-on}
 use Rattle.game_rules.proofs.Positions.{IsPosition-after, GoesOn-empty, mover-then, mover-other}
-use Rattle.game_rules.proofs.Points.{points-found, any_witness, none_of, all_at, filter-none, filter-passes, is_same_point-itself, is_same_point-same}
-use Rattle.game_rules.proofs.Fives.{five-empty}
-use Rattle.game_rules.proofs.Places.{two_passing-apart}
-use Rattle.game_rules.proofs.Outcomes.{reply-stays, no_fouls-none, goes_on_with-else}
-use Rattle.threat_moves.specs.declared.block.BlockAnswer.{BlockAnswer}
-use Rattle.threat_moves.specs.declared.block.BlockAnswer.TheVariants.{Lost, Won, Draw, One}
+use Rattle.game_rules.proofs.Points.{any_witness, none_of}
+use Rattle.game_rules.proofs.Fives.{five-empty, only}
+use Rattle.game_rules.proofs.Outcomes.{goes_on_with-else}
+use Rattle.game_rules.proofs.PointLists.{no_point}
+use Rattle.threat_moves.specs.declared.block.BlockAnswer.TheVariants.{Lost}
 use Rattle.threat_moves.specs.Blocks.{fate}
 use Rattle.threat_moves.specs.FourMoves.{is_four_move}
-use Rattle.threat_moves.specs.OneBlock.{all_foul, block_wins}
-use Rattle.threat_moves.proofs.FourLaws.{four-goes_on, four-five}
+use Rattle.threat_moves.proofs.FourLaws.{four-goes_on, four-five, taken-no_four, no_last-win, none-no_four}
 use Rattle.threat_moves.proofs.BlockLaw.{block_decides}
-use Rattle.threat_moves.proofs.Fates.{blocked}
+use Rattle.threat_moves.proofs.Fates.{blocked, not_all-foul}
 use Rattle.four_search.specs.declared.search.Found.{Found}
 use Rattle.four_search.specs.declared.search.Found.TheVariants.{Win, NoWin, Spent}
 use Rattle.row_shapes.specs.FivePoints.{in_short}
 use Rattle.row_shapes.specs.declared.fives.FivePoints.{FivePoints}
 use Rattle.row_shapes.specs.declared.fives.FivePoints.TheVariants.{None as NoPoint, One as OnePoint, Several}
-use Rattle.row_shapes.proofs.FiveLaws.{has_five-none, has_five-one, has_five-several, none-short, one-empty, none-left, one-left, one-taken, several-left}
+use Rattle.row_shapes.proofs.FiveLaws.{has_five-none, has_five-one, has_five-several, one-empty, several-left, one-stays}
 use Rattle.four_search.specs.FourGame.{four_tree}
 use Rattle.four_search.specs.Searching.{found_by, found_at, found_behind, found_trying, four_line}
-use Rattle.four_search.proofs.Trying.{found_next, try_all, try_all-none, trying-no_four, trying-four, taken-no_four, answering-lost, behind-no_win, found-after, test, no_four, wins-is}
+use Rattle.four_search.proofs.Trying.{found_next, try_all, try_all-none, trying-no_four, trying-four, answering-lost, behind-no_win, found-after, test, no_four, wins-is}
 
 -- ---- where the defender keeps a five point
 
@@ -73,46 +65,7 @@ module _ (rule : RuleKind) (n : ℕ) (b : Grid) (lawful : IsPosition rule b) whe
     alone (NoWin l) = refl
     alone Spent = refl
 
-no_point : (ps : List Point) → filter (λ p. false) ps ≡ []
-no_point [] = refl
-no_point (p ∷ ps) = no_point ps
-
-passing : (f : Point → Bool) (ps xs : List Point) → filter f ps ≡ xs → list_all f xs ≡ true
-passing f ps xs e = subst (λ ys. list_all f ys ≡ true) e (filter-passes f ps)
-
--- each point of the board is listed once
-only : (b : Grid) (w : Point) → is_on b w ≡ true → filter (λ p. is_same_point p w) (points_of b) ≡ w ∷ []
-only b w on = by_points (filter (λ p. is_same_point p w) (points_of b)) refl where
-  by_points : (xs : List Point) → filter (λ p. is_same_point p w) (points_of b) ≡ xs → filter (λ p. is_same_point p w) (points_of b) ≡ w ∷ []
-  by_points [] e =
-      let none = filter-none (λ p. is_same_point p w) (points_of b) e in
-      let some = points-found b (λ p. is_same_point p w) w on (is_same_point-itself w) in
-      let no : false ≡ true = sym none ∙ some in cc
-  by_points (u ∷ []) e =
-      let here = and_left (is_same_point u w) _ (passing (λ p. is_same_point p w) (points_of b) (u ∷ []) e) in
-      e ∙ ap (λ (p : Point). p ∷ []) (is_same_point-same u w here)
-  by_points (u ∷ v ∷ more) e =
-      let both = passing (λ p. is_same_point p w) (points_of b) (u ∷ v ∷ more) e in
-      let first = is_same_point-same u w (and_left (is_same_point u w) _ both) in
-      let second = is_same_point-same v w (and_left (is_same_point v w) _ (and_right (is_same_point u w) _ both)) in
-      let apart = two_passing-apart b (λ p. is_same_point p w) u v more e in
-      let same : u ≡ v = first ∙ sym second in
-      absurd (apart.apart (ap (λ (r : Point). r.x) same) (ap (λ (r : Point). r.y) same))
-
 -- ---- five points of the defender
-
-module _ (rule : RuleKind) (b : Grid) (lawful : IsPosition rule b) (p : Point) (empty : is_empty b p ≡ true) where
-  pub one-stays : (w : Point) → in_short (five_points rule b (other (mover b))) ≡ OnePoint w → is_same_point p w ≡ false → has_five rule (after b p) (other (mover b)) ≡ true
-  one-stays w h differ =
-      has_five-one rule (after b p) (other (mover b)) w (one-left rule b (mover b) p lawful.board empty w h (λ same. let yes : is_same_point p w ≡ true = ap (is_same_point p) (sym same) ∙ is_same_point-itself p in let no : false ≡ true = sym differ ∙ yes in cc))
-
-  -- where the defender has no five point, it has none after a stone of the attacker
-  pub none-stays : has_five rule b (other (mover b)) ≡ false → has_five rule (after b p) (other (mover b)) ≡ false
-  none-stays h = has_five-none rule (after b p) (other (mover b)) (none-left rule b (mover b) p lawful.board empty (none-short rule b (other (mover b)) h))
-
--- where the defender has one five point, it has none once that is taken
-pub one-gone : (rule : RuleKind) (b : Grid) (w : Point) → IsPosition rule b → in_short (five_points rule b (other (mover b))) ≡ OnePoint w → has_five rule (after b w) (other (mover b)) ≡ false
-one-gone rule b w lawful h = has_five-none rule (after b w) (other (mover b)) (one-taken rule b (mover b) w lawful.board (one-empty rule b (other (mover b)) w h) w h refl)
 
 -- ---- what a search finds where the defender has five points
 
@@ -136,21 +89,6 @@ module _ (rule : RuleKind) (moves budget : ℕ) (b : Grid) (lawful : IsPosition 
       ∙ found-after rule moves budget b lawful none some fits
 
 -- ---- the last move
-
-not_all-foul : (rule : RuleKind) (c : Grid) (w : Point) → is_empty c w ≡ true → has_fouls rule (mover c) ≡ false → all_foul rule c ≡ false
-not_all-foul rule c w empty h = by_test (all_foul rule c) refl where
-  by_test : (r : Bool) → all_foul rule c ≡ r → r ≡ false
-  by_test false e = refl
-  by_test true e =
-      let yes = all_at c (λ q. loses_or (outcome rule c q) false) w e (is_empty-on c w empty) in
-      let bad : false ≡ true = sym (reply-stays rule c w empty h) ∙ yes in cc
-
-no_last-win : (rule : RuleKind) (c : Grid) (a : BlockAnswer) → all_foul rule c ≡ false → block_wins rule zero c a ≡ false
-unfolding wins_under
-no_last-win rule c Lost h = refl
-no_last-win rule c Won h = h
-no_last-win rule c (Draw w) h = refl
-no_last-win rule c (One w) h = refl
 
 module _ (rule : RuleKind) (b : Grid) (lawful : IsPosition rule b) (none : has_five rule b (mover b) ≡ false) (calm : has_fouls rule (other (mover b)) ≡ false) where
   last-four : (p : Point) → is_four_move rule b p ≡ true → starts_win (has_five rule) rule b (wins_by_fours rule zero) p ≡ false
@@ -192,18 +130,6 @@ module _ (rule : RuleKind) (c : Grid) (w : Point) (lawful : IsPosition rule c) (
   block-last moves budget e fits calm = found-last rule (after c w) (IsPosition-after rule c w lawful on) block-none (ap (has_fouls rule) (mover-other rule c w lawful on) ∙ calm) moves budget e fits
 
 -- ---- which moves are fours
-
-goes_on_with-false : (o : Outcome) → goes_on_with o false ≡ false
-goes_on_with-false Refused = refl
-goes_on_with-false Wins = refl
-goes_on_with-false (Fouls f) = refl
-goes_on_with-false Draws = refl
-goes_on_with-false GoesOn = refl
-
--- a move that makes no five point is no four
-pub none-no_four : (rule : RuleKind) (b : Grid) (p : Point) → has_five rule (after b p) (mover b) ≡ false → is_four_move rule b p ≡ false
-unfolding is_four_move
-none-no_four rule b p h = ap (goes_on_with (outcome rule b p)) h ∙ goes_on_with-false (outcome rule b p)
 
 module _ (rule : RuleKind) (n : ℕ) (b : Grid) (p : Point) (budget : ℕ) where
   pub trying-none : in_short (five_points rule (after b p) (mover b)) ≡ NoPoint → NoWin budget ≡ found_trying rule n b p budget

@@ -10,7 +10,6 @@ mod Deepening
 -- the plan of a win, and the nodes that stand for it
 mod Planning
 pub mod Naming
-mod Sums
 pub mod Written
 -- one move of a win by fours, and the node that stands for its plan
 pub mod Following
@@ -29,3 +28,5 @@ mod Remembering
 mod Scanning
 -- points that no move on their lines has changed
 mod Beside
+-- how few positions a search for two fours looks at
+pub mod Costs

@@ -2,12 +2,13 @@
 use Rattle.std.proofs.Common.{◌≡◌, ℕ, Bool, true, false, ◌||◌, not, refl, sym, ap, subst, ◌∙◌, List, [], ◌∷◌, map, nat_eq}
 use Rattle.std.specs.Prelude.{Option, Some, None}
 use Rattle.std.specs.Option.{option_eq}
-use Rattle.std.specs.List.{list_any, AllByRecursion}
+use Rattle.std.specs.List.{AllByRecursion}
 use Rattle.game_rules.specs.Shapes.{is_same_point}
 use Rattle.game_rules.specs.declared.Outcome.{Outcome}
 use Rattle.game_rules.specs.declared.Outcome.TheVariants.{Refused, Wins as WinsNow, Fouls, Draws, GoesOn}
 use Rattle.game_rules.specs.declared.Point.{Point}
 use Rattle.game_rules.proofs.Points.{is_same_point-same}
+use Rattle.game_rules.proofs.PointLists.{among_points, AmongPoints}
 use Rattle.strategy_graph.specs.declared.Node.{Node}
 use Rattle.strategy_graph.specs.declared.Reply.{Reply}
 use Rattle.strategy_graph.specs.Tables.{Answers, answer, rest_node}
@@ -15,13 +16,6 @@ use Rattle.strategy_graph.specs.Acceptance.{Answered}
 use Rattle.strategy_compiler.specs.Trees.{Tree, StandsFor, StandsForAll, AnswersBriefly, replies_of}
 use Rattle.strategy_compiler.proofs.Forks.{IfAnswer, all-filter}
 use Rattle.four_search.specs.Plans.{branch_if, branches_for}
-
--- whether q is one of the points
-abbrev pub among_points : Point → List Point → Bool
-among_points q ps = list_any (λ p. is_same_point q p) ps
-
-abbrev pub AmongPoints : Point → List Point → Type 0
-AmongPoints q ps = among_points q ps ≡ true
 
 -- ---- lists
 

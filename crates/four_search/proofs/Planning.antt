@@ -1,37 +1,34 @@
 -- The plan of a win by fours, node by node.
-use Rattle.std.proofs.Common.{◌≡◌, inl, inr, ℕ, zero, suc, ◌-◌, ◌≤◌, ◌<◌, Bool, true, false, cond, ◌&&◌, ◌||◌, not, refl, sym, ap, subst, ◌∙◌, arith, List, [], ◌∷◌, ◌++◌, length, get_or}
+use Rattle.std.proofs.Common.{◌≡◌, inl, inr, ℕ, zero, suc, ◌-◌, ◌≤◌, ◌<◌, Bool, true, false, cond, ◌&&◌, refl, sym, ap, subst, ◌∙◌, arith, List, [], ◌∷◌, ◌++◌, length, get_or}
 use Rattle.std.specs.Prelude.{Option, Some, Result, Ok, Err, IfOk, All}
-use Rattle.std.specs.List.{list_any, list_all, find, filter, AllByRecursion}
+use Rattle.std.specs.List.{list_all, find, AllByRecursion}
 use Rattle.std.proofs.lemmas.List.Elements.{All-from_recursion}
-use Rattle.std.proofs.lemmas.Bool.{false_from_ne_true}
-use Rattle.game_rules.specs.Grid.{Grid, is_on, is_empty, is_empty_cell, stone_of, cell_at, points_of}
-use Rattle.game_rules.specs.Shapes.{five, is_same_point}
-use Rattle.game_rules.specs.Play.{IsPosition, outcome, mover, other, after}
-use Rattle.game_rules.specs.Games.{has_five, five_points, loses_or, starts_win, wins_by_fours, wins_under, four_move}
+use Rattle.game_rules.proofs.Common.{Grid, points_of, five, is_same_point, IsPosition, outcome, mover, other, after, has_five, five_points, loses_or, starts_win, wins_by_fours, wins_under, four_move}
 use Rattle.game_rules.specs.declared.RuleKind.{RuleKind}
-use Rattle.game_rules.specs.declared.Side.{Side}
 use Rattle.game_rules.specs.declared.Outcome.{Outcome}
 use Rattle.game_rules.specs.declared.Outcome.TheVariants.{Refused, Wins, Fouls, Draws, GoesOn}
 use Rattle.game_rules.specs.declared.Point.{Point}
-use Rattle.game_rules.proofs.Boards.{is_empty-on, Apart, cell_at-put_same, same_or_apart, stone_of-taken}
-use Rattle.game_rules.proofs.Positions.{GoesOn-empty, IsPosition-after, mover-after, mover-then}
-use Rattle.game_rules.proofs.Fives.{five-other, five-empty}
-use Rattle.game_rules.proofs.Points.{filter-none, is_same_point-itself, is_same_point-same}
-use Rattle.game_rules.proofs.Places.{two_passing-apart, find-passes}
+use Rattle.game_rules.proofs.Boards.{Apart, same_or_apart}
+use Rattle.game_rules.proofs.Positions.{GoesOn-empty, IsPosition-after, mover-after}
+use Rattle.game_rules.proofs.Fives.{least_five, first-left, second-left}
+use Rattle.game_rules.proofs.Points.{is_same_point-itself}
+use Rattle.game_rules.proofs.Places.{find-passes}
+use Rattle.game_rules.proofs.PointLists.{apart_same, find-any, any-find, snoc-parts, list_one, list_two, head_find, list_some}
+use Rattle.game_rules.proofs.Games.{wins-some, no_move}
 use Rattle.strategy_graph.specs.declared.Node.{Node}
 use Rattle.strategy_graph.specs.declared.Reply.{Reply}
-use Rattle.strategy_compiler.specs.Trees.{Tree, Branches, Leaf, Fork, StandsFor, AnswersBranches, GrowthKeepsTrees}
+use Rattle.strategy_compiler.specs.Trees.{Tree, Branches, Leaf, Fork, StandsFor, AnswersBranches}
 use Rattle.threat_moves.specs.declared.block.BlockAnswer.TheVariants.{Lost, Won, Draw, One}
 use Rattle.threat_moves.specs.FourMoves.{is_four_move}
-use Rattle.threat_moves.specs.Blocks.{by_block, by_fives, fate}
+use Rattle.threat_moves.specs.Blocks.{fate}
 use Rattle.threat_moves.specs.OneBlock.{block_wins, all_foul}
 use Rattle.threat_moves.proofs.FourLaws.{four-goes_on, one-goes_on}
 use Rattle.threat_moves.proofs.BlockLaw.{block_decides}
+use Rattle.threat_moves.proofs.Fates.{one-points, won-foul, won-some}
 use Rattle.four_search.specs.Searching.{line_behind, line_from, four_line}
 use Rattle.four_search.specs.Plans.{branch_if, branches_for, plan_from, four_plan, answer_if, answers_for}
 use Rattle.four_search.proofs.Trying.{move-is, no_four}
 use Rattle.strategy_compiler.specs.Forks.{answer_node}
-use Rattle.strategy_compiler.specs.Growth.{GrowsBy}
 
 -- ---- answers and branches
 
@@ -79,77 +76,6 @@ answer_node-below w i j k a b q = by_test (is_same_point q w) where
   by_test false = b
 
 -- ---- the five points that are left
-
-apart_same : (p q : Point) → Apart p q → is_same_point q p ≡ false
-apart_same p q h = false_from_ne_true (is_same_point q p) (λ e. let same : q ≡ p = is_same_point-same q p e in h.apart (ap (λ (r : Point). r.x) (sym same)) (ap (λ (r : Point). r.y) (sym same)))
-
-find-and : (f g : Point → Bool) (ps : List Point) → find (λ x. f x && g x) ps ≡ find g (filter f ps)
-find-and f g [] = refl
-find-and f g (p ∷ ps) = by_test (f p) (find-and f g ps) where
-  by_test : (r : Bool) → find (λ x. f x && g x) ps ≡ find g (filter f ps) → cond (r && g p) (Some p) (find (λ x. f x && g x) ps) ≡ find g (cond r (p ∷ filter f ps) (filter f ps))
-  by_test true h = ap (λ (o : Option Point). cond (g p) (Some p) o) h
-  by_test false h = h
-
-find-any : (f : Point → Bool) (ps : List Point) (p : Point) → find f ps ≡ Some p → list_any f ps ≡ true
-find-any f [] p h = cc
-find-any f (x ∷ ps) p h = by_test (f x) h (find-any f ps p) where
-  by_test : (r : Bool) → cond r (Some x) (find f ps) ≡ Some p → (find f ps ≡ Some p → list_any f ps ≡ true) → (r || list_any f ps) ≡ true
-  by_test true h k = refl
-  by_test false h k = k h
-
-pub any-find : (f : Point → Bool) (ps : List Point) → list_any f ps ≡ true → (p : Point) × (find f ps ≡ Some p)
-any-find f [] h = cc
-any-find f (x ∷ ps) h = by_test (f x) h (any-find f ps) where
-  by_test : (r : Bool) → (r || list_any f ps) ≡ true → (list_any f ps ≡ true → (p : Point) × (find f ps ≡ Some p)) → (p : Point) × (cond r (Some x) (find f ps) ≡ Some p)
-  by_test true h k = (x, refl)
-  by_test false h k = k h
-
--- the least five point of the side to move
-abbrev pub least_five : RuleKind → Grid → Option Point
-least_five rule d = find (five rule d (mover d)) (points_of d)
-
-module _ (rule : RuleKind) (c : Grid) (lawful : IsPosition rule c) (q : Point) (on : outcome rule c q ≡ GoesOn) where
-  taken : is_empty (after c q) q ≡ false
-  taken =
-      let here : is_on c q ≡ true = is_empty-on c q (GoesOn-empty rule c q on) in
-      let cell : cell_at (after c q) q ≡ stone_of (mover c) = cell_at-put_same c (mover c) q lawful.board here in
-      ap (λ r. r && is_empty_cell (cell_at (after c q) q)) here ∙ ap is_empty_cell cell ∙ stone_of-taken (mover c)
-
-  five_left : (x : Point) → five rule (after c q) (other (mover c)) x ≡ (five rule c (other (mover c)) x && not (is_same_point x q))
-  five_left x = elim (same_or_apart q x) [
-    | inl same ↦ subst (λ (y : Point). five rule (after c q) (other (mover c)) y ≡ (five rule c (other (mover c)) y && not (is_same_point y q))) same (not_there ∙ sym (drop_right (five rule c (other (mover c)) q) _ (ap not (is_same_point-itself q))))
-    | inr apart ↦ five-other c (mover c) q lawful.board (GoesOn-empty rule c q on) rule x apart ∙ sym (keep_left (five rule c (other (mover c)) x) _ (ap not (apart_same q x apart)))
-  ] where
-    not_there : five rule (after c q) (other (mover c)) q ≡ false
-    not_there = false_from_ne_true _ (λ h. let yes = five-empty rule (after c q) (other (mover c)) q h in let bad : false ≡ true = sym taken ∙ yes in cc)
-
-    drop_right : (a b : Bool) → b ≡ false → (a && b) ≡ false
-    drop_right true b h = h
-    drop_right false b h = refl
-
-    keep_left : (a b : Bool) → b ≡ true → (a && b) ≡ a
-    keep_left true b h = h
-    keep_left false b h = refl
-
-  -- the least of those five points of the attacker that the reply does not take
-  least-left : least_five rule (after c q) ≡ find (λ x. not (is_same_point x q)) (five_points rule c (other (mover c)))
-  least-left =
-      ap (λ (s : Side). find (five rule (after c q) s) (points_of c)) (mover-then rule c q lawful on)
-      ∙ ap (λ (f : Point → Bool). find f (points_of c)) (λ i x. five_left x i)
-      ∙ find-and (five rule c (other (mover c))) (λ x. not (is_same_point x q)) (points_of c)
-
-  first-left : (w : Point) (more : List Point) → five_points rule c (other (mover c)) ≡ w ∷ more → Apart q w → least_five rule (after c q) ≡ Some w
-  first-left w more e apart =
-      least-left ∙ ap (find (λ x. not (is_same_point x q))) e ∙ ap (λ r. cond (not r) (Some w) (find (λ x. not (is_same_point x q)) more)) (apart_same q w apart)
-
-  second-left : (w v : Point) (more : List Point) → five_points rule c (other (mover c)) ≡ w ∷ v ∷ more → q ≡ w → least_five rule (after c q) ≡ Some v
-  second-left w v more e same =
-      let apart : Apart w v = two_passing-apart c (five rule c (other (mover c))) w v more e in
-      let here : is_same_point w q ≡ true = ap (λ (x : Point). is_same_point w x) same ∙ is_same_point-itself w in
-      let there : is_same_point v q ≡ false = ap (λ (x : Point). is_same_point v x) same ∙ apart_same w v apart in
-      least-left ∙ ap (find (λ x. not (is_same_point x q))) e
-      ∙ ap (λ r. cond (not r) (Some w) (cond (not (is_same_point v q)) (Some v) (find (λ x. not (is_same_point x q)) more))) here
-      ∙ ap (λ r. cond (not r) (Some v) (find (λ x. not (is_same_point x q)) more)) there
 
 -- ---- plans
 
@@ -211,63 +137,7 @@ module _ (rule : RuleKind) (c : Grid) (lawful : IsPosition rule c) (t : List Nod
 
 -- ---- fates, read backwards
 
-pub one-points : (rule : RuleKind) (c : Grid) (w : Point) → One w ≡ fate rule c → five_points rule c (other (mover c)) ≡ w ∷ []
-unfolding fate
-one-points rule c w h = by_fate (has_five rule c (mover c)) h where
-  by_block_one : (v : Point) (o : Outcome) → One w ≡ by_block v o → v ≡ w
-  by_block_one v Refused h = cc
-  by_block_one v Wins h = cc
-  by_block_one v (Fouls f) h = cc
-  by_block_one v Draws h = cc
-  by_block_one v GoesOn h = cc
-
-  by_points : (xs : List Point) → One w ≡ by_fives rule c xs → xs ≡ w ∷ []
-  by_points [] h = cc
-  by_points (v ∷ []) h = ap (λ (x : Point). x ∷ []) (by_block_one v (outcome rule c v) h)
-  by_points (v ∷ u ∷ more) h = cc
-
-  by_fate : (r : Bool) → One w ≡ cond r Lost (by_fives rule c (five_points rule c (other (mover c)))) → five_points rule c (other (mover c)) ≡ w ∷ []
-  by_fate true h = cc
-  by_fate false h = by_points (five_points rule c (other (mover c))) h
-
--- a four that has won by its one block: the block does not go on
-pub won-foul : (rule : RuleKind) (c : Grid) (w : Point) → Won ≡ fate rule c → five_points rule c (other (mover c)) ≡ w ∷ [] → outcome rule c w ≡ GoesOn → ⊥
-unfolding fate
-won-foul rule c w h e on = by_fate (has_five rule c (mover c)) h where
-  by_points : Won ≡ by_fives rule c (five_points rule c (other (mover c))) → ⊥
-  by_points h =
-      let k : Won ≡ by_block w (outcome rule c w) = h ∙ ap (by_fives rule c) e in
-      let l : Won ≡ One w = k ∙ ap (by_block w) on in cc
-
-  by_fate : (r : Bool) → Won ≡ cond r Lost (by_fives rule c (five_points rule c (other (mover c)))) → ⊥
-  by_fate true h = cc
-  by_fate false h = by_points h
-
-pub won-some : (rule : RuleKind) (c : Grid) → Won ≡ fate rule c → five_points rule c (other (mover c)) ≡ [] → ⊥
-unfolding fate
-won-some rule c h e = by_fate (has_five rule c (mover c)) h where
-  by_fate : (r : Bool) → Won ≡ cond r Lost (by_fives rule c (five_points rule c (other (mover c)))) → ⊥
-  by_fate true h = cc
-  by_fate false h = let k : Won ≡ Lost = h ∙ ap (by_fives rule c) e in cc
-
 -- ---- the chosen move
-
-snoc-parts : (xs ys : List Point) (x y : Point) → xs ++ x ∷ [] ≡ ys ++ y ∷ [] → (xs ≡ ys) × (x ≡ y)
-snoc-parts [] [] x y h = (refl, let e : x ≡ y = cc in e)
-snoc-parts [] (b ∷ ys) x y h = absurd (no_end ys (let e : [] ≡ ys ++ y ∷ [] = cc in e)) where
-  no_end : (ys : List Point) → [] ≡ ys ++ y ∷ [] → ⊥
-  no_end [] h = cc
-  no_end (b ∷ ys) h = cc
-snoc-parts (a ∷ xs) [] x y h = absurd (no_end xs (let e : xs ++ x ∷ [] ≡ [] = cc in e)) where
-  no_end : (xs : List Point) → xs ++ x ∷ [] ≡ [] → ⊥
-  no_end [] h = cc
-  no_end (b ∷ xs) h = cc
-snoc-parts (a ∷ xs) (b ∷ ys) x y h =
-    let e : a ≡ b = cc in
-    let rest : xs ++ x ∷ [] ≡ ys ++ y ∷ [] = cc in
-    let parts = snoc-parts xs ys x y rest in
-    let f : xs ≡ ys = parts.0 in
-    (ap (λ (c : Point). c ∷ xs) e ∙ ap (λ (l : List Point). b ∷ l) f, parts.1)
 
 -- where there is a win by fours, no five point and the line of the win, its last move is the chosen one
 pub chosen-last : (rule : RuleKind) (n : ℕ) (b : Grid) (line inner : List Point) (p : Point) → IsPosition rule b → has_five rule b (mover b) ≡ false → wins_by_fours rule n b ≡ true → line ≡ four_line rule n b → line ≡ inner ++ p ∷ [] → (four_move rule n b ≡ Some p) × (inner ≡ line_behind (four_line rule (n - 1)) (after b p) (fate rule (after b p)))
@@ -316,30 +186,11 @@ chosen-four rule (suc n) b p lawful none chosen =
       true_by true h = refl
       true_by false h = absurd (h refl)
 
-no_move : (rule : RuleKind) (b : Grid) (p : Point) → four_move rule zero b ≡ Some p → ⊥
-unfolding four_move
-no_move rule b p h = cc
-
-pub wins-some : (rule : RuleKind) (n : ℕ) (b : Grid) → wins_by_fours rule n b ≡ true → 0 < n
-unfolding wins_under
-wins-some rule zero b h = cc
-wins-some rule (suc n) b h = omega arith
-
 -- ---- the node of a four
 
 IfOk-map : {E : Type 0} (r : Result ℕ E) (P Q : ℕ → Type 0) → ((i : ℕ) → P i → Q i) → IfOk r P → IfOk r Q
 IfOk-map (Ok i) P Q f h = f i h
 IfOk-map (Err e) P Q f h = h
-
-list_one : (xs : List Point) (d : Point) → 1 ≤ length xs → length xs < 2 → xs ≡ get_or xs 0 d ∷ []
-list_one [] d low high = absurd (omega arith)
-list_one (x ∷ []) d low high = refl
-list_one (x ∷ y ∷ xs) d low high = absurd (omega arith)
-
-list_two : (xs : List Point) (d : Point) → 2 ≤ length xs → (more : List Point) × (xs ≡ get_or xs 0 d ∷ get_or xs 1 d ∷ more)
-list_two [] d low = absurd (omega arith)
-list_two (x ∷ []) d low = absurd (omega arith)
-list_two (x ∷ y ∷ xs) d low = (xs, refl)
 
 module _ (rule : RuleKind) (n : ℕ) (b : Grid) (p : Point) (lawful : IsPosition rule b) (none : has_five rule b (mover b) ≡ false) (chosen : four_move rule n b ≡ Some p) where
   facts : (is_four_move rule b p ≡ true) × (block_wins rule (n - 1) (after b p) (fate rule (after b p)) ≡ true) × (0 < n)
@@ -442,10 +293,6 @@ module _ (rule : RuleKind) (n : ℕ) (b : Grid) (p : Point) (lawful : IsPosition
   pub plan-not-draw : (w : Point) → fate rule (after b p) ≡ Draw w → ⊥
   plan-not-draw w draw = let bad : false ≡ true = ap (block_wins rule (n - 1) (after b p)) (sym draw) ∙ facts.1 in cc
 
--- a node that stood for a tree still does
-pub stands-grown : GrowthKeepsTrees → (a c : List Node) (k : ℕ) → GrowsBy a c k → (i : ℕ) (tree : Tree) → StandsFor a i tree → StandsFor c i tree
-stands-grown law a c k g i tree h = subst (λ (t : List Node). StandsFor t i tree) (sym g.is) (law a g.added i tree h)
-
 -- a four that has won has a five point
 pub plan-won-points : (rule : RuleKind) (n : ℕ) (b : Grid) (p : Point) (lawful : IsPosition rule b) (none : has_five rule b (mover b) ≡ false) (chosen : four_move rule n b ≡ Some p) (xs : List Point) → xs ≡ five_points rule (after b p) (mover b) → fate rule (after b p) ≡ Won → length xs < 1 → ⊥
 plan-won-points rule n b p lawful none chosen xs points won low =
@@ -455,23 +302,6 @@ plan-won-points rule n b p lawful none chosen xs points won low =
       nil (x ∷ l) h = absurd (omega arith)
 
 -- ---- five points as a list
-
-head_find : (f : Point → Bool) (ps : List Point) (x : Point) (more : List Point) → filter f ps ≡ x ∷ more → find f ps ≡ Some x
-head_find f [] x more h = cc
-head_find f (p ∷ ps) x more h = by_test (f p) h (head_find f ps x more) where
-  by_test : (r : Bool) → cond r (p ∷ filter f ps) (filter f ps) ≡ x ∷ more → (filter f ps ≡ x ∷ more → find f ps ≡ Some x) → cond r (Some p) (find f ps) ≡ Some x
-  by_test true h k = let same : p ≡ x = cc in ap Some same
-  by_test false h k = k h
-
-list_some : (xs : List Point) (d : Point) → 1 ≤ length xs → (more : List Point) × (xs ≡ get_or xs 0 d ∷ more)
-list_some [] d low = absurd (omega arith)
-list_some (x ∷ xs) d low = (xs, refl)
-
-pub no-fives : (rule : RuleKind) (b : Grid) (xs : List Point) → xs ≡ five_points rule b (mover b) → length xs < 1 → has_five rule b (mover b) ≡ false
-no-fives rule b xs e low = filter-none (five rule b (mover b)) (points_of b) (sym e ∙ nil xs low) where
-  nil : (l : List Point) → length l < 1 → l ≡ []
-  nil [] h = refl
-  nil (x ∷ l) h = absurd (omega arith)
 
 -- the winning node of the least five point
 pub plan-five : {E : Type 0} (rule : RuleKind) (n : ℕ) (b : Grid) (xs : List Point) (x : Point) (u : List Node) (r : Result ℕ E) → xs ≡ five_points rule b (mover b) → 1 ≤ length xs → 0 < n → IfOk r (λ i. StandsFor u i (Leaf (get_or xs 0 x))) → IfOk r (λ i. StandsFor u i (four_plan rule n b))

@@ -1,21 +1,13 @@
 -- Answers to replies in reading order rise.
-use Rattle.std.proofs.Common.{◌≡◌, ℕ, Bool, true, false, cond, refl, ap, List, [], ◌∷◌, map}
+use Rattle.std.proofs.Common.{◌≡◌, ℕ, true, cond, refl, ap, List, [], ◌∷◌, map}
 use Rattle.std.specs.List.{filter}
-use Rattle.game_rules.specs.Grid.{Grid, points_of}
+use Rattle.game_rules.proofs.Common.{Grid, points_of, goes_on}
 use Rattle.game_rules.specs.declared.Outcome.{Outcome}
 use Rattle.game_rules.specs.declared.Outcome.TheVariants.{Refused, Wins, Fouls, Draws, GoesOn}
 use Rattle.game_rules.specs.declared.Point.{Point}
 use Rattle.strategy_graph.specs.Tables.{is_rising}
 use Rattle.strategy_graph.proofs.ReadingOrder.{replies-rising}
 use Rattle.four_search.specs.Plans.{answer_if, answers_for}
-
--- whether the game goes on
-abbrev goes_on : Outcome → Bool
-goes_on Refused = false
-goes_on Wins = false
-goes_on (Fouls f) = false
-goes_on Draws = false
-goes_on GoesOn = true
 
 module _ (o : Point → Outcome) (next : Point → ℕ) where
   answered : (ps : List Point) → map (λ r. r.at) (answers_for o next ps) ≡ filter (λ q. goes_on (o q)) ps

@@ -1,22 +1,21 @@
 -- Where a depth looks at no more positions than the depth before, and neither has a win, no greater depth looks at more or has one.
 use Rattle.std.proofs.Common.{◌≡◌, inl, inr, ℕ, zero, suc, ◌+◌, ◌-◌, ◌*◌, ◌≤◌, ◌<◌, Bool, true, false, cond, refl, sym, ap, subst, ◌∙◌, arith, List, [], ◌∷◌, nat_le}
 use Rattle.std.specs.List.{list_any, sum_by}
-use Rattle.std.proofs.lemmas.Bool.{or_parts, or_from, cases_lt}
+use Rattle.std.proofs.lemmas.Bool.{or_parts, cases_lt}
 use Rattle.std.proofs.lemmas.Bool.Decides.{nat_tests}
-use Rattle.std.proofs.lemmas.List.Sums.{sum_by-cons}
-use Rattle.game_rules.specs.Grid.{Grid, points_of}
-use Rattle.game_rules.specs.Play.{IsPosition, mover, after}
-use Rattle.game_rules.specs.Games.{has_five, starts_win, wins_by_fours}
+use Rattle.game_rules.proofs.Common.{Grid, points_of, IsPosition, mover, after, has_five, starts_win, wins_by_fours}
 use Rattle.game_rules.specs.declared.RuleKind.{RuleKind}
 use Rattle.game_rules.specs.declared.Point.{Point}
-use Rattle.game_rules.proofs.Positions.{IsPosition-after}
+use Rattle.game_rules.proofs.PointLists.{sums-less, sums-same}
+use Rattle.game_rules.proofs.Tests.{le_true, le_false, le_from}
+use Rattle.game_rules.proofs.Games.{five-wins}
 use Rattle.threat_moves.specs.declared.block.BlockAnswer.{BlockAnswer}
 use Rattle.threat_moves.specs.declared.block.BlockAnswer.TheVariants.{Lost, Won, Draw, One}
 use Rattle.threat_moves.specs.Blocks.{fate}
 use Rattle.threat_moves.specs.FourMoves.{is_four_move}
 use Rattle.threat_moves.specs.OneBlock.{block_wins}
-use Rattle.threat_moves.proofs.BlockLaw.{block_decides, five-wins}
-use Rattle.threat_moves.proofs.FourLaws.{four-goes_on, one-goes_on}
+use Rattle.threat_moves.proofs.BlockLaw.{block_decides}
+use Rattle.threat_moves.proofs.Fates.{lawful-one}
 use Rattle.strategy_compiler.specs.declared.wins.WrittenWin.{WrittenWin}
 use Rattle.four_search.specs.declared.search.Found.TheVariants.{NoWin}
 use Rattle.four_search.specs.declared.answer.FourAnswer.{FourAnswer}
@@ -36,35 +35,6 @@ until-all t (p ∷ ps) h =
     let first : t p ≡ false = parts.0 in
     let rest : until t ps ≡ ps = until-all t ps parts.1 in
     rw (first, rest) refl
-
--- no item passes t: then each item adds no more to the sum of f than to that of g
-sums-less : (f g : Point → ℕ) (t : Point → Bool) → ((p : Point) → t p ≡ false → f p ≤ g p) → (ps : List Point) → list_any t ps ≡ false → sum_by f ps ≤ sum_by g ps
-sums-less f g t less [] h = omega arith
-sums-less f g t less (p ∷ ps) h =
-    let parts = or_parts (t p) (list_any t ps) h in
-    let one = less p parts.0 in
-    let rest = sums-less f g t less ps parts.1 in
-    let a = sum_by-cons f p ps in
-    let z = sum_by-cons g p ps in
-    omega (arith, one, rest, a, z)
-
--- and where both sums are the same, so is each item, and what follows of that
-sums-same : (f g k : Point → ℕ) (t u : Point → Bool) → ((p : Point) → t p ≡ false → f p ≤ g p) → ((p : Point) → t p ≡ false → g p ≡ f p → (u p ≡ false) × (k p ≡ f p)) → (ps : List Point) → list_any t ps ≡ false → sum_by g ps ≡ sum_by f ps → (list_any u ps ≡ false) × (sum_by k ps ≡ sum_by f ps)
-sums-same f g k t u less point [] h e = (refl, refl)
-sums-same f g k t u less point (p ∷ ps) h e =
-    let parts = or_parts (t p) (list_any t ps) h in
-    let one = less p parts.0 in
-    let more = sums-less f g t less ps parts.1 in
-    let a = sum_by-cons f p ps in
-    let z = sum_by-cons g p ps in
-    let here : g p ≡ f p = omega (arith, one, more, a, z, e) in
-    let there : sum_by g ps ≡ sum_by f ps = omega (arith, one, more, a, z, e) in
-    let first = point p parts.0 here in
-    let rest = sums-same f g k t u less point ps parts.1 there in
-    let c = sum_by-cons k p ps in
-    let x = first.1 in
-    let y = rest.1 in
-    (or_from (u p) (list_any u ps) first.0 rest.0, omega (arith, a, c, x, y))
 
 -- ---- positions behind a move, by the fate of its four
 
@@ -115,13 +85,6 @@ tree-all rule n b lawful h =
 
 any-none : (rule : RuleKind) (n : ℕ) (b : Grid) → IsPosition rule b → wins_by_fours rule (suc n) b ≡ false → list_any (starts rule n b) (points_of b) ≡ false
 any-none rule n b lawful h = sym (wins-is rule b lawful (no-five rule n b h) n) ∙ h
-
-module _ (rule : RuleKind) (b : Grid) (p : Point) (lawful : IsPosition rule b) (four : is_four_move rule b p ≡ true) where
-  lawful-four : IsPosition rule (after b p)
-  lawful-four = IsPosition-after rule b p lawful (four-goes_on rule b p four)
-
-  lawful-one : (w : Point) → One w ≡ fate rule (after b p) → IsPosition rule (after (after b p) w)
-  lawful-one w e = IsPosition-after rule (after b p) w lawful-four (one-goes_on rule (after b p) w e)
 
 -- ---- more moves look at no fewer positions
 
@@ -233,17 +196,8 @@ short cost rest budget more e h = omega arith
 short_back : (cost rest budget more : ℕ) → cost + rest ≡ budget + more → budget < cost → rest < more
 short_back cost rest budget more e h = omega arith
 
-le-passes : (x y : ℕ) → nat_le x y ≡ true → x ≤ y
-le-passes x y h = grind (arith, nat_tests)
-
-passes-le : (x y : ℕ) → x ≤ y → nat_le x y ≡ true
-passes-le x y h = grind (arith, nat_tests)
-
 le-fails : (x y : ℕ) → nat_le x y ≡ false → y < x
 le-fails x y h = grind (arith, nat_tests)
-
-fails-le : (x y : ℕ) → y < x → nat_le x y ≡ false
-fails-le x y h = grind (arith, nat_tests)
 
 -- ---- the answer where a depth looked at as many positions as the one before
 
@@ -308,16 +262,16 @@ module _ (rule : RuleKind) (b : Grid) (depth budget left d : ℕ) (l : d < depth
         (spent-more rule b depth d) looked-is.0 spent
 
     pub alike-fits : nat_le ((depth - (d + 1)) * (left - rest)) rest ≡ true → four_cost rule depth b ≤ budget
-    alike-fits h = fits _ _ _ _ alike-cost (le-passes _ _ h)
+    alike-fits h = fits _ _ _ _ alike-cost (le_from _ _ h)
 
     pub fits-alike : four_cost rule depth b ≤ budget → nat_le ((depth - (d + 1)) * (left - rest)) rest ≡ true
-    fits-alike h = passes-le _ _ (fits_back _ _ _ _ alike-cost h)
+    fits-alike h = le_true _ _ (fits_back _ _ _ _ alike-cost h)
 
     pub alike-short : nat_le ((depth - (d + 1)) * (left - rest)) rest ≡ false → budget < four_cost rule depth b
     alike-short h = short _ _ _ _ alike-cost (le-fails _ _ h)
 
     pub short-alike : budget < four_cost rule depth b → nat_le ((depth - (d + 1)) * (left - rest)) rest ≡ false
-    short-alike h = fails-le _ _ (short_back _ _ _ _ alike-cost h)
+    short-alike h = le_false _ _ (short_back _ _ _ _ alike-cost h)
 
 -- an answer that is none or spent by a test
 module _ (a : FourAnswer) (t : Bool) (e : a ≡ cond t None Spent) where

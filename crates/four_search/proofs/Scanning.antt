@@ -1,10 +1,7 @@
 -- Each point that makes a five point is a gap from some stone, so the gaps from all stones are enough.
 use Rattle.std.proofs.Common.{◌≡◌, ◌⊎◌, inl, inr, ◌+◌, ◌≤◌, Bool, true, false, ◌||◌, refl, sym, ap, subst, ◌∙◌, List, [], ◌∷◌, map}
 use Rattle.std.specs.List.{filter, list_any}
-use Rattle.game_rules.specs.Grid.{Grid, IsBoard, is_on, is_empty, put, points_of}
-use Rattle.game_rules.specs.Shapes.{is_same_point, stones_ahead, stones_behind, wins_on, five}
-use Rattle.game_rules.specs.Play.{mover}
-use Rattle.game_rules.specs.Games.{has_five}
+use Rattle.game_rules.proofs.Common.{Grid, IsBoard, is_on, is_empty, put, points_of, is_same_point, stones_ahead, stones_behind, wins_on, five, mover, has_five}
 use Rattle.game_rules.specs.declared.RuleKind.{RuleKind}
 use Rattle.game_rules.specs.declared.Side.{Side}
 use Rattle.game_rules.specs.declared.Axis.{Axis}
@@ -16,10 +13,12 @@ use Rattle.game_rules.proofs.Points.{points-found, any_witness, is_same_point-it
 use Rattle.game_rules.proofs.Positions.{IsBoard-put}
 use Rattle.game_rules.proofs.Wins.{wins_on-stones, row_wins-five}
 use Rattle.game_rules.proofs.OneLine.{empty-before}
+use Rattle.game_rules.proofs.Runs.{InRun}
+use Rattle.game_rules.proofs.RunEnds.{stone-in_run}
 use Rattle.four_search.specs.declared.makers.Maker.{Maker}
 use Rattle.four_search.specs.Gaps.{IsStoneGap}
 use Rattle.four_search.specs.Makers.{makes, maker_at, makers_of, has_maker, AreMakers, Joins}
-use Rattle.four_search.proofs.GapRuns.{InRun, in_run, gap-from_runs, stone-in_run}
+use Rattle.four_search.proofs.GapRuns.{in_run, gap-from_runs}
 use Rattle.four_search.proofs.Listing.{makers-all}
 
 -- ---- a gap from some stone

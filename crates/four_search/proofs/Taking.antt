@@ -1,23 +1,21 @@
 -- The points that make a five point, tried one after another: only those that take the defender's five points may help.
 use Rattle.std.proofs.Common.{◌≡◌, ℕ, ◌-◌, ◌<◌, Bool, true, false, ◌&&◌, refl, sym, ap, subst, ◌∙◌, List, map, length, get_or}
 use Rattle.std.specs.List.{filter}
-use Rattle.game_rules.specs.Grid.{Grid, is_empty, points_of}
-use Rattle.game_rules.specs.Play.{IsPosition, mover, other, after}
-use Rattle.game_rules.specs.Games.{has_five, five_points}
+use Rattle.game_rules.proofs.Common.{Grid, is_empty, points_of, IsPosition, mover, other, after, has_five, five_points}
 use Rattle.game_rules.specs.declared.RuleKind.{RuleKind}
 use Rattle.game_rules.specs.declared.Point.{Point}
-use Rattle.game_rules.proofs.Points.{is_same_point-same}
-use Rattle.row_shapes.specs.FivePoints.{in_short}
+use Rattle.row_shapes.specs.FivePoints.{in_short, takes}
 use Rattle.row_shapes.specs.declared.fives.FivePoints.{FivePoints}
 use Rattle.row_shapes.specs.declared.fives.FivePoints.TheVariants.{None as NoPoint, One as OnePoint, Several}
-use Rattle.row_shapes.proofs.FiveLaws.{has_five-none, several-left}
+use Rattle.row_shapes.proofs.FiveLaws.{not_taken-five, taken-none}
 use Rattle.threat_moves.specs.FourMoves.{is_four_move}
+use Rattle.threat_moves.proofs.FourLaws.{taken-no_four, none-no_four}
 use Rattle.four_search.specs.declared.makers.Maker.{Maker}
 use Rattle.four_search.specs.declared.search.Found.TheVariants.{NoWin}
 use Rattle.four_search.specs.Searching.{found_at, found_trying}
-use Rattle.four_search.specs.Makers.{makes, maker_at, makers_of, takes, RulesOut}
-use Rattle.four_search.proofs.Trying.{try_all, trying-no_four, taken-no_four, found-after}
-use Rattle.four_search.proofs.Forcing.{try_all-filter, trying-lost, one-stays, one-gone, none-stays, none-no_four, found-several, found-one, trying-no_five}
+use Rattle.four_search.specs.Makers.{makes, maker_at, makers_of, RulesOut}
+use Rattle.four_search.proofs.Trying.{try_all, trying-no_four, found-after}
+use Rattle.four_search.proofs.Forcing.{try_all-filter, trying-lost, found-several, found-one, trying-no_five}
 use Rattle.four_search.proofs.Listing.{at-told, each-told}
 
 makes-no_four : (rule : RuleKind) (b : Grid) (p : Point) → makes rule b p ≡ false → is_four_move rule b p ≡ false
@@ -48,19 +46,11 @@ module _ (rule : RuleKind) (b : Grid) (lawful : IsPosition rule b) where
   module _ (threat : FivePoints) (told : threat ≡ in_short (five_points rule b (other (mover b)))) (p : Point) where
     -- a point that leaves the defender a five point gives nothing
     pub not_taken : (n left : ℕ) → takes threat p ≡ false → found_trying rule n b p left ≡ NoWin left
-    not_taken n left h = by_threat threat told h where
-      by_threat : (t : FivePoints) → t ≡ in_short (five_points rule b (other (mover b))) → takes t p ≡ false → found_trying rule n b p left ≡ NoWin left
-      by_threat NoPoint e k = cc
-      by_threat (OnePoint w) e k = trying-lost rule n b lawful p left (λ empty. one-stays rule b lawful p empty w (sym e) k)
-      by_threat Several e k = trying-lost rule n b lawful p left (λ empty. several-left rule b (mover b) p lawful.board empty (sym e))
+    not_taken n left h = trying-lost rule n b lawful p left (λ empty. not_taken-five rule b (mover b) p lawful.board empty threat told h)
 
     -- one that takes all leaves none
     pub taken-safe : is_empty b p ≡ true → takes threat p ≡ true → has_five rule (after b p) (other (mover b)) ≡ false
-    taken-safe empty h = by_threat threat told h where
-      by_threat : (t : FivePoints) → t ≡ in_short (five_points rule b (other (mover b))) → takes t p ≡ true → has_five rule (after b p) (other (mover b)) ≡ false
-      by_threat NoPoint e k = none-stays rule b lawful p empty (has_five-none rule b (other (mover b)) (sym e))
-      by_threat (OnePoint w) e k = subst (λ (x : Point). has_five rule (after b x) (other (mover b)) ≡ false) (sym (is_same_point-same p w k)) (one-gone rule b w lawful (sym e))
-      by_threat Several e k = cc
+    taken-safe empty h = taken-none rule b (mover b) p lawful.board empty threat told h
 
   -- where no four can be made nothing is found
   pub ruled-out : (threat : FivePoints) → threat ≡ in_short (five_points rule b (other (mover b))) → (moves budget : ℕ) → has_five rule b (mover b) ≡ false → 0 < moves → 0 < budget → RulesOut rule b threat → NoWin (budget - 1) ≡ found_at rule moves b budget

@@ -1,25 +1,23 @@
 -- The fours of a position, tried one after another.
-use Rattle.std.proofs.Common.{◌≡◌, ℕ, zero, suc, ◌+◌, ◌-◌, ◌≤◌, ◌<◌, Bool, true, false, cond, ◌&&◌, ◌||◌, refl, sym, ap, subst, ◌∙◌, arith, List, [], ◌∷◌, ◌++◌, nat_le}
-use Rattle.std.specs.Prelude.{Option, Some, None}
+use Rattle.std.proofs.Common.{◌≡◌, ℕ, zero, suc, ◌+◌, ◌-◌, ◌≤◌, ◌<◌, Bool, true, false, cond, ◌&&◌, ◌||◌, refl, sym, ap, ◌∙◌, arith, List, [], ◌∷◌, ◌++◌, nat_le}
+use Rattle.std.specs.Prelude.{Option, Some}
 use Rattle.std.specs.List.{list_any, find, sum_by}
 use Rattle.std.proofs.lemmas.Bool.Decides.{nat_tests}
 use Rattle.std.proofs.lemmas.List.Sums.{sum_by-cons}
-use Rattle.game_rules.specs.Grid.{Grid, is_empty, points_of}
-use Rattle.game_rules.specs.Shapes.{five, is_at, is_same_point}
-use Rattle.game_rules.specs.Play.{IsPosition, outcome, mover, after, goes_on_with}
-use Rattle.game_rules.specs.Games.{has_five, wins_or, starts_win, wins_under, wins_by_fours, four_move}
+use Rattle.game_rules.proofs.Common.{Grid, points_of, five, is_at, IsPosition, outcome, mover, after, goes_on_with, has_five, wins_or, starts_win, wins_under, wins_by_fours, four_move}
 use Rattle.game_rules.specs.declared.RuleKind.{RuleKind}
 use Rattle.game_rules.specs.declared.Outcome.{Outcome}
 use Rattle.game_rules.specs.declared.Outcome.TheVariants.{Refused, Wins, Fouls, Draws, GoesOn}
 use Rattle.game_rules.specs.declared.Point.{Point}
-use Rattle.game_rules.proofs.Points.{taken_refused, is_same_point-itself, is_same_point-same}
-use Rattle.game_rules.proofs.Places.{find-passes}
+use Rattle.game_rules.proofs.Points.{is_same_point-itself}
+use Rattle.game_rules.proofs.PointLists.{not_found}
+use Rattle.game_rules.proofs.Games.{five-wins}
 use Rattle.threat_moves.specs.FourMoves.{is_four_move}
 use Rattle.threat_moves.specs.declared.block.BlockAnswer.{BlockAnswer}
 use Rattle.threat_moves.specs.declared.block.BlockAnswer.TheVariants.{Lost, One}
 use Rattle.threat_moves.specs.Blocks.{fate}
 use Rattle.threat_moves.specs.OneBlock.{block_wins}
-use Rattle.threat_moves.proofs.BlockLaw.{block_decides, no-reply-wins, five-wins}
+use Rattle.threat_moves.proofs.BlockLaw.{block_decides, no-reply-wins}
 use Rattle.four_search.specs.declared.search.Found.{Found}
 use Rattle.four_search.specs.declared.search.Found.TheVariants.{Win, NoWin, Spent}
 use Rattle.four_search.specs.FourGame.{until, tried, if_one, behind_move, four_tree}
@@ -34,10 +32,6 @@ trying-no_four rule n b p left h = ap (λ r. cond r (found_behind rule n b p lef
 -- a four move gives what is behind it
 pub trying-four : (rule : RuleKind) (n : ℕ) (b : Grid) (p : Point) (left : ℕ) → is_four_move rule b p ≡ true → found_trying rule n b p left ≡ found_behind rule n b p left
 trying-four rule n b p left h = ap (λ r. cond r (found_behind rule n b p left) (NoWin left)) h
-
-pub taken-no_four : (rule : RuleKind) (b : Grid) (p : Point) → is_empty b p ≡ false → is_four_move rule b p ≡ false
-unfolding is_four_move
-taken-no_four rule b p h = ap (λ o. goes_on_with o (has_five rule (after b p) (mover b))) (taken_refused rule b p h)
 
 -- what is found next, with the budget that is left
 abbrev pub found_next : Found → (ℕ → Found) → Found
@@ -165,17 +159,6 @@ module _ (rule : RuleKind) (n : ℕ) (b : Grid) (lawful : IsPosition rule b) (no
       ∙ step_by left p ps (test p)
 
 -- ---- the chosen move
-
-not_found : (f : Point → Bool) (ps : List Point) (p : Point) → f p ≡ false → is_at p (find f ps) ≡ false
-not_found f ps p h = by_find (find f ps) refl where
-  by_find : (o : Option Point) → find f ps ≡ o → is_at p o ≡ false
-  by_find None e = refl
-  by_find (Some q) e = by_test (is_same_point p q) refl where
-    by_test : (r : Bool) → is_same_point p q ≡ r → r ≡ false
-    by_test false k = refl
-    by_test true k =
-        let yes : f p ≡ true = ap f (is_same_point-same p q k) ∙ find-passes f ps q e in
-        let bad : false ≡ true = sym h ∙ yes in cc
 
 -- up to the first that passes
 until-find : (f : Point → Bool) (ps : List Point) → until (λ p. is_at p (find f ps)) ps ≡ until f ps

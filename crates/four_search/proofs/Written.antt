@@ -1,37 +1,33 @@
 -- A node that stands for the plan of a win by fours is accepted, and its depth is at most the moves of the plan; within that
 -- depth there is a win by fours.
-use Rattle.std.proofs.Common.{◌≡◌, ◌⊎◌, inl, inr, ℕ, zero, suc, ◌+◌, ◌*◌, ◌≤◌, ◌<◌, Bool, true, false, ◌&&◌, refl, sym, ap, subst, ◌∙◌, arith, List, [], map, length}
+use Rattle.std.proofs.Common.{◌≡◌, ◌⊎◌, inl, inr, ℕ, zero, suc, ◌+◌, ◌*◌, ◌≤◌, ◌<◌, Bool, true, false, ◌&&◌, refl, sym, ap, subst, ◌∙◌, arith, List, map, length}
 use Rattle.std.specs.Prelude.{Option, Some, None, slice_get}
 use Rattle.std.specs.List.{list_all, sum_by}
 use Rattle.std.proofs.lemmas.Bool.{cases_lt}
-use Rattle.game_rules.specs.Grid.{Grid, IsBoard, is_on, is_empty, is_empty_cell, cell_at, points_of}
-use Rattle.game_rules.specs.Shapes.{five, is_same_point}
-use Rattle.game_rules.specs.Play.{IsPosition, outcome, mover, after, goes_on_with}
-use Rattle.game_rules.specs.Games.{LosesOr, has_five, wins_or, loses_or, starts_win, wins_under, WinsByFours, wins_by_fours, four_move, if_goes_on}
+use Rattle.game_rules.proofs.Common.{Grid, IsBoard, is_on, is_empty, is_empty_cell, cell_at, points_of, five, is_same_point, IsPosition, outcome, mover, after, goes_on_with, LosesOr, has_five, wins_or, loses_or, starts_win, wins_under, WinsByFours, wins_by_fours, four_move, if_goes_on}
 use Rattle.game_rules.specs.declared.RuleKind.{RuleKind}
 use Rattle.game_rules.specs.declared.Outcome.{Outcome}
 use Rattle.game_rules.specs.declared.Outcome.TheVariants.{Refused, Wins as WinsNow, Fouls, Draws, GoesOn}
 use Rattle.game_rules.specs.declared.Point.{Point}
 use Rattle.game_rules.proofs.Boards.{is_empty-on, cell_at-put_same, stone_of-taken}
 use Rattle.game_rules.proofs.Points.{points-found, all_of, taken_refused, is_same_point-itself}
-use Rattle.game_rules.proofs.Games.{each_reply, LosesOr-loses_or, test-WinsUnder, WinsUnder-test}
-use Rattle.game_rules.proofs.Positions.{IsPosition-after, GoesOn-on, GoesOn-empty}
+use Rattle.game_rules.proofs.Games.{each_reply, LosesOr-loses_or, test-WinsUnder, WinsUnder-test, wins-some, five-wins}
+use Rattle.game_rules.proofs.Positions.{IsPosition-after, GoesOn-on, GoesOn-empty, points-many}
 use Rattle.game_rules.proofs.Outcomes.{five-outcome}
 use Rattle.game_rules.proofs.Places.{points_length, find-passes}
+use Rattle.game_rules.proofs.PointLists.{any-find, sum-ones-but}
+use Rattle.game_rules.proofs.ReadingOrder.{sum-once}
 use Rattle.strategy_graph.specs.declared.Node.{Node}
-use Rattle.strategy_graph.specs.declared.Reply.{Reply}
-use Rattle.strategy_graph.specs.declared.Rest.{Rest}
-use Rattle.strategy_graph.specs.declared.Rest.TheVariants.{Wins, To, Nothing}
-use Rattle.strategy_graph.specs.Tables.{answers_of, answer, is_winning, IsTable, NamesLower, depth, node_depth, named, greatest}
+use Rattle.strategy_graph.specs.Tables.{answers_of, answer, is_winning, IsTable, depth, node_depth, named, greatest}
 use Rattle.strategy_graph.specs.Acceptance.{Answered, Meets, Accepted}
 use Rattle.strategy_graph.specs.Arrivals.{if_answered, arrivals_at, arrivals}
-use Rattle.strategy_graph.specs.Leads.{AtNode}
 use Rattle.strategy_graph.proofs.Answering.{Answered-map, answer-greatest}
 use Rattle.strategy_graph.proofs.Fuel.{depth-step}
 use Rattle.strategy_graph.proofs.Steps.{accepted-by-replies, arrivals-by-replies, arrivals-winning}
-use Rattle.strategy_compiler.specs.Trees.{Tree, Branches, Leaf, Fork, NoBranch, Branch, StandsFor, StandsForAll, AnswersBriefly, replies_of}
-use Rattle.threat_moves.proofs.BlockLaw.{five-wins, block_decides, others_leave_five}
-use Rattle.strategy_compiler.specs.Nodes.{winning_node}
+use Rattle.strategy_graph.proofs.Greatest.{greatest-each}
+use Rattle.strategy_graph.proofs.Filling.{IsTable-lower}
+use Rattle.strategy_compiler.specs.Trees.{Tree, Branches, Leaf, Fork, StandsFor, StandsForAll, AnswersBriefly, replies_of}
+use Rattle.threat_moves.proofs.BlockLaw.{block_decides, others_leave_five}
 use Rattle.threat_moves.proofs.FourLaws.{one-goes_on}
 use Rattle.threat_moves.specs.declared.block.BlockAnswer.{BlockAnswer}
 use Rattle.threat_moves.specs.declared.block.BlockAnswer.TheVariants.{Lost, Won, Draw, One}
@@ -42,53 +38,18 @@ use Rattle.strategy_compiler.specs.Wins.{StaysOnBoard}
 use Rattle.four_search.specs.Answers.{IsFourWin}
 use Rattle.four_search.specs.Plans.{branches_for, four_plan}
 use Rattle.four_search.proofs.Trying.{move-is, wins-is}
-use Rattle.four_search.proofs.Planning.{any-find, plan-leaf, plan-fork, plan-goes_on, wins-some}
+use Rattle.four_search.proofs.Planning.{plan-leaf, plan-fork, plan-goes_on}
 use Rattle.four_search.proofs.Naming.{answers-each, answer-at, listed-on}
-use Rattle.four_search.proofs.Sums.{sum-ones-but, sum-once}
-use Rattle.strategy_compiler.proofs.Forks.{briefly-named, greatest-each, leaf-wins, stays-before, stays-by}
+use Rattle.strategy_compiler.proofs.Forks.{briefly-named, leaf-wins, stays-before, stays-by}
+use Rattle.strategy_compiler.proofs.Standing.{IsWritten, winning-is, leaf_node, fork_node, forks_not_winning}
 use Rattle.four_search.proofs.Deepening.{NoWinUpTo, wins-more, least-win}
 
--- what is known of a node that stands for the plan of a win within n moves
-pub record IsWritten (rule : RuleKind) (t : List Node) (i n : ℕ) (b : Grid) : Type 0 where
-  pub accepted : Accepted rule t i b
-  pub deep : depth t i ≤ n
-  pub wins : wins_by_fours rule (depth t i) b ≡ true
-  pub on_board : StaysOnBoard b t i
-  pub short : arrivals rule t i b ≤ b.width * b.height * n
-
-at_node : (o : Option Node) (P : Node → Type 0) → AtNode o P → (n : Node) × (o ≡ Some n) × P n
-at_node None P h = absurd h
-at_node (Some n) P h = (n, refl, h)
-
-lower_of : (t : List Node) → IsTable t → NamesLower t
-lower_of t table = record { lower = λ i n at. (table.nodes i n at).below }
-
--- a board has a point for each move
-points-many : (rule : RuleKind) (b : Grid) → IsPosition rule b → (m : ℕ) → 1 ≤ b.width * b.height * suc m
-points-many rule b lawful m =
-    let w = lawful.board.wide in
-    let h = lawful.board.high in
-    let one : 1 ≤ b.width * b.height = grind arith in
-    let more : b.width * b.height * suc m ≡ b.width * b.height + b.width * b.height * m = omega arith in
-    omega (arith, one, more)
-
 -- ---- a winning node
-
-winning-is : (t : List Node) (i : ℕ) (n : Node) (x : Point) → IsTable t → slice_get t i ≡ Some n → n.attack ≡ x → is_winning n.rest ≡ true
-    → n ≡ winning_node x
-winning-is t i n x table at plays win =
-    let none = (table.nodes i n at).winning win in
-    let rest = by_rest n.rest win in
-    λ k. record { attack = plays k; replies = none k; rest = rest k } where
-      by_rest : (r : Rest) → is_winning r ≡ true → r ≡ Wins
-      by_rest Wins h = refl
-      by_rest (To j) h = cc
-      by_rest Nothing h = cc
 
 module _ (rule : RuleKind) (t : List Node) (table : IsTable t) (i : ℕ) (b : Grid) (lawful : IsPosition rule b) (x : Point) (h : five rule b (mover b) x ≡ true) (some : has_five rule b (mover b) ≡ true) (n : Node) (at : slice_get t i ≡ Some n) (plays : n.attack ≡ x) (win : is_winning n.rest ≡ true) where
   leaf-written : (m : ℕ) → IsWritten rule t i (suc m) b
   leaf-written m =
-      let won = leaf-wins t (lower_of t table) i x (at ∙ ap Some (winning-is t i n x table at plays win)) rule b
+      let won = leaf-wins t (IsTable-lower t table) i x (at ∙ ap Some (winning-is t i n x table at plays win)) rule b
       (five-outcome rule b x h) in
       let deep = won.deep in
       record {
@@ -96,7 +57,7 @@ module _ (rule : RuleKind) (t : List Node) (table : IsTable t) (i : ℕ) (b : Gr
         deep = omega (arith, deep);
         wins = ap (λ (k : ℕ). wins_by_fours rule k b) won.deep ∙ five-wins rule b 0 some;
         on_board = won.on_board;
-        short = let one = arrivals-winning rule t (lower_of t table) i b n at win in let many = points-many rule b lawful m in omega
+        short = let one = arrivals-winning rule t (IsTable-lower t table) i b n at win in let many = points-many rule b lawful m in omega
             (arith, one, many);
       }
 
@@ -106,34 +67,6 @@ taken_after : (b : Grid) (p : Point) → IsBoard b → is_empty b p ≡ true →
 taken_after b p ok empty =
     let here : is_on b p ≡ true = is_empty-on b p empty in
     ap (λ r. r && is_empty_cell (cell_at (after b p) p)) here ∙ ap is_empty_cell (cell_at-put_same b (mover b) p ok here) ∙ stone_of-taken (mover b)
-
-leaf_node : (t : List Node) (i : ℕ) (x : Point) → StandsFor t i (Leaf x) → (n : Node) × (slice_get t i ≡ Some n) × ((n.attack ≡ x) × (is_winning n.rest ≡ true))
-unfolding StandsFor
-leaf_node t i x h = at_node (slice_get t i) (λ n. (n.attack ≡ x) × (is_winning n.rest ≡ true)) h
-
-fork_node : (t : List Node) (i : ℕ) (x : Point) (bs : Branches) → StandsFor t i (Fork x bs) → (n : Node) × (slice_get t i ≡ Some n) × ((n.attack ≡ x) × AnswersBriefly (answers_of n) (replies_of bs) × StandsForAll t (answers_of n) bs)
-unfolding StandsFor
-fork_node t i x bs h = at_node (slice_get t i) (λ n. (n.attack ≡ x) × AnswersBriefly (answers_of n) (replies_of bs) × StandsForAll t (answers_of n) bs) h
-
-nothing_not_winning : (r : Rest) → r ≡ Nothing → is_winning r ≡ true → ⊥
-nothing_not_winning Wins e h = cc
-nothing_not_winning (To j) e h = cc
-nothing_not_winning Nothing e h = cc
-
-winning_no_answer : (n : Node) (q : Point) (r : Rest) → is_winning r ≡ true → n.replies ≡ [] → answer (record { replies = n.replies; rest = r }) q ≡ None
-winning_no_answer n q Wins h e = ap (λ (rs : List Reply). answer (record { replies = rs; rest = Wins }) q) e
-winning_no_answer n q (To j) h e = cc
-winning_no_answer n q Nothing h e = cc
-
-not_winning_by : (o : Option ℕ) (P : ℕ → Type 0) → o ≡ None → Answered o P → ⊥
-not_winning_by None P e h = h
-not_winning_by (Some j) P e h = cc
-
-forks_not_winning : (t : List Node) (i : ℕ) (n : Node) → IsTable t → slice_get t i ≡ Some n → (bs : Branches) → AnswersBriefly (answers_of n) (replies_of bs) → StandsForAll t (answers_of n) bs → is_winning n.rest ≡ true → ⊥
-unfolding StandsFor
-forks_not_winning t i n table at NoBranch brief stands win = nothing_not_winning n.rest brief.0 win
-forks_not_winning t i n table at (Branch q s bs) brief stands win =
-    not_winning_by (answer (answers_of n) q) (λ j. StandsFor t j s) (winning_no_answer n q n.rest win ((table.nodes i n at).winning win)) stands.0
 
 module _ (rule : RuleKind) (t : List Node) (table : IsTable t) (i m : ℕ) (b : Grid) (p : Point) (lawful : IsPosition rule b) (on : outcome rule b p ≡ GoesOn) (starts : starts_win (has_five rule) rule b (wins_by_fours rule m) p ≡ true) (n : Node) (at : slice_get t i ≡ Some n) (plays : n.attack ≡ p)
     (brief : AnswersBriefly (answers_of n) (replies_of (branches_for (outcome rule (after b p)) (λ q. four_plan rule m (after (after b p) q)) (points_of b))))
@@ -183,13 +116,13 @@ module _ (rule : RuleKind) (t : List Node) (table : IsTable t) (i m : ℕ) (b : 
     by_test true e = absurd (forks_not_winning t i n table at (branches_for (outcome rule (after b p)) (λ q. four_plan rule m (after (after b p) q)) (points_of b)) brief stands e)
 
   written_accepted : Accepted rule t i b
-  written_accepted = accepted-by-replies rule t (lower_of t table) i b n at (ap (outcome rule b) plays ∙ on) no_win (λ q.
+  written_accepted = accepted-by-replies rule t (IsTable-lower t table) i b n at (ap (outcome rule b) plays ∙ on) no_win (λ q.
       subst (λ (x : Point). Meets rule (answers_of n) (Accepted rule t) (after b x) q) (sym plays)
       (by_loses q (Answered (answer (answers_of n) q) (λ j. Accepted rule t j (after (after b p) q)))
       (λ go. Answered-map (answer (answers_of n) q) (λ j. StandsFor t j (four_plan rule m (after (after b p) q))) (λ j. Accepted rule t j (after (after b p) q)) (λ j e s. (next_written q j go s).accepted) (answered q go))))
 
   written_depth : depth t i ≡ suc (greatest (map (depth t) (named (answers_of n))))
-  written_depth = depth-step t (lower_of t table) i ∙ ap (λ (o : Option Node). node_depth o (depth t)) at
+  written_depth = depth-step t (IsTable-lower t table) i ∙ ap (λ (o : Option Node). node_depth o (depth t)) at
 
   written_deep : depth t i ≤ suc m
   written_deep =
@@ -265,12 +198,12 @@ module _ (rule : RuleKind) (t : List Node) (table : IsTable t) (i m : ℕ) (b : 
       let x = any-find (five rule (after (after b p) q) (mover (after (after b p) q))) (points_of (after (after b p) q)) (leaves go) in
       let leaf : StandsFor t j (Leaf x.0) = subst (λ (s : Tree). StandsFor t j s) (plan-leaf rule m (after (after b p) q) x.0 x.1 (wins-some rule m (after (after b p) q) (won q go))) s in
       let node = leaf_node t j x.0 leaf in
-      let one = arrivals-winning rule t (lower_of t table) j (after (after b p) q) node.0 node.1 node.2.1 in
+      let one = arrivals-winning rule t (IsTable-lower t table) j (after (after b p) q) node.0 node.1 node.2.1 in
       omega (arith, one))
 
   total : arrivals rule t i b ≡ suc (sum_by count (points_of b))
   unfolding count
-  total = arrivals-by-replies rule t (lower_of t table) i b n at (ap (outcome rule b) plays ∙ on) no_win ∙ ap (λ (x : Point). suc (sum_by (arrivals_at rule (answers_of n) (arrivals rule t) (after b x)) (points_of b))) plays
+  total = arrivals-by-replies rule t (IsTable-lower t table) i b n at (ap (outcome rule b) plays ∙ on) no_win ∙ ap (λ (x : Point). suc (sum_by (arrivals_at rule (answers_of n) (arrivals rule t) (after b x)) (points_of b))) plays
 
   size_grows : b.width * b.height * suc m ≡ b.width * b.height + b.width * b.height * m
   size_grows = omega arith
@@ -379,10 +312,3 @@ four-win rule b limit d l none lawful wins t table i within stands =
       by_order : (d < depth t i) ⊎ (depth t i ≤ d) → depth t i ≤ d + 1 → wins_by_fours rule (depth t i) b ≡ true → depth t i ≡ d + 1
       by_order (inl more) high won = omega arith
       by_order (inr less) high won = absurd (lost (depth t i) less won)
-
--- where the test finds no win there is none
-pub no-win : (rule : RuleKind) (n : ℕ) (b : Grid) → wins_by_fours rule n b ≡ false → WinsByFours rule n b → ⊥
-no-win rule n b none win =
-    let found = WinsUnder-test (has_five rule) rule n b win in
-    let bad : false ≡ true = sym none ∙ found in
-    cc

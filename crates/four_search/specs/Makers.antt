@@ -86,12 +86,6 @@ pub record WasMaker (rule : RuleKind) (p w : Point) (b : Grid) (m : Maker) : Typ
   pub made : makes rule first m.at ≡ true
   pub told : m ≡ maker_at rule first m.at
 
--- whether a stone on the point takes all of these five points of the other side
-abbrev pub takes : FivePoints → Point → Bool
-takes None p = true
-takes (One w) p = is_same_point p w
-takes Several p = false
-
 -- with these five points of the other side no stone takes all of them and makes a five point
 abbrev pub RulesOut : RuleKind → Grid → FivePoints → Type 0
 RulesOut rule b None = ⊥

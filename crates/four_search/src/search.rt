@@ -15,16 +15,16 @@ ghost use Rattle.threat_moves.specs.FourMoves.{is_four_move};
 ghost use Rattle.threat_moves.specs.OneBlock.{all_foul as all_foul_lem, won_within as won_within_lem};
 ghost use Rattle.threat_moves.specs.Blocks.{fate as fate_lem};
 ghost use Rattle.row_shapes.specs.FivePoints.{in_short};
-ghost use Rattle.four_search.specs.Makers.{makers_of, takes as takes_lem, AfterFour, AfterReply, RulesOut};
+ghost use Rattle.four_search.specs.Makers.{makers_of, AfterFour, AfterReply, RulesOut};
 ghost use Rattle.four_search.specs.Remembering.{IsTrueMemo};
 ghost use Rattle.four_search.specs.Roots.{TellsRoot};
 ghost use Rattle.four_search.specs.Searching.{found_at, found_trying, found_behind, found_answering};
 
-use crate::makers::{Maker, is_same, next_makers};
+use crate::makers::{Maker, next_makers};
 use crate::memo::Memo;
 use crate::root::Root;
 use foul_judge::{Outcome, Seen};
-use row_shapes::Rule;
+use row_shapes::{Rule, takes};
 use std::alloc::{AllocError, Global};
 use stone_board::{Point, Points, Side};
 use threat_moves::{BlockAnswer, FivePoints, by_block};
@@ -209,17 +209,6 @@ fn try_makers<R: Rule, V: Seen<R>>(
         }
     }
     Ok(Found::NoWin { left })
-}
-
-/// Whether a stone on the point takes all of these five points of the other side.
-fn takes(threat: FivePoints, p: Point) -> bool
-    ensures takes { result ≡ takes_lem threat p }
-{
-    match threat {
-        FivePoints::None => true,
-        FivePoints::One(point) => is_same(p, point),
-        FivePoints::Several => false,
-    }
 }
 
 /// Searches behind the move `p`, if it is a four move, where the attacker has so many moves after it. It makes these five

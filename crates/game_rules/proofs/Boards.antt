@@ -1,21 +1,21 @@
 -- Stones that are put and lifted.
-use Rattle.std.proofs.Common.{◌≡◌, ◌≢◌, ◌⊎◌, inl, inr, ℕ, zero, suc, ◌+◌, ◌-◌, ◌*◌, ◌≤◌, ◌<◌, Bool, true, false, cond, ◌&&◌, refl, sym, ap, arith, List, [], ◌∷◌, set, get_or, length, nat_lt, nat_le, nat_eq, get_or-set_other, get_or-set_same}
+use Rattle.std.proofs.Common.{◌≡◌, ◌≢◌, ◌⊎◌, inl, inr, ℕ, zero, suc, ◌+◌, ◌-◌, ◌*◌, ◌≤◌, ◌<◌, Bool, true, false, cond, ◌&&◌, refl, sym, ap, arith, List, [], ◌∷◌, set, get_or, length, nat_lt, nat_le, nat_eq, get_or-set_other, get_or-set_same, ◌∙◌}
 use Rattle.std.specs.List.{prefix_len, range_with_len}
 use Rattle.std.specs.Prelude.{Option, Some, None}
-use Rattle.std.proofs.lemmas.Nat.{same_from_place}
+use Rattle.std.proofs.lemmas.Nat.{same_from_place, mul-le}
 use Rattle.std.proofs.lemmas.List.Sums.{sum_by-set}
 use Rattle.std.proofs.lemmas.Grind.{rows}
-use Rattle.game_rules.specs.Grid.{Grid, IsBoard, is_on, is_empty, is_empty_cell, is_stone_of, stone_of, holds, cell_at, place_of, put, lift, empties_of, along, shift, point_of}
-use Rattle.game_rules.specs.Shapes.{stone_at, stones_ahead, stones_behind, run_of, line_bound}
-use Rattle.game_rules.specs.Play.{other}
+use Rattle.game_rules.proofs.Common.{Grid, IsBoard, is_on, is_empty, is_empty_cell, is_stone_of, stone_of, holds, cell_at, place_of, put, lift, empties_of, along, shift, point_of, stone_at, stones_ahead, stones_behind, run_of, line_bound, other}
 use Rattle.game_rules.specs.declared.Side.{Side}
-use Rattle.game_rules.specs.declared.Side.TheVariants.{Black, White}
 use Rattle.game_rules.specs.declared.Cell.{Cell}
-use Rattle.game_rules.specs.declared.Cell.TheVariants.{Empty, Black as BlackStone, White as WhiteStone}
 use Rattle.game_rules.specs.declared.Axis.{Axis}
-use Rattle.game_rules.specs.declared.Axis.TheVariants.{Row, Column, Down, Up}
 use Rattle.game_rules.specs.declared.Point.{Point}
+use Rattle.game_rules.specs.declared.Side.TheVariants.{Black, White}
+use Rattle.game_rules.specs.declared.Cell.TheVariants.{Empty, Black as BlackStone, White as WhiteStone}
+use Rattle.game_rules.specs.declared.Axis.TheVariants.{Row, Column, Down, Up}
 use Rattle.std.proofs.lemmas.Bool.Decides.{nat_tests}
+use Rattle.std.proofs.Math.Nat.{mul_comm}
+use Rattle.std.proofs.lemmas.List.{set_comm}
 use borrow.Author.Tests.{ltb-true, leb-true}
 
 set_back : (l : List Cell) (i : ℕ) (y : Cell) → get_or l i Empty ≡ Empty → set (set l i y) i Empty ≡ l
@@ -70,7 +70,7 @@ pub on_y : (b : Grid) (p : Point) → is_on b p ≡ true → p.y < b.height
 on_y b p h = ltb-true _ _ (and_right (nat_lt p.x b.width) _ h)
 
 -- points of the board that are not one have different places
-places_differ : (b : Grid) (p q : Point) → is_on b p ≡ true → is_on b q ≡ true → Apart p q → place_of b q ≢ place_of b p
+pub places_differ : (b : Grid) (p q : Point) → is_on b p ≡ true → is_on b q ≡ true → Apart p q → place_of b q ≢ place_of b p
 places_differ b p q onp onq d e =
     let same = same_from_place q.y q.x p.y p.x b.width (on_x b q onq) (on_x b p onp) e in
     d.apart (sym same.1) (sym same.0)
@@ -206,3 +206,52 @@ empties_of-put b s p ok h =
     let all = sum_by-set count b.cells (place_of b p) (stone_of s) Empty (place_fits b p ok (is_empty-on b p h)) in
     let here : count (stone_of s) ≡ 0 = ap (λ r. cond r 1 0) (stone_of-taken s) in
     omega (arith, all, one, here)
+
+-- a point that is kept is the point, and on the board
+pub kept_by : (b : Grid) (p q : Point) (r : Bool) → is_on b p ≡ r → cond r (Some p) None ≡ Some q → (p ≡ q) × (is_on b p ≡ true)
+kept_by b p q true e h = (let same : Some p ≡ Some q = h in cc, e)
+kept_by b p q false e h = cc
+
+-- what was answered of a board is so of another that is the same
+pub answer_at : (f : Grid → Bool) (b c : Grid) (r v : Bool) → r ≡ f b → b ≡ c → r ≡ v → f c ≡ v
+answer_at f b c r v e same h = sym (ap f same) ∙ sym e ∙ h
+
+-- the cells of a board are at most 1,024
+pub cells_fit : (b : Grid) → IsBoard b → length b.cells ≤ 1024
+cells_fit b ok =
+    let most : b.width * b.height ≤ 32 * 32 = mul-le b.width b.height 32 32 ok.width_fits ok.height_fits in
+    rw ok.filled most
+
+pub grid_eq : (a b : Grid) → a.width ≡ b.width → a.height ≡ b.height → a.cells ≡ b.cells → a ≡ b
+grid_eq a b w h c = λ i. record { width = w i; height = h i; cells = c i }
+
+-- a point below the board has its place past the last cell
+pub place-below : (b : Grid) (p : Point) → IsBoard b → b.height ≤ p.y → length b.cells ≤ place_of b p
+place-below b p ok below =
+    let rows : b.width * b.height ≤ b.width * p.y = mul-le b.width b.height b.width p.y (omega arith) below in
+    let turned : b.width * p.y ≡ p.y * b.width = mul_comm b.width p.y in
+    rw ok.filled (omega arith)
+
+pub kept_empty_by : (b : Grid) (r q : Point) (t : Bool) → is_empty b r ≡ t → cond t (Some r) None ≡ Some q → (r ≡ q) × (is_empty b r ≡ true)
+kept_empty_by b r q true e h = (let same : Some r ≡ Some q = h in cc, e)
+kept_empty_by b r q false e h = cc
+
+-- a stone of either side on an empty point takes no stone away
+pub stone_kept : (b : Grid) (s t : Side) (g q : Point) → holds b s g ≡ true → is_empty b q ≡ true → holds (put b t q) s g ≡ true
+stone_kept b s t g q mine empty = elim (same_or_apart q g) [
+  | inl same ↦ absurd (
+      let none : holds b s g ≡ false = ap (holds b s) (sym same) ∙ empty_holds b s q empty in
+      let differ : true ≡ false = sym mine ∙ none in
+      cc)
+  | inr apart ↦ holds-put_other b t s q g (is_empty-on b q empty) apart ∙ mine
+]
+
+places_apart : (b : Grid) (p q : Point) → is_on b p ≡ true → is_on b q ≡ true → Apart p q → place_of b p ≢ place_of b q
+places_apart b p q onp onq d e =
+    let same = same_from_place p.y p.x q.y q.x b.width (on_x b p onp) (on_x b q onq) e in
+    d.apart same.1 same.0
+
+-- two stones on different points may be put in either order
+pub put_comm : (b : Grid) (s t : Side) (p q : Point) → is_on b p ≡ true → is_on b q ≡ true → Apart p q → put (put b s p) t q ≡ put (put b t q) s p
+put_comm b s t p q onp onq d =
+    ap (λ (l : List Cell). let r : Grid = record b { cells = l } in r) (set_comm b.cells (place_of b p) (place_of b q) (stone_of s) (stone_of t) (places_apart b p q onp onq d))

@@ -1,17 +1,19 @@
 -- Laws of won games: a stronger demand is a stronger win, more moves are no harder, and the test and the fact agree.
-use Rattle.std.proofs.Common.{◌≡◌, ℕ, zero, suc, ◌≤◌, Bool, true, false, refl, sym, subst, arith}
-use Rattle.std.specs.List.{list_any, list_all}
+use Rattle.std.proofs.Common.{◌≡◌, ℕ, zero, suc, ◌≤◌, Bool, true, false, refl, sym, subst, arith, cond, ◌∙◌, ◌<◌, ◌≢◌, ◌&&◌}
+use Rattle.std.specs.List.{list_any, list_all, find}
 use Rattle.std.proofs.lemmas.Bool.{or_left}
-use Rattle.game_rules.specs.Grid.{Grid, is_on, points_of}
-use Rattle.game_rules.specs.Play.{outcome, mover, after}
-use Rattle.game_rules.specs.Games.{WinsOr, LosesOr, WinsUnder, WinsWithin, WinsByFours, WinsByThreats, has_five, has_threat, wins_or, loses_or, starts_win, wins_under, is_double_point}
+use Rattle.std.specs.Prelude.{Some}
+use Rattle.game_rules.proofs.Common.{Grid, is_on, points_of, outcome, mover, after, WinsOr, LosesOr, WinsUnder, WinsWithin, WinsByFours, WinsByThreats, has_five, has_threat, wins_or, loses_or, starts_win, wins_under, is_double_point, wins_by_fours, four_move, five}
 use Rattle.game_rules.specs.declared.RuleKind.{RuleKind}
 use Rattle.game_rules.specs.declared.Side.{Side}
 use Rattle.game_rules.specs.declared.Outcome.{Outcome}
-use Rattle.game_rules.specs.declared.Outcome.TheVariants.{Refused, Wins, Fouls, Draws, GoesOn}
 use Rattle.game_rules.specs.declared.Point.{Point}
-use Rattle.game_rules.proofs.Boards.{and_left, and_right}
+use Rattle.game_rules.specs.declared.Outcome.TheVariants.{Refused, Wins, Fouls, Draws, GoesOn, Wins as WinsNow}
+use Rattle.game_rules.proofs.Boards.{and_left, and_right, is_empty-on}
 use Rattle.game_rules.proofs.Points.{points-found, any_witness, all_of, all_at, off_refused, WinsOr-on}
+use Rattle.game_rules.proofs.Outcomes.{five-outcome, outcome-five}
+use Rattle.game_rules.proofs.Places.{find-passes}
+use Rattle.game_rules.proofs.Fives.{five-empty}
 
 -- ---- one step, whatever the outcome
 
@@ -119,3 +121,88 @@ WinsUnder-test demand rule (suc n) b h =
     points-found b (starts_win demand rule b (wins_under demand rule n)) h.0 (WinsOr-on rule b h.0 _ h.1)
     (WinsOr-wins_or (outcome rule b h.0) _ _ (λ w. rw (w.0) (all_of _ (points_of b) (λ q.
     LosesOr-loses_or (outcome rule (after b h.0) q) _ _ (WinsUnder-test demand rule n (after (after b h.0) q)) (w.1 q)))) h.1)
+
+pub WinsWithin-more : (rule : RuleKind) (n m : ℕ) (b : Grid) → n ≤ m → WinsWithin rule n b → WinsWithin rule m b
+WinsWithin-more rule n m b l h = WinsUnder-more (λ c s. true) rule n m b l h
+
+pub five-starts : (rule : RuleKind) (b : Grid) (next : Grid → Bool) (p : Point) → five rule b (mover b) p ≡ true → starts_win (has_five rule) rule b next p ≡ true
+five-starts rule b next p h = let wins : outcome rule b p ≡ Wins = five-outcome rule b p h in rw wins refl
+
+pub none_in_zero : (rule : RuleKind) (b : Grid) → wins_by_fours rule zero b ≡ false
+unfolding wins_under
+none_in_zero rule b = refl
+
+pub no_move : (rule : RuleKind) (b : Grid) (p : Point) → four_move rule zero b ≡ Some p → ⊥
+unfolding four_move
+no_move rule b p h = cc
+
+-- where it goes on there is no five point
+pub goes_on-no_five : (rule : RuleKind) (n : ℕ) (b : Grid) (p : Point) → four_move rule n b ≡ Some p → outcome rule b p ≡ GoesOn → has_five rule b (mover b) ≡ false
+unfolding four_move
+goes_on-no_five rule zero b p chosen go = cc
+goes_on-no_five rule (suc n) b p chosen go = by_five (has_five rule b (mover b)) chosen where
+  by_five : (r : Bool) → cond r (find (five rule b (mover b)) (points_of b)) (find (starts_win (has_five rule) rule b (wins_by_fours rule n)) (points_of b)) ≡ Some p → r ≡ false
+  by_five true h =
+      let wins : outcome rule b p ≡ WinsNow = five-outcome rule b p (find-passes (five rule b (mover b)) (points_of b) p h) in
+      let bad : WinsNow ≡ GoesOn = sym wins ∙ go in cc
+  by_five false h = refl
+
+pub wins-some : (rule : RuleKind) (n : ℕ) (b : Grid) → wins_by_fours rule n b ≡ true → 0 < n
+unfolding wins_under
+wins-some rule zero b h = cc
+wins-some rule (suc n) b h = omega arith
+
+pub five-threats : (rule : RuleKind) (b : Grid) (w : Point) (n : ℕ) → five rule b (mover b) w ≡ true → 1 ≤ n → WinsByThreats rule n b
+five-threats rule b w zero h l = absurd (omega arith)
+five-threats rule b w (suc n) h l = (
+  w,
+  subst (λ (o : Outcome). WinsOr o ((has_threat rule (after b w) (mover b) ≡ true) × ((q : Point) → LosesOr (outcome rule (after b w) q) (WinsByThreats rule n (after (after b w) q))))) (sym (five-outcome rule b w h)) tt,
+)
+
+pub five-wins : (rule : RuleKind) (b : Grid) (n : ℕ) → has_five rule b (mover b) ≡ true → wins_by_fours rule (suc n) b ≡ true
+unfolding wins_under
+five-wins rule b n h =
+    let found = any_witness (five rule b (mover b)) (points_of b) h in
+    points-found b (starts_win (has_five rule) rule b (wins_under (has_five rule) rule n)) found.0 (is_empty-on b found.0 (five-empty rule b (mover b) found.0 found.1)) (five-starts rule b (wins_under (has_five rule) rule n) found.0 found.1)
+
+-- where the test finds no win there is none
+pub no-win : (rule : RuleKind) (n : ℕ) (b : Grid) → wins_by_fours rule n b ≡ false → WinsByFours rule n b → ⊥
+no-win rule n b none win =
+    let found = WinsUnder-test (has_five rule) rule n b win in
+    let bad : false ≡ true = sym none ∙ found in
+    cc
+
+pub win-has_five : (rule : RuleKind) (b : Grid) (p : Point) → outcome rule b p ≡ Wins → has_five rule b (mover b) ≡ true
+win-has_five rule b p h =
+    let five_here = outcome-five rule b p h in
+    points-found b (five rule b (mover b)) p (is_empty-on b p (five-empty rule b (mover b) p five_here)) five_here
+
+no_win_left : (o : Outcome) (d : Bool) → o ≢ WinsNow → wins_or o (d && false) ≡ false
+no_win_left Refused d h = refl
+no_win_left WinsNow d h = absurd (h refl)
+no_win_left (Fouls f) d h = refl
+no_win_left Draws d h = refl
+no_win_left GoesOn true h = refl
+no_win_left GoesOn false h = refl
+
+no_win_right : (o : Outcome) (l : Bool) → o ≢ WinsNow → wins_or o (false && l) ≡ false
+no_win_right Refused l h = refl
+no_win_right WinsNow l h = absurd (h refl)
+no_win_right (Fouls f) l h = refl
+no_win_right Draws l h = refl
+no_win_right GoesOn l h = refl
+
+module _ (rule : RuleKind) (demand : Grid → Side → Bool) (c : Grid) (next : Grid → Bool) (p : Point) (quiet : outcome rule c p ≢ WinsNow) where
+  -- the demand is not met
+  pub no_start-demand : demand (after c p) (mover c) ≡ false → starts_win demand rule c next p ≡ false
+  no_start-demand e = rw e (no_win_right (outcome rule c p) (list_all (λ q. loses_or (outcome rule (after c p) q) (next (after (after c p) q))) (points_of c)) quiet)
+
+  -- the reply q goes on, and there is no win after it
+  pub no_start-reply : (q : Point) → is_on c q ≡ true → outcome rule (after c p) q ≡ GoesOn → next (after (after c p) q) ≡ false → starts_win demand rule c next p ≡ false
+  no_start-reply q on e none = by_all (list_all (λ q. loses_or (outcome rule (after c p) q) (next (after (after c p) q))) (points_of c)) refl where
+    by_all : (r : Bool) → list_all (λ q. loses_or (outcome rule (after c p) q) (next (after (after c p) q))) (points_of c) ≡ r → wins_or (outcome rule c p) (demand (after c p) (mover c) && r) ≡ false
+    by_all false h = no_win_left (outcome rule c p) (demand (after c p) (mover c)) quiet
+    by_all true h =
+        let yes : loses_or (outcome rule (after c p) q) (next (after (after c p) q)) ≡ true = all_at c (λ q. loses_or (outcome rule (after c p) q) (next (after (after c p) q))) q h on in
+        let no : loses_or (outcome rule (after c p) q) (next (after (after c p) q)) ≡ false = rw (e, none) refl in
+        cc

@@ -1,5 +1,7 @@
 -- The laws of the rules. All may be cited by the layers above.
 
+-- the words of the rules, in one place
+pub mod Common
 -- tests over ranges of numbers, and over the four axes
 pub mod Rows
 pub mod Axes
@@ -23,3 +25,10 @@ pub mod OneLine
 pub mod RunEnds
 -- won games: stronger demands, more moves, tests and facts
 pub mod Games
+-- tests of numbers; cells and their stones; lists of points, and points in reading order; three points
+pub mod Tests
+pub mod Cells
+pub mod PointLists
+pub mod ReadingOrder
+pub mod Threes
+pub mod Marks

@@ -6,25 +6,21 @@ use Rattle.std.specs.List.{filter, list_any, range_with_len, prefix_len}
 use Rattle.std.proofs.lemmas.Bool.{false_from_ne_true, both_ways}
 use Rattle.std.proofs.lemmas.Bool.Decides.{nat_tests}
 use Rattle.std.proofs.lemmas.List.Sums.{length-filter, sum_by-le-sum_by}
-use Rattle.game_rules.specs.Grid.{Grid, IsBoard, is_on, is_empty, is_stone_of, stone_of, put, along, points_of, points_within, holds}
-use Rattle.game_rules.specs.Lines.{same_line, is_aligned}
-use Rattle.game_rules.specs.Shapes.{stones_ahead, stones_behind, line_bound, stone_at, wins_on, five}
-use Rattle.game_rules.specs.Ways.{go, stones_towards}
-use Rattle.game_rules.specs.Play.{other}
-use Rattle.game_rules.specs.Games.{has_five, five_points}
+use Rattle.game_rules.proofs.Common.{Grid, IsBoard, is_on, is_empty, is_stone_of, stone_of, put, along, points_of, points_within, holds, same_line, is_aligned, stones_ahead, stones_behind, line_bound, stone_at, wins_on, five, go, stones_towards, other, has_five, five_points}
 use Rattle.game_rules.specs.declared.RuleKind.{RuleKind}
 use Rattle.game_rules.specs.declared.Side.{Side}
-use Rattle.game_rules.specs.declared.Side.TheVariants.{Black, White}
 use Rattle.game_rules.specs.declared.Axis.{Axis}
-use Rattle.game_rules.specs.declared.Axis.TheVariants.{Row, Column, Down, Up}
 use Rattle.game_rules.specs.declared.Way.{Way}
-use Rattle.game_rules.specs.declared.Way.TheVariants.{Ahead, Behind}
 use Rattle.game_rules.specs.declared.Point.{Point}
+use Rattle.game_rules.specs.declared.Side.TheVariants.{Black, White}
+use Rattle.game_rules.specs.declared.Axis.TheVariants.{Row, Column, Down, Up}
+use Rattle.game_rules.specs.declared.Way.TheVariants.{Ahead, Behind}
 use Rattle.game_rules.proofs.Axes.{axis_of, some_axis}
 use Rattle.game_rules.proofs.Boards.{Apart, and_left, is_empty-on, is_empty-put, same_or_apart, empty_holds, holds-put_other, holds-put_same, prefix_len-same}
 use Rattle.game_rules.proofs.Lines.{OnLine, along-OnLine}
 use Rattle.game_rules.proofs.Positions.{IsBoard-put, holds-other}
 use Rattle.game_rules.proofs.Wins.{wins_on-stones, no_win}
+use Rattle.game_rules.proofs.Tests.{more_pass}
 
 -- ---- points of one line
 
@@ -187,10 +183,6 @@ module _ (b : Grid) (t s : Side) (p f : Point) (ok : IsBoard b) (on : is_on b p 
     stones = λ z line. holds-put_other b t s p z on (off_apart p f z off line);
     empties = λ z line free. sym (is_empty-put b t p z on (off_apart p f z off line)) ∙ free;
   }
-
-more_pass : (r t : Bool) → (r ≡ true → t ≡ true) → cond r 1 0 ≤ cond t 1 0
-more_pass true t h = rw (h refl) (omega arith)
-more_pass false t h = omega arith
 
 module _ (rule : RuleKind) (b c : Grid) (s : Side) (f : Point) (keeps : KeepsLines b c s f) (none : has_five rule b s ≡ false)
     (open_b : is_empty b f ≡ true) where

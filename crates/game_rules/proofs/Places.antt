@@ -6,8 +6,7 @@ use Rattle.std.specs.List.{flat_map, range_with_len, filter, find, list_all, lis
 use Rattle.std.proofs.lemmas.Bool.{lt-ltb}
 use Rattle.std.proofs.lemmas.Nat.{mul-le}
 use Rattle.std.proofs.lemmas.List.Folds.{list_all-append}
-use Rattle.game_rules.specs.Grid.{Grid, IsBoard, is_on, points_of, row_from, place_of}
-use Rattle.game_rules.specs.Shapes.{is_same_point}
+use Rattle.game_rules.proofs.Common.{Grid, IsBoard, is_on, points_of, row_from, place_of, is_same_point}
 use Rattle.game_rules.specs.declared.Point.{Point}
 use Rattle.game_rules.proofs.Boards.{Apart, and_left, and_right, on_x, on_y}
 use Rattle.game_rules.proofs.Points.{points-found, is_same_point-itself, is_same_point-same}

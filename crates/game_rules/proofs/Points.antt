@@ -5,16 +5,12 @@ use Rattle.std.specs.Prelude.{Option, Some, None, nat_lt, ◌==◌}
 use Rattle.std.proofs.lemmas.Bool.{false_from_ne_true}
 use Rattle.std.proofs.lemmas.Bool.Decides.{nat_tests}
 use Rattle.std.proofs.lemmas.List.Folds.{list_any-append}
-use Rattle.game_rules.specs.Grid.{Grid, is_on, is_empty, points_of, row_from}
-use Rattle.game_rules.specs.Points.{precedes}
-use Rattle.game_rules.specs.Shapes.{five, is_at, is_same_point}
-use Rattle.game_rules.specs.Play.{outcome, outcome_by, foul_of, mover}
-use Rattle.game_rules.specs.Games.{WinsOr}
+use Rattle.game_rules.proofs.Common.{Grid, is_on, is_empty, points_of, row_from, precedes, five, is_at, is_same_point, outcome, outcome_by, foul_of, mover, WinsOr}
 use Rattle.game_rules.specs.declared.RuleKind.{RuleKind}
 use Rattle.game_rules.specs.declared.Foul.{Foul}
 use Rattle.game_rules.specs.declared.Outcome.{Outcome}
-use Rattle.game_rules.specs.declared.Outcome.TheVariants.{Refused}
 use Rattle.game_rules.specs.declared.Point.{Point}
+use Rattle.game_rules.specs.declared.Outcome.TheVariants.{Refused}
 use Rattle.game_rules.proofs.Rows.{any_found}
 use Rattle.game_rules.proofs.Boards.{and_left, and_right, Apart, not-apart, on_x, on_y}
 
@@ -164,3 +160,6 @@ WinsOr-on rule b p W h = by_test (is_on b p) refl where
   by_test : (r : Bool) → is_on b p ≡ r → r ≡ true
   by_test true e = refl
   by_test false e = absurd (subst (λ (o : Outcome). WinsOr o W) (off_refused rule b p e) h)
+
+pub same_point-on : (b : Grid) (p q : Point) → is_same_point p q ≡ true → is_on b p ≡ is_on b q
+same_point-on b p q same = ap (is_on b) (is_same_point-same p q same)

@@ -1,22 +1,20 @@
 -- A move that goes on leaves a lawful position.
-use Rattle.std.proofs.Common.{◌≡◌, ◌≢◌, ◌⊎◌, inl, inr, ℕ, zero, suc, ◌+◌, ◌-◌, ◌≤◌, Bool, true, false, cond, ◌&&◌, refl, sym, ap, subst, ◌∙◌, arith, length-set, List, [], ◌∷◌, set, get_or, get_or-set_same, nat_eq, eq-eqb}
+use Rattle.std.proofs.Common.{◌≡◌, ◌≢◌, ◌⊎◌, inl, inr, ℕ, zero, suc, ◌+◌, ◌-◌, ◌≤◌, Bool, true, false, cond, ◌&&◌, refl, sym, ap, subst, ◌∙◌, arith, length-set, List, [], ◌∷◌, set, get_or, get_or-set_same, nat_eq, eq-eqb, ◌*◌}
 use Rattle.std.specs.Prelude.{Option, Some, None}
 use Rattle.std.specs.List.{prefix_len, range_with_len}
 use Rattle.std.proofs.lemmas.Bool.{cases_lt}
 use Rattle.std.proofs.lemmas.Bool.Decides.{nat_tests}
 use Rattle.std.proofs.lemmas.List.Sums.{sum_by-set}
-use Rattle.game_rules.specs.Grid.{Grid, IsBoard, is_on, is_empty, is_stone_of, stone_of, holds, cell_at, place_of, put, lift, along, stones_of, empties_of}
-use Rattle.game_rules.specs.Shapes.{stone_at, stones_ahead, stones_behind, run_of, line_bound, row_wins, wins_on, five}
-use Rattle.game_rules.specs.Play.{IsPosition, IsUnwon, NamesMover, outcome, outcome_by, foul_of, mover, other, after}
-use Rattle.game_rules.specs.declared.Outcome.TheVariants.{GoesOn}
+use Rattle.game_rules.proofs.Common.{Grid, IsBoard, is_on, is_empty, is_stone_of, stone_of, holds, cell_at, place_of, put, lift, along, stones_of, empties_of, stone_at, stones_ahead, stones_behind, run_of, line_bound, row_wins, wins_on, five, IsPosition, IsUnwon, NamesMover, outcome, outcome_by, foul_of, mover, other, after}
 use Rattle.game_rules.specs.declared.Foul.{Foul}
 use Rattle.game_rules.specs.declared.Side.{Side}
-use Rattle.game_rules.specs.declared.Side.TheVariants.{Black, White}
 use Rattle.game_rules.specs.declared.Cell.{Cell}
-use Rattle.game_rules.specs.declared.Cell.TheVariants.{Empty, Black as BlackStone, White as WhiteStone}
 use Rattle.game_rules.specs.declared.Axis.{Axis}
 use Rattle.game_rules.specs.declared.Point.{Point}
 use Rattle.game_rules.specs.declared.RuleKind.{RuleKind}
+use Rattle.game_rules.specs.declared.Outcome.TheVariants.{GoesOn}
+use Rattle.game_rules.specs.declared.Side.TheVariants.{Black, White}
+use Rattle.game_rules.specs.declared.Cell.TheVariants.{Empty, Black as BlackStone, White as WhiteStone}
 use Rattle.game_rules.proofs.Axes.{no_axis}
 use Rattle.game_rules.proofs.Boards.{and_left, and_right, is_empty-on, is_empty-cell, same_or_apart, empty_holds, other-other, holds-put_other, holds-put_same, place_fits, empties_of-put, prefix_len-same, cell_at-put_same, lift-put}
 use Rattle.game_rules.proofs.Lines.{along-then, along-same, along-zero}
@@ -379,3 +377,12 @@ IsPosition-lift rule b p lawful mine unwon =
       unwon = unwon;
       open_points = omega (arith, more);
     }
+
+-- a board has a point for each move
+pub points-many : (rule : RuleKind) (b : Grid) → IsPosition rule b → (m : ℕ) → 1 ≤ b.width * b.height * suc m
+points-many rule b lawful m =
+    let w = lawful.board.wide in
+    let h = lawful.board.high in
+    let one : 1 ≤ b.width * b.height = grind arith in
+    let more : b.width * b.height * suc m ≡ b.width * b.height + b.width * b.height * m = omega arith in
+    omega (arith, one, more)

@@ -1,26 +1,25 @@
 -- A stone changes the five points of its side at the ends of its runs alone: there its run joins what stands past the end.
 use Rattle.std.proofs.Common.{◌≡◌, ◌≢◌, ◌⊎◌, inl, inr, ℕ, ◌+◌, ◌-◌, ◌≤◌, ◌<◌, true, false, ◌&&◌, refl, sym, ap, ◌∙◌, arith}
-use Rattle.std.specs.Prelude.{Some}
+use Rattle.std.specs.Prelude.{Some, Option, None}
 use Rattle.std.specs.List.{list_any, range_with_len}
 use Rattle.std.proofs.lemmas.Bool.{both_ways, cases_lt, or_left, or_right, or_cases}
-use Rattle.game_rules.specs.Grid.{Grid, IsBoard, is_on, is_empty, holds, put, along}
-use Rattle.game_rules.specs.Shapes.{row_wins, stone_at, stones_ahead, stones_behind, wins_on, is_at, is_in_run}
-use Rattle.game_rules.specs.Ways.{towards, go, opposite, stones_towards, run_end}
+use Rattle.game_rules.proofs.Common.{Grid, IsBoard, is_on, is_empty, holds, put, along, row_wins, stone_at, stones_ahead, stones_behind, wins_on, is_at, is_in_run, towards, go, opposite, stones_towards, run_end}
 use Rattle.game_rules.specs.declared.RuleKind.{RuleKind}
 use Rattle.game_rules.specs.declared.Side.{Side}
 use Rattle.game_rules.specs.declared.Axis.{Axis}
-use Rattle.game_rules.specs.declared.Axis.TheVariants.{Row, Column, Down, Up}
 use Rattle.game_rules.specs.declared.Way.{Way}
-use Rattle.game_rules.specs.declared.Way.TheVariants.{Ahead, Behind}
 use Rattle.game_rules.specs.declared.Point.{Point}
+use Rattle.game_rules.specs.declared.Axis.TheVariants.{Row, Column, Down, Up}
+use Rattle.game_rules.specs.declared.Way.TheVariants.{Ahead, Behind}
 use Rattle.game_rules.proofs.Boards.{Apart, and_left, and-same, empty_holds, holds-put_same, is_empty-on, is_empty-put}
 use Rattle.game_rules.proofs.Lines.{OnLine, along-OnLine}
 use Rattle.game_rules.proofs.Points.{is_at-here, is_at-Some}
 use Rattle.game_rules.proofs.Positions.{IsBoard-put, is_at_or_not, stone_at-else, stone_at-more}
 use Rattle.game_rules.proofs.Rows.{any_found, any_in_range}
-use Rattle.game_rules.proofs.Ways.{go-then, go-same, go-zero, go-back, go-apart, go-opposite, else_at, leads, leads_is, leads_back, leads_back_is, towards-put}
+use Rattle.game_rules.proofs.Ways.{go-then, go-same, go-zero, go-back, go-apart, go-opposite, else_at, leads, leads_is, leads_back, leads_back_is, towards-put, least, go-steps}
 use Rattle.game_rules.proofs.Wins.{wins_on-stones}
 use Rattle.game_rules.proofs.OneLine.{empty-before}
+use Rattle.game_rules.proofs.Runs.{InRun}
 
 -- ---- where the ends are
 
@@ -223,3 +222,48 @@ module _ (b : Grid) (s : Side) (d : Axis) (p q : Point) (ok : IsBoard b) (mine :
         let high = k.2 in
         (Behind, first_in Behind k.0 (is_at-Some q (along d p 0 k.0) k.3) (omega (arith, high)))
   ]
+
+module _ (b : Grid) (s : Side) (d : Axis) (x : Point) (on : is_on b x ≡ true) (w : Way) (m : ℕ) (all : (j : ℕ) → 1 ≤ j → j ≤ m → stone_at b s (go w d x j 0) ≡ true) where
+  pub just_stones : stone_at b s (go w d x (1 + m) 0) ≡ false → stones_towards w b s d x ≡ m
+  just_stones stop = leads_is b s d x on w m (record { holds = all; stops = stop })
+
+  more_at : stone_at b s (go w d x (1 + m) 0) ≡ true → (j : ℕ) → 1 ≤ j → j ≤ 1 + m → stone_at b s (go w d x j 0) ≡ true
+  more_at stone j low high = elim (cases_lt m j) [
+    | inl last ↦ let same : 1 + m ≡ j = omega arith in ap (λ k. stone_at b s (go w d x k 0)) (sym same) ∙ stone
+    | inr inside ↦ all j low inside
+  ]
+
+  pub more_stones : stone_at b s (go w d x (1 + m) 0) ≡ true → m < stones_towards w b s d x
+  more_stones stone = let far = least b s d x on w (1 + m) (more_at stone) in omega (arith, far)
+
+module _ (g : Grid) (s : Side) (d : Axis) (q r : Point) (ok : IsBoard g) (empty_q : is_empty g q ≡ true) (empty_r : is_empty g r ≡ true) where
+  -- a stone in the run from r that a stone on q closes
+  abbrev pub StoneInRun : Type 0
+  StoneInRun = (p : Point) × (holds g s p ≡ true) × InRun (put g s q) s d r p
+
+  stone_at_step : (v : Way) (k : ℕ) → 1 ≤ k → k ≤ stones_towards v (put g s q) s d r → (go v d r k 0 ≡ Some q → ⊥) → StoneInRun
+  stone_at_step v k low high differ = by_point (go v d r k 0) refl where
+    stands : stone_at g s (go v d r k 0) ≡ true
+    stands = sym (stone_at-else g s q ok empty_q s (go v d r k 0) differ)
+        ∙ (leads (put g s q) s d r (is_empty-on g r empty_r) v).holds k low high
+
+    by_point : (o : Option Point) → go v d r k 0 ≡ o → StoneInRun
+    by_point None e = absurd (let bad : false ≡ true = sym (ap (stone_at g s) e) ∙ stands in cc)
+    by_point (Some p) e = (p, sym (ap (stone_at g s) e) ∙ stands, record { way = v; steps = k; some = low; within = high; there = e })
+
+  stone_beside : (w : Way) (f : ℕ) → 1 ≤ f → go w d r f 0 ≡ Some q → 5 ≤ 1 + stones_towards w (put g s q) s d r + stones_towards (opposite w) (put g s q) s d r → StoneInRun
+  stone_beside w f low there long = elim (cases_lt 1 (stones_towards w (put g s q) s d r)) [
+    | inl two ↦ elim (cases_lt 1 f) [
+      | inl later ↦ stone_at_step w 1 (omega arith) (omega (arith, two)) (λ h. let same = go-steps w d r q 1 0 f 0 h there in omega (arith, same, later))
+      | inr first ↦ stone_at_step w 2 (omega arith) (omega (arith, two)) (λ h. let same = go-steps w d r q 2 0 f 0 h there in omega (arith, same, first))
+    ]
+    | inr few ↦ stone_at_step (opposite w) 1 (omega arith) (omega (arith, few, long))
+        (λ h. let same = go-steps w d r q 0 1 f 0 (sym (go-opposite w d r 1 0) ∙ h) there in omega (arith, same))
+  ]
+
+  -- there is one
+  pub stone-in_run : InRun (put g s q) s d r q → 5 ≤ 1 + stones_ahead (put g s q) s d r + stones_behind (put g s q) s d r → StoneInRun
+  stone-in_run run long = stone_beside run.way run.steps run.some run.there (both run.way) where
+    both : (v : Way) → 5 ≤ 1 + stones_towards v (put g s q) s d r + stones_towards (opposite v) (put g s q) s d r
+    both Ahead = long
+    both Behind = omega (arith, long)

@@ -3,14 +3,12 @@ use Rattle.std.proofs.Common.{◌≡◌, ◌≢◌, inl, inr, ℕ, ◌+◌, ◌-
 use Rattle.std.specs.Prelude.{Option, Some, None}
 use Rattle.std.specs.List.{prefix_len, range_with_len}
 use Rattle.std.proofs.lemmas.Bool.{cases_lt, both_ways}
-use Rattle.game_rules.specs.Grid.{Grid, IsBoard, is_on, holds, put}
-use Rattle.game_rules.specs.Shapes.{stone_at, run_of, line_bound}
-use Rattle.game_rules.specs.Ways.{towards, go, opposite, stones_towards}
+use Rattle.game_rules.proofs.Common.{Grid, IsBoard, is_on, holds, put, stone_at, run_of, line_bound, towards, go, opposite, stones_towards}
 use Rattle.game_rules.specs.declared.Side.{Side}
 use Rattle.game_rules.specs.declared.Axis.{Axis}
 use Rattle.game_rules.specs.declared.Way.{Way}
-use Rattle.game_rules.specs.declared.Way.TheVariants.{Ahead, Behind}
 use Rattle.game_rules.specs.declared.Point.{Point}
+use Rattle.game_rules.specs.declared.Way.TheVariants.{Ahead, Behind}
 use Rattle.game_rules.proofs.Boards.{Apart, holds-put_other, and_left, stones_ahead-put, stones_behind-put, run_of-put}
 use Rattle.game_rules.proofs.Lines.{along-steps, along-apart, along-then, along-same, along-zero}
 use Rattle.game_rules.proofs.Runs.{Leads, ahead_leads, behind_leads, ahead_is, behind_is}

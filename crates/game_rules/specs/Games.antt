@@ -1,6 +1,6 @@
 -- Won games: forced wins, wins by continuous fours, wins by threats, and the double points of the latter.
 use Rattle.std.specs.Prelude.{ℕ, zero, suc, Bool, true, false, ◌&&◌, ◌||◌, not, nat_le, if◌then◌else◌, IsTrue, List, length, Option, None, is_none}
-use Rattle.std.specs.List.{list_any, list_all, filter, find}
+use Rattle.std.specs.List.{list_any, list_all, filter, find, sum_by}
 use Rattle.game_rules.specs.Grid.{Grid, is_empty, put, points_of}
 use Rattle.game_rules.specs.Shapes.{five}
 use Rattle.game_rules.specs.Play.{outcome, foul_of, mover, after}
@@ -119,3 +119,7 @@ if_goes_on Wins n = 0
 if_goes_on (Fouls f) n = 0
 if_goes_on Draws n = 0
 if_goes_on GoesOn n = n
+
+-- the sum of the counts at the boards after each reply at c that goes on
+abbrev pub behind_replies : RuleKind → (Grid → ℕ) → Grid → ℕ
+behind_replies rule count c = sum_by (λ q. if_goes_on (outcome rule c q) (count (after c q))) (points_of c)

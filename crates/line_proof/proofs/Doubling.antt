@@ -1,12 +1,8 @@
 -- A double threat wins in two moves, and so does its node.
-use Rattle.std.proofs.Common.{◌≡◌, ℕ, zero, suc, ◌+◌, ◌≤◌, ◌<◌, Bool, true, false, cond, ◌||◌, ◌&&◌, refl, sym, ap, subst, ◌∙◌, arith, List, [], ◌∷◌, ◌++◌, nat_lt}
+use Rattle.std.proofs.Common.{◌≡◌, ℕ, Bool, true, false, cond, ◌&&◌, refl, sym, ap, subst, ◌∙◌, List, [], ◌∷◌}
 use Rattle.std.specs.Prelude.{Option, Some, None, IfSome}
-use Rattle.std.specs.List.{AllByRecursion, list_any, list_all, filter, flat_map, range_with_len}
-use Rattle.std.proofs.lemmas.Bool.Decides.{nat_tests}
-use Rattle.game_rules.specs.Grid.{Grid, is_on, points_of, points_within, row_from}
-use Rattle.game_rules.specs.Shapes.{five, is_same_point}
-use Rattle.game_rules.specs.Play.{IsPosition, outcome, mover, after, other, goes_on_with}
-use Rattle.game_rules.specs.Games.{LosesOr, has_five, wins_or, loses_or, starts_win, wins_under, wins_by_fours}
+use Rattle.std.specs.List.{list_any, list_all, filter}
+use Rattle.game_rules.proofs.Common.{Grid, is_on, points_of, points_within, five, is_same_point, IsPosition, outcome, mover, after, other, goes_on_with, LosesOr, has_five, wins_or, loses_or, starts_win, wins_under, wins_by_fours}
 use Rattle.game_rules.specs.declared.RuleKind.{RuleKind}
 use Rattle.game_rules.specs.declared.Outcome.{Outcome}
 use Rattle.game_rules.specs.declared.Outcome.TheVariants.{Refused, Wins as WinsNow, Fouls, Draws, GoesOn}
@@ -17,6 +13,8 @@ use Rattle.game_rules.proofs.Games.{each_reply}
 use Rattle.game_rules.proofs.Positions.{IsPosition-after, GoesOn-on, GoesOn-empty, mover-other, mover-then}
 use Rattle.game_rules.proofs.Fives.{five-empty, five-other}
 use Rattle.game_rules.proofs.Outcomes.{five-outcome}
+use Rattle.game_rules.proofs.PointLists.{still-found}
+use Rattle.game_rules.proofs.ReadingOrder.{points-on}
 use Rattle.strategy_graph.specs.declared.Node.{Node}
 use Rattle.strategy_graph.specs.Tables.{NamesLower}
 use Rattle.strategy_compiler.specs.Wins.{IsWrittenWin}
@@ -28,44 +26,15 @@ use Rattle.threat_moves.specs.Blocks.{by_fives, fate}
 use Rattle.threat_moves.specs.FourMoves.{is_four_move}
 use Rattle.threat_moves.specs.OneBlock.{block_wins}
 use Rattle.threat_moves.proofs.BlockLaw.{block_decides}
+use Rattle.threat_moves.proofs.FourLaws.{two-won}
 use Rattle.strategy_compiler.specs.declared.wins.WrittenWin.{WrittenWin}
 use Rattle.line_proof.specs.declared.doubles.Double.{Double}
 use Rattle.line_proof.specs.declared.doubles.Pair.{Pair}
 use Rattle.line_proof.specs.Doubles.{IsPressed, IsDouble}
-use Rattle.strategy_compiler.proofs.Forks.{still-found}
 
 -- ---- the points of a board are on it
 
-all-append : (P : Point → Type 0) (ps qs : List Point) → AllByRecursion P ps → AllByRecursion P qs → AllByRecursion P (ps ++ qs)
-all-append P [] qs h k = k
-all-append P (p ∷ ps) qs h k = (h.0, all-append P ps qs h.1 k)
-
-row-on : (b : Grid) (y : ℕ) → y < b.height → (n x : ℕ) → x + n ≤ b.width → AllByRecursion (λ q. is_on b q ≡ true) (row_from y x n)
-row-on b y low zero x l = tt
-row-on b y low (suc n) x l = (on_by x y b.width b.height (omega (arith, l)) low, row-on b y low n (x + 1) (omega (arith, l))) where
-  on_by : (x y w h : ℕ) → x < w → y < h → (nat_lt x w && nat_lt y h) ≡ true
-  on_by x y w h a b = grind (arith, nat_tests)
-
-rows-on : (b : Grid) (n y : ℕ) → y + n ≤ b.height → AllByRecursion (λ q. is_on b q ≡ true) (flat_map (λ z. row_from z 0 b.width) (range_with_len y n))
-rows-on b zero y l = tt
-rows-on b (suc n) y l = all-append (λ q. is_on b q ≡ true) (row_from y 0 b.width) _ (row-on b y (omega (arith, l)) b.width 0 (omega arith)) (rows-on b n (y + 1) (omega (arith, l)))
-
-points-on : (b : Grid) → AllByRecursion (λ q. is_on b q ≡ true) (points_of b)
-points-on b = rows-on b b.height 0 (omega arith)
-
 -- ---- two five points
-
-two-win : (rule : RuleKind) (c : Grid) (w v : Point) (xs : List Point) → list_any (is_same_point w) xs ≡ true → list_any (is_same_point v) xs ≡ true → is_same_point w v ≡ false → by_fives rule c xs ≡ Won
-two-win rule c w v [] h k apart = cc
-two-win rule c w v (x ∷ []) h k apart =
-    let a : w ≡ x = is_same_point-same w x (one (is_same_point w x) h) in
-    let b : v ≡ x = is_same_point-same v x (one (is_same_point v x) k) in
-    let same : is_same_point w v ≡ true = ap (is_same_point w) (b ∙ sym a) ∙ is_same_point-itself w in
-    let no : false ≡ true = sym apart ∙ same in cc where
-      one : (r : Bool) → (r || false) ≡ true → r ≡ true
-      one true h = refl
-      one false h = h
-two-win rule c w v (x ∷ y ∷ xs) h k apart = refl
 
 module _ (rule : RuleKind) (d : Grid) (lawful : IsPosition rule d) (s : Point) (ends : Pair) (pressed : IsPressed rule d s ends) where
   e_lawful : IsPosition rule (after d s)
@@ -92,7 +61,7 @@ module _ (rule : RuleKind) (d : Grid) (lawful : IsPosition rule d) (s : Point) (
   unfolding fate
   won =
       ap (λ r. cond r Lost (by_fives rule (after d s) (filter (five rule (after d s) (other (mover (after d s)))) (points_of (after d s))))) pressed.open_ends.none
-      ∙ two-win rule (after d s) ends.first ends.second _ (found ends.first pressed.open_ends.first) (found ends.second pressed.open_ends.second) pressed.open_ends.apart
+      ∙ two-won rule (after d s) ends.first ends.second _ (found ends.first pressed.open_ends.first) (found ends.second pressed.open_ends.second) pressed.open_ends.apart
 
   starts : starts_win (has_five rule) rule d (wins_by_fours rule 1) s ≡ true
   starts = block_decides rule 1 d s lawful four ∙ ap (block_wins rule 1 (after d s)) won

@@ -1,47 +1,25 @@
 -- The answers to all replies to a move win, and so does the node that has them.
-use Rattle.std.proofs.Common.{◌≡◌, ℕ, suc, ◌+◌, Bool, true, false, cond, refl, sym, ap, subst, ◌∙◌, List, [], ◌∷◌, map}
-use Rattle.std.specs.List.{AllByRecursion, list_any, filter}
-use Rattle.game_rules.specs.Grid.{Grid, points_of}
-use Rattle.game_rules.specs.Shapes.{is_same_point}
-use Rattle.game_rules.specs.Play.{outcome, after, goes_on_with}
+use Rattle.std.proofs.Common.{◌≡◌, ℕ, suc, ◌+◌, Bool, true, sym, ap, subst, ◌∙◌, List}
+use Rattle.std.specs.List.{list_any}
+use Rattle.game_rules.proofs.Common.{Grid, points_of, is_same_point, outcome, after, goes_on_with}
 use Rattle.game_rules.specs.declared.RuleKind.{RuleKind}
-use Rattle.game_rules.specs.declared.Outcome.{Outcome}
-use Rattle.game_rules.specs.declared.Outcome.TheVariants.{Refused, Wins as WinsNow, Fouls, Draws, GoesOn}
+use Rattle.game_rules.specs.declared.Outcome.TheVariants.{GoesOn}
 use Rattle.game_rules.specs.declared.Point.{Point}
 use Rattle.game_rules.proofs.Points.{points-found, is_same_point-itself}
 use Rattle.game_rules.proofs.Games.{each_reply}
 use Rattle.game_rules.proofs.Positions.{GoesOn-on}
+use Rattle.game_rules.proofs.PointLists.{still-found}
+use Rattle.game_rules.proofs.Outcomes.{goes_on_with-true}
 use Rattle.strategy_graph.specs.declared.Node.{Node}
 use Rattle.strategy_graph.specs.declared.Reply.{Reply}
 use Rattle.strategy_graph.specs.Tables.{depth}
+use Rattle.strategy_graph.proofs.Answering.{passed}
 use Rattle.strategy_compiler.specs.Wins.{IsWrittenWin}
 use Rattle.strategy_compiler.specs.Forks.{AnswersWin, WinsByAnswers}
-use Rattle.strategy_compiler.proofs.Forks.{IsAnswer, all-both, alone-deep, answer-by-win, answers-win, still-found}
+use Rattle.strategy_compiler.proofs.Forks.{IsAnswer, all-both, alone-deep, answer-by-win, answers-win}
 use Rattle.line_proof.specs.declared.answers.Answering.{Answering}
 use Rattle.line_proof.specs.Lines.{each_loses}
 use Rattle.line_proof.specs.Replies.{IsWonAt, AnswersAll}
-
-goes-on : (o : Outcome) → goes_on_with o true ≡ true → o ≡ GoesOn
-goes-on Refused h = cc
-goes-on WinsNow h = cc
-goes-on (Fouls f) h = cc
-goes-on Draws h = cc
-goes-on GoesOn h = refl
-
--- replies at points that pass
-passed : (f : Point → Bool) (ps : List Point) (rs : List Reply) → map (λ r. r.at) rs ≡ filter f ps → AllByRecursion (λ r. f r.at ≡ true) rs
-passed f ps rs e = at_points rs (subst (AllByRecursion (λ q. f q ≡ true)) (sym e) (passing ps)) where
-  at_points : (rs : List Reply) → AllByRecursion (λ q. f q ≡ true) (map (λ r. r.at) rs) → AllByRecursion (λ r. f r.at ≡ true) rs
-  at_points [] h = tt
-  at_points (r ∷ rs) h = (h.0, at_points rs h.1)
-
-  passing : (ps : List Point) → AllByRecursion (λ q. f q ≡ true) (filter f ps)
-  passing [] = tt
-  passing (p ∷ ps) = by_test (f p) refl (passing ps) where
-    by_test : (b : Bool) → f p ≡ b → AllByRecursion (λ q. f q ≡ true) (filter f ps)
-        → AllByRecursion (λ q. f q ≡ true) (cond b (p ∷ filter f ps) (filter f ps))
-    by_test true e rest = (e, rest)
-    by_test false e rest = rest
 
 module _ (rule : RuleKind) (n : ℕ) (c : Grid) (won : Grid → Bool) (lost : each_loses rule c won ≡ true) (t : List Node) (a : Answering)
     (all : AnswersAll rule n t c a) where
@@ -51,7 +29,7 @@ module _ (rule : RuleKind) (n : ℕ) (c : Grid) (won : Grid → Bool) (lost : ea
       (still-found (λ q. goes_on_with (outcome rule c q) true) q (points_of c) (ap (λ o. goes_on_with o true) go)
       (points-found c (is_same_point q) q (GoesOn-on rule c q go) (is_same_point-itself q))))
       (all-both (λ (r : Reply). goes_on_with (outcome rule c r.at) true ≡ true) (IsWonAt rule n t c) (IsAnswer rule n c t)
-      (λ r go win. answer-by-win rule n c t r (depth t r.next) (goes-on (outcome rule c r.at) go) win) a.replies.items
+      (λ r go win. answer-by-win rule n c t r (depth t r.next) (goes_on_with-true (outcome rule c r.at) go) win) a.replies.items
       (passed (λ q. goes_on_with (outcome rule c q) true) (points_of c) a.replies.items all.all) all.answers.wins)
 
 pub fork-wins : (old new : List Node) (p : Point) (a : Answering) (rs : List Reply) (i : ℕ) → rs ≡ a.replies.items

@@ -4,9 +4,7 @@ use Rattle.std.specs.Prelude.{All}
 use Rattle.std.specs.List.{AllByRecursion, list_all, sum_by}
 use Rattle.std.proofs.lemmas.List.Sums.{sum_by-cons}
 use Rattle.std.proofs.lemmas.List.Elements.{All-from_recursion}
-use Rattle.game_rules.specs.Grid.{Grid}
-use Rattle.game_rules.specs.Play.{outcome, after, goes_on_with}
-use Rattle.game_rules.specs.Games.{loses_or, if_goes_on}
+use Rattle.game_rules.proofs.Common.{Grid, outcome, after, goes_on_with, loses_or, if_goes_on}
 use Rattle.game_rules.specs.declared.RuleKind.{RuleKind}
 use Rattle.game_rules.specs.declared.Outcome.{Outcome}
 use Rattle.game_rules.specs.declared.Outcome.TheVariants.{GoesOn}
@@ -14,28 +12,17 @@ use Rattle.game_rules.specs.declared.Point.{Point}
 use Rattle.strategy_graph.specs.declared.Node.{Node}
 use Rattle.strategy_graph.specs.declared.Reply.{Reply}
 use Rattle.strategy_graph.specs.Tables.{NamesLower, depth, greatest}
-use Rattle.strategy_compiler.specs.Nodes.{IsCompiled}
+use Rattle.strategy_graph.proofs.Answering.{push-all, push-points}
+use Rattle.strategy_graph.proofs.Greatest.{push-most}
 use Rattle.strategy_compiler.specs.declared.wins.WrittenWin.{WrittenWin}
 use Rattle.strategy_compiler.specs.Wins.{IsWrittenWin}
 use Rattle.strategy_compiler.specs.Growth.{GrowsBy}
 use Rattle.strategy_compiler.proofs.Growing.{win-stays}
+use Rattle.strategy_compiler.proofs.Winning.{win-deep}
 use Rattle.line_proof.specs.declared.answers.Answering.{Answering}
 use Rattle.line_proof.specs.Replies.{IsWonAt, AreAnswers, answered, going_on}
 
-pub lower_of : (t : List Node) → IsCompiled t → NamesLower t
-lower_of t ok = record { lower = λ i n at. (ok.table.nodes i n at).below }
-
 -- ---- wins as the nodes grow
-
--- a win whose moves are told as the depth of its node
-pub win-deep : (rule : RuleKind) (n : ℕ) (b : Grid) (t : List Node) (win : WrittenWin) → IsWrittenWin rule n b t win → IsWrittenWin rule n b t (record { node = win.node; moves = depth t win.node })
-win-deep rule n b t win h = record {
-  in_compiler = h.in_compiler;
-  accepted = h.accepted;
-  deep = refl;
-  within = let low = h.within in let e = h.deep in omega (arith, e, low);
-  on_board = h.on_board;
-}
 
 module _ (rule : RuleKind) (n : ℕ) (c : Grid) (t u : List Node) (k : ℕ) (lower : NamesLower t) (grown : GrowsBy t u k) where
   won-grown : (rs : List Reply) → AllByRecursion (IsWonAt rule n t c) rs → AllByRecursion (IsWonAt rule n u c) rs
@@ -62,18 +49,6 @@ answers-none rule n t c a none zero = record {
   wins = subst (λ (rs : List Reply). AllByRecursion (IsWonAt rule n t c) rs) (sym none) tt;
   most = zero ∙ sym (ap (λ (rs : List Reply). greatest (map (depth t) (map (λ r. r.next) rs))) none);
 }
-
-push-all : (P : Reply → Type 0) (rs : List Reply) (r : Reply) → AllByRecursion P rs → P r → AllByRecursion P (rs ++ r ∷ [])
-push-all P [] r h k = (k, tt)
-push-all P (s ∷ rs) r h k = (h.0, push-all P rs r h.1 k)
-
-push-most : (d : ℕ → ℕ) (rs : List Reply) (r : Reply) → greatest (map d (map (λ r. r.next) (rs ++ r ∷ []))) ≡ max (greatest (map d (map (λ r. r.next) rs))) (d r.next)
-push-most d [] r = omega arith
-push-most d (s ∷ rs) r = let rest = push-most d rs r in omega (arith, rest)
-
-push-points : (rs : List Reply) (r : Reply) → map (λ r. r.at) (rs ++ r ∷ []) ≡ map (λ r. r.at) rs ++ r.at ∷ []
-push-points [] r = refl
-push-points (s ∷ rs) r = ap (λ (ps : List Point). s.at ∷ ps) (push-points rs r)
 
 module _ (rule : RuleKind) (n : ℕ) (t : List Node) (c : Grid) (q : Point) (win : WrittenWin) (a a' : Answering) (added : a'.replies.items ≡ a.replies.items ++ (record { at = q; next = win.node }) ∷ []) where
   pub answers-more : a'.moves ≡ max a.moves win.moves → IsWrittenWin rule n (after c q) t win → AreAnswers rule n t c a → AreAnswers rule n t c a'

@@ -1,7 +1,6 @@
 -- The laws of line proofs. They serve this crate alone.
 
 -- the cost of two fours
-mod Costs
 -- the node that has the answers to all replies
 mod Forking
 -- double threats, and the node of one

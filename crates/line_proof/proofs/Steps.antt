@@ -1,21 +1,15 @@
 -- One move of a line.
-use Rattle.std.proofs.Common.{◌≡◌, ℕ, zero, suc, ◌+◌, ◌-◌, ◌≤◌, ◌<◌, Bool, true, false, cond, refl, sym, ap, subst, ◌∙◌, arith, List, [], ◌∷◌, length, get_or, min}
+use Rattle.std.proofs.Common.{◌≡◌, ℕ, zero, suc, ◌+◌, ◌-◌, ◌≤◌, Bool, true, false, cond, refl, sym, ap, subst, ◌∙◌, arith, List, min}
 use Rattle.std.specs.Prelude.{Option, Some, None, IfSome, Result, Ok, Err, OnOk}
-use Rattle.std.specs.List.{filter, find}
-use Rattle.game_rules.specs.Grid.{Grid, points_of}
-use Rattle.game_rules.specs.Shapes.{five}
-use Rattle.game_rules.specs.Play.{mover, goes_on_with}
-use Rattle.game_rules.specs.Games.{LosesOr, has_five, wins_by_fours}
+use Rattle.game_rules.proofs.Common.{Grid, points_of, five, mover, LosesOr, has_five, wins_by_fours}
 use Rattle.game_rules.specs.declared.RuleKind.{RuleKind}
 use Rattle.game_rules.specs.declared.Outcome.{Outcome}
-use Rattle.game_rules.specs.declared.Outcome.TheVariants.{Refused, Wins as WinsNow, Fouls, Draws, GoesOn}
 use Rattle.game_rules.specs.declared.Point.{Point}
 use Rattle.game_rules.proofs.Points.{any_witness}
-use Rattle.game_rules.proofs.Games.{each_reply}
-use Rattle.game_rules.proofs.Outcomes.{five-outcome, goes_on_with-else}
-use Rattle.threat_moves.proofs.BlockLaw.{five-wins}
+use Rattle.game_rules.proofs.Games.{each_reply, five-wins}
+use Rattle.game_rules.proofs.Outcomes.{five-outcome}
 use Rattle.threat_moves.specs.declared.threat_list.Threat.{Threat}
-use Rattle.line_proof.specs.Lines.{line_wins, line_tree, line_move, each_loses, block_of, block_or_gain, move_wins, behind_replies}
+use Rattle.line_proof.specs.Lines.{line_wins, line_tree, line_move, each_loses, block_of, block_or_gain, move_wins, behind_move}
 
 module _ (rule : RuleKind) (ts : List Threat) (b : Grid) where
   pub no_moves-wins : line_wins rule ts 0 b ≡ false
@@ -35,7 +29,7 @@ module _ (rule : RuleKind) (ts : List Threat) (b : Grid) where
   pub quick-tree : (n : ℕ) → 1 ≤ n → wins_by_fours rule (min n 2) b ≡ true → line_tree rule ts n b ≡ 4
   unfolding line_tree
   quick-tree zero l h = absurd (omega arith)
-  quick-tree (suc n) l h = ap (λ r. cond r 4 (1 + behind_replies rule b (λ ts. line_tree rule ts n) (line_move rule ts b))) h
+  quick-tree (suc n) l h = ap (λ r. cond r 4 (1 + behind_move rule b (λ ts. line_tree rule ts n) (line_move rule ts b))) h
 
   -- where they do not, the move of the line decides
   pub slow-wins : (n : ℕ) → 1 ≤ n → wins_by_fours rule (min n 2) b ≡ false → line_wins rule ts n b ≡ move_wins rule b (λ ts. line_wins rule ts (n - 1)) (line_move rule ts b)
@@ -46,13 +40,13 @@ module _ (rule : RuleKind) (ts : List Threat) (b : Grid) where
       ap (λ r. cond r true (move_wins rule b (λ ts. line_wins rule ts n) (line_move rule ts b))) h
       ∙ ap (λ (k : ℕ). move_wins rule b (λ ts. line_wins rule ts k) (line_move rule ts b)) less
 
-  pub slow-tree : (n : ℕ) → 1 ≤ n → wins_by_fours rule (min n 2) b ≡ false → line_tree rule ts n b ≡ 1 + behind_replies rule b (λ ts. line_tree rule ts (n - 1)) (line_move rule ts b)
+  pub slow-tree : (n : ℕ) → 1 ≤ n → wins_by_fours rule (min n 2) b ≡ false → line_tree rule ts n b ≡ 1 + behind_move rule b (λ ts. line_tree rule ts (n - 1)) (line_move rule ts b)
   unfolding line_tree
   slow-tree zero l h = absurd (omega arith)
   slow-tree (suc n) l h =
       let less : n ≡ suc n - 1 = omega arith in
-      ap (λ r. cond r 4 (1 + behind_replies rule b (λ ts. line_tree rule ts n) (line_move rule ts b))) h
-      ∙ ap (λ (k : ℕ). 1 + behind_replies rule b (λ ts. line_tree rule ts k) (line_move rule ts b)) less
+      ap (λ r. cond r 4 (1 + behind_move rule b (λ ts. line_tree rule ts n) (line_move rule ts b))) h
+      ∙ ap (λ (k : ℕ). 1 + behind_move rule b (λ ts. line_tree rule ts k) (line_move rule ts b)) less
 
   -- by the block that was asked for, at the same board
   pub move-wins : (n : ℕ) (v : Grid) (o : Option Point) → 1 ≤ n → v ≡ b → o ≡ block_of rule v → wins_by_fours rule (min n 2) b ≡ false → move_wins rule v (λ ts. line_wins rule ts (n - 1)) (block_or_gain o ts) ≡ line_wins rule ts n b
@@ -61,10 +55,10 @@ module _ (rule : RuleKind) (ts : List Threat) (b : Grid) where
       ∙ ap (λ (w : Grid). move_wins rule w (λ ts. line_wins rule ts (n - 1)) (line_move rule ts w)) same
       ∙ sym (slow-wins n some slow)
 
-  pub move-tree : (n : ℕ) (v : Grid) (o : Option Point) → 1 ≤ n → v ≡ b → o ≡ block_of rule v → wins_by_fours rule (min n 2) b ≡ false → 1 + behind_replies rule v (λ ts. line_tree rule ts (n - 1)) (block_or_gain o ts) ≡ line_tree rule ts n b
+  pub move-tree : (n : ℕ) (v : Grid) (o : Option Point) → 1 ≤ n → v ≡ b → o ≡ block_of rule v → wins_by_fours rule (min n 2) b ≡ false → 1 + behind_move rule v (λ ts. line_tree rule ts (n - 1)) (block_or_gain o ts) ≡ line_tree rule ts n b
   move-tree n v o some same block slow =
-      ap (λ (o : Option Point). 1 + behind_replies rule v (λ ts. line_tree rule ts (n - 1)) (block_or_gain o ts)) block
-      ∙ ap (λ (w : Grid). 1 + behind_replies rule w (λ ts. line_tree rule ts (n - 1)) (line_move rule ts w)) same
+      ap (λ (o : Option Point). 1 + behind_move rule v (λ ts. line_tree rule ts (n - 1)) (block_or_gain o ts)) block
+      ∙ ap (λ (w : Grid). 1 + behind_move rule w (λ ts. line_tree rule ts (n - 1)) (line_move rule ts w)) same
       ∙ sym (slow-tree n some slow)
 
   -- two fours need no more nodes than the line
@@ -111,27 +105,6 @@ no-value None f = refl
 no-value (Some x) f = absurd (f x refl)
 
 -- ---- the first of those that pass
-
-find-none : (f : Point → Bool) (ps : List Point) → length (filter f ps) < 1 → find f ps ≡ None
-find-none f [] l = refl
-find-none f (p ∷ ps) l = by_test (f p) l (find-none f ps) where
-  by_test : (r : Bool) → length (cond r (p ∷ filter f ps) (filter f ps)) < 1 → (length (filter f ps) < 1 → find f ps ≡ None) → cond r (Some p) (find f ps) ≡ None
-  by_test true l rest = absurd (omega arith)
-  by_test false l rest = rest l
-
-find-first : (f : Point → Bool) (ps : List Point) (d : Point) → 1 ≤ length (filter f ps) → find f ps ≡ Some (get_or (filter f ps) 0 d)
-find-first f [] d l = absurd (omega arith)
-find-first f (p ∷ ps) d l = by_test (f p) l (find-first f ps d) where
-  by_test : (r : Bool) → 1 ≤ length (cond r (p ∷ filter f ps) (filter f ps)) → (1 ≤ length (filter f ps) → find f ps ≡ Some (get_or (filter f ps) 0 d)) → cond r (Some p) (find f ps) ≡ Some (get_or (cond r (p ∷ filter f ps) (filter f ps)) 0 d)
-  by_test true l rest = refl
-  by_test false l rest = rest l
-
-pub none-first : (f : Point → Bool) (ps xs : List Point) → xs ≡ filter f ps → length xs < 1 → find f ps ≡ None
-none-first f ps xs e l = find-none f ps (subst (λ (ys : List Point). length ys < 1) e l)
-
-pub some-first : (f : Point → Bool) (ps xs : List Point) (d : Point) → xs ≡ filter f ps → 1 ≤ length xs → find f ps ≡ Some (get_or xs 0 d)
-some-first f ps xs d e l =
-    find-first f ps d (subst (λ (ys : List Point). 1 ≤ length ys) e l) ∙ ap (λ (ys : List Point). Some (get_or ys 0 d)) (sym e)
 
 -- where the side to move has a five point, not each of its moves loses
 pub five-refutes : (rule : RuleKind) (c : Grid) (won : Grid → Bool) → has_five rule c (mover c) ≡ true → each_loses rule c won ≡ false

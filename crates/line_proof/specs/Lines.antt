@@ -1,10 +1,10 @@
 -- Wins along a list of threats, and how many positions a proof of one looks at.
 use Rattle.std.specs.Prelude.{ℕ, zero, suc, ◌+◌, min, Bool, true, false, if◌then◌else◌, List, [], ◌∷◌, Option, Some, None}
-use Rattle.std.specs.List.{list_all, sum_by, find}
+use Rattle.std.specs.List.{list_all, find}
 use Rattle.game_rules.specs.Grid.{Grid, points_of}
 use Rattle.game_rules.specs.Shapes.{five}
 use Rattle.game_rules.specs.Play.{outcome, mover, after, other, goes_on_with}
-use Rattle.game_rules.specs.Games.{wins_by_fours, loses_or, if_goes_on}
+use Rattle.game_rules.specs.Games.{wins_by_fours, loses_or, if_goes_on, behind_replies}
 use Rattle.game_rules.specs.declared.RuleKind.{RuleKind}
 use Rattle.game_rules.specs.declared.Point.{Point}
 use Rattle.threat_moves.specs.declared.threat_list.Threat.{Threat}
@@ -45,18 +45,14 @@ line_wins rule ts zero b = false
 line_wins rule ts (suc n) b =
     if wins_by_fours rule (min (suc n) 2) b then true else move_wins rule b (λ ts. line_wins rule ts n) (line_move rule ts b)
 
--- the sum of the counts behind the moves at c that go on
-abbrev pub behind_each : RuleKind → Grid → (Grid → ℕ) → ℕ
-behind_each rule c count = sum_by (λ q. if_goes_on (outcome rule c q) (count (after c q))) (points_of c)
-
 -- the sum of the counts behind the replies to a move that goes on
-abbrev pub behind_replies : RuleKind → Grid → (List Threat → Grid → ℕ) → Option (Point × List Threat) → ℕ
-behind_replies rule b count None = 0
-behind_replies rule b count (Some m) = if_goes_on (outcome rule b m.0) (behind_each rule (after b m.0) (count m.1))
+abbrev pub behind_move : RuleKind → Grid → (List Threat → Grid → ℕ) → Option (Point × List Threat) → ℕ
+behind_move rule b count None = 0
+behind_move rule b count (Some m) = if_goes_on (outcome rule b m.0) (behind_replies rule (count m.1) (after b m.0))
 
 -- How many nodes a proof of such a win may put into a compiler: 4 for a win by fours within two moves, and else 1 and those behind
 -- each reply that goes on.
 unfoldable pub line_tree : RuleKind → List Threat → ℕ → Grid → ℕ
 line_tree rule ts zero b = 1
 line_tree rule ts (suc n) b =
-    if wins_by_fours rule (min (suc n) 2) b then 4 else 1 + behind_replies rule b (λ ts. line_tree rule ts n) (line_move rule ts b)
+    if wins_by_fours rule (min (suc n) 2) b then 4 else 1 + behind_move rule b (λ ts. line_tree rule ts n) (line_move rule ts b)

@@ -151,7 +151,7 @@ fn are_open<R: Rule, V: Seen<R>>(view: &V, ends: Pair) -> bool
 {
     let defender = view.side();
     let attacker = defender.other();
-    if is_same(ends.first, ends.second) {
+    if ends.first.is(ends.second) {
         return false;
     }
     if !is_five::<R, V>(view, attacker, ends.first) {
@@ -161,13 +161,6 @@ fn are_open<R: Rule, V: Seen<R>>(view: &V, ends: Pair) -> bool
         return false;
     }
     !view.has_five(defender)
-}
-
-/// Whether the points are one.
-fn is_same(p: Point, q: Point) -> bool
-    ensures same { result ≡ is_same_point p q }
-{
-    p.x == q.x && p.y == q.y
 }
 
 /// A move of the side to move that may be a double threat, and two five points that it leaves. The view is as before.

@@ -6,14 +6,14 @@
 
 ghost use Rattle.std.specs.Prelude.{◌≡◌, ◌↔◌, ◌≤◌, ◌<◌, ◌+◌, ◌++◌, ◌∷◌, [], List, Some, None, min, suc, true, false, if◌then◌else◌, is_some, length, IfOk, IfSome, OnOk, IsErrOf};
 ghost use Rattle.game_rules.specs.Play.{outcome as outcome_lem, after};
-ghost use Rattle.game_rules.specs.Games.{wins_by_fours, loses_or, if_goes_on};
+ghost use Rattle.game_rules.specs.Games.{wins_by_fours, loses_or, if_goes_on, behind_replies};
 ghost use Rattle.strategy_graph.specs.declared.Node.{Node};
 ghost use Rattle.strategy_graph.specs.declared.TheConstants.{MAX_NODES};
 ghost use Rattle.strategy_compiler.specs.Nodes.{IsCompiled};
 ghost use Rattle.strategy_compiler.specs.Wins.{IsWrittenWin};
 ghost use Rattle.strategy_compiler.specs.Growth.{GrowsBy, Writes};
 ghost use Rattle.line_proof.specs.declared.TheConstants.{MAX_DEPTH};
-ghost use Rattle.line_proof.specs.Lines.{line_wins, line_tree, first_gain, block_of, each_loses, move_wins, behind_each, behind_replies};
+ghost use Rattle.line_proof.specs.Lines.{line_wins, line_tree, first_gain, block_of, each_loses, move_wins, behind_move};
 ghost use Rattle.line_proof.specs.Replies.{AreAnswers, FindsAnswers, answered, going_on};
 ghost use Rattle.line_proof.specs.Answers.{OnProved, is_proved};
 ghost use Rattle.line_proof.specs.Doubles.{IsDouble};
@@ -148,7 +148,7 @@ fn prove_gain<R: Rule, V: Seen<R>>(
     ensures wins { IfOk result (λ a. is_proved a
         ≡ move_wins R.KIND (V.position view.old) (λ ts. line_wins R.KIND ts moves) (first_gain threats.now)) }
     ensures writes { Writes compiler.old compiler.new
-        (1 + behind_replies R.KIND (V.position view.old) (λ ts. line_tree R.KIND ts moves) (first_gain threats.now)) result }
+        (1 + behind_move R.KIND (V.position view.old) (λ ts. line_tree R.KIND ts moves) (first_gain threats.now)) result }
     ensures same { V.position view.new ≡ V.position view.old }
 {
     match threats.split_first() {
@@ -180,7 +180,7 @@ fn prove_move<R: Rule, V: Seen<R>>(
     ensures wins { IfOk result (λ a. is_proved a
         ≡ move_wins R.KIND (V.position view.old) (λ ts. line_wins R.KIND ts moves) (Some (p, threats.now))) }
     ensures writes { Writes compiler.old compiler.new
-        (1 + behind_replies R.KIND (V.position view.old) (λ ts. line_tree R.KIND ts moves) (Some (p, threats.now))) result }
+        (1 + behind_move R.KIND (V.position view.old) (λ ts. line_tree R.KIND ts moves) (Some (p, threats.now))) result }
     ensures same { V.position view.new ≡ V.position view.old }
 {
     match view.outcome(p) {
@@ -206,7 +206,7 @@ fn prove_on<R: Rule, V: Seen<R>>(
     ensures wins { IfOk result (λ a. is_proved a
         ≡ each_loses R.KIND (after (V.position view.old) p) (line_wins R.KIND threats.now moves)) }
     ensures writes { Writes compiler.old compiler.new
-        (1 + behind_each R.KIND (after (V.position view.old) p) (line_tree R.KIND threats.now moves)) result }
+        (1 + behind_replies R.KIND (line_tree R.KIND threats.now moves) (after (V.position view.old) p)) result }
     ensures same { V.position view.new ≡ V.position view.old }
 {
     view.play(p);
@@ -232,7 +232,7 @@ fn answer_each<R: Rule, V: Seen<R>>(
     requires compiled { IsCompiled compiler.old }
     ensures found { IfOk result (λ found. FindsAnswers R.KIND moves compiler.new (V.position view.old)
         (each_loses R.KIND (V.position view.old) (line_wins R.KIND threats.now moves)) found) }
-    ensures writes { Writes compiler.old compiler.new (behind_each R.KIND (V.position view.old) (line_tree R.KIND threats.now moves)) result }
+    ensures writes { Writes compiler.old compiler.new (behind_replies R.KIND (line_tree R.KIND threats.now moves) (V.position view.old)) result }
     ensures same { V.position view.new ≡ V.position view.old }
 {
     let defender = view.side();

@@ -1,14 +1,10 @@
 -- The list of the five points, as the code tells it.
-use Rattle.std.proofs.Common.{◌≡◌, ℕ, ◌*◌, ◌≤◌, Bool, true, false, cond, List, length, refl, sym, ap, subst, ◌∙◌, arith}
-use Rattle.std.specs.Prelude.{Option, Some, None}
+use Rattle.std.proofs.Common.{◌≡◌, ℕ, ◌*◌, ◌≤◌, Bool, true, false, cond, List, length, sym, ap, subst, ◌∙◌, arith}
+use Rattle.std.specs.Prelude.{Some, None}
 use Rattle.std.specs.List.{filter}
 use Rattle.std.proofs.lemmas.Bool.{false_from_ne_true}
 use Rattle.stone_board.specs.Steps.{kept_empty}
-use Rattle.game_rules.specs.Grid.{Grid, IsBoard, is_on, is_empty, holds, put, lift, points_of}
-use Rattle.game_rules.specs.Shapes.{five}
-use Rattle.game_rules.specs.Games.{five_points}
-use Rattle.game_rules.specs.Play.{other}
-use Rattle.game_rules.specs.Ways.{run_end}
+use Rattle.game_rules.proofs.Common.{Grid, IsBoard, is_on, is_empty, holds, put, lift, points_of, five, five_points, other, run_end}
 use Rattle.game_rules.specs.declared.RuleKind.{RuleKind}
 use Rattle.game_rules.specs.declared.Side.{Side}
 use Rattle.game_rules.specs.declared.Axis.{Axis}
@@ -16,9 +12,10 @@ use Rattle.game_rules.specs.declared.Point.{Point}
 use Rattle.game_rules.specs.declared.Way.{Way}
 use Rattle.game_rules.proofs.Boards.{and_left, is_empty-on}
 use Rattle.game_rules.proofs.Positions.{IsBoard-lift, put-lift, lift-empty}
+use Rattle.game_rules.proofs.ReadingOrder.{filter_fits}
 use Rattle.line_tables.specs.Lists.{with_told, told_of}
 use Rattle.line_tables.specs.Tables.{TellsSide, TellsButEnds, is_end}
-use Rattle.line_tables.proofs.FiveLists.{filter_told, filter_fits}
+use Rattle.line_tables.proofs.FiveLists.{filter_told}
 use Rattle.line_tables.proofs.EndTests.{end_free, end_is, played_but_ends, played_others, undone_but_ends, undone_others}
 
 -- ---- a list in which a point is told anew
@@ -32,19 +29,6 @@ told_fits b points room test listed fits q on v =
     omega (arith, long, few, fits)
 
 -- ---- an end
-
-kept_by : (b : Grid) (r q : Point) (t : Bool) → is_empty b r ≡ t → cond t (Some r) None ≡ Some q → (r ≡ q) × (is_empty b r ≡ true)
-kept_by b r q true e h = (let same : Some r ≡ Some q = h in cc, e)
-kept_by b r q false e h = cc
-
-pub kept-some : (b : Grid) (o : Option Point) (q : Point) → kept_empty b o ≡ Some q → (o ≡ Some q) × (is_empty b q ≡ true)
-kept-some b None q h = cc
-kept-some b (Some r) q h = let both = kept_by b r q (is_empty b r) refl h in (ap Some both.0, ap (is_empty b) (sym both.0) ∙ both.1)
-
--- what the code found of an end
-pub end_kept : (b c : Grid) (s : Side) (d : Axis) (w : Way) (p : Point) (o u : Option Point) → o ≡ kept_empty b (run_end b s d w p)
-    → b ≡ c → o ≡ u → kept_empty c (run_end c s d w p) ≡ u
-end_kept b c s d w p o u e same h = sym (e ∙ ap (λ (g : Grid). kept_empty g (run_end g s d w p)) same) ∙ h
 
 -- where none is kept, no point is the end
 pub kept-none : (b : Grid) (s : Side) (d : Axis) (w : Way) (p : Point) → kept_empty b (run_end b s d w p) ≡ None → (q : Point)

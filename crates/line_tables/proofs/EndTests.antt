@@ -1,14 +1,9 @@
 -- The list of the five points, end by end.
 use Rattle.std.proofs.Common.{◌≡◌, ◌≢◌, inl, inr, ℕ, ◌+◌, ◌*◌, ◌%◌, ◌≤◌, ◌<◌, Bool, true, false, cond, List, [], refl, sym, ap, subst, ◌∙◌, arith}
 use Rattle.std.specs.Prelude.{Some, nat_lt, ◌==◌, if◌then◌else◌}
-use Rattle.std.specs.List.{list_any, filter}
+use Rattle.std.specs.List.{filter}
 use Rattle.std.proofs.lemmas.Bool.{and_from, both_ways, cases_lt, false_from_ne_true}
-use Rattle.std.proofs.Math.Bool.{or-false}
-use Rattle.game_rules.specs.Grid.{Grid, IsBoard, is_on, is_empty, put, points_of, axes}
-use Rattle.game_rules.specs.Shapes.{five, wins_on}
-use Rattle.game_rules.specs.Games.{five_points}
-use Rattle.game_rules.specs.Play.{other}
-use Rattle.game_rules.specs.Ways.{run_end}
+use Rattle.game_rules.proofs.Common.{Grid, IsBoard, is_on, is_empty, put, points_of, five, wins_on, five_points, other, run_end}
 use Rattle.game_rules.specs.declared.RuleKind.{RuleKind}
 use Rattle.game_rules.specs.declared.Side.{Side}
 use Rattle.game_rules.specs.declared.Axis.{Axis}
@@ -16,14 +11,15 @@ use Rattle.game_rules.specs.declared.Axis.TheVariants.{Row, Column, Down, Up}
 use Rattle.game_rules.specs.declared.Way.{Way}
 use Rattle.game_rules.specs.declared.Way.TheVariants.{Ahead, Behind}
 use Rattle.game_rules.specs.declared.Point.{Point}
-use Rattle.game_rules.proofs.Axes.{no_axis}
+use Rattle.game_rules.proofs.Axes.{no_axis, by_axis}
 use Rattle.game_rules.proofs.Boards.{Apart, and_left, and_right, same_or_apart, is_empty-on, empty_holds, holds-put_same, is_empty-put}
-use Rattle.game_rules.proofs.Fives.{five-empty, five-other}
+use Rattle.game_rules.proofs.Fives.{five-empty, five-other, same_fives}
 use Rattle.game_rules.proofs.Points.{is_at-here, is_at-Some, is_same_point-itself, apart-is_same_point, filter-none, points-found}
 use Rattle.game_rules.proofs.RunEnds.{wins_same, ends_differ, end_apart, end_same}
+use Rattle.game_rules.proofs.ReadingOrder.{filter_agree}
 use Rattle.line_tables.specs.Lists.{told_of, with_told}
 use Rattle.line_tables.specs.Tables.{TellsSide, TellsButEnds, is_end, end_number}
-use Rattle.line_tables.proofs.FiveLists.{filter_agree, filter_told}
+use Rattle.line_tables.proofs.FiveLists.{filter_told}
 
 -- ---- one end
 
@@ -41,18 +37,8 @@ no_end b s d w p q h free e = both_ways _ h (end_yes b s d w p q free e)
 
 -- ---- five points by one axis
 
--- where no other axis wins, the one decides
-by_axis : (f : Axis → Bool) (d : Axis) → ((e : Axis) → e ≢ d → f e ≡ false) → list_any f axes ≡ f d
-by_axis f Row h = rw (h Column (λ e. cc), h Down (λ e. cc), h Up (λ e. cc)) (or-false (f Row))
-by_axis f Column h = rw (h Row (λ e. cc), h Down (λ e. cc), h Up (λ e. cc)) (or-false (f Column))
-by_axis f Down h = rw (h Row (λ e. cc), h Column (λ e. cc), h Up (λ e. cc)) (or-false (f Down))
-by_axis f Up h = rw (h Row (λ e. cc), h Column (λ e. cc), h Down (λ e. cc)) (or-false (f Up))
-
 five_false : (rule : RuleKind) (b : Grid) (s : Side) (q : Point) → is_empty b q ≡ false → five rule b s q ≡ false
 five_false rule b s q taken = false_from_ne_true _ (λ h. both_ways _ taken (five-empty rule b s q h))
-
-same_fives : (rule : RuleKind) (b c : Grid) (s : Side) (q : Point) → ((d : Axis) → wins_on rule c s d q ≡ wins_on rule b s d q) → five rule c s q ≡ five rule b s q
-same_fives rule b c s q h = rw (h Row, h Column, h Down, h Up) refl
 
 module _ (rule : RuleKind) (b : Grid) (s : Side) (p : Point) (ok : IsBoard b) (empty : is_empty b p ≡ true) where
   on : is_on b p ≡ true

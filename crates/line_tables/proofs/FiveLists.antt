@@ -1,19 +1,15 @@
 -- Lists of points in reading order, in which one point is told anew.
-use Rattle.std.proofs.Common.{◌≡◌, inl, inr, ℕ, zero, suc, ◌+◌, ◌*◌, ◌≤◌, Bool, true, false, cond, ◌||◌, not, List, [], ◌∷◌, ◌++◌, length, refl, sym, ap, subst, ◌∙◌, arith, nat_lt, nat_eq}
+use Rattle.std.proofs.Common.{◌≡◌, inl, inr, ℕ, suc, ◌+◌, ◌≤◌, Bool, true, false, cond, ◌||◌, List, [], ◌∷◌, length, refl, sym, ap, subst, ◌∙◌, arith}
 use Rattle.std.specs.Prelude.{slice_get}
 use Rattle.std.specs.List.{list_all, list_any, filter, prefix_len, insert, remove}
 use Rattle.std.proofs.lemmas.Bool.{both_ways, false_from_ne_true, or_cases}
-use Rattle.std.proofs.lemmas.Bool.Decides.{nat_tests}
 use Rattle.std.proofs.lemmas.List.Edits.{length-insert}
-use Rattle.std.proofs.lemmas.List.Filters.{length-filter_both}
-use Rattle.game_rules.specs.Grid.{Grid, is_on, points_of, row_from}
-use Rattle.game_rules.specs.Shapes.{is_same_point, is_at}
-use Rattle.game_rules.specs.Points.{precedes}
+use Rattle.game_rules.proofs.Common.{Grid, is_on, points_of, is_same_point, is_at, precedes}
 use Rattle.game_rules.specs.declared.Point.{Point}
 use Rattle.game_rules.proofs.Points.{points-found, is_same_point-itself, is_same_point-same, precedes-trans, precedes-differs}
 use Rattle.line_tables.specs.Lists.{with_point, without_point, with_told, told_of}
-use Rattle.game_rules.proofs.Places.{points_length, points_on}
-use Rattle.line_tables.proofs.BoardLists.{first_on, all-append, row_all, rows, rows_all}
+use Rattle.game_rules.proofs.PointLists.{first_on, filter_same, filter_all}
+use Rattle.game_rules.proofs.ReadingOrder.{Rises, rows_rise}
 
 -- ---- the place of a point
 
@@ -55,49 +51,7 @@ module _ (p : Point) where
 
 -- ---- points in reading order
 
--- each point precedes all later ones
-abbrev Rises : List Point → Type 0
-Rises [] = Unit {0}
-Rises (x ∷ xs) = (list_all (precedes x) xs ≡ true) × Rises xs
-
-rises-append : (xs ys : List Point) → Rises xs → Rises ys → list_all (λ x. list_all (precedes x) ys) xs ≡ true → Rises (xs ++ ys)
-rises-append [] ys h k all = k
-rises-append (x ∷ xs) ys h k all =
-    let both = first_on (λ x. list_all (precedes x) ys) x xs all in
-    (all-append (precedes x) xs ys h.0 both.0, rises-append xs ys h.1 k both.1)
-
-row_rises : (y x n : ℕ) → Rises (row_from y x n)
-row_rises y x zero = tt
-row_rises y x (suc n) = (row_all (precedes (record { x = x; y = y })) y (x + 1) n (λ v low high. in_row v low), row_rises y (x + 1) n) where
-  in_row : (v : ℕ) → x + 1 ≤ v → precedes (record { x = x; y = y }) (record { x = v; y = y }) ≡ true
-  in_row v low =
-      let none : nat_lt y y ≡ false = grind (arith, nat_tests) in
-      let same : nat_eq y y ≡ true = grind (arith, nat_tests) in
-      let less : nat_lt x v ≡ true = grind (arith, nat_tests) in
-      rw (none, same, less) refl
-
-rows_rise : (width a n : ℕ) → Rises (rows width a n)
-rows_rise width a zero = tt
-rows_rise width a (suc n) = rises-append (row_from a 0 width) (rows width (a + 1) n) (row_rises a 0 width) (rows_rise width (a + 1) n)
-    (row_all (λ x. list_all (precedes x) (rows width (a + 1) n)) a 0 width (λ v low high.
-    rows_all (precedes (record { x = v; y = a })) width (a + 1) n
-    (λ z u near less more. let below : nat_lt a u ≡ true = grind (arith, nat_tests) in rw below refl)))
-
 -- ---- the list of the points that pass a test
-
-filter_same : (f g h : Point → Bool) → ((q : Point) → h q ≡ true → f q ≡ g q) → (xs : List Point) → list_all h xs ≡ true → filter f xs ≡ filter g xs
-filter_same f g h same [] all = refl
-filter_same f g h same (x ∷ xs) all =
-    let both = first_on h x xs all in
-    let here = same x both.0 in
-    rw here (ap (λ (ps : List Point). cond (g x) (x ∷ ps) ps) (filter_same f g h same xs both.1))
-
-filter_all : (g h : Point → Bool) (xs : List Point) → list_all h xs ≡ true → list_all h (filter g xs) ≡ true
-filter_all g h [] all = refl
-filter_all g h (x ∷ xs) all = let both = first_on h x xs all in by_test (g x) both.0 (filter_all g h xs both.1) where
-  by_test : (r : Bool) → h x ≡ true → list_all h (filter g xs) ≡ true → list_all h (cond r (x ∷ filter g xs) (filter g xs)) ≡ true
-  by_test true here rest = rw (here, rest) refl
-  by_test false here rest = rest
 
 module _ (p : Point) where
   -- what holds of all points of a list holds of p, if it is one
@@ -180,17 +134,6 @@ module _ (p : Point) where
 pub filter_told : (b : Grid) (p : Point) (v : Bool) (g : Point → Bool) → is_on b p ≡ true → with_told p v (filter g (points_of b)) ≡ filter (told_of p v g) (points_of b)
 filter_told b p v g on = told_there p v g (points_of b) (rows_rise b.width 0 b.height)
     (points-found b (is_same_point p) p on (is_same_point-itself p))
-
--- tests that agree on the points of the board pass the same
-pub filter_agree : (b : Grid) (f g : Point → Bool) → ((q : Point) → is_on b q ≡ true → f q ≡ g q) → filter f (points_of b) ≡ filter g (points_of b)
-filter_agree b f g same = filter_same f g (is_on b) same (points_of b) (points_on b)
-
--- they are no more than there are points
-pub filter_fits : (b : Grid) (g : Point → Bool) → length (filter g (points_of b)) ≤ b.width * b.height
-filter_fits b g =
-    let both = length-filter_both g (λ q. not (g q)) (λ q. refl) (points_of b) in
-    let all = points_length b in
-    omega (arith, both, all)
 
 -- ---- the place as the code finds it
 

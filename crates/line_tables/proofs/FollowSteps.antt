@@ -10,19 +10,12 @@ use Rattle.game_rules.specs.declared.Axis.{Axis}
 use Rattle.game_rules.specs.declared.Point.{Point}
 use Rattle.game_rules.specs.declared.Way.{Way}
 use Rattle.stone_board.specs.Walks.{goes_on, stride, place_after, steps_left}
-use Rattle.stone_board.proofs.Strides.{Walked, Walked-place, Walked-back, StepOn, step_on, place_walk}
+use Rattle.stone_board.proofs.Strides.{Walked, Walked-place, Walked-back, StepOn, step_on, place_walk, walked_to, left_by}
 use Rattle.row_shapes.specs.Rule.{reach_of}
 use Rattle.line_tables.specs.declared.axis_codes.Change.{Change}
 use Rattle.line_tables.specs.declared.axis_codes.Codes.{Codes}
 use Rattle.line_tables.specs.Codes.{codes_at, TellsSoFar, FitChange, can_change, changed, shifted, digit_of_stone, weight, weights_to, followed}
 use Rattle.line_tables.proofs.Follows.{codes_near, codes_fit, follow_read, follow_step, weight_at}
-
--- a point so many strides away, in the numbers that the code keeps
-walked_to : (b : Grid) (p x : Point) (d : Axis) (w : Way) (n width s : ℕ) (r : Bool) → r ≡ goes_on w d → width ≡ b.width → s ≡ stride d width → Walked (goes_on w d) (place_of b p) (n * stride d b.width) (place_of b x) → Walked r (p.y * width + p.x) (n * s) (place_of b x)
-walked_to b p x d w n width s r way wide far h = rw (way, far, wide) h
-
-left_by : (b : Grid) (w : Way) (d : Axis) (p : Point) (most width height : ℕ) → width ≡ b.width → height ≡ b.height → most ≡ steps_left w d width height p → most ≡ steps_left w d b.width b.height p
-left_by b w d p most width height wide tall left = left ∙ ap (λ n. steps_left w d n height p) wide ∙ ap (λ n. steps_left w d b.width n p) tall
 
 module _ (b : Grid) (p : Point) (ok : IsBoard b) (on : is_on b p ≡ true) (w : Way) (d : Axis) (r : Bool) (s width height most k : ℕ) (way : r ≡ goes_on w d) (wide : width ≡ b.width) (tall : height ≡ b.height) (far : s ≡ stride d width) (left : most ≡ steps_left w d width height p) (more : k < most) where
   next : StepOn b w d p (k + 1)

@@ -1,35 +1,32 @@
 -- The codes of the neighbours of a changed point, one after another.
 use Rattle.std.proofs.Common.{◌≡◌, ◌≢◌, ◌⊎◌, inl, inr, ℕ, zero, suc, ◌+◌, ◌*◌, ◌^◌, ◌≤◌, ◌<◌, Bool, true, false, cond, ◌||◌, List, length, refl, sym, ap, subst, ◌∙◌, arith, get_or, get_or-set_same, get_or-set_other}
-use Rattle.std.specs.Prelude.{Option, Some, None, slice_get}
+use Rattle.std.specs.Prelude.{Some, slice_get}
 use Rattle.std.specs.List.{list_any, range_with_len}
 use Rattle.std.proofs.Math.ListN.{set, length-set}
-use Rattle.std.proofs.lemmas.Nat.{same_from_place}
 use Rattle.std.proofs.lemmas.Option.{slice_get_within, slice_get-get_or, get_or_from_slice_get}
 use Rattle.std.proofs.lemmas.Bool.{or_parts, false_from_ne_true}
-use Rattle.game_rules.specs.Grid.{Grid, IsBoard, is_on, is_empty, holds, place_of, put, lift}
-use Rattle.game_rules.specs.Shapes.{is_at}
-use Rattle.game_rules.specs.Ways.{towards}
+use Rattle.game_rules.proofs.Common.{Grid, IsBoard, is_on, is_empty, holds, place_of, put, lift, is_at, towards}
 use Rattle.game_rules.specs.declared.RuleKind.{RuleKind}
 use Rattle.game_rules.specs.declared.Side.{Side}
 use Rattle.game_rules.specs.declared.Side.TheVariants.{Black, White}
 use Rattle.game_rules.specs.declared.Axis.{Axis}
-use Rattle.game_rules.specs.declared.Axis.TheVariants.{Row, Column, Down, Up}
 use Rattle.game_rules.specs.declared.Point.{Point}
 use Rattle.game_rules.specs.declared.Way.{Way}
 use Rattle.game_rules.specs.declared.Way.TheVariants.{Ahead, Behind}
-use Rattle.game_rules.proofs.Boards.{Apart, same_or_apart, is_empty-on, and_left, on_x, on_y}
-use Rattle.game_rules.proofs.Lines.{OnLine, along-OnLine, along-steps}
-use Rattle.game_rules.proofs.Points.{is_same_point-itself, is_same_point-same, is_at-Some}
+use Rattle.game_rules.proofs.Boards.{Apart, same_or_apart, is_empty-on, and_left, places_differ}
+use Rattle.game_rules.proofs.Lines.{along-steps}
+use Rattle.game_rules.proofs.Points.{is_same_point-itself, is_at-Some}
 use Rattle.game_rules.proofs.Positions.{IsBoard-lift, put-lift, lift-empty}
 use Rattle.game_rules.proofs.Rows.{any_found, any_none}
-use Rattle.stone_board.specs.Walks.{steps_left}
+use Rattle.stone_board.proofs.Strides.{on_left}
 use Rattle.row_shapes.specs.Rule.{reach_of}
 use Rattle.row_shapes.specs.LineCodes.{line_code}
+use Rattle.row_shapes.proofs.CodeDigits.{reach_cases, code_low}
 use Rattle.line_tables.specs.declared.axis_codes.Change.{Change}
 use Rattle.line_tables.specs.declared.axis_codes.Change.TheVariants.{Put, Lift}
 use Rattle.line_tables.specs.declared.axis_codes.Codes.{Codes}
 use Rattle.line_tables.specs.Codes.{codes_at, TellsAxis, TellsSoFar, FitChange, can_change, changed, shifted, digit_of_stone, weight, weights_to, is_near, neighbours_in, followed}
-use Rattle.line_tables.proofs.Weights.{reach_cases, code_low, code_near, code_far}
+use Rattle.line_tables.proofs.Weights.{code_near, code_far}
 
 -- ---- the next points in one way
 
@@ -90,31 +87,6 @@ module _ (d : Axis) (p : Point) where
     others_stay : (w : Way) → towards w d p (n + 1) ≡ Some x → (q : Point) → x ≢ q → followed w b d p (n + 1) q ≡ followed w b d p n q
     others_stay Ahead here q other = near_more Ahead n q (λ e. let same : Some x ≡ Some q = sym here ∙ e in other (cc))
     others_stay Behind here q other = ap (λ r. is_near Ahead d p (neighbours_in Ahead b d p) q || r) (near_more Behind n q (λ e. let same : Some x ≡ Some q = sym here ∙ e in other (cc)))
-
--- a point of the board is no more steps away than stay on the board
-on_left : (b : Grid) (p q : Point) (k : ℕ) → is_on b p ≡ true → is_on b q ≡ true → (w : Way) (d : Axis) → towards w d p k ≡ Some q → k ≤ steps_left w d b.width b.height p
-on_left b p q k on_p on_q w d h = by_way w h where
-  ahead : (d : Axis) → OnLine d p k 0 q → p.x < b.width → p.y < b.height → q.x < b.width → q.y < b.height → k ≤ steps_left Ahead d b.width b.height p
-  ahead Row l x y u v = omega arith
-  ahead Column l x y u v = omega arith
-  ahead Down l x y u v = omega arith
-  ahead Up l x y u v = omega arith
-
-  behind : (d : Axis) → OnLine d p 0 k q → p.x < b.width → p.y < b.height → q.x < b.width → q.y < b.height → k ≤ steps_left Behind d b.width b.height p
-  behind Row l x y u v = omega arith
-  behind Column l x y u v = omega arith
-  behind Down l x y u v = omega arith
-  behind Up l x y u v = omega arith
-
-  by_way : (w : Way) → towards w d p k ≡ Some q → k ≤ steps_left w d b.width b.height p
-  by_way Ahead h = ahead d (along-OnLine d p k 0 q h) (on_x b p on_p) (on_y b p on_p) (on_x b q on_q) (on_y b q on_q)
-  by_way Behind h = behind d (along-OnLine d p 0 k q h) (on_x b p on_p) (on_y b p on_p) (on_x b q on_q) (on_y b q on_q)
-
--- points of the board that are not one have different places
-places_differ : (b : Grid) (p q : Point) → is_on b p ≡ true → is_on b q ≡ true → Apart p q → place_of b q ≢ place_of b p
-places_differ b p q on_p on_q apart e =
-    let same = same_from_place q.y q.x p.y p.x b.width (on_x b q on_q) (on_x b p on_p) e in
-    apart.apart (sym same.1) (sym same.0)
 
 -- ---- the codes of a point, before the change and after it
 

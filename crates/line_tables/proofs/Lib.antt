@@ -7,7 +7,6 @@ mod FollowSteps
 -- lists with an item for each point of a board
 mod BoardLists
 -- what the shapes of codes tell of the board
-mod Shapes
 -- the list of five points with one point told anew
 mod FiveLists
 -- the list of five points, end by end
@@ -15,7 +14,6 @@ mod EndTests
 mod EndCalls
 -- what a move leaves of a lawful position and of its five points
 mod Moves
+
 -- what the shapes of a point tell of Black's foul there
-mod FoulShapes
 -- a stone that is in no four has no end that wins
-mod FourEnds

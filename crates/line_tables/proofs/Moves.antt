@@ -1,21 +1,13 @@
 -- What a move leaves of a lawful position and of its five points.
-use Rattle.std.proofs.Common.{◌≡◌, ℕ, ◌+◌, ◌*◌, ◌≤◌, suc, Bool, true, false, not, List, [], ◌∷◌, ◌++◌, length, refl, sym, ap, subst, ◌∙◌, arith, nat_eq}
-use Rattle.std.specs.List.{filter, list_any}
-use Rattle.std.proofs.lemmas.Bool.Decides.{nat_tests}
-use Rattle.std.proofs.Math.ListN.{length-append}
-use Rattle.game_rules.specs.Grid.{Grid, is_on, is_empty, holds, put, lift, points_of}
-use Rattle.game_rules.specs.Shapes.{five}
-use Rattle.game_rules.specs.Games.{five_points, has_five}
-use Rattle.game_rules.specs.Play.{IsPosition, IsUnwon, outcome, mover, other, after}
+use Rattle.std.proofs.Common.{◌≡◌, ℕ, true, List, sym, ap, subst, ◌∙◌}
+use Rattle.game_rules.proofs.Common.{Grid, is_on, is_empty, holds, put, lift, IsPosition, IsUnwon, outcome, mover, other, after}
 use Rattle.game_rules.specs.declared.RuleKind.{RuleKind}
 use Rattle.game_rules.specs.declared.Side.{Side}
 use Rattle.game_rules.specs.declared.Outcome.TheVariants.{GoesOn}
 use Rattle.game_rules.specs.declared.Point.{Point}
 use Rattle.game_rules.proofs.Boards.{and_left, lift-put, is_empty-on, holds-put_same}
 use Rattle.game_rules.proofs.Positions.{IsPosition-after, IsPosition-lift, GoesOn-empty, lift-empty, put-lift}
-use Rattle.game_rules.proofs.Points.{filter-none, filter-some}
 use Rattle.line_tables.specs.Tables.{TellsSide}
-use Rattle.line_tables.proofs.FiveLists.{filter_fits}
 
 -- the five points of a side that is said in another way
 pub side_as : (rule : RuleKind) (b : Grid) (t s : Side) (points : List Point) (room : ℕ) → t ≡ s → TellsSide rule b s points room → TellsSide rule b t points room
@@ -61,17 +53,4 @@ module _ (rule : RuleKind) (b d : Grid) (side : Side) (p : Point) (lawful : IsPo
 
 -- ---- a list that is filled point by point
 
-pub one_more_fits : (b : Grid) (f : Point → Bool) (found rest : List Point) (p : Point) (room : ℕ) → found ++ p ∷ rest ≡ filter f (points_of b) → b.width * b.height ≤ room → length found + 1 ≤ room
-one_more_fits b f found rest p room all fits =
-    let few = filter_fits b f in
-    let sizes : length found + length (p ∷ rest) ≡ length (filter f (points_of b)) = sym (length-append found (p ∷ rest)) ∙ ap length all in
-    omega (arith, few, sizes)
-
 -- ---- a side has a five point exactly where some is listed
-
-some_listed : (f : Point → Bool) (ps xs : List Point) → xs ≡ filter f ps → not (nat_eq (length xs) 0) ≡ list_any f ps
-some_listed f ps [] h = sym (filter-none f ps (sym h))
-some_listed f ps (x ∷ xs) h = let some = filter-some f x xs ps (sym h) in let more : nat_eq (suc (length xs)) 0 ≡ false = grind (arith, nat_tests) in rw (more, some) refl
-
-pub has_by : (rule : RuleKind) (b : Grid) (s : Side) (xs : List Point) (none : Bool) → xs ≡ five_points rule b s → none ≡ nat_eq (length xs) 0 → not none ≡ has_five rule b s
-has_by rule b s xs none h e = ap not e ∙ some_listed (five rule b s) (points_of b) xs h

@@ -1,11 +1,8 @@
 -- What a stone changes in the code of another point: one digit, if the code reaches as far.
-use Rattle.std.proofs.Common.{◌≡◌, ◌≢◌, ◌⊎◌, inl, inr, ℕ, zero, suc, ◌+◌, ◌-◌, ◌*◌, ◌^◌, ◌≤◌, ◌<◌, Bool, true, false, cond, List, [], ◌∷◌, refl, sym, ap, ◌∙◌, arith, nat_eq}
+use Rattle.std.proofs.Common.{◌≡◌, ◌≢◌, ◌⊎◌, inl, inr, ℕ, zero, suc, ◌+◌, ◌-◌, ◌*◌, ◌≤◌, ◌<◌, Bool, true, false, cond, refl, sym, ap, ◌∙◌, arith, nat_eq}
 use Rattle.std.specs.Prelude.{Option, Some, None, map}
 use Rattle.std.proofs.lemmas.Bool.Decides.{nat_tests}
-use Rattle.game_rules.specs.Grid.{Grid, IsBoard, is_on, is_empty, is_stone_of, stone_of, holds, put, along}
-use Rattle.game_rules.specs.Ways.{towards}
-use Rattle.game_rules.specs.declared.RuleKind.{RuleKind}
-use Rattle.game_rules.specs.declared.RuleKind.TheVariants.{Freestyle, Exact, Renju}
+use Rattle.game_rules.proofs.Common.{Grid, IsBoard, is_on, is_empty, is_stone_of, stone_of, holds, put, along, towards}
 use Rattle.game_rules.specs.declared.Side.{Side}
 use Rattle.game_rules.specs.declared.Side.TheVariants.{Black, White}
 use Rattle.game_rules.specs.declared.Axis.{Axis}
@@ -15,23 +12,11 @@ use Rattle.game_rules.specs.declared.Way.TheVariants.{Ahead, Behind}
 use Rattle.game_rules.proofs.Boards.{same_or_apart, is_empty-on, is_empty-put, holds-put_other, cell_at-put_same, stone_of-taken}
 use Rattle.game_rules.proofs.Lines.{along-then, along-same, along-zero, along-steps}
 use Rattle.game_rules.proofs.Positions.{is_at_or_not}
-use Rattle.row_shapes.specs.Rule.{reach_of}
 use Rattle.row_shapes.specs.LineCodes.{digit_at, from_digits, places_beside, line_code}
-use Rattle.row_shapes.proofs.ReachLaw.{digit_low}
+use Rattle.row_shapes.proofs.CodeDigits.{from_digits-sum, digits_same}
 use Rattle.line_tables.specs.Codes.{digit_of_stone, weight}
 
--- a shape reaches four neighbours or five
-pub reach_cases : (rule : RuleKind) (s : Side) → (reach_of rule s ≡ 4) ⊎ (reach_of rule s ≡ 5)
-reach_cases Freestyle s = inl refl
-reach_cases Exact s = inr refl
-reach_cases Renju Black = inr refl
-reach_cases Renju White = inl refl
-
 -- ---- sums of numbers of digits
-
-from_digits-sum : (f g e : ℕ → ℕ) → ((i : ℕ) → g i ≡ f i + e i) → (xs : List ℕ) → from_digits (map g xs) ≡ from_digits (map f xs) + from_digits (map e xs)
-from_digits-sum f g e h [] = refl
-from_digits-sum f g e h (x ∷ xs) = let here = h x in let rest = from_digits-sum f g e h xs in omega arith
 
 -- whether place i of the line around a point is so many steps from it in the opposite of that way
 abbrev pub seen_at : Way → ℕ → ℕ → ℕ → Bool
@@ -80,24 +65,6 @@ digits_more f g w digit k low high r (inr five) h =
     let sums = from_digits-sum f g (alone w r k digit) h (places_beside r) in
     let one = five_alone w digit k low high in
     rw five (rw five at sums ∙ ap (λ n. from_digits (map f (places_beside 5)) + n) one)
-
--- the same digits make the same number, whatever stands in the middle
-digits_same : (f g : ℕ → ℕ) (r : ℕ) → (r ≡ 4) ⊎ (r ≡ 5) → ((i : ℕ) → i ≤ 2 * r → i ≢ r → g i ≡ f i) → from_digits (map g (places_beside r)) ≡ from_digits (map f (places_beside r))
-digits_same f g r (inl four) h =
-    let same : (i : ℕ) → i ≤ 8 → i ≢ 4 → g i ≡ f i = λ i low other. h i (omega arith) (λ e. other (e ∙ four)) in
-    rw (four, same 0 (omega arith) (λ e. absurd (omega arith)), same 1 (omega arith) (λ e. absurd (omega arith)), same 2 (omega arith) (λ e. absurd (omega arith)), same 3 (omega arith) (λ e. absurd (omega arith)), same 5 (omega arith) (λ e. absurd (omega arith)), same 6 (omega arith) (λ e. absurd (omega arith)), same 7 (omega arith) (λ e. absurd (omega arith)), same 8 (omega arith) (λ e. absurd (omega arith))) refl
-digits_same f g r (inr five) h =
-    let same : (i : ℕ) → i ≤ 10 → i ≢ 5 → g i ≡ f i = λ i low other. h i (omega arith) (λ e. other (e ∙ five)) in
-    rw (five, same 0 (omega arith) (λ e. absurd (omega arith)), same 1 (omega arith) (λ e. absurd (omega arith)), same 2 (omega arith) (λ e. absurd (omega arith)), same 3 (omega arith) (λ e. absurd (omega arith)), same 4 (omega arith) (λ e. absurd (omega arith)), same 6 (omega arith) (λ e. absurd (omega arith)), same 7 (omega arith) (λ e. absurd (omega arith)), same 8 (omega arith) (λ e. absurd (omega arith)), same 9 (omega arith) (λ e. absurd (omega arith)), same 10 (omega arith) (λ e. absurd (omega arith))) refl
-
--- a number of digits below 3 is below the power of their number
-digits_low : (f : ℕ → ℕ) → ((i : ℕ) → f i < 3) → (r : ℕ) → (r ≡ 4) ⊎ (r ≡ 5) → from_digits (map f (places_beside r)) < 3 ^ (2 * r)
-digits_low f h r (inl four) = rw four (omega (arith, h 0, h 1, h 2, h 3, h 5, h 6, h 7, h 8))
-digits_low f h r (inr five) = rw five (omega (arith, h 0, h 1, h 2, h 3, h 4, h 6, h 7, h 8, h 9, h 10))
-
-pub code_low : (b : Grid) (s : Side) (d : Axis) (q : Point) (r : ℕ) → (r ≡ 4) ⊎ (r ≡ 5) → line_code r b s d q < 3 ^ (2 * r)
-unfolding line_code
-code_low b s d q r reach = digits_low (λ i. digit_at b s (along d q i r)) (λ i. digit_low b s (along d q i r)) r reach
 
 -- ---- digits, with a stone and without it
 

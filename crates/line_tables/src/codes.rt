@@ -157,7 +157,7 @@ impl<R: Rule> LineCodes<R> {
 
     /// The code of the neighbours of a point, as the side sees them.
     #[inline(always)]
-    #[tactic(auto, using(crate::proofs::Shapes::code_bound))]
+    #[tactic(auto, using(row_shapes::proofs::CodeDigits::code_bound))]
     pub(crate) fn code(&self, p: Point, axis: Axis, side: Side) -> u32
         requires on { IsTrue (is_on self.now p) }
         ensures code { result ≡ line_code (reach_of R.KIND side) self.now side axis p }

@@ -8,6 +8,7 @@ use Rattle.game_rules.specs.declared.RuleKind.{RuleKind}
 use Rattle.game_rules.specs.declared.Side.{Side}
 use Rattle.game_rules.specs.declared.Side.TheVariants.{Black, White}
 use Rattle.game_rules.specs.declared.Point.{Point}
+use Rattle.game_rules.proofs.Marks.{empty_board}
 use Rattle.text_lines.specs.Lines.{line_feed, text_of}
 use Rattle.text_lines.specs.Spellings.{point_text, points_text}
 use Rattle.position_files.proofs.Spellings.{side_fits}
@@ -17,7 +18,7 @@ use Rattle.position_files.specs.Boards.{AreSides, IsSide, SameBut}
 use Rattle.text_lines.proofs.Cuts.{is_free-append}
 use Rattle.text_lines.proofs.Items.{items_text-injective}
 use Rattle.text_lines.proofs.PointLaws.{point_items, points-free}
-use Rattle.position_files.proofs.Stones.{stones-within, stones-empty, empty_board}
+use Rattle.position_files.proofs.Stones.{stones-within, stones-empty}
 use Rattle.text_lines.proofs.LineLaws.{same_line}
 use Rattle.text_lines.proofs.TextLaws.{text_of-cons}
 

@@ -1,17 +1,18 @@
 -- Where bytes leave the lines of a board, and that lines spell one board.
-use Rattle.std.proofs.Common.{◌≡◌, ℕ, ◌+◌, ◌≤◌, Bool, true, false, refl, sym, ap, subst, ◌∙◌, arith, List, [], ◌∷◌, ◌++◌, length, take, map, get_or}
+use Rattle.std.proofs.Common.{◌≡◌, ℕ, ◌+◌, ◌≤◌, true, false, refl, sym, ap, subst, ◌∙◌, arith, List, [], ◌∷◌, ◌++◌, length, take, get_or}
 use Rattle.std.specs.Prelude.{None, codes}
 use Rattle.std.specs.List.{AllByRecursion}
-use Rattle.std.proofs.lemmas.List.{append_cancel_left, length-map, ext_get_or}
+use Rattle.std.proofs.lemmas.List.{append_cancel_left, ext_get_or}
 use Rattle.game_rules.specs.Grid.{Grid, IsBoard, is_stone_of}
-use Rattle.game_rules.specs.declared.Cell.{Cell}
-use Rattle.game_rules.specs.declared.Cell.TheVariants.{Empty, Black as BlackStone, White as WhiteStone}
+use Rattle.game_rules.specs.declared.Cell.TheVariants.{Empty}
 use Rattle.game_rules.specs.declared.Point.{Point}
 use Rattle.game_rules.specs.declared.TheConstants.{MIN_SIDE}
 use Rattle.game_rules.specs.declared.RuleKind.{RuleKind}
 use Rattle.game_rules.specs.declared.RuleKind.TheVariants.{Freestyle, Exact, Renju}
 use Rattle.game_rules.specs.declared.Side.{Side}
 use Rattle.game_rules.specs.declared.Side.TheVariants.{Black, White}
+use Rattle.game_rules.proofs.Cells.{without_white, blacks_of, IsBoard-blacks, black_kept, white_gone, cell-by_stones}
+use Rattle.game_rules.proofs.Marks.{point_at, marked, same_tests, empty_board, marked-map, marked-none}
 use Rattle.text_lines.specs.declared.fault.Fault.{Fault}
 use Rattle.text_lines.specs.declared.fault.Fault.TheVariants.{Bad, Memory}
 use Rattle.position_files.specs.Faults.{IsUpTo, at_line}
@@ -24,9 +25,8 @@ use Rattle.position_files.specs.Sections.{IsBoardLines, IsSectionFault}
 use Rattle.text_lines.proofs.Cuts.{is_free-append}
 use Rattle.text_lines.proofs.Items.{items_text-injective}
 use Rattle.text_lines.proofs.PointLaws.{point_items, points-free}
-use Rattle.position_files.proofs.Spellings.{size_text-injective, side_fits}
-use Rattle.position_files.proofs.Stones.{point_at, marked, stones-marked, stones-within, same_tests, empty_board, IsBoard-empty}
-use Rattle.position_files.proofs.Spellings.{rule_word-free, size-free}
+use Rattle.position_files.proofs.Spellings.{size_text-injective, side_fits, rule_word-free, size-free}
+use Rattle.position_files.proofs.Stones.{stones-marked, stones-within, IsBoard-empty}
 use Rattle.text_lines.proofs.TextLaws.{text_of-cons, text_of-push, AreFree, same_lines}
 use Rattle.position_files.proofs.BoardLaws.{width_side, height_side, none_at_first}
 
@@ -54,43 +54,6 @@ board-length kind b = refl
 
 -- ---- a board without White's stones
 
-without_white : Cell → Cell
-without_white Empty = Empty
-without_white BlackStone = BlackStone
-without_white WhiteStone = Empty
-
-abbrev blacks_of : Grid → Grid
-blacks_of b = record { width = b.width; height = b.height; cells = map without_white b.cells }
-
-IsBoard-blacks : (b : Grid) → IsBoard b → IsBoard (blacks_of b)
-IsBoard-blacks b ok = record {
-  wide = ok.wide;
-  width_fits = ok.width_fits;
-  high = ok.high;
-  height_fits = ok.height_fits;
-  filled = length-map b.cells without_white ∙ ok.filled;
-}
-
-marked-map : (at : ℕ → Point) (test other : Cell → Bool) (f : Cell → Cell) → ((c : Cell) → test (f c) ≡ other c) → (k : ℕ) (cs : List Cell) → marked at test k (map f cs) ≡ marked at other k cs
-marked-map at test other f same k [] = refl
-marked-map at test other f same k (c ∷ cs) = rw (same c, marked-map at test other f same (k + 1) cs) refl
-
-marked-none : (at : ℕ → Point) (k : ℕ) (cs : List Cell) → marked at (λ _. false) k cs ≡ []
-marked-none at k [] = refl
-marked-none at k (c ∷ cs) = marked-none at (k + 1) cs
-
-black_kept : (c : Cell) → is_stone_of Black (without_white c) ≡ is_stone_of Black c
-unfolding without_white
-black_kept Empty = refl
-black_kept BlackStone = refl
-black_kept WhiteStone = refl
-
-white_gone : (c : Cell) → is_stone_of White (without_white c) ≡ false
-unfolding without_white
-white_gone Empty = refl
-white_gone BlackStone = refl
-white_gone WhiteStone = refl
-
 blacks_black : (b : Grid) → IsBoard b → stones (blacks_of b) Black ≡ stones b Black
 blacks_black b ok =
     stones-marked (blacks_of b) Black (IsBoard-blacks b ok)
@@ -105,23 +68,12 @@ blacks_white b ok =
 
 -- ---- one board has these stones
 
-same_cell : (c d : Cell) → is_stone_of Black c ≡ is_stone_of Black d → is_stone_of White c ≡ is_stone_of White d → c ≡ d
-same_cell Empty Empty b w = refl
-same_cell Empty BlackStone b w = absurd cc
-same_cell Empty WhiteStone b w = absurd cc
-same_cell BlackStone Empty b w = absurd cc
-same_cell BlackStone BlackStone b w = refl
-same_cell BlackStone WhiteStone b w = absurd cc
-same_cell WhiteStone Empty b w = absurd cc
-same_cell WhiteStone BlackStone b w = absurd cc
-same_cell WhiteStone WhiteStone b w = refl
-
 pub same_board : (a b : Grid) → IsBoard a → IsBoard b → a.width ≡ b.width → a.height ≡ b.height → stones a Black ≡ stones b Black → stones a White ≡ stones b White → a ≡ b
 same_board a b ok_a ok_b w h black white =
     let count : length a.cells ≡ length b.cells = ok_a.filled ∙ rw (w, h) (sym ok_b.filled) in
     let tests = λ (s : Side) (e : stones a s ≡ stones b s). same_tests a.width (is_stone_of s) 0 a.cells b.cells count
     (sym (stones-marked a s ok_a) ∙ e ∙ stones-marked b s ok_b ∙ ap (λ n. marked (point_at n) (is_stone_of s) 0 b.cells) (sym w)) in
-    let cells : a.cells ≡ b.cells = ext_get_or Empty a.cells b.cells count (λ i within. same_cell (get_or a.cells i Empty) (get_or b.cells i Empty) (tests Black black i) (tests White white i)) in
+    let cells : a.cells ≡ b.cells = ext_get_or Empty a.cells b.cells count (λ i within. cell-by_stones (get_or a.cells i Empty) (get_or b.cells i Empty) (tests Black black i) (tests White white i)) in
     λ i. record { width = w i; height = h i; cells = cells i }
 
 -- ---- lines say the same of boards

@@ -10,6 +10,7 @@ use Rattle.game_rules.specs.declared.RuleKind.{RuleKind}
 use Rattle.strategy_graph.specs.Tables.{IsTable}
 use Rattle.strategy_graph.specs.declared.Node.{Node}
 use Rattle.strategy_graph.specs.declared.TheConstants.{MAX_NODES}
+use Rattle.strategy_graph.proofs.Filling.{corner, filled_table}
 use Rattle.text_lines.specs.Lines.{line_feed, text_of, LeavesAt}
 use Rattle.text_lines.specs.Reading.{ReadsLine, IsBetween, is_free}
 use Rattle.text_lines.proofs.Cuts.{is_free-append}
@@ -28,7 +29,7 @@ use Rattle.position_files.specs.Faults.{after_lines}
 use Rattle.position_files.specs.Sections.{IsBoardLines, AreNodes, AreNodeLines, IsSectionFault}
 use Rattle.position_files.proofs.NodeLaws.{nodes_on}
 use Rattle.position_files.proofs.BoardLines.{sides_of, board-free, same_sizes}
-use Rattle.position_files.proofs.Completions.{corner, corner_on, filled_table, nodes_fit}
+use Rattle.position_files.proofs.Completions.{corner_on, nodes_fit}
 
 -- ---- the first six lines
 

@@ -1,9 +1,7 @@
 -- What a text that has begun can go on with, and that what a table's text names fits.
-use Rattle.std.proofs.Common.{◌≡◌, ℕ, zero, suc, ◌+◌, ◌≤◌, ◌<◌, true, refl, sym, ap, subst, ◌∙◌, arith, List, [], ◌∷◌, ◌++◌, length, replicate, get_or, append_assoc}
+use Rattle.std.proofs.Common.{◌≡◌, ℕ, zero, suc, ◌≤◌, ◌<◌, true, refl, arith, List, [], ◌∷◌, ◌++◌, length, replicate, get_or}
 use Rattle.std.specs.Prelude.{Some}
 use Rattle.std.specs.List.{AllByRecursion}
-use Rattle.std.proofs.lemmas.List.{append-nil, length-append, length-replicate}
-use Rattle.std.proofs.lemmas.Option.{slice_get-get_or}
 use Rattle.game_rules.specs.Grid.{Grid, IsBoard, is_on}
 use Rattle.game_rules.specs.declared.Point.{Point}
 use Rattle.game_rules.proofs.Boards.{on_x, on_y}
@@ -14,27 +12,14 @@ use Rattle.strategy_graph.specs.declared.Rest.TheVariants.{Wins, To, Nothing}
 use Rattle.strategy_graph.specs.declared.Node.{Node}
 use Rattle.strategy_graph.specs.declared.TheConstants.{MAX_NODES}
 use Rattle.strategy_graph.proofs.Naming.{reply-below, rest-below}
-use Rattle.strategy_graph.proofs.Filling.{IsTable-push}
+use Rattle.strategy_graph.proofs.Filling.{corner, node_at}
 use Rattle.text_lines.specs.Reading.{IsWithin}
 use Rattle.position_files.specs.Boards.{IsSide}
 use Rattle.position_files.specs.Answers.{AnswersFit, NodeFits, ReplyFits, RestFits}
 use Rattle.position_files.proofs.Stones.{is_on_within}
 
--- the node that wins at once in the corner
-abbrev pub corner : Node
-corner = record { attack = record { x = 0; y = 0 }; replies = []; rest = Wins }
-
-corner_node : (i : ℕ) → IsNode corner i
-corner_node i = record { below = refl; rising = refl; winning = λ wins. refl }
-
 pub corner_on : (b : Grid) → IsBoard b → NamesOnBoard b corner
 corner_on b ok = record { attack = is_on_within b (record { x = 0; y = 0 }) (record { column = let w = ok.wide in omega (arith, w); row = let h = ok.high in omega (arith, h) }); replies = tt }
-
-pub filled_table : (m : ℕ) (nodes : List Node) → IsTable nodes → length nodes + m ≤ MAX_NODES → IsTable (nodes ++ replicate m corner)
-filled_table zero nodes table few = subst IsTable (sym (append-nil nodes)) table
-filled_table (suc m) nodes table few =
-    let count = length-append nodes (corner ∷ []) in
-    subst IsTable (append_assoc nodes (corner ∷ []) (replicate m corner)) (filled_table m (nodes ++ corner ∷ []) (IsTable-push nodes corner table (corner_node (length nodes)) (omega arith)) (omega (arith, count)))
 
 corner_fits : (width height : ℕ) → IsSide width → IsSide height → NodeFits width height corner
 corner_fits width height wide high =
@@ -49,9 +34,6 @@ corners_fit width height (suc m) wide high = (corner_fits width height wide high
 pub filled_fit : (width height m : ℕ) (nodes : List Node) → IsSide width → IsSide height → AllByRecursion (NodeFits width height) nodes → AllByRecursion (NodeFits width height) (nodes ++ replicate m corner)
 filled_fit width height m [] wide high all = corners_fit width height m wide high
 filled_fit width height m (n ∷ ns) wide high all = (all.0, filled_fit width height m ns wide high all.1)
-
-pub filled_length : (m : ℕ) (nodes : List Node) → length (nodes ++ replicate m corner) ≡ length nodes + m
-filled_length m nodes = length-append nodes (replicate m corner) ∙ ap (λ n. length nodes + n) (length-replicate m corner)
 
 -- ---- what is on the board, in a table, fits
 
@@ -89,9 +71,6 @@ node_fits b n i on_it is few = record {
   attack = within_on b n.attack on_it.attack;
   answers = answers_fit b (answers_of n) i on_it.replies is.below few is.winning;
 }
-
-pub node_at : (ns : List Node) (i : ℕ) → IsTable ns → i < length ns → IsNode (get_or ns i corner) i
-node_at ns i table within = table.nodes i (get_or ns i corner) (slice_get-get_or ns i corner within)
 
 pub nodes_fit : (b : Grid) (ns : List Node) → TableOnBoard b ns → IsTable ns → AllByRecursion (NodeFits b.width b.height) ns
 nodes_fit b ns on_it table = all_from (NodeFits b.width b.height) ns corner (λ i within.

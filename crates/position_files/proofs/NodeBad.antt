@@ -7,6 +7,7 @@ use Rattle.std.specs.Prelude.{Err}
 use Rattle.strategy_graph.specs.Tables.{IsNode, IsTable}
 use Rattle.strategy_graph.specs.declared.Node.{Node}
 use Rattle.strategy_graph.specs.declared.TheConstants.{MAX_NODES}
+use Rattle.strategy_graph.proofs.Filling.{corner, filled_table, filled_length, node_at}
 use Rattle.text_lines.specs.declared.fault.Fault.{Fault}
 use Rattle.text_lines.specs.declared.fault.Fault.TheVariants.{Bad, Memory}
 use Rattle.position_files.specs.Faults.{at_line}
@@ -21,7 +22,7 @@ use Rattle.text_lines.proofs.TextLaws.{AreFree, free_take, same_lines, text_of-p
 use Rattle.text_lines.proofs.FaultLaws.{gives_bad}
 use Rattle.position_files.proofs.AnswerLaws.{node_line-free, node_line-injective}
 use Rattle.position_files.proofs.NodeLaws.{AreRead}
-use Rattle.position_files.proofs.Completions.{corner, filled_table, filled_fit, filled_length, node_at, all_at}
+use Rattle.position_files.proofs.Completions.{filled_fit, all_at}
 
 module _ (width height : ℕ) (wide : IsSide width) (high : IsSide height) (bytes : List ℕ) where
   module _ (text rest : List ℕ) (free : is_free line_feed text ≡ true) (line : bytes ≡ text ++ line_feed ∷ rest) where

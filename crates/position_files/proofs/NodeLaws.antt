@@ -7,6 +7,7 @@ use Rattle.std.specs.Prelude.{codes}
 use Rattle.std.specs.Fmt.{decimal}
 use Rattle.game_rules.specs.Grid.{Grid}
 use Rattle.game_rules.specs.declared.RuleKind.{RuleKind}
+use Rattle.game_rules.proofs.Tests.{all_push}
 use Rattle.strategy_graph.specs.declared.Reply.{Reply}
 use Rattle.strategy_graph.specs.declared.Node.{Node}
 use Rattle.text_lines.specs.Lines.{line_feed, ended, text_of}
@@ -14,10 +15,8 @@ use Rattle.position_files.specs.Positions.{board_lines}
 use Rattle.position_files.specs.Tables.{node_line, nodes_lines}
 use Rattle.strategy_graph.specs.Tables.{TableOnBoard, RepliesOn}
 use Rattle.position_files.specs.Answers.{AddsNode, NodeFits, ReplyFits}
-use Rattle.text_lines.proofs.Items.{all_push}
 use Rattle.text_lines.proofs.TextLaws.{text_of-cons, text_of-push}
 use Rattle.position_files.proofs.Stones.{is_on_within}
-use Rattle.text_lines.proofs.TextLaws.{text_of-cons}
 
 -- so many nodes have been read, and the bytes go on with the rest after their lines
 pub record AreRead (width height : ℕ) (nodes : List Node) (count : ℕ) (bytes rest : List ℕ) : Type 0 where

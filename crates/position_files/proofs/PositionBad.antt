@@ -6,6 +6,7 @@ use Rattle.game_rules.specs.Grid.{Grid, IsBoard}
 use Rattle.game_rules.specs.declared.RuleKind.{RuleKind}
 use Rattle.game_rules.specs.declared.RuleKind.TheVariants.{Freestyle}
 use Rattle.game_rules.specs.declared.TheConstants.{MIN_SIDE}
+use Rattle.game_rules.proofs.Marks.{empty_board}
 use Rattle.foul_judge.specs.Lawful.{refusal}
 use Rattle.position_files.specs.declared.PositionFile.{PositionFile}
 use Rattle.position_files.specs.declared.error.FileError.{FileError}
@@ -15,7 +16,7 @@ use Rattle.text_lines.specs.Lines.{line_feed, text_of, FirstBad}
 use Rattle.position_files.specs.Positions.{board_lines, position_text, IsTextOfPosition, IsPositionText}
 use Rattle.position_files.specs.Sections.{IsBoardLines, IsSectionFault}
 use Rattle.position_files.specs.Faults.{IsPositionFault, IsRefusedAs, after_lines, in_file}
-use Rattle.position_files.proofs.Stones.{empty_board, IsBoard-empty}
+use Rattle.position_files.proofs.Stones.{IsBoard-empty}
 use Rattle.text_lines.proofs.TextLaws.{text_of-cons, AreFree, text_of-injective, whole_text}
 use Rattle.text_lines.proofs.Leaving.{HasParts, leaves_after}
 use Rattle.text_lines.proofs.Badness.{first_bad, too_many}

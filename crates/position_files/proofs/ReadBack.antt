@@ -6,8 +6,7 @@ use Rattle.position_files.proofs.BoardLines.{board-free, board-length}
 use Rattle.position_files.proofs.AnswerLaws.{start_line-free}
 use Rattle.position_files.proofs.NodeBad.{node_lines-free}
 use Rattle.std.specs.Prelude.{Some, None}
-use Rattle.game_rules.specs.Grid.{Grid}
-use Rattle.game_rules.specs.Play.{IsPosition}
+use Rattle.game_rules.proofs.Common.{Grid, IsPosition}
 use Rattle.game_rules.specs.declared.RuleKind.{RuleKind}
 use Rattle.strategy_graph.specs.Roots.{root_depth}
 use Rattle.foul_judge.specs.Lawful.{refusal}
@@ -19,12 +18,10 @@ use Rattle.position_files.specs.declared.error.HeadError.{HeadError}
 use Rattle.position_files.specs.declared.error.HeadError.TheVariants.{BadLine as BadHead, Memory as NoRoom}
 use Rattle.position_files.specs.declared.error.FileError.{FileError}
 use Rattle.position_files.specs.declared.error.FileError.TheVariants.{BadLine, Unlawful, WrongMoves, Memory}
-use Rattle.position_files.specs.Positions.{IsTextOfPosition}
-use Rattle.position_files.specs.Tables.{IsTextOfTable}
+use Rattle.position_files.specs.Positions.{IsTextOfPosition, board_lines}
+use Rattle.position_files.specs.Tables.{IsTextOfTable, node_line, start_line}
 use Rattle.position_files.specs.Faults.{IsPositionFault, IsTableFault}
 use Rattle.position_files.specs.ReadBack.{HeadsReadBack, NamesFirstBad, NodesNameFirstBad, NodesReadBack, PositionsReadBack, StartsNameFirstBad, StartsReadBack, TablesReadBack}
-use Rattle.position_files.specs.Positions.{board_lines}
-use Rattle.position_files.specs.Tables.{node_line, start_line}
 use Rattle.position_files.specs.Sections.{AreNodeLines, IsBoardLines, IsSectionFault, IsStartLines}
 use Rattle.text_lines.specs.Lines.{text_of, BeginsWith, FirstBad}
 use Rattle.text_lines.proofs.TextLaws.{AreFree, front_parts, text_of-cons}

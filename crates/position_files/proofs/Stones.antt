@@ -1,82 +1,41 @@
 -- The stones of a board, as they come in the list of its cells.
-use Rattle.std.proofs.Common.{◌≡◌, ℕ, zero, suc, ◌+◌, ◌-◌, ◌*◌, ◌/◌, ◌%◌, ◌≤◌, ◌<◌, Bool, true, false, cond, not, ◌&&◌, refl, sym, ap, ◌∙◌, arith, List, [], ◌∷◌, ◌++◌, length, take, drop, set, get_or, filter, nat_lt, replicate, inl, inr, ◌⊎◌}
-use Rattle.std.specs.List.{list_all, flat_map, range_with_len, AllByRecursion}
+use Rattle.std.proofs.Common.{◌≡◌, ℕ, zero, suc, ◌+◌, ◌-◌, ◌*◌, ◌/◌, ◌%◌, ◌≤◌, ◌<◌, Bool, true, false, cond, not, ◌&&◌, refl, sym, ap, ◌∙◌, arith, List, [], ◌∷◌, ◌++◌, length, take, drop, set, get_or, filter, nat_lt, replicate, inl, inr}
+use Rattle.std.specs.List.{flat_map, range_with_len, AllByRecursion}
 use Rattle.std.proofs.lemmas.Bool.{and_parts, not-true, lt-ltb, both_ways}
-use Rattle.std.proofs.lemmas.List.{drop-drop, length-drop, length-take-le, drop-set-lt, get_or-drop, take_more, length-replicate}
+use Rattle.std.proofs.lemmas.List.{drop-drop, length-drop, length-take-le, drop-set-lt, get_or-drop, length-replicate}
 use Rattle.std.proofs.lemmas.List.Elements.{filter-append}
-use Rattle.std.proofs.lemmas.Nat.{div-mul-add, mod-mul-add, div-add-mod', row_fits}
+use Rattle.std.proofs.lemmas.Nat.{div-mul-add, mod-mul-add, row_fits}
 use Rattle.std.proofs.Math.Seq.{drop-cons, take-add, take-length}
-use Rattle.game_rules.specs.Grid.{Grid, IsBoard, is_on, holds, is_stone_of, stone_of, place_of, cell_at, points_of, row_from, put, is_empty, is_empty_cell}
+use Rattle.game_rules.proofs.Common.{Grid, IsBoard, is_on, holds, is_stone_of, stone_of, place_of, cell_at, points_of, row_from, put, is_empty, is_empty_cell, other}
 use Rattle.game_rules.specs.declared.Side.{Side}
 use Rattle.game_rules.specs.declared.Cell.{Cell}
-use Rattle.game_rules.specs.declared.Cell.TheVariants.{Empty, Black as BlackStone, White as WhiteStone}
+use Rattle.game_rules.specs.declared.Cell.TheVariants.{Empty}
 use Rattle.game_rules.specs.declared.Point.{Point}
-use Rattle.game_rules.specs.Play.{other}
-use Rattle.game_rules.specs.declared.Side.TheVariants.{Black, White}
 use Rattle.game_rules.proofs.Boards.{stone_of_side, stone_of-other, place_fits, on_x, on_y, is_empty-cell, is_empty-on}
 use Rattle.game_rules.proofs.Positions.{IsBoard-put}
+use Rattle.game_rules.proofs.Cells.{empty_stone, taken_by, not_both_stones}
+use Rattle.game_rules.proofs.Marks.{point_at, marked, is_clear, marked-append, clear_none, clear_drop, marked-set_other, next_mark, same_tests, clear_from_none, clear_at, clear_replicate, empty_board}
 use Rattle.position_files.specs.Positions.{stones}
 use Rattle.position_files.specs.Boards.{SameBut, IsSide}
 use Rattle.text_lines.specs.Reading.{IsWithin}
 
--- the point with this place on a board of this width
-abbrev pub point_at : ℕ → ℕ → Point
-point_at width k = record { x = k % width; y = k / width }
-
 module _ (at : ℕ → Point) (test : Cell → Bool) where
-  -- the points of the cells that pass the test, the first cell having place k
-  abbrev pub marked : ℕ → List Cell → List Point
-  marked k [] = []
-  marked k (c ∷ cs) = cond (test c) (at k ∷ marked (k + 1) cs) (marked (k + 1) cs)
-
-  -- no cell passes the test
-  abbrev pub is_clear : List Cell → Bool
-  is_clear cs = list_all (λ c. not (test c)) cs
-
-  marked-append : (k : ℕ) (cs ds : List Cell) → marked k (cs ++ ds) ≡ marked k cs ++ marked (k + length cs) ds
-  marked-append k [] ds = let same : k + 0 ≡ k = omega arith in rw same refl
-  marked-append k (c ∷ cs) ds =
-      let next : k + suc (length cs) ≡ k + 1 + length cs = omega arith in
-      rw next (by_test (test c) (marked-append (k + 1) cs ds))
-    where
-      by_test : (r : Bool) → marked (k + 1) (cs ++ ds) ≡ marked (k + 1) cs ++ marked (k + 1 + length cs) ds → cond r (at k ∷ marked (k + 1) (cs ++ ds)) (marked (k + 1) (cs ++ ds)) ≡ cond r (at k ∷ marked (k + 1) cs) (marked (k + 1) cs) ++ marked (k + 1 + length cs) ds
-      by_test true h = ap (λ (l : List Point). at k ∷ l) h
-      by_test false h = h
-
-  pub clear_none : (k : ℕ) (cs : List Cell) → is_clear cs ≡ true → marked k cs ≡ []
-  clear_none k [] h = refl
-  clear_none k (c ∷ cs) h =
-      let parts = and_parts (not (test c)) (is_clear cs) h in
-      let no : test c ≡ false = not-true (test c) parts.0 in
-      rw no (clear_none (k + 1) cs parts.1)
-
-  pub clear_drop : (j : ℕ) (cs : List Cell) → is_clear cs ≡ true → is_clear (drop j cs) ≡ true
-  clear_drop zero cs h = h
-  clear_drop (suc j) [] h = refl
-  clear_drop (suc j) (c ∷ cs) h = clear_drop j cs (and_parts (not (test c)) (is_clear cs) h).1
-
   -- a mark after all others is the last of them
-  marked-set_last : (k i : ℕ) (cs : List Cell) (stone : Cell) → test stone ≡ true → i < length cs → is_clear (drop i cs) ≡ true → marked k (set cs i stone) ≡ marked k cs ++ at (k + i) ∷ []
+  marked-set_last : (k i : ℕ) (cs : List Cell) (stone : Cell) → test stone ≡ true → i < length cs → (is_clear at test) (drop i cs) ≡ true → (marked at test) k (set cs i stone) ≡ (marked at test) k cs ++ at (k + i) ∷ []
   marked-set_last k i [] stone passes within clear = absurd (omega arith)
   marked-set_last k zero (c ∷ cs) stone passes within clear =
-      let parts = and_parts (not (test c)) (is_clear cs) clear in
-      let none : marked (k + 1) cs ≡ [] = clear_none (k + 1) cs parts.1 in
+      let parts = and_parts (not (test c)) ((is_clear at test) cs) clear in
+      let none : (marked at test) (k + 1) cs ≡ [] = (clear_none at test) (k + 1) cs parts.1 in
       let was : test c ≡ false = not-true (test c) parts.0 in
       let here : k + 0 ≡ k = omega arith in
       rw (passes, was, none, here) refl
   marked-set_last k (suc i) (c ∷ cs) stone passes within clear =
       let next : k + suc i ≡ k + 1 + i = omega arith in
-      rw next (set_last_by k (at (k + 1 + i)) (test c) (marked (k + 1) cs) (marked (k + 1) (set cs i stone)) (marked-set_last (k + 1) i cs stone passes (omega arith) clear))
+      rw next (set_last_by k (at (k + 1 + i)) (test c) ((marked at test) (k + 1) cs) ((marked at test) (k + 1) (set cs i stone)) (marked-set_last (k + 1) i cs stone passes (omega arith) clear))
     where
       set_last_by : (k : ℕ) (p : Point) (r : Bool) (before after : List Point) → after ≡ before ++ p ∷ [] → cond r (at k ∷ after) after ≡ cond r (at k ∷ before) before ++ p ∷ []
       set_last_by k p true before after h = ap (λ (l : List Point). at k ∷ l) h
       set_last_by k p false before after h = h
-
-  -- a change from a cell that does not pass to one that does not leaves the marks
-  marked-set_other : (k i : ℕ) (cs : List Cell) (stone : Cell) → test stone ≡ false → i < length cs → test (get_or cs i Empty) ≡ false → marked k (set cs i stone) ≡ marked k cs
-  marked-set_other k i [] stone fails within was = absurd (omega arith)
-  marked-set_other k zero (c ∷ cs) stone fails within was = rw (fails, was) refl
-  marked-set_other k (suc i) (c ∷ cs) stone fails within was = rw (marked-set_other (k + 1) i cs stone fails (omega arith) was) refl
 
 -- ---- the stones of a board are the marks of its cells
 
@@ -129,76 +88,7 @@ stones-marked b s ok =
 
 -- ---- what the marks say of the cells
 
-point_at-place : (width k : ℕ) → (point_at width k).y * width + (point_at width k).x ≡ k
-point_at-place width k = div-add-mod' k width
-
--- The first mark is at a place from k on, where a cell passes the test, and the others come after it.
-pub record NextMark (width : ℕ) (test : Cell → Bool) (k : ℕ) (cs : List Cell) (place : ℕ) (others : List Point) : Type 0 where
-  pub later : k ≤ place
-  pub passes : test (get_or cs (place - k) Empty) ≡ true
-  pub rest : marked (point_at width) test (place + 1) (drop (place + 1 - k) cs) ≡ others
-
-next_mark_by : (width : ℕ) (test : Cell → Bool) (k : ℕ) (c : Cell) (cs : List Cell) (p : Point) (ps : List Point) (place : ℕ) → place ≡ p.y * width + p.x → (marked (point_at width) test (k + 1) cs ≡ p ∷ ps → NextMark width test (k + 1) cs place ps)
-    → (r : Bool) → test c ≡ r → cond r (point_at width k ∷ marked (point_at width) test (k + 1) cs) (marked (point_at width) test (k + 1) cs) ≡ p ∷ ps → NextMark width test k (c ∷ cs) place ps
-next_mark_by width test k c cs p ps place is deeper true e h =
-    let first : point_at width k ≡ p = cc in
-    let others : marked (point_at width) test (k + 1) cs ≡ ps = cc in
-    let same : place ≡ k = is ∙ sym (ap (λ (q : Point). q.y * width + q.x) first) ∙ point_at-place width k in
-    let none : place - k ≡ 0 = omega (arith, same) in
-    let one : place + 1 - k ≡ 1 = omega (arith, same) in
-    let next : place + 1 ≡ k + 1 = omega (arith, same) in
-    record {
-      later = omega (arith, same);
-      passes = rw none e;
-      rest = rw (one, next) others;
-    }
-next_mark_by width test k c cs p ps place is deeper false e h =
-    let rest = deeper h in
-    let low = rest.later in
-    let inside : place - k ≡ suc (place - (k + 1)) = omega (arith, low) in
-    let after : place + 1 - k ≡ suc (place + 1 - (k + 1)) = omega (arith, low) in
-    record {
-      later = omega (arith, low);
-      passes = rw inside rest.passes;
-      rest = rw after rest.rest;
-    }
-
-pub next_mark : (width : ℕ) (test : Cell → Bool) (k : ℕ) (cs : List Cell) (p : Point) (ps : List Point) (place : ℕ) → place ≡ p.y * width + p.x → marked (point_at width) test k cs ≡ p ∷ ps → NextMark width test k cs place ps
-next_mark width test k [] p ps place is h = absurd cc
-next_mark width test k (c ∷ cs) p ps place is h = next_mark_by width test k c cs p ps place is (next_mark width test (k + 1) cs p ps place is) (test c) refl h
-
--- no mark stands before its place
-too_early : (width : ℕ) (test : Cell → Bool) (k : ℕ) (cs : List Cell) (ps : List Point) → point_at width k ∷ ps ≡ marked (point_at width) test (k + 1) cs → ⊥
-too_early width test k cs ps h =
-    let next = next_mark width test (k + 1) cs (point_at width k) ps k (sym (point_at-place width k)) (sym h) in
-    let later = next.later in
-    omega (arith, later)
-
-same_tests_by : (width : ℕ) (test : Cell → Bool) (k : ℕ) (cs ds : List Cell) (q r : Bool)
-    → cond q (point_at width k ∷ marked (point_at width) test (k + 1) cs) (marked (point_at width) test (k + 1) cs) ≡ cond r (point_at width k ∷ marked (point_at width) test (k + 1) ds) (marked (point_at width) test (k + 1) ds)
-    → (q ≡ r) × (marked (point_at width) test (k + 1) cs ≡ marked (point_at width) test (k + 1) ds)
-same_tests_by width test k cs ds true true h = (refl, cc)
-same_tests_by width test k cs ds true false h = absurd (too_early width test k ds (marked (point_at width) test (k + 1) cs) h)
-same_tests_by width test k cs ds false true h = absurd (too_early width test k cs (marked (point_at width) test (k + 1) ds) (sym h))
-same_tests_by width test k cs ds false false h = (refl, h)
-
--- cells with the same marks pass at the same places
-pub same_tests : (width : ℕ) (test : Cell → Bool) (k : ℕ) (cs ds : List Cell) → length cs ≡ length ds → marked (point_at width) test k cs ≡ marked (point_at width) test k ds → (i : ℕ) → test (get_or cs i Empty) ≡ test (get_or ds i Empty)
-same_tests width test k [] [] len h i = refl
-same_tests width test k [] (d ∷ ds) len h i = absurd (omega arith)
-same_tests width test k (c ∷ cs) [] len h i = absurd (omega arith)
-same_tests width test k (c ∷ cs) (d ∷ ds) len h zero = (same_tests_by width test k cs ds (test c) (test d) h).0
-same_tests width test k (c ∷ cs) (d ∷ ds) len h (suc i) = same_tests width test (k + 1) cs ds (omega arith) (same_tests_by width test k cs ds (test c) (test d) h).1 i
-
 -- ---- stones that are put one after another
-
-module _ (at : ℕ → Point) (test : Cell → Bool) where
-  clear_from_none : (k : ℕ) (cs : List Cell) → marked at test k cs ≡ [] → is_clear at test cs ≡ true
-  clear_from_none k [] h = refl
-  clear_from_none k (c ∷ cs) h = by_test (test c) (clear_from_none (k + 1) cs) h where
-    by_test : (r : Bool) → (marked at test (k + 1) cs ≡ [] → is_clear at test cs ≡ true) → cond r (at k ∷ marked at test (k + 1) cs) (marked at test (k + 1) cs) ≡ [] → (not r && is_clear at test cs) ≡ true
-    by_test true rest h = absurd cc
-    by_test false rest h = rest h
 
 -- The stones of the side that stand now are the first of these points, all before this place, the other side's stones are as at
 -- first, and whatever other board has stones of the side on all these points has the rest of them from this place on.
@@ -221,10 +111,6 @@ none_put b s points ok none = record {
   clear = clear_from_none (point_at b.width) (is_stone_of s) 0 b.cells (sym (stones-marked b s ok) ∙ none);
   only = λ d ok_d w h e. sym (stones-marked d s ok_d) ∙ e;
 }
-
-empty_stone : (s : Side) → is_stone_of s Empty ≡ false
-empty_stone Black = refl
-empty_stone White = refl
 
 module _ (first now : Grid) (s : Side) (points : List Point) (i least : ℕ) (p : Point) (h : ArePut first now s points i least) (empty : is_empty now p ≡ true) (later : least ≤ place_of now p) where
   on : is_on now p ≡ true
@@ -297,26 +183,6 @@ not_earlier first now s points i least p h next early b ok same_rest own_points 
     let later = mark.later in
     omega (arith, early, later)
 
-taken_by : (s : Side) (c : Cell) → is_empty_cell c ≡ false → (is_stone_of s c ≡ true) ⊎ (is_stone_of (other s) c ≡ true)
-taken_by s Empty h = absurd cc
-taken_by Black BlackStone h = inl refl
-taken_by Black WhiteStone h = inr refl
-taken_by White BlackStone h = inr refl
-taken_by White WhiteStone h = inl refl
-
-not_both : (s : Side) (c : Cell) → is_stone_of s c ≡ true → is_stone_of (other s) c ≡ true → ⊥
-not_both s Empty own others = absurd cc
-not_both Black BlackStone own others = absurd cc
-not_both Black WhiteStone own others = absurd cc
-not_both White BlackStone own others = absurd cc
-not_both White WhiteStone own others = absurd cc
-
--- a cell of cells without marks has none
-clear_at : (at : ℕ → Point) (test : Cell → Bool) (cs : List Cell) (i : ℕ) → is_clear at test cs ≡ true → i < length cs → test (get_or cs i Empty) ≡ true → ⊥
-clear_at at test [] i h within passes = omega arith
-clear_at at test (c ∷ cs) zero h within passes = both_ways (test c) (not-true (test c) (and_parts (not (test c)) (is_clear at test cs) h).0) passes
-clear_at at test (c ∷ cs) (suc i) h within passes = clear_at at test cs i (and_parts (not (test c)) (is_clear at test cs) h).1 (omega arith) passes
-
 pub not_taken : (first now : Grid) (s : Side) (points : List Point) (i least : ℕ) (p : Point) → ArePut first now s points i least → drop i points ≡ p ∷ drop (i + 1) points → least ≤ place_of now p → is_on now p ≡ true → is_empty now p ≡ false → (b : Grid) → IsBoard b → SameBut s first b → stones b s ≡ points → ⊥
 not_taken first now s points i least p h next later on taken b ok same_rest own_points =
     let same_width : b.width ≡ now.width = same_rest.width ∙ sym h.width in
@@ -336,20 +202,12 @@ not_taken first now s points i least p h next later on taken b ok same_rest own_
           let marks : marked (point_at b.width) (is_stone_of (other s)) 0 b.cells ≡ marked (point_at b.width) (is_stone_of (other s)) 0 now.cells =
           sym (stones-marked b (other s) ok) ∙ same_rest.others ∙ sym h.others ∙ stones-marked now (other s) h.board ∙ ap (λ n. marked (point_at n) (is_stone_of (other s)) 0 now.cells) (sym same_width) in
           let same = same_tests b.width (is_stone_of (other s)) 0 b.cells now.cells count marks (place_of now p) in
-          not_both s (get_or b.cells (place_of now p) Empty) own (same ∙ theirs)
+          not_both_stones s (get_or b.cells (place_of now p) Empty) own (same ∙ theirs)
     ]
 
 pub all_put : (first now : Grid) (s : Side) (points : List Point) (i least : ℕ) → ArePut first now s points i least → i ≡ length points → SameBut s first now × (stones now s ≡ points)
 all_put first now s points i least h end =
     (record { width = h.width; height = h.height; others = h.others }, h.own ∙ rw end (take-length points))
-
-pub next_point : (points : List Point) (i : ℕ) → i < length points → drop i points ≡ get_or points i (record { x = 0; y = 0 }) ∷ drop (i + 1) points
-next_point points i within =
-    let next : i + 1 ≡ suc i = omega arith in
-    rw next (drop-cons points i (record { x = 0; y = 0 }) within)
-
-pub first_points : (points : List Point) (i : ℕ) → i < length points → take (i + 1) points ≡ take i points ++ get_or points i (record { x = 0; y = 0 }) ∷ []
-first_points points i within = take_more points i (record { x = 0; y = 0 }) within
 
 pub is_within_at : (width height : ℕ) (points : List Point) (i : ℕ) → AllByRecursion (IsWithin width height) points → i < length points → IsWithin width height (get_or points i (record { x = 0; y = 0 }))
 is_within_at width height [] i all within = absurd (omega arith)
@@ -386,13 +244,6 @@ unfolding stones
 stones-within b s = all_on b s (points_of b)
 
 -- ---- an empty board
-
-clear_replicate : (at : ℕ → Point) (test : Cell → Bool) (n : ℕ) → test Empty ≡ false → is_clear at test (replicate n Empty) ≡ true
-clear_replicate at test zero h = refl
-clear_replicate at test (suc n) h = rw h (clear_replicate at test n h)
-
-abbrev pub empty_board : ℕ → ℕ → Grid
-empty_board width height = record { width = width; height = height; cells = replicate (width * height) Empty }
 
 pub IsBoard-empty : (width height : ℕ) → IsSide width → IsSide height → IsBoard (empty_board width height)
 IsBoard-empty width height wide high = record {

@@ -5,6 +5,7 @@ use Rattle.std.proofs.lemmas.List.{append-nil, length-append, take_all}
 use Rattle.std.proofs.Math.Seq.{take-append_seam}
 use Rattle.game_rules.specs.declared.RuleKind.TheVariants.{Freestyle}
 use Rattle.game_rules.specs.declared.TheConstants.{MIN_SIDE}
+use Rattle.game_rules.proofs.Marks.{empty_board}
 use Rattle.foul_judge.specs.Lawful.{refusal}
 use Rattle.strategy_graph.specs.Tables.{Answers, IsTable}
 use Rattle.strategy_graph.specs.declared.roots.Root.{Root}
@@ -26,7 +27,7 @@ use Rattle.position_files.specs.Answers.{StartFits}
 use Rattle.position_files.specs.Bodies.{BodyFits, body_lines, IsBodyLines, IsFinishFault}
 use Rattle.position_files.specs.Sections.{IsSectionFault, IsStartLines}
 use Rattle.position_files.specs.Faults.{IsTableFault, IsMiscounted, after_lines, in_file}
-use Rattle.position_files.proofs.Stones.{empty_board, IsBoard-empty}
+use Rattle.position_files.proofs.Stones.{IsBoard-empty}
 use Rattle.position_files.proofs.TableLaws.{file_of}
 use Rattle.position_files.proofs.BoardLines.{least_side}
 use Rattle.position_files.proofs.SectionLaws.{only_start, only_fits}

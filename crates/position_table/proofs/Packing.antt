@@ -1,7 +1,5 @@
 -- The bytes of a board, and what they tell of it.
 use Rattle.std.proofs.Common.{◌≡◌, ℕ, zero, suc, ◌+◌, ◌*◌, ◌<◌, ◌≤◌, ◌/◌, ◌%◌, List, length, get_or, set, replicate, length-set, get_or-set_other, get_or-set_same, below_more, inl, inr, refl, sym, ap, subst, ◌∙◌, arith, lit<}
-use Rattle.std.proofs.Math.Nat.{mul_comm}
-use Rattle.std.proofs.lemmas.Nat.{mul-le}
 use Rattle.std.proofs.lemmas.Bool.{cases_lt}
 use Rattle.std.proofs.lemmas.List.{ext_get_or, get_or_past, get_or-replicate, length-replicate}
 use Rattle.std.proofs.lemmas.List.FromFn.{fill_by_all, get_or-map-range_with_len}
@@ -9,6 +7,7 @@ use Rattle.game_rules.specs.Grid.{Grid, IsBoard, place_of}
 use Rattle.game_rules.specs.declared.Cell.{Cell}
 use Rattle.game_rules.specs.declared.Cell.TheVariants.{Empty, Black, White}
 use Rattle.game_rules.specs.declared.Point.{Point}
+use Rattle.game_rules.proofs.Boards.{cells_fit, grid_eq, place-below}
 use Rattle.position_table.specs.Packing.{Packed, packed, bytes_of, byte_at, code_at, code_of}
 
 -- past the last cell the bits are 0
@@ -83,12 +82,6 @@ code_told s t i e =
     let at : 4 * (i / 4) + i % 4 ≡ i = omega arith in
     subst (λ n. code_at s n ≡ code_at t n) at (told_at s t (i / 4) (i % 4) (omega arith) e)
 
--- the cells of a board are at most 1,024
-cells_fit : (b : Grid) → IsBoard b → length b.cells ≤ 1024
-cells_fit b ok =
-    let most : b.width * b.height ≤ 32 * 32 = mul-le b.width b.height 32 32 ok.width_fits ok.height_fits in
-    rw ok.filled most
-
 -- cells of one number with the same bytes are the same
 cells_told : (s t : List Cell) → length s ≡ length t → length s ≤ 1024 → bytes_of s ≡ bytes_of t → s ≡ t
 cells_told s t long fits e =
@@ -98,9 +91,6 @@ cells_told s t long fits e =
     sym (bytes_of-get s (i / 4) in_bytes) ∙ ap (λ l. get_or l (i / 4) 0) e ∙ bytes_of-get t (i / 4) in_bytes in
     code_of-tells (get_or s i Empty) (get_or t i Empty) (code_told s t i bytes))
 
-grid_eq : (a b : Grid) → a.width ≡ b.width → a.height ≡ b.height → a.cells ≡ b.cells → a ≡ b
-grid_eq a b w h c = λ i. record { width = w i; height = h i; cells = c i }
-
 -- two boards that are packed alike are the same board
 pub packed-tells : (a b : Grid) → IsBoard a → IsBoard b → packed a ≡ packed b → a ≡ b
 packed-tells a b in_a in_b e =
@@ -109,13 +99,6 @@ packed-tells a b in_a in_b e =
     let bytes : bytes_of a.cells ≡ bytes_of b.cells = ap (λ (k : Packed). k.bytes) e in
     let area : a.width * a.height ≡ b.width * b.height = cc in
     grid_eq a b width height (cells_told a.cells b.cells (in_a.filled ∙ area ∙ sym in_b.filled) (cells_fit a in_a) bytes)
-
--- a point below the board has its place past the last cell
-pub place-below : (b : Grid) (p : Point) → IsBoard b → b.height ≤ p.y → length b.cells ≤ place_of b p
-place-below b p ok below =
-    let rows : b.width * b.height ≤ b.width * p.y = mul-le b.width b.height b.width p.y (omega arith) below in
-    let turned : b.width * p.y ≡ p.y * b.width = mul_comm b.width p.y in
-    rw ok.filled (omega arith)
 
 -- the first k bytes are those of the cells before p, which is the point at place 4k, and the others are 0
 pub record IsPackedTo (b : Grid) (p : Point) (bytes : List ℕ) (k : ℕ) : Type 0 where

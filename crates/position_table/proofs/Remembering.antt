@@ -8,8 +8,7 @@ use Rattle.lru.specs.LruCache.{LruCache, IsValid, put_entries}
 use Rattle.lru.proofs.CallerLemmas.{Contains-lookup_entry, Contains-lookup, Contains-promoted, Contains-take, Contains-remove_entry}
 use Rattle.lru.proofs.Splits.{Contains-cons}
 use Rattle.game_rules.proofs.Boards.{and_left, and_right}
-use Rattle.game_rules.specs.Grid.{Grid}
-use Rattle.game_rules.specs.Play.{IsPosition}
+use Rattle.game_rules.proofs.Common.{Grid, IsPosition}
 use Rattle.game_rules.specs.declared.RuleKind.{RuleKind}
 use Rattle.position_table.specs.Packing.{Packed, packed}
 use Rattle.position_table.specs.Remembering.{Remembered, IsTrueEntry, IsTrueTable, TestTells, same_packed, same_key, value_under, looked_up, kept}

@@ -4,9 +4,7 @@ use Rattle.std.specs.List.{All}
 use Rattle.std.proofs.lemmas.Bool.{eq-eqb}
 use Rattle.std.proofs.lemmas.List.{get_or-map, get_or-replicate, length-map, length-replicate}
 use Rattle.std.proofs.lemmas.List.Elements.{All-contains, All-from_get_or, All-replicate}
-use Rattle.game_rules.specs.Grid.{Grid}
-use Rattle.game_rules.specs.Play.{IsPosition, mover, after}
-use Rattle.game_rules.specs.Games.{has_five}
+use Rattle.game_rules.proofs.Common.{Grid, IsPosition, mover, after, has_five, behind_replies}
 use Rattle.game_rules.specs.declared.RuleKind.{RuleKind}
 use Rattle.game_rules.specs.declared.Point.{Point}
 use Rattle.game_rules.proofs.Positions.{mover-then}
@@ -17,7 +15,8 @@ use Rattle.proof_tree.specs.Trees.{Tree, link_at, numbers_at}
 use Rattle.proof_tree.specs.declared.Kind.{Kind}
 use Rattle.proof_tree.specs.declared.Kind.TheVariants.{Attack, Defend}
 use Rattle.proof_tree.specs.declared.Numbers.{Numbers}
-use Rattle.threat_game.specs.ThreatGame.{behind_replies, threat_tree, move_at, nowhere}
+use Rattle.proof_tree.proofs.SumLaws.{IsFresh, fresh-sum}
+use Rattle.threat_game.specs.ThreatGame.{threat_tree, move_at, nowhere}
 use Rattle.threat_game.specs.Attacks.{OthersFail, tried_moves}
 use Rattle.proof_number.specs.declared.notes.Note.{Note}
 use Rattle.proof_number.specs.declared.search.Search.{Search}
@@ -32,7 +31,7 @@ use Rattle.proof_number.proofs.Recording.{keeps-all}
 use Rattle.proof_number.proofs.Steps.{attack-moves, attack-no_five, leaf-compiled, leaf-lawful, leaf-noted, lost-step}
 use Rattle.proof_number.proofs.Sums.{sum-le, sum-less, sum-list}
 use Rattle.threat_game.proofs.Trying.{none-tried, tried-enough}
-use Rattle.proof_number.proofs.Widening.{IsFresh, fresh-sum, sum-nothing, sum-under}
+use Rattle.proof_number.proofs.Widening.{sum-nothing, sum-under}
 
 -- the note of a node of which nothing is known
 abbrev pub open_note : ℕ → Point → Note

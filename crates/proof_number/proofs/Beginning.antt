@@ -1,26 +1,19 @@
 -- A search whose tree has one node: the root is open, or it is settled as won or lost.
-use Rattle.std.proofs.Common.{◌≡◌, ◌∙◌, ℕ, zero, suc, ◌+◌, ◌-◌, ◌<◌, ◌≤◌, Bool, true, false, cond, ◌&&◌, not, refl, sym, ap, subst, arith, List, [], ◌∷◌, length, nat_eq, get_or}
+use Rattle.std.proofs.Common.{◌≡◌, ◌∙◌, ℕ, ◌+◌, ◌-◌, ◌<◌, ◌≤◌, Bool, true, false, cond, ◌&&◌, not, refl, sym, ap, subst, arith, List, [], length, nat_eq}
 use Rattle.std.proofs.lemmas.Bool.{eq-eqb, ne_eqb}
 use Rattle.std.proofs.lemmas.List.{get_or-map, get_or-set_same, length-map, length-set}
-use Rattle.game_rules.specs.Grid.{Grid, points_of}
-use Rattle.game_rules.specs.Shapes.{five}
-use Rattle.game_rules.specs.Play.{IsPosition, mover}
-use Rattle.game_rules.specs.Games.{WinsByThreats, five_points, has_five}
+use Rattle.game_rules.proofs.Common.{Grid, IsPosition, mover, WinsByThreats, has_five}
 use Rattle.game_rules.specs.declared.RuleKind.{RuleKind}
-use Rattle.game_rules.specs.declared.Side.{Side}
-use Rattle.game_rules.specs.declared.Point.{Point}
-use Rattle.game_rules.proofs.Boards.{and_left}
-use Rattle.game_rules.proofs.Points.{filter-none, filter-passes}
-use Rattle.std.specs.List.{list_all}
 use Rattle.position_table.proofs.Remembering.{true-none}
 use Rattle.strategy_graph.specs.declared.Node.{Node}
 use Rattle.strategy_compiler.specs.Nodes.{IsCompiled}
 use Rattle.strategy_compiler.specs.declared.wins.WrittenWin.{WrittenWin}
 use Rattle.proof_tree.specs.Combining.{is_settled, settled_numbers}
-use Rattle.proof_tree.specs.Trees.{IsTree, Tree, chosen, link_at, most_proving, numbers_at, walk_end}
+use Rattle.proof_tree.specs.Trees.{IsTree, Tree, link_at, numbers_at}
 use Rattle.proof_tree.specs.declared.Kind.{Kind}
 use Rattle.proof_tree.specs.declared.Kind.TheVariants.{Attack, Defend}
 use Rattle.proof_tree.specs.declared.Numbers.{Numbers}
+use Rattle.proof_tree.proofs.SumLaws.{lone-childless}
 use Rattle.threat_game.specs.ThreatGame.{threat_tree}
 use Rattle.proof_number.specs.declared.notes.Note.{Note}
 use Rattle.proof_number.specs.declared.search.Search.{Search}
@@ -32,45 +25,14 @@ use Rattle.proof_number.specs.Remembered.{IsTrueOf}
 use Rattle.proof_number.specs.Searches.{AreWritten, IsCounted, IsNew, IsNotedWin, IsSettledAt, Searches, attacks_behind, behind_at, behind_leaves, defences_behind, game_of, is_attack, noted_won, sum_below, unwritten}
 use Rattle.proof_number.proofs.GameBoards.{board-root}
 use Rattle.strategy_compiler.proofs.Growing.{grows-length}
-use Rattle.proof_number.proofs.Settling.{one_where}
-use Rattle.proof_number.proofs.Steps.{win-some}
+use Rattle.strategy_compiler.proofs.Winning.{win-some}
 use Rattle.proof_number.proofs.Sums.{sum-suc, sum-zero}
 use Rattle.threat_game.proofs.TreeLaws.{tree-positive}
+use Rattle.threat_game.proofs.Counting.{one_where}
 
 -- ---- five points that are listed
 
-pub listed-none : (rule : RuleKind) (b : Grid) (s : Side) (xs : List Point) → xs ≡ five_points rule b s → length xs < 1 → has_five rule b s ≡ false
-listed-none rule b s [] are none = filter-none (five rule b s) (points_of b) (sym are)
-listed-none rule b s (w ∷ more) are none = absurd (omega (arith, none))
-
-pub listed-first : (rule : RuleKind) (b : Grid) (s : Side) (xs : List Point) (d : Point) → xs ≡ five_points rule b s → 1 ≤ length xs → five rule b s (get_or xs 0 d) ≡ true
-listed-first rule b s [] d are some = absurd (omega (arith, some))
-listed-first rule b s (w ∷ more) d are some =
-    let all : list_all (five rule b s) (w ∷ more) ≡ true = ap (list_all (five rule b s)) are ∙ filter-passes (five rule b s) (points_of b) in
-    and_left (five rule b s w) _ all
-
 -- ---- a tree of one node
-
-module _ (t : Tree) (ok : IsTree t) (one : length t.links ≡ 1) where
-  pub lone-childless : (link_at t.links 0).count ≡ 0
-  lone-childless = by_count (link_at t.links 0).count refl where
-    by_count : (n : ℕ) → (link_at t.links 0).count ≡ n → n ≡ 0
-    by_count zero e = refl
-    by_count (suc n) e =
-        let first = ok.linked.later 0 (omega (arith, one)) (omega (arith, e)) in
-        let within = ok.linked.within 0 (omega (arith, one)) in
-        absurd (omega (arith, first, within, e, one))
-
-  -- the root is the most-proving leaf
-  pub lone-leaf : 0 ≡ most_proving t
-  lone-leaf = sym (walked (length t.links) one) where
-    walked : (n : ℕ) → n ≡ 1 → walk_end n t 0 ≡ 0
-    walked zero e = absurd (omega (arith, e))
-    walked (suc n) e = ap (λ r. cond r 0 (walk_end n t (chosen t 0))) (eq-eqb (link_at t.links 0).count 0 lone-childless)
-
--- a win within the depth has few moves
-pub few-moves : (rule : RuleKind) (n : ℕ) (b : Grid) (c : List Node) (win : WrittenWin) → n ≤ 60 → IsThreatWin rule n b c win → win.moves < 256
-few-moves rule n b c win low is = let m = is.written.within in omega (arith, low, m)
 
 -- what is known of the root
 pub record IsRootOf (rule : RuleKind) (s : Search) (t : Tree) (c : List Node) : Type 0 where

@@ -5,13 +5,12 @@ use Rattle.std.specs.List.{sum_by}
 use Rattle.std.proofs.lemmas.Bool.{cases_lt}
 use Rattle.std.proofs.lemmas.List.{get_or_append_left, get_or_push, length_push}
 use Rattle.std.proofs.lemmas.List.Sums.{sum_by_more, sum_by_more_le}
-use Rattle.game_rules.specs.Grid.{Grid}
-use Rattle.game_rules.specs.Play.{after}
+use Rattle.game_rules.proofs.Common.{Grid, after}
 use Rattle.game_rules.specs.declared.RuleKind.{RuleKind}
 use Rattle.strategy_graph.specs.declared.Node.{Node}
 use Rattle.strategy_graph.specs.Tables.{NamesLower}
 use Rattle.strategy_compiler.specs.declared.wins.WrittenWin.{WrittenWin}
-use Rattle.strategy_compiler.proofs.Winning.{growth_keeps-wins}
+use Rattle.strategy_compiler.proofs.Winning.{growth_keeps-wins, win-some}
 use Rattle.proof_tree.specs.Combining.{no_numbers}
 use Rattle.proof_tree.specs.Trees.{numbers_at}
 use Rattle.proof_tree.specs.declared.Numbers.{Numbers}
@@ -23,7 +22,6 @@ use Rattle.strategy_compiler.specs.Growth.{GrowsBy}
 use Rattle.proof_number.specs.Notes.{no_note, note_at, win_of}
 use Rattle.threat_game.specs.Replies.{is_open, moves_for, nodes_for}
 use Rattle.strategy_compiler.proofs.Growing.{grows-length, grows-then}
-use Rattle.proof_number.proofs.Steps.{win-some}
 
 -- what is noted first of a child
 abbrev pub first_note : Child → ℕ → Note
@@ -86,11 +84,6 @@ module _ (rule : RuleKind) (left : ℕ) (c : Grid) where
         subst (λ (d : List Node). AreSettled rule left c d children (k + 1) new_numbers new_notes) (sym grows.is)
         (subst (λ (ns : List Numbers). AreSettled rule left c (t ++ grows.added) children (k + 1) ns new_notes) (sym numbers_are)
         (subst (λ (ms : List Note). AreSettled rule left c (t ++ grows.added) children (k + 1) (numbers ++ child_numbers win ∷ []) ms) (sym notes_are) all))
-
--- a win that is compiled takes no more moves than are left
-pub moves-few : (rule : RuleKind) (left least : ℕ) (b : Grid) (t : List Node) (win : Option WrittenWin) → least ≤ left → left < 256 → IfSome win (λ (found : WrittenWin). (moves : ℕ) → least ≤ moves → IsThreatWin rule moves b t found) → IfSome win (λ (found : WrittenWin). found.moves < 256)
-moves-few rule left least b t None enough fits h = tt
-moves-few rule left least b t (Some found) enough fits h = let is = h left enough in let within = is.written.within in omega (arith, within, fits)
 
 -- ---- the nodes that are compiled
 

@@ -13,10 +13,12 @@ use Rattle.strategy_compiler.specs.Nodes.{IsCompiled}
 use Rattle.strategy_compiler.specs.Growth.{Writes}
 use Rattle.strategy_compiler.specs.Forks.{WinsByAnswers}
 use Rattle.strategy_compiler.specs.Wins.{IsWrittenWin}
+use Rattle.strategy_compiler.proofs.Winning.{win-some}
 use Rattle.proof_tree.specs.Combining.{settled_numbers}
 use Rattle.proof_tree.specs.Trees.{IsChild, IsOnWayUp, Tree, link_at, numbers_at}
 use Rattle.proof_tree.specs.declared.Kind.{Kind}
 use Rattle.proof_tree.specs.declared.Kind.TheVariants.{Attack}
+use Rattle.threat_game.proofs.Counting.{one_where}
 use Rattle.proof_number.specs.declared.notes.Note.{Note}
 use Rattle.proof_number.specs.declared.search.Search.{Search}
 use Rattle.proof_number.specs.Notes.{answer_of, no_note, note_at}
@@ -25,13 +27,7 @@ use Rattle.proof_number.specs.Searches.{IsAbove, IsNotedWin, IsSearching, KeepsT
 use Rattle.proof_number.proofs.GameBoards.{left-low}
 use Rattle.proof_number.proofs.Compiling.{child-inside, kids-below, kids-rising, node-some, node-win, won-keeps, won-searching}
 use Rattle.proof_number.proofs.Recording.{won-node}
-use Rattle.proof_number.proofs.Settling.{one_where}
-use Rattle.proof_number.proofs.Steps.{win-some}
-use Rattle.proof_number.proofs.Sums.{sum-less, sum-suc, sum-zero}
-
-sum-zeros : (n : ℕ) → sum_below n (λ i. 0) ≡ 0
-sum-zeros zero = sum-zero (λ i. 0)
-sum-zeros (suc n) = let a = sum-suc n (λ i. 0) in let rest = sum-zeros n in omega (arith, a, rest)
+use Rattle.proof_number.proofs.Sums.{sum-zeros, sum-less, sum-suc, sum-zero}
 
 module _ (rule : RuleKind) (s : Search) (t : Tree) (c : List Node) (node : ℕ) (searches : Searches rule s t c (IsOnWayUp t.links node)) (inside : node < length t.links)
     (attack : (link_at t.links node).kind ≡ Attack) (proved : numbers_at t.numbers node ≡ settled_numbers true) (unwon : (note_at s.notes.items node).moves ≡ 0) where

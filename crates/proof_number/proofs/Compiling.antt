@@ -1,12 +1,10 @@
 -- A proved node of the attacker is compiled: the nodes behind its proved move have wins, and the search goes on with one more.
-use Rattle.std.proofs.Common.{◌≡◌, ◌≢◌, ◌⊎◌, inl, inr, ℕ, zero, suc, ◌+◌, ◌<◌, ◌≤◌, Bool, true, false, ◌&&◌, refl, sym, ap, subst, ◌∙◌, arith, List, ◌++◌, map, length, take, drop, get_or, nat_eq}
+use Rattle.std.proofs.Common.{◌≡◌, ◌≢◌, ◌⊎◌, inl, inr, ℕ, suc, ◌+◌, ◌<◌, ◌≤◌, Bool, true, false, ◌&&◌, refl, sym, ap, subst, ◌∙◌, arith, List, ◌++◌, map, length, take, drop, get_or, nat_eq}
 use Rattle.std.specs.Prelude.{All}
 use Rattle.std.proofs.lemmas.Bool.{cases_eq, eq-eqb, ne_eqb}
 use Rattle.std.proofs.lemmas.List.{get_or-map, get_or-take, get_or-drop, get_or-set_same, get_or-set_other, length-map, length-take, length-drop, length-append, take-map, drop-map}
 use Rattle.std.proofs.Math.Seq.{map-set_same}
-use Rattle.game_rules.specs.Grid.{Grid}
-use Rattle.game_rules.specs.Play.{outcome, after}
-use Rattle.game_rules.specs.Games.{LosesOr}
+use Rattle.game_rules.proofs.Common.{Grid, outcome, after, LosesOr}
 use Rattle.game_rules.specs.declared.RuleKind.{RuleKind}
 use Rattle.game_rules.specs.declared.Point.{Point}
 use Rattle.game_rules.specs.declared.Outcome.TheVariants.{GoesOn}
@@ -18,24 +16,26 @@ use Rattle.strategy_compiler.specs.declared.wins.WrittenWin.{WrittenWin}
 use Rattle.strategy_compiler.specs.Nodes.{IsCompiled}
 use Rattle.strategy_compiler.specs.Wins.{IsWrittenWin}
 use Rattle.proof_tree.specs.Combining.{combined, is_settled, other_kind, settled_numbers, total}
-use Rattle.proof_tree.specs.Trees.{IsChild, IsLinked, IsOnWayUp, Tree, ancestor, children_of, link_at, numbers_at}
+use Rattle.proof_tree.specs.Trees.{IsChild, IsOnWayUp, Tree, children_of, link_at, numbers_at}
 use Rattle.proof_tree.specs.declared.Kind.{Kind}
 use Rattle.proof_tree.specs.declared.Kind.TheVariants.{Attack, Defend}
-use Rattle.proof_tree.specs.declared.Link.{Link}
 use Rattle.proof_tree.specs.declared.Numbers.{Numbers}
+use Rattle.proof_tree.proofs.Settled.{settled-proved}
+use Rattle.proof_tree.proofs.Ancestors.{above-low}
 use Rattle.proof_number.specs.declared.notes.Note.{Note}
 use Rattle.proof_number.specs.declared.search.Search.{Search}
 use Rattle.proof_number.specs.Notes.{answer_of, no_note, note_at, win_of}
 use Rattle.threat_game.specs.Replies.{replies_at}
 use Rattle.proof_number.specs.GameTrees.{AreAllReplies, GameTree, HasTried, IsGameTree, board_at, left_at, left_before, moves_of, noted_tree}
 use Rattle.threat_game.specs.ThreatGame.{move_at, nowhere}
+use Rattle.threat_game.proofs.Counting.{one_where}
 use Rattle.proof_number.specs.Searches.{AreWritten, IsAbove, IsCounted, IsNotedWin, IsSearching, KeepsTree, game_of, is_attack, noted_won, sum_below, unwritten}
-use Rattle.proof_number.proofs.GameTruths.{IsChildOf, child-of, each-zero, settled-proved}
+use Rattle.proof_number.proofs.GameTruths.{IsChildOf, child-of, each-zero}
 use Rattle.strategy_compiler.specs.Forks.{WinsByAnswers}
 use Rattle.proof_number.proofs.Records.{written-node}
 use Rattle.proof_number.proofs.Remembering.{memo-grown}
 use Rattle.proof_number.proofs.Rising.{noted-rising}
-use Rattle.proof_number.proofs.Settling.{one_where, written-grown}
+use Rattle.proof_number.proofs.Settling.{written-grown}
 use Rattle.proof_number.proofs.Sums.{sum-less}
 
 -- ---- the notes of nodes
@@ -48,16 +48,6 @@ won-places rule s t items i win is =
     let left : map (λ (n : Note). n.left) items ≡ map (λ (n : Note). n.left) s.notes.items =
     ap (map (λ (n : Note). n.left)) is ∙ map-set_same (λ (n : Note). n.left) s.notes.items i (record (note_at s.notes.items i) { moves = win.moves; node = win.node }) no_note refl in
     λ r. record { rule = rule; start = s.root; tree = t; moves = moves r; left = left r }
-
--- a node above another does not come after it
-pub above-low : (links : List Link) (w : IsLinked links) (steps i : ℕ) → i < length links → ancestor links steps i ≤ i
-above-low links w zero i inside = omega arith
-above-low links w (suc s) i inside = up (cases_eq (ancestor links s i) 0) (above-low links w s i inside) where
-  up : (ancestor links s i ≡ 0) ⊎ (ancestor links s i ≡ 0 → ⊥) → ancestor links s i ≤ i → (link_at links (ancestor links s i)).parent ≤ i
-  up (inl root) low =
-      let to : (link_at links (ancestor links s i)).parent ≡ 0 = ap (λ (m : ℕ). (link_at links m).parent) root ∙ w.root_parent in
-      omega (arith, to)
-  up (inr more) low = let to = w.parent_first (ancestor links s i) (omega (arith, more)) (omega (arith, low, inside)) in omega (arith, to, low)
 
 module _ (rule : RuleKind) (s : Search) (t : Tree) (c : List Node) (node : ℕ) (h : IsSearching rule s t c (IsOnWayUp t.links node)) (inside : node < length t.links)
     (attack : (link_at t.links node).kind ≡ Attack) (proved : numbers_at t.numbers node ≡ settled_numbers true) (unwon : (note_at s.notes.items node).moves ≡ 0) where

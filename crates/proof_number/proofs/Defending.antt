@@ -1,25 +1,20 @@
 -- A leaf of the defender is settled where a reply leaves no win, or else gets a child for each reply.
 use Rattle.std.proofs.Common.{◌≡◌, inl, inr, ℕ, suc, ◌+◌, ◌-◌, ◌<◌, ◌≤◌, Bool, true, false, cond, ◌&&◌, not, refl, sym, ap, subst, ◌∙◌, arith, List, [], ◌∷◌, ◌++◌, length, map, get_or}
-use Rattle.std.specs.Prelude.{Option, Some, None}
 use Rattle.std.specs.List.{All, sum_by}
 use Rattle.std.proofs.lemmas.Bool.{eq-eqb, ne_eqb}
 use Rattle.std.proofs.lemmas.List.{get_or-map, length-map}
 use Rattle.std.proofs.lemmas.List.Elements.{All-from_get_or}
 use Rattle.std.proofs.lemmas.List.Sums.{sum_by-cons, sum_by-le}
 use Rattle.std.proofs.lemmas.List.Filters.{length-filter_both}
-use Rattle.game_rules.specs.Grid.{Grid, is_empty, points_of}
-use Rattle.game_rules.specs.Shapes.{five}
-use Rattle.game_rules.specs.Play.{IsPosition, foul_of, mover, outcome, outcome_by, after, goes_on}
-use Rattle.game_rules.specs.Games.{LosesOr, WinsByThreats, has_five, if_goes_on}
+use Rattle.game_rules.proofs.Common.{Grid, is_empty, points_of, five, IsPosition, foul_of, mover, outcome, after, goes_on, LosesOr, WinsByThreats, has_five, if_goes_on, behind_replies}
 use Rattle.game_rules.specs.declared.RuleKind.{RuleKind}
-use Rattle.game_rules.specs.declared.Foul.{Foul}
 use Rattle.game_rules.specs.declared.Outcome.{Outcome}
-use Rattle.game_rules.specs.declared.Outcome.TheVariants.{Refused, Wins, Fouls, Draws, GoesOn}
 use Rattle.game_rules.specs.declared.Point.{Point}
 use Rattle.game_rules.proofs.Points.{any_witness}
 use Rattle.game_rules.proofs.Positions.{IsPosition-after}
-use Rattle.game_rules.proofs.Outcomes.{goes_on-is}
+use Rattle.game_rules.proofs.Outcomes.{goes_on-is, not-last, none-draws}
 use Rattle.game_rules.proofs.Places.{points_few}
+use Rattle.game_rules.proofs.Games.{win-has_five}
 use Rattle.strategy_graph.specs.declared.Node.{Node}
 use Rattle.strategy_graph.specs.declared.TheConstants.{MAX_NODES}
 use Rattle.strategy_graph.proofs.Filling.{IsTable-lower}
@@ -29,7 +24,9 @@ use Rattle.proof_tree.specs.Trees.{Tree, link_at, numbers_at}
 use Rattle.proof_tree.specs.declared.Kind.{Kind}
 use Rattle.proof_tree.specs.declared.Kind.TheVariants.{Attack, Defend}
 use Rattle.proof_tree.specs.declared.Numbers.{Numbers}
-use Rattle.threat_game.specs.ThreatGame.{behind_replies, threat_tree}
+use Rattle.proof_tree.proofs.SumLaws.{IsFresh, fresh-sum}
+use Rattle.proof_tree.proofs.Settled.{proved-apart}
+use Rattle.threat_game.specs.ThreatGame.{threat_tree}
 use Rattle.threat_game.specs.Attacks.{has_reply}
 use Rattle.proof_number.specs.declared.notes.Note.{Note}
 use Rattle.threat_game.specs.declared.replies.Child.{Child}
@@ -49,32 +46,14 @@ use Rattle.proof_number.proofs.Expanded.{IsNewNote, expanded-grown, new_behind, 
 use Rattle.proof_number.proofs.Expanding.{IsNewChild}
 use Rattle.proof_number.proofs.Growing.{lost-grown}
 use Rattle.proof_number.proofs.Remembering.{memo-grown}
-use Rattle.proof_number.proofs.Settling.{one_where}
 use Rattle.proof_number.proofs.Steps.{leaf-lawful, leaf-noted}
 use Rattle.proof_number.proofs.Sums.{sum-le, sum-less, sum-list}
 use Rattle.threat_game.proofs.TreeLaws.{children-within, counted-few}
-use Rattle.threat_game.proofs.Trying.{escape-saves, win-has_five}
-use Rattle.proof_number.proofs.Widening.{IsFresh, fresh-sum, sum-nothing}
+use Rattle.threat_game.proofs.Trying.{escape-saves}
+use Rattle.threat_game.proofs.Counting.{one_where, counted-one, open_one, counted-parts, open_behind, whole-by}
+use Rattle.proof_number.proofs.Widening.{sum-nothing}
 
 -- ---- where a reply goes on, none fills the board
-
-not-last : (e w l : Bool) (f : Option Foul) → outcome_by e w f l ≡ GoesOn → l ≡ false
-not-last e w false f h = refl
-not-last false w true None h = cc
-not-last false w true (Some f) h = cc
-not-last true true true None h = cc
-not-last true true true (Some f) h = cc
-not-last true false true None h = cc
-not-last true false true (Some f) h = cc
-
-none-draws : (e w l : Bool) (f : Option Foul) → l ≡ false → (outcome_by e w f l ≡ Wins → ⊥) → LosesOr (outcome_by e w f l) (Unit {0})
-none-draws e w true f more no_win = cc
-none-draws false w false None more no_win = tt
-none-draws false w false (Some f) more no_win = tt
-none-draws true true false None more no_win = no_win refl
-none-draws true true false (Some f) more no_win = no_win refl
-none-draws true false false None more no_win = tt
-none-draws true false false (Some f) more no_win = tt
 
 -- no reply wins or fills the board, where the side to move has no five point and some reply goes on
 pub none-saves : (rule : RuleKind) (b : Grid) → has_five rule b (mover b) ≡ false → has_reply rule b ≡ true → (q : Point) → LosesOr (outcome rule b q) (Unit {0})
@@ -85,22 +64,6 @@ none-saves rule b none reply q =
     none-draws (is_empty b q) (five rule b (mover b) q) _ (foul_of rule b (mover b) q) more (λ wins. let has = win-has_five rule b q wins in let bad : true ≡ false = sym has ∙ none in cc)
 
 -- ---- what is counted for the children
-
-counted-one : (judged : Judged) → 1 ≤ counted_for judged
-counted-one (Five w) = omega arith
-counted-one (DoubleWins d nodes) = omega arith
-counted-one (Last p) = omega arith
-counted-one Open = omega arith
-
--- 1 for an open child
-abbrev open_one : Child → ℕ
-open_one child = one_where (is_open child.judged)
-
-counted-parts : (judged : Judged) → nodes_for judged + one_where (is_open judged) ≤ counted_for judged
-counted-parts (Five w) = omega arith
-counted-parts (DoubleWins d nodes) = omega arith
-counted-parts (Last p) = omega arith
-counted-parts Open = omega arith
 
 sum-parts : (f g h : Child → ℕ) → ((x : Child) → f x + g x ≤ h x) → (xs : List Child) → sum_by f xs + sum_by g xs ≤ sum_by h xs
 sum-parts f g h low [] = omega arith
@@ -134,9 +97,6 @@ same-points (m ∷ ms) (x ∷ items) e h =
 open-apart : (r : Bool) → open_numbers ≡ settled_numbers r → ⊥
 open-apart true e = let bad : 1 ≡ 0 = ap (λ (n : Numbers). n.proof) e in omega (arith, bad)
 open-apart false e = let bad : 1 ≡ 0 = ap (λ (n : Numbers). n.disproof) e in omega (arith, bad)
-
-proved-apart : settled_numbers true ≡ settled_numbers false → ⊥
-proved-apart e = let bad : 4294967295 ≡ 0 = ap (λ (n : Numbers). n.disproof) e in omega (arith, bad)
 
 -- ---- one child
 
@@ -221,17 +181,6 @@ module _ (rule : RuleKind) (left : ℕ) (b : Grid) (d : List Node) (child : Chil
   pub child-behind : (f : Kind → RuleKind → ℕ → Grid → ℕ) → ((n : ℕ) (c : Grid) → f Attack rule n c ≡ threat_tree rule n c - 1)
       → new_behind f rule Defend b note numbers ≡ cond (is_open child.judged) (threat_tree rule left (after b child.at) - 1) 0
   child-behind f trees = behind-by f trees (is_open child.judged) refl
-
--- what is counted behind a child of b, if it is open
-abbrev open_behind : RuleKind → ℕ → Grid → Child → ℕ
-open_behind rule left b child = cond (is_open child.judged) (threat_tree rule left (after b child.at) - 1) 0
-
--- what is counted for a child and behind it is no more than the game has there
-whole-by : (rule : RuleKind) (left : ℕ) (c : Grid) (judged : Judged) → counted_for judged ≤ threat_tree rule left c → counted_for judged + cond (is_open judged) (threat_tree rule left c - 1) 0 ≤ threat_tree rule left c
-whole-by rule left c (Five w) few = omega (arith, few)
-whole-by rule left c (DoubleWins d nodes) few = omega (arith, few)
-whole-by rule left c (Last p) few = omega (arith, few)
-whole-by rule left c Open few = omega (arith, few)
 
 child-whole : (rule : RuleKind) (left : ℕ) (b : Grid) → IsPosition rule b → (child : Child) → IsChild rule left b child
     → counted_for child.judged + open_behind rule left b child ≤ if_goes_on (outcome rule b child.at) (threat_tree rule left (after b child.at))

@@ -2,8 +2,7 @@
 use Rattle.std.proofs.Common.{◌≡◌, ◌∙◌, inl, inr, ℕ, zero, suc, ◌+◌, ◌*◌, ◌<◌, ◌≤◌, Bool, true, false, cond, sym, ap, subst, arith, List, length, get_or, min}
 use Rattle.std.specs.Prelude.{Some, None}
 use Rattle.std.proofs.lemmas.List.{get_or-map, get_or_default, length-map}
-use Rattle.game_rules.specs.Grid.{Grid}
-use Rattle.game_rules.specs.Games.{WinsByThreats, WinsWithin}
+use Rattle.game_rules.proofs.Common.{Grid, WinsByThreats, WinsWithin}
 use Rattle.game_rules.specs.declared.RuleKind.{RuleKind}
 use Rattle.game_rules.proofs.Games.{WinsByFours-WinsByThreats}
 use Rattle.strategy_graph.specs.declared.Node.{Node}
@@ -13,6 +12,7 @@ use Rattle.strategy_compiler.specs.declared.wins.WrittenWin.{WrittenWin}
 use Rattle.proof_tree.specs.Combining.{is_settled, settled_numbers}
 use Rattle.proof_tree.specs.Trees.{Tree, numbers_at}
 use Rattle.proof_tree.specs.declared.Kind.{Kind}
+use Rattle.proof_tree.proofs.Settled.{settled-one}
 use Rattle.proof_number.specs.declared.notes.Note.{Note}
 use Rattle.proof_number.specs.declared.search.Search.{Search}
 use Rattle.proof_number.specs.Answers.{HasNoThreatWin}
@@ -21,7 +21,7 @@ use Rattle.proof_number.specs.Notes.{no_note, note_at, noted_win, win_of}
 use Rattle.proof_number.specs.GameTrees.{GameTree, TellsTruly, WinsAt, board_at, left_at}
 use Rattle.proof_number.specs.Searches.{IsNotedWin, IsSearching, Searches, closed_nodes, game_of, is_open_leaf, sum_below}
 use Rattle.proof_number.proofs.GameBoards.{board-root}
-use Rattle.proof_number.proofs.GameTruths.{all-tell, settled-one}
+use Rattle.proof_number.proofs.GameTruths.{all-tell}
 use Rattle.proof_number.proofs.Recording.{noted-none, noted-some}
 use Rattle.proof_number.proofs.Sums.{sum-suc, sum-zero}
 

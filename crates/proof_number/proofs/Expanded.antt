@@ -1,9 +1,8 @@
 -- A step that gives the leaf children: all holds again but on the way up from it.
-use Rattle.std.proofs.Common.{◌≡◌, ◌≢◌, ◌⊎◌, inl, inr, ℕ, ◌+◌, ◌<◌, ◌≤◌, true, false, cond, ◌&&◌, not, refl, sym, ap, subst, ◌∙◌, arith, List, [], ◌∷◌, ◌++◌, length, map, nat_eq}
+use Rattle.std.proofs.Common.{◌≡◌, ◌≢◌, ◌⊎◌, inl, inr, ℕ, ◌+◌, ◌<◌, ◌≤◌, true, false, cond, ◌&&◌, not, refl, sym, ap, subst, ◌∙◌, arith, List, ◌++◌, length, map, nat_eq}
 use Rattle.std.proofs.lemmas.Bool.{cases_eq, cases_lt, eq-eqb}
 use Rattle.std.proofs.lemmas.List.{get_or_append_left, get_or-append-add, get_or-map, length-append, length-map, map-append}
-use Rattle.game_rules.specs.Grid.{Grid}
-use Rattle.game_rules.specs.Play.{after}
+use Rattle.game_rules.proofs.Common.{Grid, after}
 use Rattle.game_rules.specs.declared.RuleKind.{RuleKind}
 use Rattle.game_rules.specs.declared.Point.{Point}
 use Rattle.strategy_graph.specs.declared.Node.{Node}
@@ -15,25 +14,19 @@ use Rattle.proof_tree.specs.declared.Kind.{Kind}
 use Rattle.proof_tree.specs.declared.Kind.TheVariants.{Attack, Defend}
 use Rattle.proof_tree.specs.declared.Link.{Link}
 use Rattle.proof_tree.specs.declared.Numbers.{Numbers}
-use Rattle.proof_tree.proofs.SumLaws.{leaf_sum-grown}
+use Rattle.proof_tree.proofs.Changed.{IsGrown, grown}
+use Rattle.proof_tree.proofs.SumLaws.{leaf_sum-grown, one-leaf}
 use Rattle.threat_game.specs.ThreatGame.{threat_tree, move_at, nowhere}
+use Rattle.threat_game.proofs.Counting.{one_where}
 use Rattle.proof_number.specs.declared.notes.Note.{Note}
 use Rattle.proof_number.specs.declared.search.Search.{Search}
 use Rattle.proof_number.specs.Notes.{no_note, note_at, win_of}
 use Rattle.proof_number.specs.GameTrees.{GameTree, HasTried, IsGameTree, board_at, board_of, left_at, noted_tree}
 use Rattle.proof_number.specs.Remembered.{IsTrueMemo}
 use Rattle.proof_number.specs.Searches.{AreWritten, HasGrown, IsAtLeaf, IsCounted, IsExpandedAt, IsNotedWin, IsSearching, attacks_behind, behind_at, defences_behind, game_of, is_attack, sum_below, unwritten}
-use Rattle.proof_number.proofs.Expanding.{IsLonger, IsNewChild, longer, game-grown, behind-grown, child-behind, child-counts, closed-grown, old-board, new-board, old-kind, old-left, new-kind, new-left, old-numbers, split}
-use Rattle.proof_number.proofs.Settling.{one_where, written-grown}
+use Rattle.proof_number.proofs.Expanding.{IsNewChild, game-grown, behind-grown, child-behind, child-counts, closed-grown, old-board, new-board, old-kind, old-left, new-kind, new-left, old-numbers, split}
+use Rattle.proof_number.proofs.Settling.{written-grown}
 use Rattle.proof_number.proofs.Sums.{sum-le, sum-more}
-
--- the numbers of a tree of one leaf
-pub one-leaf : (kind : Kind) (links : List Link) (numbers : List Numbers) → length links ≡ 1 → length numbers ≡ 1 → (link_at links 0).count ≡ 0 → leaf_sum kind links numbers ≡ finite (sought kind (numbers_at numbers 0))
-one-leaf kind [] numbers a b none = absurd (omega arith)
-one-leaf kind (l ∷ links) [] a b none = absurd (omega arith)
-one-leaf kind (l ∷ k ∷ links) (n ∷ numbers) a b none = absurd (omega arith)
-one-leaf kind (l ∷ []) (n ∷ m ∷ numbers) a b none = absurd (omega arith)
-one-leaf kind (l ∷ []) (n ∷ []) a b none = let t : nat_eq l.count 0 ≡ true = eq-eqb l.count 0 none in rw t (omega arith)
 
 -- what is noted of a new child of this kind: a win that is written, where it is proved, and none where it is open
 pub record IsNewNote (rule : RuleKind) (kind : Kind) (b : Grid) (c : List Node) (note : Note) (numbers : Numbers) : Type 0 where
@@ -59,8 +52,8 @@ module _ (rule : RuleKind) (s : Search) (t : Tree) (c : List Node) (leaf : ℕ) 
     (nodes_counted : s.attacked + s.defended + length more ≤ v.attacked + v.defended)
     (low : (kind : Kind) → finite_sum (map (sought kind) more) ≤ length more)
     (short : s.attacked + length nodes + sum_below (length more) (λ j. unwritten_child (link_at t.links leaf).kind (note_at ms j)) ≤ v.attacked) where
-  pub long : IsLonger t.links leaf (length more) u.links
-  long = subst (IsLonger t.links leaf (length more)) (sym e.links) (longer t.links leaf (length more) h.in_tree)
+  pub long : IsGrown t.links leaf (length more) u.links
+  long = subst (IsGrown t.links leaf (length more)) (sym e.links) (grown t.links leaf (length more) h.in_tree)
 
   pub points : length (map (λ (n : Note). n.at) ms) ≡ length more
   points = length-map ms (λ (n : Note). n.at) ∙ many

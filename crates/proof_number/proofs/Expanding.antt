@@ -3,8 +3,7 @@ use Rattle.std.proofs.Common.{◌≡◌, ◌≢◌, ◌⊎◌, inl, inr, ℕ, �
 use Rattle.std.proofs.lemmas.Bool.{cases_eq, cases_lt, eq-eqb, ne_eqb}
 use Rattle.std.proofs.lemmas.List.{drop-append-le, get_or-append-add, get_or-append_right, get_or-replicate, get_or-set_other, get_or-set_same, get_or_append_left, length-append, length-drop, length-replicate, length-set, take-append-le}
 use Rattle.std.proofs.Math.Seq.{drop-append_seam, take-length}
-use Rattle.game_rules.specs.Grid.{Grid}
-use Rattle.game_rules.specs.Play.{outcome, after}
+use Rattle.game_rules.proofs.Common.{Grid, outcome, after}
 use Rattle.game_rules.specs.declared.Outcome.TheVariants.{GoesOn}
 use Rattle.game_rules.specs.declared.RuleKind.{RuleKind}
 use Rattle.game_rules.specs.declared.Point.{Point}
@@ -14,33 +13,14 @@ use Rattle.proof_tree.specs.declared.Kind.{Kind}
 use Rattle.proof_tree.specs.declared.Kind.TheVariants.{Attack}
 use Rattle.proof_tree.specs.declared.Link.{Link}
 use Rattle.proof_tree.specs.declared.Numbers.{Numbers}
+use Rattle.proof_tree.proofs.Changed.{IsGrown}
+use Rattle.proof_tree.proofs.Ancestors.{leaf-beside}
 use Rattle.proof_number.specs.GameTrees.{CanGrow, GameTree, HasTried, IsGameTree, TellsTruly, WinsAt, board_at, board_of, left_at, left_before, moves_of}
 use Rattle.threat_game.specs.ThreatGame.{move_at, nowhere}
 use Rattle.proof_number.specs.Searches.{behind_at, behind_leaves, closed_nodes, is_open_leaf, sum_below}
 use Rattle.proof_number.proofs.GameBoards.{board-kept, board-step}
-use Rattle.proof_number.proofs.Settling.{leaf-beside, one_unless}
+use Rattle.proof_number.proofs.Settling.{one_unless}
 use Rattle.proof_number.proofs.Sums.{sum-le, sum-less, sum-more}
-
--- the links of a tree whose leaf i is given children
-pub record IsLonger (links : List Link) (i count : ℕ) (new : List Link) : Type 0 where
-  pub sized : length new ≡ length links + count
-  pub here : link_at new i ≡ record { kind = (link_at links i).kind; parent = (link_at links i).parent; first = length links; count = count }
-  pub others : (j : ℕ) → j < length links → j ≢ i → link_at new j ≡ link_at links j
-  pub leaves : (j : ℕ) → j < count → link_at new (length links + j) ≡ leaf_link (other_kind (link_at links i).kind) i
-
-pub longer : (links : List Link) (i count : ℕ) → i < length links → IsLonger links i count (grown_links links i count)
-longer links i count h =
-    let own : Link = record { kind = (link_at links i).kind; parent = (link_at links i).parent; first = length links; count = count } in
-    let child : Link = leaf_link (other_kind (link_at links i).kind) i in
-    let none : Link = leaf_link Attack 0 in
-    record {
-      sized = length-append (set links i own) (replicate count child) ∙ omega (arith, length-set links i own, length-replicate count child);
-      here = get_or_append_left (set links i own) (replicate count child) none i (omega (arith, length-set links i own)) ∙ get_or-set_same links i own none h;
-      others = λ j k n. get_or_append_left (set links i own) (replicate count child) none j (omega (arith, length-set links i own)) ∙ get_or-set_other links i j own none n;
-      leaves = λ j low.
-          get_or-append_right (set links i own) (replicate count child) (length links) (length links + j) none (length-set links i own) (omega arith)
-          ∙ get_or-replicate count (length links + j - length links) child none (omega arith);
-    }
 
 -- one child of a leaf with this kind, so many moves and this board: its move goes on, and if it is open it can grow, else it tells
 -- truly
@@ -52,7 +32,7 @@ pub record IsNewChild (rule : RuleKind) (kind : Kind) (left : ℕ) (b : Grid) (p
 
 module _ (g : GameTree) (ok : IsTree g.tree) (leaf : ℕ) (inside : leaf < length g.tree.links) (childless : (link_at g.tree.links leaf).count ≡ 0) (game : IsGameTree g)
     (links : List Link) (numbers more : List Numbers) (ps : List Point) (ns : List ℕ) (count : ℕ) (some : 0 < count) (points : length ps ≡ count) (lefts : length ns ≡ count) (values : length more ≡ count)
-    (long : IsLonger g.tree.links leaf count links) (new : IsTree (record { links = links; numbers = numbers }))
+    (long : IsGrown g.tree.links leaf count links) (new : IsTree (record { links = links; numbers = numbers }))
     (others : OthersStay links leaf (g.tree.numbers ++ more) numbers) (children : (j : ℕ) → j < count → numbers_at numbers (length g.tree.links + j) ≡ numbers_at more j)
     (tried : HasTried (link_at g.tree.links leaf).kind g.rule (left_at g.left leaf) (board_at g leaf) ps)
     (unsettled : is_settled (numbers_at g.tree.numbers leaf) ≡ false) (each : (j : ℕ) → j < count → IsNewChild g.rule (link_at g.tree.links leaf).kind (left_at g.left leaf) (board_at g leaf) (move_at ps j) (left_at ns j) (numbers_at more j)) where
@@ -90,10 +70,10 @@ module _ (g : GameTree) (ok : IsTree g.tree) (leaf : ℕ) (inside : leaf < lengt
   new-inside j low = let e = long.sized in omega (arith, e, low)
 
   new-parent : (j : ℕ) → j < count → (link_at links (length g.tree.links + j)).parent ≡ leaf
-  new-parent j low = ap (λ (l : Link). l.parent) (long.leaves j low)
+  new-parent j low = ap (λ (l : Link). l.parent) (long.leaves (length g.tree.links + j) (omega arith) (omega (arith, low)))
 
   pub new-kind : (j : ℕ) → j < count → (link_at links (length g.tree.links + j)).kind ≡ other_kind (link_at g.tree.links leaf).kind
-  new-kind j low = ap (λ (l : Link). l.kind) (long.leaves j low)
+  new-kind j low = ap (λ (l : Link). l.kind) (long.leaves (length g.tree.links + j) (omega arith) (omega (arith, low)))
 
   pub new-board : (j : ℕ) → j < count → board_of links (g.moves ++ ps) g.start (length g.tree.links + j) ≡ after (board_at g leaf) (move_at ps j)
   new-board j low =
@@ -175,7 +155,7 @@ module _ (g : GameTree) (ok : IsTree g.tree) (leaf : ℕ) (inside : leaf < lengt
             tried-same (link_at links i).kind (link_at g.tree.links i).kind (left_at (g.left ++ ns) i) (left_at g.left i) (board_of links (g.moves ++ ps) g.start i) (board_at g i) (moves_of (link_at links i) (g.moves ++ ps)) (moves_of (link_at g.tree.links i) g.moves)
             (ap (λ (l : Link). l.kind) same) (old-left i old) (old-board i old) (ap (λ (l : Link). moves_of l (g.moves ++ ps)) same ∙ old-moves_of i old) before
       ]
-      | inr child ↦ absurd (let none : (link_at links i).count ≡ 0 = ap (λ (m : ℕ). (link_at links m).count) child.2 ∙ ap (λ (l : Link). l.count) (long.leaves child.0 child.1) in omega (arith, none, many))
+      | inr child ↦ absurd (let none : (link_at links i).count ≡ 0 = ap (λ (m : ℕ). (link_at links m).count) child.2 ∙ ap (λ (l : Link). l.count) (long.leaves (length g.tree.links + child.0) (omega arith) (omega (arith, child.1))) in omega (arith, none, many))
     ];
     open_leaf = λ i low none not_settled. elim (split i low) [
       | inl old ↦ elim (cases_eq i leaf) [
@@ -270,7 +250,7 @@ module _ (g : GameTree) (ok : IsTree g.tree) (leaf : ℕ) (inside : leaf < lengt
   unfolding child-behind
   behind-new f j low =
       let m : ℕ = length g.tree.links + j in
-      let leaf_count : nat_eq (link_at links m).count 0 ≡ true = eq-eqb (link_at links m).count 0 (ap (λ (l : Link). l.count) (long.leaves j low)) in
+      let leaf_count : nat_eq (link_at links m).count 0 ≡ true = eq-eqb (link_at links m).count 0 (ap (λ (l : Link). l.count) (long.leaves (length g.tree.links + j) (omega arith) (omega (arith, low)))) in
       ap (λ r. cond (r && not (is_settled (numbers_at numbers m))) (f (link_at links m).kind g.rule (left_at (g.left ++ ns) m) (board_of links (g.moves ++ ps) g.start m)) 0) leaf_count
       ∙ ap (λ (n : Numbers). cond (not (is_settled n)) (f (link_at links m).kind g.rule (left_at (g.left ++ ns) m) (board_of links (g.moves ++ ps) g.start m)) 0) (children j low)
       ∙ ap (λ (k : Kind). cond (not (is_settled (numbers_at more j))) (f k g.rule (left_at (g.left ++ ns) m) (board_of links (g.moves ++ ps) g.start m)) 0) (new-kind j low)

@@ -1,8 +1,7 @@
 -- The boards of the nodes of a tree: each is its parent's after its move, and they stay where the tree grows.
 use Rattle.std.proofs.Common.{◌≡◌, ℕ, zero, suc, ◌<◌, ◌≤◌, Bool, true, false, cond, refl, ap, ◌∙◌, arith, List, length, nat_eq}
 use Rattle.std.proofs.lemmas.Bool.{ne_eqb}
-use Rattle.game_rules.specs.Grid.{Grid}
-use Rattle.game_rules.specs.Play.{IsPosition, after}
+use Rattle.game_rules.proofs.Common.{Grid, IsPosition, after}
 use Rattle.game_rules.specs.declared.Point.{Point}
 use Rattle.game_rules.proofs.Positions.{IsPosition-after}
 use Rattle.proof_tree.specs.Trees.{IsLinked, link_at}

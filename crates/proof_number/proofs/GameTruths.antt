@@ -1,87 +1,32 @@
 -- In a tree that stands for a game every node tells truly whether the attacker wins: from the last node to the first, since the
 -- children of a node come after it.
-use Rattle.std.proofs.Common.{◌≡◌, ◌⊎◌, inl, inr, ℕ, zero, suc, ◌+◌, ◌-◌, ◌<◌, ◌≤◌, Bool, true, false, cond, ◌&&◌, ◌||◌, refl, sym, ap, subst, ◌∙◌, arith, List, [], ◌∷◌, map, length, take, drop, get_or, nat_eq, Contains}
-use Rattle.std.specs.Prelude.{IsTrue}
-use Rattle.std.specs.List.{list_any, filter}
-use Rattle.std.proofs.lemmas.Bool.{cases_eq, and_parts, or_cases}
-use Rattle.std.proofs.lemmas.Bool.Decides.{Decides-eqb}
+use Rattle.std.proofs.Common.{◌≡◌, ◌⊎◌, inl, inr, ℕ, zero, suc, ◌+◌, ◌-◌, ◌<◌, ◌≤◌, refl, sym, ap, subst, ◌∙◌, arith, List, map, length, take, drop, get_or, Contains}
+use Rattle.std.proofs.lemmas.Bool.{cases_eq}
 use Rattle.std.proofs.lemmas.List.{get_or-take, get_or-drop, get_or_default, length-take, length-drop}
 use Rattle.std.proofs.lemmas.List.Elements.{Contains-get_or}
-use Rattle.game_rules.specs.Grid.{Grid, points_of}
-use Rattle.game_rules.specs.Shapes.{is_same_point}
-use Rattle.game_rules.specs.Play.{outcome, mover, after, goes_on}
-use Rattle.game_rules.specs.Games.{WinsOr, LosesOr, WinsByThreats, has_threat}
+use Rattle.game_rules.proofs.Common.{Grid, outcome, after, goes_on, LosesOr, WinsByThreats}
 use Rattle.game_rules.specs.declared.RuleKind.{RuleKind}
 use Rattle.game_rules.specs.declared.Outcome.{Outcome}
-use Rattle.game_rules.specs.declared.Outcome.TheVariants.{Refused, Wins, Fouls, Draws, GoesOn}
+use Rattle.game_rules.specs.declared.Outcome.TheVariants.{GoesOn}
 use Rattle.game_rules.specs.declared.Point.{Point}
 use Rattle.game_rules.proofs.Positions.{GoesOn-on}
-use Rattle.game_rules.proofs.Points.{points-found, is_same_point-itself, is_same_point-same}
 use Rattle.game_rules.proofs.Outcomes.{LosesOr-on}
 use Rattle.game_rules.proofs.Places.{points_passing}
-use Rattle.proof_tree.specs.Combining.{AreNumbers, combined, is_settled, least, no_numbers, other_kind, plus, settled_numbers, total}
+use Rattle.proof_tree.specs.Combining.{AreNumbers, combined, least, other_kind, total}
 use Rattle.proof_tree.specs.Trees.{IsChild, IsTree, children_of, link_at, numbers_at}
-use Rattle.proof_tree.specs.declared.TheConstants.{INFINITE}
 use Rattle.proof_tree.specs.declared.Kind.{Kind}
 use Rattle.proof_tree.specs.declared.Kind.TheVariants.{Attack, Defend}
 use Rattle.proof_tree.specs.declared.Link.{Link}
 use Rattle.proof_tree.specs.declared.Numbers.{Numbers}
+use Rattle.proof_tree.proofs.Settled.{least-zero, total-zero, settled-proved, settled-disproved}
+use Rattle.proof_tree.proofs.Updated.{child-number}
 use Rattle.proof_number.specs.GameTrees.{GameTree, IsGameTree, HasTried, AreTried, TellsTruly, WinsAt, board_at, left_at, left_before, moves_of}
 use Rattle.threat_game.specs.ThreatGame.{LosesToThreats, move_at, nowhere}
 use Rattle.threat_game.specs.Replies.{replies_at}
+use Rattle.threat_game.proofs.Counting.{by_move}
 use Rattle.proof_number.proofs.GameBoards.{board-step}
 
 -- ---- numbers
-
--- where the least number is 0, one of them is
-pub least-zero : (f : Numbers → ℕ) (ns : List Numbers) → least (map f ns) ≡ 0 → (k : ℕ) × (k < length ns) × (f (get_or ns k no_numbers) ≡ 0)
-least-zero f [] e = absurd (omega (arith, e))
-least-zero f (n ∷ ns) e = elim (cases_eq (f n) 0) [
-  | inl here ↦ (0, omega arith, here)
-  | inr more ↦
-      let rest : least (map f ns) ≡ 0 = omega (arith, e) in
-      let later = least-zero f ns rest in
-      (suc later.0, (let inside = later.1 in omega (arith, inside)), later.2)
-]
-
-plus-zero : (x y : ℕ) → plus x y ≡ 0 → (x ≡ 0) × (y ≡ 0)
-plus-zero x y e = by_tests (nat_eq x INFINITE || nat_eq y INFINITE) e where
-  by_tests : (r : Bool) → cond r INFINITE (x + y) ≡ 0 → (x ≡ 0) × (y ≡ 0)
-  by_tests true e = absurd (omega (arith, e))
-  by_tests false e = (omega (arith, e), omega (arith, e))
-
--- where the sum is 0, each number is
-pub total-zero : (f : Numbers → ℕ) (ns : List Numbers) → total (map f ns) ≡ 0 → (k : ℕ) → k < length ns → f (get_or ns k no_numbers) ≡ 0
-total-zero f [] e k inside = absurd (omega arith)
-total-zero f (n ∷ ns) e zero inside = (plus-zero (f n) (total (map f ns)) e).0
-total-zero f (n ∷ ns) e (suc k) inside = total-zero f ns (plus-zero (f n) (total (map f ns)) e).1 k (omega arith)
-
--- settled numbers are one pair or the other
-pub settled-one : (n : Numbers) → is_settled n ≡ true → (n ≡ settled_numbers true) ⊎ (n ≡ settled_numbers false)
-settled-one n s = elim (or_cases (nat_eq n.proof 0 && nat_eq n.disproof INFINITE) (nat_eq n.proof INFINITE && nat_eq n.disproof 0) s) [
-  | inl h ↦
-      let p : n.proof ≡ 0 = (Decides-eqb n.proof 0).0 (and_parts (nat_eq n.proof 0) (nat_eq n.disproof INFINITE) h).0 in
-      let d : n.disproof ≡ INFINITE = (Decides-eqb n.disproof INFINITE).0 (and_parts (nat_eq n.proof 0) (nat_eq n.disproof INFINITE) h).1 in
-      inl (λ i. record { proof = p i; disproof = d i })
-  | inr h ↦
-      let p : n.proof ≡ INFINITE = (Decides-eqb n.proof INFINITE).0 (and_parts (nat_eq n.proof INFINITE) (nat_eq n.disproof 0) h).0 in
-      let d : n.disproof ≡ 0 = (Decides-eqb n.disproof 0).0 (and_parts (nat_eq n.proof INFINITE) (nat_eq n.disproof 0) h).1 in
-      inr (λ i. record { proof = p i; disproof = d i })
-]
-
-pub settled-proved : (n : Numbers) → AreNumbers n → n.proof ≡ 0 → n ≡ settled_numbers true
-settled-proved n (inl s) none = elim (settled-one n s) [
-  | inl same ↦ same
-  | inr other ↦ let p : n.proof ≡ INFINITE = ap (λ (m : Numbers). m.proof) other in absurd (omega (arith, p, none))
-]
-settled-proved n (inr more) none = let above = more.proof_above in absurd (omega (arith, above, none))
-
-pub settled-disproved : (n : Numbers) → AreNumbers n → n.disproof ≡ 0 → n ≡ settled_numbers false
-settled-disproved n (inl s) none = elim (settled-one n s) [
-  | inr same ↦ same
-  | inl other ↦ let p : n.disproof ≡ INFINITE = ap (λ (m : Numbers). m.disproof) other in absurd (omega (arith, p, none))
-]
-settled-disproved n (inr more) none = let above = more.disproof_above in absurd (omega (arith, above, none))
 
 -- ---- children and their moves
 
@@ -109,10 +54,6 @@ move-child l moves p fits (k, inside, at) =
       get_or_default moves (l.first + k) nowhere p within ∙ sym (get_or-drop l.first moves k p) ∙ sym (get_or-take l.count (drop l.first moves) k p low) ∙ at,
     )
 
--- the numbers of the k-th child
-pub child-numbers : (l : Link) (numbers : List Numbers) (k : ℕ) → k < l.count → get_or (children_of l numbers) k no_numbers ≡ numbers_at numbers (l.first + k)
-child-numbers l numbers k low = get_or-take l.count (drop l.first numbers) k no_numbers low ∙ get_or-drop l.first numbers k no_numbers
-
 pub reply-listed : (rule : RuleKind) (c : Grid) (q : Point) → outcome rule c q ≡ GoesOn → Contains (replies_at rule c) q
 reply-listed rule c q on = points_passing c (λ x. goes_on (outcome rule c x)) q (GoesOn-on rule c q on) (ap goes_on on)
 
@@ -130,10 +71,6 @@ pub record IsChildOf (g : GameTree) (i j : ℕ) : Type 0 where
 tried-attack : (rule : RuleKind) (l : ℕ) (b : Grid) (ms : List Point) → HasTried Attack rule l b ms → (n : ℕ) × (l ≡ suc n) × AreTried rule n b ms
 tried-attack rule zero b ms h = absurd h
 tried-attack rule (suc n) b ms h = (n, refl, h)
-
-by_move : (rule : RuleKind) (n : ℕ) (b : Grid) (p : Point) → outcome rule b p ≡ GoesOn → has_threat rule (after b p) (mover b) ≡ true → LosesToThreats rule n (after b p) → WinsByThreats rule (suc n) b
-by_move rule n b p on threat loses =
-    (p, subst (λ (o : Outcome). WinsOr o (IsTrue (has_threat rule (after b p) (mover b)) × LosesToThreats rule n (after b p))) (sym on) (threat, loses))
 
 module _ (g : GameTree) (ok : IsTree g.tree) (game : IsGameTree g) where
   pub child-of : (i j : ℕ) → i < length g.tree.links → IsChild (link_at g.tree.links i) j → IsChildOf g i j
@@ -181,7 +118,7 @@ module _ (g : GameTree) (ok : IsTree g.tree) (game : IsGameTree g) where
         let l = link_at g.tree.links i in
         let found = least-zero f (children_of l g.tree.numbers) e in
         let low : found.0 < l.count = let a = found.1 in let b = fits_numbers i inside in omega (arith, a, b) in
-        (l.first + found.0, kth i found.0 low, ap f (sym (child-numbers l g.tree.numbers found.0 low)) ∙ found.2)
+        (l.first + found.0, kth i found.0 low, ap f (sym (child-number l g.tree.numbers found.0 low)) ∙ found.2)
 
     pub each-zero : total (map f (children_of (link_at g.tree.links i) g.tree.numbers)) ≡ 0 → (j : ℕ) → IsChild (link_at g.tree.links i) j → f (numbers_at g.tree.numbers j) ≡ 0
     each-zero e j child =
@@ -191,7 +128,7 @@ module _ (g : GameTree) (ok : IsTree g.tree) (game : IsGameTree g) where
         let k : ℕ = j - l.first in
         let low : k < l.count = omega (arith, first, end) in
         let back : l.first + k ≡ j = omega (arith, first) in
-        ap (λ (m : ℕ). f (numbers_at g.tree.numbers m)) (sym back) ∙ ap f (sym (child-numbers l g.tree.numbers k low))
+        ap (λ (m : ℕ). f (numbers_at g.tree.numbers m)) (sym back) ∙ ap f (sym (child-number l g.tree.numbers k low))
         ∙ total-zero f (children_of l g.tree.numbers) e k (let b = fits_numbers i inside in omega (arith, b, low))
 
   -- ---- one node, where its children tell truly

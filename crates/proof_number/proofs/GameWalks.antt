@@ -1,8 +1,7 @@
 -- The moves that lead to a node, played and taken back.
 use Rattle.std.proofs.Common.{◌≡◌, ℕ, ◌<◌, true, sym, ap, subst, ◌∙◌, arith, List, length, map, get_or}
 use Rattle.std.proofs.lemmas.List.{get_or-map}
-use Rattle.game_rules.specs.Grid.{Grid, holds, is_empty, lift}
-use Rattle.game_rules.specs.Play.{IsPosition, IsUnwon, outcome, mover, other, after}
+use Rattle.game_rules.proofs.Common.{Grid, holds, is_empty, lift, IsPosition, IsUnwon, outcome, mover, other, after}
 use Rattle.game_rules.specs.declared.Outcome.TheVariants.{GoesOn}
 use Rattle.game_rules.specs.declared.Point.{Point}
 use Rattle.game_rules.proofs.Positions.{GoesOn-empty}

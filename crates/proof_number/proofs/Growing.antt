@@ -2,9 +2,8 @@
 use Rattle.std.proofs.Common.{◌≡◌, ◌≢◌, inl, inr, ℕ, ◌+◌, ◌<◌, ◌≤◌, Bool, true, false, ◌&&◌, refl, sym, ap, subst, ◌∙◌, arith, List, [], ◌++◌, length, nat_eq}
 use Rattle.std.proofs.lemmas.Bool.{cases_eq, eq-eqb, ne_eqb}
 use Rattle.std.proofs.lemmas.List.{get_or-set_same, append-nil, get_or-set_other, length-append, length-map}
-use Rattle.game_rules.specs.Grid.{Grid}
+use Rattle.game_rules.proofs.Common.{Grid, WinsByThreats}
 use Rattle.game_rules.specs.declared.RuleKind.{RuleKind}
-use Rattle.game_rules.specs.Games.{WinsByThreats}
 use Rattle.strategy_graph.specs.declared.Node.{Node}
 use Rattle.strategy_graph.proofs.Filling.{IsTable-lower}
 use Rattle.strategy_compiler.specs.declared.wins.WrittenWin.{WrittenWin}
@@ -16,6 +15,7 @@ use Rattle.proof_tree.specs.declared.Kind.{Kind}
 use Rattle.proof_tree.specs.declared.Kind.TheVariants.{Attack}
 use Rattle.proof_tree.specs.declared.Link.{Link}
 use Rattle.proof_tree.specs.declared.Numbers.{Numbers}
+use Rattle.threat_game.proofs.Counting.{one_where}
 use Rattle.proof_number.specs.declared.notes.Note.{Note}
 use Rattle.proof_number.specs.declared.search.Search.{Search}
 use Rattle.proof_number.specs.Notes.{no_note, note_at, win_of}
@@ -23,7 +23,7 @@ use Rattle.proof_number.specs.GameTrees.{GameTree, IsGameTree, TellsTruly, WinsA
 use Rattle.proof_number.specs.Remembered.{IsTrueMemo}
 use Rattle.proof_number.specs.Searches.{AreWritten, HasGrown, IsAtLeaf, IsCounted, IsNotedWin, IsSearching, IsSettledAt, attacks_behind, closed_nodes, game_of, is_attack, noted_won, sum_below, unwritten}
 use Rattle.proof_number.proofs.Compiling.{won-places}
-use Rattle.proof_number.proofs.Settling.{one_where, closed-settled, counted-settled, game-settled, written-grown, written-settled}
+use Rattle.proof_number.proofs.Settling.{closed-settled, counted-settled, game-settled, written-grown, written-settled}
 use Rattle.proof_number.proofs.Sums.{sum-less}
 
 -- the search s at its leaf, and v after the leaf is settled in the tree u; c grows by more nodes

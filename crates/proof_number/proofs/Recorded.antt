@@ -2,8 +2,7 @@
 use Rattle.std.proofs.Common.{◌≡◌, ◌⊎◌, inl, inr, ℕ, ◌<◌, true, false, sym, subst, ◌∙◌, arith, List, length}
 use Rattle.std.specs.Prelude.{Some, Result, Ok, Err, OnOk}
 use Rattle.std.proofs.lemmas.List.{length-map}
-use Rattle.game_rules.specs.Grid.{Grid}
-use Rattle.game_rules.specs.Games.{WinsByThreats}
+use Rattle.game_rules.proofs.Common.{Grid, WinsByThreats}
 use Rattle.game_rules.specs.declared.RuleKind.{RuleKind}
 use Rattle.position_table.specs.Packing.{packed}
 use Rattle.position_table.specs.Remembering.{kept}
@@ -108,7 +107,3 @@ board-searches rule s u t c way rest h = subst (λ (w : Search). IsSearching rul
   compiled = h.compiled;
   few = h.few;
 })
-
-pub on-ok-map : {A E : Type 0} (r : Result A E) (P Q : Type 0) → (P → Q) → OnOk r P → OnOk r Q
-on-ok-map (Ok a) P Q f p = f p
-on-ok-map (Err e) P Q f p = tt

@@ -6,19 +6,18 @@ use Rattle.game_rules.specs.Games.{WinsByThreats}
 use Rattle.game_rules.specs.declared.RuleKind.{RuleKind}
 use Rattle.strategy_graph.specs.declared.Node.{Node}
 use Rattle.strategy_compiler.specs.declared.wins.WrittenWin.{WrittenWin}
-use Rattle.proof_tree.specs.Combining.{is_settled, settled_numbers}
+use Rattle.proof_tree.specs.Combining.{settled_numbers}
 use Rattle.proof_tree.specs.Trees.{IsOnWayUp, Tree, ancestor, link_at, numbers_at}
 use Rattle.proof_tree.specs.declared.Kind.{Kind}
 use Rattle.proof_tree.specs.declared.Kind.TheVariants.{Attack}
-use Rattle.proof_tree.specs.declared.Link.{Link}
-use Rattle.proof_tree.specs.declared.Numbers.{Numbers}
+use Rattle.proof_tree.proofs.Ancestors.{ancestor-up}
 use Rattle.proof_number.specs.declared.notes.Note.{Note}
 use Rattle.proof_number.specs.declared.search.Search.{Search}
 use Rattle.proof_number.specs.Notes.{note_at, noted_win, win_of}
 use Rattle.proof_number.specs.GameTrees.{WinsAt, board_at, left_at}
 use Rattle.proof_number.specs.Remembered.{IsTrueMemo}
 use Rattle.proof_number.specs.Searches.{IsAbove, IsSameAim, IsSearching, KeepsTree, game_of}
-use Rattle.proof_number.proofs.GameTruths.{all-tell, settled-one}
+use Rattle.proof_number.proofs.GameTruths.{all-tell}
 
 -- ---- notes
 
@@ -103,10 +102,6 @@ way-above rule s t c node has h = way-changed rule s t c (IsOnWayUp t.links node
   | inr other ↦ inl (λ way. beside (way, other))
 ]) h
 
-ancestor-up : (links : List Link) (steps i : ℕ) → ancestor links (suc steps) i ≡ ancestor links steps (link_at links i).parent
-ancestor-up links zero i = refl
-ancestor-up links (suc s) i = ap (λ (m : ℕ). (link_at links m).parent) (ancestor-up links s i)
-
 -- those above a node are on the way up from its parent
 pub way-parent : (rule : RuleKind) (s : Search) (t : Tree) (c : List Node) (node : ℕ) → IsSearching rule s t c (IsAbove t.links node) → IsSearching rule s t c (IsOnWayUp t.links (link_at t.links node).parent)
 way-parent rule s t c node h = way-changed rule s t c (IsAbove t.links node) (IsOnWayUp t.links (link_at t.links node).parent)
@@ -136,19 +131,6 @@ pub won-node : (rule : RuleKind) (s : Search) (t : Tree) (c : List Node) (way : 
 won-node rule s t c way node h inside attack won =
     let told = all-tell (game_of rule s t) h.tree h.game node inside in
     subst (λ (k : Kind). WinsAt k rule (left_at (game_of rule s t).left node) (board_at (game_of rule s t) node)) attack (told.proved won)
-
--- settled numbers by their proof number
-pub settled-lost : (n : Numbers) → is_settled n ≡ true → (n.proof ≡ 0 → ⊥) → n ≡ settled_numbers false
-settled-lost n s more = elim (settled-one n s) [
-  | inl won ↦ absurd (more (ap (λ (m : Numbers). m.proof) won))
-  | inr lost ↦ lost
-]
-
-pub settled-won : (n : Numbers) → is_settled n ≡ true → n.proof ≡ 0 → n ≡ settled_numbers true
-settled-won n s none = elim (settled-one n s) [
-  | inl won ↦ won
-  | inr lost ↦ absurd (let bad : n.proof ≡ 4294967295 = ap (λ (m : Numbers). m.proof) lost in omega (arith, bad, none))
-]
 
 -- ---- what is remembered
 

@@ -1,50 +1,25 @@
 -- The win of a proved node of the attacker, made of those after each reply to a proved move.
-use Rattle.std.proofs.Common.{◌≡◌, ℕ, zero, suc, ◌+◌, ◌<◌, Bool, true, false, ◌&&◌, refl, sym, ap, subst, ◌∙◌, arith, List, [], ◌∷◌, map, length, get_or, drop}
+use Rattle.std.proofs.Common.{◌≡◌, ℕ, zero, suc, ◌+◌, ◌<◌, Bool, true, false, ◌&&◌, refl, sym, ap, subst, ◌∙◌, arith, List, [], ◌∷◌, map, length, get_or}
 use Rattle.std.specs.List.{list_all, list_any, AllByRecursion}
-use Rattle.std.proofs.lemmas.List.{length-take, length-drop}
-use Rattle.game_rules.specs.Grid.{Grid, points_of}
-use Rattle.game_rules.specs.Shapes.{is_same_point}
-use Rattle.game_rules.specs.Play.{outcome, after, goes_on}
-use Rattle.game_rules.specs.Games.{LosesOr}
+use Rattle.game_rules.proofs.Common.{Grid, points_of, is_same_point, outcome, after, goes_on, LosesOr}
 use Rattle.game_rules.specs.declared.RuleKind.{RuleKind}
 use Rattle.game_rules.specs.declared.Outcome.TheVariants.{GoesOn}
 use Rattle.game_rules.specs.declared.Point.{Point}
 use Rattle.game_rules.proofs.Points.{filter-passes, points-found, is_same_point-itself}
 use Rattle.game_rules.proofs.Positions.{GoesOn-on}
 use Rattle.game_rules.proofs.Outcomes.{goes_on-is}
+use Rattle.game_rules.proofs.PointLists.{still-found}
 use Rattle.strategy_graph.specs.declared.Node.{Node}
 use Rattle.strategy_graph.specs.Tables.{depth, greatest, start_depth}
 use Rattle.strategy_compiler.specs.Starts.{answers_alone}
 use Rattle.strategy_compiler.specs.Wins.{IsWrittenWin}
 use Rattle.strategy_compiler.specs.Forks.{AnswersWin, WinsByAnswers}
-use Rattle.strategy_compiler.proofs.Forks.{IsAnswer, alone-deep, answer-by-win, answers-win, mapped-all, still-found}
-use Rattle.proof_tree.specs.Combining.{combined, least, settled_numbers}
-use Rattle.proof_tree.specs.Trees.{IsChild, IsTree, Tree, children_of, link_at, numbers_at}
-use Rattle.proof_tree.specs.declared.Kind.{Kind}
-use Rattle.proof_tree.specs.declared.Kind.TheVariants.{Attack}
-use Rattle.proof_tree.specs.declared.Link.{Link}
-use Rattle.proof_tree.specs.declared.Numbers.{Numbers}
+use Rattle.strategy_compiler.proofs.Forks.{IsAnswer, alone-deep, answer-by-win, answers-win, mapped-all}
 use Rattle.proof_number.specs.declared.notes.Note.{Note}
 use Rattle.threat_game.specs.Replies.{replies_at}
 use Rattle.proof_number.specs.Notes.{answer_of, no_note, note_at, win_of}
-use Rattle.proof_number.proofs.GameTruths.{least-zero, child-numbers}
 
 -- ---- a proved child
-
-pub proved-child : (t : Tree) (i : ℕ) → IsTree t → i < length t.links → 0 < (link_at t.links i).count → (link_at t.links i).kind ≡ Attack → numbers_at t.numbers i ≡ settled_numbers true → (j : ℕ) × IsChild (link_at t.links i) j × ((numbers_at t.numbers j).proof ≡ 0)
-proved-child t i ok inside some kind proved =
-    let l : Link = link_at t.links i in
-    let own : numbers_at t.numbers i ≡ combined Attack (children_of l t.numbers) = ok.numbered.combined_at i inside some ∙ ap (λ (k : Kind). combined k (children_of l t.numbers)) kind in
-    let nothing : least (map (λ n. n.proof) (children_of l t.numbers)) ≡ 0 = ap (λ (n : Numbers). n.proof) (sym own ∙ proved) in
-    let found = least-zero (λ n. n.proof) (children_of l t.numbers) nothing in
-    let many = found.1 in
-    let a = length-take l.count (drop l.first t.numbers) in
-    let b = length-drop l.first t.numbers in
-    let low : found.0 < l.count = omega (arith, many, a, b) in (
-      l.first + found.0,
-      record { from_first = omega arith; below_end = omega (arith, low) },
-      ap (λ (n : Numbers). n.proof) (sym (child-numbers l t.numbers found.0 low)) ∙ found.2,
-    )
 
 -- ---- lists
 

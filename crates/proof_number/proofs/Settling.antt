@@ -1,5 +1,5 @@
 -- What becomes of a tree of the game, of what is written, and of the counts where a leaf is settled.
-use Rattle.std.proofs.Common.{◌≡◌, ◌≢◌, ◌⊎◌, inl, inr, ℕ, zero, suc, ◌+◌, ◌<◌, ◌≤◌, Bool, true, false, cond, not, ◌&&◌, refl, sym, ap, subst, ◌∙◌, arith, List, ◌++◌, length, nat_eq}
+use Rattle.std.proofs.Common.{◌≡◌, ◌≢◌, ◌⊎◌, inl, inr, ℕ, ◌+◌, ◌<◌, ◌≤◌, Bool, true, false, cond, not, ◌&&◌, refl, sym, ap, subst, ◌∙◌, arith, List, ◌++◌, length, nat_eq}
 use Rattle.std.proofs.lemmas.Bool.{cases_eq, eq-eqb, ne_eqb}
 use Rattle.game_rules.specs.Grid.{Grid}
 use Rattle.game_rules.specs.declared.RuleKind.{RuleKind}
@@ -7,11 +7,12 @@ use Rattle.strategy_graph.specs.declared.Node.{Node}
 use Rattle.strategy_graph.specs.Tables.{NamesLower}
 use Rattle.strategy_compiler.proofs.Winning.{growth_keeps-wins}
 use Rattle.proof_tree.specs.Combining.{is_settled, settled_numbers}
-use Rattle.proof_tree.specs.Trees.{IsChild, IsLinked, IsOnWayUp, IsTree, OthersStay, Tree, ancestor, leaf_sum, link_at, numbers_at}
+use Rattle.proof_tree.specs.Trees.{IsOnWayUp, IsTree, OthersStay, Tree, leaf_sum, link_at, numbers_at}
 use Rattle.proof_tree.specs.declared.Kind.{Kind}
 use Rattle.proof_tree.specs.declared.Kind.TheVariants.{Attack, Defend}
-use Rattle.proof_tree.specs.declared.Link.{Link}
 use Rattle.proof_tree.specs.declared.Numbers.{Numbers}
+use Rattle.proof_tree.proofs.Ancestors.{leaf-beside}
+use Rattle.proof_tree.proofs.Settled.{settled-test}
 use Rattle.proof_number.specs.declared.notes.Note.{Note}
 use Rattle.proof_number.specs.Notes.{note_at, win_of}
 use Rattle.proof_number.specs.GameTrees.{GameTree, IsGameTree, TellsTruly, WinsAt, board_at, left_at}
@@ -20,46 +21,9 @@ use Rattle.proof_number.proofs.Sums.{sum-less}
 
 -- ---- the way up
 
--- each node above another has children
-module _ (links : List Link) (w : IsLinked links) where
-  ancestor-inside : (steps i : ℕ) → i < length links → ancestor links steps i < length links
-  ancestor-inside zero i inside = inside
-  ancestor-inside (suc s) i inside = below (cases_eq (ancestor links s i) 0) (ancestor-inside s i inside) where
-    below : (ancestor links s i ≡ 0) ⊎ (ancestor links s i ≡ 0 → ⊥) → ancestor links s i < length links → (link_at links (ancestor links s i)).parent < length links
-    below (inl root) low =
-        let up : (link_at links (ancestor links s i)).parent ≡ 0 = ap (λ (m : ℕ). (link_at links m).parent) root ∙ w.root_parent in
-        omega (arith, up, root, low)
-    below (inr other) low = let up = w.parent_first (ancestor links s i) (omega (arith, other)) low in omega (arith, up, low)
-
-  pub above-has_children : (steps i j : ℕ) → i < length links → ancestor links steps i ≡ j → j ≢ i → 0 < (link_at links j).count
-  above-has_children zero i j inside at other = absurd (other (sym at))
-  above-has_children (suc s) i j inside at other = by_root (cases_eq (ancestor links s i) 0) (λ e. above-has_children s i j inside e other) where
-    by_root : (ancestor links s i ≡ 0) ⊎ (ancestor links s i ≡ 0 → ⊥) → (ancestor links s i ≡ j → 0 < (link_at links j).count) → 0 < (link_at links j).count
-    by_root (inl root) before =
-        let up : (link_at links (ancestor links s i)).parent ≡ 0 = ap (λ (m : ℕ). (link_at links m).parent) root ∙ w.root_parent in
-        before (root ∙ sym up ∙ at)
-    by_root (inr more) before =
-        let m : ℕ = ancestor links s i in
-        let child : IsChild (link_at links (link_at links m).parent) m = w.children m (omega (arith, more)) (ancestor-inside s i inside) in
-        let first = child.from_first in
-        let low = child.below_end in
-        subst (λ (k : ℕ). 0 < (link_at links k).count) at (omega (arith, first, low))
-
-  -- another leaf is not above a node
-  pub leaf-beside : (i j : ℕ) → i < length links → (link_at links j).count ≡ 0 → j ≢ i → IsOnWayUp links i j → ⊥
-  leaf-beside i j inside none other (steps, at) = let some = above-has_children steps i j inside at other in omega (arith, some, none)
-
 -- 0 for yes, and 1 for no
 abbrev pub one_unless : Bool → ℕ
 one_unless r = cond r 0 1
-
--- 1 for yes, and 0 for no
-abbrev pub one_where : Bool → ℕ
-one_where r = cond r 1 0
-
-settled-test : (p : Bool) → is_settled (settled_numbers p) ≡ true
-settled-test true = refl
-settled-test false = refl
 
 open-test : (t : Tree) (i : ℕ) → 0 < (link_at t.links i).count → is_open_leaf t i ≡ false
 open-test t i some = ap (λ r. r && not (is_settled (numbers_at t.numbers i))) (ne_eqb (link_at t.links i).count 0 (λ e. omega (arith, e, some)))

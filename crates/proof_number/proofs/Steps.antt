@@ -1,23 +1,20 @@
 -- The steps of a search, in the words of its contracts.
-use Rattle.std.proofs.Common.{◌≡◌, ℕ, zero, suc, ◌+◌, ◌<◌, ◌≤◌, Bool, true, false, inl, sym, ap, subst, ◌∙◌, arith, List, [], ◌++◌, append-nil, length}
+use Rattle.std.proofs.Common.{◌≡◌, ℕ, ◌+◌, ◌<◌, ◌≤◌, Bool, true, false, inl, sym, ap, subst, ◌∙◌, arith, List, [], ◌++◌, append-nil, length}
 use Rattle.std.specs.Prelude.{Some, Result, Ok, Err}
 use Rattle.strategy_compiler.specs.declared.error.SearchError.{SearchError}
 use Rattle.proof_number.specs.declared.search.Step.{Step}
 use Rattle.proof_number.specs.declared.search.Step.TheVariants.{Done, Spent}
 use Rattle.std.proofs.lemmas.List.{get_or-map, length-map}
-use Rattle.game_rules.specs.Grid.{Grid}
-use Rattle.game_rules.specs.Play.{IsPosition, mover}
-use Rattle.game_rules.specs.Games.{WinsByThreats, WinsWithin, has_five}
+use Rattle.game_rules.proofs.Common.{Grid, IsPosition, mover, WinsByThreats, has_five}
 use Rattle.game_rules.specs.declared.RuleKind.{RuleKind}
 use Rattle.position_table.specs.Packing.{Packed, packed}
 use Rattle.position_table.specs.Remembering.{value_under, looked_up}
 use Rattle.strategy_graph.specs.declared.Node.{Node}
 use Rattle.strategy_graph.specs.Tables.{depth}
 use Rattle.strategy_graph.proofs.Filling.{IsTable-lower}
-use Rattle.strategy_graph.proofs.Soundness.{accepted-wins}
 use Rattle.strategy_compiler.specs.declared.wins.WrittenWin.{WrittenWin}
 use Rattle.strategy_compiler.specs.Nodes.{IsCompiled}
-use Rattle.strategy_compiler.specs.Wins.{IsWrittenWin}
+use Rattle.strategy_compiler.proofs.Winning.{win-some}
 use Rattle.proof_tree.specs.Combining.{is_settled, settled_numbers}
 use Rattle.proof_tree.specs.Trees.{IsTree, OthersStay, Tree, leaf_sum, link_at, most_proving, numbers_at}
 use Rattle.proof_tree.specs.declared.Kind.{Kind}
@@ -35,13 +32,6 @@ use Rattle.proof_number.proofs.Growing.{lost-grown, won-grown}
 use Rattle.threat_game.proofs.TreeLaws.{tree-positive}
 use Rattle.position_table.proofs.Remembering.{true-found, true-looked}
 use Rattle.proof_number.proofs.Remembering.{memo-grown}
-
--- a written win has a move
-pub win-some : (rule : RuleKind) (n : ℕ) (b : Grid) (c : List Node) (win : WrittenWin) → IsWrittenWin rule n b c win → 0 < win.moves
-win-some rule n b c win h = by_moves win.moves h.deep where
-  by_moves : (m : ℕ) → depth c win.node ≡ m → 0 < m
-  by_moves zero e = absurd (subst (λ (k : ℕ). WinsWithin rule k b) e (accepted-wins rule c win.node b h.accepted))
-  by_moves (suc m) e = omega arith
 
 module _ (rule : RuleKind) (s : Search) (t : Tree) (c : List Node) (leaf : ℕ) (view : Grid) (stands : StandsAt rule s t c leaf view) where
   at-leaf : IsAtLeaf rule s t c leaf view

@@ -62,3 +62,7 @@ sum-list h d (x ∷ xs) =
     ap (λ (m : ℕ). sum_below m F) e ∙ sum-more 1 (length xs) F ∙ ap (λ (m : ℕ). sum_below 1 F + m) (same ∙ sum-list h d xs) ∙ ap (λ (m : ℕ). m + sum_by h xs) first ∙ sym (sum_by-cons h x xs) where
       one_more : (j : ℕ) → 1 + j ≡ suc j
       one_more j = omega arith
+
+pub sum-zeros : (n : ℕ) → sum_below n (λ i. 0) ≡ 0
+sum-zeros zero = sum-zero (λ i. 0)
+sum-zeros (suc n) = let a = sum-suc n (λ i. 0) in let rest = sum-zeros n in omega (arith, a, rest)

@@ -1,47 +1,19 @@
 -- Bounds of a step that gives the leaf children of which nothing is known, or that are proved.
-use Rattle.std.proofs.Common.{◌≡◌, ◌⊎◌, inl, inr, ℕ, zero, suc, ◌+◌, ◌<◌, ◌≤◌, true, sym, ap, subst, ◌∙◌, arith, List, [], ◌∷◌, ◌++◌, length, map}
+use Rattle.std.proofs.Common.{◌≡◌, ◌⊎◌, inl, inr, ℕ, zero, suc, ◌+◌, ◌<◌, ◌≤◌, sym, ap, ◌∙◌, arith, List, ◌++◌, length, map}
 use Rattle.std.specs.List.{All}
 use Rattle.std.proofs.lemmas.Bool.{cases_lt}
-use Rattle.std.proofs.lemmas.List.Elements.{All-head, All-tail, All-weaker}
 use Rattle.game_rules.specs.Grid.{Grid}
 use Rattle.game_rules.specs.declared.RuleKind.{RuleKind}
 use Rattle.strategy_graph.specs.declared.Node.{Node}
-use Rattle.proof_tree.specs.Combining.{AreNumbers, finite, finite_sum, is_settled, settled_numbers, sought}
+use Rattle.proof_tree.specs.Combining.{finite, finite_sum, sought}
 use Rattle.proof_tree.specs.Trees.{Tree, grown_links, leaf_sum, link_at, numbers_at}
 use Rattle.proof_tree.specs.declared.TheConstants.{INFINITE}
 use Rattle.proof_tree.specs.declared.Kind.{Kind}
-use Rattle.proof_tree.specs.declared.Kind.TheVariants.{Attack, Defend}
 use Rattle.proof_tree.specs.declared.Numbers.{Numbers}
-use Rattle.proof_tree.proofs.SumLaws.{leaf_sum-grown}
+use Rattle.proof_tree.proofs.SumLaws.{leaf_sum-grown, one-leaf, IsFresh, fresh-sum}
 use Rattle.proof_number.specs.declared.search.Search.{Search}
 use Rattle.proof_number.specs.Searches.{IsAtLeaf, StandsAt, sum_below}
-use Rattle.proof_number.proofs.Expanded.{one-leaf}
 use Rattle.proof_number.proofs.Sums.{sum-suc, sum-zero}
-
--- the numbers of a new child: nothing is known of it, or it is proved
-abbrev pub IsFresh : Numbers → Type 0
-IsFresh n = (n ≡ record { proof = 1; disproof = 1 }) ⊎ (n ≡ settled_numbers true)
-
-fresh-low : (kind : Kind) (n : Numbers) → IsFresh n → finite (sought kind n) ≤ 1
-fresh-low Attack n (inl e) = let a : finite n.proof ≡ 1 = ap (λ (m : Numbers). finite m.proof) e in omega (arith, a)
-fresh-low Defend n (inl e) = let a : finite n.disproof ≡ 1 = ap (λ (m : Numbers). finite m.disproof) e in omega (arith, a)
-fresh-low Attack n (inr e) = let a : finite n.proof ≡ 0 = ap (λ (m : Numbers). finite m.proof) e in omega (arith, a)
-fresh-low Defend n (inr e) = let a : finite n.disproof ≡ 0 = ap (λ (m : Numbers). finite m.disproof) e in omega (arith, a)
-
--- the numbers that either player seeks add up to no more than there are children
-pub fresh-sum : (kind : Kind) (more : List Numbers) → All IsFresh more → finite_sum (map (sought kind) more) ≤ length more
-fresh-sum kind [] h = omega arith
-fresh-sum kind (n ∷ more) h =
-    let a = fresh-low kind n (All-head IsFresh n more h) in
-    let b = fresh-sum kind more (All-tail IsFresh n more h) in
-    omega (arith, a, b)
-
-fresh-are : (n : Numbers) → IsFresh n → AreNumbers n
-fresh-are n (inl e) = subst AreNumbers (sym e) (inr (record { proof_above = omega arith; proof_below = omega arith; disproof_above = omega arith; disproof_below = omega arith }))
-fresh-are n (inr e) = inl (ap is_settled e)
-
-pub fresh-numbers : (more : List Numbers) → All IsFresh more → All AreNumbers more
-fresh-numbers more h = All-weaker IsFresh AreNumbers fresh-are more h
 
 -- a sum of nothing
 pub sum-nothing : (n : ℕ) (f : ℕ → ℕ) → ((i : ℕ) → i < n → f i ≡ 0) → sum_below n f ≡ 0

@@ -1,10 +1,8 @@
 -- Steps at a leaf of the attacker whose win is compiled at once: what is counted fits, and so do the nodes.
-use Rattle.std.proofs.Common.{◌≡◌, ◌∙◌, refl, ℕ, zero, suc, ◌+◌, ◌-◌, ◌<◌, ◌≤◌, true, false, cond, ◌&&◌, not, sym, ap, subst, arith, List, length, nat_eq}
+use Rattle.std.proofs.Common.{◌≡◌, ◌∙◌, refl, ℕ, zero, suc, ◌+◌, ◌-◌, ◌<◌, ◌≤◌, true, cond, ◌&&◌, not, sym, ap, subst, arith, List, length, nat_eq}
 use Rattle.std.proofs.lemmas.Bool.{eq-eqb}
 use Rattle.std.proofs.lemmas.List.{get_or-map}
 use Rattle.game_rules.specs.Grid.{Grid}
-use Rattle.game_rules.specs.Play.{IsPosition, mover}
-use Rattle.game_rules.specs.Games.{has_five}
 use Rattle.game_rules.specs.declared.RuleKind.{RuleKind}
 use Rattle.strategy_graph.specs.declared.Node.{Node}
 use Rattle.strategy_graph.specs.declared.TheConstants.{MAX_NODES}
@@ -27,19 +25,10 @@ use Rattle.proof_number.specs.GameTrees.{GameTree, board_at, left_at}
 use Rattle.proof_number.specs.Remembered.{IsTrueMemo}
 use Rattle.proof_number.specs.Searches.{Grows, HasSpent, IsAtLeaf, IsSettledAt, StandsAt, attacks_behind, behind_at, game_of, is_attack, noted_won, sum_below, unwritten}
 use Rattle.proof_number.proofs.Recording.{keeps-all}
-use Rattle.proof_number.proofs.Settling.{one_where}
 use Rattle.proof_number.proofs.Steps.{attack-moves, attack-no_five, leaf-board, leaf-lawful, leaf-noted, left-few, won-step}
-use Rattle.proof_number.proofs.Sums.{sum-less, sum-suc, sum-zero}
-use Rattle.threat_game.proofs.TreeLaws.{double-counted, tree-positive}
-
-no-sum : (n : ℕ) → sum_below n (λ i. 0) ≡ 0
-no-sum zero = sum-zero (λ i. 0)
-no-sum (suc n) = let a = sum-suc n (λ i. 0) in let b = no-sum n in omega (arith, a, b)
-
-counted-within : (rule : RuleKind) (b : Grid) (d : Double) → IsPosition rule b → IsDoubleWin rule b d → has_five rule b (mover b) ≡ false → (n : ℕ) → 2 ≤ n → 1 + answer_nodes rule b d ≤ threat_tree rule n b
-counted-within rule b d lawful wins none zero l = absurd (omega arith)
-counted-within rule b d lawful wins none (suc zero) l = absurd (omega arith)
-counted-within rule b d lawful wins none (suc (suc n)) l = double-counted rule b d lawful wins n none
+use Rattle.proof_number.proofs.Sums.{sum-zeros, sum-less, sum-suc, sum-zero}
+use Rattle.threat_game.proofs.TreeLaws.{tree-positive}
+use Rattle.threat_game.proofs.Counting.{one_where, counted-within}
 
 module _ (rule : RuleKind) (s : Search) (t : Tree) (c : List Node) (leaf : ℕ) (view : Grid) (stands : StandsAt rule s t c leaf view) where
   here : IsAtLeaf rule s t c leaf view
@@ -65,7 +54,7 @@ module _ (rule : RuleKind) (s : Search) (t : Tree) (c : List Node) (leaf : ℕ) 
     behind-fits =
         let g : GameTree = game_of rule s t in
         let own : behind_at attacks_behind g leaf ≡ threat_tree rule (left_at g.left leaf) (board_at g leaf) - 1 = own-behind ∙ ap (λ (k : Kind). attacks_behind k rule (left_at g.left leaf) (board_at g leaf)) attack in
-        let none = no-sum (length t.links) in
+        let none = sum-zeros (length t.links) in
         let low = sum-less (length t.links) (λ i. 0) (behind_at attacks_behind g) leaf (threat_tree rule (left_at g.left leaf) (board_at g leaf) - 1) here.in_tree (λ j l other. omega arith) (omega (arith, own)) in
         let left_is : left_at g.left leaf ≡ (note_at s.notes.items leaf).left = get_or-map (λ (n : Note). n.left) s.notes.items leaf no_note 0 (leaf-noted rule s t c leaf view stands) in
         let tree_is : threat_tree rule (note_at s.notes.items leaf).left view ≡ threat_tree rule (left_at g.left leaf) (board_at g leaf) =
@@ -81,7 +70,7 @@ module _ (rule : RuleKind) (s : Search) (t : Tree) (c : List Node) (leaf : ℕ) 
         let one : unwritten t s.notes.items leaf ≡ 1 =
         ap (λ (k : Kind). one_where (is_attack k && nat_eq (note_at s.notes.items leaf).moves 0)) attack
         ∙ ap (λ r. one_where r) (eq-eqb (note_at s.notes.items leaf).moves 0 (here.searching.written.fresh leaf here.in_tree here.childless here.leaf_open)) in
-        let none = no-sum (length t.links) in
+        let none = sum-zeros (length t.links) in
         let low = sum-less (length t.links) (λ i. 0) (unwritten t s.notes.items) leaf 1 here.in_tree (λ j l other. omega arith) (omega (arith, one)) in
         let few = here.searching.few in
         omega (arith, none, low, few)

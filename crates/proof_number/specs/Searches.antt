@@ -1,7 +1,7 @@
 -- What holds of a search between its steps: its tree stands for the game, won positions are written, and positions are counted.
 use Rattle.std.specs.Prelude.{◌≡◌, Result, Ok, Err, slice_set, ℕ, zero, suc, ◌+◌, ◌-◌, ◌<◌, ◌≤◌, Bool, true, false, ◌&&◌, not, nat_eq, if◌then◌else◌, List, [], ◌++◌, length}
 use Rattle.game_rules.specs.Grid.{Grid}
-use Rattle.game_rules.specs.Games.{WinsByThreats}
+use Rattle.game_rules.specs.Games.{WinsByThreats, behind_replies}
 use Rattle.game_rules.specs.declared.RuleKind.{RuleKind}
 use Rattle.strategy_graph.specs.declared.Node.{Node}
 use Rattle.strategy_compiler.specs.Nodes.{IsCompiled}
@@ -19,7 +19,7 @@ use Rattle.proof_number.specs.declared.search.Step.{Step}
 use Rattle.proof_number.specs.declared.search.Step.TheVariants.{Done, Spent}
 use Rattle.strategy_compiler.specs.declared.error.SearchError.{SearchError}
 use Rattle.strategy_compiler.specs.declared.wins.WrittenWin.{WrittenWin}
-use Rattle.threat_game.specs.ThreatGame.{behind_replies, threat_tree}
+use Rattle.threat_game.specs.ThreatGame.{threat_tree}
 use Rattle.proof_number.specs.Notes.{note_at, win_of}
 use Rattle.proof_number.specs.GameTrees.{GameTree, IsGameTree, board_at, left_at, noted_tree}
 use Rattle.proof_number.specs.Remembered.{IsTrueMemo}

@@ -51,13 +51,13 @@ settled-leaf links numbers i x w r b h z s = record {
 }
 
 -- the links of a tree whose leaf i is given children
-record IsGrown (links : List Link) (i count : ℕ) (new : List Link) : Type 0 where
-  sized : length new ≡ length links + count
-  here : link_at new i ≡ record { kind = (link_at links i).kind; parent = (link_at links i).parent; first = length links; count = count }
-  others : (j : ℕ) → j < length links → j ≢ i → link_at new j ≡ link_at links j
-  leaves : (j : ℕ) → length links ≤ j → j < length links + count → link_at new j ≡ leaf_link (other_kind (link_at links i).kind) i
+pub record IsGrown (links : List Link) (i count : ℕ) (new : List Link) : Type 0 where
+  pub sized : length new ≡ length links + count
+  pub here : link_at new i ≡ record { kind = (link_at links i).kind; parent = (link_at links i).parent; first = length links; count = count }
+  pub others : (j : ℕ) → j < length links → j ≢ i → link_at new j ≡ link_at links j
+  pub leaves : (j : ℕ) → length links ≤ j → j < length links + count → link_at new j ≡ leaf_link (other_kind (link_at links i).kind) i
 
-grown : (links : List Link) (i count : ℕ) → i < length links → IsGrown links i count (grown_links links i count)
+pub grown : (links : List Link) (i count : ℕ) → i < length links → IsGrown links i count (grown_links links i count)
 grown links i count h =
     let own : Link = record { kind = (link_at links i).kind; parent = (link_at links i).parent; first = length links; count = count } in
     let child : Link = leaf_link (other_kind (link_at links i).kind) i in
@@ -222,10 +222,6 @@ settled-nothing x h = record { good = inl h; nothing = none }
     none : (kind : Kind) → finite (sought kind x) ≡ 0
     none Attack = elim (settled-pair x.proof x.disproof h) [ inl q ↦ omega (arith, finite-le x.proof, q.0) | inr q ↦ finite-infinite x.proof q.0 ]
     none Defend = elim (settled-pair x.proof x.disproof h) [ inl q ↦ finite-infinite x.disproof q.1 | inr q ↦ omega (arith, finite-le x.disproof, q.1) ]
-
-pub settled_numbers-settled : (b : Bool) → is_settled (settled_numbers b) ≡ true
-settled_numbers-settled true = refl
-settled_numbers-settled false = refl
 
 -- the way up
 

@@ -3,8 +3,11 @@
 -- what a node has of its children, sums over leaves, numbers brought up to date, the walk, and a leaf that is settled or expanded
 mod Combined
 mod LeafSums
-mod Updated
+pub mod Updated
 mod Walks
-mod Changed
+pub mod Changed
 -- how the sum over the leaves goes on when the tree grows
 pub mod SumLaws
+-- numbers that are settled, and the nodes above a node
+pub mod Settled
+pub mod Ancestors

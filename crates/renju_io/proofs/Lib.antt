@@ -7,3 +7,4 @@ mod LinesSoFar
 pub mod WholeLines
 pub mod Pieces
 pub mod TakenText
+pub mod ToldSoFar

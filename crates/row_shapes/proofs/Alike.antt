@@ -1,32 +1,31 @@
 -- Lines that look the same within reach: what a stone makes on them is the same.
-use Rattle.std.proofs.Common.{◌≡◌, ◌≢◌, inl, inr, ℕ, ◌+◌, ◌-◌, ◌≤◌, ◌<◌, min, Bool, true, false, cond, ◌&&◌, ◌||◌, not, refl, sym, ap, ◌∙◌, arith, nat_eq, nat_le}
-use Rattle.std.proofs.Common.{◌^◌}
+use Rattle.std.proofs.Common.{◌≡◌, ◌≢◌, inl, inr, ℕ, ◌+◌, ◌-◌, ◌≤◌, ◌<◌, min, Bool, true, false, cond, ◌&&◌, ◌||◌, not, refl, sym, ap, ◌∙◌, arith, nat_eq, nat_le, ◌^◌}
 use Rattle.std.specs.Prelude.{Option, Some, None, bit_or}
 use Rattle.std.specs.Int.{bit_at}
 use Rattle.std.specs.List.{sum_by, range_with_len}
 use Rattle.std.proofs.lemmas.Bool.{cases_lt}
-use Rattle.std.proofs.lemmas.Bool.Decides.{nat_tests}
-use Rattle.game_rules.specs.Grid.{Grid, IsBoard, is_on, is_empty, holds, along}
-use Rattle.game_rules.specs.Shapes.{row_wins, stone_at, run_of, wins_on, wins_at, is_straight, is_line_three_at}
-use Rattle.game_rules.specs.Ways.{towards, opposite, stones_towards, go, run_end}
+use Rattle.game_rules.proofs.Common.{Grid, IsBoard, is_on, is_empty, holds, along, row_wins, stone_at, run_of, wins_on, wins_at, is_straight, is_line_three_at, towards, opposite, stones_towards, go, run_end}
 use Rattle.game_rules.specs.declared.RuleKind.{RuleKind}
-use Rattle.game_rules.specs.declared.RuleKind.TheVariants.{Freestyle, Exact, Renju}
 use Rattle.game_rules.specs.declared.Side.{Side}
-use Rattle.game_rules.specs.declared.Side.TheVariants.{Black, White}
 use Rattle.game_rules.specs.declared.Axis.{Axis}
 use Rattle.game_rules.specs.declared.Point.{Point}
 use Rattle.game_rules.specs.declared.Way.{Way}
+use Rattle.game_rules.specs.declared.RuleKind.TheVariants.{Freestyle, Exact, Renju}
+use Rattle.game_rules.specs.declared.Side.TheVariants.{Black, White}
 use Rattle.game_rules.specs.declared.Way.TheVariants.{Ahead, Behind}
 use Rattle.game_rules.proofs.Boards.{and_left, and-same, is_empty-on}
 use Rattle.game_rules.proofs.Runs.{Leads}
 use Rattle.game_rules.proofs.Ways.{go-then, go-same, leads, run_before_end}
 use Rattle.game_rules.proofs.Wins.{wins_on-ways}
+use Rattle.game_rules.proofs.Threes.{straight_towards, taken_three}
+use Rattle.game_rules.proofs.Tests.{le_true, le_false, eq_true, eq_false, eq_from}
+use Rattle.game_rules.proofs.Fives.{wins-line_by}
 use Rattle.row_shapes.specs.Rule.{reach_of}
 use Rattle.row_shapes.specs.LineShapes.{rule_of_reach, three_bits}
 use Rattle.row_shapes.specs.Reach.{stones_past}
 use Rattle.row_shapes.specs.Halves.{free_at}
 use Rattle.row_shapes.specs.Threes.{wins_past, is_open_four, three_place, bit_of}
-use Rattle.row_shapes.proofs.ThreePoints.{straight_towards, three_at, taken_three, no_place, three_bits as three_bits-at}
+use Rattle.row_shapes.proofs.ThreePoints.{three_at, no_place, three_bits as three_bits-at}
 
 -- ---- tests that agree up to some number
 
@@ -58,27 +57,8 @@ wins-reach Exact s n = refl
 wins-reach Renju Black n = refl
 wins-reach Renju White n = refl
 
-wins-line_by : (t : Bool) (n : ℕ) → row_wins (cond t Freestyle Exact) Black n ≡ cond t (nat_le 5 n) (nat_eq n 5)
-wins-line_by true n = refl
-wins-line_by false n = refl
-
 pub wins-line : (r n : ℕ) → row_wins (rule_of_reach r) Black n ≡ wins_by r n
 wins-line r n = wins-line_by (nat_eq r 4) n
-
-pub le_true : (c x : ℕ) → c ≤ x → nat_le c x ≡ true
-le_true c x h = grind (arith, nat_tests)
-
-pub le_false : (c x : ℕ) → x < c → nat_le c x ≡ false
-le_false c x h = grind (arith, nat_tests)
-
-pub eq_true : (x c : ℕ) → x ≡ c → nat_eq x c ≡ true
-eq_true x c h = grind (arith, nat_tests)
-
-pub eq_false : (x c : ℕ) → x ≢ c → nat_eq x c ≡ false
-eq_false x c h = grind (arith, nat_tests)
-
-pub eq_from : (x c : ℕ) → nat_eq x c ≡ true → x ≡ c
-eq_from x c h = grind (arith, nat_tests)
 
 pub le_same : (c x y : ℕ) → min c x ≡ min c y → nat_le c x ≡ nat_le c y
 le_same c x y e = elim (cases_lt x c) [

@@ -3,24 +3,23 @@ use Rattle.std.proofs.Common.{◌≡◌, ◌≢◌, inl, inr, ℕ, zero, suc, �
 use Rattle.std.specs.Prelude.{Option, Some, None, count_by}
 use Rattle.std.specs.List.{list_all, sum_by, range_with_len}
 use Rattle.std.proofs.lemmas.Bool.{cases_lt}
-use Rattle.game_rules.specs.Grid.{Grid, IsBoard, is_on, is_empty, along}
-use Rattle.game_rules.specs.Shapes.{row_wins, stone_at, wins_on, wins_at, fours_of, place_stone, place_wins}
-use Rattle.game_rules.specs.Ways.{stones_towards, go}
+use Rattle.game_rules.proofs.Common.{Grid, IsBoard, is_on, is_empty, along, row_wins, stone_at, wins_on, wins_at, fours_of, place_stone, place_wins, stones_towards, go}
 use Rattle.game_rules.specs.declared.RuleKind.{RuleKind}
 use Rattle.game_rules.specs.declared.Side.{Side}
 use Rattle.game_rules.specs.declared.Axis.{Axis}
 use Rattle.game_rules.specs.declared.Point.{Point}
-use Rattle.game_rules.specs.declared.Way.{Way}
 use Rattle.game_rules.specs.declared.Way.TheVariants.{Ahead, Behind}
 use Rattle.game_rules.proofs.Rows.{all_in_range}
 use Rattle.game_rules.proofs.Boards.{and-same, is_empty-on}
 use Rattle.game_rules.proofs.Lines.{along-then, along-same, along-zero}
-use Rattle.game_rules.proofs.Ways.{leads_is, least}
+use Rattle.game_rules.proofs.Ways.{least}
 use Rattle.game_rules.proofs.Wins.{wins_on-stones}
+use Rattle.game_rules.proofs.Tests.{le_true, eq_true, eq_false, eq_from}
+use Rattle.game_rules.proofs.RunEnds.{just_stones, more_stones}
 use Rattle.row_shapes.specs.Gaps.{is_four, are_stones, fours_from}
 use Rattle.row_shapes.specs.Halves.{free_at}
 use Rattle.row_shapes.proofs.Counting.{fours_by_gap, fours_of-gap}
-use Rattle.row_shapes.proofs.Alike.{wins_by, le_true, eq_true, eq_false, eq_from, Both}
+use Rattle.row_shapes.proofs.Alike.{wins_by, Both}
 
 -- ---- tests over ranges
 
@@ -57,19 +56,6 @@ exact_by false true false m n k l sum x y a b c e = let f = b refl in eq_false (
 exact_by false false true m n k l sum x y a b c e = let f = e refl in eq_false (1 + m + n) 5 (λ same. absurd (omega (arith, f)))
 exact_by false true true m n k l sum x y a b c e = let f = e refl in eq_false (1 + m + n) 5 (λ same. absurd (omega (arith, f)))
 
-module _ (b : Grid) (s : Side) (d : Axis) (x : Point) (on : is_on b x ≡ true) (w : Way) (m : ℕ) (all : (j : ℕ) → 1 ≤ j → j ≤ m → stone_at b s (go w d x j 0) ≡ true) where
-  just : stone_at b s (go w d x (1 + m) 0) ≡ false → stones_towards w b s d x ≡ m
-  just stop = leads_is b s d x on w m (record { holds = all; stops = stop })
-
-  more_at : stone_at b s (go w d x (1 + m) 0) ≡ true → (j : ℕ) → 1 ≤ j → j ≤ 1 + m → stone_at b s (go w d x j 0) ≡ true
-  more_at stone j low high = elim (cases_lt m j) [
-    | inl last ↦ let same : 1 + m ≡ j = omega arith in ap (λ k. stone_at b s (go w d x k 0)) (sym same) ∙ stone
-    | inr inside ↦ all j low inside
-  ]
-
-  more : stone_at b s (go w d x (1 + m) 0) ≡ true → m < stones_towards w b s d x
-  more stone = let far = least b s d x on w (1 + m) (more_at stone) in omega (arith, far)
-
 module _ (r : ℕ) (rule : RuleKind) (b : Grid) (s : Side) (d : Axis) (p : Point) (ok : IsBoard b) (reads : (n : ℕ) → row_wins rule s n ≡ wins_by r n) (a j : ℕ) (from : a ≤ j) (to : j ≤ a + 4)
     (full : (i : ℕ) → a ≤ i → i ≤ a + 4 → i ≢ j → stone_at b s (along d p i 4) ≡ true) where
   module _ (x : Point) (here : along d p j 4 ≡ Some x) (on : is_on b x ≡ true) where
@@ -95,8 +81,8 @@ module _ (r : ℕ) (rule : RuleKind) (b : Grid) (s : Side) (d : Axis) (p : Point
     window_wins =
         reads _ ∙ exact_by (nat_eq r 4) (stone_at b s (along d p (a + 5) 4)) (stone_at b s (along d p a 5)) _ _ (a + 4 - j) (j - a) (omega arith)
         (least b s d x on Ahead (a + 4 - j) ahead_all) (least b s d x on Behind (j - a) behind_all)
-        (λ e. just b s d x on Ahead (a + 4 - j) ahead_all (ahead_next ∙ e)) (λ e. more b s d x on Ahead (a + 4 - j) ahead_all (ahead_next ∙ e))
-        (λ e. just b s d x on Behind (j - a) behind_all (behind_next ∙ e)) (λ e. more b s d x on Behind (j - a) behind_all (behind_next ∙ e))
+        (λ e. just_stones b s d x on Ahead (a + 4 - j) ahead_all (ahead_next ∙ e)) (λ e. more_stones b s d x on Ahead (a + 4 - j) ahead_all (ahead_next ∙ e))
+        (λ e. just_stones b s d x on Behind (j - a) behind_all (behind_next ∙ e)) (λ e. more_stones b s d x on Behind (j - a) behind_all (behind_next ∙ e))
 
   window_point : (x : Point) → along d p j 4 ≡ Some x → wins_on rule b s d x ≡ (is_empty b x && (nat_eq r 4 || (not (stone_at b s (along d p a 5)) && not (stone_at b s (along d p (a + 5) 4)))))
   window_point x here = wins_on-stones rule b s d x ok ∙ and-same (is_empty b x) _ _ (λ e. window_wins x here (is_empty-on b x e))

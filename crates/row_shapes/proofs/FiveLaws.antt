@@ -1,23 +1,21 @@
 -- Five points told in short, and what a stone leaves of those of the other side.
-use Rattle.std.proofs.Common.{◌≡◌, ◌≢◌, inl, inr, Bool, true, false, cond, ◌&&◌, not, refl, sym, ap, subst, ◌∙◌, List, [], ◌∷◌}
-use Rattle.std.specs.List.{list_all, filter}
+use Rattle.std.proofs.Common.{◌≡◌, ◌≢◌, inl, inr, true, false, cond, ◌&&◌, not, refl, sym, ap, subst, ◌∙◌, List, [], ◌∷◌}
+use Rattle.std.specs.List.{list_all}
 use Rattle.std.proofs.lemmas.Bool.{false_from_ne_true}
 use Rattle.std.proofs.Math.Bool.{and-true, and-false}
-use Rattle.game_rules.specs.Grid.{Grid, IsBoard, is_empty, put, points_of}
-use Rattle.game_rules.specs.Shapes.{five, is_same_point}
-use Rattle.game_rules.specs.Play.{other}
-use Rattle.game_rules.specs.Games.{has_five, five_points}
+use Rattle.game_rules.proofs.Common.{Grid, IsBoard, is_empty, put, points_of, five, is_same_point, other, IsPosition, mover, after, has_five, five_points}
 use Rattle.game_rules.specs.declared.RuleKind.{RuleKind}
 use Rattle.game_rules.specs.declared.Side.{Side}
 use Rattle.game_rules.specs.declared.Point.{Point}
 use Rattle.game_rules.proofs.Boards.{Apart, not-apart, same_or_apart, and_left, and_right, is_empty-on}
-use Rattle.game_rules.proofs.Points.{points-found, filter-passes, filter-none, filter-some, is_same_point-itself, apart-is_same_point}
+use Rattle.game_rules.proofs.Points.{points-found, filter-passes, filter-none, filter-some, is_same_point-itself, is_same_point-same, apart-is_same_point}
 use Rattle.game_rules.proofs.Fives.{five-empty, five-other}
 use Rattle.game_rules.proofs.Places.{two_passing-apart}
 use Rattle.game_rules.proofs.OneLine.{empty-before}
+use Rattle.game_rules.proofs.PointLists.{without, filter-same, filter-both}
 use Rattle.row_shapes.specs.declared.fives.FivePoints.{FivePoints}
-use Rattle.row_shapes.specs.declared.fives.FivePoints.TheVariants.{None, One, Several}
-use Rattle.row_shapes.specs.FivePoints.{in_short}
+use Rattle.row_shapes.specs.declared.fives.FivePoints.TheVariants.{None, One, Several, One as OnePoint}
+use Rattle.row_shapes.specs.FivePoints.{in_short, takes}
 
 -- ---- lists in short
 
@@ -63,21 +61,6 @@ pub one-empty : (rule : RuleKind) (b : Grid) (s : Side) (w : Point) → in_short
 one-empty rule b s w h = five-empty rule b s w (one-five rule b s w h)
 
 -- ---- what a stone leaves of the five points of the other side
-
--- the points of a list but p
-abbrev pub without : Point → List Point → List Point
-without p xs = filter (λ q. not (is_same_point p q)) xs
-
-filter-same : (f g : Point → Bool) (xs : List Point) → ((q : Point) → f q ≡ g q) → filter f xs ≡ filter g xs
-filter-same f g [] h = refl
-filter-same f g (x ∷ xs) h = ap (λ r. cond r (x ∷ filter f xs) (filter f xs)) (h x) ∙ ap (λ ys. cond (g x) (x ∷ ys) ys) (filter-same f g xs h)
-
-filter-both : (f g : Point → Bool) (xs : List Point) → filter (λ q. f q && g q) xs ≡ filter g (filter f xs)
-filter-both f g [] = refl
-filter-both f g (x ∷ xs) = by_test (f x) (filter-both f g xs) where
-  by_test : (r : Bool) → filter (λ q. f q && g q) xs ≡ filter g (filter f xs) → cond (r && g x) (x ∷ filter (λ q. f q && g q) xs) (filter (λ q. f q && g q) xs) ≡ filter g (cond r (x ∷ filter f xs) (filter f xs))
-  by_test true h = ap (λ ys. cond (g x) (x ∷ ys) ys) h
-  by_test false h = h
 
 module _ (rule : RuleKind) (b : Grid) (s : Side) (p : Point) (ok : IsBoard b) (empty : is_empty b p ≡ true) where
   -- the point with the stone is no five point
@@ -132,3 +115,30 @@ module _ (rule : RuleKind) (b : Grid) (s : Side) (p : Point) (ok : IsBoard b) (e
   -- with several, some is left
   pub several-left : in_short (five_points rule b (other s)) ≡ Several → has_five rule (put b s p) (other s) ≡ true
   several-left h = several-by (five_points rule b (other s)) refl h
+
+  -- a stone that takes none of them, or not all, leaves one
+  pub not_taken-five : (t : FivePoints) → t ≡ in_short (five_points rule b (other s)) → takes t p ≡ false → has_five rule (put b s p) (other s) ≡ true
+  not_taken-five None e h = cc
+  not_taken-five (One w) e h =
+      let differ : p ≢ w = λ same. let yes : is_same_point w p ≡ true = ap (is_same_point w) same ∙ is_same_point-itself w in let bad : false ≡ true = sym h ∙ yes in cc in
+      has_five-one rule (put b s p) (other s) w (one-left w (sym e) differ)
+  not_taken-five Several e h = several-left (sym e)
+
+  -- one that takes all leaves none
+  pub taken-none : (t : FivePoints) → t ≡ in_short (five_points rule b (other s)) → takes t p ≡ true → has_five rule (put b s p) (other s) ≡ false
+  taken-none None e h = has_five-none rule (put b s p) (other s) (none-left (sym e))
+  taken-none (One w) e h = has_five-none rule (put b s p) (other s) (one-taken w (sym e) (sym (is_same_point-same w p h)))
+  taken-none Several e h = cc
+
+module _ (rule : RuleKind) (b : Grid) (lawful : IsPosition rule b) (p : Point) (empty : is_empty b p ≡ true) where
+  pub one-stays : (w : Point) → in_short (five_points rule b (other (mover b))) ≡ OnePoint w → is_same_point p w ≡ false → has_five rule (after b p) (other (mover b)) ≡ true
+  one-stays w h differ =
+      has_five-one rule (after b p) (other (mover b)) w (one-left rule b (mover b) p lawful.board empty w h (λ same. let yes : is_same_point p w ≡ true = ap (is_same_point p) (sym same) ∙ is_same_point-itself p in let no : false ≡ true = sym differ ∙ yes in cc))
+
+  -- where the defender has no five point, it has none after a stone of the attacker
+  pub none-stays : has_five rule b (other (mover b)) ≡ false → has_five rule (after b p) (other (mover b)) ≡ false
+  none-stays h = has_five-none rule (after b p) (other (mover b)) (none-left rule b (mover b) p lawful.board empty (none-short rule b (other (mover b)) h))
+
+-- where the defender has one five point, it has none once that is taken
+pub one-gone : (rule : RuleKind) (b : Grid) (w : Point) → IsPosition rule b → in_short (five_points rule b (other (mover b))) ≡ OnePoint w → has_five rule (after b w) (other (mover b)) ≡ false
+one-gone rule b w lawful h = has_five-none rule (after b w) (other (mover b)) (one-taken rule b (mover b) w lawful.board (one-empty rule b (other (mover b)) w h) w h refl)

@@ -2,14 +2,12 @@
 use Rattle.std.proofs.Common.{◌≡◌, ℕ, zero, suc, ◌+◌, ◌*◌, ◌/◌, ◌%◌, ◌^◌, ◌≤◌, ◌<◌, ◌⊎◌, inl, inr, List, ◌++◌, refl, sym, subst, arith}
 use Rattle.std.specs.Prelude.{replicate}
 use Rattle.std.proofs.Math.Nat.{pow-succ'}
-use Rattle.game_rules.specs.Grid.{Grid, IsBoard, put}
-use Rattle.game_rules.specs.Shapes.{stone_at}
-use Rattle.game_rules.specs.Ways.{towards}
+use Rattle.game_rules.proofs.Common.{Grid, IsBoard, put, stone_at, towards}
 use Rattle.game_rules.specs.declared.Cell.{Cell}
+use Rattle.game_rules.specs.declared.Way.{Way}
 use Rattle.game_rules.specs.declared.Cell.TheVariants.{Empty}
 use Rattle.game_rules.specs.declared.Side.TheVariants.{Black}
 use Rattle.game_rules.specs.declared.Axis.TheVariants.{Row}
-use Rattle.game_rules.specs.declared.Way.{Way}
 use Rattle.game_rules.specs.declared.Way.TheVariants.{Ahead, Behind}
 use Rattle.game_rules.proofs.Positions.{IsBoard-put}
 use Rattle.row_shapes.specs.LineCodes.{first_digits}

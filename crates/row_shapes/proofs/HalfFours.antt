@@ -1,29 +1,22 @@
 -- The fours of a stone of Black on its line, as the two halves of the line tell them.
-use Rattle.std.proofs.Common.{◌≡◌, ◌≢◌, ℕ, zero, suc, ◌+◌, ◌-◌, ◌≤◌, ◌<◌, inl, inr, Bool, true, false, ◌&&◌, ◌||◌, not, List, refl, sym, ap, ◌∙◌, arith, nat_eq, nat_lt}
+use Rattle.std.proofs.Common.{◌≡◌, ◌≢◌, ℕ, zero, suc, ◌+◌, ◌-◌, ◌≤◌, ◌<◌, inl, inr, Bool, true, false, ◌&&◌, ◌||◌, not, List, refl, sym, ap, ◌∙◌, arith, nat_eq}
 use Rattle.std.specs.List.{sum_by, range_with_len}
 use Rattle.std.proofs.lemmas.Bool.{cases_lt}
-use Rattle.std.proofs.lemmas.Bool.Decides.{nat_tests}
-use Rattle.game_rules.specs.Grid.{Grid, along}
-use Rattle.game_rules.specs.Shapes.{row_wins, stone_at, fours_of, place_stone, place_wins}
+use Rattle.game_rules.proofs.Common.{Grid, along, row_wins, stone_at, fours_of, place_stone, place_wins}
 use Rattle.game_rules.specs.declared.Cell.{Cell}
 use Rattle.game_rules.specs.declared.RuleKind.{RuleKind}
+use Rattle.game_rules.specs.declared.Point.{Point}
 use Rattle.game_rules.specs.declared.Side.TheVariants.{Black}
 use Rattle.game_rules.specs.declared.Axis.TheVariants.{Row}
-use Rattle.game_rules.specs.declared.Point.{Point}
 use Rattle.game_rules.specs.declared.Way.TheVariants.{Ahead, Behind}
 use Rattle.game_rules.proofs.Lines.{along-same, along-zero}
+use Rattle.game_rules.proofs.Tests.{eq_true, eq_from, lt_true, lt_false}
 use Rattle.row_shapes.specs.Gaps.{listed, is_four, are_stones, fours_from}
 use Rattle.row_shapes.specs.Halves.{owns, nine_places, free_place, wins_window, is_four_off, fours_off, free_at, SeesLine}
 use Rattle.row_shapes.proofs.Counting.{fours_of-gap}
-use Rattle.row_shapes.proofs.Alike.{wins_by, eq_true, eq_from}
+use Rattle.row_shapes.proofs.Alike.{wins_by}
 use Rattle.row_shapes.proofs.AlikeFours.{all_same, sum_five, count_four, window_value, kept}
 use Rattle.row_shapes.proofs.HalfLines.{stones, frees}
-
-lt_true : (x y : ℕ) → x < y → nat_lt x y ≡ true
-lt_true x y h = grind (arith, nat_tests)
-
-lt_false : (x y : ℕ) → y ≤ x → nat_lt x y ≡ false
-lt_false x y h = grind (arith, nat_tests)
 
 -- what makes a four, where what wins is asked of one window at a time
 four_by : (stone wins : ℕ → Bool) (first gap : ℕ) (x y t u v w : Bool) → nat_eq first gap ≡ t → are_stones stone first gap ≡ u → nat_eq gap 4 ≡ v → w ≡ u →

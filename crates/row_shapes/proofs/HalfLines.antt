@@ -2,35 +2,30 @@
 use Rattle.std.proofs.Common.{◌≡◌, ◌≢◌, inl, inr, ℕ, ◌+◌, ◌-◌, ◌≤◌, ◌<◌, ◌^◌, min, max, Bool, true, false, cond, ◌&&◌, List, length, drop, get_or, refl, sym, ap, ◌∙◌, arith, nat_eq, nat_le, length-drop}
 use Rattle.std.specs.Prelude.{Option, Some, None, bit_or}
 use Rattle.std.proofs.lemmas.Bool.{cases_lt}
-use Rattle.std.proofs.lemmas.Bool.Decides.{nat_tests}
 use Rattle.std.proofs.lemmas.Nat.{or_lt, pow_below}
 use Rattle.std.proofs.lemmas.List.{get_or-drop, get_or_past}
 use Rattle.std.proofs.lemmas.List.Sums.{prefix_len_passes, prefix_len_stops, prefix_len-le-length}
-use Rattle.game_rules.specs.Grid.{Grid, is_on, is_empty, is_stone_of, along}
-use Rattle.game_rules.specs.Shapes.{row_wins, stone_at, run_of, fours_of, is_straight, is_line_three_at}
-use Rattle.game_rules.specs.Ways.{towards, opposite, stones_towards, go}
+use Rattle.game_rules.proofs.Common.{Grid, is_on, is_empty, is_stone_of, along, row_wins, stone_at, run_of, fours_of, is_straight, is_line_three_at, towards, opposite, stones_towards, go}
 use Rattle.game_rules.specs.declared.Cell.{Cell}
-use Rattle.game_rules.specs.declared.Cell.TheVariants.{White as WhiteStone}
 use Rattle.game_rules.specs.declared.RuleKind.{RuleKind}
-use Rattle.game_rules.specs.declared.Side.TheVariants.{Black}
-use Rattle.game_rules.specs.declared.Axis.TheVariants.{Row}
 use Rattle.game_rules.specs.declared.Point.{Point}
 use Rattle.game_rules.specs.declared.Way.{Way}
+use Rattle.game_rules.specs.declared.Cell.TheVariants.{White as WhiteStone}
+use Rattle.game_rules.specs.declared.Side.TheVariants.{Black}
+use Rattle.game_rules.specs.declared.Axis.TheVariants.{Row}
 use Rattle.game_rules.specs.declared.Way.TheVariants.{Ahead, Behind}
 use Rattle.game_rules.proofs.Boards.{and_left, is_empty-on}
 use Rattle.game_rules.proofs.Runs.{Leads}
 use Rattle.game_rules.proofs.Ways.{go-then, go-same, leads}
+use Rattle.game_rules.proofs.Tests.{le_true, le_false, eq_false, eq_from, le_from}
 use Rattle.row_shapes.specs.Halves.{owns, is_free, row_past, row_beyond, wins_off, is_open, three_off, free_at, SeesHalf, SeesLine}
 use Rattle.row_shapes.specs.LineShapes.{three_bits}
 use Rattle.row_shapes.specs.Reach.{stones_past}
 use Rattle.row_shapes.specs.Threes.{wins_past, is_open_four, three_place, place_towards, bit_of}
-use Rattle.row_shapes.proofs.Alike.{wins_by, wins_same, le_same, le_true, le_false, eq_false, eq_from, leads_alike, past_value, straight_value, run_value, three_value}
+use Rattle.row_shapes.proofs.Alike.{wins_by, wins_same, le_same, leads_alike, past_value, straight_value, run_value, three_value}
 use Rattle.row_shapes.proofs.Reaches.{few-no_fours}
 use Rattle.row_shapes.proofs.ThreeBits.{eleven_bits}
 use Rattle.row_shapes.proofs.ThreePoints.{no_place, three_bits as three_bits-at}
-
-le_from : (n c : ℕ) → nat_le n c ≡ true → n ≤ c
-le_from n c h = grind (arith, nat_tests)
 
 -- ---- a row of stones in one half
 

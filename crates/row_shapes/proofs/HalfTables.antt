@@ -5,11 +5,11 @@ use Rattle.std.proofs.lemmas.Bool.{cases_lt}
 use Rattle.std.proofs.lemmas.List.{get_or_push, get_or_append_left}
 use Rattle.std.proofs.lemmas.Option.{slice_get-get_or}
 use Rattle.std.proofs.Math.Nat.{mul-le-mul_left}
-use Rattle.game_rules.specs.Grid.{Grid, put}
-use Rattle.game_rules.specs.declared.Axis.TheVariants.{Row}
+use Rattle.game_rules.proofs.Common.{Grid, put}
 use Rattle.game_rules.specs.declared.Point.{Point}
-use Rattle.game_rules.specs.declared.Side.TheVariants.{Black}
 use Rattle.game_rules.specs.declared.Way.{Way}
+use Rattle.game_rules.specs.declared.Axis.TheVariants.{Row}
+use Rattle.game_rules.specs.declared.Side.TheVariants.{Black}
 use Rattle.game_rules.specs.declared.Way.TheVariants.{Ahead, Behind}
 use Rattle.row_shapes.specs.HalfTables.{TellsHalves}
 use Rattle.row_shapes.specs.Halves.{half_cells, rule_by, SeesLine}

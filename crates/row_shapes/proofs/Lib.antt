@@ -15,7 +15,7 @@ mod ShortLists
 mod Alike
 mod AlikeFours
 -- codes digit by digit
-mod CodeDigits
+pub mod CodeDigits
 -- numbers as sums of their bits
 mod ThreeBits
 -- lines seen as two halves; the halves of a code
@@ -24,3 +24,4 @@ mod HalfFours
 mod HalfShapes
 mod HalfCodes
 mod HalfTables
+pub mod FourEnds

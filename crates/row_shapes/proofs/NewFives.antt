@@ -1,16 +1,13 @@
 -- A side with no five point gets one by a stone only at the ends of the runs of that stone.
 use Rattle.std.proofs.Common.{◌≡◌, ◌⊎◌, inl, inr, ℕ, ◌+◌, Bool, true, false, cond, ◌&&◌, refl, sym, ap, ◌∙◌, arith}
 use Rattle.std.specs.Prelude.{Option, Some, None}
-use Rattle.game_rules.specs.Grid.{Grid, IsBoard, is_on, is_empty, holds, put}
-use Rattle.game_rules.specs.Shapes.{row_wins, wins_on, five}
-use Rattle.game_rules.specs.Games.{has_five, five_points}
-use Rattle.game_rules.specs.Ways.{towards, opposite, stones_towards, run_end}
+use Rattle.game_rules.proofs.Common.{Grid, IsBoard, is_on, is_empty, holds, put, row_wins, wins_on, five, has_five, five_points, towards, opposite, stones_towards, run_end}
 use Rattle.game_rules.specs.declared.RuleKind.{RuleKind}
 use Rattle.game_rules.specs.declared.Side.{Side}
 use Rattle.game_rules.specs.declared.Axis.{Axis}
-use Rattle.game_rules.specs.declared.Axis.TheVariants.{Row, Column, Down, Up}
 use Rattle.game_rules.specs.declared.Point.{Point}
 use Rattle.game_rules.specs.declared.Way.{Way}
+use Rattle.game_rules.specs.declared.Axis.TheVariants.{Row, Column, Down, Up}
 use Rattle.game_rules.specs.declared.Way.TheVariants.{Ahead, Behind}
 use Rattle.game_rules.proofs.Axes.{axis_of, some_axis}
 use Rattle.game_rules.proofs.Boards.{and-same, is_empty-on, is_empty-put, holds-put_same}

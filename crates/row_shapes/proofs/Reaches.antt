@@ -5,9 +5,7 @@ use Rattle.std.specs.List.{range_with_len, sum_by}
 use Rattle.std.proofs.lemmas.Bool.{cases_lt, false_from_ne_true}
 use Rattle.std.proofs.lemmas.Bool.Decides.{nat_tests}
 use Rattle.std.proofs.lemmas.List.Sums.{sum_by-cons}
-use Rattle.game_rules.specs.Grid.{Grid, IsBoard, is_on, is_empty, holds, put, along}
-use Rattle.game_rules.specs.Shapes.{stone_at, wins_at, fours_of, place_stone, place_wins, is_line_three_point}
-use Rattle.game_rules.specs.Ways.{towards, opposite, stones_towards, go}
+use Rattle.game_rules.proofs.Common.{Grid, IsBoard, is_on, is_empty, holds, put, along, stone_at, wins_at, fours_of, place_stone, place_wins, is_line_three_point, towards, opposite, stones_towards, go}
 use Rattle.game_rules.specs.declared.RuleKind.{RuleKind}
 use Rattle.game_rules.specs.declared.Side.{Side}
 use Rattle.game_rules.specs.declared.Axis.{Axis}
@@ -18,10 +16,11 @@ use Rattle.game_rules.proofs.Rows.{all_in_range}
 use Rattle.game_rules.proofs.Boards.{Apart, empty_holds, and_left, and_right, is_empty-on, is_empty-put}
 use Rattle.game_rules.proofs.Lines.{along-same}
 use Rattle.game_rules.proofs.Ways.{go-then, go-same, go-zero, go-apart, leads_is, towards-put, beyond-put, least, least_back}
+use Rattle.game_rules.proofs.Threes.{three_empty}
 use Rattle.row_shapes.specs.Gaps.{is_four, are_stones, fours_from}
 use Rattle.row_shapes.specs.Reach.{stones_past, reach_towards, stones_in_reach}
 use Rattle.row_shapes.proofs.Counting.{fours_of-gap}
-use Rattle.row_shapes.proofs.ThreePoints.{three_first, three_empty, first_open}
+use Rattle.row_shapes.proofs.ThreePoints.{three_first, first_open}
 
 -- ---- a stone changes nothing that is within reach of its point
 

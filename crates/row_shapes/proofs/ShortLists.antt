@@ -1,10 +1,9 @@
 -- Lists of five points, and what they are in short.
-use Rattle.std.proofs.Common.{◌≡◌, ◌⊎◌, inl, inr, Bool, true, false, cond, ◌&&◌, ◌||◌, refl, sym, ap, subst, ◌∙◌, List, [], ◌∷◌}
+use Rattle.std.proofs.Common.{◌≡◌, ◌⊎◌, inl, inr, Bool, true, false, cond, ◌&&◌, refl, sym, ap, subst, ◌∙◌, List, [], ◌∷◌}
 use Rattle.std.specs.Prelude.{Option, Some, None}
 use Rattle.std.specs.List.{list_any, list_all, filter}
 use Rattle.std.proofs.lemmas.Map.Views.{any-filter_same}
-use Rattle.game_rules.specs.Grid.{Grid, is_on, points_of}
-use Rattle.game_rules.specs.Shapes.{is_same_point}
+use Rattle.game_rules.proofs.Common.{Grid, is_on, points_of, is_same_point}
 use Rattle.game_rules.specs.declared.Point.{Point}
 use Rattle.game_rules.proofs.Boards.{Apart, and_left, and_right, not-apart}
 use Rattle.game_rules.proofs.Points.{points-found, filter-passes, is_same_point-itself, is_same_point-same, is_same_point-apart}
@@ -13,6 +12,7 @@ use Rattle.row_shapes.specs.declared.fives.FivePoints.TheVariants.{None as NoPoi
 use Rattle.row_shapes.specs.FivePoints.{in_short}
 use Rattle.row_shapes.specs.FiveEnds.{with_more}
 use Rattle.game_rules.proofs.Places.{two_passing-apart}
+use Rattle.game_rules.proofs.Tests.{or_false}
 
 -- the list of a point, if there is one
 abbrev pub listed : Option Point → List Point
@@ -50,10 +50,6 @@ tells-more F (One w) (Some q) h = by_test (is_same_point w q) refl where
 tells-more F Several (Some q) h = (h.0, h.1, inl h.2, inl h.3, h.4)
 
 -- ---- what is told is the list in short
-
-or_false : (a : Bool) → (a || false) ≡ true → a ≡ true
-or_false true h = refl
-or_false false h = h
 
 module _ (b : Grid) (f : Point → Bool) (on : (q : Point) → f q ≡ true → is_on b q ≡ true) where
   is_passing : Point → Point → Bool

@@ -1,14 +1,11 @@
 -- A three point of a stone is the first point in one of the two ways that holds no stone of its side.
-use Rattle.std.proofs.Common.{◌≡◌, ℕ, ◌+◌, ◌-◌, ◌≤◌, ◌<◌, max, Bool, true, false, cond, ◌&&◌, not, refl, sym, ap, ◌∙◌, arith, nat_eq, eq-eqb}
-use Rattle.std.specs.Prelude.{Option, Some, None}
+use Rattle.std.proofs.Common.{◌≡◌, ℕ, ◌+◌, ◌-◌, ◌≤◌, ◌<◌, max, Bool, true, false, cond, ◌&&◌, not, refl, sym, ap, ◌∙◌, arith, nat_eq}
+use Rattle.std.specs.Prelude.{Option, Some, None, bit_or}
 use Rattle.std.proofs.lemmas.Bool.Decides.{nat_tests}
 use Rattle.std.proofs.Math.Bool.{and-true, and-false}
 use Rattle.std.proofs.lemmas.Nat.Bits.{bit_at_or, bit_at-lt, bit_at-zero, bit_at-pow_same, bit_at-pow_other}
-use Rattle.std.specs.Prelude.{bit_or}
 use Rattle.std.specs.Int.{bit_at}
-use Rattle.game_rules.specs.Grid.{Grid, IsBoard, is_on, is_empty, holds, put, along}
-use Rattle.game_rules.specs.Shapes.{row_wins, wins_on, wins_at, is_straight, is_in_run, gives_straight, is_line_three_point, is_line_three_at, stones_ahead, stones_behind}
-use Rattle.game_rules.specs.Ways.{towards, opposite, stones_towards, go, run_end}
+use Rattle.game_rules.proofs.Common.{Grid, IsBoard, is_on, is_empty, holds, put, along, row_wins, wins_on, wins_at, is_straight, is_in_run, gives_straight, is_line_three_point, is_line_three_at, stones_ahead, stones_behind, towards, opposite, stones_towards, go, run_end}
 use Rattle.game_rules.specs.declared.RuleKind.{RuleKind}
 use Rattle.game_rules.specs.declared.Side.{Side}
 use Rattle.game_rules.specs.declared.Axis.{Axis}
@@ -21,7 +18,7 @@ use Rattle.game_rules.proofs.Lines.{along-same, along-steps}
 use Rattle.game_rules.proofs.Ways.{go-then, go-same, go-opposite, go-apart, opposite-opposite, run_before_end, beyond-put}
 use Rattle.game_rules.proofs.Wins.{wins_on-ways}
 use Rattle.game_rules.proofs.RunEnds.{end_joins, end_leaves, end_in_run, in_run-end}
-use Rattle.stone_board.specs.Steps.{kept_on}
+use Rattle.game_rules.proofs.Threes.{straight_towards, three_empty}
 use Rattle.row_shapes.specs.Rule.{fewer_never}
 use Rattle.row_shapes.specs.Threes.{wins_past, is_open_four, three_place, place_towards, bit_of}
 
@@ -63,29 +60,6 @@ module _ (rule : RuleKind) (b : Grid) (s : Side) (w : Way) (d : Axis) (p q : Poi
     by_point (Some e) h = end_wins_by e h near four
 
 -- ---- the first point that holds no stone of the side
-
-four_by : (n m : ℕ) → n ≡ m + 1 → nat_eq n 4 ≡ nat_eq m 3
-four_by n m e = by_test (nat_eq m 3) refl where
-  by_test : (r : Bool) → nat_eq m 3 ≡ r → nat_eq n 4 ≡ r
-  by_test true h = eq-eqb n 4 (let three : m ≡ 3 = grind (arith, nat_tests) in omega arith)
-  by_test false h = grind (arith, nat_tests)
-
-and-swap : (a c e : Bool) → (a && c && e) ≡ (a && e && c)
-and-swap true true true = refl
-and-swap true true false = refl
-and-swap true false true = refl
-and-swap true false false = refl
-and-swap false c e = refl
-
--- a straight four, seen in either way
-pub straight_towards : (rule : RuleKind) (b : Grid) (s : Side) (w : Way) (d : Axis) (p : Point) → holds b s p ≡ true → is_straight rule b s d p ≡ (nat_eq (stones_towards w b s d p + stones_towards (opposite w) b s d p) 3 && wins_at rule b s d (towards w d p (1 + stones_towards w b s d p)) && wins_at rule b s d (towards (opposite w) d p (1 + stones_towards (opposite w) b s d p)))
-unfolding is_straight
-straight_towards rule b s Ahead d p mine =
-    let same : nat_eq (1 + stones_ahead b s d p + stones_behind b s d p) 4 ≡ nat_eq (stones_ahead b s d p + stones_behind b s d p) 3 = four_by _ _ (omega arith) in
-    rw (mine, same) refl
-straight_towards rule b s Behind d p mine =
-    let same : nat_eq (1 + stones_ahead b s d p + stones_behind b s d p) 4 ≡ nat_eq (stones_behind b s d p + stones_ahead b s d p) 3 = four_by _ _ (omega arith) in
-    rw (mine, same) (and-swap (nat_eq (stones_behind b s d p + stones_ahead b s d p) 3) (wins_at rule b s d (along d p (1 + stones_ahead b s d p) 0)) (wins_at rule b s d (along d p 0 (1 + stones_behind b s d p))))
 
 -- q is the first point in that way that holds no stone of the side, and it is empty
 module _ (rule : RuleKind) (b : Grid) (s : Side) (w : Way) (d : Axis) (p q : Point) (ok : IsBoard b) (mine : holds b s p ≡ true) (empty : is_empty b q ≡ true) (here : go w d p (1 + stones_towards w b s d p) 0 ≡ Some q) where
@@ -151,10 +125,6 @@ module _ (rule : RuleKind) (b : Grid) (s : Side) (w : Way) (d : Axis) (p q : Poi
 
 -- ---- no other point is a three point
 
-pub three_empty : (rule : RuleKind) (b : Grid) (s : Side) (d : Axis) (p q : Point) → is_line_three_point rule b s d p q ≡ true → is_empty b q ≡ true
-unfolding is_line_three_point
-three_empty rule b s d p q h = and_left (is_empty b q) _ (and_left (is_empty b q && not (wins_on rule b s d q)) _ h)
-
 module _ (rule : RuleKind) (b : Grid) (s : Side) (d : Axis) (p q : Point) (ok : IsBoard b) (mine : holds b s p ≡ true) where
   three_in_run : is_line_three_point rule b s d p q ≡ true → is_in_run (put b s q) s d p q ≡ true
   unfolding is_line_three_point gives_straight
@@ -164,19 +134,6 @@ module _ (rule : RuleKind) (b : Grid) (s : Side) (d : Axis) (p q : Point) (ok : 
   three_first h = in_run-end b s d p q ok mine (three_empty rule b s d p q h) (three_in_run h)
 
 -- ---- points that are none
-
--- a point that is not empty is no three point, and so is none off the board
-pub taken_three : (rule : RuleKind) (b : Grid) (s : Side) (d : Axis) (p q : Point) → is_empty b q ≡ false → is_line_three_point rule b s d p q ≡ false
-unfolding is_line_three_point
-taken_three rule b s d p q h = rw h refl
-
-kept_three_by : (rule : RuleKind) (b : Grid) (s : Side) (d : Axis) (p q : Point) (r : Bool) → is_on b q ≡ r → is_line_three_at rule b s d p (cond r (Some q) None) ≡ is_line_three_point rule b s d p q
-kept_three_by rule b s d p q true h = refl
-kept_three_by rule b s d p q false h = sym (taken_three rule b s d p q (rw h refl))
-
-pub three-kept : (rule : RuleKind) (b : Grid) (s : Side) (d : Axis) (p : Point) (o : Option Point) → is_line_three_at rule b s d p (kept_on b o) ≡ is_line_three_at rule b s d p o
-three-kept rule b s d p None = refl
-three-kept rule b s d p (Some q) = kept_three_by rule b s d p q (is_on b q) refl
 
 -- ---- the two places
 

@@ -7,7 +7,7 @@
 ghost use Rattle.std.specs.Prelude.{◌≡◌, ◌++◌, IfOk};
 ghost use Rattle.game_rules.specs.Games.{five_points as five_points_lem, has_five as has_five_lem};
 ghost use Rattle.game_rules.specs.Shapes.{five};
-ghost use Rattle.row_shapes.specs.FivePoints.{in_short};
+ghost use Rattle.row_shapes.specs.FivePoints.{in_short, takes as takes_lem};
 
 use crate::{Rule, five_at};
 use std::alloc::{AllocError, Global};
@@ -22,6 +22,17 @@ pub enum FivePoints {
     One(Point),
     /// Two or more.
     Several,
+}
+
+/// Whether a stone of the other side on the point takes all of these five points: there is none, or it is the only one.
+pub fn takes(fives: FivePoints, point: Point) -> bool
+    ensures takes { result ≡ takes_lem fives point }
+{
+    match fives {
+        FivePoints::None => true,
+        FivePoints::One(only) => only.is(point),
+        FivePoints::Several => false,
+    }
 }
 
 /// All five points of the side, in reading order. `Err` says that memory ran out.

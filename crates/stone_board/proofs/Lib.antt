@@ -8,3 +8,4 @@ pub mod Strides
 -- reading order, and the numbers of stones that are kept
 mod Orders
 mod Counts
+pub mod BothBoards

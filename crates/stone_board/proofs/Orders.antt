@@ -1,20 +1,11 @@
 -- What is left of the points in reading order.
-use Rattle.std.proofs.Common.{◌≡◌, ℕ, suc, ◌+◌, ◌-◌, ◌<◌, Bool, true, false, cond, refl, sym, ap, ◌∙◌, arith, List, [], ◌∷◌, ◌++◌, nat_lt}
-use Rattle.std.specs.List.{flat_map, range_with_len}
+use Rattle.std.proofs.Common.{◌≡◌, ℕ, ◌+◌, ◌-◌, ◌<◌, Bool, true, false, cond, refl, sym, ap, ◌∙◌, arith, List, [], ◌∷◌, ◌++◌, nat_lt}
 use Rattle.std.proofs.lemmas.Bool.Decides.{nat_tests}
-use Rattle.game_rules.specs.Grid.{row_from, points_within}
+use Rattle.game_rules.proofs.Common.{row_from, points_within}
 use Rattle.game_rules.specs.declared.Point.{Point}
+use Rattle.game_rules.proofs.ReadingOrder.{row_from-first, rows_from, rows_from-first}
 use Rattle.stone_board.specs.Order.{points_left, following}
 use borrow.Author.Tests.{ltb-true}
-
-row_from-first : (y x n m : ℕ) → n ≡ suc m → row_from y x n ≡ record { x = x; y = y } ∷ row_from y (x + 1) m
-row_from-first y x n m e = rw e refl
-
-abbrev rows_from : ℕ → ℕ → ℕ → List Point
-rows_from width y n = flat_map (λ y. row_from y 0 width) (range_with_len y n)
-
-rows_from-first : (width y n m : ℕ) → n ≡ suc m → rows_from width y n ≡ row_from y 0 width ++ rows_from width (y + 1) m
-rows_from-first width y n m e = rw e refl
 
 left_from_row-rows : (width height y : ℕ) (r : Bool) → nat_lt y height ≡ r → rows_from width y (height - y) ≡ cond r (row_from y 0 (width - 0) ++ rows_from width (y + 1) (height - (y + 1))) []
 left_from_row-rows width height y true h =

@@ -3,16 +3,14 @@ use Rattle.std.proofs.Common.{◌≡◌, ℕ, ◌+◌, ◌-◌, ◌*◌, ◌≤�
 use Rattle.std.specs.Prelude.{Option, Some, None, slice_index_or}
 use Rattle.std.proofs.Math.Nat.{add-mul, mul-add}
 use Rattle.std.proofs.lemmas.Bool.Decides.{nat_tests}
-use Rattle.game_rules.specs.Grid.{Grid, IsBoard, is_on, place_of, holds, cell_at, is_stone_of}
-use Rattle.game_rules.specs.Shapes.{stone_at}
-use Rattle.game_rules.specs.Ways.{towards}
+use Rattle.game_rules.proofs.Common.{Grid, IsBoard, is_on, place_of, holds, cell_at, is_stone_of, stone_at, towards}
 use Rattle.game_rules.specs.declared.Side.{Side}
 use Rattle.game_rules.specs.declared.Cell.{Cell}
-use Rattle.game_rules.specs.declared.Cell.TheVariants.{Empty}
 use Rattle.game_rules.specs.declared.Axis.{Axis}
-use Rattle.game_rules.specs.declared.Axis.TheVariants.{Row, Column, Down, Up}
 use Rattle.game_rules.specs.declared.Point.{Point}
 use Rattle.game_rules.specs.declared.Way.{Way}
+use Rattle.game_rules.specs.declared.Cell.TheVariants.{Empty}
+use Rattle.game_rules.specs.declared.Axis.TheVariants.{Row, Column, Down, Up}
 use Rattle.game_rules.specs.declared.Way.TheVariants.{Ahead, Behind}
 use Rattle.game_rules.proofs.Boards.{on_x, on_y, place_fits}
 use Rattle.game_rules.proofs.Lines.{OnLine, along-OnLine, OnLine-along}
@@ -174,3 +172,29 @@ module _ (b : Grid) (p : Point) (ok : IsBoard b) (on : is_on b p ≡ true) (w : 
     walk_stone t c e =
         let cell : c ≡ cell_at b step_here.0 = e ∙ same_item b.cells place c Empty walk_fits ∙ ap (λ i. slice_index_or b.cells i Empty) place_is in
         rw (step_here.1, step_here.2) (ap (is_stone_of t) (sym cell))
+
+-- a point so many strides away, in the numbers that the code keeps
+pub walked_to : (b : Grid) (p x : Point) (d : Axis) (w : Way) (n width s : ℕ) (r : Bool) → r ≡ goes_on w d → width ≡ b.width → s ≡ stride d width → Walked (goes_on w d) (place_of b p) (n * stride d b.width) (place_of b x) → Walked r (p.y * width + p.x) (n * s) (place_of b x)
+walked_to b p x d w n width s r way wide far h = rw (way, far, wide) h
+
+pub left_by : (b : Grid) (w : Way) (d : Axis) (p : Point) (most width height : ℕ) → width ≡ b.width → height ≡ b.height → most ≡ steps_left w d width height p → most ≡ steps_left w d b.width b.height p
+left_by b w d p most width height wide tall left = left ∙ ap (λ n. steps_left w d n height p) wide ∙ ap (λ n. steps_left w d b.width n p) tall
+
+-- a point of the board is no more steps away than stay on the board
+pub on_left : (b : Grid) (p q : Point) (k : ℕ) → is_on b p ≡ true → is_on b q ≡ true → (w : Way) (d : Axis) → towards w d p k ≡ Some q → k ≤ steps_left w d b.width b.height p
+on_left b p q k on_p on_q w d h = by_way w h where
+  ahead : (d : Axis) → OnLine d p k 0 q → p.x < b.width → p.y < b.height → q.x < b.width → q.y < b.height → k ≤ steps_left Ahead d b.width b.height p
+  ahead Row l x y u v = omega arith
+  ahead Column l x y u v = omega arith
+  ahead Down l x y u v = omega arith
+  ahead Up l x y u v = omega arith
+
+  behind : (d : Axis) → OnLine d p 0 k q → p.x < b.width → p.y < b.height → q.x < b.width → q.y < b.height → k ≤ steps_left Behind d b.width b.height p
+  behind Row l x y u v = omega arith
+  behind Column l x y u v = omega arith
+  behind Down l x y u v = omega arith
+  behind Up l x y u v = omega arith
+
+  by_way : (w : Way) → towards w d p k ≡ Some q → k ≤ steps_left w d b.width b.height p
+  by_way Ahead h = ahead d (along-OnLine d p k 0 q h) (on_x b p on_p) (on_y b p on_p) (on_x b q on_q) (on_y b q on_q)
+  by_way Behind h = behind d (along-OnLine d p 0 k q h) (on_x b p on_p) (on_y b p on_p) (on_x b q on_q) (on_y b q on_q)

@@ -1,38 +1,26 @@
 -- The node that answers given replies: it is a node of a table, answers each as given, and stands for the tree of these branches.
-use Rattle.std.proofs.Common.{◌≡◌, ℕ, suc, ◌<◌, Bool, true, false, cond, not, List, [], ◌∷◌, map, filter, get_or, refl, sym, ap, subst, ◌∙◌, arith}
+use Rattle.std.proofs.Common.{◌≡◌, ℕ, ◌<◌, Bool, true, false, cond, not, List, [], ◌∷◌, map, filter, refl, sym, ap, subst, ◌∙◌}
 use Rattle.std.specs.Prelude.{Option, Some, None, Result, Ok, Err, IfOk, OnOk, nat_lt, nat_eq, slice_get, All, Contains}
 use Rattle.std.specs.List.{list_all, find, AllByRecursion}
-use Rattle.std.specs.Option.{option_map, option_or, option_eq}
+use Rattle.std.specs.Option.{option_or, option_eq}
 use Rattle.std.proofs.lemmas.Bool.Decides.{Decides-eqb}
 use Rattle.std.proofs.lemmas.List.Folds.{list_all-append}
 use Rattle.std.proofs.lemmas.List.Elements.{All-from_recursion, All-filter}
-use Rattle.std.proofs.lemmas.List.{length-map, get_or-map}
 use Rattle.std.proofs.lemmas.Result.{IfOk-weaker}
-use Rattle.game_rules.specs.Shapes.{is_same_point}
-use Rattle.game_rules.specs.Points.{precedes}
 use Rattle.game_rules.specs.declared.Point.{Point}
 use Rattle.game_rules.proofs.Boards.{and_left, and_right}
-use Rattle.game_rules.proofs.Points.{is_same_point-itself, precedes-differs, precedes-differs_back}
 use Rattle.strategy_graph.specs.declared.Reply.{Reply}
 use Rattle.strategy_graph.specs.declared.Rest.TheVariants.{Wins}
 use Rattle.strategy_graph.specs.declared.Node.{Node}
 use Rattle.strategy_graph.specs.Tables.{Answers, answers_of, answer, answer_at, listed_node, is_rising, is_winning, named, rest_node, rest_nodes, IsNode}
 use Rattle.strategy_graph.specs.Acceptance.{Answered}
-use Rattle.strategy_graph.proofs.Rising.{is_rising-filter}
+use Rattle.strategy_graph.proofs.Rising.{is_rising-filter, next-filter, Kept, kept_all, AnsweredAsGiven, point-given, all-next}
 use Rattle.strategy_graph.specs.Leads.{AtNode}
 use Rattle.strategy_compiler.specs.Trees.{Tree, Branches, Leaf, Fork, NoBranch, Branch, StandsFor, StandsForAll, AnswersBranches, AnswersBriefly, replies_of, answers_to, commonest}
 use Rattle.strategy_compiler.specs.Nodes.{NamesOnly, PutsIn, answering_node, answers_beside, brief_answers, commonest_next, rest_of, winning_node}
 use Rattle.strategy_compiler.proofs.Standing.{stands-put_in}
-use borrow.Author.Tests.{lt-ltb}
 
 -- ---- what is kept of the answers
-
-all-filter : (p : ℕ → Bool) (q : Reply → Bool) (rs : List Reply) → list_all p (map (λ r. r.next) rs) ≡ true → list_all p (map (λ r. r.next) (filter q rs)) ≡ true
-all-filter p q [] h = refl
-all-filter p q (r ∷ rs) h = by_test (q r) (all-filter p q rs (and_right (p r.next) _ h)) where
-  by_test : (b : Bool) → list_all p (map (λ r. r.next) (filter q rs)) ≡ true → list_all p (map (λ r. r.next) (cond b (r ∷ filter q rs) (filter q rs))) ≡ true
-  by_test true k = rw (and_left (p r.next) _ h) k
-  by_test false k = k
 
 found_passes : (p q : ℕ → Bool) (js : List ℕ) (j : ℕ) → list_all p js ≡ true → find q js ≡ Some j → p j ≡ true
 found_passes p q [] j h e = cc
@@ -45,10 +33,6 @@ all-rest : (p : ℕ → Bool) (o : Option ℕ) → ((j : ℕ) → o ≡ Some j �
 all-rest p None h = refl
 all-rest p (Some j) h = rw (h j refl) refl
 
-pub all-next : (rs : List Reply) (k : ℕ) → All (λ r. r.next < k) rs → list_all (λ j. nat_lt j k) (map (λ r. r.next) rs) ≡ true
-all-next [] k h = refl
-all-next (r ∷ rs) k h = rw (lt-ltb r.next k (h 0 r (omega arith))) (all-next rs k (λ i d l. h (suc i) d (omega arith)))
-
 not_winning : (o : Option ℕ) → is_winning (rest_of o) ≡ false
 not_winning None = refl
 not_winning (Some j) = refl
@@ -57,7 +41,7 @@ not_winning (Some j) = refl
 pub brief-named : (p : ℕ → Bool) (rs : List Reply) → list_all p (map (λ r. r.next) rs) ≡ true → list_all p (named (brief_answers rs)) ≡ true
 brief-named p rs all =
     list_all-append p (map (λ r. r.next) (answers_beside (commonest_next rs) rs)) (rest_nodes (rest_of (commonest_next rs)))
-    ∙ rw (all-filter p (λ r. not (option_eq nat_eq (Some r.next) (commonest_next rs))) rs all)
+    ∙ rw (next-filter p (λ r. not (option_eq nat_eq (Some r.next) (commonest_next rs))) rs all)
     (all-rest p (commonest_next rs) (λ j e. found_passes p _ (map (λ r. r.next) rs) j all e))
 
 pub brief-rising : (rs : List Reply) → is_rising rs ≡ true → is_rising (brief_answers rs).replies ≡ true
@@ -79,43 +63,6 @@ IsNode-winning attack k = record { below = refl; rising = refl; winning = λ e. 
 
 -- ---- the answer to each reply
 
-listed-later : (q : Reply → Bool) (p : Point) (rs : List Reply) → list_all (λ s. precedes p s.at) rs ≡ true → listed_node (filter q rs) p ≡ None
-listed-later q p [] h = refl
-listed-later q p (r ∷ rs) h = by_test (q r) (listed-later q p rs (and_right (precedes p r.at) _ h)) where
-  by_test : (b : Bool) → listed_node (filter q rs) p ≡ None → listed_node (cond b (r ∷ filter q rs) (filter q rs)) p ≡ None
-  by_test true k = ap (λ (b : Bool). option_map (λ r. r.next) (cond b (Some r) (find (λ s. is_same_point s.at p) (filter q rs)))) (precedes-differs_back p r.at (and_left (precedes p r.at) _ h)) ∙ k
-  by_test false k = k
-
--- the first of rising replies, and those after it
-listed-first : (q : Reply → Bool) (r : Reply) (rs : List Reply) → list_all (λ s. precedes r.at s.at) rs ≡ true → listed_node (filter q (r ∷ rs)) r.at ≡ cond (q r) (Some r.next) None
-listed-first q r rs h = by_test (q r) where
-  by_test : (b : Bool) → listed_node (cond b (r ∷ filter q rs) (filter q rs)) r.at ≡ cond b (Some r.next) None
-  by_test true = ap (λ (b : Bool). option_map (λ r. r.next) (cond b (Some r) (find (λ s. is_same_point s.at r.at) (filter q rs)))) (is_same_point-itself r.at)
-  by_test false = listed-later q r.at rs h
-
-listed-skips : (q : Reply → Bool) (r : Reply) (rs : List Reply) (p : Point) → precedes r.at p ≡ true → listed_node (filter q (r ∷ rs)) p ≡ listed_node (filter q rs) p
-listed-skips q r rs p h = by_test (q r) where
-  by_test : (b : Bool) → listed_node (cond b (r ∷ filter q rs) (filter q rs)) p ≡ listed_node (filter q rs) p
-  by_test true = ap (λ (b : Bool). option_map (λ r. r.next) (cond b (Some r) (find (λ s. is_same_point s.at p) (filter q rs)))) (precedes-differs r.at p h)
-  by_test false = refl
-
--- each reply that is kept is listed with its node, and no other is
-Kept : (Reply → Bool) → List Reply → Reply → Type 0
-Kept q rs r = listed_node (filter q rs) r.at ≡ cond (q r) (Some r.next) None
-
-kept_more : (q : Reply → Bool) (r : Reply) (rs ss : List Reply) → list_all (λ s. precedes r.at s.at) ss ≡ true → AllByRecursion (Kept q rs) ss → AllByRecursion (Kept q (r ∷ rs)) ss
-unfolding Kept
-kept_more q r rs [] h k = tt
-kept_more q r rs (s ∷ ss) h k =
-    (listed-skips q r rs s.at (and_left (precedes r.at s.at) _ h) ∙ k.0, kept_more q r rs ss (and_right (precedes r.at s.at) _ h) k.1)
-
-kept_all : (q : Reply → Bool) (rs : List Reply) → is_rising rs ≡ true → AllByRecursion (Kept q rs) rs
-unfolding Kept
-kept_all q [] h = tt
-kept_all q (r ∷ rs) h =
-    let after : list_all (λ s. precedes r.at s.at) rs ≡ true = and_left _ (is_rising rs) h in
-    (listed-first q r rs after, kept_more q r rs rs after (kept_all q rs (and_right (list_all (λ s. precedes r.at s.at) rs) _ h)))
-
 rest_node-of : (o : Option ℕ) → rest_node (rest_of o) ≡ o
 rest_node-of None = refl
 rest_node-of (Some j) = refl
@@ -127,10 +74,6 @@ equal_option j (Some k) h = ap Some (sym ((Decides-eqb j k).0 h))
 answer_by : (o : Option ℕ) (j : ℕ) (b : Bool) → option_eq nat_eq (Some j) o ≡ b → option_or (cond (not b) (Some j) None) o ≡ Some j
 answer_by o j true h = equal_option j o h
 answer_by o j false h = refl
-
--- the answers to the replies, as given
-abbrev pub AnsweredAsGiven : Answers → List Reply → Type 0
-AnsweredAsGiven a rs = AllByRecursion (λ r. answer a r.at ≡ Some r.next) rs
 
 as_given : (a : Answers) (o : Option ℕ) (rs ss : List Reply) → a.replies ≡ answers_beside o rs → rest_node a.rest ≡ o → AllByRecursion (Kept (λ r. not (option_eq nat_eq (Some r.next) o)) rs) ss → AnsweredAsGiven a ss
 unfolding Kept
@@ -148,18 +91,6 @@ pub brief-as_given : (rs : List Reply) → is_rising rs ≡ true → AnsweredAsG
 brief-as_given rs h =
     as_given (brief_answers rs) (commonest_next rs) rs rs refl (rest_node-of (commonest_next rs))
     (kept_all (λ r. not (option_eq nat_eq (Some r.next) (commonest_next rs))) rs h)
-
-filter-all : (rs : List Reply) → filter (λ r. true) rs ≡ rs
-filter-all [] = refl
-filter-all (r ∷ rs) = ap (λ (xs : List Reply). r ∷ xs) (filter-all rs)
-
--- each reply of a rising list is answered as it is listed
-pub answered-as-listed : (a : Answers) → is_rising a.replies ≡ true → AllByRecursion (λ r. answer a r.at ≡ Some r.next) a.replies
-unfolding Kept
-answered-as-listed a h = each a.replies (kept_all (λ r. true) a.replies h) where
-  each : (rs : List Reply) → AllByRecursion (Kept (λ r. true) a.replies) rs → AllByRecursion (λ r. answer a r.at ≡ Some r.next) rs
-  each [] k = tt
-  each (r ∷ rs) k = (ap (λ (o : Option ℕ). option_or o (rest_node a.rest)) (sym (ap (λ (xs : List Reply). listed_node xs r.at) (filter-all a.replies)) ∙ k.0), each rs k.1)
 
 -- in a table that has the node
 pub answers-at : (t : List Node) (i : ℕ) (attack : Point) (rs : List Reply) → slice_get t i ≡ Some (answering_node attack rs) → is_rising rs ≡ true → All (λ r. answer_at t i r.at ≡ Some r.next) rs
@@ -225,10 +156,6 @@ stands-answering old new i attack rs h put at bs given =
 pub stands-winning : (t : List Node) (i : ℕ) (attack : Point) → slice_get t i ≡ Some (winning_node attack) → StandsFor t i (Leaf attack)
 unfolding StandsFor
 stands-winning t i attack at = subst (λ (o : Option Node). AtNode o (λ n. (n.attack ≡ attack) × (is_winning n.rest ≡ true))) (sym at) (refl, refl)
-
--- it names no points but those given
-point-given : (rs : List Reply) → All (λ r. Contains (map (λ r. r.at) rs) r.at) rs
-point-given rs = λ k d l. (k, let long = length-map rs (λ (r : Reply). r.at) in omega (arith, long, l), get_or-map (λ (r : Reply). r.at) rs k d (get_or rs k d).at l)
 
 pub points-kept : (rs : List Reply) → All (λ r. Contains (map (λ s. s.at) rs) r.at) (brief_answers rs).replies
 points-kept rs = All-filter (λ r. not (option_eq nat_eq (Some r.next) (commonest_next rs))) (λ r. Contains (map (λ r. r.at) rs) r.at) rs (point-given rs)

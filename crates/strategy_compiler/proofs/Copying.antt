@@ -4,7 +4,6 @@ use Rattle.std.proofs.Common.{◌≡◌, ℕ, zero, suc, ◌+◌, Bool, true, fa
 use Rattle.std.specs.Prelude.{Option, Some, None, nat_le, nat_eq, slice_get, fold, Contains}
 use Rattle.std.specs.List.{list_all, find, cons_option}
 use Rattle.std.specs.Option.{option_map, option_map_or, option_eq}
-use Rattle.std.proofs.lemmas.Bool.Decides.{Decides-eqb}
 use Rattle.std.proofs.lemmas.Option.{same_Some}
 use Rattle.std.proofs.lemmas.List.{map-append}
 use Rattle.std.proofs.lemmas.List.Folds.{list_all-append}
@@ -21,24 +20,13 @@ use Rattle.strategy_graph.specs.Leads.{AtNode}
 use Rattle.strategy_graph.proofs.Answering.{answer-named}
 use Rattle.strategy_graph.specs.Renumbered.{renumbered_node, renumbered_reply, renumbered_rest, renumbered_answers}
 use Rattle.strategy_graph.proofs.Copies.{Copies, answer-renumbered, is_winning-renumbered, named-renumbered}
+use Rattle.strategy_graph.proofs.Renumbering.{points-renumbered, IsOneToOne, rest_node-renumbered, rest_nodes-renumbered, nexts-renumbered}
 use Rattle.strategy_compiler.specs.Trees.{Tree, Branches, Leaf, Fork, NoBranch, Branch, StandsFor, StandsForAll, AnswersBriefly, replies_of, answers_to, commonest, times}
 use Rattle.strategy_compiler.specs.Walks.{Reaches, Itself, Through, visits, visits_at, is_in_list, completed_within}
 use Rattle.strategy_compiler.proofs.Walking.{contains-map}
-use Rattle.strategy_compiler.proofs.Places.{points-renumbered}
-
-cons-first : {X : Type 0} (x y : X) (xs ys : List X) → x ∷ xs ≡ y ∷ ys → x ≡ y
-cons-first x y xs ys e = cc
-
-cons-others : {X : Type 0} (x y : X) (xs ys : List X) → x ∷ xs ≡ y ∷ ys → xs ≡ ys
-cons-others x y xs ys e = cc
-
--- no number that passes has the number of another
-pub record IsOneToOne (f : ℕ → ℕ) (passes : ℕ → Bool) : Type 0 where
-  pub apart : (j i : ℕ) → passes i ≡ true → (f j == f i) ≡ (j == i)
 
 module _ (f : ℕ → ℕ) (passes : ℕ → Bool) (one : IsOneToOne f passes) where
   -- ---- numbers among others, and the commonest
-
   among-map : (i : ℕ) (js : List ℕ) → passes i ≡ true → is_in_list (f i) (map f js) ≡ is_in_list i js
   among-map i [] p = refl
   among-map i (j ∷ js) p = λ k. one.apart j i p k || among-map i js p k
@@ -74,7 +62,6 @@ module _ (f : ℕ → ℕ) (passes : ℕ → Bool) (one : IsOneToOne f passes) w
   commonest-map js h = find-map js js h h
 
   -- ---- answers
-
   answers_to-renumbered : (a : Answers) (qs : List Point) → answers_to (renumbered_answers f a) qs ≡ map f (answers_to a qs)
   answers_to-renumbered a [] = refl
   answers_to-renumbered a (q ∷ qs) =
@@ -84,11 +71,6 @@ module _ (f : ℕ → ℕ) (passes : ℕ → Bool) (one : IsOneToOne f passes) w
         cons_map : (o : Option ℕ) (js : List ℕ) → cons_option (option_map f o) (map f js) ≡ map f (cons_option o js)
         cons_map None js = refl
         cons_map (Some j) js = refl
-
-  rest_node-renumbered : (r : Rest) → rest_node (renumbered_rest f r) ≡ option_map f (rest_node r)
-  rest_node-renumbered Wins = refl
-  rest_node-renumbered (To j) = refl
-  rest_node-renumbered Nothing = refl
 
   module _ (a : Answers) (all : list_all passes (named a) ≡ true) where
     answers_to-pass : (qs : List Point) → list_all passes (answers_to a qs) ≡ true
@@ -115,14 +97,14 @@ module _ (f : ℕ → ℕ) (passes : ℕ → Bool) (one : IsOneToOne f passes) w
     beside-renumbered : (q : Point) → not (option_eq nat_eq (answer (renumbered_answers f a) q) (rest_node (renumbered_rest f a.rest))) ≡ not (option_eq nat_eq (answer a q) (rest_node a.rest))
     beside-renumbered q =
         ap (λ (o : Option ℕ). not (option_eq nat_eq o (rest_node (renumbered_rest f a.rest)))) (answer-renumbered f a q)
-        ∙ ap (λ (o : Option ℕ). not (option_eq nat_eq (option_map f (answer a q)) o)) (rest_node-renumbered a.rest)
+        ∙ ap (λ (o : Option ℕ). not (option_eq nat_eq (option_map f (answer a q)) o)) ((rest_node-renumbered f passes one) a.rest)
         ∙ ap not (same-renumbered (answer a q) (rest_node a.rest) rest-passes)
 
     pub brief-renumbered : (qs : List Point) → AnswersBriefly a qs → AnswersBriefly (renumbered_answers f a) qs
     brief-renumbered [] h = (ap (renumbered_rest f) h.0, ap (map (renumbered_reply f)) h.1)
     brief-renumbered (q ∷ qs) h = record {
       rest_is_commonest =
-          rest_node-renumbered a.rest ∙ ap (option_map f) h.rest_is_commonest
+          (rest_node-renumbered f passes one) a.rest ∙ ap (option_map f) h.rest_is_commonest
           ∙ sym (commonest-map (answers_to a (q ∷ qs)) (answers_to-pass (q ∷ qs)))
           ∙ ap commonest (sym (answers_to-renumbered a (q ∷ qs)));
       others_are_listed =
@@ -130,67 +112,9 @@ module _ (f : ℕ → ℕ) (passes : ℕ → Bool) (one : IsOneToOne f passes) w
           ∙ ap (λ (p : Point → Bool). filter p (q ∷ qs)) (λ i r. sym (beside-renumbered r) i);
     }
 
-  -- ---- nodes
-
-  reply-renumbered : (r s : Reply) → passes r.next ≡ true → passes s.next ≡ true → renumbered_reply f r ≡ renumbered_reply f s → r ≡ s
-  reply-renumbered r s p q e =
-      let at : r.at ≡ s.at = ap (λ (x : Reply). x.at) e in
-      let mapped : f r.next ≡ f s.next = ap (λ (x : Reply). x.next) e in
-      let next : r.next ≡ s.next = one-to-one r.next s.next q mapped in
-      λ i. record { at = at i; next = next i } where
-        one-to-one : (j i : ℕ) → passes i ≡ true → f j ≡ f i → j ≡ i
-        one-to-one j i p e = (Decides-eqb j i).0 (sym (one.apart j i p) ∙ (Decides-eqb (f j) (f i)).1 e)
-
-  replies-renumbered : (rs ss : List Reply) → list_all passes (map (λ r. r.next) rs) ≡ true → list_all passes (map (λ r. r.next) ss) ≡ true → map (renumbered_reply f) rs ≡ map (renumbered_reply f) ss → rs ≡ ss
-  replies-renumbered [] [] h k e = refl
-  replies-renumbered [] (s ∷ ss) h k e = cc
-  replies-renumbered (r ∷ rs) [] h k e = cc
-  replies-renumbered (r ∷ rs) (s ∷ ss) h k e =
-      let first : renumbered_reply f r ≡ renumbered_reply f s = cons-first _ _ _ _ e in
-      let others : map (renumbered_reply f) rs ≡ map (renumbered_reply f) ss = cons-others _ _ _ _ e in
-      let here : r ≡ s = reply-renumbered r s (and_left (passes r.next) _ h) (and_left (passes s.next) _ k) first in
-      let later : rs ≡ ss = replies-renumbered rs ss (and_right (passes r.next) _ h) (and_right (passes s.next) _ k) others in
-      λ i. here i ∷ later i
-
-  rests-renumbered : (r s : Rest) → list_all passes (rest_nodes r) ≡ true → list_all passes (rest_nodes s) ≡ true → renumbered_rest f r ≡ renumbered_rest f s → r ≡ s
-  rests-renumbered Wins Wins h k e = refl
-  rests-renumbered Wins (To j) h k e = cc
-  rests-renumbered Wins Nothing h k e = cc
-  rests-renumbered (To i) Wins h k e = cc
-  rests-renumbered (To i) (To j) h k e =
-      let mapped : f i ≡ f j = cc in
-      ap To ((Decides-eqb i j).0 (sym (one.apart i j (and_left (passes j) true k)) ∙ (Decides-eqb (f i) (f j)).1 mapped))
-  rests-renumbered (To i) Nothing h k e = cc
-  rests-renumbered Nothing Wins h k e = cc
-  rests-renumbered Nothing (To j) h k e = cc
-  rests-renumbered Nothing Nothing h k e = refl
-
-  -- nodes that are different stay so
-  pub nodes-renumbered : (n m : Node) → list_all passes (named (answers_of n)) ≡ true → list_all passes (named (answers_of m)) ≡ true → renumbered_node f n ≡ renumbered_node f m → n ≡ m
-  nodes-renumbered n m h k e =
-      let parts = sym (list_all-append passes (map (λ (r : Reply). r.next) n.replies) (rest_nodes n.rest)) ∙ h in
-      let parts' = sym (list_all-append passes (map (λ (r : Reply). r.next) m.replies) (rest_nodes m.rest)) ∙ k in
-      let attack : n.attack ≡ m.attack = ap (λ (x : Node). x.attack) e in
-      let replies : n.replies ≡ m.replies =
-      replies-renumbered n.replies m.replies (and_left _ (list_all passes (rest_nodes n.rest)) parts) (and_left _ (list_all passes (rest_nodes m.rest)) parts') (ap (λ (x : Node). x.replies) e) in
-      let rest : n.rest ≡ m.rest =
-      rests-renumbered n.rest m.rest (and_right (list_all passes (map (λ (r : Reply). r.next) n.replies)) _ parts) (and_right (list_all passes (map (λ (r : Reply). r.next) m.replies)) _ parts') (ap (λ (x : Node). x.rest) e) in
-      λ i. record { attack = attack i; replies = replies i; rest = rest i }
-
-  -- ---- tables
-
-  rest_nodes-renumbered : (r : Rest) → rest_nodes (renumbered_rest f r) ≡ map f (rest_nodes r)
-  rest_nodes-renumbered Wins = refl
-  rest_nodes-renumbered (To j) = refl
-  rest_nodes-renumbered Nothing = refl
-
-  nexts-renumbered : (rs : List Reply) → map (λ r. r.next) (map (renumbered_reply f) rs) ≡ map f (map (λ r. r.next) rs)
-  nexts-renumbered [] = refl
-  nexts-renumbered (r ∷ rs) = ap (λ (js : List ℕ). f r.next ∷ js) (nexts-renumbered rs)
-
   pub visits-renumbered : (a : Answers) → visits (renumbered_answers f a) ≡ map f (visits a)
   visits-renumbered a =
-      (λ i. rest_nodes-renumbered a.rest i ++ nexts-renumbered a.replies i)
+      (λ i. (rest_nodes-renumbered f passes one) a.rest i ++ (nexts-renumbered f passes one) a.replies i)
       ∙ sym (map-append f (rest_nodes a.rest) (map (λ (r : Reply). r.next) a.replies))
 
   and-swap : (a b : Bool) → (a && b) ≡ true → (b && a) ≡ true

@@ -6,7 +6,6 @@ use Rattle.std.proofs.lemmas.List.{ext_get_or, get_or-map, length-map}
 use Rattle.std.proofs.lemmas.List.FromFn.{length-range_with_len, get_or-range_with_len}
 use Rattle.std.proofs.lemmas.Option.{slice_get_within, slice_get-get_or, same_Some}
 use Rattle.std.proofs.lemmas.Bool.Decides.{Decides-eqb}
-use Rattle.game_rules.proofs.Boards.{and_left, and_right}
 use Rattle.strategy_graph.specs.declared.Node.{Node}
 use Rattle.strategy_graph.specs.declared.Reply.{Reply}
 use Rattle.strategy_graph.specs.Tables.{Answers, answers_of, named, IsNode, IsTable, NamesLower}
@@ -14,19 +13,16 @@ use Rattle.strategy_graph.specs.Laws.{SaysSame, StartSaysSame}
 use Rattle.strategy_graph.specs.Renumbered.{renumbered_node, renumbered_answers}
 use Rattle.strategy_graph.proofs.Copies.{Copies}
 use Rattle.strategy_graph.proofs.Filling.{IsTable-lower}
-use Rattle.strategy_graph.proofs.Renumbering.{copies-same, copies-same-start}
+use Rattle.strategy_graph.proofs.Renumbering.{copies-same, copies-same-start, points-renumbered, IsOneToOne, nodes-renumbered}
+use Rattle.strategy_graph.proofs.Growth.{list_all-weaker}
 use Rattle.strategy_compiler.specs.Trees.{Tree, StandsFor}
 use Rattle.strategy_compiler.specs.Walks.{AreDifferent, IsNumberedByWalk, IsTableOf, NamesPointsFrom, NamesPointsReached, ReachedFrom, Reaches, Renumbers, completed, completed_after, completed_from, is_in_list, last, place_in, visits_at}
 use Rattle.strategy_compiler.specs.Orders.{IsMadeFrom, IsMadeOf, IsOrder}
 use Rattle.strategy_compiler.proofs.Completing.{walked-step, walks-itself, visited-above, within-enough}
 use Rattle.strategy_compiler.proofs.Walking.{among-at, contains-map}
-use Rattle.strategy_compiler.proofs.Places.{all_by, among-place, among-take, named-among, place-is, renumbered-node, points-renumbered, RenumbersUpTo, from-renumbers}
-use Rattle.strategy_compiler.proofs.Copying.{IsOneToOne, nodes-renumbered, fold-copied, within-copied, reaches-copied, stands-copied}
+use Rattle.strategy_compiler.proofs.Places.{all_by, among-place, among-take, named-among, place-is, renumbered-node, RenumbersUpTo, from-renumbers}
+use Rattle.strategy_compiler.proofs.Copying.{fold-copied, within-copied, reaches-copied, stands-copied}
 use Rattle.strategy_compiler.proofs.Reaching.{completed-reached}
-
-all-weaker : (p q : ℕ → Bool) → ((j : ℕ) → p j ≡ true → q j ≡ true) → (js : List ℕ) → list_all p js ≡ true → list_all q js ≡ true
-all-weaker p q f [] h = refl
-all-weaker p q f (j ∷ js) h = rw (f j (and_left (p j) _ h)) (all-weaker p q f js (and_right (p j) _ h))
 
 -- a number that is not in the list has its length for a place
 place-absent : (order : List ℕ) (i : ℕ) → is_in_list i order ≡ false → place_in order i ≡ length order
@@ -72,7 +68,7 @@ module _ (t : List Node) (roots order : List ℕ) (u : List Node) (table : IsTab
         r.0,
         r.1,
         r.2,
-        all-weaker (λ j. is_in_list j (take (place_in order i) order)) (λ j. is_in_list j order)
+        list_all-weaker (λ j. is_in_list j (take (place_in order i) order)) (λ j. is_in_list j order)
             (λ j h. let m = among-take order (place_in order i) j h in among-at order m.0 j m.2)
             (named (answers_of r.0)) (named-among t order (place_in order i) i r.0 is_order at r.1),
       )

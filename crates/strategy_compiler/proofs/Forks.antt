@@ -1,5 +1,5 @@
 -- A node whose attack wins at once is a win, and so is one whose attack goes on and whose answers win after it.
-use Rattle.std.proofs.Common.{◌≡◌, ◌⊎◌, inl, inr, ℕ, zero, suc, ◌+◌, ◌≤◌, ◌<◌, Bool, true, false, cond, not, ◌||◌, refl, sym, ap, subst, ◌∙◌, arith, List, [], ◌∷◌, ◌++◌, map, length, filter, nat_eq}
+use Rattle.std.proofs.Common.{◌≡◌, ◌⊎◌, inl, inr, ℕ, suc, ◌+◌, ◌≤◌, ◌<◌, Bool, true, false, cond, not, ◌||◌, refl, sym, ap, subst, ◌∙◌, arith, List, [], ◌∷◌, ◌++◌, map, length, filter, nat_eq}
 use Rattle.std.specs.Prelude.{Option, Some, None, IsSome, Result, Ok, Err, IfOk, OnOk, All, Contains, slice_get, nat_lt}
 use Rattle.std.specs.List.{list_any, list_all, find, cons_option, filter_map, AllByRecursion}
 use Rattle.std.specs.Option.{option_map, option_or, option_eq}
@@ -7,16 +7,14 @@ use Rattle.std.proofs.lemmas.Bool.{or_right}
 use Rattle.std.proofs.lemmas.List.{append-nil}
 use Rattle.std.proofs.lemmas.List.Elements.{All-from_recursion, Contains-append_cases}
 use Rattle.std.proofs.lemmas.Option.{slice_get_within}
-use Rattle.game_rules.specs.Grid.{Grid, is_on}
-use Rattle.game_rules.specs.Shapes.{is_same_point}
-use Rattle.game_rules.specs.Play.{outcome, after}
-use Rattle.game_rules.specs.Games.{LosesOr}
+use Rattle.game_rules.proofs.Common.{Grid, is_on, is_same_point, outcome, after, LosesOr}
 use Rattle.game_rules.specs.declared.RuleKind.{RuleKind}
 use Rattle.game_rules.specs.declared.Outcome.{Outcome}
 use Rattle.game_rules.specs.declared.Outcome.TheVariants.{Refused, Wins as WinsNow, Fouls, Draws, GoesOn}
 use Rattle.game_rules.specs.declared.Point.{Point}
-use Rattle.game_rules.proofs.Points.{off_refused, is_same_point-itself, is_same_point-same}
+use Rattle.game_rules.proofs.Points.{is_same_point-itself, is_same_point-same}
 use Rattle.game_rules.proofs.Positions.{GoesOn-on}
+use Rattle.game_rules.proofs.Outcomes.{wins-on}
 use Rattle.strategy_graph.specs.declared.Node.{Node}
 use Rattle.strategy_graph.specs.declared.Reply.{Reply}
 use Rattle.strategy_graph.specs.declared.Rest.{Rest}
@@ -27,13 +25,16 @@ use Rattle.strategy_graph.proofs.Filling.{IsTable-lower}
 use Rattle.strategy_graph.proofs.Fuel.{depth-step}
 use Rattle.strategy_graph.proofs.Growth.{growth-same-start}
 use Rattle.strategy_graph.proofs.Steps.{accepted-by-win, accepted-by-replies}
+use Rattle.strategy_graph.proofs.Rising.{answered-as-listed, all-next}
+use Rattle.strategy_graph.proofs.Answering.{next-all}
+use Rattle.strategy_graph.proofs.Greatest.{greatest-all, contained}
 use Rattle.strategy_compiler.specs.Nodes.{IsCompiled, PutsIn, winning_node, answering_node}
 use Rattle.strategy_compiler.specs.Starts.{answers_alone, AnswersEach}
 use Rattle.strategy_compiler.specs.Walks.{Reaches, Itself, Through}
 use Rattle.strategy_compiler.specs.Wins.{StaysOnBoard, IsWrittenWin}
 use Rattle.strategy_compiler.specs.Forks.{AnswersWin, WinsAtOnce, WinsByAnswers, IsDoubleThreat, answer_node, two_answers, double_moves}
 use Rattle.strategy_compiler.specs.Trees.{AnswersBriefly, commonest, answers_to}
-use Rattle.strategy_compiler.proofs.Briefs.{answered-as-listed, all-next, brief-not_winning}
+use Rattle.strategy_compiler.proofs.Briefs.{brief-not_winning}
 use Rattle.strategy_compiler.proofs.Starting.{brief-inside, brief-deep, brief-accepted}
 use Rattle.strategy_compiler.proofs.Winning.{stays-longer}
 
@@ -55,26 +56,8 @@ pub all-both : {X : Type 0} (P Q R : X → Type 0) → ((x : X) → P x → Q x 
 all-both P Q R f [] h k = tt
 all-both P Q R f (x ∷ xs) h k = (f x h.0 k.0, all-both P Q R f xs h.1 k.1)
 
-pub next-all : (P : ℕ → Type 0) (rs : List Reply) → AllByRecursion (λ r. P r.next) rs → (j : ℕ) → Contains (map (λ r. r.next) rs) j → P j
-next-all P [] h j (k, l, e) = absurd (omega arith)
-next-all P (r ∷ rs) h j (zero, l, e) = subst P e h.0
-next-all P (r ∷ rs) h j (suc k, l, e) = next-all P rs h.1 j (k, omega arith, e)
-
 no-names : (P : ℕ → Type 0) (j : ℕ) → Contains [] j → P j
 no-names P j (i, l, e) = absurd (omega arith)
-
-contained : (P : ℕ → Type 0) (js : List ℕ) → AllByRecursion P js → (j : ℕ) → Contains js j → P j
-contained P js h j c = subst P c.2 (All-from_recursion P js h c.0 j c.1)
-
-pub greatest-each : (d : ℕ → ℕ) (k : ℕ) (js : List ℕ) → ((j : ℕ) → Contains js j → d j ≤ k) → greatest (map d js) ≤ k
-greatest-each d k [] h = omega arith
-greatest-each d k (j ∷ js) h =
-    let low = h j (0, omega arith, refl) in
-    let rest = greatest-each d k js (λ i c. h i (suc c.0, (let inside = c.1 in omega (arith, inside)), c.2)) in
-    omega (arith, low, rest)
-
-pub greatest-all : (d : ℕ → ℕ) (k : ℕ) (js : List ℕ) → AllByRecursion (λ j. d j ≤ k) js → greatest (map d js) ≤ k
-greatest-all d k js h = greatest-each d k js (contained (λ j. d j ≤ k) js h)
 
 pub mapped-all : {X Y : Type 0} (P : Y → Type 0) (f : X → Y) (xs : List X) → AllByRecursion (λ x. P (f x)) xs → AllByRecursion P (map f xs)
 mapped-all P f [] h = tt
@@ -84,28 +67,6 @@ mapped-all P f (x ∷ xs) h = (h.0, mapped-all P f xs h.1)
 pub alone-deep : (t : List Node) (answers : List Reply)
     → start_depth t (answers_alone answers) ≡ greatest (map (depth t) (map (λ r. r.next) answers))
 alone-deep t answers = ap (λ (js : List ℕ). greatest (map (depth t) js)) (append-nil (map (λ r. r.next) answers))
-
--- what passes is still there among those that pass
-pub still-found : (f : Point → Bool) (q : Point) (ps : List Point) → f q ≡ true → list_any (is_same_point q) ps ≡ true
-    → list_any (is_same_point q) (filter f ps) ≡ true
-still-found f q [] h k = cc
-still-found f q (p ∷ ps) h k = by_same (is_same_point q p) refl k (still-found f q ps h) where
-  kept : (b : Bool) → list_any (is_same_point q) (filter f ps) ≡ true
-      → list_any (is_same_point q) (cond b (p ∷ filter f ps) (filter f ps)) ≡ true
-  kept true e = or_right (is_same_point q p) _ e
-  kept false e = e
-
-  here : is_same_point q p ≡ true → list_any (is_same_point q) (cond (f p) (p ∷ filter f ps) (filter f ps)) ≡ true
-  here same =
-      let e : f p ≡ true = ap f (sym (is_same_point-same q p same)) ∙ h in
-      ap (λ b. list_any (is_same_point q) (cond b (p ∷ filter f ps) (filter f ps))) e
-      ∙ ap (λ b. b || list_any (is_same_point q) (filter f ps)) same
-
-  by_same : (b : Bool) → is_same_point q p ≡ b → (b || list_any (is_same_point q) ps) ≡ true
-      → (list_any (is_same_point q) ps ≡ true → list_any (is_same_point q) (filter f ps) ≡ true)
-      → list_any (is_same_point q) (filter f (p ∷ ps)) ≡ true
-  by_same true same k rest = here same
-  by_same false same k rest = kept (f p) (rest k)
 
 -- ---- what a node reaches
 
@@ -184,12 +145,6 @@ module _ (P : ℕ → Type 0) (a : Answers) where
       ]
 
 -- ---- a node whose attack wins at once
-
-wins-on : (rule : RuleKind) (b : Grid) (p : Point) → outcome rule b p ≡ WinsNow → is_on b p ≡ true
-wins-on rule b p wins = by_test (is_on b p) refl where
-  by_test : (r : Bool) → is_on b p ≡ r → r ≡ true
-  by_test true e = refl
-  by_test false e = let off = off_refused rule b p e in cc
 
 pub leaf-wins : (t : List Node) → NamesLower t → (i : ℕ) (p : Point) → slice_get t i ≡ Some (winning_node p) → WinsAtOnce p t i
 leaf-wins t lower i p at rule b wins = record {

@@ -1,28 +1,26 @@
 -- Nodes that are added, in steps.
-use Rattle.std.proofs.Common.{◌≡◌, inl, inr, ℕ, ◌+◌, ◌≤◌, List, [], ◌∷◌, ◌++◌, refl, sym, ap, subst, ◌∙◌, arith, length, append_assoc, length-append}
+use Rattle.std.proofs.Common.{◌≡◌, inl, inr, ℕ, ◌+◌, ◌≤◌, List, [], ◌∷◌, ◌++◌, sym, ap, subst, ◌∙◌, arith, length, append_assoc, length-append}
 use Rattle.std.specs.Prelude.{Some, Result, Ok, Err, OnOk, slice_get}
 use Rattle.game_rules.specs.Grid.{Grid}
 use Rattle.game_rules.specs.declared.RuleKind.{RuleKind}
 use Rattle.strategy_graph.specs.declared.Node.{Node}
 use Rattle.strategy_graph.specs.Tables.{NamesLower}
+use Rattle.strategy_graph.proofs.Lookups.{slice_get-longer}
+use Rattle.strategy_graph.proofs.Answering.{nodes-append_nil}
 use Rattle.strategy_compiler.specs.declared.error.SearchError.{SearchError}
 use Rattle.strategy_compiler.specs.declared.error.SearchError.TheVariants.{Full, Memory}
 use Rattle.strategy_compiler.specs.Nodes.{IsCompiled, PutsIn}
 use Rattle.strategy_compiler.specs.Growth.{GrowsBy, Writes}
 use Rattle.strategy_compiler.specs.declared.wins.WrittenWin.{WrittenWin}
 use Rattle.strategy_compiler.specs.Wins.{IsWrittenWin}
-use Rattle.strategy_compiler.proofs.Standing.{slice_get-longer}
 use Rattle.strategy_compiler.proofs.Winning.{growth_keeps-wins}
+use Rattle.strategy_compiler.specs.Trees.{Tree, StandsFor, GrowthKeepsTrees}
 
 -- ---- how they grow
 
-append-none : (t : List Node) → t ++ [] ≡ t
-append-none [] = refl
-append-none (n ∷ t) = ap (λ (r : List Node). n ∷ r) (append-none t)
-
 -- nodes that stay as they are, and a node that is put in
 pub grows-not : (a b : List Node) (k : ℕ) → b ≡ a → GrowsBy a b k
-grows-not a b k e = record { added = []; is = e ∙ sym (append-none a); few = omega arith }
+grows-not a b k e = record { added = []; is = e ∙ sym (nodes-append_nil a); few = omega arith }
 
 pub grows-put : (a b : List Node) (n : Node) → PutsIn a n b → GrowsBy a b 1
 grows-put a b n (inl h) = grows-not a b 1 h.1
@@ -51,7 +49,7 @@ node-stays a b k i n f h = subst (λ (t : List Node). slice_get t i ≡ Some n) 
 pub grows-none : (a b : List Node) → GrowsBy a b 0 → b ≡ a
 grows-none a b f = f.is ∙ nothing f.added f.few where
   nothing : (xs : List Node) → length xs ≤ 0 → a ++ xs ≡ a
-  nothing [] l = append-none a
+  nothing [] l = nodes-append_nil a
   nothing (x ∷ xs) l = absurd (omega arith)
 
 -- a win stays one
@@ -126,3 +124,7 @@ pub writes-then-fails : {A B C : Type 0} (a b c : List Node) (j k m : ℕ) (x : 
     → Writes {A = B} b c k (Err e) → j + k ≤ m → s ≡ Err e → Writes a c m s
 writes-then-fails {B = B} {C = C} a b c j k m x e s f g l is = writes-fails {A = B} {B = C} a c m m e s
     (writes-then a b c j k m x (Err e) f g l) (omega arith) is
+
+-- a node that stood for a tree still does
+pub stands-grown : GrowthKeepsTrees → (a c : List Node) (k : ℕ) → GrowsBy a c k → (i : ℕ) (tree : Tree) → StandsFor a i tree → StandsFor c i tree
+stands-grown law a c k g i tree h = subst (λ (t : List Node). StandsFor t i tree) (sym g.is) (law a g.added i tree h)

@@ -1,28 +1,23 @@
 -- The places of numbers in an order, and nodes with these in place of the numbers.
-use Rattle.std.proofs.Common.{◌≡◌, ◌≢◌, ℕ, zero, suc, ◌+◌, ◌<◌, ◌≤◌, Bool, true, false, cond, not, ◌&&◌, ◌||◌, ◌==◌, List, [], ◌∷◌, ◌++◌, map, length, take, get_or, refl, sym, ap, subst, ◌∙◌, ◌⊎◌, inl, inr, arith, length-append, one-add}
+use Rattle.std.proofs.Common.{◌≡◌, ◌≢◌, ℕ, zero, suc, ◌+◌, ◌<◌, ◌≤◌, Bool, true, false, cond, not, ◌||◌, ◌==◌, List, [], ◌∷◌, ◌++◌, length, take, get_or, refl, sym, ap, subst, ◌∙◌, ◌⊎◌, inl, inr, arith, length-append, one-add}
 use Rattle.std.specs.Prelude.{Some, nat_lt, slice_get, replicate, Contains}
 use Rattle.std.specs.List.{list_all}
 use Rattle.std.proofs.Math.ListN.{set, length-set}
 use Rattle.std.proofs.lemmas.List.{get_or-set_same, get_or-set_other, length-replicate}
 use Rattle.std.proofs.lemmas.Option.{slice_get_within, slice_get_read, slice_get-get_or, get_or_from_slice_get, same_Some}
 use Rattle.std.proofs.lemmas.Bool.Decides.{Decides-eqb}
-use Rattle.std.proofs.lemmas.List.Folds.{list_all-append}
-use Rattle.game_rules.specs.Points.{precedes}
-use Rattle.game_rules.specs.declared.Point.{Point}
-use Rattle.game_rules.proofs.Boards.{and_left, and_right}
 use Rattle.strategy_graph.specs.declared.Node.{Node}
-use Rattle.strategy_graph.specs.declared.Reply.{Reply}
-use Rattle.strategy_graph.specs.declared.Rest.{Rest}
-use Rattle.strategy_graph.specs.declared.Rest.TheVariants.{Wins, To, Nothing}
 use Rattle.strategy_graph.specs.declared.TheConstants.{MAX_NODES}
-use Rattle.strategy_graph.specs.Tables.{answers_of, named, names_below, rest_nodes, is_rising, IsNode, IsTable}
-use Rattle.strategy_graph.specs.Renumbered.{renumbered_node, renumbered_reply, renumbered_rest}
-use Rattle.strategy_graph.proofs.Copies.{named-renumbered, is_winning-renumbered}
+use Rattle.strategy_graph.specs.Tables.{answers_of, named, names_below, IsNode, IsTable}
+use Rattle.strategy_graph.specs.Renumbered.{renumbered_node}
 use Rattle.strategy_graph.proofs.Growth.{names_below-more}
+use Rattle.strategy_graph.proofs.Renumbering.{renumbered-agree, IsNode-renumbered}
+use Rattle.strategy_graph.proofs.Lookups.{slice_get-longer}
+use Rattle.strategy_graph.proofs.Filling.{last_node}
 use Rattle.strategy_compiler.specs.Walks.{is_in_list, place_in, Renumbers}
 use Rattle.strategy_compiler.specs.Orders.{ArePlaces, IsOrder}
 use Rattle.strategy_compiler.proofs.Walking.{among-at}
-use borrow.Author.Tests.{ltb-true, ltb-false, lt-ltb}
+use borrow.Author.Tests.{ltb-true, ltb-false}
 
 -- ---- places
 
@@ -81,51 +76,6 @@ places-all order len places p l h = record { placed = λ k i e. let inside = sli
 
 -- ---- nodes with places for numbers
 
--- it matters only what is put for the numbers that are named
-pub renumbered_rest-agree : (f g : ℕ → ℕ) (passes : ℕ → Bool) → ((j : ℕ) → passes j ≡ true → f j ≡ g j) → (rest : Rest) → list_all passes (rest_nodes rest) ≡ true → renumbered_rest f rest ≡ renumbered_rest g rest
-renumbered_rest-agree f g passes same Wins h = refl
-renumbered_rest-agree f g passes same (To j) h = ap To (same j (and_left (passes j) true h))
-renumbered_rest-agree f g passes same Nothing h = refl
-
-pub renumbered_replies-agree : (f g : ℕ → ℕ) (passes : ℕ → Bool) → ((j : ℕ) → passes j ≡ true → f j ≡ g j) → (rs : List Reply) → list_all passes (map (λ r. r.next) rs) ≡ true → map (renumbered_reply f) rs ≡ map (renumbered_reply g) rs
-renumbered_replies-agree f g passes same [] h = refl
-renumbered_replies-agree f g passes same (r ∷ rs) h =
-    let here : f r.next ≡ g r.next = same r.next (and_left (passes r.next) _ h) in
-    let later = renumbered_replies-agree f g passes same rs (and_right (passes r.next) _ h) in
-    λ i. record { at = r.at; next = here i } ∷ later i
-
-pub renumbered-agree : (f g : ℕ → ℕ) (passes : ℕ → Bool) → ((j : ℕ) → passes j ≡ true → f j ≡ g j) → (n : Node) → list_all passes (named (answers_of n)) ≡ true → renumbered_node f n ≡ renumbered_node g n
-renumbered-agree f g passes same n h =
-    let parts = sym (list_all-append passes (map (λ (r : Reply). r.next) n.replies) (rest_nodes n.rest)) ∙ h in
-    let replies = renumbered_replies-agree f g passes same n.replies (and_left _ (list_all passes (rest_nodes n.rest)) parts) in
-    let rest = renumbered_rest-agree f g passes same n.rest (and_right (list_all passes (map (λ (r : Reply). r.next) n.replies)) _ parts) in
-    λ i. record { attack = n.attack; replies = replies i; rest = rest i }
-
--- the replies are as they were
-all_precede-renumbered : (f : ℕ → ℕ) (p : Point) (rs : List Reply) → list_all (λ s. precedes p s.at) (map (renumbered_reply f) rs) ≡ list_all (λ s. precedes p s.at) rs
-all_precede-renumbered f p [] = refl
-all_precede-renumbered f p (r ∷ rs) = ap (λ (b : Bool). precedes p r.at && b) (all_precede-renumbered f p rs)
-
-pub rising-renumbered : (f : ℕ → ℕ) (rs : List Reply) → is_rising (map (renumbered_reply f) rs) ≡ is_rising rs
-rising-renumbered f [] = refl
-rising-renumbered f (r ∷ rs) = λ i. all_precede-renumbered f r.at rs i && rising-renumbered f rs i
-
-pub points-renumbered : (f : ℕ → ℕ) (rs : List Reply) → map (λ r. r.at) (map (renumbered_reply f) rs) ≡ map (λ r. r.at) rs
-points-renumbered f [] = refl
-points-renumbered f (r ∷ rs) = ap (λ (ps : List Point). r.at ∷ ps) (points-renumbered f rs)
-
-all-mapped : (p q : ℕ → Bool) (f : ℕ → ℕ) → ((j : ℕ) → p j ≡ true → q (f j) ≡ true) → (js : List ℕ) → list_all p js ≡ true → list_all q (map f js) ≡ true
-all-mapped p q f keep [] h = refl
-all-mapped p q f keep (j ∷ js) h = rw (keep j (and_left (p j) _ h)) (all-mapped p q f keep js (and_right (p j) _ h))
-
--- it is a node of a table, at a place above those of all that it names
-pub IsNode-renumbered : (f : ℕ → ℕ) (passes : ℕ → Bool) (n : Node) (i k : ℕ) → IsNode n i → ((j : ℕ) → passes j ≡ true → f j < k) → list_all passes (named (answers_of n)) ≡ true → IsNode (renumbered_node f n) k
-IsNode-renumbered f passes n i k node low h = record {
-  below = ap (list_all (λ j. nat_lt j k)) (named-renumbered f (answers_of n)) ∙ all-mapped passes (λ j. nat_lt j k) f (λ j e. lt-ltb (f j) k (low j e)) (named (answers_of n)) h;
-  rising = rising-renumbered f n.replies ∙ node.rising;
-  winning = λ e. ap (map (renumbered_reply f)) (node.winning (sym (is_winning-renumbered f n.rest) ∙ e));
-}
-
 -- ---- the table, node by node
 
 pub all_by : (p : ℕ → Bool) (js : List ℕ) → ((j : ℕ) → Contains js j → p j ≡ true) → list_all p js ≡ true
@@ -135,15 +85,6 @@ all_by p (j ∷ js) f = rw (f j (0, omega arith, refl)) (all_by p js (λ l c. f 
 -- each number that node i names is among the first k of the order, where node i is at place k
 pub named-among : (t : List Node) (order : List ℕ) (k i : ℕ) (n : Node) → IsOrder t order → slice_get order k ≡ Some i → slice_get t i ≡ Some n → list_all (λ j. is_in_list j (take k order)) (named (answers_of n)) ≡ true
 named-among t order k i n h e at = all_by (λ j. is_in_list j (take k order)) (named (answers_of n)) (λ j c. h.after_named k i j n e at c)
-
-slice_get-kept : (t more : List Node) (i : ℕ) (n : Node) → slice_get t i ≡ Some n → slice_get (t ++ more) i ≡ Some n
-slice_get-kept [] more i n h = cc
-slice_get-kept (m ∷ t) more zero n h = h
-slice_get-kept (m ∷ t) more (suc i) n h = slice_get-kept t more i n h
-
-slice_get-seam : (t : List Node) (n : Node) → slice_get (t ++ n ∷ []) (length t) ≡ Some n
-slice_get-seam [] n = refl
-slice_get-seam (m ∷ t) n = slice_get-seam t n
 
 pub record RenumbersUpTo (t : List Node) (order : List ℕ) (u : List Node) (p : ℕ) : Type 0 where
   pub count : length u ≡ p
@@ -187,14 +128,14 @@ module _ (t : List Node) (order : List ℕ) (table : IsTable t) (is_order : IsOr
     each = λ k j l d. elim (below_more_cases k p l) [ inl same ↦ here k j same d | inr low ↦ before k j low d ];
   } where
     before : (k j : ℕ) → k < p → slice_get order k ≡ Some j → (n : Node) × (slice_get t j ≡ Some n) × (slice_get (u ++ m ∷ []) k ≡ Some (renumbered_node (place_in order) n))
-    before k j low d = let old = h.each k j low d in (old.0, old.1, slice_get-kept u (m ∷ []) k (renumbered_node (place_in order) old.0) old.2)
+    before k j low d = let old = h.each k j low d in (old.0, old.1, slice_get-longer u (m ∷ []) k (renumbered_node (place_in order) old.0) old.2)
 
     here : (k j : ℕ) → k ≡ p → slice_get order k ≡ Some j → (n : Node) × (slice_get t j ≡ Some n) × (slice_get (u ++ m ∷ []) k ≡ Some (renumbered_node (place_in order) n))
     here k j same d =
         let number : i ≡ j = same_Some i j (sym e ∙ ap (slice_get order) (sym same) ∙ d) in (
           n,
           subst (λ (x : ℕ). slice_get t x ≡ Some n) number at,
-          ap (slice_get (u ++ m ∷ [])) (same ∙ sym h.count) ∙ slice_get-seam u m ∙ ap Some (is ∙ renumbered-places p i n e at f places),
+          ap (slice_get (u ++ m ∷ [])) (same ∙ sym h.count) ∙ last_node u m ∙ ap Some (is ∙ renumbered-places p i n e at f places),
         )
 
   pub renumbers-all : (u : List Node) (p : ℕ) → p ≤ length order → length order ≤ p → RenumbersUpTo t order u p → Renumbers t order u

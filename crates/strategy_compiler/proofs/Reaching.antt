@@ -5,8 +5,8 @@ use Rattle.std.specs.Option.{option_map_or}
 use Rattle.std.proofs.lemmas.Bool.Decides.{Decides-eqb}
 use Rattle.strategy_graph.specs.declared.Node.{Node}
 use Rattle.strategy_graph.specs.Tables.{answers_of, NamesLower}
+use Rattle.strategy_graph.proofs.Lookups.{slice_get-longer, slice_get-shorter}
 use Rattle.strategy_compiler.specs.Walks.{visits, visits_at, is_in_list, completed_within, completed_after, completed_from, Reaches, Itself, Through, ReachedFrom, GrowthKeepsReach}
-use Rattle.strategy_compiler.proofs.Standing.{slice_get-longer}
 use Rattle.strategy_compiler.proofs.Completing.{among-push}
 use Rattle.strategy_compiler.proofs.Walking.{visited-named, named-below, lt_trans}
 
@@ -58,11 +58,6 @@ module _ (t : List Node) where
     nothing e = cc
 
 -- ---- what a node reaches, however the table grows
-
-pub slice_get-shorter : (t more : List Node) (i : ℕ) (n : Node) → i < length t → slice_get (t ++ more) i ≡ Some n → slice_get t i ≡ Some n
-slice_get-shorter [] more i n l h = absurd (omega arith)
-slice_get-shorter (m ∷ t) more zero n l h = h
-slice_get-shorter (m ∷ t) more (suc i) n l h = slice_get-shorter t more i n (omega arith) h
 
 pub reaches-longer : (t more : List Node) (i k : ℕ) → Reaches t i k → Reaches (t ++ more) i k
 reaches-longer t more _ _ (Itself i) = Itself i

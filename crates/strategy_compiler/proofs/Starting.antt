@@ -1,22 +1,18 @@
 -- The start that is made of answers: it has them in brief, and says what they say alone.
-use Rattle.std.proofs.Common.{◌≡◌, inl, inr, ℕ, zero, suc, ◌≤◌, ◌<◌, Bool, true, false, cond, ◌||◌, ◌==◌, List, [], ◌∷◌, ◌++◌, map, length, refl, sym, ap, subst, ◌∙◌, arith}
+use Rattle.std.proofs.Common.{◌≡◌, inl, inr, ℕ, zero, suc, ◌<◌, Bool, true, false, ◌||◌, ◌==◌, List, [], ◌∷◌, ◌++◌, map, length, refl, sym, ap, subst, ◌∙◌, arith}
 use Rattle.std.specs.Prelude.{◌↔◌, Option, Some, None, IsSome, All, Contains, nat_lt, slice_index}
-use Rattle.std.specs.List.{list_all, find, AllByRecursion, sum_by}
+use Rattle.std.specs.List.{list_all, AllByRecursion, sum_by}
 use Rattle.std.specs.Option.{option_map, option_or}
 use Rattle.std.proofs.lemmas.Bool.{or_right}
 use Rattle.std.proofs.lemmas.Bool.Decides.{Decides-eqb}
 use Rattle.std.proofs.lemmas.List.Folds.{list_all-append}
 use Rattle.std.proofs.lemmas.List.Elements.{All-cons, All-nil, All-from_recursion, Contains-append_left, Contains-append_cases}
-use Rattle.game_rules.specs.Grid.{Grid, points_of}
-use Rattle.game_rules.specs.Shapes.{is_same_point}
-use Rattle.game_rules.specs.Play.{outcome, after}
-use Rattle.game_rules.specs.Games.{LosesOr, if_goes_on}
+use Rattle.game_rules.proofs.Common.{Grid, points_of, outcome, after, LosesOr, if_goes_on}
 use Rattle.game_rules.specs.declared.RuleKind.{RuleKind}
 use Rattle.game_rules.specs.declared.Outcome.{Outcome}
 use Rattle.game_rules.specs.declared.Outcome.TheVariants.{Refused, Wins as WinsNow, Fouls, Draws, GoesOn}
 use Rattle.game_rules.specs.declared.Point.{Point}
 use Rattle.game_rules.proofs.Boards.{and_left, and_right}
-use Rattle.game_rules.proofs.Points.{is_same_point-same}
 use Rattle.strategy_graph.specs.declared.Node.{Node}
 use Rattle.strategy_graph.specs.declared.Reply.{Reply}
 use Rattle.strategy_graph.specs.declared.Rest.{Rest}
@@ -27,14 +23,17 @@ use Rattle.strategy_graph.specs.Arrivals.{if_answered, arrivals_at, arrivals, st
 use Rattle.strategy_graph.specs.Laws.{SaysSame, StartSaysSame}
 use Rattle.strategy_graph.proofs.Answering.{answer-named}
 use Rattle.strategy_graph.proofs.Copies.{iff_by, answer-renumbered, named-renumbered}
+use Rattle.strategy_graph.proofs.Renumbering.{renumbered_replies-agree, renumbered_rest-agree}
+use Rattle.strategy_graph.proofs.Rising.{AnsweredAsGiven, listed-given, all-next}
+use Rattle.strategy_graph.proofs.Greatest.{greatest-same}
 use Rattle.strategy_compiler.specs.Walks.{is_in_list, completed_from, place_in, visits}
 use Rattle.strategy_compiler.specs.Orders.{ArePlaces, IsMadeFrom}
 use Rattle.strategy_compiler.specs.Nodes.{brief_answers, answers_beside, commonest_next, rest_of}
 use Rattle.strategy_compiler.specs.Starts.{answers_alone, AnswersEach, start_order, IsMadeOfAnswers}
 use Rattle.strategy_compiler.proofs.Walking.{visited-named, named-visited, all-contains, contains-map}
-use Rattle.strategy_compiler.proofs.Places.{all_by, among-place, renumbered_replies-agree, renumbered_rest-agree}
+use Rattle.strategy_compiler.proofs.Places.{all_by, among-place}
 use Rattle.strategy_compiler.proofs.Completing.{visits-below, walks-itself}
-use Rattle.strategy_compiler.proofs.Briefs.{AnsweredAsGiven, all-next, brief-named, brief-as_given, points-kept}
+use Rattle.strategy_compiler.proofs.Briefs.{brief-named, brief-as_given, points-kept}
 use borrow.Author.Tests.{ltb-true, lt-ltb}
 
 -- ---- numbers in lists
@@ -59,34 +58,7 @@ all-in-list js = all_by (λ k. is_in_list k js) js (contains-in-list js)
 answer-contained : (a : Answers) (q : Point) (j : ℕ) → answer a q ≡ Some j → Contains (named a) j
 answer-contained a q j e = in-list-contains (named a) j (answer-named (λ k. is_in_list k (named a)) a q j (all-in-list (named a)) e)
 
--- the greatest of fewer numbers is no greater
-each-below-greatest : (d : ℕ → ℕ) (js : List ℕ) (j : ℕ) → Contains js j → d j ≤ greatest (map d js)
-each-below-greatest d [] j (k, l, e) = absurd (omega arith)
-each-below-greatest d (x ∷ xs) j (zero, l, e) = let same : d x ≡ d j = ap d e in omega (arith, same)
-each-below-greatest d (x ∷ xs) j (suc k, l, e) = let later = each-below-greatest d xs j (k, omega arith, e) in omega (arith, later)
-
-greatest-within : (d : ℕ → ℕ) (js ks : List ℕ) → ((j : ℕ) → Contains js j → Contains ks j) → greatest (map d js) ≤ greatest (map d ks)
-greatest-within d [] ks inside = omega arith
-greatest-within d (j ∷ js) ks inside =
-    let here = each-below-greatest d ks j (inside j (0, omega arith, refl)) in
-    let later = greatest-within d js ks (λ i c. inside i (suc c.0, omega arith, c.2)) in
-    omega (arith, here, later)
-
-greatest-same : (d : ℕ → ℕ) (js ks : List ℕ) → ((j : ℕ) → Contains js j → Contains ks j) → ((j : ℕ) → Contains ks j → Contains js j) → greatest (map d js) ≡ greatest (map d ks)
-greatest-same d js ks inside outside =
-    let low = greatest-within d js ks inside in
-    let high = greatest-within d ks js outside in
-    omega (arith, low, high)
-
 -- ---- answers in brief, and alone
-
--- a reply that is listed is answered as given
-listed-given : (a : Answers) (rs : List Reply) (q : Point) (j : ℕ) → AnsweredAsGiven a rs → listed_node rs q ≡ Some j → answer a q ≡ Some j
-listed-given a [] q j given e = cc
-listed-given a (r ∷ rs) q j given e = by_test (is_same_point r.at q) refl e (listed-given a rs q j given.1) where
-  by_test : (b : Bool) → is_same_point r.at q ≡ b → option_map (λ r. r.next) (cond b (Some r) (find (λ r. is_same_point r.at q) rs)) ≡ Some j → (listed_node rs q ≡ Some j → answer a q ≡ Some j) → answer a q ≡ Some j
-  by_test true same e next = ap (answer a) (sym (is_same_point-same r.at q same)) ∙ given.0 ∙ e
-  by_test false same e next = next e
 
 or_none : (o : Option ℕ) → option_or o None ≡ o
 or_none None = refl

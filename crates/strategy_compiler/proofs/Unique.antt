@@ -1,47 +1,30 @@
 -- A tree has one table: nodes that stand for a same tree in two tables are walked over alike, and are the same.
-use Rattle.std.proofs.Common.{◌≡◌, ℕ, zero, suc, ◌+◌, ◌<◌, ◌≤◌, Bool, true, false, cond, not, ◌&&◌, ◌||◌, ◌==◌, List, [], ◌∷◌, ◌++◌, map, filter, length, get_or, refl, sym, ap, subst, ◌∙◌, arith}
+use Rattle.std.proofs.Common.{◌≡◌, ℕ, zero, suc, ◌+◌, ◌<◌, ◌≤◌, Bool, true, false, cond, not, ◌&&◌, ◌||◌, ◌==◌, List, [], ◌∷◌, ◌++◌, filter, length, get_or, refl, sym, ap, subst, ◌∙◌, arith}
 use Rattle.std.specs.Prelude.{Option, Some, None, nat_le, nat_eq, slice_get, fold, Contains}
-use Rattle.std.specs.List.{list_all, find, cons_option, range_with_len, AllByRecursion}
+use Rattle.std.specs.List.{list_all, find, cons_option, range_with_len}
 use Rattle.std.specs.Option.{option_map_or, option_eq}
 use Rattle.std.proofs.lemmas.Bool.Decides.{Decides-eqb}
 use Rattle.std.proofs.lemmas.Option.{same_Some}
 use Rattle.std.proofs.lemmas.List.Sums.{sum_by-cons}
 use Rattle.game_rules.specs.declared.Point.{Point}
+use Rattle.game_rules.proofs.PointLists.{filter-inside}
 use Rattle.strategy_graph.specs.declared.Node.{Node}
-use Rattle.strategy_graph.specs.declared.Reply.{Reply}
 use Rattle.strategy_graph.specs.declared.Rest.{Rest}
-use Rattle.strategy_graph.specs.declared.Rest.TheVariants.{Wins, To, Nothing}
+use Rattle.strategy_graph.specs.declared.Rest.TheVariants.{Wins, Nothing}
 use Rattle.strategy_graph.specs.Tables.{Answers, answers_of, answer, names_below, rest_node, rest_nodes, is_winning, IsTable}
 use Rattle.strategy_graph.specs.Acceptance.{Answered}
-use Rattle.strategy_graph.specs.Leads.{AtNode}
 use Rattle.std.proofs.lemmas.List.FromFn.{length-range_with_len, get_or-range_with_len}
 use Rattle.strategy_graph.proofs.Filling.{IsTable-lower}
 use Rattle.strategy_compiler.proofs.Completing.{within-enough}
 use Rattle.strategy_graph.proofs.Answering.{answer-below}
-use Rattle.strategy_compiler.proofs.Briefs.{answered-as-listed}
+use Rattle.strategy_graph.proofs.Rising.{answered-as-listed}
+use Rattle.strategy_graph.proofs.Pairs.{RestPair, BothWin, BothNothing, NodePair, AtNode-some, node-right, node-itself, node-left, rest-pairs, next-pairs, there-at, no_replies, winning-rest, rest-by_node, AnswerPairs, listed-pairs, Pairs, Ends, Goes, OptionPair, Neither, Both, IsThere}
+use Rattle.strategy_graph.proofs.Lookups.{ext-slice_get}
 use Rattle.strategy_compiler.proofs.Commonest.{commonest-there}
 use Rattle.strategy_compiler.specs.Trees.{Tree, Branches, Leaf, Fork, NoBranch, Branch, StandsFor, StandsForAll, IsBrief, replies_of, answers_to, commonest, times}
 use Rattle.strategy_compiler.specs.Walks.{AreDifferent, IsTableOf, completed_within, is_in_list, last, visits, visits_at}
 
-cons-first : {X : Type 0} (x y : X) (xs ys : List X) → x ∷ xs ≡ y ∷ ys → x ≡ y
-cons-first x y xs ys e = cc
-
-cons-others : {X : Type 0} (x y : X) (xs ys : List X) → x ∷ xs ≡ y ∷ ys → xs ≡ ys
-cons-others x y xs ys e = cc
-
 -- ---- lists that are related place by place
-
--- both are there and related, or neither is there
-pub data OptionPair (R : ℕ → ℕ → Type 0) : Option ℕ → Option ℕ → Type 0 where
-  Neither : OptionPair R None None
-  Both : (j k : ℕ) → R j k → OptionPair R (Some j) (Some k)
-
-some-pair : (R : ℕ → ℕ → Type 0) (j k : ℕ) → OptionPair R (Some j) (Some k) → R j k
-some-pair R _ _ (Both j k r) = r
-
-pub data Pairs (R : ℕ → ℕ → Type 0) : List ℕ → List ℕ → Type 0 where
-  Ends : Pairs R [] []
-  Goes : (j k : ℕ) (js ks : List ℕ) → R j k → Pairs R js ks → Pairs R (j ∷ js) (k ∷ ks)
 
 module _ (R : ℕ → ℕ → Type 0) where
   pub pairs-append : (js ks js' ks' : List ℕ) → Pairs R js ks → Pairs R js' ks' → Pairs R (js ++ js') (ks ++ ks')
@@ -108,132 +91,11 @@ pub record Alike (u v : List Node) (i j : ℕ) : Type 0 where
   pub left : StandsFor u i tree
   pub right : StandsFor v j tree
 
--- rests and replies with related numbers
-pub data RestPair (R : ℕ → ℕ → Type 0) : Rest → Rest → Type 0 where
-  BothWin : RestPair R Wins Wins
-  BothTo : (j k : ℕ) → R j k → RestPair R (To j) (To k)
-  BothNothing : RestPair R Nothing Nothing
-
-pub data ReplyPairs (R : ℕ → ℕ → Type 0) : List Reply → List Reply → Type 0 where
-  NoReplies : ReplyPairs R [] []
-  Replies : (q : Point) (j k : ℕ) (rs ss : List Reply) → R j k → ReplyPairs R rs ss
-      → ReplyPairs R (record { at = q; next = j } ∷ rs) (record { at = q; next = k } ∷ ss)
-
-pub record NodePair (R : ℕ → ℕ → Type 0) (n m : Node) : Type 0 where
-  pub attack : n.attack ≡ m.attack
-  pub rest : RestPair R n.rest m.rest
-  pub replies : ReplyPairs R n.replies m.replies
-
 -- ---- where nodes that stand for a same tree are alike below, they are alike
-
-AtNode-some : (o : Option Node) (n : Node) (P : Node → Type 0) → o ≡ Some n → AtNode o P → P n
-AtNode-some None n P e h = absurd h
-AtNode-some (Some m) n P e h = let same : m ≡ n = cc in subst P same h
-
--- what is related to one thing is one
-module _ (R S : ℕ → ℕ → Type 0) (f : (x y z : ℕ) → R x y → S x z → y ≡ z) where
-  rest-right : (r s t : Rest) → RestPair R r s → RestPair S r t → s ≡ t
-  rest-right _ _ t BothWin k = win t k where
-    win : (t : Rest) → RestPair S Wins t → Wins ≡ t
-    win _ BothWin = refl
-  rest-right _ _ t (BothTo x y h) k = to t k where
-    to : (t : Rest) → RestPair S (To x) t → To y ≡ t
-    to _ (BothTo _ z k) = ap To (f x y z h k)
-  rest-right _ _ t BothNothing k = nothing t k where
-    nothing : (t : Rest) → RestPair S Nothing t → Nothing ≡ t
-    nothing _ BothNothing = refl
-
-  replies-right : (rs ss ts : List Reply) → ReplyPairs R rs ss → ReplyPairs S rs ts → ss ≡ ts
-  replies-right _ _ ts NoReplies k = none ts k where
-    none : (ts : List Reply) → ReplyPairs S [] ts → [] ≡ ts
-    none _ NoReplies = refl
-  replies-right _ _ ts (Replies q x y rs ss h hs) k = more ts k (λ ts k. replies-right rs ss ts hs k) where
-    more : (ts : List Reply) → ReplyPairs S (record { at = q; next = x } ∷ rs) ts → ((ts : List Reply) → ReplyPairs S rs ts → ss ≡ ts)
-        → record { at = q; next = y } ∷ ss ≡ ts
-    more _ (Replies _ _ z _ ts k ks) later = let next = f x y z h k in let others = later ts ks in λ i. record { at = q; next = next i } ∷
-        others i
-
-flip : (ℕ → ℕ → Type 0) → ℕ → ℕ → Type 0
-flip R x y = R y x
-
-rest-flip : (R : ℕ → ℕ → Type 0) (r s : Rest) → RestPair R r s → RestPair (flip R) s r
-unfolding flip
-rest-flip R _ _ BothWin = BothWin
-rest-flip R _ _ (BothTo x y h) = BothTo y x h
-rest-flip R _ _ BothNothing = BothNothing
-
-replies-flip : (R : ℕ → ℕ → Type 0) (rs ss : List Reply) → ReplyPairs R rs ss → ReplyPairs (flip R) ss rs
-unfolding flip
-replies-flip R _ _ NoReplies = NoReplies
-replies-flip R _ _ (Replies q x y rs ss h k) = Replies q y x ss rs h (replies-flip R rs ss k)
-
-node-right : (R S : ℕ → ℕ → Type 0) → ((x y z : ℕ) → R x y → S x z → y ≡ z) → (n m l : Node) → NodePair R n m → NodePair S n l → m ≡ l
-node-right R S f n m l h k =
-    let attack : m.attack ≡ l.attack = sym h.attack ∙ k.attack in
-    let replies = replies-right R S f n.replies m.replies l.replies h.replies k.replies in
-    let rest = rest-right R S f n.rest m.rest l.rest h.rest k.rest in
-    λ i. record { attack = attack i; replies = replies i; rest = rest i }
-
-rest-itself : (r : Rest) → RestPair (λ x y. x ≡ y) r r
-rest-itself Wins = BothWin
-rest-itself (To j) = BothTo j j refl
-rest-itself Nothing = BothNothing
-
-replies-itself : (rs : List Reply) → ReplyPairs (λ x y. x ≡ y) rs rs
-replies-itself [] = NoReplies
-replies-itself (r ∷ rs) = Replies r.at r.next r.next rs rs refl (replies-itself rs)
-
-node-itself : (n : Node) → NodePair (λ x y. x ≡ y) n n
-node-itself n = record { attack = refl; rest = rest-itself n.rest; replies = replies-itself n.replies }
-
-node-flip : (R : ℕ → ℕ → Type 0) (n m : Node) → NodePair R n m → NodePair (flip R) m n
-node-flip R n m h = record { attack = sym h.attack; rest = rest-flip R n.rest m.rest h.rest; replies = replies-flip R n.replies m.replies h.replies }
-
-node-left : (R S : ℕ → ℕ → Type 0) → ((x y z : ℕ) → R y x → S z x → y ≡ z) → (n m l : Node) → NodePair R m n → NodePair S l n → m ≡ l
-unfolding flip
-node-left R S f n m l h k = node-right (flip R) (flip S) f n m l (node-flip R m n h) (node-flip S l n k)
-
-rest-pairs : (R S : ℕ → ℕ → Type 0) → ((x y : ℕ) → R x y → S x y) → (r s : Rest) → RestPair R r s → Pairs S (rest_nodes r) (rest_nodes s)
-rest-pairs R S f _ _ BothWin = Ends
-rest-pairs R S f _ _ (BothTo x y h) = Goes x y [] [] (f x y h) Ends
-rest-pairs R S f _ _ BothNothing = Ends
-
-next-pairs : (R S : ℕ → ℕ → Type 0) → ((x y : ℕ) → R x y → S x y) → (rs ss : List Reply) → ReplyPairs R rs ss → Pairs S (map (λ r. r.next) rs) (map (λ s. s.next) ss)
-next-pairs R S f _ _ NoReplies = Ends
-next-pairs R S f _ _ (Replies q x y rs ss h k) = Goes x y _ _ (f x y h) (next-pairs R S f rs ss k)
 
 fold-pairs : (R : ℕ → ℕ → Type 0) (f g : List ℕ → ℕ → List ℕ) → ((d e : List ℕ) (x y : ℕ) → R x y → Pairs R d e → Pairs R (f d x) (g e y)) → (js ks d e : List ℕ) → Pairs R js ks → Pairs R d e → Pairs R (fold f d js) (fold g e ks)
 fold-pairs R f g step _ _ d e Ends p = p
 fold-pairs R f g step _ _ d e (Goes j k js ks r q) p = fold-pairs R f g step js ks (f d j) (g e k) q (step d e j k r p)
-
-there-at : (o : Option Node) (P : Node → Type 0) → AtNode o P → (n : Node) × (o ≡ Some n)
-there-at None P h = absurd h
-there-at (Some n) P h = (n, refl)
-
-no_replies : (R : ℕ → ℕ → Type 0) (rs ss : List Reply) → rs ≡ [] → ss ≡ [] → ReplyPairs R rs ss
-no_replies R rs ss e f = subst (λ (xs : List Reply). ReplyPairs R xs ss) (sym e) (subst (ReplyPairs R []) (sym f) NoReplies)
-
-winning-rest : (r : Rest) → is_winning r ≡ true → r ≡ Wins
-winning-rest Wins h = refl
-winning-rest (To j) h = cc
-winning-rest Nothing h = cc
-
-rest-by_node : (R : ℕ → ℕ → Type 0) (r s : Rest) (j k : ℕ) → rest_node r ≡ Some j → rest_node s ≡ Some k → R j k → RestPair R r s
-rest-by_node R r s j k e f h =
-    subst (λ (x : Rest). RestPair R x s) (sym (is-to r j e)) (subst (RestPair R (To j)) (sym (is-to s k f)) (BothTo j k h)) where
-      is-to : (r : Rest) (j : ℕ) → rest_node r ≡ Some j → r ≡ To j
-      is-to Wins j e = cc
-      is-to (To i) j e = let same : i ≡ j = cc in ap To same
-      is-to Nothing j e = cc
-
-abbrev pub IsThere : Option ℕ → Type 0
-IsThere None = ⊥
-IsThere (Some j) = Unit {0}
-
--- an answer at each reply, of related nodes
-abbrev pub AnswerPairs : (ℕ → ℕ → Type 0) → Answers → Answers → List Point → Type 0
-AnswerPairs R a b [] = Unit {0}
-AnswerPairs R a b (q ∷ qs) = OptionPair R (answer a q) (answer b q) × IsThere (answer a q) × AnswerPairs R a b qs
 
 answers-pairs : (R : ℕ → ℕ → Type 0) (a b : Answers) (qs : List Point) → AnswerPairs R a b qs → Pairs R (answers_to a qs) (answers_to b qs)
 answers-pairs R a b [] h = Ends
@@ -248,35 +110,6 @@ others-alike R one a b o p (q ∷ qs) g h =
     let here = same-pairs R one (answer a q) o (answer b q) p h.0 g in
     let later = others-alike R one a b o p qs g h.2 in
     λ k. cond (not (here k)) (q ∷ later k) (later k)
-
-answer-pair : (R : ℕ → ℕ → Type 0) (a b : Answers) (qs : List Point) (q : Point) (j k : ℕ) → AnswerPairs R a b qs → Contains qs q → answer a q ≡ Some j → answer b q ≡ Some k → R j k
-answer-pair R a b [] q j k h (m, l, e) x y = absurd (omega arith)
-answer-pair R a b (p ∷ qs) q j k h (zero, l, e) x y =
-    some-pair R j k (subst (λ (o : Option ℕ). OptionPair R o (Some k)) x
-    (subst (λ (o : Option ℕ). OptionPair R (answer a q) o) y (subst (λ (r : Point). OptionPair R (answer a r) (answer b r)) e h.0)))
-answer-pair R a b (p ∷ qs) q j k h (suc m, l, e) x y = answer-pair R a b qs q j k h.2 (m, omega arith, e) x y
-
-listed-pairs : (R : ℕ → ℕ → Type 0) (a b : Answers) (qs : List Point) (rs ss : List Reply) → AnswerPairs R a b qs → map (λ r. r.at) rs ≡ map (λ s. s.at) ss → ((q : Point) → Contains (map (λ r. r.at) rs) q → Contains qs q) → AllByRecursion (λ r. answer a r.at ≡ Some r.next) rs → AllByRecursion (λ r. answer b r.at ≡ Some r.next) ss → ReplyPairs R rs ss
-listed-pairs R a b qs [] [] h e inside x y = NoReplies
-listed-pairs R a b qs [] (s ∷ ss) h e inside x y = cc
-listed-pairs R a b qs (r ∷ rs) [] h e inside x y = cc
-listed-pairs R a b qs (r ∷ rs) (s ∷ ss) h e inside x y =
-    let at : r.at ≡ s.at = cons-first _ _ _ _ e in
-    subst (λ (q : Point). ReplyPairs R (r ∷ rs) (record { at = q; next = s.next } ∷ ss)) at
-    (Replies r.at r.next s.next rs ss
-    (answer-pair R a b qs r.at r.next s.next h (inside r.at (0, omega arith, refl)) x.0 (ap (answer b) at ∙ y.0))
-    (listed-pairs R a b qs rs ss h (cons-others _ _ _ _ e) (λ q c. inside q (suc c.0, omega arith, c.2)) x.1 y.1))
-
-filter-inside : (p : Point → Bool) (qs : List Point) (q : Point) → Contains (filter p qs) q → Contains qs q
-filter-inside p [] q (k, l, e) = absurd (omega arith)
-filter-inside p (r ∷ qs) q c = by_test (p r) c (filter-inside p qs q) where
-  later : Contains qs q → Contains (r ∷ qs) q
-  later (k, l, e) = (suc k, omega arith, e)
-
-  by_test : (b : Bool) → Contains (cond b (r ∷ filter p qs) (filter p qs)) q → (Contains (filter p qs) q → Contains qs q) → Contains (r ∷ qs) q
-  by_test true (zero, l, e) next = (0, omega arith, e)
-  by_test true (suc k, l, e) next = later (next (k, omega arith, e))
-  by_test false c next = later (next c)
 
 module _ (u v : List Node) (tu : IsTable u) (tv : IsTable v) where
   -- they stand for a same tree, and the first is below k
@@ -454,15 +287,6 @@ module _ (u v : List Node) (tu : IsTable u) (tv : IsTable v) where
     range-at n k l = get_or-range_with_len 0 n k 0 l ∙ zero_plus k where
       zero_plus : (k : ℕ) → 0 + k ≡ k
       zero_plus k = omega arith
-
-ext-slice_get : (t u : List Node) → length t ≡ length u → ((i : ℕ) → i < length t → slice_get t i ≡ slice_get u i) → t ≡ u
-ext-slice_get [] [] e h = refl
-ext-slice_get [] (m ∷ u) e h = absurd (omega (arith, e))
-ext-slice_get (n ∷ t) [] e h = absurd (omega (arith, e))
-ext-slice_get (n ∷ t) (m ∷ u) e h =
-    let first : n ≡ m = same_Some n m (h 0 (omega arith)) in
-    let others : t ≡ u = ext-slice_get t u (omega (arith, e)) (λ i l. h (suc i) (omega arith)) in
-    λ i. first i ∷ others i
 
 -- ---- the table of a tree is one
 

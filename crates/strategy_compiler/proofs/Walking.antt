@@ -1,23 +1,20 @@
 -- The walks that complete nodes, step by step.
-use Rattle.std.proofs.Common.{◌≡◌, ◌≢◌, ℕ, zero, suc, ◌+◌, ◌<◌, ◌≤◌, Bool, true, false, cond, not, ◌||◌, ◌==◌, List, [], ◌∷◌, ◌++◌, map, reverse, length, take, drop, get_or, refl, sym, ap, subst, ◌∙◌, ◌⊎◌, inl, inr, arith, drop-cons, add-one, length-append}
-use Rattle.std.specs.Prelude.{Option, Some, None, nat_lt, slice_get, fold, replicate, Contains, All}
+use Rattle.std.proofs.Common.{◌≡◌, ◌≢◌, ℕ, zero, suc, ◌+◌, ◌<◌, ◌≤◌, Bool, true, false, cond, not, ◌||◌, ◌==◌, List, [], ◌∷◌, ◌++◌, map, reverse, length, take, get_or, refl, sym, ap, subst, ◌∙◌, ◌⊎◌, inl, inr, arith, length-append}
+use Rattle.std.specs.Prelude.{Option, Some, None, nat_lt, slice_get, fold, replicate, Contains}
 use Rattle.std.specs.List.{list_all, find}
 use Rattle.std.specs.Option.{option_map_or}
 use Rattle.std.proofs.lemmas.Option.{slice_get_within, slice_get_read, same_Some}
-use Rattle.std.proofs.lemmas.List.{take-append-le}
+use Rattle.std.proofs.lemmas.List.{take-append-le, get_or-set_same, get_or-set_other, length-replicate, reverse-append}
 use Rattle.std.proofs.lemmas.List.Elements.{Contains-append_cases, Contains-append_left, Contains-append_right}
 use Rattle.std.proofs.Math.Seq.{take-append_seam}
-use Rattle.std.proofs.Math.ListN.{set, drop_of_length-le, length-set}
-use Rattle.std.proofs.lemmas.List.{get_or-set_same, get_or-set_other, length-replicate, reverse-append}
+use Rattle.std.proofs.Math.ListN.{set, length-set}
 use Rattle.std.proofs.lemmas.List.Sums.{sum_by-set}
 use Rattle.std.proofs.lemmas.List.Folds.{sum_by-replicate}
 use Rattle.std.proofs.lemmas.Bool.{or_right}
 use Rattle.std.proofs.lemmas.Bool.Decides.{Decides-eqb}
 use Rattle.game_rules.proofs.Boards.{and_left, and_right}
 use Rattle.strategy_graph.specs.declared.Node.{Node}
-use Rattle.strategy_graph.specs.declared.Reply.{Reply}
 use Rattle.strategy_graph.specs.Tables.{Answers, answers_of, named, names_below, rest_nodes, NamesLower}
-use Rattle.strategy_graph.proofs.Naming.{reply-below}
 use Rattle.strategy_graph.proofs.Growth.{names_below-more}
 use Rattle.strategy_compiler.specs.Walks.{visits, visits_at, is_in_list, completed_after}
 use Rattle.strategy_compiler.specs.Orders.{IsOrder, Flags, unset, IsBetween}
@@ -25,20 +22,6 @@ use Rattle.strategy_compiler.proofs.Completing.{among-push, among-last, among-ot
 use borrow.Author.Tests.{ltb-true, lt-ltb}
 
 -- ---- the first that passes, of those that are left
-
-module _ (p : ℕ → Bool) (rs : List Reply) (i : ℕ) where
-  pub find-next_hit : (d : Reply) → i < length rs → p (get_or rs i d).next ≡ true → find p (map (λ r. r.next) (drop i rs)) ≡ Some (get_or rs i d).next
-  find-next_hit d l h = rw (drop-cons rs i d) (ap (λ (b : Bool). cond b (Some (get_or rs i d).next) (find p (map (λ r. r.next) (drop (suc i) rs)))) h)
-
-  pub find-next_miss : (d : Reply) → i < length rs → p (get_or rs i d).next ≡ false → find p (map (λ r. r.next) (drop i rs)) ≡ find p (map (λ r. r.next) (drop (i + 1) rs))
-  find-next_miss d l h = rw (add-one, drop-cons rs i d) (ap (λ (b : Bool). cond b (Some (get_or rs i d).next) (find p (map (λ r. r.next) (drop (suc i) rs)))) h)
-
-  pub find-next_none : length rs ≤ i → find p (map (λ r. r.next) (drop i rs)) ≡ None
-  find-next_none l = ap (λ (xs : List Reply). find p (map (λ r. r.next) xs)) (drop_of_length-le rs l)
-
--- the listed replies name nodes below k where all that is named is
-pub replies-below : (a : Answers) (k : ℕ) (rs : List Reply) → rs ≡ a.replies → names_below a k ≡ true → All (λ r. r.next < k) rs
-replies-below a k rs e h = subst (All (λ r. r.next < k)) (sym e) (λ i d l. reply-below a k i d h l)
 
 -- ---- flags
 

@@ -1,18 +1,20 @@
 -- Wins that a search wrote: they stay, and the table of one.
-use Rattle.std.proofs.Common.{◌≡◌, ℕ, zero, suc, ◌≤◌, ◌<◌, List, [], ◌∷◌, ◌++◌, map, length, ap, ◌∙◌, arith}
-use Rattle.std.specs.Prelude.{Option, Some, None, All, Result, Ok, Err, IfOk, slice_get}
-use Rattle.game_rules.specs.Grid.{Grid, is_on}
+use Rattle.std.proofs.Common.{◌≡◌, ℕ, zero, suc, ◌<◌, List, [], ◌∷◌, ◌++◌, length, ap, ◌∙◌, arith, refl, subst}
+use Rattle.std.specs.Prelude.{All, Result, Ok, Err, IfOk}
+use Rattle.game_rules.proofs.Common.{Grid, is_on, WinsWithin}
 use Rattle.game_rules.specs.declared.RuleKind.{RuleKind}
 use Rattle.strategy_graph.specs.declared.Node.{Node}
-use Rattle.strategy_graph.specs.declared.Reply.{Reply}
-use Rattle.strategy_graph.specs.Tables.{NamesLower, NamesOnBoard, RepliesOn, TableOnBoard, depth, depth_within, node_depth}
-use Rattle.strategy_graph.specs.Acceptance.{Accepted, AcceptedNode, AcceptedWithin}
+use Rattle.strategy_graph.specs.Tables.{NamesLower, NamesOnBoard, TableOnBoard, depth}
 use Rattle.strategy_graph.specs.Laws.{SaysSame}
 use Rattle.strategy_graph.proofs.Growth.{growth-same}
+use Rattle.strategy_graph.proofs.Lookups.{slice_get-shorter}
+use Rattle.strategy_graph.proofs.Fuel.{accepted-deep}
+use Rattle.strategy_graph.proofs.Answering.{replies-on}
+use Rattle.strategy_graph.proofs.Soundness.{accepted-wins}
 use Rattle.strategy_compiler.specs.declared.wins.WrittenWin.{WrittenWin}
 use Rattle.strategy_compiler.specs.Walks.{NamesPointsReached, last}
 use Rattle.strategy_compiler.specs.Wins.{StaysOnBoard, IsWrittenWin, IsWinTable, GrowthKeepsWins}
-use Rattle.strategy_compiler.proofs.Reaching.{reaches-shorter, slice_get-shorter, reaches-inside}
+use Rattle.strategy_compiler.proofs.Reaching.{reaches-shorter, reaches-inside}
 
 -- ---- a list of nodes that grows
 
@@ -39,23 +41,6 @@ growth_keeps-wins rule limit b t more win lower h =
 
 -- ---- the table of a win
 
--- a node that is accepted is there, and so has a depth of 1 or more
-accepted-deep : (rule : RuleKind) (t : List Node) (i : ℕ) (b : Grid) → Accepted rule t i b → 1 ≤ depth t i
-unfolding AcceptedWithin depth_within
-accepted-deep rule t i b h = by_node (slice_get t i) (AcceptedWithin i rule t) (depth_within i t) h where
-  by_node : (o : Option Node) (Next : ℕ → Grid → Type 0) (depth_at : ℕ → ℕ) → AcceptedNode rule o Next b → 1 ≤ node_depth o depth_at
-  by_node None Next depth_at h = absurd h
-  by_node (Some n) Next depth_at h = omega arith
-
--- replies at the points of others
-replies-on : (b : Grid) (rs ss : List Reply) → map (λ r. r.at) rs ≡ map (λ r. r.at) ss → RepliesOn b ss → RepliesOn b rs
-replies-on b [] ss e h = tt
-replies-on b (r ∷ rs) [] e h = cc
-replies-on b (r ∷ rs) (s ∷ ss) e h =
-    let at : r.at ≡ s.at = cc in
-    let later : map (λ r. r.at) rs ≡ map (λ r. r.at) ss = cc in
-    (ap (is_on b) at ∙ h.0, replies-on b rs ss later h.1)
-
 -- what a table names that has the points of what the node of a win reaches
 module _ (b : Grid) (t : List Node) (root : ℕ) (on : StaysOnBoard b t root) where
   named-on : (m : Node) → NamesPointsReached t root m → NamesOnBoard b m
@@ -80,3 +65,20 @@ pub win-tables : (t : List Node) (win : WrittenWin) {E : Type 0} (r : Result (Li
     → IfOk r (λ u. (rule : RuleKind) (limit : ℕ) (b : Grid) → IsWrittenWin rule limit b t win → IsWinTable rule b win u)
 win-tables t win (Ok u) same points = win-table t win u same points
 win-tables t win (Err e) same points = tt
+
+-- a win whose moves are told as the depth of its node
+pub win-deep : (rule : RuleKind) (n : ℕ) (b : Grid) (t : List Node) (win : WrittenWin) → IsWrittenWin rule n b t win → IsWrittenWin rule n b t (record { node = win.node; moves = depth t win.node })
+win-deep rule n b t win h = record {
+  in_compiler = h.in_compiler;
+  accepted = h.accepted;
+  deep = refl;
+  within = let low = h.within in let e = h.deep in omega (arith, e, low);
+  on_board = h.on_board;
+}
+
+-- a written win has a move
+pub win-some : (rule : RuleKind) (n : ℕ) (b : Grid) (c : List Node) (win : WrittenWin) → IsWrittenWin rule n b c win → 0 < win.moves
+win-some rule n b c win h = by_moves win.moves h.deep where
+  by_moves : (m : ℕ) → depth c win.node ≡ m → 0 < m
+  by_moves zero e = absurd (subst (λ (k : ℕ). WinsWithin rule k b) e (accepted-wins rule c win.node b h.accepted))
+  by_moves (suc m) e = omega arith

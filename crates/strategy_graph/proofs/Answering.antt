@@ -1,15 +1,18 @@
 -- Answers to replies: which nodes they are, and what holds of them.
-use Rattle.std.proofs.Common.{◌≡◌, ℕ, ◌≤◌, ◌<◌, max, Bool, true, false, cond, List, [], ◌∷◌, ◌++◌, map, refl, arith}
-use Rattle.std.specs.Prelude.{Option, Some, None, nat_lt}
-use Rattle.std.specs.List.{list_all, find}
+use Rattle.std.proofs.Common.{◌≡◌, ℕ, ◌≤◌, ◌<◌, max, Bool, true, false, cond, List, [], ◌∷◌, ◌++◌, map, refl, arith, zero, suc, subst, ap, ◌+◌, length, drop, get_or, drop-cons, add-one, ◌∙◌, sym}
+use Rattle.std.specs.Prelude.{Option, Some, None, nat_lt, Contains}
+use Rattle.std.specs.List.{list_all, find, AllByRecursion, filter}
 use Rattle.std.specs.Option.{option_map, option_or}
-use Rattle.game_rules.specs.Shapes.{is_same_point}
+use Rattle.std.proofs.Math.ListN.{drop_of_length-le}
+use Rattle.game_rules.proofs.Common.{is_same_point, Grid, is_on}
 use Rattle.game_rules.specs.declared.Point.{Point}
 use Rattle.strategy_graph.specs.declared.Reply.{Reply}
 use Rattle.strategy_graph.specs.declared.Rest.{Rest}
 use Rattle.strategy_graph.specs.declared.Rest.TheVariants.{Wins, To, Nothing}
-use Rattle.strategy_graph.specs.Tables.{Answers, answer, listed_node, rest_node, rest_nodes, named, names_below, greatest}
+use Rattle.strategy_graph.specs.Tables.{Answers, answer, listed_node, rest_node, rest_nodes, named, names_below, greatest, RepliesOn, is_winning}
 use Rattle.strategy_graph.specs.Acceptance.{Answered}
+use Rattle.strategy_graph.specs.declared.Node.{Node}
+use Rattle.strategy_graph.specs.Leads.{AtNode}
 use Rattle.game_rules.proofs.Boards.{and_left, and_right}
 use borrow.Author.Tests.{ltb-true}
 
@@ -76,3 +79,76 @@ Answered-map (Some j) P Q f h = f j refl h
 pub Answered-elim : (o : Option ℕ) (P : ℕ → Type 0) (W : Type 0) → ((j : ℕ) → o ≡ Some j → P j → W) → Answered o P → W
 Answered-elim None P W f h = absurd h
 Answered-elim (Some j) P W f h = f j refl h
+
+pub next-all : (P : ℕ → Type 0) (rs : List Reply) → AllByRecursion (λ r. P r.next) rs → (j : ℕ) → Contains (map (λ r. r.next) rs) j → P j
+next-all P [] h j (k, l, e) = absurd (omega arith)
+next-all P (r ∷ rs) h j (zero, l, e) = subst P e h.0
+next-all P (r ∷ rs) h j (suc k, l, e) = next-all P rs h.1 j (k, omega arith, e)
+
+pub nodes-append_nil : (t : List Node) → t ++ [] ≡ t
+nodes-append_nil [] = refl
+nodes-append_nil (n ∷ t) = ap (λ (r : List Node). n ∷ r) (nodes-append_nil t)
+
+module _ (p : ℕ → Bool) (rs : List Reply) (i : ℕ) where
+  pub find-next_hit : (d : Reply) → i < length rs → p (get_or rs i d).next ≡ true → find p (map (λ r. r.next) (drop i rs)) ≡ Some (get_or rs i d).next
+  find-next_hit d l h = rw (drop-cons rs i d) (ap (λ (b : Bool). cond b (Some (get_or rs i d).next) (find p (map (λ r. r.next) (drop (suc i) rs)))) h)
+
+  pub find-next_miss : (d : Reply) → i < length rs → p (get_or rs i d).next ≡ false → find p (map (λ r. r.next) (drop i rs)) ≡ find p (map (λ r. r.next) (drop (i + 1) rs))
+  find-next_miss d l h = rw (add-one, drop-cons rs i d) (ap (λ (b : Bool). cond b (Some (get_or rs i d).next) (find p (map (λ r. r.next) (drop (suc i) rs)))) h)
+
+  pub find-next_none : length rs ≤ i → find p (map (λ r. r.next) (drop i rs)) ≡ None
+  find-next_none l = ap (λ (xs : List Reply). find p (map (λ r. r.next) xs)) (drop_of_length-le rs l)
+
+-- replies at the points of others
+pub replies-on : (b : Grid) (rs ss : List Reply) → map (λ r. r.at) rs ≡ map (λ r. r.at) ss → RepliesOn b ss → RepliesOn b rs
+replies-on b [] ss e h = tt
+replies-on b (r ∷ rs) [] e h = cc
+replies-on b (r ∷ rs) (s ∷ ss) e h =
+    let at : r.at ≡ s.at = cc in
+    let later : map (λ r. r.at) rs ≡ map (λ r. r.at) ss = cc in
+    (ap (is_on b) at ∙ h.0, replies-on b rs ss later h.1)
+
+pub attack_at : (o : Option Node) (P : Node → Type 0) (p : Point) → ((n : Node) → P n → n.attack ≡ p) → AtNode o P → option_map (λ n. n.attack) o ≡ Some p
+attack_at None P p f h = absurd h
+attack_at (Some n) P p f h = ap Some (f n h)
+
+pub AtNode-parts : (o : Option Node) (P : Node → Type 0) → AtNode o P → (n : Node) × (o ≡ Some n) × P n
+AtNode-parts None P h = absurd h
+AtNode-parts (Some n) P h = (n, refl, h)
+
+pub nothing_not_winning : (r : Rest) → r ≡ Nothing → is_winning r ≡ true → ⊥
+nothing_not_winning Wins e h = cc
+nothing_not_winning (To j) e h = cc
+nothing_not_winning Nothing e h = cc
+
+pub winning_no_answer : (n : Node) (q : Point) (r : Rest) → is_winning r ≡ true → n.replies ≡ [] → answer (record { replies = n.replies; rest = r }) q ≡ None
+winning_no_answer n q Wins h e = ap (λ (rs : List Reply). answer (record { replies = rs; rest = Wins }) q) e
+winning_no_answer n q (To j) h e = cc
+winning_no_answer n q Nothing h e = cc
+
+pub not_winning_by : (o : Option ℕ) (P : ℕ → Type 0) → o ≡ None → Answered o P → ⊥
+not_winning_by None P e h = h
+not_winning_by (Some j) P e h = cc
+
+-- replies at points that pass
+pub passed : (f : Point → Bool) (ps : List Point) (rs : List Reply) → map (λ r. r.at) rs ≡ filter f ps → AllByRecursion (λ r. f r.at ≡ true) rs
+passed f ps rs e = at_points rs (subst (AllByRecursion (λ q. f q ≡ true)) (sym e) (passing ps)) where
+  at_points : (rs : List Reply) → AllByRecursion (λ q. f q ≡ true) (map (λ r. r.at) rs) → AllByRecursion (λ r. f r.at ≡ true) rs
+  at_points [] h = tt
+  at_points (r ∷ rs) h = (h.0, at_points rs h.1)
+
+  passing : (ps : List Point) → AllByRecursion (λ q. f q ≡ true) (filter f ps)
+  passing [] = tt
+  passing (p ∷ ps) = by_test (f p) refl (passing ps) where
+    by_test : (b : Bool) → f p ≡ b → AllByRecursion (λ q. f q ≡ true) (filter f ps)
+        → AllByRecursion (λ q. f q ≡ true) (cond b (p ∷ filter f ps) (filter f ps))
+    by_test true e rest = (e, rest)
+    by_test false e rest = rest
+
+pub push-all : (P : Reply → Type 0) (rs : List Reply) (r : Reply) → AllByRecursion P rs → P r → AllByRecursion P (rs ++ r ∷ [])
+push-all P [] r h k = (k, tt)
+push-all P (s ∷ rs) r h k = (h.0, push-all P rs r h.1 k)
+
+pub push-points : (rs : List Reply) (r : Reply) → map (λ r. r.at) (rs ++ r ∷ []) ≡ map (λ r. r.at) rs ++ r.at ∷ []
+push-points [] r = refl
+push-points (s ∷ rs) r = ap (λ (ps : List Point). s.at ∷ ps) (push-points rs r)

@@ -1,14 +1,21 @@
 -- `==` holds of two nodes exactly where they are equal.
-use Rattle.std.proofs.Common.{◌≡◌, true, ◌&&◌, ◌==◌, refl, ap, subst}
+use Rattle.std.proofs.Common.{◌≡◌, true, ◌&&◌, ◌==◌, refl, ap, subst, ◌<◌, ◌≤◌, List, length, arith, ℕ, get_or, sym, ◌∙◌, zero, suc, false, [], ◌∷◌}
 use Rattle.std.specs.Bool.{Decides}
 use Rattle.std.proofs.lemmas.Bool.Decides.{Decides-eqb}
+use Rattle.std.specs.Prelude.{Some, slice_get, position, Contains}
+use Rattle.std.proofs.lemmas.List.Quantifiers.{position-Some}
+use Rattle.std.proofs.lemmas.Option.{slice_get-get_or}
+use Rattle.std.specs.List.{list_any, AllByRecursion, IsDistinct}
+use Rattle.std.proofs.lemmas.Map.Views.{Contains-from_any}
 use Rattle.strategy_graph.specs.declared.Node.{Node}
 use Rattle.strategy_graph.specs.declared.Rest.{Rest}
 use Rattle.strategy_graph.specs.declared.Rest.TheVariants.{Wins, To, Nothing}
 use Rattle.strategy_graph.specs.Same.{same_replies, same_replies_decides}
 use Rattle.strategy_graph.specs.contracts.NodePartialEq.TheImpl.{ghosts as node_ghosts}
 use Rattle.strategy_graph.specs.contracts.RestPartialEq.TheImpl.{ghosts as rest_ghosts}
+use Rattle.strategy_graph.specs.declared.TheConstants.{MAX_NODES}
 use Rattle.game_rules.proofs.Boards.{and_left, and_right}
+use Rattle.game_rules.proofs.Tests.{or_none, or_right}
 
 rest-eq : (r s : Rest) → Decides (rest_ghosts.eq r s) (r ≡ s)
 rest-eq Wins Wins = (λ h. refl, λ e. refl)
@@ -38,3 +45,40 @@ node_itself n =
 -- `==` of nodes tells whether they are equal
 pub node-eq : (m n : Node) → Decides (node_ghosts.eq m n) (m ≡ n)
 node-eq m n = (node_from m n, λ e. subst (λ (v : Node). node_ghosts.eq m v ≡ true) e (node_itself m))
+
+pub lt_of_le : (ks : List Node) → length ks ≤ MAX_NODES → (length ks ≡ MAX_NODES → ⊥) → length ks < MAX_NODES
+lt_of_le ks l e = omega arith
+
+-- the node is at the place that is found for it
+pub position-found : (n : Node) (ks : List Node) (i : ℕ) → position (node_ghosts.eq n) ks ≡ Some i → slice_get ks i ≡ Some n
+position-found n ks i h =
+    let at = position-Some (node_ghosts.eq n) ks i n h in
+    slice_get-get_or ks i n at.0 ∙ ap Some (sym (node_from n (get_or ks i n) at.1))
+
+-- a node that is found is there, and one that is not found is not
+pub Contains-found : (n : Node) (ks : List Node) → list_any (node_ghosts.eq n) ks ≡ true → Contains ks n
+Contains-found n ks h = Contains-from_any node_from n ks h
+
+pub list_any-Contains : (n : Node) (ks : List Node) → list_any (node_ghosts.eq n) ks ≡ false → ¬ Contains ks n
+list_any-Contains n [] h (i, l, e) = absurd (omega arith)
+list_any-Contains n (k ∷ ks) h (zero, l, e) =
+    let equal : node_ghosts.eq n k ≡ true = subst (λ (m : Node). node_ghosts.eq n m ≡ true) (sym e) (node_itself n) in
+    cc (equal, or_none (node_ghosts.eq n k) _ h)
+list_any-Contains n (k ∷ ks) h (suc i, l, e) = list_any-Contains n ks (or_right (node_ghosts.eq n k) _ h) (i, omega arith, e)
+
+-- the node is at the place where one is equal to it
+pub stored-at : (n : Node) (ks : List Node) (i : ℕ) → (k : Node) × (slice_get ks i ≡ Some k) × (node_ghosts.eq n k ≡ true) → slice_get ks i ≡ Some n
+stored-at n ks i (k, at, e) = at ∙ ap Some (sym (node_from n k e))
+
+none_equal : (n : Node) (ks : List Node) (i : ℕ) → AllByRecursion (λ k. node_ghosts.eq n k ≡ false) ks → slice_get ks i ≡ Some n → ⊥
+none_equal n [] i h e = cc
+none_equal n (k ∷ ks) zero h e = let equal : k ≡ n = cc in let is : node_ghosts.eq n n ≡ false = subst (λ (m : Node). node_ghosts.eq n m ≡ false) equal h.0 in cc (node_itself n)
+none_equal n (k ∷ ks) (suc i) h e = none_equal n ks i h.1 e
+
+pub different_by : (ks : List Node) → IsDistinct node_ghosts.eq ks → (i j : ℕ) (n : Node) → slice_get ks i ≡ Some n → slice_get ks j ≡ Some n → i ≡ j
+unfolding IsDistinct
+different_by [] h i j n a b = cc
+different_by (k ∷ ks) h zero zero n a b = refl
+different_by (k ∷ ks) h zero (suc j) n a b = let equal : k ≡ n = cc in absurd (none_equal n ks j (subst (λ (m : Node). AllByRecursion (λ y. node_ghosts.eq m y ≡ false) ks) equal h.0) b)
+different_by (k ∷ ks) h (suc i) zero n a b = let equal : k ≡ n = cc in absurd (none_equal n ks i (subst (λ (m : Node). AllByRecursion (λ y. node_ghosts.eq m y ≡ false) ks) equal h.0) a)
+different_by (k ∷ ks) h (suc i) (suc j) n a b = ap suc (different_by ks h.1 i j n a b)

@@ -1,9 +1,9 @@
 -- Tables that a node is added to, with the depths of their nodes.
-use Rattle.std.proofs.Common.{◌≡◌, ℕ, zero, suc, ◌+◌, ◌≤◌, ◌<◌, true, List, [], ◌∷◌, ◌++◌, length, map, ◌⊎◌, inl, inr, refl, sym, ap, subst, ◌∙◌, arith, length-append, get_or}
+use Rattle.std.proofs.Common.{◌≡◌, ℕ, zero, suc, ◌+◌, ◌≤◌, ◌<◌, true, List, [], ◌∷◌, ◌++◌, length, map, ◌⊎◌, inl, inr, refl, sym, ap, subst, ◌∙◌, arith, length-append, get_or, replicate, append_assoc}
 use Rattle.std.specs.Prelude.{Option, Some, None, IfSome, slice_get, slice_index, nat_lt}
 use Rattle.std.specs.List.{list_all}
-use Rattle.std.proofs.lemmas.Option.{slice_get_read}
-use Rattle.std.proofs.lemmas.List.{get_or_push, get_or_append_left}
+use Rattle.std.proofs.lemmas.Option.{slice_get_read, slice_get-get_or}
+use Rattle.std.proofs.lemmas.List.{get_or_push, get_or_append_left, append-nil, length-replicate}
 use Rattle.std.proofs.lemmas.Bool.{cases_lt}
 use Rattle.strategy_graph.specs.declared.Node.{Node}
 use Rattle.game_rules.specs.declared.Point.{Point}
@@ -14,6 +14,7 @@ use Rattle.strategy_graph.specs.Tables.{Answers, answers_of, answer, named, name
 use Rattle.strategy_graph.proofs.Fuel.{depth-step}
 use Rattle.strategy_graph.proofs.Growth.{growth-same, growth-same-start}
 use Rattle.strategy_graph.proofs.Answering.{answer-below}
+use Rattle.strategy_graph.specs.declared.Rest.TheVariants.{Wins}
 use Rattle.game_rules.proofs.Boards.{and_left, and_right}
 use borrow.Author.Tests.{ltb-true}
 
@@ -82,7 +83,7 @@ greatest-le t ds h a below = greatest_under (λ j. slice_index ds j) (length t) 
 node_depth-at : (t : List Node) (i : ℕ) (n : Node) → NamesLower t → slice_get t i ≡ Some n → depth t i ≡ suc (start_depth t (answers_of n))
 node_depth-at t i n lower e = depth-step t lower i ∙ ap (λ (o : Option Node). node_depth o (depth t)) e
 
-last_node : (t : List Node) (n : Node) → slice_get (t ++ n ∷ []) (length t) ≡ Some n
+pub last_node : (t : List Node) (n : Node) → slice_get (t ++ n ∷ []) (length t) ≡ Some n
 last_node [] n = refl
 last_node (m ∷ t) n = last_node t n
 
@@ -131,3 +132,22 @@ lookup-below t u i n q o ok same low here e =
     let count : length t ≡ length u = ap length same in
     let within : i < length t = omega (arith, count) in
     answer_lower (answers_of n) i q o (ok.nodes i n (slice_get_read t (length t) i n refl within here)).below e
+
+-- the node that wins at once in the corner
+abbrev pub corner : Node
+corner = record { attack = record { x = 0; y = 0 }; replies = []; rest = Wins }
+
+corner_node : (i : ℕ) → IsNode corner i
+corner_node i = record { below = refl; rising = refl; winning = λ wins. refl }
+
+pub filled_table : (m : ℕ) (nodes : List Node) → IsTable nodes → length nodes + m ≤ MAX_NODES → IsTable (nodes ++ replicate m corner)
+filled_table zero nodes table few = subst IsTable (sym (append-nil nodes)) table
+filled_table (suc m) nodes table few =
+    let count = length-append nodes (corner ∷ []) in
+    subst IsTable (append_assoc nodes (corner ∷ []) (replicate m corner)) (filled_table m (nodes ++ corner ∷ []) (IsTable-push nodes corner table (corner_node (length nodes)) (omega arith)) (omega (arith, count)))
+
+pub filled_length : (m : ℕ) (nodes : List Node) → length (nodes ++ replicate m corner) ≡ length nodes + m
+filled_length m nodes = length-append nodes (replicate m corner) ∙ ap (λ n. length nodes + n) (length-replicate m corner)
+
+pub node_at : (ns : List Node) (i : ℕ) → IsTable ns → i < length ns → IsNode (get_or ns i corner) i
+node_at ns i table within = table.nodes i (get_or ns i corner) (slice_get-get_or ns i corner within)

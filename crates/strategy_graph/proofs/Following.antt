@@ -1,25 +1,21 @@
 -- One move on from an accepted node or start: its attack is a legal move, and the node that answers a reply is accepted where it
 -- leads, and is no deeper.
-use Rattle.std.proofs.Common.{◌≡◌, ℕ, zero, suc, ◌<◌, ◌≤◌, List, [], ◌∷◌, length, refl, ap, subst, ◌∙◌, arith}
+use Rattle.std.proofs.Common.{◌≡◌, ℕ, zero, suc, ◌<◌, ◌≤◌, List, [], ◌∷◌, length, refl, ap, subst, ◌∙◌, arith, true, sym}
 use Rattle.std.specs.Prelude.{Option, Some, None, slice_get}
 use Rattle.std.specs.Option.{option_map, option_and_then}
-use Rattle.game_rules.specs.Grid.{Grid}
-use Rattle.game_rules.specs.Play.{outcome, after}
-use Rattle.game_rules.specs.Games.{WinsOr, LosesOr}
+use Rattle.game_rules.proofs.Common.{Grid, is_empty, outcome, after, WinsOr, LosesOr}
 use Rattle.game_rules.proofs.Games.{WinsOr-map}
 use Rattle.game_rules.specs.declared.RuleKind.{RuleKind}
 use Rattle.game_rules.specs.declared.Outcome.{Outcome}
 use Rattle.game_rules.specs.declared.Outcome.TheVariants.{GoesOn}
 use Rattle.game_rules.specs.declared.Point.{Point}
+use Rattle.game_rules.proofs.Outcomes.{empty_at}
 use Rattle.strategy_graph.specs.declared.Node.{Node}
-use Rattle.strategy_graph.specs.Tables.{Answers, answers_of, answer, answer_at, NamesLower, IsTable, depth, start_depth}
+use Rattle.strategy_graph.specs.Tables.{Answers, answers_of, answer, answer_at, IsTable, depth, start_depth}
 use Rattle.strategy_graph.specs.Acceptance.{Answered, NotWinning, Meets, AcceptedNode, AcceptedWithin, Accepted}
 use Rattle.strategy_graph.proofs.Answering.{answer-greatest}
 use Rattle.strategy_graph.proofs.Fuel.{accepted-step}
-
--- the nodes of a table name lower ones
-pub table-lower : (t : List Node) → IsTable t → NamesLower t
-table-lower t table = record { lower = λ i n at. (table.nodes i n at).below }
+use Rattle.strategy_graph.proofs.Filling.{IsTable-lower}
 
 -- ---- at a node
 
@@ -53,10 +49,18 @@ replies_by rule (Some n) Next b p e h go q =
 pub accepted-replies : (rule : RuleKind) (t : List Node) → IsTable t → (i : ℕ) (b : Grid) (p : Point) → option_map (λ n. n.attack) (slice_get t i) ≡ Some p → Accepted rule t i b → outcome rule b p ≡ GoesOn
     → (q : Point) → LosesOr (outcome rule (after b p) q) (Answered (answer_at t i q) (λ j. Accepted rule t j (after (after b p) q)))
 accepted-replies rule t table i b p e h go q =
-    replies_by rule (slice_get t i) (Accepted rule t) b p e (subst (λ (X : Type 0). X) (accepted-step t (table-lower t table) rule i b) h) go q
+    replies_by rule (slice_get t i) (Accepted rule t) b p e (subst (λ (X : Type 0). X) (accepted-step t (IsTable-lower t table) rule i b) h) go q
 
 -- ---- depths
 
 -- the node that answers a move at a start is no deeper than the start
 pub answer-no_deeper : (t : List Node) (a : Answers) (q : Point) (j : ℕ) → answer a q ≡ Some j → depth t j ≤ start_depth t a
 answer-no_deeper t a q j e = answer-greatest (depth t) a q j e
+
+-- the attack of an accepted node is an empty point
+pub attack_empty : (rule : RuleKind) (t : List Node) (i : ℕ) (b : Grid) (p : Point) → Accepted rule t i b → option_map (λ n. n.attack) (slice_get t i) ≡ Some p → is_empty b p ≡ true
+attack_empty rule t i b p accepted e =
+    let there = accepted-node rule t i b accepted in
+    let same : Some there.0.attack ≡ Some p = sym (ap (option_map (λ (n : Node). n.attack)) there.1) ∙ e in
+    let at : there.0.attack ≡ p = cc in
+    subst (λ (x : Point). is_empty b x ≡ true) at (empty_at rule b there.0.attack there.2)

@@ -1,16 +1,20 @@
 -- Depth, acceptance and arrivals of a node by those of the nodes that it names. The bound on the nodes that follow
 -- one another changes nothing once it is above the number of the node.
-use Rattle.std.proofs.Common.{◌≡◌, ℕ, zero, suc, ◌<◌, true, List, refl, sym, ap, ◌∙◌, arith}
+use Rattle.std.proofs.Common.{◌≡◌, ℕ, zero, suc, ◌<◌, true, List, refl, sym, ap, ◌∙◌, arith, ◌≤◌, false}
 use Rattle.std.specs.Prelude.{Option, Some, None, slice_get, nat_lt}
 use Rattle.std.specs.List.{list_all}
-use Rattle.game_rules.specs.Grid.{Grid}
+use Rattle.game_rules.proofs.Common.{Grid, outcome, after, WinsOr}
 use Rattle.game_rules.specs.declared.RuleKind.{RuleKind}
+use Rattle.game_rules.specs.declared.Point.{Point}
 use Rattle.strategy_graph.specs.declared.Node.{Node}
-use Rattle.strategy_graph.specs.Tables.{answers_of, named, names_below, NamesLower, node_depth, depth_within, depth}
-use Rattle.strategy_graph.specs.Acceptance.{AcceptedNode, AcceptedWithin, Accepted}
+use Rattle.strategy_graph.specs.Tables.{answers_of, named, names_below, NamesLower, node_depth, depth_within, depth, is_winning, answer}
+use Rattle.strategy_graph.specs.Acceptance.{AcceptedNode, AcceptedWithin, Accepted, NotWinning, Meets}
 use Rattle.strategy_graph.specs.Arrivals.{arrivals_behind, arrivals_within, arrivals}
 use Rattle.strategy_graph.specs.Renumbered.{renumbered_node}
 use Rattle.strategy_graph.proofs.Copies.{renumbered-same, depths-copied, accepted_node-copied, arrivals_behind-copied}
+use Rattle.strategy_graph.specs.declared.Rest.{Rest}
+use Rattle.strategy_graph.specs.declared.Rest.TheVariants.{Wins, To, Nothing}
+use Rattle.strategy_graph.proofs.Answering.{answer-greatest}
 use borrow.Author.Tests.{ltb-true}
 
 module _ (t : List Node) (lower : NamesLower t) where
@@ -64,3 +68,34 @@ module _ (t : List Node) (lower : NamesLower t) where
   arrivals-step rule i b =
       by_node ℕ (λ o. suc (arrivals_behind rule o (arrivals rule t) b)) (λ o. suc (arrivals_behind rule o (arrivals_within i rule t) b)) i refl
       (λ n all. ap suc (arrivals_behind-copied (λ j. j) _ n all rule (arrivals rule t) (arrivals_within i rule t) (λ j e c. arrivals_within-enough rule (suc j) i j c (omega arith) (ltb-true _ _ e)) b))
+
+-- a node that is accepted is there, and so has a depth of 1 or more
+pub accepted-deep : (rule : RuleKind) (t : List Node) (i : ℕ) (b : Grid) → Accepted rule t i b → 1 ≤ depth t i
+unfolding AcceptedWithin depth_within
+accepted-deep rule t i b h = by_node (slice_get t i) (AcceptedWithin i rule t) (depth_within i t) h where
+  by_node : (o : Option Node) (Next : ℕ → Grid → Type 0) (depth_at : ℕ → ℕ) → AcceptedNode rule o Next b → 1 ≤ node_depth o depth_at
+  by_node None Next depth_at h = absurd h
+  by_node (Some n) Next depth_at h = omega arith
+
+pub not_winning : (r : Rest) → NotWinning r → is_winning r ≡ false
+not_winning Wins h = absurd h
+not_winning (To j) h = refl
+not_winning Nothing h = refl
+
+pub depth_some : (t : List Node) (i : ℕ) (n : Node) (k : ℕ) → slice_get t i ≡ Some n → 1 ≤ depth_within (suc k) t i
+unfolding depth_within
+depth_some t i n k e = rw e (omega arith)
+
+-- the answer to a reply is less deep than the node
+pub deeper : (t : List Node) (i : ℕ) (n : Node) (k : ℕ) (q : Point) (j : ℕ) → slice_get t i ≡ Some n → answer (answers_of n) q ≡ Some j → depth_within k t j < depth_within (suc k) t i
+unfolding depth_within
+deeper t i n k q j e w = let low = answer-greatest (depth_within k t) (answers_of n) q j w in rw e (omega (arith, low))
+
+-- an accepted node is one of the table
+pub accepted_node : (rule : RuleKind) (t : List Node) (j : ℕ) (b : Grid) (f : ℕ) → AcceptedWithin f rule t j b → (k : ℕ) × (n : Node) × (f ≡ suc k) × (slice_get t j ≡ Some n) × WinsOr (outcome rule b n.attack) (NotWinning n.rest × ((q : Point) → Meets rule (answers_of n) (AcceptedWithin k rule t) (after b n.attack) q))
+unfolding AcceptedWithin
+accepted_node rule t j b zero h = absurd h
+accepted_node rule t j b (suc k) h = by_cases (slice_get t j) refl h where
+  by_cases : (o : Option Node) → slice_get t j ≡ o → AcceptedNode rule o (AcceptedWithin k rule t) b → (k' : ℕ) × (n : Node) × (suc k ≡ suc k') × (slice_get t j ≡ Some n) × WinsOr (outcome rule b n.attack) (NotWinning n.rest × ((q : Point) → Meets rule (answers_of n) (AcceptedWithin k' rule t) (after b n.attack) q))
+  by_cases None e w = absurd w
+  by_cases (Some n) e w = (k, n, refl, e, w)

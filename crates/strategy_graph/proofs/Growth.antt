@@ -17,7 +17,7 @@ has_node [] more i l = absurd (omega arith)
 has_node (n ∷ t) more zero l = (n, refl, refl)
 has_node (n ∷ t) more (suc i) l = has_node t more i (omega arith)
 
-list_all-weaker : (p q : ℕ → Bool) → ((j : ℕ) → p j ≡ true → q j ≡ true) → (js : List ℕ) → list_all p js ≡ true → list_all q js ≡ true
+pub list_all-weaker : (p q : ℕ → Bool) → ((j : ℕ) → p j ≡ true → q j ≡ true) → (js : List ℕ) → list_all p js ≡ true → list_all q js ≡ true
 list_all-weaker p q f [] h = refl
 list_all-weaker p q f (j ∷ js) h = rw (f j (and_left (p j) _ h), list_all-weaker p q f js (and_right (p j) _ h)) refl
 

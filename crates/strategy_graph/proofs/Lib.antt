@@ -21,6 +21,11 @@ pub mod RootLaws
 pub mod Steps
 -- games end well; one step of a game
 mod Endings
-mod Plays
+pub mod Plays
 -- one move on from an accepted node or start
 pub mod Following
+-- nodes at their places; the greatest of what a list of nodes gives; nodes that are related place by place
+pub mod Lookups
+pub mod Greatest
+pub mod Pairs
+pub mod Accepting

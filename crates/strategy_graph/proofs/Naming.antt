@@ -1,6 +1,6 @@
 -- The nodes that answers name, and the greatest of their depths.
-use Rattle.std.proofs.Common.{◌≡◌, ℕ, ◌+◌, ◌<◌, max, Bool, true, false, ◌&&◌, List, [], ◌∷◌, ◌++◌, map, length, get_or, drop, drop-cons, add-one, refl, sym, ap, ◌∙◌, arith}
-use Rattle.std.specs.Prelude.{nat_lt, Some, None}
+use Rattle.std.proofs.Common.{◌≡◌, ℕ, ◌+◌, ◌<◌, max, Bool, true, false, ◌&&◌, List, [], ◌∷◌, ◌++◌, map, length, get_or, drop, drop-cons, add-one, refl, sym, ap, ◌∙◌, arith, subst}
+use Rattle.std.specs.Prelude.{nat_lt, Some, None, All}
 use Rattle.std.specs.List.{list_all}
 use Rattle.std.proofs.lemmas.List.Folds.{list_all-append, list_all-map}
 use Rattle.std.proofs.lemmas.List.Sums.{AllPass-from_list_all}
@@ -70,3 +70,7 @@ greatest-none d a m e h = greatest-parts d a ∙ ap (λ (k : ℕ). max k (greate
 
 pub greatest-some : (d : ℕ → ℕ) (a : Answers) (m j : ℕ) → rest_node a.rest ≡ Some j → m ≡ d j → greatest (map d (named a)) ≡ max m (greatest_listed d a.replies)
 greatest-some d a m j e h = greatest-parts d a ∙ ap (λ (k : ℕ). max k (greatest_listed d a.replies)) (greatest_rest-some d a.rest j e ∙ sym h)
+
+-- the listed replies name nodes below k where all that is named is
+pub replies-below : (a : Answers) (k : ℕ) (rs : List Reply) → rs ≡ a.replies → names_below a k ≡ true → All (λ r. r.next < k) rs
+replies-below a k rs e h = subst (All (λ r. r.next < k)) (sym e) (λ i d l. reply-below a k i d h l)

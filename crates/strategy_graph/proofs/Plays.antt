@@ -1,15 +1,15 @@
 -- One step of a game against a table, and of its attacks: what a player that follows a table needs.
-use Rattle.std.proofs.Common.{◌≡◌, ℕ, false, List, [], ◌∷◌, refl}
-use Rattle.std.specs.Prelude.{Some, slice_get}
-use Rattle.game_rules.specs.Grid.{Grid}
-use Rattle.game_rules.specs.Play.{outcome, after}
+use Rattle.std.proofs.Common.{◌≡◌, ℕ, false, List, [], ◌∷◌, refl, Bool, true, cond, ap}
+use Rattle.std.specs.Prelude.{Some, slice_get, Option, None}
+use Rattle.game_rules.proofs.Common.{Grid, outcome, after}
 use Rattle.game_rules.specs.declared.RuleKind.{RuleKind}
 use Rattle.game_rules.specs.declared.Foul.{Foul}
 use Rattle.game_rules.specs.declared.Outcome.TheVariants.{Refused, Wins as WinsNow, Fouls, GoesOn}
 use Rattle.game_rules.specs.declared.Point.{Point}
+use Rattle.game_rules.specs.declared.Outcome.{Outcome}
 use Rattle.strategy_graph.specs.declared.Node.{Node}
 use Rattle.strategy_graph.specs.Tables.{answers_of, answer, is_winning}
-use Rattle.strategy_graph.specs.Games.{Won, Open, IllegalReply, one_later, game, attacks}
+use Rattle.strategy_graph.specs.Games.{Won, Open, IllegalReply, one_later, game, attacks, points_on, attacks_at}
 
 module _ (rule : RuleKind) (t : List Node) (i : ℕ) (b : Grid) (n : Node) (at : slice_get t i ≡ Some n) where
   -- an attack that wins ends the game, whatever the replies
@@ -55,3 +55,15 @@ module _ (rule : RuleKind) (t : List Node) (i : ℕ) (b : Grid) (n : Node) (at :
       pub attacks-next : (j : ℕ) → outcome rule (after b n.attack) q ≡ GoesOn → answer (answers_of n) q ≡ Some j → attacks rule t i b (q ∷ qs) ≡ n.attack ∷ attacks rule t j (after (after b n.attack) q) qs
       unfolding attacks
       attacks-next j e w = rw (at, o, r, e, w) refl
+
+pub none_on : (o : Outcome) (r : Bool) → points_on o (cond r [] []) ≡ []
+none_on GoesOn true = refl
+none_on GoesOn false = refl
+none_on _ r = refl
+
+pub first_at : (rule : RuleKind) (b : Grid) (o : Option Node) (n : Node) (next : Node → List Point) → o ≡ Some n → (rest : List Point) × (attacks_at rule o b next ≡ n.attack ∷ rest)
+first_at rule b None n next e = cc
+first_at rule b (Some m) n next e =
+    let same : m ≡ n = cc in
+    let rest = points_on (outcome rule b m.attack) (cond (is_winning m.rest) [] (next m)) in
+    (rest, ap (λ (x : Node). x.attack ∷ rest) same)

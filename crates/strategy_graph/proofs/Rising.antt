@@ -1,17 +1,18 @@
 -- Replies that rise strictly in reading order.
-use Rattle.std.proofs.Common.{◌≡◌, ℕ, zero, suc, ◌+◌, ◌≤◌, ◌<◌, Bool, true, false, cond, ◌&&◌, ◌||◌, ◌==◌, List, [], ◌∷◌, length, get_or, drop, drop-cons, add-one, refl, sym, ap, ◌∙◌, arith}
-use Rattle.std.specs.Prelude.{nat_lt, Some, None}
-use Rattle.std.specs.List.{list_all, filter}
+use Rattle.std.proofs.Common.{◌≡◌, ℕ, zero, suc, ◌+◌, ◌≤◌, ◌<◌, Bool, true, false, cond, ◌&&◌, List, [], ◌∷◌, length, get_or, drop, drop-cons, add-one, refl, sym, ap, ◌∙◌, arith, map}
+use Rattle.std.specs.Prelude.{Some, None, Option, All, Contains, nat_lt}
+use Rattle.std.specs.List.{list_all, filter, find, AllByRecursion}
 use Rattle.std.proofs.lemmas.List.Sums.{AllPass-from_list_all}
 use Rattle.std.proofs.Math.ListN.{drop_of_length-le}
-use Rattle.std.proofs.lemmas.Bool.Decides.{nat_tests}
-use Rattle.game_rules.specs.Shapes.{is_same_point}
-use Rattle.game_rules.specs.Points.{precedes}
+use Rattle.std.specs.Option.{option_map, option_or}
+use Rattle.std.proofs.lemmas.List.{length-map, get_or-map}
+use borrow.Author.Tests.{lt-ltb}
+use Rattle.game_rules.proofs.Common.{is_same_point, precedes}
 use Rattle.game_rules.specs.declared.Point.{Point}
 use Rattle.strategy_graph.specs.declared.Reply.{Reply}
-use Rattle.strategy_graph.specs.Tables.{is_rising, listed_node}
+use Rattle.strategy_graph.specs.Tables.{is_rising, listed_node, Answers, answer, rest_node}
 use Rattle.game_rules.proofs.Boards.{and_left, and_right}
-use Rattle.game_rules.proofs.Points.{is_same_point-itself, precedes-trans, precedes-differs, precedes-differs_back}
+use Rattle.game_rules.proofs.Points.{is_same_point-itself, precedes-trans, precedes-differs, precedes-differs_back, is_same_point-same}
 
 -- each reply comes after the one before it, and the first after p
 abbrev pub climbs : Point → List Reply → Bool
@@ -99,3 +100,72 @@ falls-at rs r os last i d e h l not_after =
 
 pub rises-to : (rs : List Reply) (r : Reply) (os : List Reply) (last : Point) (i : ℕ) → rs ≡ r ∷ os → climbs r.at os ≡ climbs last (drop i os) → length os ≤ i → true ≡ is_rising rs
 rises-to rs r os last i e h l = sym (ap is_rising e ∙ is_rising-climbs r os ∙ h ∙ ap (climbs last) (drop_of_length-le os l))
+
+pub next-filter : (p : ℕ → Bool) (q : Reply → Bool) (rs : List Reply) → list_all p (map (λ r. r.next) rs) ≡ true → list_all p (map (λ r. r.next) (filter q rs)) ≡ true
+next-filter p q [] h = refl
+next-filter p q (r ∷ rs) h = by_test (q r) (next-filter p q rs (and_right (p r.next) _ h)) where
+  by_test : (b : Bool) → list_all p (map (λ r. r.next) (filter q rs)) ≡ true → list_all p (map (λ r. r.next) (cond b (r ∷ filter q rs) (filter q rs))) ≡ true
+  by_test true k = rw (and_left (p r.next) _ h) k
+  by_test false k = k
+
+-- the first of rising replies, and those after it
+listed-first : (q : Reply → Bool) (r : Reply) (rs : List Reply) → list_all (λ s. precedes r.at s.at) rs ≡ true → listed_node (filter q (r ∷ rs)) r.at ≡ cond (q r) (Some r.next) None
+listed-first q r rs h = by_test (q r) where
+  by_test : (b : Bool) → listed_node (cond b (r ∷ filter q rs) (filter q rs)) r.at ≡ cond b (Some r.next) None
+  by_test true = ap (λ (b : Bool). option_map (λ r. r.next) (cond b (Some r) (find (λ s. is_same_point s.at r.at) (filter q rs)))) (is_same_point-itself r.at)
+  by_test false = none_listed q r.at rs h
+
+listed-skips : (q : Reply → Bool) (r : Reply) (rs : List Reply) (p : Point) → precedes r.at p ≡ true → listed_node (filter q (r ∷ rs)) p ≡ listed_node (filter q rs) p
+listed-skips q r rs p h = by_test (q r) where
+  by_test : (b : Bool) → listed_node (cond b (r ∷ filter q rs) (filter q rs)) p ≡ listed_node (filter q rs) p
+  by_test true = ap (λ (b : Bool). option_map (λ r. r.next) (cond b (Some r) (find (λ s. is_same_point s.at p) (filter q rs)))) (precedes-differs r.at p h)
+  by_test false = refl
+
+-- each reply that is kept is listed with its node, and no other is
+unfoldable pub Kept : (Reply → Bool) → List Reply → Reply → Type 0
+Kept q rs r = listed_node (filter q rs) r.at ≡ cond (q r) (Some r.next) None
+
+kept_more : (q : Reply → Bool) (r : Reply) (rs ss : List Reply) → list_all (λ s. precedes r.at s.at) ss ≡ true → AllByRecursion (Kept q rs) ss → AllByRecursion (Kept q (r ∷ rs)) ss
+unfolding Kept
+kept_more q r rs [] h k = tt
+kept_more q r rs (s ∷ ss) h k =
+    (listed-skips q r rs s.at (and_left (precedes r.at s.at) _ h) ∙ k.0, kept_more q r rs ss (and_right (precedes r.at s.at) _ h) k.1)
+
+pub kept_all : (q : Reply → Bool) (rs : List Reply) → is_rising rs ≡ true → AllByRecursion (Kept q rs) rs
+unfolding Kept
+kept_all q [] h = tt
+kept_all q (r ∷ rs) h =
+    let after : list_all (λ s. precedes r.at s.at) rs ≡ true = and_left _ (is_rising rs) h in
+    (listed-first q r rs after, kept_more q r rs rs after (kept_all q rs (and_right (list_all (λ s. precedes r.at s.at) rs) _ h)))
+
+-- the answers to the replies, as given
+abbrev pub AnsweredAsGiven : Answers → List Reply → Type 0
+AnsweredAsGiven a rs = AllByRecursion (λ r. answer a r.at ≡ Some r.next) rs
+
+filter-all : (rs : List Reply) → filter (λ r. true) rs ≡ rs
+filter-all [] = refl
+filter-all (r ∷ rs) = ap (λ (xs : List Reply). r ∷ xs) (filter-all rs)
+
+-- each reply of a rising list is answered as it is listed
+pub answered-as-listed : (a : Answers) → is_rising a.replies ≡ true → AllByRecursion (λ r. answer a r.at ≡ Some r.next) a.replies
+unfolding Kept
+answered-as-listed a h = each a.replies (kept_all (λ r. true) a.replies h) where
+  each : (rs : List Reply) → AllByRecursion (Kept (λ r. true) a.replies) rs → AllByRecursion (λ r. answer a r.at ≡ Some r.next) rs
+  each [] k = tt
+  each (r ∷ rs) k = (ap (λ (o : Option ℕ). option_or o (rest_node a.rest)) (sym (ap (λ (xs : List Reply). listed_node xs r.at) (filter-all a.replies)) ∙ k.0), each rs k.1)
+
+-- it names no points but those given
+pub point-given : (rs : List Reply) → All (λ r. Contains (map (λ r. r.at) rs) r.at) rs
+point-given rs = λ k d l. (k, let long = length-map rs (λ (r : Reply). r.at) in omega (arith, long, l), get_or-map (λ (r : Reply). r.at) rs k d (get_or rs k d).at l)
+
+-- a reply that is listed is answered as given
+pub listed-given : (a : Answers) (rs : List Reply) (q : Point) (j : ℕ) → AnsweredAsGiven a rs → listed_node rs q ≡ Some j → answer a q ≡ Some j
+listed-given a [] q j given e = cc
+listed-given a (r ∷ rs) q j given e = by_test (is_same_point r.at q) refl e (listed-given a rs q j given.1) where
+  by_test : (b : Bool) → is_same_point r.at q ≡ b → option_map (λ r. r.next) (cond b (Some r) (find (λ r. is_same_point r.at q) rs)) ≡ Some j → (listed_node rs q ≡ Some j → answer a q ≡ Some j) → answer a q ≡ Some j
+  by_test true same e next = ap (answer a) (sym (is_same_point-same r.at q same)) ∙ given.0 ∙ e
+  by_test false same e next = next e
+
+pub all-next : (rs : List Reply) (k : ℕ) → All (λ r. r.next < k) rs → list_all (λ j. nat_lt j k) (map (λ r. r.next) rs) ≡ true
+all-next [] k h = refl
+all-next (r ∷ rs) k h = rw (lt-ltb r.next k (h 0 r (omega arith))) (all-next rs k (λ i d l. h (suc i) d (omega arith)))

@@ -1,19 +1,14 @@
 -- An accepted node, and an accepted start, wins within its depth.
-use Rattle.std.proofs.Common.{ℕ, zero, suc, ◌≤◌, map, List, refl}
-use Rattle.std.specs.Prelude.{Option, Some, None, slice_get, true}
-use Rattle.game_rules.specs.Grid.{Grid}
-use Rattle.game_rules.specs.Play.{outcome, after}
-use Rattle.game_rules.specs.Games.{LosesOr, WinsWithin, WinsAfter}
-use Rattle.game_rules.proofs.Games.{WinsOr-map, LosesOr-map, WinsUnder-more}
+use Rattle.std.proofs.Common.{ℕ, zero, suc, map, List, refl}
+use Rattle.std.specs.Prelude.{Option, Some, None, slice_get}
+use Rattle.game_rules.proofs.Common.{Grid, outcome, after, LosesOr, WinsWithin, WinsAfter}
+use Rattle.game_rules.proofs.Games.{WinsOr-map, LosesOr-map, WinsWithin-more}
 use Rattle.game_rules.specs.declared.RuleKind.{RuleKind}
 use Rattle.game_rules.specs.declared.Point.{Point}
 use Rattle.strategy_graph.specs.declared.Node.{Node}
 use Rattle.strategy_graph.specs.Tables.{Answers, answers_of, answer, named, greatest, node_depth, depth_within, depth, start_depth}
 use Rattle.strategy_graph.specs.Acceptance.{Meets, AcceptedNode, AcceptedWithin, Accepted, AcceptedStart}
 use Rattle.strategy_graph.proofs.Answering.{answer-greatest, Answered-elim}
-
-WinsWithin-more : (rule : RuleKind) (n m : ℕ) (b : Grid) → n ≤ m → WinsWithin rule n b → WinsWithin rule m b
-WinsWithin-more rule n m b l h = WinsUnder-more (λ c s. true) rule n m b l h
 
 -- a reply that is met loses within the greatest depth of the nodes that are named
 met_loses : (rule : RuleKind) (a : Answers) (Next : ℕ → Grid → Type 0) (d : ℕ → ℕ) → ((j : ℕ) (c : Grid) → Next j c → WinsWithin rule (d j) c) → (b : Grid) (q : Point) → Meets rule a Next b q → LosesOr (outcome rule b q) (WinsWithin rule (greatest (map d (named a))) (after b q))

@@ -1,19 +1,18 @@
 -- One step of acceptance, of arrivals and of a line to a fault, at a node and at a reply, and over the replies so
 -- far: what a checker of tables needs.
-use Rattle.std.proofs.Common.{◌≡◌, ℕ, suc, ◌+◌, ◌≤◌, Bool, true, false, cond, ◌||◌, List, [], ◌∷◌, ◌++◌, refl, sym, ap, subst, ◌∙◌, arith}
+use Rattle.std.proofs.Common.{◌≡◌, ℕ, suc, ◌+◌, ◌≤◌, Bool, true, false, cond, List, [], ◌∷◌, ◌++◌, refl, sym, ap, subst, ◌∙◌, arith}
 use Rattle.std.specs.Prelude.{Option, Some, None, slice_get}
-use Rattle.std.specs.List.{All, list_any}
+use Rattle.std.specs.List.{All}
 use Rattle.std.proofs.lemmas.List.Sums.{sum_by-append}
-use Rattle.game_rules.specs.Grid.{Grid, is_on, points_of}
-use Rattle.game_rules.specs.Shapes.{is_same_point}
-use Rattle.game_rules.specs.Play.{outcome, after}
-use Rattle.game_rules.specs.Games.{WinsOr, LosesOr, if_goes_on}
+use Rattle.game_rules.proofs.Common.{Grid, is_on, points_of, is_same_point, outcome, after, WinsOr, LosesOr, if_goes_on}
 use Rattle.game_rules.specs.declared.RuleKind.{RuleKind}
 use Rattle.game_rules.specs.declared.Foul.{Foul}
 use Rattle.game_rules.specs.declared.Outcome.{Outcome}
-use Rattle.game_rules.specs.declared.Outcome.TheVariants.{Refused, Wins as WinsNow, Fouls, Draws, GoesOn}
+use Rattle.game_rules.specs.declared.Outcome.TheVariants.{Refused, Wins as WinsNow, Fouls, GoesOn}
 use Rattle.game_rules.specs.declared.Point.{Point}
-use Rattle.game_rules.proofs.Points.{points-found, off_refused, is_same_point-itself, is_same_point-same}
+use Rattle.game_rules.proofs.Points.{points-found, off_refused, is_same_point-itself}
+use Rattle.game_rules.proofs.Outcomes.{if_goes_on-stops, if_goes_on-none}
+use Rattle.game_rules.proofs.PointLists.{found_all}
 use Rattle.strategy_graph.specs.declared.Rest.{Rest}
 use Rattle.strategy_graph.specs.declared.Rest.TheVariants.{Wins, To, Nothing}
 use Rattle.strategy_graph.specs.declared.Node.{Node}
@@ -28,20 +27,6 @@ NotWinning-by : (r : Rest) → is_winning r ≡ false → NotWinning r
 NotWinning-by Wins h = cc
 NotWinning-by (To j) h = tt
 NotWinning-by Nothing h = tt
-
-if_goes_on-stops : (u : Outcome) (m : ℕ) → (u ≡ GoesOn → ⊥) → if_goes_on u m ≡ 0
-if_goes_on-stops Refused m h = refl
-if_goes_on-stops WinsNow m h = refl
-if_goes_on-stops (Fouls f) m h = refl
-if_goes_on-stops Draws m h = refl
-if_goes_on-stops GoesOn m h = absurd (h refl)
-
-if_goes_on-none : (u : Outcome) → if_goes_on u 0 ≡ 0
-if_goes_on-none Refused = refl
-if_goes_on-none WinsNow = refl
-if_goes_on-none (Fouls f) = refl
-if_goes_on-none Draws = refl
-if_goes_on-none GoesOn = refl
 
 -- an arrival count is at least 1
 pub arrivals-positive : (rule : RuleKind) (t : List Node) (i : ℕ) (b : Grid) → 1 ≤ arrivals rule t i b
@@ -124,13 +109,6 @@ module _ (rule : RuleKind) (t : List Node) (a : Answers) (c : Grid) (q : Point) 
   arrivals-stops u e stops = ap (λ (v : Outcome). if_goes_on v (if_answered (answer a q) (λ j. arrivals rule t j (after c q)))) e ∙ if_goes_on-stops u _ stops
 
 -- ---- over the replies so far
-
-found_all : (P : Point → Type 0) (q : Point) (xs : List Point) → All P xs → list_any (is_same_point q) xs ≡ true → P q
-found_all P q [] all h = cc
-found_all P q (x ∷ xs) all h = by_test (is_same_point q x) refl h (found_all P q xs (λ j d l. all (suc j) d (omega arith))) where
-  by_test : (r : Bool) → is_same_point q x ≡ r → (r || list_any (is_same_point q) xs) ≡ true → (list_any (is_same_point q) xs ≡ true → P q) → P q
-  by_test true e k later = subst P (sym (is_same_point-same q x e)) (all 0 q (omega arith))
-  by_test false e k later = later k
 
 -- once each point of the board is met as a reply, each reply is
 pub met-all : (rule : RuleKind) (t : List Node) (a : Answers) (c : Grid) → All (λ q. Meets rule a (Accepted rule t) c q) (points_of c) → (q : Point) → Meets rule a (Accepted rule t) c q

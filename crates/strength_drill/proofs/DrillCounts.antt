@@ -326,11 +326,6 @@ only-counts n c is = record {
   games = (counts-won n POSITIONS c is.0 is.1).1;
 }
 
--- what holds of an answer holds of it in other words
-pub ok-map : {T E : Type 0} (r : Result T E) (P Q : T → Type 0) → ((x : T) → P x → Q x) → IfOk r P → IfOk r Q
-ok-map (Ok x) P Q f h = f x h
-ok-map (Err e) P Q f h = h
-
 -- ---- the table of a win
 
 -- the last node is one of the table

@@ -1,8 +1,6 @@
 -- A game of the drill as it goes: its first move by the table, the state of the brain after so many turns, and how the game ends.
-use Rattle.std.specs.Prelude.{◌≢◌, Some, None, unwrap_or}
-use Rattle.std.specs.Option.{option_or}
-use Rattle.std.specs.List.{find, list_any}
-use Rattle.std.proofs.Common.{◌≡◌, refl, sym, ap, subst, ◌∙◌, ℕ, ◌*◌, ◌≤◌, [], ◌∷◌, length, arith, ◌⊎◌, inl, inr, ◌+◌, ◌<◌, Bool, true, false, cond, List, add-one}
+use Rattle.std.specs.Prelude.{◌≢◌, Some, None}
+use Rattle.std.proofs.Common.{◌≡◌, refl, sym, ap, subst, ◌∙◌, ℕ, ◌*◌, ◌≤◌, [], ◌∷◌, length, arith, ◌⊎◌, inl, inr, ◌+◌, ◌<◌, Bool, true, false, add-one}
 use Rattle.std.proofs.lemmas.List.Sums.{count_by-le-length}
 use Rattle.std.proofs.lemmas.Bool.{cases_lt}
 use Rattle.game_rules.specs.Grid.{Grid, is_empty_cell, empties_of, points_of, is_empty}
@@ -12,7 +10,7 @@ use Rattle.game_rules.specs.declared.Outcome.TheVariants.{Wins as WinsNow, GoesO
 use Rattle.game_rules.specs.declared.Point.{Point}
 use Rattle.game_rules.proofs.Boards.{is_empty-on}
 use Rattle.game_rules.proofs.Points.{points-found}
-use Rattle.game_rules.proofs.Places.{find-some}
+use Rattle.game_rules.proofs.PointLists.{found-either}
 use Rattle.stone_board.specs.Order.{points_left}
 use Rattle.strategy_graph.specs.declared.roots.Root.TheVariants.{Attack}
 use Rattle.strategy_checker.specs.HeldRoots.{HeldTable, IsHeld}
@@ -28,10 +26,11 @@ use Rattle.brain_session.specs.ChosenMoves.{plain_move}
 use Rattle.brain_session.proofs.HeldGames.{begins, stands_where}
 use Rattle.brain_session.proofs.LawfulStates.{IsKept, next-lawful, new-lawful}
 use Rattle.brain_session.proofs.LegalMoves.{plain-is_empty}
+use Rattle.brain_session.proofs.BatchStones.{stones_at}
 use Rattle.strength_drill.specs.declared.positions.TheConstants.{SIDE}
 use Rattle.strength_drill.specs.DrillGames.{wish_of, position_lines, told_all, state_begun, board_now, is_ended, move_said, says_foul, board_point, drawn_move, drawn_turn, after_turns, IsGamePlayed}
 use Rattle.strength_drill.specs.Draws.{next_number, drawn, number_after}
-use Rattle.strength_drill.proofs.DrillTelling.{stones_at, batch_read, told-position, told-kept, wish-rule, begins-held}
+use Rattle.strength_drill.proofs.DrillTelling.{batch_read, told-position, told-kept, wish-rule, begins-held}
 use Rattle.strength_drill.proofs.DrillTurns.{IsPlaying, IsOver, IsFouled, IsAnswered, attacks, over-now, going-now, board-then, lawful-then, reply-met}
 use Rattle.strength_drill.proofs.DrillMaking.{number-next, number-none}
 
@@ -95,13 +94,6 @@ opened-as h rule b told s wide high lawful root is next held =
     subst (λ (t : State). IsOpened h rule b (brain_step t Done)) (sym is) (opened h rule b root.0 wide high lawful (subst IsHeld still held) root.1)
 
 -- ---- a drawn move is at an empty point
-
-found-either : (f : Point → Bool) (ps qs : List Point) (d : Point) → list_any f qs ≡ true → f (unwrap_or (option_or (find f ps) (find f qs)) d) ≡ true
-found-either f [] qs d h = find-some f qs d h
-found-either f (x ∷ ps) qs d h = by_test (f x) refl (found-either f ps qs d h) where
-  by_test : (r : Bool) → f x ≡ r → f (unwrap_or (option_or (find f ps) (find f qs)) d) ≡ true → f (unwrap_or (option_or (cond r (Some x) (find f ps)) (find f qs)) d) ≡ true
-  by_test true e rest = e
-  by_test false e rest = rest
 
 pub drawn-empty : (rule : RuleKind) (b : Grid) → IsPosition rule b → (v : ℕ) → is_empty b (drawn_move b v) ≡ true
 drawn-empty rule b lawful v =

@@ -13,6 +13,7 @@ use Rattle.game_rules.specs.declared.Outcome.TheVariants.{Refused, Wins as WinsN
 use Rattle.game_rules.specs.declared.Point.{Point}
 use Rattle.game_rules.proofs.Boards.{empties_of-put}
 use Rattle.game_rules.proofs.Positions.{GoesOn-empty}
+use Rattle.game_rules.proofs.Outcomes.{moved, wins_or_goes_on}
 use Rattle.strategy_graph.specs.declared.Node.{Node}
 use Rattle.strategy_graph.specs.Tables.{answers_of, answer}
 use Rattle.strategy_graph.specs.Acceptance.{Answered, NotWinning, Meets, AcceptedWithin}
@@ -25,7 +26,6 @@ use Rattle.brain_session.specs.declared.Reaction.TheVariants.{Says}
 use Rattle.brain_session.specs.States.{Game, board_of, InGame, State}
 use Rattle.brain_session.specs.ChosenMoves.{Choice}
 use Rattle.brain_session.specs.Steps.{Step, rule_of, if_supported, same_side, with_move, move_row, row_of, with_choice, step_by, brain_step}
-use Rattle.brain_session.proofs.Courses.{moved}
 use Rattle.brain_session.proofs.HeldSteps.{other_side, state_in, by_node, StandsIn, row_then, next_stands, lawful_then, turn_then, parts}
 use Rattle.strength_drill.specs.declared.positions.TheConstants.{SIDE}
 use Rattle.strength_drill.specs.DrillGames.{board_now, is_ended, moves_by, moves_of_brain, last_wins, is_won}
@@ -61,11 +61,6 @@ same_side-itself White = refl
 
 own-turn : (t s : Side) → t ≡ s → same_side t s ≡ true
 own-turn t s e = ap (λ (x : Side). same_side x s) e ∙ same_side-itself s
-
-wins_or_goes_on : (o : Outcome) (W : Type 0) → WinsOr o W → (o ≡ WinsNow) ⊎ (o ≡ GoesOn)
-wins_or_goes_on WinsNow W h = inl refl
-wins_or_goes_on GoesOn W h = inr refl
-wins_or_goes_on _ W h = absurd h
 
 -- what comes of a TURN at q: a foul, with which the game is over, or the brain's next move
 pub record IsFouled (step : Step) (moves : ℕ) : Type 0 where

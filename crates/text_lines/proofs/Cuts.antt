@@ -13,6 +13,7 @@ use Rattle.std.proofs.lemmas.Bool.Decides.{Decides-eqb}
 use Rattle.std.proofs.lemmas.List.{take_at}
 use Rattle.std.proofs.lemmas.Slice.Eq.{slice_eq-Decides}
 use Rattle.std.proofs.Math.Seq.{take-length}
+use Rattle.game_rules.proofs.Boards.{and_right}
 use Rattle.text_lines.specs.Reading.{Reads, is_free, tail_text}
 
 prefix_all_by : (test : ℕ → Bool) (x : ℕ) (xs : List ℕ) (r : Bool) → test x ≡ r → list_all test (take (prefix_len test xs) xs) ≡ true → list_all test (take (cond r (1 + prefix_len test xs) 0) (x ∷ xs)) ≡ true
@@ -70,10 +71,6 @@ test_not b s rest h e =
     let no : false ≡ true = sym (ap (λ (r : Bool). not r && rest) same) ∙ h in
     false≢true no
 
-test_rest : (r rest : Bool) → (r && rest) ≡ true → rest ≡ true
-test_rest true rest h = h
-test_rest false rest h = absurd (false≢true h)
-
 tails_same : (s : ℕ) (x y : Option (List ℕ)) → tail_text s x ≡ tail_text s y → x ≡ y
 tails_same s None None h = refl
 tails_same s None (Some r) h = absurd cc
@@ -92,7 +89,7 @@ same_word s (b ∷ a) x [] y fa fc h = absurd (empty_word s b (a ++ tail_text s 
 same_word s (b ∷ a) x (d ∷ c) y fa fc h =
     let first : b ≡ d = cc in
     let others : a ++ tail_text s x ≡ c ++ tail_text s y = cc in
-    let rest = same_word s a x c y (test_rest (not (eqb b s)) (is_free s a) fa) (test_rest (not (eqb d s)) (is_free s c) fc) others in
+    let rest = same_word s a x c y (and_right (not (eqb b s)) (is_free s a) fa) (and_right (not (eqb d s)) (is_free s c) fc) others in
     ((let e = rest.0 in cc), rest.1)
 
 pub is_free-append : (s : ℕ) (a b : List ℕ) → is_free s a ≡ true → is_free s b ≡ true → is_free s (a ++ b) ≡ true

@@ -4,6 +4,7 @@ use Rattle.std.specs.Prelude.{Option, Some, None, Result, Ok, Err}
 use Rattle.std.specs.List.{flat_map, AllByRecursion}
 use Rattle.std.proofs.lemmas.List.{append-nil}
 use Rattle.std.proofs.lemmas.List.Concat.{flat_map-append}
+use Rattle.game_rules.proofs.Tests.{all_push}
 use Rattle.text_lines.specs.Spellings.{space}
 use Rattle.text_lines.specs.declared.fault.Fault.{Fault}
 use Rattle.text_lines.specs.declared.fault.Fault.TheVariants.{Bad, Memory}
@@ -56,10 +57,6 @@ first_item {X} Fits item items text word t (v ∷ vs) parts free fits e =
     let whole : text ≡ item v ++ items_text item vs = cc in
     let same = same_word space word t (item v) tail.0 free (items.free v fits.0) (sym parts ∙ whole ∙ ap (λ (r : List ℕ). item v ++ r) tail.1) in
     (v, vs, refl, fits.0, fits.1, same.0, ap (tail_text space) same.1 ∙ sym tail.1)
-
-pub all_push : {X : Type 0} (Fits : X → Type 0) (vs : List X) (v : X) → AllByRecursion Fits vs → Fits v → AllByRecursion Fits (vs ++ v ∷ [])
-all_push Fits [] v all fit = (fit, tt)
-all_push Fits (u ∷ us) v all fit = (all.0, all_push Fits us v all.1 fit)
 
 pub stops : {X : Type 0} (Fits : X → Type 0) (item : X → List ℕ) (items : AreItems Fits item) (vs : List X) (text word : List ℕ) (t : Option (List ℕ)) (whole : List ℕ) → Follows Fits item vs (space ∷ text) whole → text ≡ word ++ tail_text space t → is_free space word ≡ true → ((v : X) → Fits v → word ≡ item v → ⊥) → (ws : List X) → AllByRecursion Fits ws → whole ≡ items_text item ws → ⊥
 stops Fits item items vs text word t whole h parts free none ws fits e =

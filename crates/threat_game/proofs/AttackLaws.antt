@@ -1,41 +1,26 @@
 -- Moves of the game of threats: which of them have to be tried, and what each other comes to.
-use Rattle.std.proofs.Common.{◌≡◌, ◌≢◌, Bool, true, false, cond, ◌&&◌, ◌||◌, not, refl, sym, ap, ◌∙◌, List, [], ◌∷◌}
+use Rattle.std.proofs.Common.{◌≡◌, Bool, true, false, cond, ◌&&◌, ◌||◌, not, refl, sym, ap, ◌∙◌}
 use Rattle.std.proofs.Math.Bool.{and-true, and-false}
 use Rattle.std.specs.List.{list_any, list_all}
-use Rattle.game_rules.specs.Grid.{Grid, IsBoard, is_empty, points_of}
-use Rattle.game_rules.specs.Shapes.{five, is_same_point}
-use Rattle.game_rules.specs.Play.{IsPosition, outcome, mover, other, after, goes_on_with, goes_on, saves}
-use Rattle.game_rules.specs.Games.{has_five, five_points, has_threat, is_double_point, loses_or}
+use Rattle.game_rules.proofs.Common.{Grid, is_empty, points_of, five, IsPosition, outcome, mover, other, after, goes_on_with, goes_on, saves, has_five, has_threat, is_double_point}
 use Rattle.game_rules.specs.declared.RuleKind.{RuleKind}
 use Rattle.game_rules.specs.declared.Outcome.{Outcome}
 use Rattle.game_rules.specs.declared.Outcome.TheVariants.{Refused, Wins, Fouls, Draws, GoesOn}
 use Rattle.game_rules.specs.declared.Point.{Point}
 use Rattle.game_rules.proofs.Boards.{is_empty-on}
 use Rattle.game_rules.proofs.Positions.{GoesOn-empty, GoesOn-on, mover-then}
-use Rattle.game_rules.proofs.Points.{points-found, any_witness, all_at, is_same_point-itself, is_same_point-same}
+use Rattle.game_rules.proofs.Points.{points-found, any_witness, all_at}
 use Rattle.game_rules.proofs.Fives.{five-empty}
-use Rattle.game_rules.proofs.Outcomes.{five-outcome, goes_on_with-parts, goes_on-is, loses_or-none}
-use Rattle.row_shapes.specs.declared.fives.FivePoints.{FivePoints}
-use Rattle.row_shapes.specs.declared.fives.FivePoints.TheVariants.{None as NoPoint, One, Several}
-use Rattle.row_shapes.specs.FivePoints.{in_short}
-use Rattle.row_shapes.proofs.FiveLaws.{has_five-none, has_five-one, none-left, one-left, one-taken, several-left}
+use Rattle.game_rules.proofs.Outcomes.{five-outcome, goes_on_with-parts, goes_on-split, fouls-all, fouls-test}
 use Rattle.threat_moves.specs.FourMoves.{is_four_move}
 use Rattle.threat_moves.specs.ThreeMoves.{is_three_move}
 use Rattle.threat_moves.specs.OneBlock.{all_foul}
 use Rattle.threat_game.specs.declared.attacks.Attempt.TheVariants.{Tried, Passed}
 use Rattle.threat_game.specs.declared.attacks.BestReply.TheVariants.{GoesOn as SomeGoesOn, Saves, Fouls as EachFouls}
 use Rattle.threat_game.specs.ThreatGame.{is_threat_move}
-use Rattle.threat_game.specs.Attacks.{has_reply, has_saving, best_reply, is_fouled, is_last_move, is_tried, is_settled_move, IsAttempt, OthersFail, takes}
+use Rattle.threat_game.specs.Attacks.{has_reply, has_saving, best_reply, is_fouled, is_last_move, is_tried, is_settled_move, IsAttempt, OthersFail}
 
 -- ---- a threat move is a four move or a three move
-
-goes_on-split : (o : Outcome) (f d : Bool) → goes_on_with o (f || d) ≡ (goes_on_with o f || goes_on_with o (not f && d))
-goes_on-split Refused f d = refl
-goes_on-split Wins f d = refl
-goes_on-split (Fouls g) f d = refl
-goes_on-split Draws f d = refl
-goes_on-split GoesOn true d = refl
-goes_on-split GoesOn false d = refl
 
 module _ (rule : RuleKind) (b : Grid) (p : Point) where
   threat-split : is_threat_move rule b p ≡ (is_four_move rule b p || is_three_move rule b p)
@@ -66,20 +51,6 @@ module _ (rule : RuleKind) (b : Grid) (p : Point) where
   threat-by on threat = ap (λ o. goes_on_with o (has_threat rule (after b p) (mover b))) on ∙ threat
 
 -- ---- what the replies come to
-
-or_right : (a b : Bool) → (a || b) ≡ false → b ≡ false
-or_right true b h = cc
-or_right false b h = h
-
-or_none : (a b : Bool) → (a || b) ≡ false → a ≡ false
-or_none true b h = cc
-or_none false b h = refl
-
-fouls-all : (o : Point → Outcome) (ps : List Point) → list_any (λ q. goes_on (o q)) ps ≡ false → list_any (λ q. saves (o q)) ps ≡ false → list_all (λ q. loses_or (o q) false) ps ≡ true
-fouls-all o [] g s = refl
-fouls-all o (p ∷ ps) g s =
-    ap (λ r. r && list_all (λ q. loses_or (o q) false) ps) (loses_or-none (o p) (or_none (goes_on (o p)) _ g) (or_none (saves (o p)) _ s))
-    ∙ fouls-all o ps (or_right (goes_on (o p)) _ g) (or_right (saves (o p)) _ s)
 
 module _ (rule : RuleKind) (c : Grid) where
   pub best-here : has_reply rule c ≡ true → SomeGoesOn ≡ best_reply rule c
@@ -122,21 +93,6 @@ module _ (rule : RuleKind) (c : Grid) where
   pub best-all_foul : best_reply rule c ≡ EachFouls → all_foul rule c ≡ true
   best-all_foul h = fouls-all (outcome rule c) (points_of c) (best-fouls h).0 (best-fouls h).1
 
--- and only there
-not_both : (a : Bool) → (not a && false) ≡ false
-not_both true = refl
-not_both false = refl
-
-fouls-test : (o : Point → Outcome) (ps : List Point) → list_all (λ q. loses_or (o q) false) ps ≡ (not (list_any (λ q. goes_on (o q)) ps) && not (list_any (λ q. saves (o q)) ps))
-fouls-test o [] = refl
-fouls-test o (p ∷ ps) = by_outcome (o p) (fouls-test o ps) where
-  by_outcome : (u : Outcome) → list_all (λ q. loses_or (o q) false) ps ≡ (not (list_any (λ q. goes_on (o q)) ps) && not (list_any (λ q. saves (o q)) ps)) → (loses_or u false && list_all (λ q. loses_or (o q) false) ps) ≡ (not (goes_on u || list_any (λ q. goes_on (o q)) ps) && not (saves u || list_any (λ q. saves (o q)) ps))
-  by_outcome Refused h = h
-  by_outcome Wins h = sym (not_both (list_any (λ q. goes_on (o q)) ps))
-  by_outcome (Fouls f) h = h
-  by_outcome Draws h = sym (not_both (list_any (λ q. goes_on (o q)) ps))
-  by_outcome GoesOn h = refl
-
 -- as what they come to tells
 pub fouled-is : (rule : RuleKind) (c : Grid) → is_fouled (best_reply rule c) ≡ all_foul rule c
 unfolding best_reply
@@ -165,23 +121,6 @@ module _ (rule : RuleKind) (b : Grid) (p : Point) where
     by_outcome (Fouls g) r f h = refl
     by_outcome Draws r f h = refl
     by_outcome GoesOn r f h = cc
-
--- ---- which five points of the other side a move takes
-
-module _ (rule : RuleKind) (b : Grid) (p : Point) (ok : IsBoard b) (empty : is_empty b p ≡ true) where
-  -- a move that takes none, or not all, leaves one
-  pub not_taken-five : (t : FivePoints) → t ≡ in_short (five_points rule b (other (mover b))) → takes t p ≡ false → has_five rule (after b p) (other (mover b)) ≡ true
-  not_taken-five NoPoint e h = cc
-  not_taken-five (One w) e h =
-      let differ : p ≢ w = λ same. let yes : is_same_point w p ≡ true = ap (is_same_point w) same ∙ is_same_point-itself w in let bad : false ≡ true = sym h ∙ yes in cc in
-      has_five-one rule (after b p) (other (mover b)) w (one-left rule b (mover b) p ok empty w (sym e) differ)
-  not_taken-five Several e h = several-left rule b (mover b) p ok empty (sym e)
-
-  -- one that takes all leaves none
-  pub taken-none : (t : FivePoints) → t ≡ in_short (five_points rule b (other (mover b))) → takes t p ≡ true → has_five rule (after b p) (other (mover b)) ≡ false
-  taken-none NoPoint e h = has_five-none rule (after b p) (other (mover b)) (none-left rule b (mover b) p ok empty (sym e))
-  taken-none (One w) e h = has_five-none rule (after b p) (other (mover b)) (one-taken rule b (mover b) p ok empty w (sym e) (sym (is_same_point-same w p h)))
-  taken-none Several e h = cc
 
 -- ---- what is to be done with a move
 

@@ -1,18 +1,16 @@
 -- The replies that go on, one after another, and what is judged of them.
-use Rattle.std.proofs.Common.{◌≡◌, ℕ, zero, suc, ◌+◌, ◌*◌, ◌≤◌, ◌<◌, Bool, true, false, cond, ◌||◌, refl, sym, ap, subst, ◌∙◌, arith, List, [], ◌∷◌, ◌++◌, map, length, append_assoc, length-append}
-use Rattle.std.specs.List.{list_any, filter, sum_by, flat_map, range_with_len, AllByRecursion}
+use Rattle.std.proofs.Common.{◌≡◌, ℕ, ◌+◌, ◌*◌, ◌≤◌, ◌<◌, Bool, true, false, cond, refl, sym, ap, subst, ◌∙◌, arith, List, [], ◌∷◌, ◌++◌, map, length, append_assoc, length-append}
+use Rattle.std.specs.List.{list_any, filter, sum_by, AllByRecursion}
 use Rattle.std.proofs.lemmas.List.Sums.{sum_by-append, sum_by-cons}
 use Rattle.std.proofs.lemmas.List.Elements.{All-from_recursion}
-use Rattle.std.proofs.lemmas.List.FromFn.{length-map-range_with_len}
 use Rattle.std.proofs.lemmas.List.{map-append}
-use Rattle.std.proofs.lemmas.Nat.{mul-le}
-use Rattle.game_rules.specs.Grid.{Grid, IsBoard, points_of, row_from}
-use Rattle.game_rules.specs.Play.{IsPosition, outcome, after, goes_on}
-use Rattle.game_rules.specs.Games.{WinsByThreats}
+use Rattle.game_rules.proofs.Common.{Grid, IsBoard, points_of, IsPosition, outcome, after, goes_on, WinsByThreats}
 use Rattle.game_rules.specs.declared.RuleKind.{RuleKind}
 use Rattle.game_rules.specs.declared.Outcome.TheVariants.{GoesOn}
 use Rattle.game_rules.specs.declared.Point.{Point}
 use Rattle.game_rules.proofs.Places.{points_few}
+use Rattle.game_rules.proofs.PointLists.{points-append_nil, none-listed}
+use Rattle.game_rules.proofs.Tests.{all_push}
 use Rattle.threat_game.specs.declared.replies.Child.{Child}
 use Rattle.threat_game.specs.declared.replies.Children.{Children}
 use Rattle.threat_game.specs.declared.replies.Judged.{Judged}
@@ -47,10 +45,6 @@ pub record SoFar (rule : RuleKind) (moves : ℕ) (c : Grid) (all : List Child) (
   pub short : length all + length left ≤ length (points_of c)
   pub low : count ≤ 3 * length all
 
-all-push : {X : Type 0} (P : X → Type 0) (xs : List X) (x : X) → AllByRecursion P xs → P x → AllByRecursion P (xs ++ x ∷ [])
-all-push P [] x a h = (h, tt)
-all-push P (y ∷ xs) x a h = (a.0, all-push P xs x a.1 h)
-
 pub none-yet : (rule : RuleKind) (moves : ℕ) (c : Grid) → SoFar rule moves c [] 0 (points_of c)
 none-yet rule moves c = record { points = refl; each = tt; count_is = refl; short = omega arith; low = omega arith }
 
@@ -73,7 +67,7 @@ module _ (rule : RuleKind) (moves : ℕ) (c : Grid) (all : List Child) (count : 
             ∙ append_assoc (map (λ (child : Child). child.at) all) (q ∷ []) (filter (λ q. goes_on (outcome rule c q)) left)
             ∙ sym (ap (λ o. map (λ (child : Child). child.at) all ++ cond (goes_on o) (q ∷ filter (λ q. goes_on (outcome rule c q)) left) (filter (λ q. goes_on (outcome rule c q)) left)) on)
             ∙ so_far.points;
-        each = all-push (IsChild rule moves c) all child so_far.each is;
+        each = all_push (IsChild rule moves c) all child so_far.each is;
         count_is =
             let sum = sum_by-append (λ (child : Child). counted_for child.judged) all (child ∷ []) in
             let one = sum_by-cons (λ (child : Child). counted_for child.judged) child [] in
@@ -83,17 +77,6 @@ module _ (rule : RuleKind) (moves : ℕ) (c : Grid) (all : List Child) (count : 
         low = let low = so_far.low in let size = length-append all (child ∷ []) in omega (arith, low, size, three);
       }
 
-append-none : (ps : List Point) → ps ++ [] ≡ ps
-append-none [] = refl
-append-none (p ∷ ps) = ap (λ (r : List Point). p ∷ r) (append-none ps)
-
-none-listed : (g : Point → Bool) (ps : List Point) → [] ≡ filter g ps → list_any g ps ≡ true → ⊥
-none-listed g [] e h = cc
-none-listed g (p ∷ ps) e h = by_test (g p) e h (none-listed g ps) where
-  by_test : (r : Bool) → [] ≡ cond r (p ∷ filter g ps) (filter g ps) → (r || list_any g ps) ≡ true → ([] ≡ filter g ps → list_any g ps ≡ true → ⊥) → ⊥
-  by_test true e h rest = cc
-  by_test false e h rest = rest e h
-
 some-listed : (g : Point → Bool) (ps : List Point) (items : List Child) → map (λ (child : Child). child.at) items ≡ filter g ps → list_any g ps ≡ true → 0 < length items
 some-listed g ps (x ∷ items) e h = omega arith
 some-listed g ps [] e h = absurd (none-listed g ps e h)
@@ -101,7 +84,7 @@ some-listed g ps [] e h = absurd (none-listed g ps e h)
 -- where no point is left, they are all children
 pub all-children : (rule : RuleKind) (moves : ℕ) (c : Grid) → IsPosition rule c → has_reply rule c ≡ true → (children : Children) → SoFar rule moves c children.all.items children.count [] → AreChildren rule moves c children
 all-children rule moves c lawful reply children so_far =
-    let points : map (λ (child : Child). child.at) children.all.items ≡ replies_at rule c = sym (append-none (map (λ (child : Child). child.at) children.all.items)) ∙ so_far.points in
+    let points : map (λ (child : Child). child.at) children.all.items ≡ replies_at rule c = sym (points-append_nil (map (λ (child : Child). child.at) children.all.items)) ∙ so_far.points in
     let each = All-from_recursion (IsChild rule moves c) children.all.items so_far.each in
     record {
       points = points;

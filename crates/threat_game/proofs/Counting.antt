@@ -1,20 +1,27 @@
 -- How many positions of the game of threats stand behind the moves that are tried, and behind the replies.
-use Rattle.std.proofs.Common.{◌≡◌, ℕ, zero, suc, ◌+◌, ◌<◌, ◌≤◌, Bool, true, false, cond, ◌&&◌, ◌||◌, not, refl, ap, arith, List, [], ◌∷◌, length, get_or}
-use Rattle.std.specs.List.{list_any, list_all, filter, sum_by}
-use Rattle.std.proofs.lemmas.List.Sums.{sum_by-cons}
+use Rattle.std.proofs.Common.{◌≡◌, ℕ, zero, suc, ◌+◌, ◌<◌, ◌≤◌, Bool, true, false, cond, not, ap, arith, List, [], ◌∷◌, length, get_or, sym, subst, ◌-◌}
+use Rattle.std.specs.List.{list_all, sum_by}
 use Rattle.std.proofs.lemmas.Bool.{and_parts, not-true}
-use Rattle.game_rules.specs.Grid.{Grid, points_of}
-use Rattle.game_rules.specs.Play.{outcome, mover, other, after, goes_on_with, goes_on}
-use Rattle.game_rules.specs.Games.{has_five, has_threat, if_goes_on}
+use Rattle.std.specs.Prelude.{Option, Some, None, IfSome, IsTrue}
+use Rattle.game_rules.proofs.Common.{Grid, points_of, outcome, mover, other, after, goes_on, IsPosition, has_five, has_threat, if_goes_on, WinsOr, WinsByThreats, behind_replies}
 use Rattle.game_rules.specs.declared.RuleKind.{RuleKind}
 use Rattle.game_rules.specs.declared.Outcome.{Outcome}
-use Rattle.game_rules.specs.declared.Outcome.TheVariants.{Refused, Wins, Fouls, Draws, GoesOn}
+use Rattle.game_rules.specs.declared.Outcome.TheVariants.{GoesOn}
 use Rattle.game_rules.specs.declared.Point.{Point}
 use Rattle.game_rules.proofs.Points.{filter-passes}
 use Rattle.game_rules.proofs.Outcomes.{if_goes_on-one, goes_on_with-parts}
-use Rattle.threat_game.specs.ThreatGame.{behind_replies, is_safe_threat, is_threat_move, threat_tree, nowhere, move_at}
-use Rattle.threat_game.specs.Attacks.{has_reply, is_tried, tried_moves}
-use Rattle.threat_game.proofs.TreeLaws.{tree-positive}
+use Rattle.game_rules.proofs.PointLists.{filter-sum, some-counts}
+use Rattle.strategy_graph.specs.declared.Node.{Node}
+use Rattle.strategy_compiler.specs.declared.wins.WrittenWin.{WrittenWin}
+use Rattle.threat_game.specs.ThreatGame.{is_safe_threat, is_threat_move, threat_tree, nowhere, move_at, LosesToThreats}
+use Rattle.threat_game.specs.Attacks.{has_reply, is_tried, tried_moves, IsDoubleWin}
+use Rattle.threat_game.proofs.TreeLaws.{tree-positive, double-counted}
+use Rattle.threat_game.specs.Wins.{IsThreatWin}
+use Rattle.threat_game.specs.declared.replies.Judged.{Judged}
+use Rattle.threat_game.specs.declared.replies.Judged.TheVariants.{Five, Double as DoubleWins, Last, Open}
+use Rattle.threat_game.specs.Replies.{counted_for, is_open, nodes_for, answer_nodes}
+use Rattle.threat_game.specs.declared.replies.Child.{Child}
+use Rattle.threat_game.specs.declared.doubles.Double.{Double}
 
 -- ---- a move that has to be tried
 
@@ -44,18 +51,6 @@ tried-at rule b k low = tried-is rule b (move_at (tried_moves rule b) k) (passes
 
 -- ---- sums
 
--- a sum over those that pass one test is no more than that over those that pass a weaker one
-filter-sum : (f g : Point → Bool) (h : Point → ℕ) → ((p : Point) → f p ≡ true → g p ≡ true) → (ps : List Point) → sum_by h (filter f ps) ≤ sum_by (λ p. cond (g p) (h p) 0) ps
-filter-sum f g h weaker [] = omega arith
-filter-sum f g h weaker (p ∷ ps) = by_test (f p) refl (filter-sum f g h weaker ps) where
-  by_test : (r : Bool) → f p ≡ r → sum_by h (filter f ps) ≤ sum_by (λ q. cond (g q) (h q) 0) ps → sum_by h (cond r (p ∷ filter f ps) (filter f ps)) ≤ sum_by (λ q. cond (g q) (h q) 0) (p ∷ ps)
-  by_test true e rest =
-      let here : cond (g p) (h p) 0 ≡ h p = ap (λ r. cond r (h p) 0) (weaker p e) in
-      let a = sum_by-cons h p (filter f ps) in
-      let b = sum_by-cons (λ q. cond (g q) (h q) 0) p ps in
-      omega (arith, here, a, b, rest)
-  by_test false e rest = let b = sum_by-cons (λ q. cond (g q) (h q) 0) p ps in omega (arith, b, rest)
-
 -- the positions behind the moves to be tried are fewer than those of the game of threats
 pub tried-behind : (rule : RuleKind) (n : ℕ) (b : Grid) → has_five rule b (mover b) ≡ false → 1 + sum_by (λ p. behind_replies rule (threat_tree rule (suc n)) (after b p)) (tried_moves rule b) ≤ threat_tree rule (suc (suc n)) b
 unfolding threat_tree
@@ -67,13 +62,55 @@ tried-behind rule n b none =
 
 -- ---- replies
 
-some-counts : (f : Point → Bool) (h : Point → ℕ) → ((p : Point) → f p ≡ true → 1 ≤ h p) → (ps : List Point) → list_any f ps ≡ true → 1 ≤ sum_by h ps
-some-counts f h one [] e = cc
-some-counts f h one (p ∷ ps) e = by_test (f p) refl e (some-counts f h one ps) where
-  by_test : (r : Bool) → f p ≡ r → (r || list_any f ps) ≡ true → (list_any f ps ≡ true → 1 ≤ sum_by h ps) → 1 ≤ sum_by h (p ∷ ps)
-  by_test true t e rest = let here = one p t in let split = sum_by-cons h p ps in omega (arith, here, split)
-  by_test false t e rest = let later = rest e in let split = sum_by-cons h p ps in omega (arith, later, split)
-
 pub replies-positive : (rule : RuleKind) (n : ℕ) (c : Grid) → has_reply rule c ≡ true → 1 ≤ behind_replies rule (threat_tree rule n) c
 replies-positive rule n c some =
     some-counts (λ q. goes_on (outcome rule c q)) (λ q. if_goes_on (outcome rule c q) (threat_tree rule n (after c q))) (λ q h. if_goes_on-one (outcome rule c q) (threat_tree rule n (after c q)) (tree-positive rule n (after c q)) h) (points_of c) some
+
+-- a win within the depth has few moves
+pub few-moves : (rule : RuleKind) (n : ℕ) (b : Grid) (c : List Node) (win : WrittenWin) → n ≤ 60 → IsThreatWin rule n b c win → win.moves < 256
+few-moves rule n b c win low is = let m = is.written.within in omega (arith, low, m)
+
+-- a win that is compiled takes no more moves than are left
+pub moves-few : (rule : RuleKind) (left least : ℕ) (b : Grid) (t : List Node) (win : Option WrittenWin) → least ≤ left → left < 256 → IfSome win (λ (found : WrittenWin). (moves : ℕ) → least ≤ moves → IsThreatWin rule moves b t found) → IfSome win (λ (found : WrittenWin). found.moves < 256)
+moves-few rule left least b t None enough fits h = tt
+moves-few rule left least b t (Some found) enough fits h = let is = h left enough in let within = is.written.within in omega (arith, within, fits)
+
+pub by_move : (rule : RuleKind) (n : ℕ) (b : Grid) (p : Point) → outcome rule b p ≡ GoesOn → has_threat rule (after b p) (mover b) ≡ true → LosesToThreats rule n (after b p) → WinsByThreats rule (suc n) b
+by_move rule n b p on threat loses =
+    (p, subst (λ (o : Outcome). WinsOr o (IsTrue (has_threat rule (after b p) (mover b)) × LosesToThreats rule n (after b p))) (sym on) (threat, loses))
+
+pub counted-one : (judged : Judged) → 1 ≤ counted_for judged
+counted-one (Five w) = omega arith
+counted-one (DoubleWins d nodes) = omega arith
+counted-one (Last p) = omega arith
+counted-one Open = omega arith
+
+-- 1 for yes, and 0 for no
+abbrev pub one_where : Bool → ℕ
+one_where r = cond r 1 0
+
+-- 1 for an open child
+abbrev pub open_one : Child → ℕ
+open_one child = one_where (is_open child.judged)
+
+pub counted-parts : (judged : Judged) → nodes_for judged + one_where (is_open judged) ≤ counted_for judged
+counted-parts (Five w) = omega arith
+counted-parts (DoubleWins d nodes) = omega arith
+counted-parts (Last p) = omega arith
+counted-parts Open = omega arith
+
+-- what is counted behind a child of b, if it is open
+abbrev pub open_behind : RuleKind → ℕ → Grid → Child → ℕ
+open_behind rule left b child = cond (is_open child.judged) (threat_tree rule left (after b child.at) - 1) 0
+
+-- what is counted for a child and behind it is no more than the game has there
+pub whole-by : (rule : RuleKind) (left : ℕ) (c : Grid) (judged : Judged) → counted_for judged ≤ threat_tree rule left c → counted_for judged + cond (is_open judged) (threat_tree rule left c - 1) 0 ≤ threat_tree rule left c
+whole-by rule left c (Five w) few = omega (arith, few)
+whole-by rule left c (DoubleWins d nodes) few = omega (arith, few)
+whole-by rule left c (Last p) few = omega (arith, few)
+whole-by rule left c Open few = omega (arith, few)
+
+pub counted-within : (rule : RuleKind) (b : Grid) (d : Double) → IsPosition rule b → IsDoubleWin rule b d → has_five rule b (mover b) ≡ false → (n : ℕ) → 2 ≤ n → 1 + answer_nodes rule b d ≤ threat_tree rule n b
+counted-within rule b d lawful wins none zero l = absurd (omega arith)
+counted-within rule b d lawful wins none (suc zero) l = absurd (omega arith)
+counted-within rule b d lawful wins none (suc (suc n)) l = double-counted rule b d lawful wins n none

@@ -1,26 +1,24 @@
 -- Double points: the two five points that a stone leaves, and the win that they are.
-use Rattle.std.proofs.Common.{◌≡◌, ℕ, ◌≤◌, Bool, true, false, cond, ◌&&◌, ◌||◌, refl, sym, ap, ◌∙◌, arith, List, [], ◌∷◌, length, get_or}
+use Rattle.std.proofs.Common.{◌≡◌, ℕ, ◌≤◌, Bool, true, false, cond, ◌&&◌, sym, ap, ◌∙◌, arith, List, [], ◌∷◌, length, get_or}
 use Rattle.std.specs.List.{list_any, list_all}
-use Rattle.game_rules.specs.Grid.{Grid, is_empty, put, points_of}
-use Rattle.game_rules.specs.Shapes.{five, is_same_point}
-use Rattle.game_rules.specs.Play.{IsPosition, outcome, mover, other, after, goes_on_with}
-use Rattle.game_rules.specs.Games.{has_five, five_points, starts_win, wins_by_fours, wins_under, WinsByFours, WinsByThreats, LosesOr, loses_or, wins_or}
+use Rattle.game_rules.proofs.Common.{Grid, is_empty, put, points_of, five, is_same_point, IsPosition, outcome, mover, other, after, goes_on_with, has_five, five_points, starts_win, wins_by_fours, wins_under, WinsByFours, WinsByThreats, LosesOr, loses_or, wins_or}
 use Rattle.game_rules.specs.declared.RuleKind.{RuleKind}
 use Rattle.game_rules.specs.declared.Side.{Side}
 use Rattle.game_rules.specs.declared.Outcome.{Outcome}
 use Rattle.game_rules.specs.declared.Point.{Point}
 use Rattle.game_rules.proofs.Boards.{and_left, and_right, is_empty-on, other-other}
 use Rattle.game_rules.proofs.Positions.{GoesOn-on, mover-then}
-use Rattle.game_rules.proofs.Points.{points-found, filter-passes, is_same_point-itself, is_same_point-same, apart-is_same_point}
+use Rattle.game_rules.proofs.Points.{points-found, filter-passes, is_same_point-itself, apart-is_same_point}
 use Rattle.game_rules.proofs.Places.{two_passing-apart}
 use Rattle.game_rules.proofs.Fives.{five-empty}
 use Rattle.game_rules.proofs.Games.{WinsUnder-more, WinsByFours-WinsByThreats, test-WinsUnder, each_reply}
-use Rattle.strategy_compiler.proofs.Forks.{still-found}
+use Rattle.game_rules.proofs.PointLists.{still-found}
 use Rattle.threat_moves.specs.FourMoves.{is_four_move}
 use Rattle.threat_moves.specs.declared.block.BlockAnswer.TheVariants.{Lost, Won}
 use Rattle.threat_moves.specs.Blocks.{by_fives, fate}
 use Rattle.threat_moves.specs.OneBlock.{block_wins}
 use Rattle.threat_moves.proofs.BlockLaw.{block_decides}
+use Rattle.threat_moves.proofs.FourLaws.{two-won}
 use Rattle.threat_game.specs.declared.doubles.Double.{Double}
 use Rattle.threat_game.specs.Attacks.{LeavesBoth, IsDoubleWin}
 use Rattle.threat_game.proofs.TreeLaws.{double-five, still-safe}
@@ -41,20 +39,6 @@ leaves-both rule b s p empty (w ∷ v ∷ more) are many =
     }
 
 -- ---- a double point wins by fours within two moves
-
-one_of : (a : Bool) → (a || false) ≡ true → a ≡ true
-one_of true h = refl
-one_of false h = h
-
-two-won : (rule : RuleKind) (c : Grid) (w v : Point) (xs : List Point) → list_any (is_same_point w) xs ≡ true → list_any (is_same_point v) xs ≡ true → is_same_point w v ≡ false → by_fives rule c xs ≡ Won
-two-won rule c w v [] first second apart = cc
-two-won rule c w v (x ∷ []) first second apart =
-    let one : w ≡ x = is_same_point-same w x (one_of (is_same_point w x) first) in
-    let two : v ≡ x = is_same_point-same v x (one_of (is_same_point v x) second) in
-    let yes : is_same_point w v ≡ true = ap (λ (p : Point). is_same_point p v) (one ∙ sym two) ∙ is_same_point-itself v in
-    let bad : false ≡ true = sym apart ∙ yes in
-    cc
-two-won rule c w v (x ∷ y ∷ more) first second apart = refl
 
 module _ (rule : RuleKind) (b : Grid) (d : Double) (lawful : IsPosition rule b) (wins : IsDoubleWin rule b d) where
   turn : mover (after b d.at) ≡ other (mover b)

@@ -1,10 +1,7 @@
 -- A double point is a double threat, whatever the reply, and its node a win by threats.
-use Rattle.std.proofs.Common.{◌≡◌, ◌+◌, Bool, true, false, cond, ◌&&◌, ◌||◌, not, refl, sym, ap, ◌∙◌, arith, List, [], ◌∷◌}
-use Rattle.std.specs.List.{list_any, filter, AllByRecursion}
-use Rattle.game_rules.specs.Grid.{Grid, is_on, points_of}
-use Rattle.game_rules.specs.Shapes.{five, is_same_point}
-use Rattle.game_rules.specs.Play.{IsPosition, outcome, mover, after, goes_on}
-use Rattle.game_rules.specs.Games.{LosesOr, WinsByFours}
+use Rattle.std.proofs.Common.{◌≡◌, ◌+◌, Bool, true, false, cond, not, refl, ap, ◌∙◌, arith, List, [], ◌∷◌}
+use Rattle.std.specs.List.{filter, AllByRecursion}
+use Rattle.game_rules.proofs.Common.{Grid, is_on, points_of, five, is_same_point, IsPosition, outcome, mover, after, goes_on, LosesOr, WinsByFours}
 use Rattle.game_rules.specs.declared.RuleKind.{RuleKind}
 use Rattle.game_rules.specs.declared.Side.{Side}
 use Rattle.game_rules.specs.declared.Outcome.{Outcome}
@@ -15,21 +12,13 @@ use Rattle.game_rules.proofs.Fives.{five-empty}
 use Rattle.game_rules.proofs.Positions.{GoesOn-on, IsPosition-after}
 use Rattle.game_rules.proofs.Points.{points-found, is_same_point-itself, is_same_point-same}
 use Rattle.game_rules.proofs.Outcomes.{five-outcome, goes_on-is}
+use Rattle.game_rules.proofs.PointLists.{still-found, any-filter, other_first}
 use Rattle.strategy_compiler.specs.Forks.{IsDoubleThreat, double_nodes}
-use Rattle.strategy_compiler.proofs.Forks.{still-found}
 use Rattle.threat_game.specs.declared.doubles.Double.{Double}
 use Rattle.threat_game.specs.Attacks.{IsDoubleWin}
 use Rattle.threat_game.specs.Replies.{answer_nodes, one_if, replies_at}
 use Rattle.threat_game.proofs.ReplyLaws.{beside-five}
 use Rattle.threat_game.proofs.DoubleLaws.{back_turn, double-lost}
-
-any-filter : (g f : Point → Bool) (ps : List Point) → list_any f (filter g ps) ≡ list_any (λ q. g q && f q) ps
-any-filter g f [] = refl
-any-filter g f (p ∷ ps) = by_test (g p) (any-filter g f ps) where
-  by_test : (r : Bool) → list_any f (filter g ps) ≡ list_any (λ q. g q && f q) ps
-      → list_any f (cond r (p ∷ filter g ps) (filter g ps)) ≡ ((r && f p) || list_any (λ q. g q && f q) ps)
-  by_test true k = ap (λ b. f p || b) k
-  by_test false k = k
 
 -- the nodes that answer the replies, and its own
 pub nodes-are : (rule : RuleKind) (b : Grid) (d : Double)
@@ -39,15 +28,6 @@ nodes-are rule b d =
     let first = ap one_if (any-filter g (λ q. is_same_point q d.first) (points_of (after b d.at))) in
     let beside = ap one_if (any-filter g (λ q. not (is_same_point q d.first)) (points_of (after b d.at))) in
     omega (arith, first, beside)
-
-other_first : (p q : Point) → is_same_point p q ≡ false → is_same_point q p ≡ false
-other_first p q h = by_test (is_same_point q p) refl where
-  by_test : (r : Bool) → is_same_point q p ≡ r → r ≡ false
-  by_test false e = refl
-  by_test true e =
-      let yes : is_same_point p q ≡ true = ap (λ (x : Point). is_same_point p x) (is_same_point-same q p e) ∙ is_same_point-itself p in
-      let bad : false ≡ true = sym h ∙ yes in
-      cc
 
 module _ (rule : RuleKind) (b : Grid) (d : Double) (lawful : IsPosition rule b) (wins : IsDoubleWin rule b d) where
   lawful_c : IsPosition rule (after b d.at)

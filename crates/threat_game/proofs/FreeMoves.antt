@@ -1,19 +1,15 @@
 -- Where each move on an empty point goes on, and what that tells of the replies.
-use Rattle.std.proofs.Common.{◌≡◌, ◌≤◌, ℕ, Bool, true, false, ◌&&◌, not, cond, refl, sym, ap, ◌∙◌, arith, nat_eq}
+use Rattle.std.proofs.Common.{◌≡◌, ◌≤◌, ℕ, Bool, true, false, ◌&&◌, not, refl, sym, ap, ◌∙◌, arith, nat_eq}
 use Rattle.std.specs.Prelude.{Option, None}
 use Rattle.std.proofs.lemmas.Bool.Decides.{nat_tests}
-use Rattle.game_rules.specs.Grid.{Grid, is_empty, empties_of, points_of}
-use Rattle.game_rules.specs.Shapes.{five, is_same_point}
-use Rattle.game_rules.specs.Play.{IsPosition, outcome, outcome_by, mover, after, has_fouls, foul_of, black_foul, goes_on}
-use Rattle.game_rules.specs.Games.{has_five}
+use Rattle.game_rules.proofs.Common.{Grid, is_empty, empties_of, points_of, five, is_same_point, IsPosition, outcome, outcome_by, mover, after, has_fouls, foul_of, goes_on, has_five}
 use Rattle.game_rules.specs.declared.RuleKind.{RuleKind}
-use Rattle.game_rules.specs.declared.Side.{Side}
 use Rattle.game_rules.specs.declared.Foul.{Foul}
 use Rattle.game_rules.specs.declared.Point.{Point}
 use Rattle.game_rules.proofs.Boards.{and_left, and_right}
 use Rattle.game_rules.proofs.Positions.{GoesOn-on, mover-then}
 use Rattle.game_rules.proofs.Points.{points-found, any_witness, taken_refused, is_same_point-itself, is_same_point-same}
-use Rattle.game_rules.proofs.Outcomes.{goes_on-is}
+use Rattle.game_rules.proofs.Outcomes.{goes_on-is, no_foul}
 use Rattle.threat_game.specs.declared.doubles.Double.{Double}
 use Rattle.threat_game.specs.Attacks.{IsDoubleWin}
 use Rattle.threat_game.specs.Replies.{has_reply_at}
@@ -23,9 +19,6 @@ use Rattle.game_rules.proofs.Wins.{no_five}
 
 not_one : (n : ℕ) → 2 ≤ n → nat_eq n 1 ≡ false
 not_one n h = grind (arith, nat_tests)
-
-no_foul : (rule : RuleKind) (b : Grid) (s : Side) (q : Point) → has_fouls rule s ≡ false → foul_of rule b s q ≡ None
-no_foul rule b s q calm = ap (λ r. cond r (black_foul rule b q) None) calm
 
 -- without a five point and fouls, and with two empty points or more, each goes on
 pub each-goes_on : (rule : RuleKind) (b : Grid) → has_five rule b (mover b) ≡ false → has_fouls rule (mover b) ≡ false → 2 ≤ empties_of b → EachGoesOn rule b

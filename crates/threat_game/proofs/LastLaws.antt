@@ -1,27 +1,20 @@
 -- Wins within one move: only by a five point, or by a last move, to which each reply fouls.
-use Rattle.std.proofs.Common.{◌≡◌, ℕ, suc, Bool, true, false, cond, ◌&&◌, ◌||◌, refl, sym, ap, subst, ◌∙◌, nat_eq}
-use Rattle.std.specs.Prelude.{Option, None, IsTrue}
+use Rattle.std.proofs.Common.{◌≡◌, ℕ, suc, true, false, ◌&&◌, refl, sym, ap, subst, ◌∙◌}
+use Rattle.std.specs.Prelude.{IsTrue}
 use Rattle.std.specs.List.{list_any}
-use Rattle.game_rules.specs.Grid.{Grid, is_empty, points_of, empties_of}
-use Rattle.game_rules.specs.Shapes.{five}
-use Rattle.game_rules.specs.Play.{IsPosition, outcome, outcome_by, mover, other, after, has_fouls, foul_of, black_foul}
-use Rattle.game_rules.specs.Games.{WinsOr, LosesOr, WinsByThreats, has_five, has_threat, is_double_point, loses_or}
+use Rattle.game_rules.proofs.Common.{Grid, points_of, IsPosition, outcome, mover, other, after, has_fouls, WinsOr, LosesOr, WinsByThreats, has_five, has_threat, loses_or}
 use Rattle.game_rules.specs.declared.RuleKind.{RuleKind}
-use Rattle.game_rules.specs.declared.Side.{Side}
-use Rattle.game_rules.specs.declared.Foul.{Foul}
 use Rattle.game_rules.specs.declared.Outcome.{Outcome}
 use Rattle.game_rules.specs.declared.Outcome.TheVariants.{Refused, Wins, Fouls, Draws, GoesOn}
 use Rattle.game_rules.specs.declared.Point.{Point}
 use Rattle.game_rules.proofs.Boards.{and_left, and_right, is_empty-on}
 use Rattle.game_rules.proofs.Positions.{GoesOn-on, mover-then}
-use Rattle.game_rules.proofs.Points.{points-found, any_witness, all_of, all_at}
-use Rattle.game_rules.proofs.Fives.{five-empty}
+use Rattle.game_rules.proofs.Points.{points-found, all_of, all_at}
 use Rattle.game_rules.proofs.Games.{LosesOr-loses_or, each_reply}
-use Rattle.game_rules.proofs.Outcomes.{reply-stays, no_fouls-none}
-use Rattle.threat_moves.specs.Threats.{is_gain}
+use Rattle.game_rules.proofs.Outcomes.{reply-stays}
 use Rattle.threat_moves.specs.OneBlock.{all_foul}
 use Rattle.threat_moves.proofs.BlockLaw.{no-reply-wins}
-use Rattle.threat_moves.proofs.GainLaws.{double-parts, gain-empty}
+use Rattle.threat_moves.proofs.GainLaws.{threat-empty}
 use Rattle.threat_game.specs.ThreatGame.{is_threat_move}
 use Rattle.threat_game.specs.Attacks.{is_last_move}
 use Rattle.threat_game.proofs.AttackLaws.{threat-by, threat-goes_on, threat-left}
@@ -48,17 +41,6 @@ module _ (rule : RuleKind) (b : Grid) (p : Point) where
     subst (λ (o : Outcome). WinsOr o (IsTrue (has_threat rule (after b p) (mover b)) × ((q : Point) → LosesOr (outcome rule (after b p) q) (WinsByThreats rule n (after (after b p) q))))) (sym (last-goes_on h))
         (threat-left rule b p (last-parts h).0, λ q. last-fouled h (WinsByThreats rule n) q),
   )
-
--- a double point is empty
-pub double-empty : (rule : RuleKind) (c : Grid) (s : Side) (w : Point) → is_double_point rule c s w ≡ true → is_empty c w ≡ true
-double-empty rule c s w e = gain-empty rule c s w (and_left (is_gain rule c s w) _ (sym (double-parts rule c s w) ∙ e))
-
--- a threat leaves a point empty
-threat-empty : (rule : RuleKind) (c : Grid) (s : Side) → has_threat rule c s ≡ true → (w : Point) × (is_empty c w ≡ true)
-threat-empty rule c s h = by_test (has_five rule c s) refl h where
-  by_test : (r : Bool) → has_five rule c s ≡ r → (r || list_any (is_double_point rule c s) (points_of c)) ≡ true → (w : Point) × (is_empty c w ≡ true)
-  by_test true e k = let found = any_witness (five rule c s) (points_of c) e in (found.0, five-empty rule c s found.0 found.1)
-  by_test false e k = let found = any_witness (is_double_point rule c s) (points_of c) k in (found.0, double-empty rule c s found.0 found.1)
 
 module _ (rule : RuleKind) (b : Grid) (lawful : IsPosition rule b) (none : has_five rule b (mover b) ≡ false) where
   one-last : WinsByThreats rule 1 b → (p : Point) × (is_last_move rule b p ≡ true)

@@ -10,7 +10,6 @@ mod LastLaws
 -- moves where each goes on
 mod FreeMoves
 -- a move on a view and on a copy of its board, taken back on both
-mod BothBoards
 -- new double points are on the lines of the stone just put
 mod NearDoubles
 -- their nodes

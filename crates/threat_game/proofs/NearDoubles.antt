@@ -1,25 +1,21 @@
 -- Where no point makes two five points, a stone makes double points only on the lines through it: in the runs of any other point it
 -- plays no part.
-use Rattle.std.proofs.Common.{◌≡◌, Bool, true, false, ◌&&◌, ◌||◌, not, length, refl, sym, ap, ◌∙◌, arith, nat_le}
+use Rattle.std.proofs.Common.{◌≡◌, Bool, true, false, ◌&&◌, not, length, refl, sym, ap, ◌∙◌, arith, nat_le}
 use Rattle.std.proofs.lemmas.Bool.{false_from_ne_true}
 use Rattle.std.proofs.lemmas.Bool.Decides.{nat_tests}
-use Rattle.game_rules.specs.Grid.{Grid, IsBoard, is_empty, put}
-use Rattle.game_rules.specs.Play.{outcome, mover, after, goes_on_with, goes_on}
-use Rattle.game_rules.specs.Games.{is_double_point, has_five, has_threat, five_points}
-use Rattle.game_rules.specs.Lines.{is_aligned}
+use Rattle.game_rules.proofs.Common.{Grid, IsBoard, is_empty, put, outcome, mover, after, goes_on_with, goes_on, is_double_point, has_five, has_threat, five_points, is_aligned}
 use Rattle.game_rules.specs.declared.RuleKind.{RuleKind}
 use Rattle.game_rules.specs.declared.Side.{Side}
-use Rattle.game_rules.specs.declared.Outcome.{Outcome}
-use Rattle.game_rules.specs.declared.Outcome.TheVariants.{Refused, Wins, Fouls, Draws, GoesOn}
 use Rattle.game_rules.specs.declared.Point.{Point}
 use Rattle.game_rules.proofs.Boards.{and_left, and_right, is_empty-on}
 use Rattle.game_rules.proofs.Points.{points-found, taken_refused}
 use Rattle.game_rules.proofs.OneLine.{put-kept, open_kept, more_fives}
+use Rattle.game_rules.proofs.Outcomes.{never-goes_on, always-goes_on}
 use Rattle.row_shapes.specs.FivePoints.{in_short}
 use Rattle.row_shapes.specs.declared.fives.FivePoints.{FivePoints}
 use Rattle.row_shapes.specs.declared.fives.FivePoints.TheVariants.{None as NoPoint, One, Several}
 use Rattle.row_shapes.proofs.FiveLaws.{has_five-none, has_five-one, has_five-several}
-use Rattle.threat_moves.specs.ThreeMoves.{is_several, has_double_point}
+use Rattle.threat_moves.specs.ThreeMoves.{is_several}
 use Rattle.threat_moves.proofs.GainLaws.{several, few-double, taken-no_gain, no_gain-double}
 use Rattle.threat_game.specs.ThreatGame.{is_threat_move}
 use Rattle.threat_game.specs.NearDoubles.{is_some_point, makes_two, some_makes_two, FarAreNone}
@@ -72,27 +68,7 @@ some-five rule b s = by_told (in_short (five_points rule b s)) refl where
   by_told (One w) e = ap is_some_point e ∙ sym (has_five-one rule b s w e)
   by_told Several e = ap is_some_point e ∙ sym (has_five-several rule b s e)
 
-pub threat-by_five : (rule : RuleKind) (c : Grid) (s : Side) → has_five rule c s ≡ true → true ≡ has_threat rule c s
-threat-by_five rule c s h = sym (ap (λ r. r || has_double_point rule c s) h)
-
-pub threat-by_double : (rule : RuleKind) (c : Grid) (s : Side) → has_five rule c s ≡ false → has_double_point rule c s ≡ has_threat rule c s
-threat-by_double rule c s h = sym (ap (λ r. r || has_double_point rule c s) h)
-
 -- ---- moves of the game of threats
-
-never-goes_on : (o : Outcome) → false ≡ goes_on_with o false
-never-goes_on Refused = refl
-never-goes_on Wins = refl
-never-goes_on (Fouls f) = refl
-never-goes_on Draws = refl
-never-goes_on GoesOn = refl
-
-always-goes_on : (o : Outcome) → goes_on o ≡ goes_on_with o true
-always-goes_on Refused = refl
-always-goes_on Wins = refl
-always-goes_on (Fouls f) = refl
-always-goes_on Draws = refl
-always-goes_on GoesOn = refl
 
 module _ (rule : RuleKind) (b : Grid) (p : Point) where
   pub taken-no_move : is_empty b p ≡ false → false ≡ is_threat_move rule b p

@@ -1,61 +1,27 @@
 -- What a reply leaves of the five points and the double points of the attacker.
-use Rattle.std.proofs.Common.{◌≡◌, ◌≢◌, ℕ, Bool, true, false, cond, ◌&&◌, not, refl, sym, ap, subst, ◌∙◌, arith, List, [], ◌∷◌, length}
+use Rattle.std.proofs.Common.{◌≡◌, true, false, ◌&&◌, not, sym, ap, subst, ◌∙◌, List}
 use Rattle.std.specs.Prelude.{Some, None, All}
-use Rattle.std.specs.List.{list_all, filter, find}
-use Rattle.std.proofs.lemmas.List.{set_comm}
-use Rattle.std.proofs.lemmas.Nat.{same_from_place}
+use Rattle.std.specs.List.{list_all, find}
 use Rattle.std.proofs.lemmas.Bool.{not-true}
-use Rattle.game_rules.specs.Grid.{Grid, is_on, is_empty, put, place_of, stone_of, points_of}
-use Rattle.game_rules.specs.Shapes.{five, is_same_point}
-use Rattle.game_rules.specs.Play.{IsPosition, outcome, mover, other, after}
-use Rattle.game_rules.specs.Games.{has_five, five_points}
+use Rattle.game_rules.proofs.Common.{Grid, is_empty, put, points_of, five, is_same_point, IsPosition, outcome, mover, other, after, has_five, five_points}
 use Rattle.game_rules.specs.declared.RuleKind.{RuleKind}
-use Rattle.game_rules.specs.declared.Cell.{Cell}
 use Rattle.game_rules.specs.declared.Side.{Side}
 use Rattle.game_rules.specs.declared.Outcome.TheVariants.{GoesOn}
 use Rattle.game_rules.specs.declared.Point.{Point}
-use Rattle.game_rules.proofs.Boards.{Apart, and_left, and_right, is_empty-on, is_empty-put, on_x}
+use Rattle.game_rules.proofs.Boards.{Apart, and_left, and_right, is_empty-on, is_empty-put, put_comm}
 use Rattle.game_rules.proofs.Positions.{GoesOn-empty, IsBoard-put, mover-then}
-use Rattle.game_rules.proofs.Points.{filter-passes, filter-none, is_same_point-apart, is_same_point-itself, is_same_point-same}
+use Rattle.game_rules.proofs.Points.{filter-passes, filter-none, is_same_point-apart}
 use Rattle.game_rules.proofs.Fives.{five-other}
 use Rattle.game_rules.proofs.Places.{find-in}
-use Rattle.row_shapes.proofs.FiveLaws.{left-points, without}
+use Rattle.game_rules.proofs.PointLists.{without, Apart-back, none_found-filter, other_way}
+use Rattle.row_shapes.proofs.FiveLaws.{left-points}
 use Rattle.threat_game.specs.declared.doubles.Double.{Double}
 use Rattle.threat_game.specs.Attacks.{LeavesBoth}
 use Rattle.threat_game.specs.Replies.{IsBeside}
 
 -- ---- stones in another order
 
-places_apart : (b : Grid) (p q : Point) → is_on b p ≡ true → is_on b q ≡ true → Apart p q → place_of b p ≢ place_of b q
-places_apart b p q onp onq d e =
-    let same = same_from_place p.y p.x q.y q.x b.width (on_x b p onp) (on_x b q onq) e in
-    d.apart same.1 same.0
-
--- two stones on different points may be put in either order
-pub put_comm : (b : Grid) (s t : Side) (p q : Point) → is_on b p ≡ true → is_on b q ≡ true → Apart p q → put (put b s p) t q ≡ put (put b t q) s p
-put_comm b s t p q onp onq d =
-    ap (λ (l : List Cell). let r : Grid = record b { cells = l } in r) (set_comm b.cells (place_of b p) (place_of b q) (stone_of s) (stone_of t) (places_apart b p q onp onq d))
-
-back : (p q : Point) → Apart p q → Apart q p
-back p q d = record { apart = λ x y. d.apart (sym x) (sym y) }
-
 -- ---- lists
-
-find-none : (f g : Point → Bool) → ((x : Point) → f x ≡ false → g x ≡ false) → (ps : List Point) → find f ps ≡ None → filter g ps ≡ []
-find-none f g out [] h = refl
-find-none f g out (p ∷ ps) h = by_test (f p) refl h (find-none f g out ps) where
-  by_test : (r : Bool) → f p ≡ r → cond r (Some p) (find f ps) ≡ None → (find f ps ≡ None → filter g ps ≡ []) → filter g (p ∷ ps) ≡ []
-  by_test true e k rest = cc
-  by_test false e k rest = ap (λ r. cond r (p ∷ filter g ps) (filter g ps)) (out p e) ∙ rest k
-
--- a point is another one either way
-other_way : (q x : Point) → not (is_same_point x q) ≡ false → not (is_same_point q x) ≡ false
-other_way q x h = by_test (is_same_point x q) refl h where
-  by_test : (r : Bool) → is_same_point x q ≡ r → not r ≡ false → not (is_same_point q x) ≡ false
-  by_test true e k =
-      let same : x ≡ q = is_same_point-same x q e in
-      ap (λ (z : Point). not (is_same_point q z)) same ∙ ap not (is_same_point-itself q)
-  by_test false e k = cc
 
 -- ---- after the reply q at c
 
@@ -70,7 +36,7 @@ module _ (rule : RuleKind) (c : Grid) (q : Point) (lawful : IsPosition rule c) (
   pub beside-five : (w : Point) → five rule c (other (mover c)) w ≡ true → is_same_point w q ≡ false → five rule (after c q) (mover (after c q)) w ≡ true
   beside-five w h differ =
       ap (λ (s : Side). five rule (after c q) s w) turn
-      ∙ five-other c (mover c) q lawful.board empty rule w (back w q (is_same_point-apart w q differ)) ∙ h
+      ∙ five-other c (mover c) q lawful.board empty rule w (Apart-back w q (is_same_point-apart w q differ)) ∙ h
 
   -- the first of the five points that is beside it
   pub first-beside : (fives : List Point) (w : Point) → fives ≡ five_points rule c (other (mover c)) → Some w ≡ find (λ x. not (is_same_point x q)) fives → five rule (after c q) (mover (after c q)) w ≡ true
@@ -85,12 +51,12 @@ module _ (rule : RuleKind) (c : Grid) (q : Point) (lawful : IsPosition rule c) (
       ap (has_five rule (after c q)) turn
       ∙ filter-none (five rule (after c q) (other (mover c))) (points_of (after c q))
       (left-points rule c (mover c) q lawful.board empty ∙ ap (without q) (sym are)
-      ∙ find-none (λ x. not (is_same_point x q)) (λ x. not (is_same_point q x)) (λ x h. other_way q x h) fives (sym found))
+      ∙ none_found-filter (λ x. not (is_same_point x q)) (λ x. not (is_same_point q x)) (λ x h. other_way q x h) fives (sym found))
 
   kept-five : (d w : Point) → is_empty c d ≡ true → Apart d q → Apart q w → five rule (put c (other (mover c)) d) (other (mover c)) w ≡ true → five rule (put (after c q) (other (mover c)) d) (other (mover c)) w ≡ true
   kept-five d w free apart beside h =
       let still : is_empty (put c (other (mover c)) d) q ≡ true = is_empty-put c (other (mover c)) d q (is_empty-on c d free) apart ∙ empty in
-      ap (λ (g : Grid). five rule g (other (mover c)) w) (put_comm c (mover c) (other (mover c)) q d (is_empty-on c q empty) (is_empty-on c d free) (back d q apart))
+      ap (λ (g : Grid). five rule g (other (mover c)) w) (put_comm c (mover c) (other (mover c)) q d (is_empty-on c q empty) (is_empty-on c d free) (Apart-back d q apart))
       ∙ five-other (put c (other (mover c)) d) (mover c) q (IsBoard-put c (other (mover c)) d lawful.board) still rule w beside ∙ h
 
   -- a stone beside a double point and its two five points leaves all three
@@ -101,20 +67,11 @@ module _ (rule : RuleKind) (c : Grid) (q : Point) (lawful : IsPosition rule c) (
       let second : Apart d.second q = is_same_point-apart d.second q (not-true (is_same_point d.second q) (and_right (not (is_same_point d.at q) && not (is_same_point d.first q)) _ beside)) in
       subst (λ (s : Side). LeavesBoth rule (after c q) s d) (sym turn)
       (record {
-        empty = is_empty-put c (mover c) q d.at (is_empty-on c q empty) (back d.at q at) ∙ both.empty;
-        first = kept-five d.at d.first both.empty at (back d.first q first) both.first;
-        second = kept-five d.at d.second both.empty at (back d.second q second) both.second;
+        empty = is_empty-put c (mover c) q d.at (is_empty-on c q empty) (Apart-back d.at q at) ∙ both.empty;
+        first = kept-five d.at d.first both.empty at (Apart-back d.first q first) both.first;
+        second = kept-five d.at d.second both.empty at (Apart-back d.second q second) both.second;
         apart = both.apart;
       })
 
   pub all-kept : (ds : List Double) → All (LeavesBoth rule c (other (mover c))) ds → All (λ d. IsBeside d q → LeavesBoth rule (after c q) (mover (after c q)) d) ds
   all-kept ds all i d within beside = both-kept _ (all i d within) beside
-
--- no points in a list of length 0
-no_points : (xs : List Point) → length xs ≡ 0 → xs ≡ []
-no_points [] h = refl
-no_points (x ∷ xs) h = absurd (omega arith)
-
--- a side with a list of no five points has none
-pub none-listed : (rule : RuleKind) (b : Grid) (s : Side) (n : ℕ) → n ≡ length (five_points rule b s) → n ≡ 0 → has_five rule b s ≡ false
-none-listed rule b s n is none = filter-none (five rule b s) (points_of b) (no_points (five_points rule b s) (sym is ∙ none))

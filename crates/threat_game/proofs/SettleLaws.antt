@@ -1,9 +1,6 @@
 -- Wins that are judged, compiled: what is written of each is a win after its reply.
 use Rattle.std.proofs.Common.{◌≡◌, ℕ, ◌+◌, ◌≤◌, true, false, ap, subst, arith, List}
-use Rattle.game_rules.specs.Grid.{Grid}
-use Rattle.game_rules.specs.Shapes.{five}
-use Rattle.game_rules.specs.Play.{IsPosition, outcome, mover, other, after}
-use Rattle.game_rules.specs.Games.{has_five}
+use Rattle.game_rules.proofs.Common.{Grid, five, IsPosition, outcome, mover, other, after, has_five}
 use Rattle.game_rules.specs.declared.RuleKind.{RuleKind}
 use Rattle.game_rules.specs.declared.Outcome.TheVariants.{GoesOn}
 use Rattle.game_rules.specs.declared.Point.{Point}

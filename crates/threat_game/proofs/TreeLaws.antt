@@ -3,47 +3,28 @@ use Rattle.std.proofs.Common.{◌≡◌, ℕ, zero, suc, ◌+◌, ◌≤◌, Boo
 use Rattle.std.specs.Prelude.{All}
 use Rattle.std.specs.List.{list_any, filter, sum_by}
 use Rattle.std.proofs.lemmas.List.Sums.{sum_by-cons}
-use Rattle.game_rules.specs.Grid.{Grid, is_on, points_of}
-use Rattle.game_rules.specs.Shapes.{is_same_point}
-use Rattle.game_rules.specs.Play.{IsPosition, outcome, mover, other, after, goes_on}
-use Rattle.game_rules.specs.Games.{has_five, if_goes_on, is_double_point}
+use Rattle.game_rules.proofs.Common.{Grid, points_of, is_same_point, IsPosition, outcome, mover, other, after, goes_on, has_five, if_goes_on, is_double_point, behind_replies}
 use Rattle.game_rules.specs.declared.RuleKind.{RuleKind}
 use Rattle.game_rules.specs.declared.Outcome.{Outcome}
-use Rattle.game_rules.specs.declared.Outcome.TheVariants.{Refused, Wins, Fouls, Draws, GoesOn}
+use Rattle.game_rules.specs.declared.Outcome.TheVariants.{GoesOn}
 use Rattle.game_rules.specs.declared.Point.{Point}
 use Rattle.game_rules.proofs.Boards.{is_empty-on}
 use Rattle.game_rules.proofs.Positions.{GoesOn-empty, GoesOn-on, IsPosition-after}
-use Rattle.game_rules.proofs.Points.{points-found, is_same_point-itself, is_same_point-same}
+use Rattle.game_rules.proofs.Points.{points-found}
 use Rattle.game_rules.proofs.Fives.{five-empty}
 use Rattle.game_rules.proofs.Outcomes.{if_goes_on-one}
+use Rattle.game_rules.proofs.PointLists.{sum-least}
 use Rattle.row_shapes.proofs.FiveLaws.{has_five-none, none-left, none-short}
 use Rattle.threat_game.specs.declared.doubles.Double.{Double}
 use Rattle.threat_game.specs.declared.replies.Judged.{Judged}
 use Rattle.threat_game.specs.declared.replies.Judged.TheVariants.{Five, Double as DoubleWins, Last, Open}
 use Rattle.threat_game.specs.declared.replies.Child.{Child}
-use Rattle.threat_game.specs.ThreatGame.{is_threat_move, is_safe_threat, behind_replies, threat_tree}
+use Rattle.threat_game.specs.ThreatGame.{is_threat_move, is_safe_threat, threat_tree}
 use Rattle.threat_game.specs.Attacks.{IsDoubleWin}
 use Rattle.threat_game.specs.Replies.{answer_nodes, one_if, IsJudged, IsChild, counted_for, moves_for}
 use Rattle.threat_game.proofs.AttackLaws.{threat-by}
 
 -- ---- sums over points
-
--- a sum is at least each of its numbers
-sum-at : (f : Point → ℕ) (p : Point) (ps : List Point) → list_any (λ x. is_same_point x p) ps ≡ true → f p ≤ sum_by f ps
-sum-at f p [] h = cc
-sum-at f p (x ∷ ps) h = by_test (is_same_point x p) refl h (sum-at f p ps) where
-  by_test : (r : Bool) → is_same_point x p ≡ r → (r || list_any (λ x. is_same_point x p) ps) ≡ true → (list_any (λ x. is_same_point x p) ps ≡ true → f p ≤ sum_by f ps) → f p ≤ sum_by f (x ∷ ps)
-  by_test true e k rest =
-      let same : f x ≡ f p = ap f (is_same_point-same x p e) in
-      let split = sum_by-cons f x ps in
-      omega (arith, same, split)
-  by_test false e k rest =
-      let low = rest k in
-      let split = sum_by-cons f x ps in
-      omega (arith, low, split)
-
-pub sum-least : (f : Point → ℕ) (b : Grid) (p : Point) → is_on b p ≡ true → f p ≤ sum_by f (points_of b)
-sum-least f b p on = sum-at f p (points_of b) (points-found b (λ x. is_same_point x p) p on (is_same_point-itself p))
 
 one-or : (a r : Bool) → one_if (a || r) ≤ one_if a + one_if r
 one-or true true = omega arith

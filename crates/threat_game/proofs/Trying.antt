@@ -1,40 +1,22 @@
 -- The moves that have to be tried are enough: where there is a win by threats, one of them wins.
-use Rattle.std.proofs.Common.{◌≡◌, ℕ, zero, suc, ◌≤◌, Bool, true, false, cond, ◌&&◌, ◌||◌, refl, sym, ap, subst, ◌∙◌, arith, List, [], ◌∷◌, Contains}
-use Rattle.std.specs.Prelude.{IsTrue, Option, Some, None}
-use Rattle.std.specs.List.{list_any, filter}
-use Rattle.game_rules.specs.Grid.{Grid, is_empty, is_on, points_of}
-use Rattle.game_rules.specs.Shapes.{five, is_same_point}
-use Rattle.game_rules.specs.Play.{outcome, outcome_by, foul_of, mover, after, goes_on_with, saves}
-use Rattle.game_rules.specs.Games.{WinsOr, LosesOr, WinsByThreats, has_five, has_threat}
+use Rattle.std.proofs.Common.{◌≡◌, ℕ, zero, suc, ◌≤◌, Bool, true, false, refl, sym, ap, subst, ◌∙◌, arith, List, [], Contains}
+use Rattle.std.specs.Prelude.{IsTrue}
+use Rattle.game_rules.proofs.Common.{Grid, is_on, points_of, outcome, mover, after, goes_on_with, saves, WinsOr, LosesOr, WinsByThreats, has_five, has_threat}
 use Rattle.game_rules.specs.declared.RuleKind.{RuleKind}
-use Rattle.game_rules.specs.declared.Foul.{Foul}
 use Rattle.game_rules.specs.declared.Outcome.{Outcome}
 use Rattle.game_rules.specs.declared.Outcome.TheVariants.{Refused, Wins, Fouls, Draws, GoesOn}
 use Rattle.game_rules.specs.declared.Point.{Point}
-use Rattle.game_rules.proofs.Boards.{is_empty-on}
-use Rattle.game_rules.proofs.Points.{points-found, any_witness, is_same_point-itself, is_same_point-same}
+use Rattle.game_rules.proofs.Points.{any_witness}
 use Rattle.game_rules.proofs.Positions.{GoesOn-on}
-use Rattle.game_rules.proofs.Outcomes.{outcome-five}
+use Rattle.game_rules.proofs.Outcomes.{saved}
 use Rattle.game_rules.proofs.Places.{points_passing}
-use Rattle.game_rules.proofs.Fives.{five-empty}
+use Rattle.game_rules.proofs.Games.{win-has_five}
 use Rattle.threat_game.specs.ThreatGame.{is_threat_move, LosesToThreats}
 use Rattle.threat_game.specs.Attacks.{OthersFail, is_tried, tried_moves}
 use Rattle.threat_game.specs.Replies.{HasEscape}
 
-pub win-has_five : (rule : RuleKind) (b : Grid) (p : Point) → outcome rule b p ≡ Wins → has_five rule b (mover b) ≡ true
-win-has_five rule b p h =
-    let five_here = outcome-five rule b p h in
-    points-found b (five rule b (mover b)) p (is_empty-on b p (five-empty rule b (mover b) p five_here)) five_here
-
 tried-listed : (rule : RuleKind) (b : Grid) (p : Point) → is_on b p ≡ true → is_tried rule b p ≡ true → Contains (tried_moves rule b) p
 tried-listed rule b p on tried = points_passing b (is_tried rule b) p on tried
-
-saved : (o : Outcome) (W : Type 0) → saves o ≡ true → LosesOr o W → ⊥
-saved Refused W h k = cc
-saved Wins W h k = k
-saved (Fouls f) W h k = cc
-saved Draws W h k = k
-saved GoesOn W h k = cc
 
 pub tried-enough : (rule : RuleKind) (n : ℕ) (b : Grid) → has_five rule b (mover b) ≡ false → OthersFail rule b → WinsByThreats rule (suc n) b → (p : Point) × Contains (tried_moves rule b) p × LosesToThreats rule n (after b p)
 unfolding is_threat_move

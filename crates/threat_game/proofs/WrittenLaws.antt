@@ -1,14 +1,12 @@
 -- Wins of one move as nodes of a table.
-use Rattle.std.proofs.Common.{◌≡◌, ℕ, zero, suc, ◌≤◌, true, sym, subst, arith, List, []}
-use Rattle.game_rules.specs.Grid.{Grid}
-use Rattle.game_rules.specs.Shapes.{five}
-use Rattle.game_rules.specs.Play.{IsPosition, outcome, mover, after}
-use Rattle.game_rules.specs.Games.{WinsOr, LosesOr, WinsByThreats, WinsWithin, has_threat}
+use Rattle.std.proofs.Common.{◌≡◌, ℕ, zero, suc, ◌≤◌, true, subst, arith, List, []}
+use Rattle.game_rules.proofs.Common.{Grid, five, IsPosition, outcome, mover, after, LosesOr, WinsByThreats, WinsWithin}
 use Rattle.game_rules.specs.declared.RuleKind.{RuleKind}
 use Rattle.game_rules.specs.declared.Outcome.{Outcome}
 use Rattle.game_rules.specs.declared.Outcome.TheVariants.{Refused, Wins as WinsNow, Fouls, Draws, GoesOn}
 use Rattle.game_rules.specs.declared.Point.{Point}
 use Rattle.game_rules.proofs.Outcomes.{five-outcome}
+use Rattle.game_rules.proofs.Games.{five-threats}
 use Rattle.strategy_graph.specs.declared.Node.{Node}
 use Rattle.strategy_graph.proofs.Soundness.{accepted-wins}
 use Rattle.strategy_compiler.specs.declared.wins.WrittenWin.{WrittenWin}
@@ -29,13 +27,6 @@ threat-win rule t win m n b won l wins = record {
 }
 
 -- ---- wins of one move
-
-five-threats : (rule : RuleKind) (b : Grid) (w : Point) (n : ℕ) → five rule b (mover b) w ≡ true → 1 ≤ n → WinsByThreats rule n b
-five-threats rule b w zero h l = absurd (omega arith)
-five-threats rule b w (suc n) h l = (
-  w,
-  subst (λ (o : Outcome). WinsOr o ((has_threat rule (after b w) (mover b) ≡ true) × ((q : Point) → LosesOr (outcome rule (after b w) q) (WinsByThreats rule n (after (after b w) q))))) (sym (five-outcome rule b w h)) tt,
-)
 
 last-threats : (rule : RuleKind) (b : Grid) (p : Point) (n : ℕ) → is_last_move rule b p ≡ true → 1 ≤ n → WinsByThreats rule n b
 last-threats rule b p zero h l = absurd (omega arith)

@@ -7,12 +7,9 @@ use Rattle.game_rules.specs.Play.{outcome, goes_on, saves, mover, after, other}
 use Rattle.game_rules.specs.Games.{has_five}
 use Rattle.game_rules.specs.declared.RuleKind.{RuleKind}
 use Rattle.game_rules.specs.declared.Side.{Side}
-use Rattle.game_rules.specs.declared.Outcome.{Outcome}
-use Rattle.game_rules.specs.declared.Outcome.TheVariants.{Refused, Wins, Fouls, Draws, GoesOn}
+use Rattle.game_rules.specs.declared.Outcome.TheVariants.{GoesOn}
 use Rattle.game_rules.specs.declared.Point.{Point}
 use Rattle.threat_moves.specs.OneBlock.{all_foul}
-use Rattle.row_shapes.specs.declared.fives.FivePoints.{FivePoints}
-use Rattle.row_shapes.specs.declared.fives.FivePoints.TheVariants.{None as NoPoint, One, Several}
 use Rattle.threat_game.specs.declared.attacks.Attacks.{Attacks}
 use Rattle.threat_game.specs.declared.attacks.Attacks.TheVariants.{Double as DoubleWins, NoReply, Moves}
 use Rattle.threat_game.specs.declared.attacks.Attempt.{Attempt}
@@ -85,9 +82,3 @@ abbrev pub AreAttacks : RuleKind → Grid → Attacks → Type 0
 AreAttacks rule b (DoubleWins d) = IsDoubleWin rule b d
 AreAttacks rule b (NoReply p) = is_last_move rule b p ≡ true
 AreAttacks rule b (Moves ps) = (ps ≡ tried_moves rule b) × OthersFail rule b
-
--- whether a move at p may leave the other side no five point, where that has these: none, p alone, or more
-abbrev pub takes : FivePoints → Point → Bool
-takes NoPoint p = true
-takes (One w) p = is_same_point w p
-takes Several p = false

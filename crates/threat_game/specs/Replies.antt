@@ -4,7 +4,7 @@ use Rattle.std.specs.List.{list_any, filter, sum_by}
 use Rattle.game_rules.specs.Grid.{Grid, points_of}
 use Rattle.game_rules.specs.Shapes.{five, is_same_point}
 use Rattle.game_rules.specs.Play.{outcome, mover, after, goes_on}
-use Rattle.game_rules.specs.Games.{WinsByThreats, has_five}
+use Rattle.game_rules.specs.Games.{WinsByThreats, has_five, behind_replies}
 use Rattle.game_rules.specs.declared.RuleKind.{RuleKind}
 use Rattle.game_rules.specs.declared.Outcome.TheVariants.{GoesOn}
 use Rattle.game_rules.specs.declared.Point.{Point}
@@ -15,7 +15,7 @@ use Rattle.threat_game.specs.declared.replies.Judgement.{Judgement}
 use Rattle.threat_game.specs.declared.replies.Judgement.TheVariants.{NoReply, Escape, Known}
 use Rattle.threat_game.specs.declared.replies.Child.{Child}
 use Rattle.threat_game.specs.declared.replies.Children.{Children}
-use Rattle.threat_game.specs.ThreatGame.{behind_replies, threat_tree}
+use Rattle.threat_game.specs.ThreatGame.{threat_tree}
 use Rattle.threat_game.specs.Attacks.{is_last_move, IsDoubleWin}
 
 -- whether the reply w goes on

@@ -3,7 +3,7 @@ use Rattle.std.specs.Prelude.{ℕ, zero, suc, ◌+◌, Bool, ◌&&◌, not, if�
 use Rattle.std.specs.List.{sum_by}
 use Rattle.game_rules.specs.Grid.{Grid, points_of}
 use Rattle.game_rules.specs.Play.{outcome, mover, after, other, goes_on_with}
-use Rattle.game_rules.specs.Games.{LosesOr, WinsByThreats, has_five, has_threat, if_goes_on}
+use Rattle.game_rules.specs.Games.{LosesOr, WinsByThreats, has_five, has_threat, behind_replies}
 use Rattle.game_rules.specs.declared.RuleKind.{RuleKind}
 use Rattle.game_rules.specs.declared.Point.{Point}
 
@@ -14,10 +14,6 @@ is_threat_move rule b p = goes_on_with (outcome rule b p) (has_threat rule (afte
 -- such a move that leaves the other side no five point
 abbrev pub is_safe_threat : RuleKind → Grid → Point → Bool
 is_safe_threat rule b p = is_threat_move rule b p && not (has_five rule (after b p) (other (mover b)))
-
--- the sum of the counts at the boards after each reply that goes on
-abbrev pub behind_replies : RuleKind → (Grid → ℕ) → Grid → ℕ
-behind_replies rule count c = sum_by (λ q. if_goes_on (outcome rule c q) (count (after c q))) (points_of c)
 
 -- The positions of the game of threats within n moves, with the attacker to move: 1, and where the attacker has no five point
 -- and n is 2 or more, those after each reply to each move that leaves the other side no five point.

@@ -17,12 +17,12 @@ ghost use Rattle.threat_moves.specs.ThreeMoves.{is_several as is_several_lem, ha
 ghost use Rattle.threat_game.specs.ThreatGame.{is_threat_move as is_threat_move_lem};
 ghost use Rattle.threat_game.specs.FreeMoves.{EachGoesOn};
 ghost use Rattle.threat_game.specs.NearDoubles.{FarAreNone, is_some_point as is_some_point_lem, makes_two as makes_two_lem, some_makes_two as some_makes_two_lem};
-ghost use Rattle.threat_game.specs.Attacks.{AreAttacks, IsAttempt, IsDoubleWin, best_reply as best_reply_lem, takes as takes_lem};
+ghost use Rattle.threat_game.specs.Attacks.{AreAttacks, IsAttempt, IsDoubleWin, best_reply as best_reply_lem};
 
 use crate::doubles::{Double, double_at};
 use crate::last_moves::has_fouls;
 use foul_judge::{Outcome, Seen};
-use row_shapes::{FivePoints, Rule};
+use row_shapes::{FivePoints, Rule, takes};
 use std::alloc::{AllocError, Global};
 use stone_board::{Board, Point, Points, Side};
 use threat_moves::{is_four_move, is_new_double_point, is_three_move};
@@ -207,17 +207,6 @@ fn judge_move<R: Rule, V: Seen<R>>(
         BestReply::GoesOn => Attempt::Tried,
         BestReply::Saves => Attempt::Passed,
         BestReply::Fouls => Attempt::Last,
-    }
-}
-
-/// Whether a move may leave the other side no five point, where that has these: it has none, or the move takes the only one.
-fn takes(threat: FivePoints, p: Point) -> bool
-    ensures takes { result ≡ takes_lem threat p }
-{
-    match threat {
-        FivePoints::None => true,
-        FivePoints::One(w) => w.is(p),
-        FivePoints::Several => false,
     }
 }
 

@@ -117,17 +117,10 @@ fn is_other_reply<R: Rule, V: Seen<R>>(view: &mut V, first: Point, q: Point) -> 
     ensures reply { result ≡ (goes_on_lem (outcome_lem R.KIND (V.position view.old) q) && not (is_same_point q first)) }
     ensures same { V.position view.new ≡ V.position view.old }
 {
-    if is_same(q, first) {
+    if q.is(first) {
         return false;
     }
     goes_on::<R, V>(view, q)
-}
-
-/// Whether the two points are one.
-pub fn is_same(p: Point, q: Point) -> bool
-    ensures same { result ≡ is_same_point p q }
-{
-    p.x == q.x && p.y == q.y
 }
 
 /// The same after the double point, which goes on.

@@ -19,7 +19,7 @@ ghost use Rattle.threat_game.specs.Replies.{AreReplies, IsJudged, IsJudgement, I
 ghost use Rattle.threat_game.specs.Wins.{IsThreatWin};
 
 use crate::attacks::{each_goes_on, goes_on_where};
-use crate::doubles::{Double, answers_of, compile_double, first_doubles, is_same};
+use crate::doubles::{Double, answers_of, compile_double, first_doubles};
 use crate::escapes::fails_after;
 use crate::last_moves::last_move;
 use crate::written::{compile_five, compile_last};
@@ -243,7 +243,7 @@ pub fn five_beside(fives: &Points, q: Point) -> Option<Point>
     ensures beside { result ≡ find (λ w. not (is_same_point w q)) fives.now }
 {
     for five in fives.as_slice() {
-        if !is_same(*five, q) {
+        if !five.is(q) {
             return Some(*five);
         }
     }
@@ -313,7 +313,7 @@ fn still_double<R: Rule, V: Seen<R>>(view: &mut V, q: Point, doubles: &[Double])
 fn is_beside(double: Double, q: Point) -> bool
     ensures beside { result ≡ is_beside_lem double q }
 {
-    !is_same(double.at, q) && !is_same(double.first, q) && !is_same(double.second, q)
+    !double.at.is(q) && !double.first.is(q) && !double.second.is(q)
 }
 
 /// Compiles the win after the reply of a child, unless it is open. The view is as before; the nodes of the compiler stay, those

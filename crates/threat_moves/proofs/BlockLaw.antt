@@ -1,52 +1,24 @@
 -- In the game of continuous fours only the block of a four needs an answer of its own.
-use Rattle.std.proofs.Common.{◌≡◌, inl, inr, ℕ, zero, suc, Bool, true, false, cond, ◌&&◌, refl, sym, ap, subst, ◌∙◌, arith, List, [], ◌∷◌, nat_eq}
-use Rattle.std.specs.Prelude.{Option, Some, None}
+use Rattle.std.proofs.Common.{◌≡◌, inl, inr, ℕ, zero, suc, Bool, true, false, cond, ◌&&◌, refl, sym, ap, subst, ◌∙◌, List, [], ◌∷◌}
 use Rattle.std.specs.List.{list_all}
-use Rattle.std.proofs.lemmas.Bool.Decides.{nat_tests}
-use Rattle.game_rules.specs.Grid.{Grid, is_on, is_empty, points_of, empties_of}
-use Rattle.game_rules.specs.Shapes.{five}
-use Rattle.game_rules.specs.Play.{IsPosition, outcome, outcome_by, foul_of, mover, other, after}
-use Rattle.game_rules.specs.Games.{has_five, five_points, wins_or, loses_or, starts_win, wins_under, wins_by_fours}
+use Rattle.game_rules.proofs.Common.{Grid, is_on, points_of, five, IsPosition, outcome, mover, other, after, has_five, five_points, wins_or, loses_or, wins_under, wins_by_fours}
 use Rattle.game_rules.specs.declared.RuleKind.{RuleKind}
-use Rattle.game_rules.specs.declared.Foul.{Foul}
 use Rattle.game_rules.specs.declared.Outcome.{Outcome}
 use Rattle.game_rules.specs.declared.Outcome.TheVariants.{Refused, Wins, Fouls, Draws, GoesOn}
 use Rattle.game_rules.specs.declared.Point.{Point}
-use Rattle.game_rules.proofs.Boards.{and_left, and_right, is_empty-on, is_empty-put, Apart, same_or_apart, empties_of-put}
+use Rattle.game_rules.proofs.Boards.{and_left, and_right, is_empty-on, Apart, same_or_apart}
 use Rattle.game_rules.proofs.Points.{points-found, any_witness, all_of, all_at, filter-passes, filter-none}
 use Rattle.game_rules.proofs.Fives.{five-empty, five-other}
 use Rattle.game_rules.proofs.Places.{two_passing-apart}
-use Rattle.game_rules.proofs.Positions.{IsBoard-put, IsPosition-after, GoesOn-empty, mover-after, mover-then}
-use Rattle.game_rules.proofs.Outcomes.{five-outcome, outcome-five, refused-taken, loses_or-by, draws-last}
+use Rattle.game_rules.proofs.Positions.{IsPosition-after, GoesOn-empty, mover-after, mover-then}
+use Rattle.game_rules.proofs.Outcomes.{five-outcome, outcome-five, refused-taken, loses_or-by, no_other_empty}
+use Rattle.game_rules.proofs.Games.{none_in_zero, five-wins}
 use Rattle.threat_moves.specs.declared.block.BlockAnswer.TheVariants.{Lost}
 use Rattle.threat_moves.specs.Blocks.{by_block, by_fives, fate}
 use Rattle.threat_moves.specs.OneBlock.{block_wins, BlockDecides, LeavesFive, OthersLeaveFive}
 use Rattle.threat_moves.proofs.FourLaws.{four-goes_on, four-five}
 
-module _ (rule : RuleKind) (c : Grid) (q : Point) (draws : outcome rule c q ≡ Draws) where
-  -- a move that draws leaves no other point empty
-  no_other_empty : IsPosition rule c → (w : Point) → is_empty c w ≡ true → Apart q w → ⊥
-  no_other_empty lawful w empty apart =
-      let one : empties_of c ≡ 1 = let last = (draws-last rule c q draws).1 in grind (arith, nat_tests) in
-      let here = empties_of-put c (mover c) q lawful.board (draws-last rule c q draws).0 in
-      let still : is_empty (after c q) w ≡ true = is_empty-put c (mover c) q w (is_empty-on c q (draws-last rule c q draws).0) apart ∙ empty in
-      let there = empties_of-put (after c q) (mover c) w (IsBoard-put c (mover c) q lawful.board) still in
-      absurd (omega (arith, one, here, there))
-
 -- ---- a five point wins by fours
-
-five-starts : (rule : RuleKind) (b : Grid) (next : Grid → Bool) (p : Point) → five rule b (mover b) p ≡ true → starts_win (has_five rule) rule b next p ≡ true
-five-starts rule b next p h = let wins : outcome rule b p ≡ Wins = five-outcome rule b p h in rw wins refl
-
-pub five-wins : (rule : RuleKind) (b : Grid) (n : ℕ) → has_five rule b (mover b) ≡ true → wins_by_fours rule (suc n) b ≡ true
-unfolding wins_under
-five-wins rule b n h =
-    let found = any_witness (five rule b (mover b)) (points_of b) h in
-    points-found b (starts_win (has_five rule) rule b (wins_under (has_five rule) rule n)) found.0 (is_empty-on b found.0 (five-empty rule b (mover b) found.0 found.1)) (five-starts rule b (wins_under (has_five rule) rule n) found.0 found.1)
-
-no-wins : (rule : RuleKind) (b : Grid) → wins_by_fours rule zero b ≡ false
-unfolding wins_under
-no-wins rule b = refl
 
 -- ---- after a four: c, where the defender is to move
 
@@ -112,7 +84,7 @@ module _ (rule : RuleKind) (c : Grid) (lawful : IsPosition rule c) where
     one-block n Draws e = not-all n w w_on (lost-block n Draws e)
     one-block zero (Fouls f) e = refl
     one-block (suc n) (Fouls f) e = block-lost n (lost-block (suc n) (Fouls f) e)
-    one-block zero GoesOn e = not-all zero w w_on (lost-block zero GoesOn e ∙ no-wins rule (after c w)) ∙ sym (no-wins rule (after c w))
+    one-block zero GoesOn e = not-all zero w w_on (lost-block zero GoesOn e ∙ none_in_zero rule (after c w)) ∙ sym (none_in_zero rule (after c w))
     one-block (suc n) GoesOn e = by_test (wins_by_fours rule (suc n) (after c w)) refl where
       by_test : (r : Bool) → wins_by_fours rule (suc n) (after c w) ≡ r → list_all (lost (suc n)) (points_of c) ≡ r
       by_test true k = block-lost n (lost-block (suc n) GoesOn e ∙ k)

@@ -3,10 +3,7 @@
 use Rattle.std.proofs.Common.{◌≡◌, ◌≢◌, inl, inr, ℕ, ◌+◌, ◌-◌, ◌≤◌, ◌<◌, Bool, true, false, ◌&&◌, not, refl, sym, ap, ◌∙◌, arith, nat_eq}
 use Rattle.std.specs.Prelude.{Option, Some, None, is_none, nat_le}
 use Rattle.std.proofs.lemmas.Bool.{eq-eqb, eqb-true, le-leb}
-use Rattle.game_rules.specs.Grid.{Grid, IsBoard, is_empty, put, along, points_of, holds}
-use Rattle.game_rules.specs.Shapes.{is_line_three_point, five}
-use Rattle.game_rules.specs.Play.{foul_of, black_foul, has_fouls, other}
-use Rattle.game_rules.specs.Ways.{towards, opposite, stones_towards, go}
+use Rattle.game_rules.proofs.Common.{Grid, IsBoard, is_empty, put, along, points_of, holds, is_line_three_point, five, foul_of, black_foul, has_fouls, other, towards, opposite, stones_towards, go}
 use Rattle.game_rules.specs.declared.RuleKind.{RuleKind}
 use Rattle.game_rules.specs.declared.RuleKind.TheVariants.{Freestyle, Exact, Renju}
 use Rattle.game_rules.specs.declared.Side.{Side}
@@ -17,19 +14,20 @@ use Rattle.game_rules.specs.declared.Axis.TheVariants.{Row, Column, Down, Up}
 use Rattle.game_rules.specs.declared.Point.{Point}
 use Rattle.game_rules.specs.declared.Way.{Way}
 use Rattle.game_rules.specs.declared.Way.TheVariants.{Ahead, Behind}
-use Rattle.game_rules.proofs.Boards.{Apart, and_left, and_right, is_empty-on, is_empty-put, same_or_apart, other-other}
+use Rattle.game_rules.proofs.Boards.{Apart, and_left, and_right, is_empty-on, is_empty-put, same_or_apart, other-other, stone_kept}
 use Rattle.game_rules.proofs.Fives.{five-other}
 use Rattle.game_rules.proofs.Lines.{OnLine, along-OnLine, along-same}
 use Rattle.game_rules.proofs.Points.{any_witness, points-found}
 use Rattle.game_rules.proofs.Positions.{IsBoard-put}
 use Rattle.game_rules.proofs.OneLine.{holds-put_others, towards_alike}
+use Rattle.game_rules.proofs.Threes.{three_empty}
 use Rattle.row_shapes.specs.Threes.{wins_past, is_open_four}
-use Rattle.row_shapes.proofs.ThreePoints.{three-open, three_empty, three_first, three_near}
+use Rattle.row_shapes.proofs.ThreePoints.{three-open, three_first, three_near}
+use Rattle.foul_judge.proofs.FewerEmpties.{white-no_foul}
 use Rattle.threat_moves.specs.Threats.{is_straight_point, has_straight_point, stops_three}
 use Rattle.threat_moves.specs.FiveEnds.{is_near, IsSure, CostsAreNear}
-use Rattle.threat_moves.proofs.StraightPoints.{straight-line, line_three, stone_kept}
+use Rattle.threat_moves.proofs.StraightPoints.{straight-line, line_three}
 use Rattle.threat_moves.proofs.GainLaws.{empty-stops}
-use Rattle.threat_moves.proofs.FewerEmpties.{white-no_foul}
 
 -- ---- what is near on a line
 

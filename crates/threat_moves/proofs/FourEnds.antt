@@ -3,9 +3,7 @@ use Rattle.std.proofs.Common.{◌≡◌, inl, inr, ◌≤◌, ◌<◌, Bool, tru
 use Rattle.std.specs.Prelude.{Option, Some, None, is_some}
 use Rattle.std.specs.List.{filter}
 use Rattle.std.proofs.lemmas.Bool.{both_ways, false_from_ne_true, or_left, or_right, or_cases}
-use Rattle.game_rules.specs.Grid.{Grid, IsBoard, is_empty, holds, put, points_of}
-use Rattle.game_rules.specs.Shapes.{wins_on, is_at, is_in_run}
-use Rattle.game_rules.specs.Ways.{stones_towards, run_end}
+use Rattle.game_rules.proofs.Common.{Grid, IsBoard, is_empty, holds, put, points_of, wins_on, is_at, is_in_run, stones_towards, run_end}
 use Rattle.game_rules.specs.declared.RuleKind.{RuleKind}
 use Rattle.game_rules.specs.declared.Side.{Side}
 use Rattle.game_rules.specs.declared.Axis.{Axis}

@@ -1,23 +1,22 @@
 -- What the stone on a gain is asked for, and what is found where it is taken off again; double points.
-use Rattle.std.proofs.Common.{◌≡◌, ◌≤◌, Bool, true, false, cond, ◌&&◌, not, List, [], ◌∷◌, length, refl, sym, ap, ◌∙◌, arith}
+use Rattle.std.proofs.Common.{◌≡◌, ◌≤◌, Bool, true, false, cond, ◌&&◌, not, List, [], ◌∷◌, length, refl, sym, ap, ◌∙◌, arith, ◌||◌}
 use Rattle.std.specs.Prelude.{nat_le}
-use Rattle.std.specs.List.{flat_map}
+use Rattle.std.specs.List.{flat_map, list_any}
 use Rattle.std.proofs.lemmas.Bool.Decides.{nat_tests}
 use Rattle.std.proofs.Math.Bool.{and-false, and-true}
-use Rattle.game_rules.specs.Grid.{Grid, is_empty, put, axes}
-use Rattle.game_rules.specs.Shapes.{five}
-use Rattle.game_rules.specs.Play.{other, outcome, mover, goes_on_with}
-use Rattle.game_rules.specs.Games.{five_points, is_double_point}
+use Rattle.game_rules.proofs.Common.{Grid, is_empty, put, axes, points_of, five, other, outcome, mover, goes_on_with, five_points, is_double_point, has_five, has_threat}
 use Rattle.game_rules.specs.declared.RuleKind.{RuleKind}
 use Rattle.game_rules.specs.declared.Side.{Side}
 use Rattle.game_rules.specs.declared.Outcome.TheVariants.{GoesOn}
 use Rattle.game_rules.specs.declared.Axis.{Axis}
 use Rattle.game_rules.specs.declared.Point.{Point}
 use Rattle.game_rules.proofs.Boards.{and_left}
+use Rattle.game_rules.proofs.Points.{any_witness}
+use Rattle.game_rules.proofs.Fives.{five-empty}
 use Rattle.row_shapes.specs.FivePoints.{in_short}
 use Rattle.threat_moves.specs.declared.threat_list.ThreatKind.{ThreatKind}
 use Rattle.threat_moves.specs.Threats.{is_gain, is_threat, makes_threat, stops_three, has_straight_point, threats_on, threats_at}
-use Rattle.threat_moves.specs.ThreeMoves.{is_several, is_three_move, makes_double_point}
+use Rattle.threat_moves.specs.ThreeMoves.{is_several, is_three_move, makes_double_point, has_double_point}
 
 module _ (rule : RuleKind) (b : Grid) (s : Side) (g : Point) where
   pub gain-empty : is_gain rule b s g ≡ true → is_empty b g ≡ true
@@ -86,3 +85,20 @@ module _ (rule : RuleKind) (b : Grid) (s : Side) (d : Axis) (g q : Point) where
 pub goes_on-three : (rule : RuleKind) (b : Grid) (p : Point) → outcome rule b p ≡ GoesOn → is_three_move rule b p ≡ makes_double_point rule b (mover b) p
 unfolding is_three_move
 goes_on-three rule b p h = ap (λ o. goes_on_with o (makes_double_point rule b (mover b) p)) h
+
+-- a double point is empty
+pub double-empty : (rule : RuleKind) (c : Grid) (s : Side) (w : Point) → is_double_point rule c s w ≡ true → is_empty c w ≡ true
+double-empty rule c s w e = gain-empty rule c s w (and_left (is_gain rule c s w) _ (sym (double-parts rule c s w) ∙ e))
+
+-- a threat leaves a point empty
+pub threat-empty : (rule : RuleKind) (c : Grid) (s : Side) → has_threat rule c s ≡ true → (w : Point) × (is_empty c w ≡ true)
+threat-empty rule c s h = by_test (has_five rule c s) refl h where
+  by_test : (r : Bool) → has_five rule c s ≡ r → (r || list_any (is_double_point rule c s) (points_of c)) ≡ true → (w : Point) × (is_empty c w ≡ true)
+  by_test true e k = let found = any_witness (five rule c s) (points_of c) e in (found.0, five-empty rule c s found.0 found.1)
+  by_test false e k = let found = any_witness (is_double_point rule c s) (points_of c) k in (found.0, double-empty rule c s found.0 found.1)
+
+pub threat-by_five : (rule : RuleKind) (c : Grid) (s : Side) → has_five rule c s ≡ true → true ≡ has_threat rule c s
+threat-by_five rule c s h = sym (ap (λ r. r || has_double_point rule c s) h)
+
+pub threat-by_double : (rule : RuleKind) (c : Grid) (s : Side) → has_five rule c s ≡ false → has_double_point rule c s ≡ has_threat rule c s
+threat-by_double rule c s h = sym (ap (λ r. r || has_double_point rule c s) h)

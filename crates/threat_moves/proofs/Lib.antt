@@ -11,5 +11,6 @@ pub mod StraightPoints
 -- gains and double points
 pub mod GainLaws
 -- stones away from a three leave it as it was, and a white stone frees no three that makes a foul
-pub mod FewerEmpties
 pub mod FarStones
+-- lists of threats, and lists of such lists
+pub mod ThreatLists

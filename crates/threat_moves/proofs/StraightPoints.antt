@@ -1,28 +1,25 @@
 -- The points at which a three becomes a straight four are among the places of its line; a gain with few stones within reach
 -- makes no threat.
-use Rattle.std.proofs.Common.{◌≡◌, ◌≢◌, inl, inr, ℕ, ◌<◌, ◌/◌, ◌^◌, bit_and, Bool, true, false, cond, ◌&&◌, not, [], refl, sym, ap, ◌∙◌, arith}
+use Rattle.std.proofs.Common.{◌≡◌, ℕ, ◌<◌, Bool, true, false, cond, ◌&&◌, not, [], refl, sym, ap, ◌∙◌, arith}
 use Rattle.std.specs.List.{list_any, flat_map}
 use Rattle.std.specs.Prelude.{Option, Some, None, is_some, is_none, nat_le}
-use Rattle.std.specs.Int.{bit_at}
-use Rattle.std.proofs.lemmas.Nat.Bits.{shr_and_one}
 use Rattle.std.proofs.lemmas.Bool.Decides.{nat_tests}
-use Rattle.std.proofs.Math.Bool.{and-true, and-false}
-use Rattle.game_rules.specs.Grid.{Grid, IsBoard, is_on, is_empty, put, along, axes, points_of, holds}
-use Rattle.game_rules.specs.Shapes.{is_three_point, is_line_three_point, is_line_three_at, five, wins_on}
-use Rattle.game_rules.specs.Play.{foul_of}
+use Rattle.game_rules.proofs.Common.{Grid, IsBoard, is_on, is_empty, put, along, axes, points_of, holds, is_line_three_point, is_line_three_at, five, foul_of}
 use Rattle.game_rules.specs.declared.RuleKind.{RuleKind}
 use Rattle.game_rules.specs.declared.Side.{Side}
 use Rattle.game_rules.specs.declared.Axis.{Axis}
 use Rattle.game_rules.specs.declared.Axis.TheVariants.{Row, Column, Down, Up}
 use Rattle.game_rules.specs.declared.Point.{Point}
 use Rattle.game_rules.proofs.Axes.{no_axis}
-use Rattle.game_rules.proofs.Boards.{and_left, empty_holds, is_empty-on, same_or_apart, holds-put_other, holds-put_same}
+use Rattle.game_rules.proofs.Boards.{and_left, is_empty-on, holds-put_same}
 use Rattle.game_rules.proofs.Positions.{IsBoard-put}
 use Rattle.game_rules.proofs.Points.{points-found, none_of}
+use Rattle.game_rules.proofs.Threes.{three_empty, three_by}
 use Rattle.stone_board.specs.Steps.{kept_on}
+use Rattle.stone_board.proofs.Looks.{three-kept}
 use Rattle.row_shapes.specs.Reach.{stones_in_reach}
 use Rattle.row_shapes.proofs.Reaches.{reach-put, few-no_three}
-use Rattle.row_shapes.proofs.ThreePoints.{three_empty, three_near, three-kept}
+use Rattle.row_shapes.proofs.ThreePoints.{three_near}
 use Rattle.threat_moves.specs.Threats.{is_straight_point, has_straight_point, is_gain, threats_on, threats_at}
 use Rattle.threat_moves.specs.FiveEnds.{is_straight_at}
 use Rattle.threat_moves.proofs.FourEnds.{few-no_four}
@@ -30,14 +27,9 @@ use Rattle.threat_moves.proofs.FourEnds.{few-no_four}
 -- ---- one point
 
 module _ (rule : RuleKind) (b : Grid) (s : Side) (d : Axis) (p : Point) where
-  pub three_by : (q : Point) (r : Bool) → five rule b s q ≡ r → is_three_point rule b s d p q ≡ (is_line_three_point rule b s d p q && not r)
-  unfolding is_three_point is_line_three_point
-  three_by q true h = rw (h, and-false (is_empty b q)) (sym (and-false _))
-  three_by q false h = rw (h, no_axis (λ d. wins_on rule b s d q) h d) (sym (and-true _))
-
   pub straight-line : (q : Point) → is_straight_point rule b s d p q ≡ (is_line_three_point rule b s d p q && not (five rule b s q) && is_none (foul_of rule b s q))
   unfolding is_straight_point
-  straight-line q = ap (λ r. r && is_none (foul_of rule b s q)) (three_by q (five rule b s q) refl)
+  straight-line q = ap (λ r. r && is_none (foul_of rule b s q)) ((three_by rule b s d p) q (five rule b s q) refl)
 
   pub line_three : (q : Point) → is_straight_point rule b s d p q ≡ true → is_line_three_point rule b s d p q ≡ true
   line_three q h = and_left (is_line_three_point rule b s d p q) _ (and_left (is_line_three_point rule b s d p q && not (five rule b s q)) _ (sym (straight-line q) ∙ h))
@@ -77,7 +69,6 @@ module _ (rule : RuleKind) (b : Grid) (s : Side) (d : Axis) (p : Point) where
       cc)
 
   -- ---- few stones within reach
-
   few-no_straight : IsBoard b → holds b s p ≡ true → stones_in_reach b s d p < 2 → has_straight_point rule b s d p ≡ false
   unfolding has_straight_point
   few-no_straight ok mine few = none_of (is_straight_point rule b s d p) (points_of b) (λ q h.
@@ -110,25 +101,6 @@ module _ (rule : RuleKind) (b : Grid) (s : Side) (g : Point) (ok : IsBoard b) (e
   no_threats = by_gain (is_gain rule b s g)
 
 -- ---- single steps of the code
-
--- a stone of either side on an empty point takes no stone away
-pub stone_kept : (b : Grid) (s t : Side) (g q : Point) → holds b s g ≡ true → is_empty b q ≡ true → holds (put b t q) s g ≡ true
-stone_kept b s t g q mine empty = elim (same_or_apart q g) [
-  | inl same ↦ absurd (
-      let none : holds b s g ≡ false = ap (holds b s) (sym same) ∙ empty_holds b s q empty in
-      let differ : true ≡ false = sym mine ∙ none in
-      cc)
-  | inr apart ↦ holds-put_other b t s q g (is_empty-on b q empty) apart ∙ mine
-]
-
--- what was answered of a board is so of another that is the same
-pub answer_at : (f : Grid → Bool) (b c : Grid) (r v : Bool) → r ≡ f b → b ≡ c → r ≡ v → f c ≡ v
-answer_at f b c r v e same h = sym (ap f same) ∙ sym e ∙ h
-
--- a bit that is not set says no
-pub bit_clear : (n i : ℕ) (r : Bool) → bit_at n i ≡ cond r 1 0 → bit_and (n / 2 ^ i) 1 ≢ 1 → r ≡ false
-bit_clear n i true e h = absurd (h (shr_and_one n i ∙ e))
-bit_clear n i false e h = refl
 
 pub none-not_some : {A : Type 0} (o : Option A) → is_none o ≡ not (is_some o)
 none-not_some None = refl

@@ -4,31 +4,20 @@ use Rattle.std.proofs.Common.{◌≡◌, suc, ◌-◌, ◌<◌, Bool, true, fals
 use Rattle.std.specs.Prelude.{is_none}
 use Rattle.std.proofs.lemmas.Bool.{false_from_ne_true}
 use Rattle.std.proofs.lemmas.Bool.Decides.{nat_tests}
-use Rattle.game_rules.specs.Grid.{Grid, IsBoard, is_on, is_empty, is_empty_cell, is_stone_of, cell_at, put, lift}
-use Rattle.game_rules.specs.Shapes.{five}
-use Rattle.game_rules.specs.Play.{foul_of, has_fouls}
-use Rattle.game_rules.specs.Games.{is_double_point, has_five, five_points}
-use Rattle.game_rules.specs.Lines.{is_aligned}
+use Rattle.game_rules.proofs.Common.{Grid, IsBoard, is_on, is_empty, is_stone_of, cell_at, put, lift, five, foul_of, has_fouls, is_double_point, has_five, five_points, is_aligned}
 use Rattle.game_rules.specs.declared.RuleKind.{RuleKind}
 use Rattle.game_rules.specs.declared.Side.{Side}
-use Rattle.game_rules.specs.declared.Side.TheVariants.{Black, White}
-use Rattle.game_rules.specs.declared.Cell.{Cell}
-use Rattle.game_rules.specs.declared.Cell.TheVariants.{Empty, Black as BlackStone, White as WhiteStone}
 use Rattle.game_rules.specs.declared.Point.{Point}
 use Rattle.game_rules.proofs.Boards.{and_left, and_right}
 use Rattle.game_rules.proofs.Positions.{IsBoard-lift, put-lift}
 use Rattle.game_rules.proofs.OneLine.{KeepsLines, put-kept, open_kept, no_five_kept, more_fives}
+use Rattle.game_rules.proofs.Cells.{side_there}
 use Rattle.stone_board.specs.Steps.{holds_stone}
 use Rattle.threat_moves.specs.declared.threat_list.Threat.{Threat}
 use Rattle.threat_moves.proofs.GainLaws.{several}
 use Rattle.threat_space.specs.Sequences.{played, played_all, is_final_point, final_depends, all_needed, is_sequence}
 use Rattle.threat_space.specs.Lines.{has_point, may_make_two, HasPairsAfter, EndsNear}
 use Rattle.threat_space.proofs.Stones.{new-final}
-
-side_there : (c : Cell) → not (is_empty_cell c) ≡ true → (t : Side) × (is_stone_of t c ≡ true)
-side_there Empty h = cc
-side_there BlackStone h = (Black, refl)
-side_there WhiteStone h = (White, refl)
 
 all_four : (a b c d : Bool) → a ≡ true → b ≡ false → c ≡ true → d ≡ true → (a && not b && c && d) ≡ true
 all_four a b c d e f g h = rw (e, f, g, h) refl

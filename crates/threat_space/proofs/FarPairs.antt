@@ -1,15 +1,11 @@
 -- A threat keeps the lines on which its gain is not, but for what it fills. So where a point makes two five points after it, and is
 -- on no line with its gain, it did so before.
-use Rattle.std.proofs.Common.{◌≡◌, suc, ◌-◌, ◌<◌, Bool, true, false, cond, ◌||◌, List, [], ◌∷◌, ◌++◌, length, get_or, refl, sym, ap, subst, ◌∙◌, arith, nat_le}
+use Rattle.std.proofs.Common.{◌≡◌, ◌-◌, Bool, true, false, cond, ◌||◌, List, [], ◌∷◌, ◌++◌, length, get_or, refl, sym, ap, subst, ◌∙◌, arith, nat_le}
 use Rattle.std.specs.Prelude.{Result, Ok, Err, IfOk}
 use Rattle.std.specs.List.{filter}
 use Rattle.std.proofs.lemmas.Bool.{and_from, or_right}
 use Rattle.std.proofs.lemmas.Bool.Decides.{nat_tests}
-use Rattle.game_rules.specs.Grid.{Grid, IsBoard, is_on, is_empty, put, points_of}
-use Rattle.game_rules.specs.Lines.{is_aligned}
-use Rattle.game_rules.specs.Shapes.{is_same_point}
-use Rattle.game_rules.specs.Play.{has_fouls, other}
-use Rattle.game_rules.specs.Games.{has_five, five_points}
+use Rattle.game_rules.proofs.Common.{Grid, IsBoard, is_on, is_empty, put, points_of, is_aligned, is_same_point, has_fouls, other, has_five, five_points}
 use Rattle.game_rules.specs.declared.RuleKind.{RuleKind}
 use Rattle.game_rules.specs.declared.Side.{Side}
 use Rattle.game_rules.specs.declared.Point.{Point}
@@ -20,6 +16,7 @@ use Rattle.row_shapes.specs.FivePoints.{in_short}
 use Rattle.threat_moves.specs.ThreeMoves.{is_several}
 use Rattle.threat_moves.specs.declared.threat_list.Threat.{Threat}
 use Rattle.threat_moves.proofs.GainLaws.{several}
+use Rattle.threat_moves.proofs.ThreatLists.{last_added}
 use Rattle.threat_space.specs.Sequences.{played, with_stone, with_stones}
 use Rattle.threat_space.specs.Lines.{has_point, may_make_two, HasPairsOf, HasFarPairs, HasPairsAfter}
 
@@ -73,17 +70,6 @@ far-pairs rule b s t far ok fouls pairs none p off two =
     pairs fouls p (pair_kept rule b (played b s t) s p (played-kept s p b t ok off) none open_p here) where
       second : (r t : Bool) → r ≡ false → (r || t) ≡ true → t ≡ true
       second r t e h = sym (ap (λ v. v || t) e) ∙ h
-
--- the last of a list that one threat was added to
-last_added : (ts : List Threat) (t u : Threat) → get_or (ts ++ t ∷ []) (length (ts ++ t ∷ []) - 1) u ≡ t
-last_added [] t u = refl
-last_added (v ∷ ts) t u =
-    let some = some_added ts t in
-    let place : length (v ∷ ts ++ t ∷ []) - 1 ≡ suc (length (ts ++ t ∷ []) - 1) = omega (arith, some) in
-    ap (λ k. get_or (v ∷ ts ++ t ∷ []) k u) place ∙ last_added ts t u where
-      some_added : (ts : List Threat) (t : Threat) → 0 < length (ts ++ t ∷ [])
-      some_added [] t = omega arith
-      some_added (v ∷ ts) t = omega arith
 
 pub pairs-after : (rule : RuleKind) (b : Grid) (s : Side) (path longer : List Threat) (t : Threat) (far : List Point) → IsBoard b → HasPairsOf rule b s far → longer ≡ path ++ t ∷ [] → HasPairsAfter rule (played b s t) s longer far
 pairs-after rule b s path longer t far ok pairs is fouls u some last =

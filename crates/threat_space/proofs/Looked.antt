@@ -1,9 +1,8 @@
 -- The lists that a search looks at, one after another: lists in two parts, lists by threats, by gains and by length.
-use Rattle.std.proofs.Common.{◌≡◌, ◌≢◌, ℕ, zero, suc, ◌+◌, ◌-◌, ◌≤◌, ◌<◌, Bool, true, false, cond, List, [], ◌∷◌, ◌++◌, map, drop, take, length, get_or, nat_eq, refl, sym, ap, ◌∙◌, arith, append_assoc, add-one}
+use Rattle.std.proofs.Common.{◌≡◌, ◌≢◌, ℕ, zero, suc, ◌+◌, ◌-◌, ◌≤◌, ◌<◌, Bool, true, false, cond, List, [], ◌∷◌, ◌++◌, map, drop, length, get_or, nat_eq, refl, sym, ap, ◌∙◌, arith, append_assoc, add-one}
 use Rattle.std.specs.Prelude.{Option, Some, None, is_some, nat_le}
 use Rattle.std.specs.List.{flat_map, range_with_len}
-use Rattle.std.proofs.lemmas.List.{append-nil, length-append}
-use Rattle.std.proofs.Math.Seq.{take-append_seam}
+use Rattle.std.proofs.lemmas.List.{append-nil}
 use Rattle.std.proofs.lemmas.Bool.Decides.{nat_tests}
 use Rattle.game_rules.specs.Grid.{Grid, is_empty, points_of}
 use Rattle.game_rules.specs.declared.RuleKind.{RuleKind}
@@ -12,19 +11,12 @@ use Rattle.game_rules.specs.declared.Point.{Point}
 use Rattle.threat_moves.specs.declared.threat_list.Threat.{Threat}
 use Rattle.threat_moves.specs.Threats.{threats_at, threats_of}
 use Rattle.threat_moves.proofs.GainLaws.{taken-no_gain, no_gain-threats}
+use Rattle.threat_moves.proofs.ThreatLists.{drop-at, Final, Lists, after_path, map-append, path-longer, path-none, no_lists, map-none}
 use Rattle.threat_space.specs.declared.answer.SpaceAnswer.TheVariants.{Spent as OutOfBudget}
 use Rattle.threat_space.specs.declared.walk.Looked.{Looked}
 use Rattle.threat_space.specs.declared.walk.Looked.TheVariants.{Sequence, NoSequence, Spent}
 use Rattle.threat_space.specs.Sequences.{played, played_all, lists_from, lists_of, lists_up_to, final_of, first_with, pair_or, count_up_to, answer_with, space_answer}
-use Rattle.threat_space.proofs.Stones.{drop-at}
 use Rattle.threat_space.specs.Looking.{found_or, looked, looked_on, answer_of}
-
--- how a list of threats is judged
-abbrev pub Final : Type 0
-Final = List Threat → Option Point
-
-abbrev pub Lists : Type 0
-Lists = List (List Threat)
 
 -- ---- lists in two parts
 
@@ -47,18 +39,6 @@ on-ends (NoSequence m) later h = absurd (h m refl)
 on-ends Spent later h = refl
 
 -- ---- lists by threats
-
--- the lists with these threats before them
-abbrev pub after_path : List Threat → Lists → Lists
-after_path path lists = map (λ ts. path ++ ts) lists
-
-map-append : (f : List Threat → List Threat) (xs ys : Lists) → map f (xs ++ ys) ≡ map f xs ++ map f ys
-map-append f [] ys = refl
-map-append f (x ∷ xs) ys = ap (λ (zs : Lists). f x ∷ zs) (map-append f xs ys)
-
-path-longer : (path : List Threat) (t : Threat) (lists : Lists) → after_path path (map (λ more. t ∷ more) lists) ≡ after_path (path ++ t ∷ []) lists
-path-longer path t [] = refl
-path-longer path t (ts ∷ lists) = λ i. (sym (append_assoc path (t ∷ []) ts) i) ∷ (path-longer path t lists i)
 
 module _ (final : Final) (path : List Threat) (lists : Grid → Lists) (s : Side) (b : Grid) where
   -- what is found among the lists that begin with one of these threats
@@ -122,10 +102,6 @@ pub played-more : (b : Grid) (s : Side) (ts : List Threat) (t : Threat) → play
 played-more b s [] t = refl
 played-more b s (u ∷ ts) t = played-more (played b s u) s ts t
 
-path-none : (lists : Lists) → after_path [] lists ≡ lists
-path-none [] = refl
-path-none (ts ∷ lists) = ap (λ (xs : Lists). ts ∷ xs) (path-none lists)
-
 -- ---- lists by length
 
 module _ (rule : RuleKind) (final : Final) (s : Side) (b : Grid) where
@@ -166,18 +142,10 @@ all-left final n (ts ∷ xs) h = absurd (
     let less = left_by (nat_eq n 0) ts (final ts) (looked final (n - 1) xs) n n h (left final (n - 1) n xs) refl in
     omega (arith, less))
 
-append-none : (xs ys : Lists) → xs ++ ys ≡ [] → (xs ≡ []) × (ys ≡ [])
-append-none [] ys h = (refl, h)
-append-none (x ∷ xs) ys h = cc
-
-map-none : (f : List Threat → List Threat) (xs : Lists) → map f xs ≡ [] → xs ≡ []
-map-none f [] h = refl
-map-none f (x ∷ xs) h = cc
-
 from-none : (lists more : Grid → Lists) (s : Side) → ((c : Grid) → lists c ≡ [] → more c ≡ []) → (b : Grid) (ts : List Threat) → lists_from lists s b ts ≡ [] → lists_from more s b ts ≡ []
 from-none lists more s none b [] h = refl
 from-none lists more s none b (t ∷ ts) h =
-    let parts = append-none (map (λ more. t ∷ more) (lists (played b s t))) (lists_from lists s b ts) h in
+    let parts = no_lists (map (λ more. t ∷ more) (lists (played b s t))) (lists_from lists s b ts) h in
     let here : more (played b s t) ≡ [] = none (played b s t) (map-none (λ more. t ∷ more) (lists (played b s t)) parts.0) in
     rw (here, from-none lists more s none b ts parts.1) refl
 
@@ -280,9 +248,3 @@ module _ (rule : RuleKind) (final : Final) (s : Side) (b : Grid) where
 
   pub length-none : (n k more : ℕ) → more ≡ 0 → from_length rule final s b n k more ≡ NoSequence n
   length-none n k more e = ap (from_length rule final s b n k) e
-
--- a path without its last threat
-pub shorter : (path longer : List Threat) (t : Threat) → longer ≡ path ++ t ∷ [] → take (length longer - 1) longer ≡ path
-shorter path longer t e =
-    let long : length (path ++ t ∷ []) - 1 ≡ length path = omega (arith, length-append path (t ∷ [])) in
-    ap (λ (ts : List Threat). take (length ts - 1) ts) e ∙ ap (λ n. take n (path ++ t ∷ [])) long ∙ take-append_seam path (t ∷ [])

@@ -1,12 +1,12 @@
 -- Stones put on points one after another, and what is needed of threats one after another.
-use Rattle.std.proofs.Common.{◌≡◌, ℕ, suc, ◌+◌, ◌<◌, Bool, true, false, ◌&&◌, ◌||◌, not, List, ◌∷◌, drop, length, get_or, refl, sym, ap, ◌∙◌, add-one, drop-cons}
-use Rattle.game_rules.specs.Grid.{Grid}
-use Rattle.game_rules.specs.Games.{is_double_point, has_five}
+use Rattle.std.proofs.Common.{◌≡◌, ℕ, ◌+◌, ◌<◌, Bool, true, false, ◌&&◌, ◌||◌, not, List, ◌∷◌, drop, length, get_or, refl, sym, ap, ◌∙◌, add-one, drop-cons}
+use Rattle.game_rules.proofs.Common.{Grid, is_double_point, has_five}
 use Rattle.game_rules.specs.declared.RuleKind.{RuleKind}
 use Rattle.game_rules.specs.declared.Side.{Side}
 use Rattle.game_rules.specs.declared.Point.{Point}
 use Rattle.game_rules.proofs.Wins.{no_five}
 use Rattle.threat_moves.specs.declared.threat_list.Threat.{Threat}
+use Rattle.threat_moves.proofs.ThreatLists.{drop-at}
 use Rattle.threat_space.specs.Sequences.{with_stone, with_stones, played, is_final_point, threat_depends, is_needed, all_needed}
 
 -- the point that stands where there is none
@@ -20,10 +20,6 @@ put-next b s ps i low = ap (with_stones b s) (drop-cons ps i zero_point low ∙ 
 pub stone-by : (on e : Bool) → (on && not (on && e)) ≡ (on && not e)
 stone-by true e = refl
 stone-by false e = refl
-
--- one threat of a list
-pub drop-at : (i : ℕ) (ts : List Threat) (t : Threat) → i < length ts → t ≡ get_or ts i t → drop i ts ≡ t ∷ drop (i + 1) ts
-drop-at i ts t low at = drop-cons ts i t low ∙ ap (λ (u : Threat). u ∷ drop (suc i) ts) (sym at) ∙ ap (λ k. t ∷ drop k ts) (sym (add-one i))
 
 module _ (rule : RuleKind) (s : Side) (f : Point) where
   pub needed-next : (b : Grid) (g : Point) (i : ℕ) (ts : List Threat) (t : Threat) → i < length ts → t ≡ get_or ts i t → is_needed rule s f b g (drop i ts) ≡ (threat_depends rule b s g t || is_needed rule s f (played b s t) g (drop (i + 1) ts))

@@ -1,5 +1,4 @@
 -- The proofs of the theorems: acceptance by tests that compute, and each session.
-mod Accepting
 mod OverlineSessions
 mod StartSession
 -- the win that the brain finds itself, and the session in which it follows it

@@ -21,6 +21,7 @@ use Rattle.strategy_graph.specs.Tables.{Answers, answers_of, names_below, NamesL
 use Rattle.strategy_graph.specs.Acceptance.{Meets, Accepted}
 use Rattle.strategy_graph.specs.Games.{Won, game, attacks}
 use Rattle.strategy_graph.proofs.Steps.{accepted-by-replies, met-foul}
+use Rattle.strategy_graph.proofs.Accepting.{is_met, met-by_test}
 use Rattle.strategy_checker.specs.HeldRoots.{IsHeldRoot, IsHeld}
 use Rattle.gomocup_text.specs.Commands.{commands}
 use Rattle.gomocup_text.specs.declared.Command.{Command}
@@ -34,7 +35,6 @@ use Rattle.brain_session.specs.Sessions.{answers_from, state_after, answer_texts
 use Rattle.brain_session.specs.HeldGames.{BeginsHeldGame, replies, game_answers}
 use Rattle.brain_session.proofs.HeldGames.{held-games-go_well}
 use Rattle.worked_examples.specs.HeldSessions.{PlaysHeldGame, overline_board, overline_table, elsewhere_input, block_input}
-use Rattle.worked_examples.proofs.Accepting.{is_met, met-by_test}
 
 -- ---- the table is accepted
 

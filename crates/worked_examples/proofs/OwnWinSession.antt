@@ -17,6 +17,7 @@ use Rattle.strategy_graph.specs.Tables.{Answers, answers_of, names_below, NamesL
 use Rattle.strategy_graph.specs.Acceptance.{AcceptedStart}
 use Rattle.strategy_graph.specs.Games.{Won, game, attacks}
 use Rattle.strategy_graph.specs.declared.roots.Root.TheVariants.{Defend}
+use Rattle.strategy_graph.proofs.Accepting.{is_met, met-by_test}
 use Rattle.strategy_checker.specs.HeldRoots.{IsHeldRoot, IsHeld}
 use Rattle.gomocup_text.specs.Commands.{commands}
 use Rattle.gomocup_text.specs.declared.Command.{Command}
@@ -31,7 +32,6 @@ use Rattle.brain_session.specs.Sessions.{then_answers, answers_from, then_state,
 use Rattle.brain_session.specs.HeldGames.{BeginsHeldGame, replies, game_answers}
 use Rattle.brain_session.proofs.HeldGames.{held-games-go_well}
 use Rattle.worked_examples.specs.HeldSessions.{PlaysHeldGame, three_board, four_board, one_start, taken_back_input}
-use Rattle.worked_examples.proofs.Accepting.{is_met, met-by_test}
 use Rattle.worked_examples.proofs.OwnWins.{own_win_is, first_move, replied_board, second_move}
 
 -- ---- the start is accepted

@@ -1,7 +1,7 @@
 -- The win by continuous fours that the brain finds with three in the row, open at both ends.
-use Rattle.std.proofs.Common.{◌≡◌, ◌≢◌, ℕ, suc, ◌+◌, ◌≤◌, Bool, true, false, cond, ◌&&◌, ◌||◌, not, List, [], ◌∷◌, ◌++◌, get_or, length, drop, refl, sym, ap, subst, ◌∙◌, arith, inl, inr, nat_eq, if◌then◌else◌}
+use Rattle.std.proofs.Common.{◌≡◌, ◌≢◌, ℕ, ◌+◌, ◌≤◌, Bool, true, false, cond, ◌&&◌, ◌||◌, not, List, ◌∷◌, ◌++◌, get_or, length, drop, refl, sym, ap, subst, ◌∙◌, arith, inl, inr, nat_eq, if◌then◌else◌}
 use Rattle.std.specs.Prelude.{Option, Some, None, nat_le}
-use Rattle.std.specs.List.{list_all, list_any, find, sum_by}
+use Rattle.std.specs.List.{list_all, find, sum_by}
 use Rattle.std.proofs.lemmas.List.Sums.{sum_by-le}
 use Rattle.std.proofs.lemmas.Bool.{or_cases, not-true}
 use Rattle.std.proofs.lemmas.Bool.Decides.{nat_tests}
@@ -9,100 +9,29 @@ use Rattle.game_rules.specs.Grid.{Grid, is_on, is_empty, row_from, points_of, em
 use Rattle.game_rules.specs.Shapes.{five, is_same_point, is_at}
 use Rattle.game_rules.specs.Play.{outcome, outcome_by, foul_of, after, mover}
 use Rattle.game_rules.specs.Games.{has_five, wins_or, loses_or, starts_win, wins_under, wins_by_fours, four_move}
-use Rattle.game_rules.specs.declared.RuleKind.{RuleKind}
 use Rattle.game_rules.specs.declared.RuleKind.TheVariants.{Freestyle}
 use Rattle.game_rules.specs.declared.Side.{Side}
 use Rattle.game_rules.specs.declared.Foul.{Foul}
 use Rattle.game_rules.specs.declared.Outcome.{Outcome}
-use Rattle.game_rules.specs.declared.Outcome.TheVariants.{Refused, Wins as WinsNow, Fouls, Draws, GoesOn}
+use Rattle.game_rules.specs.declared.Outcome.TheVariants.{Wins as WinsNow, GoesOn}
 use Rattle.game_rules.specs.declared.Point.{Point}
 use Rattle.game_rules.proofs.Boards.{and_left, and_right, is_empty-on}
-use Rattle.game_rules.proofs.Points.{all_at, points-found, taken_refused, is_same_point-same}
+use Rattle.game_rules.proofs.Points.{points-found, taken_refused, is_same_point-same}
 use Rattle.game_rules.proofs.Positions.{GoesOn-on}
+use Rattle.game_rules.proofs.PointLists.{all-append, any_none, all_implied, find_after}
+use Rattle.game_rules.proofs.Outcomes.{wins_now, not_wins, is_going, going_is}
+use Rattle.game_rules.proofs.Games.{no_start-demand, no_start-reply}
 use Rattle.threat_moves.specs.declared.block.BlockAnswer.{BlockAnswer}
 use Rattle.threat_moves.specs.declared.block.BlockAnswer.TheVariants.{Lost, Won, Draw, One}
 use Rattle.threat_moves.specs.FourMoves.{is_four_move}
 use Rattle.threat_moves.specs.Blocks.{fate}
-use Rattle.four_search.specs.FourGame.{until, tried, if_one, behind_move, four_tree, four_cost, least_moves}
+use Rattle.four_search.specs.FourGame.{tried, if_one, behind_move, four_tree, four_cost, least_moves}
+use Rattle.four_search.proofs.Costs.{until-length}
 use Rattle.brain_session.specs.States.{point_at}
 use Rattle.brain_session.specs.ChosenMoves.{own_win}
-use Rattle.worked_examples.proofs.Accepting.{wins_now}
 use Rattle.worked_examples.specs.HeldSessions.{three_board}
 
 -- ---- moves that start no win
-
-not_wins_by : (e w l : Bool) (o : Option Foul) → w ≡ false → outcome_by e w o l ≢ WinsNow
-not_wins_by true false true None e h = cc
-not_wins_by true false false None e h = cc
-not_wins_by true false l (Some f) e h = cc
-not_wins_by false false l None e h = cc
-not_wins_by false false l (Some f) e h = cc
-not_wins_by b true l o e h = cc
-
-not_wins : (rule : RuleKind) (b : Grid) (p : Point) → five rule b (mover b) p ≡ false → outcome rule b p ≢ WinsNow
-unfolding outcome
-not_wins rule b p e = not_wins_by (is_empty b p) (five rule b (mover b) p) (nat_eq (empties_of b) 1) (foul_of rule b (mover b) p) e
-
-no_win_left : (o : Outcome) (d : Bool) → o ≢ WinsNow → wins_or o (d && false) ≡ false
-no_win_left Refused d h = refl
-no_win_left WinsNow d h = absurd (h refl)
-no_win_left (Fouls f) d h = refl
-no_win_left Draws d h = refl
-no_win_left GoesOn true h = refl
-no_win_left GoesOn false h = refl
-
-no_win_right : (o : Outcome) (l : Bool) → o ≢ WinsNow → wins_or o (false && l) ≡ false
-no_win_right Refused l h = refl
-no_win_right WinsNow l h = absurd (h refl)
-no_win_right (Fouls f) l h = refl
-no_win_right Draws l h = refl
-no_win_right GoesOn l h = refl
-
-module _ (rule : RuleKind) (demand : Grid → Side → Bool) (c : Grid) (next : Grid → Bool) (p : Point) (quiet : outcome rule c p ≢ WinsNow) where
-  -- the demand is not met
-  no_start-demand : demand (after c p) (mover c) ≡ false → starts_win demand rule c next p ≡ false
-  no_start-demand e = rw e (no_win_right (outcome rule c p) (list_all (λ q. loses_or (outcome rule (after c p) q) (next (after (after c p) q))) (points_of c)) quiet)
-
-  -- the reply q goes on, and there is no win after it
-  no_start-reply : (q : Point) → is_on c q ≡ true → outcome rule (after c p) q ≡ GoesOn → next (after (after c p) q) ≡ false → starts_win demand rule c next p ≡ false
-  no_start-reply q on e none = by_all (list_all (λ q. loses_or (outcome rule (after c p) q) (next (after (after c p) q))) (points_of c)) refl where
-    by_all : (r : Bool) → list_all (λ q. loses_or (outcome rule (after c p) q) (next (after (after c p) q))) (points_of c) ≡ r → wins_or (outcome rule c p) (demand (after c p) (mover c) && r) ≡ false
-    by_all false h = no_win_left (outcome rule c p) (demand (after c p) (mover c)) quiet
-    by_all true h =
-        let yes : loses_or (outcome rule (after c p) q) (next (after (after c p) q)) ≡ true = all_at c (λ q. loses_or (outcome rule (after c p) q) (next (after (after c p) q))) q h on in
-        let no : loses_or (outcome rule (after c p) q) (next (after (after c p) q)) ≡ false = rw (e, none) refl in
-        cc
-
--- tests of lists
-any_none : (f g : Point → Bool) (ps : List Point) → ((p : Point) → g p ≡ true → f p ≡ false) → list_all g ps ≡ true → list_any f ps ≡ false
-any_none f g [] h all = refl
-any_none f g (p ∷ ps) h all = rw (h p (and_left (g p) _ all), any_none f g ps h (and_right (g p) _ all)) refl
-
-all_implied : (f g : Point → Bool) (ps : List Point) → ((p : Point) → g p ≡ true → f p ≡ true) → list_all g ps ≡ true → list_all f ps ≡ true
-all_implied f g [] h all = refl
-all_implied f g (p ∷ ps) h all = rw (h p (and_left (g p) _ all), all_implied f g ps h (and_right (g p) _ all)) refl
-
-find_after : (f : Point → Bool) (before : List Point) (p : Point) (later : List Point) → list_any f before ≡ false → f p ≡ true → find f (before ++ p ∷ later) ≡ Some p
-find_after f [] p later none e = rw e refl
-find_after f (q ∷ before) p later none e = by_test (f q) none (find_after f before p later) where
-  by_test : (r : Bool) → (r || list_any f before) ≡ false → (list_any f before ≡ false → f p ≡ true → find f (before ++ p ∷ later) ≡ Some p) → cond r (Some q) (find f (before ++ p ∷ later)) ≡ Some p
-  by_test true h rest = cc
-  by_test false h rest = rest h e
-
--- whether an outcome is that the game goes on
-abbrev is_going : Outcome → Bool
-is_going Refused = false
-is_going WinsNow = false
-is_going (Fouls f) = false
-is_going Draws = false
-is_going GoesOn = true
-
-going_is : (o : Outcome) → is_going o ≡ true → o ≡ GoesOn
-going_is Refused h = cc
-going_is WinsNow h = cc
-going_is (Fouls f) h = cc
-going_is Draws h = cc
-going_is GoesOn h = refl
 
 -- a corner, or where that is p the point beside it
 abbrev spare : Point → Point
@@ -201,13 +130,6 @@ unfolding wins_under
 second_wins = points-found three_board (starts_win (has_five Freestyle) Freestyle three_board (wins_by_fours Freestyle 1)) (point_at 4 7) (GoesOn-on Freestyle three_board (point_at 4 7) attack_goes_on) attack_starts
 
 -- ---- the search of it looks at few positions
-
-until-length : {X : Type 0} → (test : X → Bool) (xs : List X) → length (until test xs) ≤ length xs
-until-length test [] = omega arith
-until-length test (x ∷ xs) = by_test (test x) (until-length test xs) where
-  by_test : (r : Bool) → length (until test xs) ≤ length xs → length (x ∷ cond r [] (until test xs)) ≤ suc (length xs)
-  by_test true h = omega arith
-  by_test false h = omega arith
 
 one_behind : (b : Grid) (p : Point) → behind_move Freestyle b (four_tree Freestyle 1) p ≤ 1
 unfolding four_tree
@@ -336,16 +258,12 @@ points_split : points_of three_board ≡ front ++ point_at 4 7 ∷ back
 unfolding front back three_board
 points_split = refl
 
-all_both : (f : Point → Bool) (xs ys : List Point) → list_all f xs ≡ true → list_all f ys ≡ true → list_all f (xs ++ ys) ≡ true
-all_both f [] ys h k = k
-all_both f (x ∷ xs) ys h k = rw (and_left (f x) _ h, all_both f xs ys (and_right (f x) _ h) k) refl
-
 front_tested : list_all starts_none front ≡ true
 unfolding front
 front_tested =
-    all_both starts_none (row_from 0 0 15) from_one row_zero (all_both starts_none (row_from 1 0 15) from_two row_one (all_both starts_none (row_from 2 0 15) from_three row_two
-    (all_both starts_none (row_from 3 0 15) from_four row_three (all_both starts_none (row_from 4 0 15) from_five row_four (all_both starts_none (row_from 5 0 15) from_six row_five
-    (all_both starts_none (row_from 6 0 15) (row_from 7 0 4) row_six row_seven))))))
+    all-append starts_none (row_from 0 0 15) from_one row_zero (all-append starts_none (row_from 1 0 15) from_two row_one (all-append starts_none (row_from 2 0 15) from_three row_two
+    (all-append starts_none (row_from 3 0 15) from_four row_three (all-append starts_none (row_from 4 0 15) from_five row_four (all-append starts_none (row_from 5 0 15) from_six row_five
+    (all-append starts_none (row_from 6 0 15) (row_from 7 0 4) row_six row_seven))))))
 
 no_five_yet : has_five Freestyle three_board (mover three_board) ≡ false
 unfolding three_board

@@ -20,6 +20,7 @@ use Rattle.strategy_graph.specs.Games.{Won, game, attacks}
 use Rattle.strategy_graph.proofs.Steps.{accepted-by-replies}
 use Rattle.strategy_checker.specs.declared.held.HeldRoot.{HeldRoot}
 use Rattle.strategy_graph.specs.declared.roots.Root.TheVariants.{Defend}
+use Rattle.strategy_graph.proofs.Accepting.{is_met, met-by_test}
 use Rattle.strategy_checker.specs.HeldRoots.{IsHeldRoot, IsHeld}
 use Rattle.gomocup_text.specs.Commands.{commands}
 use Rattle.gomocup_text.specs.declared.Command.{Command}
@@ -32,7 +33,6 @@ use Rattle.brain_session.specs.Sessions.{answers_from, state_after, answer_texts
 use Rattle.brain_session.specs.HeldGames.{BeginsHeldGame, replies, game_answers}
 use Rattle.brain_session.proofs.HeldGames.{held-games-go_well}
 use Rattle.worked_examples.specs.HeldSessions.{PlaysHeldGame, three_board, four_board, two_roots, taken_back_input}
-use Rattle.worked_examples.proofs.Accepting.{is_met, met-by_test}
 
 -- ---- both roots are accepted
 

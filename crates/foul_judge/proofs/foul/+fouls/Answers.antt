@@ -1,15 +1,14 @@
 use Rattle.std.proofs.Common.{rules, ◌≡◌, ◌+◌, ◌*◌, ◌<◌, true, false, ◌&&◌, not, below_more, sym, ap, ◌∙◌, arith}
-use Rattle.game_rules.specs.Grid.{Grid, IsBoard, is_empty, empties_of, holds, lift, along}
+use Rattle.game_rules.proofs.Common.{Grid, IsBoard, is_empty, empties_of, holds, lift, along, five, black_foul, stone_foul}
 use Rattle.std.specs.Prelude.{is_none}
-use Rattle.game_rules.specs.Shapes.{five}
-use Rattle.game_rules.specs.Play.{black_foul, stone_foul}
 use Rattle.game_rules.specs.declared.Side.TheVariants.{Black}
-use Rattle.game_rules.proofs.Boards.{lift-put, is_empty-on, empties_of-put, holds-put_same}
+use Rattle.game_rules.proofs.Boards.{lift-put, is_empty-on, empties_of-put, holds-put_same, answer_at}
 use Rattle.game_rules.proofs.Positions.{IsBoard-put}
+use Rattle.game_rules.proofs.Outcomes.{none_by}
 use Rattle.stone_board.specs.Steps.{holds_stone}
 use Rattle.stone_board.proofs.Looks.{kept-Some}
 use Rattle.stone_board.proofs.Stones.{put-holds_stone}
-use Rattle.foul_judge.proofs.ThreePlaces.{foul-step, three_by_place, no_three, no_free_three, line_three-empty, free_three-line, not_free, none_by, bit_clear, answer_at}
+use Rattle.foul_judge.proofs.ThreePlaces.{foul-step, three_by_place, no_three, no_free_three, line_three-empty, free_three-line, not_free, bit_clear}
 use Rattle.foul_judge.proofs.MayFoul.{reaches_of-put, no_foul, few_threes, no_two_threes}
 use Rattle.foul_judge.specs.ShortCut.{reaches_of, may_have_two_threes, may_foul}
 use Rattle.foul_judge.specs.Threes.{free_three}

@@ -1,8 +1,7 @@
 use Rattle.std.proofs.Common.{◌≡◌, sym, ap, subst, ◌∙◌}
-use Rattle.game_rules.specs.Grid.{Grid, lift}
-use Rattle.game_rules.specs.Play.{IsPosition, IsUnwon, outcome}
-use Rattle.game_rules.specs.declared.Outcome.TheVariants.{GoesOn}
+use Rattle.game_rules.proofs.Common.{Grid, lift, IsPosition, IsUnwon, outcome}
 use Rattle.game_rules.specs.declared.Point.{Point}
+use Rattle.game_rules.specs.declared.Outcome.TheVariants.{GoesOn}
 use Rattle.game_rules.specs.declared.RuleKind.TheVariants.{Renju}
 use Rattle.game_rules.proofs.Positions.{lift-after}
 use Rattle.foul_judge.proofs.tests.plays_and_takes_back.Goals as goal

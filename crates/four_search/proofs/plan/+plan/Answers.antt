@@ -1,12 +1,12 @@
 use Rattle.std.proofs.Common.{rules, ◌≡◌, ◌-◌, ◌+◌, ◌*◌, false, ap, sym, ◌∙◌, arith}
-use Rattle.game_rules.specs.Grid.{Grid}
-use Rattle.game_rules.specs.Play.{IsPosition, after, mover, outcome}
-use Rattle.game_rules.specs.Games.{has_five, five_points}
+use Rattle.game_rules.proofs.Common.{Grid, IsPosition, after, mover, outcome, has_five, five_points}
 use Rattle.game_rules.specs.declared.Point.{Point}
 use Rattle.game_rules.proofs.Positions.{IsPosition-after}
 use Rattle.game_rules.proofs.Undo.{stone_back, lift_back, unwon_back}
-use Rattle.strategy_compiler.proofs.Growing.{writes-then, writes-then-fails, writes-more}
-use Rattle.four_search.proofs.Planning.{plan-some, plan-goes_on, plan-one, plan-wins, plan-block, plan-not-lost, plan-not-draw, chosen-last, line-some, stands-grown, no-fives, plan-five, plan-four, wins-some}
+use Rattle.game_rules.proofs.Fives.{no-fives}
+use Rattle.game_rules.proofs.Games.{wins-some}
+use Rattle.strategy_compiler.proofs.Growing.{writes-then, writes-then-fails, writes-more, stands-grown}
+use Rattle.four_search.proofs.Planning.{plan-some, plan-goes_on, plan-one, plan-wins, plan-block, plan-not-lost, plan-not-draw, chosen-last, line-some, plan-five, plan-four}
 use Rattle.four_search.proofs.plan.+plan.Goals as goal
 
 pub compile_after-undo-requires-clause-stone : goal.compile_after-undo-requires-clause-stone

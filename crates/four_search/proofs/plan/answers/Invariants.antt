@@ -1,6 +1,5 @@
 use Rattle.std.proofs.Common.{◌≡◌, ◌++◌}
-use Rattle.game_rules.specs.Grid.{points_of}
-use Rattle.game_rules.specs.Play.{outcome}
+use Rattle.game_rules.proofs.Common.{points_of, outcome}
 use Rattle.strategy_compiler.specs.Forks.{answer_node}
 use Rattle.four_search.specs.Plans.{answers_for}
 use Rattle.four_search.proofs.plan.answers.Given as goal

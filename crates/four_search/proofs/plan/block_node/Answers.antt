@@ -1,7 +1,6 @@
 use Rattle.std.proofs.Common.{◌≡◌, ◌<◌, ap, sym, subst, ◌∙◌, List, length, ℕ}
 use Rattle.std.specs.Prelude.{All}
-use Rattle.game_rules.specs.Grid.{Grid, points_of}
-use Rattle.game_rules.specs.Play.{outcome}
+use Rattle.game_rules.proofs.Common.{Grid, points_of, outcome}
 use Rattle.strategy_graph.specs.declared.Reply.{Reply}
 use Rattle.strategy_graph.specs.Tables.{is_rising}
 use Rattle.game_rules.proofs.Undo.{stone_back, lift_back, unwon_back}

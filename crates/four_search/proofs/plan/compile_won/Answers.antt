@@ -1,10 +1,8 @@
 use Rattle.std.proofs.Common.{rules, ◌≡◌, ◌<◌, ◌-◌, ap, ◌∙◌, arith, List, length}
-use Rattle.game_rules.specs.Grid.{Grid}
-use Rattle.game_rules.specs.Play.{after, mover, outcome}
-use Rattle.game_rules.specs.Games.{five_points}
+use Rattle.game_rules.proofs.Common.{Grid, after, mover, outcome, five_points}
 use Rattle.game_rules.specs.declared.Point.{Point}
-use Rattle.strategy_compiler.proofs.Growing.{writes-then, writes-then-fails, writes-fails}
-use Rattle.four_search.proofs.Planning.{plan-some, plan-goes_on, plan-foul, plan-won-one, plan-won-two, plan-won-points, stands-grown}
+use Rattle.strategy_compiler.proofs.Growing.{writes-then, writes-then-fails, writes-fails, stands-grown}
+use Rattle.four_search.proofs.Planning.{plan-some, plan-goes_on, plan-foul, plan-won-one, plan-won-two, plan-won-points}
 use Rattle.four_search.proofs.plan.compile_won.Goals as goal
 
 pub returns-then-moves-eq1-clause-stands : goal.returns-then-moves-eq1-clause-stands

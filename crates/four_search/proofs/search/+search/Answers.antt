@@ -1,7 +1,5 @@
 use Rattle.std.proofs.Common.{rules, ◌≡◌, ℕ, ◌+◌, ◌-◌, ◌<◌, true, false, ap, sym, subst, ◌∙◌, arith, IfOk, List, ◌∷◌, map, drop, get_or}
-use Rattle.game_rules.specs.Grid.{Grid, is_empty}
-use Rattle.game_rules.specs.Play.{IsPosition, after, mover, other, outcome, has_fouls}
-use Rattle.game_rules.specs.Games.{has_five, five_points}
+use Rattle.game_rules.proofs.Common.{Grid, is_empty, IsPosition, after, mover, other, outcome, has_fouls, has_five, five_points}
 use Rattle.game_rules.specs.declared.Outcome.TheVariants.{GoesOn}
 use Rattle.game_rules.proofs.Boards.{and_left, and_right}
 use Rattle.game_rules.proofs.Positions.{GoesOn-empty, mover-other, mover-then}

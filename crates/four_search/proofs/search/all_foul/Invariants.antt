@@ -1,7 +1,6 @@
 use Rattle.std.proofs.Common.{◌≡◌, false}
 use Rattle.std.specs.List.{list_all}
-use Rattle.game_rules.specs.Play.{outcome}
-use Rattle.game_rules.specs.Games.{loses_or}
+use Rattle.game_rules.proofs.Common.{outcome, loses_or}
 use Rattle.threat_moves.specs.OneBlock.{all_foul}
 use Rattle.four_search.proofs.search.all_foul.Given as goal
 

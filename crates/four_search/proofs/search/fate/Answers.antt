@@ -1,6 +1,5 @@
 use Rattle.std.proofs.Common.{sym, ◌∙◌}
-use Rattle.game_rules.specs.Grid.{Grid}
-use Rattle.game_rules.specs.Play.{mover, other}
+use Rattle.game_rules.proofs.Common.{Grid, mover, other}
 use Rattle.row_shapes.proofs.FiveLaws.{one-empty}
 use Rattle.four_search.proofs.search.fate.Goals as goal
 

@@ -1,6 +1,5 @@
 use Rattle.std.proofs.Common.{◌≡◌, false, ap, sym, ◌∙◌}
-use Rattle.game_rules.specs.Grid.{Grid, empties_of}
-use Rattle.game_rules.specs.Play.{mover, has_fouls}
+use Rattle.game_rules.proofs.Common.{Grid, empties_of, mover, has_fouls}
 use Rattle.game_rules.proofs.Outcomes.{outcome-last, outcome-more}
 use Rattle.four_search.proofs.search.no_five_outcome.Goals as goal
 

@@ -1,6 +1,5 @@
 use Rattle.std.proofs.Common.{sym, subst, ◌∙◌}
-use Rattle.game_rules.specs.Grid.{Grid}
-use Rattle.game_rules.specs.Play.{mover, other, after}
+use Rattle.game_rules.proofs.Common.{Grid, mover, other, after}
 use Rattle.row_shapes.specs.declared.fives.FivePoints.{FivePoints}
 use Rattle.row_shapes.proofs.FiveLaws.{one-empty, has_five-none}
 use Rattle.four_search.specs.Makers.{RulesOut}

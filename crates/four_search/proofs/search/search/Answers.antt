@@ -1,7 +1,5 @@
 use Rattle.std.proofs.Common.{◌≡◌, ◌-◌, ◌<◌, true, ap, subst, ◌∙◌, arith}
-use Rattle.game_rules.specs.Grid.{Grid}
-use Rattle.game_rules.specs.Play.{mover}
-use Rattle.game_rules.specs.Games.{has_five}
+use Rattle.game_rules.proofs.Common.{Grid, mover, has_five}
 use Rattle.four_search.specs.Roots.{TellsRoot, TellsNoFive}
 use Rattle.four_search.specs.declared.search.Found.TheVariants.{Win}
 use Rattle.four_search.proofs.Trying.{found-five, found-nothing}

@@ -1,7 +1,5 @@
 use Rattle.std.proofs.Common.{rules, ◌≡◌, Bool, true, cond, ap, ◌∙◌, sym, subst, arith}
-use Rattle.game_rules.specs.Grid.{Grid}
-use Rattle.game_rules.specs.Shapes.{five}
-use Rattle.game_rules.specs.Play.{mover}
+use Rattle.game_rules.proofs.Common.{Grid, five, mover}
 use Rattle.game_rules.proofs.Outcomes.{five-outcome}
 use Rattle.strategy_compiler.specs.Growth.{Writes}
 use Rattle.strategy_compiler.proofs.Growing.{writes-fails, writes-tells}

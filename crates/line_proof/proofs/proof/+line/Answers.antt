@@ -1,8 +1,6 @@
-use Rattle.std.proofs.Common.{rules, ◌≡◌, ℕ, ◌≤◌, ◌<◌, Bool, true, false, sym, ap, subst, ◌∙◌, arith, min, IfOk, refl, List}
+use Rattle.std.proofs.Common.{rules, ◌≡◌, ℕ, ◌≤◌, Bool, true, false, sym, ap, subst, ◌∙◌, arith, min, IfOk, refl, List}
 use Rattle.std.specs.Prelude.{Option, Some, None, IfSome, is_some}
-use Rattle.game_rules.specs.Grid.{Grid, points_of}
-use Rattle.game_rules.specs.Play.{outcome, mover, after, goes_on_with}
-use Rattle.game_rules.specs.Games.{has_five, wins_by_fours, if_goes_on}
+use Rattle.game_rules.proofs.Common.{Grid, points_of, outcome, mover, after, goes_on_with, has_five, wins_by_fours, if_goes_on}
 use Rattle.std.specs.List.{sum_by}
 use Rattle.game_rules.specs.declared.Outcome.TheVariants.{GoesOn}
 use Rattle.strategy_graph.specs.declared.Node.{Node}
@@ -17,8 +15,9 @@ use Rattle.line_proof.specs.Doubles.{IsDouble}
 use Rattle.line_proof.specs.Replies.{AreAnswers, AnswersAll, FindsAnswers}
 use Rattle.strategy_compiler.specs.Growth.{Writes}
 use Rattle.strategy_compiler.proofs.Growing.{grows-not, grows-then, writes-fails, writes-memory, writes-nothing, writes-tells}
+use Rattle.strategy_compiler.proofs.Standing.{compiled-lower}
 use Rattle.strategy_graph.proofs.ReadingOrder.{replies-rising}
-use Rattle.line_proof.proofs.Gathering.{lower_of, answers-grown, answers-more, answers-few, few-step, rest-step, lose-step}
+use Rattle.line_proof.proofs.Gathering.{answers-grown, answers-more, answers-few, few-step, rest-step, lose-step}
 use Rattle.line_proof.proofs.Doubling.{hint-grown}
 use Rattle.line_proof.proofs.Steps.{no_moves-wins, quick-wins, quick-most, double-quick, double-most, five-quick, five-most, of-some, on-ok, five-refutes, move-wins, move-tree, no-value}
 use Rattle.line_proof.proofs.proof.+line.Goals as goal
@@ -63,7 +62,7 @@ answer_reply-returns-in_ok-add-in-Proved-clause-answers g t c =
     λ yes. answers-more g.R.Rule.KIND c.args.moves c.prove_after.new.compiler b c.args.q c.in-Proved.win c.args.answers.now c.add.new.answers
     c.in_ok-add-in-Proved.ensures.added c.in_ok-add-in-Proved.ensures.most won
     (answers-grown g.R.Rule.KIND c.args.moves b c.args.compiler.now c.prove_after.new.compiler _
-    (lower_of c.args.compiler.now c.requires.compiled) c.in_ok-prove_after-in-GoesOn.ensures.writes.grows c.args.answers.now
+    (compiled-lower c.args.compiler.now c.requires.compiled) c.in_ok-prove_after-in-GoesOn.ensures.writes.grows c.args.answers.now
     c.requires.answers)
 
 -- ---- the walk along the threats
@@ -181,7 +180,7 @@ pub prove_double-returns-in-None-clause-hint : goal.prove_double-returns-in-None
 prove_double-returns-in-None-clause-hint g t c =
     let b : Grid = g.V.Seen.position c.args.view.now in
     on-ok c.prove-in-None.result (hint-grown b.width b.height c.double_win.new.compiler c.prove-in-None.new.compiler _
-    c.double_win.new.hint (lower_of c.double_win.new.compiler c.in_ok-win.ensures.writes.compiled)
+    c.double_win.new.hint (compiled-lower c.double_win.new.compiler c.in_ok-win.ensures.writes.compiled)
     c.prove-in-None.ensures.writes.grows c.in_ok-win.ensures.hint)
 
 -- ---- a five point, tried first
@@ -197,7 +196,7 @@ pub prove_reply-returns-in-Some-clause-hint : goal.prove_reply-returns-in-Some-c
 prove_reply-returns-in-Some-clause-hint g t c =
     let b : Grid = g.V.Seen.position c.args.view.now in
     hint-grown b.width b.height c.args.compiler.now c.five_win.new.compiler _ c.args.hint.now
-    (lower_of c.args.compiler.now c.requires.compiled) c.in_ok-win.ensures.writes.grows c.requires.hint
+    (compiled-lower c.args.compiler.now c.requires.compiled) c.in_ok-win.ensures.writes.grows c.requires.hint
 
 -- ---- what is written
 
@@ -272,13 +271,13 @@ pub prove_double-returns-then-moves-lt2-clause-hint : goal.prove_double-returns-
 prove_double-returns-then-moves-lt2-clause-hint g t c =
     let b : Grid = g.V.Seen.position c.args.view.now in
     on-ok c.prove.result (hint-grown b.width b.height c.args.compiler.now c.prove.new.compiler _ c.args.hint.now
-    (lower_of c.args.compiler.now c.requires.compiled) c.prove.ensures.writes.grows c.requires.hint)
+    (compiled-lower c.args.compiler.now c.requires.compiled) c.prove.ensures.writes.grows c.requires.hint)
 
 pub prove_reply-returns-then-moves-eq0-clause-hint : goal.prove_reply-returns-then-moves-eq0-clause-hint
 prove_reply-returns-then-moves-eq0-clause-hint g t c =
     let b : Grid = g.V.Seen.position c.args.view.now in
     on-ok c.prove.result (hint-grown b.width b.height c.args.compiler.now c.prove.new.compiler _ c.args.hint.now
-    (lower_of c.args.compiler.now c.requires.compiled) c.prove.ensures.writes.grows c.requires.hint)
+    (compiled-lower c.args.compiler.now c.requires.compiled) c.prove.ensures.writes.grows c.requires.hint)
 
 pub prove_double-returns-in_err-win-clause-writes : goal.prove_double-returns-in_err-win-clause-writes
 prove_double-returns-in_err-win-clause-writes g t c =

@@ -1,12 +1,10 @@
 use Rattle.std.proofs.Common.{◌≡◌, ◌+◌, ◌-◌, ◌*◌, ◌≤◌, ◌++◌}
 use Rattle.std.specs.Prelude.{IfSome}
 use Rattle.std.specs.List.{list_all, sum_by}
-use Rattle.game_rules.specs.Grid.{points_of}
-use Rattle.game_rules.specs.Play.{outcome, after}
-use Rattle.game_rules.specs.Games.{loses_or, if_goes_on}
+use Rattle.game_rules.proofs.Common.{points_of, outcome, after, loses_or, if_goes_on, behind_replies}
 use Rattle.strategy_compiler.specs.Growth.{GrowsBy}
 use Rattle.strategy_compiler.specs.Nodes.{IsCompiled}
-use Rattle.line_proof.specs.Lines.{line_wins, line_tree, each_loses, behind_each}
+use Rattle.line_proof.specs.Lines.{line_wins, line_tree, each_loses}
 use Rattle.line_proof.specs.Doubles.{IsDouble}
 use Rattle.line_proof.specs.Replies.{AreAnswers, answered, going_on}
 use Rattle.line_proof.proofs.proof.+line.Given as goal
@@ -45,10 +43,10 @@ invariant-answer_each-loop-q g l = record {
   same : g.V.Seen.position l.view ≡ g.V.Seen.position l.fn.view;
   compiled : IsCompiled l.compiler;
   left : sum_by (λ q. if_goes_on (outcome g.R.Rule.KIND (g.V.Seen.position l.fn.view) q)
-      (line_tree g.R.Rule.KIND l.threats l.moves (after (g.V.Seen.position l.fn.view) q))) l.q-iterator ≤ behind_each g.R.Rule.KIND
-      (g.V.Seen.position l.fn.view) (line_tree g.R.Rule.KIND l.threats l.moves);
+      (line_tree g.R.Rule.KIND l.threats l.moves (after (g.V.Seen.position l.fn.view) q))) l.q-iterator ≤ behind_replies g.R.Rule.KIND
+      (line_tree g.R.Rule.KIND l.threats l.moves) (g.V.Seen.position l.fn.view);
   grows : GrowsBy l.fn.compiler l.compiler
-      (behind_each g.R.Rule.KIND (g.V.Seen.position l.fn.view) (line_tree g.R.Rule.KIND l.threats l.moves) - sum_by
+      (behind_replies g.R.Rule.KIND (line_tree g.R.Rule.KIND l.threats l.moves) (g.V.Seen.position l.fn.view) - sum_by
       (λ q. if_goes_on (outcome g.R.Rule.KIND (g.V.Seen.position l.fn.view) q)
       (line_tree g.R.Rule.KIND l.threats l.moves (after (g.V.Seen.position l.fn.view) q))) l.q-iterator);
   hint : IfSome l.hint (IsDouble (g.V.Seen.position l.fn.view).width (g.V.Seen.position l.fn.view).height l.compiler);

@@ -1,10 +1,7 @@
 use Rattle.std.proofs.Common.{◌≡◌, sym, ap, ◌∙◌}
-use Rattle.game_rules.specs.Grid.{Grid, points_of}
-use Rattle.game_rules.specs.Shapes.{five}
-use Rattle.game_rules.specs.Play.{mover, other}
-use Rattle.game_rules.specs.Games.{five_points}
+use Rattle.game_rules.proofs.Common.{Grid, points_of, five, mover, other, five_points}
 use Rattle.game_rules.specs.declared.Point.{Point}
-use Rattle.line_proof.proofs.Steps.{none-first, some-first}
+use Rattle.game_rules.proofs.PointLists.{none-first, some-first}
 use Rattle.line_proof.proofs.proof.block.Goals as goal
 
 pub returns-in-empty : goal.returns-in-empty

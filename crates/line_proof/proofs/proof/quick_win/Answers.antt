@@ -1,6 +1,6 @@
 use Rattle.std.proofs.Common.{arith}
 use Rattle.game_rules.specs.Grid.{Grid}
-use Rattle.line_proof.proofs.Costs.{cost-fits}
+use Rattle.four_search.proofs.Costs.{cost-fits}
 use Rattle.line_proof.proofs.proof.quick_win.Goals as goal
 
 pub unreachable-requires : goal.unreachable-requires

@@ -6,7 +6,9 @@ use Rattle.game_rules.specs.declared.Point.{Point}
 use Rattle.line_tables.specs.declared.axis_codes.Codes.{Codes}
 use Rattle.line_tables.specs.Codes.{codes_at}
 use Rattle.game_rules.proofs.Places.{points_on}
-use Rattle.line_tables.proofs.BoardLists.{told_at, told_length, first_on}
+use Rattle.game_rules.proofs.ReadingOrder.{told_length}
+use Rattle.game_rules.proofs.PointLists.{first_on}
+use Rattle.line_tables.proofs.BoardLists.{told_at}
 use Rattle.line_tables.proofs.axis_codes.axis_codes.Goals as goal
 
 pub line_code-black-requires-clause-on : goal.line_code-black-requires-clause-on

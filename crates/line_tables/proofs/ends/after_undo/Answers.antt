@@ -1,6 +1,5 @@
 use Rattle.std.proofs.Common.{◌≡◌, ap, ◌∙◌}
-use Rattle.game_rules.specs.Play.{other}
-use Rattle.game_rules.specs.Shapes.{five}
+use Rattle.game_rules.proofs.Common.{other, five}
 use Rattle.game_rules.specs.declared.Side.{Side}
 use Rattle.line_tables.specs.Lists.{with_told}
 use Rattle.line_tables.proofs.EndCalls.{went_fits, went_own, went_others}

@@ -1,18 +1,17 @@
 use Rattle.std.proofs.Common.{rules, ◌≡◌, ◌+◌, ◌*◌, ◌<◌, true, false, cond, ◌&&◌, not, below_more, refl, sym, ap, ◌∙◌, arith}
 use Rattle.std.specs.Prelude.{is_none, map}
 use Rattle.std.specs.Int.{bit_at}
-use Rattle.game_rules.specs.Grid.{Grid, IsBoard, is_empty, empties_of, holds, put, lift, along, axes}
-use Rattle.game_rules.specs.Shapes.{five, is_line_three_at}
-use Rattle.game_rules.specs.Play.{black_foul, has_fouls}
+use Rattle.game_rules.proofs.Common.{Grid, IsBoard, is_empty, empties_of, holds, put, lift, along, axes, five, is_line_three_at, black_foul, has_fouls}
 use Rattle.game_rules.specs.declared.Side.TheVariants.{Black}
-use Rattle.game_rules.proofs.Boards.{lift-put, is_empty-on, empties_of-put, holds-put_same}
+use Rattle.game_rules.proofs.Boards.{lift-put, is_empty-on, empties_of-put, holds-put_same, answer_at}
 use Rattle.game_rules.proofs.Positions.{IsBoard-put}
+use Rattle.game_rules.proofs.Outcomes.{none_by}
 use Rattle.stone_board.specs.Steps.{kept_on}
 use Rattle.stone_board.proofs.Looks.{kept-Some}
 use Rattle.row_shapes.specs.LineShapes.{three_bits}
 use Rattle.foul_judge.specs.Threes.{free_three}
-use Rattle.foul_judge.proofs.ThreePlaces.{three_by_place, no_three, no_free_three, line_three-empty, free_three-line, not_free, none_by, bit_clear, answer_at}
-use Rattle.line_tables.proofs.FoulShapes.{three_bit, no_bits, threes_told, by_five, by_over, by_fours, by_threes, by_none, few_lines, bit_sets}
+use Rattle.foul_judge.proofs.ThreePlaces.{three_by_place, no_three, no_free_three, line_three-empty, free_three-line, not_free, bit_clear}
+use Rattle.foul_judge.proofs.FoulShapes.{three_bit, no_bits, threes_told, by_five, by_over, by_fours, by_threes, by_none, few_lines, bit_sets}
 use Rattle.line_tables.proofs.fouls.+fouls.Goals as goal
 use Rattle.line_tables.proofs.fouls.+fouls.Goals.{black_foul-else-line_threes-ge2-via-then-line_threes-ge2+else-has_two_threes, black_foul-else-line_threes-ge2-via-else-line_threes-ge2, is_three-else-line_points-place-eq1-via-then-line_points-place-eq1+else-is_free_three, is_three-else-line_points-place-eq1-via-else-line_points-place-eq1}
 

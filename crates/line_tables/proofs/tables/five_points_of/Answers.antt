@@ -1,9 +1,8 @@
 use Rattle.std.proofs.Common.{◌≡◌, ◌∷◌, ◌++◌, List, true, cond, ap, sym, ◌∙◌}
 use Rattle.std.specs.List.{filter}
-use Rattle.game_rules.specs.Shapes.{five}
-use Rattle.game_rules.specs.Games.{five_points}
+use Rattle.game_rules.proofs.Common.{five, five_points}
 use Rattle.game_rules.specs.declared.Point.{Point}
-use Rattle.line_tables.proofs.Moves.{one_more_fits}
+use Rattle.game_rules.proofs.ReadingOrder.{one_more_fits}
 use Rattle.line_tables.proofs.tables.five_points_of.Goals as goal
 
 pub push-requires : goal.push-requires

@@ -1,8 +1,7 @@
 use Rattle.std.proofs.Common.{◌≡◌, ◌++◌, ◌*◌, ◌≤◌}
 use Rattle.std.specs.List.{filter}
 use Rattle.std.specs.Vec.{vec_capacity}
-use Rattle.game_rules.specs.Shapes.{five}
-use Rattle.game_rules.specs.Games.{five_points}
+use Rattle.game_rules.proofs.Common.{five, five_points}
 use Rattle.line_tables.proofs.tables.five_points_of.Given as goal
 
 -- the five points found, and those of the points left, are all; and there is room for all points

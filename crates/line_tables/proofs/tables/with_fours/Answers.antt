@@ -1,9 +1,8 @@
 use Rattle.std.proofs.Common.{◌≡◌, sym, ap, ◌∙◌}
-use Rattle.game_rules.specs.Grid.{put}
-use Rattle.game_rules.specs.Shapes.{fours_of}
+use Rattle.game_rules.proofs.Common.{put, fours_of}
 use Rattle.row_shapes.specs.declared.shapes.Shape.{Shape}
-use Rattle.line_tables.proofs.FourEnds.{nothing_told}
-use Rattle.line_tables.proofs.Shapes.{told_fours}
+use Rattle.row_shapes.proofs.FourEnds.{nothing_told}
+use Rattle.row_shapes.proofs.CodeDigits.{told_fours}
 use Rattle.line_tables.proofs.tables.with_fours.Goals as goal
 
 pub returns-then-shape-eq0-clause-fives : goal.returns-then-shape-eq0-clause-fives

@@ -1,7 +1,8 @@
 use Rattle.std.proofs.Common.{◌≡◌, ◌+◌, ◌*◌, arith, sym, ap, ◌∙◌, get_or, true}
 use Rattle.game_rules.specs.Grid.{place_of, is_on}
 use Rattle.game_rules.specs.declared.Point.{Point}
-use Rattle.position_files.proofs.Stones.{none_put, one_put, all_put, not_earlier, not_taken, next_point, first_points, on_board}
+use Rattle.game_rules.proofs.PointLists.{next_point, first_points}
+use Rattle.position_files.proofs.Stones.{none_put, one_put, all_put, not_earlier, not_taken, on_board}
 use Rattle.position_files.proofs.boards.put_stones.Goals as goal
 use Rattle.position_files.proofs.boards.put_stones.Goals.{then-place-least-via-then-place-least, then-place-least-via-else-place-least+then-not-is_empty}
 

@@ -1,7 +1,8 @@
 use Rattle.std.proofs.Common.{sym, ap, ◌∙◌, arith}
 use Rattle.game_rules.specs.Grid.{place_of}
+use Rattle.game_rules.proofs.Boards.{place-below}
 use Rattle.position_table.specs.Packing.{code_of}
-use Rattle.position_table.proofs.Packing.{code_at-past, place-below}
+use Rattle.position_table.proofs.Packing.{code_at-past}
 use Rattle.position_table.proofs.packed_position.next_code.Goals as goal
 use Rattle.position_table.proofs.packed_position.next_code.Goals.{then-p-height, else-p-height}
 

@@ -1,6 +1,6 @@
 use Rattle.std.proofs.Common.{ap, arith}
 use Rattle.proof_tree.specs.declared.Link.{Link}
-use Rattle.proof_number.proofs.Records.{proved-child}
+use Rattle.proof_tree.proofs.Settled.{proved-child}
 use Rattle.proof_number.proofs.record.first_proved.Goals as goal
 
 pub unreachable-requires : goal.unreachable-requires

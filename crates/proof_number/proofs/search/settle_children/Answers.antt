@@ -1,7 +1,6 @@
 use Rattle.std.proofs.Common.{rules, ℕ, ◌≤◌, ◌∙◌, refl, ap, subst, arith, [], ◌∷◌, ◌++◌}
 use Rattle.std.specs.Prelude.{IfSome}
-use Rattle.game_rules.specs.Grid.{Grid}
-use Rattle.game_rules.specs.Play.{after}
+use Rattle.game_rules.proofs.Common.{Grid, after}
 use Rattle.strategy_graph.specs.declared.TheConstants.{MAX_NODES}
 use Rattle.strategy_graph.proofs.Filling.{IsTable-lower}
 use Rattle.strategy_compiler.specs.declared.wins.WrittenWin.{WrittenWin}
@@ -10,7 +9,8 @@ use Rattle.threat_game.specs.declared.replies.Child.{Child}
 use Rattle.threat_game.specs.Wins.{IsThreatWin}
 use Rattle.proof_number.specs.Children.{child_at, child_note, no_child}
 use Rattle.threat_game.specs.Replies.{moves_for}
-use Rattle.proof_number.proofs.ChildNotes.{more-settled, moves-few, no-room, nodes-more, nodes-within}
+use Rattle.threat_game.proofs.Counting.{moves-few}
+use Rattle.proof_number.proofs.ChildNotes.{more-settled, no-room, nodes-more, nodes-within}
 use Rattle.proof_number.proofs.search.settle_children.Goals as goal
 
 pub returns-in_err-win-clause-grows : goal.returns-in_err-win-clause-grows

@@ -1,7 +1,6 @@
 use Rattle.std.proofs.Common.{◌≡◌, ◌++◌}
 use Rattle.std.specs.List.{filter}
-use Rattle.game_rules.specs.Shapes.{five}
-use Rattle.game_rules.specs.Games.{five_points}
+use Rattle.game_rules.proofs.Common.{five, five_points}
 use Rattle.row_shapes.proofs.fives.five_points.Given as goal
 
 -- the five points found, and those of the points left, are all

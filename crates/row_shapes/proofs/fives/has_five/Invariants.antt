@@ -1,7 +1,6 @@
 use Rattle.std.proofs.Common.{◌≡◌}
 use Rattle.std.specs.List.{list_any}
-use Rattle.game_rules.specs.Shapes.{five}
-use Rattle.game_rules.specs.Games.{has_five}
+use Rattle.game_rules.proofs.Common.{five, has_five}
 use Rattle.row_shapes.proofs.fives.has_five.Given as goal
 
 -- some point left is a five point exactly where some point of the board is

@@ -1,7 +1,7 @@
 use Rattle.std.proofs.Common.{◌≡◌, ◌+◌, ◌<◌, sym, ap, subst, ◌∙◌, arith}
 use Rattle.std.specs.Prelude.{count_by}
 use Rattle.std.specs.List.{range_with_len}
-use Rattle.game_rules.specs.Shapes.{fours_of, place_stone, place_wins}
+use Rattle.game_rules.proofs.Common.{fours_of, place_stone, place_wins}
 use Rattle.game_rules.specs.declared.Side.{Side}
 use Rattle.row_shapes.specs.Gaps.{listed}
 use Rattle.row_shapes.proofs.Counting.{fours_by_gap, fours_of-gap, fours_listed, no_fours}

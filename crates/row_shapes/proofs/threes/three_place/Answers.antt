@@ -1,5 +1,5 @@
 use Rattle.std.proofs.Common.{◌≡◌, sym, ap, ◌∙◌, arith}
-use Rattle.game_rules.specs.Ways.{opposite, stones_towards}
+use Rattle.game_rules.proofs.Common.{opposite, stones_towards}
 use Rattle.game_rules.specs.declared.Way.{Way}
 use Rattle.row_shapes.proofs.ThreePoints.{no_place}
 use Rattle.row_shapes.proofs.threes.three_place.Goals as goal

@@ -1,8 +1,7 @@
 use Rattle.std.proofs.Common.{◌≡◌, bit_or, cond, subst}
 use Rattle.std.specs.Int.{bit_at}
 use Rattle.std.proofs.lemmas.Nat.{or_lt}
-use Rattle.game_rules.specs.Grid.{along}
-use Rattle.game_rules.specs.Shapes.{is_line_three_at}
+use Rattle.game_rules.proofs.Common.{along, is_line_three_at}
 use Rattle.game_rules.specs.declared.Side.{Side}
 use Rattle.row_shapes.proofs.ThreePoints.{three_bits}
 use Rattle.row_shapes.proofs.threes.three_points.Goals as goal

@@ -1,7 +1,7 @@
 use Rattle.std.proofs.Common.{length, slice_index, ap, ◌∙◌}
 use Rattle.strategy_graph.specs.Tables.{is_rising}
-use Rattle.strategy_compiler.proofs.Walking.{replies-below}
-use Rattle.strategy_compiler.proofs.Places.{rising-renumbered}
+use Rattle.strategy_graph.proofs.Renumbering.{rising-renumbered}
+use Rattle.strategy_graph.proofs.Naming.{replies-below}
 use Rattle.strategy_compiler.proofs.starts.renumbered_start.Goals as goal
 
 pub renumbered_replies-requires : goal.renumbered_replies-requires

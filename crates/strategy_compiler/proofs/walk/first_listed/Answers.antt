@@ -2,7 +2,7 @@
 use Rattle.std.proofs.Common.{sym, ap, ◌∙◌, not, false}
 use Rattle.std.specs.Prelude.{slice_index_or}
 use Rattle.strategy_graph.specs.declared.Reply.{Reply}
-use Rattle.strategy_compiler.proofs.Walking.{find-next_hit, find-next_miss, find-next_none}
+use Rattle.strategy_graph.proofs.Answering.{find-next_hit, find-next_miss, find-next_none}
 use Rattle.strategy_compiler.proofs.walk.first_listed.Goals as goal
 
 -- the reply that stands where none is

@@ -1,6 +1,6 @@
 use Rattle.std.proofs.Common.{length}
 use Rattle.strategy_graph.specs.Tables.{answers_of}
-use Rattle.strategy_compiler.proofs.Walking.{replies-below}
+use Rattle.strategy_graph.proofs.Naming.{replies-below}
 use Rattle.strategy_compiler.proofs.walk.first_open.Goals as goal
 
 pub first_listed-requires : goal.first_listed-requires

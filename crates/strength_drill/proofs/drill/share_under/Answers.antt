@@ -1,5 +1,6 @@
 use Rattle.std.proofs.Common.{◌⊎◌, refl, subst}
 use Rattle.std.specs.Prelude.{IfOk}
+use Rattle.std.proofs.lemmas.Result.{IfOk-weaker}
 use Rattle.game_rules.specs.Grid.{Grid}
 use Rattle.four_search.specs.Answers.{OnWin, IsFourWin}
 use Rattle.four_search.specs.Plans.{four_plan}
@@ -7,7 +8,7 @@ use Rattle.four_search.specs.declared.answer.FourAnswer.{FourAnswer}
 use Rattle.strength_drill.specs.declared.drill.TheConstants.{DEPTH}
 use Rattle.strength_drill.specs.declared.counts.Counts.{Counts}
 use Rattle.strength_drill.specs.Counts.{PlaysGame, IsNotHeld, IsShare}
-use Rattle.strength_drill.proofs.DrillCounts.{ok-map, share-win, share-none, share-spent}
+use Rattle.strength_drill.proofs.DrillCounts.{share-win, share-none, share-spent}
 use Rattle.strength_drill.proofs.drill.share_under.Goals as goal
 
 pub returns-in_ok-table-in-Ok-Win-clause-share : goal.returns-in_ok-table-in-Ok-Win-clause-share
@@ -21,7 +22,7 @@ returns-in_ok-table-in-Ok-Win-clause-share g c =
     subst (λ (a : FourAnswer). OnWin a (IsFourWin g.R.Rule.KIND DEPTH b c.four_search.new.compiler)) c.in-Ok-Win.field-0-is c.in-Ok-Win.ensures.win in
     let table = c.in_ok-table-in-Ok-Win.ensures.trees (four_plan g.R.Rule.KIND c.in-Ok-Win.win.moves b) is.stands in
     let tried = subst (λ (x : Grid). IfOk c.try_table.result (λ (d : Counts). PlaysGame g.R.Rule.KIND x t s d u ⊎ IsNotHeld g.R.Rule.KIND x t s d u)) c.four_search.ensures.same c.try_table.ensures.tried in
-    ok-map c.try_table.result (λ (d : Counts). PlaysGame g.R.Rule.KIND b t s d u ⊎ IsNotHeld g.R.Rule.KIND b t s d u) (λ (d : Counts). IsShare g.R.Rule.KIND n d u)
+    IfOk-weaker c.try_table.result (λ (d : Counts). PlaysGame g.R.Rule.KIND b t s d u ⊎ IsNotHeld g.R.Rule.KIND b t s d u) (λ (d : Counts). IsShare g.R.Rule.KIND n d u)
     (λ d h. share-win g.R.Rule.KIND n d u b s c.in_ok-position.ensures.position c.in_ok-position.ensures.draws c.in-Ok-Win.win.moves t
     (λ above. let spent = c.in-Ok-Win.ensures.spent.1 above in let not = c.in-Ok-Win.field-0-is in absurd (cc)) is.least table h)
     tried

@@ -1,7 +1,6 @@
 use Rattle.std.proofs.Common.{◌≡◌, ◌≤◌, ℕ, false, ap, sym, subst, ◌∙◌, arith}
 use Rattle.std.proofs.lemmas.Bool.Decides.{nat_tests}
-use Rattle.game_rules.specs.Grid.{Grid, empties_of}
-use Rattle.game_rules.specs.Play.{has_fouls, mover}
+use Rattle.game_rules.proofs.Common.{Grid, empties_of, has_fouls, mover}
 use Rattle.threat_game.proofs.FreeMoves.{each-goes_on}
 use Rattle.threat_game.proofs.attacks.each_goes_on.Goals as goal
 

@@ -1,7 +1,5 @@
 use Rattle.std.proofs.Common.{◌≡◌, ◌&&◌, true, false, ap, sym, ◌∙◌}
-use Rattle.game_rules.specs.Grid.{Grid, is_empty}
-use Rattle.game_rules.specs.Play.{mover, after}
-use Rattle.game_rules.specs.Games.{five_points}
+use Rattle.game_rules.proofs.Common.{Grid, is_empty, mover, after, five_points}
 use Rattle.row_shapes.specs.FivePoints.{in_short}
 use Rattle.threat_moves.specs.ThreeMoves.{is_several}
 use Rattle.threat_game.proofs.attacks.makes_two.Goals as goal

@@ -1,7 +1,6 @@
 use Rattle.std.proofs.Common.{rules, ◌≡◌, ℕ, ◌≤◌, refl, ap, sym, subst, ◌∙◌}
 use Rattle.std.proofs.lemmas.Result.{IfOk-weaker}
-use Rattle.game_rules.specs.Grid.{Grid}
-use Rattle.game_rules.specs.Play.{after, outcome, goes_on}
+use Rattle.game_rules.proofs.Common.{Grid, after, outcome, goes_on}
 use Rattle.game_rules.specs.declared.RuleKind.{RuleKind}
 use Rattle.strategy_graph.proofs.ReadingOrder.{replies-rising}
 use Rattle.strategy_compiler.specs.Forks.{IsDoubleThreat, double_nodes}

@@ -1,6 +1,5 @@
 use Rattle.std.proofs.Common.{◌≡◌, ◌≤◌, List, length, ap, ◌∙◌}
-use Rattle.game_rules.specs.Grid.{Grid, lift}
-use Rattle.game_rules.specs.Games.{five_points}
+use Rattle.game_rules.proofs.Common.{Grid, lift, five_points}
 use Rattle.game_rules.specs.declared.Point.{Point}
 use Rattle.game_rules.proofs.Boards.{lift-put}
 use Rattle.stone_board.specs.Steps.{holds_stone}

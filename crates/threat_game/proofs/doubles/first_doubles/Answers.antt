@@ -2,9 +2,9 @@ use Rattle.std.proofs.Common.{◌≡◌, ap, sym, subst, ◌∙◌, List}
 use Rattle.std.specs.Prelude.{All}
 use Rattle.std.proofs.lemmas.List.Elements.{All-push}
 use Rattle.game_rules.specs.Grid.{Grid, is_empty}
+use Rattle.threat_moves.proofs.GainLaws.{double-empty}
 use Rattle.threat_game.specs.declared.doubles.Double.{Double}
 use Rattle.threat_game.specs.Attacks.{LeavesBoth}
-use Rattle.threat_game.proofs.LastLaws.{double-empty}
 use Rattle.threat_game.proofs.doubles.first_doubles.Goals as goal
 
 pub double_at-requires : goal.double_at-requires

@@ -1,7 +1,6 @@
 use Rattle.std.proofs.Common.{◌≡◌, ◌&&◌, not}
 use Rattle.std.specs.List.{list_any}
-use Rattle.game_rules.specs.Shapes.{is_same_point}
-use Rattle.game_rules.specs.Play.{outcome, goes_on}
+use Rattle.game_rules.proofs.Common.{is_same_point, outcome, goes_on}
 use Rattle.threat_game.specs.Replies.{has_reply_beside}
 use Rattle.threat_game.proofs.doubles.goes_on_beside.Given as goal
 

@@ -1,7 +1,5 @@
 use Rattle.std.proofs.Common.{◌≡◌, ap, sym, ◌∙◌}
-use Rattle.game_rules.specs.Grid.{Grid}
-use Rattle.game_rules.specs.Games.{has_five}
-use Rattle.game_rules.specs.Play.{outcome, mover, after}
+use Rattle.game_rules.proofs.Common.{Grid, has_five, outcome, mover, after}
 use Rattle.game_rules.specs.declared.Outcome.TheVariants.{GoesOn}
 use Rattle.game_rules.proofs.Outcomes.{goes_on-is}
 use Rattle.threat_game.proofs.ReplyLaws.{none-beside}

@@ -1,10 +1,8 @@
 use Rattle.std.proofs.Common.{ap, subst, ◌∙◌}
 use Rattle.std.specs.Prelude.{IfOk, IsTrue}
-use Rattle.game_rules.specs.Grid.{Grid}
-use Rattle.game_rules.specs.Games.{has_five, WinsByThreats}
-use Rattle.game_rules.specs.Play.{mover}
+use Rattle.game_rules.proofs.Common.{Grid, has_five, WinsByThreats, mover}
 use Rattle.game_rules.proofs.Undo.{stone_back, lift_back, unwon_back}
-use Rattle.threat_game.proofs.BothBoards.{copy-empty, copy-played, copy-stone, copy-back}
+use Rattle.stone_board.proofs.BothBoards.{copy-empty, copy-played, copy-stone, copy-back}
 use Rattle.threat_game.proofs.escapes.fails_after.Goals as goal
 
 pub put-requires : goal.put-requires

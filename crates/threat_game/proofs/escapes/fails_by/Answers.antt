@@ -2,8 +2,8 @@ use Rattle.std.proofs.Common.{subst, ◌∙◌}
 use Rattle.std.specs.Prelude.{IfOk, IsTrue}
 use Rattle.game_rules.specs.Grid.{Grid}
 use Rattle.game_rules.proofs.Undo.{stone_back, lift_back, unwon_back}
+use Rattle.stone_board.proofs.BothBoards.{copy-empty, copy-played, copy-stone, copy-back}
 use Rattle.threat_game.specs.Replies.{HasEscape}
-use Rattle.threat_game.proofs.BothBoards.{copy-empty, copy-played, copy-stone, copy-back}
 use Rattle.threat_game.proofs.escapes.fails_by.Goals as goal
 
 pub put-requires : goal.put-requires

@@ -1,6 +1,5 @@
 use Rattle.std.proofs.Common.{ap, sym, ◌∙◌}
-use Rattle.game_rules.specs.Grid.{Grid}
-use Rattle.game_rules.specs.Play.{outcome, after}
+use Rattle.game_rules.proofs.Common.{Grid, outcome, after}
 use Rattle.game_rules.proofs.Outcomes.{goes_on-is}
 use Rattle.threat_moves.specs.OneBlock.{all_foul}
 use Rattle.threat_game.specs.ThreatGame.{is_threat_move}

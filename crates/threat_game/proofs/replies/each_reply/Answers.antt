@@ -1,7 +1,6 @@
 use Rattle.std.proofs.Common.{rules, ◌≡◌, sym, subst, ◌∙◌, arith, List, [], ◌∷◌}
 use Rattle.std.proofs.lemmas.Grind.{common_steps}
-use Rattle.game_rules.specs.Grid.{Grid}
-use Rattle.game_rules.specs.Play.{IsPosition}
+use Rattle.game_rules.proofs.Common.{Grid, IsPosition}
 use Rattle.game_rules.specs.declared.Point.{Point}
 use Rattle.threat_game.specs.FreeMoves.{EachGoesOn}
 use Rattle.threat_game.specs.Replies.{IsJudgement}

@@ -1,8 +1,6 @@
 use Rattle.std.proofs.Common.{ap, sym, subst, ◌∙◌}
 use Rattle.std.specs.Prelude.{All}
-use Rattle.game_rules.specs.Grid.{Grid}
-use Rattle.game_rules.specs.Games.{has_five}
-use Rattle.game_rules.specs.Play.{mover, other, after}
+use Rattle.game_rules.proofs.Common.{Grid, has_five, mover, other, after}
 use Rattle.game_rules.proofs.Positions.{GoesOn-empty, mover-other}
 use Rattle.row_shapes.proofs.FiveLaws.{has_five-none}
 use Rattle.game_rules.proofs.Undo.{stone_back, lift_back, unwon_back}

@@ -1,6 +1,5 @@
 use Rattle.std.proofs.Common.{ap, refl, arith}
-use Rattle.game_rules.specs.Grid.{Grid}
-use Rattle.game_rules.specs.Play.{after}
+use Rattle.game_rules.proofs.Common.{Grid, after}
 use Rattle.threat_game.specs.declared.replies.Judged.TheVariants.{Last}
 use Rattle.threat_game.proofs.ChildLaws.{child-is, escape-is}
 use Rattle.threat_game.proofs.replies.judge_quiet.Goals as goal

@@ -1,7 +1,6 @@
 use Rattle.std.proofs.Common.{◌≡◌, true, sym, ap, subst, ◌∙◌}
-use Rattle.game_rules.specs.Grid.{Grid, IsBoard, is_empty, put, lift}
+use Rattle.game_rules.proofs.Common.{Grid, IsBoard, is_empty, put, lift, five_points}
 use Rattle.game_rules.proofs.Boards.{lift-put}
-use Rattle.game_rules.specs.Games.{five_points}
 use Rattle.row_shapes.specs.FivePoints.{in_short}
 use Rattle.stone_board.specs.Steps.{holds_stone}
 use Rattle.stone_board.proofs.Stones.{put-holds_stone}

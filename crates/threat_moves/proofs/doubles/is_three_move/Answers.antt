@@ -1,6 +1,5 @@
 use Rattle.std.proofs.Common.{sym, ap, ◌∙◌}
-use Rattle.game_rules.specs.Grid.{Grid, is_empty}
-use Rattle.game_rules.specs.Play.{mover}
+use Rattle.game_rules.proofs.Common.{Grid, is_empty, mover}
 use Rattle.game_rules.specs.declared.Side.{Side}
 use Rattle.game_rules.proofs.Positions.{GoesOn-empty}
 use Rattle.threat_moves.specs.ThreeMoves.{makes_double_point}

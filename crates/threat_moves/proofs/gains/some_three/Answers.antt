@@ -1,5 +1,5 @@
 use Rattle.game_rules.specs.declared.Side.TheVariants.{Black}
-use Rattle.threat_moves.proofs.FewerEmpties.{no_bits}
+use Rattle.foul_judge.proofs.ThreePlaces.{no_bits}
 use Rattle.threat_moves.proofs.gains.some_three.Goals as goal
 
 pub returns : goal.returns

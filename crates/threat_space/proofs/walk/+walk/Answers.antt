@@ -4,11 +4,12 @@ use Rattle.game_rules.specs.Grid.{Grid, IsBoard, is_empty}
 use Rattle.game_rules.specs.declared.Point.{Point}
 use Rattle.threat_moves.specs.declared.threat_list.Threat.{Threat}
 use Rattle.threat_moves.specs.Threats.{threats_at}
+use Rattle.threat_moves.proofs.ThreatLists.{after_path, shorter}
 use Rattle.threat_space.specs.Sequences.{final_of, lists_of, played, played_all}
 use Rattle.threat_space.specs.Lines.{HasPairsOf, HasPairsAfter}
 use Rattle.threat_space.specs.Looking.{looked}
 use Rattle.threat_space.proofs.FarPairs.{pairs-after}
-use Rattle.threat_space.proofs.Looked.{after_path, from_threats, from_threat, lists-none, played-more, shorter, gain-goes_on, gain-ends, gain-passes, gains-none, gains-all, threat-goes_on, threat-ends}
+use Rattle.threat_space.proofs.Looked.{from_threats, from_threat, lists-none, played-more, gain-goes_on, gain-ends, gain-passes, gains-none, gains-all, threat-goes_on, threat-ends}
 use Rattle.threat_space.proofs.walk.+walk.Goals as goal
 
 pub walk-returns-then-more-eq0-clause-looked : goal.walk-returns-then-more-eq0-clause-looked

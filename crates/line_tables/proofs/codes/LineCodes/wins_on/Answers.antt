@@ -1,6 +1,6 @@
 use Rattle.std.proofs.Common.{ap, ◌∙◌}
 use Rattle.row_shapes.specs.declared.shapes.Shape.{Shape}
-use Rattle.line_tables.proofs.Shapes.{told_five}
+use Rattle.row_shapes.proofs.CodeDigits.{told_five}
 use Rattle.line_tables.proofs.codes.LineCodes.wins_on.Goals as goal
 
 pub returns : goal.returns

@@ -3,7 +3,7 @@ use Rattle.game_rules.specs.Grid.{Grid, is_empty}
 use Rattle.row_shapes.specs.declared.shapes.Shape.{Shape}
 use Rattle.row_shapes.specs.Rule.{reach_of}
 use Rattle.row_shapes.specs.LineShapes.{shape_at, IsShape}
-use Rattle.line_tables.proofs.Shapes.{told_shape}
+use Rattle.row_shapes.proofs.CodeDigits.{told_shape}
 use Rattle.line_tables.proofs.tables.LineTables.shape.Goals as goal
 
 pub returns-clause-made : goal.returns-clause-made

@@ -1,6 +1,5 @@
 use Rattle.std.proofs.Common.{sym, subst, ◌∙◌}
-use Rattle.game_rules.specs.Grid.{Grid}
-use Rattle.game_rules.specs.Play.{IsPosition}
+use Rattle.game_rules.proofs.Common.{Grid, IsPosition}
 use Rattle.line_tables.proofs.tables.LineTables.with_shapes.Goals as goal
 
 pub invariant_of-result : goal.invariant_of-result

@@ -1,6 +1,5 @@
 use Rattle.std.proofs.Common.{◌≡◌, sym, ap, ◌∙◌}
-use Rattle.game_rules.specs.Grid.{Grid}
-use Rattle.game_rules.specs.Play.{outcome, mover, other}
+use Rattle.game_rules.proofs.Common.{Grid, outcome, mover, other}
 use Rattle.game_rules.specs.declared.Outcome.TheVariants.{GoesOn}
 use Rattle.game_rules.proofs.Positions.{GoesOn-empty}
 use Rattle.line_tables.proofs.Moves.{side_as, played_lawful, played_stone, played_side}

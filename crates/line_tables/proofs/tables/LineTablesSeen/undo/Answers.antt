@@ -1,6 +1,5 @@
 use Rattle.std.proofs.Common.{◌≡◌, true, ap, ◌∙◌}
-use Rattle.game_rules.specs.Grid.{Grid, holds}
-use Rattle.game_rules.specs.Play.{mover, other}
+use Rattle.game_rules.proofs.Common.{Grid, holds, mover, other}
 use Rattle.line_tables.proofs.Moves.{undone_side}
 use Rattle.line_tables.proofs.tables.LineTablesSeen.undo.Goals as goal
 

@@ -1,4 +1,5 @@
 use Rattle.std.proofs.Common.{rules, ◌≡◌, ◌∙◌, ◌<◌, ℕ, sym, ap, subst, arith, length}
+use Rattle.std.proofs.lemmas.Result.{on_ok_weaker}
 use Rattle.game_rules.specs.Grid.{Grid}
 use Rattle.proof_tree.specs.Trees.{IsOnWayUp, IsTree, link_at}
 use Rattle.proof_tree.specs.declared.Link.{Link}
@@ -6,12 +7,12 @@ use Rattle.proof_number.specs.declared.search.Search.{Search}
 use Rattle.proof_number.specs.GameTrees.{GameTree, IsGameTree, board_at}
 use Rattle.proof_number.specs.Searches.{IsAbove, Searches, game_of}
 use Rattle.proof_number.proofs.GameBoards.{board-root}
-use Rattle.proof_number.proofs.Recorded.{board-searches, on-ok-map, parent-searches, root-searches, way-game, way-tree}
+use Rattle.proof_number.proofs.Recorded.{board-searches, parent-searches, root-searches, way-game, way-tree}
 use Rattle.proof_number.proofs.search.Search.+go_back.Goals as goal
 
 pub returns-then-node-eq0-clause-searching : goal.returns-then-node-eq0-clause-searching
 returns-then-node-eq0-clause-searching g t c =
-    on-ok-map c.record-found.result (Searches g.R.Rule.KIND c.record-found.new.self c.args.tree.now c.record-found.new.compiler (IsAbove c.args.tree.now.links c.args.node)) _
+    on_ok_weaker {P = Searches g.R.Rule.KIND c.record-found.new.self c.args.tree.now c.record-found.new.compiler (IsAbove c.args.tree.now.links c.args.node)} c.record-found.result
     (λ h. root-searches g.R.Rule.KIND c.record-found.new.self c.args.tree.now c.record-found.new.compiler c.args.node h c.if-node-eq0.true) c.record-found.ensures.searching
 
 pub returns-then-node-eq0-clause-view : goal.returns-then-node-eq0-clause-view

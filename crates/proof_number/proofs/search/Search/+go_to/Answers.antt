@@ -1,7 +1,6 @@
 use Rattle.std.proofs.Common.{rules, ◌≡◌, ◌<◌, sym, ap, ◌∙◌, arith, List, length, get_or}
 use Rattle.std.proofs.lemmas.List.{length-map}
-use Rattle.game_rules.specs.Grid.{Grid, is_empty, put}
-use Rattle.game_rules.specs.Play.{outcome, mover, after}
+use Rattle.game_rules.proofs.Common.{Grid, is_empty, put, outcome, mover, after}
 use Rattle.game_rules.specs.declared.Side.{Side}
 use Rattle.proof_tree.specs.declared.Link.{Link}
 use Rattle.proof_number.specs.declared.notes.Note.{Note}

@@ -1,4 +1,4 @@
-use Rattle.std.proofs.Common.{◌≡◌, ◌∙◌, ◌<◌, sym, ap, subst, arith, length, false}
+use Rattle.std.proofs.Common.{◌≡◌, ◌∙◌, ◌<◌, sym, ap, subst, arith, length, false, refl}
 use Rattle.std.specs.Prelude.{Some}
 use Rattle.position_table.specs.Packing.{packed}
 use Rattle.position_table.specs.Remembering.{value_under}
@@ -7,7 +7,6 @@ use Rattle.proof_number.specs.declared.search.Search.{Search}
 use Rattle.proof_number.specs.Notes.{note_at}
 use Rattle.proof_number.specs.Searches.{IsNotedWin}
 use Rattle.strategy_compiler.specs.declared.wins.WrittenWin.{WrittenWin}
-use Rattle.std.proofs.Common.{refl}
 use Rattle.proof_number.proofs.Steps.{leaf-found, leaf-is, leaf-noted, left-few, recalled-lost, recalled-stands, recalled-won, root-open, settled-at, step-from}
 use Rattle.proof_number.proofs.search.Search.attack.Goals as goal
 

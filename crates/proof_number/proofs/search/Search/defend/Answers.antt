@@ -3,6 +3,7 @@ use Rattle.std.specs.Prelude.{IsErrOf, Some, None}
 use Rattle.std.specs.List.{sum_by}
 use Rattle.std.proofs.lemmas.List.{get_or_default}
 use Rattle.game_rules.specs.Grid.{Grid}
+use Rattle.proof_tree.proofs.SumLaws.{fresh-numbers}
 use Rattle.strategy_graph.specs.declared.TheConstants.{MAX_NODES}
 use Rattle.strategy_compiler.specs.declared.error.SearchError.TheVariants.{Full}
 use Rattle.proof_number.specs.declared.notes.Note.{Note}
@@ -14,7 +15,7 @@ use Rattle.threat_game.specs.Replies.{AreChildren, AreReplies, HasEscape, nodes_
 use Rattle.proof_number.proofs.Steps.{leaf-board, leaf-is, leaf-noted, root-open, settled-at}
 use Rattle.proof_number.proofs.WonSteps.{attacked-few}
 use Rattle.proof_number.proofs.Defending.{all-fresh, defend-moves, defend-no_five, defend-reply, escape-grows, few-new, replies-few, replies-full, replies-grow, replies-spent, settled-same, some-new}
-use Rattle.proof_number.proofs.Widening.{budget-few, fresh-numbers, short-there, sums-there}
+use Rattle.proof_number.proofs.Widening.{budget-few, short-there, sums-there}
 use Rattle.proof_number.proofs.search.Search.defend.Goals as goal
 
 pub index-requires : goal.index-requires

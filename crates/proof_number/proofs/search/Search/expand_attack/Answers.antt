@@ -3,13 +3,14 @@ use Rattle.std.specs.List.{All}
 use Rattle.std.proofs.lemmas.List.{get_or_default, length-replicate, nil_from_length}
 use Rattle.std.proofs.lemmas.List.Elements.{All-replicate}
 use Rattle.game_rules.specs.declared.Point.{Point}
+use Rattle.proof_tree.proofs.SumLaws.{IsFresh}
 use Rattle.threat_game.specs.Attacks.{tried_moves}
 use Rattle.proof_number.specs.declared.notes.Note.{Note}
 use Rattle.proof_number.specs.declared.search.Search.{Search}
 use Rattle.proof_number.specs.Notes.{no_note, note_at}
 use Rattle.proof_number.proofs.Steps.{attack-moves, leaf-is, leaf-noted, root-open, settled-at}
 use Rattle.proof_number.proofs.Attacking.{moves-grow, moves-spent, none-grows, open_note, open_one}
-use Rattle.proof_number.proofs.Widening.{IsFresh, budget-few, defended-few, short-there, sums-there}
+use Rattle.proof_number.proofs.Widening.{budget-few, defended-few, short-there, sums-there}
 use Rattle.proof_number.proofs.search.Search.expand_attack.Goals as goal
 
 pub settle-requires : goal.settle-requires

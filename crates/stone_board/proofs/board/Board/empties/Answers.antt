@@ -1,6 +1,6 @@
 use Rattle.std.proofs.Common.{arith, ap}
 use Rattle.game_rules.specs.Grid.{empties_of}
-use Rattle.stone_board.proofs.Counts.{counts_of_board}
+use Rattle.game_rules.proofs.Cells.{counts_of_board}
 use Rattle.stone_board.proofs.board.Board.empties.Goals as goal
 
 pub overflow_sub-result-2 : goal.overflow_sub-result-2

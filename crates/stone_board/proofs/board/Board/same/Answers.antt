@@ -1,7 +1,7 @@
 use Rattle.std.proofs.Common.{◌≡◌, subst}
 use Rattle.std.specs.Bool.{Decides}
 use Rattle.game_rules.specs.Grid.{Grid}
-use Rattle.stone_board.proofs.Counts.{same_cells-Decides}
+use Rattle.game_rules.proofs.Cells.{same_cells-Decides}
 use Rattle.stone_board.proofs.board.Board.same.Goals as goal
 
 pub returns : goal.returns

@@ -1,7 +1,5 @@
 use Rattle.std.proofs.Common.{below_more, arith, ◌≡◌, ℕ, ◌+◌, ◌≤◌, Bool, true, false, sym, ap, ◌∙◌}
-use Rattle.game_rules.specs.Grid.{Grid, is_on}
-use Rattle.game_rules.specs.Shapes.{stone_at, line_bound}
-use Rattle.game_rules.specs.Ways.{towards}
+use Rattle.game_rules.proofs.Common.{Grid, is_on, stone_at, line_bound, towards}
 use Rattle.game_rules.proofs.Rows.{stops_at, at_next}
 use Rattle.game_rules.proofs.Ways.{stones_towards-prefix}
 use Rattle.stone_board.specs.Walks.{steps_left}

@@ -1,6 +1,5 @@
 use Rattle.std.proofs.Common.{◌≡◌, ℕ, ◌+◌, ◌<◌, ◌≤◌, true}
-use Rattle.game_rules.specs.Shapes.{stone_at}
-use Rattle.game_rules.specs.Ways.{towards}
+use Rattle.game_rules.proofs.Common.{stone_at, towards}
 use Rattle.stone_board.proofs.board.Board.stones_towards.Given as goal
 
 -- the places so far hold stones of the side

@@ -1,11 +1,10 @@
 -- A move that goes on, played on a view and put on a board that is a copy of it, and taken back on both.
 use Rattle.std.proofs.Common.{◌≡◌, true, ap, sym, ◌∙◌}
-use Rattle.game_rules.specs.Grid.{Grid, IsBoard, is_empty, put, lift}
-use Rattle.game_rules.specs.Play.{outcome, mover, after}
+use Rattle.game_rules.proofs.Common.{Grid, IsBoard, is_empty, put, lift, outcome, mover, after}
 use Rattle.game_rules.specs.declared.RuleKind.{RuleKind}
 use Rattle.game_rules.specs.declared.Side.{Side}
-use Rattle.game_rules.specs.declared.Outcome.TheVariants.{GoesOn}
 use Rattle.game_rules.specs.declared.Point.{Point}
+use Rattle.game_rules.specs.declared.Outcome.TheVariants.{GoesOn}
 use Rattle.game_rules.proofs.Boards.{lift-put}
 use Rattle.game_rules.proofs.Positions.{GoesOn-empty}
 use Rattle.stone_board.specs.Steps.{holds_stone}

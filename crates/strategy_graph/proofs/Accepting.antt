@@ -1,46 +1,19 @@
--- A root is accepted where a test holds at each point of the board: the reply there does not win, and the answer to it wins at once.
-use Rattle.std.proofs.Common.{◌≡◌, ◌⊎◌, inl, inr, ℕ, Bool, true, false, ◌&&◌, ◌||◌, not, List, refl, nat_eq}
+-- A node is accepted where its answers are, step by step.
+use Rattle.std.proofs.Common.{Bool, false, ◌&&◌, ℕ, List, ◌||◌, not, ◌≡◌, inl, inr, true, refl, nat_eq}
 use Rattle.std.specs.Prelude.{Option, Some, None, slice_get}
 use Rattle.std.specs.List.{list_all}
 use Rattle.std.proofs.lemmas.Bool.{or_cases, not-true}
-use Rattle.game_rules.specs.Grid.{Grid, is_on, is_empty, points_of, empties_of}
-use Rattle.game_rules.specs.Shapes.{five}
-use Rattle.game_rules.specs.Play.{outcome, outcome_by, foul_of, mover, after}
+use Rattle.game_rules.proofs.Common.{Grid, is_empty, is_on, points_of, empties_of, five, mover, after, outcome}
 use Rattle.game_rules.specs.declared.RuleKind.{RuleKind}
-use Rattle.game_rules.specs.declared.Foul.{Foul}
-use Rattle.game_rules.specs.declared.Outcome.TheVariants.{Wins as WinsNow, Fouls, GoesOn}
 use Rattle.game_rules.specs.declared.Point.{Point}
+use Rattle.game_rules.specs.declared.Outcome.TheVariants.{GoesOn}
 use Rattle.game_rules.proofs.Boards.{and_left, and_right}
 use Rattle.game_rules.proofs.Points.{all_at, taken_refused, off_refused}
+use Rattle.game_rules.proofs.Outcomes.{wins_now, quiet_move}
 use Rattle.strategy_graph.specs.declared.Node.{Node}
 use Rattle.strategy_graph.specs.Tables.{Answers, answer, NamesLower}
 use Rattle.strategy_graph.specs.Acceptance.{Meets, Accepted}
 use Rattle.strategy_graph.proofs.Steps.{accepted-by-win, met-no_move, met-foul, met-answer}
-
--- ---- moves that win, and moves that neither win nor draw
-
-wins_by : (e w l : Bool) (o : Option Foul) → e ≡ true → w ≡ true → outcome_by e w o l ≡ WinsNow
-wins_by true true l None e f = refl
-wins_by true true l (Some g) e f = refl
-wins_by true false l o e f = cc
-wins_by false w l o e f = cc
-
-pub wins_now : (rule : RuleKind) (b : Grid) (p : Point) → is_empty b p ≡ true → five rule b (mover b) p ≡ true → outcome rule b p ≡ WinsNow
-unfolding outcome
-wins_now rule b p e f = wins_by (is_empty b p) (five rule b (mover b) p) (nat_eq (empties_of b) 1) (foul_of rule b (mover b) p) e f
-
-quiet_by : (e w l : Bool) (o : Option Foul) → e ≡ true → w ≡ false → l ≡ false → (outcome_by e w o l ≡ GoesOn) ⊎ ((f : Foul) × (outcome_by e w o l ≡ Fouls f))
-quiet_by true false false None e f g = inl refl
-quiet_by true false false (Some h) e f g = inr (h, refl)
-quiet_by true false true o e f g = cc
-quiet_by true true l o e f g = cc
-quiet_by false w l o e f g = cc
-
-quiet_move : (rule : RuleKind) (b : Grid) (q : Point) → is_empty b q ≡ true → five rule b (mover b) q ≡ false → nat_eq (empties_of b) 1 ≡ false → (outcome rule b q ≡ GoesOn) ⊎ ((f : Foul) × (outcome rule b q ≡ Fouls f))
-unfolding outcome
-quiet_move rule b q e f g = quiet_by (is_empty b q) (five rule b (mover b) q) (nat_eq (empties_of b) 1) (foul_of rule b (mover b) q) e f g
-
--- ---- the test
 
 -- whether there is such a node, and its attack wins
 abbrev pub node_wins : RuleKind → Option Node → Grid → Bool

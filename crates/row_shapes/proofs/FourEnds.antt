@@ -1,92 +1,22 @@
 -- A stone that is in no four on an axis has no end there that wins, where its side had no five point before it.
-use Rattle.std.proofs.Common.{◌≡◌, ◌≢◌, inl, inr, ℕ, zero, suc, ◌+◌, ◌-◌, ◌≤◌, ◌<◌, Bool, true, false, cond, ◌&&◌, ◌||◌, not, refl, sym, ap, ◌∙◌, arith, nat_eq}
-use Rattle.std.specs.Prelude.{Option, Some, None, count_by}
-use Rattle.std.specs.List.{sum_by, range_with_len}
-use Rattle.std.proofs.lemmas.Bool.{cases_lt, false_from_ne_true, or_right}
-use Rattle.std.proofs.lemmas.Bool.Decides.{nat_tests}
-use Rattle.game_rules.specs.Grid.{Grid, IsBoard, is_on, is_empty, put, along}
-use Rattle.game_rules.specs.Shapes.{row_wins, stone_at, wins_on, wins_at, fours_of, place_stone, place_wins}
-use Rattle.game_rules.specs.Games.{has_five}
-use Rattle.game_rules.specs.Ways.{opposite, stones_towards, go, run_end}
+use Rattle.std.proofs.Common.{◌≡◌, ◌≢◌, inl, inr, ℕ, ◌+◌, ◌-◌, ◌≤◌, true, false, cond, ◌&&◌, refl, sym, ap, ◌∙◌, arith}
+use Rattle.std.specs.Prelude.{Option, Some, None}
+use Rattle.std.proofs.lemmas.Bool.{cases_lt, false_from_ne_true}
+use Rattle.game_rules.proofs.Common.{Grid, IsBoard, is_on, is_empty, put, along, row_wins, stone_at, wins_on, wins_at, fours_of, place_stone, place_wins, has_five, opposite, stones_towards, go, run_end}
 use Rattle.game_rules.specs.declared.RuleKind.{RuleKind}
-use Rattle.game_rules.specs.declared.RuleKind.TheVariants.{Freestyle, Exact, Renju}
 use Rattle.game_rules.specs.declared.Side.{Side}
-use Rattle.game_rules.specs.declared.Side.TheVariants.{Black, White}
 use Rattle.game_rules.specs.declared.Axis.{Axis}
 use Rattle.game_rules.specs.declared.Point.{Point}
 use Rattle.game_rules.specs.declared.Way.{Way}
 use Rattle.game_rules.specs.declared.Way.TheVariants.{Ahead, Behind}
-use Rattle.game_rules.proofs.Rows.{all_range}
 use Rattle.game_rules.proofs.Boards.{and_left, and_right, is_empty-on, holds-put_same}
 use Rattle.game_rules.proofs.Ways.{go-then, go-same, go-zero, leads, leads_back, towards-put, beyond-put}
 use Rattle.game_rules.proofs.Wins.{wins_on-ways, no_win}
-use Rattle.row_shapes.specs.Gaps.{fours_from, is_four, are_stones}
+use Rattle.game_rules.proofs.Fives.{run_short}
 use Rattle.row_shapes.specs.FiveEnds.{kept_five, end_five, with_more, with_axis}
 use Rattle.row_shapes.specs.declared.fives.FivePoints.{FivePoints}
-use Rattle.row_shapes.proofs.Counting.{fours_by_gap, fours_of-gap}
+use Rattle.row_shapes.proofs.Counting.{fours_by_gap, fours_of-gap, no_window, no_row}
 use Rattle.row_shapes.proofs.NewFives.{end_joins}
-
--- ---- no four
-
-each_zero : (f : ℕ → ℕ) → sum_by f (range_with_len 0 5) ≡ 0 → (k : ℕ) → k < 5 → f k ≡ 0
-each_zero f h zero low = omega arith
-each_zero f h (suc zero) low = omega arith
-each_zero f h (suc (suc zero)) low = omega arith
-each_zero f h (suc (suc (suc zero))) low = omega arith
-each_zero f h (suc (suc (suc (suc zero)))) low = omega arith
-each_zero f h (suc (suc (suc (suc (suc k))))) low = absurd (omega arith)
-
-no_by : (r : Bool) → ◌≡◌ {A = ℕ} (cond r 1 0) 0 → r ≡ false
-no_by true h = absurd (omega arith)
-no_by false h = refl
-
-each_none : (f : ℕ → Bool) → count_by f (range_with_len 1 4) ≡ 0 → (k : ℕ) → 1 ≤ k → k ≤ 4 → f k ≡ false
-each_none f h zero low high = absurd (omega arith)
-each_none f h (suc zero) low high = no_by (f 1) (omega arith)
-each_none f h (suc (suc zero)) low high = no_by (f 2) (omega arith)
-each_none f h (suc (suc (suc zero))) low high = no_by (f 3) (omega arith)
-each_none f h (suc (suc (suc (suc zero)))) low high = no_by (f 4) (omega arith)
-each_none f h (suc (suc (suc (suc (suc k))))) low high = absurd (omega arith)
-
-module _ (stone wins : ℕ → Bool) (none : fours_by_gap stone wins ≡ 0) where
-  no_four : (first gap : ℕ) → first < 5 → 1 ≤ gap → gap ≤ 4 → is_four stone wins first gap ≡ false
-  no_four first gap low some high = each_none (λ g. is_four stone wins first g) (each_zero (λ f. fours_from stone wins f) none first low) gap some high
-
-  stones_but : (first gap : ℕ) → ((i : ℕ) → i < 5 → i ≢ gap → stone (i + 4 - first) ≡ true) → are_stones stone first gap ≡ true
-  unfolding are_stones
-  stones_but first gap h = all_range (λ i. nat_eq i gap || stone (i + 4 - first)) 5 0 (λ i low high. by_test i (nat_eq i gap) refl (omega arith)) where
-    by_test : (i : ℕ) (r : Bool) → nat_eq i gap ≡ r → i < 5 → (r || stone (i + 4 - first)) ≡ true
-    by_test i true e high = refl
-    by_test i false e high = h i high (λ same. absurd (let yes : nat_eq i gap ≡ true = grind (arith, nat_tests) in let differ : false ≡ true = sym e ∙ yes in cc))
-
-  -- five places with one to win between them, or past four in a row
-  no_window : (first gap : ℕ) → first < 5 → 1 ≤ gap → gap ≤ 4 → first ≢ gap → ((i : ℕ) → i < 5 → i ≢ gap → stone (i + 4 - first) ≡ true) → wins (gap + 4 - first) ≡ true → ⊥
-  unfolding is_four
-  no_window first gap low some high differ stones win =
-      let apart : nat_eq first gap ≡ false = false_from_ne_true _ (λ e. differ (grind (arith, nat_tests))) in
-      let four : (not (nat_eq first gap) && are_stones stone first gap && (wins (gap + 4 - first) || (nat_eq gap 4 && wins (3 - first)))) ≡ true = rw (apart, stones_but first gap stones, win) refl in
-      let no = no_four first gap low some high in
-      let both : false ≡ true = sym no ∙ four in
-      cc
-
-  no_row : (first : ℕ) → first < 4 → ((i : ℕ) → i < 4 → stone (i + 4 - first) ≡ true) → wins (3 - first) ≡ true → ⊥
-  unfolding is_four
-  no_row first low stones win =
-      let apart : nat_eq first 4 ≡ false = grind (arith, nat_tests) in
-      let four : (not (nat_eq first 4) && are_stones stone first 4 && (wins (4 + 4 - first) || (nat_eq 4 4 && wins (3 - first)))) ≡ true = rw (apart, stones_but first 4 (λ i small other. stones i (omega arith))) (or_right (wins (4 + 4 - first)) _ win) in
-      let no = no_four first 4 (omega arith) (omega arith) (omega arith) in
-      let both : false ≡ true = sym no ∙ four in
-      cc
-
--- ---- the lengths of runs
-
-run_short : (rule : RuleKind) (s : Side) (m n : ℕ) → row_wins rule s n ≡ true → row_wins rule s m ≡ false → m < n → (m ≤ 4) × (5 ≤ n)
-run_short Freestyle s m n h k less = (grind (arith, nat_tests), grind (arith, nat_tests))
-run_short Exact s m n h k less = (grind (arith, nat_tests), grind (arith, nat_tests))
-run_short Renju Black m n h k less = (grind (arith, nat_tests), grind (arith, nat_tests))
-run_short Renju White m n h k less = (grind (arith, nat_tests), grind (arith, nat_tests))
-
--- ---- an end that wins
 
 module _ (rule : RuleKind) (b : Grid) (s : Side) (p : Point) (ok : IsBoard b) (empty : is_empty b p ≡ true) (d : Axis) where
   abbrev next : Grid

@@ -1,47 +1,32 @@
 -- A white stone takes away no more than Black's means: where Black's stone was no foul and fewer than two axes had three points of
 -- it, it is none after a white stone elsewhere either.
-use Rattle.std.proofs.Common.{◌≡◌, inl, inr, ℕ, ◌+◌, ◌-◌, ◌≤◌, ◌<◌, Bool, true, false, cond, ◌&&◌, ◌||◌, not, List, [], ◌∷◌, refl, sym, ap, subst, ◌∙◌, add-one, arith, nat_eq, nat_le}
-use Rattle.std.specs.Prelude.{◌==◌, Option, Some, None, is_none}
-use Rattle.std.specs.Int.{bit_at}
-use Rattle.std.proofs.lemmas.Nat.Bits.{bit_at-zero}
-use Rattle.std.specs.List.{list_any, filter, sum_by, count_by}
+use Rattle.std.proofs.Common.{◌≡◌, Bool, true, false, ◌&&◌, ◌||◌, refl, add-one, inl, inr, ℕ, ◌+◌, ◌-◌, ◌≤◌, ◌<◌, not, sym, ap, subst, ◌∙◌, arith, nat_eq, nat_le}
+use Rattle.std.specs.Prelude.{Option, ◌==◌, Some, None, is_none}
+use Rattle.std.specs.List.{sum_by, count_by}
 use Rattle.std.proofs.lemmas.Bool.{or_right}
 use Rattle.std.proofs.lemmas.Bool.Decides.{nat_tests}
-use Rattle.game_rules.specs.Grid.{Grid, IsBoard, is_on, is_empty, put, along, axes, points_of, holds}
-use Rattle.game_rules.specs.Shapes.{row_wins, run_of, stone_at, wins_on, wins_at, place_stone, place_wins, fours_of, is_line_three_point, is_line_three_at, is_three_point, three_points_of, five}
-use Rattle.game_rules.specs.Play.{first_foul, is_three, stone_foul, black_foul, black_foul_within}
-use Rattle.game_rules.specs.Ways.{opposite, towards, stones_towards, go}
+use Rattle.game_rules.proofs.Common.{Grid, IsBoard, is_empty, put, is_on, along, axes, points_of, holds, stone_foul, black_foul, black_foul_within, is_three, row_wins, run_of, stone_at, wins_on, wins_at, place_stone, place_wins, fours_of, is_line_three_point, is_line_three_at, is_three_point, three_points_of, five, opposite, towards, stones_towards, go}
 use Rattle.game_rules.specs.declared.RuleKind.{RuleKind}
-use Rattle.game_rules.specs.declared.Side.TheVariants.{Black, White}
 use Rattle.game_rules.specs.declared.Foul.{Foul}
-use Rattle.game_rules.specs.declared.Axis.{Axis}
-use Rattle.game_rules.specs.declared.Axis.TheVariants.{Row, Column, Down, Up}
 use Rattle.game_rules.specs.declared.Point.{Point}
+use Rattle.game_rules.specs.declared.Axis.{Axis}
 use Rattle.game_rules.specs.declared.Way.{Way}
+use Rattle.game_rules.specs.declared.Side.TheVariants.{Black, White}
+use Rattle.game_rules.specs.declared.Axis.TheVariants.{Row, Column, Down, Up}
 use Rattle.game_rules.specs.declared.Way.TheVariants.{Ahead, Behind}
-use Rattle.game_rules.proofs.Boards.{Apart, and_left, and_right, is_empty-on, is_empty-put, same_or_apart, holds-put_other, holds-put_same, empties_of-put}
+use Rattle.game_rules.proofs.Boards.{empties_of-put, Apart, and_left, and_right, is_empty-on, is_empty-put, same_or_apart, holds-put_other, holds-put_same}
 use Rattle.game_rules.proofs.Positions.{IsBoard-put, holds-other}
-use Rattle.game_rules.proofs.Rows.{any_found, any_none}
+use Rattle.game_rules.proofs.Rows.{any_found}
 use Rattle.game_rules.proofs.OneLine.{empty-before, towards_alike, wins_alike}
+use Rattle.game_rules.proofs.Threes.{three_empty, three_by}
+use Rattle.game_rules.proofs.PointLists.{some_passes}
+use Rattle.game_rules.proofs.Outcomes.{no_first-fewer}
+use Rattle.game_rules.proofs.Tests.{more_pass}
 use Rattle.row_shapes.specs.Gaps.{is_four, are_stones, fours_from}
 use Rattle.row_shapes.specs.Threes.{wins_past, is_open_four}
 use Rattle.row_shapes.proofs.Counting.{fours_of-gap}
-use Rattle.row_shapes.proofs.ThreePoints.{three-open, three_empty, three_first, three_near}
+use Rattle.row_shapes.proofs.ThreePoints.{three-open, three_first, three_near}
 use Rattle.foul_judge.specs.ShortCut.{has_line_three}
-use Rattle.threat_moves.proofs.StraightPoints.{three_by}
-
--- ---- tests
-
-some_passes : (f g : Point → Bool) (xs : List Point) → list_any f (filter g xs) ≡ true → (x : Point) × (g x ≡ true)
-some_passes f g [] h = cc
-some_passes f g (x ∷ xs) h = by_test (g x) refl h (some_passes f g xs) where
-  by_test : (r : Bool) → g x ≡ r → list_any f (cond r (x ∷ filter g xs) (filter g xs)) ≡ true → (list_any f (filter g xs) ≡ true → (y : Point) × (g y ≡ true)) → (y : Point) × (g y ≡ true)
-  by_test true e h rest = (x, e)
-  by_test false e h rest = rest h
-
-one_more : (r t : Bool) → (r ≡ true → t ≡ true) → cond r 1 0 ≤ cond t 1 0
-one_more true t h = rw (h refl) (omega arith)
-one_more false t h = omega arith
 
 four_more : (n s w c v w' v' : Bool) → (w ≡ true → w' ≡ true) → (v ≡ true → v' ≡ true) → (n && s && (w || (c && v))) ≡ true → (n && s && (w' || (c && v'))) ≡ true
 four_more false s w c v w' v' f g h = cc
@@ -51,32 +36,10 @@ four_more true true false true true w' v' f g h = or_right w' _ (g refl)
 four_more true true false true false w' v' f g h = cc
 four_more true true false false v w' v' f g h = cc
 
--- where the first and the second test are as before, the third holds no more, and the fourth not at all, there is no foul as before
-no_first : (five over fours fours' threes threes' : Bool) → (fours' ≡ true → fours ≡ true) → threes' ≡ false → first_foul five over fours threes ≡ None → first_foul five over fours' threes' ≡ None
-no_first true over fours fours' threes threes' f g h = refl
-no_first false true fours fours' threes threes' f g h = absurd (cc)
-no_first false false true fours' threes threes' f g h = absurd (cc)
-no_first false false false true threes threes' f g h = absurd (let bad = f refl in cc)
-no_first false false false false threes threes' f g h = rw g refl
-
 -- a foul, one stone on
 foul_step : (rule : RuleKind) (b : Grid) (p : Point) → IsBoard b → is_empty b p ≡ true → (f : Point → Option Foul) × (black_foul rule b p ≡ stone_foul rule (put b Black p) p f)
 unfolding black_foul_within black_foul
 foul_step rule b p ok h = (black_foul rule (put b Black p), rw (← empties_of-put b Black p ok h, add-one) refl)
-
--- no bits, no three points
-pub no_bits : (rule : RuleKind) (b : Grid) (d : Axis) (p : Point) (points : ℕ) → ((i : ℕ) → i < 11 → bit_at points i ≡ cond (is_line_three_at rule b Black d p (along d p i 5)) 1 0) → not (nat_eq points 0) ≡ false → has_line_three rule b d p ≡ false
-unfolding has_line_three
-no_bits rule b d p points bits none = any_none _ 11 0 (λ i low high. clear _ (sym (bits i (omega arith)) ∙ ap (λ n. bit_at n i) (zero (nat_eq points 0) refl) ∙ bit_at-zero i)) where
-  clear : (r : Bool) → ◌≡◌ {A = ℕ} (cond r 1 0) 0 → r ≡ false
-  clear true h = absurd (omega arith)
-  clear false h = refl
-
-  zero : (r : Bool) → nat_eq points 0 ≡ r → points ≡ 0
-  zero true e = grind (arith, nat_tests)
-  zero false e = absurd (let bad : true ≡ false = sym (ap not e) ∙ none in cc)
-
--- ---- Black's stone on q, without and with a white stone on z
 
 module _ (b : Grid) (q z : Point) (ok : IsBoard b) (free_q : is_empty b q ≡ true) (free_z : is_empty b z ≡ true) (apart : Apart z q) where
   abbrev white : Grid
@@ -153,7 +116,7 @@ module _ (b : Grid) (q z : Point) (ok : IsBoard b) (free_q : is_empty b q ≡ tr
         (four_more (not (first == gap)) (are_stones (place_stone late Black d q) first gap) (place_wins rule late Black d q (gap + 4 - first)) (gap == 4) (place_wins rule late Black d q (3 - first)) (place_wins rule early Black d q (gap + 4 - first)) (place_wins rule early Black d q (3 - first)) (fewer_wins_at d (along d q (gap + 4 - first) 4)) (fewer_wins_at d (along d q (3 - first) 4)) h)
 
     fewer_from : (d : Axis) (first : ℕ) → fours_from (place_stone late Black d q) (place_wins rule late Black d q) first ≤ fours_from (place_stone early Black d q) (place_wins rule early Black d q) first
-    fewer_from d first = omega (arith, one_more _ _ (four_kept d first 1), one_more _ _ (four_kept d first 2), one_more _ _ (four_kept d first 3), one_more _ _ (four_kept d first 4))
+    fewer_from d first = omega (arith, more_pass _ _ (four_kept d first 1), more_pass _ _ (four_kept d first 2), more_pass _ _ (four_kept d first 3), more_pass _ _ (four_kept d first 4))
 
     fewer_fours : (d : Axis) → fours_of rule late Black d q ≤ fours_of rule early Black d q
     fewer_fours d = rw (fours_of-gap rule late Black d q, fours_of-gap rule early Black d q) (omega (arith, fewer_from d 0, fewer_from d 1, fewer_from d 2, fewer_from d 3, fewer_from d 4))
@@ -210,7 +173,7 @@ module _ (b : Grid) (q z : Point) (ok : IsBoard b) (free_q : is_empty b q ≡ tr
     few_threes : (f : Point → Option Foul) → count_by (λ d. has_line_three rule early d q) axes < 2 → nat_le 2 (count_by (λ d. is_three rule late d q f) axes) ≡ false
     few_threes f few =
         let fewer : count_by (λ d. is_three rule late d q f) axes ≤ count_by (λ d. has_line_three rule early d q) axes =
-        omega (arith, one_more _ _ (three_kept Row f), one_more _ _ (three_kept Column f), one_more _ _ (three_kept Down f), one_more _ _ (three_kept Up f)) in
+        omega (arith, more_pass _ _ (three_kept Row f), more_pass _ _ (three_kept Column f), more_pass _ _ (three_kept Down f), more_pass _ _ (three_kept Up f)) in
         grind (arith, nat_tests)
 
     -- ---- the foul
@@ -219,7 +182,7 @@ module _ (b : Grid) (q z : Point) (ok : IsBoard b) (free_q : is_empty b q ≡ tr
     unfolding stone_foul
     by_tests f g few h =
         rw (run_same Row, run_same Column, run_same Down, run_same Up)
-        (no_first _ _ (nat_le 2 (sum_by (λ d. fours_of rule early Black d q) axes)) (nat_le 2 (sum_by (λ d. fours_of rule late Black d q) axes)) (nat_le 2 (count_by (λ d. is_three rule early d q f) axes)) (nat_le 2 (count_by (λ d. is_three rule late d q g) axes)) two_fours (few_threes g few) h)
+        (no_first-fewer _ _ (nat_le 2 (sum_by (λ d. fours_of rule early Black d q) axes)) (nat_le 2 (sum_by (λ d. fours_of rule late Black d q) axes)) (nat_le 2 (count_by (λ d. is_three rule early d q f) axes)) (nat_le 2 (count_by (λ d. is_three rule late d q g) axes)) two_fours (few_threes g few) h)
 
     pub white-no_foul : count_by (λ d. has_line_three rule early d q) axes < 2 → black_foul rule b q ≡ None → black_foul rule white q ≡ None
     white-no_foul few h =

@@ -1,21 +1,20 @@
 -- A search for two fours looks at few positions.
-use Rattle.std.proofs.Common.{◌≡◌, ℕ, zero, suc, ◌+◌, ◌*◌, ◌≤◌, ◌<◌, Bool, true, false, cond, refl, ap, arith, List, [], ◌∷◌, length, length-append}
-use Rattle.std.specs.List.{sum_by, flat_map, range_with_len}
+use Rattle.std.proofs.Common.{ℕ, ◌≤◌, Bool, true, false, cond, arith, List, [], ◌∷◌, ◌≡◌, zero, suc, ◌+◌, ◌<◌, refl, length, nat_le, ap}
+use Rattle.std.specs.List.{sum_by, range_with_len}
 use Rattle.std.proofs.lemmas.List.Sums.{sum_by-cons}
-use Rattle.game_rules.specs.Grid.{Grid, IsBoard, points_of, row_from}
-use Rattle.game_rules.specs.Shapes.{is_at}
-use Rattle.game_rules.specs.Play.{IsPosition, mover, after}
-use Rattle.game_rules.specs.Games.{has_five, wins_by_fours, four_move}
+use Rattle.std.specs.Prelude.{Option, None, Some}
+use Rattle.std.proofs.lemmas.Bool.Decides.{nat_tests}
+use Rattle.game_rules.proofs.Common.{Grid, points_of, is_at, IsPosition, mover, after, has_five, wins_by_fours, four_move}
 use Rattle.game_rules.specs.declared.RuleKind.{RuleKind}
 use Rattle.game_rules.specs.declared.Point.{Point}
-use Rattle.game_rules.proofs.Places.{points_length, points_few}
+use Rattle.game_rules.proofs.Places.{points_few}
+use Rattle.game_rules.proofs.PointLists.{sum-each_one}
 use Rattle.threat_moves.specs.declared.block.BlockAnswer.{BlockAnswer}
 use Rattle.threat_moves.specs.declared.block.BlockAnswer.TheVariants.{Lost, Won, Draw, One}
 use Rattle.threat_moves.specs.FourMoves.{is_four_move}
 use Rattle.threat_moves.specs.Blocks.{fate}
-use Rattle.four_search.specs.FourGame.{until, tried, if_one, behind_move, four_tree, four_cost}
-
--- ---- sums
+use Rattle.four_search.specs.FourGame.{until, tried, if_one, behind_move, four_tree, four_cost, least_moves}
+use Rattle.four_search.proofs.Following.{least-wins}
 
 sum-until : {X : Type 0} (f : X → ℕ) (test : X → Bool) (xs : List X) → sum_by f (until test xs) ≤ sum_by f xs
 sum-until f test [] = omega arith
@@ -23,16 +22,6 @@ sum-until {X} f test (x ∷ xs) = by_test (test x) (sum-until f test xs) where
   by_test : (r : Bool) → sum_by f (until test xs) ≤ sum_by f xs → sum_by f (x ∷ cond r [] (until test xs)) ≤ sum_by f (x ∷ xs)
   by_test true low = let a = sum_by-cons f x xs in let b = sum_by-cons f x [] in omega (arith, a, b)
   by_test false low = let a = sum_by-cons f x xs in let b = sum_by-cons f x (until test xs) in omega (arith, a, b, low)
-
-sum-ones : (f : Point → ℕ) → ((q : Point) → f q ≤ 1) → (ps : List Point) → sum_by f ps ≤ length ps
-sum-ones f each [] = omega arith
-sum-ones f each (p ∷ ps) =
-    let e = sum_by-cons f p ps in
-    let low = each p in
-    let rest = sum-ones f each ps in
-    omega (arith, e, low, rest)
-
--- ---- the positions of two fours
 
 module _ (rule : RuleKind) (b : Grid) (lawful : IsPosition rule b) where
   one : (c : Grid) → four_tree rule 1 c ≡ 1
@@ -57,7 +46,7 @@ module _ (rule : RuleKind) (b : Grid) (lawful : IsPosition rule b) where
     sum : sum_by (behind_move rule b (four_tree rule 1)) (tried rule 2 b) ≤ 1024
     sum =
         let cut = sum-until (behind_move rule b (four_tree rule 1)) (λ p. is_at p (four_move rule 2 b)) (points_of b) in
-        let ones = sum-ones (behind_move rule b (four_tree rule 1)) behind-one (points_of b) in
+        let ones = sum-each_one (behind_move rule b (four_tree rule 1)) behind-one (points_of b) in
         let few = points_few b lawful.board in
         omega (arith, cut, ones, few)
 
@@ -77,3 +66,30 @@ module _ (rule : RuleKind) (b : Grid) (lawful : IsPosition rule b) where
   -- it is far below the greatest budget
   pub cost-fits : (n : ℕ) (budget : ℕ) → n ≤ 2 → 1026 ≤ budget → budget < four_cost rule n b → ⊥
   cost-fits n budget l high more = let low = cost-small n l in omega (arith, low)
+
+pub until-length : {X : Type 0} → (test : X → Bool) (xs : List X) → length (until test xs) ≤ length xs
+until-length test [] = omega arith
+until-length test (x ∷ xs) = by_test (test x) (until-length test xs) where
+  by_test : (r : Bool) → length (until test xs) ≤ length xs → length (x ∷ cond r [] (until test xs)) ≤ suc (length xs)
+  by_test true h = omega arith
+  by_test false h = omega arith
+
+module _ (rule : RuleKind) (b : Grid) (depth budget : ℕ) where
+  abbrev by_cost : Option ℕ
+  by_cost = cond (nat_le (four_cost rule depth b) budget) (least_moves rule depth b) None
+
+  by_test : (r : Bool) → nat_le (four_cost rule depth b) budget ≡ r → by_cost ≡ cond r (least_moves rule depth b) None
+  by_test r e = ap (λ (t : Bool). cond t (least_moves rule depth b) None) e
+
+  pub within : four_cost rule depth b ≤ budget → by_cost ≡ least_moves rule depth b
+  within fits = by_test true (grind (arith, nat_tests))
+
+  pub above : budget < four_cost rule depth b → by_cost ≡ None
+  above more = by_test false (grind (arith, nat_tests))
+
+-- within the moves of such a win the side to move wins by fours
+pub wins_by : (rule : RuleKind) (b : Grid) (depth budget moves : ℕ) → by_cost rule b depth budget ≡ Some moves → wins_by_fours rule moves b ≡ true
+wins_by rule b depth budget moves h = by_bool (nat_le (four_cost rule depth b) budget) h where
+  by_bool : (r : Bool) → cond r (least_moves rule depth b) None ≡ Some moves → wins_by_fours rule moves b ≡ true
+  by_bool true e = least-wins rule depth b moves e
+  by_bool false e = cc

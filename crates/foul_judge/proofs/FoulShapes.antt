@@ -1,32 +1,28 @@
 -- What the shapes of a point tell of Black's foul there, where Black has fouls.
-use Rattle.std.proofs.Common.{◌≡◌, ℕ, zero, suc, ◌+◌, ◌*◌, ◌/◌, ◌%◌, ◌^◌, ◌≤◌, ◌<◌, Bool, true, false, cond, not, List, refl, sym, ap, ◌∙◌, arith, nat_eq, nat_le, bit_and}
-use Rattle.std.specs.Prelude.{Some, None, map}
-use Rattle.std.specs.List.{list_any, count_by, sum_by, range_with_len}
+use Rattle.std.proofs.Common.{ℕ, zero, suc, ◌+◌, ◌*◌, Bool, cond, ◌≡◌, ◌%◌, true, false, arith, ◌/◌, ◌<◌, sym, ap, ◌∙◌, ◌^◌, ◌≤◌, not, List, refl, nat_eq, nat_le, bit_and}
 use Rattle.std.specs.Int.{bit_at}
-use Rattle.std.proofs.lemmas.Bool.Decides.{nat_tests}
+use Rattle.std.specs.List.{sum_by, range_with_len, list_any, count_by}
+use Rattle.std.specs.Prelude.{Some, None, map}
 use Rattle.std.proofs.lemmas.Nat.Bits.{bit_at_lowest, bit_at-suc, bit_at-zero, shr_and_one}
-use Rattle.game_rules.specs.Grid.{Grid, IsBoard, is_empty, holds, put, along, axes}
-use Rattle.game_rules.specs.Shapes.{row_wins, run_of, fours_of, is_line_three_at}
-use Rattle.game_rules.specs.Play.{has_fouls, first_foul, is_three, stone_foul, black_foul}
+use Rattle.std.proofs.lemmas.Bool.Decides.{nat_tests}
+use Rattle.game_rules.proofs.Common.{Grid, IsBoard, is_empty, holds, put, axes, along, run_of, fours_of, is_line_three_at, has_fouls, first_foul, is_three, stone_foul, black_foul}
 use Rattle.game_rules.specs.declared.RuleKind.{RuleKind}
-use Rattle.game_rules.specs.declared.RuleKind.TheVariants.{Freestyle, Exact, Renju}
+use Rattle.game_rules.specs.declared.Axis.{Axis}
+use Rattle.game_rules.specs.declared.Point.{Point}
 use Rattle.game_rules.specs.declared.Side.TheVariants.{Black}
 use Rattle.game_rules.specs.declared.Foul.TheVariants.{Overline, DoubleFour, DoubleThree}
-use Rattle.game_rules.specs.declared.Axis.{Axis}
 use Rattle.game_rules.specs.declared.Axis.TheVariants.{Row, Column, Down, Up}
-use Rattle.game_rules.specs.declared.Point.{Point}
 use Rattle.game_rules.proofs.Boards.{is_empty-on, holds-put_same}
 use Rattle.game_rules.proofs.Positions.{IsBoard-put}
+use Rattle.game_rules.proofs.Fives.{five_alone}
 use Rattle.row_shapes.specs.declared.shapes.Shape.{Shape}
 use Rattle.row_shapes.specs.Rule.{reach_of}
 use Rattle.row_shapes.specs.LineCodes.{line_code}
 use Rattle.row_shapes.specs.LineShapes.{shape_of, shape_at, three_bits, IsShape}
+use Rattle.row_shapes.proofs.CodeDigits.{reach_five, told_shape}
 use Rattle.foul_judge.specs.ShortCut.{has_line_three}
 use Rattle.foul_judge.proofs.ThreePlaces.{foul-step, no_three, not_free}
-use Rattle.foul_judge.proofs.MayFoul.{line_by_bits, no_two_threes}
-use Rattle.line_tables.proofs.Shapes.{told_shape}
-
--- ---- the bits of three points
+use Rattle.foul_judge.proofs.MayFoul.{no_two_threes, line_by_bits}
 
 -- the number whose bits from a on a test tells, shifted down
 halved : (ℕ → Bool) → ℕ → ℕ → ℕ
@@ -90,17 +86,10 @@ module _ (rule : RuleKind) (b : Grid) (d : Axis) (p : Point) where
     clear true h = absurd (omega arith)
     clear false h = refl
 
--- ---- the shapes of a point
-
-five_alone : (rule : RuleKind) → has_fouls rule Black ≡ true → (n : ℕ) → row_wins rule Black n ≡ nat_eq n 5
-five_alone Freestyle f n = cc
-five_alone Exact f n = cc
-five_alone Renju f n = refl
-
-reach_five : (rule : RuleKind) → has_fouls rule Black ≡ true → reach_of rule Black ≡ 5
-reach_five Freestyle f = cc
-reach_five Exact f = cc
-reach_five Renju f = refl
+-- a bit that is set says yes
+pub bit_sets : (n i : ℕ) (r : Bool) → bit_at n i ≡ cond r 1 0 → bit_and (n / 2 ^ i) 1 ≡ 1 → r ≡ true
+bit_sets n i true e h = refl
+bit_sets n i false e h = absurd (let one : ◌≡◌ {A = ℕ} 1 0 = sym h ∙ shr_and_one n i ∙ e in omega arith)
 
 module _ (rule : RuleKind) (b : Grid) (p : Point) (ok : IsBoard b) (empty : is_empty b p ≡ true) (fouls : has_fouls rule Black ≡ true) where
   abbrev next : Grid
@@ -181,8 +170,3 @@ module _ (rule : RuleKind) (b : Grid) (p : Point) (ok : IsBoard b) (empty : is_e
     -- fewer than two axes with a three point make no two threes
     pub few_lines : (n : ℕ) → n ≡ count_by (λ (shape : Shape). not (nat_eq shape.three 0)) shapes → n < 2 → false ≡ two
     few_lines n e low = sym (no_two_threes rule next p (IsBoard-put b Black p ok) mine n (e ∙ threes) low)
-
--- a bit that is set says yes
-pub bit_sets : (n i : ℕ) (r : Bool) → bit_at n i ≡ cond r 1 0 → bit_and (n / 2 ^ i) 1 ≡ 1 → r ≡ true
-bit_sets n i true e h = refl
-bit_sets n i false e h = absurd (let one : ◌≡◌ {A = ℕ} 1 0 = sym h ∙ shr_and_one n i ∙ e in omega arith)

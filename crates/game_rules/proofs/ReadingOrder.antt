@@ -1,0 +1,247 @@
+-- Points in reading order: rows of points, and lists whose points come one after another.
+use Rattle.std.proofs.Common.{◌≡◌, ℕ, suc, ◌+◌, refl, ◌∷◌, List, ◌++◌, ◌⊎◌, ◌≤◌, ◌<◌, [], inl, inr, arith, zero, Bool, true, false, cond, nat_lt, nat_eq, eq-eqb, ◌*◌, length, ◌∙◌, not, sym, ap, subst, ◌&&◌, ◌/◌, ◌%◌}
+use Rattle.std.specs.List.{flat_map, range_with_len, filter, list_all, sum_by, AllByRecursion}
+use Rattle.std.specs.Prelude.{map, slice_index_or}
+use Rattle.std.proofs.lemmas.Bool.Decides.{nat_tests}
+use Rattle.std.proofs.lemmas.Bool.{or_right, lt-ltb}
+use Rattle.std.proofs.lemmas.List.{length-map}
+use Rattle.std.proofs.lemmas.List.Filters.{length-filter_both}
+use Rattle.std.proofs.Math.ListN.{length-append}
+use Rattle.std.proofs.lemmas.List.Sums.{sum_by-cons}
+use Rattle.std.proofs.Math.Nat.{div-lt_iff_lt-mul}
+use Rattle.game_rules.proofs.Common.{row_from, Grid, points_of, is_on, IsBoard, is_empty, is_empty_cell, cell_at, empties_of, precedes, is_same_point}
+use Rattle.game_rules.specs.declared.Point.{Point}
+use Rattle.game_rules.specs.declared.Cell.TheVariants.{Empty}
+use Rattle.game_rules.proofs.Places.{points_length, points_on}
+use Rattle.game_rules.proofs.PointLists.{all-append, first_on, filter_same, sum-ones, each-append}
+use Rattle.game_rules.proofs.Points.{is_same_point-same}
+use Rattle.game_rules.proofs.Cells.{some_place}
+
+pub row_from-first : (y x n m : ℕ) → n ≡ suc m → row_from y x n ≡ record { x = x; y = y } ∷ row_from y (x + 1) m
+row_from-first y x n m e = rw e refl
+
+abbrev pub rows_from : ℕ → ℕ → ℕ → List Point
+rows_from width y n = flat_map (λ y. row_from y 0 width) (range_with_len y n)
+
+pub rows_from-first : (width y n m : ℕ) → n ≡ suc m → rows_from width y n ≡ row_from y 0 width ++ rows_from width (y + 1) m
+rows_from-first width y n m e = rw e refl
+
+-- p is at x of row y, or after it
+abbrev pub From : ℕ → ℕ → Point → Type 0
+From y x p = (y < p.y) ⊎ ((y ≡ p.y) × (x ≤ p.x))
+
+-- the points come one after another in reading order, from x of row y on
+unfoldable pub Following : ℕ → ℕ → List Point → Type 0
+Following y x [] = Unit {0}
+Following y x (p ∷ ps) = From y x p × Following p.y (p.x + 1) ps
+
+from_row : (y x : ℕ) (p : Point) → From (y + 1) 0 p → From y x p
+from_row y x p (inl h) = inl (omega arith)
+from_row y x p (inr h) = let e = h.0 in inl (omega (arith, e))
+
+Following-row : (y x : ℕ) (ps : List Point) → Following (y + 1) 0 ps → Following y x ps
+unfolding Following
+Following-row y x [] h = h
+Following-row y x (p ∷ ps) h = (from_row y x p h.0, h.1)
+
+row-following : (y x n : ℕ) (ps : List Point) → Following (y + 1) 0 ps → Following y x (row_from y x n ++ ps)
+unfolding Following
+row-following y x zero ps h = Following-row y x ps h
+row-following y x (suc n) ps h = (inr (refl, omega arith), row-following y (x + 1) n ps h)
+
+pub rows-following : (w y n : ℕ) → Following y 0 (flat_map (λ z. row_from z 0 w) (range_with_len y n))
+unfolding Following
+rows-following w y zero = tt
+rows-following w y (suc n) = row-following y 0 w _ (rows-following w (y + 1) n)
+
+pub later : (p q : Point) → From p.y (p.x + 1) q → (y x : ℕ) → From y x p → From y x q
+later p q (inl h) y x (inl k) = inl (omega arith)
+later p q (inl h) y x (inr k) = let e = k.0 in inl (omega (arith, e))
+later p q (inr h) y x (inl k) = let e = h.0 in inl (omega (arith, e))
+later p q (inr h) y x (inr k) = let e = h.0 in let f = k.0 in let g = h.1 in let l = k.1 in inr (omega (arith, e, f), omega (arith, g, l))
+
+-- points that follow a later one follow the earlier one too
+pub Following-later : (y x : ℕ) (p : Point) (ps : List Point) → From y x p → Following p.y (p.x + 1) ps → Following y x ps
+unfolding Following
+Following-later y x p [] h k = k
+Following-later y x p (q ∷ ps) h k = (later p q k.0 y x h, k.1)
+
+-- and so do those of them that pass a test
+pub filter-following : (f : Point → Bool) (y x : ℕ) (ps : List Point) → Following y x ps → Following y x (filter f ps)
+unfolding Following
+filter-following f y x [] h = h
+filter-following f y x (p ∷ ps) h = by_test (f p) (filter-following f p.y (p.x + 1) ps h.1) where
+  by_test : (r : Bool) → Following p.y (p.x + 1) (filter f ps) → Following y x (cond r (p ∷ filter f ps) (filter f ps))
+  by_test true rest = (h.0, rest)
+  by_test false rest = Following-later y x p (filter f ps) h.0 rest
+
+pub precedes-from : (p q : Point) → From p.y (p.x + 1) q → precedes p q ≡ true
+precedes-from p q (inl h) = let e : nat_lt p.y q.y ≡ true = grind (arith, nat_tests) in rw e refl
+precedes-from p q (inr h) =
+    let e : nat_eq p.y q.y ≡ true = eq-eqb _ _ h.0 in
+    let low = h.1 in
+    let f : nat_lt p.x q.x ≡ true = grind (arith, nat_tests, low) in
+    or_right (nat_lt p.y q.y) _ (rw (e, f) refl)
+
+pub told_length : {X : Type 0} (f : Point → X) (b : Grid) → length (map f (points_of b)) ≡ b.width * b.height
+told_length f b = length-map (points_of b) f ∙ points_length b
+
+pub row_all : (f : Point → Bool) (y : ℕ) (x n : ℕ) → ((v : ℕ) → x ≤ v → v < x + n → f (record { x = v; y = y }) ≡ true)
+    → list_all f (row_from y x n) ≡ true
+row_all f y x zero h = refl
+row_all f y x (suc n) h = rw (h x (omega arith) (omega arith)) (row_all f y (x + 1) n (λ v low high. h v (omega arith) (omega arith)))
+
+abbrev pub rows : ℕ → ℕ → ℕ → List Point
+rows width a n = flat_map (λ y. row_from y 0 width) (range_with_len a n)
+
+pub rows_all : (f : Point → Bool) (width a n : ℕ) → ((v u : ℕ) → v < width → a ≤ u → u < a + n → f (record { x = v; y = u }) ≡ true)
+    → list_all f (rows width a n) ≡ true
+rows_all f width a zero h = refl
+rows_all f width a (suc n) h = all-append f (row_from a 0 width) _
+    (row_all f a 0 width (λ v low high. h v a (omega arith) (omega arith) (omega arith)))
+    (rows_all f width (a + 1) n (λ v u near low high. h v u near (omega arith) (omega arith)))
+
+-- each point precedes all later ones
+abbrev pub Rises : List Point → Type 0
+Rises [] = Unit {0}
+Rises (x ∷ xs) = (list_all (precedes x) xs ≡ true) × Rises xs
+
+rises-append : (xs ys : List Point) → Rises xs → Rises ys → list_all (λ x. list_all (precedes x) ys) xs ≡ true → Rises (xs ++ ys)
+rises-append [] ys h k all = k
+rises-append (x ∷ xs) ys h k all =
+    let both = first_on (λ x. list_all (precedes x) ys) x xs all in
+    (all-append (precedes x) xs ys h.0 both.0, rises-append xs ys h.1 k both.1)
+
+row_rises : (y x n : ℕ) → Rises (row_from y x n)
+row_rises y x zero = tt
+row_rises y x (suc n) = (row_all (precedes (record { x = x; y = y })) y (x + 1) n (λ v low high. in_row v low), row_rises y (x + 1) n) where
+  in_row : (v : ℕ) → x + 1 ≤ v → precedes (record { x = x; y = y }) (record { x = v; y = y }) ≡ true
+  in_row v low =
+      let none : nat_lt y y ≡ false = grind (arith, nat_tests) in
+      let same : nat_eq y y ≡ true = grind (arith, nat_tests) in
+      let less : nat_lt x v ≡ true = grind (arith, nat_tests) in
+      rw (none, same, less) refl
+
+pub rows_rise : (width a n : ℕ) → Rises (rows width a n)
+rows_rise width a zero = tt
+rows_rise width a (suc n) = rises-append (row_from a 0 width) (rows width (a + 1) n) (row_rises a 0 width) (rows_rise width (a + 1) n)
+    (row_all (λ x. list_all (precedes x) (rows width (a + 1) n)) a 0 width (λ v low high.
+    rows_all (precedes (record { x = v; y = a })) width (a + 1) n
+    (λ z u near less more. let below : nat_lt a u ≡ true = grind (arith, nat_tests) in rw below refl)))
+
+-- tests that agree on the points of the board pass the same
+pub filter_agree : (b : Grid) (f g : Point → Bool) → ((q : Point) → is_on b q ≡ true → f q ≡ g q) → filter f (points_of b) ≡ filter g (points_of b)
+filter_agree b f g same = filter_same f g (is_on b) same (points_of b) (points_on b)
+
+-- they are no more than there are points
+pub filter_fits : (b : Grid) (g : Point → Bool) → length (filter g (points_of b)) ≤ b.width * b.height
+filter_fits b g =
+    let both = length-filter_both g (λ q. not (g q)) (λ q. refl) (points_of b) in
+    let all = points_length b in
+    omega (arith, both, all)
+
+pub one_more_fits : (b : Grid) (f : Point → Bool) (found rest : List Point) (p : Point) (room : ℕ) → found ++ p ∷ rest ≡ filter f (points_of b) → b.width * b.height ≤ room → length found + 1 ≤ room
+one_more_fits b f found rest p room all fits =
+    let few = filter_fits b f in
+    let sizes : length found + length (p ∷ rest) ≡ length (filter f (points_of b)) = sym (length-append found (p ∷ rest)) ∙ ap length all in
+    omega (arith, few, sizes)
+
+-- each point comes before all later ones
+abbrev pub Rising : List Point → Type 0
+Rising [] = Unit {0}
+Rising (p ∷ ps) = (list_all (λ r. precedes p r) ps ≡ true) × Rising ps
+
+all_later : (p : Point) (ps : List Point) → Following p.y (p.x + 1) ps → list_all (λ r. precedes p r) ps ≡ true
+unfolding Following
+all_later p [] h = refl
+all_later p (q ∷ ps) h = rw (precedes-from p q h.0) (all_later p ps (Following-later p.y (p.x + 1) q ps h.0 h.1))
+
+Following-rising : (y x : ℕ) (ps : List Point) → Following y x ps → Rising ps
+unfolding Following
+Following-rising y x [] h = tt
+Following-rising y x (p ∷ ps) h = (all_later p ps h.1, Following-rising p.y (p.x + 1) ps h.1)
+
+pub points-rising : (b : Grid) → Rising (points_of b)
+points-rising b = Following-rising 0 0 (points_of b) (rows-following b.width 0 b.height)
+
+pub precedes-not : (p q : Point) → precedes p q ≡ true → precedes q p ≡ false
+precedes-not p q h = grind (arith, nat_tests)
+
+not_itself : (q : Point) → precedes q q ≡ false
+not_itself q = grind (arith, nat_tests)
+
+pub differ-after : (p q : Point) → precedes q p ≡ true → is_same_point p q ≡ false
+differ-after p q h = by_test (is_same_point p q) refl where
+  by_test : (r : Bool) → is_same_point p q ≡ r → r ≡ false
+  by_test false e = refl
+  by_test true e =
+      let yes : precedes q q ≡ true = subst (λ (x : Point). precedes q x ≡ true) (is_same_point-same p q e) h in
+      let bad : false ≡ true = sym (not_itself q) ∙ yes in cc
+
+not_after : (w q : Point) → From w.y (w.x + 1) q → is_same_point q w ≡ false
+not_after w q h = by_test (is_same_point q w) refl where
+  by_test : (r : Bool) → is_same_point q w ≡ r → r ≡ false
+  by_test false e = refl
+  by_test true e =
+      let x : q.x ≡ w.x = ap (λ (z : Point). z.x) (is_same_point-same q w e) in
+      let y : q.y ≡ w.y = ap (λ (z : Point). z.y) (is_same_point-same q w e) in
+      absurd (contra h x y) where
+        contra : From w.y (w.x + 1) q → q.x ≡ w.x → q.y ≡ w.y → ⊥
+        contra (inl l) x y = absurd (omega arith)
+        contra (inr l) x y = let low = l.1 in absurd (omega (arith, low))
+
+module _ (f : Point → ℕ) (w : Point) (most : ℕ) (some : 1 ≤ most) (high : f w ≤ most) (each : (q : Point) → is_same_point q w ≡ false → f q ≤ 1) where
+  after_w : (ps : List Point) → Following w.y (w.x + 1) ps → AllByRecursion (λ q. f q ≤ 1) ps
+  unfolding Following
+  after_w [] h = tt
+  after_w (q ∷ ps) h = (each q (not_after w q h.0), after_w ps (Following-later w.y (w.x + 1) q ps h.0 h.1))
+
+  sum-once-from : (y x : ℕ) (ps : List Point) → Following y x ps → sum_by f ps + 1 ≤ length ps + most
+  unfolding Following
+  sum-once-from y x [] h = omega arith
+  sum-once-from y x (p ∷ ps) h = by_test (is_same_point p w) refl (sum-once-from p.y (p.x + 1) ps h.1) where
+    by_test : (r : Bool) → is_same_point p w ≡ r → sum_by f ps + 1 ≤ length ps + most → sum_by f (p ∷ ps) + 1 ≤ length (p ∷ ps) + most
+    by_test true e rest =
+        let same : p ≡ w = is_same_point-same p w e in
+        let ones = sum-ones f ps (after_w ps (subst (λ (z : Point). Following z.y (z.x + 1) ps) same h.1)) in
+        let here : f p ≤ most = subst (λ (z : Point). f z ≤ most) (sym same) high in
+        let split = sum_by-cons f p ps in
+        omega (arith, ones, here, split)
+    by_test false e rest =
+        let low = each p e in
+        let split = sum_by-cons f p ps in
+        omega (arith, low, split, rest)
+
+  -- all but one are at most 1
+  pub sum-once : (b : Grid) → sum_by f (points_of b) + 1 ≤ length (points_of b) + most
+  sum-once b = sum-once-from 0 0 (points_of b) (rows-following b.width 0 b.height)
+
+row-on : (b : Grid) (y : ℕ) → y < b.height → (n x : ℕ) → x + n ≤ b.width → AllByRecursion (λ q. is_on b q ≡ true) (row_from y x n)
+row-on b y low zero x l = tt
+row-on b y low (suc n) x l = (on_by x y b.width b.height (omega (arith, l)) low, row-on b y low n (x + 1) (omega (arith, l))) where
+  on_by : (x y w h : ℕ) → x < w → y < h → (nat_lt x w && nat_lt y h) ≡ true
+  on_by x y w h a b = grind (arith, nat_tests)
+
+rows-on : (b : Grid) (n y : ℕ) → y + n ≤ b.height → AllByRecursion (λ q. is_on b q ≡ true) (flat_map (λ z. row_from z 0 b.width) (range_with_len y n))
+rows-on b zero y l = tt
+rows-on b (suc n) y l = each-append (λ q. is_on b q ≡ true) (row_from y 0 b.width) _ (row-on b y (omega (arith, l)) b.width 0 (omega arith)) (rows-on b n (y + 1) (omega (arith, l)))
+
+pub points-on : (b : Grid) → AllByRecursion (λ q. is_on b q ≡ true) (points_of b)
+points-on b = rows-on b b.height 0 (omega arith)
+
+pub some_empty : (b : Grid) → IsBoard b → 0 < empties_of b → (p : Point) × (is_empty b p ≡ true)
+some_empty b ok some =
+    let place = some_place is_empty_cell b.cells Empty some in
+    let k : ℕ = place.0 in
+    let p : Point = record { x = k % b.width; y = k / b.width } in
+    let wide = ok.wide in
+    let filled = ok.filled in
+    let low = place.1 in
+    let some_width : 0 < b.width = omega (arith, wide) in
+    let across : nat_lt (k % b.width) b.width ≡ true = lt-ltb (k % b.width) b.width (omega (arith, some_width)) in
+    let size : b.width * b.height ≡ b.height * b.width = omega arith in
+    let rows : k / b.width < b.height = (div-lt_iff_lt-mul some_width).1 (omega (arith, low, filled, size)) in
+    let along : nat_lt (k / b.width) b.height ≡ true = lt-ltb (k / b.width) b.height rows in
+    let at : k / b.width * b.width + k % b.width ≡ k = omega (arith, some_width) in
+    let cell : is_empty_cell (cell_at b p) ≡ true = ap (λ (i : ℕ). is_empty_cell (slice_index_or b.cells i Empty)) at ∙ place.2 in
+    (p, rw (across, along, cell) refl)

@@ -1,0 +1,48 @@
+-- Tests of numbers, pairs of tests, and lists of numbers.
+use Rattle.std.proofs.Common.{◌≡◌, ◌≤◌, Bool, true, false, cond, refl, arith, ℕ, nat_le, ◌<◌, nat_eq, ◌≢◌, nat_lt, List, [], ◌∷◌, ◌++◌, ◌||◌}
+use Rattle.std.specs.List.{AllByRecursion}
+use Rattle.std.proofs.lemmas.Bool.Decides.{nat_tests}
+
+pub more_pass : (r t : Bool) → (r ≡ true → t ≡ true) → cond r 1 0 ≤ cond t 1 0
+more_pass true t h = rw (h refl) (omega arith)
+more_pass false t h = omega arith
+
+pub le_true : (c x : ℕ) → c ≤ x → nat_le c x ≡ true
+le_true c x h = grind (arith, nat_tests)
+
+pub le_false : (c x : ℕ) → x < c → nat_le c x ≡ false
+le_false c x h = grind (arith, nat_tests)
+
+pub eq_true : (x c : ℕ) → x ≡ c → nat_eq x c ≡ true
+eq_true x c h = grind (arith, nat_tests)
+
+pub eq_false : (x c : ℕ) → x ≢ c → nat_eq x c ≡ false
+eq_false x c h = grind (arith, nat_tests)
+
+pub eq_from : (x c : ℕ) → nat_eq x c ≡ true → x ≡ c
+eq_from x c h = grind (arith, nat_tests)
+
+pub le_from : (n c : ℕ) → nat_le n c ≡ true → n ≤ c
+le_from n c h = grind (arith, nat_tests)
+
+pub lt_true : (x y : ℕ) → x < y → nat_lt x y ≡ true
+lt_true x y h = grind (arith, nat_tests)
+
+pub lt_false : (x y : ℕ) → y ≤ x → nat_lt x y ≡ false
+lt_false x y h = grind (arith, nat_tests)
+
+pub all_push : {X : Type 0} (Fits : X → Type 0) (vs : List X) (v : X) → AllByRecursion Fits vs → Fits v → AllByRecursion Fits (vs ++ v ∷ [])
+all_push Fits [] v all fit = (fit, tt)
+all_push Fits (u ∷ us) v all fit = (all.0, all_push Fits us v all.1 fit)
+
+pub or_none : (a b : Bool) → (a || b) ≡ false → a ≡ false
+or_none true b h = cc
+or_none false b h = refl
+
+pub or_right : (a b : Bool) → (a || b) ≡ false → b ≡ false
+or_right true b h = cc
+or_right false b h = h
+
+pub or_false : (a : Bool) → (a || false) ≡ true → a ≡ true
+or_false true h = refl
+or_false false h = h
