@@ -10,7 +10,8 @@ mod LastLaws
 -- moves where each goes on
 mod FreeMoves
 -- a move on a view and on a copy of its board, taken back on both
--- new double points are on the lines of the stone just put
+-- where new double points can be
+mod NearLines
 mod NearDoubles
 -- their nodes
 mod WrittenLaws

@@ -1,63 +1,50 @@
--- Where no point makes two five points, a stone makes double points only on the lines through it: in the runs of any other point it
--- plays no part.
-use Rattle.std.proofs.Common.{◌≡◌, Bool, true, false, ◌&&◌, not, length, refl, sym, ap, ◌∙◌, arith, nat_le}
-use Rattle.std.proofs.lemmas.Bool.{false_from_ne_true}
-use Rattle.std.proofs.lemmas.Bool.Decides.{nat_tests}
-use Rattle.game_rules.proofs.Common.{Grid, IsBoard, is_empty, put, outcome, mover, after, goes_on_with, goes_on, is_double_point, has_five, has_threat, five_points, is_aligned}
+-- Points that are near a stone, as the code tells them, and threats by their five points.
+use Rattle.std.proofs.Common.{◌≡◌, Bool, true, false, ◌&&◌, ◌||◌, refl, sym, ap, ◌∙◌}
+use Rattle.game_rules.specs.Grid.{Grid, is_empty}
+use Rattle.game_rules.specs.Play.{outcome, mover, after, goes_on_with, goes_on}
+use Rattle.game_rules.specs.Games.{has_five, has_threat, five_points}
+use Rattle.game_rules.specs.Lines.{same_line}
 use Rattle.game_rules.specs.declared.RuleKind.{RuleKind}
 use Rattle.game_rules.specs.declared.Side.{Side}
+use Rattle.game_rules.specs.declared.Axis.TheVariants.{Row, Column, Down, Up}
+use Rattle.game_rules.specs.declared.Outcome.{Outcome}
+use Rattle.game_rules.specs.declared.Outcome.TheVariants.{Refused, Wins, Fouls, Draws, GoesOn}
 use Rattle.game_rules.specs.declared.Point.{Point}
-use Rattle.game_rules.proofs.Boards.{and_left, and_right, is_empty-on}
-use Rattle.game_rules.proofs.Points.{points-found, taken_refused}
-use Rattle.game_rules.proofs.OneLine.{put-kept, open_kept, more_fives}
+use Rattle.game_rules.proofs.Points.{taken_refused}
 use Rattle.game_rules.proofs.Outcomes.{never-goes_on, always-goes_on}
 use Rattle.row_shapes.specs.FivePoints.{in_short}
 use Rattle.row_shapes.specs.declared.fives.FivePoints.{FivePoints}
 use Rattle.row_shapes.specs.declared.fives.FivePoints.TheVariants.{None as NoPoint, One, Several}
 use Rattle.row_shapes.proofs.FiveLaws.{has_five-none, has_five-one, has_five-several}
-use Rattle.threat_moves.specs.ThreeMoves.{is_several}
-use Rattle.threat_moves.proofs.GainLaws.{several, few-double, taken-no_gain, no_gain-double}
+use Rattle.threat_moves.specs.ThreeMoves.{has_double_point}
 use Rattle.threat_game.specs.ThreatGame.{is_threat_move}
-use Rattle.threat_game.specs.NearDoubles.{is_some_point, makes_two, some_makes_two, FarAreNone}
+use Rattle.threat_game.specs.NearDoubles.{AreNearLines, is_near, is_some_line, is_some_point, lines_hold}
+use Rattle.threat_game.specs.declared.near_lines.NearLines.{NearLines}
 
--- ---- a stone on p, and then one on q, which is on no line with p
+-- ---- points that are near
 
-module _ (rule : RuleKind) (b : Grid) (s : Side) (p q : Point) (ok : IsBoard b) (empty : is_empty b p ≡ true) (none : has_five rule (put b s p) s ≡ false) (off : is_aligned p q ≡ false) (free_q : is_empty (put b s p) q ≡ true) where
-  abbrev full : Grid
-  full = put (put b s p) s q
+-- the lines that were found tell whether a point is near
+pub near_told : (b : Grid) (s : Side) (p q : Point) (lines : NearLines) → AreNearLines b s p lines → lines_hold lines p q ≡ is_near b s p q
+near_told b s p q lines are =
+    last (lines.row && same_line Row p q) (lines.column && same_line Column p q) (lines.down && same_line Down p q) (lines.up && same_line Up p q)
+    ∙ rw (are.row, are.column, are.down, are.up) refl where
+      last : (r t u v : Bool) → (r || t || u || v) ≡ (r || (t || (u || (v || false))))
+      last true t u v = refl
+      last false true u v = refl
+      last false false true v = refl
+      last false false false true = refl
+      last false false false false = refl
 
-  abbrev rest : Grid
-  rest = put b s q
-
-  -- where no point makes two, q makes none after p either
-  few_after : some_makes_two rule b s ≡ false → is_several (in_short (five_points rule full s)) ≡ false
-  few_after quiet = false_from_ne_true _ (λ two.
-      let many : nat_le 2 (length (five_points rule full s)) ≡ true = sym (several (five_points rule full s)) ∙ two in
-      let keeps = put-kept b s s p q ok (is_empty-on b p empty) off in
-      let count = more_fives rule (put b s p) b s q keeps none free_q in
-      let open_q : is_empty b q ≡ true = open_kept rule (put b s p) b s q keeps none free_q in
-      let still : nat_le 2 (length (five_points rule rest s)) ≡ true = grind (arith, nat_tests) in
-      let here : makes_two rule b s q ≡ true = ap (λ r. r && is_several (in_short (five_points rule rest s))) open_q ∙ several (five_points rule rest s) ∙ still in
-      let some : some_makes_two rule b s ≡ true = points-found b (makes_two rule b s) q (is_empty-on b q open_q) here in
-      let bad : false ≡ true = sym quiet ∙ some in
-      cc)
-
--- where no point makes two five points, a stone on p that leaves none makes no double point but on its lines
-pub far-none : (rule : RuleKind) (b : Grid) (s : Side) (p : Point) → IsBoard b → is_empty b p ≡ true → has_five rule (put b s p) s ≡ false → some_makes_two rule b s ≡ false → FarAreNone rule (put b s p) s p
-far-none rule b s p ok empty none quiet = record { none = λ q off. by_test q off (is_empty (put b s p) q) refl } where
-  by_test : (q : Point) → is_aligned p q ≡ false → (r : Bool) → is_empty (put b s p) q ≡ r → is_double_point rule (put b s p) s q ≡ false
-  by_test q off false e = no_gain-double rule (put b s p) s q (taken-no_gain rule (put b s p) s q e)
-  by_test q off true e = few-double rule (put b s p) s q (few_after rule b s p q ok empty none off e quiet)
-
-not_true : (r : Bool) → not r ≡ true → r ≡ false
-not_true true h = cc
-not_true false h = refl
-
--- so such a point is passed over
-pub far-by : (rule : RuleKind) (b : Grid) (s : Side) (p q : Point) (loud : Bool) → (loud ≡ false → FarAreNone rule b s p) → (not loud && not (is_aligned p q)) ≡ true → false ≡ is_double_point rule b s q
-far-by rule b s p q loud far h =
-    let none : FarAreNone rule b s p = far (not_true loud (and_left (not loud) _ h)) in
-    sym (none.none q (not_true (is_aligned p q) (and_right (not loud) _ h)))
+-- where no line is one, no point is near
+pub nowhere-near : (b : Grid) (s : Side) (p q : Point) (lines : NearLines) → AreNearLines b s p lines → is_some_line lines ≡ false → is_near b s p q ≡ false
+nowhere-near b s p q lines are none = sym (near_told b s p q lines are) ∙ by_fields lines.row lines.column lines.down lines.up none where
+  by_fields : (a c d e : Bool) → (a || c || d || e) ≡ false
+      → ((a && same_line Row p q) || (c && same_line Column p q) || (d && same_line Down p q) || (e && same_line Up p q)) ≡ false
+  by_fields true c d e h = cc
+  by_fields false true d e h = cc
+  by_fields false false true e h = cc
+  by_fields false false false true h = cc
+  by_fields false false false false h = refl
 
 -- ---- five points in short, and threats
 

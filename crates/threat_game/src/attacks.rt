@@ -3,24 +3,24 @@
 //! A move of the game of threats goes on and leaves its side a five point or a double point. A double point that stands already
 //! wins at once where the other side has no five point. Else each move of the game is tried; where the other side has a five
 //! point, the one move that may help is to take it. Where no point makes two five points yet, a new double point is on a line with
-//! the stone that makes it, so no other is looked at.
+//! the stone that makes it, on which two others stand near that stone, so no other is looked at.
 #![tactic(auto)]
 
 ghost use Rattle.std.specs.Prelude.{◌≡◌, ◌&&◌, not, true, false, IfOk, IfSome, IsTrue};
-ghost use Rattle.game_rules.specs.Grid.{Grid, is_empty, put};
+ghost use Rattle.game_rules.specs.Grid.{Grid, is_empty, is_on, put};
 ghost use Rattle.game_rules.specs.Shapes.{is_same_point};
 ghost use Rattle.game_rules.specs.Play.{IsPosition, outcome as outcome_lem, mover, other, after, goes_on as goes_on_lem};
 ghost use Rattle.game_rules.specs.Games.{has_five as has_five_lem, five_points as five_points_lem, has_threat, is_double_point};
-ghost use Rattle.game_rules.specs.Lines.{is_aligned as is_aligned_lem};
 ghost use Rattle.row_shapes.specs.FivePoints.{in_short};
 ghost use Rattle.threat_moves.specs.ThreeMoves.{is_several as is_several_lem, has_double_point};
 ghost use Rattle.threat_game.specs.ThreatGame.{is_threat_move as is_threat_move_lem};
 ghost use Rattle.threat_game.specs.FreeMoves.{EachGoesOn};
-ghost use Rattle.threat_game.specs.NearDoubles.{FarAreNone, is_some_point as is_some_point_lem, makes_two as makes_two_lem, some_makes_two as some_makes_two_lem};
+ghost use Rattle.threat_game.specs.NearDoubles.{AreNearLines, FarAreNone, is_some_point as is_some_point_lem, makes_two as makes_two_lem, some_makes_two as some_makes_two_lem};
 ghost use Rattle.threat_game.specs.Attacks.{AreAttacks, IsAttempt, IsDoubleWin, best_reply as best_reply_lem};
 
 use crate::doubles::{Double, double_at};
 use crate::last_moves::has_fouls;
+use crate::near_lines::{NearLines, near_lines};
 use foul_judge::{Outcome, Seen};
 use row_shapes::{FivePoints, Rule, takes};
 use std::alloc::{AllocError, Global};
@@ -302,16 +302,21 @@ fn leaves_double<R: Rule>(board: &mut Board, side: Side, loud: bool, p: Point) -
     double
 }
 
-/// Whether the side, which has no five point, has a double point. It may be told that it has none away from the lines of `p`.
-/// The board is as before.
+/// Whether the side, which has no five point, has a double point. It may be told that it has none but near `p`. The board is as
+/// before.
 fn has_double<R: Rule>(board: &mut Board, side: Side, loud: bool, p: Point) -> bool
+    requires on { IsTrue (is_on board.old p) }
     requires none { has_five_lem R.KIND board.old side ≡ false }
     requires far { loud ≡ false → FarAreNone R.KIND board.old side p }
     ensures double { result ≡ has_double_point R.KIND board.old side }
     ensures same { board.new ≡ board.old }
 {
+    let near = near_lines(board, side, p);
+    if !loud && !near.some() {
+        return false;
+    }
     for q in board.points() {
-        if is_double_by::<R>(board, side, loud, p, q) {
+        if is_double_by::<R>(board, side, loud, near, p, q) {
             return true;
         }
     }
@@ -319,23 +324,24 @@ fn has_double<R: Rule>(board: &mut Board, side: Side, loud: bool, p: Point) -> b
 }
 
 /// Whether the point `q` is a double point of the side, as `has_double` is told. The board is as before.
-fn is_double_by<R: Rule>(board: &mut Board, side: Side, loud: bool, p: Point, q: Point) -> bool
+fn is_double_by<R: Rule>(
+    board: &mut Board,
+    side: Side,
+    loud: bool,
+    near: NearLines,
+    p: Point,
+    q: Point,
+) -> bool
     requires none { has_five_lem R.KIND board.old side ≡ false }
+    requires near { AreNearLines board.old side p near }
     requires far { loud ≡ false → FarAreNone R.KIND board.old side p }
     ensures double { result ≡ is_double_point R.KIND board.old side q }
     ensures same { board.new ≡ board.old }
 {
-    if is_far(loud, p, q) {
+    if !loud && !near.hold(p, q) {
         return false;
     }
     is_new_double_point::<R>(board, side, q)
-}
-
-/// Whether no point makes two, and the two points are on no line.
-fn is_far(loud: bool, p: Point, q: Point) -> bool
-    ensures far { result ≡ (not loud && not (is_aligned_lem p q)) }
-{
-    !loud && !p.is_aligned(q)
 }
 
 /// What the replies to a move that goes on come to.

@@ -10,6 +10,7 @@ mod attacks;
 mod doubles;
 mod escapes;
 mod last_moves;
+mod near_lines;
 mod replies;
 mod written;
 

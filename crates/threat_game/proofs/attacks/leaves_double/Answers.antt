@@ -4,7 +4,7 @@ use Rattle.game_rules.proofs.Boards.{lift-put}
 use Rattle.stone_board.specs.Steps.{holds_stone}
 use Rattle.stone_board.proofs.Stones.{put-holds_stone}
 use Rattle.threat_game.specs.NearDoubles.{FarAreNone}
-use Rattle.threat_game.proofs.NearDoubles.{far-none}
+use Rattle.threat_game.proofs.NearLines.{far-none}
 use Rattle.threat_game.proofs.attacks.leaves_double.Goals as goal
 
 pub has_double-double-requires-clause-far : goal.has_double-double-requires-clause-far
