@@ -1,6 +1,6 @@
 -- A double threat wins in two moves, and so does its node.
 use Rattle.std.proofs.Common.{◌≡◌, ℕ, Bool, true, false, cond, ◌&&◌, refl, sym, ap, subst, ◌∙◌, List, [], ◌∷◌}
-use Rattle.std.specs.Prelude.{Option, Some, None, IfSome}
+use Rattle.std.specs.Prelude.{Option, Some, None, IfSome, unwrap_or}
 use Rattle.std.specs.List.{list_any, list_all, filter}
 use Rattle.game_rules.proofs.Common.{Grid, is_on, points_of, points_within, five, is_same_point, IsPosition, outcome, mover, after, other, goes_on_with, LosesOr, has_five, wins_or, loses_or, starts_win, wins_under, wins_by_fours}
 use Rattle.game_rules.specs.declared.RuleKind.{RuleKind}
@@ -140,6 +140,12 @@ pub hint-grown : (w h : ℕ) (t u : List Node) (k : ℕ) (o : Option Double) →
 hint-grown w h t u k None lower grown double = tt
 hint-grown w h t u k (Some d) lower grown double = record
     { wins = λ rule b x y lawful pressed. win-stays rule 2 b t u k _ lower grown (double.wins rule b x y lawful pressed) }
+
+-- the one that is given stays where there is one, and else the new one is given
+pub hint-kept : (w h : ℕ) (t u : List Node) (k : ℕ) (o : Option Double) (d : Double) → NamesLower t → GrowsBy t u k
+    → IfSome o (IsDouble w h t) → IsDouble w h u d → IsDouble w h u (unwrap_or o d)
+hint-kept w h t u k None d lower grown given new = new
+hint-kept w h t u k (Some e) d lower grown given new = hint-grown w h t u k (Some e) lower grown given
 
 -- the threat that was compiled is the one that was found
 pub told-pressed : (rule : RuleKind) (b : Grid) (start : Point) (ends : Pair) (h : Double) → h.start ≡ start → h.ends ≡ ends → IsPressed rule b start ends → IsPressed rule b h.start h.ends

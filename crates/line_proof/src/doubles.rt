@@ -38,8 +38,9 @@ pub(crate) struct Double {
     pub(crate) node: u32,
 }
 
-/// A win of the side to move by a double threat: by the one that is given, or else by one that is looked for, which then takes
-/// its place. Where none is told there may be one all the same. The view is as before.
+/// A win of the side to move by a double threat: by the one that is given, or else by one that is looked for. The first that was
+/// compiled stays the one that is given, so that as many replies as can be have one and the same answer. Where none is told there
+/// may be one all the same. The view is as before.
 pub(crate) fn double_win<R: Rule, V: Seen<R>>(
     alloc: Global,
     view: &mut V,
@@ -91,7 +92,7 @@ fn pressed_hint<R: Rule, V: Seen<R>>(view: &mut V, hint: Option<Double>) -> Opti
     }
 }
 
-/// A win by a double threat that is looked for, and takes the place of the one that is given. The view is as before.
+/// A win by a double threat that is looked for, and is given from then on where none was. The view is as before.
 fn new_double<R: Rule, V: Seen<R>>(
     alloc: Global,
     view: &mut V,
@@ -115,7 +116,7 @@ fn new_double<R: Rule, V: Seen<R>>(
                 return Ok(None);
             }
             let double = compile_double(alloc, view.board(), start, ends, compiler)?;
-            *hint = Some(double);
+            *hint = Some(hint.unwrap_or(double));
             Ok(Some(double_of(double)))
         }
     }

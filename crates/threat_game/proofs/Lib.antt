@@ -9,7 +9,6 @@ mod DoubleLaws
 mod LastLaws
 -- moves where each goes on
 mod FreeMoves
--- a move on a view and on a copy of its board, taken back on both
 -- where new double points can be
 mod NearLines
 mod NearDoubles
