@@ -8,6 +8,7 @@ use Rattle.strategy_compiler.specs.declared.wins.WrittenWin.{WrittenWin}
 use Rattle.strategy_compiler.specs.Wins.{IsWrittenWin}
 use Rattle.four_search.specs.Answers.{IsFourWin}
 use Rattle.four_search.specs.FourGame.{four_cost}
+use Rattle.threat_game.specs.Wins.{IsThreatWin}
 use Rattle.position_files.specs.declared.PositionFile.{PositionFile}
 use Rattle.renju_cli.specs.declared.answer.Answer.{Answer}
 use Rattle.renju_cli.specs.declared.status.Status.TheVariants.{Done, NotFound, Full}
@@ -45,17 +46,17 @@ module _ {E : Type 0} (r : Result Answer E) (limit nodes : ℕ) (rule : RuleKind
         | Err e ↦ λ done text shown. tt
       ] done text shown
 
-  -- so is that of a later one
-  pub later-says : IsWrittenWin rule limit p compiled win → ¬ IsWonByFours limit nodes (file_at rule p) → IfOk r (λ a. a.status ≡ Done)
+  -- so is that of the third, where the first two have none
+  pub threats-says : IsThreatWin rule limit p compiled win → IsLeftOver limit nodes (file_at rule p) → IfOk r (λ a. a.status ≡ Done)
       → IfOk r (λ a. (limit : ℕ) → IsWrittenWin rule limit b compiled win → IsWinText limit (file_at rule b) a.text.items)
       → IfOk r (λ a. SolutionSays limit nodes (file_at rule p) a.status a.text.items)
-  later-says is later done shown = elim r as (λ (r : Result Answer E). IfOk r (λ a. a.status ≡ Done)
+  threats-says is left done shown = elim r as (λ (r : Result Answer E). IfOk r (λ a. a.status ≡ Done)
       → IfOk r (λ a. (limit : ℕ) → IsWrittenWin rule limit b compiled win → IsWinText limit (file_at rule b) a.text.items)
       → IfOk r (λ a. SolutionSays limit nodes (file_at rule p) a.status a.text.items)) [
         | Ok a ↦ λ done shown.
-            let at : IsWrittenWin rule limit b compiled win = subst (λ (c : Grid). IsWrittenWin rule limit c compiled win) (sym there) is in
+            let at : IsWrittenWin rule limit b compiled win = subst (λ (c : Grid). IsWrittenWin rule limit c compiled win) (sym there) is.written in
             let win_text : IsWinText limit (file_at rule p) a.text.items = subst (λ (c : Grid). IsWinText limit (file_at rule c) a.text.items) there (shown limit at) in
-            inr (inl (record { later = later; win = win_text; ends = done }))
+            inr (inr (inl (record { left = left; by_threats = is.by_threats; win = win_text; ends = done })))
         | Err e ↦ λ done shown. tt
       ] done shown
 
@@ -65,7 +66,7 @@ module _ {E : Type 0} (r : Result Answer E) (limit nodes : ℕ) (file : Position
       → IfOk r (λ a. SolutionSays limit nodes file a.status a.text.items)
   unwon-says left none ends line = elim r as (λ (r : Result Answer E). IfOk r (λ a. a.status ≡ NotFound) → IfOk r (λ a. a.text.items ≡ none_line)
       → IfOk r (λ a. SolutionSays limit nodes file a.status a.text.items)) [
-        | Ok a ↦ λ ends line. inr (inr (inl (record { left = left; none = none; ends = ends; line = line })))
+        | Ok a ↦ λ ends line. inr (inr (inr (inl (record { left = left; none = none; ends = ends; line = line }))))
         | Err e ↦ λ ends line. tt
       ] ends line
 
@@ -74,6 +75,6 @@ module _ {E : Type 0} (r : Result Answer E) (limit nodes : ℕ) (file : Position
       → IfOk r (λ a. SolutionSays limit nodes file a.status a.text.items)
   full-says later great ends line = elim r as (λ (r : Result Answer E). IfOk r (λ a. a.status ≡ Full) → IfOk r (λ a. a.text.items ≡ full_line)
       → IfOk r (λ a. SolutionSays limit nodes file a.status a.text.items)) [
-        | Ok a ↦ λ ends line. inr (inr (inr (inr (record { later = later; great = great; ends = ends; line = line }))))
+        | Ok a ↦ λ ends line. inr (inr (inr (inr (inr (record { later = later; great = great; ends = ends; line = line })))))
         | Err e ↦ λ ends line. tt
       ] ends line

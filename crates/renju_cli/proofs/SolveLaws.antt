@@ -1,7 +1,7 @@
 -- The command `solve`: its words, its answers, and what its statuses show.
 use Rattle.std.proofs.Common.{◌≡◌, true, inl, inr, sym, ap, subst, ◌∙◌, ◌⊎◌, ℕ, List, arith}
 use Rattle.std.specs.Prelude.{IfSome}
-use Rattle.game_rules.specs.Games.{WinsWithin}
+use Rattle.game_rules.specs.Games.{WinsWithin, has_five}
 use Rattle.game_rules.proofs.Games.{WinsUnder-more}
 use Rattle.strategy_graph.proofs.Soundness.{accepted-wins}
 use Rattle.strategy_compiler.specs.Walks.{last}
@@ -13,7 +13,8 @@ use Rattle.renju_cli.specs.Statuses.{status_number}
 use Rattle.renju_cli.specs.Runs.{Run}
 use Rattle.renju_cli.specs.Told.{IsTold, IsYielded}
 use Rattle.renju_cli.specs.Searches.{ShowsOfPosition}
-use Rattle.renju_cli.specs.Solves.{IsWinText, SolutionSays, SolveSays, solve_command, WritesSolution, SpeaksOfSolution, IsSolved}
+use Rattle.renju_cli.specs.Fours.{IsFoundWin}
+use Rattle.renju_cli.specs.Solves.{IsWinText, IsWonByAStep, IsWonByFours, SolutionSays, SolveSays, solve_command, WritesSolution, SpeaksOfSolution, IsSolved}
 use Rattle.renju_cli.proofs.PositionLaws.{said-of-position, shows-of-position}
 
 -- what is said of a position for which the budget is enough is an answer
@@ -21,13 +22,21 @@ pub solve-answers : (limit nodes : ℕ) (bytes : List ℕ) → (solve_command li
 solve-answers limit nodes bytes can status text says = by-solution (said-of-position (SolutionSays limit nodes) bytes can.0 can.1 status text says) where
   by-solution : SolutionSays limit nodes can.0 status text → (status ≡ Done) ⊎ (status ≡ NotFound) ⊎ (status ≡ Full)
   by-solution (inl first) = inl first.found.ends
-  by-solution (inr (inl later)) = inl later.ends
-  by-solution (inr (inr (inl unwon))) = inr (inl unwon.ends)
-  by-solution (inr (inr (inr (inl undecided)))) =
+  by-solution (inr (inl line)) = inl line.ends
+  by-solution (inr (inr (inl threats))) = inl threats.ends
+  by-solution (inr (inr (inr (inl unwon)))) = inr (inl unwon.ends)
+  by-solution (inr (inr (inr (inr (inl undecided))))) =
       let few = can.2 in
       let more = undecided.more in
       absurd (omega (arith, few, more))
-  by-solution (inr (inr (inr (inr great)))) = inr (inr great.ends)
+  by-solution (inr (inr (inr (inr (inr great))))) = inr (inr great.ends)
+
+-- a win that `fours` finds is one of the first step
+first-won : (limit nodes : ℕ) (file : PositionFile) (status : Status) (text : List ℕ) → IsFoundWin limit nodes file status text → IsWonByFours limit nodes file
+first-won limit nodes file status text found = record {
+  wins = WinsUnder-more (has_five file.kind) file.kind found.win.moves limit file.board found.win.within found.win.fewest.wins;
+  enough = found.enough;
+}
 
 -- ---- the statuses
 
@@ -38,18 +47,19 @@ silent number other e = grind arith
 module _ (limit nodes : ℕ) (run : Run) where
   module _ (file : PositionFile) (text : List ℕ) (whole : Takes run.output.before text run.output.after) where
     -- the table that is written wins within the limit
-    writes : IsWinText limit file text → WritesSolution limit file run.output
-    writes win = record {
+    writes : IsWonByAStep limit nodes file → IsWinText limit file text → WritesSolution limit nodes file run.output
+    writes way win = record {
       text = text;
+      way = way;
       win = win;
       whole = whole;
       wins = WinsUnder-more (λ c s. true) file.kind win.moves limit file.board win.within
           (subst (λ (n : ℕ). WinsWithin file.kind n file.board) win.deep (accepted-wins file.kind win.table (last win.table) file.board win.accepted));
     }
 
-    done-solved : run.status ≡ 0 → IsWinText limit file text → IsSolved limit nodes file run
-    done-solved here win = record {
-      won = λ e. writes win;
+    done-solved : run.status ≡ 0 → IsWonByAStep limit nodes file → IsWinText limit file text → IsSolved limit nodes file run
+    done-solved here way win = record {
+      won = λ e. writes way win;
       none = λ (e : run.status ≡ 9). absurd (let no : 0 ≡ 9 = sym here ∙ e in cc);
       spent = λ (e : run.status ≡ 5). absurd (let no : 0 ≡ 5 = sym here ∙ e in cc);
       full = λ (e : run.status ≡ 12). absurd (let no : 0 ≡ 12 = sym here ∙ e in cc);
@@ -59,9 +69,10 @@ module _ (limit nodes : ℕ) (run : Run) where
     }
 
     solved-by : (status : Status) → run.status ≡ status_number status → SolutionSays limit nodes file status text → IsSolved limit nodes file run
-    solved-by status ends (inl first) = done-solved (ends ∙ ap status_number first.found.ends) first.win
-    solved-by status ends (inr (inl later)) = done-solved (ends ∙ ap status_number later.ends) later.win
-    solved-by status ends (inr (inr (inl unwon))) =
+    solved-by status ends (inl first) = done-solved (ends ∙ ap status_number first.found.ends) (inl (first-won limit nodes file status text first.found)) first.win
+    solved-by status ends (inr (inl line)) = done-solved (ends ∙ ap status_number line.ends) (inr (inl line.along)) line.win
+    solved-by status ends (inr (inr (inl threats))) = done-solved (ends ∙ ap status_number threats.ends) (inr (inr threats.by_threats)) threats.win
+    solved-by status ends (inr (inr (inr (inl unwon)))) =
         let here = ends ∙ ap status_number unwon.ends in
         record {
           won = λ (e : run.status ≡ 0). absurd (let no : 9 ≡ 0 = sym here ∙ e in cc);
@@ -72,7 +83,7 @@ module _ (limit nodes : ℕ) (run : Run) where
           by_line = λ h. absurd (unwon.left.no_line h);
           only = inl (inr (inl here));
         }
-    solved-by status ends (inr (inr (inr (inl undecided)))) =
+    solved-by status ends (inr (inr (inr (inr (inl undecided))))) =
         let here = ends ∙ ap status_number undecided.ends in
         record {
           won = λ (e : run.status ≡ 0). absurd (let no : 5 ≡ 0 = sym here ∙ e in cc);
@@ -83,7 +94,7 @@ module _ (limit nodes : ℕ) (run : Run) where
           by_line = λ h. absurd (undecided.left.no_line h);
           only = inl (inr (inr (inl here)));
         }
-    solved-by status ends (inr (inr (inr (inr great)))) =
+    solved-by status ends (inr (inr (inr (inr (inr great))))) =
         let here = ends ∙ ap status_number great.ends in
         record {
           won = λ (e : run.status ≡ 0). absurd (let no : 12 ≡ 0 = sym here ∙ e in cc);

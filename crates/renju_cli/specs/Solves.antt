@@ -73,9 +73,10 @@ pub record IsFirstWin (limit nodes : ℕ) (file : PositionFile) (status : Status
   pub found : IsFoundWin limit nodes file status text
   pub win : IsWinText limit file text
 
--- a win of a later step than the first is written
-pub record IsLaterWin (limit nodes : ℕ) (file : PositionFile) (status : Status) (text : List ℕ) : Type 0 where
+-- the first step has no win, and that of the second is written
+pub record IsLineWin (limit nodes : ℕ) (file : PositionFile) (status : Status) (text : List ℕ) : Type 0 where
   pub later : ¬ IsWonByFours limit nodes file
+  pub along : IsWonByLine limit nodes file
   pub win : IsWinText limit file text
   pub ends : status ≡ Done
 
@@ -83,6 +84,13 @@ pub record IsLaterWin (limit nodes : ℕ) (file : PositionFile) (status : Status
 pub record IsLeftOver (limit nodes : ℕ) (file : PositionFile) : Type 0 where
   pub no_fours : ¬ IsWonByFours limit nodes file
   pub no_line : ¬ IsWonByLine limit nodes file
+
+-- the first two steps have no win, there is one by threats, and it is written
+pub record IsThreatsWin (limit nodes : ℕ) (file : PositionFile) (status : Status) (text : List ℕ) : Type 0 where
+  pub left : IsLeftOver limit nodes file
+  pub by_threats : WinsByThreats file.kind limit file.board
+  pub win : IsWinText limit file text
+  pub ends : status ≡ Done
 
 -- the first two steps have no win, and there is none by threats
 pub record IsUnwon (limit nodes : ℕ) (file : PositionFile) (status : Status) (text : List ℕ) : Type 0 where
@@ -112,11 +120,12 @@ pub record IsTooGreat (limit nodes : ℕ) (file : PositionFile) (status : Status
   pub line : text ≡ full_line
 
 -- What is said of a position within so many moves and with so many positions to look at: the win of the first step, which is that
--- of `fours`; a win of a later one; or why there is none.
+-- of `fours`; that of the second or of the third; or why there is none.
 abbrev pub SolutionSays : ℕ → ℕ → PositionFile → Status → List ℕ → Type 0
 SolutionSays limit nodes file status text =
     IsFirstWin limit nodes file status text
-    ⊎ IsLaterWin limit nodes file status text
+    ⊎ IsLineWin limit nodes file status text
+    ⊎ IsThreatsWin limit nodes file status text
     ⊎ IsUnwon limit nodes file status text
     ⊎ IsUndecided limit nodes file status text
     ⊎ IsTooGreat limit nodes file status text
@@ -141,9 +150,16 @@ solve_command depth nodes = record {
   IsAnswer = λ status. (status ≡ Done) ⊎ (status ≡ NotFound) ⊎ (status ≡ Full);
 }
 
--- The output took the text of a table whose last node is accepted, whole, and the side to move wins within the limit.
-pub record WritesSolution (limit : ℕ) (file : PositionFile) (output : Change (Option (List ℕ))) : Type 0 where
+-- The side to move wins within the limit by fours, or along its first sequence of threats, for whose search the budget is enough,
+-- or by threats whatever the order.
+abbrev pub IsWonByAStep : ℕ → ℕ → PositionFile → Type 0
+IsWonByAStep limit nodes file = IsWonByFours limit nodes file ⊎ IsWonByLine limit nodes file ⊎ WinsByThreats file.kind limit file.board
+
+-- The output took the text of a table whose last node is accepted, whole, and the side to move wins within the limit, in one of the
+-- ways that are searched.
+pub record WritesSolution (limit nodes : ℕ) (file : PositionFile) (output : Change (Option (List ℕ))) : Type 0 where
   pub text : List ℕ
+  pub way : IsWonByAStep limit nodes file
   pub win : IsWinText limit file text
   pub whole : Takes output.before text output.after
   pub wins : WinsWithin file.kind limit file.board
@@ -152,12 +168,12 @@ pub record WritesSolution (limit : ℕ) (file : PositionFile) (output : Change (
 abbrev pub SpeaksOfSolution : ℕ → Type 0
 SpeaksOfSolution number = (number ≡ status_number Done) ⊎ (number ≡ status_number NotFound) ⊎ (number ≡ status_number Spent) ⊎ (number ≡ status_number Full)
 
--- What the statuses of `solve` say of the lawful position that is the input: 0 that the table of a win is written; 9 that there
--- is no win by threats; 5 that their game has more positions than the budget; 12 that a table may have too many nodes. One of
+-- What the statuses of `solve` say of the lawful position that is the input: 0 that the table of a win by fours, along a sequence or
+-- by threats is written; 9 that there is no win by threats; 5 that their game has more positions than the budget; 12 that a table may have too many nodes. One of
 -- them comes, unless the status is one that stands in place of each. Where the first step has a win it is 0, and where the
 -- second has one 0 or 12.
 pub record IsSolved (limit nodes : ℕ) (file : PositionFile) (run : Run) : Type 0 where
-  pub won : run.status ≡ status_number Done → WritesSolution limit file run.output
+  pub won : run.status ≡ status_number Done → WritesSolution limit nodes file run.output
   pub none : run.status ≡ status_number NotFound → ¬ WinsByThreats file.kind limit file.board
   pub spent : run.status ≡ status_number Spent → nodes < threat_tree file.kind limit file.board
   pub full : run.status ≡ status_number Full → MayBeTooGreat limit nodes file

@@ -10,7 +10,7 @@ use crate::inputs::{
 use crate::runs::{Example, answers_as_worked_out, run_sound};
 use std::test::Fail;
 
-const EXAMPLES: [Example; 7] = [
+const EXAMPLES: [Example; 8] = [
     Example {
         name: "nothing on an empty board, which has more positions for fours",
         words: "solve 5 1",
@@ -45,6 +45,13 @@ const EXAMPLES: [Example; 7] = [
         input: BLOCK_FOULS,
         status: 0,
         output: BLOCK_FOULS_TABLE,
+    },
+    Example {
+        name: "a win by a quiet move is not among those that are searched",
+        words: "solve 1 1",
+        input: QUIET_WIN,
+        status: 9,
+        output: "none\n",
     },
     Example {
         name: "a white stone too many",

@@ -9,7 +9,7 @@ use Rattle.proof_number.specs.Answers.{OnWin}
 use Rattle.threat_game.specs.Wins.{IsThreatWin}
 use Rattle.proof_number.specs.declared.answer.ProofAnswer.{ProofAnswer}
 use Rattle.renju_cli.specs.Solves.{IsWinText}
-use Rattle.renju_cli.proofs.Solutions.{file_at, later-says, unwon-says, full-says}
+use Rattle.renju_cli.proofs.Solutions.{file_at, threats-says, unwon-says, full-says}
 use Rattle.renju_cli.proofs.solve.by_threats.Goals as goal
 
 pub returns-in-Ok-Win : goal.returns-in-Ok-Win
@@ -24,7 +24,7 @@ returns-in-Ok-Win g c =
     subst (λ (a : ProofAnswer). OnWin a (IsThreatWin rule c.args.depth p compiled)) c.in-Ok-Win.field-0-is c.in-Ok-Win.ensures.win in
     let shown : IfOk c.win_text.result (λ a. (limit : ℕ) → IsWrittenWin rule limit b compiled win → IsWinText limit (file_at rule b) a.text.items) =
     subst (λ (k : RuleKind). IfOk c.win_text.result (λ a. (limit : ℕ) → IsWrittenWin k limit b compiled win → IsWinText limit (file_at k b) a.text.items)) c.KIND.ensures c.win_text.ensures.shown in
-    record { says = later-says c.win_text.result c.args.depth c.args.nodes rule p b there compiled win is.written c.requires.left.no_fours c.win_text.ensures.status shown }
+    record { says = threats-says c.win_text.result c.args.depth c.args.nodes rule p b there compiled win is c.requires.left c.win_text.ensures.status shown }
 
 pub returns-in-Ok-None : goal.returns-in-Ok-None
 returns-in-Ok-None g c =
