@@ -25,9 +25,10 @@ use Rattle.brain_session.specs.Sessions.{state_after}
 use Rattle.brain_session.specs.HeldGames.{BeginsHeldGame, IsLedTo, HeldGameGoesWell, HeldGamesGoWell, SessionsGoWell, IsTight, StartsAreTight, replies, answers_to_replies, game_answers, IsWonWithin}
 use Rattle.brain_session.specs.Running.{GoesOnAlong}
 use Rattle.brain_session.proofs.HeldNodes.{first-led, root-accepted, root-no_deeper}
-use Rattle.brain_session.proofs.HeldSteps.{GoesBy, state_in, by_node, StandsIn, all-go_well}
+use Rattle.brain_session.proofs.HeldSteps.{GoesBy, by_node, StandsIn, held-go_well}
 use Rattle.brain_session.proofs.Courses.{along-lawful}
 use Rattle.brain_session.proofs.LawfulStates.{LawfulState, IsToMove, LawfulRow, row-lawful, session-lawful, new-lawful}
+use Rattle.brain_session.proofs.FollowedGames.{state_in}
 
 -- a held root that leads to a node in the game, where the moves went on: the node is accepted, and no deeper than the root
 held_led : (h : HeldTable) (g : Game) (i : ℕ) → IsHeld h → first_node g h.roots ≡ Some i → GoesOnAlong g.rule g.start g.moves → Accepted g.rule h.table i (board_of g) × IsLedTo h g i
@@ -73,7 +74,7 @@ held_game s c later g i held lawful b =
     let then = state_in s.held s.wish (with_choice g (by_node i n)) in
     let goes : GoesBy g.rule s.held.table (depth s.held.table i) i (board_of g) n.attack (replies then later) (answers_to_replies then later) =
     subst (λ (d : ℕ). GoesBy g.rule s.held.table (depth_within d s.held.table i) i (board_of g) n.attack (replies then later) (answers_to_replies then later)) (sym at.2)
-    (all-go_well s.held later at.0 s.wish g i n at.3) in
+    (held-go_well s.held later at.0 s.wish g i n at.3) in
     record {
       first = Move n.attack;
       says = ap (λ (st : Step). st.reaction) step;

@@ -28,11 +28,12 @@ use Rattle.brain_session.specs.ChosenMoves.{Choice}
 use Rattle.brain_session.specs.Steps.{Row, Reacts, Chooses, rule_of, if_supported, with_move, move_row, row_of, with_choice, Step, step_by, brain_step}
 use Rattle.brain_session.specs.Sessions.{then_answers, answers_from, state_after}
 use Rattle.brain_session.specs.HeldGames.{BeginsHeldGame, AreReplies, turns, game_answers, LegalRepliesAreAnswered}
-use Rattle.brain_session.proofs.HeldSteps.{GoesBy, by_foul, by_next, attacks-first, attacks-foul, attacks-next, state_in, by_node, StandsIn, nothing_more, row_then, next_stands, parts}
+use Rattle.brain_session.proofs.HeldSteps.{GoesBy, by_foul, by_next, attacks-first, attacks-foul, attacks-next, by_node, StandsIn, nothing_more, row_then, next_stands, parts}
 use Rattle.brain_session.proofs.RowCases.{row-cases}
 use Rattle.brain_session.proofs.SessionLaws.{answers-none}
 use Rattle.brain_session.proofs.LawfulStates.{LawfulState, session-lawful, new-lawful}
 use Rattle.brain_session.proofs.HeldGames.{begins, stands_where}
+use Rattle.brain_session.proofs.FollowedGames.{state_in}
 
 -- ---- a game is begun, or goes on, only under a rule that is supported
 

@@ -27,12 +27,16 @@ pub mod Takings
 -- what a session says and where it stands, command by command; how a session over devices goes on and ends
 pub mod SessionLaws
 mod Serving
+-- games in which something is followed, whatever it is: each later command
+pub mod FollowedGames
 -- held games go well, each legal reply in one is answered, and whoever answers by an accepted table wins
 pub mod HeldGames
 pub mod HeldReplies
 pub mod HeldWins
--- games in which a held node is followed: one reply, each later command
+-- games in which a held node is followed: one reply
 pub mod HeldSteps
+-- games by a win of the brain's own
+pub mod OwnGames
 -- what is true of the state whatever was told
 pub mod LawfulStates
 -- the stones of a batch that makes a board

@@ -88,10 +88,14 @@ ends_with_foul rule b (p ∷ ps) (q ∷ []) = is_foul (outcome rule (after b p) 
 ends_with_foul rule b (p ∷ ps) (q ∷ v ∷ qs) = ends_with_foul rule (after (after b p) q) ps (v ∷ qs)
 ends_with_foul rule b ps qs = false
 
--- the answers in a game from node i at b against these replies: the attacks, and where the last reply is a foul that it is one
+-- the answers where these attacks are played from b against these replies: the attacks, and where the last reply is a foul that it
+-- is one
+abbrev pub answers_by : RuleKind → Grid → List Point → List Point → List Answer
+answers_by rule b ps qs = map (λ p. Move p) ps ++ (if ends_with_foul rule b ps qs then Error OpponentFoul ∷ [] else [])
+
+-- the answers in a game from node i at b against these replies
 abbrev pub game_answers : RuleKind → List Node → ℕ → Grid → List Point → List Answer
-game_answers rule t i b qs =
-    let ps = attacks rule t i b qs in map (λ p. Move p) ps ++ (if ends_with_foul rule b ps qs then Error OpponentFoul ∷ [] else [])
+game_answers rule t i b qs = answers_by rule b (attacks rule t i b qs) qs
 
 -- the game is won with 1 to d attacks, or it is open, and fewer than d replies were given
 abbrev pub IsWonWithin : ℕ → ℕ → End → Type 0

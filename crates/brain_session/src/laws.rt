@@ -4,6 +4,7 @@
 //! moves that the table has. Their proofs go by the moves that are left.
 
 ghost use Rattle.brain_session.specs.HeldGames.{HeldGamesGoWell, LegalRepliesAreAnswered, SessionsGoWell, StartsAreTight, WhoeverHoldsWins};
+ghost use Rattle.brain_session.specs.OwnGames.{OwnGamesGoWell};
 
 /// Whatever a brain that holds accepted roots was told before, and whatever it is told later: where it begins to follow a
 /// held root, its answers are the attacks of the table against the replies, one for one, and the game is won within the
@@ -33,4 +34,11 @@ pub fn whoever_holds_wins()
 /// attacks of the table against them, one for one, and a foul that ends the game by the line that says so.
 pub fn legal_replies_are_answered()
     ensures answered { LegalRepliesAreAnswered }
+{}
+
+/// Whatever a brain that holds accepted roots was told before, and whatever it is told later: where it begins to follow a win by fours that it found
+/// itself, its answers are the attacks of the win's table against the replies, one for one, and the game is won within the
+/// moves that it found, or the replies have run out.
+pub fn own_games_go_well()
+    ensures go_well { OwnGamesGoWell }
 {}

@@ -26,9 +26,10 @@ use Rattle.brain_session.specs.declared.Reaction.TheVariants.{Says}
 use Rattle.brain_session.specs.States.{Game, board_of, InGame, State}
 use Rattle.brain_session.specs.ChosenMoves.{Choice}
 use Rattle.brain_session.specs.Steps.{Step, rule_of, if_supported, same_side, with_move, move_row, row_of, with_choice, step_by, brain_step}
-use Rattle.brain_session.proofs.HeldSteps.{other_side, state_in, by_node, StandsIn, row_then, next_stands, lawful_then, turn_then, parts}
+use Rattle.brain_session.proofs.HeldSteps.{by_node, StandsIn, row_then, next_stands, lawful_then, turn_then, parts}
 use Rattle.strength_drill.specs.declared.positions.TheConstants.{SIDE}
 use Rattle.strength_drill.specs.DrillGames.{board_now, is_ended, moves_by, moves_of_brain, last_wins, is_won}
+use Rattle.brain_session.proofs.FollowedGames.{other_side, state_in}
 
 -- The brain, which holds this, has made a move by the table in a game under the rule, with so many of its moves before; a game on a
 -- board of the drill has room for no more than its points.

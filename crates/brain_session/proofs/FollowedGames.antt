@@ -1,0 +1,240 @@
+-- A game in which something is followed, a held node or a win of the brain's own: what each later command does to it.
+use Rattle.std.proofs.Common.{◌≡◌, ℕ, suc, ◌<◌, arith, Bool, true, false, cond, List, [], ◌∷◌, refl, sym, ap, ◌∙◌, not}
+use Rattle.std.specs.Prelude.{Option, Some, None}
+use Rattle.game_rules.specs.Grid.{Grid}
+use Rattle.game_rules.specs.Play.{is_foul, outcome, after, IsPosition, mover, other, goes_on}
+use Rattle.game_rules.specs.Games.{WinsOr, LosesOr}
+use Rattle.game_rules.specs.declared.RuleKind.{RuleKind}
+use Rattle.game_rules.specs.declared.Foul.{Foul}
+use Rattle.game_rules.specs.declared.Outcome.{Outcome}
+use Rattle.game_rules.specs.declared.Outcome.TheVariants.{Refused, Wins as WinsNow, Fouls, Draws, GoesOn}
+use Rattle.game_rules.specs.declared.Point.{Point}
+use Rattle.game_rules.specs.declared.Side.{Side}
+use Rattle.game_rules.specs.declared.Side.TheVariants.{Black, White}
+use Rattle.game_rules.proofs.Positions.{mover-then}
+use Rattle.strategy_graph.specs.Games.{End, Won, Open, one_later, points_on}
+use Rattle.strategy_checker.specs.HeldRoots.{HeldTable}
+use Rattle.gomocup_text.specs.declared.Answer.{Answer}
+use Rattle.gomocup_text.specs.declared.Answer.TheVariants.{Move, Error}
+use Rattle.gomocup_text.specs.declared.ErrorText.{ErrorText}
+use Rattle.gomocup_text.specs.declared.ErrorText.TheVariants.{OpponentFoul, UnsupportedRule, GameOver, BadMove}
+use Rattle.gomocup_text.specs.declared.Command.{Command}
+use Rattle.gomocup_text.specs.declared.Command.TheVariants.{Start, RectStart, Turn, Board, Restart, Takeback, Rule, End as EndCommand}
+use Rattle.brain_session.specs.declared.Reaction.TheVariants.{Says}
+use Rattle.brain_session.specs.States.{Game, board_of, point_at, InGame, State}
+use Rattle.brain_session.specs.ChosenMoves.{Choice, chosen}
+use Rattle.brain_session.specs.Steps.{Row, Chooses, fails, rule_of, if_supported, same_side, with_move, end_row, move_row, row_of, with_choice, step_by}
+use Rattle.brain_session.specs.HeldGames.{ends_with_foul, IsWonWithin, is_no_reply, then_replies, replies, then_answers_to, answers_to_replies}
+
+-- the state in which this game goes on, with this wish and no batch
+abbrev pub state_in : HeldTable → ℕ → Game → State
+state_in h w g = record { wish = w; held = h; place = InGame g; batch = None }
+
+-- the game after the choice of the brain and the reply q, with which it goes on
+abbrev pub game_then : Game → Choice → Point → Game
+game_then g c q = with_move (with_choice g c) q false
+
+-- ---- the answers and the end of a game, whatever it is that is followed
+
+pub no_foul-left : (rule : RuleKind) (b : Grid) (ps : List Point) → ends_with_foul rule b ps [] ≡ false
+no_foul-left rule b [] = refl
+no_foul-left rule b (p ∷ ps) = refl
+
+pub none_on : (o : Outcome) (r : Bool) → points_on o (cond r [] []) ≡ []
+none_on GoesOn true = refl
+none_on GoesOn false = refl
+none_on _ r = refl
+
+-- where the reply q goes on, the last reply is a foul if it is one of those after q
+pub foul-later : (rule : RuleKind) (b : Grid) (p q : Point) (ps qs : List Point) → outcome rule (after b p) q ≡ GoesOn
+    → ends_with_foul rule b (p ∷ ps) (q ∷ qs) ≡ ends_with_foul rule (after (after b p) q) ps qs
+foul-later rule b p q ps [] e = ap is_foul e ∙ sym (no_foul-left rule (after (after b p) q) ps)
+foul-later rule b p q ps (v ∷ qs) e = refl
+
+pub won-later : (e d n : ℕ) (end : End) → e < d → IsWonWithin e n end → IsWonWithin d (suc n) (one_later end)
+won-later e d n (Won k) less h = let high = h.1 in (omega arith, omega (arith, high))
+won-later e d n Open less h = omega arith
+won-later e d n _ less h = h
+
+-- ---- a command by its row
+
+replies-by : (s : State) (c : Command) (cs : List Command) (r : Row) → row_of s c ≡ r
+    → replies s (c ∷ cs) ≡ then_replies c (step_by s r).reaction (replies (step_by s r).next cs)
+unfolding replies
+replies-by s c cs r e = rw e refl
+
+answers-by : (s : State) (c : Command) (cs : List Command) (r : Row) → row_of s c ≡ r
+    → answers_to_replies s (c ∷ cs) ≡ then_answers_to c (step_by s r).reaction (answers_to_replies (step_by s r).next cs)
+unfolding answers_to_replies
+answers-by s c cs r e = rw e refl
+
+-- ---- an ended game: no reply is left
+
+turn_ended : (h : HeldTable) (w : ℕ) (g : Game) (x y : ℕ) → g.ended ≡ true
+    → row_of (state_in h w g) (Turn x y) ≡ fails GameOver (state_in h w g)
+unfolding row_of
+turn_ended h w g x y e = rw e refl
+
+module _ (h : HeldTable) (g : Game) (e : g.ended ≡ true) where
+  none_left : (w : ℕ) (cs : List Command) → (replies (state_in h w g) cs ≡ []) × (answers_to_replies (state_in h w g) cs ≡ [])
+  unfolding replies answers_to_replies row_of
+  none_left w [] = (refl, refl)
+  none_left w (Turn x y ∷ cs) =
+      let row = turn_ended h w g x y e in
+      let rest = none_left w cs in
+      (replies-by (state_in h w g) (Turn x y) cs _ row ∙ rest.0, answers-by (state_in h w g) (Turn x y) cs _ row ∙ rest.1)
+  none_left w (Start n ∷ cs) = (refl, refl)
+  none_left w (RectStart n m ∷ cs) = (refl, refl)
+  none_left w (Board ∷ cs) = (refl, refl)
+  none_left w (Restart ∷ cs) = (refl, refl)
+  none_left w (Takeback x y ∷ cs) = (refl, refl)
+  none_left w (EndCommand ∷ cs) = (refl, refl)
+  none_left w (Rule v ∷ cs) = none_left v cs
+  none_left w (_ ∷ cs) = none_left w cs
+
+-- ---- a TURN in a game that goes on
+
+-- the other side is not the same
+pub other_side : (s t : Side) → t ≡ other s → same_side t s ≡ false
+other_side Black t e = rw e refl
+other_side White t e = rw e refl
+
+pub turn_going : (h : HeldTable) (w : ℕ) (g : Game) (x y : ℕ) → g.ended ≡ false → mover (board_of g) ≡ other g.brain
+    → row_of (state_in h w g) (Turn x y)
+    ≡ if_supported (rule_of w) (state_in h w g) (λ rule. move_row (state_in h w g) g (point_at x y)
+    (outcome g.rule (board_of g) (point_at x y)))
+unfolding row_of
+turn_going h w g x y e m = let f = other_side g.brain (mover (board_of g)) m in rw (e, f) refl
+
+-- ---- what is followed
+
+-- In the game g, to which the opponent replied q after the choice by x, the choice by another is made, which stands there; and what
+-- goes well from there goes well with the reply and the move before it.
+pub record IsNextTo (h : HeldTable) (X : Type 0) (choice : X → Choice) (Stands : X → Game → Type 0)
+    (Goes : X → Game → List Point → List Answer → Type 0) (x : X) (g : Game) (q : Point) : Type 0 where
+  pub next : X
+  pub stands : Stands next (game_then g (choice x) q)
+  pub chooses : chosen h (game_then g (choice x) q) ≡ choice next
+  pub more : (qs : List Point) (said : List Answer) → Goes next (game_then g (choice x) q) qs said
+      → Goes x g (q ∷ qs) (Move (choice next).at ∷ said)
+
+-- What is followed may be told by an X: where it stands in a game, the brain is to move in a lawful position, and the move of its
+-- choice wins or goes on; with no reply the game goes well, and with a reply that fouls; no reply wins or draws, and where one goes
+-- on the next choice is made.
+pub record IsFollowed (h : HeldTable) (X : Type 0) (choice : X → Choice) (Stands : X → Game → Type 0)
+    (Goes : X → Game → List Point → List Answer → Type 0) : Type 0 where
+  pub lawful : (x : X) (g : Game) → Stands x g → IsPosition g.rule (board_of g)
+  pub turn : (x : X) (g : Game) → Stands x g → mover (board_of g) ≡ g.brain
+  pub wins : (x : X) (g : Game) → Stands x g → WinsOr (outcome g.rule (board_of g) (choice x).at) (Unit {0})
+  pub none : (x : X) (g : Game) → Stands x g → Goes x g [] []
+  pub fouls : (x : X) (g : Game) → Stands x g → outcome g.rule (board_of g) (choice x).at ≡ GoesOn → (q : Point) (f : Foul)
+      → outcome g.rule (after (board_of g) (choice x).at) q ≡ Fouls f → Goes x g (q ∷ []) (Error OpponentFoul ∷ [])
+  pub replied : (x : X) (g : Game) → Stands x g → outcome g.rule (board_of g) (choice x).at ≡ GoesOn → (q : Point)
+      → LosesOr (outcome g.rule (after (board_of g) (choice x).at) q) (IsNextTo h X choice Stands Goes x g q)
+
+-- ---- all later commands
+
+module _ (h : HeldTable) (X : Type 0) (choice : X → Choice) (Stands : X → Game → Type 0)
+    (Goes : X → Game → List Point → List Answer → Type 0)
+    (followed : IsFollowed h X choice Stands Goes) where
+  -- the state after the choice by x in the game
+  abbrev then_state : ℕ → X → Game → State
+  then_state w x g = state_in h w (with_choice g (choice x))
+
+  -- the replies among these commands and the answers to them go well
+  abbrev GoesOver : ℕ → X → Game → List Command → Type 0
+  GoesOver w x g cs = Goes x g (replies (then_state w x g) cs) (answers_to_replies (then_state w x g) cs)
+
+  abbrev AllGoWell : List Command → Type 0
+  AllGoWell cs = (w : ℕ) (x : X) (g : Game) → Stands x g → GoesOver w x g cs
+
+  goes-same : (x : X) (g : Game) (rs ps : List Point) (said heard : List Answer) → rs ≡ ps → said ≡ heard → Goes x g ps heard
+      → Goes x g rs said
+  goes-same x g rs ps said heard e f k = rw (e, f) k
+
+  -- where the move wins no later command changes anything
+  ended_goes : (w : ℕ) (x : X) (g : Game) (cs : List Command) → Stands x g → outcome g.rule (board_of g) (choice x).at ≡ WinsNow
+      → GoesOver w x g cs
+  ended_goes w x g cs stands e =
+      let left = none_left h (with_choice g (choice x)) (ap (λ (r : Outcome). not (goes_on r)) e) w cs in
+      goes-same x g _ _ _ _ left.0 left.1 (followed.none x g stands)
+
+  module _ (x : X) (g : Game) (stands : Stands x g) (on : outcome g.rule (board_of g) (choice x).at ≡ GoesOn) where
+    -- a TURN that is no reply changes nothing
+    no_reply : (w a b : ℕ) (cs : List Command) (e : ErrorText) → is_no_reply (Says (Error e)) ≡ true
+        → row_of (then_state w x g) (Turn a b) ≡ fails e (then_state w x g) → GoesOver w x g cs → GoesOver w x g (Turn a b ∷ cs)
+    no_reply w a b cs e none row later =
+        let s = then_state w x g in
+        goes-same x g _ _ _ _
+        (replies-by s (Turn a b) cs _ row ∙ ap (λ (r : Bool). cond r (replies s cs) (point_at a b ∷ replies s cs)) none)
+        (answers-by s (Turn a b) cs _ row ∙ ap (λ (r : Bool). cond r (answers_to_replies s cs) (Error e ∷ answers_to_replies s cs)) none)
+        later
+
+    -- a reply that fouls ends the game
+    foul_reply : (w a b : ℕ) (cs : List Command) (f : Foul) → outcome g.rule (after (board_of g) (choice x).at) (point_at a b) ≡ Fouls f
+        → row_of (then_state w x g) (Turn a b) ≡ end_row (then_state w x g) (with_choice g (choice x)) (point_at a b) OpponentFoul
+        → GoesOver w x g (Turn a b ∷ cs)
+    foul_reply w a b cs f fouls row =
+        let s = then_state w x g in
+        let left = none_left h (with_move (with_choice g (choice x)) (point_at a b) true) refl w cs in
+        goes-same x g _ _ _ _
+        (replies-by s (Turn a b) cs _ row ∙ ap (λ (ps : List Point). point_at a b ∷ ps) left.0)
+        (answers-by s (Turn a b) cs _ row ∙ ap (λ (said : List Answer). Error OpponentFoul ∷ said) left.1)
+        (followed.fouls x g stands on (point_at a b) f fouls)
+
+    -- a reply that goes on is answered by the next choice
+    next_reply : (w a b : ℕ) (cs : List Command) → AllGoWell cs
+        → row_of (then_state w x g) (Turn a b) ≡ Chooses (game_then g (choice x) (point_at a b))
+        → IsNextTo h X choice Stands Goes x g (point_at a b) → GoesOver w x g (Turn a b ∷ cs)
+    next_reply w a b cs all row next =
+        let s = then_state w x g in
+        let g2 = game_then g (choice x) (point_at a b) in
+        goes-same x g _ _ _ _
+        (replies-by s (Turn a b) cs _ row ∙ ap (λ (c : Choice). point_at a b ∷ replies (state_in h w (with_choice g2 c)) cs) next.chooses)
+        (answers-by s (Turn a b) cs _ row ∙ ap (λ (c : Choice). Move c.at ∷ answers_to_replies
+        (state_in h w (with_choice g2 c)) cs) next.chooses)
+        (next.more _ _ (all w next.next g2 next.stands))
+
+    -- a TURN by its row
+    turn_by : (w a b : ℕ) (cs : List Command) (r : Option RuleKind) (p : Outcome) → AllGoWell cs
+        → outcome g.rule (after (board_of g) (choice x).at) (point_at a b) ≡ p
+        → row_of (then_state w x g) (Turn a b) ≡ if_supported r (then_state w x g)
+        (λ rule. move_row (then_state w x g) (with_choice g (choice x)) (point_at a b) p)
+        → LosesOr p (IsNextTo h X choice Stands Goes x g (point_at a b)) → GoesOver w x g (Turn a b ∷ cs)
+    turn_by w a b cs None p all e row met = no_reply w a b cs UnsupportedRule refl row (all w x g stands)
+    turn_by w a b cs (Some rule) Refused all e row met = no_reply w a b cs BadMove refl row (all w x g stands)
+    turn_by w a b cs (Some rule) WinsNow all e row met = absurd met
+    turn_by w a b cs (Some rule) (Fouls f) all e row met = foul_reply w a b cs f e row
+    turn_by w a b cs (Some rule) Draws all e row met = absurd met
+    turn_by w a b cs (Some rule) GoesOn all e row met = next_reply w a b cs all row met
+
+    -- the row of a TURN
+    pub turn_row-then : (w : ℕ) (q : Point) → row_of (then_state w x g) (Turn q.x q.y)
+        ≡ if_supported (rule_of w) (then_state w x g)
+        (λ rule. move_row (then_state w x g) (with_choice g (choice x)) q (outcome g.rule (after (board_of g) (choice x).at) q))
+    turn_row-then w q =
+        turn_going h w (with_choice g (choice x)) q.x q.y (ap (λ (r : Outcome). not (goes_on r)) on)
+        (mover-then g.rule (board_of g) (choice x).at (followed.lawful x g stands) on ∙ ap other (followed.turn x g stands))
+
+  turn_goes : (cs : List Command) → AllGoWell cs → (a b : ℕ) → AllGoWell (Turn a b ∷ cs)
+  turn_goes cs all a b w x g stands = by_outcome (outcome g.rule (board_of g) (choice x).at) refl (followed.wins x g stands) where
+    by_outcome : (r : Outcome) → outcome g.rule (board_of g) (choice x).at ≡ r → WinsOr r (Unit {0}) → GoesOver w x g (Turn a b ∷ cs)
+    by_outcome WinsNow e v = ended_goes w x g (Turn a b ∷ cs) stands e
+    by_outcome GoesOn e v =
+        turn_by x g stands e w a b cs (rule_of w) (outcome g.rule (after (board_of g) (choice x).at) (point_at a b)) all refl
+        (turn_row-then x g stands e w (point_at a b)) (followed.replied x g stands e (point_at a b))
+    by_outcome _ e v = absurd v
+
+  -- whatever is told later, the game goes well by the replies and the answers to them
+  pub all-go_well : (cs : List Command) → AllGoWell cs
+  unfolding replies answers_to_replies row_of
+  all-go_well [] w x g stands = followed.none x g stands
+  all-go_well (Turn a b ∷ cs) w x g stands = turn_goes cs (all-go_well cs) a b w x g stands
+  all-go_well (Start m ∷ cs) w x g stands = followed.none x g stands
+  all-go_well (RectStart l m ∷ cs) w x g stands = followed.none x g stands
+  all-go_well (Board ∷ cs) w x g stands = followed.none x g stands
+  all-go_well (Restart ∷ cs) w x g stands = followed.none x g stands
+  all-go_well (Takeback a b ∷ cs) w x g stands = followed.none x g stands
+  all-go_well (EndCommand ∷ cs) w x g stands = followed.none x g stands
+  all-go_well (Rule v ∷ cs) w x g stands = all-go_well cs v x g stands
+  all-go_well (_ ∷ cs) w x g stands = all-go_well cs w x g stands
