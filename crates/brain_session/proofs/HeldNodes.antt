@@ -68,14 +68,14 @@ first-led g (r ∷ rs) i h = by_root (root_node g r) refl h (first-led g rs i) w
       let low = place.1 in
       (there.0, (suc place.0, omega (arith, low), place.2), there.2)
 
-same_rule-is : (k m : RuleKind) → same_rule k m ≡ true → k ≡ m
+pub same_rule-is : (k m : RuleKind) → same_rule k m ≡ true → k ≡ m
 same_rule-is Freestyle Freestyle h = refl
 same_rule-is Exact Exact h = refl
 same_rule-is Renju Renju h = refl
 same_rule-is _ _ h = cc
 
 -- a choice that is made only under a test
-if_some : (t : Bool) (o : Option ℕ) (i : ℕ) → cond t o None ≡ Some i → (t ≡ true) × (o ≡ Some i)
+pub if_some : (t : Bool) (o : Option ℕ) (i : ℕ) → cond t o None ≡ Some i → (t ≡ true) × (o ≡ Some i)
 if_some true o i h = (refl, h)
 if_some false o i h = cc
 

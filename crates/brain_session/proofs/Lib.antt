@@ -35,8 +35,9 @@ pub mod HeldReplies
 pub mod HeldWins
 -- games in which a held node is followed: one reply
 pub mod HeldSteps
--- games by a win of the brain's own
+-- games by a win of the brain's own; the game by a held root that begins where a game comes to it
 pub mod OwnGames
+pub mod RootGames
 -- what is true of the state whatever was told
 pub mod LawfulStates
 -- the stones of a batch that makes a board

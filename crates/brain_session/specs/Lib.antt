@@ -6,6 +6,7 @@ pub mod Sessions
 pub mod Running
 pub mod HeldGames
 pub mod OwnGames
+pub mod RootGames
 pub mod Memory
 pub mod Serving
 pub mod Kept

@@ -5,6 +5,7 @@
 
 ghost use Rattle.brain_session.specs.HeldGames.{HeldGamesGoWell, LegalRepliesAreAnswered, SessionsGoWell, StartsAreTight, WhoeverHoldsWins};
 ghost use Rattle.brain_session.specs.OwnGames.{OwnGamesGoWell};
+ghost use Rattle.brain_session.specs.RootGames.{RootsBeginGames};
 
 /// Whatever a brain that holds accepted roots was told before, and whatever it is told later: where it begins to follow a
 /// held root, its answers are the attacks of the table against the replies, one for one, and the game is won within the
@@ -36,7 +37,13 @@ pub fn legal_replies_are_answered()
     ensures answered { LegalRepliesAreAnswered }
 {}
 
-/// Whatever a brain that holds accepted roots was told before, and whatever it is told later: where it begins to follow a win by fours that it found
+/// Whatever a brain that holds accepted roots was told before: where it is to answer in a game that has come to a held root, and
+/// follows nothing, its answer is the attack of the root's node, and a held game begins there.
+pub fn roots_begin_games()
+    ensures begin { RootsBeginGames }
+{}
+
+/// Whatever such a brain was told before, and whatever it is told later: where it begins to follow a win by fours that it found
 /// itself, its answers are the attacks of the win's table against the replies, one for one, and the game is won within the
 /// moves that it found, or the replies have run out.
 pub fn own_games_go_well()
