@@ -10,5 +10,6 @@ mod ThreatsLaws
 mod SolveLaws
 mod Solutions
 mod BrainLaws
+mod GameLaws
 mod DrillLaws
 mod ReportLaws

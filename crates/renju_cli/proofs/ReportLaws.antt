@@ -9,7 +9,8 @@ use Rattle.renju_cli.specs.Fouls.{foul_command}
 use Rattle.renju_cli.specs.Fours.{fours_command, ShowsSearch}
 use Rattle.renju_cli.specs.Threats.{threats_command, ShowsSequence}
 use Rattle.renju_cli.specs.Solves.{solve_command, ShowsSolution}
-use Rattle.renju_cli.specs.Brains.{brain_with_words, IsFileName, second_word, IsBrainWith, ShowsHeldGames}
+use Rattle.renju_cli.specs.Brains.{brain_with_words, IsFileName, second_word, IsBrainWith}
+use Rattle.renju_cli.specs.Games.{ShowsHeldGames, ShowsOwnGames}
 use Rattle.renju_cli.specs.Drills.{ShowsDrill}
 use Rattle.renju_cli.specs.Commands.{command, IsForm}
 use Rattle.renju_cli.specs.Reports.{Report, IsComplete}
@@ -17,7 +18,8 @@ use Rattle.renju_cli.proofs.FormLaws.{one-form}
 use Rattle.renju_cli.proofs.ToldLaws.{answers-told}
 use Rattle.renju_cli.proofs.CheckLaws.{check-answers, check-won}
 use Rattle.renju_cli.proofs.FoulLaws.{foul-answers}
-use Rattle.renju_cli.proofs.BrainLaws.{brain-answers, brain-with-answers, brain-plays}
+use Rattle.renju_cli.proofs.BrainLaws.{brain-answers, brain-with-answers}
+use Rattle.renju_cli.proofs.GameLaws.{brain-plays, brain-plays-own, file-plays-own}
 use Rattle.renju_cli.proofs.FoursLaws.{fours-answers, fours-searched}
 use Rattle.renju_cli.proofs.DrillLaws.{drill-answers, drill-shown}
 use Rattle.renju_cli.proofs.ThreatsLaws.{threats-answers, threats-searched}
@@ -55,6 +57,12 @@ report-games run report name is =
     let words : HasWords run.words (brain_with_words (second_word run.words)) (IsFileName (second_word run.words)) =
     subst (λ (n : List ℕ). HasWords run.words (brain_with_words n) (IsFileName n)) (sym second) is in
     brain-plays name run (subst (λ (n : List ℕ). IsBrainWith n run) second (does-of run report BrainWith words))
+
+pub report-own_games : (run : Run) → Report run → ShowsOwnGames run
+report-own_games run report = record {
+  alone = λ is. brain-plays-own run (does-of run report Brain is);
+  with_file = λ name is. file-plays-own name run;
+}
 
 pub report-searched : (run : Run) → Report run → ShowsSearch run
 report-searched run report depth nodes is = fours-searched depth nodes run (does-of run report (Fours depth nodes) is)

@@ -1,8 +1,6 @@
--- The command `brain`: its words, how its sessions end, what comes of its FILE, and what its runs show of the games that it plays
--- by a table.
-use Rattle.std.specs.Prelude.{◌≡◌, ◌≢◌, ◌⊎◌, ℕ, ◌≤◌, ◌<◌, List, [], ◌∷◌, ◌++◌, codes, length, Option, Some, Result, Ok, Err, IfSome, Contains, unwrap_or, slice_get}
-use Rattle.strategy_graph.specs.Tables.{depth}
-use Rattle.strategy_graph.specs.Roots.{root_arrivals, AcceptedRoot, RootWins}
+-- The command `brain`: its words, how its sessions end, and what comes of its FILE.
+use Rattle.std.specs.Prelude.{◌≡◌, ◌≢◌, ◌⊎◌, ℕ, ◌≤◌, ◌<◌, List, [], ◌∷◌, codes, length, Option, Some, Result, Ok, Err, IfSome, Contains, unwrap_or, slice_get}
+use Rattle.strategy_graph.specs.Roots.{root_arrivals, AcceptedRoot}
 use Rattle.strategy_checker.specs.HeldRoots.{HeldTable}
 use Rattle.position_files.specs.declared.TableFile.{TableFile}
 use Rattle.position_files.specs.Faults.{IsTableFault}
@@ -10,15 +8,12 @@ use Rattle.renju_io.specs.Told.{Takes}
 use Rattle.renju_io.specs.Files.{Files, file_under}
 use Rattle.renju_io.specs.declared.TheConstants.{MAX_INPUT_BYTES, MAX_SESSION_BYTES}
 use Rattle.gomocup_text.specs.Commands.{commands}
-use Rattle.gomocup_text.specs.declared.Command.{Command as Asked}
 use Rattle.gomocup_text.specs.declared.Command.TheVariants.{End}
 use Rattle.brain_session.specs.declared.sessions.ServeError.{ServeError}
 use Rattle.brain_session.specs.declared.sessions.ServeError.TheVariants.{ReadFailed, WriteFailed, Exhausted, Memory as NoMemory}
-use Rattle.brain_session.specs.States.{Game, State, new_brain}
-use Rattle.brain_session.specs.Steps.{brain_step}
-use Rattle.brain_session.specs.Sessions.{answers_from, state_after, session_text}
-use Rattle.brain_session.specs.Serving.{Served, HasAnswered, HasNoEnd, IsReadToEnd, StopsAtRead, StopsAtWrite, StopsAtStep, within_limit, IsTooLong}
-use Rattle.brain_session.specs.HeldGames.{BeginsHeldGame, HeldGameGoesWell, IsTight}
+use Rattle.brain_session.specs.States.{State, new_brain}
+use Rattle.brain_session.specs.Sessions.{session_text}
+use Rattle.brain_session.specs.Serving.{Served, HasAnswered, IsReadToEnd, StopsAtRead, StopsAtWrite, StopsAtStep, within_limit, IsTooLong}
 use Rattle.renju_cli.specs.declared.status.Status.{Status}
 use Rattle.renju_cli.specs.declared.status.Status.TheVariants.{Done, Usage, ShelfFault, RefusedText, RefusedTable, Spent, Memory, ReadFault, WriteFault, NotFound, TooLong, Full}
 use Rattle.renju_cli.specs.declared.brain.Loaded.{Loaded}
@@ -27,7 +22,7 @@ use Rattle.brain_session.specs.declared.TheConstants.{BRAIN_WORK}
 use Rattle.renju_cli.specs.Statuses.{status_number}
 use Rattle.renju_cli.specs.Texts.{too_long_line, shelf_line}
 use Rattle.renju_cli.specs.Runs.{Change, Run, HasFailed, IsSound, IsUnasked, IsDelivered}
-use Rattle.renju_cli.specs.Forms.{Command, HasWords}
+use Rattle.renju_cli.specs.Forms.{Command}
 use Rattle.renju_cli.specs.Refusals.{IsRefusedText}
 use Rattle.renju_cli.specs.Checks.{IsTableAt, IsRefusedTable, IsSpentWork}
 
@@ -237,45 +232,3 @@ brain_with_command name = record {
   Does = IsBrainWith name;
   Answers = λ run. (file : TableFile) → IsUnhinderedFile name run file → AnswersAll (held_by file) run;
 }
-
--- The games by a table
-
--- the state of a brain that holds the table of the text after these commands
-abbrev pub state_told : TableFile → List Asked → State
-state_told file before = state_after (new_brain (held_by file)) before
-
--- A held game goes well, which the command c begins after others: it is played by the table of the text, and the node that the
--- brain follows there is no deeper than the moves that the text names. Where no END comes before, the answer to c and those to what
--- comes later stand in the answers of the session right behind those to what came before.
-pub record GoesWellBy (file : TableFile) (before : List Asked) (c : Asked) (later : List Asked) (g : Game) (i : ℕ) : Type 0 where
-  pub holds : (state_told file before).held ≡ held_by file
-  pub goes_well : HeldGameGoesWell (state_told file before) c later g i
-  pub within : depth file.table i ≤ file.moves
-  pub stands : HasNoEnd before → answers_from (new_brain (held_by file)) (before ++ c ∷ later)
-      ≡ answers_from (new_brain (held_by file)) before ++ goes_well.first ∷ answers_from (brain_step (state_told file before) c).next later
-
--- each held game of a session over these bytes goes well, by whichever of its lines it begins
-abbrev pub GamesGoWell : TableFile → List ℕ → Type 0
-GamesGoWell file bytes =
-    (before : List Asked) (c : Asked) (later : List Asked) (g : Game) (i : ℕ) → commands bytes ≡ before ++ c ∷ later
-    → BeginsHeldGame (state_told file before) c g i → GoesWellBy file before c later g i
-
--- What holds where a FILE fits: its root wins within the moves that it names; where the opponent moves first, none of its moves
--- wins or draws; each held game goes well; and the input was served by the table, unless the shelf failed or memory ran out before.
-pub record IsPlayedBy (name : List ℕ) (file : TableFile) (bytes : List ℕ) (run : Run) : Type 0 where
-  pub wins : RootWins file.kind file.root file.moves file.board
-  pub tight : IsTight file.kind file.board file.root
-  pub games : GamesGoWell file bytes
-  pub ends : IsSession (held_by file) run.input run.output run.status ⊎ HasFailed run.shelf ⊎ IsUnbegun run.input run.output run.status
-
--- Where a session ended, or the input failed, FILE fits; and of each file that fits this holds.
-pub record ShowsGames (name : List ℕ) (files : Files) (bytes : List ℕ) (run : Run) : Type 0 where
-  pub fits : (run.status ≡ status_number Done) ⊎ (run.status ≡ status_number ReadFault) → (file : TableFile) × IsFitFile name files file
-  pub plays : (file : TableFile) → IsFitFile name files file → IsPlayedBy name file bytes run
-
--- The headline of the brain: what `brain FILE` shows of the games that it plays, where the shelf tells its files and the input its
--- bytes.
-abbrev pub ShowsHeldGames : Run → Type 0
-ShowsHeldGames run =
-    (name : List ℕ) → HasWords run.words (brain_with_words name) (IsFileName name)
-    → IfSome run.shelf.before (λ files. IfSome run.input.before (λ bytes. ShowsGames name files bytes run))

@@ -13,6 +13,7 @@ pub mod Fours
 pub mod Threats
 pub mod Solves
 pub mod Brains
+pub mod Games
 pub mod Drills
 -- the list of commands, and what the program does
 pub mod Commands

@@ -10,7 +10,7 @@ ghost use Rattle.renju_cli.specs.Checks.{ShowsWin};
 ghost use Rattle.renju_cli.specs.Fours.{ShowsSearch};
 ghost use Rattle.renju_cli.specs.Threats.{ShowsSequence};
 ghost use Rattle.renju_cli.specs.Solves.{ShowsSolution};
-ghost use Rattle.renju_cli.specs.Brains.{ShowsHeldGames};
+ghost use Rattle.renju_cli.specs.Games.{ShowsHeldGames, ShowsOwnGames};
 ghost use Rattle.renju_cli.specs.Drills.{ShowsDrill};
 ghost use Rattle.renju_cli.specs.Reports.{Report, IsComplete};
 
@@ -52,8 +52,12 @@ pub fn run_renju<I: Source, O: Sink, F: Shelf>(
     // or no room for a table; and where it is sure to find the win.
     ensures solved { ShowsSolution (run_of (map string_bytes words.now) (change I.left I.faults input.old input.new)
         (change O.written O.faults output.old output.new) (change F.files F.faults shelf.old shelf.new) result) }
-    // What `brain FILE` shows: where FILE is a table that is accepted, the games that are played by it are won.
+    // What `brain FILE` shows: where FILE is a table that is accepted, a game by it begins wherever its position is come to, and
+    // the games that are played by it are won.
     ensures held_games { ShowsHeldGames (run_of (map string_bytes words.now) (change I.left I.faults input.old input.new)
+        (change O.written O.faults output.old output.new) (change F.files F.faults shelf.old shelf.new) result) }
+    // What `brain` and `brain FILE` show of the wins by fours that the brain finds itself: the games that are played by them are won.
+    ensures own_games { ShowsOwnGames (run_of (map string_bytes words.now) (change I.left I.faults input.old input.new)
         (change O.written O.faults output.old output.new) (change F.files F.faults shelf.old shelf.new) result) }
     // What status 0 of `drill` shows: the counts of the number, of which there are no others; each table of a win is accepted, and
     // each game is won.

@@ -1,0 +1,147 @@
+-- What runs of `brain` and `brain FILE` show of the games that the brain plays, by a held root and by a win of its own. A session is
+-- seen by the commands of its lines: of those that were answered, and of all others.
+use Rattle.std.specs.Prelude.{◌≡◌, ◌⊎◌, ℕ, ◌≤◌, List, [], ◌∷◌, ◌++◌, map, Option, Some, IfSome, Contains, All}
+use Rattle.strategy_graph.specs.declared.Node.{Node}
+use Rattle.strategy_graph.specs.Tables.{depth}
+use Rattle.strategy_graph.specs.Roots.{RootWins}
+use Rattle.strategy_checker.specs.declared.held.HeldRoot.{HeldRoot}
+use Rattle.strategy_checker.specs.HeldRoots.{HeldTable}
+use Rattle.position_files.specs.declared.TableFile.{TableFile}
+use Rattle.renju_io.specs.Told.{Takes, TakesPart}
+use Rattle.renju_io.specs.Files.{Files}
+use Rattle.gomocup_text.specs.Commands.{commands}
+use Rattle.gomocup_text.specs.declared.Command.{Command as Asked}
+use Rattle.gomocup_text.specs.declared.Answer.{Answer}
+use Rattle.gomocup_text.specs.Answers.{answer_text}
+use Rattle.brain_session.specs.States.{Game, State, new_brain}
+use Rattle.brain_session.specs.ChosenMoves.{root_node}
+use Rattle.brain_session.specs.Steps.{brain_step}
+use Rattle.brain_session.specs.Sessions.{answers_from, answer_texts, state_after}
+use Rattle.brain_session.specs.Serving.{HasNoEnd}
+use Rattle.brain_session.specs.HeldGames.{BeginsHeldGame, HeldGameGoesWell, IsTight}
+use Rattle.brain_session.specs.OwnGames.{BeginsOwnGame, OwnGameGoesWell}
+use Rattle.brain_session.specs.RootGames.{RootsBegin}
+use Rattle.renju_cli.specs.declared.status.Status.TheVariants.{Done, ReadFault, WriteFault}
+use Rattle.renju_cli.specs.Statuses.{status_number}
+use Rattle.renju_cli.specs.Runs.{Run, HasFailed}
+use Rattle.renju_cli.specs.Forms.{HasWords}
+use Rattle.renju_cli.specs.Brains.{brain_words, brain_with_words, IsFileName, nothing_held, held_by, IsSession, IsUnbegun, IsFitFile}
+
+-- the state of a brain that holds this after these commands
+abbrev pub state_told : HeldTable → List Asked → State
+state_told held before = state_after (new_brain held) before
+
+-- Where no END comes before, the answer to c and those to what comes later stand in the answers of the session right behind those to
+-- what came before.
+abbrev pub StandsBehind : HeldTable → List Asked → Asked → List Asked → Answer → Type 0
+StandsBehind held before c later first =
+    HasNoEnd before → answers_from (new_brain held) (before ++ c ∷ later)
+    ≡ answers_from (new_brain held) before ++ first ∷ answers_from (brain_step (state_told held before) c).next later
+
+-- Games by a held root
+
+-- a root, and the number of moves that is named for it
+pub record NamedRoot : Type 0 where
+  pub root : HeldRoot
+  pub moves : ℕ
+
+-- what is held by a table and roots of it
+abbrev pub held_with : List Node → List NamedRoot → HeldTable
+held_with t named = record { table = t; roots = map (λ r. r.root) named }
+
+-- A held game goes well, which the command c begins after others: it is played by the table, and one of the roots leads there to the
+-- node that the brain follows, which is no deeper than the moves that are named for the root.
+pub record GoesWellBy (t : List Node) (named : List NamedRoot) (before : List Asked) (c : Asked) (later : List Asked) (g : Game)
+    (i : ℕ) : Type 0 where
+  pub holds : (state_told (held_with t named) before).held ≡ held_with t named
+  pub goes_well : HeldGameGoesWell (state_told (held_with t named) before) c later g i
+  pub root : NamedRoot
+  pub is_named : Contains named root
+  pub leads : root_node g root.root ≡ Some i
+  pub within : depth t i ≤ root.moves
+  pub stands : StandsBehind (held_with t named) before c later goes_well.first
+
+-- each held game of a session goes well, by whichever of these commands it begins
+abbrev pub GamesGoWell : List Node → List NamedRoot → List Asked → Type 0
+GamesGoWell t named asked =
+    (before : List Asked) (c : Asked) (later : List Asked) (g : Game) (i : ℕ) → asked ≡ before ++ c ∷ later
+    → BeginsHeldGame (state_told (held_with t named) before) c g i → GoesWellBy t named before c later g i
+
+-- What holds of a table and roots of it that are held: each root wins within the moves that are named for it; where the opponent
+-- moves first, none of its moves wins or draws; a game by a root begins wherever a game has come to it; and each goes well,
+-- whatever a session is told.
+pub record PlaysByRoots (t : List Node) (named : List NamedRoot) : Type 0 where
+  pub win : All (λ r. RootWins r.root.kind r.root.root r.moves r.root.board) named
+  pub tight : All (λ r. IsTight r.root.kind r.root.board r.root.root) named
+  pub begin : RootsBegin (held_with t named)
+  pub games : (asked : List Asked) → GamesGoWell t named asked
+
+-- Games by a win of the brain's own
+
+-- A game by a win of the brain's own goes well, which the command c begins after others.
+pub record OwnGoesWellIn (held : HeldTable) (before : List Asked) (c : Asked) (later : List Asked) (g : Game) (m : ℕ) : Type 0 where
+  pub goes_well : OwnGameGoesWell (state_told held before) c later g m
+  pub stands : StandsBehind held before c later goes_well.first
+
+-- each such game of a session goes well, by whichever of these commands it begins
+abbrev pub OwnGamesGoWellIn : HeldTable → List Asked → Type 0
+OwnGamesGoWellIn held asked =
+    (before : List Asked) (c : Asked) (later : List Asked) (g : Game) (m : ℕ) → asked ≡ before ++ c ∷ later
+    → BeginsOwnGame (state_told held before) c g m → OwnGoesWellIn held before c later g m
+
+-- The lines that were answered
+
+-- the output has all that was written, or a write failed after it and a part of one more answer
+abbrev pub EndsWith : Run → Option (List ℕ) → Type 0
+EndsWith run written =
+    (run.output.after ≡ written)
+    ⊎ ((run.status ≡ status_number WriteFault) × ((a : Answer) × TakesPart written (answer_text a) run.output.after))
+
+-- The commands of the first lines of an input of these bytes, whose answers were written whole, whatever the session ended with;
+-- where it ended with status 0 they are those of all lines.
+pub record AnsweredLines (held : HeldTable) (run : Run) (bytes : List ℕ) : Type 0 where
+  pub asked : List Asked
+  pub front : (later : List Asked) × (commands bytes ≡ asked ++ later)
+  pub whole : run.status ≡ status_number Done → commands bytes ≡ asked
+  pub written : Option (List ℕ)
+  pub wrote : Takes run.output.before (answer_texts (answers_from (new_brain held) asked)) written
+  pub ends : EndsWith run written
+
+-- What the clauses say
+
+-- the one root of a text, with the moves that the text names
+abbrev pub named_root : TableFile → NamedRoot
+named_root file = record { root = record { root = file.root; kind = file.kind; board = file.board }; moves = file.moves }
+
+-- What holds where a FILE fits: a brain plays by its root so; and the input was served by it, so that lines were answered, whatever
+-- the session ended with, unless the shelf failed or memory ran out before.
+pub record IsPlayedBy (file : TableFile) (run : Run) : Type 0 where
+  pub plays : PlaysByRoots file.table (named_root file ∷ [])
+  pub ends : IsSession (held_by file) run.input run.output run.status ⊎ HasFailed run.shelf ⊎ IsUnbegun run.input run.output run.status
+  pub answered : IsSession (held_by file) run.input run.output run.status → IfSome run.input.before (AnsweredLines (held_by file) run)
+
+-- Where a session ended, or the input failed, FILE fits; and of each file that fits this holds.
+pub record ShowsGames (name : List ℕ) (files : Files) (run : Run) : Type 0 where
+  pub fits : (run.status ≡ status_number Done) ⊎ (run.status ≡ status_number ReadFault) → (file : TableFile) × IsFitFile name files file
+  pub plays : (file : TableFile) → IsFitFile name files file → IsPlayedBy file run
+
+-- The headline of the brain: what `brain FILE` shows of the games that it plays by FILE, where the shelf tells its files.
+abbrev pub ShowsHeldGames : Run → Type 0
+ShowsHeldGames run =
+    (name : List ℕ) → HasWords run.words (brain_with_words name) (IsFileName name)
+    → IfSome run.shelf.before (λ files. ShowsGames name files run)
+
+-- a brain that holds nothing served the input, so that lines were answered, unless memory ran out before; and each game by a win of
+-- its own goes well, whatever it is told
+pub record PlaysOwnWins (run : Run) : Type 0 where
+  pub games : (asked : List Asked) → OwnGamesGoWellIn nothing_held asked
+  pub ends : IsSession nothing_held run.input run.output run.status ⊎ IsUnbegun run.input run.output run.status
+  pub answered : IsSession nothing_held run.input run.output run.status → IfSome run.input.before (AnsweredLines nothing_held run)
+
+-- What `brain` and `brain FILE` show of the games that the brain plays by wins of its own, of which those of `brain FILE` are games of a
+-- brain that holds a FILE that fits.
+pub record ShowsOwnGames (run : Run) : Type 0 where
+  pub alone : HasWords run.words brain_words (Unit {0}) → PlaysOwnWins run
+  pub with_file : (name : List ℕ) → HasWords run.words (brain_with_words name) (IsFileName name)
+      → IfSome run.shelf.before (λ files. (file : TableFile) → IsFitFile name files file → (asked : List Asked)
+      → OwnGamesGoWellIn (held_by file) asked)
