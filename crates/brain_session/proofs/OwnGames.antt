@@ -15,7 +15,7 @@ use Rattle.game_rules.specs.declared.Outcome.{Outcome}
 use Rattle.game_rules.specs.declared.Outcome.TheVariants.{Refused, Wins as WinsNow, Fouls, Draws, GoesOn}
 use Rattle.game_rules.specs.declared.Point.{Point}
 use Rattle.game_rules.proofs.Boards.{other-other}
-use Rattle.game_rules.proofs.Games.{WinsOr-map, wins_or-WinsOr, each_reply, test-WinsUnder}
+use Rattle.game_rules.proofs.Games.{WinsOr-map, wins_or-WinsOr, each_reply, test-WinsUnder, wins-some}
 use Rattle.game_rules.proofs.Outcomes.{five-outcome}
 use Rattle.game_rules.proofs.Places.{find-passes}
 use Rattle.game_rules.proofs.Positions.{IsPosition-after, mover-then}
@@ -43,10 +43,10 @@ use Rattle.brain_session.specs.Steps.{Step, step_by, with_choice, brain_step}
 use Rattle.brain_session.specs.Sessions.{state_after}
 use Rattle.brain_session.specs.HeldGames.{IsWonWithin, replies, answers_to_replies, answers_by}
 use Rattle.brain_session.specs.OwnGames.{BeginsOwnGame, PlaysWin, win_game, win_attacks, win_answers, OwnGameGoesWell, OwnGamesGoWell}
-use Rattle.brain_session.proofs.OwnWins.{own_win-wins, wins_moves}
+use Rattle.brain_session.proofs.OwnWins.{own_win-wins}
 use Rattle.brain_session.proofs.Courses.{along-lawful, chosen-followed}
 use Rattle.brain_session.proofs.Choosing.{chosen-own}
-use Rattle.brain_session.proofs.HeldSteps.{not_winning, accepted_node}
+use Rattle.strategy_graph.proofs.Fuel.{not_winning, accepted_node}
 use Rattle.brain_session.proofs.FollowedGames.{none_on, foul-later, won-later, state_in, game_then, IsNextTo, IsFollowed, all-go_well}
 use Rattle.brain_session.proofs.LawfulStates.{LawfulState, IsToMove, LawfulRow, row-lawful, session-lawful, new-lawful}
 
@@ -191,7 +191,7 @@ module _ (h : HeldTable) (x : OwnAt) (g : Game) (s : OwnStands x g) (o : outcome
       record {
         next = record { moves = x.moves - 1; at = move.0 };
         stands = record {
-          some = wins_moves g.rule (x.moves - 1) (board_of g2) wins;
+          some = wins-some g.rule (x.moves - 1) (board_of g2) wins;
           chosen_is = move.1;
           lawful = IsPosition-after g.rule (after (board_of g) x.at) q lawful on;
           turn = mover-then g.rule (after (board_of g) x.at) q lawful on ∙ ap other turn ∙ other-other g.brain;
@@ -382,7 +382,7 @@ own_game s c later g m lawful b =
     let move = four_move-some g.rule m (board_of g) wins in
     let x : OwnAt = record { moves = m; at = move.0 } in
     let stands : OwnStands x g = record {
-      some = wins_moves g.rule m
+      some = wins-some g.rule m
           (board_of g) wins;
       chosen_is = move.1;
       lawful = position;

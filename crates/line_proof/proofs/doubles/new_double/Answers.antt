@@ -3,7 +3,7 @@ use Rattle.game_rules.specs.Grid.{Grid}
 use Rattle.line_proof.specs.Doubles.{IsPressed, IsDouble}
 use Rattle.strategy_compiler.proofs.Growing.{writes-fails, writes-nothing, writes-tells}
 use Rattle.line_proof.proofs.Doubling.{double-wins, hint-kept, pressed-wins, told-pressed}
-use Rattle.line_proof.proofs.Gathering.{lower_of}
+use Rattle.strategy_compiler.proofs.Standing.{compiled-lower}
 use Rattle.line_proof.proofs.doubles.new_double.Goals as goal
 
 pub returns-then-not-is_pressed-clause-writes : goal.returns-then-not-is_pressed-clause-writes
@@ -44,5 +44,5 @@ returns-in_ok-double-in-Some-clause-hint g c =
     let b : Grid = g.V.Seen.position c.args.view.now in
     let board : c.board.result.now ≡ b = c.board.ensures.board ∙ c.if-not-is_pressed.ensures.same ∙ c.in_ok-pressing.ensures.same in
     rw c.unwrap_or.ensures (hint-kept b.width b.height c.args.compiler.now c.compile_double.new.compiler 3 c.args.hint.now
-    c.in_ok-double-in-Some.double (lower_of _ c.requires.compiled) c.compile_double.ensures.writes.grows c.requires.hint
+    c.in_ok-double-in-Some.double (compiled-lower _ c.requires.compiled) c.compile_double.ensures.writes.grows c.requires.hint
     (subst (λ (w : Grid). IsDouble w.width w.height c.compile_double.new.compiler c.in_ok-double-in-Some.double) board c.in_ok-double-in-Some.ensures.double))
