@@ -6,3 +6,5 @@ pub mod Holding
 mod Walking
 mod Refusals
 mod Sureness
+-- the replies that are counted and not walked
+mod Counted

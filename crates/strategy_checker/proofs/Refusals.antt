@@ -1,13 +1,16 @@
 -- The verdict on a walk comes where it is to come.
-use Rattle.std.proofs.Common.{◌≡◌, ℕ, ◌+◌, ◌-◌, ◌<◌, List, refl, sym, subst, arith}
-use Rattle.std.specs.Prelude.{Result, Ok, Err, OnOk, IfOk, IfErr}
+use Rattle.std.proofs.Common.{◌≡◌, ℕ, ◌+◌, ◌-◌, ◌<◌, List, reverse, refl, sym, subst, ◌∙◌, arith}
+use Rattle.std.specs.Prelude.{Result, Ok, Err, IfOk}
 use Rattle.game_rules.specs.declared.Point.{Point}
+use Rattle.game_rules.specs.declared.RuleKind.{RuleKind}
+use Rattle.strategy_graph.specs.declared.Node.{Node}
 use Rattle.strategy_graph.specs.declared.Why.{Why}
+use Rattle.strategy_checker.specs.declared.walk.Walk.{Walk}
 use Rattle.strategy_checker.specs.declared.Verdict.{Verdict}
 use Rattle.strategy_checker.specs.declared.Verdict.TheVariants.{Accepted, Refused, Spent}
 use Rattle.strategy_checker.specs.declared.walk.Stop.{Stop}
 use Rattle.strategy_checker.specs.declared.walk.Stop.TheVariants.{Fault, Spent as StopSpent, Memory}
-use Rattle.strategy_checker.specs.Walks.{Stopped}
+use Rattle.strategy_checker.specs.Walks.{Stopped, Walked}
 use Rattle.strategy_checker.specs.Verdicts.{IsRefusal, IsVerdictOn, AcceptsExactly, RefusesRightly, SpendsRightly, IfAccepted}
 
 -- what a verdict says of a root that is accepted where A holds, with n arrivals and so many moves
@@ -42,10 +45,11 @@ module _ (A : Type 0) (L : List Point → Why → Type 0) (n moves start work : 
   })
 
   -- the verdict on a walk says so
-  pub verdict-right : {E : Type 0} (walked : Result (Unit {0}) Stop) (left : ℕ) (line : List Point) (r : Result Verdict E) → OnOk walked A → OnOk walked (left + n ≡ start) → IfErr walked (Stopped (λ w. L line w) (start < n)) → IfOk r (λ v. IsVerdictOn walked moves (work - left) line v) → IfOk r (λ v. IsRight A L n moves work v)
-  verdict-right (Ok done) left line (Ok v) a counted stopped is = acceptance-right left v a counted line is
-  verdict-right (Err stop) left line (Ok v) a counted stopped is = refusal-right stop line v stopped is
-  verdict-right walked left line (Err e) a counted stopped is = tt
+  pub verdict-right : {E : Type 0} (rule : RuleKind) (t : List Node) (old new : Walk) (walked : Result (Unit {0}) Stop) (r : Result Verdict E) → start ≡ old.left → Walked rule t A n L old new walked
+      → IfOk r (λ v. IsVerdictOn walked moves (work - new.left) (reverse new.line) v) → IfOk r (λ v. IsRight A L n moves work v)
+  verdict-right rule t old new (Ok done) (Ok v) from did is = acceptance-right new.left v did.0 (did.1.counted ∙ sym from) (reverse new.line) is
+  verdict-right rule t old new (Err stop) (Ok v) from did is = refusal-right stop (reverse new.line) v (subst (λ (k : ℕ). Stopped (λ w. L (reverse new.line) w) (k < n) stop) (sym from) did) is
+  verdict-right rule t old new walked (Err e) from did is = tt
 
 -- what follows from being accepted follows from a verdict that accepts
 pub accepts-then : (A : Type 0) (L : List Point → Why → Type 0) (n moves work : ℕ) (W : ℕ → Type 0) → (A → W moves) → (v : Verdict) → IsRight A L n moves work v → IfAccepted (λ m count. W m) v

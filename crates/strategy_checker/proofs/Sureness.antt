@@ -1,10 +1,11 @@
 -- A node that is sure wins after each reply that goes on elsewhere: its attack stays a five point.
-use Rattle.std.proofs.Common.{◌≡◌, ℕ, true, refl, sym, ap, ◌∙◌, arith, List, nat_eq}
+use Rattle.std.proofs.Common.{◌≡◌, ℕ, true, false, refl, sym, ap, subst, ◌∙◌, arith, List, nat_eq}
 use Rattle.std.specs.Prelude.{Option, Some, None, IfSome, slice_get}
 use Rattle.std.specs.Option.{option_map}
 use Rattle.std.proofs.lemmas.Bool.Decides.{nat_tests}
 use Rattle.std.proofs.lemmas.Bool.{not-true}
 use Rattle.game_rules.specs.Grid.{Grid}
+use Rattle.game_rules.specs.Games.{five_points, has_five}
 use Rattle.game_rules.specs.Shapes.{five}
 use Rattle.game_rules.specs.Play.{IsPosition, outcome, mover, other, after}
 use Rattle.game_rules.specs.declared.RuleKind.{RuleKind}
@@ -12,17 +13,21 @@ use Rattle.game_rules.specs.declared.Outcome.TheVariants.{Wins, GoesOn}
 use Rattle.game_rules.specs.declared.Side.{Side}
 use Rattle.game_rules.specs.declared.Point.{Point}
 use Rattle.game_rules.proofs.Boards.{and_left, and_right, Apart}
-use Rattle.game_rules.proofs.Points.{is_same_point-apart}
+use Rattle.game_rules.proofs.Points.{is_same_point-apart, is_same_point-same}
 use Rattle.game_rules.proofs.Fives.{five-other}
 use Rattle.game_rules.proofs.Positions.{GoesOn-empty, mover-then}
 use Rattle.game_rules.proofs.Outcomes.{five-outcome}
+use Rattle.row_shapes.specs.FivePoints.{in_short}
+use Rattle.row_shapes.specs.declared.fives.FivePoints.{FivePoints}
+use Rattle.row_shapes.specs.declared.fives.FivePoints.TheVariants.{None as NoPoint, One, Several}
+use Rattle.row_shapes.proofs.FiveLaws.{has_five-none, none-left as no-left, one-taken}
 use Rattle.strategy_graph.specs.declared.Node.{Node}
 use Rattle.strategy_graph.specs.Acceptance.{Accepted}
 use Rattle.strategy_graph.specs.Arrivals.{arrivals}
 use Rattle.strategy_graph.proofs.Filling.{IsTable-lower}
 use Rattle.strategy_graph.proofs.Steps.{accepted-by-win, arrivals-one}
 use Rattle.strategy_checker.specs.declared.walk.Sure.{Sure}
-use Rattle.strategy_checker.specs.Walks.{IsSure, is_sure_after}
+use Rattle.strategy_checker.specs.Walks.{IsSure, TellsFives, is_sure_after, leaves_none}
 
 module _ (rule : RuleKind) (t : List Node) (b : Grid) (q : Point) (lawful : IsPosition rule b) (on : outcome rule b q ≡ GoesOn) where
   -- a five point of the side that is not to move wins after a reply elsewhere
@@ -52,3 +57,15 @@ module _ (rule : RuleKind) (t : List Node) (b : Grid) (q : Point) (lawful : IsPo
         let wins : outcome rule (after b q) n.attack ≡ Wins = ap (outcome rule (after b q)) attack ∙ outcome-after s.attack is.five_point apart in
         let lower = IsTable-lower t is.table in
         (accepted-by-win rule t lower i (after b q) n at wins, arrivals-one rule t lower i (after b q) n at Wins wins (λ e. cc))
+
+-- what is told of the five points of the side that moved last, with the move of the other side after it
+pub none-left : (rule : RuleKind) (b : Grid) (p : Point) → IsPosition rule b → outcome rule b p ≡ GoesOn → (fives : Option FivePoints) → TellsFives rule b fives → leaves_none fives p ≡ true
+    → has_five rule (after b p) (mover (after b p)) ≡ false
+none-left rule b p lawful on fives told h =
+    subst (λ (s : Side). has_five rule (after b p) s ≡ false) (sym (mover-then rule b p lawful on))
+    (has_five-none rule (after b p) (other (mover b)) (by_told fives told h)) where
+      by_told : (fives : Option FivePoints) → TellsFives rule b fives → leaves_none fives p ≡ true → in_short (five_points rule (after b p) (other (mover b))) ≡ NoPoint
+      by_told None told h = cc
+      by_told (Some NoPoint) told h = no-left rule b (mover b) p lawful.board (GoesOn-empty rule b p on) (sym told)
+      by_told (Some (One w)) told h = one-taken rule b (mover b) p lawful.board (GoesOn-empty rule b p on) w (sym told) (sym (is_same_point-same w p h))
+      by_told (Some Several) told h = cc

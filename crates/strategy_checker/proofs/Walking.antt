@@ -1,6 +1,6 @@
--- A move played and taken back, what a stop says once a move is noted, and the replies that are left.
-use Rattle.std.proofs.Common.{◌≡◌, ℕ, ◌+◌, false, List, [], ◌∷◌, ◌++◌, reverse, sym, ap, ◌∙◌}
-use Rattle.std.specs.Prelude.{Option, Some, slice_get, Result, Ok, Err, OnOk}
+-- A move played and taken back, what a step of a walk did once a move is noted, and one reply after another.
+use Rattle.std.proofs.Common.{◌≡◌, ℕ, zero, suc, ◌+◌, ◌<◌, ◌≤◌, false, drop, List, [], ◌∷◌, ◌++◌, reverse, refl, sym, ap, subst, ◌∙◌, arith}
+use Rattle.std.specs.Prelude.{Option, Some, slice_get, Result, Ok, Err}
 use Rattle.std.specs.List.{All, sum_by}
 use Rattle.std.proofs.lemmas.List.{reverse-append}
 use Rattle.std.proofs.lemmas.List.Elements.{All-cons, All-nil}
@@ -16,11 +16,15 @@ use Rattle.game_rules.proofs.Positions.{IsPosition-after, GoesOn-empty}
 use Rattle.strategy_graph.specs.declared.Node.{Node}
 use Rattle.strategy_graph.specs.declared.Why.{Why}
 use Rattle.strategy_graph.specs.Tables.{Answers, answers_of, answer, is_winning}
+use Rattle.strategy_graph.specs.Acceptance.{Accepted, Meets}
+use Rattle.strategy_graph.specs.Arrivals.{arrivals, arrivals_at}
 use Rattle.strategy_graph.specs.Leads.{attack_fault, reply_fault, Leads, LeadsStart}
-use Rattle.strategy_graph.proofs.Steps.{leads-attack, leads-fault, leads-reply}
+use Rattle.strategy_graph.proofs.Steps.{leads-attack, leads-reply}
 use Rattle.strategy_checker.specs.declared.walk.Stop.{Stop}
 use Rattle.strategy_checker.specs.declared.walk.Stop.TheVariants.{Fault, Spent, Memory}
-use Rattle.strategy_checker.specs.Walks.{Stopped, IsNoted}
+use Rattle.position_table.specs.Remembering.{Remembered}
+use Rattle.strategy_checker.specs.declared.walk.Walk.{Walk}
+use Rattle.strategy_checker.specs.Walks.{Stopped, IsNoted, IsReady, IsTrueMemo, NotesAt, Takes, Walked, WalkedNode, WalkedReply}
 
 -- ---- a move that goes on, played and taken back
 
@@ -34,61 +38,133 @@ module _ (rule : RuleKind) (b : Grid) (p : Point) (lawful : IsPosition rule b) (
 -- ---- stops
 
 -- a fault of the move p itself
-pub fault-stops : (L : List Point → Why → Type 0) (S : Type 0) (p : Point) (old new : List Point) (why : Why) (stop : Stop) → old ≡ [] → L (p ∷ []) why → IsNoted p old new (Fault why) stop → Stopped (λ w. L (reverse new) w) S stop
-fault-stops L S p old new why (Fault w) none here noted =
-    let new_is : new ≡ p ∷ [] = noted.1 ∙ ap (λ l. l ++ p ∷ []) none in
+pub fault-stops : (rule : RuleKind) (t : List Node) (A : Type 0) (n : ℕ) (L : List Point → Why → Type 0) (p : Point) (why : Why) (old new : Walk) (stop : Stop)
+    → old.line ≡ [] → L (p ∷ []) why → IsNoted p old.line new.line (Fault why) stop → Walked rule t A n L old new (Err stop)
+fault-stops rule t A n L p why old new (Fault w) none here noted =
+    let new_is : new.line ≡ p ∷ [] = noted.1 ∙ ap (λ l. l ++ p ∷ []) none in
     rw (new_is, noted.0) here
-fault-stops L S p old new why Spent none here noted = absurd noted
-fault-stops L S p old new why Memory none here noted = tt
+fault-stops rule t A n L p why old new Spent none here noted = absurd noted
+fault-stops rule t A n L p why old new Memory none here noted = tt
 
--- a stop behind the move p
-pub noted-stops : (L M : List Point → Why → Type 0) (S T : Type 0) (p : Point) (old new : List Point) (stop last : Stop) → ((line : List Point) (why : Why) → L line why → M (p ∷ line) why) → (S → T) → Stopped (λ w. L (reverse old) w) S stop → IsNoted p old new stop last → Stopped (λ w. M (reverse new) w) T last
-noted-stops L M S T p old new (Fault why) (Fault w) leads short inner noted =
-    let new_is : reverse new ≡ p ∷ reverse old = ap reverse noted.1 ∙ reverse-append old (p ∷ []) in
-    rw (new_is, noted.0) (leads (reverse old) why inner)
-noted-stops L M S T p old new (Fault why) Spent leads short inner noted = absurd noted
-noted-stops L M S T p old new (Fault why) Memory leads short inner noted = tt
-noted-stops L M S T p old new Spent last leads short inner noted = rw noted (short inner)
-noted-stops L M S T p old new Memory last leads short inner noted = rw noted tt
+-- ---- steps
 
--- what a stop says, said in other words
-pub stops-map : (F G : Why → Type 0) (S T : Type 0) (stop : Stop) → ((why : Why) → F why → G why) → (S → T) → Stopped F S stop → Stopped G T stop
-stops-map F G S T (Fault why) faulty short h = faulty why h
-stops-map F G S T Spent faulty short h = short h
-stops-map F G S T Memory faulty short h = tt
+-- a step behind k arrivals, said in other words
+pub walked-then : (rule : RuleKind) (t : List Node) (B C : Type 0) (k m n : ℕ) (L M : List Point → Why → Type 0) (old mid new : Walk) (r : Result (Unit {0}) Stop)
+    → old.left ≡ mid.left + k → n ≡ k + m → (B → C) → ((line : List Point) (why : Why) → L line why → M line why)
+    → Walked rule t B m L mid new r → Walked rule t C n M old new r
+walked-then rule t B C k m n L M old mid new (Ok done) before all f leads walked =
+    let counted = walked.1.counted in
+    (f walked.0, record { counted = omega (arith, counted, before, all); no_line = walked.1.no_line; memo = walked.1.memo })
+walked-then rule t B C k m n L M old mid new (Err (Fault why)) before all f leads h = leads (reverse new.line) why h
+walked-then rule t B C k m n L M old mid new (Err Spent) before all f leads h = omega (arith, h, before, all)
+walked-then rule t B C k m n L M old mid new (Err Memory) before all f leads h = tt
+
+-- a stop behind k arrivals, where more are behind it
+pub walked-stops : (rule : RuleKind) (t : List Node) (B C : Type 0) (k m n : ℕ) (L : List Point → Why → Type 0) (old mid new : Walk) (stop : Stop)
+    → old.left ≡ mid.left + k → k + m ≤ n → Walked rule t B m L mid new (Err stop) → Walked rule t C n L old new (Err stop)
+walked-stops rule t B C k m n L old mid new (Fault why) before most h = h
+walked-stops rule t B C k m n L old mid new Spent before most h = omega (arith, h, before, most)
+walked-stops rule t B C k m n L old mid new Memory before most h = tt
+
+-- arrivals that are taken
+pub taken : (rule : RuleKind) (t : List Node) (A : Type 0) (n : ℕ) (L : List Point → Why → Type 0) (old new : Walk) (r : Result (Unit {0}) Stop)
+    → old.line ≡ [] → IsTrueMemo rule t old.memo → A → Takes n old new r → Walked rule t A n L old new r
+taken rule t A n L old new (Ok done) none memo a takes = (
+  a,
+  record {
+    counted = sym (ap (λ (w : Walk). w.left) takes);
+    no_line = sym (ap (λ (w : Walk). w.line) takes) ∙ none;
+    memo = subst (λ (m : Remembered ℕ). IsTrueMemo rule t m) (ap (λ (w : Walk). w.memo) takes) memo;
+  },
+)
+taken rule t A n L old new (Err stop) none memo a takes = rw takes.0 takes.1
+
+-- a walk that has taken arrivals may step on
+pub taken-ready : (rule : RuleKind) (t : List Node) (b : Grid) (n : ℕ) (old new : Walk) → IsReady rule t b old → Takes n old new (Ok tt) → IsReady rule t b new
+taken-ready rule t b n old new ready takes =
+    let did = (taken rule t (Unit {0}) n (λ line why. ⊥) old new (Ok tt) ready.no_line ready.memo tt takes).1 in
+    record { lawful = ready.lawful; no_line = did.no_line; memo = did.memo }
+
+-- a stop where arrivals were to be taken
+pub taken-short : (rule : RuleKind) (t : List Node) (A : Type 0) (k n : ℕ) (L : List Point → Why → Type 0) (old new : Walk) (stop : Stop)
+    → k ≤ n → Takes k old new (Err stop) → Walked rule t A n L old new (Err stop)
+taken-short rule t A k n L old new stop least takes = let short = takes.1 in rw takes.0 (omega (arith, short, least))
+
+-- what came of a walk behind the move p, which took k arrivals, once p is noted
+pub noted-then : (rule : RuleKind) (t : List Node) (B C : Type 0) (k m n : ℕ) (L M : List Point → Why → Type 0) (p : Point) (old mid late new : Walk) (r s : Result (Unit {0}) Stop)
+    → old.left ≡ mid.left + k → n ≡ k + m → (B → C) → ((line : List Point) (why : Why) → L line why → M (p ∷ line) why)
+    → Walked rule t B m L mid late r → NotesAt p late new r s → Walked rule t C n M old new s
+noted-then rule t B C k m n L M p old mid late new (Ok done) s before all f leads walked noted =
+    rw (noted.0, noted.1) (walked-then rule t B C k m n L L old mid late (Ok done) before all f (λ line why l. l) walked)
+noted-then rule t B C k m n L M p old mid late new (Err (Fault why)) (Err (Fault w)) before all f leads h noted =
+    let new_is : reverse new.line ≡ p ∷ reverse late.line = ap reverse noted.1 ∙ reverse-append late.line (p ∷ []) in
+    rw (new_is, noted.0) (leads (reverse late.line) why h)
+noted-then rule t B C k m n L M p old mid late new (Err (Fault why)) (Err Spent) before all f leads h noted = absurd noted
+noted-then rule t B C k m n L M p old mid late new (Err (Fault why)) (Err Memory) before all f leads h noted = tt
+noted-then rule t B C k m n L M p old mid late new (Err Spent) (Err last) before all f leads h noted = rw noted (omega (arith, h, before, all))
+noted-then rule t B C k m n L M p old mid late new (Err Memory) (Err last) before all f leads h noted = rw noted tt
+noted-then rule t B C k m n L M p old mid late new (Err stop) (Ok done) before all f leads h noted = absurd noted
 
 -- ---- faults
 
-pub attack-leads : (rule : RuleKind) (t : List Node) (i : ℕ) (b : Grid) (n : Node) (why : Why) (u : Outcome) → slice_get t i ≡ Some n → u ≡ outcome rule b n.attack → attack_fault u n.rest ≡ Some why → Leads rule t i b (n.attack ∷ []) why
-attack-leads rule t i b n why u at o h = leads-attack rule t i b n why at (ap (λ (v : Outcome). attack_fault v n.rest) (sym o) ∙ h)
-
-pub reply-leads : (rule : RuleKind) (t : List Node) (a : Answers) (c : Grid) (q : Point) (why : Why) (u : Outcome) (o : Option ℕ) → u ≡ outcome rule c q → o ≡ answer a q → reply_fault u o ≡ Some why → LeadsStart rule t a c (q ∷ []) why
-reply-leads rule t a c q why u o e w h = leads-fault rule t a c q why (ap (λ (v : Outcome). reply_fault v (answer a q)) (sym e) ∙ ap (λ (v : Option ℕ). reply_fault u v) (sym w) ∙ h)
+-- a fault of the attack
+pub attack-stops : (rule : RuleKind) (t : List Node) (i : ℕ) (b : Grid) (n : Node) (why : Why) (u : Outcome) (old new : Walk) (stop : Stop)
+    → slice_get t i ≡ Some n → u ≡ outcome rule b n.attack → attack_fault u n.rest ≡ Some why
+    → old.line ≡ [] → IsNoted n.attack old.line new.line (Fault why) stop → WalkedNode rule t i b old new (Err stop)
+attack-stops rule t i b n why u old new stop at o h none noted =
+    fault-stops rule t (Accepted rule t i b) (arrivals rule t i b) (Leads rule t i b) n.attack why old new stop none
+    (leads-attack rule t i b n why at (ap (λ (v : Outcome). attack_fault v n.rest) (sym o) ∙ h)) noted
 
 -- an attack that goes on, and a line from one of the replies to it
 pub attack-then-leads : (rule : RuleKind) (t : List Node) (i : ℕ) (b : Grid) (n : Node) (line : List Point) (why : Why) → slice_get t i ≡ Some n → outcome rule b n.attack ≡ GoesOn → is_winning n.rest ≡ false → LeadsStart rule t (answers_of n) (after b n.attack) line why → Leads rule t i b (n.attack ∷ line) why
 attack-then-leads rule t i b n [] why at on more h = absurd h
 attack-then-leads rule t i b n (q ∷ line) why at on more h = leads-reply rule t i b n q line why at on more h
 
--- ---- the replies that are left
+-- ---- one reply after another
 
-pub All-first : (P : Point → Type 0) (q : Point) (qs more : List Point) → qs ≡ q ∷ more → P q → All P more → All P qs
-All-first P q qs more e here later = rw e (All-cons P q more here later)
+-- a walk over points that are named by the items of a list: what is left of them, and what it did so far
+pub record Going {X : Type 0} (at : X → Point) (rule : RuleKind) (t : List Node) (a : Answers) (b : Grid) (all left : List X) (old now : Walk) : Type 0 where
+  pub counted : now.left + sum_by (λ x. arrivals_at rule a (arrivals rule t) b (at x)) all ≡ old.left + sum_by (λ x. arrivals_at rule a (arrivals rule t) b (at x)) left
+  pub met : All (λ x. Meets rule a (Accepted rule t) b (at x)) left → All (λ x. Meets rule a (Accepted rule t) b (at x)) all
+  pub ready : IsReady rule t b now
 
-pub sum-first : (f : Point → ℕ) (q : Point) (qs more : List Point) → qs ≡ q ∷ more → sum_by f qs ≡ f q + sum_by f more
-sum-first f q qs more e = ap (sum_by f) e ∙ sum_by-cons f q more
+module _ {X : Type 0} (at : X → Point) (rule : RuleKind) (t : List Node) (a : Answers) (b : Grid) (all : List X) (x : X) (left more : List X) (first : left ≡ x ∷ more) (old now next : Walk) (so_far : Going at rule t a b all left old now) where
+  split : sum_by (λ x. arrivals_at rule a (arrivals rule t) b (at x)) left ≡ arrivals_at rule a (arrivals rule t) b (at x) + sum_by (λ x. arrivals_at rule a (arrivals rule t) b (at x)) more
+  split = ap (sum_by (λ x. arrivals_at rule a (arrivals rule t) b (at x))) first ∙ sum_by-cons (λ x. arrivals_at rule a (arrivals rule t) b (at x)) x more
 
-pub All-none : (P : Point → Type 0) (qs : List Point) → qs ≡ [] → All P qs
-All-none P qs e = rw e (All-nil P)
+  pub going-on : WalkedReply rule t a b (at x) now next (Ok tt) → Going at rule t a b all more old next
+  going-on walked =
+      let before = so_far.counted in
+      let counted = walked.1.counted in
+      record {
+        counted = omega (arith, before, split, counted);
+        met = λ later. so_far.met (rw first (All-cons (λ x. Meets rule a (Accepted rule t) b (at x)) x more walked.0 later));
+        ready = record { lawful = so_far.ready.lawful; no_line = walked.1.no_line; memo = walked.1.memo };
+      }
 
--- ---- what holds of a call that succeeds
+  pub going-stops : (A : Type 0) (stop : Stop) → WalkedReply rule t a b (at x) now next (Err stop) → Walked rule t A (sum_by (λ x. arrivals_at rule a (arrivals rule t) b (at x)) all) (LeadsStart rule t a b) old next (Err stop)
+  going-stops A (Fault why) h = h
+  going-stops A Spent h = let before = so_far.counted in omega (arith, before, split, h)
+  going-stops A Memory h = tt
 
--- what holds in any case
-pub on-ok : {A E : Type 0} (r : Result A E) (P : Type 0) → P → OnOk r P
-on-ok (Ok a) P p = p
-on-ok (Err e) P p = tt
+-- at the end each is met
+pub going-done : {X : Type 0} (at : X → Point) (rule : RuleKind) (t : List Node) (a : Answers) (b : Grid) (all left : List X) (old now : Walk)
+    → left ≡ [] → Going at rule t a b all left old now
+    → Walked rule t (All (λ x. Meets rule a (Accepted rule t) b (at x)) all) (sum_by (λ x. arrivals_at rule a (arrivals rule t) b (at x)) all) (LeadsStart rule t a b) old now (Ok tt)
+going-done at rule t a b all left old now none so_far =
+    let before = so_far.counted in
+    let nothing : sum_by (λ x. arrivals_at rule a (arrivals rule t) b (at x)) left ≡ 0 = rw none refl in (
+      so_far.met (rw none (All-nil (λ x. Meets rule a (Accepted rule t) b (at x)))),
+      record { counted = omega (arith, before, nothing); no_line = so_far.ready.no_line; memo = so_far.ready.memo },
+    )
 
--- what follows
-pub on-ok-map : {A E : Type 0} (r : Result A E) (P Q : Type 0) → (P → Q) → OnOk r P → OnOk r Q
-on-ok-map (Ok a) P Q f p = f p
-on-ok-map (Err e) P Q f p = tt
+-- ---- the items of a list from one on
+
+pub drop-none : {X : Type 0} (xs : List X) → drop 0 xs ≡ xs
+drop-none [] = refl
+drop-none (x ∷ xs) = refl
+
+pub drop-at : {X : Type 0} (xs : List X) (i : ℕ) (x : X) → slice_get xs i ≡ Some x → drop i xs ≡ x ∷ drop (i + 1) xs
+drop-at [] i x h = cc
+drop-at (y ∷ ys) zero x h = let same : y ≡ x = cc in ap (λ z. z ∷ ys) same ∙ ap (λ zs. x ∷ zs) (sym (drop-none ys))
+drop-at (y ∷ ys) (suc i) x h = let e : suc i + 1 ≡ suc (i + 1) = omega arith in drop-at ys i x h ∙ ap (λ k. x ∷ drop k (y ∷ ys)) (sym e)

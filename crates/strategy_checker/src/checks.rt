@@ -59,7 +59,7 @@ pub fn check<R: Rule>(
     let _mover = position.side();
     let moves = table.depth(root)?;
     let mut walk = Walk::new(alloc, work);
-    let walked = walk.visit(table, root, position);
+    let walked = walk.visit_node(table, root, position);
     verdict(alloc, walked, &walk, moves, work)
 }
 

@@ -174,9 +174,7 @@ fn checked_moves<R: Rule>(
         (IfRootSpent (work < root_arrivals R.KIND table.now root.now position.old)) }
     ensures same { position.new ≡ position.old }
 {
-    let Ok(moves) = table.root_depth(root) else {
-        return Err(HeldError::Memory);
-    };
+    let moves = table.root_depth(root).unwrap();
     match check_root(alloc, table, root, moves, position, work) {
         Ok(Verdict::Accepted { moves, arrivals: _ }) => Ok(moves),
         Ok(Verdict::Refused { line, why }) => Err(HeldError::Refused { line, why }),

@@ -8,6 +8,7 @@
 
 mod checks;
 mod held;
+mod others;
 #[cfg(test)]
 mod tests;
 mod walk;

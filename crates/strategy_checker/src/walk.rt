@@ -2,27 +2,36 @@
 //!
 //! The walk goes through the games that the table plays: one recursion for each attack, so that it is no deeper than the
 //! points of the board allow, however long the table is. It plays and takes back on the position that it was lent. A
-//! node that was walked through at the same position before is not walked again, where the memo has the pair. Where the
-//! attack of the node of the rest is a five point already before the replies, that is asked once, and those that this node
-//! answers are counted without being played, all but one on that point. A fault ends the walk, and the moves that led there
-//! are noted on the way back, the last one first.
+//! node that was walked through at the same position before is not walked again, where the memo has the pair.
+//!
+//! Where the attack of the node of the rest is a five point already before the replies, that is asked once. If the side to
+//! reply has no five point then, most replies are met at once: they go on, and that node wins. They are counted without being
+//! asked, and only those that are listed, and the one on that point, are walked. Whether a side has a five point is known from
+//! its last reply, which made it, so that no board is scanned but the first.
+//!
+//! A fault ends the walk, and the moves that led there are noted on the way back, the last one first.
 #![tactic(auto)]
 
-ghost use Rattle.std.specs.Prelude.{◌≡◌, ◌<◌, ◌+◌, ◌^◌, [], true, false, List, length, reverse, slice_get, Some, IfErr, IfSome, OnOk};
-ghost use Rattle.game_rules.specs.Play.{IsPosition, after, outcome};
+ghost use Rattle.std.specs.Prelude.{◌≡◌, ◌<◌, ◌+◌, [], true, false, List, length, slice_get, Some, IfErr, IfSome, OnOk};
+ghost use Rattle.std.specs.List.{All, sum_by};
+ghost use Rattle.game_rules.specs.Grid.{is_empty, empties_of, put};
+ghost use Rattle.game_rules.specs.Games.{has_five, five_points};
+ghost use Rattle.game_rules.specs.Play.{IsPosition, after, outcome, mover, other};
 ghost use Rattle.game_rules.specs.declared.RuleKind.{RuleKind as AnyRule};
-ghost use Rattle.strategy_graph.specs.Tables.{Answers, IsTable, answer as answer_lem, is_winning, names_below, rest_node};
+ghost use Rattle.strategy_graph.specs.Tables.{Answers, IsTable, answer as answer_lem, is_rising, is_winning, names_below, rest_node};
 ghost use Rattle.strategy_graph.specs.declared.Node.{Node as AnyNode};
-ghost use Rattle.strategy_graph.specs.Acceptance.{Accepted, AcceptedStart, Meets};
-ghost use Rattle.strategy_graph.specs.Arrivals.{arrivals, arrivals_after, arrivals_at, start_arrivals};
-ghost use Rattle.strategy_graph.specs.Leads.{Leads, LeadsStart};
+ghost use Rattle.strategy_graph.specs.Acceptance.{Accepted, Meets};
+ghost use Rattle.strategy_graph.specs.Arrivals.{arrivals, arrivals_at, start_arrivals};
+ghost use Rattle.strategy_graph.specs.Acceptance.{AcceptedStart};
+ghost use Rattle.strategy_graph.specs.Leads.{LeadsStart};
 ghost use Rattle.strategy_graph.specs.Roots.{AcceptedRoot, LeadsRoot, root_arrivals, root_below};
-ghost use Rattle.strategy_checker.specs.Walks.{Stopped, IsNoted, IsSure, IsTrueMemo, is_sure_after};
+ghost use Rattle.strategy_checker.specs.Walks.{IsNoted, IsOutlook, IsReady, IsSure, IsTrueMemo, NotesAt, Takes, TellsFives, Walked, WalkedNode, WalkedReplies, WalkedReply, is_sure_after, leaves_none as leaves_none_lem};
 
 use crate::Why;
+use crate::others::{is_listed, others_going_on};
 use foul_judge::{Outcome, Position, Seen};
 use position_table::LateTable;
-use row_shapes::Rule;
+use row_shapes::{FivePoints, Rule};
 use std::alloc::Global;
 use stone_board::{Point, Points};
 use strategy_graph::{Node, Replies, Rest, Root, Start, Table, answer_among};
@@ -58,6 +67,22 @@ pub(crate) struct Walk {
     memo: LateTable,
 }
 
+/// What is known of the replies at a position before any is asked.
+#[derive(Clone, Copy)]
+struct Outlook {
+    /// The side to move has no five point. Where this is not set, nothing is said.
+    free: bool,
+    /// The node of the rest, where it is sure.
+    sure: Option<Sure>,
+}
+
+/// A node whose attack is a five point of the side that is not to move: it wins after each reply that goes on elsewhere.
+#[derive(Clone, Copy)]
+struct Sure {
+    node: u32,
+    attack: Point,
+}
+
 impl Walk {
     /// A walk with so many arrivals at most. It takes no memory.
     pub(crate) fn new(alloc: Global, work: u64) -> Walk
@@ -72,78 +97,115 @@ impl Walk {
         }
     }
 
+    /// Walks from a root at a position, which is the same afterwards.
+    pub(crate) fn visit_root<R: Rule>(
+        &mut self,
+        table: &Table,
+        root: &Root,
+        position: &mut Position<R>,
+    ) -> Result<(), Stop>
+        requires below { root_below root.now (length table.now) ≡ true }
+        requires ready { IsReady R.KIND table.now position.old self.old }
+        ensures walked { Walked R.KIND table.now (AcceptedRoot R.KIND table.now root.now position.old)
+            (root_arrivals R.KIND table.now root.now position.old)
+            (LeadsRoot R.KIND table.now root.now position.old) self.old self.new result }
+        ensures same { position.new ≡ position.old }
+    {
+        match root {
+            Root::Attack(number) => self.visit_node(table, *number, position),
+            Root::Defend(start) => self.visit_start(table, start, position),
+        }
+    }
+
     /// Walks from a node at a position, which is the same afterwards.
-    #[cycle(walk)]
-    pub(crate) fn visit<R: Rule>(
+    pub(crate) fn visit_node<R: Rule>(
         &mut self,
         table: &Table,
         i: u32,
         position: &mut Position<R>,
     ) -> Result<(), Stop>
         requires in_table { i < length table.now }
-        requires lawful { IsPosition R.KIND position.old }
-        requires no_line { self.old.line ≡ [] }
-        requires memo { IsTrueMemo R.KIND table.now self.old.memo }
-        ensures accepted { OnOk result (Accepted R.KIND table.now i position.old) }
-        ensures counted { OnOk result
-            (self.new.left + arrivals R.KIND table.now i position.old ≡ self.old.left) }
-        ensures no_line { OnOk result (self.new.line ≡ []) }
-        ensures memo { OnOk result (IsTrueMemo R.KIND table.now self.new.memo) }
-        ensures stopped { IfErr result (Stopped
-            (λ why. Leads R.KIND table.now i position.old (reverse self.new.line) why)
-            (self.old.left < arrivals R.KIND table.now i position.old)) }
+        requires ready { IsReady R.KIND table.now position.old self.old }
+        ensures walked { WalkedNode R.KIND table.now i position.old self.old self.new result }
         ensures same { position.new ≡ position.old }
     {
-        self.arrive()?;
+        let fives = position.fives_in_short(position.side().other());
+        self.visit(table, i, Some(fives), position)
+    }
+
+    /// Walks from a start at a position, which is the same afterwards.
+    pub(crate) fn visit_start<R: Rule>(
+        &mut self,
+        table: &Table,
+        start: &Start,
+        position: &mut Position<R>,
+    ) -> Result<(), Stop>
+        requires below { names_below start.now (length table.now) ≡ true }
+        requires ready { IsReady R.KIND table.now position.old self.old }
+        ensures walked { Walked R.KIND table.now (AcceptedStart R.KIND table.now start.now position.old)
+            (start_arrivals R.KIND table.now start.now position.old)
+            (LeadsStart R.KIND table.now start.now position.old) self.old self.new result }
+        ensures same { position.new ≡ position.old }
+    {
+        self.take(1)?;
+        let free = !position.has_five(position.side());
+        self.meet_all(table, start.replies(), start.rest(), free, position)
+    }
+
+    /// Walks from a node at a position, which is the same afterwards. `fives` tells the five points of the side that is not
+    /// to move, where they are known.
+    #[cycle(walk)]
+    fn visit<R: Rule>(
+        &mut self,
+        table: &Table,
+        i: u32,
+        fives: Option<FivePoints>,
+        position: &mut Position<R>,
+    ) -> Result<(), Stop>
+        requires in_table { i < length table.now }
+        requires ready { IsReady R.KIND table.now position.old self.old }
+        requires fives { TellsFives R.KIND position.old fives }
+        ensures walked { WalkedNode R.KIND table.now i position.old self.old self.new result }
+        ensures same { position.new ≡ position.old }
+    {
         let node = table.node(i);
         match position.outcome(node.attack) {
             Outcome::Refused => Err(self.fault(node.attack, Why::AttackRefused)),
-            Outcome::Wins => Ok(()),
+            Outcome::Wins => self.take(1),
             Outcome::Fouls(_) => Err(self.fault(node.attack, Why::AttackFouls)),
             Outcome::Draws => Err(self.fault(node.attack, Why::AttackDraws)),
             Outcome::GoesOn => {
                 if node.rest.is_winning() {
                     return Err(self.fault(node.attack, Why::NotWon));
                 }
-                self.go_on(table, i, node, position)
+                self.go_on(table, i, node, fives, position)
             }
         }
     }
 
-    /// Walks on from a node that was arrived at, whose attack goes on. Where the memo has the node at the position, its
-    /// arrivals are taken at once. The position is the same afterwards.
+    /// Walks on from a node whose attack goes on. Where the memo has the node at the position, its arrivals are taken at once.
+    /// The position is the same afterwards.
     #[cycle(walk)]
     fn go_on<R: Rule>(
         &mut self,
         table: &Table,
         i: u32,
         node: &Node,
+        fives: Option<FivePoints>,
         position: &mut Position<R>,
     ) -> Result<(), Stop>
         requires table { IsTable table.now }
         requires node { slice_get table.now i ≡ Some node.now }
         requires goes_on { outcome R.KIND position.old node.now.attack ≡ Outcome.GoesOn }
         requires more { is_winning node.now.rest ≡ false }
-        requires lawful { IsPosition R.KIND position.old }
-        requires no_line { self.old.line ≡ [] }
-        requires memo { IsTrueMemo R.KIND table.now self.old.memo }
-        requires fits { self.old.left + 1 < 2 ^ 64 }
-        ensures accepted { OnOk result (Accepted R.KIND table.now i position.old) }
-        ensures counted { OnOk result
-            (self.new.left + arrivals R.KIND table.now i position.old ≡ self.old.left + 1) }
-        ensures no_line { OnOk result (self.new.line ≡ []) }
-        ensures memo { OnOk result (IsTrueMemo R.KIND table.now self.new.memo) }
-        ensures stopped { IfErr result (Stopped
-            (λ why. Leads R.KIND table.now i position.old (reverse self.new.line) why)
-            (self.old.left + 1 < arrivals R.KIND table.now i position.old)) }
+        requires ready { IsReady R.KIND table.now position.old self.old }
+        requires fives { TellsFives R.KIND position.old fives }
+        ensures walked { WalkedNode R.KIND table.now i position.old self.old self.new result }
         ensures same { position.new ≡ position.old }
     {
         match self.memo.find(position.board(), i) {
-            Some(arrivals) => {
-                let others = arrivals - 1;
-                self.take(others)
-            }
-            None => self.attack(table, i, node, position),
+            Some(arrivals) => self.take(arrivals),
+            None => self.attack(table, i, node, fives, position),
         }
     }
 
@@ -155,120 +217,138 @@ impl Walk {
         table: &Table,
         i: u32,
         node: &Node,
+        fives: Option<FivePoints>,
         position: &mut Position<R>,
     ) -> Result<(), Stop>
         requires table { IsTable table.now }
         requires node { slice_get table.now i ≡ Some node.now }
         requires goes_on { outcome R.KIND position.old node.now.attack ≡ Outcome.GoesOn }
         requires more { is_winning node.now.rest ≡ false }
-        requires lawful { IsPosition R.KIND position.old }
-        requires no_line { self.old.line ≡ [] }
-        requires memo { IsTrueMemo R.KIND table.now self.old.memo }
-        requires fits { self.old.left + 1 < 2 ^ 64 }
-        ensures accepted { OnOk result (Accepted R.KIND table.now i position.old) }
-        ensures counted { OnOk result
-            (self.new.left + arrivals R.KIND table.now i position.old ≡ self.old.left + 1) }
-        ensures no_line { OnOk result (self.new.line ≡ []) }
-        ensures memo { OnOk result (IsTrueMemo R.KIND table.now self.new.memo) }
-        ensures stopped { IfErr result (Stopped
-            (λ why. Leads R.KIND table.now i position.old (reverse self.new.line) why)
-            (self.old.left + 1 < arrivals R.KIND table.now i position.old)) }
+        requires ready { IsReady R.KIND table.now position.old self.old }
+        requires fives { TellsFives R.KIND position.old fives }
+        ensures walked { WalkedNode R.KIND table.now i position.old self.old self.new result }
         ensures same { position.new ≡ position.old }
     {
-        let before = self.left + 1;
+        let before = self.left;
+        self.take(1)?;
+        let free = leaves_none(fives, node.attack);
         position.play(node.attack);
-        let met = self.meet_all(table, &node.replies, node.rest, position);
+        let met = self.meet_all(table, &node.replies, node.rest, free, position);
         position.undo(node.attack);
         match met {
             Ok(()) => {
-                let arrivals = before - self.left;
-                self.memo.keep(position.board(), i, arrivals);
+                self.memo.keep(position.board(), i, before - self.left);
                 Ok(())
             }
-            Err(stop) => Err(self.noted(node.attack, stop)),
-        }
-    }
-
-    /// Walks from a start at a position, which is the same afterwards.
-    pub(crate) fn visit_start<R: Rule>(
-        &mut self,
-        table: &Table,
-        start: &Start,
-        position: &mut Position<R>,
-    ) -> Result<(), Stop>
-        requires below { names_below start.now (length table.now) ≡ true }
-        requires lawful { IsPosition R.KIND position.old }
-        requires no_line { self.old.line ≡ [] }
-        requires memo { IsTrueMemo R.KIND table.now self.old.memo }
-        ensures accepted { OnOk result (AcceptedStart R.KIND table.now start.now position.old) }
-        ensures counted { OnOk result
-            (self.new.left + start_arrivals R.KIND table.now start.now position.old
-            ≡ self.old.left) }
-        ensures stopped { IfErr result (Stopped
-            (λ why. LeadsStart R.KIND table.now start.now position.old (reverse self.new.line) why)
-            (self.old.left < start_arrivals R.KIND table.now start.now position.old)) }
-        ensures same { position.new ≡ position.old }
-    {
-        self.arrive()?;
-        self.meet_all(table, start.replies(), start.rest(), position)
-    }
-
-    /// Walks from a root at a position, which is the same afterwards.
-    pub(crate) fn visit_root<R: Rule>(
-        &mut self,
-        table: &Table,
-        root: &Root,
-        position: &mut Position<R>,
-    ) -> Result<(), Stop>
-        requires below { root_below root.now (length table.now) ≡ true }
-        requires lawful { IsPosition R.KIND position.old }
-        requires no_line { self.old.line ≡ [] }
-        requires memo { IsTrueMemo R.KIND table.now self.old.memo }
-        ensures accepted { OnOk result (AcceptedRoot R.KIND table.now root.now position.old) }
-        ensures counted { OnOk result
-            (self.new.left + root_arrivals R.KIND table.now root.now position.old ≡ self.old.left) }
-        ensures stopped { IfErr result (Stopped
-            (λ why. LeadsRoot R.KIND table.now root.now position.old (reverse self.new.line) why)
-            (self.old.left < root_arrivals R.KIND table.now root.now position.old)) }
-        ensures same { position.new ≡ position.old }
-    {
-        match root {
-            Root::Attack(number) => self.visit(table, *number, position),
-            Root::Defend(start) => self.visit_start(table, start, position),
+            Err(stop) => self.noted(node.attack, Err(stop)),
         }
     }
 
     /// Walks on from each reply at a position, which is the same afterwards. The replies that are listed and the rest say what
-    /// answers them.
+    /// answers them. `free` says that the side to move has no five point, where that is known.
     #[cycle(walk)]
     fn meet_all<R: Rule>(
         &mut self,
         table: &Table,
         replies: &Replies,
         rest: Rest,
+        free: bool,
         position: &mut Position<R>,
     ) -> Result<(), Stop>
-        requires below { names_below (record { replies = replies.now; rest = rest })
-            (length table.now) ≡ true }
-        requires lawful { IsPosition R.KIND position.old }
-        requires no_line { self.old.line ≡ [] }
-        requires memo { IsTrueMemo R.KIND table.now self.old.memo }
-        ensures accepted { OnOk result
-            (AcceptedStart R.KIND table.now
-            (record { replies = replies.now; rest = rest }) position.old) }
-        ensures counted { OnOk result
-            (self.new.left + arrivals_after R.KIND (record { replies = replies.now; rest = rest })
-            (arrivals R.KIND table.now) position.old ≡ self.old.left) }
-        ensures no_line { OnOk result (self.new.line ≡ []) }
-        ensures memo { OnOk result (IsTrueMemo R.KIND table.now self.new.memo) }
-        ensures stopped { IfErr result (Stopped
-            (λ why. LeadsStart R.KIND table.now (record { replies = replies.now; rest = rest }) position.old (reverse self.new.line) why)
-            (self.old.left < arrivals_after R.KIND (record { replies = replies.now; rest = rest }) (arrivals R.KIND table.now) position.old)) }
+        requires below { names_below (record { replies = replies.now; rest = rest }) (length table.now) ≡ true }
+        requires rising { is_rising replies.now ≡ true }
+        requires ready { IsReady R.KIND table.now position.old self.old }
+        requires free { free ≡ true → has_five R.KIND position.old (mover position.old) ≡ false }
+        ensures walked { WalkedReplies R.KIND table.now (record { replies = replies.now; rest = rest }) position.old self.old self.new result }
         ensures same { position.new ≡ position.old }
     {
         let sure = sure_answer(table, rest, position);
+        let outlook = Outlook { free, sure };
+        match sure {
+            Some(found) if free && position.board().empties() > 1 => {
+                self.meet_most(table, replies, rest, found, position)
+            }
+            _ => self.meet_each(table, replies, rest, outlook, position),
+        }
+    }
+
+    /// Walks on from the replies one after another.
+    #[cycle(walk)]
+    fn meet_each<R: Rule>(
+        &mut self,
+        table: &Table,
+        replies: &Replies,
+        rest: Rest,
+        outlook: Outlook,
+        position: &mut Position<R>,
+    ) -> Result<(), Stop>
+        requires below { names_below (record { replies = replies.now; rest = rest }) (length table.now) ≡ true }
+        requires ready { IsReady R.KIND table.now position.old self.old }
+        requires outlook { IsOutlook R.KIND table.now position.old outlook }
+        ensures walked { WalkedReplies R.KIND table.now (record { replies = replies.now; rest = rest }) position.old self.old self.new result }
+        ensures same { position.new ≡ position.old }
+    {
         for q in position.board().points() {
-            self.meet(table, replies, rest, sure, position, q)?;
+            self.meet(table, replies, rest, outlook, position, q)?;
+        }
+        Ok(())
+    }
+
+    /// Walks on from the replies where the side to move has no five point, and the node of the rest is sure. Only the replies
+    /// that are listed, and the one on the attack of that node, are walked. Each other one that goes on is one arrival.
+    #[cycle(walk)]
+    fn meet_most<R: Rule>(
+        &mut self,
+        table: &Table,
+        replies: &Replies,
+        rest: Rest,
+        sure: Sure,
+        position: &mut Position<R>,
+    ) -> Result<(), Stop>
+        requires below { names_below (record { replies = replies.now; rest = rest }) (length table.now) ≡ true }
+        requires rising { is_rising replies.now ≡ true }
+        requires ready { IsReady R.KIND table.now position.old self.old }
+        requires free { has_five R.KIND position.old (mover position.old) ≡ false }
+        requires sure { IsSure R.KIND table.now position.old sure }
+        requires rest { rest_node rest ≡ Some sure.node }
+        requires more { 1 < empties_of position.old }
+        ensures walked { WalkedReplies R.KIND table.now (record { replies = replies.now; rest = rest }) position.old self.old self.new result }
+        ensures same { position.new ≡ position.old }
+    {
+        let others = others_going_on(position, replies, sure.attack);
+        self.take(others as u64)?;
+        let outlook = Outlook {
+            free: true,
+            sure: Some(sure),
+        };
+        self.meet_listed(table, replies, rest, outlook, position)?;
+        if is_listed(replies, sure.attack) {
+            return Ok(());
+        }
+        self.meet(table, replies, rest, outlook, position, sure.attack)
+    }
+
+    /// Walks on from the replies that are listed.
+    #[cycle(walk)]
+    fn meet_listed<R: Rule>(
+        &mut self,
+        table: &Table,
+        replies: &Replies,
+        rest: Rest,
+        outlook: Outlook,
+        position: &mut Position<R>,
+    ) -> Result<(), Stop>
+        requires below { names_below (record { replies = replies.now; rest = rest }) (length table.now) ≡ true }
+        requires ready { IsReady R.KIND table.now position.old self.old }
+        requires outlook { IsOutlook R.KIND table.now position.old outlook }
+        ensures walked { Walked R.KIND table.now
+            (All (λ r. Meets R.KIND (record { replies = replies.now; rest = rest }) (Accepted R.KIND table.now) position.old r.at) replies.now)
+            (sum_by (λ r. arrivals_at R.KIND (record { replies = replies.now; rest = rest }) (arrivals R.KIND table.now) position.old r.at) replies.now)
+            (LeadsStart R.KIND table.now (record { replies = replies.now; rest = rest }) position.old) self.old self.new result }
+        ensures same { position.new ≡ position.old }
+    {
+        for i in 0..replies.len() {
+            self.meet(table, replies, rest, outlook, position, replies.at(i).at)?;
         }
         Ok(())
     }
@@ -281,27 +361,14 @@ impl Walk {
         table: &Table,
         replies: &Replies,
         rest: Rest,
-        sure: Option<Sure>,
+        outlook: Outlook,
         position: &mut Position<R>,
         q: Point,
     ) -> Result<(), Stop>
-        requires below { names_below (record { replies = replies.now; rest = rest })
-            (length table.now) ≡ true }
-        requires lawful { IsPosition R.KIND position.old }
-        requires no_line { self.old.line ≡ [] }
-        requires memo { IsTrueMemo R.KIND table.now self.old.memo }
-        requires sure { IfSome sure (IsSure R.KIND table.now position.old) }
-        ensures met { OnOk result
-            (Meets R.KIND (record { replies = replies.now; rest = rest })
-            (Accepted R.KIND table.now) position.old q) }
-        ensures counted { OnOk result
-            (self.new.left + arrivals_at R.KIND (record { replies = replies.now; rest = rest })
-            (arrivals R.KIND table.now) position.old q ≡ self.old.left) }
-        ensures no_line { OnOk result (self.new.line ≡ []) }
-        ensures memo { OnOk result (IsTrueMemo R.KIND table.now self.new.memo) }
-        ensures stopped { IfErr result (Stopped
-            (λ why. LeadsStart R.KIND table.now (record { replies = replies.now; rest = rest }) position.old (reverse self.new.line) why)
-            (self.old.left < arrivals_at R.KIND (record { replies = replies.now; rest = rest }) (arrivals R.KIND table.now) position.old q)) }
+        requires below { names_below (record { replies = replies.now; rest = rest }) (length table.now) ≡ true }
+        requires ready { IsReady R.KIND table.now position.old self.old }
+        requires outlook { IsOutlook R.KIND table.now position.old outlook }
+        ensures walked { WalkedReply R.KIND table.now (record { replies = replies.now; rest = rest }) position.old q self.old self.new result }
         ensures same { position.new ≡ position.old }
     {
         match position.outcome(q) {
@@ -312,10 +379,10 @@ impl Walk {
             Outcome::GoesOn => match answer_among(replies, rest, q) {
                 None => Err(self.fault(q, Why::NoAnswer)),
                 Some(next) => {
-                    if wins_for_sure(sure, next, q) {
-                        self.arrive()
+                    if wins_for_sure(outlook.sure, next, q) {
+                        self.take(1)
                     } else {
-                        self.answer(table, next, position, q)
+                        self.answer(table, next, outlook.free, position, q)
                     }
                 }
             },
@@ -328,56 +395,29 @@ impl Walk {
         &mut self,
         table: &Table,
         next: u32,
+        free: bool,
         position: &mut Position<R>,
         q: Point,
     ) -> Result<(), Stop>
         requires in_table { next < length table.now }
         requires goes_on { outcome R.KIND position.old q ≡ Outcome.GoesOn }
-        requires lawful { IsPosition R.KIND position.old }
-        requires no_line { self.old.line ≡ [] }
-        requires memo { IsTrueMemo R.KIND table.now self.old.memo }
-        ensures accepted { OnOk result (Accepted R.KIND table.now next (after position.old q)) }
-        ensures counted { OnOk result
-            (self.new.left + arrivals R.KIND table.now next (after position.old q) ≡ self.old.left) }
-        ensures no_line { OnOk result (self.new.line ≡ []) }
-        ensures memo { OnOk result (IsTrueMemo R.KIND table.now self.new.memo) }
+        requires ready { IsReady R.KIND table.now position.old self.old }
+        requires free { free ≡ true → has_five R.KIND position.old (mover position.old) ≡ false }
 
-        // The line leads to the fault from all answers that answer the reply by this node.
-        ensures stopped { IfErr result (Stopped
-            (λ why. (a : Answers) → answer_lem a q ≡ Some next → LeadsStart R.KIND table.now a position.old (reverse self.new.line) why)
-            (self.old.left < arrivals R.KIND table.now next (after position.old q))) }
+        // The same by all answers that answer the reply by this node.
+        ensures walked { (a : Answers) → answer_lem a q ≡ Some next → WalkedReply R.KIND table.now a position.old q self.old self.new result }
         ensures same { position.new ≡ position.old }
     {
+        let fives = made_by(free, position, q);
         position.play(q);
-        let walked = self.visit(table, next, position);
+        let walked = self.visit(table, next, fives, position);
         position.undo(q);
-        match walked {
-            Ok(()) => Ok(()),
-            Err(stop) => Err(self.noted(q, stop)),
-        }
-    }
-
-    /// Counts one arrival.
-    fn arrive(&mut self) -> Result<(), Stop>
-        ensures counted { OnOk result (self.new.left + 1 ≡ self.old.left) }
-        ensures stopped { IfErr result (Stopped (λ why. ⊥) (self.old.left ≡ 0)) }
-        ensures line { self.new.line ≡ self.old.line }
-        ensures memo { self.new.memo ≡ self.old.memo }
-        ensures fits { OnOk result (self.new.left + 1 < 2 ^ 64) }
-    {
-        if self.left == 0 {
-            return Err(Stop::Spent);
-        }
-        self.left -= 1;
-        Ok(())
+        self.noted(q, walked)
     }
 
     /// Counts so many arrivals at once.
     fn take(&mut self, arrivals: u64) -> Result<(), Stop>
-        ensures counted { OnOk result (self.new.left + arrivals ≡ self.old.left) }
-        ensures stopped { IfErr result (Stopped (λ why. ⊥) (self.old.left < arrivals)) }
-        ensures line { self.new.line ≡ self.old.line }
-        ensures memo { self.new.memo ≡ self.old.memo }
+        ensures takes { Takes arrivals self.old self.new result }
     {
         if self.left < arrivals {
             return Err(Stop::Spent);
@@ -389,7 +429,6 @@ impl Walk {
     /// The stop at a fault of the move `p`, which is noted.
     fn fault(&mut self, p: Point, why: Why) -> Stop
         ensures noted { IsNoted p self.old.line self.new.line (Stop.Fault why) result }
-        ensures left { self.new.left ≡ self.old.left }
     {
         match self.line.push(p) {
             Ok(()) => Stop::Fault(why),
@@ -397,30 +436,49 @@ impl Walk {
         }
     }
 
-    /// The stop after the move `p`, which is noted where it led to a fault.
-    fn noted(&mut self, p: Point, stop: Stop) -> Stop
-        ensures noted { IsNoted p self.old.line self.new.line stop result }
-        ensures left { self.new.left ≡ self.old.left }
+    /// What came of a walk behind the move `p`, which is noted where it led to a fault.
+    fn noted(&mut self, p: Point, walked: Result<(), Stop>) -> Result<(), Stop>
+        ensures noted { NotesAt p self.old self.new walked result }
     {
-        match stop {
-            Stop::Fault(why) => self.fault(p, why),
-            Stop::Spent => Stop::Spent,
-            Stop::Memory => Stop::Memory,
+        match walked {
+            Ok(()) => Ok(()),
+            Err(Stop::Fault(why)) => Err(self.fault(p, why)),
+            Err(stop) => Err(stop),
         }
     }
 }
 
-/// A node whose attack is a five point of the side that is not to move: it wins after each reply that goes on elsewhere.
-#[derive(Clone, Copy)]
-struct Sure {
-    node: u32,
-    attack: Point,
+/// The five points that the reply `q` makes, where the side to move is known to have none before it.
+fn made_by<R: Rule>(free: bool, position: &Position<R>, q: Point) -> Option<FivePoints>
+    requires lawful { IsPosition R.KIND position.now }
+    requires free { free ≡ true → has_five R.KIND position.now (mover position.now) ≡ false }
+    requires goes_on { outcome R.KIND position.now q ≡ Outcome.GoesOn }
+    ensures fives { TellsFives R.KIND (after position.now q) result }
+{
+    if free {
+        Some(position.fives_made(q))
+    } else {
+        None
+    }
+}
+
+/// Whether a stone of the other side on `p` leaves none of the five points that are told.
+fn leaves_none(fives: Option<FivePoints>, p: Point) -> bool
+    ensures none { result ≡ leaves_none_lem fives p }
+{
+    match fives {
+        None => false,
+        Some(FivePoints::None) => true,
+        Some(FivePoints::One(w)) => w.x == p.x && w.y == p.y,
+        Some(FivePoints::Several) => false,
+    }
 }
 
 /// The node of the rest, where its attack is a five point of the side that is not to move.
 fn sure_answer<R: Rule>(table: &Table, rest: Rest, position: &Position<R>) -> Option<Sure>
     requires below { IfSome (rest_node rest) (λ j. j < length table.now) }
     ensures sure { IfSome result (IsSure R.KIND table.now position.now) }
+    ensures rest { IfSome result (λ s. rest_node rest ≡ Some s.node) }
 {
     let node = rest.node()?;
     let attack = table.node(node).attack;

@@ -1,5 +1,5 @@
 -- What the verdict says, by what the walk found.
-use Rattle.std.proofs.Common.{rules, reverse, sym, subst, ℕ}
+use Rattle.std.proofs.Common.{rules, refl, sym, subst, ℕ}
 use Rattle.std.proofs.lemmas.Result.{IfOk-weaker}
 use Rattle.game_rules.specs.Games.{WinsWithin}
 use Rattle.strategy_graph.specs.Acceptance.{Accepted}
@@ -13,7 +13,7 @@ use Rattle.strategy_checker.proofs.checks.check.Goals as goal
 pub returns : goal.returns
 returns g c =
     let right = verdict-right (Accepted g.R.Rule.KIND c.args.table.now c.args.root c.args.position.now) (Leads g.R.Rule.KIND c.args.table.now c.args.root c.args.position.now) (arrivals g.R.Rule.KIND c.args.table.now c.args.root c.args.position.now) c.in_ok-moves.moves c.new-walk.result.left c.args.work c.new-walk.ensures.left (leads-refutes g.R.Rule.KIND c.args.table.now c.args.root c.args.position.now)
-    c.visit-walked.result c.visit-walked.new.self.left (reverse c.visit-walked.new.self.line) c.verdict.result c.visit-walked.ensures.accepted c.visit-walked.ensures.counted c.visit-walked.ensures.stopped c.verdict.ensures.verdict in
+    g.R.Rule.KIND c.args.table.now c.new-walk.result c.visit_node-walked.new.self c.visit_node-walked.result c.verdict.result refl c.visit_node-walked.ensures.walked c.verdict.ensures.verdict in
     record {
       accepted = IfOk-weaker c.verdict.result _ _ (λ v r. r.accepts) right;
       moves = search rules;
@@ -22,5 +22,5 @@ returns g c =
       refused = IfOk-weaker c.verdict.result _ _ (λ v r. r.refuses) right;
       leads = search rules;
       spent = IfOk-weaker c.verdict.result _ _ (λ v r. r.spends) right;
-      same = c.visit-walked.ensures.same;
+      same = c.visit_node-walked.ensures.same;
     }

@@ -1,5 +1,5 @@
 -- What the verdict says, by what the walk found.
-use Rattle.std.proofs.Common.{rules, reverse, sym, subst, ℕ}
+use Rattle.std.proofs.Common.{rules, refl, sym, subst, ℕ}
 use Rattle.std.proofs.lemmas.Result.{IfOk-weaker}
 use Rattle.strategy_graph.specs.Roots.{AcceptedRoot, LeadsRoot, RootWins, root_arrivals}
 use Rattle.strategy_graph.proofs.RootLaws.{accepted-root-wins, leads-refutes-root}
@@ -9,7 +9,7 @@ use Rattle.strategy_checker.proofs.checks.check_root.Goals as goal
 pub returns : goal.returns
 returns g c =
     let right = verdict-right (AcceptedRoot g.R.Rule.KIND c.args.table.now c.args.root.now c.args.position.now) (LeadsRoot g.R.Rule.KIND c.args.table.now c.args.root.now c.args.position.now) (root_arrivals g.R.Rule.KIND c.args.table.now c.args.root.now c.args.position.now) c.args.moves c.new-walk.result.left c.args.work c.new-walk.ensures.left (leads-refutes-root g.R.Rule.KIND c.args.table.now c.args.root.now c.args.position.now)
-    c.visit_root-walked.result c.visit_root-walked.new.self.left (reverse c.visit_root-walked.new.self.line) c.verdict.result c.visit_root-walked.ensures.accepted c.visit_root-walked.ensures.counted c.visit_root-walked.ensures.stopped c.verdict.ensures.verdict in
+    g.R.Rule.KIND c.args.table.now c.new-walk.result c.visit_root-walked.new.self c.visit_root-walked.result c.verdict.result refl c.visit_root-walked.ensures.walked c.verdict.ensures.verdict in
     record {
       accepted = IfOk-weaker c.verdict.result _ _ (λ v r. r.accepts) right;
       moves = search rules;

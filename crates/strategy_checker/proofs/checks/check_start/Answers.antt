@@ -1,5 +1,5 @@
 -- What the verdict says, by what the walk found.
-use Rattle.std.proofs.Common.{rules, reverse, sym, subst, ℕ}
+use Rattle.std.proofs.Common.{rules, refl, sym, subst, ℕ}
 use Rattle.std.proofs.lemmas.Result.{IfOk-weaker}
 use Rattle.game_rules.specs.Games.{WinsAfter}
 use Rattle.strategy_graph.specs.Acceptance.{AcceptedStart}
@@ -13,7 +13,7 @@ use Rattle.strategy_checker.proofs.checks.check_start.Goals as goal
 pub returns : goal.returns
 returns g c =
     let right = verdict-right (AcceptedStart g.R.Rule.KIND c.args.table.now c.args.start.now c.args.position.now) (LeadsStart g.R.Rule.KIND c.args.table.now c.args.start.now c.args.position.now) (start_arrivals g.R.Rule.KIND c.args.table.now c.args.start.now c.args.position.now) c.in_ok-moves.moves c.new-walk.result.left c.args.work c.new-walk.ensures.left (leads-refutes-start g.R.Rule.KIND c.args.table.now c.args.start.now c.args.position.now)
-    c.visit_start-walked.result c.visit_start-walked.new.self.left (reverse c.visit_start-walked.new.self.line) c.verdict.result c.visit_start-walked.ensures.accepted c.visit_start-walked.ensures.counted c.visit_start-walked.ensures.stopped c.verdict.ensures.verdict in
+    g.R.Rule.KIND c.args.table.now c.new-walk.result c.visit_start-walked.new.self c.visit_start-walked.result c.verdict.result refl c.visit_start-walked.ensures.walked c.verdict.ensures.verdict in
     record {
       accepted = IfOk-weaker c.verdict.result _ _ (λ v r. r.accepts) right;
       moves = search rules;

@@ -1,17 +1,23 @@
-use Rattle.std.proofs.Common.{rules, ◌≡◌, Bool, ◌+◌, ◌-◌, ◌*◌, ◌<◌, ℕ, [], true, false, length, reverse, refl, inl, sym, ap, subst, ◌∙◌, arith}
-use Rattle.std.specs.Prelude.{Some, None, if◌then◌else◌}
+use Rattle.std.proofs.Common.{rules, ◌≡◌, Bool, ◌+◌, ◌-◌, ◌*◌, ◌<◌, ◌≤◌, ℕ, zero, cond, [], true, false, length, drop, reverse, refl, inl, sym, ap, subst, ◌∙◌, arith}
+use Rattle.std.specs.Prelude.{List, ◌∷◌, slice_get, Some, None, Ok, Err, if◌then◌else◌}
+use Rattle.std.specs.List.{All, sum_by}
+use Rattle.std.proofs.lemmas.List.{drop_all}
 use Rattle.std.proofs.lemmas.Option.{slice_get_within}
-use Rattle.std.proofs.lemmas.Result.{err_from_is_err_and, IfErr-weaker}
-use Rattle.game_rules.specs.Grid.{Grid, empties_of}
-use Rattle.game_rules.specs.Play.{IsPosition, outcome, after}
+use Rattle.std.proofs.lemmas.Result.{err_from_is_err_and}
+use Rattle.game_rules.specs.Grid.{Grid, empties_of, points_of}
+use Rattle.game_rules.specs.Games.{has_five}
+use Rattle.game_rules.specs.Play.{IsPosition, mover, outcome, after}
 use Rattle.game_rules.specs.declared.Outcome.TheVariants.{Refused, Wins, Fouls, Draws, GoesOn}
 use Rattle.game_rules.specs.declared.Point.{Point}
+use Rattle.game_rules.specs.declared.RuleKind.{RuleKind}
 use Rattle.position_table.specs.Packing.{packed}
 use Rattle.position_table.specs.Remembering.{Remembered}
 use Rattle.game_rules.proofs.Undo.{stone_back, lift_back, unwon_back}
 use Rattle.strategy_graph.specs.declared.Node.{Node}
+use Rattle.strategy_graph.specs.declared.Reply.{Reply}
+use Rattle.strategy_graph.specs.declared.Why.{Why}
 use Rattle.strategy_graph.specs.declared.Why.TheVariants.{AttackRefused, AttackFouls, AttackDraws, NotWon}
-use Rattle.strategy_graph.specs.Tables.{Answers, answers_of, answer, is_winning, names_below}
+use Rattle.strategy_graph.specs.Tables.{Answers, IsTable, answers_of, answer, is_rising, is_winning, names_below}
 use Rattle.strategy_graph.specs.Acceptance.{Accepted, AcceptedStart, Meets}
 use Rattle.strategy_graph.specs.Arrivals.{arrivals, arrivals_after, arrivals_at}
 use Rattle.strategy_graph.specs.Leads.{Leads, LeadsStart}
@@ -19,10 +25,13 @@ use Rattle.strategy_graph.proofs.Filling.{IsTable-lower}
 use Rattle.strategy_graph.proofs.Growth.{names_below-more}
 use Rattle.strategy_graph.proofs.Answering.{answer-below}
 use Rattle.strategy_graph.proofs.Steps.{arrivals-positive, accepted-by-win, accepted-by-replies, arrivals-by-replies, arrivals-one, arrivals-answer, met-answer, met-all, leads-answer}
-use Rattle.strategy_checker.proofs.Walking.{played-lawful, played-fewer, fault-stops, noted-stops, stops-map, attack-leads, attack-then-leads, All-first, All-none, sum-first, on-ok, on-ok-map}
+use Rattle.strategy_checker.specs.declared.walk.Outlook.{Outlook}
+use Rattle.strategy_checker.specs.declared.walk.Walk.{Walk}
+use Rattle.strategy_checker.specs.Walks.{IsOutlook, IsReady, IsTrueMemo, IsWalked, TellsFives, Walked, WalkedNode, WalkedReplies, WalkedReply}
+use Rattle.strategy_checker.proofs.Walking.{played-lawful, played-fewer, fault-stops, noted-then, taken, taken-ready, taken-short, walked-then, walked-stops, attack-stops, attack-then-leads, going-on, going-stops, going-done, drop-at}
+use Rattle.strategy_checker.proofs.Counted.{arrivals-most, met-most, is_listed}
 use Rattle.position_table.proofs.Remembering.{true-looked, true-kept, true-found}
-use Rattle.strategy_checker.proofs.Sureness.{sure-accepted}
-use Rattle.strategy_checker.specs.Walks.{IsTrueMemo, IsWalked}
+use Rattle.strategy_checker.proofs.Sureness.{sure-accepted, none-left}
 use Rattle.strategy_checker.proofs.walk.Walk.+walk.Goals as goal
 
 -- ---- the answer to a reply
@@ -32,55 +41,47 @@ answer-visit-walked-requires g t c κs within =
     let b : Grid = c.args.position.now in
     let on : outcome g.R.Rule.KIND b c.args.q ≡ GoesOn = c.requires.goes_on in
     let there : c.play.new.self ≡ after b c.args.q = c.play.ensures.played in
-    let lawful : IsPosition g.R.Rule.KIND c.play.new.self = played-lawful g.R.Rule.KIND b c.args.q c.requires.lawful on c.play.new.self there in
-    let fewer = played-fewer g.R.Rule.KIND b c.args.q c.requires.lawful on c.play.new.self there in
-    let less : 6 * empties_of c.play.new.self + 2 < 6 * empties_of b + 3 = omega (arith, fewer) in
+    let fewer = played-fewer g.R.Rule.KIND b c.args.q c.requires.ready.lawful on c.play.new.self there in
+    let less : 8 * empties_of c.play.new.self + 2 < 8 * empties_of b + 3 = omega (arith, fewer) in
+    let ready : IsReady g.R.Rule.KIND c.args.table.now c.play.new.self c.args.self.now = record {
+      lawful = played-lawful g.R.Rule.KIND b c.args.q c.requires.ready.lawful on c.play.new.self there;
+      no_line = c.requires.ready.no_line;
+      memo = c.requires.ready.memo;
+    } in
+    let fives : TellsFives g.R.Rule.KIND c.play.new.self c.made_by-fives.result = rw there c.made_by-fives.ensures.fives in
     search rules
 
 pub answer-undo-requires-clause-stone : goal.answer-undo-requires-clause-stone
 answer-undo-requires-clause-stone g t c =
-    stone_back g.R.Rule.KIND c.args.position.now _ c.args.q c.requires.lawful c.requires.goes_on
+    stone_back g.R.Rule.KIND c.args.position.now _ c.args.q c.requires.ready.lawful c.requires.goes_on
     (c.visit-walked.ensures.same ∙ c.play.ensures.played)
 
 pub answer-undo-requires-clause-unwon : goal.answer-undo-requires-clause-unwon
 answer-undo-requires-clause-unwon g t c =
-    unwon_back g.R.Rule.KIND c.args.position.now _ c.args.q c.requires.lawful c.requires.goes_on
+    unwon_back g.R.Rule.KIND c.args.position.now _ c.args.q c.requires.ready.lawful c.requires.goes_on
     (c.visit-walked.ensures.same ∙ c.play.ensures.played)
 
-pub answer-returns-in-Ok-clause-accepted : goal.answer-returns-in-Ok-clause-accepted
-answer-returns-in-Ok-clause-accepted g t c =
-    subst (Accepted g.R.Rule.KIND c.args.table.now c.args.next) c.play.ensures.played c.in-Ok.ensures.accepted
-
-pub answer-returns-in-Ok-clause-counted : goal.answer-returns-in-Ok-clause-counted
-answer-returns-in-Ok-clause-counted g t c =
-    subst (λ (w : Grid). c.visit-walked.new.self.left + arrivals g.R.Rule.KIND c.args.table.now c.args.next w ≡ c.args.self.now.left) c.play.ensures.played c.in-Ok.ensures.counted
-
-pub answer-returns-in-Ok-clause-same : goal.answer-returns-in-Ok-clause-same
-answer-returns-in-Ok-clause-same g t c =
-    c.undo.ensures.undone
-    ∙ lift_back g.R.Rule.KIND c.args.position.now _ c.args.q c.requires.lawful c.requires.goes_on
-    (c.visit-walked.ensures.same ∙ c.play.ensures.played)
-
-pub answer-returns-in-Err-clause-stopped : goal.answer-returns-in-Err-clause-stopped
-answer-returns-in-Err-clause-stopped g t c =
+pub answer-returns-clause-walked : goal.answer-returns-clause-walked
+answer-returns-clause-walked g t c =
+    λ a answered.
+    let rule : RuleKind = g.R.Rule.KIND in
     let b : Grid = c.args.position.now in
-    let there : c.play.new.self ≡ after b c.args.q = c.play.ensures.played in
-    noted-stops
-    (Leads g.R.Rule.KIND c.args.table.now c.args.next c.play.new.self)
-    (λ line why. (a : Answers) → answer a c.args.q ≡ Some c.args.next → LeadsStart g.R.Rule.KIND c.args.table.now a b line why)
-    (c.args.self.now.left < arrivals g.R.Rule.KIND c.args.table.now c.args.next c.play.new.self)
-    (c.args.self.now.left < arrivals g.R.Rule.KIND c.args.table.now c.args.next (after b c.args.q))
-    c.args.q c.visit-walked.new.self.line c.noted.new.self.line c.in-Err.stop c.noted.result
-    (λ line why leads a answered. leads-answer g.R.Rule.KIND c.args.table.now a b c.args.q c.args.next line why c.requires.goes_on answered
-    (subst (λ (w : Grid). Leads g.R.Rule.KIND c.args.table.now c.args.next w line why) there leads))
-    (λ short. rw (← there) short)
-    c.in-Err.ensures.stopped
+    let j : ℕ = c.args.next in
+    let one = arrivals-answer rule c.args.table.now a b c.args.q j c.requires.goes_on answered in
+    noted-then rule c.args.table.now (Accepted rule c.args.table.now j (after b c.args.q)) (Meets rule a (Accepted rule c.args.table.now) b c.args.q)
+    0 (arrivals rule c.args.table.now j (after b c.args.q)) (arrivals_at rule a (arrivals rule c.args.table.now) b c.args.q)
+    (Leads rule c.args.table.now j (after b c.args.q)) (LeadsStart rule c.args.table.now a b)
+    c.args.q c.args.self.now c.args.self.now c.visit-walked.new.self c.noted.new.self c.visit-walked.result c.noted.result
+    (omega arith) (omega (arith, one))
+    (met-answer rule c.args.table.now a b c.args.q j c.requires.goes_on answered)
+    (λ line why leads. leads-answer rule c.args.table.now a b c.args.q j line why c.requires.goes_on answered leads)
+    (subst (λ (w : Grid). WalkedNode rule c.args.table.now j w c.args.self.now c.visit-walked.new.self c.visit-walked.result) c.play.ensures.played c.visit-walked.ensures.walked)
     c.noted.ensures.noted
 
-pub answer-returns-in-Err-clause-same : goal.answer-returns-in-Err-clause-same
-answer-returns-in-Err-clause-same g t c =
+pub answer-returns-clause-same : goal.answer-returns-clause-same
+answer-returns-clause-same g t c =
     c.undo.ensures.undone
-    ∙ lift_back g.R.Rule.KIND c.args.position.now _ c.args.q c.requires.lawful c.requires.goes_on
+    ∙ lift_back g.R.Rule.KIND c.args.position.now _ c.args.q c.requires.ready.lawful c.requires.goes_on
     (c.visit-walked.ensures.same ∙ c.play.ensures.played)
 
 -- ---- a reply
@@ -88,276 +89,321 @@ answer-returns-in-Err-clause-same g t c =
 pub meet-answer-requires : goal.meet-answer-requires
 meet-answer-requires g t c κs within =
     let same : c.outcome.new.self ≡ c.args.position.now = c.outcome.ensures.same in
-    let less : 6 * empties_of c.outcome.new.self + 3 < 6 * empties_of c.args.position.now + 4 = rw same (omega arith) in
-    let lawful : IsPosition g.R.Rule.KIND c.outcome.new.self = rw same c.requires.lawful in
+    let less : 8 * empties_of c.outcome.new.self + 3 < 8 * empties_of c.args.position.now + 4 = rw same (omega arith) in
+    let ready : IsReady g.R.Rule.KIND c.args.table.now c.outcome.new.self c.args.self.now = rw same c.requires.ready in
     let on : outcome g.R.Rule.KIND c.outcome.new.self c.args.q ≡ GoesOn = rw same (sym c.in-GoesOn.ensures.outcome) in
+    let free : c.args.outlook.free ≡ true → has_five g.R.Rule.KIND c.outcome.new.self (mover c.outcome.new.self) ≡ false = rw same c.requires.outlook.free in
     let below : c.in-Some.next < length c.args.table.now = answer-below (record { replies = c.args.replies.now; rest = c.args.rest }) (length c.args.table.now) c.args.q c.in-Some.next c.requires.below (sym c.in-Some.ensures.answer) in
     search rules
 
-pub meet-returns-then-wins_for_sure-clause-met : goal.meet-returns-then-wins_for_sure-clause-met
-meet-returns-then-wins_for_sure-clause-met g t c =
+pub meet-returns-then-wins_for_sure-clause-walked : goal.meet-returns-then-wins_for_sure-clause-walked
+meet-returns-then-wins_for_sure-clause-walked g t c =
+    let rule : RuleKind = g.R.Rule.KIND in
     let a : Answers = record { replies = c.args.replies.now; rest = c.args.rest } in
     let b : Grid = c.args.position.now in
-    let on : outcome g.R.Rule.KIND b c.args.q ≡ GoesOn = sym c.in-GoesOn.ensures.outcome in
-    let won = sure-accepted g.R.Rule.KIND c.args.table.now b c.args.q c.requires.lawful on c.args.sure c.in-Some.next c.requires.sure (sym c.wins_for_sure.ensures.sure ∙ c.if-wins_for_sure.true) in
-    on-ok c.arrive.result (Meets g.R.Rule.KIND a (Accepted g.R.Rule.KIND c.args.table.now) b c.args.q)
-    (met-answer g.R.Rule.KIND c.args.table.now a b c.args.q c.in-Some.next on (sym c.in-Some.ensures.answer) won.0)
+    let on : outcome rule b c.args.q ≡ GoesOn = sym c.in-GoesOn.ensures.outcome in
+    let won = sure-accepted rule c.args.table.now b c.args.q c.requires.ready.lawful on c.args.outlook.sure c.in-Some.next c.requires.outlook.sure (sym c.wins_for_sure.ensures.sure ∙ c.if-wins_for_sure.true) in
+    let one = arrivals-answer rule c.args.table.now a b c.args.q c.in-Some.next on (sym c.in-Some.ensures.answer) ∙ won.1 in
+    let met = met-answer rule c.args.table.now a b c.args.q c.in-Some.next on (sym c.in-Some.ensures.answer) won.0 in
+    subst (λ (n : ℕ). Walked rule c.args.table.now (Meets rule a (Accepted rule c.args.table.now) b c.args.q) n (LeadsStart rule c.args.table.now a b) c.args.self.now c.take.new.self c.take.result) (sym one)
+    (taken rule c.args.table.now (Meets rule a (Accepted rule c.args.table.now) b c.args.q) 1 (LeadsStart rule c.args.table.now a b) c.args.self.now c.take.new.self c.take.result
+    c.requires.ready.no_line c.requires.ready.memo met c.take.ensures.takes)
 
-pub meet-returns-then-wins_for_sure-clause-counted : goal.meet-returns-then-wins_for_sure-clause-counted
-meet-returns-then-wins_for_sure-clause-counted g t c =
+-- ---- all replies, one after another
+
+pub meet_each-loop-q-preserved : goal.meet_each-loop-q-preserved
+meet_each-loop-q-preserved g t c =
+    let rule : RuleKind = g.R.Rule.KIND in
     let a : Answers = record { replies = c.args.replies.now; rest = c.args.rest } in
     let b : Grid = c.args.position.now in
-    let on : outcome g.R.Rule.KIND b c.args.q ≡ GoesOn = sym c.in-GoesOn.ensures.outcome in
-    let won = sure-accepted g.R.Rule.KIND c.args.table.now b c.args.q c.requires.lawful on c.args.sure c.in-Some.next c.requires.sure (sym c.wins_for_sure.ensures.sure ∙ c.if-wins_for_sure.true) in
-    let one = arrivals-answer g.R.Rule.KIND c.args.table.now a b c.args.q c.in-Some.next on (sym c.in-Some.ensures.answer) ∙ won.1 in
-    on-ok-map c.arrive.result (c.arrive.new.self.left + 1 ≡ c.args.self.now.left) (c.arrive.new.self.left + arrivals_at g.R.Rule.KIND a (arrivals g.R.Rule.KIND c.args.table.now) b c.args.q ≡ c.args.self.now.left)
-    (λ counted. omega (arith, one, counted)) c.arrive.ensures.counted
-
-pub meet-returns-then-wins_for_sure-clause-stopped : goal.meet-returns-then-wins_for_sure-clause-stopped
-meet-returns-then-wins_for_sure-clause-stopped g t c =
-    let a : Answers = record { replies = c.args.replies.now; rest = c.args.rest } in
-    let b : Grid = c.args.position.now in
-    let on : outcome g.R.Rule.KIND b c.args.q ≡ GoesOn = sym c.in-GoesOn.ensures.outcome in
-    let won = sure-accepted g.R.Rule.KIND c.args.table.now b c.args.q c.requires.lawful on c.args.sure c.in-Some.next c.requires.sure (sym c.wins_for_sure.ensures.sure ∙ c.if-wins_for_sure.true) in
-    let one = arrivals-answer g.R.Rule.KIND c.args.table.now a b c.args.q c.in-Some.next on (sym c.in-Some.ensures.answer) ∙ won.1 in
-    IfErr-weaker c.arrive.result _ _
-    (λ stop h. stops-map (λ why. ⊥) (λ why. LeadsStart g.R.Rule.KIND c.args.table.now a b (reverse c.arrive.new.self.line) why) (c.args.self.now.left ≡ 0) (c.args.self.now.left < arrivals_at g.R.Rule.KIND a (arrivals g.R.Rule.KIND c.args.table.now) b c.args.q) stop
-    (λ why no. absurd no) (λ none. omega (arith, one, none)) h)
-    c.arrive.ensures.stopped
-
--- ---- all replies
-
-pub meet_all-loop-q-preserved : goal.meet_all-loop-q-preserved
-meet_all-loop-q-preserved g t c =
-    let a : Answers = record { replies = c.args.replies.now; rest = c.args.rest } in
-    let b : Grid = c.args.position.now in
-    let met : Meets g.R.Rule.KIND a (Accepted g.R.Rule.KIND c.args.table.now) b c.in-Some.q =
-    subst (λ (w : Grid). Meets g.R.Rule.KIND a (Accepted g.R.Rule.KIND c.args.table.now) w c.in-Some.q) c.loop-q.invariant.same c.in_ok-meet.ensures.met in
-    let counted : c.meet.new.self.left + arrivals_at g.R.Rule.KIND a (arrivals g.R.Rule.KIND c.args.table.now) b c.in-Some.q ≡ c.loop-q.self.left =
-    subst (λ (w : Grid). c.meet.new.self.left + arrivals_at g.R.Rule.KIND a (arrivals g.R.Rule.KIND c.args.table.now) w c.in-Some.q ≡ c.loop-q.self.left) c.loop-q.invariant.same c.in_ok-meet.ensures.counted in
-    let first = sum-first (arrivals_at g.R.Rule.KIND a (arrivals g.R.Rule.KIND c.args.table.now) b) c.in-Some.q c.loop-q.q-iterator c.next.new.self c.in-Some.ensures.steps in
-    let before = c.loop-q.invariant.counted in
     record {
       same = c.in_ok-meet.ensures.same ∙ c.loop-q.invariant.same;
-      no_line = c.in_ok-meet.ensures.no_line;
-      memo = c.in_ok-meet.ensures.memo;
-      counted = omega (arith, counted, first, before);
-      met = λ later. c.loop-q.invariant.met (All-first (Meets g.R.Rule.KIND a (Accepted g.R.Rule.KIND c.args.table.now) b) c.in-Some.q c.loop-q.q-iterator c.next.new.self c.in-Some.ensures.steps met later);
+      so_far = going-on (λ (q : Point). q) rule c.args.table.now a b (points_of b) c.in-Some.q c.loop-q.q-iterator c.next.new.self c.in-Some.ensures.steps c.args.self.now c.loop-q.self c.meet.new.self c.loop-q.invariant.so_far
+          (subst (λ (w : Grid). WalkedReply rule c.args.table.now a w c.in-Some.q c.loop-q.self c.meet.new.self (Ok tt)) c.loop-q.invariant.same c.in_ok-meet.ensures.walked);
     }
 
-pub meet_all-returns-clause-accepted : goal.meet_all-returns-clause-accepted
-meet_all-returns-clause-accepted g t c =
+pub meet_each-returns-clause-walked : goal.meet_each-returns-clause-walked
+meet_each-returns-clause-walked g t c =
+    let rule : RuleKind = g.R.Rule.KIND in
     let a : Answers = record { replies = c.args.replies.now; rest = c.args.rest } in
     let b : Grid = c.args.position.now in
-    met-all g.R.Rule.KIND c.args.table.now a b
-    (c.loop-q.invariant.met (All-none (Meets g.R.Rule.KIND a (Accepted g.R.Rule.KIND c.args.table.now) b) c.loop-q.q-iterator c.in-None.ensures.steps.0))
+    let done = going-done (λ (q : Point). q) rule c.args.table.now a b (points_of b) c.loop-q.q-iterator c.args.self.now c.loop-q.self c.in-None.ensures.steps.0 c.loop-q.invariant.so_far in
+    (met-all rule c.args.table.now a b done.0, done.1)
+
+-- ---- all replies, most of them counted
+
+pub meet_listed-loop-i-preserved : goal.meet_listed-loop-i-preserved
+meet_listed-loop-i-preserved g t c =
+    let rule : RuleKind = g.R.Rule.KIND in
+    let a : Answers = record { replies = c.args.replies.now; rest = c.args.rest } in
+    let r : Reply = c.at.result.now in
+    record {
+      same = c.in_ok-meet.ensures.same ∙ c.loop-i.invariant.same;
+      so_far = going-on (λ (r : Reply). r.at) rule c.args.table.now a c.args.position.now c.args.replies.now r (drop c.loop-i.i c.args.replies.now) (drop (c.loop-i.i + 1) c.args.replies.now)
+          (drop-at c.args.replies.now c.loop-i.i r c.at.ensures.item) c.args.self.now c.loop-i.self c.meet.new.self c.loop-i.invariant.so_far
+          (subst (λ (w : Grid). WalkedReply rule c.args.table.now a w r.at c.loop-i.self c.meet.new.self (Ok tt)) c.loop-i.invariant.same c.in_ok-meet.ensures.walked);
+    }
+
+pub meet_listed-returns-in_err-meet-clause-walked : goal.meet_listed-returns-in_err-meet-clause-walked
+meet_listed-returns-in_err-meet-clause-walked g t c =
+    let rule : RuleKind = g.R.Rule.KIND in
+    let a : Answers = record { replies = c.args.replies.now; rest = c.args.rest } in
+    let r : Reply = c.at.result.now in
+    let p = err_from_is_err_and c.from_residual.result c.from_residual.ensures.1 in
+    rw (p.1, p.2)
+    (going-stops (λ (r : Reply). r.at) rule c.args.table.now a c.args.position.now c.args.replies.now r (drop c.loop-i.i c.args.replies.now) (drop (c.loop-i.i + 1) c.args.replies.now)
+    (drop-at c.args.replies.now c.loop-i.i r c.at.ensures.item) c.args.self.now c.loop-i.self c.meet.new.self c.loop-i.invariant.so_far
+    (All (λ r. Meets rule a (Accepted rule c.args.table.now) c.args.position.now r.at) c.args.replies.now) c.in_err-meet.field-0.0
+    (subst (λ (w : Grid). WalkedReply rule c.args.table.now a w r.at c.loop-i.self c.meet.new.self (Err c.in_err-meet.field-0.0)) c.loop-i.invariant.same c.in_err-meet.ensures.walked))
+
+pub meet_listed-returns-clause-walked : goal.meet_listed-returns-clause-walked
+meet_listed-returns-clause-walked g t c =
+    let end = c.loop-i-test.false in
+    let count = c.len-i-end.ensures.count in
+    going-done (λ (r : Reply). r.at) g.R.Rule.KIND c.args.table.now (record { replies = c.args.replies.now; rest = c.args.rest }) c.args.position.now c.args.replies.now (drop c.loop-i.i c.args.replies.now)
+    c.args.self.now c.loop-i.self (drop_all c.loop-i.i c.args.replies.now (omega (arith, end, count))) c.loop-i.invariant.so_far
+
+-- the arrivals behind all replies, and those of them that are counted first
+pub meet_most-returns-in_err-take-clause-walked : goal.meet_most-returns-in_err-take-clause-walked
+meet_most-returns-in_err-take-clause-walked g t c =
+    let rule : RuleKind = g.R.Rule.KIND in
+    let a : Answers = record { replies = c.args.replies.now; rest = c.args.rest } in
+    let all = arrivals-most rule c.args.table.now c.args.position.now c.args.replies.now c.args.rest c.args.sure c.requires.ready.lawful c.requires.sure c.requires.rest c.requires.rising in
+    let count = c.others_going_on-others.ensures.count in
+    let p = err_from_is_err_and c.from_residual.result c.from_residual.ensures.1 in
+    rw (p.1, p.2)
+    (taken-short rule c.args.table.now (AcceptedStart rule c.args.table.now a c.args.position.now) c.others_going_on-others.result (arrivals_after rule a (arrivals rule c.args.table.now) c.args.position.now)
+    (LeadsStart rule c.args.table.now a c.args.position.now) c.args.self.now c.take.new.self c.in_err-take.field-0.0 (omega (arith, all, count)) c.in_err-take.ensures.takes)
+
+pub meet_most-returns-in_err-meet_listed-clause-walked : goal.meet_most-returns-in_err-meet_listed-clause-walked
+meet_most-returns-in_err-meet_listed-clause-walked g t c =
+    let rule : RuleKind = g.R.Rule.KIND in
+    let b : Grid = c.args.position.now in
+    let a : Answers = record { replies = c.args.replies.now; rest = c.args.rest } in
+    let all = arrivals-most rule c.args.table.now b c.args.replies.now c.args.rest c.args.sure c.requires.ready.lawful c.requires.sure c.requires.rest c.requires.rising in
+    let count = c.others_going_on-others.ensures.count in
+    let took = ap (λ (w : Walk). w.left) c.in_ok-take.ensures.takes in
+    let p = err_from_is_err_and c.from_residual-in_err-meet_listed.result c.from_residual-in_err-meet_listed.ensures.1 in
+    rw (p.1, p.2)
+    (walked-stops rule c.args.table.now (All (λ r. Meets rule a (Accepted rule c.args.table.now) b r.at) c.args.replies.now) (AcceptedStart rule c.args.table.now a b)
+    c.others_going_on-others.result (sum_by (λ r. arrivals_at rule a (arrivals rule c.args.table.now) b r.at) c.args.replies.now) (arrivals_after rule a (arrivals rule c.args.table.now) b)
+    (LeadsStart rule c.args.table.now a b) c.args.self.now c.take.new.self c.meet_listed.new.self c.in_err-meet_listed.field-0.0
+    (omega (arith, took)) (omega (arith, all, count))
+    (subst (λ (w : Grid). Walked rule c.args.table.now (All (λ r. Meets rule a (Accepted rule c.args.table.now) w r.at) c.args.replies.now)
+    (sum_by (λ r. arrivals_at rule a (arrivals rule c.args.table.now) w r.at) c.args.replies.now) (LeadsStart rule c.args.table.now a w) c.take.new.self c.meet_listed.new.self (Err c.in_err-meet_listed.field-0.0))
+    c.others_going_on-others.ensures.same c.in_err-meet_listed.ensures.walked))
+
+pub meet_most-returns-then-is_listed-clause-walked : goal.meet_most-returns-then-is_listed-clause-walked
+meet_most-returns-then-is_listed-clause-walked g t c =
+    let rule : RuleKind = g.R.Rule.KIND in
+    let b : Grid = c.args.position.now in
+    let a : Answers = record { replies = c.args.replies.now; rest = c.args.rest } in
+    let all = arrivals-most rule c.args.table.now b c.args.replies.now c.args.rest c.args.sure c.requires.ready.lawful c.requires.sure c.requires.rest c.requires.rising in
+    let count = c.others_going_on-others.ensures.count in
+    let took = ap (λ (w : Walk). w.left) c.in_ok-take.ensures.takes in
+    let here : is_listed c.args.replies.now c.args.sure.attack ≡ true = sym c.is_listed.ensures.listed ∙ c.if-is_listed.true in
+    let none : cond (is_listed c.args.replies.now c.args.sure.attack) 0 (arrivals_at rule a (arrivals rule c.args.table.now) b c.args.sure.attack) ≡ 0 =
+    ap (λ r. cond r zero (arrivals_at rule a (arrivals rule c.args.table.now) b c.args.sure.attack)) here in
+    let listed : Walked rule c.args.table.now (All (λ r. Meets rule a (Accepted rule c.args.table.now) b r.at) c.args.replies.now)
+    (sum_by (λ r. arrivals_at rule a (arrivals rule c.args.table.now) b r.at) c.args.replies.now) (LeadsStart rule c.args.table.now a b) c.take.new.self c.meet_listed.new.self (Ok tt) =
+    subst (λ (w : Grid). Walked rule c.args.table.now (All (λ r. Meets rule a (Accepted rule c.args.table.now) w r.at) c.args.replies.now)
+    (sum_by (λ r. arrivals_at rule a (arrivals rule c.args.table.now) w r.at) c.args.replies.now) (LeadsStart rule c.args.table.now a w) c.take.new.self c.meet_listed.new.self (Ok tt))
+    c.others_going_on-others.ensures.same c.in_ok-meet_listed.ensures.walked in
+    walked-then rule c.args.table.now (All (λ r. Meets rule a (Accepted rule c.args.table.now) b r.at) c.args.replies.now) (AcceptedStart rule c.args.table.now a b)
+    c.others_going_on-others.result (sum_by (λ r. arrivals_at rule a (arrivals rule c.args.table.now) b r.at) c.args.replies.now) (arrivals_after rule a (arrivals rule c.args.table.now) b)
+    (LeadsStart rule c.args.table.now a b) (LeadsStart rule c.args.table.now a b) c.args.self.now c.take.new.self c.meet_listed.new.self (Ok tt)
+    (omega (arith, took)) (omega (arith, all, count, none))
+    (λ met. met-most rule c.args.table.now b c.args.replies.now c.args.rest c.args.sure c.requires.ready.lawful c.requires.sure c.requires.rest c.requires.free c.requires.more met
+    (λ no. let bad : true ≡ false = sym here ∙ no in cc))
+    (λ line why l. l) listed
+
+pub meet_most-returns-clause-walked : goal.meet_most-returns-clause-walked
+meet_most-returns-clause-walked g t c =
+    let rule : RuleKind = g.R.Rule.KIND in
+    let b : Grid = c.args.position.now in
+    let a : Answers = record { replies = c.args.replies.now; rest = c.args.rest } in
+    let w : Point = c.args.sure.attack in
+    let all = arrivals-most rule c.args.table.now b c.args.replies.now c.args.rest c.args.sure c.requires.ready.lawful c.requires.sure c.requires.rest c.requires.rising in
+    let count = c.others_going_on-others.ensures.count in
+    let took = ap (λ (w : Walk). w.left) c.in_ok-take.ensures.takes in
+    let here : is_listed c.args.replies.now w ≡ false = sym c.is_listed.ensures.listed ∙ c.if-is_listed.false in
+    let one : cond (is_listed c.args.replies.now w) 0 (arrivals_at rule a (arrivals rule c.args.table.now) b w) ≡ arrivals_at rule a (arrivals rule c.args.table.now) b w =
+    ap (λ r. cond r zero (arrivals_at rule a (arrivals rule c.args.table.now) b w)) here in
+    let listed : Walked rule c.args.table.now (All (λ r. Meets rule a (Accepted rule c.args.table.now) b r.at) c.args.replies.now)
+    (sum_by (λ r. arrivals_at rule a (arrivals rule c.args.table.now) b r.at) c.args.replies.now) (LeadsStart rule c.args.table.now a b) c.take.new.self c.meet_listed.new.self (Ok tt) =
+    subst (λ (w : Grid). Walked rule c.args.table.now (All (λ r. Meets rule a (Accepted rule c.args.table.now) w r.at) c.args.replies.now)
+    (sum_by (λ r. arrivals_at rule a (arrivals rule c.args.table.now) w r.at) c.args.replies.now) (LeadsStart rule c.args.table.now a w) c.take.new.self c.meet_listed.new.self (Ok tt))
+    c.others_going_on-others.ensures.same c.in_ok-meet_listed.ensures.walked in
+    let met = listed.0 in
+    let before = listed.1.counted in
+    let k : ℕ = c.others_going_on-others.result + sum_by (λ r. arrivals_at rule a (arrivals rule c.args.table.now) b r.at) c.args.replies.now in
+    walked-then rule c.args.table.now (Meets rule a (Accepted rule c.args.table.now) b w) (AcceptedStart rule c.args.table.now a b)
+    k (arrivals_at rule a (arrivals rule c.args.table.now) b w) (arrivals_after rule a (arrivals rule c.args.table.now) b)
+    (LeadsStart rule c.args.table.now a b) (LeadsStart rule c.args.table.now a b) c.args.self.now c.meet_listed.new.self c.meet.new.self c.meet.result
+    (omega (arith, took, before)) (omega (arith, all, count, one))
+    (λ last. met-most rule c.args.table.now b c.args.replies.now c.args.rest c.args.sure c.requires.ready.lawful c.requires.sure c.requires.rest c.requires.free c.requires.more met (λ no. last))
+    (λ line why l. l)
+    (subst (λ (x : Grid). WalkedReply rule c.args.table.now a x w c.meet_listed.new.self c.meet.new.self c.meet.result) (c.meet_listed.ensures.same ∙ c.others_going_on-others.ensures.same) c.meet.ensures.walked)
 
 -- ---- a node
 
-pub visit-returns-in_err-arrive-clause-stopped : goal.visit-returns-in_err-arrive-clause-stopped
-visit-returns-in_err-arrive-clause-stopped g t c =
-    let some = arrivals-positive g.R.Rule.KIND c.args.table.now c.args.i c.args.position.now in
-    let p = err_from_is_err_and c.from_residual.result c.from_residual.ensures.1 in
-    rw (p.1, p.2)
-    (stops-map (λ why. ⊥) _ (c.args.self.now.left ≡ 0) (c.args.self.now.left < arrivals g.R.Rule.KIND c.args.table.now c.args.i c.args.position.now) c.in_err-arrive.field-0.0
-    (λ why no. absurd no) (λ none. omega (arith, some, none)) c.in_err-arrive.ensures.stopped)
+pub visit-returns-then-is_winning-clause-walked : goal.visit-returns-then-is_winning-clause-walked
+visit-returns-then-is_winning-clause-walked g t c =
+    attack-stops g.R.Rule.KIND c.args.table.now c.args.i c.args.position.now c.node-node.result.now NotWon GoesOn c.args.self.now c.fault-then-is_winning.new.self c.fault-then-is_winning.result
+    c.node-node.ensures.node c.in-GoesOn.ensures.outcome (ap (λ (r : Bool). if r then Some NotWon else None) (sym c.is_winning.ensures.wins ∙ c.if-is_winning.true)) c.requires.ready.no_line c.fault-then-is_winning.ensures.noted
 
-pub visit-returns-then-is_winning-clause-stopped : goal.visit-returns-then-is_winning-clause-stopped
-visit-returns-then-is_winning-clause-stopped g t c =
-    fault-stops (Leads g.R.Rule.KIND c.args.table.now c.args.i c.args.position.now) _ c.node-node.result.now.attack _ _ NotWon _ (c.arrive.ensures.line ∙ c.requires.no_line)
-    (attack-leads g.R.Rule.KIND c.args.table.now c.args.i c.args.position.now c.node-node.result.now NotWon GoesOn c.node-node.ensures.node c.in-GoesOn.ensures.outcome (ap (λ (r : Bool). if r then Some NotWon else None) (sym c.is_winning.ensures.wins ∙ c.if-is_winning.true)))
-    c.fault-then-is_winning.ensures.noted
+pub visit-returns-in-Refused-clause-walked : goal.visit-returns-in-Refused-clause-walked
+visit-returns-in-Refused-clause-walked g t c =
+    attack-stops g.R.Rule.KIND c.args.table.now c.args.i c.args.position.now c.node-node.result.now AttackRefused Refused c.args.self.now c.fault.new.self c.fault.result
+    c.node-node.ensures.node c.in-Refused.ensures.outcome refl c.requires.ready.no_line c.fault.ensures.noted
 
-pub visit-go_on-requires : goal.visit-go_on-requires
-visit-go_on-requires g t c κs within =
-    let same : c.outcome.new.self ≡ c.args.position.now = c.outcome.ensures.same in
-    let less : 6 * empties_of c.outcome.new.self + 1 < 6 * empties_of c.args.position.now + 2 = rw same (omega arith) in
-    let lawful : IsPosition g.R.Rule.KIND c.outcome.new.self = rw same c.requires.lawful in
-    let on : outcome g.R.Rule.KIND c.outcome.new.self c.node-node.result.now.attack ≡ GoesOn = rw same (sym c.in-GoesOn.ensures.outcome) in
-    let more : is_winning c.node-node.result.now.rest ≡ false = sym c.is_winning.ensures.wins ∙ c.if-is_winning.false in
-    let memo : IsTrueMemo g.R.Rule.KIND c.args.table.now c.arrive.new.self.memo = subst (λ (m : Remembered ℕ). IsTrueMemo g.R.Rule.KIND c.args.table.now m) (sym c.arrive.ensures.memo) c.requires.memo in
-    let none : c.arrive.new.self.line ≡ [] = c.arrive.ensures.line ∙ c.requires.no_line in
-    search rules
+pub visit-returns-in-Wins-clause-walked : goal.visit-returns-in-Wins-clause-walked
+visit-returns-in-Wins-clause-walked g t c =
+    let rule : RuleKind = g.R.Rule.KIND in
+    let lower = IsTable-lower c.args.table.now c.node-node.ensures.table in
+    let won : outcome rule c.args.position.now c.node-node.result.now.attack ≡ Wins = sym c.in-Wins.ensures.outcome in
+    let one = arrivals-one rule c.args.table.now lower c.args.i c.args.position.now c.node-node.result.now c.node-node.ensures.node Wins won (λ e. cc) in
+    let accepted = accepted-by-win rule c.args.table.now lower c.args.i c.args.position.now c.node-node.result.now c.node-node.ensures.node won in
+    subst (λ (n : ℕ). Walked rule c.args.table.now (Accepted rule c.args.table.now c.args.i c.args.position.now) n (Leads rule c.args.table.now c.args.i c.args.position.now) c.args.self.now c.take.new.self c.take.result) (sym one)
+    (taken rule c.args.table.now (Accepted rule c.args.table.now c.args.i c.args.position.now) 1 (Leads rule c.args.table.now c.args.i c.args.position.now) c.args.self.now c.take.new.self c.take.result
+    c.requires.ready.no_line c.requires.ready.memo accepted c.take.ensures.takes)
 
-pub visit-returns-in-Refused-clause-stopped : goal.visit-returns-in-Refused-clause-stopped
-visit-returns-in-Refused-clause-stopped g t c =
-    fault-stops (Leads g.R.Rule.KIND c.args.table.now c.args.i c.args.position.now) _ c.node-node.result.now.attack _ _ AttackRefused _ (c.arrive.ensures.line ∙ c.requires.no_line)
-    (attack-leads g.R.Rule.KIND c.args.table.now c.args.i c.args.position.now c.node-node.result.now AttackRefused Refused c.node-node.ensures.node c.in-Refused.ensures.outcome refl)
-    c.fault.ensures.noted
+pub visit-returns-in-Fouls-clause-walked : goal.visit-returns-in-Fouls-clause-walked
+visit-returns-in-Fouls-clause-walked g t c =
+    attack-stops g.R.Rule.KIND c.args.table.now c.args.i c.args.position.now c.node-node.result.now AttackFouls (Fouls c.in-Fouls.field-0) c.args.self.now c.fault-in-Fouls.new.self c.fault-in-Fouls.result
+    c.node-node.ensures.node c.in-Fouls.ensures.outcome refl c.requires.ready.no_line c.fault-in-Fouls.ensures.noted
 
-pub visit-returns-in-Wins-clause-accepted : goal.visit-returns-in-Wins-clause-accepted
-visit-returns-in-Wins-clause-accepted g t c =
-    accepted-by-win g.R.Rule.KIND c.args.table.now (IsTable-lower c.args.table.now c.node-node.ensures.table) c.args.i c.args.position.now c.node-node.result.now c.node-node.ensures.node (sym c.in-Wins.ensures.outcome)
-
-pub visit-returns-in-Wins-clause-counted : goal.visit-returns-in-Wins-clause-counted
-visit-returns-in-Wins-clause-counted g t c =
-    let one = arrivals-one g.R.Rule.KIND c.args.table.now (IsTable-lower c.args.table.now c.node-node.ensures.table) c.args.i c.args.position.now c.node-node.result.now c.node-node.ensures.node Wins (sym c.in-Wins.ensures.outcome) (λ e. cc) in
-    let arrived = c.in_ok-arrive.ensures.counted in
-    omega (arith, one, arrived)
-
-pub visit-returns-in-Wins-clause-memo : goal.visit-returns-in-Wins-clause-memo
-visit-returns-in-Wins-clause-memo g t c = subst (λ (m : Remembered ℕ). IsTrueMemo g.R.Rule.KIND c.args.table.now m) (sym c.arrive.ensures.memo) c.requires.memo
-
-pub visit-returns-in-Fouls-clause-stopped : goal.visit-returns-in-Fouls-clause-stopped
-visit-returns-in-Fouls-clause-stopped g t c =
-    fault-stops (Leads g.R.Rule.KIND c.args.table.now c.args.i c.args.position.now) _ c.node-node.result.now.attack _ _ AttackFouls _ (c.arrive.ensures.line ∙ c.requires.no_line)
-    (attack-leads g.R.Rule.KIND c.args.table.now c.args.i c.args.position.now c.node-node.result.now AttackFouls (Fouls c.in-Fouls.field-0) c.node-node.ensures.node c.in-Fouls.ensures.outcome refl)
-    c.fault-in-Fouls.ensures.noted
-
-pub visit-returns-in-Draws-clause-stopped : goal.visit-returns-in-Draws-clause-stopped
-visit-returns-in-Draws-clause-stopped g t c =
-    fault-stops (Leads g.R.Rule.KIND c.args.table.now c.args.i c.args.position.now) _ c.node-node.result.now.attack _ _ AttackDraws _ (c.arrive.ensures.line ∙ c.requires.no_line)
-    (attack-leads g.R.Rule.KIND c.args.table.now c.args.i c.args.position.now c.node-node.result.now AttackDraws Draws c.node-node.ensures.node c.in-Draws.ensures.outcome refl)
-    c.fault-in-Draws.ensures.noted
+pub visit-returns-in-Draws-clause-walked : goal.visit-returns-in-Draws-clause-walked
+visit-returns-in-Draws-clause-walked g t c =
+    attack-stops g.R.Rule.KIND c.args.table.now c.args.i c.args.position.now c.node-node.result.now AttackDraws Draws c.args.self.now c.fault-in-Draws.new.self c.fault-in-Draws.result
+    c.node-node.ensures.node c.in-Draws.ensures.outcome refl c.requires.ready.no_line c.fault-in-Draws.ensures.noted
 
 -- ---- a node whose attack goes on
 
-pub go_on-overflow_sub-others : goal.go_on-overflow_sub-others
-go_on-overflow_sub-others g t c =
-    let some = arrivals-positive g.R.Rule.KIND c.args.table.now c.args.i c.args.position.now in
-    let counted = (true-found g.R.Rule.KIND (IsWalked g.R.Rule.KIND c.args.table.now) c.args.position.now c.board.result.now c.args.i c.in-Some.arrivals c.args.self.now.memo c.requires.lawful c.board.ensures.board c.requires.memo c.in-Some.ensures.value).counted in
-    omega (arith, some, counted)
-
-pub go_on-returns-in-Some-clause-accepted : goal.go_on-returns-in-Some-clause-accepted
-go_on-returns-in-Some-clause-accepted g t c =
-    on-ok c.take.result (Accepted g.R.Rule.KIND c.args.table.now c.args.i c.args.position.now)
-    (true-found g.R.Rule.KIND (IsWalked g.R.Rule.KIND c.args.table.now) c.args.position.now c.board.result.now c.args.i c.in-Some.arrivals c.args.self.now.memo c.requires.lawful c.board.ensures.board c.requires.memo c.in-Some.ensures.value).accepted
-
-pub go_on-returns-in-Some-clause-counted : goal.go_on-returns-in-Some-clause-counted
-go_on-returns-in-Some-clause-counted g t c =
-    let some = arrivals-positive g.R.Rule.KIND c.args.table.now c.args.i c.args.position.now in
-    let counted = (true-found g.R.Rule.KIND (IsWalked g.R.Rule.KIND c.args.table.now) c.args.position.now c.board.result.now c.args.i c.in-Some.arrivals c.args.self.now.memo c.requires.lawful c.board.ensures.board c.requires.memo c.in-Some.ensures.value).counted in
-    on-ok-map c.take.result (c.take.new.self.left + (c.in-Some.arrivals - 1) ≡ c.args.self.now.left) (c.take.new.self.left + arrivals g.R.Rule.KIND c.args.table.now c.args.i c.args.position.now ≡ c.args.self.now.left + 1)
-    (λ taken. omega (arith, some, counted, taken)) c.take.ensures.counted
-
-pub go_on-returns-in-Some-clause-no_line : goal.go_on-returns-in-Some-clause-no_line
-go_on-returns-in-Some-clause-no_line g t c = on-ok c.take.result (c.take.new.self.line ≡ []) (c.take.ensures.line ∙ c.requires.no_line)
-
-pub go_on-returns-in-Some-clause-memo : goal.go_on-returns-in-Some-clause-memo
-go_on-returns-in-Some-clause-memo g t c =
-    let looked : IsTrueMemo g.R.Rule.KIND c.args.table.now c.find.new.self = true-looked g.R.Rule.KIND (IsWalked g.R.Rule.KIND c.args.table.now) c.args.self.now.memo c.find.new.self (packed c.board.result.now, c.args.i) (inl c.find.ensures.entries) c.requires.memo in
-    on-ok c.take.result (IsTrueMemo g.R.Rule.KIND c.args.table.now c.take.new.self.memo)
-    (subst (λ (m : Remembered ℕ). IsTrueMemo g.R.Rule.KIND c.args.table.now m) (sym c.take.ensures.memo) looked)
-
-pub go_on-returns-in-Some-clause-stopped : goal.go_on-returns-in-Some-clause-stopped
-go_on-returns-in-Some-clause-stopped g t c =
-    let some = arrivals-positive g.R.Rule.KIND c.args.table.now c.args.i c.args.position.now in
-    let counted = (true-found g.R.Rule.KIND (IsWalked g.R.Rule.KIND c.args.table.now) c.args.position.now c.board.result.now c.args.i c.in-Some.arrivals c.args.self.now.memo c.requires.lawful c.board.ensures.board c.requires.memo c.in-Some.ensures.value).counted in
-    IfErr-weaker c.take.result _ _
-    (λ stop h. stops-map (λ why. ⊥) (λ why. Leads g.R.Rule.KIND c.args.table.now c.args.i c.args.position.now (reverse c.take.new.self.line) why) (c.args.self.now.left < c.in-Some.arrivals - 1) (c.args.self.now.left + 1 < arrivals g.R.Rule.KIND c.args.table.now c.args.i c.args.position.now) stop
-    (λ why no. absurd no) (λ short. omega (arith, some, counted, short)) h)
-    c.take.ensures.stopped
-
 pub go_on-attack-requires : goal.go_on-attack-requires
 go_on-attack-requires g t c κs within =
-    let less : 6 * empties_of c.args.position.now < 6 * empties_of c.args.position.now + 1 = omega arith in
-    let looked : IsTrueMemo g.R.Rule.KIND c.args.table.now c.find.new.self = true-looked g.R.Rule.KIND (IsWalked g.R.Rule.KIND c.args.table.now) c.args.self.now.memo c.find.new.self (packed c.board.result.now, c.args.i) (inl c.find.ensures.entries) c.requires.memo in
+    let less : 8 * empties_of c.args.position.now < 8 * empties_of c.args.position.now + 1 = omega arith in
+    let looked : IsTrueMemo g.R.Rule.KIND c.args.table.now c.find.new.self = true-looked g.R.Rule.KIND (IsWalked g.R.Rule.KIND c.args.table.now) c.args.self.now.memo c.find.new.self (packed c.board.result.now, c.args.i) (inl c.find.ensures.entries) c.requires.ready.memo in
+    let ready : IsReady g.R.Rule.KIND c.args.table.now c.args.position.now (record { left = c.args.self.now.left; line = c.args.self.now.line; memo = c.find.new.self }) =
+    record { lawful = c.requires.ready.lawful; no_line = c.requires.ready.no_line; memo = looked } in
     search rules
+
+pub go_on-returns-in-Some-clause-walked : goal.go_on-returns-in-Some-clause-walked
+go_on-returns-in-Some-clause-walked g t c =
+    let rule : RuleKind = g.R.Rule.KIND in
+    let found = true-found rule (IsWalked rule c.args.table.now) c.args.position.now c.board.result.now c.args.i c.in-Some.arrivals c.args.self.now.memo c.requires.ready.lawful c.board.ensures.board c.requires.ready.memo c.in-Some.ensures.value in
+    let looked : IsTrueMemo rule c.args.table.now c.find.new.self = true-looked rule (IsWalked rule c.args.table.now) c.args.self.now.memo c.find.new.self (packed c.board.result.now, c.args.i) (inl c.find.ensures.entries) c.requires.ready.memo in
+    let counted = found.counted in
+    let mid : Walk = record { left = c.args.self.now.left; line = c.args.self.now.line; memo = c.find.new.self } in
+    let accepted : Type 0 = Accepted rule c.args.table.now c.args.i c.args.position.now in
+    let leads : List Point → Why → Type 0 = Leads rule c.args.table.now c.args.i c.args.position.now in
+    walked-then rule c.args.table.now accepted accepted 0 c.in-Some.arrivals (arrivals rule c.args.table.now c.args.i c.args.position.now) leads leads c.args.self.now mid c.take.new.self c.take.result (omega arith) (omega (arith, counted)) (λ a. a) (λ line why l. l)
+    (taken rule c.args.table.now accepted c.in-Some.arrivals leads mid c.take.new.self c.take.result c.requires.ready.no_line looked found.accepted c.take.ensures.takes)
 
 -- ---- an attack
 
+pub attack-returns-in_err-take-clause-walked : goal.attack-returns-in_err-take-clause-walked
+attack-returns-in_err-take-clause-walked g t c =
+    let p = err_from_is_err_and c.from_residual.result c.from_residual.ensures.1 in
+    rw (p.1, p.2)
+    (taken-short g.R.Rule.KIND c.args.table.now (Accepted g.R.Rule.KIND c.args.table.now c.args.i c.args.position.now) 1 (arrivals g.R.Rule.KIND c.args.table.now c.args.i c.args.position.now) (Leads g.R.Rule.KIND c.args.table.now c.args.i c.args.position.now) c.args.self.now c.take.new.self c.in_err-take.field-0.0
+    (arrivals-positive g.R.Rule.KIND c.args.table.now c.args.i c.args.position.now) c.in_err-take.ensures.takes)
+
 pub attack-meet_all-met-requires : goal.attack-meet_all-met-requires
 attack-meet_all-met-requires g t c κs within =
+    let rule : RuleKind = g.R.Rule.KIND in
     let b : Grid = c.args.position.now in
     let p : Point = c.args.node.now.attack in
-    let on : outcome g.R.Rule.KIND b p ≡ GoesOn = c.requires.goes_on in
+    let on : outcome rule b p ≡ GoesOn = c.requires.goes_on in
     let there : c.play.new.self ≡ after b p = c.play.ensures.played in
-    let lawful : IsPosition g.R.Rule.KIND c.play.new.self = played-lawful g.R.Rule.KIND b p c.requires.lawful on c.play.new.self there in
-    let fewer = played-fewer g.R.Rule.KIND b p c.requires.lawful on c.play.new.self there in
-    let less : 6 * empties_of c.play.new.self + 5 < 6 * empties_of b = omega (arith, fewer) in
+    let fewer = played-fewer rule b p c.requires.ready.lawful on c.play.new.self there in
+    let less : 8 * empties_of c.play.new.self + 7 < 8 * empties_of b = omega (arith, fewer) in
+    let taken = taken-ready rule c.args.table.now b 1 c.args.self.now c.take.new.self c.requires.ready c.in_ok-take.ensures.takes in
+    let ready : IsReady rule c.args.table.now c.play.new.self c.take.new.self = record {
+      lawful = played-lawful rule b p c.requires.ready.lawful on c.play.new.self there;
+      no_line = taken.no_line;
+      memo = taken.memo;
+    } in
+    let free : c.leaves_none-free.result ≡ true → has_five rule c.play.new.self (mover c.play.new.self) ≡ false =
+    rw there (λ h. none-left rule b p c.requires.ready.lawful on c.args.fives c.requires.fives (sym c.leaves_none-free.ensures.none ∙ h)) in
     let there_is : c.args.i < length c.args.table.now = slice_get_within c.args.table.now c.args.i c.args.node.now c.requires.node in
-    let low : names_below (answers_of c.args.node.now) c.args.i ≡ true = (IsTable-lower c.args.table.now c.requires.table).lower c.args.i c.args.node.now c.requires.node in
-    let below : names_below (answers_of c.args.node.now) (length c.args.table.now) ≡ true = names_below-more (answers_of c.args.node.now) c.args.i (length c.args.table.now) (omega (arith, there_is)) low in
+    let is_node = c.requires.table.nodes c.args.i c.args.node.now c.requires.node in
+    let below : names_below (answers_of c.args.node.now) (length c.args.table.now) ≡ true = names_below-more (answers_of c.args.node.now) c.args.i (length c.args.table.now) (omega (arith, there_is)) is_node.below in
+    let rising : is_rising c.args.node.now.replies ≡ true = is_node.rising in
     search rules
 
 pub attack-undo-requires-clause-stone : goal.attack-undo-requires-clause-stone
 attack-undo-requires-clause-stone g t c =
-    let p : Point = c.args.node.now.attack in
-    stone_back g.R.Rule.KIND c.args.position.now _ p c.requires.lawful (c.requires.goes_on)
+    stone_back g.R.Rule.KIND c.args.position.now _ c.args.node.now.attack c.requires.ready.lawful c.requires.goes_on
     (c.meet_all-met.ensures.same ∙ c.play.ensures.played)
 
 pub attack-undo-requires-clause-unwon : goal.attack-undo-requires-clause-unwon
 attack-undo-requires-clause-unwon g t c =
-    let p : Point = c.args.node.now.attack in
-    unwon_back g.R.Rule.KIND c.args.position.now _ p c.requires.lawful (c.requires.goes_on)
+    unwon_back g.R.Rule.KIND c.args.position.now _ c.args.node.now.attack c.requires.ready.lawful c.requires.goes_on
     (c.meet_all-met.ensures.same ∙ c.play.ensures.played)
 
-pub attack-returns-in-Ok-clause-accepted : goal.attack-returns-in-Ok-clause-accepted
-attack-returns-in-Ok-clause-accepted g t c =
-    let n : Node = c.args.node.now in
-    let a : Answers = answers_of n in
-    let b : Grid = c.args.position.now in
-    let lower = IsTable-lower c.args.table.now c.requires.table in
-    let on : outcome g.R.Rule.KIND b n.attack ≡ GoesOn = c.requires.goes_on in
-    let there : c.play.new.self ≡ after b n.attack = c.play.ensures.played in
-    let more : is_winning n.rest ≡ false = c.requires.more in
-    accepted-by-replies g.R.Rule.KIND c.args.table.now lower c.args.i b n c.requires.node on more
-    (subst (AcceptedStart g.R.Rule.KIND c.args.table.now a) there c.in-Ok.ensures.accepted)
+-- what the walk behind the replies says of the node
+module _ (rule : RuleKind) (t : List Node) (i : ℕ) (b c : Grid) (n : Node) (table : IsTable t) (at : slice_get t i ≡ Some n) (on : outcome rule b n.attack ≡ GoesOn) (more : is_winning n.rest ≡ false) (there : c ≡ after b n.attack) where
+  node-accepted : AcceptedStart rule t (answers_of n) c → Accepted rule t i b
+  node-accepted met = accepted-by-replies rule t (IsTable-lower t table) i b n at on more (subst (AcceptedStart rule t (answers_of n)) there met)
 
-pub attack-returns-in-Ok-clause-counted : goal.attack-returns-in-Ok-clause-counted
-attack-returns-in-Ok-clause-counted g t c =
-    let n : Node = c.args.node.now in
-    let a : Answers = answers_of n in
-    let b : Grid = c.args.position.now in
-    let lower = IsTable-lower c.args.table.now c.requires.table in
-    let on : outcome g.R.Rule.KIND b n.attack ≡ GoesOn = c.requires.goes_on in
-    let there : c.play.new.self ≡ after b n.attack = c.play.ensures.played in
-    let more : is_winning n.rest ≡ false = c.requires.more in
-    let all = arrivals-by-replies g.R.Rule.KIND c.args.table.now lower c.args.i b n c.requires.node on more in
-    let counted : c.meet_all-met.new.self.left + arrivals_after g.R.Rule.KIND a (arrivals g.R.Rule.KIND c.args.table.now) (after b n.attack) ≡ c.args.self.now.left =
-    subst (λ (w : Grid). c.meet_all-met.new.self.left + arrivals_after g.R.Rule.KIND a (arrivals g.R.Rule.KIND c.args.table.now) w ≡ c.args.self.now.left) there c.in-Ok.ensures.counted in
-    omega (arith, all, counted)
+  node-arrivals : arrivals rule t i b ≡ 1 + arrivals_after rule (answers_of n) (arrivals rule t) c
+  node-arrivals =
+      let all = arrivals-by-replies rule t (IsTable-lower t table) i b n at on more in
+      let same = ap (λ (w : Grid). arrivals_after rule (answers_of n) (arrivals rule t) w) there in
+      omega (arith, all, same)
 
-pub attack-returns-in-Ok-clause-same : goal.attack-returns-in-Ok-clause-same
-attack-returns-in-Ok-clause-same g t c =
-    let p : Point = c.args.node.now.attack in
-    c.undo.ensures.undone
-    ∙ lift_back g.R.Rule.KIND c.args.position.now _ p c.requires.lawful (c.requires.goes_on)
-    (c.meet_all-met.ensures.same ∙ c.play.ensures.played)
+  node-leads : (line : List Point) (why : Why) → LeadsStart rule t (answers_of n) c line why → Leads rule t i b (n.attack ∷ line) why
+  node-leads line why leads = attack-then-leads rule t i b n line why at on more (subst (λ (w : Grid). LeadsStart rule t (answers_of n) w line why) there leads)
 
-pub attack-returns-in-Err-clause-stopped : goal.attack-returns-in-Err-clause-stopped
-attack-returns-in-Err-clause-stopped g t c =
-    let n : Node = c.args.node.now in
-    let a : Answers = answers_of n in
+pub attack-returns-in-Err-clause-walked : goal.attack-returns-in-Err-clause-walked
+attack-returns-in-Err-clause-walked g t c =
+    let rule : RuleKind = g.R.Rule.KIND in
+    let tab = c.args.table.now in
     let b : Grid = c.args.position.now in
-    let lower = IsTable-lower c.args.table.now c.requires.table in
-    let on : outcome g.R.Rule.KIND b n.attack ≡ GoesOn = c.requires.goes_on in
-    let there : c.play.new.self ≡ after b n.attack = c.play.ensures.played in
-    let more : is_winning n.rest ≡ false = c.requires.more in
-    let all = arrivals-by-replies g.R.Rule.KIND c.args.table.now lower c.args.i b n c.requires.node on more in
-    noted-stops
-    (LeadsStart g.R.Rule.KIND c.args.table.now a c.play.new.self)
-    (Leads g.R.Rule.KIND c.args.table.now c.args.i b)
-    (c.args.self.now.left < arrivals_after g.R.Rule.KIND a (arrivals g.R.Rule.KIND c.args.table.now) c.play.new.self)
-    (c.args.self.now.left + 1 < arrivals g.R.Rule.KIND c.args.table.now c.args.i b)
-    n.attack c.meet_all-met.new.self.line c.noted.new.self.line c.in-Err.stop c.noted.result
-    (λ line why leads. attack-then-leads g.R.Rule.KIND c.args.table.now c.args.i b n line why c.requires.node on more
-    (subst (λ (w : Grid). LeadsStart g.R.Rule.KIND c.args.table.now a w line why) there leads))
-    (λ short. let less : c.args.self.now.left < arrivals_after g.R.Rule.KIND a (arrivals g.R.Rule.KIND c.args.table.now) (after b n.attack) = subst (λ (w : Grid). c.args.self.now.left < arrivals_after g.R.Rule.KIND a (arrivals g.R.Rule.KIND c.args.table.now) w) there short in omega (arith, all, less))
-    c.in-Err.ensures.stopped
-    c.noted.ensures.noted
+    let n : Node = c.args.node.now in
+    let counted = ap (λ (w : Walk). w.left) c.in_ok-take.ensures.takes in
+    let all = node-arrivals rule tab c.args.i b c.play.new.self n c.requires.table c.requires.node c.requires.goes_on c.requires.more c.play.ensures.played in
+    noted-then rule tab (AcceptedStart rule tab (answers_of n) c.play.new.self) (Accepted rule tab c.args.i b)
+    1 (arrivals_after rule (answers_of n) (arrivals rule tab) c.play.new.self) (arrivals rule tab c.args.i b)
+    (LeadsStart rule tab (answers_of n) c.play.new.self) (Leads rule tab c.args.i b)
+    n.attack c.args.self.now c.take.new.self c.meet_all-met.new.self c.noted.new.self (Err c.in-Err.stop) c.noted.result
+    (omega (arith, counted)) all
+    (node-accepted rule tab c.args.i b c.play.new.self n c.requires.table c.requires.node c.requires.goes_on c.requires.more c.play.ensures.played)
+    (node-leads rule tab c.args.i b c.play.new.self n c.requires.table c.requires.node c.requires.goes_on c.requires.more c.play.ensures.played)
+    c.in-Err.ensures.walked c.noted.ensures.noted
 
 pub attack-returns-in-Err-clause-same : goal.attack-returns-in-Err-clause-same
 attack-returns-in-Err-clause-same g t c =
-    let p : Point = c.args.node.now.attack in
     c.undo.ensures.undone
-    ∙ lift_back g.R.Rule.KIND c.args.position.now _ p c.requires.lawful (c.requires.goes_on)
+    ∙ lift_back g.R.Rule.KIND c.args.position.now _ c.args.node.now.attack c.requires.ready.lawful c.requires.goes_on
     (c.meet_all-met.ensures.same ∙ c.play.ensures.played)
 
-pub attack-returns-in-Ok-clause-memo : goal.attack-returns-in-Ok-clause-memo
-attack-returns-in-Ok-clause-memo g t c =
-    let n : Node = c.args.node.now in
-    let a : Answers = answers_of n in
+pub attack-returns-in-Ok-clause-same : goal.attack-returns-in-Ok-clause-same
+attack-returns-in-Ok-clause-same g t c =
+    c.undo.ensures.undone
+    ∙ lift_back g.R.Rule.KIND c.args.position.now _ c.args.node.now.attack c.requires.ready.lawful c.requires.goes_on
+    (c.meet_all-met.ensures.same ∙ c.play.ensures.played)
+
+pub attack-returns-in-Ok-clause-walked : goal.attack-returns-in-Ok-clause-walked
+attack-returns-in-Ok-clause-walked g t c =
+    let rule : RuleKind = g.R.Rule.KIND in
+    let tab = c.args.table.now in
     let b : Grid = c.args.position.now in
-    let lower = IsTable-lower c.args.table.now c.requires.table in
-    let there : c.play.new.self ≡ after b n.attack = c.play.ensures.played in
-    let accepted = accepted-by-replies g.R.Rule.KIND c.args.table.now lower c.args.i b n c.requires.node c.requires.goes_on c.requires.more
-    (subst (AcceptedStart g.R.Rule.KIND c.args.table.now a) there c.in-Ok.ensures.accepted) in
-    let all = arrivals-by-replies g.R.Rule.KIND c.args.table.now lower c.args.i b n c.requires.node c.requires.goes_on c.requires.more in
-    let behind : c.meet_all-met.new.self.left + arrivals_after g.R.Rule.KIND a (arrivals g.R.Rule.KIND c.args.table.now) (after b n.attack) ≡ c.args.self.now.left =
-    subst (λ (w : Grid). c.meet_all-met.new.self.left + arrivals_after g.R.Rule.KIND a (arrivals g.R.Rule.KIND c.args.table.now) w ≡ c.args.self.now.left) there c.in-Ok.ensures.counted in
-    let counted : arrivals g.R.Rule.KIND c.args.table.now c.args.i b ≡ c.args.self.now.left + 1 - c.meet_all-met.new.self.left = omega (arith, all, behind) in
+    let n : Node = c.args.node.now in
+    let took = ap (λ (w : Walk). w.left) c.in_ok-take.ensures.takes in
+    let behind = c.in-Ok.ensures.walked.1.counted in
+    let all = node-arrivals rule tab c.args.i b c.play.new.self n c.requires.table c.requires.node c.requires.goes_on c.requires.more c.play.ensures.played in
+    let accepted = node-accepted rule tab c.args.i b c.play.new.self n c.requires.table c.requires.node c.requires.goes_on c.requires.more c.play.ensures.played c.in-Ok.ensures.walked.0 in
     let back : c.undo.new.self ≡ b = c.undo.ensures.undone
-    ∙ lift_back g.R.Rule.KIND b _ n.attack c.requires.lawful c.requires.goes_on (c.meet_all-met.ensures.same ∙ c.play.ensures.played) in
-    true-kept g.R.Rule.KIND (IsWalked g.R.Rule.KIND c.args.table.now) b c.board.result.now c.args.i (c.args.self.now.left + 1 - c.meet_all-met.new.self.left) c.meet_all-met.new.self.memo
-    c.requires.lawful (c.board.ensures.board ∙ back) c.in-Ok.ensures.memo c.keep.new.self (record { accepted = accepted; counted = counted }) c.keep.ensures.kept
+    ∙ lift_back rule b _ n.attack c.requires.ready.lawful c.requires.goes_on (c.meet_all-met.ensures.same ∙ c.play.ensures.played) in
+    let size = c.args.self.now.left - c.meet_all-met.new.self.left in
+    let counted : arrivals rule tab c.args.i b ≡ size = omega (arith, all, behind, took) in (
+      accepted,
+      record {
+        counted = omega (arith, all, behind, took);
+        no_line = c.in-Ok.ensures.walked.1.no_line;
+        memo = true-kept rule (IsWalked rule tab) b c.board.result.now c.args.i size c.meet_all-met.new.self.memo
+            c.requires.ready.lawful (c.board.ensures.board ∙ back) c.in-Ok.ensures.walked.1.memo c.keep.new.self (record { accepted = accepted; counted = counted }) c.keep.ensures.kept;
+      },
+    )
