@@ -1,0 +1,68 @@
+-- The laws of images, from those of turns.
+use Rattle.std.proofs.Common.{◌≡◌, ℕ, true}
+use Rattle.game_rules.specs.Grid.{Grid, IsBoard}
+use Rattle.game_rules.specs.Games.{has_five, has_threat}
+use Rattle.strategy_graph.specs.Tables.{Answers, IsTable, IsStart, TableOnBoard, RepliesOn}
+use Rattle.strategy_graph.specs.declared.Node.{Node}
+use Rattle.std.proofs.Common.{List}
+use Rattle.board_symmetry.specs.Points.{fits}
+use Rattle.board_symmetry.specs.Laws.{KeepsMoves, KeepsWins, KeepsNode, KeepsStart, ImagesKeepPositions}
+use Rattle.board_symmetry.specs.declared.symmetry.Symmetry.{Symmetry}
+use Rattle.board_symmetry.proofs.Eight.{turn_of}
+use Rattle.board_symmetry.proofs.BoardImages.{image_turned}
+use Rattle.board_symmetry.proofs.TurnedOutcomes.{outcome-same, foul-same}
+use Rattle.board_symmetry.proofs.TurnedPositions.{position-same}
+use Rattle.board_symmetry.proofs.TurnedWins.{wins-same, wins_after-same, asks_nothing, asks_five, asks_threat}
+use Rattle.board_symmetry.proofs.TurnedTables.{accepted-same, accepted_start-same, arrivals-same, start_arrivals-same, game-same, depth-same, start_depth-same}
+use Rattle.board_symmetry.proofs.ImageGroup.{names_sized}
+
+module _ (s : Symmetry) (b : Grid) (ok : IsBoard b) (fit : fits s b.width b.height ≡ true) where
+  pub keeps_moves : KeepsMoves s b
+  keeps_moves = record {
+    same_outcome = λ rule p on. outcome-same b.width b.height _ _ (turn_of s b.width b.height fit) b.cells _
+        (image_turned s b ok fit) rule p on;
+    same_foul = λ rule side p on. foul-same b.width b.height _ _ (turn_of s b.width b.height fit) b.cells _
+        (image_turned s b ok fit) rule p on side;
+  }
+
+  pub keeps_wins : KeepsWins s b
+  keeps_wins =
+      let turn = turn_of s b.width b.height fit in
+      let turned = image_turned s b ok fit in
+      record {
+        same_win = λ rule n. wins-same b.width b.height _ _ turn (λ c side. true)
+            (asks_nothing b.width b.height _ _ turn) rule n b.cells _ turned;
+        same_win_by_fours = λ rule n. wins-same b.width b.height _ _ turn (has_five rule)
+            (asks_five b.width b.height _ _ turn rule) rule n b.cells _ turned;
+        same_win_by_threats = λ rule n. wins-same b.width b.height _ _ turn (has_threat rule)
+            (asks_threat b.width b.height _ _ turn rule) rule n b.cells _ turned;
+        same_win_after = λ rule n. wins_after-same b.width b.height _ _ turn rule n b.cells _ turned;
+      }
+
+  module _ (t : List Node) (table : IsTable t) (on : TableOnBoard b t) where
+    pub keeps_node : (i : ℕ) → KeepsNode s b t i
+    keeps_node i =
+        let turn = turn_of s b.width b.height fit in
+        let turned = image_turned s b ok fit in
+        let named = names_sized b t on in
+        record {
+          same_depth = depth-same b.width b.height _ _ turn t table named i;
+          same_accepted = λ rule. accepted-same b.width b.height _ _ turn rule t named i b.cells _ turned;
+          same_arrivals = λ rule. arrivals-same b.width b.height _ _ turn rule t named i b.cells _ turned;
+          same_game = λ rule qs all. game-same b.width b.height _ _ turn rule t named i b.cells _ qs turned all;
+        }
+
+    pub keeps_start : (a : Answers) → IsStart a → RepliesOn b a.replies → KeepsStart s b t a
+    keeps_start a start listed =
+        let turn = turn_of s b.width b.height fit in
+        let turned = image_turned s b ok fit in
+        let named = names_sized b t on in
+        record {
+          same_depth = start_depth-same b.width b.height _ _ turn t table named a start.rising listed;
+          same_accepted = λ rule. accepted_start-same b.width b.height _ _ turn rule t named a b.cells _ turned;
+          same_arrivals = λ rule. start_arrivals-same b.width b.height _ _ turn rule t named a b.cells _ turned;
+        }
+
+pub keeps_positions : ImagesKeepPositions
+keeps_positions s b ok fit rule = position-same b.width b.height _ _ (turn_of s b.width b.height fit) b.cells _
+    (image_turned s b ok fit) rule

@@ -1,0 +1,107 @@
+-- The laws of images: what holds of a board and a table holds of their images.
+use Rattle.std.specs.Prelude.{◌≡◌, ◌↔◌, ℕ, true, List, map}
+use Rattle.std.specs.List.{list_all}
+use Rattle.game_rules.specs.Grid.{Grid, IsBoard, is_on}
+use Rattle.game_rules.specs.Play.{IsPosition, outcome, foul_of}
+use Rattle.game_rules.specs.Games.{WinsWithin, WinsByFours, WinsByThreats, WinsAfter}
+use Rattle.game_rules.specs.declared.RuleKind.{RuleKind}
+use Rattle.game_rules.specs.declared.Side.{Side}
+use Rattle.game_rules.specs.declared.Point.{Point}
+use Rattle.strategy_graph.specs.Tables.{Answers, IsTable, IsStart, TableOnBoard, RepliesOn, depth, start_depth}
+use Rattle.strategy_graph.specs.Acceptance.{Accepted, AcceptedStart}
+use Rattle.strategy_graph.specs.Arrivals.{arrivals, start_arrivals}
+use Rattle.strategy_graph.specs.Games.{game}
+use Rattle.strategy_graph.specs.declared.Node.{Node}
+use Rattle.board_symmetry.specs.Points.{fits, inverse, point_image, board_image}
+use Rattle.board_symmetry.specs.Images.{answers_image, table_image}
+use Rattle.board_symmetry.specs.declared.symmetry.Symmetry.{Symmetry}
+
+-- P holds of each symmetry and each board that it fits
+abbrev pub OnImages : (Symmetry → Grid → Type 0) → Type 0
+OnImages P = (s : Symmetry) (b : Grid) → IsBoard b → fits s b.width b.height ≡ true → P s b
+
+-- a move at a point of the board and its image have the same outcome, and are the same foul of each side
+pub record KeepsMoves (s : Symmetry) (b : Grid) : Type 0 where
+  pub same_outcome : (rule : RuleKind) (p : Point) → is_on b p ≡ true
+      → outcome rule (board_image s b) (point_image s b.width b.height p) ≡ outcome rule b p
+  pub same_foul : (rule : RuleKind) (side : Side) (p : Point) → is_on b p ≡ true
+      → foul_of rule (board_image s b) side (point_image s b.width b.height p) ≡ foul_of rule b side p
+
+-- moves keep what they are
+abbrev pub ImagesKeepMoves : Type 0
+ImagesKeepMoves = OnImages KeepsMoves
+
+-- the image is a lawful position exactly where the board is one
+abbrev pub ImagesKeepPositions : Type 0
+ImagesKeepPositions = OnImages (λ s b. (rule : RuleKind) → IsPosition rule (board_image s b) ↔ IsPosition rule b)
+
+-- the image is won within so many moves exactly where the board is: by any moves, by continuous fours, by threats, and by the
+-- other side whatever is played first
+pub record KeepsWins (s : Symmetry) (b : Grid) : Type 0 where
+  pub same_win : (rule : RuleKind) (n : ℕ) → WinsWithin rule n (board_image s b) ↔ WinsWithin rule n b
+  pub same_win_by_fours : (rule : RuleKind) (n : ℕ) → WinsByFours rule n (board_image s b) ↔ WinsByFours rule n b
+  pub same_win_by_threats : (rule : RuleKind) (n : ℕ) → WinsByThreats rule n (board_image s b) ↔ WinsByThreats rule n b
+  pub same_win_after : (rule : RuleKind) (n : ℕ) → WinsAfter rule n (board_image s b) ↔ WinsAfter rule n b
+
+-- wins stay
+abbrev pub ImagesKeepWins : Type 0
+ImagesKeepWins = OnImages KeepsWins
+
+-- node i of the image of a table says at the image of a board what node i of the table says at the board: its depth, where it
+-- is accepted, its arrivals and its games
+pub record KeepsNode (s : Symmetry) (b : Grid) (t : List Node) (i : ℕ) : Type 0 where
+  pub same_depth : depth (table_image s b.width b.height t) i ≡ depth t i
+  pub same_accepted : (rule : RuleKind) → Accepted rule (table_image s b.width b.height t) i (board_image s b) ↔ Accepted rule t i b
+  pub same_arrivals : (rule : RuleKind) → arrivals rule (table_image s b.width b.height t) i (board_image s b) ≡ arrivals rule t i b
+  pub same_game : (rule : RuleKind) (qs : List Point) → list_all (is_on b) qs ≡ true
+      → game rule (table_image s b.width b.height t) i (board_image s b) (map (point_image s b.width b.height) qs) ≡ game rule t i b qs
+
+-- nodes say what they said, where the table names points of the board alone
+abbrev pub ImagesKeepNodes : Type 0
+ImagesKeepNodes = OnImages (λ s b. (t : List Node) → IsTable t → TableOnBoard b t → (i : ℕ) → KeepsNode s b t i)
+
+-- the image of a start says with the image of a table what the start says with the table: its depth, where it is accepted, and
+-- its arrivals
+pub record KeepsStart (s : Symmetry) (b : Grid) (t : List Node) (a : Answers) : Type 0 where
+  pub same_depth : start_depth (table_image s b.width b.height t) (answers_image s b.width b.height a) ≡ start_depth t a
+  pub same_accepted : (rule : RuleKind)
+      → AcceptedStart rule (table_image s b.width b.height t) (answers_image s b.width b.height a) (board_image s b)
+      ↔ AcceptedStart rule t a b
+  pub same_arrivals : (rule : RuleKind)
+      → start_arrivals rule (table_image s b.width b.height t) (answers_image s b.width b.height a) (board_image s b)
+      ≡ start_arrivals rule t a b
+
+-- starts say what they said
+abbrev pub ImagesKeepStarts : Type 0
+ImagesKeepStarts =
+    OnImages (λ s b. (t : List Node) → IsTable t → TableOnBoard b t → (a : Answers) → IsStart a → RepliesOn b a.replies
+    → KeepsStart s b t a)
+
+-- u takes points, boards and tables where s and then t take them
+pub record Together (s t u : Symmetry) (b : Grid) : Type 0 where
+  pub fitting : fits u b.width b.height ≡ true
+  pub points : (p : Point) → is_on b p ≡ true
+      → point_image t b.width b.height (point_image s b.width b.height p) ≡ point_image u b.width b.height p
+  pub boards : board_image t (board_image s b) ≡ board_image u b
+  pub tables : (nodes : List Node) → TableOnBoard b nodes
+      → table_image t b.width b.height (table_image s b.width b.height nodes) ≡ table_image u b.width b.height nodes
+
+-- two symmetries one after another are one of the eight
+abbrev pub ImagesCompose : Type 0
+ImagesCompose =
+    (s t : Symmetry) → (u : Symmetry) × ((b : Grid) → IsBoard b → fits s b.width b.height ≡ true → fits t b.width b.height ≡ true
+    → Together s t u b)
+
+-- the inverse takes each point, board and table back
+pub record TakesBack (s : Symmetry) (b : Grid) : Type 0 where
+  pub fitting : fits (inverse s) b.width b.height ≡ true
+  pub on : (p : Point) → is_on b p ≡ true → is_on b (point_image s b.width b.height p) ≡ true
+  pub points : (p : Point) → is_on b p ≡ true
+      → point_image (inverse s) b.width b.height (point_image s b.width b.height p) ≡ p
+  pub boards : board_image (inverse s) (board_image s b) ≡ b
+  pub tables : (t : List Node) → IsTable t → TableOnBoard b t
+      → table_image (inverse s) b.width b.height (table_image s b.width b.height t) ≡ t
+
+-- the inverse undoes
+abbrev pub InversesTakeBack : Type 0
+InversesTakeBack = OnImages TakesBack
