@@ -4,9 +4,10 @@ use Rattle.game_rules.specs.Grid.{Grid, IsBoard}
 use Rattle.game_rules.specs.Games.{has_five, has_threat}
 use Rattle.strategy_graph.specs.Tables.{Answers, IsTable, IsStart, TableOnBoard, RepliesOn}
 use Rattle.strategy_graph.specs.declared.Node.{Node}
+use Rattle.strategy_graph.specs.declared.roots.Root.TheVariants.{Attack, Defend}
 use Rattle.std.proofs.Common.{List}
 use Rattle.board_symmetry.specs.Points.{fits}
-use Rattle.board_symmetry.specs.Laws.{KeepsMoves, KeepsWins, KeepsNode, KeepsStart, ImagesKeepPositions}
+use Rattle.board_symmetry.specs.Laws.{KeepsMoves, KeepsWins, KeepsNode, KeepsStart, ImagesKeepPositions, ImagesKeepRoots}
 use Rattle.board_symmetry.specs.declared.symmetry.Symmetry.{Symmetry}
 use Rattle.board_symmetry.proofs.Eight.{turn_of}
 use Rattle.board_symmetry.proofs.BoardImages.{image_turned}
@@ -66,3 +67,21 @@ module _ (s : Symmetry) (b : Grid) (ok : IsBoard b) (fit : fits s b.width b.heig
 pub keeps_positions : ImagesKeepPositions
 keeps_positions s b ok fit rule = position-same b.width b.height _ _ (turn_of s b.width b.height fit) b.cells _
     (image_turned s b ok fit) rule
+
+pub keeps_root : ImagesKeepRoots
+keeps_root s b ok fit t table on (Attack i) is listed =
+    let node = keeps_node s b ok fit t table on i in
+    record {
+      same_depth = node.same_depth;
+      same_accepted = node.same_accepted;
+      same_arrivals = node.same_arrivals;
+      same_claim = (keeps_wins s b ok fit).same_win;
+    }
+keeps_root s b ok fit t table on (Defend a) is listed =
+    let start = keeps_start s b ok fit t table on a is listed in
+    record {
+      same_depth = start.same_depth;
+      same_accepted = start.same_accepted;
+      same_arrivals = start.same_arrivals;
+      same_claim = (keeps_wins s b ok fit).same_win_after;
+    }

@@ -25,3 +25,5 @@ pub mod TableImages
 -- the laws of images
 mod ImageGroup
 pub mod ImageLaws
+-- the image of a table as a file has it
+pub mod FileImages

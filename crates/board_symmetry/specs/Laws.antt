@@ -11,9 +11,12 @@ use Rattle.strategy_graph.specs.Tables.{Answers, IsTable, IsStart, TableOnBoard,
 use Rattle.strategy_graph.specs.Acceptance.{Accepted, AcceptedStart}
 use Rattle.strategy_graph.specs.Arrivals.{arrivals, start_arrivals}
 use Rattle.strategy_graph.specs.Games.{game}
+use Rattle.strategy_graph.specs.Roots.{RootOnBoard, root_depth, AcceptedRoot, root_arrivals, RootWins}
 use Rattle.strategy_graph.specs.declared.Node.{Node}
+use Rattle.strategy_graph.specs.declared.roots.Root.{Root}
+use Rattle.strategy_graph.specs.declared.roots.Root.TheVariants.{Attack, Defend}
 use Rattle.board_symmetry.specs.Points.{fits, inverse, point_image, board_image}
-use Rattle.board_symmetry.specs.Images.{answers_image, table_image}
+use Rattle.board_symmetry.specs.Images.{answers_image, table_image, root_image}
 use Rattle.board_symmetry.specs.declared.symmetry.Symmetry.{Symmetry}
 
 -- P holds of each symmetry and each board that it fits
@@ -76,6 +79,26 @@ abbrev pub ImagesKeepStarts : Type 0
 ImagesKeepStarts =
     OnImages (λ s b. (t : List Node) → IsTable t → TableOnBoard b t → (a : Answers) → IsStart a → RepliesOn b a.replies
     → KeepsStart s b t a)
+
+-- the image of a root says with the image of a table what the root says with the table: its depth, where it is accepted, its
+-- arrivals, and what it claims
+pub record KeepsRoot (s : Symmetry) (b : Grid) (t : List Node) (r : Root) : Type 0 where
+  pub same_depth : root_depth (table_image s b.width b.height t) (root_image s b.width b.height r) ≡ root_depth t r
+  pub same_accepted : (rule : RuleKind)
+      → AcceptedRoot rule (table_image s b.width b.height t) (root_image s b.width b.height r) (board_image s b) ↔ AcceptedRoot rule t r b
+  pub same_arrivals : (rule : RuleKind)
+      → root_arrivals rule (table_image s b.width b.height t) (root_image s b.width b.height r) (board_image s b) ≡ root_arrivals rule t r b
+  pub same_claim : (rule : RuleKind) (n : ℕ) → RootWins rule (root_image s b.width b.height r) n (board_image s b) ↔ RootWins rule r n b
+
+-- the root is one that a table can have: a start is one
+abbrev pub IsRoot : Root → Type 0
+IsRoot (Attack i) = Unit {0}
+IsRoot (Defend a) = IsStart a
+
+-- and so do roots
+abbrev pub ImagesKeepRoots : Type 0
+ImagesKeepRoots = OnImages (λ s b. (t : List Node) → IsTable t → TableOnBoard b t → (r : Root) → IsRoot r → RootOnBoard b r
+    → KeepsRoot s b t r)
 
 -- u takes points, boards and tables where s and then t take them
 pub record Together (s t u : Symmetry) (b : Grid) : Type 0 where

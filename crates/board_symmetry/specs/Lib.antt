@@ -1,3 +1,4 @@
 pub mod Points
 pub mod Images
+pub mod Files
 pub mod Laws

@@ -4,7 +4,7 @@
 //! eight.
 #![tactic(auto)]
 
-ghost use Rattle.board_symmetry.specs.Laws.{ImagesKeepMoves, ImagesKeepPositions, ImagesKeepWins, ImagesKeepNodes, ImagesKeepStarts, ImagesCompose, InversesTakeBack};
+ghost use Rattle.board_symmetry.specs.Laws.{ImagesKeepMoves, ImagesKeepPositions, ImagesKeepWins, ImagesKeepNodes, ImagesKeepStarts, ImagesKeepRoots, ImagesCompose, InversesTakeBack};
 
 /// A move at the image of a point has, at the image of the board, the outcome that the move at the point has, and is the same
 /// foul.
@@ -24,10 +24,11 @@ pub fn images_keep_wins()
 {}
 
 /// A node of the image of a table has its depth, and at the image of a board it is accepted and has the arrivals and games of
-/// the node at the board. A start does so too.
+/// the node at the board. A start does so too, and so a root of either kind.
 pub fn images_keep_tables()
     ensures nodes { ImagesKeepNodes }
     ensures starts { ImagesKeepStarts }
+    ensures roots { ImagesKeepRoots }
 {}
 
 /// Two symmetries one after another are one of the eight.

@@ -1,0 +1,64 @@
+-- The image of a table as a file has it: it is one again, and has a text.
+use Rattle.std.proofs.Common.{◌≡◌, ℕ, true, ap, ◌∙◌, List, [], ◌∷◌, length}
+use Rattle.std.proofs.lemmas.List.{length-map}
+use Rattle.game_rules.specs.Grid.{Grid}
+use Rattle.strategy_graph.specs.Tables.{names_below, TableOnBoard}
+use Rattle.strategy_graph.specs.Roots.{RootOnBoard}
+use Rattle.strategy_graph.specs.declared.Node.{Node}
+use Rattle.strategy_graph.specs.declared.roots.Root.{Root}
+use Rattle.strategy_graph.specs.declared.roots.Root.TheVariants.{Attack, Defend}
+use Rattle.position_files.specs.Tables.{RootFits, IsTextOfTable}
+use Rattle.position_files.specs.declared.TableFile.{TableFile}
+use Rattle.board_symmetry.specs.Points.{fits, board_image, empty_board}
+use Rattle.board_symmetry.specs.Images.{table_image, root_image}
+use Rattle.board_symmetry.specs.Laws.{KeepsRoot, IsRoot}
+use Rattle.board_symmetry.specs.declared.symmetry.Symmetry.{Symmetry}
+use Rattle.board_symmetry.proofs.Eight.{turn_of}
+use Rattle.board_symmetry.proofs.ImageGroup.{names_sized}
+use Rattle.board_symmetry.proofs.ImageLaws.{keeps_root}
+use Rattle.board_symmetry.proofs.TableImages.{image-below, image-rising, image-on}
+
+module _ (s : Symmetry) (b : Grid) (fit : fits s b.width b.height ≡ true) where
+  -- the points that an image names are on the board
+  pub image-named : (t : List Node) → TableOnBoard b t → TableOnBoard (board_image s b) (table_image s b.width b.height t)
+  image-named [] on = tt
+  image-named (n ∷ t) on = (
+    record {
+      attack = (turn_of s b.width b.height fit).kept n.attack on.0.attack;
+      replies = image-on s b.width b.height n.replies;
+    },
+    image-named t on.1,
+  )
+
+  -- the image of a root has a text with the image of the table
+  pub image-root : (t : List Node) (r : Root) (moves : ℕ) → RootFits b t r moves
+      → RootFits (board_image s b) (table_image s b.width b.height t) (root_image s b.width b.height r) moves
+  image-root t (Attack i) moves (last, some, few) = (length-map t _ ∙ last, some, few)
+  image-root t (Defend a) moves (start, below, on, few) = (
+    record { not_winning = start.not_winning; rising = image-rising s b.width b.height a.replies },
+    ap (names_below _) (length-map t _) ∙ image-below s b.width b.height a (length t) below,
+    image-on s b.width b.height a.replies,
+    few,
+  )
+
+-- a root that has a text is one of a table, and names points of the board
+pub root-fits : (b : Grid) (t : List Node) (r : Root) (moves : ℕ) → RootFits b t r moves → IsRoot r × RootOnBoard b r
+root-fits b t (Attack i) moves fit = (tt, tt)
+root-fits b t (Defend a) moves fit = (fit.0, fit.2)
+
+-- what is asked of a root on a board of this size
+pub root-sized : (b : Grid) (r : Root) → RootOnBoard b r → RootOnBoard (empty_board b.width b.height) r
+root-sized b (Attack i) on = tt
+root-sized b (Defend a) on = on
+
+-- what is asked of a table there
+pub table-sized : (b : Grid) (t : List Node) → TableOnBoard b t → TableOnBoard (empty_board b.width b.height) t
+table-sized = names_sized
+
+-- the image of a root of a file
+pub file-root : (s : Symmetry) (file : TableFile) (bytes : List ℕ) → IsTextOfTable file bytes → fits s file.board.width file.board.height
+    ≡ true
+    → KeepsRoot s file.board file.table file.root
+file-root s file bytes text fit =
+    let root = root-fits file.board file.table file.root file.moves text.root in
+    keeps_root s file.board text.board fit file.table text.table text.on_board file.root root.0 root.1
