@@ -3,6 +3,7 @@ mod Stones
 mod BoardLaws
 mod BoardLines
 mod PositionBad
+mod GameLaws
 mod AnswerLaws
 mod NodeLaws
 mod TableLaws

@@ -1,6 +1,6 @@
 -- Where bytes leave the texts of positions, and that a text is that of one position.
 use Rattle.std.proofs.Common.{◌≡◌, ℕ, ◌+◌, refl, sym, ap, subst, ◌∙◌, arith, List, [], ◌∷◌, ◌++◌, length, take}
-use Rattle.std.specs.Prelude.{codes}
+use Rattle.std.specs.Prelude.{codes, Some}
 use Rattle.std.proofs.lemmas.List.{append-nil}
 use Rattle.game_rules.specs.Grid.{Grid, IsBoard}
 use Rattle.game_rules.specs.declared.RuleKind.{RuleKind}
@@ -9,18 +9,18 @@ use Rattle.game_rules.specs.declared.TheConstants.{MIN_SIDE}
 use Rattle.game_rules.proofs.Marks.{empty_board}
 use Rattle.foul_judge.specs.Lawful.{refusal}
 use Rattle.position_files.specs.declared.PositionFile.{PositionFile}
-use Rattle.position_files.specs.declared.error.FileError.{FileError}
 use Rattle.position_files.specs.declared.error.HeadError.{HeadError}
 use Rattle.position_files.specs.declared.error.HeadError.TheVariants.{BadLine as BadHead, Memory as NoRoom}
 use Rattle.text_lines.specs.Lines.{line_feed, text_of, FirstBad}
 use Rattle.position_files.specs.Positions.{board_lines, position_text, IsTextOfPosition, IsPositionText}
 use Rattle.position_files.specs.Sections.{IsBoardLines, IsSectionFault}
-use Rattle.position_files.specs.Faults.{IsPositionFault, IsRefusedAs, after_lines, in_file}
+use Rattle.position_files.specs.Faults.{IsPositionFault, after_lines, in_file}
 use Rattle.position_files.proofs.Stones.{IsBoard-empty}
 use Rattle.text_lines.proofs.TextLaws.{text_of-cons, AreFree, text_of-injective, whole_text}
 use Rattle.text_lines.proofs.Leaving.{HasParts, leaves_after}
 use Rattle.text_lines.proofs.Badness.{first_bad, too_many}
 use Rattle.position_files.proofs.BoardLines.{board-free, board-length, board_lines-injective, least_side}
+use Rattle.foul_judge.specs.declared.position.PositionError.{PositionError}
 
 -- ---- the lines of a position
 
@@ -108,11 +108,6 @@ module _ (bytes : List ℕ) where
           (λ lt others is f. let other = board-length is.0 is.1 in let len = ap length is.3 in omega (arith, count, other, len)) in
           subst (FirstBad IsPositionText bytes) (omega (arith, count)) found
 
-      pub unlawful_fault : (error : FileError) → IsTextOfPosition (record { kind = kind; board = b }) bytes → IsRefusedAs kind b error → IsPositionFault bytes error
-      unlawful_fault error text why =
-          subst (IsPositionFault bytes) (sym why.is) (
-            (record { kind = kind; board = b }, text),
-            λ file is.
-                let same = one_position (record { kind = kind; board = b }) file bytes text is in
-                ap (λ (f : PositionFile). refusal f.kind f.board) same ∙ why.first,
-          )
+-- the board of a position that is not lawful
+pub unlawful_fault : (file : PositionFile) (bytes : List ℕ) (why : PositionError) → IsTextOfPosition file bytes → refusal file.kind file.board ≡ Some why → IsPositionText bytes × ((other : PositionFile) → IsTextOfPosition other bytes → refusal other.kind other.board ≡ Some why)
+unlawful_fault file bytes why text first = ((file, text), λ other is. ap (λ (f : PositionFile). refusal f.kind f.board) (one_position file other bytes text is) ∙ first)

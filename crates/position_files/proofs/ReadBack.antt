@@ -20,8 +20,8 @@ use Rattle.position_files.specs.declared.error.FileError.{FileError}
 use Rattle.position_files.specs.declared.error.FileError.TheVariants.{BadLine, Unlawful, WrongMoves, Memory}
 use Rattle.position_files.specs.Positions.{IsTextOfPosition, board_lines}
 use Rattle.position_files.specs.Tables.{IsTextOfTable, node_line, start_line}
-use Rattle.position_files.specs.Faults.{IsPositionFault, IsTableFault}
-use Rattle.position_files.specs.ReadBack.{HeadsReadBack, NamesFirstBad, NodesNameFirstBad, NodesReadBack, PositionsReadBack, StartsNameFirstBad, StartsReadBack, TablesReadBack}
+use Rattle.position_files.specs.Faults.{IsPositionFault, IsTableFault, IsGameFault}
+use Rattle.position_files.specs.ReadBack.{HeadsReadBack, NamesFirstBad, NodesNameFirstBad, NodesReadBack, PositionsReadBack, StartsNameFirstBad, StartsReadBack, TablesReadBack, GamesReadBack}
 use Rattle.position_files.specs.Sections.{AreNodeLines, IsBoardLines, IsSectionFault, IsStartLines}
 use Rattle.text_lines.specs.Lines.{text_of, BeginsWith, FirstBad}
 use Rattle.text_lines.proofs.TextLaws.{AreFree, front_parts, text_of-cons}
@@ -29,6 +29,11 @@ use Rattle.text_lines.proofs.Leaving.{not_left}
 use Rattle.position_files.proofs.SectionLaws.{one_head, one_list, one_start, start_parts}
 use Rattle.position_files.proofs.PositionBad.{one_position}
 use Rattle.position_files.proofs.TableTexts.{one_table}
+use Rattle.position_files.specs.declared.GameFile.{GameFile}
+use Rattle.position_files.specs.declared.error.GameError.{GameError}
+use Rattle.position_files.specs.declared.error.GameError.TheVariants.{BadLine as BadGame, Unlawful as UnlawfulGame, Memory as NoGame}
+use Rattle.position_files.specs.Games.{IsTextOfGame}
+use Rattle.position_files.proofs.GameLaws.{one_game}
 
 -- nothing is said against a lawful position
 not-unlawful : (kind : RuleKind) (b : Grid) (why : PositionError) → IsPosition kind b → refusal kind b ≡ Some why → ⊥
@@ -60,6 +65,18 @@ pub table-read-back : TablesReadBack
 table-read-back file bytes text lawful moves = record {
   no_other = λ other is. one_table file other bytes text is;
   no_fault = table-fault file bytes text lawful moves;
+}
+
+game-fault : (file : GameFile) (bytes : List ℕ) → IsTextOfGame file bytes → IsPosition file.kind file.board → (error : GameError) → IsGameFault bytes error → error ≡ NoGame
+game-fault file bytes text lawful (BadGame n) h = absurd (h.no_further bytes (file, text) refl)
+game-fault file bytes text lawful (UnlawfulGame why) h = absurd (not-unlawful file.kind file.board why lawful (h.1 file text))
+game-fault file bytes text lawful NoGame h = refl
+
+-- the text of a game from a lawful position is read back as that game
+pub game-read-back : GamesReadBack
+game-read-back file bytes text lawful = record {
+  no_other = λ other is. one_game file other bytes text is;
+  no_fault = game-fault file bytes text lawful;
 }
 
 -- ---- sections

@@ -1,9 +1,6 @@
 -- What is said of a text that is refused.
 use Rattle.std.specs.Prelude.{◌≡◌, ℕ, ◌+◌, ◌≤◌, List, Some}
-use Rattle.game_rules.specs.Grid.{Grid}
-use Rattle.game_rules.specs.declared.RuleKind.{RuleKind}
 use Rattle.foul_judge.specs.Lawful.{refusal}
-use Rattle.foul_judge.specs.declared.position.PositionError.{PositionError}
 use Rattle.text_lines.specs.declared.fault.Fault.{Fault}
 use Rattle.text_lines.specs.declared.fault.Fault.TheVariants.{Bad, Memory}
 use Rattle.position_files.specs.declared.error.HeadError.{HeadError}
@@ -12,11 +9,15 @@ use Rattle.position_files.specs.declared.error.FileError.{FileError}
 use Rattle.position_files.specs.declared.error.FileError.TheVariants.{BadLine, Unlawful, WrongMoves, Memory as NoMemory}
 use Rattle.game_rules.specs.Play.{IsPosition}
 use Rattle.strategy_graph.specs.Roots.{root_depth}
+use Rattle.position_files.specs.declared.error.GameError.{GameError}
+use Rattle.position_files.specs.declared.error.GameError.TheVariants.{BadLine as BadGame, Unlawful as UnlawfulGame, Memory as NoGame}
 use Rattle.position_files.specs.declared.PositionFile.{PositionFile}
+use Rattle.position_files.specs.declared.GameFile.{GameFile}
 use Rattle.position_files.specs.declared.TableFile.{TableFile}
 use Rattle.position_files.specs.Tables.{IsTextOfTable, IsTableText}
 use Rattle.text_lines.specs.Lines.{FirstBad}
 use Rattle.position_files.specs.Positions.{IsTextOfPosition, IsPositionText}
+use Rattle.position_files.specs.Games.{IsTextOfGame, IsGameText}
 
 -- the error of a section whose line of this number has the fault
 abbrev pub at_line : Fault → ℕ → HeadError
@@ -33,16 +34,15 @@ abbrev pub in_file : HeadError → FileError
 in_file (BadHead n) = BadLine n
 in_file NoRoom = NoMemory
 
+-- the error, said of the text of a game whose front the section is
+abbrev pub in_game : HeadError → GameError
+in_game (BadHead n) = BadGame n
+in_game NoRoom = NoGame
+
 -- the line that the error names, if it names one, is at most this one
 abbrev pub IsUpTo : ℕ → HeadError → Type 0
 IsUpTo most (BadHead n) = n ≤ most
 IsUpTo most NoRoom = Unit {0}
-
--- the error says the first reason why the board is no lawful position under the rule
-pub record IsRefusedAs (kind : RuleKind) (b : Grid) (error : FileError) : Type 0 where
-  pub why : PositionError
-  pub first : refusal kind b ≡ Some why
-  pub is : error ≡ Unlawful why
 
 -- What each error says of bytes that are to be the text of a position: that line n is the first bad one; or that they are such a
 -- text, and why its board is no lawful position; or that there is no memory.
@@ -51,6 +51,13 @@ IsPositionFault bytes (BadLine n) = FirstBad IsPositionText bytes n
 IsPositionFault bytes (Unlawful why) = IsPositionText bytes × ((file : PositionFile) → IsTextOfPosition file bytes → refusal file.kind file.board ≡ Some why)
 IsPositionFault bytes (WrongMoves written counted) = ⊥
 IsPositionFault bytes NoMemory = Unit {0}
+
+-- What each error says of bytes that are to be the text of a game: that line n is the first bad one; or that they are such a
+-- text, and why its board is no lawful position; or that there is no memory.
+abbrev pub IsGameFault : List ℕ → GameError → Type 0
+IsGameFault bytes (BadGame n) = FirstBad IsGameText bytes n
+IsGameFault bytes (UnlawfulGame why) = IsGameText bytes × ((file : GameFile) → IsTextOfGame file bytes → refusal file.kind file.board ≡ Some why)
+IsGameFault bytes NoGame = Unit {0}
 
 -- the position of the file is lawful, and these are the number of moves that it says and the depth of its root, which differ
 pub record IsMiscounted (file : TableFile) (written counted : ℕ) : Type 0 where

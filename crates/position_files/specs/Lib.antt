@@ -1,5 +1,6 @@
 pub mod Positions
 pub mod Tables
+pub mod Games
 pub mod Boards
 pub mod Faults
 pub mod Answers

@@ -4,6 +4,7 @@ use Rattle.game_rules.specs.Play.{IsPosition}
 use Rattle.strategy_graph.specs.Roots.{root_depth}
 use Rattle.position_files.specs.declared.PositionFile.{PositionFile}
 use Rattle.position_files.specs.declared.TableFile.{TableFile}
+use Rattle.position_files.specs.declared.GameFile.{GameFile}
 use Rattle.position_files.specs.declared.sections.Head.{Head}
 use Rattle.position_files.specs.declared.sections.Nodes.{Nodes}
 use Rattle.position_files.specs.declared.sections.StartLine.{StartLine}
@@ -11,12 +12,15 @@ use Rattle.position_files.specs.declared.error.HeadError.{HeadError}
 use Rattle.position_files.specs.declared.error.HeadError.TheVariants.{BadLine as BadHead, Memory as NoRoom}
 use Rattle.position_files.specs.declared.error.FileError.{FileError}
 use Rattle.position_files.specs.declared.error.FileError.TheVariants.{Memory}
+use Rattle.position_files.specs.declared.error.GameError.{GameError}
+use Rattle.position_files.specs.declared.error.GameError.TheVariants.{Memory as NoGame}
 use Rattle.position_files.specs.Positions.{IsTextOfPosition}
 use Rattle.position_files.specs.Tables.{IsTextOfTable}
+use Rattle.position_files.specs.Games.{IsTextOfGame}
 use Rattle.text_lines.specs.Lines.{BeginsWith, FirstBad}
 use Rattle.position_files.specs.Boards.{IsSide}
 use Rattle.position_files.specs.Sections.{AreNodeLines, IsBoardLines, IsHeadOf, IsNodesOf, IsSectionFault, IsStartLines, IsStartOf}
-use Rattle.position_files.specs.Faults.{IsPositionFault, IsTableFault}
+use Rattle.position_files.specs.Faults.{IsGameFault, IsPositionFault, IsTableFault}
 
 -- the bytes can be read as this position alone: they are the text of no other, and nothing but want of memory is said of them
 pub record OnlyPosition (file : PositionFile) (bytes : List ℕ) : Type 0 where
@@ -28,6 +32,11 @@ pub record OnlyTable (file : TableFile) (bytes : List ℕ) : Type 0 where
   pub no_other : (other : TableFile) → IsTextOfTable other bytes → other ≡ file
   pub no_fault : (error : FileError) → IsTableFault bytes error → error ≡ Memory
 
+-- the bytes can be read as this game alone: they are the text of no other, and nothing but want of memory is said of them
+pub record OnlyGame (file : GameFile) (bytes : List ℕ) : Type 0 where
+  pub no_other : (other : GameFile) → IsTextOfGame other bytes → other ≡ file
+  pub no_fault : (error : GameError) → IsGameFault bytes error → error ≡ NoGame
+
 -- the text of a lawful position is read back as that position
 abbrev pub PositionsReadBack : Type 0
 PositionsReadBack = (file : PositionFile) (bytes : List ℕ) → IsTextOfPosition file bytes → IsPosition file.kind file.board → OnlyPosition file bytes
@@ -36,6 +45,10 @@ PositionsReadBack = (file : PositionFile) (bytes : List ℕ) → IsTextOfPositio
 abbrev pub TablesReadBack : Type 0
 TablesReadBack =
     (file : TableFile) (bytes : List ℕ) → IsTextOfTable file bytes → IsPosition file.kind file.board → file.moves ≡ root_depth file.table file.root → OnlyTable file bytes
+
+-- the text of a game from a lawful position is read back as that game
+abbrev pub GamesReadBack : Type 0
+GamesReadBack = (file : GameFile) (bytes : List ℕ) → IsTextOfGame file bytes → IsPosition file.kind file.board → OnlyGame file bytes
 
 -- the bytes begin with this head alone: with no other, and nothing but want of memory is said of them
 pub record OnlyHead (head : Head) (bytes : List ℕ) : Type 0 where

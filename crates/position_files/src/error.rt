@@ -4,7 +4,7 @@
 #![tactic(auto)]
 
 ghost use Rattle.std.specs.Prelude.{◌≡◌, ◌-◌};
-ghost use Rattle.position_files.specs.Faults.{IsUpTo, after_lines, at_line, in_file};
+ghost use Rattle.position_files.specs.Faults.{IsUpTo, after_lines, at_line, in_file, in_game};
 
 use foul_judge::PositionError;
 use std::alloc::AllocError;
@@ -24,6 +24,21 @@ pub enum FileError {
     /// The number of moves that is written is not the depth of the root, which is counted.
     #[error("{written} moves are written, and {counted} are counted")]
     WrongMoves { written: u32, counted: u32 },
+    /// There is no memory for the value.
+    #[error("out of memory")]
+    Memory,
+}
+
+/// Why the text of a game is refused. The first that holds is answered, but `Memory` may come at any line.
+#[derive(Debug, Drop, PartialEq, Eq, Error)]
+pub enum GameError {
+    /// The line of this number, counted from 1, is the first that no game has after the lines before it. A line that is
+    /// missing counts, and so does one too many.
+    #[error("line {0} is bad")]
+    BadLine(u32),
+    /// The board is no lawful position under the rule.
+    #[error("the position is not lawful: {0:?}")]
+    Unlawful(PositionError),
     /// There is no memory for the value.
     #[error("out of memory")]
     Memory,
@@ -70,6 +85,38 @@ impl From<HeadError> for FileError {
             HeadError::BadLine(line) => FileError::BadLine(line),
             HeadError::Memory => FileError::Memory,
         }
+    }
+}
+
+impl From<HeadError> for GameError {
+    ghost from_gives = { λ head error. error ≡ in_game head };
+
+    /// The same, said of the text of a game whose front the section is.
+    fn from(error: HeadError) -> GameError {
+        match error {
+            HeadError::BadLine(line) => GameError::BadLine(line),
+            HeadError::Memory => GameError::Memory,
+        }
+    }
+}
+
+impl From<PositionError> for FileError {
+    ghost use Rattle.position_files.specs.declared.error.FileError.TheVariants.{Unlawful};
+
+    ghost from_gives = { λ why error. error ≡ Unlawful why };
+
+    fn from(why: PositionError) -> FileError {
+        FileError::Unlawful(why)
+    }
+}
+
+impl From<PositionError> for GameError {
+    ghost use Rattle.position_files.specs.declared.error.GameError.TheVariants.{Unlawful};
+
+    ghost from_gives = { λ why error. error ≡ Unlawful why };
+
+    fn from(why: PositionError) -> GameError {
+        GameError::Unlawful(why)
     }
 }
 

@@ -1,7 +1,7 @@
-//! The texts of positions and of tables, read and written.
+//! The texts of positions, of tables and of games: read, and but for games written.
 //!
-//! A text is a list of lines, each ended by a line feed, and each value has one spelling: `specs/Positions.antt` and
-//! `specs/Tables.antt` give it. The readers go over the lines once. A line is bad where no text has it after the lines
+//! A text is a list of lines, each ended by a line feed, and each value has one spelling: `specs/Positions.antt`,
+//! `specs/Tables.antt` and `specs/Games.antt` give it. The readers go over the lines once. A line is bad where no text has it after the lines
 //! before it. What other texts hold as well, as a head or the lines of nodes, is a section: it is read from its own
 //! front, and its lines are counted from 1 there.
 #![tactic(auto)]
@@ -9,6 +9,7 @@
 mod answers;
 mod boards;
 mod error;
+mod games;
 mod lawful;
 mod lines;
 mod nodes;
@@ -22,15 +23,17 @@ mod words;
 mod writers;
 mod written;
 
-pub use error::{FileError, HeadError};
+pub use error::{FileError, GameError, HeadError};
 use game_rules::RuleKind;
+pub use games::read_game;
 pub use positions::read_position;
 pub use sections::{HEAD_LINES, Head, Nodes, StartLine, read_head, read_nodes, read_start};
-use stone_board::Board;
+use stone_board::{Board, Points};
 use strategy_graph::{Root, Table};
 pub use tables::read_table;
 pub use theorems::{
-    positions_read_back, sections_name_first_bad_lines, sections_read_back, tables_read_back,
+    games_read_back, positions_read_back, sections_name_first_bad_lines, sections_read_back,
+    tables_read_back,
 };
 pub use writers::{write_position, write_table};
 
@@ -56,4 +59,13 @@ pub struct TableFile {
     pub table: Table,
     pub root: Root,
     pub moves: u32,
+}
+
+/// A game as a file has it: the rule, the board at which it begins, which is a lawful position under that rule, and the moves
+/// in order of play, each at a point of the board. The moves need not be legal.
+#[derive(Drop)]
+pub struct GameFile {
+    pub kind: RuleKind,
+    pub board: Board,
+    pub moves: Points,
 }

@@ -1,8 +1,8 @@
 //! Texts that are read, and texts that are refused.
 
 use crate::{
-    FileError, HeadError, read_head, read_nodes, read_position, read_start, read_table,
-    write_position, write_table,
+    FileError, GameError, HeadError, read_game, read_head, read_nodes, read_position, read_start,
+    read_table, write_position, write_table,
 };
 use foul_judge::PositionError;
 use game_rules::{Point, RuleKind, Side};
@@ -17,6 +17,9 @@ const TABLE: &[u8] =
 const START: &[u8] =
     b"renju-table 2\nrule freestyle\nsize 15\nblack 4,7 5,7 6,7 7,7\nwhite 0,0 2,0 4,0\nmoves 1\nnodes 2\n8,7 wins\n3,7 wins\nstart rest 0 8,7>1\n";
 
+const GAME: &[u8] =
+    b"renju-game 1\nrule exact\nsize 9,5\nblack 0,2 1,2\nwhite 0,0\nmoves 8,4 0,2 8,4\n";
+
 #[test]
 fn reads_a_position(rt: HostRuntime) -> Result<(), Fail> {
     let file = read_position(rt.alloc(), POSITION)?;
@@ -27,6 +30,18 @@ fn reads_a_position(rt: HostRuntime) -> Result<(), Fail> {
         (2, 1)
     );
     assert!(rt; file.board.holds(Side::Black, Point { x: 1, y: 2 }));
+    Ok(())
+}
+
+#[test]
+fn reads_a_game_whatever_its_moves(rt: HostRuntime) -> Result<(), Fail> {
+    let file = read_game(rt.alloc(), GAME)?;
+    assert_eq!(rt; file.kind, RuleKind::Exact);
+    assert_eq!(rt; (file.board.width(), file.board.height()), (9, 5));
+    let points = [(8, 4), (0, 2), (8, 4)].map(|(x, y)| Point { x, y });
+    assert_eq!(rt; file.moves.as_slice(), points.as_slice());
+    let none = b"renju-game 1\nrule renju\nsize 15\nblack\nwhite\nmoves\n";
+    assert_eq!(rt; read_game(rt.alloc(), none)?.moves.len(), 0);
     Ok(())
 }
 
@@ -94,6 +109,46 @@ fn names_what_is_refused(rt: HostRuntime) {
     for (bytes, error) in cases {
         assert!(rt;
             read_position(rt.alloc(), bytes).err() == Some(error),
+            "at {bytes:?}"
+        );
+    }
+}
+
+#[test]
+fn names_what_is_refused_of_a_game(rt: HostRuntime) {
+    let cases: [(&[u8], GameError); 7] = [
+        (
+            b"renju-position 1\nrule renju\nsize 9\nblack\nwhite\n",
+            GameError::BadLine(1),
+        ),
+        (
+            b"renju-game 1\nrule renju\nsize 9\nblack 9,0\n",
+            GameError::BadLine(4),
+        ),
+        (
+            b"renju-game 1\nrule renju\nsize 9\nblack\nwhite\n",
+            GameError::BadLine(6),
+        ),
+        (
+            b"renju-game 1\nrule renju\nsize 9\nblack\nwhite 0,1\nmoves 9,0\n",
+            GameError::BadLine(6),
+        ),
+        (
+            b"renju-game 1\nrule renju\nsize 9\nblack\nwhite\nmoves 1,1",
+            GameError::BadLine(6),
+        ),
+        (
+            b"renju-game 1\nrule renju\nsize 9\nblack\nwhite\nmoves 1,1\nmoves\n",
+            GameError::BadLine(7),
+        ),
+        (
+            b"renju-game 1\nrule renju\nsize 9\nblack\nwhite 0,1\nmoves\n",
+            GameError::Unlawful(PositionError::Uneven { black: 0, white: 1 }),
+        ),
+    ];
+    for (bytes, error) in cases {
+        assert!(rt;
+            read_game(rt.alloc(), bytes).err() == Some(error),
             "at {bytes:?}"
         );
     }

@@ -5,7 +5,7 @@
 //! is no memory.
 #![tactic(auto)]
 
-ghost use Rattle.position_files.specs.ReadBack.{HeadsReadBack, NamesFirstBad, NodesNameFirstBad, NodesReadBack, PositionsReadBack, StartsNameFirstBad, StartsReadBack, TablesReadBack};
+ghost use Rattle.position_files.specs.ReadBack.{GamesReadBack, HeadsReadBack, NamesFirstBad, NodesNameFirstBad, NodesReadBack, PositionsReadBack, StartsNameFirstBad, StartsReadBack, TablesReadBack};
 ghost use Rattle.position_files.specs.Sections.{IsBoardLines};
 
 /// The text of a lawful position is read back as that position: it is the text of no other, and it is not refused.
@@ -17,6 +17,11 @@ pub fn positions_read_back()
 /// text of no other, and it is not refused.
 pub fn tables_read_back()
     ensures same { TablesReadBack }
+{}
+
+/// The text of a game from a lawful position is read back as that game: it is the text of no other, and it is not refused.
+pub fn games_read_back()
+    ensures same { GamesReadBack }
 {}
 
 /// A head, lines of nodes and the line of a start that bytes begin with are read as these values, whatever follows them:

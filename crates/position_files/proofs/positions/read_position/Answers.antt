@@ -28,7 +28,7 @@ returns-in_err-board-clause-refused c =
     let parts = front_parts (text_of (board_lines c.in-Ok.head.kind c.in-Ok.head.board)) c.in-Some.rest.now c.in-Ok.head.taken found.front in
     let text = position_found c.in-Ok.head.kind c.in-Ok.head.board c.in-Ok.head.board c.args.bytes.now c.in-Some.rest.now (drop c.in-Ok.head.taken c.in-Some.rest.now) found.board c.in-Some.ensures.rest.1 parts
     (front_ends c.in-Some.rest.now c.in-Ok.head.taken c.if-taken-rest.false) refl in
-    rw (p.1, p.2) (unlawful_fault c.args.bytes.now c.in-Some.rest.now c.in-Some.ensures.rest.1 c.in-Ok.head.kind c.in-Ok.head.board (drop c.in-Ok.head.taken c.in-Some.rest.now) found.board parts c.in_err-board.field-0.0 text c.in_err-board.ensures.refused)
+    rw (p.1, p.2) (unlawful_fault (record { kind = c.in-Ok.head.kind; board = c.in-Ok.head.board }) c.args.bytes.now c.in_err-board.field-0.0 text c.in_err-board.ensures.refused)
 
 pub returns-clause-found : goal.returns-clause-found
 returns-clause-found c =
