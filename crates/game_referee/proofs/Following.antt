@@ -1,0 +1,370 @@
+-- Games that follow an accepted table: the verdict agrees with the end of the game against the table, and no such game is lost.
+use Rattle.std.proofs.Common.{◌≡◌, ◌↔◌, ℕ, zero, suc, ◌+◌, ◌*◌, ◌-◌, Bool, true, false, not, List, [], ◌∷◌, ◌++◌, length, refl, sym, ap, subst, ◌∙◌, arith}
+use Rattle.std.specs.Prelude.{Option, Some, None, slice_get}
+use Rattle.std.specs.Option.{option_map}
+use Rattle.game_rules.specs.Grid.{Grid}
+use Rattle.game_rules.specs.Shapes.{is_same_point}
+use Rattle.game_rules.specs.Play.{outcome, after, mover, other}
+use Rattle.game_rules.specs.Games.{WinsOr, LosesOr}
+use Rattle.game_rules.specs.declared.Side.{Side}
+use Rattle.game_rules.specs.declared.Foul.{Foul}
+use Rattle.game_rules.specs.declared.RuleKind.{RuleKind}
+use Rattle.game_rules.specs.declared.Outcome.{Outcome}
+use Rattle.game_rules.specs.declared.Outcome.TheVariants.{Refused, Wins, Fouls, Draws, GoesOn}
+use Rattle.game_rules.specs.declared.Point.{Point}
+use Rattle.game_rules.proofs.Boards.{other-other}
+use Rattle.game_rules.proofs.Points.{is_same_point-same}
+use Rattle.strategy_graph.specs.declared.Rest.{Rest}
+use Rattle.strategy_graph.specs.declared.Rest.TheVariants.{Wins as WinningRest, To, Nothing}
+use Rattle.strategy_graph.specs.declared.Node.{Node}
+use Rattle.strategy_graph.specs.declared.roots.Root.TheVariants.{Attack, Defend}
+use Rattle.strategy_graph.specs.Tables.{Answers, answers_of, answer, is_winning}
+use Rattle.strategy_graph.specs.Acceptance.{Answered, NotWinning, Meets, AcceptedNode, AcceptedWithin, Accepted}
+use Rattle.strategy_graph.specs.Games.{End, Won as EndWon, Open as EndOpen, one_later, attacks, game}
+use Rattle.game_referee.specs.declared.GameVerdict.{GameVerdict}
+use Rattle.game_referee.specs.declared.GameVerdict.TheVariants.{Open, Illegal, AfterEnd, Won, Fouled, Drawn}
+use Rattle.game_referee.specs.declared.ReplayAnswer.TheVariants.{Follows}
+use Rattle.game_referee.specs.Verdicts.{outcomes, verdict, verdict_from}
+use Rattle.game_referee.specs.Replays.{departs_from, is_attack, replay, strays}
+use Rattle.game_referee.specs.Followers.{Agrees, FollowerNeverLoses, GamesGoByTable, IsKeptBy, IsPlayed, even_moves, mover_after, odd_moves}
+
+-- ---- what agrees, where c moves were played before
+
+abbrev AgreesFrom : ℕ → Side → ℕ → GameVerdict → End → Type 0
+AgreesFrom c s len (Open n) e = (n ≡ c + len) × ((k : ℕ) → len ≡ 2 * k + 1 → e ≡ EndOpen)
+AgreesFrom c s len (Won side n) e = (side ≡ s) × (n ≡ c + len) × ((k : ℕ) × (len + 1 ≡ 2 * k) × (e ≡ EndWon k))
+AgreesFrom c s len (Fouled f n) e = (n ≡ c + len) × ((k : ℕ) × (len ≡ 2 * k) × (e ≡ EndWon k))
+AgreesFrom c s len (Drawn n) e = ⊥
+AgreesFrom c s len (Illegal n) e = ⊥
+AgreesFrom c s len (AfterEnd n) e = ⊥
+
+-- an attack and a reply that go on before it
+agrees-later : (c : ℕ) (s : Side) (len : ℕ) (v : GameVerdict) (e : End) → AgreesFrom (c + 1 + 1) s len v e
+    → AgreesFrom c s (suc (suc len)) v (one_later e)
+agrees-later c s len (Open n) e h = (let is = h.0 in omega (arith, is), λ k odd. ap one_later (h.1 (k - 1) (omega (arith, odd))))
+agrees-later c s len (Won side n) e h =
+    (h.0, (let is = h.1 in omega (arith, is)), (h.2.0 + 1, (let is = h.2.1 in omega (arith, is)), ap one_later h.2.2))
+agrees-later c s len (Fouled f n) e h =
+    ((let is = h.0 in omega (arith, is)), (h.1.0 + 1, (let is = h.1.1 in omega (arith, is)), ap one_later h.1.2))
+agrees-later c s len (Drawn n) e h = h
+agrees-later c s len (Illegal n) e h = h
+agrees-later c s len (AfterEnd n) e h = h
+
+agrees-by : (c : ℕ) (s : Side) (len : ℕ) (v w : GameVerdict) (e d : End) → v ≡ w → e ≡ d → AgreesFrom c s len w d → AgreesFrom c s len v e
+agrees-by c s len v w e d same ends h = subst (λ (x : GameVerdict). AgreesFrom c s len x e) (sym same)
+    (subst (AgreesFrom c s len w) (sym ends) h)
+
+-- ---- a game from a node, where the side s moves after c moves
+
+record Held (rule : RuleKind) (t : List Node) (i : ℕ) (b : Grid) (ms : List Point) (c : ℕ) (s : Side) : Type 0 where
+  agrees : AgreesFrom c s (length ms) (verdict_from c s (outcomes rule b ms)) (game rule t i b (even_moves ms))
+  played : (later : List Point) × (odd_moves ms ++ later ≡ attacks rule t i b (even_moves ms))
+
+abbrev FollowsFrom : RuleKind → List Node → ℕ → Grid → List Point → ℕ → Type 0
+FollowsFrom rule t i b ms c = departs_from c (strays t (Some (Attack i)) ms) (outcomes rule b ms) ≡ Follows
+
+-- what holds of all games from the nodes of which Next holds
+abbrev HeldAfter : RuleKind → List Node → (ℕ → Grid → Type 0) → Type 0
+HeldAfter rule t Next = (j : ℕ) (b : Grid) (ms : List Point) (c : ℕ) (s : Side) → Next j b → FollowsFrom rule t j b ms c
+    → IsPlayed (verdict_from c s (outcomes rule b ms)) → Held rule t j b ms c s
+
+not_winning : (r : Rest) → NotWinning r → is_winning r ≡ false
+not_winning WinningRest h = absurd h
+not_winning (To j) h = refl
+not_winning Nothing h = refl
+
+module _ (rule : RuleKind) (t : List Node) (i : ℕ) (b : Grid) (n : Node) (at : slice_get t i ≡ Some n) (c : ℕ) (s : Side) where
+  -- the attack wins, and is the last move
+  attack-wins : outcome rule b n.attack ≡ Wins → (more : List Point) → IsPlayed (verdict_from c s (outcomes rule b (n.attack ∷ more)))
+      → Held rule t i b (n.attack ∷ more) c s
+  unfolding game attacks
+  attack-wins won [] played = record {
+    agrees = agrees-by c s 1 _ (Won s (c + 1)) _ (EndWon 1) (ap (λ (o : Outcome). verdict_from c s (o ∷ [])) won) (rw (at, won) refl)
+        (refl, refl, (1, refl, refl));
+    played = ([], rw (at, won) refl);
+  }
+  attack-wins won (q ∷ more) played = absurd
+      (subst (λ (o : Outcome). IsPlayed (verdict_from c s (o ∷ outcomes rule (after b n.attack) (q ∷ more)))) won played)
+
+  module _ (on : outcome rule b n.attack ≡ GoesOn) (rest : is_winning n.rest ≡ false) where
+    -- the attack goes on, and is the last move
+    attack-open : Held rule t i b (n.attack ∷ []) c s
+    unfolding game attacks
+    attack-open = record {
+      agrees = agrees-by c s 1 _ (Open (c + 1)) _ EndOpen (ap (λ (o : Outcome). verdict_from c s (o ∷ [])) on) (rw (at, on, rest) refl)
+          (refl, λ k odd. refl);
+      played = ([], rw (at, on, rest) refl);
+    }
+
+    module _ (q : Point) where
+      -- the verdict by the outcome of the reply
+      by_reply : (more : List Point) (o : Outcome) → outcome rule (after b n.attack) q ≡ o
+          → verdict_from c s (outcomes rule b (n.attack ∷ q ∷ more)) ≡ verdict_from (c + 1) (other s)
+          (o ∷ outcomes rule (after (after b n.attack) q) more)
+      by_reply more o is =
+          ap (λ (x : Outcome). verdict_from c s (x ∷ outcomes rule (after b n.attack) (q ∷ more))) on
+          ∙ ap (λ (x : Outcome). verdict_from (c + 1) (other s) (x ∷ outcomes rule (after (after b n.attack) q) more)) is
+
+      played-reply : (more : List Point) (o : Outcome) → outcome rule (after b n.attack) q ≡ o
+          → IsPlayed (verdict_from c s (outcomes rule b (n.attack ∷ q ∷ more)))
+          → IsPlayed (verdict_from (c + 1) (other s) (o ∷ outcomes rule (after (after b n.attack) q) more))
+      played-reply more o is played = subst IsPlayed (by_reply more o is) played
+
+      -- the reply fouls, and is the last move
+      reply-fouls : (f : Foul) → outcome rule (after b n.attack) q ≡ Fouls f → (more : List Point)
+          → IsPlayed (verdict_from c s (outcomes rule b (n.attack ∷ q ∷ more))) → Held rule t i b (n.attack ∷ q ∷ more) c s
+      unfolding game attacks
+      reply-fouls f e [] played = record {
+        agrees = agrees-by c s 2 _ (Fouled f (c + 1 + 1)) _ (EndWon 1) (by_reply [] (Fouls f) e) (rw (at, on, rest, e) refl)
+            (omega arith, (1, refl, refl));
+        played = ([], rw (at, on, rest, e) refl);
+      }
+      reply-fouls f e (x ∷ more) played = absurd (played-reply (x ∷ more) (Fouls f) e played)
+
+      module _ (more : List Point) (j : ℕ) (go : outcome rule (after b n.attack) q ≡ GoesOn) (some : answer (answers_of n) q ≡ Some j) where
+        -- the reply goes on to its answer
+        reply-next : Held rule t j (after (after b n.attack) q) more (c + 1 + 1) s → Held rule t i b (n.attack ∷ q ∷ more) c s
+        unfolding game attacks
+        reply-next h = record {
+          agrees = agrees-by c s (suc (suc (length more))) _
+              (verdict_from (c + 1 + 1) s (outcomes rule (after (after b n.attack) q) more)) _
+              (one_later (game rule t j (after (after b n.attack) q) (even_moves more)))
+              (by_reply more GoesOn go ∙ ap (λ (x : Side). verdict_from (c + 1 + 1) x (outcomes rule (after (after b n.attack) q) more))
+              (other-other s))
+              (rw (at, on, rest, go, some) refl) (agrees-later c s (length more) _ _ h.agrees);
+          played =
+              let next : attacks rule t i b (q ∷ even_moves more) ≡ n.attack ∷ attacks rule t j (after (after b n.attack) q)
+              (even_moves more) = rw (at, on, rest, go, some) refl in
+              (h.played.0, ap (λ (l : List Point). n.attack ∷ l) h.played.1 ∙ sym next);
+        }
+
+        -- and the game follows the table from there
+        follows-next : departs_from c (false ∷ strays t (option_map (λ (m : Node). Defend (answers_of m)) (slice_get t i)) (q ∷ more))
+            (outcomes rule b (n.attack ∷ q ∷ more)) ≡ Follows → FollowsFrom rule t j (after (after b n.attack) q) more (c + 1 + 1)
+        follows-next follows =
+            let b1 : Grid = after b n.attack in
+            let os : List Outcome = outcomes rule (after b1 q) more in
+            let f1 = subst (λ (o : Outcome). departs_from c
+            (false ∷ strays t (option_map (λ (m : Node). Defend (answers_of m)) (slice_get t i)) (q ∷ more))
+            (o ∷ outcome rule b1 q ∷ os) ≡ Follows) on follows in
+            let f2 = subst (λ (x : Option Node). departs_from (c + 1)
+            (strays t (option_map (λ (m : Node). Defend (answers_of m)) x) (q ∷ more)) (outcome rule b1 q ∷ os) ≡ Follows) at f1 in
+            let f3 = subst (λ (o : Outcome). departs_from (c + 1)
+            (false ∷ strays t (option_map (λ (k : ℕ). Attack k) (answer (answers_of n) q)) more) (o ∷ os) ≡ Follows) go f2 in
+            subst (λ (x : Option ℕ). departs_from (c + 1 + 1) (strays t (option_map (λ (k : ℕ). Attack k) x) more) os ≡ Follows) some f3
+
+        follows-held : (Next : ℕ → Grid → Type 0) → HeldAfter rule t Next → Next j (after (after b n.attack) q)
+            → departs_from c (false ∷ strays t (option_map (λ (m : Node). Defend (answers_of m)) (slice_get t i)) (q ∷ more))
+            (outcomes rule b (n.attack ∷ q ∷ more)) ≡ Follows
+            → IsPlayed (verdict_from c s (outcomes rule b (n.attack ∷ q ∷ more))) → Held rule t i b (n.attack ∷ q ∷ more) c s
+        follows-held Next held next follows played =
+            let later = subst (λ (x : Side). IsPlayed (verdict_from (c + 1 + 1) x (outcomes rule (after (after b n.attack) q) more)))
+            (other-other s) (played-reply more GoesOn go played) in
+            reply-next (held j (after (after b n.attack) q) more (c + 1 + 1) s next (follows-next follows) later)
+
+      reply-held : (Next : ℕ → Grid → Type 0) → HeldAfter rule t Next → Meets rule (answers_of n) Next (after b n.attack) q
+          → (more : List Point)
+          → departs_from c (false ∷ strays t (option_map (λ (m : Node). Defend (answers_of m)) (slice_get t i)) (q ∷ more))
+          (outcomes rule b (n.attack ∷ q ∷ more)) ≡ Follows
+          → IsPlayed (verdict_from c s (outcomes rule b (n.attack ∷ q ∷ more))) → Held rule t i b (n.attack ∷ q ∷ more) c s
+      reply-held Next held meets more follows played = by_outcome (outcome rule (after b n.attack) q) refl meets where
+        by_answer : outcome rule (after b n.attack) q ≡ GoesOn → (o : Option ℕ) → answer (answers_of n) q ≡ o
+            → Answered o (λ j. Next j (after (after b n.attack) q)) → Held rule t i b (n.attack ∷ q ∷ more) c s
+        by_answer go None is h = absurd h
+        by_answer go (Some j) is h = follows-held more j go is Next held h follows played
+
+        by_outcome : (o : Outcome) → outcome rule (after b n.attack) q ≡ o
+            → LosesOr o (Answered (answer (answers_of n) q) (λ j. Next j (after (after b n.attack) q)))
+            → Held rule t i b (n.attack ∷ q ∷ more) c s
+        by_outcome Refused is h = absurd (played-reply more Refused is played)
+        by_outcome Wins is h = absurd h
+        by_outcome (Fouls f) is h = reply-fouls f is more played
+        by_outcome Draws is h = absurd h
+        by_outcome GoesOn is h = by_answer is (answer (answers_of n) q) refl h
+
+  attack-held : (Next : ℕ → Grid → Type 0) → HeldAfter rule t Next → WinsOr (outcome rule b n.attack)
+      (NotWinning n.rest × ((q : Point) → Meets rule (answers_of n) Next (after b n.attack) q)) → (more : List Point)
+      → departs_from c (false ∷ strays t (option_map (λ (m : Node). Defend (answers_of m)) (slice_get t i)) more)
+      (outcomes rule b (n.attack ∷ more)) ≡ Follows
+      → IsPlayed (verdict_from c s (outcomes rule b (n.attack ∷ more))) → Held rule t i b (n.attack ∷ more) c s
+  attack-held Next held accepted more follows played = by_outcome (outcome rule b n.attack) refl accepted where
+    by_more : outcome rule b n.attack ≡ GoesOn → NotWinning n.rest × ((q : Point) → Meets rule (answers_of n) Next (after b n.attack) q)
+        → (ms : List Point)
+        → departs_from c (false ∷ strays t (option_map (λ (m : Node). Defend (answers_of m)) (slice_get t i)) ms)
+        (outcomes rule b (n.attack ∷ ms)) ≡ Follows
+        → IsPlayed (verdict_from c s (outcomes rule b (n.attack ∷ ms))) → Held rule t i b (n.attack ∷ ms) c s
+    by_more on h [] fol pl = attack-open on (not_winning n.rest h.0)
+    by_more on h (q ∷ ms) fol pl = reply-held on (not_winning n.rest h.0) q Next held (h.1 q) ms fol pl
+
+    by_outcome : (o : Outcome) → outcome rule b n.attack ≡ o
+        → WinsOr o (NotWinning n.rest × ((q : Point) → Meets rule (answers_of n) Next (after b n.attack) q))
+        → Held rule t i b (n.attack ∷ more) c s
+    by_outcome Refused is h = absurd h
+    by_outcome Wins is h = attack-wins is more played
+    by_outcome (Fouls f) is h = absurd h
+    by_outcome Draws is h = absurd h
+    by_outcome GoesOn is h = by_more is h more follows played
+
+-- a first move that does not stray is the attack
+first_stray : (bs : List Bool) (os : List Outcome) (c : ℕ) (stray : Bool) → departs_from c (stray ∷ bs) os ≡ Follows → stray ≡ false
+first_stray bs os c true h = absurd (cc)
+first_stray bs os c false h = refl
+
+is_attack-same : (n : Node) (p : Point) → not (is_attack (Some n) p) ≡ false → n.attack ≡ p
+is_attack-same n p h = by_test (is_same_point n.attack p) refl where
+  by_test : (r : Bool) → is_same_point n.attack p ≡ r → n.attack ≡ p
+  by_test true e = is_same_point-same n.attack p e
+  by_test false e = let bad : true ≡ false = sym (ap not e) ∙ h in cc
+
+node-held : (rule : RuleKind) (t : List Node) (i : ℕ) (b : Grid) (Next : ℕ → Grid → Type 0) → HeldAfter rule t Next → (o : Option Node)
+    → slice_get t i ≡ o → AcceptedNode rule o Next b → (ms : List Point) (c : ℕ) (s : Side)
+    → FollowsFrom rule t i b ms c → IsPlayed (verdict_from c s (outcomes rule b ms)) → Held rule t i b ms c s
+node-held rule t i b Next held None at h ms c s follows played = absurd h
+node-held rule t i b Next held (Some n) at h [] c s follows played = record {
+  agrees = (omega arith, λ k odd. absurd (omega (arith, odd)));
+  played = (attacks rule t i b [], refl);
+}
+node-held rule t i b Next held (Some n) at h (p ∷ more) c s follows played =
+    let bs : List Bool = strays t (option_map (λ (m : Node). Defend (answers_of m)) (slice_get t i)) more in
+    let stray : not (is_attack (slice_get t i) p) ≡ false = first_stray bs (outcomes rule b (p ∷ more)) c _ follows in
+    let same : n.attack ≡ p = is_attack-same n p (subst (λ (o : Option Node). not (is_attack o p) ≡ false) at stray) in
+    let on = subst (λ (x : Bool). departs_from c (x ∷ bs) (outcomes rule b (p ∷ more)) ≡ Follows) stray follows in
+    subst (λ (x : Point). Held rule t i b (x ∷ more) c s) same
+    (attack-held rule t i b n at c s Next held h more
+    (subst (λ (x : Point). departs_from c (false ∷ bs) (outcomes rule b (x ∷ more)) ≡ Follows) (sym same) on)
+    (subst (λ (x : Point). IsPlayed (verdict_from c s (outcomes rule b (x ∷ more)))) (sym same) played))
+
+within-held : (rule : RuleKind) (t : List Node) (f : ℕ) → HeldAfter rule t (AcceptedWithin f rule t)
+unfolding AcceptedWithin
+within-held rule t zero i b ms c s h follows played = absurd h
+within-held rule t (suc f) i b ms c s h follows played = node-held rule t i b (AcceptedWithin f rule t) (within-held rule t f)
+    (slice_get t i) refl h ms c s follows played
+
+-- ---- the whole game
+
+agrees-all : (s : Side) (len : ℕ) (v : GameVerdict) (e : End) → AgreesFrom 0 s len v e → Agrees s len v e
+agrees-all s len (Open n) e h = (let is = h.0 in omega (arith, is), h.1)
+agrees-all s len (Won side n) e h = (h.0, (let is = h.1 in omega (arith, is)), h.2)
+agrees-all s len (Fouled f n) e h = ((let is = h.0 in omega (arith, is)), h.1)
+agrees-all s len (Drawn n) e h = h
+agrees-all s len (Illegal n) e h = h
+agrees-all s len (AfterEnd n) e h = h
+
+-- where the last move is an attack, the verdict is a win exactly where the end is one, with as many attacks
+won_exactly : (s : Side) (len : ℕ) (v : GameVerdict) (e : End) → Agrees s len v e → (j k : ℕ) → len ≡ 2 * j + 1
+    → (v ≡ Won s (2 * k - 1)) ↔ (e ≡ EndWon k)
+won_exactly s len (Open n) e h j k odd = (λ is. absurd cc, λ is. let ends = h.1 j odd in absurd cc)
+won_exactly s len (Won side n) e h j k odd =
+    let last : n ≡ len = h.1 in
+    let attacks_of : len + 1 ≡ 2 * h.2.0 = h.2.1 in (
+      λ is. let number : n ≡ 2 * k - 1 = cc in let same : h.2.0 ≡ k = omega (arith, number, last, attacks_of, odd) in h.2.2
+          ∙ ap EndWon same,
+      λ is.
+          let ends : EndWon h.2.0 ≡ EndWon k = sym h.2.2 ∙ is in
+          let same : h.2.0 ≡ k = cc in
+          let number : n ≡ 2 * k - 1 = omega (arith, same, last, attacks_of) in
+          ap (λ (x : Side). Won x n) h.0 ∙ ap (Won s) number,
+    )
+won_exactly s len (Fouled f n) e h j k odd = let even : len ≡ 2 * h.1.0 = h.1.1 in absurd (omega (arith, even, odd))
+won_exactly s len (Drawn n) e h j k odd = absurd h
+won_exactly s len (Illegal n) e h j k odd = absurd h
+won_exactly s len (AfterEnd n) e h j k odd = absurd h
+
+-- and open exactly where the end is
+open_exactly : (s : Side) (len : ℕ) (v : GameVerdict) (e : End) → Agrees s len v e → (j : ℕ) → len ≡ 2 * j + 1
+    → (v ≡ Open len) ↔ (e ≡ EndOpen)
+open_exactly s len (Open n) e h j odd = (λ is. h.1 j odd, λ is. ap Open h.0)
+open_exactly s len (Won side n) e h j odd = (λ is. absurd cc, λ is. let ends : EndWon h.2.0 ≡ EndOpen = sym h.2.2 ∙ is in absurd cc)
+open_exactly s len (Fouled f n) e h j odd = let even : len ≡ 2 * h.1.0 = h.1.1 in absurd (omega (arith, even, odd))
+open_exactly s len (Drawn n) e h j odd = absurd h
+open_exactly s len (Illegal n) e h j odd = absurd h
+open_exactly s len (AfterEnd n) e h j odd = absurd h
+
+pub games-go-by-table : GamesGoByTable
+unfolding replay verdict
+games-go-by-table rule t i b ms accepted follows played =
+    let held = within-held rule t (suc i) i b ms 0 (mover b) accepted follows played in
+    let agrees = agrees-all (mover b) (length ms) (verdict rule b ms) (game rule t i b (even_moves ms)) held.agrees in
+    record {
+      played = held.played;
+      agrees = agrees;
+      won = λ j k odd. won_exactly (mover b) (length ms) (verdict rule b ms) (game rule t i b (even_moves ms)) agrees j k odd;
+      open_end = λ j odd. open_exactly (mover b) (length ms) (verdict rule b ms) (game rule t i b (even_moves ms)) agrees j odd;
+    }
+
+-- ---- no game is lost
+
+-- after an even number of moves the same side moves
+mover_even : (s : Side) (m k : ℕ) → m ≡ 2 * k → mover_after s m ≡ s
+mover_even s zero k even = refl
+mover_even s (suc zero) k even = absurd (omega (arith, even))
+mover_even s (suc (suc m)) k even = other-other (mover_after s m) ∙ mover_even s m (k - 1) (omega (arith, even))
+
+mover_odd : (s : Side) (m k : ℕ) → m ≡ 2 * k + 1 → mover_after s m ≡ other s
+mover_odd s zero k odd = absurd (omega (arith, odd))
+mover_odd s (suc m) k odd = ap other (mover_even s m k (omega (arith, odd)))
+
+-- only a game that was played is asked for
+kept-played : (s first : Side) (v : GameVerdict) → (IsPlayed v → IsKeptBy s first v) → IsKeptBy s first v
+kept-played s first (Open n) h = tt
+kept-played s first (Illegal n) h = tt
+kept-played s first (AfterEnd n) h = tt
+kept-played s first (Won side n) h = h tt
+kept-played s first (Fouled f n) h = h tt
+kept-played s first (Drawn n) h = h tt
+
+kept-agrees : (c : ℕ) (s first : Side) (len : ℕ) (v : GameVerdict) (e : End) → ((m k : ℕ) → m ≡ c + 2 * k → mover_after first m ≡ s)
+    → AgreesFrom c s len v e → IsKeptBy s first v
+kept-agrees c s first len (Open n) e turn h = tt
+kept-agrees c s first len (Illegal n) e turn h = tt
+kept-agrees c s first len (AfterEnd n) e turn h = tt
+kept-agrees c s first len (Won side n) e turn h = h.0
+kept-agrees c s first len (Fouled f n) e turn h = turn n h.1.0 (let is = h.0 in let even = h.1.1 in omega (arith, is, even))
+kept-agrees c s first len (Drawn n) e turn h = h
+
+node-kept : (rule : RuleKind) (t : List Node) (j : ℕ) (b : Grid) (ms : List Point) (c : ℕ) (s first : Side)
+    → ((m k : ℕ) → m ≡ c + 2 * k → mover_after first m ≡ s) → Accepted rule t j b → FollowsFrom rule t j b ms c
+    → IsKeptBy s first (verdict_from c s (outcomes rule b ms))
+node-kept rule t j b ms c s first turn accepted follows =
+    kept-played s first (verdict_from c s (outcomes rule b ms)) (λ played.
+    kept-agrees c s first (length ms) (verdict_from c s (outcomes rule b ms)) (game rule t j b (even_moves ms)) turn
+    (within-held rule t (suc j) j b ms c s accepted follows played).agrees)
+
+-- a first reply to a start
+start-kept : (rule : RuleKind) (t : List Node) (a : Answers) (b : Grid) (q : Point) (ms : List Point) → Meets rule a (Accepted rule t) b q
+    → departs_from 0 (strays t (Some (Defend a)) (q ∷ ms)) (outcomes rule b (q ∷ ms)) ≡ Follows
+    → IsKeptBy (other (mover b)) (mover b) (verdict_from 0 (mover b) (outcomes rule b (q ∷ ms)))
+start-kept rule t a b q ms meets follows = by_outcome (outcome rule b q) refl meets where
+  by_more : (f : Foul) (os : List Outcome) → IsKeptBy (other (mover b)) (mover b) (verdict_from 0 (mover b) (Fouls f ∷ os))
+  by_more f [] = refl
+  by_more f (o ∷ os) = tt
+
+  by_answer : outcome rule b q ≡ GoesOn → (o : Option ℕ) → answer a q ≡ o → Answered o (λ j. Accepted rule t j (after b q))
+      → IsKeptBy (other (mover b)) (mover b) (verdict_from 1 (other (mover b)) (outcomes rule (after b q) ms))
+  by_answer go None is h = absurd h
+  by_answer go (Some j) is h =
+      let f1 = subst (λ (o : Outcome). departs_from 0 (false ∷ strays t (option_map (λ (k : ℕ). Attack k) (answer a q)) ms)
+      (o ∷ outcomes rule (after b q) ms) ≡ Follows) go follows in
+      let f2 = subst (λ (x : Option ℕ). departs_from 1 (strays t (option_map (λ (k : ℕ). Attack k) x) ms) (outcomes rule (after b q) ms) ≡
+      Follows) is f1 in
+      node-kept rule t j (after b q) ms 1 (other (mover b)) (mover b) (λ m k odd. mover_odd (mover b) m k (omega (arith, odd))) h f2
+
+  by_outcome : (o : Outcome) → outcome rule b q ≡ o → LosesOr o (Answered (answer a q) (λ j. Accepted rule t j (after b q)))
+      → IsKeptBy (other (mover b)) (mover b) (verdict_from 0 (mover b) (outcomes rule b (q ∷ ms)))
+  by_outcome Refused is h = subst
+      (λ (x : Outcome). IsKeptBy (other (mover b)) (mover b) (verdict_from 0 (mover b) (x ∷ outcomes rule (after b q) ms))) (sym is) tt
+  by_outcome Wins is h = absurd h
+  by_outcome (Fouls f) is h = subst
+      (λ (x : Outcome). IsKeptBy (other (mover b)) (mover b) (verdict_from 0 (mover b) (x ∷ outcomes rule (after b q) ms))) (sym is)
+      (by_more f (outcomes rule (after b q) ms))
+  by_outcome Draws is h = absurd h
+  by_outcome GoesOn is h = subst
+      (λ (x : Outcome). IsKeptBy (other (mover b)) (mover b) (verdict_from 0 (mover b) (x ∷ outcomes rule (after b q) ms))) (sym is)
+      (by_answer is (answer a q) refl h)
+
+pub follower-never-loses : FollowerNeverLoses
+unfolding replay verdict
+follower-never-loses rule t (Attack i) b ms accepted follows = node-kept rule t i b ms 0 (mover b) (mover b)
+    (λ m k even. mover_even (mover b) m k (omega (arith, even))) accepted follows
+follower-never-loses rule t (Defend a) b [] accepted follows = tt
+follower-never-loses rule t (Defend a) b (q ∷ ms) accepted follows = start-kept rule t a b q ms (accepted q) follows

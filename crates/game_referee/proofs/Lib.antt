@@ -1,0 +1,3 @@
+-- The laws of games.
+mod Playing
+mod Following

@@ -1,0 +1,4 @@
+pub mod Verdicts
+pub mod Replays
+pub mod Followers
+pub mod Lines
