@@ -31,7 +31,8 @@ use Rattle.text_lines.proofs.TextLaws.{text_of-cons, text_of-push, AreFree, free
 use Rattle.text_lines.proofs.Leaving.{HasParts, leaves_after}
 use Rattle.text_lines.proofs.Badness.{first_bad, too_many}
 use Rattle.position_files.proofs.Spellings.{side_fits}
-use Rattle.position_files.proofs.Stones.{empty_board, IsBoard-empty}
+use Rattle.game_rules.proofs.Marks.{empty_board}
+use Rattle.position_files.proofs.Stones.{IsBoard-empty}
 use Rattle.position_files.proofs.BoardLaws.{width_side, height_side}
 use Rattle.position_files.proofs.BoardLines.{board-free, board-length, board_lines-injective, least_side}
 
