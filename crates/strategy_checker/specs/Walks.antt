@@ -1,14 +1,15 @@
 -- What a step of a walk through a table did, how it stops before it has met every reply, what it remembers, and which answers
 -- are sure.
-use Rattle.std.specs.Prelude.{◌≡◌, ◌==◌, ◌&&◌, ◌||◌, ◌+◌, ◌<◌, ℕ, Bool, true, false, not, Option, Some, None, IfSome, Result, Ok, Err, List, [], ◌∷◌, ◌++◌, reverse, slice_get}
+use Rattle.std.specs.Prelude.{◌≡◌, ◌==◌, ◌&&◌, ◌||◌, ◌+◌, ◌<◌, ℕ, Bool, true, false, not, if◌then◌else◌, Option, Some, None, IfSome, Result, Ok, Err, List, [], ◌∷◌, ◌++◌, reverse, slice_get}
 use Rattle.std.specs.List.{list_any}
 use Rattle.std.specs.Option.{option_map}
-use Rattle.game_rules.specs.Grid.{Grid}
+use Rattle.game_rules.specs.Grid.{Grid, is_empty, lift}
 use Rattle.game_rules.specs.Games.{five_points, has_five}
-use Rattle.game_rules.specs.Play.{IsPosition, mover, other}
+use Rattle.game_rules.specs.Play.{IsPosition, after, outcome, mover, other}
 use Rattle.game_rules.specs.Shapes.{five, is_same_point}
 use Rattle.game_rules.specs.declared.Point.{Point}
 use Rattle.game_rules.specs.declared.RuleKind.{RuleKind}
+use Rattle.game_rules.specs.declared.Outcome.TheVariants.{Refused, GoesOn}
 use Rattle.position_table.specs.Remembering.{Remembered, IsTrueTable}
 use Rattle.row_shapes.specs.FivePoints.{in_short}
 use Rattle.row_shapes.specs.declared.fives.FivePoints.{FivePoints}
@@ -20,6 +21,8 @@ use Rattle.strategy_graph.specs.declared.Node.{Node}
 use Rattle.strategy_graph.specs.declared.Why.{Why}
 use Rattle.strategy_graph.specs.declared.Reply.{Reply}
 use Rattle.strategy_graph.specs.Tables.{Answers, IsTable}
+use Rattle.strategy_checker.specs.declared.walk.Fives.{Fives}
+use Rattle.strategy_checker.specs.declared.walk.Fives.TheVariants.{Unknown, Told, MadeBy}
 use Rattle.strategy_checker.specs.declared.walk.Outlook.{Outlook}
 use Rattle.strategy_checker.specs.declared.walk.Sure.{Sure}
 use Rattle.strategy_checker.specs.declared.walk.Walk.{Walk}
@@ -95,6 +98,28 @@ WalkedReplies rule t a b old new r =
 abbrev pub TellsFives : RuleKind → Grid → Option FivePoints → Type 0
 TellsFives rule b fives = IfSome fives (λ f. f ≡ in_short (five_points rule b (other (mover b))))
 
+-- a stone of the side that is not to move is on q: it went on from a lawful position where that side had no five point
+pub record HadNone (rule : RuleKind) (b : Grid) (q : Point) : Type 0 where
+  pub lawful : IsPosition rule (lift b q)
+  pub on : outcome rule (lift b q) q ≡ GoesOn
+  pub back : after (lift b q) q ≡ b
+  pub none : has_five rule (lift b q) (mover (lift b q)) ≡ false
+
+-- what is known of the five points of the side that is not to move at b
+abbrev pub AreFives : RuleKind → Grid → Fives → Type 0
+AreFives rule b Unknown = Unit {0}
+AreFives rule b (Told f) = TellsFives rule b (Some f)
+AreFives rule b (MadeBy q) = HadNone rule b q
+
+-- what is known of them after a stone of that side on q, which has none before it if that is known
+abbrev pub fives_after : Bool → Point → Fives
+fives_after false q = Unknown
+fives_after true q = MadeBy q
+
+-- a reply on p is no move, or goes on
+abbrev pub IsQuick : RuleKind → Grid → Point → Type 0
+IsQuick rule b p = outcome rule b p ≡ (if is_empty b p then GoesOn else Refused)
+
 -- whether none of the five points is left that are told, once p is taken
 abbrev pub leaves_none : Option FivePoints → Point → Bool
 leaves_none None p = false
@@ -113,9 +138,11 @@ abbrev pub is_sure_after : Option Sure → ℕ → Point → Bool
 is_sure_after None i q = false
 is_sure_after (Some s) i q = (s.node == i) && not (is_same_point s.attack q)
 
--- what is known of the replies at b: the side to move has no five point, if that is told, and the node is sure, if one is told
+-- what is known of the replies at b: the side to move has no five point, if that is told, each reply on an empty point goes on,
+-- if that is told, and the node is sure, if one is told
 pub record IsOutlook (rule : RuleKind) (t : List Node) (b : Grid) (o : Outlook) : Type 0 where
   pub free : o.free ≡ true → has_five rule b (mover b) ≡ false
+  pub quick : o.quick ≡ true → (p : Point) → IsQuick rule b p
   pub sure : IfSome o.sure (IsSure rule t b)
 
 -- whether the reply q is walked alone: it is listed, or on w

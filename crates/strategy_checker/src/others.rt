@@ -39,7 +39,7 @@ pub(crate) fn others_going_on<R: Rule>(
 }
 
 /// Whether the side has fouls under the rule.
-fn has_fouls<R: Rule>(side: Side) -> bool
+pub(crate) fn has_fouls<R: Rule>(side: Side) -> bool
     ensures fouls { result ≡ has_fouls_lem R.KIND side }
 {
     match side {

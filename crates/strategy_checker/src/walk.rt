@@ -25,10 +25,10 @@ ghost use Rattle.strategy_graph.specs.Arrivals.{arrivals, arrivals_at, start_arr
 ghost use Rattle.strategy_graph.specs.Acceptance.{AcceptedStart};
 ghost use Rattle.strategy_graph.specs.Leads.{LeadsStart};
 ghost use Rattle.strategy_graph.specs.Roots.{AcceptedRoot, LeadsRoot, root_arrivals, root_below};
-ghost use Rattle.strategy_checker.specs.Walks.{IsNoted, IsOutlook, IsReady, IsSure, IsTrueMemo, NotesAt, Takes, TellsFives, Walked, WalkedNode, WalkedReplies, WalkedReply, is_sure_after, leaves_none as leaves_none_lem};
+ghost use Rattle.strategy_checker.specs.Walks.{AreFives, IsNoted, IsOutlook, IsQuick, IsReady, IsSure, IsTrueMemo, NotesAt, Takes, TellsFives, Walked, WalkedNode, WalkedReplies, WalkedReply, fives_after, is_sure_after, leaves_none as leaves_none_lem};
 
 use crate::Why;
-use crate::others::{is_listed, others_going_on};
+use crate::others::{has_fouls, is_listed, others_going_on};
 use foul_judge::{Outcome, Position, Seen};
 use position_table::LateTable;
 use row_shapes::{FivePoints, Rule};
@@ -45,6 +45,9 @@ const LEAST_ARRIVALS: u64 = 64;
 /// How many such pairs pass before any is remembered.
 const PAIRS_BEFORE: u32 = 64;
 
+/// The most replies that a node lists which is not remembered, since it is walked in a few steps.
+const FEW_REPLIES: usize = 12;
+
 /// Why a walk ends before every reply is met.
 #[derive(Clone, Copy)]
 pub(crate) enum Stop {
@@ -54,6 +57,17 @@ pub(crate) enum Stop {
     Spent,
     /// There is no memory for the line to the fault.
     Memory,
+}
+
+/// What is known of the five points of the side that is not to move.
+#[derive(Clone, Copy)]
+enum Fives {
+    /// Nothing.
+    Unknown,
+    /// Which they are.
+    Told(FivePoints),
+    /// There was none before its last stone, which is on this point.
+    MadeBy(Point),
 }
 
 /// A walk through a table.
@@ -72,6 +86,8 @@ pub(crate) struct Walk {
 struct Outlook {
     /// The side to move has no five point. Where this is not set, nothing is said.
     free: bool,
+    /// Each reply on an empty point goes on. Where this is not set, nothing is said.
+    quick: bool,
     /// The node of the rest, where it is sure.
     sure: Option<Sure>,
 }
@@ -130,7 +146,7 @@ impl Walk {
         ensures same { position.new ≡ position.old }
     {
         let fives = position.fives_in_short(position.side().other());
-        self.visit(table, i, Some(fives), position)
+        self.visit(table, i, Fives::Told(fives), position)
     }
 
     /// Walks from a start at a position, which is the same afterwards.
@@ -159,12 +175,12 @@ impl Walk {
         &mut self,
         table: &Table,
         i: u32,
-        fives: Option<FivePoints>,
+        fives: Fives,
         position: &mut Position<R>,
     ) -> Result<(), Stop>
         requires in_table { i < length table.now }
         requires ready { IsReady R.KIND table.now position.old self.old }
-        requires fives { TellsFives R.KIND position.old fives }
+        requires fives { AreFives R.KIND position.old fives }
         ensures walked { WalkedNode R.KIND table.now i position.old self.old self.new result }
         ensures same { position.new ≡ position.old }
     {
@@ -183,15 +199,15 @@ impl Walk {
         }
     }
 
-    /// Walks on from a node whose attack goes on. Where the memo has the node at the position, its arrivals are taken at once.
-    /// The position is the same afterwards.
+    /// Walks on from a node whose attack goes on. Where the memo has the node at the position, its arrivals are taken at once,
+    /// and else it is remembered, unless it is walked again in less time than a look takes. The position is the same afterwards.
     #[cycle(walk)]
     fn go_on<R: Rule>(
         &mut self,
         table: &Table,
         i: u32,
         node: &Node,
-        fives: Option<FivePoints>,
+        fives: Fives,
         position: &mut Position<R>,
     ) -> Result<(), Stop>
         requires table { IsTable table.now }
@@ -199,25 +215,28 @@ impl Walk {
         requires goes_on { outcome R.KIND position.old node.now.attack ≡ Outcome.GoesOn }
         requires more { is_winning node.now.rest ≡ false }
         requires ready { IsReady R.KIND table.now position.old self.old }
-        requires fives { TellsFives R.KIND position.old fives }
+        requires fives { AreFives R.KIND position.old fives }
         ensures walked { WalkedNode R.KIND table.now i position.old self.old self.new result }
         ensures same { position.new ≡ position.old }
     {
+        if is_soon_won(table, i, node) {
+            return self.attack(table, i, node, fives, position);
+        }
         match self.memo.find(position.board(), i) {
             Some(arrivals) => self.take(arrivals),
-            None => self.attack(table, i, node, fives, position),
+            None => self.remember(table, i, node, fives, position),
         }
     }
 
     /// Plays the attack of a node, walks on from each reply, and remembers the node at the position, which is the same
     /// afterwards.
     #[cycle(walk)]
-    fn attack<R: Rule>(
+    fn remember<R: Rule>(
         &mut self,
         table: &Table,
         i: u32,
         node: &Node,
-        fives: Option<FivePoints>,
+        fives: Fives,
         position: &mut Position<R>,
     ) -> Result<(), Stop>
         requires table { IsTable table.now }
@@ -225,23 +244,41 @@ impl Walk {
         requires goes_on { outcome R.KIND position.old node.now.attack ≡ Outcome.GoesOn }
         requires more { is_winning node.now.rest ≡ false }
         requires ready { IsReady R.KIND table.now position.old self.old }
-        requires fives { TellsFives R.KIND position.old fives }
+        requires fives { AreFives R.KIND position.old fives }
         ensures walked { WalkedNode R.KIND table.now i position.old self.old self.new result }
         ensures same { position.new ≡ position.old }
     {
         let before = self.left;
+        self.attack(table, i, node, fives, position)?;
+        self.memo.keep(position.board(), i, before - self.left);
+        Ok(())
+    }
+
+    /// Plays the attack of a node, and walks on from each reply. The position is the same afterwards.
+    #[cycle(walk)]
+    fn attack<R: Rule>(
+        &mut self,
+        table: &Table,
+        i: u32,
+        node: &Node,
+        fives: Fives,
+        position: &mut Position<R>,
+    ) -> Result<(), Stop>
+        requires table { IsTable table.now }
+        requires node { slice_get table.now i ≡ Some node.now }
+        requires goes_on { outcome R.KIND position.old node.now.attack ≡ Outcome.GoesOn }
+        requires more { is_winning node.now.rest ≡ false }
+        requires ready { IsReady R.KIND table.now position.old self.old }
+        requires fives { AreFives R.KIND position.old fives }
+        ensures walked { WalkedNode R.KIND table.now i position.old self.old self.new result }
+        ensures same { position.new ≡ position.old }
+    {
         self.take(1)?;
-        let free = leaves_none(fives, node.attack);
+        let free = leaves_none(told(fives, position), node.attack);
         position.play(node.attack);
         let met = self.meet_all(table, &node.replies, node.rest, free, position);
         position.undo(node.attack);
-        match met {
-            Ok(()) => {
-                self.memo.keep(position.board(), i, before - self.left);
-                Ok(())
-            }
-            Err(stop) => self.noted(node.attack, Err(stop)),
-        }
+        self.noted(node.attack, met)
     }
 
     /// Walks on from each reply at a position, which is the same afterwards. The replies that are listed and the rest say what
@@ -262,11 +299,10 @@ impl Walk {
         ensures walked { WalkedReplies R.KIND table.now (record { replies = replies.now; rest = rest }) position.old self.old self.new result }
         ensures same { position.new ≡ position.old }
     {
-        let sure = sure_answer(table, rest, position);
-        let outlook = Outlook { free, sure };
-        match sure {
-            Some(found) if free && position.board().empties() > 1 => {
-                self.meet_most(table, replies, rest, found, position)
+        let outlook = outlook_of(table, rest, free, position);
+        match outlook.sure {
+            Some(sure) if free && position.board().empties() > 1 => {
+                self.meet_most(table, replies, rest, sure, outlook, position)
             }
             _ => self.meet_each(table, replies, rest, outlook, position),
         }
@@ -303,6 +339,7 @@ impl Walk {
         replies: &Replies,
         rest: Rest,
         sure: Sure,
+        outlook: Outlook,
         position: &mut Position<R>,
     ) -> Result<(), Stop>
         requires below { names_below (record { replies = replies.now; rest = rest }) (length table.now) ≡ true }
@@ -310,6 +347,7 @@ impl Walk {
         requires ready { IsReady R.KIND table.now position.old self.old }
         requires free { has_five R.KIND position.old (mover position.old) ≡ false }
         requires sure { IsSure R.KIND table.now position.old sure }
+        requires outlook { IsOutlook R.KIND table.now position.old outlook }
         requires rest { rest_node rest ≡ Some sure.node }
         requires more { 1 < empties_of position.old }
         ensures walked { WalkedReplies R.KIND table.now (record { replies = replies.now; rest = rest }) position.old self.old self.new result }
@@ -317,10 +355,6 @@ impl Walk {
     {
         let others = others_going_on(position, replies, sure.attack);
         self.take(others as u64)?;
-        let outlook = Outlook {
-            free: true,
-            sure: Some(sure),
-        };
         self.meet_listed(table, replies, rest, outlook, position)?;
         if is_listed(replies, sure.attack) {
             return Ok(());
@@ -371,7 +405,7 @@ impl Walk {
         ensures walked { WalkedReply R.KIND table.now (record { replies = replies.now; rest = rest }) position.old q self.old self.new result }
         ensures same { position.new ≡ position.old }
     {
-        match position.outcome(q) {
+        match outcome_of(outlook.quick, position, q) {
             Outcome::Refused => Ok(()),
             Outcome::Wins => Err(self.fault(q, Why::ReplyWins)),
             Outcome::Fouls(_) => Ok(()),
@@ -379,7 +413,8 @@ impl Walk {
             Outcome::GoesOn => match answer_among(replies, rest, q) {
                 None => Err(self.fault(q, Why::NoAnswer)),
                 Some(next) => {
-                    if wins_for_sure(outlook.sure, next, q) {
+                    let sure = sure_of(outlook.sure, table, next, position);
+                    if wins_for_sure(sure, next, q) {
                         self.take(1)
                     } else {
                         self.answer(table, next, outlook.free, position, q)
@@ -408,7 +443,7 @@ impl Walk {
         ensures walked { (a : Answers) → answer_lem a q ≡ Some next → WalkedReply R.KIND table.now a position.old q self.old self.new result }
         ensures same { position.new ≡ position.old }
     {
-        let fives = made_by(free, position, q);
+        let fives = known_after(free, q);
         position.play(q);
         let walked = self.visit(table, next, fives, position);
         position.undo(q);
@@ -448,17 +483,21 @@ impl Walk {
     }
 }
 
-/// The five points that the reply `q` makes, where the side to move is known to have none before it.
-fn made_by<R: Rule>(free: bool, position: &Position<R>, q: Point) -> Option<FivePoints>
-    requires lawful { IsPosition R.KIND position.now }
-    requires free { free ≡ true → has_five R.KIND position.now (mover position.now) ≡ false }
-    requires goes_on { outcome R.KIND position.now q ≡ Outcome.GoesOn }
-    ensures fives { TellsFives R.KIND (after position.now q) result }
+/// The five points of the side that is not to move, where they are known. The position is the same afterwards.
+fn told<R: Rule>(fives: Fives, position: &mut Position<R>) -> Option<FivePoints>
+    requires fives { AreFives R.KIND position.old fives }
+    ensures told { TellsFives R.KIND position.old result }
+    ensures same { position.new ≡ position.old }
 {
-    if free {
-        Some(position.fives_made(q))
-    } else {
-        None
+    match fives {
+        Fives::Unknown => None,
+        Fives::Told(fives) => Some(fives),
+        Fives::MadeBy(q) => {
+            position.undo(q);
+            let made = position.fives_made(q);
+            position.play(q);
+            Some(made)
+        }
     }
 }
 
@@ -474,19 +513,116 @@ fn leaves_none(fives: Option<FivePoints>, p: Point) -> bool
     }
 }
 
+/// Whether node `i` is walked in a few steps: it lists few replies, and each node that it names, of which one answers the rest,
+/// names no other.
+fn is_soon_won(table: &Table, i: u32, node: &Node) -> bool
+    requires in_table { i < length table.now }
+{
+    table.depth(i).unwrap() <= 2 && node.rest.node().is_some() && node.replies.len() <= FEW_REPLIES
+}
+
+/// What is known of the replies, where the side to move has no five point if `free` is set.
+fn outlook_of<R: Rule>(table: &Table, rest: Rest, free: bool, position: &Position<R>) -> Outlook
+    requires below { IfSome (rest_node rest) (λ j. j < length table.now) }
+    requires free { free ≡ true → has_five R.KIND position.now (mover position.now) ≡ false }
+    ensures outlook { IsOutlook R.KIND table.now position.now result }
+    ensures rest { IfSome result.sure (λ s. rest_node rest ≡ Some s.node) }
+{
+    let sure = sure_rest(table, rest, position);
+    let quick = is_quick(free, position);
+    Outlook { free, quick, sure }
+}
+
+/// Whether each reply on an empty point goes on, as it does for a side that has no five point and no fouls, unless it takes the
+/// last one.
+fn is_quick<R: Rule>(free: bool, position: &Position<R>) -> bool
+    requires free { free ≡ true → has_five R.KIND position.now (mover position.now) ≡ false }
+    ensures quick { result ≡ true → (p : Point) → IsQuick R.KIND position.now p }
+{
+    if free {
+        if position.board().empties() > 1 {
+            return !has_fouls::<R>(position.side());
+        }
+    }
+    false
+}
+
+/// What is known of the five points of the side whose stone on `q` is to come, where it is known to have none if `free` is set.
+fn known_after(free: bool, q: Point) -> Fives
+    ensures fives { result ≡ fives_after free q }
+{
+    if free {
+        Fives::MadeBy(q)
+    } else {
+        Fives::Unknown
+    }
+}
+
+/// The outcome of the reply `q`, which goes on if it is on an empty point and `quick` is set.
+fn outcome_of<R: Rule>(quick: bool, position: &mut Position<R>, q: Point) -> Outcome
+    requires quick { quick ≡ true → (p : Point) → IsQuick R.KIND position.old p }
+    ensures outcome { result ≡ outcome R.KIND position.old q }
+    ensures same { position.new ≡ position.old }
+{
+    if quick {
+        if position.board().is_empty(q) {
+            Outcome::GoesOn
+        } else {
+            Outcome::Refused
+        }
+    } else {
+        position.outcome(q)
+    }
+}
+
 /// The node of the rest, where its attack is a five point of the side that is not to move.
-fn sure_answer<R: Rule>(table: &Table, rest: Rest, position: &Position<R>) -> Option<Sure>
+fn sure_rest<R: Rule>(table: &Table, rest: Rest, position: &Position<R>) -> Option<Sure>
     requires below { IfSome (rest_node rest) (λ j. j < length table.now) }
     ensures sure { IfSome result (IsSure R.KIND table.now position.now) }
     ensures rest { IfSome result (λ s. rest_node rest ≡ Some s.node) }
 {
-    let node = rest.node()?;
+    match rest.node() {
+        None => None,
+        Some(node) => sure_at(table, node, position),
+    }
+}
+
+/// The node, where its attack is a five point of the side that is not to move.
+fn sure_at<R: Rule>(table: &Table, node: u32, position: &Position<R>) -> Option<Sure>
+    requires in_table { node < length table.now }
+    ensures sure { IfSome result (IsSure R.KIND table.now position.now) }
+    ensures node { IfSome result (λ s. s.node ≡ node) }
+{
     let attack = table.node(node).attack;
     let attacker = position.side().other();
     if position.board().is_empty(attack) && position.five(attacker, attack) {
         Some(Sure { node, attack })
     } else {
         None
+    }
+}
+
+/// What is known of a node that answers a reply: where it is not the one that is known already, it is asked only if it is
+/// one that wins.
+fn sure_of<R: Rule>(
+    known: Option<Sure>,
+    table: &Table,
+    next: u32,
+    position: &Position<R>,
+) -> Option<Sure>
+    requires in_table { next < length table.now }
+    requires known { IfSome known (IsSure R.KIND table.now position.now) }
+    ensures sure { IfSome result (IsSure R.KIND table.now position.now) }
+{
+    match known {
+        Some(sure) if sure.node == next => known,
+        _ => {
+            if table.node(next).rest.is_winning() {
+                sure_at(table, next, position)
+            } else {
+                None
+            }
+        }
     }
 }
 

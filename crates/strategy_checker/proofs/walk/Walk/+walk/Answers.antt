@@ -1,5 +1,5 @@
 use Rattle.std.proofs.Common.{rules, ◌≡◌, Bool, ◌+◌, ◌-◌, ◌*◌, ◌<◌, ◌≤◌, ℕ, zero, cond, [], true, false, length, drop, reverse, refl, inl, sym, ap, subst, ◌∙◌, arith}
-use Rattle.std.specs.Prelude.{List, ◌∷◌, slice_get, Some, None, Ok, Err, if◌then◌else◌}
+use Rattle.std.specs.Prelude.{List, ◌∷◌, slice_get, Some, None, IfSome, Ok, Err, if◌then◌else◌}
 use Rattle.std.specs.List.{All, sum_by}
 use Rattle.std.proofs.lemmas.List.{drop_all}
 use Rattle.std.proofs.lemmas.Option.{slice_get_within}
@@ -27,11 +27,11 @@ use Rattle.strategy_graph.proofs.Answering.{answer-below}
 use Rattle.strategy_graph.proofs.Steps.{arrivals-positive, accepted-by-win, accepted-by-replies, arrivals-by-replies, arrivals-one, arrivals-answer, met-answer, met-all, leads-answer}
 use Rattle.strategy_checker.specs.declared.walk.Outlook.{Outlook}
 use Rattle.strategy_checker.specs.declared.walk.Walk.{Walk}
-use Rattle.strategy_checker.specs.Walks.{IsOutlook, IsReady, IsTrueMemo, IsWalked, TellsFives, Walked, WalkedNode, WalkedReplies, WalkedReply}
+use Rattle.strategy_checker.specs.Walks.{AreFives, IsOutlook, IsReady, IsSure, IsTrueMemo, IsWalked, Walked, WalkedNode, WalkedReplies, WalkedReply}
 use Rattle.strategy_checker.proofs.Walking.{played-lawful, played-fewer, fault-stops, noted-then, taken, taken-ready, taken-short, walked-then, walked-stops, attack-stops, attack-then-leads, going-on, going-stops, going-done, drop-at}
 use Rattle.strategy_checker.proofs.Counted.{arrivals-most, met-most, is_listed}
 use Rattle.position_table.proofs.Remembering.{true-looked, true-kept, true-found}
-use Rattle.strategy_checker.proofs.Sureness.{sure-accepted, none-left}
+use Rattle.strategy_checker.proofs.Sureness.{sure-accepted, none-left, had_none}
 use Rattle.strategy_checker.proofs.walk.Walk.+walk.Goals as goal
 
 -- ---- the answer to a reply
@@ -42,13 +42,13 @@ answer-visit-walked-requires g t c κs within =
     let on : outcome g.R.Rule.KIND b c.args.q ≡ GoesOn = c.requires.goes_on in
     let there : c.play.new.self ≡ after b c.args.q = c.play.ensures.played in
     let fewer = played-fewer g.R.Rule.KIND b c.args.q c.requires.ready.lawful on c.play.new.self there in
-    let less : 8 * empties_of c.play.new.self + 2 < 8 * empties_of b + 3 = omega (arith, fewer) in
+    let less : 8 * empties_of c.play.new.self + 3 < 8 * empties_of b + 3 = omega (arith, fewer) in
     let ready : IsReady g.R.Rule.KIND c.args.table.now c.play.new.self c.args.self.now = record {
       lawful = played-lawful g.R.Rule.KIND b c.args.q c.requires.ready.lawful on c.play.new.self there;
       no_line = c.requires.ready.no_line;
       memo = c.requires.ready.memo;
     } in
-    let fives : TellsFives g.R.Rule.KIND c.play.new.self c.made_by-fives.result = rw there c.made_by-fives.ensures.fives in
+    let fives : AreFives g.R.Rule.KIND c.play.new.self c.known_after-fives.result = rw c.known_after-fives.ensures.fives (had_none g.R.Rule.KIND b c.args.q c.requires.ready.lawful on c.args.free c.requires.free c.play.new.self there) in
     search rules
 
 pub answer-undo-requires-clause-stone : goal.answer-undo-requires-clause-stone
@@ -88,13 +88,23 @@ answer-returns-clause-same g t c =
 
 pub meet-answer-requires : goal.meet-answer-requires
 meet-answer-requires g t c κs within =
-    let same : c.outcome.new.self ≡ c.args.position.now = c.outcome.ensures.same in
-    let less : 8 * empties_of c.outcome.new.self + 3 < 8 * empties_of c.args.position.now + 4 = rw same (omega arith) in
-    let ready : IsReady g.R.Rule.KIND c.args.table.now c.outcome.new.self c.args.self.now = rw same c.requires.ready in
-    let on : outcome g.R.Rule.KIND c.outcome.new.self c.args.q ≡ GoesOn = rw same (sym c.in-GoesOn.ensures.outcome) in
-    let free : c.args.outlook.free ≡ true → has_five g.R.Rule.KIND c.outcome.new.self (mover c.outcome.new.self) ≡ false = rw same c.requires.outlook.free in
+    let same : c.outcome_of.new.position ≡ c.args.position.now = c.outcome_of.ensures.same in
+    let less : 8 * empties_of c.outcome_of.new.position + 3 < 8 * empties_of c.args.position.now + 4 = rw same (omega arith) in
+    let ready : IsReady g.R.Rule.KIND c.args.table.now c.outcome_of.new.position c.args.self.now = rw same c.requires.ready in
+    let on : outcome g.R.Rule.KIND c.outcome_of.new.position c.args.q ≡ GoesOn = rw same (sym c.in-GoesOn.ensures.outcome) in
+    let free : c.args.outlook.free ≡ true → has_five g.R.Rule.KIND c.outcome_of.new.position (mover c.outcome_of.new.position) ≡ false = rw same c.requires.outlook.free in
     let below : c.in-Some.next < length c.args.table.now = answer-below (record { replies = c.args.replies.now; rest = c.args.rest }) (length c.args.table.now) c.args.q c.in-Some.next c.requires.below (sym c.in-Some.ensures.answer) in
     search rules
+
+pub meet-sure_of-sure-requires-clause-in_table : goal.meet-sure_of-sure-requires-clause-in_table
+meet-sure_of-sure-requires-clause-in_table g t c =
+    answer-below (record { replies = c.args.replies.now; rest = c.args.rest }) (length c.args.table.now) c.args.q c.in-Some.next c.requires.below (sym c.in-Some.ensures.answer)
+
+pub meet-returns-else-wins_for_sure-clause-walked : goal.meet-returns-else-wins_for_sure-clause-walked
+meet-returns-else-wins_for_sure-clause-walked g t c =
+    let a : Answers = record { replies = c.args.replies.now; rest = c.args.rest } in
+    subst (λ (w : Grid). WalkedReply g.R.Rule.KIND c.args.table.now a w c.args.q c.args.self.now c.answer.new.self c.answer.result) c.outcome_of.ensures.same
+    (c.answer.ensures.walked a (sym c.in-Some.ensures.answer))
 
 pub meet-returns-then-wins_for_sure-clause-walked : goal.meet-returns-then-wins_for_sure-clause-walked
 meet-returns-then-wins_for_sure-clause-walked g t c =
@@ -102,7 +112,7 @@ meet-returns-then-wins_for_sure-clause-walked g t c =
     let a : Answers = record { replies = c.args.replies.now; rest = c.args.rest } in
     let b : Grid = c.args.position.now in
     let on : outcome rule b c.args.q ≡ GoesOn = sym c.in-GoesOn.ensures.outcome in
-    let won = sure-accepted rule c.args.table.now b c.args.q c.requires.ready.lawful on c.args.outlook.sure c.in-Some.next c.requires.outlook.sure (sym c.wins_for_sure.ensures.sure ∙ c.if-wins_for_sure.true) in
+    let won = sure-accepted rule c.args.table.now b c.args.q c.requires.ready.lawful on c.sure_of-sure.result c.in-Some.next (subst (λ (w : Grid). IfSome c.sure_of-sure.result (IsSure rule c.args.table.now w)) c.outcome_of.ensures.same c.sure_of-sure.ensures.sure) (sym c.wins_for_sure.ensures.sure ∙ c.if-wins_for_sure.true) in
     let one = arrivals-answer rule c.args.table.now a b c.args.q c.in-Some.next on (sym c.in-Some.ensures.answer) ∙ won.1 in
     let met = met-answer rule c.args.table.now a b c.args.q c.in-Some.next on (sym c.in-Some.ensures.answer) won.0 in
     subst (λ (n : ℕ). Walked rule c.args.table.now (Meets rule a (Accepted rule c.args.table.now) b c.args.q) n (LeadsStart rule c.args.table.now a b) c.args.self.now c.take.new.self c.take.result) (sym one)
@@ -280,9 +290,9 @@ visit-returns-in-Draws-clause-walked g t c =
 
 -- ---- a node whose attack goes on
 
-pub go_on-attack-requires : goal.go_on-attack-requires
-go_on-attack-requires g t c κs within =
-    let less : 8 * empties_of c.args.position.now < 8 * empties_of c.args.position.now + 1 = omega arith in
+pub go_on-remember-requires : goal.go_on-remember-requires
+go_on-remember-requires g t c κs within =
+    let less : 8 * empties_of c.args.position.now + 1 < 8 * empties_of c.args.position.now + 2 = omega arith in
     let looked : IsTrueMemo g.R.Rule.KIND c.args.table.now c.find.new.self = true-looked g.R.Rule.KIND (IsWalked g.R.Rule.KIND c.args.table.now) c.args.self.now.memo c.find.new.self (packed c.board.result.now, c.args.i) (inl c.find.ensures.entries) c.requires.ready.memo in
     let ready : IsReady g.R.Rule.KIND c.args.table.now c.args.position.now (record { left = c.args.self.now.left; line = c.args.self.now.line; memo = c.find.new.self }) =
     record { lawful = c.requires.ready.lawful; no_line = c.requires.ready.no_line; memo = looked } in
@@ -315,7 +325,7 @@ attack-meet_all-met-requires g t c κs within =
     let b : Grid = c.args.position.now in
     let p : Point = c.args.node.now.attack in
     let on : outcome rule b p ≡ GoesOn = c.requires.goes_on in
-    let there : c.play.new.self ≡ after b p = c.play.ensures.played in
+    let there : c.play.new.self ≡ after b p = c.play.ensures.played ∙ ap (λ (w : Grid). after w p) c.told.ensures.same in
     let fewer = played-fewer rule b p c.requires.ready.lawful on c.play.new.self there in
     let less : 8 * empties_of c.play.new.self + 7 < 8 * empties_of b = omega (arith, fewer) in
     let taken = taken-ready rule c.args.table.now b 1 c.args.self.now c.take.new.self c.requires.ready c.in_ok-take.ensures.takes in
@@ -325,7 +335,7 @@ attack-meet_all-met-requires g t c κs within =
       memo = taken.memo;
     } in
     let free : c.leaves_none-free.result ≡ true → has_five rule c.play.new.self (mover c.play.new.self) ≡ false =
-    rw there (λ h. none-left rule b p c.requires.ready.lawful on c.args.fives c.requires.fives (sym c.leaves_none-free.ensures.none ∙ h)) in
+    rw there (λ h. none-left rule b p c.requires.ready.lawful on c.told.result c.told.ensures.told (sym c.leaves_none-free.ensures.none ∙ h)) in
     let there_is : c.args.i < length c.args.table.now = slice_get_within c.args.table.now c.args.i c.args.node.now c.requires.node in
     let is_node = c.requires.table.nodes c.args.i c.args.node.now c.requires.node in
     let below : names_below (answers_of c.args.node.now) (length c.args.table.now) ≡ true = names_below-more (answers_of c.args.node.now) c.args.i (length c.args.table.now) (omega (arith, there_is)) is_node.below in
@@ -335,12 +345,12 @@ attack-meet_all-met-requires g t c κs within =
 pub attack-undo-requires-clause-stone : goal.attack-undo-requires-clause-stone
 attack-undo-requires-clause-stone g t c =
     stone_back g.R.Rule.KIND c.args.position.now _ c.args.node.now.attack c.requires.ready.lawful c.requires.goes_on
-    (c.meet_all-met.ensures.same ∙ c.play.ensures.played)
+    (c.meet_all-met.ensures.same ∙ c.play.ensures.played ∙ ap (λ (w : Grid). after w c.args.node.now.attack) c.told.ensures.same)
 
 pub attack-undo-requires-clause-unwon : goal.attack-undo-requires-clause-unwon
 attack-undo-requires-clause-unwon g t c =
     unwon_back g.R.Rule.KIND c.args.position.now _ c.args.node.now.attack c.requires.ready.lawful c.requires.goes_on
-    (c.meet_all-met.ensures.same ∙ c.play.ensures.played)
+    (c.meet_all-met.ensures.same ∙ c.play.ensures.played ∙ ap (λ (w : Grid). after w c.args.node.now.attack) c.told.ensures.same)
 
 -- what the walk behind the replies says of the node
 module _ (rule : RuleKind) (t : List Node) (i : ℕ) (b c : Grid) (n : Node) (table : IsTable t) (at : slice_get t i ≡ Some n) (on : outcome rule b n.attack ≡ GoesOn) (more : is_winning n.rest ≡ false) (there : c ≡ after b n.attack) where
@@ -356,54 +366,45 @@ module _ (rule : RuleKind) (t : List Node) (i : ℕ) (b c : Grid) (n : Node) (ta
   node-leads : (line : List Point) (why : Why) → LeadsStart rule t (answers_of n) c line why → Leads rule t i b (n.attack ∷ line) why
   node-leads line why leads = attack-then-leads rule t i b n line why at on more (subst (λ (w : Grid). LeadsStart rule t (answers_of n) w line why) there leads)
 
-pub attack-returns-in-Err-clause-walked : goal.attack-returns-in-Err-clause-walked
-attack-returns-in-Err-clause-walked g t c =
+pub attack-returns-clause-walked : goal.attack-returns-clause-walked
+attack-returns-clause-walked g t c =
     let rule : RuleKind = g.R.Rule.KIND in
     let tab = c.args.table.now in
     let b : Grid = c.args.position.now in
     let n : Node = c.args.node.now in
+    let there : c.play.new.self ≡ after b n.attack = c.play.ensures.played ∙ ap (λ (w : Grid). after w n.attack) c.told.ensures.same in
     let counted = ap (λ (w : Walk). w.left) c.in_ok-take.ensures.takes in
-    let all = node-arrivals rule tab c.args.i b c.play.new.self n c.requires.table c.requires.node c.requires.goes_on c.requires.more c.play.ensures.played in
+    let all = node-arrivals rule tab c.args.i b c.play.new.self n c.requires.table c.requires.node c.requires.goes_on c.requires.more there in
     noted-then rule tab (AcceptedStart rule tab (answers_of n) c.play.new.self) (Accepted rule tab c.args.i b)
     1 (arrivals_after rule (answers_of n) (arrivals rule tab) c.play.new.self) (arrivals rule tab c.args.i b)
     (LeadsStart rule tab (answers_of n) c.play.new.self) (Leads rule tab c.args.i b)
-    n.attack c.args.self.now c.take.new.self c.meet_all-met.new.self c.noted.new.self (Err c.in-Err.stop) c.noted.result
+    n.attack c.args.self.now c.take.new.self c.meet_all-met.new.self c.noted.new.self c.meet_all-met.result c.noted.result
     (omega (arith, counted)) all
-    (node-accepted rule tab c.args.i b c.play.new.self n c.requires.table c.requires.node c.requires.goes_on c.requires.more c.play.ensures.played)
-    (node-leads rule tab c.args.i b c.play.new.self n c.requires.table c.requires.node c.requires.goes_on c.requires.more c.play.ensures.played)
-    c.in-Err.ensures.walked c.noted.ensures.noted
+    (node-accepted rule tab c.args.i b c.play.new.self n c.requires.table c.requires.node c.requires.goes_on c.requires.more there)
+    (node-leads rule tab c.args.i b c.play.new.self n c.requires.table c.requires.node c.requires.goes_on c.requires.more there)
+    c.meet_all-met.ensures.walked c.noted.ensures.noted
 
-pub attack-returns-in-Err-clause-same : goal.attack-returns-in-Err-clause-same
-attack-returns-in-Err-clause-same g t c =
+pub attack-returns-clause-same : goal.attack-returns-clause-same
+attack-returns-clause-same g t c =
     c.undo.ensures.undone
     ∙ lift_back g.R.Rule.KIND c.args.position.now _ c.args.node.now.attack c.requires.ready.lawful c.requires.goes_on
-    (c.meet_all-met.ensures.same ∙ c.play.ensures.played)
+    (c.meet_all-met.ensures.same ∙ c.play.ensures.played ∙ ap (λ (w : Grid). after w c.args.node.now.attack) c.told.ensures.same)
 
-pub attack-returns-in-Ok-clause-same : goal.attack-returns-in-Ok-clause-same
-attack-returns-in-Ok-clause-same g t c =
-    c.undo.ensures.undone
-    ∙ lift_back g.R.Rule.KIND c.args.position.now _ c.args.node.now.attack c.requires.ready.lawful c.requires.goes_on
-    (c.meet_all-met.ensures.same ∙ c.play.ensures.played)
+-- ---- a node that is remembered
 
-pub attack-returns-in-Ok-clause-walked : goal.attack-returns-in-Ok-clause-walked
-attack-returns-in-Ok-clause-walked g t c =
+pub remember-returns-clause-walked : goal.remember-returns-clause-walked
+remember-returns-clause-walked g t c =
     let rule : RuleKind = g.R.Rule.KIND in
-    let tab = c.args.table.now in
     let b : Grid = c.args.position.now in
-    let n : Node = c.args.node.now in
-    let took = ap (λ (w : Walk). w.left) c.in_ok-take.ensures.takes in
-    let behind = c.in-Ok.ensures.walked.1.counted in
-    let all = node-arrivals rule tab c.args.i b c.play.new.self n c.requires.table c.requires.node c.requires.goes_on c.requires.more c.play.ensures.played in
-    let accepted = node-accepted rule tab c.args.i b c.play.new.self n c.requires.table c.requires.node c.requires.goes_on c.requires.more c.play.ensures.played c.in-Ok.ensures.walked.0 in
-    let back : c.undo.new.self ≡ b = c.undo.ensures.undone
-    ∙ lift_back rule b _ n.attack c.requires.ready.lawful c.requires.goes_on (c.meet_all-met.ensures.same ∙ c.play.ensures.played) in
-    let size = c.args.self.now.left - c.meet_all-met.new.self.left in
-    let counted : arrivals rule tab c.args.i b ≡ size = omega (arith, all, behind, took) in (
-      accepted,
+    let did = c.in_ok-attack.ensures.walked in
+    let behind = did.1.counted in
+    let size = c.args.self.now.left - c.attack.new.self.left in
+    let counted : arrivals rule c.args.table.now c.args.i b ≡ size = omega (arith, behind) in (
+      did.0,
       record {
-        counted = omega (arith, all, behind, took);
-        no_line = c.in-Ok.ensures.walked.1.no_line;
-        memo = true-kept rule (IsWalked rule tab) b c.board.result.now c.args.i size c.meet_all-met.new.self.memo
-            c.requires.ready.lawful (c.board.ensures.board ∙ back) c.in-Ok.ensures.walked.1.memo c.keep.new.self (record { accepted = accepted; counted = counted }) c.keep.ensures.kept;
+        counted = behind;
+        no_line = did.1.no_line;
+        memo = true-kept rule (IsWalked rule c.args.table.now) b c.board.result.now c.args.i size c.attack.new.self.memo
+            c.requires.ready.lawful (c.board.ensures.board ∙ c.attack.ensures.same) did.1.memo c.keep.new.self (record { accepted = did.0; counted = counted }) c.keep.ensures.kept;
       },
     )
