@@ -5,13 +5,14 @@ use Rattle.std.specs.List.{All, sum_by}
 use Rattle.std.proofs.lemmas.List.{reverse-append}
 use Rattle.std.proofs.lemmas.List.Elements.{All-cons, All-nil}
 use Rattle.std.proofs.lemmas.List.Sums.{sum_by-cons}
-use Rattle.game_rules.specs.Grid.{Grid, empties_of}
+use Rattle.game_rules.specs.Grid.{Grid, is_empty, empties_of}
 use Rattle.game_rules.specs.Play.{IsPosition, outcome, after, mover}
 use Rattle.game_rules.specs.declared.RuleKind.{RuleKind}
 use Rattle.game_rules.specs.declared.Outcome.{Outcome}
-use Rattle.game_rules.specs.declared.Outcome.TheVariants.{GoesOn}
+use Rattle.game_rules.specs.declared.Outcome.TheVariants.{Refused, GoesOn}
 use Rattle.game_rules.specs.declared.Point.{Point}
 use Rattle.game_rules.proofs.Boards.{empties_of-put}
+use Rattle.game_rules.proofs.Points.{taken_refused}
 use Rattle.game_rules.proofs.Positions.{IsPosition-after, GoesOn-empty}
 use Rattle.strategy_graph.specs.declared.Node.{Node}
 use Rattle.strategy_graph.specs.declared.Why.{Why}
@@ -19,7 +20,7 @@ use Rattle.strategy_graph.specs.Tables.{Answers, answers_of, answer, is_winning}
 use Rattle.strategy_graph.specs.Acceptance.{Accepted, Meets}
 use Rattle.strategy_graph.specs.Arrivals.{arrivals, arrivals_at}
 use Rattle.strategy_graph.specs.Leads.{attack_fault, reply_fault, Leads, LeadsStart}
-use Rattle.strategy_graph.proofs.Steps.{leads-attack, leads-reply}
+use Rattle.strategy_graph.proofs.Steps.{arrivals-stops, leads-attack, leads-reply, met-no_move}
 use Rattle.strategy_checker.specs.declared.walk.Stop.{Stop}
 use Rattle.strategy_checker.specs.declared.walk.Stop.TheVariants.{Fault, Spent, Memory}
 use Rattle.position_table.specs.Remembering.{Remembered}
@@ -146,6 +147,14 @@ module _ {X : Type 0} (at : X → Point) (rule : RuleKind) (t : List Node) (a : 
   going-stops A (Fault why) h = h
   going-stops A Spent h = let before = so_far.counted in omega (arith, before, split, h)
   going-stops A Memory h = tt
+
+-- a reply that is no move is met, with no arrivals
+pub refused-reply : (rule : RuleKind) (t : List Node) (a : Answers) (b : Grid) (q : Point) (now : Walk) → IsReady rule t b now → is_empty b q ≡ false → WalkedReply rule t a b q now now (Ok tt)
+refused-reply rule t a b q now ready taken =
+    let none = arrivals-stops rule t a b q Refused (taken_refused rule b q taken) (λ e. cc) in (
+      met-no_move rule t a b q (taken_refused rule b q taken),
+      record { counted = omega (arith, none); no_line = ready.no_line; memo = ready.memo },
+    )
 
 -- at the end each is met
 pub going-done : {X : Type 0} (at : X → Point) (rule : RuleKind) (t : List Node) (a : Answers) (b : Grid) (all left : List X) (old now : Walk)

@@ -19,6 +19,7 @@ use stone_board::{Board, Point, Side};
 use strategy_graph::Replies;
 
 /// How many replies go on that are neither listed nor on `w`.
+#[inline(never)]
 pub(crate) fn others_going_on<R: Rule>(
     position: &mut Position<R>,
     replies: &Replies,

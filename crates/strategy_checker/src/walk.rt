@@ -202,6 +202,7 @@ impl Walk {
     /// Walks on from a node whose attack goes on. Where the memo has the node at the position, its arrivals are taken at once,
     /// and else it is remembered, unless it is walked again in less time than a look takes. The position is the same afterwards.
     #[cycle(walk)]
+    #[inline(always)]
     fn go_on<R: Rule>(
         &mut self,
         table: &Table,
@@ -231,6 +232,7 @@ impl Walk {
     /// Plays the attack of a node, walks on from each reply, and remembers the node at the position, which is the same
     /// afterwards.
     #[cycle(walk)]
+    #[inline(always)]
     fn remember<R: Rule>(
         &mut self,
         table: &Table,
@@ -256,6 +258,7 @@ impl Walk {
 
     /// Plays the attack of a node, and walks on from each reply. The position is the same afterwards.
     #[cycle(walk)]
+    #[inline(always)]
     fn attack<R: Rule>(
         &mut self,
         table: &Table,
@@ -325,6 +328,9 @@ impl Walk {
         ensures same { position.new ≡ position.old }
     {
         for q in position.board().points() {
+            if !position.board().is_empty(q) {
+                continue;
+            }
             self.meet(table, replies, rest, outlook, position, q)?;
         }
         Ok(())
@@ -390,6 +396,7 @@ impl Walk {
     /// Walks on from the reply `q` at a position, which is the same afterwards. Where the node that answers it is sure to win,
     /// the one arrival there is counted, and the reply is not played.
     #[cycle(walk)]
+    #[inline(always)]
     fn meet<R: Rule>(
         &mut self,
         table: &Table,
@@ -426,6 +433,7 @@ impl Walk {
 
     /// Walks on from the reply `q`, which goes on and is answered by the node `next`. The position is the same afterwards.
     #[cycle(walk)]
+    #[inline(always)]
     fn answer<R: Rule>(
         &mut self,
         table: &Table,
@@ -462,6 +470,7 @@ impl Walk {
     }
 
     /// The stop at a fault of the move `p`, which is noted.
+    #[inline(never)]
     fn fault(&mut self, p: Point, why: Why) -> Stop
         ensures noted { IsNoted p self.old.line self.new.line (Stop.Fault why) result }
     {
@@ -484,6 +493,7 @@ impl Walk {
 }
 
 /// The five points of the side that is not to move, where they are known. The position is the same afterwards.
+#[inline(never)]
 fn told<R: Rule>(fives: Fives, position: &mut Position<R>) -> Option<FivePoints>
     requires fives { AreFives R.KIND position.old fives }
     ensures told { TellsFives R.KIND position.old result }
@@ -522,6 +532,7 @@ fn is_soon_won(table: &Table, i: u32, node: &Node) -> bool
 }
 
 /// What is known of the replies, where the side to move has no five point if `free` is set.
+#[inline(never)]
 fn outlook_of<R: Rule>(table: &Table, rest: Rest, free: bool, position: &Position<R>) -> Outlook
     requires below { IfSome (rest_node rest) (λ j. j < length table.now) }
     requires free { free ≡ true → has_five R.KIND position.now (mover position.now) ≡ false }
@@ -559,6 +570,7 @@ fn known_after(free: bool, q: Point) -> Fives
 }
 
 /// The outcome of the reply `q`, which goes on if it is on an empty point and `quick` is set.
+#[inline(never)]
 fn outcome_of<R: Rule>(quick: bool, position: &mut Position<R>, q: Point) -> Outcome
     requires quick { quick ≡ true → (p : Point) → IsQuick R.KIND position.old p }
     ensures outcome { result ≡ outcome R.KIND position.old q }
@@ -604,6 +616,7 @@ fn sure_at<R: Rule>(table: &Table, node: u32, position: &Position<R>) -> Option<
 
 /// What is known of a node that answers a reply: where it is not the one that is known already, it is asked only if it is
 /// one that wins.
+#[inline(never)]
 fn sure_of<R: Rule>(
     known: Option<Sure>,
     table: &Table,

@@ -4,7 +4,7 @@ use Rattle.std.specs.List.{All, sum_by}
 use Rattle.std.proofs.lemmas.List.{drop_all}
 use Rattle.std.proofs.lemmas.Option.{slice_get_within}
 use Rattle.std.proofs.lemmas.Result.{err_from_is_err_and}
-use Rattle.game_rules.specs.Grid.{Grid, empties_of, points_of}
+use Rattle.game_rules.specs.Grid.{Grid, is_empty, empties_of, points_of}
 use Rattle.game_rules.specs.Games.{has_five}
 use Rattle.game_rules.specs.Play.{IsPosition, mover, outcome, after}
 use Rattle.game_rules.specs.declared.Outcome.TheVariants.{Refused, Wins, Fouls, Draws, GoesOn}
@@ -28,7 +28,7 @@ use Rattle.strategy_graph.proofs.Steps.{arrivals-positive, accepted-by-win, acce
 use Rattle.strategy_checker.specs.declared.walk.Outlook.{Outlook}
 use Rattle.strategy_checker.specs.declared.walk.Walk.{Walk}
 use Rattle.strategy_checker.specs.Walks.{AreFives, IsOutlook, IsReady, IsSure, IsTrueMemo, IsWalked, Walked, WalkedNode, WalkedReplies, WalkedReply}
-use Rattle.strategy_checker.proofs.Walking.{played-lawful, played-fewer, fault-stops, noted-then, taken, taken-ready, taken-short, walked-then, walked-stops, attack-stops, attack-then-leads, going-on, going-stops, going-done, drop-at}
+use Rattle.strategy_checker.proofs.Walking.{played-lawful, played-fewer, fault-stops, noted-then, taken, taken-ready, taken-short, walked-then, walked-stops, attack-stops, attack-then-leads, going-on, going-stops, going-done, refused-reply, drop-at}
 use Rattle.strategy_checker.proofs.Counted.{arrivals-most, met-most, is_listed}
 use Rattle.position_table.proofs.Remembering.{true-looked, true-kept, true-found}
 use Rattle.strategy_checker.proofs.Sureness.{sure-accepted, none-left, had_none}
@@ -130,6 +130,19 @@ meet_each-loop-q-preserved g t c =
       same = c.in_ok-meet.ensures.same ∙ c.loop-q.invariant.same;
       so_far = going-on (λ (q : Point). q) rule c.args.table.now a b (points_of b) c.in-Some.q c.loop-q.q-iterator c.next.new.self c.in-Some.ensures.steps c.args.self.now c.loop-q.self c.meet.new.self c.loop-q.invariant.so_far
           (subst (λ (w : Grid). WalkedReply rule c.args.table.now a w c.in-Some.q c.loop-q.self c.meet.new.self (Ok tt)) c.loop-q.invariant.same c.in_ok-meet.ensures.walked);
+    }
+
+pub meet_each-loop-q-preserved-then-not-is_empty : goal.meet_each-loop-q-preserved-then-not-is_empty
+meet_each-loop-q-preserved-then-not-is_empty g t c =
+    let rule : RuleKind = g.R.Rule.KIND in
+    let a : Answers = record { replies = c.args.replies.now; rest = c.args.rest } in
+    let b : Grid = c.args.position.now in
+    let taken : is_empty b c.in-Some.q ≡ false =
+    ap (λ (w : Grid). is_empty w c.in-Some.q) (sym (c.board-in-loop-q.ensures.board ∙ c.loop-q.invariant.same)) ∙ sym c.is_empty.ensures.empty ∙ c.if-not-is_empty.true in
+    record {
+      same = c.loop-q.invariant.same;
+      so_far = going-on (λ (q : Point). q) rule c.args.table.now a b (points_of b) c.in-Some.q c.loop-q.q-iterator c.next.new.self c.in-Some.ensures.steps c.args.self.now c.loop-q.self c.loop-q.self c.loop-q.invariant.so_far
+          (refused-reply rule c.args.table.now a b c.in-Some.q c.loop-q.self c.loop-q.invariant.so_far.ready taken);
     }
 
 pub meet_each-returns-clause-walked : goal.meet_each-returns-clause-walked
