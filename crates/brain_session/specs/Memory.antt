@@ -1,12 +1,12 @@
 -- Which steps take no memory.
-use Rattle.std.specs.Prelude.{Bool, true, false, ◌&&◌, ◌||◌, is_some, is_none}
+use Rattle.std.specs.Prelude.{Bool, true, false, ◌||◌, not, nat_lt, length, Option, Some, None, is_some, is_none}
 use Rattle.gomocup_text.specs.declared.Command.{Command}
-use Rattle.gomocup_text.specs.declared.Command.TheVariants.{Turn}
+use Rattle.gomocup_text.specs.declared.Command.TheVariants.{Start, RectStart, Restart, Stone, Done, Begin, Turn}
 use Rattle.strategy_checker.specs.HeldRoots.{HeldTable}
-use Rattle.brain_session.specs.States.{Place, NoBoard, Fresh, InGame, State}
+use Rattle.brain_session.specs.States.{Place, NoBoard, Fresh, InGame, Batch, State}
 use Rattle.brain_session.specs.ChosenMoves.{first_node}
-use Rattle.brain_session.specs.Steps.{Row, Reacts, Chooses, row_of}
-use Rattle.brain_session.specs.HeldGames.{is_quiet}
+use Rattle.brain_session.specs.Steps.{Row, Reacts, Chooses, rule_of, is_side, row_of}
+use Rattle.brain_session.specs.declared.TheConstants.{MAX_POINTS}
 
 -- whether something is followed in the place
 abbrev pub is_following : Place → Bool
@@ -14,9 +14,9 @@ is_following NoBoard = false
 is_following (Fresh width height) = false
 is_following (InGame g) = is_some g.followed
 
--- whether the brain is to choose a move, and a held root applies
+-- whether the row is a reaction, or the brain is to choose a move where a held root applies
 abbrev pub is_settled : HeldTable → Row → Bool
-is_settled h (Reacts reaction next) = false
+is_settled h (Reacts reaction next) = true
 is_settled h (Chooses g) = is_some (first_node g h.roots)
 
 -- whether the place is a game
@@ -25,8 +25,32 @@ is_game NoBoard = false
 is_game (Fresh width height) = false
 is_game (InGame g) = true
 
--- whether the step takes no memory: a TURN while something is followed, or one that a held root settles, or a quiet command in a
--- game while no batch is read
+-- whether a game may begin in the place: it has a board, and no game
+abbrev pub is_fresh : Place → Bool
+is_fresh NoBoard = false
+is_fresh (Fresh width height) = true
+is_fresh (InGame g) = false
+
+-- whether there is a board in the place
+abbrev pub has_board : Place → Bool
+has_board NoBoard = false
+has_board (Fresh width height) = true
+has_board (InGame g) = true
+
+-- whether the batch, if one is read, has fewer stones than the largest board has points
+abbrev pub has_room : Option Batch → Bool
+has_room None = true
+has_room (Some b) = nat_lt (length b.stones) MAX_POINTS
+
+-- Whether the step takes no memory. A command that begins a board or a game takes some, but one that is refused before: for the size,
+-- for want of a board or of a batch, for a game that runs, for the wish, or as a line that has no place in a batch. So does a stone for
+-- which no room is left, and a TURN that the brain is to answer while it follows nothing and no held root applies. All others take none.
 abbrev pub takes_none : State → Command → Bool
+takes_none s (Start n) = not (is_side n)
+takes_none s (RectStart width height) = not (is_side width) || not (is_side height)
+takes_none s Restart = not (has_board s.place)
+takes_none s (Stone x y field) = has_room s.batch
+takes_none s Done = is_none s.batch || is_none (rule_of s.wish)
+takes_none s Begin = is_some s.batch || not (is_fresh s.place) || is_none (rule_of s.wish)
 takes_none s (Turn x y) = is_following s.place || is_settled s.held (row_of s (Turn x y))
-takes_none s c = is_quiet c && is_game s.place && is_none s.batch
+takes_none s c = true

@@ -4,7 +4,7 @@
 //! for the largest batch is taken once, when the brain begins.
 #![tactic(auto)]
 
-ghost use Rattle.std.specs.Prelude.{◌≡◌, ◌≤◌, [], Some, None, OnOk, OnErr, IfOk, IfSome, MatchOption, is_some};
+ghost use Rattle.std.specs.Prelude.{◌≡◌, ◌≤◌, ◌<◌, [], Some, None, IsOk, OnOk, OnErr, IfOk, IfSome, length, MatchOption, is_some};
 ghost use Rattle.std.specs.Option.{option_map};
 ghost use Rattle.game_rules.specs.declared.TheConstants.{MIN_SIDE, MAX_SIDE};
 ghost use Rattle.brain_session.specs.Running.{StonesFit};
@@ -33,12 +33,15 @@ pub(crate) struct BatchReader {
 }
 
 impl Model for BatchReader {
-    ghost use Rattle.std.specs.Prelude.{Option, Some, None, if◌then◌else◌};
+    ghost use Rattle.std.specs.Prelude.{Option, Some, None, if◌then◌else◌, ◌≤◌, vec_capacity};
+    ghost use Rattle.brain_session.specs.declared.TheConstants.{MAX_POINTS};
     ghost use Rattle.brain_session.specs.States.{Batch as BatchValue};
 
     ghost Value = { Option BatchValue };
 
     ghost view = { λ b. if b.reading then Some (record { stones = b.stones.items; bad = b.bad }) else None };
+
+    ghost invariant = { λ b. MAX_POINTS ≤ vec_capacity b.stones };
 }
 
 impl BatchReader {
@@ -91,9 +94,10 @@ impl BatchReader {
     }
 
     /// Adds a stone at this point, of the board or off it, with this third number, if it may be added, and else notes that the
-    /// line was bad. Without memory the batch stays as it was.
+    /// line was bad. Up to `MAX_POINTS` stones no memory is taken; without memory the batch stays as it was.
     pub(crate) fn add(&mut self, at: Option<Point>, field: u32) -> Result<(), AllocError>
         ensures added { OnOk result (self.new ≡ option_map (λ b. with_stone_at b at field) self.old) }
+        ensures room { IfSome self.old (λ b. length b.stones < MAX_POINTS → IsOk result) }
         ensures unchanged { OnErr result (self.new ≡ self.old) }
     {
         match at {

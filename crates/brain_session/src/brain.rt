@@ -9,7 +9,7 @@ ghost use Rattle.brain_session.specs.States.{new_brain, point_at};
 ghost use Rattle.brain_session.specs.Batches.{game_from};
 ghost use Rattle.brain_session.specs.Steps.{Reacts, begin_row, board_in, board_row, brain_step, done_row, is_side as is_side_lem, restart_row, row_of, rule_of as rule_of_lem, start_row, stone_row, takeback_row, turn_row};
 ghost use Rattle.brain_session.specs.Running.{IsBrain, IsPlace};
-ghost use Rattle.brain_session.specs.Memory.{is_following, is_game, is_settled, takes_none};
+ghost use Rattle.brain_session.specs.Memory.{has_board, has_room, is_following, is_fresh, is_settled, takes_none};
 ghost use Rattle.brain_session.specs.Kept.{IsBegun, IsPointOn, Takes, has_no_place_in_batch as has_no_place_in_batch_lem, held_or_none, is_spoiled, size_in};
 
 use crate::Reaction;
@@ -65,8 +65,9 @@ impl Brain {
         })
     }
 
-    /// What the brain does at the command. `Err` says that memory ran out, and then the brain is as before. No memory is taken at
-    /// a TURN while something is followed, at one that a held root settles, and at a quiet command in a game while no batch is read.
+    /// What the brain does at the command. `Err` says that memory ran out, and then the brain is as before. Memory is taken only
+    /// where a board or a game begins, at a stone for which no room is left, and at a TURN that the brain answers while it follows
+    /// nothing and no held root settles it; not where such a command is refused.
     pub fn step(&mut self, command: &Command) -> Result<Reaction, AllocError>
         ensures reaction { IfOk result (λ r. r ≡ (brain_step self.old command.now).reaction) }
         ensures next { OnOk result (self.new ≡ (brain_step self.old command.now).next) }
@@ -150,6 +151,8 @@ impl Brain {
     fn start(&mut self, width: u32, height: u32) -> Result<Reaction, AllocError>
         requires running { IsBrain self.old }
         ensures row { IfOk result (λ r. Takes (start_row self.old width height) self.old r self.new) }
+        ensures narrow { is_side_lem width ≡ false → IsOk result }
+        ensures low { is_side_lem height ≡ false → IsOk result }
         ensures unchanged { OnErr result (self.new ≡ self.old) }
         ensures running { IsBrain self.new }
     {
@@ -164,6 +167,7 @@ impl Brain {
     /// RESTART: a board of the same size is begun.
     fn restart(&mut self) -> Result<Reaction, AllocError>
         ensures row { IfOk result (λ r. Takes (restart_row self.old self.old.place) self.old r self.new) }
+        ensures boardless { has_board self.old.place ≡ false → IsOk result }
         ensures unchanged { OnErr result (self.new ≡ self.old) }
         ensures running { IsBrain self.new }
     {
@@ -191,7 +195,7 @@ impl Brain {
     /// A line X,Y,FIELD: a stone of the batch.
     fn stone(&mut self, x: u32, y: u32, field: u32) -> Result<Reaction, AllocError>
         ensures row { IfOk result (λ r. Takes (stone_row self.old self.old.batch (point_at x y) field) self.old r self.new) }
-        ensures unread { IsNone self.old.batch → IsOk result }
+        ensures room { has_room self.old.batch ≡ true → IsOk result }
         ensures unchanged { OnErr result (self.new ≡ self.old) }
         ensures running { IsBrain self.new }
     {
@@ -207,6 +211,7 @@ impl Brain {
     fn done(&mut self) -> Result<Reaction, AllocError>
         ensures row { IfOk result (λ r. Takes (done_row self.old self.old.batch) self.old r self.new) }
         ensures unread { IsNone self.old.batch → IsOk result }
+        ensures unsupported { IsNone (rule_of_lem self.old.wish) → IsOk result }
         ensures unchanged { OnErr result (self.new ≡ self.old) }
         ensures running { IsBrain self.new }
     {
@@ -247,7 +252,8 @@ impl Brain {
     fn begin(&mut self) -> Result<Reaction, AllocError>
         requires unread { IsNone self.old.batch }
         ensures row { IfOk result (λ r. Takes (begin_row self.old self.old.place) self.old r self.new) }
-        ensures started { is_game self.old.place ≡ true → IsOk result }
+        ensures started { is_fresh self.old.place ≡ false → IsOk result }
+        ensures unsupported { IsNone (rule_of_lem self.old.wish) → IsOk result }
         ensures unchanged { OnErr result (self.new ≡ self.old) }
         ensures running { IsBrain self.new }
     {

@@ -13,6 +13,7 @@ ghost use Rattle.game_rules.specs.Play.{outcome, mover, other, goes_on};
 ghost use Rattle.brain_session.specs.States.{InGame, board_of};
 ghost use Rattle.brain_session.specs.ChosenMoves.{by_followed, chosen, first_node, followed_on};
 ghost use Rattle.brain_session.specs.Steps.{Chooses, move_row, with_move};
+ghost use Rattle.brain_session.specs.Memory.{is_settled};
 ghost use Rattle.brain_session.specs.Kept.{IsReady, IsRow, followed_of, game_of, in_place, IsKeptUp, StandsAt};
 
 use crate::Reaction;
@@ -63,7 +64,8 @@ impl Course {
             (outcome self.old.kind (board_of (game_of played.old self.old)) p)) r (InGame (game_of played.new self.new))) }
         ensures running { OnOk result (IsKeptUp held.now played.new self.new) }
         ensures followed { IsSome self.old.guide → IsOk result }
-        ensures settled { IsSome (first_node (with_move (game_of played.old self.old) p false) held.now.roots) → IsOk result }
+        ensures settled { is_settled held.now (move_row (in_place held.now (InGame (game_of played.old self.old))) (game_of played.old self.old) p
+            (outcome self.old.kind (board_of (game_of played.old self.old)) p)) ≡ true → IsOk result }
         ensures same { OnErr result (played.new ≡ played.old) }
         ensures unchanged { OnErr result (self.new ≡ self.old) }
     {

@@ -6,14 +6,14 @@
 
 ghost use Rattle.strategy_checker.specs.HeldRoots.{HeldTable};
 ghost use Rattle.game_rules.specs.Grid.{is_on};
-ghost use Rattle.std.specs.Prelude.{◌≡◌, ◌≤◌, true, IsOk, IfOk, OnErr, IfSome, None, false, OnOk, IsSome};
+ghost use Rattle.std.specs.Prelude.{◌≡◌, ◌≤◌, true, IsOk, IfOk, OnErr, IfSome, None, false, OnOk, IsNone, IsSome};
 ghost use Rattle.game_rules.specs.declared.TheConstants.{MIN_SIDE, MAX_SIDE};
 ghost use Rattle.game_rules.specs.declared.Point.{Point};
 ghost use Rattle.brain_session.specs.States.{Fresh, State, empty_board, point_at};
 ghost use Rattle.brain_session.specs.Batches.{game_from};
 ghost use Rattle.brain_session.specs.Steps.{begin_row, board_in, placed, takeback_row, turn_row};
 ghost use Rattle.brain_session.specs.Running.{IsPlace, StonesFit};
-ghost use Rattle.brain_session.specs.Memory.{is_following, is_settled, is_game};
+ghost use Rattle.brain_session.specs.Memory.{is_following, is_fresh, is_settled, is_game};
 ghost use Rattle.brain_session.specs.Kept.{are_one as are_one_lem, IsBegun, IsPointOn, IsStateOf, Takes, turn_refusal};
 
 use crate::Reaction;
@@ -141,7 +141,8 @@ impl Round {
     ) -> Result<Reaction, AllocError>
         requires place { IsPlace held.now self.old }
         ensures row { IfOk result (λ r. (s : State) → IsStateOf held.now self.old rule s → Takes (begin_row s self.old) s r (placed s self.new)) }
-        ensures started { is_game self.old ≡ true → IsOk result }
+        ensures started { is_fresh self.old ≡ false → IsOk result }
+        ensures unsupported { IsNone rule → IsOk result }
         ensures place { OnOk result (IsPlace held.now self.new) }
         ensures unchanged { OnErr result (self.new ≡ self.old) }
     {
