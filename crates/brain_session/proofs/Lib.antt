@@ -35,6 +35,8 @@ pub mod HeldReplies
 pub mod HeldWins
 -- games in which a held node is followed: one reply
 pub mod HeldSteps
+-- points as lines TURN
+pub mod TurnLines
 -- games by a win of the brain's own; the game by a held root that begins where a game comes to it
 pub mod OwnGames
 pub mod RootGames

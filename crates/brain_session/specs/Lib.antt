@@ -5,6 +5,7 @@ pub mod Steps
 pub mod Sessions
 pub mod Running
 pub mod HeldGames
+pub mod TurnLines
 pub mod OwnGames
 pub mod RootGames
 pub mod Memory

@@ -6,6 +6,7 @@
 ghost use Rattle.brain_session.specs.HeldGames.{HeldGamesGoWell, LegalRepliesAreAnswered, SessionsGoWell, StartsAreTight, WhoeverHoldsWins};
 ghost use Rattle.brain_session.specs.OwnGames.{OwnGamesGoWell};
 ghost use Rattle.brain_session.specs.RootGames.{RootsBeginGames};
+ghost use Rattle.brain_session.specs.TurnLines.{TurnLinesAreRead};
 
 /// Whatever a brain that holds accepted roots was told before, and whatever it is told later: where it begins to follow a
 /// held root, its answers are the attacks of the table against the replies, one for one, and the game is won within the
@@ -48,4 +49,10 @@ pub fn roots_begin_games()
 /// moves that it found, or the replies have run out.
 pub fn own_games_go_well()
     ensures go_well { OwnGamesGoWell }
+{}
+
+/// Points that are written as lines `TURN X,Y` behind whole lines are read as these turns: so what is said of replies is said of
+/// the bytes that a manager sends.
+pub fn turn_lines_are_read()
+    ensures read { TurnLinesAreRead }
 {}

@@ -1,0 +1,92 @@
+-- The lines TURN of points are read as these turns.
+use Rattle.std.proofs.Common.{◌≡◌, ℕ, suc, nat_lt, Bool, true, false, ◌&&◌, not, List, [], ◌∷◌, ◌++◌, map, refl, sym, ap, subst, ◌∙◌, arith, append_assoc, eqb-true, nat_eq, lt-ltb}
+use Rattle.std.specs.Prelude.{All, codes}
+use Rattle.std.specs.List.{list_all}
+use Rattle.std.specs.Fmt.{digits}
+use Rattle.std.proofs.lemmas.List.{map-append}
+use Rattle.game_rules.specs.Grid.{Grid, is_on, points_of}
+use Rattle.game_rules.specs.declared.TheConstants.{MAX_SIDE}
+use Rattle.game_rules.specs.declared.Point.{Point}
+use Rattle.game_rules.proofs.Boards.{and_left, and_right}
+use Rattle.game_rules.proofs.Points.{all_at}
+use Rattle.renju_io.specs.Lines.{is_line_feed, line_of, lines, HasNoLineFeed}
+use Rattle.renju_io.specs.declared.TheConstants.{LINE_FEED}
+use Rattle.renju_io.proofs.LineLaws.{pieces-ended}
+use Rattle.renju_io.proofs.WholeLines.{whole_cut}
+use Rattle.gomocup_text.specs.Commands.{command_told, commands}
+use Rattle.gomocup_text.specs.Answers.{answer_words}
+use Rattle.gomocup_text.specs.declared.Answer.TheVariants.{Move}
+use Rattle.gomocup_text.specs.declared.Command.{Command}
+use Rattle.gomocup_text.specs.declared.Command.TheVariants.{Turn}
+use Rattle.brain_session.specs.States.{empty_board}
+use Rattle.brain_session.specs.HeldGames.{turns}
+use Rattle.brain_session.specs.TurnLines.{turn_line, turn_lines, IsSomeBoards, TurnLinesAreRead}
+
+-- the bytes of a line TURN before its line feed
+abbrev line_bytes : Point → List ℕ
+line_bytes q = (codes "TURN " ++ answer_words (Move q)) ++ codes "\r"
+
+-- whether the command is the turn of the point
+abbrev is_turn : Point → Command → Bool
+is_turn q (Turn x y) = nat_eq x q.x && nat_eq y q.y
+is_turn q _ = false
+
+turn_is : (q : Point) (c : Command) → is_turn q c ≡ true → c ≡ Turn q.x q.y
+turn_is q (Turn x y) h =
+    let across : x ≡ q.x = eqb-true x q.x (and_left (nat_eq x q.x) (nat_eq y q.y) h) in
+    let down : y ≡ q.y = eqb-true y q.y (and_right (nat_eq x q.x) (nat_eq y q.y) h) in
+    cc
+turn_is q _ h = cc
+
+-- whether the line of the point has no line feed, and is read as its turn
+abbrev reads_back : Point → Bool
+reads_back q = list_all (λ byte. not (is_line_feed byte)) (line_bytes q) && is_turn q (command_told (line_of (line_bytes q)))
+
+abbrev largest : Grid
+largest = empty_board MAX_SIDE MAX_SIDE
+
+-- on the largest board each is
+all_read : list_all reads_back (points_of largest) ≡ true
+unfolding digits
+all_read = refl
+
+read_back : (q : Point) → IsSomeBoards q → reads_back q ≡ true
+read_back q some = all_at largest reads_back q all_read (on (lt-ltb q.x MAX_SIDE some.within) (lt-ltb q.y MAX_SIDE some.below)) where
+  on : nat_lt q.x MAX_SIDE ≡ true → nat_lt q.y MAX_SIDE ≡ true → is_on largest q ≡ true
+  on across down = rw (across, down) refl
+
+no_feed : (bytes : List ℕ) → list_all (λ byte. not (is_line_feed byte)) bytes ≡ true → HasNoLineFeed bytes
+no_feed [] h = tt
+no_feed (byte ∷ bytes) h = (
+  by_test (is_line_feed byte) (and_left (not (is_line_feed byte)) _ h),
+  no_feed bytes
+      (and_right (not (is_line_feed byte)) _ h),
+) where
+  by_test : (r : Bool) → not r ≡ true → r ≡ false
+  by_test false e = refl
+  by_test true e = cc
+
+-- one line, and more behind it
+line_read : (q : Point) (more : List ℕ) → IsSomeBoards q → commands (turn_line q ++ more) ≡ Turn q.x q.y ∷ commands more
+line_read q more some =
+    let test = read_back q some in
+    let none = no_feed (line_bytes q) (and_left (list_all (λ byte. not (is_line_feed byte)) (line_bytes q)) _ test) in
+    let is = turn_is q (command_told (line_of (line_bytes q)))
+    (and_right (list_all (λ byte. not (is_line_feed byte)) (line_bytes q)) _ test) in
+    ap commands (append_assoc (codes "TURN " ++ answer_words (Move q)) (codes "\r\n") more
+    ∙ sym (append_assoc (codes "TURN " ++ answer_words (Move q)) (codes "\r") (LINE_FEED ∷ more)))
+    ∙ ap (λ (ps : List (List ℕ)). map command_told (map line_of ps)) (pieces-ended (line_bytes q) more none)
+    ∙ ap (λ (c : Command). c ∷ commands more) is
+
+lines_read : (qs : List Point) → All IsSomeBoards qs → commands (turn_lines qs) ≡ turns qs
+lines_read [] all = refl
+lines_read (q ∷ qs) all =
+    line_read q (turn_lines qs) (all 0 q (omega arith))
+    ∙ ap (λ (cs : List Command). Turn q.x q.y ∷ cs) (lines_read qs (λ k d low. all (suc k) d (omega (arith, low))))
+
+pub turn_lines-are_read : TurnLinesAreRead
+turn_lines-are_read front qs whole all =
+    ap (map command_told) (subst (λ (f : List ℕ). lines (f ++ turn_lines qs) ≡ lines f ++ lines (turn_lines qs)) whole
+    ((whole_cut front).splits (turn_lines qs)))
+    ∙ map-append command_told (lines front) (lines (turn_lines qs))
+    ∙ ap (λ (cs : List Command). commands front ++ cs) (lines_read qs all)
