@@ -5,7 +5,7 @@ use Rattle.std.specs.Fmt.{digits}
 use Rattle.std.specs.List.{list_all}
 use Rattle.std.proofs.lemmas.List.Elements.{All-nil, All-cons}
 use Rattle.game_rules.specs.Grid.{IsBoard, points_of, empties_of}
-use Rattle.game_rules.specs.Play.{outcome}
+use Rattle.game_rules.specs.Play.{outcome, after}
 use Rattle.game_rules.specs.declared.RuleKind.TheVariants.{Freestyle}
 use Rattle.game_rules.specs.declared.Side.TheVariants.{Black}
 use Rattle.game_rules.specs.declared.Point.{Point}
@@ -15,7 +15,7 @@ use Rattle.strategy_graph.specs.declared.Node.{Node}
 use Rattle.strategy_graph.specs.declared.Rest.TheVariants.{To}
 use Rattle.strategy_graph.specs.Tables.{Answers, answers_of, names_below, NamesLower}
 use Rattle.strategy_graph.specs.Acceptance.{AcceptedStart}
-use Rattle.strategy_graph.specs.Games.{Won, game, attacks}
+use Rattle.strategy_graph.specs.Games.{Won, game, attacks, one_later}
 use Rattle.strategy_graph.specs.declared.roots.Root.TheVariants.{Defend}
 use Rattle.strategy_graph.proofs.Accepting.{is_met, met-by_test}
 use Rattle.strategy_checker.specs.HeldRoots.{IsHeldRoot, IsHeld}
@@ -29,10 +29,13 @@ use Rattle.brain_session.specs.States.{Followed, OwnWin, Game, board_of, point_a
 use Rattle.brain_session.specs.ChosenMoves.{Choice, chosen, chosen_anew}
 use Rattle.brain_session.specs.Steps.{Chooses, placed, row_of, with_choice, Step, step_by, brain_step}
 use Rattle.brain_session.specs.Sessions.{then_answers, answers_from, then_state, state_after, answer_texts, session_text}
-use Rattle.brain_session.specs.HeldGames.{BeginsHeldGame, replies, game_answers}
+use Rattle.brain_session.specs.HeldGames.{BeginsHeldGame, replies, game_answers, then_replies, answers_by}
 use Rattle.brain_session.proofs.HeldGames.{held-games-go_well}
-use Rattle.worked_examples.specs.HeldSessions.{PlaysHeldGame, three_board, four_board, one_start, taken_back_input}
+use Rattle.worked_examples.specs.HeldSessions.{PlaysHeldGame, three_board, four_board, one_start, taken_back_input, PlaysOwnGame}
 use Rattle.worked_examples.proofs.OwnWins.{own_win_is, first_move, replied_board, second_move}
+use Rattle.game_rules.specs.declared.Outcome.TheVariants.{Wins, GoesOn}
+use Rattle.brain_session.specs.OwnGames.{BeginsOwnGame, win_game, win_attacks, win_answers}
+use Rattle.brain_session.proofs.OwnGames.{own-games-go_well}
 
 -- ---- the start is accepted
 
@@ -228,4 +231,74 @@ own_win-game =
           ∙ ap (λ (qs : List Point). game_answers Freestyle one_start.table 0 (board_of played) qs) no_reply
           ∙ game_said;
       won = game_won;
+    }
+
+-- ---- the game by the win of its own
+
+own_begins : BeginsOwnGame (state_after (new_brain one_start) told) Done (game_at [] false None) 2
+unfolding told three_board state_after row_of refusal
+own_begins = record { chooses = done_row; not_followed = refl; not_held = refl; found = own_win_is }
+
+replies_by_step : (s : State) (c : Command) (cs : List Command) (st : Step) → brain_step s c ≡ st → replies s (c ∷ cs) ≡ then_replies c st.reaction (replies st.next cs)
+unfolding replies
+replies_by_step s c cs st e = ap (λ (x : Step). then_replies c x.reaction (replies x.next cs)) e
+
+no_more : replies (state_at (game_at (point_at 3 7 ∷ point_at 0 14 ∷ point_at 4 7 ∷ []) true (Some (OwnWin 1)))) rest ≡ []
+unfolding rest replies row_of
+no_more = refl
+
+own_replied : replies (brain_step (state_after (new_brain one_start) told) Done).next (Turn 0 14 ∷ rest) ≡ point_at 0 14 ∷ []
+own_replied =
+    ap (λ (st : Step). replies st.next (Turn 0 14 ∷ rest)) done_step
+    ∙ replies_by_step (state_at (game_at (point_at 4 7 ∷ []) false (Some (OwnWin 2)))) (Turn 0 14) rest _ turn_step
+    ∙ ap (λ (ps : List Point). point_at 0 14 ∷ ps) no_more
+
+first_on : outcome Freestyle three_board (point_at 4 7) ≡ GoesOn
+unfolding three_board outcome
+first_on = refl
+
+reply_on : outcome Freestyle (after three_board (point_at 4 7)) (point_at 0 14) ≡ GoesOn
+unfolding three_board outcome
+reply_on = refl
+
+second_wins : outcome Freestyle replied_board (point_at 3 7) ≡ Wins
+unfolding replied_board three_board outcome
+second_wins = refl
+
+attacks_later : win_attacks Freestyle 1 replied_board [] ≡ point_at 3 7 ∷ []
+unfolding win_attacks
+attacks_later = rw (second_move, second_wins) refl
+
+own_attacks : win_attacks Freestyle 2 three_board (point_at 0 14 ∷ []) ≡ point_at 4 7 ∷ point_at 3 7 ∷ []
+unfolding win_attacks replied_board
+own_attacks = rw (first_move, first_on, reply_on) (ap (λ (ps : List Point). point_at 4 7 ∷ ps) attacks_later)
+
+own_said : win_answers Freestyle 2 three_board (point_at 0 14 ∷ []) ≡ Move (point_at 4 7) ∷ Move (point_at 3 7) ∷ []
+own_said = ap (λ (ps : List Point). answers_by Freestyle three_board ps (point_at 0 14 ∷ [])) own_attacks ∙ no_foul where
+  no_foul : answers_by Freestyle three_board (point_at 4 7 ∷ point_at 3 7 ∷ []) (point_at 0 14 ∷ []) ≡ Move (point_at 4 7) ∷ Move (point_at 3 7) ∷ []
+  no_foul = rw reply_on refl
+
+end_later : win_game Freestyle 1 replied_board [] ≡ Won 1
+unfolding win_game
+end_later = rw (second_move, second_wins) refl
+
+own_won : win_game Freestyle 2 three_board (point_at 0 14 ∷ []) ≡ Won 2
+unfolding win_game replied_board
+own_won = rw (first_move, first_on, reply_on) (ap one_later end_later)
+
+pub own_win-own_game : PlaysOwnGame one_start taken_back_input 2 (point_at 0 14 ∷ []) (Move (point_at 4 7) ∷ Move (point_at 3 7) ∷ []) 2
+own_win-own_game =
+    let law = own-games-go_well one_start one_start-held told Done (Turn 0 14 ∷ rest) (game_at [] false None) 2 own_begins in
+    record {
+      before = told;
+      command = Done;
+      later = Turn 0 14 ∷ rest;
+      game_there = game_at [] false None;
+      lines = lines;
+      begins = own_begins;
+      replied = own_replied;
+      first = law.first;
+      says = law.says;
+      answered = law.answers ∙ ap (λ (qs : List Point). win_answers Freestyle 2 three_board qs) own_replied ∙ own_said;
+      won = own_won;
     }

@@ -21,6 +21,7 @@ use Rattle.brain_session.specs.Batches.{with_stones}
 use Rattle.brain_session.specs.Steps.{brain_step}
 use Rattle.brain_session.specs.Sessions.{state_after}
 use Rattle.brain_session.specs.HeldGames.{BeginsHeldGame, replies, answers_to_replies}
+use Rattle.brain_session.specs.OwnGames.{BeginsOwnGame, win_game}
 
 -- Some line of the input, after those of the commands before, begins a held game from this node. Its replies are these points, the
 -- answers to it and to them are these, and the game is won with so many attacks.
@@ -36,6 +37,21 @@ pub record PlaysHeldGame (held : HeldTable) (input : List ℕ) (node : ℕ) (poi
   pub says : (brain_step (state_after (new_brain held) before) command).reaction ≡ Says first
   pub answered : first ∷ answers_to_replies (brain_step (state_after (new_brain held) before) command).next later ≡ said
   pub won : game game_there.rule held.table node (board_of game_there) points ≡ Won attacks
+
+-- Some line of the input, after those of the commands before, begins a game by a win of the brain's own within so many moves. Its
+-- replies are these points, the answers to it and to them are these, and the game is won with so many attacks.
+pub record PlaysOwnGame (held : HeldTable) (input : List ℕ) (moves : ℕ) (points : List Point) (said : List Answer) (attacks : ℕ) : Type 0 where
+  pub before : List Command
+  pub command : Command
+  pub later : List Command
+  pub game_there : Game
+  pub lines : commands input ≡ before ++ command ∷ later
+  pub begins : BeginsOwnGame (state_after (new_brain held) before) command game_there moves
+  pub replied : replies (brain_step (state_after (new_brain held) before) command).next later ≡ points
+  pub first : Answer
+  pub says : (brain_step (state_after (new_brain held) before) command).reaction ≡ Says first
+  pub answered : first ∷ answers_to_replies (brain_step (state_after (new_brain held) before) command).next later ≡ said
+  pub won : win_game game_there.rule moves (board_of game_there) points ≡ Won attacks
 
 -- a stone of the brain
 abbrev pub own : ℕ → ℕ → BatchStone

@@ -7,7 +7,7 @@ ghost use Rattle.gomocup_text.specs.declared.Answer.TheVariants.{Move, Error};
 ghost use Rattle.gomocup_text.specs.declared.ErrorText.TheVariants.{OpponentFoul};
 ghost use Rattle.std.specs.Prelude.{◌≡◌, [], ◌∷◌, codes};
 ghost use Rattle.strategy_checker.specs.HeldRoots.{IsHeld};
-ghost use Rattle.worked_examples.specs.HeldSessions.{PlaysHeldGame, block_input, elsewhere_input, one_start, overline_table, taken_back_input, two_roots};
+ghost use Rattle.worked_examples.specs.HeldSessions.{PlaysHeldGame, PlaysOwnGame, block_input, elsewhere_input, one_start, overline_table, taken_back_input, two_roots};
 
 /// A four that its opponent may not block: whatever is replied, the next attack wins.
 pub fn a_reply_elsewhere_loses()
@@ -34,5 +34,6 @@ pub fn a_start_is_followed_after_moves_are_taken_back()
 pub fn a_held_start_is_followed_after_an_own_win()
     ensures held { IsHeld one_start }
     ensures text { session_text (new_brain one_start) taken_back_input ≡ codes "OK\r\n4,7\r\n3,7\r\nOK\r\nOK\r\n8,7\r\n" }
+    ensures own_game { PlaysOwnGame one_start taken_back_input 2 (point_at 0 14 ∷ []) (Move (point_at 4 7) ∷ Move (point_at 3 7) ∷ []) 2 }
     ensures game { PlaysHeldGame one_start taken_back_input 0 [] (Move (point_at 8 7) ∷ []) 1 }
 {}
