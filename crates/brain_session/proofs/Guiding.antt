@@ -19,7 +19,7 @@ use Rattle.strategy_graph.proofs.Following.{accepted-in_table, accepted-replies,
 use Rattle.strategy_compiler.specs.Trees.{StandsFor}
 use Rattle.strategy_checker.specs.HeldRoots.{HeldTable}
 use Rattle.four_search.specs.Plans.{four_plan}
-use Rattle.four_search.proofs.Following.{plan-attacks, plan-replies, PlanAt}
+use Rattle.four_search.proofs.Written.{plan-attacks, plan-replies, PlanAt}
 use Rattle.brain_session.specs.declared.own_win.OwnTable.{OwnTable}
 use Rattle.brain_session.specs.declared.guide.Guide.{Guide}
 use Rattle.brain_session.specs.declared.guide.Guide.TheVariants.{HeldNode as HeldGuide, OwnWin as OwnGuide}

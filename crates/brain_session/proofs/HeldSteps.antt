@@ -19,7 +19,7 @@ use Rattle.strategy_graph.specs.Acceptance.{NotWinning, Answered, Meets, Accepte
 use Rattle.strategy_graph.specs.Games.{NoMove, Open, after_attack, game, attacks}
 use Rattle.strategy_graph.proofs.Answering.{Answered-elim}
 use Rattle.strategy_graph.proofs.Fuel.{not_winning, depth_some, deeper, accepted_node}
-use Rattle.strategy_graph.proofs.Plays.{none_on, first_at}
+use Rattle.strategy_graph.proofs.Endings.{none_on, first_at}
 use Rattle.strategy_checker.specs.HeldRoots.{HeldTable}
 use Rattle.gomocup_text.specs.declared.Answer.{Answer}
 use Rattle.gomocup_text.specs.declared.Answer.TheVariants.{Move, Error}

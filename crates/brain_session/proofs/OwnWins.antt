@@ -15,7 +15,7 @@ use Rattle.strategy_compiler.specs.declared.wins.WrittenWin.{WrittenWin}
 use Rattle.four_search.specs.Answers.{IsFourWin}
 use Rattle.four_search.specs.FourGame.{four_cost, least_moves}
 use Rattle.four_search.specs.Plans.{four_plan}
-use Rattle.four_search.proofs.Following.{least-none}
+use Rattle.four_search.proofs.Written.{least-none}
 use Rattle.four_search.proofs.Costs.{within, above, wins_by}
 use Rattle.brain_session.specs.declared.TheConstants.{OWN_MOVES, OWN_POSITIONS}
 use Rattle.brain_session.specs.declared.own_win.OwnTable.{OwnTable}

@@ -1,8 +1,7 @@
 -- A search for two fours looks at few positions.
-use Rattle.std.proofs.Common.{ℕ, ◌≤◌, Bool, true, false, cond, arith, List, [], ◌∷◌, ◌≡◌, zero, suc, ◌+◌, ◌<◌, refl, length, nat_le, ap}
+use Rattle.std.proofs.Common.{ℕ, ◌≤◌, Bool, true, false, cond, arith, List, [], ◌∷◌, ◌≡◌, zero, suc, ◌+◌, ◌<◌, refl, length, nat_le, ap, Option, None, Some}
 use Rattle.std.specs.List.{sum_by, range_with_len}
 use Rattle.std.proofs.lemmas.List.Sums.{sum_by-cons}
-use Rattle.std.specs.Prelude.{Option, None, Some}
 use Rattle.std.proofs.lemmas.Bool.Decides.{nat_tests}
 use Rattle.game_rules.proofs.Common.{Grid, points_of, is_at, IsPosition, mover, after, has_five, wins_by_fours, four_move}
 use Rattle.game_rules.specs.declared.RuleKind.{RuleKind}
@@ -10,11 +9,10 @@ use Rattle.game_rules.specs.declared.Point.{Point}
 use Rattle.game_rules.proofs.Places.{points_few}
 use Rattle.game_rules.proofs.PointLists.{sum-each_one}
 use Rattle.threat_moves.specs.declared.block.BlockAnswer.{BlockAnswer}
-use Rattle.threat_moves.specs.declared.block.BlockAnswer.TheVariants.{Lost, Won, Draw, One}
-use Rattle.threat_moves.specs.FourMoves.{is_four_move}
-use Rattle.threat_moves.specs.Blocks.{fate}
+use Rattle.threat_moves.specs.declared.block.BlockAnswer.TheVariants.{One}
+use Rattle.threat_moves.proofs.Common.{is_four_move, fate}
 use Rattle.four_search.specs.FourGame.{until, tried, if_one, behind_move, four_tree, four_cost, least_moves}
-use Rattle.four_search.proofs.Following.{least-wins}
+use Rattle.four_search.proofs.Written.{least-wins}
 
 sum-until : {X : Type 0} (f : X → ℕ) (test : X → Bool) (xs : List X) → sum_by f (until test xs) ≤ sum_by f xs
 sum-until f test [] = omega arith
@@ -31,10 +29,8 @@ module _ (rule : RuleKind) (b : Grid) (lawful : IsPosition rule b) where
   behind-one : (p : Point) → behind_move rule b (four_tree rule 1) p ≤ 1
   behind-one p = by_four (is_four_move rule b p) where
     by_fate : (a : BlockAnswer) → if_one (four_tree rule 1) (after b p) a ≤ 1
-    by_fate Lost = omega arith
-    by_fate Won = omega arith
-    by_fate (Draw w) = omega arith
     by_fate (One w) = let e = one (after (after b p) w) in omega (arith, e)
+    by_fate _ = omega arith
 
     by_four : (r : Bool) → cond r (if_one (four_tree rule 1) (after b p) (fate rule (after b p))) 0 ≤ 1
     by_four true = by_fate (fate rule (after b p))
@@ -46,9 +42,7 @@ module _ (rule : RuleKind) (b : Grid) (lawful : IsPosition rule b) where
     sum : sum_by (behind_move rule b (four_tree rule 1)) (tried rule 2 b) ≤ 1024
     sum =
         let cut = sum-until (behind_move rule b (four_tree rule 1)) (λ p. is_at p (four_move rule 2 b)) (points_of b) in
-        let ones = sum-each_one (behind_move rule b (four_tree rule 1)) behind-one (points_of b) in
-        let few = points_few b lawful.board in
-        omega (arith, cut, ones, few)
+        omega (arith, cut, sum-each_one (behind_move rule b (four_tree rule 1)) behind-one (points_of b), points_few b lawful.board)
 
     by_five : (r : Bool) → cond r 1 (1 + sum_by (behind_move rule b (four_tree rule 1)) (tried rule 2 b)) ≤ 1025
     by_five true = omega arith

@@ -1,18 +1,34 @@
--- Depth after depth: what is spent, and the fewest moves.
-use Rattle.std.proofs.Common.{◌≡◌, ℕ, zero, suc, ◌+◌, ◌-◌, ◌≤◌, ◌<◌, Bool, true, false, cond, inl, inr, refl, sym, ap, subst, ◌∙◌, arith, List, [], ◌∷◌, ◌++◌, nat_le}
-use Rattle.std.specs.Prelude.{Some}
+-- Answers to replies in reading order rise. Depth after depth: what is spent, and the fewest moves.
+use Rattle.std.proofs.Common.{◌≡◌, ℕ, true, cond, refl, ap, List, [], ◌∷◌, map, filter, zero, suc, ◌+◌, ◌-◌, ◌≤◌, ◌<◌, Bool, false, inl, inr, sym, subst, ◌∙◌, arith, ◌++◌, nat_le, Some}
 use Rattle.std.specs.List.{find, sum_by, range_with_len}
 use Rattle.std.proofs.lemmas.Bool.{cases_lt}
 use Rattle.std.proofs.lemmas.Bool.Decides.{nat_tests}
 use Rattle.std.proofs.lemmas.List.Sums.{sum_by-cons, sum_by-append}
-use Rattle.game_rules.proofs.Common.{Grid, wins_by_fours, has_five}
-use Rattle.game_rules.specs.declared.RuleKind.{RuleKind}
+use Rattle.game_rules.specs.declared.Outcome.{Outcome}
+use Rattle.game_rules.specs.declared.Outcome.TheVariants.{GoesOn}
 use Rattle.game_rules.specs.declared.Point.{Point}
+use Rattle.game_rules.specs.declared.RuleKind.{RuleKind}
+use Rattle.game_rules.proofs.Common.{Grid, points_of, goes_on, wins_by_fours, has_five}
 use Rattle.game_rules.proofs.Games.{WinsUnder-more, test-WinsUnder, WinsUnder-test}
+use Rattle.strategy_graph.proofs.Rising.{replies-rising}
+use Rattle.strategy_graph.proofs.Common.{is_rising}
+use Rattle.four_search.specs.Plans.{answer_if, answers_for}
 use Rattle.four_search.specs.declared.search.Found.{Found}
 use Rattle.four_search.specs.declared.search.Found.TheVariants.{Win, NoWin, Spent}
 use Rattle.four_search.specs.FourGame.{until, four_tree, depths_tried, four_cost, least_moves}
 use Rattle.four_search.specs.Searching.{found_at, four_line}
+
+module _ (o : Point → Outcome) (next : Point → ℕ) where
+  answered : (ps : List Point) → map (λ r. r.at) (answers_for o next ps) ≡ filter (λ q. goes_on (o q)) ps
+  answered [] = refl
+  answered (q ∷ ps) = by_outcome (o q) (answered ps) where
+    by_outcome : (u : Outcome) → map (λ r. r.at) (answers_for o next ps) ≡ filter (λ p. goes_on (o p)) ps → map (λ r. r.at) (answer_if u (record { at = q; next = next q }) (answers_for o next ps)) ≡ cond (goes_on u) (q ∷ filter (λ p. goes_on (o p)) ps) (filter (λ p. goes_on (o p)) ps)
+    by_outcome GoesOn k = ap (λ (qs : List Point). q ∷ qs) k
+    by_outcome _ k = k
+
+  -- the answers to the replies of a board rise
+  pub answers-rising : (b : Grid) → is_rising (answers_for o next (points_of b)) ≡ true
+  answers-rising b = replies-rising b (λ q. goes_on (o q)) (answers_for o next (points_of b)) (answered (points_of b))
 
 -- a win within so many moves is one within more
 pub wins-more : (rule : RuleKind) (m n : ℕ) (b : Grid) → m ≤ n → wins_by_fours rule m b ≡ true → wins_by_fours rule n b ≡ true
@@ -104,8 +120,7 @@ module _ (rule : RuleKind) (b : Grid) (depth : ℕ) where
       ap (sum_by (λ k. four_tree rule k b)) (parted d l h) ∙ sum_by-append (λ k. four_tree rule k b) (range_with_len 1 d) (until wins (range_with_len (1 + d) (suc (depth - d - 1)))) in
       let first = sum_by-cons (λ k. four_tree rule k b) (1 + d) (cond (wins (1 + d)) [] (until wins (range_with_len (1 + d + 1) (depth - d - 1)))) in
       let same : four_tree rule (1 + d) b ≡ four_tree rule (d + 1) b = (let m : 1 + d ≡ d + 1 = omega arith in ap (λ k. four_tree rule k b) m) in
-      let more = spent-more d in
-      omega (arith, e, first, same, more)
+      omega (arith, e, first, same, spent-more d)
 
   -- where the next depth has a win, this is all
   pub cost-win : (d : ℕ) → d < depth → NoWinUpTo d → wins_by_fours rule (d + 1) b ≡ true → four_cost rule depth b ≡ spent_on (d + 1)
@@ -117,8 +132,7 @@ module _ (rule : RuleKind) (b : Grid) (depth : ℕ) where
       let only : sum_by (λ k. four_tree rule k b) (until wins (range_with_len (1 + d) (suc (depth - d - 1)))) ≡ four_tree rule (1 + d) b + 0 =
       ap (λ r. sum_by (λ k. four_tree rule k b) ((1 + d) ∷ cond r [] (until wins (range_with_len (1 + d + 1) (depth - d - 1))))) there ∙ sum_by-cons (λ k. four_tree rule k b) (1 + d) [] in
       let same : four_tree rule (1 + d) b ≡ four_tree rule (d + 1) b = (let m : 1 + d ≡ d + 1 = omega arith in ap (λ k. four_tree rule k b) m) in
-      let more = spent-more d in
-      omega (arith, e, only, same, more)
+      omega (arith, e, only, same, spent-more d)
 
   pub least-win : (d : ℕ) → d < depth → NoWinUpTo d → wins_by_fours rule (d + 1) b ≡ true → least_moves rule depth b ≡ Some (d + 1)
   unfolding wins
@@ -173,19 +187,14 @@ module _ (rule : RuleKind) (b : Grid) (depth budget left d : ℕ) (l : d < depth
     pub win-cost : four_cost rule depth b ≤ budget
     win-cost =
         let fits = (found-win rule (d + 1) b left rest line found).0 in
-        let all = cost-win rule b depth d l none win-here in
-        let more = spent-more rule b depth d in
-        omega (arith, fits, all, more, spent)
+        omega (arith, fits, cost-win rule b depth d l none win-here, spent-more rule b depth d, spent)
 
     pub win-depth : wins_by_fours rule depth b ≡ true
     win-depth = wins-more rule (d + 1) depth b (omega arith) win-here
 
   pub cost-above : Spent ≡ found_at rule (d + 1) b left → budget < four_cost rule depth b
   cost-above found =
-      let short = found-spent rule (d + 1) b left found in
-      let all = cost-more rule b depth d l none in
-      let more = spent-more rule b depth d in
-      omega (arith, short, all, more, spent)
+      omega (arith, found-spent rule (d + 1) b left found, cost-more rule b depth d l none, spent-more rule b depth d, spent)
 
   module _ (rest : ℕ) (found : NoWin rest ≡ found_at rule (d + 1) b left) where
     pub none-more : NoWinUpTo rule b depth (d + 1)
@@ -196,17 +205,14 @@ module _ (rule : RuleKind) (b : Grid) (depth budget left d : ℕ) (l : d < depth
 
     pub left-more : rest + spent_on rule b depth (d + 1) ≡ budget
     left-more =
-        let took = (found-no-win rule (d + 1) b left rest found).0 in
-        let more = spent-more rule b depth d in
-        omega (arith, took, more, spent)
+        omega (arith, (found-no-win rule (d + 1) b left rest found).0, spent-more rule b depth d, spent)
 
 -- after all depths
 module _ (rule : RuleKind) (b : Grid) (depth budget left d : ℕ) (end : d ≡ depth) (none : NoWinUpTo rule b depth d) (spent : left + spent_on rule b depth d ≡ budget) where
   pub end-cost : four_cost rule depth b ≤ budget
   end-cost =
       let all = cost-none rule b depth (subst (λ (n : ℕ). NoWinUpTo rule b depth n) end none) in
-      let same = ap (spent_on rule b depth) end in
-      omega (arith, all, same, spent)
+      omega (arith, all, ap (spent_on rule b depth) end, spent)
 
   pub end-none : 1 ≤ depth → wins_by_fours rule depth b ≡ false
   end-none some = none depth some (omega arith)

@@ -3,29 +3,19 @@
 
 -- the game of fours, position by position, and the search of it
 mod Trying
-mod Covering
-mod Forcing
-mod Reading
 mod Deepening
 -- the plan of a win, and the nodes that stand for it
-mod Planning
-pub mod Naming
+pub mod Planning
 pub mod Written
 -- one move of a win by fours, and the node that stands for its plan
-pub mod Following
 -- depths that look at as many positions as the one before
 mod Rounds
--- the gaps beside a stone; points in reading order, and one more in its place
+-- the gaps beside a stone, and from all stones; points in reading order, and one more in its place
 mod GapRuns
 mod Listing
 mod Joining
--- the points that make a five point, tried
-mod Taking
 -- what a search remembers
 mod Remembering
--- moves that make no five
--- the gaps from all stones
-mod Scanning
 -- points that no move on their lines has changed
 mod Beside
 -- how few positions a search for two fours looks at

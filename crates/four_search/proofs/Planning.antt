@@ -1,34 +1,93 @@
--- The plan of a win by fours, node by node.
-use Rattle.std.proofs.Common.{◌≡◌, inl, inr, ℕ, zero, suc, ◌-◌, ◌≤◌, ◌<◌, Bool, true, false, cond, ◌&&◌, refl, sym, ap, subst, ◌∙◌, arith, List, [], ◌∷◌, ◌++◌, length, get_or}
-use Rattle.std.specs.Prelude.{Option, Some, Result, Ok, Err, IfOk, All}
-use Rattle.std.specs.List.{list_all, find, AllByRecursion}
+-- What a node names are the answers to the replies of its tree. The plan of a win by fours, node by node.
+use Rattle.std.proofs.Common.{◌≡◌, ℕ, Bool, true, false, ◌||◌, not, refl, sym, ap, subst, ◌∙◌, List, [], ◌∷◌, map, nat_eq, Option, Some, None, inl, inr, zero, suc, ◌-◌, ◌≤◌, ◌<◌, cond, ◌&&◌, arith, ◌++◌, length, get_or, Result, Ok, Err, IfOk, All}
+use Rattle.std.specs.Option.{option_eq}
+use Rattle.std.specs.List.{AllByRecursion, list_all, find}
 use Rattle.std.proofs.lemmas.List.Elements.{All-from_recursion}
-use Rattle.game_rules.proofs.Common.{Grid, points_of, five, is_same_point, IsPosition, outcome, mover, other, after, has_five, five_points, loses_or, starts_win, wins_by_fours, wins_under, four_move}
-use Rattle.game_rules.specs.declared.RuleKind.{RuleKind}
 use Rattle.game_rules.specs.declared.Outcome.{Outcome}
-use Rattle.game_rules.specs.declared.Outcome.TheVariants.{Refused, Wins, Fouls, Draws, GoesOn}
+use Rattle.game_rules.specs.declared.Outcome.TheVariants.{Refused, Fouls, GoesOn}
 use Rattle.game_rules.specs.declared.Point.{Point}
+use Rattle.game_rules.specs.declared.RuleKind.{RuleKind}
+use Rattle.game_rules.proofs.Points.{is_same_point-same, is_same_point-itself}
+use Rattle.game_rules.proofs.PointLists.{among_points, AmongPoints, apart_same, find-any, any-find, snoc-parts, list_one, list_two, head_find, list_some}
+use Rattle.game_rules.proofs.Common.{is_same_point, Grid, points_of, five, IsPosition, outcome, mover, other, after, has_five, five_points, loses_or, starts_win, wins_by_fours, wins_under, four_move}
 use Rattle.game_rules.proofs.Boards.{Apart, same_or_apart}
 use Rattle.game_rules.proofs.Positions.{GoesOn-empty, IsPosition-after, mover-after}
 use Rattle.game_rules.proofs.Fives.{least_five, first-left, second-left}
-use Rattle.game_rules.proofs.Points.{is_same_point-itself}
 use Rattle.game_rules.proofs.Places.{find-passes}
-use Rattle.game_rules.proofs.PointLists.{apart_same, find-any, any-find, snoc-parts, list_one, list_two, head_find, list_some}
 use Rattle.game_rules.proofs.Games.{wins-some, no_move}
 use Rattle.strategy_graph.specs.declared.Node.{Node}
 use Rattle.strategy_graph.specs.declared.Reply.{Reply}
-use Rattle.strategy_compiler.specs.Trees.{Tree, Branches, Leaf, Fork, StandsFor, AnswersBranches}
+use Rattle.strategy_graph.proofs.Common.{Answers, answer, rest_node, Answered}
+use Rattle.strategy_compiler.proofs.Forks.{IfAnswer, all-filter}
+use Rattle.strategy_compiler.proofs.Common.{Tree, StandsFor, StandsForAll, AnswersBriefly, replies_of, Branches, Leaf, Fork, AnswersBranches, answer_node}
 use Rattle.threat_moves.specs.declared.block.BlockAnswer.TheVariants.{Lost, Won, Draw, One}
-use Rattle.threat_moves.specs.FourMoves.{is_four_move}
-use Rattle.threat_moves.specs.Blocks.{fate}
-use Rattle.threat_moves.specs.OneBlock.{block_wins, all_foul}
+use Rattle.threat_moves.proofs.Common.{is_four_move, fate, block_wins, all_foul}
 use Rattle.threat_moves.proofs.FourLaws.{four-goes_on, one-goes_on}
 use Rattle.threat_moves.proofs.BlockLaw.{block_decides}
 use Rattle.threat_moves.proofs.Fates.{one-points, won-foul, won-some}
-use Rattle.four_search.specs.Searching.{line_behind, line_from, four_line}
 use Rattle.four_search.specs.Plans.{branch_if, branches_for, plan_from, four_plan, answer_if, answers_for}
+use Rattle.four_search.specs.Searching.{line_behind, line_from, four_line}
 use Rattle.four_search.proofs.Trying.{move-is, no_four}
-use Rattle.strategy_compiler.specs.Forks.{answer_node}
+
+-- ---- lists
+
+all_map : {X Y : Type 0} (Q : Y → Type 0) (h : X → Y) (xs : List X) → AllByRecursion Q (map h xs) → AllByRecursion (λ x. Q (h x)) xs
+all_map Q h [] a = tt
+all_map Q h (x ∷ xs) a = (a.0, all_map Q h xs a.1)
+
+-- ---- the answers to the replies of a plan
+
+module _ (t : List Node) (a : Answers) (o : Point → Outcome) (next : Point → Tree) where
+  answered_if : (P Q : ℕ → Type 0) (u : Option ℕ) → ((j : ℕ) → P j → Q j) → Answered u P → IfAnswer Q u
+  answered_if P Q None f h = absurd h
+  answered_if P Q (Some j) f h = f j h
+
+  -- each answer stands for the tree after its reply
+  pub answers-each : (P : ℕ → Type 0) (ps : List Point) → ((q : Point) (j : ℕ) → o q ≡ GoesOn → StandsFor t j (next q) → P j) → StandsForAll t a (branches_for o next ps) → AllByRecursion (λ q. IfAnswer P (answer a q)) (replies_of (branches_for o next ps))
+  unfolding StandsFor
+  answers-each P [] f h = tt
+  answers-each P (q ∷ ps) f h = by_outcome (o q) refl h (answers-each P ps f) where
+    by_outcome : (r : Outcome) → o q ≡ r → StandsForAll t a (branch_if r q (next q) (branches_for o next ps)) → (StandsForAll t a (branches_for o next ps) → AllByRecursion (λ q. IfAnswer P (answer a q)) (replies_of (branches_for o next ps))) → AllByRecursion (λ q. IfAnswer P (answer a q)) (replies_of (branch_if r q (next q) (branches_for o next ps)))
+    by_outcome GoesOn e k rest = (answered_if (λ j. StandsFor t j (next q)) P (answer a q) (λ j s. f q j e s) k.0, rest k.1)
+    by_outcome _ e k rest = rest k
+
+  -- a reply that goes on has an answer, which stands for the tree after it
+  pub answer-at : (ps : List Point) (q : Point) → AmongPoints q ps → o q ≡ GoesOn → StandsForAll t a (branches_for o next ps) → Answered (answer a q) (λ j. StandsFor t j (next q))
+  unfolding StandsFor
+  answer-at [] q among on h = cc
+  answer-at (p ∷ ps) q among on h = by_test (is_same_point q p) refl among (λ later. answer-at ps q later on) where
+    skip : (r : Outcome) → StandsForAll t a (branch_if r p (next p) (branches_for o next ps)) → StandsForAll t a (branches_for o next ps)
+    skip GoesOn k = k.1
+    skip _ k = k
+
+    here : (r : Outcome) → r ≡ GoesOn → StandsForAll t a (branch_if r p (next p) (branches_for o next ps)) → Answered (answer a p) (λ j. StandsFor t j (next p))
+    here GoesOn e k = k.0
+    here _ e k = cc
+
+    by_test : (r : Bool) → is_same_point q p ≡ r → (r || among_points q ps) ≡ true → (AmongPoints q ps → StandsForAll t a (branches_for o next ps) → Answered (answer a q) (λ j. StandsFor t j (next q))) → Answered (answer a q) (λ j. StandsFor t j (next q))
+    by_test true e k rest =
+        let same : q ≡ p = is_same_point-same q p e in
+        subst (λ (x : Point). Answered (answer a x) (λ j. StandsFor t j (next x))) (sym same) (here (o p) (ap o (sym same) ∙ on) h)
+    by_test false e k rest = rest k (skip (o p) h)
+
+-- ---- the points of listed replies
+
+replies-pass : (f : Point → Bool) (o : Point → Outcome) (next : Point → Tree) (ps : List Point) → ((q : Point) → o q ≡ GoesOn → f q ≡ true) → AllByRecursion (λ q. f q ≡ true) (replies_of (branches_for o next ps))
+replies-pass f o next [] h = tt
+replies-pass f o next (q ∷ ps) h = by_outcome (o q) refl (replies-pass f o next ps h) where
+  by_outcome : (r : Outcome) → o q ≡ r → AllByRecursion (λ q. f q ≡ true) (replies_of (branches_for o next ps)) → AllByRecursion (λ q. f q ≡ true) (replies_of (branch_if r q (next q) (branches_for o next ps)))
+  by_outcome GoesOn e k = (h q e, k)
+  by_outcome _ e k = k
+
+-- the replies that a node lists are among those of its tree
+pub listed-on : (f : Point → Bool) (a : Answers) (o : Point → Outcome) (next : Point → Tree) (ps : List Point) → ((q : Point) → o q ≡ GoesOn → f q ≡ true) → AnswersBriefly a (replies_of (branches_for o next ps)) → AllByRecursion (λ r. f r.at ≡ true) a.replies
+listed-on f a o next ps h brief = by_replies (replies_of (branches_for o next ps)) brief (replies-pass f o next ps h) where
+  by_replies : (qs : List Point) → AnswersBriefly a qs → AllByRecursion (λ q. f q ≡ true) qs → AllByRecursion (λ r. f r.at ≡ true) a.replies
+  by_replies [] brief all = subst (λ (rs : List Reply). AllByRecursion (λ r. f r.at ≡ true) rs) (sym brief.1) tt
+  by_replies (q ∷ qs) brief all =
+      all_map (λ p. f p ≡ true) (λ r. r.at) a.replies
+      (subst (λ (xs : List Point). AllByRecursion (λ p. f p ≡ true) xs) (sym brief.others_are_listed)
+      (all-filter (λ p. f p ≡ true) (λ q. not (option_eq nat_eq (answer a q) (rest_node a.rest))) (q ∷ qs) all))
 
 -- ---- answers and branches
 
@@ -38,11 +97,8 @@ module _ (t : List Node) (o : Point → Outcome) (node : Point → ℕ) (tree : 
   answers-branches [] h = tt
   answers-branches (q ∷ ps) h = by_outcome (o q) refl (answers-branches ps h) where
     by_outcome : (r : Outcome) → o q ≡ r → AnswersBranches t (answers_for o node ps) (branches_for o tree ps) → AnswersBranches t (answer_if r (record { at = q; next = node q }) (answers_for o node ps)) (branch_if r q (tree q) (branches_for o tree ps))
-    by_outcome Refused e k = k
-    by_outcome Wins e k = k
-    by_outcome (Fouls f) e k = k
-    by_outcome Draws e k = k
     by_outcome GoesOn e k = (refl, h q e, k)
+    by_outcome _ e k = k
 
   -- where each reply fouls there is no branch
   pub foul-branches : (ps : List Point) → list_all (λ q. loses_or (o q) false) ps ≡ true → AnswersBranches t [] (branches_for o tree ps)
@@ -50,21 +106,16 @@ module _ (t : List Node) (o : Point → Outcome) (node : Point → ℕ) (tree : 
   foul-branches (q ∷ ps) h = by_outcome (o q) h (foul-branches ps) where
     by_outcome : (r : Outcome) → (loses_or r false && list_all (λ q. loses_or (o q) false) ps) ≡ true → (list_all (λ q. loses_or (o q) false) ps ≡ true → AnswersBranches t [] (branches_for o tree ps)) → AnswersBranches t [] (branch_if r q (tree q) (branches_for o tree ps))
     by_outcome Refused e k = k e
-    by_outcome Wins e k = cc
     by_outcome (Fouls f) e k = k e
-    by_outcome Draws e k = cc
-    by_outcome GoesOn e k = cc
+    by_outcome _ e k = cc
 
 module _ (o : Point → Outcome) (node : Point → ℕ) (k : ℕ) (low : (q : Point) → node q < k) where
   each-below : (ps : List Point) → AllByRecursion (λ r. r.next < k) (answers_for o node ps)
   each-below [] = tt
   each-below (q ∷ ps) = by_outcome (o q) (each-below ps) where
     by_outcome : (r : Outcome) → AllByRecursion (λ r. r.next < k) (answers_for o node ps) → AllByRecursion (λ r. r.next < k) (answer_if r (record { at = q; next = node q }) (answers_for o node ps))
-    by_outcome Refused h = h
-    by_outcome Wins h = h
-    by_outcome (Fouls f) h = h
-    by_outcome Draws h = h
     by_outcome GoesOn h = (low q, h)
+    by_outcome _ h = h
 
   pub answers-below : (ps : List Point) → All (λ r. r.next < k) (answers_for o node ps)
   answers-below ps = All-from_recursion (λ r. r.next < k) (answers_for o node ps) (each-below ps)

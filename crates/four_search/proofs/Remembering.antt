@@ -1,6 +1,5 @@
 -- What a search remembers is what it finds.
 use Rattle.std.proofs.Common.{◌≡◌, ℕ, ◌+◌, ◌-◌, cond, sym, ap, ◌∙◌, arith, nat_le}
-use Rattle.game_rules.specs.Grid.{Grid}
 use Rattle.game_rules.specs.declared.RuleKind.{RuleKind}
 use Rattle.four_search.specs.declared.search.Found.{Found}
 use Rattle.four_search.specs.declared.search.Found.TheVariants.{Win, NoWin, Spent}
@@ -8,6 +7,7 @@ use Rattle.four_search.specs.FourGame.{four_tree}
 use Rattle.four_search.specs.Remembering.{IsDenied}
 use Rattle.four_search.specs.Searching.{four_line, found_at}
 use Rattle.four_search.proofs.Deepening.{found-no-win}
+use Rattle.game_rules.proofs.Common.{Grid}
 
 module _ (rule : RuleKind) (b : Grid) (moves budget : ℕ) where
   -- what is denied of a position is what a search there finds

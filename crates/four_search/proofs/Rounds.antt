@@ -11,16 +11,14 @@ use Rattle.game_rules.proofs.Tests.{le_true, le_false, le_from}
 use Rattle.game_rules.proofs.Games.{five-wins}
 use Rattle.threat_moves.specs.declared.block.BlockAnswer.{BlockAnswer}
 use Rattle.threat_moves.specs.declared.block.BlockAnswer.TheVariants.{Lost, Won, Draw, One}
-use Rattle.threat_moves.specs.Blocks.{fate}
-use Rattle.threat_moves.specs.FourMoves.{is_four_move}
-use Rattle.threat_moves.specs.OneBlock.{block_wins}
+use Rattle.threat_moves.proofs.Common.{fate, is_four_move, block_wins}
 use Rattle.threat_moves.proofs.BlockLaw.{block_decides}
 use Rattle.threat_moves.proofs.Fates.{lawful-one}
 use Rattle.strategy_compiler.specs.declared.wins.WrittenWin.{WrittenWin}
 use Rattle.four_search.specs.declared.search.Found.TheVariants.{NoWin}
 use Rattle.four_search.specs.declared.answer.FourAnswer.{FourAnswer}
 use Rattle.four_search.specs.declared.answer.FourAnswer.TheVariants.{None, Spent}
-use Rattle.four_search.specs.Answers.{OnWin, most_added}
+use Rattle.four_search.specs.Answers.{OnWin}
 use Rattle.four_search.specs.FourGame.{until, if_one, four_tree, four_cost}
 use Rattle.four_search.specs.Searching.{positions_behind, found_at}
 use Rattle.four_search.proofs.Trying.{no_four, wins-is, tree-is, tree-some}
@@ -60,10 +58,6 @@ draw-none : (rule : RuleKind) (n : ℕ) (c : Grid) (w : Point) → positions_as 
 draw-none rule zero c w = refl
 draw-none rule (suc n) c w = refl
 
-won-none : (rule : RuleKind) (n : ℕ) (c : Grid) → positions_as rule n c Won ≡ 0
-won-none rule zero c = refl
-won-none rule (suc n) c = refl
-
 fewer-none : (rule : RuleKind) (n : ℕ) (b : Grid) → wins_by_fours rule (suc n) b ≡ false → wins_by_fours rule n b ≡ false
 fewer-none rule n b h = by_test (wins_by_fours rule n b) refl where
   by_test : (r : Bool) → wins_by_fours rule n b ≡ r → r ≡ false
@@ -101,10 +95,8 @@ no_fewer-zero rule b p h = by_test (is_four_move rule b p) where
 no_fewer-suc : (rule : RuleKind) (n : ℕ) (b : Grid) → IsPosition rule b → ((e : Grid) → IsPosition rule e → wins_by_fours rule (suc (suc n)) e ≡ false → four_tree rule (suc n) e ≤ four_tree rule (suc (suc n)) e) → NoFewer rule (suc n) b
 no_fewer-suc rule n b lawful child p h = by_test (is_four_move rule b p) refl where
   by_fate : is_four_move rule b p ≡ true → (a : BlockAnswer) → a ≡ fate rule (after b p) → block_wins rule (suc (suc n)) (after b p) a ≡ false → if_one (four_tree rule (suc n)) (after b p) a ≤ if_one (four_tree rule (suc (suc n))) (after b p) a
-  by_fate four Lost e k = omega arith
-  by_fate four Won e k = omega arith
-  by_fate four (Draw w) e k = omega arith
   by_fate four (One w) e k = child (after (after b p) w) (lawful-one rule b p lawful four w e) k
+  by_fate four _ e k = omega arith
 
   by_test : (r : Bool) → is_four_move rule b p ≡ r → cond r (positions_behind rule (suc n) (after b p)) 0 ≤ cond r (positions_behind rule (suc (suc n)) (after b p)) 0
   by_test true four = by_fate four (fate rule (after b p)) refl (sym (block_decides rule (suc (suc n)) b p lawful four) ∙ h)
@@ -112,10 +104,8 @@ no_fewer-suc rule n b lawful child p h = by_test (is_four_move rule b p) refl wh
 
 tree-more_by : (rule : RuleKind) (n : ℕ) (b : Grid) → IsPosition rule b → wins_by_fours rule (suc (suc n)) b ≡ false → NoFewer rule n b → four_tree rule (suc n) b ≤ four_tree rule (suc (suc n)) b
 tree-more_by rule n b lawful h less =
-    let a = tree-all rule n b lawful (fewer-none rule (suc n) b h) in
-    let z = tree-all rule (suc n) b lawful h in
     let sums = sums-less (behind_of rule n b) (behind_of rule (suc n) b) (starts rule (suc n) b) less (points_of b) (any-none rule (suc n) b lawful h) in
-    omega (arith, a, z, sums)
+    omega (arith, tree-all rule n b lawful (fewer-none rule (suc n) b h), tree-all rule (suc n) b lawful h, sums)
 
 tree-more : (rule : RuleKind) (n : ℕ) (b : Grid) → IsPosition rule b → wins_by_fours rule (suc (suc n)) b ≡ false → four_tree rule (suc n) b ≤ four_tree rule (suc (suc n)) b
 tree-more rule zero b lawful h = tree-more_by rule zero b lawful h (no_fewer-zero rule b)
@@ -130,11 +120,6 @@ no_fewer rule (suc n) b lawful = no_fewer-suc rule n b lawful (λ e ok none. tre
 -- with more moves there is no win, and as many positions
 abbrev Settled : RuleKind → ℕ → Grid → Type 0
 Settled rule n b = (m : ℕ) → n ≤ m → (wins_by_fours rule (suc m) b ≡ false) × (four_tree rule (suc m) b ≡ four_tree rule (suc n) b)
-
--- the same behind each move where one more move brings no more
-abbrev SettledBehind : RuleKind → ℕ → Grid → Type 0
-SettledBehind rule n b =
-    (m : ℕ) → n ≤ m → (p : Point) → starts rule (suc n) b p ≡ false → behind_of rule (suc n) b p ≡ behind_of rule n b p → (starts rule m b p ≡ false) × (behind_of rule m b p ≡ behind_of rule n b p)
 
 -- after the one block of a four that goes on
 abbrev SettledOne : RuleKind → ℕ → Grid → Point → Type 0
@@ -226,11 +211,9 @@ spent-alike rule b depth d count alike zero =
 spent-alike rule b depth d count alike (suc e) =
     let same : d + suc e ≡ d + e + 1 = omega arith in
     let all : spent_on rule b depth (d + suc e) ≡ spent_on rule b depth (d + e + 1) = ap (spent_on rule b depth) same in
-    let more = spent-more rule b depth (d + e) in
-    let rest = spent-alike rule b depth d count alike e in
     let here = alike (d + e + 1) (omega arith) in
     let times : suc e * count ≡ count + e * count = omega arith in
-    omega (arith, all, more, rest, here, times)
+    omega (arith, all, spent-more rule b depth (d + e), spent-alike rule b depth d count alike e, here, times)
 
 module _ (rule : RuleKind) (b : Grid) (depth budget left d : ℕ) (l : d < depth) (lawful : IsPosition rule b) (none : NoWinUpTo rule b depth d) (spent : left + spent_on rule b depth d ≡ budget) (rest : ℕ) (found : NoWin rest ≡ found_at rule (d + 1) b left) where
   -- what this depth took
@@ -283,9 +266,6 @@ module _ (a : FourAnswer) (t : Bool) (e : a ≡ cond t None Spent) where
 
   pub unwon : (P : WrittenWin → Type 0) → OnWin a P
   unwon P = by_test (λ x. OnWin x P) tt tt
-
-  pub adds_none : most_added a ≡ 0
-  adds_none = by_test (λ x. most_added x ≡ 0) refl refl
 
   pub none-passes : (a ≡ None) → t ≡ true
   none-passes h = by t refl where

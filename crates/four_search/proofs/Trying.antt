@@ -1,27 +1,38 @@
--- The fours of a position, tried one after another.
-use Rattle.std.proofs.Common.{◌≡◌, ℕ, zero, suc, ◌+◌, ◌-◌, ◌≤◌, ◌<◌, Bool, true, false, cond, ◌&&◌, ◌||◌, refl, sym, ap, ◌∙◌, arith, List, [], ◌∷◌, ◌++◌, nat_le}
-use Rattle.std.specs.Prelude.{Option, Some}
+-- The fours of a position, tried one after another. Moves that need not be tried: where the defender has a five point, and at the last
+-- move. The points that make a five point, tried one after another: only those that take the defender's five points may help.
+use Rattle.std.proofs.Common.{◌≡◌, ℕ, zero, suc, ◌+◌, ◌-◌, ◌≤◌, ◌<◌, Bool, true, false, cond, ◌&&◌, ◌||◌, refl, sym, ap, ◌∙◌, arith, List, [], ◌∷◌, ◌++◌, nat_le, Option, Some, filter, subst, map, length, get_or}
 use Rattle.std.specs.List.{list_any, find, sum_by}
 use Rattle.std.proofs.lemmas.Bool.Decides.{nat_tests}
 use Rattle.std.proofs.lemmas.List.Sums.{sum_by-cons}
-use Rattle.game_rules.proofs.Common.{Grid, points_of, five, is_at, IsPosition, outcome, mover, after, goes_on_with, has_five, wins_or, starts_win, wins_under, wins_by_fours, four_move}
 use Rattle.game_rules.specs.declared.RuleKind.{RuleKind}
 use Rattle.game_rules.specs.declared.Outcome.{Outcome}
 use Rattle.game_rules.specs.declared.Outcome.TheVariants.{Refused, Wins, Fouls, Draws, GoesOn}
 use Rattle.game_rules.specs.declared.Point.{Point}
-use Rattle.game_rules.proofs.Points.{is_same_point-itself}
-use Rattle.game_rules.proofs.PointLists.{not_found}
+use Rattle.game_rules.proofs.Common.{Grid, points_of, five, is_at, IsPosition, outcome, mover, after, goes_on_with, has_five, wins_or, starts_win, wins_under, wins_by_fours, four_move, is_empty, is_same_point, has_fouls, other, five_points}
+use Rattle.game_rules.proofs.Points.{is_same_point-itself, any_witness, none_of}
+use Rattle.game_rules.proofs.PointLists.{not_found, no_point}
 use Rattle.game_rules.proofs.Games.{five-wins}
-use Rattle.threat_moves.specs.FourMoves.{is_four_move}
+use Rattle.game_rules.proofs.Boards.{is_empty-on}
+use Rattle.game_rules.proofs.Positions.{IsPosition-after, GoesOn-empty, mover-then, mover-other}
+use Rattle.game_rules.proofs.Fives.{five-empty, only}
+use Rattle.game_rules.proofs.Outcomes.{goes_on_with-else}
+use Rattle.row_shapes.specs.FivePoints.{in_short, takes}
+use Rattle.row_shapes.specs.declared.fives.FivePoints.{FivePoints}
+use Rattle.row_shapes.specs.declared.fives.FivePoints.TheVariants.{None as NoPoint, One as OnePoint, Several}
+use Rattle.row_shapes.proofs.FiveLaws.{has_five-one, has_five-several, one-empty, several-left, one-stays, not_taken-five, taken-none}
 use Rattle.threat_moves.specs.declared.block.BlockAnswer.{BlockAnswer}
 use Rattle.threat_moves.specs.declared.block.BlockAnswer.TheVariants.{Lost, One}
-use Rattle.threat_moves.specs.Blocks.{fate}
-use Rattle.threat_moves.specs.OneBlock.{block_wins}
+use Rattle.threat_moves.proofs.Common.{is_four_move, fate, block_wins}
 use Rattle.threat_moves.proofs.BlockLaw.{block_decides, no-reply-wins}
+use Rattle.threat_moves.proofs.FourLaws.{four-goes_on, four-five, taken-no_four, no_last-win, none-no_four}
+use Rattle.threat_moves.proofs.Fates.{blocked, not_all-foul}
 use Rattle.four_search.specs.declared.search.Found.{Found}
 use Rattle.four_search.specs.declared.search.Found.TheVariants.{Win, NoWin, Spent}
 use Rattle.four_search.specs.FourGame.{until, tried, if_one, behind_move, four_tree}
 use Rattle.four_search.specs.Searching.{found_by, line_behind, line_from, four_line, positions_behind, found_at, found_behind, found_trying, found_answering}
+use Rattle.four_search.specs.declared.makers.Maker.{Maker}
+use Rattle.four_search.specs.Makers.{makes, maker_at, makers_of, RulesOut}
+use Rattle.four_search.proofs.Listing.{at-told, each-told}
 
 -- ---- one after another
 
@@ -55,10 +66,6 @@ module _ (rule : RuleKind) (n : ℕ) (b : Grid) (left : ℕ) (p : Point) (ps qs 
   unfolding try_all
   step_at f e = ap (try_all rule n b left) left_are ∙ ap (λ f. found_next f (λ l. try_all rule n b l qs)) e
 
-  -- what is no four move is passed over
-  pub step-skip : is_four_move rule b p ≡ false → try_all rule n b left ps ≡ try_all rule n b left qs
-  step-skip h = step_at (NoWin left) (trying-no_four rule n b p left h)
-
   module _ (f : Found) (found : f ≡ found_trying rule n b p left) where
     -- no win behind the move
     pub step-goes_on : (rest : ℕ) → f ≡ NoWin rest → try_all rule n b left ps ≡ try_all rule n b rest qs
@@ -68,9 +75,8 @@ module _ (rule : RuleKind) (n : ℕ) (b : Grid) (left : ℕ) (p : Point) (ps qs 
     pub step-ends : ((rest : ℕ) → f ≡ NoWin rest → ⊥) → try_all rule n b left ps ≡ f
     step-ends h = step_at f (sym found) ∙ ends f h where
       ends : (f : Found) → ((rest : ℕ) → f ≡ NoWin rest → ⊥) → found_next f (λ l. try_all rule n b l qs) ≡ f
-      ends (Win l line) h = refl
       ends (NoWin l) h = absurd (h l refl)
-      ends Spent h = refl
+      ends _ h = refl
 
 -- ---- budgets
 
@@ -305,5 +311,166 @@ module _ (rule : RuleKind) (n : ℕ) (b : Grid) (p : Point) (budget : ℕ) where
 
   pub behind-else : (f : Found) → ((left : ℕ) (line : List Point) → f ≡ Win left line → ⊥) → f ≡ found_answering rule n (after b p) budget → f ≡ found_behind rule n b p budget
   behind-else (Win left line) h e = absurd (h left line refl)
-  behind-else (NoWin left) h e = ap with_move e ∙ behind-moves
-  behind-else Spent h e = ap with_move e ∙ behind-moves
+  behind-else _ h e = ap with_move e ∙ behind-moves
+
+-- ---- where the defender keeps a five point
+
+module _ (rule : RuleKind) (n : ℕ) (b : Grid) (lawful : IsPosition rule b) where
+  lost : (p : Point) → outcome rule b p ≡ GoesOn → has_five rule (after b p) (other (mover b)) ≡ true → fate rule (after b p) ≡ Lost
+  unfolding fate
+  lost p on some =
+      let five : has_five rule (after b p) (mover (after b p)) ≡ true = ap (has_five rule (after b p)) (mover-then rule b p lawful on) ∙ some in
+      rw five refl
+
+  -- a move that leaves the defender a five point gives nothing
+  pub trying-lost : (p : Point) (left : ℕ) → (is_empty b p ≡ true → has_five rule (after b p) (other (mover b)) ≡ true) → found_trying rule n b p left ≡ NoWin left
+  trying-lost p left some = by_empty (is_empty b p) refl where
+    by_test : (r : Bool) → is_four_move rule b p ≡ r → is_empty b p ≡ true → cond r (found_behind rule n b p left) (NoWin left) ≡ NoWin left
+    by_test false e h = refl
+    by_test true e h = sym (behind-no_win rule n b p left left (answering-lost rule (after b p) left n (sym (lost p (four-goes_on rule b p e) (some h)))))
+
+    by_empty : (r : Bool) → is_empty b p ≡ r → found_trying rule n b p left ≡ NoWin left
+    by_empty true e = by_test (is_four_move rule b p) refl e
+    by_empty false e = trying-no_four rule n b p left (taken-no_four rule b p e)
+
+  -- points that give nothing may be left out
+  pub try_all-filter : (f : Point → Bool) → ((p : Point) (l : ℕ) → f p ≡ false → found_trying rule n b p l ≡ NoWin l) → (left : ℕ) (ps : List Point) → try_all rule n b left ps ≡ try_all rule n b left (filter f ps)
+  unfolding try_all
+  try_all-filter f skip left [] = refl
+  try_all-filter f skip left (p ∷ ps) = by_test (f p) refl (λ l. try_all-filter f skip l ps) where
+    by_test : (r : Bool) → f p ≡ r → ((l : ℕ) → try_all rule n b l ps ≡ try_all rule n b l (filter f ps)) → found_next (found_trying rule n b p left) (λ l. try_all rule n b l ps) ≡ try_all rule n b left (cond r (p ∷ filter f ps) (filter f ps))
+    by_test true e rest = ap (λ (next : ℕ → Found). found_next (found_trying rule n b p left) next) (λ i l. rest l i)
+    by_test false e rest = ap (λ x. found_next x (λ l. try_all rule n b l ps)) (skip p left e) ∙ rest left
+
+  try_all-single : (left : ℕ) (w : Point) → try_all rule n b left (w ∷ []) ≡ found_trying rule n b w left
+  unfolding try_all
+  try_all-single left w = alone (found_trying rule n b w left) where
+    alone : (f : Found) → found_next f (λ l. NoWin l) ≡ f
+    alone (Win l line) = refl
+    alone _ = refl
+
+-- ---- five points of the defender
+
+-- ---- what a search finds where the defender has five points
+
+module _ (rule : RuleKind) (moves budget : ℕ) (b : Grid) (lawful : IsPosition rule b) (none : has_five rule b (mover b) ≡ false) (some : 0 < moves) (fits : 0 < budget) where
+  -- with two five points or more of the defender there is no win
+  pub found-several : in_short (five_points rule b (other (mover b))) ≡ Several → NoWin (budget - 1) ≡ found_at rule moves b budget
+  found-several several =
+      let skip : (p : Point) (l : ℕ) → found_trying rule (moves - 1) b p l ≡ NoWin l = λ p l. trying-lost rule (moves - 1) b lawful p l (λ empty. several-left rule b (mover b) p lawful.board empty several) in
+      sym (try_all-none rule (moves - 1) b (budget - 1))
+      ∙ ap (try_all rule (moves - 1) b (budget - 1)) (sym (no_point (points_of b)))
+      ∙ sym (try_all-filter rule (moves - 1) b lawful (λ p. false) (λ p l e. skip p l) (budget - 1) (points_of b))
+      ∙ found-after rule moves budget b lawful none some fits
+
+  -- with one only that is tried
+  pub found-one : (w : Point) → in_short (five_points rule b (other (mover b))) ≡ OnePoint w → found_trying rule (moves - 1) b w (budget - 1) ≡ found_at rule moves b budget
+  found-one w one =
+      let skip : (p : Point) (l : ℕ) → is_same_point p w ≡ false → found_trying rule (moves - 1) b p l ≡ NoWin l = λ p l e. trying-lost rule (moves - 1) b lawful p l (λ empty. one-stays rule b lawful p empty w one e) in
+      sym (try_all-single rule (moves - 1) b lawful (budget - 1) w)
+      ∙ ap (try_all rule (moves - 1) b (budget - 1)) (sym (only b w (is_empty-on b w (one-empty rule b (other (mover b)) w one))))
+      ∙ sym (try_all-filter rule (moves - 1) b lawful (λ p. is_same_point p w) skip (budget - 1) (points_of b))
+      ∙ found-after rule moves budget b lawful none some fits
+
+-- ---- the last move
+
+module _ (rule : RuleKind) (b : Grid) (lawful : IsPosition rule b) (none : has_five rule b (mover b) ≡ false) (calm : has_fouls rule (other (mover b)) ≡ false) where
+  last-four : (p : Point) → is_four_move rule b p ≡ true → starts_win (has_five rule) rule b (wins_by_fours rule zero) p ≡ false
+  last-four p four =
+      let found = any_witness (five rule (after b p) (mover b)) (points_of (after b p)) (four-five rule b p four) in
+      let empty = five-empty rule (after b p) (mover b) found.0 found.1 in
+      let turn = ap (has_fouls rule) (mover-then rule b p lawful (four-goes_on rule b p four)) ∙ calm in
+      block_decides rule zero b p lawful four ∙ no_last-win rule (after b p) (fate rule (after b p)) (not_all-foul rule (after b p) found.0 empty turn)
+
+  last-start : (p : Point) → test rule zero b lawful none p ≡ true → ⊥
+  last-start p h = by_test (is_four_move rule b p) refl where
+    by_test : (r : Bool) → is_four_move rule b p ≡ r → ⊥
+    by_test true e = let no : true ≡ false = sym h ∙ last-four p e in cc
+    by_test false e = let no : true ≡ false = sym h ∙ no_four rule zero b lawful none p e in cc
+
+  -- with one move left and no five point there is no win, where the defender has no fouls
+  pub found-last : (moves budget : ℕ) → moves ≡ 1 → 0 < budget → NoWin (budget - 1) ≡ found_at rule moves b budget
+  unfolding four_tree
+  found-last moves budget e fits =
+      let fit : nat_le 1 budget ≡ true = grind (arith, nat_tests) in
+      let lost : wins_by_fours rule 1 b ≡ false = wins-is rule b lawful none zero ∙ none_of (test rule zero b lawful none) (points_of b) last-start in
+      ap (λ r. cond r (NoWin (budget - 1)) Spent) (sym fit)
+      ∙ ap (λ w. found_by budget 1 w (four_line rule 1 b)) (sym lost)
+      ∙ ap (λ (m : ℕ). found_at rule m b budget) (sym e)
+
+-- ---- after the one block of a four
+
+module _ (rule : RuleKind) (c : Grid) (w : Point) (lawful : IsPosition rule c) (on : outcome rule c w ≡ GoesOn) (one : in_short (five_points rule c (other (mover c))) ≡ OnePoint w) where
+  -- the attacker has no five point
+  pub block-none : has_five rule (after c w) (mover (after c w)) ≡ false
+  block-none = ap (has_five rule (after c w)) (mover-then rule c w lawful on) ∙ blocked rule c w lawful.board (GoesOn-empty rule c w on) one
+
+  -- the defender's five points are those of the side that blocked
+  pub block-threat : in_short (five_points rule (after c w) (mover c)) ≡ in_short (five_points rule (after c w) (other (mover (after c w))))
+  block-threat = ap (λ s. in_short (five_points rule (after c w) s)) (sym (mover-other rule c w lawful on))
+
+  -- with one move left there is no win, where the defender has no fouls
+  pub block-last : (moves budget : ℕ) → moves ≡ 1 → 0 < budget → has_fouls rule (mover c) ≡ false → NoWin (budget - 1) ≡ found_at rule moves (after c w) budget
+  block-last moves budget e fits calm = found-last rule (after c w) (IsPosition-after rule c w lawful on) block-none (ap (has_fouls rule) (mover-other rule c w lawful on) ∙ calm) moves budget e fits
+
+-- ---- which moves are fours
+
+module _ (rule : RuleKind) (n : ℕ) (b : Grid) (p : Point) (budget : ℕ) where
+  pub trying-no_five : has_five rule (after b p) (mover b) ≡ false → NoWin budget ≡ found_trying rule n b p budget
+  trying-no_five h = sym (trying-no_four rule n b p budget (none-no_four rule b p h))
+
+  -- nor is one that does not go on
+  pub trying-else : (outcome rule b p ≡ GoesOn → ⊥) → NoWin budget ≡ found_trying rule n b p budget
+  unfolding is_four_move
+  trying-else h = sym (trying-no_four rule n b p budget no_four) where
+    no_four : is_four_move rule b p ≡ false
+    no_four = goes_on_with-else (outcome rule b p) (has_five rule (after b p) (mover b)) h
+
+  some_five : (made : FivePoints) → made ≡ in_short (five_points rule (after b p) (mover b)) → (made ≡ NoPoint → ⊥) → has_five rule (after b p) (mover b) ≡ true
+  some_five NoPoint e some = absurd (some refl)
+  some_five (OnePoint w) e some = has_five-one rule (after b p) (mover b) w (sym e)
+  some_five Several e some = has_five-several rule (after b p) (mover b) (sym e)
+
+  pub trying-goes : has_five rule (after b p) (mover b) ≡ true → outcome rule b p ≡ GoesOn → found_behind rule n b p budget ≡ found_trying rule n b p budget
+  unfolding is_four_move
+  trying-goes some on = sym (trying-four rule n b p budget (ap (λ o. goes_on_with o (has_five rule (after b p) (mover b))) on ∙ some))
+
+makes-no_four : (rule : RuleKind) (b : Grid) (p : Point) → makes rule b p ≡ false → is_four_move rule b p ≡ false
+makes-no_four rule b p h = by_empty (is_empty b p) refl where
+  by_empty : (r : Bool) → is_empty b p ≡ r → is_four_move rule b p ≡ false
+  by_empty true e = none-no_four rule b p (sym (ap (λ r. r && has_five rule (after b p) (mover b)) e) ∙ h)
+  by_empty false e = taken-no_four rule b p e
+
+module _ (rule : RuleKind) (b : Grid) (lawful : IsPosition rule b) where
+  -- of all points only these need be tried
+  pub try-makers : (n left : ℕ) → try_all rule n b left (map (λ m. m.at) (makers_of rule b)) ≡ try_all rule n b left (points_of b)
+  try-makers n left =
+      ap (try_all rule n b left) (at-told rule b (filter (makes rule b) (points_of b)))
+      ∙ sym (try_all-filter rule n b lawful (makes rule b) (λ p l e. trying-no_four rule n b p l (makes-no_four rule b p e)) left (points_of b))
+
+  -- what is found by trying all
+  pub found-makers : (ms : List Maker) (moves budget : ℕ) → ms ≡ makers_of rule b → has_five rule b (mover b) ≡ false → 0 < moves → 0 < budget → try_all rule (moves - 1) b (budget - 1) (map (λ m. m.at) ms) ≡ found_at rule moves b budget
+  found-makers ms moves budget is none some fits =
+      ap (λ (xs : List Maker). try_all rule (moves - 1) b (budget - 1) (map (λ m. m.at) xs)) is
+      ∙ try-makers (moves - 1) (budget - 1) ∙ found-after rule moves budget b lawful none some fits
+
+  -- each is told with its five points
+  pub each-maker : (ms : List Maker) (i : ℕ) (m : Maker) → ms ≡ makers_of rule b → i < length ms → (get_or ms i m ≡ maker_at rule b (get_or ms i m).at) × (makes rule b (get_or ms i m).at ≡ true)
+  each-maker ms i m is within =
+      let F : List Maker → Type 0 = λ xs. i < length xs → (get_or xs i m ≡ maker_at rule b (get_or xs i m).at) × (makes rule b (get_or xs i m).at ≡ true) in
+      subst F (sym is) (each-told rule b (makes rule b) (points_of b) i m) within
+
+  module _ (threat : FivePoints) (told : threat ≡ in_short (five_points rule b (other (mover b)))) (p : Point) where
+    -- a point that leaves the defender a five point gives nothing
+    pub not_taken : (n left : ℕ) → takes threat p ≡ false → found_trying rule n b p left ≡ NoWin left
+    not_taken n left h = trying-lost rule n b lawful p left (λ empty. not_taken-five rule b (mover b) p lawful.board empty threat told h)
+
+    -- one that takes all leaves none
+    pub taken-safe : is_empty b p ≡ true → takes threat p ≡ true → has_five rule (after b p) (other (mover b)) ≡ false
+    taken-safe empty h = taken-none rule b (mover b) p lawful.board empty threat told h
+
+  -- where no four can be made nothing is found
+  pub ruled-out : (threat : FivePoints) → threat ≡ in_short (five_points rule b (other (mover b))) → (moves budget : ℕ) → has_five rule b (mover b) ≡ false → 0 < moves → 0 < budget → RulesOut rule b threat → NoWin (budget - 1) ≡ found_at rule moves b budget
+  ruled-out NoPoint e moves budget none some fits h = absurd h
+  ruled-out (OnePoint w) e moves budget none some fits h = trying-no_five rule (moves - 1) b w (budget - 1) h ∙ found-one rule moves budget b lawful none some fits w (sym e)
+  ruled-out Several e moves budget none some fits h = found-several rule moves budget b lawful none some fits (sym e)

@@ -1,47 +1,43 @@
--- A node that stands for the plan of a win by fours is accepted, and its depth is at most the moves of the plan; within that
--- depth there is a win by fours.
-use Rattle.std.proofs.Common.{◌≡◌, ◌⊎◌, inl, inr, ℕ, zero, suc, ◌+◌, ◌*◌, ◌≤◌, ◌<◌, Bool, true, false, ◌&&◌, refl, sym, ap, subst, ◌∙◌, arith, List, map, length}
-use Rattle.std.specs.Prelude.{Option, Some, None, slice_get}
-use Rattle.std.specs.List.{list_all, sum_by}
+-- A node that stands for the plan of a win by fours is accepted, and its depth is at most the moves of the plan; within that depth there is
+-- a win by fours. One move of a win by fours, and the node that stands for its plan: the node's attack is the chosen move, and where that
+-- goes on each reply that goes on is answered by a node that stands for the plan of the win that is left. And the fewest moves.
+use Rattle.std.proofs.Common.{◌≡◌, ◌⊎◌, inl, inr, ℕ, zero, suc, ◌+◌, ◌*◌, ◌≤◌, ◌<◌, Bool, true, false, ◌&&◌, refl, sym, ap, subst, ◌∙◌, arith, List, map, length, Option, Some, None, slice_get, ◌-◌, cond, [], ◌∷◌}
+use Rattle.std.specs.List.{list_all, sum_by, find, range_with_len}
+use Rattle.std.specs.Option.{option_map, option_and_then}
 use Rattle.std.proofs.lemmas.Bool.{cases_lt}
-use Rattle.game_rules.proofs.Common.{Grid, IsBoard, is_on, is_empty, is_empty_cell, cell_at, points_of, five, is_same_point, IsPosition, outcome, mover, after, goes_on_with, LosesOr, has_five, wins_or, loses_or, starts_win, wins_under, WinsByFours, wins_by_fours, four_move, if_goes_on}
 use Rattle.game_rules.specs.declared.RuleKind.{RuleKind}
 use Rattle.game_rules.specs.declared.Outcome.{Outcome}
-use Rattle.game_rules.specs.declared.Outcome.TheVariants.{Refused, Wins as WinsNow, Fouls, Draws, GoesOn}
+use Rattle.game_rules.specs.declared.Outcome.TheVariants.{Wins as WinsNow, Draws, GoesOn}
 use Rattle.game_rules.specs.declared.Point.{Point}
+use Rattle.game_rules.proofs.Common.{Grid, IsBoard, is_on, is_empty, is_empty_cell, cell_at, points_of, five, is_same_point, IsPosition, outcome, mover, after, goes_on_with, LosesOr, has_five, wins_or, loses_or, starts_win, wins_under, WinsByFours, wins_by_fours, four_move, if_goes_on}
 use Rattle.game_rules.proofs.Boards.{is_empty-on, cell_at-put_same, stone_of-taken}
 use Rattle.game_rules.proofs.Points.{points-found, all_of, taken_refused, is_same_point-itself}
-use Rattle.game_rules.proofs.Games.{each_reply, LosesOr-loses_or, test-WinsUnder, WinsUnder-test, wins-some, five-wins}
+use Rattle.game_rules.proofs.Games.{each_reply, LosesOr-loses_or, test-WinsUnder, WinsUnder-test, wins-some, five-wins, no_move, goes_on-no_five}
 use Rattle.game_rules.proofs.Positions.{IsPosition-after, GoesOn-on, GoesOn-empty, points-many}
-use Rattle.game_rules.proofs.Outcomes.{five-outcome}
+use Rattle.game_rules.proofs.Outcomes.{five-outcome, loses_by}
 use Rattle.game_rules.proofs.Places.{points_length, find-passes}
 use Rattle.game_rules.proofs.PointLists.{any-find, sum-ones-but}
 use Rattle.game_rules.proofs.ReadingOrder.{sum-once}
 use Rattle.strategy_graph.specs.declared.Node.{Node}
-use Rattle.strategy_graph.specs.Tables.{answers_of, answer, is_winning, IsTable, depth, node_depth, named, greatest}
-use Rattle.strategy_graph.specs.Acceptance.{Answered, Meets, Accepted}
-use Rattle.strategy_graph.specs.Arrivals.{if_answered, arrivals_at, arrivals}
+use Rattle.strategy_graph.proofs.Common.{answers_of, answer, is_winning, IsTable, depth, node_depth, named, greatest, Answered, Meets, Accepted, if_answered, arrivals_at, arrivals, answer_at}
 use Rattle.strategy_graph.proofs.Answering.{Answered-map, answer-greatest}
 use Rattle.strategy_graph.proofs.Fuel.{depth-step}
 use Rattle.strategy_graph.proofs.Steps.{accepted-by-replies, arrivals-by-replies, arrivals-winning}
 use Rattle.strategy_graph.proofs.Greatest.{greatest-each}
 use Rattle.strategy_graph.proofs.Filling.{IsTable-lower}
-use Rattle.strategy_compiler.specs.Trees.{Tree, Branches, Leaf, Fork, StandsFor, StandsForAll, AnswersBriefly, replies_of}
+use Rattle.strategy_compiler.proofs.Common.{Tree, Branches, Leaf, Fork, StandsFor, StandsForAll, AnswersBriefly, replies_of, StaysOnBoard}
+use Rattle.strategy_compiler.proofs.Forks.{briefly-named, leaf-wins, stays-before, stays-by}
+use Rattle.strategy_compiler.proofs.Standing.{IsWritten, winning-is, leaf_node, fork_node, forks_not_winning, tree_attack, tree-attack, at_fork}
+use Rattle.threat_moves.specs.declared.block.BlockAnswer.{BlockAnswer}
+use Rattle.threat_moves.specs.declared.block.BlockAnswer.TheVariants.{Won, One}
 use Rattle.threat_moves.proofs.BlockLaw.{block_decides, others_leave_five}
 use Rattle.threat_moves.proofs.FourLaws.{one-goes_on}
-use Rattle.threat_moves.specs.declared.block.BlockAnswer.{BlockAnswer}
-use Rattle.threat_moves.specs.declared.block.BlockAnswer.TheVariants.{Lost, Won, Draw, One}
-use Rattle.threat_moves.specs.FourMoves.{is_four_move}
-use Rattle.threat_moves.specs.Blocks.{fate}
-use Rattle.threat_moves.specs.OneBlock.{block_wins, LeavesFive}
-use Rattle.strategy_compiler.specs.Wins.{StaysOnBoard}
+use Rattle.threat_moves.proofs.Common.{is_four_move, fate, block_wins, LeavesFive}
 use Rattle.four_search.specs.Answers.{IsFourWin}
-use Rattle.four_search.specs.Plans.{branches_for, four_plan}
+use Rattle.four_search.specs.Plans.{branches_for, four_plan, plan_from}
+use Rattle.four_search.specs.FourGame.{least_moves}
 use Rattle.four_search.proofs.Trying.{move-is, wins-is}
-use Rattle.four_search.proofs.Planning.{plan-leaf, plan-fork, plan-goes_on}
-use Rattle.four_search.proofs.Naming.{answers-each, answer-at, listed-on}
-use Rattle.strategy_compiler.proofs.Forks.{briefly-named, leaf-wins, stays-before, stays-by}
-use Rattle.strategy_compiler.proofs.Standing.{IsWritten, winning-is, leaf_node, fork_node, forks_not_winning}
+use Rattle.four_search.proofs.Planning.{plan-leaf, plan-fork, plan-goes_on, answers-each, answer-at, listed-on}
 use Rattle.four_search.proofs.Deepening.{NoWinUpTo, wins-more, least-win}
 
 -- ---- a winning node
@@ -102,11 +98,10 @@ module _ (rule : RuleKind) (t : List Node) (table : IsTable t) (i m : ℕ) (b : 
   by_loses : (q : Point) (W : Type 0) → (outcome rule (after b p) q ≡ GoesOn → W) → LosesOr (outcome rule (after b p) q) W
   by_loses q W f = by_outcome (outcome rule (after b p) q) f (lost q) where
     by_outcome : (o : Outcome) → (o ≡ GoesOn → W) → LosesOr o (wins_by_fours rule m (after (after b p) q) ≡ true) → LosesOr o W
-    by_outcome Refused f h = tt
     by_outcome WinsNow f h = h
-    by_outcome (Fouls g) f h = tt
     by_outcome Draws f h = h
     by_outcome GoesOn f h = f refl
+    by_outcome _ f h = tt
 
   -- it is no winning node
   no_win : is_winning n.rest ≡ false
@@ -130,8 +125,7 @@ module _ (rule : RuleKind) (t : List Node) (table : IsTable t) (i m : ℕ) (b : 
       (briefly-named (λ j. depth t j ≤ m) (answers_of n) _ (table.nodes i n at).rising brief
       (answers-each t (answers_of n) (outcome rule (after b p)) (λ q. four_plan rule m (after (after b p) q)) (λ j. depth t j ≤ m)
       (points_of b) (λ q j go s. (next_written q j go s).deep) stands)) in
-      let e = written_depth in
-      omega (arith, low, e)
+      omega (arith, low, written_depth)
 
   written_wins : wins_by_fours rule (depth t i) b ≡ true
   unfolding wins_under
@@ -186,11 +180,8 @@ module _ (rule : RuleKind) (t : List Node) (table : IsTable t) (i m : ℕ) (b : 
     by_answer (Some j) e go s = f go j e s
 
     by_outcome : (o : Outcome) → outcome rule (after b p) q ≡ o → if_goes_on o (if_answered (answer (answers_of n) q) (λ j. arrivals rule t j (after (after b p) q))) ≤ k
-    by_outcome Refused e = omega arith
-    by_outcome WinsNow e = omega arith
-    by_outcome (Fouls g) e = omega arith
-    by_outcome Draws e = omega arith
     by_outcome GoesOn e = by_answer (answer (answers_of n) q) refl e (answered q e)
+    by_outcome _ e = omega arith
 
   -- a reply that leaves the attacker a five point leads to a winning node
   one_behind : (q : Point) → (outcome rule (after b p) q ≡ GoesOn → has_five rule (after (after b p) q) (mover (after (after b p) q)) ≡ true) → count q ≤ 1
@@ -198,8 +189,7 @@ module _ (rule : RuleKind) (t : List Node) (table : IsTable t) (i m : ℕ) (b : 
       let x = any-find (five rule (after (after b p) q) (mover (after (after b p) q))) (points_of (after (after b p) q)) (leaves go) in
       let leaf : StandsFor t j (Leaf x.0) = subst (λ (s : Tree). StandsFor t j s) (plan-leaf rule m (after (after b p) q) x.0 x.1 (wins-some rule m (after (after b p) q) (won q go))) s in
       let node = leaf_node t j x.0 leaf in
-      let one = arrivals-winning rule t (IsTable-lower t table) j (after (after b p) q) node.0 node.1 node.2.1 in
-      omega (arith, one))
+      omega (arith, arrivals-winning rule t (IsTable-lower t table) j (after (after b p) q) node.0 node.1 node.2.1))
 
   total : arrivals rule t i b ≡ suc (sum_by count (points_of b))
   unfolding count
@@ -220,10 +210,7 @@ module _ (rule : RuleKind) (t : List Node) (table : IsTable t) (i m : ℕ) (b : 
   won_short won_by =
       let each : (q : Point) → count q ≤ 1 = λ q. one_behind q (λ go. subst (LeavesFive rule (after b p) q) won_by (others_leave_five rule b p q lawful four go)) in
       let sum = sum-ones-but count p each none_at (points_of b) (points-found b (λ x. is_same_point p x) p (GoesOn-on rule b p on) (is_same_point-itself p)) in
-      let e = total in
-      let size = points_are in
-      let grows = size_grows in
-      omega (arith, sum, e, size, grows)
+      omega (arith, sum, total, points_are, size_grows)
 
   one_short : (w : Point) → fate rule (after b p) ≡ One w → arrivals rule t i b ≤ b.width * b.height * suc m
   one_short w one =
@@ -232,11 +219,7 @@ module _ (rule : RuleKind) (t : List Node) (table : IsTable t) (i m : ℕ) (b : 
       let high : count w ≤ most = by_counts w most (λ go j e s. (next_written w j go s).short) in
       let each : (q : Point) → is_same_point q w ≡ false → count q ≤ 1 = λ q apart. one_behind q (λ g. subst (LeavesFive rule (after b p) q) one (others_leave_five rule b p q lawful four g) (λ same. let yes : is_same_point q w ≡ true = ap (λ (z : Point). is_same_point z w) same ∙ is_same_point-itself w in let bad : false ≡ true = sym apart ∙ yes in cc)) in
       let some : 1 ≤ most = some_points m (wins-some rule m (after (after b p) w) (won w go)) in
-      let sum = sum-once count w most some high each b in
-      let e = total in
-      let size = points_are in
-      let grows = size_grows in
-      omega (arith, sum, e, size, grows) where
+      omega (arith, sum-once count w most some high each b, total, points_are, size_grows) where
         some_points : (k : ℕ) → 0 < k → 1 ≤ b.width * b.height * k
         some_points zero l = absurd (omega arith)
         some_points (suc k) l = points-many rule b lawful k
@@ -244,10 +227,9 @@ module _ (rule : RuleKind) (t : List Node) (table : IsTable t) (i m : ℕ) (b : 
   written_short : arrivals rule t i b ≤ b.width * b.height * suc m
   written_short = by_fate (fate rule (after b p)) refl decided where
     by_fate : (a : BlockAnswer) → fate rule (after b p) ≡ a → block_wins rule m (after b p) a ≡ true → arrivals rule t i b ≤ b.width * b.height * suc m
-    by_fate Lost e h = cc
     by_fate Won e h = won_short e
-    by_fate (Draw w) e h = cc
     by_fate (One w) e h = one_short w e
+    by_fate _ e h = cc
 
   fork-written : IsWritten rule t i (suc m) b
   fork-written = record { accepted = written_accepted; deep = written_deep; wins = written_wins; on_board = written_on; short = written_short }
@@ -312,3 +294,114 @@ four-win rule b limit d l none lawful wins t table i within stands =
       by_order : (d < depth t i) ⊎ (depth t i ≤ d) → depth t i ≤ d + 1 → wins_by_fours rule (depth t i) b ≡ true → depth t i ≡ d + 1
       by_order (inl more) high won = omega arith
       by_order (inr less) high won = absurd (lost (depth t i) less won)
+
+-- ---- the chosen move
+
+-- where there is a win by fours there is a chosen move
+pub four_move-some : (rule : RuleKind) (n : ℕ) (b : Grid) → wins_by_fours rule n b ≡ true → (p : Point) × (four_move rule n b ≡ Some p)
+unfolding wins_under four_move
+four_move-some rule zero b wins = cc
+four_move-some rule (suc n) b wins = by_five (has_five rule b (mover b)) refl where
+  by_five : (r : Bool) → has_five rule b (mover b) ≡ r → (p : Point) × (cond r (find (five rule b (mover b)) (points_of b)) (find (starts_win (has_five rule) rule b (wins_by_fours rule n)) (points_of b)) ≡ Some p)
+  by_five true some = any-find (five rule b (mover b)) (points_of b) some
+  by_five false none = any-find (starts_win (has_five rule) rule b (wins_by_fours rule n)) (points_of b) wins
+
+-- ---- the attack of its node
+
+from-attack : (wins : Bool) (p : Point) (branches : Point → Branches) → tree_attack (plan_from wins (Some p) branches) ≡ p
+unfolding tree_attack
+from-attack true p branches = refl
+from-attack false p branches = refl
+
+plan-attack : (rule : RuleKind) (n : ℕ) (b : Grid) (p : Point) → four_move rule n b ≡ Some p → tree_attack (four_plan rule n b) ≡ p
+unfolding four_plan
+plan-attack rule zero b p chosen = absurd (no_move rule b p chosen)
+plan-attack rule (suc n) b p chosen =
+    let branches : Point → Branches = λ x. branches_for (outcome rule (after b x)) (λ q. four_plan rule n (after (after b x) q)) (points_of b) in
+    ap (λ (o : Option Point). tree_attack (plan_from (has_five rule b (mover b)) o branches)) chosen ∙ from-attack (has_five rule b (mover b)) p branches
+
+-- the attack of a node that stands for the plan is the chosen move
+pub plan-attacks : (rule : RuleKind) (t : List Node) (n i : ℕ) (b : Grid) → wins_by_fours rule n b ≡ true → StandsFor t i (four_plan rule n b) → option_map (λ n. n.attack) (slice_get t i) ≡ four_move rule n b
+plan-attacks rule t n i b wins stands =
+    let chosen = four_move-some rule n b wins in
+    tree-attack t i (four_plan rule n b) stands ∙ ap Some (plan-attack rule n b chosen.0 chosen.1) ∙ sym chosen.1
+
+-- ---- the replies to it
+
+-- a node stands for the plan of a win within n moves at b, and is accepted there
+pub record PlanAt (rule : RuleKind) (t : List Node) (n j : ℕ) (b : Grid) : Type 0 where
+  pub wins : wins_by_fours rule n b ≡ true
+  pub stands : StandsFor t j (four_plan rule n b)
+  pub accepted : Accepted rule t j b
+
+-- each reply at c is no move, fouls, or goes on, and is answered at node i by a node that stands for the plan within n moves
+abbrev pub PlansOn : RuleKind → List Node → ℕ → ℕ → Grid → Type 0
+PlansOn rule t n i c = (q : Point) → LosesOr (outcome rule c q) (Answered (answer_at t i q) (λ j. PlanAt rule t n j (after c q)))
+
+module _ (rule : RuleKind) (t : List Node) (table : IsTable t) (m i : ℕ) (b : Grid) (p : Point) (lawful : IsPosition rule b) (chosen : four_move rule (suc m) b ≡ Some p) (go : outcome rule b p ≡ GoesOn) (stands : StandsFor t i (four_plan rule (suc m) b)) where
+  none : has_five rule b (mover b) ≡ false
+  none = goes_on-no_five rule (suc m) b p chosen go
+
+  starts : starts_win (has_five rule) rule b (wins_by_fours rule m) p ≡ true
+  starts = find-passes (starts_win (has_five rule) rule b (wins_by_fours rule m)) (points_of b) p (sym (move-is rule b lawful none m) ∙ chosen)
+
+  replies_lose : list_all (λ q. loses_or (outcome rule (after b p) q) (wins_by_fours rule m (after (after b p) q))) (points_of b) ≡ true
+  replies_lose = and_right (has_five rule (after b p) (mover b)) _ (sym (ap (λ o. wins_or o (has_five rule (after b p) (mover b) && list_all (λ q. loses_or (outcome rule (after b p) q) (wins_by_fours rule m (after (after b p) q))) (points_of b))) go) ∙ starts) where
+    and_right : (a c : Bool) → (a && c) ≡ true → c ≡ true
+    and_right true c h = h
+    and_right false c h = cc
+
+  after_lawful : IsPosition rule (after b p)
+  after_lawful = IsPosition-after rule b p lawful go
+
+  fork : StandsFor t i (Fork p (branches_for (outcome rule (after b p)) (λ q. four_plan rule m (after (after b p) q)) (points_of b)))
+  fork = subst (λ (s : Tree). StandsFor t i s) (plan-fork rule m b p none chosen) stands
+
+  answered_there : (q : Point) → outcome rule (after b p) q ≡ GoesOn → Answered (answer_at t i q) (λ j. StandsFor t j (four_plan rule m (after (after b p) q)))
+  answered_there q on =
+      let node = at_fork t i p _ fork in
+      let found = answer-at t (answers_of node.0) (outcome rule (after b p)) (λ q. four_plan rule m (after (after b p) q)) (points_of b) q
+      (points-found (after b p) (λ x. is_same_point q x) q (GoesOn-on rule (after b p) q on) (is_same_point-itself q)) on node.2 in
+      subst (λ (o : Option Node). Answered (option_and_then (λ n. answer (answers_of n) q) o) (λ j. StandsFor t j (four_plan rule m (after (after b p) q)))) (sym node.1) found
+
+  plan_replies : PlansOn rule t m i (after b p)
+  plan_replies q =
+      loses_by (outcome rule (after b p) q) (wins_by_fours rule m (after (after b p) q) ≡ true) _
+      (each_reply rule (after b p) (wins_by_fours rule m) (λ d. wins_by_fours rule m d ≡ true) (λ d h. h) replies_lose q)
+      (λ on wins. Answered-map (answer_at t i q) (λ j. StandsFor t j (four_plan rule m (after (after b p) q))) (λ j. PlanAt rule t m j (after (after b p) q))
+      (λ j e s. record { wins = wins; stands = s; accepted = (plan-written rule t table m j (after (after b p) q) (IsPosition-after rule (after b p) q after_lawful on) wins s).accepted })
+      (answered_there q on))
+
+-- where the chosen move goes on, each reply that does is answered by a node that stands for the plan of the win that is left
+pub plan-replies : (rule : RuleKind) (t : List Node) → IsTable t → (n i : ℕ) (b : Grid) (p : Point) → IsPosition rule b → four_move rule n b ≡ Some p → outcome rule b p ≡ GoesOn → StandsFor t i (four_plan rule n b) → (1 ≤ n) × PlansOn rule t (n - 1) i (after b p)
+plan-replies rule t table zero i b p lawful chosen go stands = absurd (no_move rule b p chosen)
+plan-replies rule t table (suc m) i b p lawful chosen go stands =
+    let same : m ≡ suc m - 1 = omega arith in
+    (omega arith, subst (λ (k : ℕ). PlansOn rule t k i (after b p)) same (plan_replies rule t table m i b p lawful chosen go stands))
+
+-- ---- the fewest moves
+
+-- a number that is found passes
+found-passes : (f : ℕ → Bool) (ks : List ℕ) (m : ℕ) → find f ks ≡ Some m → f m ≡ true
+found-passes f [] m h = cc
+found-passes f (k ∷ ks) m h = by_test (f k) refl h (found-passes f ks m) where
+  by_test : (r : Bool) → f k ≡ r → cond r (Some k) (find f ks) ≡ Some m → (find f ks ≡ Some m → f m ≡ true) → f m ≡ true
+  by_test true e h rest = let same : k ≡ m = cc in subst (λ (j : ℕ). f j ≡ true) same e
+  by_test false e h rest = rest h
+
+-- within the fewest moves there is a win
+pub least-wins : (rule : RuleKind) (n : ℕ) (b : Grid) (m : ℕ) → least_moves rule n b ≡ Some m → wins_by_fours rule m b ≡ true
+least-wins rule n b m h = found-passes (λ k. wins_by_fours rule k b) (range_with_len 1 n) m h
+
+none-in : (f : ℕ → Bool) (a d : ℕ) → ((k : ℕ) → k < a + d → f k ≡ false) → find f (range_with_len a d) ≡ None
+none-in f a zero h = refl
+none-in f a (suc d) h =
+    let first : f a ≡ false = h a (omega arith) in
+    ap (λ r. cond r (Some a) (find f (range_with_len (a + 1) d))) first ∙ none-in f (a + 1) d (λ k low. h k (omega (arith, low)))
+
+-- where there is no win within n moves there is no fewest number
+pub least-none : (rule : RuleKind) (n : ℕ) (b : Grid) → wins_by_fours rule n b ≡ false → least_moves rule n b ≡ None
+least-none rule n b none = none-in (λ k. wins_by_fours rule k b) 1 n (λ k low. fewer k (wins_by_fours rule k b) refl (omega (arith, low))) where
+  fewer : (k : ℕ) (r : Bool) → wins_by_fours rule k b ≡ r → k ≤ n → r ≡ false
+  fewer k true e low = let more = wins-more rule k n b low e in let bad : false ≡ true = sym none ∙ more in cc
+  fewer k false e low = refl

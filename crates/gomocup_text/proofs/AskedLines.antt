@@ -1,6 +1,5 @@
 -- The commands of the lines that were told.
-use Rattle.std.proofs.Common.{List, map, ◌≡◌, [], ◌∷◌, refl, ◌++◌, sym, ap, subst, ◌∙◌}
-use Rattle.std.specs.Prelude.{ℕ, Contains}
+use Rattle.std.proofs.Common.{List, map, ◌≡◌, [], ◌∷◌, refl, ◌++◌, sym, ap, subst, ◌∙◌, ℕ, Contains}
 use Rattle.std.proofs.lemmas.List.{map-append}
 use Rattle.std.proofs.lemmas.List.Elements.{Contains-append_left, Contains-push}
 use Rattle.renju_io.specs.Lines.{LineText, lines, whole_lines, Tells}

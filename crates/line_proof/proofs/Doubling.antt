@@ -1,36 +1,38 @@
--- A double threat wins in two moves, and so does its node.
-use Rattle.std.proofs.Common.{◌≡◌, ℕ, Bool, true, false, cond, ◌&&◌, refl, sym, ap, subst, ◌∙◌, List, [], ◌∷◌}
-use Rattle.std.specs.Prelude.{Option, Some, None, IfSome, unwrap_or}
+-- A double threat wins in two moves, and so does its node. The answers to all replies to a move win, and so does the node that has them.
+use Rattle.std.proofs.Common.{◌≡◌, ℕ, Bool, true, false, cond, ◌&&◌, refl, sym, ap, subst, ◌∙◌, List, [], ◌∷◌, Option, Some, None, IfSome, suc, ◌+◌}
+use Rattle.std.specs.Prelude.{unwrap_or}
 use Rattle.std.specs.List.{list_any, list_all, filter}
 use Rattle.game_rules.proofs.Common.{Grid, is_on, points_of, points_within, five, is_same_point, IsPosition, outcome, mover, after, other, goes_on_with, LosesOr, has_five, wins_or, loses_or, starts_win, wins_under, wins_by_fours}
 use Rattle.game_rules.specs.declared.RuleKind.{RuleKind}
 use Rattle.game_rules.specs.declared.Outcome.{Outcome}
-use Rattle.game_rules.specs.declared.Outcome.TheVariants.{Refused, Wins as WinsNow, Fouls, Draws, GoesOn}
+use Rattle.game_rules.specs.declared.Outcome.TheVariants.{Wins as WinsNow, Draws, GoesOn}
 use Rattle.game_rules.specs.declared.Point.{Point}
 use Rattle.game_rules.proofs.Boards.{and_right, is_empty-on}
 use Rattle.game_rules.proofs.Points.{points-found, is_same_point-itself, is_same_point-same, is_same_point-apart}
 use Rattle.game_rules.proofs.Games.{each_reply}
 use Rattle.game_rules.proofs.Positions.{IsPosition-after, GoesOn-on, GoesOn-empty, mover-other, mover-then}
 use Rattle.game_rules.proofs.Fives.{five-empty, five-other}
-use Rattle.game_rules.proofs.Outcomes.{five-outcome}
+use Rattle.game_rules.proofs.Outcomes.{five-outcome, goes_on_with-true}
 use Rattle.game_rules.proofs.PointLists.{still-found}
 use Rattle.game_rules.proofs.ReadingOrder.{points-on}
 use Rattle.strategy_graph.specs.declared.Node.{Node}
-use Rattle.strategy_graph.specs.Tables.{NamesLower}
-use Rattle.strategy_compiler.specs.Wins.{IsWrittenWin}
-use Rattle.strategy_compiler.specs.Growth.{GrowsBy}
-use Rattle.strategy_compiler.specs.Forks.{IsDoubleThreat, double_moves}
 use Rattle.strategy_compiler.proofs.Growing.{win-stays}
 use Rattle.threat_moves.specs.declared.block.BlockAnswer.TheVariants.{Lost, Won}
-use Rattle.threat_moves.specs.Blocks.{by_fives, fate}
-use Rattle.threat_moves.specs.FourMoves.{is_four_move}
-use Rattle.threat_moves.specs.OneBlock.{block_wins}
 use Rattle.threat_moves.proofs.BlockLaw.{block_decides}
 use Rattle.threat_moves.proofs.FourLaws.{two-won}
 use Rattle.strategy_compiler.specs.declared.wins.WrittenWin.{WrittenWin}
 use Rattle.line_proof.specs.declared.doubles.Double.{Double}
 use Rattle.line_proof.specs.declared.doubles.Pair.{Pair}
 use Rattle.line_proof.specs.Doubles.{IsPressed, IsDouble}
+use Rattle.strategy_graph.specs.declared.Reply.{Reply}
+use Rattle.strategy_graph.proofs.Common.{NamesLower, depth}
+use Rattle.strategy_graph.proofs.Answering.{passed}
+use Rattle.strategy_compiler.proofs.Common.{IsWrittenWin, GrowsBy, IsDoubleThreat, double_moves, AnswersWin, WinsByAnswers}
+use Rattle.strategy_compiler.proofs.Forks.{IsAnswer, all-both, alone-deep, answer-by-win, answers-win}
+use Rattle.threat_moves.proofs.Common.{by_fives, fate, is_four_move, block_wins}
+use Rattle.line_proof.specs.declared.answers.Answering.{Answering}
+use Rattle.line_proof.specs.Lines.{each_loses}
+use Rattle.line_proof.specs.Replies.{IsWonAt, AnswersAll}
 
 -- ---- the points of a board are on it
 
@@ -98,11 +100,10 @@ module _ (rule : RuleKind) (d : Grid) (lawful : IsPosition rule d) (s : Point) (
 
     by_outcome : (q : Point) (o : Outcome) → outcome rule (after d s) q ≡ o → LosesOr o (Unit {0})
         → LosesOr o (outcome rule (after (after d s) q) (cond (is_same_point q ends.first) ends.second ends.first) ≡ WinsNow)
-    by_outcome q Refused e h = tt
     by_outcome q WinsNow e h = absurd h
-    by_outcome q (Fouls f) e h = tt
     by_outcome q Draws e h = absurd h
     by_outcome q GoesOn e h = taken q e (is_same_point q ends.first) refl
+    by_outcome q _ e h = tt
 
   -- it takes two moves, since the board has points
   pub pressed-moves : double_moves (points_of d) ≡ 2
@@ -154,3 +155,23 @@ told-pressed rule b start ends h e f pressed =
 
 pub five-found : (rule : RuleKind) (d : Grid) (w : Point) → five rule d (mover d) w ≡ true → has_five rule d (mover d) ≡ true
 five-found rule d w h = points-found d (five rule d (mover d)) w (is_empty-on d w (five-empty rule d (mover d) w h)) h
+
+module _ (rule : RuleKind) (n : ℕ) (c : Grid) (won : Grid → Bool) (lost : each_loses rule c won ≡ true) (t : List Node) (a : Answering)
+    (all : AnswersAll rule n t c a) where
+  answers-all : AnswersWin rule n c t a.replies.items
+  answers-all = answers-win rule n c t a.replies.items (each_reply rule c won (λ d. Unit {0}) (λ d e. tt) lost)
+      (λ q go. subst (λ (ps : List Point). list_any (is_same_point q) ps ≡ true) (sym all.all)
+      (still-found (λ q. goes_on_with (outcome rule c q) true) q (points_of c) (ap (λ o. goes_on_with o true) go)
+      (points-found c (is_same_point q) q (GoesOn-on rule c q go) (is_same_point-itself q))))
+      (all-both (λ (r : Reply). goes_on_with (outcome rule c r.at) true ≡ true) (IsWonAt rule n t c) (IsAnswer rule n c t)
+      (λ r go win. answer-by-win rule n c t r (depth t r.next) (goes_on_with-true (outcome rule c r.at) go) win) a.replies.items
+      (passed (λ q. goes_on_with (outcome rule c q) true) (points_of c) a.replies.items all.all) all.answers.wins)
+
+pub fork-wins : (old new : List Node) (p : Point) (a : Answering) (rs : List Reply) (i : ℕ) → rs ≡ a.replies.items
+    → WinsByAnswers old p rs new i → (rule : RuleKind) (n : ℕ) (b : Grid) (won : Grid → Bool) → outcome rule b p ≡ GoesOn
+    → each_loses rule (after b p) won ≡ true
+    → AnswersAll rule n old (after b p) a → IsWrittenWin rule (suc n) b new (record { node = i; moves = a.moves + 1 })
+fork-wins old new p a rs i are wins rule n b won on lost all =
+    subst (λ (k : ℕ). IsWrittenWin rule (suc n) b new (record { node = i; moves = k + 1 }))
+    (alone-deep old a.replies.items ∙ sym all.answers.most)
+    (subst (λ (rs : List Reply). WinsByAnswers old p rs new i) are wins rule n b on (answers-all rule n (after b p) won lost old a all))

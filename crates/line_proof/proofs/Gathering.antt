@@ -1,26 +1,20 @@
 -- Answers to the replies so far: they stay answers as the nodes grow, and one more.
-use Rattle.std.proofs.Common.{◌≡◌, ℕ, ◌≤◌, ◌<◌, ◌+◌, max, Bool, true, false, cond, ◌&&◌, refl, sym, ap, subst, ◌∙◌, arith, List, [], ◌∷◌, ◌++◌, map, length, append-nil, append_assoc}
-use Rattle.std.specs.Prelude.{All}
+use Rattle.std.proofs.Common.{◌≡◌, ℕ, ◌≤◌, ◌+◌, max, Bool, true, false, cond, ◌&&◌, refl, sym, ap, subst, ◌∙◌, arith, List, [], ◌∷◌, ◌++◌, map, append_assoc}
 use Rattle.std.specs.List.{AllByRecursion, list_all, sum_by}
 use Rattle.std.proofs.lemmas.List.Sums.{sum_by-cons}
-use Rattle.std.proofs.lemmas.List.Elements.{All-from_recursion}
 use Rattle.game_rules.proofs.Common.{Grid, outcome, after, goes_on_with, loses_or, if_goes_on}
 use Rattle.game_rules.specs.declared.RuleKind.{RuleKind}
-use Rattle.game_rules.specs.declared.Outcome.{Outcome}
-use Rattle.game_rules.specs.declared.Outcome.TheVariants.{GoesOn}
 use Rattle.game_rules.specs.declared.Point.{Point}
 use Rattle.strategy_graph.specs.declared.Node.{Node}
 use Rattle.strategy_graph.specs.declared.Reply.{Reply}
 use Rattle.strategy_graph.specs.Tables.{NamesLower, depth, greatest}
-use Rattle.strategy_graph.proofs.Answering.{push-all, push-points}
+use Rattle.strategy_graph.proofs.Answering.{push-all}
 use Rattle.strategy_graph.proofs.Greatest.{push-most}
 use Rattle.strategy_compiler.specs.declared.wins.WrittenWin.{WrittenWin}
-use Rattle.strategy_compiler.specs.Wins.{IsWrittenWin}
-use Rattle.strategy_compiler.specs.Growth.{GrowsBy}
-use Rattle.strategy_compiler.proofs.Growing.{win-stays}
-use Rattle.strategy_compiler.proofs.Winning.{win-deep}
+use Rattle.strategy_compiler.proofs.Common.{IsWrittenWin, GrowsBy}
+use Rattle.strategy_compiler.proofs.Growing.{win-stays, win-deep}
 use Rattle.line_proof.specs.declared.answers.Answering.{Answering}
-use Rattle.line_proof.specs.Replies.{IsWonAt, AreAnswers, answered, going_on}
+use Rattle.line_proof.specs.Replies.{IsWonAt, AreAnswers, going_on}
 
 -- ---- wins as the nodes grow
 
@@ -36,19 +30,12 @@ module _ (rule : RuleKind) (n : ℕ) (c : Grid) (t u : List Node) (k : ℕ) (low
   most-grown [] h = refl
   most-grown (r ∷ rs) h =
       let here : depth u r.next ≡ depth t r.next = (win-stays rule n (after c r.at) t u k _ lower grown h.0).deep in
-      let rest = most-grown rs h.1 in
-      omega (arith, here, rest)
+      omega (arith, here, most-grown rs h.1)
 
   pub answers-grown : (a : Answering) → AreAnswers rule n t c a → AreAnswers rule n u c a
   answers-grown a h = record { wins = won-grown a.replies.items h.wins; most = h.most ∙ sym (most-grown a.replies.items h.wins) }
 
 -- ---- no answer, and one more
-
-pub answers-none : (rule : RuleKind) (n : ℕ) (t : List Node) (c : Grid) (a : Answering) → a.replies.items ≡ [] → a.moves ≡ 0 → AreAnswers rule n t c a
-answers-none rule n t c a none zero = record {
-  wins = subst (λ (rs : List Reply). AllByRecursion (IsWonAt rule n t c) rs) (sym none) tt;
-  most = zero ∙ sym (ap (λ (rs : List Reply). greatest (map (depth t) (map (λ r. r.next) rs))) none);
-}
 
 module _ (rule : RuleKind) (n : ℕ) (t : List Node) (c : Grid) (q : Point) (win : WrittenWin) (a a' : Answering) (added : a'.replies.items ≡ a.replies.items ++ (record { at = q; next = win.node }) ∷ []) where
   pub answers-more : a'.moves ≡ max a.moves win.moves → IsWrittenWin rule n (after c q) t win → AreAnswers rule n t c a → AreAnswers rule n t c a'
@@ -57,32 +44,11 @@ module _ (rule : RuleKind) (n : ℕ) (t : List Node) (c : Grid) (q : Point) (win
       record {
         wins = subst (λ (rs : List Reply). AllByRecursion (IsWonAt rule n t c) rs) (sym added) (push-all (IsWonAt rule n t c) a.replies.items r h.wins (win-deep rule n (after c q) t win won));
         most =
-            let push = push-most (depth t) a.replies.items r in
             let same : greatest (map (depth t) (map (λ r. r.next) a'.replies.items)) ≡ greatest (map (depth t) (map (λ r. r.next) (a.replies.items ++ r ∷ []))) = ap (λ (rs : List Reply). greatest (map (depth t) (map (λ r. r.next) rs))) added in
-            let deep = won.deep in
-            let before = h.most in
-            omega (arith, push, same, deep, before, most);
+            omega (arith, push-most (depth t) a.replies.items r, same, won.deep, h.most, most);
       }
 
-  pub answered-more : outcome rule c q ≡ GoesOn → answered a' ≡ answered a ++ going_on rule c (q ∷ [])
-  answered-more on =
-      let r : Reply = record { at = q; next = win.node } in
-      ap (λ (rs : List Reply). map (λ r. r.at) rs) added
-      ∙ push-points a.replies.items r
-      ∙ sym (ap (λ (o : Outcome). map (λ r. r.at) a.replies.items ++ cond (goes_on_with o true) (q ∷ []) []) on)
-
--- a reply that does not go on needs none
-pub answered-same : (rule : RuleKind) (c : Grid) (q : Point) (a : Answering) (o : Outcome) → outcome rule c q ≡ o → goes_on_with o true ≡ false → answered a ≡ answered a ++ going_on rule c (q ∷ [])
-answered-same rule c q a o is stops =
-    sym (ap (λ (r : Bool). answered a ++ cond r (q ∷ []) []) (ap (λ (o : Outcome). goes_on_with o true) is ∙ stops) ∙ append-nil (answered a))
-
 -- ---- what the compiler asks of answers
-
-pub answers-below : (rule : RuleKind) (n : ℕ) (t : List Node) (c : Grid) (a : Answering) → AreAnswers rule n t c a → All (λ r. r.next < length t) a.replies.items
-answers-below rule n t c a h = All-from_recursion (λ r. r.next < length t) a.replies.items (below a.replies.items h.wins) where
-  below : (rs : List Reply) → AllByRecursion (IsWonAt rule n t c) rs → AllByRecursion (λ r. r.next < length t) rs
-  below [] h = tt
-  below (r ∷ rs) h = (h.0.in_compiler, below rs h.1)
 
 pub answers-few : (rule : RuleKind) (n : ℕ) (t : List Node) (c : Grid) (a : Answering) → AreAnswers rule n t c a → a.moves ≤ n
 answers-few rule n t c a h =
@@ -121,7 +87,3 @@ module _ (rule : RuleKind) (c v : Grid) (same : v ≡ c) (q : Point) (qs rest : 
   pub lose-step : (won : Grid → Bool) (loses : Bool) → loses ≡ loses_or (outcome rule v q) (won (after v q)) → loses ≡ true → list_all (λ q. loses_or (outcome rule c q) (won (after c q))) rest ≡ list_all (λ q. loses_or (outcome rule c q) (won (after c q))) qs
   lose-step won loses e all =
       sym (loses-here won ∙ ap (λ r. r && list_all (λ q. loses_or (outcome rule c q) (won (after c q))) rest) (sym e ∙ all))
-
-  pub lose-stop : (won : Grid → Bool) (loses : Bool) → loses ≡ loses_or (outcome rule v q) (won (after v q)) → loses ≡ false → list_all (λ q. loses_or (outcome rule c q) (won (after c q))) qs ≡ false
-  lose-stop won loses e none =
-      loses-here won ∙ ap (λ r. r && list_all (λ q. loses_or (outcome rule c q) (won (after c q))) rest) (sym e ∙ none)

@@ -1,9 +1,6 @@
 -- The laws of line proofs. They serve this crate alone.
 
--- the cost of two fours
--- the node that has the answers to all replies
-mod Forking
--- double threats, and the node of one
+-- double threats, and the nodes that have the answers to all replies
 mod Doubling
 -- the answers to the replies so far
 mod Gathering

@@ -1,6 +1,5 @@
 -- One move of a line.
-use Rattle.std.proofs.Common.{◌≡◌, ℕ, zero, suc, ◌+◌, ◌-◌, ◌≤◌, Bool, true, false, cond, refl, sym, ap, subst, ◌∙◌, arith, List, min}
-use Rattle.std.specs.Prelude.{Option, Some, None, IfSome, Result, Ok, Err, OnOk}
+use Rattle.std.proofs.Common.{◌≡◌, ℕ, zero, suc, ◌+◌, ◌-◌, ◌≤◌, Bool, true, false, cond, refl, sym, ap, subst, ◌∙◌, arith, List, min, Option, Some, None, IfSome, Result, Ok, Err, OnOk}
 use Rattle.game_rules.proofs.Common.{Grid, points_of, five, mover, LosesOr, has_five, wins_by_fours}
 use Rattle.game_rules.specs.declared.RuleKind.{RuleKind}
 use Rattle.game_rules.specs.declared.Outcome.{Outcome}
@@ -15,10 +14,6 @@ module _ (rule : RuleKind) (ts : List Threat) (b : Grid) where
   pub no_moves-wins : line_wins rule ts 0 b ≡ false
   unfolding line_wins
   no_moves-wins = refl
-
-  pub no_moves-tree : line_tree rule ts 0 b ≡ 1
-  unfolding line_tree
-  no_moves-tree = refl
 
   -- two fours win
   pub quick-wins : (n : ℕ) → 1 ≤ n → wins_by_fours rule (min n 2) b ≡ true → line_wins rule ts n b ≡ true

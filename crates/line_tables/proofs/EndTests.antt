@@ -1,9 +1,6 @@
--- The list of the five points, end by end.
-use Rattle.std.proofs.Common.{◌≡◌, ◌≢◌, inl, inr, ℕ, ◌+◌, ◌*◌, ◌%◌, ◌≤◌, ◌<◌, Bool, true, false, cond, List, [], refl, sym, ap, subst, ◌∙◌, arith}
-use Rattle.std.specs.Prelude.{Some, nat_lt, ◌==◌, if◌then◌else◌}
-use Rattle.std.specs.List.{filter}
+-- The list of the five points, as the code tells it. The list of the five points, end by end.
+use Rattle.std.proofs.Common.{◌≡◌, ◌≢◌, inl, inr, ℕ, ◌+◌, ◌*◌, ◌%◌, ◌≤◌, ◌<◌, Bool, true, false, cond, List, [], refl, sym, ap, subst, ◌∙◌, arith, Some, nat_lt, ◌==◌, if◌then◌else◌, filter, length, None}
 use Rattle.std.proofs.lemmas.Bool.{and_from, both_ways, cases_lt, false_from_ne_true}
-use Rattle.game_rules.proofs.Common.{Grid, IsBoard, is_on, is_empty, put, points_of, five, wins_on, five_points, other, run_end}
 use Rattle.game_rules.specs.declared.RuleKind.{RuleKind}
 use Rattle.game_rules.specs.declared.Side.{Side}
 use Rattle.game_rules.specs.declared.Axis.{Axis}
@@ -11,12 +8,15 @@ use Rattle.game_rules.specs.declared.Axis.TheVariants.{Row, Column, Down, Up}
 use Rattle.game_rules.specs.declared.Way.{Way}
 use Rattle.game_rules.specs.declared.Way.TheVariants.{Ahead, Behind}
 use Rattle.game_rules.specs.declared.Point.{Point}
+use Rattle.game_rules.proofs.Common.{Grid, IsBoard, is_on, is_empty, put, points_of, five, wins_on, five_points, other, run_end, holds, lift}
 use Rattle.game_rules.proofs.Axes.{no_axis, by_axis}
 use Rattle.game_rules.proofs.Boards.{Apart, and_left, and_right, same_or_apart, is_empty-on, empty_holds, holds-put_same, is_empty-put}
 use Rattle.game_rules.proofs.Fives.{five-empty, five-other, same_fives}
 use Rattle.game_rules.proofs.Points.{is_at-here, is_at-Some, is_same_point-itself, apart-is_same_point, filter-none, points-found}
 use Rattle.game_rules.proofs.RunEnds.{wins_same, ends_differ, end_apart, end_same}
-use Rattle.game_rules.proofs.ReadingOrder.{filter_agree}
+use Rattle.game_rules.proofs.ReadingOrder.{filter_agree, filter_fits}
+use Rattle.game_rules.proofs.Positions.{IsBoard-lift, put-lift, lift-empty}
+use Rattle.stone_board.specs.Steps.{kept_empty}
 use Rattle.line_tables.specs.Lists.{told_of, with_told}
 use Rattle.line_tables.specs.Tables.{TellsSide, TellsButEnds, is_end, end_number}
 use Rattle.line_tables.proofs.FiveLists.{filter_told}
@@ -202,3 +202,68 @@ module _ (rule : RuleKind) (b : Grid) (s : Side) (p : Point) where
           let there : Some q ≡ Some r = sym here ∙ end_is b s d w p r yes in
           let same : q ≡ r = cc in
           apart.apart (ap (λ (z : Point). z.x) same) (ap (λ (z : Point). z.y) same))
+
+-- ---- a list in which a point is told anew
+
+pub told_fits : (b : Grid) (points : List Point) (room : ℕ) (test : Point → Bool) → points ≡ filter test (points_of b)
+    → b.width * b.height ≤ room → (q : Point) → is_on b q ≡ true → (v : Bool) → length (with_told q v points) ≤ room
+told_fits b points room test listed fits q on v =
+    let same : with_told q v points ≡ filter (told_of q v test) (points_of b) = ap (with_told q v) listed ∙ filter_told b q v test on in
+    let long : length (with_told q v points) ≡ length (filter (told_of q v test) (points_of b)) = ap length same in
+    omega (arith, long, filter_fits b (told_of q v test), fits)
+
+-- ---- an end
+
+-- where none is kept, no point is the end
+pub kept-none : (b : Grid) (s : Side) (d : Axis) (w : Way) (p : Point) → kept_empty b (run_end b s d w p) ≡ None → (q : Point)
+    → is_end b s d w p q ≡ false
+kept-none b s d w p none q = false_from_ne_true _ (λ yes.
+    let some : kept_empty b (run_end b s d w p) ≡ Some q = ap (kept_empty b) (end_is b s d w p q yes)
+    ∙ ap (λ r. cond r (Some q) None) (end_free b s d w p q yes) in
+    let differ : None ≡ Some q = sym none ∙ some in
+    cc)
+
+-- ---- after a stone came
+
+module _ (rule : RuleKind) (c : Grid) (s : Side) (p : Point) (ok : IsBoard c) (mine : holds c s p ≡ true) where
+  on_p : is_on c p ≡ true
+  on_p = and_left (is_on c p) _ mine
+
+  bare : is_empty (lift c p) p ≡ true
+  bare = lift-empty c p ok on_p
+
+  back : put (lift c p) s p ≡ c
+  back = put-lift c s p mine
+
+  pub came_fits : (t : Side) (points : List Point) (room : ℕ) → TellsSide rule (lift c p) t points room → (v : Bool) → length (with_told p v points) ≤ room
+  came_fits t points room h v = told_fits (lift c p) points room (five rule (lift c p) t) h.told h.fits p on_p v
+
+  pub came_own : (points now : List Point) (room more : ℕ) → TellsSide rule (lift c p) s points room → now ≡ with_told p false points
+      → room ≤ more → TellsButEnds rule c s p 0 now more
+  came_own points now room more h e low = subst (λ (g : Grid). TellsButEnds rule g s p 0 now more) back
+      (played_but_ends rule (lift c p) s p (IsBoard-lift c p ok) bare now more (let fits = h.fits in omega arith)
+      (e ∙ ap (with_told p false) h.told ∙ filter_told (lift c p) p false (five rule (lift c p) s) on_p))
+
+  pub came_others : (points now : List Point) (room more : ℕ) → TellsSide rule (lift c p) (other s) points room → now ≡ with_told p false points → room ≤ more → TellsSide rule c (other s) now more
+  came_others points now room more h e low = record {
+    told = subst (λ (g : Grid). now ≡ five_points rule g (other s)) back
+        (played_others rule (lift c p) s p (IsBoard-lift c p ok) bare now (e ∙ ap (with_told p false) h.told ∙ filter_told (lift c p) p false (five rule (lift c p) (other s)) on_p));
+    fits = let fits = h.fits in omega arith;
+  }
+
+-- ---- after it went
+
+module _ (rule : RuleKind) (b : Grid) (s : Side) (p : Point) (ok : IsBoard b) (empty : is_empty b p ≡ true) where
+  pub went_fits : (t : Side) (points : List Point) (room : ℕ) → TellsSide rule (put b s p) t points room → (v : Bool) → length (with_told p v points) ≤ room
+  went_fits t points room h v = told_fits (put b s p) points room (five rule (put b s p) t) h.told h.fits p (is_empty-on b p empty) v
+
+  pub went_own : (points now : List Point) (room more : ℕ) → TellsSide rule (put b s p) s points room
+      → now ≡ with_told p (five rule b s p) points → room ≤ more → TellsButEnds rule b s p 0 now more
+  went_own points now room more h e low = undone_but_ends rule b s p ok empty now more (let fits = h.fits in omega arith)
+      (e ∙ ap (with_told p (five rule b s p)) h.told ∙ filter_told b p (five rule b s p) (five rule (put b s p) s) (is_empty-on b p empty))
+
+  pub went_others : (points now : List Point) (room more : ℕ) → TellsSide rule (put b s p) (other s) points room → now ≡ with_told p (five rule b (other s) p) points → room ≤ more → TellsSide rule b (other s) now more
+  went_others points now room more h e low = record {
+    told = undone_others rule b s p ok empty now (e ∙ ap (with_told p (five rule b (other s) p)) h.told ∙ filter_told b p (five rule b (other s) p) (five rule (put b s p) (other s)) (is_empty-on b p empty));
+    fits = let fits = h.fits in omega arith;
+  }

@@ -1,15 +1,22 @@
--- Lists of points in reading order, in which one point is told anew.
-use Rattle.std.proofs.Common.{◌≡◌, inl, inr, ℕ, suc, ◌+◌, ◌≤◌, Bool, true, false, cond, ◌||◌, List, [], ◌∷◌, length, refl, sym, ap, subst, ◌∙◌, arith}
-use Rattle.std.specs.Prelude.{slice_get}
+-- Lists with an item for each point of a board, in reading order. Lists of points in reading order, in which one point is told anew.
+use Rattle.std.proofs.Common.{◌≡◌, true, refl, ◌∙◌, Some, map, slice_get, inl, inr, ℕ, suc, ◌+◌, ◌≤◌, Bool, false, cond, ◌||◌, List, [], ◌∷◌, length, sym, ap, subst, arith}
 use Rattle.std.specs.List.{list_all, list_any, filter, prefix_len, insert, remove}
+use Rattle.std.proofs.lemmas.Option.{slice_get-map}
 use Rattle.std.proofs.lemmas.Bool.{both_ways, false_from_ne_true, or_cases}
 use Rattle.std.proofs.lemmas.List.Edits.{length-insert}
-use Rattle.game_rules.proofs.Common.{Grid, is_on, points_of, is_same_point, is_at, precedes}
 use Rattle.game_rules.specs.declared.Point.{Point}
+use Rattle.game_rules.proofs.Places.{points_get}
+use Rattle.game_rules.proofs.Common.{Grid, is_on, place_of, points_of, is_same_point, is_at, precedes}
 use Rattle.game_rules.proofs.Points.{points-found, is_same_point-itself, is_same_point-same, precedes-trans, precedes-differs}
-use Rattle.line_tables.specs.Lists.{with_point, without_point, with_told, told_of}
 use Rattle.game_rules.proofs.PointLists.{first_on, filter_same, filter_all}
 use Rattle.game_rules.proofs.ReadingOrder.{Rises, rows_rise}
+use Rattle.line_tables.specs.Lists.{with_point, without_point, with_told, told_of}
+
+-- a list of what is told of each point
+pub told_at : {X : Type 0} (f : Point → X) (b : Grid) (q : Point) → is_on b q ≡ true → slice_get (map f (points_of b)) (place_of b q) ≡ Some (f q)
+told_at f b q on = slice_get-map f (points_of b) (place_of b q) ∙ rw (points_get b q on) refl
+
+-- ---- a test of them all
 
 -- ---- the place of a point
 

@@ -1,41 +1,179 @@
--- The codes of the neighbours of a changed point, one after another.
-use Rattle.std.proofs.Common.{◌≡◌, ◌≢◌, ◌⊎◌, inl, inr, ℕ, zero, suc, ◌+◌, ◌*◌, ◌^◌, ◌≤◌, ◌<◌, Bool, true, false, cond, ◌||◌, List, length, refl, sym, ap, subst, ◌∙◌, arith, get_or, get_or-set_same, get_or-set_other}
-use Rattle.std.specs.Prelude.{Some, slice_get}
+-- A step of the walk over the neighbours of a changed point, as the code takes it. The codes of the neighbours of a changed point, one
+-- after another. What a stone changes in the code of another point: one digit, if the code reaches as far.
+use Rattle.std.proofs.Common.{◌≡◌, ◌≢◌, ◌⊎◌, inl, inr, ℕ, zero, suc, ◌+◌, ◌-◌, ◌*◌, ◌≤◌, ◌<◌, Bool, true, false, cond, refl, sym, ap, ◌∙◌, arith, nat_eq, Option, Some, None, map, ◌^◌, ◌||◌, List, length, subst, get_or, get_or-set_same, get_or-set_other, slice_get, slice_set}
 use Rattle.std.specs.List.{list_any, range_with_len}
+use Rattle.std.proofs.lemmas.Bool.Decides.{nat_tests}
 use Rattle.std.proofs.Math.ListN.{set, length-set}
 use Rattle.std.proofs.lemmas.Option.{slice_get_within, slice_get-get_or, get_or_from_slice_get}
 use Rattle.std.proofs.lemmas.Bool.{or_parts, false_from_ne_true}
-use Rattle.game_rules.proofs.Common.{Grid, IsBoard, is_on, is_empty, holds, place_of, put, lift, is_at, towards}
-use Rattle.game_rules.specs.declared.RuleKind.{RuleKind}
 use Rattle.game_rules.specs.declared.Side.{Side}
 use Rattle.game_rules.specs.declared.Side.TheVariants.{Black, White}
 use Rattle.game_rules.specs.declared.Axis.{Axis}
 use Rattle.game_rules.specs.declared.Point.{Point}
 use Rattle.game_rules.specs.declared.Way.{Way}
 use Rattle.game_rules.specs.declared.Way.TheVariants.{Ahead, Behind}
-use Rattle.game_rules.proofs.Boards.{Apart, same_or_apart, is_empty-on, and_left, places_differ}
-use Rattle.game_rules.proofs.Lines.{along-steps}
+use Rattle.game_rules.specs.declared.RuleKind.{RuleKind}
+use Rattle.game_rules.proofs.Common.{Grid, IsBoard, is_on, is_empty, is_stone_of, stone_of, holds, put, along, towards, place_of, lift, is_at}
+use Rattle.game_rules.proofs.Boards.{same_or_apart, is_empty-on, is_empty-put, holds-put_other, cell_at-put_same, stone_of-taken, Apart, and_left, places_differ}
+use Rattle.game_rules.proofs.Lines.{along-then, along-same, along-zero, along-steps}
+use Rattle.game_rules.proofs.Positions.{is_at_or_not, IsBoard-lift, put-lift, lift-empty}
 use Rattle.game_rules.proofs.Points.{is_same_point-itself, is_at-Some}
-use Rattle.game_rules.proofs.Positions.{IsBoard-lift, put-lift, lift-empty}
 use Rattle.game_rules.proofs.Rows.{any_found, any_none}
-use Rattle.stone_board.proofs.Strides.{on_left}
+use Rattle.stone_board.specs.Walks.{goes_on, stride, place_after, steps_left}
+use Rattle.stone_board.proofs.Strides.{on_left, Walked, Walked-place, Walked-back, StepOn, step_on, place_walk, walked_to, left_by}
+use Rattle.row_shapes.specs.LineCodes.{digit_at, from_digits, places_beside, line_code}
 use Rattle.row_shapes.specs.Rule.{reach_of}
-use Rattle.row_shapes.specs.LineCodes.{line_code}
-use Rattle.row_shapes.proofs.CodeDigits.{reach_cases, code_low}
+use Rattle.row_shapes.proofs.CodeDigits.{from_digits-sum, digits_same, reach_cases, code_low}
+use Rattle.line_tables.specs.Codes.{digit_of_stone, weight, codes_at, TellsAxis, TellsSoFar, FitChange, can_change, changed, shifted, weights_to, is_near, neighbours_in, followed}
 use Rattle.line_tables.specs.declared.axis_codes.Change.{Change}
 use Rattle.line_tables.specs.declared.axis_codes.Change.TheVariants.{Put, Lift}
 use Rattle.line_tables.specs.declared.axis_codes.Codes.{Codes}
-use Rattle.line_tables.specs.Codes.{codes_at, TellsAxis, TellsSoFar, FitChange, can_change, changed, shifted, digit_of_stone, weight, weights_to, is_near, neighbours_in, followed}
-use Rattle.line_tables.proofs.Weights.{code_near, code_far}
+
+-- ---- sums of numbers of digits
+
+-- whether place i of the line around a point is so many steps from it in the opposite of that way
+abbrev pub seen_at : Way → ℕ → ℕ → ℕ → Bool
+seen_at Ahead r k i = nat_eq (i + k) r
+seen_at Behind r k i = nat_eq i (r + k)
+
+-- the digit alone
+abbrev pub alone : Way → ℕ → ℕ → ℕ → ℕ → ℕ
+alone w r k digit i = cond (seen_at w r k i) digit 0
+
+four_alone : (w : Way) (digit k : ℕ) → 1 ≤ k → k ≤ 5 → from_digits (map (alone w 4 k digit) (places_beside 4)) ≡ weight w 4 digit k
+four_alone w digit zero low high = absurd (omega arith)
+four_alone Ahead digit (suc zero) low high = omega arith
+four_alone Ahead digit (suc (suc zero)) low high = omega arith
+four_alone Ahead digit (suc (suc (suc zero))) low high = omega arith
+four_alone Ahead digit (suc (suc (suc (suc zero)))) low high = omega arith
+four_alone Ahead digit (suc (suc (suc (suc (suc zero))))) low high = omega arith
+four_alone Behind digit (suc zero) low high = omega arith
+four_alone Behind digit (suc (suc zero)) low high = omega arith
+four_alone Behind digit (suc (suc (suc zero))) low high = omega arith
+four_alone Behind digit (suc (suc (suc (suc zero)))) low high = omega arith
+four_alone Behind digit (suc (suc (suc (suc (suc zero))))) low high = omega arith
+four_alone w digit (suc (suc (suc (suc (suc (suc k)))))) low high = absurd (omega arith)
+
+five_alone : (w : Way) (digit k : ℕ) → 1 ≤ k → k ≤ 5 → from_digits (map (alone w 5 k digit) (places_beside 5)) ≡ weight w 5 digit k
+five_alone w digit zero low high = absurd (omega arith)
+five_alone Ahead digit (suc zero) low high = omega arith
+five_alone Ahead digit (suc (suc zero)) low high = omega arith
+five_alone Ahead digit (suc (suc (suc zero))) low high = omega arith
+five_alone Ahead digit (suc (suc (suc (suc zero)))) low high = omega arith
+five_alone Ahead digit (suc (suc (suc (suc (suc zero))))) low high = omega arith
+five_alone Behind digit (suc zero) low high = omega arith
+five_alone Behind digit (suc (suc zero)) low high = omega arith
+five_alone Behind digit (suc (suc (suc zero))) low high = omega arith
+five_alone Behind digit (suc (suc (suc (suc zero)))) low high = omega arith
+five_alone Behind digit (suc (suc (suc (suc (suc zero))))) low high = omega arith
+five_alone w digit (suc (suc (suc (suc (suc (suc k)))))) low high = absurd (omega arith)
+
+-- a digit that comes where there was none counts its weight
+digits_more : (f g : ℕ → ℕ) (w : Way) (digit k : ℕ) → 1 ≤ k → k ≤ 5 → (r : ℕ) → (r ≡ 4) ⊎ (r ≡ 5) → ((i : ℕ) → g i ≡ f i + alone w r k digit i) → from_digits (map g (places_beside r)) ≡ from_digits (map f (places_beside r)) + weight w r digit k
+digits_more f g w digit k low high r (inl four) h =
+    let sums = from_digits-sum f g (alone w r k digit) h (places_beside r) in
+    let one = four_alone w digit k low high in
+    rw four (rw four at sums ∙ ap (λ n. from_digits (map f (places_beside 4)) + n) one)
+digits_more f g w digit k low high r (inr five) h =
+    let sums = from_digits-sum f g (alone w r k digit) h (places_beside r) in
+    let one = five_alone w digit k low high in
+    rw five (rw five at sums ∙ ap (λ n. from_digits (map f (places_beside 5)) + n) one)
+
+-- ---- digits, with a stone and without it
+
+taken_digit : (s t : Side) → cond (is_stone_of t (stone_of s)) 1 2 ≡ digit_of_stone s t
+taken_digit Black Black = refl
+taken_digit Black White = refl
+taken_digit White Black = refl
+taken_digit White White = refl
+
+module _ (b : Grid) (s : Side) (p : Point) (ok : IsBoard b) (empty : is_empty b p ≡ true) where
+  on_p : is_on b p ≡ true
+  on_p = is_empty-on b p empty
+
+  digit_without : (t : Side) → digit_at b t (Some p) ≡ 0
+  unfolding digit_at
+  digit_without t = rw empty refl
+
+  digit_with : (t : Side) → digit_at (put b s p) t (Some p) ≡ digit_of_stone s t
+  unfolding digit_at
+  digit_with t = rw (on_p, cell_at-put_same b s p ok on_p, stone_of-taken s) (taken_digit s t)
+
+  digit_else : (t : Side) (o : Option Point) → o ≢ Some p → digit_at (put b s p) t o ≡ digit_at b t o
+  unfolding digit_at
+  digit_else t None other = refl
+  digit_else t (Some q) other = elim (same_or_apart p q) [
+    | inl same ↦ absurd (other (ap Some (sym same)))
+    | inr apart ↦ ap (λ r. cond r 0 (cond (holds (put b s p) t q) 1 2)) (is_empty-put b s p q on_p apart) ∙ ap (λ r. cond (is_empty b q) 0 (cond r 1 2)) (holds-put_other b s t p q on_p apart)
+  ]
+
+  -- ---- the code of a point so many steps from p
+
+  module _ (w : Way) (d : Axis) (k : ℕ) (x : Point) (here : towards w d p k ≡ Some x) (low : 1 ≤ k) (high : k ≤ 5) where
+    seen_yes : (w : Way) → towards w d p k ≡ Some x → (r i : ℕ) → along d x i r ≡ Some p → seen_at w r k i ≡ true
+    seen_yes Ahead h r i e =
+        let back : along d x 0 k ≡ Some p = along-then d p x k 0 0 k h ∙ along-same d p (k + 0) (0 + k) 0 0 (omega arith) ∙ along-zero d p in
+        let steps = along-steps d x p i r 0 k e back in
+        let same : i + k ≡ r = omega arith in
+        grind (arith, nat_tests)
+    seen_yes Behind h r i e =
+        let back : along d x k 0 ≡ Some p = along-then d p x 0 k k 0 h ∙ along-same d p (0 + k) (k + 0) 0 0 (omega arith) ∙ along-zero d p in
+        let steps = along-steps d x p i r k 0 e back in
+        let same : i ≡ r + k = omega arith in
+        grind (arith, nat_tests)
+
+    seen_no : (w : Way) → towards w d p k ≡ Some x → (r i : ℕ) → along d x i r ≢ Some p → seen_at w r k i ≡ false
+    seen_no Ahead h r i other = by_test (nat_eq (i + k) r) refl where
+      by_test : (t : Bool) → nat_eq (i + k) r ≡ t → t ≡ false
+      by_test true e =
+          let same : i + k ≡ r = grind (arith, nat_tests) in
+          absurd (other (along-then d p x k 0 i r h ∙ along-same d p (k + i) (0 + r) 0 0 (omega arith) ∙ along-zero d p))
+      by_test false e = refl
+    seen_no Behind h r i other = by_test (nat_eq i (r + k)) refl where
+      by_test : (t : Bool) → nat_eq i (r + k) ≡ t → t ≡ false
+      by_test true e =
+          let same : i ≡ r + k = grind (arith, nat_tests) in
+          absurd (other (along-then d p x 0 k i r h ∙ along-same d p (0 + i) (k + r) 0 0 (omega arith) ∙ along-zero d p))
+      by_test false e = refl
+
+    digit_more : (t : Side) (r i : ℕ) → digit_at (put b s p) t (along d x i r) ≡ digit_at b t (along d x i r) + alone w r k (digit_of_stone s t) i
+    digit_more t r i = elim (is_at_or_not (along d x i r) p) [
+      | inl at ↦
+          let one : alone w r k (digit_of_stone s t) i ≡ digit_of_stone s t = ap (λ v. cond v (digit_of_stone s t) 0) (seen_yes w here r i at) in
+          omega (arith, one, ap (digit_at (put b s p) t) at ∙ digit_with t, ap (digit_at b t) at ∙ digit_without t)
+      | inr other ↦
+          let none : alone w r k (digit_of_stone s t) i ≡ 0 = ap (λ v. cond v (digit_of_stone s t) 0) (seen_no w here r i other) in
+          omega (arith, none, digit_else t (along d x i r) other)
+    ]
+
+    pub code_near : (t : Side) (r : ℕ) → (r ≡ 4) ⊎ (r ≡ 5) → line_code r (put b s p) t d x ≡ line_code r b t d x + weight w r (digit_of_stone s t) k
+    unfolding line_code
+    code_near t r reach = digits_more (λ i. digit_at b t (along d x i r)) (λ i. digit_at (put b s p) t (along d x i r)) w (digit_of_stone s t) k low high r reach (digit_more t r)
+
+  -- ---- the code of a point from which p is not seen
+
+  module _ (d : Axis) (q : Point) (far : (w : Way) (k : ℕ) → 1 ≤ k → k ≤ 5 → towards w d p k ≢ Some q) where
+    unseen : (r i : ℕ) → (r ≡ 4) ⊎ (r ≡ 5) → i ≤ 2 * r → i ≢ r → along d q i r ≢ Some p
+    unseen r i reach low other e = elim (cases i r) [
+      | inl before ↦ far Ahead (r - i) (omega arith) (short reach) (along-then d q p i r (r - i) 0 e ∙ along-same d q (i + (r - i)) (r + 0) 0 0 (omega arith) ∙ along-zero d q)
+      | inr after ↦ far Behind (i - r) (omega arith) (near reach) (along-then d q p i r 0 (i - r) e ∙ along-same d q (i + 0) (r + (i - r)) 0 0 (omega arith) ∙ along-zero d q)
+    ] where
+      cases : (i r : ℕ) → (i < r) ⊎ (r ≤ i)
+      cases i r = grind arith
+
+      short : (r ≡ 4) ⊎ (r ≡ 5) → r - i ≤ 5
+      short (inl four) = omega arith
+      short (inr five) = omega arith
+
+      near : (r ≡ 4) ⊎ (r ≡ 5) → i - r ≤ 5
+      near (inl four) = omega arith
+      near (inr five) = omega arith
+
+    pub code_far : (t : Side) (r : ℕ) → (r ≡ 4) ⊎ (r ≡ 5) → line_code r (put b s p) t d q ≡ line_code r b t d q
+    unfolding line_code
+    code_far t r reach = digits_same (λ i. digit_at b t (along d q i r)) (λ i. digit_at (put b s p) t (along d q i r)) r reach (λ i low other. digit_else t (along d q i r) (unseen r i reach low other))
 
 -- ---- the next points in one way
-
-any_some : (f : ℕ → Bool) (n a : ℕ) → list_any f (range_with_len a n) ≡ true → (k : ℕ) × (a ≤ k) × (k < a + n) × (f k ≡ true)
-any_some f zero a h = cc
-any_some f (suc n) a h = by_test (f a) refl h (any_some f n (a + 1)) where
-  by_test : (t : Bool) → f a ≡ t → (t || list_any f (range_with_len (a + 1) n)) ≡ true → (list_any f (range_with_len (a + 1) n) ≡ true → (k : ℕ) × (a + 1 ≤ k) × (k < a + 1 + n) × (f k ≡ true)) → (k : ℕ) × (a ≤ k) × (k < a + suc n) × (f k ≡ true)
-  by_test true e k rest = (a, omega arith, omega arith, e)
-  by_test false e k rest = let more = rest k in (more.0, let low = more.1 in omega arith, let high = more.2 in omega arith, more.3)
 
 any_more : (f : ℕ → Bool) (n a : ℕ) → f (a + n) ≡ false → list_any f (range_with_len a (suc n)) ≡ list_any f (range_with_len a n)
 any_more f zero a h = let z : a + 0 ≡ a = omega arith in rw (rw z at h) refl
@@ -44,11 +182,6 @@ any_more f (suc n) a h =
     ap (λ r. f a || r) (any_more f n (a + 1) (rw e at h))
 
 module _ (d : Axis) (p : Point) where
-  pub near_found : (w : Way) (n : ℕ) (q : Point) → is_near w d p n q ≡ true → (k : ℕ) × (1 ≤ k) × (k ≤ n) × (towards w d p k ≡ Some q)
-  near_found w n q h =
-      let found = any_some (λ k. is_at q (towards w d p k)) n 1 h in
-      (found.0, found.1, let high = found.2 in omega arith, is_at-Some q _ found.3)
-
   pub near_yes : (w : Way) (n k : ℕ) (q : Point) → 1 ≤ k → k ≤ n → towards w d p k ≡ Some q → is_near w d p n q ≡ true
   near_yes w n k q low high h = any_found (λ k. is_at q (towards w d p k)) n 1 k low (omega arith) (ap (is_at q) h ∙ is_same_point-itself q)
 
@@ -231,3 +364,43 @@ weight_at w r digit (suc (suc zero)) low = refl
 weight_at w r digit (suc (suc (suc zero))) low = refl
 weight_at w r digit (suc (suc (suc (suc zero)))) low = refl
 weight_at w r digit (suc (suc (suc (suc (suc k))))) low = absurd (omega arith)
+
+module _ (b : Grid) (p : Point) (ok : IsBoard b) (on : is_on b p ≡ true) (w : Way) (d : Axis) (r : Bool) (s width height most k : ℕ) (way : r ≡ goes_on w d) (wide : width ≡ b.width) (tall : height ≡ b.height) (far : s ≡ stride d width) (left : most ≡ steps_left w d width height p) (more : k < most) where
+  stepped : StepOn b w d p (k + 1)
+  stepped = step_on b p on w d (k + 1) (let same = left_by b w d p most width height wide tall left in omega arith)
+
+  walked : Walked r (p.y * width + p.x) ((k + 1) * s) (place_of b stepped.0)
+  walked = walked_to b p stepped.0 d w (k + 1) width s r way wide far (place_walk b p stepped.0 (k + 1) (let low = ok.wide in omega arith) w d stepped.1)
+
+  pub back : r ≡ false → (k + 1) * s ≤ p.y * width + p.x
+  back h = Walked-back r (p.y * width + p.x) ((k + 1) * s) (place_of b stepped.0) walked h
+
+  module _ (place : ℕ) (here : place ≡ place_after r (p.y * width + p.x) ((k + 1) * s)) where
+    place_is : place ≡ place_of b stepped.0
+    place_is = here ∙ sym (Walked-place r (p.y * width + p.x) ((k + 1) * s) (place_of b stepped.0) walked)
+
+    module _ (rule : RuleKind) (side : Side) (ch : Change) (can : can_change ch b side p ≡ true) (codes : List Codes) (h : TellsSoFar rule b (changed ch b side p) d (followed w b d p k) codes) where
+      read : slice_get codes (place_of b stepped.0) ≡ Some (codes_at rule b d stepped.0)
+      read = follow_read rule b side p ok d ch can w k stepped.0 stepped.1 stepped.2 codes h
+
+      pub place_within : place < length codes
+      place_within = rw place_is (slice_get_within codes (place_of b stepped.0) _ read)
+
+      module _ (black white : List ℕ) (as_black : black ≡ weights_to w (reach_of rule Black) (digit_of_stone side Black)) (as_white : white ≡ weights_to w (reach_of rule White) (digit_of_stone side White)) (low : k < 5) (other : Codes) where
+        read_is : get_or codes place other ≡ codes_at rule b d stepped.0
+        read_is = rw place_is (get_or_from_slice_get codes (place_of b stepped.0) _ other read)
+
+        black_is : get_or black k 0 ≡ weight w (reach_of rule Black) (digit_of_stone side Black) (k + 1)
+        black_is = ap (λ xs. get_or xs k 0) as_black ∙ weight_at w _ _ k low
+
+        white_is : get_or white k 0 ≡ weight w (reach_of rule White) (digit_of_stone side White) (k + 1)
+        white_is = ap (λ xs. get_or xs k 0) as_white ∙ weight_at w _ _ k low
+
+        pub change_fits : FitChange ch (get_or codes place other) (get_or black k 0) (get_or white k 0)
+        change_fits = rw (read_is, black_is, white_is) (codes_fit rule b side p ok d w (k + 1) stepped.0 stepped.1 (omega arith) (omega arith) ch can)
+
+        now_is : (v : Codes) → v ≡ shifted ch (get_or codes place other) (get_or black k 0) (get_or white k 0) → v ≡ codes_at rule (changed ch b side p) d stepped.0
+        now_is v e = e ∙ rw (read_is, black_is, white_is) (sym (codes_near rule b side p ok d w (k + 1) stepped.0 stepped.1 (omega arith) (omega arith) ch can))
+
+        pub step_followed : (v : Codes) → v ≡ shifted ch (get_or codes place other) (get_or black k 0) (get_or white k 0) → TellsSoFar rule b (changed ch b side p) d (followed w b d p (k + 1)) (slice_set codes place v)
+        step_followed v e = rw (place_is, now_is v e) (follow_step rule b side p ok d ch can w k stepped.0 stepped.1 stepped.2 codes h)

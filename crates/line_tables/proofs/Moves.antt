@@ -1,12 +1,12 @@
 -- What a move leaves of a lawful position and of its five points.
 use Rattle.std.proofs.Common.{◌≡◌, ℕ, true, List, sym, ap, subst, ◌∙◌}
-use Rattle.game_rules.proofs.Common.{Grid, is_on, is_empty, holds, put, lift, IsPosition, IsUnwon, outcome, mover, other, after}
+use Rattle.game_rules.proofs.Common.{Grid, is_empty, holds, put, lift, IsPosition, outcome, mover, other, after}
 use Rattle.game_rules.specs.declared.RuleKind.{RuleKind}
 use Rattle.game_rules.specs.declared.Side.{Side}
 use Rattle.game_rules.specs.declared.Outcome.TheVariants.{GoesOn}
 use Rattle.game_rules.specs.declared.Point.{Point}
-use Rattle.game_rules.proofs.Boards.{and_left, lift-put, is_empty-on, holds-put_same}
-use Rattle.game_rules.proofs.Positions.{IsPosition-after, IsPosition-lift, GoesOn-empty, lift-empty, put-lift}
+use Rattle.game_rules.proofs.Boards.{lift-put, is_empty-on, holds-put_same}
+use Rattle.game_rules.proofs.Positions.{IsPosition-after, GoesOn-empty, put-lift}
 use Rattle.line_tables.specs.Tables.{TellsSide}
 
 -- the five points of a side that is said in another way
@@ -38,12 +38,6 @@ module _ (rule : RuleKind) (b d : Grid) (side : Side) (p : Point) (lawful : IsPo
 module _ (rule : RuleKind) (b d : Grid) (side : Side) (p : Point) (lawful : IsPosition rule b) (mine : holds b (other (mover b)) p ≡ true) (moved : side ≡ other (mover b)) (undone : d ≡ lift b p) where
   pub undone_stone : holds b side p ≡ true
   undone_stone = ap (λ (s : Side). holds b s p) moved ∙ mine
-
-  pub undone_lawful : IsUnwon rule (lift b p) → IsPosition rule d
-  undone_lawful unwon = subst (λ (g : Grid). IsPosition rule g) (sym undone) (IsPosition-lift rule b p lawful mine unwon)
-
-  pub undone_empty : is_empty d p ≡ true
-  undone_empty = rw undone (lift-empty b p lawful.board (and_left (is_on b p) _ mine))
 
   again : put d side p ≡ b
   again = ap (λ (g : Grid). put g side p) undone ∙ put-lift b side p undone_stone

@@ -1,6 +1,5 @@
 -- Replies and answers are spelled in one way.
-use Rattle.std.proofs.Common.{◌≡◌, ℕ, true, refl, sym, ap, subst, ◌∙◌, arith, List, [], ◌∷◌, ◌++◌, get_or, inl, inr, ◌<◌, ◌^◌}
-use Rattle.std.specs.Prelude.{Option, Some, None, Err, codes}
+use Rattle.std.proofs.Common.{◌≡◌, ℕ, true, refl, sym, ap, subst, ◌∙◌, arith, List, [], ◌∷◌, ◌++◌, get_or, inl, inr, ◌<◌, ◌^◌, Option, Some, None, Err, codes}
 use Rattle.std.specs.List.{AllByRecursion}
 use Rattle.std.specs.Fmt.{decimal}
 use Rattle.std.proofs.lemmas.Fmt.{decimal_injective}
@@ -14,18 +13,13 @@ use Rattle.strategy_graph.specs.declared.Rest.TheVariants.{Wins, To, Nothing}
 use Rattle.strategy_graph.specs.declared.Node.{Node}
 use Rattle.text_lines.specs.declared.fault.Fault.{Fault}
 use Rattle.text_lines.specs.declared.fault.Fault.TheVariants.{Bad, Memory}
-use Rattle.text_lines.specs.Lines.{line_feed}
-use Rattle.text_lines.specs.Spellings.{space, point_text}
+use Rattle.text_lines.proofs.Common.{line_feed, space, point_text, Reads, Gives, ReadsLine, GivesLine, IsWithin, is_free, tail_text}
 use Rattle.position_files.proofs.Spellings.{side_fits}
-use Rattle.position_files.specs.Tables.{arrow, reply_text, replies_text, rest_text, answers_text, node_line, start_line}
-use Rattle.text_lines.specs.Reading.{Reads, Gives, ReadsLine, GivesLine, IsWithin, is_free, tail_text}
-use Rattle.position_files.specs.Boards.{IsSide}
-use Rattle.position_files.specs.Answers.{ReplyFits, RestFits, OpenRestFits, AnswersFit, NodeFits, StartFits, answers_with}
+use Rattle.position_files.proofs.Common.{arrow, reply_text, replies_text, rest_text, answers_text, node_line, start_line, IsSide, ReplyFits, RestFits, OpenRestFits, AnswersFit, NodeFits, StartFits, answers_with}
 use Rattle.text_lines.proofs.Cuts.{same_word, is_free-append}
 use Rattle.text_lines.proofs.Decimals.{decimal-free}
 use Rattle.text_lines.proofs.Items.{AreItems, items_tail, items_text-injective}
-use Rattle.text_lines.proofs.PointLaws.{point_items, point-free}
-use Rattle.text_lines.proofs.LineLaws.{prefix_none, prefix_bad}
+use Rattle.text_lines.proofs.LineLaws.{point_items, point-free, prefix_none, prefix_bad}
 
 module _ (width height : ℕ) (wide : IsSide width) (high : IsSide height) where
   -- ---- replies
@@ -90,8 +84,7 @@ no_rest_number bytes word text next tail after_next parts free not_only is text_
 -- a rest that is not winning fits
 open_fits : (r : Rest) → OpenRestFits r → RestFits r
 open_fits Wins fits = tt
-open_fits (To j) fits = fits
-open_fits Nothing fits = fits
+open_fits _ fits = fits
 
 -- a text begins with one rest
 pub rest_same : (r : Rest) (t : Option (List ℕ)) (q : Rest) (u : Option (List ℕ)) → RestFits r → RestFits q → rest_text r ++ tail_text space t ≡ rest_text q ++ tail_text space u → (r ≡ q) × (t ≡ u)

@@ -1,6 +1,5 @@
 -- Where bytes leave the lines of a table up to its last node.
-use Rattle.std.proofs.Common.{◌≡◌, ℕ, ◌+◌, ◌^◌, ◌≤◌, ◌<◌, true, refl, sym, ap, subst, ◌∙◌, arith, List, [], ◌∷◌, ◌++◌, length, take, map, inl}
-use Rattle.std.specs.Prelude.{None, codes}
+use Rattle.std.proofs.Common.{◌≡◌, ℕ, ◌+◌, ◌^◌, ◌≤◌, ◌<◌, true, refl, sym, ap, subst, ◌∙◌, arith, List, [], ◌∷◌, ◌++◌, length, take, map, inl, None, codes}
 use Rattle.std.specs.List.{AllByRecursion}
 use Rattle.std.specs.Fmt.{decimal}
 use Rattle.std.proofs.lemmas.Fmt.{decimal_injective}
@@ -11,8 +10,7 @@ use Rattle.strategy_graph.specs.Tables.{IsTable}
 use Rattle.strategy_graph.specs.declared.Node.{Node}
 use Rattle.strategy_graph.specs.declared.TheConstants.{MAX_NODES}
 use Rattle.strategy_graph.proofs.Filling.{corner, filled_table}
-use Rattle.text_lines.specs.Lines.{line_feed, text_of, LeavesAt}
-use Rattle.text_lines.specs.Reading.{ReadsLine, IsBetween, is_free}
+use Rattle.text_lines.proofs.Common.{line_feed, text_of, LeavesAt, ReadsLine, IsBetween, is_free}
 use Rattle.text_lines.proofs.Cuts.{is_free-append}
 use Rattle.text_lines.proofs.Decimals.{decimal-free}
 use Rattle.text_lines.proofs.TextLaws.{AreFree, free_append, same_lines, text_of-push}
@@ -21,13 +19,8 @@ use Rattle.position_files.specs.declared.TheConstants.{MAX_MOVES}
 use Rattle.position_files.specs.declared.tables.Body.{Body}
 use Rattle.position_files.specs.declared.error.HeadError.{HeadError}
 use Rattle.position_files.specs.declared.error.HeadError.TheVariants.{BadLine, Memory}
-use Rattle.position_files.specs.Positions.{size_line, board_lines}
-use Rattle.position_files.specs.Tables.{node_line, nodes_lines}
-use Rattle.position_files.specs.Answers.{NodeFits}
-use Rattle.position_files.specs.Bodies.{BodyFits, body_lines, IsBodyLines}
-use Rattle.position_files.specs.Faults.{after_lines}
-use Rattle.position_files.specs.Sections.{IsBoardLines, AreNodes, AreNodeLines, IsSectionFault}
-use Rattle.position_files.proofs.NodeLaws.{nodes_on}
+use Rattle.position_files.proofs.Common.{size_line, board_lines, node_line, nodes_lines, NodeFits, BodyFits, body_lines, IsBodyLines, after_lines, IsBoardLines, AreNodes, AreNodeLines, IsSectionFault}
+use Rattle.position_files.proofs.SectionLaws.{nodes_on}
 use Rattle.position_files.proofs.BoardLines.{sides_of, board-free, same_sizes}
 use Rattle.position_files.proofs.Completions.{corner_on, nodes_fit}
 

@@ -1,6 +1,5 @@
 -- What a text that has begun can go on with, and that what a table's text names fits.
-use Rattle.std.proofs.Common.{◌≡◌, ℕ, zero, suc, ◌≤◌, ◌<◌, true, refl, arith, List, [], ◌∷◌, ◌++◌, length, replicate, get_or}
-use Rattle.std.specs.Prelude.{Some}
+use Rattle.std.proofs.Common.{◌≡◌, ℕ, zero, suc, ◌≤◌, ◌<◌, true, refl, arith, List, [], ◌∷◌, ◌++◌, length, replicate, get_or, Some}
 use Rattle.std.specs.List.{AllByRecursion}
 use Rattle.game_rules.specs.Grid.{Grid, IsBoard, is_on}
 use Rattle.game_rules.specs.declared.Point.{Point}
@@ -8,14 +7,13 @@ use Rattle.game_rules.proofs.Boards.{on_x, on_y}
 use Rattle.strategy_graph.specs.Tables.{Answers, answers_of, is_winning, rest_node, names_below, IsNode, IsTable, TableOnBoard, NamesOnBoard, RepliesOn}
 use Rattle.strategy_graph.specs.declared.Reply.{Reply}
 use Rattle.strategy_graph.specs.declared.Rest.{Rest}
-use Rattle.strategy_graph.specs.declared.Rest.TheVariants.{Wins, To, Nothing}
+use Rattle.strategy_graph.specs.declared.Rest.TheVariants.{To}
 use Rattle.strategy_graph.specs.declared.Node.{Node}
 use Rattle.strategy_graph.specs.declared.TheConstants.{MAX_NODES}
 use Rattle.strategy_graph.proofs.Naming.{reply-below, rest-below}
 use Rattle.strategy_graph.proofs.Filling.{corner, node_at}
 use Rattle.text_lines.specs.Reading.{IsWithin}
-use Rattle.position_files.specs.Boards.{IsSide}
-use Rattle.position_files.specs.Answers.{AnswersFit, NodeFits, ReplyFits, RestFits}
+use Rattle.position_files.proofs.Common.{IsSide, AnswersFit, NodeFits, ReplyFits, RestFits}
 use Rattle.position_files.proofs.Stones.{is_on_within}
 
 pub corner_on : (b : Grid) → IsBoard b → NamesOnBoard b corner
@@ -50,9 +48,8 @@ within_on : (b : Grid) (p : Point) → is_on b p ≡ true → IsWithin b.width b
 within_on b p on_it = record { column = on_x b p on_it; row = on_y b p on_it }
 
 rest_fits : (r : Rest) (k : ℕ) → k ≤ MAX_NODES → ((j : ℕ) → rest_node r ≡ Some j → j < k) → RestFits r
-rest_fits Wins k few h = tt
 rest_fits (To j) k few h = let low : j < k = h j refl in omega (arith, low, few)
-rest_fits Nothing k few h = tt
+rest_fits _ k few h = tt
 
 pub answers_fit : (b : Grid) (a : Answers) (k : ℕ) → RepliesOn b a.replies → names_below a k ≡ true → k ≤ MAX_NODES → (is_winning a.rest ≡ true → a.replies ≡ []) → AnswersFit b.width b.height a
 answers_fit b a k on_it below few winning =

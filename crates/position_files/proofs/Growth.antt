@@ -1,6 +1,5 @@
 -- Texts that grow by one piece after another.
-use Rattle.std.proofs.Common.{◌≡◌, ℕ, ◌+◌, sym, ap, ◌∙◌, List, [], ◌∷◌, ◌++◌, append_assoc, take, map, length}
-use Rattle.std.specs.Prelude.{Some, slice_get, codes}
+use Rattle.std.proofs.Common.{◌≡◌, ℕ, ◌+◌, sym, ap, ◌∙◌, List, [], ◌∷◌, ◌++◌, append_assoc, take, map, length, Some, slice_get, codes}
 use Rattle.std.specs.Fmt.{decimal}
 use Rattle.std.proofs.lemmas.List.{map-append, take_more, flat_map_more}
 use Rattle.std.proofs.lemmas.List.Concat.{flat_map-append}
@@ -12,8 +11,7 @@ use Rattle.strategy_graph.specs.Tables.{Answers}
 use Rattle.strategy_graph.specs.declared.Node.{Node}
 use Rattle.strategy_graph.specs.declared.roots.Root.TheVariants.{Attack, Defend}
 use Rattle.text_lines.specs.Lines.{ended, text_of}
-use Rattle.position_files.specs.Positions.{rule_line, size_line, black_line, white_line, board_lines}
-use Rattle.position_files.specs.Tables.{node_line, start_line, nodes_lines, table_text}
+use Rattle.position_files.proofs.Common.{rule_line, size_line, black_line, white_line, board_lines, node_line, start_line, nodes_lines, table_text}
 
 five_lines : (a b c d e : List ℕ) → (((ended a ++ ended b) ++ ended c) ++ ended d) ++ ended e ≡ text_of (a ∷ b ∷ c ∷ d ∷ e ∷ [])
 five_lines a b c d e = simp append_assoc

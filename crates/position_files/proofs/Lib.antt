@@ -1,15 +1,16 @@
+-- The laws of texts of positions and tables. They serve this crate alone, but for the last.
+
+-- the words of texts, in one place
+pub mod Common
 mod Spellings
 mod Stones
-mod BoardLaws
 mod BoardLines
 mod PositionBad
 mod GameLaws
 mod AnswerLaws
-mod NodeLaws
+mod SectionLaws
 mod TableLaws
 mod Completions
-mod NodeBad
-mod SectionLaws
 mod BodyBad
 mod TableTexts
 mod TableBad

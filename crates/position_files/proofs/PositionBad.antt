@@ -1,6 +1,6 @@
 -- Where bytes leave the texts of positions, and that a text is that of one position.
-use Rattle.std.proofs.Common.{◌≡◌, ℕ, ◌+◌, refl, sym, ap, subst, ◌∙◌, arith, List, [], ◌∷◌, ◌++◌, length, take}
-use Rattle.std.specs.Prelude.{codes, Some}
+use Rattle.std.proofs.Common.{◌≡◌, ℕ, ◌+◌, refl, sym, ap, subst, ◌∙◌, arith, List, [], ◌∷◌, ◌++◌, length, take, codes}
+use Rattle.std.specs.Prelude.{Some}
 use Rattle.std.proofs.lemmas.List.{append-nil}
 use Rattle.game_rules.specs.Grid.{Grid, IsBoard}
 use Rattle.game_rules.specs.declared.RuleKind.{RuleKind}
@@ -12,15 +12,13 @@ use Rattle.position_files.specs.declared.PositionFile.{PositionFile}
 use Rattle.position_files.specs.declared.error.HeadError.{HeadError}
 use Rattle.position_files.specs.declared.error.HeadError.TheVariants.{BadLine as BadHead, Memory as NoRoom}
 use Rattle.text_lines.specs.Lines.{line_feed, text_of, FirstBad}
-use Rattle.position_files.specs.Positions.{board_lines, position_text, IsTextOfPosition, IsPositionText}
-use Rattle.position_files.specs.Sections.{IsBoardLines, IsSectionFault}
-use Rattle.position_files.specs.Faults.{IsPositionFault, after_lines, in_file}
 use Rattle.position_files.proofs.Stones.{IsBoard-empty}
 use Rattle.text_lines.proofs.TextLaws.{text_of-cons, AreFree, text_of-injective, whole_text}
 use Rattle.text_lines.proofs.Leaving.{HasParts, leaves_after}
 use Rattle.text_lines.proofs.Badness.{first_bad, too_many}
 use Rattle.position_files.proofs.BoardLines.{board-free, board-length, board_lines-injective, least_side}
 use Rattle.foul_judge.specs.declared.position.PositionError.{PositionError}
+use Rattle.position_files.proofs.Common.{board_lines, position_text, IsTextOfPosition, IsPositionText, IsBoardLines, IsSectionFault, IsPositionFault, IsRefusedAs, after_lines, in_file}
 
 -- ---- the lines of a position
 

@@ -1,11 +1,9 @@
 -- A text is that of one value, and nothing is said against the text of a lawful one.
-use Rattle.std.proofs.Common.{◌≡◌, refl, sym, ◌∙◌, ℕ, List, [], ◌∷◌, ◌++◌, drop, map, subst, ap, length}
+use Rattle.std.proofs.Common.{◌≡◌, refl, sym, ◌∙◌, ℕ, List, [], ◌∷◌, ◌++◌, drop, map, subst, ap, length, Some, None}
 use Rattle.std.proofs.lemmas.List.{length-map}
 use Rattle.text_lines.proofs.Badness.{front_bad}
 use Rattle.position_files.proofs.BoardLines.{board-free, board-length}
 use Rattle.position_files.proofs.AnswerLaws.{start_line-free}
-use Rattle.position_files.proofs.NodeBad.{node_lines-free}
-use Rattle.std.specs.Prelude.{Some, None}
 use Rattle.game_rules.proofs.Common.{Grid, IsPosition}
 use Rattle.game_rules.specs.declared.RuleKind.{RuleKind}
 use Rattle.strategy_graph.specs.Roots.{root_depth}
@@ -18,15 +16,12 @@ use Rattle.position_files.specs.declared.error.HeadError.{HeadError}
 use Rattle.position_files.specs.declared.error.HeadError.TheVariants.{BadLine as BadHead, Memory as NoRoom}
 use Rattle.position_files.specs.declared.error.FileError.{FileError}
 use Rattle.position_files.specs.declared.error.FileError.TheVariants.{BadLine, Unlawful, WrongMoves, Memory}
-use Rattle.position_files.specs.Positions.{IsTextOfPosition, board_lines}
-use Rattle.position_files.specs.Tables.{IsTextOfTable, node_line, start_line}
-use Rattle.position_files.specs.Faults.{IsPositionFault, IsTableFault, IsGameFault}
-use Rattle.position_files.specs.ReadBack.{HeadsReadBack, NamesFirstBad, NodesNameFirstBad, NodesReadBack, PositionsReadBack, StartsNameFirstBad, StartsReadBack, TablesReadBack, GamesReadBack}
-use Rattle.position_files.specs.Sections.{AreNodeLines, IsBoardLines, IsSectionFault, IsStartLines}
+use Rattle.position_files.specs.Faults.{IsGameFault}
+use Rattle.position_files.specs.ReadBack.{GamesReadBack}
 use Rattle.text_lines.specs.Lines.{text_of, BeginsWith, FirstBad}
 use Rattle.text_lines.proofs.TextLaws.{AreFree, front_parts, text_of-cons}
 use Rattle.text_lines.proofs.Leaving.{not_left}
-use Rattle.position_files.proofs.SectionLaws.{one_head, one_list, one_start, start_parts}
+use Rattle.position_files.proofs.SectionLaws.{one_head, one_list, one_start, start_parts, node_lines-free}
 use Rattle.position_files.proofs.PositionBad.{one_position}
 use Rattle.position_files.proofs.TableTexts.{one_table}
 use Rattle.position_files.specs.declared.GameFile.{GameFile}
@@ -34,6 +29,7 @@ use Rattle.position_files.specs.declared.error.GameError.{GameError}
 use Rattle.position_files.specs.declared.error.GameError.TheVariants.{BadLine as BadGame, Unlawful as UnlawfulGame, Memory as NoGame}
 use Rattle.position_files.specs.Games.{IsTextOfGame}
 use Rattle.position_files.proofs.GameLaws.{one_game}
+use Rattle.position_files.proofs.Common.{IsTextOfPosition, board_lines, IsTextOfTable, node_line, start_line, IsPositionFault, IsTableFault, HeadsReadBack, NamesFirstBad, NodesNameFirstBad, NodesReadBack, PositionsReadBack, StartsNameFirstBad, StartsReadBack, TablesReadBack, AreNodeLines, IsBoardLines, IsSectionFault, IsStartLines}
 
 -- nothing is said against a lawful position
 not-unlawful : (kind : RuleKind) (b : Grid) (why : PositionError) → IsPosition kind b → refusal kind b ≡ Some why → ⊥

@@ -1,20 +1,16 @@
 -- Rules and sizes are spelled in one way.
-use Rattle.std.proofs.Common.{◌≡◌, ℕ, ◌^◌, ◌<◌, Bool, true, false, cond, refl, sym, ◌∙◌, arith, List, ◌∷◌, ◌++◌, eqb, inl}
-use Rattle.std.specs.Prelude.{Option, Some, None}
+use Rattle.std.proofs.Common.{◌≡◌, ℕ, ◌^◌, ◌<◌, Bool, true, false, cond, refl, sym, ◌∙◌, arith, List, ◌∷◌, ◌++◌, eqb, inl, Option, Some, None}
 use Rattle.std.specs.Fmt.{decimal}
 use Rattle.std.proofs.lemmas.Bool.{eqb-true, eq-eqb, false≢true}
 use Rattle.std.proofs.lemmas.Fmt.{decimal_injective}
 use Rattle.std.proofs.lemmas.List.{append-nil}
 use Rattle.game_rules.specs.declared.RuleKind.{RuleKind}
-use Rattle.game_rules.specs.declared.RuleKind.TheVariants.{Freestyle, Exact, Renju}
-use Rattle.text_lines.specs.Lines.{line_feed}
-use Rattle.text_lines.specs.Spellings.{comma, pair_text}
-use Rattle.text_lines.specs.Reading.{is_free, tail_text}
+use Rattle.game_rules.specs.declared.RuleKind.TheVariants.{Freestyle}
+use Rattle.text_lines.proofs.Common.{line_feed, comma, pair_text, is_free, tail_text}
 use Rattle.text_lines.proofs.Cuts.{same_word}
 use Rattle.text_lines.proofs.Decimals.{decimal-free}
-use Rattle.text_lines.proofs.PointLaws.{pair-free}
-use Rattle.position_files.specs.Positions.{rule_word, size_text}
-use Rattle.position_files.specs.Boards.{IsSide, AreSides}
+use Rattle.text_lines.proofs.LineLaws.{pair-free}
+use Rattle.position_files.proofs.Common.{rule_word, size_text, IsSide, AreSides}
 
 -- a width or a height is a number of 64 bits
 pub side_fits : (n : ℕ) → IsSide n → n < 2 ^ 64
@@ -94,8 +90,7 @@ size_text-injective a b fa fb e =
 
 pub rule_word-free : (kind : RuleKind) → Unit {0} → is_free line_feed (rule_word kind) ≡ true
 rule_word-free Freestyle h = refl
-rule_word-free Exact h = refl
-rule_word-free Renju h = refl
+rule_word-free _ h = refl
 
 pub size-free : (sides : ℕ × ℕ) → AreSides sides → is_free line_feed (size_text sides.0 sides.1) ≡ true
 size-free sides fits =

@@ -15,8 +15,7 @@ use Rattle.game_rules.proofs.Boards.{stone_of_side, stone_of-other, place_fits, 
 use Rattle.game_rules.proofs.Positions.{IsBoard-put}
 use Rattle.game_rules.proofs.Cells.{empty_stone, taken_by, not_both_stones}
 use Rattle.game_rules.proofs.Marks.{point_at, marked, is_clear, marked-append, clear_none, clear_drop, marked-set_other, next_mark, same_tests, clear_from_none, clear_at, clear_replicate, empty_board}
-use Rattle.position_files.specs.Positions.{stones}
-use Rattle.position_files.specs.Boards.{SameBut, IsSide}
+use Rattle.position_files.proofs.Common.{stones, SameBut, IsSide}
 use Rattle.text_lines.specs.Reading.{IsWithin}
 
 module _ (at : ℕ → Point) (test : Cell → Bool) where
@@ -180,8 +179,7 @@ not_earlier first now s points i least p h next early b ok same_rest own_points 
     let same_width : b.width ≡ now.width = same_rest.width ∙ sym h.width in
     let place : place_of now p ≡ p.y * b.width + p.x = ap (λ n. p.y * n + p.x) (sym same_width) in
     let mark = next_mark b.width (is_stone_of s) least (drop least b.cells) p (drop (i + 1) points) (place_of now p) place (h.only b ok same_rest.width same_rest.height own_points ∙ next) in
-    let later = mark.later in
-    omega (arith, early, later)
+    omega (arith, early, mark.later)
 
 pub not_taken : (first now : Grid) (s : Side) (points : List Point) (i least : ℕ) (p : Point) → ArePut first now s points i least → drop i points ≡ p ∷ drop (i + 1) points → least ≤ place_of now p → is_on now p ≡ true → is_empty now p ≡ false → (b : Grid) → IsBoard b → SameBut s first b → stones b s ≡ points → ⊥
 not_taken first now s points i least p h next later on taken b ok same_rest own_points =

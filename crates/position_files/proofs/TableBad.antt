@@ -1,6 +1,5 @@
 -- Where bytes leave the texts of tables.
-use Rattle.std.proofs.Common.{◌≡◌, ℕ, suc, ◌+◌, true, refl, sym, ap, subst, ◌∙◌, arith, List, [], ◌∷◌, ◌++◌, length, take, get_or, inl, inr}
-use Rattle.std.specs.Prelude.{None, codes}
+use Rattle.std.proofs.Common.{◌≡◌, ℕ, suc, ◌+◌, true, refl, sym, ap, subst, ◌∙◌, arith, List, [], ◌∷◌, ◌++◌, length, take, get_or, inl, inr, None, codes}
 use Rattle.std.proofs.lemmas.List.{append-nil, length-append, take_all}
 use Rattle.std.proofs.Math.Seq.{take-append_seam}
 use Rattle.game_rules.specs.declared.RuleKind.TheVariants.{Freestyle}
@@ -9,8 +8,7 @@ use Rattle.game_rules.proofs.Marks.{empty_board}
 use Rattle.foul_judge.specs.Lawful.{refusal}
 use Rattle.strategy_graph.specs.Tables.{Answers, IsTable}
 use Rattle.strategy_graph.specs.declared.roots.Root.{Root}
-use Rattle.text_lines.specs.Lines.{line_feed, text_of, FirstBad, LeavesAt}
-use Rattle.text_lines.specs.Reading.{ReadsLine, is_free}
+use Rattle.text_lines.proofs.Common.{line_feed, text_of, FirstBad, LeavesAt, ReadsLine, is_free}
 use Rattle.text_lines.proofs.LineLaws.{same_line}
 use Rattle.text_lines.proofs.TextLaws.{text_of-cons, text_of-push, same_lines}
 use Rattle.text_lines.proofs.Leaving.{HasParts, Splits, leaves_after, left_first}
@@ -22,11 +20,7 @@ use Rattle.position_files.specs.declared.error.FileError.{FileError}
 use Rattle.position_files.specs.declared.error.FileError.TheVariants.{BadLine, Unlawful, WrongMoves, Memory}
 use Rattle.position_files.specs.declared.error.HeadError.{HeadError}
 use Rattle.position_files.specs.declared.error.HeadError.TheVariants.{BadLine as BadHead, Memory as NoRoom}
-use Rattle.position_files.specs.Tables.{IsTextOfTable, IsTableText, start_line}
-use Rattle.position_files.specs.Answers.{StartFits}
-use Rattle.position_files.specs.Bodies.{BodyFits, body_lines, IsBodyLines, IsFinishFault}
-use Rattle.position_files.specs.Sections.{IsSectionFault, IsStartLines}
-use Rattle.position_files.specs.Faults.{IsTableFault, IsMiscounted, after_lines, in_file}
+use Rattle.position_files.proofs.Common.{IsTextOfTable, IsTableText, start_line, StartFits, BodyFits, body_lines, IsBodyLines, IsFinishFault, IsSectionFault, IsStartLines, IsTableFault, IsMiscounted, after_lines, in_file}
 use Rattle.position_files.proofs.Stones.{IsBoard-empty}
 use Rattle.position_files.proofs.TableLaws.{file_of}
 use Rattle.position_files.proofs.BoardLines.{least_side}
@@ -142,11 +136,7 @@ module _ (bytes rest : List ℕ) (e : bytes ≡ codes "renju-table 1" ++ line_fe
       let begun : rest ≡ text_of (take (suc (suc (suc (suc (suc (suc (length body.table))))))) (body_lines other ++ [])) ++ others =
       after.text ∙ ap (λ n. text_of (take n after.lines) ++ others) six_more ∙ ap (λ (l : List (List ℕ)). text_of (take (suc (suc (suc (suc (suc (suc (length body.table))))))) l) ++ others) (after.are.3 ∙ sym (append-nil (body_lines other))) in
       let tell = body_tell 1 1 (length body.table) body other [] tail others rest fits after.are.1 text begun in
-      let counts = tell.counts in
-      let others_count = body-length other in
-      let lines = ap length after.are.3 in
-      let first = after.count in
-      omega (arith, count, counts, others_count, lines, first)) in
+      omega (arith, count, tell.counts, body-length other, ap length after.are.3, after.count)) in
       subst (FirstBad IsTableText bytes) (omega (arith, count)) found
 
 -- ---- tables whose root is a start
@@ -232,7 +222,5 @@ module _ (bytes rest : List ℕ) (e : bytes ≡ codes "renju-table 2" ++ line_fe
         (λ lt others is f.
         let after = after_first (codes "renju-table 2") IsDefendLines bytes rest others (length lines) lt refl e (defend_fronts lt is) f in
         let same = same_start_line after.lines others after.are (after.text ∙ ap (λ n. text_of (take n after.lines) ++ others) added) in
-        let first = after.count in
-        let counts = same.0 in
-        omega (arith, first, counts, added)) in
+        omega (arith, after.count, same.0, added)) in
         subst (FirstBad IsTableText bytes) (omega (arith, added, c, l)) found

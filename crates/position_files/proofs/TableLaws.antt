@@ -1,19 +1,14 @@
 -- Whole texts of tables.
-use Rattle.std.proofs.Common.{◌≡◌, ℕ, ◌-◌, true, refl, sym, ap, subst, ◌∙◌, arith, List, [], ◌∷◌, ◌++◌, length}
-use Rattle.std.specs.Prelude.{codes}
-use Rattle.std.proofs.lemmas.Bool.{lt-ltb}
+use Rattle.std.proofs.Common.{◌≡◌, ℕ, ◌-◌, true, refl, sym, ap, subst, ◌∙◌, arith, List, [], ◌∷◌, ◌++◌, length, codes}
 use Rattle.strategy_graph.specs.Tables.{Answers, IsTable, names_below}
-use Rattle.strategy_graph.specs.Roots.{root_below}
 use Rattle.strategy_graph.specs.declared.roots.Root.{Root}
 use Rattle.strategy_graph.specs.declared.roots.Root.TheVariants.{Attack, Defend}
 use Rattle.position_files.specs.declared.TableFile.{TableFile}
 use Rattle.position_files.specs.declared.tables.Body.{Body}
 use Rattle.text_lines.specs.Lines.{line_feed, text_of}
-use Rattle.position_files.specs.Tables.{IsTextOfTable, start_line, table_text}
-use Rattle.position_files.specs.Bodies.{BodyFits, IsFinished, body_lines}
-use Rattle.position_files.specs.Answers.{StartFits}
+use Rattle.position_files.proofs.Common.{IsTextOfTable, start_line, table_text, BodyFits, IsFinished, body_lines, StartFits}
 use Rattle.text_lines.proofs.TextLaws.{whole_text, text_of-push}
-use Rattle.position_files.proofs.NodeLaws.{replies_on}
+use Rattle.position_files.proofs.SectionLaws.{replies_on}
 
 -- the file of a body and a root
 abbrev pub file_of : Body → Root → TableFile
@@ -21,10 +16,6 @@ file_of body root = record { kind = body.kind; board = body.board; table = body.
 
 finished_text : (body : Body) (root : Root) (file : TableFile) (bytes : List ℕ) → IsFinished body root file → IsTextOfTable (file_of body root) bytes → IsTextOfTable file bytes
 finished_text body root file bytes done text = subst (λ (f : TableFile). IsTextOfTable f bytes) (sym done.file_is) text
-
--- the last node of a table with nodes
-pub last_below : (body : Body) (len : ℕ) → BodyFits 1 body → len ≡ length body.table → root_below (Attack (len - 1)) (length body.table) ≡ true
-last_below body len fits count = let some = fits.nodes.enough in lt-ltb (len - 1) (length body.table) (omega (arith, some, count))
 
 -- a body that ends the bytes is the text of a table whose root is its last node
 pub attack_text_of : (body : Body) (len : ℕ) (bytes rest : List ℕ) → BodyFits 1 body → IsTable body.table → len ≡ length body.table → bytes ≡ text_of (body_lines body) ++ rest → rest ≡ [] → IsTextOfTable (file_of body (Attack (len - 1))) (codes "renju-table 1" ++ line_feed ∷ bytes)

@@ -1,6 +1,5 @@
 -- The lines of whole tables, and that a text is that of one table.
-use Rattle.std.proofs.Common.{◌≡◌, ℕ, suc, ◌+◌, ◌-◌, true, refl, sym, ap, subst, ◌∙◌, arith, List, [], ◌∷◌, ◌++◌, length, take, drop, map, get_or, inl, inr, ◌⊎◌}
-use Rattle.std.specs.Prelude.{codes}
+use Rattle.std.proofs.Common.{◌≡◌, ℕ, suc, ◌+◌, ◌-◌, true, refl, sym, ap, subst, ◌∙◌, arith, List, [], ◌∷◌, ◌++◌, length, take, drop, map, get_or, inl, inr, ◌⊎◌, codes}
 use Rattle.std.specs.List.{AllByRecursion}
 use Rattle.std.specs.Fmt.{decimal}
 use Rattle.std.proofs.lemmas.Fmt.{decimal_injective}
@@ -13,21 +12,15 @@ use Rattle.strategy_graph.specs.declared.roots.Root.{Root}
 use Rattle.strategy_graph.specs.declared.roots.Root.TheVariants.{Attack, Defend}
 use Rattle.position_files.specs.declared.TableFile.{TableFile}
 use Rattle.position_files.specs.declared.tables.Body.{Body}
-use Rattle.text_lines.specs.Lines.{line_feed, text_of}
-use Rattle.position_files.specs.Positions.{board_lines}
-use Rattle.position_files.specs.Tables.{RootFits, IsTextOfTable, IsTableText, answers_text, node_line, nodes_lines, start_line, table_text}
-use Rattle.text_lines.specs.Reading.{is_free}
-use Rattle.position_files.specs.Answers.{NodeFits, StartFits}
-use Rattle.position_files.specs.Bodies.{BodyFits, body_lines, IsBodyLines}
+use Rattle.text_lines.proofs.Common.{line_feed, text_of, is_free}
+use Rattle.position_files.proofs.Common.{board_lines, RootFits, IsTextOfTable, IsTableText, answers_text, node_line, nodes_lines, start_line, table_text, NodeFits, StartFits, BodyFits, body_lines, IsBodyLines}
 use Rattle.text_lines.proofs.LineLaws.{same_line}
-use Rattle.position_files.proofs.BoardLaws.{width_side, height_side}
+use Rattle.position_files.proofs.BoardLines.{width_side, height_side, board-free, board_lines-injective}
 use Rattle.position_files.proofs.AnswerLaws.{answers_text-injective, start_line-free}
 use Rattle.text_lines.proofs.TextLaws.{text_of-push, AreFree, same_lines, text_of-injective, text_of-append, free_append}
-use Rattle.position_files.proofs.NodeLaws.{replies_on}
+use Rattle.position_files.proofs.SectionLaws.{replies_on, node_lines-free, nodes_injective}
 use Rattle.position_files.proofs.TableLaws.{file_of}
-use Rattle.position_files.proofs.BoardLines.{board-free, board_lines-injective}
 use Rattle.position_files.proofs.Completions.{answers_fit, nodes_fit}
-use Rattle.position_files.proofs.NodeBad.{node_lines-free, nodes_injective}
 use Rattle.position_files.proofs.BodyBad.{six, six_tell, SixTell, number-free}
 
 -- ---- a table is given by lines

@@ -35,8 +35,7 @@ bytes_of-get cells k below = get_or-map-range_with_len (byte_at cells) 0 256 k k
 
 code_of-small : (c : Cell) → code_of c < 4
 code_of-small Empty = lit< tt
-code_of-small Black = lit< tt
-code_of-small White = lit< tt
+code_of-small _ = lit< tt
 
 -- the bits of a cell tell the cell
 code_of-tells : (c d : Cell) → code_of c ≡ code_of d → c ≡ d

@@ -1,6 +1,5 @@
 -- A step that gives a leaf of the attacker a child for each move to be tried, or settles it where there is none.
-use Rattle.std.proofs.Common.{◌≡◌, ◌∙◌, refl, ℕ, zero, suc, ◌+◌, ◌-◌, ◌<◌, ◌≤◌, false, cond, ◌&&◌, not, sym, ap, subst, arith, append-nil, List, [], ◌∷◌, ◌++◌, length, map, replicate, inl}
-use Rattle.std.specs.List.{All}
+use Rattle.std.proofs.Common.{◌≡◌, ◌∙◌, refl, ℕ, zero, suc, ◌+◌, ◌-◌, ◌<◌, ◌≤◌, false, cond, ◌&&◌, not, sym, ap, subst, arith, append-nil, List, [], ◌∷◌, ◌++◌, length, map, replicate, inl, All}
 use Rattle.std.proofs.lemmas.Bool.{eq-eqb}
 use Rattle.std.proofs.lemmas.List.{get_or-map, get_or-replicate, length-map, length-replicate}
 use Rattle.std.proofs.lemmas.List.Elements.{All-contains, All-from_get_or, All-replicate}
@@ -10,28 +9,21 @@ use Rattle.game_rules.specs.declared.Point.{Point}
 use Rattle.game_rules.proofs.Positions.{mover-then}
 use Rattle.strategy_graph.specs.declared.Node.{Node}
 use Rattle.strategy_compiler.specs.Nodes.{IsCompiled}
-use Rattle.proof_tree.specs.Combining.{is_settled}
-use Rattle.proof_tree.specs.Trees.{Tree, link_at, numbers_at}
+use Rattle.proof_tree.proofs.Common.{is_settled, Tree, link_at, numbers_at}
 use Rattle.proof_tree.specs.declared.Kind.{Kind}
 use Rattle.proof_tree.specs.declared.Kind.TheVariants.{Attack, Defend}
 use Rattle.proof_tree.specs.declared.Numbers.{Numbers}
 use Rattle.proof_tree.proofs.SumLaws.{IsFresh, fresh-sum}
-use Rattle.threat_game.specs.ThreatGame.{threat_tree, move_at, nowhere}
-use Rattle.threat_game.specs.Attacks.{OthersFail, tried_moves}
+use Rattle.threat_game.proofs.Common.{threat_tree, move_at, nowhere, OthersFail, tried_moves}
 use Rattle.proof_number.specs.declared.notes.Note.{Note}
 use Rattle.proof_number.specs.declared.search.Search.{Search}
-use Rattle.proof_number.specs.Notes.{no_note, note_at}
-use Rattle.proof_number.specs.GameTrees.{AreTried, GameTree, HasTried, board_at, left_at}
-use Rattle.proof_number.specs.Remembered.{IsTrueMemo}
-use Rattle.proof_number.specs.Searches.{Grows, HasGrown, HasSpent, IsAtLeaf, IsExpandedAt, IsSettledAt, StandsAt, attacks_behind, behind_at, defences_behind, game_of, sum_below}
-use Rattle.threat_game.proofs.Counting.{IsTriedMove, replies-positive, tried-at, tried-behind}
-use Rattle.proof_number.proofs.Expanded.{IsNewNote, expanded-grown, new_behind, unwritten_child}
-use Rattle.proof_number.proofs.Expanding.{IsNewChild}
+use Rattle.proof_number.proofs.Common.{no_note, note_at, AreTried, GameTree, HasTried, board_at, left_at, IsTrueMemo, Grows, HasGrown, HasSpent, IsAtLeaf, IsExpandedAt, IsSettledAt, StandsAt, attacks_behind, behind_at, defences_behind, game_of, sum_below}
+use Rattle.threat_game.proofs.TreeLaws.{IsTriedMove, replies-positive, tried-at, tried-behind}
+use Rattle.proof_number.proofs.Expanding.{IsNewNote, expanded-grown, new_behind, unwritten_child, IsNewChild, sum-nothing, sum-under}
 use Rattle.proof_number.proofs.Recording.{keeps-all}
 use Rattle.proof_number.proofs.Steps.{attack-moves, attack-no_five, leaf-compiled, leaf-lawful, leaf-noted, lost-step}
 use Rattle.proof_number.proofs.Sums.{sum-le, sum-less, sum-list}
-use Rattle.threat_game.proofs.Trying.{none-tried, tried-enough}
-use Rattle.proof_number.proofs.Widening.{sum-nothing, sum-under}
+use Rattle.threat_game.proofs.AttackLaws.{none-tried, tried-enough}
 
 -- the note of a node of which nothing is known
 abbrev pub open_note : ℕ → Point → Note
@@ -88,9 +80,7 @@ module _ (rule : RuleKind) (b : Grid) (lawful : IsPosition rule b) (none : has_f
   behind-all : (m : ℕ) → 1 ≤ m → 1 + sum_below (length (tried_moves rule b)) (λ j. behind m (move_at (tried_moves rule b) j)) ≤ threat_tree rule (suc m) b
   behind-all zero l = absurd (omega arith)
   behind-all (suc n) l =
-      let a = tried-behind rule n b none in
-      let same = sum-list (behind (suc n)) nowhere (tried_moves rule b) in
-      omega (arith, a, same)
+      omega (arith, tried-behind rule n b none, sum-list (behind (suc n)) nowhere (tried_moves rule b))
 
   -- one position of the defender stands behind each
   behind-each : (m : ℕ) → sum_below (length (tried_moves rule b)) (λ j. behind m (move_at (tried_moves rule b) j) - 1) + length (tried_moves rule b) ≤ sum_below (length (tried_moves rule b)) (λ j. behind m (move_at (tried_moves rule b) j))
@@ -138,8 +128,7 @@ module _ (rule : RuleKind) (s : Search) (t : Tree) (c : List Node) (leaf : ℕ) 
       ap (λ (n : ℕ). threat_tree rule n s.board) (sym left-noted) ∙ ap (threat_tree rule (left_at g.left leaf)) here.view_is in
       let first : left_at g.left 0 ≡ s.depth = get_or-map (λ (n : Note). n.left) s.notes.items 0 no_note 0 (let l = leaf-noted rule s t c leaf s.board stands in omega (arith, l)) ∙ here.searching.depth in
       let root_is : threat_tree rule (left_at g.left 0) s.root ≡ threat_tree rule s.depth s.root = ap (λ (n : ℕ). threat_tree rule n s.root) first in
-      let all = here.searching.counted.defences in
-      omega (arith, nothing, low, tree_is, root_is, all)
+      omega (arith, nothing, low, tree_is, root_is, here.searching.counted.defences)
 
   module _ (m : ℕ) (left_is : (note_at s.notes.items leaf).left ≡ suc m) where
     one-move : 1 ≤ m

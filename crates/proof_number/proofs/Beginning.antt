@@ -6,29 +6,21 @@ use Rattle.game_rules.proofs.Common.{Grid, IsPosition, mover, WinsByThreats, has
 use Rattle.game_rules.specs.declared.RuleKind.{RuleKind}
 use Rattle.position_table.proofs.Remembering.{true-none}
 use Rattle.strategy_graph.specs.declared.Node.{Node}
-use Rattle.strategy_compiler.specs.Nodes.{IsCompiled}
+use Rattle.strategy_compiler.proofs.Common.{IsCompiled, GrowsBy}
 use Rattle.strategy_compiler.specs.declared.wins.WrittenWin.{WrittenWin}
-use Rattle.proof_tree.specs.Combining.{is_settled, settled_numbers}
-use Rattle.proof_tree.specs.Trees.{IsTree, Tree, link_at, numbers_at}
+use Rattle.proof_tree.proofs.Common.{is_settled, settled_numbers, IsTree, Tree, link_at, numbers_at}
 use Rattle.proof_tree.specs.declared.Kind.{Kind}
 use Rattle.proof_tree.specs.declared.Kind.TheVariants.{Attack, Defend}
 use Rattle.proof_tree.specs.declared.Numbers.{Numbers}
 use Rattle.proof_tree.proofs.SumLaws.{lone-childless}
-use Rattle.threat_game.specs.ThreatGame.{threat_tree}
+use Rattle.threat_game.proofs.Common.{threat_tree, IsThreatWin}
 use Rattle.proof_number.specs.declared.notes.Note.{Note}
 use Rattle.proof_number.specs.declared.search.Search.{Search}
-use Rattle.threat_game.specs.Wins.{IsThreatWin}
-use Rattle.strategy_compiler.specs.Growth.{GrowsBy}
-use Rattle.proof_number.specs.Notes.{no_note, note_at, win_of}
-use Rattle.proof_number.specs.GameTrees.{CanGrow, GameTree, IsGameTree, TellsTruly, WinsAt, board_at, left_at}
-use Rattle.proof_number.specs.Remembered.{IsTrueOf}
-use Rattle.proof_number.specs.Searches.{AreWritten, IsCounted, IsNew, IsNotedWin, IsSettledAt, Searches, attacks_behind, behind_at, behind_leaves, defences_behind, game_of, is_attack, noted_won, sum_below, unwritten}
-use Rattle.proof_number.proofs.GameBoards.{board-root}
-use Rattle.strategy_compiler.proofs.Growing.{grows-length}
-use Rattle.strategy_compiler.proofs.Winning.{win-some}
+use Rattle.proof_number.proofs.Common.{no_note, note_at, win_of, CanGrow, GameTree, IsGameTree, TellsTruly, WinsAt, board_at, left_at, IsTrueOf, AreWritten, IsCounted, IsNew, IsNotedWin, IsSettledAt, Searches, attacks_behind, behind_at, behind_leaves, defences_behind, game_of, is_attack, noted_won, sum_below, unwritten}
+use Rattle.proof_number.proofs.GameTruths.{board-root}
+use Rattle.strategy_compiler.proofs.Growing.{grows-length, win-some}
 use Rattle.proof_number.proofs.Sums.{sum-suc, sum-zero}
-use Rattle.threat_game.proofs.TreeLaws.{tree-positive}
-use Rattle.threat_game.proofs.Counting.{one_where}
+use Rattle.threat_game.proofs.TreeLaws.{tree-positive, one_where}
 
 -- ---- five points that are listed
 
@@ -127,9 +119,8 @@ module _ (rule : RuleKind) (s : Search) (t : Tree) (c : List Node) (begun : IsBe
 
   lone-behind : (f : Kind → RuleKind → ℕ → Grid → ℕ) → behind_leaves f Game ≤ f (link_at t.links 0).kind rule (left_at Game.left 0) (board_at Game 0)
   lone-behind f =
-      let a = lone-sum (behind_at f Game) in
       let b = counts-less (nat_eq (link_at t.links 0).count 0 && not (is_settled (numbers_at t.numbers 0))) (f (link_at t.links 0).kind rule (left_at Game.left 0) (board_at Game 0)) in
-      omega (arith, a, b) where
+      omega (arith, lone-sum (behind_at f Game), b) where
         counts-less : (r : Bool) (x : ℕ) → cond r x 0 ≤ x
         counts-less true x = omega arith
         counts-less false x = omega arith
@@ -137,19 +128,14 @@ module _ (rule : RuleKind) (s : Search) (t : Tree) (c : List Node) (begun : IsBe
   lone-counted : IsCounted Game s.budget s.attacked s.defended
   lone-counted = record {
     attacks = (
-        let a = lone-behind attacks_behind in
         let b : attacks_behind (link_at t.links 0).kind rule (left_at Game.left 0) (board_at Game 0) ≡ threat_tree rule (left_at Game.left 0) (board_at Game 0) - 1 = ap (λ (k : Kind). attacks_behind k rule (left_at Game.left 0) (board_at Game 0)) attacks in
         let d : threat_tree rule (left_at Game.left 0) (board_at Game 0) ≡ threat_tree rule (left_at Game.left 0) s.root = ap (threat_tree rule (left_at Game.left 0)) own-board in
-        let e = tree-positive rule (left_at Game.left 0) s.root in
-        let f = begun.attacked_is in
-        omega (arith, a, b, d, e, f)
+        omega (arith, lone-behind attacks_behind, b, d, tree-positive rule (left_at Game.left 0) s.root, begun.attacked_is)
         );
     defences = (
-        let a = lone-behind defences_behind in
         let b : defences_behind (link_at t.links 0).kind rule (left_at Game.left 0) (board_at Game 0) ≡ threat_tree rule (left_at Game.left 0) (board_at Game 0) - 1 = ap (λ (k : Kind). defences_behind k rule (left_at Game.left 0) (board_at Game 0)) attacks in
         let d : threat_tree rule (left_at Game.left 0) (board_at Game 0) ≡ threat_tree rule (left_at Game.left 0) s.root = ap (threat_tree rule (left_at Game.left 0)) own-board in
-        let f = begun.defended_is in
-        omega (arith, a, b, d, f)
+        omega (arith, lone-behind defences_behind, b, d, begun.defended_is)
         );
     nodes = (let a = begun.one_node in let b = begun.attacked_is in omega (arith, a, b));
     attacked_fits = (let a = begun.attacked_is in let b = begun.some_budget in omega (arith, a, b));
@@ -170,11 +156,8 @@ module _ (rule : RuleKind) (s : Search) (t : Tree) (c : List Node) (begun : IsBe
     counted = lone-counted;
     compiled = begun.compiled;
     few = (
-        let a = lone-sum (unwritten t s.notes.items) in
         let b : unwritten t s.notes.items 0 ≡ one_where (nat_eq (note_at s.notes.items 0).moves 0) = ap (λ (k : Kind). one_where (is_attack k && nat_eq (note_at s.notes.items 0).moves 0)) attacks in
-        let d = root.few in
-        let e = begun.attacked_is in
-        omega (arith, a, b, d, e)
+        omega (arith, lone-sum (unwritten t s.notes.items), b, root.few, begun.attacked_is)
         );
   }
 
@@ -207,9 +190,8 @@ module _ (rule : RuleKind) (s : Search) (t : Tree) (c : List Node) (b : Grid) (b
     noted = λ some. let e = begins.unwon in absurd (omega (arith, some, e));
     has_win = λ e. absurd (not-settled true e);
     few = (
-        let e = begins.before_is in
         let f : one_where (nat_eq (note_at s.notes.items 0).moves 0) ≡ 1 = ap one_where (eq-eqb (note_at s.notes.items 0).moves 0 begins.unwon) in
-        omega (arith, e, f)
+        omega (arith, begins.before_is, f)
         );
   }) where
     settled-test : (p : Bool) → is_settled (settled_numbers p) ≡ true
@@ -274,10 +256,9 @@ module _ (rule : RuleKind) (s : Search) (t : Tree) (c : List Node) (b : Grid) (b
       noted = λ some. won-noted;
       has_win = λ e. win-moves;
       few = (
-          let a = grows-length c d 1 grown in
           let e = ap (λ (w : Search). w.before) rest ∙ begins.before_is in
           let f : one_where (nat_eq (note_at v.notes.items 0).moves 0) ≡ 0 = ap one_where (ne_eqb (note_at v.notes.items 0).moves 0 (λ z. let m = win-moves in omega (arith, z, m))) in
-          omega (arith, a, e, f)
+          omega (arith, grows-length c d 1 grown, e, f)
           );
     })
 

@@ -1,57 +1,137 @@
--- A leaf of the defender is settled where a reply leaves no win, or else gets a child for each reply.
-use Rattle.std.proofs.Common.{◌≡◌, inl, inr, ℕ, suc, ◌+◌, ◌-◌, ◌<◌, ◌≤◌, Bool, true, false, cond, ◌&&◌, not, refl, sym, ap, subst, ◌∙◌, arith, List, [], ◌∷◌, ◌++◌, length, map, get_or}
-use Rattle.std.specs.List.{All, sum_by}
-use Rattle.std.proofs.lemmas.Bool.{eq-eqb, ne_eqb}
-use Rattle.std.proofs.lemmas.List.{get_or-map, length-map}
+-- The numbers and notes of the children of a node of the defender, one after another. A leaf of the defender is settled where a reply
+-- leaves no win, or else gets a child for each reply.
+use Rattle.std.proofs.Common.{◌≡◌, ◌⊎◌, inl, inr, ℕ, ◌+◌, ◌<◌, ◌≤◌, refl, sym, ap, subst, ◌∙◌, arith, List, [], ◌∷◌, ◌++◌, length, take, Option, Some, None, IfSome, is_none, sum_by, suc, ◌-◌, Bool, true, false, cond, ◌&&◌, not, map, get_or, All}
+use Rattle.std.proofs.lemmas.Bool.{cases_lt, eq-eqb, ne_eqb}
+use Rattle.std.proofs.lemmas.List.{get_or_append_left, get_or_push, length_push, get_or-map, length-map}
+use Rattle.std.proofs.lemmas.List.Sums.{sum_by_more, sum_by_more_le, sum_by-cons, sum_by-le}
 use Rattle.std.proofs.lemmas.List.Elements.{All-from_get_or}
-use Rattle.std.proofs.lemmas.List.Sums.{sum_by-cons, sum_by-le}
 use Rattle.std.proofs.lemmas.List.Filters.{length-filter_both}
-use Rattle.game_rules.proofs.Common.{Grid, is_empty, points_of, five, IsPosition, foul_of, mover, outcome, after, goes_on, LosesOr, WinsByThreats, has_five, if_goes_on, behind_replies}
 use Rattle.game_rules.specs.declared.RuleKind.{RuleKind}
 use Rattle.game_rules.specs.declared.Outcome.{Outcome}
 use Rattle.game_rules.specs.declared.Point.{Point}
+use Rattle.game_rules.proofs.Common.{Grid, after, is_empty, points_of, five, IsPosition, foul_of, mover, outcome, goes_on, LosesOr, WinsByThreats, has_five, if_goes_on, behind_replies}
 use Rattle.game_rules.proofs.Points.{any_witness}
 use Rattle.game_rules.proofs.Positions.{IsPosition-after}
 use Rattle.game_rules.proofs.Outcomes.{goes_on-is, not-last, none-draws}
 use Rattle.game_rules.proofs.Places.{points_few}
 use Rattle.game_rules.proofs.Games.{win-has_five}
-use Rattle.strategy_graph.specs.declared.Node.{Node}
-use Rattle.strategy_graph.specs.declared.TheConstants.{MAX_NODES}
-use Rattle.strategy_graph.proofs.Filling.{IsTable-lower}
-use Rattle.strategy_compiler.specs.Nodes.{IsCompiled}
-use Rattle.proof_tree.specs.Combining.{is_settled, no_numbers, settled_numbers}
-use Rattle.proof_tree.specs.Trees.{Tree, link_at, numbers_at}
+use Rattle.proof_tree.specs.declared.Numbers.{Numbers}
 use Rattle.proof_tree.specs.declared.Kind.{Kind}
 use Rattle.proof_tree.specs.declared.Kind.TheVariants.{Attack, Defend}
-use Rattle.proof_tree.specs.declared.Numbers.{Numbers}
+use Rattle.proof_tree.proofs.Common.{no_numbers, numbers_at, is_settled, settled_numbers, Tree, link_at}
 use Rattle.proof_tree.proofs.SumLaws.{IsFresh, fresh-sum}
 use Rattle.proof_tree.proofs.Settled.{proved-apart}
-use Rattle.threat_game.specs.ThreatGame.{threat_tree}
-use Rattle.threat_game.specs.Attacks.{has_reply}
-use Rattle.proof_number.specs.declared.notes.Note.{Note}
+use Rattle.strategy_graph.specs.declared.Node.{Node}
+use Rattle.strategy_graph.specs.declared.TheConstants.{MAX_NODES}
+use Rattle.strategy_graph.proofs.Common.{NamesLower}
+use Rattle.strategy_graph.proofs.Filling.{IsTable-lower}
+use Rattle.strategy_compiler.specs.declared.wins.WrittenWin.{WrittenWin}
+use Rattle.strategy_compiler.proofs.Growing.{growth_keeps-wins, win-some, grows-length, grows-then}
+use Rattle.strategy_compiler.proofs.Common.{GrowsBy, IsCompiled}
 use Rattle.threat_game.specs.declared.replies.Child.{Child}
 use Rattle.threat_game.specs.declared.replies.Children.{Children}
 use Rattle.threat_game.specs.declared.replies.Judged.{Judged}
 use Rattle.threat_game.specs.declared.replies.Judged.TheVariants.{Five, Double as DoubleWins, Last, Open}
+use Rattle.threat_game.proofs.Common.{IsThreatWin, is_open, moves_for, nodes_for, threat_tree, has_reply, AreChildren, HasEscape, IsChild, IsJudged, counted_for, replies_at}
+use Rattle.threat_game.proofs.ReplyLaws.{counted-three}
+use Rattle.threat_game.proofs.TreeLaws.{children-within, counted-few, one_where, counted-one, open_one, counted-parts, open_behind, whole-by}
+use Rattle.threat_game.proofs.AttackLaws.{escape-saves}
+use Rattle.proof_number.specs.declared.notes.Note.{Note}
 use Rattle.proof_number.specs.declared.search.Search.{Search}
-use Rattle.proof_number.specs.Children.{AreSettled, IsSettledChild, child_at, no_child, open_numbers}
-use Rattle.strategy_compiler.specs.Growth.{GrowsBy}
-use Rattle.proof_number.specs.Notes.{no_note, note_at, win_of}
-use Rattle.threat_game.specs.Replies.{AreChildren, HasEscape, IsChild, IsJudged, counted_for, is_open, moves_for, nodes_for, replies_at}
-use Rattle.proof_number.specs.GameTrees.{AreAllReplies, CanGrow, GameTree, HasTried, TellsTruly, WinsAt, board_at, left_at}
-use Rattle.proof_number.specs.Remembered.{IsTrueMemo}
-use Rattle.proof_number.specs.Searches.{Grows, HasGrown, HasSpent, IsAtLeaf, IsExpandedAt, IsNotedWin, IsSettledAt, StandsAt, attacks_behind, behind_at, defences_behind, game_of, sum_below}
-use Rattle.threat_game.proofs.ChildLaws.{counted-three}
-use Rattle.proof_number.proofs.Expanded.{IsNewNote, expanded-grown, new_behind, unwritten_child}
-use Rattle.proof_number.proofs.Expanding.{IsNewChild}
+use Rattle.proof_number.proofs.Common.{AreSettled, IsSettledChild, child_at, child_note, child_numbers, no_child, no_note, note_at, win_of, open_numbers, AreAllReplies, CanGrow, GameTree, HasTried, TellsTruly, WinsAt, board_at, left_at, IsTrueMemo, Grows, HasGrown, HasSpent, IsAtLeaf, IsExpandedAt, IsNotedWin, IsSettledAt, StandsAt, attacks_behind, behind_at, defences_behind, game_of, sum_below}
+use Rattle.proof_number.proofs.Expanding.{IsNewNote, expanded-grown, new_behind, unwritten_child, IsNewChild, sum-nothing}
 use Rattle.proof_number.proofs.Growing.{lost-grown}
 use Rattle.proof_number.proofs.Remembering.{memo-grown}
 use Rattle.proof_number.proofs.Steps.{leaf-lawful, leaf-noted}
 use Rattle.proof_number.proofs.Sums.{sum-le, sum-less, sum-list}
-use Rattle.threat_game.proofs.TreeLaws.{children-within, counted-few}
-use Rattle.threat_game.proofs.Trying.{escape-saves}
-use Rattle.threat_game.proofs.Counting.{one_where, counted-one, open_one, counted-parts, open_behind, whole-by}
-use Rattle.proof_number.proofs.Widening.{sum-nothing}
+
+-- what is noted first of a child
+abbrev pub first_note : Child → ℕ → Note
+first_note child left = record { at = child.at; left = left; moves = 0; node = 0 }
+
+module _ (rule : RuleKind) (left : ℕ) (c : Grid) where
+  -- a child stays settled where the compiler grows
+  child-grown : (t more : List Node) (child : Child) (numbers : Numbers) (note : Note) → NamesLower t → IsSettledChild rule left c t child numbers note → IsSettledChild rule left c (t ++ more) child numbers note
+  child-grown t more child numbers note lower h = record {
+    at = h.at;
+    left_is = h.left_is;
+    proved = λ e. let p = h.proved e in (p.0, p.1, (growth_keeps-wins rule left (after c child.at) t more (win_of note) lower p.2.0, p.2.1));
+    unproved = h.unproved;
+  }
+
+  -- a child is settled by the win that is compiled for it
+  pub child-settled : (t : List Node) (child : Child) (win : Option WrittenWin) → is_none win ≡ is_open child.judged → moves_for child.judged ≤ left
+      → IfSome win (λ (found : WrittenWin). (moves : ℕ) → moves_for child.judged ≤ moves → IsThreatWin rule moves (after c child.at) t found)
+      → IsSettledChild rule left c t child (child_numbers win) (child_note (first_note child left) win)
+  child-settled t child None e enough h = record { at = refl; left_is = refl; proved = λ f. cc; unproved = λ f. (refl, refl) }
+  child-settled t child (Some found) e enough h =
+      let is : IsThreatWin rule left (after c child.at) t found = h left enough in
+      record { at = refl; left_is = refl; proved = λ f. (refl, win-some rule left (after c child.at) t found is.written, (is.written, is.by_threats)); unproved = λ f. cc }
+
+  module _ (children : List Child) where
+    pub none-settled : (t : List Node) → AreSettled rule left c t children 0 [] []
+    none-settled t = record { numbers_count = refl; notes_count = refl; each = λ k low. absurd (omega (arith, low)) }
+
+    -- one more child
+    pub one-settled : (t more : List Node) (k : ℕ) (numbers : List Numbers) (notes : List Note) (child : Child) (n : Numbers) (note : Note) → NamesLower t → AreSettled rule left c t children k numbers notes
+        → child_at children k ≡ child → IsSettledChild rule left c (t ++ more) child n note → AreSettled rule left c (t ++ more) children (k + 1) (numbers ++ n ∷ []) (notes ++ note ∷ [])
+    one-settled t more k numbers notes child n note lower old is new = record {
+      numbers_count = length_push numbers n ∙ ap (λ (m : ℕ). m + 1) old.numbers_count;
+      notes_count = length_push notes note ∙ ap (λ (m : ℕ). m + 1) old.notes_count;
+      each = λ j low. by_place j low (cases_lt j k);
+    } where
+      moved : (x y : Child) (a b : Numbers) (p q : Note) → x ≡ y → a ≡ b → p ≡ q → IsSettledChild rule left c (t ++ more) y b q → IsSettledChild rule left c (t ++ more) x a p
+      moved x y a b p q ex ea ep h = rw (ex, ea, ep) h
+
+      by_place : (j : ℕ) → j < k + 1 → (j < k) ⊎ (k ≤ j) → IsSettledChild rule left c (t ++ more) (child_at children j) (numbers_at (numbers ++ n ∷ []) j) (note_at (notes ++ note ∷ []) j)
+      by_place j low (inl before) =
+          moved (child_at children j) (child_at children j) (numbers_at (numbers ++ n ∷ []) j) (numbers_at numbers j) (note_at (notes ++ note ∷ []) j) (note_at notes j) refl
+          (get_or_append_left numbers (n ∷ []) no_numbers j (let e = old.numbers_count in omega (arith, e, before)))
+          (get_or_append_left notes (note ∷ []) no_note j (let e = old.notes_count in omega (arith, e, before)))
+          (child-grown t more (child_at children j) (numbers_at numbers j) (note_at notes j) lower (old.each j before))
+      by_place j low (inr past) =
+          let last : j ≡ k = omega (arith, low, past) in
+          moved (child_at children j) child (numbers_at (numbers ++ n ∷ []) j) n (note_at (notes ++ note ∷ []) j) note (ap (child_at children) last ∙ is)
+          (get_or_push numbers n no_numbers j (old.numbers_count ∙ sym last)) (get_or_push notes note no_note j (old.notes_count ∙ sym last)) new
+
+    -- the same in the words of a loop
+    pub more-settled : (t u : List Node) (k count : ℕ) (numbers new_numbers : List Numbers) (notes new_notes : List Note) (child : Child) (win : Option WrittenWin) → NamesLower t → AreSettled rule left c t children k numbers notes
+        → child_at children k ≡ child → is_none win ≡ is_open child.judged → moves_for child.judged ≤ left
+        → IfSome win (λ (found : WrittenWin). (moves : ℕ) → moves_for child.judged ≤ moves → IsThreatWin rule moves (after c child.at) u found) → GrowsBy t u count
+        → new_numbers ≡ numbers ++ child_numbers win ∷ [] → new_notes ≡ notes ++ child_note (first_note child left) win ∷ [] → AreSettled rule left c u children (k + 1) new_numbers new_notes
+    more-settled t u k count numbers new_numbers notes new_notes child win lower old is open_is enough wins grows numbers_are notes_are =
+        let new : IsSettledChild rule left c (t ++ grows.added) child (child_numbers win) (child_note (first_note child left) win) =
+        subst (λ (d : List Node). IsSettledChild rule left c d child (child_numbers win) (child_note (first_note child left) win)) grows.is (child-settled u child win open_is enough wins) in
+        let all = one-settled t grows.added k numbers notes child (child_numbers win) (child_note (first_note child left) win) lower old is new in
+        subst (λ (d : List Node). AreSettled rule left c d children (k + 1) new_numbers new_notes) (sym grows.is)
+        (subst (λ (ns : List Numbers). AreSettled rule left c (t ++ grows.added) children (k + 1) ns new_notes) (sym numbers_are)
+        (subst (λ (ms : List Note). AreSettled rule left c (t ++ grows.added) children (k + 1) (numbers ++ child_numbers win ∷ []) ms) (sym notes_are) all))
+
+-- ---- the nodes that are compiled
+
+module _ (children : List Child) (a b d : List Node) (k : ℕ) (low : k < length children) (child : Child) (is : child_at children k ≡ child)
+    (first : GrowsBy a b (sum_by (λ (x : Child). nodes_for x.judged) (take k children))) where
+  nodes-at : nodes_for (child_at children k).judged ≡ nodes_for child.judged
+  nodes-at = ap (λ (x : Child). nodes_for x.judged) is
+
+  pub nodes-more : GrowsBy b d (nodes_for child.judged) → GrowsBy a d (sum_by (λ (x : Child). nodes_for x.judged) (take (k + 1) children))
+  nodes-more next =
+      let e = sum_by_more (λ (x : Child). nodes_for x.judged) children k no_child low in
+      let n = nodes-at in
+      grows-then a b d (sum_by (λ (x : Child). nodes_for x.judged) (take k children)) (nodes_for child.judged) (sum_by (λ (x : Child). nodes_for x.judged) (take (k + 1) children)) first next (omega (arith, e, n))
+
+  pub nodes-within : GrowsBy b d (nodes_for child.judged) → GrowsBy a d (sum_by (λ (x : Child). nodes_for x.judged) children)
+  nodes-within next =
+      let e = sum_by_more_le (λ (x : Child). nodes_for x.judged) children k no_child low in
+      let n = nodes-at in
+      grows-then a b d (sum_by (λ (x : Child). nodes_for x.judged) (take k children)) (nodes_for child.judged) (sum_by (λ (x : Child). nodes_for x.judged) children) first next (omega (arith, e, n))
+
+  -- where there is no room for the nodes of one child, there is none for those of all
+  pub no-room : (most : ℕ) → most < length b + nodes_for child.judged → most < length a + sum_by (λ (x : Child). nodes_for x.judged) children
+  no-room most over =
+      let e = sum_by_more_le (λ (x : Child). nodes_for x.judged) children k no_child low in
+      let long = grows-length a b (sum_by (λ (x : Child). nodes_for x.judged) (take k children)) first in
+      omega (arith, e, nodes-at, long, over)
 
 -- ---- where a reply goes on, none fills the board
 
@@ -68,12 +148,7 @@ none-saves rule b none reply q =
 sum-parts : (f g h : Child → ℕ) → ((x : Child) → f x + g x ≤ h x) → (xs : List Child) → sum_by f xs + sum_by g xs ≤ sum_by h xs
 sum-parts f g h low [] = omega arith
 sum-parts f g h low (x ∷ xs) =
-    let rest = sum-parts f g h low xs in
-    let here = low x in
-    let a = sum_by-cons f x xs in
-    let b = sum_by-cons g x xs in
-    let d = sum_by-cons h x xs in
-    omega (arith, rest, here, a, b, d)
+    omega (arith, sum-parts f g h low xs, low x, sum_by-cons f x xs, sum_by-cons g x xs, sum_by-cons h x xs)
 
 sum-many : (h : Child → ℕ) → ((x : Child) → 1 ≤ h x) → (xs : List Child) → length xs ≤ sum_by h xs
 sum-many h one [] = omega arith
@@ -237,8 +312,7 @@ module _ (rule : RuleKind) (s : Search) (t : Tree) (c : List Node) (leaf : ℕ) 
       let low = sum-less (length t.links) (λ i. 0) (behind_at attacks_behind g) leaf count here.in_tree (λ j l other. omega arith) (omega (arith, own)) in
       let first : left_at g.left 0 ≡ s.depth = get_or-map (λ (n : Note). n.left) s.notes.items 0 no_note 0 (let l = leaf-noted rule s t c leaf view stands in omega (arith, l)) ∙ here.searching.depth in
       let root_is : threat_tree rule (left_at g.left 0) s.root ≡ threat_tree rule s.depth s.root = ap (λ (n : ℕ). threat_tree rule n s.root) first in
-      let all = here.searching.counted.attacks in
-      omega (arith, nothing, low, root_is, all)
+      omega (arith, nothing, low, root_is, here.searching.counted.attacks)
 
   pub lawful-here : IsPosition rule view
   lawful-here = leaf-lawful rule s t c leaf view stands
@@ -255,14 +329,12 @@ module _ (rule : RuleKind) (s : Search) (t : Tree) (c : List Node) (leaf : ℕ) 
     nodes-few : sum_by (λ (x : Child). nodes_for x.judged) children.all.items + sum_by open_one children.all.items ≤ children.count
     nodes-few =
         let parts = sum-parts (λ (x : Child). nodes_for x.judged) open_one (λ (x : Child). counted_for x.judged) (λ x. counted-parts x.judged) children.all.items in
-        let is = are.count_is in
-        omega (arith, parts, is)
+        omega (arith, parts, are.count_is)
 
     pub children-many : length children.all.items ≤ children.count
     children-many =
         let many = sum-many (λ (x : Child). counted_for x.judged) (λ x. counted-one x.judged) children.all.items in
-        let is = are.count_is in
-        omega (arith, many, is)
+        omega (arith, many, are.count_is)
 
     -- few are counted
     pub replies-few : children.count ≤ 3072
@@ -270,12 +342,9 @@ module _ (rule : RuleKind) (s : Search) (t : Tree) (c : List Node) (leaf : ℕ) 
         let view_board : IsPosition rule view = lawful-here in
         let each : All (λ (x : Child). counted_for x.judged ≤ 3) children.all.items = λ k x low. counted-three rule (after view (get_or children.all.items k x).at) (get_or children.all.items k x).judged (are.each k x low).judged in
         let sum = sum_by-le (λ (x : Child). counted_for x.judged) 3 children.all.items each in
-        let is = are.count_is in
-        let points = ap length are.points in
         let size = length-map children.all.items (λ (x : Child). x.at) in
         let both = length-filter_both (λ (q : Point). goes_on (outcome rule view q)) (λ (q : Point). not (goes_on (outcome rule view q))) (λ q. refl) (points_of view) in
-        let most = points_few view view_board.board in
-        omega (arith, sum, is, points, size, both, most)
+        omega (arith, sum, are.count_is, ap length are.points, size, both, points_few view view_board.board)
 
     -- where the compiler is full, more positions are counted than it has room for
     pub replies-full : {E : Type 0} → s.attacked + children.count ≤ s.budget → (E → MAX_NODES < length c + sum_by (λ (x : Child). nodes_for x.judged) children.all.items) → E → (MAX_NODES < s.before + s.budget) × (MAX_NODES < s.before + threat_tree rule s.depth s.root)
@@ -293,8 +362,7 @@ module _ (rule : RuleKind) (s : Search) (t : Tree) (c : List Node) (leaf : ℕ) 
         let left : ℕ = (note_at s.notes.items leaf).left in
         let whole = children-within rule left view lawful-here (λ (x : Child). counted_for x.judged + open_behind rule left view x) (child-whole rule left view lawful-here) children.all.items are.points are.each in
         let parts = sum-parts (λ (x : Child). counted_for x.judged) (open_behind rule left view) (λ (x : Child). counted_for x.judged + open_behind rule left view x) (λ x. omega arith) children.all.items in
-        let is = are.count_is in
-        omega (arith, whole, parts, is)
+        omega (arith, whole, parts, are.count_is)
 
     module _ (d : List Node) (more : List Numbers) (ms : List Note) (settled : AreSettled rule (note_at s.notes.items leaf).left view d children.all.items (length children.all.items) more ms) where
       low-than : (j : ℕ) → j < length more → j < length children.all.items

@@ -1,6 +1,5 @@
 -- The end of the search: what the note and the numbers of the root tell.
-use Rattle.std.proofs.Common.{◌≡◌, ◌∙◌, inl, inr, ℕ, zero, suc, ◌+◌, ◌*◌, ◌<◌, ◌≤◌, Bool, true, false, cond, sym, ap, subst, arith, List, length, get_or, min}
-use Rattle.std.specs.Prelude.{Some, None}
+use Rattle.std.proofs.Common.{◌≡◌, ◌∙◌, inl, inr, ℕ, zero, suc, ◌+◌, ◌*◌, ◌<◌, ◌≤◌, Bool, true, false, cond, sym, ap, subst, arith, List, length, get_or, min, Some, None}
 use Rattle.std.proofs.lemmas.List.{get_or-map, get_or_default, length-map}
 use Rattle.game_rules.proofs.Common.{Grid, WinsByThreats, WinsWithin}
 use Rattle.game_rules.specs.declared.RuleKind.{RuleKind}
@@ -9,19 +8,14 @@ use Rattle.strategy_graph.specs.declared.Node.{Node}
 use Rattle.strategy_graph.specs.declared.TheConstants.{MAX_NODES}
 use Rattle.strategy_graph.proofs.Soundness.{accepted-wins}
 use Rattle.strategy_compiler.specs.declared.wins.WrittenWin.{WrittenWin}
-use Rattle.proof_tree.specs.Combining.{is_settled, settled_numbers}
-use Rattle.proof_tree.specs.Trees.{Tree, numbers_at}
+use Rattle.proof_tree.proofs.Common.{is_settled, settled_numbers, Tree, numbers_at}
 use Rattle.proof_tree.specs.declared.Kind.{Kind}
 use Rattle.proof_tree.proofs.Settled.{settled-one}
 use Rattle.proof_number.specs.declared.notes.Note.{Note}
 use Rattle.proof_number.specs.declared.search.Search.{Search}
-use Rattle.proof_number.specs.Answers.{HasNoThreatWin}
+use Rattle.proof_number.proofs.Common.{HasNoThreatWin, no_note, note_at, noted_win, win_of, GameTree, TellsTruly, WinsAt, board_at, left_at, IsNotedWin, IsSearching, Searches, closed_nodes, game_of, is_open_leaf, sum_below}
 use Rattle.threat_game.specs.Wins.{IsThreatWin}
-use Rattle.proof_number.specs.Notes.{no_note, note_at, noted_win, win_of}
-use Rattle.proof_number.specs.GameTrees.{GameTree, TellsTruly, WinsAt, board_at, left_at}
-use Rattle.proof_number.specs.Searches.{IsNotedWin, IsSearching, Searches, closed_nodes, game_of, is_open_leaf, sum_below}
-use Rattle.proof_number.proofs.GameBoards.{board-root}
-use Rattle.proof_number.proofs.GameTruths.{all-tell}
+use Rattle.proof_number.proofs.GameTruths.{board-root, all-tell}
 use Rattle.proof_number.proofs.Recording.{noted-none, noted-some}
 use Rattle.proof_number.proofs.Sums.{sum-suc, sum-zero}
 
@@ -30,9 +24,7 @@ sum-ones : (n : ℕ) (f : ℕ → Bool) → sum_below n (λ i. cond (f i) 0 1) �
 sum-ones zero f = let a = sum-zero (λ i. cond (f i) 0 1) in omega (arith, a)
 sum-ones (suc n) f =
     let a = sum-suc n (λ i. cond (f i) 0 1) in
-    let rest = sum-ones n f in
-    let here = one-least (f n) in
-    omega (arith, a, rest, here) where
+    omega (arith, a, sum-ones n f, one-least (f n)) where
       one-least : (r : Bool) → cond r 0 1 ≤ 1
       one-least true = omega arith
       one-least false = omega arith
@@ -51,11 +43,7 @@ module _ (rule : RuleKind) (s : Search) (t : Tree) (c : List Node) (searches : S
   -- the nodes are closed one by one, and there are no more than both budgets
   pub closed-few : closed_nodes t ≤ 2 * s.budget
   closed-few =
-      let a = sum-ones (length t.links) (is_open_leaf t) in
-      let b = h.counted.nodes in
-      let d = h.counted.attacked_fits in
-      let e = h.counted.defended_fits in
-      omega (arith, a, b, d, e)
+      omega (arith, sum-ones (length t.links) (is_open_leaf t), h.counted.nodes, h.counted.attacked_fits, h.counted.defended_fits)
 
   pub root-noted : 0 < length s.notes.items
   root-noted = let a = root-inside in let b = length-map s.notes.items (λ (n : Note). n.at) in let e = h.game.moves in omega (arith, a, b, e)

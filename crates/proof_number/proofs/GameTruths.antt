@@ -1,30 +1,159 @@
--- In a tree that stands for a game every node tells truly whether the attacker wins: from the last node to the first, since the
--- children of a node come after it.
-use Rattle.std.proofs.Common.{◌≡◌, ◌⊎◌, inl, inr, ℕ, zero, suc, ◌+◌, ◌-◌, ◌<◌, ◌≤◌, refl, sym, ap, subst, ◌∙◌, arith, List, map, length, take, drop, get_or, Contains}
-use Rattle.std.proofs.lemmas.Bool.{cases_eq}
-use Rattle.std.proofs.lemmas.List.{get_or-take, get_or-drop, get_or_default, length-take, length-drop}
+-- The boards of the nodes of a tree: each is its parent's after its move, and they stay where the tree grows. The moves that lead to a
+-- node, played and taken back. In a tree that stands for a game every node tells truly whether the attacker wins: from the last node to the
+-- first, since the children of a node come after it.
+use Rattle.std.proofs.Common.{◌≡◌, ℕ, zero, suc, ◌<◌, ◌≤◌, Bool, true, false, cond, refl, ap, ◌∙◌, arith, List, length, nat_eq, sym, subst, map, get_or, ◌⊎◌, inl, inr, ◌+◌, ◌-◌, take, drop, Contains}
+use Rattle.std.proofs.lemmas.Bool.{ne_eqb, cases_eq}
+use Rattle.std.proofs.lemmas.List.{get_or-map, get_or-take, get_or-drop, get_or_default, length-take, length-drop}
 use Rattle.std.proofs.lemmas.List.Elements.{Contains-get_or}
-use Rattle.game_rules.proofs.Common.{Grid, outcome, after, goes_on, LosesOr, WinsByThreats}
+use Rattle.game_rules.specs.declared.Point.{Point}
+use Rattle.game_rules.specs.declared.Outcome.TheVariants.{GoesOn}
 use Rattle.game_rules.specs.declared.RuleKind.{RuleKind}
 use Rattle.game_rules.specs.declared.Outcome.{Outcome}
-use Rattle.game_rules.specs.declared.Outcome.TheVariants.{GoesOn}
-use Rattle.game_rules.specs.declared.Point.{Point}
-use Rattle.game_rules.proofs.Positions.{GoesOn-on}
+use Rattle.game_rules.proofs.Common.{Grid, IsPosition, after, holds, is_empty, lift, IsUnwon, outcome, mover, other, goes_on, LosesOr, WinsByThreats}
+use Rattle.game_rules.proofs.Positions.{IsPosition-after, GoesOn-empty, GoesOn-on}
+use Rattle.game_rules.proofs.Undo.{stone_back, lift_back, unwon_back}
 use Rattle.game_rules.proofs.Outcomes.{LosesOr-on}
 use Rattle.game_rules.proofs.Places.{points_passing}
-use Rattle.proof_tree.specs.Combining.{AreNumbers, combined, least, other_kind, total}
-use Rattle.proof_tree.specs.Trees.{IsChild, IsTree, children_of, link_at, numbers_at}
 use Rattle.proof_tree.specs.declared.Kind.{Kind}
 use Rattle.proof_tree.specs.declared.Kind.TheVariants.{Attack, Defend}
 use Rattle.proof_tree.specs.declared.Link.{Link}
 use Rattle.proof_tree.specs.declared.Numbers.{Numbers}
+use Rattle.proof_tree.proofs.Common.{IsLinked, link_at, IsTree, AreNumbers, combined, least, other_kind, total, IsChild, children_of, numbers_at}
 use Rattle.proof_tree.proofs.Settled.{least-zero, total-zero, settled-proved, settled-disproved}
 use Rattle.proof_tree.proofs.Updated.{child-number}
-use Rattle.proof_number.specs.GameTrees.{GameTree, IsGameTree, HasTried, AreTried, TellsTruly, WinsAt, board_at, left_at, left_before, moves_of}
-use Rattle.threat_game.specs.ThreatGame.{LosesToThreats, move_at, nowhere}
-use Rattle.threat_game.specs.Replies.{replies_at}
-use Rattle.threat_game.proofs.Counting.{by_move}
-use Rattle.proof_number.proofs.GameBoards.{board-step}
+use Rattle.stone_board.specs.Steps.{holds_stone}
+use Rattle.stone_board.proofs.Stones.{put-holds_stone}
+use Rattle.threat_game.proofs.Common.{move_at, nowhere, LosesToThreats, replies_at}
+use Rattle.threat_game.proofs.TreeLaws.{by_move}
+use Rattle.proof_number.specs.declared.notes.Note.{Note}
+use Rattle.proof_number.proofs.Common.{GameTree, IsGameTree, board_at, board_of, board_within, left_at, left_before, HasTried, AreTried, TellsTruly, WinsAt, moves_of}
+
+positive : (i : ℕ) → nat_eq i 0 ≡ false → 0 < i
+positive zero e = cc
+positive (suc i) e = omega arith
+
+module _ (links : List Link) (moves : List Point) (b : Grid) (w : IsLinked links) where
+  -- the bound on the moves that lead to a node plays no part
+  within-same : (f g i : ℕ) → i < length links → i ≤ f → i ≤ g → board_within f links moves b i ≡ board_within g links moves b i
+  unfolding board_within
+  within-same zero zero i inside low high = refl
+  within-same zero (suc g) zero inside low high = refl
+  within-same zero (suc g) (suc i) inside low high = absurd (omega arith)
+  within-same (suc f) zero zero inside low high = refl
+  within-same (suc f) zero (suc i) inside low high = absurd (omega arith)
+  within-same (suc f) (suc g) i inside low high = by_test (nat_eq i 0) refl (λ p a l h. within-same f g p a l h) where
+    by_test : (r : Bool) → nat_eq i 0 ≡ r → ((p : ℕ) → p < length links → p ≤ f → p ≤ g → board_within f links moves b p ≡ board_within g links moves b p)
+        → cond r b (after (board_within f links moves b (link_at links i).parent) (move_at moves i)) ≡ cond r b (after (board_within g links moves b (link_at links i).parent) (move_at moves i))
+    by_test true e later = refl
+    by_test false e later =
+        let some : 0 < i = positive i e in
+        let lower = w.parent_first i some inside in
+        ap (λ (c : Grid). after c (move_at moves i)) (later (link_at links i).parent (omega (arith, lower, inside)) (omega (arith, lower, low)) (omega (arith, lower, high)))
+
+  pub board-root : board_of links moves b 0 ≡ b
+  unfolding board_within
+  board-root = refl
+
+  pub board-step : (i : ℕ) → 0 < i → i < length links → board_of links moves b i ≡ after (board_of links moves b (link_at links i).parent) (move_at moves i)
+  unfolding board_within
+  board-step zero some inside = absurd (omega arith)
+  board-step (suc i) some inside =
+      let lower = w.parent_first (suc i) some inside in
+      ap (λ r. cond r b (after (board_within i links moves b (link_at links (suc i)).parent) (move_at moves (suc i)))) (ne_eqb (suc i) 0 (λ e. omega arith))
+      ∙ ap (λ (c : Grid). after c (move_at moves (suc i))) (within-same i (link_at links (suc i)).parent (link_at links (suc i)).parent (omega (arith, lower, inside)) (omega (arith, lower)) (omega arith))
+
+-- the boards of the nodes stay where their parents and moves do
+module _ (links more : List Link) (moves others : List Point) (b : Grid) (w : IsLinked links)
+    (parents : (j : ℕ) → j < length links → (link_at more j).parent ≡ (link_at links j).parent) (same : (j : ℕ) → j < length links → move_at others j ≡ move_at moves j) where
+  within-kept : (f i : ℕ) → i < length links → board_within f more others b i ≡ board_within f links moves b i
+  unfolding board_within
+  within-kept zero i inside = refl
+  within-kept (suc f) i inside = by_test (nat_eq i 0) refl (λ p h. within-kept f p h) where
+    by_test : (r : Bool) → nat_eq i 0 ≡ r → ((p : ℕ) → p < length links → board_within f more others b p ≡ board_within f links moves b p)
+        → cond r b (after (board_within f more others b (link_at more i).parent) (move_at others i)) ≡ cond r b (after (board_within f links moves b (link_at links i).parent) (move_at moves i))
+    by_test true e later = refl
+    by_test false e later =
+        let lower = w.parent_first i (positive i e) inside in
+        ap (λ (c : Grid). after c (move_at others i)) (ap (λ (p : ℕ). board_within f more others b p) (parents i inside) ∙ later (link_at links i).parent (omega (arith, lower, inside)))
+        ∙ ap (after (board_within f links moves b (link_at links i).parent)) (same i inside)
+
+  pub board-kept : (i : ℕ) → i < length links → board_of more others b i ≡ board_of links moves b i
+  board-kept i inside = within-kept i i inside
+
+-- the board of each node is a lawful position
+module _ (g : GameTree) (w : IsLinked g.tree.links) (game : IsGameTree g) where
+  positions-below : (n i : ℕ) → i < n → i < length g.tree.links → IsPosition g.rule (board_at g i)
+  positions-below zero i low inside = absurd (omega arith)
+  positions-below (suc n) zero low inside = rw (board-root g.tree.links g.moves g.start w) game.lawful
+  positions-below (suc n) (suc i) low inside =
+      let some : 0 < suc i = omega arith in
+      let lower = w.parent_first (suc i) some inside in
+      rw (board-step g.tree.links g.moves g.start w (suc i) some inside)
+      (IsPosition-after g.rule (board_at g (link_at g.tree.links (suc i)).parent) (move_at g.moves (suc i)) (positions-below n (link_at g.tree.links (suc i)).parent (omega (arith, lower, low)) (omega (arith, lower, inside))) (game.on (suc i) some inside))
+
+  pub position-at : (i : ℕ) → i < length g.tree.links → IsPosition g.rule (board_at g i)
+  position-at i inside = positions-below (suc i) i (omega arith) inside
+
+-- no node has more moves left than the root
+module _ (g : GameTree) (w : IsLinked g.tree.links) (game : IsGameTree g) where
+  left-less : (k : Kind) (n m : ℕ) → left_before k n ≡ m → n ≤ m
+  left-less Attack n m e = omega (arith, e)
+  left-less Defend n m e = omega (arith, e)
+
+  lefts-below : (n i : ℕ) → i < n → i < length g.tree.links → left_at g.left i ≤ left_at g.left 0
+  lefts-below zero i low inside = absurd (omega arith)
+  lefts-below (suc n) zero low inside = omega arith
+  lefts-below (suc n) (suc i) low inside =
+      let some : 0 < suc i = omega arith in
+      let lower = w.parent_first (suc i) some inside in
+      let less = left-less (link_at g.tree.links (suc i)).kind (left_at g.left (suc i)) (left_at g.left (link_at g.tree.links (suc i)).parent) (game.fewer (suc i) some inside) in
+      let rest = lefts-below n (link_at g.tree.links (suc i)).parent (omega (arith, lower, low)) (omega (arith, lower, inside)) in
+      omega (arith, less, rest)
+
+  pub left-low : (i : ℕ) → i < length g.tree.links → left_at g.left i ≤ left_at g.left 0
+  left-low i inside = lefts-below (suc i) i (omega arith) inside
+
+-- the move and the moves left of a node are those of its note
+pub noted-move : (notes : List Note) (i : ℕ) (n d : Note) → i < length notes → n ≡ get_or notes i n → move_at (map (λ m. m.at) notes) i ≡ n.at
+noted-move notes i n d inside is = get_or-map (λ (m : Note). m.at) notes i n nowhere inside ∙ ap (λ (m : Note). m.at) (sym is)
+
+pub noted-left : (notes : List Note) (i : ℕ) (n d : Note) → i < length notes → n ≡ get_or notes i n → left_at (map (λ m. m.left) notes) i ≡ n.left
+noted-left notes i n d inside is = get_or-map (λ (m : Note). m.left) notes i n 0 inside ∙ ap (λ (m : Note). m.left) (sym is)
+
+module _ (g : GameTree) (ok : IsTree g.tree) (game : IsGameTree g) (node : ℕ) (some : 0 < node) (inside : node < length g.tree.links) (p : Point) (move : move_at g.moves node ≡ p) where
+  parent : ℕ
+  parent = (link_at g.tree.links node).parent
+
+  pub parent-inside : (link_at g.tree.links node).parent < length g.tree.links
+  parent-inside = let low = ok.linked.parent_first node some inside in omega (arith, low, inside)
+
+  pub before-lawful : IsPosition g.rule (board_at g (link_at g.tree.links node).parent)
+  before-lawful = position-at g ok.linked game (link_at g.tree.links node).parent parent-inside
+
+  pub move-on : outcome g.rule (board_at g (link_at g.tree.links node).parent) p ≡ GoesOn
+  move-on = subst (λ (q : Point). outcome g.rule (board_at g (link_at g.tree.links node).parent) q ≡ GoesOn) move (game.on node some inside)
+
+  pub board-after : board_at g node ≡ after (board_at g (link_at g.tree.links node).parent) p
+  board-after = board-step g.tree.links g.moves g.start ok.linked node some inside ∙ ap (after (board_at g (link_at g.tree.links node).parent)) move
+
+  pub move-empty : is_empty (board_at g (link_at g.tree.links node).parent) p ≡ true
+  move-empty = GoesOn-empty g.rule (board_at g (link_at g.tree.links node).parent) p move-on
+
+  -- at the board of the node the move can be taken back
+  module _ (c : Grid) (here : c ≡ board_at g node) where
+    pub move-stone : holds c (other (mover c)) p ≡ true
+    move-stone = stone_back g.rule (board_at g (link_at g.tree.links node).parent) c p before-lawful move-on (here ∙ board-after)
+
+    pub move-unwon : IsUnwon g.rule (lift c p)
+    move-unwon = unwon_back g.rule (board_at g (link_at g.tree.links node).parent) c p before-lawful move-on (here ∙ board-after)
+
+    pub move-lifted : lift c p ≡ board_at g (link_at g.tree.links node).parent
+    move-lifted = lift_back g.rule (board_at g (link_at g.tree.links node).parent) c p before-lawful move-on (here ∙ board-after)
+
+    pub move-holds : holds_stone c p ≡ true
+    move-holds =
+        ap (λ (b : Grid). holds_stone b p) (here ∙ board-after)
+        ∙ put-holds_stone (board_at g (link_at g.tree.links node).parent) (mover (board_at g (link_at g.tree.links node).parent)) p before-lawful.board move-empty
 
 -- ---- numbers
 
@@ -36,18 +165,15 @@ child-move l moves j fits child =
     let low = child.below_end in
     let k : ℕ = j - l.first in
     let inside : k < length (take l.count (drop l.first moves)) =
-    let a = length-take l.count (drop l.first moves) in
-    let b = length-drop l.first moves in
-    omega (arith, a, b, first, low, fits) in
+    omega (arith, length-take l.count (drop l.first moves), length-drop l.first moves, first, low, fits) in
     let at : get_or (take l.count (drop l.first moves)) k nowhere ≡ move_at moves j =
     get_or-take l.count (drop l.first moves) k nowhere (omega (arith, first, low)) ∙ get_or-drop l.first moves k nowhere ∙ ap (λ (m : ℕ). move_at moves m) (omega (arith, first)) in
     subst (Contains (moves_of l moves)) at (Contains-get_or (moves_of l moves) k nowhere inside)
 
 pub move-child : (l : Link) (moves : List Point) (p : Point) → l.first + l.count ≤ length moves → Contains (moves_of l moves) p → (j : ℕ) × IsChild l j × (move_at moves j ≡ p)
 move-child l moves p fits (k, inside, at) =
-    let a = length-take l.count (drop l.first moves) in
     let b = length-drop l.first moves in
-    let low : k < l.count = omega (arith, a, inside) in
+    let low : k < l.count = omega (arith, length-take l.count (drop l.first moves), inside) in
     let within : l.first + k < length moves = omega (arith, low, fits) in (
       l.first + k,
       record { from_first = omega arith; below_end = omega (arith, low) },
@@ -80,8 +206,7 @@ module _ (g : GameTree) (ok : IsTree g.tree) (game : IsGameTree g) where
       let low = child.below_end in
       let some : 0 < (link_at g.tree.links i).count = omega (arith, first, low) in
       let after_i = w.later i inside some in
-      let within = w.within i inside in
-      let here : j < length g.tree.links = omega (arith, low, within) in
+      let here : j < length g.tree.links = omega (arith, low, w.within i inside) in
       let positive : 0 < j = omega (arith, after_i, first) in
       let parent : (link_at g.tree.links j).parent ≡ i = w.parents i j inside child in
       record {
@@ -102,11 +227,8 @@ module _ (g : GameTree) (ok : IsTree g.tree) (game : IsGameTree g) where
 
   fits_numbers : (i : ℕ) → i < length g.tree.links → length (children_of (link_at g.tree.links i) g.tree.numbers) ≡ (link_at g.tree.links i).count
   fits_numbers i inside =
-      let within = ok.linked.within i inside in
-      let same = ok.numbered.count in
       let a = length-take (link_at g.tree.links i).count (drop (link_at g.tree.links i).first g.tree.numbers) in
-      let b = length-drop (link_at g.tree.links i).first g.tree.numbers in
-      omega (arith, a, b, within, same)
+      omega (arith, a, length-drop (link_at g.tree.links i).first g.tree.numbers, ok.linked.within i inside, ok.numbered.count)
 
   kth : (i k : ℕ) → k < (link_at g.tree.links i).count → IsChild (link_at g.tree.links i) ((link_at g.tree.links i).first + k)
   kth i k low = record { from_first = omega arith; below_end = omega (arith, low) }
@@ -124,9 +246,8 @@ module _ (g : GameTree) (ok : IsTree g.tree) (game : IsGameTree g) where
     each-zero e j child =
         let l = link_at g.tree.links i in
         let first = child.from_first in
-        let end = child.below_end in
         let k : ℕ = j - l.first in
-        let low : k < l.count = omega (arith, first, end) in
+        let low : k < l.count = omega (arith, first, child.below_end) in
         let back : l.first + k ≡ j = omega (arith, first) in
         ap (λ (m : ℕ). f (numbers_at g.tree.numbers m)) (sym back) ∙ ap f (sym (child-number l g.tree.numbers k low))
         ∙ total-zero f (children_of l g.tree.numbers) e k (let b = fits_numbers i inside in omega (arith, b, low))

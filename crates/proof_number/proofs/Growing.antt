@@ -7,21 +7,16 @@ use Rattle.game_rules.specs.declared.RuleKind.{RuleKind}
 use Rattle.strategy_graph.specs.declared.Node.{Node}
 use Rattle.strategy_graph.proofs.Filling.{IsTable-lower}
 use Rattle.strategy_compiler.specs.declared.wins.WrittenWin.{WrittenWin}
-use Rattle.strategy_compiler.specs.Nodes.{IsCompiled}
-use Rattle.strategy_compiler.specs.Wins.{IsWrittenWin}
-use Rattle.proof_tree.specs.Combining.{settled_numbers}
-use Rattle.proof_tree.specs.Trees.{IsOnWayUp, IsTree, Tree, leaf_sum, link_at}
+use Rattle.strategy_compiler.proofs.Common.{IsCompiled, IsWrittenWin}
+use Rattle.proof_tree.proofs.Common.{settled_numbers, IsOnWayUp, IsTree, Tree, leaf_sum, link_at}
 use Rattle.proof_tree.specs.declared.Kind.{Kind}
 use Rattle.proof_tree.specs.declared.Kind.TheVariants.{Attack}
 use Rattle.proof_tree.specs.declared.Link.{Link}
 use Rattle.proof_tree.specs.declared.Numbers.{Numbers}
-use Rattle.threat_game.proofs.Counting.{one_where}
+use Rattle.threat_game.proofs.TreeLaws.{one_where}
 use Rattle.proof_number.specs.declared.notes.Note.{Note}
 use Rattle.proof_number.specs.declared.search.Search.{Search}
-use Rattle.proof_number.specs.Notes.{no_note, note_at, win_of}
-use Rattle.proof_number.specs.GameTrees.{GameTree, IsGameTree, TellsTruly, WinsAt, board_at, left_at, noted_tree}
-use Rattle.proof_number.specs.Remembered.{IsTrueMemo}
-use Rattle.proof_number.specs.Searches.{AreWritten, HasGrown, IsAtLeaf, IsCounted, IsNotedWin, IsSearching, IsSettledAt, attacks_behind, closed_nodes, game_of, is_attack, noted_won, sum_below, unwritten}
+use Rattle.proof_number.proofs.Common.{no_note, note_at, win_of, GameTree, IsGameTree, TellsTruly, WinsAt, board_at, left_at, noted_tree, IsTrueMemo, AreWritten, HasGrown, IsAtLeaf, IsCounted, IsNotedWin, IsSearching, IsSettledAt, attacks_behind, closed_nodes, game_of, is_attack, noted_won, sum_below, unwritten}
 use Rattle.proof_number.proofs.Compiling.{won-places}
 use Rattle.proof_number.proofs.Settling.{closed-settled, counted-settled, game-settled, written-grown, written-settled}
 use Rattle.proof_number.proofs.Sums.{sum-less}
@@ -127,9 +122,7 @@ module _ (rule : RuleKind) (s : Search) (t : Tree) (c : List Node) (leaf : ℕ) 
       let less = sum-less (length t.links) (unwritten t v.notes.items) (unwritten t s.notes.items) leaf 1 h.in_tree
       (λ j low other. let e = ap (λ (n : Note). one_where (is_attack (link_at t.links j).kind && nat_eq n.moves 0)) (other-note j other) in omega (arith, e))
       (let a = now-none in let b = was-one in omega (arith, a, b)) in
-      let many = length-append c more in
-      let old = h.searching.few in
-      omega (arith, less, many, short, old) where
+      omega (arith, less, length-append c more, short, h.searching.few) where
         now-none : unwritten t v.notes.items leaf ≡ 0
         now-none =
             ap (λ r. one_where (is_attack (link_at t.links leaf).kind && r)) (ne_eqb (note_at v.notes.items leaf).moves 0 (λ e. let positive = now-some in omega (arith, e, positive)))

@@ -1,31 +1,24 @@
 -- The laws of the search for wins by threats.
 
+-- the words of the search, in one place
+pub mod Common
 -- the boards of the nodes of a tree; settled numbers are true; moves played and taken back
-mod GameBoards
 mod GameTruths
-mod GameWalks
 -- answers in reading order rise
 mod Rising
--- the win of a proved node is compiled; what is remembered
-mod Records
+-- the win of a proved node is compiled; what is recorded and remembered on the way up
+mod Recording
 mod Remembering
 mod Compiling
-mod Recording
 -- sums over nodes; a leaf is settled, or given children
 mod Sums
 mod Settling
 mod Growing
 mod Expanding
-mod Expanded
-mod Widening
--- the steps of a search, in the words of its contracts
+-- the steps of a search, in the words of its contracts, and those that win
 mod Steps
-mod WonSteps
 mod Attacking
-mod ChildNotes
 mod Defending
 mod StepLaws
 mod Beginning
 mod Ending
-mod Compiled
-mod Recorded

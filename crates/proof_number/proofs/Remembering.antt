@@ -6,7 +6,7 @@ use Rattle.position_table.specs.Remembering.{Remembered}
 use Rattle.position_table.proofs.Remembering.{true-weaker}
 use Rattle.strategy_graph.specs.declared.Node.{Node}
 use Rattle.strategy_graph.specs.Tables.{NamesLower}
-use Rattle.strategy_compiler.proofs.Winning.{growth_keeps-wins}
+use Rattle.strategy_compiler.proofs.Growing.{growth_keeps-wins}
 use Rattle.proof_number.specs.declared.notes.Settled.{Settled}
 use Rattle.proof_number.specs.declared.notes.Settled.TheVariants.{Won, Lost}
 use Rattle.proof_number.specs.Remembered.{IsTrueOf, IsTrueMemo}

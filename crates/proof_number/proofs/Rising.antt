@@ -1,11 +1,10 @@
 -- Answers by the notes of a node, taken in reading order, rise.
-use Rattle.std.proofs.Common.{◌≡◌, ◌∙◌, Bool, true, List, map}
-use Rattle.std.specs.List.{filter}
+use Rattle.std.proofs.Common.{◌≡◌, ◌∙◌, Bool, true, List, map, filter}
 use Rattle.std.proofs.lemmas.Simd.{map-map}
 use Rattle.game_rules.specs.Grid.{Grid, points_of}
 use Rattle.game_rules.specs.declared.Point.{Point}
 use Rattle.strategy_graph.specs.Tables.{is_rising}
-use Rattle.strategy_graph.proofs.ReadingOrder.{replies-rising}
+use Rattle.strategy_graph.proofs.Rising.{replies-rising}
 use Rattle.proof_number.specs.declared.notes.Note.{Note}
 use Rattle.proof_number.specs.Notes.{answer_of}
 

@@ -1,32 +1,25 @@
 -- What becomes of a tree of the game, of what is written, and of the counts where a leaf is settled.
 use Rattle.std.proofs.Common.{◌≡◌, ◌≢◌, ◌⊎◌, inl, inr, ℕ, ◌+◌, ◌<◌, ◌≤◌, Bool, true, false, cond, not, ◌&&◌, refl, sym, ap, subst, ◌∙◌, arith, List, ◌++◌, length, nat_eq}
 use Rattle.std.proofs.lemmas.Bool.{cases_eq, eq-eqb, ne_eqb}
-use Rattle.game_rules.specs.Grid.{Grid}
 use Rattle.game_rules.specs.declared.RuleKind.{RuleKind}
 use Rattle.strategy_graph.specs.declared.Node.{Node}
-use Rattle.strategy_graph.specs.Tables.{NamesLower}
-use Rattle.strategy_compiler.proofs.Winning.{growth_keeps-wins}
-use Rattle.proof_tree.specs.Combining.{is_settled, settled_numbers}
-use Rattle.proof_tree.specs.Trees.{IsOnWayUp, IsTree, OthersStay, Tree, leaf_sum, link_at, numbers_at}
+use Rattle.strategy_compiler.proofs.Growing.{growth_keeps-wins}
+use Rattle.proof_tree.proofs.Common.{is_settled, settled_numbers, IsOnWayUp, IsTree, OthersStay, leaf_sum, link_at, numbers_at}
 use Rattle.proof_tree.specs.declared.Kind.{Kind}
 use Rattle.proof_tree.specs.declared.Kind.TheVariants.{Attack, Defend}
 use Rattle.proof_tree.specs.declared.Numbers.{Numbers}
-use Rattle.proof_tree.proofs.Ancestors.{leaf-beside}
-use Rattle.proof_tree.proofs.Settled.{settled-test}
+use Rattle.proof_tree.proofs.Settled.{leaf-beside, settled-test}
 use Rattle.proof_number.specs.declared.notes.Note.{Note}
-use Rattle.proof_number.specs.Notes.{note_at, win_of}
-use Rattle.proof_number.specs.GameTrees.{GameTree, IsGameTree, TellsTruly, WinsAt, board_at, left_at}
-use Rattle.proof_number.specs.Searches.{AreWritten, IsNotedWin, IsCounted, attacks_behind, behind_at, behind_leaves, closed_nodes, defences_behind, is_open_leaf}
+use Rattle.proof_number.proofs.Common.{note_at, win_of, GameTree, IsGameTree, TellsTruly, WinsAt, board_at, left_at, AreWritten, IsNotedWin, IsCounted, attacks_behind, behind_at, behind_leaves, closed_nodes, defences_behind, is_open_leaf}
 use Rattle.proof_number.proofs.Sums.{sum-less}
+use Rattle.game_rules.proofs.Common.{Grid}
+use Rattle.strategy_graph.proofs.Common.{NamesLower}
 
 -- ---- the way up
 
 -- 0 for yes, and 1 for no
 abbrev pub one_unless : Bool → ℕ
 one_unless r = cond r 0 1
-
-open-test : (t : Tree) (i : ℕ) → 0 < (link_at t.links i).count → is_open_leaf t i ≡ false
-open-test t i some = ap (λ r. r && not (is_settled (numbers_at t.numbers i))) (ne_eqb (link_at t.links i).count 0 (λ e. omega (arith, e, some)))
 
 -- ---- a leaf is settled
 

@@ -1,22 +1,18 @@
 -- A step of the search from the root to a leaf and back, of its parts.
-use Rattle.std.proofs.Common.{◌≡◌, ◌∙◌, ℕ, ◌+◌, ◌<◌, false, sym, ap, subst, arith, length, List}
-use Rattle.std.specs.Prelude.{Ok}
+use Rattle.std.proofs.Common.{◌≡◌, ◌∙◌, ℕ, ◌+◌, ◌<◌, false, sym, ap, subst, arith, length, List, Ok}
 use Rattle.std.proofs.lemmas.List.{get_or-map, length-map}
 use Rattle.game_rules.specs.Grid.{Grid}
 use Rattle.game_rules.specs.declared.RuleKind.{RuleKind}
 use Rattle.strategy_graph.specs.declared.Node.{Node}
 use Rattle.strategy_graph.specs.declared.TheConstants.{MAX_NODES}
-use Rattle.proof_tree.specs.Combining.{is_settled}
-use Rattle.proof_tree.specs.Trees.{IsOnWayUp, IsTree, Tree, link_at, most_proving, numbers_at}
+use Rattle.proof_tree.proofs.Common.{is_settled, IsOnWayUp, IsTree, Tree, link_at, most_proving, numbers_at}
 use Rattle.threat_game.specs.ThreatGame.{threat_tree}
 use Rattle.proof_number.specs.declared.notes.Note.{Note}
 use Rattle.proof_number.specs.declared.search.Search.{Search}
 use Rattle.proof_number.specs.declared.search.Step.{Step}
 use Rattle.proof_number.specs.declared.search.Step.TheVariants.{Done, Spent}
-use Rattle.proof_number.specs.Notes.{no_note}
-use Rattle.proof_number.specs.GameTrees.{GameTree, IsGameTree, board_at, left_at}
-use Rattle.proof_number.specs.Searches.{Grows, HasGrown, HasSpent, HasStayed, IsSameAim, IsSearching, KeepsTree, OnStep, Searches, StandsAt, game_of}
-use Rattle.proof_number.proofs.Recorded.{board-searches}
+use Rattle.proof_number.proofs.Common.{no_note, GameTree, IsGameTree, board_at, left_at, Grows, HasGrown, HasSpent, HasStayed, IsSameAim, IsSearching, KeepsTree, OnStep, Searches, StandsAt, game_of}
+use Rattle.proof_number.proofs.Recording.{board-searches}
 
 module _ (rule : RuleKind) (s : Search) (t : Tree) (c : List Node) (searches : Searches rule s t c (λ i. ⊥)) where
   inside : IsSearching rule s t c (λ i. ⊥)

@@ -1,6 +1,5 @@
 -- Sums over the first numbers: how they change where one term does, or where terms are added.
-use Rattle.std.proofs.Common.{◌≡◌, ◌≢◌, ◌⊎◌, inl, inr, ℕ, zero, suc, ◌+◌, ◌<◌, ◌≤◌, refl, sym, ap, subst, ◌∙◌, zero-add, arith, List, [], ◌∷◌, length, get_or}
-use Rattle.std.specs.List.{sum_by}
+use Rattle.std.proofs.Common.{◌≡◌, ◌≢◌, ◌⊎◌, inl, inr, ℕ, zero, suc, ◌+◌, ◌<◌, ◌≤◌, refl, sym, ap, subst, ◌∙◌, zero-add, arith, List, [], ◌∷◌, length, get_or, sum_by}
 use Rattle.std.proofs.lemmas.List.Sums.{sum_by-cons}
 use Rattle.std.proofs.lemmas.Bool.{cases_eq}
 use Rattle.proof_number.specs.Searches.{sum_below}
@@ -17,11 +16,9 @@ sum-zero f = refl
 pub sum-le : (n : ℕ) (f g : ℕ → ℕ) → ((i : ℕ) → i < n → f i ≤ g i) → sum_below n f ≤ sum_below n g
 sum-le zero f g h = let a = sum-zero f in let b = sum-zero g in omega (arith, a, b)
 sum-le (suc n) f g h =
-    let a = sum-suc n f in
-    let b = sum-suc n g in
     let rest = sum-le n f g (λ i low. h i (omega arith)) in
     let here = h n (omega arith) in
-    omega (arith, a, b, rest, here)
+    omega (arith, sum-suc n f, sum-suc n g, rest, here)
 
 -- the same, and one term is less by d or more
 pub sum-less : (n : ℕ) (f g : ℕ → ℕ) (i d : ℕ) → i < n → ((j : ℕ) → j < n → j ≢ i → f j ≤ g j) → f i + d ≤ g i → sum_below n f + d ≤ sum_below n g
@@ -29,17 +26,13 @@ sum-less zero f g i d inside h less = absurd (omega arith)
 sum-less (suc n) f g i d inside h less = by_last (cases_eq n i) (λ low. sum-less n f g i d low (λ j l ne. h j (omega arith) ne) less) where
   by_last : (n ≡ i) ⊎ (n ≡ i → ⊥) → (i < n → sum_below n f + d ≤ sum_below n g) → sum_below (suc n) f + d ≤ sum_below (suc n) g
   by_last (inl same) later =
-      let a = sum-suc n f in
-      let b = sum-suc n g in
       let rest = sum-le n f g (λ j l. h j (omega arith) (λ e. omega (arith, e, same))) in
       let here : f n + d ≤ g n = subst (λ (k : ℕ). f k + d ≤ g k) (sym same) less in
-      omega (arith, a, b, rest, here)
+      omega (arith, sum-suc n f, sum-suc n g, rest, here)
   by_last (inr other) later =
-      let a = sum-suc n f in
-      let b = sum-suc n g in
       let rest = later (omega (arith, other)) in
       let here = h n (omega arith) other in
-      omega (arith, a, b, rest, here)
+      omega (arith, sum-suc n f, sum-suc n g, rest, here)
 
 -- further terms
 pub sum-more : (n k : ℕ) (f : ℕ → ℕ) → sum_below (n + k) f ≡ sum_below n f + sum_below k (λ j. f (n + j))

@@ -1,16 +1,14 @@
 -- What becomes of a tree when its leaf is settled or given children.
-use Rattle.std.proofs.Common.{◌≡◌, ◌≢◌, ℕ, zero, suc, ◌+◌, ◌-◌, ◌<◌, ◌≤◌, List, ◌++◌, length, take, drop, set, replicate, get_or, Bool, true, false, inl, inr, refl, sym, ◌∙◌, ap, subst, arith}
+use Rattle.std.proofs.Common.{◌≡◌, ◌≢◌, ℕ, zero, suc, ◌+◌, ◌-◌, ◌<◌, ◌≤◌, List, ◌++◌, length, take, drop, set, replicate, get_or, true, inl, inr, refl, sym, ◌∙◌, ap, subst, arith, All}
 use Rattle.std.proofs.lemmas.Bool.{cases_eq, cases_lt}
 use Rattle.std.proofs.lemmas.List.{drop-append-le, get_or-append_right, get_or-replicate, get_or-set_other, get_or-set_same, get_or_append_left, length-append, length-drop, length-replicate, length-set, set-append_left, take-append-le}
 use Rattle.std.proofs.Math.Seq.{take-append_seam}
-use Rattle.std.specs.List.{All}
 use Rattle.proof_tree.specs.declared.TheConstants.{INFINITE}
 use Rattle.proof_tree.specs.declared.Kind.{Kind}
 use Rattle.proof_tree.specs.declared.Kind.TheVariants.{Attack, Defend}
 use Rattle.proof_tree.specs.declared.Numbers.{Numbers}
 use Rattle.proof_tree.specs.declared.Link.{Link}
-use Rattle.proof_tree.specs.Combining.{AreNumbers, combined, finite, is_settled, no_numbers, other_kind, settled_numbers, sought}
-use Rattle.proof_tree.specs.Trees.{IsChild, IsCombinedAt, IsLinked, IsNumbered, IsOnWayUp, IsTree, OthersStay, Tree, ancestor, children_of, grown_links, leaf_link, leaf_sum, link_at, most_proving, numbers_at}
+use Rattle.proof_tree.proofs.Common.{AreNumbers, combined, finite, is_settled, no_numbers, other_kind, sought, IsChild, IsCombinedAt, IsLinked, IsNumbered, IsOnWayUp, IsTree, OthersStay, Tree, ancestor, children_of, grown_links, leaf_link, leaf_sum, link_at, most_proving, numbers_at}
 use Rattle.proof_tree.proofs.Combined.{finite-infinite, finite-le, settled-pair}
 use Rattle.proof_tree.proofs.LeafSums.{leaf_sum-set}
 use Rattle.proof_tree.proofs.Updated.{IsRightBut, stays-combined, written-each}
@@ -211,9 +209,6 @@ right-grown links numbers more i w r h z some good sums =
 
 pub grown-length : (links : List Link) (i count : ℕ) → i < length links → length (grown_links links i count) ≡ length links + count
 grown-length links i count h = (grown links i count h).sized
-
-pub grown-count : (links : List Link) (i count : ℕ) → i < length links → (link_at (grown_links links i count) i).count ≡ count
-grown-count links i count h = ap (λ l. l.count) (grown links i count h).here
 
 -- numbers that are 0 and infinity count nothing
 pub settled-nothing : (x : Numbers) → is_settled x ≡ true → CountNothing x

@@ -11,9 +11,6 @@ use Rattle.proof_tree.specs.Combining.{AreNumbers, combined, no_numbers, finite,
 
 -- the steps of the loops
 
-pub least-step : (f : Numbers → ℕ) (xs : List Numbers) (i m : ℕ) → i < length xs → min m (least (map f (drop i xs))) ≡ min (min m (f (get_or xs i no_numbers))) (least (map f (drop (i + 1) xs)))
-least-step f xs i m h = rw (add-one, drop-cons xs i no_numbers) (omega arith)
-
 pub plus-finite : (x y : ℕ) → x < INFINITE → y < INFINITE → plus x y ≡ x + y
 plus-finite x y h k =
     let a : nat_eq x INFINITE ≡ false = ne_eqb x INFINITE (λ e. omega arith) in

@@ -6,8 +6,7 @@ use Rattle.std.proofs.lemmas.Bool.{cases_eq, eq-eqb, ne_eqb}
 use Rattle.proof_tree.specs.declared.Kind.{Kind}
 use Rattle.proof_tree.specs.declared.Numbers.{Numbers}
 use Rattle.proof_tree.specs.declared.Link.{Link}
-use Rattle.proof_tree.specs.Combining.{no_numbers, finite, finite_sum, sought}
-use Rattle.proof_tree.specs.Trees.{IsCombinedAt, IsLinked, children_of, leaf_sum, link_at, numbers_at}
+use Rattle.proof_tree.proofs.Common.{no_numbers, finite, finite_sum, sought, IsCombinedAt, IsLinked, children_of, leaf_sum, link_at, numbers_at}
 use Rattle.proof_tree.proofs.Combined.{finite-combined}
 
 -- the sum over nodes, from node i on, of what each counts by its number, its link and its own value

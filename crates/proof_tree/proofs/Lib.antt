@@ -1,5 +1,7 @@
 -- The laws of the tree. What is declared by `pub mod` the layers above may cite; the rest serves this crate alone.
 
+-- the words of the tree, in one place
+pub mod Common
 -- what a node has of its children, sums over leaves, numbers brought up to date, the walk, and a leaf that is settled or expanded
 mod Combined
 mod LeafSums
@@ -10,4 +12,3 @@ pub mod Changed
 pub mod SumLaws
 -- numbers that are settled, and the nodes above a node
 pub mod Settled
-pub mod Ancestors

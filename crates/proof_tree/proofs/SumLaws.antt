@@ -1,15 +1,12 @@
 -- How the sum over the leaves goes on when a leaf gets children: its own number goes, and theirs come.
-use Rattle.std.proofs.Common.{◌≡◌, ℕ, zero, suc, ◌+◌, ◌<◌, List, [], ◌∷◌, ◌++◌, map, length, replicate, set, refl, ◌∙◌, arith, cond, sym, ap, ◌⊎◌, inl, inr, ◌≤◌, subst}
+use Rattle.std.proofs.Common.{◌≡◌, ℕ, zero, suc, ◌+◌, ◌<◌, List, [], ◌∷◌, ◌++◌, map, length, replicate, set, refl, ◌∙◌, arith, cond, sym, ap, ◌⊎◌, inl, inr, ◌≤◌, subst, nat_eq, true, false, All}
 use Rattle.std.proofs.lemmas.Bool.{eq-eqb, ne_eqb}
 use Rattle.std.proofs.lemmas.List.{length-set}
-use Rattle.std.specs.Prelude.{nat_eq, true, false}
-use Rattle.std.specs.List.{All}
 use Rattle.std.proofs.lemmas.List.Elements.{All-head, All-tail, All-weaker}
 use Rattle.proof_tree.specs.declared.Kind.{Kind}
 use Rattle.proof_tree.specs.declared.Numbers.{Numbers}
 use Rattle.proof_tree.specs.declared.Link.{Link}
-use Rattle.proof_tree.specs.Combining.{finite, finite_sum, other_kind, sought, settled_numbers, AreNumbers, is_settled}
-use Rattle.proof_tree.specs.Trees.{grown_links, leaf_link, leaf_sum, link_at, numbers_at, IsTree, Tree, chosen, most_proving, walk_end}
+use Rattle.proof_tree.proofs.Common.{finite, finite_sum, other_kind, sought, settled_numbers, AreNumbers, is_settled, grown_links, leaf_link, leaf_sum, link_at, numbers_at, IsTree, Tree, chosen, most_proving, walk_end}
 use Rattle.proof_tree.specs.declared.Kind.TheVariants.{Attack, Defend}
 
 leaf_sum-append : (kind : Kind) (links more : List Link) (numbers ns : List Numbers) → length numbers ≡ length links → leaf_sum kind (links ++ more) (numbers ++ ns) ≡ leaf_sum kind links numbers + leaf_sum kind more ns
@@ -82,9 +79,7 @@ fresh-low Defend n (inr e) = let a : finite n.disproof ≡ 0 = ap (λ (m : Numbe
 pub fresh-sum : (kind : Kind) (more : List Numbers) → All IsFresh more → finite_sum (map (sought kind) more) ≤ length more
 fresh-sum kind [] h = omega arith
 fresh-sum kind (n ∷ more) h =
-    let a = fresh-low kind n (All-head IsFresh n more h) in
-    let b = fresh-sum kind more (All-tail IsFresh n more h) in
-    omega (arith, a, b)
+    omega (arith, fresh-low kind n (All-head IsFresh n more h), fresh-sum kind more (All-tail IsFresh n more h))
 
 fresh-are : (n : Numbers) → IsFresh n → AreNumbers n
 fresh-are n (inl e) = subst AreNumbers (sym e) (inr (record { proof_above = omega arith; proof_below = omega arith; disproof_above = omega arith; disproof_below = omega arith }))

@@ -6,8 +6,7 @@ use Rattle.proof_tree.specs.declared.TheConstants.{INFINITE}
 use Rattle.proof_tree.specs.declared.Kind.{Kind}
 use Rattle.proof_tree.specs.declared.Numbers.{Numbers}
 use Rattle.proof_tree.specs.declared.Link.{Link}
-use Rattle.proof_tree.specs.Combining.{AreNumbers, combined, no_numbers, finite_sum, sought}
-use Rattle.proof_tree.specs.Trees.{IsChild, IsCombinedAt, IsLinked, IsNumbered, IsOnWayUp, OthersStay, children_of, leaf_sum, link_at, numbers_at}
+use Rattle.proof_tree.proofs.Common.{AreNumbers, combined, no_numbers, finite_sum, sought, IsChild, IsCombinedAt, IsLinked, IsNumbered, IsOnWayUp, OthersStay, children_of, leaf_sum, link_at, numbers_at}
 use Rattle.proof_tree.proofs.Combined.{AreNumbers-combined}
 use Rattle.proof_tree.proofs.LeafSums.{children-le, leaf_sum-set}
 
@@ -77,18 +76,6 @@ written-each links numbers i x h good each j k =
       | inl e ↦ subst AreNumbers (sym (ap (numbers_at (set numbers i x)) e ∙ get_or-set_same numbers i x no_numbers h)) good
       | inr n ↦ subst AreNumbers (sym (get_or-set_other numbers i j x no_numbers n)) (each j k)
     ]
-
--- where the node has its children's numbers already, all are right
-pub right-already : (links : List Link) (numbers : List Numbers) (i : ℕ) → IsRightBut links numbers i → numbers_at numbers i ≡ combined (link_at links i).kind (children_of (link_at links i) numbers) → IsNumbered links numbers
-right-already links numbers i r e = record {
-  count = r.count;
-  each = r.each;
-  combined_at = λ j h. elim (cases_eq j i) [
-    | inl q ↦ let P : ℕ → Type 0 = λ k. IsCombinedAt links numbers k in subst P (sym q) (λ _. e)
-    | inr n ↦ r.combined_at j h n
-  ];
-  sums = r.sums;
-}
 
 -- once the root is counted anew, all are right
 pub right-at_root : (links : List Link) (numbers : List Numbers) → IsLinked links → IsRightBut links numbers 0 → IsNumbered links (set numbers 0 (combined (link_at links 0).kind (children_of (link_at links 0) numbers)))

@@ -1,7 +1,7 @@
 -- The walk to the most-proving leaf: at a node that is open the first child with the node's minimum is open too.
 use Rattle.std.proofs.Common.{◌≡◌, ◌≢◌, ℕ, zero, suc, ◌+◌, ◌-◌, ◌<◌, ◌≤◌, Bool, true, false, List, [], ◌∷◌, map, length, take, drop, get_or, nat_eq, inl, inr, refl, sym, ◌∙◌, ap, subst, one-add, arith}
 use Rattle.std.proofs.lemmas.Bool.Decides.{nat_tests}
-use Rattle.std.proofs.lemmas.Bool.{cases_eq, eq-eqb, ne_eqb, eqb-true, false≢true}
+use Rattle.std.proofs.lemmas.Bool.{cases_eq, eq-eqb, ne_eqb, eqb-true}
 use Rattle.std.proofs.lemmas.List.{length-take-le, length-drop}
 use Rattle.std.specs.List.{position_or_len}
 use Rattle.proof_tree.specs.declared.TheConstants.{INFINITE}
@@ -9,8 +9,7 @@ use Rattle.proof_tree.specs.declared.Kind.{Kind}
 use Rattle.proof_tree.specs.declared.Kind.TheVariants.{Attack, Defend}
 use Rattle.proof_tree.specs.declared.Numbers.{Numbers}
 use Rattle.proof_tree.specs.declared.Link.{Link}
-use Rattle.proof_tree.specs.Combining.{AreNumbers, IsOpen, combined, no_numbers, is_settled, least, sought}
-use Rattle.proof_tree.specs.Trees.{IsTree, Tree, children_of, chosen, link_at, most_proving, numbers_at, walk_end}
+use Rattle.proof_tree.proofs.Common.{AreNumbers, IsOpen, combined, no_numbers, is_settled, least, sought, IsTree, Tree, children_of, chosen, link_at, most_proving, numbers_at, walk_end}
 use Rattle.proof_tree.proofs.Updated.{child-number, slice-children}
 
 -- the first place that passes, if there is one
@@ -52,17 +51,6 @@ open-again : (k : Kind) (n : Numbers) → AreNumbers n → 0 < sought k n → so
 open-again k n (inl s) a b = absurd (not-settled k n a b s)
 open-again k n (inr o) a b = o
 
-pub IsOpen-unsettled : (n : Numbers) → IsOpen n → is_settled n ≡ false
-IsOpen-unsettled n o = one (is_settled n) refl
-  where
-    one : (b : Bool) → is_settled n ≡ b → is_settled n ≡ false
-    one true e = absurd (not-settled Attack n o.proof_above o.proof_below e)
-    one false e = e
-
-pub unsettled-open : (n : Numbers) → AreNumbers n → is_settled n ≡ false → IsOpen n
-unsettled-open n (inl s) e = absurd (false≢true (sym e ∙ s))
-unsettled-open n (inr o) e = o
-
 -- the child that is chosen at an open node
 pub record IsChosen (t : Tree) (i : ℕ) : Type 0 where
   pub after : i < chosen t i
@@ -92,9 +80,6 @@ chosen-child t i w h b o =
 -- the walk from node i, which has steps enough, ends where the whole walk ends
 abbrev pub LeadsOn : Tree → ℕ → Type 0
 LeadsOn t i = (steps : ℕ) × (length t.links ≤ steps + i) × (walk_end steps t i ≡ most_proving t)
-
-pub LeadsOn-root : (t : Tree) → LeadsOn t 0
-LeadsOn-root t = (length t.links, omega arith, refl)
 
 pub LeadsOn-chosen : (t : Tree) (i : ℕ) → IsTree t → i < length t.links → 0 < (link_at t.links i).count → IsOpen (numbers_at t.numbers i) → LeadsOn t i → LeadsOn t (chosen t i)
 LeadsOn-chosen t i w h b o on = one on.0 on.1 on.2

@@ -21,6 +21,7 @@ use Rattle.renju_cli.specs.Runs.{Change, Run, HasFailed, IsSound}
 use Rattle.renju_cli.specs.Checks.{IsTableAt, IsRefusedTable, IsSpentWork}
 use Rattle.renju_cli.specs.Brains.{nothing_held, held_by, session_of, EndsSession, session_status, IsSession, IsUnbegun, EndsBrain, IsUnhinderedSession, HasServed, AnswersAll, IsBrain, IsLoaded, FileSays, IsUnheld, IsBrainWith, IsFitFile, IsUnhinderedFile}
 use Rattle.renju_cli.proofs.ToldLaws.{longer-than}
+use Rattle.strategy_graph.proofs.Starts.{accepted-root-wins}
 
 -- a file under a name that is too long
 long-under : (name : List ℕ) (files : Files) (found : Option (List ℕ)) → file_under name files ≡ found → IsSomeAnd found (λ bytes. MAX_INPUT_BYTES < length bytes)

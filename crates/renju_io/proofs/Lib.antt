@@ -1,5 +1,4 @@
 -- Lemmas on counts of faults, on bytes that are given and taken, and on the lines of an input.
-pub mod Counts
 pub mod FileNames
 pub mod GivenBytes
 pub mod LineLaws

@@ -11,7 +11,7 @@ use Rattle.renju_io.specs.declared.line_reader.Line.{Line}
 use Rattle.renju_io.specs.declared.line_reader.Line.TheVariants as kind
 use Rattle.renju_io.specs.declared.TheConstants.{LINE_FEED, MAX_LINE_BYTES, MAX_SESSION_BYTES}
 use Rattle.renju_io.proofs.GivenBytes.{Gives-then}
-use Rattle.renju_io.proofs.LineLaws.{HasNoLineFeed-first, HasNoLineFeed-second, HasNoLineFeed-append, HasNoLineFeed-take, Tells-same, Tells-front, Tells-then, Tells-joined, pieces-ended}
+use Rattle.renju_io.proofs.LineLaws.{HasNoLineFeed-first, HasNoLineFeed-second, HasNoLineFeed-append, HasNoLineFeed-take, Tells-front, Tells-then, Tells-joined, pieces-ended}
 
 -- the reader took these bytes of the source, and its lines are as they were
 pub record ReadSoFar (old : ReaderState) (left : Option (List ℕ)) (now : ReaderState) (left_now : Option (List ℕ)) : Type 0 where
@@ -26,24 +26,6 @@ pub record Reading (old : ReaderState) (left : Option (List ℕ)) (now : ReaderS
   pub past : MAX_SESSION_BYTES < now.taken → TakesTooMany old left now left_now
   pub text : now.text ≡ old.text
   pub grown : old.taken + length now.kept ≤ now.taken + length old.kept
-
-gives_none : (told : Option (List ℕ)) → Gives told [] told
-gives_none None = refl
-gives_none (Some bytes) = refl
-
--- nothing was read yet
-pub Reading-begun : (old : ReaderState) (left : Option (List ℕ)) → Reading old left old left
-Reading-begun old left = record {
-  within = λ _. record {
-    given = [];
-    gives = gives_none left;
-    counted = omega arith;
-    stands = subst (λ (bytes : List ℕ). Tells bytes [] old.kept) (sym (append-nil old.kept)) (Tells-same old.kept);
-  };
-  past = λ more. inr (more, refl, refl);
-  text = refl;
-  grown = omega arith;
-}
 
 -- how many pieces there are once one more byte is begun
 begun-length : (byte : ℕ) (ps : List (List ℕ)) → 0 < length ps → length (begun byte ps) ≡ length ps
@@ -145,16 +127,6 @@ KeepsLine-failed old now new left left_now left_new so_far none same is = record
   gives = subst (λ (told : Option (List ℕ)). Gives left so_far.given told) (sym same) so_far.gives;
   counted = ap (λ (reader : ReaderState). reader.taken) is ∙ so_far.counted;
   stays = stays_open old now left left_now so_far new none (ap (λ (reader : ReaderState). reader.kept) is);
-}
-
--- a line that ends is told
-pub TakesLines-line : (old now new : ReaderState) (left left_now : Option (List ℕ)) (told : List LineText) →
-    ReadSoFar old left now left_now → Tells now.kept told new.kept → new.taken ≡ now.taken → TakesLines old left told new left_now
-TakesLines-line old now new left left_now told so_far tells taken = record {
-  given = so_far.given;
-  gives = so_far.gives;
-  counted = taken ∙ so_far.counted;
-  tells = inl (Tells-then (old.kept ++ so_far.given) now.kept new.kept told so_far.stands tells);
 }
 
 -- at the end of the input the lines of all bytes are told

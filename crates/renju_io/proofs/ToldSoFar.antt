@@ -1,6 +1,5 @@
 -- What a reader has told of an input, line by line.
-use Rattle.std.proofs.Common.{List, Option, false, [], ◌≤◌, refl, Some, None, sym, ap, ◌≡◌, true, inl, inr, ◌++◌, ◌∙◌, append_assoc, arith, length-append, subst, Bool, ◌⊎◌, length}
-use Rattle.std.specs.Prelude.{ℕ, IfSome}
+use Rattle.std.proofs.Common.{List, Option, false, [], ◌≤◌, refl, Some, None, sym, ap, ◌≡◌, true, inl, inr, ◌++◌, ◌∙◌, append_assoc, arith, length-append, subst, Bool, ◌⊎◌, length, ℕ, IfSome}
 use Rattle.std.proofs.lemmas.List.{append-nil}
 use Rattle.renju_io.specs.Lines.{ReaderState, LineText, KnowsEnd, TakesLines, Tells, lines, whole_lines, HasNoLineFeed, TellsLast}
 use Rattle.renju_io.specs.declared.TheConstants.{MAX_SESSION_BYTES}

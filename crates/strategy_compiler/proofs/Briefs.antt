@@ -1,24 +1,60 @@
--- The node that answers given replies: it is a node of a table, answers each as given, and stands for the tree of these branches.
-use Rattle.std.proofs.Common.{◌≡◌, ℕ, ◌<◌, Bool, true, false, cond, not, List, [], ◌∷◌, map, filter, refl, sym, ap, subst, ◌∙◌}
-use Rattle.std.specs.Prelude.{Option, Some, None, Result, Ok, Err, IfOk, OnOk, nat_lt, nat_eq, slice_get, All, Contains}
-use Rattle.std.specs.List.{list_all, find, AllByRecursion}
+-- A set of nodes in order: which node is at a place, and what is put in. The node that answers given replies: it is a node of a table,
+-- answers each as given, and stands for the tree of these branches. The commonest of some numbers, found by going over them.
+use Rattle.std.proofs.Common.{◌≡◌, inl, inr, ◌<◌, ◌≤◌, Bool, true, false, cond, List, [], ◌∷◌, ◌++◌, length, refl, sym, subst, ℕ, not, map, filter, ap, ◌∙◌, Option, Some, None, Result, Ok, Err, IfOk, OnOk, nat_lt, nat_eq, slice_get, All, Contains, ◌+◌, max, ◌&&◌, ◌==◌, take, get_or, arith, IsSome, nat_le}
+use Rattle.std.specs.List.{list_any, IsDistinct, list_all, find, AllByRecursion, count_by, sum_by}
 use Rattle.std.specs.Option.{option_or, option_eq}
-use Rattle.std.proofs.lemmas.Bool.Decides.{Decides-eqb}
+use Rattle.std.proofs.lemmas.Bool.Decides.{Decides-eqb, nat_tests}
 use Rattle.std.proofs.lemmas.List.Folds.{list_all-append}
 use Rattle.std.proofs.lemmas.List.Elements.{All-from_recursion, All-filter}
 use Rattle.std.proofs.lemmas.Result.{IfOk-weaker}
+use borrow.Author.Tests.{leb-true, leb-false, le-leb}
+use Rattle.std.proofs.lemmas.List.{map_more, take_all}
+use Rattle.std.proofs.lemmas.List.Sums.{sum_by-cons, get_or-le-sum_by}
 use Rattle.game_rules.specs.declared.Point.{Point}
 use Rattle.game_rules.proofs.Boards.{and_left, and_right}
+use Rattle.strategy_graph.specs.declared.Node.{Node}
+use Rattle.strategy_graph.specs.declared.TheConstants.{MAX_NODES}
+use Rattle.strategy_graph.specs.contracts.NodePartialEq.TheImpl.{ghosts as node_ghosts}
 use Rattle.strategy_graph.specs.declared.Reply.{Reply}
 use Rattle.strategy_graph.specs.declared.Rest.TheVariants.{Wins}
-use Rattle.strategy_graph.specs.declared.Node.{Node}
-use Rattle.strategy_graph.specs.Tables.{Answers, answers_of, answer, answer_at, listed_node, is_rising, is_winning, named, rest_node, rest_nodes, IsNode}
-use Rattle.strategy_graph.specs.Acceptance.{Answered}
+use Rattle.strategy_graph.proofs.Equal.{lt_of_le, Contains-found, list_any-Contains, different_by}
+use Rattle.strategy_graph.proofs.Filling.{IsTable-push}
+use Rattle.strategy_graph.proofs.Common.{IsNode, IsTable, Answers, answers_of, answer, answer_at, listed_node, is_rising, is_winning, named, rest_node, rest_nodes, Answered, AtNode, greatest}
 use Rattle.strategy_graph.proofs.Rising.{is_rising-filter, next-filter, Kept, kept_all, AnsweredAsGiven, point-given, all-next}
-use Rattle.strategy_graph.specs.Leads.{AtNode}
-use Rattle.strategy_compiler.specs.Trees.{Tree, Branches, Leaf, Fork, NoBranch, Branch, StandsFor, StandsForAll, AnswersBranches, AnswersBriefly, replies_of, answers_to, commonest}
-use Rattle.strategy_compiler.specs.Nodes.{NamesOnly, PutsIn, answering_node, answers_beside, brief_answers, commonest_next, rest_of, winning_node}
+use Rattle.strategy_compiler.proofs.Common.{AreDifferent, IsCompiled, PutsIn, Tree, Branches, Leaf, Fork, NoBranch, Branch, StandsFor, StandsForAll, AnswersBranches, AnswersBriefly, replies_of, answers_to, commonest, NamesOnly, answering_node, answers_beside, brief_answers, commonest_next, rest_of, winning_node, times}
 use Rattle.strategy_compiler.proofs.Standing.{stands-put_in}
+use Rattle.indexmap.specs.IndexSet.{insert_key}
+
+-- ---- the place of a node
+
+-- ---- what is put in
+
+put_by : (old : List Node) (n : Node) (new : List Node) (b : Bool) → list_any (node_ghosts.eq n) old ≡ b → new ≡ cond b old (old ++ n ∷ []) → PutsIn old n new
+put_by old n new true e h = inl (Contains-found n old e, h)
+put_by old n new false e h = inr (list_any-Contains n old e, h)
+
+pub PutsIn-insert_key : (old : List Node) (n : Node) (new : List Node) → new ≡ insert_key node_ghosts.eq old n → PutsIn old n new
+PutsIn-insert_key old n new h = put_by old n new (list_any (node_ghosts.eq n) old) refl h
+
+-- ---- no two are equal
+
+pub AreDifferent-distinct : (ks : List Node) → IsDistinct node_ghosts.eq ks → AreDifferent ks
+AreDifferent-distinct ks h = record { different = different_by ks h }
+
+-- ---- the nodes of a compiler
+
+table_by : (old : List Node) (n : Node) (new : List Node) → IsTable old → IsNode n (length old) → length old < MAX_NODES → PutsIn old n new → IsTable new
+table_by old n new t node room (inl h) = subst IsTable (sym h.1) t
+table_by old n new t node room (inr h) = subst IsTable (sym h.1) (IsTable-push old n t node room)
+
+-- they stay so once a node is put in
+pub IsCompiled-insert_key : (old : List Node) (n : Node) (new : List Node) → IsCompiled old → IsNode n (length old) → (length old ≡ MAX_NODES → ⊥) → IsDistinct node_ghosts.eq new → new ≡ insert_key node_ghosts.eq old n → IsCompiled new
+IsCompiled-insert_key old n new c node room distinct h =
+    let few : length old ≤ MAX_NODES = c.table.size in
+    record { table = table_by old n new c.table node (lt_of_le old few room) (PutsIn-insert_key old n new h); different = AreDifferent-distinct new distinct }
+
+pub PutsIn-found : (n : Node) (ks : List Node) → list_any (node_ghosts.eq n) ks ≡ true → PutsIn ks n ks
+PutsIn-found n ks h = inl (Contains-found n ks h, refl)
 
 -- ---- what is kept of the answers
 
@@ -57,9 +93,6 @@ IsNode-answering attack rs k rising below = record {
   rising = brief-rising rs rising;
   winning = λ e. cc (e, brief-not_winning rs);
 }
-
-pub IsNode-winning : (attack : Point) (k : ℕ) → IsNode (winning_node attack) k
-IsNode-winning attack k = record { below = refl; rising = refl; winning = λ e. refl }
 
 -- ---- the answer to each reply
 
@@ -192,3 +225,176 @@ module _ {E : Type 0} (old new : List Node) (r : Result ℕ E) (attack : Point) 
   answered-winning rs e =
       IfOk-weaker r (λ i. slice_get new i ≡ Some (record { attack = attack; replies = rs; rest = Wins })) (λ i. StandsFor new i (Leaf attack))
       (λ i at. stands-winning new i attack (at ∙ λ k. Some (record { attack = attack; replies = e k; rest = Wins })))
+
+-- how many of the answers are the node j
+abbrev pub answers_of_node : List Reply → ℕ → ℕ
+answers_of_node answers j = count_by (λ r. r.next == j) answers
+
+-- the first of the numbers at which f is no less than m
+abbrev pub first_with : (ℕ → ℕ) → ℕ → List ℕ → Option ℕ
+first_with f m js = find (λ j. nat_le m (f j)) js
+
+-- best is the first of the numbers at which f is greatest, and most is what it is there
+pub record IsBestSoFar (f : ℕ → ℕ) (js : List ℕ) (best : Option ℕ) (most : ℕ) : Type 0 where
+  pub best_is : best ≡ first_with f most js
+  pub most_is : most ≡ greatest (map f js)
+  pub some : 0 < most → IsSome best
+
+-- among the answers that were seen, best is the node of the most answers, and most is of how many
+abbrev pub IsCommonestSoFar : List Reply → List Reply → Option ℕ → ℕ → Type 0
+IsCommonestSoFar answers seen best most = IsBestSoFar (answers_of_node answers) (map (λ r. r.next) seen) best most
+
+-- ---- find
+
+find-push_none : (p : ℕ → Bool) (js : List ℕ) (j : ℕ) → find p js ≡ None → find p (js ++ j ∷ []) ≡ cond (p j) (Some j) None
+find-push_none p [] j h = refl
+find-push_none p (x ∷ xs) j h = by_test (p x) h (find-push_none p xs j) where
+  by_test : (b : Bool) → cond b (Some x) (find p xs) ≡ None → (find p xs ≡ None → find p (xs ++ j ∷ []) ≡ cond (p j) (Some j) None) → cond b (Some x) (find p (xs ++ j ∷ [])) ≡ cond (p j) (Some j) None
+  by_test true h next = cc
+  by_test false h next = next h
+
+find-push_some : (p : ℕ → Bool) (js : List ℕ) (j k : ℕ) → find p js ≡ Some k → find p (js ++ j ∷ []) ≡ Some k
+find-push_some p [] j k h = cc
+find-push_some p (x ∷ xs) j k h = by_test (p x) h (find-push_some p xs j k) where
+  by_test : (b : Bool) → cond b (Some x) (find p xs) ≡ Some k → (find p xs ≡ Some k → find p (xs ++ j ∷ []) ≡ Some k) → cond b (Some x) (find p (xs ++ j ∷ [])) ≡ Some k
+  by_test true h next = h
+  by_test false h next = next h
+
+-- none has more than the greatest
+none_above : (f : ℕ → ℕ) (m : ℕ) (js : List ℕ) → greatest (map f js) < m → find (λ j. nat_le m (f j)) js ≡ None
+none_above f m [] h = refl
+none_above f m (j ∷ js) h = by_test (nat_le m (f j)) refl (none_above f m js (omega arith)) where
+  by_test : (b : Bool) → nat_le m (f j) ≡ b → find (λ j. nat_le m (f j)) js ≡ None → cond b (Some j) (find (λ j. nat_le m (f j)) js) ≡ None
+  by_test true e next = absurd (omega (arith, leb-true _ _ e))
+  by_test false e next = next
+
+greatest-push : (f : ℕ → ℕ) (js : List ℕ) (j : ℕ) → greatest (map f (js ++ j ∷ [])) ≡ max (greatest (map f js)) (f j)
+greatest-push f [] j = omega arith
+greatest-push f (x ∷ xs) j = let later = greatest-push f xs j in omega (arith, later)
+
+-- ---- one number more
+
+pub best-none : (f : ℕ → ℕ) → IsBestSoFar f [] None 0
+best-none f = record { best_is = refl; most_is = refl; some = λ h. absurd (omega arith) }
+
+module _ (f : ℕ → ℕ) (js : List ℕ) (best : Option ℕ) (most j : ℕ) (so_far : IsBestSoFar f js best most) where
+  -- with a greater value
+  pub best-greater : most < f j → IsBestSoFar f (js ++ j ∷ []) (Some j) (f j)
+  best-greater h =
+      let most_is : most ≡ greatest (map f js) = so_far.most_is in
+      let none : first_with f (f j) js ≡ None = none_above f (f j) js (omega arith) in
+      record {
+        best_is = sym (find-push_none (λ k. nat_le (f j) (f k)) js j none ∙ ap (λ (b : Bool). cond b (Some j) None) (le-leb (f j) (f j) (omega arith)));
+        most_is = let both = greatest-push f js j in omega arith;
+        some = λ l. refl;
+      }
+
+  keep_by : (o : Option ℕ) → best ≡ o → 0 < most → first_with f most (js ++ j ∷ []) ≡ best
+  keep_by None e l = let bad : IsSome {T = ℕ} None = subst IsSome e (so_far.some l) in cc
+  keep_by (Some k) e l = find-push_some (λ k. nat_le most (f k)) js j k (sym so_far.best_is ∙ e) ∙ sym e
+
+  -- with one that is no greater, and not 0
+  pub best-kept : f j ≤ most → 1 ≤ f j → IsBestSoFar f (js ++ j ∷ []) best most
+  best-kept h l =
+      let most_is : most ≡ greatest (map f js) = so_far.most_is in
+      record {
+        best_is = sym (keep_by best refl (omega arith));
+        most_is = let both = greatest-push f js j in omega arith;
+        some = so_far.some;
+      }
+
+-- the number that is found is one of them
+found-le : (f : ℕ → ℕ) (p : ℕ → Bool) (js : List ℕ) (k : ℕ) → find p js ≡ Some k → f k ≤ greatest (map f js)
+found-le f p [] k h = cc
+found-le f p (j ∷ js) k h = by_test (p j) h (found-le f p js k) where
+  by_test : (b : Bool) → cond b (Some j) (find p js) ≡ Some k → (find p js ≡ Some k → f k ≤ greatest (map f js)) → f k ≤ max (f j) (greatest (map f js))
+  by_test true h next = let same : f j ≡ f k = cc in omega (arith, same)
+  by_test false h next = let later = next h in omega (arith, later)
+
+-- with the best itself
+pub best-again : (f : ℕ → ℕ) (js : List ℕ) (best : Option ℕ) (most j : ℕ) → IsBestSoFar f js best most → best ≡ Some j → 1 ≤ f j → IsBestSoFar f (js ++ j ∷ []) best most
+best-again f js best most j so_far e l =
+    let most_is : most ≡ greatest (map f js) = so_far.most_is in
+    let low = found-le f (λ k. nat_le most (f k)) js j (sym so_far.best_is ∙ e) in
+    best-kept f js best most j so_far (omega (arith, most_is, low)) l
+
+-- ---- at the end
+
+le_greatest : (f : ℕ → ℕ) (m : ℕ) (js : List ℕ) → list_all (λ k. nat_le (f k) m) js ≡ nat_le (greatest (map f js)) m
+le_greatest f m [] = sym (le-leb 0 m (omega arith))
+le_greatest f m (j ∷ js) = ap (λ (b : Bool). nat_le (f j) m && b) (le_greatest f m js) ∙ both (f j) (greatest (map f js)) m where
+  both : (a b m : ℕ) → (nat_le a m && nat_le b m) ≡ nat_le (max a b) m
+  both a b m = grind (arith, nat_tests)
+
+best-all : (f : ℕ → ℕ) (js : List ℕ) (best : Option ℕ) (most : ℕ) → IsBestSoFar f js best most → best ≡ find (λ j. list_all (λ k. nat_le (f k) (f j)) js) js
+best-all f js best most h =
+    h.best_is ∙ ap (λ (m : ℕ). first_with f m js) h.most_is
+    ∙ ap (λ (p : ℕ → Bool). find p js) (λ i j. sym (le_greatest f (f j) js) i)
+
+-- ---- answers
+
+times-map : (answers : List Reply) (j : ℕ) → answers_of_node answers j ≡ times j (map (λ r. r.next) answers)
+times-map answers j = sum_by-map_of (λ k. cond (k == j) 1 0) answers where
+  sum_by-map_of : (g : ℕ → ℕ) (rs : List Reply) → sum_by (λ r. g r.next) rs ≡ sum_by g (map (λ r. r.next) rs)
+  sum_by-map_of g [] = refl
+  sum_by-map_of g (r ∷ rs) =
+      sum_by-cons (λ r. g r.next) r rs ∙ ap (λ (n : ℕ). g r.next + n) (sum_by-map_of g rs) ∙ sym (sum_by-cons g r.next (map (λ r. r.next) rs))
+
+positive : (answers : List Reply) (i : ℕ) (d : Reply) → i < length answers → 1 ≤ answers_of_node answers (get_or answers i d).next
+positive answers i d l =
+    let one : ℕ = 1 in
+    let here : cond ((get_or answers i d).next == (get_or answers i d).next) one 0 ≡ one = ap (λ (b : Bool). cond b one 0) ((Decides-eqb (get_or answers i d).next (get_or answers i d).next).1 refl) in
+    let low = get_or-le-sum_by (λ r. cond (r.next == (get_or answers i d).next) 1 0) answers i d l in
+    omega (arith, here, low)
+
+module _ (answers : List Reply) (i : ℕ) (d : Reply) (best : Option ℕ) (most count : ℕ) (so_far : IsCommonestSoFar answers (take i answers) best most) (l : i < length answers) (is : count ≡ answers_of_node answers (get_or answers i d).next) where
+  one_more : map (λ r. r.next) (take (i + 1) answers) ≡ map (λ r. r.next) (take i answers) ++ (get_or answers i d).next ∷ []
+  one_more = map_more (λ (r : Reply). r.next) answers i d l
+
+  pub commonest-greater : (best' : Option ℕ) (most' : ℕ) → best' ≡ Some (get_or answers i d).next → most' ≡ count → most < count → IsCommonestSoFar answers (take (i + 1) answers) best' most'
+  commonest-greater best' most' b m h =
+      subst (λ (js : List ℕ). IsBestSoFar (answers_of_node answers) js best' most') (sym one_more)
+      (rw (b, m ∙ is) (best-greater (answers_of_node answers) (map (λ r. r.next) (take i answers)) best most (get_or answers i d).next so_far (omega arith)))
+
+  pub commonest-kept : (best' : Option ℕ) (most' : ℕ) → best' ≡ best → most' ≡ most → count ≤ most → IsCommonestSoFar answers (take (i + 1) answers) best' most'
+  commonest-kept best' most' b m h =
+      let low = positive answers i d l in
+      subst (λ (js : List ℕ). IsBestSoFar (answers_of_node answers) js best' most') (sym one_more)
+      (rw (b, m) (best-kept (answers_of_node answers) (map (λ r. r.next) (take i answers)) best most (get_or answers i d).next so_far (omega arith) low))
+
+pub equal_best : (o : Option ℕ) (j : ℕ) → option_eq nat_eq o (Some j) ≡ true → o ≡ Some j
+equal_best None j h = cc
+equal_best (Some i) j h = ap Some ((Decides-eqb i j).0 h)
+
+-- an answer that is the best already
+pub commonest-again : (answers : List Reply) (i : ℕ) (d : Reply) (best : Option ℕ) (most : ℕ) → IsCommonestSoFar answers (take i answers) best most → i < length answers → best ≡ Some (get_or answers i d).next → IsCommonestSoFar answers (take (i + 1) answers) best most
+commonest-again answers i d best most so_far l e =
+    subst (λ (js : List ℕ). IsBestSoFar (answers_of_node answers) js best most) (sym (map_more (λ (r : Reply). r.next) answers i d l))
+    (best-again (answers_of_node answers) (map (λ r. r.next) (take i answers)) best most (get_or answers i d).next so_far e (positive answers i d l))
+
+-- once all were seen, it is the commonest of all
+pub commonest-all : (answers : List Reply) (i : ℕ) (best : Option ℕ) (most : ℕ) → length answers ≤ i → IsCommonestSoFar answers (take i answers) best most → best ≡ commonest_next answers
+commonest-all answers i best most l h =
+    let nexts : List ℕ = map (λ r. r.next) answers in
+    let all : IsBestSoFar (answers_of_node answers) nexts best most = subst (λ (rs : List Reply). IsCommonestSoFar answers rs best most) (take_all i answers l) h in
+    best-all (answers_of_node answers) nexts best most all
+    ∙ ap (λ (f : ℕ → ℕ). find (λ j. list_all (λ k. nat_le (f k) (f j)) nexts) nexts) (λ p j. times-map answers j p)
+
+-- ---- some number is the commonest
+
+some-greatest : (f : ℕ → ℕ) (m : ℕ) (js : List ℕ) → 1 ≤ m → m ≤ greatest (map f js) → find (λ j. nat_le m (f j)) js ≡ None → ⊥
+some-greatest f m [] l h e = absurd (omega arith)
+some-greatest f m (j ∷ js) l h e = by_test (nat_le m (f j)) refl e (some-greatest f m js l) where
+  by_test : (b : Bool) → nat_le m (f j) ≡ b → cond b (Some j) (find (λ j. nat_le m (f j)) js) ≡ None → (m ≤ greatest (map f js) → find (λ j. nat_le m (f j)) js ≡ None → ⊥) → ⊥
+  by_test true k e next = cc
+  by_test false k e next = let low : f j < m = leb-false _ _ k in next (omega (arith, h, low)) e
+
+pub commonest-there : (j : ℕ) (js : List ℕ) → commonest (j ∷ js) ≡ None → ⊥
+commonest-there j js e =
+    let f : ℕ → ℕ = λ k. times k (j ∷ js) in
+    let once = sum_by-cons (λ k. cond (k == j) 1 0) j js in
+    let one : ℕ = 1 in
+    let here : cond (j == j) one 0 ≡ one = ap (λ (b : Bool). cond b one 0) ((Decides-eqb j j).1 refl) in
+    let low : one ≤ f j = omega (arith, once, here) in
+    some-greatest f (greatest (map f (j ∷ js))) (j ∷ js) (omega (arith, low)) (omega arith)
+    (ap (λ (p : ℕ → Bool). find p (j ∷ js)) (λ i k. sym (le_greatest f (f k) (j ∷ js)) i) ∙ e)

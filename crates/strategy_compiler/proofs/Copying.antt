@@ -1,7 +1,6 @@
 -- A table that holds nodes of another under other numbers, no two under one: its copies stand for the same trees, are
 -- completed in the same order, reach the same nodes, and are different where the nodes are.
-use Rattle.std.proofs.Common.{◌≡◌, ℕ, zero, suc, ◌+◌, Bool, true, false, cond, not, ◌&&◌, ◌||◌, ◌==◌, List, [], ◌∷◌, ◌++◌, map, filter, refl, sym, ap, subst, ◌∙◌, arith}
-use Rattle.std.specs.Prelude.{Option, Some, None, nat_le, nat_eq, slice_get, fold, Contains}
+use Rattle.std.proofs.Common.{◌≡◌, ℕ, zero, suc, ◌+◌, Bool, true, false, cond, not, ◌&&◌, ◌||◌, ◌==◌, List, [], ◌∷◌, ◌++◌, map, filter, refl, sym, ap, subst, ◌∙◌, arith, Option, Some, None, nat_le, nat_eq, slice_get, fold, Contains}
 use Rattle.std.specs.List.{list_all, find, cons_option}
 use Rattle.std.specs.Option.{option_map, option_map_or, option_eq}
 use Rattle.std.proofs.lemmas.Option.{same_Some}
@@ -13,16 +12,12 @@ use Rattle.game_rules.proofs.Boards.{and_left, and_right}
 use Rattle.strategy_graph.specs.declared.Node.{Node}
 use Rattle.strategy_graph.specs.declared.Reply.{Reply}
 use Rattle.strategy_graph.specs.declared.Rest.{Rest}
-use Rattle.strategy_graph.specs.declared.Rest.TheVariants.{Wins, To, Nothing}
-use Rattle.strategy_graph.specs.Tables.{Answers, answers_of, answer, named, rest_node, rest_nodes, is_winning}
-use Rattle.strategy_graph.specs.Acceptance.{Answered}
-use Rattle.strategy_graph.specs.Leads.{AtNode}
+use Rattle.strategy_graph.specs.declared.Rest.TheVariants.{To}
+use Rattle.strategy_graph.proofs.Common.{Answers, answers_of, answer, named, rest_node, rest_nodes, is_winning, Answered, AtNode, renumbered_node, renumbered_reply, renumbered_rest, renumbered_answers}
 use Rattle.strategy_graph.proofs.Answering.{answer-named}
-use Rattle.strategy_graph.specs.Renumbered.{renumbered_node, renumbered_reply, renumbered_rest, renumbered_answers}
 use Rattle.strategy_graph.proofs.Copies.{Copies, answer-renumbered, is_winning-renumbered, named-renumbered}
 use Rattle.strategy_graph.proofs.Renumbering.{points-renumbered, IsOneToOne, rest_node-renumbered, rest_nodes-renumbered, nexts-renumbered}
-use Rattle.strategy_compiler.specs.Trees.{Tree, Branches, Leaf, Fork, NoBranch, Branch, StandsFor, StandsForAll, AnswersBriefly, replies_of, answers_to, commonest, times}
-use Rattle.strategy_compiler.specs.Walks.{Reaches, Itself, Through, visits, visits_at, is_in_list, completed_within}
+use Rattle.strategy_compiler.proofs.Common.{Tree, Branches, Leaf, Fork, NoBranch, Branch, StandsFor, StandsForAll, AnswersBriefly, replies_of, answers_to, commonest, times, Reaches, Itself, Through, visits, visits_at, is_in_list, completed_within}
 use Rattle.strategy_compiler.proofs.Walking.{contains-map}
 
 module _ (f : ℕ → ℕ) (passes : ℕ → Bool) (one : IsOneToOne f passes) where
@@ -83,9 +78,8 @@ module _ (f : ℕ → ℕ) (passes : ℕ → Bool) (one : IsOneToOne f passes) w
     rest-passes : (j : ℕ) → rest_node a.rest ≡ Some j → passes j ≡ true
     rest-passes j e = by_rest a.rest (and_right (list_all passes (map (λ (r : Reply). r.next) a.replies)) _ (sym (list_all-append passes (map (λ (r : Reply). r.next) a.replies) (rest_nodes a.rest)) ∙ all)) e where
       by_rest : (r : Rest) → list_all passes (rest_nodes r) ≡ true → rest_node r ≡ Some j → passes j ≡ true
-      by_rest Wins h e = cc
       by_rest (To k) h e = let same : k ≡ j = cc in subst (λ (i : ℕ). passes i ≡ true) same (and_left (passes k) true h)
-      by_rest Nothing h e = cc
+      by_rest _ h e = cc
 
     -- whether an answer is that of the rest
     same-renumbered : (o r : Option ℕ) → ((j : ℕ) → r ≡ Some j → passes j ≡ true) → option_eq nat_eq (option_map f o) (option_map f r) ≡ option_eq nat_eq o r

@@ -1,6 +1,5 @@
 -- A node whose attack wins at once is a win, and so is one whose attack goes on and whose answers win after it.
-use Rattle.std.proofs.Common.{◌≡◌, ◌⊎◌, inl, inr, ℕ, suc, ◌+◌, ◌≤◌, ◌<◌, Bool, true, false, cond, not, ◌||◌, refl, sym, ap, subst, ◌∙◌, arith, List, [], ◌∷◌, ◌++◌, map, length, filter, nat_eq}
-use Rattle.std.specs.Prelude.{Option, Some, None, IsSome, Result, Ok, Err, IfOk, OnOk, All, Contains, slice_get, nat_lt}
+use Rattle.std.proofs.Common.{◌≡◌, ◌⊎◌, inl, inr, ℕ, suc, ◌+◌, ◌≤◌, ◌<◌, Bool, true, false, cond, not, ◌||◌, refl, sym, ap, subst, ◌∙◌, arith, List, [], ◌∷◌, ◌++◌, map, length, filter, nat_eq, Option, Some, None, IsSome, Result, Ok, Err, IfOk, OnOk, All, Contains, slice_get, nat_lt}
 use Rattle.std.specs.List.{list_any, list_all, find, cons_option, filter_map, AllByRecursion}
 use Rattle.std.specs.Option.{option_map, option_or, option_eq}
 use Rattle.std.proofs.lemmas.Bool.{or_right}
@@ -10,7 +9,7 @@ use Rattle.std.proofs.lemmas.Option.{slice_get_within}
 use Rattle.game_rules.proofs.Common.{Grid, is_on, is_same_point, outcome, after, LosesOr}
 use Rattle.game_rules.specs.declared.RuleKind.{RuleKind}
 use Rattle.game_rules.specs.declared.Outcome.{Outcome}
-use Rattle.game_rules.specs.declared.Outcome.TheVariants.{Refused, Wins as WinsNow, Fouls, Draws, GoesOn}
+use Rattle.game_rules.specs.declared.Outcome.TheVariants.{Wins as WinsNow, Draws, GoesOn}
 use Rattle.game_rules.specs.declared.Point.{Point}
 use Rattle.game_rules.proofs.Points.{is_same_point-itself, is_same_point-same}
 use Rattle.game_rules.proofs.Positions.{GoesOn-on}
@@ -18,25 +17,18 @@ use Rattle.game_rules.proofs.Outcomes.{wins-on}
 use Rattle.strategy_graph.specs.declared.Node.{Node}
 use Rattle.strategy_graph.specs.declared.Reply.{Reply}
 use Rattle.strategy_graph.specs.declared.Rest.{Rest}
-use Rattle.strategy_graph.specs.declared.Rest.TheVariants.{Wins, To, Nothing}
-use Rattle.strategy_graph.specs.Tables.{Answers, answer, rest_node, rest_nodes, answers_of, named, names_below, listed_node, is_rising, NamesLower, NamesOnBoard, depth, node_depth, start_depth, greatest}
-use Rattle.strategy_graph.specs.Acceptance.{Answered, Accepted, AcceptedStart}
-use Rattle.strategy_graph.proofs.Filling.{IsTable-lower}
+use Rattle.strategy_graph.specs.declared.Rest.TheVariants.{To}
+use Rattle.strategy_graph.proofs.Common.{Answers, answer, rest_node, rest_nodes, answers_of, named, names_below, listed_node, is_rising, NamesLower, NamesOnBoard, depth, node_depth, start_depth, greatest, Answered, Accepted, AcceptedStart}
+use Rattle.strategy_graph.proofs.Filling.{IsTable-lower, growth-same-start}
 use Rattle.strategy_graph.proofs.Fuel.{depth-step}
-use Rattle.strategy_graph.proofs.Growth.{growth-same-start}
 use Rattle.strategy_graph.proofs.Steps.{accepted-by-win, accepted-by-replies}
 use Rattle.strategy_graph.proofs.Rising.{answered-as-listed, all-next}
 use Rattle.strategy_graph.proofs.Answering.{next-all}
 use Rattle.strategy_graph.proofs.Greatest.{greatest-all, contained}
-use Rattle.strategy_compiler.specs.Nodes.{IsCompiled, PutsIn, winning_node, answering_node}
-use Rattle.strategy_compiler.specs.Starts.{answers_alone, AnswersEach}
-use Rattle.strategy_compiler.specs.Walks.{Reaches, Itself, Through}
-use Rattle.strategy_compiler.specs.Wins.{StaysOnBoard, IsWrittenWin}
-use Rattle.strategy_compiler.specs.Forks.{AnswersWin, WinsAtOnce, WinsByAnswers, IsDoubleThreat, answer_node, two_answers, double_moves}
-use Rattle.strategy_compiler.specs.Trees.{AnswersBriefly, commonest, answers_to}
+use Rattle.strategy_compiler.proofs.Common.{IsCompiled, PutsIn, winning_node, answering_node, answers_alone, AnswersEach, Reaches, Itself, Through, StaysOnBoard, IsWrittenWin, AnswersWin, WinsAtOnce, WinsByAnswers, IsDoubleThreat, answer_node, two_answers, double_moves, AnswersBriefly, commonest, answers_to}
 use Rattle.strategy_compiler.proofs.Briefs.{brief-not_winning}
 use Rattle.strategy_compiler.proofs.Starting.{brief-inside, brief-deep, brief-accepted}
-use Rattle.strategy_compiler.proofs.Winning.{stays-longer}
+use Rattle.strategy_compiler.proofs.Growing.{stays-longer}
 
 -- ---- lists
 
@@ -124,9 +116,8 @@ module _ (P : ℕ → Type 0) (a : Answers) where
 
   rest-named : (r : Rest) (js : List ℕ) → rest_node r ≡ commonest js → ((j : ℕ) → commonest js ≡ Some j → P j)
       → AllByRecursion P (rest_nodes r)
-  rest-named Wins js e h = tt
   rest-named (To j) js e h = (h j (sym e), tt)
-  rest-named Nothing js e h = tt
+  rest-named _ js e h = tt
 
   -- what holds of each answer to one of these replies holds of each node that is named
   pub briefly-named : (qs : List Point) → is_rising a.replies ≡ true → AnswersBriefly a qs
@@ -179,8 +170,7 @@ module _ (t : List Node) (lower : NamesLower t) (p : Point) (answers : List Repl
         (brief-accepted answers rising rule (after b p) (each-answered rule (after b p) t answers win.accepted) t)) win.accepted);
     deep =
         let step = depth-step t lower i ∙ ap (λ (o : Option Node). node_depth o (depth t)) at in
-        let same = brief-deep answers rising (depth t) in
-        omega (arith, step, same);
+        omega (arith, step, brief-deep answers rising (depth t));
     within = let low = win.within in omega (arith, low);
     on_board = stays-by b t i (answering_node p answers) at
         (record { attack = GoesOn-on rule b p on; replies = all-filter (λ r. is_on b r.at ≡ true) _ answers win.on_board })
@@ -288,18 +278,16 @@ module _ (rule : RuleKind) (limit : ℕ) (c : Grid) (t : List Node) where
         let low = greatest-all (depth t) limit (map (λ r. r.next) answers)
         (mapped-all (λ j. depth t j ≤ limit) (λ r. r.next) answers
         (all-weaker (IsAnswer rule limit c t) (λ r. depth t r.next ≤ limit) (λ r k. k.within) answers h)) in
-        let is = alone-deep t answers in
-        omega (arith, low, is);
+        omega (arith, low, alone-deep t answers);
     on_board = all-weaker (IsAnswer rule limit c t) (λ r. is_on c r.at ≡ true) (λ r k. k.on_board) answers h;
     stay = all-weaker (IsAnswer rule limit c t) (λ r. StaysOnBoard c t r.next) (λ r k. k.stays) answers h;
   } where
     met : (q : Point) (o : Outcome) → outcome rule c q ≡ o → LosesOr o (Unit {0})
         → LosesOr o (Answered (option_or (listed_node answers q) None) (λ j. Accepted rule t j (after c q)))
-    met q Refused e k = tt
     met q WinsNow e k = absurd k
-    met q (Fouls f) e k = tt
     met q Draws e k = absurd k
     met q GoesOn e k = answer-found answers h q e (listed q e)
+    met q _ e k = tt
 
 -- ---- the answers of a double threat
 
@@ -363,11 +351,9 @@ module _ (t : List Node) (lower : NamesLower t) (start first second : Point) (re
     lost q = by_outcome (outcome rule (after b start) q) (threat.lost q) where
       by_outcome : (o : Outcome) → LosesOr o
           (outcome rule (after (after b start) q) (cond (is_same_point q first) second first) ≡ WinsNow) → LosesOr o (Unit {0})
-      by_outcome Refused h = tt
       by_outcome WinsNow h = h
-      by_outcome (Fouls f) h = tt
       by_outcome Draws h = h
-      by_outcome GoesOn h = tt
+      by_outcome _ h = tt
 
     taken-on : (q : Point) → is_on b (cond (is_same_point q first) second first) ≡ true
     taken-on q = by_test (is_same_point q first) where

@@ -1,30 +1,92 @@
--- Nodes that are added, in steps.
-use Rattle.std.proofs.Common.{◌≡◌, inl, inr, ℕ, ◌+◌, ◌≤◌, List, [], ◌∷◌, ◌++◌, sym, ap, subst, ◌∙◌, arith, length, append_assoc, length-append}
-use Rattle.std.specs.Prelude.{Some, Result, Ok, Err, OnOk, slice_get}
-use Rattle.game_rules.specs.Grid.{Grid}
+-- Wins that a search wrote: they stay, and the table of one. Nodes that are added, in steps.
+use Rattle.std.proofs.Common.{◌≡◌, ℕ, zero, suc, ◌<◌, List, [], ◌∷◌, ◌++◌, length, ap, ◌∙◌, arith, refl, subst, All, Result, Ok, Err, IfOk, ◌+◌, ◌≤◌, sym, append_assoc, length-append, Some, OnOk, slice_get}
 use Rattle.game_rules.specs.declared.RuleKind.{RuleKind}
+use Rattle.game_rules.proofs.Common.{Grid, is_on, WinsWithin}
 use Rattle.strategy_graph.specs.declared.Node.{Node}
-use Rattle.strategy_graph.specs.Tables.{NamesLower}
-use Rattle.strategy_graph.proofs.Lookups.{slice_get-longer}
-use Rattle.strategy_graph.proofs.Answering.{nodes-append_nil}
+use Rattle.strategy_graph.proofs.Common.{NamesLower, NamesOnBoard, TableOnBoard, depth, SaysSame}
+use Rattle.strategy_graph.proofs.Filling.{growth-same}
+use Rattle.strategy_graph.proofs.Naming.{slice_get-shorter, slice_get-longer}
+use Rattle.strategy_graph.proofs.Fuel.{accepted-deep}
+use Rattle.strategy_graph.proofs.Answering.{replies-on, nodes-append_nil}
+use Rattle.strategy_graph.proofs.Soundness.{accepted-wins}
+use Rattle.strategy_compiler.specs.declared.wins.WrittenWin.{WrittenWin}
 use Rattle.strategy_compiler.specs.declared.error.SearchError.{SearchError}
 use Rattle.strategy_compiler.specs.declared.error.SearchError.TheVariants.{Full, Memory}
-use Rattle.strategy_compiler.specs.Nodes.{IsCompiled, PutsIn}
-use Rattle.strategy_compiler.specs.Growth.{GrowsBy, Writes}
-use Rattle.strategy_compiler.specs.declared.wins.WrittenWin.{WrittenWin}
-use Rattle.strategy_compiler.specs.Wins.{IsWrittenWin}
-use Rattle.strategy_compiler.proofs.Winning.{growth_keeps-wins}
-use Rattle.strategy_compiler.specs.Trees.{Tree, StandsFor, GrowthKeepsTrees}
+use Rattle.strategy_compiler.proofs.Common.{NamesPointsReached, last, StaysOnBoard, IsWrittenWin, IsWinTable, GrowthKeepsWins, IsCompiled, GrowsBy, Writes, Tree, StandsFor, GrowthKeepsTrees}
+use Rattle.strategy_compiler.proofs.Standing.{reaches-shorter, reaches-inside}
+
+-- ---- a list of nodes that grows
+
+-- what a node reaches stays on the board
+pub stays-longer : (b : Grid) (t more : List Node) → NamesLower t → (i : ℕ) → i < length t → StaysOnBoard b t i → StaysOnBoard b (t ++ more) i
+stays-longer b t more lower i low h k n reach at =
+    let back = reaches-shorter t more lower i k low reach in
+    h k n back (slice_get-shorter t more k n (reaches-inside t lower i k low back) at)
+
+pub growth_keeps-wins : GrowthKeepsWins
+growth_keeps-wins rule limit b t more win lower h =
+    let same = growth-same t more lower win.node h.in_compiler in
+    record {
+      in_compiler = longer t more win.node h.in_compiler;
+      accepted = (same.same_accepted rule b).1 h.accepted;
+      deep = same.same_depth ∙ h.deep;
+      within = h.within;
+      on_board = stays-longer b t more lower win.node h.in_compiler h.on_board;
+    } where
+      longer : (t more : List Node) (i : ℕ) → i < length t → i < length (t ++ more)
+      longer [] more i l = absurd (omega arith)
+      longer (n ∷ t) more zero l = omega arith
+      longer (n ∷ t) more (suc i) l = let later = longer t more i (omega arith) in omega (arith, later)
+
+-- ---- the table of a win
+
+-- what a table names that has the points of what the node of a win reaches
+module _ (b : Grid) (t : List Node) (root : ℕ) (on : StaysOnBoard b t root) where
+  named-on : (m : Node) → NamesPointsReached t root m → NamesOnBoard b m
+  named-on m (i, n, reach, at, attack, points) =
+      let there = on i n reach at in
+      record { attack = ap (is_on b) attack ∙ there.attack; replies = replies-on b m.replies n.replies points there.replies }
+
+  table-on : (u : List Node) → All (NamesPointsReached t root) u → TableOnBoard b u
+  table-on [] all = tt
+  table-on (m ∷ u) all = (named-on m (all 0 m (omega arith)), table-on u (λ k d l. all (suc k) d (omega arith)))
+
+pub win-table : (t : List Node) (win : WrittenWin) (u : List Node) → SaysSame t win.node u (last u) → All (NamesPointsReached t win.node) u
+    → (rule : RuleKind) (limit : ℕ) (b : Grid) → IsWrittenWin rule limit b t win → IsWinTable rule b win u
+win-table t win u same points rule limit b h = record {
+  accepted = (same.same_accepted rule b).1 h.accepted;
+  deep = same.same_depth ∙ h.deep;
+  some_moves = let deep = accepted-deep rule t win.node b h.accepted in let is = h.deep in omega (arith, deep, is);
+  on_board = table-on b t win.node h.on_board u points;
+}
+
+pub win-tables : (t : List Node) (win : WrittenWin) {E : Type 0} (r : Result (List Node) E) → IfOk r (λ u. SaysSame t win.node u (last u)) → IfOk r (λ u. All (NamesPointsReached t win.node) u)
+    → IfOk r (λ u. (rule : RuleKind) (limit : ℕ) (b : Grid) → IsWrittenWin rule limit b t win → IsWinTable rule b win u)
+win-tables t win (Ok u) same points = win-table t win u same points
+win-tables t win (Err e) same points = tt
+
+-- a win whose moves are told as the depth of its node
+pub win-deep : (rule : RuleKind) (n : ℕ) (b : Grid) (t : List Node) (win : WrittenWin) → IsWrittenWin rule n b t win → IsWrittenWin rule n b t (record { node = win.node; moves = depth t win.node })
+win-deep rule n b t win h = record {
+  in_compiler = h.in_compiler;
+  accepted = h.accepted;
+  deep = refl;
+  within = let low = h.within in let e = h.deep in omega (arith, e, low);
+  on_board = h.on_board;
+}
+
+-- a written win has a move
+pub win-some : (rule : RuleKind) (n : ℕ) (b : Grid) (c : List Node) (win : WrittenWin) → IsWrittenWin rule n b c win → 0 < win.moves
+win-some rule n b c win h = by_moves win.moves h.deep where
+  by_moves : (m : ℕ) → depth c win.node ≡ m → 0 < m
+  by_moves zero e = absurd (subst (λ (k : ℕ). WinsWithin rule k b) e (accepted-wins rule c win.node b h.accepted))
+  by_moves (suc m) e = omega arith
 
 -- ---- how they grow
 
 -- nodes that stay as they are, and a node that is put in
 pub grows-not : (a b : List Node) (k : ℕ) → b ≡ a → GrowsBy a b k
 grows-not a b k e = record { added = []; is = e ∙ sym (nodes-append_nil a); few = omega arith }
-
-pub grows-put : (a b : List Node) (n : Node) → PutsIn a n b → GrowsBy a b 1
-grows-put a b n (inl h) = grows-not a b 1 h.1
-grows-put a b n (inr h) = record { added = n ∷ []; is = h.1; few = omega arith }
 
 -- one after the other, and by more
 pub grows-then : (a b c : List Node) (j k m : ℕ) → GrowsBy a b j → GrowsBy b c k → j + k ≤ m → GrowsBy a c m
@@ -45,12 +107,6 @@ grows-length a b k f = let x = f.few in let e : length b ≡ length a + length f
 -- a node stays where it is
 pub node-stays : (a b : List Node) (k i : ℕ) (n : Node) → GrowsBy a b k → slice_get a i ≡ Some n → slice_get b i ≡ Some n
 node-stays a b k i n f h = subst (λ (t : List Node). slice_get t i ≡ Some n) (sym f.is) (slice_get-longer a f.added i n h)
-
-pub grows-none : (a b : List Node) → GrowsBy a b 0 → b ≡ a
-grows-none a b f = f.is ∙ nothing f.added f.few where
-  nothing : (xs : List Node) → length xs ≤ 0 → a ++ xs ≡ a
-  nothing [] l = nodes-append_nil a
-  nothing (x ∷ xs) l = absurd (omega arith)
 
 -- a win stays one
 pub win-stays : (rule : RuleKind) (limit : ℕ) (b : Grid) (t u : List Node) (k : ℕ) (win : WrittenWin) → NamesLower t → GrowsBy t u k

@@ -1,22 +1,86 @@
--- A node stands for the same trees in each table that begins with its table.
-use Rattle.std.proofs.Common.{◌≡◌, inl, inr, ℕ, List, [], ◌∷◌, ◌++◌, refl, sym, subst, ◌*◌, ◌≤◌, true}
-use Rattle.std.specs.Prelude.{Option, Some, None, slice_get}
-use Rattle.std.specs.Option.{option_map}
+-- What nodes reach: walks complete nothing else, and a table that grows keeps it. A node stands for the same trees in each table that
+-- begins with its table.
+use Rattle.std.proofs.Common.{◌≡◌, ◌⊎◌, inl, inr, ℕ, zero, suc, ◌<◌, Bool, true, false, cond, ◌||◌, ◌==◌, List, [], ◌∷◌, ◌++◌, length, refl, sym, subst, ◌∙◌, arith, Option, Some, None, fold, slice_get, Contains, ◌*◌, ◌≤◌}
+use Rattle.std.specs.Option.{option_map_or, option_map}
+use Rattle.std.proofs.lemmas.Bool.Decides.{Decides-eqb}
 use Rattle.game_rules.specs.declared.Point.{Point}
-use Rattle.game_rules.proofs.Common.{Grid, wins_by_fours}
 use Rattle.game_rules.specs.declared.RuleKind.{RuleKind}
+use Rattle.game_rules.proofs.Common.{Grid, wins_by_fours}
 use Rattle.strategy_graph.specs.declared.Node.{Node}
-use Rattle.strategy_graph.specs.Tables.{Answers, answers_of, answer, depth, is_winning, IsTable, NamesLower}
-use Rattle.strategy_graph.specs.Leads.{AtNode}
-use Rattle.strategy_graph.proofs.Answering.{Answered-map, attack_at, AtNode-parts, nothing_not_winning, winning_no_answer, not_winning_by}
-use Rattle.strategy_graph.proofs.Lookups.{slice_get-longer}
-use Rattle.strategy_graph.specs.Acceptance.{Accepted}
-use Rattle.strategy_graph.specs.Arrivals.{arrivals}
 use Rattle.strategy_graph.specs.declared.Rest.{Rest}
-use Rattle.strategy_graph.specs.declared.Rest.TheVariants.{Wins, To, Nothing}
-use Rattle.strategy_compiler.specs.Trees.{Tree, Branches, Leaf, Fork, NoBranch, Branch, StandsFor, StandsForAll, GrowthKeepsTrees, AnswersBriefly, replies_of}
-use Rattle.strategy_compiler.specs.Nodes.{PutsIn, winning_node, IsCompiled}
-use Rattle.strategy_compiler.specs.Wins.{StaysOnBoard}
+use Rattle.strategy_graph.specs.declared.Rest.TheVariants.{Wins}
+use Rattle.strategy_graph.proofs.Naming.{slice_get-longer, slice_get-shorter}
+use Rattle.strategy_graph.proofs.Common.{Answers, answers_of, NamesLower, answer, depth, is_winning, IsTable, AtNode, Accepted, arrivals}
+use Rattle.strategy_graph.proofs.Answering.{Answered-map, attack_at, AtNode-parts, nothing_not_winning, winning_no_answer, not_winning_by}
+use Rattle.strategy_compiler.proofs.Walking.{among-push, visited-named, named-below, lt_trans}
+use Rattle.strategy_compiler.proofs.Common.{visits, visits_at, is_in_list, completed_within, completed_after, completed_from, Reaches, Itself, Through, ReachedFrom, GrowthKeepsReach, Tree, Branches, Leaf, Fork, NoBranch, Branch, StandsFor, StandsForAll, GrowthKeepsTrees, AnswersBriefly, replies_of, PutsIn, winning_node, IsCompiled, StaysOnBoard}
+
+-- ---- what walks complete
+
+module _ (t : List Node) where
+  visits-through : (i j k : ℕ) → Contains (visits_at t i) j → Reaches t j k → Reaches t i k
+  visits-through i j k c r = by_node (slice_get t i) refl c where
+    by_node : (o : Option Node) → slice_get t i ≡ o → Contains (option_map_or (λ n. visits (answers_of n)) o []) j → Reaches t i k
+    by_node None at (m, l, e) = absurd (omega arith)
+    by_node (Some n) at c = Through i j k n at (visited-named (answers_of n) j c) r
+
+  -- what a walk from each of these numbers completes was completed before, or one of them reaches it
+  fold-reached : (f : List ℕ → ℕ → List ℕ) (k : ℕ) → ((done : List ℕ) (j : ℕ) → is_in_list k (f done j) ≡ true → (is_in_list k done ≡ true) ⊎ Reaches t j k) → (js done : List ℕ) → is_in_list k (fold f done js) ≡ true → (is_in_list k done ≡ true) ⊎ ReachedFrom t js k
+  fold-reached f k step [] done h = inl h
+  fold-reached f k step (j ∷ js) done h = elim (fold-reached f k step js (f done j) h) [
+    | inl e ↦ elim (step done j e) [ inl before ↦ inl before | inr r ↦ inr (j, (0, omega arith, refl), r) ]
+    | inr later ↦ inr (later.0, (suc later.1.0, (let inside = later.1.1 in omega (arith, inside)), later.1.2), later.2)
+  ]
+
+  either : (a b : Bool) → (a || b) ≡ true → (a ≡ true) ⊎ (b ≡ true)
+  either true b h = inl refl
+  either false b h = inr h
+
+  within-reached : (f k : ℕ) (done : List ℕ) (i : ℕ) → is_in_list k (completed_within f t done i) ≡ true → (is_in_list k done ≡ true) ⊎ Reaches t i k
+  unfolding completed_within
+  within-reached zero k done i h = inl h
+  within-reached (suc f) k done i h = by_test (is_in_list i done) h (λ e. inner (fold-reached (completed_within f t) k (λ d j. within-reached f k d j) (visits_at t i) done e)) where
+    inner : (is_in_list k done ≡ true) ⊎ ReachedFrom t (visits_at t i) k → (is_in_list k done ≡ true) ⊎ Reaches t i k
+    inner (inl before) = inl before
+    inner (inr r) = inr (visits-through i r.0 k r.1 r.2)
+
+    by_test : (b : Bool) → is_in_list k (cond b done (fold (completed_within f t) done (visits_at t i) ++ i ∷ [])) ≡ true → (is_in_list k (fold (completed_within f t) done (visits_at t i)) ≡ true → (is_in_list k done ≡ true) ⊎ Reaches t i k) → (is_in_list k done ≡ true) ⊎ Reaches t i k
+    by_test true h next = inl h
+    by_test false h next =
+        elim (either (is_in_list k (fold (completed_within f t) done (visits_at t i))) (i == k) (sym (among-push k i (fold (completed_within f t) done (visits_at t i))) ∙ h)) [
+          | inl e ↦ next e
+          | inr same ↦ inr (subst (Reaches t i) ((Decides-eqb i k).0 same) (Itself i))
+        ]
+
+  walk-reached : (k : ℕ) (done : List ℕ) (i : ℕ) → is_in_list k (completed_after t done i) ≡ true → (is_in_list k done ≡ true) ⊎ Reaches t i k
+  unfolding completed_after
+  walk-reached k done i h = within-reached (suc i) k done i h
+
+  -- one of the roots reaches each node that walks from them complete
+  pub completed-reached : (roots : List ℕ) (k : ℕ) → is_in_list k (completed_from t roots) ≡ true → ReachedFrom t roots k
+  completed-reached roots k h = elim (fold-reached (completed_after t) k (λ d j. walk-reached k d j) roots [] h) [ inl none ↦ absurd (nothing none) | inr r ↦ r ] where
+    nothing : is_in_list k [] ≡ true → ⊥
+    nothing e = cc
+
+-- ---- what a node reaches, however the table grows
+
+pub reaches-longer : (t more : List Node) (i k : ℕ) → Reaches t i k → Reaches (t ++ more) i k
+reaches-longer t more _ _ (Itself i) = Itself i
+reaches-longer t more _ _ (Through i j k n at c r) = Through i j k n (slice_get-longer t more i n at) c (reaches-longer t more j k r)
+
+pub reaches-shorter : (t more : List Node) → NamesLower t → (i k : ℕ) → i < length t → Reaches (t ++ more) i k → Reaches t i k
+reaches-shorter t more lower _ _ l (Itself i) = Itself i
+reaches-shorter t more lower _ _ l (Through i j k n at c r) =
+    let here = slice_get-shorter t more i n l at in
+    Through i j k n here c (reaches-shorter t more lower j k (lt_trans j i (length t) (named-below t lower i n here j c) l) r)
+
+-- what is reached is no higher
+pub reaches-inside : (t : List Node) → NamesLower t → (i k : ℕ) → i < length t → Reaches t i k → k < length t
+reaches-inside t lower _ _ l (Itself i) = l
+reaches-inside t lower _ _ l (Through i j k n at c r) = reaches-inside t lower j k (lt_trans j i (length t) (named-below t lower i n at j c) l) r
+
+pub growth_keeps-reach : GrowthKeepsReach
+growth_keeps-reach t more lower i k l = (reaches-shorter t more lower i k l, reaches-longer t more i k)
 
 AtNode-from : (o p : Option Node) (P Q : Node → Type 0) → ((n : Node) → o ≡ Some n → p ≡ Some n) → ((n : Node) → P n → Q n) → AtNode o P → AtNode p Q
 AtNode-from None p P Q f g h = absurd h
@@ -77,8 +141,7 @@ winning-is t i n x table at plays win =
     λ k. record { attack = plays k; replies = none k; rest = rest k } where
       by_rest : (r : Rest) → is_winning r ≡ true → r ≡ Wins
       by_rest Wins h = refl
-      by_rest (To j) h = cc
-      by_rest Nothing h = cc
+      by_rest _ h = cc
 
 pub leaf_node : (t : List Node) (i : ℕ) (x : Point) → StandsFor t i (Leaf x) → (n : Node) × (slice_get t i ≡ Some n) × ((n.attack ≡ x) × (is_winning n.rest ≡ true))
 unfolding StandsFor

@@ -1,6 +1,5 @@
 -- The start that is made of answers: it has them in brief, and says what they say alone.
-use Rattle.std.proofs.Common.{◌≡◌, inl, inr, ℕ, zero, suc, ◌<◌, Bool, true, false, ◌||◌, ◌==◌, List, [], ◌∷◌, ◌++◌, map, length, refl, sym, ap, subst, ◌∙◌, arith}
-use Rattle.std.specs.Prelude.{◌↔◌, Option, Some, None, IsSome, All, Contains, nat_lt, slice_index}
+use Rattle.std.proofs.Common.{◌≡◌, inl, inr, ℕ, zero, suc, ◌<◌, Bool, true, false, ◌||◌, ◌==◌, List, [], ◌∷◌, ◌++◌, map, length, refl, sym, ap, subst, ◌∙◌, arith, ◌↔◌, Option, Some, None, IsSome, All, Contains, nat_lt, slice_index}
 use Rattle.std.specs.List.{list_all, AllByRecursion, sum_by}
 use Rattle.std.specs.Option.{option_map, option_or}
 use Rattle.std.proofs.lemmas.Bool.{or_right}
@@ -10,29 +9,21 @@ use Rattle.std.proofs.lemmas.List.Elements.{All-cons, All-nil, All-from_recursio
 use Rattle.game_rules.proofs.Common.{Grid, points_of, outcome, after, LosesOr, if_goes_on}
 use Rattle.game_rules.specs.declared.RuleKind.{RuleKind}
 use Rattle.game_rules.specs.declared.Outcome.{Outcome}
-use Rattle.game_rules.specs.declared.Outcome.TheVariants.{Refused, Wins as WinsNow, Fouls, Draws, GoesOn}
+use Rattle.game_rules.specs.declared.Outcome.TheVariants.{GoesOn}
 use Rattle.game_rules.specs.declared.Point.{Point}
 use Rattle.game_rules.proofs.Boards.{and_left, and_right}
 use Rattle.strategy_graph.specs.declared.Node.{Node}
 use Rattle.strategy_graph.specs.declared.Reply.{Reply}
 use Rattle.strategy_graph.specs.declared.Rest.{Rest}
-use Rattle.strategy_graph.specs.Tables.{Answers, answer, listed_node, named, names_below, rest_nodes, is_rising, greatest, depth, NamesLower}
-use Rattle.strategy_graph.specs.Renumbered.{renumbered_answers, renumbered_reply}
-use Rattle.strategy_graph.specs.Acceptance.{Answered, Accepted, AcceptedStart}
-use Rattle.strategy_graph.specs.Arrivals.{if_answered, arrivals_at, arrivals, start_arrivals}
-use Rattle.strategy_graph.specs.Laws.{SaysSame, StartSaysSame}
+use Rattle.strategy_graph.proofs.Common.{Answers, answer, listed_node, named, names_below, rest_nodes, is_rising, greatest, depth, NamesLower, renumbered_answers, renumbered_reply, Answered, Accepted, AcceptedStart, if_answered, arrivals_at, arrivals, start_arrivals, SaysSame, StartSaysSame}
 use Rattle.strategy_graph.proofs.Answering.{answer-named}
 use Rattle.strategy_graph.proofs.Copies.{iff_by, answer-renumbered, named-renumbered}
 use Rattle.strategy_graph.proofs.Renumbering.{renumbered_replies-agree, renumbered_rest-agree}
 use Rattle.strategy_graph.proofs.Rising.{AnsweredAsGiven, listed-given, all-next}
 use Rattle.strategy_graph.proofs.Greatest.{greatest-same}
-use Rattle.strategy_compiler.specs.Walks.{is_in_list, completed_from, place_in, visits}
-use Rattle.strategy_compiler.specs.Orders.{ArePlaces, IsMadeFrom}
-use Rattle.strategy_compiler.specs.Nodes.{brief_answers, answers_beside, commonest_next, rest_of}
-use Rattle.strategy_compiler.specs.Starts.{answers_alone, AnswersEach, start_order, IsMadeOfAnswers}
-use Rattle.strategy_compiler.proofs.Walking.{visited-named, named-visited, all-contains, contains-map}
+use Rattle.strategy_compiler.proofs.Common.{is_in_list, completed_from, place_in, visits, ArePlaces, IsMadeFrom, brief_answers, answers_beside, commonest_next, rest_of, answers_alone, AnswersEach, start_order, IsMadeOfAnswers}
+use Rattle.strategy_compiler.proofs.Walking.{visited-named, named-visited, all-contains, contains-map, visits-below, walks-itself}
 use Rattle.strategy_compiler.proofs.Places.{all_by, among-place}
-use Rattle.strategy_compiler.proofs.Completing.{visits-below, walks-itself}
 use Rattle.strategy_compiler.proofs.Briefs.{brief-named, brief-as_given, points-kept}
 use borrow.Author.Tests.{ltb-true, lt-ltb}
 
@@ -99,20 +90,14 @@ module _ (answers : List Reply) (rising : is_rising answers ≡ true) where
     met-alike : (N : ℕ → Grid → Type 0) (q : Point) → LosesOr (outcome rule b q) (Answered (answer (brief_answers answers) q) (λ j. N j (after b q))) ≡ LosesOr (outcome rule b q) (Answered (answer (answers_alone answers) q) (λ j. N j (after b q)))
     met-alike N q = by_outcome (outcome rule b q) refl where
       by_outcome : (o : Outcome) → outcome rule b q ≡ o → LosesOr o (Answered (answer (brief_answers answers) q) (λ j. N j (after b q))) ≡ LosesOr o (Answered (answer (answers_alone answers) q) (λ j. N j (after b q)))
-      by_outcome Refused e = refl
-      by_outcome WinsNow e = refl
-      by_outcome (Fouls f) e = refl
-      by_outcome Draws e = refl
       by_outcome GoesOn e = ap (λ (o : Option ℕ). Answered o (λ j. N j (after b q))) (brief-answer q (all q e))
+      by_outcome _ e = refl
 
     count-alike : (m : ℕ → Grid → ℕ) (q : Point) → arrivals_at rule (brief_answers answers) m b q ≡ arrivals_at rule (answers_alone answers) m b q
     count-alike m q = by_outcome (outcome rule b q) refl where
       by_outcome : (o : Outcome) → outcome rule b q ≡ o → if_goes_on o (if_answered (answer (brief_answers answers) q) (λ j. m j (after b q))) ≡ if_goes_on o (if_answered (answer (answers_alone answers) q) (λ j. m j (after b q)))
-      by_outcome Refused e = refl
-      by_outcome WinsNow e = refl
-      by_outcome (Fouls f) e = refl
-      by_outcome Draws e = refl
       by_outcome GoesOn e = ap (λ (o : Option ℕ). if_answered o (λ j. m j (after b q))) (brief-answer q (all q e))
+      by_outcome _ e = refl
 
     pub brief-accepted : (t : List Node) → AcceptedStart rule t (brief_answers answers) b ≡ AcceptedStart rule t (answers_alone answers) b
     brief-accepted t = λ i. (q : Point) → met-alike (Accepted rule t) q i

@@ -1,6 +1,5 @@
 -- A tree has one table: nodes that stand for a same tree in two tables are walked over alike, and are the same.
-use Rattle.std.proofs.Common.{◌≡◌, ℕ, zero, suc, ◌+◌, ◌<◌, ◌≤◌, Bool, true, false, cond, not, ◌&&◌, ◌||◌, ◌==◌, List, [], ◌∷◌, ◌++◌, filter, length, get_or, refl, sym, ap, subst, ◌∙◌, arith}
-use Rattle.std.specs.Prelude.{Option, Some, None, nat_le, nat_eq, slice_get, fold, Contains}
+use Rattle.std.proofs.Common.{◌≡◌, ℕ, zero, suc, ◌+◌, ◌<◌, ◌≤◌, Bool, true, false, cond, not, ◌&&◌, ◌||◌, ◌==◌, List, [], ◌∷◌, ◌++◌, filter, length, get_or, refl, sym, ap, subst, ◌∙◌, arith, Option, Some, None, nat_le, nat_eq, slice_get, fold, Contains}
 use Rattle.std.specs.List.{list_all, find, cons_option, range_with_len}
 use Rattle.std.specs.Option.{option_map_or, option_eq}
 use Rattle.std.proofs.lemmas.Bool.Decides.{Decides-eqb}
@@ -10,79 +9,53 @@ use Rattle.game_rules.specs.declared.Point.{Point}
 use Rattle.game_rules.proofs.PointLists.{filter-inside}
 use Rattle.strategy_graph.specs.declared.Node.{Node}
 use Rattle.strategy_graph.specs.declared.Rest.{Rest}
-use Rattle.strategy_graph.specs.declared.Rest.TheVariants.{Wins, Nothing}
-use Rattle.strategy_graph.specs.Tables.{Answers, answers_of, answer, names_below, rest_node, rest_nodes, is_winning, IsTable}
-use Rattle.strategy_graph.specs.Acceptance.{Answered}
+use Rattle.strategy_graph.specs.declared.Rest.TheVariants.{To, Nothing}
+use Rattle.strategy_graph.proofs.Common.{Answers, answers_of, answer, names_below, rest_node, rest_nodes, is_winning, IsTable, Answered}
 use Rattle.std.proofs.lemmas.List.FromFn.{length-range_with_len, get_or-range_with_len}
 use Rattle.strategy_graph.proofs.Filling.{IsTable-lower}
-use Rattle.strategy_compiler.proofs.Completing.{within-enough}
+use Rattle.strategy_compiler.proofs.Walking.{within-enough}
 use Rattle.strategy_graph.proofs.Answering.{answer-below}
 use Rattle.strategy_graph.proofs.Rising.{answered-as-listed}
-use Rattle.strategy_graph.proofs.Pairs.{RestPair, BothWin, BothNothing, NodePair, AtNode-some, node-right, node-itself, node-left, rest-pairs, next-pairs, there-at, no_replies, winning-rest, rest-by_node, AnswerPairs, listed-pairs, Pairs, Ends, Goes, OptionPair, Neither, Both, IsThere}
-use Rattle.strategy_graph.proofs.Lookups.{ext-slice_get}
-use Rattle.strategy_compiler.proofs.Commonest.{commonest-there}
-use Rattle.strategy_compiler.specs.Trees.{Tree, Branches, Leaf, Fork, NoBranch, Branch, StandsFor, StandsForAll, IsBrief, replies_of, answers_to, commonest, times}
-use Rattle.strategy_compiler.specs.Walks.{AreDifferent, IsTableOf, completed_within, is_in_list, last, visits, visits_at}
+use Rattle.strategy_graph.proofs.Pairs.{Pairs, Ends, Goes, OptionPair, Neither, Both, TellsApart, NodePair, AnswerPairs, IsThere, AtNode-some, there-at, same-pairs, pairs-append, pairs-length, pairs-at, pairs-weaker, fold-pairs, node-right, node-left, node-itself, bare-pair, winning-rest, rest-to, listed-pairs}
+use Rattle.strategy_graph.proofs.Naming.{ext-slice_get}
+use Rattle.strategy_compiler.proofs.Briefs.{commonest-there}
+use Rattle.strategy_compiler.proofs.Common.{Tree, Branches, Leaf, Fork, NoBranch, Branch, StandsFor, StandsForAll, IsBrief, replies_of, answers_to, commonest, times, AreDifferent, IsTableOf, completed_within, is_in_list, last, visits, visits_at}
 
 -- ---- lists that are related place by place
 
-module _ (R : ℕ → ℕ → Type 0) where
-  pub pairs-append : (js ks js' ks' : List ℕ) → Pairs R js ks → Pairs R js' ks' → Pairs R (js ++ js') (ks ++ ks')
-  pairs-append _ _ js' ks' Ends h = h
-  pairs-append _ _ js' ks' (Goes j k js ks r p) h = Goes j k (js ++ js') (ks ++ ks') r (pairs-append js ks js' ks' p h)
+module _ (R : ℕ → ℕ → Type 0) (one : TellsApart R) where
+  among-pairs : (i j : ℕ) (is js : List ℕ) → R i j → Pairs R is js → is_in_list i is ≡ is_in_list j js
+  among-pairs i j _ _ r Ends = refl
+  among-pairs i j _ _ r (Goes x y xs ys s p) = λ k. one.apart x i y j s r k || among-pairs i j xs ys r p k
 
-  pairs-length : (js ks : List ℕ) → Pairs R js ks → length js ≡ length ks
-  pairs-length _ _ Ends = refl
-  pairs-length _ _ (Goes j k js ks r p) = ap suc (pairs-length js ks p)
+  times-pairs : (i j : ℕ) (is js : List ℕ) → R i j → Pairs R is js → times i is ≡ times j js
+  times-pairs i j _ _ r Ends = refl
+  times-pairs i j _ _ r (Goes x y xs ys s p) =
+      sum_by-cons (λ k. cond (k == i) 1 0) x xs
+      ∙ (λ k. cond (one.apart x i y j s r k) 1 0 + times-pairs i j xs ys r p k)
+      ∙ sym (sum_by-cons (λ k. cond (k == j) 1 0) y ys)
 
-  pairs-at : (js ks : List ℕ) (i : ℕ) → Pairs R js ks → i < length js → R (get_or js i 0) (get_or ks i 0)
-  pairs-at _ _ i Ends l = absurd (omega arith)
-  pairs-at _ _ zero (Goes j k js ks r p) l = r
-  pairs-at _ _ (suc i) (Goes j k js ks r p) l = pairs-at js ks i p (omega arith)
+  tops : ℕ → List ℕ → List ℕ → Bool
+  tops j js ks = list_all (λ k. nat_le (times k js) (times j js)) ks
 
-  -- the relation tells numbers apart on one side where it does on the other
-  pub record TellsApart : Type 0 where
-    pub apart : (i i' j j' : ℕ) → R i j → R i' j' → (i == i') ≡ (j == j')
+  tops-pairs : (i j : ℕ) (is js xs ys : List ℕ) → R i j → Pairs R is js → Pairs R xs ys → tops i is xs ≡ tops j js ys
+  unfolding tops
+  tops-pairs i j is js _ _ r p Ends = refl
+  tops-pairs i j is js _ _ r p (Goes x y xs ys s q) = λ k. nat_le (times-pairs x y is js s p k) (times-pairs i j is js r p k) && tops-pairs i j is js xs ys r p q k
 
-  module _ (one : TellsApart) where
-    among-pairs : (i j : ℕ) (is js : List ℕ) → R i j → Pairs R is js → is_in_list i is ≡ is_in_list j js
-    among-pairs i j _ _ r Ends = refl
-    among-pairs i j _ _ r (Goes x y xs ys s p) = λ k. one.apart x i y j s r k || among-pairs i j xs ys r p k
+  find-pairs : (is js xs ys : List ℕ) → Pairs R is js → Pairs R xs ys → OptionPair R (find (λ k. tops k is is) xs) (find (λ k. tops k js js) ys)
+  find-pairs is js _ _ p Ends = Neither
+  find-pairs is js _ _ p (Goes x y xs ys s q) =
+      by_test (tops x is is) (tops y js js) (tops-pairs x y is js is js s p p) (find-pairs is js xs ys p q) where
+        by_test : (a b : Bool) → a ≡ b → OptionPair R (find (λ k. tops k is is) xs) (find (λ k. tops k js js) ys) → OptionPair R (cond a (Some x) (find (λ k. tops k is is) xs)) (cond b (Some y) (find (λ k. tops k js js) ys))
+        by_test true true e h = Both x y s
+        by_test true false e h = cc
+        by_test false true e h = cc
+        by_test false false e h = h
 
-    times-pairs : (i j : ℕ) (is js : List ℕ) → R i j → Pairs R is js → times i is ≡ times j js
-    times-pairs i j _ _ r Ends = refl
-    times-pairs i j _ _ r (Goes x y xs ys s p) =
-        sum_by-cons (λ k. cond (k == i) 1 0) x xs
-        ∙ (λ k. cond (one.apart x i y j s r k) 1 0 + times-pairs i j xs ys r p k)
-        ∙ sym (sum_by-cons (λ k. cond (k == j) 1 0) y ys)
-
-    tops : ℕ → List ℕ → List ℕ → Bool
-    tops j js ks = list_all (λ k. nat_le (times k js) (times j js)) ks
-
-    tops-pairs : (i j : ℕ) (is js xs ys : List ℕ) → R i j → Pairs R is js → Pairs R xs ys → tops i is xs ≡ tops j js ys
-    unfolding tops
-    tops-pairs i j is js _ _ r p Ends = refl
-    tops-pairs i j is js _ _ r p (Goes x y xs ys s q) = λ k. nat_le (times-pairs x y is js s p k) (times-pairs i j is js r p k) && tops-pairs i j is js xs ys r p q k
-
-    find-pairs : (is js xs ys : List ℕ) → Pairs R is js → Pairs R xs ys → OptionPair R (find (λ k. tops k is is) xs) (find (λ k. tops k js js) ys)
-    find-pairs is js _ _ p Ends = Neither
-    find-pairs is js _ _ p (Goes x y xs ys s q) =
-        by_test (tops x is is) (tops y js js) (tops-pairs x y is js is js s p p) (find-pairs is js xs ys p q) where
-          by_test : (a b : Bool) → a ≡ b → OptionPair R (find (λ k. tops k is is) xs) (find (λ k. tops k js js) ys) → OptionPair R (cond a (Some x) (find (λ k. tops k is is) xs)) (cond b (Some y) (find (λ k. tops k js js) ys))
-          by_test true true e h = Both x y s
-          by_test true false e h = cc
-          by_test false true e h = cc
-          by_test false false e h = h
-
-    pub commonest-pairs : (is js : List ℕ) → Pairs R is js → OptionPair R (commonest is) (commonest js)
-    unfolding tops
-    commonest-pairs is js p = find-pairs is js is js p p
-
-    same-pairs : (o p o' p' : Option ℕ) → OptionPair R o o' → OptionPair R p p' → option_eq nat_eq o p ≡ option_eq nat_eq o' p'
-    same-pairs _ _ _ _ Neither Neither = refl
-    same-pairs _ _ _ _ Neither (Both c d r) = refl
-    same-pairs _ _ _ _ (Both a b r) Neither = refl
-    same-pairs _ _ _ _ (Both a b r) (Both c d r') = one.apart a c b d r r'
+  pub commonest-pairs : (is js : List ℕ) → Pairs R is js → OptionPair R (commonest is) (commonest js)
+  unfolding tops
+  commonest-pairs is js p = find-pairs is js is js p p
 
 -- ---- nodes that stand for a same tree
 
@@ -92,10 +65,6 @@ pub record Alike (u v : List Node) (i j : ℕ) : Type 0 where
   pub right : StandsFor v j tree
 
 -- ---- where nodes that stand for a same tree are alike below, they are alike
-
-fold-pairs : (R : ℕ → ℕ → Type 0) (f g : List ℕ → ℕ → List ℕ) → ((d e : List ℕ) (x y : ℕ) → R x y → Pairs R d e → Pairs R (f d x) (g e y)) → (js ks d e : List ℕ) → Pairs R js ks → Pairs R d e → Pairs R (fold f d js) (fold g e ks)
-fold-pairs R f g step _ _ d e Ends p = p
-fold-pairs R f g step _ _ d e (Goes j k js ks r q) p = fold-pairs R f g step js ks (f d j) (g e k) q (step d e j k r p)
 
 answers-pairs : (R : ℕ → ℕ → Type 0) (a b : Answers) (qs : List Point) → AnswerPairs R a b qs → Pairs R (answers_to a qs) (answers_to b qs)
 answers-pairs R a b [] h = Ends
@@ -145,40 +114,36 @@ module _ (u v : List Node) (tu : IsTable u) (tv : IsTable v) where
         let rests : OptionPair (AlikeBelow i) (rest_node n.rest) (rest_node m.rest) =
         subst (λ (o : Option ℕ). OptionPair (AlikeBelow i) o (rest_node m.rest)) (sym brief.rest_is_commonest)
         (subst (λ (o : Option ℕ). OptionPair (AlikeBelow i) (commonest (answers_to a (q ∷ qs))) o) (sym brief'.rest_is_commonest) best) in
+        let points = brief.others_are_listed ∙ others-alike (AlikeBelow i) one a b (rest_node n.rest) (rest_node m.rest) (q ∷ qs) rests h ∙ sym brief'.others_are_listed in
+        let to = by_rest (rest_node n.rest) (rest_node m.rest) refl refl rests in
         record {
           attack = attack;
-          rest = by_rest (rest_node n.rest) (rest_node m.rest) refl refl rests;
-          replies =
-              listed-pairs (AlikeBelow i) a b (q ∷ qs) n.replies m.replies h
-              (brief.others_are_listed ∙ others-alike (AlikeBelow i) one a b (rest_node n.rest) (rest_node m.rest) (q ∷ qs) rests h ∙ sym brief'.others_are_listed)
+          winning = ap is_winning to.3 ∙ sym (ap is_winning to.4);
+          points = points;
+          rests =
+              subst (λ (r : Rest). Pairs (AlikeBelow i) (rest_nodes r) (rest_nodes m.rest)) (sym to.3)
+              (subst (λ (r : Rest). Pairs (AlikeBelow i) (to.0 ∷ []) (rest_nodes r)) (sym to.4) (Goes to.0 to.1 [] [] to.2 Ends));
+          nexts =
+              listed-pairs (AlikeBelow i) a b (q ∷ qs) n.replies m.replies h points
               (λ p c. filter-inside (λ p. not (option_eq nat_eq (answer a p) (rest_node a.rest))) (q ∷ qs) p (subst (λ (ps : List Point). Contains ps p) brief.others_are_listed c))
               (answered-as-listed a ((tu.nodes i n at).rising)) (answered-as-listed b ((tv.nodes j m at').rising));
         } where
-          by_rest : (o p : Option ℕ) → rest_node n.rest ≡ o → rest_node m.rest ≡ p → OptionPair (AlikeBelow i) o p → RestPair (AlikeBelow i) n.rest m.rest
-          by_rest _ _ e f Neither = absurd
-              (first-there (AlikeBelow i) (answers_of n) (answers_of m) q qs h (sym brief.rest_is_commonest ∙ e))
-          by_rest _ _ e f (Both x y g) = rest-by_node (AlikeBelow i) n.rest m.rest x y e f g
+          by_rest : (o p : Option ℕ) → rest_node n.rest ≡ o → rest_node m.rest ≡ p → OptionPair (AlikeBelow i) o p
+              → (x : ℕ) × (y : ℕ) × AlikeBelow i x y × (n.rest ≡ To x) × (m.rest ≡ To y)
+          by_rest _ _ e f Neither = absurd (first-there (AlikeBelow i) (answers_of n) (answers_of m) q qs h (sym brief.rest_is_commonest ∙ e))
+          by_rest _ _ e f (Both x y g) = (x, y, g, rest-to n.rest x e, rest-to m.rest y f)
 
     pair-by : (s : Tree) → StandsFor u i s → StandsFor v j s → NodePair (AlikeBelow i) n m
     unfolding StandsFor
     pair-by (Leaf p) h k =
         let here = AtNode-some (slice_get u i) n (λ n. (n.attack ≡ p) × (is_winning n.rest ≡ true)) at h in
         let there = AtNode-some (slice_get v j) m (λ n. (n.attack ≡ p) × (is_winning n.rest ≡ true)) at' k in
-        record {
-          attack = here.0 ∙ sym there.0;
-          rest = subst (λ (r : Rest). RestPair (AlikeBelow i) r m.rest) (sym (winning-rest n.rest here.1))
-              (subst (RestPair (AlikeBelow i) Wins) (sym (winning-rest m.rest there.1)) BothWin);
-          replies = no_replies (AlikeBelow i) n.replies m.replies ((tu.nodes i n at).winning here.1) ((tv.nodes j m at').winning there.1);
-        }
+        bare-pair (AlikeBelow i) n m (here.0 ∙ sym there.0) (winning-rest n.rest here.1 ∙ sym (winning-rest m.rest there.1)) (ap rest_nodes (winning-rest m.rest there.1))
+        ((tu.nodes i n at).winning here.1) ((tv.nodes j m at').winning there.1)
     pair-by (Fork p NoBranch) h k =
         let here = AtNode-some (slice_get u i) n (λ n. (n.attack ≡ p) × ((n.rest ≡ Nothing) × (n.replies ≡ [])) × Unit {0}) at h in
         let there = AtNode-some (slice_get v j) m (λ n. (n.attack ≡ p) × ((n.rest ≡ Nothing) × (n.replies ≡ [])) × Unit {0}) at' k in
-        record {
-          attack = here.0 ∙ sym there.0;
-          rest = subst (λ (r : Rest). RestPair (AlikeBelow i) r m.rest) (sym here.1.0)
-              (subst (RestPair (AlikeBelow i) Nothing) (sym there.1.0) BothNothing);
-          replies = no_replies (AlikeBelow i) n.replies m.replies here.1.1 there.1.1;
-        }
+        bare-pair (AlikeBelow i) n m (here.0 ∙ sym there.0) (here.1.0 ∙ sym there.1.0) (ap rest_nodes there.1.0) here.1.1 there.1.1
     pair-by (Fork p (Branch q s bs)) h k =
         let here = AtNode-some (slice_get u i) n (λ n. (n.attack ≡ p) × IsBrief (answers_of n) (q ∷ replies_of bs) × StandsForAll u (answers_of n) (Branch q s bs)) at h in
         let there = AtNode-some (slice_get v j) m (λ n. (n.attack ≡ p) × IsBrief (answers_of n) (q ∷ replies_of bs) × StandsForAll v (answers_of n) (Branch q s bs)) at' k in
@@ -266,8 +231,8 @@ module _ (u v : List Node) (tu : IsTable u) (tv : IsTable v) where
         let pair = pair-at i j n.0 m.0 n.1 m.1 h in
         subst (λ (o : Option Node). Pairs (Alike u v) (option_map_or (λ n. visits (answers_of n)) o []) (visits_at v j)) (sym n.1)
         (subst (λ (o : Option Node). Pairs (Alike u v) (visits (answers_of n.0)) (option_map_or (λ n. visits (answers_of n)) o [])) (sym m.1)
-        (pairs-append (Alike u v) (rest_nodes n.0.rest) (rest_nodes m.0.rest) _ _ (rest-pairs (AlikeBelow i) (Alike u v) (λ x y r. r.0) n.0.rest m.0.rest pair.rest)
-        (next-pairs (AlikeBelow i) (Alike u v) (λ x y r. r.0) n.0.replies m.0.replies pair.replies)))
+        (pairs-append (Alike u v) _ _ _ _ (pairs-weaker (AlikeBelow i) (Alike u v) (λ x y r. r.0) _ _ pair.rests)
+        (pairs-weaker (AlikeBelow i) (Alike u v) (λ x y r. r.0) _ _ pair.nexts)))
 
     within-alike : (k : ℕ) (d e : List ℕ) (i j : ℕ) → Alike u v i j → Pairs (Alike u v) d e → Pairs (Alike u v) (completed_within k u d i) (completed_within k v e j)
     unfolding completed_within

@@ -1,6 +1,5 @@
 -- Answers to replies: which nodes they are, and what holds of them.
-use Rattle.std.proofs.Common.{◌≡◌, ℕ, ◌≤◌, ◌<◌, max, Bool, true, false, cond, List, [], ◌∷◌, ◌++◌, map, refl, arith, zero, suc, subst, ap, ◌+◌, length, drop, get_or, drop-cons, add-one, ◌∙◌, sym}
-use Rattle.std.specs.Prelude.{Option, Some, None, nat_lt, Contains}
+use Rattle.std.proofs.Common.{◌≡◌, ℕ, ◌≤◌, ◌<◌, max, Bool, true, false, cond, List, [], ◌∷◌, ◌++◌, map, refl, arith, zero, suc, subst, ap, ◌+◌, length, drop, get_or, drop-cons, add-one, ◌∙◌, sym, Option, Some, None, nat_lt, Contains}
 use Rattle.std.specs.List.{list_all, find, AllByRecursion, filter}
 use Rattle.std.specs.Option.{option_map, option_or}
 use Rattle.std.proofs.Math.ListN.{drop_of_length-le}
@@ -9,10 +8,8 @@ use Rattle.game_rules.specs.declared.Point.{Point}
 use Rattle.strategy_graph.specs.declared.Reply.{Reply}
 use Rattle.strategy_graph.specs.declared.Rest.{Rest}
 use Rattle.strategy_graph.specs.declared.Rest.TheVariants.{Wins, To, Nothing}
-use Rattle.strategy_graph.specs.Tables.{Answers, answer, listed_node, rest_node, rest_nodes, named, names_below, greatest, RepliesOn, is_winning}
-use Rattle.strategy_graph.specs.Acceptance.{Answered}
+use Rattle.strategy_graph.proofs.Common.{Answers, answer, listed_node, rest_node, rest_nodes, named, names_below, greatest, RepliesOn, is_winning, Answered, AtNode}
 use Rattle.strategy_graph.specs.declared.Node.{Node}
-use Rattle.strategy_graph.specs.Leads.{AtNode}
 use Rattle.game_rules.proofs.Boards.{and_left, and_right}
 use borrow.Author.Tests.{ltb-true}
 
@@ -30,9 +27,8 @@ greatest-left d (r ∷ rs) js q j h = by_test (is_same_point r.at q) h (greatest
   by_test false h below = let low = below h in omega (arith, low)
 
 greatest-rest : (d : ℕ → ℕ) (rest : Rest) (j : ℕ) → rest_node rest ≡ Some j → d j ≤ greatest (map d (rest_nodes rest))
-greatest-rest d Wins j h = cc
 greatest-rest d (To k) j h = let e : d k ≡ d j = cc in omega (arith, e)
-greatest-rest d Nothing j h = cc
+greatest-rest d _ j h = cc
 
 greatest-right : (d : ℕ → ℕ) (rs : List Reply) (js : List ℕ) (m : ℕ) → m ≤ greatest (map d js) → m ≤ greatest (map d (map (λ r. r.next) rs ++ js))
 greatest-right d [] js m h = h
@@ -56,9 +52,8 @@ all-right p [] js all = all
 all-right p (r ∷ rs) js all = all-right p rs js (and_right (p r.next) _ all)
 
 all-rest : (p : ℕ → Bool) (rest : Rest) (j : ℕ) → list_all p (rest_nodes rest) ≡ true → rest_node rest ≡ Some j → p j ≡ true
-all-rest p Wins j all h = cc
 all-rest p (To k) j all h = let e : k ≡ j = cc in let here : p k ≡ true = and_left (p k) true all in cc
-all-rest p Nothing j all h = cc
+all-rest p _ j all h = cc
 
 -- what holds of each node that is named holds of an answer
 pub answer-named : (p : ℕ → Bool) (a : Answers) (q : Point) (j : ℕ) → list_all p (named a) ≡ true → answer a q ≡ Some j → p j ≡ true
@@ -118,13 +113,11 @@ AtNode-parts (Some n) P h = (n, refl, h)
 
 pub nothing_not_winning : (r : Rest) → r ≡ Nothing → is_winning r ≡ true → ⊥
 nothing_not_winning Wins e h = cc
-nothing_not_winning (To j) e h = cc
-nothing_not_winning Nothing e h = cc
+nothing_not_winning _ e h = cc
 
 pub winning_no_answer : (n : Node) (q : Point) (r : Rest) → is_winning r ≡ true → n.replies ≡ [] → answer (record { replies = n.replies; rest = r }) q ≡ None
 winning_no_answer n q Wins h e = ap (λ (rs : List Reply). answer (record { replies = rs; rest = Wins }) q) e
-winning_no_answer n q (To j) h e = cc
-winning_no_answer n q Nothing h e = cc
+winning_no_answer n q _ h e = cc
 
 pub not_winning_by : (o : Option ℕ) (P : ℕ → Type 0) → o ≡ None → Answered o P → ⊥
 not_winning_by None P e h = h

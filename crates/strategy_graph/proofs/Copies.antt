@@ -1,6 +1,5 @@
 -- A table that holds a copy of nodes of another, under other numbers, says the same at them.
-use Rattle.std.proofs.Common.{◌≡◌, ℕ, zero, suc, Bool, true, false, cond, List, [], ◌∷◌, ◌++◌, map, refl, sym, ap, subst, ◌∙◌}
-use Rattle.std.specs.Prelude.{Option, Some, None, slice_get, ◌↔◌}
+use Rattle.std.proofs.Common.{◌≡◌, ℕ, zero, suc, Bool, true, false, cond, List, [], ◌∷◌, ◌++◌, map, refl, sym, ap, subst, ◌∙◌, Option, Some, None, slice_get, ◌↔◌}
 use Rattle.std.specs.List.{list_all, find, sum_by}
 use Rattle.std.specs.Option.{option_map, option_or}
 use Rattle.game_rules.proofs.Common.{Grid, points_of, is_same_point, outcome, after, WinsOr, LosesOr, if_goes_on}
@@ -13,12 +12,7 @@ use Rattle.strategy_graph.specs.declared.Rest.{Rest}
 use Rattle.strategy_graph.specs.declared.Rest.TheVariants.{Wins, To, Nothing}
 use Rattle.strategy_graph.specs.declared.Node.{Node}
 use Rattle.strategy_graph.specs.declared.Why.{Why}
-use Rattle.strategy_graph.specs.Tables.{Answers, answers_of, answer, listed_node, rest_node, rest_nodes, named, is_winning, greatest, node_depth, depth_within}
-use Rattle.strategy_graph.specs.Renumbered.{renumbered_rest, renumbered_reply, renumbered_answers, renumbered_node}
-use Rattle.strategy_graph.specs.Acceptance.{Answered, NotWinning, Meets, AcceptedNode, AcceptedWithin}
-use Rattle.strategy_graph.specs.Arrivals.{if_answered, arrivals_at, arrivals_after, arrivals_behind, arrivals_within}
-use Rattle.strategy_graph.specs.Games.{End, NoMove, Open, after_attack, after_reply, one_later, if_node, end_at, game, points_on, points_from, attacks_at, attacks}
-use Rattle.strategy_graph.specs.Leads.{attack_fault, reply_fault, AtNode, ReplyLeads, Leads}
+use Rattle.strategy_graph.proofs.Common.{Answers, answers_of, answer, listed_node, rest_node, rest_nodes, named, is_winning, greatest, node_depth, depth_within, renumbered_rest, renumbered_reply, renumbered_answers, renumbered_node, Answered, NotWinning, Meets, AcceptedNode, AcceptedWithin, if_answered, arrivals_at, arrivals_after, arrivals_behind, arrivals_within, End, NoMove, Open, after_attack, after_reply, one_later, if_node, end_at, game, points_on, points_from, attacks_at, attacks, attack_fault, reply_fault, AtNode, ReplyLeads, Leads}
 use Rattle.strategy_graph.proofs.Answering.{answer-named}
 use Rattle.game_rules.proofs.Boards.{and_left, and_right}
 
@@ -46,26 +40,22 @@ listed-renumbered f (r ∷ rs) q = by_test (is_same_point r.at q) (listed-renumb
 
 rest_node-renumbered : (f : ℕ → ℕ) (r : Rest) → rest_node (renumbered_rest f r) ≡ option_map f (rest_node r)
 rest_node-renumbered f Wins = refl
-rest_node-renumbered f (To j) = refl
-rest_node-renumbered f Nothing = refl
+rest_node-renumbered f _ = refl
 
 pub answer-renumbered : (f : ℕ → ℕ) (a : Answers) (q : Point) → answer (renumbered_answers f a) q ≡ option_map f (answer a q)
 answer-renumbered f a q = rw (listed-renumbered f a.replies q, rest_node-renumbered f a.rest) (option_or-map f (listed_node a.replies q) (rest_node a.rest))
 
 pub is_winning-renumbered : (f : ℕ → ℕ) (r : Rest) → is_winning (renumbered_rest f r) ≡ is_winning r
 is_winning-renumbered f Wins = refl
-is_winning-renumbered f (To j) = refl
-is_winning-renumbered f Nothing = refl
+is_winning-renumbered f _ = refl
 
 NotWinning-renumbered : (f : ℕ → ℕ) (r : Rest) → NotWinning (renumbered_rest f r) ≡ NotWinning r
 NotWinning-renumbered f Wins = refl
-NotWinning-renumbered f (To j) = refl
-NotWinning-renumbered f Nothing = refl
+NotWinning-renumbered f _ = refl
 
 rest_nodes-renumbered : (f : ℕ → ℕ) (r : Rest) → rest_nodes (renumbered_rest f r) ≡ map f (rest_nodes r)
 rest_nodes-renumbered f Wins = refl
-rest_nodes-renumbered f (To j) = refl
-rest_nodes-renumbered f Nothing = refl
+rest_nodes-renumbered f _ = refl
 
 named_by : (f : ℕ → ℕ) (rs : List Reply) (r : Rest) → map (λ r. r.next) (map (renumbered_reply f) rs) ++ rest_nodes (renumbered_rest f r) ≡ map f (map (λ r. r.next) rs ++ rest_nodes r)
 named_by f [] r = rest_nodes-renumbered f r
@@ -78,8 +68,7 @@ named-renumbered f a = named_by f a.replies a.rest
 
 renumbered_rest-same : (r : Rest) → renumbered_rest (λ j. j) r ≡ r
 renumbered_rest-same Wins = refl
-renumbered_rest-same (To j) = refl
-renumbered_rest-same Nothing = refl
+renumbered_rest-same _ = refl
 
 renumbered_replies-same : (rs : List Reply) → map (renumbered_reply (λ j. j)) rs ≡ rs
 renumbered_replies-same [] = refl

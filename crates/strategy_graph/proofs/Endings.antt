@@ -1,45 +1,36 @@
--- Games from an accepted node end well.
-use Rattle.std.proofs.Common.{◌≡◌, ℕ, zero, suc, ◌≤◌, cond, List, [], ◌∷◌, length, refl, arith}
-use Rattle.std.specs.Prelude.{Option, Some, None, slice_get}
-use Rattle.game_rules.proofs.Common.{Grid, outcome, after, WinsOr, LosesOr}
+-- Games from an accepted node end well. One step of a game against a table, and of its attacks: what a player that follows a table needs.
+use Rattle.std.proofs.Common.{◌≡◌, ℕ, zero, suc, ◌≤◌, cond, List, [], ◌∷◌, length, refl, arith, Option, Some, None, slice_get, false, Bool, true, ap}
 use Rattle.game_rules.specs.declared.RuleKind.{RuleKind}
 use Rattle.game_rules.specs.declared.Outcome.{Outcome}
-use Rattle.game_rules.specs.declared.Outcome.TheVariants.{Refused, Wins as WinsNow, Fouls, Draws, GoesOn}
+use Rattle.game_rules.specs.declared.Outcome.TheVariants.{Refused, Wins as WinsNow, Fouls, GoesOn}
 use Rattle.game_rules.specs.declared.Point.{Point}
+use Rattle.game_rules.specs.declared.Foul.{Foul}
+use Rattle.game_rules.proofs.Common.{Grid, outcome, after, WinsOr, LosesOr}
 use Rattle.strategy_graph.specs.declared.Rest.{Rest}
-use Rattle.strategy_graph.specs.declared.Rest.TheVariants.{Wins, To, Nothing}
+use Rattle.strategy_graph.specs.declared.Rest.TheVariants.{Wins}
 use Rattle.strategy_graph.specs.declared.Node.{Node}
-use Rattle.strategy_graph.specs.Tables.{answers_of, answer, is_winning, node_depth, depth_within, depth}
-use Rattle.strategy_graph.specs.Acceptance.{Answered, NotWinning, AcceptedNode, AcceptedWithin, Accepted}
-use Rattle.strategy_graph.specs.Games.{End, Won, Lost, Drawn, NoMove, Open, IllegalReply, after_attack, after_reply, one_later, if_node, end_at, game, EndsWell}
+use Rattle.strategy_graph.proofs.Common.{answers_of, answer, is_winning, node_depth, depth_within, depth, Answered, NotWinning, AcceptedNode, AcceptedWithin, Accepted, End, Won, NoMove, Open, IllegalReply, after_attack, after_reply, one_later, if_node, end_at, game, EndsWell, attacks, points_on, attacks_at}
 use Rattle.strategy_graph.proofs.Answering.{answer-greatest}
 
 attack_ends : (o : Outcome) (W : Type 0) (d m : ℕ) (e : End) → 1 ≤ d → (W → EndsWell d m e) → WinsOr o W → EndsWell d m (after_attack o e)
-attack_ends Refused W d m e l f h = absurd h
 attack_ends WinsNow W d m e l f h = (omega arith, l)
-attack_ends (Fouls g) W d m e l f h = absurd h
-attack_ends Draws W d m e l f h = absurd h
 attack_ends GoesOn W d m e l f h = f h
+attack_ends _ W d m e l f h = absurd h
 
 reply_ends : (o : Outcome) (W : Type 0) (d m : ℕ) (e : End) → 1 ≤ d → (W → EndsWell d m e) → LosesOr o W → EndsWell d m (after_reply o e)
 reply_ends Refused W d m e l f h = tt
-reply_ends WinsNow W d m e l f h = absurd h
 reply_ends (Fouls g) W d m e l f h = (omega arith, l)
-reply_ends Draws W d m e l f h = absurd h
 reply_ends GoesOn W d m e l f h = f h
+reply_ends _ W d m e l f h = absurd h
 
 not_winning : (r : Rest) (e : End) → NotWinning r → cond (is_winning r) NoMove e ≡ e
 not_winning Wins e h = absurd h
-not_winning (To j) e h = refl
-not_winning Nothing e h = refl
+not_winning _ e h = refl
 
 one_later_ends : (e : End) (d dd m : ℕ) → d ≤ dd → EndsWell d m e → EndsWell (suc dd) (suc m) (one_later e)
 one_later_ends (Won k) d dd m l h = let low = h.0 in let high = h.1 in (omega (arith, low), omega (arith, high))
-one_later_ends Lost d dd m l h = h
-one_later_ends Drawn d dd m l h = h
-one_later_ends NoMove d dd m l h = h
 one_later_ends Open d dd m l h = omega arith
-one_later_ends IllegalReply d dd m l h = h
+one_later_ends _ d dd m l h = h
 
 node_ends_well : (o : Option ℕ) (P : ℕ → Type 0) (d m : ℕ) (end_from : ℕ → End) → ((j : ℕ) → o ≡ Some j → P j → EndsWell d m (one_later (end_from j))) → Answered o P → EndsWell d m (if_node o end_from)
 node_ends_well None P d m end_from f h = absurd h
@@ -70,3 +61,60 @@ within_ends rule t (suc f) i b (q ∷ qs) h =
 -- a game from an accepted node ends well, whatever the replies
 pub games-end-well : (rule : RuleKind) (t : List Node) (i : ℕ) (b : Grid) (qs : List Point) → Accepted rule t i b → EndsWell (depth t i) (length qs) (game rule t i b qs)
 games-end-well rule t i b qs h = within_ends rule t (suc i) i b qs h
+
+module _ (rule : RuleKind) (t : List Node) (i : ℕ) (b : Grid) (n : Node) (at : slice_get t i ≡ Some n) where
+  -- an attack that wins ends the game, whatever the replies
+  pub game-wins : (qs : List Point) → outcome rule b n.attack ≡ WinsNow → game rule t i b qs ≡ Won 1
+  unfolding game
+  game-wins [] o = rw (at, o) refl
+  game-wins (q ∷ qs) o = rw (at, o) refl
+
+  pub attacks-wins : (qs : List Point) → outcome rule b n.attack ≡ WinsNow → attacks rule t i b qs ≡ n.attack ∷ []
+  unfolding attacks
+  attacks-wins [] o = rw (at, o) refl
+  attacks-wins (q ∷ qs) o = rw (at, o) refl
+
+  module _ (o : outcome rule b n.attack ≡ GoesOn) (r : is_winning n.rest ≡ false) where
+    -- with no reply left, the attack is the last
+    pub game-open : game rule t i b [] ≡ Open
+    unfolding game
+    game-open = rw (at, o, r) refl
+
+    pub attacks-open : attacks rule t i b [] ≡ n.attack ∷ []
+    unfolding attacks
+    attacks-open = rw (at, o, r) refl
+
+    module _ (q : Point) (qs : List Point) where
+      -- a reply that fouls, or is no move, ends the game
+      pub game-foul : (f : Foul) → outcome rule (after b n.attack) q ≡ Fouls f → game rule t i b (q ∷ qs) ≡ Won 1
+      unfolding game
+      game-foul f e = rw (at, o, r, e) refl
+
+      pub attacks-foul : (f : Foul) → outcome rule (after b n.attack) q ≡ Fouls f → attacks rule t i b (q ∷ qs) ≡ n.attack ∷ []
+      unfolding attacks
+      attacks-foul f e = rw (at, o, r, e) refl
+
+      pub game-no_move : outcome rule (after b n.attack) q ≡ Refused → game rule t i b (q ∷ qs) ≡ IllegalReply
+      unfolding game
+      game-no_move e = rw (at, o, r, e) refl
+
+      -- a reply that goes on leads to the answer to it
+      pub game-next : (j : ℕ) → outcome rule (after b n.attack) q ≡ GoesOn → answer (answers_of n) q ≡ Some j → game rule t i b (q ∷ qs) ≡ one_later (game rule t j (after (after b n.attack) q) qs)
+      unfolding game
+      game-next j e w = rw (at, o, r, e, w) refl
+
+      pub attacks-next : (j : ℕ) → outcome rule (after b n.attack) q ≡ GoesOn → answer (answers_of n) q ≡ Some j → attacks rule t i b (q ∷ qs) ≡ n.attack ∷ attacks rule t j (after (after b n.attack) q) qs
+      unfolding attacks
+      attacks-next j e w = rw (at, o, r, e, w) refl
+
+pub none_on : (o : Outcome) (r : Bool) → points_on o (cond r [] []) ≡ []
+none_on GoesOn true = refl
+none_on GoesOn false = refl
+none_on _ r = refl
+
+pub first_at : (rule : RuleKind) (b : Grid) (o : Option Node) (n : Node) (next : Node → List Point) → o ≡ Some n → (rest : List Point) × (attacks_at rule o b next ≡ n.attack ∷ rest)
+first_at rule b None n next e = cc
+first_at rule b (Some m) n next e =
+    let same : m ≡ n = cc in
+    let rest = points_on (outcome rule b m.attack) (cond (is_winning m.rest) [] (next m)) in
+    (rest, ap (λ (x : Node). x.attack ∷ rest) same)

@@ -1,8 +1,7 @@
 -- `==` holds of two nodes exactly where they are equal.
-use Rattle.std.proofs.Common.{◌≡◌, true, ◌&&◌, ◌==◌, refl, ap, subst, ◌<◌, ◌≤◌, List, length, arith, ℕ, get_or, sym, ◌∙◌, zero, suc, false, [], ◌∷◌}
+use Rattle.std.proofs.Common.{◌≡◌, true, ◌&&◌, ◌==◌, refl, ap, subst, ◌<◌, ◌≤◌, List, length, arith, ℕ, get_or, sym, ◌∙◌, zero, suc, false, [], ◌∷◌, Some, slice_get, position, Contains}
 use Rattle.std.specs.Bool.{Decides}
 use Rattle.std.proofs.lemmas.Bool.Decides.{Decides-eqb}
-use Rattle.std.specs.Prelude.{Some, slice_get, position, Contains}
 use Rattle.std.proofs.lemmas.List.Quantifiers.{position-Some}
 use Rattle.std.proofs.lemmas.Option.{slice_get-get_or}
 use Rattle.std.specs.List.{list_any, AllByRecursion, IsDistinct}

@@ -1,7 +1,6 @@
 -- One move on from an accepted node or start: its attack is a legal move, and the node that answers a reply is accepted where it
 -- leads, and is no deeper.
-use Rattle.std.proofs.Common.{◌≡◌, ℕ, zero, suc, ◌<◌, ◌≤◌, List, [], ◌∷◌, length, refl, ap, subst, ◌∙◌, arith, true, sym}
-use Rattle.std.specs.Prelude.{Option, Some, None, slice_get}
+use Rattle.std.proofs.Common.{◌≡◌, ℕ, zero, suc, ◌<◌, ◌≤◌, List, [], ◌∷◌, length, refl, ap, subst, ◌∙◌, arith, true, sym, Option, Some, None, slice_get}
 use Rattle.std.specs.Option.{option_map, option_and_then}
 use Rattle.game_rules.proofs.Common.{Grid, is_empty, outcome, after, WinsOr, LosesOr}
 use Rattle.game_rules.proofs.Games.{WinsOr-map}
@@ -11,8 +10,7 @@ use Rattle.game_rules.specs.declared.Outcome.TheVariants.{GoesOn}
 use Rattle.game_rules.specs.declared.Point.{Point}
 use Rattle.game_rules.proofs.Outcomes.{empty_at}
 use Rattle.strategy_graph.specs.declared.Node.{Node}
-use Rattle.strategy_graph.specs.Tables.{Answers, answers_of, answer, answer_at, IsTable, depth, start_depth}
-use Rattle.strategy_graph.specs.Acceptance.{Answered, NotWinning, Meets, AcceptedNode, AcceptedWithin, Accepted}
+use Rattle.strategy_graph.proofs.Common.{Answers, answers_of, answer, answer_at, IsTable, depth, start_depth, Answered, NotWinning, Meets, AcceptedNode, AcceptedWithin, Accepted}
 use Rattle.strategy_graph.proofs.Answering.{answer-greatest}
 use Rattle.strategy_graph.proofs.Fuel.{accepted-step}
 use Rattle.strategy_graph.proofs.Filling.{IsTable-lower}

@@ -1,19 +1,15 @@
 -- Depth, acceptance and arrivals of a node by those of the nodes that it names. The bound on the nodes that follow
 -- one another changes nothing once it is above the number of the node.
-use Rattle.std.proofs.Common.{◌≡◌, ℕ, zero, suc, ◌<◌, true, List, refl, sym, ap, ◌∙◌, arith, ◌≤◌, false}
-use Rattle.std.specs.Prelude.{Option, Some, None, slice_get, nat_lt}
+use Rattle.std.proofs.Common.{◌≡◌, ℕ, zero, suc, ◌<◌, true, List, refl, sym, ap, ◌∙◌, arith, ◌≤◌, false, Option, Some, None, slice_get, nat_lt}
 use Rattle.std.specs.List.{list_all}
 use Rattle.game_rules.proofs.Common.{Grid, outcome, after, WinsOr}
 use Rattle.game_rules.specs.declared.RuleKind.{RuleKind}
 use Rattle.game_rules.specs.declared.Point.{Point}
 use Rattle.strategy_graph.specs.declared.Node.{Node}
-use Rattle.strategy_graph.specs.Tables.{answers_of, named, names_below, NamesLower, node_depth, depth_within, depth, is_winning, answer}
-use Rattle.strategy_graph.specs.Acceptance.{AcceptedNode, AcceptedWithin, Accepted, NotWinning, Meets}
-use Rattle.strategy_graph.specs.Arrivals.{arrivals_behind, arrivals_within, arrivals}
-use Rattle.strategy_graph.specs.Renumbered.{renumbered_node}
+use Rattle.strategy_graph.proofs.Common.{answers_of, named, names_below, NamesLower, node_depth, depth_within, depth, is_winning, answer, AcceptedNode, AcceptedWithin, Accepted, NotWinning, Meets, arrivals_behind, arrivals_within, arrivals, renumbered_node}
 use Rattle.strategy_graph.proofs.Copies.{renumbered-same, depths-copied, accepted_node-copied, arrivals_behind-copied}
 use Rattle.strategy_graph.specs.declared.Rest.{Rest}
-use Rattle.strategy_graph.specs.declared.Rest.TheVariants.{Wins, To, Nothing}
+use Rattle.strategy_graph.specs.declared.Rest.TheVariants.{Wins}
 use Rattle.strategy_graph.proofs.Answering.{answer-greatest}
 use borrow.Author.Tests.{ltb-true}
 
@@ -79,8 +75,7 @@ accepted-deep rule t i b h = by_node (slice_get t i) (AcceptedWithin i rule t) (
 
 pub not_winning : (r : Rest) → NotWinning r → is_winning r ≡ false
 not_winning Wins h = absurd h
-not_winning (To j) h = refl
-not_winning Nothing h = refl
+not_winning _ h = refl
 
 pub depth_some : (t : List Node) (i : ℕ) (n : Node) (k : ℕ) → slice_get t i ≡ Some n → 1 ≤ depth_within (suc k) t i
 unfolding depth_within

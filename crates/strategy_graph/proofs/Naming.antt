@@ -1,15 +1,36 @@
--- The nodes that answers name, and the greatest of their depths.
-use Rattle.std.proofs.Common.{◌≡◌, ℕ, ◌+◌, ◌<◌, max, Bool, true, false, ◌&&◌, List, [], ◌∷◌, ◌++◌, map, length, get_or, drop, drop-cons, add-one, refl, sym, ap, ◌∙◌, arith, subst}
-use Rattle.std.specs.Prelude.{nat_lt, Some, None, All}
+-- Nodes at their places in a table, and in one that grows. The nodes that answers name, and the greatest of their depths.
+use Rattle.std.proofs.Common.{◌≡◌, ℕ, zero, suc, ◌<◌, List, [], ◌∷◌, ◌++◌, length, arith, refl, Some, slice_get, ◌+◌, max, Bool, true, false, ◌&&◌, map, get_or, drop, drop-cons, add-one, sym, ap, ◌∙◌, subst, nat_lt, None, All}
 use Rattle.std.specs.List.{list_all}
+use Rattle.std.proofs.lemmas.Option.{same_Some}
 use Rattle.std.proofs.lemmas.List.Folds.{list_all-append, list_all-map}
 use Rattle.std.proofs.lemmas.List.Sums.{AllPass-from_list_all}
+use borrow.Author.Tests.{ltb-true}
+use Rattle.game_rules.proofs.Boards.{and_left, and_right}
+use Rattle.strategy_graph.specs.declared.Node.{Node}
 use Rattle.strategy_graph.specs.declared.Reply.{Reply}
 use Rattle.strategy_graph.specs.declared.Rest.{Rest}
-use Rattle.strategy_graph.specs.declared.Rest.TheVariants.{Wins, To, Nothing}
-use Rattle.strategy_graph.specs.Tables.{Answers, named, names_below, rest_nodes, rest_node, greatest}
-use Rattle.game_rules.proofs.Boards.{and_left, and_right}
-use borrow.Author.Tests.{ltb-true}
+use Rattle.strategy_graph.specs.declared.Rest.TheVariants.{To}
+use Rattle.strategy_graph.proofs.Common.{Answers, named, names_below, rest_nodes, rest_node, greatest}
+
+pub slice_get-shorter : (t more : List Node) (i : ℕ) (n : Node) → i < length t → slice_get (t ++ more) i ≡ Some n → slice_get t i ≡ Some n
+slice_get-shorter [] more i n l h = absurd (omega arith)
+slice_get-shorter (m ∷ t) more zero n l h = h
+slice_get-shorter (m ∷ t) more (suc i) n l h = slice_get-shorter t more i n (omega arith) h
+
+-- a longer table has the nodes of the shorter
+pub slice_get-longer : (t more : List Node) (i : ℕ) (n : Node) → slice_get t i ≡ Some n → slice_get (t ++ more) i ≡ Some n
+slice_get-longer [] more i n h = cc
+slice_get-longer (m ∷ t) more zero n h = h
+slice_get-longer (m ∷ t) more (suc i) n h = slice_get-longer t more i n h
+
+pub ext-slice_get : (t u : List Node) → length t ≡ length u → ((i : ℕ) → i < length t → slice_get t i ≡ slice_get u i) → t ≡ u
+ext-slice_get [] [] e h = refl
+ext-slice_get [] (m ∷ u) e h = absurd (omega (arith, e))
+ext-slice_get (n ∷ t) [] e h = absurd (omega (arith, e))
+ext-slice_get (n ∷ t) (m ∷ u) e h =
+    let first : n ≡ m = same_Some n m (h 0 (omega arith)) in
+    let others : t ≡ u = ext-slice_get t u (omega (arith, e)) (λ i l. h (suc i) (omega arith)) in
+    λ i. first i ∷ others i
 
 -- the nodes that are listed, and that of the rest
 pub names_below-parts : (a : Answers) (k : ℕ) → names_below a k ≡ (list_all (λ r. nat_lt r.next k) a.replies && list_all (λ j. nat_lt j k) (rest_nodes a.rest))
@@ -22,9 +43,8 @@ pub reply-below : (a : Answers) (k i : ℕ) (d : Reply) → names_below a k ≡ 
 reply-below a k i d h l = ltb-true _ _ (AllPass-from_list_all (λ r. nat_lt r.next k) a.replies (and_left _ _ (sym (names_below-parts a k) ∙ h)) i d l)
 
 rest_by : (r : Rest) (k j : ℕ) → list_all (λ j. nat_lt j k) (rest_nodes r) ≡ true → rest_node r ≡ Some j → j < k
-rest_by Wins k j h e = cc
 rest_by (To i) k j h e = let same : i ≡ j = cc in let low : i < k = ltb-true _ _ (and_left (nat_lt i k) true h) in omega (arith, same, low)
-rest_by Nothing k j h e = cc
+rest_by _ k j h e = cc
 
 -- and so does the rest
 pub rest-below : (a : Answers) (k j : ℕ) → names_below a k ≡ true → rest_node a.rest ≡ Some j → j < k
@@ -47,14 +67,12 @@ pub greatest_listed-drop : (d : ℕ → ℕ) (rs : List Reply) (i : ℕ) (z : Re
 greatest_listed-drop d rs i z l = rw (add-one, drop-cons rs i z) refl
 
 pub greatest_rest-none : (d : ℕ → ℕ) (r : Rest) → rest_node r ≡ None → greatest (map d (rest_nodes r)) ≡ 0
-greatest_rest-none d Wins e = refl
 greatest_rest-none d (To j) e = cc
-greatest_rest-none d Nothing e = refl
+greatest_rest-none d _ e = refl
 
 pub greatest_rest-some : (d : ℕ → ℕ) (r : Rest) (j : ℕ) → rest_node r ≡ Some j → greatest (map d (rest_nodes r)) ≡ d j
-greatest_rest-some d Wins j e = cc
 greatest_rest-some d (To i) j e = let same : d i ≡ d j = cc in omega (arith, same)
-greatest_rest-some d Nothing j e = cc
+greatest_rest-some d _ j e = cc
 
 -- ---- by parts
 

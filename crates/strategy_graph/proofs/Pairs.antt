@@ -1,135 +1,155 @@
--- Nodes whose numbers are related place by place.
-use Rattle.std.proofs.Common.{ℕ, List, [], ◌∷◌, ◌≡◌, subst, refl, ap, sym, ◌∙◌, map, true, zero, suc, arith}
-use Rattle.std.specs.Prelude.{Option, Some, None, Contains}
+-- Lists of numbers that are related place by place, and nodes that are the same but for related numbers.
+use Rattle.std.proofs.Common.{ℕ, true, List, [], ◌∷◌, ◌++◌, ◌≡◌, ◌==◌, ◌<◌, subst, refl, ap, sym, ◌∙◌, map, zero, suc, arith, length, get_or, Option, Some, None, Contains, fold, nat_eq}
 use Rattle.std.specs.List.{AllByRecursion}
+use Rattle.std.specs.Option.{option_eq}
 use Rattle.game_rules.specs.declared.Point.{Point}
 use Rattle.strategy_graph.specs.declared.Rest.{Rest}
 use Rattle.strategy_graph.specs.declared.Rest.TheVariants.{Wins, To, Nothing}
 use Rattle.strategy_graph.specs.declared.Reply.{Reply}
 use Rattle.strategy_graph.specs.declared.Node.{Node}
-use Rattle.strategy_graph.specs.Leads.{AtNode}
-use Rattle.strategy_graph.specs.Tables.{rest_nodes, is_winning, rest_node, Answers, answer}
-
--- rests and replies with related numbers
-pub data RestPair (R : ℕ → ℕ → Type 0) : Rest → Rest → Type 0 where
-  BothWin : RestPair R Wins Wins
-  BothTo : (j k : ℕ) → R j k → RestPair R (To j) (To k)
-  BothNothing : RestPair R Nothing Nothing
-
-pub data ReplyPairs (R : ℕ → ℕ → Type 0) : List Reply → List Reply → Type 0 where
-  NoReplies : ReplyPairs R [] []
-  Replies : (q : Point) (j k : ℕ) (rs ss : List Reply) → R j k → ReplyPairs R rs ss
-      → ReplyPairs R (record { at = q; next = j } ∷ rs) (record { at = q; next = k } ∷ ss)
-
-pub record NodePair (R : ℕ → ℕ → Type 0) (n m : Node) : Type 0 where
-  pub attack : n.attack ≡ m.attack
-  pub rest : RestPair R n.rest m.rest
-  pub replies : ReplyPairs R n.replies m.replies
-
-pub AtNode-some : (o : Option Node) (n : Node) (P : Node → Type 0) → o ≡ Some n → AtNode o P → P n
-AtNode-some None n P e h = absurd h
-AtNode-some (Some m) n P e h = let same : m ≡ n = cc in subst P same h
-
--- what is related to one thing is one
-module _ (R S : ℕ → ℕ → Type 0) (f : (x y z : ℕ) → R x y → S x z → y ≡ z) where
-  rest-right : (r s t : Rest) → RestPair R r s → RestPair S r t → s ≡ t
-  rest-right _ _ t BothWin k = win t k where
-    win : (t : Rest) → RestPair S Wins t → Wins ≡ t
-    win _ BothWin = refl
-  rest-right _ _ t (BothTo x y h) k = to t k where
-    to : (t : Rest) → RestPair S (To x) t → To y ≡ t
-    to _ (BothTo _ z k) = ap To (f x y z h k)
-  rest-right _ _ t BothNothing k = nothing t k where
-    nothing : (t : Rest) → RestPair S Nothing t → Nothing ≡ t
-    nothing _ BothNothing = refl
-
-  replies-right : (rs ss ts : List Reply) → ReplyPairs R rs ss → ReplyPairs S rs ts → ss ≡ ts
-  replies-right _ _ ts NoReplies k = none ts k where
-    none : (ts : List Reply) → ReplyPairs S [] ts → [] ≡ ts
-    none _ NoReplies = refl
-  replies-right _ _ ts (Replies q x y rs ss h hs) k = more ts k (λ ts k. replies-right rs ss ts hs k) where
-    more : (ts : List Reply) → ReplyPairs S (record { at = q; next = x } ∷ rs) ts → ((ts : List Reply) → ReplyPairs S rs ts → ss ≡ ts)
-        → record { at = q; next = y } ∷ ss ≡ ts
-    more _ (Replies _ _ z _ ts k ks) later = let next = f x y z h k in let others = later ts ks in λ i. record { at = q; next = next i } ∷
-        others i
-
-flip : (ℕ → ℕ → Type 0) → ℕ → ℕ → Type 0
-flip R x y = R y x
-
-rest-flip : (R : ℕ → ℕ → Type 0) (r s : Rest) → RestPair R r s → RestPair (flip R) s r
-unfolding flip
-rest-flip R _ _ BothWin = BothWin
-rest-flip R _ _ (BothTo x y h) = BothTo y x h
-rest-flip R _ _ BothNothing = BothNothing
-
-replies-flip : (R : ℕ → ℕ → Type 0) (rs ss : List Reply) → ReplyPairs R rs ss → ReplyPairs (flip R) ss rs
-unfolding flip
-replies-flip R _ _ NoReplies = NoReplies
-replies-flip R _ _ (Replies q x y rs ss h k) = Replies q y x ss rs h (replies-flip R rs ss k)
-
-pub node-right : (R S : ℕ → ℕ → Type 0) → ((x y z : ℕ) → R x y → S x z → y ≡ z) → (n m l : Node) → NodePair R n m → NodePair S n l → m ≡ l
-node-right R S f n m l h k =
-    let attack : m.attack ≡ l.attack = sym h.attack ∙ k.attack in
-    let replies = replies-right R S f n.replies m.replies l.replies h.replies k.replies in
-    let rest = rest-right R S f n.rest m.rest l.rest h.rest k.rest in
-    λ i. record { attack = attack i; replies = replies i; rest = rest i }
-
-rest-itself : (r : Rest) → RestPair (λ x y. x ≡ y) r r
-rest-itself Wins = BothWin
-rest-itself (To j) = BothTo j j refl
-rest-itself Nothing = BothNothing
-
-replies-itself : (rs : List Reply) → ReplyPairs (λ x y. x ≡ y) rs rs
-replies-itself [] = NoReplies
-replies-itself (r ∷ rs) = Replies r.at r.next r.next rs rs refl (replies-itself rs)
-
-pub node-itself : (n : Node) → NodePair (λ x y. x ≡ y) n n
-node-itself n = record { attack = refl; rest = rest-itself n.rest; replies = replies-itself n.replies }
-
-node-flip : (R : ℕ → ℕ → Type 0) (n m : Node) → NodePair R n m → NodePair (flip R) m n
-node-flip R n m h = record { attack = sym h.attack; rest = rest-flip R n.rest m.rest h.rest; replies = replies-flip R n.replies m.replies h.replies }
-
-pub node-left : (R S : ℕ → ℕ → Type 0) → ((x y z : ℕ) → R y x → S z x → y ≡ z) → (n m l : Node) → NodePair R m n → NodePair S l n → m ≡ l
-unfolding flip
-node-left R S f n m l h k = node-right (flip R) (flip S) f n m l (node-flip R m n h) (node-flip S l n k)
+use Rattle.strategy_graph.proofs.Common.{AtNode, rest_nodes, is_winning, rest_node, Answers, answer}
 
 pub data Pairs (R : ℕ → ℕ → Type 0) : List ℕ → List ℕ → Type 0 where
   Ends : Pairs R [] []
   Goes : (j k : ℕ) (js ks : List ℕ) → R j k → Pairs R js ks → Pairs R (j ∷ js) (k ∷ ks)
 
-pub rest-pairs : (R S : ℕ → ℕ → Type 0) → ((x y : ℕ) → R x y → S x y) → (r s : Rest) → RestPair R r s → Pairs S (rest_nodes r) (rest_nodes s)
-rest-pairs R S f _ _ BothWin = Ends
-rest-pairs R S f _ _ (BothTo x y h) = Goes x y [] [] (f x y h) Ends
-rest-pairs R S f _ _ BothNothing = Ends
+-- what is related to one thing is one, on either side
+pub pairs-right : (R S : ℕ → ℕ → Type 0) → ((x y z : ℕ) → R x y → S x z → y ≡ z) → (js ks ls : List ℕ) → Pairs R js ks → Pairs S js ls → ks ≡ ls
+pairs-right R S f _ _ ls Ends k = none ls k where
+  none : (ls : List ℕ) → Pairs S [] ls → [] ≡ ls
+  none _ Ends = refl
+pairs-right R S f _ _ ls (Goes x y js ks h hs) k = more ls k (λ ls k. pairs-right R S f js ks ls hs k) where
+  more : (ls : List ℕ) → Pairs S (x ∷ js) ls → ((ls : List ℕ) → Pairs S js ls → ks ≡ ls) → y ∷ ks ≡ ls
+  more _ (Goes _ z _ ls k ks) later = let first = f x y z h k in let others = later ls ks in λ i. first i ∷ others i
 
-pub next-pairs : (R S : ℕ → ℕ → Type 0) → ((x y : ℕ) → R x y → S x y) → (rs ss : List Reply) → ReplyPairs R rs ss → Pairs S (map (λ r. r.next) rs) (map (λ s. s.next) ss)
-next-pairs R S f _ _ NoReplies = Ends
-next-pairs R S f _ _ (Replies q x y rs ss h k) = Goes x y _ _ (f x y h) (next-pairs R S f rs ss k)
+pub pairs-left : (R S : ℕ → ℕ → Type 0) → ((x y z : ℕ) → R y x → S z x → y ≡ z) → (js ks ls : List ℕ) → Pairs R ks js → Pairs S ls js → ks ≡ ls
+pairs-left R S f js ks ls h k = pairs-right (λ x y. R y x) (λ x y. S y x) f js ks ls (flip R ks js h) (flip S ls js k) where
+  flip : (T : ℕ → ℕ → Type 0) (xs ys : List ℕ) → Pairs T xs ys → Pairs (λ x y. T y x) ys xs
+  flip T _ _ Ends = Ends
+  flip T _ _ (Goes x y xs ys h k) = Goes y x ys xs h (flip T xs ys k)
 
-pub there-at : (o : Option Node) (P : Node → Type 0) → AtNode o P → (n : Node) × (o ≡ Some n)
-there-at None P h = absurd h
-there-at (Some n) P h = (n, refl)
+pub pairs-weaker : (R S : ℕ → ℕ → Type 0) → ((x y : ℕ) → R x y → S x y) → (js ks : List ℕ) → Pairs R js ks → Pairs S js ks
+pairs-weaker R S f _ _ Ends = Ends
+pairs-weaker R S f _ _ (Goes x y js ks h k) = Goes x y js ks (f x y h) (pairs-weaker R S f js ks k)
 
-pub no_replies : (R : ℕ → ℕ → Type 0) (rs ss : List Reply) → rs ≡ [] → ss ≡ [] → ReplyPairs R rs ss
-no_replies R rs ss e f = subst (λ (xs : List Reply). ReplyPairs R xs ss) (sym e) (subst (ReplyPairs R []) (sym f) NoReplies)
+pub pairs-itself : (js : List ℕ) → Pairs (λ x y. x ≡ y) js js
+pairs-itself [] = Ends
+pairs-itself (j ∷ js) = Goes j j js js refl (pairs-itself js)
 
-pub winning-rest : (r : Rest) → is_winning r ≡ true → r ≡ Wins
-winning-rest Wins h = refl
-winning-rest (To j) h = cc
-winning-rest Nothing h = cc
+pub pairs-append : (R : ℕ → ℕ → Type 0) (js ks js' ks' : List ℕ) → Pairs R js ks → Pairs R js' ks' → Pairs R (js ++ js') (ks ++ ks')
+pairs-append R _ _ js' ks' Ends h = h
+pairs-append R _ _ js' ks' (Goes j k js ks r p) h = Goes j k (js ++ js') (ks ++ ks') r (pairs-append R js ks js' ks' p h)
 
-pub rest-by_node : (R : ℕ → ℕ → Type 0) (r s : Rest) (j k : ℕ) → rest_node r ≡ Some j → rest_node s ≡ Some k → R j k → RestPair R r s
-rest-by_node R r s j k e f h =
-    subst (λ (x : Rest). RestPair R x s) (sym (is-to r j e)) (subst (RestPair R (To j)) (sym (is-to s k f)) (BothTo j k h)) where
-      is-to : (r : Rest) (j : ℕ) → rest_node r ≡ Some j → r ≡ To j
-      is-to Wins j e = cc
-      is-to (To i) j e = let same : i ≡ j = cc in ap To same
-      is-to Nothing j e = cc
+pub pairs-length : (R : ℕ → ℕ → Type 0) (js ks : List ℕ) → Pairs R js ks → length js ≡ length ks
+pairs-length R _ _ Ends = refl
+pairs-length R _ _ (Goes j k js ks r p) = ap suc (pairs-length R js ks p)
+
+pub pairs-at : (R : ℕ → ℕ → Type 0) (js ks : List ℕ) (i : ℕ) → Pairs R js ks → i < length js → R (get_or js i 0) (get_or ks i 0)
+pairs-at R _ _ i Ends l = absurd (omega arith)
+pairs-at R _ _ zero (Goes j k js ks r p) l = r
+pairs-at R _ _ (suc i) (Goes j k js ks r p) l = pairs-at R js ks i p (omega arith)
+
+pub fold-pairs : (R : ℕ → ℕ → Type 0) (f g : List ℕ → ℕ → List ℕ) → ((d e : List ℕ) (x y : ℕ) → R x y → Pairs R d e → Pairs R (f d x) (g e y))
+    → (js ks d e : List ℕ) → Pairs R js ks → Pairs R d e → Pairs R (fold f d js) (fold g e ks)
+fold-pairs R f g step _ _ d e Ends p = p
+fold-pairs R f g step _ _ d e (Goes j k js ks r q) p = fold-pairs R f g step js ks (f d j) (g e k) q (step d e j k r p)
 
 -- both are there and related, or neither is there
 pub data OptionPair (R : ℕ → ℕ → Type 0) : Option ℕ → Option ℕ → Type 0 where
   Neither : OptionPair R None None
   Both : (j k : ℕ) → R j k → OptionPair R (Some j) (Some k)
+
+-- the relation tells numbers apart on one side where it does on the other
+pub record TellsApart (R : ℕ → ℕ → Type 0) : Type 0 where
+  pub apart : (i i' j j' : ℕ) → R i j → R i' j' → (i == i') ≡ (j == j')
+
+pub same-pairs : (R : ℕ → ℕ → Type 0) → TellsApart R → (o p o' p' : Option ℕ) → OptionPair R o o' → OptionPair R p p' → option_eq nat_eq o p ≡ option_eq nat_eq o' p'
+same-pairs R one _ _ _ _ (Both a b r) (Both c d r') = one.apart a c b d r r'
+same-pairs R one _ _ _ _ (Both a b r) Neither = refl
+same-pairs R one _ _ _ _ Neither Neither = refl
+same-pairs R one _ _ _ _ Neither (Both c d r) = refl
+
+-- nodes that are the same but for related numbers
+pub record NodePair (R : ℕ → ℕ → Type 0) (n m : Node) : Type 0 where
+  pub attack : n.attack ≡ m.attack
+  pub winning : is_winning n.rest ≡ is_winning m.rest
+  pub points : map (λ r. r.at) n.replies ≡ map (λ r. r.at) m.replies
+  pub rests : Pairs R (rest_nodes n.rest) (rest_nodes m.rest)
+  pub nexts : Pairs R (map (λ r. r.next) n.replies) (map (λ r. r.next) m.replies)
+
+pub cons-first : {X : Type 0} (x y : X) (xs ys : List X) → x ∷ xs ≡ y ∷ ys → x ≡ y
+cons-first x y xs ys e = cc
+
+pub cons-others : {X : Type 0} (x y : X) (xs ys : List X) → x ∷ xs ≡ y ∷ ys → xs ≡ ys
+cons-others x y xs ys e = cc
+
+pub node-by_parts : (n m : Node) → n.attack ≡ m.attack → is_winning n.rest ≡ is_winning m.rest → map (λ r. r.at) n.replies ≡ map (λ r. r.at) m.replies
+    → rest_nodes n.rest ≡ rest_nodes m.rest → map (λ r. r.next) n.replies ≡ map (λ r. r.next) m.replies → n ≡ m
+node-by_parts n m attack winning points rests nexts =
+    let rest = rest-same n.rest m.rest winning rests in
+    let replies = replies-same n.replies m.replies points nexts in
+    λ i. record { attack = attack i; replies = replies i; rest = rest i } where
+      rest-same : (r s : Rest) → is_winning r ≡ is_winning s → rest_nodes r ≡ rest_nodes s → r ≡ s
+      rest-same Wins Wins e f = refl
+      rest-same (To j) (To k) e f = let same : j ≡ k = cc in ap To same
+      rest-same Nothing Nothing e f = refl
+      rest-same Wins (To k) e f = cc
+      rest-same Wins Nothing e f = cc
+      rest-same (To j) Wins e f = cc
+      rest-same (To j) Nothing e f = cc
+      rest-same Nothing Wins e f = cc
+      rest-same Nothing (To k) e f = cc
+
+      replies-same : (rs ss : List Reply) → map (λ r. r.at) rs ≡ map (λ r. r.at) ss → map (λ r. r.next) rs ≡ map (λ r. r.next) ss → rs ≡ ss
+      replies-same [] [] e f = refl
+      replies-same [] (s ∷ ss) e f = cc
+      replies-same (r ∷ rs) [] e f = cc
+      replies-same (r ∷ rs) (s ∷ ss) e f =
+          let at : r.at ≡ s.at = cons-first _ _ _ _ e in
+          let next : r.next ≡ s.next = cons-first _ _ _ _ f in
+          let others = replies-same rs ss (cons-others _ _ _ _ e) (cons-others _ _ _ _ f) in
+          λ i. record { at = at i; next = next i } ∷ others i
+
+pub node-right : (R S : ℕ → ℕ → Type 0) → ((x y z : ℕ) → R x y → S x z → y ≡ z) → (n m l : Node) → NodePair R n m → NodePair S n l → m ≡ l
+node-right R S f n m l h k =
+    node-by_parts m l (sym h.attack ∙ k.attack) (sym h.winning ∙ k.winning) (sym h.points ∙ k.points)
+    (pairs-right R S f _ _ _ h.rests k.rests) (pairs-right R S f _ _ _ h.nexts k.nexts)
+
+pub node-left : (R S : ℕ → ℕ → Type 0) → ((x y z : ℕ) → R y x → S z x → y ≡ z) → (n m l : Node) → NodePair R m n → NodePair S l n → m ≡ l
+node-left R S f n m l h k =
+    node-by_parts m l (h.attack ∙ sym k.attack) (h.winning ∙ sym k.winning) (h.points ∙ sym k.points)
+    (pairs-left R S f _ _ _ h.rests k.rests) (pairs-left R S f _ _ _ h.nexts k.nexts)
+
+pub node-itself : (n : Node) → NodePair (λ x y. x ≡ y) n n
+node-itself n = record { attack = refl; winning = refl; points = refl; rests = pairs-itself (rest_nodes n.rest); nexts = pairs-itself (map (λ r. r.next) n.replies) }
+
+-- nodes that name none
+pub bare-pair : (R : ℕ → ℕ → Type 0) (n m : Node) → n.attack ≡ m.attack → n.rest ≡ m.rest → rest_nodes m.rest ≡ [] → n.replies ≡ [] → m.replies ≡ [] → NodePair R n m
+bare-pair R n m attack rest none e f = record {
+  attack = attack;
+  winning = ap is_winning rest;
+  points = ap (map (λ r. r.at)) (e ∙ sym f);
+  rests = subst (λ (r : Rest). Pairs R (rest_nodes r) (rest_nodes m.rest)) (sym rest) (subst (λ (js : List ℕ). Pairs R js js) (sym none) Ends);
+  nexts =
+      subst (λ (rs : List Reply). Pairs R (map (λ r. r.next) rs) (map (λ r. r.next) m.replies)) (sym e)
+      (subst (λ (rs : List Reply). Pairs R [] (map (λ r. r.next) rs)) (sym f) Ends);
+}
+
+pub AtNode-some : (o : Option Node) (n : Node) (P : Node → Type 0) → o ≡ Some n → AtNode o P → P n
+AtNode-some None n P e h = absurd h
+AtNode-some (Some m) n P e h = let same : m ≡ n = cc in subst P same h
+
+pub there-at : (o : Option Node) (P : Node → Type 0) → AtNode o P → (n : Node) × (o ≡ Some n)
+there-at None P h = absurd h
+there-at (Some n) P h = (n, refl)
+
+pub winning-rest : (r : Rest) → is_winning r ≡ true → r ≡ Wins
+winning-rest Wins h = refl
+winning-rest _ h = cc
+
+pub rest-to : (r : Rest) (j : ℕ) → rest_node r ≡ Some j → r ≡ To j
+rest-to (To i) j e = let same : i ≡ j = cc in ap To same
+rest-to _ j e = cc
 
 abbrev pub IsThere : Option ℕ → Type 0
 IsThere None = ⊥
@@ -150,19 +170,13 @@ answer-pair R a b (p ∷ qs) q j k h (zero, l, e) x y =
     (subst (λ (o : Option ℕ). OptionPair R (answer a q) o) y (subst (λ (r : Point). OptionPair R (answer a r) (answer b r)) e h.0)))
 answer-pair R a b (p ∷ qs) q j k h (suc m, l, e) x y = answer-pair R a b qs q j k h.2 (m, omega arith, e) x y
 
-pub cons-first : {X : Type 0} (x y : X) (xs ys : List X) → x ∷ xs ≡ y ∷ ys → x ≡ y
-cons-first x y xs ys e = cc
-
-pub cons-others : {X : Type 0} (x y : X) (xs ys : List X) → x ∷ xs ≡ y ∷ ys → xs ≡ ys
-cons-others x y xs ys e = cc
-
-pub listed-pairs : (R : ℕ → ℕ → Type 0) (a b : Answers) (qs : List Point) (rs ss : List Reply) → AnswerPairs R a b qs → map (λ r. r.at) rs ≡ map (λ s. s.at) ss → ((q : Point) → Contains (map (λ r. r.at) rs) q → Contains qs q) → AllByRecursion (λ r. answer a r.at ≡ Some r.next) rs → AllByRecursion (λ r. answer b r.at ≡ Some r.next) ss → ReplyPairs R rs ss
-listed-pairs R a b qs [] [] h e inside x y = NoReplies
+pub listed-pairs : (R : ℕ → ℕ → Type 0) (a b : Answers) (qs : List Point) (rs ss : List Reply) → AnswerPairs R a b qs → map (λ r. r.at) rs ≡ map (λ s. s.at) ss
+    → ((q : Point) → Contains (map (λ r. r.at) rs) q → Contains qs q) → AllByRecursion (λ r. answer a r.at ≡ Some r.next) rs → AllByRecursion (λ r. answer b r.at ≡ Some r.next) ss
+    → Pairs R (map (λ r. r.next) rs) (map (λ s. s.next) ss)
+listed-pairs R a b qs [] [] h e inside x y = Ends
 listed-pairs R a b qs [] (s ∷ ss) h e inside x y = cc
 listed-pairs R a b qs (r ∷ rs) [] h e inside x y = cc
 listed-pairs R a b qs (r ∷ rs) (s ∷ ss) h e inside x y =
-    let at : r.at ≡ s.at = cons-first _ _ _ _ e in
-    subst (λ (q : Point). ReplyPairs R (r ∷ rs) (record { at = q; next = s.next } ∷ ss)) at
-    (Replies r.at r.next s.next rs ss
-    (answer-pair R a b qs r.at r.next s.next h (inside r.at (0, omega arith, refl)) x.0 (ap (answer b) at ∙ y.0))
-    (listed-pairs R a b qs rs ss h (cons-others _ _ _ _ e) (λ q c. inside q (suc c.0, omega arith, c.2)) x.1 y.1))
+    Goes r.next s.next _ _
+    (answer-pair R a b qs r.at r.next s.next h (inside r.at (0, omega arith, refl)) x.0 (ap (answer b) (cons-first _ _ _ _ e) ∙ y.0))
+    (listed-pairs R a b qs rs ss h (cons-others _ _ _ _ e) (λ q c. inside q (suc c.0, omega arith, c.2)) x.1 y.1)

@@ -1,6 +1,5 @@
 -- A line that leads to a fault refutes acceptance.
-use Rattle.std.proofs.Common.{◌≡◌, ℕ, zero, suc, List, [], ◌∷◌, sym, subst}
-use Rattle.std.specs.Prelude.{Option, Some, None, slice_get}
+use Rattle.std.proofs.Common.{◌≡◌, ℕ, zero, suc, List, [], ◌∷◌, sym, subst, Option, Some, None, slice_get}
 use Rattle.game_rules.proofs.Common.{Grid, outcome, after, WinsOr, LosesOr}
 use Rattle.game_rules.specs.declared.RuleKind.{RuleKind}
 use Rattle.game_rules.specs.declared.Outcome.{Outcome}
@@ -10,9 +9,7 @@ use Rattle.strategy_graph.specs.declared.Rest.{Rest}
 use Rattle.strategy_graph.specs.declared.Rest.TheVariants.{Wins, To, Nothing}
 use Rattle.strategy_graph.specs.declared.Node.{Node}
 use Rattle.strategy_graph.specs.declared.Why.{Why}
-use Rattle.strategy_graph.specs.Tables.{Answers, answers_of, answer}
-use Rattle.strategy_graph.specs.Acceptance.{Answered, NotWinning, Meets, AcceptedNode, AcceptedWithin, Accepted, AcceptedStart}
-use Rattle.strategy_graph.specs.Leads.{attack_fault, reply_fault, AtNode, ReplyLeads, Leads, LeadsStart}
+use Rattle.strategy_graph.proofs.Common.{Answers, answers_of, answer, Answered, NotWinning, Meets, AcceptedNode, AcceptedWithin, Accepted, AcceptedStart, attack_fault, reply_fault, AtNode, ReplyLeads, Leads, LeadsStart}
 
 -- an attack with a fault neither wins nor goes on from a node that is no winning one
 attack_refutes : (o : Outcome) (rest : Rest) (why : Why) (W : Type 0) → attack_fault o rest ≡ Some why → WinsOr o (NotWinning rest × W) → ⊥

@@ -1,6 +1,6 @@
 -- A table that holds copies of nodes of another, under other numbers, says the same at them: what a compiler of
 -- tables needs.
-use Rattle.std.proofs.Common.{◌≡◌, ℕ, suc, ◌+◌, Bool, true, List, ◌∙◌, arith, refl, ap, [], ◌∷◌, map, sym, ◌&&◌, ◌==◌, ◌<◌}
+use Rattle.std.proofs.Common.{◌≡◌, ℕ, suc, ◌+◌, Bool, true, List, ◌∙◌, arith, refl, ap, [], ◌∷◌, map, sym, ◌&&◌, ◌==◌, ◌<◌, nat_lt}
 use Rattle.game_rules.proofs.Common.{Grid, precedes}
 use Rattle.game_rules.specs.declared.RuleKind.{RuleKind}
 use Rattle.game_rules.proofs.Boards.{and_left, and_right}
@@ -10,13 +10,8 @@ use Rattle.std.specs.List.{list_all}
 use Rattle.std.proofs.lemmas.List.Folds.{list_all-append}
 use Rattle.std.specs.Option.{option_map}
 use Rattle.std.proofs.lemmas.Bool.Decides.{Decides-eqb}
-use Rattle.std.specs.Prelude.{nat_lt}
 use borrow.Author.Tests.{lt-ltb}
-use Rattle.strategy_graph.specs.Tables.{Answers, NamesLower, depth, named, rest_nodes, answers_of, is_rising, rest_node, IsNode}
-use Rattle.strategy_graph.specs.Renumbered.{renumbered_answers, renumbered_rest, renumbered_reply, renumbered_node}
-use Rattle.strategy_graph.specs.Acceptance.{Accepted}
-use Rattle.strategy_graph.specs.Arrivals.{arrivals}
-use Rattle.strategy_graph.specs.Laws.{SaysSame, StartSaysSame}
+use Rattle.strategy_graph.proofs.Common.{Answers, NamesLower, depth, named, rest_nodes, answers_of, is_rising, rest_node, IsNode, renumbered_answers, renumbered_rest, renumbered_reply, renumbered_node, Accepted, arrivals, SaysSame, StartSaysSame}
 use Rattle.strategy_graph.proofs.Copies.{iff_by, Copies, depth_within-copied, accepted_within-copied, arrivals_within-copied, game-copied, attacks-copied, Leads-copied, named-renumbered, is_winning-renumbered}
 use Rattle.strategy_graph.proofs.Starts.{starts-same}
 use Rattle.strategy_graph.proofs.Fuel.{depth_within-enough, accepted_within-enough, arrivals_within-enough}
@@ -75,9 +70,8 @@ copies-same-start f passes t u copies lower lower' a all =
 
 -- it matters only what is put for the numbers that are named
 pub renumbered_rest-agree : (f g : ℕ → ℕ) (passes : ℕ → Bool) → ((j : ℕ) → passes j ≡ true → f j ≡ g j) → (rest : Rest) → list_all passes (rest_nodes rest) ≡ true → renumbered_rest f rest ≡ renumbered_rest g rest
-renumbered_rest-agree f g passes same Wins h = refl
 renumbered_rest-agree f g passes same (To j) h = ap To (same j (and_left (passes j) true h))
-renumbered_rest-agree f g passes same Nothing h = refl
+renumbered_rest-agree f g passes same _ h = refl
 
 pub renumbered_replies-agree : (f g : ℕ → ℕ) (passes : ℕ → Bool) → ((j : ℕ) → passes j ≡ true → f j ≡ g j) → (rs : List Reply) → list_all passes (map (λ r. r.next) rs) ≡ true → map (renumbered_reply f) rs ≡ map (renumbered_reply g) rs
 renumbered_replies-agree f g passes same [] h = refl
@@ -113,8 +107,7 @@ pub record IsOneToOne (f : ℕ → ℕ) (passes : ℕ → Bool) : Type 0 where
 module _ (f : ℕ → ℕ) (passes : ℕ → Bool) (one : IsOneToOne f passes) where
   pub rest_node-renumbered : (r : Rest) → rest_node (renumbered_rest f r) ≡ option_map f (rest_node r)
   rest_node-renumbered Wins = refl
-  rest_node-renumbered (To j) = refl
-  rest_node-renumbered Nothing = refl
+  rest_node-renumbered _ = refl
 
   -- ---- nodes
   pub reply-renumbered : (r s : Reply) → passes r.next ≡ true → passes s.next ≡ true → renumbered_reply f r ≡ renumbered_reply f s → r ≡ s
@@ -165,8 +158,7 @@ module _ (f : ℕ → ℕ) (passes : ℕ → Bool) (one : IsOneToOne f passes) w
   -- ---- tables
   pub rest_nodes-renumbered : (r : Rest) → rest_nodes (renumbered_rest f r) ≡ map f (rest_nodes r)
   rest_nodes-renumbered Wins = refl
-  rest_nodes-renumbered (To j) = refl
-  rest_nodes-renumbered Nothing = refl
+  rest_nodes-renumbered _ = refl
 
   pub nexts-renumbered : (rs : List Reply) → map (λ r. r.next) (map (renumbered_reply f) rs) ≡ map f (map (λ r. r.next) rs)
   nexts-renumbered [] = refl

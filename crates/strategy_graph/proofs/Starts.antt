@@ -1,18 +1,26 @@
--- A start whose nodes are copies, under other numbers, says the same.
-use Rattle.std.proofs.Common.{◌≡◌, ℕ, suc, Bool, true, List, [], ◌∷◌, refl, ap}
+-- What holds of a node and of a start holds of a root: where it is accepted it wins, and a line to a fault refutes it. A start whose nodes
+-- are copies, under other numbers, says the same.
+use Rattle.std.proofs.Common.{List, ◌≡◌, ℕ, suc, Bool, true, [], ◌∷◌, refl, ap}
 use Rattle.std.specs.List.{list_all}
-use Rattle.game_rules.proofs.Common.{Grid, outcome, after}
 use Rattle.game_rules.specs.declared.RuleKind.{RuleKind}
 use Rattle.game_rules.specs.declared.Point.{Point}
+use Rattle.game_rules.proofs.Common.{Grid, outcome, after}
 use Rattle.strategy_graph.specs.declared.Node.{Node}
 use Rattle.strategy_graph.specs.declared.Why.{Why}
-use Rattle.strategy_graph.specs.Tables.{Answers, named, depth}
-use Rattle.strategy_graph.specs.Renumbered.{renumbered_answers}
-use Rattle.strategy_graph.specs.Acceptance.{Accepted, AcceptedStart}
-use Rattle.strategy_graph.specs.Arrivals.{arrivals, start_arrivals}
-use Rattle.strategy_graph.specs.Leads.{Leads, LeadsStart}
-use Rattle.strategy_graph.specs.Laws.{StartSaysSame}
+use Rattle.strategy_graph.specs.declared.roots.Root.{Root}
+use Rattle.strategy_graph.specs.declared.roots.Root.TheVariants.{Attack, Defend}
+use Rattle.strategy_graph.proofs.Soundness.{accepted-wins, accepted-start-wins}
+use Rattle.strategy_graph.proofs.Refutation.{leads-refutes, leads-refutes-start}
+use Rattle.strategy_graph.proofs.Common.{AcceptedRoot, LeadsRoot, RootWins, root_depth, Answers, named, depth, renumbered_answers, Accepted, AcceptedStart, arrivals, start_arrivals, Leads, LeadsStart, StartSaysSame}
 use Rattle.strategy_graph.proofs.Copies.{iff_by, Meets-copied, arrivals_after-copied, reply_leads-answer, depths-copied}
+
+pub accepted-root-wins : (rule : RuleKind) (t : List Node) (root : Root) (b : Grid) → AcceptedRoot rule t root b → RootWins rule root (root_depth t root) b
+accepted-root-wins rule t (Attack i) b h = accepted-wins rule t i b h
+accepted-root-wins rule t (Defend a) b h = accepted-start-wins rule t a b h
+
+pub leads-refutes-root : (rule : RuleKind) (t : List Node) (root : Root) (b : Grid) (line : List Point) (why : Why) → LeadsRoot rule t root b line why → AcceptedRoot rule t root b → ⊥
+leads-refutes-root rule t (Attack i) b line why h = leads-refutes rule t i b line why h
+leads-refutes-root rule t (Defend a) b line why h = leads-refutes-start rule t a b line why h
 
 -- node f j of table u says what node j of table t says, if j passes
 pub record SameNodes (f : ℕ → ℕ) (passes : ℕ → Bool) (t u : List Node) : Type 1 where

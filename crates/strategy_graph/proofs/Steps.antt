@@ -1,8 +1,6 @@
 -- One step of acceptance, of arrivals and of a line to a fault, at a node and at a reply, and over the replies so
 -- far: what a checker of tables needs.
-use Rattle.std.proofs.Common.{◌≡◌, ℕ, suc, ◌+◌, ◌≤◌, Bool, true, false, cond, List, [], ◌∷◌, ◌++◌, refl, sym, ap, subst, ◌∙◌, arith}
-use Rattle.std.specs.Prelude.{Option, Some, None, slice_get}
-use Rattle.std.specs.List.{All}
+use Rattle.std.proofs.Common.{◌≡◌, ℕ, suc, ◌+◌, ◌≤◌, Bool, true, false, cond, List, [], ◌∷◌, ◌++◌, refl, sym, ap, subst, ◌∙◌, arith, Option, Some, None, slice_get, All}
 use Rattle.std.proofs.lemmas.List.Sums.{sum_by-append}
 use Rattle.game_rules.proofs.Common.{Grid, is_on, points_of, is_same_point, outcome, after, WinsOr, LosesOr, if_goes_on}
 use Rattle.game_rules.specs.declared.RuleKind.{RuleKind}
@@ -14,19 +12,15 @@ use Rattle.game_rules.proofs.Points.{points-found, off_refused, is_same_point-it
 use Rattle.game_rules.proofs.Outcomes.{if_goes_on-stops, if_goes_on-none}
 use Rattle.game_rules.proofs.PointLists.{found_all}
 use Rattle.strategy_graph.specs.declared.Rest.{Rest}
-use Rattle.strategy_graph.specs.declared.Rest.TheVariants.{Wins, To, Nothing}
+use Rattle.strategy_graph.specs.declared.Rest.TheVariants.{Wins}
 use Rattle.strategy_graph.specs.declared.Node.{Node}
 use Rattle.strategy_graph.specs.declared.Why.{Why}
-use Rattle.strategy_graph.specs.Tables.{Answers, answers_of, answer, is_winning, NamesLower}
-use Rattle.strategy_graph.specs.Acceptance.{Answered, NotWinning, Meets, AcceptedNode, Accepted}
-use Rattle.strategy_graph.specs.Arrivals.{if_answered, arrivals_at, arrivals_among, arrivals_after, arrivals_behind, arrivals_within, arrivals}
-use Rattle.strategy_graph.specs.Leads.{attack_fault, reply_fault, Leads, LeadsStart}
+use Rattle.strategy_graph.proofs.Common.{Answers, answers_of, answer, is_winning, NamesLower, Answered, NotWinning, Meets, AcceptedNode, Accepted, if_answered, arrivals_at, arrivals_among, arrivals_after, arrivals_behind, arrivals_within, arrivals, attack_fault, reply_fault, Leads, LeadsStart}
 use Rattle.strategy_graph.proofs.Fuel.{accepted-step, arrivals-step}
 
 NotWinning-by : (r : Rest) → is_winning r ≡ false → NotWinning r
 NotWinning-by Wins h = cc
-NotWinning-by (To j) h = tt
-NotWinning-by Nothing h = tt
+NotWinning-by _ h = tt
 
 -- an arrival count is at least 1
 pub arrivals-positive : (rule : RuleKind) (t : List Node) (i : ℕ) (b : Grid) → 1 ≤ arrivals rule t i b

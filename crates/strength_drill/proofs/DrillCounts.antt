@@ -1,5 +1,5 @@
 -- The counts of a drill: each table of a win may be held, each game is won, a number has one drill; and what the calls say of a position.
-use Rattle.std.specs.Prelude.{Option, Some, None, ◌≢◌, Result, Ok, Err, IfOk}
+use Rattle.std.specs.Prelude.{Option, Some, None, ◌≢◌}
 use Rattle.std.specs.List.{All, find, range_with_len}
 use Rattle.std.proofs.Common.{◌≡◌, ◌⊎◌, inl, inr, refl, sym, ap, subst, ◌∙◌, ℕ, zero, suc, ◌+◌, ◌*◌, ◌<◌, ◌≤◌, Bool, true, false, cond, nat_le, List, [], ◌∷◌, length, add-one, arith, ◌-◌, ◌++◌}
 use Rattle.std.proofs.lemmas.Bool.{cases_lt, lt-ltb}
@@ -25,8 +25,7 @@ use Rattle.strategy_checker.specs.declared.held.HeldRoot.{HeldRoot}
 use Rattle.strategy_checker.specs.HeldErrors.{IfRootRefused, IfRootSpent}
 use Rattle.four_search.specs.FourGame.{four_cost, least_moves}
 use Rattle.four_search.specs.Plans.{four_plan}
-use Rattle.four_search.proofs.Following.{least-none, least-wins}
-use Rattle.four_search.proofs.Written.{plan-written}
+use Rattle.four_search.proofs.Written.{least-none, least-wins, plan-written}
 use Rattle.gomocup_text.specs.declared.Command.TheVariants.{Done, Turn}
 use Rattle.brain_session.specs.States.{Game, InGame, State, new_brain}
 use Rattle.brain_session.specs.Steps.{brain_step}

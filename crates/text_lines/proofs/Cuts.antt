@@ -1,6 +1,5 @@
 -- Words and the separators between them.
-use Rattle.std.proofs.Common.{◌≡◌, ℕ, suc, ◌+◌, ◌<◌, ◌≤◌, Bool, true, false, cond, not, ◌&&◌, refl, sym, ap, ◌∙◌, arith, List, [], ◌∷◌, ◌++◌, length, take, drop, eqb, get_or, nat_lt, nat_eq, Bor, take-append-drop, drop-cons, length-drop, ◌-◌}
-use Rattle.std.specs.Prelude.{Option, Some, None, option_copied}
+use Rattle.std.proofs.Common.{◌≡◌, ℕ, suc, ◌+◌, ◌<◌, ◌≤◌, Bool, true, false, cond, not, ◌&&◌, refl, sym, ap, ◌∙◌, arith, List, [], ◌∷◌, ◌++◌, length, take, drop, eqb, get_or, nat_lt, nat_eq, Bor, take-append-drop, drop-cons, length-drop, ◌-◌, Option, Some, None, option_copied}
 use Rattle.std.specs.Option.{MatchOption}
 use Rattle.std.specs.Bool.{Decides}
 use Rattle.std.specs.Cmp.Lexicographic.{pointwise}

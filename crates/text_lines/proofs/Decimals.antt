@@ -69,11 +69,8 @@ number_more bytes i n most within low high so_far few =
 -- bytes whose front is more than the number do not spell it
 pub too_much : (bytes : List ℕ) (i n v most : ℕ) → i < length bytes → 48 ≤ get_or bytes i 0 → get_or bytes i 0 ≤ 57 → IsNumberOf (take i bytes) n most → most < n * 10 + (get_or bytes i 0 - 48) → most < 2 ^ 64 → v ≤ most → bytes ≡ decimal v → ⊥
 too_much bytes i n v most within low high so_far over bound few e =
-    let d = digit_is (get_or bytes i 0) low high in
-    let more = digits_value_more 10 bytes i within in
-    let value = so_far.value in
     let part = value_if_spelled bytes v (i + 1) (omega arith) e in
-    omega (arith, d, more, value, part)
+    omega (arith, digit_is (get_or bytes i 0) low high, digits_value_more 10 bytes i within, so_far.value, part)
 
 pub is_spelled : (bytes : List ℕ) (i n most : ℕ) → i ≡ length bytes → IsNumberOf (take i bytes) n most → IsPlain bytes → most < 2 ^ 64 → (n ≤ most) × (bytes ≡ decimal n)
 is_spelled bytes i n most end so_far plain bound =

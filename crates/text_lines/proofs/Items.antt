@@ -1,14 +1,12 @@
 -- Items of a line, each after a space.
-use Rattle.std.proofs.Common.{◌≡◌, ℕ, true, refl, sym, ap, ◌∙◌, List, [], ◌∷◌, ◌++◌, append_assoc}
-use Rattle.std.specs.Prelude.{Option, Some, None, Result, Ok, Err}
+use Rattle.std.proofs.Common.{◌≡◌, ℕ, true, refl, sym, ap, ◌∙◌, List, [], ◌∷◌, ◌++◌, append_assoc, Option, Some, None, Result, Ok, Err}
 use Rattle.std.specs.List.{flat_map, AllByRecursion}
 use Rattle.std.proofs.lemmas.List.{append-nil}
 use Rattle.std.proofs.lemmas.List.Concat.{flat_map-append}
 use Rattle.game_rules.proofs.Tests.{all_push}
-use Rattle.text_lines.specs.Spellings.{space}
+use Rattle.text_lines.proofs.Common.{space, Gives, is_free, tail_text}
 use Rattle.text_lines.specs.declared.fault.Fault.{Fault}
 use Rattle.text_lines.specs.declared.fault.Fault.TheVariants.{Bad, Memory}
-use Rattle.text_lines.specs.Reading.{Gives, is_free, tail_text}
 use Rattle.text_lines.proofs.Cuts.{same_word}
 
 -- items of a line: none has a space, and no two that fit are spelled the same

@@ -1,10 +1,8 @@
 -- Where bytes leave lines, of which the first ones are a part.
-use Rattle.std.proofs.Common.{◌≡◌, ℕ, zero, suc, ◌+◌, ◌≤◌, refl, sym, ap, ◌∙◌, arith, List, [], ◌∷◌, ◌++◌, length, take, drop, take-append-drop}
-use Rattle.std.specs.Prelude.{None}
+use Rattle.std.proofs.Common.{◌≡◌, ℕ, zero, suc, ◌+◌, ◌≤◌, refl, sym, ap, ◌∙◌, arith, List, [], ◌∷◌, ◌++◌, length, take, drop, take-append-drop, None}
 use Rattle.std.proofs.lemmas.List.{take-append-le, take_all, length-append}
 use Rattle.std.proofs.Math.Seq.{take-append-add}
-use Rattle.text_lines.specs.Lines.{line_feed, text_of, IsLineOf, LeavesAt}
-use Rattle.text_lines.specs.Reading.{ReadsLine}
+use Rattle.text_lines.proofs.Common.{line_feed, text_of, IsLineOf, LeavesAt, ReadsLine}
 use Rattle.text_lines.proofs.TextLaws.{AreFree, text_of-append, text_of-cons, same_lines}
 
 take_front : {X : Type 0} (n : ℕ) (xs ys : List X) → (more : List X) × (take n (xs ++ ys) ≡ take n xs ++ more)

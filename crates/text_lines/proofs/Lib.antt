@@ -1,10 +1,12 @@
 -- The laws of texts that the layers above may cite.
+
+-- the words of texts, in one place
+pub mod Common
 -- words and the separators between them; decimal numbers; items of a line, each after a space
 pub mod Cuts
 pub mod Decimals
 pub mod Items
--- how points are spelled; what a fault says; first lines of bytes
-pub mod PointLaws
+-- what a fault says; first lines of bytes, and the points in them
 pub mod FaultLaws
 pub mod LineLaws
 -- texts of lists of lines, and texts at the front of bytes
@@ -13,5 +15,4 @@ pub mod TextLaws
 pub mod Leaving
 pub mod Badness
 -- texts that grow
-pub mod Growth
 mod Pieces

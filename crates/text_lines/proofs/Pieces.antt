@@ -5,8 +5,7 @@ use Rattle.std.proofs.lemmas.Bool.{and_parts, not-true, cases_lt}
 use Rattle.std.proofs.lemmas.List.{append-nil, append_cancel_left, take-append-le, take-map, length-map, take_all}
 use Rattle.std.proofs.lemmas.List.Folds.{concat-append}
 use Rattle.std.proofs.Math.Seq.{take-append_seam, take-append-add, take-length}
-use Rattle.text_lines.specs.Lines.{line_feed, ended, text_of, pieces}
-use Rattle.text_lines.specs.Reading.{is_free}
+use Rattle.text_lines.proofs.Common.{line_feed, ended, text_of, pieces, is_free}
 use Rattle.text_lines.proofs.TextLaws.{AreFree, text_of-cons}
 
 line_piece : (l s : List ℕ) → is_free line_feed l ≡ true → pieces (l ++ line_feed ∷ s) ≡ (l ++ line_feed ∷ []) ∷ pieces s

@@ -1,12 +1,16 @@
--- Texts of lists of lines.
-use Rattle.std.proofs.Common.{◌≡◌, ℕ, zero, suc, ◌+◌, ◌-◌, ◌≤◌, ◌<◌, true, false, refl, sym, ap, ◌∙◌, arith, List, [], ◌∷◌, ◌++◌, append_assoc, length, take, drop, eqb, take-append-drop}
+-- Texts that grow by one piece after another. Texts of lists of lines.
+use Rattle.std.proofs.Common.{◌≡◌, ℕ, ◌∙◌, List, Result, Ok, Err, IfOk, zero, suc, ◌+◌, ◌-◌, ◌≤◌, ◌<◌, true, false, refl, sym, ap, arith, [], ◌∷◌, ◌++◌, append_assoc, length, take, drop, eqb, take-append-drop}
 use Rattle.std.specs.List.{AllByRecursion}
 use Rattle.std.proofs.lemmas.Bool.{eqb-true, eq-eqb, both_ways}
 use Rattle.std.proofs.lemmas.List.{append-nil, nil_from_length, length-append, length-drop, length-take-le, take_all, take_at}
 use Rattle.std.proofs.lemmas.List.Concat.{flat_map-append}
-use Rattle.text_lines.specs.Lines.{line_feed, ended, text_of, IsFront}
-use Rattle.text_lines.specs.Reading.{is_free}
+use Rattle.text_lines.proofs.Common.{line_feed, ended, text_of, IsFront, is_free}
 use Rattle.text_lines.proofs.LineLaws.{same_line}
+
+-- the same bytes, put together in another way
+pub regroup : {X E : Type 0} (bytes : X → List ℕ) (r : Result X E) (a b : List ℕ) → a ≡ b → IfOk r (λ t. bytes t ≡ a) → IfOk r (λ t. bytes t ≡ b)
+regroup bytes (Ok t) a b e h = h ∙ e
+regroup bytes (Err f) a b e h = tt
 
 -- no line has a line feed
 abbrev pub AreFree : List (List ℕ) → Type 0

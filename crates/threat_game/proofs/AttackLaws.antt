@@ -1,24 +1,27 @@
--- Moves of the game of threats: which of them have to be tried, and what each other comes to.
-use Rattle.std.proofs.Common.{◌≡◌, Bool, true, false, cond, ◌&&◌, ◌||◌, not, refl, sym, ap, ◌∙◌}
-use Rattle.std.proofs.Math.Bool.{and-true, and-false}
+-- Moves of the game of threats: which of them have to be tried, and what each other comes to. Wins within one move: only by a five point,
+-- or by a last move, to which each reply fouls. The moves that have to be tried are enough: where there is a win by threats, one of them
+-- wins.
+use Rattle.std.proofs.Common.{◌≡◌, Bool, true, false, cond, ◌&&◌, ◌||◌, not, refl, sym, ap, ◌∙◌, ℕ, suc, subst, IsTrue, zero, ◌≤◌, arith, List, [], Contains}
 use Rattle.std.specs.List.{list_any, list_all}
-use Rattle.game_rules.proofs.Common.{Grid, is_empty, points_of, five, IsPosition, outcome, mover, other, after, goes_on_with, goes_on, saves, has_five, has_threat, is_double_point}
+use Rattle.std.proofs.Math.Bool.{and-true, and-false}
 use Rattle.game_rules.specs.declared.RuleKind.{RuleKind}
 use Rattle.game_rules.specs.declared.Outcome.{Outcome}
 use Rattle.game_rules.specs.declared.Outcome.TheVariants.{Refused, Wins, Fouls, Draws, GoesOn}
 use Rattle.game_rules.specs.declared.Point.{Point}
-use Rattle.game_rules.proofs.Boards.{is_empty-on}
+use Rattle.game_rules.proofs.Common.{Grid, is_empty, points_of, five, IsPosition, outcome, mover, other, after, goes_on_with, goes_on, saves, has_five, has_threat, is_double_point, has_fouls, WinsOr, LosesOr, WinsByThreats, loses_or, is_on}
+use Rattle.game_rules.proofs.Boards.{is_empty-on, and_left, and_right}
 use Rattle.game_rules.proofs.Positions.{GoesOn-empty, GoesOn-on, mover-then}
-use Rattle.game_rules.proofs.Points.{points-found, any_witness, all_at}
+use Rattle.game_rules.proofs.Points.{points-found, any_witness, all_at, all_of}
 use Rattle.game_rules.proofs.Fives.{five-empty}
-use Rattle.game_rules.proofs.Outcomes.{five-outcome, goes_on_with-parts, goes_on-split, fouls-all, fouls-test}
-use Rattle.threat_moves.specs.FourMoves.{is_four_move}
-use Rattle.threat_moves.specs.ThreeMoves.{is_three_move}
-use Rattle.threat_moves.specs.OneBlock.{all_foul}
+use Rattle.game_rules.proofs.Outcomes.{five-outcome, goes_on_with-parts, goes_on-split, fouls-all, fouls-test, reply-stays, saved}
+use Rattle.game_rules.proofs.Games.{LosesOr-loses_or, each_reply, win-has_five}
+use Rattle.game_rules.proofs.Places.{points_passing}
+use Rattle.threat_moves.proofs.Common.{is_four_move, is_three_move, all_foul}
+use Rattle.threat_moves.proofs.BlockLaw.{no-reply-wins}
+use Rattle.threat_moves.proofs.GainLaws.{threat-empty}
 use Rattle.threat_game.specs.declared.attacks.Attempt.TheVariants.{Tried, Passed}
 use Rattle.threat_game.specs.declared.attacks.BestReply.TheVariants.{GoesOn as SomeGoesOn, Saves, Fouls as EachFouls}
-use Rattle.threat_game.specs.ThreatGame.{is_threat_move}
-use Rattle.threat_game.specs.Attacks.{has_reply, has_saving, best_reply, is_fouled, is_last_move, is_tried, is_settled_move, IsAttempt, OthersFail}
+use Rattle.threat_game.proofs.Common.{is_threat_move, has_reply, has_saving, best_reply, is_fouled, is_last_move, is_tried, is_settled_move, IsAttempt, OthersFail, LosesToThreats, tried_moves, HasEscape}
 
 -- ---- a threat move is a four move or a three move
 
@@ -116,11 +119,8 @@ module _ (rule : RuleKind) (b : Grid) (p : Point) where
   unfolding is_last_move is_threat_move
   stopped-last h = sym (by_outcome (outcome rule b p) (has_threat rule (after b p) (mover b)) (all_foul rule (after b p)) h) where
     by_outcome : (o : Outcome) (r f : Bool) → goes_on o ≡ false → (goes_on_with o r && f) ≡ false
-    by_outcome Refused r f h = refl
-    by_outcome Wins r f h = refl
-    by_outcome (Fouls g) r f h = refl
-    by_outcome Draws r f h = refl
     by_outcome GoesOn r f h = cc
+    by_outcome _ r f h = refl
 
 -- ---- what is to be done with a move
 
@@ -202,3 +202,98 @@ module _ (rule : RuleKind) (b : Grid) (p : Point) where
 -- where that is so of all points, all moves that need not be tried fail
 pub others-fail : (rule : RuleKind) (b : Grid) → list_all (is_settled_move rule b) (points_of b) ≡ true → OthersFail rule b
 others-fail rule b all = record { fails = λ p threat untried. settled-fails rule b p (all_at b (is_settled_move rule b) p all (GoesOn-on rule b p (threat-goes_on rule b p threat))) threat untried }
+
+module _ (rule : RuleKind) (b : Grid) (p : Point) where
+  last-parts : is_last_move rule b p ≡ true → (is_threat_move rule b p ≡ true) × (all_foul rule (after b p) ≡ true)
+  unfolding is_last_move
+  last-parts h = (and_left (is_threat_move rule b p) _ h, and_right (is_threat_move rule b p) _ h)
+
+  -- a last move goes on
+  pub last-goes_on : is_last_move rule b p ≡ true → outcome rule b p ≡ GoesOn
+  last-goes_on h = threat-goes_on rule b p (last-parts h).0
+
+  -- each reply to it fouls
+  pub last-fouled : is_last_move rule b p ≡ true → (W : Grid → Type 0) → (q : Point) → LosesOr (outcome rule (after b p) q) (W (after (after b p) q))
+  last-fouled h W q = each_reply rule (after b p) (λ c. false) W (λ c e. absurd (never e)) (last-parts h).1 q where
+    never : false ≡ true → ⊥
+    never e = cc
+
+  -- it wins
+  pub last-wins : is_last_move rule b p ≡ true → (n : ℕ) → WinsByThreats rule (suc n) b
+  last-wins h n = (
+    p,
+    subst (λ (o : Outcome). WinsOr o (IsTrue (has_threat rule (after b p) (mover b)) × ((q : Point) → LosesOr (outcome rule (after b p) q) (WinsByThreats rule n (after (after b p) q))))) (sym (last-goes_on h))
+        (threat-left rule b p (last-parts h).0, λ q. last-fouled h (WinsByThreats rule n) q),
+  )
+
+module _ (rule : RuleKind) (b : Grid) (lawful : IsPosition rule b) (none : has_five rule b (mover b) ≡ false) where
+  one-last : WinsByThreats rule 1 b → (p : Point) × (is_last_move rule b p ≡ true)
+  unfolding is_last_move
+  one-last win = (win.0, by_outcome (outcome rule b win.0) refl win.1) where
+    by_outcome : (o : Outcome) → outcome rule b win.0 ≡ o → WinsOr o (IsTrue (has_threat rule (after b win.0) (mover b)) × ((q : Point) → LosesOr (outcome rule (after b win.0) q) ⊥)) → (is_threat_move rule b win.0 && all_foul rule (after b win.0)) ≡ true
+    by_outcome Refused e h = absurd h
+    by_outcome Wins e h = absurd (no-reply-wins rule b lawful none win.0 e)
+    by_outcome (Fouls f) e h = absurd h
+    by_outcome Draws e h = absurd h
+    by_outcome GoesOn e h =
+        ap (λ r. r && all_foul rule (after b win.0)) (threat-by rule b win.0 e h.0)
+        ∙ all_of (λ q. loses_or (outcome rule (after b win.0) q) false) (points_of (after b win.0)) (λ q. LosesOr-loses_or (outcome rule (after b win.0) q) false ⊥ (λ k. absurd k) (h.1 q))
+
+  -- without a last move there is no win within one move
+  pub none-last : false ≡ list_any (is_last_move rule b) (points_of b) → WinsByThreats rule 1 b → ⊥
+  none-last never win =
+      let last = one-last win in
+      let some = points-found b (is_last_move rule b) last.0 (GoesOn-on rule b last.0 (last-goes_on rule b last.0 last.1)) last.1 in
+      let bad : false ≡ true = never ∙ some in
+      cc
+
+  -- nor where the other side has no fouls
+  pub no_fouls-last : has_fouls rule (other (mover b)) ≡ false → WinsByThreats rule 1 b → ⊥
+  no_fouls-last free win =
+      let last = one-last win in
+      let p = last.0 in
+      let parts = last-parts rule b p last.1 in
+      let on = threat-goes_on rule b p parts.0 in
+      let w = threat-empty rule (after b p) (mover b) (threat-left rule b p parts.0) in
+      let turn : mover (after b p) ≡ other (mover b) = mover-then rule b p lawful on in
+      let lost : loses_or (outcome rule (after b p) w.0) false ≡ true = all_at (after b p) (λ q. loses_or (outcome rule (after b p) q) false) w.0 parts.1 (is_empty-on (after b p) w.0 w.1) in
+      let stays = reply-stays rule (after b p) w.0 w.1 (ap (has_fouls rule) turn ∙ free) in
+      let bad : false ≡ true = sym stays ∙ lost in
+      cc
+
+tried-listed : (rule : RuleKind) (b : Grid) (p : Point) → is_on b p ≡ true → is_tried rule b p ≡ true → Contains (tried_moves rule b) p
+tried-listed rule b p on tried = points_passing b (is_tried rule b) p on tried
+
+pub tried-enough : (rule : RuleKind) (n : ℕ) (b : Grid) → has_five rule b (mover b) ≡ false → OthersFail rule b → WinsByThreats rule (suc n) b → (p : Point) × Contains (tried_moves rule b) p × LosesToThreats rule n (after b p)
+unfolding is_threat_move
+tried-enough rule n b none others (p, win) = by_outcome (outcome rule b p) refl win where
+  Goal : Type 0
+  Goal = (q : Point) × Contains (tried_moves rule b) q × LosesToThreats rule n (after b q)
+
+  on-goes : outcome rule b p ≡ GoesOn → IsTrue (has_threat rule (after b p) (mover b)) → LosesToThreats rule n (after b p) → (q : Point) × Contains (tried_moves rule b) q × LosesToThreats rule n (after b q)
+  on-goes go threat loses = by_test (is_tried rule b p) refl where
+    threat-move : is_threat_move rule b p ≡ true
+    threat-move = ap (λ o. goes_on_with o (has_threat rule (after b p) (mover b))) go ∙ threat
+
+    by_test : (r : Bool) → is_tried rule b p ≡ r → (q : Point) × Contains (tried_moves rule b) q × LosesToThreats rule n (after b q)
+    by_test true e = (p, tried-listed rule b p (GoesOn-on rule b p go) e, loses)
+    by_test false e =
+        let saving = any_witness (λ q. saves (outcome rule (after b p) q)) (points_of (after b p)) (others.fails p threat-move e) in
+        absurd (saved (outcome rule (after b p) saving.0) (WinsByThreats rule n (after (after b p) saving.0)) saving.1 (loses saving.0))
+
+  by_outcome : (o : Outcome) → outcome rule b p ≡ o → WinsOr o (IsTrue (has_threat rule (after b p) (mover b)) × LosesToThreats rule n (after b p)) → (q : Point) × Contains (tried_moves rule b) q × LosesToThreats rule n (after b q)
+  by_outcome Wins e w = absurd (let yes_five = win-has_five rule b p e in let bad : true ≡ false = sym yes_five ∙ none in cc)
+  by_outcome GoesOn e w = on-goes e w.0 w.1
+  by_outcome _ e w = absurd w
+
+-- where no move has to be tried there is no win by threats
+pub none-tried : (rule : RuleKind) (n : ℕ) (b : Grid) → has_five rule b (mover b) ≡ false → OthersFail rule b → tried_moves rule b ≡ [] → 1 ≤ n → WinsByThreats rule n b → ⊥
+none-tried rule zero b none others empty some win = absurd win
+none-tried rule (suc n) b none others empty some win =
+    let found = tried-enough rule n b none others win in
+    let listed : Contains [] found.0 = subst (λ (ps : List Point). Contains ps found.0) empty found.1 in
+    omega (arith, listed.1)
+
+-- where a reply leaves no win the attacker does not win whatever the reply
+pub escape-saves : (rule : RuleKind) (n : ℕ) (c : Grid) → HasEscape rule n c → LosesToThreats rule n c → ⊥
+escape-saves rule n c escape loses = escape.no_win (subst (λ (o : Outcome). LosesOr o (WinsByThreats rule n (after c escape.reply))) escape.on (loses escape.reply))

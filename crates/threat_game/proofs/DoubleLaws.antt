@@ -1,27 +1,39 @@
--- Double points: the two five points that a stone leaves, and the win that they are.
-use Rattle.std.proofs.Common.{◌≡◌, ℕ, ◌≤◌, Bool, true, false, cond, ◌&&◌, sym, ap, ◌∙◌, arith, List, [], ◌∷◌, length, get_or}
-use Rattle.std.specs.List.{list_any, list_all}
-use Rattle.game_rules.proofs.Common.{Grid, is_empty, put, points_of, five, is_same_point, IsPosition, outcome, mover, other, after, goes_on_with, has_five, five_points, starts_win, wins_by_fours, wins_under, WinsByFours, WinsByThreats, LosesOr, loses_or, wins_or}
+-- Double points: the two five points that a stone leaves, and the win that they are. A double point is a double threat, whatever the reply,
+-- and its node a win by threats. Where no point makes two five points, a stone makes double points only on the lines through it: in the
+-- runs of any other point it plays no part.
+use Rattle.std.proofs.Common.{◌≡◌, ℕ, ◌≤◌, Bool, true, false, cond, ◌&&◌, sym, ap, ◌∙◌, arith, List, [], ◌∷◌, length, get_or, ◌+◌, not, refl, nat_le}
+use Rattle.std.specs.List.{list_any, list_all, filter, AllByRecursion}
+use Rattle.std.proofs.lemmas.Bool.{false_from_ne_true}
+use Rattle.std.proofs.lemmas.Bool.Decides.{nat_tests}
 use Rattle.game_rules.specs.declared.RuleKind.{RuleKind}
 use Rattle.game_rules.specs.declared.Side.{Side}
 use Rattle.game_rules.specs.declared.Outcome.{Outcome}
 use Rattle.game_rules.specs.declared.Point.{Point}
+use Rattle.game_rules.specs.declared.Outcome.TheVariants.{Wins as WinsNow, Draws, GoesOn}
+use Rattle.game_rules.proofs.Common.{Grid, is_empty, put, points_of, five, is_same_point, IsPosition, outcome, mover, other, after, goes_on_with, has_five, five_points, starts_win, wins_by_fours, wins_under, WinsByFours, WinsByThreats, LosesOr, loses_or, wins_or, is_on, goes_on, IsBoard, is_double_point, has_threat, is_aligned}
 use Rattle.game_rules.proofs.Boards.{and_left, and_right, is_empty-on, other-other}
-use Rattle.game_rules.proofs.Positions.{GoesOn-on, mover-then}
-use Rattle.game_rules.proofs.Points.{points-found, filter-passes, is_same_point-itself, apart-is_same_point}
+use Rattle.game_rules.proofs.Positions.{GoesOn-on, mover-then, IsPosition-after}
+use Rattle.game_rules.proofs.Points.{points-found, filter-passes, is_same_point-itself, apart-is_same_point, is_same_point-same, taken_refused}
 use Rattle.game_rules.proofs.Places.{two_passing-apart}
 use Rattle.game_rules.proofs.Fives.{five-empty}
 use Rattle.game_rules.proofs.Games.{WinsUnder-more, WinsByFours-WinsByThreats, test-WinsUnder, each_reply}
-use Rattle.game_rules.proofs.PointLists.{still-found}
-use Rattle.threat_moves.specs.FourMoves.{is_four_move}
+use Rattle.game_rules.proofs.PointLists.{still-found, any-filter, other_first}
+use Rattle.game_rules.proofs.Outcomes.{five-outcome, goes_on-is, never-goes_on, always-goes_on}
+use Rattle.game_rules.proofs.OneLine.{put-kept, open_kept, more_fives}
+use Rattle.row_shapes.specs.FivePoints.{in_short}
+use Rattle.row_shapes.specs.declared.fives.FivePoints.{FivePoints}
+use Rattle.row_shapes.specs.declared.fives.FivePoints.TheVariants.{None as NoPoint, One, Several}
+use Rattle.row_shapes.proofs.FiveLaws.{has_five-none, has_five-one, has_five-several}
+use Rattle.strategy_compiler.proofs.Common.{IsDoubleThreat, double_nodes}
 use Rattle.threat_moves.specs.declared.block.BlockAnswer.TheVariants.{Lost, Won}
-use Rattle.threat_moves.specs.Blocks.{by_fives, fate}
-use Rattle.threat_moves.specs.OneBlock.{block_wins}
+use Rattle.threat_moves.proofs.Common.{is_four_move, by_fives, fate, block_wins, is_several}
 use Rattle.threat_moves.proofs.BlockLaw.{block_decides}
 use Rattle.threat_moves.proofs.FourLaws.{two-won}
+use Rattle.threat_moves.proofs.GainLaws.{several, few-double, taken-no_gain, no_gain-double}
 use Rattle.threat_game.specs.declared.doubles.Double.{Double}
-use Rattle.threat_game.specs.Attacks.{LeavesBoth, IsDoubleWin}
 use Rattle.threat_game.proofs.TreeLaws.{double-five, still-safe}
+use Rattle.threat_game.proofs.Common.{LeavesBoth, IsDoubleWin, answer_nodes, one_if, replies_at, is_threat_move, is_some_point, makes_two, some_makes_two, FarAreNone}
+use Rattle.threat_game.proofs.ReplyLaws.{beside-five}
 
 -- ---- the first two of the five points that a stone leaves
 
@@ -82,3 +94,85 @@ module _ (rule : RuleKind) (b : Grid) (d : Double) (lawful : IsPosition rule b) 
 
   pub double-threats : (n : ℕ) → 2 ≤ n → WinsByThreats rule n b
   double-threats n l = WinsByFours-WinsByThreats rule n b (WinsUnder-more (has_five rule) rule 2 n b l double-fours)
+
+-- the nodes that answer the replies, and its own
+pub nodes-are : (rule : RuleKind) (b : Grid) (d : Double)
+    → double_nodes d.first (replies_at rule (after b d.at)) ≡ 1 + answer_nodes rule b d
+nodes-are rule b d =
+    let g : Point → Bool = λ q. goes_on (outcome rule (after b d.at) q) in
+    let first = ap one_if (any-filter g (λ q. is_same_point q d.first) (points_of (after b d.at))) in
+    let beside = ap one_if (any-filter g (λ q. not (is_same_point q d.first)) (points_of (after b d.at))) in
+    omega (arith, first, beside)
+
+module _ (rule : RuleKind) (b : Grid) (d : Double) (lawful : IsPosition rule b) (wins : IsDoubleWin rule b d) where
+  lawful_c : IsPosition rule (after b d.at)
+  lawful_c = IsPosition-after rule b d.at lawful wins.on
+
+  -- one of the two five points that the reply is not on wins
+  five-wins : (q w : Point) → outcome rule (after b d.at) q ≡ GoesOn → five rule (after b d.at) (mover b) w ≡ true
+      → is_same_point w q ≡ false → outcome rule (after (after b d.at) q) w ≡ WinsNow
+  five-wins q w on h apart =
+      five-outcome rule (after (after b d.at) q) w
+      (beside-five rule (after b d.at) q lawful_c on w
+      (ap (λ (s : Side). five rule (after b d.at) s w) (back_turn rule b d lawful wins) ∙ h) apart)
+
+  taken : (q : Point) → outcome rule (after b d.at) q ≡ GoesOn → (r : Bool) → is_same_point q d.first ≡ r
+      → outcome rule (after (after b d.at) q) (cond r d.second d.first) ≡ WinsNow
+  taken q on true e =
+      five-wins q d.second on wins.both.second
+      (ap (λ (x : Point). is_same_point d.second x) (is_same_point-same q d.first e) ∙ other_first d.first d.second wins.both.apart)
+  taken q on false e = five-wins q d.first on wins.both.first (other_first q d.first e)
+
+  by_outcome : (q : Point) (o : Outcome) → outcome rule (after b d.at) q ≡ o → LosesOr o (WinsByFours rule 1 (after (after b d.at) q))
+      → LosesOr o (outcome rule (after (after b d.at) q) (cond (is_same_point q d.first) d.second d.first) ≡ WinsNow)
+  by_outcome q WinsNow e h = h
+  by_outcome q Draws e h = h
+  by_outcome q GoesOn e h = taken q e (is_same_point q d.first) refl
+  by_outcome q _ e h = tt
+
+  replies-on : (ps : List Point) → AllByRecursion (λ q. is_on b q ≡ true) (filter (λ q. goes_on (outcome rule (after b d.at) q)) ps)
+  replies-on [] = tt
+  replies-on (p ∷ ps) = by_test (goes_on (outcome rule (after b d.at) p)) refl (replies-on ps) where
+    by_test : (r : Bool) → goes_on (outcome rule (after b d.at) p) ≡ r
+        → AllByRecursion (λ q. is_on b q ≡ true) (filter (λ q. goes_on (outcome rule (after b d.at) q)) ps)
+        → AllByRecursion (λ q. is_on b q ≡ true)
+        (cond r (p ∷ filter (λ q. goes_on (outcome rule (after b d.at) q)) ps)
+        (filter (λ q. goes_on (outcome rule (after b d.at) q)) ps))
+    by_test true e k = (GoesOn-on rule (after b d.at) p (goes_on-is (outcome rule (after b d.at) p) e), k)
+    by_test false e k = k
+
+  five-on : (w : Point) → five rule (after b d.at) (mover b) w ≡ true → is_on b w ≡ true
+  five-on w h = is_empty-on (after b d.at) w (five-empty rule (after b d.at) (mover b) w h)
+
+  pub double-threat : IsDoubleThreat rule b d.at d.first d.second (replies_at rule (after b d.at))
+  double-threat = record {
+    goes_on = wins.on;
+    lost = λ q. by_outcome q (outcome rule (after b d.at) q) refl (double-lost rule b d lawful wins q);
+    listed = λ q on. still-found (λ q. goes_on (outcome rule (after b d.at) q)) q (points_of (after b d.at)) (ap goes_on on)
+        (points-found (after b d.at) (is_same_point q) q (GoesOn-on rule (after b d.at) q on) (is_same_point-itself q));
+    on_board = (five-on d.first wins.both.first, (five-on d.second wins.both.second, replies-on (points_of (after b d.at))));
+  }
+
+-- ---- five points in short, and threats
+
+pub some-five : (rule : RuleKind) (b : Grid) (s : Side) → is_some_point (in_short (five_points rule b s)) ≡ has_five rule b s
+some-five rule b s = by_told (in_short (five_points rule b s)) refl where
+  by_told : (t : FivePoints) → in_short (five_points rule b s) ≡ t → is_some_point (in_short (five_points rule b s)) ≡ has_five rule b s
+  by_told NoPoint e = ap is_some_point e ∙ sym (has_five-none rule b s e)
+  by_told (One w) e = ap is_some_point e ∙ sym (has_five-one rule b s w e)
+  by_told Several e = ap is_some_point e ∙ sym (has_five-several rule b s e)
+
+-- ---- moves of the game of threats
+
+module _ (rule : RuleKind) (b : Grid) (p : Point) where
+  pub taken-no_move : is_empty b p ≡ false → false ≡ is_threat_move rule b p
+  unfolding is_threat_move
+  taken-no_move h = sym (ap (λ o. goes_on_with o (has_threat rule (after b p) (mover b))) (taken_refused rule b p h))
+
+  pub no_threat-no_move : has_threat rule (after b p) (mover b) ≡ false → false ≡ is_threat_move rule b p
+  unfolding is_threat_move
+  no_threat-no_move h = never-goes_on (outcome rule b p) ∙ sym (ap (goes_on_with (outcome rule b p)) h)
+
+  pub threat-move : has_threat rule (after b p) (mover b) ≡ true → goes_on (outcome rule b p) ≡ is_threat_move rule b p
+  unfolding is_threat_move
+  threat-move h = always-goes_on (outcome rule b p) ∙ sym (ap (goes_on_with (outcome rule b p)) h)

@@ -357,6 +357,31 @@ module _ (rule : RuleKind) (b : Grid) (s : Side) (p q : Point) (ok : IsBoard b) 
       let made = some_axis (λ d. wins_on rule full s d w) (and_left (five rule full s w) _ new) in
       is_near_p w made.0 made.1 (not_true (five rule with_q s w) (and_right (five rule full s w) _ new))
 
+-- ---- as the code tells it
+
+-- the lines that were found tell whether a point is near
+pub near_told : (b : Grid) (s : Side) (p q : Point) (lines : NearLines) → AreNearLines b s p lines → lines_hold lines p q ≡ is_near b s p q
+near_told b s p q lines are =
+    last (lines.row && same_line Row p q) (lines.column && same_line Column p q) (lines.down && same_line Down p q) (lines.up && same_line Up p q)
+    ∙ rw (are.row, are.column, are.down, are.up) refl where
+      last : (r t u v : Bool) → (r || t || u || v) ≡ (r || (t || (u || (v || false))))
+      last true t u v = refl
+      last false true u v = refl
+      last false false true v = refl
+      last false false false true = refl
+      last false false false false = refl
+
+-- where no line is one, no point is near
+pub nowhere-near : (b : Grid) (s : Side) (p q : Point) (lines : NearLines) → AreNearLines b s p lines → is_some_line lines ≡ false → is_near b s p q ≡ false
+nowhere-near b s p q lines are none = sym (near_told b s p q lines are) ∙ by_fields lines.row lines.column lines.down lines.up none where
+  by_fields : (a c d e : Bool) → (a || c || d || e) ≡ false
+      → ((a && same_line Row p q) || (c && same_line Column p q) || (d && same_line Down p q) || (e && same_line Up p q)) ≡ false
+  by_fields true c d e h = cc
+  by_fields false true d e h = cc
+  by_fields false false true e h = cc
+  by_fields false false false true h = cc
+  by_fields false false false false h = refl
+
 -- where no point makes two five points, a stone on p that leaves none makes no double point but near it
 pub far-none : (rule : RuleKind) (b : Grid) (s : Side) (p : Point) → IsBoard b → is_empty b p ≡ true → has_five rule (put b s p) s ≡ false
     → some_makes_two rule b s ≡ false → FarAreNone rule (put b s p) s p

@@ -1,21 +1,58 @@
--- Wins of one move as nodes of a table.
-use Rattle.std.proofs.Common.{◌≡◌, ℕ, zero, suc, ◌≤◌, true, subst, arith, List, []}
-use Rattle.game_rules.proofs.Common.{Grid, five, IsPosition, outcome, mover, after, LosesOr, WinsByThreats, WinsWithin}
+-- Wins that are judged, compiled: what is written of each is a win after its reply. Wins of one move as nodes of a table.
+use Rattle.std.proofs.Common.{◌≡◌, ℕ, ◌+◌, ◌≤◌, true, ap, subst, arith, List, zero, suc, []}
 use Rattle.game_rules.specs.declared.RuleKind.{RuleKind}
-use Rattle.game_rules.specs.declared.Outcome.{Outcome}
-use Rattle.game_rules.specs.declared.Outcome.TheVariants.{Refused, Wins as WinsNow, Fouls, Draws, GoesOn}
+use Rattle.game_rules.specs.declared.Outcome.TheVariants.{GoesOn, Wins as WinsNow, Draws}
 use Rattle.game_rules.specs.declared.Point.{Point}
+use Rattle.game_rules.specs.declared.Outcome.{Outcome}
+use Rattle.game_rules.proofs.Common.{Grid, five, IsPosition, outcome, mover, after, LosesOr, WinsByThreats, WinsWithin}
+use Rattle.game_rules.proofs.Positions.{IsPosition-after}
 use Rattle.game_rules.proofs.Outcomes.{five-outcome}
 use Rattle.game_rules.proofs.Games.{five-threats}
 use Rattle.strategy_graph.specs.declared.Node.{Node}
 use Rattle.strategy_graph.proofs.Soundness.{accepted-wins}
 use Rattle.strategy_compiler.specs.declared.wins.WrittenWin.{WrittenWin}
-use Rattle.strategy_compiler.specs.Wins.{IsWrittenWin}
-use Rattle.strategy_compiler.specs.Forks.{WinsAtOnce, WinsByAnswers}
+use Rattle.strategy_compiler.proofs.Common.{IsWrittenWin, WinsAtOnce, WinsByAnswers}
 use Rattle.strategy_compiler.proofs.Growing.{win-within}
-use Rattle.threat_game.specs.Attacks.{is_last_move}
-use Rattle.threat_game.specs.Wins.{IsThreatWin}
-use Rattle.threat_game.proofs.LastLaws.{last-goes_on, last-fouled, last-wins}
+use Rattle.threat_game.specs.declared.doubles.Double.{Double}
+use Rattle.threat_game.specs.declared.replies.Judged.{Judged}
+use Rattle.threat_game.specs.declared.replies.Judged.TheVariants.{Five, Double as DoubleWins, Last}
+use Rattle.threat_game.proofs.Common.{IsDoubleWin, is_last_move, IsJudged, IsJudgedDouble, answer_nodes, moves_for, nodes_for, IsThreatWin}
+use Rattle.threat_game.proofs.AttackLaws.{last-goes_on, last-fouled, last-wins}
+
+module _ (rule : RuleKind) (b : Grid) (q : Point) (on : outcome rule b q ≡ GoesOn) (judged : Judged) (is : IsJudged rule (after b q) judged) where
+  pub five-settled : (w : Point) → judged ≡ Five w → IsPosition rule b → (t : List Node) (win : WrittenWin)
+      → ((rule : RuleKind) (d : Grid) (moves : ℕ) → IsPosition rule d → five rule d (mover d) w ≡ true → 1 ≤ moves → IsThreatWin rule moves d t win)
+      → (moves : ℕ) → moves_for judged ≤ moves → IsThreatWin rule moves (after b q) t win
+  five-settled w e lawful t win says moves l =
+      let here : IsJudged rule (after b q) (Five w) = subst (λ (j : Judged). IsJudged rule (after b q) j) e is in
+      let least : moves_for judged ≡ 1 = ap moves_for e in
+      says rule (after b q) moves (IsPosition-after rule b q lawful on) here (omega (arith, least, l))
+
+  pub last-settled : (p : Point) → judged ≡ Last p → IsPosition rule b → (t : List Node) (win : WrittenWin)
+      → ((rule : RuleKind) (d : Grid) (moves : ℕ) → IsPosition rule d → is_last_move rule d p ≡ true → 1 ≤ moves → IsThreatWin rule moves d t win)
+      → (moves : ℕ) → moves_for judged ≤ moves → IsThreatWin rule moves (after b q) t win
+  last-settled p e lawful t win says moves l =
+      let here : IsJudged rule (after b q) (Last p) = subst (λ (j : Judged). IsJudged rule (after b q) j) e is in
+      let least : moves_for judged ≡ 1 = ap moves_for e in
+      says rule (after b q) moves (IsPosition-after rule b q lawful on) here (omega (arith, least, l))
+
+  module _ (d : Double) (nodes : ℕ) (e : judged ≡ DoubleWins d nodes) where
+    double-is : IsJudgedDouble rule (after b q) d nodes
+    double-is = subst (λ (j : Judged). IsJudged rule (after b q) j) e is
+
+    pub double-wins : IsDoubleWin rule (after b q) d
+    double-wins = double-is.wins
+
+    pub double-settled : (c : Grid) → c ≡ after b q → (t : List Node) (win : WrittenWin) → ((moves : ℕ) → 2 ≤ moves → IsThreatWin rule moves c t win) → (moves : ℕ) → moves_for judged ≤ moves → IsThreatWin rule moves (after b q) t win
+    double-settled c played t win says moves l =
+        let least : moves_for judged ≡ 2 = ap moves_for e in
+        subst (λ (g : Grid). IsThreatWin rule moves g t win) played (says moves (omega (arith, least, l)))
+
+    pub double-counts : (c : Grid) → c ≡ after b q → 1 + answer_nodes rule c d ≡ nodes_for judged
+    double-counts c played =
+        let counted : nodes_for judged ≡ 1 + nodes = ap nodes_for e in
+        let same : answer_nodes rule c d ≡ answer_nodes rule (after b q) d = ap (λ (g : Grid). answer_nodes rule g d) played in
+        omega (arith, counted, double-is.nodes_are, same)
 
 -- a written win is one by threats, where there is a win by threats
 pub threat-win : (rule : RuleKind) (t : List Node) (win : WrittenWin) (m n : ℕ) (b : Grid) → IsWrittenWin rule m b t win → m ≤ n
@@ -54,8 +91,7 @@ last-written old t i p wins rule b n lawful h l =
     }))
     l (last-threats rule b p n h l) where
       met : (o : Outcome) (W : Type 0) → LosesOr o ⊥ → LosesOr o W
-      met Refused W k = tt
       met WinsNow W k = k
-      met (Fouls f) W k = tt
       met Draws W k = k
       met GoesOn W k = absurd k
+      met _ W k = tt

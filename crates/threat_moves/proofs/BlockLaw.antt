@@ -14,8 +14,7 @@ use Rattle.game_rules.proofs.Positions.{IsPosition-after, GoesOn-empty, mover-af
 use Rattle.game_rules.proofs.Outcomes.{five-outcome, outcome-five, refused-taken, loses_or-by, no_other_empty}
 use Rattle.game_rules.proofs.Games.{none_in_zero, five-wins}
 use Rattle.threat_moves.specs.declared.block.BlockAnswer.TheVariants.{Lost}
-use Rattle.threat_moves.specs.Blocks.{by_block, by_fives, fate}
-use Rattle.threat_moves.specs.OneBlock.{block_wins, BlockDecides, LeavesFive, OthersLeaveFive}
+use Rattle.threat_moves.proofs.Common.{by_block, by_fives, fate, block_wins, BlockDecides, LeavesFive, OthersLeaveFive}
 use Rattle.threat_moves.proofs.FourLaws.{four-goes_on, four-five}
 
 -- ---- a five point wins by fours

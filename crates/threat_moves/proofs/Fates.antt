@@ -3,7 +3,7 @@ use Rattle.std.proofs.Common.{◌≡◌, Bool, true, false, cond, refl, ap, List
 use Rattle.game_rules.proofs.Common.{Grid, IsBoard, is_empty, outcome, mover, other, after, has_fouls, IsPosition, has_five, five_points, loses_or}
 use Rattle.game_rules.specs.declared.RuleKind.{RuleKind}
 use Rattle.game_rules.specs.declared.Outcome.{Outcome}
-use Rattle.game_rules.specs.declared.Outcome.TheVariants.{Refused, Wins, Fouls, Draws, GoesOn}
+use Rattle.game_rules.specs.declared.Outcome.TheVariants.{Refused, GoesOn}
 use Rattle.game_rules.specs.declared.Point.{Point}
 use Rattle.game_rules.proofs.Boards.{is_empty-on}
 use Rattle.game_rules.proofs.Points.{all_at}
@@ -13,9 +13,7 @@ use Rattle.row_shapes.specs.declared.fives.FivePoints.TheVariants.{One}
 use Rattle.row_shapes.specs.FivePoints.{in_short}
 use Rattle.row_shapes.proofs.FiveLaws.{has_five-none, one-taken}
 use Rattle.threat_moves.specs.declared.block.BlockAnswer.TheVariants.{Lost, One as OneBlock, Won}
-use Rattle.threat_moves.specs.Blocks.{by_block, by_fives, fate}
-use Rattle.threat_moves.specs.OneBlock.{all_foul}
-use Rattle.threat_moves.specs.FourMoves.{is_four_move}
+use Rattle.threat_moves.proofs.Common.{by_block, by_fives, fate, all_foul, is_four_move}
 use Rattle.threat_moves.proofs.FourLaws.{four-goes_on, one-goes_on}
 
 -- ---- what becomes of a four at c, where the defender is to move
@@ -25,11 +23,8 @@ module _ (rule : RuleKind) (c : Grid) where
   one-block w [] h = cc
   one-block w (v ∷ []) h = by_outcome (outcome rule c v) h where
     by_outcome : (o : Outcome) → by_block v o ≡ OneBlock w → v ∷ [] ≡ w ∷ []
-    by_outcome Refused k = cc
-    by_outcome Wins k = cc
-    by_outcome (Fouls f) k = cc
-    by_outcome Draws k = cc
     by_outcome GoesOn k = let same : v ≡ w = cc in ap (λ (u : Point). u ∷ []) same
+    by_outcome _ k = cc
   one-block w (v ∷ u ∷ more) h = cc
 
   -- a four with one block: the defender has no five point, and the attacker has the block alone
@@ -49,10 +44,7 @@ unfolding fate
 one-points rule c w h = by_fate (has_five rule c (mover c)) h where
   by_block_one : (v : Point) (o : Outcome) → OneBlock w ≡ by_block v o → v ≡ w
   by_block_one v Refused h = cc
-  by_block_one v Wins h = cc
-  by_block_one v (Fouls f) h = cc
-  by_block_one v Draws h = cc
-  by_block_one v GoesOn h = cc
+  by_block_one v _ h = cc
 
   by_points : (xs : List Point) → OneBlock w ≡ by_fives rule c xs → xs ≡ w ∷ []
   by_points [] h = cc

@@ -1,7 +1,5 @@
 -- A four is filled at one of the two ends of its run, and the run has three other stones within reach.
-use Rattle.std.proofs.Common.{◌≡◌, inl, inr, ◌≤◌, ◌<◌, Bool, true, false, cond, ◌||◌, refl, sym, ap, ◌∙◌, arith}
-use Rattle.std.specs.Prelude.{Option, Some, None, is_some}
-use Rattle.std.specs.List.{filter}
+use Rattle.std.proofs.Common.{◌≡◌, inl, inr, ◌≤◌, ◌<◌, Bool, true, false, cond, ◌||◌, refl, sym, ap, ◌∙◌, arith, Option, Some, None, is_some, filter}
 use Rattle.std.proofs.lemmas.Bool.{both_ways, false_from_ne_true, or_left, or_right, or_cases}
 use Rattle.game_rules.proofs.Common.{Grid, IsBoard, is_empty, holds, put, points_of, wins_on, is_at, is_in_run, stones_towards, run_end}
 use Rattle.game_rules.specs.declared.RuleKind.{RuleKind}
@@ -18,8 +16,7 @@ use Rattle.game_rules.proofs.RunEnds.{in_run-end, end_in_run}
 use Rattle.row_shapes.specs.Reach.{stones_past, reach_towards, stones_in_reach}
 use Rattle.row_shapes.proofs.NewFives.{kept_five-Some}
 use Rattle.threat_moves.specs.declared.threat_list.ThreatKind.TheVariants.{Four}
-use Rattle.threat_moves.specs.Threats.{fills_five, makes_threat}
-use Rattle.threat_moves.specs.FiveEnds.{five_end, is_five_end}
+use Rattle.threat_moves.proofs.Common.{fills_five, makes_threat, five_end, is_five_end}
 
 -- ---- tests
 

@@ -4,16 +4,14 @@ use Rattle.std.specs.List.{list_any}
 use Rattle.game_rules.proofs.Common.{Grid, is_empty, outcome, mover, after, other, goes_on_with, has_five, five_points, wins_under, is_same_point}
 use Rattle.game_rules.specs.declared.RuleKind.{RuleKind}
 use Rattle.game_rules.specs.declared.Outcome.{Outcome}
-use Rattle.game_rules.specs.declared.Outcome.TheVariants.{Refused, Wins, Fouls, Draws, GoesOn}
+use Rattle.game_rules.specs.declared.Outcome.TheVariants.{GoesOn}
 use Rattle.game_rules.specs.declared.Point.{Point}
 use Rattle.game_rules.proofs.Outcomes.{goes_on_with-parts, goes_on_with-false}
 use Rattle.game_rules.proofs.Points.{taken_refused, is_same_point-itself, is_same_point-same}
 use Rattle.game_rules.proofs.Tests.{or_false}
-use Rattle.threat_moves.specs.declared.block.BlockAnswer.TheVariants.{Lost, One, Won, Draw}
-use Rattle.threat_moves.specs.Blocks.{by_block, by_fives, fate}
-use Rattle.threat_moves.specs.FourMoves.{is_four_move}
+use Rattle.threat_moves.specs.declared.block.BlockAnswer.TheVariants.{Lost, One, Won}
+use Rattle.threat_moves.proofs.Common.{by_block, by_fives, fate, is_four_move, all_foul, block_wins}
 use Rattle.threat_moves.specs.declared.block.BlockAnswer.{BlockAnswer}
-use Rattle.threat_moves.specs.OneBlock.{all_foul, block_wins}
 
 -- a four move goes on
 pub four-goes_on : (rule : RuleKind) (b : Grid) (p : Point) → is_four_move rule b p ≡ true → outcome rule b p ≡ GoesOn
@@ -26,11 +24,8 @@ unfolding is_four_move
 four-five rule b p h = (goes_on_with-parts (outcome rule b p) (has_five rule (after b p) (mover b)) h).1
 
 one_by_block : (v w : Point) (o : Outcome) → One w ≡ by_block v o → (v ≡ w) × (o ≡ GoesOn)
-one_by_block v w Refused h = cc
-one_by_block v w Wins h = cc
-one_by_block v w (Fouls f) h = cc
-one_by_block v w Draws h = cc
 one_by_block v w GoesOn h = (let same : v ≡ w = cc in same, refl)
+one_by_block v w _ h = cc
 
 one_by_fives : (rule : RuleKind) (c : Grid) (w : Point) (xs : List Point) → One w ≡ by_fives rule c xs → outcome rule c w ≡ GoesOn
 one_by_fives rule c w [] h = cc
@@ -49,10 +44,8 @@ one-goes_on rule c w h = by_test (has_five rule c (mover c)) h where
 
 pub no_last-win : (rule : RuleKind) (c : Grid) (a : BlockAnswer) → all_foul rule c ≡ false → block_wins rule zero c a ≡ false
 unfolding wins_under
-no_last-win rule c Lost h = refl
 no_last-win rule c Won h = h
-no_last-win rule c (Draw w) h = refl
-no_last-win rule c (One w) h = refl
+no_last-win rule c _ h = refl
 
 -- a move that makes no five point is no four
 pub none-no_four : (rule : RuleKind) (b : Grid) (p : Point) → has_five rule (after b p) (mover b) ≡ false → is_four_move rule b p ≡ false

@@ -1,6 +1,5 @@
 -- Lists of threats, and lists of such lists after a path.
-use Rattle.std.proofs.Common.{◌≡◌, suc, ◌-◌, ◌<◌, List, [], ◌∷◌, ◌++◌, length, get_or, refl, ap, ◌∙◌, arith, map, sym, append_assoc, take, ℕ, ◌+◌, drop, add-one, drop-cons}
-use Rattle.std.specs.Prelude.{Option}
+use Rattle.std.proofs.Common.{◌≡◌, suc, ◌-◌, ◌<◌, List, [], ◌∷◌, ◌++◌, length, get_or, refl, ap, ◌∙◌, arith, map, sym, append_assoc, take, ℕ, ◌+◌, drop, add-one, drop-cons, Option}
 use Rattle.std.proofs.lemmas.List.{length-append}
 use Rattle.std.proofs.Math.Seq.{take-append_seam}
 use Rattle.game_rules.specs.declared.Point.{Point}
@@ -10,8 +9,7 @@ use Rattle.threat_moves.specs.declared.threat_list.Threat.{Threat}
 pub last_added : (ts : List Threat) (t u : Threat) → get_or (ts ++ t ∷ []) (length (ts ++ t ∷ []) - 1) u ≡ t
 last_added [] t u = refl
 last_added (v ∷ ts) t u =
-    let some = some_added ts t in
-    let place : length (v ∷ ts ++ t ∷ []) - 1 ≡ suc (length (ts ++ t ∷ []) - 1) = omega (arith, some) in
+    let place : length (v ∷ ts ++ t ∷ []) - 1 ≡ suc (length (ts ++ t ∷ []) - 1) = omega (arith, some_added ts t) in
     ap (λ k. get_or (v ∷ ts ++ t ∷ []) k u) place ∙ last_added ts t u where
       some_added : (ts : List Threat) (t : Threat) → 0 < length (ts ++ t ∷ [])
       some_added [] t = omega arith

@@ -1,6 +1,5 @@
 -- The lists that a search looks at, one after another: lists in two parts, lists by threats, by gains and by length.
-use Rattle.std.proofs.Common.{◌≡◌, ◌≢◌, ℕ, zero, suc, ◌+◌, ◌-◌, ◌≤◌, ◌<◌, Bool, true, false, cond, List, [], ◌∷◌, ◌++◌, map, drop, length, get_or, nat_eq, refl, sym, ap, ◌∙◌, arith, append_assoc, add-one}
-use Rattle.std.specs.Prelude.{Option, Some, None, is_some, nat_le}
+use Rattle.std.proofs.Common.{◌≡◌, ◌≢◌, ℕ, zero, suc, ◌+◌, ◌-◌, ◌≤◌, ◌<◌, Bool, true, false, cond, List, [], ◌∷◌, ◌++◌, map, drop, length, get_or, nat_eq, refl, sym, ap, ◌∙◌, arith, append_assoc, add-one, Option, Some, None, is_some, nat_le}
 use Rattle.std.specs.List.{flat_map, range_with_len}
 use Rattle.std.proofs.lemmas.List.{append-nil}
 use Rattle.std.proofs.lemmas.Bool.Decides.{nat_tests}
@@ -14,7 +13,7 @@ use Rattle.threat_moves.proofs.GainLaws.{taken-no_gain, no_gain-threats}
 use Rattle.threat_moves.proofs.ThreatLists.{drop-at, Final, Lists, after_path, map-append, path-longer, path-none, no_lists, map-none}
 use Rattle.threat_space.specs.declared.answer.SpaceAnswer.TheVariants.{Spent as OutOfBudget}
 use Rattle.threat_space.specs.declared.walk.Looked.{Looked}
-use Rattle.threat_space.specs.declared.walk.Looked.TheVariants.{Sequence, NoSequence, Spent}
+use Rattle.threat_space.specs.declared.walk.Looked.TheVariants.{NoSequence, Spent}
 use Rattle.threat_space.specs.Sequences.{played, played_all, lists_from, lists_of, lists_up_to, final_of, first_with, pair_or, count_up_to, answer_with, space_answer}
 use Rattle.threat_space.specs.Looking.{found_or, looked, looked_on, answer_of}
 
@@ -29,14 +28,9 @@ pub looked-append : (final : Final) (n : ℕ) (xs ys : Lists) → looked final n
 looked-append final n [] ys = refl
 looked-append final n (ts ∷ xs) ys = append_by (nat_eq n 0) ts (final ts) _ _ (λ m. looked final m ys) (looked-append final (n - 1) xs ys)
 
--- what goes on with what is left, and what ends
-pub on-left : (a : Looked) (later : ℕ → Looked) (m : ℕ) → a ≡ NoSequence m → looked_on a later ≡ later m
-on-left a later m e = ap (λ x. looked_on x later) e
-
 pub on-ends : (a : Looked) (later : ℕ → Looked) → ((m : ℕ) → a ≢ NoSequence m) → looked_on a later ≡ a
-on-ends (Sequence ts f) later h = refl
 on-ends (NoSequence m) later h = absurd (h m refl)
-on-ends Spent later h = refl
+on-ends _ later h = refl
 
 -- ---- lists by threats
 

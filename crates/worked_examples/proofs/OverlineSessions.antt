@@ -1,12 +1,9 @@
 -- The sessions with the block that is a foul.
-use Rattle.std.proofs.Common.{◌≡◌, ℕ, zero, suc, Bool, true, false, List, [], ◌∷◌, ◌++◌, codes, refl, ap, subst, ◌∙◌, arith, nat_eq}
-use Rattle.std.specs.Prelude.{Option, Some, None, slice_get}
+use Rattle.std.proofs.Common.{◌≡◌, ℕ, zero, suc, Bool, true, false, List, [], ◌∷◌, ◌++◌, codes, refl, ap, subst, ◌∙◌, arith, nat_eq, Option, Some, None, slice_get}
 use Rattle.std.specs.Fmt.{digits}
 use Rattle.std.specs.List.{list_all}
 use Rattle.std.proofs.lemmas.List.Elements.{All-nil, All-cons}
-use Rattle.game_rules.specs.Grid.{Grid, IsBoard, points_of, empties_of}
-use Rattle.game_rules.specs.Shapes.{is_same_point, fours_of, three_points_of, is_three_point, gives_straight, is_straight}
-use Rattle.game_rules.specs.Play.{outcome, after, black_foul, black_foul_within, stone_foul, is_three}
+use Rattle.game_rules.proofs.Common.{Grid, IsBoard, points_of, empties_of, is_same_point, fours_of, three_points_of, is_three_point, gives_straight, is_straight, outcome, after, black_foul, black_foul_within, stone_foul, is_three}
 use Rattle.game_rules.specs.declared.RuleKind.TheVariants.{Renju}
 use Rattle.game_rules.specs.declared.Side.TheVariants.{White}
 use Rattle.game_rules.specs.declared.Foul.TheVariants.{Overline}
@@ -17,11 +14,9 @@ use Rattle.foul_judge.specs.Lawful.{refusal}
 use Rattle.foul_judge.proofs.Lawfulness.{lawful_from_none}
 use Rattle.strategy_graph.specs.declared.Node.{Node}
 use Rattle.strategy_graph.specs.declared.Rest.TheVariants.{To}
-use Rattle.strategy_graph.specs.Tables.{Answers, answers_of, names_below, NamesLower}
-use Rattle.strategy_graph.specs.Acceptance.{Meets, Accepted}
-use Rattle.strategy_graph.specs.Games.{Won, game, attacks}
+use Rattle.strategy_graph.proofs.Common.{Answers, answers_of, names_below, NamesLower, Meets, Accepted, Won, game, attacks}
 use Rattle.strategy_graph.proofs.Steps.{accepted-by-replies, met-foul}
-use Rattle.strategy_graph.proofs.Accepting.{is_met, met-by_test}
+use Rattle.strategy_graph.proofs.Soundness.{is_met, met-by_test}
 use Rattle.strategy_checker.specs.HeldRoots.{IsHeldRoot, IsHeld}
 use Rattle.gomocup_text.specs.Commands.{commands}
 use Rattle.gomocup_text.specs.declared.Command.{Command}

@@ -1,11 +1,9 @@
 -- The session in which a win of the brain's own is followed, and after moves were taken back a held start.
-use Rattle.std.proofs.Common.{◌≡◌, ℕ, zero, suc, Bool, true, false, List, [], ◌∷◌, ◌++◌, codes, refl, sym, ap, subst, ◌∙◌, arith, nat_eq}
-use Rattle.std.specs.Prelude.{Option, Some, None, slice_get}
+use Rattle.std.proofs.Common.{◌≡◌, ℕ, zero, suc, Bool, true, false, List, [], ◌∷◌, ◌++◌, codes, refl, sym, ap, subst, ◌∙◌, arith, nat_eq, Option, Some, None, slice_get}
 use Rattle.std.specs.Fmt.{digits}
 use Rattle.std.specs.List.{list_all}
 use Rattle.std.proofs.lemmas.List.Elements.{All-nil, All-cons}
-use Rattle.game_rules.specs.Grid.{IsBoard, points_of, empties_of}
-use Rattle.game_rules.specs.Play.{outcome, after}
+use Rattle.game_rules.specs.Play.{after}
 use Rattle.game_rules.specs.declared.RuleKind.TheVariants.{Freestyle}
 use Rattle.game_rules.specs.declared.Side.TheVariants.{Black}
 use Rattle.game_rules.specs.declared.Point.{Point}
@@ -13,11 +11,8 @@ use Rattle.foul_judge.specs.Lawful.{refusal}
 use Rattle.foul_judge.proofs.Lawfulness.{lawful_from_none}
 use Rattle.strategy_graph.specs.declared.Node.{Node}
 use Rattle.strategy_graph.specs.declared.Rest.TheVariants.{To}
-use Rattle.strategy_graph.specs.Tables.{Answers, answers_of, names_below, NamesLower}
-use Rattle.strategy_graph.specs.Acceptance.{AcceptedStart}
-use Rattle.strategy_graph.specs.Games.{Won, game, attacks, one_later}
+use Rattle.strategy_graph.specs.Games.{one_later}
 use Rattle.strategy_graph.specs.declared.roots.Root.TheVariants.{Defend}
-use Rattle.strategy_graph.proofs.Accepting.{is_met, met-by_test}
 use Rattle.strategy_checker.specs.HeldRoots.{IsHeldRoot, IsHeld}
 use Rattle.gomocup_text.specs.Commands.{commands}
 use Rattle.gomocup_text.specs.declared.Command.{Command}
@@ -36,6 +31,9 @@ use Rattle.worked_examples.proofs.OwnWins.{own_win_is, first_move, replied_board
 use Rattle.game_rules.specs.declared.Outcome.TheVariants.{Wins, GoesOn}
 use Rattle.brain_session.specs.OwnGames.{BeginsOwnGame, win_game, win_attacks, win_answers}
 use Rattle.brain_session.proofs.OwnGames.{own-games-go_well}
+use Rattle.game_rules.proofs.Common.{IsBoard, points_of, empties_of, outcome}
+use Rattle.strategy_graph.proofs.Common.{Answers, answers_of, names_below, NamesLower, AcceptedStart, Won, game, attacks}
+use Rattle.strategy_graph.proofs.Soundness.{is_met, met-by_test}
 
 -- ---- the start is accepted
 
@@ -66,7 +64,7 @@ start_met : list_all (is_met Freestyle one_start.table after_four four_board non
 unfolding none four_board
 start_met = refl
 
-start_leaves : nat_eq (empties_of four_board) 1 ≡ false
+pub start_leaves : nat_eq (empties_of four_board) 1 ≡ false
 unfolding four_board
 start_leaves = refl
 
@@ -77,7 +75,7 @@ four_is_board : IsBoard four_board
 unfolding four_board
 four_is_board = record { wide = omega arith; width_fits = omega arith; high = omega arith; height_fits = omega arith; filled = refl }
 
-four_unrefused : refusal Freestyle four_board ≡ None
+pub four_unrefused : refusal Freestyle four_board ≡ None
 unfolding four_board refusal
 four_unrefused = refl
 

@@ -1,14 +1,10 @@
 -- The win by continuous fours that the brain finds with three in the row, open at both ends.
-use Rattle.std.proofs.Common.{◌≡◌, ◌≢◌, ℕ, ◌+◌, ◌≤◌, Bool, true, false, cond, ◌&&◌, ◌||◌, not, List, ◌∷◌, ◌++◌, get_or, length, drop, refl, sym, ap, subst, ◌∙◌, arith, inl, inr, nat_eq, if◌then◌else◌}
-use Rattle.std.specs.Prelude.{Option, Some, None, nat_le}
+use Rattle.std.proofs.Common.{◌≡◌, ◌≢◌, ℕ, ◌+◌, ◌≤◌, Bool, true, false, cond, ◌&&◌, ◌||◌, not, List, ◌∷◌, ◌++◌, get_or, length, drop, refl, sym, ap, subst, ◌∙◌, arith, inl, inr, nat_eq, if◌then◌else◌, Option, Some, None, nat_le}
 use Rattle.std.specs.List.{list_all, find, sum_by}
 use Rattle.std.proofs.lemmas.List.Sums.{sum_by-le}
 use Rattle.std.proofs.lemmas.Bool.{or_cases, not-true}
 use Rattle.std.proofs.lemmas.Bool.Decides.{nat_tests}
-use Rattle.game_rules.specs.Grid.{Grid, is_on, is_empty, row_from, points_of, empties_of}
-use Rattle.game_rules.specs.Shapes.{five, is_same_point, is_at}
-use Rattle.game_rules.specs.Play.{outcome, outcome_by, foul_of, after, mover}
-use Rattle.game_rules.specs.Games.{has_five, wins_or, loses_or, starts_win, wins_under, wins_by_fours, four_move}
+use Rattle.game_rules.proofs.Common.{Grid, is_on, is_empty, row_from, points_of, empties_of, five, is_same_point, is_at, outcome, outcome_by, foul_of, after, mover, has_five, wins_or, loses_or, starts_win, wins_under, wins_by_fours, four_move}
 use Rattle.game_rules.specs.declared.RuleKind.TheVariants.{Freestyle}
 use Rattle.game_rules.specs.declared.Side.{Side}
 use Rattle.game_rules.specs.declared.Foul.{Foul}
@@ -22,9 +18,8 @@ use Rattle.game_rules.proofs.PointLists.{all-append, any_none, all_implied, find
 use Rattle.game_rules.proofs.Outcomes.{wins_now, not_wins, is_going, going_is}
 use Rattle.game_rules.proofs.Games.{no_start-demand, no_start-reply}
 use Rattle.threat_moves.specs.declared.block.BlockAnswer.{BlockAnswer}
-use Rattle.threat_moves.specs.declared.block.BlockAnswer.TheVariants.{Lost, Won, Draw, One}
-use Rattle.threat_moves.specs.FourMoves.{is_four_move}
-use Rattle.threat_moves.specs.Blocks.{fate}
+use Rattle.threat_moves.specs.declared.block.BlockAnswer.TheVariants.{Lost}
+use Rattle.threat_moves.proofs.Common.{is_four_move, fate}
 use Rattle.four_search.specs.FourGame.{tried, if_one, behind_move, four_tree, four_cost, least_moves}
 use Rattle.four_search.proofs.Costs.{until-length}
 use Rattle.brain_session.specs.States.{point_at}
@@ -110,7 +105,7 @@ attacked_some : nat_eq (empties_of attacked) 1 ≡ false
 unfolding attacked three_board
 attacked_some = refl
 
-attack_goes_on : outcome Freestyle three_board (point_at 4 7) ≡ GoesOn
+pub attack_goes_on : outcome Freestyle three_board (point_at 4 7) ≡ GoesOn
 unfolding three_board outcome
 attack_goes_on = refl
 
@@ -136,9 +131,7 @@ unfolding four_tree
 one_behind b p = by_test (is_four_move Freestyle b p) where
   by_fate : (a : BlockAnswer) → if_one (λ c. 1) (after b p) a ≤ 1
   by_fate Lost = omega arith
-  by_fate Won = omega arith
-  by_fate (Draw w) = omega arith
-  by_fate (One w) = omega arith
+  by_fate _ = omega arith
 
   by_test : (r : Bool) → cond r (if_one (λ c. 1) (after b p) (fate Freestyle (after b p))) 0 ≤ 1
   by_test true = by_fate (fate Freestyle (after b p))
@@ -155,8 +148,7 @@ tree_small = by_test (has_five Freestyle three_board (mover three_board)) where
   few =
       let each = sum_by-le (behind_move Freestyle three_board (four_tree Freestyle 1)) 1 (tried Freestyle 2 three_board) (λ k d lt. one_behind three_board (get_or (tried Freestyle 2 three_board) k d)) in
       let short = until-length (λ p. is_at p (four_move Freestyle 2 three_board)) (points_of three_board) in
-      let all = points_are in
-      omega (arith, each, short, all)
+      omega (arith, each, short, points_are)
 
   by_test : (r : Bool) → cond r 1 (1 + sum_by (behind_move Freestyle three_board (four_tree Freestyle 1)) (tried Freestyle 2 three_board)) ≤ 226
   by_test true = omega arith

@@ -1,26 +1,21 @@
 -- The session in which a start is followed after moves were taken back.
-use Rattle.std.proofs.Common.{◌≡◌, ℕ, zero, suc, Bool, true, false, List, [], ◌∷◌, ◌++◌, codes, refl, ap, subst, ◌∙◌, arith, nat_eq}
-use Rattle.std.specs.Prelude.{Option, Some, None, slice_get}
+use Rattle.std.proofs.Common.{◌≡◌, ℕ, zero, suc, Bool, true, false, List, [], ◌∷◌, ◌++◌, codes, refl, ap, subst, ◌∙◌, arith, nat_eq, Option, Some, None, slice_get}
 use Rattle.std.specs.Fmt.{digits}
 use Rattle.std.specs.List.{list_all}
 use Rattle.std.proofs.lemmas.List.Elements.{All-nil, All-cons}
-use Rattle.game_rules.specs.Grid.{Grid, IsBoard, points_of, empties_of}
-use Rattle.game_rules.specs.Play.{outcome, after}
+use Rattle.game_rules.proofs.Common.{Grid, IsBoard, points_of, empties_of, outcome, after}
 use Rattle.game_rules.specs.declared.RuleKind.TheVariants.{Freestyle}
 use Rattle.game_rules.specs.declared.Side.TheVariants.{Black}
-use Rattle.game_rules.specs.declared.Outcome.TheVariants.{GoesOn}
 use Rattle.game_rules.specs.declared.Point.{Point}
 use Rattle.foul_judge.specs.Lawful.{refusal}
 use Rattle.foul_judge.proofs.Lawfulness.{lawful_from_none}
 use Rattle.strategy_graph.specs.declared.Node.{Node}
 use Rattle.strategy_graph.specs.declared.Rest.TheVariants.{To}
-use Rattle.strategy_graph.specs.Tables.{Answers, answers_of, names_below, NamesLower}
-use Rattle.strategy_graph.specs.Acceptance.{Accepted, AcceptedStart}
-use Rattle.strategy_graph.specs.Games.{Won, game, attacks}
+use Rattle.strategy_graph.proofs.Common.{Answers, answers_of, names_below, NamesLower, Accepted, AcceptedStart, Won, game, attacks}
 use Rattle.strategy_graph.proofs.Steps.{accepted-by-replies}
 use Rattle.strategy_checker.specs.declared.held.HeldRoot.{HeldRoot}
 use Rattle.strategy_graph.specs.declared.roots.Root.TheVariants.{Defend}
-use Rattle.strategy_graph.proofs.Accepting.{is_met, met-by_test}
+use Rattle.strategy_graph.proofs.Soundness.{is_met, met-by_test}
 use Rattle.strategy_checker.specs.HeldRoots.{IsHeldRoot, IsHeld}
 use Rattle.gomocup_text.specs.Commands.{commands}
 use Rattle.gomocup_text.specs.declared.Command.{Command}
@@ -33,6 +28,8 @@ use Rattle.brain_session.specs.Sessions.{answers_from, state_after, answer_texts
 use Rattle.brain_session.specs.HeldGames.{BeginsHeldGame, replies, game_answers}
 use Rattle.brain_session.proofs.HeldGames.{held-games-go_well}
 use Rattle.worked_examples.specs.HeldSessions.{PlaysHeldGame, three_board, four_board, two_roots, taken_back_input}
+use Rattle.worked_examples.proofs.OwnWinSession.{start_leaves, four_unrefused}
+use Rattle.worked_examples.proofs.OwnWins.{attack_goes_on}
 
 -- ---- both roots are accepted
 
@@ -76,17 +73,9 @@ start_met : list_all (is_met Freestyle two_roots.table after_four four_board non
 unfolding none four_board
 start_met = refl
 
-attack_goes_on : outcome Freestyle three_board (point_at 4 7) ≡ GoesOn
-unfolding three_board outcome
-attack_goes_on = refl
-
 attack_leaves : nat_eq (empties_of attacked) 1 ≡ false
 unfolding attacked three_board
 attack_leaves = refl
-
-start_leaves : nat_eq (empties_of four_board) 1 ≡ false
-unfolding four_board
-start_leaves = refl
 
 attack_accepted : Accepted Freestyle two_roots.table 2 three_board
 unfolding attacked
@@ -107,10 +96,6 @@ four_is_board = record { wide = omega arith; width_fits = omega arith; high = om
 three_unrefused : refusal Freestyle three_board ≡ None
 unfolding three_board refusal
 three_unrefused = refl
-
-four_unrefused : refusal Freestyle four_board ≡ None
-unfolding four_board refusal
-four_unrefused = refl
 
 abbrev start_root : HeldRoot
 start_root = record { root = Defend after_four; kind = Freestyle; board = four_board }

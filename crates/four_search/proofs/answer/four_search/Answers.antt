@@ -1,13 +1,11 @@
-use Rattle.std.proofs.Common.{rules, ◌≡◌, ◌+◌, ◌-◌, ◌<◌, true, false, ap, sym, subst, ◌∙◌, arith, length, ℕ, refl, ◌*◌, Bool, cond, List}
-use Rattle.std.specs.Prelude.{Result, Ok, Err, OnErr}
+use Rattle.std.proofs.Common.{rules, ◌≡◌, ◌+◌, ◌-◌, ◌<◌, true, false, ap, sym, subst, ◌∙◌, arith, length, ℕ, refl, ◌*◌, Bool, cond, List, Result, Ok, Err, OnErr}
 use Rattle.game_rules.proofs.Common.{Grid, IsPosition}
 use Rattle.game_rules.proofs.Games.{no-win}
 use Rattle.four_search.specs.declared.search.Found.TheVariants.{Win, NoWin, Spent}
 use Rattle.four_search.specs.Searching.{found_at}
 use Rattle.strategy_graph.specs.declared.Node.{Node}
-use Rattle.strategy_compiler.specs.Growth.{GrowsBy}
+use Rattle.strategy_compiler.proofs.Common.{GrowsBy, StandsFor}
 use Rattle.strategy_compiler.proofs.Growing.{grows-more}
-use Rattle.strategy_compiler.specs.Trees.{StandsFor}
 use Rattle.four_search.specs.Plans.{four_plan}
 use Rattle.four_search.proofs.Deepening.{win-here, win-cost, win-depth, cost-above, none-more, left-more, end-cost, end-none}
 use Rattle.four_search.proofs.Written.{four-win}

@@ -1,5 +1,4 @@
-use Rattle.std.proofs.Common.{◌≡◌, ◌<◌, ap, sym, subst, ◌∙◌, List, length, ℕ}
-use Rattle.std.specs.Prelude.{All}
+use Rattle.std.proofs.Common.{◌≡◌, ◌<◌, ap, sym, subst, ◌∙◌, List, length, ℕ, All}
 use Rattle.game_rules.proofs.Common.{Grid, points_of, outcome}
 use Rattle.strategy_graph.specs.declared.Reply.{Reply}
 use Rattle.strategy_graph.specs.Tables.{is_rising}
@@ -7,7 +6,7 @@ use Rattle.game_rules.proofs.Undo.{stone_back, lift_back, unwon_back}
 use Rattle.four_search.specs.Plans.{answers_for}
 use Rattle.four_search.proofs.Planning.{answers-below, answer_node-below}
 use Rattle.strategy_compiler.specs.Forks.{answer_node}
-use Rattle.four_search.proofs.Reading.{answers-rising}
+use Rattle.four_search.proofs.Deepening.{answers-rising}
 use Rattle.four_search.proofs.plan.block_node.Goals as goal
 
 pub undo-requires-clause-stone : goal.undo-requires-clause-stone

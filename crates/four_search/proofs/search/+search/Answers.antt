@@ -13,10 +13,8 @@ use Rattle.four_search.specs.declared.search.Found.TheVariants.{NoWin}
 use Rattle.four_search.specs.declared.makers.Maker.{Maker}
 use Rattle.four_search.specs.Makers.{makers_of, AfterFour, AfterReply}
 use Rattle.four_search.proofs.Listing.{drop-all, drop-next}
-use Rattle.four_search.proofs.Taking.{found-makers, ruled-out, each-maker, not_taken, taken-safe}
+use Rattle.four_search.proofs.Trying.{found-makers, ruled-out, each-maker, not_taken, taken-safe, try_all, try_all-none, step_at, step-goes_on, step-ends, found-nothing, answering-no-more, behind-else, block-none, block-threat, block-last, trying-else, trying-goes}
 use Rattle.four_search.specs.Searching.{found_trying, found_behind, found_answering}
-use Rattle.four_search.proofs.Trying.{try_all, try_all-none, step_at, step-goes_on, step-ends, found-nothing, answering-no-more, behind-else}
-use Rattle.four_search.proofs.Forcing.{block-none, block-threat, block-last, trying-else, trying-goes}
 use Rattle.position_table.specs.Packing.{packed}
 use Rattle.position_table.proofs.Remembering.{true-looked, true-found, true-kept}
 use Rattle.four_search.specs.Remembering.{IsTrueMemo, IsDenied}

@@ -1,4 +1,4 @@
-use Rattle.line_proof.proofs.Forking.{fork-wins}
+use Rattle.line_proof.proofs.Doubling.{fork-wins}
 use Rattle.line_proof.proofs.answers.fork.Goals as goal
 
 pub returns-clause-win : goal.returns-clause-win

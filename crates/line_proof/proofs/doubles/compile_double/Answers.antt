@@ -1,5 +1,5 @@
 use Rattle.std.proofs.Common.{◌∙◌, refl}
-use Rattle.strategy_graph.proofs.ReadingOrder.{points-rising}
+use Rattle.strategy_graph.proofs.Rising.{points-rising}
 use Rattle.line_proof.proofs.Doubling.{double-is}
 use Rattle.line_proof.proofs.doubles.compile_double.Goals as goal
 

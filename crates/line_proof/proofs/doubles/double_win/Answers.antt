@@ -1,5 +1,4 @@
-use Rattle.std.proofs.Common.{subst, refl}
-use Rattle.std.specs.Prelude.{Option, IfSome}
+use Rattle.std.proofs.Common.{subst, refl, Option, IfSome}
 use Rattle.game_rules.specs.Grid.{Grid}
 use Rattle.line_proof.specs.declared.doubles.Double.{Double}
 use Rattle.line_proof.specs.Doubles.{IsDouble}

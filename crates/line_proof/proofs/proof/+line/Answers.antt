@@ -1,11 +1,9 @@
-use Rattle.std.proofs.Common.{rules, ◌≡◌, ℕ, ◌≤◌, Bool, true, false, sym, ap, subst, ◌∙◌, arith, min, IfOk, refl, List}
-use Rattle.std.specs.Prelude.{Option, Some, None, IfSome, is_some}
+use Rattle.std.proofs.Common.{rules, ◌≡◌, ℕ, ◌≤◌, Bool, true, false, sym, ap, subst, ◌∙◌, arith, min, IfOk, refl, List, Option, Some, None, IfSome, is_some, sum_by}
 use Rattle.game_rules.proofs.Common.{Grid, points_of, outcome, mover, after, goes_on_with, has_five, wins_by_fours, if_goes_on}
-use Rattle.std.specs.List.{sum_by}
 use Rattle.game_rules.specs.declared.Outcome.TheVariants.{GoesOn}
 use Rattle.strategy_graph.specs.declared.Node.{Node}
 use Rattle.strategy_compiler.specs.declared.wins.WrittenWin.{WrittenWin}
-use Rattle.strategy_compiler.specs.Wins.{IsWrittenWin}
+use Rattle.strategy_compiler.proofs.Common.{IsWrittenWin, Writes}
 use Rattle.game_rules.proofs.Undo.{stone_back, lift_back, unwon_back}
 use Rattle.line_proof.specs.declared.answers.Answering.{Answering}
 use Rattle.line_proof.specs.declared.proof.LineAnswer.{LineAnswer}
@@ -13,10 +11,9 @@ use Rattle.line_proof.specs.Lines.{line_wins, line_tree, each_loses}
 use Rattle.line_proof.specs.Answers.{OnProved, is_proved}
 use Rattle.line_proof.specs.Doubles.{IsDouble}
 use Rattle.line_proof.specs.Replies.{AreAnswers, AnswersAll, FindsAnswers}
-use Rattle.strategy_compiler.specs.Growth.{Writes}
 use Rattle.strategy_compiler.proofs.Growing.{grows-not, grows-then, writes-fails, writes-memory, writes-nothing, writes-tells}
 use Rattle.strategy_compiler.proofs.Standing.{compiled-lower}
-use Rattle.strategy_graph.proofs.ReadingOrder.{replies-rising}
+use Rattle.strategy_graph.proofs.Rising.{replies-rising}
 use Rattle.line_proof.proofs.Gathering.{answers-grown, answers-more, answers-few, few-step, rest-step, lose-step}
 use Rattle.line_proof.proofs.Doubling.{hint-grown}
 use Rattle.line_proof.proofs.Steps.{no_moves-wins, quick-wins, quick-most, double-quick, double-most, five-quick, five-most, of-some, on-ok, five-refutes, move-wins, move-tree, no-value}
@@ -153,8 +150,7 @@ prove_on-fork-requires-clause-few_moves g t c =
     let found : FindsAnswers g.R.Rule.KIND c.args.moves c.answer_each-found.new.compiler d lost (Some c.in-Some.answers) =
     subst (λ (o : Option Answering). FindsAnswers g.R.Rule.KIND c.args.moves c.answer_each-found.new.compiler d lost o) c.in-Some.is c.in_ok-found.ensures.found in
     let few = answers-few g.R.Rule.KIND c.args.moves c.answer_each-found.new.compiler d c.in-Some.answers found.1.answers in
-    let fits = c.requires.fits in
-    omega (arith, few, fits)
+    omega (arith, few, c.requires.fits)
 
 pub prove_on-returns-in_ok-fork-in-Some-clause-proved : goal.prove_on-returns-in_ok-fork-in-Some-clause-proved
 prove_on-returns-in_ok-fork-in-Some-clause-proved g t c =

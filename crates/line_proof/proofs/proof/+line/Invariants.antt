@@ -1,9 +1,7 @@
-use Rattle.std.proofs.Common.{◌≡◌, ◌+◌, ◌-◌, ◌*◌, ◌≤◌, ◌++◌}
-use Rattle.std.specs.Prelude.{IfSome}
+use Rattle.std.proofs.Common.{◌≡◌, ◌+◌, ◌-◌, ◌*◌, ◌≤◌, ◌++◌, IfSome}
 use Rattle.std.specs.List.{list_all, sum_by}
 use Rattle.game_rules.proofs.Common.{points_of, outcome, after, loses_or, if_goes_on, behind_replies}
-use Rattle.strategy_compiler.specs.Growth.{GrowsBy}
-use Rattle.strategy_compiler.specs.Nodes.{IsCompiled}
+use Rattle.strategy_compiler.proofs.Common.{GrowsBy, IsCompiled}
 use Rattle.line_proof.specs.Lines.{line_wins, line_tree, each_loses}
 use Rattle.line_proof.specs.Doubles.{IsDouble}
 use Rattle.line_proof.specs.Replies.{AreAnswers, answered, going_on}

@@ -1,5 +1,4 @@
-use Rattle.std.proofs.Common.{◌≡◌, List, [], ◌++◌, sym, ap, ◌∙◌, append-nil}
-use Rattle.std.specs.Prelude.{map}
+use Rattle.std.proofs.Common.{◌≡◌, List, [], ◌++◌, sym, ap, ◌∙◌, append-nil, map}
 use Rattle.std.specs.List.{list_all}
 use Rattle.game_rules.specs.Grid.{is_on, points_of}
 use Rattle.game_rules.specs.declared.Point.{Point}
@@ -8,7 +7,7 @@ use Rattle.line_tables.specs.Codes.{codes_at}
 use Rattle.game_rules.proofs.Places.{points_on}
 use Rattle.game_rules.proofs.ReadingOrder.{told_length}
 use Rattle.game_rules.proofs.PointLists.{first_on}
-use Rattle.line_tables.proofs.BoardLists.{told_at}
+use Rattle.line_tables.proofs.FiveLists.{told_at}
 use Rattle.line_tables.proofs.axis_codes.axis_codes.Goals as goal
 
 pub line_code-black-requires-clause-on : goal.line_code-black-requires-clause-on

@@ -1,5 +1,4 @@
-use Rattle.std.proofs.Common.{◌≡◌, true, ◌++◌}
-use Rattle.std.specs.Prelude.{map}
+use Rattle.std.proofs.Common.{◌≡◌, true, ◌++◌, map}
 use Rattle.std.specs.List.{list_all}
 use Rattle.game_rules.specs.Grid.{is_on, points_of}
 use Rattle.line_tables.specs.Codes.{codes_at}

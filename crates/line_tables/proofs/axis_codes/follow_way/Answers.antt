@@ -1,7 +1,6 @@
 use Rattle.std.proofs.Common.{◌≡◌, ◌<◌, true, arith}
 use Rattle.game_rules.specs.Grid.{is_on}
-use Rattle.line_tables.proofs.Follows.{can_on}
-use Rattle.line_tables.proofs.FollowSteps.{back, place_within, change_fits, step_followed}
+use Rattle.line_tables.proofs.Follows.{can_on, back, place_within, change_fits, step_followed}
 use Rattle.line_tables.proofs.axis_codes.follow_way.Goals as goal
 
 pub place_after-place-requires-clause-back : goal.place_after-place-requires-clause-back

@@ -1,5 +1,5 @@
 use Rattle.std.proofs.Common.{false}
-use Rattle.line_tables.proofs.EndCalls.{came_fits, came_own, came_others}
+use Rattle.line_tables.proofs.EndTests.{came_fits, came_own, came_others}
 use Rattle.game_rules.specs.Play.{other}
 use Rattle.line_tables.proofs.ends.after_play.Goals as goal
 

@@ -2,7 +2,7 @@ use Rattle.std.proofs.Common.{◌≡◌, ap, ◌∙◌}
 use Rattle.game_rules.proofs.Common.{other, five}
 use Rattle.game_rules.specs.declared.Side.{Side}
 use Rattle.line_tables.specs.Lists.{with_told}
-use Rattle.line_tables.proofs.EndCalls.{went_fits, went_own, went_others}
+use Rattle.line_tables.proofs.EndTests.{went_fits, went_own, went_others}
 use Rattle.line_tables.proofs.ends.after_undo.Goals as goal
 
 pub tell-requires : goal.tell-requires

@@ -1,7 +1,6 @@
 use Rattle.game_rules.proofs.Boards.{is_empty-on}
 use Rattle.stone_board.proofs.Looks.{kept-some, end_kept}
-use Rattle.line_tables.proofs.EndCalls.{told_fits, kept-none}
-use Rattle.line_tables.proofs.EndTests.{end_decides, none_told, end_told}
+use Rattle.line_tables.proofs.EndTests.{told_fits, kept-none, end_decides, none_told, end_told}
 use Rattle.line_tables.proofs.ends.tell_end.Goals as goal
 
 pub tell_on-requires-clause-room : goal.tell_on-requires-clause-room

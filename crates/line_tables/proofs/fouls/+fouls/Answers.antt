@@ -1,5 +1,4 @@
-use Rattle.std.proofs.Common.{rules, ◌≡◌, ◌+◌, ◌*◌, ◌<◌, true, false, cond, ◌&&◌, not, below_more, refl, sym, ap, ◌∙◌, arith}
-use Rattle.std.specs.Prelude.{is_none, map}
+use Rattle.std.proofs.Common.{rules, ◌≡◌, ◌+◌, ◌*◌, ◌<◌, true, false, cond, ◌&&◌, not, below_more, refl, sym, ap, ◌∙◌, arith, is_none, map}
 use Rattle.std.specs.Int.{bit_at}
 use Rattle.game_rules.proofs.Common.{Grid, IsBoard, is_empty, empties_of, holds, put, lift, along, axes, five, is_line_three_at, black_foul, has_fouls}
 use Rattle.game_rules.specs.declared.Side.TheVariants.{Black}

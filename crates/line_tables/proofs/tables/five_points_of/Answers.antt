@@ -1,5 +1,4 @@
-use Rattle.std.proofs.Common.{◌≡◌, ◌∷◌, ◌++◌, List, true, cond, ap, sym, ◌∙◌}
-use Rattle.std.specs.List.{filter}
+use Rattle.std.proofs.Common.{◌≡◌, ◌∷◌, ◌++◌, List, true, cond, ap, sym, ◌∙◌, filter}
 use Rattle.game_rules.proofs.Common.{five, five_points}
 use Rattle.game_rules.specs.declared.Point.{Point}
 use Rattle.game_rules.proofs.ReadingOrder.{one_more_fits}

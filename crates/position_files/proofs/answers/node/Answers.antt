@@ -1,5 +1,4 @@
-use Rattle.std.proofs.Common.{ap}
-use Rattle.std.specs.Prelude.{option_copied}
+use Rattle.std.proofs.Common.{ap, option_copied}
 use Rattle.std.proofs.lemmas.Result.{err_from_is_err_and}
 use Rattle.position_files.proofs.AnswerLaws.{bad_attack, bad_answers}
 use Rattle.position_files.proofs.answers.node.Goals as goal

@@ -1,8 +1,6 @@
 use Rattle.std.proofs.Common.{length, option_copied}
-use Rattle.text_lines.specs.Spellings.{space}
-use Rattle.position_files.specs.Tables.{reply_text}
-use Rattle.text_lines.specs.Reading.{tail_text}
-use Rattle.position_files.specs.Answers.{ReplyFits}
+use Rattle.text_lines.proofs.Common.{space, tail_text}
+use Rattle.position_files.proofs.Common.{reply_text, ReplyFits}
 use Rattle.text_lines.proofs.Items.{Follows}
 use Rattle.position_files.proofs.answers.replies.Given as goal
 

@@ -1,5 +1,4 @@
-use Rattle.std.proofs.Common.{ap, arith}
-use Rattle.std.specs.Prelude.{option_copied}
+use Rattle.std.proofs.Common.{ap, arith, option_copied}
 use Rattle.position_files.proofs.AnswerLaws.{bad_at, bad_next}
 use Rattle.position_files.proofs.answers.reply.Goals as goal
 

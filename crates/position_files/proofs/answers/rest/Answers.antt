@@ -1,5 +1,4 @@
-use Rattle.std.proofs.Common.{ap, arith}
-use Rattle.std.specs.Prelude.{option_copied}
+use Rattle.std.proofs.Common.{ap, arith, option_copied}
 use Rattle.std.proofs.lemmas.Bool.{both_ways}
 use Rattle.position_files.proofs.AnswerLaws.{no_rest_word, no_rest_number}
 use Rattle.position_files.proofs.answers.rest.Goals as goal

@@ -2,8 +2,7 @@ use Rattle.std.proofs.Common.{ℕ, List, Bor, refl}
 use Rattle.text_lines.specs.declared.fault.Fault.TheVariants.{Bad}
 use Rattle.position_files.specs.Sections.{IsBoardLines}
 use Rattle.text_lines.proofs.FaultLaws.{fault_result}
-use Rattle.position_files.proofs.BoardLaws.{board_found, none_at_first, none_then}
-use Rattle.position_files.proofs.BoardLines.{fault_at, no_rule_line, no_size_line, no_black_line, no_white_line}
+use Rattle.position_files.proofs.BoardLines.{board_found, none_at_first, none_then, fault_at, no_rule_line, no_size_line, no_black_line, no_white_line}
 use Rattle.game_rules.specs.declared.Side.TheVariants.{Black}
 use Rattle.position_files.proofs.boards.read_board.Goals as goal
 

@@ -3,11 +3,10 @@ use Rattle.std.specs.List.{AllByRecursion}
 use Rattle.std.proofs.lemmas.Result.{err_from_is_err_and}
 use Rattle.game_rules.specs.declared.Point.{Point}
 use Rattle.text_lines.specs.declared.fault.Fault.TheVariants.{Bad}
-use Rattle.text_lines.specs.Spellings.{points_text}
+use Rattle.text_lines.proofs.Common.{points_text, IsWithin}
 use Rattle.position_files.specs.Positions.{stones}
-use Rattle.text_lines.specs.Reading.{IsWithin}
 use Rattle.text_lines.proofs.FaultLaws.{gives_bad, same_fault}
-use Rattle.position_files.proofs.BoardLaws.{stones_first, stones_fit, listed_stones}
+use Rattle.position_files.proofs.BoardLines.{stones_first, stones_fit, listed_stones}
 use Rattle.position_files.proofs.boards.stones_line.Goals as goal
 
 pub returns-in_err-points-clause-bad : goal.returns-in_err-points-clause-bad

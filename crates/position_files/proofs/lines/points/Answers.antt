@@ -1,9 +1,7 @@
-use Rattle.std.proofs.Common.{ℕ, arith, List, [], ◌∷◌, Bor, length, length-append, ap, subst, option_copied}
-use Rattle.std.specs.Prelude.{Option}
-use Rattle.text_lines.specs.Spellings.{space, point_text}
-use Rattle.text_lines.specs.Reading.{IsWithin, tail_text}
+use Rattle.std.proofs.Common.{ℕ, arith, List, [], ◌∷◌, Bor, length, length-append, ap, subst, option_copied, Option}
+use Rattle.text_lines.proofs.Common.{space, point_text, IsWithin, tail_text}
 use Rattle.text_lines.proofs.Items.{Follows, begins, stops, goes_on, ends}
-use Rattle.text_lines.proofs.PointLaws.{point_items}
+use Rattle.text_lines.proofs.LineLaws.{point_items}
 use Rattle.position_files.proofs.Spellings.{side_fits}
 use Rattle.position_files.proofs.lines.points.Goals as goal
 
@@ -21,8 +19,7 @@ returns-in_default-point c =
 pub loop-rest-smaller : goal.loop-rest-smaller
 loop-rest-smaller c =
     let before = ap (λ (t : Option (Bor (List ℕ))). length (tail_text space (option_copied t))) c.in-Some.is in
-    let parts = ap length c.cut.ensures.parts in
-    omega (arith, before, parts, length-append c.cut.result.0.now (tail_text space (option_copied c.cut.result.1)))
+    omega (arith, before, ap length c.cut.ensures.parts, length-append c.cut.result.0.now (tail_text space (option_copied c.cut.result.1)))
 
 pub loop-rest-preserved : goal.loop-rest-preserved
 loop-rest-preserved c =

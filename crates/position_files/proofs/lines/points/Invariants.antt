@@ -1,6 +1,5 @@
 use Rattle.std.proofs.Common.{length, option_copied}
-use Rattle.text_lines.specs.Spellings.{space, point_text}
-use Rattle.text_lines.specs.Reading.{IsWithin, tail_text}
+use Rattle.text_lines.proofs.Common.{space, point_text, IsWithin, tail_text}
 use Rattle.text_lines.proofs.Items.{Follows}
 use Rattle.position_files.proofs.lines.points.Given as goal
 

@@ -1,5 +1,4 @@
-use Rattle.std.proofs.Common.{refl}
-use Rattle.std.specs.Prelude.{codes}
+use Rattle.std.proofs.Common.{refl, codes}
 use Rattle.game_rules.specs.declared.RuleKind.{RuleKind}
 use Rattle.position_files.specs.Positions.{rule_word}
 use Rattle.text_lines.proofs.LineLaws.{prefix_bad}

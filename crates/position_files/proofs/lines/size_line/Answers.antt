@@ -1,7 +1,5 @@
-use Rattle.std.proofs.Common.{refl, ℕ}
-use Rattle.std.specs.Prelude.{codes}
-use Rattle.position_files.specs.Positions.{size_text}
-use Rattle.position_files.specs.Boards.{AreSides}
+use Rattle.std.proofs.Common.{refl, ℕ, codes}
+use Rattle.position_files.proofs.Common.{size_text, AreSides}
 use Rattle.text_lines.proofs.LineLaws.{prefix_none, prefix_bad}
 use Rattle.position_files.proofs.Spellings.{size-free}
 use Rattle.position_files.proofs.lines.size_line.Goals as goal

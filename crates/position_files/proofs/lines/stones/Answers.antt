@@ -1,7 +1,6 @@
 use Rattle.std.proofs.Common.{option_copied}
 use Rattle.std.proofs.lemmas.Bool.{both_ways}
-use Rattle.text_lines.specs.Spellings.{point_text}
-use Rattle.text_lines.specs.Reading.{IsWithin}
+use Rattle.text_lines.proofs.Common.{point_text, IsWithin}
 use Rattle.text_lines.proofs.Items.{first_word, gives_after_word}
 use Rattle.position_files.proofs.lines.stones.Goals as goal
 

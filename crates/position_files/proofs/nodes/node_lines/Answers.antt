@@ -2,7 +2,7 @@ use Rattle.std.proofs.Common.{ℕ, List, Bor, subst}
 use Rattle.strategy_graph.specs.Tables.{IsTable}
 use Rattle.text_lines.specs.declared.fault.Fault.TheVariants.{Bad}
 use Rattle.text_lines.proofs.FaultLaws.{fault_result}
-use Rattle.position_files.proofs.NodeBad.{nodes_fault}
+use Rattle.position_files.proofs.SectionLaws.{nodes_fault}
 use Rattle.position_files.proofs.nodes.node_lines.Goals as goal
 
 pub returns-in-Err-clause-refused : goal.returns-in-Err-clause-refused

@@ -1,4 +1,4 @@
-use Rattle.position_files.proofs.NodeLaws.{AreRead}
+use Rattle.position_files.proofs.SectionLaws.{AreRead}
 use Rattle.position_files.proofs.nodes.node_lines.Given as goal
 
 abbrev pub invariant-loop-number : goal.invariant-loop-number

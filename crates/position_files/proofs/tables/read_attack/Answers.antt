@@ -1,14 +1,11 @@
-use Rattle.std.proofs.Common.{refl, sym, subst, ◌∙◌, ◌-◌, ◌∷◌, ◌++◌, arith}
+use Rattle.std.proofs.Common.{refl, sym, subst, ◌∙◌, ◌-◌, ◌∷◌, ◌++◌, arith, codes}
 use Rattle.std.proofs.lemmas.Result.{IfOk-weaker, IfErr-weaker}
 use Rattle.strategy_graph.specs.declared.roots.Root.TheVariants.{Attack}
-use Rattle.std.specs.Prelude.{codes}
 use Rattle.position_files.specs.declared.TableFile.{TableFile}
 use Rattle.text_lines.specs.Lines.{line_feed, FirstBad}
-use Rattle.position_files.specs.Tables.{IsTextOfTable, IsTableText}
-use Rattle.position_files.specs.Bodies.{IsFinished, IsFinishFault}
+use Rattle.position_files.proofs.Common.{IsTextOfTable, IsTableText, IsFinished, IsFinishFault, IsTableFault}
 use Rattle.text_lines.proofs.TextLaws.{no_bytes, some_bytes}
 use Rattle.position_files.proofs.TableLaws.{attack_text, attack_text_of}
-use Rattle.position_files.specs.Faults.{IsTableFault}
 use Rattle.position_files.proofs.TableBad.{attack_body_fault, attack_too_many, finish_fault}
 use Rattle.position_files.proofs.tables.read_attack.Goals as goal
 

@@ -4,10 +4,8 @@ use Rattle.std.proofs.lemmas.Result.{err_from_is_err_and}
 use Rattle.strategy_graph.specs.declared.TheConstants.{MAX_NODES}
 use Rattle.text_lines.specs.Reading.{IsBetween}
 use Rattle.text_lines.proofs.TextLaws.{front_rest}
-use Rattle.position_files.specs.Answers.{NodeFits}
-use Rattle.position_files.specs.Bodies.{IsBodyLines}
-use Rattle.position_files.specs.Sections.{IsBoardLines}
-use Rattle.position_files.proofs.NodeLaws.{body_text, nodes_on}
+use Rattle.position_files.proofs.Common.{NodeFits, IsBodyLines, IsBoardLines}
+use Rattle.position_files.proofs.SectionLaws.{body_text, nodes_on}
 use Rattle.position_files.proofs.BodyBad.{head_part, fault_in, no_moves_line, no_nodes_line, body_nodes_fault}
 use Rattle.position_files.proofs.tables.read_body.Goals as goal
 

@@ -1,15 +1,11 @@
-use Rattle.std.proofs.Common.{◌∷◌, ◌++◌, subst, refl, arith}
-use Rattle.std.specs.Prelude.{codes}
+use Rattle.std.proofs.Common.{◌∷◌, ◌++◌, subst, refl, arith, codes}
 use Rattle.std.proofs.lemmas.Result.{IfOk-weaker, IfErr-weaker}
 use Rattle.strategy_graph.specs.Tables.{Answers}
 use Rattle.strategy_graph.specs.declared.roots.Root.TheVariants.{Defend}
 use Rattle.text_lines.specs.Lines.{line_feed, FirstBad}
 use Rattle.text_lines.proofs.TextLaws.{front_ends, front_goes_on}
 use Rattle.position_files.specs.declared.TableFile.{TableFile}
-use Rattle.position_files.specs.Tables.{IsTextOfTable, IsTableText}
-use Rattle.position_files.specs.Answers.{StartFits}
-use Rattle.position_files.specs.Bodies.{IsFinished, IsFinishFault}
-use Rattle.position_files.specs.Faults.{IsTableFault}
+use Rattle.position_files.proofs.Common.{IsTextOfTable, IsTableText, StartFits, IsFinished, IsFinishFault, IsTableFault}
 use Rattle.position_files.proofs.TableLaws.{defend_text, defend_text_of}
 use Rattle.position_files.proofs.SectionLaws.{start_parts}
 use Rattle.position_files.proofs.TableBad.{defend_body_fault, start_fault, defend_too_many, finish_fault}

@@ -1,8 +1,6 @@
-use Rattle.std.proofs.Common.{ℕ, List, ◌++◌, Bor, sym, ap, ◌∙◌}
-use Rattle.std.specs.Prelude.{Option, option_copied}
+use Rattle.std.proofs.Common.{ℕ, List, ◌++◌, Bor, sym, ap, ◌∙◌, Option, option_copied}
 use Rattle.std.specs.Fmt.{decimal}
-use Rattle.text_lines.specs.Spellings.{comma}
-use Rattle.text_lines.specs.Reading.{tail_text}
+use Rattle.text_lines.proofs.Common.{comma, tail_text}
 use Rattle.position_files.proofs.Spellings.{bad_width, bad_height, bad_square}
 use Rattle.position_files.proofs.words.size.Goals as goal
 

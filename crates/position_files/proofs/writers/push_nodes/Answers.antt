@@ -1,4 +1,4 @@
-use Rattle.std.specs.Prelude.{string_bytes}
+use Rattle.std.proofs.Common.{string_bytes}
 use Rattle.position_files.proofs.Growth.{node_grown}
 use Rattle.position_files.proofs.writers.push_nodes.Goals as goal
 

@@ -1,5 +1,4 @@
-use Rattle.std.proofs.Common.{◌≡◌, ◌++◌, take, map}
-use Rattle.std.specs.Prelude.{string_bytes}
+use Rattle.std.proofs.Common.{◌≡◌, ◌++◌, take, map, string_bytes}
 use Rattle.text_lines.specs.Lines.{text_of}
 use Rattle.position_files.specs.Tables.{node_line}
 use Rattle.position_files.proofs.writers.push_nodes.Given as goal

@@ -1,6 +1,5 @@
-use Rattle.std.proofs.Common.{append_assoc}
-use Rattle.std.specs.Prelude.{string_bytes}
-use Rattle.text_lines.proofs.Growth.{regroup}
+use Rattle.std.proofs.Common.{append_assoc, string_bytes}
+use Rattle.text_lines.proofs.TextLaws.{regroup}
 use Rattle.position_files.proofs.writers.spaced_reply.Goals as goal
 
 pub returns : goal.returns

@@ -1,5 +1,4 @@
-use Rattle.std.proofs.Common.{◌≡◌, ◌++◌, filter}
-use Rattle.std.specs.Prelude.{string_bytes}
+use Rattle.std.proofs.Common.{◌≡◌, ◌++◌, filter, string_bytes}
 use Rattle.game_rules.specs.Grid.{holds, points_of}
 use Rattle.text_lines.specs.Spellings.{points_text}
 use Rattle.position_files.proofs.written.push_stones.Given as goal

@@ -27,8 +27,7 @@ loop-alloc-smaller g c =
     let more : closed_nodes c.loop-alloc.tree < closed_nodes c.step.new.tree = on-done c.in_ok-step.field-0 (closed_nodes c.loop-alloc.tree < closed_nodes c.step.new.tree) ℕ ℕ c.in-Done.is c.in_ok-step.ensures.progress in
     let searching : Searches g.R.Rule.KIND c.step.new.self c.step.new.tree c.step.new.compiler (λ i. ⊥) = on-done c.in_ok-step.field-0 (Searches g.R.Rule.KIND c.step.new.self c.step.new.tree c.step.new.compiler (λ i. ⊥)) (c.step.new.tree ≡ c.loop-alloc.tree) ℕ c.in-Done.is c.in_ok-step.ensures.searching in
     let few = closed-few g.R.Rule.KIND c.step.new.self c.step.new.tree c.step.new.compiler searching in
-    let same = c.in_ok-step.ensures.aim.budget in
-    omega (arith, more, few, same)
+    omega (arith, more, few, c.in_ok-step.ensures.aim.budget)
 
 pub index-requires : goal.index-requires
 index-requires g c = let low = root-noted g.R.Rule.KIND c.loop-alloc.search c.loop-alloc.tree c.loop-alloc.compiler c.loop-alloc.invariant.searching in omega (arith, low)

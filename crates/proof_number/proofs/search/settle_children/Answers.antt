@@ -1,16 +1,14 @@
-use Rattle.std.proofs.Common.{rules, ℕ, ◌≤◌, ◌∙◌, refl, ap, subst, arith, [], ◌∷◌, ◌++◌}
-use Rattle.std.specs.Prelude.{IfSome}
+use Rattle.std.proofs.Common.{rules, ℕ, ◌≤◌, ◌∙◌, refl, ap, subst, arith, [], ◌∷◌, ◌++◌, IfSome}
 use Rattle.game_rules.proofs.Common.{Grid, after}
 use Rattle.strategy_graph.specs.declared.TheConstants.{MAX_NODES}
 use Rattle.strategy_graph.proofs.Filling.{IsTable-lower}
 use Rattle.strategy_compiler.specs.declared.wins.WrittenWin.{WrittenWin}
 use Rattle.proof_number.specs.declared.notes.Note.{Note}
 use Rattle.threat_game.specs.declared.replies.Child.{Child}
-use Rattle.threat_game.specs.Wins.{IsThreatWin}
+use Rattle.threat_game.proofs.Common.{IsThreatWin, moves_for}
 use Rattle.proof_number.specs.Children.{child_at, child_note, no_child}
-use Rattle.threat_game.specs.Replies.{moves_for}
-use Rattle.threat_game.proofs.Counting.{moves-few}
-use Rattle.proof_number.proofs.ChildNotes.{more-settled, no-room, nodes-more, nodes-within}
+use Rattle.threat_game.proofs.TreeLaws.{moves-few}
+use Rattle.proof_number.proofs.Defending.{more-settled, no-room, nodes-more, nodes-within}
 use Rattle.proof_number.proofs.search.settle_children.Goals as goal
 
 pub returns-in_err-win-clause-grows : goal.returns-in_err-win-clause-grows

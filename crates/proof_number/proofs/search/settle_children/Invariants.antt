@@ -1,5 +1,4 @@
-use Rattle.std.proofs.Common.{◌≡◌, take}
-use Rattle.std.specs.List.{sum_by}
+use Rattle.std.proofs.Common.{◌≡◌, take, sum_by}
 use Rattle.proof_number.specs.Children.{AreSettled}
 use Rattle.strategy_compiler.specs.Growth.{GrowsBy}
 use Rattle.threat_game.specs.Replies.{nodes_for}

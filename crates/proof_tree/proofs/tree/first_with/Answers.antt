@@ -1,7 +1,6 @@
-use Rattle.std.proofs.Common.{length, sym, ◌∙◌, arith}
+use Rattle.std.proofs.Common.{length, sym, ◌∙◌, arith, nat_eq}
 use Rattle.std.proofs.lemmas.Bool.{eq-eqb, ne_eqb}
 use Rattle.std.proofs.lemmas.List.Sums.{position_or_len_is}
-use Rattle.std.specs.Prelude.{nat_eq}
 use Rattle.proof_tree.specs.Combining.{no_numbers, sought}
 use Rattle.proof_tree.proofs.tree.first_with.Goals as goal
 

@@ -1,6 +1,5 @@
 use Rattle.std.proofs.Common.{◌≢◌, ◌<◌, ℕ}
-use Rattle.proof_tree.specs.Combining.{sought}
-use Rattle.proof_tree.specs.Trees.{numbers_at}
+use Rattle.proof_tree.proofs.Common.{sought, numbers_at}
 use Rattle.proof_tree.proofs.tree.first_with.Given as goal
 
 abbrev pub invariant-loop-i : goal.invariant-loop-i

@@ -1,7 +1,6 @@
 use Rattle.std.proofs.Common.{◌≡◌, ◌<◌, ℕ, set, refl, inr, sym, ◌∙◌, subst, arith}
 use Rattle.std.proofs.lemmas.List.{get_or-set_same}
-use Rattle.proof_tree.specs.Combining.{no_numbers}
-use Rattle.proof_tree.specs.Trees.{IsNumbered, link_at}
+use Rattle.proof_tree.proofs.Common.{no_numbers, IsNumbered, link_at}
 use Rattle.proof_tree.proofs.LeafSums.{leaf_sum-set}
 use Rattle.proof_tree.proofs.Updated.{IsRightBut, others-written}
 use Rattle.proof_tree.proofs.Changed.{above-parent, not-above, settled-leaf, settled-nothing, settled-root}

@@ -1,6 +1,5 @@
 use Rattle.std.proofs.Common.{◌≡◌, ◌<◌, ℕ, List, map, set, inl, sym, ◌∙◌, ap, subst, arith}
-use Rattle.proof_tree.specs.Combining.{combined, finite_sum, sought}
-use Rattle.proof_tree.specs.Trees.{IsNumbered, children_of, link_at}
+use Rattle.proof_tree.proofs.Common.{combined, finite_sum, sought, IsNumbered, children_of, link_at}
 use Rattle.proof_tree.specs.declared.Link.{Link}
 use Rattle.proof_tree.specs.declared.Numbers.{Numbers}
 use Rattle.proof_tree.specs.declared.TheConstants.{INFINITE}

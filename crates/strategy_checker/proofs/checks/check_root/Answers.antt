@@ -2,7 +2,7 @@
 use Rattle.std.proofs.Common.{rules, refl, sym, subst, ℕ}
 use Rattle.std.proofs.lemmas.Result.{IfOk-weaker}
 use Rattle.strategy_graph.specs.Roots.{AcceptedRoot, LeadsRoot, RootWins, root_arrivals}
-use Rattle.strategy_graph.proofs.RootLaws.{accepted-root-wins, leads-refutes-root}
+use Rattle.strategy_graph.proofs.Starts.{accepted-root-wins, leads-refutes-root}
 use Rattle.strategy_checker.proofs.Refusals.{verdict-right, accepts-then}
 use Rattle.strategy_checker.proofs.checks.check_root.Goals as goal
 

@@ -1,7 +1,7 @@
 -- What the set says of the node, by the place at which an equal one is found or put.
 use Rattle.std.proofs.Common.{refl, sym, arith}
 use Rattle.strategy_graph.proofs.Equal.{position-found, Contains-found, list_any-Contains, stored-at}
-use Rattle.strategy_compiler.proofs.Sets.{PutsIn-insert_key, PutsIn-found, IsCompiled-insert_key}
+use Rattle.strategy_compiler.proofs.Briefs.{PutsIn-insert_key, PutsIn-found, IsCompiled-insert_key}
 use Rattle.strategy_compiler.proofs.compiler.put_in.Goals as goal
 
 pub returns-in_default-clause-full : goal.returns-in_default-clause-full

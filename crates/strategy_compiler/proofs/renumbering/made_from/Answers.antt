@@ -1,6 +1,6 @@
 use Rattle.std.proofs.Common.{List, ℕ, subst}
 use Rattle.strategy_compiler.specs.Walks.{Renumbers}
-use Rattle.strategy_compiler.proofs.Finishing.{made-from}
+use Rattle.strategy_compiler.proofs.Places.{made-from}
 use Rattle.strategy_compiler.proofs.renumbering.made_from.Goals as goal
 
 pub returns-clause-made : goal.returns-clause-made

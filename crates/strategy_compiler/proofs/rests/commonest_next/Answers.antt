@@ -1,6 +1,6 @@
 use Rattle.std.proofs.Common.{sym}
 use Rattle.strategy_graph.specs.declared.Reply.{Reply}
-use Rattle.strategy_compiler.proofs.Commonest.{best-none, commonest-greater, commonest-kept, commonest-again, equal_best, commonest-all, answers_of_node}
+use Rattle.strategy_compiler.proofs.Briefs.{best-none, commonest-greater, commonest-kept, commonest-again, equal_best, commonest-all, answers_of_node}
 use Rattle.strategy_compiler.proofs.rests.commonest_next.Goals as goal
 use Rattle.strategy_compiler.proofs.rests.commonest_next.Goals.{then-count-most, else-count-most}
 

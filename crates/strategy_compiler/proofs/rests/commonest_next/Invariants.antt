@@ -1,5 +1,5 @@
 use Rattle.std.proofs.Common.{take}
-use Rattle.strategy_compiler.proofs.Commonest.{IsCommonestSoFar}
+use Rattle.strategy_compiler.proofs.Briefs.{IsCommonestSoFar}
 use Rattle.strategy_compiler.proofs.rests.commonest_next.Given as goal
 
 abbrev pub invariant-loop-answer : goal.invariant-loop-answer

@@ -2,8 +2,7 @@
 use Rattle.std.proofs.Common.{◌≡◌, true, ℕ, length, ap, sym, subst, ◌∙◌}
 use Rattle.strategy_graph.specs.Tables.{is_rising, names_below}
 use Rattle.strategy_graph.proofs.Filling.{IsTable-lower}
-use Rattle.strategy_compiler.specs.Walks.{completed_from}
-use Rattle.strategy_compiler.specs.Orders.{ArePlaces}
+use Rattle.strategy_compiler.proofs.Common.{completed_from, ArePlaces}
 use Rattle.strategy_compiler.proofs.Briefs.{brief-rising}
 use Rattle.strategy_compiler.proofs.Starting.{brief-is, brief-below, visits-low, start-made}
 use Rattle.strategy_compiler.proofs.starts.start_from.Goals as goal

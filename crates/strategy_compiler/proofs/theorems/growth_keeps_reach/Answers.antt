@@ -1,4 +1,4 @@
-use Rattle.strategy_compiler.proofs.Reaching.{growth_keeps-reach}
+use Rattle.strategy_compiler.proofs.Standing.{growth_keeps-reach}
 use Rattle.strategy_compiler.proofs.theorems.growth_keeps_reach.Goals as goal
 
 pub returns : goal.returns

@@ -1,4 +1,4 @@
-use Rattle.strategy_compiler.proofs.Winning.{growth_keeps-wins}
+use Rattle.strategy_compiler.proofs.Growing.{growth_keeps-wins}
 use Rattle.strategy_compiler.proofs.theorems.growth_keeps_wins.Goals as goal
 
 pub returns : goal.returns

@@ -1,7 +1,6 @@
 -- The walk goes down to a node that is not completed, or completes the last one of its way.
 use Rattle.std.proofs.Common.{◌*◌, ◌+◌, length, refl}
-use Rattle.strategy_compiler.specs.Walks.{completed_after}
-use Rattle.strategy_compiler.specs.Orders.{unset}
+use Rattle.strategy_compiler.proofs.Common.{completed_after, unset}
 use Rattle.strategy_compiler.proofs.Walking.{path-start, path-none, named-in-flags, path-push, path-push-lower, path-complete}
 use Rattle.strategy_compiler.proofs.walk.complete.Goals as goal
 

@@ -1,6 +1,5 @@
 use Rattle.std.proofs.Common.{◌+◌, ◌*◌, length, reverse}
-use Rattle.strategy_compiler.specs.Walks.{completed_after}
-use Rattle.strategy_compiler.specs.Orders.{unset}
+use Rattle.strategy_compiler.proofs.Common.{completed_after, unset}
 use Rattle.strategy_compiler.proofs.Walking.{IsWalk, front}
 use Rattle.strategy_compiler.proofs.walk.complete.Given as goal
 

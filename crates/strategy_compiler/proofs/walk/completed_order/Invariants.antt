@@ -1,6 +1,5 @@
 use Rattle.std.proofs.Common.{◌≡◌, take}
-use Rattle.strategy_compiler.specs.Walks.{completed_from}
-use Rattle.strategy_compiler.specs.Orders.{IsBetween}
+use Rattle.strategy_compiler.proofs.Common.{completed_from, IsBetween}
 use Rattle.strategy_compiler.proofs.walk.completed_order.Given as goal
 
 -- the walks from the roots so far

@@ -1,6 +1,5 @@
 -- The first of those that are left.
-use Rattle.std.proofs.Common.{sym, ap, ◌∙◌, not, false}
-use Rattle.std.specs.Prelude.{slice_index_or}
+use Rattle.std.proofs.Common.{sym, ap, ◌∙◌, not, false, slice_index_or}
 use Rattle.strategy_graph.specs.declared.Reply.{Reply}
 use Rattle.strategy_graph.proofs.Answering.{find-next_hit, find-next_miss, find-next_none}
 use Rattle.strategy_compiler.proofs.walk.first_listed.Goals as goal

@@ -1,5 +1,4 @@
-use Rattle.std.proofs.Common.{sym, ◌∙◌}
-use Rattle.std.specs.Prelude.{slice_index}
+use Rattle.std.proofs.Common.{sym, ◌∙◌, slice_index}
 use Rattle.strategy_graph.proofs.Naming.{greatest-none, greatest-some, reply-below}
 use Rattle.strategy_graph.proofs.depths.deepest.Goals as goal
 use Rattle.strategy_graph.proofs.depths.deepest.Goals.{in-None, in-Some}

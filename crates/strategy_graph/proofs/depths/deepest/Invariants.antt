@@ -1,5 +1,4 @@
-use Rattle.std.proofs.Common.{◌≡◌, max, map, drop}
-use Rattle.std.specs.Prelude.{slice_index}
+use Rattle.std.proofs.Common.{◌≡◌, max, map, drop, slice_index}
 use Rattle.strategy_graph.specs.Tables.{greatest, named}
 use Rattle.strategy_graph.proofs.Naming.{greatest_listed}
 use Rattle.strategy_graph.proofs.depths.deepest.Given as goal

@@ -1,4 +1,4 @@
-use Rattle.strategy_graph.proofs.Growth.{growth-same}
+use Rattle.strategy_graph.proofs.Filling.{growth-same}
 use Rattle.strategy_graph.proofs.theorems.growth_keeps.Goals as goal
 
 pub returns : goal.returns

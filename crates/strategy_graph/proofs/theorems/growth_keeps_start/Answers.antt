@@ -1,4 +1,4 @@
-use Rattle.strategy_graph.proofs.Growth.{growth-same-start}
+use Rattle.strategy_graph.proofs.Filling.{growth-same-start}
 use Rattle.strategy_graph.proofs.theorems.growth_keeps_start.Goals as goal
 
 pub returns : goal.returns

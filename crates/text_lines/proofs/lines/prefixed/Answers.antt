@@ -1,6 +1,5 @@
 use Rattle.std.proofs.Common.{◌≡◌, List, ℕ, ◌++◌, true}
-use Rattle.text_lines.specs.Lines.{line_feed}
-use Rattle.text_lines.specs.Reading.{is_free}
+use Rattle.text_lines.proofs.Common.{line_feed, is_free}
 use Rattle.text_lines.proofs.Cuts.{is_free-append}
 use Rattle.text_lines.proofs.LineLaws.{bad_line}
 use Rattle.text_lines.proofs.lines.prefixed.Goals as goal

@@ -1,7 +1,6 @@
-use Rattle.std.proofs.Common.{◌≡◌, arith, sym, ap, ◌∙◌}
-use Rattle.std.specs.Prelude.{Some, option_copied}
+use Rattle.std.proofs.Common.{◌≡◌, arith, sym, ap, ◌∙◌, Some, option_copied}
 use Rattle.std.proofs.lemmas.Option.{same_Some}
-use Rattle.text_lines.proofs.PointLaws.{bad_column, bad_row}
+use Rattle.text_lines.proofs.LineLaws.{bad_column, bad_row}
 use Rattle.text_lines.proofs.points.point.Goals as goal
 
 pub returns-in_err-x : goal.returns-in_err-x

@@ -4,7 +4,7 @@ use Rattle.game_rules.specs.Grid.{Grid, points_of}
 use Rattle.game_rules.specs.Games.{is_double_point}
 use Rattle.game_rules.proofs.Places.{find-some}
 use Rattle.threat_game.specs.NearDoubles.{FarAreNone}
-use Rattle.threat_game.proofs.NearDoubles.{nowhere-near}
+use Rattle.threat_game.proofs.NearLines.{nowhere-near}
 use Rattle.threat_game.proofs.attacks.has_double.Goals as goal
 
 pub is_double_by-requires-clause-far : goal.is_double_by-requires-clause-far

@@ -1,6 +1,6 @@
 use Rattle.std.proofs.Common.{ap, sym, ◌∙◌}
 use Rattle.game_rules.specs.Grid.{Grid, is_empty}
-use Rattle.threat_game.proofs.NearDoubles.{taken-no_move, no_threat-no_move, threat-move}
+use Rattle.threat_game.proofs.DoubleLaws.{taken-no_move, no_threat-no_move, threat-move}
 use Rattle.threat_game.proofs.attacks.is_new_threat.Goals as goal
 
 pub returns-then-not-is_empty-clause-threat : goal.returns-then-not-is_empty-clause-threat

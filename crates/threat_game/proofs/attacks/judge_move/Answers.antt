@@ -2,8 +2,7 @@ use Rattle.std.proofs.Common.{◌≡◌, true, false, ap, sym, ◌∙◌}
 use Rattle.game_rules.proofs.Common.{Grid, has_five, outcome, mover, other, after}
 use Rattle.game_rules.specs.declared.Outcome.TheVariants.{GoesOn}
 use Rattle.game_rules.proofs.Positions.{GoesOn-empty}
-use Rattle.threat_game.specs.ThreatGame.{is_threat_move}
-use Rattle.threat_game.specs.Attacks.{best_reply}
+use Rattle.threat_game.proofs.Common.{is_threat_move, best_reply}
 use Rattle.row_shapes.proofs.FiveLaws.{not_taken-five, taken-none}
 use Rattle.threat_game.proofs.AttackLaws.{threat-goes_on, no_threat-passed, unsafe-passed, reply-tried, saved-passed, fouls-last}
 use Rattle.threat_game.proofs.attacks.judge_move.Goals as goal

@@ -4,7 +4,7 @@ use Rattle.game_rules.specs.declared.Side.{Side}
 use Rattle.threat_moves.specs.ThreeMoves.{has_double_point}
 use Rattle.threat_moves.proofs.GainLaws.{threat-by_five, threat-by_double}
 use Rattle.threat_game.specs.NearDoubles.{is_some_point, some_makes_two}
-use Rattle.threat_game.proofs.NearDoubles.{some-five}
+use Rattle.threat_game.proofs.DoubleLaws.{some-five}
 use Rattle.threat_game.proofs.attacks.leaves_threat.Goals as goal
 
 pub returns-then-is_some_point-clause-threat : goal.returns-then-is_some_point-clause-threat

@@ -1,5 +1,4 @@
-use Rattle.std.proofs.Common.{◌≡◌, ◌++◌}
-use Rattle.std.specs.List.{filter}
+use Rattle.std.proofs.Common.{◌≡◌, ◌++◌, filter}
 use Rattle.game_rules.specs.Play.{outcome, goes_on}
 use Rattle.threat_game.specs.Replies.{replies_at}
 use Rattle.threat_game.proofs.doubles.all_replies.Given as goal

@@ -2,16 +2,12 @@ use Rattle.std.proofs.Common.{rules, ◌≡◌, ℕ, ◌≤◌, refl, ap, sym, s
 use Rattle.std.proofs.lemmas.Result.{IfOk-weaker}
 use Rattle.game_rules.proofs.Common.{Grid, after, outcome, goes_on}
 use Rattle.game_rules.specs.declared.RuleKind.{RuleKind}
-use Rattle.strategy_graph.proofs.ReadingOrder.{replies-rising}
-use Rattle.strategy_compiler.specs.Forks.{IsDoubleThreat, double_nodes}
-use Rattle.strategy_compiler.specs.Growth.{Writes}
-use Rattle.strategy_compiler.specs.Wins.{IsWrittenWin}
+use Rattle.strategy_graph.proofs.Rising.{replies-rising}
+use Rattle.strategy_compiler.proofs.Common.{IsDoubleThreat, double_nodes, Writes, IsWrittenWin}
 use Rattle.strategy_compiler.proofs.Growing.{grows-not, writes-memory}
-use Rattle.threat_game.specs.Wins.{IsThreatWin}
-use Rattle.threat_game.specs.Replies.{replies_at}
+use Rattle.threat_game.proofs.Common.{IsThreatWin, replies_at}
 use Rattle.threat_game.proofs.FreeMoves.{double-safe}
-use Rattle.threat_game.proofs.DoubleLaws.{double-threats}
-use Rattle.threat_game.proofs.DoubleNodes.{double-threat, nodes-are}
+use Rattle.threat_game.proofs.DoubleLaws.{double-threats, double-threat, nodes-are}
 use Rattle.threat_game.proofs.WrittenLaws.{threat-win}
 use Rattle.threat_game.proofs.doubles.compile_double.Goals as goal
 

@@ -1,5 +1,4 @@
-use Rattle.std.proofs.Common.{◌≡◌, ap, sym, subst, ◌∙◌, List}
-use Rattle.std.specs.Prelude.{All}
+use Rattle.std.proofs.Common.{◌≡◌, ap, sym, subst, ◌∙◌, List, All}
 use Rattle.std.proofs.lemmas.List.Elements.{All-push}
 use Rattle.game_rules.specs.Grid.{Grid, is_empty}
 use Rattle.threat_moves.proofs.GainLaws.{double-empty}

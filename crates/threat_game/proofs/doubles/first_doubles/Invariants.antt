@@ -1,5 +1,4 @@
-use Rattle.std.proofs.Common.{◌≡◌}
-use Rattle.std.specs.Prelude.{All}
+use Rattle.std.proofs.Common.{◌≡◌, All}
 use Rattle.threat_game.specs.Attacks.{LeavesBoth}
 use Rattle.threat_game.proofs.doubles.first_doubles.Given as goal
 

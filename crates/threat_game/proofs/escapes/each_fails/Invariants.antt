@@ -1,5 +1,4 @@
-use Rattle.std.proofs.Common.{◌≡◌, take}
-use Rattle.std.specs.List.{All}
+use Rattle.std.proofs.Common.{◌≡◌, take, All}
 use Rattle.game_rules.specs.Play.{after}
 use Rattle.threat_game.specs.Replies.{HasEscape}
 use Rattle.threat_game.proofs.escapes.each_fails.Given as goal

@@ -1,11 +1,10 @@
-use Rattle.std.proofs.Common.{◌≡◌, ◌∙◌, sym, subst, List}
-use Rattle.std.specs.List.{All}
+use Rattle.std.proofs.Common.{◌≡◌, ◌∙◌, sym, subst, List, All}
 use Rattle.game_rules.proofs.Common.{Grid, outcome}
 use Rattle.game_rules.specs.declared.Outcome.TheVariants.{GoesOn}
 use Rattle.game_rules.specs.declared.Point.{Point}
 use Rattle.threat_game.specs.declared.attacks.Attacks.TheVariants.{Moves}
 use Rattle.threat_game.specs.Attacks.{AreAttacks, tried_moves}
-use Rattle.threat_game.proofs.Escaping.{fails-told, tried-on}
+use Rattle.threat_game.proofs.FreeMoves.{fails-told, tried-on}
 use Rattle.threat_game.proofs.escapes.fails.Goals as goal
 
 pub each_fails-requires-clause-on : goal.each_fails-requires-clause-on

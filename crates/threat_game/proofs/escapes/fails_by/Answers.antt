@@ -1,5 +1,4 @@
-use Rattle.std.proofs.Common.{subst, ◌∙◌}
-use Rattle.std.specs.Prelude.{IfOk, IsTrue}
+use Rattle.std.proofs.Common.{subst, ◌∙◌, IfOk, IsTrue}
 use Rattle.game_rules.specs.Grid.{Grid}
 use Rattle.game_rules.proofs.Undo.{stone_back, lift_back, unwon_back}
 use Rattle.stone_board.proofs.BothBoards.{copy-empty, copy-played, copy-stone, copy-back}

@@ -1,4 +1,4 @@
-use Rattle.threat_game.proofs.ChildLaws.{escape-has}
+use Rattle.threat_game.proofs.ReplyLaws.{escape-has}
 use Rattle.threat_game.proofs.escapes.has_escape.Goals as goal
 
 pub returns-then-escapes_by-clause-escape : goal.returns-then-escapes_by-clause-escape

@@ -3,7 +3,7 @@ use Rattle.std.proofs.lemmas.Grind.{common_steps}
 use Rattle.std.specs.List.{list_any}
 use Rattle.game_rules.proofs.Common.{Grid, points_of, other, has_fouls}
 use Rattle.threat_game.specs.Attacks.{is_last_move}
-use Rattle.threat_game.proofs.LastLaws.{none-last, no_fouls-last}
+use Rattle.threat_game.proofs.AttackLaws.{none-last, no_fouls-last}
 use Rattle.threat_game.proofs.last_moves.last_move.Goals as goal
 
 pub returns-then-not-has_fouls-clause-no_win : goal.returns-then-not-has_fouls-clause-no_win

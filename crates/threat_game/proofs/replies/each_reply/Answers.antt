@@ -2,9 +2,8 @@ use Rattle.std.proofs.Common.{rules, ◌≡◌, sym, subst, ◌∙◌, arith, Li
 use Rattle.std.proofs.lemmas.Grind.{common_steps}
 use Rattle.game_rules.proofs.Common.{Grid, IsPosition}
 use Rattle.game_rules.specs.declared.Point.{Point}
-use Rattle.threat_game.specs.FreeMoves.{EachGoesOn}
-use Rattle.threat_game.specs.Replies.{IsJudgement}
-use Rattle.threat_game.proofs.ChildLaws.{SoFar, all-children, room-is, step-more}
+use Rattle.threat_game.proofs.Common.{EachGoesOn, IsJudgement}
+use Rattle.threat_game.proofs.ReplyLaws.{SoFar, all-children, room-is, step-more}
 use Rattle.threat_game.proofs.replies.each_reply.Goals as goal
 
 pub add-requires-clause-room : goal.add-requires-clause-room

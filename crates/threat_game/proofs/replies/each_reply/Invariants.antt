@@ -1,5 +1,5 @@
 use Rattle.std.proofs.Common.{◌≡◌}
-use Rattle.threat_game.proofs.ChildLaws.{SoFar}
+use Rattle.threat_game.proofs.ReplyLaws.{SoFar}
 use Rattle.threat_game.proofs.replies.each_reply.Given as goal
 
 -- the view is as before, and the board; the children are the replies before the points left

@@ -1,5 +1,4 @@
-use Rattle.std.proofs.Common.{◌≡◌, not, drop}
-use Rattle.std.specs.List.{find}
+use Rattle.std.proofs.Common.{◌≡◌, not, drop, find}
 use Rattle.game_rules.specs.Shapes.{is_same_point}
 use Rattle.threat_game.proofs.replies.five_beside.Given as goal
 

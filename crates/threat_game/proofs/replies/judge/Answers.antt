@@ -1,13 +1,10 @@
-use Rattle.std.proofs.Common.{◌≡◌, ap, sym, subst, refl, ◌∙◌, arith}
-use Rattle.std.specs.Prelude.{All, IfOk}
+use Rattle.std.proofs.Common.{◌≡◌, ap, sym, subst, refl, ◌∙◌, arith, All, IfOk}
 use Rattle.game_rules.proofs.Common.{Grid, has_five, outcome, mover, other, after}
 use Rattle.game_rules.specs.declared.Outcome.TheVariants.{GoesOn}
 use Rattle.game_rules.proofs.Outcomes.{goes_on-is}
-use Rattle.threat_game.specs.Attacks.{LeavesBoth}
+use Rattle.threat_game.proofs.Common.{LeavesBoth, IsJudgement}
 use Rattle.threat_game.specs.declared.replies.Judged.TheVariants.{Five}
-use Rattle.threat_game.specs.Replies.{IsJudgement}
-use Rattle.threat_game.proofs.ReplyLaws.{first-beside, none-beside}
-use Rattle.threat_game.proofs.ChildLaws.{child-is}
+use Rattle.threat_game.proofs.ReplyLaws.{first-beside, none-beside, child-is}
 use Rattle.threat_game.proofs.replies.judge.Goals as goal
 
 pub returns-in-Some-clause-judgement : goal.returns-in-Some-clause-judgement

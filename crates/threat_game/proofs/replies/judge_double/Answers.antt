@@ -1,11 +1,9 @@
-use Rattle.std.proofs.Common.{ap, sym, subst, ◌∙◌}
-use Rattle.std.specs.Prelude.{All}
+use Rattle.std.proofs.Common.{ap, sym, subst, ◌∙◌, All}
 use Rattle.game_rules.proofs.Common.{Grid, has_five, mover, other, after}
 use Rattle.game_rules.proofs.Positions.{GoesOn-empty, mover-other}
 use Rattle.row_shapes.proofs.FiveLaws.{has_five-none}
 use Rattle.game_rules.proofs.Undo.{stone_back, lift_back, unwon_back}
-use Rattle.threat_game.specs.Attacks.{LeavesBoth}
-use Rattle.threat_game.specs.Replies.{IsBeside, IsJudged}
+use Rattle.threat_game.proofs.Common.{LeavesBoth, IsBeside, IsJudged}
 use Rattle.threat_game.proofs.ReplyLaws.{all-kept}
 use Rattle.threat_game.proofs.replies.judge_double.Goals as goal
 

@@ -1,7 +1,7 @@
 use Rattle.std.proofs.Common.{ap, refl, arith}
 use Rattle.game_rules.proofs.Common.{Grid, after}
 use Rattle.threat_game.specs.declared.replies.Judged.TheVariants.{Last}
-use Rattle.threat_game.proofs.ChildLaws.{child-is, escape-is}
+use Rattle.threat_game.proofs.ReplyLaws.{child-is, escape-is}
 use Rattle.threat_game.proofs.replies.judge_quiet.Goals as goal
 
 pub returns-in-Some-clause-judgement : goal.returns-in-Some-clause-judgement

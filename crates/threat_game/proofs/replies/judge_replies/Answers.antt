@@ -1,5 +1,4 @@
-use Rattle.std.proofs.Common.{◌≡◌, ap, sym, subst, ◌∙◌, length, List}
-use Rattle.std.specs.Prelude.{All}
+use Rattle.std.proofs.Common.{◌≡◌, ap, sym, subst, ◌∙◌, length, List, All}
 use Rattle.game_rules.proofs.Common.{Grid, five_points, mover, other}
 use Rattle.game_rules.specs.declared.Side.{Side}
 use Rattle.threat_game.specs.declared.doubles.Double.{Double}

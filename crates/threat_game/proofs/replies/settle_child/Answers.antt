@@ -1,6 +1,6 @@
 use Rattle.std.proofs.Common.{◌∙◌}
 use Rattle.game_rules.proofs.Undo.{stone_back, lift_back, unwon_back}
-use Rattle.threat_game.proofs.SettleLaws.{five-settled, last-settled, double-settled}
+use Rattle.threat_game.proofs.WrittenLaws.{five-settled, last-settled, double-settled}
 use Rattle.threat_game.proofs.replies.settle_child.Goals as goal
 
 pub undo-requires-clause-stone : goal.undo-requires-clause-stone

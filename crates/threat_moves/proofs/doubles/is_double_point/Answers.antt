@@ -4,8 +4,7 @@ use Rattle.game_rules.proofs.Boards.{lift-put}
 use Rattle.row_shapes.specs.FivePoints.{in_short}
 use Rattle.stone_board.specs.Steps.{holds_stone}
 use Rattle.stone_board.proofs.Stones.{put-holds_stone}
-use Rattle.threat_moves.specs.Threats.{is_gain}
-use Rattle.threat_moves.specs.ThreeMoves.{is_several}
+use Rattle.threat_moves.proofs.Common.{is_gain, is_several}
 use Rattle.threat_moves.proofs.GainLaws.{gain-empty, no_gain-double, gain-double}
 use Rattle.threat_moves.proofs.doubles.is_double_point.Goals as goal
 

@@ -1,5 +1,4 @@
-use Rattle.std.proofs.Common.{◌≡◌, ◌++◌}
-use Rattle.std.specs.List.{filter}
+use Rattle.std.proofs.Common.{◌≡◌, ◌++◌, filter}
 use Rattle.threat_moves.specs.ThreeMoves.{is_three_move, three_moves}
 use Rattle.threat_moves.proofs.doubles.three_moves.Given as goal
 

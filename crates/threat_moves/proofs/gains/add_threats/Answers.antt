@@ -2,7 +2,7 @@ use Rattle.std.proofs.Common.{ℕ, ◌++◌, ◌<◌, List, sym, ap, subst, ◌�
 use Rattle.std.proofs.lemmas.List.{append-nil}
 use Rattle.row_shapes.specs.Reach.{stones_in_reach}
 use Rattle.threat_moves.specs.declared.threat_list.Threat.{Threat}
-use Rattle.threat_moves.proofs.StraightPoints.{few-no_threats}
+use Rattle.threat_moves.proofs.GainLaws.{few-no_threats}
 use Rattle.threat_moves.proofs.gains.add_threats.Goals as goal
 
 pub returns-then-stones_in_reach-lt2-clause-added : goal.returns-then-stones_in_reach-lt2-clause-added

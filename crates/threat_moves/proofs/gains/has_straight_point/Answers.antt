@@ -3,7 +3,7 @@ use Rattle.game_rules.specs.Grid.{along}
 use Rattle.game_rules.proofs.Boards.{answer_at}
 use Rattle.foul_judge.proofs.ThreePlaces.{bit_clear}
 use Rattle.threat_moves.specs.FiveEnds.{is_straight_at}
-use Rattle.threat_moves.proofs.StraightPoints.{straight_by_place, no_straight_place, not_straight}
+use Rattle.threat_moves.proofs.GainLaws.{straight_by_place, no_straight_place, not_straight}
 use Rattle.threat_moves.proofs.gains.has_straight_point.Goals as goal
 use Rattle.threat_moves.proofs.gains.has_straight_point.Goals.{else-line_points-place-eq1-via-then-line_points-place-eq1+else-is_free, else-line_points-place-eq1-via-else-line_points-place-eq1}
 

@@ -1,7 +1,7 @@
 use Rattle.std.proofs.Common.{sym, ◌∙◌}
 use Rattle.game_rules.specs.Grid.{along}
 use Rattle.stone_board.proofs.Looks.{kept-Some}
-use Rattle.threat_moves.proofs.StraightPoints.{no_straight, straight-gain}
+use Rattle.threat_moves.proofs.GainLaws.{no_straight, straight-gain}
 use Rattle.threat_moves.proofs.gains.is_free.Goals as goal
 
 pub returns-in-None-clause-straight : goal.returns-in-None-clause-straight

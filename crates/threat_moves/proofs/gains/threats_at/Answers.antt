@@ -1,6 +1,4 @@
-use Rattle.std.proofs.Common.{◌≡◌, true, List, sym, ap, subst, ◌∙◌}
-use Rattle.std.specs.Prelude.{IfOk}
-use Rattle.std.specs.List.{flat_map}
+use Rattle.std.proofs.Common.{◌≡◌, true, List, sym, ap, subst, ◌∙◌, IfOk, flat_map}
 use Rattle.game_rules.specs.Grid.{Grid, IsBoard, is_empty, put, lift, axes}
 use Rattle.game_rules.proofs.Boards.{lift-put, is_empty-on, holds-put_same}
 use Rattle.game_rules.proofs.Positions.{IsBoard-put}
@@ -8,8 +6,7 @@ use Rattle.stone_board.specs.Steps.{holds_stone}
 use Rattle.stone_board.proofs.Stones.{put-holds_stone}
 use Rattle.threat_moves.specs.declared.threat_list.Threat.{Threat}
 use Rattle.threat_moves.specs.Threats.{is_gain, threats_on}
-use Rattle.threat_moves.proofs.GainLaws.{gain-empty, no_gain-threats, gain-threats}
-use Rattle.threat_moves.proofs.StraightPoints.{no_threats}
+use Rattle.threat_moves.proofs.GainLaws.{gain-empty, no_gain-threats, gain-threats, no_threats}
 use Rattle.threat_moves.proofs.gains.threats_at.Goals as goal
 
 pub returns-then-not-may_threaten-clause-threats : goal.returns-then-not-may_threaten-clause-threats

@@ -1,5 +1,4 @@
-use Rattle.std.proofs.Common.{◌≡◌, ◌++◌}
-use Rattle.std.specs.List.{filter}
+use Rattle.std.proofs.Common.{◌≡◌, ◌++◌, filter}
 use Rattle.threat_moves.specs.FourMoves.{is_four_move, four_moves}
 use Rattle.threat_moves.proofs.moves.four_moves.Given as goal
 

@@ -1,5 +1,4 @@
-use Rattle.std.proofs.Common.{◌≡◌}
-use Rattle.std.specs.List.{find}
+use Rattle.std.proofs.Common.{◌≡◌, find}
 use Rattle.threat_space.specs.Sequences.{is_sequence, final_of}
 use Rattle.threat_space.proofs.needs.final_of.Given as goal
 

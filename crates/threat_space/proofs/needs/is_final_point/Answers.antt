@@ -1,5 +1,5 @@
 use Rattle.std.proofs.Common.{sym, ◌∙◌}
-use Rattle.threat_space.proofs.Stones.{new-final}
+use Rattle.threat_space.proofs.FarFinals.{new-final}
 use Rattle.threat_space.proofs.needs.is_final_point.Goals as goal
 
 pub returns-then-not-some_five-clause-least : goal.returns-then-not-some_five-clause-least

@@ -1,5 +1,4 @@
-use Rattle.std.proofs.Common.{◌≡◌, ◌++◌}
-use Rattle.std.specs.List.{filter}
+use Rattle.std.proofs.Common.{◌≡◌, ◌++◌, filter}
 use Rattle.game_rules.specs.Grid.{points_of}
 use Rattle.threat_space.specs.Lines.{may_make_two}
 use Rattle.threat_space.proofs.pairs.all_pairs.Given as goal

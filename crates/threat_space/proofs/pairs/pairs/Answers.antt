@@ -1,4 +1,4 @@
-use Rattle.threat_space.proofs.FarPairs.{filtered-pairs}
+use Rattle.threat_space.proofs.FarFinals.{filtered-pairs}
 use Rattle.threat_space.proofs.pairs.pairs.Goals as goal
 
 pub returns-then-has_fouls : goal.returns-then-has_fouls

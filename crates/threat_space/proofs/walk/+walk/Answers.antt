@@ -1,5 +1,4 @@
-use Rattle.std.proofs.Common.{rules, ◌≡◌, ◌+◌, ◌-◌, ◌*◌, ◌<◌, ◌++◌, false, List, [], ◌∷◌, ap, sym, subst, ◌∙◌, arith}
-use Rattle.std.specs.Prelude.{IfOk, Option}
+use Rattle.std.proofs.Common.{rules, ◌≡◌, ◌+◌, ◌-◌, ◌*◌, ◌<◌, ◌++◌, false, List, [], ◌∷◌, ap, sym, subst, ◌∙◌, arith, IfOk, Option}
 use Rattle.game_rules.specs.Grid.{Grid, IsBoard, is_empty}
 use Rattle.game_rules.specs.declared.Point.{Point}
 use Rattle.threat_moves.specs.declared.threat_list.Threat.{Threat}
@@ -8,7 +7,7 @@ use Rattle.threat_moves.proofs.ThreatLists.{after_path, shorter}
 use Rattle.threat_space.specs.Sequences.{final_of, lists_of, played, played_all}
 use Rattle.threat_space.specs.Lines.{HasPairsOf, HasPairsAfter}
 use Rattle.threat_space.specs.Looking.{looked}
-use Rattle.threat_space.proofs.FarPairs.{pairs-after}
+use Rattle.threat_space.proofs.FarFinals.{pairs-after}
 use Rattle.threat_space.proofs.Looked.{from_threats, from_threat, lists-none, played-more, gain-goes_on, gain-ends, gain-passes, gains-none, gains-all, threat-goes_on, threat-ends}
 use Rattle.threat_space.proofs.walk.+walk.Goals as goal
 

@@ -1,5 +1,4 @@
-use Rattle.std.proofs.Common.{◌≡◌, ◌<◌, true, cond, ap, ◌∙◌, arith}
-use Rattle.std.specs.List.{insert}
+use Rattle.std.proofs.Common.{◌≡◌, ◌<◌, true, cond, ap, ◌∙◌, arith, insert}
 use Rattle.std.specs.Result.{is_ok}
 use Rattle.std.specs.Vec.{vec_len, vec_capacity}
 use Rattle.line_tables.proofs.FiveLists.{is_in_already, comes_in, one_longer}

@@ -4,10 +4,9 @@ use Rattle.game_rules.specs.Grid.{Grid}
 use Rattle.proof_tree.specs.Trees.{IsOnWayUp, IsTree, link_at}
 use Rattle.proof_tree.specs.declared.Link.{Link}
 use Rattle.proof_number.specs.declared.search.Search.{Search}
-use Rattle.proof_number.specs.GameTrees.{GameTree, IsGameTree, board_at}
-use Rattle.proof_number.specs.Searches.{IsAbove, Searches, game_of}
-use Rattle.proof_number.proofs.GameBoards.{board-root}
-use Rattle.proof_number.proofs.Recorded.{board-searches, parent-searches, root-searches, way-game, way-tree}
+use Rattle.proof_number.proofs.Common.{GameTree, IsGameTree, board_at, IsAbove, Searches, game_of}
+use Rattle.proof_number.proofs.GameTruths.{board-root}
+use Rattle.proof_number.proofs.Recording.{board-searches, parent-searches, root-searches, way-game, way-tree}
 use Rattle.proof_number.proofs.search.Search.+go_back.Goals as goal
 
 pub returns-then-node-eq0-clause-searching : goal.returns-then-node-eq0-clause-searching
@@ -66,9 +65,7 @@ take_back-requires-clause-in_tree g t c =
     let tree : IsTree c.args.tree.now = way-tree g.R.Rule.KIND c.args.self.now c.args.tree.now c.args.compiler.now c.args.node c.requires.searching in
     let some : 0 < c.args.node = let e = c.if-node-eq0.false in omega (arith, e) in
     let up = ap (λ (l : Link). l.parent) c.link-parent.ensures.link in
-    let low = tree.linked.parent_first c.args.node some c.requires.in_tree in
-    let inside = c.requires.in_tree in
-    omega (arith, low, up, inside)
+    omega (arith, tree.linked.parent_first c.args.node some c.requires.in_tree, up, c.requires.in_tree)
 
 pub take_back-requires-clause-tree : goal.take_back-requires-clause-tree
 take_back-requires-clause-tree g t c = way-tree g.R.Rule.KIND c.args.self.now c.args.tree.now c.args.compiler.now c.args.node c.requires.searching

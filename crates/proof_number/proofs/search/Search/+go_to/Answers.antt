@@ -5,12 +5,9 @@ use Rattle.game_rules.specs.declared.Side.{Side}
 use Rattle.proof_tree.specs.declared.Link.{Link}
 use Rattle.proof_number.specs.declared.notes.Note.{Note}
 use Rattle.proof_number.specs.declared.search.Search.{Search}
-use Rattle.proof_number.specs.Notes.{no_note}
-use Rattle.proof_number.specs.GameTrees.{GameTree, board_at}
+use Rattle.proof_number.proofs.Common.{no_note, GameTree, board_at, game_of}
 use Rattle.threat_game.specs.ThreatGame.{move_at}
-use Rattle.proof_number.specs.Searches.{game_of}
-use Rattle.proof_number.proofs.GameBoards.{board-root}
-use Rattle.proof_number.proofs.GameWalks.{noted-move, move-on, move-empty, board-after}
+use Rattle.proof_number.proofs.GameTruths.{board-root, noted-move, move-on, move-empty, board-after}
 use Rattle.proof_number.proofs.search.Search.+go_to.Goals as goal
 
 pub returns-then-node-eq0-clause-view : goal.returns-then-node-eq0-clause-view

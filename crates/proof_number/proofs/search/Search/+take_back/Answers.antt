@@ -2,9 +2,8 @@ use Rattle.std.proofs.Common.{rules, ◌≡◌, ◌<◌, ℕ, sym, ap, subst, �
 use Rattle.game_rules.specs.Grid.{Grid}
 use Rattle.proof_tree.specs.declared.Link.{Link}
 use Rattle.proof_number.specs.declared.search.Search.{Search}
-use Rattle.proof_number.specs.GameTrees.{GameTree, IsGameTree, board_at}
-use Rattle.proof_number.specs.Searches.{game_of}
-use Rattle.proof_number.proofs.GameBoards.{board-root}
+use Rattle.proof_number.proofs.Common.{GameTree, IsGameTree, board_at, game_of}
+use Rattle.proof_number.proofs.GameTruths.{board-root}
 use Rattle.proof_number.proofs.search.Search.+take_back.Goals as goal
 
 pub returns-then-node-eq0-clause-view : goal.returns-then-node-eq0-clause-view

@@ -1,11 +1,9 @@
-use Rattle.std.proofs.Common.{◌≡◌, ◌∙◌, ◌<◌, sym, ap, subst, arith, length, false, refl}
-use Rattle.std.specs.Prelude.{Some}
+use Rattle.std.proofs.Common.{◌≡◌, ◌∙◌, ◌<◌, sym, ap, subst, arith, length, false, refl, Some}
 use Rattle.position_table.specs.Packing.{packed}
 use Rattle.position_table.specs.Remembering.{value_under}
 use Rattle.proof_number.specs.declared.notes.Settled.TheVariants.{Won, Lost}
 use Rattle.proof_number.specs.declared.search.Search.{Search}
-use Rattle.proof_number.specs.Notes.{note_at}
-use Rattle.proof_number.specs.Searches.{IsNotedWin}
+use Rattle.proof_number.proofs.Common.{note_at, IsNotedWin}
 use Rattle.strategy_compiler.specs.declared.wins.WrittenWin.{WrittenWin}
 use Rattle.proof_number.proofs.Steps.{leaf-found, leaf-is, leaf-noted, left-few, recalled-lost, recalled-stands, recalled-won, root-open, settled-at, step-from}
 use Rattle.proof_number.proofs.search.Search.attack.Goals as goal
@@ -28,8 +26,7 @@ settle_won-requires-clause-few g c =
     let found : Some (Won c.in-Some-Won.win) ≡ value_under (packed (g.V.Seen.position c.args.view.now), (note_at c.args.self.now.notes.items c.args.leaf).left) c.args.self.now.settled = ap Some (sym c.in-Some-Won.field-0-is) ∙ c.in-Some-Won.ensures.found in
     let known = leaf-found g.R.Rule.KIND c.args.self.now c.args.tree.now c.args.compiler.now c.args.leaf (g.V.Seen.position c.args.view.now) c.requires.at_leaf c.requires.attack (g.V.Seen.position c.args.view.now) (Won c.in-Some-Won.win) refl found in
     let few = left-few g.R.Rule.KIND c.args.self.now c.args.tree.now c.args.compiler.now c.args.leaf (g.V.Seen.position c.args.view.now) c.requires.at_leaf in
-    let within = known.0.within in
-    omega (arith, few, within, ap (λ (w : WrittenWin). w.moves) c.in-Some-Won.win-is)
+    omega (arith, few, known.0.within, ap (λ (w : WrittenWin). w.moves) c.in-Some-Won.win-is)
 
 pub returns-in-Some-Won-clause-step : goal.returns-in-Some-Won-clause-step
 returns-in-Some-Won-clause-step g c =

@@ -4,7 +4,7 @@ use Rattle.game_rules.proofs.Fives.{first_listed, none_listed}
 use Rattle.proof_tree.proofs.SumLaws.{lone-leaf}
 use Rattle.proof_number.specs.declared.search.Search.{Search}
 use Rattle.threat_game.specs.Wins.{IsThreatWin}
-use Rattle.threat_game.proofs.Counting.{few-moves}
+use Rattle.threat_game.proofs.TreeLaws.{few-moves}
 use Rattle.proof_number.proofs.Beginning.{begun-open, begun-won}
 use Rattle.proof_number.proofs.search.Search.begin.Goals as goal
 

@@ -4,7 +4,7 @@ use Rattle.proof_tree.specs.Trees.{link_at}
 use Rattle.proof_tree.specs.declared.Link.{Link}
 use Rattle.proof_number.specs.declared.notes.Note.{Note}
 use Rattle.proof_number.specs.Notes.{no_note, note_at}
-use Rattle.proof_number.proofs.Compiled.{compile-below, compile-few, compile-fits, compile-full, compile-here, compile-inside, compile-keeps, compile-kept, compile-noted, compile-rising, compile-searches, compile-some, compile-won}
+use Rattle.proof_number.proofs.Compiling.{compile-below, compile-few, compile-fits, compile-full, compile-here, compile-inside, compile-keeps, compile-kept, compile-noted, compile-rising, compile-searches, compile-some, compile-won}
 use Rattle.proof_number.proofs.Recording.{keeps-all}
 use Rattle.proof_number.proofs.search.Search.compile.Goals as goal
 

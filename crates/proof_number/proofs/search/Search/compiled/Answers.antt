@@ -1,8 +1,7 @@
 use Rattle.std.proofs.Common.{◌≡◌, ◌∙◌, sym, ap, arith, [], append-nil}
 use Rattle.std.proofs.lemmas.List.{get_or_default}
 use Rattle.proof_number.specs.Notes.{no_note, note_at, noted_win}
-use Rattle.proof_number.proofs.Recording.{keeps-all, noted-none}
-use Rattle.proof_number.proofs.Recorded.{noted-inside, noted-searches, noted-written}
+use Rattle.proof_number.proofs.Recording.{keeps-all, noted-none, noted-inside, noted-searches, noted-written}
 use Rattle.proof_number.proofs.search.Search.compiled.Goals as goal
 
 pub index-requires : goal.index-requires

@@ -1,6 +1,4 @@
-use Rattle.std.proofs.Common.{rules, ◌≡◌, ◌∙◌, ◌+◌, ◌<◌, ℕ, false, sym, ap, subst, arith, List, length}
-use Rattle.std.specs.Prelude.{IsErrOf, Some, None}
-use Rattle.std.specs.List.{sum_by}
+use Rattle.std.proofs.Common.{rules, ◌≡◌, ◌∙◌, ◌+◌, ◌<◌, ℕ, false, sym, ap, subst, arith, List, length, IsErrOf, Some, None, sum_by}
 use Rattle.std.proofs.lemmas.List.{get_or_default}
 use Rattle.game_rules.specs.Grid.{Grid}
 use Rattle.proof_tree.proofs.SumLaws.{fresh-numbers}
@@ -12,10 +10,9 @@ use Rattle.proof_number.specs.declared.search.Search.{Search}
 use Rattle.strategy_compiler.specs.Growth.{GrowsBy}
 use Rattle.proof_number.specs.Notes.{no_note, note_at}
 use Rattle.threat_game.specs.Replies.{AreChildren, AreReplies, HasEscape, nodes_for}
-use Rattle.proof_number.proofs.Steps.{leaf-board, leaf-is, leaf-noted, root-open, settled-at}
-use Rattle.proof_number.proofs.WonSteps.{attacked-few}
+use Rattle.proof_number.proofs.Steps.{leaf-board, leaf-is, leaf-noted, root-open, settled-at, attacked-few}
 use Rattle.proof_number.proofs.Defending.{all-fresh, defend-moves, defend-no_five, defend-reply, escape-grows, few-new, replies-few, replies-full, replies-grow, replies-spent, settled-same, some-new}
-use Rattle.proof_number.proofs.Widening.{budget-few, short-there, sums-there}
+use Rattle.proof_number.proofs.Expanding.{budget-few, short-there, sums-there}
 use Rattle.proof_number.proofs.search.Search.defend.Goals as goal
 
 pub index-requires : goal.index-requires

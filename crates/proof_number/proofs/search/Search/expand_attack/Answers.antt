@@ -1,5 +1,4 @@
-use Rattle.std.proofs.Common.{◌≡◌, ◌∙◌, false, ◌+◌, ◌-◌, ℕ, inl, refl, sym, ap, subst, arith, List, length, map, replicate}
-use Rattle.std.specs.List.{All}
+use Rattle.std.proofs.Common.{◌≡◌, ◌∙◌, false, ◌+◌, ◌-◌, ℕ, inl, refl, sym, ap, subst, arith, List, length, map, replicate, All}
 use Rattle.std.proofs.lemmas.List.{get_or_default, length-replicate, nil_from_length}
 use Rattle.std.proofs.lemmas.List.Elements.{All-replicate}
 use Rattle.game_rules.specs.declared.Point.{Point}
@@ -10,7 +9,7 @@ use Rattle.proof_number.specs.declared.search.Search.{Search}
 use Rattle.proof_number.specs.Notes.{no_note, note_at}
 use Rattle.proof_number.proofs.Steps.{attack-moves, leaf-is, leaf-noted, root-open, settled-at}
 use Rattle.proof_number.proofs.Attacking.{moves-grow, moves-spent, none-grows, open_note, open_one}
-use Rattle.proof_number.proofs.Widening.{budget-few, defended-few, short-there, sums-there}
+use Rattle.proof_number.proofs.Expanding.{budget-few, defended-few, short-there, sums-there}
 use Rattle.proof_number.proofs.search.Search.expand_attack.Goals as goal
 
 pub settle-requires : goal.settle-requires

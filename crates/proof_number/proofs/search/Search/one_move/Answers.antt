@@ -2,7 +2,7 @@ use Rattle.std.proofs.Common.{◌∙◌, refl, sym, ap, arith, false}
 use Rattle.proof_tree.proofs.SumLaws.{lone-leaf}
 use Rattle.proof_number.specs.declared.search.Search.{Search}
 use Rattle.threat_game.specs.Wins.{IsThreatWin}
-use Rattle.threat_game.proofs.Counting.{few-moves}
+use Rattle.threat_game.proofs.TreeLaws.{few-moves}
 use Rattle.proof_number.proofs.Beginning.{begun-lost, begun-won}
 use Rattle.proof_number.proofs.Steps.{settled-at}
 use Rattle.proof_number.proofs.search.Search.one_move.Goals as goal

@@ -1,13 +1,8 @@
-use Rattle.std.proofs.Common.{◌≡◌, ◌∙◌, ◌<◌, sym, ap, subst, arith, length}
-use Rattle.std.specs.Prelude.{Option, IfSome}
+use Rattle.std.proofs.Common.{◌≡◌, ◌∙◌, ◌<◌, sym, ap, subst, arith, length, Option, IfSome}
 use Rattle.proof_number.specs.declared.notes.Settled.{Settled}
-use Rattle.proof_number.specs.Notes.{no_note}
-use Rattle.proof_number.specs.GameTrees.{GameTree, board_at, left_at}
-use Rattle.proof_number.specs.Remembered.{IsTrueOf}
-use Rattle.proof_number.specs.Searches.{game_of}
-use Rattle.proof_number.proofs.GameWalks.{noted-left}
-use Rattle.proof_number.proofs.Recording.{keeps-then, remembered-keeps}
-use Rattle.proof_number.proofs.Recorded.{above-inside, kept-searches}
+use Rattle.proof_number.proofs.Common.{no_note, GameTree, board_at, left_at, IsTrueOf, game_of}
+use Rattle.proof_number.proofs.GameTruths.{noted-left}
+use Rattle.proof_number.proofs.Recording.{keeps-then, remembered-keeps, above-inside, kept-searches}
 use Rattle.proof_number.proofs.search.Search.record.Goals as goal
 
 pub index-requires : goal.index-requires

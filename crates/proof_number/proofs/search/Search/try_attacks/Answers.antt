@@ -2,8 +2,7 @@ use Rattle.std.proofs.Common.{◌≡◌, ◌∙◌, true, sym, ap, subst}
 use Rattle.game_rules.specs.Grid.{Grid}
 use Rattle.threat_game.specs.declared.attacks.Attacks.TheVariants.{NoReply, Moves}
 use Rattle.threat_game.specs.Attacks.{AreAttacks, OthersFail, is_last_move, tried_moves}
-use Rattle.proof_number.proofs.Steps.{attack-no_five, leaf-board}
-use Rattle.proof_number.proofs.WonSteps.{board-stands}
+use Rattle.proof_number.proofs.Steps.{attack-no_five, leaf-board, board-stands}
 use Rattle.proof_number.proofs.search.Search.try_attacks.Goals as goal
 
 pub find_attacks-requires-clause-none : goal.find_attacks-requires-clause-none

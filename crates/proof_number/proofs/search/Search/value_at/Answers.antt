@@ -1,10 +1,9 @@
 use Rattle.std.proofs.Common.{◌≡◌, ◌∙◌, sym, ap, inl, inr, true, false}
-use Rattle.proof_tree.specs.Combining.{is_settled, settled_numbers}
-use Rattle.proof_tree.specs.Trees.{numbers_at}
+use Rattle.proof_tree.proofs.Common.{is_settled, settled_numbers, numbers_at}
 use Rattle.proof_tree.specs.declared.Link.{Link}
 use Rattle.proof_tree.specs.declared.Numbers.{Numbers}
 use Rattle.proof_tree.proofs.Settled.{settled-lost, settled-won}
-use Rattle.proof_number.proofs.Recorded.{lost-there, other-searches, won-there}
+use Rattle.proof_number.proofs.Recording.{lost-there, other-searches, won-there}
 use Rattle.proof_number.proofs.search.Search.value_at.Goals as goal
 
 pub returns-in-Defend-clause-searching : goal.returns-in-Defend-clause-searching

@@ -1,18 +1,15 @@
 use Rattle.std.proofs.Common.{rules, ◌≡◌, ◌+◌, ℕ, ap, subst, arith}
 use Rattle.game_rules.specs.Grid.{Grid}
-use Rattle.threat_game.specs.Wins.{IsThreatWin}
+use Rattle.threat_game.proofs.Common.{IsThreatWin, answer_nodes}
 use Rattle.strategy_compiler.specs.Growth.{GrowsBy}
 use Rattle.proof_number.specs.Notes.{note_at}
-use Rattle.threat_game.specs.Replies.{answer_nodes}
-use Rattle.proof_number.proofs.Steps.{attack-moves, leaf-is, leaf-noted, root-open}
-use Rattle.proof_number.proofs.WonSteps.{attacked-few, counted-step, double-fits, double-full, spent-there, win-few}
+use Rattle.proof_number.proofs.Steps.{attack-moves, leaf-is, leaf-noted, root-open, attacked-few, counted-step, double-fits, double-full, spent-there, win-few}
 use Rattle.proof_number.proofs.search.Search.win_double.Goals as goal
 
 pub overflow_add-count : goal.overflow_add-count
 overflow_add-count g c =
     let a = attacked-few g.R.Rule.KIND c.args.self.now c.args.tree.now c.args.compiler.now c.args.leaf (g.V.Seen.position c.args.view.now) c.requires.at_leaf in
-    let b = c.answers_of.ensures.few in
-    omega (arith, a, b)
+    omega (arith, a, c.answers_of.ensures.few)
 
 pub returns-then-count-self-clause-step : goal.returns-then-count-self-clause-step
 returns-then-count-self-clause-step g c =

@@ -1,8 +1,7 @@
 use Rattle.std.proofs.Common.{rules, ◌≡◌, ◌∙◌, ◌+◌, ℕ, ap, arith}
 use Rattle.proof_number.specs.Notes.{note_at}
-use Rattle.proof_number.proofs.Steps.{attack-moves, leaf-budget, leaf-is, leaf-lawful, leaf-noted, root-open}
+use Rattle.proof_number.proofs.Steps.{attack-moves, leaf-budget, leaf-is, leaf-lawful, leaf-noted, root-open, counted-step, last-full, win-few}
 use Rattle.threat_game.proofs.TreeLaws.{tree-positive}
-use Rattle.proof_number.proofs.WonSteps.{counted-step, last-full, win-few}
 use Rattle.proof_number.proofs.search.Search.win_last.Goals as goal
 
 pub returns-in_err-win-clause-full : goal.returns-in_err-win-clause-full

@@ -1,6 +1,5 @@
 use Rattle.std.proofs.Common.{◌≡◌, ◌+◌, ℕ, length, sym, ◌∙◌, ap, subst, arith}
-use Rattle.proof_tree.specs.Combining.{no_numbers}
-use Rattle.proof_tree.specs.Trees.{IsTree, Tree, leaf_link, link_at, numbers_at}
+use Rattle.proof_tree.proofs.Common.{no_numbers, IsTree, Tree, leaf_link, link_at, numbers_at}
 use Rattle.proof_tree.specs.declared.Kind.TheVariants.{Attack}
 use Rattle.proof_tree.proofs.Walks.{IsNext, LeadsOn-leaf, next-child, read-at}
 use Rattle.proof_tree.proofs.tree.ProofTree.most_proving.Goals as goal

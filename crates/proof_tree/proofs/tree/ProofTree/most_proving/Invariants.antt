@@ -1,6 +1,5 @@
 use Rattle.std.proofs.Common.{◌<◌, ◌-◌, length}
-use Rattle.proof_tree.specs.Combining.{IsOpen}
-use Rattle.proof_tree.specs.Trees.{numbers_at}
+use Rattle.proof_tree.proofs.Common.{IsOpen, numbers_at}
 use Rattle.proof_tree.proofs.Walks.{LeadsOn}
 use Rattle.proof_tree.proofs.tree.ProofTree.most_proving.Given as goal
 

@@ -21,8 +21,7 @@ use Rattle.strategy_graph.specs.Tables.{Answers, IsTable, answers_of, answer, is
 use Rattle.strategy_graph.specs.Acceptance.{Accepted, AcceptedStart, Meets}
 use Rattle.strategy_graph.specs.Arrivals.{arrivals, arrivals_after, arrivals_at}
 use Rattle.strategy_graph.specs.Leads.{Leads, LeadsStart}
-use Rattle.strategy_graph.proofs.Filling.{IsTable-lower}
-use Rattle.strategy_graph.proofs.Growth.{names_below-more}
+use Rattle.strategy_graph.proofs.Filling.{IsTable-lower, names_below-more}
 use Rattle.strategy_graph.proofs.Answering.{answer-below}
 use Rattle.strategy_graph.proofs.Steps.{arrivals-positive, accepted-by-win, accepted-by-replies, arrivals-by-replies, arrivals-one, arrivals-answer, met-answer, met-all, leads-answer}
 use Rattle.strategy_checker.specs.declared.walk.Outlook.{Outlook}

@@ -1,6 +1,5 @@
 -- The answers are to the given replies, by nodes that take the two points.
-use Rattle.std.proofs.Common.{◌<◌, List, map, length, sym, ap, subst, ◌∙◌}
-use Rattle.std.specs.Prelude.{All}
+use Rattle.std.proofs.Common.{◌<◌, List, map, length, sym, ap, subst, ◌∙◌, All}
 use Rattle.strategy_graph.specs.declared.Reply.{Reply}
 use Rattle.strategy_graph.proofs.Filling.{IsTable-lower}
 use Rattle.strategy_compiler.proofs.Forks.{double-wins, two-below, two-points}

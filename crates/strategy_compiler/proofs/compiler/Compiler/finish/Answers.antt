@@ -1,6 +1,6 @@
 -- The case of one root.
 use Rattle.std.proofs.Common.{◌∙◌}
-use Rattle.strategy_compiler.proofs.Finishing.{finished}
+use Rattle.strategy_compiler.proofs.Places.{finished}
 use Rattle.strategy_compiler.proofs.compiler.Compiler.finish.Goals as goal
 
 pub returns : goal.returns

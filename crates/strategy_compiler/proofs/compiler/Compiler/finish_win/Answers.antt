@@ -1,4 +1,4 @@
-use Rattle.strategy_compiler.proofs.Winning.{win-tables}
+use Rattle.strategy_compiler.proofs.Growing.{win-tables}
 use Rattle.strategy_compiler.proofs.compiler.Compiler.finish_win.Goals as goal
 
 pub returns-clause-win : goal.returns-clause-win

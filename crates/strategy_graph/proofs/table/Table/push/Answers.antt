@@ -1,5 +1,4 @@
-use Rattle.std.proofs.Common.{◌≡◌, true, not, length, map, refl, sym, ap, ◌∙◌, arith}
-use Rattle.std.specs.Prelude.{is_ok, slice_index}
+use Rattle.std.proofs.Common.{◌≡◌, true, not, length, map, refl, sym, ap, ◌∙◌, arith, is_ok, slice_index}
 use Rattle.strategy_graph.specs.Tables.{answers_of, greatest, named, names_below}
 use Rattle.strategy_graph.proofs.Filling.{IsTableWithDepths-push, greatest-le, greatest-read}
 use Rattle.strategy_graph.proofs.table.Table.push.Goals as goal
@@ -12,8 +11,7 @@ overflow_add-below c =
     greatest-read c.self.inside.depths.items c.as_slice-2.result.now (answers_of c.args.node) c.as_slice.result.now c.args.node.rest c.deepest-below.result
     c.as_slice-2.ensures.value c.as_slice.ensures.items refl c.deepest-below.ensures.greatest in
     let low = greatest-le c.self.inside.nodes.items c.self.inside.depths.items c.self.invariant.counted (answers_of c.args.node) (rw (← number) below) in
-    let size = c.self.invariant.table.size in
-    omega (arith, value, low, size)
+    omega (arith, value, low, c.self.invariant.table.size)
 
 pub invariant_of-self-else-is_err-2 : goal.invariant_of-self-else-is_err-2
 invariant_of-self-else-is_err-2 c =

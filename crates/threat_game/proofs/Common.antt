@@ -1,0 +1,9 @@
+-- The words of the game of threats, all in one place for the files of laws.
+pub use Rattle.threat_game.specs.Attacks.{AreAttacks, IsAttempt, IsDoubleWin, LeavesBoth, OthersFail, has_reply, has_saving, is_fouled, tried_moves}
+unfoldable pub use Rattle.threat_game.specs.Attacks.{best_reply, is_last_move, is_settled_move, is_tried}
+pub use Rattle.threat_game.specs.FreeMoves.{EachGoesOn}
+pub use Rattle.threat_game.specs.NearDoubles.{FarAreNone, is_some_point, makes_two, some_makes_two}
+pub use Rattle.threat_game.specs.Replies.{AreChildren, AreReplies, EscapesBy, HasEscape, IsBeside, IsChild, IsJudged, IsJudgedDouble, IsJudgement, answer_nodes, counted_for, has_reply_at, has_reply_beside, is_open, moves_for, nodes_for, one_if, replies_at}
+pub use Rattle.threat_game.specs.ThreatGame.{LosesToThreats, is_safe_threat, move_at, nowhere}
+unfoldable pub use Rattle.threat_game.specs.ThreatGame.{is_threat_move, threat_tree}
+pub use Rattle.threat_game.specs.Wins.{IsThreatWin}
