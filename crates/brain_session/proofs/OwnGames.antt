@@ -29,8 +29,7 @@ use Rattle.strategy_compiler.specs.Trees.{StandsFor}
 use Rattle.strategy_compiler.specs.Walks.{IsTableOf, last}
 use Rattle.four_search.specs.Plans.{four_plan}
 use Rattle.four_search.specs.FourGame.{four_cost, least_moves}
-use Rattle.four_search.proofs.Following.{four_move-some, plan-attacks, PlanAt, plan-replies}
-use Rattle.four_search.proofs.Written.{plan-written}
+use Rattle.four_search.proofs.Written.{four_move-some, plan-attacks, PlanAt, plan-replies, plan-written}
 use Rattle.gomocup_text.specs.declared.Command.{Command}
 use Rattle.gomocup_text.specs.declared.Answer.{Answer}
 use Rattle.gomocup_text.specs.declared.Answer.TheVariants.{Move, Error}

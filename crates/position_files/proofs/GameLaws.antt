@@ -25,16 +25,14 @@ use Rattle.position_files.specs.Sections.{IsBoardLines, IsSectionFault}
 use Rattle.position_files.specs.Faults.{IsGameFault, after_lines, at_line, in_game}
 use Rattle.text_lines.proofs.Cuts.{is_free-append}
 use Rattle.text_lines.proofs.Items.{items_text-injective}
-use Rattle.text_lines.proofs.LineLaws.{bad_line}
-use Rattle.text_lines.proofs.PointLaws.{point_items, points-free}
+use Rattle.text_lines.proofs.LineLaws.{bad_line, point_items, points-free}
 use Rattle.text_lines.proofs.TextLaws.{text_of-cons, text_of-push, AreFree, free_append, same_lines, text_of-injective, whole_text}
 use Rattle.text_lines.proofs.Leaving.{HasParts, leaves_after}
 use Rattle.text_lines.proofs.Badness.{first_bad, too_many}
 use Rattle.position_files.proofs.Spellings.{side_fits}
 use Rattle.game_rules.proofs.Marks.{empty_board}
 use Rattle.position_files.proofs.Stones.{IsBoard-empty}
-use Rattle.position_files.proofs.BoardLaws.{width_side, height_side}
-use Rattle.position_files.proofs.BoardLines.{board-free, board-length, board_lines-injective, least_side}
+use Rattle.position_files.proofs.BoardLines.{width_side, height_side, board-free, board-length, board_lines-injective, least_side}
 
 -- ---- the line of the moves
 

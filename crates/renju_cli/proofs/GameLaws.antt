@@ -10,7 +10,7 @@ use Rattle.strategy_graph.specs.declared.Node.{Node}
 use Rattle.strategy_graph.specs.declared.roots.Root.{Root}
 use Rattle.strategy_graph.specs.declared.roots.Root.TheVariants.{Attack, Defend}
 use Rattle.strategy_graph.specs.Roots.{root_below, root_depth, RootWins}
-use Rattle.strategy_graph.proofs.RootLaws.{accepted-root-wins}
+use Rattle.strategy_graph.proofs.Starts.{accepted-root-wins}
 use Rattle.strategy_checker.specs.declared.held.HeldRoot.{HeldRoot}
 use Rattle.strategy_checker.specs.HeldRoots.{HeldTable, IsHeldRoot, IsHeld}
 use Rattle.position_files.specs.declared.TableFile.{TableFile}

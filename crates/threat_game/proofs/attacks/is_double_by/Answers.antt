@@ -1,6 +1,5 @@
 use Rattle.std.proofs.Common.{sym, ◌∙◌}
 use Rattle.threat_game.proofs.NearLines.{near_told}
-use Rattle.threat_game.proofs.DoubleLaws.{far-by}
 use Rattle.threat_game.proofs.attacks.is_double_by.Goals as goal
 
 pub returns-then-not-hold-clause-double : goal.returns-then-not-hold-clause-double
