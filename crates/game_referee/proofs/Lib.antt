@@ -1,3 +1,4 @@
 -- The laws of games.
 mod Playing
-mod Following
+-- games that follow an accepted table: for the layers above
+pub mod Following

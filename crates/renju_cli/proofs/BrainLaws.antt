@@ -128,10 +128,10 @@ module _ (name : List ℕ) (run : Run) (files : Files) (told : run.shelf.before 
 
   module _ (file : TableFile) (fit : IsFitFile name files file) where
     -- the bytes that were loaded are those of the file
-    same-bytes : (bytes : List ℕ) → IsLoaded run.shelf name bytes → bytes ≡ fit.bytes
+    pub same-bytes : (bytes : List ℕ) → IsLoaded run.shelf name bytes → bytes ≡ fit.bytes
     same-bytes bytes loaded = same_Some bytes fit.bytes (sym (found-under bytes loaded) ∙ fit.found)
 
-    one-file : (other : TableFile) → IsTableAt other fit.bytes → other ≡ file
+    pub one-file : (other : TableFile) → IsTableAt other fit.bytes → other ≡ file
     one-file other at = let only = table-read-back file fit.bytes fit.at.text fit.at.lawful fit.at.moves in only.no_other other at.text
 
     -- it is not refused
@@ -144,7 +144,7 @@ module _ (name : List ℕ) (run : Run) (files : Files) (told : run.shelf.before 
           by-verdict (inl refused) = refused.refused fit.fit.accepted
           by-verdict (inr spent) = let more = spent.more in let few = fit.fit.within in omega (arith, more, few)
 
-    not-told : (status : Status) (text : List ℕ) → IsUnheld run.shelf name status text → HasFailed run.shelf
+    pub not-told : (status : Status) (text : List ℕ) → IsUnheld run.shelf name status text → HasFailed run.shelf
     not-told status text (inl refused) =
         absurd (not-refused status text (subst (λ (l : List ℕ). FileSays l status text) (same-bytes refused.bytes refused.loaded) refused.says))
     not-told status text (inr (inl long)) =

@@ -267,20 +267,20 @@ file-other bytes status text (inr said) = by-verdict said.0 said.2 where
   by-verdict file (inl refused) = other-by status RefusedTable refused.ends (λ e. absurd (cc), λ e. absurd (cc))
   by-verdict file (inr spent) = other-by status Spent spent.ends (λ e. absurd (cc), λ e. absurd (cc))
 
-unheld-other : (shelf : Change (Option Files)) (name : List ℕ) (status : Status) (text : List ℕ) → IsUnheld shelf name status text
+pub unheld-other : (shelf : Change (Option Files)) (name : List ℕ) (status : Status) (text : List ℕ) → IsUnheld shelf name status text
     → IsOther (status_number status)
 unheld-other shelf name status text (inl refused) = file-other refused.bytes status text refused.says
 unheld-other shelf name status text (inr (inl long)) = other-by status TooLong long.ends (λ e. absurd (cc), λ e. absurd (cc))
 unheld-other shelf name status text (inr (inr fault)) = other-by status ShelfFault fault.ends (λ e. absurd (cc), λ e. absurd (cc))
 
 -- what is delivered with such a status, or with that of a write fault, is neither
-delivered-other : (status : Status) (text : List ℕ) (output : Change (Option (List ℕ))) (number : ℕ) → IsOther (status_number status)
+pub delivered-other : (status : Status) (text : List ℕ) (output : Change (Option (List ℕ))) (number : ℕ) → IsOther (status_number status)
     → IsDelivered status text output number → IsOther number
 delivered-other status text output number other (inl whole) = subst IsOther (sym whole.0) other
 delivered-other status text output number other (inr failed) = subst IsOther (sym failed.0) (λ e. absurd (cc), λ e. absurd (cc))
 
 -- the number of a session's end, or of a failing input, is no other
-not-other : (n : ℕ) → (n ≡ status_number Done) ⊎ (n ≡ status_number ReadFault) → IsOther n → ⊥
+pub not-other : (n : ℕ) → (n ≡ status_number Done) ⊎ (n ≡ status_number ReadFault) → IsOther n → ⊥
 not-other n (inl done) other = other.0 done
 not-other n (inr failed) other = other.1 failed
 

@@ -12,4 +12,5 @@ mod Solutions
 mod BrainLaws
 mod GameLaws
 mod DrillLaws
+mod RefereeLaws
 mod ReportLaws

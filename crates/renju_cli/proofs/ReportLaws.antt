@@ -1,7 +1,7 @@
 -- What follows of a run from its report: the command of its form did what it does, and so answered where it is sure to.
 use Rattle.std.proofs.Common.{◌≡◌, inl, inr, sym, ap, subst, ℕ, List}
 use Rattle.renju_cli.specs.declared.commands.Form.{Form}
-use Rattle.renju_cli.specs.declared.commands.Form.TheVariants.{Check, Foul, Fours, Threats, Solve, Brain, BrainWith, Drill}
+use Rattle.renju_cli.specs.declared.commands.Form.TheVariants.{Check, Foul, Fours, Threats, Solve, Brain, BrainWith, Drill, Referee, RefereeWith}
 use Rattle.renju_cli.specs.Runs.{Run}
 use Rattle.renju_cli.specs.Forms.{HasWords}
 use Rattle.renju_cli.specs.Checks.{check_command, ShowsWin}
@@ -12,6 +12,7 @@ use Rattle.renju_cli.specs.Solves.{solve_command, ShowsSolution}
 use Rattle.renju_cli.specs.Brains.{brain_with_words, IsFileName, second_word, IsBrainWith}
 use Rattle.renju_cli.specs.Games.{ShowsHeldGames, ShowsOwnGames}
 use Rattle.renju_cli.specs.Drills.{ShowsDrill}
+use Rattle.renju_cli.specs.Referees.{referee_command, referee_with_words, IsRefereeWith, ShowsReferee}
 use Rattle.renju_cli.specs.Commands.{command, IsForm}
 use Rattle.renju_cli.specs.Reports.{Report, IsComplete}
 use Rattle.renju_cli.proofs.FormLaws.{one-form}
@@ -22,6 +23,7 @@ use Rattle.renju_cli.proofs.BrainLaws.{brain-answers, brain-with-answers}
 use Rattle.renju_cli.proofs.GameLaws.{brain-plays, brain-plays-own, file-plays-own}
 use Rattle.renju_cli.proofs.FoursLaws.{fours-answers, fours-searched}
 use Rattle.renju_cli.proofs.DrillLaws.{drill-answers, drill-shown}
+use Rattle.renju_cli.proofs.RefereeLaws.{referee-answers, referee-with-answers, referee-shown}
 use Rattle.renju_cli.proofs.ThreatsLaws.{threats-answers, threats-searched}
 use Rattle.renju_cli.proofs.SolveLaws.{solve-answers, solve-shown}
 
@@ -37,6 +39,8 @@ answers Foul run does = answers-told foul_command foul-answers run does
 answers Brain run does = brain-answers run does
 answers BrainWith run does = brain-with-answers (second_word run.words) run does
 answers (Drill number) run does = drill-answers number run does
+answers Referee run does = answers-told referee_command referee-answers run does
+answers RefereeWith run does = referee-with-answers (second_word run.words) run does
 answers (Fours depth nodes) run does = answers-told (fours_command depth nodes) (fours-answers depth nodes) run does
 answers (Threats limit nodes) run does = answers-told (threats_command limit nodes) (threats-answers limit nodes) run does
 answers (Solve depth nodes) run does = answers-told (solve_command depth nodes) (solve-answers depth nodes) run does
@@ -44,6 +48,10 @@ answers (Solve depth nodes) run does = answers-told (solve_command depth nodes) 
 -- what `brain FILE` did with its second word is the report of its run
 pub file-reported : (run : Run) (name : List ℕ) → IsForm run.words BrainWith → name ≡ second_word run.words → IsBrainWith name run → Report run
 file-reported run name form is does = inr (BrainWith, form, subst (λ (n : List ℕ). IsBrainWith n run) is does)
+
+-- the same of `referee FILE`
+pub game-reported : (run : Run) (name : List ℕ) → IsForm run.words RefereeWith → name ≡ second_word run.words → IsRefereeWith name run → Report run
+game-reported run name form is does = inr (RefereeWith, form, subst (λ (n : List ℕ). IsRefereeWith n run) is does)
 
 pub report-complete : (run : Run) → Report run → IsComplete run
 report-complete run report form is = answers form run (does-of run report form is)
@@ -75,3 +83,10 @@ report-sequences run report limit nodes is = threats-searched limit nodes run (d
 
 pub report-solved : (run : Run) → Report run → ShowsSolution run
 report-solved run report depth nodes is = solve-shown depth nodes run (does-of run report (Solve depth nodes) is)
+
+pub report-refereed : (run : Run) → Report run → ShowsReferee run
+report-refereed run report name is done =
+    let second : second_word run.words ≡ name = ap second_word is.spelled in
+    let words : HasWords run.words (referee_with_words (second_word run.words)) (IsFileName (second_word run.words)) =
+    subst (λ (n : List ℕ). HasWords run.words (referee_with_words n) (IsFileName n)) (sym second) is in
+    referee-shown name run (subst (λ (n : List ℕ). IsRefereeWith n run) second (does-of run report RefereeWith words)) done

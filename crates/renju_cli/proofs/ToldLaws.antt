@@ -65,7 +65,7 @@ module _ (Says : List ℕ → Status → List ℕ → Type 0) (run : Run) where
   by-delivery status text (inr long) (inl whole) = inr (inl (whole.0 ∙ ap status_number long.ends))
   by-delivery status text due (inr failed) = inr (inr (inr (inr failed.0)))
 
-  by-end : EndsTold Says run.input run.output run.status → IsWhole Says run ⊎ IsYielded run.status
+  pub by-end : EndsTold Says run.input run.output run.status → IsWhole Says run ⊎ IsYielded run.status
   by-end (inl a) = by-delivery a.status a.text a.due a.delivered
   by-end (inr (inl memory)) = inr (inr (inl memory.ends))
   by-end (inr (inr fault)) = inr (inr (inr (inl fault.ends)))
@@ -73,6 +73,16 @@ module _ (Says : List ℕ → Status → List ℕ → Type 0) (run : Run) where
   -- a told command has said something and written it whole, or ends with a status that stands in place of that
   pub whole-or-yielded : IsTold Says run → IsWhole Says run ⊎ IsYielded run.status
   whole-or-yielded told = by-end told.ends
+
+-- what a command says, said in other words
+pub ends-map : (Says Others : List ℕ → Status → List ℕ → Type 0) (input output : Change (Option (List ℕ))) (number : ℕ)
+    → ((bytes : List ℕ) (status : Status) (text : List ℕ) → Says bytes status text → Others bytes status text) → EndsTold Says input output number
+    → EndsTold Others input output number
+ends-map Says Others input output number other (inl a) = inl (record { status = a.status; text = a.text; due = by-due a.due; delivered = a.delivered }) where
+  by-due : IsSaid Says input a.status a.text ⊎ IsTooLong input a.status a.text → IsSaid Others input a.status a.text ⊎ IsTooLong input a.status a.text
+  by-due (inl said) = inl (record { bytes = said.bytes; given = said.given; fits = said.fits; ended = said.ended; says = other said.bytes a.status a.text said.says })
+  by-due (inr long) = inr long
+ends-map Says Others input output number other (inr ends) = inr ends
 
 -- ---- a command that nothing hinders
 
@@ -90,7 +100,7 @@ module _ (command : ToldCommand) (law : (bytes : List ℕ) → command.IsAnswera
       record { status = status; text = text; answer = law bytes free.answerable status text says; says = says; ends = whole.0; whole = whole.1 }
   answered status text says (inr failed) = absurd (free.output_sound failed.1)
 
-  answers-by : EndsTold command.Says run.input run.output run.status → HasAnswered command run bytes ⊎ IsOutOfMemory run.output run.status
+  pub answers-by : EndsTold command.Says run.input run.output run.status → HasAnswered command run bytes ⊎ IsOutOfMemory run.output run.status
   answers-by (inl a) = inl (answered a.status a.text (said-of a.status a.text a.due) a.delivered)
   answers-by (inr (inl memory)) = inr memory
   answers-by (inr (inr fault)) = absurd (free.input_sound fault.failed)

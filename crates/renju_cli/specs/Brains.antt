@@ -16,8 +16,8 @@ use Rattle.brain_session.specs.Sessions.{session_text}
 use Rattle.brain_session.specs.Serving.{Served, HasAnswered, IsReadToEnd, StopsAtRead, StopsAtWrite, StopsAtStep, within_limit, IsTooLong}
 use Rattle.renju_cli.specs.declared.status.Status.{Status}
 use Rattle.renju_cli.specs.declared.status.Status.TheVariants.{Done, Usage, ShelfFault, RefusedText, RefusedTable, Spent, Memory, ReadFault, WriteFault, NotFound, TooLong, Full}
-use Rattle.renju_cli.specs.declared.brain.Loaded.{Loaded}
-use Rattle.renju_cli.specs.declared.brain.Loaded.TheVariants.{Holds, Tells}
+use Rattle.renju_cli.specs.declared.loading.Loaded.{Loaded}
+use Rattle.renju_cli.specs.declared.loading.Loaded.TheVariants.{Holds, Tells}
 use Rattle.brain_session.specs.declared.TheConstants.{BRAIN_WORK}
 use Rattle.renju_cli.specs.Statuses.{status_number}
 use Rattle.renju_cli.specs.Texts.{too_long_line, shelf_line}

@@ -9,8 +9,8 @@ use Rattle.game_rules.specs.declared.RuleKind.{RuleKind}
 use Rattle.game_rules.specs.declared.Side.{Side}
 use Rattle.game_rules.specs.declared.Side.TheVariants.{Black, White}
 use Rattle.game_rules.specs.declared.Foul.{Foul}
-use Rattle.game_rules.specs.declared.Foul.TheVariants.{Overline, DoubleFour, DoubleThree}
 use Rattle.game_rules.specs.declared.Point.{Point}
+use Rattle.game_referee.specs.Lines.{foul_word}
 use Rattle.text_lines.specs.Lines.{ended}
 use Rattle.text_lines.specs.Spellings.{space, point_text}
 use Rattle.position_files.specs.declared.PositionFile.{PositionFile}
@@ -34,12 +34,6 @@ black_fouls kind b = filter_map (foul_point kind b) (points_of b)
 abbrev pub fouls_of_mover : Side → RuleKind → Grid → List FoulPoint
 fouls_of_mover Black kind b = black_fouls kind b
 fouls_of_mover White kind b = []
-
--- the words of the fouls
-abbrev pub foul_word : Foul → List ℕ
-foul_word Overline = codes "overline"
-foul_word DoubleFour = codes "double-four"
-foul_word DoubleThree = codes "double-three"
 
 -- the line of a foul: its point and its word
 abbrev pub foul_line : FoulPoint → List ℕ

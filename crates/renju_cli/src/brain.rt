@@ -3,39 +3,22 @@
 //! The text of FILE is loaded, read and checked, and only an accepted table is held. Then the lines of the input are served.
 #![tactic(auto)]
 
-ghost use Rattle.std.specs.Prelude.{◌≡◌, ◌≢◌, ◌∷◌, ℕ, List, true, length, codes, map, IfOk, MatchOption, string_bytes};
-ghost use Rattle.game_rules.specs.Play.{IsPosition};
-ghost use Rattle.strategy_graph.specs.Roots.{root_below, root_depth};
+ghost use Rattle.std.specs.Prelude.{◌≡◌, ◌≢◌, ◌∷◌, ℕ, List, codes, map, MatchOption, string_bytes};
 ghost use Rattle.renju_io.specs.Faults.{HasNotFallen, HasStayed};
 ghost use Rattle.renju_io.specs.Told.{GivesSome};
 ghost use Rattle.brain_session.specs.Kept.{held_or_none};
 ghost use Rattle.renju_cli.specs.Statuses.{status_number};
 ghost use Rattle.renju_cli.specs.Runs.{change, run_of};
-ghost use Rattle.renju_cli.specs.Brains.{session_status, EndsBrain, IsBrainWith, IsLoadedText, IsLoadedFile};
+ghost use Rattle.renju_cli.specs.Brains.{session_status, EndsBrain, IsBrainWith};
 ghost use Rattle.renju_cli.specs.Commands.{IsForm, HasForm};
 
-use crate::answer::{Answer, spent};
-use crate::check::refused_table;
-use crate::refusals::refused_text;
+use crate::loading::{Loaded, SHELF_FAILED, load};
 use crate::told::{TOO_LONG, deliver};
 use crate::{Form, Status};
-use brain_session::{BRAIN_WORK, Brain, ServeError, serve};
-use foul_judge::Position;
-use position_files::{TableFile, read_table};
+use brain_session::{Brain, ServeError, serve};
 use renju_io::{LoadError, Shelf, Sink, Source};
-use row_shapes::{Rule, under_rule};
-use std::alloc::{AllocError, Global};
-use strategy_checker::{Held, HeldError};
-
-/// What a shelf that failed is told.
-const SHELF_FAILED: &str = "shelf failed\n";
-
-/// What comes of the text of a FILE: its table is held, or it is told why not.
-#[derive(Drop)]
-pub(crate) enum Loaded {
-    Holds(Held),
-    Tells(Answer),
-}
+use std::alloc::Global;
+use strategy_checker::Held;
 
 /// The form of `brain` and the words after it, if they are none, or a FILE that is not empty.
 pub(crate) fn form(rest: &[String]) -> Option<Form>
@@ -114,52 +97,5 @@ fn status_of(outcome: Result<(), ServeError>) -> Status
         Err(ServeError::WriteFailed) => Status::WriteFault,
         Err(ServeError::Exhausted) => Status::TooLong,
         Err(ServeError::Memory) => Status::Memory,
-    }
-}
-
-/// What comes of the text of a FILE.
-fn load(alloc: Global, bytes: &[u8]) -> Result<Loaded, AllocError>
-    ensures loaded { IfOk result (IsLoadedText bytes.now) }
-{
-    match read_table(alloc, bytes) {
-        Ok(file) => hold(alloc, file),
-        Err(error) => Ok(Loaded::Tells(refused_text(alloc, error)?)),
-    }
-}
-
-/// Holds the table of a text, if its root is accepted there.
-fn hold(alloc: Global, file: TableFile) -> Result<Loaded, AllocError>
-    requires lawful { IsPosition file.kind file.board }
-    requires root { root_below file.root (length file.table) ≡ true }
-    ensures loaded { IfOk result (IsLoadedFile file) }
-{
-    under_rule!(file.kind, hold_under(alloc, file))
-}
-
-/// The same under the rule of the text.
-fn hold_under<R: Rule>(alloc: Global, file: TableFile) -> Result<Loaded, AllocError>
-    requires kind { file.kind ≡ R.KIND }
-    requires lawful { IsPosition file.kind file.board }
-    requires root { root_below file.root (length file.table) ≡ true }
-    ensures loaded { IfOk result (IsLoadedFile file) }
-{
-    let TableFile {
-        kind: _,
-        board,
-        table,
-        root,
-        moves: _,
-    } = file;
-    let mut held = Held::new(alloc, table);
-    match held.add::<R>(root, Position::<R>::new(board), BRAIN_WORK) {
-        Ok(_) => Ok(Loaded::Holds(held)),
-        Err(HeldError::Refused { line, why }) => {
-            Ok(Loaded::Tells(Answer::told(
-                Status::RefusedTable,
-                refused_table(alloc, why, line.as_slice())?,
-            )))
-        }
-        Err(HeldError::Spent) => Ok(Loaded::Tells(spent(alloc)?)),
-        Err(HeldError::Memory) => Err(AllocError),
     }
 }

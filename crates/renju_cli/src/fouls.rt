@@ -7,13 +7,14 @@ ghost use Rattle.std.specs.Prelude.{◌≡◌, ◌∷◌, ◌++◌, codes, map, 
 ghost use Rattle.std.specs.List.{flat_map};
 ghost use Rattle.game_rules.specs.Play.{IsPosition, mover};
 ghost use Rattle.renju_cli.specs.Commands.{IsForm, HasForm};
-ghost use Rattle.renju_cli.specs.Fouls.{IsFoulList, foul_point as foul_point_lem, black_fouls as black_fouls_lem, fouls_of_mover, foul_word as foul_word_lem, foul_line, fouls_text as fouls_text_lem};
+ghost use Rattle.renju_cli.specs.Fouls.{IsFoulList, foul_point as foul_point_lem, black_fouls as black_fouls_lem, fouls_of_mover, foul_line, fouls_text as fouls_text_lem};
 
 use crate::answer::Answer;
 use crate::refusals::refused_text;
 use crate::told::Told;
 use crate::{Form, Status};
 use foul_judge::{Foul, Position, Seen, foul_at};
+use game_referee::foul_word;
 use position_files::{PositionFile, read_position};
 use row_shapes::{Rule, under_rule};
 use std::alloc::{AllocError, Global};
@@ -134,15 +135,4 @@ fn push_foul(alloc: Global, text: &mut String, found: FoulPoint) -> Result<(), A
     text.push_str(" ")?;
     push_line(text, foul_word(found.foul))?;
     Ok(())
-}
-
-/// The word of a foul.
-fn foul_word(foul: Foul) -> &'static str
-    ensures word { result.now ≡ foul_word_lem foul }
-{
-    match foul {
-        Foul::Overline => "overline",
-        Foul::DoubleFour => "double-four",
-        Foul::DoubleThree => "double-three",
-    }
 }

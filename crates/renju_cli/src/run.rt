@@ -12,6 +12,7 @@ ghost use Rattle.renju_cli.specs.Threats.{ShowsSequence};
 ghost use Rattle.renju_cli.specs.Solves.{ShowsSolution};
 ghost use Rattle.renju_cli.specs.Games.{ShowsHeldGames, ShowsOwnGames};
 ghost use Rattle.renju_cli.specs.Drills.{ShowsDrill};
+ghost use Rattle.renju_cli.specs.Referees.{ShowsReferee};
 ghost use Rattle.renju_cli.specs.Reports.{Report, IsComplete};
 
 use crate::commands::run;
@@ -22,10 +23,9 @@ use std::alloc::Global;
 /// the shelf, writes to the output, and answers the status to exit with.
 ///
 /// The status and the text that are due are those of `Status` and of the commands. Words without a form get the usage line
-/// and status 1, and leave the input unasked, as `drill` does. `check`, `foul`, `fours`, `threats` and `solve` speak of an input only
-/// once it was read to its end; a brain answers each line before it reads the next. Only `brain FILE` asks the shelf, and no command
-/// changes it. A failing
-/// output gives status 8 in place of the status that was due, and the output then has the front of the text; want of memory
+/// and status 1, and leave the input unasked, as `drill` does. `check`, `foul`, `fours`, `threats`, `solve` and `referee` speak of an
+/// input only once it was read to its end; a brain answers each line before it reads the next. Only `brain FILE` and `referee FILE`
+/// ask the shelf, before the input, and no command changes it. A failing output gives status 8 in place of the status that was due, and the output then has the front of the text; want of memory
 /// gives 6 and a failing input 7, and then nothing is written, or by a brain that serves the answers to the lines before.
 /// A status other than 7 says that the input counted no fault, one other than 8 that the output did not, and one that is
 /// neither 2 nor 8 that the shelf did not.
@@ -62,6 +62,10 @@ pub fn run_renju<I: Source, O: Sink, F: Shelf>(
     // What status 0 of `drill` shows: the counts of the number, of which there are no others; each table of a win is accepted, and
     // each game is won.
     ensures drilled { ShowsDrill (run_of (map string_bytes words.now) (change I.left I.faults input.old input.new)
+        (change O.written O.faults output.old output.new) (change F.files F.faults shelf.old shelf.new) result) }
+    // What status 0 of `referee FILE` shows: the verdict on the game, and whether it was played by the table of FILE, which is
+    // accepted. Where it was, the side of the table did not lose it.
+    ensures refereed { ShowsReferee (run_of (map string_bytes words.now) (change I.left I.faults input.old input.new)
         (change O.written O.faults output.old output.new) (change F.files F.faults shelf.old shelf.new) result) }
     // A command with a lawful input, enough work and devices without a fault answers, unless memory runs out.
     ensures complete { IsComplete (run_of (map string_bytes words.now) (change I.left I.faults input.old input.new)

@@ -16,13 +16,13 @@ const OPPONENT_FIRST: &str =
     "renju-table 2\nrule freestyle\nsize 15\nblack 4,7 5,7 6,7 7,7\nwhite 0,0 2,0 4,0\nmoves 1\nnodes 2\n8,7 wins\n3,7 wins\nstart rest 0 8,7>1\n";
 
 /// A session: whether FILE is asked for, what it holds, the lines, and the status and the answers that are wanted.
-struct Session {
-    name: &'static str,
-    words: [&'static str; 2],
-    file: &'static str,
-    lines: &'static str,
-    status: u8,
-    output: &'static str,
+pub struct Session {
+    pub name: &'static str,
+    pub words: [&'static str; 2],
+    pub file: &'static str,
+    pub lines: &'static str,
+    pub status: u8,
+    pub output: &'static str,
 }
 
 const PLAYED_OUT: &str =
@@ -159,13 +159,13 @@ fn shelf_of(alloc: Global, text: &str, loads: &[u64]) -> Result<MemoryShelf, All
 
 /// What a session answered and wrote, and the bytes of its lines that it left.
 #[derive(Drop)]
-struct Served {
-    run: Run,
-    left: Vec<u8>,
+pub struct Served {
+    pub run: Run,
+    pub left: Vec<u8>,
 }
 
 /// Runs a session over devices that fail, of which the shelf fails at the loads of these numbers.
-fn serve(
+pub fn serve(
     alloc: Global,
     session: &Session,
     failing: &Failing<'_>,

@@ -22,6 +22,8 @@ mod held_sessions;
 #[cfg(test)]
 mod inputs;
 #[cfg(test)]
+mod referees;
+#[cfg(test)]
 mod replays;
 #[cfg(test)]
 mod runs;

@@ -8,7 +8,7 @@ use std::test::Fail;
 
 /// No words, words of no command, words of a command that are too few or too many, and words that are no number in its
 /// range: zeros, leading zeros, signs, fractions, letters, and numbers that are 1 but for a power of two.
-const FORMLESS: [&str; 45] = [
+const FORMLESS: [&str; 48] = [
     "",
     "help",
     "--help",
@@ -54,6 +54,9 @@ const FORMLESS: [&str; 45] = [
     "solve 5 0",
     "solve 5 3 1",
     "solve 4294967297 1",
+    "Referee",
+    "referees t",
+    "referee t t",
 ];
 
 /// Devices of which the input is not to be asked, and the output for one write alone.

@@ -1,7 +1,7 @@
 use Rattle.std.proofs.Common.{inl, inr, refl, ap, subst}
 use Rattle.std.specs.Prelude.{Err}
 use Rattle.renju_cli.specs.declared.status.Status.TheVariants.{ShelfFault, TooLong}
-use Rattle.renju_cli.specs.declared.brain.Loaded.{Loaded}
+use Rattle.renju_cli.specs.declared.loading.Loaded.{Loaded}
 use Rattle.renju_cli.specs.Brains.{IsLoadedText}
 use Rattle.renju_cli.proofs.BrainLaws.{long-file}
 use Rattle.renju_cli.proofs.brain.play_with.Goals as goal

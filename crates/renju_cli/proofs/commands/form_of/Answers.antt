@@ -1,7 +1,7 @@
 use Rattle.std.proofs.Common.{◌≡◌, List, ℕ, [], ◌∷◌, ◌∙◌, ap, sym, subst, get_or}
 use Rattle.std.specs.Prelude.{codes, string_bytes, Option, MatchOption}
 use Rattle.renju_cli.specs.declared.commands.Form.{Form}
-use Rattle.renju_cli.specs.declared.commands.Form.TheVariants.{Check, Foul, Fours, Threats, Solve, Brain, BrainWith, Drill}
+use Rattle.renju_cli.specs.declared.commands.Form.TheVariants.{Check, Foul, Fours, Threats, Solve, Brain, BrainWith, Drill, Referee, RefereeWith}
 use Rattle.renju_cli.specs.Commands.{command, HasForm, IsForm}
 use Rattle.renju_cli.proofs.Words.{no-words as none, first-word}
 use Rattle.renju_cli.proofs.FormLaws.{no-words, no-command}
@@ -56,6 +56,12 @@ returns-in-drill c = record {
       (sym c.as_str.ensures.value ∙ c.in-drill.is) c.form-in-drill.ensures.form;
 }
 
+pub returns-in-referee : goal.returns-in-referee
+returns-in-referee c = record {
+  form = told-of c.form-in-referee.result _ _ (codes "referee") _ (first-word string_bytes c.args.words.now c.name-item.result c.in-len1-up.len_at_least c.name-item.is)
+      (sym c.as_str.ensures.value ∙ c.in-referee.is) c.form-in-referee.ensures.form;
+}
+
 -- the first word is that of no command
 pub returns-in_default-as_str : goal.returns-in_default-as_str
 returns-in_default-as_str c =
@@ -70,5 +76,7 @@ returns-in_default-as_str c =
       | Brain ↦ λ is. c.in_default-as_str.not-brain (c.as_str.ensures.value ∙ is)
       | BrainWith ↦ λ is. c.in_default-as_str.not-brain (c.as_str.ensures.value ∙ is)
       | Drill number ↦ λ is. c.in_default-as_str.not-drill (c.as_str.ensures.value ∙ is)
+      | Referee ↦ λ is. c.in_default-as_str.not-referee (c.as_str.ensures.value ∙ is)
+      | RefereeWith ↦ λ is. c.in_default-as_str.not-referee (c.as_str.ensures.value ∙ is)
     ] in
     record { form = λ h. no-command _ _ other (subst HasForm words h) }

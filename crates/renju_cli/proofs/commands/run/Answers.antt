@@ -1,13 +1,13 @@
 use Rattle.std.proofs.Common.{◌≡◌, inl, refl, sym, subst, ◌∙◌, length}
 use Rattle.std.specs.Prelude.{map, string_bytes}
 use Rattle.renju_cli.specs.declared.commands.Form.{Form}
-use Rattle.renju_cli.specs.declared.commands.Form.TheVariants.{BrainWith}
+use Rattle.renju_cli.specs.declared.commands.Form.TheVariants.{BrainWith, RefereeWith}
 use Rattle.renju_cli.specs.Statuses.{status_number}
 use Rattle.renju_cli.specs.Runs.{Run, run_of, change}
 use Rattle.renju_cli.specs.Brains.{second_word}
 use Rattle.renju_cli.specs.Commands.{IsForm}
 use Rattle.renju_cli.proofs.Words.{same-count, word-after}
-use Rattle.renju_cli.proofs.ReportLaws.{file-reported}
+use Rattle.renju_cli.proofs.ReportLaws.{file-reported, game-reported}
 use Rattle.renju_cli.proofs.commands.run.Goals as goal
 
 -- the literal of the usage line is that line
@@ -30,3 +30,17 @@ returns-in-Some-BrainWith-clause-report g c =
     let two : length c.args.words.now ≡ 2 = same-count string_bytes _ _ form.spelled in
     let file : c.as_str.result.now ≡ second_word words = c.as_str.ensures.value ∙ sym (word-after string_bytes c.args.words.now c.index-words-1.result two c.index-words-1.is) in
     file-reported run c.as_str.result.now form file (c.play_with.ensures.plays words)
+
+-- so is it that of `referee FILE`
+pub returns-in-Some-RefereeWith-clause-report : goal.returns-in-Some-RefereeWith-clause-report
+returns-in-Some-RefereeWith-clause-report g c =
+    let words = map string_bytes c.args.words.now in
+    let run : Run = run_of words (change g.I.Source.left g.I.Source.faults c.args.input.now c.referee_with.new.input)
+    (change g.O.Sink.written g.O.Sink.faults c.args.output.now c.referee_with.new.output)
+    (change g.F.Shelf.files g.F.Shelf.faults c.args.shelf.now c.referee_with.new.shelf) (status_number c.referee_with.result) in
+    let form : IsForm words RefereeWith = subst (λ (f : Form). IsForm words f) c.in-Some-RefereeWith.field-0-is c.in-Some-RefereeWith.ensures.form in
+    let two : length c.args.words.now ≡ 2 = same-count string_bytes _ _ form.spelled in
+    let file : c.as_str-in-Some-RefereeWith.result.now ≡ second_word words =
+    c.as_str-in-Some-RefereeWith.ensures.value
+    ∙ sym (word-after string_bytes c.args.words.now c.index-words-1-in-Some-RefereeWith.result two c.index-words-1-in-Some-RefereeWith.is) in
+    game-reported run c.as_str-in-Some-RefereeWith.result.now form file (c.referee_with.ensures.referees words)

@@ -1,0 +1,78 @@
+//! A FILE of a command: its text is read, and its table is held once it is accepted.
+//!
+//! `brain FILE` plays by what is held, and `referee FILE` compares games with it. Each refusal of FILE comes before the input is
+//! asked.
+#![tactic(auto)]
+
+ghost use Rattle.std.specs.Prelude.{◌≡◌, true, length, IfOk};
+ghost use Rattle.game_rules.specs.Play.{IsPosition};
+ghost use Rattle.strategy_graph.specs.Roots.{root_below, root_depth};
+ghost use Rattle.renju_cli.specs.Brains.{IsLoadedText, IsLoadedFile};
+
+use crate::Status;
+use crate::answer::{Answer, spent};
+use crate::check::refused_table;
+use crate::refusals::refused_text;
+use brain_session::BRAIN_WORK;
+use foul_judge::Position;
+use position_files::{TableFile, read_table};
+use row_shapes::{Rule, under_rule};
+use std::alloc::{AllocError, Global};
+use strategy_checker::{Held, HeldError};
+
+/// What a shelf that failed is told.
+pub(crate) const SHELF_FAILED: &str = "shelf failed\n";
+
+/// What comes of the text of a FILE: its table is held, or it is told why not.
+#[derive(Drop)]
+pub(crate) enum Loaded {
+    Holds(Held),
+    Tells(Answer),
+}
+
+/// What comes of the text of a FILE.
+pub(crate) fn load(alloc: Global, bytes: &[u8]) -> Result<Loaded, AllocError>
+    ensures loaded { IfOk result (IsLoadedText bytes.now) }
+{
+    match read_table(alloc, bytes) {
+        Ok(file) => hold(alloc, file),
+        Err(error) => Ok(Loaded::Tells(refused_text(alloc, error)?)),
+    }
+}
+
+/// Holds the table of a text, if its root is accepted there.
+fn hold(alloc: Global, file: TableFile) -> Result<Loaded, AllocError>
+    requires lawful { IsPosition file.kind file.board }
+    requires root { root_below file.root (length file.table) ≡ true }
+    ensures loaded { IfOk result (IsLoadedFile file) }
+{
+    under_rule!(file.kind, hold_under(alloc, file))
+}
+
+/// The same under the rule of the text.
+fn hold_under<R: Rule>(alloc: Global, file: TableFile) -> Result<Loaded, AllocError>
+    requires kind { file.kind ≡ R.KIND }
+    requires lawful { IsPosition file.kind file.board }
+    requires root { root_below file.root (length file.table) ≡ true }
+    ensures loaded { IfOk result (IsLoadedFile file) }
+{
+    let TableFile {
+        kind: _,
+        board,
+        table,
+        root,
+        moves: _,
+    } = file;
+    let mut held = Held::new(alloc, table);
+    match held.add::<R>(root, Position::<R>::new(board), BRAIN_WORK) {
+        Ok(_) => Ok(Loaded::Holds(held)),
+        Err(HeldError::Refused { line, why }) => {
+            Ok(Loaded::Tells(Answer::told(
+                Status::RefusedTable,
+                refused_table(alloc, why, line.as_slice())?,
+            )))
+        }
+        Err(HeldError::Spent) => Ok(Loaded::Tells(spent(alloc)?)),
+        Err(HeldError::Memory) => Err(AllocError),
+    }
+}

@@ -1,0 +1,216 @@
+//! The command `referee`: how a game ended, and whether it was played by a table.
+//!
+//! The game is read and judged. With FILE, its table is loaded, read and checked before that, as `brain FILE` does, and the
+//! game is asked only once the table is accepted.
+#![tactic(auto)]
+
+ghost use Rattle.std.specs.Prelude.{◌≡◌, ◌≢◌, ◌∷◌, ◌<◌, ℕ, List, codes, length, map, IfOk, MatchOption, string_bytes};
+ghost use Rattle.game_rules.specs.Play.{IsPosition};
+ghost use Rattle.position_files.specs.declared.TableFile.{TableFile};
+ghost use Rattle.renju_io.specs.Faults.{HasNotFallen, HasStayed};
+ghost use Rattle.renju_io.specs.Told.{GivesSome};
+ghost use Rattle.renju_cli.specs.Statuses.{status_number};
+ghost use Rattle.renju_cli.specs.Runs.{change, run_of};
+ghost use Rattle.renju_cli.specs.Brains.{held_by};
+ghost use Rattle.renju_cli.specs.Referees.{IsCompared, IsJudged, IsRefereeWith, TellsTable, of_game, replay_line as replay_line_lem};
+ghost use Rattle.renju_cli.specs.Commands.{IsForm, HasForm};
+
+use crate::answer::Answer;
+use crate::loading::{Loaded, SHELF_FAILED, load};
+use crate::refusals::refused_text;
+use crate::told::{TOO_LONG, Told, deliver, tell};
+use crate::{Form, Status};
+use foul_judge::{Position, Seen};
+use game_referee::{ReplayAnswer, judge, replay, write_verdict};
+use position_files::{FileError, GameError, GameFile, read_game};
+use renju_io::{LoadError, Shelf, Sink, Source};
+use row_shapes::{Rule, under_rule};
+use std::alloc::{AllocError, Global};
+use stone_board::Point;
+use strategy_checker::Held;
+
+/// The form of `referee` and the words after it, if they are none, or a FILE that is not empty.
+pub(crate) fn form(rest: &[String]) -> Option<Form>
+    ensures form { MatchOption result (¬ HasForm (codes "referee" ∷ map string_bytes rest.now)) (λ form. IsForm (codes "referee" ∷ map string_bytes rest.now) form) }
+{
+    match rest {
+        [] => Some(Form::Referee),
+        [file] if !file.is_empty() => Some(Form::RefereeWith),
+        _ => None,
+    }
+}
+
+/// `referee`.
+#[derive(Clone, Copy)]
+pub(crate) struct Referee;
+
+impl Told for Referee {
+    ghost use Rattle.renju_cli.specs.Referees.{RefereeSays};
+
+    ghost in_range = { λ c. Unit {0} };
+
+    ghost says = { λ c. RefereeSays };
+
+    fn say(&self, alloc: Global, bytes: &[u8]) -> Result<Answer, AllocError> {
+        match read_game(alloc, bytes) {
+            Ok(game) => judged(alloc, game),
+            Err(error) => refused_text(alloc, file_error(error)),
+        }
+    }
+}
+
+/// `referee FILE`, once the table of FILE is held.
+#[derive(Drop)]
+pub(crate) struct RefereeBy<'a> {
+    pub held: &'a Held,
+}
+
+impl<'a> Told for RefereeBy<'a> {
+    ghost use Rattle.std.specs.Prelude.{◌<◌, length};
+    ghost use Rattle.renju_cli.specs.Referees.{HeldSays};
+
+    ghost in_range = { λ c. 0 < length c.held.now.roots };
+
+    ghost says = { λ c. HeldSays c.held.now };
+
+    fn say(&self, alloc: Global, bytes: &[u8]) -> Result<Answer, AllocError> {
+        match read_game(alloc, bytes) {
+            Ok(game) => compared(alloc, self.held, game),
+            Err(error) => refused_text(alloc, file_error(error)),
+        }
+    }
+}
+
+/// `referee FILE`: judges the input beside the table of the file, once it is accepted, and else writes why it is not held.
+#[inline(never)]
+pub(crate) fn referee_with<I: Source, O: Sink, F: Shelf>(
+    alloc: Global,
+    file: &str,
+    input: &mut I,
+    output: &mut O,
+    shelf: &mut F,
+) -> Status
+    ensures referees { (words : List (List ℕ)) → IsRefereeWith file.now (run_of words (change I.left I.faults input.old input.new)
+        (change O.written O.faults output.old output.new) (change F.files F.faults shelf.old shelf.new) (status_number result)) }
+    ensures taken { GivesSome (I.left input.old) (I.left input.new) }
+    ensures input { HasNotFallen (I.faults input.old) (I.faults input.new) }
+    ensures output { HasNotFallen (O.faults output.old) (O.faults output.new) }
+    ensures shelf { HasNotFallen (F.faults shelf.old) (F.faults shelf.new) }
+    ensures files { F.files shelf.new ≡ F.files shelf.old }
+    ensures reads { status_number result ≢ status_number Status.ReadFault → HasStayed (I.faults input.old) (I.faults input.new) }
+    ensures writes { status_number result ≢ status_number Status.WriteFault → HasStayed (O.faults output.old) (O.faults output.new) }
+    ensures loads { status_number result ≢ status_number Status.ShelfFault → status_number result ≢ status_number Status.WriteFault
+        → HasStayed (F.faults shelf.old) (F.faults shelf.new) }
+{
+    match shelf.load(alloc, file) {
+        Ok(bytes) => match load(alloc, bytes.as_slice()) {
+            Ok(Loaded::Holds(held)) => tell(alloc, &RefereeBy { held: &held }, input, output),
+            Ok(Loaded::Tells(answer)) => deliver(answer.status, answer.text.as_slice(), output),
+            Err(_) => Status::Memory,
+        },
+        Err(LoadError::Failed) => deliver(Status::ShelfFault, SHELF_FAILED.as_bytes(), output),
+        Err(LoadError::TooLong) => deliver(Status::TooLong, TOO_LONG.as_bytes(), output),
+        Err(LoadError::Memory) => Status::Memory,
+    }
+}
+
+/// The fault of a game, said as of any text.
+fn file_error(error: GameError) -> FileError
+    ensures error { result ≡ of_game error }
+{
+    match error {
+        GameError::BadLine(number) => FileError::BadLine(number),
+        GameError::Unlawful(why) => FileError::Unlawful(why),
+        GameError::Memory => FileError::Memory,
+    }
+}
+
+/// The verdict on a game.
+fn judged(alloc: Global, game: GameFile) -> Result<Answer, AllocError>
+    requires lawful { IsPosition game.kind game.board }
+    ensures judged { IfOk result (λ answer. IsJudged game answer.status answer.text.items) }
+{
+    under_rule!(game.kind, judged_under(alloc, game))
+}
+
+/// The same under the rule of the game.
+fn judged_under<R: Rule>(alloc: Global, game: GameFile) -> Result<Answer, AllocError>
+    requires kind { game.kind ≡ R.KIND }
+    requires lawful { IsPosition game.kind game.board }
+    ensures judged { IfOk result (λ answer. IsJudged game answer.status answer.text.items) }
+{
+    let GameFile {
+        kind: _,
+        board,
+        moves,
+    } = game;
+    let mut position = Position::<R>::new(board);
+    let verdict = judge(&mut position, moves.as_slice());
+    let text = write_verdict(alloc, &verdict)?;
+    Ok(Answer {
+        status: Status::Done,
+        text,
+    })
+}
+
+/// The verdict on a game, and what is said of it beside the table that is held.
+fn compared(alloc: Global, held: &Held, game: GameFile) -> Result<Answer, AllocError>
+    requires lawful { IsPosition game.kind game.board }
+    requires root { 0 < length held.now.roots }
+    ensures compared { IfOk result (λ answer. (file : TableFile) → held.now ≡ held_by file
+        → IsCompared file game answer.status answer.text.items) }
+{
+    under_rule!(game.kind, compared_under(alloc, held, game))
+}
+
+/// The same under the rule of the game.
+fn compared_under<R: Rule>(alloc: Global, held: &Held, game: GameFile) -> Result<Answer, AllocError>
+    requires kind { game.kind ≡ R.KIND }
+    requires lawful { IsPosition game.kind game.board }
+    requires root { 0 < length held.now.roots }
+    ensures compared { IfOk result (λ answer. (file : TableFile) → held.now ≡ held_by file
+        → IsCompared file game answer.status answer.text.items) }
+{
+    let GameFile {
+        kind: _,
+        board,
+        moves,
+    } = game;
+    let mut position = Position::<R>::new(board);
+    let verdict = judge(&mut position, moves.as_slice());
+    let mut text = write_verdict(alloc, &verdict)?;
+    let second = table_line(alloc, held, &mut position, moves.as_slice())?;
+    text.extend_from_slice(second.as_bytes())?;
+    Ok(Answer {
+        status: Status::Done,
+        text,
+    })
+}
+
+/// The line of a game beside the first root that is held.
+fn table_line<R: Rule>(
+    alloc: Global,
+    held: &Held,
+    position: &mut Position<R>,
+    moves: &[Point],
+) -> Result<String, AllocError>
+    requires root { 0 < length held.now.roots }
+    ensures line { IfOk result (λ text. (file : TableFile) → held.now ≡ held_by file
+        → TellsTable file R.KIND position.old moves.now (string_bytes text)) }
+{
+    if held.kind(0) == R::KIND && held.board(0).same(position.board()) {
+        replay_line(alloc, replay(held.table(), held.root(0), position, moves))
+    } else {
+        String::from_str(alloc, "table absent\n")
+    }
+}
+
+/// The line of a game that was compared with a table.
+fn replay_line(alloc: Global, answer: ReplayAnswer) -> Result<String, AllocError>
+    ensures line { IfOk result (λ text. string_bytes text ≡ replay_line_lem answer) }
+{
+    match answer {
+        ReplayAnswer::Follows => String::from_str(alloc, "table follows\n"),
+        ReplayAnswer::Departs(number) => format!(in alloc; "table departs {number}\n"),
+    }
+}
