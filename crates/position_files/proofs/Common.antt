@@ -2,7 +2,7 @@
 pub use Rattle.position_files.specs.Answers.{AnswersFit, NodeFits, OpenRestFits, ReplyFits, RestFits, StartFits, answers_with}
 pub use Rattle.position_files.specs.Boards.{AreSides, IsSide, SameBut}
 pub use Rattle.position_files.specs.Bodies.{BodyFits, IsBodyLines, IsFinishFault, IsFinished, body_lines}
-pub use Rattle.position_files.specs.Faults.{IsMiscounted, IsPositionFault, IsRefusedAs, IsTableFault, after_lines, at_line, in_file}
+pub use Rattle.position_files.specs.Faults.{IsMiscounted, IsPositionFault, IsTableFault, after_lines, at_line, in_file}
 pub use Rattle.position_files.specs.Positions.{IsPositionText, IsTextOfPosition, black_line, rule_line, rule_word, size_line, size_text, white_line}
 unfoldable pub use Rattle.position_files.specs.Positions.{board_lines, position_text, stones}
 pub use Rattle.position_files.specs.ReadBack.{HeadsReadBack, NamesFirstBad, NodesNameFirstBad, NodesReadBack, PositionsReadBack, StartsNameFirstBad, StartsReadBack, TablesReadBack}

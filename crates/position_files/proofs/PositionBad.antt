@@ -18,7 +18,7 @@ use Rattle.text_lines.proofs.Leaving.{HasParts, leaves_after}
 use Rattle.text_lines.proofs.Badness.{first_bad, too_many}
 use Rattle.position_files.proofs.BoardLines.{board-free, board-length, board_lines-injective, least_side}
 use Rattle.foul_judge.specs.declared.position.PositionError.{PositionError}
-use Rattle.position_files.proofs.Common.{board_lines, position_text, IsTextOfPosition, IsPositionText, IsBoardLines, IsSectionFault, IsPositionFault, IsRefusedAs, after_lines, in_file}
+use Rattle.position_files.proofs.Common.{board_lines, position_text, IsTextOfPosition, IsPositionText, IsBoardLines, IsSectionFault, IsPositionFault, after_lines, in_file}
 
 -- ---- the lines of a position
 

@@ -34,7 +34,8 @@ use Rattle.game_rules.proofs.Wins.{wins_on-ways, no_win, row_wins-five}
 use Rattle.row_shapes.specs.FivePoints.{in_short}
 use Rattle.threat_moves.specs.ThreeMoves.{is_several}
 use Rattle.threat_moves.proofs.GainLaws.{several, few-double, taken-no_gain, no_gain-double}
-use Rattle.threat_game.specs.NearDoubles.{FarAreNone, is_manned, is_near, makes_two, some_makes_two}
+use Rattle.threat_game.specs.NearDoubles.{AreNearLines, FarAreNone, is_manned, is_near, is_some_line, lines_hold, makes_two, some_makes_two}
+use Rattle.threat_game.specs.declared.near_lines.NearLines.{NearLines}
 
 not_true : (r : Bool) → not r ≡ true → r ≡ false
 not_true true h = cc
