@@ -6,14 +6,39 @@ use Rattle.std.specs.Str.Parse.{digits_value}
 use Rattle.std.specs.Fmt.{decimal}
 use Rattle.std.proofs.lemmas.Fmt.{decimal_is_IsNumeral}
 use Rattle.renju_cli.specs.declared.commands.Form.{Form}
-use Rattle.renju_cli.specs.declared.commands.Form.TheVariants.{Check, Foul, Fours, Threats, Solve, Brain, BrainWith, Drill, Referee, RefereeWith}
+use Rattle.renju_cli.specs.declared.commands.Form.TheVariants.{Check, Foul, Fours, Threats, Solve, Brain, BrainWith, Drill, Referee, RefereeWith, Image}
 use Rattle.renju_cli.specs.declared.TheConstants.{MAX_WORK}
 use Rattle.renju_cli.specs.Forms.{HasWords}
 use Rattle.renju_cli.specs.Commands.{command, IsForm, HasForm}
+use Rattle.board_symmetry.specs.declared.symmetry.Symmetry.{Symmetry}
+use Rattle.board_symmetry.specs.declared.symmetry.Symmetry.TheVariants.{Identity, Half, FlipX, FlipY, Quarter, ThreeQuarter, Diagonal, AntiDiagonal}
+use Rattle.renju_cli.specs.Images.{symmetry_word}
 
 -- the number that a word writes
 abbrev number_at : List (List ℕ) → ℕ → ℕ
 number_at words k = digits_value 10 (get_or words k [])
+
+-- the symmetry that a word tells, if it tells one
+abbrev pub symmetry_told : List ℕ → Symmetry
+symmetry_told word =
+    if bytes_eq word (codes "half") then Half
+    else (if bytes_eq word (codes "flip-x") then FlipX
+    else (if bytes_eq word (codes "flip-y") then FlipY
+    else (if bytes_eq word (codes "quarter") then Quarter
+    else (if bytes_eq word (codes "three-quarter") then ThreeQuarter
+    else (if bytes_eq word (codes "diagonal") then Diagonal
+    else (if bytes_eq word (codes "antidiagonal") then AntiDiagonal
+    else Identity))))))
+
+symmetry-spelled : (s : Symmetry) → symmetry_told (symmetry_word s) ≡ s
+symmetry-spelled Identity = refl
+symmetry-spelled Half = refl
+symmetry-spelled FlipX = refl
+symmetry-spelled FlipY = refl
+symmetry-spelled Quarter = refl
+symmetry-spelled ThreeQuarter = refl
+symmetry-spelled Diagonal = refl
+symmetry-spelled AntiDiagonal = refl
 
 -- the form that words tell, if they have one
 abbrev pub form_told : List (List ℕ) → Form
@@ -24,8 +49,9 @@ form_told words =
     else (if bytes_eq (get_or words 0 []) (codes "solve") then Solve (number_at words 1) (number_at words 2)
     else (if bytes_eq (get_or words 0 []) (codes "foul") then Foul
     else (if bytes_eq (get_or words 0 []) (codes "drill") then Drill (number_at words 1)
+    else (if bytes_eq (get_or words 0 []) (codes "image") then Image (symmetry_told (get_or words 1 []))
     else (if bytes_eq (get_or words 0 []) (codes "referee") then (if nat_lt 1 (length words) then RefereeWith else Referee)
-    else (if nat_lt 1 (length words) then BrainWith else Brain)))))))
+    else (if nat_lt 1 (length words) then BrainWith else Brain))))))))
 
 number-written : (n : ℕ) → n ≤ MAX_WORK → digits_value 10 (decimal n) ≡ n
 number-written n few = let d = decimal_is_IsNumeral n (omega (arith, few)) in d.1
@@ -39,6 +65,7 @@ form-spelled words (Check work) range = ap Check (number-written work range.1)
 form-spelled words Foul range = refl
 form-spelled words Brain range = refl
 form-spelled words BrainWith range = refl
+form-spelled words (Image s) range = ap Image (symmetry-spelled s)
 form-spelled words Referee range = refl
 form-spelled words RefereeWith range = refl
 form-spelled words (Drill number) range = ap Drill (number-written number (omega (arith, range)))

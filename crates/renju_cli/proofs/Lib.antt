@@ -12,5 +12,6 @@ mod Solutions
 mod BrainLaws
 mod GameLaws
 mod DrillLaws
+mod ImageLaws
 mod RefereeLaws
 mod ReportLaws

@@ -1,7 +1,7 @@
 -- What follows of a run from its report: the command of its form did what it does, and so answered where it is sure to.
 use Rattle.std.proofs.Common.{◌≡◌, inl, inr, sym, ap, subst, ℕ, List}
 use Rattle.renju_cli.specs.declared.commands.Form.{Form}
-use Rattle.renju_cli.specs.declared.commands.Form.TheVariants.{Check, Foul, Fours, Threats, Solve, Brain, BrainWith, Drill, Referee, RefereeWith}
+use Rattle.renju_cli.specs.declared.commands.Form.TheVariants.{Check, Foul, Fours, Threats, Solve, Brain, BrainWith, Drill, Referee, RefereeWith, Image}
 use Rattle.renju_cli.specs.Runs.{Run}
 use Rattle.renju_cli.specs.Forms.{HasWords}
 use Rattle.renju_cli.specs.Checks.{check_command, ShowsWin}
@@ -26,6 +26,8 @@ use Rattle.renju_cli.proofs.DrillLaws.{drill-answers, drill-shown}
 use Rattle.renju_cli.proofs.RefereeLaws.{referee-answers, referee-with-answers, referee-shown}
 use Rattle.renju_cli.proofs.ThreatsLaws.{threats-answers, threats-searched}
 use Rattle.renju_cli.proofs.SolveLaws.{solve-answers, solve-shown}
+use Rattle.renju_cli.specs.Images.{image_command, ShowsImage}
+use Rattle.renju_cli.proofs.ImageLaws.{image-answers, image-shown}
 
 -- the command of the words did what it does
 does-of : (run : Run) → Report run → (form : Form) → IsForm run.words form → (command run.words form).Does run
@@ -39,6 +41,7 @@ answers Foul run does = answers-told foul_command foul-answers run does
 answers Brain run does = brain-answers run does
 answers BrainWith run does = brain-with-answers (second_word run.words) run does
 answers (Drill number) run does = drill-answers number run does
+answers (Image s) run does = answers-told (image_command s) (image-answers s) run does
 answers Referee run does = answers-told referee_command referee-answers run does
 answers RefereeWith run does = referee-with-answers (second_word run.words) run does
 answers (Fours depth nodes) run does = answers-told (fours_command depth nodes) (fours-answers depth nodes) run does
@@ -83,6 +86,9 @@ report-sequences run report limit nodes is = threats-searched limit nodes run (d
 
 pub report-solved : (run : Run) → Report run → ShowsSolution run
 report-solved run report depth nodes is = solve-shown depth nodes run (does-of run report (Solve depth nodes) is)
+
+pub report-imaged : (run : Run) → Report run → ShowsImage run
+report-imaged run report s is zero = image-shown s run zero (does-of run report (Image s) is)
 
 pub report-refereed : (run : Run) → Report run → ShowsReferee run
 report-refereed run report name is done =

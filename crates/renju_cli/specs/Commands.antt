@@ -1,7 +1,7 @@
 -- The commands, by their forms of words.
 use Rattle.std.specs.Prelude.{ℕ, List}
 use Rattle.renju_cli.specs.declared.commands.Form.{Form}
-use Rattle.renju_cli.specs.declared.commands.Form.TheVariants.{Check, Foul, Fours, Threats, Solve, Brain, BrainWith, Drill, Referee, RefereeWith}
+use Rattle.renju_cli.specs.declared.commands.Form.TheVariants.{Check, Foul, Fours, Threats, Solve, Brain, BrainWith, Drill, Referee, RefereeWith, Image}
 use Rattle.renju_cli.specs.Forms.{Command, IsSpelled}
 use Rattle.renju_cli.specs.Told.{told}
 use Rattle.renju_cli.specs.Checks.{check_command}
@@ -12,6 +12,7 @@ use Rattle.renju_cli.specs.Solves.{solve_command}
 use Rattle.renju_cli.specs.Brains.{second_word, brain_command, brain_with_command}
 use Rattle.renju_cli.specs.Drills.{drill_command}
 use Rattle.renju_cli.specs.Referees.{referee_command, referee_with_command}
+use Rattle.renju_cli.specs.Images.{image_command}
 
 -- the command that a form of these words stands for
 abbrev pub command : List (List ℕ) → Form → Command
@@ -23,6 +24,7 @@ command words (Solve depth nodes) = told (solve_command depth nodes)
 command words Brain = brain_command
 command words BrainWith = brain_with_command (second_word words)
 command words (Drill number) = drill_command number
+command words (Image s) = told (image_command s)
 command words Referee = told referee_command
 command words RefereeWith = referee_with_command (second_word words)
 

@@ -15,6 +15,7 @@ pub mod Solves
 pub mod Brains
 pub mod Games
 pub mod Drills
+pub mod Images
 pub mod Referees
 -- the list of commands, and what the program does
 pub mod Commands

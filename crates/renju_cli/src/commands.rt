@@ -14,17 +14,21 @@ use crate::check::Check;
 use crate::drill::drill;
 use crate::fouls::ListFouls;
 use crate::fours::Fours;
+use crate::image::Image;
 use crate::referee::{Referee, referee_with};
 use crate::solve::Solve;
 use crate::threats::FindSequence;
 use crate::told::{deliver, tell};
-use crate::{Status, brain, check, drill as drill_words, fouls, fours, referee, solve, threats};
+use crate::{
+    Status, brain, check, drill as drill_words, fouls, fours, image, referee, solve, threats,
+};
+use board_symmetry::Symmetry;
 use renju_io::{Shelf, Sink, Source};
 use std::alloc::Global;
 
 /// The line that words without a form are answered with.
 pub const USAGE: &str =
-    "usage: renju check WORK, foul, fours DEPTH NODES, threats LENGTH NODES, solve DEPTH NODES, brain [FILE], drill N, referee [FILE]\n";
+    "usage: renju check WORK, foul, fours DEPTH NODES, threats LENGTH NODES, solve DEPTH NODES, brain [FILE], drill N, image SYMMETRY, referee [FILE]\n";
 
 /// A form of words: the command and its numbers.
 #[derive(Clone, Copy, Debug, PartialEq, Eq)]
@@ -45,6 +49,8 @@ pub enum Form {
     BrainWith,
     /// `drill N`, with N up to `MAX_DRILL`.
     Drill { number: u32 },
+    /// `image SYMMETRY`.
+    Image { symmetry: Symmetry },
     /// `referee`.
     Referee,
     /// `referee FILE`, with a FILE that is not empty. It is the second word.
@@ -66,6 +72,7 @@ pub(crate) fn form_of(words: &[String]) -> Option<Form>
         "solve" => solve::form(rest),
         "brain" => brain::form(rest),
         "drill" => drill_words::form(rest),
+        "image" => image::form(rest),
         "referee" => referee::form(rest),
         _ => None,
     }
@@ -99,6 +106,7 @@ pub(crate) fn run<I: Source, O: Sink, F: Shelf>(
         Some(Form::Brain) => play(alloc, None, input, output),
         Some(Form::BrainWith) => play_with(alloc, words[1].as_str(), input, output, shelf),
         Some(Form::Drill { number }) => drill(alloc, number, output),
+        Some(Form::Image { symmetry }) => tell(alloc, &Image { symmetry }, input, output),
         Some(Form::Referee) => tell(alloc, &Referee, input, output),
         Some(Form::RefereeWith) => referee_with(alloc, words[1].as_str(), input, output, shelf),
     }

@@ -12,6 +12,7 @@ mod commands;
 mod drill;
 mod fouls;
 mod fours;
+mod image;
 mod loading;
 mod numbers;
 mod referee;

@@ -14,6 +14,7 @@ ghost use Rattle.renju_cli.specs.Games.{ShowsHeldGames, ShowsOwnGames};
 ghost use Rattle.renju_cli.specs.Drills.{ShowsDrill};
 ghost use Rattle.renju_cli.specs.Referees.{ShowsReferee};
 ghost use Rattle.renju_cli.specs.Reports.{Report, IsComplete};
+ghost use Rattle.renju_cli.specs.Images.{ShowsImage};
 
 use crate::commands::run;
 use renju_io::{Shelf, Sink, Source};
@@ -23,7 +24,7 @@ use std::alloc::Global;
 /// the shelf, writes to the output, and answers the status to exit with.
 ///
 /// The status and the text that are due are those of `Status` and of the commands. Words without a form get the usage line
-/// and status 1, and leave the input unasked, as `drill` does. `check`, `foul`, `fours`, `threats`, `solve` and `referee` speak of an
+/// and status 1, and leave the input unasked, as `drill` does. `check`, `foul`, `fours`, `threats`, `solve`, `image` and `referee` speak of an
 /// input only once it was read to its end; a brain answers each line before it reads the next. Only `brain FILE` and `referee FILE`
 /// ask the shelf, before the input, and no command changes it. A failing output gives status 8 in place of the status that was due, and the output then has the front of the text; want of memory
 /// gives 6 and a failing input 7, and then nothing is written, or by a brain that serves the answers to the lines before.
@@ -62,6 +63,9 @@ pub fn run_renju<I: Source, O: Sink, F: Shelf>(
     // What status 0 of `drill` shows: the counts of the number, of which there are no others; each table of a win is accepted, and
     // each game is won.
     ensures drilled { ShowsDrill (run_of (map string_bytes words.now) (change I.left I.faults input.old input.new)
+        (change O.written O.faults output.old output.new) (change F.files F.faults shelf.old shelf.new) result) }
+    // What status 0 of `image` shows: the text of the image of a table, which is accepted exactly where the table is.
+    ensures imaged { ShowsImage (run_of (map string_bytes words.now) (change I.left I.faults input.old input.new)
         (change O.written O.faults output.old output.new) (change F.files F.faults shelf.old shelf.new) result) }
     // What status 0 of `referee FILE` shows: the verdict on the game, and whether it was played by the table of FILE, which is
     // accepted. Where it was, the side of the table did not lose it.

@@ -20,6 +20,8 @@ mod fouls;
 mod fours;
 mod held_sessions;
 #[cfg(test)]
+mod images;
+#[cfg(test)]
 mod inputs;
 #[cfg(test)]
 mod referees;

@@ -8,7 +8,7 @@ use std::test::Fail;
 
 /// No words, words of no command, words of a command that are too few or too many, and words that are no number in its
 /// range: zeros, leading zeros, signs, fractions, letters, and numbers that are 1 but for a power of two.
-const FORMLESS: [&str; 48] = [
+const FORMLESS: [&str; 54] = [
     "",
     "help",
     "--help",
@@ -54,6 +54,12 @@ const FORMLESS: [&str; 48] = [
     "solve 5 0",
     "solve 5 3 1",
     "solve 4294967297 1",
+    "image",
+    "image 0",
+    "image Half",
+    "image flip",
+    "image half half",
+    "images half",
     "Referee",
     "referees t",
     "referee t t",

@@ -1,7 +1,7 @@
 use Rattle.std.proofs.Common.{◌≡◌, List, ℕ, [], ◌∷◌, ◌∙◌, ap, sym, subst, get_or}
 use Rattle.std.specs.Prelude.{codes, string_bytes, Option, MatchOption}
 use Rattle.renju_cli.specs.declared.commands.Form.{Form}
-use Rattle.renju_cli.specs.declared.commands.Form.TheVariants.{Check, Foul, Fours, Threats, Solve, Brain, BrainWith, Drill, Referee, RefereeWith}
+use Rattle.renju_cli.specs.declared.commands.Form.TheVariants.{Check, Foul, Fours, Threats, Solve, Brain, BrainWith, Drill, Referee, RefereeWith, Image}
 use Rattle.renju_cli.specs.Commands.{command, HasForm, IsForm}
 use Rattle.renju_cli.proofs.Words.{no-words as none, first-word}
 use Rattle.renju_cli.proofs.FormLaws.{no-words, no-command}
@@ -56,6 +56,12 @@ returns-in-drill c = record {
       (sym c.as_str.ensures.value ∙ c.in-drill.is) c.form-in-drill.ensures.form;
 }
 
+pub returns-in-image : goal.returns-in-image
+returns-in-image c = record {
+  form = told-of c.form-in-image.result _ _ (codes "image") _ (first-word string_bytes c.args.words.now c.name-item.result c.in-len1-up.len_at_least c.name-item.is)
+      (sym c.as_str.ensures.value ∙ c.in-image.is) c.form-in-image.ensures.form;
+}
+
 pub returns-in-referee : goal.returns-in-referee
 returns-in-referee c = record {
   form = told-of c.form-in-referee.result _ _ (codes "referee") _ (first-word string_bytes c.args.words.now c.name-item.result c.in-len1-up.len_at_least c.name-item.is)
@@ -75,6 +81,7 @@ returns-in_default-as_str c =
       | Solve depth nodes ↦ λ is. c.in_default-as_str.not-solve (c.as_str.ensures.value ∙ is)
       | Brain ↦ λ is. c.in_default-as_str.not-brain (c.as_str.ensures.value ∙ is)
       | BrainWith ↦ λ is. c.in_default-as_str.not-brain (c.as_str.ensures.value ∙ is)
+      | Image s ↦ λ is. c.in_default-as_str.not-image (c.as_str.ensures.value ∙ is)
       | Drill number ↦ λ is. c.in_default-as_str.not-drill (c.as_str.ensures.value ∙ is)
       | Referee ↦ λ is. c.in_default-as_str.not-referee (c.as_str.ensures.value ∙ is)
       | RefereeWith ↦ λ is. c.in_default-as_str.not-referee (c.as_str.ensures.value ∙ is)

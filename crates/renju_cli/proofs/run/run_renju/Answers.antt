@@ -1,4 +1,4 @@
-use Rattle.renju_cli.proofs.ReportLaws.{report-won, report-searched, report-sequences, report-solved, report-games, report-own_games, report-drilled, report-complete, report-refereed}
+use Rattle.renju_cli.proofs.ReportLaws.{report-won, report-searched, report-sequences, report-solved, report-games, report-own_games, report-drilled, report-complete, report-refereed, report-imaged}
 use Rattle.renju_cli.proofs.run.run_renju.Goals as goal
 
 -- all that holds of a run follows from its report
@@ -10,6 +10,7 @@ returns g c = rw c.number.ensures.number (record {
   own_games = report-own_games _ c.run.ensures.report;
   searched = report-searched _ c.run.ensures.report;
   drilled = report-drilled _ c.run.ensures.report;
+  imaged = report-imaged _ c.run.ensures.report;
   refereed = report-refereed _ c.run.ensures.report;
   sequences = report-sequences _ c.run.ensures.report;
   solved = report-solved _ c.run.ensures.report;

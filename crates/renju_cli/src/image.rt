@@ -1,0 +1,108 @@
+//! The command `image`: a table carried over to another side of the board.
+//!
+//! The text is read, and the text of its image under the symmetry is written. The table is not checked: its image is accepted
+//! exactly where it is.
+#![tactic(auto)]
+
+ghost use Rattle.std.specs.Prelude.{◌≡◌, ◌≢◌, ◌∷◌, ℕ, List, codes, map, IfOk, MatchOption, string_bytes};
+ghost use Rattle.game_rules.specs.Play.{IsPosition};
+ghost use Rattle.strategy_graph.specs.Roots.{root_depth};
+ghost use Rattle.position_files.specs.Tables.{IsTextOfTable};
+ghost use Rattle.board_symmetry.specs.declared.symmetry.Symmetry.{Symmetry};
+ghost use Rattle.renju_cli.specs.Images.{FileSays, ImageSays, symmetry_word, unfit_line};
+ghost use Rattle.renju_cli.specs.Commands.{IsForm, HasForm};
+
+use crate::answer::Answer;
+use crate::refusals::refused_text;
+use crate::told::Told;
+use crate::{Form, Status};
+use board_symmetry::{Symmetry, image_board, image_root, image_table};
+use position_files::{TableFile, read_table, write_table};
+use std::alloc::{AllocError, Global};
+
+/// The form of `image` and the words after it, if they are SYMMETRY alone.
+pub(crate) fn form(rest: &[String]) -> Option<Form>
+    ensures form { MatchOption result (¬ HasForm (codes "image" ∷ map string_bytes rest.now)) (λ form. IsForm (codes "image" ∷ map string_bytes rest.now) form) }
+{
+    let [word] = rest else {
+        return None;
+    };
+    let symmetry = symmetry(word.as_str())?;
+    Some(Form::Image { symmetry })
+}
+
+/// The symmetry of this word, if it is that of one.
+fn symmetry(word: &str) -> Option<Symmetry>
+    ensures word { MatchOption result ((s : Symmetry) → word.now ≢ symmetry_word s) (λ s. word.now ≡ symmetry_word s) }
+{
+    match word {
+        "identity" => Some(Symmetry::Identity),
+        "half" => Some(Symmetry::Half),
+        "flip-x" => Some(Symmetry::FlipX),
+        "flip-y" => Some(Symmetry::FlipY),
+        "quarter" => Some(Symmetry::Quarter),
+        "three-quarter" => Some(Symmetry::ThreeQuarter),
+        "diagonal" => Some(Symmetry::Diagonal),
+        "antidiagonal" => Some(Symmetry::AntiDiagonal),
+        _ => None,
+    }
+}
+
+/// `image SYMMETRY`.
+#[derive(Clone, Copy)]
+pub(crate) struct Image {
+    pub symmetry: Symmetry,
+}
+
+impl Told for Image {
+    ghost use Rattle.renju_cli.specs.Images.{ImageSays};
+
+    ghost in_range = { λ c. Unit {0} };
+
+    ghost says = { λ c. ImageSays c.symmetry };
+
+    fn say(&self, alloc: Global, bytes: &[u8]) -> Result<Answer, AllocError> {
+        match read_table(alloc, bytes) {
+            Ok(file) => image_of(alloc, self.symmetry, file),
+            Err(error) => refused_text(alloc, error),
+        }
+    }
+}
+
+/// What is said of a text that was read.
+fn image_of(alloc: Global, s: Symmetry, file: TableFile) -> Result<Answer, AllocError>
+    requires text { (bytes : List ℕ) × IsTextOfTable file bytes }
+    requires lawful { IsPosition file.kind file.board }
+    requires moves { file.moves ≡ root_depth file.table file.root }
+    ensures says { IfOk result (λ answer. FileSays s file answer.status answer.text.items) }
+{
+    let TableFile {
+        kind,
+        board,
+        table,
+        root,
+        moves,
+    } = file;
+    let (width, height) = (board.width(), board.height());
+    if !s.fits(width, height) {
+        return unfit(alloc);
+    }
+    let image = image_board(alloc, s, &board)?;
+    let nodes = image_table(alloc, s, width, height, &table)?;
+    let root = image_root(alloc, s, width, height, &root)?;
+    Ok(Answer {
+        status: Status::Done,
+        text: write_table(alloc, kind, &image, &nodes, &root, moves)?,
+    })
+}
+
+/// The answer where the symmetry does not fit the board.
+fn unfit(alloc: Global) -> Result<Answer, AllocError>
+    ensures status { IfOk result (λ answer. answer.status ≡ Status.RefusedText) }
+    ensures text { IfOk result (λ answer. answer.text.items ≡ unfit_line) }
+{
+    Ok(Answer::told(
+        Status::RefusedText,
+        String::from_str(alloc, "refused symmetry\n")?,
+    ))
+}
