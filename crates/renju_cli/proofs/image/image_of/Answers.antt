@@ -20,7 +20,8 @@ write_table-requires c =
     let wide = c.width-width.ensures.width in
     let high = c.height-height.ensures.height in
     let fit = image-fit c.args.s c.args.file _ _ wide high c.fits.result true c.fits.ensures.fits c.if-not-fits.false in
-    let made = image-made c.args.s c.args.file _ _ wide high _ _ _ c.in_ok-image.ensures.image c.in_ok-nodes.ensures.image c.in_ok-root.ensures.image in
+    let made = image-made c.args.s c.args.file _ _ wide high _ _ _ c.in_ok-image.ensures.image c.in_ok-nodes.ensures.image
+    c.in_ok-root.ensures.image in
     let both = image-writable c.args.s c.args.file _ c.requires.text.0 c.requires.text.1 fit made in
     record { on_board = both.0; root = both.1 }
 
@@ -29,7 +30,8 @@ returns c =
     let wide = c.width-width.ensures.width in
     let high = c.height-height.ensures.height in
     let fit = image-fit c.args.s c.args.file _ _ wide high c.fits.result true c.fits.ensures.fits c.if-not-fits.false in
-    let made = image-made c.args.s c.args.file _ _ wide high _ _ _ c.in_ok-image.ensures.image c.in_ok-nodes.ensures.image c.in_ok-root.ensures.image in
+    let made = image-made c.args.s c.args.file _ _ wide high _ _ _ c.in_ok-image.ensures.image c.in_ok-nodes.ensures.image
+    c.in_ok-root.ensures.image in
     record {
       says = inl (image-written c.args.s c.args.file _ c.requires.text.0 _ c.requires.text.1 c.requires.lawful c.requires.moves fit made
           c.in_ok-write_table.ensures.written);
