@@ -25,7 +25,7 @@ ghost use Rattle.strategy_graph.specs.Arrivals.{arrivals, arrivals_at, start_arr
 ghost use Rattle.strategy_graph.specs.Acceptance.{AcceptedStart};
 ghost use Rattle.strategy_graph.specs.Leads.{LeadsStart};
 ghost use Rattle.strategy_graph.specs.Roots.{AcceptedRoot, LeadsRoot, root_arrivals, root_below};
-ghost use Rattle.strategy_checker.specs.Walks.{AreFives, IsNoted, IsOutlook, IsQuick, IsReady, IsSure, IsTrueMemo, NotesAt, Takes, TellsFives, Walked, WalkedNode, WalkedReplies, WalkedReply, fives_after, is_sure_after, leaves_none as leaves_none_lem};
+ghost use Rattle.strategy_checker.specs.Walks.{AreFives, IsNoted, IsOutlook, IsQuick, IsReady, IsSure, IsTrueMemo, IsWalked, NotesAt, Takes, TellsFives, Walked, WalkedNode, WalkedReplies, WalkedReply, fives_after, is_sure_after, leaves_none as leaves_none_lem};
 
 use crate::Why;
 use crate::others::{has_fouls, is_listed, others_going_on};
@@ -200,7 +200,7 @@ impl Walk {
     }
 
     /// Walks on from a node whose attack goes on. Where the memo has the node at the position, its arrivals are taken at once,
-    /// and else it is remembered, unless it is walked again in less time than a look takes. The position is the same afterwards.
+    /// and else it is remembered. The position is the same afterwards.
     #[cycle(walk)]
     #[inline(always)]
     fn go_on<R: Rule>(
@@ -220,40 +220,57 @@ impl Walk {
         ensures walked { WalkedNode R.KIND table.now i position.old self.old self.new result }
         ensures same { position.new ≡ position.old }
     {
-        if is_soon_won(table, i, node) {
-            return self.attack(table, i, node, fives, position);
+        if let Some(arrivals) = self.look(table, i, node, position) {
+            return self.take(arrivals);
         }
-        match self.memo.find(position.board(), i) {
-            Some(arrivals) => self.take(arrivals),
-            None => self.remember(table, i, node, fives, position),
-        }
+        let before = self.left;
+        self.attack(table, i, node, fives, position)?;
+        self.keep(table, i, node, position, before - self.left);
+        Ok(())
     }
 
-    /// Plays the attack of a node, walks on from each reply, and remembers the node at the position, which is the same
-    /// afterwards.
-    #[cycle(walk)]
-    #[inline(always)]
-    fn remember<R: Rule>(
+    /// The arrivals of the node at the position, where they are remembered. A node that is walked again in less time than a look
+    /// takes is not looked for.
+    #[inline(never)]
+    fn look<R: Rule>(
         &mut self,
         table: &Table,
         i: u32,
         node: &Node,
-        fives: Fives,
-        position: &mut Position<R>,
-    ) -> Result<(), Stop>
-        requires table { IsTable table.now }
-        requires node { slice_get table.now i ≡ Some node.now }
-        requires goes_on { outcome R.KIND position.old node.now.attack ≡ Outcome.GoesOn }
-        requires more { is_winning node.now.rest ≡ false }
-        requires ready { IsReady R.KIND table.now position.old self.old }
-        requires fives { AreFives R.KIND position.old fives }
-        ensures walked { WalkedNode R.KIND table.now i position.old self.old self.new result }
-        ensures same { position.new ≡ position.old }
+        position: &Position<R>,
+    ) -> Option<u64>
+        requires in_table { i < length table.now }
+        requires ready { IsReady R.KIND table.now position.now self.old }
+        ensures found { IfSome result (IsWalked R.KIND table.now position.now i) }
+        ensures ready { IsReady R.KIND table.now position.now self.new }
+        ensures left { self.new.left ≡ self.old.left }
     {
-        let before = self.left;
-        self.attack(table, i, node, fives, position)?;
-        self.memo.keep(position.board(), i, before - self.left);
-        Ok(())
+        if is_soon_won(table, i, node) {
+            None
+        } else {
+            self.memo.find(position.board(), i)
+        }
+    }
+
+    /// Remembers the arrivals of the node at the position, unless it is not looked for.
+    #[inline(never)]
+    fn keep<R: Rule>(
+        &mut self,
+        table: &Table,
+        i: u32,
+        node: &Node,
+        position: &Position<R>,
+        arrivals: u64,
+    )
+        requires in_table { i < length table.now }
+        requires ready { IsReady R.KIND table.now position.now self.old }
+        requires walked { IsWalked R.KIND table.now position.now i arrivals }
+        ensures ready { IsReady R.KIND table.now position.now self.new }
+        ensures left { self.new.left ≡ self.old.left }
+    {
+        if !is_soon_won(table, i, node) {
+            self.memo.keep(position.board(), i, arrivals);
+        }
     }
 
     /// Plays the attack of a node, and walks on from each reply. The position is the same afterwards.

@@ -302,25 +302,24 @@ visit-returns-in-Draws-clause-walked g t c =
 
 -- ---- a node whose attack goes on
 
-pub go_on-remember-requires : goal.go_on-remember-requires
-go_on-remember-requires g t c κs within =
-    let less : 8 * empties_of c.args.position.now + 1 < 8 * empties_of c.args.position.now + 2 = omega arith in
-    let looked : IsTrueMemo g.R.Rule.KIND c.args.table.now c.find.new.self = true-looked g.R.Rule.KIND (IsWalked g.R.Rule.KIND c.args.table.now) c.args.self.now.memo c.find.new.self (packed c.board.result.now, c.args.i) (inl c.find.ensures.entries) c.requires.ready.memo in
-    let ready : IsReady g.R.Rule.KIND c.args.table.now c.args.position.now (record { left = c.args.self.now.left; line = c.args.self.now.line; memo = c.find.new.self }) =
-    record { lawful = c.requires.ready.lawful; no_line = c.requires.ready.no_line; memo = looked } in
-    search rules
-
 pub go_on-returns-in-Some-clause-walked : goal.go_on-returns-in-Some-clause-walked
 go_on-returns-in-Some-clause-walked g t c =
     let rule : RuleKind = g.R.Rule.KIND in
-    let found = true-found rule (IsWalked rule c.args.table.now) c.args.position.now c.board.result.now c.args.i c.in-Some.arrivals c.args.self.now.memo c.requires.ready.lawful c.board.ensures.board c.requires.ready.memo c.in-Some.ensures.value in
-    let looked : IsTrueMemo rule c.args.table.now c.find.new.self = true-looked rule (IsWalked rule c.args.table.now) c.args.self.now.memo c.find.new.self (packed c.board.result.now, c.args.i) (inl c.find.ensures.entries) c.requires.ready.memo in
-    let counted = found.counted in
-    let mid : Walk = record { left = c.args.self.now.left; line = c.args.self.now.line; memo = c.find.new.self } in
+    let counted = c.in-Some.ensures.found.counted in
+    let left = c.look.ensures.left in
     let accepted : Type 0 = Accepted rule c.args.table.now c.args.i c.args.position.now in
     let leads : List Point → Why → Type 0 = Leads rule c.args.table.now c.args.i c.args.position.now in
-    walked-then rule c.args.table.now accepted accepted 0 c.in-Some.arrivals (arrivals rule c.args.table.now c.args.i c.args.position.now) leads leads c.args.self.now mid c.take.new.self c.take.result (omega arith) (omega (arith, counted)) (λ a. a) (λ line why l. l)
-    (taken rule c.args.table.now accepted c.in-Some.arrivals leads mid c.take.new.self c.take.result c.requires.ready.no_line looked found.accepted c.take.ensures.takes)
+    walked-then rule c.args.table.now accepted accepted 0 c.in-Some.arrivals (arrivals rule c.args.table.now c.args.i c.args.position.now) leads leads c.args.self.now c.look.new.self c.take.new.self c.take.result
+    (omega (arith, left)) (omega (arith, counted)) (λ a. a) (λ line why l. l)
+    (taken rule c.args.table.now accepted c.in-Some.arrivals leads c.look.new.self c.take.new.self c.take.result c.look.ensures.ready.no_line c.look.ensures.ready.memo c.in-Some.ensures.found.accepted c.take.ensures.takes)
+
+pub go_on-returns-clause-walked : goal.go_on-returns-clause-walked
+go_on-returns-clause-walked g t c =
+    let did = c.in_ok-attack.ensures.walked in
+    let behind = did.1.counted in
+    let left = c.look.ensures.left in
+    let kept = c.keep.ensures.left in
+    (did.0, record { counted = omega (arith, behind, left, kept); no_line = c.keep.ensures.ready.no_line; memo = c.keep.ensures.ready.memo })
 
 -- ---- an attack
 
@@ -401,22 +400,3 @@ attack-returns-clause-same g t c =
     c.undo.ensures.undone
     ∙ lift_back g.R.Rule.KIND c.args.position.now _ c.args.node.now.attack c.requires.ready.lawful c.requires.goes_on
     (c.meet_all-met.ensures.same ∙ c.play.ensures.played ∙ ap (λ (w : Grid). after w c.args.node.now.attack) c.told.ensures.same)
-
--- ---- a node that is remembered
-
-pub remember-returns-clause-walked : goal.remember-returns-clause-walked
-remember-returns-clause-walked g t c =
-    let rule : RuleKind = g.R.Rule.KIND in
-    let b : Grid = c.args.position.now in
-    let did = c.in_ok-attack.ensures.walked in
-    let behind = did.1.counted in
-    let size = c.args.self.now.left - c.attack.new.self.left in
-    let counted : arrivals rule c.args.table.now c.args.i b ≡ size = omega (arith, behind) in (
-      did.0,
-      record {
-        counted = behind;
-        no_line = did.1.no_line;
-        memo = true-kept rule (IsWalked rule c.args.table.now) b c.board.result.now c.args.i size c.attack.new.self.memo
-            c.requires.ready.lawful (c.board.ensures.board ∙ c.attack.ensures.same) did.1.memo c.keep.new.self (record { accepted = did.0; counted = counted }) c.keep.ensures.kept;
-      },
-    )

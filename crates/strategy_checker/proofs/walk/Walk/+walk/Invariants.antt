@@ -11,9 +11,6 @@ decreases-visit g l = 8 * empties_of l.position.now + 3
 abbrev pub decreases-go_on : goal.decreases-go_on
 decreases-go_on g l = 8 * empties_of l.position.now + 2
 
-abbrev pub decreases-remember : goal.decreases-remember
-decreases-remember g l = 8 * empties_of l.position.now + 1
-
 abbrev pub decreases-attack : goal.decreases-attack
 decreases-attack g l = 8 * empties_of l.position.now
 
