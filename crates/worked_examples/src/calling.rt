@@ -1,16 +1,18 @@
 //! Callers of crates that one may want alone: the judge of fouls, the checker of tables, the searches for sequences of threats and
-//! for wins by threats, the readers and writers of texts.
+//! for wins by threats, the readers and writers of texts, the images of boards.
 //!
 //! Each caller is proved from the public contracts of what it calls, and a test runs it. `docs/CALLING.md` shows these lines.
 #![tactic(auto)]
 
-ghost use Rattle.std.specs.Prelude.{◌≡◌, ◌≤◌, ◌<◌, length, is_none, is_some, IsTrue, IfOk, IfSome};
+ghost use Rattle.std.specs.Prelude.{◌≡◌, ◌↔◌, ◌≤◌, ◌<◌, ℕ, length, is_none, is_some, IsTrue, IfOk, IfSome};
+ghost use Rattle.game_rules.specs.declared.RuleKind.{RuleKind};
 ghost use Rattle.game_rules.specs.Grid.{is_empty};
 ghost use Rattle.game_rules.specs.Play.{foul_of};
 ghost use Rattle.game_rules.specs.Games.{WinsWithin};
 ghost use Rattle.threat_space.specs.Sequences.{first_sequence};
 ghost use Rattle.proof_number.specs.declared.TheConstants.{MAX_BUDGET, MAX_DEPTH};
 
+use board_symmetry::{Symmetry, image_board, images_keep_wins};
 use foul_judge::{Position, foul_at};
 use game_rules::{Point, RuleKind, Side};
 use position_files::{FileError, TableFile, read_position, read_table, write_position};
@@ -201,5 +203,31 @@ fn a_text_is_the_one_of_its_position(rt: HostRuntime) -> Result<(), Fail> {
     );
     let other = b"renju-position 1\nrule renju\nsize 9,5\nblack 1,2 0,2\nwhite 0,0\n";
     assert!(rt; matches!(written_again(rt.alloc(), other), Err(FileError::BadLine(4))));
+    Ok(())
+}
+
+/// The image of the board, if the symmetry fits it: it is won where the board is, within as many moves.
+fn image_that_wins(alloc: Global, s: Symmetry, board: &Board) -> Result<Option<Board>, AllocError>
+    ensures wins { IfOk result (λ found. IfSome found (λ image.
+        (rule : RuleKind) (n : ℕ) → WinsWithin rule n image ↔ WinsWithin rule n board.now)) }
+{
+    if !s.fits(board.width(), board.height()) {
+        return Ok(None);
+    }
+    images_keep_wins();
+    Ok(Some(image_board(alloc, s, board)?))
+}
+
+#[test]
+fn a_quarter_of_a_turn_wants_a_square(rt: HostRuntime) -> Result<(), Fail> {
+    let mut board = Board::empty(rt.alloc(), 9, 9)?;
+    let (corner, turned) = (Point { x: 0, y: 0 }, Point { x: 8, y: 0 });
+    assert!(rt; board.is_empty(corner));
+    board.put(corner, Side::Black);
+    let image = image_that_wins(rt.alloc(), Symmetry::Quarter, &board)?;
+    assert!(rt; image.is_some_and(|image| image.holds(Side::Black, turned)));
+    let long = Board::empty(rt.alloc(), 9, 5)?;
+    assert!(rt; image_that_wins(rt.alloc(), Symmetry::Quarter, &long)?.is_none());
+    assert!(rt; image_that_wins(rt.alloc(), Symmetry::Half, &long)?.is_some());
     Ok(())
 }
