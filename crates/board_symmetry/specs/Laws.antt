@@ -90,12 +90,12 @@ pub record KeepsRoot (s : Symmetry) (b : Grid) (t : List Node) (r : Root) : Type
       → root_arrivals rule (table_image s b.width b.height t) (root_image s b.width b.height r) (board_image s b) ≡ root_arrivals rule t r b
   pub same_claim : (rule : RuleKind) (n : ℕ) → RootWins rule (root_image s b.width b.height r) n (board_image s b) ↔ RootWins rule r n b
 
--- the root is one that a table can have: a start is one
+-- a root that is a start is one whose replies rise and whose rest is not that of a winning node
 abbrev pub IsRoot : Root → Type 0
 IsRoot (Attack i) = Unit {0}
 IsRoot (Defend a) = IsStart a
 
--- and so do roots
+-- roots say what they said
 abbrev pub ImagesKeepRoots : Type 0
 ImagesKeepRoots = OnImages (λ s b. (t : List Node) → IsTable t → TableOnBoard b t → (r : Root) → IsRoot r → RootOnBoard b r
     → KeepsRoot s b t r)
