@@ -5,7 +5,7 @@
 
 use crate::inputs::{
     BLOCK_FOULS, BLOCK_FOULS_TABLE, DIAMOND, FIVE_AND_SIX, FIVE_AND_SIX_TABLE, NO_STONES,
-    TWO_MOVES, TWO_MOVES_TABLE,
+    QUIET_WIN, TWO_MOVES, TWO_MOVES_TABLE,
 };
 use crate::runs::{Example, answers_as_worked_out, run_sound};
 use std::test::Fail;
