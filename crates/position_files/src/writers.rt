@@ -10,16 +10,16 @@ ghost use Rattle.std.specs.Fmt.{decimal};
 ghost use Rattle.game_rules.specs.Grid.{IsBoard};
 ghost use Rattle.strategy_graph.specs.Tables.{IsTable, TableOnBoard};
 ghost use Rattle.text_lines.specs.Lines.{ended, text_of};
-ghost use Rattle.text_lines.specs.Spellings.{space, point_text};
+ghost use Rattle.text_lines.specs.Spellings.{space};
 ghost use Rattle.position_files.specs.Positions.{IsTextOfPosition, board_lines};
-ghost use Rattle.position_files.specs.Tables.{IsTextOfTable, RootFits, answers_text, node_line, nodes_lines, replies_text, reply_text, rest_text as rest_text_lem, start_line, table_text as table_text_lem};
+ghost use Rattle.position_files.specs.Tables.{IsTextOfTable, RootFits, answers_text, node_line, nodes_lines, replies_text, reply_text, rest_text, start_line, table_text as table_text_lem};
 
 use crate::written::board_text;
-use game_rules::{Point, RuleKind};
+use game_rules::RuleKind;
 use std::alloc::{AllocError, Global};
 use stone_board::Board;
 use strategy_graph::{Node, Replies, Reply, Rest, Root, Start, Table};
-use text_lines::push_number_line;
+use text_lines::{push_number, push_number_line, push_point, push_spaced_point};
 
 /// Writes the text of a position. `Err` says that memory ran out.
 #[tactic(auto, unfolding(crate::specs::Positions::position_text))]
@@ -31,110 +31,100 @@ pub fn write_position(alloc: Global, kind: RuleKind, board: &Board) -> Result<Ve
     Ok(text.into_bytes())
 }
 
-/// A reply that is listed, and the node that answers it, after a space.
-fn spaced_reply(alloc: Global, reply: Reply) -> Result<String, AllocError>
-    ensures text { IfOk result (λ text. string_bytes text ≡ space ∷ reply_text reply) }
+/// Adds a reply that is listed, and the node that answers it, to a text, after a space.
+fn push_reply(text: &mut String, reply: Reply) -> Result<(), AllocError>
+    ensures reply { IfOk result (λ _. string_bytes text.new ≡ string_bytes text.old
+        ++ space ∷ reply_text reply) }
 {
-    let x = reply.at.x;
-    let y = reply.at.y;
-    let next = reply.next;
-    format!(in alloc; " {x},{y}>{next}")
+    push_spaced_point(text, reply.at)?;
+    text.push_str(">")?;
+    push_number(text, reply.next)?;
+    Ok(())
 }
 
 /// Adds replies to a text, each after a space.
-fn push_replies(alloc: Global, text: &mut String, replies: &[Reply]) -> Result<(), AllocError>
+fn push_replies(text: &mut String, replies: &[Reply]) -> Result<(), AllocError>
     ensures replies { IfOk result (λ _. string_bytes text.new ≡ string_bytes text.old
         ++ replies_text replies.now) }
 {
     for reply in replies {
-        let word = spaced_reply(alloc, *reply)?;
-        text.push_str(word.as_str())?;
+        push_reply(text, *reply)?;
     }
     Ok(())
 }
 
-/// What answers the replies that are not listed.
-fn rest_text(alloc: Global, rest: Rest) -> Result<String, AllocError>
-    ensures text { IfOk result (λ text. string_bytes text ≡ rest_text_lem rest) }
+/// Adds what answers the replies that are not listed to a text.
+fn push_rest(text: &mut String, rest: Rest) -> Result<(), AllocError>
+    ensures rest { IfOk result (λ _. string_bytes text.new ≡ string_bytes text.old
+        ++ rest_text rest) }
 {
     match rest {
-        Rest::Wins => String::from_str(alloc, "wins"),
-        Rest::To(number) => format!(in alloc; "rest {number}"),
-        Rest::Nothing => String::from_str(alloc, "only"),
+        Rest::Wins => text.push_str("wins")?,
+        Rest::To(number) => {
+            text.push_str("rest ")?;
+            push_number(text, number)?;
+        }
+        Rest::Nothing => text.push_str("only")?,
     }
+    Ok(())
 }
 
 /// Adds the rest and the replies that are listed to a text.
-fn push_answers(
-    alloc: Global,
-    text: &mut String,
-    replies: &Replies,
-    rest: Rest,
-) -> Result<(), AllocError>
+fn push_answers(text: &mut String, replies: &Replies, rest: Rest) -> Result<(), AllocError>
     ensures answers { IfOk result (λ _. string_bytes text.new ≡ string_bytes text.old
         ++ answers_text (record { replies = replies.now; rest = rest })) }
 {
-    let word = rest_text(alloc, rest)?;
-    text.push_str(word.as_str())?;
-    push_replies(alloc, text, replies.as_slice())?;
+    push_rest(text, rest)?;
+    push_replies(text, replies.as_slice())?;
     Ok(())
 }
 
-/// The attack of a node, and the space after it.
-fn attack_text(alloc: Global, at: Point) -> Result<String, AllocError>
-    ensures text { IfOk result (λ text. string_bytes text ≡ point_text at ++ space ∷ []) }
-{
-    let x = at.x;
-    let y = at.y;
-    format!(in alloc; "{x},{y} ")
-}
-
 /// Adds the line of a node to a text.
-fn push_node(alloc: Global, text: &mut String, node: &Node) -> Result<(), AllocError>
+fn push_node(text: &mut String, node: &Node) -> Result<(), AllocError>
     ensures line { IfOk result (λ _. string_bytes text.new ≡ string_bytes text.old
         ++ ended (node_line node.now)) }
 {
-    let attack = attack_text(alloc, node.attack)?;
-    text.push_str(attack.as_str())?;
-    push_answers(alloc, text, &node.replies, node.rest)?;
+    push_point(text, node.attack)?;
+    text.push_str(" ")?;
+    push_answers(text, &node.replies, node.rest)?;
     text.push_str("\n")?;
     Ok(())
 }
 
 /// Adds the line of a start to a text.
-fn push_start(alloc: Global, text: &mut String, start: &Start) -> Result<(), AllocError>
+fn push_start(text: &mut String, start: &Start) -> Result<(), AllocError>
     ensures line { IfOk result (λ _. string_bytes text.new ≡ string_bytes text.old
         ++ ended (start_line start.now)) }
 {
     text.push_str("start ")?;
-    push_answers(alloc, text, start.replies(), start.rest())?;
+    push_answers(text, start.replies(), start.rest())?;
     text.push_str("\n")?;
     Ok(())
 }
 
 /// Adds the lines of the nodes of a table to a text.
 #[tactic(auto, using(crate::proofs::Growth::node_grown, crate::proofs::Growth::nodes_grown))]
-fn push_nodes(alloc: Global, text: &mut String, table: &Table) -> Result<(), AllocError>
+fn push_nodes(text: &mut String, table: &Table) -> Result<(), AllocError>
     ensures nodes { IfOk result (λ _. string_bytes text.new ≡ string_bytes text.old
         ++ text_of (map node_line table.now)) }
 {
     for i in 0..table.len() {
-        push_node(alloc, text, table.node(i))?;
+        push_node(text, table.node(i))?;
     }
     Ok(())
 }
 
 /// Adds the lines from the number of moves to the last node to a text.
 #[tactic(auto, using(crate::proofs::Growth::table_grown))]
-fn push_table(alloc: Global, text: &mut String, table: &Table, moves: u32) -> Result<(), AllocError>
+fn push_table(text: &mut String, table: &Table, moves: u32) -> Result<(), AllocError>
     ensures lines { IfOk result (λ _. string_bytes text.new ≡ string_bytes text.old
         ++ text_of (nodes_lines table.now moves)) }
     ensures table { IsTable table.now }
 {
     let len = table.len();
-    push_number_line(alloc, text, "moves ", moves)?;
-    push_number_line(alloc, text, "nodes ", len)?;
-    push_nodes(alloc, text, table)?;
+    push_number_line(text, "moves ", moves)?;
+    push_number_line(text, "nodes ", len)?;
+    push_nodes(text, table)?;
     Ok(())
 }
 
@@ -154,7 +144,7 @@ fn body_text(
     ensures table { IfOk result (λ _. IsTable table.now) }
 {
     let mut text = board_text(alloc, first, kind, board)?;
-    push_table(alloc, &mut text, table, moves)?;
+    push_table(&mut text, table, moves)?;
     Ok(text)
 }
 
@@ -177,7 +167,7 @@ fn table_text(
         Root::Attack(_) => body_text(alloc, "renju-table 1", kind, board, table, moves),
         Root::Defend(start) => {
             let mut text = body_text(alloc, "renju-table 2", kind, board, table, moves)?;
-            push_start(alloc, &mut text, start)?;
+            push_start(&mut text, start)?;
             Ok(text)
         }
     }

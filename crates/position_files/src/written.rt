@@ -8,12 +8,12 @@ ghost use Rattle.std.specs.Prelude.{◌≡◌, ◌∷◌, ◌++◌, IfOk, string
 ghost use Rattle.game_rules.specs.Grid.{IsBoard};
 ghost use Rattle.text_lines.specs.Lines.{ended, text_of};
 ghost use Rattle.text_lines.specs.Spellings.{points_text};
-ghost use Rattle.position_files.specs.Positions.{board_lines, rule_line, rule_word as rule_word_lem, size_line as size_line_lem, stones};
+ghost use Rattle.position_files.specs.Positions.{board_lines, rule_line, rule_word as rule_word_lem, size_line, stones};
 
 use game_rules::{RuleKind, Side};
 use std::alloc::{AllocError, Global};
 use stone_board::Board;
-use text_lines::{push_line, push_point};
+use text_lines::{push_line, push_number, push_spaced_point};
 
 /// The word of a rule.
 fn rule_word(kind: RuleKind) -> &'static str
@@ -36,42 +36,40 @@ fn push_rule(text: &mut String, kind: RuleKind) -> Result<(), AllocError>
     Ok(())
 }
 
-/// The line of a size: one number where the width and the height are the same.
-fn size_line(alloc: Global, width: u8, height: u8) -> Result<String, AllocError>
-    ensures line { IfOk result (λ text. string_bytes text ≡ size_line_lem width height) }
+/// Adds a size to a text: one number where the width and the height are the same.
+fn push_sides(text: &mut String, width: u8, height: u8) -> Result<(), AllocError>
+    ensures sides { IfOk result (λ _. string_bytes text.new ≡ string_bytes text.old
+        ++ size_line width height) }
 {
-    if width == height {
-        format!(in alloc; "size {width}")
-    } else {
-        format!(in alloc; "size {width},{height}")
+    text.push_str("size ")?;
+    push_number(text, u32::from(width))?;
+    if width != height {
+        text.push_str(",")?;
+        push_number(text, u32::from(height))?;
     }
+    Ok(())
 }
 
 /// Adds the line of the size of a board to a text.
-fn push_size(alloc: Global, text: &mut String, board: &Board) -> Result<(), AllocError>
+fn push_size(text: &mut String, board: &Board) -> Result<(), AllocError>
     ensures line { IfOk result (λ _. string_bytes text.new ≡ string_bytes text.old
-        ++ ended (size_line_lem board.now.width board.now.height)) }
+        ++ ended (size_line board.now.width board.now.height)) }
     ensures board { IsBoard board.now }
 {
-    let line = size_line(alloc, board.width(), board.height())?;
-    push_line(text, line.as_str())?;
+    push_sides(text, board.width(), board.height())?;
+    text.push_str("\n")?;
     Ok(())
 }
 
 /// Adds the points at which stones of the side stand to a text, in reading order, each after a space.
 #[tactic(auto, unfolding(crate::specs::Positions::stones))]
-fn push_stones(
-    alloc: Global,
-    text: &mut String,
-    board: &Board,
-    side: Side,
-) -> Result<(), AllocError>
+fn push_stones(text: &mut String, board: &Board, side: Side) -> Result<(), AllocError>
     ensures stones { IfOk result (λ _. string_bytes text.new ≡ string_bytes text.old
         ++ points_text (stones board.now side)) }
 {
     for p in board.points() {
         if board.holds(side, p) {
-            push_point(alloc, text, p)?;
+            push_spaced_point(text, p)?;
         }
     }
     Ok(())
@@ -79,7 +77,6 @@ fn push_stones(
 
 /// Adds the line of the stones of the side to a text, after this word.
 fn push_stones_line(
-    alloc: Global,
     text: &mut String,
     board: &Board,
     side: Side,
@@ -89,7 +86,7 @@ fn push_stones_line(
         ++ ended (word.now ++ points_text (stones board.now side))) }
 {
     text.push_str(word)?;
-    push_stones(alloc, text, board, side)?;
+    push_stones(text, board, side)?;
     text.push_str("\n")?;
     Ok(())
 }
@@ -109,8 +106,8 @@ pub(crate) fn board_text(
     let mut text = String::new(alloc);
     push_line(&mut text, first)?;
     push_rule(&mut text, kind)?;
-    push_size(alloc, &mut text, board)?;
-    push_stones_line(alloc, &mut text, board, Side::Black, "black")?;
-    push_stones_line(alloc, &mut text, board, Side::White, "white")?;
+    push_size(&mut text, board)?;
+    push_stones_line(&mut text, board, Side::Black, "black")?;
+    push_stones_line(&mut text, board, Side::White, "white")?;
     Ok(text)
 }

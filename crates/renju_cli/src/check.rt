@@ -125,7 +125,7 @@ pub(crate) fn refused_table(alloc: Global, why: Why, moves: &[Point]) -> Result<
 {
     let mut text = String::from_str(alloc, "refused ")?;
     text.push_str(why_word(why))?;
-    push_points(alloc, &mut text, moves)?;
+    push_points(&mut text, moves)?;
     text.push_str("\n")?;
     Ok(text)
 }

@@ -57,9 +57,9 @@ fn counted_lines(alloc: Global, number: u32, counts: Counts) -> Result<String, A
     let searches = search_line(alloc, counts.wins, counts.none, counts.spent)?;
     let games = game_line(alloc, counts.games, counts.moves)?;
     let mut text = format!(in alloc; "drill {number}\n")?;
-    push_number_line(alloc, &mut text, "positions ", POSITIONS)?;
+    push_number_line(&mut text, "positions ", POSITIONS)?;
     text.push_str(searches.as_str())?;
-    push_number_line(alloc, &mut text, "accepted ", counts.accepted)?;
+    push_number_line(&mut text, "accepted ", counts.accepted)?;
     text.push_str(games.as_str())?;
     Ok(text)
 }

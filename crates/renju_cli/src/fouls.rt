@@ -19,7 +19,7 @@ use position_files::{PositionFile, read_position};
 use row_shapes::{Rule, under_rule};
 use std::alloc::{AllocError, Global};
 use stone_board::{Board, Point, Side};
-use text_lines::{push_line, push_point};
+use text_lines::{push_line, push_spaced_point};
 
 /// A point where Black has a foul.
 #[derive(Clone, Copy, Debug, PartialEq, Eq)]
@@ -112,26 +112,26 @@ fn fouls_text(alloc: Global, fouls: &[FoulPoint]) -> Result<String, AllocError>
 {
     let count = fouls.len();
     let mut text = format!(in alloc; "fouls {count}\n")?;
-    push_fouls(alloc, &mut text, fouls)?;
+    push_fouls(&mut text, fouls)?;
     Ok(text)
 }
 
 /// Adds a line for each foul to a text.
-fn push_fouls(alloc: Global, text: &mut String, fouls: &[FoulPoint]) -> Result<(), AllocError>
+fn push_fouls(text: &mut String, fouls: &[FoulPoint]) -> Result<(), AllocError>
     ensures fouls { IfOk result (λ _. string_bytes text.new ≡ string_bytes text.old ++ flat_map foul_line fouls.now) }
 {
     for found in fouls {
-        push_foul(alloc, text, *found)?;
+        push_foul(text, *found)?;
     }
     Ok(())
 }
 
 /// Adds the line of a foul to a text.
-fn push_foul(alloc: Global, text: &mut String, found: FoulPoint) -> Result<(), AllocError>
+fn push_foul(text: &mut String, found: FoulPoint) -> Result<(), AllocError>
     ensures line { IfOk result (λ _. string_bytes text.new ≡ string_bytes text.old ++ foul_line found) }
 {
     text.push_str("foul")?;
-    push_point(alloc, text, found.at)?;
+    push_spaced_point(text, found.at)?;
     text.push_str(" ")?;
     push_line(text, foul_word(found.foul))?;
     Ok(())

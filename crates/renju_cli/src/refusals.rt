@@ -14,7 +14,7 @@ use foul_judge::PositionError;
 use position_files::FileError;
 use std::alloc::{AllocError, Global};
 use stone_board::Point;
-use text_lines::push_point;
+use text_lines::push_spaced_point;
 
 /// What is said of a text that is refused. Want of memory is handed on.
 pub(crate) fn refused_text(alloc: Global, error: FileError) -> Result<Answer, AllocError>
@@ -64,7 +64,7 @@ fn already_won(alloc: Global, at: Point) -> Result<String, AllocError>
     ensures line { IfOk result (λ text. string_bytes text ≡ already_won_line at) }
 {
     let mut text = String::from_str(alloc, "refused already won")?;
-    push_point(alloc, &mut text, at)?;
+    push_spaced_point(&mut text, at)?;
     text.push_str("\n")?;
     Ok(text)
 }

@@ -22,7 +22,7 @@ use position_files::{PositionFile, read_position};
 use row_shapes::{Rule, under_rule};
 use std::alloc::{AllocError, Global};
 use stone_board::{Axis, Point};
-use text_lines::{push_point, push_points};
+use text_lines::{push_points, push_spaced_point};
 use threat_moves::{Threat, ThreatKind, Threats};
 use threat_space::{MAX_LENGTH, SpaceAnswer, threat_space};
 
@@ -116,32 +116,32 @@ fn sequence_text(alloc: Global, threats: &[Threat], last: Point) -> Result<Strin
 {
     let count = threats.len();
     let mut text = format!(in alloc; "threats {count}\n")?;
-    push_threats(alloc, &mut text, threats)?;
+    push_threats(&mut text, threats)?;
     text.push_str("final")?;
-    push_point(alloc, &mut text, last)?;
+    push_spaced_point(&mut text, last)?;
     text.push_str("\n")?;
     Ok(text)
 }
 
 /// Adds a line for each threat to a text.
-fn push_threats(alloc: Global, text: &mut String, threats: &[Threat]) -> Result<(), AllocError>
+fn push_threats(text: &mut String, threats: &[Threat]) -> Result<(), AllocError>
     ensures threats { IfOk result (λ _. string_bytes text.new ≡ string_bytes text.old ++ flat_map threat_line threats.now) }
 {
     for threat in threats {
-        push_threat(alloc, text, threat)?;
+        push_threat(text, threat)?;
     }
     Ok(())
 }
 
 /// Adds the line of a threat to a text.
-fn push_threat(alloc: Global, text: &mut String, threat: &Threat) -> Result<(), AllocError>
+fn push_threat(text: &mut String, threat: &Threat) -> Result<(), AllocError>
     ensures line { IfOk result (λ _. string_bytes text.new ≡ string_bytes text.old ++ threat_line threat.now) }
 {
     text.push_str(kind_word(threat.kind))?;
-    push_point(alloc, text, threat.gain)?;
+    push_spaced_point(text, threat.gain)?;
     text.push_str(" ")?;
     text.push_str(axis_word(threat.axis))?;
-    push_points(alloc, text, threat.costs.as_slice())?;
+    push_points(text, threat.costs.as_slice())?;
     text.push_str("\n")?;
     Ok(())
 }

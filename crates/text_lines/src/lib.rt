@@ -19,4 +19,6 @@ pub use lines::{line, number_line, prefixed};
 pub use numbers::{large_number, number};
 pub use points::point;
 pub use words::{after, cut, is_text};
-pub use written::{push_line, push_number_line, push_point, push_points};
+pub use written::{
+    push_line, push_number, push_number_line, push_point, push_points, push_spaced_point,
+};

@@ -48,12 +48,8 @@ fn reads_words_and_lines(rt: HostRuntime) {
 fn writes_lines_and_points(rt: HostRuntime) -> Result<(), Fail> {
     let mut text = String::new(rt.alloc());
     push_line(&mut text, "renju-game 1")?;
-    push_number_line(rt.alloc(), &mut text, "moves ", 2)?;
-    push_points(
-        rt.alloc(),
-        &mut text,
-        &[Point { x: 4, y: 10 }, Point { x: 0, y: 31 }],
-    )?;
+    push_number_line(&mut text, "moves ", 2)?;
+    push_points(&mut text, &[Point { x: 4, y: 10 }, Point { x: 0, y: 31 }])?;
     assert_eq!(rt; text.as_str(), "renju-game 1\nmoves 2\n 4,10 0,31");
     Ok(())
 }

@@ -10,7 +10,8 @@ ghost use Rattle.text_lines.specs.Lines.{ended};
 ghost use Rattle.text_lines.specs.Spellings.{space, point_text, points_text};
 
 use game_rules::Point;
-use std::alloc::{AllocError, Global};
+use itoa::Buffer;
+use std::alloc::AllocError;
 
 /// Adds a line to a text, and the line feed that ends it.
 pub fn push_line(text: &mut String, line: &str) -> Result<(), AllocError>
@@ -22,48 +23,52 @@ pub fn push_line(text: &mut String, line: &str) -> Result<(), AllocError>
     Ok(())
 }
 
-/// Adds a line of this word and this number to a text.
-pub fn push_number_line(
-    alloc: Global,
-    text: &mut String,
-    word: &str,
-    number: u32,
-) -> Result<(), AllocError>
-    ensures line { IfOk result (λ _. string_bytes text.new ≡ string_bytes text.old
-        ++ ended (word.now ++ decimal number)) }
+/// Adds a number to a text, in decimal.
+pub fn push_number(text: &mut String, number: u32) -> Result<(), AllocError>
+    ensures number { IfOk result (λ _. string_bytes text.new ≡ string_bytes text.old
+        ++ decimal number) }
 {
-    let number = format!(in alloc; "{number}\n")?;
-    text.push_str(word)?;
-    text.push_str(number.as_str())?;
+    text.push_str(Buffer::new().format(number))?;
     Ok(())
 }
 
-/// A point after a space.
-fn spaced_point(alloc: Global, at: Point) -> Result<String, AllocError>
-    ensures text { IfOk result (λ text. string_bytes text ≡ space ∷ point_text at) }
+/// Adds a line of this word and this number to a text.
+pub fn push_number_line(text: &mut String, word: &str, number: u32) -> Result<(), AllocError>
+    ensures line { IfOk result (λ _. string_bytes text.new ≡ string_bytes text.old
+        ++ ended (word.now ++ decimal number)) }
 {
-    let x = at.x;
-    let y = at.y;
-    format!(in alloc; " {x},{y}")
+    text.push_str(word)?;
+    push_line(text, Buffer::new().format(number))
 }
 
-/// Adds a point to a text, after a space.
-pub fn push_point(alloc: Global, text: &mut String, at: Point) -> Result<(), AllocError>
+/// Adds a point to a text.
+pub fn push_point(text: &mut String, at: Point) -> Result<(), AllocError>
+    ensures point { IfOk result (λ _. string_bytes text.new ≡ string_bytes text.old
+        ++ point_text at) }
+{
+    push_number(text, u32::from(at.x))?;
+    text.push_str(",")?;
+    push_number(text, u32::from(at.y))?;
+    Ok(())
+}
+
+/// Adds a space and a point to a text.
+pub fn push_spaced_point(text: &mut String, at: Point) -> Result<(), AllocError>
     ensures point { IfOk result (λ _. string_bytes text.new ≡ string_bytes text.old
         ++ space ∷ point_text at) }
 {
-    let word = spaced_point(alloc, at)?;
-    text.push_str(word.as_str())?;
+    text.push_str(" ")?;
+    push_point(text, at)?;
     Ok(())
 }
 
 /// Adds points to a text, each after a space.
-pub fn push_points(alloc: Global, text: &mut String, points: &[Point]) -> Result<(), AllocError>
+pub fn push_points(text: &mut String, points: &[Point]) -> Result<(), AllocError>
     ensures points { IfOk result (λ _. string_bytes text.new ≡ string_bytes text.old
         ++ points_text points.now) }
 {
     for at in points {
-        push_point(alloc, text, *at)?;
+        push_spaced_point(text, *at)?;
     }
     Ok(())
 }

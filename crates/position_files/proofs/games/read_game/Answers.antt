@@ -1,11 +1,10 @@
-use Rattle.std.proofs.Common.{refl, sym, subst, ◌∙◌, take, drop, length, ◌-◌, List, ℕ}
+use Rattle.std.proofs.Common.{refl, sym, ◌∙◌}
 use Rattle.std.proofs.lemmas.Result.{err_from_is_err_and}
 use Rattle.text_lines.specs.Lines.{text_of}
 use Rattle.text_lines.proofs.TextLaws.{front_rest, no_bytes, some_bytes}
-use Rattle.game_rules.specs.declared.Point.{Point}
 use Rattle.position_files.specs.declared.GameFile.{GameFile}
 use Rattle.position_files.specs.Positions.{board_lines}
-use Rattle.position_files.specs.Games.{AreOn, IsTextOfGame}
+use Rattle.position_files.specs.Games.{IsTextOfGame}
 use Rattle.position_files.proofs.GameLaws.{sized, no_first_line, board_fault, moves_fault, more_lines_than_six, unlawful_fault, one_game, game_found}
 use Rattle.position_files.proofs.games.read_game.Goals as goal
 

@@ -1,6 +1,0 @@
-use Rattle.std.proofs.Common.{append_assoc, string_bytes}
-use Rattle.text_lines.proofs.TextLaws.{regroup}
-use Rattle.position_files.proofs.writers.spaced_reply.Goals as goal
-
-pub returns : goal.returns
-returns c = record { text = regroup string_bytes c.format.result _ _ (simp append_assoc) c.format.ensures.ok }
