@@ -17,16 +17,28 @@ use Rattle.game_rules.proofs.Points.{is_same_point-same}
 use Rattle.strategy_graph.specs.declared.Rest.{Rest}
 use Rattle.strategy_graph.specs.declared.Rest.TheVariants.{Wins as WinningRest, To, Nothing}
 use Rattle.strategy_graph.specs.declared.Node.{Node}
+use Rattle.strategy_graph.specs.declared.roots.Root.{Root}
 use Rattle.strategy_graph.specs.declared.roots.Root.TheVariants.{Attack, Defend}
+use Rattle.strategy_graph.specs.Roots.{AcceptedRoot}
 use Rattle.strategy_graph.specs.Tables.{Answers, answers_of, answer, is_winning}
 use Rattle.strategy_graph.specs.Acceptance.{Answered, NotWinning, Meets, AcceptedNode, AcceptedWithin, Accepted}
 use Rattle.strategy_graph.specs.Games.{End, Won as EndWon, Open as EndOpen, one_later, attacks, game}
 use Rattle.game_referee.specs.declared.GameVerdict.{GameVerdict}
 use Rattle.game_referee.specs.declared.GameVerdict.TheVariants.{Open, Illegal, AfterEnd, Won, Fouled, Drawn}
 use Rattle.game_referee.specs.declared.ReplayAnswer.TheVariants.{Follows}
-use Rattle.game_referee.specs.Verdicts.{outcomes, verdict, verdict_from}
-use Rattle.game_referee.specs.Replays.{departs_from, is_attack, replay, strays}
-use Rattle.game_referee.specs.Followers.{Agrees, FollowerNeverLoses, GamesGoByTable, IsKeptBy, IsPlayed, even_moves, mover_after, odd_moves}
+use Rattle.game_referee.specs.Verdicts.{if_last, outcomes, verdict, verdict_from}
+use Rattle.game_referee.specs.Replays.{departs_from, is_attack, is_stray, next_turn, replay, strays}
+use Rattle.game_referee.specs.Followers.{
+  Agrees,
+  FollowerNeverLoses,
+  GamesGoByTable,
+  IsKeptBy,
+  IsPlayed,
+  even_moves,
+  mover_after,
+  odd_moves,
+  side_of,
+}
 
 -- ---- what agrees, where c moves were played before
 
@@ -304,19 +316,126 @@ mover_odd : (s : Side) (m k : ℕ) → m ≡ 2 * k + 1 → mover_after s m ≡ o
 mover_odd s zero k odd = absurd (omega (arith, odd))
 mover_odd s (suc m) k odd = ap other (mover_even s m k (omega (arith, odd)))
 
--- only a game that was played is asked for
-kept-played : (s first : Side) (v : GameVerdict) → (IsPlayed v → IsKeptBy s first v) → IsKeptBy s first v
-kept-played s first (Open n) h = tt
-kept-played s first (Illegal n) h = tt
-kept-played s first (AfterEnd n) h = tt
-kept-played s first (Won side n) h = h tt
-kept-played s first (Fouled f n) h = h tt
-kept-played s first (Drawn n) h = h tt
+-- ---- a point that is no move is a reply, where c moves were played before
+
+abbrev IsReplys : ℕ → GameVerdict → Type 0
+IsReplys c (Open n) = Unit {0}
+IsReplys c (Illegal n) = (k : ℕ) × (n ≡ c + 2 * k)
+IsReplys c (AfterEnd n) = Unit {0}
+IsReplys c (Won side n) = Unit {0}
+IsReplys c (Fouled f n) = Unit {0}
+IsReplys c (Drawn n) = Unit {0}
+
+replys-later : (c : ℕ) (v : GameVerdict) → IsReplys (c + 1 + 1) v → IsReplys c v
+replys-later c (Open n) h = tt
+replys-later c (Illegal n) h = (h.0 + 1, let is = h.1 in omega (arith, is))
+replys-later c (AfterEnd n) h = tt
+replys-later c (Won side n) h = tt
+replys-later c (Fouled f n) h = tt
+replys-later c (Drawn n) h = tt
+
+replys-last : (c : ℕ) (v : GameVerdict) (n : ℕ) (os : List Outcome) → IsReplys c v → IsReplys c (if_last v n os)
+replys-last c v n [] h = h
+replys-last c v n (o ∷ os) h = tt
+
+-- what holds of all games from the nodes of which Next holds
+abbrev ReplysAfter : RuleKind → List Node → (ℕ → Grid → Type 0) → Type 0
+ReplysAfter rule t Next = (j : ℕ) (b : Grid) (ms : List Point) (c : ℕ) (s : Side) → Next j b → FollowsFrom rule t j b ms c
+    → IsReplys c (verdict_from c s (outcomes rule b ms))
+
+module _ (rule : RuleKind) (t : List Node) (i : ℕ) (b : Grid) (n : Node) (at : slice_get t i ≡ Some n) (c : ℕ) (s : Side)
+    (Next : ℕ → Grid → Type 0) (replys : ReplysAfter rule t Next) where
+  module _ (on : outcome rule b n.attack ≡ GoesOn) (rest : is_winning n.rest ≡ false) (q : Point) (more : List Point) where
+    by_reply-replys : (o : Outcome) → outcome rule (after b n.attack) q ≡ o
+        → IsReplys c (verdict_from (c + 1) (other s) (o ∷ outcomes rule (after (after b n.attack) q) more))
+        → IsReplys c (verdict_from c s (outcomes rule b (n.attack ∷ q ∷ more)))
+    by_reply-replys o is h = subst (IsReplys c) (sym (by_reply rule t i b n at c s on rest q more o is)) h
+
+    reply-replys : Meets rule (answers_of n) Next (after b n.attack) q
+        → departs_from c (false ∷ strays t (option_map (λ (m : Node). Defend (answers_of m)) (slice_get t i)) (q ∷ more))
+        (outcomes rule b (n.attack ∷ q ∷ more)) ≡ Follows
+        → IsReplys c (verdict_from c s (outcomes rule b (n.attack ∷ q ∷ more)))
+    reply-replys meets follows = by_outcome (outcome rule (after b n.attack) q) refl meets where
+      by_answer : outcome rule (after b n.attack) q ≡ GoesOn → (o : Option ℕ) → answer (answers_of n) q ≡ o
+          → Answered o (λ j. Next j (after (after b n.attack) q))
+          → IsReplys c (verdict_from (c + 1 + 1) (other (other s)) (outcomes rule (after (after b n.attack) q) more))
+      by_answer go None is h = absurd h
+      by_answer go (Some j) is h = replys-later c _ (replys j (after (after b n.attack) q) more (c + 1 + 1) (other (other s)) h
+          (follows-next rule t i b n at c s on rest q more j go is follows))
+
+      by_outcome : (o : Outcome) → outcome rule (after b n.attack) q ≡ o
+          → LosesOr o (Answered (answer (answers_of n) q) (λ j. Next j (after (after b n.attack) q)))
+          → IsReplys c (verdict_from c s (outcomes rule b (n.attack ∷ q ∷ more)))
+      by_outcome Refused is h = by_reply-replys Refused is (1, omega arith)
+      by_outcome Wins is h = absurd h
+      by_outcome (Fouls f) is h = by_reply-replys (Fouls f) is
+          (replys-last c (Fouled f (c + 1 + 1)) (c + 1 + 1) (outcomes rule (after (after b n.attack) q) more) tt)
+      by_outcome Draws is h = absurd h
+      by_outcome GoesOn is h = by_reply-replys GoesOn is (by_answer is (answer (answers_of n) q) refl h)
+
+  attack-replys : WinsOr (outcome rule b n.attack)
+      (NotWinning n.rest × ((q : Point) → Meets rule (answers_of n) Next (after b n.attack) q)) → (more : List Point)
+      → departs_from c (false ∷ strays t (option_map (λ (m : Node). Defend (answers_of m)) (slice_get t i)) more)
+      (outcomes rule b (n.attack ∷ more)) ≡ Follows
+      → IsReplys c (verdict_from c s (outcomes rule b (n.attack ∷ more)))
+  attack-replys accepted more follows = by_outcome (outcome rule b n.attack) refl accepted where
+    by_attack : (o : Outcome) → outcome rule b n.attack ≡ o → (ms : List Point)
+        → IsReplys c (verdict_from c s (o ∷ outcomes rule (after b n.attack) ms))
+        → IsReplys c (verdict_from c s (outcomes rule b (n.attack ∷ ms)))
+    by_attack o is ms h =
+        subst (λ (x : Outcome). IsReplys c (verdict_from c s (x ∷ outcomes rule (after b n.attack) ms))) (sym is) h
+
+    by_more : outcome rule b n.attack ≡ GoesOn → NotWinning n.rest × ((q : Point) → Meets rule (answers_of n) Next (after b n.attack) q)
+        → (ms : List Point)
+        → departs_from c (false ∷ strays t (option_map (λ (m : Node). Defend (answers_of m)) (slice_get t i)) ms)
+        (outcomes rule b (n.attack ∷ ms)) ≡ Follows
+        → IsReplys c (verdict_from c s (outcomes rule b (n.attack ∷ ms)))
+    by_more on h [] fol = by_attack GoesOn on [] tt
+    by_more on h (q ∷ ms) fol = reply-replys on (not_winning n.rest h.0) q ms (h.1 q) fol
+
+    by_outcome : (o : Outcome) → outcome rule b n.attack ≡ o
+        → WinsOr o (NotWinning n.rest × ((q : Point) → Meets rule (answers_of n) Next (after b n.attack) q))
+        → IsReplys c (verdict_from c s (outcomes rule b (n.attack ∷ more)))
+    by_outcome Refused is h = absurd h
+    by_outcome Wins is h = by_attack Wins is more (replys-last c (Won s (c + 1)) (c + 1) (outcomes rule (after b n.attack) more) tt)
+    by_outcome (Fouls f) is h = absurd h
+    by_outcome Draws is h = absurd h
+    by_outcome GoesOn is h = by_more is h more follows
+
+node-replys : (rule : RuleKind) (t : List Node) (i : ℕ) (b : Grid) (Next : ℕ → Grid → Type 0) → ReplysAfter rule t Next
+    → (o : Option Node) → slice_get t i ≡ o → AcceptedNode rule o Next b → (ms : List Point) (c : ℕ) (s : Side)
+    → FollowsFrom rule t i b ms c → IsReplys c (verdict_from c s (outcomes rule b ms))
+node-replys rule t i b Next replys None at h ms c s follows = absurd h
+node-replys rule t i b Next replys (Some n) at h [] c s follows = tt
+node-replys rule t i b Next replys (Some n) at h (p ∷ more) c s follows =
+    let bs : List Bool = strays t (option_map (λ (m : Node). Defend (answers_of m)) (slice_get t i)) more in
+    let stray : not (is_attack (slice_get t i) p) ≡ false = first_stray bs (outcomes rule b (p ∷ more)) c _ follows in
+    let same : n.attack ≡ p = is_attack-same n p (subst (λ (o : Option Node). not (is_attack o p) ≡ false) at stray) in
+    let on = subst (λ (x : Bool). departs_from c (x ∷ bs) (outcomes rule b (p ∷ more)) ≡ Follows) stray follows in
+    subst (λ (x : Point). IsReplys c (verdict_from c s (outcomes rule b (x ∷ more)))) same
+    (attack-replys rule t i b n at c s Next replys h more
+    (subst (λ (x : Point). departs_from c (false ∷ bs) (outcomes rule b (x ∷ more)) ≡ Follows) (sym same) on))
+
+within-replys : (rule : RuleKind) (t : List Node) (f : ℕ) → ReplysAfter rule t (AcceptedWithin f rule t)
+unfolding AcceptedWithin
+within-replys rule t zero i b ms c s h follows = absurd h
+within-replys rule t (suc f) i b ms c s h follows = node-replys rule t i b (AcceptedWithin f rule t) (within-replys rule t f)
+    (slice_get t i) refl h ms c s follows
+
+-- only of a game that was played is more asked than whose move is none
+kept-played : (c : ℕ) (s first : Side) (v : GameVerdict) → ((m k : ℕ) → m ≡ c + 2 * k → mover_after first m ≡ s) → IsReplys c v
+    → (IsPlayed v → IsKeptBy s first v) → IsKeptBy s first v
+kept-played c s first (Open n) turn r h = tt
+kept-played c s first (Illegal n) turn r h = turn n r.0 r.1
+kept-played c s first (AfterEnd n) turn r h = tt
+kept-played c s first (Won side n) turn r h = h tt
+kept-played c s first (Fouled f n) turn r h = h tt
+kept-played c s first (Drawn n) turn r h = h tt
 
 kept-agrees : (c : ℕ) (s first : Side) (len : ℕ) (v : GameVerdict) (e : End) → ((m k : ℕ) → m ≡ c + 2 * k → mover_after first m ≡ s)
     → AgreesFrom c s len v e → IsKeptBy s first v
 kept-agrees c s first len (Open n) e turn h = tt
-kept-agrees c s first len (Illegal n) e turn h = tt
+kept-agrees c s first len (Illegal n) e turn h = absurd h
 kept-agrees c s first len (AfterEnd n) e turn h = tt
 kept-agrees c s first len (Won side n) e turn h = h.0
 kept-agrees c s first len (Fouled f n) e turn h = turn n h.1.0 (let is = h.0 in let even = h.1.1 in omega (arith, is, even))
@@ -326,7 +445,7 @@ node-kept : (rule : RuleKind) (t : List Node) (j : ℕ) (b : Grid) (ms : List Po
     → ((m k : ℕ) → m ≡ c + 2 * k → mover_after first m ≡ s) → Accepted rule t j b → FollowsFrom rule t j b ms c
     → IsKeptBy s first (verdict_from c s (outcomes rule b ms))
 node-kept rule t j b ms c s first turn accepted follows =
-    kept-played s first (verdict_from c s (outcomes rule b ms)) (λ played.
+    kept-played c s first (verdict_from c s (outcomes rule b ms)) turn (within-replys rule t (suc j) j b ms c s accepted follows) (λ played.
     kept-agrees c s first (length ms) (verdict_from c s (outcomes rule b ms)) (game rule t j b (even_moves ms)) turn
     (within-held rule t (suc j) j b ms c s accepted follows played).agrees)
 
@@ -352,7 +471,7 @@ start-kept rule t a b q ms meets follows = by_outcome (outcome rule b q) refl me
   by_outcome : (o : Outcome) → outcome rule b q ≡ o → LosesOr o (Answered (answer a q) (λ j. Accepted rule t j (after b q)))
       → IsKeptBy (other (mover b)) (mover b) (verdict_from 0 (mover b) (outcomes rule b (q ∷ ms)))
   by_outcome Refused is h = subst
-      (λ (x : Outcome). IsKeptBy (other (mover b)) (mover b) (verdict_from 0 (mover b) (x ∷ outcomes rule (after b q) ms))) (sym is) tt
+      (λ (x : Outcome). IsKeptBy (other (mover b)) (mover b) (verdict_from 0 (mover b) (x ∷ outcomes rule (after b q) ms))) (sym is) refl
   by_outcome Wins is h = absurd h
   by_outcome (Fouls f) is h = subst
       (λ (x : Outcome). IsKeptBy (other (mover b)) (mover b) (verdict_from 0 (mover b) (x ∷ outcomes rule (after b q) ms))) (sym is)
@@ -362,9 +481,40 @@ start-kept rule t a b q ms meets follows = by_outcome (outcome rule b q) refl me
       (λ (x : Outcome). IsKeptBy (other (mover b)) (mover b) (verdict_from 0 (mover b) (x ∷ outcomes rule (after b q) ms))) (sym is)
       (by_answer is (answer a q) refl h)
 
-pub follower-never-loses : FollowerNeverLoses
+whole-kept : (rule : RuleKind) (t : List Node) (root : Root) (b : Grid) (ms : List Point) → AcceptedRoot rule t root b
+    → replay rule t root b ms ≡ Follows → IsKeptBy (side_of root b) (mover b) (verdict rule b ms)
 unfolding replay verdict
-follower-never-loses rule t (Attack i) b ms accepted follows = node-kept rule t i b ms 0 (mover b) (mover b)
+whole-kept rule t (Attack i) b ms accepted follows = node-kept rule t i b ms 0 (mover b) (mover b)
     (λ m k even. mover_even (mover b) m k (omega (arith, even))) accepted follows
-follower-never-loses rule t (Defend a) b [] accepted follows = tt
-follower-never-loses rule t (Defend a) b (q ∷ ms) accepted follows = start-kept rule t a b q ms (accepted q) follows
+whole-kept rule t (Defend a) b [] accepted follows = tt
+whole-kept rule t (Defend a) b (q ∷ ms) accepted follows = start-kept rule t a b q ms (accepted q) follows
+
+-- one more move on both sides
+move-follows : (c : ℕ) (stray : Bool) (bs cs : List Bool) (o : Outcome) (os ps : List Outcome)
+    → (departs_from (c + 1) bs os ≡ Follows → departs_from (c + 1) cs ps ≡ Follows)
+    → departs_from c (stray ∷ bs) (o ∷ os) ≡ Follows → departs_from c (stray ∷ cs) (o ∷ ps) ≡ Follows
+move-follows c true bs cs o os ps step h = h
+move-follows c false bs cs Refused os ps step h = refl
+move-follows c false bs cs Wins os ps step h = refl
+move-follows c false bs cs (Fouls f) os ps step h = refl
+move-follows c false bs cs Draws os ps step h = refl
+move-follows c false bs cs GoesOn os ps step h = step h
+
+-- a front of moves that follow follows
+front-follows : (rule : RuleKind) (t : List Node) (turn : Option Root) (c : ℕ) (b : Grid) (front later : List Point)
+    → departs_from c (strays t turn (front ++ later)) (outcomes rule b (front ++ later)) ≡ Follows
+    → departs_from c (strays t turn front) (outcomes rule b front) ≡ Follows
+front-follows rule t turn c b [] later h = refl
+front-follows rule t turn c b (p ∷ ps) later h =
+    move-follows c (is_stray t turn p) (strays t (next_turn t turn p) (ps ++ later)) (strays t (next_turn t turn p) ps) (outcome rule b p)
+    (outcomes rule (after b p) (ps ++ later)) (outcomes rule (after b p) ps)
+    (front-follows rule t (next_turn t turn p) (c + 1) (after b p) ps later) h
+
+front-replay : (rule : RuleKind) (t : List Node) (root : Root) (b : Grid) (front later : List Point)
+    → replay rule t root b (front ++ later) ≡ Follows → replay rule t root b front ≡ Follows
+unfolding replay
+front-replay rule t root b front later h = front-follows rule t (Some root) 0 b front later h
+
+pub follower-never-loses : FollowerNeverLoses
+follower-never-loses rule t root b ms accepted follows front later is = whole-kept rule t root b front accepted
+    (front-replay rule t root b front later (subst (λ (l : List Point). replay rule t root b l ≡ Follows) is follows))

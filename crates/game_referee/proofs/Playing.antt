@@ -1,5 +1,5 @@
 -- A move that goes on, played: the board after it is lawful, has one empty point less, and the other side moves there.
-use Rattle.std.proofs.Common.{◌≡◌, ℕ, ◌+◌, ◌*◌, ◌≤◌, Bool, false, List, [], ◌∷◌, refl, sym, ap, ◌∙◌}
+use Rattle.std.proofs.Common.{◌≡◌, ℕ, ◌+◌, Bool, false, List, [], ◌∷◌, refl, sym, ap, ◌∙◌}
 use Rattle.std.specs.Prelude.{Option, None}
 use Rattle.game_rules.specs.Grid.{Grid, empties_of}
 use Rattle.game_rules.specs.Play.{IsPosition, outcome, after, mover, other}

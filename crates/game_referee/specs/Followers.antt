@@ -77,18 +77,22 @@ mover_after s zero = s
 mover_after s (suc n) = other (mover_after s n)
 
 -- The side did not lose the game in which the side `first` played the first move, and it is no draw: a win is its own, and after a
--- foul it was to move, so that the other side fouled.
+-- foul, or a point that is no move, it was to move, so that the other side's was the fault.
 abbrev pub IsKeptBy : Side → Side → GameVerdict → Type 0
 IsKeptBy s first (Open n) = Unit {0}
-IsKeptBy s first (Illegal n) = Unit {0}
+IsKeptBy s first (Illegal n) = mover_after first n ≡ s
 IsKeptBy s first (AfterEnd n) = Unit {0}
 IsKeptBy s first (Won side n) = side ≡ s
 IsKeptBy s first (Fouled f n) = mover_after first n ≡ s
 IsKeptBy s first (Drawn n) = ⊥
 
--- a game that follows a table from an accepted root was not lost by the side of the table, and is no draw
+-- The side did not lose the game of these moves from the board, and no front of them is one that it lost or that is drawn: so where
+-- moves come after the end, this holds of the game that had ended.
+abbrev pub NeverLoses : RuleKind → Side → Grid → List Point → Type 0
+NeverLoses rule s b ms = (front later : List Point) → ms ≡ front ++ later → IsKeptBy s (mover b) (verdict rule b front)
+
+-- the side of the table never loses a game that follows the table from an accepted root
 abbrev pub FollowerNeverLoses : Type 0
 FollowerNeverLoses =
     (rule : RuleKind) (t : List Node) (root : Root) (b : Grid) (ms : List Point) → AcceptedRoot rule t root b
-    → replay rule t root b ms ≡ Follows
-    → IsKeptBy (side_of root b) (mover b) (verdict rule b ms)
+    → replay rule t root b ms ≡ Follows → NeverLoses rule (side_of root b) b ms

@@ -7,11 +7,11 @@
 ghost use Rattle.std.specs.Prelude.{◌≡◌, ◌+◌, ◌≤◌, ◌∷◌, false, Some};
 ghost use Rattle.std.specs.Option.{option_and_then};
 ghost use Rattle.game_rules.specs.Grid.{empties_of};
-ghost use Rattle.game_rules.specs.Play.{IsPosition, after, mover as mover_lem, outcome as outcome_lem};
+ghost use Rattle.game_rules.specs.Play.{IsPosition, after, outcome as outcome_lem};
 ghost use Rattle.strategy_graph.specs.Roots.{AcceptedRoot};
-ghost use Rattle.game_referee.specs.Verdicts.{outcomes, verdict};
+ghost use Rattle.game_referee.specs.Verdicts.{outcomes};
 ghost use Rattle.game_referee.specs.Replays.{departs_from, in_turn, is_stray as is_stray_lem, next_turn as next_turn_lem, replay as replay_lem, strays};
-ghost use Rattle.game_referee.specs.Followers.{IsKeptBy, side_of};
+ghost use Rattle.game_referee.specs.Followers.{NeverLoses, side_of};
 
 use crate::ReplayAnswer;
 use foul_judge::{Outcome, Position, Seen};
@@ -41,8 +41,7 @@ pub fn replay<R: Rule>(
 ) -> ReplayAnswer
     ensures answer { result ≡ replay_lem R.KIND table.now root.now position.old moves.now }
     ensures kept { AcceptedRoot R.KIND table.now root.now position.old → result ≡ ReplayAnswer.Follows
-        → IsKeptBy (side_of root.now position.old) (mover_lem position.old)
-        (verdict R.KIND position.old moves.now) }
+        → NeverLoses R.KIND (side_of root.now position.old) position.old moves.now }
     ensures same { position.new ≡ position.old }
 {
     // Its contract says that the position is lawful.

@@ -10,7 +10,8 @@ pub fn game_goes_by_table()
 {}
 
 /// Whichever side moves first, a game that follows a table from an accepted root is not lost by the side of the table, and is no
-/// draw.
+/// draw; a point that is no move is the other side's. So it is of each front of the moves, and where moves come after the end, of
+/// the game that had ended.
 pub fn follower_never_loses()
     ensures kept { FollowerNeverLoses }
 {}

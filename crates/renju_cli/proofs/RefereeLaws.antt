@@ -2,12 +2,11 @@
 use Rattle.std.proofs.Common.{◌≡◌, inl, inr, refl, sym, ap, subst, ◌∙◌, ◌⊎◌, ℕ, List, [], ◌∷◌, ◌++◌, length, get_or, arith}
 use Rattle.std.specs.Prelude.{Option, Some, IfSome, codes}
 use Rattle.game_rules.specs.Grid.{Grid}
-use Rattle.game_rules.specs.Play.{mover}
 use Rattle.game_rules.specs.declared.RuleKind.{RuleKind}
 use Rattle.strategy_graph.specs.Roots.{AcceptedRoot}
 use Rattle.game_referee.specs.declared.ReplayAnswer.{ReplayAnswer}
 use Rattle.game_referee.specs.declared.ReplayAnswer.TheVariants.{Follows, Departs}
-use Rattle.game_referee.specs.Followers.{IsKeptBy, side_of}
+use Rattle.game_referee.specs.Followers.{NeverLoses, side_of}
 use Rattle.game_referee.specs.Lines.{verdict_line}
 use Rattle.game_referee.proofs.Following.{follower-never-loses}
 use Rattle.position_files.specs.declared.GameFile.{GameFile}
@@ -76,7 +75,7 @@ follows-told (Departs n) e = let letter : 100 ≡ 102 = ap (λ (l : List ℕ). g
 
 module _ (file : TableFile) (game : GameFile) (fit : IsFit file) where
   kept-by : (second : List ℕ) → TellsTable file game.kind game.board game.moves second → second ≡ replay_line Follows
-      → IsKeptBy (side_of file.root game.board) (mover game.board) (verdict_on game)
+      → NeverLoses game.kind (side_of file.root game.board) game.board game.moves
   kept-by second (inl replayed) follows =
       let accepted : AcceptedRoot game.kind file.table file.root game.board =
       subst (λ (b : Grid). AcceptedRoot game.kind file.table file.root b) replayed.same_board

@@ -2,7 +2,7 @@
 use Rattle.std.specs.Prelude.{◌≡◌, ◌⊎◌, ℕ, ◌≤◌, List, [], ◌∷◌, ◌++◌, codes, length, Option, Some, IfSome}
 use Rattle.std.specs.Fmt.{decimal}
 use Rattle.game_rules.specs.Grid.{Grid}
-use Rattle.game_rules.specs.Play.{IsPosition, mover}
+use Rattle.game_rules.specs.Play.{IsPosition}
 use Rattle.game_rules.specs.declared.RuleKind.{RuleKind}
 use Rattle.game_rules.specs.declared.Point.{Point}
 use Rattle.strategy_checker.specs.HeldRoots.{HeldTable}
@@ -11,7 +11,7 @@ use Rattle.game_referee.specs.declared.ReplayAnswer.{ReplayAnswer}
 use Rattle.game_referee.specs.declared.ReplayAnswer.TheVariants.{Follows, Departs}
 use Rattle.game_referee.specs.Verdicts.{verdict}
 use Rattle.game_referee.specs.Replays.{replay}
-use Rattle.game_referee.specs.Followers.{IsKeptBy, side_of}
+use Rattle.game_referee.specs.Followers.{NeverLoses, side_of}
 use Rattle.game_referee.specs.Lines.{verdict_line}
 use Rattle.text_lines.specs.Lines.{ended}
 use Rattle.position_files.specs.declared.GameFile.{GameFile}
@@ -159,7 +159,7 @@ referee_with_command name = record {
 }
 
 -- FILE fits, the input is a game, and the output took the verdict and the line of the table, whole. Where that line says that the
--- table is followed, the side of the table did not lose the game, and it is no draw.
+-- table is followed, the side of the table did not lose the game, nor one that had ended before the last move, and it is no draw.
 pub record ShowsGame (name : List ℕ) (files : Files) (input : List ℕ) (run : Run) : Type 0 where
   pub file : TableFile
   pub fit : IsFitFile name files file
@@ -168,7 +168,7 @@ pub record ShowsGame (name : List ℕ) (files : Files) (input : List ℕ) (run :
   pub second : List ℕ
   pub tells : TellsTable file game.kind game.board game.moves second
   pub whole : Takes run.output.before (verdict_line (verdict_on game) ++ second) run.output.after
-  pub kept : second ≡ replay_line Follows → IsKeptBy (side_of file.root game.board) (mover game.board) (verdict_on game)
+  pub kept : second ≡ replay_line Follows → NeverLoses game.kind (side_of file.root game.board) game.board game.moves
 
 -- The headline of the referee: what status 0 of `referee FILE` shows, where the shelf tells its files and the input its bytes.
 abbrev pub ShowsReferee : Run → Type 0

@@ -1,4 +1,4 @@
-use Rattle.std.proofs.Common.{◌≡◌, sym, ap, ◌∙◌}
+use Rattle.std.proofs.Common.{sym, ap, ◌∙◌}
 use Rattle.std.specs.Prelude.{Some}
 use Rattle.strategy_graph.specs.declared.roots.Root.{Root}
 use Rattle.game_referee.specs.Verdicts.{outcomes}
