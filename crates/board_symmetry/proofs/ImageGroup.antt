@@ -6,12 +6,15 @@ use Rattle.game_rules.specs.Grid.{Grid, IsBoard, cell_at, points_within}
 use Rattle.game_rules.specs.declared.Point.{Point}
 use Rattle.game_rules.proofs.Boards.{and_left, and_right}
 use Rattle.game_rules.proofs.Places.{points_on}
+use Rattle.strategy_graph.specs.Roots.{RootOnBoard}
 use Rattle.strategy_graph.specs.Tables.{listed_node, is_rising, RepliesOn, TableOnBoard}
 use Rattle.strategy_graph.specs.declared.Reply.{Reply}
 use Rattle.strategy_graph.specs.declared.Node.{Node}
+use Rattle.strategy_graph.specs.declared.roots.Root.{Root}
+use Rattle.strategy_graph.specs.declared.roots.Root.TheVariants.{Attack, Defend}
 use Rattle.board_symmetry.specs.Points.{fits, inverse, point_image, board_image, empty_board}
-use Rattle.board_symmetry.specs.Images.{replies_image, table_image}
-use Rattle.board_symmetry.specs.Laws.{Together, TakesBack}
+use Rattle.board_symmetry.specs.Images.{replies_image, root_image, table_image}
+use Rattle.board_symmetry.specs.Laws.{IsRoot, Together, TakesBack}
 use Rattle.board_symmetry.specs.declared.symmetry.Symmetry.{Symmetry}
 use Rattle.board_symmetry.specs.declared.symmetry.Symmetry.TheVariants.{Identity, Half, FlipX, FlipY, Quarter, ThreeQuarter, Diagonal, AntiDiagonal}
 use Rattle.board_symmetry.proofs.Turns.{Turn, within}
@@ -71,10 +74,18 @@ module _ (s t : Symmetry) (w h : ℕ) (fit_s : fits s w h ≡ true) (fit_t : fit
         rest = n.rest;
       } ∷ table_then nodes on.1 i
 
+  root_then : (r : Root) → root_image t w h (root_image s w h r) ≡ root_image (composed s t) w h r
+  root_then (Attack i) = refl
+  root_then (Defend a) = λ i. Defend (record { replies = replies_then a.replies i; rest = a.rest })
+
 -- which points are on a board goes by its size alone
 pub names_sized : (b : Grid) (t : List Node) → TableOnBoard b t → TableOnBoard (empty_board b.width b.height) t
 names_sized b [] on = tt
 names_sized b (n ∷ t) on = (record { attack = on.0.attack; replies = on.0.replies }, names_sized b t on.1)
+
+root_sized : (b : Grid) (r : Root) → RootOnBoard b r → RootOnBoard (empty_board b.width b.height) r
+root_sized b (Attack i) on = on
+root_sized b (Defend a) on = on
 
 pub together : (s t : Symmetry) (b : Grid) → IsBoard b → fits s b.width b.height ≡ true → fits t b.width b.height ≡ true
     → Together s t (composed s t) b
@@ -84,6 +95,7 @@ together s t b ok fit_s fit_t = record {
   boards = ap (grid b.width b.height) (same_cells b.width b.height _ _ (image_ok t (board_image s b) (image_ok s b ok))
       (image_ok (composed s t) b ok) cells);
   tables = λ nodes on. table_then s t b.width b.height fit_s fit_t nodes (names_sized b nodes on);
+  roots = root_then s t b.width b.height fit_s fit_t;
 } where
   fit_u : fits (composed s t) b.width b.height ≡ true
   fit_u = composed-fits s t b.width b.height fit_s fit_t
@@ -132,6 +144,11 @@ module _ (s : Symmetry) (w h : ℕ) (fit : fits s w h ≡ true) where
       }
       ∷ table_back t rising.1 on.1 i
 
+  root_back : (r : Root) → IsRoot r → RootOnBoard (empty_board w h) r
+      → root_image (inverse s) w h (root_image s w h r) ≡ r
+  root_back (Attack i) root on = refl
+  root_back (Defend a) root on = λ i. Defend (record { replies = replies_back a.replies root.rising on i; rest = a.rest })
+
 -- the replies of each node of a table rise
 all_rising : (t : List Node) → ((i : ℕ) (n : Node) → slice_get t i ≡ Some n → is_rising n.replies ≡ true)
     → AllByRecursion (λ (n : Node). is_rising n.replies ≡ true) t
@@ -146,6 +163,7 @@ takes_back s b ok fit = record {
   boards = ap (grid b.width b.height) (same_cells b.width b.height _ b.cells
       (image_ok (inverse s) (board_image s b) (image_ok s b ok)) ok cells);
   tables = λ t table on. table_back s b.width b.height fit t (all_rising t (λ i n e. (table.nodes i n e).rising)) (names_sized b t on);
+  roots = λ r root on. root_back s b.width b.height fit r root (root_sized b r on);
 } where
   fit_back : fits (inverse s) b.width b.height ≡ true
   fit_back = fits-inverse s b.width b.height ∙ fit

@@ -100,7 +100,7 @@ abbrev pub ImagesKeepRoots : Type 0
 ImagesKeepRoots = OnImages (λ s b. (t : List Node) → IsTable t → TableOnBoard b t → (r : Root) → IsRoot r → RootOnBoard b r
     → KeepsRoot s b t r)
 
--- u takes points, boards and tables where s and then t take them
+-- u takes points, boards, tables and roots where s and then t take them
 pub record Together (s t u : Symmetry) (b : Grid) : Type 0 where
   pub fitting : fits u b.width b.height ≡ true
   pub points : (p : Point) → is_on b p ≡ true
@@ -108,6 +108,7 @@ pub record Together (s t u : Symmetry) (b : Grid) : Type 0 where
   pub boards : board_image t (board_image s b) ≡ board_image u b
   pub tables : (nodes : List Node) → TableOnBoard b nodes
       → table_image t b.width b.height (table_image s b.width b.height nodes) ≡ table_image u b.width b.height nodes
+  pub roots : (r : Root) → root_image t b.width b.height (root_image s b.width b.height r) ≡ root_image u b.width b.height r
 
 -- two symmetries one after another are one of the eight
 abbrev pub ImagesCompose : Type 0
@@ -115,7 +116,7 @@ ImagesCompose =
     (s t : Symmetry) → (u : Symmetry) × ((b : Grid) → IsBoard b → fits s b.width b.height ≡ true → fits t b.width b.height ≡ true
     → Together s t u b)
 
--- the inverse takes each point, board and table back
+-- the inverse takes each point, board, table and root back
 pub record TakesBack (s : Symmetry) (b : Grid) : Type 0 where
   pub fitting : fits (inverse s) b.width b.height ≡ true
   pub on : (p : Point) → is_on b p ≡ true → is_on b (point_image s b.width b.height p) ≡ true
@@ -124,6 +125,8 @@ pub record TakesBack (s : Symmetry) (b : Grid) : Type 0 where
   pub boards : board_image (inverse s) (board_image s b) ≡ b
   pub tables : (t : List Node) → IsTable t → TableOnBoard b t
       → table_image (inverse s) b.width b.height (table_image s b.width b.height t) ≡ t
+  pub roots : (r : Root) → IsRoot r → RootOnBoard b r
+      → root_image (inverse s) b.width b.height (root_image s b.width b.height r) ≡ r
 
 -- the inverse undoes
 abbrev pub InversesTakeBack : Type 0
