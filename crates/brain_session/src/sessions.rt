@@ -9,7 +9,7 @@ ghost use Rattle.std.specs.Io.KnownBytes.{IsAtEnd};
 ghost use Rattle.std.specs.Option.{option_to_list};
 ghost use Rattle.std.specs.Prelude.{◌≡◌, ◌≢◌, ◌+◌, ◌<◌, ◌≤◌, ◌⊎◌, IfErr, IfSome, IsErrOf, IsSome, OnOk, [], false, true, length, Ok, Err, None, IfOk};
 ghost use Rattle.renju_io.specs.Faults.{HasRisen, HasStayed, HasNotFallen};
-ghost use Rattle.renju_io.specs.Told.{GivesSome, FailsAfter};
+ghost use Rattle.renju_io.specs.Told.{CutAfter, FailsAfter, GivesSome};
 ghost use Rattle.gomocup_text.specs.Commands.{commands};
 ghost use Rattle.brain_session.specs.Serving.{HasAnswered, IsReadToEnd, StopsAtRead, StopsAtStep, StopsAtWrite, IsTooLong, within_limit, IsAnswered, IsHalfAnswered, TakesCommands};
 
@@ -37,7 +37,7 @@ pub enum ServeError {
 }
 
 /// Serves the lines of the source up to END or the end of input: each line is stepped, and its answer written in one piece, before
-/// the next is read.
+/// the next is read. Nothing is read after a read that failed, and nothing written after a write that failed.
 pub fn serve<S: Source, O: Sink>(
     alloc: Global,
     brain: &mut Brain,
@@ -61,6 +61,8 @@ pub fn serve<S: Source, O: Sink>(
     // What is left of the devices.
     ensures ended { OnOk result (IsReadToEnd (S.left source.old) (S.left source.new)) }
     ensures taken { GivesSome (S.left source.old) (S.left source.new) }
+    ensures read_last { IsErrOf result ServeError.ReadFailed → FailsAfter S.left S.faults source.old source.new }
+    ensures written_last { IsErrOf result ServeError.WriteFailed → CutAfter O.written O.faults sink.old sink.new }
     ensures source_failed { IsErrOf result ServeError.ReadFailed → HasRisen (S.faults source.old) (S.faults source.new) }
     ensures source_uncounted { result ≢ Err ServeError.ReadFailed → HasStayed (S.faults source.old) (S.faults source.new) }
     ensures source_counted { HasNotFallen (S.faults source.old) (S.faults source.new) }
@@ -122,6 +124,7 @@ fn answer<O: Sink>(
     ensures memory { IsErrOf result ServeError.Memory
         → (takes_none brain.old command.now ≡ false) × (brain.new ≡ brain.old) × (O.written sink.new ≡ O.written sink.old) }
     ensures no_other { IfErr result (λ e. (e ≡ ServeError.WriteFailed) ⊎ (e ≡ ServeError.Memory)) }
+    ensures written_last { IsErrOf result ServeError.WriteFailed → CutAfter O.written O.faults sink.old sink.new }
     ensures sink_failed { IsErrOf result ServeError.WriteFailed → HasRisen (O.faults sink.old) (O.faults sink.new) }
     ensures sink_uncounted { result ≢ Err ServeError.WriteFailed → HasStayed (O.faults sink.old) (O.faults sink.new) }
     ensures sink_counted { HasNotFallen (O.faults sink.old) (O.faults sink.new) }

@@ -30,3 +30,14 @@ Takes old taken new = new ≡ append_known old taken
 pub record TakesPart (old : Option (List ℕ)) (piece : List ℕ) (new : Option (List ℕ)) : Type 0 where
   pub count : ℕ
   pub takes : Takes old (take count piece) new
+
+-- a sink took some bytes, counting no fault, and then a write failed: a part of its piece was written, and nothing was written
+-- after it
+pub record CutAfter {Device : Type 0} (written : Device → Option (List ℕ)) (faults : Device → ℕ) (old new : Device) : Type 0 where
+  pub before : Device
+  pub bytes : List ℕ
+  pub took : Takes (written old) bytes (written before)
+  pub uncounted : HasStayed (faults old) (faults before)
+  pub piece : List ℕ
+  pub part : TakesPart (written before) piece (written new)
+  pub risen : HasRisen (faults before) (faults new)

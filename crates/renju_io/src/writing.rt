@@ -3,7 +3,7 @@
 //! No write is asked for more than a limit, nor for an empty piece, and none after one that failed.
 ghost use Rattle.std.specs.Prelude.{OnOk, OnErr};
 ghost use Rattle.renju_io.specs.Faults.{HasRisen, HasStayed, HasNotFallen};
-ghost use Rattle.renju_io.specs.Told.{Takes, TakesPart};
+ghost use Rattle.renju_io.specs.Told.{CutAfter, Takes, TakesPart};
 
 use crate::{Failed, MAX_PIECE_BYTES, Sink};
 
@@ -12,6 +12,7 @@ use crate::{Failed, MAX_PIECE_BYTES, Sink};
 pub fn write_text<O: Sink>(sink: &mut O, text: &[u8]) -> Result<(), Failed>
     ensures whole { OnOk result (Takes (O.written sink.old) text.now (O.written sink.new)) }
     ensures part { OnErr result (TakesPart (O.written sink.old) text.now (O.written sink.new)) }
+    ensures stopped { OnErr result (CutAfter O.written O.faults sink.old sink.new) }
     ensures failed { OnErr result (HasRisen (O.faults sink.old) (O.faults sink.new)) }
     ensures uncounted { OnOk result (HasStayed (O.faults sink.old) (O.faults sink.new)) }
     ensures counted { HasNotFallen (O.faults sink.old) (O.faults sink.new) }

@@ -1,8 +1,9 @@
-use Rattle.std.proofs.Common.{◌≡◌, ◌∙◌, true, false, sym, ap, subst, refl, arith, inl, inr, Option, Some, None, Result, Ok, Err}
+use Rattle.std.proofs.Common.{◌≡◌, ◌∙◌, true, false, sym, ap, subst, refl, arith, inl, inr, Option, Some, None, Result, Ok, Err, ◌++◌}
 use Rattle.std.specs.Prelude.{IsErrOf}
 use Rattle.std.specs.Option.{option_to_list}
 use Rattle.std.specs.Result.{IsErrAnd}
-use Rattle.renju_io.proofs.GivenBytes.{Gives-some}
+use Rattle.renju_io.proofs.GivenBytes.{Gives-some, Gives-then}
+use Rattle.renju_io.proofs.TakenText.{Takes-then}
 use Rattle.gomocup_text.specs.declared.Command.{Command}
 use Rattle.brain_session.specs.declared.sessions.ServeError.{ServeError}
 use Rattle.brain_session.specs.declared.sessions.ServeError.TheVariants.{ReadFailed, WriteFailed, Exhausted, Memory}
@@ -39,6 +40,22 @@ returns-in_err-command-clause-read_failed g c = λ failed.
     let is = same_error c.from_residual.result c.in_err-command.field-0.0 ReadFailed c.from_residual.ensures.1 failed in
     StopsAtRead-open _ _ c.next_command.new.lines _ c.loop-lines.invariant.so_far
     (λ e. not_error None c.in_err-command.field-0.0 (c.in_err-command.ensures.asks_no_more e).0) (c.in_err-command.ensures.stays (ap (λ x. Err x) is))
+
+pub returns-in_err-command-clause-read_last : goal.returns-in_err-command-clause-read_last
+returns-in_err-command-clause-read_last g c = λ failed.
+    let is = same_error c.from_residual.result c.in_err-command.field-0.0 ReadFailed c.from_residual.ensures.1 failed in
+    let read = c.loop-lines.invariant.so_far.read.takes in
+    let last = c.in_err-command.ensures.failed (ap (λ x. Err x) is) in
+    record {
+      before = last.before;
+      gave = record {
+        given = read.given ++ last.gave.given;
+        gives = Gives-then _ _ _ read.given last.gave.given read.gives last.gave.gives;
+      };
+      uncounted = last.uncounted ∙ c.loop-lines.invariant.source_stayed;
+      kept = last.kept;
+      risen = last.risen;
+    }
 
 too_long : (g : Over) (c : goal.After-drop-lines-inside-in_err-command-2 g) → c.in_err-command.field-0.0 ≡ Exhausted →
     PastLimit (g.S.Source.left c.args.source.now) (record { before = c.args.brain.now; after = c.loop-lines.brain; written_before = g.O.Sink.written c.args.sink.now; written_after = g.O.Sink.written c.loop-lines.sink })
@@ -77,6 +94,21 @@ returns-in_err-answer-clause-write_failed g c = λ failed.
     let is = same_error c.from_residual-in_err-answer.result c.in_err-answer.field-0.0 WriteFailed c.from_residual-in_err-answer.ensures.1 failed in
     StopsAtWrite-asked _ _ c.in-Some.command c.answer.new.brain _ (asked g c)
     (c.in_err-answer.ensures.write_failed (ap (λ x. Err x) is))
+
+pub returns-in_err-answer-clause-written_last : goal.returns-in_err-answer-clause-written_last
+returns-in_err-answer-clause-written_last g c = λ failed.
+    let is = same_error c.from_residual-in_err-answer.result c.in_err-answer.field-0.0 WriteFailed c.from_residual-in_err-answer.ensures.1 failed in
+    let last = c.in_err-answer.ensures.written_last (ap (λ x. Err x) is) in
+    let wrote = c.loop-lines.invariant.so_far.answered.wrote in
+    record {
+      before = last.before;
+      bytes = _;
+      took = Takes-then _ _ _ _ last.bytes wrote last.took;
+      uncounted = last.uncounted ∙ c.loop-lines.invariant.sink_stayed;
+      piece = last.piece;
+      part = last.part;
+      risen = last.risen;
+    }
 
 pub returns-in_err-answer-clause-memory : goal.returns-in_err-answer-clause-memory
 returns-in_err-answer-clause-memory g c = λ failed.
