@@ -1,9 +1,11 @@
 -- The lines TURN of points are read as these turns.
-use Rattle.std.proofs.Common.{◌≡◌, ℕ, suc, nat_lt, Bool, true, false, ◌&&◌, not, List, [], ◌∷◌, ◌++◌, map, refl, sym, ap, subst, ◌∙◌, arith, append_assoc, eqb-true, nat_eq, lt-ltb}
+use Rattle.std.proofs.Common.{◌≡◌, ℕ, suc, ◌≤◌, nat_lt, Bool, true, false, ◌&&◌, not, List, [], ◌∷◌, ◌++◌, map, refl, sym, ap, subst, ◌∙◌, arith, append_assoc, eqb-true, nat_eq, lt-ltb}
 use Rattle.std.specs.Prelude.{All, codes}
 use Rattle.std.specs.List.{list_all}
 use Rattle.std.specs.Fmt.{digits}
 use Rattle.std.proofs.lemmas.List.{map-append}
+use Rattle.std.proofs.lemmas.List.Elements.{All-cons, All-nil}
+use Rattle.std.proofs.lemmas.Grind.{flat_map-append}
 use Rattle.game_rules.specs.Grid.{Grid, is_on, points_of}
 use Rattle.game_rules.specs.declared.TheConstants.{MAX_SIDE}
 use Rattle.game_rules.specs.declared.Point.{Point}
@@ -18,9 +20,20 @@ use Rattle.gomocup_text.specs.Answers.{answer_words}
 use Rattle.gomocup_text.specs.declared.Answer.TheVariants.{Move}
 use Rattle.gomocup_text.specs.declared.Command.{Command}
 use Rattle.gomocup_text.specs.declared.Command.TheVariants.{Turn}
-use Rattle.brain_session.specs.States.{empty_board}
-use Rattle.brain_session.specs.HeldGames.{turns}
-use Rattle.brain_session.specs.TurnLines.{turn_line, turn_lines, IsSomeBoards, TurnLinesAreRead}
+use Rattle.game_rules.specs.Play.{after}
+use Rattle.game_rules.specs.declared.RuleKind.{RuleKind}
+use Rattle.game_rules.proofs.Boards.{on_x, on_y}
+use Rattle.gomocup_text.specs.Answers.{answer_text}
+use Rattle.strategy_checker.specs.HeldRoots.{IsHeld}
+use Rattle.gomocup_text.specs.declared.Answer.{Answer}
+use Rattle.brain_session.specs.States.{board_of, empty_board, new_brain, State}
+use Rattle.brain_session.specs.Sessions.{answer_texts, answers_from, state_after}
+use Rattle.brain_session.specs.HeldGames.{AreReplies, turns}
+use Rattle.brain_session.specs.TurnLines.{turn_line, turn_lines, IsSomeBoards, RepliesAreAnsweredInBytes, TurnLinesAreRead}
+use Rattle.brain_session.proofs.SessionLaws.{answers-append}
+use Rattle.brain_session.proofs.LawfulStates.{new-lawful, session-lawful}
+use Rattle.brain_session.proofs.HeldGames.{stands_where}
+use Rattle.brain_session.proofs.HeldReplies.{legal-replies-are_answered}
 
 -- the bytes of a line TURN before its line feed
 abbrev line_bytes : Point → List ℕ
@@ -90,3 +103,32 @@ turn_lines-are_read front qs whole all =
     ((whole_cut front).splits (turn_lines qs)))
     ∙ map-append command_told (lines front) (lines (turn_lines qs))
     ∙ ap (λ (cs : List Command). commands front ++ cs) (lines_read qs all)
+
+-- ---- legal replies, as lines
+
+-- replies that are legal are points of the largest board
+legal_somes : (rule : RuleKind) (b : Grid) (ps qs : List Point) → b.width ≤ MAX_SIDE → b.height ≤ MAX_SIDE → AreReplies rule b ps qs
+    → All IsSomeBoards qs
+legal_somes rule b ps [] wide high are = All-nil IsSomeBoards
+legal_somes rule b [] (q ∷ qs) wide high are = absurd are
+legal_somes rule b (p ∷ ps) (q ∷ qs) wide high are =
+    let on : is_on b q ≡ true = and_left (is_on b q) _ are.1 in
+    let across = on_x b q on in
+    let down = on_y b q on in
+    All-cons IsSomeBoards q qs (record { within = omega (arith, across, wide); below = omega (arith, down, high) })
+    (legal_somes rule (after (after b p) q) ps qs wide high are.2)
+
+pub replies-in_bytes : RepliesAreAnsweredInBytes
+replies-in_bytes held is_held front before c g i qs whole are no_end begins legal =
+    let s : State = state_after (new_brain held) before in
+    let kept = session-lawful held (new_brain held) before (new-lawful held) in
+    let at = stands_where s c g i (subst IsHeld (sym kept.1) is_held) kept.0 begins in
+    let board = at.3.lawful.board in
+    let some : All IsSomeBoards qs = legal_somes g.rule (board_of g) _ qs board.width_fits board.height_fits legal in
+    let asked : commands (front ++ turn_lines qs) ≡ before ++ c ∷ turns qs =
+    turn_lines-are_read front qs whole some ∙ ap (λ (cs : List Command). cs ++ turns qs) are ∙ append_assoc before (c ∷ []) (turns qs) in
+    ap (λ (cs : List Command). answer_texts (answers_from (new_brain held) cs)) asked
+    ∙ ap answer_texts (answers-append (new_brain held) before (c ∷ turns qs) no_end)
+    ∙ flat_map-append answer_text (answers_from (new_brain held) before) (answers_from s (c ∷ turns qs))
+    ∙ ap (λ (said : List Answer). answer_texts (answers_from (new_brain held) before) ++ answer_texts said)
+    (legal-replies-are_answered held is_held before c g i qs begins legal)

@@ -6,7 +6,7 @@
 ghost use Rattle.brain_session.specs.HeldGames.{HeldGamesGoWell, LegalRepliesAreAnswered, SessionsGoWell, StartsAreTight, WhoeverHoldsWins};
 ghost use Rattle.brain_session.specs.OwnGames.{OwnGamesGoWell};
 ghost use Rattle.brain_session.specs.RootGames.{RootsBeginGames};
-ghost use Rattle.brain_session.specs.TurnLines.{TurnLinesAreRead};
+ghost use Rattle.brain_session.specs.TurnLines.{RepliesAreAnsweredInBytes, TurnLinesAreRead};
 
 /// Whatever a brain that holds accepted roots was told before, and whatever it is told later: where it begins to follow a
 /// held root, its answers are the attacks of the table against the replies, one for one, and the game is won within the
@@ -55,4 +55,10 @@ pub fn own_games_go_well()
 /// the bytes that a manager sends.
 pub fn turn_lines_are_read()
     ensures read { TurnLinesAreRead }
+{}
+
+/// Where the lines of legal replies are sent behind lines of which the last begins a held game, the bytes that the brain writes are
+/// those of the answers before, and then the lines of the attacks of the table, byte for byte.
+pub fn replies_are_answered_in_bytes()
+    ensures answered { RepliesAreAnsweredInBytes }
 {}

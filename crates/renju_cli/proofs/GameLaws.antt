@@ -36,6 +36,7 @@ use Rattle.brain_session.proofs.LawfulStates.{session-lawful, new-lawful}
 use Rattle.brain_session.proofs.HeldGames.{held-games-go_well, starts-are_tight}
 use Rattle.brain_session.proofs.OwnGames.{own-games-go_well}
 use Rattle.brain_session.proofs.RootGames.{roots-begin_games}
+use Rattle.brain_session.proofs.TurnLines.{replies-in_bytes}
 use Rattle.brain_session.specs.declared.TheConstants.{BRAIN_WORK}
 use Rattle.renju_cli.specs.declared.status.Status.{Status}
 use Rattle.renju_cli.specs.declared.status.Status.TheVariants.{Done, ShelfFault, RefusedText, RefusedTable, Spent, Memory, ReadFault, WriteFault, TooLong}
@@ -120,6 +121,7 @@ module _ (t : List Node) (named : List NamedRoot) (due : All (IsDueRoot t) named
     tight = tights named (starts-are_tight held few);
     begin = roots-begin_games held few;
     games = games_go_well;
+    bytes = replies-in_bytes held few;
   } where
     tights : (rs : List NamedRoot) → All (λ r. IsTight r.kind r.board r.root) (map (λ r. r.root) rs)
         → All (λ r. IsTight r.root.kind r.root.board r.root.root) rs

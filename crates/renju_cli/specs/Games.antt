@@ -21,6 +21,7 @@ use Rattle.brain_session.specs.Serving.{HasNoEnd}
 use Rattle.brain_session.specs.HeldGames.{BeginsHeldGame, HeldGameGoesWell, IsTight}
 use Rattle.brain_session.specs.OwnGames.{BeginsOwnGame, OwnGameGoesWell}
 use Rattle.brain_session.specs.RootGames.{RootsBegin}
+use Rattle.brain_session.specs.TurnLines.{AnswersInBytes}
 use Rattle.renju_cli.specs.declared.status.Status.TheVariants.{Done, ReadFault, WriteFault}
 use Rattle.renju_cli.specs.Statuses.{status_number}
 use Rattle.renju_cli.specs.Runs.{Run, HasFailed}
@@ -68,13 +69,14 @@ GamesGoWell t named asked =
     → BeginsHeldGame (state_told (held_with t named) before) c g i → GoesWellBy t named before c later g i
 
 -- What holds of a table and roots of it that are held: each root wins within the moves that are named for it; where the opponent
--- moves first, none of its moves wins or draws; a game by a root begins wherever a game has come to it; and each goes well,
--- whatever a session is told.
+-- moves first, none of its moves wins or draws; a game by a root begins wherever a game has come to it; each goes well, whatever a
+-- session is told; and the lines of legal replies in one are answered byte for byte by the lines of the table's attacks.
 pub record PlaysByRoots (t : List Node) (named : List NamedRoot) : Type 0 where
   pub win : All (λ r. RootWins r.root.kind r.root.root r.moves r.root.board) named
   pub tight : All (λ r. IsTight r.root.kind r.root.board r.root.root) named
   pub begin : RootsBegin (held_with t named)
   pub games : (asked : List Asked) → GamesGoWell t named asked
+  pub bytes : AnswersInBytes (held_with t named)
 
 -- Games by a win of the brain's own
 
