@@ -8,7 +8,7 @@ import sys
 
 sys.dont_write_bytecode = True
 
-from definitions import Repository
+from repository import Repository
 from reading import TOP, Unread
 
 DOCUMENT = TOP / "docs" / "PROVED.md"

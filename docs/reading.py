@@ -1,7 +1,7 @@
 """Reads the crates of the repository: the definitions of their specs, and the types, limits and contracts of their sources.
 
 It knows no crate, module or word by name. A word of specs is a Word, a type or trait of sources a Type, a limit a Const, and each
-knows which others it cites. What is not of the repository, as std's words, is left out, but kept with its path in `of_std`.
+knows which others it cites. What is not of the repository, as the toolchain's words, is no word here.
 """
 import re
 from dataclasses import dataclass, field
@@ -10,6 +10,7 @@ from pathlib import Path
 TOP = Path(__file__).resolve().parent.parent
 NAME = r"[A-Za-z_][\w']*(?:-[\w']+)*"
 DECLARED = re.compile(rf"(?:(?:abbrev|unfoldable|opaque) )?(?:pub )?(?:(record|data) )?({NAME})(?: |$)")
+STRING = r'"(?:\\.|[^"\\\n])*"'
 KEYWORDS = {"mutual", "use", "record", "data", "where", "let", "in", "if", "then", "else", "Type", "pub", "abbrev", "unfoldable", "λ"}
 
 
@@ -72,6 +73,7 @@ class Call:
     clauses: list
     scope: dict
     is_public: bool = False
+    comments: dict = field(default_factory=dict)  # the comment above each clause, by its name
 
 
 def sentence(comment):
@@ -104,9 +106,14 @@ def bound_in(text):
 def cited_in(text):
     """The names in a text, but for those after a dot and the labels of records. A dot after a name joins the name of a module, or
     of a type, to one of its own: see members_in."""
-    text = re.sub(r'"[^"\n]*"', '""', text)
+    text = re.sub(STRING, '""', text)
     text = re.sub(rf"([{{;]\s*)({NAME})(\s*=\s)", r"\1\3", text)
     return [it for it in re.findall(rf"(?<![\w'.])({NAME})", text) if it not in KEYWORDS]
+
+
+def tokens_of(text):
+    """What stands between white space, brackets and points: names and signs."""
+    return set(re.split(r"[\s(){},;.]+", re.sub(STRING, '""', text)))
 
 
 def members_in(text, name):

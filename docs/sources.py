@@ -101,15 +101,27 @@ class File:
         return closing(self.blanked, place)
 
     def clauses(self, at, end):
-        """The clauses of a function: keyword, name, text, and the place after it."""
+        """The clauses of a function: keyword, name, text, the place after it, and the comment above it."""
         head = re.compile(r"\b(?:requires|ensures)\*?\s*\w*\s*\{|[{;]").search(self.blanked, at, end)
         at = head.start() if head else end
         found = CLAUSE.match(self.blanked, at)
         while found:
             after = closing(self.blanked, found.end() - 1)
-            yield found.group(1), found.group(2) or "", self.text_of(found.end(), after - 1), after
+            yield found.group(1), found.group(2) or "", self.text_of(found.end(), after - 1), after, self.comment_above(found.start(1))
             at = after
             found = CLAUSE.match(self.blanked, at)
+
+    def comment_above(self, at):
+        """The comment whose lines end above this place, as one line."""
+        lines, end = [], self.text.rfind("\n", 0, at)
+        while end > 0:
+            start = self.text.rfind("\n", 0, end) + 1
+            line = self.text[start:end].strip()
+            if not line.startswith("//") or line.startswith("///"):
+                break
+            lines.insert(0, line[2:].strip())
+            end = start - 1
+        return " ".join(lines)
 
     def text_of(self, start, end):
         """The text without comments."""
@@ -159,10 +171,11 @@ class File:
 
     def function(self, found, after, scope, owner, generics, is_pub):
         name = re.match(r"\s*(\w+)", self.blanked[found.end() : after]).group(1)
-        clauses = [it[:3] for it in self.clauses(found.end(), after)]
+        clauses = list(self.clauses(found.end(), after))
         end = re.compile(r"\b(?:requires|ensures)\b|[{;]").search(self.blanked, found.end()).start()
         signature = generics + self.blanked[found.end() : end]
-        call = Call(self.crate.name, owner.name if owner else "", name, signature, clauses, {**self.rust, **scope})
+        call = Call(self.crate.name, owner.name if owner else "", name, signature, [it[:3] for it in clauses], {**self.rust, **scope})
+        call.comments = {it[1]: it[4] for it in clauses}
         call.is_public = is_pub or bool(owner and (owner.kind == "trait" or generics.startswith("impl for ")))
         self.crate.calls.append(call)
 

@@ -1,0 +1,304 @@
+"""Writes the documents of definitions: the list of the claims, the chapters, a page for each claim, and what a reader need not read."""
+import re
+import textwrap
+
+import toolchain
+from layout import CALL, LAST, Layout
+from reading import Unread, Word, sentence, tokens_of
+
+LIST, FOLDER = "docs/DEFINITIONS.md", "docs/definitions"
+NO_COMMENT = "(it has no comment)"
+
+
+def of_words(found):
+    """The definitions among what is found, without types and limits."""
+    return [it for it in found if isinstance(it, Word)]
+
+
+def lines_of(words):
+    """How many lines these definitions have."""
+    return sum(len([line for line in it.lines if line.strip()]) for it in words)
+
+
+def counted(found):
+    """How many definitions these are, and in how many lines."""
+    words = of_words(found)
+    return f"{many(len(words), 'definition')} in {many(lines_of(words), 'line')}"
+
+
+def many(number, name):
+    """A number of things by their name."""
+    return f"{number:,} {name}" if number == 1 else f"{number:,} {name}s"
+
+
+def told(doc):
+    """A comment behind a colon, if there is one."""
+    return f": {sentence(doc)}" if doc else ""
+
+
+def spelled(it):
+    """A type as an entry of a list."""
+    seen = f", seen as `{it.seen}`" if it.seen else ""
+    if it.kind == "trait":
+        members = [f"  - `{name}: {said}`{told(doc)}" for name, said, doc in it.parts]
+        return [f"- `{it.name}`, a trait: {sentence(it.doc) or NO_COMMENT}", *members]
+    if any(doc for _, _, doc in it.parts) and not it.seen:
+        return [f"- `{it.name}`: {sentence(it.doc) or NO_COMMENT}"] + [f"  - `{spelling}`{told(doc)}" for _, spelling, doc in it.parts]
+    parts = (" | " if it.kind == "enum" else ", ").join(spelling for _, spelling, _ in it.parts)
+    return [f"- `{it.name}`{seen or (f', `{parts}`' if parts else '')}: {sentence(it.doc) or NO_COMMENT}"]
+
+
+def limit(it):
+    """A limit as an entry of a list."""
+    value = it.value.split("//")[0].strip()
+    digits = value.replace("_", "")
+    return f"- `{it.name}`, {f'{int(digits):,}' if digits.isdigit() else f'`{value}`'}: {sentence(it.doc)}"
+
+
+def in_full(word):
+    """A definition: its comment, and its text as it stands."""
+    return [f"**`{word.name}`**: {word.comment or NO_COMMENT}", "", "```", *(line.rstrip() for line in word.lines if line.strip()), "```", ""]
+
+
+def in_short(word):
+    """A definition: its comment alone."""
+    return [f"- `{word.name}`: {word.comment or NO_COMMENT}"]
+
+
+def block(text):
+    """A text as a block of code, in lines that can be read."""
+    return ["```", *textwrap.wrap(text, 110, subsequent_indent="    ", break_long_words=False), "```", ""]
+
+
+def quoted(names):
+    """Names one after the other."""
+    return ", ".join(f"`{name}`" for name in names)
+
+
+def table(heads, rows):
+    """A table, and a line with nothing."""
+    return [f"| {' | '.join(heads)} |", "|" + "---|" * len(heads), *(f"| {' | '.join(row)} |" for row in rows), ""]
+
+
+class Pages:
+    """The documents, by their paths."""
+
+    def __init__(self, repository):
+        self.repository, self.layout = repository, Layout(repository)
+        self.public_std = repository.public_std()
+        names = [it.name for it in self.layout.home]
+        self.of_several = {name for name in names if names.count(name) > 1}
+
+    def write(self):
+        """The text of each document, by its path."""
+        parts = [("toolchain", self.toolchain()), ("crates", self.of_crates()), ("private", self.private())]
+        parts += [(it.name, self.chapter(it)) for it in self.layout.chapters]
+        parts += [(it.name, self.claim(it)) for it in self.layout.claims]
+        texts = {LIST: self.overview(), **{f"{FOLDER}/{name}.md": lines for name, lines in parts}}
+        if len(texts) <= len(parts):
+            raise Unread("two of a chapter, a claim, and the documents toolchain, crates and private have one name")
+        return {path: "\n".join(lines).rstrip() + "\n" for path, lines in texts.items()}
+
+    def overview(self):
+        """The list of claims and chapters, and how they are read."""
+        claims = [(listed(it), it.about, counted(it.rests), str(len(of_words(it.found)))) for it in self.layout.claims]
+        chapters = [(listed(it), it.about, counted(it.found), quoted(self.readers(it))) for it in self.layout.chapters]
+        return [
+            *HEAD.format(call=CALL[1], place=f"crates/{CALL[0]}/src").strip().splitlines(),
+            "",
+            *table(("Claim", "What it says", "It rests on", "On its page"), claims),
+            *CHAPTERS_HEAD.format(last=" and ".join(f"`{it}`" for it in LAST)).strip().splitlines(),
+            "",
+            *table(("Chapter", "What it has", "In all", "Needed for"), chapters),
+            *TAIL.strip().splitlines(),
+        ]
+
+    def readers(self, chapter):
+        """The claims that need something of a chapter, but for those that speak of every command."""
+        return [it.name for it in self.layout.claims if it.name not in LAST and chapter in self.layout.read_before(it)]
+
+    def chapter(self, chapter):
+        """A chapter: its definitions in full."""
+        before = [f"[{it.title}]({it.name}.md)" for it in self.layout.chapters if it in self.layout.stands_on(chapter)]
+        return [
+            f"# {chapter.title}",
+            "",
+            f"{chapter.about} {counted(chapter.found)}.".strip(),
+            "",
+            *([f"Read before: {', '.join(before)}.", ""] if before else []),
+            *self.section(chapter.found, in_full),
+            *self.std_line(self.repository.std_of(chapter.found)),
+        ]
+
+    def claim(self, claim):
+        """The page of a claim: its clause, what is read before, and its own definitions in full."""
+        before = [self.before(claim, place) for place in self.layout.read_before(claim)]
+        std = self.repository.std_of(claim.rests) | claim.std
+        return [
+            f"# The claim {claim.title}",
+            "",
+            *([sentence(claim.about), ""] if claim.about else []),
+            *block(claim.clause),
+            f"It rests on {counted(claim.rests)}, and on {many(len(std), 'word')} and signs of the toolchain. Read before:",
+            "",
+            *before,
+            "",
+            f"And here, {counted(claim.found)}. `docs/definitions.py --text {claim.name}` prints all of them, one after the other.",
+            "",
+            *self.section(claim.found, in_full),
+            *self.std_line(self.repository.std_of(claim.found) | claim.std),
+        ]
+
+    def before(self, claim, place):
+        """What a claim needs of a chapter, or of another claim's page."""
+        needed = [it for it in place.found if it in claim.rests]
+        words, all_words = of_words(needed), of_words(place.found)
+        left = [it.name for it in all_words if it not in claim.rests]
+        link = f"- [{place.title}]({place.name}.md)"
+        if not words:
+            return f"{link}: {quoted(it.name for it in needed)} alone"
+        if not left:
+            return f"{link}: all {len(words)}"
+        if len(left) < len(words):
+            return f"{link}: {len(words)} of {len(all_words)}, all but {quoted(left)}"
+        return f"{link}: {len(words)} of {len(all_words)}, {quoted(it.name for it in words)}"
+
+    def section(self, found, shown):
+        """What is found of each crate, lowest first."""
+        return [line for crate in self.repository.crates.values() for line in self.of_crate(crate, found, shown)]
+
+    def of_crate(self, crate, found, shown):
+        """What is found of a crate: its types and limits, and then its definitions, module by module."""
+        types = [it for it in crate.types.values() if it in found]
+        limits = [it for it in crate.consts.values() if it in found]
+        modules = [(module, [it for it in crate.words[module] if it in found]) for module in self.repository.modules(crate)]
+        modules = [(module, words) for module, words in modules if words]
+        if not (types or limits or modules):
+            return
+        yield from [f"## `{crate.name}`: {crate.title}", ""]
+        if types or limits:
+            yield from ["Types and limits:", "", *(line for it in types for line in spelled(it)), *(limit(it) for it in limits), ""]
+        for module, words in modules:
+            yield from [f"`specs/{module}.antt`. {crate.headers[module]}", ""]
+            yield from self.names(words) if shown is in_full else []
+            yield from [line for it in words for line in shown(it)] + ([""] if shown is in_short else [])
+
+    def names(self, words):
+        """A line on the names that these words of a module have under another one, or that several definitions have."""
+        said = []
+        for here, there, owner in dict.fromkeys(self.repository.renamed(words)):
+            said.append(f"`{here}` is `{there}` of `{owner}`" if there else f"`{here}` stands before the cases of `{owner}`")
+        for it in dict.fromkeys(it for word in words for it in self.repository.cites(word) if it.name in tokens_of(word.text())):
+            place = (it.crate, it.module) if isinstance(it, Word) else (it.crate,)
+            if it.name in self.of_several and place != (words[0].crate, words[0].module):
+                said.append(f"`{it.name}` is that of `{'.'.join(place)}`")
+        return [f"Here {'; '.join(said)}.", ""] if said else []
+
+    def std_line(self, std):
+        """The toolchain's words of a document. Those that are signs, or of the language, are left out."""
+        names = sorted({name for place, name in std if place and re.fullmatch(r"\w+", name)})
+        return [f"Of the [toolchain's words](toolchain.md): {quoted(names)}."] if names else []
+
+    def toolchain(self):
+        """How a definition is written, and what the toolchain's words mean."""
+        lines = NOTATION.strip().splitlines()
+        for title, words in toolchain.shown(self.public_std):
+            rows = [("`" + form.replace("|", "\\|") + "`", meaning) for form, meaning in words]
+            lines += ["", f"## {title}", "", *table(("Word", "Meaning"), rows)[:-1]]
+        return lines
+
+    def of_crates(self):
+        """What the public contracts of the crates cite beyond the claims, in short."""
+        public = self.repository.closure([it for crate in self.repository.crates.values() for it in self.repository.public_roots(crate)])
+        found = {it: None for it in public if it not in self.layout.home}
+        return [*CRATES.format(counted=counted(found)).strip().splitlines(), "", *self.section(found, in_short)]
+
+    def private(self):
+        """What private contracts alone cite, and what no contract does, in short."""
+        crates = self.repository.crates.values()
+        public = self.repository.closure([it for crate in crates for it in self.repository.public_roots(crate)])
+        private = self.repository.closure([it for crate in crates for it in self.repository.private_roots(crate)])
+        cited = {it: None for it in private if it not in public and it not in self.layout.home}
+        rest = [it for crate in crates for words in crate.words.values() for it in words]
+        rest = {it: None for it in rest if it not in public and it not in private and it not in self.layout.home}
+        return [
+            *PRIVATE.format(counted=counted(cited)).strip().splitlines(),
+            "",
+            *self.section(cited, in_short),
+            *UNCITED.format(counted=counted(rest)).strip().splitlines(),
+            "",
+            *self.section(rest, in_short),
+        ]
+
+
+def listed(place):
+    """The link from the list to the page of a place."""
+    return f"[{place.title}](definitions/{place.name}.md)"
+
+
+HEAD = """
+# Definitions
+
+What an answer of `renju` says is said by clauses, and the clauses by definitions. A reader who believes these and the toolchain need read no body and no proof. The main claims are the clauses of `{call}` in `{place}`, and each has a page of its own here.
+
+To read a claim:
+
+1. Take its page in the table below. It has the clause, and names the chapters that come before it, with those of their definitions on which the claim does not rest.
+2. Read these chapters from top to bottom, in their order. Each definition stands with its comment and its text, after the definitions that it uses; two that use each other stand together.
+3. Then read the page: what this claim adds to the chapters.
+
+How definitions are written, and a line on each word of the toolchain that they use, is in [toolchain.md](definitions/toolchain.md). Where a name is defined, ``grep -rn '^..`NAME`' docs/definitions`` tells. Begin with `won`, of which the chapters are the ones that most claims need. `docs/definitions.py --text CLAUSE` prints all that a claim rests on as one text, the clause first, with types and limits as they stand in the sources.
+
+Nothing else has to be read to believe a claim: no other claim's page, but where a page names one; no body and no proof; and neither [the words of each crate](definitions/crates.md), of which a crate that is used alone speaks, nor [the words of private contracts](definitions/private.md). The words `pub`, `abbrev` and `unfoldable` before a definition matter to proofs alone.
+
+Contracts speak of plain values: a board is a width, a height and a list of cells; a table is a list of nodes; a text is a list of bytes; numbers are whole numbers without limit. Sources: the RIF Rules of Renju for fours, straight fours, threes, overlines and fouls; Allis, van den Herik and Huntjens, "Go-Moku and Threat-Space Search", for wins by fours and by threats. Which double-threes are allowed to stand is this program's own rule, and its definition (`is_three`) says so.
+
+## The claims
+
+[PROVED.md](PROVED.md) tells each of them in words, in full.
+"""
+CHAPTERS_HEAD = """
+{last} speak of every command, and so rest on most of what there is; each other claim says what one command shows, or the devices do.
+
+## The chapters
+
+What two claims or more rest on, where {last} don't count. A chapter comes after those that it uses.
+"""
+TAIL = """
+## How it is kept
+
+These pages are worked out by `docs/definitions.py` from the specs and the sources, and the tests of the repository compare them. It follows each name from the clauses on. What several claims rest on stands in the chapter of its crate and module, by one table in `docs/layout.py`; what one claim alone does stands on its page. A crate that comes later has a chapter of its own until that table names it. The definitions themselves are in `crates/NAME/specs`, a module a file.
+"""
+NOTATION = """
+# How definitions are written
+
+| Written | It says |
+|---|---|
+| `f : A → B → C` | f takes a value of A and one of B, and answers one of C; `f a b` is its answer. Where C is `Type 0`, the answer is a fact |
+| `f x [] = ..`, `f x (y ∷ ys) = ..` | what f answers, case by case: the first line that fits decides |
+| `record R .. where`, and lines `field : A` | a value with these fields, `r.field` each; where it is a fact, its fields are facts that all hold |
+| `record { a = x; b = y }`, `record r { a = x }` | the value with these fields, and r with this field in place of its own |
+| `data D .. where`, and lines `case : A → D` | a value, or a fact, that has one of these forms; a fact holds in no other way |
+| `{A : Type 0}`, `f {x = e}` | an argument that is mostly left out, since the others tell it |
+| `let x = e in ..` | x stands for e |
+| `x` or `p` on the left | a name for what stands there; `_` is whatever does |
+
+In a clause `x.now` is what a reference holds, `x.old` and `x.new` what one that may change holds before and after the call, and `result` what the call answers. A field of a trait, as `I.left`, is what the device of that kind tells to clauses.
+
+The words below are the toolchain's own: those that a public clause of the repository rests on. They mean what its library defines them to be; in the folder of a crate `rt lemma WORD` shows the definition.
+"""
+CRATES = """
+# The words of each crate
+
+What the public contracts of the crates cite beyond the claims of the program, with the public types and limits of each: {counted}. None of them is needed to believe what the program says; a reader of a crate that is used alone needs them. The definitions stand in `crates/NAME/specs`.
+"""
+PRIVATE = """
+# The words of private contracts
+
+What only private contracts cite: what a part of the code answers, told so that its caller can be proved. No public clause cites one of these: {counted}.
+"""
+UNCITED = """
+# Words that no contract cites
+
+What proofs alone cite, or nothing does yet: {counted}.
+"""
