@@ -210,6 +210,11 @@ def unlisted(position, node):
     return min(free, key=lambda p: max(abs(p[0] - x), abs(p[1] - y)), default=None)
 
 
+def game_text(position, moves):
+    """The game text of moves that are played from a position."""
+    return position.text("renju-game 1") + " ".join(["moves", *map(spelled, moves)]) + "\n"
+
+
 def asked(words, text):
     """What the program prints of a text, which it has to answer with status 0."""
     done = subprocess.run([PROGRAM, *words], input=text.encode(), stdout=subprocess.PIPE)

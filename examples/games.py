@@ -4,7 +4,8 @@
     games.py [--depth D] [--nodes N] [--last M] [FILE ..]
 
 A game is a text that examples/position.py takes: its rule, its size and its moves. For each of the winner's last M moves a line
-tells what was there before it. Without a FILE the page and the pictures of examples/games are written; --check compares them.
+tells what was there before it, and a last one what `referee` says of the whole game. Without a FILE the page and the pictures of
+examples/games are written; --check compares them.
 """
 import argparse
 import subprocess
@@ -13,9 +14,9 @@ from pathlib import Path
 
 sys.dont_write_bytecode = True
 
-from boards import PROGRAM, TOP, Position, Wrong, named, read, saying, spelled
+from boards import PROGRAM, TOP, Wrong, asked, game_text, named, read, saying, spelled
 from pictures import picture, words_of
-from position import Draft, point_of
+from position import game_in
 
 HERE = TOP / "examples" / "games"
 # The games of the page, and the depth, the positions and the winner's last moves that are asked.
@@ -28,19 +29,22 @@ class Game:
     """The positions of a game and its moves."""
 
     def __init__(self, text):
-        draft = Draft(None, None, None)
-        for line in text.splitlines():
-            draft.line(" ".join(line.split()))
-        width, height = draft.size or (15, 15)
-        self.positions, self.moves = [Position(draft.rule or "freestyle", width, height)], []
-        for word in draft.moves:
-            self.moves.append(point_of(word, self.positions[0]))
-            self.positions.append(self.positions[-1].after(self.moves[-1]))
+        board, self.moves = game_in(text.splitlines())
+        self.positions = [board]
+        for move in self.moves:
+            self.positions.append(self.positions[-1].after(move))
         if not self.positions[-1].won_at():
             raise Wrong("nobody has won at the end of the game")
 
     def winner(self):
         return self.positions[-2].side().capitalize()
+
+    def verdict(self):
+        """What `referee` says of the moves, which has to be that the last one wins."""
+        told = asked(["referee"], game_text(self.positions[0], self.moves)).strip()
+        if told != f"won {self.winner().lower()} {len(self.moves)}":
+            raise Wrong(f"the referee says {told}")
+        return told
 
     def asked(self, last):
         """The numbers of the winner's last moves, counted from 1."""
@@ -98,13 +102,14 @@ def page():
         parts.append(f"The numbered stones are the moves from {first} on, before which {game.winner()} had the first win that is found.")
         rows = [f"| {number} | {words} | {named(game.moves[number - 1], height)} |" for number, _, words in told]
         parts.append("\n".join([f"| {game.winner()}'s move | Before it, `solve {depth} {nodes}` | Played |", "|---|---|---|", *rows]))
+        parts.append(f"`referee` says of the whole game: `{game.verdict()}`.")
     return "\n\n".join(parts) + "\n", pictures
 
 
 HEAD = """
 # Games, and where a win was there
 
-Three games that a program, BSD gomoku, played against itself: freestyle, 19 by 19, from openings that were drawn. Before each of the winner's last moves `solve` was asked for a win, with its depth lowered until there was none, and each table was accepted by `check`. `examples/games.py` writes this page, and comments any other game: `examples/games.py --depth 8 --nodes 100000 FILE`.
+Three games that a program, BSD gomoku, played against itself: freestyle, 19 by 19, from openings that were drawn. Before each of the winner's last moves `solve` was asked for a win, with its depth lowered until there was none, each table was accepted by `check`, and the whole game was judged by `referee`. `examples/games.py` writes this page, and comments any other game: `examples/games.py --depth 8 --nodes 100000 FILE`.
 """
 
 
@@ -135,6 +140,7 @@ def main():
             raise Wrong(f"{file} cannot be read: {error}")
         for number, _, told in comments(game, given.depth, given.nodes, given.last):
             print(f"{file}: before move {number}, {named(game.moves[number - 1], game.positions[0].height)}, {game.winner()} has {told}")
+        print(f"{file}: the referee says {game.verdict()}")
     return 0
 
 

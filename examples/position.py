@@ -163,6 +163,17 @@ def understood(data, rule=None, size=None, corner=None):
     return draft.position().lawful()
 
 
+def game_in(lines, rule=None, size=None):
+    """The empty board and the moves of a game, from lines with its rule, its size and a list of its moves."""
+    draft = Draft(rule, size, None)
+    for line in lines:
+        draft.line(" ".join(line.split()))
+    if draft.rows or any(stones is not None for stones in draft.stones.values()):
+        raise Wrong("a game is a list of its moves; a diagram and lines of stones are none")
+    board = Position(draft.rule or "freestyle", *(draft.size or (15, 15)))
+    return board, [point_of(word, board) for word in draft.moves]
+
+
 def wrong_with(data):
     """What is wrong with a text that is meant to be a position's one spelling, in words, or nothing."""
     try:
