@@ -23,6 +23,7 @@ PICTURES = {
     "double-three": ["--mark", "*=7,7", "--mark", "cost=5,7", "--mark", "cost=9,7"],
     "three-in-a-row": [],
     "two-move-win": [],
+    "two-move-win-quarter": [],
     "wins/quiet-three": ["--mark", "1=7,2", "--mark", "2=6,2", "--mark", "3=5,3", "--mark", "4=4,4"],
     "wins/block-fouls": ["--play", "14,10 12,12 10,13 9,13 10,12"],
     "wins/defended": ["--mark", "1=8,5", "--mark", "2=6,5"],
