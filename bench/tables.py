@@ -94,6 +94,14 @@ def chain(count):
     return table(position_lines(), count, nodes)
 
 
+def long_lists(count, replies, side=15):
+    """A table on a square board of so many nodes, each of which but the first names the one before it after so many replies."""
+    points = [(x, y) for y in range(side) for x in range(side) if (x, y) not in BLACK + WHITE + FIVES][:replies]
+    listed = lambda i: "".join(f" {point(p)}>{i}" for p in points)
+    nodes = [point(FIVES[0]) + " wins"] + [f"{point(FIVES[0])} only{listed(i)}" for i in range(count - 1)]
+    return table(position_lines(side, side), count, nodes)
+
+
 def many_nodes(count):
     """A table of so many nodes, of which the root names none."""
     return table(position_lines(), 1, [point(FIVES[0]) + " wins"] * count)
