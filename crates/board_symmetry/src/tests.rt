@@ -115,3 +115,42 @@ fn replies_rise_again(rt: HostRuntime) -> Result<(), Fail> {
     );
     Ok(())
 }
+
+#[test]
+fn a_start_keeps_its_rest_and_a_node_its_number(rt: HostRuntime) -> Result<(), Fail> {
+    let mut replies = Replies::new(rt.alloc());
+    replies.push(Reply {
+        at: Point { x: 5, y: 0 },
+        next: 3,
+    })?;
+    replies.push(Reply {
+        at: Point { x: 2, y: 4 },
+        next: 1,
+    })?;
+    let root = Root::Defend(Start::new(replies, Rest::To(2)));
+    match image_root(rt.alloc(), Symmetry::Half, 7, 5, &root)? {
+        Root::Attack(number) => assert_eq!(rt; number, 1_000_000),
+        Root::Defend(start) => {
+            assert_eq!(rt; start.rest(), Rest::To(2));
+            assert_eq!(rt;
+                start.replies().as_slice(),
+                [
+                    Reply {
+                        at: Point { x: 4, y: 0 },
+                        next: 1
+                    },
+                    Reply {
+                        at: Point { x: 1, y: 4 },
+                        next: 3
+                    }
+                ]
+                .as_slice()
+            );
+        }
+    }
+    match image_root(rt.alloc(), Symmetry::Quarter, 7, 7, &Root::Attack(5))? {
+        Root::Attack(number) => assert_eq!(rt; number, 5),
+        Root::Defend(_) => assert!(rt; false),
+    }
+    Ok(())
+}
