@@ -1,0 +1,196 @@
+-- What is known of the moves so far, and one more.
+use Rattle.std.proofs.Common.{◌≡◌, ℕ, ◌+◌, ◌-◌, ◌*◌, ◌≤◌, Bool, true, false, cond, refl, sym, ap, subst, ◌∙◌, arith}
+use Rattle.std.proofs.Common.{List, [], ◌∷◌, ◌++◌, map, append_assoc, Some, None, find}
+use Rattle.std.specs.List.{filter, sum_by, AllByRecursion}
+use Rattle.std.proofs.lemmas.List.{append-nil}
+use Rattle.std.proofs.lemmas.List.Sums.{sum_by-cons}
+use Rattle.game_rules.proofs.Common.{Grid, after, outcome, points_of}
+use Rattle.game_rules.specs.declared.Outcome.TheVariants.{GoesOn}
+use Rattle.game_rules.proofs.Positions.{GoesOn-empty}
+use Rattle.game_rules.specs.declared.RuleKind.{RuleKind}
+use Rattle.game_rules.specs.declared.Point.{Point}
+use Rattle.strategy_graph.specs.declared.Reply.{Reply}
+use Rattle.strategy_graph.specs.declared.Node.{Node}
+use Rattle.strategy_graph.proofs.Answering.{push-all, push-points}
+use Rattle.strategy_graph.proofs.Common.{NamesLower}
+use Rattle.strategy_compiler.proofs.Common.{GrowsBy, IsCompiled}
+use Rattle.strategy_compiler.proofs.Growing.{grows-more, grows-not, grows-then, win-deep, win-stays}
+use Rattle.strategy_compiler.proofs.Standing.{compiled-lower}
+use Rattle.defence_finder.specs.Defences.{is_defence, is_beaten, is_spent, defences_of, beaten_of, first_spent}
+use Rattle.defence_finder.specs.Answers.{AreBeaten, IsBeatenBy, most_nodes, nodes_after}
+use Rattle.defence_finder.specs.Finding.{AreFound, IsSettled, IsVerdict}
+use Rattle.defence_finder.specs.declared.finder.Verdict.{Verdict}
+use Rattle.defence_finder.specs.declared.finder.Verdict.TheVariants.{NoReply, Holds, Beaten, Spent}
+
+-- ---- as the nodes grow
+
+module _ (rule : RuleKind) (n budget : ℕ) (b : Grid) (t u : List Node) (k : ℕ) (lower : NamesLower t) (grown : GrowsBy t u k) where
+  beaten-grown : (rs : List Reply) → AllByRecursion (IsBeatenBy rule n b t) rs → AllByRecursion (IsBeatenBy rule n b u) rs
+  beaten-grown [] h = tt
+  beaten-grown (r ∷ rs) h = (
+    win-deep rule n (after b r.at) u _ (win-stays rule n (after b r.at) t u k _ lower grown h.0),
+    beaten-grown rs h.1,
+  )
+
+  pub found-grown : (good : List Point) (bad : List Reply) (left : List Point) → AreFound rule n budget b t good bad left
+      → AreFound rule n budget b u good bad left
+  found-grown good bad left h = record { good_are = h.good_are; bad_are = h.bad_are; each = beaten-grown bad h.each; enough = h.enough }
+
+-- ---- one move more
+
+module _ (rule : RuleKind) (n budget : ℕ) (b : Grid) (t : List Node) (good : List Point) (bad : List Reply) (q : Point) (rest : List Point)
+    (h : AreFound rule n budget b t good bad (q ∷ rest)) where
+  good-is : (defence beaten : Bool) → IsSettled rule n budget b q defence beaten
+      → good ++ cond defence (q ∷ filter (is_defence rule n b) rest) (filter (is_defence rule n b) rest) ≡ defences_of rule n b
+  good-is defence beaten s =
+      ap (λ (r : Bool). good ++ cond r (q ∷ filter (is_defence rule n b) rest) (filter (is_defence rule n b) rest)) (sym s.defence_is)
+      ∙ h.good_are
+
+  bad-is : (defence beaten : Bool) → IsSettled rule n budget b q defence beaten
+      → map (λ r. r.at) bad ++ cond beaten (q ∷ filter (is_beaten rule n b) rest) (filter (is_beaten rule n b) rest) ≡ beaten_of rule n b
+  bad-is defence beaten s =
+      ap (λ (r : Bool). map (λ r. r.at) bad ++ cond r (q ∷ filter (is_beaten rule n b) rest) (filter (is_beaten rule n b) rest))
+      (sym s.beaten_is) ∙ h.bad_are
+
+  enough-is : (defence beaten : Bool) → IsSettled rule n budget b q defence beaten
+      → find (is_spent rule n budget b) rest ≡ first_spent rule n budget b
+  enough-is defence beaten s =
+      ap (λ (r : Bool). cond r (Some q) (find (is_spent rule n budget b) rest)) (sym s.enough) ∙ h.enough
+
+  pub found-none : IsSettled rule n budget b q false false → AreFound rule n budget b t good bad rest
+  found-none s = record {
+    good_are = good-is false false s;
+    bad_are = bad-is false false s;
+    each = h.each;
+    enough = enough-is false false s;
+  }
+
+  pub found-good : (more : List Point) → more ≡ good ++ q ∷ [] → IsSettled rule n budget b q true false
+      → AreFound rule n budget b t more bad rest
+  found-good more is s = record {
+    good_are = ap (λ (ps : List Point). ps ++ filter (is_defence rule n b) rest) is ∙ append_assoc good (q ∷ []) _ ∙ good-is true false s;
+    bad_are = bad-is true false s;
+    each = h.each;
+    enough = enough-is true false s;
+  }
+
+  pub found-bad : (more : List Reply) (i : ℕ) → more ≡ bad ++ (record { at = q; next = i }) ∷ [] → IsSettled rule n budget b q false true
+      → IsBeatenBy rule n b t (record { at = q; next = i }) → AreFound rule n budget b t good more rest
+  found-bad more i is s won =
+      let r : Reply = record { at = q; next = i } in
+      record {
+        good_are = good-is false true s;
+        bad_are = ap (λ (rs : List Reply). map (λ r. r.at) rs ++ filter (is_beaten rule n b) rest) is
+            ∙ ap (λ (ps : List Point). ps ++ filter (is_beaten rule n b) rest) (push-points bad r)
+            ∙ append_assoc (map (λ r. r.at) bad) (q ∷ []) _ ∙ bad-is false true s;
+        each = subst (λ (rs : List Reply). AllByRecursion (IsBeatenBy rule n b t) rs) (sym is)
+            (push-all (IsBeatenBy rule n b t) bad r h.each won);
+        enough = enough-is false true s;
+      }
+
+  pub found-spent : is_spent rule n budget b q ≡ true → Some q ≡ first_spent rule n budget b
+  found-spent s = ap (λ (r : Bool). cond r (Some q) (find (is_spent rule n budget b) rest)) (sym s) ∙ h.enough
+
+-- ---- the nodes that the points left may need
+
+-- two for each move after a reply that goes on
+pub nodes-on : (rule : RuleKind) (n : ℕ) (b : Grid) (q : Point) → outcome rule b q ≡ GoesOn → nodes_after n b q ≡ 2 * n
+nodes-on rule n b q on = ap (λ (r : Bool). cond r (2 * n) 0) (GoesOn-empty rule b q on)
+
+pub nodes-step : (n : ℕ) (b v : Grid) (q : Point) (qs rest : List Point) → v ≡ b → qs ≡ q ∷ rest
+    → sum_by (nodes_after n b) qs ≡ nodes_after n v q + sum_by (nodes_after n b) rest
+nodes-step n b v q qs rest same steps =
+    let here : nodes_after n v q ≡ nodes_after n b q = ap (λ (w : Grid). nodes_after n w q) same in
+    let split : sum_by (nodes_after n b) qs ≡ nodes_after n b q + sum_by (nodes_after n b) rest = ap (sum_by (nodes_after n b)) steps
+    ∙ sum_by-cons (nodes_after n b) q rest in
+    omega (arith, here, split)
+
+-- ---- the walk
+
+-- The walk so far: these are the moves found, and since it began with the nodes of a no more were added than the points before those
+-- that are left may need.
+pub record IsWalk (rule : RuleKind) (n budget : ℕ) (b : Grid) (a t : List Node) (good : List Point) (bad : List Reply)
+    (left : List Point) : Type 0 where
+  pub compiled : IsCompiled t
+  pub found : AreFound rule n budget b t good bad left
+  pub few : sum_by (nodes_after n b) left ≤ most_nodes n b
+  pub grows : GrowsBy a t (most_nodes n b - sum_by (nodes_after n b) left)
+
+-- before the first move
+pub walk-first : (rule : RuleKind) (n budget : ℕ) (b : Grid) (t : List Node) → IsCompiled t → (qs : List Point) → qs ≡ points_of b
+    → IsWalk rule n budget b t t [] [] qs
+walk-first rule n budget b t compiled qs are = subst (IsWalk rule n budget b t t [] []) (sym are) (record {
+  compiled = compiled;
+  found = record { good_are = refl; bad_are = refl; each = tt; enough = refl };
+  few = omega arith;
+  grows = grows-not t t _ refl;
+})
+
+-- one move more, and its verdict at the board v, which is that of the walk
+module _ (rule : RuleKind) (n budget : ℕ) (b v : Grid) (same : v ≡ b) (a t u : List Node) (good : List Point) (bad : List Reply)
+    (q : Point) (qs rest : List Point) (steps : qs ≡ q ∷ rest) (walk : IsWalk rule n budget b a t good bad qs)
+    (grown : GrowsBy t u (nodes_after n v q)) where
+  few-next : sum_by (nodes_after n b) rest ≤ most_nodes n b
+  few-next = let split = nodes-step n b v q qs rest same steps in let low = walk.few in omega (arith, low, split)
+
+  grows-next : GrowsBy a u (most_nodes n b - sum_by (nodes_after n b) rest)
+  grows-next =
+      let split = nodes-step n b v q qs rest same steps in
+      let low = walk.few in
+      grows-then a t u _ _ _ walk.grows grown (omega (arith, low, split))
+
+  pub walk-grown : GrowsBy a u (most_nodes n b)
+  walk-grown = grows-more a u _ _ grows-next (omega arith)
+
+  found-next : AreFound rule n budget b u good bad (q ∷ rest)
+  found-next =
+      found-grown rule n budget b t u _ (compiled-lower t walk.compiled) grown good bad (q ∷ rest)
+      (subst (λ (ps : List Point). AreFound rule n budget b t good bad ps) steps walk.found)
+
+  module _ (x : Verdict) (verdict : IsVerdict rule n budget v u q x) where
+    verdict-is : (w : Verdict) → x ≡ w → IsVerdict rule n budget b u q w
+    verdict-is w is =
+        subst (λ (d : Grid). IsVerdict rule n budget d u q w) same (subst (λ (x : Verdict). IsVerdict rule n budget v u q x) is verdict)
+
+    pub walk-none : IsCompiled u → x ≡ NoReply → IsWalk rule n budget b a u good bad rest
+    walk-none compiled is = record {
+      compiled = compiled;
+      found = found-none rule n budget b u good bad q rest found-next (verdict-is NoReply is);
+      few = few-next;
+      grows = grows-next;
+    }
+
+    pub walk-good : IsCompiled u → x ≡ Holds → (more : List Point) → more ≡ good ++ q ∷ [] → IsWalk rule n budget b a u more bad rest
+    walk-good compiled is more pushed = record {
+      compiled = compiled;
+      found = found-good rule n budget b u good bad q rest found-next more pushed (verdict-is Holds is);
+      few = few-next;
+      grows = grows-next;
+    }
+
+    pub walk-bad : IsCompiled u → (i : ℕ) → x ≡ Beaten i → (more : List Reply) → more ≡ bad ++ (record { at = q; next = i }) ∷ []
+        → IsWalk rule n budget b a u good more rest
+    walk-bad compiled i is more pushed = record {
+      compiled = compiled;
+      found = let h = verdict-is (Beaten i) is in found-bad rule n budget b u good bad q rest found-next more i pushed h.0 h.1;
+      few = few-next;
+      grows = grows-next;
+    }
+
+    pub walk-spent : x ≡ Spent → Some q ≡ first_spent rule n budget b
+    walk-spent is = found-spent rule n budget b u good bad q rest found-next (verdict-is Spent is)
+
+-- after the last move
+module _ (rule : RuleKind) (n budget : ℕ) (b : Grid) (a t : List Node) (good : List Point) (bad : List Reply) (left : List Point)
+    (done : left ≡ []) (walk : IsWalk rule n budget b a t good bad left) where
+  found-all : AreFound rule n budget b t good bad []
+  found-all = subst (λ (ps : List Point). AreFound rule n budget b t good bad ps) done walk.found
+
+  pub all-good : good ≡ defences_of rule n b
+  all-good = sym (append-nil good) ∙ found-all.good_are
+
+  pub all-beaten : AreBeaten rule n b t bad
+  all-beaten = record { points = sym (append-nil (map (λ r. r.at) bad)) ∙ found-all.bad_are; each = found-all.each }
+
+  pub never-spent : None ≡ first_spent rule n budget b
+  never-spent = found-all.enough

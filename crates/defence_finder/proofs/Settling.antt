@@ -1,0 +1,144 @@
+-- What is known of one move: by its outcome, by a five point that it leaves, or by a search after it.
+use Rattle.std.proofs.Common.{◌≡◌, ◌↔◌, inl, inr, ℕ, zero, suc, ◌-◌, ◌<◌, ◌≤◌, Bool, true, false, ◌&&◌, not, cond, refl, sym, ap, subst}
+use Rattle.std.proofs.Common.{◌∙◌, arith, List, [], ◌∷◌, Some, Option, IfSome, find, nat_lt, slice_get}
+use Rattle.std.specs.List.{sum_by, range_with_len}
+use Rattle.std.proofs.lemmas.Bool.{cases_lt, le-ltb}
+use borrow.Author.Tests.{lt-ltb}
+use Rattle.game_rules.proofs.Common.{Grid, IsPosition, points_of, is_same_point, five, mover, other, outcome, after, goes_on, saves}
+use Rattle.game_rules.proofs.Common.{has_five, five_points, wins_by_fours}
+use Rattle.game_rules.specs.declared.RuleKind.{RuleKind}
+use Rattle.game_rules.specs.declared.Outcome.{Outcome}
+use Rattle.game_rules.specs.declared.Outcome.TheVariants.{Refused, Wins, Fouls, Draws, GoesOn}
+use Rattle.game_rules.specs.declared.Point.{Point}
+use Rattle.game_rules.proofs.Fives.{least_five, first-left, second-left}
+use Rattle.game_rules.proofs.Games.{WinsUnder-more, WinsUnder-test, five-wins}
+use Rattle.game_rules.proofs.Outcomes.{five-outcome}
+use Rattle.game_rules.proofs.Places.{find-passes}
+use Rattle.game_rules.proofs.PointLists.{Apart-back, find-any}
+use Rattle.game_rules.proofs.Points.{is_same_point-apart, is_same_point-same}
+use Rattle.strategy_graph.specs.declared.Node.{Node}
+use Rattle.strategy_compiler.specs.declared.wins.WrittenWin.{WrittenWin}
+use Rattle.strategy_compiler.proofs.Common.{WinsAtOnce}
+use Rattle.strategy_compiler.proofs.Growing.{win-deep, win-within}
+use Rattle.four_search.specs.FourGame.{until, four_tree, four_cost}
+use Rattle.four_search.specs.Answers.{IsFourWin}
+use Rattle.four_search.specs.declared.answer.FourAnswer.{FourAnswer}
+use Rattle.four_search.specs.declared.answer.FourAnswer.TheVariants.{Win, Spent}
+use Rattle.defence_finder.specs.Defences.{holds_or, is_spent}
+use Rattle.defence_finder.specs.Answers.{IsBeatenBy}
+use Rattle.defence_finder.specs.Finding.{IsSettled}
+
+module _ (rule : RuleKind) (n budget : ℕ) (b : Grid) (q : Point) where
+  -- a move that does not go on
+  pub settled-still : (o : Outcome) → outcome rule b q ≡ o → goes_on o ≡ false → IsSettled rule n budget b q (saves o) false
+  settled-still o e still = record {
+    enough = ap (λ (o : Outcome). goes_on o && nat_lt budget (four_cost rule n (after b q))) e
+        ∙ ap (λ (r : Bool). r && nat_lt budget (four_cost rule n (after b q))) still;
+    defence_is = ap (λ (o : Outcome). holds_or o (not (wins_by_fours rule n (after b q)))) e ∙ by_outcome o still;
+    beaten_is = ap (λ (o : Outcome). goes_on o && not (holds_or o (not (wins_by_fours rule n (after b q))))) e
+        ∙ ap (λ (r : Bool). r && not (holds_or o (not (wins_by_fours rule n (after b q))))) still;
+  } where
+    by_outcome : (o : Outcome) → goes_on o ≡ false → holds_or o (not (wins_by_fours rule n (after b q))) ≡ saves o
+    by_outcome GoesOn h = cc
+    by_outcome Refused h = refl
+    by_outcome Wins h = refl
+    by_outcome (Fouls f) h = refl
+    by_outcome Draws h = refl
+
+  module _ (on : outcome rule b q ≡ GoesOn) where
+    -- one that goes on, where the budget suffices after it
+    pub settled-on : (w : Bool) → wins_by_fours rule n (after b q) ≡ w → four_cost rule n (after b q) ≤ budget
+        → IsSettled rule n budget b q (not w) w
+    settled-on w won enough = record {
+      enough = ap (λ (o : Outcome). goes_on o && nat_lt budget (four_cost rule n (after b q))) on
+          ∙ le-ltb budget (four_cost rule n (after b q)) enough;
+      defence_is = ap (λ (o : Outcome). holds_or o (not (wins_by_fours rule n (after b q)))) on ∙ ap not won;
+      beaten_is = ap (λ (o : Outcome). goes_on o && not (holds_or o (not (wins_by_fours rule n (after b q))))) on
+          ∙ ap (λ (r : Bool). not (not r)) won ∙ twice w;
+    } where
+      twice : (r : Bool) → not (not r) ≡ r
+      twice true = refl
+      twice false = refl
+
+    -- and where it does not
+    pub spent-on : budget < four_cost rule n (after b q) → is_spent rule n budget b q ≡ true
+    spent-on more =
+        ap (λ (o : Outcome). goes_on o && nat_lt budget (four_cost rule n (after b q))) on
+        ∙ lt-ltb budget (four_cost rule n (after b q)) more
+
+-- ---- a five point that is left
+
+one-looked : (rule : RuleKind) (c : Grid) → sum_by (λ k. four_tree rule k c) (1 ∷ []) ≡ 1
+unfolding four_tree
+one-looked rule c = refl
+
+-- where the attacker has a five point, one position is looked at
+five-cost : (rule : RuleKind) (n : ℕ) (c : Grid) → 1 ≤ n → has_five rule c (mover c) ≡ true → four_cost rule n c ≡ 1
+five-cost rule zero c l h = absurd (omega arith)
+five-cost rule (suc m) c l h =
+    ap (λ (r : Bool). sum_by (λ k. four_tree rule k c) (1 ∷ cond r [] (until (λ k. wins_by_fours rule k c) (range_with_len 2 m))))
+    (five-wins rule c 0 h)
+    ∙ one-looked rule c
+
+-- the least of the five points that the move leaves
+module _ (rule : RuleKind) (b : Grid) (q : Point) (lawful : IsPosition rule b) (on : outcome rule b q ≡ GoesOn) (fives others : List Point)
+    (first : Point) (is : fives ≡ first ∷ others) (are : fives ≡ five_points rule b (other (mover b))) where
+  pub first-stays : is_same_point first q ≡ false → least_five rule (after b q) ≡ Some first
+  first-stays differ = first-left rule b lawful q on first others (sym are ∙ is) (Apart-back first q (is_same_point-apart first q differ))
+
+  pub second-stays : (o : Option Point) → o ≡ slice_get others 0 → is_same_point first q ≡ true
+      → IfSome o (λ w. least_five rule (after b q) ≡ Some w)
+  second-stays o e same =
+      subst (λ (o : Option Point). IfSome o (λ w. least_five rule (after b q) ≡ Some w)) (sym e) (by_others others is) where
+        by_others : (ps : List Point) → fives ≡ first ∷ ps → IfSome (slice_get ps 0) (λ w. least_five rule (after b q) ≡ Some w)
+        by_others [] e = tt
+        by_others (v ∷ more) e = second-left rule b lawful q on first v more (sym are ∙ e) (sym (is_same_point-same first q same))
+
+module _ (rule : RuleKind) (n budget : ℕ) (b : Grid) (q : Point) (w : Point) (some : 1 ≤ n) (enough : 1 ≤ budget)
+    (on : outcome rule b q ≡ GoesOn)
+    (left : find (five rule (after b q) (mover (after b q))) (points_of (after b q)) ≡ Some w) where
+  there : five rule (after b q) (mover (after b q)) w ≡ true
+  there = find-passes (five rule (after b q) (mover (after b q))) (points_of (after b q)) w left
+
+  has : has_five rule (after b q) (mover (after b q)) ≡ true
+  has = find-any (five rule (after b q) (mover (after b q))) (points_of (after b q)) w left
+
+  wins : wins_by_fours rule n (after b q) ≡ true
+  wins =
+      let e : suc (n - 1) ≡ n = omega (arith, some) in
+      ap (λ (k : ℕ). wins_by_fours rule k (after b q)) (sym e) ∙ five-wins rule (after b q) (n - 1) has
+
+  pub five-settled : IsSettled rule n budget b q false true
+  five-settled =
+      let cost = five-cost rule n (after b q) some has in
+      settled-on rule n budget b q on true wins (omega (arith, cost, enough))
+
+  pub five-beaten : (t : List Node) (i : ℕ) → WinsAtOnce w t i → IsBeatenBy rule n b t (record { at = q; next = i })
+  five-beaten t i won =
+      win-deep rule n (after b q) t _ (win-within rule 1 n (after b q) t _ some
+      (won rule (after b q) (five-outcome rule (after b q) w there)))
+
+-- ---- a search after it
+
+-- the budget sufficed where another answer came
+pub four-enough : (budget cost : ℕ) (a : FourAnswer) (win : WrittenWin) → a ≡ Win win → ((a ≡ Spent) ↔ (budget < cost)) → cost ≤ budget
+four-enough budget cost a win is spent = elim (cases_lt budget cost) [
+  | inl more ↦ absurd (let no : a ≡ Spent = spent.1 more in cc)
+  | inr less ↦ less
+]
+
+-- a win that was found
+pub four-verdict : (rule : RuleKind) (n budget : ℕ) (b : Grid) (q : Point) → outcome rule b q ≡ GoesOn → (d : Grid) → d ≡ after b q
+    → (t : List Node) (win : WrittenWin) → IsFourWin rule n d t win → four_cost rule n d ≤ budget
+    → IsSettled rule n budget b q false true × IsBeatenBy rule n b t (record { at = q; next = win.node })
+four-verdict rule n budget b q on d same t win won enough = (
+  settled-on rule n budget b q on true wins (subst (λ (d : Grid). four_cost rule n d ≤ budget) same enough),
+  win-deep rule n (after b q) t win there.written,
+) where
+  there : IsFourWin rule n (after b q) t win
+  there = subst (λ (d : Grid). IsFourWin rule n d t win) same won
+
+  wins : wins_by_fours rule n (after b q) ≡ true
+  wins =
+      WinsUnder-test (has_five rule) rule n (after b q)
+      (WinsUnder-more (has_five rule) rule win.moves n (after b q) there.written.within there.fewest.wins)

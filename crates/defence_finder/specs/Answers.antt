@@ -1,0 +1,51 @@
+-- What the answers of the finder say.
+use Rattle.std.specs.Prelude.{◌≡◌, ℕ, ◌*◌, ◌≤◌, if◌then◌else◌, List, map, Option, Some, None}
+use Rattle.std.specs.List.{sum_by, AllByRecursion}
+use Rattle.game_rules.specs.Grid.{Grid, is_empty, points_of}
+use Rattle.game_rules.specs.Play.{after}
+use Rattle.game_rules.specs.declared.RuleKind.{RuleKind}
+use Rattle.game_rules.specs.declared.Point.{Point}
+use Rattle.strategy_graph.specs.declared.Reply.{Reply}
+use Rattle.strategy_graph.specs.declared.Node.{Node}
+use Rattle.strategy_graph.specs.Tables.{Answers, RepliesOn, TableOnBoard, depth, start_depth}
+use Rattle.strategy_graph.specs.Acceptance.{AcceptedStart}
+use Rattle.strategy_compiler.specs.Wins.{IsWrittenWin}
+use Rattle.defence_finder.specs.declared.finder.DefenceAnswer.{DefenceAnswer}
+use Rattle.defence_finder.specs.declared.finder.DefenceAnswer.TheVariants.{Known, Spent}
+use Rattle.defence_finder.specs.Defences.{beaten_of}
+
+-- P holds of the defences and of the other replies, if the answer tells them
+abbrev pub OnKnown : DefenceAnswer → (List Point → List Reply → Type 0) → Type 0
+OnKnown (Known good bad) P = P good bad
+OnKnown (Spent q) P = Unit {0}
+
+-- the reply of which the answer says that the budget does not suffice, if it says so
+abbrev pub spent_at : DefenceAnswer → Option Point
+spent_at (Known good bad) = None
+spent_at (Spent q) = Some q
+
+-- The node that answers the reply r at b wins after it: it is one of these nodes, is accepted at the board after the reply and is no
+-- deeper than n, and what it reaches names points of the board alone.
+abbrev pub IsBeatenBy : RuleKind → ℕ → Grid → List Node → Reply → Type 0
+IsBeatenBy rule n b t r = IsWrittenWin rule n (after b r.at) t (record { node = r.next; moves = depth t r.next })
+
+-- these are the moves at b that go on and are no defences, in reading order, each with a node that wins after it
+pub record AreBeaten (rule : RuleKind) (n : ℕ) (b : Grid) (t : List Node) (bad : List Reply) : Type 0 where
+  pub points : map (λ r. r.at) bad ≡ beaten_of rule n b
+  pub each : AllByRecursion (IsBeatenBy rule n b t) bad
+
+-- the most nodes that a search within n moves after the reply q may add: two for each move, if q is empty
+abbrev pub nodes_after : ℕ → Grid → Point → ℕ
+nodes_after n b q = if is_empty b q then 2 * n else 0
+
+-- the most nodes that the finder may add: so many for each empty point
+abbrev pub most_nodes : ℕ → Grid → ℕ
+most_nodes n b = sum_by (nodes_after n b) (points_of b)
+
+-- A start by which the side that is not to move at b wins within n moves whatever is played first: it is accepted at b and is no
+-- deeper than n, and it and its table name points of the board alone.
+pub record IsLostStart (rule : RuleKind) (n : ℕ) (b : Grid) (t : List Node) (a : Answers) : Type 0 where
+  pub accepted : AcceptedStart rule t a b
+  pub within : start_depth t a ≤ n
+  pub table_on_board : TableOnBoard b t
+  pub replies_on_board : RepliesOn b a.replies
