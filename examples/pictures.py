@@ -20,6 +20,7 @@ HERE = Path(__file__).resolve().parent
 # The pictures of the repository: texts of this folder, and the words with which each is drawn.
 PICTURES = {
     "allowed-double-three": ["--mark", "*=7,7"],
+    "one-defence": ["--mark", "*=7,7"],
     "double-three": ["--mark", "*=7,7", "--mark", "cost=5,7", "--mark", "cost=9,7"],
     "three-in-a-row": [],
     "two-move-win": [],

@@ -6,7 +6,7 @@ use Rattle.std.specs.Str.Parse.{digits_value}
 use Rattle.std.specs.Fmt.{decimal}
 use Rattle.std.proofs.lemmas.Fmt.{decimal_is_IsNumeral}
 use Rattle.renju_cli.specs.declared.commands.Form.{Form}
-use Rattle.renju_cli.specs.declared.commands.Form.TheVariants.{Check, Foul, Fours, Threats, Solve, Brain, BrainWith, Drill, Referee, RefereeWith, Image}
+use Rattle.renju_cli.specs.declared.commands.Form.TheVariants.{Check, Foul, Fours, Threats, Solve, Brain, BrainWith, Drill, Referee, RefereeWith, Image, Defend}
 use Rattle.renju_cli.specs.declared.TheConstants.{MAX_WORK}
 use Rattle.renju_cli.specs.Forms.{HasWords}
 use Rattle.renju_cli.specs.Commands.{command, IsForm, HasForm}
@@ -51,7 +51,8 @@ form_told words =
     else (if bytes_eq (get_or words 0 []) (codes "drill") then Drill (number_at words 1)
     else (if bytes_eq (get_or words 0 []) (codes "image") then Image (symmetry_told (get_or words 1 []))
     else (if bytes_eq (get_or words 0 []) (codes "referee") then (if nat_lt 1 (length words) then RefereeWith else Referee)
-    else (if nat_lt 1 (length words) then BrainWith else Brain))))))))
+    else (if bytes_eq (get_or words 0 []) (codes "defend") then Defend (number_at words 1) (number_at words 2)
+    else (if nat_lt 1 (length words) then BrainWith else Brain)))))))))
 
 number-written : (n : ℕ) → n ≤ MAX_WORK → digits_value 10 (decimal n) ≡ n
 number-written n few = let d = decimal_is_IsNumeral n (omega (arith, few)) in d.1
@@ -72,6 +73,7 @@ form-spelled words (Drill number) range = ap Drill (number-written number (omega
 form-spelled words (Fours depth nodes) range = two-written Fours depth nodes (omega (arith, range.1)) (omega (arith, range.3))
 form-spelled words (Threats limit nodes) range = two-written Threats limit nodes (omega (arith, range.1)) (omega (arith, range.3))
 form-spelled words (Solve depth nodes) range = two-written Solve depth nodes (omega (arith, range.1)) (omega (arith, range.3))
+form-spelled words (Defend depth nodes) range = two-written Defend depth nodes (omega (arith, range.1)) (omega (arith, range.3))
 
 pub told-form : (words : List (List ℕ)) (form : Form) → IsForm words form → form_told words ≡ form
 told-form words form is = ap form_told is.spelled ∙ form-spelled words form is.in_range

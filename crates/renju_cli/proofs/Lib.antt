@@ -13,5 +13,6 @@ mod BrainLaws
 mod GameLaws
 mod DrillLaws
 mod ImageLaws
+mod DefendLaws
 mod RefereeLaws
 mod ReportLaws

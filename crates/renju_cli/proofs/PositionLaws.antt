@@ -1,10 +1,13 @@
 -- Commands that are told a position: what is said of a text that is that of a lawful one, and which statuses speak of it.
-use Rattle.std.proofs.Common.{◌≡◌, inl, inr, ap, subst, ◌∙◌, ◌⊎◌, ℕ, ◌≤◌, ◌<◌, List, arith}
-use Rattle.std.specs.Prelude.{IfSome}
+use Rattle.std.proofs.Common.{◌≡◌, inl, inr, sym, ap, subst, ◌∙◌, ◌⊎◌, ℕ, ◌≤◌, ◌<◌, List, arith}
+use Rattle.std.specs.Prelude.{IfOk, IfSome, Result}
+use Rattle.game_rules.specs.Grid.{Grid}
+use Rattle.game_rules.specs.declared.RuleKind.{RuleKind}
 use Rattle.position_files.specs.declared.PositionFile.{PositionFile}
 use Rattle.position_files.specs.Faults.{IsPositionFault}
 use Rattle.position_files.proofs.ReadBack.{position-read-back}
 use Rattle.renju_io.specs.Told.{Takes}
+use Rattle.renju_cli.specs.declared.answer.Answer.{Answer}
 use Rattle.renju_cli.specs.declared.status.Status.{Status}
 use Rattle.renju_cli.specs.Statuses.{status_number}
 use Rattle.renju_cli.specs.Runs.{Run}
@@ -17,6 +20,17 @@ use Rattle.renju_cli.proofs.ToldLaws.{IsWhole, whole-or-yielded, given-told, eve
 -- what is said of a text: why it is refused, or else what is said of its position
 abbrev SaysOfText : (PositionFile → Status → List ℕ → Type 0) → List ℕ → Status → List ℕ → Type 0
 SaysOfText Says bytes status text = IsRefusedText (IsPositionFault bytes) status text ⊎ ((file : PositionFile) × IsPositionAt file bytes × Says file status text)
+
+-- the position at a board under a rule
+abbrev pub file_at : RuleKind → Grid → PositionFile
+file_at rule b = record { kind = rule; board = b }
+
+-- what is said of the position at the board of a text is said of the text's
+pub said-of-file : {E : Type 0} (Says : PositionFile → Status → List ℕ → Type 0) (r : Result Answer E) (file : PositionFile) (rule : RuleKind) (p : Grid)
+    → file.kind ≡ rule → p ≡ file.board → IfOk r (λ a. Says (file_at rule p) a.status a.text.items) → IfOk r (λ a. Says file a.status a.text.items)
+said-of-file Says r file rule p kind here says =
+    let same : file_at rule p ≡ file = λ i. record { kind = sym kind i; board = here i } in
+    subst (λ (f : PositionFile). IfOk r (λ a. Says f a.status a.text.items)) same says
 
 -- the text of a lawful position is not refused, and no other position has it: so what is said is said of this one
 pub said-of-position : (Says : PositionFile → Status → List ℕ → Type 0) (bytes : List ℕ) (file : PositionFile) → IsPositionAt file bytes → (status : Status) (text : List ℕ) → SaysOfText Says bytes status text → Says file status text

@@ -1,7 +1,7 @@
 -- What follows of a run from its report: the command of its form did what it does, and so answered where it is sure to.
 use Rattle.std.proofs.Common.{◌≡◌, inl, inr, sym, ap, subst, ℕ, List}
 use Rattle.renju_cli.specs.declared.commands.Form.{Form}
-use Rattle.renju_cli.specs.declared.commands.Form.TheVariants.{Check, Foul, Fours, Threats, Solve, Brain, BrainWith, Drill, Referee, RefereeWith, Image}
+use Rattle.renju_cli.specs.declared.commands.Form.TheVariants.{Check, Foul, Fours, Threats, Solve, Brain, BrainWith, Drill, Referee, RefereeWith, Image, Defend}
 use Rattle.renju_cli.specs.Runs.{Run}
 use Rattle.renju_cli.specs.Forms.{HasWords}
 use Rattle.renju_cli.specs.Checks.{check_command, ShowsWin}
@@ -28,6 +28,8 @@ use Rattle.renju_cli.proofs.ThreatsLaws.{threats-answers, threats-searched}
 use Rattle.renju_cli.proofs.SolveLaws.{solve-answers, solve-shown}
 use Rattle.renju_cli.specs.Images.{image_command, ShowsImage}
 use Rattle.renju_cli.proofs.ImageLaws.{image-answers, image-shown}
+use Rattle.renju_cli.specs.Defends.{defend_command, ShowsDefence}
+use Rattle.renju_cli.proofs.DefendLaws.{defend-answers, defend-shown}
 
 -- the command of the words did what it does
 does-of : (run : Run) → Report run → (form : Form) → IsForm run.words form → (command run.words form).Does run
@@ -47,6 +49,7 @@ answers RefereeWith run does = referee-with-answers (second_word run.words) run 
 answers (Fours depth nodes) run does = answers-told (fours_command depth nodes) (fours-answers depth nodes) run does
 answers (Threats limit nodes) run does = answers-told (threats_command limit nodes) (threats-answers limit nodes) run does
 answers (Solve depth nodes) run does = answers-told (solve_command depth nodes) (solve-answers depth nodes) run does
+answers (Defend depth nodes) run does = answers-told (defend_command depth nodes) (defend-answers depth nodes) run does
 
 -- what `brain FILE` did with its second word is the report of its run
 pub file-reported : (run : Run) (name : List ℕ) → IsForm run.words BrainWith → name ≡ second_word run.words → IsBrainWith name run → Report run
@@ -89,6 +92,9 @@ report-solved run report depth nodes is = solve-shown depth nodes run (does-of r
 
 pub report-imaged : (run : Run) → Report run → ShowsImage run
 report-imaged run report s is zero = image-shown s run zero (does-of run report (Image s) is)
+
+pub report-defended : (run : Run) → Report run → ShowsDefence run
+report-defended run report depth nodes is = defend-shown depth nodes run (does-of run report (Defend depth nodes) is)
 
 pub report-refereed : (run : Run) → Report run → ShowsReferee run
 report-refereed run report name is done =

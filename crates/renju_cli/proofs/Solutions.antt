@@ -15,18 +15,8 @@ use Rattle.renju_cli.specs.declared.status.Status.TheVariants.{Done, NotFound, F
 use Rattle.game_rules.specs.Games.{WinsByThreats}
 use Rattle.renju_cli.specs.Fours.{IsFourText, none_line}
 use Rattle.renju_cli.specs.Solves.{IsWinText, SolutionSays, IsWonByFours, IsLeftOver, MayBeTooGreat, full_line}
+use Rattle.renju_cli.proofs.PositionLaws.{file_at}
 use Rattle.renju_cli.proofs.Searches.{not-above}
-
--- the position at a board under a rule
-abbrev pub file_at : RuleKind → Grid → PositionFile
-file_at rule b = record { kind = rule; board = b }
-
--- what is said of the position at the board of a text is said of the text's
-pub said-of-file : {E : Type 0} (r : Result Answer E) (limit nodes : ℕ) (file : PositionFile) (rule : RuleKind) (p : Grid) → file.kind ≡ rule → p ≡ file.board
-    → IfOk r (λ a. SolutionSays limit nodes (file_at rule p) a.status a.text.items) → IfOk r (λ a. SolutionSays limit nodes file a.status a.text.items)
-said-of-file r limit nodes file rule p kind here says =
-    let same : file_at rule p ≡ file = λ i. record { kind = sym kind i; board = here i } in
-    subst (λ (f : PositionFile). IfOk r (λ a. SolutionSays limit nodes f a.status a.text.items)) same says
 
 module _ {E : Type 0} (r : Result Answer E) (limit nodes : ℕ) (rule : RuleKind) (p b : Grid) (there : b ≡ p) (compiled : List Node) (win : WrittenWin) where
   -- the text of the table of a win of the first step is what is said

@@ -1,7 +1,7 @@
 -- The commands, by their forms of words.
 use Rattle.std.specs.Prelude.{ℕ, List}
 use Rattle.renju_cli.specs.declared.commands.Form.{Form}
-use Rattle.renju_cli.specs.declared.commands.Form.TheVariants.{Check, Foul, Fours, Threats, Solve, Brain, BrainWith, Drill, Referee, RefereeWith, Image}
+use Rattle.renju_cli.specs.declared.commands.Form.TheVariants.{Check, Foul, Fours, Threats, Solve, Brain, BrainWith, Drill, Referee, RefereeWith, Image, Defend}
 use Rattle.renju_cli.specs.Forms.{Command, IsSpelled}
 use Rattle.renju_cli.specs.Told.{told}
 use Rattle.renju_cli.specs.Checks.{check_command}
@@ -13,6 +13,7 @@ use Rattle.renju_cli.specs.Brains.{second_word, brain_command, brain_with_comman
 use Rattle.renju_cli.specs.Drills.{drill_command}
 use Rattle.renju_cli.specs.Referees.{referee_command, referee_with_command}
 use Rattle.renju_cli.specs.Images.{image_command}
+use Rattle.renju_cli.specs.Defends.{defend_command}
 
 -- the command that a form of these words stands for
 abbrev pub command : List (List ℕ) → Form → Command
@@ -27,6 +28,7 @@ command words (Drill number) = drill_command number
 command words (Image s) = told (image_command s)
 command words Referee = told referee_command
 command words RefereeWith = referee_with_command (second_word words)
+command words (Defend depth nodes) = told (defend_command depth nodes)
 
 -- the words have this form
 abbrev pub IsForm : List (List ℕ) → Form → Type 0

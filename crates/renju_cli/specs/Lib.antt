@@ -16,6 +16,7 @@ pub mod Brains
 pub mod Games
 pub mod Drills
 pub mod Images
+pub mod Defends
 pub mod Referees
 -- the list of commands, and what the program does
 pub mod Commands

@@ -11,6 +11,7 @@ ghost use Rattle.renju_cli.specs.Reports.{Report};
 
 use crate::brain::{play, play_with};
 use crate::check::Check;
+use crate::defend::Defend;
 use crate::drill::drill;
 use crate::fouls::ListFouls;
 use crate::fours::Fours;
@@ -20,7 +21,8 @@ use crate::solve::Solve;
 use crate::threats::FindSequence;
 use crate::told::{deliver, tell};
 use crate::{
-    Status, brain, check, drill as drill_words, fouls, fours, image, referee, solve, threats,
+    Status, brain, check, defend, drill as drill_words, fouls, fours, image, referee, solve,
+    threats,
 };
 use board_symmetry::Symmetry;
 use renju_io::{Shelf, Sink, Source};
@@ -28,7 +30,7 @@ use std::alloc::Global;
 
 /// The line that words without a form are answered with.
 pub const USAGE: &str =
-    "usage: renju check WORK, foul, fours DEPTH NODES, threats LENGTH NODES, solve DEPTH NODES, brain [FILE], drill N, image SYMMETRY, referee [FILE]\n";
+    "usage: renju check WORK, foul, fours DEPTH NODES, threats LENGTH NODES, solve DEPTH NODES, brain [FILE], drill N, image SYMMETRY, referee [FILE], defend DEPTH NODES\n";
 
 /// A form of words: the command and its numbers.
 #[derive(Clone, Copy, Debug, PartialEq, Eq)]
@@ -55,6 +57,8 @@ pub enum Form {
     Referee,
     /// `referee FILE`, with a FILE that is not empty. It is the second word.
     RefereeWith,
+    /// `defend DEPTH NODES`, with DEPTH and NODES as those of `fours`.
+    Defend { depth: u32, nodes: u64 },
 }
 
 /// The form that the words have, if they have one.
@@ -74,6 +78,7 @@ pub(crate) fn form_of(words: &[String]) -> Option<Form>
         "drill" => drill_words::form(rest),
         "image" => image::form(rest),
         "referee" => referee::form(rest),
+        "defend" => defend::form(rest),
         _ => None,
     }
 }
@@ -109,5 +114,6 @@ pub(crate) fn run<I: Source, O: Sink, F: Shelf>(
         Some(Form::Image { symmetry }) => tell(alloc, &Image { symmetry }, input, output),
         Some(Form::Referee) => tell(alloc, &Referee, input, output),
         Some(Form::RefereeWith) => referee_with(alloc, words[1].as_str(), input, output, shelf),
+        Some(Form::Defend { depth, nodes }) => tell(alloc, &Defend { depth, nodes }, input, output),
     }
 }

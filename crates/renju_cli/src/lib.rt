@@ -9,6 +9,7 @@ mod answer;
 mod brain;
 mod check;
 mod commands;
+mod defend;
 mod drill;
 mod fouls;
 mod fours;
@@ -30,7 +31,7 @@ pub use status::Status;
 /// The most arrivals that `check` may be allowed.
 pub const MAX_WORK: u64 = 1_000_000_000_000;
 
-/// The most positions that `fours` and `solve`, and the most lists of threats that `threats`, may be allowed to look at.
+/// The most positions that `fours`, `solve` and `defend` (after each move), and the most lists of threats that `threats`, may be allowed to look at.
 pub const MAX_SEARCHED: u64 = 10_000_000;
 
 /// The greatest number of a drill.

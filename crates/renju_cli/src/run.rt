@@ -15,6 +15,7 @@ ghost use Rattle.renju_cli.specs.Drills.{ShowsDrill};
 ghost use Rattle.renju_cli.specs.Referees.{ShowsReferee};
 ghost use Rattle.renju_cli.specs.Reports.{Report, IsComplete};
 ghost use Rattle.renju_cli.specs.Images.{ShowsImage};
+ghost use Rattle.renju_cli.specs.Defends.{ShowsDefence};
 
 use crate::commands::run;
 use renju_io::{Shelf, Sink, Source};
@@ -24,8 +25,8 @@ use std::alloc::Global;
 /// the shelf, writes to the output, and answers the status to exit with.
 ///
 /// The status and the text that are due are those of `Status` and of the commands. Words without a form get the usage line
-/// and status 1, and leave the input unasked, as `drill` does. `check`, `foul`, `fours`, `threats`, `solve`, `image` and `referee` speak of an
-/// input only once it was read to its end; a brain answers each line before it reads the next. Only `brain FILE` and `referee FILE`
+/// and status 1, and leave the input unasked, as `drill` does. `check`, `foul`, `fours`, `threats`, `solve`, `image`, `referee` and
+/// `defend` speak of an input only once it was read to its end; a brain answers each line before it reads the next. Only `brain FILE` and `referee FILE`
 /// ask the shelf, before the input, and no command changes it. A failing output gives status 8 in place of the status that was due, and the output then has the front of the text; want of memory
 /// gives 6 and a failing input 7, and then nothing is written, or by a brain that serves the answers to the lines before.
 /// A status other than 7 says that the input counted no fault, one other than 8 that the output did not, and one that is
@@ -70,6 +71,10 @@ pub fn run_renju<I: Source, O: Sink, F: Shelf>(
     // What status 0 of `referee FILE` shows: the verdict on the game, and whether it was played by the table of FILE, which is
     // accepted. Where it was, the side of the table did not lose it.
     ensures refereed { ShowsReferee (run_of (map string_bytes words.now) (change I.left I.faults input.old input.new)
+        (change O.written O.faults output.old output.new) (change F.files F.faults shelf.old shelf.new) result) }
+    // What statuses 0 and 5 of `defend` show: exactly the moves that hold against continuous fours, or an accepted table by which the
+    // other side wins whatever is played first; or too small a budget after some move.
+    ensures defended { ShowsDefence (run_of (map string_bytes words.now) (change I.left I.faults input.old input.new)
         (change O.written O.faults output.old output.new) (change F.files F.faults shelf.old shelf.new) result) }
     // A command with a lawful input, enough work and devices without a fault answers, unless memory runs out.
     ensures complete { IsComplete (run_of (map string_bytes words.now) (change I.left I.faults input.old input.new)

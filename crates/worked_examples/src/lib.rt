@@ -11,6 +11,8 @@ mod calling;
 #[cfg(test)]
 mod checks;
 #[cfg(test)]
+mod defends;
+#[cfg(test)]
 mod devices;
 #[cfg(test)]
 mod drills;

@@ -8,7 +8,7 @@ use std::test::Fail;
 
 /// No words, words of no command, words of a command that are too few or too many, and words that are no number in its
 /// range: zeros, leading zeros, signs, fractions, letters, and numbers that are 1 but for a power of two.
-const FORMLESS: [&str; 54] = [
+const FORMLESS: [&str; 61] = [
     "",
     "help",
     "--help",
@@ -63,6 +63,13 @@ const FORMLESS: [&str; 54] = [
     "Referee",
     "referees t",
     "referee t t",
+    "defend",
+    "defend 2",
+    "defend 0 1",
+    "defend 2 0",
+    "defend 02 1",
+    "defend 2 4 1",
+    "defends 2 4",
 ];
 
 /// Devices of which the input is not to be asked, and the output for one write alone.

@@ -9,7 +9,8 @@ use Rattle.proof_number.specs.Answers.{OnWin}
 use Rattle.threat_game.specs.Wins.{IsThreatWin}
 use Rattle.proof_number.specs.declared.answer.ProofAnswer.{ProofAnswer}
 use Rattle.renju_cli.specs.Solves.{IsWinText}
-use Rattle.renju_cli.proofs.Solutions.{file_at, threats-says, unwon-says, full-says}
+use Rattle.renju_cli.proofs.PositionLaws.{file_at}
+use Rattle.renju_cli.proofs.Solutions.{threats-says, unwon-says, full-says}
 use Rattle.renju_cli.proofs.solve.by_threats.Goals as goal
 
 pub returns-in-Ok-Win : goal.returns-in-Ok-Win

@@ -5,8 +5,9 @@ use Rattle.strategy_compiler.specs.Wins.{IsWrittenWin}
 use Rattle.four_search.specs.Answers.{OnWin, IsFourWin}
 use Rattle.four_search.specs.declared.answer.FourAnswer.{FourAnswer}
 use Rattle.renju_cli.specs.Fours.{IsFourText}
-use Rattle.renju_cli.specs.Solves.{IsWinText}
-use Rattle.renju_cli.proofs.Solutions.{file_at, said-of-file, first-says}
+use Rattle.renju_cli.specs.Solves.{IsWinText, SolutionSays}
+use Rattle.renju_cli.proofs.PositionLaws.{file_at, said-of-file}
+use Rattle.renju_cli.proofs.Solutions.{first-says}
 use Rattle.renju_cli.proofs.solve.solve_under.Goals as goal
 
 pub returns-in-Ok-Win : goal.returns-in-Ok-Win
@@ -24,4 +25,4 @@ returns-in-Ok-Win g c =
     let shown : IfOk c.win_text.result (λ a. (limit : ℕ) → IsWrittenWin rule limit b compiled win → IsWinText limit (file_at rule b) a.text.items) =
     subst (λ (k : RuleKind). IfOk c.win_text.result (λ a. (limit : ℕ) → IsWrittenWin k limit b compiled win → IsWinText limit (file_at k b) a.text.items)) c.KIND.ensures c.win_text.ensures.shown in
     let says = first-says c.win_text.result c.args.depth c.args.nodes rule p b there compiled win is (λ above. let spent = c.in-Ok-Win.ensures.spent.1 above in let not = c.in-Ok-Win.field-0-is in absurd (cc)) c.win_text.ensures.status text shown in
-    record { says = said-of-file c.win_text.result c.args.depth c.args.nodes c.args.file rule p c.requires.kind c.new-position.ensures.position says }
+    record { says = said-of-file (SolutionSays c.args.depth c.args.nodes) c.win_text.result c.args.file rule p c.requires.kind c.new-position.ensures.position says }

@@ -1,0 +1,159 @@
+//! The command `defend`: the moves that hold against continuous fours, or a table of the other side's win where none does.
+//!
+//! The text is read, and the finder runs under its rule within the depth and the budget. The moves that hold are listed. Where
+//! there is none, the nodes that answer all moves make a start, and its table is one that `check` accepts.
+#![tactic(auto)]
+
+ghost use Rattle.std.specs.Prelude.{◌≡◌, ◌≤◌, ◌∷◌, [], ℕ, codes, map, IfOk, MatchOption, string_bytes};
+ghost use Rattle.game_rules.specs.Play.{IsPosition};
+ghost use Rattle.defence_finder.specs.Defences.{defences_of};
+ghost use Rattle.defence_finder.specs.Answers.{AreBeaten};
+ghost use Rattle.defence_finder.specs.Lines.{defences_text};
+ghost use Rattle.renju_cli.specs.Commands.{IsForm, HasForm};
+ghost use Rattle.renju_cli.specs.Defends.{DefenceSays, IsLostText, spent_after_line};
+
+use crate::answer::Answer;
+use crate::numbers::two_counts;
+use crate::refusals::refused_text;
+use crate::told::Told;
+use crate::{Form, MAX_SEARCHED, Status};
+use defence_finder::{DefenceAnswer, defences, write_defences};
+use foul_judge::Position;
+use four_search::MAX_DEPTH;
+use game_rules::RuleKind;
+use position_files::{PositionFile, read_position, write_table};
+use row_shapes::{Rule, under_rule};
+use std::alloc::{AllocError, Global};
+use stone_board::{Board, Point, Points};
+use strategy_compiler::{Compiler, SearchError};
+use strategy_graph::{Replies, Root};
+use text_lines::push_spaced_point;
+
+/// The form of `defend` and the words after it, if they are DEPTH and NODES.
+pub(crate) fn form(rest: &[String]) -> Option<Form>
+    ensures form { MatchOption result (¬ HasForm (codes "defend" ∷ map string_bytes rest.now))
+        (λ form. IsForm (codes "defend" ∷ map string_bytes rest.now) form) }
+{
+    let (depth, nodes) = two_counts(rest, u64::from(MAX_DEPTH), MAX_SEARCHED)?;
+    Some(Form::Defend {
+        depth: depth as u32,
+        nodes,
+    })
+}
+
+/// `defend DEPTH NODES`.
+#[derive(Clone, Copy)]
+pub(crate) struct Defend {
+    pub depth: u32,
+    pub nodes: u64,
+}
+
+impl Told for Defend {
+    ghost use Rattle.std.specs.Prelude.{◌≤◌};
+    ghost use Rattle.four_search.specs.declared.TheConstants.{MAX_DEPTH};
+    ghost use Rattle.renju_cli.specs.declared.TheConstants.{MAX_SEARCHED};
+    ghost use Rattle.renju_cli.specs.Defends.{DefendSays};
+
+    ghost in_range = { λ c. (1 ≤ c.depth) × (c.depth ≤ MAX_DEPTH) × (1 ≤ c.nodes) × (c.nodes ≤ MAX_SEARCHED) };
+
+    ghost says = { λ c. DefendSays c.depth c.nodes };
+
+    fn say(&self, alloc: Global, bytes: &[u8]) -> Result<Answer, AllocError> {
+        match read_position(alloc, bytes) {
+            Ok(file) => defend_file(alloc, file, self.depth, self.nodes),
+            Err(error) => refused_text(alloc, error),
+        }
+    }
+}
+
+/// What is said of a position.
+fn defend_file(
+    alloc: Global,
+    file: PositionFile,
+    depth: u32,
+    nodes: u64,
+) -> Result<Answer, AllocError>
+    requires lawful { IsPosition file.kind file.board }
+    requires some_depth { 1 ≤ depth }
+    requires depth_fits { depth ≤ MAX_DEPTH }
+    requires some_nodes { 1 ≤ nodes }
+    ensures says { IfOk result (λ answer. DefenceSays depth nodes file answer.status answer.text.items) }
+{
+    under_rule!(file.kind, defend_under(alloc, file, depth, nodes))
+}
+
+/// The same under the rule of the text.
+fn defend_under<R: Rule>(
+    alloc: Global,
+    file: PositionFile,
+    depth: u32,
+    nodes: u64,
+) -> Result<Answer, AllocError>
+    requires kind { file.kind ≡ R.KIND }
+    requires lawful { IsPosition file.kind file.board }
+    requires some_depth { 1 ≤ depth }
+    requires depth_fits { depth ≤ MAX_DEPTH }
+    requires some_nodes { 1 ≤ nodes }
+    ensures says { IfOk result (λ answer. DefenceSays depth nodes file answer.status answer.text.items) }
+{
+    let mut position = Position::<R>::new(file.board);
+    let mut compiler = Compiler::new(alloc);
+    match defences::<R, Position<R>>(alloc, &mut position, depth, nodes, &mut compiler) {
+        Ok(DefenceAnswer::Known { good, bad }) => {
+            if good.len() > 0 {
+                return listed(alloc, &good);
+            }
+            let board = position.into_board();
+            lost(alloc, R::KIND, &board, compiler, &bad)
+        }
+        Ok(DefenceAnswer::Spent { at }) => spent_after(alloc, at),
+        Err(SearchError::Full) => unreachable!(),
+        Err(SearchError::Memory) => Err(AllocError),
+    }
+}
+
+/// The list of the moves that hold.
+fn listed(alloc: Global, good: &Points) -> Result<Answer, AllocError>
+    ensures status { IfOk result (λ answer. answer.status ≡ Status.Done) }
+    ensures text { IfOk result (λ answer. answer.text.items ≡ defences_text good.now) }
+{
+    Ok(Answer {
+        status: Status::Done,
+        text: write_defences(alloc, good)?,
+    })
+}
+
+/// The table of the other side's win, as a text, where no move holds and these answer all that go on.
+fn lost(
+    alloc: Global,
+    kind: RuleKind,
+    board: &Board,
+    compiler: Compiler,
+    bad: &Replies,
+) -> Result<Answer, AllocError>
+    requires beaten { (limit : ℕ) × (limit ≤ MAX_DEPTH) × (defences_of kind limit board.now ≡ [])
+        × AreBeaten kind limit board.now compiler bad.now }
+    ensures status { IfOk result (λ answer. answer.status ≡ Status.Done) }
+    ensures text { IfOk result (λ answer. (limit : ℕ) → defences_of kind limit board.now ≡ []
+        → AreBeaten kind limit board.now compiler bad.now
+        → IsLostText limit (record { kind = kind; board = board.now }) answer.text.items) }
+{
+    let (table, start) = compiler.finish_start(bad.as_slice())?;
+    let moves = table.start_depth(&start)?;
+    let root = Root::Defend(start);
+    Ok(Answer {
+        status: Status::Done,
+        text: write_table(alloc, kind, board, &table, &root, moves)?,
+    })
+}
+
+/// The answer where the budget is not enough after this move.
+fn spent_after(alloc: Global, at: Point) -> Result<Answer, AllocError>
+    ensures status { IfOk result (λ answer. answer.status ≡ Status.Spent) }
+    ensures text { IfOk result (λ answer. answer.text.items ≡ spent_after_line at) }
+{
+    let mut text = String::from_str(alloc, "spent")?;
+    push_spaced_point(&mut text, at)?;
+    text.push_str("\n")?;
+    Ok(Answer::told(Status::Spent, text))
+}
