@@ -1,5 +1,5 @@
 -- Where bytes leave the lines of a table up to its last node.
-use Rattle.std.proofs.Common.{◌≡◌, ℕ, ◌+◌, ◌^◌, ◌≤◌, ◌<◌, true, refl, sym, ap, subst, ◌∙◌, arith, List, [], ◌∷◌, ◌++◌, length, take, map, inl, None, codes}
+use Rattle.std.proofs.Common.{◌≡◌, ℕ, ◌^◌, ◌≤◌, ◌<◌, refl, sym, ap, subst, ◌∙◌, arith, List, [], ◌∷◌, ◌++◌, length, take, map, None, codes}
 use Rattle.std.specs.List.{AllByRecursion}
 use Rattle.std.specs.Fmt.{decimal}
 use Rattle.std.proofs.lemmas.Fmt.{decimal_injective}
@@ -10,17 +10,14 @@ use Rattle.strategy_graph.specs.Tables.{IsTable}
 use Rattle.strategy_graph.specs.declared.Node.{Node}
 use Rattle.strategy_graph.specs.declared.TheConstants.{MAX_NODES}
 use Rattle.strategy_graph.proofs.Filling.{corner, filled_table}
-use Rattle.text_lines.proofs.Common.{line_feed, text_of, LeavesAt, ReadsLine, IsBetween, is_free}
-use Rattle.text_lines.proofs.Cuts.{is_free-append}
-use Rattle.text_lines.proofs.Decimals.{decimal-free}
+use Rattle.text_lines.proofs.Common.{line_feed, text_of, LeavesAt, ReadsLine, IsBetween}
 use Rattle.text_lines.proofs.TextLaws.{AreFree, free_append, same_lines, text_of-push}
-use Rattle.text_lines.proofs.Leaving.{HasParts, leaves_after}
+use Rattle.text_lines.proofs.Leaving.{HasParts}
 use Rattle.position_files.specs.declared.TheConstants.{MAX_MOVES}
 use Rattle.position_files.specs.declared.tables.Body.{Body}
 use Rattle.position_files.specs.declared.error.HeadError.{HeadError}
-use Rattle.position_files.specs.declared.error.HeadError.TheVariants.{BadLine, Memory}
 use Rattle.position_files.proofs.Common.{size_line, board_lines, node_line, nodes_lines, NodeFits, BodyFits, body_lines, IsBodyLines, after_lines, IsBoardLines, AreNodes, AreNodeLines, IsSectionFault}
-use Rattle.position_files.proofs.SectionLaws.{nodes_on}
+use Rattle.position_files.proofs.SectionLaws.{number-free, fault_after, nodes_on}
 use Rattle.position_files.proofs.BoardLines.{sides_of, board-free, same_sizes}
 use Rattle.position_files.proofs.Completions.{corner_on, nodes_fit}
 
@@ -28,9 +25,6 @@ use Rattle.position_files.proofs.Completions.{corner_on, nodes_fit}
 
 abbrev pub six : RuleKind → Grid → ℕ → ℕ → List (List ℕ)
 six kind b moves count = board_lines kind b ++ (codes "moves " ++ decimal moves) ∷ (codes "nodes " ++ decimal count) ∷ []
-
-pub number-free : (word : List ℕ) (n : ℕ) → is_free line_feed word ≡ true → n < 2 ^ 64 → is_free line_feed (word ++ decimal n) ≡ true
-number-free word n free fits = is_free-append line_feed word (decimal n) free (decimal-free line_feed n (inl (omega arith)) fits)
 
 pub six-free : (kind : RuleKind) (b : Grid) (moves count : ℕ) → IsBoard b → moves < 2 ^ 64 → count < 2 ^ 64 → AreFree (six kind b moves count)
 six-free kind b moves count ok few_moves few_nodes = free_append (board_lines kind b) ((codes "moves " ++ decimal moves) ∷ (codes "nodes " ++ decimal count) ∷ []) (board-free kind b ok)
@@ -138,18 +132,6 @@ module _ (kind : RuleKind) (b : Grid) (moves count least : ℕ) (ok : IsBoard b)
               are = λ same. (body.table, nodes_there body is.1 is.2 same, refl);
             };
       }
-
--- a fault of a part, said of the whole
-pub fault_after : (front : List (List ℕ)) (IsPart IsAll : List (List ℕ) → Type 0) → HasParts front IsPart IsAll → (bytes rest : List ℕ) (lines : ℕ) → lines ≡ length front → bytes ≡ text_of front ++ rest → (error : HeadError) → IsSectionFault IsPart rest error → IsSectionFault IsAll bytes (after_lines lines error)
-fault_after front IsPart IsAll has bytes rest lines count e (BadLine n) h =
-    (length front + h.0, (let is = h.1 in omega (arith, is, count)), leaves_after front IsPart IsAll has bytes rest h.0 e h.2)
-fault_after front IsPart IsAll has bytes rest lines count e Memory h = tt
-
--- a fault of a part at the front is one of the whole
-pub fault_in : (IsPart IsAll : List (List ℕ) → Type 0) → HasParts [] IsPart IsAll → (bytes : List ℕ) (error : HeadError) → IsSectionFault IsPart bytes error → IsSectionFault IsAll bytes error
-fault_in IsPart IsAll has bytes (BadLine n) h =
-    (h.0, h.1, subst (LeavesAt IsAll bytes) (omega arith) (leaves_after [] IsPart IsAll has bytes bytes h.0 refl h.2))
-fault_in IsPart IsAll has bytes Memory h = tt
 
 module _ (least : ℕ) (few : least ≤ 1) (bytes : List ℕ) where
   module _ (kind : RuleKind) (b : Grid) (r1 : List ℕ) (ok : IsBoard b) (lines : bytes ≡ text_of (board_lines kind b) ++ r1) where

@@ -13,18 +13,22 @@ use Rattle.strategy_graph.specs.declared.roots.Root.TheVariants.{Attack, Defend}
 use Rattle.text_lines.specs.Lines.{ended, text_of}
 use Rattle.position_files.proofs.Common.{rule_line, size_line, black_line, white_line, board_lines, node_line, start_line, nodes_lines, table_text}
 
-five_lines : (a b c d e : List ℕ) → (((ended a ++ ended b) ++ ended c) ++ ended d) ++ ended e ≡ text_of (a ∷ b ∷ c ∷ d ∷ e ∷ [])
-five_lines a b c d e = simp append_assoc
+four_lines : (old a b c d : List ℕ) → (((old ++ ended a) ++ ended b) ++ ended c) ++ ended d ≡ old ++ text_of (a ∷ b ∷ c ∷ d ∷ [])
+four_lines old a b c d = simp append_assoc
 
--- a first line, and the lines of a rule and a board
-pub board_grown : (kind : RuleKind) (b : Grid) (first none t0 t1 t2 t3 t4 : List ℕ) → none ≡ [] → t0 ≡ none ++ ended first → t1 ≡ t0 ++ ended (rule_line kind) → t2 ≡ t1 ++ ended (size_line b.width b.height) → t3 ≡ t2 ++ ended (black_line b) → t4 ≡ t3 ++ ended (white_line b) → t4 ≡ text_of (first ∷ board_lines kind b)
+-- the lines of a rule and a board
+pub head_grown : (kind : RuleKind) (b : Grid) (old t1 t2 t3 t4 : List ℕ) → t1 ≡ old ++ ended (rule_line kind) → t2 ≡ t1 ++ ended (size_line b.width b.height) → t3 ≡ t2 ++ ended (black_line b) → t4 ≡ t3 ++ ended (white_line b) → t4 ≡ old ++ text_of (board_lines kind b)
 unfolding board_lines
-board_grown kind b first none t0 t1 t2 t3 t4 e e0 e1 e2 e3 e4 =
-    let s0 : t0 ≡ ended first = e0 ∙ ap (λ (l : List ℕ). l ++ ended first) e in
-    let s1 = e1 ∙ ap (λ (l : List ℕ). l ++ ended (rule_line kind)) s0 in
-    let s2 = e2 ∙ ap (λ (l : List ℕ). l ++ ended (size_line b.width b.height)) s1 in
+head_grown kind b old t1 t2 t3 t4 e1 e2 e3 e4 =
+    let s2 = e2 ∙ ap (λ (l : List ℕ). l ++ ended (size_line b.width b.height)) e1 in
     let s3 = e3 ∙ ap (λ (l : List ℕ). l ++ ended (black_line b)) s2 in
-    e4 ∙ ap (λ (l : List ℕ). l ++ ended (white_line b)) s3 ∙ five_lines first (rule_line kind) (size_line b.width b.height) (black_line b) (white_line b)
+    e4 ∙ ap (λ (l : List ℕ). l ++ ended (white_line b)) s3 ∙ four_lines old (rule_line kind) (size_line b.width b.height) (black_line b) (white_line b)
+
+-- the same after a first line
+pub board_grown : (kind : RuleKind) (b : Grid) (first none t0 t1 : List ℕ) → none ≡ [] → t0 ≡ none ++ ended first → t1 ≡ t0 ++ text_of (board_lines kind b) → t1 ≡ text_of (first ∷ board_lines kind b)
+board_grown kind b first none t0 t1 e e0 e1 =
+    let s0 : t0 ≡ ended first = e0 ∙ ap (λ (l : List ℕ). l ++ ended first) e in
+    e1 ∙ ap (λ (l : List ℕ). l ++ text_of (board_lines kind b)) s0
 
 -- one more node
 pub node_grown : (old before after : List ℕ) (t : List Node) (i : ℕ) (n : Node) → before ≡ old ++ text_of (map node_line (take i t)) → slice_get t i ≡ Some n → after ≡ before ++ ended (node_line n) → after ≡ old ++ text_of (map node_line (take (i + 1) t))

@@ -1,6 +1,6 @@
 -- What bytes begin with is one head, one list of nodes, or one start. Lines that are those of no node. Nodes that are read one after
 -- another.
-use Rattle.std.proofs.Common.{◌≡◌, ℕ, sym, ap, ◌∙◌, List, [], ◌∷◌, ◌++◌, length, map, append_assoc, codes, ◌+◌, ◌-◌, ◌≤◌, ◌<◌, true, refl, subst, arith, take, drop, replicate, get_or, Err}
+use Rattle.std.proofs.Common.{◌≡◌, ℕ, sym, ap, ◌∙◌, List, [], ◌∷◌, ◌++◌, length, map, append_assoc, codes, ◌+◌, ◌-◌, ◌≤◌, ◌<◌, true, refl, subst, arith, ◌^◌, inl, take, drop, replicate, get_or, Err}
 use Rattle.std.specs.List.{AllByRecursion}
 use Rattle.std.specs.Fmt.{decimal}
 use Rattle.std.proofs.lemmas.List.Concat.{flat_map-append}
@@ -14,7 +14,9 @@ use Rattle.text_lines.proofs.TextLaws.{text_of-cons, AreFree, free_take, same_li
 use Rattle.text_lines.proofs.Common.{line_feed, ended, text_of, LeavesAt, Gives, is_free, GivesLine}
 use Rattle.text_lines.proofs.LineLaws.{same_line}
 use Rattle.text_lines.proofs.FaultLaws.{gives_bad}
-use Rattle.text_lines.proofs.Leaving.{leaves_first}
+use Rattle.text_lines.proofs.Leaving.{HasParts, leaves_after, leaves_first}
+use Rattle.text_lines.proofs.Cuts.{is_free-append}
+use Rattle.text_lines.proofs.Decimals.{decimal-free}
 use Rattle.strategy_graph.specs.declared.Reply.{Reply}
 use Rattle.strategy_graph.specs.declared.Node.{Node}
 use Rattle.strategy_graph.specs.declared.TheConstants.{MAX_NODES}
@@ -24,7 +26,9 @@ use Rattle.strategy_graph.proofs.Filling.{corner, filled_table, filled_length, n
 use Rattle.position_files.specs.declared.sections.Head.{Head}
 use Rattle.position_files.specs.declared.sections.Nodes.{Nodes}
 use Rattle.position_files.specs.declared.sections.StartLine.{StartLine}
-use Rattle.position_files.proofs.Common.{board_lines, node_line, nodes_lines, NodeFits, ReplyFits, at_line, IsSide, AreNodes, AreNodeLines, IsSectionFault, StartFits, answers_text, start_line, IsHeadOf, IsNodesOf, IsStartLines, IsStartOf}
+use Rattle.position_files.proofs.Common.{board_lines, node_line, nodes_lines, NodeFits, ReplyFits, at_line, after_lines, IsSide, AreNodes, AreNodeLines, IsSectionFault, StartFits, answers_text, start_line, IsHeadOf, IsNodesOf, IsStartLines, IsStartOf}
+use Rattle.position_files.specs.declared.error.HeadError.{HeadError}
+use Rattle.position_files.specs.declared.error.HeadError.TheVariants.{BadLine, Memory as NoRoom}
 use Rattle.position_files.proofs.Stones.{is_on_within}
 use Rattle.position_files.proofs.AnswerLaws.{node_line-free, node_line-injective, answers_text-injective, start_line-free}
 use Rattle.position_files.proofs.Completions.{filled_fit, all_at}
@@ -35,6 +39,10 @@ pub record AreRead (width height : ℕ) (nodes : List Node) (count : ℕ) (bytes
   pub counted : length nodes ≡ count
   pub fit : AllByRecursion (NodeFits width height) nodes
   pub text : bytes ≡ text_of (map node_line nodes) ++ rest
+
+-- a word and a number have no line feed
+pub number-free : (word : List ℕ) (n : ℕ) → is_free line_feed word ≡ true → n < 2 ^ 64 → is_free line_feed (word ++ decimal n) ≡ true
+number-free word n free fits = is_free-append line_feed word (decimal n) free (decimal-free line_feed n (inl (omega arith)) fits)
 
 -- ---- the lines of a table up to its nodes
 
@@ -234,3 +242,17 @@ start_left width height below bytes Memory none = tt
 -- the start of the first line, and what comes after the line
 pub start_parts : (width height below : ℕ) (found : StartLine) (bytes : List ℕ) → IsStartOf width height below found bytes → bytes ≡ start_line found.start ++ line_feed ∷ drop found.taken bytes
 start_parts width height below found bytes h = front_parts (ended (start_line found.start)) bytes found.taken h.front ∙ append_assoc (start_line found.start) (line_feed ∷ []) (drop found.taken bytes)
+
+-- ---- where bytes leave a section that is a part of another
+
+-- a fault of a part, said of the whole
+pub fault_after : (front : List (List ℕ)) (IsPart IsAll : List (List ℕ) → Type 0) → HasParts front IsPart IsAll → (bytes rest : List ℕ) (lines : ℕ) → lines ≡ length front → bytes ≡ text_of front ++ rest → (error : HeadError) → IsSectionFault IsPart rest error → IsSectionFault IsAll bytes (after_lines lines error)
+fault_after front IsPart IsAll has bytes rest lines count e (BadLine n) h =
+    (length front + h.0, (let is = h.1 in omega (arith, is, count)), leaves_after front IsPart IsAll has bytes rest h.0 e h.2)
+fault_after front IsPart IsAll has bytes rest lines count e NoRoom h = tt
+
+-- a fault of a part at the front is one of the whole
+pub fault_in : (IsPart IsAll : List (List ℕ) → Type 0) → HasParts [] IsPart IsAll → (bytes : List ℕ) (error : HeadError) → IsSectionFault IsPart bytes error → IsSectionFault IsAll bytes error
+fault_in IsPart IsAll has bytes (BadLine n) h =
+    (h.0, h.1, subst (LeavesAt IsAll bytes) (omega arith) (leaves_after [] IsPart IsAll has bytes bytes h.0 refl h.2))
+fault_in IsPart IsAll has bytes NoRoom h = tt

@@ -24,8 +24,8 @@ use Rattle.position_files.proofs.Common.{IsTextOfTable, IsTableText, start_line,
 use Rattle.position_files.proofs.Stones.{IsBoard-empty}
 use Rattle.position_files.proofs.TableLaws.{file_of}
 use Rattle.position_files.proofs.BoardLines.{least_side}
-use Rattle.position_files.proofs.SectionLaws.{only_start, only_fits}
-use Rattle.position_files.proofs.BodyBad.{corner_table, fault_in, one_between, least_body, least_fits}
+use Rattle.position_files.proofs.SectionLaws.{fault_in, only_start, only_fits}
+use Rattle.position_files.proofs.BodyBad.{corner_table, one_between, least_body, least_fits}
 use Rattle.position_files.proofs.TableTexts.{IsTableLines, IsDefendLines, table-free, body-free, body-length, lines_of, text_from, body_tell, one_table}
 
 -- ---- the first line

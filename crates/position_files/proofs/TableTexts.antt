@@ -18,10 +18,10 @@ use Rattle.text_lines.proofs.LineLaws.{same_line}
 use Rattle.position_files.proofs.BoardLines.{width_side, height_side, board-free, board_lines-injective}
 use Rattle.position_files.proofs.AnswerLaws.{answers_text-injective, start_line-free}
 use Rattle.text_lines.proofs.TextLaws.{text_of-push, AreFree, same_lines, text_of-injective, text_of-append, free_append}
-use Rattle.position_files.proofs.SectionLaws.{replies_on, node_lines-free, nodes_injective}
+use Rattle.position_files.proofs.SectionLaws.{number-free, replies_on, node_lines-free, nodes_injective}
 use Rattle.position_files.proofs.TableLaws.{file_of}
 use Rattle.position_files.proofs.Completions.{answers_fit, nodes_fit}
-use Rattle.position_files.proofs.BodyBad.{six, six_tell, SixTell, number-free}
+use Rattle.position_files.proofs.BodyBad.{six, six_tell, SixTell}
 
 -- ---- a table is given by lines
 

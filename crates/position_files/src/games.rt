@@ -14,7 +14,7 @@ ghost use Rattle.position_files.specs.Boards.{IsSide};
 ghost use Rattle.position_files.specs.Games.{IsTextOfGame, moves_line as moves_line_lem};
 ghost use Rattle.position_files.specs.Faults.{IsGameFault};
 
-use crate::lawful::lawful;
+use crate::lawfulness::lawful;
 use crate::lines::stones;
 use crate::{FIRST_LINES, GameError, GameFile, HEAD_LINES, Head, HeadError, read_head};
 use std::alloc::Global;

@@ -3,14 +3,14 @@
 //! A text is a list of lines, each ended by a line feed, and each value has one spelling: `specs/Positions.antt`,
 //! `specs/Tables.antt` and `specs/Games.antt` give it. The readers go over the lines once. A line is bad where no text has it after the lines
 //! before it. What other texts hold as well, as a head or the lines of nodes, is a section: it is read from its own
-//! front, and its lines are counted from 1 there.
+//! front, where its lines are counted from 1, and it is written behind a text.
 #![tactic(auto)]
 
 mod answers;
 mod boards;
 mod error;
 mod games;
-mod lawful;
+mod lawfulness;
 mod lines;
 mod nodes;
 mod positions;
@@ -26,6 +26,7 @@ mod written;
 pub use error::{FileError, GameError, HeadError};
 use game_rules::RuleKind;
 pub use games::read_game;
+pub use lawfulness::lawful;
 pub use positions::read_position;
 pub use sections::{HEAD_LINES, Head, Nodes, StartLine, read_head, read_nodes, read_start};
 use stone_board::{Board, Points};
@@ -35,7 +36,8 @@ pub use theorems::{
     games_read_back, positions_read_back, sections_name_first_bad_lines, sections_read_back,
     tables_read_back,
 };
-pub use writers::{write_position, write_table};
+pub use writers::{push_nodes, push_start, write_position, write_table};
+pub use written::push_head;
 
 /// The most moves that a table says it needs.
 pub const MAX_MOVES: u32 = 1_000_000;

@@ -10,7 +10,7 @@ ghost use Rattle.position_files.specs.declared.PositionFile.{PositionFile};
 ghost use Rattle.position_files.specs.Positions.{IsTextOfPosition};
 ghost use Rattle.position_files.specs.Faults.{IsPositionFault};
 
-use crate::lawful::lawful;
+use crate::lawfulness::lawful;
 use crate::{FIRST_LINES, FileError, HEAD_LINES, Head, PositionFile, read_head};
 use std::alloc::Global;
 use text_lines::after;

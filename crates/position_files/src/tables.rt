@@ -14,7 +14,7 @@ ghost use Rattle.position_files.specs.declared.TableFile.{TableFile};
 ghost use Rattle.position_files.specs.Faults.{IsTableFault, IsUpTo};
 ghost use Rattle.position_files.specs.Sections.{IsSectionFault};
 
-use crate::lawful::lawful;
+use crate::lawfulness::lawful;
 use crate::{
     FIRST_LINES, FileError, HEAD_LINES, Head, HeadError, MAX_MOVES, Nodes, StartLine, TableFile,
     read_head, read_nodes, read_start,

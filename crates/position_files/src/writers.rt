@@ -91,8 +91,8 @@ fn push_node(text: &mut String, node: &Node) -> Result<(), AllocError>
     Ok(())
 }
 
-/// Adds the line of a start to a text.
-fn push_start(text: &mut String, start: &Start) -> Result<(), AllocError>
+/// Adds the line of a start to a text. `Err` says that memory ran out.
+pub fn push_start(text: &mut String, start: &Start) -> Result<(), AllocError>
     ensures line { IfOk result (λ _. string_bytes text.new ≡ string_bytes text.old
         ++ ended (start_line start.now)) }
 {
@@ -102,9 +102,9 @@ fn push_start(text: &mut String, start: &Start) -> Result<(), AllocError>
     Ok(())
 }
 
-/// Adds the lines of the nodes of a table to a text.
+/// Adds the lines of the nodes of a table to a text, in the order of the table. `Err` says that memory ran out.
 #[tactic(auto, using(crate::proofs::Growth::node_grown, crate::proofs::Growth::nodes_grown))]
-fn push_nodes(text: &mut String, table: &Table) -> Result<(), AllocError>
+pub fn push_nodes(text: &mut String, table: &Table) -> Result<(), AllocError>
     ensures nodes { IfOk result (λ _. string_bytes text.new ≡ string_bytes text.old
         ++ text_of (map node_line table.now)) }
 {

@@ -91,6 +91,21 @@ fn push_stones_line(
     Ok(())
 }
 
+/// Adds the lines of a head to a text: the rule, the size, and the stones of Black and of White. `Err` says that memory ran
+/// out.
+#[tactic(auto, using(crate::proofs::Growth::head_grown))]
+pub fn push_head(text: &mut String, kind: RuleKind, board: &Board) -> Result<(), AllocError>
+    ensures lines { IfOk result (λ _. string_bytes text.new ≡ string_bytes text.old
+        ++ text_of (board_lines kind board.now)) }
+    ensures board { IfOk result (λ _. IsBoard board.now) }
+{
+    push_rule(text, kind)?;
+    push_size(text, board)?;
+    push_stones_line(text, board, Side::Black, "black")?;
+    push_stones_line(text, board, Side::White, "white")?;
+    Ok(())
+}
+
 /// The text of this first line and the lines of a rule and a board.
 #[tactic(auto, using(crate::proofs::Growth::board_grown))]
 pub(crate) fn board_text(
@@ -105,9 +120,6 @@ pub(crate) fn board_text(
 {
     let mut text = String::new(alloc);
     push_line(&mut text, first)?;
-    push_rule(&mut text, kind)?;
-    push_size(&mut text, board)?;
-    push_stones_line(&mut text, board, Side::Black, "black")?;
-    push_stones_line(&mut text, board, Side::White, "white")?;
+    push_head(&mut text, kind, board)?;
     Ok(text)
 }

@@ -5,8 +5,8 @@ use Rattle.strategy_graph.specs.declared.TheConstants.{MAX_NODES}
 use Rattle.text_lines.specs.Reading.{IsBetween}
 use Rattle.text_lines.proofs.TextLaws.{front_rest}
 use Rattle.position_files.proofs.Common.{NodeFits, IsBodyLines, IsBoardLines}
-use Rattle.position_files.proofs.SectionLaws.{body_text, nodes_on}
-use Rattle.position_files.proofs.BodyBad.{head_part, fault_in, no_moves_line, no_nodes_line, body_nodes_fault}
+use Rattle.position_files.proofs.SectionLaws.{body_text, fault_in, nodes_on}
+use Rattle.position_files.proofs.BodyBad.{head_part, no_moves_line, no_nodes_line, body_nodes_fault}
 use Rattle.position_files.proofs.tables.read_body.Goals as goal
 
 pub returns-in_err-head-clause-refused : goal.returns-in_err-head-clause-refused

@@ -24,8 +24,9 @@ fn lawful_under<R: Rule>(board: Board) -> Result<Board, PositionError>
     }
 }
 
-/// The same for the rule of this kind.
-pub(crate) fn lawful(kind: RuleKind, board: Board) -> Result<Board, PositionError>
+/// The board, if it is a lawful position under the rule of this kind, and else the first reason why it is none. It takes no
+/// memory.
+pub fn lawful(kind: RuleKind, board: Board) -> Result<Board, PositionError>
     ensures same { IfOk result (λ found. found ≡ board) }
     ensures lawful { IsOk result ↔ IsPosition kind board }
     ensures refused { IfErr result (λ why. refusal kind board ≡ Some why) }
