@@ -1,0 +1,5 @@
+pub mod Books
+pub mod Sections
+pub mod Faults
+pub mod Holding
+pub mod ReadBack
