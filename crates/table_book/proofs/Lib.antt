@@ -1,10 +1,13 @@
--- The laws of books. They serve this crate alone.
+-- The laws of books. What is declared by `pub mod` the layers above may cite; the rest serves this crate alone.
 
 mod Lists
 mod EntryLaws
 mod EntryBad
 mod BookLaws
 mod BookBad
-mod Soundness
+-- the text of a book begins as one, and that of a table does not
+pub mod Beginnings
+-- the root of an entry names nodes of the book; a book is read back as the same book
+pub mod Soundness
 mod Holds
 mod Growth
