@@ -1,5 +1,5 @@
 -- The command `brain`: why a FILE is not held, when the command answers, and what its runs show.
-use Rattle.std.proofs.Common.{◌≡◌, inl, inr, refl, sym, ap, subst, ◌∙◌, ◌⊎◌, ℕ, ◌<◌, ◌≤◌, List, length, arith}
+use Rattle.std.proofs.Common.{◌≡◌, inl, inr, refl, sym, ap, subst, ◌∙◌, ◌⊎◌, ℕ, ◌<◌, ◌≤◌, List, [], ◌∷◌, length, map, arith}
 use Rattle.std.specs.Prelude.{◌≢◌, Option, Some, None, Result, Ok, Err, OnOk, IsErrOf, IfSome, IsSomeAnd, Contains}
 use Rattle.std.proofs.lemmas.Option.{same_Some}
 use Rattle.strategy_checker.specs.HeldRoots.{HeldTable}
@@ -19,9 +19,19 @@ use Rattle.brain_session.specs.declared.TheConstants.{BRAIN_WORK}
 use Rattle.renju_cli.specs.Statuses.{status_number}
 use Rattle.renju_cli.specs.Runs.{Change, Run, HasFailed, IsSound}
 use Rattle.renju_cli.specs.Checks.{IsTableAt, IsRefusedTable, IsSpentWork}
-use Rattle.renju_cli.specs.Brains.{nothing_held, held_by, session_of, EndsSession, session_status, IsSession, IsUnbegun, EndsBrain, IsUnhinderedSession, HasServed, AnswersAll, IsBrain, IsLoaded, FileSays, IsUnheld, IsBrainWith, IsFitFile, IsUnhinderedFile}
+use Rattle.renju_cli.specs.Brains.{nothing_held, held_by, named_entry, of_book, of_table, HeldFile, NamedRoot, session_of, EndsSession, session_status, IsSession, IsUnbegun, EndsBrain, IsUnhinderedSession, HasServed, AnswersAll, IsBrain, IsFit, IsHeldText, IsLoaded, IsLoadedBookText, IsLoadedHeld, IsLoadedText, BookFileSays, FileSays, TableFileSays, IsUnheld, IsBrainWith, GivesHeld, IsUnhinderedShelf}
+use Rattle.renju_cli.specs.declared.loading.Loaded.{Loaded}
+use Rattle.renju_cli.specs.declared.loading.Loaded.TheVariants.{Holds, Tells}
+use Rattle.renju_cli.specs.Books.{AreAccepted, IsBookAt, IsRefusedEntry}
 use Rattle.renju_cli.proofs.ToldLaws.{longer-than}
-use Rattle.strategy_graph.proofs.Starts.{accepted-root-wins}
+use Rattle.renju_cli.proofs.CheckLaws.{one-table}
+use Rattle.renju_cli.proofs.BookLaws.{book-not_refused, entries-not_refused, one-book}
+use Rattle.strategy_checker.specs.declared.held.HeldRoot.{HeldRoot}
+use Rattle.table_book.specs.declared.Book.{Book}
+use Rattle.table_book.specs.declared.Entry.{Entry}
+use Rattle.table_book.specs.Holding.{held_entry}
+use Rattle.table_book.specs.Books.{BeginsBook}
+use Rattle.table_book.proofs.Beginnings.{book-begins, table-no-book}
 
 -- a file under a name that is too long
 long-under : (name : List ℕ) (files : Files) (found : Option (List ℕ)) → file_under name files ≡ found → IsSomeAnd found (λ bytes. MAX_INPUT_BYTES < length bytes)
@@ -120,50 +130,90 @@ module _ (held : HeldTable) (run : Run) (bytes : List ℕ) (free : IsUnhinderedS
 pub brain-answers : (run : Run) → IsBrain run → AnswersAll nothing_held run
 brain-answers run is bytes free = session-serves nothing_held run bytes free is.ends
 
--- ---- a FILE that fits
+-- ---- what a FILE gives
+
+-- the text of a table that is accepted is not refused
+pub table-not_told : (file : TableFile) (bytes : List ℕ) → IsTableAt file bytes → IsFit file → (status : Status) (text : List ℕ) → TableFileSays bytes status text → ⊥
+table-not_told file bytes at fit status text (inl refused) =
+    let only = table-read-back file bytes at.text at.lawful at.moves in refused.cause (only.no_fault refused.error refused.fault)
+table-not_told file bytes at fit status text (inr said) =
+    by-verdict (subst (λ (f : TableFile). IsRefusedTable f status text ⊎ IsSpentWork BRAIN_WORK f status text) (one-table file said.0 bytes at said.1) said.2) where
+      by-verdict : IsRefusedTable file status text ⊎ IsSpentWork BRAIN_WORK file status text → ⊥
+      by-verdict (inl refused) = refused.refused fit.accepted
+      by-verdict (inr spent) = let more = spent.more in let few = fit.within in omega (arith, more, few)
+
+-- nor is that of a book of which each entry is accepted
+pub book-not_told : (book : Book) (bytes : List ℕ) → IsBookAt book bytes → AreAccepted BRAIN_WORK book → (status : Status) (text : List ℕ) → BookFileSays bytes status text → ⊥
+book-not_told book bytes at fit status text (inl refused) = book-not_refused book bytes at status text refused
+book-not_told book bytes at fit status text (inr said) =
+    entries-not_refused BRAIN_WORK book status text fit (subst (λ (b : Book). IsRefusedEntry BRAIN_WORK b status text) (one-book book said.0 bytes at said.1) said.2)
+
+-- what bytes give is not told of
+held-not_told : (file : HeldFile) (bytes : List ℕ) → IsHeldText file bytes → (status : Status) (text : List ℕ) → FileSays bytes status text → ⊥
+held-not_told file bytes (inl table) status text (inl says) = table-no-book table.file bytes table.at.text says.0
+held-not_told file bytes (inl table) status text (inr says) = table-not_told table.file bytes table.at table.fit status text says.1
+held-not_told file bytes (inr book) status text (inl says) = book-not_told book.book bytes book.at book.fit status text says.1
+held-not_told file bytes (inr book) status text (inr says) = says.0 (book-begins book.book bytes book.at.text)
+
+-- bytes give one thing
+one-held : (file other : HeldFile) (bytes : List ℕ) → IsHeldText file bytes → IsHeldText other bytes → other ≡ file
+one-held file other bytes (inl table) (inl second) = second.gives ∙ ap of_table (one-table table.file second.file bytes table.at second.at) ∙ sym table.gives
+one-held file other bytes (inl table) (inr second) = absurd (table-no-book table.file bytes table.at.text (book-begins second.book bytes second.at.text))
+one-held file other bytes (inr book) (inl second) = absurd (table-no-book second.file bytes second.at.text (book-begins book.book bytes book.at.text))
+one-held file other bytes (inr book) (inr second) = second.gives ∙ ap of_book (one-book book.book second.book bytes book.at second.at) ∙ sym book.gives
+
+-- the roots of entries, as they are held
+named-roots : (es : List Entry) → map (λ (r : NamedRoot). r.root) (map named_entry es) ≡ map held_entry es
+named-roots [] = refl
+named-roots (e ∷ es) = ap (λ (l : List HeldRoot). held_entry e ∷ l) (named-roots es)
+
+-- the table of a book, held with the roots of its entries
+pub book-held : (book : Book) (held : HeldTable) → held.table ≡ book.table → held.roots ≡ map held_entry book.entries → held ≡ held_by (of_book book)
+book-held book held table roots =
+    let all : held.roots ≡ map (λ (r : NamedRoot). r.root) (map named_entry book.entries) = roots ∙ sym (named-roots book.entries) in
+    λ i. record { table = table i; roots = all i }
+
+-- what comes of bytes, by their first line
+pub loaded-book : (bytes : List ℕ) (loaded : Loaded) → BeginsBook bytes → IsLoadedBookText bytes loaded → IsLoadedHeld bytes loaded
+loaded-book bytes (Holds held) begins is = (of_book is.0, inr (record { book = is.0; at = is.1; fit = is.2; gives = refl }), is.3)
+loaded-book bytes (Tells answer) begins is = inl (begins, is)
+
+pub loaded-table : (bytes : List ℕ) (loaded : Loaded) → ¬ BeginsBook bytes → IsLoadedText bytes loaded → IsLoadedHeld bytes loaded
+loaded-table bytes (Holds held) apart is = (of_table is.0, inl (record { file = is.0; at = is.1; fit = is.2; gives = refl }), is.3)
+loaded-table bytes (Tells answer) apart is = inr (apart, is)
+
+-- ---- a FILE on the shelf
 
 module _ (name : List ℕ) (run : Run) (files : Files) (told : run.shelf.before ≡ Some files) where
   pub found-under : (bytes : List ℕ) → IsLoaded run.shelf name bytes → file_under name files ≡ Some bytes
   found-under bytes loaded = told-some (λ all. file_under name all ≡ Some bytes) run.shelf.before files told loaded.found
 
-  module _ (file : TableFile) (fit : IsFitFile name files file) where
-    -- the bytes that were loaded are those of the file
-    pub same-bytes : (bytes : List ℕ) → IsLoaded run.shelf name bytes → bytes ≡ fit.bytes
-    same-bytes bytes loaded = same_Some bytes fit.bytes (sym (found-under bytes loaded) ∙ fit.found)
+  module _ (own : List ℕ) (found : file_under name files ≡ Some own) where
+    -- the bytes that were loaded are those under the name
+    pub same-bytes : (bytes : List ℕ) → IsLoaded run.shelf name bytes → bytes ≡ own
+    same-bytes bytes loaded = same_Some bytes own (sym (found-under bytes loaded) ∙ found)
 
-    pub one-file : (other : TableFile) → IsTableAt other fit.bytes → other ≡ file
-    one-file other at = let only = table-read-back file fit.bytes fit.at.text fit.at.lawful fit.at.moves in only.no_other other at.text
-
-    -- it is not refused
-    not-refused : (status : Status) (text : List ℕ) → FileSays fit.bytes status text → ⊥
-    not-refused status text (inl refused) =
-        let only = table-read-back file fit.bytes fit.at.text fit.at.lawful fit.at.moves in refused.cause (only.no_fault refused.error refused.fault)
-    not-refused status text (inr said) =
-        by-verdict (subst (λ (f : TableFile). IsRefusedTable f status text ⊎ IsSpentWork BRAIN_WORK f status text) (one-file said.0 said.1) said.2) where
-          by-verdict : IsRefusedTable file status text ⊎ IsSpentWork BRAIN_WORK file status text → ⊥
-          by-verdict (inl refused) = refused.refused fit.fit.accepted
-          by-verdict (inr spent) = let more = spent.more in let few = fit.fit.within in omega (arith, more, few)
-
-    pub not-told : (status : Status) (text : List ℕ) → IsUnheld run.shelf name status text → HasFailed run.shelf
-    not-told status text (inl refused) =
-        absurd (not-refused status text (subst (λ (l : List ℕ). FileSays l status text) (same-bytes refused.bytes refused.loaded) refused.says))
-    not-told status text (inr (inl long)) =
+    -- where they are not too many, and nothing is said of them, it was the shelf that failed
+    pub not-told : (Says : List ℕ → Status → List ℕ → Type 0) → length own ≤ MAX_INPUT_BYTES → ((status : Status) (text : List ℕ) → Says own status text → ⊥)
+        → (status : Status) (text : List ℕ) → IsUnheld Says run.shelf name status text → HasFailed run.shelf
+    not-told Says fits silent status text (inl refused) = absurd (silent status text (subst (λ (l : List ℕ). Says l status text) (same-bytes refused.bytes refused.loaded) refused.says))
+    not-told Says fits silent status text (inr (inl long)) =
         let size = ap length (same-bytes long.bytes long.loaded) in
         let more = long.long in
-        let fits = fit.fits in
         absurd (omega (arith, size, more, fits))
-    not-told status text (inr (inr fault)) = fault.failed
+    not-told Says fits silent status text (inr (inr fault)) = fault.failed
 
-    -- a file that fits is played by, unless the shelf failed or memory ran out before
+  module _ (file : HeldFile) (fit : GivesHeld name files file) where
+    -- what a file gives is played by, unless the shelf failed or memory ran out before
     pub ends-by : IsBrainWith name run → IsSession (held_by file) run.input run.output run.status ⊎ HasFailed run.shelf ⊎ IsUnbegun run.input run.output run.status
     ends-by (inl plays) =
-        let at = subst (λ (l : List ℕ). IsTableAt plays.file l) (same-bytes plays.bytes plays.loaded) plays.at in
-        inl (subst (λ (f : TableFile). IsSession (held_by f) run.input run.output run.status) (one-file plays.file at) plays.session)
-    ends-by (inr (inl tells)) = inr (inl (not-told tells.status tells.text tells.why))
+        let at = subst (λ (l : List ℕ). IsHeldText plays.file l) (same-bytes fit.bytes fit.found plays.bytes plays.loaded) plays.at in
+        inl (subst (λ (f : HeldFile). IsSession (held_by f) run.input run.output run.status) (one-held file plays.file fit.bytes fit.at at) plays.session)
+    ends-by (inr (inl tells)) = inr (inl (not-told fit.bytes fit.found FileSays fit.fits (held-not_told file fit.bytes fit.at) tells.status tells.text tells.why))
     ends-by (inr (inr unbegun)) = inr (inr unbegun)
 
--- `brain FILE` serves its input to the end by a file that fits
-pub brain-with-answers : (name : List ℕ) (run : Run) → IsBrainWith name run → (file : TableFile) → IsUnhinderedFile name run file → AnswersAll (held_by file) run
+-- `brain FILE` serves its input to the end by what a file gives
+pub brain-with-answers : (name : List ℕ) (run : Run) → IsBrainWith name run → (file : HeldFile) → IsUnhinderedShelf (λ files. GivesHeld name files file) run → AnswersAll (held_by file) run
 brain-with-answers name run is file free bytes session = by-end (ends-by name run free.files free.told file free.fit is) where
   by-end : IsSession (held_by file) run.input run.output run.status ⊎ HasFailed run.shelf ⊎ IsUnbegun run.input run.output run.status
       → HasServed (held_by file) run bytes ⊎ (run.status ≡ status_number Memory)

@@ -24,6 +24,10 @@ no-check rest none h =
     let spelled = is.spelled in
     none _ is.in_range (cc)
 
+-- bytes are the text of one table at a lawful position with its number of moves
+pub one-table : (file other : TableFile) (bytes : List ℕ) → IsTableAt file bytes → IsTableAt other bytes → other ≡ file
+one-table file other bytes at is = let only = table-read-back file bytes at.text at.lawful at.moves in only.no_other other is.text
+
 -- what is said of a text for which the work is enough is an answer
 pub check-answers : (work : ℕ) (bytes : List ℕ) → (check_command work).IsAnswerable bytes → (status : Status) (text : List ℕ) → CheckSays work bytes status text → (check_command work).IsAnswer status
 check-answers work bytes can status text (inl refused) =

@@ -1,6 +1,7 @@
 -- What runs of `brain` and `brain FILE` show of the games that the brain plays.
-use Rattle.std.proofs.Common.{◌≡◌, inl, inr, refl, sym, ap, subst, ◌∙◌, ◌⊎◌, ℕ, zero, suc, true, List, [], ◌∷◌, ◌++◌, length, take, drop, map, lit≤, arith, append_assoc, append-nil, get_or}
-use Rattle.std.proofs.lemmas.List.{map-append, take-append-drop}
+use Rattle.std.proofs.Common.{◌≡◌, inl, inr, refl, sym, ap, subst, ◌∙◌, ◌⊎◌, ℕ, zero, suc, ◌≤◌, true, List, [], ◌∷◌, ◌++◌, length, take, drop, map, lit≤, arith, append_assoc, append-nil, get_or}
+use Rattle.std.proofs.lemmas.List.{length-map, map-append, take-append-drop}
+use Rattle.std.specs.List.{AllByRecursion}
 use Rattle.std.specs.Prelude.{Option, Some, None, IfSome, All, Contains}
 use Rattle.std.proofs.lemmas.Option.{same_Some}
 use Rattle.std.proofs.lemmas.List.Elements.{All-contains}
@@ -13,6 +14,14 @@ use Rattle.strategy_graph.specs.Roots.{root_below, root_depth, RootWins}
 use Rattle.strategy_graph.proofs.Starts.{accepted-root-wins}
 use Rattle.strategy_checker.specs.declared.held.HeldRoot.{HeldRoot}
 use Rattle.strategy_checker.specs.HeldRoots.{HeldTable, IsHeldRoot, IsHeld}
+use Rattle.strategy_checker.specs.declared.TheConstants.{MAX_ROOTS}
+use Rattle.table_book.specs.declared.Entry.{Entry}
+use Rattle.table_book.specs.declared.error.HoldError.{HoldError}
+use Rattle.table_book.specs.declared.error.HoldError.TheVariants.{Refused, Spent as SpentEntry, Memory as NotHeld}
+use Rattle.table_book.specs.Books.{EntryFits, IsSound}
+use Rattle.table_book.specs.Holding.{IsAccepted}
+use Rattle.table_book.proofs.Soundness.{root_fits-below}
+use Rattle.renju_cli.specs.Books.{hold_refusal_status}
 use Rattle.position_files.specs.declared.TableFile.{TableFile}
 use Rattle.position_files.specs.Tables.{RootFits}
 use Rattle.renju_io.specs.Files.{Files}
@@ -43,8 +52,8 @@ use Rattle.renju_cli.specs.declared.status.Status.TheVariants.{Done, ShelfFault,
 use Rattle.renju_cli.specs.Statuses.{status_number}
 use Rattle.renju_cli.specs.Runs.{Change, Run, IsDelivered}
 use Rattle.renju_cli.specs.Checks.{IsTableAt, IsRefusedTable, IsSpentWork}
-use Rattle.renju_cli.specs.Brains.{nothing_held, held_by, session_of, EndsSession, IsSession, IsFit, FileSays, IsUnheld, IsBrain, IsBrainWith, IsFitFile}
-use Rattle.renju_cli.specs.Games.{state_told, StandsBehind, NamedRoot, held_with, GamesGoWell, PlaysByRoots, OwnGamesGoWellIn, AnsweredLines, named_root, IsPlayedBy, ShowsGames, PlaysOwnWins}
+use Rattle.renju_cli.specs.Brains.{nothing_held, held_by, held_with, named_entry, named_root, of_table, HeldFile, NamedRoot, session_of, EndsSession, IsSession, IsFit, IsHeldText, BookFileSays, FileSays, TableFileSays, IsUnheld, IsBrain, IsBrainWith, GivesHeld}
+use Rattle.renju_cli.specs.Games.{state_told, StandsBehind, GamesGoWell, PlaysByRoots, OwnGamesGoWellIn, AnsweredLines, IsPlayedBy, ShowsGames, PlaysOwnWins}
 use Rattle.renju_cli.proofs.BrainLaws.{told-some, found-under, ends-by}
 use Rattle.renju_cli.proofs.ToldLaws.{where-told}
 
@@ -238,21 +247,63 @@ root_named : (b : Grid) (t : List Node) (root : Root) (moves : ℕ) → RootFits
 root_named b t (Attack r) moves fits = let count = fits.0 in lt-ltb r (length t) (omega (arith, count))
 root_named b t (Defend a) moves fits = fits.1
 
-module _ (file : TableFile) (bytes : List ℕ) (at : IsTableAt file bytes) (fit : IsFit file) where
-  -- what is held by a text that fits is accepted
-  file_root : IsHeldRoot file.table (named_root file).root
-  file_root = record {
+-- what holds of each item, said of each place
+all_places : {X : Type 0} (P : X → Type 0) (xs : List X) → AllByRecursion P xs → All P xs
+all_places P [] all k d low = absurd (omega (arith, low))
+all_places P (x ∷ xs) all zero d low = all.0
+all_places P (x ∷ xs) all (suc k) d low = all_places P xs all.1 k d (omega (arith, low))
+
+-- the root of a table that is accepted may be held
+due_table : (file : TableFile) (bytes : List ℕ) → IsTableAt file bytes → IsFit file → All (IsDueRoot file.table) (of_table file).roots
+due_table file bytes at fit = all_one (IsDueRoot file.table) (named_root file) (record {
+  held = record {
     lawful = at.lawful;
     below = root_named file.board file.table file.root file.moves at.text.root;
     accepted = fit.accepted;
-  }
+  };
+  moves = at.moves;
+})
 
+-- so may those of a book of which each entry is accepted
+due_entries : (t : List Node) (es : List Entry) → AllByRecursion (EntryFits (length t)) es → AllByRecursion (IsSound t) es → AllByRecursion (IsAccepted t BRAIN_WORK) es
+    → AllByRecursion (IsDueRoot t) (map named_entry es)
+due_entries t [] fits sound accepted = tt
+due_entries t (e ∷ es) fits sound accepted = (
+  record {
+    held = record { lawful = sound.0.lawful; below = root_fits-below (length t) e.root fits.0.root; accepted = accepted.0.accepted };
+    moves = sound.0.moves;
+  },
+  due_entries t es fits.1 sound.1 accepted.1,
+)
+
+-- What bytes give may be held: its roots are due, and are not too many.
+record MayBeHeld (file : HeldFile) : Type 0 where
+  due : All (IsDueRoot file.table) file.roots
+  few : length file.roots ≤ MAX_ROOTS
+
+may_be_held : (file : HeldFile) (bytes : List ℕ) → IsHeldText file bytes → MayBeHeld file
+may_be_held file bytes (inl table) = subst MayBeHeld (sym table.gives) (record { due = due_table table.file bytes table.at table.fit; few = lit≤ tt })
+may_be_held file bytes (inr book) =
+    let entries = book.book.entries in
+    let text = book.at.well_formed.text in
+    let some = text.some.few in
+    let count = length-map entries named_entry in
+    subst MayBeHeld (sym book.gives) (record {
+      due = all_places (IsDueRoot book.book.table) (map named_entry entries) (due_entries book.book.table entries text.entries book.at.well_formed.entries book.fit);
+      few = omega (arith, some, count);
+    })
+
+module _ (file : HeldFile) (bytes : List ℕ) (at : IsHeldText file bytes) where
+  -- what is held by it is accepted
   file_held : IsHeld (held_by file)
-  file_held = record { roots = all_one (IsHeldRoot file.table) (named_root file).root file_root; few = lit≤ tt }
+  file_held =
+      let may = may_be_held file bytes at in
+      let count = length-map file.roots (λ (r : NamedRoot). r.root) in
+      let few = may.few in
+      record { roots = all_map (IsHeldRoot file.table) (IsDueRoot file.table) file.roots (λ r due. due.held) may.due; few = omega (arith, few, count) }
 
-  file_plays : PlaysByRoots file.table (named_root file ∷ [])
-  file_plays = plays_by_roots file.table (named_root file ∷ [])
-      (all_one (IsDueRoot file.table) (named_root file) (record { held = file_root; moves = at.moves })) file_held
+  file_plays : PlaysByRoots file.table file.roots
+  file_plays = plays_by_roots file.table file.roots (may_be_held file bytes at).due file_held
 
 -- a number that is neither that of the end of a session nor that of a failing input
 abbrev IsOther : ℕ → Type 0
@@ -261,19 +312,31 @@ IsOther n = (n ≡ 0 → ⊥) × (n ≡ 7 → ⊥)
 other-by : (status told : Status) → status ≡ told → IsOther (status_number told) → IsOther (status_number status)
 other-by status told is other = subst (λ (s : Status). IsOther (status_number s)) (sym is) other
 
-file-other : (bytes : List ℕ) (status : Status) (text : List ℕ) → FileSays bytes status text → IsOther (status_number status)
-file-other bytes status text (inl refused) = other-by status RefusedText refused.ends (λ e. absurd (cc), λ e. absurd (cc))
-file-other bytes status text (inr said) = by-verdict said.0 said.2 where
+pub table_told-other : (bytes : List ℕ) (status : Status) (text : List ℕ) → TableFileSays bytes status text → IsOther (status_number status)
+table_told-other bytes status text (inl refused) = other-by status RefusedText refused.ends (λ e. absurd (cc), λ e. absurd (cc))
+table_told-other bytes status text (inr said) = by-verdict said.0 said.2 where
   by-verdict : (file : TableFile) → IsRefusedTable file status text ⊎ IsSpentWork BRAIN_WORK file status text
       → IsOther (status_number status)
   by-verdict file (inl refused) = other-by status RefusedTable refused.ends (λ e. absurd (cc), λ e. absurd (cc))
   by-verdict file (inr spent) = other-by status Spent spent.ends (λ e. absurd (cc), λ e. absurd (cc))
 
-pub unheld-other : (shelf : Change (Option Files)) (name : List ℕ) (status : Status) (text : List ℕ) → IsUnheld shelf name status text
-    → IsOther (status_number status)
-unheld-other shelf name status text (inl refused) = file-other refused.bytes status text refused.says
-unheld-other shelf name status text (inr (inl long)) = other-by status TooLong long.ends (λ e. absurd (cc), λ e. absurd (cc))
-unheld-other shelf name status text (inr (inr fault)) = other-by status ShelfFault fault.ends (λ e. absurd (cc), λ e. absurd (cc))
+book_told-other : (bytes : List ℕ) (status : Status) (text : List ℕ) → BookFileSays bytes status text → IsOther (status_number status)
+book_told-other bytes status text (inl refused) = other-by status RefusedText refused.ends (λ e. absurd (cc), λ e. absurd (cc))
+book_told-other bytes status text (inr said) = by-error said.2.error said.2.cause said.2.ends where
+  by-error : (error : HoldError) → (error ≡ NotHeld → ⊥) → status ≡ hold_refusal_status error → IsOther (status_number status)
+  by-error (Refused n line why) cause ends = other-by status RefusedTable ends (λ e. absurd (cc), λ e. absurd (cc))
+  by-error (SpentEntry n) cause ends = other-by status Spent ends (λ e. absurd (cc), λ e. absurd (cc))
+  by-error NotHeld cause ends = absurd (cause refl)
+
+file-other : (bytes : List ℕ) (status : Status) (text : List ℕ) → FileSays bytes status text → IsOther (status_number status)
+file-other bytes status text (inl says) = book_told-other bytes status text says.1
+file-other bytes status text (inr says) = table_told-other bytes status text says.1
+
+pub unheld-other : (Told : List ℕ → Status → List ℕ → Type 0) → ((bytes : List ℕ) (status : Status) (text : List ℕ) → Told bytes status text → IsOther (status_number status))
+    → (shelf : Change (Option Files)) (name : List ℕ) (status : Status) (text : List ℕ) → IsUnheld Told shelf name status text → IsOther (status_number status)
+unheld-other Told other shelf name status text (inl refused) = other refused.bytes status text refused.says
+unheld-other Told other shelf name status text (inr (inl long)) = other-by status TooLong long.ends (λ e. absurd (cc), λ e. absurd (cc))
+unheld-other Told other shelf name status text (inr (inr fault)) = other-by status ShelfFault fault.ends (λ e. absurd (cc), λ e. absurd (cc))
 
 -- what is delivered with such a status, or with that of a write fault, is neither
 pub delivered-other : (status : Status) (text : List ℕ) (output : Change (Option (List ℕ))) (number : ℕ) → IsOther (status_number status)
@@ -287,15 +350,15 @@ not-other n (inl done) other = other.0 done
 not-other n (inr failed) other = other.1 failed
 
 module _ (name : List ℕ) (run : Run) (is : IsBrainWith name run) (files : Files) (told : run.shelf.before ≡ Some files) where
-  played-by : (file : TableFile) → IsFitFile name files file → IsPlayedBy file run
+  played-by : (file : HeldFile) → GivesHeld name files file → IsPlayedBy file run
   played-by file fit = record {
-    plays = file_plays file fit.bytes fit.at fit.fit;
+    plays = file_plays file fit.bytes fit.at;
     ends = ends-by name run files told file fit is;
     answered = answered_lines (held_by file) run;
   }
 
   fits-where : IsBrainWith name run → (run.status ≡ status_number Done) ⊎ (run.status ≡ status_number ReadFault)
-      → (file : TableFile) × IsFitFile name files file
+      → (file : HeldFile) × GivesHeld name files file
   fits-where (inl plays) ended = (
     plays.file,
     record {
@@ -303,12 +366,11 @@ module _ (name : List ℕ) (run : Run) (is : IsBrainWith name run) (files : File
       found = found-under name run files told plays.bytes plays.loaded;
       fits = plays.fits;
       at = plays.at;
-      fit = plays.fit;
     },
   )
   fits-where (inr (inl tells)) ended =
       absurd (not-other run.status ended (delivered-other tells.status tells.text run.output run.status
-      (unheld-other run.shelf name tells.status tells.text tells.why) tells.delivered))
+      (unheld-other FileSays file-other run.shelf name tells.status tells.text tells.why) tells.delivered))
   fits-where (inr (inr unbegun)) ended = absurd (not-other run.status ended
       (subst IsOther (sym unbegun.ends) (λ e. absurd (cc), λ e. absurd (cc))))
 
@@ -329,7 +391,7 @@ brain-plays-own run is = record {
 
 -- so does `brain FILE`
 pub file-plays-own : (name : List ℕ) (run : Run)
-    → IfSome run.shelf.before (λ files. (file : TableFile) → IsFitFile name files file → (asked : List Asked)
+    → IfSome run.shelf.before (λ files. (file : HeldFile) → GivesHeld name files file → (asked : List Asked)
     → OwnGamesGoWellIn (held_by file) asked)
 file-plays-own name run = where-told run.shelf.before
-    (λ files told file fit. own_games (held_by file) (file_held file fit.bytes fit.at fit.fit))
+    (λ files told file fit. own_games (held_by file) (file_held file fit.bytes fit.at))

@@ -9,6 +9,7 @@ mod FoursLaws
 mod ThreatsLaws
 mod SolveLaws
 mod Solutions
+mod BookLaws
 mod BrainLaws
 mod GameLaws
 mod DrillLaws

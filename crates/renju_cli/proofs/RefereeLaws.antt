@@ -1,13 +1,12 @@
 -- The command `referee`: its words, its answers, and what its runs show.
-use Rattle.std.proofs.Common.{◌≡◌, inl, inr, refl, sym, ap, subst, ◌∙◌, ◌⊎◌, ℕ, List, [], ◌∷◌, ◌++◌, length, get_or, arith}
-use Rattle.std.specs.Prelude.{Option, Some, IfSome, codes}
+use Rattle.std.proofs.Common.{◌≡◌, inl, inr, refl, sym, ap, subst, ◌∙◌, ◌⊎◌, ℕ, List, get_or, arith}
+use Rattle.std.specs.Prelude.{Some, IfSome}
 use Rattle.game_rules.specs.Grid.{Grid}
 use Rattle.game_rules.specs.declared.RuleKind.{RuleKind}
 use Rattle.strategy_graph.specs.Roots.{AcceptedRoot}
 use Rattle.game_referee.specs.declared.ReplayAnswer.{ReplayAnswer}
 use Rattle.game_referee.specs.declared.ReplayAnswer.TheVariants.{Follows, Departs}
 use Rattle.game_referee.specs.Followers.{NeverLoses, side_of}
-use Rattle.game_referee.specs.Lines.{verdict_line}
 use Rattle.game_referee.proofs.Following.{follower-never-loses}
 use Rattle.position_files.specs.declared.GameFile.{GameFile}
 use Rattle.position_files.specs.declared.TableFile.{TableFile}
@@ -15,19 +14,18 @@ use Rattle.position_files.proofs.ReadBack.{game-read-back}
 use Rattle.renju_io.specs.Files.{Files}
 use Rattle.renju_io.specs.Told.{Takes}
 use Rattle.renju_cli.specs.declared.status.Status.{Status}
-use Rattle.renju_cli.specs.declared.status.Status.TheVariants.{Done, RefusedText}
+use Rattle.renju_cli.specs.declared.status.Status.TheVariants.{Done}
 use Rattle.renju_cli.specs.Statuses.{status_number}
-use Rattle.renju_cli.specs.Runs.{Run, IsOutOfMemory}
-use Rattle.renju_cli.specs.Told.{AnswersTold, EndsTold, HasAnswered, IsInput, IsUnhindered, IsYielded}
+use Rattle.renju_cli.specs.Runs.{Run}
+use Rattle.renju_cli.specs.Told.{AnswersTold, EndsTold, IsYielded}
 use Rattle.renju_cli.specs.Refusals.{IsRefusedText}
 use Rattle.renju_cli.specs.Checks.{IsTableAt}
-use Rattle.renju_cli.specs.Brains.{IsFileName, IsFit, IsFitFile, IsUnhinderedFile}
-use Rattle.renju_cli.specs.Referees.{ComparesSays, HasGameFault, IsCompared, IsGameAt, IsRefereeWith, RefereeSays, RefereesByFile, ShowsGame, TellsTable, compares_command, of_game, referee_command, replay_line, verdict_on}
-use Rattle.renju_cli.specs.Commands.{HasForm}
-use Rattle.renju_cli.proofs.FormLaws.{has-told}
+use Rattle.renju_cli.specs.Brains.{IsFit, IsFitFile, IsUnhinderedShelf, TableFileSays}
+use Rattle.renju_cli.specs.Referees.{ComparesSays, HasGameFault, IsGameAt, IsRefereeWith, RefereeSays, RefereesByFile, ShowsGame, TellsTable, compares_command, of_game, referee_command, replay_line}
 use Rattle.renju_cli.proofs.ToldLaws.{IsWhole, answers-by, by-end, given-told, where-told}
-use Rattle.renju_cli.proofs.BrainLaws.{found-under, not-told, one-file, same-bytes}
-use Rattle.renju_cli.proofs.GameLaws.{delivered-other, not-other, unheld-other}
+use Rattle.renju_cli.proofs.CheckLaws.{one-table}
+use Rattle.renju_cli.proofs.BrainLaws.{found-under, not-told, same-bytes, table-not_told}
+use Rattle.renju_cli.proofs.GameLaws.{delivered-other, not-other, table_told-other, unheld-other}
 
 -- ---- answers
 
@@ -53,17 +51,18 @@ compares-answers name file bytes can status text (inr said) = said.2.ends
 by-file : (name : List ℕ) (run : Run) (files : Files) → run.shelf.before ≡ Some files → (file : TableFile) → IsFitFile name files file
     → (by : RefereesByFile name run) → EndsTold (ComparesSays file) run.input run.output run.status
 by-file name run files told file fit by =
-    let at = subst (λ (l : List ℕ). IsTableAt by.file l) (same-bytes name run files told file fit by.bytes by.loaded) by.at in
+    let at = subst (λ (l : List ℕ). IsTableAt by.file l) (same-bytes name run files told fit.bytes fit.found by.bytes by.loaded) by.at in
     subst (λ (f : TableFile). EndsTold (ComparesSays f) run.input run.output run.status)
-    (one-file name run files told file fit by.file at) by.ends
+    (one-table file by.file fit.bytes fit.at at) by.ends
 
-pub referee-with-answers : (name : List ℕ) (run : Run) → IsRefereeWith name run → (file : TableFile) → IsUnhinderedFile name run file
+pub referee-with-answers : (name : List ℕ) (run : Run) → IsRefereeWith name run → (file : TableFile) → IsUnhinderedShelf (λ files. IsFitFile name files file) run
     → AnswersTold (compares_command name file) run
 referee-with-answers name run (inl by) file free bytes un =
     answers-by (compares_command name file) (compares-answers name file) run bytes un
     (by-file name run free.files free.told file free.fit by)
 referee-with-answers name run (inr (inl tells)) file free bytes un =
-    absurd (free.shelf_sound (not-told name run free.files free.told file free.fit tells.status tells.text tells.why))
+    absurd (free.shelf_sound (not-told name run free.files free.told free.fit.bytes free.fit.found TableFileSays free.fit.fits
+    (table-not_told file free.fit.bytes free.fit.at free.fit.fit) tells.status tells.text tells.why))
 referee-with-answers name run (inr (inr unbegun)) file free bytes un = inr (record { ends = unbegun.ends; silent = unbegun.silent })
 
 -- ---- what is shown
@@ -123,7 +122,7 @@ module _ (name : List ℕ) (run : Run) (done : run.status ≡ status_number Done
     by-ends (inr yielded) = absurd (not-yielded run.status done yielded)
   shown-by (inr (inl tells)) =
       absurd (not-other run.status (inl done)
-      (delivered-other tells.status tells.text run.output run.status (unheld-other run.shelf name tells.status tells.text tells.why)
+      (delivered-other tells.status tells.text run.output run.status (unheld-other TableFileSays table_told-other run.shelf name tells.status tells.text tells.why)
       tells.delivered))
   shown-by (inr (inr unbegun)) = let e = sym done ∙ unbegun.ends in absurd (cc)
 

@@ -1,7 +1,7 @@
 -- What follows of a run from its report: the command of its form did what it does, and so answered where it is sure to.
 use Rattle.std.proofs.Common.{◌≡◌, inl, inr, sym, ap, subst, ℕ, List}
 use Rattle.renju_cli.specs.declared.commands.Form.{Form}
-use Rattle.renju_cli.specs.declared.commands.Form.TheVariants.{Check, Foul, Fours, Threats, Solve, Brain, BrainWith, Drill, Referee, RefereeWith, Image, Defend}
+use Rattle.renju_cli.specs.declared.commands.Form.TheVariants.{Check, Foul, Fours, Threats, Solve, Brain, BrainWith, Drill, Referee, RefereeWith, Image, Defend, Book}
 use Rattle.renju_cli.specs.Runs.{Run}
 use Rattle.renju_cli.specs.Forms.{HasWords}
 use Rattle.renju_cli.specs.Checks.{check_command, ShowsWin}
@@ -30,6 +30,8 @@ use Rattle.renju_cli.specs.Images.{image_command, ShowsImage}
 use Rattle.renju_cli.proofs.ImageLaws.{image-answers, image-shown}
 use Rattle.renju_cli.specs.Defends.{defend_command, ShowsDefence}
 use Rattle.renju_cli.proofs.DefendLaws.{defend-answers, defend-shown}
+use Rattle.renju_cli.specs.Books.{book_command, ShowsBook}
+use Rattle.renju_cli.proofs.BookLaws.{book-answers, book-shown}
 
 -- the command of the words did what it does
 does-of : (run : Run) → Report run → (form : Form) → IsForm run.words form → (command run.words form).Does run
@@ -45,6 +47,7 @@ answers BrainWith run does = brain-with-answers (second_word run.words) run does
 answers (Drill number) run does = drill-answers number run does
 answers (Image s) run does = answers-told (image_command s) (image-answers s) run does
 answers Referee run does = answers-told referee_command referee-answers run does
+answers (Book work) run does = answers-told (book_command work) (book-answers work) run does
 answers RefereeWith run does = referee-with-answers (second_word run.words) run does
 answers (Fours depth nodes) run does = answers-told (fours_command depth nodes) (fours-answers depth nodes) run does
 answers (Threats limit nodes) run does = answers-told (threats_command limit nodes) (threats-answers limit nodes) run does
@@ -95,6 +98,8 @@ report-imaged run report s is zero = image-shown s run zero (does-of run report 
 
 pub report-defended : (run : Run) → Report run → ShowsDefence run
 report-defended run report depth nodes is = defend-shown depth nodes run (does-of run report (Defend depth nodes) is)
+pub report-booked : (run : Run) → Report run → ShowsBook run
+report-booked run report work is done = book-shown work run done (does-of run report (Book work) is)
 
 pub report-refereed : (run : Run) → Report run → ShowsReferee run
 report-refereed run report name is done =

@@ -1,7 +1,13 @@
 -- The command `brain`: its words, how its sessions end, and what comes of its FILE.
-use Rattle.std.specs.Prelude.{◌≡◌, ◌≢◌, ◌⊎◌, ℕ, ◌≤◌, ◌<◌, List, [], ◌∷◌, codes, length, Option, Some, Result, Ok, Err, IfSome, Contains, unwrap_or, slice_get}
+use Rattle.std.specs.Prelude.{◌≡◌, ◌≢◌, ◌⊎◌, ℕ, ◌≤◌, ◌<◌, List, [], ◌∷◌, codes, length, map, Option, Some, Result, Ok, Err, IfSome, Contains, unwrap_or, slice_get}
 use Rattle.strategy_graph.specs.Roots.{root_arrivals, AcceptedRoot}
+use Rattle.strategy_graph.specs.declared.Node.{Node}
 use Rattle.strategy_checker.specs.HeldRoots.{HeldTable}
+use Rattle.strategy_checker.specs.declared.held.HeldRoot.{HeldRoot}
+use Rattle.table_book.specs.declared.Book.{Book}
+use Rattle.table_book.specs.declared.Entry.{Entry}
+use Rattle.table_book.specs.Books.{BeginsBook}
+use Rattle.table_book.specs.Holding.{held_entry}
 use Rattle.position_files.specs.declared.TableFile.{TableFile}
 use Rattle.position_files.specs.Faults.{IsTableFault}
 use Rattle.renju_io.specs.Told.{Takes}
@@ -25,6 +31,7 @@ use Rattle.renju_cli.specs.Runs.{Change, Run, HasFailed, IsSound, IsUnasked, IsD
 use Rattle.renju_cli.specs.Forms.{Command}
 use Rattle.renju_cli.specs.Refusals.{IsRefusedText}
 use Rattle.renju_cli.specs.Checks.{IsTableAt, IsRefusedTable, IsSpentWork}
+use Rattle.renju_cli.specs.Books.{AreAccepted, IsBookAt, IsRefusedBook, IsRefusedEntry}
 
 -- the words `brain`
 abbrev pub brain_words : List (List ℕ)
@@ -48,9 +55,39 @@ second_word words = unwrap_or (slice_get words 1) []
 abbrev pub nothing_held : HeldTable
 nothing_held = record { table = []; roots = [] }
 
--- what a brain holds by the text of a table: the table, and of its roots the one of the text, with its rule and its board
-abbrev pub held_by : TableFile → HeldTable
-held_by file = record { table = file.table; roots = record { root = file.root; kind = file.kind; board = file.board } ∷ [] }
+-- a root, and the number of moves that is named for it
+pub record NamedRoot : Type 0 where
+  pub root : HeldRoot
+  pub moves : ℕ
+
+-- what is held by a table and roots of it
+abbrev pub held_with : List Node → List NamedRoot → HeldTable
+held_with t named = record { table = t; roots = map (λ r. r.root) named }
+
+-- What a FILE gives to be held: a table, and roots of it with the moves that are named for them.
+pub record HeldFile : Type 0 where
+  pub table : List Node
+  pub roots : List NamedRoot
+
+-- what a brain holds by it
+abbrev pub held_by : HeldFile → HeldTable
+held_by file = held_with file.table file.roots
+
+-- the one root of the text of a table, with the moves that the text names
+abbrev pub named_root : TableFile → NamedRoot
+named_root file = record { root = record { root = file.root; kind = file.kind; board = file.board }; moves = file.moves }
+
+-- what the text of a table gives to be held: the table with this root
+abbrev pub of_table : TableFile → HeldFile
+of_table file = record { table = file.table; roots = named_root file ∷ [] }
+
+-- the root of an entry, with the moves that are named for it
+abbrev pub named_entry : Entry → NamedRoot
+named_entry e = record { root = held_entry e; moves = e.moves }
+
+-- what a book gives to be held: its table with the roots of its entries, in their order
+abbrev pub of_book : Book → HeldFile
+of_book book = record { table = book.table; roots = map named_entry book.entries }
 
 -- the session of a brain that is new and holds this, and is in this state at its end
 abbrev pub session_of : HeldTable → State → Change (Option (List ℕ)) → Served
@@ -144,29 +181,72 @@ pub record IsFit (file : TableFile) : Type 0 where
   pub accepted : AcceptedRoot file.kind file.table file.root file.board
   pub within : root_arrivals file.kind file.table file.root file.board ≤ BRAIN_WORK
 
--- what is said of the bytes of a FILE that is not held: why the text is refused, or else why the table is, or that it has more
--- arrivals than BRAIN_WORK
-abbrev pub FileSays : List ℕ → Status → List ℕ → Type 0
-FileSays bytes status text =
+-- What is said of the bytes of a FILE that is to be a table and is not held: why the text is refused, or else why the table is, or that
+-- it has more arrivals than BRAIN_WORK.
+abbrev pub TableFileSays : List ℕ → Status → List ℕ → Type 0
+TableFileSays bytes status text =
     IsRefusedText (IsTableFault bytes) status text
     ⊎ ((file : TableFile) × IsTableAt file bytes × (IsRefusedTable file status text ⊎ IsSpentWork BRAIN_WORK file status text))
 
+-- what is said of those of a book that is not held: why the text is refused, or else which entry is not accepted
+abbrev pub BookFileSays : List ℕ → Status → List ℕ → Type 0
+BookFileSays bytes status text = IsRefusedBook bytes status text ⊎ ((book : Book) × IsBookAt book bytes × IsRefusedEntry BRAIN_WORK book status text)
+
+-- What is said of the bytes of a FILE that a brain does not hold: where their first line is that of a book what is said of a book, and
+-- else what is said of a table.
+abbrev pub FileSays : List ℕ → Status → List ℕ → Type 0
+FileSays bytes status text = (BeginsBook bytes × BookFileSays bytes status text) ⊎ ((¬ BeginsBook bytes) × TableFileSays bytes status text)
+
 -- what comes of the table of a text: it is held, or what is told of it says why not
 abbrev pub IsLoadedFile : TableFile → Loaded → Type 0
-IsLoadedFile file (Holds held) = IsFit file × (held ≡ held_by file)
+IsLoadedFile file (Holds held) = IsFit file × (held ≡ held_by (of_table file))
 IsLoadedFile file (Tells answer) = IsRefusedTable file answer.status answer.text.items ⊎ IsSpentWork BRAIN_WORK file answer.status answer.text.items
 
--- what comes of the bytes of a FILE: the table of the text that they are is held, or what is told of them says why not
+-- what comes of the bytes of a FILE that is to be a table: the table of the text is held, or what is told of them says why not
 abbrev pub IsLoadedText : List ℕ → Loaded → Type 0
-IsLoadedText bytes (Holds held) = (file : TableFile) × IsTableAt file bytes × IsFit file × (held ≡ held_by file)
-IsLoadedText bytes (Tells answer) = FileSays bytes answer.status answer.text.items
+IsLoadedText bytes (Holds held) = (file : TableFile) × IsTableAt file bytes × IsFit file × (held ≡ held_by (of_table file))
+IsLoadedText bytes (Tells answer) = TableFileSays bytes answer.status answer.text.items
+
+-- what comes of a book: it is held with all its entries, or what is told of it says why not
+abbrev pub IsLoadedBook : Book → Loaded → Type 0
+IsLoadedBook book (Holds held) = AreAccepted BRAIN_WORK book × (held ≡ held_by (of_book book))
+IsLoadedBook book (Tells answer) = IsRefusedEntry BRAIN_WORK book answer.status answer.text.items
+
+-- what comes of the bytes of a FILE that is to be a book: the book of the text is held, or what is told of them says why not
+abbrev pub IsLoadedBookText : List ℕ → Loaded → Type 0
+IsLoadedBookText bytes (Holds held) = (book : Book) × IsBookAt book bytes × AreAccepted BRAIN_WORK book × (held ≡ held_by (of_book book))
+IsLoadedBookText bytes (Tells answer) = BookFileSays bytes answer.status answer.text.items
+
+-- the bytes are the text of a table that is accepted, and this is what it gives
+pub record IsOfTable (held : HeldFile) (bytes : List ℕ) : Type 0 where
+  pub file : TableFile
+  pub at : IsTableAt file bytes
+  pub fit : IsFit file
+  pub gives : held ≡ of_table file
+
+-- the bytes are the text of a book of which each entry is accepted, and this is what it gives
+pub record IsOfBook (held : HeldFile) (bytes : List ℕ) : Type 0 where
+  pub book : Book
+  pub at : IsBookAt book bytes
+  pub fit : AreAccepted BRAIN_WORK book
+  pub gives : held ≡ of_book book
+
+-- the bytes give this to be held
+abbrev pub IsHeldText : HeldFile → List ℕ → Type 0
+IsHeldText held bytes = IsOfTable held bytes ⊎ IsOfBook held bytes
+
+-- what comes of the bytes of a FILE: what they give is held, or what is told of them says why not
+abbrev pub IsLoadedHeld : List ℕ → Loaded → Type 0
+IsLoadedHeld bytes (Holds held) = (file : HeldFile) × IsHeldText file bytes × (held ≡ held_by file)
+IsLoadedHeld bytes (Tells answer) = FileSays bytes answer.status answer.text.items
 
 -- FILE was loaded, and is not held
-pub record IsRefusedFile (shelf : Change (Option Files)) (name : List ℕ) (status : Status) (text : List ℕ) : Type 0 where
+pub record IsRefusedFile (Says : List ℕ → Status → List ℕ → Type 0) (shelf : Change (Option Files)) (name : List ℕ) (status : Status)
+    (text : List ℕ) : Type 0 where
   pub bytes : List ℕ
   pub loaded : IsLoaded shelf name bytes
   pub fits : length bytes ≤ MAX_INPUT_BYTES
-  pub says : FileSays bytes status text
+  pub says : Says bytes status text
 
 -- FILE has more bytes than a command takes, and is only told so
 pub record IsLongFile (shelf : Change (Option Files)) (name : List ℕ) (status : Status) (text : List ℕ) : Type 0 where
@@ -183,30 +263,30 @@ pub record IsShelfFault (shelf : Change (Option Files)) (status : Status) (text 
   pub line : text ≡ shelf_line
 
 -- why nothing is held, with the status and the text that are due for it
-abbrev pub IsUnheld : Change (Option Files) → List ℕ → Status → List ℕ → Type 0
-IsUnheld shelf name status text = IsRefusedFile shelf name status text ⊎ IsLongFile shelf name status text ⊎ IsShelfFault shelf status text
+abbrev pub IsUnheld : (List ℕ → Status → List ℕ → Type 0) → Change (Option Files) → List ℕ → Status → List ℕ → Type 0
+IsUnheld Says shelf name status text =
+    IsRefusedFile Says shelf name status text ⊎ IsLongFile shelf name status text ⊎ IsShelfFault shelf status text
 
 -- FILE is not held: why is told, and the input is left unasked
-pub record TellsFile (name : List ℕ) (run : Run) : Type 0 where
+pub record TellsFile (Says : List ℕ → Status → List ℕ → Type 0) (name : List ℕ) (run : Run) : Type 0 where
   pub status : Status
   pub text : List ℕ
-  pub why : IsUnheld run.shelf name status text
+  pub why : IsUnheld Says run.shelf name status text
   pub input : IsUnasked run.input
   pub delivered : IsDelivered status text run.output run.status
 
--- the bytes of FILE are the text of a table that is accepted, and a brain that holds it served the input
+-- the bytes of FILE give something to be held, and a brain that holds it served the input
 pub record PlaysByFile (name : List ℕ) (run : Run) : Type 0 where
   pub bytes : List ℕ
   pub loaded : IsLoaded run.shelf name bytes
   pub fits : length bytes ≤ MAX_INPUT_BYTES
-  pub file : TableFile
-  pub at : IsTableAt file bytes
-  pub fit : IsFit file
+  pub file : HeldFile
+  pub at : IsHeldText file bytes
   pub session : IsSession (held_by file) run.input run.output run.status
 
--- What `brain FILE` does in a run: it plays by the table of the file, or tells why it does not, or memory ran out before.
+-- What `brain FILE` does in a run: it plays by what the file gives, or tells why it does not, or memory ran out before.
 abbrev pub IsBrainWith : List ℕ → Run → Type 0
-IsBrainWith name run = PlaysByFile name run ⊎ TellsFile name run ⊎ IsUnbegun run.input run.output run.status
+IsBrainWith name run = PlaysByFile name run ⊎ TellsFile FileSays name run ⊎ IsUnbegun run.input run.output run.status
 
 -- among these files the one with this name is not too long, and is the text of a table that is accepted
 pub record IsFitFile (name : List ℕ) (files : Files) (file : TableFile) : Type 0 where
@@ -216,19 +296,25 @@ pub record IsFitFile (name : List ℕ) (files : Files) (file : TableFile) : Type
   pub at : IsTableAt file bytes
   pub fit : IsFit file
 
--- what `brain FILE` needs beside what its session does: a shelf that counts no fault in the run and tells its files, of which this
--- is one that fits
-pub record IsUnhinderedFile (name : List ℕ) (run : Run) (file : TableFile) : Type 0 where
+-- among these files the one with this name is not too long, and gives this to be held
+pub record GivesHeld (name : List ℕ) (files : Files) (file : HeldFile) : Type 0 where
+  pub bytes : List ℕ
+  pub found : file_under name files ≡ Some bytes
+  pub fits : length bytes ≤ MAX_INPUT_BYTES
+  pub at : IsHeldText file bytes
+
+-- what a command with a FILE needs of the shelf: it counts no fault in the run, and tells its files, of which one fits
+pub record IsUnhinderedShelf (Fits : Files → Type 0) (run : Run) : Type 0 where
   pub files : Files
   pub told : run.shelf.before ≡ Some files
-  pub fit : IsFitFile name files file
+  pub fit : Fits files
   pub shelf_sound : HasFailed run.shelf → ⊥
 
--- `brain FILE`, which serves by the table of each file that fits
+-- `brain FILE`, which serves by what each file gives to be held
 abbrev pub brain_with_command : List ℕ → Command
 brain_with_command name = record {
   words = brain_with_words name;
   in_range = IsFileName name;
   Does = IsBrainWith name;
-  Answers = λ run. (file : TableFile) → IsUnhinderedFile name run file → AnswersAll (held_by file) run;
+  Answers = λ run. (file : HeldFile) → IsUnhinderedShelf (λ files. GivesHeld name files file) run → AnswersAll (held_by file) run;
 }

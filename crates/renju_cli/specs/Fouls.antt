@@ -8,7 +8,6 @@ use Rattle.game_rules.specs.Play.{IsPosition, foul_of, mover}
 use Rattle.game_rules.specs.declared.RuleKind.{RuleKind}
 use Rattle.game_rules.specs.declared.Side.{Side}
 use Rattle.game_rules.specs.declared.Side.TheVariants.{Black, White}
-use Rattle.game_rules.specs.declared.Foul.{Foul}
 use Rattle.game_rules.specs.declared.Point.{Point}
 use Rattle.game_referee.specs.Lines.{foul_word}
 use Rattle.text_lines.specs.Lines.{ended}

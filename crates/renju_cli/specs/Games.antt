@@ -1,12 +1,10 @@
 -- What runs of `brain` and `brain FILE` show of the games that the brain plays, by a held root and by a win of its own. A session is
 -- seen by the commands of its lines: of those that were answered, and of all others.
-use Rattle.std.specs.Prelude.{◌≡◌, ◌⊎◌, ℕ, ◌≤◌, List, [], ◌∷◌, ◌++◌, map, Option, Some, IfSome, Contains, All}
+use Rattle.std.specs.Prelude.{◌≡◌, ◌⊎◌, ℕ, ◌≤◌, List, ◌∷◌, ◌++◌, Option, Some, IfSome, Contains, All}
 use Rattle.strategy_graph.specs.declared.Node.{Node}
 use Rattle.strategy_graph.specs.Tables.{depth}
 use Rattle.strategy_graph.specs.Roots.{RootWins}
-use Rattle.strategy_checker.specs.declared.held.HeldRoot.{HeldRoot}
 use Rattle.strategy_checker.specs.HeldRoots.{HeldTable}
-use Rattle.position_files.specs.declared.TableFile.{TableFile}
 use Rattle.renju_io.specs.Told.{Takes, TakesPart}
 use Rattle.renju_io.specs.Files.{Files}
 use Rattle.gomocup_text.specs.Commands.{commands}
@@ -26,7 +24,7 @@ use Rattle.renju_cli.specs.declared.status.Status.TheVariants.{Done, ReadFault, 
 use Rattle.renju_cli.specs.Statuses.{status_number}
 use Rattle.renju_cli.specs.Runs.{Run, HasFailed}
 use Rattle.renju_cli.specs.Forms.{HasWords}
-use Rattle.renju_cli.specs.Brains.{brain_words, brain_with_words, IsFileName, nothing_held, held_by, IsSession, IsUnbegun, IsFitFile}
+use Rattle.renju_cli.specs.Brains.{brain_words, brain_with_words, IsFileName, nothing_held, held_by, held_with, HeldFile, NamedRoot, IsSession, IsUnbegun, GivesHeld}
 
 -- the state of a brain that holds this after these commands
 abbrev pub state_told : HeldTable → List Asked → State
@@ -40,15 +38,6 @@ StandsBehind held before c later first =
     ≡ answers_from (new_brain held) before ++ first ∷ answers_from (brain_step (state_told held before) c).next later
 
 -- Games by a held root
-
--- a root, and the number of moves that is named for it
-pub record NamedRoot : Type 0 where
-  pub root : HeldRoot
-  pub moves : ℕ
-
--- what is held by a table and roots of it
-abbrev pub held_with : List Node → List NamedRoot → HeldTable
-held_with t named = record { table = t; roots = map (λ r. r.root) named }
 
 -- A held game goes well, which the command c begins after others: it is played by the table, and one of the roots leads there to the
 -- node that the brain follows, which is no deeper than the moves that are named for the root.
@@ -111,21 +100,18 @@ pub record AnsweredLines (held : HeldTable) (run : Run) (bytes : List ℕ) : Typ
 
 -- What the clauses say
 
--- the one root of a text, with the moves that the text names
-abbrev pub named_root : TableFile → NamedRoot
-named_root file = record { root = record { root = file.root; kind = file.kind; board = file.board }; moves = file.moves }
-
--- What holds where a FILE fits: a brain plays by its root so; and the input was served by it, so that lines were answered, whatever
--- the session ended with, unless the shelf failed or memory ran out before.
-pub record IsPlayedBy (file : TableFile) (run : Run) : Type 0 where
-  pub plays : PlaysByRoots file.table (named_root file ∷ [])
+-- What holds where a FILE gives something to be held: a brain plays by its roots so; and the input was served by it, so that lines
+-- were answered, whatever the session ended with, unless the shelf failed or memory ran out before.
+pub record IsPlayedBy (file : HeldFile) (run : Run) : Type 0 where
+  pub plays : PlaysByRoots file.table file.roots
   pub ends : IsSession (held_by file) run.input run.output run.status ⊎ HasFailed run.shelf ⊎ IsUnbegun run.input run.output run.status
   pub answered : IsSession (held_by file) run.input run.output run.status → IfSome run.input.before (AnsweredLines (held_by file) run)
 
--- Where a session ended, or the input failed, FILE fits; and of each file that fits this holds.
+-- Where a session ended, or the input failed, FILE is the text of a table or of a book that is accepted; and of what each such file gives
+-- this holds.
 pub record ShowsGames (name : List ℕ) (files : Files) (run : Run) : Type 0 where
-  pub fits : (run.status ≡ status_number Done) ⊎ (run.status ≡ status_number ReadFault) → (file : TableFile) × IsFitFile name files file
-  pub plays : (file : TableFile) → IsFitFile name files file → IsPlayedBy file run
+  pub fits : (run.status ≡ status_number Done) ⊎ (run.status ≡ status_number ReadFault) → (file : HeldFile) × GivesHeld name files file
+  pub plays : (file : HeldFile) → GivesHeld name files file → IsPlayedBy file run
 
 -- The headline of the brain: what `brain FILE` shows of the games that it plays by FILE, where the shelf tells its files.
 abbrev pub ShowsHeldGames : Run → Type 0
@@ -141,9 +127,9 @@ pub record PlaysOwnWins (run : Run) : Type 0 where
   pub answered : IsSession nothing_held run.input run.output run.status → IfSome run.input.before (AnsweredLines nothing_held run)
 
 -- What `brain` and `brain FILE` show of the games that the brain plays by wins of its own, of which those of `brain FILE` are games of a
--- brain that holds a FILE that fits.
+-- brain that holds what a FILE gives.
 pub record ShowsOwnGames (run : Run) : Type 0 where
   pub alone : HasWords run.words brain_words (Unit {0}) → PlaysOwnWins run
   pub with_file : (name : List ℕ) → HasWords run.words (brain_with_words name) (IsFileName name)
-      → IfSome run.shelf.before (λ files. (file : TableFile) → IsFitFile name files file → (asked : List Asked)
+      → IfSome run.shelf.before (λ files. (file : HeldFile) → GivesHeld name files file → (asked : List Asked)
       → OwnGamesGoWellIn (held_by file) asked)

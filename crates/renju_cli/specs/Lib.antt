@@ -12,6 +12,7 @@ pub mod Searches
 pub mod Fours
 pub mod Threats
 pub mod Solves
+pub mod Books
 pub mod Brains
 pub mod Games
 pub mod Drills

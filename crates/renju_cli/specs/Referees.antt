@@ -1,5 +1,5 @@
 -- The command `referee`: its words, what it says of a game, how it goes with a FILE, and what its runs show.
-use Rattle.std.specs.Prelude.{◌≡◌, ◌⊎◌, ℕ, ◌≤◌, List, [], ◌∷◌, ◌++◌, codes, length, Option, Some, IfSome}
+use Rattle.std.specs.Prelude.{◌≡◌, ◌⊎◌, ℕ, ◌≤◌, List, [], ◌∷◌, ◌++◌, codes, length, IfSome}
 use Rattle.std.specs.Fmt.{decimal}
 use Rattle.game_rules.specs.Grid.{Grid}
 use Rattle.game_rules.specs.Play.{IsPosition}
@@ -33,7 +33,7 @@ use Rattle.renju_cli.specs.Forms.{Command, HasWords}
 use Rattle.renju_cli.specs.Told.{AnswersTold, EndsTold, ToldCommand}
 use Rattle.renju_cli.specs.Refusals.{IsRefusedText}
 use Rattle.renju_cli.specs.Checks.{IsTableAt}
-use Rattle.renju_cli.specs.Brains.{IsFileName, IsFit, IsFitFile, IsLoaded, IsUnbegun, IsUnhinderedFile, TellsFile, held_by}
+use Rattle.renju_cli.specs.Brains.{IsFileName, IsFit, IsFitFile, IsLoaded, IsUnbegun, IsUnhinderedShelf, TableFileSays, TellsFile, held_by, of_table}
 
 -- the words `referee`
 abbrev pub referee_words : List (List ℕ)
@@ -122,7 +122,7 @@ ComparesSays file input status text =
 
 -- the same, said of what is held by the table of a FILE
 abbrev pub HeldSays : HeldTable → List ℕ → Status → List ℕ → Type 0
-HeldSays held input status text = (file : TableFile) → held ≡ held_by file → ComparesSays file input status text
+HeldSays held input status text = (file : TableFile) → held ≡ held_by (of_table file) → ComparesSays file input status text
 
 -- the bytes of FILE are the text of a table that is accepted, and only then the input is read, and judged beside it
 pub record RefereesByFile (name : List ℕ) (run : Run) : Type 0 where
@@ -137,7 +137,7 @@ pub record RefereesByFile (name : List ℕ) (run : Run) : Type 0 where
 -- What `referee FILE` does in a run: it judges beside the table of the file, or tells why it does not and leaves the input unasked,
 -- or memory ran out before.
 abbrev pub IsRefereeWith : List ℕ → Run → Type 0
-IsRefereeWith name run = RefereesByFile name run ⊎ TellsFile name run ⊎ IsUnbegun run.input run.output run.status
+IsRefereeWith name run = RefereesByFile name run ⊎ TellsFile TableFileSays name run ⊎ IsUnbegun run.input run.output run.status
 
 -- `referee FILE` as a command that is told its input, once FILE is accepted: it answers for each game from a lawful position
 abbrev pub compares_command : List ℕ → TableFile → ToldCommand
@@ -155,7 +155,7 @@ referee_with_command name = record {
   words = referee_with_words name;
   in_range = IsFileName name;
   Does = IsRefereeWith name;
-  Answers = λ run. (file : TableFile) → IsUnhinderedFile name run file → AnswersTold (compares_command name file) run;
+  Answers = λ run. (file : TableFile) → IsUnhinderedShelf (λ files. IsFitFile name files file) run → AnswersTold (compares_command name file) run;
 }
 
 -- FILE fits, the input is a game, and the output took the verdict and the line of the table, whole. Where that line says that the

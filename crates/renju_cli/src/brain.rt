@@ -1,6 +1,7 @@
 //! The command `brain`: a player under the Gomocup protocol, which may hold a table.
 //!
-//! The text of FILE is loaded, read and checked, and only an accepted table is held. Then the lines of the input are served.
+//! The text of FILE, of a table or of a book, is loaded, read and checked, and only what is accepted is held. Then the lines of the
+//! input are served.
 #![tactic(auto)]
 
 ghost use Rattle.std.specs.Prelude.{◌≡◌, ◌≢◌, ◌∷◌, ℕ, List, codes, map, MatchOption, string_bytes};
@@ -12,7 +13,7 @@ ghost use Rattle.renju_cli.specs.Runs.{change, run_of};
 ghost use Rattle.renju_cli.specs.Brains.{session_status, EndsBrain, IsBrainWith};
 ghost use Rattle.renju_cli.specs.Commands.{IsForm, HasForm};
 
-use crate::loading::{Loaded, SHELF_FAILED, load};
+use crate::loading::{Loaded, SHELF_FAILED, load_any};
 use crate::told::{TOO_LONG, deliver};
 use crate::{Form, Status};
 use brain_session::{Brain, ServeError, serve};
@@ -31,8 +32,8 @@ pub(crate) fn form(rest: &[String]) -> Option<Form>
     }
 }
 
-/// `brain FILE`: serves the input by a brain that holds the table of the file, once it is accepted, and else writes why it is not
-/// held. The input is asked only by a brain that holds the table.
+/// `brain FILE`: serves the input by a brain that holds the table of the file, or a book with all its entries, once it is accepted,
+/// and else writes why it is not held. The input is asked only by a brain that holds it.
 #[inline(never)]
 pub(crate) fn play_with<I: Source, O: Sink, F: Shelf>(
     alloc: Global,
@@ -54,7 +55,7 @@ pub(crate) fn play_with<I: Source, O: Sink, F: Shelf>(
         → HasStayed (F.faults shelf.old) (F.faults shelf.new) }
 {
     match shelf.load(alloc, file) {
-        Ok(bytes) => match load(alloc, bytes.as_slice()) {
+        Ok(bytes) => match load_any(alloc, bytes.as_slice()) {
             Ok(Loaded::Holds(held)) => play(alloc, Some(held), input, output),
             Ok(Loaded::Tells(answer)) => deliver(answer.status, answer.text.as_slice(), output),
             Err(_) => Status::Memory,

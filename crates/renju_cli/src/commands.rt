@@ -9,6 +9,7 @@ ghost use Rattle.renju_cli.specs.Runs.{change, run_of, KeepsDevices};
 ghost use Rattle.renju_cli.specs.Commands.{IsForm, HasForm};
 ghost use Rattle.renju_cli.specs.Reports.{Report};
 
+use crate::book::CheckBook;
 use crate::brain::{play, play_with};
 use crate::check::Check;
 use crate::defend::Defend;
@@ -21,7 +22,7 @@ use crate::solve::Solve;
 use crate::threats::FindSequence;
 use crate::told::{deliver, tell};
 use crate::{
-    Status, brain, check, defend, drill as drill_words, fouls, fours, image, referee, solve,
+    Status, book, brain, check, defend, drill as drill_words, fouls, fours, image, referee, solve,
     threats,
 };
 use board_symmetry::Symmetry;
@@ -30,7 +31,7 @@ use std::alloc::Global;
 
 /// The line that words without a form are answered with.
 pub const USAGE: &str =
-    "usage: renju check WORK, foul, fours DEPTH NODES, threats LENGTH NODES, solve DEPTH NODES, brain [FILE], drill N, image SYMMETRY, referee [FILE], defend DEPTH NODES\n";
+    "usage: renju check WORK, foul, fours DEPTH NODES, threats LENGTH NODES, solve DEPTH NODES, brain [FILE], drill N, image SYMMETRY, referee [FILE], defend DEPTH NODES, book WORK\n";
 
 /// A form of words: the command and its numbers.
 #[derive(Clone, Copy, Debug, PartialEq, Eq)]
@@ -59,6 +60,8 @@ pub enum Form {
     RefereeWith,
     /// `defend DEPTH NODES`, with DEPTH and NODES as those of `fours`.
     Defend { depth: u32, nodes: u64 },
+    /// `book WORK`, with WORK as that of `check`.
+    Book { work: u64 },
 }
 
 /// The form that the words have, if they have one.
@@ -79,6 +82,7 @@ pub(crate) fn form_of(words: &[String]) -> Option<Form>
         "image" => image::form(rest),
         "referee" => referee::form(rest),
         "defend" => defend::form(rest),
+        "book" => book::form(rest),
         _ => None,
     }
 }
@@ -115,5 +119,6 @@ pub(crate) fn run<I: Source, O: Sink, F: Shelf>(
         Some(Form::Referee) => tell(alloc, &Referee, input, output),
         Some(Form::RefereeWith) => referee_with(alloc, words[1].as_str(), input, output, shelf),
         Some(Form::Defend { depth, nodes }) => tell(alloc, &Defend { depth, nodes }, input, output),
+        Some(Form::Book { work }) => tell(alloc, &CheckBook { work }, input, output),
     }
 }

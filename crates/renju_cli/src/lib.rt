@@ -6,6 +6,7 @@
 #![tactic(auto)]
 
 mod answer;
+mod book;
 mod brain;
 mod check;
 mod commands;

@@ -1,16 +1,18 @@
 //! A FILE of a command: its text is read, and its table is held once it is accepted.
 //!
-//! `brain FILE` plays by what is held, and `referee FILE` compares games with it. Each refusal of FILE comes before the input is
-//! asked.
+//! `brain FILE` plays by what is held, which may be that of a book with all its entries, and `referee FILE` compares games with a
+//! table. Each refusal of FILE comes before the input is asked.
 #![tactic(auto)]
 
 ghost use Rattle.std.specs.Prelude.{◌≡◌, true, length, IfOk};
 ghost use Rattle.game_rules.specs.Play.{IsPosition};
 ghost use Rattle.strategy_graph.specs.Roots.{root_below, root_depth};
-ghost use Rattle.renju_cli.specs.Brains.{IsLoadedText, IsLoadedFile};
+ghost use Rattle.table_book.specs.Books.{IsWellFormed};
+ghost use Rattle.renju_cli.specs.Brains.{IsLoadedBook, IsLoadedBookText, IsLoadedFile, IsLoadedHeld, IsLoadedText};
 
 use crate::Status;
 use crate::answer::{Answer, spent};
+use crate::book::{refused_book, refused_entry};
 use crate::check::refused_table;
 use crate::refusals::refused_text;
 use brain_session::BRAIN_WORK;
@@ -19,6 +21,7 @@ use position_files::{TableFile, read_table};
 use row_shapes::{Rule, under_rule};
 use std::alloc::{AllocError, Global};
 use strategy_checker::{Held, HeldError};
+use table_book::{Book, hold_book, is_book, read_book};
 
 /// What a shelf that failed is told.
 pub(crate) const SHELF_FAILED: &str = "shelf failed\n";
@@ -30,7 +33,39 @@ pub(crate) enum Loaded {
     Tells(Answer),
 }
 
-/// What comes of the text of a FILE.
+/// What comes of the text of a FILE that may be a table or a book, as its first line tells.
+pub(crate) fn load_any(alloc: Global, bytes: &[u8]) -> Result<Loaded, AllocError>
+    ensures loaded { IfOk result (IsLoadedHeld bytes.now) }
+{
+    if is_book(bytes) {
+        load_book(alloc, bytes)
+    } else {
+        load(alloc, bytes)
+    }
+}
+
+/// What comes of the text of a FILE that is to be a book.
+fn load_book(alloc: Global, bytes: &[u8]) -> Result<Loaded, AllocError>
+    ensures loaded { IfOk result (IsLoadedBookText bytes.now) }
+{
+    match read_book(alloc, bytes) {
+        Ok(book) => hold_entries(alloc, book),
+        Err(error) => Ok(Loaded::Tells(refused_book(alloc, error)?)),
+    }
+}
+
+/// Holds the table of a book, if the root of each entry is accepted at its position.
+fn hold_entries(alloc: Global, book: Book) -> Result<Loaded, AllocError>
+    requires well_formed { IsWellFormed book }
+    ensures loaded { IfOk result (IsLoadedBook book) }
+{
+    match hold_book(alloc, book, BRAIN_WORK) {
+        Ok(held) => Ok(Loaded::Holds(held)),
+        Err(error) => Ok(Loaded::Tells(refused_entry(alloc, error)?)),
+    }
+}
+
+/// What comes of the text of a FILE that is to be a table.
 pub(crate) fn load(alloc: Global, bytes: &[u8]) -> Result<Loaded, AllocError>
     ensures loaded { IfOk result (IsLoadedText bytes.now) }
 {

@@ -11,7 +11,7 @@ ghost use Rattle.renju_io.specs.Faults.{HasNotFallen, HasStayed};
 ghost use Rattle.renju_io.specs.Told.{GivesSome};
 ghost use Rattle.renju_cli.specs.Statuses.{status_number};
 ghost use Rattle.renju_cli.specs.Runs.{change, run_of};
-ghost use Rattle.renju_cli.specs.Brains.{held_by};
+ghost use Rattle.renju_cli.specs.Brains.{held_by, of_table};
 ghost use Rattle.renju_cli.specs.Referees.{IsCompared, IsJudged, IsRefereeWith, TellsTable, of_game, replay_line as replay_line_lem};
 ghost use Rattle.renju_cli.specs.Commands.{IsForm, HasForm};
 
@@ -157,7 +157,7 @@ fn judged_under<R: Rule>(alloc: Global, game: GameFile) -> Result<Answer, AllocE
 fn compared(alloc: Global, held: &Held, game: GameFile) -> Result<Answer, AllocError>
     requires lawful { IsPosition game.kind game.board }
     requires root { 0 < length held.now.roots }
-    ensures compared { IfOk result (λ answer. (file : TableFile) → held.now ≡ held_by file
+    ensures compared { IfOk result (λ answer. (file : TableFile) → held.now ≡ held_by (of_table file)
         → IsCompared file game answer.status answer.text.items) }
 {
     under_rule!(game.kind, compared_under(alloc, held, game))
@@ -168,7 +168,7 @@ fn compared_under<R: Rule>(alloc: Global, held: &Held, game: GameFile) -> Result
     requires kind { game.kind ≡ R.KIND }
     requires lawful { IsPosition game.kind game.board }
     requires root { 0 < length held.now.roots }
-    ensures compared { IfOk result (λ answer. (file : TableFile) → held.now ≡ held_by file
+    ensures compared { IfOk result (λ answer. (file : TableFile) → held.now ≡ held_by (of_table file)
         → IsCompared file game answer.status answer.text.items) }
 {
     let GameFile {
@@ -195,7 +195,7 @@ fn table_line<R: Rule>(
     moves: &[Point],
 ) -> Result<String, AllocError>
     requires root { 0 < length held.now.roots }
-    ensures line { IfOk result (λ text. (file : TableFile) → held.now ≡ held_by file
+    ensures line { IfOk result (λ text. (file : TableFile) → held.now ≡ held_by (of_table file)
         → TellsTable file R.KIND position.old moves.now (string_bytes text)) }
 {
     if held.kind(0) == R::KIND && held.board(0).same(position.board()) {

@@ -16,6 +16,7 @@ ghost use Rattle.renju_cli.specs.Referees.{ShowsReferee};
 ghost use Rattle.renju_cli.specs.Reports.{Report, IsComplete};
 ghost use Rattle.renju_cli.specs.Images.{ShowsImage};
 ghost use Rattle.renju_cli.specs.Defends.{ShowsDefence};
+ghost use Rattle.renju_cli.specs.Books.{ShowsBook};
 
 use crate::commands::run;
 use renju_io::{Shelf, Sink, Source};
@@ -25,8 +26,9 @@ use std::alloc::Global;
 /// the shelf, writes to the output, and answers the status to exit with.
 ///
 /// The status and the text that are due are those of `Status` and of the commands. Words without a form get the usage line
-/// and status 1, and leave the input unasked, as `drill` does. `check`, `foul`, `fours`, `threats`, `solve`, `image`, `referee` and
-/// `defend` speak of an input only once it was read to its end; a brain answers each line before it reads the next. Only `brain FILE` and `referee FILE`
+/// and status 1, and leave the input unasked, as `drill` does. `check`, `foul`, `fours`, `threats`, `solve`, `image`, `referee`,
+/// `defend` and `book` speak of an input only once it was read to its end; a brain answers each line before it reads the next. Only
+/// `brain FILE` and `referee FILE`
 /// ask the shelf, before the input, and no command changes it. A failing output gives status 8 in place of the status that was due, and the output then has the front of the text; want of memory
 /// gives 6 and a failing input 7, and then nothing is written, or by a brain that serves the answers to the lines before.
 /// A status other than 7 says that the input counted no fault, one other than 8 that the output did not, and one that is
@@ -54,8 +56,8 @@ pub fn run_renju<I: Source, O: Sink, F: Shelf>(
     // or no room for a table; and where it is sure to find the win.
     ensures solved { ShowsSolution (run_of (map string_bytes words.now) (change I.left I.faults input.old input.new)
         (change O.written O.faults output.old output.new) (change F.files F.faults shelf.old shelf.new) result) }
-    // What `brain FILE` shows: where FILE is a table that is accepted, a game by it begins wherever its position is come to, and
-    // the games that are played by it are won.
+    // What `brain FILE` shows: where FILE is a table that is accepted, or a book of which each entry is, a game by a root of it begins
+    // wherever its position is come to, and the games that are played by it are won.
     ensures held_games { ShowsHeldGames (run_of (map string_bytes words.now) (change I.left I.faults input.old input.new)
         (change O.written O.faults output.old output.new) (change F.files F.faults shelf.old shelf.new) result) }
     // What `brain` and `brain FILE` show of the wins by fours that the brain finds itself: the games that are played by them are won.
@@ -75,6 +77,9 @@ pub fn run_renju<I: Source, O: Sink, F: Shelf>(
     // What statuses 0 and 5 of `defend` show: exactly the moves that hold against continuous fours, or an accepted table by which the
     // other side wins whatever is played first; or too small a budget after some move.
     ensures defended { ShowsDefence (run_of (map string_bytes words.now) (change I.left I.faults input.old input.new)
+        (change O.written O.faults output.old output.new) (change F.files F.faults shelf.old shelf.new) result) }
+    // What status 0 of `book` shows: each entry of the book is accepted and wins.
+    ensures booked { ShowsBook (run_of (map string_bytes words.now) (change I.left I.faults input.old input.new)
         (change O.written O.faults output.old output.new) (change F.files F.faults shelf.old shelf.new) result) }
     // A command with a lawful input, enough work and devices without a fault answers, unless memory runs out.
     ensures complete { IsComplete (run_of (map string_bytes words.now) (change I.left I.faults input.old input.new)

@@ -2,7 +2,7 @@ use Rattle.std.proofs.Common.{inl, inr, refl, ap, subst}
 use Rattle.std.specs.Prelude.{Err}
 use Rattle.renju_cli.specs.declared.status.Status.TheVariants.{ShelfFault, TooLong}
 use Rattle.renju_cli.specs.declared.loading.Loaded.{Loaded}
-use Rattle.renju_cli.specs.Brains.{IsLoadedText}
+use Rattle.renju_cli.specs.Brains.{IsLoadedHeld}
 use Rattle.renju_cli.proofs.BrainLaws.{long-file}
 use Rattle.renju_cli.proofs.brain.play_with.Goals as goal
 
@@ -14,7 +14,7 @@ returns-in-Ok-Tells-clause-plays g c = λ words. inr (inl (record {
     bytes = c.in-Ok.bytes.items;
     loaded = record { found = c.in-Ok.ensures.found; sound = c.in-Ok.ensures.uncounted };
     fits = c.in-Ok.ensures.short;
-    says = rw c.as_slice-in-Ok-Tells.ensures.value (rw (← c.as_slice.ensures.value) (subst (λ (l : Loaded). IsLoadedText c.as_slice.result.now l) c.in-Ok-Tells.field-0-is c.in-Ok-Tells.ensures.loaded));
+    says = rw c.as_slice-in-Ok-Tells.ensures.value (rw (← c.as_slice.ensures.value) (subst (λ (l : Loaded). IsLoadedHeld c.as_slice.result.now l) c.in-Ok-Tells.field-0-is c.in-Ok-Tells.ensures.loaded));
   });
   input = record { same = refl; faults = refl };
   delivered = c.deliver.ensures.delivered;

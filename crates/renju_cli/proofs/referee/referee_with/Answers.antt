@@ -1,11 +1,7 @@
-use Rattle.std.proofs.Common.{inl, inr, refl, ap, subst, ℕ, List}
+use Rattle.std.proofs.Common.{inl, inr, refl, ap, subst}
 use Rattle.std.specs.Prelude.{Err}
-use Rattle.strategy_checker.specs.HeldRoots.{HeldTable}
-use Rattle.renju_cli.specs.declared.status.Status.{Status}
 use Rattle.renju_cli.specs.declared.status.Status.TheVariants.{ShelfFault, TooLong}
 use Rattle.renju_cli.specs.declared.loading.Loaded.{Loaded}
-use Rattle.renju_cli.specs.Runs.{change}
-use Rattle.renju_cli.specs.Statuses.{status_number}
 use Rattle.renju_cli.specs.Brains.{IsLoadedText}
 use Rattle.renju_cli.specs.Referees.{ComparesSays, HeldSays}
 use Rattle.renju_cli.proofs.BrainLaws.{long-file}
