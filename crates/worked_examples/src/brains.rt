@@ -1,6 +1,7 @@
 //! The command `brain`: sessions over lines in memory, of brains that hold a table and of one that holds nothing.
 #![tactic(auto)]
 
+use crate::inputs::TWO_ENTRIES;
 use crate::runs::{Failing, Run, SOUND};
 use renju_cli::run_renju;
 use renju_io::{MemoryFile, MemoryShelf, MemorySink, MemorySource, read_all};
@@ -28,7 +29,7 @@ pub struct Session {
 const PLAYED_OUT: &str =
     "START 15\nINFO rule 4\nBOARD\n3,3,1\n4,3,1\n5,3,1\n12,14,1\n14,14,1\n7,0,2\n7,1,2\n7,2,2\n2,3,2\n7,4,2\n7,5,2\nDONE\nTURN 0,14\nTURN 1,14\nEND\n";
 
-const SESSIONS: [Session; 13] = [
+const SESSIONS: [Session; 17] = [
     Session {
         name: "a held win in two moves",
         words: ["brain", "t"],
@@ -68,6 +69,38 @@ const SESSIONS: [Session; 13] = [
         lines: "START 15\nBOARD\n5,7,1\n6,7,1\n7,7,1\n0,0,2\n2,0,2\n4,0,2\nDONE\nTURN 0,14\nTAKEBACK 3,7\nTAKEBACK 0,14\nTURN 1,14\nEND\n",
         status: 0,
         output: "OK\r\n4,7\r\n3,7\r\nOK\r\nOK\r\n8,7\r\n",
+    },
+    Session {
+        name: "two entries of a book, each at its position",
+        words: ["brain", "t"],
+        file: TWO_ENTRIES,
+        lines: "START 15\nBOARD\n5,7,1\n6,7,1\n7,7,1\n0,0,2\n2,0,2\n4,0,2\nDONE\nTURN 0,14\nTAKEBACK 3,7\nTAKEBACK 0,14\nTURN 1,14\nEND\n",
+        status: 0,
+        output: "OK\r\n4,7\r\n3,7\r\nOK\r\nOK\r\n8,7\r\n",
+    },
+    Session {
+        name: "the first of two entries at one position",
+        words: ["brain", "t"],
+        file: "renju-book 1\nnodes 2\n3,7 wins\n8,7 wins\nentries 2\nrule freestyle\nsize 15\nblack 4,7 5,7 6,7 7,7\nwhite 0,0 2,0 4,0 6,0\nmoves 1\nroot 1\nrule freestyle\nsize 15\nblack 4,7 5,7 6,7 7,7\nwhite 0,0 2,0 4,0 6,0\nmoves 1\nroot 0\n",
+        lines: "START 15\nBOARD\n4,7,1\n5,7,1\n6,7,1\n7,7,1\n0,0,2\n2,0,2\n4,0,2\n6,0,2\nDONE\nEND\n",
+        status: 0,
+        output: "OK\r\n8,7\r\n",
+    },
+    Session {
+        name: "a book with an entry that is not accepted",
+        words: ["brain", "t"],
+        file: "renju-book 1\nnodes 1\n8,7 wins\nentries 2\nrule freestyle\nsize 15\nblack 4,7 5,7 6,7 7,7\nwhite 0,0 2,0 4,0 6,0\nmoves 1\nroot 0\nrule freestyle\nsize 15\nblack\nwhite\nmoves 1\nroot 0\n",
+        lines: PLAYED_OUT,
+        status: 4,
+        output: "entry 2 refused not-won 8,7\n",
+    },
+    Session {
+        name: "a book without its entries",
+        words: ["brain", "t"],
+        file: "renju-book 1\nnodes 1\n8,7 wins\n",
+        lines: PLAYED_OUT,
+        status: 3,
+        output: "refused line 4\n",
     },
     Session {
         name: "a file that is no table",

@@ -2,7 +2,7 @@
 #![tactic(auto)]
 
 use crate::brains::{Session, serve};
-use crate::inputs::{BLOCK_FOULS_TABLE, ONE_ANSWER_WRONG, TWO_MOVES_TABLE};
+use crate::inputs::{BLOCK_FOULS_TABLE, ONE_ANSWER_WRONG, TWO_ENTRIES, TWO_MOVES_TABLE};
 use crate::runs::{Example, Failing, SOUND, answers_as_worked_out};
 use std::test::Fail;
 
@@ -83,7 +83,7 @@ const FOLLOWED: &str =
 /// What is no text.
 const NO_TEXT: &str = "no text";
 
-const BESIDE_TABLES: [Session; 13] = [
+const BESIDE_TABLES: [Session; 14] = [
     Session {
         name: "a game that is won by the table",
         words: ["referee", "t"],
@@ -176,6 +176,14 @@ const BESIDE_TABLES: [Session; 13] = [
         name: "a file that is a game",
         words: ["referee", "t"],
         file: FOLLOWED,
+        lines: FOLLOWED,
+        status: 3,
+        output: "refused line 1\n",
+    },
+    Session {
+        name: "a file that is a book",
+        words: ["referee", "t"],
+        file: TWO_ENTRIES,
         lines: FOLLOWED,
         status: 3,
         output: "refused line 1\n",
