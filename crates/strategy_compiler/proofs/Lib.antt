@@ -12,6 +12,9 @@ mod Walking
 mod Places
 mod Copying
 mod Starting
+-- nodes handed over; nodes unfolded, which a copy keeps and which tell the nodes of a compiler apart
+mod Adopting
+pub mod Unfolding
 -- nodes that win
 pub mod Forks
 -- the table of a tree is one

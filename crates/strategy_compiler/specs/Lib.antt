@@ -6,3 +6,4 @@ pub mod Starts
 pub mod Wins
 pub mod Growth
 pub mod Forks
+pub mod Unfolded

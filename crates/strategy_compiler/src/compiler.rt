@@ -20,7 +20,7 @@ ghost use Rattle.strategy_compiler.specs.Forks.{WinsAtOnce, WinsByAnswers};
 ghost use Rattle.strategy_compiler.specs.Nodes.{IsCompiled, NamesOnly, PutsIn, answering_node, winning_node};
 
 use crate::WrittenWin;
-use crate::renumbering::made_from;
+use crate::renumbering::{add, made_from};
 use crate::rests::answering;
 use crate::starts::start_from;
 use game_rules::Point;
@@ -141,6 +141,37 @@ impl Compiler {
             return Err(CompileError::Memory);
         };
         put_in(&mut self.nodes, node)
+    }
+
+    /// Puts the node in as it is, and answers its number: that of the equal node that is there already, or that of the new one,
+    /// which is the last. It is a node of a table: it names only nodes of the compiler, its replies rise strictly in reading
+    /// order, and a winning node lists none. After an `Err` the node is gone, and the nodes are as they were:
+    ///
+    /// - `Full`, exactly where the node is new and the compiler has `MAX_NODES` nodes;
+    /// - `Memory`, where there is no memory for it.
+    pub fn adopt(&mut self, given: Node) -> Result<u32, CompileError>
+        requires node { IsNode given (length self.old) }
+        ensures node { IfOk result (λ i. slice_get self.new i ≡ Some given) }
+        ensures put_in { OnOk result (PutsIn self.old given self.new) }
+        ensures full { IsErrOf result CompileError.Full
+            ↔ ((¬ Contains self.old given) × (length self.old ≡ MAX_NODES)) }
+        ensures unchanged { OnErr result (self.new ≡ self.old) }
+        ensures compiled { IsCompiled self.new }
+    {
+        put_in(&mut self.nodes, given)
+    }
+
+    /// The table of all nodes, with their numbers: no two are equal. After an `Err` the compiler is gone.
+    pub fn into_table(self) -> Result<Table, AllocError>
+        ensures nodes { IfOk result (λ t. t ≡ self) }
+        ensures compiled { IfOk result IsCompiled }
+    {
+        let Compiler { nodes } = self;
+        let mut table = Table::new(*nodes.allocator());
+        for node in nodes {
+            add(&mut table, node)?;
+        }
+        Ok(table)
     }
 
     /// The table of the nodes that the root reaches, numbered as each is completed in a walk from the root, which visits at each

@@ -22,7 +22,12 @@ mod wins;
 
 pub use compiler::{CompileError, Compiler};
 pub use error::SearchError;
-pub use theorems::{growth_keeps_reach, growth_keeps_trees, growth_keeps_wins, tree_has_one_table};
+pub use renumbering::renumbered;
+pub use starts::renumbered_start;
+pub use theorems::{
+    different_nodes_are_apart, growth_keeps_reach, growth_keeps_trees, growth_keeps_wins,
+    tree_has_one_table,
+};
 pub use win_nodes::answer_node;
 pub use wins::WrittenWin;
 

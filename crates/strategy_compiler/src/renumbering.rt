@@ -62,8 +62,8 @@ pub(crate) fn renumbered_rest(rest: Rest, places: &[u32]) -> Rest
     }
 }
 
-/// The node, with the place of each number that it names.
-fn renumbered(alloc: Global, node: &Node, places: &[u32]) -> Result<Node, AllocError>
+/// The node, with the place of each number that it names: the number that stands in the list at that number.
+pub fn renumbered(alloc: Global, node: &Node, places: &[u32]) -> Result<Node, AllocError>
     requires below { names_below (answers_of node.now) (length places.now) ≡ true }
     ensures node { IfOk result (λ n. n ≡ renumbered_node (λ j. slice_index places.now j) node.now) }
 {
@@ -76,7 +76,7 @@ fn renumbered(alloc: Global, node: &Node, places: &[u32]) -> Result<Node, AllocE
 }
 
 /// Adds the node at the end of the table, which has room for it.
-fn add(table: &mut Table, node: Node) -> Result<(), AllocError>
+pub(crate) fn add(table: &mut Table, node: Node) -> Result<(), AllocError>
     requires node { IsNode node (length table.old) }
     requires room { length table.old < MAX_NODES }
     ensures added { OnOk result (table.new ≡ table.old ++ node ∷ []) }

@@ -29,8 +29,9 @@ fn visited(alloc: Global, replies: &Replies, rest: Rest) -> Result<Vec<u32>, All
     Ok(roots)
 }
 
-/// The start with these replies and this rest, with the place of each number that they name.
-fn renumbered_start(
+/// The start with these replies and this rest, with the place of each number that they name: the number that stands in the list
+/// at that number. The replies rise strictly in reading order, and the rest is not that of a winning node.
+pub fn renumbered_start(
     alloc: Global,
     replies: &Replies,
     rest: Rest,

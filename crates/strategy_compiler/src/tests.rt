@@ -8,7 +8,7 @@ use game_rules::Point;
 use std::alloc::{AllocError, Global};
 use std::process::Abort;
 use std::test::Fail;
-use strategy_graph::{MAX_NODES, Replies, Reply, Rest, Start, Table};
+use strategy_graph::{MAX_NODES, Node, Replies, Reply, Rest, Start, Table};
 
 fn point(x: u8, y: u8) -> Point {
     Point { x, y }
@@ -45,6 +45,26 @@ fn put_after(compiler: &mut Compiler, next: u32) -> Result<u32, CompileError>
             next,
         }],
     )
+}
+
+/// Adopts the winning node with this attack.
+fn adopt_win(compiler: &mut Compiler, alloc: Global, attack: Point) -> Result<u32, CompileError> {
+    compiler.adopt(Node {
+        attack,
+        replies: Replies::new(alloc),
+        rest: Rest::Wins,
+    })
+}
+
+/// Adopts the node that answers every reply by this node.
+fn adopt_after(compiler: &mut Compiler, alloc: Global, next: u32) -> Result<u32, CompileError>
+    requires below { next < length compiler.old }
+{
+    compiler.adopt(Node {
+        attack: point(4, 7),
+        replies: Replies::new(alloc),
+        rest: Rest::To(next),
+    })
 }
 
 fn finished(rt: &impl Abort, compiler: Compiler, root: u32) -> Result<Table, AllocError> {
@@ -252,6 +272,32 @@ fn a_search_fails_as_its_compiler(rt: HostRuntime) -> Result<(), Fail> {
     Ok(())
 }
 
+#[test]
+fn nodes_are_adopted_as_they_are_and_each_once(rt: HostRuntime) -> Result<(), Fail> {
+    let alloc = rt.alloc();
+    let mut compiler = Compiler::new(alloc);
+    let put = compiler.winning(point(3, 7))?;
+    let found = adopt_win(&mut compiler, alloc, point(3, 7))?;
+    let other = adopt_win(&mut compiler, alloc, point(8, 7))?;
+    assert_eq!(rt; (put, found, other), (0, 0, 1));
+    let len = compiler.len();
+    assert!(rt; other < len);
+    let after = adopt_after(&mut compiler, alloc, other)?;
+    let len = compiler.len();
+    assert!(rt; other < len);
+    let again = adopt_after(&mut compiler, alloc, other)?;
+    assert_eq!(rt; (after, again), (2, 2));
+
+    // Every node is handed over, also those that the last one does not reach.
+    let table = compiler.into_table()?;
+    let expected = [point(3, 7), point(8, 7), point(4, 7)];
+    assert_eq!(rt; attacks(alloc, &table)?.as_slice(), expected.as_slice());
+    let len = table.len();
+    assert!(rt; len == 3);
+    assert_eq!(rt; table.node(2).rest, Rest::To(1));
+    Ok(())
+}
+
 /// A compiler that is full, with one chain of nodes, and the number of the last.
 fn full_chain(rt: &impl Abort, alloc: Global) -> Result<Compiler, CompileError> {
     let mut compiler = Compiler::new(alloc);
@@ -275,6 +321,12 @@ fn a_chain_of_a_million_nodes_is_finished(rt: HostRuntime) -> Result<(), Fail> {
     assert!(rt; len == MAX_NODES);
     let refused = put_after(&mut compiler, MAX_NODES - 1);
     assert_eq!(rt; refused, Err(CompileError::Full));
+    let found = adopt_win(&mut compiler, rt.alloc(), point(4, 7));
+    assert_eq!(rt; found, Ok(0));
+    let refused = adopt_win(&mut compiler, rt.alloc(), point(0, 0));
+    assert_eq!(rt; refused, Err(CompileError::Full));
+    let len = compiler.len();
+    assert!(rt; len == MAX_NODES);
     let table = finished(&rt, compiler, MAX_NODES - 1)?;
     let len = table.len();
     assert!(rt; len == MAX_NODES);

@@ -6,6 +6,7 @@
 ghost use Rattle.strategy_compiler.specs.Trees.{GrowthKeepsTrees};
 ghost use Rattle.strategy_compiler.specs.Walks.{GrowthKeepsReach, TreeHasOneTable};
 ghost use Rattle.strategy_compiler.specs.Wins.{GrowthKeepsWins};
+ghost use Rattle.strategy_compiler.specs.Unfolded.{DifferentNodesAreApart};
 
 /// A node stands for the same trees in each table that begins with this one.
 pub fn growth_keeps_trees()
@@ -25,4 +26,9 @@ pub fn growth_keeps_wins()
 /// The table of a tree is one and the same, however it was compiled.
 pub fn tree_has_one_table()
     ensures one { TreeHasOneTable }
+{}
+
+/// No two nodes of a compiler are the same, even by what the nodes that they name say.
+pub fn different_nodes_are_apart()
+    ensures apart { DifferentNodesAreApart }
 {}
