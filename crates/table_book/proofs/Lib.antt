@@ -11,3 +11,8 @@ pub mod Beginnings
 pub mod Soundness
 mod Holds
 mod Growth
+-- nodes that are adopted, and what a binder holds of files
+mod Adopting
+mod Bound
+-- files that are bound into a book one after the other
+pub mod Binding

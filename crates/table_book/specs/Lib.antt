@@ -3,3 +3,4 @@ pub mod Sections
 pub mod Faults
 pub mod Holding
 pub mod ReadBack
+pub mod Binding

@@ -6,6 +6,7 @@
 //! is refused is told by its number, counted from 1.
 #![tactic(auto)]
 
+mod binder;
 mod entries;
 mod entry_lines;
 mod error;
@@ -16,6 +17,7 @@ mod tests;
 mod theorems;
 mod writing;
 
+pub use binder::{BindError, Binder};
 pub use entries::Entries;
 pub use error::{BookError, HoldError};
 use game_rules::RuleKind;

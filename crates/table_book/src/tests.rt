@@ -1,10 +1,11 @@
 //! Texts of books that were worked out by hand, and what is said of them.
 
 use crate::{
-    Book, BookError, HoldError, books_read_back, check_book, hold_book, is_book, read_book,
-    write_book,
+    Binder, Book, BookError, HoldError, MAX_ENTRIES, books_read_back, check_book, hold_book,
+    is_book, read_book, write_book,
 };
 use foul_judge::PositionError;
+use position_files::read_table;
 use std::alloc::Global;
 use std::process::Abort;
 use std::test::Fail;
@@ -202,4 +203,64 @@ fn an_entry_that_is_not_accepted_is_named(rt: HostRuntime) -> Result<(), Fail> {
 /// Whether it is entry 2 that is refused.
 fn refuses_second(error: Option<HoldError>) -> bool {
     matches!(error, Some(HoldError::Refused { entry: 2, .. }))
+}
+
+/// Adds the table of the text to those that are bound.
+fn bind(rt: &impl Abort, alloc: Global, binder: &mut Binder, texts: &[&str]) -> Result<(), Fail> {
+    let text = joined(alloc, texts)?;
+    let file = read_table(alloc, text.as_slice())?;
+    let len = binder.len();
+    assert!(rt; len < MAX_ENTRIES as usize);
+    binder.add(file)?;
+    Ok(())
+}
+
+/// The text of the book of what is bound.
+fn bound(rt: &impl Abort, alloc: Global, binder: Binder) -> Result<Vec<u8>, Fail> {
+    let len = binder.len();
+    assert!(rt; 0 < len);
+    let book = binder.finish()?;
+    Ok(write_book(alloc, &book)?)
+}
+
+/// The table of the first entry.
+const THREE_NODES: &str = "moves 2\nnodes 3\n3,7 wins\n8,7 wins\n4,7 rest 0 3,7>1\n";
+
+#[test]
+fn files_are_bound_with_their_nodes_shared(rt: HostRuntime) -> Result<(), Fail> {
+    let alloc = rt.alloc();
+    let mut binder = Binder::new(alloc);
+    bind(
+        &rt,
+        alloc,
+        &mut binder,
+        &["renju-table 1\n", THREE, THREE_NODES],
+    )?;
+
+    // The nodes of the second are two of the first, in the other order.
+    let two = "moves 1\nnodes 2\n8,7 wins\n3,7 wins\nstart rest 0 8,7>1\n";
+    bind(&rt, alloc, &mut binder, &["renju-table 2\n", FOUR, two])?;
+    let written = bound(&rt, alloc, binder)?;
+    let expected = two_entries(alloc)?;
+    assert!(rt; written.as_slice() == expected.as_slice());
+    Ok(())
+}
+
+#[test]
+fn a_file_that_is_bound_twice_is_two_entries(rt: HostRuntime) -> Result<(), Fail> {
+    let alloc = rt.alloc();
+    let mut binder = Binder::new(alloc);
+    for _ in 0..2 {
+        bind(
+            &rt,
+            alloc,
+            &mut binder,
+            &["renju-table 1\n", THREE, THREE_NODES],
+        )?;
+    }
+    let written = bound(&rt, alloc, binder)?;
+    let entry = "moves 2\nroot 2\n";
+    let expected = joined(alloc, &[NODES, "entries 2\n", THREE, entry, THREE, entry])?;
+    assert!(rt; written.as_slice() == expected.as_slice());
+    Ok(())
 }

@@ -1,0 +1,335 @@
+-- The nodes of a table, adopted one after the other: each is a copy under its new number, and is the same node. So what is held is
+-- what was held before, and the nodes of the table.
+use Rattle.std.proofs.Common.{◌≡◌, ◌⊎◌, inl, inr, ℕ, zero, suc, ◌<◌, ◌≤◌, ◌+◌, Bool, true, List, [], ◌∷◌, ◌++◌, length, refl, sym, ap, subst, ◌∙◌, arith, Option, Some, None, nat_lt, slice_get, slice_index, get_or, Contains, length-append, append-nil, append_assoc, Result, Ok, Err}
+use Rattle.std.specs.Result.{IsErrAnd}
+use Rattle.std.specs.List.{list_all, AllByRecursion}
+use Rattle.std.proofs.lemmas.Bool.{cases_lt}
+use Rattle.std.proofs.lemmas.List.{get_or_append_left, get_or_push}
+use Rattle.std.proofs.lemmas.Option.{slice_get_within, slice_get_read, same_Some}
+use borrow.Author.Tests.{ltb-true, lt-ltb}
+use Rattle.game_rules.specs.declared.TheConstants.{MAX_SIDE}
+use Rattle.game_rules.specs.Grid.{Grid}
+use Rattle.position_files.specs.Answers.{NodeFits}
+use Rattle.position_files.proofs.Completions.{node_fits}
+use Rattle.position_files.proofs.SectionLaws.{nodes_on}
+use Rattle.strategy_graph.specs.declared.Node.{Node}
+use Rattle.strategy_graph.specs.declared.TheConstants.{MAX_NODES}
+use Rattle.strategy_graph.proofs.Common.{IsNode, IsTable, NamesLower, NamesOnBoard, answers_of, named, names_below, renumbered_node}
+use Rattle.strategy_graph.proofs.Answering.{replies-on}
+use Rattle.strategy_graph.proofs.Copies.{Copies}
+use Rattle.strategy_graph.proofs.Filling.{IsTable-lower, last_node, names_below-more}
+use Rattle.strategy_graph.proofs.Naming.{slice_get-longer}
+use Rattle.strategy_graph.proofs.Renumbering.{IsNode-renumbered, points-renumbered, renumbered-agree}
+use Rattle.strategy_compiler.proofs.Common.{AreDifferent, IsCompiled, PutsIn}
+use Rattle.strategy_compiler.proofs.Unfolding.{node-inside, unfolded-copied, unfolded-longer, held-one_more, held-within}
+use Rattle.strategy_compiler.specs.Unfolded.{Unfolded, IsHeld, HoldMore, unfolded}
+use Rattle.strategy_compiler.specs.declared.compiler.CompileError.{CompileError}
+use Rattle.strategy_compiler.specs.declared.compiler.CompileError.TheVariants.{Full, Memory}
+use Rattle.table_book.specs.declared.binder.BindError.{BindError}
+use Rattle.table_book.specs.declared.binder.BindError.TheVariants.{Full as FullBook, Memory as NoMemory}
+use Rattle.table_book.specs.Binding.{AreNumbers, Stays, bind_error}
+
+-- what is known once the first i nodes of t are adopted
+pub record AdoptedUpTo (old t new : List Node) (numbers : List ℕ) (i : ℕ) : Type 0 where
+  pub count : length numbers ≡ i
+  pub copied : (j : ℕ) (n : Node) → j < i → slice_get t j ≡ Some n
+      → slice_get new (slice_index numbers j) ≡ Some (renumbered_node (λ j. slice_index numbers j) n)
+  pub compiled : IsCompiled new
+  pub more : List Node
+  pub grown : new ≡ old ++ more
+  pub held : (k : ℕ) → k < length new → IsHeld (old ∷ t ∷ []) (unfolded new k)
+  pub fit : AllByRecursion (NodeFits MAX_SIDE MAX_SIDE) new
+  pub covered : (k : ℕ) → length old ≤ k → k < length new → (p : ℕ) × (p < i) × (slice_index numbers p ≡ k)
+  pub in_order : (k q : ℕ) → length old ≤ k → q < i → slice_index numbers q ≡ suc k → (p : ℕ) × (p < q) × (slice_index numbers p ≡ k)
+
+-- ---- tables among one or two
+
+pub among-one : (u v : List Node) → Contains (u ∷ []) v → u ≡ v
+among-one u v (zero, l, e) = e
+among-one u v (suc k, l, e) = absurd (omega arith)
+
+pub among-two : (t u v : List Node) → Contains (t ∷ u ∷ []) v → (t ≡ v) ⊎ (u ≡ v)
+among-two t u v (zero, l, e) = inl e
+among-two t u v (suc zero, l, e) = inr e
+among-two t u v (suc (suc k), l, e) = absurd (omega arith)
+
+held-first : (t u : List Node) (k : ℕ) → k < length t → IsHeld (t ∷ u ∷ []) (unfolded t k)
+held-first t u k l = (t, k, (0, omega arith, refl), l, refl)
+
+held-second : (t u : List Node) (k : ℕ) (w : Unfolded) → k < length u → unfolded u k ≡ w → IsHeld (t ∷ u ∷ []) w
+held-second t u k w l e = (u, k, (1, omega arith, refl), l, e)
+
+-- ---- copies
+
+module _ (t u : List Node) (numbers : List ℕ) (i : ℕ) (table : IsTable t) (few : i ≤ length t) (copied : (j : ℕ) (n : Node) → j < i → slice_get t j ≡ Some n → slice_get u (slice_index numbers j) ≡ Some (renumbered_node (λ j. slice_index numbers j) n)) where
+  copies-by : Copies (λ j. slice_index numbers j) (λ j. nat_lt j i) t u
+  copies-by = record {
+    copied = λ j p.
+        let low : j < i = ltb-true _ _ p in
+        let n = node-inside t j (omega arith) in
+        (n.0, n.1, copied j n.0 low n.1, names_below-more (answers_of n.0) j i (omega arith) (table.nodes j n.0 n.1).below);
+  }
+
+  inside-by : (j : ℕ) → nat_lt j i ≡ true → slice_index numbers j < length u
+  inside-by j p =
+      let low : j < i = ltb-true _ _ p in
+      let n = node-inside t j (omega arith) in
+      slice_get_within u (slice_index numbers j) _ (copied j n.0 low n.1)
+
+-- ---- nodes within the largest board
+
+-- an empty board of the greatest width and height
+unfoldable pub largest : Grid
+largest = record { width = MAX_SIDE; height = MAX_SIDE; cells = [] }
+
+renumbered-fits : (f : ℕ → ℕ) (n : Node) (k : ℕ) → NodeFits MAX_SIDE MAX_SIDE n → IsNode (renumbered_node f n) k → k ≤ MAX_NODES
+    → NodeFits MAX_SIDE MAX_SIDE (renumbered_node f n)
+unfolding largest
+renumbered-fits f n k fits node few =
+    let on = nodes_on largest (n ∷ []) (fits, tt) in
+    let moved : NamesOnBoard largest (renumbered_node f n) =
+    record { attack = on.0.attack; replies = replies-on largest (renumbered_node f n).replies n.replies (points-renumbered f n.replies) on.0.replies } in
+    node_fits largest (renumbered_node f n) k moved node few
+
+all-push : (P : Node → Type 0) (ns : List Node) (n : Node) → AllByRecursion P ns → P n → AllByRecursion P (ns ++ n ∷ [])
+all-push P [] n all p = (p, tt)
+all-push P (m ∷ ns) n all p = (all.0, all-push P ns n all.1 p)
+
+all-at : (P : Node → Type 0) (ns : List Node) (i : ℕ) (n : Node) → AllByRecursion P ns → slice_get ns i ≡ Some n → P n
+all-at P [] i n all e = cc
+all-at P (m ∷ ns) zero n all e = subst P (same_Some m n e) all.0
+all-at P (m ∷ ns) (suc i) n all e = all-at P ns i n all.1 e
+
+-- ---- one node more
+
+-- before the first
+pub adopted-none : (old t new : List Node) (numbers : List ℕ) → IsCompiled old → AllByRecursion (NodeFits MAX_SIDE MAX_SIDE) old
+    → new ≡ old → numbers ≡ []
+    → AdoptedUpTo old t new numbers 0
+adopted-none old t new numbers compiled fit e none = record {
+  count = ap length none;
+  copied = λ j n l at. absurd (omega arith);
+  compiled = subst IsCompiled (sym e) compiled;
+  more = [];
+  grown = e ∙ sym (append-nil old);
+  held = λ k l. subst (λ (u : List Node). (k : ℕ) → k < length u → IsHeld (old ∷ t ∷ []) (unfolded u k)) (sym e) (λ k l. held-first old t k l) k l;
+  fit = subst (AllByRecursion (NodeFits MAX_SIDE MAX_SIDE)) (sym e) fit;
+  covered = λ k low high. let same : length new ≡ length old = ap length e in absurd (omega arith);
+  in_order = λ k q low high is. absurd (omega arith);
+}
+
+module _ (old t new : List Node) (numbers : List ℕ) (i : ℕ) (n m : Node) (h : AdoptedUpTo old t new numbers i) (table : IsTable t) (at : slice_get t i ≡ Some n) (is : m ≡ renumbered_node (λ j. slice_index numbers j) n) where
+  i-inside : i < length t
+  i-inside = slice_get_within t i n at
+
+  -- it names nodes that are there
+  pub adopt-node : IsNode m (length new)
+  adopt-node =
+      subst (λ (v : Node). IsNode v (length new)) (sym is)
+      (IsNode-renumbered (λ j. slice_index numbers j) (λ j. nat_lt j i) n i (length new) (table.nodes i n at)
+      (inside-by t new numbers i table (let l = i-inside in omega arith) h.copied) (table.nodes i n at).below)
+
+  module _ (x : ℕ) (numbers' : List ℕ) (pushed : numbers' ≡ numbers ++ x ∷ []) where
+    number-before : (j : ℕ) → j < i → slice_index numbers' j ≡ slice_index numbers j
+    number-before j l =
+        ap (λ (xs : List ℕ). slice_index xs j) pushed ∙ get_or_append_left numbers (x ∷ []) 0 j (let count = h.count in omega arith)
+
+    number-last : slice_index numbers' i ≡ x
+    number-last = ap (λ (xs : List ℕ). slice_index xs i) pushed ∙ get_or_push numbers x 0 i h.count
+
+    same-before : (j : ℕ) (v : Node) → j ≤ i → slice_get t j ≡ Some v
+        → renumbered_node (λ j. slice_index numbers j) v ≡ renumbered_node (λ j. slice_index numbers' j) v
+    same-before j v l e =
+        renumbered-agree (λ j. slice_index numbers j) (λ j. slice_index numbers' j) (λ k. nat_lt k j)
+        (λ k p. sym (number-before k (let low : k < j = ltb-true _ _ p in omega arith))) v (table.nodes j v e).below
+
+    -- the copies so far, and the new one, in nodes that have them
+    module _ (new' : List Node) (stay : (k : ℕ) (v : Node) → slice_get new k ≡ Some v → slice_get new' k ≡ Some v) (there : slice_get new' x ≡ Some m) where
+      copied-more : (j : ℕ) (v : Node) → j < i + 1 → slice_get t j ≡ Some v
+          → slice_get new' (slice_index numbers' j) ≡ Some (renumbered_node (λ j. slice_index numbers' j) v)
+      copied-more j v l e = by_place (cases_lt j i) where
+        by_place : (j < i) ⊎ (i ≤ j) → slice_get new' (slice_index numbers' j) ≡ Some (renumbered_node (λ j. slice_index numbers' j) v)
+        by_place (inl low) =
+            ap (slice_get new') (number-before j low) ∙ stay (slice_index numbers j) _ (h.copied j v low e)
+            ∙ ap Some (same-before j v (omega arith) e)
+        by_place (inr high) =
+            let last : i ≡ j = omega arith in
+            let same : n ≡ v = same_Some n v (sym at ∙ ap (slice_get t) last ∙ e) in
+            ap (λ (k : ℕ). slice_get new' (slice_index numbers' k)) (sym last) ∙ ap (slice_get new') number-last ∙ there
+            ∙ ap Some (is ∙ ap (renumbered_node (λ j. slice_index numbers j)) same ∙ same-before j v (omega arith) e)
+
+      -- the new one is node i of the table
+      copy-is : NamesLower new' → unfolded new' x ≡ unfolded t i
+      copy-is lower' =
+          ap (unfolded new') (sym number-last)
+          ∙ unfolded-copied (λ j. slice_index numbers' j) (λ j. nat_lt j (i + 1)) t new'
+          (copies-by t new' numbers' (i + 1) table (let l = i-inside in omega arith) copied-more) (IsTable-lower t table) lower' i (lt-more i) where
+            lt-more : (i : ℕ) → nat_lt i (i + 1) ≡ true
+            lt-more i = lt-ltb i (i + 1) (omega arith)
+
+  new-lower : NamesLower new
+  new-lower = IsTable-lower new h.compiled.table
+
+  grows-by : (new' : List Node) → PutsIn new m new' → (more' : List Node) × (new' ≡ new ++ more')
+  grows-by new' (inl k) = ([], k.1 ∙ sym (append-nil new))
+  grows-by new' (inr k) = (m ∷ [], k.1)
+
+  stays-by : (new' more' : List Node) → new' ≡ new ++ more' → (k : ℕ) (v : Node) → slice_get new k ≡ Some v → slice_get new' k ≡ Some v
+  stays-by new' more' e k v a = ap (λ (u : List Node). slice_get u k) e ∙ slice_get-longer new more' k v a
+
+  fits-by : NodeFits MAX_SIDE MAX_SIDE n → NodeFits MAX_SIDE MAX_SIDE m
+  fits-by fits =
+      subst (NodeFits MAX_SIDE MAX_SIDE) (sym is)
+      (renumbered-fits (λ j. slice_index numbers j) n (length new) fits (subst (λ (v : Node). IsNode v (length new)) is adopt-node) h.compiled.table.size)
+
+  module _ (x : ℕ) (numbers' : List ℕ) (pushed : numbers' ≡ numbers ++ x ∷ []) (new' : List Node) (put : PutsIn new m new') (there : slice_get new' x ≡ Some m) (compiled : IsCompiled new') where
+    held-by : (k : ℕ) → k < length new' → IsHeld (old ∷ t ∷ []) (unfolded new' k)
+    held-by k l = by_put put where
+      is_new : (grown : new' ≡ new ++ m ∷ []) → unfolded new' x ≡ unfolded t i
+      is_new grown = copy-is x numbers' pushed new' (stays-by new' (m ∷ []) grown) there (IsTable-lower new' compiled.table)
+
+      by_place : (grown : new' ≡ new ++ m ∷ []) → (k < length new) ⊎ (length new ≤ k) → IsHeld (old ∷ t ∷ []) (unfolded new' k)
+      by_place grown (inl low) =
+          subst (IsHeld (old ∷ t ∷ [])) (sym (ap (λ (u : List Node). unfolded u k) grown ∙ unfolded-longer new (m ∷ []) new-lower k low)) (h.held k low)
+      by_place grown (inr high) =
+          let count : length new' ≡ length new + 1 = ap length grown ∙ length-append new (m ∷ []) in
+          let last : length new ≡ k = omega arith in
+          let here : slice_get new' k ≡ Some m = ap (slice_get new') (sym last) ∙ ap (λ (u : List Node). slice_get u (length new)) grown
+          ∙ last_node new m in
+          let same : x ≡ k = compiled.different.different x k m there here in
+          held-second old t i (unfolded new' k) i-inside (sym (is_new grown) ∙ ap (unfolded new') same)
+
+      by_put : PutsIn new m new' → IsHeld (old ∷ t ∷ []) (unfolded new' k)
+      by_put (inl e) =
+          subst (λ (u : List Node). (k : ℕ) → k < length u → IsHeld (old ∷ t ∷ []) (unfolded u k)) (sym e.1) h.held k l
+      by_put (inr e) = by_place e.1 (cases_lt k (length new))
+
+    fit-more : NodeFits MAX_SIDE MAX_SIDE n → AllByRecursion (NodeFits MAX_SIDE MAX_SIDE) new'
+    fit-more fits = by_put put where
+      by_put : PutsIn new m new' → AllByRecursion (NodeFits MAX_SIDE MAX_SIDE) new'
+      by_put (inl e) = subst (AllByRecursion (NodeFits MAX_SIDE MAX_SIDE)) (sym e.1) h.fit
+      by_put (inr e) = subst (AllByRecursion (NodeFits MAX_SIDE MAX_SIDE)) (sym e.1) (all-push (NodeFits MAX_SIDE MAX_SIDE) new m h.fit (fits-by fits))
+
+    -- each of the new nodes has its place
+    covered-by : (k : ℕ) → length old ≤ k → k < length new' → (p : ℕ) × (p < i + 1) × (slice_index numbers' p ≡ k)
+    covered-by k low high = by_put put where
+      before : k < length new → (p : ℕ) × (p < i + 1) × (slice_index numbers' p ≡ k)
+      before l =
+          let place = h.covered k low l in
+          (place.0, (let less = place.1 in omega arith), number-before x numbers' pushed place.0 place.1 ∙ place.2)
+
+      by_place : (grown : new' ≡ new ++ m ∷ []) → (k < length new) ⊎ (length new ≤ k) → (p : ℕ) × (p < i + 1) × (slice_index numbers' p ≡ k)
+      by_place grown (inl l) = before l
+      by_place grown (inr l) =
+          let count : length new' ≡ length new + 1 = ap length grown ∙ length-append new (m ∷ []) in
+          let last : length new ≡ k = omega arith in
+          let here : slice_get new' k ≡ Some m = ap (slice_get new') (sym last) ∙ ap (λ (u : List Node). slice_get u (length new)) grown
+          ∙ last_node new m in
+          let same : x ≡ k = compiled.different.different x k m there here in
+          (i, omega arith, number-last x numbers' pushed ∙ same)
+
+      by_put : PutsIn new m new' → (p : ℕ) × (p < i + 1) × (slice_index numbers' p ≡ k)
+      by_put (inl e) = before (subst (λ (u : List Node). k < length u) e.1 high)
+      by_put (inr e) = by_place e.1 (cases_lt k (length new))
+
+    x-inside : x < length new'
+    x-inside = slice_get_within new' x m there
+
+    in_order-by : (k q : ℕ) → length old ≤ k → q < i + 1 → slice_index numbers' q ≡ suc k → (p : ℕ) × (p < q) × (slice_index numbers' p ≡ k)
+    in_order-by k q low high is = by_place (cases_lt q i) where
+      by_place : (q < i) ⊎ (i ≤ q) → (p : ℕ) × (p < q) × (slice_index numbers' p ≡ k)
+      by_place (inl l) =
+          let place = h.in_order k q low l (sym (number-before x numbers' pushed q l) ∙ is) in
+          (place.0, place.1, number-before x numbers' pushed place.0 (let less = place.1 in omega arith) ∙ place.2)
+      by_place (inr l) =
+          let last : i ≡ q = omega arith in
+          let next : x ≡ suc k = sym (number-last x numbers' pushed) ∙ ap (λ (j : ℕ). slice_index numbers' j) last ∙ is in
+          let few : length new' ≤ length new + 1 = by_put put in
+          let inside = x-inside in
+          let place = h.covered k low (omega arith) in
+          (place.0, (let less = place.1 in omega arith), number-before x numbers' pushed place.0 place.1 ∙ place.2) where
+            by_put : PutsIn new m new' → length new' ≤ length new + 1
+            by_put (inl e) = let count : length new' ≡ length new = ap length e.1 in omega arith
+            by_put (inr e) = let count : length new' ≡ length new + 1 = ap length e.1 ∙ length-append new (m ∷ []) in omega arith
+
+    -- once the node is adopted
+    pub adopted-more : AllByRecursion (NodeFits MAX_SIDE MAX_SIDE) t → AdoptedUpTo old t new' numbers' (i + 1)
+    adopted-more fit =
+        let grows = grows-by new' put in
+        record {
+          count = ap length pushed ∙ length-append numbers (x ∷ []) ∙ ap (λ (k : ℕ). k + 1) h.count;
+          copied = copied-more x numbers' pushed new' (stays-by new' grows.0 grows.1) there;
+          compiled = compiled;
+          more = h.more ++ grows.0;
+          grown = grows.1 ∙ ap (λ (u : List Node). u ++ grows.0) h.grown ∙ append_assoc old h.more grows.0;
+          held = held-by;
+          fit = fit-more (all-at (NodeFits MAX_SIDE MAX_SIDE) t i n fit at);
+          covered = covered-by;
+          in_order = in_order-by;
+        }
+
+  -- where there is no room for it, there are too many different nodes
+  pub adopt-full : (Contains new m → ⊥) → length new ≡ MAX_NODES → HoldMore (old ∷ t ∷ []) MAX_NODES
+  adopt-full none full =
+      held-one_more (old ∷ t ∷ []) MAX_NODES new m h.compiled adopt-node none full h.held
+      (λ lower'. held-second old t i _ i-inside
+      (sym (copy-is (length new) (numbers ++ length new ∷ []) refl (new ++ m ∷ []) (stays-by (new ++ m ∷ []) (m ∷ []) refl) (last_node new m) lower')))
+
+-- ---- at the end
+
+module _ (old t new : List Node) (numbers : List ℕ) (i : ℕ) (h : AdoptedUpTo old t new numbers i) where
+  pub adopted-stays : (new' : List Node) → new' ≡ new → Stays old t new'
+  adopted-stays new' e = subst (Stays old t) (sym e) (record {
+    more = h.more;
+    is = h.grown;
+    held = λ w is. by_one w is.0 is.1 (among-one new is.0 is.2) is.3 is.4;
+  }) where
+    by_one : (w : Unfolded) (u : List Node) (k : ℕ) → new ≡ u → k < length u → unfolded u k ≡ w → IsHeld (old ∷ t ∷ []) w
+    by_one w u k same l is =
+        subst (IsHeld (old ∷ t ∷ [])) (ap (λ (v : List Node). unfolded v k) same ∙ is)
+        (h.held k (subst (λ (v : List Node). k < length v) (sym same) l))
+
+  module _ (table : IsTable t) (whole : i ≡ length t) where
+    pub adopted-numbers : AreNumbers old t new numbers
+    adopted-numbers = record {
+      count = h.count ∙ whole;
+      each = λ j n at. h.copied j n (let l = slice_get_within t j n at in omega arith) at;
+      in_order = λ k q low high is. h.in_order k q low (omega arith) is;
+    }
+
+    -- each node that is held by the old nodes, or by the table, is one of the new nodes
+    pub adopted-holds : NamesLower old → (w : Unfolded) → IsHeld (old ∷ t ∷ []) w → (x : ℕ) × (x < length new) × (unfolded new x ≡ w)
+    adopted-holds lower w is = by_two (among-two old t is.0 is.2) where
+      count : length new ≡ length old + length h.more
+      count = ap length h.grown ∙ length-append old h.more
+
+      by_two : (old ≡ is.0) ⊎ (t ≡ is.0) → (x : ℕ) × (x < length new) × (unfolded new x ≡ w)
+      by_two (inl same) =
+          let l : is.1 < length old = subst (λ (v : List Node). is.1 < length v) (sym same) is.3 in (
+            is.1,
+            (let c = count in omega arith),
+            ap (λ (v : List Node). unfolded v is.1) h.grown ∙ unfolded-longer old h.more lower is.1 l
+                ∙ ap (λ (v : List Node). unfolded v is.1) same ∙ is.4,
+          )
+      by_two (inr same) =
+          let l : is.1 < length t = subst (λ (v : List Node). is.1 < length v) (sym same) is.3 in
+          let passes : nat_lt is.1 i ≡ true = lt-ltb is.1 i (omega arith) in (
+            slice_index numbers is.1,
+            inside-by t new numbers i table (omega arith) h.copied is.1 passes,
+            unfolded-copied (λ j. slice_index numbers j) (λ j. nat_lt j i) t new (copies-by t new numbers i table (omega arith) h.copied)
+                (IsTable-lower t table) (IsTable-lower new h.compiled.table) is.1 passes
+                ∙ ap (λ (v : List Node). unfolded v is.1) same ∙ is.4,
+          )
+
+    -- so they are not too many
+    pub adopted-few : NamesLower old → HoldMore (old ∷ t ∷ []) MAX_NODES → ⊥
+    adopted-few lower more =
+        let over = held-within (old ∷ t ∷ []) MAX_NODES new (adopted-holds lower) more in
+        let size = h.compiled.table.size in
+        absurd (omega arith)
+
+-- a file is refused as full where a node is
+pub full-from : {A : Type 0} (r : Result A BindError) (e : CompileError) → IsErrAnd r (λ b. b ≡ bind_error e) → r ≡ Err FullBook → e ≡ Full
+full-from (Ok x) e h f = absurd h
+full-from (Err b) Full h f = refl
+full-from (Err b) Memory h f = cc

@@ -1,0 +1,282 @@
+-- What a binder holds stays as its nodes grow, and the entry of a file says in the book what the file says.
+use Rattle.std.proofs.Common.{◌≡◌, ◌⊎◌, inl, inr, ◌↔◌, ℕ, zero, suc, ◌<◌, ◌≤◌, ◌+◌, Bool, true, false, List, [], ◌∷◌, ◌++◌, length, refl, sym, ap, subst, ◌∙◌, arith, Option, Some, None, nat_lt, slice_get, slice_index, map, length-append}
+use Rattle.std.specs.List.{list_all, AllByRecursion}
+use Rattle.std.specs.Option.{option_map}
+use Rattle.std.proofs.lemmas.Option.{slice_get_within}
+use borrow.Author.Tests.{ltb-true, lt-ltb}
+use Rattle.game_rules.specs.declared.TheConstants.{MAX_SIDE}
+use Rattle.game_rules.specs.declared.Point.{Point}
+use Rattle.game_rules.specs.Grid.{Grid, IsBoard, is_on}
+use Rattle.game_rules.proofs.Boards.{and_left, and_right, on_x, on_y}
+use Rattle.position_files.specs.Answers.{AnswersFit, NodeFits, StartFits}
+use Rattle.position_files.specs.Tables.{IsTextOfTable, RootFits as RootFitsText}
+use Rattle.position_files.specs.declared.TableFile.{TableFile}
+use Rattle.position_files.specs.declared.TheConstants.{MAX_MOVES}
+use Rattle.position_files.proofs.Completions.{answers_fit, nodes_fit}
+use Rattle.strategy_graph.specs.declared.Node.{Node}
+use Rattle.strategy_graph.specs.declared.Reply.{Reply}
+use Rattle.strategy_graph.specs.declared.TheConstants.{MAX_NODES}
+use Rattle.strategy_graph.specs.declared.roots.Root.{Root}
+use Rattle.strategy_graph.specs.declared.roots.Root.TheVariants.{Attack, Defend}
+use Rattle.strategy_graph.specs.Tables.{IsStart, RepliesOn, TableOnBoard, NamesOnBoard}
+use Rattle.strategy_graph.proofs.Common.{Answers, IsTable, NamesLower, SaysSame, answer, answers_of, is_rising, is_winning, named, names_below, renumbered_answers, renumbered_node, root_below, root_depth}
+use Rattle.strategy_graph.proofs.Answering.{answer-named, replies-on}
+use Rattle.strategy_graph.proofs.Copies.{Copies, answer-renumbered, is_winning-renumbered, named-renumbered}
+use Rattle.strategy_graph.proofs.Filling.{IsTable-lower, growth-same, growth-same-start, names_below-more}
+use Rattle.strategy_graph.proofs.Renumbering.{copies-same, copies-same-start, points-renumbered, rising-renumbered}
+use Rattle.strategy_compiler.proofs.Common.{IsCompiled}
+use Rattle.strategy_compiler.proofs.Unfolding.{answers-copied, answers-longer, node-inside, unfolded-apart, unfolded-copied, unfolded-longer}
+use Rattle.strategy_compiler.specs.Unfolded.{Unfolded, IsHeld, unfolded}
+use Rattle.table_book.specs.declared.Book.{Book}
+use Rattle.table_book.specs.declared.Entry.{Entry}
+use Rattle.table_book.specs.declared.TheConstants.{MAX_ENTRIES}
+use Rattle.table_book.specs.Books.{EntryFits, IsSound, RootFits}
+use Rattle.table_book.specs.Binding.{AddsFile, AnswersSaySame, AreNumbers, CanBeBound, HoldSame, IsBinding, IsEntryOf, RootSaysSame, SameRoot, Stays, renumbered_root}
+use Rattle.table_book.proofs.Adopting.{among-two}
+unfoldable use Rattle.table_book.proofs.Adopting.{largest}
+
+-- ---- points of a board are points of the largest
+
+on-largest : (b : Grid) (p : Point) → IsBoard b → is_on b p ≡ true → is_on largest p ≡ true
+unfolding largest
+on-largest b p ok on =
+    let x = on_x b p on in
+    let y = on_y b p on in
+    let w = ok.width_fits in
+    let h = ok.height_fits in
+    rw (lt-ltb p.x MAX_SIDE (omega arith), lt-ltb p.y MAX_SIDE (omega arith)) refl
+
+replies-largest : (b : Grid) (rs : List Reply) → IsBoard b → RepliesOn b rs → RepliesOn largest rs
+replies-largest b [] ok on = tt
+replies-largest b (r ∷ rs) ok on = (on-largest b r.at ok on.0, replies-largest b rs ok on.1)
+
+table-largest : (b : Grid) (t : List Node) → IsBoard b → TableOnBoard b t → TableOnBoard largest t
+table-largest b [] ok on = tt
+table-largest b (n ∷ t) ok on =
+    (record { attack = on-largest b n.attack ok on.0.attack; replies = replies-largest b n.replies ok on.0.replies }, table-largest b t ok on.1)
+
+-- the nodes of a table's text fit a book
+pub text-fits : (file : TableFile) (bytes : List ℕ) → IsTextOfTable file bytes → AllByRecursion (NodeFits MAX_SIDE MAX_SIDE) file.table
+unfolding largest
+text-fits file bytes is = nodes_fit largest file.table (table-largest file.board file.table is.board is.on_board) is.table
+
+-- its root names nodes of the table
+pub text-below : (file : TableFile) (bytes : List ℕ) → IsTextOfTable file bytes → root_below file.root (length file.table) ≡ true
+text-below file bytes is = by_root file.root is.root where
+  by_root : (root : Root) → RootFitsText file.board file.table root file.moves → root_below root (length file.table) ≡ true
+  by_root (Attack i) fits = let last = fits.0 in lt-ltb i (length file.table) (omega arith)
+  by_root (Defend a) fits = fits.1
+
+-- ---- as nodes grow
+
+root-grown : (k m : ℕ) (root : Root) → k ≤ m → RootFits k root → RootFits m root
+root-grown k m (Attack i) l fits = omega arith
+root-grown k m (Defend a) l fits = record { answers = fits.answers; start = fits.start; below = names_below-more a k m l fits.below }
+
+root-below : (k : ℕ) (root : Root) → RootFits k root → root_below root k ≡ true
+root-below k (Attack i) fits = lt-ltb i k fits
+root-below k (Defend a) fits = fits.below
+
+root-deep : (t more : List Node) → NamesLower t → (root : Root) → RootFits (length t) root → root_depth (t ++ more) root ≡ root_depth t root
+root-deep t more lower (Attack i) fits = (growth-same t more lower i fits).same_depth
+root-deep t more lower (Defend a) fits = (growth-same-start t more lower a fits.below).same_depth
+
+module _ (t more : List Node) (lower : NamesLower t) where
+  longer : length t ≤ length (t ++ more)
+  longer = let count = length-append t more in omega arith
+
+  entries-grown : (es : List Entry) → AllByRecursion (EntryFits (length t)) es → AllByRecursion (EntryFits (length (t ++ more))) es
+  entries-grown [] all = tt
+  entries-grown (e ∷ es) all =
+      (record { board = all.0.board; moves = all.0.moves; root = root-grown (length t) (length (t ++ more)) e.root longer all.0.root }, entries-grown es all.1)
+
+  sound-grown : (es : List Entry) → AllByRecursion (EntryFits (length t)) es → AllByRecursion (IsSound t) es
+      → AllByRecursion (IsSound (t ++ more)) es
+  sound-grown [] fit all = tt
+  sound-grown (e ∷ es) fit all =
+      (record { lawful = all.0.lawful; moves = all.0.moves ∙ sym (root-deep t more lower e.root fit.0.root) }, sound-grown es fit.1 all.1)
+
+-- the entries stay entries once nodes are adopted
+pub binding-grown : (old t new : List Node) (es : List Entry) → IsBinding (record { table = old; entries = es }) → Stays old t new
+    → IsCompiled new → AllByRecursion (NodeFits MAX_SIDE MAX_SIDE) new
+    → IsBinding (record { table = new; entries = es })
+binding-grown old t new es h stays compiled fit =
+    let lower = IsTable-lower old h.compiled.table in
+    record {
+      compiled = compiled;
+      nodes = fit;
+      entries = subst (λ (u : List Node). AllByRecursion (EntryFits (length u)) es) (sym stays.is) (entries-grown old stays.more lower es h.entries);
+      sound = subst (λ (u : List Node). AllByRecursion (IsSound u) es) (sym stays.is) (sound-grown old stays.more lower es h.entries h.sound);
+      few = h.few;
+    }
+
+all-more : (P : Entry → Type 0) (es : List Entry) (e : Entry) → AllByRecursion P es → P e → AllByRecursion P (es ++ e ∷ [])
+all-more P [] e all p = (p, tt)
+all-more P (d ∷ es) e all p = (all.0, all-more P es e all.1 p)
+
+-- and with one entry more
+pub binding-pushed : (t : List Node) (es es' : List Entry) (e : Entry) → IsBinding (record { table = t; entries = es })
+    → length es < MAX_ENTRIES → EntryFits (length t) e → IsSound t e → es' ≡ es ++ e ∷ []
+    → IsBinding (record { table = t; entries = es' })
+binding-pushed t es es' e h room fits sound is = record {
+  compiled = h.compiled;
+  nodes = h.nodes;
+  entries = subst (AllByRecursion (EntryFits (length t))) (sym is) (all-more (EntryFits (length t)) es e h.entries fits);
+  sound = subst (AllByRecursion (IsSound t)) (sym is) (all-more (IsSound t) es e h.sound sound);
+  few = let count : length es' ≡ length es + 1 = ap length is ∙ length-append es (e ∷ []) in omega arith;
+}
+
+-- ---- the entry of a file
+
+module _ (old t new : List Node) (numbers : List ℕ) (table : IsTable t) (lower : NamesLower new) (are : AreNumbers old t new numbers) where
+  copies : Copies (λ j. slice_index numbers j) (λ j. nat_lt j (length t)) t new
+  copies = record {
+    copied = λ j p.
+        let n = node-inside t j (ltb-true _ _ p) in
+        (n.0, n.1, are.each j n.0 n.1, names_below-more (answers_of n.0) j (length t) (let l : j < length t = ltb-true _ _ p in omega arith) (table.nodes j n.0 n.1).below);
+  }
+
+  number-inside : (j : ℕ) → nat_lt j (length t) ≡ true → slice_index numbers j < length new
+  number-inside j p =
+      let n = node-inside t j (ltb-true _ _ p) in
+      slice_get_within new (slice_index numbers j) _ (are.each j n.0 n.1)
+
+  node-same : (j : ℕ) → nat_lt j (length t) ≡ true → SaysSame t j new (slice_index numbers j)
+  node-same j p = copies-same (λ j. slice_index numbers j) (λ j. nat_lt j (length t)) t new copies (IsTable-lower t table) lower j p
+
+  -- the root says what the file's says
+  pub root-same : (root : Root) → root_below root (length t) ≡ true
+      → RootSaysSame t root new (renumbered_root (λ j. slice_index numbers j) root)
+  root-same (Attack i) below = node-same i below
+  root-same (Defend a) below = (
+    copies-same-start (λ j. slice_index numbers j) (λ j. nat_lt j (length t)) t new copies (IsTable-lower t table) lower a below,
+    λ q. subst (AnswersSaySame t (answer a q) new) (sym (answer-renumbered (λ j. slice_index numbers j) a q)) (by_answer (answer a q) (λ j e. answer-named (λ j. nat_lt j (length t)) a q j below e)),
+  ) where
+    by_answer : (o : Option ℕ) → ((j : ℕ) → o ≡ Some j → nat_lt j (length t) ≡ true)
+        → AnswersSaySame t o new (option_map (λ j. slice_index numbers j) o)
+    by_answer None passes = tt
+    by_answer (Some j) passes = node-same j (passes j refl)
+
+  -- and is the same
+  root-is : (root : Root) → root_below root (length t) ≡ true → SameRoot t root new (renumbered_root (λ j. slice_index numbers j) root)
+  root-is (Attack i) below = unfolded-copied (λ j. slice_index numbers j) (λ j. nat_lt j (length t)) t new copies (IsTable-lower t table) lower i below
+  root-is (Defend a) below = answers-copied (λ j. slice_index numbers j) (λ j. nat_lt j (length t)) t new copies (IsTable-lower t table) lower a below
+
+  all-mapped : (js : List ℕ) → list_all (λ j. nat_lt j (length t)) js ≡ true
+      → list_all (λ j. nat_lt j (length new)) (map (λ j. slice_index numbers j) js) ≡ true
+  all-mapped [] h = refl
+  all-mapped (j ∷ js) h =
+      rw (lt-ltb (slice_index numbers j) (length new) (number-inside j (and_left (nat_lt j (length t)) _ h))) (all-mapped js (and_right (nat_lt j (length t)) _ h))
+
+  -- and fits the book
+  root-fits : (b : Grid) (root : Root) (moves : ℕ) → IsBoard b → length new ≤ MAX_NODES → RootFitsText b t root moves
+      → RootFits (length new) (renumbered_root (λ j. slice_index numbers j) root)
+  unfolding largest
+  root-fits b (Attack i) moves ok few fits = number-inside i (let last = fits.0 in lt-ltb i (length t) (omega arith))
+  root-fits b (Defend a) moves ok few fits =
+      let f : ℕ → ℕ = λ j. slice_index numbers j in
+      let below : names_below (renumbered_answers f a) (length new) ≡ true = ap (list_all (λ j. nat_lt j (length new))) (named-renumbered f a) ∙ all-mapped (named a) fits.1 in
+      let rest : is_winning (renumbered_answers f a).rest ≡ false = is_winning-renumbered f a.rest ∙ fits.0.not_winning in
+      let start : IsStart (renumbered_answers f a) = record { not_winning = rest; rising = rising-renumbered f a.replies ∙ fits.0.rising } in
+      let on : RepliesOn largest (renumbered_answers f a).replies =
+      replies-on largest (renumbered_answers f a).replies a.replies (points-renumbered f a.replies) (replies-largest b a.replies ok fits.2) in
+      record {
+        answers = answers_fit largest (renumbered_answers f a) (length new) on below few (λ wins. cc);
+        start = start;
+        below = below;
+      }
+
+  moves-few : (b : Grid) (root : Root) (moves : ℕ) → RootFitsText b t root moves → moves ≤ MAX_MOVES
+  moves-few b (Attack i) moves fits = fits.2
+  moves-few b (Defend a) moves fits = fits.3
+
+  same-deep : (root s : Root) → RootSaysSame t root new s → root_depth new s ≡ root_depth t root
+  same-deep (Attack i) (Attack j) h = h.same_depth
+  same-deep (Attack i) (Defend c) h = absurd h
+  same-deep (Defend a) (Attack j) h = absurd h
+  same-deep (Defend a) (Defend c) h = h.0.same_depth
+
+  -- each node of the file is held
+  pub file-held : (j : ℕ) → j < length t → (x : ℕ) × (x < length new) × (unfolded new x ≡ unfolded t j)
+  file-held j l =
+      let p : nat_lt j (length t) ≡ true = lt-ltb j (length t) l in (
+        slice_index numbers j,
+        number-inside j p,
+        unfolded-copied (λ j. slice_index numbers j) (λ j. nat_lt j (length t)) t new copies (IsTable-lower t table) lower j p,
+      )
+
+-- the entry of a file whose nodes are adopted
+module _ (file : TableFile) (old new : List Node) (numbers : List ℕ) (root : Root) (can : CanBeBound file) (compiled : IsCompiled new) (are : AreNumbers old file.table new numbers) (is : root ≡ renumbered_root (λ j. slice_index numbers j) file.root) where
+  abbrev pub entry : Entry
+  entry = record { kind = file.kind; board = file.board; root = root; moves = file.moves }
+
+  new-lower : NamesLower new
+  new-lower = IsTable-lower new compiled.table
+
+  pub entry-same : RootSaysSame file.table file.root new root
+  entry-same =
+      subst (RootSaysSame file.table file.root new) (sym is)
+      (root-same old file.table new numbers can.text.1.table new-lower are file.root (text-below file can.text.0 can.text.1))
+
+  pub entry-of : IsEntryOf file new entry
+  entry-of = record {
+    kind = refl;
+    board = refl;
+    moves = refl;
+    same =
+        subst (SameRoot file.table file.root new) (sym is)
+        (root-is old file.table new numbers can.text.1.table new-lower are file.root (text-below file can.text.0 can.text.1));
+    root = entry-same;
+  }
+
+  pub entry-fits : EntryFits (length new) entry
+  entry-fits = record {
+    board = can.text.1.board;
+    moves = moves-few old file.table new numbers can.text.1.table new-lower are file.board file.root file.moves can.text.1.root;
+    root =
+        subst (RootFits (length new)) (sym is)
+        (root-fits old file.table new numbers can.text.1.table new-lower are file.board file.root file.moves can.text.1.board compiled.table.size can.text.1.root);
+  }
+
+  pub entry-sound : IsSound new entry
+  entry-sound = record {
+    lawful = can.lawful;
+    moves = can.moves ∙ sym (same-deep old file.table new numbers can.text.1.table new-lower are file.root root entry-same);
+  }
+
+  -- what is held now is what was held, and the file's nodes
+  pub now-held : NamesLower old → Stays old file.table new → HoldSame (new ∷ []) (old ∷ file.table ∷ [])
+  now-held lower stays w = (stays.held w, λ is. by_two w is.0 is.1 (among-two old file.table is.0 is.2) is.3 is.4) where
+    by_two : (w : Unfolded) (u : List Node) (k : ℕ) → (old ≡ u) ⊎ (file.table ≡ u) → k < length u → unfolded u k ≡ w → IsHeld (new ∷ []) w
+    by_two w u k (inl same) l e =
+        let inside : k < length old = subst (λ (v : List Node). k < length v) (sym same) l in
+        let count : length new ≡ length old + length stays.more = ap length stays.is ∙ length-append old stays.more in (
+          new,
+          k,
+          (0, omega arith, refl),
+          omega arith,
+          ap (λ (v : List Node). unfolded v k) stays.is ∙ unfolded-longer old stays.more lower k inside
+              ∙ ap (λ (v : List Node). unfolded v k) same ∙ e,
+        )
+    by_two w u k (inr same) l e =
+        let inside : k < length file.table = subst (λ (v : List Node). k < length v) (sym same) l in
+        let there = file-held old file.table new numbers can.text.1.table new-lower are k inside in
+        (new, there.0, (0, omega arith, refl), there.1, there.2 ∙ ap (λ (v : List Node). unfolded v k) same ∙ e)
+
+  pub file-added : (es es' : List Entry) → IsCompiled old → Stays old file.table new → es' ≡ es ++ entry ∷ []
+      → AddsFile (record { table = old; entries = es }) file (record { table = new; entries = es' })
+  unfolding file-held
+  file-added es es' before stays is = record {
+    entry = entry;
+    is_of = entry-of;
+    added = is;
+    held = now-held (IsTable-lower old before.table) stays;
+    in_order = λ k q low high inside e.
+        let there = file-held old file.table new numbers can.text.1.table new-lower are q inside in
+        let next : slice_index numbers q ≡ suc k =
+        unfolded-apart new new-lower compiled.different (slice_index numbers q) (suc k) there.1 high (there.2 ∙ e) in
+        let place = are.in_order k q low inside next in
+        let within : place.0 < length file.table = (let less = place.1 in omega arith) in
+        let before = file-held old file.table new numbers can.text.1.table new-lower are place.0 within in
+        (place.0, place.1, sym before.2 ∙ ap (unfolded new) place.2);
+  }
