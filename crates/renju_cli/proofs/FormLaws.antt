@@ -6,7 +6,7 @@ use Rattle.std.specs.Str.Parse.{digits_value}
 use Rattle.std.specs.Fmt.{decimal}
 use Rattle.std.proofs.lemmas.Fmt.{decimal_is_IsNumeral}
 use Rattle.renju_cli.specs.declared.commands.Form.{Form}
-use Rattle.renju_cli.specs.declared.commands.Form.TheVariants.{Check, Foul, Fours, Threats, Solve, Brain, BrainWith, Drill, Referee, RefereeWith, Image, Defend, Book}
+use Rattle.renju_cli.specs.declared.commands.Form.TheVariants.{Check, Foul, Fours, Threats, Solve, Brain, BrainWith, Drill, Referee, RefereeWith, Image, Defend, Bind, Book}
 use Rattle.renju_cli.specs.declared.TheConstants.{MAX_WORK}
 use Rattle.renju_cli.specs.Forms.{HasWords}
 use Rattle.renju_cli.specs.Commands.{command, IsForm, HasForm}
@@ -52,8 +52,9 @@ form_told words =
     else (if bytes_eq (get_or words 0 []) (codes "image") then Image (symmetry_told (get_or words 1 []))
     else (if bytes_eq (get_or words 0 []) (codes "referee") then (if nat_lt 1 (length words) then RefereeWith else Referee)
     else (if bytes_eq (get_or words 0 []) (codes "defend") then Defend (number_at words 1) (number_at words 2)
+    else (if bytes_eq (get_or words 0 []) (codes "bind") then Bind
     else (if bytes_eq (get_or words 0 []) (codes "book") then Book (number_at words 1)
-    else (if nat_lt 1 (length words) then BrainWith else Brain))))))))))
+    else (if nat_lt 1 (length words) then BrainWith else Brain)))))))))))
 
 number-written : (n : ℕ) → n ≤ MAX_WORK → digits_value 10 (decimal n) ≡ n
 number-written n few = let d = decimal_is_IsNumeral n (omega (arith, few)) in d.1
@@ -70,6 +71,7 @@ form-spelled words BrainWith range = refl
 form-spelled words (Image s) range = ap Image (symmetry-spelled s)
 form-spelled words Referee range = refl
 form-spelled words RefereeWith range = refl
+form-spelled words Bind range = refl
 form-spelled words (Book work) range = ap Book (number-written work range.1)
 form-spelled words (Drill number) range = ap Drill (number-written number (omega (arith, range)))
 form-spelled words (Fours depth nodes) range = two-written Fours depth nodes (omega (arith, range.1)) (omega (arith, range.3))

@@ -16,4 +16,5 @@ mod DrillLaws
 mod ImageLaws
 mod DefendLaws
 mod RefereeLaws
+mod BindLaws
 mod ReportLaws

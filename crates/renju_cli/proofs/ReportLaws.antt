@@ -1,7 +1,7 @@
 -- What follows of a run from its report: the command of its form did what it does, and so answered where it is sure to.
 use Rattle.std.proofs.Common.{◌≡◌, inl, inr, sym, ap, subst, ℕ, List}
 use Rattle.renju_cli.specs.declared.commands.Form.{Form}
-use Rattle.renju_cli.specs.declared.commands.Form.TheVariants.{Check, Foul, Fours, Threats, Solve, Brain, BrainWith, Drill, Referee, RefereeWith, Image, Defend, Book}
+use Rattle.renju_cli.specs.declared.commands.Form.TheVariants.{Check, Foul, Fours, Threats, Solve, Brain, BrainWith, Drill, Referee, RefereeWith, Image, Defend, Bind, Book}
 use Rattle.renju_cli.specs.Runs.{Run}
 use Rattle.renju_cli.specs.Forms.{HasWords}
 use Rattle.renju_cli.specs.Checks.{check_command, ShowsWin}
@@ -13,6 +13,7 @@ use Rattle.renju_cli.specs.Brains.{brain_with_words, IsFileName, second_word, Is
 use Rattle.renju_cli.specs.Games.{ShowsHeldGames, ShowsOwnGames}
 use Rattle.renju_cli.specs.Drills.{ShowsDrill}
 use Rattle.renju_cli.specs.Referees.{referee_command, referee_with_words, IsRefereeWith, ShowsReferee}
+use Rattle.renju_cli.specs.Binds.{AreNames, IsBind, ShowsBinding, bind_words, words_after}
 use Rattle.renju_cli.specs.Commands.{command, IsForm}
 use Rattle.renju_cli.specs.Reports.{Report, IsComplete}
 use Rattle.renju_cli.proofs.FormLaws.{one-form}
@@ -24,6 +25,7 @@ use Rattle.renju_cli.proofs.GameLaws.{brain-plays, brain-plays-own, file-plays-o
 use Rattle.renju_cli.proofs.FoursLaws.{fours-answers, fours-searched}
 use Rattle.renju_cli.proofs.DrillLaws.{drill-answers, drill-shown}
 use Rattle.renju_cli.proofs.RefereeLaws.{referee-answers, referee-with-answers, referee-shown}
+use Rattle.renju_cli.proofs.BindLaws.{bind-answers, bind-shown}
 use Rattle.renju_cli.proofs.ThreatsLaws.{threats-answers, threats-searched}
 use Rattle.renju_cli.proofs.SolveLaws.{solve-answers, solve-shown}
 use Rattle.renju_cli.specs.Images.{image_command, ShowsImage}
@@ -45,6 +47,7 @@ answers Foul run does = answers-told foul_command foul-answers run does
 answers Brain run does = brain-answers run does
 answers BrainWith run does = brain-with-answers (second_word run.words) run does
 answers (Drill number) run does = drill-answers number run does
+answers Bind run does = bind-answers (words_after run.words) run does
 answers (Image s) run does = answers-told (image_command s) (image-answers s) run does
 answers Referee run does = answers-told referee_command referee-answers run does
 answers (Book work) run does = answers-told (book_command work) (book-answers work) run does
@@ -57,6 +60,10 @@ answers (Defend depth nodes) run does = answers-told (defend_command depth nodes
 -- what `brain FILE` did with its second word is the report of its run
 pub file-reported : (run : Run) (name : List ℕ) → IsForm run.words BrainWith → name ≡ second_word run.words → IsBrainWith name run → Report run
 file-reported run name form is does = inr (BrainWith, form, subst (λ (n : List ℕ). IsBrainWith n run) is does)
+
+-- what `bind` did with the words after the first is the report of its run
+pub bind-reported : (run : Run) (names : List (List ℕ)) → IsForm run.words Bind → names ≡ words_after run.words → IsBind names run → Report run
+bind-reported run names form is does = inr (Bind, form, subst (λ (ns : List (List ℕ)). IsBind ns run) is does)
 
 -- the same of `referee FILE`
 pub game-reported : (run : Run) (name : List ℕ) → IsForm run.words RefereeWith → name ≡ second_word run.words → IsRefereeWith name run → Report run
@@ -107,3 +114,10 @@ report-refereed run report name is done =
     let words : HasWords run.words (referee_with_words (second_word run.words)) (IsFileName (second_word run.words)) =
     subst (λ (n : List ℕ). HasWords run.words (referee_with_words n) (IsFileName n)) (sym second) is in
     referee-shown name run (subst (λ (n : List ℕ). IsRefereeWith n run) second (does-of run report RefereeWith words)) done
+
+pub report-bound : (run : Run) → Report run → ShowsBinding run
+report-bound run report names is done =
+    let after : words_after run.words ≡ names = ap words_after is.spelled in
+    let words : HasWords run.words (bind_words (words_after run.words)) (AreNames (words_after run.words)) =
+    subst (λ (ns : List (List ℕ)). HasWords run.words (bind_words ns) (AreNames ns)) (sym after) is in
+    bind-shown names run (subst (λ (ns : List (List ℕ)). IsBind ns run) after (does-of run report Bind words)) done

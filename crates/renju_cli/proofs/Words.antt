@@ -3,6 +3,7 @@ use Rattle.std.proofs.Common.{◌≡◌, sym, ap, ◌∙◌, ℕ, ◌≤◌, ◌
 use Rattle.std.proofs.Math.Seq.{take-length}
 use Rattle.std.proofs.lemmas.List.{length-map}
 use Rattle.renju_cli.specs.Brains.{second_word}
+use Rattle.renju_cli.specs.Binds.{words_after}
 
 module _ {X : Type 0} (f : X → List ℕ) where
   -- as many words as there are in the list
@@ -40,3 +41,11 @@ module _ {X : Type 0} (f : X → List ℕ) where
   word-after [] y two is = absurd (omega (arith, two))
   word-after (v ∷ []) y two is = absurd (omega (arith, two))
   word-after (v ∷ w ∷ us) y two is = ap f (sym is)
+
+  -- the words after the first
+  pub words-after : (xs : List X) → map f (take (length xs - 1) (drop 1 xs)) ≡ words_after (map f xs)
+  words-after [] = refl
+  words-after (x ∷ xs) =
+      let count : length (x ∷ xs) - 1 ≡ length xs = omega arith in
+      let rest : take (length (x ∷ xs) - 1) xs ≡ xs = ap (λ n. take n xs) count ∙ take-length xs in
+      ap (map f) rest

@@ -1,7 +1,7 @@
 -- The commands, by their forms of words.
 use Rattle.std.specs.Prelude.{ℕ, List}
 use Rattle.renju_cli.specs.declared.commands.Form.{Form}
-use Rattle.renju_cli.specs.declared.commands.Form.TheVariants.{Check, Foul, Fours, Threats, Solve, Brain, BrainWith, Drill, Referee, RefereeWith, Image, Defend, Book}
+use Rattle.renju_cli.specs.declared.commands.Form.TheVariants.{Check, Foul, Fours, Threats, Solve, Brain, BrainWith, Drill, Referee, RefereeWith, Image, Defend, Bind, Book}
 use Rattle.renju_cli.specs.Forms.{Command, IsSpelled}
 use Rattle.renju_cli.specs.Told.{told}
 use Rattle.renju_cli.specs.Checks.{check_command}
@@ -15,6 +15,7 @@ use Rattle.renju_cli.specs.Referees.{referee_command, referee_with_command}
 use Rattle.renju_cli.specs.Images.{image_command}
 use Rattle.renju_cli.specs.Defends.{defend_command}
 use Rattle.renju_cli.specs.Books.{book_command}
+use Rattle.renju_cli.specs.Binds.{bind_command, words_after}
 
 -- the command that a form of these words stands for
 abbrev pub command : List (List ℕ) → Form → Command
@@ -31,6 +32,7 @@ command words Referee = told referee_command
 command words RefereeWith = referee_with_command (second_word words)
 command words (Defend depth nodes) = told (defend_command depth nodes)
 command words (Book work) = told (book_command work)
+command words Bind = bind_command (words_after words)
 
 -- the words have this form
 abbrev pub IsForm : List (List ℕ) → Form → Type 0

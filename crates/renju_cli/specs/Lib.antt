@@ -18,6 +18,8 @@ pub mod Games
 pub mod Drills
 pub mod Images
 pub mod Defends
+pub mod Binds
+pub mod Binders
 pub mod Referees
 -- the list of commands, and what the program does
 pub mod Commands

@@ -9,6 +9,7 @@ ghost use Rattle.renju_cli.specs.Runs.{change, run_of, KeepsDevices};
 ghost use Rattle.renju_cli.specs.Commands.{IsForm, HasForm};
 ghost use Rattle.renju_cli.specs.Reports.{Report};
 
+use crate::bind::bind as bind_words;
 use crate::book::CheckBook;
 use crate::brain::{play, play_with};
 use crate::check::Check;
@@ -22,7 +23,7 @@ use crate::solve::Solve;
 use crate::threats::FindSequence;
 use crate::told::{deliver, tell};
 use crate::{
-    Status, book, brain, check, defend, drill as drill_words, fouls, fours, image, referee, solve,
+    Status, bind, book, brain, check, defend, drill as drill_words, fouls, fours, image, referee, solve,
     threats,
 };
 use board_symmetry::Symmetry;
@@ -31,7 +32,7 @@ use std::alloc::Global;
 
 /// The line that words without a form are answered with.
 pub const USAGE: &str =
-    "usage: renju check WORK, foul, fours DEPTH NODES, threats LENGTH NODES, solve DEPTH NODES, brain [FILE], drill N, image SYMMETRY, referee [FILE], defend DEPTH NODES, book WORK\n";
+    "usage: renju check WORK, foul, fours DEPTH NODES, threats LENGTH NODES, solve DEPTH NODES, brain [FILE], drill N, image SYMMETRY, referee [FILE], defend DEPTH NODES, bind FILE .., book WORK\n";
 
 /// A form of words: the command and its numbers.
 #[derive(Clone, Copy, Debug, PartialEq, Eq)]
@@ -60,6 +61,8 @@ pub enum Form {
     RefereeWith,
     /// `defend DEPTH NODES`, with DEPTH and NODES as those of `fours`.
     Defend { depth: u32, nodes: u64 },
+    /// `bind FILE ..`, with 1 to `MAX_FILES` files, none of which is empty. They are the words after the first.
+    Bind,
     /// `book WORK`, with WORK as that of `check`.
     Book { work: u64 },
 }
@@ -82,6 +85,7 @@ pub(crate) fn form_of(words: &[String]) -> Option<Form>
         "image" => image::form(rest),
         "referee" => referee::form(rest),
         "defend" => defend::form(rest),
+        "bind" => bind::form(rest),
         "book" => book::form(rest),
         _ => None,
     }
@@ -119,6 +123,7 @@ pub(crate) fn run<I: Source, O: Sink, F: Shelf>(
         Some(Form::Referee) => tell(alloc, &Referee, input, output),
         Some(Form::RefereeWith) => referee_with(alloc, words[1].as_str(), input, output, shelf),
         Some(Form::Defend { depth, nodes }) => tell(alloc, &Defend { depth, nodes }, input, output),
+        Some(Form::Bind) => bind_words(alloc, &words[1..], output, shelf),
         Some(Form::Book { work }) => tell(alloc, &CheckBook { work }, input, output),
     }
 }

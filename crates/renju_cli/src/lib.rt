@@ -6,6 +6,7 @@
 #![tactic(auto)]
 
 mod answer;
+mod bind;
 mod book;
 mod brain;
 mod check;
@@ -37,3 +38,6 @@ pub const MAX_SEARCHED: u64 = 10_000_000;
 
 /// The greatest number of a drill.
 pub const MAX_DRILL: u32 = 999_999;
+
+/// The most files that `bind` binds into one book.
+pub const MAX_FILES: usize = 64;

@@ -1,7 +1,7 @@
 //! A FILE of a command: its text is read, and its table is held once it is accepted.
 //!
 //! `brain FILE` plays by what is held, which may be that of a book with all its entries, and `referee FILE` compares games with a
-//! table. Each refusal of FILE comes before the input is asked.
+//! table. Each refusal of FILE comes before the input is asked. `bind` takes tables that are accepted, and holds none.
 #![tactic(auto)]
 
 ghost use Rattle.std.specs.Prelude.{◌≡◌, true, length, IfOk};
@@ -9,6 +9,7 @@ ghost use Rattle.game_rules.specs.Play.{IsPosition};
 ghost use Rattle.strategy_graph.specs.Roots.{root_below, root_depth};
 ghost use Rattle.table_book.specs.Books.{IsWellFormed};
 ghost use Rattle.renju_cli.specs.Brains.{IsLoadedBook, IsLoadedBookText, IsLoadedFile, IsLoadedHeld, IsLoadedText};
+ghost use Rattle.renju_cli.specs.Binders.{IsFittedFile, IsFittedText};
 
 use crate::Status;
 use crate::answer::{Answer, spent};
@@ -20,7 +21,7 @@ use foul_judge::Position;
 use position_files::{TableFile, read_table};
 use row_shapes::{Rule, under_rule};
 use std::alloc::{AllocError, Global};
-use strategy_checker::{Held, HeldError};
+use strategy_checker::{Held, HeldError, Verdict, check_root};
 use table_book::{Book, hold_book, is_book, read_book};
 
 /// What a shelf that failed is told.
@@ -30,6 +31,13 @@ pub(crate) const SHELF_FAILED: &str = "shelf failed\n";
 #[derive(Drop)]
 pub(crate) enum Loaded {
     Holds(Held),
+    Tells(Answer),
+}
+
+/// What comes of the text of a FILE that is not to be held: its table is accepted, or it is told why not.
+#[derive(Drop)]
+pub(crate) enum Fitted {
+    Fits(TableFile),
     Tells(Answer),
 }
 
@@ -109,5 +117,62 @@ fn hold_under<R: Rule>(alloc: Global, file: TableFile) -> Result<Loaded, AllocEr
         }
         Err(HeldError::Spent) => Ok(Loaded::Tells(spent(alloc)?)),
         Err(HeldError::Memory) => Err(AllocError),
+    }
+}
+
+/// The table of a text, if its root is accepted there.
+pub(crate) fn fit(alloc: Global, bytes: &[u8]) -> Result<Fitted, AllocError>
+    ensures fitted { IfOk result (IsFittedText bytes.now) }
+{
+    match read_table(alloc, bytes) {
+        Ok(file) => fit_file(alloc, file),
+        Err(error) => Ok(Fitted::Tells(refused_text(alloc, error)?)),
+    }
+}
+
+/// The table of a text that was read, if its root is accepted there.
+fn fit_file(alloc: Global, file: TableFile) -> Result<Fitted, AllocError>
+    requires lawful { IsPosition file.kind file.board }
+    requires root { root_below file.root (length file.table) ≡ true }
+    requires moves { file.moves ≡ root_depth file.table file.root }
+    ensures fitted { IfOk result (IsFittedFile file) }
+{
+    under_rule!(file.kind, fit_under(alloc, file))
+}
+
+/// The same under the rule of the text.
+fn fit_under<R: Rule>(alloc: Global, file: TableFile) -> Result<Fitted, AllocError>
+    requires kind { file.kind ≡ R.KIND }
+    requires lawful { IsPosition file.kind file.board }
+    requires root { root_below file.root (length file.table) ≡ true }
+    requires moves { file.moves ≡ root_depth file.table file.root }
+    ensures fitted { IfOk result (IsFittedFile file) }
+{
+    let TableFile {
+        kind,
+        board,
+        table,
+        root,
+        moves,
+    } = file;
+    let mut position = Position::<R>::new(board);
+    match check_root(alloc, &table, &root, moves, &mut position, BRAIN_WORK)? {
+        Verdict::Accepted { .. } => {
+            let board = position.into_board();
+            Ok(Fitted::Fits(TableFile {
+                kind,
+                board,
+                table,
+                root,
+                moves,
+            }))
+        }
+        Verdict::Refused { line, why } => {
+            Ok(Fitted::Tells(Answer::told(
+                Status::RefusedTable,
+                refused_table(alloc, why, line.as_slice())?,
+            )))
+        }
+        Verdict::Spent => Ok(Fitted::Tells(spent(alloc)?)),
     }
 }

@@ -17,6 +17,7 @@ ghost use Rattle.renju_cli.specs.Reports.{Report, IsComplete};
 ghost use Rattle.renju_cli.specs.Images.{ShowsImage};
 ghost use Rattle.renju_cli.specs.Defends.{ShowsDefence};
 ghost use Rattle.renju_cli.specs.Books.{ShowsBook};
+ghost use Rattle.renju_cli.specs.Binds.{ShowsBinding};
 
 use crate::commands::run;
 use renju_io::{Shelf, Sink, Source};
@@ -26,10 +27,10 @@ use std::alloc::Global;
 /// the shelf, writes to the output, and answers the status to exit with.
 ///
 /// The status and the text that are due are those of `Status` and of the commands. Words without a form get the usage line
-/// and status 1, and leave the input unasked, as `drill` does. `check`, `foul`, `fours`, `threats`, `solve`, `image`, `referee`,
+/// and status 1, and leave the input unasked, as `drill` and `bind` do. `check`, `foul`, `fours`, `threats`, `solve`, `image`, `referee`,
 /// `defend` and `book` speak of an input only once it was read to its end; a brain answers each line before it reads the next. Only
-/// `brain FILE` and `referee FILE`
-/// ask the shelf, before the input, and no command changes it. A failing output gives status 8 in place of the status that was due, and the output then has the front of the text; want of memory
+/// `brain FILE` and `referee FILE`, before the input, and `bind`
+/// ask the shelf, and no command changes it. A failing output gives status 8 in place of the status that was due, and the output then has the front of the text; want of memory
 /// gives 6 and a failing input 7, and then nothing is written, or by a brain that serves the answers to the lines before.
 /// A status other than 7 says that the input counted no fault, one other than 8 that the output did not, and one that is
 /// neither 2 nor 8 that the shelf did not.
@@ -80,6 +81,10 @@ pub fn run_renju<I: Source, O: Sink, F: Shelf>(
         (change O.written O.faults output.old output.new) (change F.files F.faults shelf.old shelf.new) result) }
     // What status 0 of `book` shows: each entry of the book is accepted and wins.
     ensures booked { ShowsBook (run_of (map string_bytes words.now) (change I.left I.faults input.old input.new)
+        (change O.written O.faults output.old output.new) (change F.files F.faults shelf.old shelf.new) result) }
+    // What status 0 of `bind` shows: a book of the tables of its files, which are accepted, each with its rule, position and moves,
+    // and with a root that says the same.
+    ensures bound { ShowsBinding (run_of (map string_bytes words.now) (change I.left I.faults input.old input.new)
         (change O.written O.faults output.old output.new) (change F.files F.faults shelf.old shelf.new) result) }
     // A command with a lawful input, enough work and devices without a fault answers, unless memory runs out.
     ensures complete { IsComplete (run_of (map string_bytes words.now) (change I.left I.faults input.old input.new)

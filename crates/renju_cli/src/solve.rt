@@ -211,7 +211,7 @@ fn by_threats<R: Rule>(
 }
 
 /// The answer where a table has no room for more nodes.
-fn full(alloc: Global) -> Result<Answer, AllocError>
+pub(crate) fn full(alloc: Global) -> Result<Answer, AllocError>
     ensures status { IfOk result (λ answer. answer.status ≡ Status.Full) }
     ensures text { IfOk result (λ answer. answer.text.items ≡ full_line) }
 {

@@ -1,7 +1,7 @@
 use Rattle.std.proofs.Common.{◌≡◌, List, ℕ, [], ◌∷◌, ◌∙◌, ap, sym, subst, get_or}
 use Rattle.std.specs.Prelude.{codes, string_bytes, Option, MatchOption}
 use Rattle.renju_cli.specs.declared.commands.Form.{Form}
-use Rattle.renju_cli.specs.declared.commands.Form.TheVariants.{Check, Foul, Fours, Threats, Solve, Brain, BrainWith, Drill, Referee, RefereeWith, Image, Defend, Book}
+use Rattle.renju_cli.specs.declared.commands.Form.TheVariants.{Check, Foul, Fours, Threats, Solve, Brain, BrainWith, Drill, Referee, RefereeWith, Image, Defend, Bind, Book}
 use Rattle.renju_cli.specs.Commands.{command, HasForm, IsForm}
 use Rattle.renju_cli.proofs.Words.{no-words as none, first-word}
 use Rattle.renju_cli.proofs.FormLaws.{no-words, no-command}
@@ -80,6 +80,12 @@ returns-in-book c = record {
       (sym c.as_str.ensures.value ∙ c.in-book.is) c.form-in-book.ensures.form;
 }
 
+pub returns-in-bind : goal.returns-in-bind
+returns-in-bind c = record {
+  form = told-of c.form-in-bind.result _ _ (codes "bind") _ (first-word string_bytes c.args.words.now c.name-item.result c.in-len1-up.len_at_least c.name-item.is)
+      (sym c.as_str.ensures.value ∙ c.in-bind.is) c.form-in-bind.ensures.form;
+}
+
 -- the first word is that of no command
 pub returns-in_default-as_str : goal.returns-in_default-as_str
 returns-in_default-as_str c =
@@ -99,5 +105,6 @@ returns-in_default-as_str c =
       | RefereeWith ↦ λ is. c.in_default-as_str.not-referee (c.as_str.ensures.value ∙ is)
       | Defend depth nodes ↦ λ is. c.in_default-as_str.not-defend (c.as_str.ensures.value ∙ is)
       | Book work ↦ λ is. c.in_default-as_str.not-book (c.as_str.ensures.value ∙ is)
+      | Bind ↦ λ is. c.in_default-as_str.not-bind (c.as_str.ensures.value ∙ is)
     ] in
     record { form = λ h. no-command _ _ other (subst HasForm words h) }

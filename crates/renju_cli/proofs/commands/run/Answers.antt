@@ -1,13 +1,13 @@
 use Rattle.std.proofs.Common.{◌≡◌, inl, refl, sym, subst, ◌∙◌, length}
 use Rattle.std.specs.Prelude.{map, string_bytes}
 use Rattle.renju_cli.specs.declared.commands.Form.{Form}
-use Rattle.renju_cli.specs.declared.commands.Form.TheVariants.{BrainWith, RefereeWith}
+use Rattle.renju_cli.specs.declared.commands.Form.TheVariants.{BrainWith, RefereeWith, Bind}
 use Rattle.renju_cli.specs.Statuses.{status_number}
 use Rattle.renju_cli.specs.Runs.{Run, run_of, change}
 use Rattle.renju_cli.specs.Brains.{second_word}
 use Rattle.renju_cli.specs.Commands.{IsForm}
-use Rattle.renju_cli.proofs.Words.{same-count, word-after}
-use Rattle.renju_cli.proofs.ReportLaws.{file-reported, game-reported}
+use Rattle.renju_cli.proofs.Words.{same-count, word-after, words-after}
+use Rattle.renju_cli.proofs.ReportLaws.{bind-reported, file-reported, game-reported}
 use Rattle.renju_cli.proofs.commands.run.Goals as goal
 
 -- the literal of the usage line is that line
@@ -44,3 +44,13 @@ returns-in-Some-RefereeWith-clause-report g c =
     c.as_str-in-Some-RefereeWith.ensures.value
     ∙ sym (word-after string_bytes c.args.words.now c.index-words-1-in-Some-RefereeWith.result two c.index-words-1-in-Some-RefereeWith.is) in
     game-reported run c.as_str-in-Some-RefereeWith.result.now form file (c.referee_with.ensures.referees words)
+
+-- the files are the words after the first
+pub returns-in-Some-Bind-clause-report : goal.returns-in-Some-Bind-clause-report
+returns-in-Some-Bind-clause-report g c =
+    let words = map string_bytes c.args.words.now in
+    let input = change g.I.Source.left g.I.Source.faults c.args.input.now c.args.input.now in
+    let run : Run = run_of words input (change g.O.Sink.written g.O.Sink.faults c.args.output.now c.bind.new.output)
+    (change g.F.Shelf.files g.F.Shelf.faults c.args.shelf.now c.bind.new.shelf) (status_number c.bind.result) in
+    let form : IsForm words Bind = subst (λ (f : Form). IsForm words f) c.in-Some-Bind.field-0-is c.in-Some-Bind.ensures.form in
+    bind-reported run _ form (words-after string_bytes c.args.words.now) (c.bind.ensures.binds words input (record { same = refl; faults = refl }))

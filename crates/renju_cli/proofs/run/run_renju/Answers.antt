@@ -1,4 +1,4 @@
-use Rattle.renju_cli.proofs.ReportLaws.{report-won, report-searched, report-sequences, report-solved, report-games, report-own_games, report-drilled, report-complete, report-refereed, report-imaged, report-defended, report-booked}
+use Rattle.renju_cli.proofs.ReportLaws.{report-won, report-searched, report-sequences, report-solved, report-games, report-own_games, report-drilled, report-complete, report-refereed, report-imaged, report-defended, report-booked, report-bound}
 use Rattle.renju_cli.proofs.run.run_renju.Goals as goal
 
 -- all that holds of a run follows from its report
@@ -14,6 +14,7 @@ returns g c = rw c.number.ensures.number (record {
   refereed = report-refereed _ c.run.ensures.report;
   defended = report-defended _ c.run.ensures.report;
   booked = report-booked _ c.run.ensures.report;
+  bound = report-bound _ c.run.ensures.report;
   sequences = report-sequences _ c.run.ensures.report;
   solved = report-solved _ c.run.ensures.report;
   complete = report-complete _ c.run.ensures.report;

@@ -1,0 +1,162 @@
+//! The command `bind`: tables of many files in one book.
+//!
+//! Each file in turn is loaded, read and checked as `brain FILE` does, and its table is added to a binder; then the book is
+//! written. The earliest file that cannot be added decides what is told, and the input is not asked.
+#![tactic(auto)]
+
+ghost use Rattle.std.specs.Prelude.{◌≡◌, ◌≢◌, ◌↔◌, ◌∷◌, ◌<◌, ℕ, List, Option, codes, length, map, IfOk, IsTrue, OnErr, MatchOption, string_bytes};
+ghost use Rattle.renju_io.specs.Faults.{HasNotFallen, HasStayed};
+ghost use Rattle.table_book.specs.declared.TheConstants.{MAX_ENTRIES};
+ghost use Rattle.renju_cli.specs.Statuses.{status_number};
+ghost use Rattle.renju_cli.specs.Runs.{Change, IsUnasked, change, run_of};
+ghost use Rattle.renju_cli.specs.Binds.{AreNames, BindSays, IsBind, of_file as of_file_lem};
+ghost use Rattle.renju_cli.specs.Binders.{IsAdded, IsAddedText};
+ghost use Rattle.renju_cli.specs.Commands.{IsForm, HasForm};
+
+use crate::answer::Answer;
+use crate::loading::{Fitted, SHELF_FAILED, fit};
+use crate::solve::full;
+use crate::told::{TOO_LONG, deliver};
+use crate::{Form, MAX_FILES, Status};
+use renju_io::{LoadError, Shelf, Sink};
+use std::alloc::{AllocError, Global};
+use table_book::{BindError, Binder, write_book};
+
+/// The form of `bind` and the words after it, if they are 1 to `MAX_FILES` names, none of which is empty.
+pub(crate) fn form(rest: &[String]) -> Option<Form>
+    ensures form { MatchOption result (¬ HasForm (codes "bind" ∷ map string_bytes rest.now)) (λ form. IsForm (codes "bind" ∷ map string_bytes rest.now) form) }
+{
+    if are_names(rest) {
+        Some(Form::Bind)
+    } else {
+        None
+    }
+}
+
+/// Whether these are 1 to `MAX_FILES` names, none of which is empty.
+fn are_names(names: &[String]) -> bool
+    ensures names { IsTrue result ↔ AreNames (map string_bytes names.now) }
+{
+    if names.is_empty() || names.len() > MAX_FILES {
+        return false;
+    }
+    for name in names {
+        if name.is_empty() {
+            return false;
+        }
+    }
+    true
+}
+
+/// `bind FILE ..`: writes the book of the files under these names, or why the earliest that cannot be bound is not.
+#[inline(never)]
+pub(crate) fn bind<O: Sink, F: Shelf>(
+    alloc: Global,
+    names: &[String],
+    output: &mut O,
+    shelf: &mut F,
+) -> Status
+    requires names { AreNames (map string_bytes names.now) }
+    ensures binds { (words : List (List ℕ)) (input : Change (Option (List ℕ))) → IsUnasked input → IsBind (map string_bytes names.now)
+        (run_of words input (change O.written O.faults output.old output.new) (change F.files F.faults shelf.old shelf.new) (status_number result)) }
+    ensures output { HasNotFallen (O.faults output.old) (O.faults output.new) }
+    ensures shelf { HasNotFallen (F.faults shelf.old) (F.faults shelf.new) }
+    ensures files { F.files shelf.new ≡ F.files shelf.old }
+    ensures writes { status_number result ≢ status_number Status.WriteFault → HasStayed (O.faults output.old) (O.faults output.new) }
+    ensures loads { status_number result ≢ status_number Status.ShelfFault → status_number result ≢ status_number Status.WriteFault
+        → HasStayed (F.faults shelf.old) (F.faults shelf.new) }
+{
+    match bind_files(alloc, names, shelf) {
+        Ok(answer) => deliver(answer.status, answer.text.as_slice(), output),
+        Err(_) => Status::Memory,
+    }
+}
+
+/// What is said of the files under these names.
+fn bind_files<F: Shelf>(
+    alloc: Global,
+    names: &[String],
+    shelf: &mut F,
+) -> Result<Answer, AllocError>
+    requires names { AreNames (map string_bytes names.now) }
+    ensures says { IfOk result (λ answer. BindSays (map string_bytes names.now) (change F.files F.faults shelf.old shelf.new)
+        answer.status answer.text.items) }
+    ensures shelf { HasNotFallen (F.faults shelf.old) (F.faults shelf.new) }
+    ensures files { F.files shelf.new ≡ F.files shelf.old }
+    ensures loads { IfOk result (λ answer. answer.status ≢ Status.ShelfFault → HasStayed (F.faults shelf.old) (F.faults shelf.new)) }
+    ensures memory { OnErr result (HasStayed (F.faults shelf.old) (F.faults shelf.new)) }
+{
+    let mut binder = Binder::new(alloc);
+    for (before, name) in names.iter().enumerate() {
+        let added = add_file(alloc, &mut binder, before as u32 + 1, name.as_str(), shelf)?;
+        match added {
+            None => {}
+            Some(told) => return Ok(told),
+        }
+    }
+    let book = binder.finish()?;
+    Ok(Answer {
+        status: Status::Done,
+        text: write_book(alloc, &book)?,
+    })
+}
+
+/// Adds file `number`, which stands under the name, if it can be bound, and else answers what is told instead.
+fn add_file<F: Shelf>(
+    alloc: Global,
+    binder: &mut Binder,
+    number: u32,
+    name: &str,
+    shelf: &mut F,
+) -> Result<Option<Answer>, AllocError>
+    requires room { length binder.old.entries < MAX_ENTRIES }
+    ensures added { IfOk result (IsAdded (change F.files F.faults shelf.old shelf.new) number name.now binder.old binder.new) }
+    ensures shelf { HasNotFallen (F.faults shelf.old) (F.faults shelf.new) }
+    ensures files { F.files shelf.new ≡ F.files shelf.old }
+    ensures memory { OnErr result (HasStayed (F.faults shelf.old) (F.faults shelf.new)) }
+{
+    // It is made before the shelf is asked, so that its fault is told even where memory ends.
+    let failed = of_file(alloc, number, Status::ShelfFault, SHELF_FAILED.as_bytes())?;
+    match shelf.load(alloc, name) {
+        Ok(bytes) => add_text(alloc, binder, number, bytes.as_slice()),
+        Err(LoadError::Failed) => Ok(Some(failed)),
+        Err(LoadError::TooLong) => {
+            let long = of_file(alloc, number, Status::TooLong, TOO_LONG.as_bytes())?;
+            Ok(Some(long))
+        }
+        Err(LoadError::Memory) => Err(AllocError),
+    }
+}
+
+/// Adds the table that the bytes of file `number` are the text of, if it can be bound, and else answers what is told instead.
+fn add_text(
+    alloc: Global,
+    binder: &mut Binder,
+    number: u32,
+    bytes: &[u8],
+) -> Result<Option<Answer>, AllocError>
+    requires room { length binder.old.entries < MAX_ENTRIES }
+    ensures added { IfOk result (IsAddedText number bytes.now binder.old binder.new) }
+{
+    match fit(alloc, bytes)? {
+        Fitted::Fits(file) => match binder.add(file) {
+            Ok(()) => Ok(None),
+            Err(BindError::Full) => Ok(Some(full(alloc)?)),
+            Err(BindError::Memory) => Err(AllocError),
+        },
+        Fitted::Tells(answer) => {
+            let told = of_file(alloc, number, answer.status, answer.text.as_slice())?;
+            Ok(Some(told))
+        }
+    }
+}
+
+/// The answer with this status that tells this text of file `number`.
+fn of_file(alloc: Global, number: u32, status: Status, text: &[u8]) -> Result<Answer, AllocError>
+    ensures status { IfOk result (λ answer. answer.status ≡ status) }
+    ensures text { IfOk result (λ answer. answer.text.items ≡ of_file_lem number text.now) }
+{
+    let mut line = format!(in alloc; "file {number} ")?.into_bytes();
+    line.extend_from_slice(text)?;
+    Ok(Answer { status, text: line })
+}
