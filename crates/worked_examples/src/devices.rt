@@ -1,9 +1,11 @@
-//! Devices that fail in the middle of a run, and those that would fail after it.
+//! Devices that fail in the middle of a run, those that would fail after it, and inputs without an end.
 #![tactic(auto)]
 
 use crate::inputs::TWO_MOVES_TABLE;
-use crate::runs::{Failing, Run, run_failing};
+use crate::runs::{Failing, Run, SOUND, run_failing, run_over};
+use renju_io::RealSource;
 use std::alloc::{AllocError, Global};
+use std::io;
 use std::test::Fail;
 
 const ACCEPTED: &str = "accepted in 2 moves, 219 arrivals\n";
@@ -67,5 +69,47 @@ fn nothing_is_written_after_the_last_piece(rt: HostRuntime) -> Result<(), Fail> 
     let run = run_to_write(rt.alloc(), 2, 0)?;
     assert_eq!(rt; run.status, 0);
     assert_eq!(rt; run.output.as_slice(), ACCEPTED.as_bytes());
+    Ok(())
+}
+
+#[test]
+fn a_session_is_read_up_to_its_end_and_no_further(rt: HostRuntime) -> Result<(), Fail> {
+    // Lines, the most bytes of a read, a read that fails, and the status: the last read is that of END, or tells the end.
+    let sessions = [
+        ("START 15\nEND\n", 65_536, 1, 7),
+        ("START 15\nEND\n", 65_536, 2, 0),
+        ("START 15\nEND\n", 1, 13, 7),
+        ("START 15\nEND\n", 1, 14, 0),
+        ("START 15\n", 65_536, 2, 7),
+        ("START 15\n", 65_536, 3, 0),
+        ("START 15\n", 1, 10, 7),
+        ("START 15\n", 1, 11, 0),
+    ];
+    for (lines, piece, read, status) in sessions {
+        let failing = Failing {
+            piece,
+            reads: &[read],
+            writes: &[],
+            kept: 0,
+        };
+        let run = run_failing(rt.alloc(), "brain", lines.as_bytes(), &failing)?;
+        assert_eq!(rt; run.status, status, "{lines} {piece} {read}");
+    }
+    Ok(())
+}
+
+#[test]
+fn an_input_without_an_end_is_too_long(rt: HostRuntime) -> Result<(), Fail> {
+    let endless = [
+        ("check 219", b'x', "input too long\n"),
+        ("referee", b'x', "input too long\n"),
+        ("brain", b'\n', ""),
+    ];
+    for (words, byte, output) in endless {
+        let mut source = RealSource::new(io::repeat(byte));
+        let run = run_over(rt.alloc(), words, &mut source, &SOUND)?;
+        assert_eq!(rt; run.status, 11, "{words}");
+        assert_eq!(rt; run.output.as_slice(), output.as_bytes(), "{words}");
+    }
     Ok(())
 }

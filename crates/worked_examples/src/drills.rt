@@ -5,6 +5,7 @@
 
 use crate::runs::{Example, Failing, answers_as_worked_out, run_failing, run_sound};
 use std::test::Fail;
+use strength_drill::{Counts, drill_counts};
 
 const EXAMPLES: [Example; 4] = [
     Example {
@@ -65,5 +66,19 @@ fn a_drill_whose_output_fails_wrote_the_front(rt: HostRuntime) -> Result<(), Fai
     let run = run_failing(rt.alloc(), "drill 0", b"", &failing)?;
     assert_eq!(rt; run.status, 8);
     assert_eq!(rt; run.output.as_slice(), b"dri".as_slice());
+    Ok(())
+}
+
+#[test]
+fn the_counts_of_a_drill_alone(rt: HostRuntime) -> Result<(), Fail> {
+    let counted = Counts {
+        wins: 43,
+        none: 17,
+        spent: 0,
+        accepted: 43,
+        games: 43,
+        moves: 68,
+    };
+    assert_eq!(rt; drill_counts(rt.alloc(), 0)?, counted);
     Ok(())
 }

@@ -2,7 +2,7 @@
 #![tactic(auto)]
 
 use renju_cli::run_renju;
-use renju_io::{MemoryShelf, MemorySink, MemorySource};
+use renju_io::{MemoryShelf, MemorySink, MemorySource, Source};
 use std::alloc::{AllocError, Global};
 use std::process::Abort;
 use std::test::Fail;
@@ -53,19 +53,29 @@ pub fn run_failing(
     input: &[u8],
     failing: &Failing<'_>,
 ) -> Result<Run, AllocError> {
-    let mut list = Vec::new(alloc);
-    for word in words.split_whitespace() {
-        list.push(String::from_str(alloc, word)?)?;
-    }
     let piece = if failing.piece == 0 { 1 } else { failing.piece };
     let mut source = MemorySource::new(
         Vec::from_slice(alloc, input)?,
         piece,
         Vec::from_slice(alloc, failing.reads)?,
     );
+    run_over(alloc, words, &mut source, failing)
+}
+
+/// The same over any input, with an output that fails so.
+pub fn run_over<I: Source>(
+    alloc: Global,
+    words: &str,
+    source: &mut I,
+    failing: &Failing<'_>,
+) -> Result<Run, AllocError> {
+    let mut list = Vec::new(alloc);
+    for word in words.split_whitespace() {
+        list.push(String::from_str(alloc, word)?)?;
+    }
     let mut sink = MemorySink::new(alloc, failing.kept, Vec::from_slice(alloc, failing.writes)?);
     let mut shelf = MemoryShelf::new(Vec::new(alloc), Vec::new(alloc));
-    let status = run_renju(alloc, list.as_slice(), &mut source, &mut sink, &mut shelf);
+    let status = run_renju(alloc, list.as_slice(), source, &mut sink, &mut shelf);
     Ok(Run {
         status,
         output: Vec::from_slice(alloc, sink.bytes())?,
