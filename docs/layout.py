@@ -28,8 +28,8 @@ CHAPTERS = (
     (
         "texts",
         "Texts",
-        "How positions, tables and games are spelled, byte by byte.",
-        ("text_lines", "position_files"),
+        "How positions, tables, games and books are spelled, byte by byte.",
+        ("text_lines", "position_files", "table_book.Books"),
     ),
     (
         "run",
@@ -59,7 +59,7 @@ CHAPTERS = (
         "brain",
         "The brain",
         "What a brain knows, the move that it chooses, its step at each command, and a session of it.",
-        ("strategy_checker", "brain_session"),
+        ("strategy_checker", "table_book", "brain_session"),
     ),
     (
         "commands",
