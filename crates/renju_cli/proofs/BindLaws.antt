@@ -47,14 +47,16 @@ no-bind names none h = let is = has-told (codes "bind" ∷ names) h in none is.i
 -- ---- files under names
 
 -- the names are as many as the tables under them
-pub bindable-count : (shelf : Option Files) (names : List (List ℕ)) (files : List TableFile) → AreBindable shelf names files → length files ≡ length names
+pub bindable-count : (shelf : Option Files) (names : List (List ℕ)) (files : List TableFile) → AreBindable shelf names files
+    → length files ≡ length names
 bindable-count shelf [] [] h = refl
 bindable-count shelf [] (file ∷ files) h = absurd h
 bindable-count shelf (name ∷ names) [] h = absurd h
 bindable-count shelf (name ∷ names) (file ∷ files) h = ap suc (bindable-count shelf names files h.1)
 
 -- one more
-pub bindable-more : (shelf : Option Files) (names : List (List ℕ)) (files : List TableFile) (name : List ℕ) (file : TableFile) → AreBindable shelf names files → IsBindable shelf name file
+pub bindable-more : (shelf : Option Files) (names : List (List ℕ)) (files : List TableFile) (name : List ℕ) (file : TableFile)
+    → AreBindable shelf names files → IsBindable shelf name file
     → AreBindable shelf (names ++ name ∷ []) (files ++ file ∷ [])
 bindable-more shelf [] [] name file h is = (is, tt)
 bindable-more shelf [] (f ∷ files) name file h is = absurd h
@@ -63,12 +65,14 @@ bindable-more shelf (n ∷ names) (f ∷ files) name file h is = (h.0, bindable-
 
 module _ (shelf : Files) where
   -- there is one table under a name
-  table-under : (name : List ℕ) (file other : TableFile) → IsBindable (Some shelf) name file → IsBindable (Some shelf) name other → other ≡ file
+  table-under : (name : List ℕ) (file other : TableFile) → IsBindable (Some shelf) name file → IsBindable (Some shelf) name other
+      → other ≡ file
   table-under name file other is also =
       let same : also.bytes ≡ is.bytes = same_Some also.bytes is.bytes (sym also.found ∙ is.found) in
       one-table file other is.bytes is.at (subst (IsTableAt other) same also.at)
 
-  same-tables : (names : List (List ℕ)) (files others : List TableFile) → AreBindable (Some shelf) names files → AreBindable (Some shelf) names others → others ≡ files
+  same-tables : (names : List (List ℕ)) (files others : List TableFile) → AreBindable (Some shelf) names files
+      → AreBindable (Some shelf) names others → others ≡ files
   same-tables [] [] [] h k = refl
   same-tables [] [] (o ∷ others) h k = absurd k
   same-tables [] (f ∷ files) others h k = absurd h
@@ -80,15 +84,18 @@ module _ (shelf : Files) where
       λ i. first i ∷ later i
 
   -- the table under a name among others, and those before it
-  at-name : (before later : List (List ℕ)) (name : List ℕ) (files : List TableFile) → AreBindable (Some shelf) (before ++ name ∷ later) files
+  at-name : (before later : List (List ℕ)) (name : List ℕ) (files : List TableFile)
+      → AreBindable (Some shelf) (before ++ name ∷ later) files
       → (file : TableFile) × IsBindable (Some shelf) name file
   at-name [] later name [] h = absurd h
   at-name [] later name (f ∷ files) h = (f, h.0)
   at-name (n ∷ before) later name [] h = absurd h
   at-name (n ∷ before) later name (f ∷ files) h = at-name before later name files h.1
 
-  front-tables : (before later : List (List ℕ)) (name : List ℕ) (files fronts : List TableFile) (file : TableFile) → AreBindable (Some shelf) (before ++ name ∷ later) files
-      → AreBindable (Some shelf) before fronts → IsBindable (Some shelf) name file → (rest : List TableFile) × (files ≡ (fronts ++ file ∷ []) ++ rest)
+  front-tables : (before later : List (List ℕ)) (name : List ℕ) (files fronts : List TableFile) (file : TableFile)
+      → AreBindable (Some shelf) (before ++ name ∷ later) files
+      → AreBindable (Some shelf) before fronts → IsBindable (Some shelf) name file
+      → (rest : List TableFile) × (files ≡ (fronts ++ file ∷ []) ++ rest)
   front-tables [] later name [] fronts file h k is = absurd h
   front-tables [] later name (f ∷ files) [] file h k is =
       let same = table-under name file f is h.0 in (files, λ i. same i ∷ files)
@@ -118,7 +125,8 @@ module _ (shelf : Option Files) (names : List (List ℕ)) (old : Book) (h : Boun
   pub up-to-few : AreFew h.files
   up-to-few = bound-few h.files old h.bound
 
-  pub up-to-more : (name : List ℕ) (file : TableFile) (new : Book) → IsBindable shelf name file → BindsMore old file new → BoundUpTo shelf (names ++ name ∷ []) new
+  pub up-to-more : (name : List ℕ) (file : TableFile) (new : Book) → IsBindable shelf name file → BindsMore old file new
+      → BoundUpTo shelf (names ++ name ∷ []) new
   up-to-more name file new is binds = record {
     files = h.files ++ file ∷ [];
     bindable = bindable-more shelf names h.files name file h.bindable is;
@@ -126,7 +134,8 @@ module _ (shelf : Option Files) (names : List (List ℕ)) (old : Book) (h : Boun
   }
 
 -- the names before one, that name, and those after it
-pub names-at : {X : Type 0} (f : X → List ℕ) (xs : List X) (i : ℕ) (d : X) → i < length xs → map f xs ≡ map f (take i xs) ++ f (get_or xs i d) ∷ map f (drop (suc i) xs)
+pub names-at : {X : Type 0} (f : X → List ℕ) (xs : List X) (i : ℕ) (d : X) → i < length xs
+    → map f xs ≡ map f (take i xs) ++ f (get_or xs i d) ∷ map f (drop (suc i) xs)
 names-at f [] i d l = absurd (omega arith)
 names-at f (x ∷ xs) zero d l = refl
 names-at f (x ∷ xs) (suc i) d l = ap (λ (ws : List (List ℕ)). f x ∷ ws) (names-at f xs i d (omega arith))
@@ -146,7 +155,8 @@ module _ {X : Type 0} (f : X → List ℕ) (xs : List X) (i : ℕ) (x : X) (name
   names-more = map_more f xs i x l ∙ ap (λ (w : List ℕ). map f (take i xs) ++ w ∷ []) here
 
 -- there is room for as many entries as names
-pub room-left : {X : Type 0} (f : X → List ℕ) (xs : List X) (i : ℕ) (shelf : Option Files) (book : Book) → BoundUpTo shelf (map f (take i xs)) book → AreNames (map f xs) → i < length xs
+pub room-left : {X : Type 0} (f : X → List ℕ) (xs : List X) (i : ℕ) (shelf : Option Files) (book : Book)
+    → BoundUpTo shelf (map f (take i xs)) book → AreNames (map f xs) → i < length xs
     → length book.entries < MAX_ENTRIES
 room-left f xs i shelf book h are l =
     let count = up-to-count shelf (map f (take i xs)) book h in
@@ -184,23 +194,27 @@ module _ (shelf : Change (Option Files)) (names before later : List (List ℕ)) 
   stop : StopsAt names shelf
   stop = record { before = before; name = name; later = later; names_are = are; files = h.files; bindable = h.bindable; few = up-to-few shelf.before before book h }
 
-  pub says-refused : (status : Status) (line text : List ℕ) → IsUnheld TableFileSays shelf name status line → text ≡ of_file (length before + 1) line → BindSays names shelf status text
+  pub says-refused : (status : Status) (line text : List ℕ) → IsUnheld TableFileSays shelf name status line
+      → text ≡ of_file (length before + 1) line → BindSays names shelf status text
   unfolding stop
   says-refused status line text why told = inr (inl (record { stop = stop; line = line; why = why; told = told }))
 
-  pub says-full : (file : TableFile) (status : Status) (text : List ℕ) → IsBindable shelf.before name file → IsSound shelf → HoldMore (book.table ∷ file.table ∷ []) MAX_NODES → status ≡ Full → text ≡ full_line
+  pub says-full : (file : TableFile) (status : Status) (text : List ℕ) → IsBindable shelf.before name file → IsSound shelf
+      → HoldMore (book.table ∷ file.table ∷ []) MAX_NODES → status ≡ Full → text ≡ full_line
       → BindSays names shelf status text
   unfolding stop
   says-full file status text last sound more ends told =
       inr (inr (record { stop = stop; file = file; last = last; sound = sound; full = bound-full h.files file book h.bound more; ends = ends; told = told }))
 
   -- what is told of a file that is not added
-  pub says-stop : (n : ℕ) (new : Book) (answer : Answer) → n ≡ length before + 1 → IsAdded shelf n name book new (Some answer) → BindSays names shelf answer.status answer.text.items
+  pub says-stop : (n : ℕ) (new : Book) (answer : Answer) → n ≡ length before + 1 → IsAdded shelf n name book new (Some answer)
+      → BindSays names shelf answer.status answer.text.items
   says-stop n new answer is (inl h) = says-refused answer.status h.0 answer.text.items h.1 (h.2 ∙ ap (λ (k : ℕ). of_file k h.0) is)
   says-stop n new answer is (inr h) = says-full h.0 answer.status answer.text.items h.1 h.2 h.3 h.4.ends h.4.told
 
 -- all files are bound
-pub says-book : (shelf : Change (Option Files)) (names : List (List ℕ)) (binder book : Book) (text : List ℕ) → BoundUpTo shelf.before names binder → IsSound shelf → book ≡ binder → IsWellFormed book
+pub says-book : (shelf : Change (Option Files)) (names : List (List ℕ)) (binder book : Book) (text : List ℕ)
+    → BoundUpTo shelf.before names binder → IsSound shelf → book ≡ binder → IsWellFormed book
     → IsTextOfBook book text → BindSays names shelf Done text
 says-book shelf names binder book text h sound same well told = inl (record {
   files = h.files;
@@ -221,7 +235,8 @@ module _ (names : List (List ℕ)) (run : Run) (files : List TableFile) (free : 
   told-of P h = subst P free.told h
 
   -- what is said is the book
-  book-told : (status : Status) (text : List ℕ) → BindSays names run.shelf status text → IsDelivered status text run.output run.status → HasBound files run
+  book-told : (status : Status) (text : List ℕ) → BindSays names run.shelf status text → IsDelivered status text run.output run.status
+      → HasBound files run
   book-told status text (inl said) (inl whole) =
       let same = same-tables free.shelf names files said.files free.bindable (told-of (λ shelf. AreBindable shelf names said.files) said.bindable) in
       record {
@@ -255,7 +270,8 @@ bind-answers names run is files free = by-ends is.ends where
 -- ---- what is shown
 
 module _ (names : List (List ℕ)) (run : Run) (done : run.status ≡ status_number Done) (shelf : Files) (told : run.shelf.before ≡ Some shelf) where
-  shown-by : (status : Status) (text : List ℕ) → BindSays names run.shelf status text → IsDelivered status text run.output run.status → ShowsBound names shelf run
+  shown-by : (status : Status) (text : List ℕ) → BindSays names run.shelf status text → IsDelivered status text run.output run.status
+      → ShowsBound names shelf run
   shown-by status text (inl said) (inl whole) = record {
     files = said.files;
     bindable = subst (λ (o : Option Files). AreBindable o names said.files) told said.bindable;
@@ -274,34 +290,41 @@ module _ (names : List (List ℕ)) (run : Run) (done : run.status ≡ status_num
   shown-by status text (inr (inr full)) (inr failed) = let e = sym done ∙ failed.0 in absurd (cc)
 
 -- what status 0 of `bind` shows
-pub bind-shown : (names : List (List ℕ)) (run : Run) → IsBind names run → run.status ≡ status_number Done → IfSome run.shelf.before (λ shelf. ShowsBound names shelf run)
+pub bind-shown : (names : List (List ℕ)) (run : Run) → IsBind names run → run.status ≡ status_number Done
+    → IfSome run.shelf.before (λ shelf. ShowsBound names shelf run)
 bind-shown names run is done = where-told run.shelf.before (λ shelf told. by-ends shelf told is.ends) where
-  by-ends : (shelf : Files) → run.shelf.before ≡ Some shelf → TellsBook names run ⊎ IsOutOfMemory run.output run.status → ShowsBound names shelf run
+  by-ends : (shelf : Files) → run.shelf.before ≡ Some shelf → TellsBook names run ⊎ IsOutOfMemory run.output run.status
+      → ShowsBound names shelf run
   by-ends shelf told (inl tells) = shown-by names run done shelf told tells.status tells.text tells.says tells.delivered
   by-ends shelf told (inr memory) = let e = sym done ∙ memory.ends in absurd (cc)
 
 -- ---- names, one by one
 
-each-more : (names : List (List ℕ)) (name : List ℕ) → AllByRecursion IsFileName names → IsFileName name → AllByRecursion IsFileName (names ++ name ∷ [])
+each-more : (names : List (List ℕ)) (name : List ℕ) → AllByRecursion IsFileName names → IsFileName name
+    → AllByRecursion IsFileName (names ++ name ∷ [])
 each-more [] name all is = (is, tt)
 each-more (n ∷ names) name all is = (all.0, each-more names name all.1 is)
 
 -- the words that were looked at are no empty ones
-pub filled-more : {X : Type 0} (f : X → List ℕ) (xs : List X) (i : ℕ) (x : X) → i < length xs → x ≡ get_or xs i x → AllByRecursion IsFileName (map f (take i xs)) → IsFileName (f x)
+pub filled-more : {X : Type 0} (f : X → List ℕ) (xs : List X) (i : ℕ) (x : X) → i < length xs → x ≡ get_or xs i x
+    → AllByRecursion IsFileName (map f (take i xs)) → IsFileName (f x)
     → AllByRecursion IsFileName (map f (take (i + 1) xs))
 filled-more f xs i x l is all named =
     subst (AllByRecursion IsFileName) (sym (names-more f xs i x (f x) l is refl)) (each-more (map f (take i xs)) (f x) all named)
 
-pub filled-at : {X : Type 0} (f : X → List ℕ) (xs : List X) (i : ℕ) (x : X) → i < length xs → x ≡ get_or xs i x → AllByRecursion IsFileName (map f xs) → IsFileName (f x)
+pub filled-at : {X : Type 0} (f : X → List ℕ) (xs : List X) (i : ℕ) (x : X) → i < length xs → x ≡ get_or xs i x
+    → AllByRecursion IsFileName (map f xs) → IsFileName (f x)
 filled-at f [] i x l is all = absurd (omega arith)
 filled-at f (y ∷ xs) zero x l is all = subst IsFileName (ap f (sym is)) all.0
 filled-at f (y ∷ xs) (suc i) x l is all = filled-at f xs i x (omega arith) is all.1
 
-pub filled-all : {X : Type 0} (f : X → List ℕ) (xs : List X) (i : ℕ) → length xs ≤ i → AllByRecursion IsFileName (map f (take i xs)) → AllByRecursion IsFileName (map f xs)
+pub filled-all : {X : Type 0} (f : X → List ℕ) (xs : List X) (i : ℕ) → length xs ≤ i → AllByRecursion IsFileName (map f (take i xs))
+    → AllByRecursion IsFileName (map f xs)
 filled-all f xs i l all = subst (AllByRecursion IsFileName) (ap (map f) (take_all i xs l)) all
 
 -- once all were added, an entry is held
-pub some-left : {X : Type 0} (f : X → List ℕ) (xs : List X) (i : ℕ) (shelf : Option Files) (book : Book) → BoundUpTo shelf (map f (take i xs)) book → AreNames (map f xs) → i ≤ length xs → length xs ≤ i
+pub some-left : {X : Type 0} (f : X → List ℕ) (xs : List X) (i : ℕ) (shelf : Option Files) (book : Book)
+    → BoundUpTo shelf (map f (take i xs)) book → AreNames (map f xs) → i ≤ length xs → length xs ≤ i
     → 0 < length book.entries
 some-left f xs i shelf book h are l k =
     let count = up-to-count shelf (map f (take i xs)) book h in
@@ -310,5 +333,6 @@ some-left f xs i shelf book h are l k =
     let some = are.some in
     omega arith
 
-pub up-to-all : {X : Type 0} (f : X → List ℕ) (xs : List X) (i : ℕ) (shelf : Option Files) (book : Book) → BoundUpTo shelf (map f (take i xs)) book → length xs ≤ i → BoundUpTo shelf (map f xs) book
+pub up-to-all : {X : Type 0} (f : X → List ℕ) (xs : List X) (i : ℕ) (shelf : Option Files) (book : Book)
+    → BoundUpTo shelf (map f (take i xs)) book → length xs ≤ i → BoundUpTo shelf (map f xs) book
 up-to-all f xs i shelf book h l = subst (λ (ws : List (List ℕ)). BoundUpTo shelf ws book) (ap (map f) (take_all i xs l)) h

@@ -105,6 +105,7 @@ report-imaged run report s is zero = image-shown s run zero (does-of run report 
 
 pub report-defended : (run : Run) → Report run → ShowsDefence run
 report-defended run report depth nodes is = defend-shown depth nodes run (does-of run report (Defend depth nodes) is)
+
 pub report-booked : (run : Run) → Report run → ShowsBook run
 report-booked run report work is done = book-shown work run done (does-of run report (Book work) is)
 

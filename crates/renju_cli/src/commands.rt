@@ -23,8 +23,8 @@ use crate::solve::Solve;
 use crate::threats::FindSequence;
 use crate::told::{deliver, tell};
 use crate::{
-    Status, bind, book, brain, check, defend, drill as drill_words, fouls, fours, image, referee, solve,
-    threats,
+    Status, bind, book, brain, check, defend, drill as drill_words, fouls, fours, image, referee,
+    solve, threats,
 };
 use board_symmetry::Symmetry;
 use renju_io::{Shelf, Sink, Source};
