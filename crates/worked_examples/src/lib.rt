@@ -5,6 +5,8 @@
 #![tactic(auto)]
 
 #[cfg(test)]
+mod binds;
+#[cfg(test)]
 mod books;
 #[cfg(test)]
 mod brains;

@@ -8,7 +8,7 @@ use std::test::Fail;
 
 /// No words, words of no command, words of a command that are too few or too many, and words that are no number in its
 /// range: zeros, leading zeros, signs, fractions, letters, and numbers that are 1 but for a power of two.
-const FORMLESS: [&str; 67] = [
+const FORMLESS: [&str; 68] = [
     "",
     "help",
     "--help",
@@ -76,6 +76,7 @@ const FORMLESS: [&str; 67] = [
     "book 219 219",
     "Book 219",
     "books 219",
+    "bind",
 ];
 
 /// Devices of which the input is not to be asked, and the output for one write alone.
