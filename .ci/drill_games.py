@@ -63,6 +63,14 @@ class Drill:
         fouls = self.run(["foul"], position.text()).stdout.decode()
         return f"foul {spelled(point)} " not in fouls
 
+    def tables(self, number):
+        """The tables of the wins of the drill of this number."""
+        drawn = Numbers(number)
+        for place in range(POSITIONS):
+            found = self.run(["fours", "6", "2000"], self.made(drawn, list(RULE_NUMBERS)[place % 3]).text())
+            if found.returncode == 0:
+                yield found.stdout.decode()
+
     def win(self, place, position, table, drawn):
         """Has the table of a win accepted, plays a game by it, and replays the game."""
         self.accepted += self.run(["check", ARRIVALS], table).returncode == 0
