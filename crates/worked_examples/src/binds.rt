@@ -1,6 +1,10 @@
 //! The command `bind`: files in memory whose tables are bound into one book.
 #![tactic(auto)]
 
+ghost use Rattle.std.specs.Prelude.{◌≡◌, IfOk, string_bytes};
+ghost use Rattle.renju_io.specs.Files.{IsMap};
+ghost use Rattle.renju_io.specs.Memory.{entries};
+
 use crate::inputs::{ONE_ANSWER_WRONG, TWO_ENTRIES, TWO_MOVES_TABLE};
 use crate::runs::{Failing, Run, SOUND, run_sound};
 use renju_cli::{USAGE, run_renju};
@@ -11,14 +15,6 @@ use std::test::Fail;
 /// The opponent moves first, before a four with two ends. Its two nodes are among those of the win in two moves.
 const OPPONENT_FIRST: &str =
     "renju-table 2\nrule freestyle\nsize 15\nblack 4,7 5,7 6,7 7,7\nwhite 0,0 2,0 4,0\nmoves 1\nnodes 2\n8,7 wins\n3,7 wins\nstart rest 0 8,7>1\n";
-
-/// The files of the runs, and their texts.
-const FILES: [(&str, &str); 4] = [
-    ("a", TWO_MOVES_TABLE),
-    ("b", OPPONENT_FIRST),
-    ("wrong", ONE_ANSWER_WRONG),
-    ("broken", "renju-table 1\nrule gomoku\n"),
-];
 
 /// Words of a run over these files, and the status and the text that are wanted.
 struct Bound {
@@ -81,6 +77,27 @@ const RUNS: [Bound; 10] = [
     },
 ];
 
+/// A file with this name and this text.
+fn file(alloc: Global, name: &str, text: &str) -> Result<MemoryFile, AllocError>
+    ensures name { IfOk result (λ file. string_bytes file.name ≡ name.now) }
+{
+    Ok(MemoryFile {
+        name: String::from_str(alloc, name)?,
+        bytes: Vec::from_slice(alloc, text.as_bytes())?,
+    })
+}
+
+/// The files of the runs.
+fn files(alloc: Global) -> Result<Vec<MemoryFile>, AllocError>
+    ensures different { IfOk result (λ files. IsMap (entries files.items)) }
+{
+    let a = file(alloc, "a", TWO_MOVES_TABLE)?;
+    let b = file(alloc, "b", OPPONENT_FIRST)?;
+    let wrong = file(alloc, "wrong", ONE_ANSWER_WRONG)?;
+    let broken = file(alloc, "broken", "renju-table 1\nrule gomoku\n")?;
+    Ok(vec![in alloc; a, b, wrong, broken]?)
+}
+
 /// Runs the program with these words, separated by single spaces, over the files. Answers what it wrote, and the bytes of
 /// its input that it left. The loads of these numbers fail.
 fn run_over(
@@ -93,17 +110,10 @@ fn run_over(
     for word in words.split_whitespace() {
         list.push(String::from_str(alloc, word)?)?;
     }
-    let mut files = Vec::new(alloc);
-    for (name, text) in FILES {
-        files.push(MemoryFile {
-            name: String::from_str(alloc, name)?,
-            bytes: Vec::from_slice(alloc, text.as_bytes())?,
-        })?;
-    }
     let input = Vec::from_slice(alloc, b"input".as_slice())?;
     let mut source = MemorySource::new(input, 65_536, Vec::from_slice(alloc, failing.reads)?);
     let mut sink = MemorySink::new(alloc, failing.kept, Vec::from_slice(alloc, failing.writes)?);
-    let mut shelf = MemoryShelf::new(files, Vec::from_slice(alloc, loads)?);
+    let mut shelf = MemoryShelf::new(files(alloc)?, Vec::from_slice(alloc, loads)?);
     let status = run_renju(alloc, list.as_slice(), &mut source, &mut sink, &mut shelf);
     let output = Vec::from_slice(alloc, sink.bytes())?;
     match read_all(alloc, &mut source) {
