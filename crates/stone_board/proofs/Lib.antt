@@ -5,7 +5,10 @@ pub mod Looks
 pub mod Stones
 -- walks along an axis
 pub mod Strides
--- reading order, and the numbers of stones that are kept
+-- reading order, and what is kept of the stones: their numbers, and the lines as bits
 mod Orders
 mod Counts
+pub mod LineBits
+-- the points along a line, by its bits
+pub mod LineStones
 pub mod BothBoards

@@ -1,4 +1,5 @@
 pub mod Order
 pub mod Steps
 pub mod Walks
-pub mod Counts
+pub mod Lines
+pub mod Kept

@@ -1,19 +1,22 @@
 //! One board.
 //!
 //! The cells stand in one vector in reading order. The numbers of stones are kept beside them, so that `count` and
-//! `empties` look at no cell.
+//! `empties` look at no cell, and so are the lines as bits, so that what a whole line holds is told at once.
 #![tactic(auto)]
 
 ghost use Rattle.std.specs.Prelude.{◌≡◌, ◌↔◌, ◌≤◌, ◌<◌, ◌+◌, ◌*◌, pos, negsuc, ◌≤ℤ◌, true, IsTrue, IfOk, replicate};
 ghost use Rattle.std.specs.List.{find};
 ghost use Rattle.game_rules.specs.declared.Side.{Side};
+ghost use Rattle.game_rules.specs.declared.Point.{Point};
 ghost use Rattle.game_rules.specs.Grid.{IsBoard, is_on, is_empty as is_empty_lem, holds as holds_lem, cell_at, put as put_lem, lift as lift_lem, look_at, step as step_lem, stones_of, empties_of, points_of, is_stone_of as is_stone_of_lem, point_of as point_of_lem, along as along_lem, shift as shift_lem};
 ghost use Rattle.game_rules.specs.Shapes.{run_of, stone_at, stones_ahead as stones_ahead_lem, stones_behind as stones_behind_lem};
 ghost use Rattle.game_rules.specs.Ways.{stones_towards as stones_towards_lem, towards as towards_lem};
 ghost use Rattle.stone_board.specs.Order.{points_left, first_empty_from as first_empty_from_lem};
 ghost use Rattle.stone_board.specs.Steps.{holds_stone, kept_on};
+ghost use Rattle.stone_board.specs.Lines.{TellsLine, line_of as line_of_lem};
 
 use crate::ReadingOrder;
+use crate::lines::{ALL_LINES, LINES, index_of, line_of, turn_all};
 use crate::walks::{goes_on, place_after, steps_left, stride};
 use game_rules::{Axis, Cell, Look, MAX_SIDE, MIN_SIDE, Point, Side, Way};
 use std::alloc::{AllocError, Global};
@@ -27,17 +30,18 @@ pub struct Board {
     cells: Vec<Cell>,
     black: u32,
     white: u32,
+    lines: Vec<u32>,
 }
 
 impl Model for Board {
     ghost use Rattle.game_rules.specs.Grid.{Grid};
-    ghost use Rattle.stone_board.specs.Counts.{IsCounted};
+    ghost use Rattle.stone_board.specs.Kept.{IsKept};
 
     ghost Value = { Grid };
 
     ghost view = { λ b. record { width = b.width; height = b.height; cells = b.cells.items } };
 
-    ghost invariant = { λ b. IsCounted (record { width = b.width; height = b.height; cells = b.cells.items }) b.black b.white };
+    ghost invariant = { λ b. IsKept (record { width = b.width; height = b.height; cells = b.cells.items }) b.black b.white b.lines.items };
 }
 
 impl Board {
@@ -50,12 +54,14 @@ impl Board {
         ensures empty { IfOk result (λ b. b ≡ record { width = width; height = height; cells = replicate (width * height) Cell.Empty }) }
     {
         let cells = vec![in alloc; Cell::Empty; width as usize * height as usize]?;
+        let lines = vec![in alloc; 0u32; ALL_LINES]?;
         Ok(Board {
             width,
             height,
             cells,
             black: 0,
             white: 0,
+            lines,
         })
     }
 
@@ -116,10 +122,12 @@ impl Board {
             Side::Black => {
                 self.cells[place] = Cell::Black;
                 self.black += 1;
+                turn_all(&mut self.lines, Side::Black, p);
             }
             Side::White => {
                 self.cells[place] = Cell::White;
                 self.white += 1;
+                turn_all(&mut self.lines, Side::White, p);
             }
         }
     }
@@ -136,10 +144,12 @@ impl Board {
             Cell::Black => {
                 self.cells[place] = Cell::Empty;
                 self.black -= 1;
+                turn_all(&mut self.lines, Side::Black, p);
             }
             Cell::White => {
                 self.cells[place] = Cell::Empty;
                 self.white -= 1;
+                turn_all(&mut self.lines, Side::White, p);
             }
         }
     }
@@ -234,6 +244,42 @@ impl Board {
         }
     }
 
+    /// Numbers of lines of the axis, from the first to the one past the last, among which is each line with a point of the board.
+    pub fn lines(&self, axis: Axis) -> (u8, u8)
+        ensures covers { (p : Point) → is_on self.now p ≡ true → (result.0 ≤ line_of_lem axis p) × (line_of_lem axis p < result.1) }
+        ensures bound { result.1 ≤ LINES }
+        ensures board { IsBoard self.now }
+    {
+        match axis {
+            Axis::Row => (0, self.height),
+            Axis::Column => (0, self.width),
+            Axis::Down => (MAX_SIDE - self.height, MAX_SIDE - 1 + self.width),
+            Axis::Up => (0, self.width + self.height - 1),
+        }
+    }
+
+    /// The stones of the side on line `n` of the axis, below `LINES`, as bits: bit `place_on(axis, p)` is set exactly where the side
+    /// has a stone on the point `p` of the line. Of bits that are no point's it says nothing.
+    #[inline(always)]
+    pub fn line(&self, side: Side, axis: Axis, n: u8) -> u32
+        requires line { n < LINES }
+        ensures tells { TellsLine self.now side axis n result }
+        ensures board { IsBoard self.now }
+    {
+        self.lines[index_of(side, axis, n)]
+    }
+
+    /// The same of the line on the axis through a point of the board.
+    #[inline(always)]
+    pub fn line_through(&self, side: Side, axis: Axis, p: Point) -> u32
+        requires on { IsTrue (is_on self.now p) }
+        ensures tells { TellsLine self.now side axis (line_of_lem axis p) result }
+        ensures board { IsBoard self.now }
+    {
+        let _ = &self.width;
+        self.line(side, axis, line_of(axis, p))
+    }
+
     /// How many stones of the side stand in an unbroken row next to the point, ahead of it on the axis, whatever stands
     /// on the point.
     pub fn stones_ahead(&self, side: Side, axis: Axis, p: Point) -> u32
@@ -305,12 +351,14 @@ impl Board {
         ensures copy { IfOk result (λ b. b ≡ self.now) }
     {
         let cells = Vec::from_slice(*self.cells.allocator(), self.cells.as_slice())?;
+        let lines = Vec::from_slice(*self.lines.allocator(), self.lines.as_slice())?;
         Ok(Board {
             width: self.width,
             height: self.height,
             cells,
             black: self.black,
             white: self.white,
+            lines,
         })
     }
 

@@ -1,5 +1,5 @@
 //! What boards answer on small examples.
-use crate::{Axis, Board, Cell, Look, Point, Points, Side, Way};
+use crate::{Axis, Board, Cell, Look, Point, Points, Side, Way, line_of, place_on};
 use std::process::Abort;
 use std::test::Fail;
 
@@ -75,6 +75,38 @@ fn looks_along_a_line(rt: HostRuntime) -> Result<(), Fail> {
         board.stones_towards(Way::Ahead.opposite(), Side::Black, Axis::Up, p),
         1
     );
+    Ok(())
+}
+
+const AXES: [Axis; 4] = [Axis::Row, Axis::Column, Axis::Down, Axis::Up];
+
+#[test]
+fn lines_are_told_as_bits(rt: HostRuntime) -> Result<(), Fail> {
+    let mut board = Board::empty(rt.alloc(), 32, 5)?;
+    put_all(
+        &rt,
+        &mut board,
+        Side::Black,
+        &[(1, 3), (2, 2), (4, 0), (31, 4)],
+    );
+    put_all(&rt, &mut board, Side::White, &[(3, 1)]);
+    let p = Point { x: 2, y: 2 };
+    assert!(rt; board.holds(Side::Black, p));
+    assert_eq!(rt; board.line_through(Side::Black, Axis::Up, p), 0b1_0110);
+    assert_eq!(rt; board.line_through(Side::White, Axis::Up, p), 0b1000);
+    assert_eq!(rt; board.line_through(Side::Black, Axis::Column, p), 0b100);
+    assert_eq!(rt; board.line(Side::Black, Axis::Row, 4), 1 << 31);
+    assert_eq!(rt; board.copy()?.line(Side::Black, Axis::Row, 2), 0b100);
+    board.lift(p);
+    for axis in AXES.iter() {
+        let (first, past) = board.lines(*axis);
+        assert!(rt; first <= line_of(*axis, p) && line_of(*axis, p) < past);
+        assert!(rt; board.on(p));
+        assert_eq!(rt;
+            board.line_through(Side::Black, *axis, p) & (1 << place_on(*axis, p)),
+            0
+        );
+    }
     Ok(())
 }
 
