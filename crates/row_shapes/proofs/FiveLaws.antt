@@ -51,6 +51,10 @@ none-short rule b s none = by_told (in_short (five_points rule b s)) refl where
   by_told (One w) h = let no : false ≡ true = sym none ∙ has_five-one rule b s w h in cc
   by_told Several h = let no : false ≡ true = sym none ∙ has_five-several rule b s h in cc
 
+-- nor is any listed
+pub none-listed : (rule : RuleKind) (b : Grid) (s : Side) → has_five rule b s ≡ false → five_points rule b s ≡ []
+none-listed rule b s none = short-none (five_points rule b s) (none-short rule b s none)
+
 -- the one five point that is told is one, so it is empty
 pub one-five : (rule : RuleKind) (b : Grid) (s : Side) (w : Point) → in_short (five_points rule b s) ≡ One w → five rule b s w ≡ true
 one-five rule b s w h =

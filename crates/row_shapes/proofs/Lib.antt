@@ -25,3 +25,5 @@ mod HalfShapes
 mod HalfCodes
 mod HalfTables
 pub mod FourEnds
+-- windows of lines
+mod WindowLaws

@@ -4,6 +4,7 @@ pub mod FiveEnds
 pub mod Gaps
 pub mod Threes
 pub mod Reach
+pub mod Windows
 pub mod LineCodes
 pub mod LineShapes
 pub mod Halves

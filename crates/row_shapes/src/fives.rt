@@ -9,6 +9,7 @@ ghost use Rattle.game_rules.specs.Games.{five_points as five_points_lem, has_fiv
 ghost use Rattle.game_rules.specs.Shapes.{five};
 ghost use Rattle.row_shapes.specs.FivePoints.{in_short, takes as takes_lem};
 
+use crate::windows::may_have_five;
 use crate::{Rule, five_at};
 use std::alloc::{AllocError, Global};
 use stone_board::{Board, Point, Points, Side};
@@ -40,6 +41,9 @@ pub fn five_points<R: Rule>(alloc: Global, board: &Board, side: Side) -> Result<
     ensures fives { IfOk result (λ points. points ≡ five_points_lem R.KIND board.now side) }
 {
     let mut found = Points::new(alloc);
+    if !may_have_five(board, side) {
+        return Ok(found);
+    }
     for p in board.points() {
         if is_five::<R>(board, side, p) {
             found.push(p)?;
@@ -52,6 +56,9 @@ pub fn five_points<R: Rule>(alloc: Global, board: &Board, side: Side) -> Result<
 pub fn has_five<R: Rule>(board: &Board, side: Side) -> bool
     ensures five { result ≡ has_five_lem R.KIND board.now side }
 {
+    if !may_have_five(board, side) {
+        return false;
+    }
     for p in board.points() {
         if is_five::<R>(board, side, p) {
             return true;
@@ -64,6 +71,9 @@ pub fn has_five<R: Rule>(board: &Board, side: Side) -> bool
 pub fn fives_in_short<R: Rule>(board: &Board, side: Side) -> FivePoints
     ensures fives { result ≡ in_short (five_points_lem R.KIND board.now side) }
 {
+    if !may_have_five(board, side) {
+        return FivePoints::None;
+    }
     let mut first = None;
     for p in board.points() {
         if is_five::<R>(board, side, p) {

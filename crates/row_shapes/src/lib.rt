@@ -18,6 +18,7 @@ mod shapes;
 #[cfg(test)]
 mod tests;
 mod threes;
+mod windows;
 mod wins;
 
 pub use codes::line_code;

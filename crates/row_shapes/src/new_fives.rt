@@ -12,6 +12,7 @@ ghost use Rattle.game_rules.specs.Ways.{opposite, stones_towards as stones_towar
 ghost use Rattle.row_shapes.specs.FivePoints.{in_short};
 ghost use Rattle.row_shapes.specs.FiveEnds.{end_five as end_five_lem, with_more as with_more_lem, with_axis as with_axis_lem, joins_to_win as joins_to_win_lem};
 
+use crate::windows::may_make_five;
 use crate::{FivePoints, Rule};
 use stone_board::{Axis, Board, Point, Side, Way};
 
@@ -41,6 +42,9 @@ pub fn with_axis<R: Rule>(
     ensures fives { result ≡ with_axis_lem R.KIND board.now side p found axis }
     ensures board { IsBoard board.now }
 {
+    if !may_make_five(board, side, axis, p) {
+        return found;
+    }
     let ahead = board.stones_towards(Way::Ahead, side, axis, p);
     let behind = board.stones_towards(Way::Behind, side, axis, p);
     let found = with_more(

@@ -121,6 +121,30 @@ fn five_points_come_in_reading_order(rt: HostRuntime) -> Result<(), Fail> {
     Ok(())
 }
 
+#[test]
+fn a_line_with_a_window_may_have_no_five_point(rt: HostRuntime) -> Result<(), Fail> {
+    let border = board_of(&rt, &[(11, 14), (12, 14), (13, 14), (14, 14)], &[(10, 14)])?;
+    assert!(rt; !has_five::<Freestyle>(&border, Side::Black));
+    let long = board_of(
+        &rt,
+        &[(2, 7), (3, 7), (5, 7), (6, 7), (7, 7)],
+        &[(1, 7), (8, 7)],
+    )?;
+    assert!(rt; has_five::<Freestyle>(&long, Side::Black));
+    assert!(rt; !has_five::<Renju>(&long, Side::Black));
+    let corners = board_of(
+        &rt,
+        &[(0, 3), (1, 2), (2, 1), (3, 0)],
+        &[(10, 10), (11, 11), (12, 12), (14, 14)],
+    )?;
+    assert!(rt; !has_five::<Freestyle>(&corners, Side::Black));
+    assert_eq!(rt;
+        Some(fives_in_short::<Freestyle>(&corners, Side::White)),
+        one(13, 13)
+    );
+    Ok(())
+}
+
 // What the side's stone at the point makes, told before it is put and by a scan of the board with it, where both agree.
 fn made<R: Rule>(
     rt: &impl Abort,

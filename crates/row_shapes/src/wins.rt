@@ -8,6 +8,7 @@ ghost use Rattle.game_rules.specs.Grid.{is_on, is_empty, along as along_lem};
 ghost use Rattle.game_rules.specs.Shapes.{five, wins_on as wins_on_lem, wins_at as wins_at_lem};
 
 use crate::Rule;
+use crate::windows::may_win;
 use stone_board::{Axis, Board, Point, Side};
 
 /// Whether the empty point is a five point of the side: whether its stone there makes a winning run on some axis.
@@ -26,11 +27,16 @@ pub fn five_at<R: Rule>(board: &Board, side: Side, p: Point) -> bool
 pub(crate) fn wins_on<R: Rule>(board: &Board, side: Side, axis: Axis, p: Point) -> bool
     ensures wins { result ≡ wins_on_lem R.KIND board.now side axis p }
 {
-    board.is_empty(p)
-        && R::wins(
-            side,
-            1 + board.stones_ahead(side, axis, p) + board.stones_behind(side, axis, p),
-        )
+    if !board.is_empty(p) {
+        return false;
+    }
+    if !may_win(board, side, axis, p) {
+        return false;
+    }
+    R::wins(
+        side,
+        1 + board.stones_ahead(side, axis, p) + board.stones_behind(side, axis, p),
+    )
 }
 
 /// The same of the place so many steps ahead of a point and so many back again.

@@ -1,0 +1,220 @@
+-- A stone that makes a winning run fills a window of its line.
+use Rattle.std.proofs.Common.{◌≡◌, ◌≢◌, inl, inr, ℕ, zero, suc, ◌+◌, ◌-◌, ◌/◌, ◌%◌, ◌^◌, ◌≤◌, ◌<◌, Bool, true, false, ◌&&◌, not, nat_eq, refl, sym, ap, ◌∙◌, arith, List, [], ◌∷◌}
+use Rattle.std.specs.Prelude.{Option, Some, None, bit_and, bit_or}
+use Rattle.std.specs.Int.{bit_at, bit_not, w32}
+use Rattle.std.specs.List.{list_any}
+use Rattle.std.proofs.lemmas.Bool.{cases_lt, false_from_ne_true, both_ways}
+use Rattle.std.proofs.lemmas.Nat.{pow-add}
+use Rattle.std.proofs.Math.Nat.{div-div-eq-div-mul}
+use Rattle.std.proofs.lemmas.Nat.Bits.{bit_at_and, bit_at_or, bit_at_not, bit_at-lt, bit_at-zero}
+use Rattle.game_rules.proofs.Common.{Grid, IsBoard, is_on, is_empty, points_of, row_wins, stones_ahead, stones_behind, wins_on, five, other, has_five, put, towards, run_end}
+use Rattle.game_rules.specs.declared.RuleKind.{RuleKind}
+use Rattle.game_rules.specs.declared.Side.{Side}
+use Rattle.game_rules.specs.declared.Axis.{Axis}
+use Rattle.game_rules.specs.declared.Axis.TheVariants.{Row, Column, Down, Up}
+use Rattle.game_rules.specs.declared.Point.{Point}
+use Rattle.game_rules.specs.declared.Way.{Way}
+use Rattle.game_rules.proofs.Boards.{and_left, and_right, is_empty-on}
+use Rattle.game_rules.specs.declared.Way.TheVariants.{Ahead, Behind}
+use Rattle.game_rules.proofs.Positions.{IsBoard-put}
+use Rattle.std.proofs.lemmas.Bool.Decides.{nat_tests}
+use Rattle.game_rules.proofs.Wins.{wins_on-stones, row_wins-five}
+use Rattle.stone_board.specs.Lines.{line_of, place_on, TellsLine}
+use Rattle.stone_board.proofs.LineBits.{IsNear, board-near}
+use Rattle.stone_board.proofs.LineStones.{along-places, TellsLine-put, TellsLine-other, place_low, empty_bit, ahead_bit, behind_low, behind_bit}
+use Rattle.row_shapes.specs.Windows.{IsWindow}
+use Rattle.row_shapes.specs.FiveEnds.{kept_five, end_five}
+
+-- ---- windows by shifts
+
+shifted : (n k i : ℕ) → bit_at (n / 2 ^ k) i ≡ bit_at n (i + k)
+shifted n k i =
+    let sum : k + i ≡ i + k = omega arith in
+    ap (λ m. m % 2) (div-div-eq-div-mul n (2 ^ k) (2 ^ i) ∙ ap (λ m. n / m) (sym (pow-add 2 k i) ∙ ap (λ m. 2 ^ m) sum))
+
+both : (a b i : ℕ) → bit_at a i ≡ 1 → bit_at b i ≡ 1 → bit_at (bit_and a b) i ≡ 1
+both a b i h k = bit_at_and a b i ∙ omega (arith, h, k)
+
+left : (a b i : ℕ) → bit_at a i ≡ 1 → bit_at (bit_or a b) i ≡ 1
+left a b i h = let low = bit_at-lt b i in bit_at_or a b i ∙ omega (arith, h, low)
+
+right : (a b i : ℕ) → bit_at b i ≡ 1 → bit_at (bit_or a b) i ≡ 1
+right a b i h = let low = bit_at-lt a i in bit_at_or a b i ∙ omega (arith, h, low)
+
+pub neither : (own theirs m : ℕ) → bit_or own theirs < 2 ^ 32 → m < 32 → bit_at own m ≡ 0 → bit_at theirs m ≡ 0
+    → bit_at (bit_not w32 (bit_or own theirs)) m ≡ 1
+neither own theirs m fits low h k =
+    let none : bit_at (bit_or own theirs) m ≡ 0 = bit_at_or own theirs m ∙ (rw (h, k) refl) in
+    bit_at_not w32 (bit_or own theirs) m fits low ∙ ap (λ n. 1 - n) none
+
+four_and : (a c e f g i : ℕ) → bit_at a i ≡ 1 → bit_at c i ≡ 1 → bit_at e i ≡ 1 → bit_at f i ≡ 1 → bit_at g i ≡ 1
+    → bit_at (bit_and (bit_and (bit_and (bit_and a c) e) f) g) i ≡ 1
+four_and a c e f g i h k l m n = both (bit_and (bit_and (bit_and a c) e) f) g i
+    (both (bit_and (bit_and a c) e) f i (both (bit_and a c) e i (both a c i h k) l) m) n
+
+-- the places from which a window begins, as the code tells them
+module _ (own free : ℕ) where
+  abbrev pub gap_first : ℕ
+  gap_first = bit_and (bit_and (bit_and (bit_and (own / 2 ^ 1) (own / 2 ^ 2)) (own / 2 ^ 3)) (own / 2 ^ 4)) free
+
+  abbrev pub gap_second : ℕ
+  gap_second = bit_and (bit_and (bit_and (bit_and own (own / 2 ^ 2)) (own / 2 ^ 3)) (own / 2 ^ 4)) (free / 2 ^ 1)
+
+  abbrev pub gap_third : ℕ
+  gap_third = bit_and (bit_and (bit_and (bit_and own (own / 2 ^ 1)) (own / 2 ^ 3)) (own / 2 ^ 4)) (free / 2 ^ 2)
+
+  abbrev pub gap_fourth : ℕ
+  gap_fourth = bit_and (bit_and (bit_and (bit_and own (own / 2 ^ 1)) (own / 2 ^ 2)) (own / 2 ^ 4)) (free / 2 ^ 3)
+
+  abbrev pub gap_fifth : ℕ
+  gap_fifth = bit_and (bit_and (bit_and (bit_and own (own / 2 ^ 1)) (own / 2 ^ 2)) (own / 2 ^ 3)) (free / 2 ^ 4)
+
+  abbrev pub window_bits : ℕ
+  window_bits = bit_or (bit_or (bit_or (bit_or gap_first gap_second) gap_third) gap_fourth) gap_fifth
+
+  module _ (theirs i : ℕ) (gap : (m : ℕ) → m < 32 → bit_at own m ≡ 0 → bit_at theirs m ≡ 0 → bit_at free m ≡ 1) where
+    stone : (j k : ℕ) → IsWindow own theirs i j → k < 5 → k ≢ j → bit_at (own / 2 ^ k) i ≡ 1
+    stone j k h low other = shifted own k i ∙ h.stones k low other
+
+    start : (j : ℕ) → IsWindow own theirs i j → 0 ≢ j → bit_at own i ≡ 1
+    start j h other = let same : i ≡ i + 0 = omega arith in ap (bit_at own) same ∙ h.stones 0 (omega arith) other
+
+    clear : (j : ℕ) → IsWindow own theirs i j → bit_at (free / 2 ^ j) i ≡ 1
+    clear j h = shifted free j i ∙ gap (i + j) h.within h.gap h.free
+
+    clear_first : IsWindow own theirs i 0 → bit_at free i ≡ 1
+    clear_first h = let same : i ≡ i + 0 = omega arith in ap (bit_at free) same ∙ gap (i + 0) h.within h.gap h.free
+
+    pub window-bit : (j : ℕ) → IsWindow own theirs i j → bit_at window_bits i ≡ 1
+    window-bit zero h =
+        left _ gap_fifth i (left _ gap_fourth i (left _ gap_third i (left gap_first gap_second i
+        (four_and (own / 2 ^ 1) (own / 2 ^ 2) (own / 2 ^ 3) (own / 2 ^ 4) free i
+        (stone 0 1 h (omega arith) (λ e. absurd (omega (arith, e)))) (stone 0 2 h (omega arith) (λ e. absurd (omega (arith, e))))
+        (stone 0 3 h (omega arith) (λ e. absurd (omega (arith, e)))) (stone 0 4 h (omega arith) (λ e. absurd (omega (arith, e))))
+        (clear_first h)))))
+    window-bit (suc zero) h =
+        left _ gap_fifth i (left _ gap_fourth i (left _ gap_third i (right gap_first gap_second i
+        (four_and own (own / 2 ^ 2) (own / 2 ^ 3) (own / 2 ^ 4) (free / 2 ^ 1) i
+        (start 1 h (λ e. absurd (omega (arith, e)))) (stone 1 2 h (omega arith) (λ e. absurd (omega (arith, e))))
+        (stone 1 3 h (omega arith) (λ e. absurd (omega (arith, e)))) (stone 1 4 h (omega arith) (λ e. absurd (omega (arith, e))))
+        (clear 1 h)))))
+    window-bit (suc (suc zero)) h =
+        left _ gap_fifth i (left _ gap_fourth i (right (bit_or gap_first gap_second) gap_third i
+        (four_and own (own / 2 ^ 1) (own / 2 ^ 3) (own / 2 ^ 4) (free / 2 ^ 2) i
+        (start 2 h (λ e. absurd (omega (arith, e)))) (stone 2 1 h (omega arith) (λ e. absurd (omega (arith, e))))
+        (stone 2 3 h (omega arith) (λ e. absurd (omega (arith, e)))) (stone 2 4 h (omega arith) (λ e. absurd (omega (arith, e))))
+        (clear 2 h))))
+    window-bit (suc (suc (suc zero))) h =
+        left _ gap_fifth i (right (bit_or (bit_or gap_first gap_second) gap_third) gap_fourth i
+        (four_and own (own / 2 ^ 1) (own / 2 ^ 2) (own / 2 ^ 4) (free / 2 ^ 3) i
+        (start 3 h (λ e. absurd (omega (arith, e)))) (stone 3 1 h (omega arith) (λ e. absurd (omega (arith, e))))
+        (stone 3 2 h (omega arith) (λ e. absurd (omega (arith, e)))) (stone 3 4 h (omega arith) (λ e. absurd (omega (arith, e))))
+        (clear 3 h)))
+    window-bit (suc (suc (suc (suc zero)))) h =
+        right (bit_or (bit_or (bit_or gap_first gap_second) gap_third) gap_fourth) gap_fifth i
+        (four_and own (own / 2 ^ 1) (own / 2 ^ 2) (own / 2 ^ 3) (free / 2 ^ 4) i
+        (start 4 h (λ e. absurd (omega (arith, e)))) (stone 4 1 h (omega arith) (λ e. absurd (omega (arith, e))))
+        (stone 4 2 h (omega arith) (λ e. absurd (omega (arith, e)))) (stone 4 3 h (omega arith) (λ e. absurd (omega (arith, e))))
+        (clear 4 h))
+    window-bit (suc (suc (suc (suc (suc j))))) h = absurd (let near = h.near in omega (arith, near))
+
+-- ---- the window that a winning stone fills
+
+module _ (b : Grid) (s : Side) (d : Axis) (n own theirs : ℕ) (ok : IsBoard b) (mine : TellsLine b s d n own)
+    (rival : TellsLine b (other s) d n theirs) where
+  module _ (q : Point) (empty : is_empty b q ≡ true) (line : line_of d q ≡ n) where
+    on : is_on b q ≡ true
+    on = is_empty-on b q empty
+
+    abbrev place : ℕ
+    place = place_on d q
+
+    abbrev fore : ℕ
+    fore = stones_ahead b s d q
+
+    abbrev back : ℕ
+    back = stones_behind b s d q
+
+    -- j stones behind the point and the others ahead of it
+    window_at : (j : ℕ) → j ≤ back → 4 ≤ j + fore → j < 5 → IsWindow own theirs (place - j) j
+    window_at j behind ahead near =
+        let low = behind_low b s d n own ok mine q on line j behind in
+        let fits = place_low d q (board-near b q ok on) in
+        let here : place - j + j ≡ place = omega (arith, low) in
+        record {
+          near = near;
+          within = omega (arith, here, fits);
+          stones = λ k k_low differ. elim (cases_lt k j) [
+            | inl less ↦ let same : place - j + k ≡ place - (j - k) = omega (arith, low, less) in
+                ap (bit_at own) same ∙ behind_bit b s d n own ok mine q on line (j - k) (omega (arith, less)) (omega (arith, behind))
+            | inr more ↦ let same : place - j + k ≡ place + (k - j) = omega (arith, low, more) in
+                ap (bit_at own) same ∙ ahead_bit b s d n own ok mine q on line (k - j) (omega (arith, more, differ))
+                (omega (arith, ahead, k_low))
+          ];
+          gap = ap (bit_at own) here ∙ empty_bit b s d n own ok mine q line empty;
+          free = ap (bit_at theirs) here ∙ empty_bit b (other s) d n theirs ok rival q line empty;
+        }
+
+    window_of : 4 ≤ fore + back → (i : ℕ) × (j : ℕ) × IsWindow own theirs i j
+    window_of enough = elim (cases_lt back 4) [
+      | inl few ↦ (place - back, back, window_at back (omega arith) (omega (arith, enough)) (omega (arith, few)))
+      | inr many ↦ (place - 4, 4, window_at 4 many (omega arith) (omega arith))
+    ]
+
+  -- a line with no window has no point where a stone of the side wins
+  pub no_window : (w : ℕ) → ((i j : ℕ) → IsWindow own theirs i j → bit_at w i ≡ 1) → w ≡ 0 → (rule : RuleKind) (q : Point)
+      → line_of d q ≡ n → wins_on rule b s d q ≡ false
+  no_window w told none rule q line = false_from_ne_true _ (λ h.
+      let empty : is_empty b q ≡ true = and_left (is_empty b q) _ h in
+      let stones : (is_empty b q && row_wins rule s (1 + stones_ahead b s d q + stones_behind b s d q)) ≡ true = sym
+      (wins_on-stones rule b s d q ok) ∙ h in
+      let five = row_wins-five rule s (1 + stones_ahead b s d q + stones_behind b s d q) (and_right (is_empty b q) _ stones) in
+      let window = window_of q empty line (omega (arith, five)) in
+      let bit : 0 ≡ 1 = sym (bit_at-zero window.0) ∙ ap (λ m. bit_at m window.0) (sym none) ∙ told window.0 window.1 window.2 in
+      absurd (omega (arith, bit)))
+
+-- a number that isn't other than 0
+pub is_zero : (w : ℕ) → not (nat_eq w 0) ≡ false → w ≡ 0
+is_zero w h = grind (arith, nat_tests)
+
+-- ---- the line of a new stone
+
+kept-None : (rule : RuleKind) (b : Grid) (s : Side) (d : Axis) (o : Option Point)
+    → ((q : Point) → o ≡ Some q → wins_on rule b s d q ≡ false) → kept_five rule b s d o ≡ None
+kept-None rule b s d None h = refl
+kept-None rule b s d (Some q) h = rw (h q refl) refl
+
+-- a point some steps away is on the line
+way_line : (w : Way) (d : Axis) (p q : Point) (k : ℕ) → IsNear p → IsNear q → towards w d p k ≡ Some q → line_of d q ≡ line_of d p
+way_line Ahead d p q k near close there = (along-places d p q k 0 near close there).line
+way_line Behind d p q k near close there = (along-places d p q 0 k near close there).line
+
+module _ (b : Grid) (s : Side) (d : Axis) (p : Point) (own theirs : ℕ) (ok : IsBoard b) (empty : is_empty b p ≡ true)
+    (mine : TellsLine b s d (line_of d p) own) (rival : TellsLine b (other s) d (line_of d p) theirs) where
+  -- where the line has no window with the stone, no further stone wins on it
+  pub no_end : (w : ℕ) → ((i j : ℕ) → IsWindow (bit_or own (2 ^ place_on d p)) theirs i j → bit_at w i ≡ 1) → w ≡ 0 → (rule : RuleKind)
+      (way : Way) → end_five rule b s d p way ≡ None
+  unfolding end_five
+  no_end w told none rule way = kept-None rule (put b s p) s d (run_end b s d way p) (λ q there. false_from_ne_true _ (λ h.
+      let after : IsBoard (put b s p) = IsBoard-put b s p ok in
+      let on : is_on (put b s p) q ≡ true = is_empty-on (put b s p) q (and_left (is_empty (put b s p) q) _ h) in
+      let line : line_of d q ≡ line_of d p = way_line way d p q _ (board-near b p ok (is_empty-on b p empty))
+      (board-near (put b s p) q after on) there in
+      both_ways _ (no_window (put b s p) s d (line_of d p) _ theirs after (TellsLine-put b s d p own ok empty mine)
+      (TellsLine-other b s d p theirs ok empty rival) w told none rule q line) h))
+
+-- ---- all lines
+
+-- a point where a stone wins is on the board
+pub wins-on_board : (rule : RuleKind) (b : Grid) (s : Side) (d : Axis) (q : Point) → wins_on rule b s d q ≡ true → is_on b q ≡ true
+wins-on_board rule b s d q h = is_empty-on b q (and_left (is_empty b q) _ h)
+
+none_passes : (f : Point → Bool) (ps : List Point) → ((p : Point) → f p ≡ false) → list_any f ps ≡ false
+none_passes f [] h = refl
+none_passes f (p ∷ ps) h = rw (h p) (none_passes f ps h)
+
+-- a board on which no stone wins on any axis has no five point
+pub no_fives : (rule : RuleKind) (b : Grid) (s : Side) → ((q : Point) → wins_on rule b s Row q ≡ false)
+    → ((q : Point) → wins_on rule b s Column q ≡ false)
+    → ((q : Point) → wins_on rule b s Down q ≡ false) → ((q : Point) → wins_on rule b s Up q ≡ false) → has_five rule b s ≡ false
+no_fives rule b s row column down up = none_passes (five rule b s) (points_of b) (λ q. rw (row q, column q, down q, up q) refl)
