@@ -1,10 +1,9 @@
 -- Images of images, and images taken back.
-use Rattle.std.proofs.Common.{◌≡◌, ℕ, suc, Bool, true, refl, sym, ap, ◌∙◌, List, [], ◌∷◌}
-use Rattle.std.specs.Prelude.{Option, Some, slice_get}
-use Rattle.std.specs.List.{list_all, cons_option, AllByRecursion}
+use Rattle.std.proofs.Common.{◌≡◌, ℕ, suc, true, refl, sym, ap, ◌∙◌, List, [], ◌∷◌}
+use Rattle.std.specs.Prelude.{Some, slice_get}
+use Rattle.std.specs.List.{AllByRecursion}
 use Rattle.game_rules.specs.Grid.{Grid, IsBoard, cell_at, points_within}
 use Rattle.game_rules.specs.declared.Point.{Point}
-use Rattle.game_rules.proofs.Boards.{and_left, and_right}
 use Rattle.game_rules.proofs.Places.{points_on}
 use Rattle.strategy_graph.specs.Roots.{RootOnBoard}
 use Rattle.strategy_graph.specs.Tables.{listed_node, is_rising, RepliesOn, TableOnBoard}
@@ -22,17 +21,9 @@ use Rattle.board_symmetry.proofs.Eight.{turn_of}
 use Rattle.board_symmetry.proofs.Alike.{grid}
 use Rattle.board_symmetry.proofs.BoardImages.{same_cells, image_ok, image_turned}
 use Rattle.board_symmetry.proofs.Filling.{fits-inverse}
-use Rattle.board_symmetry.proofs.TurnedReplies.{told, reply_at, listed-same}
+use Rattle.board_symmetry.proofs.TurnedReplies.{told_where, listed-same}
 use Rattle.board_symmetry.proofs.RisingReplies.{told_again}
 use Rattle.board_symmetry.proofs.Parts.{composed, composed-point, composed-fits}
-
--- what is told alike at these points
-told_where : (on : Point → Bool) (l m : Point → Option ℕ) (ps : List Point) → list_all on ps ≡ true
-    → ((q : Point) → on q ≡ true → l q ≡ m q) → told l ps ≡ told m ps
-told_where on l m [] all same = refl
-told_where on l m (p ∷ ps) all same =
-    ap (λ (o : Option ℕ). cons_option (reply_at p o) (told l ps)) (same p (and_left (on p) _ all))
-    ∙ ap (λ (rs : List Reply). cons_option (reply_at p (m p)) rs) (told_where on l m ps (and_right (on p) _ all) same)
 
 -- ---- one symmetry after another
 

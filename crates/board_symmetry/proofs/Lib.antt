@@ -17,6 +17,7 @@ mod TurnedWins
 -- a table and what a turn makes of it
 mod TurnedReplies
 mod RisingReplies
+mod OneReply
 mod TurnedTables
 -- images as they are made: of boards, of tables
 mod BoardImages
