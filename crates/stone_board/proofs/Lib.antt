@@ -11,4 +11,6 @@ mod Counts
 pub mod LineBits
 -- the points along a line, by its bits
 pub mod LineStones
+mod LineRuns
+pub mod Ones
 pub mod BothBoards

@@ -7,6 +7,8 @@ use Rattle.game_rules.specs.declared.Side.TheVariants.{Black, White}
 use Rattle.game_rules.specs.declared.Axis.{Axis}
 use Rattle.game_rules.specs.declared.Axis.TheVariants.{Row, Column, Down, Up}
 use Rattle.game_rules.specs.declared.Point.{Point}
+use Rattle.game_rules.specs.declared.Way.{Way}
+use Rattle.game_rules.specs.declared.Way.TheVariants.{Ahead, Behind}
 use Rattle.game_rules.specs.declared.TheConstants.{MAX_SIDE}
 
 -- the number of the line on the axis through a point: points of a board are on one line exactly where it is the same
@@ -22,6 +24,16 @@ place_on Row p = p.x
 place_on Column p = p.y
 place_on Down p = p.x
 place_on Up p = p.x
+
+-- the place so many places on from one, in that way
+abbrev pub place_towards : Way → ℕ → ℕ → ℕ
+place_towards Ahead i k = i + k
+place_towards Behind i k = i - k
+
+-- how many places there are past one, in that way
+abbrev pub places_left : Way → ℕ → ℕ
+places_left Ahead i = MAX_SIDE - 1 - i
+places_left Behind i = i
 
 -- the number tells of each point of line n of the axis whether the side has a stone there, by the bit of the point's place
 pub record TellsLine (b : Grid) (s : Side) (d : Axis) (n bits : ℕ) : Type 0 where

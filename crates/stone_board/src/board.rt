@@ -16,8 +16,8 @@ ghost use Rattle.stone_board.specs.Steps.{holds_stone, kept_on};
 ghost use Rattle.stone_board.specs.Lines.{TellsLine, line_of as line_of_lem};
 
 use crate::ReadingOrder;
-use crate::lines::{ALL_LINES, LINES, index_of, line_of, turn_all};
-use crate::walks::{goes_on, place_after, steps_left, stride};
+use crate::lines::{ALL_LINES, LINES, index_of, line_of, ones_towards, place_on, turn_all};
+use crate::walks::steps_left;
 use game_rules::{Axis, Cell, Look, MAX_SIDE, MIN_SIDE, Point, Side, Way};
 use std::alloc::{AllocError, Global};
 use std::marker::Model;
@@ -308,17 +308,10 @@ impl Board {
         ensures bound { result < 64 }
         ensures board { IsBoard self.now }
     {
-        let start = p.y as usize * self.width as usize + p.x as usize;
-        let on = goes_on(way, axis);
-        let stride = stride(axis, self.width);
-        let most = steps_left(way, axis, self.width, self.height, p);
-        for k in 0..most {
-            let place = place_after(on, start, (k + 1) as usize * stride as usize);
-            if !is_stone_of(side, self.cells[place]) {
-                return u32::from(k);
-            }
-        }
-        u32::from(most)
+        let bits = self.line_through(side, axis, p);
+        let ones = ones_towards(way, bits, place_on(axis, p));
+        let most = steps_left(way, axis, self.width(), self.height(), p);
+        ones.min(u32::from(most))
     }
 
     /// The point so many steps from the point in one way along the axis, if it is on the board.

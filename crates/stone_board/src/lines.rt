@@ -5,10 +5,11 @@
 //! goes by four bits.
 #![tactic(auto)]
 
-ghost use Rattle.std.specs.Prelude.{◌≡◌, ◌+◌, ◌*◌, ◌<◌, ◌^◌, length};
-ghost use Rattle.stone_board.specs.Lines.{line_of as line_of_lem, place_on as place_on_lem, index_of as index_of_lem, turned, all_turned};
+ghost use Rattle.std.specs.Prelude.{◌≡◌, ◌+◌, ◌*◌, ◌≤◌, ◌<◌, ◌^◌, ℕ, length};
+ghost use Rattle.std.specs.Int.{bit_at};
+ghost use Rattle.stone_board.specs.Lines.{line_of as line_of_lem, place_on as place_on_lem, place_towards, places_left, index_of as index_of_lem, turned, all_turned};
 
-use game_rules::{Axis, MAX_SIDE, Point, Side};
+use game_rules::{Axis, MAX_SIDE, Point, Side, Way};
 
 /// How many lines are numbered on each axis. The diagonals of a board of `MAX_SIDE` are one fewer.
 pub const LINES: u8 = 64;
@@ -73,6 +74,19 @@ pub fn bit_of_place(place: u8) -> u32
     ensures bit { result ≡ 2 ^ place }
 {
     1 << place
+}
+
+/// How many places next to this one are set one after another, in one way along the line.
+#[inline(always)]
+pub(crate) fn ones_towards(way: Way, bits: u32, place: u8) -> u32
+    requires place { place < MAX_SIDE }
+    ensures set { (k : ℕ) → 1 ≤ k → k ≤ result → k ≤ places_left way place → bit_at bits (place_towards way place k) ≡ 1 }
+    ensures clear { result < places_left way place → bit_at bits (place_towards way place (1 + result)) ≡ 0 }
+{
+    match way {
+        Way::Ahead => (bits >> place >> 1).trailing_ones(),
+        Way::Behind => (bits << (MAX_SIDE - 1 - place) << 1).leading_ones(),
+    }
 }
 
 /// Turns the bit of a point on its line of the axis.
