@@ -26,4 +26,5 @@ mod HalfCodes
 mod HalfTables
 pub mod FourEnds
 -- windows of lines
+mod RowBits
 mod WindowLaws

@@ -3,10 +3,10 @@ use Rattle.std.proofs.Common.{◌≡◌, ◌≢◌, inl, inr, ℕ, zero, suc, �
 use Rattle.std.specs.Prelude.{Option, Some, None, bit_and, bit_or}
 use Rattle.std.specs.Int.{bit_at, bit_not, w32}
 use Rattle.std.specs.List.{list_any}
-use Rattle.std.proofs.lemmas.Bool.{cases_lt, false_from_ne_true, both_ways}
+use Rattle.std.proofs.lemmas.Bool.{cases_eq, cases_lt, false_from_ne_true, both_ways}
 use Rattle.std.proofs.lemmas.Nat.{pow-add}
 use Rattle.std.proofs.Math.Nat.{div-div-eq-div-mul}
-use Rattle.std.proofs.lemmas.Nat.Bits.{bit_at_and, bit_at_or, bit_at_not, bit_at-lt, bit_at-zero}
+use Rattle.std.proofs.lemmas.Nat.Bits.{bit_at_and, bit_at_or, bit_at_not, bit_at-lt, bit_at-zero, bit_at-pow_same}
 use Rattle.game_rules.proofs.Common.{Grid, IsBoard, is_on, is_empty, points_of, row_wins, stones_ahead, stones_behind, wins_on, five, other, has_five, put, towards, run_end}
 use Rattle.game_rules.specs.declared.RuleKind.{RuleKind}
 use Rattle.game_rules.specs.declared.Side.{Side}
@@ -22,15 +22,11 @@ use Rattle.game_rules.proofs.Wins.{wins_on-stones, row_wins-five}
 use Rattle.stone_board.specs.Lines.{line_of, place_on, TellsLine}
 use Rattle.stone_board.proofs.LineBits.{IsNear, board-near}
 use Rattle.stone_board.proofs.LineStones.{along-places, TellsLine-put, TellsLine-other, place_low, empty_bit, ahead_bit, behind_low, behind_bit}
-use Rattle.row_shapes.specs.Windows.{IsWindow}
+use Rattle.stone_board.proofs.Ones.{bit_shr}
+use Rattle.row_shapes.specs.Windows.{HasRow, IsWindow}
 use Rattle.row_shapes.specs.FiveEnds.{kept_five, end_five}
 
 -- ---- windows by shifts
-
-shifted : (n k i : ℕ) → bit_at (n / 2 ^ k) i ≡ bit_at n (i + k)
-shifted n k i =
-    let sum : k + i ≡ i + k = omega arith in
-    ap (λ m. m % 2) (div-div-eq-div-mul n (2 ^ k) (2 ^ i) ∙ ap (λ m. n / m) (sym (pow-add 2 k i) ∙ ap (λ m. 2 ^ m) sum))
 
 both : (a b i : ℕ) → bit_at a i ≡ 1 → bit_at b i ≡ 1 → bit_at (bit_and a b) i ≡ 1
 both a b i h k = bit_at_and a b i ∙ omega (arith, h, k)
@@ -74,13 +70,13 @@ module _ (own free : ℕ) where
 
   module _ (theirs i : ℕ) (gap : (m : ℕ) → m < 32 → bit_at own m ≡ 0 → bit_at theirs m ≡ 0 → bit_at free m ≡ 1) where
     stone : (j k : ℕ) → IsWindow own theirs i j → k < 5 → k ≢ j → bit_at (own / 2 ^ k) i ≡ 1
-    stone j k h low other = shifted own k i ∙ h.stones k low other
+    stone j k h low other = bit_shr own k i ∙ h.stones k low other
 
     start : (j : ℕ) → IsWindow own theirs i j → 0 ≢ j → bit_at own i ≡ 1
     start j h other = let same : i ≡ i + 0 = omega arith in ap (bit_at own) same ∙ h.stones 0 (omega arith) other
 
     clear : (j : ℕ) → IsWindow own theirs i j → bit_at (free / 2 ^ j) i ≡ 1
-    clear j h = shifted free j i ∙ gap (i + j) h.within h.gap h.free
+    clear j h = bit_shr free j i ∙ gap (i + j) h.within h.gap h.free
 
     clear_first : IsWindow own theirs i 0 → bit_at free i ≡ 1
     clear_first h = let same : i ≡ i + 0 = omega arith in ap (bit_at free) same ∙ gap (i + 0) h.within h.gap h.free
@@ -120,56 +116,96 @@ module _ (own free : ℕ) where
 
 -- ---- the window that a winning stone fills
 
-module _ (b : Grid) (s : Side) (d : Axis) (n own theirs : ℕ) (ok : IsBoard b) (mine : TellsLine b s d n own)
-    (rival : TellsLine b (other s) d n theirs) where
-  module _ (q : Point) (empty : is_empty b q ≡ true) (line : line_of d q ≡ n) where
-    on : is_on b q ≡ true
-    on = is_empty-on b q empty
+module _ (b : Grid) (s : Side) (d : Axis) (n own : ℕ) (ok : IsBoard b) (mine : TellsLine b s d n own) (q : Point)
+    (empty : is_empty b q ≡ true) (line : line_of d q ≡ n) where
+  on : is_on b q ≡ true
+  on = is_empty-on b q empty
 
-    abbrev place : ℕ
-    place = place_on d q
+  abbrev place : ℕ
+  place = place_on d q
 
-    abbrev fore : ℕ
-    fore = stones_ahead b s d q
+  abbrev fore : ℕ
+  fore = stones_ahead b s d q
 
-    abbrev back : ℕ
-    back = stones_behind b s d q
+  abbrev back : ℕ
+  back = stones_behind b s d q
 
-    -- j stones behind the point and the others ahead of it
-    window_at : (j : ℕ) → j ≤ back → 4 ≤ j + fore → j < 5 → IsWindow own theirs (place - j) j
-    window_at j behind ahead near =
-        let low = behind_low b s d n own ok mine q on line j behind in
-        let fits = place_low d q (board-near b q ok on) in
-        let here : place - j + j ≡ place = omega (arith, low) in
+  place_here : (j : ℕ) → j ≤ back → place - j + j ≡ place
+  place_here j behind = let low = behind_low b s d n own ok mine q on line j behind in omega (arith, low)
+
+  -- j stones behind the point and the others ahead of it
+  row_stone : (j : ℕ) → j ≤ back → 4 ≤ j + fore → (k : ℕ) → k < 5 → k ≢ j → bit_at own (place - j + k) ≡ 1
+  row_stone j behind ahead k k_low differ =
+      let low = behind_low b s d n own ok mine q on line j behind in
+      elim (cases_lt k j) [
+        | inl less ↦ let same : place - j + k ≡ place - (j - k) = omega (arith, low, less) in
+            ap (bit_at own) same ∙ behind_bit b s d n own ok mine q on line (j - k) (omega (arith, less)) (omega (arith, behind))
+        | inr more ↦ let same : place - j + k ≡ place + (k - j) = omega (arith, low, more) in
+            ap (bit_at own) same ∙ ahead_bit b s d n own ok mine q on line (k - j) (omega (arith, more, differ))
+            (omega (arith, ahead, k_low))
+      ]
+
+  -- how many of four stones next to the point are behind it
+  some_behind : 4 ≤ fore + back → (j : ℕ) × (j ≤ back) × (4 ≤ j + fore) × (j < 5)
+  some_behind enough = elim (cases_lt back 4) [
+    | inl few ↦ (back, omega arith, omega (arith, enough), omega (arith, few))
+    | inr many ↦ (4, many, omega arith, omega arith)
+  ]
+
+  -- with a stone on the point they are five in a row
+  row_of : 4 ≤ fore + back → HasRow (bit_or own (2 ^ place))
+  row_of enough =
+      let some = some_behind enough in
+      let here = place_here some.0 some.1 in
+      record {
+        first = place - some.0;
+        set = λ k low. elim (cases_eq k some.0) [
+          | inl same ↦ ap (bit_at (bit_or own (2 ^ place))) (ap (λ m. place - some.0 + m) same ∙ here)
+              ∙ right own (2 ^ place) place (bit_at-pow_same place)
+          | inr differ ↦ left own (2 ^ place) (place - some.0 + k) (row_stone some.0 some.1 some.2 k low differ)
+        ];
+      }
+
+  -- and without it a window
+  window_of : (theirs : ℕ) → TellsLine b (other s) d n theirs → 4 ≤ fore + back → (i : ℕ) × (j : ℕ) × IsWindow own theirs i j
+  window_of theirs rival enough =
+      let some = some_behind enough in
+      let fits = place_low d q (board-near b q ok on) in
+      let here = place_here some.0 some.1 in (
+        place - some.0,
+        some.0,
         record {
-          near = near;
+          near = some.3;
           within = omega (arith, here, fits);
-          stones = λ k k_low differ. elim (cases_lt k j) [
-            | inl less ↦ let same : place - j + k ≡ place - (j - k) = omega (arith, low, less) in
-                ap (bit_at own) same ∙ behind_bit b s d n own ok mine q on line (j - k) (omega (arith, less)) (omega (arith, behind))
-            | inr more ↦ let same : place - j + k ≡ place + (k - j) = omega (arith, low, more) in
-                ap (bit_at own) same ∙ ahead_bit b s d n own ok mine q on line (k - j) (omega (arith, more, differ))
-                (omega (arith, ahead, k_low))
-          ];
+          stones = row_stone some.0 some.1 some.2;
           gap = ap (bit_at own) here ∙ empty_bit b s d n own ok mine q line empty;
           free = ap (bit_at theirs) here ∙ empty_bit b (other s) d n theirs ok rival q line empty;
-        }
+        },
+      )
 
-    window_of : 4 ≤ fore + back → (i : ℕ) × (j : ℕ) × IsWindow own theirs i j
-    window_of enough = elim (cases_lt back 4) [
-      | inl few ↦ (place - back, back, window_at back (omega arith) (omega (arith, enough)) (omega (arith, few)))
-      | inr many ↦ (place - 4, 4, window_at 4 many (omega arith) (omega arith))
-    ]
+-- a stone that wins has four more in its row
+four_more : (rule : RuleKind) (b : Grid) (s : Side) (d : Axis) (q : Point) → IsBoard b → wins_on rule b s d q ≡ true
+    → 4 ≤ stones_ahead b s d q + stones_behind b s d q
+four_more rule b s d q ok h =
+    let stones : (is_empty b q && row_wins rule s (1 + stones_ahead b s d q + stones_behind b s d q)) ≡ true = sym
+    (wins_on-stones rule b s d q ok) ∙ h in
+    let five = row_wins-five rule s (1 + stones_ahead b s d q + stones_behind b s d q) (and_right (is_empty b q) _ stones) in
+    omega (arith, five)
 
+-- where a stone makes no five in a row, it does not win
+pub no_row : (rule : RuleKind) (b : Grid) (s : Side) (d : Axis) (q : Point) (own : ℕ) → IsBoard b → TellsLine b s d (line_of d q) own
+    → (HasRow (bit_or own (2 ^ place_on d q)) → ⊥) → wins_on rule b s d q ≡ false
+no_row rule b s d q own ok mine none = false_from_ne_true _ (λ h.
+    none (row_of b s d (line_of d q) own ok mine q (and_left (is_empty b q) _ h) refl (four_more rule b s d q ok h)))
+
+module _ (b : Grid) (s : Side) (d : Axis) (n own theirs : ℕ) (ok : IsBoard b) (mine : TellsLine b s d n own)
+    (rival : TellsLine b (other s) d n theirs) where
   -- a line with no window has no point where a stone of the side wins
   pub no_window : (w : ℕ) → ((i j : ℕ) → IsWindow own theirs i j → bit_at w i ≡ 1) → w ≡ 0 → (rule : RuleKind) (q : Point)
       → line_of d q ≡ n → wins_on rule b s d q ≡ false
   no_window w told none rule q line = false_from_ne_true _ (λ h.
       let empty : is_empty b q ≡ true = and_left (is_empty b q) _ h in
-      let stones : (is_empty b q && row_wins rule s (1 + stones_ahead b s d q + stones_behind b s d q)) ≡ true = sym
-      (wins_on-stones rule b s d q ok) ∙ h in
-      let five = row_wins-five rule s (1 + stones_ahead b s d q + stones_behind b s d q) (and_right (is_empty b q) _ stones) in
-      let window = window_of q empty line (omega (arith, five)) in
+      let window = window_of b s d n own ok mine q empty line theirs rival (four_more rule b s d q ok h) in
       let bit : 0 ≡ 1 = sym (bit_at-zero window.0) ∙ ap (λ m. bit_at m window.0) (sym none) ∙ told window.0 window.1 window.2 in
       absurd (omega (arith, bit)))
 

@@ -10,3 +10,8 @@ pub record IsWindow (own theirs i j : ℕ) : Type 0 where
   pub stones : (k : ℕ) → k < 5 → k ≢ j → bit_at own (i + k) ≡ 1
   pub gap : bit_at own (i + j) ≡ 0
   pub free : bit_at theirs (i + j) ≡ 0
+
+-- five places in a row are set
+pub record HasRow (bits : ℕ) : Type 0 where
+  pub first : ℕ
+  pub set : (k : ℕ) → k < 5 → bit_at bits (first + k) ≡ 1

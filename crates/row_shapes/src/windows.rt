@@ -5,7 +5,7 @@
 //! a place off the board looks free, and a run may be too long to win.
 #![tactic(auto)]
 
-ghost use Rattle.std.specs.Prelude.{◌≡◌, ◌<◌, ℕ, false, true, None, IsTrue};
+ghost use Rattle.std.specs.Prelude.{◌≡◌, ◌↔◌, ◌<◌, ℕ, false, true, None, IsTrue};
 ghost use Rattle.std.specs.Int.{bit_at};
 ghost use Rattle.game_rules.specs.Grid.{IsBoard, is_on, is_empty};
 ghost use Rattle.game_rules.specs.Games.{has_five as has_five_lem};
@@ -15,7 +15,7 @@ ghost use Rattle.game_rules.specs.declared.RuleKind.{RuleKind};
 ghost use Rattle.game_rules.specs.declared.Way.{Way};
 ghost use Rattle.stone_board.specs.Lines.{line_of as line_of_lem};
 ghost use Rattle.row_shapes.specs.FiveEnds.{end_five};
-ghost use Rattle.row_shapes.specs.Windows.{IsWindow};
+ghost use Rattle.row_shapes.specs.Windows.{HasRow, IsWindow};
 
 use stone_board::{Axis, Board, LINES, Point, Side, bit_of_place, line_of, place_on};
 
@@ -45,14 +45,23 @@ fn line_may_win(board: &Board, side: Side, axis: Axis, n: u8) -> bool
     windows(board.line(side, axis, n), board.line(side.other(), axis, n)) != 0
 }
 
-/// The same of the line on the axis through a point.
+/// Whether the line on the axis through a point has five in a row once a stone of the side stands there, and so may win.
 #[inline(always)]
 pub(crate) fn may_win(board: &Board, side: Side, axis: Axis, p: Point) -> bool
     requires on { IsTrue (is_on board.now p) }
     ensures none { result ≡ false → (rule : RuleKind) → wins_on rule board.now side axis p ≡ false }
 {
-    let own = board.line_through(side, axis, p);
-    windows(own, board.line_through(side.other(), axis, p)) != 0
+    has_row(board.line_through(side, axis, p) | bit_of_place(place_on(axis, p)))
+}
+
+/// Whether five places in a row are set.
+#[inline(always)]
+fn has_row(bits: u32) -> bool
+    ensures row { IsTrue result ↔ HasRow bits }
+{
+    let two = bits & (bits >> 1);
+    let four = two & (two >> 2);
+    four & (bits >> 4) != 0
 }
 
 /// Whether the line on the axis through an empty point has a window of the side once its stone stands there, so that a further

@@ -1,15 +1,17 @@
-use Rattle.std.proofs.Common.{refl, subst}
-use Rattle.game_rules.specs.declared.Side.{Side}
-use Rattle.stone_board.specs.Lines.{TellsLine, line_of}
-use Rattle.row_shapes.proofs.WindowLaws.{no_window, is_zero}
+use Rattle.std.proofs.Common.{◌≡◌, ◌^◌, subst, sym, ap, ◌∙◌}
+use Rattle.std.proofs.lemmas.Bool.{both_ways}
+use Rattle.std.specs.Prelude.{bit_or}
+use Rattle.stone_board.specs.Lines.{place_on}
+use Rattle.row_shapes.specs.Windows.{HasRow}
+use Rattle.row_shapes.proofs.WindowLaws.{no_row}
 use Rattle.row_shapes.proofs.windows.may_win.Goals as goal
 
 pub returns : goal.returns
-returns c = record {
-  none = λ off rule. no_window c.args.board.now c.args.side c.args.axis
-      (line_of c.args.axis c.args.p) c.line_through-own.result c.line_through.result
-      c.line_through.ensures.board c.line_through-own.ensures.tells
-      (subst (λ (t : Side). TellsLine c.args.board.now t c.args.axis
-      (line_of c.args.axis c.args.p) c.line_through.result) c.other.ensures.other c.line_through.ensures.tells)
-      c.windows.result c.windows.ensures.windows (is_zero c.windows.result off) rule c.args.p refl;
-}
+returns c =
+    let bit : c.bit_of_place.result ≡ 2 ^ place_on c.args.axis c.args.p = c.bit_of_place.ensures.bit
+    ∙ ap (λ k. 2 ^ k) c.place_on.ensures.place in
+    record {
+      none = λ off rule. no_row rule c.args.board.now c.args.side c.args.axis c.args.p c.line_through.result c.line_through.ensures.board
+          c.line_through.ensures.tells (λ row. both_ways _ off (c.has_row.ensures.row.1
+          (subst (λ n. HasRow (bit_or c.line_through.result n)) (sym bit) row)));
+    }

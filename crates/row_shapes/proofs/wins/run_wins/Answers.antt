@@ -1,11 +1,8 @@
-use Rattle.std.proofs.Common.{◌≡◌, true, sym, ◌∙◌}
-use Rattle.game_rules.specs.Grid.{is_empty}
 use Rattle.game_rules.proofs.Boards.{run_of-put, is_empty-on}
-use Rattle.row_shapes.proofs.wins.wins_on.Goals as goal
+use Rattle.row_shapes.proofs.wins.run_wins.Goals as goal
 
 pub returns : goal.returns
 returns g c =
-    let empty : is_empty c.args.board.now c.args.p ≡ true = sym c.is_empty.ensures.empty ∙ c.if-not-is_empty.false in
     let run = run_of-put c.args.board.now c.args.side c.args.p
-    (is_empty-on c.args.board.now c.args.p empty) c.is_empty.ensures.board c.args.axis in
-    record { wins = rw (empty, run) (cc) }
+    (is_empty-on c.args.board.now c.args.p c.requires.empty) c.stones_towards-ahead.ensures.board c.args.axis in
+    record { wins = rw (c.requires.empty, run) (cc) }
