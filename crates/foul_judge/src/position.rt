@@ -196,6 +196,9 @@ fn first_won<R: Rule>(board: &Board) -> Option<Point>
 fn is_on_winning_run<R: Rule>(board: &Board, p: Point) -> bool
     ensures won { result ≡ is_on_winning_run_lem R.KIND board.now p }
 {
+    if board.is_empty(p) {
+        return false;
+    }
     wins_through::<R>(board, Side::Black, p) || wins_through::<R>(board, Side::White, p)
 }
 
