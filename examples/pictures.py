@@ -9,6 +9,7 @@ program tells it. --mark SIGN=X,Y writes a sign into a ring, and --mark cost=X,Y
 """
 import argparse
 import sys
+import textwrap
 from html import escape
 from pathlib import Path
 
@@ -165,7 +166,7 @@ def names(width, height):
 
 def size_of(text, largest):
     """The size of letters in which a text of some letters fits its ring or stone."""
-    return max(largest - 4 * (len(str(text)) - 1) if len(str(text)) > 1 else largest, 9)
+    return max(largest - 4 * (len(str(text)) - 1), 9 if len(str(text)) < 4 else 7)
 
 
 def stone(point, side, text=None):
@@ -205,8 +206,9 @@ def reply(point, side, number, is_alone):
 
 
 def caption(parts, width, top):
-    """The caption in one line, or in one line a part where that is too long for the board."""
-    lines = ["; ".join(parts)] if 8 * len("; ".join(parts)) <= width else parts
+    """The caption in one line, or in lines for each part where that is too long for the board."""
+    whole, letters_of_line = "; ".join(parts), width // 8
+    lines = [whole] if len(whole) <= letters_of_line else [line for part in parts for line in textwrap.wrap(part, letters_of_line)]
     return [label(width // 2, top + 18 * place, line, INK, 14, "normal") for place, line in enumerate(lines)], 18 * len(lines)
 
 
