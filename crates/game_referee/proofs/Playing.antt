@@ -1,7 +1,10 @@
 -- A move that goes on, played: the board after it is lawful, has one empty point less, and the other side moves there.
-use Rattle.std.proofs.Common.{◌≡◌, ℕ, ◌+◌, Bool, false, List, [], ◌∷◌, refl, sym, ap, ◌∙◌}
-use Rattle.std.specs.Prelude.{Option, None}
-use Rattle.game_rules.specs.Grid.{Grid, empties_of}
+use Rattle.std.proofs.Common.{◌≡◌, ℕ, zero, suc, ◌+◌, ◌-◌, ◌≤◌, Bool, false, List, [], ◌∷◌, length, refl, sym, ap, subst, ◌∙◌, arith}
+use Rattle.std.specs.Prelude.{Option, None, drop, take, slice_index_or}
+use Rattle.std.proofs.lemmas.Nat.{mul-le}
+use Rattle.std.proofs.lemmas.List.{drop_all, length-drop, take_all}
+use Rattle.game_rules.specs.Grid.{Grid, IsBoard, empties_of}
+use Rattle.game_rules.proofs.Cells.{counts_of_board}
 use Rattle.game_rules.specs.Play.{IsPosition, outcome, after, mover, other}
 use Rattle.game_rules.specs.declared.RuleKind.{RuleKind}
 use Rattle.game_rules.specs.declared.Side.{Side}
@@ -13,7 +16,10 @@ use Rattle.game_rules.proofs.Positions.{IsPosition-after, GoesOn-empty, mover-th
 use Rattle.strategy_graph.specs.declared.Node.{Node}
 use Rattle.strategy_graph.specs.declared.roots.Root.{Root}
 use Rattle.game_referee.specs.declared.ReplayAnswer.TheVariants.{Follows}
+use Rattle.game_referee.specs.declared.GameVerdict.{GameVerdict}
+use Rattle.game_referee.specs.declared.GameVerdict.TheVariants.{Open}
 use Rattle.game_referee.specs.Verdicts.{outcomes, verdict_from}
+use Rattle.game_referee.specs.Played.{WentOn}
 use Rattle.game_referee.specs.Replays.{departs_from, is_stray, next_turn, strays}
 
 module _ (rule : RuleKind) (b c : Grid) (p : Point) (lawful : IsPosition rule b) (on : outcome rule b p ≡ GoesOn)
@@ -42,6 +48,93 @@ module _ (rule : RuleKind) (b c : Grid) (p : Point) (rest : List Point) (lawful 
   replayed-on k bs =
       ap (λ (w : Grid). departs_from (k + 1) bs (outcomes rule w rest)) played
       ∙ ap (λ (o : Outcome). departs_from k (false ∷ bs) (o ∷ outcomes rule (after b p) rest)) (sym on)
+
+-- ---- the first moves of a game
+
+-- the boards that the first moves leave, as the referee plays them
+pub record PlayedOn (rule : RuleKind) (b : Grid) (ms : List Point) (n : ℕ) (e : Grid) : Type 0 where
+  pub went : WentOn rule b ms n e
+  pub lawful : IsPosition rule e
+  pub fewer : n + empties_of e ≡ empties_of b
+  pub judged : verdict_from n (mover e) (outcomes rule e (drop n ms)) ≡ verdict_from 0 (mover b) (outcomes rule b ms)
+
+module _ (rule : RuleKind) (b : Grid) (ms : List Point) where
+  pub played-none : IsPosition rule b → PlayedOn rule b ms 0 b
+  played-none lawful = record { went = refl; lawful = lawful; fewer = omega arith; judged = refl }
+
+  module _ (n : ℕ) (e : Grid) where
+    pub played-more : (c : Grid) (p : Point) → PlayedOn rule b ms n e → drop n ms ≡ p ∷ drop (n + 1) ms → outcome rule e p ≡ GoesOn
+        → c ≡ after e p → PlayedOn rule b ms (n + 1) c
+    played-more c p h at on played =
+        let less = played-fewer rule e c p h.lawful on played in
+        let before = h.fewer in
+        let more : suc n ≡ n + 1 = omega arith in
+        record {
+          went = subst (λ k. WentOn rule b ms k c) more (e, h.went, p, at, on, played);
+          lawful = played-lawful rule e c p h.lawful on played;
+          fewer = omega (arith, less, before);
+          judged = judged-on rule e c p (drop (n + 1) ms) h.lawful on played n
+              ∙ ap (λ (l : List Point). verdict_from n (mover e) (outcomes rule e l)) (sym at) ∙ h.judged;
+        }
+
+    -- no more moves than a board has points
+    pub played-few : IsBoard b → PlayedOn rule b ms n e → n ≤ 1024
+    played-few ok h =
+        let all = counts_of_board b ok in
+        let points = mul-le b.width b.height 32 32 ok.width_fits ok.height_fits in
+        let fewer = h.fewer in
+        omega (arith, all, points, fewer)
+
+    -- all of them
+    pub played-all : PlayedOn rule b ms n e → n ≡ length ms → Open n ≡ verdict_from 0 (mover b) (outcomes rule b ms)
+    played-all h all =
+        let none : drop n ms ≡ [] = drop_all n ms (omega (arith, all)) in
+        ap (λ (l : List Point). verdict_from n (mover e) (outcomes rule e l)) (sym none) ∙ h.judged
+
+    -- as many outcomes as moves
+    pub length-outcomes : (c : Grid) (ps : List Point) → length (outcomes rule c ps) ≡ length ps
+    length-outcomes c [] = refl
+    length-outcomes c (p ∷ ps) = ap suc (length-outcomes (after c p) ps)
+
+    -- the move that does not go on decides
+    pub played-end : (p : Point) (o : Outcome) (s : Side) (v : GameVerdict) → PlayedOn rule b ms n e → drop n ms ≡ p ∷ drop (n + 1) ms
+        → o ≡ outcome rule e p → s ≡ mover e
+        → ((later : List Outcome) → length later ≡ length (take (length ms - (n + 1)) (drop (n + 1) ms)) → v ≡ verdict_from n s (o ∷ later))
+        → v ≡ verdict_from 0 (mover b) (outcomes rule b ms)
+    played-end p o s v h at here side told =
+        let size = length-drop (n + 1) ms in
+        let whole = take_all (length ms - (n + 1)) (drop (n + 1) ms) (omega (arith, size)) in
+        told (outcomes rule (after e p) (drop (n + 1) ms)) (length-outcomes (after e p) (drop (n + 1) ms) ∙ sym (ap length whole))
+        ∙ ap (λ (t : Side). verdict_from n t (o ∷ outcomes rule (after e p) (drop (n + 1) ms))) side
+        ∙ ap (λ (u : Outcome). verdict_from n (mover e) (u ∷ outcomes rule (after e p) (drop (n + 1) ms))) here
+        ∙ ap (λ (l : List Point). verdict_from n (mover e) (outcomes rule e l)) (sym at) ∙ h.judged
+
+-- ---- moves that are taken back
+
+went-lawful : (rule : RuleKind) (b : Grid) (ms : List Point) (n : ℕ) (e : Grid) → IsPosition rule b → WentOn rule b ms n e → IsPosition rule e
+went-lawful rule b ms zero e lawful h = subst (IsPosition rule) (sym h) lawful
+went-lawful rule b ms (suc n) e lawful h = played-lawful rule h.0 e h.2 (went-lawful rule b ms n h.0 lawful h.1) h.4 h.5
+
+-- the last of the moves, on the board before it
+pub record LastMove (rule : RuleKind) (b : Grid) (ms : List Point) (n : ℕ) (q : Point) (e : Grid) : Type 0 where
+  pub board : Grid
+  pub went : WentOn rule b ms n board
+  pub lawful : IsPosition rule board
+  pub on : outcome rule board q ≡ GoesOn
+  pub played : e ≡ after board q
+
+pub went-last : (rule : RuleKind) (b : Grid) (ms : List Point) (m n : ℕ) (q : Point) (e : Grid) → IsPosition rule b → m ≡ suc n
+    → drop n ms ≡ q ∷ drop (n + 1) ms → WentOn rule b ms m e → LastMove rule b ms n q e
+went-last rule b ms m n q e lawful more at went =
+    let h = subst (λ k. WentOn rule b ms k e) more went in
+    let same : h.2 ≡ q = ap (λ (l : List Point). slice_index_or l 0 q) (sym h.3 ∙ at) in
+    record {
+      board = h.0;
+      went = h.1;
+      lawful = went-lawful rule b ms n h.0 lawful h.1;
+      on = ap (outcome rule h.0) (sym same) ∙ h.4;
+      played = h.5 ∙ ap (after h.0) same;
+    }
 
 -- where nothing is in turn, no move strays
 pub no_turn : (t : List Node) (n : ℕ) (ps : List Point) (os : List Outcome) → departs_from n (strays t None ps) os ≡ Follows

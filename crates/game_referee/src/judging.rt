@@ -1,18 +1,19 @@
 //! The verdict on a game.
 //!
-//! The moves are played one after another on the position that is lent, as long as the game goes on, and each is taken back
-//! once the moves after it are judged. So no memory is taken, and no more moves are played than the board has points.
+//! The moves are played one after another on the position that is lent, as long as the game goes on, and are taken back, the last one
+//! first. So no memory is taken, neither on the heap nor for each move, and no more moves are played than the board has points.
 #![tactic(auto)]
 
-ghost use Rattle.std.specs.Prelude.{◌≡◌, ◌+◌, ◌≤◌, length};
-ghost use Rattle.game_rules.specs.Grid.{empties_of};
+ghost use Rattle.std.specs.Prelude.{◌≡◌, ◌+◌, ◌≤◌, ◌∷◌, List, length, IfSome, IfNone};
 ghost use Rattle.game_rules.specs.Play.{IsPosition, mover as mover_lem};
+ghost use Rattle.game_rules.specs.declared.Outcome.{Outcome};
+ghost use Rattle.game_referee.specs.Played.{WentOn};
 ghost use Rattle.game_referee.specs.Verdicts.{if_last, outcomes, verdict, verdict_from};
 
 use crate::GameVerdict;
 use foul_judge::{Outcome, Position, Seen};
 use row_shapes::Rule;
-use stone_board::Point;
+use stone_board::{Point, Side};
 
 /// The verdict on the game of these moves from the position, which is the same afterwards. It takes no memory.
 #[tactic(auto, unfolding(crate::specs::Verdicts::verdict))]
@@ -22,32 +23,46 @@ pub fn judge<R: Rule>(position: &mut Position<R>, moves: &[Point]) -> GameVerdic
 {
     // Its contract says that the position is lawful.
     let _mover = position.side();
-    judge_from(position, moves, 0)
+    let (played, verdict) = play_on(position, moves);
+    for back in 0..played {
+        position.undo(moves[played - 1 - back]);
+    }
+    verdict
 }
 
-/// The verdict, where so many moves were played before these.
-fn judge_from<R: Rule>(position: &mut Position<R>, moves: &[Point], played: u32) -> GameVerdict
+/// Plays the moves as long as the game goes on. The answer is how many were played, and the verdict.
+fn play_on<R: Rule>(position: &mut Position<R>, moves: &[Point]) -> (usize, GameVerdict)
     requires lawful { IsPosition R.KIND position.old }
-    requires room { played + empties_of position.old + 2 ≤ u32.MAX }
-    ensures verdict { result
-        ≡ verdict_from played (mover_lem position.old) (outcomes R.KIND position.old moves.now) }
-    ensures same { position.new ≡ position.old }
+    ensures played { WentOn R.KIND position.old moves.now result.0 position.new }
+    ensures within { result.0 ≤ length moves.now }
+    ensures verdict { result.1 ≡ verdict_from 0 (mover_lem position.old) (outcomes R.KIND position.old moves.now) }
 {
-    let Some((at, rest)) = moves.split_first() else {
-        return GameVerdict::Open(played);
-    };
-    let number = played + 1;
-    match position.outcome(*at) {
-        Outcome::Refused => GameVerdict::Illegal(number),
-        Outcome::Wins => last(GameVerdict::Won(position.side(), number), number, rest),
-        Outcome::Fouls(foul) => last(GameVerdict::Fouled(foul, number), number, rest),
-        Outcome::Draws => last(GameVerdict::Drawn(number), number, rest),
-        Outcome::GoesOn => {
-            position.play(*at);
-            let verdict = judge_from(position, rest, number);
-            position.undo(*at);
-            verdict
+    for played in 0..moves.len() {
+        let at = moves[played];
+        let outcome = position.outcome(at);
+        let mover = position.side();
+        if let Some(verdict) = ended(outcome, mover, played as u32, &moves[played + 1..]) {
+            return (played, verdict);
         }
+        position.play(at);
+    }
+    (moves.len(), GameVerdict::Open(moves.len() as u32))
+}
+
+/// The verdict on a game where a move with this outcome comes after so many and before these, unless it goes on.
+fn ended(outcome: Outcome, mover: Side, played: u32, rest: &[Point]) -> Option<GameVerdict>
+    requires room { played + 2 ≤ u32.MAX }
+    ensures verdict { IfSome result (λ verdict. (later : List Outcome) → length later ≡ length rest.now
+        → verdict ≡ verdict_from played mover (outcome ∷ later)) }
+    ensures goes_on { IfNone result (outcome ≡ Outcome.GoesOn) }
+{
+    let number = played + 1;
+    match outcome {
+        Outcome::Refused => Some(GameVerdict::Illegal(number)),
+        Outcome::Wins => Some(last(GameVerdict::Won(mover, number), number, rest)),
+        Outcome::Fouls(foul) => Some(last(GameVerdict::Fouled(foul, number), number, rest)),
+        Outcome::Draws => Some(last(GameVerdict::Drawn(number), number, rest)),
+        Outcome::GoesOn => None,
     }
 }
 
