@@ -28,3 +28,4 @@ pub mod FourEnds
 -- windows of lines
 mod RowBits
 mod WindowLaws
+mod WindowParts

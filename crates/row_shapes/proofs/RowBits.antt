@@ -1,5 +1,5 @@
 -- Five places in a row, told by shifts.
-use Rattle.std.proofs.Common.{◌≡◌, ◌↔◌, ℕ, zero, suc, ◌+◌, ◌/◌, ◌^◌, ◌≤◌, ◌<◌, min, not, nat_eq, true, IsTrue, sym, ap, ◌∙◌, arith}
+use Rattle.std.proofs.Common.{◌≡◌, ◌↔◌, ℕ, zero, suc, ◌+◌, ◌/◌, ◌^◌, ◌<◌, min, not, nat_eq, true, IsTrue, sym, ap, ◌∙◌, arith}
 use Rattle.std.specs.Prelude.{bit_and}
 use Rattle.std.specs.Int.{bit_at, trailing_zeros, w32}
 use Rattle.std.proofs.lemmas.Nat.{and_le_l}

@@ -23,6 +23,7 @@ use stone_board::{Axis, Board, LINES, Point, Side, bit_of_place, line_of, place_
 #[inline(always)]
 fn windows(own: u32, theirs: u32) -> u32
     ensures windows { (i j : ℕ) → IsWindow own theirs i j → bit_at result i ≡ 1 }
+    ensures only { (i : ℕ) → bit_at result i ≡ 1 → (j : ℕ) × IsWindow own theirs i j }
 {
     let free = !(own | theirs);
     let first = own >> 1;
