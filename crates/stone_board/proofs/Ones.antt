@@ -1,5 +1,5 @@
 -- How many bits next to a place are set one after another.
-use Rattle.std.proofs.Common.{◌≡◌, inl, inr, ℕ, suc, ◌+◌, ◌-◌, ◌*◌, ◌/◌, ◌%◌, ◌^◌, ◌≤◌, ◌<◌, sym, ap, subst, ◌∙◌, arith}
+use Rattle.std.proofs.Common.{◌≡◌, ℕ, suc, ◌+◌, ◌-◌, ◌*◌, ◌/◌, ◌%◌, ◌^◌, ◌≤◌, ◌<◌, sym, ap, ◌∙◌, arith}
 use Rattle.std.specs.Int.{bit_at, bit_not, leading_ones, trailing_ones, w32}
 use Rattle.std.proofs.lemmas.Nat.{pow-add, pow_pos, shr_le, leading_top, mul-mod_first, div-add-mod'}
 use Rattle.std.proofs.Math.Nat.{div-div-eq-div-mul, mul_assoc}

@@ -1,4 +1,4 @@
-use Rattle.std.proofs.Common.{◌≡◌, ◌+◌, ◌-◌, ap, ◌∙◌, arith}
+use Rattle.std.proofs.Common.{◌+◌, ◌-◌, ap, ◌∙◌, arith}
 use Rattle.std.specs.Int.{bit_at}
 use Rattle.stone_board.proofs.Ones.{ahead_set, ahead_clear, behind_set, behind_clear}
 use Rattle.stone_board.proofs.lines.ones_towards.Goals as goal
