@@ -1,19 +1,29 @@
 //! Callers of crates that one may want alone: the judge of fouls, the checker of tables, the searches for sequences of threats and
-//! for wins by threats, the readers and writers of texts, the images of boards.
+//! for wins by threats, the readers and writers of texts, the images of boards, the moves that hold against fours, books, the
+//! referee, lines and numbers.
 //!
 //! Each caller is proved from the public contracts of what it calls, and a test runs it. `docs/CALLING.md` shows these lines.
 #![tactic(auto)]
 
-ghost use Rattle.std.specs.Prelude.{◌≡◌, ◌↔◌, ◌≤◌, ◌<◌, ℕ, length, is_none, is_some, IsTrue, IfOk, IfSome};
+ghost use Rattle.std.specs.Prelude.{◌≡◌, ◌↔◌, ◌≤◌, ◌<◌, [], ℕ, length, is_none, is_some, IsTrue, IfOk, IfSome, string_bytes};
+ghost use Rattle.std.specs.List.{AllByRecursion};
 ghost use Rattle.game_rules.specs.declared.RuleKind.{RuleKind};
 ghost use Rattle.game_rules.specs.Grid.{is_empty};
 ghost use Rattle.game_rules.specs.Play.{foul_of};
-ghost use Rattle.game_rules.specs.Games.{WinsWithin};
+ghost use Rattle.game_rules.specs.Games.{WinsAfter, WinsWithin};
 ghost use Rattle.threat_space.specs.Sequences.{first_sequence};
 ghost use Rattle.proof_number.specs.declared.TheConstants.{MAX_BUDGET, MAX_DEPTH};
+ghost use Rattle.defence_finder.specs.Defences.{defences_of};
+ghost use Rattle.table_book.specs.Books.{IsTextOfBook};
+ghost use Rattle.table_book.specs.Holding.{IsAccepted};
+ghost use Rattle.game_referee.specs.Verdicts.{verdict};
+ghost use Rattle.game_referee.specs.declared.GameVerdict.TheVariants.{Won};
 
+use crate::inputs::TWO_ENTRIES;
 use board_symmetry::{Symmetry, image_board, images_keep_wins};
+use defence_finder::{DefenceAnswer, defences, no_defence_loses};
 use foul_judge::{Position, foul_at};
+use game_referee::{GameVerdict, judge};
 use game_rules::{Point, RuleKind, Side};
 use position_files::{FileError, TableFile, read_position, read_table, write_position};
 use proof_number::{MAX_BUDGET, MAX_DEPTH, ProofAnswer, SearchError, proof_number};
@@ -21,10 +31,12 @@ use proof_tree::ProofTree;
 use row_shapes::{Freestyle, Renju, Rule};
 use std::alloc::{AllocError, Global};
 use std::test::Fail;
-use stone_board::Board;
+use stone_board::{Board, Points};
 use strategy_checker::{Verdict, check};
 use strategy_compiler::Compiler;
 use strategy_graph::{Root, Table};
+use table_book::{Book, BookError, HoldError, MAX_BOOK_WORK, check_book, read_book};
+use text_lines::{number, push_number};
 use threat_space::{MAX_LENGTH, SpaceAnswer, threat_space};
 
 /// Whether Black may play on an empty point of the board under renju.
@@ -229,5 +241,122 @@ fn a_quarter_of_a_turn_wants_a_square(rt: HostRuntime) -> Result<(), Fail> {
     let long = Board::empty(rt.alloc(), 9, 5)?;
     assert!(rt; image_that_wins(rt.alloc(), Symmetry::Quarter, &long)?.is_none());
     assert!(rt; image_that_wins(rt.alloc(), Symmetry::Half, &long)?.is_some());
+    Ok(())
+}
+
+/// The moves that hold against continuous fours of the other side within so many moves, if so many positions after each move are
+/// enough to tell. Where no move holds, the other side wins whatever is played.
+fn moves_that_hold<R: Rule>(
+    alloc: Global,
+    position: &mut Position<R>,
+    depth: u32,
+    budget: u64,
+) -> Result<Option<Points>, SearchError>
+    requires some_depth { 1 ≤ depth }
+    requires depth_fits { depth ≤ MAX_DEPTH }
+    requires some_budget { 1 ≤ budget }
+    ensures moves { IfOk result (λ found. IfSome found (λ moves. moves ≡ defences_of R.KIND depth position.old)) }
+    ensures lost { IfOk result (λ found. IfSome found (λ moves. moves ≡ [] → WinsAfter R.KIND depth position.old)) }
+    ensures same { position.new ≡ position.old }
+{
+    no_defence_loses();
+    let mut compiler = Compiler::new(alloc);
+    match defences::<R, Position<R>>(alloc, position, depth, budget, &mut compiler)? {
+        DefenceAnswer::Known { good, bad: _ } => Ok(Some(good)),
+        DefenceAnswer::Spent { at: _ } => Ok(None),
+    }
+}
+
+#[test]
+fn an_open_three_leaves_four_moves(rt: HostRuntime) -> Result<(), Fail> {
+    let text =
+        b"renju-position 1\nrule freestyle\nsize 15\nblack 5,7 6,7 7,7 14,14\nwhite 0,0 2,0 4,0\n";
+    let file = read_position(rt.alloc(), text)?;
+    let Ok(mut position) = Position::<Freestyle>::from_board(file.board) else {
+        return Err(Fail::from("the position is not lawful"));
+    };
+    for (budget, moves) in [(4, Some(4)), (3, None)] {
+        let found = moves_that_hold(rt.alloc(), &mut position, 2, budget)?;
+        assert_eq!(rt; found.map(|moves| moves.len()), moves);
+    }
+    Ok(())
+}
+
+/// The book that the bytes are the text of, if each of its entries is accepted with so many arrivals at most.
+fn accepted_book(alloc: Global, bytes: &[u8], work: u64) -> Result<Option<Book>, BookError>
+    requires work_fits { work ≤ MAX_BOOK_WORK }
+    ensures book { IfOk result (λ found. IfSome found (λ book. IsTextOfBook book bytes.now)) }
+    ensures accepted { IfOk result (λ found. IfSome found (λ book.
+        AllByRecursion (IsAccepted book.table work) book.entries)) }
+{
+    let book = read_book(alloc, bytes)?;
+    match check_book(alloc, &book, work) {
+        Ok(_) => Ok(Some(book)),
+        Err(HoldError::Memory) => Err(BookError::Memory),
+        Err(_) => Ok(None),
+    }
+}
+
+#[test]
+fn both_entries_of_a_book_are_accepted(rt: HostRuntime) -> Result<(), Fail> {
+    for (work, entries) in [(219, Some(2)), (218, None)] {
+        let found = accepted_book(rt.alloc(), TWO_ENTRIES.as_bytes(), work)?;
+        assert_eq!(rt; found.map(|book| book.entries.len()), entries);
+    }
+    Ok(())
+}
+
+/// The number of the move by which the side won the game of these moves, if it won by the last of them.
+fn won_at<R: Rule>(position: &mut Position<R>, side: Side, moves: &[Point]) -> Option<u32>
+    ensures won { IfSome result (λ number. verdict R.KIND position.old moves.now ≡ Won side number) }
+    ensures same { position.new ≡ position.old }
+{
+    match judge(position, moves) {
+        GameVerdict::Won(winner, number) if winner == side => Some(number),
+        _ => None,
+    }
+}
+
+#[test]
+fn a_row_of_five_wins_a_game(rt: HostRuntime) -> Result<(), Fail> {
+    let board = Board::empty(rt.alloc(), 15, 15)?;
+    let Ok(mut position) = Position::<Renju>::from_board(board) else {
+        return Err(Fail::from("the position is not lawful"));
+    };
+    let mut moves = Points::new(rt.alloc());
+    for (own, other) in [(3, 0), (4, 2), (5, 4), (6, 6)] {
+        moves.push(Point { x: own, y: 7 })?;
+        moves.push(Point { x: other, y: 0 })?;
+    }
+    assert_eq!(rt; won_at(&mut position, Side::Black, moves.as_slice()), None);
+    moves.push(Point { x: 7, y: 7 })?;
+    for (side, number) in [(Side::Black, Some(9)), (Side::White, None)] {
+        assert_eq!(rt; won_at(&mut position, side, moves.as_slice()), number);
+    }
+    Ok(())
+}
+
+/// The bytes once more, if they are the decimal digits of a number up to 1,000: each number is spelled in one way.
+fn number_again(alloc: Global, bytes: &[u8]) -> Result<Option<String>, AllocError>
+    ensures same { IfOk result (λ found. IfSome found (λ text. string_bytes text ≡ bytes.now)) }
+{
+    let Some(found) = number(bytes, 1_000) else {
+        return Ok(None);
+    };
+    let mut text = String::new(alloc);
+    push_number(&mut text, found)?;
+    Ok(Some(text))
+}
+
+#[test]
+fn a_number_has_one_spelling(rt: HostRuntime) -> Result<(), Fail> {
+    let text = number_again(rt.alloc(), b"1000")?;
+    assert!(rt; text.is_some_and(|text| text.as_str() == "1000"));
+    for other in ["", "1001", "010", "+1", "1 "] {
+        assert!(rt;
+            number_again(rt.alloc(), other.as_bytes())?.is_none(),
+            "{other}"
+        );
+    }
     Ok(())
 }
