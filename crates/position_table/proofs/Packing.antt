@@ -3,11 +3,10 @@ use Rattle.std.proofs.Common.{◌≡◌, ℕ, zero, suc, ◌+◌, ◌*◌, ◌<�
 use Rattle.std.proofs.lemmas.Bool.{cases_lt}
 use Rattle.std.proofs.lemmas.List.{ext_get_or, get_or_past, get_or-replicate, length-replicate}
 use Rattle.std.proofs.lemmas.List.FromFn.{fill_by_all, get_or-map-range_with_len}
-use Rattle.game_rules.specs.Grid.{Grid, IsBoard, place_of}
+use Rattle.game_rules.specs.Grid.{Grid, IsBoard}
 use Rattle.game_rules.specs.declared.Cell.{Cell}
 use Rattle.game_rules.specs.declared.Cell.TheVariants.{Empty, Black, White}
-use Rattle.game_rules.specs.declared.Point.{Point}
-use Rattle.game_rules.proofs.Boards.{cells_fit, grid_eq, place-below}
+use Rattle.game_rules.proofs.Boards.{cells_fit, grid_eq}
 use Rattle.position_table.specs.Packing.{Packed, packed, bytes_of, byte_at, code_at, code_of}
 
 -- past the last cell the bits are 0
@@ -99,37 +98,33 @@ packed-tells a b in_a in_b e =
     let area : a.width * a.height ≡ b.width * b.height = cc in
     grid_eq a b width height (cells_told a.cells b.cells (in_a.filled ∙ area ∙ sym in_b.filled) (cells_fit a in_a) bytes)
 
--- the first k bytes are those of the cells before p, which is the point at place 4k, and the others are 0
-pub record IsPackedTo (b : Grid) (p : Point) (bytes : List ℕ) (k : ℕ) : Type 0 where
+-- the first k bytes are those of the cells, and the others are 0
+pub record IsPackedTo (cells : List Cell) (bytes : List ℕ) (k : ℕ) : Type 0 where
   pub long : length bytes ≡ 256
-  pub place : place_of b p ≡ 4 * k
-  pub column : p.x < b.width
-  pub filled : (j : ℕ) → j < k → get_or bytes j 0 ≡ byte_at b.cells j
+  pub filled : (j : ℕ) → j < k → get_or bytes j 0 ≡ byte_at cells j
   pub blank : (j : ℕ) → k ≤ j → get_or bytes j 0 ≡ 0
 
-pub packed_to-more : (b : Grid) (p q : Point) (bytes : List ℕ) (k byte : ℕ) → k < 256 → IsPackedTo b p bytes k → byte ≡ byte_at b.cells k → place_of b q ≡ place_of b p + 4 → q.x < b.width → IsPackedTo b q (set bytes k byte) (k + 1)
-packed_to-more b p q bytes k byte within so_far e on column = record {
+pub packed_to-more : (cells : List Cell) (bytes : List ℕ) (k byte : ℕ) → k < 256 → IsPackedTo cells bytes k → byte ≡ byte_at cells k
+    → IsPackedTo cells (set bytes k byte) (k + 1)
+packed_to-more cells bytes k byte within so_far e = record {
   long = length-set bytes k byte ∙ so_far.long;
-  place = let before : place_of b p ≡ 4 * k = so_far.place in omega arith;
-  column = column;
   filled = below_more _ _
       (λ j below. get_or-set_other bytes k j byte 0 (λ (same : j ≡ k). absurd (omega arith)) ∙ so_far.filled j below)
       (get_or-set_same bytes k byte 0 (let long = so_far.long in omega arith) ∙ e);
   blank = λ j past. get_or-set_other bytes k j byte 0 (λ (same : j ≡ k). absurd (omega arith)) ∙ so_far.blank j (omega arith);
 }
 
--- where the next point is below the board, all bytes are right
-pub packed_to-end : (b : Grid) (p : Point) (bytes : List ℕ) (k : ℕ) → IsBoard b → IsPackedTo b p bytes k → b.height ≤ p.y → bytes ≡ bytes_of b.cells
-packed_to-end b p bytes k ok so_far below =
-    let past : length b.cells ≤ 4 * k = subst (λ (n : ℕ). length b.cells ≤ n) so_far.place (place-below b p ok below) in
-    bytes_of-fill bytes b.cells so_far.long (λ j in_bytes. elim (cases_lt j k) [
+-- where no cell is left, all bytes are right
+pub packed_to-end : (cells : List Cell) (bytes : List ℕ) (k : ℕ) → IsPackedTo cells bytes k → length cells ≤ 4 * k → bytes ≡ bytes_of cells
+packed_to-end cells bytes k so_far past =
+    bytes_of-fill bytes cells so_far.long (λ j in_bytes. elim (cases_lt j k) [
       | inl before ↦ so_far.filled j before
-      | inr after ↦ so_far.blank j after ∙ sym (byte_at-past b.cells j (omega arith))
+      | inr after ↦ so_far.blank j after ∙ sym (byte_at-past cells j (omega arith))
     ])
 
 -- where all bytes are filled, all are right
-pub packed_to-full : (b : Grid) (p : Point) (bytes : List ℕ) (k : ℕ) → IsPackedTo b p bytes k → 256 ≤ k → bytes ≡ bytes_of b.cells
-packed_to-full b p bytes k so_far all = bytes_of-fill bytes b.cells so_far.long (λ j in_bytes. so_far.filled j (omega arith))
+pub packed_to-full : (cells : List Cell) (bytes : List ℕ) (k : ℕ) → IsPackedTo cells bytes k → 256 ≤ k → bytes ≡ bytes_of cells
+packed_to-full cells bytes k so_far all = bytes_of-fill bytes cells so_far.long (λ j in_bytes. so_far.filled j (omega arith))
 
 blank_at : (n j : ℕ) → ◌≡◌ {A = ℕ} (get_or (replicate n 0) j 0) 0
 blank_at n j = elim (cases_lt j n) [
@@ -138,11 +133,9 @@ blank_at n j = elim (cases_lt j n) [
 ]
 
 -- before the first cell all bytes are 0
-pub packed_to-none : (b : Grid) → IsBoard b → (n : ℕ) → n ≡ 256 → IsPackedTo b (record { x = 0; y = 0 }) (replicate n 0) 0
-packed_to-none b ok n all = record {
+pub packed_to-none : (cells : List Cell) (n : ℕ) → n ≡ 256 → IsPackedTo cells (replicate n 0) 0
+packed_to-none cells n all = record {
   long = length-replicate n 0 ∙ all;
-  place = grind arith;
-  column = let wide = ok.wide in omega arith;
   filled = λ j before. absurd (omega arith);
   blank = λ j past. blank_at n j;
 }

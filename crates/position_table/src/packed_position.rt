@@ -4,12 +4,11 @@
 //! the largest board. So a key takes no memory of its own, and two keys are equal exactly where the boards are the same.
 #![tactic(auto)]
 
-ghost use Rattle.std.specs.Prelude.{◌≡◌, ℕ, ◌<◌, ◌≤◌, ◌+◌, ◌*◌};
-ghost use Rattle.game_rules.specs.Grid.{place_of};
+ghost use Rattle.std.specs.Prelude.{◌≡◌, ◌<◌, ◌≤◌, ◌+◌, ◌*◌};
 ghost use Rattle.position_table.specs.Remembering.{TestTells};
-ghost use Rattle.position_table.specs.Packing.{packed, KeysTellBoards, bytes_of as bytes_of_lem, byte_at, code_at, code_of as code_of_lem};
+ghost use Rattle.position_table.specs.Packing.{packed, KeysTellBoards, bytes_of as bytes_of_lem, byte_at as byte_at_lem, code_at as code_at_lem, code_of as code_of_lem};
 
-use game_rules::{Cell, Point};
+use game_rules::Cell;
 use std::hash::{Hash, Hasher};
 use std::marker::Model;
 use stone_board::Board;
@@ -68,75 +67,47 @@ impl PackedPosition {
         PackedPosition {
             width: board.width(),
             height: board.height(),
-            bytes: bytes_of(board),
+            bytes: bytes_of(board.cells()),
         }
     }
 }
 
-/// The bytes of the board's cells.
-fn bytes_of(board: &Board) -> [u8; PACKED_BYTES]
-    ensures bytes { result ≡ bytes_of_lem board.now.cells }
+/// The bytes of a board's cells. They are read by their places, since a key is made for each look at a table.
+fn bytes_of(cells: &[Cell]) -> [u8; PACKED_BYTES]
+    ensures bytes { result ≡ bytes_of_lem cells.now }
 {
-    let height = board.height();
     let mut bytes = [0; PACKED_BYTES];
-    let mut p = Point { x: 0, y: 0 };
     for k in 0..PACKED_BYTES {
-        if p.y >= height {
+        if 4 * k >= cells.len() {
             return bytes;
         }
-        bytes[k] = next_byte(board, &mut p);
+        bytes[k] = byte_at(cells, k);
     }
     bytes
 }
 
-/// The byte of the four cells from `p` on in reading order. Then `p` is the fourth point after it.
-fn next_byte(board: &Board, p: &mut Point) -> u8
-    requires column { p.old.x < board.now.width }
-    requires row { p.old.y < 64 }
-    ensures byte { (k : ℕ) → place_of board.now p.old ≡ 4 * k → result ≡ byte_at board.now.cells k }
-    ensures place { place_of board.now p.new ≡ place_of board.now p.old + 4 }
-    ensures column { p.new.x < board.now.width }
+/// Byte `k` of the cells. All but the last one have their four cells at hand, so that one comparison serves for them.
+#[inline(always)]
+fn byte_at(cells: &[Cell], k: usize) -> u8
+    requires near { k < PACKED_BYTES }
+    ensures byte { result ≡ byte_at_lem cells.now k }
 {
-    if p.y < board.height() && p.x + 3 < board.width() {
-        return byte_in_row(board, p);
+    let place = 4 * k;
+    if place + 3 < cells.len() {
+        byte(
+            code_of(cells[place]),
+            code_of(cells[place + 1]),
+            code_of(cells[place + 2]),
+            code_of(cells[place + 3]),
+        )
+    } else {
+        byte(
+            code_at(cells, place),
+            code_at(cells, place + 1),
+            code_at(cells, place + 2),
+            0,
+        )
     }
-    let first = next_code(board, p);
-    let second = next_code(board, p);
-    let third = next_code(board, p);
-    let fourth = next_code(board, p);
-    byte(first, second, third, fourth)
-}
-
-/// The byte of the four cells from `p` on where they stand in one row. Then `p` is the fourth point after it.
-fn byte_in_row(board: &Board, p: &mut Point) -> u8
-    requires columns { p.old.x + 3 < board.now.width }
-    requires row { p.old.y < board.now.height }
-    ensures byte { (k : ℕ) → place_of board.now p.old ≡ 4 * k → result ≡ byte_at board.now.cells k }
-    ensures place { place_of board.now p.new ≡ place_of board.now p.old + 4 }
-    ensures column { p.new.x < board.now.width }
-{
-    let width = board.width();
-    let first = code_in_row(board, *p, 0);
-    let second = code_in_row(board, *p, 1);
-    let third = code_in_row(board, *p, 2);
-    let fourth = code_in_row(board, *p, 3);
-    let last = Point { x: p.x + 3, y: p.y };
-    *p = following(width, last);
-    byte(first, second, third, fourth)
-}
-
-/// The two bits of the cell so many columns after `p`.
-fn code_in_row(board: &Board, p: Point, columns: u8) -> u8
-    requires column { p.x + columns < board.now.width }
-    requires near { p.x + columns < 64 }
-    requires row { p.y < board.now.height }
-    ensures code { result ≡ code_at board.now.cells (place_of board.now p + columns) }
-    ensures bits { result < 3 }
-{
-    code_of(board.cell(Point {
-        x: p.x + columns,
-        y: p.y,
-    }))
 }
 
 /// The byte of four cells, two bits for each, the first of them in the lowest bits.
@@ -150,37 +121,16 @@ fn byte(first: u8, second: u8, third: u8, fourth: u8) -> u8
     first + 4 * second + 16 * third + 64 * fourth
 }
 
-/// The two bits of the cell at `p`, or 0 below the board. Then `p` is the next point in reading order.
-fn next_code(board: &Board, p: &mut Point) -> u8
-    requires column { p.old.x < board.now.width }
-    requires row { p.old.y < 128 }
-    ensures code { result ≡ code_at board.now.cells (place_of board.now p.old) }
+/// The two bits of the cell at a place, or 0 past the last cell.
+#[inline(always)]
+fn code_at(cells: &[Cell], place: usize) -> u8
+    ensures code { result ≡ code_at_lem cells.now place }
     ensures bits { result < 3 }
-    ensures place { place_of board.now p.new ≡ place_of board.now p.old + 1 }
-    ensures column { p.new.x < board.now.width }
-    ensures row { p.new.y ≤ p.old.y + 1 }
 {
-    let code = if p.y < board.height() {
-        code_of(board.cell(*p))
+    if place < cells.len() {
+        code_of(cells[place])
     } else {
         0
-    };
-    *p = following(board.width(), *p);
-    code
-}
-
-/// The point after `p` in reading order on a board of this width, which may be below the board.
-fn following(width: u8, p: Point) -> Point
-    requires column { p.x < width }
-    requires row { p.y < 255 }
-    ensures place { result.y * width + result.x ≡ p.y * width + p.x + 1 }
-    ensures column { result.x < width }
-    ensures row { result.y ≤ p.y + 1 }
-{
-    if p.x + 1 < width {
-        Point { x: p.x + 1, y: p.y }
-    } else {
-        Point { x: 0, y: p.y + 1 }
     }
 }
 

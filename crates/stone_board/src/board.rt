@@ -88,6 +88,13 @@ impl Board {
         p.x < self.width && p.y < self.height
     }
 
+    /// What stands on each point of the board, in reading order.
+    pub fn cells(&self) -> &[Cell]
+        ensures cells { result.now ≡ self.now.cells }
+    {
+        self.cells.as_slice()
+    }
+
     /// What stands on a point of the board.
     pub fn cell(&self, p: Point) -> Cell
         requires on { IsTrue (is_on self.now p) }
