@@ -1,11 +1,12 @@
--- A search for two fours looks at few positions.
-use Rattle.std.proofs.Common.{ℕ, ◌≤◌, Bool, true, false, cond, arith, List, [], ◌∷◌, ◌≡◌, zero, suc, ◌+◌, ◌<◌, refl, length, nat_le, ap, Option, None, Some}
+-- Few positions are looked at in a search for two fours, and one where a five point stands.
+use Rattle.std.proofs.Common.{ℕ, ◌≤◌, Bool, true, false, cond, arith, List, [], ◌∷◌, ◌≡◌, ◌∙◌, zero, suc, ◌+◌, ◌<◌, refl, length, nat_le, ap, Option, None, Some}
 use Rattle.std.specs.List.{sum_by, range_with_len}
 use Rattle.std.proofs.lemmas.List.Sums.{sum_by-cons}
 use Rattle.std.proofs.lemmas.Bool.Decides.{nat_tests}
 use Rattle.game_rules.proofs.Common.{Grid, points_of, is_at, IsPosition, mover, after, has_five, wins_by_fours, four_move}
 use Rattle.game_rules.specs.declared.RuleKind.{RuleKind}
 use Rattle.game_rules.specs.declared.Point.{Point}
+use Rattle.game_rules.proofs.Games.{five-wins}
 use Rattle.game_rules.proofs.Places.{points_few}
 use Rattle.game_rules.proofs.PointLists.{sum-each_one}
 use Rattle.threat_moves.specs.declared.block.BlockAnswer.{BlockAnswer}
@@ -20,6 +21,18 @@ sum-until {X} f test (x ∷ xs) = by_test (test x) (sum-until f test xs) where
   by_test : (r : Bool) → sum_by f (until test xs) ≤ sum_by f xs → sum_by f (x ∷ cond r [] (until test xs)) ≤ sum_by f (x ∷ xs)
   by_test true low = let a = sum_by-cons f x xs in let b = sum_by-cons f x [] in omega (arith, a, b)
   by_test false low = let a = sum_by-cons f x xs in let b = sum_by-cons f x (until test xs) in omega (arith, a, b, low)
+
+one-looked : (rule : RuleKind) (c : Grid) → sum_by (λ k. four_tree rule k c) (1 ∷ []) ≡ 1
+unfolding four_tree
+one-looked rule c = refl
+
+-- where the attacker has a five point, one position is looked at
+pub five-cost : (rule : RuleKind) (n : ℕ) (c : Grid) → 1 ≤ n → has_five rule c (mover c) ≡ true → four_cost rule n c ≡ 1
+five-cost rule zero c l h = absurd (omega arith)
+five-cost rule (suc m) c l h =
+    ap (λ (r : Bool). sum_by (λ k. four_tree rule k c) (1 ∷ cond r [] (until (λ k. wins_by_fours rule k c) (range_with_len 2 m))))
+    (five-wins rule c 0 h)
+    ∙ one-looked rule c
 
 module _ (rule : RuleKind) (b : Grid) (lawful : IsPosition rule b) where
   one : (c : Grid) → four_tree rule 1 c ≡ 1

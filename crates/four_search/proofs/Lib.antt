@@ -18,5 +18,5 @@ mod Joining
 mod Remembering
 -- points that no move on their lines has changed
 mod Beside
--- how few positions a search for two fours looks at
+-- how few positions a search for two fours looks at, and that one is looked at where a five point stands
 pub mod Costs

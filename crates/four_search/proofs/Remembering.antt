@@ -1,13 +1,16 @@
--- What a search remembers is what it finds.
-use Rattle.std.proofs.Common.{◌≡◌, ℕ, ◌+◌, ◌-◌, cond, sym, ap, ◌∙◌, arith, nat_le}
+-- What searches remember is what they find, and is true.
+use Rattle.std.proofs.Common.{◌≡◌, ℕ, ◌+◌, ◌-◌, cond, refl, sym, ap, ◌∙◌, arith, nat_le, Option, Some, None, IfSome}
 use Rattle.game_rules.specs.declared.RuleKind.{RuleKind}
 use Rattle.four_search.specs.declared.search.Found.{Found}
 use Rattle.four_search.specs.declared.search.Found.TheVariants.{Win, NoWin, Spent}
 use Rattle.four_search.specs.FourGame.{four_tree}
-use Rattle.four_search.specs.Remembering.{IsDenied}
+use Rattle.four_search.specs.Remembering.{IsDenied, IsTrueMemory}
 use Rattle.four_search.specs.Searching.{four_line, found_at}
 use Rattle.four_search.proofs.Deepening.{found-no-win}
-use Rattle.game_rules.proofs.Common.{Grid}
+use Rattle.game_rules.proofs.Common.{Grid, IsPosition}
+use Rattle.position_table.specs.Packing.{packed}
+use Rattle.position_table.specs.Remembering.{Remembered, value_under}
+use Rattle.position_table.proofs.Remembering.{true-found}
 
 module _ (rule : RuleKind) (b : Grid) (moves budget : ℕ) where
   -- what is denied of a position is what a search there finds
@@ -28,3 +31,9 @@ module _ (rule : RuleKind) (b : Grid) (moves budget : ℕ) where
     unwon = (found-no-win rule moves b budget left found).1;
     counted = let sum = left-within left found in omega (arith, sum);
   }
+
+-- what is found in a true memory is so
+pub memory-denies : (rule : RuleKind) (b : Grid) (moves : ℕ) (memory : Remembered ℕ) (found : Option ℕ) → IsPosition rule b → IsTrueMemory rule memory
+    → found ≡ value_under (packed b, moves) memory → IfSome found (IsDenied rule b moves)
+memory-denies rule b moves memory None lawful true_of is = tt
+memory-denies rule b moves memory (Some count) lawful true_of is = true-found rule (IsDenied rule) b b moves count memory lawful refl true_of is

@@ -1,4 +1,4 @@
--- What a search remembers.
+-- What searches remember.
 use Rattle.std.specs.Prelude.{◌≡◌, ℕ, false}
 use Rattle.game_rules.specs.Grid.{Grid}
 use Rattle.game_rules.specs.Games.{wins_by_fours}
@@ -11,6 +11,6 @@ pub record IsDenied (rule : RuleKind) (b : Grid) (moves count : ℕ) : Type 0 wh
   pub unwon : wins_by_fours rule moves b ≡ false
   pub counted : four_tree rule moves b ≡ count
 
--- what a search remembers is true: under a board and some moves stands the number of their positions, where there is no win
-abbrev pub IsTrueMemo : RuleKind → Remembered ℕ → Type 0
-IsTrueMemo rule memo = IsTrueTable ℕ rule (IsDenied rule) memo
+-- what searches remember is true: under a board and some moves stands the number of their positions, where there is no win
+abbrev pub IsTrueMemory : RuleKind → Remembered ℕ → Type 0
+IsTrueMemory rule memory = IsTrueTable ℕ rule (IsDenied rule) memory

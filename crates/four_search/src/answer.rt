@@ -14,7 +14,7 @@ ghost use Rattle.strategy_compiler.specs.Growth.{GrowsBy};
 ghost use Rattle.four_search.specs.Answers.{OnWin, IsFourWin, most_added};
 
 use crate::SearchError;
-use crate::memo::Memo;
+use crate::memory::FourMemory;
 use crate::plan::compile;
 use crate::root::look;
 use crate::search::{Found, search};
@@ -73,16 +73,50 @@ pub fn four_search<R: Rule, V: Seen<R>>(
     ensures full_now { IsErrOf result SearchError.Full → length compiler.new ≡ MAX_NODES }
     ensures same { V.position view.new ≡ V.position view.old }
 {
+    let mut memory = FourMemory::new(alloc);
+    four_search_with::<R, V>(alloc, view, depth, budget, &mut memory, compiler)
+}
+
+/// Searches the same as `four_search`, with a memory that serves other searches under the rule too. The answer is that of an empty
+/// one, whatever it holds: a position that is found counts as if it were looked at. What this search comes to is remembered.
+pub fn four_search_with<R: Rule, V: Seen<R>>(
+    alloc: Global,
+    view: &mut V,
+    depth: u32,
+    budget: u64,
+    memory: &mut FourMemory<R>,
+    compiler: &mut Compiler,
+) -> Result<FourAnswer, SearchError>
+    requires some_depth { 1 ≤ depth }
+    requires depth_fits { depth ≤ MAX_DEPTH }
+    requires some_budget { 1 ≤ budget }
+    ensures win { IfOk result
+        (λ a. OnWin a (IsFourWin R.KIND depth (V.position view.old) compiler.new)) }
+    ensures none { IfOk result (λ a. (a ≡ FourAnswer.None)
+        ↔ ((wins_by_fours R.KIND depth (V.position view.old) ≡ false) × (four_cost R.KIND depth (V.position view.old) ≤ budget))) }
+    ensures no_win { IfOk result
+        (λ a. a ≡ FourAnswer.None → ¬ WinsByFours R.KIND depth (V.position view.old)) }
+    ensures spent { IfOk result
+        (λ a. (a ≡ FourAnswer.Spent) ↔ (budget < four_cost R.KIND depth (V.position view.old))) }
+    ensures added { IfOk result (λ a. GrowsBy compiler.old compiler.new (most_added a)) }
+
+    // What a refusal leaves, and when the compiler is full.
+    ensures kept { OnErr result (GrowsBy compiler.old compiler.new
+        (if wins_by_fours R.KIND depth (V.position view.old) then 2 * depth else 0)) }
+    ensures full { IsErrOf result SearchError.Full
+        → (wins_by_fours R.KIND depth (V.position view.old) ≡ true) × (four_cost R.KIND depth (V.position view.old) ≤ budget) × (MAX_NODES < length compiler.old + 2 * depth) }
+    ensures full_now { IsErrOf result SearchError.Full → length compiler.new ≡ MAX_NODES }
+    ensures same { V.position view.new ≡ V.position view.old }
+{
     view.side();
     let Ok(root) = look::<R, V>(alloc, view) else {
         return Err(SearchError::Memory);
     };
-    let mut memo = Memo::new(alloc);
     let mut left = budget;
     let mut before = 0;
     for done in 0..depth {
         let moves = done + 1;
-        match search::<R, V>(alloc, view, &root, moves, left, &mut memo) {
+        match search::<R, V>(alloc, view, &root, moves, left, memory) {
             Err(_) => return Err(SearchError::Memory),
             Ok(Found::Spent) => return Ok(FourAnswer::Spent),
             Ok(Found::NoWin { left: rest }) => {

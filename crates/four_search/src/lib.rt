@@ -8,14 +8,15 @@
 mod answer;
 mod gaps;
 mod makers;
-mod memo;
+mod memory;
 mod plan;
 mod root;
 mod search;
 #[cfg(test)]
 mod tests;
 
-pub use answer::{FourAnswer, four_search};
+pub use answer::{FourAnswer, four_search, four_search_with};
+pub use memory::FourMemory;
 pub use strategy_compiler::SearchError;
 
 /// The most moves within which a win by fours is searched.

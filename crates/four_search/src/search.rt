@@ -16,18 +16,21 @@ ghost use Rattle.threat_moves.specs.OneBlock.{all_foul as all_foul_lem, won_with
 ghost use Rattle.threat_moves.specs.Blocks.{fate as fate_lem};
 ghost use Rattle.row_shapes.specs.FivePoints.{in_short};
 ghost use Rattle.four_search.specs.Makers.{makers_of, AfterFour, AfterReply, RulesOut};
-ghost use Rattle.four_search.specs.Remembering.{IsTrueMemo};
 ghost use Rattle.four_search.specs.Roots.{TellsRoot};
 ghost use Rattle.four_search.specs.Searching.{found_at, found_trying, found_behind, found_answering};
 
 use crate::makers::{Maker, next_makers};
-use crate::memo::Memo;
+use crate::memory::FourMemory;
 use crate::root::Root;
 use foul_judge::{Outcome, Seen};
 use row_shapes::{Rule, takes};
 use std::alloc::{AllocError, Global};
 use stone_board::{Point, Points, Side};
 use threat_moves::{BlockAnswer, FivePoints, by_block};
+
+/// The least number of points that make a five point with which a position is looked up. Where fewer than three fours stand apart,
+/// fewer positions are searched than are kept.
+const LEAST_MAKERS: usize = 6;
 
 /// What a search within some moves finds, and how much of the budget it leaves.
 #[derive(Drop)]
@@ -49,14 +52,12 @@ pub(crate) fn search<R: Rule, V: Seen<R>>(
     root: &Root,
     moves: u32,
     budget: u64,
-    memo: &mut Memo,
+    memory: &mut FourMemory<R>,
 ) -> Result<Found, AllocError>
     requires some { 0 < moves }
     requires lawful { IsPosition R.KIND (V.position view.old) }
     requires root { TellsRoot R.KIND (V.position view.old) root.now }
-    requires memo { IsTrueMemo R.KIND memo.old }
     ensures found { IfOk result (λ found. found ≡ found_at R.KIND moves (V.position view.old) budget) }
-    ensures memo { IsTrueMemo R.KIND memo.new }
     ensures same { V.position view.new ≡ V.position view.old }
 {
     if budget == 0 {
@@ -74,16 +75,16 @@ pub(crate) fn search<R: Rule, V: Seen<R>>(
             makers.as_slice(),
             moves,
             budget,
-            memo,
+            memory,
         ),
     }
 }
 
-/// Searches a position that comes after a four and its block, or takes what is remembered of it within as many moves. The
-/// attacker has no five point, the defender's are known in short, and the budget is not spent. The points are known that made a
-/// five point before the last two moves, the attacker's `last` and the reply to it.
+/// Searches a position that comes after a four and its block. The attacker has no five point, the defender's are known in short, and
+/// the budget is not spent. The points are known that made a five point before the last two moves, the attacker's `last` and the
+/// reply to it. Only a position with fours enough is looked up.
 #[cycle(search)]
-fn remembered<R: Rule, V: Seen<R>>(
+fn search_on<R: Rule, V: Seen<R>>(
     alloc: Global,
     view: &mut V,
     moves: u32,
@@ -92,7 +93,7 @@ fn remembered<R: Rule, V: Seen<R>>(
     before: &[Maker],
     last: Point,
     reply: Point,
-    memo: &mut Memo,
+    memory: &mut FourMemory<R>,
 ) -> Result<Found, AllocError>
     requires some { 0 < moves }
     requires lawful { IsPosition R.KIND (V.position view.old) }
@@ -100,22 +101,64 @@ fn remembered<R: Rule, V: Seen<R>>(
     requires none { has_five_lem R.KIND (V.position view.old) (mover (V.position view.old)) ≡ false }
     requires threat { threat ≡ in_short (five_points R.KIND (V.position view.old) (other_lem (mover (V.position view.old)))) }
     requires before { AfterReply R.KIND before.now last reply (V.position view.old) }
-    requires memo { IsTrueMemo R.KIND memo.old }
     ensures found { IfOk result (λ found. found ≡ found_at R.KIND moves (V.position view.old) budget) }
-    ensures memo { IsTrueMemo R.KIND memo.new }
     ensures same { V.position view.new ≡ V.position view.old }
 {
-    if let Some(count) = memo.find(view.board(), moves) {
+    if rules_out::<R, V>(view, threat) {
+        return Ok(Found::NoWin { left: budget - 1 });
+    }
+    let makers = next_makers::<R, V>(alloc, view, before, last, reply)?;
+    if makers.len() < LEAST_MAKERS || !matches!(threat, FivePoints::None) {
+        return try_makers::<R, V>(
+            alloc,
+            view,
+            threat,
+            makers.as_slice(),
+            moves,
+            budget,
+            memory,
+        );
+    }
+    remembered::<R, V>(
+        alloc,
+        view,
+        threat,
+        makers.as_slice(),
+        moves,
+        budget,
+        memory,
+    )
+}
+
+/// Takes what is remembered of a position within as many moves, or searches it. The points are known that make a five point.
+#[cycle(search)]
+fn remembered<R: Rule, V: Seen<R>>(
+    alloc: Global,
+    view: &mut V,
+    threat: FivePoints,
+    makers: &[Maker],
+    moves: u32,
+    budget: u64,
+    memory: &mut FourMemory<R>,
+) -> Result<Found, AllocError>
+    requires some { 0 < moves }
+    requires lawful { IsPosition R.KIND (V.position view.old) }
+    requires some_budget { 0 < budget }
+    requires none { has_five_lem R.KIND (V.position view.old) (mover (V.position view.old)) ≡ false }
+    requires threat { threat ≡ in_short (five_points R.KIND (V.position view.old) (other_lem (mover (V.position view.old)))) }
+    requires makers { makers.now ≡ makers_of R.KIND (V.position view.old) }
+    ensures found { IfOk result (λ found. found ≡ found_at R.KIND moves (V.position view.old) budget) }
+    ensures same { V.position view.new ≡ V.position view.old }
+{
+    if let Some(count) = memory.find(view.board(), moves) {
         return Ok(without_win(count, budget));
     }
-    match search_on::<R, V>(
-        alloc, view, moves, budget, threat, before, last, reply, memo,
-    )? {
+    match try_makers::<R, V>(alloc, view, threat, makers, moves, budget, memory)? {
         Found::NoWin { left } => {
-            memo.keep(view.board(), moves, budget - left);
+            memory.keep(view.board(), moves, budget - left);
             Ok(Found::NoWin { left })
         }
-        found => Ok(found),
+        other => Ok(other),
     }
 }
 
@@ -130,37 +173,6 @@ fn without_win(count: u64, budget: u64) -> Found
     } else {
         Found::Spent
     }
-}
-
-/// Searches the same where it is not remembered.
-#[cycle(search)]
-fn search_on<R: Rule, V: Seen<R>>(
-    alloc: Global,
-    view: &mut V,
-    moves: u32,
-    budget: u64,
-    threat: FivePoints,
-    before: &[Maker],
-    last: Point,
-    reply: Point,
-    memo: &mut Memo,
-) -> Result<Found, AllocError>
-    requires some { 0 < moves }
-    requires lawful { IsPosition R.KIND (V.position view.old) }
-    requires some_budget { 0 < budget }
-    requires none { has_five_lem R.KIND (V.position view.old) (mover (V.position view.old)) ≡ false }
-    requires threat { threat ≡ in_short (five_points R.KIND (V.position view.old) (other_lem (mover (V.position view.old)))) }
-    requires before { AfterReply R.KIND before.now last reply (V.position view.old) }
-    requires memo { IsTrueMemo R.KIND memo.old }
-    ensures found { IfOk result (λ found. found ≡ found_at R.KIND moves (V.position view.old) budget) }
-    ensures memo { IsTrueMemo R.KIND memo.new }
-    ensures same { V.position view.new ≡ V.position view.old }
-{
-    if rules_out::<R, V>(view, threat) {
-        return Ok(Found::NoWin { left: budget - 1 });
-    }
-    let makers = next_makers::<R, V>(alloc, view, before, last, reply)?;
-    try_makers::<R, V>(alloc, view, threat, makers.as_slice(), moves, budget, memo)
 }
 
 /// Whether no four can be made, since these five points of the other side have to be taken first.
@@ -185,7 +197,7 @@ fn try_makers<R: Rule, V: Seen<R>>(
     makers: &[Maker],
     moves: u32,
     budget: u64,
-    memo: &mut Memo,
+    memory: &mut FourMemory<R>,
 ) -> Result<Found, AllocError>
     requires some { 0 < moves }
     requires lawful { IsPosition R.KIND (V.position view.old) }
@@ -193,16 +205,14 @@ fn try_makers<R: Rule, V: Seen<R>>(
     requires none { has_five_lem R.KIND (V.position view.old) (mover (V.position view.old)) ≡ false }
     requires threat { threat ≡ in_short (five_points R.KIND (V.position view.old) (other_lem (mover (V.position view.old)))) }
     requires makers { makers.now ≡ makers_of R.KIND (V.position view.old) }
-    requires memo { IsTrueMemo R.KIND memo.old }
     ensures found { IfOk result (λ found. found ≡ found_at R.KIND moves (V.position view.old) budget) }
-    ensures memo { IsTrueMemo R.KIND memo.new }
     ensures same { V.position view.new ≡ V.position view.old }
 {
     let mut left = budget - 1;
     for maker in makers {
         let p = maker.at;
         if takes(threat, p) {
-            match try_point::<R, V>(alloc, view, p, maker.made, makers, moves - 1, left, memo)? {
+            match try_point::<R, V>(alloc, view, p, maker.made, makers, moves - 1, left, memory)? {
                 Found::NoWin { left: rest } => left = rest,
                 found => return Ok(found),
             }
@@ -222,7 +232,7 @@ fn try_point<R: Rule, V: Seen<R>>(
     makers: &[Maker],
     moves: u32,
     budget: u64,
-    memo: &mut Memo,
+    memory: &mut FourMemory<R>,
 ) -> Result<Found, AllocError>
     requires empty { IsTrue (is_empty (V.position view.old) p) }
     requires none { has_five_lem R.KIND (V.position view.old) (mover (V.position view.old)) ≡ false }
@@ -230,13 +240,11 @@ fn try_point<R: Rule, V: Seen<R>>(
     requires made { made ≡ in_short (five_points R.KIND (after (V.position view.old) p) (mover (V.position view.old))) }
     requires safe { has_five_lem R.KIND (after (V.position view.old) p) (other_lem (mover (V.position view.old))) ≡ false }
     requires makers { makers.now ≡ makers_of R.KIND (V.position view.old) }
-    requires memo { IsTrueMemo R.KIND memo.old }
     ensures found { IfOk result (λ found. found ≡ found_trying R.KIND moves (V.position view.old) p budget) }
-    ensures memo { IsTrueMemo R.KIND memo.new }
     ensures same { V.position view.new ≡ V.position view.old }
 {
     match no_five_outcome::<R, V>(view, p) {
-        Outcome::GoesOn => behind::<R, V>(alloc, view, p, made, makers, moves, budget, memo),
+        Outcome::GoesOn => behind::<R, V>(alloc, view, p, made, makers, moves, budget, memory),
         _ => Ok(Found::NoWin { left: budget }),
     }
 }
@@ -251,20 +259,18 @@ fn behind<R: Rule, V: Seen<R>>(
     makers: &[Maker],
     moves: u32,
     budget: u64,
-    memo: &mut Memo,
+    memory: &mut FourMemory<R>,
 ) -> Result<Found, AllocError>
     requires goes_on { outcome R.KIND (V.position view.old) p ≡ Outcome.GoesOn }
     requires none { has_five_lem R.KIND (V.position view.old) (mover (V.position view.old)) ≡ false }
     requires made { made ≡ in_short (five_points R.KIND (after (V.position view.old) p) (mover (V.position view.old))) }
     requires safe { has_five_lem R.KIND (after (V.position view.old) p) (other_lem (mover (V.position view.old))) ≡ false }
     requires makers { makers.now ≡ makers_of R.KIND (V.position view.old) }
-    requires memo { IsTrueMemo R.KIND memo.old }
     ensures found { IfOk result (λ found. found ≡ found_behind R.KIND moves (V.position view.old) p budget) }
-    ensures memo { IsTrueMemo R.KIND memo.new }
     ensures same { V.position view.new ≡ V.position view.old }
 {
     view.play(p);
-    let found = answering::<R, V>(alloc, view, p, made, makers, moves, budget, memo);
+    let found = answering::<R, V>(alloc, view, p, made, makers, moves, budget, memory);
     view.undo(p);
     match found? {
         Found::Win { left, line } => win_by(p, line, left),
@@ -283,14 +289,12 @@ fn answering<R: Rule, V: Seen<R>>(
     makers: &[Maker],
     moves: u32,
     budget: u64,
-    memo: &mut Memo,
+    memory: &mut FourMemory<R>,
 ) -> Result<Found, AllocError>
     requires made { made ≡ in_short (five_points R.KIND (V.position view.old) (other_lem (mover (V.position view.old)))) }
     requires safe { has_five_lem R.KIND (V.position view.old) (mover (V.position view.old)) ≡ false }
     requires makers { AfterFour R.KIND makers.now p (V.position view.old) }
-    requires memo { IsTrueMemo R.KIND memo.old }
     ensures found { IfOk result (λ found. found ≡ found_answering R.KIND moves (V.position view.old) budget) }
-    ensures memo { IsTrueMemo R.KIND memo.new }
     ensures same { V.position view.new ≡ V.position view.old }
 {
     match fate::<R, V>(view, made) {
@@ -309,7 +313,7 @@ fn answering<R: Rule, V: Seen<R>>(
             if moves == 0 {
                 Ok(Found::NoWin { left: budget })
             } else {
-                after_block::<R, V>(alloc, view, p, block, makers, moves, budget, memo)
+                after_block::<R, V>(alloc, view, p, block, makers, moves, budget, memory)
             }
         }
     }
@@ -325,16 +329,14 @@ fn after_block<R: Rule, V: Seen<R>>(
     makers: &[Maker],
     moves: u32,
     budget: u64,
-    memo: &mut Memo,
+    memory: &mut FourMemory<R>,
 ) -> Result<Found, AllocError>
     requires goes_on { outcome R.KIND (V.position view.old) block ≡ Outcome.GoesOn }
     requires one { in_short (five_points R.KIND (V.position view.old) (other_lem (mover (V.position view.old)))) ≡ FivePoints.One block }
     requires safe { has_five_lem R.KIND (V.position view.old) (mover (V.position view.old)) ≡ false }
     requires makers { AfterFour R.KIND makers.now p (V.position view.old) }
     requires some { 0 < moves }
-    requires memo { IsTrueMemo R.KIND memo.old }
     ensures found { IfOk result (λ found. found ≡ found_at R.KIND moves (after (V.position view.old) block) budget) }
-    ensures memo { IsTrueMemo R.KIND memo.new }
     ensures same { V.position view.new ≡ V.position view.old }
 {
     if budget == 0 {
@@ -346,7 +348,7 @@ fn after_block<R: Rule, V: Seen<R>>(
     }
     let threat = view.fives_made(block);
     view.play(block);
-    let found = remembered::<R, V>(alloc, view, moves, budget, threat, makers, p, block, memo);
+    let found = search_on::<R, V>(alloc, view, moves, budget, threat, makers, p, block, memory);
     view.undo(block);
     found
 }

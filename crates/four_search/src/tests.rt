@@ -1,5 +1,5 @@
 //! Wins by fours on worked positions, with the tables of their plans as text.
-use crate::{FourAnswer, MAX_DEPTH, four_search};
+use crate::{FourAnswer, FourMemory, MAX_DEPTH, four_search, four_search_with};
 use foul_judge::Position;
 use row_shapes::{ExactFive, Freestyle, Renju, Rule, RuleKind};
 use std::alloc::{AllocError, Global};
@@ -199,6 +199,30 @@ fn answer_text<R: Rule>(alloc: Global, case: &Case) -> Result<String, Fail> {
     }
 }
 
+/// What a search answers that is lent a memory.
+fn answer_with<R: Rule>(
+    alloc: Global,
+    case: &Case,
+    memory: &mut FourMemory<R>,
+) -> Result<FourAnswer, Fail> {
+    let depth = case.depth;
+    let budget = case.budget;
+    if depth < 1 || depth > MAX_DEPTH || budget < 1 {
+        return Err(Fail::from("out of range"));
+    }
+    let mut view = position::<R>(alloc, case)?.ok_or("unlawful")?;
+    let mut compiler = Compiler::new(alloc);
+    let answer = four_search_with::<R, Position<R>>(
+        alloc,
+        &mut view,
+        depth,
+        budget,
+        memory,
+        &mut compiler,
+    )?;
+    Ok(answer)
+}
+
 /// What a search answers, by its rule.
 fn answer(alloc: Global, case: &Case) -> Result<String, Fail> {
     match case.rule {
@@ -310,6 +334,30 @@ fn positions_that_come_again_count_again(rt: HostRuntime) -> Result<(), Fail> {
     ];
     for case in &cases {
         assert_eq!(rt; answer(rt.alloc(), case)?.as_str(), case.answer);
+    }
+    Ok(())
+}
+
+#[test]
+fn one_memory_serves_more_searches(rt: HostRuntime) -> Result<(), Fail> {
+    let alloc = rt.alloc();
+    let mut memory: FourMemory<Freestyle> = FourMemory::new(alloc);
+    let short = Case {
+        budget: 351_369,
+        ..CLOSED_THREES
+    };
+    assert_eq!(rt;
+        answer_with(alloc, &CLOSED_THREES, &mut memory)?,
+        FourAnswer::None
+    );
+    assert_eq!(rt; answer_with(alloc, &short, &mut memory)?, FourAnswer::Spent);
+    assert_eq!(rt;
+        answer_with(alloc, &CLOSED_THREES, &mut memory)?,
+        FourAnswer::None
+    );
+    match answer_with(alloc, &THREE_IN_A_ROW, &mut memory)? {
+        FourAnswer::Win(win) => assert_eq!(rt; win.moves, 2),
+        _ => return Err(Fail::from("no win")),
     }
     Ok(())
 }

@@ -15,9 +15,7 @@ use Rattle.four_search.specs.Makers.{makers_of, AfterFour, AfterReply}
 use Rattle.four_search.proofs.Listing.{drop-all, drop-next}
 use Rattle.four_search.proofs.Trying.{found-makers, ruled-out, each-maker, not_taken, taken-safe, try_all, try_all-none, step_at, step-goes_on, step-ends, found-nothing, answering-no-more, behind-else, block-none, block-threat, block-last, trying-else, trying-goes}
 use Rattle.four_search.specs.Searching.{found_trying, found_behind, found_answering}
-use Rattle.position_table.specs.Packing.{packed}
-use Rattle.position_table.proofs.Remembering.{true-looked, true-found, true-kept}
-use Rattle.four_search.specs.Remembering.{IsTrueMemo, IsDenied}
+use Rattle.four_search.specs.Remembering.{IsDenied}
 use Rattle.four_search.proofs.Remembering.{denied-found, found-denied}
 use Rattle.four_search.proofs.search.+search.Goals as goal
 use Rattle.four_search.proofs.search.+search.Goals.{try_makers-then-takes+in_ok-found+in-NoWin, try_makers-else-takes}
@@ -39,8 +37,8 @@ pub after_block-fives_made-threat-requires-clause-empty :
     goal.after_block-fives_made-threat-requires-clause-empty
 after_block-fives_made-threat-requires-clause-empty g t c = GoesOn-empty g.R.Rule.KIND (g.V.Seen.position c.args.view.now) c.args.block c.requires.goes_on
 
-pub after_block-remembered-found-requires : goal.after_block-remembered-found-requires
-after_block-remembered-found-requires g t c κs within =
+pub after_block-search_on-found-requires : goal.after_block-search_on-found-requires
+after_block-search_on-found-requires g t c κs within =
     let b : Grid = g.V.Seen.position c.args.view.now in
     let lawful : IsPosition g.R.Rule.KIND b = c.side-defender.ensures.lawful in
     let fits : 0 < c.args.budget = let some = c.if-budget-eq0.false in omega (arith, some) in
@@ -55,17 +53,17 @@ after_block-remembered-found-requires g t c κs within =
 pub after_block-undo-requires-clause-stone : goal.after_block-undo-requires-clause-stone
 after_block-undo-requires-clause-stone g t c =
     let b : Grid = g.V.Seen.position c.args.view.now in
-    stone_back g.R.Rule.KIND b _ c.args.block c.side-defender.ensures.lawful c.requires.goes_on (c.remembered-found.ensures.same ∙ c.play.ensures.played)
+    stone_back g.R.Rule.KIND b _ c.args.block c.side-defender.ensures.lawful c.requires.goes_on (c.search_on-found.ensures.same ∙ c.play.ensures.played)
 
 pub after_block-undo-requires-clause-unwon : goal.after_block-undo-requires-clause-unwon
 after_block-undo-requires-clause-unwon g t c =
     let b : Grid = g.V.Seen.position c.args.view.now in
-    unwon_back g.R.Rule.KIND b _ c.args.block c.side-defender.ensures.lawful c.requires.goes_on (c.remembered-found.ensures.same ∙ c.play.ensures.played)
+    unwon_back g.R.Rule.KIND b _ c.args.block c.side-defender.ensures.lawful c.requires.goes_on (c.search_on-found.ensures.same ∙ c.play.ensures.played)
 
 pub after_block-returns-clause-same : goal.after_block-returns-clause-same
 after_block-returns-clause-same g t c =
     let b : Grid = g.V.Seen.position c.args.view.now in
-    c.undo.ensures.undone ∙ lift_back g.R.Rule.KIND b _ c.args.block c.side-defender.ensures.lawful c.requires.goes_on (c.remembered-found.ensures.same ∙ c.play.ensures.played)
+    c.undo.ensures.undone ∙ lift_back g.R.Rule.KIND b _ c.args.block c.side-defender.ensures.lawful c.requires.goes_on (c.search_on-found.ensures.same ∙ c.play.ensures.played)
 
 pub answering-after_block-requires : goal.answering-after_block-requires
 answering-after_block-requires g t c κs within =
@@ -126,30 +124,27 @@ behind-returns-in_default g t c =
     record {
       found = behind-else g.R.Rule.KIND c.args.moves b c.args.p c.args.budget c.in_ok-found.found c.in_default.not-Win found;
       same = c.undo.ensures.undone ∙ lift_back g.R.Rule.KIND b _ c.args.p c.play.ensures.lawful c.requires.goes_on (c.answering-found.ensures.same ∙ c.play.ensures.played);
-      memo = c.answering-found.ensures.memo;
     }
 
 pub remembered-returns-in-Some-clause-found : goal.remembered-returns-in-Some-clause-found
 remembered-returns-in-Some-clause-found g t c =
     let b : Grid = g.V.Seen.position c.args.view.now in
     denied-found g.R.Rule.KIND b c.args.moves c.args.budget c.in-Some.count c.without_win.result
-    (true-found g.R.Rule.KIND (IsDenied g.R.Rule.KIND) b c.board.result.now c.args.moves c.in-Some.count c.args.memo.now c.requires.lawful c.board.ensures.board c.requires.memo c.in-Some.ensures.count)
+    (subst (λ (w : Grid). IsDenied g.R.Rule.KIND w c.args.moves c.in-Some.count) c.board.ensures.board c.in-Some.ensures.denied)
     c.without_win.ensures.found
 
-pub remembered-returns-in-Some-clause-memo : goal.remembered-returns-in-Some-clause-memo
-remembered-returns-in-Some-clause-memo g t c = true-looked g.R.Rule.KIND (IsDenied g.R.Rule.KIND) c.args.memo.now _ (packed c.board.result.now, c.args.moves) c.find.ensures.entries c.requires.memo
+pub remembered-find-requires : goal.remembered-find-requires
+remembered-find-requires g t c = record { lawful = subst (IsPosition g.R.Rule.KIND) (sym c.board.ensures.board) c.requires.lawful }
 
-pub remembered-search_on-requires : goal.remembered-search_on-requires
-remembered-search_on-requires g t c κs within =
-    let memo : IsTrueMemo g.R.Rule.KIND c.find.new.self = true-looked g.R.Rule.KIND (IsDenied g.R.Rule.KIND) c.args.memo.now _ (packed c.board.result.now, c.args.moves) c.find.ensures.entries c.requires.memo in
-    search rules
-
-pub remembered-returns-in-NoWin-clause-memo : goal.remembered-returns-in-NoWin-clause-memo
-remembered-returns-in-NoWin-clause-memo g t c =
+pub remembered-keep-requires : goal.remembered-keep-requires
+remembered-keep-requires g t c =
     let b : Grid = g.V.Seen.position c.args.view.now in
-    true-kept g.R.Rule.KIND (IsDenied g.R.Rule.KIND) b c.board-in-NoWin.result.now c.args.moves (c.args.budget - c.in-NoWin.left) c.search_on.new.memo
-    c.requires.lawful (c.board-in-NoWin.ensures.board ∙ c.in_ok-found.ensures.same) c.in_ok-found.ensures.memo _
-    (found-denied g.R.Rule.KIND b c.args.moves c.args.budget c.in-NoWin.left (sym c.in-NoWin.is ∙ c.in_ok-found.ensures.found)) c.keep.ensures.kept
+    let same : b ≡ c.board-in-NoWin.result.now = sym (c.board-in-NoWin.ensures.board ∙ c.in_ok-other.ensures.same) in
+    record {
+      lawful = subst (IsPosition g.R.Rule.KIND) same c.requires.lawful;
+      denied = subst (λ (w : Grid). IsDenied g.R.Rule.KIND w c.args.moves (c.args.budget - c.in-NoWin.left)) same
+          (found-denied g.R.Rule.KIND b c.args.moves c.args.budget c.in-NoWin.left (sym c.in-NoWin.is ∙ c.in_ok-other.ensures.found));
+    }
 
 pub search_on-returns-then-rules_out-clause-found : goal.search_on-returns-then-rules_out-clause-found
 search_on-returns-then-rules_out-clause-found g t c =
@@ -187,7 +182,6 @@ try_makers-returns-in_default g t c =
           ∙ c.loop-maker.invariant.rest
           ∙ found-makers g.R.Rule.KIND b c.requires.lawful c.args.makers.now c.args.moves c.args.budget c.requires.makers c.requires.none c.requires.some c.requires.some_budget;
       same = c.try_point.ensures.same ∙ c.loop-maker.invariant.same;
-      memo = c.try_point.ensures.memo;
     }
 
 pub try_makers-loop-maker-preserved : goal.try_makers-loop-maker-preserved
@@ -203,13 +197,11 @@ try_makers-loop-maker-preserved g t c =
           let found : w.in_ok-found.found ≡ found_trying g.R.Rule.KIND (c.args.moves - 1) b m.at c.loop-maker.left = w.in_ok-found.ensures.found ∙ ap (λ (v : Grid). found_trying g.R.Rule.KIND (c.args.moves - 1) v m.at c.loop-maker.left) c.loop-maker.invariant.same in
           record {
             same = ap g.V.Seen.position w.view-is ∙ w.try_point.ensures.same ∙ c.loop-maker.invariant.same;
-            memo = subst (IsTrueMemo g.R.Rule.KIND) (sym w.memo-is) w.try_point.ensures.memo;
             rest = ap rest_of w.left-is ∙ sym (step-goes_on g.R.Rule.KIND (c.args.moves - 1) b c.loop-maker.left m.at (map (λ x. x.at) (drop i c.args.makers.now)) (map (λ x. x.at) (drop (i + 1) c.args.makers.now)) next w.in_ok-found.found found w.in-NoWin.rest w.in-NoWin.is) ∙ c.loop-maker.invariant.rest;
           }
       | try_makers-else-takes w ↦
           record {
             same = ap g.V.Seen.position w.view-is ∙ c.loop-maker.invariant.same;
-            memo = subst (IsTrueMemo g.R.Rule.KIND) (sym w.memo-is) c.loop-maker.invariant.memo;
             rest = ap rest_of w.left-is ∙ sym (step_at g.R.Rule.KIND (c.args.moves - 1) b c.loop-maker.left m.at (map (λ x. x.at) (drop i c.args.makers.now)) (map (λ x. x.at) (drop (i + 1) c.args.makers.now)) next (NoWin c.loop-maker.left) (not_taken g.R.Rule.KIND b c.requires.lawful c.args.threat c.requires.threat m.at (c.args.moves - 1) c.loop-maker.left (sym c.takes.ensures.takes ∙ w.if-takes.false))) ∙ c.loop-maker.invariant.rest;
           }
     ]
@@ -232,7 +224,6 @@ try_point-returns-in-GoesOn g t c =
     record {
       found = subst (λ (f : Found). IfOk c.behind.result (λ found. found ≡ f)) same c.behind.ensures.found;
       same = c.behind.ensures.same ∙ c.no_five_outcome.ensures.same;
-      memo = c.behind.ensures.memo;
     }
 
 pub try_point-returns-in_default : goal.try_point-returns-in_default
@@ -241,5 +232,4 @@ try_point-returns-in_default g t c =
     record {
       found = trying-else g.R.Rule.KIND c.args.moves b c.args.p c.args.budget (λ on. c.in_default.not-GoesOn (c.no_five_outcome.ensures.outcome ∙ on));
       same = c.no_five_outcome.ensures.same;
-      memo = c.requires.memo;
     }

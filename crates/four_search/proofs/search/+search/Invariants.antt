@@ -1,13 +1,12 @@
 use Rattle.std.proofs.Common.{◌≡◌, ◌+◌, ◌*◌, ◌-◌, drop, map}
-use Rattle.four_search.specs.Remembering.{IsTrueMemo}
 use Rattle.four_search.proofs.Trying.{try_all}
 use Rattle.four_search.proofs.search.+search.Given as goal
 
 abbrev pub decreases-remembered : goal.decreases-remembered
-decreases-remembered g l = 7 * l.moves + 1
+decreases-remembered g l = 7 * l.moves
 
 abbrev pub decreases-search_on : goal.decreases-search_on
-decreases-search_on g l = 7 * l.moves
+decreases-search_on g l = 7 * l.moves + 1
 
 abbrev pub decreases-try_makers : goal.decreases-try_makers
 decreases-try_makers g l = 7 * (l.moves - 1) + 6
@@ -24,10 +23,9 @@ decreases-answering g l = 7 * l.moves + 3
 abbrev pub decreases-after_block : goal.decreases-after_block
 decreases-after_block g l = 7 * l.moves + 2
 
--- the view is as before, and what is remembered is true; the points left give what all points give
+-- the view is as before; the points left give what all points give
 abbrev pub invariant-try_makers-loop-maker : goal.invariant-try_makers-loop-maker
 invariant-try_makers-loop-maker g l = record {
   same : g.V.Seen.position l.view ≡ g.V.Seen.position l.fn.view;
-  memo : IsTrueMemo g.R.Rule.KIND l.memo;
   rest : try_all g.R.Rule.KIND (l.moves - 1) (g.V.Seen.position l.fn.view) l.left (map (λ m. m.at) (drop l.maker-index l.makers)) ≡ try_all g.R.Rule.KIND (l.moves - 1) (g.V.Seen.position l.fn.view) (l.budget - 1) (map (λ m. m.at) l.makers);
 }

@@ -20,4 +20,4 @@ try_makers-requires g c =
     let b : Grid = g.V.Seen.position c.args.view.now in
     let root : TellsNoFive g.R.Rule.KIND b c.in-NoFive.threat c.in-NoFive.makers.items = subst (TellsRoot g.R.Rule.KIND b) c.in-NoFive.is c.requires.root in
     let some : 0 < c.args.budget = let more = c.if-budget-eq0.false in omega (arith, more) in
-    record { some = c.requires.some; lawful = c.requires.lawful; some_budget = some; none = root.none; threat = root.told; makers = c.as_slice.ensures.value ∙ root.listed; memo = c.requires.memo }
+    record { some = c.requires.some; lawful = c.requires.lawful; some_budget = some; none = root.none; threat = root.told; makers = c.as_slice.ensures.value ∙ root.listed }

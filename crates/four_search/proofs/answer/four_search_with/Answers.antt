@@ -10,7 +10,7 @@ use Rattle.four_search.specs.Plans.{four_plan}
 use Rattle.four_search.proofs.Deepening.{win-here, win-cost, win-depth, cost-above, none-more, left-more, end-cost, end-none}
 use Rattle.four_search.proofs.Written.{four-win}
 use Rattle.four_search.proofs.Rounds.{looked-is, alike-none, alike-fits, fits-alike, alike-short, short-alike, none-passes, passes-none, spent-fails, fails-spent}
-use Rattle.four_search.proofs.answer.four_search.Goals as goal
+use Rattle.four_search.proofs.answer.four_search_with.Goals as goal
 
 pub search-requires : goal.search-requires
 search-requires g c =
@@ -20,7 +20,6 @@ search-requires g c =
       some = omega arith;
       lawful = subst (IsPosition g.R.Rule.KIND) back c.side.ensures.lawful;
       root = rw c.loop-done.invariant.same c.loop-done.invariant.root;
-      memo = c.loop-done.invariant.memo;
     }
 
 pub returns-in-Ok-Spent-clause-none : goal.returns-in-Ok-Spent-clause-none
@@ -105,7 +104,6 @@ loop-done-preserved g c =
     record {
       same = c.search.ensures.same ∙ c.loop-done.invariant.same;
       root = c.loop-done.invariant.root;
-      memo = c.search.ensures.memo;
       nodes = c.loop-done.invariant.nodes;
       none = none-more g.R.Rule.KIND b c.args.depth c.args.budget c.loop-done.left d c.loop-done-test.true c.loop-done.invariant.none c.loop-done.invariant.spent c.in-Ok-NoWin.rest found;
       spent = left-more g.R.Rule.KIND b c.args.depth c.args.budget c.loop-done.left d c.loop-done-test.true c.loop-done.invariant.none c.loop-done.invariant.spent c.in-Ok-NoWin.rest found;
