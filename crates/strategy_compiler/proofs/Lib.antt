@@ -5,6 +5,8 @@ pub mod Common
 -- what nodes reach, and stand for once a node is put in; wins that a search wrote, how nodes grow, and what calls write
 pub mod Standing
 pub mod Growing
+-- replies that lose
+pub mod Replies
 -- the set of nodes, and the node that answers given replies
 mod Briefs
 -- the walk, and the table that is made of what it completes

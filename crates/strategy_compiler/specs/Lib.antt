@@ -4,6 +4,7 @@ pub mod Orders
 pub mod Nodes
 pub mod Starts
 pub mod Wins
+pub mod Replies
 pub mod Growth
 pub mod Forks
 pub mod Unfolded
