@@ -1,10 +1,10 @@
 -- What is known of the moves so far, and one more.
 use Rattle.std.proofs.Common.{◌≡◌, ℕ, ◌+◌, ◌-◌, ◌*◌, ◌≤◌, Bool, true, false, cond, refl, sym, ap, subst, ◌∙◌, arith}
-use Rattle.std.proofs.Common.{List, [], ◌∷◌, ◌++◌, map, append_assoc, Some, None, find}
+use Rattle.std.proofs.Common.{List, [], ◌∷◌, ◌++◌, map, append_assoc, Some, None, find, Result, Ok, Err}
 use Rattle.std.specs.List.{filter, sum_by, AllByRecursion}
 use Rattle.std.proofs.lemmas.List.{append-nil}
 use Rattle.std.proofs.lemmas.List.Sums.{sum_by-cons}
-use Rattle.game_rules.proofs.Common.{Grid, after, outcome, points_of}
+use Rattle.game_rules.proofs.Common.{Grid, outcome, points_of}
 use Rattle.game_rules.specs.declared.Outcome.TheVariants.{GoesOn}
 use Rattle.game_rules.proofs.Positions.{GoesOn-empty}
 use Rattle.game_rules.specs.declared.RuleKind.{RuleKind}
@@ -13,11 +13,14 @@ use Rattle.strategy_graph.specs.declared.Reply.{Reply}
 use Rattle.strategy_graph.specs.declared.Node.{Node}
 use Rattle.strategy_graph.proofs.Answering.{push-all, push-points}
 use Rattle.strategy_graph.proofs.Common.{NamesLower}
-use Rattle.strategy_compiler.proofs.Common.{GrowsBy, IsCompiled}
-use Rattle.strategy_compiler.proofs.Growing.{grows-more, grows-not, grows-then, win-deep, win-stays}
+use Rattle.strategy_compiler.specs.Replies.{IsBeatenBy}
+use Rattle.strategy_compiler.specs.declared.error.SearchError.{SearchError}
+use Rattle.strategy_compiler.proofs.Common.{GrowsBy, IsCompiled, Writes}
+use Rattle.strategy_compiler.proofs.Growing.{grows-more, grows-not, grows-then, writes-then-fails}
+use Rattle.strategy_compiler.proofs.Replies.{beaten-grown}
 use Rattle.strategy_compiler.proofs.Standing.{compiled-lower}
 use Rattle.defence_finder.specs.Defences.{is_defence, is_beaten, is_spent, defences_of, beaten_of, first_spent}
-use Rattle.defence_finder.specs.Answers.{AreBeaten, IsBeatenBy, most_nodes, nodes_after}
+use Rattle.defence_finder.specs.Answers.{AreBeaten, most_nodes, nodes_after}
 use Rattle.defence_finder.specs.Finding.{AreFound, IsSettled, IsVerdict}
 use Rattle.defence_finder.specs.declared.finder.Verdict.{Verdict}
 use Rattle.defence_finder.specs.declared.finder.Verdict.TheVariants.{NoReply, Holds, Beaten, Spent}
@@ -25,16 +28,9 @@ use Rattle.defence_finder.specs.declared.finder.Verdict.TheVariants.{NoReply, Ho
 -- ---- as the nodes grow
 
 module _ (rule : RuleKind) (n budget : ℕ) (b : Grid) (t u : List Node) (k : ℕ) (lower : NamesLower t) (grown : GrowsBy t u k) where
-  beaten-grown : (rs : List Reply) → AllByRecursion (IsBeatenBy rule n b t) rs → AllByRecursion (IsBeatenBy rule n b u) rs
-  beaten-grown [] h = tt
-  beaten-grown (r ∷ rs) h = (
-    win-deep rule n (after b r.at) u _ (win-stays rule n (after b r.at) t u k _ lower grown h.0),
-    beaten-grown rs h.1,
-  )
-
   pub found-grown : (good : List Point) (bad : List Reply) (left : List Point) → AreFound rule n budget b t good bad left
       → AreFound rule n budget b u good bad left
-  found-grown good bad left h = record { good_are = h.good_are; bad_are = h.bad_are; each = beaten-grown bad h.each; enough = h.enough }
+  found-grown good bad left h = record { good_are = h.good_are; bad_are = h.bad_are; each = beaten-grown rule n b t u k lower grown bad h.each; enough = h.enough }
 
 -- ---- one move more
 
@@ -141,6 +137,16 @@ module _ (rule : RuleKind) (n budget : ℕ) (b v : Grid) (same : v ≡ b) (a t u
 
   pub walk-grown : GrowsBy a u (most_nodes n b)
   walk-grown = grows-more a u _ _ grows-next (omega arith)
+
+  -- a call that fails as what judges the move does
+  pub walk-fails : {A B : Type 0} (e : SearchError) (s : Result B SearchError) → Writes {A = A} t u (nodes_after n v q) (Err e) → s ≡ Err e
+      → Writes a u (most_nodes n b) s
+  walk-fails {A} {B} e s failed is =
+      let split = nodes-step n b v q qs rest same steps in
+      let low = walk.few in
+      let before : Writes {A = ℕ} a t (most_nodes n b - sum_by (nodes_after n b) qs) (Ok 0) =
+      record { grows = walk.grows; compiled = walk.compiled; full = λ h. cc; full_now = λ h. cc } in
+      writes-then-fails {A = ℕ} {B = A} {C = B} a t u _ _ _ 0 e s before failed (omega (arith, low, split)) is
 
   found-next : AreFound rule n budget b u good bad (q ∷ rest)
   found-next =

@@ -23,7 +23,8 @@ use Rattle.strategy_graph.proofs.Common.{Answers, listed_node, NamesOnBoard, Rep
 use Rattle.strategy_compiler.proofs.Common.{AnswersEach, AnswersWin, IsMadeOfAnswers, NamesPointsFrom, StaysOnBoard}
 use Rattle.strategy_compiler.proofs.Forks.{IsAnswer, answer-by-win, answers-win, mapped-all}
 use Rattle.defence_finder.specs.Defences.{holds_or, is_defence, defences_of, is_beaten}
-use Rattle.defence_finder.specs.Answers.{IsBeatenBy, AreBeaten, IsLostStart}
+use Rattle.strategy_compiler.specs.Replies.{IsBeatenBy}
+use Rattle.defence_finder.specs.Answers.{AreBeaten, IsLostStart}
 use Rattle.defence_finder.specs.Laws.{NoDefenceLoses, BeatenRepliesWin}
 
 -- ---- lists of replies

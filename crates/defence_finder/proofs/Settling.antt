@@ -1,7 +1,6 @@
 -- What is known of one move: by its outcome, by a five point that it leaves, or by a search after it.
-use Rattle.std.proofs.Common.{◌≡◌, ◌↔◌, inl, inr, ℕ, zero, suc, ◌-◌, ◌<◌, ◌≤◌, Bool, true, false, ◌&&◌, not, cond, refl, sym, ap, subst}
+use Rattle.std.proofs.Common.{◌≡◌, ◌↔◌, inl, inr, ℕ, suc, ◌-◌, ◌<◌, ◌≤◌, Bool, true, false, ◌&&◌, not, refl, sym, ap, subst}
 use Rattle.std.proofs.Common.{◌∙◌, arith, List, [], ◌∷◌, Some, Option, IfSome, find, nat_lt, slice_get}
-use Rattle.std.specs.List.{sum_by, range_with_len}
 use Rattle.std.proofs.lemmas.Bool.{cases_lt, le-ltb}
 use borrow.Author.Tests.{lt-ltb}
 use Rattle.game_rules.proofs.Common.{Grid, IsPosition, points_of, is_same_point, five, mover, other, outcome, after, goes_on, saves}
@@ -17,15 +16,16 @@ use Rattle.game_rules.proofs.Places.{find-passes}
 use Rattle.game_rules.proofs.PointLists.{Apart-back, find-any}
 use Rattle.game_rules.proofs.Points.{is_same_point-apart, is_same_point-same}
 use Rattle.strategy_graph.specs.declared.Node.{Node}
+use Rattle.strategy_compiler.specs.Replies.{IsBeatenBy}
 use Rattle.strategy_compiler.specs.declared.wins.WrittenWin.{WrittenWin}
 use Rattle.strategy_compiler.proofs.Common.{WinsAtOnce}
 use Rattle.strategy_compiler.proofs.Growing.{win-deep, win-within}
-use Rattle.four_search.specs.FourGame.{until, four_tree, four_cost}
+use Rattle.four_search.specs.FourGame.{four_cost}
 use Rattle.four_search.specs.Answers.{IsFourWin}
 use Rattle.four_search.specs.declared.answer.FourAnswer.{FourAnswer}
 use Rattle.four_search.specs.declared.answer.FourAnswer.TheVariants.{Win, Spent}
+use Rattle.four_search.proofs.Costs.{five-cost}
 use Rattle.defence_finder.specs.Defences.{holds_or, is_spent}
-use Rattle.defence_finder.specs.Answers.{IsBeatenBy}
 use Rattle.defence_finder.specs.Finding.{IsSettled}
 
 module _ (rule : RuleKind) (n budget : ℕ) (b : Grid) (q : Point) where
@@ -67,18 +67,6 @@ module _ (rule : RuleKind) (n budget : ℕ) (b : Grid) (q : Point) where
         ∙ lt-ltb budget (four_cost rule n (after b q)) more
 
 -- ---- a five point that is left
-
-one-looked : (rule : RuleKind) (c : Grid) → sum_by (λ k. four_tree rule k c) (1 ∷ []) ≡ 1
-unfolding four_tree
-one-looked rule c = refl
-
--- where the attacker has a five point, one position is looked at
-five-cost : (rule : RuleKind) (n : ℕ) (c : Grid) → 1 ≤ n → has_five rule c (mover c) ≡ true → four_cost rule n c ≡ 1
-five-cost rule zero c l h = absurd (omega arith)
-five-cost rule (suc m) c l h =
-    ap (λ (r : Bool). sum_by (λ k. four_tree rule k c) (1 ∷ cond r [] (until (λ k. wins_by_fours rule k c) (range_with_len 2 m))))
-    (five-wins rule c 0 h)
-    ∙ one-looked rule c
 
 -- the least of the five points that the move leaves
 module _ (rule : RuleKind) (b : Grid) (q : Point) (lawful : IsPosition rule b) (on : outcome rule b q ≡ GoesOn) (fives others : List Point)

@@ -2,14 +2,13 @@
 use Rattle.std.specs.Prelude.{◌≡◌, ℕ, ◌*◌, ◌≤◌, if◌then◌else◌, List, map, Option, Some, None}
 use Rattle.std.specs.List.{sum_by, AllByRecursion}
 use Rattle.game_rules.specs.Grid.{Grid, is_empty, points_of}
-use Rattle.game_rules.specs.Play.{after}
 use Rattle.game_rules.specs.declared.RuleKind.{RuleKind}
 use Rattle.game_rules.specs.declared.Point.{Point}
 use Rattle.strategy_graph.specs.declared.Reply.{Reply}
 use Rattle.strategy_graph.specs.declared.Node.{Node}
-use Rattle.strategy_graph.specs.Tables.{Answers, RepliesOn, TableOnBoard, depth, start_depth}
+use Rattle.strategy_graph.specs.Tables.{Answers, RepliesOn, TableOnBoard, start_depth}
 use Rattle.strategy_graph.specs.Acceptance.{AcceptedStart}
-use Rattle.strategy_compiler.specs.Wins.{IsWrittenWin}
+use Rattle.strategy_compiler.specs.Replies.{IsBeatenBy}
 use Rattle.defence_finder.specs.declared.finder.DefenceAnswer.{DefenceAnswer}
 use Rattle.defence_finder.specs.declared.finder.DefenceAnswer.TheVariants.{Known, Spent}
 use Rattle.defence_finder.specs.Defences.{beaten_of}
@@ -23,11 +22,6 @@ OnKnown (Spent q) P = Unit {0}
 abbrev pub spent_at : DefenceAnswer → Option Point
 spent_at (Known good bad) = None
 spent_at (Spent q) = Some q
-
--- The node that answers the reply r at b wins after it: it is one of these nodes, is accepted at the board after the reply and is no
--- deeper than n, and what it reaches names points of the board alone.
-abbrev pub IsBeatenBy : RuleKind → ℕ → Grid → List Node → Reply → Type 0
-IsBeatenBy rule n b t r = IsWrittenWin rule n (after b r.at) t (record { node = r.next; moves = depth t r.next })
 
 -- these are the moves at b that go on and are no defences, in reading order, each with a node that wins after it
 pub record AreBeaten (rule : RuleKind) (n : ℕ) (b : Grid) (t : List Node) (bad : List Reply) : Type 0 where

@@ -6,10 +6,10 @@ use Rattle.game_rules.specs.declared.RuleKind.{RuleKind}
 use Rattle.game_rules.specs.declared.Point.{Point}
 use Rattle.strategy_graph.specs.declared.Reply.{Reply}
 use Rattle.strategy_graph.specs.declared.Node.{Node}
+use Rattle.strategy_compiler.specs.Replies.{IsBeatenBy}
 use Rattle.defence_finder.specs.declared.finder.Verdict.{Verdict}
 use Rattle.defence_finder.specs.declared.finder.Verdict.TheVariants.{NoReply, Holds, Beaten, Spent}
 use Rattle.defence_finder.specs.Defences.{is_defence, is_beaten, is_spent, defences_of, beaten_of, first_spent}
-use Rattle.defence_finder.specs.Answers.{IsBeatenBy}
 
 -- the budget suffices after the move q, and whether it is a defence, and whether it is beaten, is so
 pub record IsSettled (rule : RuleKind) (n budget : ℕ) (b : Grid) (q : Point) (defence beaten : Bool) : Type 0 where

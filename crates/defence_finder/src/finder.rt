@@ -2,7 +2,7 @@
 //!
 //! A move that wins or fills the board holds, and one that fouls is none. Where the attacker has a five point that the move does
 //! not take, it wins with the least of these, so no search is made. Only after each other move that goes on are continuous
-//! fours searched.
+//! fours searched, and what these searches remember serves all of them.
 #![tactic(auto)]
 
 ghost use Rattle.std.specs.Prelude.{◌≡◌, ◌≤◌, ◌*◌, IfOk, IfSome, Some};
@@ -20,7 +20,7 @@ ghost use Rattle.defence_finder.specs.Answers.{OnKnown, AreBeaten, spent_at, nod
 ghost use Rattle.defence_finder.specs.Finding.{IsVerdict};
 
 use foul_judge::{Outcome, Seen};
-use four_search::{FourAnswer, four_search};
+use four_search::{FourAnswer, FourMemory, four_search_with};
 use row_shapes::Rule;
 use std::alloc::Global;
 use stone_board::{Point, Points};
@@ -37,11 +37,13 @@ pub enum DefenceAnswer {
     Spent { at: Point },
 }
 
-/// Within how many moves a win by fours counts, and how many positions may be looked at after each move.
-#[derive(Clone, Copy)]
-struct Limits {
+/// What is asked of each move: whether the other side, which has these five points before it, wins by fours within so many moves, and
+/// how many positions may be looked at.
+#[derive(Drop)]
+struct Question {
     depth: u32,
     budget: u64,
+    fives: Points,
 }
 
 /// What is known of a point as a move.
@@ -92,11 +94,16 @@ pub fn defences<R: Rule, V: Seen<R>>(
     // For what is known of its nodes.
     compiler.len();
     let fives = view.five_points(alloc, attacker)?;
+    let question = Question {
+        depth,
+        budget,
+        fives,
+    };
+    let mut memory = FourMemory::new(alloc);
     let mut good = Points::new(alloc);
     let mut bad = Replies::new(alloc);
-    let limits = Limits { depth, budget };
     for q in view.board().points() {
-        match judge::<R, V>(alloc, view, q, fives.as_slice(), limits, compiler)? {
+        match judge::<R, V>(alloc, view, q, &question, &mut memory, compiler)? {
             Verdict::NoReply => {}
             Verdict::Holds => {
                 good.push(q)?;
@@ -110,30 +117,31 @@ pub fn defences<R: Rule, V: Seen<R>>(
     Ok(DefenceAnswer::Known { good, bad })
 }
 
-/// What is known of the point `q` as a move, where the other side has these five points before it.
+/// What is known of the point `q` as a move.
 fn judge<R: Rule, V: Seen<R>>(
     alloc: Global,
     view: &mut V,
     q: Point,
-    fives: &[Point],
-    limits: Limits,
+    question: &Question,
+    memory: &mut FourMemory<R>,
     compiler: &mut Compiler,
 ) -> Result<Verdict, SearchError>
-    requires some_depth { 1 ≤ limits.depth }
-    requires depth_fits { limits.depth ≤ MAX_DEPTH }
-    requires some_budget { 1 ≤ limits.budget }
+    requires some_depth { 1 ≤ question.now.depth }
+    requires depth_fits { question.now.depth ≤ MAX_DEPTH }
+    requires some_budget { 1 ≤ question.now.budget }
     requires compiled { IsCompiled compiler.old }
-    requires fives { fives.now ≡ five_points_lem R.KIND (V.position view.old) (other (mover (V.position view.old))) }
-    ensures verdict { IfOk result (IsVerdict R.KIND limits.depth limits.budget (V.position view.old) compiler.new q) }
-    ensures writes { Writes compiler.old compiler.new (nodes_after limits.depth (V.position view.old) q) result }
+    requires fives { question.now.fives ≡ five_points_lem R.KIND (V.position view.old) (other (mover (V.position view.old))) }
+    ensures verdict { IfOk result
+        (IsVerdict R.KIND question.now.depth question.now.budget (V.position view.old) compiler.new q) }
+    ensures writes { Writes compiler.old compiler.new (nodes_after question.now.depth (V.position view.old) q) result }
     ensures same { V.position view.new ≡ V.position view.old }
 {
     match view.outcome(q) {
         Outcome::Refused | Outcome::Fouls(_) => Ok(Verdict::NoReply),
         Outcome::Wins | Outcome::Draws => Ok(Verdict::Holds),
-        Outcome::GoesOn => match five_left(fives, q) {
+        Outcome::GoesOn => match five_left(question.fives.as_slice(), q) {
             Some(five) => Ok(Verdict::Beaten(compiler.leaf(five)?)),
-            None => judge_after::<R, V>(alloc, view, q, limits, compiler),
+            None => judge_after::<R, V>(alloc, view, q, question, memory, compiler),
         },
     }
 }
@@ -157,19 +165,28 @@ fn judge_after<R: Rule, V: Seen<R>>(
     alloc: Global,
     view: &mut V,
     q: Point,
-    limits: Limits,
+    question: &Question,
+    memory: &mut FourMemory<R>,
     compiler: &mut Compiler,
 ) -> Result<Verdict, SearchError>
     requires goes_on { outcome_lem R.KIND (V.position view.old) q ≡ Outcome.GoesOn }
-    requires some_depth { 1 ≤ limits.depth }
-    requires depth_fits { limits.depth ≤ MAX_DEPTH }
-    requires some_budget { 1 ≤ limits.budget }
-    ensures verdict { IfOk result (IsVerdict R.KIND limits.depth limits.budget (V.position view.old) compiler.new q) }
-    ensures writes { Writes compiler.old compiler.new (2 * limits.depth) result }
+    requires some_depth { 1 ≤ question.now.depth }
+    requires depth_fits { question.now.depth ≤ MAX_DEPTH }
+    requires some_budget { 1 ≤ question.now.budget }
+    ensures verdict { IfOk result
+        (IsVerdict R.KIND question.now.depth question.now.budget (V.position view.old) compiler.new q) }
+    ensures writes { Writes compiler.old compiler.new (2 * question.now.depth) result }
     ensures same { V.position view.new ≡ V.position view.old }
 {
     view.play(q);
-    let found = four_search::<R, V>(alloc, view, limits.depth, limits.budget, compiler);
+    let found = four_search_with::<R, V>(
+        alloc,
+        view,
+        question.depth,
+        question.budget,
+        memory,
+        compiler,
+    );
     view.undo(q);
     // For what is known of its nodes.
     compiler.len();

@@ -6,6 +6,6 @@ use Rattle.defence_finder.proofs.finder.defences.Given as goal
 abbrev pub invariant-loop-q : goal.invariant-loop-q
 invariant-loop-q g l = record {
   same : g.V.Seen.position l.view ≡ g.V.Seen.position l.fn.view;
-  walk : IsWalk g.R.Rule.KIND l.limits.depth l.limits.budget
+  walk : IsWalk g.R.Rule.KIND l.question.depth l.question.budget
       (g.V.Seen.position l.fn.view) l.fn.compiler l.compiler l.good l.bad l.q-iterator;
 }
