@@ -108,6 +108,10 @@ module _ (rule : RuleKind) (s : Search) (t : Tree) (c : List Node) (begun : IsBe
         let here : (link_at t.links 0).kind ≡ Defend = subst (λ (k : ℕ). (link_at t.links k).kind ≡ Defend) (sym (only i low)) defend in
         let bad : Attack ≡ Defend = sym attacks ∙ here in cc;
     all = λ i low attack proved beside. subst (λ (k : ℕ). 0 < (note_at s.notes.items k).moves) (only i low) (root.has_win (proved-root i low proved));
+    met = λ i low defend some q on out.
+        let none = lone-childless t begun.tree begun.one_node in
+        let here : 0 < (link_at t.links 0).count = subst (λ (k : ℕ). 0 < (link_at t.links k).count) (sym (only i low)) some in
+        absurd (omega (arith, none, here));
   }
 
   -- a sum over the nodes is that of the root

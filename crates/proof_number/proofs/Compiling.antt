@@ -1,35 +1,37 @@
 -- A proved node of the attacker is compiled: the nodes behind its proved move have wins, and the search goes on with one more. A proved
 -- node of the attacker is compiled, in the words of the contracts.
-use Rattle.std.proofs.Common.{◌≡◌, ◌≢◌, ◌⊎◌, inl, inr, ℕ, suc, ◌+◌, ◌<◌, ◌≤◌, Bool, true, false, ◌&&◌, refl, sym, ap, subst, ◌∙◌, arith, List, ◌++◌, map, length, take, drop, get_or, nat_eq, All, Ok}
+use Rattle.std.proofs.Common.{◌≡◌, ◌≢◌, ◌⊎◌, inl, inr, ℕ, suc, ◌+◌, ◌<◌, ◌≤◌, Bool, true, false, ◌&&◌, refl, sym, ap, subst, ◌∙◌, arith, List, [], ◌∷◌, ◌++◌, map, length, take, drop, nat_eq, All, Ok}
 use Rattle.std.proofs.lemmas.Bool.{cases_eq, eq-eqb, ne_eqb}
 use Rattle.std.proofs.lemmas.List.{get_or-map, get_or-take, get_or-drop, get_or-set_same, get_or-set_other, length-map, length-take, length-drop, length-append, take-map, drop-map}
+use Rattle.std.specs.List.{AllByRecursion}
+use Rattle.std.proofs.lemmas.List.Elements.{All-from_get_or}
 use Rattle.std.proofs.Math.Seq.{map-set_same}
 use Rattle.game_rules.specs.declared.RuleKind.{RuleKind}
 use Rattle.game_rules.specs.declared.Point.{Point}
 use Rattle.game_rules.specs.declared.Outcome.TheVariants.{GoesOn}
-use Rattle.game_rules.proofs.Common.{Grid, outcome, after, LosesOr}
+use Rattle.game_rules.proofs.Common.{Grid, is_on, points_of, outcome, after, LosesOr}
+use Rattle.game_rules.proofs.ReadingOrder.{points-on}
 use Rattle.proof_tree.specs.declared.Kind.{Kind}
 use Rattle.proof_tree.specs.declared.Kind.TheVariants.{Attack, Defend}
 use Rattle.proof_tree.specs.declared.Numbers.{Numbers}
 use Rattle.proof_tree.proofs.Common.{combined, is_settled, other_kind, settled_numbers, total, IsChild, IsOnWayUp, Tree, children_of, link_at, numbers_at}
 use Rattle.proof_tree.proofs.Settled.{settled-proved, above-low}
 use Rattle.strategy_graph.specs.declared.Node.{Node}
-use Rattle.strategy_graph.specs.declared.Reply.{Reply}
 use Rattle.strategy_graph.specs.declared.TheConstants.{MAX_NODES}
 use Rattle.strategy_graph.proofs.Filling.{IsTable-lower}
-use Rattle.strategy_graph.proofs.Common.{NamesLower, greatest, is_rising}
+use Rattle.strategy_graph.proofs.Common.{NamesLower, depth, greatest}
 use Rattle.strategy_compiler.specs.declared.wins.WrittenWin.{WrittenWin}
-use Rattle.strategy_compiler.proofs.Common.{IsCompiled, IsWrittenWin, WinsByAnswers, Writes}
+use Rattle.strategy_compiler.proofs.Common.{IsCompiled, IsWrittenWin, StaysOnBoard, WinsByAnswers, Writes}
+use Rattle.strategy_compiler.proofs.Forks.{IsAnswer, answer-by-win}
 use Rattle.strategy_compiler.proofs.Growing.{win-some}
-use Rattle.threat_game.proofs.Common.{replies_at, move_at, nowhere}
+use Rattle.threat_game.proofs.Common.{move_at, nowhere}
 use Rattle.threat_game.proofs.TreeLaws.{one_where}
 use Rattle.proof_number.specs.declared.notes.Note.{Note}
 use Rattle.proof_number.specs.declared.search.Search.{Search}
-use Rattle.proof_number.proofs.Common.{answer_of, no_note, note_at, win_of, AreAllReplies, GameTree, HasTried, IsGameTree, board_at, left_at, left_before, moves_of, noted_tree, AreWritten, IsAbove, IsCounted, IsNotedWin, IsSearching, KeepsTree, game_of, is_attack, noted_won, sum_below, unwritten, Searches}
-use Rattle.proof_number.proofs.GameTruths.{IsChildOf, child-of, each-zero, left-low}
-use Rattle.proof_number.proofs.Recording.{written-node, won-node}
+use Rattle.proof_number.proofs.Common.{all_notes, answer_of, no_note, note_at, noted_for, win_of, AreMet, GameTree, HasTried, IsGameTree, among, board_at, left_at, left_before, moves_of, noted_tree, AreWritten, IsAbove, IsCounted, IsNotedWin, IsSearching, KeepsTree, game_of, is_attack, noted_won, sum_below, unwritten, Searches}
+use Rattle.proof_number.proofs.GameTruths.{IsChildOf, child-of, each-zero, left-low, points-same}
+use Rattle.proof_number.proofs.Recording.{all-points, note-for, written-node, won-node}
 use Rattle.proof_number.proofs.Remembering.{memo-grown}
-use Rattle.proof_number.proofs.Rising.{noted-rising}
 use Rattle.proof_number.proofs.Settling.{written-grown}
 use Rattle.proof_number.proofs.Sums.{sum-less, sum-zeros}
 
@@ -89,18 +91,14 @@ module _ (rule : RuleKind) (s : Search) (t : Tree) (c : List Node) (node : ℕ) 
     kid-note : (k : ℕ) → k < (link_at t.links j).count → note_at (take (link_at t.links j).count (drop (link_at t.links j).first s.notes.items)) k ≡ note_at s.notes.items ((link_at t.links j).first + k)
     kid-note k low = get_or-take (link_at t.links j).count (drop (link_at t.links j).first s.notes.items) k no_note low ∙ get_or-drop (link_at t.links j).first s.notes.items k no_note
 
-    -- the moves of the children are all replies
-    pub kids-all : map (λ n. n.at) (take (link_at t.links j).count (drop (link_at t.links j).first s.notes.items)) ≡ replies_at rule (board_at (game_of rule s t) j)
-    kids-all =
-        let all : AreAllReplies rule (board_at (game_of rule s t) j) (moves_of (link_at t.links j) (map (λ n. n.at) s.notes.items)) =
-        subst (λ (k : Kind). HasTried k rule (left_at (game_of rule s t).left j) (board_at (game_of rule s t) j) (moves_of (link_at t.links j) (map (λ n. n.at) s.notes.items))) defends (h.game.inner j facts.inside child-some) in
-        sym (ap (take (link_at t.links j).count) (drop-map (λ (n : Note). n.at) (link_at t.links j).first s.notes.items) ∙ take-map (λ (n : Note). n.at) (link_at t.links j).count (drop (link_at t.links j).first s.notes.items)) ∙ all.all
+    met : AreMet rule (left_at (game_of rule s t).left j) (board_at (game_of rule s t) j) (moves_of (link_at t.links j) (map (λ n. n.at) s.notes.items))
+    met = subst (λ (k : Kind). HasTried k rule (left_at (game_of rule s t).left j) (board_at (game_of rule s t) j) (moves_of (link_at t.links j) (map (λ n. n.at) s.notes.items))) defends (h.game.inner j facts.inside child-some)
 
-    none-saves : AreAllReplies rule (board_at (game_of rule s t) j) (moves_of (link_at t.links j) (map (λ n. n.at) s.notes.items))
-    none-saves = subst (λ (k : Kind). HasTried k rule (left_at (game_of rule s t).left j) (board_at (game_of rule s t) j) (moves_of (link_at t.links j) (map (λ n. n.at) s.notes.items))) defends (h.game.inner j facts.inside child-some)
+    kids-moves : map (λ n. n.at) (take (link_at t.links j).count (drop (link_at t.links j).first s.notes.items)) ≡ moves_of (link_at t.links j) (map (λ n. n.at) s.notes.items)
+    kids-moves = sym (ap (take (link_at t.links j).count) (drop-map (λ (n : Note). n.at) (link_at t.links j).first s.notes.items) ∙ take-map (λ (n : Note). n.at) (link_at t.links j).count (drop (link_at t.links j).first s.notes.items))
 
-    pub kids-rising : is_rising (map answer_of (take (link_at t.links j).count (drop (link_at t.links j).first s.notes.items))) ≡ true
-    kids-rising = noted-rising (board_at (game_of rule s t) j) _ (take (link_at t.links j).count (drop (link_at t.links j).first s.notes.items)) kids-all
+    pub kids-some : 0 < length (take (link_at t.links j).count (drop (link_at t.links j).first s.notes.items))
+    kids-some = let e = kids-length in let some = child-some in omega (arith, e, some)
 
     -- the board and the moves left of each child, and its win
     own-total : total (map (λ n. n.proof) (children_of (link_at t.links j) t.numbers)) ≡ 0
@@ -133,45 +131,89 @@ module _ (rule : RuleKind) (s : Search) (t : Tree) (c : List Node) (node : ℕ) 
         let below : k < (link_at t.links j).count = let e = kids-length in omega (arith, e, low) in
         subst (λ (n : Note). IsWrittenWin rule (left_at (game_of rule s t).left j) (after (board_at (game_of rule s t) j) n.at) c (win_of n)) (sym (kid-note k below)) (kid-win k below)
 
-    pub kids-below : All (λ r. r.next < length c) (map answer_of (take (link_at t.links j).count (drop (link_at t.links j).first s.notes.items)))
-    kids-below k d low =
-        let long = length-map (take (link_at t.links j).count (drop (link_at t.links j).first s.notes.items)) answer_of in
-        let at : get_or (map answer_of (take (link_at t.links j).count (drop (link_at t.links j).first s.notes.items))) k d ≡ answer_of (note_at (take (link_at t.links j).count (drop (link_at t.links j).first s.notes.items)) k) =
-        get_or-map answer_of (take (link_at t.links j).count (drop (link_at t.links j).first s.notes.items)) k no_note d (omega (arith, long, low)) in
-        subst (λ (r : Reply). r.next < length c) (sym at) (kids-win k (omega (arith, long, low))).in_compiler
+    kids-on : (k : ℕ) → k < length (take (link_at t.links j).count (drop (link_at t.links j).first s.notes.items))
+        → outcome rule (board_at (game_of rule s t) j) (note_at (take (link_at t.links j).count (drop (link_at t.links j).first s.notes.items)) k).at ≡ GoesOn
+    kids-on k low =
+        let below : k < (link_at t.links j).count = let e = kids-length in omega (arith, e, low) in
+        let m : ℕ = (link_at t.links j).first + k in
+        let kid : IsChild (link_at t.links j) m = record { from_first = omega arith; below_end = omega (arith, below) } in
+        let f = child-of (game_of rule s t) h.tree h.game j m facts.inside kid in
+        let moved : move_at (map (λ n. n.at) s.notes.items) m ≡ (note_at s.notes.items m).at = get_or-map (λ (n : Note). n.at) s.notes.items m no_note nowhere (let long = notes-long in let i = f.inside in omega (arith, long, i)) in
+        ap (λ (n : Note). outcome rule (board_at (game_of rule s t) j) n.at) (kid-note k below) ∙ ap (outcome rule (board_at (game_of rule s t) j)) (sym moved) ∙ f.on
+
+    pub kids-below : All (λ n. n.node < length c) (take (link_at t.links j).count (drop (link_at t.links j).first s.notes.items))
+    kids-below = All-from_get_or (λ n. n.node < length c) (take (link_at t.links j).count (drop (link_at t.links j).first s.notes.items)) no_note (λ k low. (kids-win k low).in_compiler)
+
+    -- the win of the note for a reply that goes on
+    point-win : (q : Point) → outcome rule (board_at (game_of rule s t) j) q ≡ GoesOn
+        → IsWrittenWin rule (left_at (game_of rule s t).left j) (after (board_at (game_of rule s t) j) q) c (win_of (noted_for (take (link_at t.links j).count (drop (link_at t.links j).first s.notes.items)) q))
+    point-win q on =
+        let K : List Note = take (link_at t.links j).count (drop (link_at t.links j).first s.notes.items) in
+        let found = note-for K q kids-some in
+        subst (λ (n : Note). IsWrittenWin rule (left_at (game_of rule s t).left j) (after (board_at (game_of rule s t) j) q) c (win_of n)) (sym found.1.is) (by_move found.0 found.1.inside found.1.move) where
+          by_move : (k : ℕ) → k < length (take (link_at t.links j).count (drop (link_at t.links j).first s.notes.items))
+              → ((note_at (take (link_at t.links j).count (drop (link_at t.links j).first s.notes.items)) k).at ≡ q) ⊎ ((k ≡ 0) × (among (map (λ m. m.at) (take (link_at t.links j).count (drop (link_at t.links j).first s.notes.items))) q ≡ false))
+              → IsWrittenWin rule (left_at (game_of rule s t).left j) (after (board_at (game_of rule s t) j) q) c (win_of (note_at (take (link_at t.links j).count (drop (link_at t.links j).first s.notes.items)) k))
+          by_move k low (inl same) =
+              subst (λ (p : Point). IsWrittenWin rule (left_at (game_of rule s t).left j) (after (board_at (game_of rule s t) j) p) c (win_of (note_at (take (link_at t.links j).count (drop (link_at t.links j).first s.notes.items)) k))) same (kids-win k low)
+          by_move k low (inr out) =
+              let first = h.written.met j facts.inside defends child-some q on (ap (λ (ps : List Point). among ps q) (sym kids-moves) ∙ out.1) in
+              let note : note_at (take (link_at t.links j).count (drop (link_at t.links j).first s.notes.items)) k ≡ note_at s.notes.items (link_at t.links j).first =
+              kid-note k (let e = kids-length in omega (arith, e, low)) ∙ ap (note_at s.notes.items) (let e = out.0 in omega (arith, e)) in
+              subst (λ (n : Note). IsWrittenWin rule (left_at (game_of rule s t).left j) (after (board_at (game_of rule s t) j) q) c (win_of n)) (sym note) first.win.0
+
+    points-answer : (ps : List Point) → AllByRecursion (λ q. is_on (board_at (game_of rule s t) j) q ≡ true) ps
+        → AllByRecursion (λ m. IsAnswer rule (left_at (game_of rule s t).left j) (board_at (game_of rule s t) j) c (answer_of m)) (all_notes (take (link_at t.links j).count (drop (link_at t.links j).first s.notes.items)) ps)
+    points-answer [] on = tt
+    points-answer (q ∷ ps) on =
+        let K : List Note = take (link_at t.links j).count (drop (link_at t.links j).first s.notes.items) in
+        let found = note-for K q kids-some in
+        let own : IsAnswer rule (left_at (game_of rule s t).left j) (board_at (game_of rule s t) j) c (answer_of (note_at K found.0)) =
+        answer-by-win rule (left_at (game_of rule s t).left j) (board_at (game_of rule s t) j) c (answer_of (note_at K found.0)) (note_at K found.0).moves (kids-on found.0 found.1.inside) (kids-win found.0 found.1.inside) in (
+          record {
+            on_board = on.0;
+            accepted = λ go. (point-win q go).accepted;
+            within = subst (λ (n : Note). depth c n.node ≤ left_at (game_of rule s t).left j) (sym found.1.is) own.within;
+            stays = subst (λ (n : Note). StaysOnBoard (board_at (game_of rule s t) j) c n.node) (sym found.1.is) own.stays;
+          },
+          points-answer ps on.1,
+        )
+
+    points-deep : (ps : List Point) → AllByRecursion (λ m. depth c m.node ≡ m.moves) (all_notes (take (link_at t.links j).count (drop (link_at t.links j).first s.notes.items)) ps)
+    points-deep [] = tt
+    points-deep (q ∷ ps) =
+        let K : List Note = take (link_at t.links j).count (drop (link_at t.links j).first s.notes.items) in
+        let found = note-for K q kids-some in (
+          subst (λ (n : Note). depth c n.node ≡ n.moves) (sym found.1.is) (kids-win found.0 found.1.inside).deep,
+          points-deep ps,
+        )
 
     -- the node with these answers is a win at the node
     module _ (d : List Node) (i : ℕ) (p : Point) (move : (note_at s.notes.items j).at ≡ p)
-        (wins : WinsByAnswers c p (map answer_of (take (link_at t.links j).count (drop (link_at t.links j).first s.notes.items))) d i)
+        (wins : WinsByAnswers c p (map answer_of (all_notes (take (link_at t.links j).count (drop (link_at t.links j).first s.notes.items)) (points_of s.root))) d i)
       where
         pub node-win : IsWrittenWin rule (left_at (game_of rule s t).left node) (board_at (game_of rule s t) node) d
             (record {
               node = i;
               moves = greatest
-                  (map (λ m. m.moves) (take (link_at t.links j).count (drop (link_at t.links j).first s.notes.items))) + 1;
+                  (map (λ m. m.moves) (all_notes (take (link_at t.links j).count (drop (link_at t.links j).first s.notes.items)) (points_of s.root))) + 1;
             })
         node-win =
             let b : Grid = board_at (game_of rule s t) node in
+            let K : List Note = take (link_at t.links j).count (drop (link_at t.links j).first s.notes.items) in
             let moved : move_at (map (λ n. n.at) s.notes.items) j ≡ p = get_or-map (λ (n : Note). n.at) s.notes.items j no_note nowhere (let long = notes-long in let f = facts.inside in omega (arith, long, f)) ∙ move in
             let on : outcome rule b p ≡ GoesOn = ap (outcome rule b) (sym moved) ∙ facts.on in
             let there : board_at (game_of rule s t) j ≡ after b p = facts.board ∙ ap (after b) moved in
             let left : suc (left_at (game_of rule s t).left j) ≡ left_at (game_of rule s t).left node = ap (λ (q : Kind). left_before q (left_at (game_of rule s t).left j)) (sym defends) ∙ facts.fewer in
-            let saves = none-saves in
-            subst (λ (n : ℕ). IsWrittenWin rule n b d
-            (record {
-              node = i;
-              moves = greatest
-                  (map (λ m. m.moves) (take (link_at t.links j).count (drop (link_at t.links j).first s.notes.items))) + 1;
-            })) left
-            (written-node rule b p on c d (take (link_at t.links j).count (drop (link_at t.links j).first s.notes.items))
-            (left_at (game_of rule s t).left j)
-            (subst (λ (e : Grid). map (λ n. n.at)
-            (take (link_at t.links j).count (drop (link_at t.links j).first s.notes.items)) ≡ replies_at rule e) there kids-all)
-            (λ q. subst (λ (e : Grid). LosesOr (outcome rule e q) (Unit {0})) there (saves.none_saves q))
-            (λ k low. subst (λ (e : Grid). IsWrittenWin rule (left_at (game_of rule s t).left j)
-            (after e (note_at (take (link_at t.links j).count (drop (link_at t.links j).first s.notes.items)) k).at) c
-            (win_of (note_at (take (link_at t.links j).count (drop (link_at t.links j).first s.notes.items)) k))) there
-            (kids-win k low))
+            let points : points_of (board_at (game_of rule s t) j) ≡ points_of s.root = points-same (game_of rule s t) j in
+            let answered = subst (λ (ps : List Point). AllByRecursion (λ m. IsAnswer rule (left_at (game_of rule s t).left j) (board_at (game_of rule s t) j) c (answer_of m)) (all_notes K ps)) points
+            (points-answer (points_of (board_at (game_of rule s t) j)) (points-on (board_at (game_of rule s t) j))) in
+            subst (λ (n : ℕ). IsWrittenWin rule n b d (record { node = i; moves = greatest (map (λ m. m.moves) (all_notes K (points_of s.root))) + 1 })) left
+            (written-node rule b p on c d (all_notes K (points_of s.root)) (left_at (game_of rule s t).left j)
+            (all-points K (points_of s.root) ∙ sym points ∙ ap points_of there)
+            (λ q. subst (λ (e : Grid). LosesOr (outcome rule e q) (Unit {0})) there (met.none_saves q))
+            (subst (λ (e : Grid). AllByRecursion (λ m. IsAnswer rule (left_at (game_of rule s t).left j) e c (answer_of m)) (all_notes K (points_of s.root))) there answered)
+            (points-deep (points_of s.root))
             i wins)
 
   -- ---- the search with one win more
@@ -231,6 +273,14 @@ module _ (rule : RuleKind) (s : Search) (t : Tree) (c : List Node) (node : ℕ) 
             | inl e ↦ subst (λ (k : ℕ). 0 < (note_at u.notes.items k).moves) (sym e) now-some
             | inr other ↦ subst (λ (n : Note). 0 < n.moves) (sym (other-note i other)) (h.written.all i low attacks numbers (λ way. beside (way, other)))
           ];
+          met = λ i low defends several q on none.
+              let is = grown.met i low defends several q on none in
+              let first : ℕ = (link_at t.links i).first in
+              let other : first ≢ node = λ e. let nothing : (note_at s.notes.items first).moves ≡ 0 = ap (λ (k : ℕ). (note_at s.notes.items k).moves) e ∙ unwon in let positive = is.some in omega (arith, nothing, positive) in
+              record {
+                some = subst (λ (n : Note). 0 < n.moves) (sym (other-note first other)) is.some;
+                win = subst (λ (n : Note). IsNotedWin rule (left_at (game_of rule s t).left i) (after (board_at (game_of rule s t) i) q) (c ++ more) (win_of n)) (sym (other-note first other)) is.win;
+              };
         }
 
     won-few : length (c ++ more) + sum_below (length t.links) (unwritten t u.notes.items) ≤ s.before + s.attacked
@@ -299,15 +349,15 @@ module _ (rule : RuleKind) (s : Search) (t : Tree) (c : List Node) (node : ℕ) 
     compile-fits = let e = noted-length in let within = h.tree.linked.within j compile-inside in omega (arith, e, within)
 
     module _ (kids : List Note) (are : kids ≡ take (link_at t.links j).count (drop (link_at t.links j).first s.notes.items)) where
-      pub compile-rising : is_rising (map answer_of kids) ≡ true
-      compile-rising = ap (λ (ns : List Note). is_rising (map answer_of ns)) are ∙ kids-rising rule s t c node h inside attack proved unwon j child nothing
+      pub compile-kids : 0 < length kids
+      compile-kids = subst (λ (ns : List Note). 0 < length ns) (sym are) (kids-some rule s t c node h inside attack proved unwon j child nothing)
 
-      pub compile-below : All (λ r. r.next < length c) (map answer_of kids)
-      compile-below = subst (λ (ns : List Note). All (λ r. r.next < length c) (map answer_of ns)) (sym are) (kids-below rule s t c node h inside attack proved unwon j child nothing)
+      pub compile-below : All (λ n. n.node < length c) kids
+      compile-below = subst (λ (ns : List Note). All (λ n. n.node < length c) ns) (sym are) (kids-below rule s t c node h inside attack proved unwon j child nothing)
 
       module _ (d : List Node) (p : Point) (move : (note_at s.notes.items j).at ≡ p) (win : WrittenWin) (writes : Writes c d 1 (Ok win))
-          (wins : WinsByAnswers c p (map answer_of kids) d win.node)
-          (moves : win.moves ≡ greatest (map (λ n. n.moves) kids) + 1) where
+          (wins : WinsByAnswers c p (map answer_of (all_notes kids (points_of s.root))) d win.node)
+          (moves : win.moves ≡ greatest (map (λ n. n.moves) (all_notes kids (points_of s.root))) + 1) where
         added : (more : List Node) × (d ≡ c ++ more) × (length more ≤ 1)
         added = (writes.grows.added, writes.grows.is, writes.grows.few)
 
@@ -320,10 +370,10 @@ module _ (rule : RuleKind) (s : Search) (t : Tree) (c : List Node) (node : ℕ) 
         pub compile-won : IsWrittenWin rule (left_at (game_of rule s t).left node) (board_at (game_of rule s t) node) d win
         compile-won =
             let K : List Note = take (link_at t.links j).count (drop (link_at t.links j).first s.notes.items) in
-            let same : record { node = win.node; moves = greatest (map (λ (n : Note). n.moves) K) + 1 } ≡ win = λ i. record { node = win.node; moves = (ap (λ (ns : List Note). greatest (map (λ (n : Note). n.moves) ns) + 1) (sym are) ∙ sym moves) i } in
+            let same : record { node = win.node; moves = greatest (map (λ (n : Note). n.moves) (all_notes K (points_of s.root))) + 1 } ≡ win = λ i. record { node = win.node; moves = (ap (λ (ns : List Note). greatest (map (λ (n : Note). n.moves) (all_notes ns (points_of s.root))) + 1) (sym are) ∙ sym moves) i } in
             subst (λ (w : WrittenWin). IsWrittenWin rule (left_at (game_of rule s t).left node) (board_at (game_of rule s t) node) d w) same
             (node-win rule s t c node h inside attack proved unwon j child nothing d win.node p move
-            (subst (λ (ns : List Note). WinsByAnswers c p (map answer_of ns) d win.node) are wins))
+            (subst (λ (ns : List Note). WinsByAnswers c p (map answer_of (all_notes ns (points_of s.root))) d win.node) are wins))
 
         pub compile-few : win.moves < 256
         compile-few = let within = compile-won.within in let left = own-left in omega (arith, within, left)

@@ -1,19 +1,18 @@
 -- The numbers and notes of the children of a node of the defender, one after another. A leaf of the defender is settled where a reply
 -- leaves no win, or else gets a child for each reply.
-use Rattle.std.proofs.Common.{◌≡◌, ◌⊎◌, inl, inr, ℕ, ◌+◌, ◌<◌, ◌≤◌, refl, sym, ap, subst, ◌∙◌, arith, List, [], ◌∷◌, ◌++◌, length, take, Option, Some, None, IfSome, is_none, sum_by, suc, ◌-◌, Bool, true, false, cond, ◌&&◌, not, map, get_or, All}
+use Rattle.std.proofs.Common.{◌≡◌, ◌⊎◌, inl, inr, ℕ, ◌+◌, ◌<◌, ◌≤◌, refl, sym, ap, subst, ◌∙◌, arith, List, [], ◌∷◌, ◌++◌, length, take, Option, Some, None, IfSome, is_none, sum_by, suc, ◌-◌, Bool, true, false, cond, ◌&&◌, not, map, All}
 use Rattle.std.proofs.lemmas.Bool.{cases_lt, eq-eqb, ne_eqb}
-use Rattle.std.proofs.lemmas.List.{get_or_append_left, get_or_push, length_push, get_or-map, length-map}
+use Rattle.std.proofs.lemmas.List.{get_or_append_left, get_or_push, length_push, get_or-map}
 use Rattle.std.proofs.lemmas.List.Sums.{sum_by_more, sum_by_more_le, sum_by-cons, sum_by-le}
 use Rattle.std.proofs.lemmas.List.Elements.{All-from_get_or}
-use Rattle.std.proofs.lemmas.List.Filters.{length-filter_both}
 use Rattle.game_rules.specs.declared.RuleKind.{RuleKind}
 use Rattle.game_rules.specs.declared.Outcome.{Outcome}
+use Rattle.game_rules.specs.declared.Outcome.TheVariants.{GoesOn}
 use Rattle.game_rules.specs.declared.Point.{Point}
 use Rattle.game_rules.proofs.Common.{Grid, after, is_empty, points_of, five, IsPosition, foul_of, mover, outcome, goes_on, LosesOr, WinsByThreats, has_five, if_goes_on, behind_replies}
 use Rattle.game_rules.proofs.Points.{any_witness}
 use Rattle.game_rules.proofs.Positions.{IsPosition-after}
 use Rattle.game_rules.proofs.Outcomes.{goes_on-is, not-last, none-draws}
-use Rattle.game_rules.proofs.Places.{points_few}
 use Rattle.game_rules.proofs.Games.{win-has_five}
 use Rattle.proof_tree.specs.declared.Numbers.{Numbers}
 use Rattle.proof_tree.specs.declared.Kind.{Kind}
@@ -32,13 +31,14 @@ use Rattle.threat_game.specs.declared.replies.Child.{Child}
 use Rattle.threat_game.specs.declared.replies.Children.{Children}
 use Rattle.threat_game.specs.declared.replies.Judged.{Judged}
 use Rattle.threat_game.specs.declared.replies.Judged.TheVariants.{Five, Double as DoubleWins, Last, Open}
-use Rattle.threat_game.proofs.Common.{IsThreatWin, is_open, moves_for, nodes_for, threat_tree, has_reply, AreChildren, HasEscape, IsChild, IsJudged, counted_for, replies_at}
-use Rattle.threat_game.proofs.ReplyLaws.{counted-three}
+use Rattle.threat_game.proofs.Common.{IsThreatWin, is_open, moves_for, nodes_for, threat_tree, has_reply, AreChildren, HasEscape, IsChild, IsJudged, counted_for, is_standing, kept_children, stands_for}
+use Rattle.threat_game.proofs.ReplyLaws.{judged-short, judged-three}
+use Rattle.threat_game.proofs.Kept.{kept-covers, kept-each, kept-sum, stands-standing}
 use Rattle.threat_game.proofs.TreeLaws.{children-within, counted-few, one_where, counted-one, open_one, counted-parts, open_behind, whole-by}
 use Rattle.threat_game.proofs.AttackLaws.{escape-saves}
 use Rattle.proof_number.specs.declared.notes.Note.{Note}
 use Rattle.proof_number.specs.declared.search.Search.{Search}
-use Rattle.proof_number.proofs.Common.{AreSettled, IsSettledChild, child_at, child_note, child_numbers, no_child, no_note, note_at, win_of, open_numbers, AreAllReplies, CanGrow, GameTree, HasTried, TellsTruly, WinsAt, board_at, left_at, IsTrueMemo, Grows, HasGrown, HasSpent, IsAtLeaf, IsExpandedAt, IsNotedWin, IsSettledAt, StandsAt, attacks_behind, behind_at, defences_behind, game_of, sum_below}
+use Rattle.proof_number.proofs.Common.{AreSettled, IsSettledChild, child_at, child_note, child_numbers, no_child, no_note, note_at, win_of, open_numbers, AreMet, CanGrow, GameTree, HasTried, TellsTruly, WinsAt, among, board_at, left_at, IsTrueMemo, Grows, HasGrown, HasSpent, IsAtLeaf, IsExpandedAt, IsNotedWin, IsSettledAt, StandsAt, attacks_behind, behind_at, defences_behind, game_of, sum_below}
 use Rattle.proof_number.proofs.Expanding.{IsNewNote, expanded-grown, new_behind, unwritten_child, IsNewChild, sum-nothing}
 use Rattle.proof_number.proofs.Growing.{lost-grown}
 use Rattle.proof_number.proofs.Remembering.{memo-grown}
@@ -49,6 +49,13 @@ use Rattle.proof_number.proofs.Sums.{sum-le, sum-less, sum-list}
 abbrev pub first_note : Child → ℕ → Note
 first_note child left = record { at = child.at; left = left; moves = 0; node = 0 }
 
+-- what may stand after other replies is not open
+standing-shut : (judged : Judged) → is_open judged ≡ true → is_standing judged ≡ true → ⊥
+standing-shut (Five w) h e = cc
+standing-shut (DoubleWins d nodes) h e = cc
+standing-shut (Last p) h e = cc
+standing-shut Open h e = cc
+
 module _ (rule : RuleKind) (left : ℕ) (c : Grid) where
   -- a child stays settled where the compiler grows
   child-grown : (t more : List Node) (child : Child) (numbers : Numbers) (note : Note) → NamesLower t → IsSettledChild rule left c t child numbers note → IsSettledChild rule left c (t ++ more) child numbers note
@@ -57,16 +64,30 @@ module _ (rule : RuleKind) (left : ℕ) (c : Grid) where
     left_is = h.left_is;
     proved = λ e. let p = h.proved e in (p.0, p.1, (growth_keeps-wins rule left (after c child.at) t more (win_of note) lower p.2.0, p.2.1));
     unproved = h.unproved;
+    stands = λ met same is. let p = h.stands met same is in (p.0, (growth_keeps-wins rule left (after c met.at) t more (win_of note) lower p.1.0, p.1.1));
   }
 
   -- a child is settled by the win that is compiled for it
   pub child-settled : (t : List Node) (child : Child) (win : Option WrittenWin) → is_none win ≡ is_open child.judged → moves_for child.judged ≤ left
       → IfSome win (λ (found : WrittenWin). (moves : ℕ) → moves_for child.judged ≤ moves → IsThreatWin rule moves (after c child.at) t found)
+      → IfSome win (λ (found : WrittenWin). (moves : ℕ) (met : Child) → stands_for child.judged met.judged ≡ true → IsChild rule moves c met → IsThreatWin rule moves (after c met.at) t found)
       → IsSettledChild rule left c t child (child_numbers win) (child_note (first_note child left) win)
-  child-settled t child None e enough h = record { at = refl; left_is = refl; proved = λ f. cc; unproved = λ f. (refl, refl) }
-  child-settled t child (Some found) e enough h =
+  child-settled t child None e enough h k = record {
+    at = refl;
+    left_is = refl;
+    proved = λ f. cc;
+    unproved = λ f. (refl, refl);
+    stands = λ met same is. absurd (standing-shut child.judged (sym e) (stands-standing child.judged met.judged same));
+  }
+  child-settled t child (Some found) e enough h k =
       let is : IsThreatWin rule left (after c child.at) t found = h left enough in
-      record { at = refl; left_is = refl; proved = λ f. (refl, win-some rule left (after c child.at) t found is.written, (is.written, is.by_threats)); unproved = λ f. cc }
+      record {
+        at = refl;
+        left_is = refl;
+        proved = λ f. (refl, win-some rule left (after c child.at) t found is.written, (is.written, is.by_threats));
+        unproved = λ f. cc;
+        stands = λ met same child_is. let won = k left met same child_is in (win-some rule left (after c met.at) t found won.written, (won.written, won.by_threats));
+      }
 
   module _ (children : List Child) where
     pub none-settled : (t : List Node) → AreSettled rule left c t children 0 [] []
@@ -97,11 +118,12 @@ module _ (rule : RuleKind) (left : ℕ) (c : Grid) where
     -- the same in the words of a loop
     pub more-settled : (t u : List Node) (k count : ℕ) (numbers new_numbers : List Numbers) (notes new_notes : List Note) (child : Child) (win : Option WrittenWin) → NamesLower t → AreSettled rule left c t children k numbers notes
         → child_at children k ≡ child → is_none win ≡ is_open child.judged → moves_for child.judged ≤ left
-        → IfSome win (λ (found : WrittenWin). (moves : ℕ) → moves_for child.judged ≤ moves → IsThreatWin rule moves (after c child.at) u found) → GrowsBy t u count
+        → IfSome win (λ (found : WrittenWin). (moves : ℕ) → moves_for child.judged ≤ moves → IsThreatWin rule moves (after c child.at) u found)
+        → IfSome win (λ (found : WrittenWin). (moves : ℕ) (met : Child) → stands_for child.judged met.judged ≡ true → IsChild rule moves c met → IsThreatWin rule moves (after c met.at) u found) → GrowsBy t u count
         → new_numbers ≡ numbers ++ child_numbers win ∷ [] → new_notes ≡ notes ++ child_note (first_note child left) win ∷ [] → AreSettled rule left c u children (k + 1) new_numbers new_notes
-    more-settled t u k count numbers new_numbers notes new_notes child win lower old is open_is enough wins grows numbers_are notes_are =
+    more-settled t u k count numbers new_numbers notes new_notes child win lower old is open_is enough wins stands grows numbers_are notes_are =
         let new : IsSettledChild rule left c (t ++ grows.added) child (child_numbers win) (child_note (first_note child left) win) =
-        subst (λ (d : List Node). IsSettledChild rule left c d child (child_numbers win) (child_note (first_note child left) win)) grows.is (child-settled u child win open_is enough wins) in
+        subst (λ (d : List Node). IsSettledChild rule left c d child (child_numbers win) (child_note (first_note child left) win)) grows.is (child-settled u child win open_is enough wins stands) in
         let all = one-settled t grows.added k numbers notes child (child_numbers win) (child_note (first_note child left) win) lower old is new in
         subst (λ (d : List Node). AreSettled rule left c d children (k + 1) new_numbers new_notes) (sym grows.is)
         (subst (λ (ns : List Numbers). AreSettled rule left c (t ++ grows.added) children (k + 1) ns new_notes) (sym numbers_are)
@@ -158,6 +180,10 @@ sum-many h one (x ∷ xs) = let rest = sum-many h one xs in let here = one x in 
 pub settled-same : (rule : RuleKind) (l k : ℕ) (b c : Grid) (d : List Node) (xs ys : List Child) (ns more : List Numbers) (ps ms : List Note) → l ≡ k → b ≡ c → xs ≡ ys → more ≡ ns → ms ≡ ps
     → AreSettled rule l b d xs (length xs) ns ps → AreSettled rule k c d ys (length ys) more ms
 settled-same rule l k b c d xs ys ns more ps ms el eb ex en em h = rw (← el, ← eb, ← ex, en, em) h
+
+-- children at what is the same
+pub each-same : (rule : RuleKind) (l k : ℕ) (b c : Grid) (xs ys : List Child) → l ≡ k → b ≡ c → xs ≡ ys → All (IsChild rule k c) ys → All (IsChild rule l b) xs
+each-same rule l k b c xs ys el eb ex h = rw (el, eb, ex) h
 
 -- the points of notes
 same-points : (ms : List Note) (items : List Child) → length ms ≡ length items → ((j : ℕ) → j < length items → (note_at ms j).at ≡ (child_at items j).at) → map (λ (n : Note). n.at) ms ≡ map (λ (child : Child). child.at) items
@@ -336,15 +362,23 @@ module _ (rule : RuleKind) (s : Search) (t : Tree) (c : List Node) (leaf : ℕ) 
         let many = sum-many (λ (x : Child). counted_for x.judged) (λ x. counted-one x.judged) children.all.items in
         omega (arith, many, are.count_is)
 
+    pub each-is : All (IsChild rule (note_at s.notes.items leaf).left view) children.all.items
+    each-is =
+        subst (λ (items : List Child). All (IsChild rule (note_at s.notes.items leaf).left view) items) (sym are.kept)
+        (kept-each (IsChild rule (note_at s.notes.items leaf).left view) are.judged are.are.each)
+
+    -- no more than over all that is judged
+    all-sum : (f : Child → ℕ) → sum_by f children.all.items ≤ sum_by f are.judged
+    all-sum f = let low = kept-sum f are.judged in let same = ap (sum_by f) are.kept in omega (arith, low, same)
+
     -- few are counted
     pub replies-few : children.count ≤ 3072
     replies-few =
         let view_board : IsPosition rule view = lawful-here in
-        let each : All (λ (x : Child). counted_for x.judged ≤ 3) children.all.items = λ k x low. counted-three rule (after view (get_or children.all.items k x).at) (get_or children.all.items k x).judged (are.each k x low).judged in
-        let sum = sum_by-le (λ (x : Child). counted_for x.judged) 3 children.all.items each in
-        let size = length-map children.all.items (λ (x : Child). x.at) in
-        let both = length-filter_both (λ (q : Point). goes_on (outcome rule view q)) (λ (q : Point). not (goes_on (outcome rule view q))) (λ q. refl) (points_of view) in
-        omega (arith, sum, are.count_is, ap length are.points, size, both, points_few view view_board.board)
+        let sum = sum_by-le (λ (x : Child). counted_for x.judged) 3 are.judged (judged-three rule (note_at s.notes.items leaf).left view are.judged are.are) in
+        let short = judged-short rule (note_at s.notes.items leaf).left view view_board.board are.judged are.are in
+        let all = all-sum (λ (x : Child). counted_for x.judged) in
+        omega (arith, sum, are.count_is, short, all)
 
     -- where the compiler is full, more positions are counted than it has room for
     pub replies-full : {E : Type 0} → s.attacked + children.count ≤ s.budget → (E → MAX_NODES < length c + sum_by (λ (x : Child). nodes_for x.judged) children.all.items) → E → (MAX_NODES < s.before + s.budget) × (MAX_NODES < s.before + threat_tree rule s.depth s.root)
@@ -360,16 +394,17 @@ module _ (rule : RuleKind) (s : Search) (t : Tree) (c : List Node) (leaf : ℕ) 
     counted-whole : children.count + sum_by (open_behind rule (note_at s.notes.items leaf).left view) children.all.items ≤ behind_replies rule (threat_tree rule (note_at s.notes.items leaf).left) view
     counted-whole =
         let left : ℕ = (note_at s.notes.items leaf).left in
-        let whole = children-within rule left view lawful-here (λ (x : Child). counted_for x.judged + open_behind rule left view x) (child-whole rule left view lawful-here) children.all.items are.points are.each in
+        let within = children-within rule left view lawful-here (λ (x : Child). counted_for x.judged + open_behind rule left view x) (child-whole rule left view lawful-here) are.judged are.are.points are.are.each in
+        let whole = all-sum (λ (x : Child). counted_for x.judged + open_behind rule left view x) in
         let parts = sum-parts (λ (x : Child). counted_for x.judged) (open_behind rule left view) (λ (x : Child). counted_for x.judged + open_behind rule left view x) (λ x. omega arith) children.all.items in
-        omega (arith, whole, parts, are.count_is)
+        omega (arith, within, whole, parts, are.count_is)
 
     module _ (d : List Node) (more : List Numbers) (ms : List Note) (settled : AreSettled rule (note_at s.notes.items leaf).left view d children.all.items (length children.all.items) more ms) where
       low-than : (j : ℕ) → j < length more → j < length children.all.items
       low-than j low = let e = settled.numbers_count in omega (arith, e, low)
 
       is-child : (j : ℕ) → j < length more → IsChild rule (note_at s.notes.items leaf).left view (child_at children.all.items j)
-      is-child j low = are.each j no_child (low-than j low)
+      is-child j low = each-is j no_child (low-than j low)
 
       is-settled : (j : ℕ) → j < length more → IsSettledChild rule (note_at s.notes.items leaf).left view d (child_at children.all.items j) (numbers_at more j) (note_at ms j)
       is-settled j low = settled.each j (low-than j low)
@@ -384,8 +419,21 @@ module _ (rule : RuleKind) (s : Search) (t : Tree) (c : List Node) (leaf : ℕ) 
       pub few-new : s.attacked + children.count ≤ s.budget → length more ≤ s.budget
       few-new fits = let e = settled.numbers_count in let many = children-many in omega (arith, e, many, fits)
 
-      points-are : map (λ (n : Note). n.at) ms ≡ replies_at rule view
-      points-are = same-points ms children.all.items settled.notes_count (λ j low. (settled.each j low).at) ∙ are.points
+      points-are : map (λ (n : Note). n.at) ms ≡ map (λ (x : Child). x.at) (kept_children are.judged)
+      points-are = same-points ms children.all.items settled.notes_count (λ j low. (settled.each j low).at) ∙ ap (map (λ (x : Child). x.at)) are.kept
+
+      -- a reply without a node is met by the win of the first that has one
+      reply-met : (q : Point) → outcome rule view q ≡ GoesOn → among (map (λ (n : Note). n.at) ms) q ≡ false
+          → (0 < (note_at ms 0).moves) × IsNotedWin rule (note_at s.notes.items leaf).left (after view q) d (win_of (note_at ms 0))
+      reply-met q on none =
+          let is = kept-covers rule (note_at s.notes.items leaf).left view are.judged are.are q on (ap (λ (ps : List Point). among ps q) (sym points-are) ∙ none) in
+          let first : child_at children.all.items 0 ≡ is.first = ap (λ (xs : List Child). child_at xs 0) (are.kept ∙ is.items_are) in
+          let won = (settled.each 0 are.some).stands is.met (ap (λ (x : Child). stands_for x.judged is.met.judged) first ∙ is.stands) is.is in
+          (won.0, subst (λ (p : Point). IsNotedWin rule (note_at s.notes.items leaf).left (after view p) d (win_of (note_at ms 0))) is.at won.1)
+
+      pub met-here : (link_at t.links leaf).kind ≡ Defend → (q : Point) → outcome rule (board_at (game_of rule s t) leaf) q ≡ GoesOn → among (map (λ (n : Note). n.at) ms) q ≡ false
+          → (0 < (note_at ms 0).moves) × IsNotedWin rule (left_at (game_of rule s t).left leaf) (after (board_at (game_of rule s t) leaf) q) d (win_of (note_at ms 0))
+      met-here kind = at-leaf-is (λ k n b. (q : Point) → outcome rule b q ≡ GoesOn → among (map (λ (n : Note). n.at) ms) q ≡ false → (0 < (note_at ms 0).moves) × IsNotedWin rule n (after b q) d (win_of (note_at ms 0))) reply-met
 
       child-at : (j : ℕ) → j < length more → IsNewChild rule (link_at t.links leaf).kind (left_at (game_of rule s t).left leaf) (board_at (game_of rule s t) leaf) (note_at ms j).at (note_at ms j).left (numbers_at more j)
       child-at j low =
@@ -399,7 +447,7 @@ module _ (rule : RuleKind) (s : Search) (t : Tree) (c : List Node) (leaf : ℕ) 
 
       tried-here : HasTried (link_at t.links leaf).kind rule (left_at (game_of rule s t).left leaf) (board_at (game_of rule s t) leaf) (map (λ (n : Note). n.at) ms)
       tried-here =
-          let all : AreAllReplies rule view (map (λ (n : Note). n.at) ms) = record { all = points-are; none_saves = none-saves rule view defend-no_five defend-reply } in
+          let all : AreMet rule (note_at s.notes.items leaf).left view (map (λ (n : Note). n.at) ms) = record { others = λ q on none. (reply-met q on none).1.1; none_saves = none-saves rule view defend-no_five defend-reply } in
           at-leaf-is (λ k n b. HasTried k rule n b (map (λ (n : Note). n.at) ms)) all
 
       -- sums over the new children, by what is judged of each
@@ -465,6 +513,7 @@ module _ (rule : RuleKind) (s : Search) (t : Tree) (c : List Node) (leaf : ℕ) 
           (omega (arith, count)) (omega (arith, defended)) (omega (arith, count, fits)) (omega (arith, defended, defended_fits))
           (omega (arith, count, defended, many, size))
           (λ kind. fresh-sum kind more (all-fresh d more ms settled))
+          (met-here (c ++ grown.added) more ms settled-now)
           (omega (arith, count, nodes, added, unwritten))
           (omega (arith, count, attacks, whole, attacks_left))
           (omega (arith, defended, defences, whole, many, some, defences_left)))

@@ -25,7 +25,7 @@ use Rattle.threat_game.proofs.Common.{move_at, nowhere, threat_tree}
 use Rattle.threat_game.proofs.TreeLaws.{one_where}
 use Rattle.proof_number.specs.declared.notes.Note.{Note}
 use Rattle.proof_number.specs.declared.search.Search.{Search}
-use Rattle.proof_number.proofs.Common.{CanGrow, GameTree, HasTried, IsGameTree, TellsTruly, WinsAt, board_at, board_of, left_at, left_before, moves_of, behind_at, behind_leaves, closed_nodes, is_open_leaf, sum_below, no_note, note_at, win_of, noted_tree, IsTrueMemo, AreWritten, HasGrown, IsAtLeaf, IsCounted, IsExpandedAt, IsNotedWin, IsSearching, attacks_behind, defences_behind, game_of, is_attack, unwritten, StandsAt}
+use Rattle.proof_number.proofs.Common.{CanGrow, GameTree, HasTried, IsGameTree, TellsTruly, WinsAt, among, board_at, board_of, left_at, left_before, moves_of, behind_at, behind_leaves, closed_nodes, is_open_leaf, sum_below, no_note, note_at, win_of, noted_tree, IsTrueMemo, AreWritten, HasGrown, IsAtLeaf, IsCounted, IsExpandedAt, IsMet, IsNotedWin, IsSearching, attacks_behind, defences_behind, game_of, is_attack, unwritten, StandsAt}
 use Rattle.proof_number.proofs.GameTruths.{board-kept, board-step}
 use Rattle.proof_number.proofs.Settling.{one_unless, written-grown}
 use Rattle.proof_number.proofs.Sums.{sum-le, sum-less, sum-more, sum-suc, sum-zero}
@@ -104,7 +104,7 @@ module _ (g : GameTree) (ok : IsTree g.tree) (leaf : ℕ) (inside : leaf < lengt
   has-children i e none = let c : (link_at links leaf).count ≡ count = ap (λ (l : Link). l.count) long.here in let d = ap (λ (k : ℕ). (link_at links k).count) e in omega (arith, c, d, none, some)
 
   -- what a node has tried
-  old-moves_of : (i : ℕ) → i < length g.tree.links → moves_of (link_at g.tree.links i) (g.moves ++ ps) ≡ moves_of (link_at g.tree.links i) g.moves
+  pub old-moves_of : (i : ℕ) → i < length g.tree.links → moves_of (link_at g.tree.links i) (g.moves ++ ps) ≡ moves_of (link_at g.tree.links i) g.moves
   old-moves_of i low =
       let l : Link = link_at g.tree.links i in
       let within = ok.linked.within i low in
@@ -112,6 +112,13 @@ module _ (g : GameTree) (ok : IsTree g.tree) (leaf : ℕ) (inside : leaf < lengt
       let d = length-drop l.first g.moves in
       ap (take l.count) (drop-append-le l.first g.moves ps (omega (arith, within, e)))
       ∙ take-append-le l.count (drop l.first g.moves) ps (omega (arith, within, e, d))
+
+  pub grown-moves : moves_of (link_at links leaf) (g.moves ++ ps) ≡ ps
+  grown-moves =
+      ap (λ (l : Link). moves_of l (g.moves ++ ps)) long.here
+      ∙ ap (λ (m : ℕ). take m (drop (length g.tree.links) (g.moves ++ ps))) (sym points)
+      ∙ ap (λ (m : ℕ). take (length ps) (drop m (g.moves ++ ps))) (sym game.moves)
+      ∙ ap (take (length ps)) (drop-append_seam g.moves ps) ∙ take-length ps
 
   pub game-grown : IsGameTree (record { rule = g.rule; start = g.start; tree = record { links = links; numbers = numbers }; moves = g.moves ++ ps; left = g.left ++ ns })
   game-grown = record {
@@ -199,15 +206,8 @@ module _ (g : GameTree) (ok : IsTree g.tree) (leaf : ℕ) (inside : leaf < lengt
 
     leaf-tried : HasTried (link_at links leaf).kind g.rule (left_at (g.left ++ ns) leaf) (board_of links (g.moves ++ ps) g.start leaf) (moves_of (link_at links leaf) (g.moves ++ ps))
     leaf-tried =
-        let all : moves_of (link_at links leaf) (g.moves ++ ps) ≡ ps =
-        ap (λ (l : Link). moves_of l (g.moves ++ ps)) long.here
-        ∙ ap (λ (m : ℕ). take m (drop (length g.tree.links) (g.moves ++ ps))) (sym points)
-        ∙ ap (λ (m : ℕ). take (length ps) (drop m (g.moves ++ ps))) (sym game.moves)
-        ∙ whole in
         tried-same (link_at links leaf).kind (link_at g.tree.links leaf).kind (left_at (g.left ++ ns) leaf) (left_at g.left leaf) (board_of links (g.moves ++ ps) g.start leaf) (board_at g leaf) (moves_of (link_at links leaf) (g.moves ++ ps)) ps
-        (old-kind leaf inside) (old-left leaf inside) (old-board leaf inside) all tried where
-          whole : take (length ps) (drop (length g.moves) (g.moves ++ ps)) ≡ ps
-          whole = ap (take (length ps)) (drop-append_seam g.moves ps) ∙ take-length ps
+        (old-kind leaf inside) (old-left leaf inside) (old-board leaf inside) grown-moves tried
 
   -- ---- counts
 
@@ -327,6 +327,8 @@ module _ (rule : RuleKind) (s : Search) (t : Tree) (c : List Node) (leaf : ℕ) 
     (attacked_more : s.attacked ≤ v.attacked) (defended_more : s.defended ≤ v.defended) (attacked_fits : v.attacked ≤ s.budget) (defended_fits : v.defended ≤ s.budget)
     (nodes_counted : s.attacked + s.defended + length more ≤ v.attacked + v.defended)
     (low : (kind : Kind) → finite_sum (map (sought kind) more) ≤ length more)
+    (met : (link_at t.links leaf).kind ≡ Defend → (q : Point) → outcome rule (board_at (game_of rule s t) leaf) q ≡ GoesOn → among (map (λ n. n.at) ms) q ≡ false
+    → (0 < (note_at ms 0).moves) × IsNotedWin rule (left_at (game_of rule s t).left leaf) (after (board_at (game_of rule s t) leaf) q) (c ++ nodes) (win_of (note_at ms 0)))
     (short : s.attacked + length nodes + sum_below (length more) (λ j. unwritten_child (link_at t.links leaf).kind (note_at ms j)) ≤ v.attacked) where
   pub long : IsGrown t.links leaf (length more) u.links
   long = subst (IsGrown t.links leaf (length more)) (sym e.links) (grown t.links leaf (length more) h.in_tree)
@@ -394,6 +396,58 @@ module _ (rule : RuleKind) (s : Search) (t : Tree) (c : List Node) (leaf : ℕ) 
   old-value : (i : ℕ) → i < length t.links → (link_at u.links i).count ≡ 0 → i ≢ leaf → numbers_at u.numbers i ≡ numbers_at t.numbers i
   old-value i l none other = old-numbers (game_of rule s t) h.searching.tree leaf h.in_tree h.childless h.searching.game u.links u.numbers more (map (λ (n : Note). n.at) ms) (map (λ (n : Note). n.left) ms) (length more) some points lefts refl long e.tree e.others e.children tried h.leaf_open each-child i l none other
 
+  abbrev Now : GameTree
+  Now = record { rule = rule; start = s.root; tree = record { links = u.links; numbers = u.numbers }; moves = map (λ (n : Note). n.at) s.notes.items ++ map (λ (n : Note). n.at) ms; left = map (λ (n : Note). n.left) s.notes.items ++ map (λ (n : Note). n.left) ms }
+
+  here-left : left_at Now.left leaf ≡ left_at (game_of rule s t).left leaf
+  here-left = old-left (game_of rule s t) h.searching.tree leaf h.in_tree h.childless h.searching.game u.links u.numbers more (map (λ (n : Note). n.at) ms) (map (λ (n : Note). n.left) ms) (length more) some points lefts refl long e.tree e.others e.children tried h.leaf_open each-child leaf h.in_tree
+
+  here-board : board_of u.links Now.moves s.root leaf ≡ board_at (game_of rule s t) leaf
+  here-board = old-board (game_of rule s t) h.searching.tree leaf h.in_tree h.childless h.searching.game u.links u.numbers more (map (λ (n : Note). n.at) ms) (map (λ (n : Note). n.left) ms) (length more) some points lefts refl long e.tree e.others e.children tried h.leaf_open each-child leaf h.in_tree
+
+  here-moves : moves_of (link_at u.links leaf) Now.moves ≡ map (λ (n : Note). n.at) ms
+  here-moves = grown-moves (game_of rule s t) h.searching.tree leaf h.in_tree h.childless h.searching.game u.links u.numbers more (map (λ (n : Note). n.at) ms) (map (λ (n : Note). n.left) ms) (length more) some points lefts refl long e.tree e.others e.children tried h.leaf_open each-child
+
+  here-first : note_at v.notes.items (link_at u.links leaf).first ≡ note_at ms 0
+  here-first =
+      let first : length t.links ≡ length t.links + 0 = omega arith in
+      ap (λ (k : Link). note_at v.notes.items k.first) long.here ∙ ap (note_at v.notes.items) first ∙ new-note 0
+
+  leaf-met : (link_at u.links leaf).kind ≡ Defend → (q : Point) → outcome rule (board_of u.links Now.moves s.root leaf) q ≡ GoesOn → among (moves_of (link_at u.links leaf) Now.moves) q ≡ false → IsMet Now v.notes.items (c ++ nodes) leaf q
+  leaf-met defend q on none =
+      let kind : (link_at t.links leaf).kind ≡ Defend = sym (ap (λ (k : Link). k.kind) long.here) ∙ defend in
+      let is = met kind q (ap (λ (b : Grid). outcome rule b q) (sym here-board) ∙ on) (ap (λ (ps : List Point). among ps q) (sym here-moves) ∙ none) in
+      record {
+        some = subst (λ (n : Note). 0 < n.moves) (sym here-first) is.0;
+        win =
+            subst (λ (n : Note). IsNotedWin rule (left_at Now.left leaf) (after (board_of u.links Now.moves s.root leaf) q) (c ++ nodes) (win_of n)) (sym here-first)
+            (subst (λ (b : Grid). IsNotedWin rule (left_at Now.left leaf) (after b q) (c ++ nodes) (win_of (note_at ms 0))) (sym here-board)
+            (subst (λ (n : ℕ). IsNotedWin rule n (after (board_at (game_of rule s t) leaf) q) (c ++ nodes) (win_of (note_at ms 0))) (sym here-left) is.1));
+      }
+
+  old-met : (i : ℕ) → i < length t.links → i ≢ leaf → (link_at u.links i).kind ≡ Defend → 0 < (link_at u.links i).count → (q : Point) → outcome rule (board_of u.links Now.moves s.root i) q ≡ GoesOn
+      → among (moves_of (link_at u.links i) Now.moves) q ≡ false → IsMet Now v.notes.items (c ++ nodes) i q
+  old-met i old other defend several q on none =
+      let same = old-link i old other in
+      let count : 0 < (link_at t.links i).count = subst (λ (k : Link). 0 < k.count) same several in
+      let first : ℕ = (link_at t.links i).first in
+      let within = h.searching.tree.linked.within i old in
+      let inside : first < length t.links = omega (arith, within, count) in
+      let board : board_of u.links Now.moves s.root i ≡ board_at (game_of rule s t) i = old-board (game_of rule s t) h.searching.tree leaf h.in_tree h.childless h.searching.game u.links u.numbers more (map (λ (n : Note). n.at) ms) (map (λ (n : Note). n.left) ms) (length more) some points lefts refl long e.tree e.others e.children tried h.leaf_open each-child i old in
+      let left : left_at Now.left i ≡ left_at (game_of rule s t).left i = old-left (game_of rule s t) h.searching.tree leaf h.in_tree h.childless h.searching.game u.links u.numbers more (map (λ (n : Note). n.at) ms) (map (λ (n : Note). n.left) ms) (length more) some points lefts refl long e.tree e.others e.children tried h.leaf_open each-child i old in
+      let moves : moves_of (link_at u.links i) Now.moves ≡ moves_of (link_at t.links i) (game_of rule s t).moves =
+      ap (λ (k : Link). moves_of k Now.moves) same ∙ old-moves_of (game_of rule s t) h.searching.tree leaf h.in_tree h.childless h.searching.game u.links u.numbers more (map (λ (n : Note). n.at) ms) (map (λ (n : Note). n.left) ms) (length more) some points lefts refl long e.tree e.others e.children tried h.leaf_open each-child i old in
+      let grown_written = written-grown (game_of rule s t) s.notes.items c nodes (λ j. ⊥) (IsTable-lower c h.searching.compiled.table) h.searching.written in
+      let is = grown_written.met i old (ap (λ (k : Link). k.kind) (sym same) ∙ defend) count q (ap (λ (b : Grid). outcome rule b q) (sym board) ∙ on) (ap (λ (ps : List Point). among ps q) (sym moves) ∙ none) in
+      let note : note_at v.notes.items (link_at u.links i).first ≡ note_at s.notes.items first = ap (λ (k : Link). note_at v.notes.items k.first) same ∙ old-note first inside in
+      record {
+        some = subst (λ (n : Note). 0 < n.moves) (sym note) is.some;
+        win =
+            subst (λ (n : Note). IsNotedWin rule (left_at Now.left i) (after (board_of u.links Now.moves s.root i) q) (c ++ nodes) (win_of n)) (sym note)
+            (subst (λ (b : Grid). IsNotedWin rule (left_at Now.left i) (after b q) (c ++ nodes) (win_of (note_at s.notes.items first))) (sym board)
+            (subst (λ (n : ℕ). IsNotedWin rule n (after (board_at (game_of rule s t) i) q) (c ++ nodes) (win_of (note_at s.notes.items first))) (sym left) is.win));
+      }
+
   written-now : AreWritten (record { rule = rule; start = s.root; tree = record { links = u.links; numbers = u.numbers }; moves = map (λ (n : Note). n.at) s.notes.items ++ map (λ (n : Note). n.at) ms; left = map (λ (n : Note). n.left) s.notes.items ++ map (λ (n : Note). n.left) ms }) v.notes.items (c ++ nodes) (IsOnWayUp u.links leaf)
   written-now = record {
     true_wins = λ i l positive. elim (split-node i l) [
@@ -445,6 +499,16 @@ module _ (rule : RuleKind) (s : Search) (t : Tree) (c : List Node) (leaf : ℕ) 
       | inr child ↦
           subst (λ (n : Note). 0 < n.moves) (sym (ap (note_at v.notes.items) child.2 ∙ new-note child.0))
           ((noted child.0 child.1).proved (sym (e.children child.0 child.1) ∙ ap (numbers_at u.numbers) (sym child.2) ∙ proved)).1
+    ];
+    met = λ i l defend several q on none. elim (split-node i l) [
+      | inl old ↦ elim (cases_eq i leaf) [
+        | inl same ↦
+            subst (λ (k : ℕ). IsMet Now v.notes.items (c ++ nodes) k q) (sym same)
+            (leaf-met (ap (λ (k : ℕ). (link_at u.links k).kind) (sym same) ∙ defend) q (subst (λ (k : ℕ). outcome rule (board_of u.links Now.moves s.root k) q ≡ GoesOn) same on)
+            (subst (λ (k : ℕ). among (moves_of (link_at u.links k) Now.moves) q ≡ false) same none))
+        | inr other ↦ old-met i old other defend several q on none
+      ]
+      | inr child ↦ absurd (let zero_count : (link_at u.links i).count ≡ 0 = ap (λ (m : ℕ). (link_at u.links m).count) child.2 ∙ ap (λ (l : Link). l.count) (long.leaves (length t.links + child.0) (omega arith) (let b = child.1 in omega (arith, b))) in omega (arith, zero_count, several))
     ];
   }
 

@@ -1,7 +1,7 @@
 -- The boards of the nodes of a tree: each is its parent's after its move, and they stay where the tree grows. The moves that lead to a
 -- node, played and taken back. In a tree that stands for a game every node tells truly whether the attacker wins: from the last node to the
 -- first, since the children of a node come after it.
-use Rattle.std.proofs.Common.{◌≡◌, ℕ, zero, suc, ◌<◌, ◌≤◌, Bool, true, false, cond, refl, ap, ◌∙◌, arith, List, length, nat_eq, sym, subst, map, get_or, ◌⊎◌, inl, inr, ◌+◌, ◌-◌, take, drop, Contains}
+use Rattle.std.proofs.Common.{◌≡◌, ℕ, zero, suc, ◌<◌, ◌≤◌, Bool, true, false, cond, ◌||◌, refl, ap, ◌∙◌, arith, List, [], ◌∷◌, length, nat_eq, sym, subst, map, get_or, ◌⊎◌, inl, inr, ◌+◌, ◌-◌, take, drop, Contains}
 use Rattle.std.proofs.lemmas.Bool.{ne_eqb, cases_eq}
 use Rattle.std.proofs.lemmas.List.{get_or-map, get_or-take, get_or-drop, get_or_default, length-take, length-drop}
 use Rattle.std.proofs.lemmas.List.Elements.{Contains-get_or}
@@ -9,11 +9,11 @@ use Rattle.game_rules.specs.declared.Point.{Point}
 use Rattle.game_rules.specs.declared.Outcome.TheVariants.{GoesOn}
 use Rattle.game_rules.specs.declared.RuleKind.{RuleKind}
 use Rattle.game_rules.specs.declared.Outcome.{Outcome}
-use Rattle.game_rules.proofs.Common.{Grid, IsPosition, after, holds, is_empty, lift, IsUnwon, outcome, mover, other, goes_on, LosesOr, WinsByThreats}
-use Rattle.game_rules.proofs.Positions.{IsPosition-after, GoesOn-empty, GoesOn-on}
+use Rattle.game_rules.proofs.Common.{Grid, IsPosition, after, holds, is_empty, points_of, lift, IsUnwon, is_same_point, outcome, mover, other, LosesOr, WinsByThreats}
+use Rattle.game_rules.proofs.Positions.{IsPosition-after, GoesOn-empty}
 use Rattle.game_rules.proofs.Undo.{stone_back, lift_back, unwon_back}
 use Rattle.game_rules.proofs.Outcomes.{LosesOr-on}
-use Rattle.game_rules.proofs.Places.{points_passing}
+use Rattle.game_rules.proofs.Points.{is_same_point-same}
 use Rattle.proof_tree.specs.declared.Kind.{Kind}
 use Rattle.proof_tree.specs.declared.Kind.TheVariants.{Attack, Defend}
 use Rattle.proof_tree.specs.declared.Link.{Link}
@@ -23,10 +23,10 @@ use Rattle.proof_tree.proofs.Settled.{least-zero, total-zero, settled-proved, se
 use Rattle.proof_tree.proofs.Updated.{child-number}
 use Rattle.stone_board.specs.Steps.{holds_stone}
 use Rattle.stone_board.proofs.Stones.{put-holds_stone}
-use Rattle.threat_game.proofs.Common.{move_at, nowhere, LosesToThreats, replies_at}
+use Rattle.threat_game.proofs.Common.{move_at, nowhere, LosesToThreats}
 use Rattle.threat_game.proofs.TreeLaws.{by_move}
 use Rattle.proof_number.specs.declared.notes.Note.{Note}
-use Rattle.proof_number.proofs.Common.{GameTree, IsGameTree, board_at, board_of, board_within, left_at, left_before, HasTried, AreTried, TellsTruly, WinsAt, moves_of}
+use Rattle.proof_number.proofs.Common.{GameTree, IsGameTree, board_at, board_of, board_within, left_at, left_before, HasTried, AreTried, TellsTruly, WinsAt, among, moves_of}
 
 positive : (i : ℕ) → nat_eq i 0 ≡ false → 0 < i
 positive zero e = cc
@@ -79,6 +79,19 @@ module _ (links more : List Link) (moves others : List Point) (b : Grid) (w : Is
 
   pub board-kept : (i : ℕ) → i < length links → board_of more others b i ≡ board_of links moves b i
   board-kept i inside = within-kept i i inside
+
+-- the boards of all nodes have the same points
+points-within : (f : ℕ) (links : List Link) (moves : List Point) (b : Grid) (i : ℕ) → points_of (board_within f links moves b i) ≡ points_of b
+unfolding board_within
+points-within zero links moves b i = refl
+points-within (suc f) links moves b i = by_test (nat_eq i 0) (points-within f links moves b (link_at links i).parent) where
+  by_test : (r : Bool) → points_of (board_within f links moves b (link_at links i).parent) ≡ points_of b
+      → points_of (cond r b (after (board_within f links moves b (link_at links i).parent) (move_at moves i))) ≡ points_of b
+  by_test true before = refl
+  by_test false before = before
+
+pub points-same : (g : GameTree) (i : ℕ) → points_of (board_at g i) ≡ points_of g.start
+points-same g i = points-within i g.tree.links g.moves g.start i
 
 -- the board of each node is a lawful position
 module _ (g : GameTree) (w : IsLinked g.tree.links) (game : IsGameTree g) where
@@ -180,8 +193,13 @@ move-child l moves p fits (k, inside, at) =
       get_or_default moves (l.first + k) nowhere p within ∙ sym (get_or-drop l.first moves k p) ∙ sym (get_or-take l.count (drop l.first moves) k p low) ∙ at,
     )
 
-pub reply-listed : (rule : RuleKind) (c : Grid) (q : Point) → outcome rule c q ≡ GoesOn → Contains (replies_at rule c) q
-reply-listed rule c q on = points_passing c (λ x. goes_on (outcome rule c x)) q (GoesOn-on rule c q on) (ap goes_on on)
+-- a point that is among these is one of them
+pub among-listed : (q : Point) (ps : List Point) → among ps q ≡ true → Contains ps q
+among-listed q [] h = cc
+among-listed q (p ∷ ps) h = by_test (is_same_point q p) refl h (among-listed q ps) where
+  by_test : (r : Bool) → is_same_point q p ≡ r → (r || among ps q) ≡ true → (among ps q ≡ true → Contains ps q) → Contains (p ∷ ps) q
+  by_test true same found later = (0, omega arith, sym (is_same_point-same q p same))
+  by_test false apart found later = let rest = later found in (suc rest.0, (let low = rest.1 in omega (arith, low)), rest.2)
 
 -- ---- the tree
 
@@ -290,16 +308,21 @@ module _ (g : GameTree) (ok : IsTree g.tree) (game : IsGameTree g) where
         (child.0, child.1, subst (λ (k : Kind). WinsAt k g.rule (left_at g.left child.0) (board_at g child.0)) (sym defends) loses)
 
     -- the attacker wins at a defender's node where it wins at each child
-    defend-by : (link_at g.tree.links i).kind ≡ Defend → Own Defend → ((j : ℕ) → IsChild (link_at g.tree.links i) j → WinsAt (link_at g.tree.links j).kind g.rule (left_at g.left j) (board_at g j)) → LosesToThreats g.rule (left_at g.left i) (board_at g i)
-    defend-by kind own wins q = LosesOr-on (outcome g.rule (board_at g i) q) (Unit {0}) (WinsByThreats g.rule (left_at g.left i) (after (board_at g i) q)) (own.none_saves q) (λ on.
-        let listed : Contains (moves_of (link_at g.tree.links i) g.moves) q = subst (λ (ms : List Point). Contains ms q) (sym own.all) (reply-listed g.rule (board_at g i) q on) in
-        let child = move-child (link_at g.tree.links i) g.moves q (fits i inside) listed in
+    reply-by : (link_at g.tree.links i).kind ≡ Defend → Own Defend → ((j : ℕ) → IsChild (link_at g.tree.links i) j → WinsAt (link_at g.tree.links j).kind g.rule (left_at g.left j) (board_at g j))
+        → (q : Point) → outcome g.rule (board_at g i) q ≡ GoesOn → (r : Bool) → among (moves_of (link_at g.tree.links i) g.moves) q ≡ r → WinsByThreats g.rule (left_at g.left i) (after (board_at g i) q)
+    reply-by kind own wins q on false none = own.others q on none
+    reply-by kind own wins q on true found =
+        let child = move-child (link_at g.tree.links i) g.moves q (fits i inside) (among-listed q (moves_of (link_at g.tree.links i) g.moves) found) in
         let c = child-of i child.0 inside child.1 in
         let attacks : (link_at g.tree.links child.0).kind ≡ Attack = c.kind ∙ ap other_kind kind in
         let same : left_at g.left child.0 ≡ left_at g.left i = ap (λ (k : Kind). left_before k (left_at g.left child.0)) (sym attacks) ∙ c.fewer in
         let there : board_at g child.0 ≡ after (board_at g i) q = c.board ∙ ap (after (board_at g i)) child.2 in
         let win : WinsByThreats g.rule (left_at g.left child.0) (board_at g child.0) = subst (λ (k : Kind). WinsAt k g.rule (left_at g.left child.0) (board_at g child.0)) attacks (wins child.0 child.1) in
-        subst (λ (n : ℕ). WinsByThreats g.rule n (after (board_at g i) q)) same (subst (WinsByThreats g.rule (left_at g.left child.0)) there win))
+        subst (λ (n : ℕ). WinsByThreats g.rule n (after (board_at g i) q)) same (subst (WinsByThreats g.rule (left_at g.left child.0)) there win)
+
+    defend-by : (link_at g.tree.links i).kind ≡ Defend → Own Defend → ((j : ℕ) → IsChild (link_at g.tree.links i) j → WinsAt (link_at g.tree.links j).kind g.rule (left_at g.left j) (board_at g j)) → LosesToThreats g.rule (left_at g.left i) (board_at g i)
+    defend-by kind own wins q = LosesOr-on (outcome g.rule (board_at g i) q) (Unit {0}) (WinsByThreats g.rule (left_at g.left i) (after (board_at g i) q)) (own.none_saves q)
+        (λ on. reply-by kind own wins q on (among (moves_of (link_at g.tree.links i) g.moves) q) refl)
 
     -- and where it wins there, it wins at each child
     defend-through : (link_at g.tree.links i).kind ≡ Defend → LosesToThreats g.rule (left_at g.left i) (board_at g i) → (j : ℕ) → IsChild (link_at g.tree.links i) j → WinsAt (link_at g.tree.links j).kind g.rule (left_at g.left j) (board_at g j)

@@ -4,8 +4,6 @@
 pub mod Common
 -- the boards of the nodes of a tree; settled numbers are true; moves played and taken back
 mod GameTruths
--- answers in reading order rise
-mod Rising
 -- the win of a proved node is compiled; what is recorded and remembered on the way up
 mod Recording
 mod Remembering

@@ -1,17 +1,15 @@
 -- What holds of a search on the way back: which proved nodes may lack a win, what is kept, and what is remembered. The win of a proved node
 -- of the attacker, made of those after each reply to a proved move. The way back, in the words of the contracts.
-use Rattle.std.proofs.Common.{◌≡◌, ◌⊎◌, inl, inr, ℕ, zero, suc, ◌<◌, Bool, true, false, cond, refl, sym, ap, subst, ◌∙◌, arith, List, length, nat_eq, Some, None, ◌+◌, ◌&&◌, [], ◌∷◌, map, get_or}
-use Rattle.std.specs.List.{list_all, list_any, AllByRecursion}
+use Rattle.std.proofs.Common.{◌≡◌, ◌⊎◌, inl, inr, ℕ, zero, suc, ◌<◌, Bool, true, false, cond, refl, sym, ap, subst, ◌∙◌, arith, List, length, nat_eq, Option, Some, None, All, ◌+◌, ◌||◌, [], ◌∷◌, map}
+use Rattle.std.specs.List.{find, list_any, AllByRecursion}
 use Rattle.std.proofs.lemmas.Bool.{cases_eq, ne_eqb}
 use Rattle.std.proofs.lemmas.List.{length-map}
 use Rattle.game_rules.specs.declared.RuleKind.{RuleKind}
 use Rattle.game_rules.specs.declared.Outcome.TheVariants.{GoesOn}
 use Rattle.game_rules.specs.declared.Point.{Point}
-use Rattle.game_rules.proofs.Common.{WinsByThreats, Grid, points_of, is_same_point, outcome, after, goes_on, LosesOr}
-use Rattle.game_rules.proofs.Points.{filter-passes, points-found, is_same_point-itself}
+use Rattle.game_rules.proofs.Common.{WinsByThreats, Grid, points_of, is_same_point, outcome, after, LosesOr}
+use Rattle.game_rules.proofs.Points.{points-found, is_same_point-itself, is_same_point-same}
 use Rattle.game_rules.proofs.Positions.{GoesOn-on}
-use Rattle.game_rules.proofs.Outcomes.{goes_on-is}
-use Rattle.game_rules.proofs.PointLists.{still-found}
 use Rattle.proof_tree.specs.declared.Kind.{Kind}
 use Rattle.proof_tree.specs.declared.Kind.TheVariants.{Attack, Defend}
 use Rattle.proof_tree.proofs.Common.{settled_numbers, IsOnWayUp, Tree, ancestor, link_at, numbers_at, IsTree}
@@ -20,15 +18,14 @@ use Rattle.position_table.specs.Packing.{packed}
 use Rattle.position_table.specs.Remembering.{kept}
 use Rattle.position_table.proofs.Remembering.{true-kept}
 use Rattle.strategy_graph.specs.declared.Node.{Node}
-use Rattle.strategy_graph.proofs.Common.{depth, greatest, start_depth}
+use Rattle.strategy_graph.proofs.Common.{depth, greatest}
 use Rattle.strategy_compiler.specs.declared.wins.WrittenWin.{WrittenWin}
-use Rattle.strategy_compiler.proofs.Common.{answers_alone, IsWrittenWin, AnswersWin, WinsByAnswers}
-use Rattle.strategy_compiler.proofs.Forks.{IsAnswer, alone-deep, answer-by-win, answers-win, mapped-all}
-use Rattle.threat_game.proofs.Common.{replies_at}
+use Rattle.strategy_compiler.proofs.Common.{IsWrittenWin, AnswersWin, WinsByAnswers}
+use Rattle.strategy_compiler.proofs.Forks.{IsAnswer, alone-deep, answers-win, mapped-all}
 use Rattle.proof_number.specs.declared.notes.Note.{Note}
 use Rattle.proof_number.specs.declared.search.Search.{Search}
 use Rattle.proof_number.specs.declared.notes.Settled.{Settled}
-use Rattle.proof_number.proofs.Common.{note_at, noted_win, win_of, WinsAt, board_at, left_at, IsTrueMemo, IsAbove, IsSearching, KeepsTree, game_of, answer_of, no_note, IsGameTree, IsTrueOf, Searches}
+use Rattle.proof_number.proofs.Common.{all_notes, among, note_at, noted_for, noted_win, or_first, win_of, WinsAt, board_at, left_at, IsTrueMemo, IsAbove, IsSearching, KeepsTree, game_of, answer_of, no_note, IsGameTree, IsTrueOf, Searches}
 use Rattle.proof_number.proofs.GameTruths.{all-tell, position-at}
 
 -- ---- notes
@@ -82,6 +79,7 @@ way-changed rule s t c old new change h = record {
       | inl far ↦ h.written.all i low attack proved far
       | inr some ↦ some
     ];
+    met = h.written.met;
   };
   remembered = h.remembered;
   counted = h.counted;
@@ -154,67 +152,85 @@ remembered-keeps s u rest = record {
 
 -- ---- lists
 
-by_index : {X : Type 0} (P : X → Type 0) (d : X) (xs : List X) → ((k : ℕ) → k < length xs → P (get_or xs k d)) → AllByRecursion P xs
-by_index P d [] h = tt
-by_index P d (x ∷ xs) h = (h 0 (omega arith), by_index P d xs (λ k low. h (suc k) (omega (arith, low))))
-
-at_index : {X : Type 0} (P : X → Type 0) (d : X) (xs : List X) → AllByRecursion P xs → (k : ℕ) → k < length xs → P (get_or xs k d)
-at_index P d [] h k low = absurd (omega arith)
-at_index P d (x ∷ xs) h zero low = h.0
-at_index P d (x ∷ xs) h (suc k) low = at_index P d xs h.1 k (omega arith)
-
 deep-notes : (d : ℕ → ℕ) (ns : List Note) → AllByRecursion (λ n. d n.node ≡ n.moves) ns
     → greatest (map d (map (λ r. r.next) (map answer_of ns))) ≡ greatest (map (λ n. n.moves) ns)
 deep-notes d [] h = refl
 deep-notes d (n ∷ ns) h = let here = h.0 in let rest = deep-notes d ns h.1 in omega (arith, here, rest)
 
-note-points : (ns : List Note) → map (λ r. r.at) (map answer_of ns) ≡ map (λ n. n.at) ns
+pub note-points : (ns : List Note) → map (λ r. r.at) (map answer_of ns) ≡ map (λ n. n.at) ns
 note-points [] = refl
 note-points (n ∷ ns) = ap (λ (ps : List Point). n.at ∷ ps) (note-points ns)
 
-list-passes : (f : Point → Bool) (ns : List Note) → list_all f (map (λ n. n.at) ns) ≡ true → AllByRecursion (λ n. f n.at ≡ true) ns
-list-passes f [] h = tt
-list-passes f (n ∷ ns) h = by_test (f n.at) refl h (list-passes f ns) where
-  by_test : (r : Bool) → f n.at ≡ r → (r && list_all f (map (λ m. m.at) ns)) ≡ true → (list_all f (map (λ m. m.at) ns) ≡ true → AllByRecursion (λ m. f m.at ≡ true) ns) → (f n.at ≡ true) × AllByRecursion (λ m. f m.at ≡ true) ns
-  by_test true e rest later = (e, later rest)
-  by_test false e rest later = cc
+-- ---- the note for a move
+
+-- the first note of a move is one of them, and without one the move is none of theirs
+find-note : (q : Point) (ns : List Note) (n : Note) → find (λ m. is_same_point q m.at) ns ≡ Some n → (k : ℕ) × (k < length ns) × (note_at ns k ≡ n) × (n.at ≡ q)
+find-note q [] n e = cc
+find-note q (m ∷ ns) n e = by_test (is_same_point q m.at) refl e (find-note q ns n) where
+  by_test : (r : Bool) → is_same_point q m.at ≡ r → cond r (Some m) (find (λ x. is_same_point q x.at) ns) ≡ Some n
+      → (find (λ x. is_same_point q x.at) ns ≡ Some n → (k : ℕ) × (k < length ns) × (note_at ns k ≡ n) × (n.at ≡ q))
+      → (k : ℕ) × (k < length (m ∷ ns)) × (note_at (m ∷ ns) k ≡ n) × (n.at ≡ q)
+  by_test true same found later = let is : m ≡ n = cc in (0, omega arith, is, sym (is_same_point-same q n.at (subst (λ (x : Note). is_same_point q x.at ≡ true) is same)))
+  by_test false apart found later = let rest = later found in (suc rest.0, (let low = rest.1 in omega (arith, low)), rest.2, rest.3)
+
+find-nothing : (q : Point) (ns : List Note) → find (λ m. is_same_point q m.at) ns ≡ None → among (map (λ m. m.at) ns) q ≡ false
+find-nothing q [] e = refl
+find-nothing q (m ∷ ns) e = by_test (is_same_point q m.at) refl e (find-nothing q ns) where
+  by_test : (r : Bool) → is_same_point q m.at ≡ r → cond r (Some m) (find (λ x. is_same_point q x.at) ns) ≡ None → (find (λ x. is_same_point q x.at) ns ≡ None → among (map (λ x. x.at) ns) q ≡ false)
+      → (r || among (map (λ x. x.at) ns) q) ≡ false
+  by_test true same found later = cc
+  by_test false apart found later = later found
+
+-- the note for a move is one of them: that of the move, or the first where none has it
+pub record IsNoteFor (ns : List Note) (q : Point) (k : ℕ) : Type 0 where
+  pub inside : k < length ns
+  pub is : noted_for ns q ≡ note_at ns k
+  pub move : ((note_at ns k).at ≡ q) ⊎ ((k ≡ 0) × (among (map (λ m. m.at) ns) q ≡ false))
+
+pub note-for : (ns : List Note) (q : Point) → 0 < length ns → (k : ℕ) × IsNoteFor ns q k
+note-for ns q some = by_found (find (λ m. is_same_point q m.at) ns) refl where
+  by_found : (o : Option Note) → find (λ m. is_same_point q m.at) ns ≡ o → (k : ℕ) × IsNoteFor ns q k
+  by_found None e = (0, record { inside = some; is = ap (λ o. or_first o ns) e; move = inr (refl, find-nothing q ns e) })
+  by_found (Some n) e =
+      let found = find-note q ns n e in (
+        found.0,
+        record {
+          inside = found.1;
+          is = ap (λ o. or_first o ns) e ∙ sym found.2;
+          move = inl (ap (λ (m : Note). m.at) found.2 ∙ found.3);
+        },
+      )
+
+-- the points of the notes for these moves
+pub all-points : (ns : List Note) (ps : List Point) → map (λ m. m.at) (all_notes ns ps) ≡ ps
+all-points ns [] = refl
+all-points ns (p ∷ ps) = ap (λ (qs : List Point). p ∷ qs) (all-points ns ps)
+
+-- the answers by them name what the notes do
+pub all-below : (ns : List Note) (most : ℕ) → 0 < length ns → All (λ n. n.node < most) ns → (ps : List Point) → AllByRecursion (λ r. r.next < most) (map answer_of (all_notes ns ps))
+all-below ns most some low [] = tt
+all-below ns most some low (p ∷ ps) =
+    let found = note-for ns p some in
+    (subst (λ (n : Note). n.node < most) (sym found.1.is) (low found.0 no_note found.1.inside), all-below ns most some low ps)
 
 -- ---- the node with these answers
 
-module _ (rule : RuleKind) (c : Grid) (t : List Node) (kids : List Note) (n : ℕ) (all : map (λ m. m.at) kids ≡ replies_at rule c)
-    (none_saves : (q : Point) → LosesOr (outcome rule c q) (Unit {0}))
-    (wins : (k : ℕ) → k < length kids → IsWrittenWin rule n (after c (note_at kids k).at) t (win_of (note_at kids k))) where
-  kid-on : (k : ℕ) → k < length kids → outcome rule c (note_at kids k).at ≡ GoesOn
-  kid-on k low =
-      let passes : list_all (λ q. goes_on (outcome rule c q)) (map (λ m. m.at) kids) ≡ true = ap
-      (list_all (λ q. goes_on (outcome rule c q))) all ∙ filter-passes (λ q. goes_on (outcome rule c q)) (points_of c) in
-      goes_on-is (outcome rule c (note_at kids k).at)
-      (at_index (λ m. goes_on (outcome rule c m.at) ≡ true) no_note kids
-      (list-passes (λ q. goes_on (outcome rule c q)) kids passes) k low)
-
-  answers : AnswersWin rule n c t (map answer_of kids)
-  answers = answers-win rule n c t (map answer_of kids) none_saves
-      (λ q go. subst (λ (ps : List Point). list_any (is_same_point q) ps ≡ true) (sym (note-points kids ∙ all))
-      (still-found (λ q. goes_on (outcome rule c q)) q (points_of c) (ap goes_on go)
-      (points-found c (is_same_point q) q (GoesOn-on rule c q go) (is_same_point-itself q))))
-      (mapped-all (IsAnswer rule n c t) answer_of kids (by_index (λ m. IsAnswer rule n c t (answer_of m)) no_note kids
-      (λ k low. answer-by-win rule n c t (answer_of (note_at kids k)) (note_at kids k).moves (kid-on k low) (wins k low))))
-
-  deep : start_depth t (answers_alone (map answer_of kids)) ≡ greatest (map (λ m. m.moves) kids)
-  deep = alone-deep t (map answer_of kids)
-      ∙ deep-notes (depth t) kids (by_index (λ m. depth t m.node ≡ m.moves) no_note kids (λ k low. (wins k low).deep))
-
 -- it is a win of one more move
-pub written-node : (rule : RuleKind) (b : Grid) (p : Point) → outcome rule b p ≡ GoesOn → (t u : List Node) (kids : List Note) (n : ℕ)
-    → map (λ m. m.at) kids ≡ replies_at rule (after b p)
+pub written-node : (rule : RuleKind) (b : Grid) (p : Point) → outcome rule b p ≡ GoesOn → (t u : List Node) (ns : List Note) (n : ℕ)
+    → map (λ m. m.at) ns ≡ points_of (after b p)
     → ((q : Point) → LosesOr (outcome rule (after b p) q) (Unit {0}))
-    → ((k : ℕ) → k < length kids → IsWrittenWin rule n (after (after b p) (note_at kids k).at) t (win_of (note_at kids k)))
-    → (i : ℕ) → WinsByAnswers t p (map answer_of kids) u i
-    → IsWrittenWin rule (suc n) b u (record { node = i; moves = greatest (map (λ m. m.moves) kids) + 1 })
-written-node rule b p on t u kids n all none_saves wins i by_answers =
+    → AllByRecursion (λ m. IsAnswer rule n (after b p) t (answer_of m)) ns → AllByRecursion (λ m. depth t m.node ≡ m.moves) ns
+    → (i : ℕ) → WinsByAnswers t p (map answer_of ns) u i
+    → IsWrittenWin rule (suc n) b u (record { node = i; moves = greatest (map (λ m. m.moves) ns) + 1 })
+written-node rule b p on t u ns n all none_saves each deep i by_answers =
+    let answers : AnswersWin rule n (after b p) t (map answer_of ns) =
+    answers-win rule n (after b p) t (map answer_of ns) none_saves
+    (λ q go. subst (λ (ps : List Point). list_any (is_same_point q) ps ≡ true) (sym (note-points ns ∙ all))
+    (points-found (after b p) (is_same_point q) q (GoesOn-on rule (after b p) q go) (is_same_point-itself q)))
+    (mapped-all (IsAnswer rule n (after b p) t) answer_of ns each) in
     subst (λ (k : ℕ). IsWrittenWin rule (suc n) b u (record { node = i; moves = k + 1 }))
-    (deep rule (after b p) t kids n all none_saves wins)
-    (by_answers rule n b on (answers rule (after b p) t kids n all none_saves wins))
+    (alone-deep t (map answer_of ns) ∙ deep-notes (depth t) ns deep)
+    (by_answers rule n b on answers)
 
 module _ (rule : RuleKind) (s : Search) (t : Tree) (c : List Node) (node : ℕ) (searches : Searches rule s t c (IsOnWayUp t.links node)) where
   h : IsSearching rule s t c (IsOnWayUp t.links node)

@@ -12,7 +12,7 @@ use Rattle.proof_tree.proofs.Settled.{leaf-beside, settled-test}
 use Rattle.proof_number.specs.declared.notes.Note.{Note}
 use Rattle.proof_number.proofs.Common.{note_at, win_of, GameTree, IsGameTree, TellsTruly, WinsAt, board_at, left_at, AreWritten, IsNotedWin, IsCounted, attacks_behind, behind_at, behind_leaves, closed_nodes, defences_behind, is_open_leaf}
 use Rattle.proof_number.proofs.Sums.{sum-less}
-use Rattle.game_rules.proofs.Common.{Grid}
+use Rattle.game_rules.proofs.Common.{Grid, after}
 use Rattle.strategy_graph.proofs.Common.{NamesLower}
 
 -- ---- the way up
@@ -83,6 +83,17 @@ module _ (g : GameTree) (ok : IsTree g.tree) (numbers : List Numbers) (leaf : �
     all = λ i low attack proved beside.
         let other : i ≢ leaf = λ e. beside (0, sym e) in
         subst (λ (n : Note). 0 < n.moves) (sym (same i other)) (written.all i low attack (sym (others i beside) ∙ proved) (λ bad. bad));
+    met = λ i low defend some q on none.
+        let is = written.met i low defend some q on none in
+        let first : ℕ = (link_at g.tree.links i).first in
+        let other : first ≢ leaf = λ e.
+        let nothing : (note_at notes first).moves ≡ 0 = ap (λ (k : ℕ). (note_at notes k).moves) e ∙ written.fresh leaf inside childless unsettled in
+        let positive = is.some in
+        omega (arith, nothing, positive) in
+        record {
+          some = subst (λ (n : Note). 0 < n.moves) (sym (same first other)) is.some;
+          win = subst (λ (n : Note). IsNotedWin g.rule (left_at g.left i) (after (board_at g i) q) c (win_of n)) (sym (same first other)) is.win;
+        };
   } where
     same-test : (r : Bool) → settled_numbers r ≡ settled_numbers true → r ≡ true
     same-test true e = refl
@@ -161,4 +172,10 @@ written-grown g notes c more way lower written = record {
   leaves = written.leaves;
   defends = written.defends;
   all = written.all;
+  met = λ i low defend some q on none.
+      let is = written.met i low defend some q on none in
+      record {
+        some = is.some;
+        win = (growth_keeps-wins g.rule (left_at g.left i) (after (board_at g i) q) c more (win_of (note_at notes (link_at g.tree.links i).first)) lower is.win.0, is.win.1);
+      };
 }

@@ -14,7 +14,6 @@ use Rattle.position_table.proofs.Remembering.{true-found, true-looked}
 use Rattle.strategy_graph.specs.declared.Node.{Node}
 use Rattle.strategy_graph.specs.declared.TheConstants.{MAX_NODES}
 use Rattle.strategy_graph.proofs.Filling.{IsTable-lower}
-use Rattle.strategy_graph.proofs.Common.{depth}
 use Rattle.strategy_compiler.specs.declared.error.SearchError.{SearchError}
 use Rattle.strategy_compiler.specs.declared.wins.WrittenWin.{WrittenWin}
 use Rattle.strategy_compiler.proofs.Growing.{win-some}

@@ -1,7 +1,9 @@
 -- A tree of numbers as a tree of the game of threats: the board of each node, what a node with children has tried, and when its
 -- numbers are true.
-use Rattle.std.specs.Prelude.{◌≡◌, ℕ, zero, suc, ◌<◌, ◌≤◌, true, false, nat_eq, if◌then◌else◌, List, map, length, take, drop, slice_index_or, Contains}
+use Rattle.std.specs.Prelude.{◌≡◌, ℕ, zero, suc, ◌<◌, ◌≤◌, Bool, true, false, nat_eq, if◌then◌else◌, List, map, length, take, drop, slice_index_or, Contains}
+use Rattle.std.specs.List.{list_any}
 use Rattle.game_rules.specs.Grid.{Grid}
+use Rattle.game_rules.specs.Shapes.{is_same_point}
 use Rattle.game_rules.specs.Play.{IsPosition, outcome, mover, after}
 use Rattle.game_rules.specs.Games.{LosesOr, WinsByThreats, has_five, has_threat}
 use Rattle.game_rules.specs.declared.RuleKind.{RuleKind}
@@ -15,7 +17,6 @@ use Rattle.proof_tree.specs.declared.Link.{Link}
 use Rattle.proof_tree.specs.declared.Numbers.{Numbers}
 use Rattle.proof_number.specs.declared.notes.Note.{Note}
 use Rattle.threat_game.specs.Attacks.{has_reply}
-use Rattle.threat_game.specs.Replies.{replies_at}
 use Rattle.threat_game.specs.ThreatGame.{move_at, LosesToThreats}
 
 -- A tree of numbers that stands for a game: the rule, the board of the root, and for each node the move that leads to it and how
@@ -71,17 +72,22 @@ pub record AreTried (rule : RuleKind) (n : ℕ) (b : Grid) (moves : List Point) 
   pub threat : (p : Point) → Contains moves p → has_threat rule (after b p) (mover b) ≡ true
   pub enough : WinsByThreats rule (suc n) b → (p : Point) × Contains moves p × LosesToThreats rule n (after b p)
 
--- these are the replies that go on, and no reply wins or fills the board
-pub record AreAllReplies (rule : RuleKind) (c : Grid) (moves : List Point) : Type 0 where
-  pub all : moves ≡ replies_at rule c
+-- whether the point is one of these
+abbrev pub among : List Point → Point → Bool
+among points q = list_any (is_same_point q) points
+
+-- after each reply that goes on and is none of these the attacker wins by threats within so many moves, and no reply wins or fills
+-- the board
+pub record AreMet (rule : RuleKind) (n : ℕ) (c : Grid) (moves : List Point) : Type 0 where
+  pub others : (q : Point) → outcome rule c q ≡ GoesOn → among moves q ≡ false → WinsByThreats rule n (after c q)
   pub none_saves : (q : Point) → LosesOr (outcome rule c q) (Unit {0})
 
 -- what a node with children has tried: an attacker's the moves to try, with one move fewer left behind each, and a defender's
--- every reply
+-- each reply after which it is not known that the attacker wins
 abbrev pub HasTried : Kind → RuleKind → ℕ → Grid → List Point → Type 0
 HasTried Attack rule zero b moves = ⊥
 HasTried Attack rule (suc n) b moves = AreTried rule n b moves
-HasTried Defend rule n b moves = AreAllReplies rule b moves
+HasTried Defend rule n b moves = AreMet rule n b moves
 
 -- what is known of an open leaf: the side to move has no five point, the attacker has two moves or more at its own node and one
 -- or more at the defender's, and there a reply goes on

@@ -1,5 +1,5 @@
 -- What is remembered of positions of the attacker is true.
-use Rattle.std.specs.Prelude.{◌≡◌, ℕ, List}
+use Rattle.std.specs.Prelude.{ℕ, List}
 use Rattle.game_rules.specs.Grid.{Grid}
 use Rattle.game_rules.specs.Games.{WinsByThreats}
 use Rattle.game_rules.specs.declared.RuleKind.{RuleKind}

@@ -3,8 +3,9 @@
 //! In the game of threats each attack wins or leaves the attacker a five point or a double point, and the defender may
 //! reply anywhere. The search grows a tree of its positions at the leaf that is the most proving one (Allis, van der
 //! Meulen and van den Herik, "Proof-Number Search"). Most replies to a three are settled as soon as they are made, since
-//! the double point still stands after them; so the tree holds few open nodes. Positions of the attacker that are settled
-//! are remembered. Each of them that is won is compiled at once, so that a win of the root is a table.
+//! the double point still stands after them. One of them gets a node, and its win meets the others, which get none and
+//! count nothing; so the tree holds few nodes that aren't open. Positions of the attacker that are settled are remembered.
+//! Each of them that is won is compiled at once, so that a win of the root is a table.
 #![tactic(auto)]
 
 mod answer;

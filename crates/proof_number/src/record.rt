@@ -1,23 +1,25 @@
 //! Positions of the attacker that are settled: they are compiled, if they are won, and remembered.
 //!
 //! On the way back from a leaf each node of the attacker that its numbers prove gets its win: the proved attack, with the
-//! answers to all replies, whose wins are compiled already. So a win of the root is a table as soon as it is proved. What is
+//! answers to all replies, whose wins are compiled already. A reply without a node is answered by the win of the first that has
+//! one, as each other point of the board is. So a win of the root is a table as soon as it is proved. What is
 //! settled, won or not, is remembered under its position and the moves that were left.
 #![tactic(auto)]
 
 ghost use Rattle.std.specs.Prelude.{◌≡◌, ◌⊎◌, All, ◌<◌, ◌≤◌, ◌+◌, ℕ, true, ◌++◌, List, map, take, drop, length, IfOk, IfSome, OnOk, IsErrOf};
 ghost use Rattle.strategy_graph.specs.declared.Node.{Node};
 ghost use Rattle.strategy_graph.specs.declared.TheConstants.{MAX_NODES};
+ghost use Rattle.game_rules.specs.Grid.{points_of};
 ghost use Rattle.position_table.specs.Packing.{packed};
 ghost use Rattle.position_table.specs.Remembering.{kept};
-ghost use Rattle.strategy_graph.specs.Tables.{greatest, is_rising};
+ghost use Rattle.strategy_graph.specs.Tables.{greatest};
 ghost use Rattle.strategy_compiler.specs.Growth.{Writes};
 ghost use Rattle.strategy_compiler.specs.Forks.{WinsByAnswers};
 ghost use Rattle.strategy_compiler.specs.Wins.{IsWrittenWin};
 ghost use Rattle.proof_tree.specs.Combining.{settled_numbers};
 ghost use Rattle.proof_tree.specs.Trees.{IsTree, IsChild, IsOnWayUp, link_at, numbers_at};
 ghost use Rattle.proof_tree.specs.declared.Kind.{Kind as AnyKind};
-ghost use Rattle.proof_number.specs.Notes.{note_at, answer_of};
+ghost use Rattle.proof_number.specs.Notes.{note_at, all_notes, answer_of, noted_for as noted_for_lem};
 ghost use Rattle.proof_number.specs.GameTrees.{board_at, left_at};
 ghost use Rattle.proof_number.specs.Remembered.{IsTrueOf, IsTrueMemo};
 ghost use Rattle.proof_number.specs.Searches.{Searches, IsAbove, KeepsTree, game_of, noted_won};
@@ -29,7 +31,7 @@ use position_table::PackedPosition;
 use proof_tree::{Kind, Link, ProofTree};
 use row_shapes::Rule;
 use std::alloc::{AllocError, Global};
-use stone_board::Point;
+use stone_board::{Board, Point};
 use strategy_compiler::{Compiler, SearchError, WrittenWin};
 use strategy_graph::Reply;
 
@@ -125,7 +127,7 @@ impl Search {
         }
     }
 
-    /// Compiles the win of a proved node of the attacker of the wins after each reply to the first move that is proved.
+    /// Compiles the win of a proved node of the attacker of the wins after the replies to the first move that is proved.
     fn compile<R: Rule>(
         &mut self,
         alloc: Global,
@@ -150,7 +152,7 @@ impl Search {
         let link = tree.link(proved);
         let attack = self.notes[proved as usize].at;
         let notes = kids(self.notes.as_slice(), link);
-        match compile_answers(alloc, compiler, attack, notes) {
+        match compile_answers(alloc, compiler, &self.root, attack, notes) {
             Err(error) => Err(error),
             Ok(win) => {
                 self.note_win(node, win);
@@ -182,21 +184,24 @@ impl Search {
     }
 }
 
-/// Compiles the node that plays this attack and answers the replies with the nodes of these notes.
+/// Compiles the node that plays this attack and answers each point of the board with the node of the note for it.
 fn compile_answers(
     alloc: Global,
     compiler: &mut Compiler,
+    board: &Board,
     attack: Point,
     notes: &[Note],
 ) -> Result<WrittenWin, SearchError>
-    requires rising { is_rising (map answer_of notes.now) ≡ true }
-    requires below { All (λ r. r.next < length compiler.old) (map answer_of notes.now) }
-    ensures wins { IfOk result (λ win. WinsByAnswers compiler.old attack (map answer_of notes.now) compiler.new win.node) }
-    ensures moves { IfOk result (λ win. win.moves ≡ greatest (map (λ n. n.moves) notes.now) + 1) }
+    requires some { 0 < length notes.now }
+    requires below { All (λ n. n.node < length compiler.old) notes.now }
+    ensures wins { IfOk result (λ win. WinsByAnswers compiler.old attack
+        (map answer_of (all_notes notes.now (points_of board.now))) compiler.new win.node) }
+    ensures moves { IfOk result (λ win. win.moves ≡ greatest (map (λ n. n.moves) (all_notes notes.now (points_of board.now))) + 1) }
     ensures writes { Writes compiler.old compiler.new 1 result }
 {
-    let answers = answers_of(alloc, notes)?;
-    let most = most_moves(notes);
+    let all = notes_for(alloc, board, notes)?;
+    let answers = answers_of(alloc, all.as_slice())?;
+    let most = most_moves(all.as_slice());
     let node = compiler.fork(attack, answers.as_slice())?;
     Ok(WrittenWin {
         node,
@@ -211,6 +216,35 @@ fn kids(notes: &[Note], link: Link) -> &[Note]
 {
     let first = link.first as usize;
     &notes[first..first + link.count as usize]
+}
+
+/// The note for each point of the board: the first of these whose move it is, or else the first of all, whose win wins after each
+/// reply without a node.
+fn notes_for(alloc: Global, board: &Board, notes: &[Note]) -> Result<Vec<Note>, AllocError>
+    requires some { 0 < length notes.now }
+    ensures notes { IfOk result (λ all. all.items ≡ all_notes notes.now (points_of board.now)) }
+{
+    let mut all = Vec::new(alloc);
+    for q in board.points() {
+        all.push(Note {
+            at: q,
+            ..noted_for(notes, q)
+        })?;
+    }
+    Ok(all)
+}
+
+/// The first of the notes whose move this is, or else the first of all.
+fn noted_for(notes: &[Note], q: Point) -> Note
+    requires some { 0 < length notes.now }
+    ensures noted { result ≡ noted_for_lem notes.now q }
+{
+    for note in notes {
+        if q.is(note.at) {
+            return *note;
+        }
+    }
+    notes[0]
 }
 
 /// The answers to the replies that lead to the nodes with these notes.

@@ -1,6 +1,7 @@
 //! The search: the most-proving leaf is settled or gets its children, until the root is settled or the budget is spent.
 //!
-//! An attacker's leaf that is not won at once gets a child for each move that is to be tried, a defender's one for each reply.
+//! An attacker's leaf that is not won at once gets a child for each move that is to be tried, a defender's one for each reply but
+//! for those that are met by the win after the first of them.
 //! Positions of the attacker are counted when they get a node, or a win is compiled for them, and those of the defender
 //! when they get a node; neither count passes the budget.
 #![tactic(auto)]
@@ -362,7 +363,7 @@ impl Search {
         Ok(())
     }
 
-    /// Gives a leaf of the other side a child for each reply, or settles it if one of them leaves no win.
+    /// Gives a leaf of the other side its children, or settles it if a reply leaves no win.
     fn defend<R: Rule, V: Seen<R>>(
         &mut self,
         alloc: Global,

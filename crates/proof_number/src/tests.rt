@@ -134,3 +134,12 @@ fn one_position_is_not_enough(rt: HostRuntime) -> Result<(), Fail> {
     assert!(rt; !settled);
     Ok(())
 }
+
+/// The board has 217 empty points, so replies that counted one by one would spend the budget on the first three.
+#[test]
+fn one_win_meets_most_replies(rt: HostRuntime) -> Result<(), Fail> {
+    let alloc = rt.alloc();
+    let (moves, _, _) = searched::<Freestyle>(&rt, alloc, &CROSS, &CORNERS, 3, 100)?;
+    assert_eq!(rt; moves, 3);
+    Ok(())
+}

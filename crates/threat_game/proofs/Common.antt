@@ -3,7 +3,7 @@ pub use Rattle.threat_game.specs.Attacks.{AreAttacks, IsAttempt, IsDoubleWin, Le
 unfoldable pub use Rattle.threat_game.specs.Attacks.{best_reply, is_last_move, is_settled_move, is_tried}
 pub use Rattle.threat_game.specs.FreeMoves.{EachGoesOn}
 pub use Rattle.threat_game.specs.NearDoubles.{FarAreNone, is_some_point, makes_two, some_makes_two}
-pub use Rattle.threat_game.specs.Replies.{AreChildren, AreReplies, EscapesBy, HasEscape, IsBeside, IsChild, IsJudged, IsJudgedDouble, IsJudgement, answer_nodes, counted_for, has_reply_at, has_reply_beside, is_open, moves_for, nodes_for, one_if, replies_at}
+pub use Rattle.threat_game.specs.Replies.{AreChildren, AreJudged, AreReplies, EscapesBy, HasEscape, IsBeside, IsChild, IsJudged, IsJudgedDouble, IsJudgement, answer_nodes, counted_for, has_reply_at, has_reply_beside, is_met, is_open, is_same_double, is_standing, kept_children, moves_for, nodes_for, one_if, put_first, replies_at, stands_for}
 pub use Rattle.threat_game.specs.ThreatGame.{LosesToThreats, is_safe_threat, move_at, nowhere}
 unfoldable pub use Rattle.threat_game.specs.ThreatGame.{is_threat_move, threat_tree}
 pub use Rattle.threat_game.specs.Wins.{IsThreatWin}

@@ -15,6 +15,7 @@ use Rattle.game_rules.proofs.Boards.{and_left, and_right, is_empty-on, other-oth
 use Rattle.game_rules.proofs.Positions.{GoesOn-on, mover-then, IsPosition-after}
 use Rattle.game_rules.proofs.Points.{points-found, filter-passes, is_same_point-itself, apart-is_same_point, is_same_point-same, taken_refused}
 use Rattle.game_rules.proofs.Places.{two_passing-apart}
+use Rattle.game_rules.proofs.ReadingOrder.{points-on}
 use Rattle.game_rules.proofs.Fives.{five-empty}
 use Rattle.game_rules.proofs.Games.{WinsUnder-more, WinsByFours-WinsByThreats, test-WinsUnder, each_reply}
 use Rattle.game_rules.proofs.PointLists.{still-found, any-filter, other_first}
@@ -152,6 +153,24 @@ module _ (rule : RuleKind) (b : Grid) (d : Double) (lawful : IsPosition rule b) 
         (points-found (after b d.at) (is_same_point q) q (GoesOn-on rule (after b d.at) q on) (is_same_point-itself q));
     on_board = (five-on d.first wins.both.first, (five-on d.second wins.both.second, replies-on (points_of (after b d.at))));
   }
+
+  -- it is one with an answer to each point of the board
+  pub double-everywhere : IsDoubleThreat rule b d.at d.first d.second (points_of b)
+  double-everywhere = record {
+    goes_on = wins.on;
+    lost = double-threat.lost;
+    listed = λ q on. points-found b (is_same_point q) q (GoesOn-on rule (after b d.at) q on) (is_same_point-itself q);
+    on_board = (five-on d.first wins.both.first, (five-on d.second wins.both.second, points-on b));
+  }
+
+-- two nodes at most answer them
+pub nodes-three : (first : Point) (replies : List Point) → double_nodes first replies ≤ 3
+nodes-three first replies = by_tests (list_any (λ q. is_same_point q first) replies) (list_any (λ q. not (is_same_point q first)) replies) where
+  by_tests : (r s : Bool) → 1 + cond r 1 0 + cond s 1 0 ≤ 3
+  by_tests true true = omega arith
+  by_tests true false = omega arith
+  by_tests false true = omega arith
+  by_tests false false = omega arith
 
 -- ---- five points in short, and threats
 

@@ -6,6 +6,8 @@ pub mod Common
 pub mod AttackLaws
 pub mod ReplyLaws
 pub mod TreeLaws
+-- one reply that stands for others
+pub mod Kept
 -- wins by a double point, their nodes, and new double points
 mod DoubleLaws
 -- moves where each goes on; where an escape meets each of them there is no win

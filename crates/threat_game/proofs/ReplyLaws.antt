@@ -1,11 +1,11 @@
 -- What a reply leaves of the five points and the double points of the attacker. The replies that go on, one after another, and what is
 -- judged of them.
-use Rattle.std.proofs.Common.{◌≡◌, true, false, ◌&&◌, not, sym, ap, subst, ◌∙◌, List, Some, None, All, ℕ, ◌+◌, ◌*◌, ◌≤◌, ◌<◌, Bool, cond, refl, arith, [], ◌∷◌, ◌++◌, map, length, append_assoc, length-append}
+use Rattle.std.proofs.Common.{◌≡◌, true, false, ◌&&◌, not, sym, ap, subst, ◌∙◌, List, Some, None, All, ℕ, ◌+◌, ◌*◌, ◌≤◌, ◌<◌, Bool, cond, refl, arith, [], ◌∷◌, ◌++◌, map, length, get_or, append_assoc}
 use Rattle.std.specs.List.{list_all, find, list_any, filter, sum_by, AllByRecursion}
 use Rattle.std.proofs.lemmas.Bool.{not-true}
-use Rattle.std.proofs.lemmas.List.Sums.{sum_by-append, sum_by-cons}
+use Rattle.std.proofs.lemmas.List.Filters.{length-filter_both}
 use Rattle.std.proofs.lemmas.List.Elements.{All-from_recursion}
-use Rattle.std.proofs.lemmas.List.{map-append}
+use Rattle.std.proofs.lemmas.List.{length-map, map-append}
 use Rattle.game_rules.specs.declared.RuleKind.{RuleKind}
 use Rattle.game_rules.specs.declared.Side.{Side}
 use Rattle.game_rules.specs.declared.Outcome.TheVariants.{GoesOn}
@@ -24,8 +24,9 @@ use Rattle.threat_game.specs.declared.replies.Child.{Child}
 use Rattle.threat_game.specs.declared.replies.Children.{Children}
 use Rattle.threat_game.specs.declared.replies.Judged.{Judged}
 use Rattle.threat_game.specs.declared.replies.Judged.TheVariants.{Five, Double as DoubleWins, Last, Open}
-use Rattle.threat_game.proofs.Common.{LeavesBoth, IsBeside, has_reply, IsJudged, IsChild, EscapesBy, HasEscape, AreChildren, moves_for, one_if, has_reply_at, has_reply_beside, counted_for, replies_at}
+use Rattle.threat_game.proofs.Common.{LeavesBoth, IsBeside, has_reply, IsJudged, IsChild, EscapesBy, HasEscape, AreChildren, AreJudged, kept_children, moves_for, one_if, has_reply_at, has_reply_beside, counted_for, replies_at}
 use Rattle.threat_game.proofs.TreeLaws.{children-few}
+use Rattle.threat_game.proofs.Kept.{kept-some, kept-sum}
 
 -- ---- stones in another order
 
@@ -97,66 +98,63 @@ counted-three rule b (DoubleWins d nodes) h =
 counted-three rule b (Last p) h = omega arith
 counted-three rule b Open h = omega arith
 
--- ---- the children so far
+-- ---- what is judged so far
 
--- these children are the replies before the points that are left
-pub record SoFar (rule : RuleKind) (moves : ℕ) (c : Grid) (all : List Child) (count : ℕ) (left : List Point) : Type 0 where
+-- this is judged of the replies before the points that are left
+pub record SoFar (rule : RuleKind) (moves : ℕ) (c : Grid) (all : List Child) (left : List Point) : Type 0 where
   pub points : map (λ child. child.at) all ++ filter (λ q. goes_on (outcome rule c q)) left ≡ replies_at rule c
   pub each : AllByRecursion (IsChild rule moves c) all
-  pub count_is : count ≡ sum_by (λ child. counted_for child.judged) all
-  pub short : length all + length left ≤ length (points_of c)
-  pub low : count ≤ 3 * length all
 
-module _ (rule : RuleKind) (moves : ℕ) (c : Grid) (all : List Child) (count : ℕ) (q : Point) (left : List Point) (so_far : SoFar rule moves c all count (q ∷ left)) where
-  pub one-more : (judged : Judged) (k : ℕ) → outcome rule c q ≡ GoesOn → IsChild rule moves c (record { at = q; judged = judged }) → k ≡ counted_for judged → k ≤ 3 → SoFar rule moves c (all ++ record { at = q; judged = judged } ∷ []) (count + k) left
-  one-more judged k on is counts three =
-      let child : Child = record { at = q; judged = judged } in
-      record {
-        points =
-            ap (λ (ps : List Point). ps ++ filter (λ q. goes_on (outcome rule c q)) left) (map-append (λ (child : Child). child.at) all (child ∷ []))
-            ∙ append_assoc (map (λ (child : Child). child.at) all) (q ∷ []) (filter (λ q. goes_on (outcome rule c q)) left)
-            ∙ sym (ap (λ o. map (λ (child : Child). child.at) all ++ cond (goes_on o) (q ∷ filter (λ q. goes_on (outcome rule c q)) left) (filter (λ q. goes_on (outcome rule c q)) left)) on)
-            ∙ so_far.points;
-        each = all_push (IsChild rule moves c) all child so_far.each is;
-        count_is =
-            let sum = sum_by-append (λ (child : Child). counted_for child.judged) all (child ∷ []) in
-            let one = sum_by-cons (λ (child : Child). counted_for child.judged) child [] in
-            omega (arith, sum, one, so_far.count_is, counts);
-        short = let short = so_far.short in let size = length-append all (child ∷ []) in omega (arith, short, size);
-        low = let low = so_far.low in let size = length-append all (child ∷ []) in omega (arith, low, size, three);
-      }
+-- where no point is left, it is judged of all replies
+pub all-judged : (rule : RuleKind) (moves : ℕ) (c : Grid) (all : List Child) → SoFar rule moves c all [] → AreJudged rule moves c all
+all-judged rule moves c all so_far = record {
+  points = sym (points-append_nil (map (λ (child : Child). child.at) all)) ∙ so_far.points;
+  each = All-from_recursion (IsChild rule moves c) all so_far.each;
+}
+
+-- one more reply
+pub step-more : (rule : RuleKind) (moves : ℕ) (c d : Grid) → d ≡ c → (all : List Child) (q : Point) (left before : List Point) → before ≡ q ∷ left → SoFar rule moves c all before
+    → (judged : Judged) → IsChild rule moves d (record { at = q; judged = judged }) → (more : List Child) → more ≡ all ++ record { at = q; judged = judged } ∷ [] → SoFar rule moves c more left
+step-more rule moves c d same all q left before is so_far judged child more added =
+    let this : Child = record { at = q; judged = judged } in
+    let here : IsChild rule moves c (record { at = q; judged = judged }) = subst (λ (e : Grid). IsChild rule moves e (record { at = q; judged = judged })) same child in
+    let old : SoFar rule moves c all (q ∷ left) = subst (λ (ps : List Point). SoFar rule moves c all ps) is so_far in
+    subst (λ (items : List Child). SoFar rule moves c items left) (sym added) (record {
+      points =
+          ap (λ (ps : List Point). ps ++ filter (λ q. goes_on (outcome rule c q)) left) (map-append (λ (child : Child). child.at) all (this ∷ []))
+          ∙ append_assoc (map (λ (child : Child). child.at) all) (q ∷ []) (filter (λ q. goes_on (outcome rule c q)) left)
+          ∙ sym (ap (λ o. map (λ (child : Child). child.at) all ++ cond (goes_on o) (q ∷ filter (λ q. goes_on (outcome rule c q)) left) (filter (λ q. goes_on (outcome rule c q)) left)) here.on)
+          ∙ old.points;
+      each = all_push (IsChild rule moves c) all this old.each here;
+    })
+
+-- few are judged, each of which counts at most 3
+pub judged-short : (rule : RuleKind) (moves : ℕ) (c : Grid) → IsBoard c → (judged : List Child) → AreJudged rule moves c judged → length judged ≤ 1024
+judged-short rule moves c ok judged are =
+    let size = length-map judged (λ (x : Child). x.at) in
+    let both = length-filter_both (λ (q : Point). goes_on (outcome rule c q)) (λ (q : Point). not (goes_on (outcome rule c q))) (λ q. refl) (points_of c) in
+    omega (arith, ap length are.points, size, both, points_few c ok)
+
+pub judged-three : (rule : RuleKind) (moves : ℕ) (c : Grid) (judged : List Child) → AreJudged rule moves c judged → All (λ child. counted_for child.judged ≤ 3) judged
+judged-three rule moves c judged are k x low = counted-three rule (after c (get_or judged k x).at) (get_or judged k x).judged (are.each k x low).judged
 
 some-listed : (g : Point → Bool) (ps : List Point) (items : List Child) → map (λ (child : Child). child.at) items ≡ filter g ps → list_any g ps ≡ true → 0 < length items
 some-listed g ps (x ∷ items) e h = omega arith
 some-listed g ps [] e h = absurd (none-listed g ps e h)
 
--- where no point is left, they are all children
-pub all-children : (rule : RuleKind) (moves : ℕ) (c : Grid) → IsPosition rule c → has_reply rule c ≡ true → (children : Children) → SoFar rule moves c children.all.items children.count [] → AreChildren rule moves c children
-all-children rule moves c lawful reply children so_far =
-    let points : map (λ (child : Child). child.at) children.all.items ≡ replies_at rule c = sym (points-append_nil (map (λ (child : Child). child.at) children.all.items)) ∙ so_far.points in
-    let each = All-from_recursion (IsChild rule moves c) children.all.items so_far.each in
+-- the children that are kept
+pub are-children : (rule : RuleKind) (moves : ℕ) (c : Grid) → IsPosition rule c → has_reply rule c ≡ true → (judged : List Child) → AreJudged rule moves c judged → (children : Children)
+    → children.all.items ≡ kept_children judged → children.count ≡ sum_by (λ child. counted_for child.judged) (kept_children judged) → AreChildren rule moves c children
+are-children rule moves c lawful reply judged are children kept counted =
+    let many = some-listed (λ q. goes_on (outcome rule c q)) (points_of c) judged are.points reply in
     record {
-      points = points;
-      some = some-listed (λ q. goes_on (outcome rule c q)) (points_of c) children.all.items points reply;
-      each = each;
-      count_is = so_far.count_is;
-      few = let sum = children-few rule moves c lawful children.all.items points each in let is = so_far.count_is in omega (arith, sum, is);
+      judged = judged;
+      are = are;
+      kept = kept;
+      some = subst (λ (items : List Child). 0 < length items) (sym kept) (kept-some judged many);
+      count_is = counted ∙ ap (sum_by (λ (child : Child). counted_for child.judged)) (sym kept);
+      few = let all = children-few rule moves c lawful judged are.points are.each in let low = kept-sum (λ (child : Child). counted_for child.judged) judged in omega (arith, all, low, counted);
     }
-
--- few are counted
-pub room-is : (rule : RuleKind) (moves : ℕ) (c : Grid) (all : List Child) (count : ℕ) (left : List Point) → IsBoard c → SoFar rule moves c all count left → count ≤ 3100
-room-is rule moves c all count left ok so_far =
-    omega (arith, so_far.short, so_far.low, points_few c ok)
-
--- one more child
-pub step-more : (rule : RuleKind) (moves : ℕ) (c d : Grid) → d ≡ c → (all : List Child) (count : ℕ) (q : Point) (left before : List Point) → before ≡ q ∷ left → SoFar rule moves c all count before
-    → (judged : Judged) → IsChild rule moves d (record { at = q; judged = judged }) → (more : List Child) (k : ℕ) → more ≡ all ++ record { at = q; judged = judged } ∷ [] → k ≡ count + counted_for judged → SoFar rule moves c more k left
-step-more rule moves c d same all count q left before is so_far judged child more k added counted =
-    let here : IsChild rule moves c (record { at = q; judged = judged }) = subst (λ (e : Grid). IsChild rule moves e (record { at = q; judged = judged })) same child in
-    let old : SoFar rule moves c all count (q ∷ left) = subst (λ (ps : List Point). SoFar rule moves c all count ps) is so_far in
-    let new : SoFar rule moves c (all ++ record { at = q; judged = judged } ∷ []) (count + counted_for judged) left =
-    one-more rule moves c all count q left old judged (counted_for judged) here.on here refl (counted-three rule (after c q) judged here.judged) in
-    subst (λ (n : ℕ). SoFar rule moves c more n left) (sym counted) (subst (λ (items : List Child). SoFar rule moves c items (count + counted_for judged) left) (sym added) new)
 
 -- ---- what is judged of one reply
 

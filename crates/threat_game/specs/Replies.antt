@@ -1,6 +1,6 @@
 -- The replies to a move of the attacker, and what is known at once of the positions after them.
-use Rattle.std.specs.Prelude.{◌≡◌, ℕ, ◌+◌, ◌<◌, ◌≤◌, Bool, false, true, ◌&&◌, not, if◌then◌else◌, List, map, length, All, Option, Some, None}
-use Rattle.std.specs.List.{list_any, filter, sum_by}
+use Rattle.std.specs.Prelude.{◌≡◌, ℕ, ◌+◌, ◌<◌, ◌≤◌, nat_eq, Bool, false, true, ◌&&◌, not, if◌then◌else◌, List, ◌∷◌, map, length, All, Option, Some, None}
+use Rattle.std.specs.List.{list_any, filter, find, sum_by}
 use Rattle.game_rules.specs.Grid.{Grid, points_of}
 use Rattle.game_rules.specs.Shapes.{five, is_same_point}
 use Rattle.game_rules.specs.Play.{outcome, mover, after, goes_on}
@@ -96,12 +96,52 @@ IsJudgement rule moves c q (Known judged) = IsChild rule moves c (record { at = 
 abbrev pub replies_at : RuleKind → Grid → List Point
 replies_at rule c = filter (λ q. goes_on (outcome rule c q)) (points_of c)
 
--- The children are the replies that go on at c, where the attacker has so many more moves. As many positions are counted as for
--- all of them, and no more than the game of threats has.
+-- what is judged of each reply that goes on at c, in reading order, where the attacker has so many more moves
+pub record AreJudged (rule : RuleKind) (moves : ℕ) (c : Grid) (judged : List Child) : Type 0 where
+  pub points : map (λ child. child.at) judged ≡ replies_at rule c
+  pub each : All (IsChild rule moves c) judged
+
+-- whether a win that is judged so may stand after other replies
+abbrev pub is_standing : Judged → Bool
+is_standing (Five w) = true
+is_standing (DoubleWins d nodes) = nat_eq nodes 2
+is_standing (Last p) = false
+is_standing Open = false
+
+-- whether two double points and their five points are the same
+abbrev pub is_same_double : Double → Double → Bool
+is_same_double d e = is_same_point d.at e.at && is_same_point d.first e.first && is_same_point d.second e.second
+
+-- whether the win that is compiled for what is judged first wins where the other is judged: it is by the same five point, or by the
+-- same double point
+abbrev pub stands_for : Judged → Judged → Bool
+stands_for (Five w) (Five v) = is_same_point w v
+stands_for (DoubleWins d nodes) (DoubleWins e more) = nat_eq nodes 2 && is_same_double d e
+stands_for _ _ = false
+
+-- whether the win after this reply, if there is one, wins where this is judged
+abbrev pub is_met : Option Child → Judged → Bool
+is_met None judged = false
+is_met (Some first) judged = stands_for first.judged judged
+
+-- the child before the others, if there is one
+abbrev pub put_first : Option Child → List Child → List Child
+put_first None children = children
+put_first (Some first) children = first ∷ children
+
+-- the first child whose win may stand after other replies, and each child after which it does not
+abbrev pub kept_children : List Child → List Child
+kept_children judged =
+    let first = find (λ child. is_standing child.judged) judged in
+    put_first first (filter (λ child. not (is_met first child.judged)) judged)
+
+-- The children are kept of what is judged of each reply that goes on at c, where the attacker has so many more moves. As many positions are
+-- counted as for all of them, and no more than the game of threats has.
 pub record AreChildren (rule : RuleKind) (moves : ℕ) (c : Grid) (children : Children) : Type 0 where
-  pub points : map (λ child. child.at) children.all.items ≡ replies_at rule c
+  pub judged : List Child
+  pub are : AreJudged rule moves c judged
+  pub kept : children.all.items ≡ kept_children judged
   pub some : 0 < length children.all.items
-  pub each : All (IsChild rule moves c) children.all.items
   pub count_is : children.count ≡ sum_by (λ child. counted_for child.judged) children.all.items
   pub few : children.count ≤ behind_replies rule (threat_tree rule moves) c
 

@@ -5,7 +5,7 @@
 #![tactic(auto)]
 
 ghost use Rattle.std.specs.Prelude.{◌≡◌, ◌≤◌, ◌+◌, ◌&&◌, not, ℕ, false, All, IfOk, IfSome, IsTrue};
-ghost use Rattle.game_rules.specs.Grid.{is_empty, points_of};
+ghost use Rattle.game_rules.specs.Grid.{Grid, IsBoard, is_empty, points_of};
 ghost use Rattle.game_rules.specs.Shapes.{is_same_point};
 ghost use Rattle.game_rules.specs.Play.{IsPosition, outcome as outcome_lem, mover, after, goes_on as goes_on_lem};
 ghost use Rattle.game_rules.specs.declared.Outcome.{Outcome};
@@ -17,6 +17,7 @@ ghost use Rattle.threat_game.specs.Wins.{IsThreatWin};
 
 use crate::attacks::{each_goes_on, goes_on, goes_on_where};
 use foul_judge::Seen;
+use game_rules::RuleKind;
 use row_shapes::Rule;
 use std::alloc::{AllocError, Global};
 use stone_board::{Board, Point, Side};
@@ -169,6 +170,40 @@ pub fn compile_double<R: Rule, V: Seen<R>>(
         double.second,
         replies.as_slice(),
     )
+}
+
+/// Compiles the win by a double point with an answer to each point of the board, so that its node wins wherever the double point
+/// wins on a board of this size.
+pub fn compile_standing(
+    alloc: Global,
+    board: &Board,
+    double: Double,
+    compiler: &mut Compiler,
+) -> Result<WrittenWin, SearchError>
+    ensures win { IfOk result (λ win. (rule : RuleKind) (b : Grid) (moves : ℕ) → IsPosition rule b → points_of b ≡ points_of board.now
+        → IsDoubleWin rule b double → 2 ≤ moves → IsThreatWin rule moves b compiler.new win) }
+    ensures writes { Writes compiler.old compiler.new 3 result }
+{
+    let points = all_points(alloc, board)?;
+    compiler.double(
+        alloc,
+        double.at,
+        double.first,
+        double.second,
+        points.as_slice(),
+    )
+}
+
+/// The points of the board, in reading order.
+fn all_points(alloc: Global, board: &Board) -> Result<Vec<Point>, AllocError>
+    ensures points { IfOk result (λ points. points.items ≡ points_of board.now) }
+    ensures board { IsBoard board.now }
+{
+    let mut points = Vec::new(alloc);
+    for q in board.points() {
+        points.push(q)?;
+    }
+    Ok(points)
 }
 
 /// All replies to the double point that go on.

@@ -3,10 +3,13 @@
 //! All replies that go on are taken. Most are settled at once: one that leaves the attacker a five point, or a double point
 //! while the other side has no five point. The five points and the double points before the reply tell of those after it. Where
 //! the attacker has one or two moves left it is seen at once whether a reply escapes.
+//!
+//! A win after one reply mostly wins after others too, since it plays on the same points. So one reply stands for all of them,
+//! and only the others beside it are children.
 #![tactic(auto)]
 
 ghost use Rattle.std.specs.Prelude.{◌≡◌, ◌<◌, ◌≤◌, ◌+◌, ℕ, true, false, All, length, IfOk, IfSome, IfNone, IsTrue, is_none, IsErrOf, OnOk, [], ◌∷◌, ◌++◌, not};
-ghost use Rattle.std.specs.List.{find};
+ghost use Rattle.std.specs.List.{find, sum_by};
 ghost use Rattle.game_rules.specs.Grid.{Grid};
 ghost use Rattle.game_rules.specs.Shapes.{is_same_point};
 ghost use Rattle.game_rules.specs.Play.{IsPosition, outcome as outcome_lem, mover, other, after};
@@ -15,11 +18,11 @@ ghost use Rattle.strategy_graph.specs.declared.TheConstants.{MAX_NODES};
 ghost use Rattle.strategy_compiler.specs.Growth.{GrowsBy};
 ghost use Rattle.threat_game.specs.FreeMoves.{EachGoesOn};
 ghost use Rattle.threat_game.specs.Attacks.{has_reply, is_last_move, LeavesBoth};
-ghost use Rattle.threat_game.specs.Replies.{AreReplies, IsJudged, IsJudgement, IsBeside, is_beside as is_beside_lem, moves_for, is_open as is_open_lem, counted_for, nodes_for};
+ghost use Rattle.threat_game.specs.Replies.{AreReplies, AreJudged, HasEscape, IsChild, IsJudged, IsJudgement, IsBeside, is_beside as is_beside_lem, moves_for, is_open as is_open_lem, is_standing as is_standing_lem, is_same_double as is_same_double_lem, stands_for as stands_for_lem, is_met as is_met_lem, put_first, kept_children, counted_for, nodes_for};
 ghost use Rattle.threat_game.specs.Wins.{IsThreatWin};
 
 use crate::attacks::{each_goes_on, goes_on_where};
-use crate::doubles::{Double, answers_of, compile_double, first_doubles};
+use crate::doubles::{Double, answers_of, compile_double, compile_standing, first_doubles};
 use crate::escapes::fails_after;
 use crate::last_moves::last_move;
 use crate::written::{compile_five, compile_last};
@@ -60,7 +63,8 @@ pub struct Child {
     pub judged: Judged,
 }
 
-/// The replies to an attack, all of them that go on, and how many positions of the attacker are counted for them.
+/// The replies to an attack that get a node, and how many positions of the attacker are counted for them. Where a win after the
+/// first of them wins after other replies too, these get none.
 #[derive(Drop)]
 pub struct Children {
     pub all: Vec<Child>,
@@ -101,7 +105,96 @@ pub fn judge_replies<R: Rule, V: Seen<R>>(
     let attacker = view.side().other();
     let fives = view.five_points(alloc, attacker)?;
     let doubles = doubles_for::<R>(alloc, board, attacker, fives.len())?;
-    each_reply::<R, V>(alloc, view, board, moves, &fives, doubles.as_slice())
+    match each_reply::<R, V>(alloc, view, board, moves, &fives, doubles.as_slice())? {
+        None => Ok(None),
+        Some(judged) => Ok(Some(children_of(alloc, judged.as_slice())?)),
+    }
+}
+
+/// The children of a node after whose replies this is judged: the first whose win may stand after others, and each after which
+/// it does not.
+fn children_of(alloc: Global, judged: &[Child]) -> Result<Children, AllocError>
+    requires each { All (λ child. counted_for child.judged ≤ 3) judged.now }
+    requires short { length judged.now ≤ 1024 }
+    ensures all { IfOk result (λ children. children.all.items ≡ kept_children judged.now) }
+    ensures count { IfOk result (λ children. children.count ≡ sum_by (λ child. counted_for child.judged) (kept_children judged.now)) }
+{
+    let first = first_standing(judged);
+    let mut children = begun(alloc, first)?;
+    for child in judged {
+        if !is_met(first, child.judged) {
+            children.add(child.at, child.judged)?;
+        }
+    }
+    Ok(children)
+}
+
+/// This child alone, or none.
+fn begun(alloc: Global, first: Option<Child>) -> Result<Children, AllocError>
+    requires few { IfSome first (λ child. counted_for child.judged ≤ 3) }
+    ensures all { IfOk result (λ children. children.all.items ≡ put_first first []) }
+    ensures count { IfOk result (λ children. children.count ≡ sum_by (λ child. counted_for child.judged) (put_first first [])) }
+    ensures few { IfOk result (λ children. children.count ≤ 3) }
+{
+    let mut children = Children {
+        all: Vec::new(alloc),
+        count: 0,
+    };
+    if let Some(child) = first {
+        children.add(child.at, child.judged)?;
+    }
+    Ok(children)
+}
+
+/// The first child whose win may stand after other replies.
+fn first_standing(judged: &[Child]) -> Option<Child>
+    ensures first { result ≡ find (λ child. is_standing_lem child.judged) judged.now }
+{
+    for child in judged {
+        if is_standing(child.judged) {
+            return Some(*child);
+        }
+    }
+    None
+}
+
+/// Whether a win that is judged so may stand after other replies.
+fn is_standing(judged: Judged) -> bool
+    ensures standing { result ≡ is_standing_lem judged }
+{
+    match judged {
+        Judged::Five(_) => true,
+        Judged::Double(_, nodes) => nodes == 2,
+        Judged::Last(_) | Judged::Open => false,
+    }
+}
+
+/// Whether the win after this reply, if there is one, wins where this is judged.
+fn is_met(first: Option<Child>, judged: Judged) -> bool
+    ensures met { result ≡ is_met_lem first judged }
+{
+    match first {
+        Some(child) => stands_for(child.judged, judged),
+        None => false,
+    }
+}
+
+/// Whether the win that is compiled for what is judged first wins where the other is judged.
+fn stands_for(first: Judged, judged: Judged) -> bool
+    ensures stands { result ≡ stands_for_lem first judged }
+{
+    match (first, judged) {
+        (Judged::Five(w), Judged::Five(v)) => w.is(v),
+        (Judged::Double(d, nodes), Judged::Double(e, _)) => nodes == 2 && is_same_double(d, e),
+        _ => false,
+    }
+}
+
+/// Whether the two double points and their five points are the same.
+fn is_same_double(d: Double, e: Double) -> bool
+    ensures same { result ≡ is_same_double_lem d e }
+{
+    d.at.is(e.at) && d.first.is(e.first) && d.second.is(e.second)
 }
 
 /// Double points of the side, if it has no five point. It has so many.
@@ -121,7 +214,7 @@ fn doubles_for<R: Rule>(
     Ok(Vec::new(alloc))
 }
 
-/// The children, where the attacker has these five points and these double points before the reply.
+/// What is judged of each reply, where the attacker has these five points and these double points before it.
 fn each_reply<R: Rule, V: Seen<R>>(
     alloc: Global,
     view: &mut V,
@@ -129,7 +222,7 @@ fn each_reply<R: Rule, V: Seen<R>>(
     moves: u32,
     fives: &Points,
     doubles: &[Double],
-) -> Result<Option<Children>, AllocError>
+) -> Result<Option<Vec<Child>>, AllocError>
     requires lawful { IsPosition R.KIND (V.position view.old) }
     requires some_moves { 1 ≤ moves }
     requires no_five { has_five_lem R.KIND (V.position view.old) (mover (V.position view.old)) ≡ false }
@@ -137,23 +230,21 @@ fn each_reply<R: Rule, V: Seen<R>>(
     requires copy { board.old ≡ V.position view.old }
     requires fives { fives.now ≡ five_points_lem R.KIND (V.position view.old) (other (mover (V.position view.old))) }
     requires doubles { All (LeavesBoth R.KIND (V.position view.old) (other (mover (V.position view.old)))) doubles.now }
-    ensures replies { IfOk result (λ found. AreReplies R.KIND moves (V.position view.old) found) }
+    ensures escape { IfOk result (λ found. IfNone found (HasEscape R.KIND moves (V.position view.old))) }
+    ensures judged { IfOk result (λ found. IfSome found (λ all. AreJudged R.KIND moves (V.position view.old) all.items)) }
     ensures same { V.position view.new ≡ V.position view.old }
     ensures same_board { board.new ≡ board.old }
 {
-    let mut children = Children {
-        all: Vec::new(alloc),
-        count: 0,
-    };
+    let mut all = Vec::new(alloc);
     let free = each_goes_on::<R, V>(view);
     for q in view.board().points() {
         match judge::<R, V>(alloc, view, board, free, q, moves, fives, doubles)? {
             Judgement::NoReply => {}
             Judgement::Escape => return Ok(None),
-            Judgement::Known(judged) => children.add(q, judged)?,
+            Judgement::Known(judged) => all.push(Child { at: q, judged })?,
         }
     }
-    Ok(Some(children))
+    Ok(Some(all))
 }
 
 /// How many positions of the attacker are counted for one that is judged so.
@@ -328,6 +419,9 @@ pub fn settle_child<R: Rule, V: Seen<R>>(
     requires judged { IsJudged R.KIND (after (V.position view.old) child.at) child.judged }
     ensures win { IfOk result (λ found. IfSome found (λ win. (moves : ℕ) → moves_for child.judged ≤ moves
         → IsThreatWin R.KIND moves (after (V.position view.old) child.at) compiler.new win)) }
+    ensures stands { IfOk result (λ found. IfSome found (λ win. (moves : ℕ) (met : Child)
+        → stands_for_lem child.judged met.judged ≡ true → IsChild R.KIND moves (V.position view.old) met
+        → IsThreatWin R.KIND moves (after (V.position view.old) met.at) compiler.new win)) }
     ensures open { IfOk result (λ found. is_none found ≡ is_open_lem child.judged) }
     ensures grows { GrowsBy compiler.old compiler.new (nodes_for child.judged) }
     ensures full { IsErrOf result SearchError.Full → MAX_NODES < length compiler.old + nodes_for child.judged }
@@ -339,7 +433,11 @@ pub fn settle_child<R: Rule, V: Seen<R>>(
         Judged::Open => Ok(None),
         Judged::Five(five) => Ok(Some(compile_five(compiler, five)?)),
         Judged::Last(attack) => Ok(Some(compile_last(compiler, attack)?)),
-        Judged::Double(double, _) => {
+        Judged::Double(double, nodes) => {
+            if nodes == 2 {
+                let win = compile_standing(alloc, view.board(), double, compiler)?;
+                return Ok(Some(win));
+            }
             view.play(child.at);
             let found = compile_double::<R, V>(alloc, view, double, compiler);
             view.undo(child.at);

@@ -3,12 +3,8 @@ use Rattle.std.proofs.lemmas.Grind.{common_steps}
 use Rattle.game_rules.proofs.Common.{Grid, IsPosition}
 use Rattle.game_rules.specs.declared.Point.{Point}
 use Rattle.threat_game.proofs.Common.{EachGoesOn, IsJudgement}
-use Rattle.threat_game.proofs.ReplyLaws.{SoFar, all-children, room-is, step-more}
+use Rattle.threat_game.proofs.ReplyLaws.{SoFar, all-judged, step-more}
 use Rattle.threat_game.proofs.replies.each_reply.Goals as goal
-
-pub add-requires-clause-room : goal.add-requires-clause-room
-add-requires-clause-room g c =
-    room-is g.R.Rule.KIND c.args.moves (g.V.Seen.position c.args.view.now) c.loop-q.children.all.items c.loop-q.children.count c.loop-q.q-iterator c.requires.lawful.board c.loop-q.invariant.2
 
 pub loop-q-preserved : goal.loop-q-preserved
 loop-q-preserved g c =
@@ -16,16 +12,16 @@ loop-q-preserved g c =
     let next : c.loop-q.q-iterator ≡ c.in-Some.q ∷ c.next.new.self = first_of (search rules, grind (arith, common_steps)) in (
       c.judge.ensures.same ∙ c.loop-q.invariant.0,
       c.judge.ensures.same_board ∙ c.loop-q.invariant.1,
-      step-more g.R.Rule.KIND c.args.moves b (g.V.Seen.position c.loop-q.view) c.loop-q.invariant.0 c.loop-q.children.all.items c.loop-q.children.count c.in-Some.q c.next.new.self c.loop-q.q-iterator next c.loop-q.invariant.2
-          c.in-Known.judged (subst (IsJudgement g.R.Rule.KIND c.args.moves (g.V.Seen.position c.loop-q.view) c.in-Some.q) c.in-Known.is c.in_ok-judge.ensures.judgement) c.add.new.self.all.items c.add.new.self.count c.in_ok-add-in-Known.ensures.all c.in_ok-add-in-Known.ensures.count,
+      step-more g.R.Rule.KIND c.args.moves b (g.V.Seen.position c.loop-q.view) c.loop-q.invariant.0 c.loop-q.all.items c.in-Some.q c.next.new.self c.loop-q.q-iterator next c.loop-q.invariant.2
+          c.in-Known.judged (subst (IsJudgement g.R.Rule.KIND c.args.moves (g.V.Seen.position c.loop-q.view) c.in-Some.q) c.in-Known.is c.in_ok-judge.ensures.judgement) c.push.new.self.items c.in_ok-push-in-Known.ensures.items,
     )
 
-pub returns-clause-replies : goal.returns-clause-replies
-returns-clause-replies g c =
+pub returns-clause-judged : goal.returns-clause-judged
+returns-clause-judged g c =
     let b : Grid = g.V.Seen.position c.args.view.now in
     let done : c.loop-q.q-iterator ≡ [] = first_of (search rules, grind (arith, common_steps)) in
-    all-children g.R.Rule.KIND c.args.moves b c.requires.lawful c.requires.reply c.loop-q.children
-    (subst (λ (ps : List Point). SoFar g.R.Rule.KIND c.args.moves b c.loop-q.children.all.items c.loop-q.children.count ps) done c.loop-q.invariant.2)
+    all-judged g.R.Rule.KIND c.args.moves b c.loop-q.all.items
+    (subst (λ (ps : List Point). SoFar g.R.Rule.KIND c.args.moves b c.loop-q.all.items ps) done c.loop-q.invariant.2)
 
 pub judge-requires-clause-lawful : goal.judge-requires-clause-lawful
 judge-requires-clause-lawful g c = subst (λ (b : Grid). IsPosition g.R.Rule.KIND b) (sym c.loop-q.invariant.0) c.requires.lawful

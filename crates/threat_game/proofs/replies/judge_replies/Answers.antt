@@ -1,4 +1,7 @@
-use Rattle.std.proofs.Common.{◌≡◌, ap, sym, subst, ◌∙◌, length, List, All}
+use Rattle.std.proofs.Common.{◌≡◌, ap, sym, subst, ◌∙◌, arith, length, List, All, IfSome, sum_by}
+use Rattle.threat_game.specs.declared.replies.Child.{Child}
+use Rattle.threat_game.proofs.Common.{AreJudged, counted_for, kept_children}
+use Rattle.threat_game.proofs.ReplyLaws.{are-children, judged-short}
 use Rattle.game_rules.proofs.Common.{Grid, five_points, mover, other}
 use Rattle.game_rules.specs.declared.Side.{Side}
 use Rattle.threat_game.specs.declared.doubles.Double.{Double}
@@ -21,3 +24,18 @@ each_reply-requires-clause-doubles g c =
     subst (λ (ds : List Double). All (LeavesBoth g.R.Rule.KIND b (other (mover b))) ds) (sym c.as_slice.ensures.value)
     (subst (λ (s : Side). All (LeavesBoth g.R.Rule.KIND b s) c.in_ok-doubles.doubles.items) same
     (subst (λ (w : Grid). All (LeavesBoth g.R.Rule.KIND w c.other-attacker.result) c.in_ok-doubles.doubles.items) c.requires.copy c.in_ok-doubles.ensures.each))
+
+pub children_of-requires-clause-short : goal.children_of-requires-clause-short
+children_of-requires-clause-short g c =
+    let b : Grid = g.V.Seen.position c.args.view.now in
+    let are : AreJudged g.R.Rule.KIND c.args.moves b c.in-Some.judged.items = subst (λ o. IfSome o (λ all. AreJudged g.R.Rule.KIND c.args.moves b all.items)) c.in-Some.is c.in_ok-each_reply.ensures.judged in
+    let short = judged-short g.R.Rule.KIND c.args.moves b c.side.ensures.lawful.board c.in-Some.judged.items are in
+    omega (arith, short, ap length c.as_slice-in-Some.ensures.value)
+
+pub returns-clause-replies : goal.returns-clause-replies
+returns-clause-replies g c =
+    let b : Grid = g.V.Seen.position c.args.view.now in
+    let are : AreJudged g.R.Rule.KIND c.args.moves b c.in-Some.judged.items = subst (λ o. IfSome o (λ all. AreJudged g.R.Rule.KIND c.args.moves b all.items)) c.in-Some.is c.in_ok-each_reply.ensures.judged in
+    are-children g.R.Rule.KIND c.args.moves b c.side.ensures.lawful c.requires.reply c.in-Some.judged.items are c.in_ok-children_of-in-Some.field-0
+    (c.in_ok-children_of-in-Some.ensures.all ∙ ap kept_children c.as_slice-in-Some.ensures.value)
+    (c.in_ok-children_of-in-Some.ensures.count ∙ ap (λ (xs : List Child). sum_by (λ child. counted_for child.judged) (kept_children xs)) c.as_slice-in-Some.ensures.value)

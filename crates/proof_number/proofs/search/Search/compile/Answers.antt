@@ -4,7 +4,7 @@ use Rattle.proof_tree.specs.Trees.{link_at}
 use Rattle.proof_tree.specs.declared.Link.{Link}
 use Rattle.proof_number.specs.declared.notes.Note.{Note}
 use Rattle.proof_number.specs.Notes.{no_note, note_at}
-use Rattle.proof_number.proofs.Compiling.{compile-below, compile-few, compile-fits, compile-full, compile-here, compile-inside, compile-keeps, compile-kept, compile-noted, compile-rising, compile-searches, compile-some, compile-won}
+use Rattle.proof_number.proofs.Compiling.{compile-below, compile-few, compile-fits, compile-full, compile-here, compile-inside, compile-keeps, compile-kept, compile-kids, compile-noted, compile-searches, compile-some, compile-won}
 use Rattle.proof_number.proofs.Recording.{keeps-all}
 use Rattle.proof_number.proofs.search.Search.compile.Goals as goal
 
@@ -30,12 +30,12 @@ kids-notes-requires g c =
     let all = ap length c.as_slice.ensures.value in
     record { fits = omega (arith, fits, first, count, all) }
 
-pub compile_answers-requires-clause-rising : goal.compile_answers-requires-clause-rising
-compile_answers-requires-clause-rising g c =
+pub compile_answers-requires-clause-some : goal.compile_answers-requires-clause-some
+compile_answers-requires-clause-some g c =
     let items : List Note = c.args.self.now.notes.items in
     let are : c.kids-notes.result.now ≡ take (link_at c.args.tree.now.links c.first_proved-proved.result).count (drop (link_at c.args.tree.now.links c.first_proved-proved.result).first items) =
     c.kids-notes.ensures.kids ∙ ap (λ (ns : List Note). take c.link-link.result.count (drop c.link-link.result.first ns)) c.as_slice.ensures.value ∙ ap (λ (l : Link). take l.count (drop l.first items)) c.link-link.ensures.link in
-    compile-rising g.R.Rule.KIND c.args.self.now c.args.tree.now c.args.compiler.now c.args.node c.requires.searching c.requires.in_tree c.requires.attack c.requires.proved c.requires.unwritten c.first_proved-proved.result c.first_proved-proved.ensures.child c.first_proved-proved.ensures.proved c.kids-notes.result.now are
+    compile-kids g.R.Rule.KIND c.args.self.now c.args.tree.now c.args.compiler.now c.args.node c.requires.searching c.requires.in_tree c.requires.attack c.requires.proved c.requires.unwritten c.first_proved-proved.result c.first_proved-proved.ensures.child c.first_proved-proved.ensures.proved c.kids-notes.result.now are
 
 pub compile_answers-requires-clause-below : goal.compile_answers-requires-clause-below
 compile_answers-requires-clause-below g c =

@@ -11,7 +11,7 @@ use Rattle.strategy_compiler.specs.Growth.{GrowsBy}
 use Rattle.proof_number.specs.Notes.{no_note, note_at}
 use Rattle.threat_game.specs.Replies.{AreChildren, AreReplies, HasEscape, nodes_for}
 use Rattle.proof_number.proofs.Steps.{leaf-board, leaf-is, leaf-noted, root-open, settled-at, attacked-few}
-use Rattle.proof_number.proofs.Defending.{all-fresh, defend-moves, defend-no_five, defend-reply, escape-grows, few-new, replies-few, replies-full, replies-grow, replies-spent, settled-same, some-new}
+use Rattle.proof_number.proofs.Defending.{all-fresh, defend-moves, defend-no_five, defend-reply, each-is, each-same, escape-grows, few-new, replies-few, replies-full, replies-grow, replies-spent, settled-same, some-new}
 use Rattle.proof_number.proofs.Expanding.{budget-few, short-there, sums-there}
 use Rattle.proof_number.proofs.search.Search.defend.Goals as goal
 
@@ -162,3 +162,16 @@ returns-in_ok-expand-in-Some-clause-step g c =
     c.expand.new.tree c.in_ok-expand-in-Some.ensures.tree (record c.expand.new.self { attacked = count }) c.in_ok-expand-in-Some.ensures.notes
     (ap (λ (s : Search). record s { attacked = count }) c.expand.ensures.rest ∙ ap (λ (b : Grid). record c.args.self.now { board = b; notes = c.expand.new.self.notes; attacked = count }) (sym (ap (λ (s : Search). s.board) c.expand.ensures.rest)))
     (ap (λ (s : Search). s.board) c.expand.ensures.rest ∙ c.judge_replies.ensures.same_board) (omega (arith, within))
+
+pub settle_children-requires : goal.settle_children-requires
+settle_children-requires g c =
+    let noted = leaf-noted g.R.Rule.KIND c.args.self.now c.args.tree.now c.args.compiler.now c.args.leaf (g.V.Seen.position c.args.view.now) c.requires.at_leaf in
+    let note : c.index.result.now ≡ note_at c.args.self.now.notes.items c.args.leaf = c.index.ensures ∙ get_or_default c.args.self.now.notes.items c.args.leaf c.index.result.now no_note noted in
+    let left_is = c.from.ensures ∙ ap (λ (n : Note). n.left) note in
+    let answers : AreReplies g.R.Rule.KIND c.from.result (g.V.Seen.position c.args.view.now) (Some c.in-Some.children) = subst (AreReplies g.R.Rule.KIND c.from.result (g.V.Seen.position c.args.view.now)) c.in-Some.is c.in_ok-judge_replies.ensures.replies in
+    let are : AreChildren g.R.Rule.KIND (note_at c.args.self.now.notes.items c.args.leaf).left (g.V.Seen.position c.args.view.now) c.in-Some.children = subst (λ (n : ℕ). AreChildren g.R.Rule.KIND n (g.V.Seen.position c.args.view.now) c.in-Some.children) left_is answers in
+    record {
+      each = each-same g.R.Rule.KIND c.index.result.now.left (note_at c.args.self.now.notes.items c.args.leaf).left (g.V.Seen.position c.judge_replies.new.view) (g.V.Seen.position c.args.view.now)
+          c.as_slice.result.now c.in-Some.children.all.items (ap (λ (n : Note). n.left) note) c.judge_replies.ensures.same c.as_slice.ensures.value
+          (each-is g.R.Rule.KIND c.args.self.now c.args.tree.now c.args.compiler.now c.args.leaf (g.V.Seen.position c.args.view.now) c.requires.at_leaf c.requires.defend c.in-Some.children are);
+    }

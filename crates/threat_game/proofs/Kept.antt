@@ -1,0 +1,243 @@
+-- One reply stands for others: what is kept of all that is judged, and the win that is compiled for the one.
+use Rattle.std.proofs.Common.{◌≡◌, ℕ, ◌+◌, ◌≤◌, ◌<◌, Bool, true, false, cond, ◌&&◌, ◌||◌, not, refl, sym, ap, subst, ◌∙◌, arith, List, [], ◌∷◌, ◌++◌, map, length, get_or, All, Option, Some, None, IfSome, nat_eq, take}
+use Rattle.std.specs.List.{find, filter, list_any, sum_by, AllByRecursion}
+use Rattle.std.proofs.lemmas.Bool.{and_parts, eqb-true}
+use Rattle.std.proofs.lemmas.List.Elements.{All-filter, All-from_recursion, recursion_from_All, filter_more}
+use Rattle.std.proofs.lemmas.List.Filters.{sum_by-filter_both}
+use Rattle.std.proofs.lemmas.List.Sums.{sum_by-append, sum_by-cons}
+use Rattle.game_rules.specs.declared.RuleKind.{RuleKind}
+use Rattle.game_rules.specs.declared.Outcome.TheVariants.{GoesOn}
+use Rattle.game_rules.specs.declared.Point.{Point}
+use Rattle.game_rules.proofs.Common.{Grid, points_of, is_same_point, IsPosition, outcome, mover, after, goes_on, five, behind_replies}
+use Rattle.game_rules.proofs.Positions.{GoesOn-on, IsPosition-after}
+use Rattle.game_rules.proofs.Points.{points-found, is_same_point-itself, is_same_point-same}
+use Rattle.game_rules.proofs.PointLists.{still-found}
+use Rattle.strategy_graph.specs.declared.Node.{Node}
+use Rattle.strategy_compiler.specs.declared.wins.WrittenWin.{WrittenWin}
+use Rattle.threat_game.specs.declared.doubles.Double.{Double}
+use Rattle.threat_game.specs.declared.replies.Child.{Child}
+use Rattle.threat_game.specs.declared.replies.Children.{Children}
+use Rattle.threat_game.specs.declared.replies.Judged.{Judged}
+use Rattle.threat_game.specs.declared.replies.Judged.TheVariants.{Five, Double as DoubleWins, Last, Open}
+use Rattle.threat_game.proofs.Common.{IsDoubleWin, IsJudged, IsChild, IsThreatWin, AreJudged, AreChildren, counted_for, moves_for, replies_at, is_standing, is_same_double, stands_for, is_met, put_first, kept_children, has_reply, threat_tree}
+
+-- ---- what is judged first stands for itself
+
+pub double-itself : (d : Double) → is_same_double d d ≡ true
+double-itself d = rw (is_same_point-itself d.at, is_same_point-itself d.first, is_same_point-itself d.second) refl
+
+pub stands-itself : (judged : Judged) → is_standing judged ≡ true → stands_for judged judged ≡ true
+stands-itself (Five w) h = is_same_point-itself w
+stands-itself (DoubleWins d nodes) h = rw (h, double-itself d) refl
+stands-itself (Last p) h = cc
+stands-itself Open h = cc
+
+pub stands-standing : (first judged : Judged) → stands_for first judged ≡ true → is_standing first ≡ true
+stands-standing (Five w) judged h = refl
+stands-standing (DoubleWins d nodes) (DoubleWins e more) h = (and_parts (nat_eq nodes 2) (is_same_double d e) h).0
+stands-standing (DoubleWins d nodes) (Five v) h = cc
+stands-standing (DoubleWins d nodes) (Last p) h = cc
+stands-standing (DoubleWins d nodes) Open h = cc
+stands-standing (Last p) judged h = cc
+stands-standing Open judged h = cc
+
+-- ---- sums over what is kept
+
+abbrev stands : Child → Bool
+stands child = is_standing child.judged
+
+first-within : (f : Child → ℕ) (s : Child) (xs : List Child) → find stands xs ≡ Some s → f s ≤ sum_by f (filter (λ x. stands_for s.judged x.judged) xs)
+first-within f s [] e = cc
+first-within f s (x ∷ xs) e = by_test (stands x) refl e (first-within f s xs) where
+  met : Child → Bool
+  met y = stands_for s.judged y.judged
+
+  by_met : (r : Bool) → met x ≡ r → f s ≤ sum_by f (filter met xs) → f s ≤ sum_by f (cond r (x ∷ filter met xs) (filter met xs))
+  by_met true h low = omega (arith, low, sum_by-cons f x (filter met xs))
+  by_met false h low = low
+
+  by_test : (r : Bool) → stands x ≡ r → cond r (Some x) (find stands xs) ≡ Some s → (find stands xs ≡ Some s → f s ≤ sum_by f (filter met xs))
+      → f s ≤ sum_by f (cond (met x) (x ∷ filter met xs) (filter met xs))
+  by_test true h found later =
+      let same : x ≡ s = cc in
+      let own : met x ≡ true = subst (λ (y : Child). stands_for y.judged x.judged ≡ true) same (stands-itself x.judged h) in
+      let here : f x ≡ f s = ap f same in
+      rw own (omega (arith, here, sum_by-cons f x (filter met xs)))
+  by_test false h found later = by_met (met x) refl (later found)
+
+-- no more than over all
+pub kept-sum : (f : Child → ℕ) (xs : List Child) → sum_by f (kept_children xs) ≤ sum_by f xs
+kept-sum f xs = by_first (find stands xs) refl where
+  by_first : (first : Option Child) → find stands xs ≡ first → sum_by f (put_first first (filter (λ x. not (is_met first x.judged)) xs)) ≤ sum_by f xs
+  by_first None e = omega (arith, sum_by-filter_both (λ (x : Child). not false) (λ x. false) (λ x. refl) f xs)
+  by_first (Some s) e =
+      let both = sum_by-filter_both (λ (x : Child). not (stands_for s.judged x.judged)) (λ x. stands_for s.judged x.judged) (λ x. twice (stands_for s.judged x.judged)) f xs in
+      omega (arith, both, first-within f s xs e, sum_by-cons f s (filter (λ (x : Child). not (stands_for s.judged x.judged)) xs)) where
+        twice : (r : Bool) → r ≡ not (not r)
+        twice true = refl
+        twice false = refl
+
+-- ---- what holds of all holds of what is kept
+
+found-all : (P : Child → Type 0) (s : Child) (xs : List Child) → AllByRecursion P xs → find stands xs ≡ Some s → P s
+found-all P s [] all e = cc
+found-all P s (x ∷ xs) all e = by_test (stands x) e (found-all P s xs all.1) where
+  by_test : (r : Bool) → cond r (Some x) (find stands xs) ≡ Some s → (find stands xs ≡ Some s → P s) → P s
+  by_test true found later = let same : x ≡ s = cc in subst P same all.0
+  by_test false found later = later found
+
+pub kept-each : (P : Child → Type 0) (xs : List Child) → All P xs → All P (kept_children xs)
+kept-each P xs all = by_first (find stands xs) refl where
+  by_first : (first : Option Child) → find stands xs ≡ first → All P (put_first first (filter (λ x. not (is_met first x.judged)) xs))
+  by_first None e = All-filter (λ x. not false) P xs all
+  by_first (Some s) e =
+      All-from_recursion P (s ∷ filter (λ x. not (stands_for s.judged x.judged)) xs)
+      (found-all P s xs (recursion_from_All P xs all) e, recursion_from_All P _ (All-filter (λ x. not (stands_for s.judged x.judged)) P xs all))
+
+filter-all : (xs : List Child) → filter (λ x. not false) xs ≡ xs
+filter-all [] = refl
+filter-all (x ∷ xs) = ap (λ (ys : List Child). x ∷ ys) (filter-all xs)
+
+pub kept-some : (xs : List Child) → 0 < length xs → 0 < length (kept_children xs)
+kept-some xs some = by_first (find stands xs) where
+  by_first : (first : Option Child) → 0 < length (put_first first (filter (λ x. not (is_met first x.judged)) xs))
+  by_first None = let all = ap length (filter-all xs) in omega (arith, all, some)
+  by_first (Some s) = omega arith
+
+-- the first that may stand is one of all
+pub found-if : (P : Child → Type 0) (xs : List Child) → All P xs → (first : Option Child) → first ≡ find stands xs → IfSome first P
+found-if P xs all None e = tt
+found-if P xs all (Some s) e = found-all P s xs (recursion_from_All P xs all) (sym e)
+
+-- ---- one child after another
+
+put_first-more : (first : Option Child) (xs ys : List Child) → put_first first (xs ++ ys) ≡ put_first first xs ++ ys
+put_first-more None xs ys = refl
+put_first-more (Some s) xs ys = refl
+
+-- what is kept of one more: the child, where it is not met, and else nothing
+pub kept-more : (first : Option Child) (xs : List Child) (k : ℕ) (d : Child) → k < length xs → (r : Bool) → is_met first (get_or xs k d).judged ≡ r
+    → put_first first (filter (λ x. not (is_met first x.judged)) (take (k + 1) xs))
+    ≡ put_first first (filter (λ x. not (is_met first x.judged)) (take k xs)) ++ cond (not r) (get_or xs k d ∷ []) []
+kept-more first xs k d low r e =
+    ap (put_first first) (filter_more (λ x. not (is_met first x.judged)) xs k d low)
+    ∙ put_first-more first (filter (λ x. not (is_met first x.judged)) (take k xs)) _
+    ∙ ap (λ b. put_first first (filter (λ x. not (is_met first x.judged)) (take k xs)) ++ cond (not b) (get_or xs k d ∷ []) []) e
+
+-- ---- a reply that is not kept is met by the first
+
+-- after this reply the win of the first of the children wins
+pub record IsMetBy (rule : RuleKind) (moves : ℕ) (c : Grid) (items : List Child) (q : Point) : Type 0 where
+  pub first : Child
+  pub more : List Child
+  pub items_are : items ≡ first ∷ more
+  pub met : Child
+  pub at : met.at ≡ q
+  pub is : IsChild rule moves c met
+  pub stands : stands_for first.judged met.judged ≡ true
+
+filtered-out : (P : Child → Type 0) (q : Point) (r : Child → Bool) (xs : List Child) → AllByRecursion P xs → list_any (is_same_point q) (map (λ child. child.at) xs) ≡ true
+    → list_any (is_same_point q) (map (λ child. child.at) (filter r xs)) ≡ false → (x : Child) × (x.at ≡ q) × P x × (r x ≡ false)
+filtered-out P q r [] all found none = cc
+filtered-out P q r (x ∷ xs) all found none = by_test (is_same_point q x.at) refl (r x) refl found none (filtered-out P q r xs all.1) where
+  by_test : (s : Bool) → is_same_point q x.at ≡ s → (k : Bool) → r x ≡ k → (s || list_any (is_same_point q) (map (λ child. child.at) xs)) ≡ true
+      → list_any (is_same_point q) (map (λ child. child.at) (cond k (x ∷ filter r xs) (filter r xs))) ≡ false
+      → (list_any (is_same_point q) (map (λ child. child.at) xs) ≡ true → list_any (is_same_point q) (map (λ child. child.at) (filter r xs)) ≡ false
+      → (y : Child) × (y.at ≡ q) × P y × (r y ≡ false))
+      → (y : Child) × (y.at ≡ q) × P y × (r y ≡ false)
+  by_test true same true kept found none later =
+      let bad : (true || list_any (is_same_point q) (map (λ child. child.at) (filter r xs))) ≡ false =
+      ap (λ b. b || list_any (is_same_point q) (map (λ child. child.at) (filter r xs))) (sym same) ∙ none in cc
+  by_test true same false out found none later = (x, sym (is_same_point-same q x.at same), all.0, out)
+  by_test false apart true kept found none later =
+      later found (ap (λ b. b || list_any (is_same_point q) (map (λ child. child.at) (filter r xs))) (sym apart) ∙ none)
+  by_test false apart false out found none later = later found none
+
+pub kept-covers : (rule : RuleKind) (moves : ℕ) (c : Grid) (judged : List Child) → AreJudged rule moves c judged → (q : Point) → outcome rule c q ≡ GoesOn
+    → list_any (is_same_point q) (map (λ child. child.at) (kept_children judged)) ≡ false → IsMetBy rule moves c (kept_children judged) q
+kept-covers rule moves c judged are q on none = by_first (find stands judged) none where
+  listed : list_any (is_same_point q) (map (λ child. child.at) judged) ≡ true
+  listed =
+      ap (list_any (is_same_point q)) are.points
+      ∙ still-found (λ p. goes_on (outcome rule c p)) q (points_of c) (ap goes_on on)
+      (points-found c (is_same_point q) q (GoesOn-on rule c q on) (is_same_point-itself q))
+
+  by_first : (first : Option Child) → list_any (is_same_point q) (map (λ child. child.at) (put_first first (filter (λ x. not (is_met first x.judged)) judged))) ≡ false
+      → IsMetBy rule moves c (put_first first (filter (λ x. not (is_met first x.judged)) judged)) q
+  by_first None out =
+      let bad : true ≡ false = sym listed ∙ ap (λ (xs : List Child). list_any (is_same_point q) (map (λ child. child.at) xs)) (sym (filter-all judged)) ∙ out in cc
+  by_first (Some s) out =
+      let rest : list_any (is_same_point q) (map (λ child. child.at) (filter (λ x. not (stands_for s.judged x.judged)) judged)) ≡ false = or_right (is_same_point q s.at) _ out in
+      let found = filtered-out (IsChild rule moves c) q (λ x. not (stands_for s.judged x.judged)) judged (recursion_from_All (IsChild rule moves c) judged are.each) listed rest in
+      record {
+        first = s;
+        more = filter (λ x. not (stands_for s.judged x.judged)) judged;
+        items_are = refl;
+        met = found.0;
+        at = found.1;
+        is = found.2;
+        stands = not-false (stands_for s.judged found.0.judged) found.3;
+      } where
+        or_right : (a b : Bool) → (a || b) ≡ false → b ≡ false
+        or_right true b h = cc
+        or_right false b h = h
+
+        not-false : (r : Bool) → not r ≡ false → r ≡ true
+        not-false true h = refl
+        not-false false h = cc
+
+-- ---- the wins that are compiled
+
+-- where the five point stands, it is one here
+pub five-stands : (rule : RuleKind) (b : Grid) (w : Point) (judged : Judged) → stands_for (Five w) judged ≡ true → IsJudged rule b judged → five rule b (mover b) w ≡ true
+five-stands rule b w (Five v) h is = subst (λ (p : Point). five rule b (mover b) p ≡ true) (sym (is_same_point-same w v h)) is
+five-stands rule b w (DoubleWins d nodes) h is = cc
+five-stands rule b w (Last p) h is = cc
+five-stands rule b w Open h is = cc
+
+double-same : (d e : Double) → is_same_double d e ≡ true → e ≡ d
+double-same d e h =
+    let parts = and_parts (is_same_point d.at e.at && is_same_point d.first e.first) (is_same_point d.second e.second) h in
+    let more = and_parts (is_same_point d.at e.at) (is_same_point d.first e.first) parts.0 in
+    let at : e.at ≡ d.at = sym (is_same_point-same d.at e.at more.0) in
+    let first : e.first ≡ d.first = sym (is_same_point-same d.first e.first more.1) in
+    let second : e.second ≡ d.second = sym (is_same_point-same d.second e.second parts.1) in
+    λ i. record { at = at i; first = first i; second = second i }
+
+-- and the double point wins here
+pub double-stands : (rule : RuleKind) (b : Grid) (d : Double) (nodes : ℕ) (judged : Judged) → stands_for (DoubleWins d nodes) judged ≡ true → IsJudged rule b judged
+    → IsDoubleWin rule b d × (moves_for judged ≡ 2)
+double-stands rule b d nodes (DoubleWins e more) h is =
+    (subst (IsDoubleWin rule b) (double-same d e (and_parts (nat_eq nodes 2) (is_same_double d e) h).1) is.wins, refl)
+double-stands rule b d nodes (Five v) h is = cc
+double-stands rule b d nodes (Last p) h is = cc
+double-stands rule b d nodes Open h is = cc
+
+-- a last move stands for no other, and a double point only with two nodes that answer the replies
+pub last-stands : (p : Point) (judged : Judged) → stands_for (Last p) judged ≡ true → ⊥
+last-stands p judged h = let standing = stands-standing (Last p) judged h in cc
+
+pub two-stands : (d : Double) (nodes : ℕ) (judged : Judged) → stands_for (DoubleWins d nodes) judged ≡ true → nodes ≡ 2
+two-stands d nodes judged h = eqb-true nodes 2 (stands-standing (DoubleWins d nodes) judged h)
+
+module _ (rule : RuleKind) (c : Grid) (lawful : IsPosition rule c) (t : List Node) (win : WrittenWin) (moves : ℕ) (met : Child) (is : IsChild rule moves c met) where
+  pub standing-five : (w : Point) → ((rule : RuleKind) (d : Grid) (moves : ℕ) → IsPosition rule d → five rule d (mover d) w ≡ true → 1 ≤ moves → IsThreatWin rule moves d t win)
+      → stands_for (Five w) met.judged ≡ true → IsThreatWin rule moves (after c met.at) t win
+  standing-five w says h =
+      let some = moves-some met.judged in
+      let enough = is.enough in
+      says rule (after c met.at) moves (IsPosition-after rule c met.at lawful is.on) (five-stands rule (after c met.at) w met.judged h is.judged) (omega (arith, some, enough)) where
+        moves-some : (judged : Judged) → 1 ≤ moves_for judged
+        moves-some (Five v) = omega arith
+        moves-some (DoubleWins e nodes) = omega arith
+        moves-some (Last p) = omega arith
+        moves-some Open = omega arith
+
+  pub standing-double : (d : Double) (nodes : ℕ)
+      → ((rule : RuleKind) (b : Grid) (moves : ℕ) → IsPosition rule b → points_of b ≡ points_of c → IsDoubleWin rule b d → 2 ≤ moves → IsThreatWin rule moves b t win)
+      → stands_for (DoubleWins d nodes) met.judged ≡ true → IsThreatWin rule moves (after c met.at) t win
+  standing-double d nodes says h =
+      let here = double-stands rule (after c met.at) d nodes met.judged h is.judged in
+      let enough = is.enough in
+      let two = here.1 in
+      says rule (after c met.at) moves (IsPosition-after rule c met.at lawful is.on) refl here.0 (omega (arith, enough, two))
