@@ -16,6 +16,7 @@ use Rattle.game_rules.proofs.Outcomes.{five-outcome, goes_on_with-true}
 use Rattle.game_rules.proofs.PointLists.{still-found}
 use Rattle.game_rules.proofs.ReadingOrder.{points-on}
 use Rattle.strategy_graph.specs.declared.Node.{Node}
+use Rattle.strategy_compiler.specs.Replies.{IsBeatenBy}
 use Rattle.strategy_compiler.proofs.Growing.{win-stays}
 use Rattle.threat_moves.specs.declared.block.BlockAnswer.TheVariants.{Lost, Won}
 use Rattle.threat_moves.proofs.BlockLaw.{block_decides}
@@ -32,7 +33,7 @@ use Rattle.strategy_compiler.proofs.Forks.{IsAnswer, all-both, alone-deep, answe
 use Rattle.threat_moves.proofs.Common.{by_fives, fate, is_four_move, block_wins}
 use Rattle.line_proof.specs.declared.answers.Answering.{Answering}
 use Rattle.line_proof.specs.Lines.{each_loses}
-use Rattle.line_proof.specs.Replies.{IsWonAt, AnswersAll}
+use Rattle.line_proof.specs.Replies.{AnswersAll}
 
 -- ---- the points of a board are on it
 
@@ -163,7 +164,7 @@ module _ (rule : RuleKind) (n : ℕ) (c : Grid) (won : Grid → Bool) (lost : ea
       (λ q go. subst (λ (ps : List Point). list_any (is_same_point q) ps ≡ true) (sym all.all)
       (still-found (λ q. goes_on_with (outcome rule c q) true) q (points_of c) (ap (λ o. goes_on_with o true) go)
       (points-found c (is_same_point q) q (GoesOn-on rule c q go) (is_same_point-itself q))))
-      (all-both (λ (r : Reply). goes_on_with (outcome rule c r.at) true ≡ true) (IsWonAt rule n t c) (IsAnswer rule n c t)
+      (all-both (λ (r : Reply). goes_on_with (outcome rule c r.at) true ≡ true) (IsBeatenBy rule n c t) (IsAnswer rule n c t)
       (λ r go win. answer-by-win rule n c t r (depth t r.next) (goes_on_with-true (outcome rule c r.at) go) win) a.replies.items
       (passed (λ q. goes_on_with (outcome rule c q) true) (points_of c) a.replies.items all.all) all.answers.wins)
 

@@ -12,28 +12,23 @@ use Rattle.strategy_graph.proofs.Answering.{push-all}
 use Rattle.strategy_graph.proofs.Greatest.{push-most}
 use Rattle.strategy_compiler.specs.declared.wins.WrittenWin.{WrittenWin}
 use Rattle.strategy_compiler.proofs.Common.{IsWrittenWin, GrowsBy}
+use Rattle.strategy_compiler.specs.Replies.{IsBeatenBy}
 use Rattle.strategy_compiler.proofs.Growing.{win-stays, win-deep}
+use Rattle.strategy_compiler.proofs.Replies.{beaten-grown}
 use Rattle.line_proof.specs.declared.answers.Answering.{Answering}
-use Rattle.line_proof.specs.Replies.{IsWonAt, AreAnswers, going_on}
+use Rattle.line_proof.specs.Replies.{AreAnswers, going_on}
 
 -- ---- wins as the nodes grow
 
 module _ (rule : RuleKind) (n : ℕ) (c : Grid) (t u : List Node) (k : ℕ) (lower : NamesLower t) (grown : GrowsBy t u k) where
-  won-grown : (rs : List Reply) → AllByRecursion (IsWonAt rule n t c) rs → AllByRecursion (IsWonAt rule n u c) rs
-  won-grown [] h = tt
-  won-grown (r ∷ rs) h = (
-    win-deep rule n (after c r.at) u _ (win-stays rule n (after c r.at) t u k _ lower grown h.0),
-    won-grown rs h.1,
-  )
-
-  most-grown : (rs : List Reply) → AllByRecursion (IsWonAt rule n t c) rs → greatest (map (depth u) (map (λ r. r.next) rs)) ≡ greatest (map (depth t) (map (λ r. r.next) rs))
+  most-grown : (rs : List Reply) → AllByRecursion (IsBeatenBy rule n c t) rs → greatest (map (depth u) (map (λ r. r.next) rs)) ≡ greatest (map (depth t) (map (λ r. r.next) rs))
   most-grown [] h = refl
   most-grown (r ∷ rs) h =
       let here : depth u r.next ≡ depth t r.next = (win-stays rule n (after c r.at) t u k _ lower grown h.0).deep in
       omega (arith, here, most-grown rs h.1)
 
   pub answers-grown : (a : Answering) → AreAnswers rule n t c a → AreAnswers rule n u c a
-  answers-grown a h = record { wins = won-grown a.replies.items h.wins; most = h.most ∙ sym (most-grown a.replies.items h.wins) }
+  answers-grown a h = record { wins = beaten-grown rule n c t u k lower grown a.replies.items h.wins; most = h.most ∙ sym (most-grown a.replies.items h.wins) }
 
 -- ---- no answer, and one more
 
@@ -42,7 +37,7 @@ module _ (rule : RuleKind) (n : ℕ) (t : List Node) (c : Grid) (q : Point) (win
   answers-more most won h =
       let r : Reply = record { at = q; next = win.node } in
       record {
-        wins = subst (λ (rs : List Reply). AllByRecursion (IsWonAt rule n t c) rs) (sym added) (push-all (IsWonAt rule n t c) a.replies.items r h.wins (win-deep rule n (after c q) t win won));
+        wins = subst (λ (rs : List Reply). AllByRecursion (IsBeatenBy rule n c t) rs) (sym added) (push-all (IsBeatenBy rule n c t) a.replies.items r h.wins (win-deep rule n (after c q) t win won));
         most =
             let same : greatest (map (depth t) (map (λ r. r.next) a'.replies.items)) ≡ greatest (map (depth t) (map (λ r. r.next) (a.replies.items ++ r ∷ []))) = ap (λ (rs : List Reply). greatest (map (depth t) (map (λ r. r.next) rs))) added in
             omega (arith, push-most (depth t) a.replies.items r, same, won.deep, h.most, most);
@@ -53,7 +48,7 @@ module _ (rule : RuleKind) (n : ℕ) (t : List Node) (c : Grid) (q : Point) (win
 pub answers-few : (rule : RuleKind) (n : ℕ) (t : List Node) (c : Grid) (a : Answering) → AreAnswers rule n t c a → a.moves ≤ n
 answers-few rule n t c a h =
     let low = few a.replies.items h.wins in let e = h.most in omega (arith, low, e) where
-      few : (rs : List Reply) → AllByRecursion (IsWonAt rule n t c) rs → greatest (map (depth t) (map (λ r. r.next) rs)) ≤ n
+      few : (rs : List Reply) → AllByRecursion (IsBeatenBy rule n c t) rs → greatest (map (depth t) (map (λ r. r.next) rs)) ≤ n
       few [] h = omega arith
       few (r ∷ rs) h = let here = h.0.within in let rest = few rs h.1 in omega (arith, here, rest)
 

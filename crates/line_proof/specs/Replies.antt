@@ -2,26 +2,22 @@
 use Rattle.std.specs.Prelude.{◌≡◌, ℕ, Bool, true, false, List, map, Option, Some, None}
 use Rattle.std.specs.List.{filter, AllByRecursion}
 use Rattle.game_rules.specs.Grid.{Grid, points_of}
-use Rattle.game_rules.specs.Play.{outcome, after, goes_on_with}
+use Rattle.game_rules.specs.Play.{outcome, goes_on_with}
 use Rattle.game_rules.specs.declared.RuleKind.{RuleKind}
 use Rattle.game_rules.specs.declared.Point.{Point}
 use Rattle.strategy_graph.specs.declared.Reply.{Reply}
 use Rattle.strategy_graph.specs.declared.Node.{Node}
 use Rattle.strategy_graph.specs.Tables.{depth, greatest}
-use Rattle.strategy_compiler.specs.Wins.{IsWrittenWin}
+use Rattle.strategy_compiler.specs.Replies.{IsBeatenBy}
 use Rattle.line_proof.specs.declared.answers.Answering.{Answering}
 
 -- those of the points that are moves at c that go on
 abbrev pub going_on : RuleKind → Grid → List Point → List Point
 going_on rule c qs = filter (λ q. goes_on_with (outcome rule c q) true) qs
 
--- the node that answers the reply r at c wins there within n moves
-abbrev pub IsWonAt : RuleKind → ℕ → List Node → Grid → Reply → Type 0
-IsWonAt rule n t c r = IsWrittenWin rule n (after c r.at) t (record { node = r.next; moves = depth t r.next })
-
 -- answers to replies at c: each wins within n moves, and the most moves that one of them takes are told
 pub record AreAnswers (rule : RuleKind) (n : ℕ) (t : List Node) (c : Grid) (a : Answering) : Type 0 where
-  pub wins : AllByRecursion (IsWonAt rule n t c) a.replies.items
+  pub wins : AllByRecursion (IsBeatenBy rule n c t) a.replies.items
   pub most : a.moves ≡ greatest (map (depth t) (map (λ r. r.next) a.replies.items))
 
 -- the replies that are answered, in their order
