@@ -336,6 +336,18 @@ fn a_session_has_at_most_67108864_bytes(rt: HostRuntime) -> Result<(), Fail> {
 }
 
 #[test]
+fn a_file_is_loaded_once(rt: HostRuntime) -> Result<(), Fail> {
+    // A table and a book, and the number of a load that fails: the second one is never made.
+    for session in [&SESSIONS[0], &SESSIONS[5]] {
+        for (load, status) in [(1, 2), (2, 0)] {
+            let served = serve(rt.alloc(), session, &SOUND, &[load])?;
+            assert_eq!(rt; served.run.status, status);
+        }
+    }
+    Ok(())
+}
+
+#[test]
 fn a_failing_shelf_is_told(rt: HostRuntime) -> Result<(), Fail> {
     let served = serve(rt.alloc(), &SESSIONS[0], &SOUND, &[1])?;
     assert_eq!(rt; served.run.status, 2);

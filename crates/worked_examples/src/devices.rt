@@ -1,7 +1,7 @@
 //! Devices that fail in the middle of a run, those that would fail after it, and inputs without an end.
 #![tactic(auto)]
 
-use crate::inputs::TWO_MOVES_TABLE;
+use crate::inputs::{TWO_ENTRIES, TWO_MOVES_TABLE};
 use crate::runs::{Failing, Run, SOUND, run_failing, run_over};
 use renju_io::RealSource;
 use std::alloc::{AllocError, Global};
@@ -52,6 +52,28 @@ fn nothing_is_read_after_the_end(rt: HostRuntime) -> Result<(), Fail> {
         let run = run_to_read(rt.alloc(), piece, read)?;
         assert_eq!(rt; run.status, 0);
         assert_eq!(rt; run.output.as_slice(), ACCEPTED.as_bytes());
+    }
+    Ok(())
+}
+
+#[test]
+fn each_byte_of_a_book_is_read_once(rt: HostRuntime) -> Result<(), Fail> {
+    // Reads of one byte: as many as there are bytes, and the one that tells the end. No other comes after it.
+    let last = TWO_ENTRIES.len() as u64 + 1;
+    for (piece, read, status) in [
+        (65_536, 2, 7),
+        (65_536, 3, 0),
+        (1, last, 7),
+        (1, last + 1, 0),
+    ] {
+        let failing = Failing {
+            piece,
+            reads: &[read],
+            writes: &[],
+            kept: 0,
+        };
+        let run = run_failing(rt.alloc(), "book 219", TWO_ENTRIES.as_bytes(), &failing)?;
+        assert_eq!(rt; run.status, status, "{piece} {read}");
     }
     Ok(())
 }
