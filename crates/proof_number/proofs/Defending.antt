@@ -31,7 +31,7 @@ use Rattle.threat_game.specs.declared.replies.Child.{Child}
 use Rattle.threat_game.specs.declared.replies.Children.{Children}
 use Rattle.threat_game.specs.declared.replies.Judged.{Judged}
 use Rattle.threat_game.specs.declared.replies.Judged.TheVariants.{Five, Double as DoubleWins, Last, Open}
-use Rattle.threat_game.proofs.Common.{IsThreatWin, is_open, moves_for, nodes_for, threat_tree, has_reply, AreChildren, HasEscape, IsChild, IsJudged, counted_for, is_standing, kept_children, stands_for}
+use Rattle.threat_game.proofs.Common.{IsThreatWin, LosesToThreats, is_open, moves_for, nodes_for, threat_tree, has_reply, AreChildren, HasEscape, IsChild, IsJudged, counted_for, is_standing, kept_children, stands_for}
 use Rattle.threat_game.proofs.ReplyLaws.{judged-short, judged-three}
 use Rattle.threat_game.proofs.Kept.{kept-covers, kept-each, kept-sum, stands-standing}
 use Rattle.threat_game.proofs.TreeLaws.{children-within, counted-few, one_where, counted-one, open_one, counted-parts, open_behind, whole-by}
@@ -324,6 +324,13 @@ module _ (rule : RuleKind) (s : Search) (t : Tree) (c : List Node) (leaf : ℕ) 
   escape-grows escape u st b same =
       lost-grown rule s t c leaf view here u st (record s { board = b }) refl same here.searching.remembered
       (at-leaf-is (λ k n d. WinsAt k rule n d → ⊥) (escape-saves rule (note_at s.notes.items leaf).left view escape))
+
+  -- where the other side wins by its own fours the leaf is settled
+  pub denied-grows : ((moves : ℕ) → LosesToThreats rule moves view → ⊥) → (u : Tree) → IsSettledAt t u leaf false → Grows rule s s t u c leaf
+  unfolding Grows
+  denied-grows denied u st =
+      lost-grown rule s t c leaf view here u st s refl refl here.searching.remembered
+      (at-leaf-is (λ k n d. WinsAt k rule n d → ⊥) (denied (note_at s.notes.items leaf).left))
 
   -- the positions behind the leaf are counted from the root
   attacks-fit : s.attacked + behind_replies rule (threat_tree rule (note_at s.notes.items leaf).left) view ≤ threat_tree rule s.depth s.root

@@ -14,7 +14,7 @@ use Rattle.proof_tree.proofs.Settled.{settled-one}
 use Rattle.proof_number.specs.declared.notes.Note.{Note}
 use Rattle.proof_number.specs.declared.search.Search.{Search}
 use Rattle.proof_number.proofs.Common.{HasNoThreatWin, no_note, note_at, noted_win, win_of, GameTree, TellsTruly, WinsAt, board_at, left_at, IsNotedWin, IsSearching, Searches, closed_nodes, game_of, is_open_leaf, sum_below}
-use Rattle.threat_game.specs.Wins.{IsThreatWin}
+use Rattle.threat_game.proofs.Common.{IsThreatWin, threat_tree}
 use Rattle.proof_number.proofs.GameTruths.{board-root, all-tell}
 use Rattle.proof_number.proofs.Recording.{noted-none, noted-some}
 use Rattle.proof_number.proofs.Sums.{sum-suc, sum-zero}
@@ -50,6 +50,18 @@ module _ (rule : RuleKind) (s : Search) (t : Tree) (c : List Node) (searches : S
 
   root-left : left_at Game.left 0 ≡ s.depth
   root-left = get_or-map (λ (n : Note). n.left) s.notes.items 0 no_note 0 root-noted ∙ h.depth
+
+  -- no more nodes were added than positions are counted
+  pub added-few : length c ≤ s.before + min s.budget (threat_tree rule s.depth s.root)
+  added-few =
+      let first : threat_tree rule (left_at Game.left 0) s.root ≡ threat_tree rule s.depth s.root = ap (λ (n : ℕ). threat_tree rule n s.root) root-left in
+      omega (arith, h.few, h.counted.attacked_fits, h.counted.attacks, first)
+
+  -- the same for what the search was begun with
+  pub told-few : (n budget : ℕ) (b : Grid) (old : List Node) → s.depth ≡ n → s.budget ≡ budget → s.root ≡ b → s.before ≡ length old → length c ≤ length old + min budget (threat_tree rule n b)
+  told-few n budget b old deep for_budget from before =
+      let same : threat_tree rule s.depth s.root ≡ threat_tree rule n b = ap (λ (m : ℕ). threat_tree rule m s.root) deep ∙ ap (threat_tree rule n) from in
+      omega (arith, added-few, same, for_budget, before)
 
   root-board : board_at Game 0 ≡ s.root
   root-board = board-root Game.tree.links Game.moves Game.start h.tree.linked

@@ -17,6 +17,8 @@ mod Expanding
 mod Steps
 mod Attacking
 mod Defending
+-- a side that wins by fours leaves the other side no win
+mod OneWinner
 mod StepLaws
 mod Beginning
 mod Ending

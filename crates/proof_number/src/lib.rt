@@ -10,6 +10,7 @@
 
 mod answer;
 mod begin;
+mod denials;
 mod notes;
 mod record;
 mod search;

@@ -29,6 +29,7 @@ ghost use Rattle.proof_number.specs.GameTrees.{board_at, left_at};
 ghost use Rattle.proof_number.specs.Searches.{Searches, IsSameAim, StandsAt, Grows, HasSpent, HasStayed, OnStep, IsSettledAt, IsExpandedAt, IsNew, KeepsTree, closed_nodes, game_of, noted_won};
 
 use crate::REMEMBERED;
+use crate::denials::is_denied;
 use crate::notes::{Note, Settled};
 use foul_judge::Seen;
 use position_table::{PackedPosition, WholeTable};
@@ -114,6 +115,7 @@ impl Search {
         ensures tree { IsTree tree.new }
         ensures longer { length tree.old.links ≤ length tree.new.links }
         ensures kept { (more : List AnyNode) × (compiler.new ≡ compiler.old ++ more) }
+        ensures nothing { OnStep result ℕ (compiler.new ≡ compiler.old) ℕ }
         ensures full { IsErrOf result SearchError.Full → (MAX_NODES < self.old.before + self.old.budget) × (MAX_NODES < self.old.before + threat_tree R.KIND self.old.depth self.old.root) }
         ensures full_now { IsErrOf result SearchError.Full → length compiler.new ≡ MAX_NODES }
     {
@@ -152,6 +154,7 @@ impl Search {
             (HasSpent R.KIND self.old self.new tree.old tree.new) (HasStayed self.old self.new tree.old tree.new) }
         ensures same { V.position view.new ≡ V.position view.old }
         ensures kept { (more : List AnyNode) × (compiler.new ≡ compiler.old ++ more) }
+        ensures nothing { OnStep result ℕ (compiler.new ≡ compiler.old) ℕ }
         ensures full { IsErrOf result SearchError.Full → (MAX_NODES < self.old.before + self.old.budget) × (MAX_NODES < self.old.before + threat_tree R.KIND self.old.depth self.old.root) }
         ensures full_now { IsErrOf result SearchError.Full → length compiler.new ≡ MAX_NODES }
     {
@@ -190,6 +193,7 @@ impl Search {
             (HasSpent R.KIND self.old self.new tree.old tree.new) (HasStayed self.old self.new tree.old tree.new) }
         ensures same { V.position view.new ≡ V.position view.old }
         ensures kept { (more : List AnyNode) × (compiler.new ≡ compiler.old ++ more) }
+        ensures nothing { OnStep result ℕ (compiler.new ≡ compiler.old) ℕ }
         ensures full { IsErrOf result SearchError.Full → (MAX_NODES < self.old.before + self.old.budget) × (MAX_NODES < self.old.before + threat_tree R.KIND self.old.depth self.old.root) }
         ensures full_now { IsErrOf result SearchError.Full → length compiler.new ≡ MAX_NODES }
     {
@@ -232,6 +236,7 @@ impl Search {
             (HasSpent R.KIND self.old self.new tree.old tree.new) (HasStayed self.old self.new tree.old tree.new) }
         ensures same { V.position view.new ≡ V.position view.old }
         ensures kept { (more : List AnyNode) × (compiler.new ≡ compiler.old ++ more) }
+        ensures nothing { OnStep result ℕ (compiler.new ≡ compiler.old) ℕ }
         ensures full { IsErrOf result SearchError.Full → (MAX_NODES < self.old.before + self.old.budget) × (MAX_NODES < self.old.before + threat_tree R.KIND self.old.depth self.old.root) }
         ensures full_now { IsErrOf result SearchError.Full → length compiler.new ≡ MAX_NODES }
     {
@@ -260,6 +265,7 @@ impl Search {
         ensures step { OnStep result (Grows R.KIND self.old self.new tree.old tree.new compiler.new leaf)
             (HasSpent R.KIND self.old self.new tree.old tree.new) (HasStayed self.old self.new tree.old tree.new) }
         ensures kept { (more : List AnyNode) × (compiler.new ≡ compiler.old ++ more) }
+        ensures nothing { OnStep result ℕ (compiler.new ≡ compiler.old) ℕ }
         ensures full { IsErrOf result SearchError.Full → (MAX_NODES < self.old.before + self.old.budget) × (MAX_NODES < self.old.before + threat_tree R.KIND self.old.depth self.old.root) }
         ensures full_now { IsErrOf result SearchError.Full → length compiler.new ≡ MAX_NODES }
     {
@@ -286,6 +292,7 @@ impl Search {
             (HasSpent R.KIND self.old self.new tree.old tree.new) (HasStayed self.old self.new tree.old tree.new) }
         ensures same { V.position view.new ≡ V.position view.old }
         ensures kept { (more : List AnyNode) × (compiler.new ≡ compiler.old ++ more) }
+        ensures nothing { OnStep result ℕ (compiler.new ≡ compiler.old) ℕ }
         ensures full { IsErrOf result SearchError.Full → (MAX_NODES < self.old.before + self.old.budget) × (MAX_NODES < self.old.before + threat_tree R.KIND self.old.depth self.old.root) }
         ensures full_now { IsErrOf result SearchError.Full → length compiler.new ≡ MAX_NODES }
     {
@@ -363,7 +370,7 @@ impl Search {
         Ok(())
     }
 
-    /// Gives a leaf of the other side its children, or settles it if a reply leaves no win.
+    /// Settles a leaf of the other side that wins by its own fours, and looks at the replies at any other.
     fn defend<R: Rule, V: Seen<R>>(
         &mut self,
         alloc: Global,
@@ -378,6 +385,34 @@ impl Search {
             (HasSpent R.KIND self.old self.new tree.old tree.new) (HasStayed self.old self.new tree.old tree.new) }
         ensures same { V.position view.new ≡ V.position view.old }
         ensures kept { (more : List AnyNode) × (compiler.new ≡ compiler.old ++ more) }
+        ensures nothing { OnStep result ℕ (compiler.new ≡ compiler.old) ℕ }
+        ensures full { IsErrOf result SearchError.Full → (MAX_NODES < self.old.before + self.old.budget) × (MAX_NODES < self.old.before + threat_tree R.KIND self.old.depth self.old.root) }
+        ensures full_now { IsErrOf result SearchError.Full → length compiler.new ≡ MAX_NODES }
+    {
+        let denied = is_denied::<R, V>(alloc, view)?;
+        if denied {
+            tree.settle(false);
+            return Ok(Step::Done);
+        }
+        self.answer_replies::<R, V>(alloc, view, tree, compiler, leaf)
+    }
+
+    /// Gives a leaf of the other side its children, or settles it if a reply leaves no win.
+    fn answer_replies<R: Rule, V: Seen<R>>(
+        &mut self,
+        alloc: Global,
+        view: &mut V,
+        tree: &mut ProofTree,
+        compiler: &mut Compiler,
+        leaf: u32,
+    ) -> Result<Step, SearchError>
+        requires at_leaf { StandsAt R.KIND self.old tree.old compiler.old leaf (V.position view.old) }
+        requires defend { (link_at tree.old.links leaf).kind ≡ AnyKind.Defend }
+        ensures step { OnStep result (Grows R.KIND self.old self.new tree.old tree.new compiler.new leaf)
+            (HasSpent R.KIND self.old self.new tree.old tree.new) (HasStayed self.old self.new tree.old tree.new) }
+        ensures same { V.position view.new ≡ V.position view.old }
+        ensures kept { (more : List AnyNode) × (compiler.new ≡ compiler.old ++ more) }
+        ensures nothing { OnStep result ℕ (compiler.new ≡ compiler.old) ℕ }
         ensures full { IsErrOf result SearchError.Full → (MAX_NODES < self.old.before + self.old.budget) × (MAX_NODES < self.old.before + threat_tree R.KIND self.old.depth self.old.root) }
         ensures full_now { IsErrOf result SearchError.Full → length compiler.new ≡ MAX_NODES }
     {

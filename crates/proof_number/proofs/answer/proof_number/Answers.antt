@@ -1,8 +1,10 @@
-use Rattle.std.proofs.Common.{rules, ◌≡◌, ◌∙◌, ◌<◌, [], append-nil, ℕ, sym, ap, arith, refl}
+use Rattle.std.proofs.Common.{rules, ◌≡◌, ◌∙◌, ◌<◌, [], append-nil, ◌≤◌, ◌+◌, ℕ, List, length, min, sym, ap, subst, arith, refl}
 use Rattle.proof_tree.specs.Combining.{is_settled}
 use Rattle.proof_number.specs.Searches.{Searches, closed_nodes}
-use Rattle.proof_number.proofs.Ending.{begun-full, closed-few, root-noted, told-lost, told-none, told-proved, told-win}
-use Rattle.proof_number.proofs.StepLaws.{on-done, searched-tree}
+use Rattle.proof_number.proofs.Ending.{begun-full, closed-few, root-noted, told-few, told-lost, told-none, told-proved, told-win}
+use Rattle.strategy_graph.specs.declared.Node.{Node}
+use Rattle.threat_game.specs.ThreatGame.{threat_tree}
+use Rattle.proof_number.proofs.StepLaws.{on-done, on-spent, searched-tree}
 use Rattle.threat_game.proofs.TreeLaws.{tree-positive}
 use Rattle.proof_number.proofs.answer.proof_number.Goals as goal
 
@@ -64,3 +66,29 @@ returns-clause-root g c =
 
 pub returns-clause-tree : goal.returns-clause-tree
 returns-clause-tree g c = searched-tree g.R.Rule.KIND c.loop-alloc.search c.loop-alloc.tree c.loop-alloc.compiler c.loop-alloc.invariant.searching
+
+pub returns-in-Some-clause-few : goal.returns-in-Some-clause-few
+returns-in-Some-clause-few g c =
+    told-few g.R.Rule.KIND c.loop-alloc.search c.loop-alloc.tree c.loop-alloc.compiler c.loop-alloc.invariant.searching c.args.depth c.args.budget (g.V.Seen.position c.args.view.now) c.args.compiler.now
+    (c.loop-alloc.invariant.aim.depth ∙ c.in_ok-begin.ensures.aim.depth ∙ c.in_ok-search.ensures.begins.depth_is)
+    (c.loop-alloc.invariant.aim.budget ∙ c.in_ok-begin.ensures.aim.budget ∙ c.in_ok-search.ensures.begins.budget_is)
+    (c.loop-alloc.invariant.aim.root ∙ c.in_ok-begin.ensures.aim.root ∙ c.in_ok-search.ensures.begins.root_is ∙ c.board.ensures.board)
+    (c.loop-alloc.invariant.aim.before ∙ c.in_ok-begin.ensures.aim.before ∙ c.in_ok-search.ensures.begins.before_is ∙ c.len-before.ensures.count)
+
+pub returns-clause-few : goal.returns-clause-few
+returns-clause-few g c =
+    told-few g.R.Rule.KIND c.loop-alloc.search c.loop-alloc.tree c.loop-alloc.compiler c.loop-alloc.invariant.searching c.args.depth c.args.budget (g.V.Seen.position c.args.view.now) c.args.compiler.now
+    (c.loop-alloc.invariant.aim.depth ∙ c.in_ok-begin.ensures.aim.depth ∙ c.in_ok-search.ensures.begins.depth_is)
+    (c.loop-alloc.invariant.aim.budget ∙ c.in_ok-begin.ensures.aim.budget ∙ c.in_ok-search.ensures.begins.budget_is)
+    (c.loop-alloc.invariant.aim.root ∙ c.in_ok-begin.ensures.aim.root ∙ c.in_ok-search.ensures.begins.root_is ∙ c.board.ensures.board)
+    (c.loop-alloc.invariant.aim.before ∙ c.in_ok-begin.ensures.aim.before ∙ c.in_ok-search.ensures.begins.before_is ∙ c.len-before.ensures.count)
+
+pub returns-in-Spent-clause-few : goal.returns-in-Spent-clause-few
+returns-in-Spent-clause-few g c =
+    subst (λ (d : List Node). length d ≤ length c.args.compiler.now + min c.args.budget (threat_tree g.R.Rule.KIND c.args.depth (g.V.Seen.position c.args.view.now)))
+    (sym (on-spent c.in_ok-step.field-0 ℕ (c.step.new.compiler ≡ c.loop-alloc.compiler) ℕ c.in-Spent.is c.in_ok-step.ensures.nothing))
+    (told-few g.R.Rule.KIND c.loop-alloc.search c.loop-alloc.tree c.loop-alloc.compiler c.loop-alloc.invariant.searching c.args.depth c.args.budget (g.V.Seen.position c.args.view.now) c.args.compiler.now
+    (c.loop-alloc.invariant.aim.depth ∙ c.in_ok-begin.ensures.aim.depth ∙ c.in_ok-search.ensures.begins.depth_is)
+    (c.loop-alloc.invariant.aim.budget ∙ c.in_ok-begin.ensures.aim.budget ∙ c.in_ok-search.ensures.begins.budget_is)
+    (c.loop-alloc.invariant.aim.root ∙ c.in_ok-begin.ensures.aim.root ∙ c.in_ok-search.ensures.begins.root_is ∙ c.board.ensures.board)
+    (c.loop-alloc.invariant.aim.before ∙ c.in_ok-begin.ensures.aim.before ∙ c.in_ok-search.ensures.begins.before_is ∙ c.len-before.ensures.count))

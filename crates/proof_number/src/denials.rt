@@ -1,0 +1,44 @@
+//! The defender's own fours.
+//!
+//! Where the attacker has no five point after its move, the defender may win by continuous fours before the threat is carried out.
+//! A side that wins whatever the replies leaves the other side no win, so such a move is lost to the attacker. A small search of
+//! fours is asked, whose positions are not counted: the game of threats has none of them.
+#![tactic(auto)]
+
+ghost use Rattle.std.specs.Prelude.{◌≡◌, ℕ, IfOk, IsTrue};
+ghost use Rattle.threat_game.specs.ThreatGame.{LosesToThreats};
+
+use foul_judge::Seen;
+use four_search::{FourAnswer, four_search};
+use row_shapes::Rule;
+use std::alloc::{AllocError, Global};
+use strategy_compiler::{Compiler, SearchError};
+
+/// So many positions are looked at for the defender's fours.
+const FOUR_POSITIONS: u64 = 50;
+
+/// Within so many moves its fours are looked for.
+const FOUR_MOVES: u32 = 20;
+
+/// Whether the side to move is seen to win by continuous fours, where the other side has no five point. Then the other side has no
+/// win whatever is played first. The view is as before, also where memory ran out.
+pub(crate) fn is_denied<R: Rule, V: Seen<R>>(
+    alloc: Global,
+    view: &mut V,
+) -> Result<bool, AllocError>
+    ensures denied { IfOk result (λ found. IsTrue found → (moves : ℕ) → ¬ LosesToThreats R.KIND moves (V.position view.old)) }
+    ensures same { V.position view.new ≡ V.position view.old }
+{
+    let attacker = view.side().other();
+    if view.has_five(attacker) {
+        return Ok(false);
+    }
+    // The win is for no table, so its nodes go with this compiler.
+    let mut compiler = Compiler::new(alloc);
+    match four_search::<R, V>(alloc, view, FOUR_MOVES, FOUR_POSITIONS, &mut compiler) {
+        Ok(FourAnswer::Win(_)) => Ok(true),
+        Ok(FourAnswer::None) | Ok(FourAnswer::Spent) => Ok(false),
+        Err(SearchError::Full) => unreachable!(),
+        Err(SearchError::Memory) => Err(AllocError),
+    }
+}
