@@ -9,9 +9,9 @@ use Rattle.std.proofs.lemmas.Grind.{flat_map-append}
 use Rattle.renju_io.specs.Told.{Gives, GivesSome, Takes}
 use Rattle.renju_io.specs.Lines.{LineText, lines, whole_lines, Tells, TellsLast, ReaderState, KnowsEnd, TakesLines, KeepsLine, GoesPast, TakesTooMany}
 use Rattle.renju_io.specs.declared.TheConstants.{MAX_SESSION_BYTES}
-use Rattle.renju_io.proofs.GivenBytes.{Gives-then, Gives-some}
+use Rattle.renju_io.proofs.GivenBytes.{Gives-none, Gives-then, Gives-some}
 use Rattle.renju_io.proofs.TakenText.{Takes-then}
-use Rattle.renju_io.proofs.ToldSoFar.{Reading, new_reader, read_on, HasTold, Gives-none, Takes-none, open_tells, told_then, open_after, bytes_of, begins, all_told}
+use Rattle.renju_io.proofs.ToldSoFar.{Reading, new_reader, read_on, HasTold, Takes-none, open_tells, told_then, open_after, bytes_of, begins, all_told}
 use Rattle.gomocup_text.specs.Commands.{commands, command_told}
 use Rattle.gomocup_text.specs.Answers.{answer_text}
 use Rattle.gomocup_text.specs.declared.Command.{Command}

@@ -1,4 +1,5 @@
--- Lemmas on counts of faults, on bytes that are given and taken, and on the lines of an input.
+-- Lemmas on counts of calls, on bytes that are given and taken, and on the lines of an input.
+pub mod AskedCalls
 pub mod FileNames
 pub mod GivenBytes
 pub mod LineLaws

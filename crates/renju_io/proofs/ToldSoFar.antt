@@ -27,11 +27,7 @@ pub record HasTold (r : Reading) (told : List LineText) : Type 0 where
   pub few : r.reader.taken ≤ MAX_SESSION_BYTES
   pub knows : KnowsEnd r.reader r.left
 
--- a source gave nothing, or a sink took nothing
-pub Gives-none : (left : Option (List ℕ)) → Gives left [] left
-Gives-none None = refl
-Gives-none (Some bytes) = refl
-
+-- a sink took nothing
 pub Takes-none : (written : Option (List ℕ)) → Takes written [] written
 Takes-none None = refl
 Takes-none (Some bytes) = ap (λ xs. Some xs) (sym (append-nil bytes))
@@ -87,9 +83,10 @@ begins given more told kept ended (inl tells) = (lines (kept ++ more), tells.wha
 begins given more told kept ended (inr last) =
     ([], ap (λ m. lines (given ++ m)) last.1.ended ∙ ap lines (append-nil given) ∙ last.1.all ∙ sym (append-nil told))
 
--- the whole input was told
-pub record AllTold (left left_after : Option (List ℕ)) (told : List LineText) : Type 0 where
+-- the whole input was told, of which so many bytes were taken
+pub record AllTold (left left_after : Option (List ℕ)) (told : List LineText) (taken : ℕ) : Type 0 where
   pub given : List ℕ
+  pub counted : taken ≡ length given
   pub gives : Gives left given left_after
   pub all : lines given ≡ told
   pub few : length given ≤ MAX_SESSION_BYTES
@@ -104,10 +101,12 @@ all_lines given told kept left ended none (inr last) = last.1.all ∙ append-nil
 
 -- a call that told the end, of a reader that was told it before or was not
 pub all_told : (r : Reading) (told : List LineText) (read : HasTold r told) (next : ReaderState) (left : Option (List ℕ)) →
-    TakesLines r.reader r.left [] next left → next.kept ≡ [] → next.taken ≡ r.reader.taken → (r.reader.ended ≡ true → left ≡ r.left) → AllTold r.left_before left told
+    TakesLines r.reader r.left [] next left → next.kept ≡ [] → next.taken ≡ r.reader.taken → (r.reader.ended ≡ true → left ≡ r.left)
+    → AllTold r.left_before left told next.taken
 all_told r told read next left takes none same stays = elim read.takes.tells [
   | inr last ↦ record {
     given = read.takes.given;
+    counted = omega (arith, same, read.takes.counted);
     gives = subst (Gives r.left_before read.takes.given) (sym (stays last.0)) read.takes.gives;
     all = last.1.all;
     few = omega (arith, read.few, read.takes.counted);
@@ -116,6 +115,7 @@ all_told r told read next left takes none same stays = elim read.takes.tells [
       let all = told_then r told read tells [] next left takes in
       record {
         given = all.given;
+        counted = omega (arith, all.counted);
         gives = all.gives;
         all = all_lines all.given told next.kept left next.ended none all.tells;
         few = omega (arith, read.few, all.counted, same);

@@ -1,6 +1,7 @@
--- What the devices tell: their counts of faults, the bytes that they give and take, the files of a shelf, and the lines
+-- What the devices tell: their counts of faults and of calls, the bytes that they give and take, the files of a shelf, and the lines
 -- of an input.
 pub mod Faults
+pub mod Asked
 pub mod Told
 pub mod Files
 pub mod Memory

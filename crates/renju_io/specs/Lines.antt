@@ -53,6 +53,10 @@ pub record ReaderState : Type 0 where
   pub taken : ℕ
   pub ended : Bool
 
+-- the most reads that a reader of lines has asked for: one for each byte that it took, and the one that told the end
+abbrev pub reads_for : ReaderState → ℕ
+reads_for reader = reader.taken + (if reader.ended then 1 else 0)
+
 -- a reader that was told the end of the input is asked of a source that has no byte left
 abbrev pub KnowsEnd : ReaderState → Option (List ℕ) → Type 0
 KnowsEnd reader left = reader.ended ≡ true → IsAtEnd left

@@ -1,7 +1,7 @@
 -- Devices in memory: what they hold, and which of their calls fail.
 use Rattle.std.specs.Prelude.{◌≡◌, ℕ, ◌+◌, Bool, true, false, List, [], ◌⊎◌, ◌++◌, min, length, take, drop, ◌==◌, if◌then◌else◌, nat_lt, Option, None, Some, Result, Ok, Err, map, string_bytes}
 use Rattle.std.specs.List.{list_any}
-use Rattle.renju_io.specs.Faults.{last_count}
+use Rattle.renju_io.specs.Asked.{one_more}
 use Rattle.renju_io.specs.Files.{Files, file_under}
 use Rattle.renju_io.specs.declared.shelf.LoadError.{LoadError}
 use Rattle.renju_io.specs.declared.shelf.LoadError.TheVariants.{Failed, TooLong}
@@ -18,10 +18,6 @@ pub record Calls : Type 0 where
 -- no call was made
 abbrev pub no_calls : List ℕ → Calls
 no_calls failing = record { failing = failing; made = 0; faults = 0 }
-
--- one more, up to the last value of a count
-abbrev pub one_more : ℕ → ℕ
-one_more n = min (n + 1) last_count
 
 -- whether the next call is one that fails
 abbrev pub fails_next : Calls → Bool

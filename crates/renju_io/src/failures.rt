@@ -3,7 +3,8 @@
 //! The calls are counted from 1, and those whose numbers are listed fail. Both counts stop at their last value.
 ghost use Rattle.std.specs.Prelude.{◌≡◌};
 ghost use Rattle.renju_io.specs.Faults.{HasRisen, HasNotFallen};
-ghost use Rattle.renju_io.specs.Memory.{no_calls, one_more, fails_next};
+ghost use Rattle.renju_io.specs.Asked.{one_more};
+ghost use Rattle.renju_io.specs.Memory.{no_calls, fails_next};
 
 use std::marker::Model;
 

@@ -6,13 +6,14 @@
 //! to know that it is, so the lines do not depend on how reads cut them. Bytes after the most that may be taken are
 //! asked for one at a time: the first of them shows that a line goes on too far. Once a read has told the end of the input
 //! the source is not asked again.
-ghost use Rattle.std.specs.Prelude.{false, true, ◌≡◌, ◌≢◌, ◌+◌, ◌-◌, ◌<◌, ◌≤◌, [], ◌++◌, ◌∷◌, length, take, position, Ok, IfOk, IfErr, IfSome, IfNone, IsErrOf, IsErr, OnOk, OnErr, MatchOption, MatchResult, vec_len, vec_capacity, ⊤};
+ghost use Rattle.std.specs.Prelude.{false, true, ◌≡◌, ◌≢◌, ◌+◌, ◌-◌, ◌<◌, ◌≤◌, [], ◌++◌, ◌∷◌, length, take, position, Ok, Err, IfOk, IfErr, IfSome, IfNone, IsErrOf, IsErr, OnOk, OnErr, MatchOption, MatchResult, vec_len, vec_capacity, ⊤};
 ghost use Rattle.std.specs.Option.{option_map};
 ghost use Rattle.std.specs.Io.KnownBytes.{IsAtEnd};
 ghost use Rattle.renju_io.specs.Faults.{HasRisen, HasStayed, HasNotFallen};
+ghost use Rattle.renju_io.specs.Asked.{IsAskedOnce, IsAskedWithin};
 ghost use Rattle.renju_io.specs.Told.{Gives, FailsAfter};
 ghost use Rattle.renju_io.specs.LineReads.{ReadsOn};
-ghost use Rattle.renju_io.specs.Lines.{HasNoLineFeed, Tells, KeepsLine, KnowsEnd, TakesLines, TakesTooMany, IsExhausted, is_line_feed, line_of, lines, lines_left, told_lines};
+ghost use Rattle.renju_io.specs.Lines.{HasNoLineFeed, Tells, KeepsLine, KnowsEnd, TakesLines, TakesTooMany, IsExhausted, is_line_feed, line_of, lines, lines_left, reads_for, told_lines};
 
 use crate::{Failed, LINE_FEED, MAX_LINE_BYTES, MAX_SESSION_BYTES, Source};
 use std::alloc::{AllocError, Global};
@@ -132,6 +133,14 @@ impl LineReader {
         ensures not_failed { IfErr result (λ e.
             e ≢ ReadError.Failed → HasStayed (S.faults source.old) (S.faults source.new)) }
         ensures counted { HasNotFallen (S.faults source.old) (S.faults source.new) }
+
+        // Each read took a byte at least, but for the one that told the end, and the one that failed.
+        ensures few_reads { OnOk result
+            (IsAskedWithin (reads_for self.old) (reads_for self.new) (S.asked source.old) (S.asked source.new)) }
+        ensures few_past { IsErrOf result ReadError.Exhausted →
+            IsAskedWithin (reads_for self.old) self.new.taken (S.asked source.old) (S.asked source.new) }
+        ensures few_failed { IsErrOf result ReadError.Failed →
+            IsAskedWithin (reads_for self.old) (self.new.taken + 1) (S.asked source.old) (S.asked source.new) }
     {
         if self.ended {
             return Ok(Line::End);
@@ -210,6 +219,7 @@ impl LineReader {
         ensures failed { OnErr result (HasRisen (S.faults source.old) (S.faults source.new)) }
         ensures uncounted { OnOk result (HasStayed (S.faults source.old) (S.faults source.new)) }
         ensures counted { HasNotFallen (S.faults source.old) (S.faults source.new) }
+        ensures asks { IsAskedOnce (S.asked source.old) (S.asked source.new) }
     {
         append_front(
             &mut self.line,
@@ -277,6 +287,7 @@ fn read_front<S: Source>(source: &mut S, buffer: &mut [u8], most: usize) -> Resu
     ensures failed { OnErr result (HasRisen (S.faults source.old) (S.faults source.new)) }
     ensures uncounted { OnOk result (HasStayed (S.faults source.old) (S.faults source.new)) }
     ensures counted { HasNotFallen (S.faults source.old) (S.faults source.new) }
+    ensures asks { IsAskedOnce (S.asked source.old) (S.asked source.new) }
 {
     let count = most.min(buffer.len());
     source.read(&mut buffer[..count])

@@ -6,6 +6,7 @@ ghost use Rattle.std.specs.Option.{option_copied};
 ghost use Rattle.std.specs.Str.{bytes_eq};
 ghost use Rattle.renju_io.specs.Faults.{HasRisen, HasStayed, HasNotFallen};
 ghost use Rattle.renju_io.specs.Files.{IsMap, file_under};
+ghost use Rattle.renju_io.specs.Asked.{IsAskedOnce};
 ghost use Rattle.renju_io.specs.Memory.{no_calls, after_call, load_answer, file_answer, is_failed, entries};
 ghost use Rattle.renju_io.specs.declared.shelf.LoadError.{LoadError};
 
@@ -60,6 +61,8 @@ impl Shelf for MemoryShelf {
 
     ghost faults = { λ s. s.calls.faults };
 
+    ghost asked = { λ s. s.calls.made };
+
     fn load(&mut self, alloc: Global, name: &str) -> Result<Vec<u8>, LoadError>
         ensures found { IfOk result (λ bytes. file_under name.now self.old.files ≡ Some bytes.items) }
         ensures short { IfOk result (λ bytes. length bytes.items ≤ MAX_INPUT_BYTES) }
@@ -72,6 +75,7 @@ impl Shelf for MemoryShelf {
             e ≢ LoadError.Failed → HasStayed self.old.calls.faults self.new.calls.faults) }
         ensures kept { Some self.new.files ≡ Some self.old.files }
         ensures counted { HasNotFallen self.old.calls.faults self.new.calls.faults }
+        ensures asks { IsAskedOnce self.old.calls.made self.new.calls.made }
 
         // Which loads fail, and what the others answer.
         ensures ok { IfOk result (λ bytes. load_answer self.old name.now ≡ Ok bytes.items) }

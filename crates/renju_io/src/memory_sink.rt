@@ -4,6 +4,7 @@
 ghost use Rattle.std.specs.Prelude.{◌≡◌, [], true, false, Some, IsErr, OnOk, OnErr};
 ghost use Rattle.renju_io.specs.Faults.{HasRisen, HasStayed, HasNotFallen};
 ghost use Rattle.renju_io.specs.Told.{Takes, TakesPart};
+ghost use Rattle.renju_io.specs.Asked.{IsAskedOnce};
 ghost use Rattle.renju_io.specs.Memory.{no_calls, fails_next, after_write, FailsToWrite};
 
 use crate::failures::Failures;
@@ -53,6 +54,8 @@ impl Sink for MemorySink {
 
     ghost faults = { λ s. s.calls.faults };
 
+    ghost asked = { λ s. s.calls.made };
+
     /// A write for which no memory is found fails too, and keeps nothing of its piece.
     fn write(&mut self, piece: &[u8]) -> Result<(), Failed>
         ensures whole { OnOk result (Takes (Some self.old.written) piece.now (Some self.new.written)) }
@@ -60,6 +63,7 @@ impl Sink for MemorySink {
         ensures failed { OnErr result (HasRisen self.old.calls.faults self.new.calls.faults) }
         ensures uncounted { OnOk result (HasStayed self.old.calls.faults self.new.calls.faults) }
         ensures counted { HasNotFallen self.old.calls.faults self.new.calls.faults }
+        ensures asks { IsAskedOnce self.old.calls.made self.new.calls.made }
 
         // Which writes fail, and what each leaves.
         ensures listed { fails_next self.old.calls ≡ true → IsErr result }

@@ -5,6 +5,7 @@
 ghost use Rattle.std.specs.Prelude.{◌≡◌, ◌<◌, ◌≤◌, [], min, length, take, IfOk, OnOk, OnErr, Ok, Err, Some, if◌then◌else◌};
 ghost use Rattle.renju_io.specs.Faults.{HasRisen, HasStayed, HasNotFallen};
 ghost use Rattle.renju_io.specs.Told.{Gives};
+ghost use Rattle.renju_io.specs.Asked.{IsAskedOnce};
 ghost use Rattle.renju_io.specs.Memory.{no_calls, fails_next, given_count, after_read};
 
 use crate::failures::Failures;
@@ -52,6 +53,8 @@ impl Source for MemorySource {
 
     ghost faults = { λ s. s.calls.faults };
 
+    ghost asked = { λ s. s.calls.made };
+
     fn read(&mut self, buf: &mut [u8]) -> Result<usize, Failed>
         ensures fits { IfOk result (λ count. count ≤ length buf.old) }
         ensures given { IfOk result (λ count.
@@ -61,6 +64,7 @@ impl Source for MemorySource {
         ensures failed { OnErr result (HasRisen self.old.calls.faults self.new.calls.faults) }
         ensures uncounted { OnOk result (HasStayed self.old.calls.faults self.new.calls.faults) }
         ensures counted { HasNotFallen self.old.calls.faults self.new.calls.faults }
+        ensures asks { IsAskedOnce self.old.calls.made self.new.calls.made }
 
         // Which reads fail, and how much the others give.
         ensures answer { result ≡ (if fails_next self.old.calls

@@ -2,9 +2,10 @@
 //!
 //! Reads are asked for until one tells the end, and none after that or after one that failed. The bytes are those of all
 //! reads, one behind the other, whatever the reads cut them into.
-ghost use Rattle.std.specs.Prelude.{◌≡◌, ◌≢◌, ◌<◌, ◌≤◌, length, IfOk, IfErr, IfSome, IsErrOf, OnOk, vec_len};
+ghost use Rattle.std.specs.Prelude.{◌≡◌, ◌≢◌, ◌+◌, ◌<◌, ◌≤◌, length, IfOk, IfErr, IfSome, IsErrOf, OnOk, vec_len};
 ghost use Rattle.std.specs.Io.KnownBytes.{IsAtEnd};
 ghost use Rattle.renju_io.specs.Faults.{HasRisen, HasStayed, HasNotFallen};
+ghost use Rattle.renju_io.specs.Asked.{GivesByEach, IsAskedAtMost};
 ghost use Rattle.renju_io.specs.Told.{GivesSome, FailsAfter};
 
 use crate::{MAX_INPUT_BYTES, Source};
@@ -46,6 +47,8 @@ pub fn read_all<S: Source>(alloc: Global, source: &mut S) -> Result<Vec<u8>, Rea
         e ≢ ReadAllError.Failed → HasStayed (S.faults source.old) (S.faults source.new)) }
 
     ensures taken { GivesSome (S.left source.old) (S.left source.new) }
+    ensures by_each { GivesByEach (S.left source.old) (S.left source.new) (S.asked source.old) (S.asked source.new) }
+    ensures few_reads { IsAskedAtMost (MAX_INPUT_BYTES + 1) (S.asked source.old) (S.asked source.new) }
     ensures counted { HasNotFallen (S.faults source.old) (S.faults source.new) }
 {
     let Ok(mut piece) = empty_piece(alloc) else {

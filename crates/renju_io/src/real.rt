@@ -1,7 +1,8 @@
 //! The devices of the system: standard input and output, and files. They are the edge that is trusted. They are safe
-//! and true to their counts of faults, and tell nothing of content: what a file or a terminal holds is not proved.
+//! and true to their counts of calls and of faults, and tell nothing of content: what a file or a terminal holds is not proved.
 ghost use Rattle.std.specs.Prelude.{◌≡◌, ◌≤◌, None, length, IfOk, min, ◌+◌};
 ghost use Rattle.renju_io.specs.Faults.{HasRisen, HasNotFallen};
+ghost use Rattle.renju_io.specs.Asked.{no_counts};
 
 use crate::{Failed, LoadError, MAX_INPUT_BYTES, ReadAllError, Shelf, Sink, Source, read_all};
 use std::alloc::Global;
@@ -14,33 +15,41 @@ use std::rt::Files;
 #[derive(Drop)]
 pub struct RealSource<R: Read + Drop> {
     reader: R,
+    asked: u64,
     faults: u64,
 }
 
 impl<R: Read + Drop> Model for RealSource<R> {
-    ghost use Rattle.std.specs.Prelude.{ℕ};
+    ghost use Rattle.renju_io.specs.Asked.{Counts};
 
-    ghost Value = { ℕ };
+    ghost Value = { Counts };
 
-    ghost view = { λ s. s.faults };
+    ghost view = { λ s. record { asked = s.asked; faults = s.faults } };
 }
 
 impl<R: Read + Drop> RealSource<R> {
-    /// The source starts at the count 0.
+    /// The source starts with both counts at 0.
     pub fn new(reader: R) -> RealSource<R>
-        ensures no_faults { result ≡ 0 }
+        ensures fresh { result ≡ no_counts }
     {
-        RealSource { reader, faults: 0 }
+        RealSource {
+            reader,
+            asked: 0,
+            faults: 0,
+        }
     }
 }
 
 impl<R: Read + Drop> Source for RealSource<R> {
     ghost left = { λ _. None };
 
-    ghost faults = { λ faults. faults };
+    ghost faults = { λ s. s.faults };
+
+    ghost asked = { λ s. s.asked };
 
     /// One read of the system into the whole buffer.
     fn read(&mut self, buf: &mut [u8]) -> Result<usize, Failed> {
+        self.asked = self.asked.saturating_add(1);
         let answer = read_retrying(&mut self.reader, buf);
         if answer.is_err() {
             self.faults = self.faults.saturating_add(1);
@@ -67,32 +76,40 @@ fn read_retrying<R: Read>(reader: &mut R, buf: &mut [u8]) -> Result<usize, Faile
 #[derive(Drop)]
 pub struct RealSink<W: Write + Drop> {
     writer: W,
+    asked: u64,
     faults: u64,
 }
 
 impl<W: Write + Drop> Model for RealSink<W> {
-    ghost use Rattle.std.specs.Prelude.{ℕ};
+    ghost use Rattle.renju_io.specs.Asked.{Counts};
 
-    ghost Value = { ℕ };
+    ghost Value = { Counts };
 
-    ghost view = { λ s. s.faults };
+    ghost view = { λ s. record { asked = s.asked; faults = s.faults } };
 }
 
 impl<W: Write + Drop> RealSink<W> {
-    /// The sink starts at the count 0.
+    /// The sink starts with both counts at 0.
     pub fn new(writer: W) -> RealSink<W>
-        ensures no_faults { result ≡ 0 }
+        ensures fresh { result ≡ no_counts }
     {
-        RealSink { writer, faults: 0 }
+        RealSink {
+            writer,
+            asked: 0,
+            faults: 0,
+        }
     }
 }
 
 impl<W: Write + Drop> Sink for RealSink<W> {
     ghost written = { λ _. None };
 
-    ghost faults = { λ faults. faults };
+    ghost faults = { λ s. s.faults };
+
+    ghost asked = { λ s. s.asked };
 
     fn write(&mut self, piece: &[u8]) -> Result<(), Failed> {
+        self.asked = self.asked.saturating_add(1);
         if self.writer.write_all(piece).is_ok() && self.writer.flush().is_ok() {
             return Ok(());
         }
@@ -105,33 +122,41 @@ impl<W: Write + Drop> Sink for RealSink<W> {
 #[derive(Drop)]
 pub struct RealShelf<F: Files + Drop> {
     files: F,
+    asked: u64,
     faults: u64,
 }
 
 impl<F: Files + Drop> Model for RealShelf<F> {
-    ghost use Rattle.std.specs.Prelude.{ℕ};
+    ghost use Rattle.renju_io.specs.Asked.{Counts};
 
-    ghost Value = { ℕ };
+    ghost Value = { Counts };
 
-    ghost view = { λ s. s.faults };
+    ghost view = { λ s. record { asked = s.asked; faults = s.faults } };
 }
 
 impl<F: Files + Drop> RealShelf<F> {
-    /// The shelf starts at the count 0.
+    /// The shelf starts with both counts at 0.
     pub fn new(files: F) -> RealShelf<F>
-        ensures no_faults { result ≡ 0 }
+        ensures fresh { result ≡ no_counts }
     {
-        RealShelf { files, faults: 0 }
+        RealShelf {
+            files,
+            asked: 0,
+            faults: 0,
+        }
     }
 }
 
 impl<F: Files + Drop> Shelf for RealShelf<F> {
     ghost files = { λ _. None };
 
-    ghost faults = { λ faults. faults };
+    ghost faults = { λ s. s.faults };
+
+    ghost asked = { λ s. s.asked };
 
     /// A file that is too long is read only as far as it takes to know that.
     fn load(&mut self, alloc: Global, name: &str) -> Result<Vec<u8>, LoadError> {
+        self.asked = self.asked.saturating_add(1);
         let answer = load_file(alloc, &self.files, name);
         if let Err(LoadError::Failed) = answer {
             self.faults = self.faults.saturating_add(1);

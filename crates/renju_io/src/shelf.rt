@@ -4,6 +4,7 @@
 //! file that cannot be read is.
 ghost use Rattle.std.specs.Prelude.{◌≡◌, ◌≢◌, ◌<◌, ◌≤◌, ℕ, Option, length, IfOk, IfErr, OnOk, IfSome, IsErrOf, IsSomeAnd};
 ghost use Rattle.renju_io.specs.Faults.{HasRisen, HasStayed, HasNotFallen};
+ghost use Rattle.renju_io.specs.Asked.{IsAskedOnce};
 ghost use Rattle.renju_io.specs.Files.{Files, file_under};
 
 use crate::MAX_INPUT_BYTES;
@@ -32,6 +33,9 @@ pub trait Shelf {
     /// How often the shelf has failed, up to 2^64 - 1. A name without a file is such a fault.
     ghost faults: { Self → ℕ };
 
+    /// How often the shelf was asked, up to 2^64 - 1. A load that fails counts too.
+    ghost asked: { Self → ℕ };
+
     /// The bytes of the file under a name. No call changes the files.
     fn load(&mut self, alloc: Global, name: &str) -> Result<Vec<u8>, LoadError>
         ensures found { IfOk result (λ bytes. IfSome (files self.old) (λ files.
@@ -44,5 +48,6 @@ pub trait Shelf {
         ensures not_failed { IfErr result (λ e.
             e ≢ LoadError.Failed → HasStayed (faults self.old) (faults self.new)) }
         ensures kept { files self.new ≡ files self.old }
-        ensures counted { HasNotFallen (faults self.old) (faults self.new) };
+        ensures counted { HasNotFallen (faults self.old) (faults self.new) }
+        ensures asks { IsAskedOnce (asked self.old) (asked self.new) };
 }

@@ -4,6 +4,7 @@
 //! reader of the output sees is always a front of what was meant.
 ghost use Rattle.std.specs.Prelude.{◌≡◌, ℕ, List, Option, OnOk, OnErr};
 ghost use Rattle.renju_io.specs.Faults.{HasRisen, HasStayed, HasNotFallen};
+ghost use Rattle.renju_io.specs.Asked.{IsAskedOnce};
 ghost use Rattle.renju_io.specs.Told.{Takes, TakesPart};
 
 use crate::Failed;
@@ -16,6 +17,9 @@ pub trait Sink {
     /// How often the sink has failed, up to 2^64 - 1.
     ghost faults: { Self → ℕ };
 
+    /// How often the sink was asked, up to 2^64 - 1. A write that fails counts too.
+    ghost asked: { Self → ℕ };
+
     /// Writes the whole piece behind what was written. A write that fails has written some first bytes of the piece,
     /// maybe none or all of them.
     fn write(&mut self, piece: &[u8]) -> Result<(), Failed>
@@ -23,5 +27,6 @@ pub trait Sink {
         ensures part { OnErr result (TakesPart (written self.old) piece.now (written self.new)) }
         ensures failed { OnErr result (HasRisen (faults self.old) (faults self.new)) }
         ensures uncounted { OnOk result (HasStayed (faults self.old) (faults self.new)) }
-        ensures counted { HasNotFallen (faults self.old) (faults self.new) };
+        ensures counted { HasNotFallen (faults self.old) (faults self.new) }
+        ensures asks { IsAskedOnce (asked self.old) (asked self.new) };
 }

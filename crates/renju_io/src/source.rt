@@ -5,6 +5,7 @@
 ghost use Rattle.std.specs.Prelude.{◌≡◌, ◌<◌, ◌≤◌, ℕ, List, Option, length, take, IfOk, OnOk, OnErr};
 ghost use Rattle.std.specs.Io.KnownBytes.{IsAtEnd};
 ghost use Rattle.renju_io.specs.Faults.{HasRisen, HasStayed, HasNotFallen};
+ghost use Rattle.renju_io.specs.Asked.{IsAskedOnce};
 ghost use Rattle.renju_io.specs.Told.{Gives};
 
 use crate::Failed;
@@ -17,6 +18,9 @@ pub trait Source {
     /// How often the source has failed, up to 2^64 - 1.
     ghost faults: { Self → ℕ };
 
+    /// How often the source was asked, up to 2^64 - 1. A read that fails counts too.
+    ghost asked: { Self → ℕ };
+
     /// Moves the next bytes that are left to the front of `buf`, and answers how many. The bytes of `buf` behind
     /// them may be any. 0 with a buffer that is not empty means that the input has ended.
     fn read(&mut self, buf: &mut [u8]) -> Result<usize, Failed>
@@ -28,5 +32,6 @@ pub trait Source {
         ensures kept { OnErr result (left self.new ≡ left self.old) }
         ensures failed { OnErr result (HasRisen (faults self.old) (faults self.new)) }
         ensures uncounted { OnOk result (HasStayed (faults self.old) (faults self.new)) }
-        ensures counted { HasNotFallen (faults self.old) (faults self.new) };
+        ensures counted { HasNotFallen (faults self.old) (faults self.new) }
+        ensures asks { IsAskedOnce (asked self.old) (asked self.new) };
 }

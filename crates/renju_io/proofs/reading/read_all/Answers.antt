@@ -1,3 +1,7 @@
+use Rattle.std.proofs.Common.{◌+◌, ◌∙◌, arith}
+use Rattle.std.proofs.lemmas.Grind.{common_steps}
+use Rattle.renju_io.specs.declared.TheConstants.{MAX_INPUT_BYTES}
+use Rattle.renju_io.proofs.AskedCalls.{by_each, by_each_failed, few_once}
 use Rattle.renju_io.proofs.GivenBytes.{Gives-some, Gives-then}
 use Rattle.renju_io.proofs.reading.read_all.Goals as goal
 
@@ -9,3 +13,46 @@ returns-then-count-len-clause-taken g c =
 pub returns-then-is_err-clause-taken : goal.returns-then-is_err-clause-taken
 returns-then-is_err-clause-taken g c =
     Gives-some _ _ _ (Gives-then _ _ _ _ _ c.loop-count.invariant.0 c.in-Ok-read.ensures.given)
+
+-- each read before the last gave a byte at least
+pub returns-in_default-read-clause-by_each : goal.returns-in_default-read-clause-by_each
+returns-in_default-read-clause-by_each g c =
+    by_each_failed _ _ _ _ _ _ _ c.loop-count.invariant.0 c.in_default-read.ensures.kept c.loop-count.invariant.4 c.read.ensures.asks
+
+pub returns-then-count-eq0-clause-by_each : goal.returns-then-count-eq0-clause-by_each
+returns-then-count-eq0-clause-by_each g c =
+    by_each _ _ _ _ _ _ _ _ c.loop-count.invariant.0 c.in-Ok-read.ensures.given c.loop-count.invariant.4 c.read.ensures.asks
+
+pub returns-then-count-len-clause-by_each : goal.returns-then-count-len-clause-by_each
+returns-then-count-len-clause-by_each g c =
+    by_each _ _ _ _ _ _ _ _ c.loop-count.invariant.0 c.in-Ok-read.ensures.given c.loop-count.invariant.4 c.read.ensures.asks
+
+pub returns-then-is_err-clause-by_each : goal.returns-then-is_err-clause-by_each
+returns-then-is_err-clause-by_each g c =
+    by_each _ _ _ _ _ _ _ _ c.loop-count.invariant.0 c.in-Ok-read.ensures.given c.loop-count.invariant.4 c.read.ensures.asks
+
+-- and before the last there were no more bytes than an input may have
+pub returns-in_default-read-clause-few_reads : goal.returns-in_default-read-clause-few_reads
+returns-in_default-read-clause-few_reads g c =
+    few_once _ (MAX_INPUT_BYTES + 1) _ _ _ c.loop-count.invariant.4 c.read.ensures.asks (omega (arith, c.loop-count.invariant.1))
+
+pub returns-then-count-eq0-clause-few_reads : goal.returns-then-count-eq0-clause-few_reads
+returns-then-count-eq0-clause-few_reads g c =
+    few_once _ (MAX_INPUT_BYTES + 1) _ _ _ c.loop-count.invariant.4 c.read.ensures.asks (omega (arith, c.loop-count.invariant.1))
+
+pub returns-then-count-len-clause-few_reads : goal.returns-then-count-len-clause-few_reads
+returns-then-count-len-clause-few_reads g c =
+    few_once _ (MAX_INPUT_BYTES + 1) _ _ _ c.loop-count.invariant.4 c.read.ensures.asks (omega (arith, c.loop-count.invariant.1))
+
+pub returns-then-is_err-clause-few_reads : goal.returns-then-is_err-clause-few_reads
+returns-then-is_err-clause-few_reads g c =
+    few_once _ (MAX_INPUT_BYTES + 1) _ _ _ c.loop-count.invariant.4 c.read.ensures.asks (omega (arith, c.loop-count.invariant.1))
+
+pub loop-count-preserved : goal.loop-count-preserved
+loop-count-preserved g c = (
+  (let gives = Gives-then _ _ _ _ _ c.loop-count.invariant.0 c.in-Ok-read.ensures.given in grind (arith, common_steps, gives)),
+  grind (arith, common_steps),
+  c.loop-count.invariant.2,
+  c.in-Ok-read.ensures.uncounted ∙ c.loop-count.invariant.3,
+  few_once _ _ _ _ _ c.loop-count.invariant.4 c.read.ensures.asks (grind (arith, common_steps)),
+)

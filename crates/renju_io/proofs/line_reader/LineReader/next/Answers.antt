@@ -1,12 +1,17 @@
-use Rattle.std.proofs.Common.{◌≢◌, ◌≤◌, ◌∙◌, length, ap, sym, subst, Some, Ok, Result, arith}
+use Rattle.std.proofs.Common.{ℕ, ◌≢◌, ◌≤◌, ◌∙◌, length, ap, sym, subst, Some, Ok, Result, arith}
 use Rattle.renju_io.specs.Lines.{HasNoLineFeed, ReaderState, told_lines}
 use Rattle.renju_io.specs.declared.TheConstants.{MAX_SESSION_BYTES}
+use Rattle.renju_io.proofs.AskedCalls.{within_more, within_once}
 use Rattle.renju_io.proofs.LinesSoFar.{Ended, ReadSoFar, Reading-read, Ended-read, KeepsLine-failed, lines_left-told, IsExhausted-past, not_exhausted_line, not_exhausted_last, open_after, ends_as_before, some_kept}
 use Rattle.renju_io.specs.declared.line_reader.Line.{Line}
 use Rattle.renju_io.specs.declared.line_reader.Line.TheVariants.{Text}
 use Rattle.renju_io.specs.declared.line_reader.ReadError.{ReadError}
 use Rattle.renju_io.proofs.line_reader.LineReader.next.Given.{Over}
 use Rattle.renju_io.proofs.line_reader.LineReader.next.Goals as goal
+
+-- how many bytes a reader took
+abbrev taken : ReaderState → ℕ
+taken reader = reader.taken
 
 pub returns-in-Some-clause-advances : goal.returns-in-Some-clause-advances
 returns-in-Some-clause-advances g c = λ _.
@@ -62,7 +67,25 @@ loop-self-preserved g c =
           c.loop-self.invariant.0 c.in_default.ensures.none few c.in_default.ensures.open c.in-Ok.ensures.ok c.in-Ok.ensures.text,
       c.in-Ok.ensures.ended ∙ ap (λ (reader : ReaderState). reader.ended) c.in_default.ensures.none ∙ c.loop-self.invariant.1,
       c.in-Ok.ensures.uncounted ∙ c.loop-self.invariant.2,
+      within_once _ _ _ _ _ _ c.loop-self.invariant.3 c.read_on.ensures.asks
+          (omega (arith, c.in-Ok.field-0-test.1, c.in-Ok.ensures.ok.counted, ap taken c.in_default.ensures.none)),
     )
+
+-- each read before the last took a byte at least
+pub returns-in-Some-clause-few_reads : goal.returns-in-Some-clause-few_reads
+returns-in-Some-clause-few_reads g c =
+    within_more _ _ _ _ _ c.loop-self.invariant.3 (omega (arith, c.in-Some.ensures.taken))
+
+pub returns-in-Ok-eq0-clause-few_reads : goal.returns-in-Ok-eq0-clause-few_reads
+returns-in-Ok-eq0-clause-few_reads g c =
+    within_once _ _ _ _ _ _ c.loop-self.invariant.3 c.read_on.ensures.asks
+    (rw c.end_input.ensures.ended
+    (omega (arith, c.in-Ok-eq0.ensures.ok.counted, ap taken c.in_default.ensures.none, c.end_input.ensures.taken)))
+
+pub returns-in-Err-clause-few_failed : goal.returns-in-Err-clause-few_failed
+returns-in-Err-clause-few_failed g c = λ _.
+    within_once _ _ _ _ _ _ c.loop-self.invariant.3 c.read_on.ensures.asks
+    (omega (arith, ap taken c.in-Err.ensures.stays, ap taken c.in_default.ensures.none))
 
 pub returns-in-Err-clause-stays : goal.returns-in-Err-clause-stays
 returns-in-Err-clause-stays g c = λ _.
@@ -70,6 +93,9 @@ returns-in-Err-clause-stays g c = λ _.
     let P : ReaderState → Type 0 = λ reader. ReadSoFar c.args.self.now (g.S.Source.left c.args.source.now) reader (g.S.Source.left c.loop-self.source) in
     KeepsLine-failed c.args.self.now c.end_line.new.self c.read_on.new.self _ _ _ (subst P (sym c.in_default.ensures.none) (c.loop-self.invariant.0.within few))
     (subst (λ (reader : ReaderState). HasNoLineFeed reader.kept) (sym c.in_default.ensures.none) c.in_default.ensures.open) c.in-Err.ensures.kept c.in-Err.ensures.stays
+
+pub returns-clause-few_past : goal.returns-clause-few_past
+returns-clause-few_past g c = λ _. c.loop-self.invariant.3
 
 pub returns-clause-exhausted : goal.returns-clause-exhausted
 returns-clause-exhausted g c = λ _.
