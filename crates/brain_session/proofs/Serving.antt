@@ -1,14 +1,16 @@
 -- What a session has read, said and become when it comes to its next line, and how it may end there.
-use Rattle.std.proofs.Common.{◌≡◌, ◌≢◌, ◌≤◌, Bool, true, false, List, [], ◌∷◌, ◌++◌, length, take, refl, sym, ap, subst, ◌∙◌, append_assoc, arith, length-append, Option, Some, None, ◌⊎◌, inl, inr}
+use Rattle.std.proofs.Common.{◌≡◌, ◌≢◌, ◌≤◌, ◌+◌, Bool, true, false, cond, List, [], ◌∷◌, ◌++◌, length, take, refl, sym, ap, subst, ◌∙◌, append_assoc, add_comm, arith, length-append, Option, Some, None, ◌⊎◌, inl, inr}
 use Rattle.std.specs.Prelude.{ℕ, IfSome}
 use Rattle.std.specs.Option.{option_to_list}
 use Rattle.std.specs.Io.KnownBytes.{IsAtEnd}
 use Rattle.std.proofs.lemmas.List.{append-nil, map-append}
 use Rattle.std.proofs.Math.Seq.{take-append_seam}
 use Rattle.std.proofs.lemmas.Grind.{flat_map-append}
+use Rattle.renju_io.specs.Asked.{GivesByEach, IsAsked, IsAskedAtMost, IsAskedOnce, IsAskedWithin}
 use Rattle.renju_io.specs.Told.{Gives, GivesSome, Takes}
-use Rattle.renju_io.specs.Lines.{LineText, lines, whole_lines, Tells, TellsLast, ReaderState, KnowsEnd, TakesLines, KeepsLine, GoesPast, TakesTooMany}
+use Rattle.renju_io.specs.Lines.{LineText, lines, whole_lines, Tells, TellsLast, ReaderState, KnowsEnd, TakesLines, KeepsLine, GoesPast, TakesTooMany, reads_for}
 use Rattle.renju_io.specs.declared.TheConstants.{MAX_SESSION_BYTES}
+use Rattle.renju_io.proofs.AskedCalls.{IsAsked-then, few_more, within_few}
 use Rattle.renju_io.proofs.GivenBytes.{Gives-none, Gives-then, Gives-some}
 use Rattle.renju_io.proofs.TakenText.{Takes-then}
 use Rattle.renju_io.proofs.ToldSoFar.{Reading, new_reader, read_on, HasTold, Takes-none, open_tells, told_then, open_after, bytes_of, begins, all_told}
@@ -24,11 +26,11 @@ use Rattle.brain_session.specs.States.{State}
 use Rattle.brain_session.specs.Steps.{brain_step}
 use Rattle.brain_session.specs.Memory.{takes_none}
 use Rattle.brain_session.specs.Sessions.{then_answers, answers_from, answer_texts, state_after}
-use Rattle.brain_session.specs.Serving.{TakesCommands, IsWritten, IsAnswered, IsHalfAnswered, Served, HasAnswered, HasNoEnd, IsReadToEnd, StopsAtRead, StopsAtWrite, StopsAtStep, within_limit, IsTooLong}
+use Rattle.brain_session.specs.Serving.{TakesCommands, IsWritten, IsAnswered, IsHalfAnswered, Output, Served, served, Writes, HasAnswered, HasNoEnd, IsReadToEnd, StopsAtRead, StopsAtWrite, StopsAtStep, within_limit, IsTooLong}
 use Rattle.brain_session.proofs.SessionLaws.{end_ends, HasNoEnd-none, HasNoEnd-push, answers-append, state-append, answers-one, state-one, answers-end, state-end, state-none, answers-none}
 
-abbrev pub served_on : Served → State → Option (List ℕ) → Served
-served_on v next written = record v { after = next; written_after = written }
+abbrev pub served_on : Served → State → Output → Served
+served_on v next output = record v { after = next; output_after = output }
 
 -- a session read these lines, none of which is END, and answered them
 pub record SoFar (r : Reading) (v : Served) : Type 0 where
@@ -46,10 +48,30 @@ pub record Asked (r : Reading) (v : Served) (c : Command) : Type 0 where
   pub no_end : HasNoEnd (asked told)
   pub answered : HasAnswered v (asked told)
 
+-- no answer was written
+writes_none : (output : Output) → Writes [] output output
+writes_none output = record { wrote = Takes-none output.written; each = refl }
+
+-- one answer was written
+writes_one : (a : Answer) (old new : Output) → Takes old.written (answer_text a) new.written → IsAskedOnce old.asked new.asked → Writes (a ∷ []) old new
+writes_one a old new takes once = record {
+  wrote = subst (λ (text : List ℕ). Takes old.written text new.written) (sym (append-nil (answer_text a))) takes;
+  each = once;
+}
+
+-- answers were written, and then more
+writes_then : (first second : List Answer) (old mid new : Output) → Writes first old mid → Writes second mid new → Writes (first ++ second) old new
+writes_then first second old mid new before after = record {
+  wrote = subst (λ (text : List ℕ). Takes old.written text new.written) (sym (flat_map-append answer_text first second))
+      (Takes-then old.written mid.written new.written (answer_texts first) (answer_texts second) before.wrote after.wrote);
+  each = subst (λ n. IsAsked n old.asked new.asked) (add_comm (length second) (length first) ∙ sym (length-append first second))
+      (IsAsked-then (length first) (length second) old.asked mid.asked new.asked before.each after.each);
+}
+
 -- nothing was read yet
-pub SoFar-begun : (s : State) (left written : Option (List ℕ)) (reader : ReaderState) → reader ≡ new_reader →
-    SoFar (record { left_before = left; reader = reader; left = left }) (record { before = s; after = s; written_before = written; written_after = written })
-SoFar-begun s left written reader fresh = subst (λ (x : ReaderState). SoFar (record { left_before = left; reader = x; left = left }) v) (sym fresh) (record {
+pub SoFar-begun : (s : State) (left : Option (List ℕ)) (output : Output) (reader : ReaderState) → reader ≡ new_reader →
+    SoFar (record { left_before = left; reader = reader; left = left }) (served s s output output)
+SoFar-begun s left output reader fresh = subst (λ (x : ReaderState). SoFar (record { left_before = left; reader = x; left = left }) v) (sym fresh) (record {
   told = [];
   read = record {
     takes = record { given = []; gives = Gives-none left; counted = omega arith; tells = inl (record { whatever = λ more. refl }) };
@@ -59,11 +81,11 @@ SoFar-begun s left written reader fresh = subst (λ (x : ReaderState). SoFar (re
   no_end = HasNoEnd-none;
   answered = record {
     state = sym (state-none s);
-    wrote = subst (λ (answers : List Answer). Takes written (answer_texts answers) written) (sym (answers-none s)) (Takes-none written);
+    writes = subst (λ (answers : List Answer). Writes answers output output) (sym (answers-none s)) (writes_none output);
   };
 }) where
   v : Served
-  v = record { before = s; after = s; written_before = written; written_after = written }
+  v = served s s output output
 
 -- ---- what was read
 
@@ -91,23 +113,21 @@ Asked-told r v told c next left so_far is asks took few knows =
 -- ---- what was answered
 
 -- the answer of a reaction was written
-wrote_one : (r : Reaction) (goes_on : Bool) (written written_after : Option (List ℕ)) → IsWritten r goes_on written written_after →
-    Takes written (answer_texts (then_answers r [])) written_after
-wrote_one Silent goes_on written written_after is = subst (Takes written []) (sym is.1) (Takes-none written)
-wrote_one (Says a) goes_on written written_after is = subst (λ (text : List ℕ). Takes written text written_after) (sym (append-nil (answer_text a))) is.1
-wrote_one Ends goes_on written written_after is = subst (Takes written []) (sym is.1) (Takes-none written)
+wrote_one : (r : Reaction) (goes_on : Bool) (old new : Output) → IsWritten r goes_on old new → Writes (then_answers r []) old new
+wrote_one Silent goes_on old new is = subst (Writes [] old) (sym is.1) (writes_none old)
+wrote_one (Says a) goes_on old new is = writes_one a old new is.1 is.2
+wrote_one Ends goes_on old new is = subst (Writes [] old) (sym is.1) (writes_none old)
 
-goes_on_from : (r : Reaction) (written written_after : Option (List ℕ)) → IsWritten r true written written_after → r ≢ Ends
-goes_on_from Silent written written_after is = λ e. cc
-goes_on_from (Says a) written written_after is = λ e. cc
-goes_on_from Ends written written_after is = let no = is.0 in λ e. cc
+goes_on_from : (r : Reaction) (old new : Output) → IsWritten r true old new → r ≢ Ends
+goes_on_from Silent old new is = λ e. cc
+goes_on_from (Says a) old new is = λ e. cc
+goes_on_from Ends old new is = let no = is.0 in λ e. cc
 
 -- END says nothing
-wrote_end : (r : Reaction) (written written_after : Option (List ℕ)) → r ≡ Ends → IsWritten r false written written_after
-    → written_after ≡ written
-wrote_end Silent written written_after e is = is.1
-wrote_end (Says a) written written_after e is = cc
-wrote_end Ends written written_after e is = is.1
+wrote_end : (r : Reaction) (old new : Output) → r ≡ Ends → IsWritten r false old new → new ≡ old
+wrote_end Silent old new e is = is.1
+wrote_end (Says a) old new e is = cc
+wrote_end Ends old new e is = is.1
 
 -- where these commands, none of which is END, were answered
 module _ (v : Served) (cs : List Command) (no_end : HasNoEnd cs) (answered : HasAnswered v cs) (next : State) where
@@ -116,23 +136,22 @@ module _ (v : Served) (cs : List Command) (no_end : HasNoEnd cs) (answered : Has
   state_then ds state = state ∙ ap (λ s. state_after s ds) answered.state ∙ sym (state-append v.before cs ds no_end)
 
   -- and others were answered from there
-  answered_then : (ds : List Command) (written : Option (List ℕ)) → next ≡ state_after v.after ds
-      → Takes v.written_after (answer_texts (answers_from v.after ds)) written → HasAnswered (served_on v next written) (cs ++ ds)
-  answered_then ds written state wrote = record {
+  answered_then : (ds : List Command) (output : Output) → next ≡ state_after v.after ds
+      → Writes (answers_from v.after ds) v.output_after output → HasAnswered (served_on v next output) (cs ++ ds)
+  answered_then ds output state writes = record {
     state = state_then ds state;
-    wrote = subst (λ (text : List ℕ). Takes v.written_before text written)
-        (sym (ap answer_texts (answers-append v.before cs ds no_end ∙ ap (λ s. answers_from v.before cs ++ answers_from s ds) (sym answered.state))
-        ∙ flat_map-append answer_text (answers_from v.before cs) (answers_from v.after ds)))
-        (Takes-then v.written_before v.written_after written (answer_texts (answers_from v.before cs)) (answer_texts (answers_from v.after ds)) answered.wrote wrote);
+    writes = subst (λ (answers : List Answer). Writes answers v.output_before output)
+        (sym (answers-append v.before cs ds no_end ∙ ap (λ s. answers_from v.before cs ++ answers_from s ds) (sym answered.state)))
+        (writes_then (answers_from v.before cs) (answers_from v.after ds) v.output_before v.output_after output answered.writes writes);
   }
 
 -- the command is answered, and the session goes on
-pub SoFar-answered : (r : Reading) (v : Served) (c : Command) (next : State) (written : Option (List ℕ)) → Asked r v c →
-    IsAnswered v.after c true next v.written_after written → SoFar r (served_on v next written)
+pub SoFar-answered : (r : Reading) (v : Served) (c : Command) (next : State) (written : Output) → Asked r v c →
+    IsAnswered v.after c true next v.output_after written → SoFar r (served_on v next written)
 SoFar-answered r v c next written so_far answered =
     let all : asked (so_far.told ++ (so_far.line ∷ [])) ≡ asked so_far.told ++ (c ∷ []) =
     map-append command_told so_far.told (so_far.line ∷ []) ∙ ap (λ d. asked so_far.told ++ (d ∷ [])) so_far.is in
-    let goes_on : c ≢ End = λ is. goes_on_from (brain_step v.after c).reaction v.written_after written answered.wrote
+    let goes_on : c ≢ End = λ is. goes_on_from (brain_step v.after c).reaction v.output_after written answered.wrote
     (ap (λ d. (brain_step v.after d).reaction) is ∙ end_ends v.after) in
     record {
       told = so_far.told ++ (so_far.line ∷ []);
@@ -140,8 +159,8 @@ SoFar-answered r v c next written so_far answered =
       no_end = subst HasNoEnd (sym all) (HasNoEnd-push (asked so_far.told) c so_far.no_end goes_on);
       answered = subst (HasAnswered (served_on v next written)) (sym all)
           (answered_then v (asked so_far.told) so_far.no_end so_far.answered next (c ∷ []) written (answered.state ∙ sym (state-one v.after c))
-          (subst (λ (answers : List Answer). Takes v.written_after (answer_texts answers) written) (sym (answers-one v.after c))
-          (wrote_one (brain_step v.after c).reaction true v.written_after written answered.wrote)));
+          (subst (λ (answers : List Answer). Writes answers v.output_after written) (sym (answers-one v.after c))
+          (wrote_one (brain_step v.after c).reaction true v.output_after written answered.wrote)));
     }
 
 -- ---- the whole input
@@ -163,17 +182,17 @@ among r v c so_far P holds =
 -- ---- how a session ends at a command
 
 -- it is END
-pub HasAnswered-end : (r : Reading) (v : Served) (c : Command) (next : State) (written : Option (List ℕ)) → Asked r v c →
-    IsAnswered v.after c false next v.written_after written → c ≡ End → IfSome r.left_before (λ bytes. HasAnswered (served_on v next written) (commands bytes))
+pub HasAnswered-end : (r : Reading) (v : Served) (c : Command) (next : State) (written : Output) → Asked r v c →
+    IsAnswered v.after c false next v.output_after written → c ≡ End → IfSome r.left_before (λ bytes. HasAnswered (served_on v next written) (commands bytes))
 HasAnswered-end r v c next written so_far answered is =
-    let silent : written ≡ v.written_after =
-    wrote_end (brain_step v.after c).reaction v.written_after written (ap (λ d. (brain_step v.after d).reaction) is ∙ end_ends v.after) answered.wrote in
+    let silent : written ≡ v.output_after =
+    wrote_end (brain_step v.after c).reaction v.output_after written (ap (λ d. (brain_step v.after d).reaction) is ∙ end_ends v.after) answered.wrote in
     among r v c so_far (HasAnswered (served_on v next written)) (λ later.
     subst (λ (d : Command). HasAnswered (served_on v next written) (asked so_far.told ++ (d ∷ later))) (sym is)
     (answered_then v (asked so_far.told) so_far.no_end so_far.answered next (End ∷ later) written
     (answered.state ∙ ap (λ d. (brain_step v.after d).next) is ∙ sym (state-end v.after later))
-    (subst (λ (answers : List Answer). Takes v.written_after (answer_texts answers) written) (sym (answers-end v.after later))
-    (subst (Takes v.written_after []) (sym silent) (Takes-none v.written_after)))))
+    (subst (λ (answers : List Answer). Writes answers v.output_after written) (sym (answers-end v.after later))
+    (subst (Writes [] v.output_after) (sym silent) (writes_none v.output_after)))))
 
 -- and the source has given END
 pub IsReadToEnd-end : (r : Reading) (v : Served) (c : Command) → Asked r v c → c ≡ End → IsReadToEnd r.left_before r.left
@@ -190,8 +209,8 @@ IsReadToEnd-end r v c so_far is =
     }
 
 -- a write failed
-pub StopsAtWrite-asked : (r : Reading) (v : Served) (c : Command) (next : State) (written : Option (List ℕ)) → Asked r v c →
-    IsHalfAnswered v.after c next v.written_after written → IfSome r.left_before (λ bytes. StopsAtWrite (served_on v next written) (commands bytes))
+pub StopsAtWrite-asked : (r : Reading) (v : Served) (c : Command) (next : State) (written : Output) → Asked r v c →
+    IsHalfAnswered v.after c next v.output_after written → IfSome r.left_before (λ bytes. StopsAtWrite (served_on v next written) (commands bytes))
 StopsAtWrite-asked r v c next written so_far half = among r v c so_far (StopsAtWrite (served_on v next written)) (λ later. record {
   earlier = asked so_far.told;
   command = c;
@@ -201,14 +220,15 @@ StopsAtWrite-asked r v c next written so_far half = among r v c so_far (StopsAtW
   answer = half.answer;
   says = ap (λ s. (brain_step s c).reaction) (sym so_far.answered.state) ∙ half.says;
   state = state_then v (asked so_far.told) so_far.no_end so_far.answered next (c ∷ []) (half.state ∙ sym (state-one v.after c));
-  written = v.written_after;
-  wrote = so_far.answered.wrote;
+  written = v.output_after;
+  writes = so_far.answered.writes;
   part = half.part;
+  once = half.once;
 })
 
 -- memory ran out
-pub StopsAtStep-asked : (r : Reading) (v : Served) (c : Command) (next : State) (written : Option (List ℕ)) → Asked r v c →
-    takes_none v.after c ≡ false → next ≡ v.after → written ≡ v.written_after → IfSome r.left_before (λ bytes. StopsAtStep (served_on v next written) (commands bytes))
+pub StopsAtStep-asked : (r : Reading) (v : Served) (c : Command) (next : State) (written : Output) → Asked r v c →
+    takes_none v.after c ≡ false → next ≡ v.after → written ≡ v.output_after → IfSome r.left_before (λ bytes. StopsAtStep (served_on v next written) (commands bytes))
 StopsAtStep-asked r v c next written so_far needs same unwritten = among r v c so_far (StopsAtStep (served_on v next written)) (λ later. record {
   earlier = asked so_far.told;
   command = c;
@@ -217,17 +237,23 @@ StopsAtStep-asked r v c next written so_far needs same unwritten = among r v c s
   no_end = so_far.no_end;
   answered = record {
     state = same ∙ so_far.answered.state;
-    wrote = subst (Takes v.written_before (answer_texts (answers_from v.before (asked so_far.told)))) (sym unwritten) so_far.answered.wrote;
+    writes = subst (Writes (answers_from v.before (asked so_far.told)) v.output_before) (sym unwritten) so_far.answered.writes;
   };
   needs_memory = ap (λ s. takes_none s c) (sym so_far.answered.state) ∙ needs;
 })
 
 -- ---- how a session ends where no command is told
 
+-- one read at most tells the end
+one_at_most : (b : Bool) → cond b 1 0 ≤ 1
+one_at_most true = omega arith
+one_at_most false = omega arith
+
 -- the end of the input is told
 pub record EndsAt (r : Reading) (v : Served) : Type 0 where
   pub answered : IfSome r.left_before (λ bytes. HasAnswered v (commands bytes))
   pub read : IsReadToEnd r.left_before r.left
+  pub by_each : (a b : ℕ) → IsAskedWithin 0 (reads_for r.reader) a b → GivesByEach r.left_before r.left a b
 
 pub EndsAt-told : (r : Reading) (v : Served) (next : ReaderState) (left : Option (List ℕ)) → SoFar r v
     → TakesCommands r.reader r.left [] next left →
@@ -241,6 +267,11 @@ EndsAt-told r v next left so_far took is none ends stays =
           let over = subst IsAtEnd is_left at_end in
           subst (HasAnswered v) (ap asked (sym (ap (λ m. lines (all.given ++ m)) over ∙ ap lines (append-nil all.given) ∙ all.all))) so_far.answered);
       read = record { given = all.given; gives = all.gives; few = all.few; ends = inr at_end };
+      by_each = λ a b few. record {
+        given = all.given;
+        gives = all.gives;
+        reads = few_more _ _ a b (within_few _ a b few) (omega (arith, all.counted, one_at_most next.ended));
+      };
     }
 
 -- a read failed
@@ -290,6 +321,47 @@ pub PastLimit-taken : (r : Reading) (v : Served) (next : ReaderState) (left : Op
     TakesTooMany r.reader r.left next left → PastLimit r.left_before v
 PastLimit-taken r v next left so_far reading (inl goes) = goes_past r v next left so_far reading goes
 PastLimit-taken r v next left so_far reading (inr past) = absurd (omega (arith, past.0, so_far.read.few))
+
+-- where the reader has told these lines, no more reads were made than its bytes, and one more
+pub by_each_told : (r : Reading) (told : List LineText) (read : HasTold r told) (a b : ℕ) → IsAskedWithin 0 (reads_for r.reader) a b
+    → GivesByEach r.left_before r.left a b
+by_each_told r told read a b few = record {
+  given = read.takes.given;
+  gives = read.takes.gives;
+  reads = few_more _ _ a b (within_few _ a b few) (omega (arith, read.takes.counted, one_at_most r.reader.ended));
+}
+
+-- nor where a read failed within a line
+pub by_each_open : (r : Reading) (v : Served) (next : ReaderState) (left : Option (List ℕ)) (a b : ℕ) → SoFar r v → KeepsLine r.reader r.left next left
+    → IsAskedWithin 0 (next.taken + 1) a b → GivesByEach r.left_before left a b
+by_each_open r v next left a b so_far keeps few =
+    let read = so_far.read.takes in
+    record {
+      given = read.given ++ keeps.given;
+      gives = Gives-then r.left_before r.left left read.given keeps.given read.gives keeps.gives;
+      reads = few_more _ _ a b (within_few _ a b few) (omega (arith, read.counted, keeps.counted, length-append read.given keeps.given));
+    }
+
+-- nor where the input is too long, of which no more was taken than shows that
+pub record AsksPast (left left_after : Option (List ℕ)) (a b : ℕ) : Type 0 where
+  pub by_each : GivesByEach left left_after a b
+  pub few : IsAskedAtMost (MAX_SESSION_BYTES + 1) a b
+
+pub AsksPast-taken : (r : Reading) (v : Served) (next : ReaderState) (left : Option (List ℕ)) (a b : ℕ) → SoFar r v
+    → TakesTooMany r.reader r.left next left → IsAskedWithin 0 next.taken a b → AsksPast r.left_before left a b
+AsksPast-taken r v next left a b so_far (inl goes) few =
+    let read = so_far.read.takes in
+    let past = goes.given ++ goes.past in
+    record {
+      by_each = record {
+        given = read.given ++ past;
+        gives = Gives-then r.left_before r.left left read.given past read.gives goes.gives;
+        reads = few_more _ _ a b (within_few _ a b few)
+            (omega (arith, read.counted, goes.counted, goes.all, goes.one, length-append read.given past, length-append goes.given goes.past));
+      };
+      few = few_more _ _ a b (within_few _ a b few) (omega (arith, goes.counted));
+    }
+AsksPast-taken r v next left a b so_far (inr past) few = absurd (omega (arith, past.0, so_far.read.few))
 
 -- what the source has given in all, where the input is too long
 pub GivesSome-past : (r : Reading) (v : Served) (next : ReaderState) (left : Option (List ℕ)) → SoFar r v

@@ -1,6 +1,6 @@
 -- Steps of the brain: the step of a command by what its row says, and the stones of a batch that fit the board.
 use Rattle.std.proofs.Common.{◌≡◌, ℕ, ◌<◌, Bool, true, false, ◌&&◌, ◌||◌, not, refl, sym, ap, subst, ◌∙◌, arith, List, [], ◌∷◌, ◌++◌, length, get_or}
-use Rattle.std.specs.Prelude.{Option, Some, None, Result, Ok, Err, IfOk, IfSome, IsOk, IsNone, is_some, All, ◌==◌, if◌then◌else◌}
+use Rattle.std.specs.Prelude.{Option, Some, None, Result, Ok, Err, IfOk, IfSome, IsOk, IsNone, is_none, is_some, All, ◌==◌, if◌then◌else◌}
 use Rattle.std.proofs.lemmas.List.Elements.{All-push}
 use Rattle.std.proofs.lemmas.List.Quantifiers.{all_pairs_push}
 use Rattle.std.proofs.lemmas.List.Folds.{list_any_at}
@@ -11,7 +11,7 @@ use Rattle.game_rules.specs.declared.Point.{Point}
 use Rattle.foul_judge.specs.Lawful.{refusal}
 use Rattle.strategy_checker.specs.HeldRoots.{HeldTable, IsHeld}
 use Rattle.gomocup_text.specs.declared.Command.{Command}
-use Rattle.gomocup_text.specs.declared.Command.TheVariants.{Begin, Turn, Takeback, Malformed, Unknown}
+use Rattle.gomocup_text.specs.declared.Command.TheVariants.{Begin, Done, Turn, Takeback, Malformed, Unknown}
 use Rattle.gomocup_text.specs.declared.Answer.TheVariants.{Unknown as SaysUnknown}
 use Rattle.gomocup_text.specs.declared.ErrorText.TheVariants.{BadArguments}
 use Rattle.brain_session.specs.declared.Reaction.{Reaction}
@@ -24,7 +24,7 @@ use Rattle.brain_session.specs.Steps.{Row, Reacts, fails, unread, reading, place
 use Rattle.std.specs.Option.{option_map}
 use Rattle.game_rules.proofs.Boards.{and_left, and_right, on_x}
 use Rattle.brain_session.specs.Running.{IsPlace, IsBrain, StonesFit}
-use Rattle.brain_session.specs.Memory.{is_following, is_settled, takes_none}
+use Rattle.brain_session.specs.Memory.{begins_none, is_following, is_settled, takes_none}
 use Rattle.brain_session.specs.Kept.{IsBegun, IsPointOn, IsStateOf, Takes, has_no_place_in_batch, is_spoiled}
 
 none_from : {X : Type 0} (o : Option X) → IsNone o → o ≡ None
@@ -175,6 +175,18 @@ unread-at s c d same outside e = by_some (is_some s.batch) (ap (λ (r : Bool). i
   by_some : (r : Bool) → (r && true) ≡ false → r ≡ false
   by_some true e = e
   by_some false e = refl
+
+-- a batch that is done and takes none: no game begins from it, or there is no rule
+pub done-free : {E : Type 0} (r : Result Reaction E) (s : State) (c : Command) → c ≡ Done → (begins_none s.batch ≡ true → IsOk r)
+    → (IsNone (rule_of s.wish) → IsOk r) → takes_none s c ≡ true → IsOk r
+done-free r s c is none unsupported free = by_batch (begins_none s.batch) (rule_of s.wish) refl refl
+    (subst (λ (d : Command). takes_none s d ≡ true) is free) where
+      by_batch : (t : Bool) (o : Option RuleKind) → begins_none s.batch ≡ t → rule_of s.wish ≡ o → takes_none s Done ≡ true → IsOk r
+      by_batch true o e f free = none e
+      by_batch false None e f free = unsupported (ap is_some f)
+      by_batch false (Some rule) e f free =
+          let none : is_none (rule_of s.wish) ≡ true = ap (λ (t : Bool). t || is_none (rule_of s.wish)) (sym e) ∙ free in
+          let some : is_none (rule_of s.wish) ≡ false = ap is_none f in absurd (cc)
 
 -- a TURN that takes no memory
 pub turn-free : {E : Type 0} (r : Result Reaction E) (s : State) (c : Command) (x y : ℕ) → c ≡ Turn x y → IsNone s.batch → (is_following s.place ≡ true → IsOk r) → (is_settled s.held (turn_row s s.place (point_at x y)) ≡ true → IsOk r) → takes_none s c ≡ true → IsOk r

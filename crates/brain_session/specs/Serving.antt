@@ -2,6 +2,7 @@
 use Rattle.brain_session.specs.declared.Reaction.{Reaction}
 use Rattle.std.specs.Prelude.{◌≡◌, ℕ, ◌<◌, ◌≤◌, Bool, false, List, [], ◌∷◌, ◌++◌, length, take, Option, Contains, ◌⊎◌, true, map}
 use Rattle.std.specs.Io.KnownBytes.{IsAtEnd}
+use Rattle.renju_io.specs.Asked.{IsAsked, IsAskedOnce}
 use Rattle.renju_io.specs.Told.{Gives, Takes, TakesPart}
 use Rattle.renju_io.specs.Lines.{LineText, ReaderState, TakesLines, whole_lines}
 use Rattle.renju_io.specs.declared.TheConstants.{MAX_SESSION_BYTES}
@@ -22,35 +23,55 @@ pub record TakesCommands (old : ReaderState) (left : Option (List ℕ)) (told : 
   pub takes : TakesLines old left lines new left_after
   pub are : told ≡ map command_told lines
 
--- the answer of the reaction was written, if it is one, and the session goes on, unless it ends
-abbrev pub IsWritten : Reaction → Bool → Option (List ℕ) → Option (List ℕ) → Type 0
-IsWritten Silent goes_on written written_after = (goes_on ≡ true) × (written_after ≡ written)
-IsWritten (Says a) goes_on written written_after = (goes_on ≡ true) × Takes written (answer_text a) written_after
-IsWritten Ends goes_on written written_after = (goes_on ≡ false) × (written_after ≡ written)
+-- what a sink shows: the bytes that were written, where it tells them, and how often it was asked
+pub record Output : Type 0 where
+  pub written : Option (List ℕ)
+  pub asked : ℕ
+
+-- what a sink shows, by what it tells and counts in a state
+abbrev pub output_of : {Sink : Type 0} → (Sink → Option (List ℕ)) → (Sink → ℕ) → Sink → Output
+output_of written asked sink = record { written = written sink; asked = asked sink }
+
+-- the answer of the reaction was written by one write, if it is one, and the session goes on, unless it ends
+abbrev pub IsWritten : Reaction → Bool → Output → Output → Type 0
+IsWritten Silent goes_on old new = (goes_on ≡ true) × (new ≡ old)
+IsWritten (Says a) goes_on old new = (goes_on ≡ true) × Takes old.written (answer_text a) new.written × IsAskedOnce old.asked new.asked
+IsWritten Ends goes_on old new = (goes_on ≡ false) × (new ≡ old)
 
 -- the brain stepped the command, and its answer was written, if it has one
-pub record IsAnswered (old : State) (c : Command) (goes_on : Bool) (new : State) (written written_after : Option (List ℕ)) : Type 0 where
+pub record IsAnswered (old : State) (c : Command) (goes_on : Bool) (new : State) (before after : Output) : Type 0 where
   pub state : new ≡ (brain_step old c).next
-  pub wrote : IsWritten (brain_step old c).reaction goes_on written written_after
+  pub wrote : IsWritten (brain_step old c).reaction goes_on before after
 
--- the brain stepped the command, and of its answer a part was written
-pub record IsHalfAnswered (old : State) (c : Command) (new : State) (written written_after : Option (List ℕ)) : Type 0 where
+-- the brain stepped the command, and of its answer a part was written, by one write
+pub record IsHalfAnswered (old : State) (c : Command) (new : State) (before after : Output) : Type 0 where
   pub state : new ≡ (brain_step old c).next
   pub answer : Answer
   pub says : (brain_step old c).reaction ≡ Says answer
-  pub part : TakesPart written (answer_text answer) written_after
+  pub part : TakesPart before.written (answer_text answer) after.written
+  pub once : IsAskedOnce before.asked after.asked
 
--- a brain and a sink before and after a session, the bytes of the sink where it tells them
+-- a brain and a sink before and after a session
 pub record Served : Type 0 where
   pub before : State
   pub after : State
-  pub written_before : Option (List ℕ)
-  pub written_after : Option (List ℕ)
+  pub output_before : Output
+  pub output_after : Output
 
--- the brain stepped these commands, up to END, and their answers were written
+-- a session from one state of a brain and of a sink to another
+abbrev pub served : (before after : State) → (output_before output_after : Output) → Served
+served before after output_before output_after =
+    record { before = before; after = after; output_before = output_before; output_after = output_after }
+
+-- these answers were written, each by one write
+pub record Writes (answers : List Answer) (old new : Output) : Type 0 where
+  pub wrote : Takes old.written (answer_texts answers) new.written
+  pub each : IsAsked (length answers) old.asked new.asked
+
+-- the brain stepped these commands, up to END, and their answers were written, each by one write
 pub record HasAnswered (v : Served) (stepped : List Command) : Type 0 where
   pub state : v.after ≡ state_after v.before stepped
-  pub wrote : Takes v.written_before (answer_texts (answers_from v.before stepped)) v.written_after
+  pub writes : Writes (answers_from v.before stepped) v.output_before v.output_after
 
 -- none of these commands is END
 abbrev pub HasNoEnd : List Command → Type 0
@@ -71,7 +92,7 @@ pub record StopsAtRead (v : Served) (left left_after : Option (List ℕ)) : Type
   pub no_end : HasNoEnd (commands (whole_lines given))
 
 -- a write failed: the commands before this one, none of which is END, were answered, the brain stepped this one too, and of its
--- answer a part was written
+-- answer a part was written, by one write
 pub record StopsAtWrite (v : Served) (asked : List Command) : Type 0 where
   pub earlier : List Command
   pub command : Command
@@ -81,9 +102,10 @@ pub record StopsAtWrite (v : Served) (asked : List Command) : Type 0 where
   pub answer : Answer
   pub says : (brain_step (state_after v.before earlier) command).reaction ≡ Says answer
   pub state : v.after ≡ state_after v.before (earlier ++ command ∷ [])
-  pub written : Option (List ℕ)
-  pub wrote : Takes v.written_before (answer_texts (answers_from v.before earlier)) written
-  pub part : TakesPart written (answer_text answer) v.written_after
+  pub written : Output
+  pub writes : Writes (answers_from v.before earlier) v.output_before written
+  pub part : TakesPart written.written (answer_text answer) v.output_after.written
+  pub once : IsAskedOnce written.asked v.output_after.asked
 
 -- memory ran out at this command: those before it, none of which is END, were answered, and it is none that takes no memory
 pub record StopsAtStep (v : Served) (asked : List Command) : Type 0 where

@@ -9,7 +9,7 @@ ghost use Rattle.brain_session.specs.States.{new_brain, point_at};
 ghost use Rattle.brain_session.specs.Batches.{game_from};
 ghost use Rattle.brain_session.specs.Steps.{Reacts, begin_row, board_in, board_row, brain_step, done_row, is_side as is_side_lem, restart_row, row_of, rule_of as rule_of_lem, start_row, stone_row, takeback_row, turn_row};
 ghost use Rattle.brain_session.specs.Running.{IsBrain, IsPlace};
-ghost use Rattle.brain_session.specs.Memory.{has_board, has_room, is_following, is_fresh, is_settled, takes_none};
+ghost use Rattle.brain_session.specs.Memory.{begins_none, has_board, has_room, is_following, is_fresh, is_settled, takes_none};
 ghost use Rattle.brain_session.specs.Kept.{IsBegun, IsPointOn, Takes, has_no_place_in_batch as has_no_place_in_batch_lem, held_or_none, is_spoiled, size_in};
 
 use crate::Reaction;
@@ -67,7 +67,7 @@ impl Brain {
 
     /// What the brain does at the command. `Err` says that memory ran out, and then the brain is as before. Memory is taken only
     /// where a board or a game begins, at a stone for which no room is left, and at a TURN that the brain answers while it follows
-    /// nothing and no held root settles it; not where such a command is refused.
+    /// nothing and no held root settles it; not where such a command is refused, but for a position that is unlawful.
     pub fn step(&mut self, command: &Command) -> Result<Reaction, AllocError>
         ensures reaction { IfOk result (λ r. r ≡ (brain_step self.old command.now).reaction) }
         ensures next { OnOk result (self.new ≡ (brain_step self.old command.now).next) }
@@ -210,7 +210,7 @@ impl Brain {
     /// DONE: a game is begun from the position of the batch.
     fn done(&mut self) -> Result<Reaction, AllocError>
         ensures row { IfOk result (λ r. Takes (done_row self.old self.old.batch) self.old r self.new) }
-        ensures unread { IsNone self.old.batch → IsOk result }
+        ensures begins_none { begins_none self.old.batch ≡ true → IsOk result }
         ensures unsupported { IsNone (rule_of_lem self.old.wish) → IsOk result }
         ensures unchanged { OnErr result (self.new ≡ self.old) }
         ensures running { IsBrain self.new }
@@ -240,6 +240,7 @@ impl Brain {
         requires read { IsSome self.now.batch }
         ensures place { IfOk result (λ r. IfSome r (λ made. IsPlace self.now.held made.0)) }
         ensures begun { IfOk result (λ r. IfSome self.now.batch (λ b. IsBegun self.now.held (game_from kind (board_in self.now.place) b) r)) }
+        ensures begins_none { begins_none self.now.batch ≡ true → IsOk result }
     {
         let Some(round) = &self.round else {
             return Ok(None);

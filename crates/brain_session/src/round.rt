@@ -13,7 +13,7 @@ ghost use Rattle.brain_session.specs.States.{Fresh, State, empty_board, point_at
 ghost use Rattle.brain_session.specs.Batches.{game_from};
 ghost use Rattle.brain_session.specs.Steps.{begin_row, board_in, placed, takeback_row, turn_row};
 ghost use Rattle.brain_session.specs.Running.{IsPlace, StonesFit};
-ghost use Rattle.brain_session.specs.Memory.{is_following, is_fresh, is_settled, is_game};
+ghost use Rattle.brain_session.specs.Memory.{begins_none, is_following, is_fresh, is_settled, is_game};
 ghost use Rattle.brain_session.specs.Kept.{are_one as are_one_lem, IsBegun, IsPointOn, IsStateOf, Takes, turn_refusal};
 
 use crate::Reaction;
@@ -93,7 +93,7 @@ impl Round {
     }
 
     /// The game from the position of a batch, with the brain's first move and what it says, if no line of the batch was bad and
-    /// the position is lawful. `Err` says that memory ran out.
+    /// the position is lawful. `Err` says that memory ran out, which a bad line or wrong numbers of stones take none of.
     pub(crate) fn from_batch(
         alloc: Global,
         held: &Held,
@@ -110,6 +110,7 @@ impl Round {
         requires fit { IfSome batch.now (StonesFit (empty_board width height)) }
         ensures place { IfOk result (λ r. IfSome r (λ made. IsPlace held.now made.0)) }
         ensures begun { IfOk result (λ r. IfSome batch.now (λ b. IsBegun held.now (game_from kind (board_in (Fresh width height)) b) r)) }
+        ensures begins_none { begins_none batch.now ≡ true → IsOk result }
     {
         if batch.is_bad() {
             return Ok(None);

@@ -3,15 +3,16 @@
 #![tactic(auto)]
 
 ghost use Rattle.brain_session.specs.Memory.{takes_none};
-ghost use Rattle.renju_io.specs.Lines.{KeepsLine, KnowsEnd, TakesTooMany};
+ghost use Rattle.renju_io.specs.Lines.{KeepsLine, KnowsEnd, TakesTooMany, reads_for};
 ghost use Rattle.renju_io.specs.declared.TheConstants.{MAX_SESSION_BYTES};
 ghost use Rattle.std.specs.Io.KnownBytes.{IsAtEnd};
 ghost use Rattle.std.specs.Option.{option_to_list};
 ghost use Rattle.std.specs.Prelude.{◌≡◌, ◌≢◌, ◌+◌, ◌<◌, ◌≤◌, ◌⊎◌, IfErr, IfSome, IsErrOf, IsSome, OnOk, [], false, true, length, Ok, Err, None, IfOk};
+ghost use Rattle.renju_io.specs.Asked.{GivesByEach, IsAskedAtMost, IsAskedWithin, IsNotAsked};
 ghost use Rattle.renju_io.specs.Faults.{HasRisen, HasStayed, HasNotFallen};
 ghost use Rattle.renju_io.specs.Told.{CutAfter, FailsAfter, GivesSome};
 ghost use Rattle.gomocup_text.specs.Commands.{commands};
-ghost use Rattle.brain_session.specs.Serving.{HasAnswered, IsReadToEnd, StopsAtRead, StopsAtStep, StopsAtWrite, IsTooLong, within_limit, IsAnswered, IsHalfAnswered, TakesCommands};
+ghost use Rattle.brain_session.specs.Serving.{HasAnswered, IsReadToEnd, StopsAtRead, StopsAtStep, StopsAtWrite, IsTooLong, within_limit, IsAnswered, IsHalfAnswered, TakesCommands, output_of, served};
 
 use crate::{Brain, Reaction};
 use gomocup_text::{Command, read_command, write_answer};
@@ -45,18 +46,19 @@ pub fn serve<S: Source, O: Sink>(
     sink: &mut O,
 ) -> Result<(), ServeError>
     ensures ok { OnOk result (IfSome (S.left source.old) (λ left.
-        HasAnswered (record { before = brain.old; after = brain.new; written_before = O.written sink.old; written_after = O.written sink.new }) (commands left))) }
+        HasAnswered (served brain.old brain.new (output_of O.written O.asked sink.old) (output_of O.written O.asked sink.new)) (commands left))) }
     ensures read_failed { IsErrOf result ServeError.ReadFailed →
-        StopsAtRead (record { before = brain.old; after = brain.new; written_before = O.written sink.old; written_after = O.written sink.new }) (S.left source.old) (S.left source.new) }
+        StopsAtRead (served brain.old brain.new (output_of O.written O.asked sink.old) (output_of O.written O.asked sink.new)) (S.left source.old) (S.left source.new) }
     ensures write_failed { IsErrOf result ServeError.WriteFailed → IfSome (S.left source.old) (λ left.
-        StopsAtWrite (record { before = brain.old; after = brain.new; written_before = O.written sink.old; written_after = O.written sink.new }) (commands left)) }
+        StopsAtWrite (served brain.old brain.new (output_of O.written O.asked sink.old) (output_of O.written O.asked sink.new)) (commands left)) }
     ensures exhausted { IsErrOf result ServeError.Exhausted → IfSome (S.left source.old) (λ left.
-        HasAnswered (record { before = brain.old; after = brain.new; written_before = O.written sink.old; written_after = O.written sink.new }) (commands (within_limit left))) }
+        HasAnswered (served brain.old brain.new (output_of O.written O.asked sink.old) (output_of O.written O.asked sink.new)) (commands (within_limit left))) }
     ensures too_long { IsErrOf result ServeError.Exhausted → IfSome (S.left source.old) IsTooLong }
     ensures memory { IsErrOf result ServeError.Memory →
-        (brain.new ≡ brain.old) × (O.written sink.new ≡ O.written sink.old) × (S.left source.new ≡ S.left source.old)
+        (brain.new ≡ brain.old) × (output_of O.written O.asked sink.new ≡ output_of O.written O.asked sink.old) × (S.left source.new ≡ S.left source.old)
+        × IsNotAsked (S.asked source.old) (S.asked source.new)
         ⊎ IfSome (S.left source.old) (λ left.
-        StopsAtStep (record { before = brain.old; after = brain.new; written_before = O.written sink.old; written_after = O.written sink.new }) (commands left)) }
+        StopsAtStep (served brain.old brain.new (output_of O.written O.asked sink.old) (output_of O.written O.asked sink.new)) (commands left)) }
 
     // What is left of the devices.
     ensures ended { OnOk result (IsReadToEnd (S.left source.old) (S.left source.new)) }
@@ -69,6 +71,10 @@ pub fn serve<S: Source, O: Sink>(
     ensures sink_failed { IsErrOf result ServeError.WriteFailed → HasRisen (O.faults sink.old) (O.faults sink.new) }
     ensures sink_uncounted { result ≢ Err ServeError.WriteFailed → HasStayed (O.faults sink.old) (O.faults sink.new) }
     ensures sink_counted { HasNotFallen (O.faults sink.old) (O.faults sink.new) }
+
+    // How often the source was asked: each read but the last gave a byte at least, and none was made once the limit was passed.
+    ensures by_each { GivesByEach (S.left source.old) (S.left source.new) (S.asked source.old) (S.asked source.new) }
+    ensures few_past { IsErrOf result ServeError.Exhausted → IsAskedAtMost (MAX_SESSION_BYTES + 1) (S.asked source.old) (S.asked source.new) }
 {
     let Ok(mut lines) = LineReader::new(alloc) else {
         return Err(ServeError::Memory);
@@ -101,6 +107,9 @@ fn next_command<S: Source>(
     ensures no_other { IfErr result (λ e. (e ≡ ServeError.ReadFailed) ⊎ (e ≡ ServeError.Exhausted)) }
     ensures uncounted { result ≢ Err ServeError.ReadFailed → HasStayed (S.faults source.old) (S.faults source.new) }
     ensures counted { HasNotFallen (S.faults source.old) (S.faults source.new) }
+    ensures few_reads { OnOk result (IsAskedWithin (reads_for lines.old) (reads_for lines.new) (S.asked source.old) (S.asked source.new)) }
+    ensures few_past { IsErrOf result ServeError.Exhausted → IsAskedWithin (reads_for lines.old) lines.new.taken (S.asked source.old) (S.asked source.new) }
+    ensures few_failed { IsErrOf result ServeError.ReadFailed → IsAskedWithin (reads_for lines.old) (lines.new.taken + 1) (S.asked source.old) (S.asked source.new) }
 {
     match lines.next(source) {
         Ok(Line::Text) => Ok(Some(read_command(lines.text()))),
@@ -119,10 +128,13 @@ fn answer<O: Sink>(
     sink: &mut O,
 ) -> Result<bool, ServeError>
     ensures ends { result ≡ Ok false → command.now ≡ Command.End }
-    ensures stepped { IfOk result (λ goes_on. IsAnswered brain.old command.now goes_on brain.new (O.written sink.old) (O.written sink.new)) }
-    ensures write_failed { IsErrOf result ServeError.WriteFailed → IsHalfAnswered brain.old command.now brain.new (O.written sink.old) (O.written sink.new) }
+    ensures stepped { IfOk result (λ goes_on. IsAnswered brain.old command.now goes_on brain.new
+        (output_of O.written O.asked sink.old) (output_of O.written O.asked sink.new)) }
+    ensures write_failed { IsErrOf result ServeError.WriteFailed → IsHalfAnswered brain.old command.now brain.new
+        (output_of O.written O.asked sink.old) (output_of O.written O.asked sink.new) }
     ensures memory { IsErrOf result ServeError.Memory
-        → (takes_none brain.old command.now ≡ false) × (brain.new ≡ brain.old) × (O.written sink.new ≡ O.written sink.old) }
+        → (takes_none brain.old command.now ≡ false) × (brain.new ≡ brain.old)
+        × (output_of O.written O.asked sink.new ≡ output_of O.written O.asked sink.old) }
     ensures no_other { IfErr result (λ e. (e ≡ ServeError.WriteFailed) ⊎ (e ≡ ServeError.Memory)) }
     ensures written_last { IsErrOf result ServeError.WriteFailed → CutAfter O.written O.faults sink.old sink.new }
     ensures sink_failed { IsErrOf result ServeError.WriteFailed → HasRisen (O.faults sink.old) (O.faults sink.new) }

@@ -5,6 +5,7 @@ use Rattle.std.specs.List.{AllByRecursion}
 use Rattle.strategy_graph.specs.declared.TheConstants.{MAX_NODES}
 use Rattle.strategy_compiler.specs.Unfolded.{HoldMore}
 use Rattle.position_files.specs.declared.TableFile.{TableFile}
+use Rattle.renju_io.specs.Faults.{HasRisen}
 use Rattle.renju_io.specs.Files.{Files, file_under}
 use Rattle.renju_io.specs.Told.{Takes}
 use Rattle.std.proofs.lemmas.Option.{same_Some}
@@ -179,14 +180,39 @@ module _ (shelf : Change (Option Files)) (n : ℕ) (name bytes : List ℕ) (old 
   added-by (Ok (Some answer)) (inr h) = inr (h.0, bindable-by h.0 h.1 h.2, loaded.sound, h.3, h.4)
   added-by (Err e) h = tt
 
--- a change, by its parts
-abbrev pub changed : {T : Type 0} → T → T → ℕ → ℕ → Change T
-changed before after faults last = record { before = before; after = after; faults_before = faults; faults_after = last }
+-- what comes of a file from a shelf that was as at the start is so from the start
+module _ (old new : Change (Option Files)) (same : old.before ≡ new.before) (faults : old.faults_before ≡ new.faults_before)
+    (after : old.faults_after ≡ new.faults_after) where
+  sound-from : IsSound old → IsSound new
+  sound-from sound = sym after ∙ sound ∙ faults
 
--- changes of a shelf that was as at the start are changes from the start
-pub from-start : {T : Type 0} (before start after : T) (faults first last : ℕ) → before ≡ start → faults ≡ first
-    → changed before after faults last ≡ changed start after first last
-from-start before start after faults first last e f = λ i. record { before = e i; after = after; faults_before = f i; faults_after = last }
+  loaded-from : (name bytes : List ℕ) → IsLoaded old name bytes → IsLoaded new name bytes
+  loaded-from name bytes loaded = record {
+    found = subst (λ (o : Option Files). IfSome o (λ files. file_under name files ≡ Some bytes)) same loaded.found;
+    sound = sound-from loaded.sound;
+  }
+
+  bindable-from : (name : List ℕ) (file : TableFile) → IsBindable old.before name file → IsBindable new.before name file
+  bindable-from name file = subst (λ (o : Option Files). IsBindable o name file) same
+
+  unheld-from : (name : List ℕ) (status : Status) (text : List ℕ) → IsUnheld TableFileSays old name status text
+      → IsUnheld TableFileSays new name status text
+  unheld-from name status text (inl refused) =
+      let loaded = loaded-from name refused.bytes refused.loaded in
+      inl (record { bytes = refused.bytes; loaded = loaded; fits = refused.fits; says = refused.says })
+  unheld-from name status text (inr (inl long)) =
+      let loaded = loaded-from name long.bytes long.loaded in
+      inr (inl (record { bytes = long.bytes; loaded = loaded; long = long.long; ends = long.ends; line = long.line }))
+  unheld-from name status text (inr (inr fault)) = inr (inr (record {
+    failed = subst (λ n. HasRisen n new.faults_after) faults (subst (λ n. HasRisen old.faults_before n) after fault.failed);
+    ends = fault.ends;
+    line = fault.line;
+  }))
+
+  pub told-from : (n : ℕ) (name : List ℕ) (book next : Book) (answer : Answer) → IsAdded old n name book next (Some answer)
+      → IsAdded new n name book next (Some answer)
+  told-from n name book next answer (inl h) = inl (h.0, unheld-from name answer.status h.0 h.1, h.2)
+  told-from n name book next answer (inr h) = inr (h.0, bindable-from name h.0 h.1, sound-from h.2, h.3, h.4)
 
 -- ---- where it stops
 

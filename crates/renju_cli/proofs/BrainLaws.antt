@@ -1,5 +1,5 @@
 -- The command `brain`: why a FILE is not held, when the command answers, and what its runs show.
-use Rattle.std.proofs.Common.{◌≡◌, inl, inr, refl, sym, ap, subst, ◌∙◌, ◌⊎◌, ℕ, ◌<◌, ◌≤◌, List, [], ◌∷◌, length, map, arith}
+use Rattle.std.proofs.Common.{◌≡◌, inl, inr, refl, sym, ap, subst, ◌∙◌, ◌⊎◌, ℕ, ◌+◌, ◌<◌, ◌≤◌, List, [], ◌∷◌, length, map, arith}
 use Rattle.std.specs.Prelude.{◌≢◌, Option, Some, None, Result, Ok, Err, OnOk, IsErrOf, IfSome, IsSomeAnd, Contains}
 use Rattle.std.proofs.lemmas.Option.{same_Some}
 use Rattle.strategy_checker.specs.HeldRoots.{HeldTable}
@@ -12,14 +12,16 @@ use Rattle.gomocup_text.specs.declared.Command.TheVariants.{End}
 use Rattle.brain_session.specs.declared.sessions.ServeError.{ServeError}
 use Rattle.brain_session.specs.declared.sessions.ServeError.TheVariants.{ReadFailed, WriteFailed, Exhausted, Memory as NoMemory}
 use Rattle.brain_session.specs.States.{State, new_brain}
-use Rattle.brain_session.specs.Serving.{Served, HasAnswered, IsReadToEnd, StopsAtRead, StopsAtWrite, StopsAtStep, within_limit, IsTooLong}
+use Rattle.brain_session.specs.Serving.{Output, Served, served, HasAnswered, IsReadToEnd, StopsAtRead, StopsAtWrite, StopsAtStep, within_limit, IsTooLong}
 use Rattle.renju_cli.specs.declared.status.Status.{Status}
 use Rattle.renju_cli.specs.declared.status.Status.TheVariants.{Done, Memory, ReadFault, WriteFault, TooLong}
 use Rattle.brain_session.specs.declared.TheConstants.{BRAIN_WORK}
 use Rattle.renju_cli.specs.Statuses.{status_number}
-use Rattle.renju_cli.specs.Runs.{Change, Run, HasFailed, IsSound}
+use Rattle.renju_io.specs.Asked.{IsNotAsked}
+use Rattle.renju_cli.specs.Runs.{Change, Run, HasFailed, IsAskedNoMore, IsSound}
 use Rattle.renju_cli.specs.Checks.{IsTableAt, IsRefusedTable, IsSpentWork}
-use Rattle.renju_cli.specs.Brains.{nothing_held, held_by, named_entry, of_book, of_table, HeldFile, NamedRoot, session_of, EndsSession, session_status, IsSession, IsUnbegun, EndsBrain, IsUnhinderedSession, HasServed, AnswersAll, IsBrain, IsFit, IsHeldText, IsLoaded, IsLoadedBookText, IsLoadedHeld, IsLoadedText, BookFileSays, FileSays, TableFileSays, IsUnheld, IsBrainWith, GivesHeld, IsUnhinderedShelf}
+use Rattle.renju_cli.specs.Brains.{nothing_held, held_by, named_entry, of_book, of_table, HeldFile, NamedRoot, session_of, shown_before, shown_after, EndsSession, IsSession, IsUnbegun, EndsBrain, IsUnhinderedSession, HasServed, AnswersAll, IsBrain, IsFit, IsHeldText, IsLoaded, BookFileSays, FileSays, TableFileSays, IsUnheld, IsBrainWith, TellsFile, PlaysByFile, GivesHeld, IsUnhinderedShelf}
+use Rattle.renju_cli.specs.Loading.{session_status, IsLoadedBookText, IsLoadedHeld, IsLoadedText}
 use Rattle.renju_cli.specs.declared.loading.Loaded.{Loaded}
 use Rattle.renju_cli.specs.declared.loading.Loaded.TheVariants.{Holds, Tells}
 use Rattle.renju_cli.specs.Books.{AreAccepted, IsBookAt, IsRefusedEntry}
@@ -49,7 +51,7 @@ long-file name None h = let x = longer-than MAX_INPUT_BYTES in (x.0, tt, x.1)
 
 -- what a session did whose input and output changed so
 abbrev pub did : State → State → (input output : Change (Option (List ℕ))) → Served
-did first last input output = record { before = first; after = last; written_before = output.before; written_after = output.after }
+did first last input output = served first last (shown_before output) (shown_after output)
 
 -- how a session ended of a brain that is new and holds this, as `serve` tells it
 pub record IsServed (first last : State) (input output : Change (Option (List ℕ))) (outcome : Result (Unit {0}) ServeError) : Type 0 where
@@ -61,7 +63,9 @@ pub record IsServed (first last : State) (input output : Change (Option (List �
   pub sink_failed : IsErrOf outcome WriteFailed → HasFailed output
   pub exhausted : IsErrOf outcome Exhausted → IfSome input.before (λ left. HasAnswered (did first last input output) (commands (within_limit left)))
   pub too_long : IsErrOf outcome Exhausted → IfSome input.before IsTooLong
-  pub memory : IsErrOf outcome NoMemory → (last ≡ first) × (output.after ≡ output.before) × (input.after ≡ input.before)
+  pub few_past : IsErrOf outcome Exhausted → IsAskedNoMore (MAX_SESSION_BYTES + 1) input
+  pub memory : IsErrOf outcome NoMemory → (last ≡ first) × (shown_after output ≡ shown_before output) × (input.after ≡ input.before)
+      × IsNotAsked input.asked_before input.asked_after
       ⊎ IfSome input.before (λ left. StopsAtStep (did first last input output) (commands left))
   pub source_uncounted : outcome ≢ Err ReadFailed → IsSound input
   pub sink_uncounted : outcome ≢ Err WriteFailed → IsSound output
@@ -79,14 +83,19 @@ module _ (held : HeldTable) (last : State) (input output : Change (Option (List 
   by-outcome (Ok done) is = session-by Done (is.ok, is.ended)
   by-outcome (Err ReadFailed) is = session-by ReadFault (is.source_failed refl, is.read_failed refl)
   by-outcome (Err WriteFailed) is = session-by WriteFault (is.sink_failed refl, is.write_failed refl)
-  by-outcome (Err Exhausted) is = session-by TooLong (both-told _ _ input.before (is.exhausted refl) (is.too_long refl))
+  by-outcome (Err Exhausted) is = session-by TooLong (both-told _ _ input.before (is.exhausted refl) (is.too_long refl), is.few_past refl)
   by-outcome (Err NoMemory) is = by-memory (is.memory refl) where
-    by-memory : (last ≡ new_brain held) × (output.after ≡ output.before) × (input.after ≡ input.before)
+    by-memory : (last ≡ new_brain held) × (shown_after output ≡ shown_before output) × (input.after ≡ input.before)
+        × IsNotAsked input.asked_before input.asked_after
         ⊎ IfSome input.before (λ left. StopsAtStep (session_of held last output) (commands left)) → EndsBrain held input output 6
     by-memory (inl none) = inr (record {
       ends = refl;
-      unread = record { same = none.2; faults = is.source_uncounted (λ e. absurd (cc)) };
-      silent = record { same = none.1; faults = is.sink_uncounted (λ e. absurd (cc)) };
+      unread = record { same = none.2; faults = is.source_uncounted (λ e. absurd (cc)); asked = none.3 };
+      silent = record {
+        same = ap (λ (shown : Output). shown.written) none.1;
+        faults = is.sink_uncounted (λ e. absurd (cc));
+        asked = ap (λ (shown : Output). shown.asked) none.1;
+      };
     })
     by-memory (inr stops) = session-by Memory stops
 
@@ -113,12 +122,12 @@ module _ (held : HeldTable) (run : Run) (bytes : List ℕ) (free : IsUnhinderedS
       → HasServed held run bytes ⊎ (run.status ≡ status_number Memory)
   by-status Done last ends how =
       let answered = told-some (λ told. HasAnswered (session_of held last run.output) (commands told)) run.input.before bytes free.told how.0 in
-      inl (record { ends = ends; whole = answered.wrote })
+      inl (record { ends = ends; whole = answered.writes.wrote })
   by-status Memory last ends how = inr ends
   by-status ReadFault last ends how = absurd (free.input_sound how.0)
   by-status WriteFault last ends how = absurd (free.output_sound how.0)
   by-status TooLong last ends how =
-      let long = told-some (λ told. HasAnswered (session_of held last run.output) (commands (within_limit told)) × IsTooLong told) run.input.before bytes free.told how in
+      let long = told-some (λ told. HasAnswered (session_of held last run.output) (commands (within_limit told)) × IsTooLong told) run.input.before bytes free.told how.0 in
       absurd (not-too_long bytes free.fits long.1)
   by-status _ last ends how = absurd how
 
@@ -205,7 +214,8 @@ module _ (name : List ℕ) (run : Run) (files : Files) (told : run.shelf.before 
 
   module _ (file : HeldFile) (fit : GivesHeld name files file) where
     -- what a file gives is played by, unless the shelf failed or memory ran out before
-    pub ends-by : IsBrainWith name run → IsSession (held_by file) run.input run.output run.status ⊎ HasFailed run.shelf ⊎ IsUnbegun run.input run.output run.status
+    pub ends-by : PlaysByFile name run ⊎ TellsFile FileSays name run ⊎ IsUnbegun run.input run.output run.status
+        → IsSession (held_by file) run.input run.output run.status ⊎ HasFailed run.shelf ⊎ IsUnbegun run.input run.output run.status
     ends-by (inl plays) =
         let at = subst (λ (l : List ℕ). IsHeldText plays.file l) (same-bytes fit.bytes fit.found plays.bytes plays.loaded) plays.at in
         inl (subst (λ (f : HeldFile). IsSession (held_by f) run.input run.output run.status) (one-held file plays.file fit.bytes fit.at at) plays.session)
@@ -214,7 +224,7 @@ module _ (name : List ℕ) (run : Run) (files : Files) (told : run.shelf.before 
 
 -- `brain FILE` serves its input to the end by what a file gives
 pub brain-with-answers : (name : List ℕ) (run : Run) → IsBrainWith name run → (file : HeldFile) → IsUnhinderedShelf (λ files. GivesHeld name files file) run → AnswersAll (held_by file) run
-brain-with-answers name run is file free bytes session = by-end (ends-by name run free.files free.told file free.fit is) where
+brain-with-answers name run is file free bytes session = by-end (ends-by name run free.files free.told file free.fit is.ends) where
   by-end : IsSession (held_by file) run.input run.output run.status ⊎ HasFailed run.shelf ⊎ IsUnbegun run.input run.output run.status
       → HasServed (held_by file) run bytes ⊎ (run.status ≡ status_number Memory)
   by-end (inl served) = session-serves (held_by file) run bytes session (inl served)

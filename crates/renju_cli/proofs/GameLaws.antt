@@ -52,7 +52,7 @@ use Rattle.renju_cli.specs.declared.status.Status.TheVariants.{Done, ShelfFault,
 use Rattle.renju_cli.specs.Statuses.{status_number}
 use Rattle.renju_cli.specs.Runs.{Change, Run, IsDelivered}
 use Rattle.renju_cli.specs.Checks.{IsTableAt, IsRefusedTable, IsSpentWork}
-use Rattle.renju_cli.specs.Brains.{nothing_held, held_by, held_with, named_entry, named_root, of_table, HeldFile, NamedRoot, session_of, EndsSession, IsSession, IsFit, IsHeldText, BookFileSays, FileSays, TableFileSays, IsUnheld, IsBrain, IsBrainWith, GivesHeld}
+use Rattle.renju_cli.specs.Brains.{nothing_held, held_by, held_with, named_entry, named_root, of_table, HeldFile, NamedRoot, session_of, EndsSession, IsSession, IsFit, IsHeldText, BookFileSays, FileSays, TableFileSays, IsUnheld, IsBrain, IsBrainWith, GivesHeld, PlaysByFile, TellsFile, IsUnbegun}
 use Rattle.renju_cli.specs.Games.{state_told, StandsBehind, GamesGoWell, PlaysByRoots, OwnGamesGoWellIn, AnsweredLines, IsPlayedBy, ShowsGames, PlaysOwnWins}
 use Rattle.renju_cli.proofs.BrainLaws.{told-some, found-under, ends-by}
 use Rattle.renju_cli.proofs.ToldLaws.{where-told}
@@ -184,7 +184,7 @@ module _ (held : HeldTable) (run : Run) (bytes : List ℕ) (told : run.input.bef
         front = ([], sym (append-nil (commands bytes)));
         whole = λ done. refl;
         written = run.output.after;
-        wrote = answered.wrote;
+        wrote = answered.writes.wrote;
         ends = inl refl;
       }
   lines_by ReadFault last ends how =
@@ -194,7 +194,7 @@ module _ (held : HeldTable) (run : Run) (bytes : List ℕ) (told : run.input.bef
         front = given_lines bytes stops.given run.input.before run.input.after told stops.gives;
         whole = λ done. let e : 7 ≡ 0 = sym ends ∙ done in cc;
         written = run.output.after;
-        wrote = stops.answered.wrote;
+        wrote = stops.answered.writes.wrote;
         ends = inl refl;
       }
   lines_by WriteFault last ends how =
@@ -203,19 +203,19 @@ module _ (held : HeldTable) (run : Run) (bytes : List ℕ) (told : run.input.bef
         asked = stops.earlier;
         front = (stops.command ∷ stops.later, stops.among);
         whole = λ done. let e : 8 ≡ 0 = sym ends ∙ done in cc;
-        written = stops.written;
-        wrote = stops.wrote;
+        written = stops.written.written;
+        wrote = stops.writes.wrote;
         ends = inr (ends, (stops.answer, stops.part));
       }
   lines_by TooLong last ends how =
       let long = told-some (λ all. HasAnswered (session_of held last run.output) (commands (within_limit all))
-      × IsTooLong all) run.input.before bytes told how in
+      × IsTooLong all) run.input.before bytes told how.0 in
       record {
         asked = commands (within_limit bytes);
         front = front_lines MAX_SESSION_BYTES bytes;
         whole = λ done. let e : 11 ≡ 0 = sym ends ∙ done in cc;
         written = run.output.after;
-        wrote = long.0.wrote;
+        wrote = long.0.writes.wrote;
         ends = inl refl;
       }
   lines_by Memory last ends how =
@@ -225,7 +225,7 @@ module _ (held : HeldTable) (run : Run) (bytes : List ℕ) (told : run.input.bef
         front = (stops.command ∷ stops.later, stops.among);
         whole = λ done. let e : 6 ≡ 0 = sym ends ∙ done in cc;
         written = run.output.after;
-        wrote = stops.answered.wrote;
+        wrote = stops.answered.writes.wrote;
         ends = inl refl;
       }
   lines_by _ last ends how = absurd how
@@ -353,11 +353,12 @@ module _ (name : List ℕ) (run : Run) (is : IsBrainWith name run) (files : File
   played-by : (file : HeldFile) → GivesHeld name files file → IsPlayedBy file run
   played-by file fit = record {
     plays = file_plays file fit.bytes fit.at;
-    ends = ends-by name run files told file fit is;
+    ends = ends-by name run files told file fit is.ends;
     answered = answered_lines (held_by file) run;
   }
 
-  fits-where : IsBrainWith name run → (run.status ≡ status_number Done) ⊎ (run.status ≡ status_number ReadFault)
+  fits-where : PlaysByFile name run ⊎ TellsFile FileSays name run ⊎ IsUnbegun run.input run.output run.status
+      → (run.status ≡ status_number Done) ⊎ (run.status ≡ status_number ReadFault)
       → (file : HeldFile) × GivesHeld name files file
   fits-where (inl plays) ended = (
     plays.file,
@@ -377,7 +378,7 @@ module _ (name : List ℕ) (run : Run) (is : IsBrainWith name run) (files : File
 -- what `brain FILE` did in a run shows this of its games
 pub brain-plays : (name : List ℕ) (run : Run) → IsBrainWith name run → IfSome run.shelf.before (λ files. ShowsGames name files run)
 brain-plays name run is = where-told run.shelf.before (λ files told. record {
-  fits = fits-where name run is files told is;
+  fits = fits-where name run is files told is.ends;
   plays = λ file fit. played-by name run is files told file fit;
 })
 

@@ -20,7 +20,7 @@ use Rattle.renju_cli.specs.Runs.{Run}
 use Rattle.renju_cli.specs.Told.{AnswersTold, EndsTold, IsYielded}
 use Rattle.renju_cli.specs.Refusals.{IsRefusedText}
 use Rattle.renju_cli.specs.Checks.{IsTableAt}
-use Rattle.renju_cli.specs.Brains.{IsFit, IsFitFile, IsUnhinderedShelf, TableFileSays}
+use Rattle.renju_cli.specs.Brains.{IsFit, IsFitFile, IsUnbegun, IsUnhinderedShelf, TableFileSays, TellsFile}
 use Rattle.renju_cli.specs.Referees.{ComparesSays, HasGameFault, IsGameAt, IsRefereeWith, RefereeSays, RefereesByFile, ShowsGame, TellsTable, compares_command, of_game, referee_command, replay_line}
 use Rattle.renju_cli.proofs.ToldLaws.{IsWhole, answers-by, by-end, given-told, where-told}
 use Rattle.renju_cli.proofs.CheckLaws.{one-table}
@@ -55,15 +55,20 @@ by-file name run files told file fit by =
     subst (λ (f : TableFile). EndsTold (ComparesSays f) run.input run.output run.status)
     (one-table file by.file fit.bytes fit.at at) by.ends
 
-pub referee-with-answers : (name : List ℕ) (run : Run) → IsRefereeWith name run → (file : TableFile) → IsUnhinderedShelf (λ files. IsFitFile name files file) run
-    → AnswersTold (compares_command name file) run
-referee-with-answers name run (inl by) file free bytes un =
+answers-end : (name : List ℕ) (run : Run)
+    → RefereesByFile name run ⊎ TellsFile TableFileSays name run ⊎ IsUnbegun run.input run.output run.status
+    → (file : TableFile) → IsUnhinderedShelf (λ files. IsFitFile name files file) run → AnswersTold (compares_command name file) run
+answers-end name run (inl by) file free bytes un =
     answers-by (compares_command name file) (compares-answers name file) run bytes un
     (by-file name run free.files free.told file free.fit by)
-referee-with-answers name run (inr (inl tells)) file free bytes un =
+answers-end name run (inr (inl tells)) file free bytes un =
     absurd (free.shelf_sound (not-told name run free.files free.told free.fit.bytes free.fit.found TableFileSays free.fit.fits
     (table-not_told file free.fit.bytes free.fit.at free.fit.fit) tells.status tells.text tells.why))
-referee-with-answers name run (inr (inr unbegun)) file free bytes un = inr (record { ends = unbegun.ends; silent = unbegun.silent })
+answers-end name run (inr (inr unbegun)) file free bytes un = inr (record { ends = unbegun.ends; silent = unbegun.silent })
+
+pub referee-with-answers : (name : List ℕ) (run : Run) → IsRefereeWith name run → (file : TableFile)
+    → IsUnhinderedShelf (λ files. IsFitFile name files file) run → AnswersTold (compares_command name file) run
+referee-with-answers name run is = answers-end name run is.ends
 
 -- ---- what is shown
 
@@ -115,7 +120,8 @@ module _ (name : List ℕ) (run : Run) (done : run.status ≡ status_number Done
           kept = kept-by by.file said.0 by.fit said.2.second said.2.tells;
         }
 
-  shown-by : IsRefereeWith name run → IfSome run.input.before (λ input. ShowsGame name files input run)
+  shown-by : RefereesByFile name run ⊎ TellsFile TableFileSays name run ⊎ IsUnbegun run.input run.output run.status
+      → IfSome run.input.before (λ input. ShowsGame name files input run)
   shown-by (inl by) = by-ends (by-end (ComparesSays by.file) run by.ends) where
     by-ends : IsWhole (ComparesSays by.file) run ⊎ IsYielded run.status → IfSome run.input.before (λ input. ShowsGame name files input run)
     by-ends (inl whole) = by-whole by whole
@@ -129,4 +135,4 @@ module _ (name : List ℕ) (run : Run) (done : run.status ≡ status_number Done
 -- what status 0 of `referee FILE` shows
 pub referee-shown : (name : List ℕ) (run : Run) → IsRefereeWith name run → run.status ≡ status_number Done → IfSome run.shelf.before
     (λ files. IfSome run.input.before (λ input. ShowsGame name files input run))
-referee-shown name run is done = where-told run.shelf.before (λ files told. shown-by name run done files told is)
+referee-shown name run is done = where-told run.shelf.before (λ files told. shown-by name run done files told is.ends)

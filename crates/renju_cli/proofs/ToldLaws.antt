@@ -1,5 +1,5 @@
 -- How a told command ends, whatever it says.
-use Rattle.std.proofs.Common.{◌≡◌, inl, inr, refl, sym, ap, subst, ◌∙◌, ◌⊎◌, ℕ, suc, ◌<◌, List, length, arith}
+use Rattle.std.proofs.Common.{◌≡◌, inl, inr, refl, sym, ap, subst, ◌∙◌, ◌⊎◌, ℕ, suc, ◌+◌, ◌<◌, List, length, arith}
 use Rattle.std.specs.Prelude.{Option, Some, None, IfSome, replicate}
 use Rattle.std.proofs.lemmas.Option.{same_Some}
 use Rattle.std.proofs.lemmas.List.{length-replicate}
@@ -9,7 +9,7 @@ use Rattle.renju_cli.specs.declared.status.Status.{Status}
 use Rattle.renju_cli.specs.declared.status.Status.TheVariants.{TooLong}
 use Rattle.renju_cli.specs.Statuses.{status_number}
 use Rattle.renju_cli.specs.Texts.{too_long_line}
-use Rattle.renju_cli.specs.Runs.{Change, Run, IsDelivered, IsOutOfMemory}
+use Rattle.renju_cli.specs.Runs.{Change, Run, IsAskedNoMore, IsDelivered, IsOutOfMemory}
 use Rattle.renju_cli.specs.Told.{ToldCommand, IsInput, IsSaid, IsTooLong, EndsTold, IsTold, IsYielded, IsUnhindered, HasAnswered, AnswersTold}
 
 -- some list is longer than n
@@ -22,10 +22,11 @@ long-bytes (Some told) h = (told, refl, h)
 long-bytes None h = let x = longer-than MAX_INPUT_BYTES in (x.0, tt, x.1)
 
 -- an input that is too long is told so
-pub too-long : (input : Change (Option (List ℕ))) (text : List ℕ) → text ≡ too_long_line → IfSome input.before (λ told. MAX_INPUT_BYTES < length told) → IsTooLong input TooLong text
-too-long input text line h =
+pub too-long : (input : Change (Option (List ℕ))) (text : List ℕ) → text ≡ too_long_line → IsAskedNoMore (MAX_INPUT_BYTES + 1) input
+    → IfSome input.before (λ told. MAX_INPUT_BYTES < length told) → IsTooLong input TooLong text
+too-long input text line few h =
     let l = long-bytes input.before h in
-    record { bytes = l.0; given = l.1; long = l.2; ends = refl; line = line }
+    record { bytes = l.0; given = l.1; long = l.2; few = few; ends = refl; line = line }
 
 -- the bytes that are told are the only input
 told-bytes : (left : Option (List ℕ)) (bytes other : List ℕ) → left ≡ Some bytes → IsInput left other → other ≡ bytes

@@ -17,7 +17,7 @@ use Rattle.renju_cli.specs.declared.TheConstants.{MAX_FILES}
 use Rattle.renju_cli.specs.declared.status.Status.{Status}
 use Rattle.renju_cli.specs.declared.status.Status.TheVariants.{Done, Full}
 use Rattle.renju_cli.specs.Statuses.{status_number}
-use Rattle.renju_cli.specs.Runs.{Change, Run, HasFailed, IsDelivered, IsOutOfMemory, IsSound, IsUnasked}
+use Rattle.renju_cli.specs.Runs.{Change, Run, HasFailed, IsDelivered, IsOutOfMemory, IsSound, IsAskedNoMore, IsUnasked}
 use Rattle.renju_cli.specs.Forms.{Command, HasWords}
 use Rattle.renju_cli.specs.Checks.{IsTableAt}
 use Rattle.renju_cli.specs.Brains.{IsFileName, IsFit, IsUnheld, TableFileSays}
@@ -113,9 +113,11 @@ pub record TellsBook (names : List (List ℕ)) (run : Run) : Type 0 where
   pub says : BindSays names run.shelf status text
   pub delivered : IsDelivered status text run.output run.status
 
--- What `bind` does in a run: it leaves the input unasked, and says what becomes of the files, or memory ran out before.
+-- What `bind` does in a run: it leaves the input unasked, asks the shelf no more often than there are files, and says what becomes of
+-- them, or memory ran out before.
 pub record IsBind (names : List (List ℕ)) (run : Run) : Type 0 where
   pub input : IsUnasked run.input
+  pub each : IsAskedNoMore (length names) run.shelf
   pub ends : TellsBook names run ⊎ IsOutOfMemory run.output run.status
 
 -- What `bind` needs to write a book of these tables: a shelf that tells its files, in which they stand under the names; no more

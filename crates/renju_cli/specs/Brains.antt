@@ -1,5 +1,5 @@
 -- The command `brain`: its words, how its sessions end, and what comes of its FILE.
-use Rattle.std.specs.Prelude.{◌≡◌, ◌≢◌, ◌⊎◌, ℕ, ◌≤◌, ◌<◌, List, [], ◌∷◌, codes, length, map, Option, Some, Result, Ok, Err, IfSome, Contains, unwrap_or, slice_get}
+use Rattle.std.specs.Prelude.{◌≡◌, ◌≢◌, ◌⊎◌, ℕ, ◌+◌, ◌≤◌, ◌<◌, List, [], ◌∷◌, codes, length, map, Option, Some, IfSome, Contains, unwrap_or, slice_get}
 use Rattle.strategy_graph.specs.Roots.{root_arrivals, AcceptedRoot}
 use Rattle.strategy_graph.specs.declared.Node.{Node}
 use Rattle.strategy_checker.specs.HeldRoots.{HeldTable}
@@ -15,19 +15,15 @@ use Rattle.renju_io.specs.Files.{Files, file_under}
 use Rattle.renju_io.specs.declared.TheConstants.{MAX_INPUT_BYTES, MAX_SESSION_BYTES}
 use Rattle.gomocup_text.specs.Commands.{commands}
 use Rattle.gomocup_text.specs.declared.Command.TheVariants.{End}
-use Rattle.brain_session.specs.declared.sessions.ServeError.{ServeError}
-use Rattle.brain_session.specs.declared.sessions.ServeError.TheVariants.{ReadFailed, WriteFailed, Exhausted, Memory as NoMemory}
 use Rattle.brain_session.specs.States.{State, new_brain}
 use Rattle.brain_session.specs.Sessions.{session_text}
-use Rattle.brain_session.specs.Serving.{Served, HasAnswered, IsReadToEnd, StopsAtRead, StopsAtWrite, StopsAtStep, within_limit, IsTooLong}
+use Rattle.brain_session.specs.Serving.{Output, Served, served, HasAnswered, IsReadToEnd, StopsAtRead, StopsAtWrite, StopsAtStep, within_limit, IsTooLong}
 use Rattle.renju_cli.specs.declared.status.Status.{Status}
 use Rattle.renju_cli.specs.declared.status.Status.TheVariants.{Done, Usage, ShelfFault, RefusedText, RefusedTable, Spent, Memory, ReadFault, WriteFault, NotFound, TooLong, Full}
-use Rattle.renju_cli.specs.declared.loading.Loaded.{Loaded}
-use Rattle.renju_cli.specs.declared.loading.Loaded.TheVariants.{Holds, Tells}
 use Rattle.brain_session.specs.declared.TheConstants.{BRAIN_WORK}
 use Rattle.renju_cli.specs.Statuses.{status_number}
 use Rattle.renju_cli.specs.Texts.{too_long_line, shelf_line}
-use Rattle.renju_cli.specs.Runs.{Change, Run, HasFailed, IsSound, IsUnasked, IsDelivered}
+use Rattle.renju_cli.specs.Runs.{Change, Run, HasFailed, IsSound, IsUnasked, IsAskedOnly, IsAskedNoMore, IsDelivered}
 use Rattle.renju_cli.specs.Forms.{Command}
 use Rattle.renju_cli.specs.Refusals.{IsRefusedText}
 use Rattle.renju_cli.specs.Checks.{IsTableAt, IsRefusedTable, IsSpentWork}
@@ -89,19 +85,28 @@ named_entry e = record { root = held_entry e; moves = e.moves }
 abbrev pub of_book : Book → HeldFile
 of_book book = record { table = book.table; roots = map named_entry book.entries }
 
+-- what the output shows before and after
+abbrev pub shown_before : Change (Option (List ℕ)) → Output
+shown_before output = record { written = output.before; asked = output.asked_before }
+
+abbrev pub shown_after : Change (Option (List ℕ)) → Output
+shown_after output = record { written = output.after; asked = output.asked_after }
+
 -- the session of a brain that is new and holds this, and is in this state at its end
 abbrev pub session_of : HeldTable → State → Change (Option (List ℕ)) → Served
-session_of held last output = record { before = new_brain held; after = last; written_before = output.before; written_after = output.after }
+session_of held last output = served (new_brain held) last (shown_before output) (shown_after output)
 
 -- How a session ends with a status. Done: each line up to END or the end of input is answered. ReadFault: the whole lines of the
 -- bytes that the input gave, and no more. WriteFault: each line before the one whose answer was not written whole. TooLong: the
--- lines that end within the bytes that a session may have, none of which is END, and the input has more bytes. Memory: each line
--- before one at which memory ran out.
+-- lines that end within the bytes that a session may have, none of which is END, and the input has more bytes, of which no more is
+-- read than shows that. Memory: each line before one at which memory ran out.
 abbrev pub EndsSession : Served → (input output : Change (Option (List ℕ))) → Status → Type 0
 EndsSession v input output Done = IfSome input.before (λ bytes. HasAnswered v (commands bytes)) × IsReadToEnd input.before input.after
 EndsSession v input output ReadFault = HasFailed input × StopsAtRead v input.before input.after
 EndsSession v input output WriteFault = HasFailed output × IfSome input.before (λ bytes. StopsAtWrite v (commands bytes))
-EndsSession v input output TooLong = IfSome input.before (λ bytes. HasAnswered v (commands (within_limit bytes)) × IsTooLong bytes)
+EndsSession v input output TooLong =
+    IfSome input.before (λ bytes. HasAnswered v (commands (within_limit bytes)) × IsTooLong bytes)
+    × IsAskedNoMore (MAX_SESSION_BYTES + 1) input
 EndsSession v input output Memory = IfSome input.before (λ bytes. StopsAtStep v (commands bytes))
 EndsSession v input output Usage = ⊥
 EndsSession v input output ShelfFault = ⊥
@@ -110,14 +115,6 @@ EndsSession v input output RefusedTable = ⊥
 EndsSession v input output Spent = ⊥
 EndsSession v input output NotFound = ⊥
 EndsSession v input output Full = ⊥
-
--- the status of a session that ended so
-abbrev pub session_status : Result (Unit {0}) ServeError → Status
-session_status (Ok done) = Done
-session_status (Err ReadFailed) = ReadFault
-session_status (Err WriteFailed) = WriteFault
-session_status (Err Exhausted) = TooLong
-session_status (Err NoMemory) = Memory
 
 -- a brain that holds this served the input
 pub record IsSession (held : HeldTable) (input output : Change (Option (List ℕ))) (number : ℕ) : Type 0 where
@@ -197,26 +194,6 @@ BookFileSays bytes status text = IsRefusedBook bytes status text ⊎ ((book : Bo
 abbrev pub FileSays : List ℕ → Status → List ℕ → Type 0
 FileSays bytes status text = (BeginsBook bytes × BookFileSays bytes status text) ⊎ ((¬ BeginsBook bytes) × TableFileSays bytes status text)
 
--- what comes of the table of a text: it is held, or what is told of it says why not
-abbrev pub IsLoadedFile : TableFile → Loaded → Type 0
-IsLoadedFile file (Holds held) = IsFit file × (held ≡ held_by (of_table file))
-IsLoadedFile file (Tells answer) = IsRefusedTable file answer.status answer.text.items ⊎ IsSpentWork BRAIN_WORK file answer.status answer.text.items
-
--- what comes of the bytes of a FILE that is to be a table: the table of the text is held, or what is told of them says why not
-abbrev pub IsLoadedText : List ℕ → Loaded → Type 0
-IsLoadedText bytes (Holds held) = (file : TableFile) × IsTableAt file bytes × IsFit file × (held ≡ held_by (of_table file))
-IsLoadedText bytes (Tells answer) = TableFileSays bytes answer.status answer.text.items
-
--- what comes of a book: it is held with all its entries, or what is told of it says why not
-abbrev pub IsLoadedBook : Book → Loaded → Type 0
-IsLoadedBook book (Holds held) = AreAccepted BRAIN_WORK book × (held ≡ held_by (of_book book))
-IsLoadedBook book (Tells answer) = IsRefusedEntry BRAIN_WORK book answer.status answer.text.items
-
--- what comes of the bytes of a FILE that is to be a book: the book of the text is held, or what is told of them says why not
-abbrev pub IsLoadedBookText : List ℕ → Loaded → Type 0
-IsLoadedBookText bytes (Holds held) = (book : Book) × IsBookAt book bytes × AreAccepted BRAIN_WORK book × (held ≡ held_by (of_book book))
-IsLoadedBookText bytes (Tells answer) = BookFileSays bytes answer.status answer.text.items
-
 -- the bytes are the text of a table that is accepted, and this is what it gives
 pub record IsOfTable (held : HeldFile) (bytes : List ℕ) : Type 0 where
   pub file : TableFile
@@ -234,11 +211,6 @@ pub record IsOfBook (held : HeldFile) (bytes : List ℕ) : Type 0 where
 -- the bytes give this to be held
 abbrev pub IsHeldText : HeldFile → List ℕ → Type 0
 IsHeldText held bytes = IsOfTable held bytes ⊎ IsOfBook held bytes
-
--- what comes of the bytes of a FILE: what they give is held, or what is told of them says why not
-abbrev pub IsLoadedHeld : List ℕ → Loaded → Type 0
-IsLoadedHeld bytes (Holds held) = (file : HeldFile) × IsHeldText file bytes × (held ≡ held_by file)
-IsLoadedHeld bytes (Tells answer) = FileSays bytes answer.status answer.text.items
 
 -- FILE was loaded, and is not held
 pub record IsRefusedFile (Says : List ℕ → Status → List ℕ → Type 0) (shelf : Change (Option Files)) (name : List ℕ) (status : Status)
@@ -284,9 +256,11 @@ pub record PlaysByFile (name : List ℕ) (run : Run) : Type 0 where
   pub at : IsHeldText file bytes
   pub session : IsSession (held_by file) run.input run.output run.status
 
--- What `brain FILE` does in a run: it plays by what the file gives, or tells why it does not, or memory ran out before.
-abbrev pub IsBrainWith : List ℕ → Run → Type 0
-IsBrainWith name run = PlaysByFile name run ⊎ TellsFile FileSays name run ⊎ IsUnbegun run.input run.output run.status
+-- What `brain FILE` does in a run: it asks the shelf once, and plays by what the file gives, or tells why it does not, or memory ran
+-- out before.
+pub record IsBrainWith (name : List ℕ) (run : Run) : Type 0 where
+  pub once : IsAskedOnly run.shelf
+  pub ends : PlaysByFile name run ⊎ TellsFile FileSays name run ⊎ IsUnbegun run.input run.output run.status
 
 -- among these files the one with this name is not too long, and is the text of a table that is accepted
 pub record IsFitFile (name : List ℕ) (files : Files) (file : TableFile) : Type 0 where

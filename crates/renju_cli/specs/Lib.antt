@@ -20,6 +20,7 @@ pub mod Images
 pub mod Defends
 pub mod Binds
 pub mod Binders
+pub mod Loading
 pub mod Referees
 -- the list of commands, and what the program does
 pub mod Commands

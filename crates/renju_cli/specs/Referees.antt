@@ -28,7 +28,7 @@ use Rattle.renju_io.specs.declared.TheConstants.{MAX_INPUT_BYTES}
 use Rattle.renju_cli.specs.declared.status.Status.{Status}
 use Rattle.renju_cli.specs.declared.status.Status.TheVariants.{Done}
 use Rattle.renju_cli.specs.Statuses.{status_number}
-use Rattle.renju_cli.specs.Runs.{Run}
+use Rattle.renju_cli.specs.Runs.{Run, IsAskedOnly}
 use Rattle.renju_cli.specs.Forms.{Command, HasWords}
 use Rattle.renju_cli.specs.Told.{AnswersTold, EndsTold, ToldCommand}
 use Rattle.renju_cli.specs.Refusals.{IsRefusedText}
@@ -134,10 +134,11 @@ pub record RefereesByFile (name : List ℕ) (run : Run) : Type 0 where
   pub fit : IsFit file
   pub ends : EndsTold (ComparesSays file) run.input run.output run.status
 
--- What `referee FILE` does in a run: it judges beside the table of the file, or tells why it does not and leaves the input unasked,
--- or memory ran out before.
-abbrev pub IsRefereeWith : List ℕ → Run → Type 0
-IsRefereeWith name run = RefereesByFile name run ⊎ TellsFile TableFileSays name run ⊎ IsUnbegun run.input run.output run.status
+-- What `referee FILE` does in a run: it asks the shelf once, and judges beside the table of the file, or tells why it does not and
+-- leaves the input unasked, or memory ran out before.
+pub record IsRefereeWith (name : List ℕ) (run : Run) : Type 0 where
+  pub once : IsAskedOnly run.shelf
+  pub ends : RefereesByFile name run ⊎ TellsFile TableFileSays name run ⊎ IsUnbegun run.input run.output run.status
 
 -- `referee FILE` as a command that is told its input, once FILE is accepted: it answers for each game from a lawful position
 abbrev pub compares_command : List ℕ → TableFile → ToldCommand

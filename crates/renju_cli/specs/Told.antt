@@ -1,5 +1,5 @@
 -- Commands that are told: such a command reads its whole input, says a status and a text of it, and writes the text.
-use Rattle.std.specs.Prelude.{◌≡◌, ◌⊎◌, ℕ, ◌≤◌, ◌<◌, List, Option, Some, None, length}
+use Rattle.std.specs.Prelude.{◌≡◌, ◌⊎◌, ℕ, ◌+◌, ◌≤◌, ◌<◌, List, Option, Some, None, length}
 use Rattle.std.specs.Io.KnownBytes.{IsAtEnd}
 use Rattle.renju_io.specs.Told.{Takes}
 use Rattle.renju_io.specs.declared.TheConstants.{MAX_INPUT_BYTES}
@@ -7,7 +7,7 @@ use Rattle.renju_cli.specs.declared.status.Status.{Status}
 use Rattle.renju_cli.specs.declared.status.Status.TheVariants.{Memory, ReadFault, WriteFault, TooLong}
 use Rattle.renju_cli.specs.Statuses.{status_number}
 use Rattle.renju_cli.specs.Texts.{too_long_line}
-use Rattle.renju_cli.specs.Runs.{Change, Run, HasFailed, IsUnasked, IsDelivered, IsOutOfMemory}
+use Rattle.renju_cli.specs.Runs.{Change, Run, HasFailed, IsAskedNoMore, IsUnasked, IsDelivered, IsOutOfMemory}
 use Rattle.renju_cli.specs.Forms.{Command}
 
 -- A command that is told its input: its words, what has to hold of its numbers, the statuses and texts that it says of an
@@ -32,11 +32,12 @@ pub record IsSaid (Says : List ℕ → Status → List ℕ → Type 0) (input : 
   pub ended : IsAtEnd input.after
   pub says : Says bytes status text
 
--- the input has more bytes than a command takes, and is only told so
+-- the input has more bytes than a command takes, and is only told so, once a read has passed the most of them
 pub record IsTooLong (input : Change (Option (List ℕ))) (status : Status) (text : List ℕ) : Type 0 where
   pub bytes : List ℕ
   pub given : IsInput input.before bytes
   pub long : MAX_INPUT_BYTES < length bytes
+  pub few : IsAskedNoMore (MAX_INPUT_BYTES + 1) input
   pub ends : status ≡ TooLong
   pub line : text ≡ too_long_line
 

@@ -5,6 +5,7 @@
 #![tactic(auto)]
 
 ghost use Rattle.std.specs.Prelude.{◌≡◌, ◌≢◌, ◌↔◌, ◌∷◌, ◌<◌, ℕ, List, Option, codes, length, map, IfOk, IsTrue, OnErr, MatchOption, string_bytes};
+ghost use Rattle.renju_io.specs.Asked.{IsAskedAtMost};
 ghost use Rattle.renju_io.specs.Faults.{HasNotFallen, HasStayed};
 ghost use Rattle.table_book.specs.declared.TheConstants.{MAX_ENTRIES};
 ghost use Rattle.renju_cli.specs.Statuses.{status_number};
@@ -58,7 +59,7 @@ pub(crate) fn bind<O: Sink, F: Shelf>(
 ) -> Status
     requires names { AreNames (map string_bytes names.now) }
     ensures binds { (words : List (List ℕ)) (input : Change (Option (List ℕ))) → IsUnasked input → IsBind (map string_bytes names.now)
-        (run_of words input (change O.written O.faults output.old output.new) (change F.files F.faults shelf.old shelf.new) (status_number result)) }
+        (run_of words input (change O.written O.faults O.asked output.old output.new) (change F.files F.faults F.asked shelf.old shelf.new) (status_number result)) }
     ensures output { HasNotFallen (O.faults output.old) (O.faults output.new) }
     ensures shelf { HasNotFallen (F.faults shelf.old) (F.faults shelf.new) }
     ensures files { F.files shelf.new ≡ F.files shelf.old }
@@ -79,12 +80,13 @@ fn bind_files<F: Shelf>(
     shelf: &mut F,
 ) -> Result<Answer, AllocError>
     requires names { AreNames (map string_bytes names.now) }
-    ensures says { IfOk result (λ answer. BindSays (map string_bytes names.now) (change F.files F.faults shelf.old shelf.new)
+    ensures says { IfOk result (λ answer. BindSays (map string_bytes names.now) (change F.files F.faults F.asked shelf.old shelf.new)
         answer.status answer.text.items) }
     ensures shelf { HasNotFallen (F.faults shelf.old) (F.faults shelf.new) }
     ensures files { F.files shelf.new ≡ F.files shelf.old }
     ensures loads { IfOk result (λ answer. answer.status ≢ Status.ShelfFault → HasStayed (F.faults shelf.old) (F.faults shelf.new)) }
     ensures memory { OnErr result (HasStayed (F.faults shelf.old) (F.faults shelf.new)) }
+    ensures each { IsAskedAtMost (length (map string_bytes names.now)) (F.asked shelf.old) (F.asked shelf.new) }
 {
     let mut binder = Binder::new(alloc);
     for (before, name) in names.iter().enumerate() {
@@ -110,10 +112,11 @@ fn add_file<F: Shelf>(
     shelf: &mut F,
 ) -> Result<Option<Answer>, AllocError>
     requires room { length binder.old.entries < MAX_ENTRIES }
-    ensures added { IfOk result (IsAdded (change F.files F.faults shelf.old shelf.new) number name.now binder.old binder.new) }
+    ensures added { IfOk result (IsAdded (change F.files F.faults F.asked shelf.old shelf.new) number name.now binder.old binder.new) }
     ensures shelf { HasNotFallen (F.faults shelf.old) (F.faults shelf.new) }
     ensures files { F.files shelf.new ≡ F.files shelf.old }
     ensures memory { OnErr result (HasStayed (F.faults shelf.old) (F.faults shelf.new)) }
+    ensures each { IsAskedAtMost 1 (F.asked shelf.old) (F.asked shelf.new) }
 {
     // It is made before the shelf is asked, so that its fault is told even where memory ends.
     let failed = of_file(alloc, number, Status::ShelfFault, SHELF_FAILED.as_bytes())?;

@@ -6,11 +6,12 @@
 
 ghost use Rattle.std.specs.Prelude.{◌≡◌, ◌≢◌, ◌∷◌, ℕ, List, codes, map, MatchOption, string_bytes};
 ghost use Rattle.renju_io.specs.Faults.{HasNotFallen, HasStayed};
-ghost use Rattle.renju_io.specs.Told.{GivesSome};
+ghost use Rattle.renju_io.specs.Asked.{GivesByEach};
 ghost use Rattle.brain_session.specs.Kept.{held_or_none};
 ghost use Rattle.renju_cli.specs.Statuses.{status_number};
 ghost use Rattle.renju_cli.specs.Runs.{change, run_of};
-ghost use Rattle.renju_cli.specs.Brains.{session_status, EndsBrain, IsBrainWith};
+ghost use Rattle.renju_cli.specs.Brains.{EndsBrain, IsBrainWith};
+ghost use Rattle.renju_cli.specs.Loading.{session_status};
 ghost use Rattle.renju_cli.specs.Commands.{IsForm, HasForm};
 
 use crate::loading::{Loaded, SHELF_FAILED, load_any};
@@ -42,9 +43,9 @@ pub(crate) fn play_with<I: Source, O: Sink, F: Shelf>(
     output: &mut O,
     shelf: &mut F,
 ) -> Status
-    ensures plays { (words : List (List ℕ)) → IsBrainWith file.now (run_of words (change I.left I.faults input.old input.new)
-        (change O.written O.faults output.old output.new) (change F.files F.faults shelf.old shelf.new) (status_number result)) }
-    ensures taken { GivesSome (I.left input.old) (I.left input.new) }
+    ensures plays { (words : List (List ℕ)) → IsBrainWith file.now (run_of words (change I.left I.faults I.asked input.old input.new)
+        (change O.written O.faults O.asked output.old output.new) (change F.files F.faults F.asked shelf.old shelf.new) (status_number result)) }
+    ensures taken { GivesByEach (I.left input.old) (I.left input.new) (I.asked input.old) (I.asked input.new) }
     ensures input { HasNotFallen (I.faults input.old) (I.faults input.new) }
     ensures output { HasNotFallen (O.faults output.old) (O.faults output.new) }
     ensures shelf { HasNotFallen (F.faults shelf.old) (F.faults shelf.new) }
@@ -74,9 +75,9 @@ pub(crate) fn play<I: Source, O: Sink>(
     input: &mut I,
     output: &mut O,
 ) -> Status
-    ensures ends { EndsBrain (held_or_none held) (change I.left I.faults input.old input.new)
-        (change O.written O.faults output.old output.new) (status_number result) }
-    ensures taken { GivesSome (I.left input.old) (I.left input.new) }
+    ensures ends { EndsBrain (held_or_none held) (change I.left I.faults I.asked input.old input.new)
+        (change O.written O.faults O.asked output.old output.new) (status_number result) }
+    ensures taken { GivesByEach (I.left input.old) (I.left input.new) (I.asked input.old) (I.asked input.new) }
     ensures input { HasNotFallen (I.faults input.old) (I.faults input.new) }
     ensures output { HasNotFallen (O.faults output.old) (O.faults output.new) }
     ensures reads { status_number result ≢ status_number Status.ReadFault → HasStayed (I.faults input.old) (I.faults input.new) }

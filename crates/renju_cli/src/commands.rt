@@ -99,10 +99,10 @@ pub(crate) fn run<I: Source, O: Sink, F: Shelf>(
     output: &mut O,
     shelf: &mut F,
 ) -> Status
-    ensures report { Report (run_of (map string_bytes words.now) (change I.left I.faults input.old input.new)
-        (change O.written O.faults output.old output.new) (change F.files F.faults shelf.old shelf.new) (status_number result)) }
-    ensures devices { KeepsDevices (run_of (map string_bytes words.now) (change I.left I.faults input.old input.new)
-        (change O.written O.faults output.old output.new) (change F.files F.faults shelf.old shelf.new) (status_number result)) }
+    ensures report { Report (run_of (map string_bytes words.now) (change I.left I.faults I.asked input.old input.new)
+        (change O.written O.faults O.asked output.old output.new) (change F.files F.faults F.asked shelf.old shelf.new) (status_number result)) }
+    ensures devices { KeepsDevices (run_of (map string_bytes words.now) (change I.left I.faults I.asked input.old input.new)
+        (change O.written O.faults O.asked output.old output.new) (change F.files F.faults F.asked shelf.old shelf.new) (status_number result)) }
 {
     match form_of(words) {
         None => deliver(Status::Usage, USAGE.as_bytes(), output),

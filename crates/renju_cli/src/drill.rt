@@ -32,7 +32,7 @@ pub(crate) fn form(rest: &[String]) -> Option<Form>
 /// `drill N`: writes the lines of the drill of the number.
 #[inline(never)]
 pub(crate) fn drill<O: Sink>(alloc: Global, number: u32, output: &mut O) -> Status
-    ensures ends { EndsDrill number (change O.written O.faults output.old output.new) (status_number result) }
+    ensures ends { EndsDrill number (change O.written O.faults O.asked output.old output.new) (status_number result) }
     ensures output { HasNotFallen (O.faults output.old) (O.faults output.new) }
     ensures writes { status_number result ≢ status_number Status.WriteFault → HasStayed (O.faults output.old) (O.faults output.new) }
 {

@@ -8,7 +8,7 @@ ghost use Rattle.std.specs.Prelude.{◌≡◌, true, length, IfOk};
 ghost use Rattle.game_rules.specs.Play.{IsPosition};
 ghost use Rattle.strategy_graph.specs.Roots.{root_below, root_depth};
 ghost use Rattle.table_book.specs.Books.{IsWellFormed};
-ghost use Rattle.renju_cli.specs.Brains.{IsLoadedBook, IsLoadedBookText, IsLoadedFile, IsLoadedHeld, IsLoadedText};
+ghost use Rattle.renju_cli.specs.Loading.{IsLoadedBook, IsLoadedBookText, IsLoadedFile, IsLoadedHeld, IsLoadedText};
 ghost use Rattle.renju_cli.specs.Binders.{IsFittedFile, IsFittedText};
 
 use crate::Status;

@@ -6,7 +6,7 @@
 
 ghost use Rattle.std.specs.Prelude.{◌≡◌, ◌≢◌, ℕ, List, IfOk};
 ghost use Rattle.renju_io.specs.Faults.{HasNotFallen, HasStayed};
-ghost use Rattle.renju_io.specs.Told.{GivesSome};
+ghost use Rattle.renju_io.specs.Asked.{GivesByEach};
 ghost use Rattle.renju_cli.specs.declared.status.Status.{Status};
 ghost use Rattle.renju_cli.specs.Statuses.{status_number};
 ghost use Rattle.renju_cli.specs.Runs.{change, IsDelivered};
@@ -44,9 +44,9 @@ pub(crate) fn tell<C: Told, I: Source, O: Sink>(
     output: &mut O,
 ) -> Status
     requires in_range { C.in_range command.now }
-    ensures ends { EndsTold (C.says command.now) (change I.left I.faults input.old input.new)
-        (change O.written O.faults output.old output.new) (status_number result) }
-    ensures taken { GivesSome (I.left input.old) (I.left input.new) }
+    ensures ends { EndsTold (C.says command.now) (change I.left I.faults I.asked input.old input.new)
+        (change O.written O.faults O.asked output.old output.new) (status_number result) }
+    ensures taken { GivesByEach (I.left input.old) (I.left input.new) (I.asked input.old) (I.asked input.new) }
     ensures input { HasNotFallen (I.faults input.old) (I.faults input.new) }
     ensures output { HasNotFallen (O.faults output.old) (O.faults output.new) }
     ensures reads { status_number result ≢ status_number Status.ReadFault → HasStayed (I.faults input.old) (I.faults input.new) }
@@ -65,7 +65,7 @@ pub(crate) fn tell<C: Told, I: Source, O: Sink>(
 
 /// Writes a text, and answers its status, or that of a write fault.
 pub(crate) fn deliver<O: Sink>(status: Status, text: &[u8], output: &mut O) -> Status
-    ensures delivered { IsDelivered status text.now (change O.written O.faults output.old output.new) (status_number result) }
+    ensures delivered { IsDelivered status text.now (change O.written O.faults O.asked output.old output.new) (status_number result) }
     ensures counted { HasNotFallen (O.faults output.old) (O.faults output.new) }
     ensures writes { status_number result ≢ status_number Status.WriteFault → HasStayed (O.faults output.old) (O.faults output.new) }
 {

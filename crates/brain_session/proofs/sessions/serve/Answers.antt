@@ -2,13 +2,16 @@ use Rattle.std.proofs.Common.{◌≡◌, ◌∙◌, true, false, sym, ap, subst,
 use Rattle.std.specs.Prelude.{IsErrOf}
 use Rattle.std.specs.Option.{option_to_list}
 use Rattle.std.specs.Result.{IsErrAnd}
+use Rattle.renju_io.specs.Asked.{IsAskedWithin}
+use Rattle.renju_io.specs.Lines.{ReaderState, reads_for}
+use Rattle.renju_io.proofs.AskedCalls.{none_within, within_then}
 use Rattle.renju_io.proofs.GivenBytes.{Gives-some, Gives-then}
 use Rattle.renju_io.proofs.TakenText.{Takes-then}
 use Rattle.gomocup_text.specs.declared.Command.{Command}
 use Rattle.brain_session.specs.declared.sessions.ServeError.{ServeError}
 use Rattle.brain_session.specs.declared.sessions.ServeError.TheVariants.{ReadFailed, WriteFailed, Exhausted, Memory}
-use Rattle.brain_session.specs.Serving.{TakesCommands, IsAnswered}
-use Rattle.brain_session.proofs.Serving.{Asked, EndsAt, PastLimit, SoFar-begun, Asked-told, SoFar-answered, HasAnswered-end, IsReadToEnd-end, StopsAtWrite-asked, StopsAtStep-asked, EndsAt-told, StopsAtRead-open, PastLimit-taken, GivesSome-past}
+use Rattle.brain_session.specs.Serving.{TakesCommands, IsAnswered, output_of, served}
+use Rattle.brain_session.proofs.Serving.{Asked, EndsAt, PastLimit, SoFar-begun, Asked-told, SoFar-answered, HasAnswered-end, IsReadToEnd-end, StopsAtWrite-asked, StopsAtStep-asked, EndsAt-told, StopsAtRead-open, PastLimit-taken, GivesSome-past, by_each_told, by_each_open, AsksPast-taken}
 use Rattle.brain_session.proofs.sessions.serve.Given.{Over}
 use Rattle.brain_session.proofs.sessions.serve.Goals as goal
 
@@ -32,6 +35,8 @@ loop-lines-init g c = record {
   so_far = SoFar-begun c.args.brain.now _ _ c.in-Ok.lines c.in-Ok.ensures.fresh;
   source_stayed = refl;
   sink_stayed = refl;
+  reads = subst (λ (reader : ReaderState). IsAskedWithin 0 (reads_for reader) (g.S.Source.asked c.args.source.now) (g.S.Source.asked c.args.source.now))
+      (sym c.in-Ok.ensures.fresh) (none_within 0 (g.S.Source.asked c.args.source.now));
 }
 
 -- a read failed, or the input is too long
@@ -58,7 +63,7 @@ returns-in_err-command-clause-read_last g c = λ failed.
     }
 
 too_long : (g : Over) (c : goal.After-drop-lines-inside-in_err-command-2 g) → c.in_err-command.field-0.0 ≡ Exhausted →
-    PastLimit (g.S.Source.left c.args.source.now) (record { before = c.args.brain.now; after = c.loop-lines.brain; written_before = g.O.Sink.written c.args.sink.now; written_after = g.O.Sink.written c.loop-lines.sink })
+    PastLimit (g.S.Source.left c.args.source.now) (served c.args.brain.now c.loop-lines.brain (output_of g.O.Sink.written g.O.Sink.asked c.args.sink.now) (output_of g.O.Sink.written g.O.Sink.asked c.loop-lines.sink))
 too_long g c is =
     PastLimit-taken _ _ c.next_command.new.lines _ c.loop-lines.invariant.so_far
     (λ e. not_error None c.in_err-command.field-0.0 (c.in_err-command.ensures.asks_no_more e).0) (c.in_err-command.ensures.past (ap (λ x. Err x) is))
@@ -70,6 +75,23 @@ returns-in_err-command-clause-exhausted g c = λ failed.
 pub returns-in_err-command-clause-too_long : goal.returns-in_err-command-clause-too_long
 returns-in_err-command-clause-too_long g c = λ failed.
     (too_long g c (same_error c.from_residual.result c.in_err-command.field-0.0 Exhausted c.from_residual.ensures.1 failed)).too_long
+
+pub returns-in_err-command-clause-by_each : goal.returns-in_err-command-clause-by_each
+returns-in_err-command-clause-by_each g c =
+    let so_far = c.loop-lines.invariant.so_far in
+    let reads = c.loop-lines.invariant.reads in
+    elim c.in_err-command.ensures.no_other [
+      | inl is ↦ by_each_open _ _ c.next_command.new.lines _ _ _ so_far (c.in_err-command.ensures.stays (ap (λ x. Err x) is))
+          (within_then _ _ _ _ _ _ reads (c.in_err-command.ensures.few_failed (ap (λ x. Err x) is)))
+      | inr is ↦ (AsksPast-taken _ _ c.next_command.new.lines _ _ _ so_far (c.in_err-command.ensures.past (ap (λ x. Err x) is))
+          (within_then _ _ _ _ _ _ reads (c.in_err-command.ensures.few_past (ap (λ x. Err x) is)))).by_each
+    ]
+
+pub returns-in_err-command-clause-few_past : goal.returns-in_err-command-clause-few_past
+returns-in_err-command-clause-few_past g c = λ failed.
+    let is = same_error c.from_residual.result c.in_err-command.field-0.0 Exhausted c.from_residual.ensures.1 failed in
+    (AsksPast-taken _ _ c.next_command.new.lines _ _ _ c.loop-lines.invariant.so_far (c.in_err-command.ensures.past (ap (λ x. Err x) is))
+    (within_then _ _ _ _ _ _ c.loop-lines.invariant.reads (c.in_err-command.ensures.few_past (ap (λ x. Err x) is)))).few
 
 pub returns-in_err-command-clause-taken : goal.returns-in_err-command-clause-taken
 returns-in_err-command-clause-taken g c =
@@ -84,7 +106,7 @@ returns-in_err-command-clause-taken g c =
 -- one more line was read, and its answer was not written, or there was no memory for its step
 asked : (g : Over) (c : goal.After-drop-lines-inside-in_err-answer-3 g) →
     Asked (record { left_before = g.S.Source.left c.args.source.now; reader = c.next_command.new.lines; left = g.S.Source.left c.next_command.new.source })
-    (record { before = c.args.brain.now; after = c.loop-lines.brain; written_before = g.O.Sink.written c.args.sink.now; written_after = g.O.Sink.written c.loop-lines.sink }) c.in-Some.command
+    (served c.args.brain.now c.loop-lines.brain (output_of g.O.Sink.written g.O.Sink.asked c.args.sink.now) (output_of g.O.Sink.written g.O.Sink.asked c.loop-lines.sink)) c.in-Some.command
 asked g c =
     Asked-told _ _ c.in_ok-command.field-0 c.in-Some.command c.next_command.new.lines _ c.loop-lines.invariant.so_far c.in-Some.is
     (λ e. ok_is c.in_ok-command.field-0 None (c.in_ok-command.ensures.asks_no_more e).0) c.in_ok-command.ensures.told c.in_ok-command.ensures.limit c.in_ok-command.ensures.knows_end
@@ -99,7 +121,7 @@ pub returns-in_err-answer-clause-written_last : goal.returns-in_err-answer-claus
 returns-in_err-answer-clause-written_last g c = λ failed.
     let is = same_error c.from_residual-in_err-answer.result c.in_err-answer.field-0.0 WriteFailed c.from_residual-in_err-answer.ensures.1 failed in
     let last = c.in_err-answer.ensures.written_last (ap (λ x. Err x) is) in
-    let wrote = c.loop-lines.invariant.so_far.answered.wrote in
+    let wrote = c.loop-lines.invariant.so_far.answered.writes.wrote in
     record {
       before = last.before;
       bytes = _;
@@ -119,10 +141,14 @@ returns-in_err-answer-clause-memory g c = λ failed.
 pub returns-in_err-answer-clause-taken : goal.returns-in_err-answer-clause-taken
 returns-in_err-answer-clause-taken g c = Gives-some _ _ (asked g c).read.takes.given (asked g c).read.takes.gives
 
+pub returns-in_err-answer-clause-by_each : goal.returns-in_err-answer-clause-by_each
+returns-in_err-answer-clause-by_each g c =
+    by_each_told _ _ (asked g c).read _ _ (within_then _ _ _ _ _ _ c.loop-lines.invariant.reads c.in_ok-command.ensures.few_reads)
+
 -- END was read
 asked_end : (g : Over) (c : goal.After-drop-lines-inside-then-not-branch-3 g) →
     Asked (record { left_before = g.S.Source.left c.args.source.now; reader = c.next_command.new.lines; left = g.S.Source.left c.next_command.new.source })
-    (record { before = c.args.brain.now; after = c.loop-lines.brain; written_before = g.O.Sink.written c.args.sink.now; written_after = g.O.Sink.written c.loop-lines.sink }) c.in-Some.command
+    (served c.args.brain.now c.loop-lines.brain (output_of g.O.Sink.written g.O.Sink.asked c.args.sink.now) (output_of g.O.Sink.written g.O.Sink.asked c.loop-lines.sink)) c.in-Some.command
 asked_end g c =
     Asked-told _ _ c.in_ok-command.field-0 c.in-Some.command c.next_command.new.lines _ c.loop-lines.invariant.so_far c.in-Some.is
     (λ e. ok_is c.in_ok-command.field-0 None (c.in_ok-command.ensures.asks_no_more e).0) c.in_ok-command.ensures.told c.in_ok-command.ensures.limit c.in_ok-command.ensures.knows_end
@@ -132,7 +158,7 @@ stops g c = grind (arith, c.if-not-branch.true)
 
 pub returns-then-not-branch-clause-ok : goal.returns-then-not-branch-clause-ok
 returns-then-not-branch-clause-ok g c =
-    let answered = subst (λ goes_on. IsAnswered c.loop-lines.brain c.in-Some.command goes_on c.answer.new.brain (g.O.Sink.written c.loop-lines.sink) (g.O.Sink.written c.answer.new.sink)) (stops g c) c.in_ok-answer.ensures.stepped in
+    let answered = subst (λ goes_on. IsAnswered c.loop-lines.brain c.in-Some.command goes_on c.answer.new.brain (output_of g.O.Sink.written g.O.Sink.asked c.loop-lines.sink) (output_of g.O.Sink.written g.O.Sink.asked c.answer.new.sink)) (stops g c) c.in_ok-answer.ensures.stepped in
     HasAnswered-end _ _ c.in-Some.command c.answer.new.brain _ (asked_end g c) answered (c.in_ok-answer.ensures.ends (ap (λ b. Ok b) (stops g c)))
 
 pub returns-then-not-branch-clause-ended : goal.returns-then-not-branch-clause-ended
@@ -142,6 +168,10 @@ returns-then-not-branch-clause-ended g c =
 pub returns-then-not-branch-clause-taken : goal.returns-then-not-branch-clause-taken
 returns-then-not-branch-clause-taken g c = Gives-some _ _ (asked_end g c).read.takes.given (asked_end g c).read.takes.gives
 
+pub returns-then-not-branch-clause-by_each : goal.returns-then-not-branch-clause-by_each
+returns-then-not-branch-clause-by_each g c =
+    by_each_told _ _ (asked_end g c).read _ _ (within_then _ _ _ _ _ _ c.loop-lines.invariant.reads c.in_ok-command.ensures.few_reads)
+
 -- the session goes on
 pub loop-lines-preserved : goal.loop-lines-preserved
 loop-lines-preserved g c =
@@ -149,17 +179,18 @@ loop-lines-preserved g c =
     let now =
     Asked-told _ _ c.in_ok-command.field-0 c.in-Some.command c.next_command.new.lines _ c.loop-lines.invariant.so_far c.in-Some.is
     (λ e. ok_is c.in_ok-command.field-0 None (c.in_ok-command.ensures.asks_no_more e).0) c.in_ok-command.ensures.told c.in_ok-command.ensures.limit c.in_ok-command.ensures.knows_end in
-    let answered = subst (λ goes_on. IsAnswered c.loop-lines.brain c.in-Some.command goes_on c.answer.new.brain (g.O.Sink.written c.loop-lines.sink) (g.O.Sink.written c.answer.new.sink)) goes_on c.in_ok-answer.ensures.stepped in
+    let answered = subst (λ goes_on. IsAnswered c.loop-lines.brain c.in-Some.command goes_on c.answer.new.brain (output_of g.O.Sink.written g.O.Sink.asked c.loop-lines.sink) (output_of g.O.Sink.written g.O.Sink.asked c.answer.new.sink)) goes_on c.in_ok-answer.ensures.stepped in
     record {
       so_far = SoFar-answered _ _ c.in-Some.command c.answer.new.brain _ now answered;
       source_stayed = c.in_ok-command.ensures.uncounted (λ e. cc) ∙ c.loop-lines.invariant.source_stayed;
       sink_stayed = c.in_ok-answer.ensures.sink_uncounted (λ e. cc) ∙ c.loop-lines.invariant.sink_stayed;
+      reads = within_then _ _ _ _ _ _ c.loop-lines.invariant.reads c.in_ok-command.ensures.few_reads;
     }
 
 -- the input has ended
 ends : (g : Over) (c : goal.After-drop-lines-inside-4 g) →
     EndsAt (record { left_before = g.S.Source.left c.args.source.now; reader = c.next_command.new.lines; left = g.S.Source.left c.next_command.new.source })
-    (record { before = c.args.brain.now; after = c.loop-lines.brain; written_before = g.O.Sink.written c.args.sink.now; written_after = g.O.Sink.written c.loop-lines.sink })
+    (served c.args.brain.now c.loop-lines.brain (output_of g.O.Sink.written g.O.Sink.asked c.args.sink.now) (output_of g.O.Sink.written g.O.Sink.asked c.loop-lines.sink))
 ends g c =
     let none = none_is c.in_ok-command.field-0 c.in_default-2.not-Some in
     let told = c.in_ok-command.ensures.end (ap (λ o. Ok o) none) in
@@ -175,3 +206,7 @@ returns-clause-ended g c = (ends g c).read
 
 pub returns-clause-taken : goal.returns-clause-taken
 returns-clause-taken g c = Gives-some _ _ (ends g c).read.given (ends g c).read.gives
+
+pub returns-clause-by_each : goal.returns-clause-by_each
+returns-clause-by_each g c =
+    (ends g c).by_each _ _ (within_then _ _ _ _ _ _ c.loop-lines.invariant.reads c.in_ok-command.ensures.few_reads)

@@ -1,6 +1,7 @@
 -- What the shelf gives is added; else it is told what `brain FILE` tells.
-use Rattle.std.proofs.Common.{◌≡◌, inl, inr, ap, sym}
+use Rattle.std.proofs.Common.{◌≡◌, inl, inr, ap, sym, arith}
 use Rattle.std.specs.Prelude.{Err}
+use Rattle.renju_io.proofs.AskedCalls.{few_once, none_asked}
 use Rattle.renju_cli.specs.Runs.{change}
 use Rattle.renju_cli.proofs.BrainLaws.{long-file}
 use Rattle.renju_cli.proofs.BindLaws.{added-by}
@@ -8,7 +9,7 @@ use Rattle.renju_cli.proofs.bind.add_file.Goals as goal
 
 pub returns-in-Ok-clause-added : goal.returns-in-Ok-clause-added
 returns-in-Ok-clause-added g c =
-    added-by (change g.F.Shelf.files g.F.Shelf.faults c.args.shelf.now c.load.new.self) c.args.number c.args.name.now c.as_slice.result.now
+    added-by (change g.F.Shelf.files g.F.Shelf.faults g.F.Shelf.asked c.args.shelf.now c.load.new.self) c.args.number c.args.name.now c.as_slice.result.now
     c.args.binder.now c.add_text.new.binder
     (rw c.as_slice.ensures.value (record { found = c.in-Ok.ensures.found; sound = c.in-Ok.ensures.uncounted }))
     (rw c.as_slice.ensures.value c.in-Ok.ensures.short) c.add_text.result c.add_text.ensures.added
@@ -42,3 +43,6 @@ returns-in_ok-long-in-Err-TooLong-clause-added g c =
       })),
       c.in_ok-long-in-Err-TooLong.ensures.text,
     )
+
+pub returns-in_ok-long-in-Err-TooLong-clause-each : goal.returns-in_ok-long-in-Err-TooLong-clause-each
+returns-in_ok-long-in-Err-TooLong-clause-each g c = few_once 0 1 _ _ _ (none_asked 0 _) c.load.ensures.asks (omega arith)

@@ -5,8 +5,8 @@ use Rattle.renju_cli.proofs.brain.play.Goals as goal
 
 pub returns-clause-ends : goal.returns-clause-ends
 returns-clause-ends g c =
-    let input = change g.I.Source.left g.I.Source.faults c.args.input.now c.serve.new.source in
-    let output = change g.O.Sink.written g.O.Sink.faults c.args.output.now c.serve.new.sink in
+    let input = change g.I.Source.left g.I.Source.faults g.I.Source.asked c.args.input.now c.serve.new.source in
+    let output = change g.O.Sink.written g.O.Sink.faults g.O.Sink.asked c.args.output.now c.serve.new.sink in
     rw c.status_of.ensures.status (session-ends (held_or_none c.args.held) c.in-Ok.brain c.serve.new.brain input output c.serve.result c.in-Ok.ensures.new (record {
       ok = c.serve.ensures.ok;
       ended = c.serve.ensures.ended;
@@ -16,6 +16,7 @@ returns-clause-ends g c =
       sink_failed = c.serve.ensures.sink_failed;
       exhausted = c.serve.ensures.exhausted;
       too_long = c.serve.ensures.too_long;
+      few_past = c.serve.ensures.few_past;
       memory = c.serve.ensures.memory;
       source_uncounted = c.serve.ensures.source_uncounted;
       sink_uncounted = c.serve.ensures.sink_uncounted;

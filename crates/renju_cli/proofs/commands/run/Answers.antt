@@ -1,9 +1,11 @@
-use Rattle.std.proofs.Common.{◌≡◌, inl, refl, sym, subst, ◌∙◌, length}
+use Rattle.std.proofs.Common.{◌≡◌, ℕ, ◌≤◌, List, arith, inl, refl, sym, subst, ◌∙◌, length}
 use Rattle.std.specs.Prelude.{map, string_bytes}
+use Rattle.renju_io.proofs.AskedCalls.{by_each_none}
 use Rattle.renju_cli.specs.declared.commands.Form.{Form}
 use Rattle.renju_cli.specs.declared.commands.Form.TheVariants.{BrainWith, RefereeWith, Bind}
 use Rattle.renju_cli.specs.Statuses.{status_number}
-use Rattle.renju_cli.specs.Runs.{Run, run_of, change}
+use Rattle.renju_cli.specs.declared.status.Status.TheVariants.{Usage}
+use Rattle.renju_cli.specs.Runs.{Run, IsDelivered, run_of, change}
 use Rattle.renju_cli.specs.Brains.{second_word}
 use Rattle.renju_cli.specs.Commands.{IsForm}
 use Rattle.renju_cli.proofs.Words.{same-count, word-after, words-after}
@@ -14,18 +16,46 @@ use Rattle.renju_cli.proofs.commands.run.Goals as goal
 pub returns-in-None-clause-report : goal.returns-in-None-clause-report
 returns-in-None-clause-report g c = inl (record {
   formless = c.in-None.ensures.form;
-  input = record { same = refl; faults = refl };
-  shelf = record { same = refl; faults = refl };
-  delivered = rw (← c.as_bytes.ensures.value) c.deliver.ensures.delivered;
+  input = record { same = refl; faults = refl; asked = refl };
+  shelf = record { same = refl; faults = refl; asked = refl };
+  delivered = subst (λ (t : List ℕ). IsDelivered Usage t
+      (change g.O.Sink.written g.O.Sink.faults g.O.Sink.asked c.args.output.now c.deliver.new.output) (status_number c.deliver.result))
+      c.as_bytes.ensures.value c.deliver.ensures.delivered;
 })
+
+-- the input and the shelf are not asked for the usage line
+pub returns-in-None-clause-devices : goal.returns-in-None-clause-devices
+returns-in-None-clause-devices g c = record {
+  taken = by_each_none (g.I.Source.left c.args.input.now) (g.I.Source.asked c.args.input.now);
+  input = omega arith;
+  output = c.deliver.ensures.counted;
+  shelf = omega arith;
+  files = refl;
+  reads = λ _. refl;
+  writes = c.deliver.ensures.writes;
+  loads = λ _ _. refl;
+}
+
+-- nor is the input for files
+pub returns-in-Some-Bind-clause-devices : goal.returns-in-Some-Bind-clause-devices
+returns-in-Some-Bind-clause-devices g c = record {
+  taken = by_each_none (g.I.Source.left c.args.input.now) (g.I.Source.asked c.args.input.now);
+  input = omega arith;
+  output = c.bind.ensures.output;
+  shelf = c.bind.ensures.shelf;
+  files = c.bind.ensures.files;
+  reads = λ _. refl;
+  writes = c.bind.ensures.writes;
+  loads = c.bind.ensures.loads;
+}
 
 -- the file is the second word
 pub returns-in-Some-BrainWith-clause-report : goal.returns-in-Some-BrainWith-clause-report
 returns-in-Some-BrainWith-clause-report g c =
     let words = map string_bytes c.args.words.now in
-    let run : Run = run_of words (change g.I.Source.left g.I.Source.faults c.args.input.now c.play_with.new.input)
-    (change g.O.Sink.written g.O.Sink.faults c.args.output.now c.play_with.new.output)
-    (change g.F.Shelf.files g.F.Shelf.faults c.args.shelf.now c.play_with.new.shelf) (status_number c.play_with.result) in
+    let run : Run = run_of words (change g.I.Source.left g.I.Source.faults g.I.Source.asked c.args.input.now c.play_with.new.input)
+    (change g.O.Sink.written g.O.Sink.faults g.O.Sink.asked c.args.output.now c.play_with.new.output)
+    (change g.F.Shelf.files g.F.Shelf.faults g.F.Shelf.asked c.args.shelf.now c.play_with.new.shelf) (status_number c.play_with.result) in
     let form : IsForm words BrainWith = subst (λ (f : Form). IsForm words f) c.in-Some-BrainWith.field-0-is c.in-Some-BrainWith.ensures.form in
     let two : length c.args.words.now ≡ 2 = same-count string_bytes _ _ form.spelled in
     let file : c.as_str.result.now ≡ second_word words = c.as_str.ensures.value ∙ sym (word-after string_bytes c.args.words.now c.index-words-1.result two c.index-words-1.is) in
@@ -35,9 +65,9 @@ returns-in-Some-BrainWith-clause-report g c =
 pub returns-in-Some-RefereeWith-clause-report : goal.returns-in-Some-RefereeWith-clause-report
 returns-in-Some-RefereeWith-clause-report g c =
     let words = map string_bytes c.args.words.now in
-    let run : Run = run_of words (change g.I.Source.left g.I.Source.faults c.args.input.now c.referee_with.new.input)
-    (change g.O.Sink.written g.O.Sink.faults c.args.output.now c.referee_with.new.output)
-    (change g.F.Shelf.files g.F.Shelf.faults c.args.shelf.now c.referee_with.new.shelf) (status_number c.referee_with.result) in
+    let run : Run = run_of words (change g.I.Source.left g.I.Source.faults g.I.Source.asked c.args.input.now c.referee_with.new.input)
+    (change g.O.Sink.written g.O.Sink.faults g.O.Sink.asked c.args.output.now c.referee_with.new.output)
+    (change g.F.Shelf.files g.F.Shelf.faults g.F.Shelf.asked c.args.shelf.now c.referee_with.new.shelf) (status_number c.referee_with.result) in
     let form : IsForm words RefereeWith = subst (λ (f : Form). IsForm words f) c.in-Some-RefereeWith.field-0-is c.in-Some-RefereeWith.ensures.form in
     let two : length c.args.words.now ≡ 2 = same-count string_bytes _ _ form.spelled in
     let file : c.as_str-in-Some-RefereeWith.result.now ≡ second_word words =
@@ -49,8 +79,8 @@ returns-in-Some-RefereeWith-clause-report g c =
 pub returns-in-Some-Bind-clause-report : goal.returns-in-Some-Bind-clause-report
 returns-in-Some-Bind-clause-report g c =
     let words = map string_bytes c.args.words.now in
-    let input = change g.I.Source.left g.I.Source.faults c.args.input.now c.args.input.now in
-    let run : Run = run_of words input (change g.O.Sink.written g.O.Sink.faults c.args.output.now c.bind.new.output)
-    (change g.F.Shelf.files g.F.Shelf.faults c.args.shelf.now c.bind.new.shelf) (status_number c.bind.result) in
+    let input = change g.I.Source.left g.I.Source.faults g.I.Source.asked c.args.input.now c.args.input.now in
+    let run : Run = run_of words input (change g.O.Sink.written g.O.Sink.faults g.O.Sink.asked c.args.output.now c.bind.new.output)
+    (change g.F.Shelf.files g.F.Shelf.faults g.F.Shelf.asked c.args.shelf.now c.bind.new.shelf) (status_number c.bind.result) in
     let form : IsForm words Bind = subst (λ (f : Form). IsForm words f) c.in-Some-Bind.field-0-is c.in-Some-Bind.ensures.form in
-    bind-reported run _ form (words-after string_bytes c.args.words.now) (c.bind.ensures.binds words input (record { same = refl; faults = refl }))
+    bind-reported run _ form (words-after string_bytes c.args.words.now) (c.bind.ensures.binds words input (record { same = refl; faults = refl; asked = refl }))

@@ -1,5 +1,5 @@
 use Rattle.std.proofs.lemmas.Result.{IfOk-weaker}
-use Rattle.renju_cli.specs.Brains.{IsLoadedBookText, IsLoadedHeld, IsLoadedText}
+use Rattle.renju_cli.specs.Loading.{IsLoadedBookText, IsLoadedHeld, IsLoadedText}
 use Rattle.renju_cli.proofs.BrainLaws.{loaded-book, loaded-table}
 use Rattle.renju_cli.proofs.loading.load_any.Goals as goal
 

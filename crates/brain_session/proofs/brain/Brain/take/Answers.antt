@@ -1,7 +1,7 @@
 use Rattle.std.proofs.Common.{inl, inr, refl, ap, sym}
 use Rattle.brain_session.specs.declared.Reaction.{Reaction}
 use Rattle.brain_session.specs.Steps.{row_of}
-use Rattle.brain_session.proofs.Takings.{at-command, said-at, if-unread, said-unread, unread-at, turn-free}
+use Rattle.brain_session.proofs.Takings.{at-command, said-at, if-unread, said-unread, unread-at, done-free, turn-free}
 use Rattle.brain_session.proofs.brain.Brain.take.Goals as goal
 
 pub returns-in-Start-clause-row : goal.returns-in-Start-clause-row
@@ -59,6 +59,9 @@ returns-in-Unknown-clause-row c = said-at c.args.self.now c.args.self.now c.args
 pub returns-in-Turn-clause-no_memory : goal.returns-in-Turn-clause-no_memory
 returns-in-Turn-clause-no_memory c =
     turn-free c.turn.result c.args.self.now c.args.command.now c.in-Turn.x c.in-Turn.y c.in-Turn.is (unread-at c.args.self.now c.args.command.now _ c.in-Turn.is refl c.requires.unspoiled) c.turn.ensures.following c.turn.ensures.settled
+
+pub returns-in-Done-clause-no_memory : goal.returns-in-Done-clause-no_memory
+returns-in-Done-clause-no_memory c = done-free c.done.result c.args.self.now c.args.command.now c.in-Done.is c.done.ensures.begins_none c.done.ensures.unsupported
 
 -- a line that says nothing, and one that is no command
 pub returns-in-Info-clause-row : goal.returns-in-Info-clause-row

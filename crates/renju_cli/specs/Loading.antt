@@ -1,0 +1,48 @@
+-- What comes of a FILE that is loaded, and which status a session ends with: words of the contracts of private calls.
+use Rattle.std.specs.Prelude.{◌≡◌, ◌⊎◌, ℕ, List, Result, Ok, Err}
+use Rattle.position_files.specs.declared.TableFile.{TableFile}
+use Rattle.table_book.specs.declared.Book.{Book}
+use Rattle.brain_session.specs.declared.TheConstants.{BRAIN_WORK}
+use Rattle.brain_session.specs.declared.sessions.ServeError.{ServeError}
+use Rattle.brain_session.specs.declared.sessions.ServeError.TheVariants.{ReadFailed, WriteFailed, Exhausted, Memory as NoMemory}
+use Rattle.renju_cli.specs.declared.status.Status.{Status}
+use Rattle.renju_cli.specs.declared.status.Status.TheVariants.{Done, Memory, ReadFault, WriteFault, TooLong}
+use Rattle.renju_cli.specs.declared.loading.Loaded.{Loaded}
+use Rattle.renju_cli.specs.declared.loading.Loaded.TheVariants.{Holds, Tells}
+use Rattle.renju_cli.specs.Checks.{IsTableAt, IsRefusedTable, IsSpentWork}
+use Rattle.renju_cli.specs.Books.{AreAccepted, IsBookAt, IsRefusedEntry}
+use Rattle.renju_cli.specs.Brains.{BookFileSays, FileSays, HeldFile, IsFit, IsHeldText, TableFileSays, held_by, of_book, of_table}
+
+-- the status of a session that ended so
+abbrev pub session_status : Result (Unit {0}) ServeError → Status
+session_status (Ok done) = Done
+session_status (Err ReadFailed) = ReadFault
+session_status (Err WriteFailed) = WriteFault
+session_status (Err Exhausted) = TooLong
+session_status (Err NoMemory) = Memory
+
+-- what comes of the table of a text: it is held, or what is told of it says why not
+abbrev pub IsLoadedFile : TableFile → Loaded → Type 0
+IsLoadedFile file (Holds held) = IsFit file × (held ≡ held_by (of_table file))
+IsLoadedFile file (Tells answer) =
+    IsRefusedTable file answer.status answer.text.items ⊎ IsSpentWork BRAIN_WORK file answer.status answer.text.items
+
+-- what comes of the bytes of a FILE that is to be a table: the table of the text is held, or what is told of them says why not
+abbrev pub IsLoadedText : List ℕ → Loaded → Type 0
+IsLoadedText bytes (Holds held) = (file : TableFile) × IsTableAt file bytes × IsFit file × (held ≡ held_by (of_table file))
+IsLoadedText bytes (Tells answer) = TableFileSays bytes answer.status answer.text.items
+
+-- what comes of a book: it is held with all its entries, or what is told of it says why not
+abbrev pub IsLoadedBook : Book → Loaded → Type 0
+IsLoadedBook book (Holds held) = AreAccepted BRAIN_WORK book × (held ≡ held_by (of_book book))
+IsLoadedBook book (Tells answer) = IsRefusedEntry BRAIN_WORK book answer.status answer.text.items
+
+-- what comes of the bytes of a FILE that is to be a book: the book of the text is held, or what is told of them says why not
+abbrev pub IsLoadedBookText : List ℕ → Loaded → Type 0
+IsLoadedBookText bytes (Holds held) = (book : Book) × IsBookAt book bytes × AreAccepted BRAIN_WORK book × (held ≡ held_by (of_book book))
+IsLoadedBookText bytes (Tells answer) = BookFileSays bytes answer.status answer.text.items
+
+-- what comes of the bytes of a FILE: what they give is held, or what is told of them says why not
+abbrev pub IsLoadedHeld : List ℕ → Loaded → Type 0
+IsLoadedHeld bytes (Holds held) = (file : HeldFile) × IsHeldText file bytes × (held ≡ held_by file)
+IsLoadedHeld bytes (Tells answer) = FileSays bytes answer.status answer.text.items
