@@ -4,3 +4,5 @@ mod StartSession
 -- the win that the brain finds itself, and the session in which it follows it
 mod OwnWins
 mod OwnWinSession
+-- and others, without a held root or with one that is not asked
+mod OwnWinGames

@@ -87,10 +87,10 @@ one_start-held = record {
 
 -- ---- one command after another
 
-chooses : (s : State) (c : Command) (g : Game) (ch : Choice) → row_of s c ≡ Chooses g → chosen s.held g ≡ ch → brain_step s c ≡ record { reaction = Says (Move ch.at); next = placed s (InGame (with_choice g ch)) }
+pub chooses : (s : State) (c : Command) (g : Game) (ch : Choice) → row_of s c ≡ Chooses g → chosen s.held g ≡ ch → brain_step s c ≡ record { reaction = Says (Move ch.at); next = placed s (InGame (with_choice g ch)) }
 chooses s c g ch row is = ap (step_by s) row ∙ ap (λ (x : Choice). let st : Step = record { reaction = Says (Move x.at); next = placed s (InGame (with_choice g x)) } in st) is
 
-answers_by_step : (s : State) (c : Command) (cs : List Command) (st : Step) → brain_step s c ≡ st → answers_from s (c ∷ cs) ≡ then_answers st.reaction (answers_from st.next cs)
+pub answers_by_step : (s : State) (c : Command) (cs : List Command) (st : Step) → brain_step s c ≡ st → answers_from s (c ∷ cs) ≡ then_answers st.reaction (answers_from st.next cs)
 unfolding answers_from
 answers_by_step s c cs st e = ap (λ (x : Step). then_answers x.reaction (answers_from x.next cs)) e
 
@@ -237,7 +237,7 @@ own_begins : BeginsOwnGame (state_after (new_brain one_start) told) Done (game_a
 unfolding told three_board state_after row_of refusal
 own_begins = record { chooses = done_row; not_followed = refl; not_held = refl; found = own_win_is }
 
-replies_by_step : (s : State) (c : Command) (cs : List Command) (st : Step) → brain_step s c ≡ st → replies s (c ∷ cs) ≡ then_replies c st.reaction (replies st.next cs)
+pub replies_by_step : (s : State) (c : Command) (cs : List Command) (st : Step) → brain_step s c ≡ st → replies s (c ∷ cs) ≡ then_replies c st.reaction (replies st.next cs)
 unfolding replies
 replies_by_step s c cs st e = ap (λ (x : Step). then_replies c x.reaction (replies x.next cs)) e
 

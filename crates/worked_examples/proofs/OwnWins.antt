@@ -301,7 +301,7 @@ five_found : find (five Freestyle replied_board (mover replied_board)) (points_o
 unfolding replied_board three_board
 five_found = refl
 
-move-five : (b : Grid) → has_five Freestyle b (mover b) ≡ true → four_move Freestyle 1 b ≡ find (five Freestyle b (mover b)) (points_of b)
+pub move-five : (b : Grid) → has_five Freestyle b (mover b) ≡ true → four_move Freestyle 1 b ≡ find (five Freestyle b (mover b)) (points_of b)
 unfolding four_move
 move-five b e = rw e refl
 

@@ -1,5 +1,5 @@
 -- Sessions in which a brain follows what it holds, worked out by hand: what it holds, what it is sent, and what it answers.
-use Rattle.std.specs.Prelude.{◌≡◌, ℕ, true, false, List, [], ◌∷◌, ◌++◌, codes}
+use Rattle.std.specs.Prelude.{◌≡◌, ℕ, true, false, List, [], ◌∷◌, ◌++◌, Some, codes}
 use Rattle.game_rules.specs.Grid.{Grid}
 use Rattle.game_rules.specs.declared.RuleKind.TheVariants.{Freestyle, Renju}
 use Rattle.game_rules.specs.declared.Side.{Side}
@@ -16,7 +16,7 @@ use Rattle.gomocup_text.specs.declared.Command.{Command}
 use Rattle.gomocup_text.specs.declared.Answer.{Answer}
 use Rattle.brain_session.specs.declared.Reaction.TheVariants.{Says}
 use Rattle.brain_session.specs.declared.batch.BatchStone.{BatchStone}
-use Rattle.brain_session.specs.States.{Game, board_of, empty_board, point_at, new_brain}
+use Rattle.brain_session.specs.States.{Game, OwnWin, board_of, empty_board, point_at, new_brain}
 use Rattle.brain_session.specs.Batches.{with_stones}
 use Rattle.brain_session.specs.Steps.{brain_step}
 use Rattle.brain_session.specs.Sessions.{state_after}
@@ -125,3 +125,34 @@ one_start = record {
 unfoldable pub taken_back_input : List ℕ
 taken_back_input =
     codes "START 15\r\nBOARD\r\n5,7,1\r\n6,7,1\r\n7,7,1\r\n0,0,2\r\n2,0,2\r\n4,0,2\r\nDONE\r\nTURN 0,14\r\nTAKEBACK 3,7\r\nTAKEBACK 0,14\r\nTURN 1,14\r\nEND\r\n"
+
+-- the position with three is sent, and the opponent blocks the four that comes at its nearer end
+unfoldable pub blocked_input : List ℕ
+blocked_input = codes "START 15\r\nBOARD\r\n5,7,1\r\n6,7,1\r\n7,7,1\r\n0,0,2\r\n2,0,2\r\n4,0,2\r\nDONE\r\nTURN 3,7\r\nEND\r\n"
+
+-- the same, where the opponent plays elsewhere
+unfoldable pub passed_input : List ℕ
+passed_input = codes "START 15\r\nBOARD\r\n5,7,1\r\n6,7,1\r\n7,7,1\r\n0,0,2\r\n2,0,2\r\n4,0,2\r\nDONE\r\nTURN 0,14\r\nEND\r\n"
+
+-- the board with a fourth stone of Black, once the opponent has played elsewhere
+unfoldable pub passed_board : Grid
+passed_board =
+    board_with Black (own 4 7 ∷ own 5 7 ∷ own 6 7 ∷ own 7 7 ∷ others 0 0 ∷ others 2 0 ∷ others 4 0 ∷ others 0 14 ∷ [])
+
+-- one root, held at that board: 8,7 makes five, as 3,7 does
+abbrev pub one_five : HeldTable
+one_five = record {
+  table = wins_at (point_at 8 7) ∷ [];
+  roots = record { root = Attack 0; kind = Freestyle; board = passed_board } ∷ [];
+}
+
+-- the game to which these lines lead there, in which the brain follows the rest of its own win
+abbrev pub passed_game : Game
+passed_game = record {
+  rule = Freestyle;
+  start = three_board;
+  moves = point_at 0 14 ∷ point_at 4 7 ∷ [];
+  brain = Black;
+  ended = false;
+  followed = Some (OwnWin 2);
+}

@@ -2,12 +2,14 @@
 //! accepted, the session's text is the one worked out by hand, and the law of held games gives the answers in it.
 
 ghost use Rattle.brain_session.specs.Sessions.{session_text};
+ghost use Rattle.brain_session.specs.ChosenMoves.{first_node};
 ghost use Rattle.brain_session.specs.States.{new_brain, point_at};
+ghost use Rattle.renju_cli.specs.Brains.{nothing_held};
 ghost use Rattle.gomocup_text.specs.declared.Answer.TheVariants.{Move, Error};
 ghost use Rattle.gomocup_text.specs.declared.ErrorText.TheVariants.{OpponentFoul};
-ghost use Rattle.std.specs.Prelude.{◌≡◌, [], ◌∷◌, codes};
+ghost use Rattle.std.specs.Prelude.{◌≡◌, [], ◌∷◌, Some, codes};
 ghost use Rattle.strategy_checker.specs.HeldRoots.{IsHeld};
-ghost use Rattle.worked_examples.specs.HeldSessions.{PlaysHeldGame, PlaysOwnGame, block_input, elsewhere_input, one_start, overline_table, taken_back_input, two_roots};
+ghost use Rattle.worked_examples.specs.HeldSessions.{PlaysHeldGame, PlaysOwnGame, block_input, blocked_input, elsewhere_input, one_five, one_start, overline_table, passed_game, passed_input, taken_back_input, two_roots};
 
 /// A four that its opponent may not block: whatever is replied, the next attack wins.
 pub fn a_reply_elsewhere_loses()
@@ -36,4 +38,19 @@ pub fn a_held_start_is_followed_after_an_own_win()
     ensures text { session_text (new_brain one_start) taken_back_input ≡ codes "OK\r\n4,7\r\n3,7\r\nOK\r\nOK\r\n8,7\r\n" }
     ensures own_game { PlaysOwnGame one_start taken_back_input 2 (point_at 0 14 ∷ []) (Move (point_at 4 7) ∷ Move (point_at 3 7) ∷ []) 2 }
     ensures game { PlaysHeldGame one_start taken_back_input 0 [] (Move (point_at 8 7) ∷ []) 1 }
+{}
+
+/// A brain that holds nothing follows a win that it found itself. A reply that blocks one end of its four leaves the other.
+pub fn an_own_win_is_followed_past_a_block()
+    ensures text { session_text (new_brain nothing_held) blocked_input ≡ codes "OK\r\n4,7\r\n8,7\r\n" }
+    ensures own_game { PlaysOwnGame nothing_held blocked_input 2 (point_at 3 7 ∷ []) (Move (point_at 4 7) ∷ Move (point_at 8 7) ∷ []) 2 }
+{}
+
+/// While a win of its own is followed no held root is asked: the game comes to the position of a root, whose attack is 8,7, and the
+/// brain plays 3,7.
+pub fn a_held_root_is_not_asked_over_an_own_win()
+    ensures held { IsHeld one_five }
+    ensures text { session_text (new_brain one_five) passed_input ≡ codes "OK\r\n4,7\r\n3,7\r\n" }
+    ensures own_game { PlaysOwnGame one_five passed_input 2 (point_at 0 14 ∷ []) (Move (point_at 4 7) ∷ Move (point_at 3 7) ∷ []) 2 }
+    ensures there { first_node passed_game one_five.roots ≡ Some 0 }
 {}
