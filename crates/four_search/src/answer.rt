@@ -108,6 +108,7 @@ pub fn four_search_with<R: Rule, V: Seen<R>>(
     ensures full_now { IsErrOf result SearchError.Full → length compiler.new ≡ MAX_NODES }
     ensures same { V.position view.new ≡ V.position view.old }
 {
+    // This tells that the position is lawful.
     view.side();
     let Ok(root) = look::<R, V>(alloc, view) else {
         return Err(SearchError::Memory);

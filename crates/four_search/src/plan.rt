@@ -109,6 +109,7 @@ fn compile_one<R: Rule, V: Seen<R>>(
     ensures same { V.position view.new ≡ V.position view.old }
     ensures writes { Writes compiler.old compiler.new (2 * moves) result }
 {
+    // This law tells that the nodes that are added change no tree.
     growth_keeps_trees();
     let at_block = compile_after::<R, V>(alloc, view, p, block, moves - 1, line, compiler)?;
     let beside = compiler.leaf(block)?;
@@ -161,6 +162,7 @@ fn compile_won<R: Rule, V: Seen<R>>(
     ensures same { V.position view.new ≡ V.position view.old }
     ensures writes { Writes compiler.old compiler.new (2 * moves) result }
 {
+    // This law tells that the nodes that are added change no tree.
     growth_keeps_trees();
     if moves == 1 {
         return compiler.fork(p, &[]);

@@ -56,6 +56,7 @@ pub(crate) fn double_win<R: Rule, V: Seen<R>>(
     ensures writes { Writes compiler.old compiler.new (if wins_by_fours R.KIND 2 (V.position view.old) then 3 else 0) result }
     ensures same { V.position view.new ≡ V.position view.old }
 {
+    // This tells that the position is lawful.
     view.side();
     match pressed_hint::<R, V>(view, *hint) {
         Some(double) => Ok(Some(double_of(double))),

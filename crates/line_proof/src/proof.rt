@@ -64,6 +64,7 @@ pub fn prove_line<R: Rule, V: Seen<R>>(
     ensures full_now { IsErrOf result SearchError.Full → length compiler.new ≡ MAX_NODES }
     ensures same { V.position view.new ≡ V.position view.old }
 {
+    // This tells what holds of every compiler.
     compiler.len();
     prove::<R, V>(alloc, view, sequence.as_slice(), depth, compiler)
 }
@@ -111,8 +112,10 @@ fn quick_win<R: Rule, V: Seen<R>>(
     ensures writes { Writes compiler.old compiler.new (if wins_by_fours R.KIND (min moves 2) (V.position view.old) then 4 else 0) result }
     ensures same { V.position view.new ≡ V.position view.old }
 {
+    // This tells that the position is lawful.
     view.side();
     let found = four_search::<R, V>(alloc, view, moves.min(2), u64::MAX, compiler)?;
+    // This tells what holds of every compiler.
     compiler.len();
     match found {
         FourAnswer::Win(win) => Ok(Some(win)),

@@ -36,6 +36,7 @@ pub(crate) fn after_play<R: Rule>(
     ensures own { TellsSide R.KIND codes.now side own.new.points.items (vec_capacity own.new.points) }
     ensures others { TellsSide R.KIND codes.now (other_lem side) others.new.points.items (vec_capacity others.new.points) }
 {
+    // This tells that the board is sound.
     let _ = codes.board();
     others.tell(p, false);
     own.tell(p, false);
@@ -56,6 +57,7 @@ pub(crate) fn after_undo<R: Rule>(
     ensures own { TellsSide R.KIND codes.now side own.new.points.items (vec_capacity own.new.points) }
     ensures others { TellsSide R.KIND codes.now (other_lem side) others.new.points.items (vec_capacity others.new.points) }
 {
+    // This tells that the board is sound.
     let _ = codes.board();
     others.tell(p, codes.five(side.other(), p));
     own.tell(p, codes.five(side, p));

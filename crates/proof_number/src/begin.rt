@@ -57,6 +57,7 @@ impl Search {
         match fives.as_slice() {
             [five, ..] => {
                 let win = compile_five(compiler, *five)?;
+                // This tells what holds of every compiler.
                 compiler.len();
                 self.settle_won(tree, 0, win);
                 Ok(())
@@ -100,6 +101,7 @@ impl Search {
         match last_move::<R, V>(view, &mut self.board) {
             Some(p) => {
                 let win = compile_last(compiler, p)?;
+                // This tells what holds of every compiler.
                 compiler.len();
                 self.settle_won(tree, 0, win);
                 Ok(())

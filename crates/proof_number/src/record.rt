@@ -281,6 +281,7 @@ fn first_proved(tree: &ProofTree, node: u32) -> u32
     ensures child { IsChild (link_at tree.now.links node) result }
     ensures proved { (numbers_at tree.now.numbers result).proof ≡ 0 }
 {
+    // This tells what holds of every tree.
     let _len = tree.len();
     let link = tree.link(node);
     for i in link.first..link.first + link.count {

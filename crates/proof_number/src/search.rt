@@ -270,6 +270,7 @@ impl Search {
         ensures full_now { IsErrOf result SearchError.Full → length compiler.new ≡ MAX_NODES }
     {
         let win = compile_last(compiler, p)?;
+        // This tells what holds of every compiler.
         compiler.len();
         self.settle_won(tree, leaf, win);
         Ok(Step::Done)
@@ -301,6 +302,7 @@ impl Search {
             return Ok(Step::Spent);
         }
         let win = compile_double::<R, V>(alloc, view, double, compiler)?;
+        // This tells what holds of every compiler.
         compiler.len();
         self.attacked = count;
         self.settle_won(tree, leaf, win);
@@ -434,6 +436,7 @@ impl Search {
                     left,
                     compiler,
                 )?;
+                // This tells what holds of every compiler.
                 compiler.len();
                 self.expand(
                     tree,
@@ -475,6 +478,7 @@ fn settle_children<R: Rule, V: Seen<R>>(
     let mut numbers = Vec::new(alloc);
     let mut notes = Vec::new(alloc);
     for child in children {
+        // This tells what holds of every compiler.
         compiler.len();
         let win = settle_child::<R, V>(alloc, view, *child, compiler)?;
         add_child(&mut numbers, &mut notes, Note::open(child.at, left), win)?;

@@ -22,7 +22,6 @@ use row_shapes::Rule;
 use std::alloc::{AllocError, Global};
 use stone_board::{Board, Point, Side};
 use strategy_compiler::{Compiler, SearchError, WrittenWin};
-use strategy_graph::Reply;
 use threat_moves::is_new_double_point;
 
 /// So many double points are kept at most to settle replies by.
@@ -161,6 +160,7 @@ pub fn compile_double<R: Rule, V: Seen<R>>(
     ensures writes { Writes compiler.old compiler.new (1 + answer_nodes R.KIND (V.position view.old) double) result }
     ensures same { V.position view.new ≡ V.position view.old }
 {
+    // This tells that the position is lawful.
     view.side();
     let replies = all_replies_to::<R, V>(alloc, view, double)?;
     compiler.double(
@@ -237,10 +237,4 @@ fn all_replies<R: Rule, V: Seen<R>>(alloc: Global, view: &mut V) -> Result<Vec<P
         }
     }
     Ok(found)
-}
-
-/// Adds the answer to one more reply.
-pub fn add_answer(answers: &mut Vec<Reply>, at: Point, next: u32) -> Result<(), AllocError> {
-    answers.push(Reply { at, next })?;
-    Ok(())
 }

@@ -428,6 +428,7 @@ pub fn settle_child<R: Rule, V: Seen<R>>(
     ensures full_now { IsErrOf result SearchError.Full → length compiler.new ≡ MAX_NODES }
     ensures same { V.position view.new ≡ V.position view.old }
 {
+    // This tells that the position is lawful.
     view.side();
     match child.judged {
         Judged::Open => Ok(None),
