@@ -4,7 +4,8 @@ use Rattle.std.specs.Prelude.{◌==◌}
 use Rattle.std.proofs.lemmas.Bool.Decides.{Decides-eqb}
 use Rattle.board_symmetry.specs.Points.{fits, inverse, point_image}
 use Rattle.board_symmetry.specs.declared.symmetry.Symmetry.{Symmetry}
-use Rattle.board_symmetry.specs.declared.symmetry.Symmetry.TheVariants.{Identity, Half, FlipX, FlipY, Quarter, ThreeQuarter, Diagonal, AntiDiagonal}
+use Rattle.board_symmetry.specs.declared.symmetry.Symmetry.TheVariants.{Identity, Half, FlipX, FlipY, Quarter, ThreeQuarter, Diagonal}
+use Rattle.board_symmetry.specs.declared.symmetry.Symmetry.TheVariants.{AntiDiagonal}
 use Rattle.board_symmetry.proofs.Turns.{Turn, turn-then, stay, turn_x, turn_y, turn_swap}
 
 half : (w h : ℕ) → Turn w h (point_image Half w h) (point_image Half w h)

@@ -15,7 +15,8 @@ use Rattle.board_symmetry.specs.Points.{fits, inverse, point_image, board_image,
 use Rattle.board_symmetry.specs.Images.{replies_image, root_image, table_image}
 use Rattle.board_symmetry.specs.Laws.{IsRoot, Together, TakesBack}
 use Rattle.board_symmetry.specs.declared.symmetry.Symmetry.{Symmetry}
-use Rattle.board_symmetry.specs.declared.symmetry.Symmetry.TheVariants.{Identity, Half, FlipX, FlipY, Quarter, ThreeQuarter, Diagonal, AntiDiagonal}
+use Rattle.board_symmetry.specs.declared.symmetry.Symmetry.TheVariants.{Identity, Half, FlipX, FlipY, Quarter, ThreeQuarter, Diagonal}
+use Rattle.board_symmetry.specs.declared.symmetry.Symmetry.TheVariants.{AntiDiagonal}
 use Rattle.board_symmetry.proofs.Turns.{Turn, within}
 use Rattle.board_symmetry.proofs.Eight.{turn_of}
 use Rattle.board_symmetry.proofs.Alike.{grid}

@@ -14,7 +14,8 @@ use Rattle.board_symmetry.proofs.BoardImages.{image_turned}
 use Rattle.board_symmetry.proofs.TurnedOutcomes.{outcome-same, foul-same}
 use Rattle.board_symmetry.proofs.TurnedPositions.{position-same}
 use Rattle.board_symmetry.proofs.TurnedWins.{wins-same, wins_after-same, asks_nothing, asks_five, asks_threat}
-use Rattle.board_symmetry.proofs.TurnedTables.{accepted-same, accepted_start-same, arrivals-same, start_arrivals-same, game-same, depth-same, start_depth-same}
+use Rattle.board_symmetry.proofs.TurnedTables.{accepted-same, accepted_start-same, arrivals-same, start_arrivals-same, game-same}
+use Rattle.board_symmetry.proofs.TurnedTables.{depth-same, start_depth-same}
 use Rattle.board_symmetry.proofs.ImageGroup.{names_sized}
 
 module _ (s : Symmetry) (b : Grid) (ok : IsBoard b) (fit : fits s b.width b.height ≡ true) where

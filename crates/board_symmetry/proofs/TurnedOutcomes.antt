@@ -1,12 +1,14 @@
 -- A board and what a turn makes of it: sums and tests over all points, numbers of stones, threes, fouls, outcomes.
-use Rattle.std.proofs.Common.{◌≡◌, ℕ, zero, suc, ◌+◌, Bool, true, false, ◌&&◌, ◌||◌, nat_eq, nat_le, cond, refl, sym, ap, ◌∙◌, List, [], ◌∷◌, map}
+use Rattle.std.proofs.Common.{◌≡◌, ℕ, zero, suc, ◌+◌, Bool, true, false, ◌&&◌, ◌||◌, nat_eq, nat_le, cond, refl, sym, ap, ◌∙◌, List, []}
+use Rattle.std.proofs.Common.{◌∷◌, map}
 use Rattle.std.specs.Prelude.{Option, None, is_none}
 use Rattle.std.specs.Cmp.{both_ways}
 use Rattle.std.specs.List.{list_any, list_all, filter, sum_by, count_by}
 use Rattle.std.proofs.lemmas.List.Sums.{sum_by-cons}
 use Rattle.game_rules.specs.Grid.{is_empty, is_empty_cell, is_stone_of, cell_at, put, axes, points_within, stones_of, empties_of}
 use Rattle.game_rules.specs.Shapes.{run_of, five, fours_of, is_three_point, three_points_of}
-use Rattle.game_rules.specs.Play.{first_foul, is_three, stone_foul, black_foul_within, black_foul, has_fouls, foul_of, mover, outcome, outcome_by, after}
+use Rattle.game_rules.specs.Play.{first_foul, is_three, stone_foul, black_foul_within, black_foul, has_fouls, foul_of, mover, outcome}
+use Rattle.game_rules.specs.Play.{outcome_by, after}
 use Rattle.game_rules.specs.declared.Cell.{Cell}
 use Rattle.game_rules.specs.declared.Side.{Side}
 use Rattle.game_rules.specs.declared.Side.TheVariants.{Black, White}

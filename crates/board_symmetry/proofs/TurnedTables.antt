@@ -14,9 +14,11 @@ use Rattle.game_rules.specs.declared.RuleKind.{RuleKind}
 use Rattle.game_rules.proofs.Boards.{and_left, and_right}
 use Rattle.game_rules.proofs.Games.{WinsOr-map}
 use Rattle.game_rules.proofs.Points.{WinsOr-on}
-use Rattle.strategy_graph.specs.Tables.{Answers, answers_of, answer, rest_node, rest_nodes, named, is_winning, NamesOnBoard, TableOnBoard, IsTable, greatest, node_depth, depth_within, depth, start_depth, is_rising, RepliesOn}
+use Rattle.strategy_graph.specs.Tables.{Answers, answers_of, answer, rest_node, rest_nodes, named, is_winning, NamesOnBoard, TableOnBoard}
+use Rattle.strategy_graph.specs.Tables.{IsTable, greatest, node_depth, depth_within, depth, start_depth, is_rising, RepliesOn}
 use Rattle.strategy_graph.specs.Acceptance.{Answered, NotWinning, Meets, AcceptedNode, AcceptedWithin, Accepted, AcceptedStart}
-use Rattle.strategy_graph.specs.Arrivals.{if_answered, arrivals_at, arrivals_after, arrivals_behind, arrivals_within, arrivals, start_arrivals}
+use Rattle.strategy_graph.specs.Arrivals.{if_answered, arrivals_at, arrivals_after, arrivals_behind, arrivals_within, arrivals}
+use Rattle.strategy_graph.specs.Arrivals.{start_arrivals}
 use Rattle.strategy_graph.specs.Games.{End, NoMove, Open, after_attack, after_reply, if_node, one_later, end_at, game}
 use Rattle.strategy_graph.specs.declared.Node.{Node}
 use Rattle.strategy_graph.proofs.Answering.{Answered-map}

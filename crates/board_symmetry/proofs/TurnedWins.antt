@@ -1,5 +1,6 @@
 -- A board and what a turn makes of it: won games.
-use Rattle.std.proofs.Common.{◌≡◌, ◌↔◌, ℕ, zero, suc, Bool, true, false, ◌&&◌, ◌||◌, not, nat_le, cond, refl, sym, ap, subst, ◌∙◌, List, length}
+use Rattle.std.proofs.Common.{◌≡◌, ◌↔◌, ℕ, zero, suc, Bool, true, false, ◌&&◌, ◌||◌, not, nat_le, cond, refl, sym, ap, subst, ◌∙◌, List}
+use Rattle.std.proofs.Common.{length}
 use Rattle.std.specs.Prelude.{IsTrue, is_none}
 use Rattle.std.proofs.lemmas.List.Sums.{length-filter}
 use Rattle.game_rules.specs.Grid.{Grid, is_on, points_within}

@@ -6,7 +6,8 @@ use Rattle.game_rules.specs.declared.Cell.TheVariants.{Empty, Black as BlackSton
 use Rattle.game_rules.specs.declared.Side.TheVariants.{Black, White}
 use Rattle.game_rules.specs.declared.Point.{Point}
 use Rattle.board_symmetry.specs.declared.symmetry.Symmetry.{Symmetry}
-use Rattle.board_symmetry.specs.declared.symmetry.Symmetry.TheVariants.{Identity, Half, FlipX, FlipY, Quarter, ThreeQuarter, Diagonal, AntiDiagonal}
+use Rattle.board_symmetry.specs.declared.symmetry.Symmetry.TheVariants.{Identity, Half, FlipX, FlipY, Quarter, ThreeQuarter, Diagonal}
+use Rattle.board_symmetry.specs.declared.symmetry.Symmetry.TheVariants.{AntiDiagonal}
 
 -- whether the symmetry exchanges width and height
 abbrev pub exchanges : Symmetry → Bool

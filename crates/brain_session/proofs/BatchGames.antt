@@ -1,7 +1,8 @@
 -- The board of a batch, whose stones are put one by one, and the side to move on it.
 use Rattle.std.specs.Prelude.{Option, Some, None, ◌==◌, All, AllPairs, IsSome}
 use Rattle.std.specs.List.{count_by}
-use Rattle.std.proofs.Common.{◌≡◌, ℕ, zero, suc, ◌+◌, ◌≤◌, ◌<◌, Bool, true, false, cond, refl, sym, ap, ◌∙◌, arith, List, [], ◌∷◌, length, get_or, take, IfSome, MatchOption, inl, inr, not}
+use Rattle.std.proofs.Common.{◌≡◌, ℕ, zero, suc, ◌+◌, ◌≤◌, ◌<◌, Bool, true, false, cond, refl, sym, ap, ◌∙◌, arith, List, [], ◌∷◌, length}
+use Rattle.std.proofs.Common.{get_or, take, IfSome, MatchOption, inl, inr, not}
 use Rattle.std.proofs.lemmas.List.Sums.{fold_more, sum_by-cons}
 use Rattle.std.proofs.lemmas.Bool.Decides.{nat_tests}
 use Rattle.game_rules.specs.Grid.{Grid, is_on, is_empty, put, IsBoard, is_stone_of, stone_of, stones_of}
@@ -31,22 +32,28 @@ pub record Waits (stones : List BatchStone) (i : ℕ) (board : Grid) : Type 0 wh
   pub empty : (k : ℕ) (d : BatchStone) → i ≤ k → k < length stones → is_empty board (get_or stones k d).at ≡ true
 
 -- the stones fit the empty board, whether a batch is read or not
-pub fit-stones : (o : Option Batch) (board : Grid) (stones : List BatchStone) → IfSome o (StonesFit board) → MatchOption o (stones ≡ []) (λ b. stones ≡ b.stones) → StonesFit board (record { stones = stones; bad = false })
-fit-stones None board stones fit same = rw same (record { on_board = λ k d less. absurd (omega arith); distinct = λ i j d less more. absurd (omega arith) })
+pub fit-stones : (o : Option Batch) (board : Grid) (stones : List BatchStone) → IfSome o (StonesFit board)
+    → MatchOption o (stones ≡ []) (λ b. stones ≡ b.stones) → StonesFit board (record { stones = stones; bad = false })
+fit-stones None board stones fit same = rw same
+    (record { on_board = λ k d less. absurd (omega arith); distinct = λ i j d less more. absurd (omega arith) })
 fit-stones (Some b) board stones fit same = rw same (record { on_board = fit.on_board; distinct = fit.distinct })
 
-pub waits-first : (stones : List BatchStone) (width height : ℕ) → StonesFit (empty_board width height) (record { stones = stones; bad = false }) → Waits stones 0 (empty_board width height)
+pub waits-first : (stones : List BatchStone) (width height : ℕ)
+    → StonesFit (empty_board width height) (record { stones = stones; bad = false }) → Waits stones 0 (empty_board width height)
 waits-first stones width height fit = record {
   empty = λ k d from less. empty-empty width height (get_or stones k d).at (fit.on_board k d less);
 }
 
-pub waits-next : (stones : List BatchStone) (i : ℕ) (start board next : Grid) (side : Side) (d : BatchStone) → StonesFit start (record { stones = stones; bad = false }) → Waits stones i board → i < length stones → next ≡ put board side (get_or stones i d).at → Waits stones (i + 1) next
+pub waits-next : (stones : List BatchStone) (i : ℕ) (start board next : Grid) (side : Side) (d : BatchStone)
+    → StonesFit start (record { stones = stones; bad = false }) → Waits stones i board → i < length stones
+    → next ≡ put board side (get_or stones i d).at → Waits stones (i + 1) next
 waits-next stones i start board next side d fit waits less put_here = rw put_here (record {
   empty = λ k e from more.
       let here : Point = (get_or stones i d).at in
       let there : Point = (get_or stones k e).at in
       let on : is_on board here ≡ true = is_empty-on board here (waits.empty i d (omega arith) less) in
-      let apart : is_same_point here there ≡ false = ap (λ (t : BatchStone). is_same_point here t.at) (same_item stones k e d more) ∙ fit.distinct i k d (omega arith) more in
+      let apart : is_same_point here there ≡ false = ap (λ (t : BatchStone). is_same_point here t.at) (same_item stones k e d more)
+      ∙ fit.distinct i k d (omega arith) more in
       is_empty-put board side here there on (is_same_point-apart here there apart) ∙ waits.empty k e (omega arith) more;
 })
 
@@ -54,21 +61,29 @@ waits-next stones i start board next side d fit waits less put_here = rw put_her
 pub side-own : (brain side : Side) (own : Bool) → own ≡ true → side ≡ brain → side ≡ cond own brain (other brain)
 side-own brain side own holds e = rw holds e
 
-pub side-other : (brain side opponent : Side) (own : Bool) → own ≡ false → side ≡ opponent → opponent ≡ other brain → side ≡ cond own brain (other brain)
+pub side-other : (brain side opponent : Side) (own : Bool) → own ≡ false → side ≡ opponent → opponent ≡ other brain
+    → side ≡ cond own brain (other brain)
 side-other brain side opponent own fails e f = rw fails (e ∙ f)
 
-pub put-more : (brain side : Side) (start board next : Grid) (stones : List BatchStone) (i : ℕ) (d : BatchStone) → i < length stones → side ≡ side_of brain (get_or stones i d) → next ≡ put board side (get_or stones i d).at → board ≡ with_stones brain start (take i stones) → next ≡ with_stones brain start (take (i + 1) stones)
+pub put-more : (brain side : Side) (start board next : Grid) (stones : List BatchStone) (i : ℕ) (d : BatchStone) → i < length stones
+    → side ≡ side_of brain (get_or stones i d) → next ≡ put board side (get_or stones i d).at
+    → board ≡ with_stones brain start (take i stones) → next ≡ with_stones brain start (take (i + 1) stones)
 put-more brain side start board next stones i d less by put_here so_far =
-    let more : with_stones brain start (take (i + 1) stones) ≡ put (with_stones brain start (take i stones)) (side_of brain (get_or stones i d)) (get_or stones i d).at = fold_more (λ (c : Grid) (s : BatchStone). put c (side_of brain s) s.at) start stones i d less in
+    let more : with_stones brain start (take (i + 1) stones) ≡ put (with_stones brain start (take i stones))
+    (side_of brain (get_or stones i d)) (get_or stones i d).at =
+    fold_more (λ (c : Grid) (s : BatchStone). put c (side_of brain s) s.at) start stones i d less in
     put_here ∙ rw (by, so_far) (sym more)
 
 -- the stones on the board after these were put are those before, and these
-stones_of-with : (brain s : Side) (stones : List BatchStone) (b : Grid) → IsBoard b → All (λ x. is_empty b x.at ≡ true) stones → AllPairs (λ x u. is_same_point x.at u.at ≡ false) stones → stones_of (with_stones brain b stones) s ≡ stones_of b s + count_by (λ x. is_stone_of s (stone_of (side_of brain x))) stones
+stones_of-with : (brain s : Side) (stones : List BatchStone) (b : Grid) → IsBoard b → All (λ x. is_empty b x.at ≡ true) stones
+    → AllPairs (λ x u. is_same_point x.at u.at ≡ false) stones
+    → stones_of (with_stones brain b stones) s ≡ stones_of b s + count_by (λ x. is_stone_of s (stone_of (side_of brain x))) stones
 stones_of-with brain s [] b board empty distinct = omega arith
 stones_of-with brain s (x ∷ xs) b board empty distinct =
     let here : is_empty b x.at ≡ true = empty 0 x (omega arith) in
     let c : Grid = put b (side_of brain x) x.at in
-    let one : stones_of c s ≡ stones_of b s + cond (is_stone_of s (stone_of (side_of brain x))) 1 0 = stones_of-put b (side_of brain x) s x.at board here in
+    let one : stones_of c s ≡ stones_of b s + cond (is_stone_of s (stone_of (side_of brain x))) 1 0 =
+    stones_of-put b (side_of brain x) s x.at board here in
     let rest : stones_of (with_stones brain c xs) s ≡ stones_of c s + count_by (λ y. is_stone_of s (stone_of (side_of brain y))) xs =
     stones_of-with brain s xs c (IsBoard-put b (side_of brain x) x.at board)
     (λ k d less.
@@ -87,7 +102,8 @@ count_by-same f g (x ∷ xs) same =
     ∙ ap (λ (n : ℕ). cond (g x) 1 0 + n) (count_by-same f g xs same)
     ∙ sym (sum_by-cons (λ (y : BatchStone). cond (g y) 1 0) x xs)
 
-mover-by : (brain : Side) (b : Grid) (own others : ℕ) → stones_of b brain ≡ own → stones_of b (other brain) ≡ others → colour_by own others ≡ Some brain → mover b ≡ brain
+mover-by : (brain : Side) (b : Grid) (own others : ℕ) → stones_of b brain ≡ own → stones_of b (other brain) ≡ others
+    → colour_by own others ≡ Some brain → mover b ≡ brain
 mover-by Black b own others mine theirs colour = by_test (own == others) refl where
   by_test : (r : Bool) → (own == others) ≡ r → mover b ≡ Black
   by_test true e = rw (mine, theirs, e) refl
@@ -107,34 +123,45 @@ none : (n k : ℕ) → n ≡ 0 → n + k ≡ k
 none n k e = omega arith
 
 -- the stones of either side on the board of a batch are those that the batch names as its own
-pub batch-counts : (brain : Side) (width height : ℕ) (stones : List BatchStone) (bad : Bool) → IsBoard (empty_board width height) → StonesFit (empty_board width height) (record { stones = stones; bad = bad })
-    → (stones_of (with_stones brain (empty_board width height) stones) brain ≡ count_by (λ x. x.own) stones) × (stones_of (with_stones brain (empty_board width height) stones) (other brain) ≡ count_by (λ x. not x.own) stones)
+pub batch-counts : (brain : Side) (width height : ℕ) (stones : List BatchStone) (bad : Bool) → IsBoard (empty_board width height)
+    → StonesFit (empty_board width height) (record { stones = stones; bad = bad })
+    → (stones_of (with_stones brain (empty_board width height) stones) brain ≡ count_by (λ x. x.own) stones)
+    × (stones_of (with_stones brain (empty_board width height) stones) (other brain) ≡ count_by (λ x. not x.own) stones)
 batch-counts brain width height stones bad board fit =
     let b : Grid = empty_board width height in
-    let empty : All (λ x. is_empty b x.at ≡ true) stones = λ k d less. empty-empty width height (get_or stones k d).at (fit.on_board k d less) in (
+    let empty : All (λ x. is_empty b x.at ≡ true) stones =
+    λ k d less. empty-empty width height (get_or stones k d).at (fit.on_board k d less) in (
       stones_of-with brain brain stones b board empty fit.distinct
           ∙ none (stones_of b brain) (count_by (λ x. is_stone_of brain (stone_of (side_of brain x))) stones) (no-stones width height brain)
           ∙ count_by-same (λ x. is_stone_of brain (stone_of (side_of brain x))) (λ x. x.own) stones (λ x. own_stone brain x.own),
       stones_of-with brain (other brain) stones b board empty fit.distinct
-          ∙ none (stones_of b (other brain)) (count_by (λ x. is_stone_of (other brain) (stone_of (side_of brain x))) stones) (no-stones width height (other brain))
-          ∙ count_by-same (λ x. is_stone_of (other brain) (stone_of (side_of brain x))) (λ x. not x.own) stones (λ x. other_stone brain x.own),
+          ∙ none (stones_of b (other brain)) (count_by (λ x. is_stone_of (other brain) (stone_of (side_of brain x))) stones)
+          (no-stones width height (other brain))
+          ∙ count_by-same (λ x. is_stone_of (other brain) (stone_of (side_of brain x))) (λ x. not x.own) stones
+          (λ x. other_stone brain x.own),
     )
 
 -- on the board of a batch whose stones name the brain's colour, the brain is to move
-pub batch-mover : (brain : Side) (width height : ℕ) (stones : List BatchStone) (bad : Bool) → IsBoard (empty_board width height) → StonesFit (empty_board width height) (record { stones = stones; bad = bad }) → colour_in stones ≡ Some brain → mover (with_stones brain (empty_board width height) stones) ≡ brain
+pub batch-mover : (brain : Side) (width height : ℕ) (stones : List BatchStone) (bad : Bool) → IsBoard (empty_board width height)
+    → StonesFit (empty_board width height) (record { stones = stones; bad = bad }) → colour_in stones ≡ Some brain
+    → mover (with_stones brain (empty_board width height) stones) ≡ brain
 batch-mover brain width height stones bad board fit colour =
     let counts = batch-counts brain width height stones bad board fit in
-    mover-by brain (with_stones brain (empty_board width height) stones) (count_by (λ x. x.own) stones) (count_by (λ x. not x.own) stones) counts.0 counts.1 colour
+    mover-by brain (with_stones brain (empty_board width height) stones) (count_by (λ x. x.own) stones) (count_by (λ x. not x.own) stones)
+    counts.0 counts.1 colour
 
 -- where the counts of the batch's board name the brain as the side to move, its stones name the brain's colour
-pub batch-colour : (brain : Side) (b : Grid) (own others : ℕ) → NamesMover b → mover b ≡ brain → stones_of b brain ≡ own → stones_of b (other brain) ≡ others → colour_by own others ≡ Some brain
+pub batch-colour : (brain : Side) (b : Grid) (own others : ℕ) → NamesMover b → mover b ≡ brain → stones_of b brain ≡ own
+    → stones_of b (other brain) ≡ others → colour_by own others ≡ Some brain
 batch-colour Black b own others names turn mine theirs = by_test (stones_of b Black == stones_of b White) refl where
   by_test : (r : Bool) → (stones_of b Black == stones_of b White) ≡ r → colour_by own others ≡ Some Black
   by_test true e = let even : (own == others) ≡ true = rw (mine, theirs) at e in rw even refl
   by_test false e = let wrong : White ≡ Black = rw e at turn in cc
 batch-colour White b own others names turn mine theirs = by_test (stones_of b Black == stones_of b White) refl where
   one_more : NamesMover b → (stones_of b Black == stones_of b White) ≡ false → others ≡ own + 1
-  one_more (inl even) e = absurd (let same : (stones_of b Black == stones_of b White) ≡ true = grind (arith, nat_tests) in let wrong : true ≡ false = sym same ∙ e in cc)
+  one_more (inl even) e = absurd
+      (let same : (stones_of b Black == stones_of b White) ≡ true = grind (arith, nat_tests) in let wrong : true ≡ false =
+      sym same ∙ e in cc)
   one_more (inr more) e = sym theirs ∙ more ∙ ap (λ (n : ℕ). n + 1) mine
 
   by_test : (r : Bool) → (stones_of b Black == stones_of b White) ≡ r → colour_by own others ≡ Some White
@@ -146,7 +173,9 @@ batch-colour White b own others names turn mine theirs = by_test (stones_of b Bl
       rw (differ, next) refl
 
 -- the same on the board that a batch gave, where one is read
-pub batch-to_move : (o : Option Batch) (brain : Side) (width height : ℕ) (c : Grid) → IsSome o → IsBoard (empty_board width height) → IfSome o (StonesFit (empty_board width height)) → IfSome o (λ b. Some brain ≡ colour_in b.stones) → IfSome o (λ b. c ≡ with_stones brain (empty_board width height) b.stones) → mover c ≡ brain
+pub batch-to_move : (o : Option Batch) (brain : Side) (width height : ℕ) (c : Grid) → IsSome o → IsBoard (empty_board width height)
+    → IfSome o (StonesFit (empty_board width height)) → IfSome o (λ b. Some brain ≡ colour_in b.stones)
+    → IfSome o (λ b. c ≡ with_stones brain (empty_board width height) b.stones) → mover c ≡ brain
 batch-to_move None brain width height c read board fit colour here = absurd (cc)
 batch-to_move (Some b) brain width height c read board fit colour here =
     ap mover here ∙ batch-mover brain width height b.stones b.bad board fit (sym colour)

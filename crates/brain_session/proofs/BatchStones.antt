@@ -1,5 +1,6 @@
 -- The stones of a batch that makes a board.
-use Rattle.std.proofs.Common.{not, List, map, ℕ, ◌<◌, [], ◌∷◌, ◌≤◌, arith, ◌++◌, ◌≡◌, refl, ap, ◌∙◌, Bool, false, ◌||◌, true, inl, inr, sym, subst, cond, ◌&&◌, ◌+◌, ◌*◌, ◌/◌, ◌%◌, length}
+use Rattle.std.proofs.Common.{not, List, map, ℕ, ◌<◌, [], ◌∷◌, ◌≤◌, arith, ◌++◌, ◌≡◌, refl, ap, ◌∙◌, Bool, false, ◌||◌, true, inl, inr, sym}
+use Rattle.std.proofs.Common.{subst, cond, ◌&&◌, ◌+◌, ◌*◌, ◌/◌, ◌%◌, length}
 use Rattle.std.specs.List.{filter, list_any}
 use Rattle.std.specs.Prelude.{slice_index_or}
 use Rattle.std.proofs.Math.Nat.{div-lt_iff_lt-mul}
@@ -45,7 +46,8 @@ unfolding Before
 before-more width k m [] l h = tt
 before-more width k m (s ∷ ss) l h = let low = h.0 in (omega (arith, low), before-more width k m ss l h.1)
 
-pub before-push : (width k : ℕ) (ss : List BatchStone) (s : BatchStone) → Before width k ss → place width s.at < k → Before width k (ss ++ s ∷ [])
+pub before-push : (width k : ℕ) (ss : List BatchStone) (s : BatchStone) → Before width k ss → place width s.at < k
+    → Before width k (ss ++ s ∷ [])
 unfolding Before
 before-push width k [] s h low = (low, tt)
 before-push width k (x ∷ ss) s h low = (h.0, before-push width k ss s h.1 low)
@@ -82,15 +84,21 @@ module _ (b c : Grid) (p : Point) (ps : List Point) (like : IsLike b c) (on_p : 
   makes-stone makes q on = elim (same_or_apart p q) [
     | inl same ↦ inl (subst (λ (x : Point). cell_at next x ≡ cell_at b x) same there)
     | inr apart ↦
-        let kept : cell_at next q ≡ cell_at c q = cell_at-put_other c (side_of (mover b) (stone_at b p)) p q (on-like b c p like on_p) (on-like b c q like on) apart in
+        let kept : cell_at next q ≡ cell_at c q = cell_at-put_other c (side_of (mover b) (stone_at b p)) p q (on-like b c p like on_p)
+        (on-like b c q like on) apart in
         elim (makes q on) [
           | inl same ↦ inl (kept ∙ same)
-          | inr later ↦ inr (kept ∙ later.0, sym (ap (λ (r : Bool). r || list_any (λ x. is_same_point x q) ps) (apart-is_same_point p q apart)) ∙ later.1)
+          | inr later ↦ inr (
+            kept ∙ later.0,
+            sym
+                (ap (λ (r : Bool). r || list_any (λ x. is_same_point x q) ps) (apart-is_same_point p q apart)) ∙ later.1,
+          )
         ]
   ]
 
 -- the cells of two boards of one width that have the same cell at each point
-same-at : (b c : Grid) → IsBoard b → c.width ≡ b.width → ((q : Point) → is_on b q ≡ true → cell_at c q ≡ cell_at b q) → (k : ℕ) → k < length b.cells → slice_index_or c.cells k Empty ≡ slice_index_or b.cells k Empty
+same-at : (b c : Grid) → IsBoard b → c.width ≡ b.width → ((q : Point) → is_on b q ≡ true → cell_at c q ≡ cell_at b q) → (k : ℕ)
+    → k < length b.cells → slice_index_or c.cells k Empty ≡ slice_index_or b.cells k Empty
 same-at b c board wide same k less =
     let p : Point = record { x = k % b.width; y = k / b.width } in
     let least = board.wide in
@@ -106,13 +114,16 @@ same-at b c board wide same k less =
     ∙ ap (λ (i : ℕ). slice_index_or b.cells i Empty) at
 
 -- two boards of one size that have the same cell at each point are one
-pub same-cells : (b c : Grid) → IsBoard b → IsBoard c → c.width ≡ b.width → c.height ≡ b.height → ((q : Point) → is_on b q ≡ true → cell_at c q ≡ cell_at b q) → c ≡ b
+pub same-cells : (b c : Grid) → IsBoard b → IsBoard c → c.width ≡ b.width → c.height ≡ b.height
+    → ((q : Point) → is_on b q ≡ true → cell_at c q ≡ cell_at b q) → c ≡ b
 same-cells b c board other wide high same =
     let count = same-length b c board other wide high in
-    let cells : c.cells ≡ b.cells = ext_get_or Empty c.cells b.cells count (λ k less. same-at b c board wide same k (subst (λ (n : ℕ). k < n) count less)) in
+    let cells : c.cells ≡ b.cells = ext_get_or Empty c.cells b.cells count
+    (λ k less. same-at b c board wide same k (subst (λ (n : ℕ). k < n) count less)) in
     λ i. record { width = wide i; height = high i; cells = cells i }
 
-rebuilt : (b : Grid) → IsBoard b → (ps : List Point) → ((q : Point) → list_any (λ p. is_same_point p q) ps ≡ true → is_on b q ≡ true) → (c : Grid) → IsLike b c → Makes b c ps → with_stones (mover b) c (stones_at b ps) ≡ b
+rebuilt : (b : Grid) → IsBoard b → (ps : List Point) → ((q : Point) → list_any (λ p. is_same_point p q) ps ≡ true → is_on b q ≡ true)
+    → (c : Grid) → IsLike b c → Makes b c ps → with_stones (mover b) c (stones_at b ps) ≡ b
 unfolding Makes
 rebuilt b board [] on c like makes = same-cells b c board like.board like.wide like.high (λ q o. elim (makes q o) [
   | inl same ↦ same
@@ -126,7 +137,8 @@ rebuilt b board (p ∷ ps) on c like makes = by_test (is_empty b p) refl (λ d a
   on_p = on p (ap (λ (r : Bool). r || list_any (λ x. is_same_point x p) ps) (is_same_point-itself p))
 
   by_test : (r : Bool) → is_empty b p ≡ r → ((d : Grid) → IsLike b d → Makes b d ps → with_stones (mover b) d (stones_at b ps) ≡ b)
-      → with_stones (mover b) c (map (stone_at b) (cond (not r) (p ∷ filter (λ x. not (is_empty b x)) ps) (filter (λ x. not (is_empty b x)) ps))) ≡ b
+      → with_stones (mover b) c
+      (map (stone_at b) (cond (not r) (p ∷ filter (λ x. not (is_empty b x)) ps) (filter (λ x. not (is_empty b x)) ps))) ≡ b
   by_test true e later = later c like (makes-empty b c p ps e makes)
   by_test false e later =
       later (put c (side_of (mover b) (stone_at b p)) p)
@@ -140,6 +152,7 @@ stones-make b board =
     rebuilt b board (points_of b) (listed_on b) (empty_board b.width b.height)
     (record { board = empty-board b board; wide = refl; high = refl })
     (λ q on. inr (
-      is_empty-cell (cell_at (empty_board b.width b.height) q) (and_right (is_on b q) (is_empty_cell (cell_at (empty_board b.width b.height) q)) (empty-empty b.width b.height q on)),
+      is_empty-cell (cell_at (empty_board b.width b.height) q)
+          (and_right (is_on b q) (is_empty_cell (cell_at (empty_board b.width b.height) q)) (empty-empty b.width b.height q on)),
       points-found b (λ p. is_same_point p q) q on (is_same_point-itself q),
     ))

@@ -11,19 +11,23 @@ use Rattle.brain_session.specs.declared.choice.Picked.{Picked}
 use Rattle.brain_session.specs.declared.guide.Guide.{Guide}
 use Rattle.brain_session.specs.declared.own_win.OwnTable.{OwnTable}
 use Rattle.brain_session.specs.States.{Followed, HeldNode, OwnWin, Game, board_of}
-use Rattle.brain_session.specs.ChosenMoves.{Choice, or_else, move_by, by_following, first_node, by_held, own_win, by_own_win, by_plain_move, chosen_anew}
+use Rattle.brain_session.specs.ChosenMoves.{Choice, or_else, move_by, by_following, first_node, by_held, own_win, by_own_win, by_plain_move}
+use Rattle.brain_session.specs.ChosenMoves.{chosen_anew}
 use Rattle.brain_session.specs.Kept.{IsFound, IsOwnTable, NodeStandsAt, StandsAt, choice_of, followed_of, nodes_of}
 
 module _ (h : HeldTable) (g : Game) where
   -- what is followed where its move is this
-  followed-is : (f : Followed) (p : Point) → move_by h g.rule (board_of g) f ≡ Some p → by_following h g f ≡ Some (record { at = p; followed = Some f })
+  followed-is : (f : Followed) (p : Point) → move_by h g.rule (board_of g) f ≡ Some p
+      → by_following h g f ≡ Some (record { at = p; followed = Some f })
   followed-is f p e = ap (option_map (λ (q : Point). let c : Choice = record { at = q; followed = Some f } in c)) e
 
   -- a held root leads to a node
-  pub chosen-held : (i : ℕ) (p : Point) → first_node g h.roots ≡ Some i → move_by h g.rule (board_of g) (HeldNode i) ≡ Some p → chosen_anew h g ≡ record { at = p; followed = Some (HeldNode i) }
+  pub chosen-held : (i : ℕ) (p : Point) → first_node g h.roots ≡ Some i → move_by h g.rule (board_of g) (HeldNode i) ≡ Some p
+      → chosen_anew h g ≡ record { at = p; followed = Some (HeldNode i) }
   unfolding chosen_anew
   chosen-held i p first move =
-      let held : by_held h g ≡ Some (record { at = p; followed = Some (HeldNode i) }) = ap (option_and_then (λ (j : ℕ). by_following h g (HeldNode j))) first ∙ followed-is (HeldNode i) p move in
+      let held : by_held h g ≡ Some (record { at = p; followed = Some (HeldNode i) }) =
+      ap (option_and_then (λ (j : ℕ). by_following h g (HeldNode j))) first ∙ followed-is (HeldNode i) p move in
       ap (λ (o : Option Choice). or_else o (λ _. or_else (by_own_win h g) (λ _. by_plain_move g))) held
 
   no_held : first_node g h.roots ≡ None → chosen_anew h g ≡ or_else (by_own_win h g) (λ _. by_plain_move g)
@@ -33,9 +37,11 @@ module _ (h : HeldTable) (g : Game) where
       ap (λ (o : Option Choice). or_else o (λ _. or_else (by_own_win h g) (λ _. by_plain_move g))) held
 
   -- none does, and the brain finds a win of its own
-  pub chosen-own : (moves : ℕ) (p : Point) → first_node g h.roots ≡ None → own_win g.rule (board_of g) ≡ Some moves → move_by h g.rule (board_of g) (OwnWin moves) ≡ Some p → chosen_anew h g ≡ record { at = p; followed = Some (OwnWin moves) }
+  pub chosen-own : (moves : ℕ) (p : Point) → first_node g h.roots ≡ None → own_win g.rule (board_of g) ≡ Some moves
+      → move_by h g.rule (board_of g) (OwnWin moves) ≡ Some p → chosen_anew h g ≡ record { at = p; followed = Some (OwnWin moves) }
   chosen-own moves p first win move =
-      let own : by_own_win h g ≡ Some (record { at = p; followed = Some (OwnWin moves) }) = ap (option_and_then (λ (m : ℕ). by_following h g (OwnWin m))) win ∙ followed-is (OwnWin moves) p move in
+      let own : by_own_win h g ≡ Some (record { at = p; followed = Some (OwnWin moves) }) =
+      ap (option_and_then (λ (m : ℕ). by_following h g (OwnWin m))) win ∙ followed-is (OwnWin moves) p move in
       no_held first ∙ ap (λ (o : Option Choice). or_else o (λ _. by_plain_move g)) own
 
   -- it finds none
@@ -49,14 +55,18 @@ module _ (h : HeldTable) (g : Game) where
 module _ (h : HeldTable) (g : Game) (c : Picked) (guide : Guide) (is : c.guide ≡ Some guide) where
   -- it is the choice that follows the guide
   pub picked-chosen : chosen_anew h g ≡ record { at = c.at; followed = Some (followed_of guide) } → choice_of c ≡ chosen_anew h g
-  picked-chosen chosen = ap (λ (o : Option Guide). let choice : Choice = record { at = c.at; followed = option_map followed_of o } in choice) is ∙ sym chosen
+  picked-chosen chosen = ap
+      (λ (o : Option Guide). let choice : Choice = record { at = c.at; followed = option_map followed_of o } in choice) is ∙ sym chosen
 
   -- the guide stands at the board
-  pub picked-stands : (rule : RuleKind) (b : Grid) → IsTable (nodes_of h guide) → NodeStandsAt h rule b guide → IfSome c.guide (StandsAt h rule b)
-  picked-stands rule b table stands = subst (λ (o : Option Guide). IfSome o (StandsAt h rule b)) (sym is) (record { table = table; node = stands })
+  pub picked-stands : (rule : RuleKind) (b : Grid) → IsTable (nodes_of h guide) → NodeStandsAt h rule b guide
+      → IfSome c.guide (StandsAt h rule b)
+  picked-stands rule b table stands = subst (λ (o : Option Guide). IfSome o (StandsAt h rule b)) (sym is)
+      (record { table = table; node = stands })
 
 -- what is found on a board that is b
-pub found-own : (rule : RuleKind) (b d : Grid) (o : Option OwnTable) (own : OwnTable) → o ≡ Some own → d ≡ b → IsFound rule d o → IsOwnTable rule b own
+pub found-own : (rule : RuleKind) (b d : Grid) (o : Option OwnTable) (own : OwnTable) → o ≡ Some own → d ≡ b → IsFound rule d o
+    → IsOwnTable rule b own
 found-own rule b d o own is same found = subst (λ (x : Grid). IsOwnTable rule x own) same (subst (IsFound rule d) is found)
 
 pub found-nothing : (rule : RuleKind) (b d : Grid) (o : Option OwnTable) → o ≡ None → d ≡ b → IsFound rule d o → own_win rule b ≡ None

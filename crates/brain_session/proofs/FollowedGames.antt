@@ -23,8 +23,10 @@ use Rattle.gomocup_text.specs.declared.Command.TheVariants.{Start, RectStart, Tu
 use Rattle.brain_session.specs.declared.Reaction.TheVariants.{Says}
 use Rattle.brain_session.specs.States.{Game, board_of, point_at, InGame, State}
 use Rattle.brain_session.specs.ChosenMoves.{Choice, chosen}
-use Rattle.brain_session.specs.Steps.{Row, Chooses, fails, rule_of, if_supported, same_side, with_move, end_row, move_row, row_of, with_choice, step_by}
-use Rattle.brain_session.specs.HeldGames.{ends_with_foul, IsWonWithin, is_no_reply, then_replies, replies, then_answers_to, answers_to_replies}
+use Rattle.brain_session.specs.Steps.{Row, Chooses, fails, rule_of, if_supported, same_side, with_move, end_row, move_row, row_of}
+use Rattle.brain_session.specs.Steps.{with_choice, step_by}
+use Rattle.brain_session.specs.HeldGames.{ends_with_foul, IsWonWithin, is_no_reply, then_replies, replies, then_answers_to}
+use Rattle.brain_session.specs.HeldGames.{answers_to_replies}
 
 -- the state in which this game goes on, with this wish and no batch
 abbrev pub state_in : HeldTable → ℕ → Game → State

@@ -30,10 +30,12 @@ use Rattle.brain_session.specs.Kept.{GuidesAt, OwnStandsAt, NodeStandsAt, Stands
 -- ---- the move
 
 -- the attack of the node that is followed is the move by it
-pub held-moves : (h : HeldTable) (rule : RuleKind) (b : Grid) (g : Guide) (node : ℕ) (n : Node) → g ≡ HeldGuide node → slice_get h.table node ≡ Some n → move_by h rule b (followed_of g) ≡ Some n.attack
+pub held-moves : (h : HeldTable) (rule : RuleKind) (b : Grid) (g : Guide) (node : ℕ) (n : Node) → g ≡ HeldGuide node
+    → slice_get h.table node ≡ Some n → move_by h rule b (followed_of g) ≡ Some n.attack
 held-moves h rule b g node n is at = ap (λ (x : Guide). move_by h rule b (followed_of x)) is ∙ ap (option_map (λ (m : Node). m.attack)) at
 
-pub own-moves : (h : HeldTable) (rule : RuleKind) (b : Grid) (g : Guide) (own : OwnTable) (n : Node) → g ≡ OwnGuide own → slice_get own.table own.node ≡ Some n → NodeStandsAt h rule b g → move_by h rule b (followed_of g) ≡ Some n.attack
+pub own-moves : (h : HeldTable) (rule : RuleKind) (b : Grid) (g : Guide) (own : OwnTable) (n : Node) → g ≡ OwnGuide own
+    → slice_get own.table own.node ≡ Some n → NodeStandsAt h rule b g → move_by h rule b (followed_of g) ≡ Some n.attack
 own-moves h rule b g own n is at stands =
     let here : OwnStandsAt rule b own = subst (NodeStandsAt h rule b) is stands in
     ap (λ (x : Guide). move_by h rule b (followed_of x)) is
@@ -41,23 +43,30 @@ own-moves h rule b g own n is at stands =
     ∙ ap (option_map (λ (m : Node). m.attack)) at
 
 -- the move of a guide that stands at b is an empty point
-pub node-legal : (h : HeldTable) (rule : RuleKind) (b : Grid) (g : Guide) (p : Point) → NodeStandsAt h rule b g → move_by h rule b (followed_of g) ≡ Some p → is_empty b p ≡ true
+pub node-legal : (h : HeldTable) (rule : RuleKind) (b : Grid) (g : Guide) (p : Point) → NodeStandsAt h rule b g
+    → move_by h rule b (followed_of g) ≡ Some p → is_empty b p ≡ true
 node-legal h rule b (HeldGuide node) p at e = attack_empty rule h.table node b p at.1 e
-node-legal h rule b (OwnGuide own) p at e = attack_empty rule own.table own.node b p at.accepted (plan-attacks rule own.table own.moves own.node b at.wins at.stands ∙ e)
+node-legal h rule b (OwnGuide own) p at e = attack_empty rule own.table own.node b p at.accepted
+    (plan-attacks rule own.table own.moves own.node b at.wins at.stands ∙ e)
 
-pub stands-legal : (h : HeldTable) (rule : RuleKind) (b : Grid) (g : Guide) (p : Point) → StandsAt h rule b g → move_by h rule b (followed_of g) ≡ Some p → is_empty b p ≡ true
+pub stands-legal : (h : HeldTable) (rule : RuleKind) (b : Grid) (g : Guide) (p : Point) → StandsAt h rule b g
+    → move_by h rule b (followed_of g) ≡ Some p → is_empty b p ≡ true
 stands-legal h rule b g p stands move = node-legal h rule b g p stands.node move
 
 -- ---- after the move
 
-wins_behind : (rule : RuleKind) (t : List Node) (n : ℕ) (c : Grid) (o : Option ℕ) → Answered o (λ j. PlanAt rule t n j c) → WinsByFours rule n c
+wins_behind : (rule : RuleKind) (t : List Node) (n : ℕ) (c : Grid) (o : Option ℕ) → Answered o (λ j. PlanAt rule t n j c)
+    → WinsByFours rule n c
 wins_behind rule t n c None h = absurd h
 wins_behind rule t n c (Some j) h = test-WinsUnder (has_five rule) rule n c h.wins
 
 -- where the move of a guide that stands at b goes on, what is followed goes on after it
-pub stands-goes_on : (h : HeldTable) (rule : RuleKind) (b : Grid) (g : Guide) (p : Point) → StandsAt h rule b g → IsPosition rule b → move_by h rule b (followed_of g) ≡ Some p → outcome rule b p ≡ GoesOn → FollowsAt h rule (after b p) (followed_of g) × GuidesAt rule (after b p) g
+pub stands-goes_on : (h : HeldTable) (rule : RuleKind) (b : Grid) (g : Guide) (p : Point) → StandsAt h rule b g → IsPosition rule b
+    → move_by h rule b (followed_of g) ≡ Some p → outcome rule b p ≡ GoesOn
+    → FollowsAt h rule (after b p) (followed_of g) × GuidesAt rule (after b p) g
 stands-goes_on h rule b g p stands lawful move go = by_guide g stands.table stands.node move where
-  by_guide : (g : Guide) → IsTable (nodes_of h g) → NodeStandsAt h rule b g → move_by h rule b (followed_of g) ≡ Some p → FollowsAt h rule (after b p) (followed_of g) × GuidesAt rule (after b p) g
+  by_guide : (g : Guide) → IsTable (nodes_of h g) → NodeStandsAt h rule b g → move_by h rule b (followed_of g) ≡ Some p
+      → FollowsAt h rule (after b p) (followed_of g) × GuidesAt rule (after b p) g
   by_guide (HeldGuide node) table at e = ((at.0, accepted-replies rule h.table table node b p e at.1 go), tt)
   by_guide (OwnGuide own) table at e =
       let next = plan-replies rule own.table table own.moves own.node b p lawful e go at.stands in (
@@ -75,11 +84,14 @@ stands-goes_on h rule b g p stands lawful move go = by_guide g stands.table stan
 
 -- ---- after a reply
 
-held_after : (h : HeldTable) (rule : RuleKind) (b : Grid) (o : Option ℕ) → Answered o (λ j. Accepted rule h.table j b) → MatchOption (option_map (λ j. HeldGuide j) o) ⊥ (NodeStandsAt h rule b)
+held_after : (h : HeldTable) (rule : RuleKind) (b : Grid) (o : Option ℕ) → Answered o (λ j. Accepted rule h.table j b)
+    → MatchOption (option_map (λ j. HeldGuide j) o) ⊥ (NodeStandsAt h rule b)
 held_after h rule b None answered = answered
 held_after h rule b (Some j) answered = (accepted-in_table rule h.table j b answered, answered)
 
-own_after : (h : HeldTable) (rule : RuleKind) (b : Grid) (own : OwnTable) → wins_by_fours rule (own.moves - 1) b ≡ true → (o : Option ℕ) → Answered o (λ j. StandsFor own.table j (four_plan rule (own.moves - 1) b) × Accepted rule own.table j b) → MatchOption (option_map (λ j. OwnGuide (record own { node = j; moves = own.moves - 1 })) o) ⊥ (NodeStandsAt h rule b)
+own_after : (h : HeldTable) (rule : RuleKind) (b : Grid) (own : OwnTable) → wins_by_fours rule (own.moves - 1) b ≡ true → (o : Option ℕ)
+    → Answered o (λ j. StandsFor own.table j (four_plan rule (own.moves - 1) b) × Accepted rule own.table j b)
+    → MatchOption (option_map (λ j. OwnGuide (record own { node = j; moves = own.moves - 1 })) o) ⊥ (NodeStandsAt h rule b)
 own_after h rule b own wins None answered = answered
 own_after h rule b own wins (Some j) answered = record {
   in_table = accepted-in_table rule own.table j b answered.1;
@@ -89,13 +101,15 @@ own_after h rule b own wins (Some j) answered = record {
 }
 
 -- where what is followed goes on at b, and the reply q does, it goes on after the reply
-pub goes_on-after : (h : HeldTable) (rule : RuleKind) (b : Grid) (g : Guide) (q : Point) → FollowsAt h rule b (followed_of g) → GuidesAt rule b g → outcome rule b q ≡ GoesOn → GoesOnAfter h rule (after b q) g q
+pub goes_on-after : (h : HeldTable) (rule : RuleKind) (b : Grid) (g : Guide) (q : Point) → FollowsAt h rule b (followed_of g)
+    → GuidesAt rule b g → outcome rule b q ≡ GoesOn → GoesOnAfter h rule (after b q) g q
 goes_on-after h rule b (HeldGuide node) q follows guides go = record {
   in_table = follows.0;
   answers = held_after h rule (after b q) (answer_at h.table node q) (going (outcome rule b q) _ go (follows.1 q));
 }
 goes_on-after h rule b (OwnGuide own) q follows guides go = record {
   in_table = (guides.in_table, guides.moves_left);
-  answers = own_after h rule (after b q) own (WinsUnder-test (has_five rule) rule (own.moves - 1) (after b q) (going (outcome rule b q) _ go (follows q)))
+  answers = own_after h rule (after b q) own
+      (WinsUnder-test (has_five rule) rule (own.moves - 1) (after b q) (going (outcome rule b q) _ go (follows q)))
       (answer_at own.table own.node q) (going (outcome rule b q) _ go (guides.answers q));
 }

@@ -22,7 +22,8 @@ use Rattle.brain_session.specs.States.{Game, board_of, State, new_brain}
 use Rattle.brain_session.specs.ChosenMoves.{Choice, chosen, chosen_anew, by_followed, first_node}
 use Rattle.brain_session.specs.Steps.{Step, step_by, with_choice, brain_step}
 use Rattle.brain_session.specs.Sessions.{state_after}
-use Rattle.brain_session.specs.HeldGames.{BeginsHeldGame, IsLedTo, HeldGameGoesWell, HeldGamesGoWell, SessionsGoWell, IsTight, StartsAreTight, replies, answers_to_replies, game_answers, IsWonWithin}
+use Rattle.brain_session.specs.HeldGames.{BeginsHeldGame, IsLedTo, HeldGameGoesWell, HeldGamesGoWell, SessionsGoWell, IsTight}
+use Rattle.brain_session.specs.HeldGames.{StartsAreTight, replies, answers_to_replies, game_answers, IsWonWithin}
 use Rattle.brain_session.specs.Running.{GoesOnAlong}
 use Rattle.brain_session.proofs.HeldNodes.{first-led, root-accepted, root-no_deeper}
 use Rattle.brain_session.proofs.HeldSteps.{GoesBy, by_node, StandsIn, held-go_well}
@@ -31,26 +32,33 @@ use Rattle.brain_session.proofs.LawfulStates.{LawfulState, IsToMove, LawfulRow, 
 use Rattle.brain_session.proofs.FollowedGames.{state_in}
 
 -- a held root that leads to a node in the game, where the moves went on: the node is accepted, and no deeper than the root
-held_led : (h : HeldTable) (g : Game) (i : ℕ) → IsHeld h → first_node g h.roots ≡ Some i → GoesOnAlong g.rule g.start g.moves → Accepted g.rule h.table i (board_of g) × IsLedTo h g i
+held_led : (h : HeldTable) (g : Game) (i : ℕ) → IsHeld h → first_node g h.roots ≡ Some i → GoesOnAlong g.rule g.start g.moves
+    → Accepted g.rule h.table i (board_of g) × IsLedTo h g i
 held_led h g i held leads along =
     let found = first-led g h.roots i leads in
-    let is_held : IsHeldRoot h.table found.0 = All-contains (IsHeldRoot h.table) h.roots found.0 held.roots found.1 in
-    (root-accepted h.table found.0 g i is_held along found.2, record { root = found.0; held = found.1; leads = found.2; no_deeper = root-no_deeper h.table found.0 g i found.2 })
+    let is_held : IsHeldRoot h.table found.0 = All-contains (IsHeldRoot h.table) h.roots found.0 held.roots found.1 in (
+      root-accepted h.table found.0 g i is_held along found.2,
+      record { root = found.0; held = found.1; leads = found.2; no_deeper = root-no_deeper h.table found.0 g i found.2 },
+    )
 
 -- ---- the game from there
 
-chosen_held : (h : HeldTable) (g : Game) (i : ℕ) (n : Node) → by_followed h g ≡ None → first_node g h.roots ≡ Some i → slice_get h.table i ≡ Some n → chosen h g ≡ by_node i n
+chosen_held : (h : HeldTable) (g : Game) (i : ℕ) (n : Node) → by_followed h g ≡ None → first_node g h.roots ≡ Some i
+    → slice_get h.table i ≡ Some n → chosen h g ≡ by_node i n
 unfolding chosen chosen_anew
 chosen_held h g i n none leads at = rw (none, leads, at) refl
 
 -- the step at the command that begins a held game
-pub begins : (s : State) (c : Command) (g : Game) (i : ℕ) (n : Node) → BeginsHeldGame s c g i → slice_get s.held.table i ≡ Some n → brain_step s c ≡ record { reaction = Says (Move n.attack); next = state_in s.held s.wish (with_choice g (by_node i n)) }
+pub begins : (s : State) (c : Command) (g : Game) (i : ℕ) (n : Node) → BeginsHeldGame s c g i → slice_get s.held.table i ≡ Some n
+    → brain_step s c ≡ record { reaction = Says (Move n.attack); next = state_in s.held s.wish (with_choice g (by_node i n)) }
 begins s c g i n b at =
     ap (step_by s) b.chooses
-    ∙ ap (λ (ch : Choice). let st : Step = record { reaction = Says (Move ch.at); next = state_in s.held s.wish (with_choice g ch) } in st) (chosen_held s.held g i n b.not_followed b.leads at)
+    ∙ ap (λ (ch : Choice). let st : Step = record { reaction = Says (Move ch.at); next = state_in s.held s.wish (with_choice g ch) } in st)
+    (chosen_held s.held g i n b.not_followed b.leads at)
 
 -- where a held game begins, its node stands in the game
-pub stands_where : (s : State) (c : Command) (g : Game) (i : ℕ) → IsHeld s.held → LawfulState s → BeginsHeldGame s c g i → (k : ℕ) × (n : Node) × (suc i ≡ suc k) × StandsIn s.held g i n k
+pub stands_where : (s : State) (c : Command) (g : Game) (i : ℕ) → IsHeld s.held → LawfulState s → BeginsHeldGame s c g i
+    → (k : ℕ) × (n : Node) × (suc i ≡ suc k) × StandsIn s.held g i n k
 stands_where s c g i held lawful b =
     let to_move : IsToMove g = subst (LawfulRow s.held) b.chooses (row-lawful s c lawful) in
     let node = accepted_node g.rule s.held.table i (board_of g) (suc i) (held_led s.held g i held b.leads to_move.along).0 in (
@@ -65,21 +73,26 @@ stands_where s c g i held lawful b =
       },
     )
 
-held_game : (s : State) (c : Command) (later : List Command) (g : Game) (i : ℕ) → IsHeld s.held → LawfulState s → BeginsHeldGame s c g i → HeldGameGoesWell s c later g i
+held_game : (s : State) (c : Command) (later : List Command) (g : Game) (i : ℕ) → IsHeld s.held → LawfulState s → BeginsHeldGame s c g i
+    → HeldGameGoesWell s c later g i
 held_game s c later g i held lawful b =
     let to_move : IsToMove g = subst (LawfulRow s.held) b.chooses (row-lawful s c lawful) in
     let at = stands_where s c g i held lawful b in
     let n = at.1 in
     let step = begins s c g i n b at.3.node in
     let then = state_in s.held s.wish (with_choice g (by_node i n)) in
-    let goes : GoesBy g.rule s.held.table (depth s.held.table i) i (board_of g) n.attack (replies then later) (answers_to_replies then later) =
-    subst (λ (d : ℕ). GoesBy g.rule s.held.table (depth_within d s.held.table i) i (board_of g) n.attack (replies then later) (answers_to_replies then later)) (sym at.2)
+    let goes : GoesBy g.rule s.held.table (depth s.held.table i) i (board_of g) n.attack (replies then later)
+    (answers_to_replies then later) =
+    subst (λ (d : ℕ). GoesBy g.rule s.held.table (depth_within d s.held.table i) i (board_of g) n.attack (replies then later)
+    (answers_to_replies then later)) (sym at.2)
     (held-go_well s.held later at.0 s.wish g i n at.3) in
     record {
       first = Move n.attack;
       says = ap (λ (st : Step). st.reaction) step;
-      answers = subst (λ (st : Step). Move n.attack ∷ answers_to_replies st.next later ≡ game_answers g.rule s.held.table i (board_of g) (replies st.next later)) (sym step) goes.answers;
-      won = subst (λ (st : Step). IsWonWithin (depth s.held.table i) (length (replies st.next later)) (game g.rule s.held.table i (board_of g) (replies st.next later))) (sym step) goes.won;
+      answers = subst (λ (st : Step). Move n.attack ∷ answers_to_replies st.next later ≡ game_answers g.rule s.held.table i (board_of g)
+          (replies st.next later)) (sym step) goes.answers;
+      won = subst (λ (st : Step). IsWonWithin (depth s.held.table i) (length (replies st.next later))
+          (game g.rule s.held.table i (board_of g) (replies st.next later))) (sym step) goes.won;
       root = (held_led s.held g i held b.leads to_move.along).1;
     }
 

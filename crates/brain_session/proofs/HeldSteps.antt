@@ -1,6 +1,7 @@
 -- A game in which a held node is followed: how it goes on by one reply, over plain values, and what each later command does to it.
 use Rattle.std.specs.Prelude.{Some, slice_get}
-use Rattle.std.proofs.Common.{◌≡◌, ℕ, suc, ◌≤◌, ◌<◌, Bool, false, cond, List, [], ◌∷◌, ◌++◌, map, length, refl, sym, ap, ◌∙◌, arith, not, subst}
+use Rattle.std.proofs.Common.{◌≡◌, ℕ, suc, ◌≤◌, ◌<◌, Bool, false, cond, List, [], ◌∷◌, ◌++◌, map, length, refl, sym, ap, ◌∙◌, arith, not}
+use Rattle.std.proofs.Common.{subst}
 use Rattle.game_rules.specs.Grid.{Grid}
 use Rattle.game_rules.specs.Play.{outcome, after, IsPosition, mover, other, goes_on}
 use Rattle.game_rules.specs.Games.{WinsOr, LosesOr}
@@ -39,7 +40,8 @@ pub record GoesBy (rule : RuleKind) (t : List Node) (d i : ℕ) (b : Grid) (a : 
 
 -- ---- depths
 
-open_or_won : (o : Outcome) (r : Rest) (d : ℕ) → 1 ≤ d → WinsOr o (Unit {0}) → (o ≡ GoesOn → is_winning r ≡ false) → IsWonWithin d 0 (after_attack o (cond (is_winning r) NoMove Open))
+open_or_won : (o : Outcome) (r : Rest) (d : ℕ) → 1 ≤ d → WinsOr o (Unit {0}) → (o ≡ GoesOn → is_winning r ≡ false)
+    → IsWonWithin d 0 (after_attack o (cond (is_winning r) NoMove Open))
 open_or_won WinsNow r d l h f = (omega arith, l)
 open_or_won GoesOn r d l h f = rw (f refl) l
 open_or_won _ r d l h f = absurd h
@@ -48,7 +50,8 @@ open_or_won _ r d l h f = absurd h
 answers_of_attacks : RuleKind → Grid → List Point → List Point → List Answer
 answers_of_attacks rule b qs ps = map (λ p. Move p) ps ++ (cond (ends_with_foul rule b ps qs) (Error OpponentFoul ∷ []) [])
 
-said-by : (rule : RuleKind) (t : List Node) (i : ℕ) (b : Grid) (qs ps : List Point) → attacks rule t i b qs ≡ ps → answers_of_attacks rule b qs ps ≡ game_answers rule t i b qs
+said-by : (rule : RuleKind) (t : List Node) (i : ℕ) (b : Grid) (qs ps : List Point) → attacks rule t i b qs ≡ ps
+    → answers_of_attacks rule b qs ps ≡ game_answers rule t i b qs
 unfolding answers_of_attacks
 said-by rule t i b qs ps e = ap (answers_of_attacks rule b qs) (sym e)
 
@@ -63,7 +66,8 @@ module _ (rule : RuleKind) (t : List Node) (d i : ℕ) (b : Grid) (n : Node) (at
   attacks-first [] = first_at rule b (slice_get t i) n _ at
   attacks-first (q ∷ qs) = first_at rule b (slice_get t i) n _ at
 
-  pub by_none : WinsOr (outcome rule b n.attack) (Unit {0}) → (outcome rule b n.attack ≡ GoesOn → is_winning n.rest ≡ false) → GoesBy rule t d i b n.attack [] []
+  pub by_none : WinsOr (outcome rule b n.attack) (Unit {0}) → (outcome rule b n.attack ≡ GoesOn → is_winning n.rest ≡ false)
+      → GoesBy rule t d i b n.attack [] []
   unfolding game answers_of_attacks
   by_none h f = record {
     answers = said-by rule t i b [] (n.attack ∷ []) attacks-none;
@@ -71,11 +75,13 @@ module _ (rule : RuleKind) (t : List Node) (d i : ℕ) (b : Grid) (n : Node) (at
   }
 
   module _ (o : outcome rule b n.attack ≡ GoesOn) (r : is_winning n.rest ≡ false) (q : Point) where
-    pub attacks-foul : (qs : List Point) (f : Foul) → outcome rule (after b n.attack) q ≡ Fouls f → attacks rule t i b (q ∷ qs) ≡ n.attack ∷ []
+    pub attacks-foul : (qs : List Point) (f : Foul) → outcome rule (after b n.attack) q ≡ Fouls f
+        → attacks rule t i b (q ∷ qs) ≡ n.attack ∷ []
     unfolding attacks
     attacks-foul qs f e = rw (at, o, r, e) refl
 
-    said_foul : (f : Foul) → outcome rule (after b n.attack) q ≡ Fouls f → Move n.attack ∷ Error OpponentFoul ∷ [] ≡ answers_of_attacks rule b (q ∷ []) (n.attack ∷ [])
+    said_foul : (f : Foul) → outcome rule (after b n.attack) q ≡ Fouls f
+        → Move n.attack ∷ Error OpponentFoul ∷ [] ≡ answers_of_attacks rule b (q ∷ []) (n.attack ∷ [])
     unfolding answers_of_attacks
     said_foul f e = rw e refl
 
@@ -86,23 +92,32 @@ module _ (rule : RuleKind) (t : List Node) (d i : ℕ) (b : Grid) (n : Node) (at
       won = rw (at, o, r, e) (omega arith, l);
     }
 
-    pub attacks-next : (j : ℕ) (rs : List Point) → outcome rule (after b n.attack) q ≡ GoesOn → answer (answers_of n) q ≡ Some j → attacks rule t i b (q ∷ rs) ≡ n.attack ∷ attacks rule t j (after (after b n.attack) q) rs
+    pub attacks-next : (j : ℕ) (rs : List Point) → outcome rule (after b n.attack) q ≡ GoesOn → answer (answers_of n) q ≡ Some j
+        → attacks rule t i b (q ∷ rs) ≡ n.attack ∷ attacks rule t j (after (after b n.attack) q) rs
     unfolding attacks
     attacks-next j rs g w = rw (at, o, r, g, w) refl
 
-    said_next : (j : ℕ) (rs : List Point) → outcome rule (after b n.attack) q ≡ GoesOn → Move n.attack ∷ game_answers rule t j (after (after b n.attack) q) rs ≡ answers_of_attacks rule b (q ∷ rs) (n.attack ∷ attacks rule t j (after (after b n.attack) q) rs)
+    said_next : (j : ℕ) (rs : List Point) → outcome rule (after b n.attack) q ≡ GoesOn
+        → Move n.attack ∷ game_answers rule t j (after (after b n.attack) q) rs ≡ answers_of_attacks rule b (q ∷ rs)
+        (n.attack ∷ attacks rule t j (after (after b n.attack) q) rs)
     unfolding answers_of_attacks
     said_next j rs g =
         let ps = attacks rule t j (after (after b n.attack) q) rs in
-        ap (λ (r : Bool). Move n.attack ∷ (map (λ p. Move p) ps ++ cond r (Error OpponentFoul ∷ []) [])) (sym (foul-later rule b n.attack q ps rs g))
+        ap (λ (r : Bool). Move n.attack ∷ (map (λ p. Move p) ps ++ cond r (Error OpponentFoul ∷ []) []))
+        (sym (foul-later rule b n.attack q ps rs g))
 
-    pub won_next : (e j : ℕ) (rs : List Point) → outcome rule (after b n.attack) q ≡ GoesOn → answer (answers_of n) q ≡ Some j → e < d → IsWonWithin e (length rs) (game rule t j (after (after b n.attack) q) rs) → IsWonWithin d (suc (length rs)) (game rule t i b (q ∷ rs))
+    pub won_next : (e j : ℕ) (rs : List Point) → outcome rule (after b n.attack) q ≡ GoesOn → answer (answers_of n) q ≡ Some j → e < d
+        → IsWonWithin e (length rs) (game rule t j (after (after b n.attack) q) rs)
+        → IsWonWithin d (suc (length rs)) (game rule t i b (q ∷ rs))
     unfolding game
     won_next e j rs g w less h = rw (at, o, r, g, w) (won-later e d (length rs) _ less h)
 
-    pub by_next : (e j : ℕ) (m : Node) (rs : List Point) (said : List Answer) → outcome rule (after b n.attack) q ≡ GoesOn → answer (answers_of n) q ≡ Some j → e < d → GoesBy rule t e j (after (after b n.attack) q) m.attack rs said → GoesBy rule t d i b n.attack (q ∷ rs) (Move m.attack ∷ said)
+    pub by_next : (e j : ℕ) (m : Node) (rs : List Point) (said : List Answer) → outcome rule (after b n.attack) q ≡ GoesOn
+        → answer (answers_of n) q ≡ Some j → e < d → GoesBy rule t e j (after (after b n.attack) q) m.attack rs said
+        → GoesBy rule t d i b n.attack (q ∷ rs) (Move m.attack ∷ said)
     by_next e j m rs said g w less h = record {
-      answers = ap (λ (x : List Answer). Move n.attack ∷ x) h.answers ∙ said_next j rs g ∙ said-by rule t i b (q ∷ rs) _ (attacks-next j rs g w);
+      answers = ap (λ (x : List Answer). Move n.attack ∷ x) h.answers ∙ said_next j rs g
+          ∙ said-by rule t i b (q ∷ rs) _ (attacks-next j rs g w);
       won = won_next e j rs g w less h.won;
     }
 
@@ -115,14 +130,17 @@ abbrev pub played : Game → ℕ → Node → Bool → Game
 played g i n ended = record g { moves = n.attack ∷ g.moves; ended = ended; followed = Some (HeldNode i) }
 
 -- the chosen move where a held node is followed, and its answer to the last move is node j
-chosen-followed : (h : HeldTable) (g : Game) (i j : ℕ) (n m : Node) (q : Point) (before : List Point) → g.followed ≡ Some (HeldNode i) → g.moves ≡ q ∷ before → slice_get h.table i ≡ Some n → answer (answers_of n) q ≡ Some j → slice_get h.table j ≡ Some m → chosen h g ≡ by_node j m
+chosen-followed : (h : HeldTable) (g : Game) (i j : ℕ) (n m : Node) (q : Point) (before : List Point) → g.followed ≡ Some (HeldNode i)
+    → g.moves ≡ q ∷ before → slice_get h.table i ≡ Some n → answer (answers_of n) q ≡ Some j → slice_get h.table j ≡ Some m
+    → chosen h g ≡ by_node j m
 unfolding chosen
 chosen-followed h g i j n m q before f ms at w to = rw (f, ms, at, w, to) refl
 
 -- node i, which is n, is accepted in the game g, in which the brain is to move; so many nodes more follow one another
 pub record StandsIn (h : HeldTable) (g : Game) (i : ℕ) (n : Node) (k : ℕ) : Type 0 where
   pub node : slice_get h.table i ≡ Some n
-  pub wins : WinsOr (outcome g.rule (board_of g) n.attack) (NotWinning n.rest × ((q : Point) → Meets g.rule (answers_of n) (AcceptedWithin k g.rule h.table) (after (board_of g) n.attack) q))
+  pub wins : WinsOr (outcome g.rule (board_of g) n.attack)
+      (NotWinning n.rest × ((q : Point) → Meets g.rule (answers_of n) (AcceptedWithin k g.rule h.table) (after (board_of g) n.attack) q))
   pub lawful : IsPosition g.rule (board_of g)
   pub turn : mover (board_of g) ≡ g.brain
 
@@ -135,33 +153,46 @@ pub record IsNext (h : HeldTable) (g : Game) (i k j : ℕ) : Type 0 where
   pub shallower : depth_within (suc more) h.table j < depth_within (suc k) h.table i
 
 -- no reply is left
-pub nothing_more : (h : HeldTable) (g : Game) (i : ℕ) (n : Node) (k : ℕ) → StandsIn h g i n k → GoesBy g.rule h.table (depth_within (suc k) h.table i) i (board_of g) n.attack [] []
-nothing_more h g i n k s = by_none g.rule h.table _ i (board_of g) n s.node (depth_some h.table i n k s.node) (WinsOr-map (outcome g.rule (board_of g) n.attack) _ _ (λ w. tt) s.wins) (going (outcome g.rule (board_of g) n.attack) s.wins) where
-  going : (o : Outcome) → WinsOr o (NotWinning n.rest × ((q : Point) → Meets g.rule (answers_of n) (AcceptedWithin k g.rule h.table) (after (board_of g) n.attack) q)) → o ≡ GoesOn → is_winning n.rest ≡ false
-  going GoesOn w e = not_winning n.rest w.0
-  going _ w e = cc
+pub nothing_more : (h : HeldTable) (g : Game) (i : ℕ) (n : Node) (k : ℕ) → StandsIn h g i n k
+    → GoesBy g.rule h.table (depth_within (suc k) h.table i) i (board_of g) n.attack [] []
+nothing_more h g i n k s = by_none g.rule h.table _ i (board_of g) n s.node (depth_some h.table i n k s.node)
+    (WinsOr-map (outcome g.rule (board_of g) n.attack) _ _ (λ w. tt) s.wins) (going (outcome g.rule (board_of g) n.attack) s.wins) where
+      going : (o : Outcome) → WinsOr o
+          (NotWinning n.rest × ((q : Point) → Meets g.rule (answers_of n) (AcceptedWithin k g.rule h.table) (after (board_of g) n.attack)
+          q))
+          → o ≡ GoesOn → is_winning n.rest ≡ false
+      going GoesOn w e = not_winning n.rest w.0
+      going _ w e = cc
 
 -- the board after the attack, which goes on, and whose turn it is there
-module _ (h : HeldTable) (g : Game) (i : ℕ) (n : Node) (k : ℕ) (s : StandsIn h g i n k) (o : outcome g.rule (board_of g) n.attack ≡ GoesOn) where
+module _ (h : HeldTable) (g : Game) (i : ℕ) (n : Node) (k : ℕ) (s : StandsIn h g i n k)
+    (o : outcome g.rule (board_of g) n.attack ≡ GoesOn) where
   pub lawful_then : IsPosition g.rule (after (board_of g) n.attack)
   lawful_then = IsPosition-after g.rule (board_of g) n.attack s.lawful o
 
   pub turn_then : mover (after (board_of g) n.attack) ≡ other g.brain
   turn_then = mover-then g.rule (board_of g) n.attack s.lawful o ∙ ap other s.turn
 
-  pub parts : NotWinning n.rest × ((q : Point) → Meets g.rule (answers_of n) (AcceptedWithin k g.rule h.table) (after (board_of g) n.attack) q)
+  pub parts : NotWinning n.rest
+      × ((q : Point) → Meets g.rule (answers_of n) (AcceptedWithin k g.rule h.table) (after (board_of g) n.attack) q)
   parts = by_outcome (outcome g.rule (board_of g) n.attack) o s.wins where
-    by_outcome : (r : Outcome) → r ≡ GoesOn → WinsOr r (NotWinning n.rest × ((q : Point) → Meets g.rule (answers_of n) (AcceptedWithin k g.rule h.table) (after (board_of g) n.attack) q)) → NotWinning n.rest × ((q : Point) → Meets g.rule (answers_of n) (AcceptedWithin k g.rule h.table) (after (board_of g) n.attack) q)
+    by_outcome : (r : Outcome) → r ≡ GoesOn → WinsOr r
+        (NotWinning n.rest × ((q : Point) → Meets g.rule (answers_of n) (AcceptedWithin k g.rule h.table) (after (board_of g) n.attack) q))
+        → NotWinning n.rest × ((q : Point) → Meets g.rule (answers_of n) (AcceptedWithin k g.rule h.table) (after (board_of g) n.attack) q)
     by_outcome GoesOn e w = w
     by_outcome _ e w = cc
 
   -- the row of a TURN
   pub row_then : (w : ℕ) (q : Point) → row_of (state_in h w (with_choice g (by_node i n))) (Turn q.x q.y)
-      ≡ if_supported (rule_of w) (state_in h w (with_choice g (by_node i n))) (λ rule. move_row (state_in h w (with_choice g (by_node i n))) (with_choice g (by_node i n)) q (outcome g.rule (after (board_of g) n.attack) q))
+      ≡ if_supported (rule_of w) (state_in h w (with_choice g (by_node i n)))
+      (λ rule. move_row (state_in h w (with_choice g (by_node i n))) (with_choice g (by_node i n)) q
+      (outcome g.rule (after (board_of g) n.attack) q))
   row_then w q = turn_going h w (with_choice g (by_node i n)) q.x q.y (ap (λ (r : Outcome). not (goes_on r)) o) turn_then
 
   -- a reply that goes on is answered by the attack of the node that answers it
-  pub next_stands : (q : Point) → outcome g.rule (after (board_of g) n.attack) q ≡ GoesOn → (j : ℕ) → answer (answers_of n) q ≡ Some j → AcceptedWithin k g.rule h.table j (after (after (board_of g) n.attack) q) → IsNext h (with_move (with_choice g (by_node i n)) q false) i k j
+  pub next_stands : (q : Point) → outcome g.rule (after (board_of g) n.attack) q ≡ GoesOn → (j : ℕ) → answer (answers_of n) q ≡ Some j
+      → AcceptedWithin k g.rule h.table j (after (after (board_of g) n.attack) q)
+      → IsNext h (with_move (with_choice g (by_node i n)) q false) i k j
   next_stands q on j reply accepted =
       let g2 = with_move (with_choice g (by_node i n)) q false in
       let node = accepted_node g.rule h.table j (board_of g2) k accepted in
@@ -175,7 +206,8 @@ module _ (h : HeldTable) (g : Game) (i : ℕ) (n : Node) (k : ℕ) (s : StandsIn
           turn = mover-then g.rule (after (board_of g) n.attack) q lawful_then on ∙ ap other turn_then ∙ other-other g.brain;
         };
         chooses = chosen-followed h g2 i j n node.1 q (n.attack ∷ g.moves) refl refl s.node reply node.3;
-        shallower = subst (λ (d : ℕ). depth_within d h.table j < depth_within (suc k) h.table i) node.2 (deeper h.table i n k q j s.node reply);
+        shallower = subst (λ (d : ℕ). depth_within d h.table j < depth_within (suc k) h.table i) node.2
+            (deeper h.table i n k q j s.node reply);
       }
 
 -- ---- a held node is followed
@@ -198,7 +230,8 @@ module _ (h : HeldTable) where
 
   next_held : (x : HeldAt) (g : Game) → HeldStands x g → outcome g.rule (board_of g) x.n.attack ≡ GoesOn → (q : Point)
       → outcome g.rule (after (board_of g) x.n.attack) q ≡ GoesOn → (j : ℕ) → answer (answers_of x.n) q ≡ Some j
-      → AcceptedWithin x.k g.rule h.table j (after (after (board_of g) x.n.attack) q) → IsNextTo h HeldAt held_choice HeldStands HeldGoes x g q
+      → AcceptedWithin x.k g.rule h.table j (after (after (board_of g) x.n.attack) q)
+      → IsNextTo h HeldAt held_choice HeldStands HeldGoes x g q
   next_held x g s o q on j reply accepted =
       let next = next_stands h g x.i x.n x.k s o q on j reply accepted in
       record {
@@ -223,16 +256,20 @@ module _ (h : HeldTable) where
   } where
     by_reply : (x : HeldAt) (g : Game) → HeldStands x g → outcome g.rule (board_of g) x.n.attack ≡ GoesOn → (q : Point) (p : Outcome)
         → outcome g.rule (after (board_of g) x.n.attack) q ≡ p
-        → LosesOr p (Answered (answer (answers_of x.n) q) (λ j. AcceptedWithin x.k g.rule h.table j (after (after (board_of g) x.n.attack) q)))
+        → LosesOr p (Answered (answer (answers_of x.n) q)
+        (λ j. AcceptedWithin x.k g.rule h.table j (after (after (board_of g) x.n.attack) q)))
         → LosesOr p (IsNextTo h HeldAt held_choice HeldStands HeldGoes x g q)
-    by_reply x g s o q GoesOn e met = Answered-elim (answer (answers_of x.n) q) _ _ (λ j reply accepted. next_held x g s o q e j reply accepted) met
+    by_reply x g s o q GoesOn e met = Answered-elim (answer (answers_of x.n) q) _ _
+        (λ j reply accepted. next_held x g s o q e j reply accepted) met
     by_reply x g s o q Refused e met = met
     by_reply x g s o q WinsNow e met = met
     by_reply x g s o q (Fouls f) e met = met
     by_reply x g s o q Draws e met = met
 
   -- whatever is told later, the answers to the replies are those of the game against the table
-  pub held-go_well : (cs : List Command) (k w : ℕ) (g : Game) (i : ℕ) (n : Node) → StandsIn h g i n k → GoesBy g.rule h.table (depth_within (suc k) h.table i) i
-      (board_of g) n.attack (replies (state_in h w (with_choice g (by_node i n))) cs) (answers_to_replies (state_in h w (with_choice g (by_node i n))) cs)
+  pub held-go_well : (cs : List Command) (k w : ℕ) (g : Game) (i : ℕ) (n : Node) → StandsIn h g i n k
+      → GoesBy g.rule h.table (depth_within (suc k) h.table i) i
+      (board_of g) n.attack (replies (state_in h w (with_choice g (by_node i n))) cs)
+      (answers_to_replies (state_in h w (with_choice g (by_node i n))) cs)
   held-go_well cs k w g i n s =
       all-go_well h HeldAt held_choice HeldStands HeldGoes held_followed cs w (record { i = i; n = n; k = k }) g s

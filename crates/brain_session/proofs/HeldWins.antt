@@ -30,35 +30,50 @@ won_more d e n _ less h = h
 
 module _ (rule : RuleKind) (t : List Node) where
   WinsOver : List Point → Type 0
-  WinsOver qs = (f i : ℕ) (b : Grid) → AcceptedWithin f rule t i b → AreReplies rule b (attacks rule t i b qs) qs → IsWonWithin (depth_within f t i) (length qs) (game rule t i b qs)
+  WinsOver qs = (f i : ℕ) (b : Grid) → AcceptedWithin f rule t i b → AreReplies rule b (attacks rule t i b qs) qs
+      → IsWonWithin (depth_within f t i) (length qs) (game rule t i b qs)
 
   -- node i, which is n, is accepted at b
-  module _ (i : ℕ) (b : Grid) (n : Node) (k : ℕ) (at : slice_get t i ≡ Some n) (wins : WinsOr (outcome rule b n.attack) (NotWinning n.rest × ((q : Point) → Meets rule (answers_of n) (AcceptedWithin k rule t) (after b n.attack) q))) where
-    going : (o : Outcome) → WinsOr o (NotWinning n.rest × ((q : Point) → Meets rule (answers_of n) (AcceptedWithin k rule t) (after b n.attack) q)) → o ≡ GoesOn → NotWinning n.rest × ((q : Point) → Meets rule (answers_of n) (AcceptedWithin k rule t) (after b n.attack) q)
+  module _ (i : ℕ) (b : Grid) (n : Node) (k : ℕ) (at : slice_get t i ≡ Some n)
+      (wins : WinsOr (outcome rule b n.attack)
+      (NotWinning n.rest × ((q : Point) → Meets rule (answers_of n) (AcceptedWithin k rule t) (after b n.attack) q))) where
+    going : (o : Outcome) → WinsOr o
+        (NotWinning n.rest × ((q : Point) → Meets rule (answers_of n) (AcceptedWithin k rule t) (after b n.attack) q)) → o ≡ GoesOn
+        → NotWinning n.rest × ((q : Point) → Meets rule (answers_of n) (AcceptedWithin k rule t) (after b n.attack) q)
     going GoesOn w e = w
     going _ w e = cc
 
     none_left : IsWonWithin (depth_within (suc k) t i) 0 (game rule t i b [])
-    none_left = (by_none rule t _ i b n at (depth_some t i n k at) (WinsOr-map (outcome rule b n.attack) _ _ (λ w. tt) wins) (λ e. not_winning n.rest (going (outcome rule b n.attack) wins e).0)).won
+    none_left = (by_none rule t _ i b n at (depth_some t i n k at) (WinsOr-map (outcome rule b n.attack) _ _ (λ w. tt) wins)
+        (λ e. not_winning n.rest (going (outcome rule b n.attack) wins e).0)).won
 
-    module _ (q : Point) (qs : List Point) (on : outcome rule b n.attack ≡ GoesOn) (empty : is_empty (after b n.attack) q ≡ true) (over : WinsOver qs) where
+    module _ (q : Point) (qs : List Point) (on : outcome rule b n.attack ≡ GoesOn) (empty : is_empty (after b n.attack) q ≡ true)
+        (over : WinsOver qs) where
       winning : is_winning n.rest ≡ false
       winning = not_winning n.rest (going (outcome rule b n.attack) wins on).0
 
-      fouled : (f : Foul) (vs : List Point) → outcome rule (after b n.attack) q ≡ Fouls f → AreReplies rule (after (after b n.attack) q) [] vs → IsWonWithin (depth_within (suc k) t i) (suc (length vs)) (game rule t i b (q ∷ vs))
+      fouled : (f : Foul) (vs : List Point) → outcome rule (after b n.attack) q ≡ Fouls f
+          → AreReplies rule (after (after b n.attack) q) [] vs
+          → IsWonWithin (depth_within (suc k) t i) (suc (length vs)) (game rule t i b (q ∷ vs))
       fouled f [] e are = (by_foul rule t _ i b n at (depth_some t i n k at) on winning q f e).won
       fouled f (v ∷ vs) e are = absurd are
 
-      by_reply : (p : Outcome) → outcome rule (after b n.attack) q ≡ p → LosesOr p (Answered (answer (answers_of n) q) (λ j. AcceptedWithin k rule t j (after (after b n.attack) q))) → AreReplies rule b (attacks rule t i b (q ∷ qs)) (q ∷ qs) → IsWonWithin (depth_within (suc k) t i) (suc (length qs)) (game rule t i b (q ∷ qs))
+      by_reply : (p : Outcome) → outcome rule (after b n.attack) q ≡ p
+          → LosesOr p (Answered (answer (answers_of n) q) (λ j. AcceptedWithin k rule t j (after (after b n.attack) q)))
+          → AreReplies rule b (attacks rule t i b (q ∷ qs)) (q ∷ qs)
+          → IsWonWithin (depth_within (suc k) t i) (suc (length qs)) (game rule t i b (q ∷ qs))
       unfolding WinsOver
       by_reply Refused e met are = absurd (moved rule (after b n.attack) q empty e)
       by_reply WinsNow e met are = absurd met
       by_reply (Fouls f) e met are =
-          fouled f qs e (subst (λ (ps : List Point). AreReplies rule b ps (q ∷ qs)) (attacks-foul rule t 1 i b n at (omega arith) on winning q qs f e) are).2
+          fouled f qs e (subst (λ (ps : List Point). AreReplies rule b ps (q ∷ qs))
+          (attacks-foul rule t 1 i b n at (omega arith) on winning q qs f e) are).2
       by_reply Draws e met are = absurd met
       by_reply GoesOn e met are = Answered-elim (answer (answers_of n) q) _ _ (λ j reply accepted.
-          let more = subst (λ (ps : List Point). AreReplies rule b ps (q ∷ qs)) (attacks-next rule t 1 i b n at (omega arith) on winning q j qs e reply) are in
-          won_next rule t _ i b n at (depth_some t i n k at) on winning q _ j qs e reply (deeper t i n k q j at reply) (over k j (after (after b n.attack) q) accepted more.2)) met
+          let more = subst (λ (ps : List Point). AreReplies rule b ps (q ∷ qs))
+          (attacks-next rule t 1 i b n at (omega arith) on winning q j qs e reply) are in
+          won_next rule t _ i b n at (depth_some t i n k at) on winning q _ j qs e reply (deeper t i n k q j at reply)
+          (over k j (after (after b n.attack) q) accepted more.2)) met
 
   wins-over : (qs : List Point) → WinsOver qs
   unfolding WinsOver
@@ -79,9 +94,11 @@ module _ (rule : RuleKind) (t : List Node) where
   node_wins i b h qs are = wins-over qs (suc i) i b h are
 
   -- after a move at an accepted start
-  start_wins : (a : Answers) (b : Grid) (q : Point) → is_empty b q ≡ true → Meets rule a (Accepted rule t) b q → (is_foul (outcome rule b q) ≡ true) ⊎ AnswersAndWins rule t a b q (start_depth t a)
+  start_wins : (a : Answers) (b : Grid) (q : Point) → is_empty b q ≡ true → Meets rule a (Accepted rule t) b q
+      → (is_foul (outcome rule b q) ≡ true) ⊎ AnswersAndWins rule t a b q (start_depth t a)
   start_wins a b q empty met = by_outcome (outcome rule b q) refl met where
-    by_outcome : (o : Outcome) → outcome rule b q ≡ o → LosesOr o (Answered (answer a q) (λ j. Accepted rule t j (after b q))) → (is_foul o ≡ true) ⊎ AnswersAndWins rule t a b q (start_depth t a)
+    by_outcome : (o : Outcome) → outcome rule b q ≡ o → LosesOr o (Answered (answer a q) (λ j. Accepted rule t j (after b q)))
+        → (is_foul o ≡ true) ⊎ AnswersAndWins rule t a b q (start_depth t a)
     by_outcome Refused e h = absurd (moved rule b q empty e)
     by_outcome WinsNow e h = absurd h
     by_outcome (Fouls f) e h = inl refl
@@ -89,7 +106,8 @@ module _ (rule : RuleKind) (t : List Node) where
     by_outcome GoesOn e h = inr (Answered-elim (answer a q) _ _ (λ j reply accepted. record {
       node = j;
       answers = reply;
-      wins = λ qs are. won_more (depth t j) (start_depth t a) (length qs) _ (answer-greatest (depth t) a q j reply) (node_wins j (after b q) accepted qs are);
+      wins = λ qs are. won_more (depth t j) (start_depth t a) (length qs) _ (answer-greatest (depth t) a q j reply)
+          (node_wins j (after b q) accepted qs are);
     }) h)
 
   root_wins : (root : Root) (b : Grid) → AcceptedRoot rule t root b → RootWinsGames rule t root b

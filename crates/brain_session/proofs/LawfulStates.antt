@@ -26,7 +26,8 @@ use Rattle.brain_session.specs.declared.batch.BatchStone.{BatchStone}
 use Rattle.brain_session.specs.States.{Game, board_of, empty_board, new_game, Place, NoBoard, Fresh, InGame, Batch, State, new_brain}
 use Rattle.brain_session.specs.Batches.{side_of, colour_in, with_stones, lawful_game, game_from}
 use Rattle.brain_session.specs.ChosenMoves.{Choice, chosen}
-use Rattle.brain_session.specs.Steps.{Row, Reacts, Chooses, placed, is_side, board_in, same_side, with_move, move_row, is_bare, place_before, row_of, with_choice, step_by, brain_step}
+use Rattle.brain_session.specs.Steps.{Row, Reacts, Chooses, placed, is_side, board_in, same_side, with_move, move_row, is_bare}
+use Rattle.brain_session.specs.Steps.{place_before, row_of, with_choice, step_by, brain_step}
 use Rattle.brain_session.specs.Sessions.{then_state, state_after}
 use Rattle.brain_session.specs.Running.{GoesOnAlong, StonesFit}
 use Rattle.brain_session.proofs.Courses.{along-lawful, start-lawful}
@@ -72,11 +73,13 @@ went_from true rule start [] h = h
 went_from true rule start (p ∷ before) h = start-lawful rule start before h
 
 -- the moves before the last one went on
-went_before : (ended : Bool) (rule : RuleKind) (start : Grid) (p : Point) (before : List Point) → WentOn ended rule start (p ∷ before) → GoesOnAlong rule start before
+went_before : (ended : Bool) (rule : RuleKind) (start : Grid) (p : Point) (before : List Point) → WentOn ended rule start (p ∷ before)
+    → GoesOnAlong rule start before
 went_before false rule start p before h = h.0
 went_before true rule start p before h = h
 
-not_ended : (ended : Bool) (rule : RuleKind) (start : Grid) (moves : List Point) → ended ≡ false → WentOn ended rule start moves → GoesOnAlong rule start moves
+not_ended : (ended : Bool) (rule : RuleKind) (start : Grid) (moves : List Point) → ended ≡ false → WentOn ended rule start moves
+    → GoesOnAlong rule start moves
 not_ended false rule start moves e h = h
 not_ended true rule start moves e h = cc
 
@@ -111,22 +114,28 @@ board_in_is NoBoard = (0, 0, refl)
 board_in_is (Fresh width height) = (width, height, refl)
 board_in_is (InGame g) = (g.start.width, g.start.height, refl)
 
-mover_in_batch : (brain : Side) (board : Grid) (width height : ℕ) (b : Batch) → board ≡ empty_board width height → BatchFits board b → colour_in b.stones ≡ Some brain → mover (with_stones brain board b.stones) ≡ brain
+mover_in_batch : (brain : Side) (board : Grid) (width height : ℕ) (b : Batch) → board ≡ empty_board width height → BatchFits board b
+    → colour_in b.stones ≡ Some brain → mover (with_stones brain board b.stones) ≡ brain
 mover_in_batch brain board width height b e fits h =
     subst (λ (c : Grid). mover (with_stones brain c b.stones) ≡ brain) (sym e)
-    (let there : BatchFits (empty_board width height) b = subst (λ (c : Grid). BatchFits c b) e fits in batch-mover brain width height b.stones b.bad there.0 there.1 h)
+    (let there : BatchFits (empty_board width height) b =
+    subst (λ (c : Grid). BatchFits c b) e fits in batch-mover brain width height b.stones b.bad there.0 there.1 h)
 
 -- the game that a batch begins is one in which the brain is to move
-batch_game : (rule : RuleKind) (place : Place) (b : Batch) → BatchFits (board_in place) b → IfSome (game_from rule (board_in place) b) IsToMove
+batch_game : (rule : RuleKind) (place : Place) (b : Batch) → BatchFits (board_in place) b
+    → IfSome (game_from rule (board_in place) b) IsToMove
 batch_game rule place b fits = by_colour b.bad (colour_in b.stones) refl where
-  by_refusal : (brain : Side) (o : Option PositionError) → colour_in b.stones ≡ Some brain → refusal rule (with_stones brain (board_in place) b.stones) ≡ o → IfSome (cond (is_none o) (Some (new_game rule (with_stones brain (board_in place) b.stones) brain)) None) IsToMove
+  by_refusal : (brain : Side) (o : Option PositionError) → colour_in b.stones ≡ Some brain
+      → refusal rule (with_stones brain (board_in place) b.stones) ≡ o
+      → IfSome (cond (is_none o) (Some (new_game rule (with_stones brain (board_in place) b.stones) brain)) None) IsToMove
   by_refusal brain (Some error) c e = tt
   by_refusal brain None c e = record {
     along = lawful_from_none rule (with_stones brain (board_in place) b.stones) (IsBoard-with brain (board_in place) b.stones fits.0) e;
     turn = let is = board_in_is place in mover_in_batch brain (board_in place) is.0 is.1 b is.2 fits c;
   }
 
-  by_colour : (bad : Bool) (o : Option Side) → colour_in b.stones ≡ o → IfSome (cond bad None (option_and_then (λ brain. lawful_game rule (with_stones brain (board_in place) b.stones) brain) o)) IsToMove
+  by_colour : (bad : Bool) (o : Option Side) → colour_in b.stones ≡ o
+      → IfSome (cond bad None (option_and_then (λ brain. lawful_game rule (with_stones brain (board_in place) b.stones) brain) o)) IsToMove
   by_colour true o e = tt
   by_colour false None e = tt
   by_colour false (Some brain) e = by_refusal brain (refusal rule (with_stones brain (board_in place) b.stones)) e refl
@@ -140,7 +149,8 @@ not_same White Black e = refl
 not_same White White e = cc
 
 -- the opponent's move in a game in which the opponent is to move
-move_lawful : (s : State) (g : Game) (p : Point) → LawfulState s → GoesOnAlong g.rule g.start g.moves → other (mover (board_of g)) ≡ g.brain → LawfulRow s.held (move_row s g p (outcome g.rule (board_of g) p))
+move_lawful : (s : State) (g : Game) (p : Point) → LawfulState s → GoesOnAlong g.rule g.start g.moves → other (mover (board_of g)) ≡ g.brain
+    → LawfulRow s.held (move_row s g p (outcome g.rule (board_of g) p))
 move_lawful s g p h along turn = by_outcome (outcome g.rule (board_of g) p) refl where
   by_outcome : (o : Outcome) → outcome g.rule (board_of g) p ≡ o → LawfulRow s.held (move_row s g p o)
   by_outcome Refused e = (h, refl)
@@ -154,7 +164,8 @@ move_lawful s g p h along turn = by_outcome (outcome g.rule (board_of g) p) refl
 
 place_before_lawful : (g : Game) (before : List Point) → GoesOnAlong g.rule g.start before → LawfulPlace (place_before g before)
 place_before_lawful g [] h = by_test (is_bare g.start) where
-  by_test : (b : Bool) → LawfulPlace (cond b (Fresh g.start.width g.start.height) (InGame (record g { moves = []; ended = false; followed = None })))
+  by_test : (b : Bool) → LawfulPlace
+      (cond b (Fresh g.start.width g.start.height) (InGame (record g { moves = []; ended = false; followed = None })))
   by_test true = empty-board g.start h.board
   by_test false = h
 place_before_lawful g (p ∷ before) h = h
@@ -171,17 +182,25 @@ row-lawful s c h = row-cases (LawfulRow s.held) s c (record {
   again = λ width height some size. (placed_lawful s (Fresh width height) (subst IsBoard size (sized_board s.place some h.place)), refl);
   reads = λ some. (record { place = h.place; batch = (sized_board s.place some h.place, none_fit (board_in s.place)) }, refl);
   stone = λ b p field read.
-      let fits = batch_of s b read h in
-      (record { place = h.place; batch = (fits.0, stone_fits (board_in s.place) (is_on (board_in s.place) p) b p field (λ on. on) fits.1) }, refl);
-  spoils = λ b read. let fits = batch_of s b read h in (record { place = h.place; batch = (fits.0, spoiled_fits (board_in s.place) b fits.1) }, refl);
+      let fits = batch_of s b read h in (
+        record {
+          place = h.place;
+          batch = (fits.0, stone_fits (board_in s.place) (is_on (board_in s.place) p) b p field (λ on. on) fits.1);
+        },
+        refl,
+      );
+  spoils = λ b read. let fits = batch_of s b read h in
+      (record { place = h.place; batch = (fits.0, spoiled_fits (board_in s.place) b fits.1) }, refl);
   is_bad = λ a. (record { place = h.place; batch = tt }, refl);
   whole = λ rule b g by_wish read is. subst (λ (o : Option Game). IfSome o IsToMove) is (batch_game rule s.place b (batch_of s b read h));
   first = λ rule width height by_wish at.
       record { along = empty-lawful rule width height (subst LawfulPlace at h.place); turn = empty-mover width height };
   second = λ rule width height p by_wish at.
-      move_lawful s (new_game rule (empty_board width height) White) p h (empty-lawful rule width height (subst LawfulPlace at h.place)) (ap other (empty-mover width height));
+      move_lawful s (new_game rule (empty_board width height) White) p h (empty-lawful rule width height (subst LawfulPlace at h.place))
+      (ap other (empty-mover width height));
   later = λ rule g p by_wish at going others.
-      move_lawful s g p h (not_ended g.ended g.rule g.start g.moves going (subst LawfulPlace at h.place)) (not_same (mover (board_of g)) g.brain others);
+      move_lawful s g p h (not_ended g.ended g.rule g.start g.moves going (subst LawfulPlace at h.place))
+      (not_same (mover (board_of g)) g.brain others);
   back = λ g p before at are.
       let went = subst LawfulPlace at h.place in
       let before_it = went_before g.ended g.rule g.start p before (subst (WentOn g.ended g.rule g.start) are went) in
@@ -196,7 +215,8 @@ choice_lawful g c h = by_outcome (outcome g.rule (board_of g) c.at) refl where
   by_outcome GoesOn e = (h.along, e)
   by_outcome _ e = h.along
 
-step_lawful : (s : State) (row : Row) → LawfulState s → LawfulRow s.held row → LawfulState (step_by s row).next × ((step_by s row).next.held ≡ s.held)
+step_lawful : (s : State) (row : Row) → LawfulState s → LawfulRow s.held row
+    → LawfulState (step_by s row).next × ((step_by s row).next.held ≡ s.held)
 step_lawful s (Reacts r next) h l = l
 step_lawful s (Chooses g) h l = (placed_lawful s (InGame (with_choice g (chosen s.held g))) (choice_lawful g (chosen s.held g) l), refl)
 
@@ -218,7 +238,8 @@ unfolding state_after
 session-lawful held s [] h = h
 session-lawful held s (c ∷ cs) h =
     let next = next-lawful held s c h in
-    then_lawful held (brain_step s c).reaction (brain_step s c).next (state_after (brain_step s c).next cs) next (session-lawful held (brain_step s c).next cs next)
+    then_lawful held (brain_step s c).reaction (brain_step s c).next (state_after (brain_step s c).next cs) next
+    (session-lawful held (brain_step s c).next cs next)
 
 pub new-lawful : (held : HeldTable) → IsKept held (new_brain held)
 new-lawful held = (record { place = tt; batch = tt }, refl)

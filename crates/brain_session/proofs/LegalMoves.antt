@@ -21,7 +21,8 @@ use Rattle.brain_session.specs.ChosenMoves.{or_else, five_to_make, five_to_block
 least-is_empty : (b : Grid) → IsBoard b → 0 < empties_of b → is_empty b (least_empty b) ≡ true
 least-is_empty b ok some =
     let p = some_empty b ok some in
-    find-some (is_empty b) (points_of b) (record { x = 0; y = 0 }) (points-found b (is_empty b) p.0 (and_left _ (is_empty_cell (cell_at b p.0)) p.1) p.1)
+    find-some (is_empty b) (points_of b) (record { x = 0; y = 0 })
+    (points-found b (is_empty b) p.0 (and_left _ (is_empty_cell (cell_at b p.0)) p.1) p.1)
 
 make-is_empty : (rule : RuleKind) (b : Grid) (p : Point) → five_to_make rule b ≡ Some p → is_empty b p ≡ true
 make-is_empty rule b p h = five-empty rule b (mover b) p (find-passes (five rule b (mover b)) (points_of b) p h)
@@ -39,7 +40,11 @@ next-is_empty rule b p h =
 
 -- a plain move is at an empty point
 pub plain-is_empty : (rule : RuleKind) (b : Grid) → IsPosition rule b → is_empty b (plain_move rule b) ≡ true
-plain-is_empty rule b lawful = by_rule (five_to_make rule b) _ (make-is_empty rule b) (by_rule (five_to_block rule b) _ (block-is_empty rule b) (by_rule (next_to_middle rule b) _ (next-is_empty rule b) (least-is_empty b lawful.board lawful.open_points))) where
-  by_rule : (o : Option Point) (other : Unit {0} → Point) → ((p : Point) → o ≡ Some p → is_empty b p ≡ true) → is_empty b (other tt) ≡ true → is_empty b (or_else o other) ≡ true
-  by_rule None other here rest = rest
-  by_rule (Some p) other here rest = here p refl
+plain-is_empty rule b lawful = by_rule (five_to_make rule b) _ (make-is_empty rule b)
+    (by_rule (five_to_block rule b) _ (block-is_empty rule b)
+    (by_rule (next_to_middle rule b) _ (next-is_empty rule b) (least-is_empty b lawful.board lawful.open_points))) where
+      by_rule : (o : Option Point) (other : Unit {0} → Point) → ((p : Point) → o ≡ Some p → is_empty b p ≡ true)
+          → is_empty b (other tt) ≡ true
+          → is_empty b (or_else o other) ≡ true
+      by_rule None other here rest = rest
+      by_rule (Some p) other here rest = here p refl

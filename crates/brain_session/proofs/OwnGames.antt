@@ -1,6 +1,7 @@
 -- Games by a win of the brain's own go well: from the command that begins one, the answers to the replies are the chosen moves of the
 -- win; and they are the attacks of the table of the win.
-use Rattle.std.proofs.Common.{◌≡◌, ℕ, zero, suc, ◌+◌, ◌-◌, ◌≤◌, ◌<◌, Bool, true, false, cond, ◌&&◌, List, [], ◌∷◌, length, refl, sym, ap, subst, ◌∙◌, arith, nat_le}
+use Rattle.std.proofs.Common.{◌≡◌, ℕ, zero, suc, ◌+◌, ◌-◌, ◌≤◌, ◌<◌, Bool, true, false, cond, ◌&&◌, List, [], ◌∷◌, length, refl, sym, ap}
+use Rattle.std.proofs.Common.{subst, ◌∙◌, arith, nat_le}
 use Rattle.std.specs.Prelude.{Option, Some, None, slice_get, map, ◌++◌}
 use Rattle.std.specs.List.{find, range_with_len}
 use Rattle.std.specs.Option.{option_map, option_and_then}
@@ -23,7 +24,8 @@ use Rattle.strategy_checker.specs.HeldRoots.{HeldTable}
 use Rattle.strategy_graph.specs.declared.Node.{Node}
 use Rattle.strategy_graph.specs.Tables.{answers_of, answer, answer_at, is_winning, IsTable}
 use Rattle.strategy_graph.specs.Acceptance.{NotWinning, Answered, Accepted}
-use Rattle.strategy_graph.specs.Games.{End, NoMove, Open, after_attack, after_reply, if_node, one_later, points_on, points_from, game, attacks}
+use Rattle.strategy_graph.specs.Games.{End, NoMove, Open, after_attack, after_reply, if_node, one_later, points_on, points_from, game}
+use Rattle.strategy_graph.specs.Games.{attacks}
 use Rattle.strategy_graph.proofs.Answering.{Answered-elim}
 use Rattle.strategy_compiler.specs.Trees.{StandsFor}
 use Rattle.strategy_compiler.specs.Walks.{IsTableOf, last}
@@ -37,7 +39,8 @@ use Rattle.gomocup_text.specs.declared.ErrorText.TheVariants.{OpponentFoul}
 use Rattle.brain_session.specs.declared.TheConstants.{OWN_MOVES, OWN_POSITIONS}
 use Rattle.brain_session.specs.declared.Reaction.TheVariants.{Says}
 use Rattle.brain_session.specs.States.{Followed, OwnWin, Game, board_of, State, new_brain}
-use Rattle.brain_session.specs.ChosenMoves.{Choice, or_else, after_reply as followed_after, by_following, last_move, chosen, chosen_anew, by_followed, first_node, own_win}
+use Rattle.brain_session.specs.ChosenMoves.{Choice, or_else, after_reply as followed_after, by_following, last_move, chosen, chosen_anew}
+use Rattle.brain_session.specs.ChosenMoves.{by_followed, first_node, own_win}
 use Rattle.brain_session.specs.Steps.{Step, step_by, with_choice, brain_step}
 use Rattle.brain_session.specs.Sessions.{state_after}
 use Rattle.brain_session.specs.HeldGames.{IsWonWithin, replies, answers_to_replies, answers_by}

@@ -23,7 +23,8 @@ use Rattle.brain_session.specs.ChosenMoves.{own_win}
 use Rattle.brain_session.specs.Kept.{IsOwnTable, OwnStandsAt}
 
 -- there is no such win within the moves
-pub own_win-none : (rule : RuleKind) (b : Grid) → wins_by_fours rule OWN_MOVES b ≡ false → four_cost rule OWN_MOVES b ≤ OWN_POSITIONS → own_win rule b ≡ None
+pub own_win-none : (rule : RuleKind) (b : Grid) → wins_by_fours rule OWN_MOVES b ≡ false → four_cost rule OWN_MOVES b ≤ OWN_POSITIONS
+    → own_win rule b ≡ None
 own_win-none rule b none fits = within rule b OWN_MOVES OWN_POSITIONS fits ∙ least-none rule OWN_MOVES b none
 
 -- the search looks at too many positions
@@ -31,7 +32,8 @@ pub own_win-spent : (rule : RuleKind) (b : Grid) → OWN_POSITIONS < four_cost r
 own_win-spent rule b more = above rule b OWN_MOVES OWN_POSITIONS more
 
 -- the win with the fewest moves
-pub own_win-some : (rule : RuleKind) (b : Grid) (moves : ℕ) → four_cost rule OWN_MOVES b ≤ OWN_POSITIONS → least_moves rule OWN_MOVES b ≡ Some moves → own_win rule b ≡ Some moves
+pub own_win-some : (rule : RuleKind) (b : Grid) (moves : ℕ) → four_cost rule OWN_MOVES b ≤ OWN_POSITIONS
+    → least_moves rule OWN_MOVES b ≡ Some moves → own_win rule b ≡ Some moves
 own_win-some rule b moves fits least = within rule b OWN_MOVES OWN_POSITIONS fits ∙ least
 
 pub own_win-wins : (rule : RuleKind) (b : Grid) (moves : ℕ) → own_win rule b ≡ Some moves → wins_by_fours rule moves b ≡ true
@@ -58,7 +60,8 @@ module _ (rule : RuleKind) (b d : Grid) (same : d ≡ b) where
   pub found-spent : OWN_POSITIONS < four_cost rule OWN_MOVES d → own_win rule b ≡ None
   found-spent more = ap (own_win rule) (sym same) ∙ own_win-spent rule d more
 
-  pub found-table : (t : List Node) (win : WrittenWin) (own : OwnTable) → IsFourWin rule OWN_MOVES d t win → (OWN_POSITIONS < four_cost rule OWN_MOVES d → ⊥) → own.moves ≡ win.moves → own.node ≡ last own.table
+  pub found-table : (t : List Node) (win : WrittenWin) (own : OwnTable) → IsFourWin rule OWN_MOVES d t win
+      → (OWN_POSITIONS < four_cost rule OWN_MOVES d → ⊥) → own.moves ≡ win.moves → own.node ≡ last own.table
       → ((tree : Tree) → StandsFor t win.node tree → IsTableOf tree own.table)
       → ((rule : RuleKind) (limit : ℕ) (c : Grid) → IsWrittenWin rule limit c t win → Accepted rule own.table own.node c)
       → IsOwnTable rule b own

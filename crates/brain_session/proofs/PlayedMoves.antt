@@ -1,5 +1,6 @@
 -- A board and the moves that were made on it: a move more, and the last move taken back.
-use Rattle.std.proofs.Common.{◌≡◌, ℕ, ◌+◌, ◌<◌, Bool, true, refl, sym, ap, subst, ◌∙◌, arith, List, [], ◌∷◌, ◌++◌, reverse, Decides, eqb-true, eq-eqb}
+use Rattle.std.proofs.Common.{◌≡◌, ℕ, ◌+◌, ◌<◌, Bool, true, refl, sym, ap, subst, ◌∙◌, arith, List, [], ◌∷◌, ◌++◌, reverse, Decides}
+use Rattle.std.proofs.Common.{eqb-true, eq-eqb}
 use Rattle.std.specs.Prelude.{Some}
 use Rattle.std.proofs.lemmas.Bool.Decides.{same_from_decides}
 use lib.Pointwise.{pointwise, pointwise_decides}
@@ -31,7 +32,8 @@ same_board-is b c h =
     let sizes = and_left _ (pointwise same_cell b.cells c.cells) h in
     let wide : b.width ≡ c.width = eqb-true _ _ (and_left _ _ sizes) in
     let high : b.height ≡ c.height = eqb-true _ _ (and_right _ _ sizes) in
-    let cells : b.cells ≡ c.cells = (pointwise_decides same_cell-Decides b.cells c.cells).0 (and_right _ (pointwise same_cell b.cells c.cells) h) in
+    let cells : b.cells ≡ c.cells = (pointwise_decides same_cell-Decides b.cells c.cells).0
+    (and_right _ (pointwise same_cell b.cells c.cells) h) in
     λ i. record { width = wide i; height = high i; cells = cells i }
 
 pub same_board-itself : (b : Grid) → same_board b b ≡ true
@@ -41,7 +43,8 @@ same_board-itself b =
 
 -- a test that tells whether two boards are one is that of their widths, heights and cells
 pub same_board-told : (b c : Grid) (r : Bool) → Decides r (b ≡ c) → r ≡ same_board b c
-same_board-told b c r h = same_from_decides r (same_board b c) h (same_board-is b c, λ e. subst (λ (g : Grid). same_board b g ≡ true) e (same_board-itself b))
+same_board-told b c r h = same_from_decides r (same_board b c) h
+    (same_board-is b c, λ e. subst (λ (g : Grid). same_board b g ≡ true) e (same_board-itself b))
 
 -- ---- the moves, the last one first
 
@@ -50,10 +53,13 @@ same_board-told b c r h = same_from_decides r (same_board b c) h (same_board-is 
 -- each board on the way is one
 pub IsBoard-after : (start : Grid) (moves : List Point) → IsBoard start → IsBoard (board_after start moves)
 IsBoard-after start [] ok = ok
-IsBoard-after start (p ∷ before) ok = IsBoard-put (board_after start before) (mover (board_after start before)) p (IsBoard-after start before ok)
+IsBoard-after start (p ∷ before) ok = IsBoard-put (board_after start before) (mover (board_after start before)) p
+    (IsBoard-after start before ok)
 
 -- a move more
-pub kept-play : (start board : Grid) (before : List Point) (made room : ℕ) (p : Point) (side : Side) → IsKept (record { start = start; moves = before }) board made room → is_empty board p ≡ true → side ≡ mover board → IsKept (record { start = start; moves = p ∷ before }) (put board side p) (made + 1) room
+pub kept-play : (start board : Grid) (before : List Point) (made room : ℕ) (p : Point) (side : Side)
+    → IsKept (record { start = start; moves = before }) board made room → is_empty board p ≡ true → side ≡ mover board
+    → IsKept (record { start = start; moves = p ∷ before }) (put board side p) (made + 1) room
 kept-play start board before made room p side kept empty moves =
     let ok : IsBoard board = subst IsBoard (sym kept.now) (IsBoard-after start before kept.start_board) in
     record {
@@ -65,7 +71,8 @@ kept-play start board before made room p side kept empty moves =
     }
 
 -- there is room for it
-pub kept-room : (start board : Grid) (before : List Point) (made room : ℕ) (p : Point) → IsKept (record { start = start; moves = before }) board made room → is_empty board p ≡ true → made < room
+pub kept-room : (start board : Grid) (before : List Point) (made room : ℕ) (p : Point)
+    → IsKept (record { start = start; moves = before }) board made room → is_empty board p ≡ true → made < room
 kept-room start board before made room p kept empty =
     let ok : IsBoard board = subst IsBoard (sym kept.now) (IsBoard-after start before kept.start_board) in
     let fewer = empties_of-put board (mover board) p ok empty in
@@ -74,23 +81,30 @@ kept-room start board before made room p kept empty =
     omega (arith, fewer, all, fits)
 
 -- the last move has its stone on the board
-pub kept-stone : (start board : Grid) (before : List Point) (made room : ℕ) (p : Point) → IsKept (record { start = start; moves = p ∷ before }) board made room → holds_stone board p ≡ true
+pub kept-stone : (start board : Grid) (before : List Point) (made room : ℕ) (p : Point)
+    → IsKept (record { start = start; moves = p ∷ before }) board made room → holds_stone board p ≡ true
 kept-stone start board before made room p kept =
     let b : Grid = board_after start before in
-    ap (λ (c : Grid). holds_stone c p) kept.now ∙ put-holds_stone b (mover b) p (IsBoard-after start before kept.start_board) kept.took_empty.1
+    ap (λ (c : Grid). holds_stone c p) kept.now ∙ put-holds_stone b (mover b) p (IsBoard-after start before kept.start_board)
+    kept.took_empty.1
 
 -- without it the board is that before it
-pub kept-lift : (start board : Grid) (before : List Point) (made room : ℕ) (p : Point) → IsKept (record { start = start; moves = p ∷ before }) board made room → lift board p ≡ board_after start before
+pub kept-lift : (start board : Grid) (before : List Point) (made room : ℕ) (p : Point)
+    → IsKept (record { start = start; moves = p ∷ before }) board made room → lift board p ≡ board_after start before
 kept-lift start board before made room p kept =
     let b : Grid = board_after start before in
     ap (λ (c : Grid). lift c p) kept.now ∙ lift-put b (mover b) p kept.took_empty.1
 
 -- the last move taken back
-pub kept-back : (start board : Grid) (before : List Point) (made left room : ℕ) (p : Point) → IsKept (record { start = start; moves = p ∷ before }) board made room → left + 1 ≡ made → IsKept (record { start = start; moves = before }) (lift board p) left room
+pub kept-back : (start board : Grid) (before : List Point) (made left room : ℕ) (p : Point)
+    → IsKept (record { start = start; moves = p ∷ before }) board made room → left + 1 ≡ made
+    → IsKept (record { start = start; moves = before }) (lift board p) left room
 kept-back start board before made left room p kept fewer =
     let b : Grid = board_after start before in
     let lifted : lift board p ≡ b = kept-lift start board before made room p kept in
-    let more : empties_of board + 1 ≡ empties_of (lift board p) = ap (λ (c : Grid). empties_of c + 1) kept.now ∙ empties_of-put b (mover b) p (IsBoard-after start before kept.start_board) kept.took_empty.1 ∙ ap empties_of (sym lifted) in
+    let more : empties_of board + 1 ≡ empties_of (lift board p) =
+    ap (λ (c : Grid). empties_of c + 1) kept.now ∙ empties_of-put b (mover b) p (IsBoard-after start before kept.start_board)
+    kept.took_empty.1 ∙ ap empties_of (sym lifted) in
     record {
       start_board = kept.start_board;
       now = lifted;
@@ -106,22 +120,35 @@ pub last-cons : (ps : List Point) (p : Point) → last_move ps ≡ Some p → ps
 last-cons [] p h = cc
 last-cons (q ∷ before) p h = cc
 
-pub kept-as : (start board : Grid) (ps qs : List Point) (made room : ℕ) → ps ≡ qs → IsKept (record { start = start; moves = ps }) board made room → IsKept (record { start = start; moves = qs }) board made room
-kept-as start board ps qs made room e kept = subst (λ (ms : List Point). let m : Moves = record { start = start; moves = ms } in IsKept m board made room) e kept
+pub kept-as : (start board : Grid) (ps qs : List Point) (made room : ℕ) → ps ≡ qs
+    → IsKept (record { start = start; moves = ps }) board made room → IsKept (record { start = start; moves = qs }) board made room
+kept-as start board ps qs made room e kept = subst
+    (λ (ms : List Point). let m : Moves = record { start = start; moves = ms } in IsKept m board made room) e kept
 
-pub kept-pushed : (start board next : Grid) (items more : List Point) (made longer room left : ℕ) (p : Point) (side : Side) → IsKept (record { start = start; moves = reverse items }) board made room → is_empty board p ≡ true → side ≡ mover board → next ≡ put board side p → more ≡ items ++ p ∷ [] → longer ≡ made + 1 → left ≡ room → IsKept (record { start = start; moves = reverse more }) next longer left
+pub kept-pushed : (start board next : Grid) (items more : List Point) (made longer room left : ℕ) (p : Point) (side : Side)
+    → IsKept (record { start = start; moves = reverse items }) board made room → is_empty board p ≡ true → side ≡ mover board
+    → next ≡ put board side p → more ≡ items ++ p ∷ [] → longer ≡ made + 1 → left ≡ room
+    → IsKept (record { start = start; moves = reverse more }) next longer left
 kept-pushed start board next items more made longer room left p side kept empty moves put_here pushed one same =
     rw (put_here, pushed, one, same, reverse-push items p) (kept-play start board (reverse items) made room p side kept empty moves)
 
 -- the moves with the last one, as they were before it was popped
-pub kept-popped : (start board : Grid) (items fewer : List Point) (made room : ℕ) (p : Point) → items ≡ fewer ++ p ∷ [] → IsKept (record { start = start; moves = reverse items }) board made room → IsKept (record { start = start; moves = p ∷ reverse fewer }) board made room
-kept-popped start board items fewer made room p popped kept = kept-as start board (reverse items) (p ∷ reverse fewer) made room (ap reverse popped ∙ reverse-push fewer p) kept
+pub kept-popped : (start board : Grid) (items fewer : List Point) (made room : ℕ) (p : Point) → items ≡ fewer ++ p ∷ []
+    → IsKept (record { start = start; moves = reverse items }) board made room
+    → IsKept (record { start = start; moves = p ∷ reverse fewer }) board made room
+kept-popped start board items fewer made room p popped kept =
+    kept-as start board (reverse items) (p ∷ reverse fewer) made room (ap reverse popped ∙ reverse-push fewer p) kept
 
-pub kept-left : (start board next : Grid) (before : List Point) (made left room still : ℕ) (p : Point) → IsKept (record { start = start; moves = p ∷ before }) board made room → next ≡ lift board p → left + 1 ≡ made → still ≡ room → IsKept (record { start = start; moves = before }) next left still
-kept-left start board next before made left room still p kept lifted one same = rw (lifted, same) (kept-back start board before made left room p kept one)
+pub kept-left : (start board next : Grid) (before : List Point) (made left room still : ℕ) (p : Point)
+    → IsKept (record { start = start; moves = p ∷ before }) board made room → next ≡ lift board p → left + 1 ≡ made → still ≡ room
+    → IsKept (record { start = start; moves = before }) next left still
+kept-left start board next before made left room still p kept lifted one same =
+    rw (lifted, same) (kept-back start board before made left room p kept one)
 
 -- a stone that is lifted and put again
-pub kept-again : (start board lifted again : Grid) (before : List Point) (made room : ℕ) (p : Point) (side : Side) → IsKept (record { start = start; moves = p ∷ before }) board made room → lifted ≡ lift board p → side ≡ mover lifted → again ≡ put lifted side p → again ≡ board
+pub kept-again : (start board lifted again : Grid) (before : List Point) (made room : ℕ) (p : Point) (side : Side)
+    → IsKept (record { start = start; moves = p ∷ before }) board made room → lifted ≡ lift board p → side ≡ mover lifted
+    → again ≡ put lifted side p → again ≡ board
 kept-again start board lifted again before made room p side kept lift_here moves put_here =
     put_here
     ∙ ap (λ (s : Side). put lifted s p) moves

@@ -1,10 +1,12 @@
 -- The place of a round: empty boards, the size of a board along the moves, the board of a running game, and the rows of the protocol there.
 use Rattle.std.specs.Prelude.{Option, Some, None, Result, Ok, Err, OnOk, OnErr, ◌==◌, nat_lt, is_none, IfOk, if◌then◌else◌}
-use Rattle.std.proofs.Common.{◌≡◌, inl, ℕ, ◌*◌, ◌<◌, ◌≤◌, Bool, true, false, ◌&&◌, cond, refl, sym, ap, subst, ◌∙◌, arith, eqb-true, List, [], ◌∷◌, replicate}
+use Rattle.std.proofs.Common.{◌≡◌, inl, ℕ, ◌*◌, ◌<◌, ◌≤◌, Bool, true, false, ◌&&◌, cond, refl, sym, ap, subst, ◌∙◌, arith, eqb-true, List}
+use Rattle.std.proofs.Common.{[], ◌∷◌, replicate}
 use Rattle.std.proofs.Math.Nat.{mul-pos}
 use Rattle.std.proofs.lemmas.List.Folds.{sum_by-replicate}
 use Rattle.std.proofs.lemmas.List.{length-replicate}
-use Rattle.game_rules.specs.Grid.{Grid, IsBoard, is_on, is_empty, is_empty_cell, is_stone_of, cell_at, place_of as cell_place, holds, stones_of, empties_of}
+use Rattle.game_rules.specs.Grid.{Grid, IsBoard, is_on, is_empty, is_empty_cell, is_stone_of, cell_at, place_of as cell_place, holds}
+use Rattle.game_rules.specs.Grid.{stones_of, empties_of}
 use Rattle.game_rules.specs.Play.{IsPosition, outcome, mover}
 use Rattle.game_rules.specs.declared.TheConstants.{MIN_SIDE, MAX_SIDE}
 use Rattle.game_rules.specs.declared.RuleKind.{RuleKind}
@@ -29,9 +31,11 @@ use Rattle.brain_session.specs.declared.course.Course.{Course}
 use Rattle.brain_session.specs.States.{Game, Fresh, board_after, empty_board, new_game, Place, InGame, Batch, State, board_of}
 use Rattle.brain_session.specs.ChosenMoves.{last_move}
 use Rattle.brain_session.specs.Memory.{is_game}
-use Rattle.brain_session.specs.Steps.{board_in, is_bare, Row, Step, fails, placed, if_supported, same_side, move_row, turn_row, last_row, takeback_row}
+use Rattle.brain_session.specs.Steps.{board_in, is_bare, Row, Step, fails, placed, if_supported, same_side, move_row, turn_row, last_row}
+use Rattle.brain_session.specs.Steps.{takeback_row}
 use Rattle.brain_session.specs.Running.{EndsAlong, IsPlayed, IsRunning, IsPlace}
-use Rattle.brain_session.specs.Kept.{Moves, IsKeptUp, IsRound, IsUntouched, without_last, game_of, place_of, IsPointOn, are_one, in_place, IsRow, IsStateOf, Takes, turn_refusal}
+use Rattle.brain_session.specs.Kept.{Moves, IsKeptUp, IsRound, IsUntouched, without_last, game_of, place_of, IsPointOn, are_one, in_place}
+use Rattle.brain_session.specs.Kept.{IsRow, IsStateOf, Takes, turn_refusal}
 use Rattle.brain_session.specs.declared.Reaction.{Reaction}
 use Rattle.brain_session.specs.declared.Reaction.TheVariants.{Says}
 use Rattle.brain_session.proofs.Courses.{start-lawful, ends-empty}
@@ -57,7 +61,8 @@ no-stone width height s p h =
 -- an empty board is a lawful position
 pub empty-lawful : (rule : RuleKind) (width height : ℕ) → IsBoard (empty_board width height) → IsPosition rule (empty_board width height)
 empty-lawful rule width height board =
-    let empties : empties_of (empty_board width height) ≡ width * height = sum_by-replicate (λ (c : Cell). cond (is_empty_cell c) 1 0) (width * height) Empty ∙ omega arith in
+    let empties : empties_of (empty_board width height) ≡ width * height =
+    sum_by-replicate (λ (c : Cell). cond (is_empty_cell c) 1 0) (width * height) Empty ∙ omega arith in
     let wide : 0 < width = let w = board.wide in omega (arith, w) in
     let high : 0 < height = let h = board.high in omega (arith, h) in
     let some : 0 < width * height = mul-pos wide high in
@@ -83,11 +88,13 @@ height-after start [] = refl
 height-after start (p ∷ before) = height-after start before
 
 -- a move off the board is refused
-pub off-refused : (rule : RuleKind) (start : Grid) (moves : List Point) (p : Point) → is_on (empty_board start.width start.height) p ≡ false → outcome rule (board_after start moves) p ≡ Refused
+pub off-refused : (rule : RuleKind) (start : Grid) (moves : List Point) (p : Point) → is_on (empty_board start.width start.height) p ≡ false
+    → outcome rule (board_after start moves) p ≡ Refused
 off-refused rule start moves p off =
     let b : Grid = board_after start moves in
     let same : is_on b p ≡ is_on (empty_board start.width start.height) p =
-    ap (λ (w : ℕ). nat_lt p.x w && nat_lt p.y b.height) (width-after start moves) ∙ ap (λ (h : ℕ). nat_lt p.x start.width && nat_lt p.y h) (height-after start moves) in
+    ap (λ (w : ℕ). nat_lt p.x w && nat_lt p.y b.height) (width-after start moves)
+    ∙ ap (λ (h : ℕ). nat_lt p.x start.width && nat_lt p.y h) (height-after start moves) in
     taken_refused rule b p (ap (λ (r : Bool). r && is_empty_cell (cell_at b p)) (same ∙ off))
 
 -- the empty board in the place of a round
@@ -119,38 +126,51 @@ bare-board b board bare =
     ap (λ (cs : List Cell). record b { cells = cs }) (bare-cells b.cells black white ∙ ap (λ (n : ℕ). replicate n Empty) board.filled)
 
 -- the empty board of a size that is supported, or that a board has, is a board
-pub board-sized : (width height : ℕ) → MIN_SIDE ≤ width → width ≤ MAX_SIDE → MIN_SIDE ≤ height → height ≤ MAX_SIDE → IsBoard (empty_board width height)
+pub board-sized : (width height : ℕ) → MIN_SIDE ≤ width → width ≤ MAX_SIDE → MIN_SIDE ≤ height → height ≤ MAX_SIDE
+    → IsBoard (empty_board width height)
 board-sized width height wide width_fits high height_fits =
-    record { wide = wide; width_fits = width_fits; high = high; height_fits = height_fits; filled = length-replicate (width * height) Empty }
+    record {
+      wide = wide;
+      width_fits = width_fits;
+      high = high;
+      height_fits = height_fits;
+      filled = length-replicate (width * height) Empty;
+    }
 
 pub empty-board : (b : Grid) → IsBoard b → IsBoard (empty_board b.width b.height)
 empty-board b board = board-sized b.width b.height board.wide board.width_fits board.high board.height_fits
 
 -- the new game of a course on a board on which no game has begun
-pub new-game : (m : Moves) (c : Course) (kind : RuleKind) (side : Side) → IsUntouched m → c ≡ record { kind = kind; brain = side; ended = false; guide = None } → game_of m c ≡ new_game kind (empty_board m.start.width m.start.height) side
+pub new-game : (m : Moves) (c : Course) (kind : RuleKind) (side : Side) → IsUntouched m
+    → c ≡ record { kind = kind; brain = side; ended = false; guide = None }
+    → game_of m c ≡ new_game kind (empty_board m.start.width m.start.height) side
 new-game m c kind side untouched new =
     ap (game_of m) new
     ∙ ap (λ (moves : List Point). record (new_game kind m.start side) { moves = moves }) untouched.unmoved
     ∙ ap (λ (b : Grid). new_game kind b side) untouched.bare
 
 -- where no game has begun there is no course, and the board is untouched
-pub no-game : (m : Moves) (o : Option Course) → is_game (place_of m o) ≡ false → IsRound m o → (place_of m o ≡ Fresh m.start.width m.start.height) × IsUntouched m
+pub no-game : (m : Moves) (o : Option Course) → is_game (place_of m o) ≡ false → IsRound m o
+    → (place_of m o ≡ Fresh m.start.width m.start.height) × IsUntouched m
 no-game m None none round = (refl, round)
 no-game m (Some c) none round = absurd (cc)
 
 -- the move that was made last is on the board
-last-on : (rule : RuleKind) (start : Grid) (p : Point) (before : List Point) → is_empty (board_after start before) p ≡ true → is_on (empty_board start.width start.height) p ≡ true
+last-on : (rule : RuleKind) (start : Grid) (p : Point) (before : List Point) → is_empty (board_after start before) p ≡ true
+    → is_on (empty_board start.width start.height) p ≡ true
 last-on rule start p before empty =
     let b : Grid = board_after start before in
     ap (λ (w : ℕ). nat_lt p.x w && nat_lt p.y start.height) (sym (width-after start before))
     ∙ ap (λ (h : ℕ). nat_lt p.x b.width && nat_lt p.y h) (sym (height-after start before))
     ∙ is_empty-on b p empty
 
-played-on : (ended : Bool) (rule : RuleKind) (start : Grid) (p : Point) (before : List Point) → IsPlayed ended rule start (p ∷ before) → is_on (empty_board start.width start.height) p ≡ true
+played-on : (ended : Bool) (rule : RuleKind) (start : Grid) (p : Point) (before : List Point) → IsPlayed ended rule start (p ∷ before)
+    → is_on (empty_board start.width start.height) p ≡ true
 played-on true rule start p before h = last-on rule start p before (ends-empty rule (board_after start before) p h.1)
 played-on false rule start p before h = last-on rule start p before (GoesOn-empty rule (board_after start before) p h.1)
 
-pub running-on : (h : HeldTable) (g : Game) (p : Point) (before : List Point) → g.moves ≡ p ∷ before → IsRunning h g → is_on (empty_board g.start.width g.start.height) p ≡ true
+pub running-on : (h : HeldTable) (g : Game) (p : Point) (before : List Point) → g.moves ≡ p ∷ before → IsRunning h g
+    → is_on (empty_board g.start.width g.start.height) p ≡ true
 running-on h g p before e run = played-on g.ended g.rule g.start p before (subst (IsPlayed g.ended g.rule g.start) e run.played)
 
 -- a board that is untouched after a move was taken back
@@ -168,109 +188,137 @@ pub round-kept : (h : HeldTable) (m : Moves) (c : Course) → IsKeptUp h m c →
 round-kept h m c kept = (running-board h (game_of m c) kept.running, kept.guided)
 
 -- the round after a call that kept it up, or that failed and left it as it was
-pub round-after : {T E : Type 0} (h : HeldTable) (m n : Moves) (c d : Course) (r : Result T E) → OnOk r (IsKeptUp h n d) → OnErr r (n ≡ m) → OnErr r (d ≡ c) → IsRound m (Some c) → IsRound n (Some d)
+pub round-after : {T E : Type 0} (h : HeldTable) (m n : Moves) (c d : Course) (r : Result T E) → OnOk r (IsKeptUp h n d) → OnErr r (n ≡ m)
+    → OnErr r (d ≡ c) → IsRound m (Some c) → IsRound n (Some d)
 round-after h m n c d (Ok x) kept played course round = round-kept h n d kept
 round-after h m n c d (Err e) kept played course round =
     subst (λ (x : Moves). IsRound x (Some d)) (sym played) (subst (λ (x : Course). IsRound m (Some x)) (sym course) round)
 
 -- a round that is untouched after the last move was taken back
-pub untouched-before : (m : Moves) (o : Option Course) → IsRound m o → (is_none (last_move (without_last m.moves)) && is_bare m.start) ≡ true → IsUntouched (record m { moves = without_last m.moves })
+pub untouched-before : (m : Moves) (o : Option Course) → IsRound m o
+    → (is_none (last_move (without_last m.moves)) && is_bare m.start) ≡ true → IsUntouched (record m { moves = without_last m.moves })
 untouched-before m None round e = record { unmoved = ap without_last round.unmoved; bare = round.bare }
 untouched-before m (Some c) round e = untouched (record m { moves = without_last m.moves }) round.0 e
 
 -- the same of the moves after the call that took it back
-pub untouched_by : (m n : Moves) (o : Option Course) → IsRound m o → n ≡ record m { moves = without_last m.moves } → true ≡ (is_none (last_move n.moves) && is_bare n.start) → IsUntouched n
+pub untouched_by : (m n : Moves) (o : Option Course) → IsRound m o → n ≡ record m { moves = without_last m.moves }
+    → true ≡ (is_none (last_move n.moves) && is_bare n.start) → IsUntouched n
 untouched_by m n o round taken e =
-    let before : (is_none (last_move (without_last m.moves)) && is_bare m.start) ≡ true = ap (λ (x : Moves). is_none (last_move x.moves) && is_bare x.start) (sym taken) ∙ sym e in
+    let before : (is_none (last_move (without_last m.moves)) && is_bare m.start) ≡ true =
+    ap (λ (x : Moves). is_none (last_move x.moves) && is_bare x.start) (sym taken) ∙ sym e in
     subst IsUntouched (sym taken) (untouched-before m o round before)
 
 -- ---- a move of the opponent
 
-takes-by : (s : State) (r q : Reaction) (a b : Place) → r ≡ q → a ≡ b → (let step : Step = record { reaction = q; next = placed s b } in step) ≡ record { reaction = r; next = placed s a }
+takes-by : (s : State) (r q : Reaction) (a b : Place) → r ≡ q → a ≡ b
+    → (let step : Step = record { reaction = q; next = placed s b } in step) ≡ record { reaction = r; next = placed s a }
 takes-by s r q a b e f = λ i. record { reaction = sym e i; next = placed s (sym f i) }
 
 -- an error leaves the place as it is
-fails-takes : (s : State) (e : ErrorText) (r : Reaction) (place : Place) → s.batch ≡ None → r ≡ Says (Error e) → place ≡ s.place → Takes (fails e s) s r (placed s place)
+fails-takes : (s : State) (e : ErrorText) (r : Reaction) (place : Place) → s.batch ≡ None → r ≡ Says (Error e) → place ≡ s.place
+    → Takes (fails e s) s r (placed s place)
 fails-takes s e r place unread says same =
-    ap (λ (b : Option Batch). record { reaction = Says (Error e); next = record s { batch = b } }) unread ∙ takes-by s r (Says (Error e)) place s.place says same
+    ap (λ (b : Option Batch). record { reaction = Says (Error e); next = record s { batch = b } }) unread
+    ∙ takes-by s r (Says (Error e)) place s.place says same
 
 -- what the row of the reply says in a game is its step, also where the reply begins the game and is no bad move
-move-takes : (s : State) (g : Game) (p : Point) (o : Outcome) (r : Reaction) (next : Game) → s.batch ≡ None → (o ≡ Refused → s.place ≡ InGame g)
+move-takes : (s : State) (g : Game) (p : Point) (o : Outcome) (r : Reaction) (next : Game) → s.batch ≡ None
+    → (o ≡ Refused → s.place ≡ InGame g)
     → IsRow s.held (move_row (in_place s.held (InGame g)) g p o) r (InGame next) → Takes (move_row s g p o) s r (placed s (InGame next))
 move-takes s g p Refused r next unread here is = fails-takes s BadMove r (InGame next) unread is.0 (is.1 ∙ sym (here refl))
 move-takes s g p _ r next unread here is = takes-by s r _ (InGame next) _ is.0 is.1
 
 -- the same in a state that holds this
-held-takes : (h : HeldTable) (s : State) (g : Game) (p : Point) (o : Outcome) (r : Reaction) (next : Game) → s.held ≡ h → s.batch ≡ None → (o ≡ Refused → s.place ≡ InGame g)
+held-takes : (h : HeldTable) (s : State) (g : Game) (p : Point) (o : Outcome) (r : Reaction) (next : Game) → s.held ≡ h → s.batch ≡ None
+    → (o ≡ Refused → s.place ≡ InGame g)
     → IsRow h (move_row (in_place h (InGame g)) g p o) r (InGame next) → Takes (move_row s g p o) s r (placed s (InGame next))
 held-takes h s g p o r next holds unread here is =
-    move-takes s g p o r next unread here (subst (λ (k : HeldTable). IsRow k (move_row (in_place k (InGame g)) g p o) r (InGame next)) (sym holds) is)
+    move-takes s g p o r next unread here
+    (subst (λ (k : HeldTable). IsRow k (move_row (in_place k (InGame g)) g p o) r (InGame next)) (sym holds) is)
 
 -- ---- TURN
 
 -- why no TURN may come, by three tests, and the row by the same tests
 abbrev refused_by : Bool → Bool → Option RuleKind → Option ErrorText
-refused_by ended wrong rule = if ended then Some GameOver else if wrong then Some WrongTurn else if is_none rule then Some UnsupportedRule else None
+refused_by ended wrong rule = if ended then Some GameOver else if wrong then Some WrongTurn else if is_none rule then Some UnsupportedRule
+    else None
 
 abbrev row_by : State → Bool → Bool → Option RuleKind → (RuleKind → Row) → Row
 row_by s ended wrong rule row = if ended then fails GameOver s else if wrong then fails WrongTurn s else if_supported rule s row
 
-open-row : (s : State) (ended wrong : Bool) (rule : Option RuleKind) (row : Row) → refused_by ended wrong rule ≡ None → row_by s ended wrong rule (λ _. row) ≡ row
+open-row : (s : State) (ended wrong : Bool) (rule : Option RuleKind) (row : Row) → refused_by ended wrong rule ≡ None
+    → row_by s ended wrong rule (λ _. row) ≡ row
 open-row s true wrong rule row e = absurd (cc)
 open-row s false true rule row e = absurd (cc)
 open-row s false false None row e = absurd (cc)
 open-row s false false (Some k) row e = refl
 
 -- the row of a TURN that may come in a game
-turn-in_game : (h : HeldTable) (g : Game) (rule : Option RuleKind) (s : State) (p : Point) → turn_refusal (InGame g) rule ≡ None → IsStateOf h (InGame g) rule s → turn_row s (InGame g) p ≡ move_row s g p (outcome g.rule (board_of g) p)
+turn-in_game : (h : HeldTable) (g : Game) (rule : Option RuleKind) (s : State) (p : Point) → turn_refusal (InGame g) rule ≡ None
+    → IsStateOf h (InGame g) rule s → turn_row s (InGame g) p ≡ move_row s g p (outcome g.rule (board_of g) p)
 turn-in_game h g rule s p e at =
     let row : Row = move_row s g p (outcome g.rule (board_of g) p) in
     ap (λ (o : Option RuleKind). row_by s g.ended (same_side (mover (board_of g)) g.brain) o (λ _. row)) at.rule_is
     ∙ open-row s g.ended (same_side (mover (board_of g)) g.brain) rule row e
 
 -- the row of a TURN on a board on which no game has begun, with a rule
-turn-fresh : (h : HeldTable) (width height : ℕ) (kind : RuleKind) (s : State) (p : Point) → IsStateOf h (Fresh width height) (Some kind) s → turn_row s (Fresh width height) p ≡ move_row s (new_game kind (empty_board width height) White) p (outcome kind (empty_board width height) p)
+turn-fresh : (h : HeldTable) (width height : ℕ) (kind : RuleKind) (s : State) (p : Point) → IsStateOf h (Fresh width height) (Some kind) s
+    → turn_row s (Fresh width height) p ≡ move_row s (new_game kind (empty_board width height) White) p
+    (outcome kind (empty_board width height) p)
 turn-fresh h width height kind s p at =
-    ap (λ (o : Option RuleKind). if_supported o s (λ k. let g : Game = new_game k (empty_board width height) White in move_row s g p (outcome k (board_of g) p))) at.rule_is
+    ap (λ (o : Option RuleKind). if_supported o s
+    (λ k. let g : Game = new_game k (empty_board width height) White in move_row s g p (outcome k (board_of g) p))) at.rule_is
 
 -- a TURN off the board is a bad move
-pub turn-off : (h : HeldTable) (m : Moves) (o : Option Course) (rule : Option RuleKind) (s : State) (p : Point) → turn_refusal (place_of m o) rule ≡ None → IsStateOf h (place_of m o) rule s → is_on (board_in (place_of m o)) p ≡ false → Takes (turn_row s (place_of m o) p) s (Says (Error BadMove)) (placed s (place_of m o))
+pub turn-off : (h : HeldTable) (m : Moves) (o : Option Course) (rule : Option RuleKind) (s : State) (p : Point)
+    → turn_refusal (place_of m o) rule ≡ None → IsStateOf h (place_of m o) rule s → is_on (board_in (place_of m o)) p ≡ false
+    → Takes (turn_row s (place_of m o) p) s (Says (Error BadMove)) (placed s (place_of m o))
 turn-off h m None None s p e at off = absurd (cc)
 turn-off h m None (Some kind) s p e at off =
     let g : Game = new_game kind (empty_board m.start.width m.start.height) White in
     let row : turn_row s (Fresh m.start.width m.start.height) p ≡ fails BadMove s =
-    turn-fresh h m.start.width m.start.height kind s p at ∙ ap (move_row s g p) (off-refused kind (empty_board m.start.width m.start.height) [] p off) in
-    subst (λ (w : Row). Takes w s (Says (Error BadMove)) (placed s (Fresh m.start.width m.start.height))) (sym row) (fails-takes s BadMove _ _ at.unread refl (sym at.place_is))
+    turn-fresh h m.start.width m.start.height kind s p at
+    ∙ ap (move_row s g p) (off-refused kind (empty_board m.start.width m.start.height) [] p off) in
+    subst (λ (w : Row). Takes w s (Says (Error BadMove)) (placed s (Fresh m.start.width m.start.height))) (sym row)
+    (fails-takes s BadMove _ _ at.unread refl (sym at.place_is))
 turn-off h m (Some c) rule s p e at off =
     let g : Game = game_of m c in
     let row : turn_row s (InGame g) p ≡ fails BadMove s =
     turn-in_game h g rule s p e at ∙ ap (move_row s g p) (off-refused c.kind m.start m.moves p off) in
-    subst (λ (w : Row). Takes w s (Says (Error BadMove)) (placed s (InGame g))) (sym row) (fails-takes s BadMove _ _ at.unread refl (sym at.place_is))
+    subst (λ (w : Row). Takes w s (Says (Error BadMove)) (placed s (InGame g))) (sym row)
+    (fails-takes s BadMove _ _ at.unread refl (sym at.place_is))
 
 -- a TURN in a game, after the call that took its reply, with the point as the brain was told it
-pub turn-taken : {E : Type 0} (h : HeldTable) (g : Game) (rule : Option RuleKind) (b : Grid) (at : Option Point) (q : Point) (r : Result Reaction E) (next : Game) → turn_refusal (InGame g) rule ≡ None → at ≡ Some q
+pub turn-taken : {E : Type 0} (h : HeldTable) (g : Game) (rule : Option RuleKind) (b : Grid) (at : Option Point) (q : Point)
+    (r : Result Reaction E) (next : Game) → turn_refusal (InGame g) rule ≡ None → at ≡ Some q
     → IfOk r (λ x. IsRow h (move_row (in_place h (InGame g)) g q (outcome g.rule (board_of g) q)) x (InGame next))
-    → IfOk r (λ x. (s : State) (p : Point) → IsStateOf h (InGame g) rule s → IsPointOn b p at → Takes (turn_row s (InGame g) p) s x (placed s (InGame next)))
+    → IfOk r (λ x. (s : State) (p : Point) → IsStateOf h (InGame g) rule s → IsPointOn b p at
+    → Takes (turn_row s (InGame g) p) s x (placed s (InGame next)))
 turn-taken h g rule b at q (Err e) next may is taken = tt
 turn-taken h g rule b at q (Ok x) next may is taken = λ s p state point.
     let there : IsPointOn b p (Some q) = subst (IsPointOn b p) is point in
-    let here = subst (λ (y : Point). IsRow h (move_row (in_place h (InGame g)) g y (outcome g.rule (board_of g) y)) x (InGame next)) there.1 taken in
+    let here = subst (λ (y : Point). IsRow h (move_row (in_place h (InGame g)) g y (outcome g.rule (board_of g) y)) x (InGame next)) there.1
+    taken in
     subst (λ (w : Row). Takes w s x (placed s (InGame next))) (sym (turn-in_game h g rule s p may state))
     (held-takes h s g p (outcome g.rule (board_of g) p) x next state.held_is state.unread (λ _. state.place_is) here)
 
 -- a TURN at a point of a board on which no game has begun, whose reply was taken
-pub first-taken : (h : HeldTable) (width height : ℕ) (kind : RuleKind) (s : State) (p : Point) (r : Reaction) (next : Game) → IsStateOf h (Fresh width height) (Some kind) s → is_on (empty_board width height) p ≡ true
-    → (let g : Game = new_game kind (empty_board width height) White in IsRow h (move_row (in_place h (InGame g)) g p (outcome kind (empty_board width height) p)) r (InGame next))
+pub first-taken : (h : HeldTable) (width height : ℕ) (kind : RuleKind) (s : State) (p : Point) (r : Reaction) (next : Game)
+    → IsStateOf h (Fresh width height) (Some kind) s → is_on (empty_board width height) p ≡ true
+    → (let g : Game = new_game kind (empty_board width height) White in
+    IsRow h (move_row (in_place h (InGame g)) g p (outcome kind (empty_board width height) p)) r (InGame next))
     → Takes (turn_row s (Fresh width height) p) s r (placed s (InGame next))
 first-taken h width height kind s p r next at on taken =
     let g : Game = new_game kind (empty_board width height) White in
     subst (λ (w : Row). Takes w s r (placed s (InGame next))) (sym (turn-fresh h width height kind s p at))
-    (held-takes h s g p (outcome kind (empty_board width height) p) r next at.held_is at.unread (λ refused. absurd (moved kind (empty_board width height) p (empty-empty width height p on) refused)) taken)
+    (held-takes h s g p (outcome kind (empty_board width height) p) r next at.held_is at.unread
+    (λ refused. absurd (moved kind (empty_board width height) p (empty-empty width height p on) refused)) taken)
 
 -- ---- TAKEBACK
 
 -- the move p is not the last one, if the point that was told is not
-not-last : (b : Grid) (q p : Point) (at : Option Point) → is_on b q ≡ true → IsPointOn b p at → are_one (Some q) at ≡ false → is_same_point q p ≡ false
+not-last : (b : Grid) (q p : Point) (at : Option Point) → is_on b q ≡ true → IsPointOn b p at → are_one (Some q) at ≡ false
+    → is_same_point q p ≡ false
 not-last b q p None on point e = by_test (is_same_point q p) refl where
   by_test : (r : Bool) → is_same_point q p ≡ r → r ≡ false
   by_test true same = let wrong : true ≡ false = sym on ∙ same_point-on b q p same ∙ point in cc
@@ -278,12 +326,15 @@ not-last b q p None on point e = by_test (is_same_point q p) refl where
 not-last b q p (Some w) on point e = ap (is_same_point q) (sym point.1) ∙ e
 
 -- a TAKEBACK of a point at which the last move was not made
-pub takeback-bad : (m : Moves) (o : Option Course) (s : State) (p : Point) (at : Option Point) → s.place ≡ place_of m o → s.batch ≡ None → IsPlace s.held (place_of m o) → IsPointOn (board_in (place_of m o)) p at → are_one (last_move m.moves) at ≡ false
+pub takeback-bad : (m : Moves) (o : Option Course) (s : State) (p : Point) (at : Option Point) → s.place ≡ place_of m o → s.batch ≡ None
+    → IsPlace s.held (place_of m o) → IsPointOn (board_in (place_of m o)) p at → are_one (last_move m.moves) at ≡ false
     → Takes (takeback_row s (place_of m o) p) s (Says (Error BadMove)) (placed s (place_of m o))
 takeback-bad m None s p at here unread place point e = fails-takes s BadMove _ _ unread refl (sym here)
 takeback-bad m (Some c) s p at here unread run point e = by_moves m.moves refl e where
-  by_moves : (moves : List Point) → m.moves ≡ moves → are_one (last_move moves) at ≡ false → Takes (last_row s (game_of m c) p moves) s (Says (Error BadMove)) (placed s (InGame (game_of m c)))
+  by_moves : (moves : List Point) → m.moves ≡ moves → are_one (last_move moves) at ≡ false
+      → Takes (last_row s (game_of m c) p moves) s (Says (Error BadMove)) (placed s (InGame (game_of m c)))
   by_moves [] same e = fails-takes s BadMove _ _ unread refl (sym here)
   by_moves (q ∷ before) same e =
-      let differs : is_same_point q p ≡ false = not-last (empty_board m.start.width m.start.height) q p at (running-on s.held (game_of m c) q before same run) point e in
+      let differs : is_same_point q p ≡ false = not-last (empty_board m.start.width m.start.height) q p at
+      (running-on s.held (game_of m c) q before same run) point e in
       rw differs (fails-takes s BadMove _ _ unread refl (sym here))

@@ -9,14 +9,18 @@ use Rattle.game_rules.specs.declared.Side.TheVariants.{Black, White}
 use Rattle.game_rules.specs.declared.Point.{Point}
 use Rattle.game_rules.proofs.Boards.{and_left, and_right}
 use Rattle.gomocup_text.specs.declared.Command.{Command}
-use Rattle.gomocup_text.specs.declared.Command.TheVariants.{Start, RectStart, Begin, Turn, Board, Stone, Done, Restart, Takeback, Rule, Info, About, End, Blank, Malformed, Unknown}
+use Rattle.gomocup_text.specs.declared.Command.TheVariants.{Start, RectStart, Begin, Turn, Board, Stone, Done, Restart, Takeback, Rule}
+use Rattle.gomocup_text.specs.declared.Command.TheVariants.{Info, About, End, Blank, Malformed, Unknown}
 use Rattle.gomocup_text.specs.declared.Answer.{Answer}
 use Rattle.gomocup_text.specs.declared.Answer.TheVariants.{Ok as SaysOk, About as SaysAbout, Error, Unknown as SaysUnknown}
-use Rattle.gomocup_text.specs.declared.ErrorText.TheVariants.{UnsupportedSize, NoBoard as NoBoardText, NotReading, UnsupportedRule, BadBoard, BadArguments, GameStarted, GameOver, WrongTurn, BadMove}
+use Rattle.gomocup_text.specs.declared.ErrorText.TheVariants.{UnsupportedSize, NoBoard as NoBoardText, NotReading, UnsupportedRule}
+use Rattle.gomocup_text.specs.declared.ErrorText.TheVariants.{BadBoard, BadArguments, GameStarted, GameOver, WrongTurn, BadMove}
 use Rattle.brain_session.specs.declared.Reaction.TheVariants.{Silent, Says, Ends}
 use Rattle.brain_session.specs.States.{Game, board_of, empty_board, new_game, point_at, Place, NoBoard, Fresh, InGame, Batch, State}
 use Rattle.brain_session.specs.Batches.{new_batch, spoiled, with_stone, game_from}
-use Rattle.brain_session.specs.Steps.{Row, Reacts, Chooses, fails, unread, reading, placed, rule_of, if_supported, is_side, start_row, restart_row, board_row, board_in, stone_row, batch_row, done_row, begin_row, same_side, move_row, turn_row, place_before, last_row, takeback_row, if_not_reading, row_of}
+use Rattle.brain_session.specs.Steps.{Row, Reacts, Chooses, fails, unread, reading, placed, rule_of, if_supported, is_side, start_row}
+use Rattle.brain_session.specs.Steps.{restart_row, board_row, board_in, stone_row, batch_row, done_row, begin_row, same_side, move_row}
+use Rattle.brain_session.specs.Steps.{turn_row, place_before, last_row, takeback_row, if_not_reading, row_of}
 
 -- each row that the command c may have in the state s, with what is known where it has it
 pub record RowCases (P : Row → Type 0) (s : State) (c : Command) : Type 0 where
@@ -59,7 +63,8 @@ module _ (P : Row → Type 0) (s : State) (c : Command) (cases : RowCases P s c)
 
   start_case : (width height : ℕ) → P (start_row s width height)
   start_case width height = by_test (is_side width && is_side height) _ _
-      (λ e. cases.sized width height (and_left (is_side width) (is_side height) e) (and_right (is_side width) (is_side height) e)) (λ e. cases.says (Error UnsupportedSize))
+      (λ e. cases.sized width height (and_left (is_side width) (is_side height) e) (and_right (is_side width) (is_side height) e))
+      (λ e. cases.says (Error UnsupportedSize))
 
   restart_case : (place : Place) → s.place ≡ place → P (restart_row s place)
   restart_case NoBoard e = cases.says (Error NoBoardText)
@@ -77,20 +82,23 @@ module _ (P : Row → Type 0) (s : State) (c : Command) (cases : RowCases P s c)
 
   done_case : (batch : Option Batch) → s.batch ≡ batch → P (done_row s batch)
   done_case None e = cases.says (Error NotReading)
-  done_case (Some b) e = by_rule (rule_of s.wish) (unread s) _ (cases.is_bad (Error UnsupportedRule)) (λ rule supported. by_game rule supported (game_from rule (board_in s.place) b) refl) where
-    by_game : (rule : RuleKind) → rule_of s.wish ≡ Some rule → (o : Option Game) → game_from rule (board_in s.place) b ≡ o
-        → P (batch_row s o)
-    by_game rule supported None is = cases.is_bad (Error BadBoard)
-    by_game rule supported (Some g) is = cases.whole rule b g supported e is
+  done_case (Some b) e = by_rule (rule_of s.wish) (unread s) _ (cases.is_bad (Error UnsupportedRule))
+      (λ rule supported. by_game rule supported (game_from rule (board_in s.place) b) refl) where
+        by_game : (rule : RuleKind) → rule_of s.wish ≡ Some rule → (o : Option Game) → game_from rule (board_in s.place) b ≡ o
+            → P (batch_row s o)
+        by_game rule supported None is = cases.is_bad (Error BadBoard)
+        by_game rule supported (Some g) is = cases.whole rule b g supported e is
 
   begin_case : (place : Place) → s.place ≡ place → P (begin_row s place)
   begin_case NoBoard e = cases.says (Error NoBoardText)
   begin_case (InGame g) e = cases.says (Error GameStarted)
-  begin_case (Fresh width height) e = by_rule (rule_of s.wish) s _ (cases.says (Error UnsupportedRule)) (λ rule supported. cases.first rule width height supported e)
+  begin_case (Fresh width height) e = by_rule (rule_of s.wish) s _ (cases.says (Error UnsupportedRule))
+      (λ rule supported. cases.first rule width height supported e)
 
   turn_case : (place : Place) (p : Point) → s.place ≡ place → P (turn_row s place p)
   turn_case NoBoard p e = cases.says (Error NoBoardText)
-  turn_case (Fresh width height) p e = by_rule (rule_of s.wish) s _ (cases.says (Error UnsupportedRule)) (λ rule supported. cases.second rule width height p supported e)
+  turn_case (Fresh width height) p e = by_rule (rule_of s.wish) s _ (cases.says (Error UnsupportedRule))
+      (λ rule supported. cases.second rule width height p supported e)
   turn_case (InGame g) p e =
       by_test g.ended _ _ (λ over. cases.says (Error GameOver)) (λ going.
       by_test (same_side (mover (board_of g)) g.brain) _ _ (λ own. cases.says (Error WrongTurn)) (λ others.
@@ -102,7 +110,8 @@ module _ (P : Row → Type 0) (s : State) (c : Command) (cases : RowCases P s c)
   takeback_case (InGame g) p e = by_moves g.moves refl where
     by_moves : (moves : List Point) → g.moves ≡ moves → P (last_row s g p moves)
     by_moves [] is = cases.says (Error BadMove)
-    by_moves (last ∷ before) is = by_test (is_same_point last p) _ _ (λ same. cases.back g last before e is) (λ other. cases.says (Error BadMove))
+    by_moves (last ∷ before) is = by_test (is_same_point last p) _ _ (λ same. cases.back g last before e is)
+        (λ other. cases.says (Error BadMove))
 
   reading_case : (batch : Option Batch) (row : Row) → s.batch ≡ batch → P row → P (if_not_reading s batch (λ _. row))
   reading_case None row e h = h

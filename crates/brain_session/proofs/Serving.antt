@@ -1,5 +1,6 @@
 -- What a session has read, said and become when it comes to its next line, and how it may end there.
-use Rattle.std.proofs.Common.{◌≡◌, ◌≢◌, ◌≤◌, ◌+◌, Bool, true, false, cond, List, [], ◌∷◌, ◌++◌, length, take, refl, sym, ap, subst, ◌∙◌, append_assoc, add_comm, arith, length-append, Option, Some, None, ◌⊎◌, inl, inr}
+use Rattle.std.proofs.Common.{◌≡◌, ◌≢◌, ◌≤◌, ◌+◌, Bool, true, false, cond, List, [], ◌∷◌, ◌++◌, length, take, refl, sym, ap, subst, ◌∙◌}
+use Rattle.std.proofs.Common.{append_assoc, add_comm, arith, length-append, Option, Some, None, ◌⊎◌, inl, inr}
 use Rattle.std.specs.Prelude.{ℕ, IfSome}
 use Rattle.std.specs.Option.{option_to_list}
 use Rattle.std.specs.Io.KnownBytes.{IsAtEnd}
@@ -8,12 +9,14 @@ use Rattle.std.proofs.Math.Seq.{take-append_seam}
 use Rattle.std.proofs.lemmas.Grind.{flat_map-append}
 use Rattle.renju_io.specs.Asked.{GivesByEach, IsAsked, IsAskedAtMost, IsAskedOnce, IsAskedWithin}
 use Rattle.renju_io.specs.Told.{Gives, GivesSome, Takes}
-use Rattle.renju_io.specs.Lines.{LineText, lines, whole_lines, Tells, TellsLast, ReaderState, KnowsEnd, TakesLines, KeepsLine, GoesPast, TakesTooMany, reads_for}
+use Rattle.renju_io.specs.Lines.{LineText, lines, whole_lines, Tells, TellsLast, ReaderState, KnowsEnd, TakesLines, KeepsLine, GoesPast}
+use Rattle.renju_io.specs.Lines.{TakesTooMany, reads_for}
 use Rattle.renju_io.specs.declared.TheConstants.{MAX_SESSION_BYTES}
 use Rattle.renju_io.proofs.AskedCalls.{IsAsked-then, few_more, within_few}
 use Rattle.renju_io.proofs.GivenBytes.{Gives-none, Gives-then, Gives-some}
 use Rattle.renju_io.proofs.TakenText.{Takes-then}
-use Rattle.renju_io.proofs.ToldSoFar.{Reading, new_reader, read_on, HasTold, Takes-none, open_tells, told_then, open_after, bytes_of, begins, all_told}
+use Rattle.renju_io.proofs.ToldSoFar.{Reading, new_reader, read_on, HasTold, Takes-none, open_tells, told_then, open_after, bytes_of}
+use Rattle.renju_io.proofs.ToldSoFar.{begins, all_told}
 use Rattle.gomocup_text.specs.Commands.{commands, command_told}
 use Rattle.gomocup_text.specs.Answers.{answer_text}
 use Rattle.gomocup_text.specs.declared.Command.{Command}
@@ -26,8 +29,10 @@ use Rattle.brain_session.specs.States.{State}
 use Rattle.brain_session.specs.Steps.{brain_step}
 use Rattle.brain_session.specs.Memory.{takes_none}
 use Rattle.brain_session.specs.Sessions.{then_answers, answers_from, answer_texts, state_after}
-use Rattle.brain_session.specs.Serving.{TakesCommands, IsWritten, IsAnswered, IsHalfAnswered, Output, Served, served, Writes, HasAnswered, HasNoEnd, IsReadToEnd, StopsAtRead, StopsAtWrite, StopsAtStep, within_limit, IsTooLong}
-use Rattle.brain_session.proofs.SessionLaws.{end_ends, HasNoEnd-none, HasNoEnd-push, answers-append, state-append, answers-one, state-one, answers-end, state-end, state-none, answers-none}
+use Rattle.brain_session.specs.Serving.{TakesCommands, IsWritten, IsAnswered, IsHalfAnswered, Output, Served, served, Writes, HasAnswered}
+use Rattle.brain_session.specs.Serving.{HasNoEnd, IsReadToEnd, StopsAtRead, StopsAtWrite, StopsAtStep, within_limit, IsTooLong}
+use Rattle.brain_session.proofs.SessionLaws.{end_ends, HasNoEnd-none, HasNoEnd-push, answers-append, state-append, answers-one, state-one}
+use Rattle.brain_session.proofs.SessionLaws.{answers-end, state-end, state-none, answers-none}
 
 abbrev pub served_on : Served → State → Output → Served
 served_on v next output = record v { after = next; output_after = output }
@@ -53,14 +58,16 @@ writes_none : (output : Output) → Writes [] output output
 writes_none output = record { wrote = Takes-none output.written; each = refl }
 
 -- one answer was written
-writes_one : (a : Answer) (old new : Output) → Takes old.written (answer_text a) new.written → IsAskedOnce old.asked new.asked → Writes (a ∷ []) old new
+writes_one : (a : Answer) (old new : Output) → Takes old.written (answer_text a) new.written → IsAskedOnce old.asked new.asked
+    → Writes (a ∷ []) old new
 writes_one a old new takes once = record {
   wrote = subst (λ (text : List ℕ). Takes old.written text new.written) (sym (append-nil (answer_text a))) takes;
   each = once;
 }
 
 -- answers were written, and then more
-writes_then : (first second : List Answer) (old mid new : Output) → Writes first old mid → Writes second mid new → Writes (first ++ second) old new
+writes_then : (first second : List Answer) (old mid new : Output) → Writes first old mid → Writes second mid new
+    → Writes (first ++ second) old new
 writes_then first second old mid new before after = record {
   wrote = subst (λ (text : List ℕ). Takes old.written text new.written) (sym (flat_map-append answer_text first second))
       (Takes-then old.written mid.written new.written (answer_texts first) (answer_texts second) before.wrote after.wrote);
@@ -71,21 +78,22 @@ writes_then first second old mid new before after = record {
 -- nothing was read yet
 pub SoFar-begun : (s : State) (left : Option (List ℕ)) (output : Output) (reader : ReaderState) → reader ≡ new_reader →
     SoFar (record { left_before = left; reader = reader; left = left }) (served s s output output)
-SoFar-begun s left output reader fresh = subst (λ (x : ReaderState). SoFar (record { left_before = left; reader = x; left = left }) v) (sym fresh) (record {
-  told = [];
-  read = record {
-    takes = record { given = []; gives = Gives-none left; counted = omega arith; tells = inl (record { whatever = λ more. refl }) };
-    few = omega arith;
-    knows = λ is_ended. cc;
-  };
-  no_end = HasNoEnd-none;
-  answered = record {
-    state = sym (state-none s);
-    writes = subst (λ (answers : List Answer). Writes answers output output) (sym (answers-none s)) (writes_none output);
-  };
-}) where
-  v : Served
-  v = served s s output output
+SoFar-begun s left output reader fresh = subst (λ (x : ReaderState). SoFar (record { left_before = left; reader = x; left = left }) v)
+    (sym fresh) (record {
+      told = [];
+      read = record {
+        takes = record { given = []; gives = Gives-none left; counted = omega arith; tells = inl (record { whatever = λ more. refl }) };
+        few = omega arith;
+        knows = λ is_ended. cc;
+      };
+      no_end = HasNoEnd-none;
+      answered = record {
+        state = sym (state-none s);
+        writes = subst (λ (answers : List Answer). Writes answers output output) (sym (answers-none s)) (writes_none output);
+      };
+    }) where
+      v : Served
+      v = served s s output output
 
 -- ---- what was read
 
@@ -101,7 +109,8 @@ Asked-told r v told c next left so_far is asks took few knows =
       line = one.0;
       is = one.2;
       read = record {
-        takes = told_then r so_far.told so_far.read (open_tells r so_far.told so_far.read (λ e. let none = asks e in cc)) (one.0 ∷ []) next left
+        takes = told_then r so_far.told so_far.read (open_tells r so_far.told so_far.read (λ e. let none = asks e in cc)) (one.0 ∷ []) next
+            left
             (subst (λ (ls : List LineText). TakesLines r.reader r.left ls next left) one.1 took.takes);
         few = few;
         knows = knows so_far.read.knows;
@@ -158,7 +167,8 @@ SoFar-answered r v c next written so_far answered =
       read = so_far.read;
       no_end = subst HasNoEnd (sym all) (HasNoEnd-push (asked so_far.told) c so_far.no_end goes_on);
       answered = subst (HasAnswered (served_on v next written)) (sym all)
-          (answered_then v (asked so_far.told) so_far.no_end so_far.answered next (c ∷ []) written (answered.state ∙ sym (state-one v.after c))
+          (answered_then v (asked so_far.told) so_far.no_end so_far.answered next (c ∷ []) written
+          (answered.state ∙ sym (state-one v.after c))
           (subst (λ (answers : List Answer). Writes answers v.output_after written) (sym (answers-one v.after c))
           (wrote_one (brain_step v.after c).reaction true v.output_after written answered.wrote)));
     }
@@ -173,7 +183,8 @@ among r v c so_far P holds =
     let told = so_far.told ++ (so_far.line ∷ []) in
     bytes_of r.left_before r.left takes.given (λ bytes. P (commands bytes)) takes.gives (λ more is.
     let from = begins takes.given more told r.reader.kept r.reader.ended
-    (subst (λ (l : Option (List ℕ)). Tells takes.given told r.reader.kept ⊎ (r.reader.ended ≡ true) × TellsLast takes.given told r.reader.kept l) is takes.tells) in
+    (subst (λ (l : Option (List ℕ)). Tells takes.given told r.reader.kept ⊎ (r.reader.ended ≡ true)
+    × TellsLast takes.given told r.reader.kept l) is takes.tells) in
     let all : commands (takes.given ++ more) ≡ asked so_far.told ++ (c ∷ asked from.0) =
     ap asked (from.1 ∙ append_assoc so_far.told (so_far.line ∷ []) from.0)
     ∙ map-append command_told so_far.told (so_far.line ∷ from.0) ∙ ap (λ d. asked so_far.told ++ (d ∷ asked from.0)) so_far.is in
@@ -183,10 +194,12 @@ among r v c so_far P holds =
 
 -- it is END
 pub HasAnswered-end : (r : Reading) (v : Served) (c : Command) (next : State) (written : Output) → Asked r v c →
-    IsAnswered v.after c false next v.output_after written → c ≡ End → IfSome r.left_before (λ bytes. HasAnswered (served_on v next written) (commands bytes))
+    IsAnswered v.after c false next v.output_after written → c ≡ End
+    → IfSome r.left_before (λ bytes. HasAnswered (served_on v next written) (commands bytes))
 HasAnswered-end r v c next written so_far answered is =
     let silent : written ≡ v.output_after =
-    wrote_end (brain_step v.after c).reaction v.output_after written (ap (λ d. (brain_step v.after d).reaction) is ∙ end_ends v.after) answered.wrote in
+    wrote_end (brain_step v.after c).reaction v.output_after written (ap (λ d. (brain_step v.after d).reaction) is ∙ end_ends v.after)
+    answered.wrote in
     among r v c so_far (HasAnswered (served_on v next written)) (λ later.
     subst (λ (d : Command). HasAnswered (served_on v next written) (asked so_far.told ++ (d ∷ later))) (sym is)
     (answered_then v (asked so_far.told) so_far.no_end so_far.answered next (End ∷ later) written
@@ -210,7 +223,8 @@ IsReadToEnd-end r v c so_far is =
 
 -- a write failed
 pub StopsAtWrite-asked : (r : Reading) (v : Served) (c : Command) (next : State) (written : Output) → Asked r v c →
-    IsHalfAnswered v.after c next v.output_after written → IfSome r.left_before (λ bytes. StopsAtWrite (served_on v next written) (commands bytes))
+    IsHalfAnswered v.after c next v.output_after written
+    → IfSome r.left_before (λ bytes. StopsAtWrite (served_on v next written) (commands bytes))
 StopsAtWrite-asked r v c next written so_far half = among r v c so_far (StopsAtWrite (served_on v next written)) (λ later. record {
   earlier = asked so_far.told;
   command = c;
@@ -228,19 +242,21 @@ StopsAtWrite-asked r v c next written so_far half = among r v c so_far (StopsAtW
 
 -- memory ran out
 pub StopsAtStep-asked : (r : Reading) (v : Served) (c : Command) (next : State) (written : Output) → Asked r v c →
-    takes_none v.after c ≡ false → next ≡ v.after → written ≡ v.output_after → IfSome r.left_before (λ bytes. StopsAtStep (served_on v next written) (commands bytes))
-StopsAtStep-asked r v c next written so_far needs same unwritten = among r v c so_far (StopsAtStep (served_on v next written)) (λ later. record {
-  earlier = asked so_far.told;
-  command = c;
-  later = later;
-  among = refl;
-  no_end = so_far.no_end;
-  answered = record {
-    state = same ∙ so_far.answered.state;
-    writes = subst (Writes (answers_from v.before (asked so_far.told)) v.output_before) (sym unwritten) so_far.answered.writes;
-  };
-  needs_memory = ap (λ s. takes_none s c) (sym so_far.answered.state) ∙ needs;
-})
+    takes_none v.after c ≡ false → next ≡ v.after → written ≡ v.output_after
+    → IfSome r.left_before (λ bytes. StopsAtStep (served_on v next written) (commands bytes))
+StopsAtStep-asked r v c next written so_far needs same unwritten =
+    among r v c so_far (StopsAtStep (served_on v next written)) (λ later. record {
+      earlier = asked so_far.told;
+      command = c;
+      later = later;
+      among = refl;
+      no_end = so_far.no_end;
+      answered = record {
+        state = same ∙ so_far.answered.state;
+        writes = subst (Writes (answers_from v.before (asked so_far.told)) v.output_before) (sym unwritten) so_far.answered.writes;
+      };
+      needs_memory = ap (λ s. takes_none s c) (sym so_far.answered.state) ∙ needs;
+    })
 
 -- ---- how a session ends where no command is told
 
@@ -257,15 +273,18 @@ pub record EndsAt (r : Reading) (v : Served) : Type 0 where
 
 pub EndsAt-told : (r : Reading) (v : Served) (next : ReaderState) (left : Option (List ℕ)) → SoFar r v
     → TakesCommands r.reader r.left [] next left →
-    next ≡ (record r.reader { ended = true }) → r.reader.kept ≡ [] → (KnowsEnd r.reader r.left → IsAtEnd left) → (r.reader.ended ≡ true → left ≡ r.left) → EndsAt (read_on r next left) v
+    next ≡ (record r.reader { ended = true }) → r.reader.kept ≡ [] → (KnowsEnd r.reader r.left → IsAtEnd left)
+    → (r.reader.ended ≡ true → left ≡ r.left) → EndsAt (read_on r next left) v
 EndsAt-told r v next left so_far took is none ends stays =
-    let all = all_told r so_far.told so_far.read next left (subst (λ (told : List LineText). TakesLines r.reader r.left told next left) (no_line took.lines took.are) took.takes)
+    let all = all_told r so_far.told so_far.read next left
+    (subst (λ (told : List LineText). TakesLines r.reader r.left told next left) (no_line took.lines took.are) took.takes)
     (ap (λ (x : ReaderState). x.kept) is ∙ none) (ap (λ (x : ReaderState). x.taken) is) stays in
     let at_end : IsAtEnd left = ends so_far.read.knows in
     record {
       answered = bytes_of r.left_before left all.given (λ bytes. HasAnswered v (commands bytes)) all.gives (λ more is_left.
           let over = subst IsAtEnd is_left at_end in
-          subst (HasAnswered v) (ap asked (sym (ap (λ m. lines (all.given ++ m)) over ∙ ap lines (append-nil all.given) ∙ all.all))) so_far.answered);
+          subst (HasAnswered v) (ap asked (sym (ap (λ m. lines (all.given ++ m)) over ∙ ap lines (append-nil all.given) ∙ all.all)))
+          so_far.answered);
       read = record { given = all.given; gives = all.gives; few = all.few; ends = inr at_end };
       by_each = λ a b few. record {
         given = all.given;
@@ -308,9 +327,11 @@ goes_past r v next left so_far reading goes =
     ap (λ bytes. bytes ++ more) (sym (append_assoc before goes.given goes.past)) ∙ append_assoc given goes.past more in
     let limit : (more : List ℕ) → asked so_far.told ≡ commands (within_limit ((before ++ (goes.given ++ goes.past)) ++ more)) = λ more.
     whole ∙ ap (λ bytes. commands (whole_lines bytes))
-    (sym (ap (take MAX_SESSION_BYTES) (cut more) ∙ ap (λ n. take n (given ++ (goes.past ++ more))) (sym long) ∙ take-append_seam given (goes.past ++ more))) in
+    (sym (ap (take MAX_SESSION_BYTES) (cut more) ∙ ap (λ n. take n (given ++ (goes.past ++ more))) (sym long)
+    ∙ take-append_seam given (goes.past ++ more))) in
     record {
-      answered = bytes_of r.left_before left _ (λ bytes. HasAnswered v (commands (within_limit bytes))) gives (λ more is. subst (HasAnswered v) (limit more) so_far.answered);
+      answered = bytes_of r.left_before left _ (λ bytes. HasAnswered v (commands (within_limit bytes))) gives
+          (λ more is. subst (HasAnswered v) (limit more) so_far.answered);
       too_long = bytes_of r.left_before left _ IsTooLong gives (λ more is. record {
         many = omega (arith, long, goes.one, ap length (cut more), length-append given (goes.past ++ more), length-append goes.past more);
         no_end = subst HasNoEnd (limit more) so_far.no_end;
@@ -332,7 +353,8 @@ by_each_told r told read a b few = record {
 }
 
 -- nor where a read failed within a line
-pub by_each_open : (r : Reading) (v : Served) (next : ReaderState) (left : Option (List ℕ)) (a b : ℕ) → SoFar r v → KeepsLine r.reader r.left next left
+pub by_each_open : (r : Reading) (v : Served) (next : ReaderState) (left : Option (List ℕ)) (a b : ℕ) → SoFar r v
+    → KeepsLine r.reader r.left next left
     → IsAskedWithin 0 (next.taken + 1) a b → GivesByEach r.left_before left a b
 by_each_open r v next left a b so_far keeps few =
     let read = so_far.read.takes in
@@ -357,7 +379,15 @@ AsksPast-taken r v next left a b so_far (inl goes) few =
         given = read.given ++ past;
         gives = Gives-then r.left_before r.left left read.given past read.gives goes.gives;
         reads = few_more _ _ a b (within_few _ a b few)
-            (omega (arith, read.counted, goes.counted, goes.all, goes.one, length-append read.given past, length-append goes.given goes.past));
+            (omega (
+              arith,
+              read.counted,
+              goes.counted,
+              goes.all,
+              goes.one,
+              length-append read.given past,
+              length-append goes.given goes.past,
+            ));
       };
       few = few_more _ _ a b (within_few _ a b few) (omega (arith, goes.counted));
     }
@@ -368,7 +398,8 @@ pub GivesSome-past : (r : Reading) (v : Served) (next : ReaderState) (left : Opt
     → TakesTooMany r.reader r.left next left → GivesSome r.left_before left
 GivesSome-past r v next left so_far (inl goes) =
     let takes = so_far.read.takes in
-    Gives-some r.left_before left (takes.given ++ (goes.given ++ goes.past)) (Gives-then r.left_before r.left left takes.given (goes.given ++ goes.past) takes.gives goes.gives)
+    Gives-some r.left_before left (takes.given ++ (goes.given ++ goes.past))
+    (Gives-then r.left_before r.left left takes.given (goes.given ++ goes.past) takes.gives goes.gives)
 GivesSome-past r v next left so_far (inr past) =
     let takes = so_far.read.takes in
     Gives-some r.left_before left takes.given (subst (Gives r.left_before takes.given) (sym past.2) takes.gives)

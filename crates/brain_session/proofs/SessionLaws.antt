@@ -33,7 +33,8 @@ only_end_ends s c = row-cases (λ row. (step_by s row).reaction ≡ Ends → c �
   is_bad = λ a e. cc;
   whole = λ rule b g supported read is e. cc;
   first = λ rule width height supported at e. cc;
-  second = λ rule width height p supported at. moves (new_game rule (empty_board width height) White) p (outcome rule (empty_board width height) p);
+  second = λ rule width height p supported at. moves (new_game rule (empty_board width height) White) p
+      (outcome rule (empty_board width height) p);
   later = λ rule g p supported at going others. moves g p (outcome g.rule (board_of g) p);
   back = λ g p before at are e. cc;
 }) where
@@ -86,7 +87,8 @@ answers-append s (c ∷ cs) ds no_end =
     let goes_on : step.reaction ≢ Ends = λ e. first_goes_on c cs no_end (only_end_ends s c e) in
     ap (then_answers step.reaction) (answers-append step.next cs ds (later_go_on c cs no_end))
     ∙ answers_go_on step.reaction (answers_from step.next cs) (answers_from (state_after step.next cs) ds) goes_on
-    ∙ ap (λ t. then_answers step.reaction (answers_from step.next cs) ++ answers_from t ds) (sym (state_goes_on step.reaction step.next (state_after step.next cs) goes_on))
+    ∙ ap (λ t. then_answers step.reaction (answers_from step.next cs) ++ answers_from t ds)
+    (sym (state_goes_on step.reaction step.next (state_after step.next cs) goes_on))
 
 -- where the brain is after some commands and then others
 pub state-append : (s : State) (cs ds : List Command) → HasNoEnd cs → state_after s (cs ++ ds) ≡ state_after (state_after s cs) ds

@@ -1,5 +1,6 @@
 -- Steps of the brain: the step of a command by what its row says, and the stones of a batch that fit the board.
-use Rattle.std.proofs.Common.{◌≡◌, ℕ, ◌<◌, Bool, true, false, ◌&&◌, ◌||◌, not, refl, sym, ap, subst, ◌∙◌, arith, List, [], ◌∷◌, ◌++◌, length, get_or}
+use Rattle.std.proofs.Common.{◌≡◌, ℕ, ◌<◌, Bool, true, false, ◌&&◌, ◌||◌, not, refl, sym, ap, subst, ◌∙◌, arith, List, [], ◌∷◌, ◌++◌}
+use Rattle.std.proofs.Common.{length, get_or}
 use Rattle.std.specs.Prelude.{Option, Some, None, Result, Ok, Err, IfOk, IfSome, IsOk, IsNone, is_none, is_some, All, ◌==◌, if◌then◌else◌}
 use Rattle.std.proofs.lemmas.List.Elements.{All-push}
 use Rattle.std.proofs.lemmas.List.Quantifiers.{all_pairs_push}
@@ -20,7 +21,8 @@ use Rattle.brain_session.specs.declared.batch.BatchStone.{BatchStone}
 use Rattle.brain_session.specs.States.{Game, Batch, Place, NoBoard, InGame, State, empty_board, point_at}
 use Rattle.brain_session.specs.Batches.{new_batch, spoiled, has_stone_at, with_stone, with_stone_at, game_from}
 use Rattle.brain_session.specs.ChosenMoves.{chosen}
-use Rattle.brain_session.specs.Steps.{Row, Reacts, fails, unread, reading, placed, if_supported, rule_of, with_choice, begin_row, turn_row, takeback_row, batch_row, done_row, board_in, row_of, step_by, brain_step, if_not_reading}
+use Rattle.brain_session.specs.Steps.{Row, Reacts, fails, unread, reading, placed, if_supported, rule_of, with_choice, begin_row, turn_row}
+use Rattle.brain_session.specs.Steps.{takeback_row, batch_row, done_row, board_in, row_of, step_by, brain_step, if_not_reading}
 use Rattle.std.specs.Option.{option_map}
 use Rattle.game_rules.proofs.Boards.{and_left, and_right, on_x}
 use Rattle.brain_session.specs.Running.{IsPlace, IsBrain, StonesFit}
@@ -34,8 +36,10 @@ none_from (Some x) e = absurd (cc)
 -- ---- the steps of a round
 
 -- the brain answers a TURN, by what its round did
-pub turn-takes : {E : Type 0} (r : Result Reaction E) (s : State) (place new : Place) (rule : Option RuleKind) (at : Option Point) (p : Point) → s.place ≡ place → rule ≡ rule_of s.wish → IsNone s.batch → IsPointOn (board_in place) p at
-    → IfOk r (λ x. (t : State) (q : Point) → IsStateOf s.held place rule t → IsPointOn (board_in place) q at → Takes (turn_row t place q) t x (placed t new)) → IfOk r (λ x. Takes (turn_row s s.place p) s x (record s { place = new }))
+pub turn-takes : {E : Type 0} (r : Result Reaction E) (s : State) (place new : Place) (rule : Option RuleKind) (at : Option Point)
+    (p : Point) → s.place ≡ place → rule ≡ rule_of s.wish → IsNone s.batch → IsPointOn (board_in place) p at
+    → IfOk r (λ x. (t : State) (q : Point) → IsStateOf s.held place rule t → IsPointOn (board_in place) q at
+    → Takes (turn_row t place q) t x (placed t new)) → IfOk r (λ x. Takes (turn_row s s.place p) s x (record s { place = new }))
 turn-takes (Err e) s place new rule at p here by_wish none point rows = tt
 turn-takes (Ok x) s place new rule at p here by_wish none point rows =
     let unread = none_from s.batch none in
@@ -50,7 +54,8 @@ told-on b p (Some q) point = subst (λ (x : Point). is_on b x ≡ true) (sym poi
 
 -- ---- batches
 
-no-stone_at : (stones : List BatchStone) (p : Point) → has_stone_at stones p ≡ false → (k : ℕ) (d : BatchStone) → k < length stones → is_same_point (get_or stones k d).at p ≡ false
+no-stone_at : (stones : List BatchStone) (p : Point) → has_stone_at stones p ≡ false → (k : ℕ) (d : BatchStone) → k < length stones
+    → is_same_point (get_or stones k d).at p ≡ false
 no-stone_at stones p none k d less = by_test (is_same_point (get_or stones k d).at p) refl where
   by_test : (r : Bool) → is_same_point (get_or stones k d).at p ≡ r → r ≡ false
   by_test true e = let some : has_stone_at stones p ≡ true = list_any_at (λ (x : BatchStone). is_same_point x.at p) stones k d less e in cc
@@ -63,18 +68,23 @@ none_fit b = record { on_board = λ k d lt. absurd (omega arith); distinct = λ 
 pub spoiled_fits : (b : Grid) (batch : Batch) → StonesFit b batch → StonesFit b (spoiled batch)
 spoiled_fits b batch fit = record { on_board = fit.on_board; distinct = fit.distinct }
 
-pub stone_fits : (b : Grid) (on : Bool) (batch : Batch) (p : Point) (field : ℕ) → (on ≡ true → is_on b p ≡ true) → StonesFit b batch → StonesFit b (with_stone on batch p field)
+pub stone_fits : (b : Grid) (on : Bool) (batch : Batch) (p : Point) (field : ℕ) → (on ≡ true → is_on b p ≡ true) → StonesFit b batch
+    → StonesFit b (with_stone on batch p field)
 stone_fits b on batch p field there fit = by_tests on (field == 1 || field == 2) (has_stone_at batch.stones p) refl refl where
-  by_tests : (o r t : Bool) → on ≡ o → has_stone_at batch.stones p ≡ t → StonesFit b (if o && r && not t then record batch { stones = batch.stones ++ record { at = p; own = field == 1 } ∷ [] } else spoiled batch)
+  by_tests : (o r t : Bool) → on ≡ o → has_stone_at batch.stones p ≡ t
+      → StonesFit b (if o && r && not t then record batch { stones = batch.stones ++ record { at = p; own = field == 1 } ∷ [] } else spoiled
+      batch)
   by_tests true true false e f = record {
     on_board = All-push (λ x. is_on b x.at ≡ true) batch.stones (record { at = p; own = field == 1 }) fit.on_board (there e);
-    distinct = all_pairs_push (λ x u. is_same_point x.at u.at ≡ false) batch.stones (record { at = p; own = field == 1 }) fit.distinct (no-stone_at batch.stones p f);
+    distinct = all_pairs_push (λ x u. is_same_point x.at u.at ≡ false) batch.stones (record { at = p; own = field == 1 }) fit.distinct
+        (no-stone_at batch.stones p f);
   }
   by_tests true true true e f = spoiled_fits b batch fit
   by_tests true false t e f = spoiled_fits b batch fit
   by_tests false r t e f = spoiled_fits b batch fit
 
-fit-with : (b : Grid) (batch : Batch) (at : Option Point) (field : ℕ) → IfSome at (λ q. is_on b q ≡ true) → StonesFit b batch → StonesFit b (with_stone_at batch at field)
+fit-with : (b : Grid) (batch : Batch) (at : Option Point) (field : ℕ) → IfSome at (λ q. is_on b q ≡ true) → StonesFit b batch
+    → StonesFit b (with_stone_at batch at field)
 fit-with b batch None field on fit = spoiled_fits b batch fit
 fit-with b batch (Some p) field on fit = stone_fits b true batch p field (λ _. on) fit
 
@@ -82,29 +92,38 @@ fit-with b batch (Some p) field on fit = stone_fits b true batch p field (λ _. 
 pub no-board : (rule : RuleKind) (b : Batch) → StonesFit (empty_board 0 0) b → game_from rule (empty_board 0 0) b ≡ None
 unfolding refusal
 no-board rule b fit = by_parts b.bad b.stones fit.on_board where
-  by_parts : (bad : Bool) (stones : List BatchStone) → All (λ x. is_on (empty_board 0 0) x.at ≡ true) stones → game_from rule (empty_board 0 0) (record { stones = stones; bad = bad }) ≡ None
+  by_parts : (bad : Bool) (stones : List BatchStone) → All (λ x. is_on (empty_board 0 0) x.at ≡ true) stones
+      → game_from rule (empty_board 0 0) (record { stones = stones; bad = bad }) ≡ None
   by_parts true stones on = refl
   by_parts false [] on = refl
   by_parts false (x ∷ xs) on = let off : x.at.x < 0 = on_x (empty_board 0 0) x.at (on 0 x (omega arith)) in absurd (omega arith)
 
 -- the brain begins a game from the batch, by what was begun
-pub done-takes : (s : State) (b : Batch) (kind : RuleKind) (r : Reaction) (place : Place) → s.batch ≡ Some b → Some kind ≡ rule_of s.wish → IsBegun s.held (game_from kind (board_in s.place) b) (Some (place, r)) → Takes (done_row s s.batch) s r (placed s place)
+pub done-takes : (s : State) (b : Batch) (kind : RuleKind) (r : Reaction) (place : Place) → s.batch ≡ Some b → Some kind ≡ rule_of s.wish
+    → IsBegun s.held (game_from kind (board_in s.place) b) (Some (place, r)) → Takes (done_row s s.batch) s r (placed s place)
 done-takes s b kind r place read by_wish begun =
     let row : done_row s s.batch ≡ batch_row s (game_from kind (board_in s.place) b) =
-    ap (done_row s) read ∙ ap (λ (o : Option RuleKind). if_supported o (unread s) (λ k. batch_row s (game_from k (board_in s.place) b))) (sym by_wish) in
+    ap (done_row s) read ∙ ap (λ (o : Option RuleKind). if_supported o (unread s) (λ k. batch_row s (game_from k (board_in s.place) b)))
+    (sym by_wish) in
     subst (λ (w : Row). Takes w s r (placed s place)) (sym row) (by_game (game_from kind (board_in s.place) b) begun) where
       by_game : (o : Option Game) → IsBegun s.held o (Some (place, r)) → Takes (batch_row s o) s r (placed s place)
       by_game None begun = absurd begun
-      by_game (Some g) begun = ap (λ (x : Reaction). record { reaction = x; next = placed s (InGame (with_choice g (chosen s.held g))) }) (sym begun.0) ∙ ap (λ (w : Place). record { reaction = r; next = placed s w }) (sym begun.1)
+      by_game (Some g) begun = ap (λ (x : Reaction). record { reaction = x; next = placed s (InGame (with_choice g (chosen s.held g))) })
+          (sym begun.0) ∙ ap (λ (w : Place). record { reaction = r; next = placed s w }) (sym begun.1)
 
-pub done-row : (s : State) (kind : RuleKind) (r : Reaction) (place : Place) → is_some s.batch ≡ true → Some kind ≡ rule_of s.wish → IfSome s.batch (λ b. IsBegun s.held (game_from kind (board_in s.place) b) (Some (place, r))) → Takes (done_row s s.batch) s r (placed s place)
+pub done-row : (s : State) (kind : RuleKind) (r : Reaction) (place : Place) → is_some s.batch ≡ true → Some kind ≡ rule_of s.wish
+    → IfSome s.batch (λ b. IsBegun s.held (game_from kind (board_in s.place) b) (Some (place, r)))
+    → Takes (done_row s s.batch) s r (placed s place)
 done-row s kind r place read by_wish begun = by_batch s.batch refl read begun where
-  by_batch : (o : Option Batch) → s.batch ≡ o → is_some o ≡ true → IfSome o (λ b. IsBegun s.held (game_from kind (board_in s.place) b) (Some (place, r))) → Takes (done_row s s.batch) s r (placed s place)
+  by_batch : (o : Option Batch) → s.batch ≡ o → is_some o ≡ true
+      → IfSome o (λ b. IsBegun s.held (game_from kind (board_in s.place) b) (Some (place, r)))
+      → Takes (done_row s s.batch) s r (placed s place)
   by_batch None e read begun = absurd (cc)
   by_batch (Some b) e read begun = done-takes s b kind r place e by_wish begun
 
 -- without a board nothing is begun
-pub none-begun : (h : HeldTable) (kind : RuleKind) (place : Place) (o : Option Batch) → place ≡ NoBoard → IfSome o (StonesFit (board_in place)) → IfSome o (λ b. IsBegun h (game_from kind (board_in place) b) None)
+pub none-begun : (h : HeldTable) (kind : RuleKind) (place : Place) (o : Option Batch) → place ≡ NoBoard
+    → IfSome o (StonesFit (board_in place)) → IfSome o (λ b. IsBegun h (game_from kind (board_in place) b) None)
 none-begun h kind place None none fit = tt
 none-begun h kind place (Some b) none fit =
     let nothing : game_from kind (board_in place) b ≡ None =
@@ -112,20 +131,24 @@ none-begun h kind place (Some b) none fit =
     subst (λ (g : Option Game). IsBegun h g None) (sym nothing) tt
 
 -- the batch that fits after a line
-fit-after : (b : Grid) (old : Option Batch) (at : Option Point) (field : ℕ) → IfSome at (λ q. is_on b q ≡ true) → IfSome old (StonesFit b) → IfSome (option_map (λ x. with_stone_at x at field) old) (StonesFit b)
+fit-after : (b : Grid) (old : Option Batch) (at : Option Point) (field : ℕ) → IfSome at (λ q. is_on b q ≡ true) → IfSome old (StonesFit b)
+    → IfSome (option_map (λ x. with_stone_at x at field) old) (StonesFit b)
 fit-after b None at field on fit = tt
 fit-after b (Some x) at field on fit = fit-with b x at field on fit
 
 -- the brain as it stands after the line, by what the batch became
-pub stone-running : (s : State) (p : Point) (at : Option Point) (field : ℕ) (next : Option Batch) → IsBrain s → IsPointOn (board_in s.place) p at → next ≡ option_map (λ x. with_stone_at x at field) s.batch → IsBrain (record s { batch = next })
+pub stone-running : (s : State) (p : Point) (at : Option Point) (field : ℕ) (next : Option Batch) → IsBrain s
+    → IsPointOn (board_in s.place) p at → next ≡ option_map (λ x. with_stone_at x at field) s.batch → IsBrain (record s { batch = next })
 stone-running s p at field next brain point is = record {
   held = brain.held;
   place = brain.place;
-  batch = subst (λ (o : Option Batch). IfSome o (StonesFit (board_in s.place))) (sym is) (fit-after (board_in s.place) s.batch at field (told-on (board_in s.place) p at point) brain.batch);
+  batch = subst (λ (o : Option Batch). IfSome o (StonesFit (board_in s.place))) (sym is)
+      (fit-after (board_in s.place) s.batch at field (told-on (board_in s.place) p at point) brain.batch);
 }
 
 -- the brain in another place, where no batch is read
-pub placed-running : (s : State) (place : Place) → IsHeld s.held → IsNone s.batch → IsPlace s.held place → IsBrain (record s { place = place })
+pub placed-running : (s : State) (place : Place) → IsHeld s.held → IsNone s.batch → IsPlace s.held place
+    → IsBrain (record s { place = place })
 placed-running s place held none is = record {
   held = held;
   place = is;
@@ -134,7 +157,8 @@ placed-running s place held none is = record {
 
 -- ---- the step of each command
 
-outside-row : (s : State) (c : Command) (b : Batch) → has_no_place_in_batch c ≡ true → s.batch ≡ Some b → row_of s c ≡ Reacts Silent (reading s (spoiled b))
+outside-row : (s : State) (c : Command) (b : Batch) → has_no_place_in_batch c ≡ true → s.batch ≡ Some b
+    → row_of s c ≡ Reacts Silent (reading s (spoiled b))
 unfolding row_of
 outside-row s Begin b e read = ap (λ (o : Option Batch). if_not_reading s o (λ _. begin_row s s.place)) read
 outside-row s (Turn x y) b e read = ap (λ (o : Option Batch). if_not_reading s o (λ _. turn_row s s.place (point_at x y))) read
@@ -144,16 +168,19 @@ outside-row s Unknown b e read = ap (λ (o : Option Batch). if_not_reading s o (
 outside-row s _ b e read = absurd (cc)
 
 -- a command that has no place in the batch that is read
-pub spoiled-step : (s : State) (c : Command) → is_spoiled s c ≡ true → brain_step s c ≡ record { reaction = Silent; next = record s { batch = option_map spoiled s.batch } }
+pub spoiled-step : (s : State) (c : Command) → is_spoiled s c ≡ true
+    → brain_step s c ≡ record { reaction = Silent; next = record s { batch = option_map spoiled s.batch } }
 spoiled-step s c e = by_batch s.batch refl (and_left (is_some s.batch) (has_no_place_in_batch c) e) where
-  by_batch : (o : Option Batch) → s.batch ≡ o → is_some s.batch ≡ true → brain_step s c ≡ record { reaction = Silent; next = record s { batch = option_map spoiled s.batch } }
+  by_batch : (o : Option Batch) → s.batch ≡ o → is_some s.batch ≡ true
+      → brain_step s c ≡ record { reaction = Silent; next = record s { batch = option_map spoiled s.batch } }
   by_batch None read some = absurd (cc)
   by_batch (Some b) read some =
       ap (step_by s) (outside-row s c b (and_right (is_some s.batch) (has_no_place_in_batch c) e) read)
       ∙ ap (λ (o : Option Batch). record { reaction = Silent; next = record s { batch = option_map spoiled o } }) (sym read)
 
 -- the step of a command is that of the one that it is
-pub at-command : {E : Type 0} (r : Result Reaction E) (s new : State) (c d : Command) → c ≡ d → IfOk r (λ x. Takes (row_of s d) s x new) → IfOk r (λ x. Takes (row_of s c) s x new)
+pub at-command : {E : Type 0} (r : Result Reaction E) (s new : State) (c d : Command) → c ≡ d → IfOk r (λ x. Takes (row_of s d) s x new)
+    → IfOk r (λ x. Takes (row_of s c) s x new)
 at-command r s new c d e takes = subst (λ (b : Command). IfOk r (λ x. Takes (row_of s b) s x new)) (sym e) takes
 
 pub said-at : (s new : State) (c d : Command) (r : Reaction) → c ≡ d → Takes (row_of s d) s r new → Takes (row_of s c) s r new
@@ -163,18 +190,21 @@ said-at s new c d r e takes = subst (λ (b : Command). Takes (row_of s b) s r ne
 pub row-unread : (s : State) (row : Row) → IsNone s.batch → if_not_reading s s.batch (λ _. row) ≡ row
 row-unread s row none = ap (λ (o : Option Batch). if_not_reading s o (λ _. row)) (none_from s.batch none)
 
-pub if-unread : {E : Type 0} (r : Result Reaction E) (s new : State) (row : Row) → IsNone s.batch → IfOk r (λ x. Takes row s x new) → IfOk r (λ x. Takes (if_not_reading s s.batch (λ _. row)) s x new)
+pub if-unread : {E : Type 0} (r : Result Reaction E) (s new : State) (row : Row) → IsNone s.batch → IfOk r (λ x. Takes row s x new)
+    → IfOk r (λ x. Takes (if_not_reading s s.batch (λ _. row)) s x new)
 if-unread r s new row none takes = subst (λ (w : Row). IfOk r (λ x. Takes w s x new)) (sym (row-unread s row none)) takes
 
-pub said-unread : (s new : State) (row : Row) (r : Reaction) → IsNone s.batch → Takes row s r new → Takes (if_not_reading s s.batch (λ _. row)) s r new
+pub said-unread : (s new : State) (row : Row) (r : Reaction) → IsNone s.batch → Takes row s r new
+    → Takes (if_not_reading s s.batch (λ _. row)) s r new
 said-unread s new row r none takes = subst (λ (w : Row). Takes w s r new) (sym (row-unread s row none)) takes
 
 -- a command that has no place in a batch is taken only where none is read
 pub unread-at : (s : State) (c d : Command) → c ≡ d → has_no_place_in_batch d ≡ true → is_spoiled s c ≡ false → IsNone s.batch
-unread-at s c d same outside e = by_some (is_some s.batch) (ap (λ (r : Bool). is_some s.batch && r) (sym (ap has_no_place_in_batch same ∙ outside)) ∙ e) where
-  by_some : (r : Bool) → (r && true) ≡ false → r ≡ false
-  by_some true e = e
-  by_some false e = refl
+unread-at s c d same outside e = by_some (is_some s.batch)
+    (ap (λ (r : Bool). is_some s.batch && r) (sym (ap has_no_place_in_batch same ∙ outside)) ∙ e) where
+      by_some : (r : Bool) → (r && true) ≡ false → r ≡ false
+      by_some true e = e
+      by_some false e = refl
 
 -- a batch that is done and takes none: no game begins from it, or there is no rule
 pub done-free : {E : Type 0} (r : Result Reaction E) (s : State) (c : Command) → c ≡ Done → (begins_none s.batch ≡ true → IsOk r)
@@ -189,10 +219,14 @@ done-free r s c is none unsupported free = by_batch (begins_none s.batch) (rule_
           let some : is_none (rule_of s.wish) ≡ false = ap is_none f in absurd (cc)
 
 -- a TURN that takes no memory
-pub turn-free : {E : Type 0} (r : Result Reaction E) (s : State) (c : Command) (x y : ℕ) → c ≡ Turn x y → IsNone s.batch → (is_following s.place ≡ true → IsOk r) → (is_settled s.held (turn_row s s.place (point_at x y)) ≡ true → IsOk r) → takes_none s c ≡ true → IsOk r
+pub turn-free : {E : Type 0} (r : Result Reaction E) (s : State) (c : Command) (x y : ℕ) → c ≡ Turn x y → IsNone s.batch
+    → (is_following s.place ≡ true → IsOk r) → (is_settled s.held (turn_row s s.place (point_at x y)) ≡ true → IsOk r)
+    → takes_none s c ≡ true → IsOk r
 unfolding row_of
-turn-free r s c x y is none following settled free = by_following (is_following s.place) refl (subst (λ (d : Command). takes_none s d ≡ true) is free) where
-  by_following : (t : Bool) → is_following s.place ≡ t → takes_none s (Turn x y) ≡ true → IsOk r
-  by_following true e free = following e
-  by_following false e free =
-      settled (ap (is_settled s.held) (sym (row-unread s (turn_row s s.place (point_at x y)) none)) ∙ ap (λ (t : Bool). t || is_settled s.held (row_of s (Turn x y))) (sym e) ∙ free)
+turn-free r s c x y is none following settled free =
+    by_following (is_following s.place) refl (subst (λ (d : Command). takes_none s d ≡ true) is free) where
+      by_following : (t : Bool) → is_following s.place ≡ t → takes_none s (Turn x y) ≡ true → IsOk r
+      by_following true e free = following e
+      by_following false e free =
+          settled (ap (is_settled s.held) (sym (row-unread s (turn_row s s.place (point_at x y)) none))
+          ∙ ap (λ (t : Bool). t || is_settled s.held (row_of s (Turn x y))) (sym e) ∙ free)

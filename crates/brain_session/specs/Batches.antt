@@ -1,5 +1,6 @@
 -- Positions that are sent stone by stone.
-use Rattle.std.specs.Prelude.{ℕ, ◌+◌, Bool, true, false, ◌&&◌, ◌||◌, not, ◌==◌, if◌then◌else◌, List, [], ◌∷◌, ◌++◌, Option, Some, None, is_none}
+use Rattle.std.specs.Prelude.{ℕ, ◌+◌, Bool, true, false, ◌&&◌, ◌||◌, not, ◌==◌, if◌then◌else◌, List, [], ◌∷◌, ◌++◌, Option, Some, None}
+use Rattle.std.specs.Prelude.{is_none}
 use Rattle.std.specs.List.{fold, list_any, count_by}
 use Rattle.std.specs.Option.{option_and_then}
 use Rattle.game_rules.specs.Grid.{Grid, put}
@@ -29,7 +30,8 @@ has_stone_at stones p = list_any (λ s. is_same_point s.at p) stones
 -- one of the opponent; a point off the board, another field and a point that has a stone make the batch bad
 abbrev pub with_stone : Bool → Batch → Point → ℕ → Batch
 with_stone on b p field =
-    if on && (field == 1 || field == 2) && not (has_stone_at b.stones p) then record b { stones = b.stones ++ record { at = p; own = field == 1 } ∷ [] }
+    if on && (field == 1 || field == 2) && not (has_stone_at b.stones p) then record b
+    { stones = b.stones ++ record { at = p; own = field == 1 } ∷ [] }
     else spoiled b
 
 -- the same where the point is told only if it is on the board

@@ -3,7 +3,8 @@ use Rattle.strategy_graph.specs.declared.roots.Root.TheVariants.{Attack, Defend}
 use Rattle.strategy_graph.specs.declared.roots.Root.{Root}
 use Rattle.game_rules.specs.Games.{LosesOr}
 use Rattle.gomocup_text.specs.Commands.{commands}
-use Rattle.std.specs.Prelude.{◌≡◌, ℕ, ◌<◌, ◌≤◌, Bool, true, false, if◌then◌else◌, List, [], ◌∷◌, ◌++◌, map, length, Some, None, Contains, All, ◌⊎◌}
+use Rattle.std.specs.Prelude.{◌≡◌, ℕ, ◌<◌, ◌≤◌, Bool, true, false, if◌then◌else◌, List, [], ◌∷◌, ◌++◌, map, length, Some, None, Contains}
+use Rattle.std.specs.Prelude.{All, ◌⊎◌}
 use Rattle.game_rules.specs.Grid.{Grid, is_empty}
 use Rattle.game_rules.specs.Play.{outcome, after, is_foul}
 use Rattle.game_rules.specs.declared.RuleKind.{RuleKind}
@@ -16,7 +17,8 @@ use Rattle.strategy_graph.specs.Games.{End, Won, Lost, Drawn, NoMove, Open, Ille
 use Rattle.strategy_checker.specs.declared.held.HeldRoot.{HeldRoot}
 use Rattle.strategy_checker.specs.HeldRoots.{HeldTable, IsHeld}
 use Rattle.gomocup_text.specs.declared.Command.{Command}
-use Rattle.gomocup_text.specs.declared.Command.TheVariants.{Start, RectStart, Begin, Turn, Board, Stone, Done, Restart, Takeback, Rule, Info, About, End as EndCommand, Blank, Malformed, Unknown}
+use Rattle.gomocup_text.specs.declared.Command.TheVariants.{Start, RectStart, Begin, Turn, Board, Stone, Done, Restart, Takeback, Rule}
+use Rattle.gomocup_text.specs.declared.Command.TheVariants.{Info, About, End as EndCommand, Blank, Malformed, Unknown}
 use Rattle.gomocup_text.specs.declared.Answer.{Answer}
 use Rattle.gomocup_text.specs.declared.Answer.TheVariants.{Move, Error}
 use Rattle.gomocup_text.specs.declared.ErrorText.TheVariants.{BadMove, UnsupportedRule, GameOver, OpponentFoul}
@@ -156,7 +158,8 @@ StartsAreTight = (held : HeldTable) → IsHeld held → All (λ r. IsTight r.kin
 abbrev pub AreReplies : RuleKind → Grid → List Point → List Point → Type 0
 AreReplies rule b ps [] = Unit {0}
 AreReplies rule b [] (q ∷ qs) = ⊥
-AreReplies rule b (p ∷ ps) (q ∷ qs) = (outcome rule b p ≡ GoesOn) × (is_empty (after b p) q ≡ true) × AreReplies rule (after (after b p) q) ps qs
+AreReplies rule b (p ∷ ps) (q ∷ qs) = (outcome rule b p ≡ GoesOn) × (is_empty (after b p) q ≡ true)
+    × AreReplies rule (after (after b p) q) ps qs
 
 -- who answers by the table from node i at b on wins within d attacks, whatever legal replies come, or they have run out
 abbrev pub WinsGames : RuleKind → List Node → ℕ → Grid → ℕ → Type 0

@@ -1,6 +1,7 @@
 -- How the state is kept: what a board with its moves, a course of a game and a guide mean.
 use Rattle.brain_session.specs.Running.{IsRunning}
-use Rattle.std.specs.Prelude.{◌≡◌, ℕ, ◌+◌, ◌-◌, ◌<◌, ◌≤◌, Bool, true, false, List, [], ◌∷◌, length, Option, Some, None, IfSome, MatchOption, is_none, is_some, ◌&&◌, if◌then◌else◌}
+use Rattle.std.specs.Prelude.{◌≡◌, ℕ, ◌+◌, ◌-◌, ◌<◌, ◌≤◌, Bool, true, false, List, [], ◌∷◌, length, Option, Some, None, IfSome, MatchOption}
+use Rattle.std.specs.Prelude.{is_none, is_some, ◌&&◌, if◌then◌else◌}
 use Rattle.std.specs.Option.{option_map}
 use Rattle.game_rules.specs.Grid.{Grid, IsBoard, is_on, is_empty, empties_of}
 use Rattle.game_rules.specs.Shapes.{is_same_point}
@@ -20,7 +21,8 @@ use Rattle.brain_session.specs.declared.guide.Guide.TheVariants.{HeldNode as Hel
 use Rattle.brain_session.specs.declared.course.Course.{Course}
 use Rattle.brain_session.specs.declared.choice.Picked.{Picked}
 use Rattle.brain_session.specs.declared.own_win.OwnTable.{OwnTable}
-use Rattle.brain_session.specs.States.{Followed, HeldNode, OwnWin, Game, board_after, board_of, empty_board, Place, NoBoard, Fresh, InGame, State}
+use Rattle.brain_session.specs.States.{Followed, HeldNode, OwnWin, Game, board_after, board_of, empty_board, Place, NoBoard, Fresh, InGame}
+use Rattle.brain_session.specs.States.{State}
 use Rattle.gomocup_text.specs.declared.Command.{Command}
 use Rattle.gomocup_text.specs.declared.Command.TheVariants.{Begin, Turn, Takeback, Malformed, Unknown}
 use Rattle.gomocup_text.specs.declared.Answer.TheVariants.{Move}
@@ -62,7 +64,14 @@ followed_of (OwnGuide own) = OwnWin own.moves
 
 -- the game of this course with these moves
 abbrev pub game_of : Moves → Course → Game
-game_of m c = record { rule = c.kind; start = m.start; moves = m.moves; brain = c.brain; ended = c.ended; followed = option_map followed_of c.guide }
+game_of m c = record {
+  rule = c.kind;
+  start = m.start;
+  moves = m.moves;
+  brain = c.brain;
+  ended = c.ended;
+  followed = option_map followed_of c.guide;
+}
 
 -- the place where a board with these moves has this course, or none yet
 abbrev pub place_of : Moves → Option Course → Place
@@ -127,7 +136,8 @@ pub record StandsAt (h : HeldTable) (rule : RuleKind) (b : Grid) (guide : Guide)
 -- the guide after the reply q, if its node answers it
 abbrev pub guide_after : HeldTable → Guide → Point → Option Guide
 guide_after h (HeldGuide node) q = option_map (λ j. HeldGuide j) (answer_at h.table node q)
-guide_after h (OwnGuide own) q = option_map (λ j. OwnGuide (record own { node = j; moves = own.moves - 1 })) (answer_at own.table own.node q)
+guide_after h (OwnGuide own) q = option_map (λ j. OwnGuide (record own { node = j; moves = own.moves - 1 }))
+    (answer_at own.table own.node q)
 
 -- the guide, if there is one, names a node of its table
 abbrev pub IsInTable : HeldTable → Guide → Type 0

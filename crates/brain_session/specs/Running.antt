@@ -12,7 +12,8 @@ use Rattle.game_rules.specs.declared.Point.{Point}
 use Rattle.strategy_graph.specs.Tables.{answer_at}
 use Rattle.strategy_graph.specs.Acceptance.{Answered, Accepted}
 use Rattle.strategy_checker.specs.HeldRoots.{HeldTable, IsHeld}
-use Rattle.brain_session.specs.States.{Followed, HeldNode, OwnWin, Game, board_after, board_of, empty_board, Batch, Place, NoBoard, Fresh, InGame, State}
+use Rattle.brain_session.specs.States.{Followed, HeldNode, OwnWin, Game, board_after, board_of, empty_board, Batch, Place, NoBoard, Fresh}
+use Rattle.brain_session.specs.States.{InGame, State}
 use Rattle.brain_session.specs.Steps.{board_in}
 
 -- each of these moves went on, from a lawful position
@@ -38,11 +39,12 @@ abbrev pub IsPlayed : Bool → RuleKind → Grid → List Point → Type 0
 IsPlayed true rule start moves = EndsAlong rule start moves
 IsPlayed false rule start moves = GoesOnAlong rule start moves
 
--- What is followed goes on at b, where the opponent is to move: a node is one of the table, and each move there is none, fouls, or goes on to a board where
--- the answer of the node to it is accepted, or where the brain still wins by fours within the moves that are left.
+-- What is followed goes on at b, where the opponent is to move: a node is one of the table, and each move there is none, fouls, or goes on
+-- to a board where the answer of the node to it is accepted, or where the brain still wins by fours within the moves that are left.
 abbrev pub FollowsAt : HeldTable → RuleKind → Grid → Followed → Type 0
 FollowsAt h rule b (HeldNode i) =
-    (i < length h.table) × ((q : Point) → LosesOr (outcome rule b q) (Answered (answer_at h.table i q) (λ j. Accepted rule h.table j (after b q))))
+    (i < length h.table) × ((q : Point) → LosesOr (outcome rule b q)
+    (Answered (answer_at h.table i q) (λ j. Accepted rule h.table j (after b q))))
 FollowsAt h rule b (OwnWin moves) = (q : Point) → LosesOr (outcome rule b q) (WinsByFours rule (moves - 1) (after b q))
 
 -- what is followed, if anything, goes on where the game is not ended

@@ -18,7 +18,8 @@ use Rattle.brain_session.specs.Sessions.{answers_from, answer_texts, state_after
 use Rattle.brain_session.specs.Memory.{takes_none}
 
 -- the reader took bytes of the source, and told the lines of these commands
-pub record TakesCommands (old : ReaderState) (left : Option (List ℕ)) (told : List Command) (new : ReaderState) (left_after : Option (List ℕ)) : Type 0 where
+pub record TakesCommands (old : ReaderState) (left : Option (List ℕ)) (told : List Command) (new : ReaderState)
+    (left_after : Option (List ℕ)) : Type 0 where
   pub lines : List LineText
   pub takes : TakesLines old left lines new left_after
   pub are : told ≡ map command_told lines

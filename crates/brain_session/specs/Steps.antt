@@ -12,10 +12,13 @@ use Rattle.game_rules.specs.declared.Outcome.{Outcome}
 use Rattle.game_rules.specs.declared.Outcome.TheVariants.{Refused, Wins, Fouls, Draws, GoesOn}
 use Rattle.game_rules.specs.declared.Point.{Point}
 use Rattle.gomocup_text.specs.declared.Command.{Command}
-use Rattle.gomocup_text.specs.declared.Command.TheVariants.{Start, RectStart, Begin, Turn, Board, Stone, Done, Restart, Takeback, Rule, Info, About, End, Blank, Malformed, Unknown}
+use Rattle.gomocup_text.specs.declared.Command.TheVariants.{Start, RectStart, Begin, Turn, Board, Stone, Done, Restart, Takeback, Rule}
+use Rattle.gomocup_text.specs.declared.Command.TheVariants.{Info, About, End, Blank, Malformed, Unknown}
 use Rattle.gomocup_text.specs.declared.Answer.TheVariants.{Ok as SaysOk, Move, About as SaysAbout, Error, Unknown as SaysUnknown}
 use Rattle.gomocup_text.specs.declared.ErrorText.{ErrorText}
-use Rattle.gomocup_text.specs.declared.ErrorText.TheVariants.{UnsupportedSize, NoBoard as NoBoardText, NotReading, UnsupportedRule, BadBoard, BadArguments, GameStarted, GameOver, WrongTurn, BadMove, GameLost, OpponentFoul, GameDrawn}
+use Rattle.gomocup_text.specs.declared.ErrorText.TheVariants.{UnsupportedSize, NoBoard as NoBoardText, NotReading, UnsupportedRule}
+use Rattle.gomocup_text.specs.declared.ErrorText.TheVariants.{BadBoard, BadArguments, GameStarted, GameOver, WrongTurn, BadMove, GameLost}
+use Rattle.gomocup_text.specs.declared.ErrorText.TheVariants.{OpponentFoul, GameDrawn}
 use Rattle.brain_session.specs.declared.Reaction.{Reaction}
 use Rattle.brain_session.specs.declared.Reaction.TheVariants.{Silent, Says, Ends}
 use Rattle.brain_session.specs.States.{Game, board_of, empty_board, new_game, point_at, Place, NoBoard, Fresh, InGame, Batch, State}
@@ -128,7 +131,8 @@ move_row s g p GoesOn = Chooses (with_move g p false)
 abbrev pub turn_row : State → Place → Point → Row
 turn_row s NoBoard p = fails NoBoardText s
 turn_row s (Fresh width height) p =
-    if_supported (rule_of s.wish) s (λ rule. let g = new_game rule (empty_board width height) White in move_row s g p (outcome rule (board_of g) p))
+    if_supported (rule_of s.wish) s
+    (λ rule. let g = new_game rule (empty_board width height) White in move_row s g p (outcome rule (board_of g) p))
 turn_row s (InGame g) p =
     if g.ended then fails GameOver s
     else if same_side (mover (board_of g)) g.brain then fails WrongTurn s
@@ -141,7 +145,8 @@ is_bare b = stones_of b Black == 0 && stones_of b White == 0
 -- the place after the last move was taken back and these are left: that of a board without a game, where nothing is left of a
 -- game from the empty board
 abbrev pub place_before : Game → List Point → Place
-place_before g [] = if is_bare g.start then Fresh g.start.width g.start.height else InGame (record g { moves = []; ended = false; followed = None })
+place_before g [] = if is_bare g.start then Fresh g.start.width g.start.height else InGame
+    (record g { moves = []; ended = false; followed = None })
 place_before g (p ∷ before) = InGame (record g { moves = p ∷ before; ended = false; followed = None })
 
 -- the move p of the game, of which these are the moves, is taken back, if it is the last

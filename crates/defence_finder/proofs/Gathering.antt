@@ -30,7 +30,8 @@ use Rattle.defence_finder.specs.declared.finder.Verdict.TheVariants.{NoReply, Ho
 module _ (rule : RuleKind) (n budget : ℕ) (b : Grid) (t u : List Node) (k : ℕ) (lower : NamesLower t) (grown : GrowsBy t u k) where
   pub found-grown : (good : List Point) (bad : List Reply) (left : List Point) → AreFound rule n budget b t good bad left
       → AreFound rule n budget b u good bad left
-  found-grown good bad left h = record { good_are = h.good_are; bad_are = h.bad_are; each = beaten-grown rule n b t u k lower grown bad h.each; enough = h.enough }
+  found-grown good bad left h =
+      record { good_are = h.good_are; bad_are = h.bad_are; each = beaten-grown rule n b t u k lower grown bad h.each; enough = h.enough }
 
 -- ---- one move more
 

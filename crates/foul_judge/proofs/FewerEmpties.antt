@@ -1,11 +1,15 @@
 -- A white stone takes away no more than Black's means: where Black's stone was no foul and fewer than two axes had three points of
 -- it, it is none after a white stone elsewhere either.
-use Rattle.std.proofs.Common.{◌≡◌, Bool, true, false, ◌&&◌, ◌||◌, refl, add-one, inl, inr, ℕ, ◌+◌, ◌-◌, ◌≤◌, ◌<◌, not, sym, ap, subst, ◌∙◌, arith, nat_eq, nat_le}
+use Rattle.std.proofs.Common.{◌≡◌, Bool, true, false, ◌&&◌, ◌||◌, refl, add-one, inl, inr, ℕ, ◌+◌, ◌-◌, ◌≤◌, ◌<◌, not, sym, ap, subst, ◌∙◌}
+use Rattle.std.proofs.Common.{arith, nat_eq, nat_le}
 use Rattle.std.specs.Prelude.{Option, ◌==◌, Some, None, is_none}
 use Rattle.std.specs.List.{sum_by, count_by}
 use Rattle.std.proofs.lemmas.Bool.{or_right}
 use Rattle.std.proofs.lemmas.Bool.Decides.{nat_tests}
-use Rattle.game_rules.proofs.Common.{Grid, IsBoard, is_empty, put, is_on, along, axes, points_of, holds, stone_foul, black_foul, black_foul_within, is_three, row_wins, run_of, stone_at, wins_on, wins_at, place_stone, place_wins, fours_of, is_line_three_point, is_line_three_at, is_three_point, three_points_of, five, opposite, towards, stones_towards, go}
+use Rattle.game_rules.proofs.Common.{Grid, IsBoard, is_empty, put, is_on, along, axes, points_of, holds, stone_foul, black_foul}
+use Rattle.game_rules.proofs.Common.{black_foul_within, is_three, row_wins, run_of, stone_at, wins_on, wins_at, place_stone, place_wins}
+use Rattle.game_rules.proofs.Common.{fours_of, is_line_three_point, is_line_three_at, is_three_point, three_points_of, five, opposite}
+use Rattle.game_rules.proofs.Common.{towards, stones_towards, go}
 use Rattle.game_rules.specs.declared.RuleKind.{RuleKind}
 use Rattle.game_rules.specs.declared.Foul.{Foul}
 use Rattle.game_rules.specs.declared.Point.{Point}
@@ -14,7 +18,8 @@ use Rattle.game_rules.specs.declared.Way.{Way}
 use Rattle.game_rules.specs.declared.Side.TheVariants.{Black, White}
 use Rattle.game_rules.specs.declared.Axis.TheVariants.{Row, Column, Down, Up}
 use Rattle.game_rules.specs.declared.Way.TheVariants.{Ahead, Behind}
-use Rattle.game_rules.proofs.Boards.{empties_of-put, Apart, and_left, and_right, is_empty-on, is_empty-put, same_or_apart, holds-put_other, holds-put_same}
+use Rattle.game_rules.proofs.Boards.{empties_of-put, Apart, and_left, and_right, is_empty-on, is_empty-put, same_or_apart, holds-put_other}
+use Rattle.game_rules.proofs.Boards.{holds-put_same}
 use Rattle.game_rules.proofs.Positions.{IsBoard-put, holds-other}
 use Rattle.game_rules.proofs.Rows.{any_found}
 use Rattle.game_rules.proofs.OneLine.{empty-before, towards_alike, wins_alike}
@@ -28,7 +33,8 @@ use Rattle.row_shapes.proofs.Counting.{fours_of-gap}
 use Rattle.row_shapes.proofs.ThreePoints.{three-open, three_first, three_near}
 use Rattle.foul_judge.specs.ShortCut.{has_line_three}
 
-four_more : (n s w c v w' v' : Bool) → (w ≡ true → w' ≡ true) → (v ≡ true → v' ≡ true) → (n && s && (w || (c && v))) ≡ true → (n && s && (w' || (c && v'))) ≡ true
+four_more : (n s w c v w' v' : Bool) → (w ≡ true → w' ≡ true) → (v ≡ true → v' ≡ true) → (n && s && (w || (c && v))) ≡ true
+    → (n && s && (w' || (c && v'))) ≡ true
 four_more false s w c v w' v' f g h = cc
 four_more true false w c v w' v' f g h = cc
 four_more true true true c v w' v' f g h = rw (f refl) refl
@@ -37,7 +43,8 @@ four_more true true false true false w' v' f g h = cc
 four_more true true false false v w' v' f g h = cc
 
 -- a foul, one stone on
-foul_step : (rule : RuleKind) (b : Grid) (p : Point) → IsBoard b → is_empty b p ≡ true → (f : Point → Option Foul) × (black_foul rule b p ≡ stone_foul rule (put b Black p) p f)
+foul_step : (rule : RuleKind) (b : Grid) (p : Point) → IsBoard b → is_empty b p ≡ true
+    → (f : Point → Option Foul) × (black_foul rule b p ≡ stone_foul rule (put b Black p) p f)
 unfolding black_foul_within black_foul
 foul_step rule b p ok h = (black_foul rule (put b Black p), rw (← empties_of-put b Black p ok h, add-one) refl)
 
@@ -78,7 +85,8 @@ module _ (b : Grid) (q z : Point) (ok : IsBoard b) (free_q : is_empty b q ≡ tr
   holds_same : (r : Point) → holds late Black r ≡ holds early Black r
   holds_same r = elim (same_or_apart q r) [
     | inl same ↦ subst (λ (t : Point). holds late Black t ≡ holds early Black t) same (mine_late ∙ sym mine_early)
-    | inr other ↦ holds-put_other white Black Black q r on_q other ∙ holds-other b White Black z ok free_z refl r ∙ sym (holds-put_other b Black Black q r on_q other)
+    | inr other ↦ holds-put_other white Black Black q r on_q other ∙ holds-other b White Black z ok free_z refl r
+        ∙ sym (holds-put_other b Black Black q r on_q other)
   ]
 
   stone_same : (o : Option Point) → stone_at late Black o ≡ stone_at early Black o
@@ -108,22 +116,36 @@ module _ (b : Grid) (q z : Point) (ok : IsBoard b) (free_q : is_empty b q ≡ tr
 
     -- ---- fours
 
-    four_kept : (d : Axis) (first gap : ℕ) → is_four (place_stone late Black d q) (place_wins rule late Black d q) first gap ≡ true → is_four (place_stone early Black d q) (place_wins rule early Black d q) first gap ≡ true
+    four_kept : (d : Axis) (first gap : ℕ) → is_four (place_stone late Black d q) (place_wins rule late Black d q) first gap ≡ true
+        → is_four (place_stone early Black d q) (place_wins rule early Black d q) first gap ≡ true
     unfolding is_four
     four_kept d first gap h =
         let same : place_stone late Black d q ≡ place_stone early Black d q = λ j i. stone_same (along d q i 4) j in
         subst (λ (stone : ℕ → Bool). is_four stone (place_wins rule early Black d q) first gap ≡ true) same
-        (four_more (not (first == gap)) (are_stones (place_stone late Black d q) first gap) (place_wins rule late Black d q (gap + 4 - first)) (gap == 4) (place_wins rule late Black d q (3 - first)) (place_wins rule early Black d q (gap + 4 - first)) (place_wins rule early Black d q (3 - first)) (fewer_wins_at d (along d q (gap + 4 - first) 4)) (fewer_wins_at d (along d q (3 - first) 4)) h)
+        (four_more (not (first == gap)) (are_stones (place_stone late Black d q) first gap)
+        (place_wins rule late Black d q (gap + 4 - first)) (gap == 4) (place_wins rule late Black d q (3 - first))
+        (place_wins rule early Black d q (gap + 4 - first)) (place_wins rule early Black d q (3 - first))
+        (fewer_wins_at d (along d q (gap + 4 - first) 4)) (fewer_wins_at d (along d q (3 - first) 4)) h)
 
-    fewer_from : (d : Axis) (first : ℕ) → fours_from (place_stone late Black d q) (place_wins rule late Black d q) first ≤ fours_from (place_stone early Black d q) (place_wins rule early Black d q) first
-    fewer_from d first = omega (arith, more_pass _ _ (four_kept d first 1), more_pass _ _ (four_kept d first 2), more_pass _ _ (four_kept d first 3), more_pass _ _ (four_kept d first 4))
+    fewer_from : (d : Axis) (first : ℕ) → fours_from (place_stone late Black d q) (place_wins rule late Black d q) first ≤ fours_from
+        (place_stone early Black d q) (place_wins rule early Black d q) first
+    fewer_from d first = omega (
+      arith,
+      more_pass _ _ (four_kept d first 1),
+      more_pass _ _ (four_kept d first 2),
+      more_pass _ _ (four_kept d first 3),
+      more_pass _ _ (four_kept d first 4),
+    )
 
     fewer_fours : (d : Axis) → fours_of rule late Black d q ≤ fours_of rule early Black d q
-    fewer_fours d = rw (fours_of-gap rule late Black d q, fours_of-gap rule early Black d q) (omega (arith, fewer_from d 0, fewer_from d 1, fewer_from d 2, fewer_from d 3, fewer_from d 4))
+    fewer_fours d = rw (fours_of-gap rule late Black d q, fours_of-gap rule early Black d q)
+        (omega (arith, fewer_from d 0, fewer_from d 1, fewer_from d 2, fewer_from d 3, fewer_from d 4))
 
-    two_fours : nat_le 2 (sum_by (λ d. fours_of rule late Black d q) axes) ≡ true → nat_le 2 (sum_by (λ d. fours_of rule early Black d q) axes) ≡ true
+    two_fours : nat_le 2 (sum_by (λ d. fours_of rule late Black d q) axes) ≡ true
+        → nat_le 2 (sum_by (λ d. fours_of rule early Black d q) axes) ≡ true
     two_fours h =
-        let fewer : sum_by (λ d. fours_of rule late Black d q) axes ≤ sum_by (λ d. fours_of rule early Black d q) axes = omega (arith, fewer_fours Row, fewer_fours Column, fewer_fours Down, fewer_fours Up) in
+        let fewer : sum_by (λ d. fours_of rule late Black d q) axes ≤ sum_by (λ d. fours_of rule early Black d q) axes =
+        omega (arith, fewer_fours Row, fewer_fours Column, fewer_fours Down, fewer_fours Up) in
         grind (arith, nat_tests)
 
     -- ---- threes
@@ -141,10 +163,13 @@ module _ (b : Grid) (q z : Point) (ok : IsBoard b) (free_q : is_empty b q ≡ tr
     and_kept true true false x' y' f g h = cc
     and_kept true true true x' y' f g h = rw (f refl, g refl) refl
 
-    open_kept : (d : Axis) (w : Way) (fore back : ℕ) → is_open_four rule late Black d q w fore back ≡ true → is_open_four rule early Black d q w fore back ≡ true
-    open_kept d w fore back h = and_kept (nat_eq (fore + back) 3) _ _ _ _ (past_kept d w (towards w d q (1 + fore))) (past_kept d (opposite w) (towards (opposite w) d q (1 + back))) h
+    open_kept : (d : Axis) (w : Way) (fore back : ℕ) → is_open_four rule late Black d q w fore back ≡ true
+        → is_open_four rule early Black d q w fore back ≡ true
+    open_kept d w fore back h = and_kept (nat_eq (fore + back) 3) _ _ _ _ (past_kept d w (towards w d q (1 + fore)))
+        (past_kept d (opposite w) (towards (opposite w) d q (1 + back))) h
 
-    line_by : (d : Axis) (r : Point) (w : Way) → go w d q (1 + stones_towards w late Black d q) 0 ≡ Some r → is_line_three_point rule late Black d q r ≡ true → is_line_three_point rule early Black d q r ≡ true
+    line_by : (d : Axis) (r : Point) (w : Way) → go w d q (1 + stones_towards w late Black d q) 0 ≡ Some r
+        → is_line_three_point rule late Black d q r ≡ true → is_line_three_point rule early Black d q r ≡ true
     line_by d r w here h =
         let near = sym (towards_same w d q) in
         let more = sym (towards_same w d r) in
@@ -153,9 +178,11 @@ module _ (b : Grid) (q z : Point) (ok : IsBoard b) (free_q : is_empty b q ≡ tr
         let there : go w d q (1 + stones_towards w early Black d q) 0 ≡ Some r = ap (λ k. go w d q (1 + k) 0) near ∙ here in
         let now = sym (three-open rule late Black w d q r ok_late mine_late free here) ∙ h in
         three-open rule early Black w d q r ok_early mine_early (fewer_empties r free) there
-        ∙ rw (near, more, far) (open_kept d w (1 + stones_towards w late Black d q + stones_towards w late Black d r) (stones_towards (opposite w) late Black d q) now)
+        ∙ rw (near, more, far) (open_kept d w (1 + stones_towards w late Black d q + stones_towards w late Black d r)
+        (stones_towards (opposite w) late Black d q) now)
 
-    line_kept : (d : Axis) (r : Point) → is_line_three_point rule late Black d q r ≡ true → is_line_three_point rule early Black d q r ≡ true
+    line_kept : (d : Axis) (r : Point) → is_line_three_point rule late Black d q r ≡ true
+        → is_line_three_point rule early Black d q r ≡ true
     line_kept d r h = let first = three_first rule late Black d q r ok_late mine_late h in line_by d r first.0 first.1 h
 
     -- an axis that is a three with the white stone had a three point without it
@@ -164,25 +191,37 @@ module _ (b : Grid) (q z : Point) (ok : IsBoard b) (free_q : is_empty b q ≡ tr
     three_kept d f h =
         let some = some_passes (λ r. is_none (f r)) (is_three_point rule late Black d q) (points_of late) h in
         let r = some.0 in
-        let now : is_line_three_point rule late Black d q r ≡ true = and_left _ _ (sym (three_by rule late Black d q r (five rule late Black r) refl) ∙ some.1) in
+        let now : is_line_three_point rule late Black d q r ≡ true =
+        and_left _ _ (sym (three_by rule late Black d q r (five rule late Black r) refl) ∙ some.1) in
         let before = line_kept d r now in
         let place = three_near rule early Black d q ok_early mine_early r before in
         let low = place.1 in
-        any_found (λ i. is_line_three_at rule early Black d q (along d q i 5)) 11 0 place.0 (omega arith) (omega (arith, low)) (ap (is_line_three_at rule early Black d q) place.2 ∙ before)
+        any_found (λ i. is_line_three_at rule early Black d q (along d q i 5)) 11 0 place.0 (omega arith) (omega (arith, low))
+        (ap (is_line_three_at rule early Black d q) place.2 ∙ before)
 
-    few_threes : (f : Point → Option Foul) → count_by (λ d. has_line_three rule early d q) axes < 2 → nat_le 2 (count_by (λ d. is_three rule late d q f) axes) ≡ false
+    few_threes : (f : Point → Option Foul) → count_by (λ d. has_line_three rule early d q) axes < 2
+        → nat_le 2 (count_by (λ d. is_three rule late d q f) axes) ≡ false
     few_threes f few =
         let fewer : count_by (λ d. is_three rule late d q f) axes ≤ count_by (λ d. has_line_three rule early d q) axes =
-        omega (arith, more_pass _ _ (three_kept Row f), more_pass _ _ (three_kept Column f), more_pass _ _ (three_kept Down f), more_pass _ _ (three_kept Up f)) in
+        omega (
+          arith,
+          more_pass _ _ (three_kept Row f),
+          more_pass _ _ (three_kept Column f),
+          more_pass _ _ (three_kept Down f),
+          more_pass _ _ (three_kept Up f),
+        ) in
         grind (arith, nat_tests)
 
     -- ---- the foul
 
-    by_tests : (f g : Point → Option Foul) → count_by (λ d. has_line_three rule early d q) axes < 2 → stone_foul rule early q f ≡ None → stone_foul rule late q g ≡ None
+    by_tests : (f g : Point → Option Foul) → count_by (λ d. has_line_three rule early d q) axes < 2 → stone_foul rule early q f ≡ None
+        → stone_foul rule late q g ≡ None
     unfolding stone_foul
     by_tests f g few h =
         rw (run_same Row, run_same Column, run_same Down, run_same Up)
-        (no_first-fewer _ _ (nat_le 2 (sum_by (λ d. fours_of rule early Black d q) axes)) (nat_le 2 (sum_by (λ d. fours_of rule late Black d q) axes)) (nat_le 2 (count_by (λ d. is_three rule early d q f) axes)) (nat_le 2 (count_by (λ d. is_three rule late d q g) axes)) two_fours (few_threes g few) h)
+        (no_first-fewer _ _ (nat_le 2 (sum_by (λ d. fours_of rule early Black d q) axes))
+        (nat_le 2 (sum_by (λ d. fours_of rule late Black d q) axes)) (nat_le 2 (count_by (λ d. is_three rule early d q f) axes))
+        (nat_le 2 (count_by (λ d. is_three rule late d q g) axes)) two_fours (few_threes g few) h)
 
     pub white-no_foul : count_by (λ d. has_line_three rule early d q) axes < 2 → black_foul rule b q ≡ None → black_foul rule white q ≡ None
     white-no_foul few h =

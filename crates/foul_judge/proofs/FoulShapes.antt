@@ -1,11 +1,13 @@
 -- What the shapes of a point tell of Black's foul there, where Black has fouls.
-use Rattle.std.proofs.Common.{ℕ, zero, suc, ◌+◌, ◌*◌, Bool, cond, ◌≡◌, ◌%◌, true, false, arith, ◌/◌, ◌<◌, sym, ap, ◌∙◌, ◌^◌, ◌≤◌, not, List, refl, nat_eq, nat_le, bit_and}
+use Rattle.std.proofs.Common.{ℕ, zero, suc, ◌+◌, ◌*◌, Bool, cond, ◌≡◌, ◌%◌, true, false, arith, ◌/◌, ◌<◌, sym, ap, ◌∙◌, ◌^◌, ◌≤◌, not, List}
+use Rattle.std.proofs.Common.{refl, nat_eq, nat_le, bit_and}
 use Rattle.std.specs.Int.{bit_at}
 use Rattle.std.specs.List.{sum_by, range_with_len, list_any, count_by}
 use Rattle.std.specs.Prelude.{Some, None, map}
 use Rattle.std.proofs.lemmas.Nat.Bits.{bit_at_lowest, bit_at-suc, bit_at-zero, shr_and_one}
 use Rattle.std.proofs.lemmas.Bool.Decides.{nat_tests}
-use Rattle.game_rules.proofs.Common.{Grid, IsBoard, is_empty, holds, put, axes, along, run_of, fours_of, is_line_three_at, has_fouls, first_foul, is_three, stone_foul, black_foul}
+use Rattle.game_rules.proofs.Common.{Grid, IsBoard, is_empty, holds, put, axes, along, run_of, fours_of, is_line_three_at, has_fouls}
+use Rattle.game_rules.proofs.Common.{first_foul, is_three, stone_foul, black_foul}
 use Rattle.game_rules.specs.declared.RuleKind.{RuleKind}
 use Rattle.game_rules.specs.declared.Axis.{Axis}
 use Rattle.game_rules.specs.declared.Point.{Point}
@@ -40,10 +42,12 @@ half_by false q = omega arith
 halved-bits : (t : ℕ → Bool) (k a i : ℕ) → i < k → bit_at (halved t k a) i ≡ cond (t (a + i)) 1 0
 unfolding halved
 halved-bits t zero a i h = absurd (omega arith)
-halved-bits t (suc k) a zero h = let e : a + 0 ≡ a = omega arith in bit_at_lowest _ ∙ odd_by (t a) (halved t k (a + 1)) ∙ ap (λ j. cond (t j) 1 0) (sym e)
+halved-bits t (suc k) a zero h = let e : a + 0 ≡ a =
+    omega arith in bit_at_lowest _ ∙ odd_by (t a) (halved t k (a + 1)) ∙ ap (λ j. cond (t j) 1 0) (sym e)
 halved-bits t (suc k) a (suc i) h =
     let e : a + suc i ≡ a + 1 + i = omega arith in
-    bit_at-suc _ i ∙ ap (λ n. bit_at n i) (half_by (t a) (halved t k (a + 1))) ∙ halved-bits t k (a + 1) i (omega arith) ∙ ap (λ j. cond (t j) 1 0) (sym e)
+    bit_at-suc _ i ∙ ap (λ n. bit_at n i) (half_by (t a) (halved t k (a + 1))) ∙ halved-bits t k (a + 1) i (omega arith)
+    ∙ ap (λ j. cond (t j) 1 0) (sym e)
 
 times : (r : Bool) (n : ℕ) → cond r n 0 ≡ n * cond r 1 0
 times true n = omega arith
@@ -55,11 +59,37 @@ one_bit false = omega arith
 
 halved-sum : (t : ℕ → Bool) → sum_by (λ i. cond (t i) (2 ^ i) 0) (range_with_len 0 11) ≡ halved t 11 0
 unfolding halved
-halved-sum t = omega (arith, times (t 0) 1, times (t 1) 2, times (t 2) 4, times (t 3) 8, times (t 4) 16, times (t 5) 32, times (t 6) 64, times (t 7) 128, times (t 8) 256, times (t 9) 512, times (t 10) 1024)
+halved-sum t = omega (
+  arith,
+  times (t 0) 1,
+  times (t 1) 2,
+  times (t 2) 4,
+  times (t 3) 8,
+  times (t 4) 16,
+  times (t 5) 32,
+  times (t 6) 64,
+  times (t 7) 128,
+  times (t 8) 256,
+  times (t 9) 512,
+  times (t 10) 1024,
+)
 
 halved-low : (t : ℕ → Bool) → halved t 11 0 < 2 ^ 11
 unfolding halved
-halved-low t = omega (arith, one_bit (t 0), one_bit (t 1), one_bit (t 2), one_bit (t 3), one_bit (t 4), one_bit (t 5), one_bit (t 6), one_bit (t 7), one_bit (t 8), one_bit (t 9), one_bit (t 10))
+halved-low t = omega (
+  arith,
+  one_bit (t 0),
+  one_bit (t 1),
+  one_bit (t 2),
+  one_bit (t 3),
+  one_bit (t 4),
+  one_bit (t 5),
+  one_bit (t 6),
+  one_bit (t 7),
+  one_bit (t 8),
+  one_bit (t 9),
+  one_bit (t 10),
+)
 
 module _ (rule : RuleKind) (b : Grid) (d : Axis) (p : Point) where
   abbrev three_at : ℕ → Bool
@@ -81,10 +111,12 @@ module _ (rule : RuleKind) (b : Grid) (d : Axis) (p : Point) where
 
   -- where there is none, the axis is no three
   pub no_bits : IsBoard b → holds b Black p ≡ true → three_bits rule b Black d p ≡ 0 → is_three rule b d p (black_foul rule b) ≡ false
-  no_bits ok mine none = no_three rule b d p ok mine (λ i low. not_free rule b d p (along d p i 5) (clear (three_at i) (sym (three_bit i low) ∙ ap (λ n. bit_at n i) none ∙ bit_at-zero i))) where
-    clear : (r : Bool) → ◌≡◌ {A = ℕ} (cond r 1 0) 0 → r ≡ false
-    clear true h = absurd (omega arith)
-    clear false h = refl
+  no_bits ok mine none = no_three rule b d p ok mine
+      (λ i low. not_free rule b d p (along d p i 5)
+      (clear (three_at i) (sym (three_bit i low) ∙ ap (λ n. bit_at n i) none ∙ bit_at-zero i))) where
+        clear : (r : Bool) → ◌≡◌ {A = ℕ} (cond r 1 0) 0 → r ≡ false
+        clear true h = absurd (omega arith)
+        clear false h = refl
 
 -- a bit that is set says yes
 pub bit_sets : (n i : ℕ) (r : Bool) → bit_at n i ≡ cond r 1 0 → bit_and (n / 2 ^ i) 1 ≡ 1 → r ≡ true
@@ -137,19 +169,33 @@ module _ (rule : RuleKind) (b : Grid) (p : Point) (ok : IsBoard b) (empty : is_e
     fours = rw (are, fours_told Row, fours_told Column, fours_told Down, fours_told Up) refl
 
     threes : count_by (λ (shape : Shape). not (nat_eq shape.three 0)) shapes ≡ count_by (λ d. has_line_three rule next d p) axes
-    threes = rw (are, three_told Row, three_told Column, three_told Down, three_told Up, three_bits-some rule next Row p, three_bits-some rule next Column p, three_bits-some rule next Down p, three_bits-some rule next Up p) refl
+    threes = rw (
+      are,
+      three_told Row,
+      three_told Column,
+      three_told Down,
+      three_told Up,
+      three_bits-some rule next Row p,
+      three_bits-some rule next Column p,
+      three_bits-some rule next Down p,
+      three_bits-some rule next Up p,
+    ) refl
 
-    foul_is : black_foul rule b p ≡ first_foul (list_any (λ (shape : Shape). shape.five) shapes) (list_any (λ (shape : Shape). shape.over) shapes) (nat_le 2 (sum_by (λ (shape : Shape). shape.fours) shapes)) two
+    foul_is : black_foul rule b p ≡ first_foul (list_any (λ (shape : Shape). shape.five) shapes)
+        (list_any (λ (shape : Shape). shape.over) shapes) (nat_le 2 (sum_by (λ (shape : Shape). shape.fours) shapes)) two
     unfolding stone_foul
     foul_is = foul-step rule b p ok empty ∙ rw (fives, overs, fours) refl
 
-    foul_by : (five over four three : Bool) → five ≡ list_any (λ (shape : Shape). shape.five) shapes → over ≡ list_any (λ (shape : Shape). shape.over) shapes → four ≡ nat_le 2 (sum_by (λ (shape : Shape). shape.fours) shapes) → three ≡ two → black_foul rule b p ≡ first_foul five over four three
+    foul_by : (five over four three : Bool) → five ≡ list_any (λ (shape : Shape). shape.five) shapes
+        → over ≡ list_any (λ (shape : Shape). shape.over) shapes → four ≡ nat_le 2 (sum_by (λ (shape : Shape). shape.fours) shapes)
+        → three ≡ two → black_foul rule b p ≡ first_foul five over four three
     foul_by five over four three e f g h = foul_is ∙ rw (← e, ← f, ← g, ← h) refl
 
     pub by_five : (five : Bool) → five ≡ list_any (λ (shape : Shape). shape.five) shapes → five ≡ true → black_foul rule b p ≡ None
     by_five five e is = foul_by five _ _ _ e refl refl refl ∙ rw is refl
 
-    pub by_over : (five over : Bool) → five ≡ list_any (λ (shape : Shape). shape.five) shapes → over ≡ list_any (λ (shape : Shape). shape.over) shapes → five ≡ false → over ≡ true → black_foul rule b p ≡ Some Overline
+    pub by_over : (five over : Bool) → five ≡ list_any (λ (shape : Shape). shape.five) shapes
+        → over ≡ list_any (λ (shape : Shape). shape.over) shapes → five ≡ false → over ≡ true → black_foul rule b p ≡ Some Overline
     by_over five over e f not_five is = foul_by five over _ _ e f refl refl ∙ rw (not_five, is) refl
 
     enough : (n m : ℕ) → n ≡ m → 2 ≤ n → true ≡ nat_le 2 m
@@ -158,14 +204,22 @@ module _ (rule : RuleKind) (b : Grid) (p : Point) (ok : IsBoard b) (empty : is_e
     few : (n m : ℕ) → n ≡ m → n < 2 → false ≡ nat_le 2 m
     few n m e low = grind (arith, nat_tests)
 
-    pub by_fours : (five over : Bool) (n : ℕ) → five ≡ list_any (λ (shape : Shape). shape.five) shapes → over ≡ list_any (λ (shape : Shape). shape.over) shapes → n ≡ sum_by (λ (shape : Shape). shape.fours) shapes → five ≡ false → over ≡ false → 2 ≤ n → black_foul rule b p ≡ Some DoubleFour
+    pub by_fours : (five over : Bool) (n : ℕ) → five ≡ list_any (λ (shape : Shape). shape.five) shapes
+        → over ≡ list_any (λ (shape : Shape). shape.over) shapes → n ≡ sum_by (λ (shape : Shape). shape.fours) shapes → five ≡ false
+        → over ≡ false → 2 ≤ n → black_foul rule b p ≡ Some DoubleFour
     by_fours five over n e f g not_five not_over low = foul_by five over true _ e f (enough n _ g low) refl ∙ rw (not_five, not_over) refl
 
-    pub by_threes : (five over : Bool) (n : ℕ) (three : Bool) → five ≡ list_any (λ (shape : Shape). shape.five) shapes → over ≡ list_any (λ (shape : Shape). shape.over) shapes → n ≡ sum_by (λ (shape : Shape). shape.fours) shapes → three ≡ two → five ≡ false → over ≡ false → n < 2 → three ≡ true → black_foul rule b p ≡ Some DoubleThree
-    by_threes five over n three e f g h not_five not_over low is = foul_by five over false three e f (few n _ g low) h ∙ rw (not_five, not_over, is) refl
+    pub by_threes : (five over : Bool) (n : ℕ) (three : Bool) → five ≡ list_any (λ (shape : Shape). shape.five) shapes
+        → over ≡ list_any (λ (shape : Shape). shape.over) shapes → n ≡ sum_by (λ (shape : Shape). shape.fours) shapes → three ≡ two
+        → five ≡ false → over ≡ false → n < 2 → three ≡ true → black_foul rule b p ≡ Some DoubleThree
+    by_threes five over n three e f g h not_five not_over low is =
+        foul_by five over false three e f (few n _ g low) h ∙ rw (not_five, not_over, is) refl
 
-    pub by_none : (five over : Bool) (n : ℕ) (three : Bool) → five ≡ list_any (λ (shape : Shape). shape.five) shapes → over ≡ list_any (λ (shape : Shape). shape.over) shapes → n ≡ sum_by (λ (shape : Shape). shape.fours) shapes → three ≡ two → five ≡ false → over ≡ false → n < 2 → three ≡ false → black_foul rule b p ≡ None
-    by_none five over n three e f g h not_five not_over low is = foul_by five over false three e f (few n _ g low) h ∙ rw (not_five, not_over, is) refl
+    pub by_none : (five over : Bool) (n : ℕ) (three : Bool) → five ≡ list_any (λ (shape : Shape). shape.five) shapes
+        → over ≡ list_any (λ (shape : Shape). shape.over) shapes → n ≡ sum_by (λ (shape : Shape). shape.fours) shapes → three ≡ two
+        → five ≡ false → over ≡ false → n < 2 → three ≡ false → black_foul rule b p ≡ None
+    by_none five over n three e f g h not_five not_over low is =
+        foul_by five over false three e f (few n _ g low) h ∙ rw (not_five, not_over, is) refl
 
     -- fewer than two axes with a three point make no two threes
     pub few_lines : (n : ℕ) → n ≡ count_by (λ (shape : Shape). not (nat_eq shape.three 0)) shapes → n < 2 → false ≡ two

@@ -38,7 +38,8 @@ module _ (rule : RuleKind) (b : Grid) where
   won_by_side Black p h = rw h refl
   won_by_side White p h = or_right (wins_through rule b Black p) _ h
 
-  through : (s : Side) (d : Axis) (p : Point) → holds b s p ≡ true → row_wins rule s (run_of b s d p) ≡ true → wins_through rule b s p ≡ true
+  through : (s : Side) (d : Axis) (p : Point) → holds b s p ≡ true → row_wins rule s (run_of b s d p) ≡ true
+      → wins_through rule b s p ≡ true
   through s d p mine wins = and_from (holds b s p) _ mine (axis_of (λ d. row_wins rule s (run_of b s d p)) d wins)
 
   pub unwon_from_none : find (is_on_winning_run rule b) (points_of b) ≡ None → IsUnwon rule b
@@ -64,7 +65,8 @@ module _ (rule : RuleKind) (b : Grid) where
 
   -- ---- both ways
 
-  none_parts : (r : Bool) (o : Option Point) (n : ℕ) (u : PositionError) → cond (not r) (Some u) (won_or_full o n) ≡ None → (r ≡ true) × (o ≡ None) × (0 < n)
+  none_parts : (r : Bool) (o : Option Point) (n : ℕ) (u : PositionError) → cond (not r) (Some u) (won_or_full o n) ≡ None
+      → (r ≡ true) × (o ≡ None) × (0 < n)
   none_parts true None n u h = (refl, refl, some_by (nat_eq n 0) refl h) where
     some_by : (r : Bool) → nat_eq n 0 ≡ r → cond r (Some BoardFull) None ≡ None → 0 < n
     some_by true e h = cc
@@ -75,10 +77,12 @@ module _ (rule : RuleKind) (b : Grid) where
   pub lawful_from_none : IsBoard b → refusal rule b ≡ None → IsPosition rule b
   unfolding refusal
   lawful_from_none ok h =
-      let parts = none_parts (names_mover (stones_of b Black) (stones_of b White)) (find (is_on_winning_run rule b) (points_of b)) (empties_of b) _ h in
+      let parts = none_parts (names_mover (stones_of b Black) (stones_of b White)) (find (is_on_winning_run rule b) (points_of b))
+      (empties_of b) _ h in
       record {
         board = ok;
-        turns = mover_named (stones_of b Black) (stones_of b White) (nat_eq (stones_of b Black) (stones_of b White)) (nat_eq (stones_of b Black) (stones_of b White + 1)) refl refl parts.0;
+        turns = mover_named (stones_of b Black) (stones_of b White) (nat_eq (stones_of b Black) (stones_of b White))
+            (nat_eq (stones_of b Black) (stones_of b White + 1)) refl refl parts.0;
         unwon = unwon_from_none parts.1;
         open_points = parts.2;
       }

@@ -6,7 +6,8 @@ use Rattle.std.specs.Int.{bit_at}
 use Rattle.std.proofs.lemmas.Bool.{or_parts, false_from_ne_true}
 use Rattle.std.proofs.lemmas.Bool.Decides.{nat_tests}
 use Rattle.std.proofs.lemmas.Nat.Bits.{bit_at-zero, same_from_bits_below}
-use Rattle.game_rules.proofs.Common.{Grid, IsBoard, is_on, is_empty, put, along, axes, holds, is_line_three_at, is_line_three_point, run_of, fours_of, black_foul, stone_foul, is_three}
+use Rattle.game_rules.proofs.Common.{Grid, IsBoard, is_on, is_empty, put, along, axes, holds, is_line_three_at, is_line_three_point, run_of}
+use Rattle.game_rules.proofs.Common.{fours_of, black_foul, stone_foul, is_three}
 use Rattle.game_rules.specs.declared.RuleKind.{RuleKind}
 use Rattle.game_rules.specs.declared.Axis.{Axis}
 use Rattle.game_rules.specs.declared.Point.{Point}
@@ -36,7 +37,8 @@ module _ (rule : RuleKind) (b : Grid) (p : Point) (mine : holds b Black p ≡ tr
   few_fours d reach e few = few-no_fours b Black d p on rule (omega (arith, e, few))
 
   module _ (ok : IsBoard b) where
-    no_point : (d : Axis) (reach : ℕ) → reach ≡ stones_in_reach b Black d p → reach < 2 → (q : Point) → is_line_three_point rule b Black d p q ≡ false
+    no_point : (d : Axis) (reach : ℕ) → reach ≡ stones_in_reach b Black d p → reach < 2 → (q : Point)
+        → is_line_three_point rule b Black d p q ≡ false
     no_point d reach e few q = few-no_three b Black d p on rule q ok mine (omega (arith, e, few))
 
     -- with fewer than two it has no three point
@@ -58,7 +60,8 @@ module _ (rule : RuleKind) (b : Grid) (p : Point) (mine : holds b Black p ≡ tr
           cc
 
     -- and where fewer than two axes have two, there are no two threes
-    pub few_threes : may_have_two_threes (reaches_of b p) ≡ false → nat_le 2 (count_by (λ d. is_three rule b d p (black_foul rule b)) axes) ≡ false
+    pub few_threes : may_have_two_threes (reaches_of b p) ≡ false
+        → nat_le 2 (count_by (λ d. is_three rule b d p (black_foul rule b)) axes) ≡ false
     unfolding may_have_two_threes reaches_of
     few_threes h =
         let fewer = fewer_axes (λ d. is_three rule b d p (black_foul rule b)) (λ d. nat_le 2 (stones_in_reach b Black d p)) three_reach in
@@ -70,9 +73,11 @@ module _ (rule : RuleKind) (b : Grid) (p : Point) (mine : holds b Black p ≡ tr
 -- the stone on the point is none of those within reach of it
 pub reaches_of-put : (b : Grid) (p : Point) → is_on b p ≡ true → reaches_of (put b Black p) p ≡ reaches_of b p
 unfolding reaches_of
-reaches_of-put b p on = cc (reach-put b Black p on Row, reach-put b Black p on Column, reach-put b Black p on Down, reach-put b Black p on Up)
+reaches_of-put b p on = cc
+    (reach-put b Black p on Row, reach-put b Black p on Column, reach-put b Black p on Down, reach-put b Black p on Up)
 
-module _ (rule : RuleKind) (b : Grid) (p : Point) (ok : IsBoard b) (empty : is_empty b p ≡ true) (no : may_foul (reaches_of b p) ≡ false) where
+module _ (rule : RuleKind) (b : Grid) (p : Point) (ok : IsBoard b) (empty : is_empty b p ≡ true)
+    (no : may_foul (reaches_of b p) ≡ false) where
   abbrev next : Grid
   next = put b Black p
 
@@ -105,7 +110,17 @@ module _ (rule : RuleKind) (b : Grid) (p : Point) (ok : IsBoard b) (empty : is_e
 
   none : stone_foul rule next p (black_foul rule next) ≡ None
   unfolding stone_foul
-  none = rw (no_over Row, no_over Column, no_over Down, no_over Up, no_fours Row, no_fours Column, no_fours Down, no_fours Up, few_threes rule next p stone (IsBoard-put b Black p ok) none_two) (no_first _)
+  none = rw (
+    no_over Row,
+    no_over Column,
+    no_over Down,
+    no_over Up,
+    no_fours Row,
+    no_fours Column,
+    no_fours Down,
+    no_fours Up,
+    few_threes rule next p stone (IsBoard-put b Black p ok) none_two,
+  ) (no_first _)
 
   -- where the short cut says that a point can be no foul, it is none
   pub no_foul : black_foul rule b p ≡ None
@@ -114,22 +129,27 @@ module _ (rule : RuleKind) (b : Grid) (p : Point) (ok : IsBoard b) (empty : is_e
 -- ---- the short cut before the judge asks itself
 
 module _ (rule : RuleKind) (b : Grid) (p : Point) where
-  places_free : (d : Axis) → has_line_three rule b d p ≡ false → (i : ℕ) → i < 11 → is_line_three_at rule b Black d p (along d p i 5) ≡ false
+  places_free : (d : Axis) → has_line_three rule b d p ≡ false → (i : ℕ) → i < 11
+      → is_line_three_at rule b Black d p (along d p i 5) ≡ false
   unfolding has_line_three
   places_free d h i low = false_from_ne_true _ (λ yes.
       let some = any_found (λ i. is_line_three_at rule b Black d p (along d p i 5)) 11 0 i (omega arith) (omega arith) yes in
       let differ : false ≡ true = sym h ∙ some in
       cc)
 
-  line_by : (d : Axis) (points : ℕ) → ((i : ℕ) → i < 11 → bit_at points i ≡ cond (is_line_three_at rule b Black d p (along d p i 5)) 1 0) → points ≡ 0 → has_line_three rule b d p ≡ false
+  line_by : (d : Axis) (points : ℕ) → ((i : ℕ) → i < 11 → bit_at points i ≡ cond (is_line_three_at rule b Black d p (along d p i 5)) 1 0)
+      → points ≡ 0 → has_line_three rule b d p ≡ false
   unfolding has_line_three
-  line_by d points bits zero = any_none _ 11 0 (λ i low high. clear _ (sym (bits i (omega arith)) ∙ ap (λ n. bit_at n i) zero ∙ bit_at-zero i)) where
-    clear : (r : Bool) → ◌≡◌ {A = ℕ} (cond r 1 0) 0 → r ≡ false
-    clear true h = absurd (omega arith)
-    clear false h = refl
+  line_by d points bits zero = any_none _ 11 0
+      (λ i low high. clear _ (sym (bits i (omega arith)) ∙ ap (λ n. bit_at n i) zero ∙ bit_at-zero i)) where
+        clear : (r : Bool) → ◌≡◌ {A = ℕ} (cond r 1 0) 0 → r ≡ false
+        clear true h = absurd (omega arith)
+        clear false h = refl
 
   -- the axis has a three point exactly where the number of its bits is not 0
-  pub line_by_bits : (d : Axis) (points : ℕ) → points < 2 ^ 11 → ((i : ℕ) → i < 11 → bit_at points i ≡ cond (is_line_three_at rule b Black d p (along d p i 5)) 1 0) → not (nat_eq points 0) ≡ has_line_three rule b d p
+  pub line_by_bits : (d : Axis) (points : ℕ) → points < 2 ^ 11
+      → ((i : ℕ) → i < 11 → bit_at points i ≡ cond (is_line_three_at rule b Black d p (along d p i 5)) 1 0)
+      → not (nat_eq points 0) ≡ has_line_three rule b d p
   line_by_bits d points small bits = by_test (nat_eq points 0) refl (has_line_three rule b d p) refl where
     by_test : (r : Bool) → nat_eq points 0 ≡ r → (t : Bool) → has_line_three rule b d p ≡ t → not r ≡ t
     by_test true e true h =
@@ -139,7 +159,8 @@ module _ (rule : RuleKind) (b : Grid) (p : Point) where
     by_test true e false h = refl
     by_test false e true h = refl
     by_test false e false h =
-        let zero : points ≡ 0 = same_from_bits_below 11 points 0 small (omega arith) (λ i low. bits i low ∙ ap (λ r. cond r 1 0) (places_free d h i low) ∙ sym (bit_at-zero i)) in
+        let zero : points ≡ 0 = same_from_bits_below 11 points 0 small (omega arith)
+        (λ i low. bits i low ∙ ap (λ r. cond r 1 0) (places_free d h i low) ∙ sym (bit_at-zero i)) in
         absurd (grind (arith, nat_tests))
 
   module _ (ok : IsBoard b) (mine : holds b Black p ≡ true) where
@@ -156,5 +177,6 @@ module _ (rule : RuleKind) (b : Grid) (p : Point) where
     pub threes_by_lines : count_by (λ d. is_three rule b d p (black_foul rule b)) axes ≤ count_by (λ d. has_line_three rule b d p) axes
     threes_by_lines = fewer_axes (λ d. is_three rule b d p (black_foul rule b)) (λ d. has_line_three rule b d p) three_line
 
-    pub no_two_threes : (n : ℕ) → n ≡ count_by (λ d. has_line_three rule b d p) axes → n < 2 → nat_le 2 (count_by (λ d. is_three rule b d p (black_foul rule b)) axes) ≡ false
+    pub no_two_threes : (n : ℕ) → n ≡ count_by (λ d. has_line_three rule b d p) axes → n < 2
+        → nat_le 2 (count_by (λ d. is_three rule b d p (black_foul rule b)) axes) ≡ false
     no_two_threes n e few = let fewer = threes_by_lines in grind (arith, nat_tests)

@@ -1,10 +1,12 @@
 -- Three points of a stone are among the places of the line around it, and the search for one that is no foul.
-use Rattle.std.proofs.Common.{◌≡◌, ◌≢◌, ℕ, ◌<◌, ◌/◌, ◌^◌, bit_and, Bool, true, false, cond, ◌&&◌, not, refl, sym, ap, add-one, ◌∙◌, arith, nat_eq}
+use Rattle.std.proofs.Common.{◌≡◌, ◌≢◌, ℕ, ◌<◌, ◌/◌, ◌^◌, bit_and, Bool, true, false, cond, ◌&&◌, not, refl, sym, ap, add-one, ◌∙◌, arith}
+use Rattle.std.proofs.Common.{nat_eq}
 use Rattle.std.specs.Prelude.{Option, Some, None, is_none}
 use Rattle.std.specs.Int.{bit_at}
 use Rattle.std.proofs.lemmas.Nat.Bits.{shr_and_one, bit_at-zero}
 use Rattle.std.proofs.lemmas.Bool.Decides.{nat_tests}
-use Rattle.game_rules.proofs.Common.{Grid, IsBoard, is_empty, put, along, points_of, holds, is_three_point, is_line_three_point, is_line_three_at, five, black_foul, black_foul_within, stone_foul, is_three}
+use Rattle.game_rules.proofs.Common.{Grid, IsBoard, is_empty, put, along, points_of, holds, is_three_point, is_line_three_point}
+use Rattle.game_rules.proofs.Common.{is_line_three_at, five, black_foul, black_foul_within, stone_foul, is_three}
 use Rattle.game_rules.specs.declared.RuleKind.{RuleKind}
 use Rattle.game_rules.specs.declared.Axis.{Axis}
 use Rattle.game_rules.specs.declared.Point.{Point}
@@ -25,17 +27,20 @@ module _ (rule : RuleKind) (b : Grid) (d : Axis) (p : Point) where
   found_three : (o : Option Point) → free_three rule b d p o ≡ true → is_three rule b d p (black_foul rule b) ≡ true
   found_three None h = cc
   found_three (Some q) h =
-      let on = is_empty-on b q (three_empty rule b Black d p q ((line_three rule b d p) q (and_left (is_three_point rule b Black d p q) _ h))) in
+      let on = is_empty-on b q (three_empty rule b Black d p q
+      ((line_three rule b d p) q (and_left (is_three_point rule b Black d p q) _ h))) in
       (is_three-free rule b d p) ∙ points-found b (λ q. is_three_point rule b Black d p q && is_none (black_foul rule b q)) q on h
 
-  place_found : (i : ℕ) (q : Point) → along d p i 5 ≡ Some q → (is_three_point rule b Black d p q && is_none (black_foul rule b q)) ≡ true → free_three rule b d p (along d p i 5) ≡ true
+  place_found : (i : ℕ) (q : Point) → along d p i 5 ≡ Some q → (is_three_point rule b Black d p q && is_none (black_foul rule b q)) ≡ true
+      → free_three rule b d p (along d p i 5) ≡ true
   place_found i q at h = ap (free_three rule b d p) at ∙ h
 
   -- an axis is a three exactly where one of the places is a three point that is no foul
   pub three_by_place : (i : ℕ) → free_three rule b d p (along d p i 5) ≡ true → is_three rule b d p (black_foul rule b) ≡ true
   three_by_place i h = found_three (along d p i 5) h
 
-  pub no_three : IsBoard b → holds b Black p ≡ true → ((i : ℕ) → i < 11 → free_three rule b d p (along d p i 5) ≡ false) → is_three rule b d p (black_foul rule b) ≡ false
+  pub no_three : IsBoard b → holds b Black p ≡ true → ((i : ℕ) → i < 11 → free_three rule b d p (along d p i 5) ≡ false)
+      → is_three rule b d p (black_foul rule b) ≡ false
   no_three ok mine none = (is_three-free rule b d p) ∙ none_of _ (points_of b) (λ q h.
       let near = three_near rule b Black d p ok mine q ((line_three rule b d p) q (and_left (is_three_point rule b Black d p q) _ h)) in
       let yes : free_three rule b d p (along d p near.0 5) ≡ true = place_found near.0 q near.2 h in
@@ -44,7 +49,8 @@ module _ (rule : RuleKind) (b : Grid) (d : Axis) (p : Point) where
       cc)
 
 -- a foul, one stone on
-pub foul-step : (rule : RuleKind) (b : Grid) (p : Point) → IsBoard b → is_empty b p ≡ true → black_foul rule b p ≡ stone_foul rule (put b Black p) p (black_foul rule (put b Black p))
+pub foul-step : (rule : RuleKind) (b : Grid) (p : Point) → IsBoard b → is_empty b p ≡ true
+    → black_foul rule b p ≡ stone_foul rule (put b Black p) p (black_foul rule (put b Black p))
 unfolding black_foul_within black_foul
 foul-step rule b p ok h = rw (← empties_of-put b Black p ok h, add-one) refl
 
@@ -64,7 +70,8 @@ module _ (rule : RuleKind) (b : Grid) (d : Axis) (p : Point) where
   pub line_three-empty : (o : Option Point) (q : Point) → o ≡ Some q → is_line_three_at rule b Black d p o ≡ true → is_empty b q ≡ true
   line_three-empty o q e h = three_empty rule b Black d p q (ap (is_line_three_at rule b Black d p) (sym e) ∙ h)
 
-  pub free_three-line : (o : Option Point) (q : Point) → o ≡ Some q → is_line_three_at rule b Black d p o ≡ true → free_three rule b d p o ≡ (not (five rule b Black q) && is_none (black_foul rule b q))
+  pub free_three-line : (o : Option Point) (q : Point) → o ≡ Some q → is_line_three_at rule b Black d p o ≡ true
+      → free_three rule b d p o ≡ (not (five rule b Black q) && is_none (black_foul rule b q))
   free_three-line o q e h =
       let here : is_line_three_point rule b Black d p q ≡ true = ap (is_line_three_at rule b Black d p) (sym e) ∙ h in
       ap (free_three rule b d p) e ∙ rw (three_point-line rule b d p q, here) refl
@@ -75,13 +82,16 @@ bit_clear n i true e h = absurd (h (shr_and_one n i ∙ e))
 bit_clear n i false e h = refl
 
 -- no bits, no three points
-pub no_bits : (rule : RuleKind) (b : Grid) (d : Axis) (p : Point) (points : ℕ) → ((i : ℕ) → i < 11 → bit_at points i ≡ cond (is_line_three_at rule b Black d p (along d p i 5)) 1 0) → not (nat_eq points 0) ≡ false → has_line_three rule b d p ≡ false
+pub no_bits : (rule : RuleKind) (b : Grid) (d : Axis) (p : Point) (points : ℕ)
+    → ((i : ℕ) → i < 11 → bit_at points i ≡ cond (is_line_three_at rule b Black d p (along d p i 5)) 1 0) → not (nat_eq points 0) ≡ false
+    → has_line_three rule b d p ≡ false
 unfolding has_line_three
-no_bits rule b d p points bits none = any_none _ 11 0 (λ i low high. clear _ (sym (bits i (omega arith)) ∙ ap (λ n. bit_at n i) (zero (nat_eq points 0) refl) ∙ bit_at-zero i)) where
-  clear : (r : Bool) → ◌≡◌ {A = ℕ} (cond r 1 0) 0 → r ≡ false
-  clear true h = absurd (omega arith)
-  clear false h = refl
+no_bits rule b d p points bits none = any_none _ 11 0
+    (λ i low high. clear _ (sym (bits i (omega arith)) ∙ ap (λ n. bit_at n i) (zero (nat_eq points 0) refl) ∙ bit_at-zero i)) where
+      clear : (r : Bool) → ◌≡◌ {A = ℕ} (cond r 1 0) 0 → r ≡ false
+      clear true h = absurd (omega arith)
+      clear false h = refl
 
-  zero : (r : Bool) → nat_eq points 0 ≡ r → points ≡ 0
-  zero true e = grind (arith, nat_tests)
-  zero false e = absurd (let bad : true ≡ false = sym (ap not e) ∙ none in cc)
+      zero : (r : Bool) → nat_eq points 0 ≡ r → points ≡ 0
+      zero true e = grind (arith, nat_tests)
+      zero false e = absurd (let bad : true ≡ false = sym (ap not e) ∙ none in cc)

@@ -3,7 +3,8 @@ use Rattle.game_rules.specs.Grid.{Grid}
 use Rattle.game_rules.specs.declared.RuleKind.{RuleKind}
 use Rattle.game_rules.specs.declared.RuleKind.TheVariants.{Freestyle, Exact, Renju}
 use Rattle.foul_judge.specs.declared.any_position.AnyPosition.{AnyPosition}
-use Rattle.foul_judge.specs.declared.any_position.AnyPosition.TheVariants.{Freestyle as FreestylePosition, Exact as ExactPosition, Renju as RenjuPosition}
+use Rattle.foul_judge.specs.declared.any_position.AnyPosition.TheVariants.{Freestyle as FreestylePosition, Exact as ExactPosition}
+use Rattle.foul_judge.specs.declared.any_position.AnyPosition.TheVariants.{Renju as RenjuPosition}
 
 -- the rule of the position
 abbrev pub kind_of : AnyPosition → RuleKind

@@ -1,5 +1,6 @@
 -- Few positions are looked at in a search for two fours, and one where a five point stands.
-use Rattle.std.proofs.Common.{ℕ, ◌≤◌, Bool, true, false, cond, arith, List, [], ◌∷◌, ◌≡◌, ◌∙◌, zero, suc, ◌+◌, ◌<◌, refl, length, nat_le, ap, Option, None, Some}
+use Rattle.std.proofs.Common.{ℕ, ◌≤◌, Bool, true, false, cond, arith, List, [], ◌∷◌, ◌≡◌, ◌∙◌, zero, suc, ◌+◌, ◌<◌, refl, length, nat_le}
+use Rattle.std.proofs.Common.{ap, Option, None, Some}
 use Rattle.std.specs.List.{sum_by, range_with_len}
 use Rattle.std.proofs.lemmas.List.Sums.{sum_by-cons}
 use Rattle.std.proofs.lemmas.Bool.Decides.{nat_tests}
@@ -95,7 +96,8 @@ module _ (rule : RuleKind) (b : Grid) (depth budget : ℕ) where
   above more = by_test false (grind (arith, nat_tests))
 
 -- within the moves of such a win the side to move wins by fours
-pub wins_by : (rule : RuleKind) (b : Grid) (depth budget moves : ℕ) → by_cost rule b depth budget ≡ Some moves → wins_by_fours rule moves b ≡ true
+pub wins_by : (rule : RuleKind) (b : Grid) (depth budget moves : ℕ) → by_cost rule b depth budget ≡ Some moves
+    → wins_by_fours rule moves b ≡ true
 wins_by rule b depth budget moves h = by_bool (nat_le (four_cost rule depth b) budget) h where
   by_bool : (r : Bool) → cond r (least_moves rule depth b) None ≡ Some moves → wins_by_fours rule moves b ≡ true
   by_bool true e = least-wins rule depth b moves e

@@ -14,12 +14,14 @@ use Rattle.position_table.proofs.Remembering.{true-found}
 
 module _ (rule : RuleKind) (b : Grid) (moves budget : ℕ) where
   -- what is denied of a position is what a search there finds
-  pub denied-found : (count : ℕ) (f : Found) → IsDenied rule b moves count → f ≡ cond (nat_le count budget) (NoWin (budget - count)) Spent → f ≡ found_at rule moves b budget
+  pub denied-found : (count : ℕ) (f : Found) → IsDenied rule b moves count → f ≡ cond (nat_le count budget) (NoWin (budget - count)) Spent
+      → f ≡ found_at rule moves b budget
   denied-found count f denied is =
       let tree : ℕ = four_tree rule moves b in
       is
       ∙ ap (λ n. cond (nat_le n budget) (NoWin (budget - n)) Spent) (sym denied.counted)
-      ∙ ap (λ r. cond (nat_le tree budget) (cond r (Win (budget - tree) (four_line rule moves b)) (NoWin (budget - tree))) Spent) (sym denied.unwon)
+      ∙ ap (λ r. cond (nat_le tree budget) (cond r (Win (budget - tree) (four_line rule moves b)) (NoWin (budget - tree))) Spent)
+      (sym denied.unwon)
 
   -- no more is left than there was
   pub left-within : (left : ℕ) → NoWin left ≡ found_at rule moves b budget → left + four_tree rule moves b ≡ budget
@@ -33,7 +35,9 @@ module _ (rule : RuleKind) (b : Grid) (moves budget : ℕ) where
   }
 
 -- what is found in a true memory is so
-pub memory-denies : (rule : RuleKind) (b : Grid) (moves : ℕ) (memory : Remembered ℕ) (found : Option ℕ) → IsPosition rule b → IsTrueMemory rule memory
+pub memory-denies : (rule : RuleKind) (b : Grid) (moves : ℕ) (memory : Remembered ℕ) (found : Option ℕ) → IsPosition rule b
+    → IsTrueMemory rule memory
     → found ≡ value_under (packed b, moves) memory → IfSome found (IsDenied rule b moves)
 memory-denies rule b moves memory None lawful true_of is = tt
-memory-denies rule b moves memory (Some count) lawful true_of is = true-found rule (IsDenied rule) b b moves count memory lawful refl true_of is
+memory-denies rule b moves memory (Some count) lawful true_of is =
+    true-found rule (IsDenied rule) b b moves count memory lawful refl true_of is

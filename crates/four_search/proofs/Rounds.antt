@@ -1,5 +1,6 @@
 -- Where a depth looks at no more positions than the depth before, and neither has a win, no greater depth looks at more or has one.
-use Rattle.std.proofs.Common.{◌≡◌, inl, inr, ℕ, zero, suc, ◌+◌, ◌-◌, ◌*◌, ◌≤◌, ◌<◌, Bool, true, false, cond, refl, sym, ap, subst, ◌∙◌, arith, List, [], ◌∷◌, nat_le}
+use Rattle.std.proofs.Common.{◌≡◌, inl, inr, ℕ, zero, suc, ◌+◌, ◌-◌, ◌*◌, ◌≤◌, ◌<◌, Bool, true, false, cond, refl, sym, ap, subst, ◌∙◌}
+use Rattle.std.proofs.Common.{arith, List, [], ◌∷◌, nat_le}
 use Rattle.std.specs.List.{list_any, sum_by}
 use Rattle.std.proofs.lemmas.Bool.{or_parts, cases_lt}
 use Rattle.std.proofs.lemmas.Bool.Decides.{nat_tests}
@@ -62,7 +63,8 @@ fewer-none : (rule : RuleKind) (n : ℕ) (b : Grid) → wins_by_fours rule (suc 
 fewer-none rule n b h = by_test (wins_by_fours rule n b) refl where
   by_test : (r : Bool) → wins_by_fours rule n b ≡ r → r ≡ false
   by_test false e = refl
-  by_test true e = let more : wins_by_fours rule (suc n) b ≡ true = wins-more rule n (suc n) b (omega arith) e in let bad : false ≡ true = sym h ∙ more in cc
+  by_test true e = let more : wins_by_fours rule (suc n) b ≡ true = wins-more rule n (suc n) b (omega arith) e in let bad : false ≡ true =
+      sym h ∙ more in cc
 
 no-five : (rule : RuleKind) (n : ℕ) (b : Grid) → wins_by_fours rule (suc n) b ≡ false → has_five rule b (mover b) ≡ false
 no-five rule n b h = by_test (has_five rule b (mover b)) refl where
@@ -71,13 +73,16 @@ no-five rule n b h = by_test (has_five rule b (mover b)) refl where
   by_test true e = let bad : false ≡ true = sym h ∙ five-wins rule b n e in cc
 
 -- without a win all moves are tried
-tree-all : (rule : RuleKind) (n : ℕ) (b : Grid) → IsPosition rule b → wins_by_fours rule (suc n) b ≡ false → four_tree rule (suc n) b ≡ 1 + sum_by (behind_of rule n b) (points_of b)
+tree-all : (rule : RuleKind) (n : ℕ) (b : Grid) → IsPosition rule b → wins_by_fours rule (suc n) b ≡ false
+    → four_tree rule (suc n) b ≡ 1 + sum_by (behind_of rule n b) (points_of b)
 tree-all rule n b lawful h =
     let none : has_five rule b (mover b) ≡ false = no-five rule n b h in
     let any : list_any (starts rule n b) (points_of b) ≡ false = sym (wins-is rule b lawful none n) ∙ h in
-    tree-is rule b lawful none n ∙ ap (λ (ps : List Point). 1 + sum_by (behind_of rule n b) ps) (until-all (starts rule n b) (points_of b) any)
+    tree-is rule b lawful none n ∙ ap (λ (ps : List Point). 1 + sum_by (behind_of rule n b) ps)
+    (until-all (starts rule n b) (points_of b) any)
 
-any-none : (rule : RuleKind) (n : ℕ) (b : Grid) → IsPosition rule b → wins_by_fours rule (suc n) b ≡ false → list_any (starts rule n b) (points_of b) ≡ false
+any-none : (rule : RuleKind) (n : ℕ) (b : Grid) → IsPosition rule b → wins_by_fours rule (suc n) b ≡ false
+    → list_any (starts rule n b) (points_of b) ≡ false
 any-none rule n b lawful h = sym (wins-is rule b lawful (no-five rule n b h) n) ∙ h
 
 -- ---- more moves look at no fewer positions
@@ -92,24 +97,33 @@ no_fewer-zero rule b p h = by_test (is_four_move rule b p) where
   by_test true = omega arith
   by_test false = omega arith
 
-no_fewer-suc : (rule : RuleKind) (n : ℕ) (b : Grid) → IsPosition rule b → ((e : Grid) → IsPosition rule e → wins_by_fours rule (suc (suc n)) e ≡ false → four_tree rule (suc n) e ≤ four_tree rule (suc (suc n)) e) → NoFewer rule (suc n) b
+no_fewer-suc : (rule : RuleKind) (n : ℕ) (b : Grid) → IsPosition rule b
+    → ((e : Grid) → IsPosition rule e → wins_by_fours rule (suc (suc n)) e ≡ false
+    → four_tree rule (suc n) e ≤ four_tree rule (suc (suc n)) e) → NoFewer rule (suc n) b
 no_fewer-suc rule n b lawful child p h = by_test (is_four_move rule b p) refl where
-  by_fate : is_four_move rule b p ≡ true → (a : BlockAnswer) → a ≡ fate rule (after b p) → block_wins rule (suc (suc n)) (after b p) a ≡ false → if_one (four_tree rule (suc n)) (after b p) a ≤ if_one (four_tree rule (suc (suc n))) (after b p) a
+  by_fate : is_four_move rule b p ≡ true → (a : BlockAnswer) → a ≡ fate rule (after b p)
+      → block_wins rule (suc (suc n)) (after b p) a ≡ false
+      → if_one (four_tree rule (suc n)) (after b p) a ≤ if_one (four_tree rule (suc (suc n))) (after b p) a
   by_fate four (One w) e k = child (after (after b p) w) (lawful-one rule b p lawful four w e) k
   by_fate four _ e k = omega arith
 
-  by_test : (r : Bool) → is_four_move rule b p ≡ r → cond r (positions_behind rule (suc n) (after b p)) 0 ≤ cond r (positions_behind rule (suc (suc n)) (after b p)) 0
+  by_test : (r : Bool) → is_four_move rule b p ≡ r → cond r (positions_behind rule (suc n) (after b p)) 0 ≤ cond r
+      (positions_behind rule (suc (suc n)) (after b p)) 0
   by_test true four = by_fate four (fate rule (after b p)) refl (sym (block_decides rule (suc (suc n)) b p lawful four) ∙ h)
   by_test false four = omega arith
 
-tree-more_by : (rule : RuleKind) (n : ℕ) (b : Grid) → IsPosition rule b → wins_by_fours rule (suc (suc n)) b ≡ false → NoFewer rule n b → four_tree rule (suc n) b ≤ four_tree rule (suc (suc n)) b
+tree-more_by : (rule : RuleKind) (n : ℕ) (b : Grid) → IsPosition rule b → wins_by_fours rule (suc (suc n)) b ≡ false → NoFewer rule n b
+    → four_tree rule (suc n) b ≤ four_tree rule (suc (suc n)) b
 tree-more_by rule n b lawful h less =
-    let sums = sums-less (behind_of rule n b) (behind_of rule (suc n) b) (starts rule (suc n) b) less (points_of b) (any-none rule (suc n) b lawful h) in
+    let sums = sums-less (behind_of rule n b) (behind_of rule (suc n) b) (starts rule (suc n) b) less (points_of b)
+    (any-none rule (suc n) b lawful h) in
     omega (arith, tree-all rule n b lawful (fewer-none rule (suc n) b h), tree-all rule (suc n) b lawful h, sums)
 
-tree-more : (rule : RuleKind) (n : ℕ) (b : Grid) → IsPosition rule b → wins_by_fours rule (suc (suc n)) b ≡ false → four_tree rule (suc n) b ≤ four_tree rule (suc (suc n)) b
+tree-more : (rule : RuleKind) (n : ℕ) (b : Grid) → IsPosition rule b → wins_by_fours rule (suc (suc n)) b ≡ false
+    → four_tree rule (suc n) b ≤ four_tree rule (suc (suc n)) b
 tree-more rule zero b lawful h = tree-more_by rule zero b lawful h (no_fewer-zero rule b)
-tree-more rule (suc n) b lawful h = tree-more_by rule (suc n) b lawful h (no_fewer-suc rule n b lawful (λ e ok none. tree-more rule n e ok none))
+tree-more rule (suc n) b lawful h = tree-more_by rule (suc n) b lawful h
+    (no_fewer-suc rule n b lawful (λ e ok none. tree-more rule n e ok none))
 
 no_fewer : (rule : RuleKind) (n : ℕ) (b : Grid) → IsPosition rule b → NoFewer rule n b
 no_fewer rule zero b lawful = no_fewer-zero rule b
@@ -124,49 +138,67 @@ Settled rule n b = (m : ℕ) → n ≤ m → (wins_by_fours rule (suc m) b ≡ f
 -- after the one block of a four that goes on
 abbrev SettledOne : RuleKind → ℕ → Grid → Point → Type 0
 SettledOne rule n c w =
-    IsPosition rule (after c w) → (m : ℕ) → n ≤ m → wins_by_fours rule (suc n) (after c w) ≡ false → positions_as rule (suc n) c (One w) ≡ positions_as rule n c (One w)
+    IsPosition rule (after c w) → (m : ℕ) → n ≤ m → wins_by_fours rule (suc n) (after c w) ≡ false
+    → positions_as rule (suc n) c (One w) ≡ positions_as rule n c (One w)
     → (wins_by_fours rule m (after c w) ≡ false) × (positions_as rule m c (One w) ≡ positions_as rule n c (One w))
 
 one-zero : (rule : RuleKind) (c : Grid) (w : Point) → SettledOne rule zero c w
 one-zero rule c w lawful m l h e = let some = tree-some rule (suc zero) (after c w) in absurd (omega (arith, some, e))
 
-one-suc : (rule : RuleKind) (n : ℕ) (c : Grid) (w : Point) → ((e : Grid) → IsPosition rule e → wins_by_fours rule (suc (suc n)) e ≡ false → four_tree rule (suc (suc n)) e ≡ four_tree rule (suc n) e → Settled rule n e) → SettledOne rule (suc n) c w
+one-suc : (rule : RuleKind) (n : ℕ) (c : Grid) (w : Point)
+    → ((e : Grid) → IsPosition rule e → wins_by_fours rule (suc (suc n)) e ≡ false
+    → four_tree rule (suc (suc n)) e ≡ four_tree rule (suc n) e → Settled rule n e) → SettledOne rule (suc n) c w
 one-suc rule n c w child lawful zero l h e = absurd (omega arith)
 one-suc rule n c w child lawful (suc m) l h e = child (after c w) lawful h e m (omega arith)
 
-module _ (rule : RuleKind) (n : ℕ) (b : Grid) (lawful : IsPosition rule b) (none : has_five rule b (mover b) ≡ false) (one : (c : Grid) (w : Point) → SettledOne rule n c w) (m : ℕ) (l : n ≤ m) (p : Point) where
-  settled_fate : is_four_move rule b p ≡ true → (a : BlockAnswer) → a ≡ fate rule (after b p) → block_wins rule (suc n) (after b p) a ≡ false → positions_as rule (suc n) (after b p) a ≡ positions_as rule n (after b p) a → (block_wins rule m (after b p) a ≡ false) × (positions_as rule m (after b p) a ≡ positions_as rule n (after b p) a)
+module _ (rule : RuleKind) (n : ℕ) (b : Grid) (lawful : IsPosition rule b) (none : has_five rule b (mover b) ≡ false)
+    (one : (c : Grid) (w : Point) → SettledOne rule n c w) (m : ℕ) (l : n ≤ m) (p : Point) where
+  settled_fate : is_four_move rule b p ≡ true → (a : BlockAnswer) → a ≡ fate rule (after b p)
+      → block_wins rule (suc n) (after b p) a ≡ false → positions_as rule (suc n) (after b p) a ≡ positions_as rule n (after b p) a
+      → (block_wins rule m (after b p) a ≡ false) × (positions_as rule m (after b p) a ≡ positions_as rule n (after b p) a)
   settled_fate four Lost e h k = (refl, lost-none rule m (after b p) ∙ sym (lost-none rule n (after b p)))
   settled_fate four Won e h k = absurd (let bad : true ≡ false = h in cc)
   settled_fate four (Draw w) e h k = (refl, draw-none rule m (after b p) w ∙ sym (draw-none rule n (after b p) w))
   settled_fate four (One w) e h k = one (after b p) w (lawful-one rule b p lawful four w e) m l h k
 
-  settled_test : (r : Bool) → is_four_move rule b p ≡ r → starts rule (suc n) b p ≡ false → cond r (positions_behind rule (suc n) (after b p)) 0 ≡ cond r (positions_behind rule n (after b p)) 0 → (starts rule m b p ≡ false) × (cond r (positions_behind rule m (after b p)) 0 ≡ cond r (positions_behind rule n (after b p)) 0)
+  settled_test : (r : Bool) → is_four_move rule b p ≡ r → starts rule (suc n) b p ≡ false
+      → cond r (positions_behind rule (suc n) (after b p)) 0 ≡ cond r (positions_behind rule n (after b p)) 0
+      → (starts rule m b p ≡ false) × (cond r (positions_behind rule m (after b p)) 0 ≡ cond r (positions_behind rule n (after b p)) 0)
   settled_test false four h k = (no_four rule m b lawful none p four, refl)
   settled_test true four h k =
-      let by_fate = settled_fate four (fate rule (after b p)) refl (sym (block_decides rule (suc n) b p lawful four) ∙ h) (sym (positions-are rule (suc n) (after b p)) ∙ k ∙ positions-are rule n (after b p)) in
-      (block_decides rule m b p lawful four ∙ by_fate.0, positions-are rule m (after b p) ∙ by_fate.1 ∙ sym (positions-are rule n (after b p)))
+      let by_fate = settled_fate four (fate rule (after b p)) refl (sym (block_decides rule (suc n) b p lawful four) ∙ h)
+      (sym (positions-are rule (suc n) (after b p)) ∙ k ∙ positions-are rule n (after b p)) in (
+        block_decides rule m b p lawful four ∙ by_fate.0,
+        positions-are rule m (after b p) ∙ by_fate.1
+            ∙ sym (positions-are rule n (after b p)),
+      )
 
-settled_by : (rule : RuleKind) (n : ℕ) (b : Grid) → IsPosition rule b → wins_by_fours rule (suc (suc n)) b ≡ false → four_tree rule (suc (suc n)) b ≡ four_tree rule (suc n) b → ((c : Grid) (w : Point) → SettledOne rule n c w) → Settled rule n b
+settled_by : (rule : RuleKind) (n : ℕ) (b : Grid) → IsPosition rule b → wins_by_fours rule (suc (suc n)) b ≡ false
+    → four_tree rule (suc (suc n)) b ≡ four_tree rule (suc n) b → ((c : Grid) (w : Point) → SettledOne rule n c w) → Settled rule n b
 settled_by rule n b lawful h e one m l =
     let none : has_five rule b (mover b) ≡ false = no-five rule (suc n) b h in
     let a = tree-all rule n b lawful (fewer-none rule (suc n) b h) in
     let z = tree-all rule (suc n) b lawful h in
     let sums : sum_by (behind_of rule (suc n) b) (points_of b) ≡ sum_by (behind_of rule n b) (points_of b) = omega (arith, a, z, e) in
-    let all = sums-same (behind_of rule n b) (behind_of rule (suc n) b) (behind_of rule m b) (starts rule (suc n) b) (starts rule m b) (no_fewer rule n b lawful) (λ p h k. settled_test rule n b lawful none one m l p (is_four_move rule b p) refl h k) (points_of b) (any-none rule (suc n) b lawful h) sums in
+    let all = sums-same (behind_of rule n b) (behind_of rule (suc n) b) (behind_of rule m b) (starts rule (suc n) b) (starts rule m b)
+    (no_fewer rule n b lawful) (λ p h k. settled_test rule n b lawful none one m l p (is_four_move rule b p) refl h k) (points_of b)
+    (any-none rule (suc n) b lawful h) sums in
     let lost : wins_by_fours rule (suc m) b ≡ false = wins-is rule b lawful none m ∙ all.0 in
     let y = tree-all rule m b lawful lost in
     let same = all.1 in
     (lost, omega (arith, a, y, same))
 
 -- two depths one after another that look at as many positions and have no win
-pub settled : (rule : RuleKind) (n : ℕ) (b : Grid) → IsPosition rule b → wins_by_fours rule (suc (suc n)) b ≡ false → four_tree rule (suc (suc n)) b ≡ four_tree rule (suc n) b → Settled rule n b
+pub settled : (rule : RuleKind) (n : ℕ) (b : Grid) → IsPosition rule b → wins_by_fours rule (suc (suc n)) b ≡ false
+    → four_tree rule (suc (suc n)) b ≡ four_tree rule (suc n) b → Settled rule n b
 settled rule zero b lawful h e = settled_by rule zero b lawful h e (λ c w. one-zero rule c w)
-settled rule (suc n) b lawful h e = settled_by rule (suc n) b lawful h e (λ c w. one-suc rule n c w (λ x ok none same. settled rule n x ok none same))
+settled rule (suc n) b lawful h e = settled_by rule (suc n) b lawful h e
+    (λ c w. one-suc rule n c w (λ x ok none same. settled rule n x ok none same))
 
 -- ---- sums of numbers
 
-total : (cost all next so_far tree rest left budget more : ℕ) → cost ≡ all → all ≡ next + more → next ≡ so_far + tree → rest + tree ≡ left → left + so_far ≡ budget → cost + rest ≡ budget + more
+total : (cost all next so_far tree rest left budget more : ℕ) → cost ≡ all → all ≡ next + more → next ≡ so_far + tree → rest + tree ≡ left
+    → left + so_far ≡ budget → cost + rest ≡ budget + more
 total cost all next so_far tree rest left budget more a e f g h = omega arith
 
 fits : (cost rest budget more : ℕ) → cost + rest ≡ budget + more → more ≤ rest → cost ≤ budget
@@ -187,7 +219,9 @@ le-fails x y h = grind (arith, nat_tests)
 -- ---- the answer where a depth looked at as many positions as the one before
 
 -- the depths after d are all alike
-later : (rule : RuleKind) (b : Grid) → IsPosition rule b → (d before looked : ℕ) → wins_by_fours rule (d + 1) b ≡ false → looked ≡ four_tree rule (d + 1) b → looked ≡ before → (d ≡ 0 → before ≡ 0) → (0 < d → before ≡ four_tree rule d b) → (k : ℕ) → d < k → (wins_by_fours rule k b ≡ false) × (four_tree rule k b ≡ looked)
+later : (rule : RuleKind) (b : Grid) → IsPosition rule b → (d before looked : ℕ) → wins_by_fours rule (d + 1) b ≡ false
+    → looked ≡ four_tree rule (d + 1) b → looked ≡ before → (d ≡ 0 → before ≡ 0) → (0 < d → before ≡ four_tree rule d b) → (k : ℕ) → d < k
+    → (wins_by_fours rule k b ≡ false) × (four_tree rule k b ≡ looked)
 later rule b lawful zero before looked h is same first last k low =
     let some = tree-some rule (zero + 1) b in
     let start = first refl in
@@ -202,7 +236,8 @@ later rule b lawful (suc n) before looked h is same first last (suc m) low =
     (all.0, all.1 ∙ sym was ∙ sym same)
 
 -- what depths take that are all alike
-spent-alike : (rule : RuleKind) (b : Grid) (depth d count : ℕ) → ((k : ℕ) → d < k → four_tree rule k b ≡ count) → (e : ℕ) → spent_on rule b depth (d + e) ≡ spent_on rule b depth d + e * count
+spent-alike : (rule : RuleKind) (b : Grid) (depth d count : ℕ) → ((k : ℕ) → d < k → four_tree rule k b ≡ count) → (e : ℕ)
+    → spent_on rule b depth (d + e) ≡ spent_on rule b depth d + e * count
 spent-alike rule b depth d count alike zero =
     let same : d + zero ≡ d = omega arith in
     let none : zero * count ≡ 0 = omega arith in
@@ -215,7 +250,9 @@ spent-alike rule b depth d count alike (suc e) =
     let times : suc e * count ≡ count + e * count = omega arith in
     omega (arith, all, spent-more rule b depth (d + e), spent-alike rule b depth d count alike e, here, times)
 
-module _ (rule : RuleKind) (b : Grid) (depth budget left d : ℕ) (l : d < depth) (lawful : IsPosition rule b) (none : NoWinUpTo rule b depth d) (spent : left + spent_on rule b depth d ≡ budget) (rest : ℕ) (found : NoWin rest ≡ found_at rule (d + 1) b left) where
+module _ (rule : RuleKind) (b : Grid) (depth budget left d : ℕ) (l : d < depth) (lawful : IsPosition rule b)
+    (none : NoWinUpTo rule b depth d) (spent : left + spent_on rule b depth d ≡ budget) (rest : ℕ)
+    (found : NoWin rest ≡ found_at rule (d + 1) b left) where
   -- what this depth took
   pub looked-is : (rest + four_tree rule (d + 1) b ≡ left) × (0 < left - rest) × (left - rest ≡ four_tree rule (d + 1) b)
   looked-is =
@@ -225,7 +262,8 @@ module _ (rule : RuleKind) (b : Grid) (depth budget left d : ℕ) (l : d < depth
 
   module _ (before : ℕ) (first : d ≡ 0 → before ≡ 0) (last : 0 < d → before ≡ four_tree rule d b) (same : left - rest ≡ before) where
     alike : (k : ℕ) → d < k → (wins_by_fours rule k b ≡ false) × (four_tree rule k b ≡ left - rest)
-    alike k low = later rule b lawful d before (left - rest) (found-no-win rule (d + 1) b left rest found).1 looked-is.2 same first last k low
+    alike k low = later rule b lawful d before (left - rest) (found-no-win rule (d + 1) b left rest found).1 looked-is.2 same first last k
+        low
 
     pub alike-none : wins_by_fours rule depth b ≡ false
     alike-none = (alike depth l).0
@@ -239,9 +277,11 @@ module _ (rule : RuleKind) (b : Grid) (depth budget left d : ℕ) (l : d < depth
     alike-cost : four_cost rule depth b + rest ≡ budget + (depth - (d + 1)) * (left - rest)
     alike-cost =
         let end : d + 1 + (depth - (d + 1)) ≡ depth = omega arith in
-        total (four_cost rule depth b) (spent_on rule b depth depth) (spent_on rule b depth (d + 1)) (spent_on rule b depth d) (four_tree rule (d + 1) b) rest left budget ((depth - (d + 1)) * (left - rest))
+        total (four_cost rule depth b) (spent_on rule b depth depth) (spent_on rule b depth (d + 1)) (spent_on rule b depth d)
+        (four_tree rule (d + 1) b) rest left budget ((depth - (d + 1)) * (left - rest))
         (cost-none rule b depth none_at_all)
-        (sym (ap (spent_on rule b depth) end) ∙ spent-alike rule b depth (d + 1) (left - rest) (λ k low. (alike k (omega (arith, low))).1) (depth - (d + 1)))
+        (sym (ap (spent_on rule b depth) end) ∙ spent-alike rule b depth (d + 1) (left - rest) (λ k low. (alike k (omega (arith, low))).1)
+        (depth - (d + 1)))
         (spent-more rule b depth d) looked-is.0 spent
 
     pub alike-fits : nat_le ((depth - (d + 1)) * (left - rest)) rest ≡ true → four_cost rule depth b ≤ budget

@@ -1,6 +1,7 @@
 -- The fours of a position, tried one after another. Moves that need not be tried: where the defender has a five point, and at the last
 -- move. The points that make a five point, tried one after another: only those that take the defender's five points may help.
-use Rattle.std.proofs.Common.{◌≡◌, ℕ, zero, suc, ◌+◌, ◌-◌, ◌≤◌, ◌<◌, Bool, true, false, cond, ◌&&◌, ◌||◌, refl, sym, ap, ◌∙◌, arith, List, [], ◌∷◌, ◌++◌, nat_le, Option, Some, filter, subst, map, length, get_or}
+use Rattle.std.proofs.Common.{◌≡◌, ℕ, zero, suc, ◌+◌, ◌-◌, ◌≤◌, ◌<◌, Bool, true, false, cond, ◌&&◌, ◌||◌, refl, sym, ap, ◌∙◌, arith, List}
+use Rattle.std.proofs.Common.{[], ◌∷◌, ◌++◌, nat_le, Option, Some, filter, subst, map, length, get_or}
 use Rattle.std.specs.List.{list_any, find, sum_by}
 use Rattle.std.proofs.lemmas.Bool.Decides.{nat_tests}
 use Rattle.std.proofs.lemmas.List.Sums.{sum_by-cons}
@@ -8,7 +9,9 @@ use Rattle.game_rules.specs.declared.RuleKind.{RuleKind}
 use Rattle.game_rules.specs.declared.Outcome.{Outcome}
 use Rattle.game_rules.specs.declared.Outcome.TheVariants.{Refused, Wins, Fouls, Draws, GoesOn}
 use Rattle.game_rules.specs.declared.Point.{Point}
-use Rattle.game_rules.proofs.Common.{Grid, points_of, five, is_at, IsPosition, outcome, mover, after, goes_on_with, has_five, wins_or, starts_win, wins_under, wins_by_fours, four_move, is_empty, is_same_point, has_fouls, other, five_points}
+use Rattle.game_rules.proofs.Common.{Grid, points_of, five, is_at, IsPosition, outcome, mover, after, goes_on_with, has_five, wins_or}
+use Rattle.game_rules.proofs.Common.{starts_win, wins_under, wins_by_fours, four_move, is_empty, is_same_point, has_fouls, other}
+use Rattle.game_rules.proofs.Common.{five_points}
 use Rattle.game_rules.proofs.Points.{is_same_point-itself, any_witness, none_of}
 use Rattle.game_rules.proofs.PointLists.{not_found, no_point}
 use Rattle.game_rules.proofs.Games.{five-wins}
@@ -29,7 +32,8 @@ use Rattle.threat_moves.proofs.Fates.{blocked, not_all-foul}
 use Rattle.four_search.specs.declared.search.Found.{Found}
 use Rattle.four_search.specs.declared.search.Found.TheVariants.{Win, NoWin, Spent}
 use Rattle.four_search.specs.FourGame.{until, tried, if_one, behind_move, four_tree}
-use Rattle.four_search.specs.Searching.{found_by, line_behind, line_from, four_line, positions_behind, found_at, found_behind, found_trying, found_answering}
+use Rattle.four_search.specs.Searching.{found_by, line_behind, line_from, four_line, positions_behind, found_at, found_behind, found_trying}
+use Rattle.four_search.specs.Searching.{found_answering}
 use Rattle.four_search.specs.declared.makers.Maker.{Maker}
 use Rattle.four_search.specs.Makers.{makes, maker_at, makers_of, RulesOut}
 use Rattle.four_search.proofs.Listing.{at-told, each-told}
@@ -37,11 +41,13 @@ use Rattle.four_search.proofs.Listing.{at-told, each-told}
 -- ---- one after another
 
 -- what is no four move gives nothing
-pub trying-no_four : (rule : RuleKind) (n : ℕ) (b : Grid) (p : Point) (left : ℕ) → is_four_move rule b p ≡ false → found_trying rule n b p left ≡ NoWin left
+pub trying-no_four : (rule : RuleKind) (n : ℕ) (b : Grid) (p : Point) (left : ℕ) → is_four_move rule b p ≡ false
+    → found_trying rule n b p left ≡ NoWin left
 trying-no_four rule n b p left h = ap (λ r. cond r (found_behind rule n b p left) (NoWin left)) h
 
 -- a four move gives what is behind it
-pub trying-four : (rule : RuleKind) (n : ℕ) (b : Grid) (p : Point) (left : ℕ) → is_four_move rule b p ≡ true → found_trying rule n b p left ≡ found_behind rule n b p left
+pub trying-four : (rule : RuleKind) (n : ℕ) (b : Grid) (p : Point) (left : ℕ) → is_four_move rule b p ≡ true
+    → found_trying rule n b p left ≡ found_behind rule n b p left
 trying-four rule n b p left h = ap (λ r. cond r (found_behind rule n b p left) (NoWin left)) h
 
 -- what is found next, with the budget that is left
@@ -87,7 +93,8 @@ no_win left line =
     ap NoWin m ∙ ap (λ r. cond r (NoWin (left - 0)) Spent) (sym e)
 
 module _ (left t s : ℕ) (l1 l2 : List Point) where
-  next_spent : (w a r : Bool) → nat_le (t + s) left ≡ r → nat_le s (left - t) ≡ r → t ≤ left → found_by (left - t) s a l2 ≡ found_by left (t + s) a l2
+  next_spent : (w a r : Bool) → nat_le (t + s) left ≡ r → nat_le s (left - t) ≡ r → t ≤ left
+      → found_by (left - t) s a l2 ≡ found_by left (t + s) a l2
   next_spent w a r e f low =
       let m : left - t - s ≡ left - (t + s) = omega arith in
       rw (e, f, m) refl
@@ -101,7 +108,8 @@ module _ (left t s : ℕ) (l1 l2 : List Point) where
   spent_rest : nat_le t left ≡ false → nat_le (t + s) left ≡ false
   spent_rest h = grind (arith, nat_tests)
 
-  next_by : (w a r : Bool) → nat_le t left ≡ r → found_next (cond r (cond w (Win (left - t) l1) (NoWin (left - t))) Spent) (λ x. found_by x s a l2) ≡ found_by left (t + cond w 0 s) (w || a) (cond w l1 l2)
+  next_by : (w a r : Bool) → nat_le t left ≡ r → found_next (cond r (cond w (Win (left - t) l1) (NoWin (left - t))) Spent)
+      (λ x. found_by x s a l2) ≡ found_by left (t + cond w 0 s) (w || a) (cond w l1 l2)
   next_by true a true e =
       let z : t + 0 ≡ t = omega arith in
       rw (z, e) refl
@@ -113,7 +121,8 @@ module _ (left t s : ℕ) (l1 l2 : List Point) where
       rw (z, e) refl
   next_by false a false e = rw (spent_rest e) refl
 
-found_next-by : (left t s : ℕ) (w a : Bool) (l1 l2 : List Point) → found_next (found_by left t w l1) (λ x. found_by x s a l2) ≡ found_by left (t + cond w 0 s) (w || a) (cond w l1 l2)
+found_next-by : (left t s : ℕ) (w a : Bool) (l1 l2 : List Point)
+    → found_next (found_by left t w l1) (λ x. found_by x s a l2) ≡ found_by left (t + cond w 0 s) (w || a) (cond w l1 l2)
 found_next-by left t s w a l1 l2 = next_by left t s l1 l2 w a (nat_le t left) refl
 
 -- ---- all fours of a position without a five point
@@ -142,11 +151,17 @@ module _ (rule : RuleKind) (n : ℕ) (b : Grid) (lawful : IsPosition rule b) (no
   unfolding is_four_move
   no_four p h = lose_by (outcome rule b p) (has_five rule (after b p) (mover b)) _ (no-reply-wins rule b lawful none p) h
 
-  one_by : (left : ℕ) (p : Point) (r : Bool) → is_four_move rule b p ≡ r → cond r (found_behind rule n b p left) (NoWin left) ≡ found_by left (cond r (positions_behind rule n (after b p)) 0) (test p) (line (Some p))
-  one_by left p true four = ap (λ w. found_by left (positions_behind rule n (after b p)) w (line (Some p))) (sym (block_decides rule n b p lawful four))
+  one_by : (left : ℕ) (p : Point) (r : Bool) → is_four_move rule b p ≡ r
+      → cond r (found_behind rule n b p left) (NoWin left) ≡ found_by left (cond r (positions_behind rule n (after b p)) 0) (test p)
+      (line (Some p))
+  one_by left p true four = ap (λ w. found_by left (positions_behind rule n (after b p)) w (line (Some p)))
+      (sym (block_decides rule n b p lawful four))
   one_by left p false four = no_win left (line (Some p)) ∙ ap (λ w. found_by left 0 w (line (Some p))) (sym (no_four p four))
 
-  step_by : (left : ℕ) (p : Point) (ps : List Point) (r : Bool) → found_by left (behind p + cond r 0 (sum_by behind (until test ps))) (r || list_any test ps) (cond r (line (Some p)) (line (find test ps))) ≡ found_by left (sum_by behind (p ∷ cond r [] (until test ps))) (r || list_any test ps) (line (cond r (Some p) (find test ps)))
+  step_by : (left : ℕ) (p : Point) (ps : List Point) (r : Bool)
+      → found_by left (behind p + cond r 0 (sum_by behind (until test ps))) (r || list_any test ps)
+      (cond r (line (Some p)) (line (find test ps))) ≡ found_by left (sum_by behind (p ∷ cond r [] (until test ps))) (r || list_any test ps)
+      (line (cond r (Some p) (find test ps)))
   step_by left p ps true =
       let one : sum_by behind (p ∷ []) ≡ behind p + 0 = sum_by-cons behind p [] in
       ap (λ t. found_by left t true (line (Some p))) (sym one)
@@ -155,7 +170,8 @@ module _ (rule : RuleKind) (n : ℕ) (b : Grid) (lawful : IsPosition rule b) (no
       ap (λ t. found_by left t (list_any test ps) (line (find test ps))) (sym more)
 
   -- the first that wins, if the budget is not spent before
-  try_all-is : (left : ℕ) (ps : List Point) → try_all rule n b left ps ≡ found_by left (sum_by behind (until test ps)) (list_any test ps) (line (find test ps))
+  try_all-is : (left : ℕ) (ps : List Point) → try_all rule n b left ps ≡ found_by left (sum_by behind (until test ps)) (list_any test ps)
+      (line (find test ps))
   unfolding try_all
   try_all-is left [] = no_win left []
   try_all-is left (p ∷ ps) =
@@ -170,18 +186,22 @@ module _ (rule : RuleKind) (n : ℕ) (b : Grid) (lawful : IsPosition rule b) (no
 until-find : (f : Point → Bool) (ps : List Point) → until (λ p. is_at p (find f ps)) ps ≡ until f ps
 until-find f [] = refl
 until-find f (x ∷ ps) = by_test (f x) refl (until-find f ps) where
-  by_test : (r : Bool) → f x ≡ r → until (λ p. is_at p (find f ps)) ps ≡ until f ps → x ∷ cond (is_at x (cond r (Some x) (find f ps))) [] (until (λ p. is_at p (cond r (Some x) (find f ps))) ps) ≡ x ∷ cond r [] (until f ps)
+  by_test : (r : Bool) → f x ≡ r → until (λ p. is_at p (find f ps)) ps ≡ until f ps
+      → x ∷ cond (is_at x (cond r (Some x) (find f ps))) [] (until (λ p. is_at p (cond r (Some x) (find f ps))) ps) ≡ x ∷ cond r []
+      (until f ps)
   by_test true e rest = rw (is_same_point-itself x) refl
   by_test false e rest = rw (not_found f ps x e, rest) refl
 
 -- ---- what one search finds
 
-no_positions : (rule : RuleKind) (b : Grid) (ps : List Point) → sum_by (λ p. cond (is_four_move rule b p) (positions_behind rule zero (after b p)) 0) ps ≡ 0
+no_positions : (rule : RuleKind) (b : Grid) (ps : List Point)
+    → sum_by (λ p. cond (is_four_move rule b p) (positions_behind rule zero (after b p)) 0) ps ≡ 0
 no_positions rule b [] = refl
 no_positions rule b (p ∷ ps) =
     let count : Point → ℕ = λ p. cond (is_four_move rule b p) (positions_behind rule zero (after b p)) 0 in
     sum_by-cons count p ps ∙ zeros (is_four_move rule b p) (no_positions rule b ps) where
-      zeros : (r : Bool) → sum_by (λ p. cond (is_four_move rule b p) (positions_behind rule zero (after b p)) 0) ps ≡ 0 → cond r 0 0 + sum_by (λ p. cond (is_four_move rule b p) (positions_behind rule zero (after b p)) 0) ps ≡ 0
+      zeros : (r : Bool) → sum_by (λ p. cond (is_four_move rule b p) (positions_behind rule zero (after b p)) 0) ps ≡ 0
+          → cond r 0 0 + sum_by (λ p. cond (is_four_move rule b p) (positions_behind rule zero (after b p)) 0) ps ≡ 0
       zeros true h = rw h refl
       zeros false h = rw h refl
 
@@ -191,9 +211,11 @@ module _ (rule : RuleKind) (b : Grid) (lawful : IsPosition rule b) (none : has_f
   move-is n = ap (λ r. cond r (find (five rule b (mover b)) (points_of b)) (find (test rule n b lawful none) (points_of b))) none
 
   tried-is : (n : ℕ) → tried rule (suc n) b ≡ until (test rule n b lawful none) (points_of b)
-  tried-is n = ap (λ (o : Option Point). until (λ p. is_at p o) (points_of b)) (move-is n) ∙ until-find (test rule n b lawful none) (points_of b)
+  tried-is n = ap (λ (o : Option Point). until (λ p. is_at p o) (points_of b)) (move-is n)
+      ∙ until-find (test rule n b lawful none) (points_of b)
 
-  pub tree-is : (n : ℕ) → four_tree rule (suc n) b ≡ 1 + sum_by (behind rule n b lawful none) (until (test rule n b lawful none) (points_of b))
+  pub tree-is : (n : ℕ) → four_tree rule (suc n) b ≡ 1 + sum_by (behind rule n b lawful none)
+      (until (test rule n b lawful none) (points_of b))
   unfolding four_tree
   tree-is zero = ap (λ t. 1 + t) (sym (no_positions rule b (until (test rule zero b lawful none) (points_of b))))
   tree-is (suc m) =
@@ -202,7 +224,8 @@ module _ (rule : RuleKind) (b : Grid) (lawful : IsPosition rule b) (none : has_f
 
   line-is : (n : ℕ) → four_line rule (suc n) b ≡ line rule n b lawful none (find (test rule n b lawful none) (points_of b))
   unfolding four_line
-  line-is n = ap (λ r. cond r [] (line_from rule b (four_line rule n) (four_move rule (suc n) b))) none ∙ ap (line_from rule b (four_line rule n)) (move-is n)
+  line-is n = ap (λ r. cond r [] (line_from rule b (four_line rule n) (four_move rule (suc n) b))) none
+      ∙ ap (line_from rule b (four_line rule n)) (move-is n)
 
   pub wins-is : (n : ℕ) → wins_by_fours rule (suc n) b ≡ list_any (test rule n b lawful none) (points_of b)
   unfolding wins_under
@@ -222,20 +245,24 @@ module _ (rule : RuleKind) (b : Grid) (lawful : IsPosition rule b) (none : has_f
   found-after-all n budget some =
       try_all-is rule n b lawful none (budget - 1) (points_of b)
       ∙ one_more budget _ _ _ some
-      ∙ ap (λ t. found_by budget t (list_any (test rule n b lawful none) (points_of b)) (line rule n b lawful none (find (test rule n b lawful none) (points_of b)))) (sym (tree-is n))
-      ∙ ap (λ w. found_by budget (four_tree rule (suc n) b) w (line rule n b lawful none (find (test rule n b lawful none) (points_of b)))) (sym (wins-is n))
+      ∙ ap (λ t. found_by budget t (list_any (test rule n b lawful none) (points_of b))
+      (line rule n b lawful none (find (test rule n b lawful none) (points_of b)))) (sym (tree-is n))
+      ∙ ap (λ w. found_by budget (four_tree rule (suc n) b) w (line rule n b lawful none (find (test rule n b lawful none) (points_of b))))
+      (sym (wins-is n))
       ∙ ap (λ l. found_by budget (four_tree rule (suc n) b) (wins_by_fours rule (suc n) b) l) (sym (line-is n))
 
 before : (n : ℕ) → suc n - 1 ≡ n
 before n = omega arith
 
-pub found-after : (rule : RuleKind) (moves budget : ℕ) (b : Grid) → IsPosition rule b → has_five rule b (mover b) ≡ false → 0 < moves → 0 < budget → try_all rule (moves - 1) b (budget - 1) (points_of b) ≡ found_at rule moves b budget
+pub found-after : (rule : RuleKind) (moves budget : ℕ) (b : Grid) → IsPosition rule b → has_five rule b (mover b) ≡ false → 0 < moves
+    → 0 < budget → try_all rule (moves - 1) b (budget - 1) (points_of b) ≡ found_at rule moves b budget
 found-after rule zero budget b lawful none some fits = absurd (omega arith)
 found-after rule (suc n) budget b lawful none some fits =
     ap (λ m. try_all rule m b (budget - 1) (points_of b)) (before n) ∙ found-after-all rule b lawful none n budget fits
 
 -- a five point
-pub found-five : (rule : RuleKind) (moves budget : ℕ) (b : Grid) → has_five rule b (mover b) ≡ true → 0 < moves → 0 < budget → Win (budget - 1) [] ≡ found_at rule moves b budget
+pub found-five : (rule : RuleKind) (moves budget : ℕ) (b : Grid) → has_five rule b (mover b) ≡ true → 0 < moves → 0 < budget
+    → Win (budget - 1) [] ≡ found_at rule moves b budget
 unfolding four_tree four_line
 found-five rule zero budget b some moves fits = absurd (omega arith)
 found-five rule (suc n) budget b some moves fits =
@@ -243,7 +270,8 @@ found-five rule (suc n) budget b some moves fits =
     ap (λ r. cond r (Win (budget - 1) []) Spent) (sym fit)
     ∙ ap (λ t. found_by budget t true []) (sym (tree n))
     ∙ ap (λ w. found_by budget (four_tree rule (suc n) b) w []) (sym (five-wins rule b n some))
-    ∙ ap (λ l. found_by budget (four_tree rule (suc n) b) (wins_by_fours rule (suc n) b) l) (ap (λ r. cond r [] (line_from rule b (four_line rule n) (four_move rule (suc n) b))) (sym some)) where
+    ∙ ap (λ l. found_by budget (four_tree rule (suc n) b) (wins_by_fours rule (suc n) b) l)
+    (ap (λ r. cond r [] (line_from rule b (four_line rule n) (four_move rule (suc n) b))) (sym some)) where
       tree : (n : ℕ) → four_tree rule (suc n) b ≡ 1
       tree zero = refl
       tree (suc m) = ap (λ r. cond r 1 (1 + sum_by (behind_move rule b (four_tree rule (suc m))) (tried rule (suc (suc m)) b))) some
@@ -298,18 +326,22 @@ module _ (rule : RuleKind) (n : ℕ) (b : Grid) (p : Point) (budget : ℕ) where
   with_move (NoWin left) = NoWin left
   with_move Spent = Spent
 
-  moves_by : (t : ℕ) (line : List Point) (r w : Bool) → with_move (cond r (cond w (Win (budget - t) line) (NoWin (budget - t))) Spent) ≡ cond r (cond w (Win (budget - t) (line ++ p ∷ [])) (NoWin (budget - t))) Spent
+  moves_by : (t : ℕ) (line : List Point) (r w : Bool)
+      → with_move (cond r (cond w (Win (budget - t) line) (NoWin (budget - t))) Spent) ≡ cond r
+      (cond w (Win (budget - t) (line ++ p ∷ [])) (NoWin (budget - t))) Spent
   moves_by t line true true = refl
   moves_by t line true false = refl
   moves_by t line false w = refl
 
   behind-moves : with_move (found_answering rule n (after b p) budget) ≡ found_behind rule n b p budget
-  behind-moves = moves_by (positions_behind rule n (after b p)) (line_behind (four_line rule n) (after b p) (fate rule (after b p))) (nat_le (positions_behind rule n (after b p)) budget) (block_wins rule n (after b p) (fate rule (after b p)))
+  behind-moves = moves_by (positions_behind rule n (after b p)) (line_behind (four_line rule n) (after b p) (fate rule (after b p)))
+      (nat_le (positions_behind rule n (after b p)) budget) (block_wins rule n (after b p) (fate rule (after b p)))
 
   pub behind-no_win : (left : ℕ) → NoWin left ≡ found_answering rule n (after b p) budget → NoWin left ≡ found_behind rule n b p budget
   behind-no_win left e = ap with_move e ∙ behind-moves
 
-  pub behind-else : (f : Found) → ((left : ℕ) (line : List Point) → f ≡ Win left line → ⊥) → f ≡ found_answering rule n (after b p) budget → f ≡ found_behind rule n b p budget
+  pub behind-else : (f : Found) → ((left : ℕ) (line : List Point) → f ≡ Win left line → ⊥) → f ≡ found_answering rule n (after b p) budget
+      → f ≡ found_behind rule n b p budget
   behind-else (Win left line) h e = absurd (h left line refl)
   behind-else _ h e = ap with_move e ∙ behind-moves
 
@@ -319,26 +351,32 @@ module _ (rule : RuleKind) (n : ℕ) (b : Grid) (lawful : IsPosition rule b) whe
   lost : (p : Point) → outcome rule b p ≡ GoesOn → has_five rule (after b p) (other (mover b)) ≡ true → fate rule (after b p) ≡ Lost
   unfolding fate
   lost p on some =
-      let five : has_five rule (after b p) (mover (after b p)) ≡ true = ap (has_five rule (after b p)) (mover-then rule b p lawful on) ∙ some in
+      let five : has_five rule (after b p) (mover (after b p)) ≡ true =
+      ap (has_five rule (after b p)) (mover-then rule b p lawful on) ∙ some in
       rw five refl
 
   -- a move that leaves the defender a five point gives nothing
-  pub trying-lost : (p : Point) (left : ℕ) → (is_empty b p ≡ true → has_five rule (after b p) (other (mover b)) ≡ true) → found_trying rule n b p left ≡ NoWin left
+  pub trying-lost : (p : Point) (left : ℕ) → (is_empty b p ≡ true → has_five rule (after b p) (other (mover b)) ≡ true)
+      → found_trying rule n b p left ≡ NoWin left
   trying-lost p left some = by_empty (is_empty b p) refl where
     by_test : (r : Bool) → is_four_move rule b p ≡ r → is_empty b p ≡ true → cond r (found_behind rule n b p left) (NoWin left) ≡ NoWin left
     by_test false e h = refl
-    by_test true e h = sym (behind-no_win rule n b p left left (answering-lost rule (after b p) left n (sym (lost p (four-goes_on rule b p e) (some h)))))
+    by_test true e h = sym (behind-no_win rule n b p left left
+        (answering-lost rule (after b p) left n (sym (lost p (four-goes_on rule b p e) (some h)))))
 
     by_empty : (r : Bool) → is_empty b p ≡ r → found_trying rule n b p left ≡ NoWin left
     by_empty true e = by_test (is_four_move rule b p) refl e
     by_empty false e = trying-no_four rule n b p left (taken-no_four rule b p e)
 
   -- points that give nothing may be left out
-  pub try_all-filter : (f : Point → Bool) → ((p : Point) (l : ℕ) → f p ≡ false → found_trying rule n b p l ≡ NoWin l) → (left : ℕ) (ps : List Point) → try_all rule n b left ps ≡ try_all rule n b left (filter f ps)
+  pub try_all-filter : (f : Point → Bool) → ((p : Point) (l : ℕ) → f p ≡ false → found_trying rule n b p l ≡ NoWin l)
+      → (left : ℕ) (ps : List Point) → try_all rule n b left ps ≡ try_all rule n b left (filter f ps)
   unfolding try_all
   try_all-filter f skip left [] = refl
   try_all-filter f skip left (p ∷ ps) = by_test (f p) refl (λ l. try_all-filter f skip l ps) where
-    by_test : (r : Bool) → f p ≡ r → ((l : ℕ) → try_all rule n b l ps ≡ try_all rule n b l (filter f ps)) → found_next (found_trying rule n b p left) (λ l. try_all rule n b l ps) ≡ try_all rule n b left (cond r (p ∷ filter f ps) (filter f ps))
+    by_test : (r : Bool) → f p ≡ r → ((l : ℕ) → try_all rule n b l ps ≡ try_all rule n b l (filter f ps))
+        → found_next (found_trying rule n b p left) (λ l. try_all rule n b l ps) ≡ try_all rule n b left
+        (cond r (p ∷ filter f ps) (filter f ps))
     by_test true e rest = ap (λ (next : ℕ → Found). found_next (found_trying rule n b p left) next) (λ i l. rest l i)
     by_test false e rest = ap (λ x. found_next x (λ l. try_all rule n b l ps)) (skip p left e) ∙ rest left
 
@@ -353,20 +391,24 @@ module _ (rule : RuleKind) (n : ℕ) (b : Grid) (lawful : IsPosition rule b) whe
 
 -- ---- what a search finds where the defender has five points
 
-module _ (rule : RuleKind) (moves budget : ℕ) (b : Grid) (lawful : IsPosition rule b) (none : has_five rule b (mover b) ≡ false) (some : 0 < moves) (fits : 0 < budget) where
+module _ (rule : RuleKind) (moves budget : ℕ) (b : Grid) (lawful : IsPosition rule b) (none : has_five rule b (mover b) ≡ false)
+    (some : 0 < moves) (fits : 0 < budget) where
   -- with two five points or more of the defender there is no win
   pub found-several : in_short (five_points rule b (other (mover b))) ≡ Several → NoWin (budget - 1) ≡ found_at rule moves b budget
   found-several several =
-      let skip : (p : Point) (l : ℕ) → found_trying rule (moves - 1) b p l ≡ NoWin l = λ p l. trying-lost rule (moves - 1) b lawful p l (λ empty. several-left rule b (mover b) p lawful.board empty several) in
+      let skip : (p : Point) (l : ℕ) → found_trying rule (moves - 1) b p l ≡ NoWin l =
+      λ p l. trying-lost rule (moves - 1) b lawful p l (λ empty. several-left rule b (mover b) p lawful.board empty several) in
       sym (try_all-none rule (moves - 1) b (budget - 1))
       ∙ ap (try_all rule (moves - 1) b (budget - 1)) (sym (no_point (points_of b)))
       ∙ sym (try_all-filter rule (moves - 1) b lawful (λ p. false) (λ p l e. skip p l) (budget - 1) (points_of b))
       ∙ found-after rule moves budget b lawful none some fits
 
   -- with one only that is tried
-  pub found-one : (w : Point) → in_short (five_points rule b (other (mover b))) ≡ OnePoint w → found_trying rule (moves - 1) b w (budget - 1) ≡ found_at rule moves b budget
+  pub found-one : (w : Point) → in_short (five_points rule b (other (mover b))) ≡ OnePoint w
+      → found_trying rule (moves - 1) b w (budget - 1) ≡ found_at rule moves b budget
   found-one w one =
-      let skip : (p : Point) (l : ℕ) → is_same_point p w ≡ false → found_trying rule (moves - 1) b p l ≡ NoWin l = λ p l e. trying-lost rule (moves - 1) b lawful p l (λ empty. one-stays rule b lawful p empty w one e) in
+      let skip : (p : Point) (l : ℕ) → is_same_point p w ≡ false → found_trying rule (moves - 1) b p l ≡ NoWin l =
+      λ p l e. trying-lost rule (moves - 1) b lawful p l (λ empty. one-stays rule b lawful p empty w one e) in
       sym (try_all-single rule (moves - 1) b lawful (budget - 1) w)
       ∙ ap (try_all rule (moves - 1) b (budget - 1)) (sym (only b w (is_empty-on b w (one-empty rule b (other (mover b)) w one))))
       ∙ sym (try_all-filter rule (moves - 1) b lawful (λ p. is_same_point p w) skip (budget - 1) (points_of b))
@@ -374,13 +416,15 @@ module _ (rule : RuleKind) (moves budget : ℕ) (b : Grid) (lawful : IsPosition 
 
 -- ---- the last move
 
-module _ (rule : RuleKind) (b : Grid) (lawful : IsPosition rule b) (none : has_five rule b (mover b) ≡ false) (calm : has_fouls rule (other (mover b)) ≡ false) where
+module _ (rule : RuleKind) (b : Grid) (lawful : IsPosition rule b) (none : has_five rule b (mover b) ≡ false)
+    (calm : has_fouls rule (other (mover b)) ≡ false) where
   last-four : (p : Point) → is_four_move rule b p ≡ true → starts_win (has_five rule) rule b (wins_by_fours rule zero) p ≡ false
   last-four p four =
       let found = any_witness (five rule (after b p) (mover b)) (points_of (after b p)) (four-five rule b p four) in
       let empty = five-empty rule (after b p) (mover b) found.0 found.1 in
       let turn = ap (has_fouls rule) (mover-then rule b p lawful (four-goes_on rule b p four)) ∙ calm in
-      block_decides rule zero b p lawful four ∙ no_last-win rule (after b p) (fate rule (after b p)) (not_all-foul rule (after b p) found.0 empty turn)
+      block_decides rule zero b p lawful four ∙ no_last-win rule (after b p) (fate rule (after b p))
+      (not_all-foul rule (after b p) found.0 empty turn)
 
   last-start : (p : Point) → test rule zero b lawful none p ≡ true → ⊥
   last-start p h = by_test (is_four_move rule b p) refl where
@@ -393,14 +437,16 @@ module _ (rule : RuleKind) (b : Grid) (lawful : IsPosition rule b) (none : has_f
   unfolding four_tree
   found-last moves budget e fits =
       let fit : nat_le 1 budget ≡ true = grind (arith, nat_tests) in
-      let lost : wins_by_fours rule 1 b ≡ false = wins-is rule b lawful none zero ∙ none_of (test rule zero b lawful none) (points_of b) last-start in
+      let lost : wins_by_fours rule 1 b ≡ false = wins-is rule b lawful none zero
+      ∙ none_of (test rule zero b lawful none) (points_of b) last-start in
       ap (λ r. cond r (NoWin (budget - 1)) Spent) (sym fit)
       ∙ ap (λ w. found_by budget 1 w (four_line rule 1 b)) (sym lost)
       ∙ ap (λ (m : ℕ). found_at rule m b budget) (sym e)
 
 -- ---- after the one block of a four
 
-module _ (rule : RuleKind) (c : Grid) (w : Point) (lawful : IsPosition rule c) (on : outcome rule c w ≡ GoesOn) (one : in_short (five_points rule c (other (mover c))) ≡ OnePoint w) where
+module _ (rule : RuleKind) (c : Grid) (w : Point) (lawful : IsPosition rule c) (on : outcome rule c w ≡ GoesOn)
+    (one : in_short (five_points rule c (other (mover c))) ≡ OnePoint w) where
   -- the attacker has no five point
   pub block-none : has_five rule (after c w) (mover (after c w)) ≡ false
   block-none = ap (has_five rule (after c w)) (mover-then rule c w lawful on) ∙ blocked rule c w lawful.board (GoesOn-empty rule c w on) one
@@ -410,8 +456,10 @@ module _ (rule : RuleKind) (c : Grid) (w : Point) (lawful : IsPosition rule c) (
   block-threat = ap (λ s. in_short (five_points rule (after c w) s)) (sym (mover-other rule c w lawful on))
 
   -- with one move left there is no win, where the defender has no fouls
-  pub block-last : (moves budget : ℕ) → moves ≡ 1 → 0 < budget → has_fouls rule (mover c) ≡ false → NoWin (budget - 1) ≡ found_at rule moves (after c w) budget
-  block-last moves budget e fits calm = found-last rule (after c w) (IsPosition-after rule c w lawful on) block-none (ap (has_fouls rule) (mover-other rule c w lawful on) ∙ calm) moves budget e fits
+  pub block-last : (moves budget : ℕ) → moves ≡ 1 → 0 < budget → has_fouls rule (mover c) ≡ false
+      → NoWin (budget - 1) ≡ found_at rule moves (after c w) budget
+  block-last moves budget e fits calm = found-last rule (after c w) (IsPosition-after rule c w lawful on) block-none
+      (ap (has_fouls rule) (mover-other rule c w lawful on) ∙ calm) moves budget e fits
 
 -- ---- which moves are fours
 
@@ -426,12 +474,14 @@ module _ (rule : RuleKind) (n : ℕ) (b : Grid) (p : Point) (budget : ℕ) where
     no_four : is_four_move rule b p ≡ false
     no_four = goes_on_with-else (outcome rule b p) (has_five rule (after b p) (mover b)) h
 
-  some_five : (made : FivePoints) → made ≡ in_short (five_points rule (after b p) (mover b)) → (made ≡ NoPoint → ⊥) → has_five rule (after b p) (mover b) ≡ true
+  some_five : (made : FivePoints) → made ≡ in_short (five_points rule (after b p) (mover b)) → (made ≡ NoPoint → ⊥)
+      → has_five rule (after b p) (mover b) ≡ true
   some_five NoPoint e some = absurd (some refl)
   some_five (OnePoint w) e some = has_five-one rule (after b p) (mover b) w (sym e)
   some_five Several e some = has_five-several rule (after b p) (mover b) (sym e)
 
-  pub trying-goes : has_five rule (after b p) (mover b) ≡ true → outcome rule b p ≡ GoesOn → found_behind rule n b p budget ≡ found_trying rule n b p budget
+  pub trying-goes : has_five rule (after b p) (mover b) ≡ true → outcome rule b p ≡ GoesOn
+      → found_behind rule n b p budget ≡ found_trying rule n b p budget
   unfolding is_four_move
   trying-goes some on = sym (trying-four rule n b p budget (ap (λ o. goes_on_with o (has_five rule (after b p) (mover b))) on ∙ some))
 
@@ -446,18 +496,22 @@ module _ (rule : RuleKind) (b : Grid) (lawful : IsPosition rule b) where
   pub try-makers : (n left : ℕ) → try_all rule n b left (map (λ m. m.at) (makers_of rule b)) ≡ try_all rule n b left (points_of b)
   try-makers n left =
       ap (try_all rule n b left) (at-told rule b (filter (makes rule b) (points_of b)))
-      ∙ sym (try_all-filter rule n b lawful (makes rule b) (λ p l e. trying-no_four rule n b p l (makes-no_four rule b p e)) left (points_of b))
+      ∙ sym (try_all-filter rule n b lawful (makes rule b) (λ p l e. trying-no_four rule n b p l (makes-no_four rule b p e)) left
+      (points_of b))
 
   -- what is found by trying all
-  pub found-makers : (ms : List Maker) (moves budget : ℕ) → ms ≡ makers_of rule b → has_five rule b (mover b) ≡ false → 0 < moves → 0 < budget → try_all rule (moves - 1) b (budget - 1) (map (λ m. m.at) ms) ≡ found_at rule moves b budget
+  pub found-makers : (ms : List Maker) (moves budget : ℕ) → ms ≡ makers_of rule b → has_five rule b (mover b) ≡ false → 0 < moves
+      → 0 < budget → try_all rule (moves - 1) b (budget - 1) (map (λ m. m.at) ms) ≡ found_at rule moves b budget
   found-makers ms moves budget is none some fits =
       ap (λ (xs : List Maker). try_all rule (moves - 1) b (budget - 1) (map (λ m. m.at) xs)) is
       ∙ try-makers (moves - 1) (budget - 1) ∙ found-after rule moves budget b lawful none some fits
 
   -- each is told with its five points
-  pub each-maker : (ms : List Maker) (i : ℕ) (m : Maker) → ms ≡ makers_of rule b → i < length ms → (get_or ms i m ≡ maker_at rule b (get_or ms i m).at) × (makes rule b (get_or ms i m).at ≡ true)
+  pub each-maker : (ms : List Maker) (i : ℕ) (m : Maker) → ms ≡ makers_of rule b → i < length ms
+      → (get_or ms i m ≡ maker_at rule b (get_or ms i m).at) × (makes rule b (get_or ms i m).at ≡ true)
   each-maker ms i m is within =
-      let F : List Maker → Type 0 = λ xs. i < length xs → (get_or xs i m ≡ maker_at rule b (get_or xs i m).at) × (makes rule b (get_or xs i m).at ≡ true) in
+      let F : List Maker → Type 0 = λ xs. i < length xs → (get_or xs i m ≡ maker_at rule b (get_or xs i m).at)
+      × (makes rule b (get_or xs i m).at ≡ true) in
       subst F (sym is) (each-told rule b (makes rule b) (points_of b) i m) within
 
   module _ (threat : FivePoints) (told : threat ≡ in_short (five_points rule b (other (mover b)))) (p : Point) where
@@ -470,7 +524,10 @@ module _ (rule : RuleKind) (b : Grid) (lawful : IsPosition rule b) where
     taken-safe empty h = taken-none rule b (mover b) p lawful.board empty threat told h
 
   -- where no four can be made nothing is found
-  pub ruled-out : (threat : FivePoints) → threat ≡ in_short (five_points rule b (other (mover b))) → (moves budget : ℕ) → has_five rule b (mover b) ≡ false → 0 < moves → 0 < budget → RulesOut rule b threat → NoWin (budget - 1) ≡ found_at rule moves b budget
+  pub ruled-out : (threat : FivePoints) → threat ≡ in_short (five_points rule b (other (mover b))) → (moves budget : ℕ)
+      → has_five rule b (mover b) ≡ false → 0 < moves → 0 < budget → RulesOut rule b threat
+      → NoWin (budget - 1) ≡ found_at rule moves b budget
   ruled-out NoPoint e moves budget none some fits h = absurd h
-  ruled-out (OnePoint w) e moves budget none some fits h = trying-no_five rule (moves - 1) b w (budget - 1) h ∙ found-one rule moves budget b lawful none some fits w (sym e)
+  ruled-out (OnePoint w) e moves budget none some fits h =
+      trying-no_five rule (moves - 1) b w (budget - 1) h ∙ found-one rule moves budget b lawful none some fits w (sym e)
   ruled-out Several e moves budget none some fits h = found-several rule moves budget b lawful none some fits (sym e)

@@ -26,7 +26,8 @@ pub record GapsOneWay (b : Grid) (s : Side) (d : Axis) (w : Way) (p q r : Point)
 pub record GapsBothWays (b : Grid) (s : Side) (d : Axis) (p q r : Point) : Type 0 where
   pub ahead : IsPast b s d Ahead p q
   pub behind : IsPast b s d Behind p r
-  pub enough : 3 ≤ 1 + stones_towards Ahead b s d p + stones_towards Behind b s d p + stones_towards Ahead b s d q + stones_towards Behind b s d r
+  pub enough : 3 ≤ 1 + stones_towards Ahead b s d p + stones_towards Behind b s d p + stones_towards Ahead b s d q + stones_towards Behind b
+      s d r
 
 -- two gaps from the stone on p on the axis which with stones of the side make a row of five or more
 abbrev pub AreGaps : Grid → Side → Axis → Point → Point → Point → Type 0

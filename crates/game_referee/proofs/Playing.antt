@@ -111,7 +111,8 @@ module _ (rule : RuleKind) (b : Grid) (ms : List Point) where
 
 -- ---- moves that are taken back
 
-went-lawful : (rule : RuleKind) (b : Grid) (ms : List Point) (n : ℕ) (e : Grid) → IsPosition rule b → WentOn rule b ms n e → IsPosition rule e
+went-lawful : (rule : RuleKind) (b : Grid) (ms : List Point) (n : ℕ) (e : Grid) → IsPosition rule b → WentOn rule b ms n e
+    → IsPosition rule e
 went-lawful rule b ms zero e lawful h = subst (IsPosition rule) (sym h) lawful
 went-lawful rule b ms (suc n) e lawful h = played-lawful rule h.0 e h.2 (went-lawful rule b ms n h.0 lawful h.1) h.4 h.5
 

@@ -42,7 +42,13 @@ no_axis f h Up = (or_parts (f Up) _ (or_parts (f Down) _ (or_parts (f Column) _ 
 
 -- where one test follows from another, at most as many axes meet the other
 pub fewer_axes : (f g : Axis → Bool) → ((d : Axis) → f d ≡ true → g d ≡ true) → count_by f axes ≤ count_by g axes
-fewer_axes f g h = omega (arith, more_pass (f Row) (g Row) (h Row), more_pass (f Column) (g Column) (h Column), more_pass (f Down) (g Down) (h Down), more_pass (f Up) (g Up) (h Up))
+fewer_axes f g h = omega (
+  arith,
+  more_pass (f Row) (g Row) (h Row),
+  more_pass (f Column) (g Column) (h Column),
+  more_pass (f Down) (g Down) (h Down),
+  more_pass (f Up) (g Up) (h Up),
+)
 
 -- where no other axis wins, the one decides
 pub by_axis : (f : Axis → Bool) (d : Axis) → ((e : Axis) → e ≢ d → f e ≡ false) → list_any f axes ≡ f d

@@ -1,11 +1,14 @@
 -- Stones that are put and lifted.
-use Rattle.std.proofs.Common.{◌≡◌, ◌≢◌, ◌⊎◌, inl, inr, ℕ, zero, suc, ◌+◌, ◌-◌, ◌*◌, ◌≤◌, ◌<◌, Bool, true, false, cond, ◌&&◌, refl, sym, ap, arith, List, [], ◌∷◌, set, get_or, length, nat_lt, nat_le, nat_eq, get_or-set_other, get_or-set_same, ◌∙◌}
+use Rattle.std.proofs.Common.{◌≡◌, ◌≢◌, ◌⊎◌, inl, inr, ℕ, zero, suc, ◌+◌, ◌-◌, ◌*◌, ◌≤◌, ◌<◌, Bool, true, false, cond, ◌&&◌, refl, sym, ap}
+use Rattle.std.proofs.Common.{arith, List, [], ◌∷◌, set, get_or, length, nat_lt, nat_le, nat_eq, get_or-set_other, get_or-set_same, ◌∙◌}
 use Rattle.std.specs.List.{prefix_len, range_with_len}
 use Rattle.std.specs.Prelude.{Option, Some, None}
 use Rattle.std.proofs.lemmas.Nat.{same_from_place, mul-le}
 use Rattle.std.proofs.lemmas.List.Sums.{sum_by-set}
 use Rattle.std.proofs.lemmas.Grind.{rows}
-use Rattle.game_rules.proofs.Common.{Grid, IsBoard, is_on, is_empty, is_empty_cell, is_stone_of, stone_of, holds, cell_at, place_of, put, lift, empties_of, along, shift, point_of, stone_at, stones_ahead, stones_behind, run_of, line_bound, other}
+use Rattle.game_rules.proofs.Common.{Grid, IsBoard, is_on, is_empty, is_empty_cell, is_stone_of, stone_of, holds, cell_at, place_of, put}
+use Rattle.game_rules.proofs.Common.{lift, empties_of, along, shift, point_of, stone_at, stones_ahead, stones_behind, run_of, line_bound}
+use Rattle.game_rules.proofs.Common.{other}
 use Rattle.game_rules.specs.declared.Side.{Side}
 use Rattle.game_rules.specs.declared.Cell.{Cell}
 use Rattle.game_rules.specs.declared.Axis.{Axis}
@@ -84,13 +87,16 @@ place_fits b p ok h =
     grind (arith, rows)
 
 -- a stone changes no other point
-pub cell_at-put_other : (b : Grid) (s : Side) (p q : Point) → is_on b p ≡ true → is_on b q ≡ true → Apart p q → cell_at (put b s p) q ≡ cell_at b q
-cell_at-put_other b s p q onp onq d = get_or-set_other b.cells (place_of b p) (place_of b q) (stone_of s) Empty (places_differ b p q onp onq d)
+pub cell_at-put_other : (b : Grid) (s : Side) (p q : Point) → is_on b p ≡ true → is_on b q ≡ true → Apart p q
+    → cell_at (put b s p) q ≡ cell_at b q
+cell_at-put_other b s p q onp onq d = get_or-set_other b.cells (place_of b p) (place_of b q) (stone_of s) Empty
+    (places_differ b p q onp onq d)
 
 pub cell_at-put_same : (b : Grid) (s : Side) (p : Point) → IsBoard b → is_on b p ≡ true → cell_at (put b s p) p ≡ stone_of s
 cell_at-put_same b s p ok h = get_or-set_same b.cells (place_of b p) (stone_of s) Empty (place_fits b p ok h)
 
-holds_by : (b c : Grid) (t : Side) (q : Point) (r : Bool) → is_on b q ≡ r → is_on c q ≡ r → (r ≡ true → cell_at b q ≡ cell_at c q) → holds b t q ≡ holds c t q
+holds_by : (b c : Grid) (t : Side) (q : Point) (r : Bool) → is_on b q ≡ r → is_on c q ≡ r → (r ≡ true → cell_at b q ≡ cell_at c q)
+    → holds b t q ≡ holds c t q
 holds_by b c t q true x y h = rw (x, y) (ap (is_stone_of t) (h refl))
 holds_by b c t q false x y h = rw (x, y) refl
 
@@ -139,7 +145,8 @@ IsElse : Point → Option Point → Type 0
 IsElse p None = Unit {0}
 IsElse p (Some q) = Apart p q
 
-stone_at-put : (b : Grid) (s t : Side) (p : Point) (o : Option Point) → is_on b p ≡ true → IsElse p o → stone_at (put b s p) t o ≡ stone_at b t o
+stone_at-put : (b : Grid) (s t : Side) (p : Point) (o : Option Point) → is_on b p ≡ true → IsElse p o
+    → stone_at (put b s p) t o ≡ stone_at b t o
 unfolding IsElse
 stone_at-put b s t p None h d = refl
 stone_at-put b s t p (Some q) h d = holds-put_other b s t p q h d
@@ -175,7 +182,8 @@ along-moves Down p a c h = else_by_x p _ _ (shift-moves p.x a c h)
 along-moves Up p a c h = else_by_x p _ _ (shift-moves p.x a c h)
 
 -- tests that agree from a on hold as far
-pub prefix_len-same : (f g : ℕ → Bool) (n a : ℕ) → ((k : ℕ) → a ≤ k → f k ≡ g k) → prefix_len f (range_with_len a n) ≡ prefix_len g (range_with_len a n)
+pub prefix_len-same : (f g : ℕ → Bool) (n a : ℕ) → ((k : ℕ) → a ≤ k → f k ≡ g k)
+    → prefix_len f (range_with_len a n) ≡ prefix_len g (range_with_len a n)
 prefix_len-same f g zero a h = refl
 prefix_len-same f g (suc n) a h =
     let e : f a ≡ g a = h a (omega arith) in
@@ -186,10 +194,12 @@ prefix_len-same f g (suc n) a h =
 module _ (b : Grid) (s : Side) (p : Point) (on : is_on b p ≡ true) where
   -- a stone on p leaves the rows beside p as they are
   pub stones_ahead-put : (t : Side) (d : Axis) → stones_ahead (put b s p) t d p ≡ stones_ahead b t d p
-  stones_ahead-put t d = prefix_len-same _ _ (line_bound b) 1 (λ k l. stone_at-put b s t p _ on (along-moves d p k 0 (λ e. absurd (omega arith))))
+  stones_ahead-put t d = prefix_len-same _ _ (line_bound b) 1
+      (λ k l. stone_at-put b s t p _ on (along-moves d p k 0 (λ e. absurd (omega arith))))
 
   pub stones_behind-put : (t : Side) (d : Axis) → stones_behind (put b s p) t d p ≡ stones_behind b t d p
-  stones_behind-put t d = prefix_len-same _ _ (line_bound b) 1 (λ k l. stone_at-put b s t p _ on (along-moves d p 0 k (λ e. absurd (omega arith))))
+  stones_behind-put t d = prefix_len-same _ _ (line_bound b) 1
+      (λ k l. stone_at-put b s t p _ on (along-moves d p 0 k (λ e. absurd (omega arith))))
 
   -- the run through the new stone
   pub run_of-put : IsBoard b → (d : Axis) → run_of (put b s p) s d p ≡ 1 + stones_ahead b s d p + stones_behind b s d p
@@ -252,6 +262,8 @@ places_apart b p q onp onq d e =
     d.apart same.1 same.0
 
 -- two stones on different points may be put in either order
-pub put_comm : (b : Grid) (s t : Side) (p q : Point) → is_on b p ≡ true → is_on b q ≡ true → Apart p q → put (put b s p) t q ≡ put (put b t q) s p
+pub put_comm : (b : Grid) (s t : Side) (p q : Point) → is_on b p ≡ true → is_on b q ≡ true → Apart p q
+    → put (put b s p) t q ≡ put (put b t q) s p
 put_comm b s t p q onp onq d =
-    ap (λ (l : List Cell). let r : Grid = record b { cells = l } in r) (set_comm b.cells (place_of b p) (place_of b q) (stone_of s) (stone_of t) (places_apart b p q onp onq d))
+    ap (λ (l : List Cell). let r : Grid = record b { cells = l } in r)
+    (set_comm b.cells (place_of b p) (place_of b q) (stone_of s) (stone_of t) (places_apart b p q onp onq d))

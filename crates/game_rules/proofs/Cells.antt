@@ -1,5 +1,6 @@
 -- Cells and the stones in them, one by one and counted.
-use Rattle.std.proofs.Common.{ℕ, Bool, cond, ◌≡◌, ◌+◌, List, ◌∷◌, length, arith, [], refl, ◌*◌, ◌∙◌, ap, true, not, false, ◌&&◌, map, inl, inr, ◌⊎◌, zero, suc, ◌<◌, get_or, replicate, sym}
+use Rattle.std.proofs.Common.{ℕ, Bool, cond, ◌≡◌, ◌+◌, List, ◌∷◌, length, arith, [], refl, ◌*◌, ◌∙◌, ap, true, not, false, ◌&&◌, map, inl}
+use Rattle.std.proofs.Common.{inr, ◌⊎◌, zero, suc, ◌<◌, get_or, replicate, sym}
 use Rattle.std.specs.List.{count_by, list_any}
 use Rattle.std.specs.Bool.{Decides}
 use Rattle.std.specs.Cmp.Lexicographic.{pointwise}
@@ -8,7 +9,8 @@ use Rattle.std.proofs.lemmas.List.Sums.{sum_by-cons}
 use Rattle.std.proofs.lemmas.Slice.Eq.{slice_eq-Decides}
 use Rattle.std.proofs.lemmas.List.{length-map}
 use Rattle.std.proofs.lemmas.Bool.{or_cases}
-use Rattle.game_rules.proofs.Common.{is_empty_cell, is_stone_of, Grid, IsBoard, stones_of, empties_of, stone_of, is_on, cell_at, is_empty, other, is_same_point}
+use Rattle.game_rules.proofs.Common.{is_empty_cell, is_stone_of, Grid, IsBoard, stones_of, empties_of, stone_of, is_on, cell_at, is_empty}
+use Rattle.game_rules.proofs.Common.{other, is_same_point}
 use Rattle.game_rules.specs.declared.Cell.{Cell}
 use Rattle.game_rules.specs.declared.Side.{Side}
 use Rattle.game_rules.specs.declared.Point.{Point}
@@ -21,7 +23,10 @@ use Rattle.game_rules.proofs.Points.{is_same_point-same}
 abbrev count_if : (Cell → Bool) → Cell → ℕ
 count_if test c = cond (test c) 1 0
 
-add_one_cell : (c : Cell) (cells : List Cell) → count_if (is_stone_of Black) c + count_if (is_stone_of White) c + count_if is_empty_cell c ≡ 1 → count_by (is_stone_of Black) cells + count_by (is_stone_of White) cells + count_by is_empty_cell cells ≡ length cells → count_by (is_stone_of Black) (c ∷ cells) + count_by (is_stone_of White) (c ∷ cells) + count_by is_empty_cell (c ∷ cells) ≡ length (c ∷ cells)
+add_one_cell : (c : Cell) (cells : List Cell) → count_if (is_stone_of Black) c + count_if (is_stone_of White) c + count_if is_empty_cell c
+    ≡ 1 → count_by (is_stone_of Black) cells + count_by (is_stone_of White) cells + count_by is_empty_cell cells ≡ length cells
+    → count_by (is_stone_of Black) (c ∷ cells) + count_by (is_stone_of White) (c ∷ cells) + count_by is_empty_cell (c ∷ cells) ≡ length
+    (c ∷ cells)
 add_one_cell c cells one rest =
     let blacks = sum_by-cons (count_if (is_stone_of Black)) c cells in
     let whites = sum_by-cons (count_if (is_stone_of White)) c cells in
@@ -29,7 +34,8 @@ add_one_cell c cells one rest =
     omega (arith, one, rest, blacks, whites, empties)
 
 -- each cell holds a black stone, a white stone or none
-counts_add : (cells : List Cell) → count_by (is_stone_of Black) cells + count_by (is_stone_of White) cells + count_by is_empty_cell cells ≡ length cells
+counts_add : (cells : List Cell) → count_by (is_stone_of Black) cells + count_by (is_stone_of White) cells + count_by is_empty_cell cells
+    ≡ length cells
 counts_add [] = refl
 counts_add (Empty ∷ cells) = add_one_cell Empty cells refl (counts_add cells)
 counts_add (BlackStone ∷ cells) = add_one_cell BlackStone cells refl (counts_add cells)
@@ -51,7 +57,8 @@ cell_eq-Decides WhiteStone BlackStone = (λ h. cc, λ h. cc)
 cell_eq-Decides WhiteStone WhiteStone = (λ h. refl, λ h. refl)
 
 -- boards of one width and height are one exactly where their cells are
-pub same_cells-Decides : (b c : Grid) (r : Bool) → b.width ≡ c.width → b.height ≡ c.height → r ≡ pointwise eq-value.it b.cells c.cells → Decides r (b ≡ c)
+pub same_cells-Decides : (b c : Grid) (r : Bool) → b.width ≡ c.width → b.height ≡ c.height → r ≡ pointwise eq-value.it b.cells c.cells
+    → Decides r (b ≡ c)
 same_cells-Decides b c r w h e =
     let cells : Decides r (b.cells ≡ c.cells) = slice_eq-Decides cell_eq-Decides b.cells c.cells r e in (
       λ yes. λ i. record { width = w i; height = h i; cells = cells.0 yes i },
@@ -142,10 +149,13 @@ other_stone Black false = refl
 other_stone White true = refl
 other_stone White false = refl
 
-pub some_place : (f : Cell → Bool) (cells : List Cell) (d : Cell) → 0 < count_by f cells → (k : ℕ) × (k < length cells) × (f (slice_index_or cells k d) ≡ true)
+pub some_place : (f : Cell → Bool) (cells : List Cell) (d : Cell) → 0 < count_by f cells
+    → (k : ℕ) × (k < length cells) × (f (slice_index_or cells k d) ≡ true)
 some_place f [] d h = absurd (omega arith)
 some_place f (c ∷ cs) d h = by_test (f c) refl (sum_by-cons (λ x. cond (f x) 1 0) c cs) (some_place f cs d) where
-  by_test : (r : Bool) → f c ≡ r → count_by f (c ∷ cs) ≡ cond r 1 0 + count_by f cs → (0 < count_by f cs → (k : ℕ) × (k < length cs) × (f (slice_index_or cs k d) ≡ true)) → (k : ℕ) × (k < suc (length cs)) × (f (slice_index_or (c ∷ cs) k d) ≡ true)
+  by_test : (r : Bool) → f c ≡ r → count_by f (c ∷ cs) ≡ cond r 1 0 + count_by f cs
+      → (0 < count_by f cs → (k : ℕ) × (k < length cs) × (f (slice_index_or cs k d) ≡ true))
+      → (k : ℕ) × (k < suc (length cs)) × (f (slice_index_or (c ∷ cs) k d) ≡ true)
   by_test true e sum rest = (zero, omega arith, e)
   by_test false e sum rest = let later = rest (omega (arith, sum, h)) in let low = later.1 in (suc later.0, omega (arith, low), later.2)
 
@@ -155,14 +165,19 @@ empty_cell (suc n) zero = refl
 empty_cell (suc n) (suc k) = empty_cell n k
 
 -- cells among which no stones are counted are empty
-pub bare-cells : (cells : List Cell) → count_by (is_stone_of Black) cells ≡ 0 → count_by (is_stone_of White) cells ≡ 0 → cells ≡ replicate (length cells) Empty
+pub bare-cells : (cells : List Cell) → count_by (is_stone_of Black) cells ≡ 0 → count_by (is_stone_of White) cells ≡ 0
+    → cells ≡ replicate (length cells) Empty
 bare-cells [] black white = refl
 bare-cells (Empty ∷ cells) black white =
-    let others : count_by (is_stone_of Black) cells ≡ 0 = let e = sum_by-cons (λ (c : Cell). cond (is_stone_of Black c) 1 0) Empty cells in omega arith in
-    let whites : count_by (is_stone_of White) cells ≡ 0 = let e = sum_by-cons (λ (c : Cell). cond (is_stone_of White c) 1 0) Empty cells in omega arith in
+    let others : count_by (is_stone_of Black) cells ≡ 0 = let e =
+    sum_by-cons (λ (c : Cell). cond (is_stone_of Black c) 1 0) Empty cells in omega arith in
+    let whites : count_by (is_stone_of White) cells ≡ 0 = let e =
+    sum_by-cons (λ (c : Cell). cond (is_stone_of White c) 1 0) Empty cells in omega arith in
     ap (λ (cs : List Cell). Empty ∷ cs) (bare-cells cells others whites)
-bare-cells (BlackStone ∷ cells) black white = let e = sum_by-cons (λ (c : Cell). cond (is_stone_of Black c) 1 0) BlackStone cells in absurd (omega arith)
-bare-cells (WhiteStone ∷ cells) black white = let e = sum_by-cons (λ (c : Cell). cond (is_stone_of White c) 1 0) WhiteStone cells in absurd (omega arith)
+bare-cells (BlackStone ∷ cells) black white = let e =
+    sum_by-cons (λ (c : Cell). cond (is_stone_of Black c) 1 0) BlackStone cells in absurd (omega arith)
+bare-cells (WhiteStone ∷ cells) black white = let e =
+    sum_by-cons (λ (c : Cell). cond (is_stone_of White c) 1 0) WhiteStone cells in absurd (omega arith)
 
 -- a stone on a point that is not empty is of the side that it is said to be
 pub stone-there : (side : Side) (c : Cell) → is_empty_cell c ≡ false → stone_of (cond (is_stone_of side c) side (other side)) ≡ c
@@ -173,11 +188,13 @@ stone-there White BlackStone e = refl
 stone-there White WhiteStone e = refl
 
 pub same-length : (b c : Grid) → IsBoard b → IsBoard c → c.width ≡ b.width → c.height ≡ b.height → length c.cells ≡ length b.cells
-same-length b c board other wide high = other.filled ∙ ap (λ (w : ℕ). w * c.height) wide ∙ ap (λ (h : ℕ). b.width * h) high ∙ sym board.filled
+same-length b c board other wide high = other.filled ∙ ap (λ (w : ℕ). w * c.height) wide ∙ ap (λ (h : ℕ). b.width * h) high
+    ∙ sym board.filled
 
 -- the points of the board c that differ from those of b are empty, and among these
 unfoldable pub Makes : Grid → Grid → List Point → Type 0
-Makes b c ps = (q : Point) → is_on b q ≡ true → (cell_at c q ≡ cell_at b q) ⊎ ((cell_at c q ≡ Empty) × (list_any (λ p. is_same_point p q) ps ≡ true))
+Makes b c ps = (q : Point) → is_on b q ≡ true → (cell_at c q ≡ cell_at b q) ⊎
+    ((cell_at c q ≡ Empty) × (list_any (λ p. is_same_point p q) ps ≡ true))
 
 -- a board of the size of b
 pub record IsLike (b c : Grid) : Type 0 where
@@ -186,7 +203,8 @@ pub record IsLike (b c : Grid) : Type 0 where
   pub high : c.height ≡ b.height
 
 pub on-like : (b c : Grid) (p : Point) → IsLike b c → is_on b p ≡ true → is_on c p ≡ true
-on-like b c p like on = ap (λ (w : ℕ). nat_lt p.x w && nat_lt p.y c.height) like.wide ∙ ap (λ (h : ℕ). nat_lt p.x b.width && nat_lt p.y h) like.high ∙ on
+on-like b c p like on = ap (λ (w : ℕ). nat_lt p.x w && nat_lt p.y c.height) like.wide
+    ∙ ap (λ (h : ℕ). nat_lt p.x b.width && nat_lt p.y h) like.high ∙ on
 
 -- the first point, p, is empty: nothing is put there
 pub makes-empty : (b c : Grid) (p : Point) (ps : List Point) → is_empty b p ≡ true → Makes b c (p ∷ ps) → Makes b c ps

@@ -3,7 +3,9 @@ use Rattle.std.proofs.Common.{◌≡◌, ℕ, zero, suc, ◌≤◌, Bool, true, 
 use Rattle.std.specs.List.{list_any, list_all, find}
 use Rattle.std.proofs.lemmas.Bool.{or_left}
 use Rattle.std.specs.Prelude.{Some}
-use Rattle.game_rules.proofs.Common.{Grid, is_on, points_of, outcome, mover, after, WinsOr, LosesOr, WinsUnder, WinsWithin, WinsByFours, WinsByThreats, has_five, has_threat, wins_or, loses_or, starts_win, wins_under, is_double_point, wins_by_fours, four_move, five}
+use Rattle.game_rules.proofs.Common.{Grid, is_on, points_of, outcome, mover, after, WinsOr, LosesOr, WinsUnder, WinsWithin, WinsByFours}
+use Rattle.game_rules.proofs.Common.{WinsByThreats, has_five, has_threat, wins_or, loses_or, starts_win, wins_under, is_double_point}
+use Rattle.game_rules.proofs.Common.{wins_by_fours, four_move, five}
 use Rattle.game_rules.specs.declared.RuleKind.{RuleKind}
 use Rattle.game_rules.specs.declared.Side.{Side}
 use Rattle.game_rules.specs.declared.Outcome.{Outcome}
@@ -34,7 +36,8 @@ LosesOr-map GoesOn V W f h = f h
 -- ---- stronger and longer wins
 
 -- a win is one within more moves
-pub WinsUnder-more : (demand : Grid → Side → Bool) (rule : RuleKind) (n m : ℕ) (b : Grid) → n ≤ m → WinsUnder demand rule n b → WinsUnder demand rule m b
+pub WinsUnder-more : (demand : Grid → Side → Bool) (rule : RuleKind) (n m : ℕ) (b : Grid) → n ≤ m → WinsUnder demand rule n b
+    → WinsUnder demand rule m b
 WinsUnder-more demand rule zero m b l h = absurd h
 WinsUnder-more demand rule (suc n) zero b l h = absurd (omega arith)
 WinsUnder-more demand rule (suc n) (suc m) b l h = (
@@ -47,7 +50,8 @@ WinsUnder-more demand rule (suc n) (suc m) b l h = (
 )
 
 -- a win under a demand is one under each demand that follows from it
-pub WinsUnder-weaker : (strong weak : Grid → Side → Bool) → ((c : Grid) (s : Side) → strong c s ≡ true → weak c s ≡ true) → (rule : RuleKind) (n : ℕ) (b : Grid) → WinsUnder strong rule n b → WinsUnder weak rule n b
+pub WinsUnder-weaker : (strong weak : Grid → Side → Bool) → ((c : Grid) (s : Side) → strong c s ≡ true → weak c s ≡ true)
+    → (rule : RuleKind) (n : ℕ) (b : Grid) → WinsUnder strong rule n b → WinsUnder weak rule n b
 WinsUnder-weaker strong weak implies rule zero b h = h
 WinsUnder-weaker strong weak implies rule (suc n) b h = (
   h.0,
@@ -60,9 +64,11 @@ WinsUnder-weaker strong weak implies rule (suc n) b h = (
 
 -- a win by fours is a win by threats, and that is a win
 pub WinsByFours-WinsByThreats : (rule : RuleKind) (n : ℕ) (b : Grid) → WinsByFours rule n b → WinsByThreats rule n b
-WinsByFours-WinsByThreats rule n b h = WinsUnder-weaker (has_five rule) (has_threat rule) (λ c s e. or_left (has_five rule c s) (list_any (is_double_point rule c s) (points_of c)) e) rule n b h
+WinsByFours-WinsByThreats rule n b h = WinsUnder-weaker (has_five rule) (has_threat rule)
+    (λ c s e. or_left (has_five rule c s) (list_any (is_double_point rule c s) (points_of c)) e) rule n b h
 
-pub WinsUnder-WinsWithin : (demand : Grid → Side → Bool) (rule : RuleKind) (n : ℕ) (b : Grid) → WinsUnder demand rule n b → WinsWithin rule n b
+pub WinsUnder-WinsWithin : (demand : Grid → Side → Bool) (rule : RuleKind) (n : ℕ) (b : Grid) → WinsUnder demand rule n b
+    → WinsWithin rule n b
 WinsUnder-WinsWithin demand rule n b h = WinsUnder-weaker demand (λ c s. true) (λ c s e. refl) rule n b h
 
 -- ---- the test and the fact
@@ -96,13 +102,17 @@ LosesOr-loses_or Draws w W f h = absurd h
 LosesOr-loses_or GoesOn w W f h = f h
 
 -- where the test of each reply on the board holds, each reply loses
-pub each_reply : (rule : RuleKind) (c : Grid) (next : Grid → Bool) (W : Grid → Type 0) → ((d : Grid) → next d ≡ true → W d) → list_all (λ q. loses_or (outcome rule c q) (next (after c q))) (points_of c) ≡ true → (q : Point) → LosesOr (outcome rule c q) (W (after c q))
+pub each_reply : (rule : RuleKind) (c : Grid) (next : Grid → Bool) (W : Grid → Type 0) → ((d : Grid) → next d ≡ true → W d)
+    → list_all (λ q. loses_or (outcome rule c q) (next (after c q))) (points_of c) ≡ true → (q : Point)
+    → LosesOr (outcome rule c q) (W (after c q))
 each_reply rule c next W f all q = by_test (is_on c q) refl where
   by_test : (r : Bool) → is_on c q ≡ r → LosesOr (outcome rule c q) (W (after c q))
-  by_test true on = loses_or-LosesOr (outcome rule c q) _ _ (f (after c q)) (all_at c (λ q. loses_or (outcome rule c q) (next (after c q))) q all on)
+  by_test true on = loses_or-LosesOr (outcome rule c q) _ _ (f (after c q))
+      (all_at c (λ q. loses_or (outcome rule c q) (next (after c q))) q all on)
   by_test false off = subst (λ (o : Outcome). LosesOr o (W (after c q))) (sym (off_refused rule c q off)) tt
 
-pub test-WinsUnder : (demand : Grid → Side → Bool) (rule : RuleKind) (n : ℕ) (b : Grid) → wins_under demand rule n b ≡ true → WinsUnder demand rule n b
+pub test-WinsUnder : (demand : Grid → Side → Bool) (rule : RuleKind) (n : ℕ) (b : Grid) → wins_under demand rule n b ≡ true
+    → WinsUnder demand rule n b
 unfolding wins_under
 test-WinsUnder demand rule zero b h = cc
 test-WinsUnder demand rule (suc n) b h =
@@ -110,11 +120,13 @@ test-WinsUnder demand rule (suc n) b h =
       move.0,
       wins_or-WinsOr (outcome rule b move.0) _ _ (λ w. (
         and_left _ _ w,
-        each_reply rule (after b move.0) (wins_under demand rule n) (WinsUnder demand rule n) (λ d. test-WinsUnder demand rule n d) (and_right (demand (after b move.0) (mover b)) _ w),
+        each_reply rule (after b move.0) (wins_under demand rule n) (WinsUnder demand rule n) (λ d. test-WinsUnder demand rule n d)
+            (and_right (demand (after b move.0) (mover b)) _ w),
       )) move.1,
     )
 
-pub WinsUnder-test : (demand : Grid → Side → Bool) (rule : RuleKind) (n : ℕ) (b : Grid) → WinsUnder demand rule n b → wins_under demand rule n b ≡ true
+pub WinsUnder-test : (demand : Grid → Side → Bool) (rule : RuleKind) (n : ℕ) (b : Grid) → WinsUnder demand rule n b
+    → wins_under demand rule n b ≡ true
 unfolding wins_under
 WinsUnder-test demand rule zero b h = absurd h
 WinsUnder-test demand rule (suc n) b h =
@@ -125,7 +137,8 @@ WinsUnder-test demand rule (suc n) b h =
 pub WinsWithin-more : (rule : RuleKind) (n m : ℕ) (b : Grid) → n ≤ m → WinsWithin rule n b → WinsWithin rule m b
 WinsWithin-more rule n m b l h = WinsUnder-more (λ c s. true) rule n m b l h
 
-pub five-starts : (rule : RuleKind) (b : Grid) (next : Grid → Bool) (p : Point) → five rule b (mover b) p ≡ true → starts_win (has_five rule) rule b next p ≡ true
+pub five-starts : (rule : RuleKind) (b : Grid) (next : Grid → Bool) (p : Point) → five rule b (mover b) p ≡ true
+    → starts_win (has_five rule) rule b next p ≡ true
 five-starts rule b next p h = let wins : outcome rule b p ≡ Wins = five-outcome rule b p h in rw wins refl
 
 pub none_in_zero : (rule : RuleKind) (b : Grid) → wins_by_fours rule zero b ≡ false
@@ -137,11 +150,13 @@ unfolding four_move
 no_move rule b p h = cc
 
 -- where it goes on there is no five point
-pub goes_on-no_five : (rule : RuleKind) (n : ℕ) (b : Grid) (p : Point) → four_move rule n b ≡ Some p → outcome rule b p ≡ GoesOn → has_five rule b (mover b) ≡ false
+pub goes_on-no_five : (rule : RuleKind) (n : ℕ) (b : Grid) (p : Point) → four_move rule n b ≡ Some p → outcome rule b p ≡ GoesOn
+    → has_five rule b (mover b) ≡ false
 unfolding four_move
 goes_on-no_five rule zero b p chosen go = cc
 goes_on-no_five rule (suc n) b p chosen go = by_five (has_five rule b (mover b)) chosen where
-  by_five : (r : Bool) → cond r (find (five rule b (mover b)) (points_of b)) (find (starts_win (has_five rule) rule b (wins_by_fours rule n)) (points_of b)) ≡ Some p → r ≡ false
+  by_five : (r : Bool) → cond r (find (five rule b (mover b)) (points_of b))
+      (find (starts_win (has_five rule) rule b (wins_by_fours rule n)) (points_of b)) ≡ Some p → r ≡ false
   by_five true h =
       let wins : outcome rule b p ≡ WinsNow = five-outcome rule b p (find-passes (five rule b (mover b)) (points_of b) p h) in
       let bad : WinsNow ≡ GoesOn = sym wins ∙ go in cc
@@ -156,14 +171,19 @@ pub five-threats : (rule : RuleKind) (b : Grid) (w : Point) (n : ℕ) → five r
 five-threats rule b w zero h l = absurd (omega arith)
 five-threats rule b w (suc n) h l = (
   w,
-  subst (λ (o : Outcome). WinsOr o ((has_threat rule (after b w) (mover b) ≡ true) × ((q : Point) → LosesOr (outcome rule (after b w) q) (WinsByThreats rule n (after (after b w) q))))) (sym (five-outcome rule b w h)) tt,
+  subst (λ (o : Outcome). WinsOr o
+      ((has_threat rule (after b w) (mover b) ≡ true)
+      × ((q : Point) → LosesOr (outcome rule (after b w) q) (WinsByThreats rule n (after (after b w) q))))) (sym (five-outcome rule b w h))
+      tt,
 )
 
 pub five-wins : (rule : RuleKind) (b : Grid) (n : ℕ) → has_five rule b (mover b) ≡ true → wins_by_fours rule (suc n) b ≡ true
 unfolding wins_under
 five-wins rule b n h =
     let found = any_witness (five rule b (mover b)) (points_of b) h in
-    points-found b (starts_win (has_five rule) rule b (wins_under (has_five rule) rule n)) found.0 (is_empty-on b found.0 (five-empty rule b (mover b) found.0 found.1)) (five-starts rule b (wins_under (has_five rule) rule n) found.0 found.1)
+    points-found b (starts_win (has_five rule) rule b (wins_under (has_five rule) rule n)) found.0
+    (is_empty-on b found.0 (five-empty rule b (mover b) found.0 found.1))
+    (five-starts rule b (wins_under (has_five rule) rule n) found.0 found.1)
 
 -- where the test finds no win there is none
 pub no-win : (rule : RuleKind) (n : ℕ) (b : Grid) → wins_by_fours rule n b ≡ false → WinsByFours rule n b → ⊥
@@ -192,17 +212,23 @@ no_win_right (Fouls f) l h = refl
 no_win_right Draws l h = refl
 no_win_right GoesOn l h = refl
 
-module _ (rule : RuleKind) (demand : Grid → Side → Bool) (c : Grid) (next : Grid → Bool) (p : Point) (quiet : outcome rule c p ≢ WinsNow) where
+module _ (rule : RuleKind) (demand : Grid → Side → Bool) (c : Grid) (next : Grid → Bool) (p : Point)
+    (quiet : outcome rule c p ≢ WinsNow) where
   -- the demand is not met
   pub no_start-demand : demand (after c p) (mover c) ≡ false → starts_win demand rule c next p ≡ false
-  no_start-demand e = rw e (no_win_right (outcome rule c p) (list_all (λ q. loses_or (outcome rule (after c p) q) (next (after (after c p) q))) (points_of c)) quiet)
+  no_start-demand e = rw e (no_win_right (outcome rule c p)
+      (list_all (λ q. loses_or (outcome rule (after c p) q) (next (after (after c p) q))) (points_of c)) quiet)
 
   -- the reply q goes on, and there is no win after it
-  pub no_start-reply : (q : Point) → is_on c q ≡ true → outcome rule (after c p) q ≡ GoesOn → next (after (after c p) q) ≡ false → starts_win demand rule c next p ≡ false
-  no_start-reply q on e none = by_all (list_all (λ q. loses_or (outcome rule (after c p) q) (next (after (after c p) q))) (points_of c)) refl where
-    by_all : (r : Bool) → list_all (λ q. loses_or (outcome rule (after c p) q) (next (after (after c p) q))) (points_of c) ≡ r → wins_or (outcome rule c p) (demand (after c p) (mover c) && r) ≡ false
-    by_all false h = no_win_left (outcome rule c p) (demand (after c p) (mover c)) quiet
-    by_all true h =
-        let yes : loses_or (outcome rule (after c p) q) (next (after (after c p) q)) ≡ true = all_at c (λ q. loses_or (outcome rule (after c p) q) (next (after (after c p) q))) q h on in
-        let no : loses_or (outcome rule (after c p) q) (next (after (after c p) q)) ≡ false = rw (e, none) refl in
-        cc
+  pub no_start-reply : (q : Point) → is_on c q ≡ true → outcome rule (after c p) q ≡ GoesOn → next (after (after c p) q) ≡ false
+      → starts_win demand rule c next p ≡ false
+  no_start-reply q on e none = by_all (list_all (λ q. loses_or (outcome rule (after c p) q) (next (after (after c p) q))) (points_of c))
+      refl where
+        by_all : (r : Bool) → list_all (λ q. loses_or (outcome rule (after c p) q) (next (after (after c p) q))) (points_of c) ≡ r
+            → wins_or (outcome rule c p) (demand (after c p) (mover c) && r) ≡ false
+        by_all false h = no_win_left (outcome rule c p) (demand (after c p) (mover c)) quiet
+        by_all true h =
+            let yes : loses_or (outcome rule (after c p) q) (next (after (after c p) q)) ≡ true =
+            all_at c (λ q. loses_or (outcome rule (after c p) q) (next (after (after c p) q))) q h on in
+            let no : loses_or (outcome rule (after c p) q) (next (after (after c p) q)) ≡ false = rw (e, none) refl in
+            cc

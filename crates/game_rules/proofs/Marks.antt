@@ -1,5 +1,6 @@
 -- The cells that pass a test, as points in reading order.
-use Rattle.std.proofs.Common.{ℕ, ◌/◌, ◌%◌, ◌≡◌, zero, suc, ◌+◌, ◌<◌, Bool, true, false, cond, not, refl, ap, arith, List, [], ◌∷◌, ◌++◌, length, drop, set, get_or, ◌*◌, ◌-◌, ◌≤◌, sym, ◌∙◌, ◌&&◌, replicate, map}
+use Rattle.std.proofs.Common.{ℕ, ◌/◌, ◌%◌, ◌≡◌, zero, suc, ◌+◌, ◌<◌, Bool, true, false, cond, not, refl, ap, arith, List, [], ◌∷◌, ◌++◌}
+use Rattle.std.proofs.Common.{length, drop, set, get_or, ◌*◌, ◌-◌, ◌≤◌, sym, ◌∙◌, ◌&&◌, replicate, map}
 use Rattle.std.specs.List.{list_all}
 use Rattle.std.proofs.lemmas.Bool.{and_parts, not-true, both_ways}
 use Rattle.std.proofs.lemmas.Nat.{div-add-mod'}
@@ -28,7 +29,9 @@ module _ (at : ℕ → Point) (test : Cell → Bool) where
       let next : k + suc (length cs) ≡ k + 1 + length cs = omega arith in
       rw next (by_test (test c) (marked-append (k + 1) cs ds))
     where
-      by_test : (r : Bool) → marked (k + 1) (cs ++ ds) ≡ marked (k + 1) cs ++ marked (k + 1 + length cs) ds → cond r (at k ∷ marked (k + 1) (cs ++ ds)) (marked (k + 1) (cs ++ ds)) ≡ cond r (at k ∷ marked (k + 1) cs) (marked (k + 1) cs) ++ marked (k + 1 + length cs) ds
+      by_test : (r : Bool) → marked (k + 1) (cs ++ ds) ≡ marked (k + 1) cs ++ marked (k + 1 + length cs) ds
+          → cond r (at k ∷ marked (k + 1) (cs ++ ds)) (marked (k + 1) (cs ++ ds)) ≡ cond r (at k ∷ marked (k + 1) cs) (marked (k + 1) cs)
+          ++ marked (k + 1 + length cs) ds
       by_test true h = ap (λ (l : List Point). at k ∷ l) h
       by_test false h = h
 
@@ -45,7 +48,8 @@ module _ (at : ℕ → Point) (test : Cell → Bool) where
   clear_drop (suc j) (c ∷ cs) h = clear_drop j cs (and_parts (not (test c)) (is_clear cs) h).1
 
   -- a change from a cell that does not pass to one that does not leaves the marks
-  pub marked-set_other : (k i : ℕ) (cs : List Cell) (stone : Cell) → test stone ≡ false → i < length cs → test (get_or cs i Empty) ≡ false → marked k (set cs i stone) ≡ marked k cs
+  pub marked-set_other : (k i : ℕ) (cs : List Cell) (stone : Cell) → test stone ≡ false → i < length cs → test (get_or cs i Empty) ≡ false
+      → marked k (set cs i stone) ≡ marked k cs
   marked-set_other k i [] stone fails within was = absurd (omega arith)
   marked-set_other k zero (c ∷ cs) stone fails within was = rw (fails, was) refl
   marked-set_other k (suc i) (c ∷ cs) stone fails within was = rw (marked-set_other (k + 1) i cs stone fails (omega arith) was) refl
@@ -59,8 +63,10 @@ pub record NextMark (width : ℕ) (test : Cell → Bool) (k : ℕ) (cs : List Ce
   pub passes : test (get_or cs (place - k) Empty) ≡ true
   pub rest : marked (point_at width) test (place + 1) (drop (place + 1 - k) cs) ≡ others
 
-next_mark_by : (width : ℕ) (test : Cell → Bool) (k : ℕ) (c : Cell) (cs : List Cell) (p : Point) (ps : List Point) (place : ℕ) → place ≡ p.y * width + p.x → (marked (point_at width) test (k + 1) cs ≡ p ∷ ps → NextMark width test (k + 1) cs place ps)
-    → (r : Bool) → test c ≡ r → cond r (point_at width k ∷ marked (point_at width) test (k + 1) cs) (marked (point_at width) test (k + 1) cs) ≡ p ∷ ps → NextMark width test k (c ∷ cs) place ps
+next_mark_by : (width : ℕ) (test : Cell → Bool) (k : ℕ) (c : Cell) (cs : List Cell) (p : Point) (ps : List Point) (place : ℕ)
+    → place ≡ p.y * width + p.x → (marked (point_at width) test (k + 1) cs ≡ p ∷ ps → NextMark width test (k + 1) cs place ps)
+    → (r : Bool) → test c ≡ r → cond r (point_at width k ∷ marked (point_at width) test (k + 1) cs)
+    (marked (point_at width) test (k + 1) cs) ≡ p ∷ ps → NextMark width test k (c ∷ cs) place ps
 next_mark_by width test k c cs p ps place is deeper true e h =
     let first : point_at width k ≡ p = cc in
     let others : marked (point_at width) test (k + 1) cs ≡ ps = cc in
@@ -84,19 +90,23 @@ next_mark_by width test k c cs p ps place is deeper false e h =
       rest = rw after rest.rest;
     }
 
-pub next_mark : (width : ℕ) (test : Cell → Bool) (k : ℕ) (cs : List Cell) (p : Point) (ps : List Point) (place : ℕ) → place ≡ p.y * width + p.x → marked (point_at width) test k cs ≡ p ∷ ps → NextMark width test k cs place ps
+pub next_mark : (width : ℕ) (test : Cell → Bool) (k : ℕ) (cs : List Cell) (p : Point) (ps : List Point) (place : ℕ)
+    → place ≡ p.y * width + p.x → marked (point_at width) test k cs ≡ p ∷ ps → NextMark width test k cs place ps
 next_mark width test k [] p ps place is h = absurd cc
-next_mark width test k (c ∷ cs) p ps place is h = next_mark_by width test k c cs p ps place is (next_mark width test (k + 1) cs p ps place is) (test c) refl h
+next_mark width test k (c ∷ cs) p ps place is h = next_mark_by width test k c cs p ps place is
+    (next_mark width test (k + 1) cs p ps place is) (test c) refl h
 
 -- no mark stands before its place
-too_early : (width : ℕ) (test : Cell → Bool) (k : ℕ) (cs : List Cell) (ps : List Point) → point_at width k ∷ ps ≡ marked (point_at width) test (k + 1) cs → ⊥
+too_early : (width : ℕ) (test : Cell → Bool) (k : ℕ) (cs : List Cell) (ps : List Point)
+    → point_at width k ∷ ps ≡ marked (point_at width) test (k + 1) cs → ⊥
 too_early width test k cs ps h =
     let next = next_mark width test (k + 1) cs (point_at width k) ps k (sym (point_at-place width k)) (sym h) in
     let later = next.later in
     omega (arith, later)
 
 same_tests_by : (width : ℕ) (test : Cell → Bool) (k : ℕ) (cs ds : List Cell) (q r : Bool)
-    → cond q (point_at width k ∷ marked (point_at width) test (k + 1) cs) (marked (point_at width) test (k + 1) cs) ≡ cond r (point_at width k ∷ marked (point_at width) test (k + 1) ds) (marked (point_at width) test (k + 1) ds)
+    → cond q (point_at width k ∷ marked (point_at width) test (k + 1) cs) (marked (point_at width) test (k + 1) cs) ≡ cond r
+    (point_at width k ∷ marked (point_at width) test (k + 1) ds) (marked (point_at width) test (k + 1) ds)
     → (q ≡ r) × (marked (point_at width) test (k + 1) cs ≡ marked (point_at width) test (k + 1) ds)
 same_tests_by width test k cs ds true true h = (refl, cc)
 same_tests_by width test k cs ds true false h = absurd (too_early width test k ds (marked (point_at width) test (k + 1) cs) h)
@@ -104,26 +114,32 @@ same_tests_by width test k cs ds false true h = absurd (too_early width test k c
 same_tests_by width test k cs ds false false h = (refl, h)
 
 -- cells with the same marks pass at the same places
-pub same_tests : (width : ℕ) (test : Cell → Bool) (k : ℕ) (cs ds : List Cell) → length cs ≡ length ds → marked (point_at width) test k cs ≡ marked (point_at width) test k ds → (i : ℕ) → test (get_or cs i Empty) ≡ test (get_or ds i Empty)
+pub same_tests : (width : ℕ) (test : Cell → Bool) (k : ℕ) (cs ds : List Cell) → length cs ≡ length ds
+    → marked (point_at width) test k cs ≡ marked (point_at width) test k ds → (i : ℕ) → test (get_or cs i Empty) ≡ test (get_or ds i Empty)
 same_tests width test k [] [] len h i = refl
 same_tests width test k [] (d ∷ ds) len h i = absurd (omega arith)
 same_tests width test k (c ∷ cs) [] len h i = absurd (omega arith)
 same_tests width test k (c ∷ cs) (d ∷ ds) len h zero = (same_tests_by width test k cs ds (test c) (test d) h).0
-same_tests width test k (c ∷ cs) (d ∷ ds) len h (suc i) = same_tests width test (k + 1) cs ds (omega arith) (same_tests_by width test k cs ds (test c) (test d) h).1 i
+same_tests width test k (c ∷ cs) (d ∷ ds) len h (suc i) =
+    same_tests width test (k + 1) cs ds (omega arith) (same_tests_by width test k cs ds (test c) (test d) h).1 i
 
 module _ (at : ℕ → Point) (test : Cell → Bool) where
   pub clear_from_none : (k : ℕ) (cs : List Cell) → marked at test k cs ≡ [] → is_clear at test cs ≡ true
   clear_from_none k [] h = refl
   clear_from_none k (c ∷ cs) h = by_test (test c) (clear_from_none (k + 1) cs) h where
-    by_test : (r : Bool) → (marked at test (k + 1) cs ≡ [] → is_clear at test cs ≡ true) → cond r (at k ∷ marked at test (k + 1) cs) (marked at test (k + 1) cs) ≡ [] → (not r && is_clear at test cs) ≡ true
+    by_test : (r : Bool) → (marked at test (k + 1) cs ≡ [] → is_clear at test cs ≡ true)
+        → cond r (at k ∷ marked at test (k + 1) cs) (marked at test (k + 1) cs) ≡ [] → (not r && is_clear at test cs) ≡ true
     by_test true rest h = absurd cc
     by_test false rest h = rest h
 
 -- a cell of cells without marks has none
-pub clear_at : (at : ℕ → Point) (test : Cell → Bool) (cs : List Cell) (i : ℕ) → is_clear at test cs ≡ true → i < length cs → test (get_or cs i Empty) ≡ true → ⊥
+pub clear_at : (at : ℕ → Point) (test : Cell → Bool) (cs : List Cell) (i : ℕ) → is_clear at test cs ≡ true → i < length cs
+    → test (get_or cs i Empty) ≡ true → ⊥
 clear_at at test [] i h within passes = omega arith
-clear_at at test (c ∷ cs) zero h within passes = both_ways (test c) (not-true (test c) (and_parts (not (test c)) (is_clear at test cs) h).0) passes
-clear_at at test (c ∷ cs) (suc i) h within passes = clear_at at test cs i (and_parts (not (test c)) (is_clear at test cs) h).1 (omega arith) passes
+clear_at at test (c ∷ cs) zero h within passes = both_ways (test c) (not-true (test c) (and_parts (not (test c)) (is_clear at test cs) h).0)
+    passes
+clear_at at test (c ∷ cs) (suc i) h within passes =
+    clear_at at test cs i (and_parts (not (test c)) (is_clear at test cs) h).1 (omega arith) passes
 
 pub clear_replicate : (at : ℕ → Point) (test : Cell → Bool) (n : ℕ) → test Empty ≡ false → is_clear at test (replicate n Empty) ≡ true
 clear_replicate at test zero h = refl
@@ -132,7 +148,8 @@ clear_replicate at test (suc n) h = rw h (clear_replicate at test n h)
 abbrev pub empty_board : ℕ → ℕ → Grid
 empty_board width height = record { width = width; height = height; cells = replicate (width * height) Empty }
 
-pub marked-map : (at : ℕ → Point) (test other : Cell → Bool) (f : Cell → Cell) → ((c : Cell) → test (f c) ≡ other c) → (k : ℕ) (cs : List Cell) → marked at test k (map f cs) ≡ marked at other k cs
+pub marked-map : (at : ℕ → Point) (test other : Cell → Bool) (f : Cell → Cell) → ((c : Cell) → test (f c) ≡ other c)
+    → (k : ℕ) (cs : List Cell) → marked at test k (map f cs) ≡ marked at other k cs
 marked-map at test other f same k [] = refl
 marked-map at test other f same k (c ∷ cs) = rw (same c, marked-map at test other f same (k + 1) cs) refl
 

@@ -6,7 +6,9 @@ use Rattle.std.specs.List.{filter, list_any, range_with_len, prefix_len}
 use Rattle.std.proofs.lemmas.Bool.{false_from_ne_true, both_ways}
 use Rattle.std.proofs.lemmas.Bool.Decides.{nat_tests}
 use Rattle.std.proofs.lemmas.List.Sums.{length-filter, sum_by-le-sum_by}
-use Rattle.game_rules.proofs.Common.{Grid, IsBoard, is_on, is_empty, is_stone_of, stone_of, put, along, points_of, points_within, holds, same_line, is_aligned, stones_ahead, stones_behind, line_bound, stone_at, wins_on, five, go, stones_towards, other, has_five, five_points}
+use Rattle.game_rules.proofs.Common.{Grid, IsBoard, is_on, is_empty, is_stone_of, stone_of, put, along, points_of, points_within, holds}
+use Rattle.game_rules.proofs.Common.{same_line, is_aligned, stones_ahead, stones_behind, line_bound, stone_at, wins_on, five, go}
+use Rattle.game_rules.proofs.Common.{stones_towards, other, has_five, five_points}
 use Rattle.game_rules.specs.declared.RuleKind.{RuleKind}
 use Rattle.game_rules.specs.declared.Side.{Side}
 use Rattle.game_rules.specs.declared.Axis.{Axis}
@@ -16,7 +18,8 @@ use Rattle.game_rules.specs.declared.Side.TheVariants.{Black, White}
 use Rattle.game_rules.specs.declared.Axis.TheVariants.{Row, Column, Down, Up}
 use Rattle.game_rules.specs.declared.Way.TheVariants.{Ahead, Behind}
 use Rattle.game_rules.proofs.Axes.{axis_of, some_axis}
-use Rattle.game_rules.proofs.Boards.{Apart, and_left, is_empty-on, is_empty-put, same_or_apart, empty_holds, holds-put_other, holds-put_same, prefix_len-same}
+use Rattle.game_rules.proofs.Boards.{Apart, and_left, is_empty-on, is_empty-put, same_or_apart, empty_holds, holds-put_other}
+use Rattle.game_rules.proofs.Boards.{holds-put_same, prefix_len-same}
 use Rattle.game_rules.proofs.Lines.{OnLine, along-OnLine}
 use Rattle.game_rules.proofs.Positions.{IsBoard-put, holds-other}
 use Rattle.game_rules.proofs.Wins.{wins_on-stones, no_win}

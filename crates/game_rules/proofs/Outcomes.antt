@@ -1,9 +1,12 @@
 -- What an outcome says of the move that has it.
-use Rattle.std.proofs.Common.{◌≡◌, ℕ, ◌≤◌, Bool, true, false, cond, nat_eq, refl, sym, ap, ◌∙◌, arith, not, ◌&&◌, ◌||◌, List, [], ◌∷◌, ◌≢◌, subst, ◌⊎◌, inl, inr}
+use Rattle.std.proofs.Common.{◌≡◌, ℕ, ◌≤◌, Bool, true, false, cond, nat_eq, refl, sym, ap, ◌∙◌, arith, not, ◌&&◌, ◌||◌, List, [], ◌∷◌, ◌≢◌}
+use Rattle.std.proofs.Common.{subst, ◌⊎◌, inl, inr}
 use Rattle.std.specs.Prelude.{Option, None, Some, is_some, is_none, ◌==◌}
 use Rattle.std.proofs.lemmas.Bool.Decides.{nat_tests}
 use Rattle.std.specs.List.{list_any, list_all}
-use Rattle.game_rules.proofs.Common.{Grid, is_empty, empties_of, is_on, five, outcome, outcome_by, foul_of, has_fouls, black_foul, mover, goes_on, goes_on_with, saves, first_foul, IsPosition, after, LosesOr, loses_or, if_goes_on, has_five, WinsOr}
+use Rattle.game_rules.proofs.Common.{Grid, is_empty, empties_of, is_on, five, outcome, outcome_by, foul_of, has_fouls, black_foul, mover}
+use Rattle.game_rules.proofs.Common.{goes_on, goes_on_with, saves, first_foul, IsPosition, after, LosesOr, loses_or, if_goes_on, has_five}
+use Rattle.game_rules.proofs.Common.{WinsOr}
 use Rattle.game_rules.specs.declared.RuleKind.{RuleKind}
 use Rattle.game_rules.specs.declared.Side.{Side}
 use Rattle.game_rules.specs.declared.Foul.{Foul}
@@ -117,7 +120,8 @@ module _ (rule : RuleKind) (b : Grid) (p : Point) where
   pub five-outcome : five rule b (mover b) p ≡ true → outcome rule b p ≡ Wins
   unfolding outcome
   five-outcome h =
-      ap (λ e. outcome_by e (five rule b (mover b) p) (foul_of rule b (mover b) p) (nat_eq (empties_of b) 1)) (five-empty rule b (mover b) p h)
+      ap (λ e. outcome_by e (five rule b (mover b) p) (foul_of rule b (mover b) p) (nat_eq (empties_of b) 1))
+      (five-empty rule b (mover b) p h)
       ∙ ap (λ f. outcome_by true f (foul_of rule b (mover b) p) (nat_eq (empties_of b) 1)) h
       ∙ wins_by (nat_eq (empties_of b) 1) (foul_of rule b (mover b) p)
 
@@ -146,7 +150,8 @@ module _ (rule : RuleKind) (b : Grid) (p : Point) where
 
 -- ---- a move that makes no five, where its side has no fouls
 
-module _ (rule : RuleKind) (b : Grid) (p : Point) (empty : is_empty b p ≡ true) (none : has_five rule b (mover b) ≡ false) (calm : has_fouls rule (mover b) ≡ false) where
+module _ (rule : RuleKind) (b : Grid) (p : Point) (empty : is_empty b p ≡ true) (none : has_five rule b (mover b) ≡ false)
+    (calm : has_fouls rule (mover b) ≡ false) where
   no_five : five rule b (mover b) p ≡ false
   no_five = by_test (five rule b (mover b) p) refl where
     by_test : (r : Bool) → five rule b (mover b) p ≡ r → r ≡ false
@@ -204,7 +209,8 @@ wins-on rule b p wins = by_test (is_on b p) refl where
   by_test false e = let off = off_refused rule b p e in cc
 
 -- where the first and the second test are as before, the third holds no more, and the fourth not at all, there is no foul as before
-pub no_first-fewer : (five over fours fours' threes threes' : Bool) → (fours' ≡ true → fours ≡ true) → threes' ≡ false → first_foul five over fours threes ≡ None → first_foul five over fours' threes' ≡ None
+pub no_first-fewer : (five over fours fours' threes threes' : Bool) → (fours' ≡ true → fours ≡ true) → threes' ≡ false
+    → first_foul five over fours threes ≡ None → first_foul five over fours' threes' ≡ None
 no_first-fewer true over fours fours' threes threes' f g h = refl
 no_first-fewer false true fours fours' threes threes' f g h = absurd (cc)
 no_first-fewer false false true fours' threes threes' f g h = absurd (cc)
@@ -240,7 +246,8 @@ goes_on-split Draws f d = refl
 goes_on-split GoesOn true d = refl
 goes_on-split GoesOn false d = refl
 
-pub fouls-all : (o : Point → Outcome) (ps : List Point) → list_any (λ q. goes_on (o q)) ps ≡ false → list_any (λ q. saves (o q)) ps ≡ false → list_all (λ q. loses_or (o q) false) ps ≡ true
+pub fouls-all : (o : Point → Outcome) (ps : List Point) → list_any (λ q. goes_on (o q)) ps ≡ false → list_any (λ q. saves (o q)) ps ≡ false
+    → list_all (λ q. loses_or (o q) false) ps ≡ true
 fouls-all o [] g s = refl
 fouls-all o (p ∷ ps) g s =
     ap (λ r. r && list_all (λ q. loses_or (o q) false) ps) (loses_or-none (o p) (or_none (goes_on (o p)) _ g) (or_none (saves (o p)) _ s))
@@ -251,10 +258,14 @@ not_both : (a : Bool) → (not a && false) ≡ false
 not_both true = refl
 not_both false = refl
 
-pub fouls-test : (o : Point → Outcome) (ps : List Point) → list_all (λ q. loses_or (o q) false) ps ≡ (not (list_any (λ q. goes_on (o q)) ps) && not (list_any (λ q. saves (o q)) ps))
+pub fouls-test : (o : Point → Outcome) (ps : List Point)
+    → list_all (λ q. loses_or (o q) false) ps ≡ (not (list_any (λ q. goes_on (o q)) ps) && not (list_any (λ q. saves (o q)) ps))
 fouls-test o [] = refl
 fouls-test o (p ∷ ps) = by_outcome (o p) (fouls-test o ps) where
-  by_outcome : (u : Outcome) → list_all (λ q. loses_or (o q) false) ps ≡ (not (list_any (λ q. goes_on (o q)) ps) && not (list_any (λ q. saves (o q)) ps)) → (loses_or u false && list_all (λ q. loses_or (o q) false) ps) ≡ (not (goes_on u || list_any (λ q. goes_on (o q)) ps) && not (saves u || list_any (λ q. saves (o q)) ps))
+  by_outcome : (u : Outcome) → list_all (λ q. loses_or (o q) false) ps
+      ≡ (not (list_any (λ q. goes_on (o q)) ps) && not (list_any (λ q. saves (o q)) ps))
+      → (loses_or u false && list_all (λ q. loses_or (o q) false) ps)
+      ≡ (not (goes_on u || list_any (λ q. goes_on (o q)) ps) && not (saves u || list_any (λ q. saves (o q)) ps))
   by_outcome Refused h = h
   by_outcome Wins h = sym (not_both (list_any (λ q. goes_on (o q)) ps))
   by_outcome (Fouls f) h = h
@@ -345,7 +356,8 @@ module _ (rule : RuleKind) (c : Grid) (q : Point) (draws : outcome rule c q ≡ 
   no_other_empty lawful w empty apart =
       let one : empties_of c ≡ 1 = let last = (draws-last rule c q draws).1 in grind (arith, nat_tests) in
       let here = empties_of-put c (mover c) q lawful.board (draws-last rule c q draws).0 in
-      let still : is_empty (after c q) w ≡ true = is_empty-put c (mover c) q w (is_empty-on c q (draws-last rule c q draws).0) apart ∙ empty in
+      let still : is_empty (after c q) w ≡ true = is_empty-put c (mover c) q w (is_empty-on c q (draws-last rule c q draws).0) apart
+      ∙ empty in
       let there = empties_of-put (after c q) (mover c) w (IsBoard-put c (mover c) q lawful.board) still in
       absurd (omega (arith, one, here, there))
 
@@ -359,14 +371,16 @@ pub wins_now : (rule : RuleKind) (b : Grid) (p : Point) → is_empty b p ≡ tru
 unfolding outcome
 wins_now rule b p e f = now-wins_by (is_empty b p) (five rule b (mover b) p) (nat_eq (empties_of b) 1) (foul_of rule b (mover b) p) e f
 
-quiet_by : (e w l : Bool) (o : Option Foul) → e ≡ true → w ≡ false → l ≡ false → (outcome_by e w o l ≡ GoesOn) ⊎ ((f : Foul) × (outcome_by e w o l ≡ Fouls f))
+quiet_by : (e w l : Bool) (o : Option Foul) → e ≡ true → w ≡ false → l ≡ false
+    → (outcome_by e w o l ≡ GoesOn) ⊎ ((f : Foul) × (outcome_by e w o l ≡ Fouls f))
 quiet_by true false false None e f g = inl refl
 quiet_by true false false (Some h) e f g = inr (h, refl)
 quiet_by true false true o e f g = cc
 quiet_by true true l o e f g = cc
 quiet_by false w l o e f g = cc
 
-pub quiet_move : (rule : RuleKind) (b : Grid) (q : Point) → is_empty b q ≡ true → five rule b (mover b) q ≡ false → nat_eq (empties_of b) 1 ≡ false → (outcome rule b q ≡ GoesOn) ⊎ ((f : Foul) × (outcome rule b q ≡ Fouls f))
+pub quiet_move : (rule : RuleKind) (b : Grid) (q : Point) → is_empty b q ≡ true → five rule b (mover b) q ≡ false
+    → nat_eq (empties_of b) 1 ≡ false → (outcome rule b q ≡ GoesOn) ⊎ ((f : Foul) × (outcome rule b q ≡ Fouls f))
 unfolding outcome
 quiet_move rule b q e f g = quiet_by (is_empty b q) (five rule b (mover b) q) (nat_eq (empties_of b) 1) (foul_of rule b (mover b) q) e f g
 

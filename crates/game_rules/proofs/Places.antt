@@ -1,6 +1,7 @@
 -- The points of a board as a list: how many there are, where each stands, that all are on the board and rise, and those of them
 -- that pass a test.
-use Rattle.std.proofs.Common.{◌≡◌, ℕ, zero, suc, ◌+◌, ◌*◌, ◌<◌, ◌≤◌, Bool, true, false, cond, ◌&&◌, ◌||◌, refl, sym, ap, subst, ◌∙◌, arith, List, [], ◌∷◌, ◌++◌, map, length, length-append, nat_lt, Contains}
+use Rattle.std.proofs.Common.{◌≡◌, ℕ, zero, suc, ◌+◌, ◌*◌, ◌<◌, ◌≤◌, Bool, true, false, cond, ◌&&◌, ◌||◌, refl, sym, ap, subst, ◌∙◌, arith}
+use Rattle.std.proofs.Common.{List, [], ◌∷◌, ◌++◌, map, length, length-append, nat_lt, Contains}
 use Rattle.std.specs.Prelude.{Option, Some, None, slice_get, unwrap_or}
 use Rattle.std.specs.List.{flat_map, range_with_len, filter, find, list_all, list_any}
 use Rattle.std.proofs.lemmas.Bool.{lt-ltb}
@@ -50,7 +51,8 @@ row_get y x zero i h = absurd (omega arith)
 row_get y x (suc n) zero h = let e : x + 0 ≡ x = omega arith in rw e refl
 row_get y x (suc n) (suc i) h = let e : x + suc i ≡ x + 1 + i = omega arith in rw e (row_get y (x + 1) n i (omega arith))
 
-rows_get : (width a n k x : ℕ) → k < n → x < width → slice_get (flat_map (λ y. row_from y 0 width) (range_with_len a n)) (k * width + x) ≡ Some (record { x = x; y = a + k })
+rows_get : (width a n k x : ℕ) → k < n → x < width
+    → slice_get (flat_map (λ y. row_from y 0 width) (range_with_len a n)) (k * width + x) ≡ Some (record { x = x; y = a + k })
 rows_get width a zero k x low h = absurd (omega arith)
 rows_get width a (suc n) zero x low h =
     let e : 0 * width + x ≡ x = omega arith in
@@ -85,10 +87,12 @@ pub points_on : (b : Grid) → list_all (is_on b) (points_of b) ≡ true
 points_on b = rows_on b 0 b.height (omega arith)
 
 -- what all of the listed points pass, one of them passes
-pub listed_passes : (f : Point → Bool) (q : Point) (ps : List Point) → list_all f ps ≡ true → list_any (λ p. is_same_point p q) ps ≡ true → f q ≡ true
+pub listed_passes : (f : Point → Bool) (q : Point) (ps : List Point) → list_all f ps ≡ true → list_any (λ p. is_same_point p q) ps ≡ true
+    → f q ≡ true
 listed_passes f q [] all h = cc
 listed_passes f q (p ∷ ps) all h = by_test (is_same_point p q) refl h (listed_passes f q ps (and_right (f p) _ all)) where
-  by_test : (r : Bool) → is_same_point p q ≡ r → (r || list_any (λ x. is_same_point x q) ps) ≡ true → (list_any (λ x. is_same_point x q) ps ≡ true → f q ≡ true) → f q ≡ true
+  by_test : (r : Bool) → is_same_point p q ≡ r → (r || list_any (λ x. is_same_point x q) ps) ≡ true
+      → (list_any (λ x. is_same_point x q) ps ≡ true → f q ≡ true) → f q ≡ true
   by_test true e k rest = subst (λ (x : Point). f x ≡ true) (is_same_point-same p q e) (and_left (f p) _ all)
   by_test false e k rest = rest k
 
@@ -130,7 +134,8 @@ module _ (width : ℕ) where
       let e : (y + 1) * width ≡ y * width + 0 + width = omega arith in
       let f : y * width + 0 ≡ y * width = omega arith in
       subst (λ k. Rising k (row_from y 0 width ++ flat_map (λ z. row_from z 0 width) (range_with_len (y + 1) n))) f
-      (row-rising y 0 width _ (subst (λ k. Rising k (flat_map (λ z. row_from z 0 width) (range_with_len (y + 1) n))) e (rows-rising (y + 1) n)))
+      (row-rising y 0 width _ (subst (λ k. Rising k (flat_map (λ z. row_from z 0 width) (range_with_len (y + 1) n))) e
+      (rows-rising (y + 1) n)))
 
   -- the first point, and those after it
   pub rising-first : (k : ℕ) (p : Point) (ps : List Point) → Rising k (p ∷ ps) → (k ≤ place p) × Rising (place p + 1) ps
@@ -159,7 +164,8 @@ module _ (width : ℕ) where
   unfolding Rising place
   two-apart k p q ps h = record {
     apart = λ x y.
-        let same : q.y * width + q.x ≡ p.y * width + p.x = ap (λ (z : ℕ). z * width + q.x) (sym y) ∙ ap (λ (z : ℕ). p.y * width + z) (sym x) in
+        let same : q.y * width + q.x ≡ p.y * width + p.x =
+        ap (λ (z : ℕ). z * width + q.x) (sym y) ∙ ap (λ (z : ℕ). p.y * width + z) (sym x) in
         let low = h.1.0 in
         omega (arith, low, same);
   }
@@ -167,17 +173,22 @@ module _ (width : ℕ) where
 -- two points that pass a test, one after another, are not one
 pub two_passing-apart : (b : Grid) (f : Point → Bool) (p q : Point) (ps : List Point) → filter f (points_of b) ≡ p ∷ q ∷ ps → Apart p q
 two_passing-apart b f p q ps e =
-    two-apart b.width (0 * b.width) p q ps (subst (λ xs. Rising b.width (0 * b.width) xs) e (filter-rising b.width f (0 * b.width) (points_of b) (rows-rising b.width 0 b.height)))
+    two-apart b.width (0 * b.width) p q ps
+    (subst (λ xs. Rising b.width (0 * b.width) xs) e
+    (filter-rising b.width f (0 * b.width) (points_of b) (rows-rising b.width 0 b.height)))
 
 -- ---- those that pass a test
 
-passing_listed : (f : Point → Bool) (q : Point) (ps : List Point) → list_any (λ x. f x && is_same_point x q) ps ≡ true → Contains (filter f ps) q
+passing_listed : (f : Point → Bool) (q : Point) (ps : List Point) → list_any (λ x. f x && is_same_point x q) ps ≡ true
+    → Contains (filter f ps) q
 passing_listed f q [] h = cc
 passing_listed f q (p ∷ ps) h = by_tests (f p) (is_same_point p q) refl h (passing_listed f q ps) where
   deeper : (x : Point) (xs : List Point) → Contains xs q → Contains (x ∷ xs) q
   deeper x xs (k, inside, at) = (suc k, omega (arith, inside), at)
 
-  by_tests : (r s : Bool) → is_same_point p q ≡ s → ((r && s) || list_any (λ x. f x && is_same_point x q) ps) ≡ true → (list_any (λ x. f x && is_same_point x q) ps ≡ true → Contains (filter f ps) q) → Contains (cond r (p ∷ filter f ps) (filter f ps)) q
+  by_tests : (r s : Bool) → is_same_point p q ≡ s → ((r && s) || list_any (λ x. f x && is_same_point x q) ps) ≡ true
+      → (list_any (λ x. f x && is_same_point x q) ps ≡ true → Contains (filter f ps) q)
+      → Contains (cond r (p ∷ filter f ps) (filter f ps)) q
   by_tests true true same h later = (0, omega arith, is_same_point-same p q same)
   by_tests true false same h later = deeper p (filter f ps) (later h)
   by_tests false s same h later = later h
@@ -192,7 +203,8 @@ points_passing b f q on h =
 pub find-in : (f g : Point → Bool) (ps : List Point) (w : Point) → list_all g ps ≡ true → find f ps ≡ Some w → (f w ≡ true) × (g w ≡ true)
 find-in f g [] w all h = cc
 find-in f g (p ∷ ps) w all h = by_test (f p) refl h (find-in f g ps w (and_right (g p) _ all)) where
-  by_test : (r : Bool) → f p ≡ r → cond r (Some p) (find f ps) ≡ Some w → (find f ps ≡ Some w → (f w ≡ true) × (g w ≡ true)) → (f w ≡ true) × (g w ≡ true)
+  by_test : (r : Bool) → f p ≡ r → cond r (Some p) (find f ps) ≡ Some w → (find f ps ≡ Some w → (f w ≡ true) × (g w ≡ true))
+      → (f w ≡ true) × (g w ≡ true)
   by_test true e k rest =
       let same : p ≡ w = cc in
       (subst (λ (x : Point). f x ≡ true) same e, subst (λ (x : Point). g x ≡ true) same (and_left (g p) _ all))

@@ -1,5 +1,6 @@
 -- Lists of points: what is found, filtered, counted and summed in them.
-use Rattle.std.proofs.Common.{not, List, ◌≡◌, Bool, cond, refl, ap, ◌∙◌, [], ◌∷◌, true, false, ◌&&◌, ◌||◌, suc, sym, subst, arith, zero, ℕ, ◌+◌, ◌<◌, length, drop, get_or, ◌++◌, take, nat_eq, ◌≤◌, reverse, nat_le, leb-true, leb-false, le-leb}
+use Rattle.std.proofs.Common.{not, List, ◌≡◌, Bool, cond, refl, ap, ◌∙◌, [], ◌∷◌, true, false, ◌&&◌, ◌||◌, suc, sym, subst, arith, zero, ℕ}
+use Rattle.std.proofs.Common.{◌+◌, ◌<◌, length, drop, get_or, ◌++◌, take, nat_eq, ◌≤◌, reverse, nat_le, leb-true, leb-false, le-leb}
 use Rattle.std.specs.List.{filter, list_any, find, All, list_all, sum_by, AllByRecursion}
 use Rattle.std.specs.Prelude.{Some, None, Contains, Option, unwrap_or}
 use Rattle.std.specs.Option.{option_or}
@@ -21,12 +22,14 @@ without p xs = filter (λ q. not (is_same_point p q)) xs
 
 pub filter-same : (f g : Point → Bool) (xs : List Point) → ((q : Point) → f q ≡ g q) → filter f xs ≡ filter g xs
 filter-same f g [] h = refl
-filter-same f g (x ∷ xs) h = ap (λ r. cond r (x ∷ filter f xs) (filter f xs)) (h x) ∙ ap (λ ys. cond (g x) (x ∷ ys) ys) (filter-same f g xs h)
+filter-same f g (x ∷ xs) h = ap (λ r. cond r (x ∷ filter f xs) (filter f xs)) (h x)
+    ∙ ap (λ ys. cond (g x) (x ∷ ys) ys) (filter-same f g xs h)
 
 pub filter-both : (f g : Point → Bool) (xs : List Point) → filter (λ q. f q && g q) xs ≡ filter g (filter f xs)
 filter-both f g [] = refl
 filter-both f g (x ∷ xs) = by_test (f x) (filter-both f g xs) where
-  by_test : (r : Bool) → filter (λ q. f q && g q) xs ≡ filter g (filter f xs) → cond (r && g x) (x ∷ filter (λ q. f q && g q) xs) (filter (λ q. f q && g q) xs) ≡ filter g (cond r (x ∷ filter f xs) (filter f xs))
+  by_test : (r : Bool) → filter (λ q. f q && g q) xs ≡ filter g (filter f xs)
+      → cond (r && g x) (x ∷ filter (λ q. f q && g q) xs) (filter (λ q. f q && g q) xs) ≡ filter g (cond r (x ∷ filter f xs) (filter f xs))
   by_test true h = ap (λ ys. cond (g x) (x ∷ ys) ys) h
   by_test false h = h
 
@@ -47,14 +50,16 @@ none-unfound f (x ∷ xs) h = by_test (f x) h (none-unfound f xs) where
 pub list_any-filter : (f g : Point → Bool) (xs : List Point) → list_any f (filter g xs) ≡ list_any (λ x. g x && f x) xs
 list_any-filter f g [] = refl
 list_any-filter f g (x ∷ xs) = by_test (g x) (list_any-filter f g xs) where
-  by_test : (r : Bool) → list_any f (filter g xs) ≡ list_any (λ x. g x && f x) xs → list_any f (cond r (x ∷ filter g xs) (filter g xs)) ≡ ((r && f x) || list_any (λ x. g x && f x) xs)
+  by_test : (r : Bool) → list_any f (filter g xs) ≡ list_any (λ x. g x && f x) xs
+      → list_any f (cond r (x ∷ filter g xs) (filter g xs)) ≡ ((r && f x) || list_any (λ x. g x && f x) xs)
   by_test true h = ap (λ r. f x || r) h
   by_test false h = h
 
 pub found_all : (P : Point → Type 0) (q : Point) (xs : List Point) → All P xs → list_any (is_same_point q) xs ≡ true → P q
 found_all P q [] all h = cc
 found_all P q (x ∷ xs) all h = by_test (is_same_point q x) refl h (found_all P q xs (λ j d l. all (suc j) d (omega arith))) where
-  by_test : (r : Bool) → is_same_point q x ≡ r → (r || list_any (is_same_point q) xs) ≡ true → (list_any (is_same_point q) xs ≡ true → P q) → P q
+  by_test : (r : Bool) → is_same_point q x ≡ r → (r || list_any (is_same_point q) xs) ≡ true → (list_any (is_same_point q) xs ≡ true → P q)
+      → P q
   by_test true e k later = subst P (sym (is_same_point-same q x e)) (all 0 q (omega arith))
   by_test false e k later = later k
 
@@ -86,17 +91,20 @@ filter-inside p (r ∷ qs) q c = by_test (p r) c (filter-inside p qs q) where
   later : Contains qs q → Contains (r ∷ qs) q
   later (k, l, e) = (suc k, omega arith, e)
 
-  by_test : (b : Bool) → Contains (cond b (r ∷ filter p qs) (filter p qs)) q → (Contains (filter p qs) q → Contains qs q) → Contains (r ∷ qs) q
+  by_test : (b : Bool) → Contains (cond b (r ∷ filter p qs) (filter p qs)) q → (Contains (filter p qs) q → Contains qs q)
+      → Contains (r ∷ qs) q
   by_test true (zero, l, e) next = (0, omega arith, e)
   by_test true (suc k, l, e) next = later (next (k, omega arith, e))
   by_test false c next = later (next c)
 
-pub next_point : (points : List Point) (i : ℕ) → i < length points → drop i points ≡ get_or points i (record { x = 0; y = 0 }) ∷ drop (i + 1) points
+pub next_point : (points : List Point) (i : ℕ) → i < length points
+    → drop i points ≡ get_or points i (record { x = 0; y = 0 }) ∷ drop (i + 1) points
 next_point points i within =
     let next : i + 1 ≡ suc i = omega arith in
     rw next (drop-cons points i (record { x = 0; y = 0 }) within)
 
-pub first_points : (points : List Point) (i : ℕ) → i < length points → take (i + 1) points ≡ take i points ++ get_or points i (record { x = 0; y = 0 }) ∷ []
+pub first_points : (points : List Point) (i : ℕ) → i < length points
+    → take (i + 1) points ≡ take i points ++ get_or points i (record { x = 0; y = 0 }) ∷ []
 first_points points i within = take_more points i (record { x = 0; y = 0 }) within
 
 pub all-append : (f : Point → Bool) (xs ys : List Point) → list_all f xs ≡ true → list_all f ys ≡ true → list_all f (xs ++ ys) ≡ true
@@ -105,7 +113,8 @@ all-append f xs ys h k = list_all-append f xs ys ∙ and_from (list_all f xs) _ 
 pub first_on : (f : Point → Bool) (p : Point) (ps : List Point) → list_all f (p ∷ ps) ≡ true → (f p ≡ true) × (list_all f ps ≡ true)
 first_on f p ps h = and_parts (f p) (list_all f ps) h
 
-pub filter_same : (f g h : Point → Bool) → ((q : Point) → h q ≡ true → f q ≡ g q) → (xs : List Point) → list_all h xs ≡ true → filter f xs ≡ filter g xs
+pub filter_same : (f g h : Point → Bool) → ((q : Point) → h q ≡ true → f q ≡ g q) → (xs : List Point) → list_all h xs ≡ true
+    → filter f xs ≡ filter g xs
 filter_same f g h same [] all = refl
 filter_same f g h same (x ∷ xs) all =
     let both = first_on h x xs all in
@@ -121,12 +130,14 @@ filter_all g h (x ∷ xs) all = let both = first_on h x xs all in by_test (g x) 
 
 pub some_listed : (f : Point → Bool) (ps xs : List Point) → xs ≡ filter f ps → not (nat_eq (length xs) 0) ≡ list_any f ps
 some_listed f ps [] h = sym (filter-none f ps (sym h))
-some_listed f ps (x ∷ xs) h = let some = filter-some f x xs ps (sym h) in let more : nat_eq (suc (length xs)) 0 ≡ false = grind (arith, nat_tests) in rw (more, some) refl
+some_listed f ps (x ∷ xs) h = let some = filter-some f x xs ps (sym h) in let more : nat_eq (suc (length xs)) 0 ≡ false =
+    grind (arith, nat_tests) in rw (more, some) refl
 
 pub some_passes : (f g : Point → Bool) (xs : List Point) → list_any f (filter g xs) ≡ true → (x : Point) × (g x ≡ true)
 some_passes f g [] h = cc
 some_passes f g (x ∷ xs) h = by_test (g x) refl h (some_passes f g xs) where
-  by_test : (r : Bool) → g x ≡ r → list_any f (cond r (x ∷ filter g xs) (filter g xs)) ≡ true → (list_any f (filter g xs) ≡ true → (y : Point) × (g y ≡ true)) → (y : Point) × (g y ≡ true)
+  by_test : (r : Bool) → g x ≡ r → list_any f (cond r (x ∷ filter g xs) (filter g xs)) ≡ true
+      → (list_any f (filter g xs) ≡ true → (y : Point) × (g y ≡ true)) → (y : Point) × (g y ≡ true)
   by_test true e h rest = (x, e)
   by_test false e h rest = rest h
 
@@ -145,12 +156,14 @@ abbrev pub AmongPoints : Point → List Point → Type 0
 AmongPoints q ps = among_points q ps ≡ true
 
 pub apart_same : (p q : Point) → Apart p q → is_same_point q p ≡ false
-apart_same p q h = false_from_ne_true (is_same_point q p) (λ e. let same : q ≡ p = is_same_point-same q p e in h.apart (ap (λ (r : Point). r.x) (sym same)) (ap (λ (r : Point). r.y) (sym same)))
+apart_same p q h = false_from_ne_true (is_same_point q p)
+    (λ e. let same : q ≡ p = is_same_point-same q p e in h.apart (ap (λ (r : Point). r.x) (sym same)) (ap (λ (r : Point). r.y) (sym same)))
 
 pub find-and : (f g : Point → Bool) (ps : List Point) → find (λ x. f x && g x) ps ≡ find g (filter f ps)
 find-and f g [] = refl
 find-and f g (p ∷ ps) = by_test (f p) (find-and f g ps) where
-  by_test : (r : Bool) → find (λ x. f x && g x) ps ≡ find g (filter f ps) → cond (r && g p) (Some p) (find (λ x. f x && g x) ps) ≡ find g (cond r (p ∷ filter f ps) (filter f ps))
+  by_test : (r : Bool) → find (λ x. f x && g x) ps ≡ find g (filter f ps)
+      → cond (r && g p) (Some p) (find (λ x. f x && g x) ps) ≡ find g (cond r (p ∷ filter f ps) (filter f ps))
   by_test true h = ap (λ (o : Option Point). cond (g p) (Some p) o) h
   by_test false h = h
 
@@ -164,7 +177,8 @@ find-any f (x ∷ ps) p h = by_test (f x) h (find-any f ps p) where
 pub any-find : (f : Point → Bool) (ps : List Point) → list_any f ps ≡ true → (p : Point) × (find f ps ≡ Some p)
 any-find f [] h = cc
 any-find f (x ∷ ps) h = by_test (f x) h (any-find f ps) where
-  by_test : (r : Bool) → (r || list_any f ps) ≡ true → (list_any f ps ≡ true → (p : Point) × (find f ps ≡ Some p)) → (p : Point) × (cond r (Some x) (find f ps) ≡ Some p)
+  by_test : (r : Bool) → (r || list_any f ps) ≡ true → (list_any f ps ≡ true → (p : Point) × (find f ps ≡ Some p))
+      → (p : Point) × (cond r (Some x) (find f ps) ≡ Some p)
   by_test true h k = (x, refl)
   by_test false h k = k h
 
@@ -198,7 +212,8 @@ list_two (x ∷ y ∷ xs) d low = (xs, refl)
 pub head_find : (f : Point → Bool) (ps : List Point) (x : Point) (more : List Point) → filter f ps ≡ x ∷ more → find f ps ≡ Some x
 head_find f [] x more h = cc
 head_find f (p ∷ ps) x more h = by_test (f p) h (head_find f ps x more) where
-  by_test : (r : Bool) → cond r (p ∷ filter f ps) (filter f ps) ≡ x ∷ more → (filter f ps ≡ x ∷ more → find f ps ≡ Some x) → cond r (Some p) (find f ps) ≡ Some x
+  by_test : (r : Bool) → cond r (p ∷ filter f ps) (filter f ps) ≡ x ∷ more → (filter f ps ≡ x ∷ more → find f ps ≡ Some x)
+      → cond r (Some p) (find f ps) ≡ Some x
   by_test true h k = let same : p ≡ x = cc in ap Some same
   by_test false h k = k h
 
@@ -207,7 +222,8 @@ list_some [] d low = absurd (omega arith)
 list_some (x ∷ xs) d low = (xs, refl)
 
 -- no item passes t: then each item adds no more to the sum of f than to that of g
-pub sums-less : (f g : Point → ℕ) (t : Point → Bool) → ((p : Point) → t p ≡ false → f p ≤ g p) → (ps : List Point) → list_any t ps ≡ false → sum_by f ps ≤ sum_by g ps
+pub sums-less : (f g : Point → ℕ) (t : Point → Bool) → ((p : Point) → t p ≡ false → f p ≤ g p) → (ps : List Point) → list_any t ps ≡ false
+    → sum_by f ps ≤ sum_by g ps
 sums-less f g t less [] h = omega arith
 sums-less f g t less (p ∷ ps) h =
     let parts = or_parts (t p) (list_any t ps) h in
@@ -218,7 +234,9 @@ sums-less f g t less (p ∷ ps) h =
     omega (arith, one, rest, a, z)
 
 -- and where both sums are the same, so is each item, and what follows of that
-pub sums-same : (f g k : Point → ℕ) (t u : Point → Bool) → ((p : Point) → t p ≡ false → f p ≤ g p) → ((p : Point) → t p ≡ false → g p ≡ f p → (u p ≡ false) × (k p ≡ f p)) → (ps : List Point) → list_any t ps ≡ false → sum_by g ps ≡ sum_by f ps → (list_any u ps ≡ false) × (sum_by k ps ≡ sum_by f ps)
+pub sums-same : (f g k : Point → ℕ) (t u : Point → Bool) → ((p : Point) → t p ≡ false → f p ≤ g p)
+    → ((p : Point) → t p ≡ false → g p ≡ f p → (u p ≡ false) × (k p ≡ f p)) → (ps : List Point) → list_any t ps ≡ false
+    → sum_by g ps ≡ sum_by f ps → (list_any u ps ≡ false) × (sum_by k ps ≡ sum_by f ps)
 sums-same f g k t u less point [] h e = (refl, refl)
 sums-same f g k t u less point (p ∷ ps) h e =
     let parts = or_parts (t p) (list_any t ps) h in
@@ -245,14 +263,16 @@ sum-ones f (p ∷ ps) h =
     omega (arith, e, low, rest)
 
 -- and one of them is 0
-pub sum-ones-but : (f : Point → ℕ) (w : Point) → ((q : Point) → f q ≤ 1) → f w ≡ 0 → (ps : List Point) → among_points w ps ≡ true → sum_by f ps + 1 ≤ length ps
+pub sum-ones-but : (f : Point → ℕ) (w : Point) → ((q : Point) → f q ≤ 1) → f w ≡ 0 → (ps : List Point) → among_points w ps ≡ true
+    → sum_by f ps + 1 ≤ length ps
 sum-ones-but f w each none [] among = cc
 sum-ones-but f w each none (p ∷ ps) among = by_test (is_same_point w p) refl among (sum-ones-but f w each none ps) where
   all : (ps : List Point) → AllByRecursion (λ q. f q ≤ 1) ps
   all [] = tt
   all (q ∷ qs) = (each q, all qs)
 
-  by_test : (r : Bool) → is_same_point w p ≡ r → (r || among_points w ps) ≡ true → (among_points w ps ≡ true → sum_by f ps + 1 ≤ length ps) → sum_by f (p ∷ ps) + 1 ≤ length (p ∷ ps)
+  by_test : (r : Bool) → is_same_point w p ≡ r → (r || among_points w ps) ≡ true → (among_points w ps ≡ true → sum_by f ps + 1 ≤ length ps)
+      → sum_by f (p ∷ ps) + 1 ≤ length (p ∷ ps)
   by_test true e k rest =
       let zero_here : f p ≡ 0 = ap f (sym (is_same_point-same w p e)) ∙ none in
       let split = sum_by-cons f p ps in
@@ -290,14 +310,17 @@ each-append P (p ∷ ps) qs h k = (h.0, each-append P ps qs h.1 k)
 find-few : (f : Point → Bool) (ps : List Point) → length (filter f ps) < 1 → find f ps ≡ None
 find-few f [] l = refl
 find-few f (p ∷ ps) l = by_test (f p) l (find-few f ps) where
-  by_test : (r : Bool) → length (cond r (p ∷ filter f ps) (filter f ps)) < 1 → (length (filter f ps) < 1 → find f ps ≡ None) → cond r (Some p) (find f ps) ≡ None
+  by_test : (r : Bool) → length (cond r (p ∷ filter f ps) (filter f ps)) < 1 → (length (filter f ps) < 1 → find f ps ≡ None)
+      → cond r (Some p) (find f ps) ≡ None
   by_test true l rest = absurd (omega arith)
   by_test false l rest = rest l
 
 find-first : (f : Point → Bool) (ps : List Point) (d : Point) → 1 ≤ length (filter f ps) → find f ps ≡ Some (get_or (filter f ps) 0 d)
 find-first f [] d l = absurd (omega arith)
 find-first f (p ∷ ps) d l = by_test (f p) l (find-first f ps d) where
-  by_test : (r : Bool) → 1 ≤ length (cond r (p ∷ filter f ps) (filter f ps)) → (1 ≤ length (filter f ps) → find f ps ≡ Some (get_or (filter f ps) 0 d)) → cond r (Some p) (find f ps) ≡ Some (get_or (cond r (p ∷ filter f ps) (filter f ps)) 0 d)
+  by_test : (r : Bool) → 1 ≤ length (cond r (p ∷ filter f ps) (filter f ps))
+      → (1 ≤ length (filter f ps) → find f ps ≡ Some (get_or (filter f ps) 0 d))
+      → cond r (Some p) (find f ps) ≡ Some (get_or (cond r (p ∷ filter f ps) (filter f ps)) 0 d)
   by_test true l rest = refl
   by_test false l rest = rest l
 
@@ -315,15 +338,18 @@ points-append_nil (p ∷ ps) = ap (λ (r : List Point). p ∷ r) (points-append_
 pub none-listed : (g : Point → Bool) (ps : List Point) → [] ≡ filter g ps → list_any g ps ≡ true → ⊥
 none-listed g [] e h = cc
 none-listed g (p ∷ ps) e h = by_test (g p) e h (none-listed g ps) where
-  by_test : (r : Bool) → [] ≡ cond r (p ∷ filter g ps) (filter g ps) → (r || list_any g ps) ≡ true → ([] ≡ filter g ps → list_any g ps ≡ true → ⊥) → ⊥
+  by_test : (r : Bool) → [] ≡ cond r (p ∷ filter g ps) (filter g ps) → (r || list_any g ps) ≡ true
+      → ([] ≡ filter g ps → list_any g ps ≡ true → ⊥) → ⊥
   by_test true e h rest = cc
   by_test false e h rest = rest e h
 
 -- a sum over those that pass one test is no more than that over those that pass a weaker one
-pub filter-sum : (f g : Point → Bool) (h : Point → ℕ) → ((p : Point) → f p ≡ true → g p ≡ true) → (ps : List Point) → sum_by h (filter f ps) ≤ sum_by (λ p. cond (g p) (h p) 0) ps
+pub filter-sum : (f g : Point → Bool) (h : Point → ℕ) → ((p : Point) → f p ≡ true → g p ≡ true) → (ps : List Point)
+    → sum_by h (filter f ps) ≤ sum_by (λ p. cond (g p) (h p) 0) ps
 filter-sum f g h weaker [] = omega arith
 filter-sum f g h weaker (p ∷ ps) = by_test (f p) refl (filter-sum f g h weaker ps) where
-  by_test : (r : Bool) → f p ≡ r → sum_by h (filter f ps) ≤ sum_by (λ q. cond (g q) (h q) 0) ps → sum_by h (cond r (p ∷ filter f ps) (filter f ps)) ≤ sum_by (λ q. cond (g q) (h q) 0) (p ∷ ps)
+  by_test : (r : Bool) → f p ≡ r → sum_by h (filter f ps) ≤ sum_by (λ q. cond (g q) (h q) 0) ps
+      → sum_by h (cond r (p ∷ filter f ps) (filter f ps)) ≤ sum_by (λ q. cond (g q) (h q) 0) (p ∷ ps)
   by_test true e rest =
       let here : cond (g p) (h p) 0 ≡ h p = ap (λ r. cond r (h p) 0) (weaker p e) in
       let a = sum_by-cons h p (filter f ps) in
@@ -331,7 +357,8 @@ filter-sum f g h weaker (p ∷ ps) = by_test (f p) refl (filter-sum f g h weaker
       omega (arith, here, a, b, rest)
   by_test false e rest = let b = sum_by-cons (λ q. cond (g q) (h q) 0) p ps in omega (arith, b, rest)
 
-pub some-counts : (f : Point → Bool) (h : Point → ℕ) → ((p : Point) → f p ≡ true → 1 ≤ h p) → (ps : List Point) → list_any f ps ≡ true → 1 ≤ sum_by h ps
+pub some-counts : (f : Point → Bool) (h : Point → ℕ) → ((p : Point) → f p ≡ true → 1 ≤ h p) → (ps : List Point) → list_any f ps ≡ true
+    → 1 ≤ sum_by h ps
 some-counts f h one [] e = cc
 some-counts f h one (p ∷ ps) e = by_test (f p) refl e (some-counts f h one ps) where
   by_test : (r : Bool) → f p ≡ r → (r || list_any f ps) ≡ true → (list_any f ps ≡ true → 1 ≤ sum_by h ps) → 1 ≤ sum_by h (p ∷ ps)
@@ -358,7 +385,8 @@ other_first p q h = by_test (is_same_point q p) refl where
 pub Apart-back : (p q : Point) → Apart p q → Apart q p
 Apart-back p q d = record { apart = λ x y. d.apart (sym x) (sym y) }
 
-pub none_found-filter : (f g : Point → Bool) → ((x : Point) → f x ≡ false → g x ≡ false) → (ps : List Point) → find f ps ≡ None → filter g ps ≡ []
+pub none_found-filter : (f g : Point → Bool) → ((x : Point) → f x ≡ false → g x ≡ false) → (ps : List Point) → find f ps ≡ None
+    → filter g ps ≡ []
 none_found-filter f g out [] h = refl
 none_found-filter f g out (p ∷ ps) h = by_test (f p) refl h (none_found-filter f g out ps) where
   by_test : (r : Bool) → f p ≡ r → cond r (Some p) (find f ps) ≡ None → (find f ps ≡ None → filter g ps ≡ []) → filter g (p ∷ ps) ≡ []
@@ -383,7 +411,8 @@ no_points (x ∷ xs) h = absurd (omega arith)
 pub sum-at : (f : Point → ℕ) (p : Point) (ps : List Point) → list_any (λ x. is_same_point x p) ps ≡ true → f p ≤ sum_by f ps
 sum-at f p [] h = cc
 sum-at f p (x ∷ ps) h = by_test (is_same_point x p) refl h (sum-at f p ps) where
-  by_test : (r : Bool) → is_same_point x p ≡ r → (r || list_any (λ x. is_same_point x p) ps) ≡ true → (list_any (λ x. is_same_point x p) ps ≡ true → f p ≤ sum_by f ps) → f p ≤ sum_by f (x ∷ ps)
+  by_test : (r : Bool) → is_same_point x p ≡ r → (r || list_any (λ x. is_same_point x p) ps) ≡ true
+      → (list_any (λ x. is_same_point x p) ps ≡ true → f p ≤ sum_by f ps) → f p ≤ sum_by f (x ∷ ps)
   by_test true e k rest =
       let same : f x ≡ f p = ap f (is_same_point-same x p e) in
       let split = sum_by-cons f x ps in
@@ -401,10 +430,12 @@ find-same f g same (p ∷ ps) = rw (same p, find-same f g same ps) refl
 pub reverse-push : (ps : List Point) (p : Point) → reverse (ps ++ p ∷ []) ≡ p ∷ reverse ps
 reverse-push ps p = reverse-append ps (p ∷ [])
 
-pub found-either : (f : Point → Bool) (ps qs : List Point) (d : Point) → list_any f qs ≡ true → f (unwrap_or (option_or (find f ps) (find f qs)) d) ≡ true
+pub found-either : (f : Point → Bool) (ps qs : List Point) (d : Point) → list_any f qs ≡ true
+    → f (unwrap_or (option_or (find f ps) (find f qs)) d) ≡ true
 found-either f [] qs d h = find-some f qs d h
 found-either f (x ∷ ps) qs d h = by_test (f x) refl (found-either f ps qs d h) where
-  by_test : (r : Bool) → f x ≡ r → f (unwrap_or (option_or (find f ps) (find f qs)) d) ≡ true → f (unwrap_or (option_or (cond r (Some x) (find f ps)) (find f qs)) d) ≡ true
+  by_test : (r : Bool) → f x ≡ r → f (unwrap_or (option_or (find f ps) (find f qs)) d) ≡ true
+      → f (unwrap_or (option_or (cond r (Some x) (find f ps)) (find f qs)) d) ≡ true
   by_test true e rest = e
   by_test false e rest = rest
 
@@ -412,18 +443,22 @@ pub sum-least : (f : Point → ℕ) (b : Grid) (p : Point) → is_on b p ≡ tru
 sum-least f b p on = sum-at f p (points_of b) (points-found b (λ x. is_same_point x p) p on (is_same_point-itself p))
 
 -- tests of lists
-pub any_none : (f g : Point → Bool) (ps : List Point) → ((p : Point) → g p ≡ true → f p ≡ false) → list_all g ps ≡ true → list_any f ps ≡ false
+pub any_none : (f g : Point → Bool) (ps : List Point) → ((p : Point) → g p ≡ true → f p ≡ false) → list_all g ps ≡ true
+    → list_any f ps ≡ false
 any_none f g [] h all = refl
 any_none f g (p ∷ ps) h all = rw (h p (and_left (g p) _ all), any_none f g ps h (and_right (g p) _ all)) refl
 
-pub all_implied : (f g : Point → Bool) (ps : List Point) → ((p : Point) → g p ≡ true → f p ≡ true) → list_all g ps ≡ true → list_all f ps ≡ true
+pub all_implied : (f g : Point → Bool) (ps : List Point) → ((p : Point) → g p ≡ true → f p ≡ true) → list_all g ps ≡ true
+    → list_all f ps ≡ true
 all_implied f g [] h all = refl
 all_implied f g (p ∷ ps) h all = rw (h p (and_left (g p) _ all), all_implied f g ps h (and_right (g p) _ all)) refl
 
-pub find_after : (f : Point → Bool) (before : List Point) (p : Point) (later : List Point) → list_any f before ≡ false → f p ≡ true → find f (before ++ p ∷ later) ≡ Some p
+pub find_after : (f : Point → Bool) (before : List Point) (p : Point) (later : List Point) → list_any f before ≡ false → f p ≡ true
+    → find f (before ++ p ∷ later) ≡ Some p
 find_after f [] p later none e = rw e refl
 find_after f (q ∷ before) p later none e = by_test (f q) none (find_after f before p later) where
-  by_test : (r : Bool) → (r || list_any f before) ≡ false → (list_any f before ≡ false → f p ≡ true → find f (before ++ p ∷ later) ≡ Some p) → cond r (Some q) (find f (before ++ p ∷ later)) ≡ Some p
+  by_test : (r : Bool) → (r || list_any f before) ≡ false → (list_any f before ≡ false → f p ≡ true → find f (before ++ p ∷ later) ≡ Some p)
+      → cond r (Some q) (find f (before ++ p ∷ later)) ≡ Some p
   by_test true h rest = cc
   by_test false h rest = rest h e
 
@@ -437,7 +472,8 @@ first_nearest distance ps = find (λ p. none_nearer distance p ps) ps
 
 module _ (distance : Point → ℕ) where
   -- what no point is nearer than, no point is nearer than what is as near
-  pub none_nearer-than : (p q : Point) (ps : List Point) → distance p ≤ distance q → none_nearer distance q ps ≡ true → none_nearer distance p ps ≡ true
+  pub none_nearer-than : (p q : Point) (ps : List Point) → distance p ≤ distance q → none_nearer distance q ps ≡ true
+      → none_nearer distance p ps ≡ true
   none_nearer-than p q [] near h = refl
   none_nearer-than p q (x ∷ xs) near h =
       let here : distance q ≤ distance x = leb-true _ _ (and_left (nat_le (distance q) (distance x)) _ h) in
@@ -445,20 +481,24 @@ module _ (distance : Point → ℕ) where
       rw (le-leb (distance p) (distance x) (omega arith), rest) refl
 
   -- where one of the points is nearer than p, the nearest of them is
-  pub nearer-than : (p q : Point) (ps : List Point) → none_nearer distance p ps ≡ false → none_nearer distance q ps ≡ true → distance q < distance p
+  pub nearer-than : (p q : Point) (ps : List Point) → none_nearer distance p ps ≡ false → none_nearer distance q ps ≡ true
+      → distance q < distance p
   nearer-than p q [] fails holds = cc
   nearer-than p q (x ∷ xs) fails holds = by_test (nat_le (distance p) (distance x)) refl fails (nearer-than p q xs) where
     here : distance q ≤ distance x
     here = leb-true _ _ (and_left (nat_le (distance q) (distance x)) _ holds)
 
-    by_test : (r : Bool) → nat_le (distance p) (distance x) ≡ r → (r && none_nearer distance p xs) ≡ false → (none_nearer distance p xs ≡ false → none_nearer distance q xs ≡ true → distance q < distance p) → distance q < distance p
+    by_test : (r : Bool) → nat_le (distance p) (distance x) ≡ r → (r && none_nearer distance p xs) ≡ false
+        → (none_nearer distance p xs ≡ false → none_nearer distance q xs ≡ true → distance q < distance p) → distance q < distance p
     by_test true e h rest = rest h (and_right (nat_le (distance q) (distance x)) _ holds)
     by_test false e h rest = let far = leb-false (distance p) (distance x) e in let near = here in omega (arith, far, near)
 
   -- whether the first point is the nearest tells the nearest of all
-  pub first_nearest-cons : (p : Point) (ps : List Point) → first_nearest distance (p ∷ ps) ≡ cond (none_nearer distance p ps) (Some p) (first_nearest distance ps)
+  pub first_nearest-cons : (p : Point) (ps : List Point)
+      → first_nearest distance (p ∷ ps) ≡ cond (none_nearer distance p ps) (Some p) (first_nearest distance ps)
   first_nearest-cons p ps = rw (le-leb (distance p) (distance p) (omega arith)) (by_test (none_nearer distance p ps) refl) where
-    same : none_nearer distance p ps ≡ false → (q : Point) → (nat_le (distance q) (distance p) && none_nearer distance q ps) ≡ none_nearer distance q ps
+    same : none_nearer distance p ps ≡ false → (q : Point)
+        → (nat_le (distance q) (distance p) && none_nearer distance q ps) ≡ none_nearer distance q ps
     same fails q = by_rest (none_nearer distance q ps) refl where
       by_rest : (r : Bool) → none_nearer distance q ps ≡ r → (nat_le (distance q) (distance p) && r) ≡ r
       by_rest true e = let near = nearer-than p q ps fails e in rw (le-leb (distance q) (distance p) (omega (arith, near))) refl
@@ -467,6 +507,8 @@ module _ (distance : Point → ℕ) where
         none true = refl
         none false = refl
 
-    by_test : (r : Bool) → none_nearer distance p ps ≡ r → cond r (Some p) (find (λ q. nat_le (distance q) (distance p) && none_nearer distance q ps) ps) ≡ cond r (Some p) (first_nearest distance ps)
+    by_test : (r : Bool) → none_nearer distance p ps ≡ r
+        → cond r (Some p) (find (λ q. nat_le (distance q) (distance p) && none_nearer distance q ps) ps) ≡ cond r (Some p)
+        (first_nearest distance ps)
     by_test true e = refl
     by_test false e = find-same _ _ (same e) ps

@@ -1,11 +1,13 @@
 -- Facts about all points of a board: lists, tests, and points off the board.
-use Rattle.std.proofs.Common.{◌≡◌, ℕ, Bool, true, false, ◌&&◌, ◌||◌, not, cond, refl, sym, ap, subst, ◌∙◌, arith, List, [], ◌∷◌, map, nat_eq, eq-eqb}
+use Rattle.std.proofs.Common.{◌≡◌, ℕ, Bool, true, false, ◌&&◌, ◌||◌, not, cond, refl, sym, ap, subst, ◌∙◌, arith, List, [], ◌∷◌, map}
+use Rattle.std.proofs.Common.{nat_eq, eq-eqb}
 use Rattle.std.specs.List.{list_any, list_all, filter, flat_map, range_with_len}
 use Rattle.std.specs.Prelude.{Option, Some, None, nat_lt, ◌==◌}
 use Rattle.std.proofs.lemmas.Bool.{false_from_ne_true}
 use Rattle.std.proofs.lemmas.Bool.Decides.{nat_tests}
 use Rattle.std.proofs.lemmas.List.Folds.{list_any-append}
-use Rattle.game_rules.proofs.Common.{Grid, is_on, is_empty, points_of, row_from, precedes, five, is_at, is_same_point, outcome, outcome_by, foul_of, mover, WinsOr}
+use Rattle.game_rules.proofs.Common.{Grid, is_on, is_empty, points_of, row_from, precedes, five, is_at, is_same_point, outcome, outcome_by}
+use Rattle.game_rules.proofs.Common.{foul_of, mover, WinsOr}
 use Rattle.game_rules.specs.declared.RuleKind.{RuleKind}
 use Rattle.game_rules.specs.declared.Foul.{Foul}
 use Rattle.game_rules.specs.declared.Outcome.{Outcome}
@@ -14,9 +16,11 @@ use Rattle.game_rules.specs.declared.Outcome.TheVariants.{Refused}
 use Rattle.game_rules.proofs.Rows.{any_found}
 use Rattle.game_rules.proofs.Boards.{and_left, and_right, Apart, not-apart, on_x, on_y}
 
-list_any-flat_map : (h : Point → Bool) (row : ℕ → List Point) (ys : List ℕ) → list_any h (flat_map row ys) ≡ list_any (λ y. list_any h (row y)) ys
+list_any-flat_map : (h : Point → Bool) (row : ℕ → List Point) (ys : List ℕ)
+    → list_any h (flat_map row ys) ≡ list_any (λ y. list_any h (row y)) ys
 list_any-flat_map h row [] = refl
-list_any-flat_map h row (y ∷ ys) = list_any-append h (row y) (flat_map row ys) ∙ ap (λ r. list_any h (row y) || r) (list_any-flat_map h row ys)
+list_any-flat_map h row (y ∷ ys) = list_any-append h (row y) (flat_map row ys)
+    ∙ ap (λ r. list_any h (row y) || r) (list_any-flat_map h row ys)
 
 list_any-map : (h : Point → Bool) (at : ℕ → Point) (xs : List ℕ) → list_any h (map at xs) ≡ list_any (λ x. h (at x)) xs
 list_any-map h at [] = refl
@@ -27,7 +31,8 @@ pub points-found : (b : Grid) (h : Point → Bool) (q : Point) → is_on b q ≡
 points-found b h q on e =
     let in_row : list_any h (row_from q.y 0 b.width) ≡ true =
     list_any-map h (λ x. let p : Point = record { x = x; y = q.y } in p) (range_with_len 0 b.width)
-    ∙ any_found (λ x. let p : Point = record { x = x; y = q.y } in h p) b.width 0 q.x (omega arith) (let l = on_x b q on in omega (arith, l)) e in
+    ∙ any_found (λ x. let p : Point = record { x = x; y = q.y } in h p) b.width 0 q.x (omega arith)
+    (let l = on_x b q on in omega (arith, l)) e in
     list_any-flat_map h (λ y. row_from y 0 b.width) (range_with_len 0 b.height)
     ∙ any_found (λ y. list_any h (row_from y 0 b.width)) b.height 0 q.y (omega arith) (let l = on_y b q on in omega (arith, l)) in_row
 
@@ -35,7 +40,8 @@ points-found b h q on e =
 pub any_witness : (f : Point → Bool) (xs : List Point) → list_any f xs ≡ true → (x : Point) × (f x ≡ true)
 any_witness f [] h = cc
 any_witness f (x ∷ xs) h = by_test (f x) refl h (any_witness f xs) where
-  by_test : (r : Bool) → f x ≡ r → (r || list_any f xs) ≡ true → (list_any f xs ≡ true → (y : Point) × (f y ≡ true)) → (y : Point) × (f y ≡ true)
+  by_test : (r : Bool) → f x ≡ r → (r || list_any f xs) ≡ true → (list_any f xs ≡ true → (y : Point) × (f y ≡ true))
+      → (y : Point) × (f y ≡ true)
   by_test true e k rest = (x, e)
   by_test false e k rest = rest k
 
@@ -55,7 +61,8 @@ all_of f (x ∷ xs) h = rw (h x, all_of f xs h) refl
 all-any : (f : Point → Bool) (xs : List Point) → list_any (λ x. not (f x)) xs ≡ not (list_all f xs)
 all-any f [] = refl
 all-any f (x ∷ xs) = by_test (f x) (all-any f xs) where
-  by_test : (r : Bool) → list_any (λ x. not (f x)) xs ≡ not (list_all f xs) → (not r || list_any (λ x. not (f x)) xs) ≡ not (r && list_all f xs)
+  by_test : (r : Bool) → list_any (λ x. not (f x)) xs ≡ not (list_all f xs)
+      → (not r || list_any (λ x. not (f x)) xs) ≡ not (r && list_all f xs)
   by_test true h = h
   by_test false h = refl
 
@@ -88,7 +95,8 @@ is_same_point-apart w q h = record {
 }
 
 pub apart-is_same_point : (p q : Point) → Apart p q → is_same_point p q ≡ false
-apart-is_same_point p q apart = false_from_ne_true (is_same_point p q) (λ e. not-apart q (subst (λ (r : Point). Apart r q) (is_same_point-same p q e) apart))
+apart-is_same_point p q apart = false_from_ne_true (is_same_point p q)
+    (λ e. not-apart q (subst (λ (r : Point). Apart r q) (is_same_point-same p q e) apart))
 
 -- where there is a point, and it is q
 pub is_at-here : (q : Point) (o : Option Point) → o ≡ Some q → is_at q o ≡ true
@@ -100,7 +108,8 @@ is_at-Some q (Some p) h = ap Some (sym (is_same_point-same q p h))
 
 -- ---- the order of points
 
-precedes-by : (a b c x y z : ℕ) → (nat_lt a b || (a == b && nat_lt x y)) ≡ true → (nat_lt b c || (b == c && nat_lt y z)) ≡ true → (nat_lt a c || (a == c && nat_lt x z)) ≡ true
+precedes-by : (a b c x y z : ℕ) → (nat_lt a b || (a == b && nat_lt x y)) ≡ true → (nat_lt b c || (b == c && nat_lt y z)) ≡ true
+    → (nat_lt a c || (a == c && nat_lt x z)) ≡ true
 precedes-by a b c x y z h k = grind (arith, nat_tests)
 
 pub precedes-trans : (p q r : Point) → precedes p q ≡ true → precedes q r ≡ true → precedes p r ≡ true
@@ -130,14 +139,16 @@ filter-passes f (p ∷ ps) = by_test (f p) refl (filter-passes f ps) where
 pub filter-none : (f : Point → Bool) (ps : List Point) → filter f ps ≡ [] → list_any f ps ≡ false
 filter-none f [] h = refl
 filter-none f (p ∷ ps) h = by_test (f p) refl h (filter-none f ps) where
-  by_test : (r : Bool) → f p ≡ r → cond r (p ∷ filter f ps) (filter f ps) ≡ [] → (filter f ps ≡ [] → list_any f ps ≡ false) → (r || list_any f ps) ≡ false
+  by_test : (r : Bool) → f p ≡ r → cond r (p ∷ filter f ps) (filter f ps) ≡ [] → (filter f ps ≡ [] → list_any f ps ≡ false)
+      → (r || list_any f ps) ≡ false
   by_test true e k rest = cc
   by_test false e k rest = rest k
 
 pub filter-some : (f : Point → Bool) (w : Point) (more ps : List Point) → filter f ps ≡ w ∷ more → list_any f ps ≡ true
 filter-some f w more [] h = cc
 filter-some f w more (p ∷ ps) h = by_test (f p) refl h (filter-some f w more ps) where
-  by_test : (r : Bool) → f p ≡ r → cond r (p ∷ filter f ps) (filter f ps) ≡ w ∷ more → (filter f ps ≡ w ∷ more → list_any f ps ≡ true) → (r || list_any f ps) ≡ true
+  by_test : (r : Bool) → f p ≡ r → cond r (p ∷ filter f ps) (filter f ps) ≡ w ∷ more → (filter f ps ≡ w ∷ more → list_any f ps ≡ true)
+      → (r || list_any f ps) ≡ true
   by_test true e k rest = refl
   by_test false e k rest = rest k
 

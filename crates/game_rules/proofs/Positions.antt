@@ -1,11 +1,14 @@
 -- A move that goes on leaves a lawful position.
-use Rattle.std.proofs.Common.{◌≡◌, ◌≢◌, ◌⊎◌, inl, inr, ℕ, zero, suc, ◌+◌, ◌-◌, ◌≤◌, Bool, true, false, cond, ◌&&◌, refl, sym, ap, subst, ◌∙◌, arith, length-set, List, [], ◌∷◌, set, get_or, get_or-set_same, nat_eq, eq-eqb, ◌*◌}
+use Rattle.std.proofs.Common.{◌≡◌, ◌≢◌, ◌⊎◌, inl, inr, ℕ, zero, suc, ◌+◌, ◌-◌, ◌≤◌, Bool, true, false, cond, ◌&&◌, refl, sym, ap, subst}
+use Rattle.std.proofs.Common.{◌∙◌, arith, length-set, List, [], ◌∷◌, set, get_or, get_or-set_same, nat_eq, eq-eqb, ◌*◌}
 use Rattle.std.specs.Prelude.{Option, Some, None}
 use Rattle.std.specs.List.{prefix_len, range_with_len}
 use Rattle.std.proofs.lemmas.Bool.{cases_lt}
 use Rattle.std.proofs.lemmas.Bool.Decides.{nat_tests}
 use Rattle.std.proofs.lemmas.List.Sums.{sum_by-set}
-use Rattle.game_rules.proofs.Common.{Grid, IsBoard, is_on, is_empty, is_stone_of, stone_of, holds, cell_at, place_of, put, lift, along, stones_of, empties_of, stone_at, stones_ahead, stones_behind, run_of, line_bound, row_wins, wins_on, five, IsPosition, IsUnwon, NamesMover, outcome, outcome_by, foul_of, mover, other, after}
+use Rattle.game_rules.proofs.Common.{Grid, IsBoard, is_on, is_empty, is_stone_of, stone_of, holds, cell_at, place_of, put, lift, along}
+use Rattle.game_rules.proofs.Common.{stones_of, empties_of, stone_at, stones_ahead, stones_behind, run_of, line_bound, row_wins, wins_on}
+use Rattle.game_rules.proofs.Common.{five, IsPosition, IsUnwon, NamesMover, outcome, outcome_by, foul_of, mover, other, after}
 use Rattle.game_rules.specs.declared.Foul.{Foul}
 use Rattle.game_rules.specs.declared.Side.{Side}
 use Rattle.game_rules.specs.declared.Cell.{Cell}
@@ -16,14 +19,17 @@ use Rattle.game_rules.specs.declared.Outcome.TheVariants.{GoesOn}
 use Rattle.game_rules.specs.declared.Side.TheVariants.{Black, White}
 use Rattle.game_rules.specs.declared.Cell.TheVariants.{Empty, Black as BlackStone, White as WhiteStone}
 use Rattle.game_rules.proofs.Axes.{no_axis}
-use Rattle.game_rules.proofs.Boards.{and_left, and_right, is_empty-on, is_empty-cell, same_or_apart, empty_holds, other-other, holds-put_other, holds-put_same, place_fits, empties_of-put, prefix_len-same, cell_at-put_same, lift-put}
+use Rattle.game_rules.proofs.Boards.{and_left, and_right, is_empty-on, is_empty-cell, same_or_apart, empty_holds, other-other}
+use Rattle.game_rules.proofs.Boards.{holds-put_other, holds-put_same, place_fits, empties_of-put, prefix_len-same, cell_at-put_same}
+use Rattle.game_rules.proofs.Boards.{lift-put}
 use Rattle.game_rules.proofs.Lines.{along-then, along-same, along-zero}
 use Rattle.game_rules.proofs.Runs.{Leads, ahead_leads, behind_leads, ahead_is, behind_is, run-same}
 
 -- ---- a further stone
 
 -- a stone on an empty point adds to its side and takes nothing
-pub holds-put_more : (b : Grid) (s : Side) (p q : Point) → IsBoard b → is_empty b p ≡ true → holds b s q ≡ true → holds (put b s p) s q ≡ true
+pub holds-put_more : (b : Grid) (s : Side) (p q : Point) → IsBoard b → is_empty b p ≡ true → holds b s q ≡ true
+    → holds (put b s p) s q ≡ true
 holds-put_more b s p q ok empty h = elim (same_or_apart p q) [
   | inl same ↦ subst (λ (r : Point). holds (put b s p) s r ≡ true) same (holds-put_same b s p ok (is_empty-on b p empty))
   | inr apart ↦ holds-put_other b s s p q (is_empty-on b p empty) apart ∙ h
@@ -81,7 +87,8 @@ module _ (b : Grid) (s : Side) (p : Point) (ok : IsBoard b) (empty : is_empty b 
     by_test true e = let now = stone_at-more o e in cc
 
   -- as many stones stood unbroken before, where p is none of their places
-  pub leads_before : (at : ℕ → Option Point) (m : ℕ) → Leads (λ k. stone_at (put b s p) s (at k)) m → Misses at p m → Leads (λ k. stone_at b s (at k)) m
+  pub leads_before : (at : ℕ → Option Point) (m : ℕ) → Leads (λ k. stone_at (put b s p) s (at k)) m → Misses at p m
+      → Leads (λ k. stone_at b s (at k)) m
   leads_before at m h miss = record {
     holds = λ j low high. sym (stone_at-else s (at j) (miss j low high)) ∙ h.holds j low high;
     stops = not_before (at (1 + m)) h.stops;
@@ -89,7 +96,8 @@ module _ (b : Grid) (s : Side) (p : Point) (ok : IsBoard b) (empty : is_empty b 
 
   -- ---- runs after the move
 
-  run_before : (d : Axis) (q : Point) → holds b s q ≡ true → Misses (λ k. along d q k 0) p (stones_ahead (put b s p) s d q) → Misses (λ k. along d q 0 k) p (stones_behind (put b s p) s d q) → run_of (put b s p) s d q ≡ run_of b s d q
+  run_before : (d : Axis) (q : Point) → holds b s q ≡ true → Misses (λ k. along d q k 0) p (stones_ahead (put b s p) s d q)
+      → Misses (λ k. along d q 0 k) p (stones_behind (put b s p) s d q) → run_of (put b s p) s d q ≡ run_of b s d q
   run_before d q mine ahead behind =
       let on : is_on b q ≡ true = and_left (is_on b q) _ mine in
       let a : stones_ahead b s d q ≡ stones_ahead (put b s p) s d q =
@@ -100,26 +108,31 @@ module _ (b : Grid) (s : Side) (p : Point) (ok : IsBoard b) (empty : is_empty b 
 
   leads_reach : (f : ℕ → Bool) (m e : ℕ) → Leads f m → ((j : ℕ) → 1 ≤ j → j ≤ e → f j ≡ true) → e ≤ m
   leads_reach f m e h all = elim (cases_lt m e) [
-    | inl less ↦ absurd (let yes : f (1 + m) ≡ true = all (1 + m) (omega arith) (omega arith) in let no : false ≡ true = sym h.stops ∙ yes in cc)
+    | inl less ↦ absurd (let yes : f (1 + m) ≡ true = all (1 + m) (omega arith) (omega arith) in let no : false ≡ true =
+        sym h.stops ∙ yes in cc)
     | inr more ↦ more
   ]
 
   -- p is e steps behind q, in its run: then q is e steps ahead of p, in the run of p
-  run_behind : (d : Axis) (q : Point) (e : ℕ) → holds b s q ≡ true → 1 ≤ e → e ≤ stones_behind (put b s p) s d q → along d q 0 e ≡ Some p → run_of (put b s p) s d q ≡ run_of (put b s p) s d p
+  run_behind : (d : Axis) (q : Point) (e : ℕ) → holds b s q ≡ true → 1 ≤ e → e ≤ stones_behind (put b s p) s d q → along d q 0 e ≡ Some p
+      → run_of (put b s p) s d q ≡ run_of (put b s p) s d p
   run_behind d q e mine step far here =
       let mine' = holds-put_more b s p q ok empty mine in
       let on : is_on b q ≡ true = and_left (is_on b q) _ mine in
-      let back : along d p e 0 ≡ Some q = along-then d q p 0 e e 0 here ∙ along-same d q (0 + e) (e + 0) 0 0 (omega arith) ∙ along-zero d q in
+      let back : along d p e 0 ≡ Some q = along-then d q p 0 e e 0 here ∙ along-same d q (0 + e) (e + 0) 0 0 (omega arith)
+      ∙ along-zero d q in
       let place : (j : ℕ) (k l : ℕ) → j + l ≡ k + e → stone_at (put b s p) s (along d p j 0) ≡ stone_at (put b s p) s (along d q k l) =
       λ j k l sum. ap (stone_at (put b s p) s) (along-then d q p 0 e j 0 here ∙ along-same d q (0 + j) (e + 0) k l (omega arith)) in
-      let reach : e ≤ stones_ahead (put b s p) s d p = leads_reach _ _ e (ahead_leads (put b s p) s d p on_p) (λ j low high. elim (cases_lt j e) [
+      let reach : e ≤ stones_ahead (put b s p) s d p = leads_reach _ _ e (ahead_leads (put b s p) s d p on_p)
+      (λ j low high. elim (cases_lt j e) [
         | inl less ↦ place j 0 (e - j) (omega arith) ∙ (behind_leads (put b s p) s d q on).holds (e - j) (omega arith) (omega arith)
         | inr more ↦ place j 0 0 (omega arith) ∙ ap (stone_at (put b s p) s) (along-zero d q) ∙ mine'
       ]) in
       run-same (put b s p) s d p q e back (holds-put_same b s p ok on_p) reach step
 
   -- a stone of the mover is in the run of p, or in the run that it was in
-  run_after : (d : Axis) (q : Point) → holds b s q ≡ true → (run_of (put b s p) s d q ≡ run_of (put b s p) s d p) ⊎ (run_of (put b s p) s d q ≡ run_of b s d q)
+  run_after : (d : Axis) (q : Point) → holds b s q ≡ true
+      → (run_of (put b s p) s d q ≡ run_of (put b s p) s d p) ⊎ (run_of (put b s p) s d q ≡ run_of b s d q)
   run_after d q mine =
       let mine' = holds-put_more b s p q ok empty mine in
       elim (meets_or_misses (λ k. along d q k 0) p (stones_ahead (put b s p) s d q)) [
@@ -142,7 +155,8 @@ prefix_same : (f g : ℕ → Bool) (n a : ℕ) → ((k : ℕ) → f k ≡ g k) �
 prefix_same f g n a h = prefix_len-same f g n a (λ k l. h k)
 
 -- t is the side whose stone is not put: it has what it had
-module _ (b : Grid) (s t : Side) (p : Point) (ok : IsBoard b) (empty : is_empty b p ≡ true) (differ : is_stone_of t (stone_of s) ≡ false) where
+module _ (b : Grid) (s t : Side) (p : Point) (ok : IsBoard b) (empty : is_empty b p ≡ true)
+    (differ : is_stone_of t (stone_of s) ≡ false) where
   pub holds-other : (q : Point) → holds (put b s p) t q ≡ holds b t q
   holds-other q = elim (same_or_apart p q) [
     | inl same ↦ subst (λ (r : Point). holds (put b s p) t r ≡ holds b t r) same (not_mine ∙ sym (empty_holds b t p empty))
@@ -188,9 +202,11 @@ module _ (rule : RuleKind) (b : Grid) (p : Point) (lawful : IsPosition rule b) (
   new_run : (d : Axis) → row_wins rule (mover b) (run_of (put b (mover b) p) (mover b) d p) ≡ false
   new_run d = and_false (is_empty b p) _ parts.0 (no_axis (λ d. wins_on rule b (mover b) d p) parts.1 d)
 
-  unwon_after : (t : Side) (d : Axis) (q : Point) → holds (put b (mover b) p) t q ≡ true → row_wins rule t (run_of (put b (mover b) p) t d q) ≡ false
+  unwon_after : (t : Side) (d : Axis) (q : Point) → holds (put b (mover b) p) t q ≡ true
+      → row_wins rule t (run_of (put b (mover b) p) t d q) ≡ false
   unwon_after t d q h = elim (other_side (mover b) t) [
-    | inl same ↦ subst (λ (u : Side). row_wins rule u (run_of (put b (mover b) p) u d q) ≡ false) same (mine (subst (λ (u : Side). holds (put b (mover b) p) u q ≡ true) (sym same) h))
+    | inl same ↦ subst (λ (u : Side). row_wins rule u (run_of (put b (mover b) p) u d q) ≡ false) same
+        (mine (subst (λ (u : Side). holds (put b (mover b) p) u q ≡ true) (sym same) h))
     | inr differ ↦ rw (run-other b (mover b) t p lawful.board parts.0 differ d q)
         (lawful.unwon.no_winning_run t d q (sym (holds-other b (mover b) t p lawful.board parts.0 differ q) ∙ h))
   ] where
@@ -207,7 +223,8 @@ module _ (rule : RuleKind) (b : Grid) (p : Point) (lawful : IsPosition rule b) (
 
 -- ---- counts
 
-pub stones_of-put : (b : Grid) (s t : Side) (p : Point) → IsBoard b → is_empty b p ≡ true → stones_of (put b s p) t ≡ stones_of b t + cond (is_stone_of t (stone_of s)) 1 0
+pub stones_of-put : (b : Grid) (s t : Side) (p : Point) → IsBoard b → is_empty b p ≡ true
+    → stones_of (put b s p) t ≡ stones_of b t + cond (is_stone_of t (stone_of s)) 1 0
 stones_of-put b s t p ok empty =
     let e : get_or b.cells (place_of b p) Empty ≡ Empty = is_empty-cell _ (and_right (is_on b p) _ empty) in
     let count : Cell → ℕ = λ c. cond (is_stone_of t c) 1 0 in
@@ -216,7 +233,13 @@ stones_of-put b s t p ok empty =
     omega (arith, all, none)
 
 pub IsBoard-put : (b : Grid) (s : Side) (p : Point) → IsBoard b → IsBoard (put b s p)
-IsBoard-put b s p ok = record { wide = ok.wide; width_fits = ok.width_fits; high = ok.high; height_fits = ok.height_fits; filled = length-set b.cells (place_of b p) (stone_of s) ∙ ok.filled }
+IsBoard-put b s p ok = record {
+  wide = ok.wide;
+  width_fits = ok.width_fits;
+  high = ok.high;
+  height_fits = ok.height_fits;
+  filled = length-set b.cells (place_of b p) (stone_of s) ∙ ok.filled;
+}
 
 -- who moves, by the counts
 mover_by : (r : Bool) (x y : ℕ) → nat_eq x y ≡ r → (x ≡ y) ⊎ (x ≡ y + 1) → ((r ≡ true) × (x ≡ y)) ⊎ ((r ≡ false) × (x ≡ y + 1))
@@ -228,7 +251,8 @@ not_eq : (x y : ℕ) → x ≡ y + 1 → nat_eq x y ≡ false
 not_eq x y e = grind (arith, nat_tests)
 
 module _ (b : Grid) (p : Point) (ok : IsBoard b) (empty : is_empty b p ≡ true) (turns : NamesMover b) where
-  turn : (side : Side) × (mover b ≡ side) × (((side ≡ Black) × (stones_of b Black ≡ stones_of b White)) ⊎ ((side ≡ White) × (stones_of b Black ≡ stones_of b White + 1)))
+  turn : (side : Side) × (mover b ≡ side)
+      × (((side ≡ Black) × (stones_of b Black ≡ stones_of b White)) ⊎ ((side ≡ White) × (stones_of b Black ≡ stones_of b White + 1)))
   turn = elim (mover_by (nat_eq (stones_of b Black) (stones_of b White)) _ _ refl turns) [
     | inl h ↦ (Black, ap (λ r. cond r Black White) h.0, inl (refl, h.1))
     | inr h ↦ (White, ap (λ r. cond r Black White) h.0, inr (refl, h.1))
@@ -258,7 +282,8 @@ module _ (b : Grid) (p : Point) (ok : IsBoard b) (empty : is_empty b p ≡ true)
         let black = stones_of-put b Black Black p ok empty in
         let white = stones_of-put b Black White p ok empty in
         let both = h.1 in
-        let differ : nat_eq (stones_of (put b Black p) Black) (stones_of (put b Black p) White) ≡ false = not_eq _ _ (omega (arith, black, white, both)) in
+        let differ : nat_eq (stones_of (put b Black p) Black) (stones_of (put b Black p) White) ≡ false =
+        not_eq _ _ (omega (arith, black, white, both)) in
         rw e (ap (λ r. other (cond r Black White)) differ)
     | inr h ↦
         let e : mover b ≡ White = turn.1 ∙ h.0 in
@@ -273,11 +298,13 @@ module _ (b : Grid) (p : Point) (ok : IsBoard b) (empty : is_empty b p ≡ true)
 -- ---- the law
 
 -- a move that goes on leads from a lawful position to one
-pub IsPosition-after : (rule : RuleKind) (b : Grid) (p : Point) → IsPosition rule b → outcome rule b p ≡ GoesOn → IsPosition rule (after b p)
+pub IsPosition-after : (rule : RuleKind) (b : Grid) (p : Point) → IsPosition rule b → outcome rule b p ≡ GoesOn
+    → IsPosition rule (after b p)
 IsPosition-after rule b p lawful on =
     let facts = parts rule b p lawful on in
     let fewer = empties_of-put b (mover b) p lawful.board facts.0 in
-    let more : empties_of b ≢ 1 = λ e. let full : nat_eq (empties_of b) 1 ≡ true = rw e refl in let no : false ≡ true = sym facts.2 ∙ full in cc in
+    let more : empties_of b ≢ 1 = λ e. let full : nat_eq (empties_of b) 1 ≡ true = rw e refl in let no : false ≡ true =
+    sym facts.2 ∙ full in cc in
     let some = lawful.open_points in
     record {
       board = IsBoard-put b (mover b) p lawful.board;
@@ -287,7 +314,8 @@ IsPosition-after rule b p lawful on =
     }
 
 -- what undoing it finds: the mover's stone, and the position before it
-pub after-stone : (rule : RuleKind) (b : Grid) (p : Point) → IsPosition rule b → outcome rule b p ≡ GoesOn → holds (after b p) (other (mover (after b p))) p ≡ true
+pub after-stone : (rule : RuleKind) (b : Grid) (p : Point) → IsPosition rule b → outcome rule b p ≡ GoesOn
+    → holds (after b p) (other (mover (after b p))) p ≡ true
 after-stone rule b p lawful on =
     let facts = parts rule b p lawful on in
     rw (mover-after b p lawful.board facts.0 lawful.turns) (holds-put_same b (mover b) p lawful.board (is_empty-on b p facts.0))
@@ -301,11 +329,13 @@ unfolding outcome
 GoesOn-empty rule b p on = (goes_on (is_empty b p) (five rule b (mover b) p) (nat_eq (empties_of b) 1) (foul_of rule b (mover b) p) on).0
 
 -- the side that moved is the one that is not to move
-pub mover-other : (rule : RuleKind) (b : Grid) (p : Point) → IsPosition rule b → outcome rule b p ≡ GoesOn → other (mover (after b p)) ≡ mover b
+pub mover-other : (rule : RuleKind) (b : Grid) (p : Point) → IsPosition rule b → outcome rule b p ≡ GoesOn
+    → other (mover (after b p)) ≡ mover b
 mover-other rule b p lawful on = mover-after b p lawful.board (GoesOn-empty rule b p on) lawful.turns
 
 -- the side to move after it
-pub mover-then : (rule : RuleKind) (b : Grid) (p : Point) → IsPosition rule b → outcome rule b p ≡ GoesOn → mover (after b p) ≡ other (mover b)
+pub mover-then : (rule : RuleKind) (b : Grid) (p : Point) → IsPosition rule b → outcome rule b p ≡ GoesOn
+    → mover (after b p) ≡ other (mover b)
 mover-then rule b p lawful on = sym (other-other (mover (after b p))) ∙ ap other (mover-other rule b p lawful on)
 
 pub GoesOn-on : (rule : RuleKind) (b : Grid) (p : Point) → outcome rule b p ≡ GoesOn → is_on b p ≡ true
@@ -338,7 +368,13 @@ lift-empty b p ok on =
     rw (on, e) refl
 
 pub IsBoard-lift : (b : Grid) (p : Point) → IsBoard b → IsBoard (lift b p)
-IsBoard-lift b p ok = record { wide = ok.wide; width_fits = ok.width_fits; high = ok.high; height_fits = ok.height_fits; filled = length-set b.cells (place_of b p) Empty ∙ ok.filled }
+IsBoard-lift b p ok = record {
+  wide = ok.wide;
+  width_fits = ok.width_fits;
+  high = ok.high;
+  height_fits = ok.height_fits;
+  filled = length-set b.cells (place_of b p) Empty ∙ ok.filled;
+}
 
 module _ (b : Grid) (p : Point) (ok : IsBoard b) (turns : NamesMover b) (mine : holds b (other (mover b)) p ≡ true) where
   lifted_on : is_on b p ≡ true
@@ -367,7 +403,8 @@ module _ (b : Grid) (p : Point) (ok : IsBoard b) (turns : NamesMover b) (mine : 
   ]
 
 -- what is left where the last stone is taken back is lawful, if no run of it wins
-pub IsPosition-lift : (rule : RuleKind) (b : Grid) (p : Point) → IsPosition rule b → holds b (other (mover b)) p ≡ true → IsUnwon rule (lift b p) → IsPosition rule (lift b p)
+pub IsPosition-lift : (rule : RuleKind) (b : Grid) (p : Point) → IsPosition rule b → holds b (other (mover b)) p ≡ true
+    → IsUnwon rule (lift b p) → IsPosition rule (lift b p)
 IsPosition-lift rule b p lawful mine unwon =
     let on : is_on b p ≡ true = and_left (is_on b p) _ mine in
     let more = empties_of-put (lift b p) (other (mover b)) p (IsBoard-lift b p lawful.board) (lift-empty b p lawful.board on) in

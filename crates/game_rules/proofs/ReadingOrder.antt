@@ -1,5 +1,6 @@
 -- Points in reading order: rows of points, and lists whose points come one after another.
-use Rattle.std.proofs.Common.{◌≡◌, ℕ, suc, ◌+◌, refl, ◌∷◌, List, ◌++◌, ◌⊎◌, ◌≤◌, ◌<◌, [], inl, inr, arith, zero, Bool, true, false, cond, nat_lt, nat_eq, eq-eqb, ◌*◌, length, ◌∙◌, not, sym, ap, subst, ◌&&◌, ◌/◌, ◌%◌}
+use Rattle.std.proofs.Common.{◌≡◌, ℕ, suc, ◌+◌, refl, ◌∷◌, List, ◌++◌, ◌⊎◌, ◌≤◌, ◌<◌, [], inl, inr, arith, zero, Bool, true, false, cond}
+use Rattle.std.proofs.Common.{nat_lt, nat_eq, eq-eqb, ◌*◌, length, ◌∙◌, not, sym, ap, subst, ◌&&◌, ◌/◌, ◌%◌}
 use Rattle.std.specs.List.{flat_map, range_with_len, filter, list_all, sum_by, AllByRecursion}
 use Rattle.std.specs.Prelude.{map, slice_index_or}
 use Rattle.std.proofs.lemmas.Bool.Decides.{nat_tests}
@@ -9,7 +10,8 @@ use Rattle.std.proofs.lemmas.List.Filters.{length-filter_both}
 use Rattle.std.proofs.Math.ListN.{length-append}
 use Rattle.std.proofs.lemmas.List.Sums.{sum_by-cons}
 use Rattle.std.proofs.Math.Nat.{div-lt_iff_lt-mul}
-use Rattle.game_rules.proofs.Common.{row_from, Grid, points_of, is_on, IsBoard, is_empty, is_empty_cell, cell_at, empties_of, precedes, is_same_point}
+use Rattle.game_rules.proofs.Common.{row_from, Grid, points_of, is_on, IsBoard, is_empty, is_empty_cell, cell_at, empties_of, precedes}
+use Rattle.game_rules.proofs.Common.{is_same_point}
 use Rattle.game_rules.specs.declared.Point.{Point}
 use Rattle.game_rules.specs.declared.Cell.TheVariants.{Empty}
 use Rattle.game_rules.proofs.Places.{points_length, points_on}
@@ -130,7 +132,8 @@ rows_rise width a (suc n) = rises-append (row_from a 0 width) (rows width (a + 1
     (λ z u near less more. let below : nat_lt a u ≡ true = grind (arith, nat_tests) in rw below refl)))
 
 -- tests that agree on the points of the board pass the same
-pub filter_agree : (b : Grid) (f g : Point → Bool) → ((q : Point) → is_on b q ≡ true → f q ≡ g q) → filter f (points_of b) ≡ filter g (points_of b)
+pub filter_agree : (b : Grid) (f g : Point → Bool) → ((q : Point) → is_on b q ≡ true → f q ≡ g q)
+    → filter f (points_of b) ≡ filter g (points_of b)
 filter_agree b f g same = filter_same f g (is_on b) same (points_of b) (points_on b)
 
 -- they are no more than there are points
@@ -140,7 +143,8 @@ filter_fits b g =
     let all = points_length b in
     omega (arith, both, all)
 
-pub one_more_fits : (b : Grid) (f : Point → Bool) (found rest : List Point) (p : Point) (room : ℕ) → found ++ p ∷ rest ≡ filter f (points_of b) → b.width * b.height ≤ room → length found + 1 ≤ room
+pub one_more_fits : (b : Grid) (f : Point → Bool) (found rest : List Point) (p : Point) (room : ℕ)
+    → found ++ p ∷ rest ≡ filter f (points_of b) → b.width * b.height ≤ room → length found + 1 ≤ room
 one_more_fits b f found rest p room all fits =
     let few = filter_fits b f in
     let sizes : length found + length (p ∷ rest) ≡ length (filter f (points_of b)) = sym (length-append found (p ∷ rest)) ∙ ap length all in
@@ -190,7 +194,8 @@ not_after w q h = by_test (is_same_point q w) refl where
         contra (inl l) x y = absurd (omega arith)
         contra (inr l) x y = let low = l.1 in absurd (omega (arith, low))
 
-module _ (f : Point → ℕ) (w : Point) (most : ℕ) (some : 1 ≤ most) (high : f w ≤ most) (each : (q : Point) → is_same_point q w ≡ false → f q ≤ 1) where
+module _ (f : Point → ℕ) (w : Point) (most : ℕ) (some : 1 ≤ most) (high : f w ≤ most)
+    (each : (q : Point) → is_same_point q w ≡ false → f q ≤ 1) where
   after_w : (ps : List Point) → Following w.y (w.x + 1) ps → AllByRecursion (λ q. f q ≤ 1) ps
   unfolding Following
   after_w [] h = tt
@@ -222,9 +227,11 @@ row-on b y low (suc n) x l = (on_by x y b.width b.height (omega (arith, l)) low,
   on_by : (x y w h : ℕ) → x < w → y < h → (nat_lt x w && nat_lt y h) ≡ true
   on_by x y w h a b = grind (arith, nat_tests)
 
-rows-on : (b : Grid) (n y : ℕ) → y + n ≤ b.height → AllByRecursion (λ q. is_on b q ≡ true) (flat_map (λ z. row_from z 0 b.width) (range_with_len y n))
+rows-on : (b : Grid) (n y : ℕ) → y + n ≤ b.height → AllByRecursion (λ q. is_on b q ≡ true)
+    (flat_map (λ z. row_from z 0 b.width) (range_with_len y n))
 rows-on b zero y l = tt
-rows-on b (suc n) y l = each-append (λ q. is_on b q ≡ true) (row_from y 0 b.width) _ (row-on b y (omega (arith, l)) b.width 0 (omega arith)) (rows-on b n (y + 1) (omega (arith, l)))
+rows-on b (suc n) y l = each-append (λ q. is_on b q ≡ true) (row_from y 0 b.width) _ (row-on b y (omega (arith, l)) b.width 0 (omega arith))
+    (rows-on b n (y + 1) (omega (arith, l)))
 
 pub points-on : (b : Grid) → AllByRecursion (λ q. is_on b q ≡ true) (points_of b)
 points-on b = rows-on b b.height 0 (omega arith)

@@ -3,7 +3,8 @@ use Rattle.std.proofs.Common.{◌≡◌, ◌≢◌, ◌⊎◌, inl, inr, ℕ, �
 use Rattle.std.specs.Prelude.{Some, Option, None}
 use Rattle.std.specs.List.{list_any, range_with_len}
 use Rattle.std.proofs.lemmas.Bool.{both_ways, cases_lt, or_left, or_right, or_cases}
-use Rattle.game_rules.proofs.Common.{Grid, IsBoard, is_on, is_empty, holds, put, along, row_wins, stone_at, stones_ahead, stones_behind, wins_on, is_at, is_in_run, towards, go, opposite, stones_towards, run_end}
+use Rattle.game_rules.proofs.Common.{Grid, IsBoard, is_on, is_empty, holds, put, along, row_wins, stone_at, stones_ahead, stones_behind}
+use Rattle.game_rules.proofs.Common.{wins_on, is_at, is_in_run, towards, go, opposite, stones_towards, run_end}
 use Rattle.game_rules.specs.declared.RuleKind.{RuleKind}
 use Rattle.game_rules.specs.declared.Side.{Side}
 use Rattle.game_rules.specs.declared.Axis.{Axis}
@@ -16,7 +17,8 @@ use Rattle.game_rules.proofs.Lines.{OnLine, along-OnLine}
 use Rattle.game_rules.proofs.Points.{is_at-here, is_at-Some}
 use Rattle.game_rules.proofs.Positions.{IsBoard-put, is_at_or_not, stone_at-else, stone_at-more}
 use Rattle.game_rules.proofs.Rows.{any_found, any_in_range}
-use Rattle.game_rules.proofs.Ways.{go-then, go-same, go-zero, go-back, go-apart, go-opposite, else_at, leads, leads_is, leads_back, leads_back_is, towards-put, least, go-steps}
+use Rattle.game_rules.proofs.Ways.{go-then, go-same, go-zero, go-back, go-apart, go-opposite, else_at, leads, leads_is, leads_back}
+use Rattle.game_rules.proofs.Ways.{leads_back_is, towards-put, least, go-steps}
 use Rattle.game_rules.proofs.Wins.{wins_on-stones}
 use Rattle.game_rules.proofs.OneLine.{empty-before}
 use Rattle.game_rules.proofs.Runs.{InRun}
@@ -223,7 +225,8 @@ module _ (b : Grid) (s : Side) (d : Axis) (p q : Point) (ok : IsBoard b) (mine :
         (Behind, first_in Behind k.0 (is_at-Some q (along d p 0 k.0) k.3) (omega (arith, high)))
   ]
 
-module _ (b : Grid) (s : Side) (d : Axis) (x : Point) (on : is_on b x ≡ true) (w : Way) (m : ℕ) (all : (j : ℕ) → 1 ≤ j → j ≤ m → stone_at b s (go w d x j 0) ≡ true) where
+module _ (b : Grid) (s : Side) (d : Axis) (x : Point) (on : is_on b x ≡ true) (w : Way) (m : ℕ)
+    (all : (j : ℕ) → 1 ≤ j → j ≤ m → stone_at b s (go w d x j 0) ≡ true) where
   pub just_stones : stone_at b s (go w d x (1 + m) 0) ≡ false → stones_towards w b s d x ≡ m
   just_stones stop = leads_is b s d x on w m (record { holds = all; stops = stop })
 
@@ -236,7 +239,8 @@ module _ (b : Grid) (s : Side) (d : Axis) (x : Point) (on : is_on b x ≡ true) 
   pub more_stones : stone_at b s (go w d x (1 + m) 0) ≡ true → m < stones_towards w b s d x
   more_stones stone = let far = least b s d x on w (1 + m) (more_at stone) in omega (arith, far)
 
-module _ (g : Grid) (s : Side) (d : Axis) (q r : Point) (ok : IsBoard g) (empty_q : is_empty g q ≡ true) (empty_r : is_empty g r ≡ true) where
+module _ (g : Grid) (s : Side) (d : Axis) (q r : Point) (ok : IsBoard g) (empty_q : is_empty g q ≡ true)
+    (empty_r : is_empty g r ≡ true) where
   -- a stone in the run from r that a stone on q closes
   abbrev pub StoneInRun : Type 0
   StoneInRun = (p : Point) × (holds g s p ≡ true) × InRun (put g s q) s d r p
@@ -251,11 +255,14 @@ module _ (g : Grid) (s : Side) (d : Axis) (q r : Point) (ok : IsBoard g) (empty_
     by_point None e = absurd (let bad : false ≡ true = sym (ap (stone_at g s) e) ∙ stands in cc)
     by_point (Some p) e = (p, sym (ap (stone_at g s) e) ∙ stands, record { way = v; steps = k; some = low; within = high; there = e })
 
-  stone_beside : (w : Way) (f : ℕ) → 1 ≤ f → go w d r f 0 ≡ Some q → 5 ≤ 1 + stones_towards w (put g s q) s d r + stones_towards (opposite w) (put g s q) s d r → StoneInRun
+  stone_beside : (w : Way) (f : ℕ) → 1 ≤ f → go w d r f 0 ≡ Some q
+      → 5 ≤ 1 + stones_towards w (put g s q) s d r + stones_towards (opposite w) (put g s q) s d r → StoneInRun
   stone_beside w f low there long = elim (cases_lt 1 (stones_towards w (put g s q) s d r)) [
     | inl two ↦ elim (cases_lt 1 f) [
-      | inl later ↦ stone_at_step w 1 (omega arith) (omega (arith, two)) (λ h. let same = go-steps w d r q 1 0 f 0 h there in omega (arith, same, later))
-      | inr first ↦ stone_at_step w 2 (omega arith) (omega (arith, two)) (λ h. let same = go-steps w d r q 2 0 f 0 h there in omega (arith, same, first))
+      | inl later ↦ stone_at_step w 1 (omega arith) (omega (arith, two))
+          (λ h. let same = go-steps w d r q 1 0 f 0 h there in omega (arith, same, later))
+      | inr first ↦ stone_at_step w 2 (omega arith) (omega (arith, two))
+          (λ h. let same = go-steps w d r q 2 0 f 0 h there in omega (arith, same, first))
     ]
     | inr few ↦ stone_at_step (opposite w) 1 (omega arith) (omega (arith, few, long))
         (λ h. let same = go-steps w d r q 0 1 f 0 (sym (go-opposite w d r 1 0) ∙ h) there in omega (arith, same))

@@ -1,5 +1,6 @@
 -- Tests of numbers, pairs of tests, and lists of numbers.
-use Rattle.std.proofs.Common.{◌≡◌, ◌≤◌, Bool, true, false, cond, refl, arith, ℕ, nat_le, ◌<◌, nat_eq, ◌≢◌, nat_lt, List, [], ◌∷◌, ◌++◌, ◌||◌}
+use Rattle.std.proofs.Common.{◌≡◌, ◌≤◌, Bool, true, false, cond, refl, arith, ℕ, nat_le, ◌<◌, nat_eq, ◌≢◌, nat_lt, List, [], ◌∷◌, ◌++◌}
+use Rattle.std.proofs.Common.{◌||◌}
 use Rattle.std.specs.List.{AllByRecursion}
 use Rattle.std.proofs.lemmas.Bool.Decides.{nat_tests}
 

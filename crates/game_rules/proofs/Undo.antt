@@ -6,7 +6,8 @@ use Rattle.game_rules.specs.declared.Point.{Point}
 use Rattle.game_rules.specs.declared.Outcome.TheVariants.{GoesOn}
 use Rattle.game_rules.proofs.Positions.{after-stone, lift-after}
 
-module _ (rule : RuleKind) (b c : Grid) (p : Point) (lawful : IsPosition rule b) (on : outcome rule b p ≡ GoesOn) (played : c ≡ after b p) where
+module _ (rule : RuleKind) (b c : Grid) (p : Point) (lawful : IsPosition rule b) (on : outcome rule b p ≡ GoesOn)
+    (played : c ≡ after b p) where
   -- the stone is there to be lifted
   pub stone_back : holds c (other (mover c)) p ≡ true
   stone_back = ap (λ (w : Grid). holds w (other (mover w)) p) played ∙ after-stone rule b p lawful on

@@ -2,7 +2,8 @@
 use Rattle.std.proofs.Common.{◌≡◌, ℕ, ◌+◌, ◌≤◌, true, false, ◌&&◌, ap, arith}
 use Rattle.std.proofs.lemmas.Bool.{false_from_ne_true, both_ways}
 use Rattle.std.proofs.lemmas.Bool.Decides.{nat_tests}
-use Rattle.game_rules.proofs.Common.{Grid, IsBoard, is_empty, row_wins, stones_ahead, stones_behind, wins_on, five, opposite, stones_towards, has_five}
+use Rattle.game_rules.proofs.Common.{Grid, IsBoard, is_empty, row_wins, stones_ahead, stones_behind, wins_on, five, opposite}
+use Rattle.game_rules.proofs.Common.{stones_towards, has_five}
 use Rattle.game_rules.specs.declared.RuleKind.{RuleKind}
 use Rattle.game_rules.specs.declared.Side.{Side}
 use Rattle.game_rules.specs.declared.Axis.{Axis}

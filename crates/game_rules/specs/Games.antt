@@ -1,5 +1,6 @@
 -- Won games: forced wins, wins by continuous fours, wins by threats, and the double points of the latter.
-use Rattle.std.specs.Prelude.{ℕ, zero, suc, Bool, true, false, ◌&&◌, ◌||◌, not, nat_le, if◌then◌else◌, IsTrue, List, length, Option, None, is_none}
+use Rattle.std.specs.Prelude.{ℕ, zero, suc, Bool, true, false, ◌&&◌, ◌||◌, not, nat_le, if◌then◌else◌, IsTrue, List, length, Option, None}
+use Rattle.std.specs.Prelude.{is_none}
 use Rattle.std.specs.List.{list_any, list_all, filter, find, sum_by}
 use Rattle.game_rules.specs.Grid.{Grid, is_empty, put, points_of}
 use Rattle.game_rules.specs.Shapes.{five}
@@ -32,7 +33,8 @@ LosesOr GoesOn W = W
 abbrev pub WinsUnder : (Grid → Side → Bool) → RuleKind → ℕ → Grid → Type 0
 WinsUnder demand rule zero b = ⊥
 WinsUnder demand rule (suc n) b = (p : Point) × WinsOr (outcome rule b p)
-    (IsTrue (demand (after b p) (mover b)) × ((q : Point) → LosesOr (outcome rule (after b p) q) (WinsUnder demand rule n (after (after b p) q))))
+    (IsTrue (demand (after b p) (mover b))
+    × ((q : Point) → LosesOr (outcome rule (after b p) q) (WinsUnder demand rule n (after (after b p) q))))
 
 -- the side has a five point
 abbrev pub has_five : RuleKind → Grid → Side → Bool

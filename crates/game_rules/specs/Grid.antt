@@ -1,5 +1,6 @@
 -- Boards as plain lists of cells, their points, and steps along the axes.
-use Rattle.std.specs.Prelude.{◌≡◌, ℕ, suc, ◌+◌, ◌-◌, ◌*◌, ◌≤◌, ℤ, pos, negsuc, Bool, true, false, ◌&&◌, nat_lt, nat_le, if◌then◌else◌, List, [], ◌∷◌, map, length, slice_index_or, slice_set}
+use Rattle.std.specs.Prelude.{◌≡◌, ℕ, suc, ◌+◌, ◌-◌, ◌*◌, ◌≤◌, ℤ, pos, negsuc, Bool, true, false, ◌&&◌, nat_lt, nat_le, if◌then◌else◌, List}
+use Rattle.std.specs.Prelude.{[], ◌∷◌, map, length, slice_index_or, slice_set}
 use Rattle.std.specs.List.{count_by, range_with_len, flat_map}
 use Rattle.std.specs.Prelude.{Option, Some, None}
 use Rattle.game_rules.specs.declared.Side.{Side}

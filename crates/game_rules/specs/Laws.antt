@@ -21,7 +21,8 @@ MovesContinue = (rule : RuleKind) (b : Grid) (p : Point) → IsPosition rule b �
 
 -- the test of a win answers as the fact, whatever is demanded of the moves
 abbrev pub TestsTell : Type 0
-TestsTell = (demand : Grid → Side → Bool) (rule : RuleKind) (n : ℕ) (b : Grid) → (wins_under demand rule n b ≡ true) ↔ WinsUnder demand rule n b
+TestsTell = (demand : Grid → Side → Bool) (rule : RuleKind) (n : ℕ) (b : Grid)
+    → (wins_under demand rule n b ≡ true) ↔ WinsUnder demand rule n b
 
 -- a win by fours is a win by threats
 abbrev pub FoursAreThreats : Type 0

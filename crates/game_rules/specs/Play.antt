@@ -1,5 +1,6 @@
 -- Fouls of Black, outcomes of moves, lawful positions.
-use Rattle.std.specs.Prelude.{◌≡◌, ◌⊎◌, ℕ, zero, suc, ◌+◌, ◌<◌, Bool, true, false, not, nat_le, ◌==◌, if◌then◌else◌, Option, Some, None, is_none}
+use Rattle.std.specs.Prelude.{◌≡◌, ◌⊎◌, ℕ, zero, suc, ◌+◌, ◌<◌, Bool, true, false, not, nat_le, ◌==◌, if◌then◌else◌, Option, Some, None}
+use Rattle.std.specs.Prelude.{is_none}
 use Rattle.std.specs.List.{count_by, sum_by, list_any}
 use Rattle.game_rules.specs.Grid.{Grid, IsBoard, is_empty, holds, put, axes, stones_of, empties_of}
 use Rattle.game_rules.specs.Shapes.{row_wins, run_of, five, fours_of, three_points_of}
@@ -18,7 +19,10 @@ use Rattle.game_rules.specs.declared.Point.{Point}
 -- more, two threes or more
 abbrev pub first_foul : Bool → Bool → Bool → Bool → Option Foul
 first_foul exactly_five over fours threes =
-    if exactly_five then None else if over then Some Overline else if fours then Some DoubleFour else if threes then Some DoubleThree else None
+    if exactly_five then None
+    else if over then Some Overline
+    else if fours then Some DoubleFour
+    else if threes then Some DoubleThree else None
 
 -- whether the axis is a three of Black's stone on p: it has a three point at which Black has no foul, on the board with
 -- the stone. Which double-threes are allowed to stand is decided by this alone; it is this program's own rule.

@@ -1,5 +1,6 @@
 -- The digits of a number, and how large it is.
-use Rattle.std.proofs.Common.{◌≡◌, ℕ, ◌+◌, ◌*◌, ◌^◌, ◌<◌, ◌≤◌, true, ◌&&◌, List, [], ◌∷◌, length, take, get_or, arith, length-take-le, suc, zero, nat_le, nat_lt}
+use Rattle.std.proofs.Common.{◌≡◌, ℕ, ◌+◌, ◌*◌, ◌^◌, ◌<◌, ◌≤◌, true, ◌&&◌, List, [], ◌∷◌, length, take, get_or, arith, length-take-le, suc}
+use Rattle.std.proofs.Common.{zero, nat_le, nat_lt}
 use Rattle.std.proofs.lemmas.Bool.Decides.{nat_tests}
 use Rattle.std.proofs.lemmas.Int.Digits.{digits_value-lt, digits_value_more}
 use Rattle.std.proofs.lemmas.Str.{digit_value_digit}
@@ -60,7 +61,8 @@ pub record NextDigit (bytes : List ℕ) (i : ℕ) : Type 0 where
 pub NextDigit-at : (bytes : List ℕ) (i : ℕ) → is_number bytes ≡ true → i < length bytes → NextDigit bytes i
 NextDigit-at bytes i is within =
     let number = IsNumber-test bytes is in
-    let below : digits_value 10 (take i bytes) < 10 ^ length (take i bytes) = digits_value-lt 10 (take i bytes) (AllDigits-take bytes i number.all) in
+    let below : digits_value 10 (take i bytes) < 10 ^ length (take i bytes) =
+    digits_value-lt 10 (take i bytes) (AllDigits-take bytes i number.all) in
     let long : length (take i bytes) ≤ 8 = omega (arith, length-take-le i bytes (omega arith), number.few) in
     let most : 10 ^ length (take i bytes) ≤ 10 ^ 8 = pow-le-pow_right (omega arith) long in
     record {

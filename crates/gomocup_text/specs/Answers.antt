@@ -4,7 +4,8 @@ use Rattle.text_lines.specs.Spellings.{point_text}
 use Rattle.gomocup_text.specs.declared.Answer.{Answer}
 use Rattle.gomocup_text.specs.declared.Answer.TheVariants as answer
 use Rattle.gomocup_text.specs.declared.ErrorText.{ErrorText}
-use Rattle.gomocup_text.specs.declared.ErrorText.TheVariants.{UnsupportedSize, NoBoard, NotReading, UnsupportedRule, BadBoard, BadArguments, GameStarted, GameOver, WrongTurn, BadMove, GameLost, OpponentFoul, GameDrawn}
+use Rattle.gomocup_text.specs.declared.ErrorText.TheVariants.{UnsupportedSize, NoBoard, NotReading, UnsupportedRule, BadBoard, BadArguments}
+use Rattle.gomocup_text.specs.declared.ErrorText.TheVariants.{GameStarted, GameOver, WrongTurn, BadMove, GameLost, OpponentFoul, GameDrawn}
 
 -- the words of an error
 abbrev pub error_words : ErrorText → List ℕ

@@ -8,7 +8,8 @@ use Rattle.gomocup_text.specs.Numbers.{number_of, numbers_of_two, numbers_of_thr
 use Rattle.gomocup_text.specs.declared.words.Word.{Word}
 use Rattle.gomocup_text.specs.declared.words.Word.TheVariants as word
 use Rattle.gomocup_text.specs.declared.Command.{Command}
-use Rattle.gomocup_text.specs.declared.Command.TheVariants.{Start, RectStart, Begin, Turn, Board, Stone, Done, Restart, Takeback, Rule, Info, About, End, Blank, Malformed, Unknown}
+use Rattle.gomocup_text.specs.declared.Command.TheVariants.{Start, RectStart, Begin, Turn, Board, Stone, Done, Restart, Takeback, Rule}
+use Rattle.gomocup_text.specs.declared.Command.TheVariants.{Info, About, End, Blank, Malformed, Unknown}
 
 -- the command of the numbers that a word takes, where they are there: the word in another form is malformed
 abbrev pub numbers_or : {N : Type 0} → Option N → (N → Command) → Command

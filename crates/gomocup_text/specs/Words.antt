@@ -4,7 +4,8 @@ use Rattle.std.specs.List.{prefix_len, suffix_len, before_first, after_first}
 use Rattle.std.specs.Str.{str_eq_ignore_ascii_case}
 use Rattle.text_lines.specs.Spellings.{space}
 use Rattle.gomocup_text.specs.declared.words.Word.{Word}
-use Rattle.gomocup_text.specs.declared.words.Word.TheVariants.{Start, RectStart, Turn, Takeback, Begin, Board, Done, Restart, About, End, Info}
+use Rattle.gomocup_text.specs.declared.words.Word.TheVariants.{Start, RectStart, Turn, Takeback, Begin, Board, Done, Restart, About, End}
+use Rattle.gomocup_text.specs.declared.words.Word.TheVariants.{Info}
 
 -- a tab
 abbrev pub tab : ℕ

@@ -1,8 +1,10 @@
 -- A double threat wins in two moves, and so does its node. The answers to all replies to a move win, and so does the node that has them.
-use Rattle.std.proofs.Common.{◌≡◌, ℕ, Bool, true, false, cond, ◌&&◌, refl, sym, ap, subst, ◌∙◌, List, [], ◌∷◌, Option, Some, None, IfSome, suc, ◌+◌}
+use Rattle.std.proofs.Common.{◌≡◌, ℕ, Bool, true, false, cond, ◌&&◌, refl, sym, ap, subst, ◌∙◌, List, [], ◌∷◌, Option, Some, None, IfSome}
+use Rattle.std.proofs.Common.{suc, ◌+◌}
 use Rattle.std.specs.Prelude.{unwrap_or}
 use Rattle.std.specs.List.{list_any, list_all, filter}
-use Rattle.game_rules.proofs.Common.{Grid, is_on, points_of, points_within, five, is_same_point, IsPosition, outcome, mover, after, other, goes_on_with, LosesOr, has_five, wins_or, loses_or, starts_win, wins_under, wins_by_fours}
+use Rattle.game_rules.proofs.Common.{Grid, is_on, points_of, points_within, five, is_same_point, IsPosition, outcome, mover, after, other}
+use Rattle.game_rules.proofs.Common.{goes_on_with, LosesOr, has_five, wins_or, loses_or, starts_win, wins_under, wins_by_fours}
 use Rattle.game_rules.specs.declared.RuleKind.{RuleKind}
 use Rattle.game_rules.specs.declared.Outcome.{Outcome}
 use Rattle.game_rules.specs.declared.Outcome.TheVariants.{Wins as WinsNow, Draws, GoesOn}
@@ -56,15 +58,18 @@ module _ (rule : RuleKind) (d : Grid) (lawful : IsPosition rule d) (s : Point) (
       ∙ points-found (after d s) (five rule (after d s) (mover d)) ends.first (on-end ends.first pressed.open_ends.first)
       (ap (λ t. five rule (after d s) t ends.first) (sym attacker) ∙ pressed.open_ends.first)
 
-  found : (w : Point) → five rule (after d s) (other (mover (after d s))) w ≡ true → list_any (is_same_point w) (filter (five rule (after d s) (other (mover (after d s)))) (points_of (after d s))) ≡ true
+  found : (w : Point) → five rule (after d s) (other (mover (after d s))) w ≡ true
+      → list_any (is_same_point w) (filter (five rule (after d s) (other (mover (after d s)))) (points_of (after d s))) ≡ true
   found w h = still-found (five rule (after d s) (other (mover (after d s)))) w (points_of (after d s)) h
       (points-found (after d s) (is_same_point w) w (on-end w h) (is_same_point-itself w))
 
   won : fate rule (after d s) ≡ Won
   unfolding fate
   won =
-      ap (λ r. cond r Lost (by_fives rule (after d s) (filter (five rule (after d s) (other (mover (after d s)))) (points_of (after d s))))) pressed.open_ends.none
-      ∙ two-won rule (after d s) ends.first ends.second _ (found ends.first pressed.open_ends.first) (found ends.second pressed.open_ends.second) pressed.open_ends.apart
+      ap (λ r. cond r Lost (by_fives rule (after d s) (filter (five rule (after d s) (other (mover (after d s)))) (points_of (after d s)))))
+      pressed.open_ends.none
+      ∙ two-won rule (after d s) ends.first ends.second _ (found ends.first pressed.open_ends.first)
+      (found ends.second pressed.open_ends.second) pressed.open_ends.apart
 
   starts : starts_win (has_five rule) rule d (wins_by_fours rule 1) s ≡ true
   starts = block_decides rule 1 d s lawful four ∙ ap (block_wins rule 1 (after d s)) won
@@ -76,13 +81,19 @@ module _ (rule : RuleKind) (d : Grid) (lawful : IsPosition rule d) (s : Point) (
 
   lost : list_all (λ q. loses_or (outcome rule (after d s) q) (wins_by_fours rule 1 (after (after d s) q))) (points_of (after d s)) ≡ true
   lost = and_right (has_five rule (after d s) (mover d)) _
-      (sym (ap (λ o. wins_or o (has_five rule (after d s) (mover d) && list_all (λ q. loses_or (outcome rule (after d s) q) (wins_by_fours rule 1 (after (after d s) q))) (points_of d))) pressed.goes_on) ∙ starts)
+      (sym (ap (λ o. wins_or o (has_five rule (after d s) (mover d) && list_all
+      (λ q. loses_or (outcome rule (after d s) q) (wins_by_fours rule 1 (after (after d s) q))) (points_of d))) pressed.goes_on)
+      ∙ starts)
 
   -- after a reply beside it an end is a five point
-  end-stays : (q w : Point) → outcome rule (after d s) q ≡ GoesOn → five rule (after d s) (other (mover (after d s))) w ≡ true → is_same_point q w ≡ false → outcome rule (after (after d s) q) w ≡ WinsNow
+  end-stays : (q w : Point) → outcome rule (after d s) q ≡ GoesOn → five rule (after d s) (other (mover (after d s))) w ≡ true
+      → is_same_point q w ≡ false → outcome rule (after (after d s) q) w ≡ WinsNow
   end-stays q w go h apart =
-      let still : five rule (after (after d s) q) (other (mover (after d s))) w ≡ true = five-other (after d s) (mover (after d s)) q e_lawful.board (GoesOn-empty rule (after d s) q go) rule w (is_same_point-apart q w apart) ∙ h in
-      five-outcome rule (after (after d s) q) w (ap (λ t. five rule (after (after d s) q) t w) (mover-then rule (after d s) q e_lawful go) ∙ still)
+      let still : five rule (after (after d s) q) (other (mover (after d s))) w ≡ true =
+      five-other (after d s) (mover (after d s)) q e_lawful.board (GoesOn-empty rule (after d s) q go) rule w
+      (is_same_point-apart q w apart) ∙ h in
+      five-outcome rule (after (after d s) q) w
+      (ap (λ t. five rule (after (after d s) q) t w) (mover-then rule (after d s) q e_lawful go) ∙ still)
 
   -- and a double threat to the points of the board
   pub pressed-threat : IsDoubleThreat rule d s ends.first ends.second (points_of d)
@@ -150,7 +161,8 @@ hint-kept w h t u k None d lower grown given new = new
 hint-kept w h t u k (Some e) d lower grown given new = hint-grown w h t u k (Some e) lower grown given
 
 -- the threat that was compiled is the one that was found
-pub told-pressed : (rule : RuleKind) (b : Grid) (start : Point) (ends : Pair) (h : Double) → h.start ≡ start → h.ends ≡ ends → IsPressed rule b start ends → IsPressed rule b h.start h.ends
+pub told-pressed : (rule : RuleKind) (b : Grid) (start : Point) (ends : Pair) (h : Double) → h.start ≡ start → h.ends ≡ ends
+    → IsPressed rule b start ends → IsPressed rule b h.start h.ends
 told-pressed rule b start ends h e f pressed =
     subst (λ (x : Point). IsPressed rule b x h.ends) (sym e) (subst (λ (x : Pair). IsPressed rule b start x) (sym f) pressed)
 

@@ -1,5 +1,6 @@
 -- Answers to the replies so far: they stay answers as the nodes grow, and one more.
-use Rattle.std.proofs.Common.{◌≡◌, ℕ, ◌≤◌, ◌+◌, max, Bool, true, false, cond, ◌&&◌, refl, sym, ap, subst, ◌∙◌, arith, List, [], ◌∷◌, ◌++◌, map, append_assoc}
+use Rattle.std.proofs.Common.{◌≡◌, ℕ, ◌≤◌, ◌+◌, max, Bool, true, false, cond, ◌&&◌, refl, sym, ap, subst, ◌∙◌, arith, List, [], ◌∷◌, ◌++◌}
+use Rattle.std.proofs.Common.{map, append_assoc}
 use Rattle.std.specs.List.{AllByRecursion, list_all, sum_by}
 use Rattle.std.proofs.lemmas.List.Sums.{sum_by-cons}
 use Rattle.game_rules.proofs.Common.{Grid, outcome, after, goes_on_with, loses_or, if_goes_on}
@@ -21,25 +22,34 @@ use Rattle.line_proof.specs.Replies.{AreAnswers, going_on}
 -- ---- wins as the nodes grow
 
 module _ (rule : RuleKind) (n : ℕ) (c : Grid) (t u : List Node) (k : ℕ) (lower : NamesLower t) (grown : GrowsBy t u k) where
-  most-grown : (rs : List Reply) → AllByRecursion (IsBeatenBy rule n c t) rs → greatest (map (depth u) (map (λ r. r.next) rs)) ≡ greatest (map (depth t) (map (λ r. r.next) rs))
+  most-grown : (rs : List Reply) → AllByRecursion (IsBeatenBy rule n c t) rs
+      → greatest (map (depth u) (map (λ r. r.next) rs)) ≡ greatest (map (depth t) (map (λ r. r.next) rs))
   most-grown [] h = refl
   most-grown (r ∷ rs) h =
       let here : depth u r.next ≡ depth t r.next = (win-stays rule n (after c r.at) t u k _ lower grown h.0).deep in
       omega (arith, here, most-grown rs h.1)
 
   pub answers-grown : (a : Answering) → AreAnswers rule n t c a → AreAnswers rule n u c a
-  answers-grown a h = record { wins = beaten-grown rule n c t u k lower grown a.replies.items h.wins; most = h.most ∙ sym (most-grown a.replies.items h.wins) }
+  answers-grown a h = record {
+    wins = beaten-grown rule n c t u k lower grown a.replies.items h.wins;
+    most = h.most ∙ sym (most-grown a.replies.items h.wins);
+  }
 
 -- ---- no answer, and one more
 
-module _ (rule : RuleKind) (n : ℕ) (t : List Node) (c : Grid) (q : Point) (win : WrittenWin) (a a' : Answering) (added : a'.replies.items ≡ a.replies.items ++ (record { at = q; next = win.node }) ∷ []) where
-  pub answers-more : a'.moves ≡ max a.moves win.moves → IsWrittenWin rule n (after c q) t win → AreAnswers rule n t c a → AreAnswers rule n t c a'
+module _ (rule : RuleKind) (n : ℕ) (t : List Node) (c : Grid) (q : Point) (win : WrittenWin) (a a' : Answering)
+    (added : a'.replies.items ≡ a.replies.items ++ (record { at = q; next = win.node }) ∷ []) where
+  pub answers-more : a'.moves ≡ max a.moves win.moves → IsWrittenWin rule n (after c q) t win → AreAnswers rule n t c a
+      → AreAnswers rule n t c a'
   answers-more most won h =
       let r : Reply = record { at = q; next = win.node } in
       record {
-        wins = subst (λ (rs : List Reply). AllByRecursion (IsBeatenBy rule n c t) rs) (sym added) (push-all (IsBeatenBy rule n c t) a.replies.items r h.wins (win-deep rule n (after c q) t win won));
+        wins = subst (λ (rs : List Reply). AllByRecursion (IsBeatenBy rule n c t) rs) (sym added)
+            (push-all (IsBeatenBy rule n c t) a.replies.items r h.wins (win-deep rule n (after c q) t win won));
         most =
-            let same : greatest (map (depth t) (map (λ r. r.next) a'.replies.items)) ≡ greatest (map (depth t) (map (λ r. r.next) (a.replies.items ++ r ∷ []))) = ap (λ (rs : List Reply). greatest (map (depth t) (map (λ r. r.next) rs))) added in
+            let same : greatest (map (depth t) (map (λ r. r.next) a'.replies.items)) ≡ greatest
+            (map (depth t) (map (λ r. r.next) (a.replies.items ++ r ∷ []))) =
+            ap (λ (rs : List Reply). greatest (map (depth t) (map (λ r. r.next) rs))) added in
             omega (arith, push-most (depth t) a.replies.items r, same, won.deep, h.most, most);
       }
 
@@ -61,7 +71,8 @@ module _ (rule : RuleKind) (c v : Grid) (same : v ≡ c) (q : Point) (qs rest : 
       (λ q. if_goes_on (outcome rule c q) (count (after c q))) rest
   few-step count =
       let f : Point → ℕ = λ q. if_goes_on (outcome rule c q) (count (after c q)) in
-      let here : if_goes_on (outcome rule v q) (count (after v q)) ≡ f q = ap (λ (w : Grid). if_goes_on (outcome rule w q) (count (after w q))) same in
+      let here : if_goes_on (outcome rule v q) (count (after v q)) ≡ f q =
+      ap (λ (w : Grid). if_goes_on (outcome rule w q) (count (after w q))) same in
       let split : sum_by f qs ≡ f q + sum_by f rest = ap (sum_by f) steps ∙ sum_by-cons f q rest in
       omega (arith, here, split)
 
@@ -74,11 +85,15 @@ module _ (rule : RuleKind) (c v : Grid) (same : v ≡ c) (q : Point) (qs rest : 
         by_test true = refl
         by_test false = refl
 
-  loses-here : (won : Grid → Bool) → list_all (λ q. loses_or (outcome rule c q) (won (after c q))) qs ≡ (loses_or (outcome rule v q) (won (after v q)) && list_all (λ q. loses_or (outcome rule c q) (won (after c q))) rest)
+  loses-here : (won : Grid → Bool) → list_all (λ q. loses_or (outcome rule c q) (won (after c q))) qs
+      ≡ (loses_or (outcome rule v q) (won (after v q)) && list_all (λ q. loses_or (outcome rule c q) (won (after c q))) rest)
   loses-here won =
       ap (list_all (λ q. loses_or (outcome rule c q) (won (after c q)))) steps
-      ∙ sym (ap (λ (w : Grid). loses_or (outcome rule w q) (won (after w q)) && list_all (λ q. loses_or (outcome rule c q) (won (after c q))) rest) same)
+      ∙ sym (ap (λ (w : Grid). loses_or (outcome rule w q) (won (after w q)) && list_all
+      (λ q. loses_or (outcome rule c q) (won (after c q))) rest) same)
 
-  pub lose-step : (won : Grid → Bool) (loses : Bool) → loses ≡ loses_or (outcome rule v q) (won (after v q)) → loses ≡ true → list_all (λ q. loses_or (outcome rule c q) (won (after c q))) rest ≡ list_all (λ q. loses_or (outcome rule c q) (won (after c q))) qs
+  pub lose-step : (won : Grid → Bool) (loses : Bool) → loses ≡ loses_or (outcome rule v q) (won (after v q)) → loses ≡ true
+      → list_all (λ q. loses_or (outcome rule c q) (won (after c q))) rest ≡ list_all (λ q. loses_or (outcome rule c q) (won (after c q)))
+      qs
   lose-step won loses e all =
       sym (loses-here won ∙ ap (λ r. r && list_all (λ q. loses_or (outcome rule c q) (won (after c q))) rest) (sym e ∙ all))

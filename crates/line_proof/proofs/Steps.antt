@@ -1,5 +1,6 @@
 -- One move of a line.
-use Rattle.std.proofs.Common.{◌≡◌, ℕ, zero, suc, ◌+◌, ◌-◌, ◌≤◌, Bool, true, false, cond, refl, sym, ap, subst, ◌∙◌, arith, List, min, Option, Some, None, IfSome, Result, Ok, Err, OnOk}
+use Rattle.std.proofs.Common.{◌≡◌, ℕ, zero, suc, ◌+◌, ◌-◌, ◌≤◌, Bool, true, false, cond, refl, sym, ap, subst, ◌∙◌, arith, List, min}
+use Rattle.std.proofs.Common.{Option, Some, None, IfSome, Result, Ok, Err, OnOk}
 use Rattle.game_rules.proofs.Common.{Grid, points_of, five, mover, LosesOr, has_five, wins_by_fours}
 use Rattle.game_rules.specs.declared.RuleKind.{RuleKind}
 use Rattle.game_rules.specs.declared.Outcome.{Outcome}
@@ -27,7 +28,8 @@ module _ (rule : RuleKind) (ts : List Threat) (b : Grid) where
   quick-tree (suc n) l h = ap (λ r. cond r 4 (1 + behind_move rule b (λ ts. line_tree rule ts n) (line_move rule ts b))) h
 
   -- where they do not, the move of the line decides
-  pub slow-wins : (n : ℕ) → 1 ≤ n → wins_by_fours rule (min n 2) b ≡ false → line_wins rule ts n b ≡ move_wins rule b (λ ts. line_wins rule ts (n - 1)) (line_move rule ts b)
+  pub slow-wins : (n : ℕ) → 1 ≤ n → wins_by_fours rule (min n 2) b ≡ false
+      → line_wins rule ts n b ≡ move_wins rule b (λ ts. line_wins rule ts (n - 1)) (line_move rule ts b)
   unfolding line_wins
   slow-wins zero l h = absurd (omega arith)
   slow-wins (suc n) l h =
@@ -35,7 +37,8 @@ module _ (rule : RuleKind) (ts : List Threat) (b : Grid) where
       ap (λ r. cond r true (move_wins rule b (λ ts. line_wins rule ts n) (line_move rule ts b))) h
       ∙ ap (λ (k : ℕ). move_wins rule b (λ ts. line_wins rule ts k) (line_move rule ts b)) less
 
-  pub slow-tree : (n : ℕ) → 1 ≤ n → wins_by_fours rule (min n 2) b ≡ false → line_tree rule ts n b ≡ 1 + behind_move rule b (λ ts. line_tree rule ts (n - 1)) (line_move rule ts b)
+  pub slow-tree : (n : ℕ) → 1 ≤ n → wins_by_fours rule (min n 2) b ≡ false
+      → line_tree rule ts n b ≡ 1 + behind_move rule b (λ ts. line_tree rule ts (n - 1)) (line_move rule ts b)
   unfolding line_tree
   slow-tree zero l h = absurd (omega arith)
   slow-tree (suc n) l h =
@@ -44,13 +47,15 @@ module _ (rule : RuleKind) (ts : List Threat) (b : Grid) where
       ∙ ap (λ (k : ℕ). 1 + behind_move rule b (λ ts. line_tree rule ts k) (line_move rule ts b)) less
 
   -- by the block that was asked for, at the same board
-  pub move-wins : (n : ℕ) (v : Grid) (o : Option Point) → 1 ≤ n → v ≡ b → o ≡ block_of rule v → wins_by_fours rule (min n 2) b ≡ false → move_wins rule v (λ ts. line_wins rule ts (n - 1)) (block_or_gain o ts) ≡ line_wins rule ts n b
+  pub move-wins : (n : ℕ) (v : Grid) (o : Option Point) → 1 ≤ n → v ≡ b → o ≡ block_of rule v → wins_by_fours rule (min n 2) b ≡ false
+      → move_wins rule v (λ ts. line_wins rule ts (n - 1)) (block_or_gain o ts) ≡ line_wins rule ts n b
   move-wins n v o some same block slow =
       ap (λ (o : Option Point). move_wins rule v (λ ts. line_wins rule ts (n - 1)) (block_or_gain o ts)) block
       ∙ ap (λ (w : Grid). move_wins rule w (λ ts. line_wins rule ts (n - 1)) (line_move rule ts w)) same
       ∙ sym (slow-wins n some slow)
 
-  pub move-tree : (n : ℕ) (v : Grid) (o : Option Point) → 1 ≤ n → v ≡ b → o ≡ block_of rule v → wins_by_fours rule (min n 2) b ≡ false → 1 + behind_move rule v (λ ts. line_tree rule ts (n - 1)) (block_or_gain o ts) ≡ line_tree rule ts n b
+  pub move-tree : (n : ℕ) (v : Grid) (o : Option Point) → 1 ≤ n → v ≡ b → o ≡ block_of rule v → wins_by_fours rule (min n 2) b ≡ false
+      → 1 + behind_move rule v (λ ts. line_tree rule ts (n - 1)) (block_or_gain o ts) ≡ line_tree rule ts n b
   move-tree n v o some same block slow =
       ap (λ (o : Option Point). 1 + behind_move rule v (λ ts. line_tree rule ts (n - 1)) (block_or_gain o ts)) block
       ∙ ap (λ (w : Grid). 1 + behind_move rule w (λ ts. line_tree rule ts (n - 1)) (line_move rule ts w)) same
@@ -108,4 +113,5 @@ five-refutes rule c won some = by_test (each_loses rule c won) refl where
   by_test false e = refl
   by_test true e =
       let x = any_witness (five rule c (mover c)) (points_of c) some in
-      absurd (subst (λ (o : Outcome). LosesOr o (Unit {0})) (five-outcome rule c x.0 x.1) (each_reply rule c won (λ d. Unit {0}) (λ d h. tt) e x.0))
+      absurd (subst (λ (o : Outcome). LosesOr o (Unit {0})) (five-outcome rule c x.0 x.1)
+      (each_reply rule c won (λ d. Unit {0}) (λ d h. tt) e x.0))

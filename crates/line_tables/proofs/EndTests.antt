@@ -1,5 +1,6 @@
 -- The list of the five points, as the code tells it. The list of the five points, end by end.
-use Rattle.std.proofs.Common.{◌≡◌, ◌≢◌, inl, inr, ℕ, ◌+◌, ◌*◌, ◌%◌, ◌≤◌, ◌<◌, Bool, true, false, cond, List, [], refl, sym, ap, subst, ◌∙◌, arith, Some, nat_lt, ◌==◌, if◌then◌else◌, filter, length, None}
+use Rattle.std.proofs.Common.{◌≡◌, ◌≢◌, inl, inr, ℕ, ◌+◌, ◌*◌, ◌%◌, ◌≤◌, ◌<◌, Bool, true, false, cond, List, [], refl, sym, ap, subst, ◌∙◌}
+use Rattle.std.proofs.Common.{arith, Some, nat_lt, ◌==◌, if◌then◌else◌, filter, length, None}
 use Rattle.std.proofs.lemmas.Bool.{and_from, both_ways, cases_lt, false_from_ne_true}
 use Rattle.game_rules.specs.declared.RuleKind.{RuleKind}
 use Rattle.game_rules.specs.declared.Side.{Side}
@@ -8,7 +9,8 @@ use Rattle.game_rules.specs.declared.Axis.TheVariants.{Row, Column, Down, Up}
 use Rattle.game_rules.specs.declared.Way.{Way}
 use Rattle.game_rules.specs.declared.Way.TheVariants.{Ahead, Behind}
 use Rattle.game_rules.specs.declared.Point.{Point}
-use Rattle.game_rules.proofs.Common.{Grid, IsBoard, is_on, is_empty, put, points_of, five, wins_on, five_points, other, run_end, holds, lift}
+use Rattle.game_rules.proofs.Common.{Grid, IsBoard, is_on, is_empty, put, points_of, five, wins_on, five_points, other, run_end, holds}
+use Rattle.game_rules.proofs.Common.{lift}
 use Rattle.game_rules.proofs.Axes.{no_axis, by_axis}
 use Rattle.game_rules.proofs.Boards.{Apart, and_left, and_right, same_or_apart, is_empty-on, empty_holds, holds-put_same, is_empty-put}
 use Rattle.game_rules.proofs.Fives.{five-empty, five-other, same_fives}
@@ -29,10 +31,12 @@ end_is b s d w p q h = is_at-Some q _ (and_right (is_empty b q) _ h)
 pub end_free : (b : Grid) (s : Side) (d : Axis) (w : Way) (p q : Point) → is_end b s d w p q ≡ true → is_empty b q ≡ true
 end_free b s d w p q h = and_left (is_empty b q) _ h
 
-pub end_yes : (b : Grid) (s : Side) (d : Axis) (w : Way) (p q : Point) → is_empty b q ≡ true → run_end b s d w p ≡ Some q → is_end b s d w p q ≡ true
+pub end_yes : (b : Grid) (s : Side) (d : Axis) (w : Way) (p q : Point) → is_empty b q ≡ true → run_end b s d w p ≡ Some q
+    → is_end b s d w p q ≡ true
 end_yes b s d w p q free h = and_from (is_empty b q) _ free (is_at-here q _ h)
 
-no_end : (b : Grid) (s : Side) (d : Axis) (w : Way) (p q : Point) → is_end b s d w p q ≡ false → is_empty b q ≡ true → run_end b s d w p ≢ Some q
+no_end : (b : Grid) (s : Side) (d : Axis) (w : Way) (p q : Point) → is_end b s d w p q ≡ false → is_empty b q ≡ true
+    → run_end b s d w p ≢ Some q
 no_end b s d w p q h free e = both_ways _ h (end_yes b s d w p q free e)
 
 -- ---- five points by one axis
@@ -51,12 +55,15 @@ module _ (rule : RuleKind) (b : Grid) (s : Side) (p : Point) (ok : IsBoard b) (e
   taken = false_from_ne_true _ (λ free. both_ways _ (empty_holds next s p free) (holds-put_same b s p ok on))
 
   -- a point that is no end before the stone comes, nor its own, stays what it is
-  away_same : (q : Point) → Apart p q → ((d : Axis) (w : Way) → is_empty b q ≡ true → run_end b s d w p ≢ Some q) → five rule next s q ≡ five rule b s q
+  away_same : (q : Point) → Apart p q → ((d : Axis) (w : Way) → is_empty b q ≡ true → run_end b s d w p ≢ Some q)
+      → five rule next s q ≡ five rule b s q
   away_same q apart none = same_fives rule b next s q (λ d. wins_same b s p ok empty rule q apart d (λ w free. none d w free))
 
   -- an end of a run changes on its axis alone
-  end_wins_same : (d : Axis) (w : Way) (q : Point) → run_end b s d w p ≡ Some q → (e : Axis) → e ≢ d → wins_on rule next s e q ≡ wins_on rule b s e q
-  end_wins_same d w q here e other_axis = wins_same b s p ok empty rule q (end_apart b s p q d w here) e (λ v free there. other_axis (ends_differ b s p q e d v w there here))
+  end_wins_same : (d : Axis) (w : Way) (q : Point) → run_end b s d w p ≡ Some q → (e : Axis) → e ≢ d
+      → wins_on rule next s e q ≡ wins_on rule b s e q
+  end_wins_same d w q here e other_axis = wins_same b s p ok empty rule q (end_apart b s p q d w here) e
+      (λ v free there. other_axis (ends_differ b s p q e d v w there here))
 
   not_told : (v : Bool) (test : Point → Bool) (q : Point) → Apart p q → told_of p v test q ≡ test q
   not_told v test q apart = ap (λ r. cond r v (test q)) (apart-is_same_point p q apart)
@@ -113,7 +120,8 @@ module _ (rule : RuleKind) (b : Grid) (s : Side) (p : Point) (ok : IsBoard b) (e
   played_others points = told_all points b next (other s) false (five_false rule next (other s) p taken)
       (λ q apart. sym (five-other b s p ok empty rule q apart))
 
-  pub undone_others : (points : List Point) → points ≡ filter (told_of p (five rule b (other s) p) (five rule next (other s))) (points_of b) → points ≡ five_points rule b (other s)
+  pub undone_others : (points : List Point) → points ≡ filter (told_of p (five rule b (other s) p) (five rule next (other s))) (points_of b)
+      → points ≡ five_points rule b (other s)
   undone_others points = told_all points next b (other s) (five rule b (other s) p) refl (λ q apart. five-other b s p ok empty rule q apart)
 
 -- ---- the ends, one after another
@@ -235,7 +243,8 @@ module _ (rule : RuleKind) (c : Grid) (s : Side) (p : Point) (ok : IsBoard c) (m
   back : put (lift c p) s p ≡ c
   back = put-lift c s p mine
 
-  pub came_fits : (t : Side) (points : List Point) (room : ℕ) → TellsSide rule (lift c p) t points room → (v : Bool) → length (with_told p v points) ≤ room
+  pub came_fits : (t : Side) (points : List Point) (room : ℕ) → TellsSide rule (lift c p) t points room → (v : Bool)
+      → length (with_told p v points) ≤ room
   came_fits t points room h v = told_fits (lift c p) points room (five rule (lift c p) t) h.told h.fits p on_p v
 
   pub came_own : (points now : List Point) (room more : ℕ) → TellsSide rule (lift c p) s points room → now ≡ with_told p false points
@@ -244,17 +253,20 @@ module _ (rule : RuleKind) (c : Grid) (s : Side) (p : Point) (ok : IsBoard c) (m
       (played_but_ends rule (lift c p) s p (IsBoard-lift c p ok) bare now more (let fits = h.fits in omega arith)
       (e ∙ ap (with_told p false) h.told ∙ filter_told (lift c p) p false (five rule (lift c p) s) on_p))
 
-  pub came_others : (points now : List Point) (room more : ℕ) → TellsSide rule (lift c p) (other s) points room → now ≡ with_told p false points → room ≤ more → TellsSide rule c (other s) now more
+  pub came_others : (points now : List Point) (room more : ℕ) → TellsSide rule (lift c p) (other s) points room
+      → now ≡ with_told p false points → room ≤ more → TellsSide rule c (other s) now more
   came_others points now room more h e low = record {
     told = subst (λ (g : Grid). now ≡ five_points rule g (other s)) back
-        (played_others rule (lift c p) s p (IsBoard-lift c p ok) bare now (e ∙ ap (with_told p false) h.told ∙ filter_told (lift c p) p false (five rule (lift c p) (other s)) on_p));
+        (played_others rule (lift c p) s p (IsBoard-lift c p ok) bare now
+        (e ∙ ap (with_told p false) h.told ∙ filter_told (lift c p) p false (five rule (lift c p) (other s)) on_p));
     fits = let fits = h.fits in omega arith;
   }
 
 -- ---- after it went
 
 module _ (rule : RuleKind) (b : Grid) (s : Side) (p : Point) (ok : IsBoard b) (empty : is_empty b p ≡ true) where
-  pub went_fits : (t : Side) (points : List Point) (room : ℕ) → TellsSide rule (put b s p) t points room → (v : Bool) → length (with_told p v points) ≤ room
+  pub went_fits : (t : Side) (points : List Point) (room : ℕ) → TellsSide rule (put b s p) t points room → (v : Bool)
+      → length (with_told p v points) ≤ room
   went_fits t points room h v = told_fits (put b s p) points room (five rule (put b s p) t) h.told h.fits p (is_empty-on b p empty) v
 
   pub went_own : (points now : List Point) (room more : ℕ) → TellsSide rule (put b s p) s points room
@@ -262,8 +274,11 @@ module _ (rule : RuleKind) (b : Grid) (s : Side) (p : Point) (ok : IsBoard b) (e
   went_own points now room more h e low = undone_but_ends rule b s p ok empty now more (let fits = h.fits in omega arith)
       (e ∙ ap (with_told p (five rule b s p)) h.told ∙ filter_told b p (five rule b s p) (five rule (put b s p) s) (is_empty-on b p empty))
 
-  pub went_others : (points now : List Point) (room more : ℕ) → TellsSide rule (put b s p) (other s) points room → now ≡ with_told p (five rule b (other s) p) points → room ≤ more → TellsSide rule b (other s) now more
+  pub went_others : (points now : List Point) (room more : ℕ) → TellsSide rule (put b s p) (other s) points room
+      → now ≡ with_told p (five rule b (other s) p) points → room ≤ more → TellsSide rule b (other s) now more
   went_others points now room more h e low = record {
-    told = undone_others rule b s p ok empty now (e ∙ ap (with_told p (five rule b (other s) p)) h.told ∙ filter_told b p (five rule b (other s) p) (five rule (put b s p) (other s)) (is_empty-on b p empty));
+    told = undone_others rule b s p ok empty now
+        (e ∙ ap (with_told p (five rule b (other s) p)) h.told
+        ∙ filter_told b p (five rule b (other s) p) (five rule (put b s p) (other s)) (is_empty-on b p empty));
     fits = let fits = h.fits in omega arith;
   }

@@ -1,5 +1,6 @@
 -- Lists with an item for each point of a board, in reading order. Lists of points in reading order, in which one point is told anew.
-use Rattle.std.proofs.Common.{◌≡◌, true, refl, ◌∙◌, Some, map, slice_get, inl, inr, ℕ, suc, ◌+◌, ◌≤◌, Bool, false, cond, ◌||◌, List, [], ◌∷◌, length, sym, ap, subst, arith}
+use Rattle.std.proofs.Common.{◌≡◌, true, refl, ◌∙◌, Some, map, slice_get, inl, inr, ℕ, suc, ◌+◌, ◌≤◌, Bool, false, cond, ◌||◌, List, []}
+use Rattle.std.proofs.Common.{◌∷◌, length, sym, ap, subst, arith}
 use Rattle.std.specs.List.{list_all, list_any, filter, prefix_len, insert, remove}
 use Rattle.std.proofs.lemmas.Option.{slice_get-map}
 use Rattle.std.proofs.lemmas.Bool.{both_ways, false_from_ne_true, or_cases}
@@ -13,7 +14,8 @@ use Rattle.game_rules.proofs.ReadingOrder.{Rises, rows_rise}
 use Rattle.line_tables.specs.Lists.{with_point, without_point, with_told, told_of}
 
 -- a list of what is told of each point
-pub told_at : {X : Type 0} (f : Point → X) (b : Grid) (q : Point) → is_on b q ≡ true → slice_get (map f (points_of b)) (place_of b q) ≡ Some (f q)
+pub told_at : {X : Type 0} (f : Point → X) (b : Grid) (q : Point) → is_on b q ≡ true
+    → slice_get (map f (points_of b)) (place_of b q) ≡ Some (f q)
 told_at f b q on = slice_get-map f (points_of b) (place_of b q) ∙ rw (points_get b q on) refl
 
 -- ---- a test of them all
@@ -31,28 +33,37 @@ module _ (p : Point) where
   pub point_in : (xs : List Point) → is_at p (slice_get xs (place xs)) ≡ true → with_point p xs ≡ xs
   point_in [] h = cc
   point_in (q ∷ more) h = by_test (precedes q p) h (point_in more) where
-    by_test : (r : Bool) → is_at p (slice_get (q ∷ more) (cond r (1 + place more) 0)) ≡ true → (is_at p (slice_get more (place more)) ≡ true → with_point p more ≡ more) → cond r (q ∷ with_point p more) (cond (is_same_point p q) (q ∷ more) (p ∷ q ∷ more)) ≡ q ∷ more
+    by_test : (r : Bool) → is_at p (slice_get (q ∷ more) (cond r (1 + place more) 0)) ≡ true
+        → (is_at p (slice_get more (place more)) ≡ true → with_point p more ≡ more)
+        → cond r (q ∷ with_point p more) (cond (is_same_point p q) (q ∷ more) (p ∷ q ∷ more)) ≡ q ∷ more
     by_test true h rest = ap (λ (ps : List Point). q ∷ ps) (rest (rw (one_more (place more)) at h))
     by_test false h rest = rw h refl
 
   pub point_new : (xs : List Point) → is_at p (slice_get xs (place xs)) ≡ false → with_point p xs ≡ insert xs (place xs) p
   point_new [] h = refl
   point_new (q ∷ more) h = by_test (precedes q p) h (point_new more) where
-    by_test : (r : Bool) → is_at p (slice_get (q ∷ more) (cond r (1 + place more) 0)) ≡ false → (is_at p (slice_get more (place more)) ≡ false → with_point p more ≡ insert more (place more) p) → cond r (q ∷ with_point p more) (cond (is_same_point p q) (q ∷ more) (p ∷ q ∷ more)) ≡ insert (q ∷ more) (cond r (1 + place more) 0) p
+    by_test : (r : Bool) → is_at p (slice_get (q ∷ more) (cond r (1 + place more) 0)) ≡ false
+        → (is_at p (slice_get more (place more)) ≡ false → with_point p more ≡ insert more (place more) p)
+        → cond r (q ∷ with_point p more) (cond (is_same_point p q) (q ∷ more) (p ∷ q ∷ more)) ≡ insert (q ∷ more)
+        (cond r (1 + place more) 0) p
     by_test true h rest = rw (one_more (place more)) (ap (λ (ps : List Point). q ∷ ps) (rest (rw (one_more (place more)) at h)))
     by_test false h rest = rw h refl
 
   pub point_out : (xs : List Point) → is_at p (slice_get xs (place xs)) ≡ true → without_point p xs ≡ remove xs (place xs)
   point_out [] h = cc
   point_out (q ∷ more) h = by_test (precedes q p) h (point_out more) where
-    by_test : (r : Bool) → is_at p (slice_get (q ∷ more) (cond r (1 + place more) 0)) ≡ true → (is_at p (slice_get more (place more)) ≡ true → without_point p more ≡ remove more (place more)) → cond r (q ∷ without_point p more) (cond (is_same_point p q) more (q ∷ more)) ≡ remove (q ∷ more) (cond r (1 + place more) 0)
+    by_test : (r : Bool) → is_at p (slice_get (q ∷ more) (cond r (1 + place more) 0)) ≡ true
+        → (is_at p (slice_get more (place more)) ≡ true → without_point p more ≡ remove more (place more))
+        → cond r (q ∷ without_point p more) (cond (is_same_point p q) more (q ∷ more)) ≡ remove (q ∷ more) (cond r (1 + place more) 0)
     by_test true h rest = rw (one_more (place more)) (ap (λ (ps : List Point). q ∷ ps) (rest (rw (one_more (place more)) at h)))
     by_test false h rest = rw h refl
 
   pub point_none : (xs : List Point) → is_at p (slice_get xs (place xs)) ≡ false → without_point p xs ≡ xs
   point_none [] h = refl
   point_none (q ∷ more) h = by_test (precedes q p) h (point_none more) where
-    by_test : (r : Bool) → is_at p (slice_get (q ∷ more) (cond r (1 + place more) 0)) ≡ false → (is_at p (slice_get more (place more)) ≡ false → without_point p more ≡ more) → cond r (q ∷ without_point p more) (cond (is_same_point p q) more (q ∷ more)) ≡ q ∷ more
+    by_test : (r : Bool) → is_at p (slice_get (q ∷ more) (cond r (1 + place more) 0)) ≡ false
+        → (is_at p (slice_get more (place more)) ≡ false → without_point p more ≡ more)
+        → cond r (q ∷ without_point p more) (cond (is_same_point p q) more (q ∷ more)) ≡ q ∷ more
     by_test true h rest = ap (λ (ps : List Point). q ∷ ps) (rest (rw (one_more (place more)) at h))
     by_test false h rest = rw h refl
 
@@ -138,7 +149,8 @@ module _ (p : Point) where
           ∙ ap (λ r. cond (cond r v (g x)) (x ∷ filter (told_of p v g) xs) (filter (told_of p v g) xs)) (sym e)
 
 -- the list of the points of a board that pass a test, with one told anew
-pub filter_told : (b : Grid) (p : Point) (v : Bool) (g : Point → Bool) → is_on b p ≡ true → with_told p v (filter g (points_of b)) ≡ filter (told_of p v g) (points_of b)
+pub filter_told : (b : Grid) (p : Point) (v : Bool) (g : Point → Bool) → is_on b p ≡ true
+    → with_told p v (filter g (points_of b)) ≡ filter (told_of p v g) (points_of b)
 filter_told b p v g on = told_there p v g (points_of b) (rows_rise b.width 0 b.height)
     (points-found b (is_same_point p) p on (is_same_point-itself p))
 

@@ -1,6 +1,8 @@
 -- A step of the walk over the neighbours of a changed point, as the code takes it. The codes of the neighbours of a changed point, one
 -- after another. What a stone changes in the code of another point: one digit, if the code reaches as far.
-use Rattle.std.proofs.Common.{◌≡◌, ◌≢◌, ◌⊎◌, inl, inr, ℕ, zero, suc, ◌+◌, ◌-◌, ◌*◌, ◌≤◌, ◌<◌, Bool, true, false, cond, refl, sym, ap, ◌∙◌, arith, nat_eq, Option, Some, None, map, ◌^◌, ◌||◌, List, length, subst, get_or, get_or-set_same, get_or-set_other, slice_get, slice_set}
+use Rattle.std.proofs.Common.{◌≡◌, ◌≢◌, ◌⊎◌, inl, inr, ℕ, zero, suc, ◌+◌, ◌-◌, ◌*◌, ◌≤◌, ◌<◌, Bool, true, false, cond, refl, sym, ap, ◌∙◌}
+use Rattle.std.proofs.Common.{arith, nat_eq, Option, Some, None, map, ◌^◌, ◌||◌, List, length, subst, get_or, get_or-set_same}
+use Rattle.std.proofs.Common.{get_or-set_other, slice_get, slice_set}
 use Rattle.std.specs.List.{list_any, range_with_len}
 use Rattle.std.proofs.lemmas.Bool.Decides.{nat_tests}
 use Rattle.std.proofs.Math.ListN.{set, length-set}
@@ -13,8 +15,10 @@ use Rattle.game_rules.specs.declared.Point.{Point}
 use Rattle.game_rules.specs.declared.Way.{Way}
 use Rattle.game_rules.specs.declared.Way.TheVariants.{Ahead, Behind}
 use Rattle.game_rules.specs.declared.RuleKind.{RuleKind}
-use Rattle.game_rules.proofs.Common.{Grid, IsBoard, is_on, is_empty, is_stone_of, stone_of, holds, put, along, towards, place_of, lift, is_at}
-use Rattle.game_rules.proofs.Boards.{same_or_apart, is_empty-on, is_empty-put, holds-put_other, cell_at-put_same, stone_of-taken, Apart, and_left, places_differ}
+use Rattle.game_rules.proofs.Common.{Grid, IsBoard, is_on, is_empty, is_stone_of, stone_of, holds, put, along, towards, place_of, lift}
+use Rattle.game_rules.proofs.Common.{is_at}
+use Rattle.game_rules.proofs.Boards.{same_or_apart, is_empty-on, is_empty-put, holds-put_other, cell_at-put_same, stone_of-taken, Apart}
+use Rattle.game_rules.proofs.Boards.{and_left, places_differ}
 use Rattle.game_rules.proofs.Lines.{along-then, along-same, along-zero, along-steps}
 use Rattle.game_rules.proofs.Positions.{is_at_or_not, IsBoard-lift, put-lift, lift-empty}
 use Rattle.game_rules.proofs.Points.{is_same_point-itself, is_at-Some}
@@ -24,7 +28,8 @@ use Rattle.stone_board.proofs.Strides.{on_left, Walked, Walked-place, Walked-bac
 use Rattle.row_shapes.specs.LineCodes.{digit_at, from_digits, places_beside, line_code}
 use Rattle.row_shapes.specs.Rule.{reach_of}
 use Rattle.row_shapes.proofs.CodeDigits.{from_digits-sum, digits_same, reach_cases, code_low}
-use Rattle.line_tables.specs.Codes.{digit_of_stone, weight, codes_at, TellsAxis, TellsSoFar, FitChange, can_change, changed, shifted, weights_to, is_near, neighbours_in, followed}
+use Rattle.line_tables.specs.Codes.{digit_of_stone, weight, codes_at, TellsAxis, TellsSoFar, FitChange, can_change, changed, shifted}
+use Rattle.line_tables.specs.Codes.{weights_to, is_near, neighbours_in, followed}
 use Rattle.line_tables.specs.declared.axis_codes.Change.{Change}
 use Rattle.line_tables.specs.declared.axis_codes.Change.TheVariants.{Put, Lift}
 use Rattle.line_tables.specs.declared.axis_codes.Codes.{Codes}
@@ -69,7 +74,9 @@ five_alone Behind digit (suc (suc (suc (suc (suc zero))))) low high = omega arit
 five_alone w digit (suc (suc (suc (suc (suc (suc k)))))) low high = absurd (omega arith)
 
 -- a digit that comes where there was none counts its weight
-digits_more : (f g : ℕ → ℕ) (w : Way) (digit k : ℕ) → 1 ≤ k → k ≤ 5 → (r : ℕ) → (r ≡ 4) ⊎ (r ≡ 5) → ((i : ℕ) → g i ≡ f i + alone w r k digit i) → from_digits (map g (places_beside r)) ≡ from_digits (map f (places_beside r)) + weight w r digit k
+digits_more : (f g : ℕ → ℕ) (w : Way) (digit k : ℕ) → 1 ≤ k → k ≤ 5 → (r : ℕ) → (r ≡ 4) ⊎ (r ≡ 5)
+    → ((i : ℕ) → g i ≡ f i + alone w r k digit i) → from_digits (map g (places_beside r)) ≡ from_digits (map f (places_beside r)) + weight w
+    r digit k
 digits_more f g w digit k low high r (inl four) h =
     let sums = from_digits-sum f g (alone w r k digit) h (places_beside r) in
     let one = four_alone w digit k low high in
@@ -104,7 +111,8 @@ module _ (b : Grid) (s : Side) (p : Point) (ok : IsBoard b) (empty : is_empty b 
   digit_else t None other = refl
   digit_else t (Some q) other = elim (same_or_apart p q) [
     | inl same ↦ absurd (other (ap Some (sym same)))
-    | inr apart ↦ ap (λ r. cond r 0 (cond (holds (put b s p) t q) 1 2)) (is_empty-put b s p q on_p apart) ∙ ap (λ r. cond (is_empty b q) 0 (cond r 1 2)) (holds-put_other b s t p q on_p apart)
+    | inr apart ↦ ap (λ r. cond r 0 (cond (holds (put b s p) t q) 1 2)) (is_empty-put b s p q on_p apart)
+        ∙ ap (λ r. cond (is_empty b q) 0 (cond r 1 2)) (holds-put_other b s t p q on_p apart)
   ]
 
   -- ---- the code of a point so many steps from p
@@ -112,12 +120,14 @@ module _ (b : Grid) (s : Side) (p : Point) (ok : IsBoard b) (empty : is_empty b 
   module _ (w : Way) (d : Axis) (k : ℕ) (x : Point) (here : towards w d p k ≡ Some x) (low : 1 ≤ k) (high : k ≤ 5) where
     seen_yes : (w : Way) → towards w d p k ≡ Some x → (r i : ℕ) → along d x i r ≡ Some p → seen_at w r k i ≡ true
     seen_yes Ahead h r i e =
-        let back : along d x 0 k ≡ Some p = along-then d p x k 0 0 k h ∙ along-same d p (k + 0) (0 + k) 0 0 (omega arith) ∙ along-zero d p in
+        let back : along d x 0 k ≡ Some p = along-then d p x k 0 0 k h ∙ along-same d p (k + 0) (0 + k) 0 0 (omega arith)
+        ∙ along-zero d p in
         let steps = along-steps d x p i r 0 k e back in
         let same : i + k ≡ r = omega arith in
         grind (arith, nat_tests)
     seen_yes Behind h r i e =
-        let back : along d x k 0 ≡ Some p = along-then d p x 0 k k 0 h ∙ along-same d p (0 + k) (k + 0) 0 0 (omega arith) ∙ along-zero d p in
+        let back : along d x k 0 ≡ Some p = along-then d p x 0 k k 0 h ∙ along-same d p (0 + k) (k + 0) 0 0 (omega arith)
+        ∙ along-zero d p in
         let steps = along-steps d x p i r k 0 e back in
         let same : i ≡ r + k = omega arith in
         grind (arith, nat_tests)
@@ -136,27 +146,33 @@ module _ (b : Grid) (s : Side) (p : Point) (ok : IsBoard b) (empty : is_empty b 
           absurd (other (along-then d p x 0 k i r h ∙ along-same d p (0 + i) (k + r) 0 0 (omega arith) ∙ along-zero d p))
       by_test false e = refl
 
-    digit_more : (t : Side) (r i : ℕ) → digit_at (put b s p) t (along d x i r) ≡ digit_at b t (along d x i r) + alone w r k (digit_of_stone s t) i
+    digit_more : (t : Side) (r i : ℕ) → digit_at (put b s p) t (along d x i r) ≡ digit_at b t (along d x i r) + alone w r k
+        (digit_of_stone s t) i
     digit_more t r i = elim (is_at_or_not (along d x i r) p) [
       | inl at ↦
-          let one : alone w r k (digit_of_stone s t) i ≡ digit_of_stone s t = ap (λ v. cond v (digit_of_stone s t) 0) (seen_yes w here r i at) in
+          let one : alone w r k (digit_of_stone s t) i ≡ digit_of_stone s t =
+          ap (λ v. cond v (digit_of_stone s t) 0) (seen_yes w here r i at) in
           omega (arith, one, ap (digit_at (put b s p) t) at ∙ digit_with t, ap (digit_at b t) at ∙ digit_without t)
       | inr other ↦
           let none : alone w r k (digit_of_stone s t) i ≡ 0 = ap (λ v. cond v (digit_of_stone s t) 0) (seen_no w here r i other) in
           omega (arith, none, digit_else t (along d x i r) other)
     ]
 
-    pub code_near : (t : Side) (r : ℕ) → (r ≡ 4) ⊎ (r ≡ 5) → line_code r (put b s p) t d x ≡ line_code r b t d x + weight w r (digit_of_stone s t) k
+    pub code_near : (t : Side) (r : ℕ) → (r ≡ 4) ⊎ (r ≡ 5)
+        → line_code r (put b s p) t d x ≡ line_code r b t d x + weight w r (digit_of_stone s t) k
     unfolding line_code
-    code_near t r reach = digits_more (λ i. digit_at b t (along d x i r)) (λ i. digit_at (put b s p) t (along d x i r)) w (digit_of_stone s t) k low high r reach (digit_more t r)
+    code_near t r reach = digits_more (λ i. digit_at b t (along d x i r)) (λ i. digit_at (put b s p) t (along d x i r)) w
+        (digit_of_stone s t) k low high r reach (digit_more t r)
 
   -- ---- the code of a point from which p is not seen
 
   module _ (d : Axis) (q : Point) (far : (w : Way) (k : ℕ) → 1 ≤ k → k ≤ 5 → towards w d p k ≢ Some q) where
     unseen : (r i : ℕ) → (r ≡ 4) ⊎ (r ≡ 5) → i ≤ 2 * r → i ≢ r → along d q i r ≢ Some p
     unseen r i reach low other e = elim (cases i r) [
-      | inl before ↦ far Ahead (r - i) (omega arith) (short reach) (along-then d q p i r (r - i) 0 e ∙ along-same d q (i + (r - i)) (r + 0) 0 0 (omega arith) ∙ along-zero d q)
-      | inr after ↦ far Behind (i - r) (omega arith) (near reach) (along-then d q p i r 0 (i - r) e ∙ along-same d q (i + 0) (r + (i - r)) 0 0 (omega arith) ∙ along-zero d q)
+      | inl before ↦ far Ahead (r - i) (omega arith) (short reach)
+          (along-then d q p i r (r - i) 0 e ∙ along-same d q (i + (r - i)) (r + 0) 0 0 (omega arith) ∙ along-zero d q)
+      | inr after ↦ far Behind (i - r) (omega arith) (near reach)
+          (along-then d q p i r 0 (i - r) e ∙ along-same d q (i + 0) (r + (i - r)) 0 0 (omega arith) ∙ along-zero d q)
     ] where
       cases : (i r : ℕ) → (i < r) ⊎ (r ≤ i)
       cases i r = grind arith
@@ -171,7 +187,8 @@ module _ (b : Grid) (s : Side) (p : Point) (ok : IsBoard b) (empty : is_empty b 
 
     pub code_far : (t : Side) (r : ℕ) → (r ≡ 4) ⊎ (r ≡ 5) → line_code r (put b s p) t d q ≡ line_code r b t d q
     unfolding line_code
-    code_far t r reach = digits_same (λ i. digit_at b t (along d q i r)) (λ i. digit_at (put b s p) t (along d q i r)) r reach (λ i low other. digit_else t (along d q i r) (unseen r i reach low other))
+    code_far t r reach = digits_same (λ i. digit_at b t (along d q i r)) (λ i. digit_at (put b s p) t (along d q i r)) r reach
+        (λ i low other. digit_else t (along d q i r) (unseen r i reach low other))
 
 -- ---- the next points in one way
 
@@ -186,7 +203,8 @@ module _ (d : Axis) (p : Point) where
   near_yes w n k q low high h = any_found (λ k. is_at q (towards w d p k)) n 1 k low (omega arith) (ap (is_at q) h ∙ is_same_point-itself q)
 
   pub near_not : (w : Way) (n : ℕ) (q : Point) → ((k : ℕ) → 1 ≤ k → k ≤ n → towards w d p k ≢ Some q) → is_near w d p n q ≡ false
-  near_not w n q h = any_none (λ k. is_at q (towards w d p k)) n 1 (λ k low high. false_from_ne_true _ (λ e. h k low (omega arith) (is_at-Some q _ e)))
+  near_not w n q h = any_none (λ k. is_at q (towards w d p k)) n 1
+      (λ k low high. false_from_ne_true _ (λ e. h k low (omega arith) (is_at-Some q _ e)))
 
   near_more : (w : Way) (n : ℕ) (q : Point) → towards w d p (n + 1) ≢ Some q → is_near w d p (n + 1) q ≡ is_near w d p n q
   near_more w n q other =
@@ -203,10 +221,13 @@ module _ (d : Axis) (p : Point) where
 
   module _ (b : Grid) (n : ℕ) (x : Point) where
     new_not_done : (w : Way) → towards w d p (n + 1) ≡ Some x → followed w b d p n x ≡ false
-    new_not_done Ahead here = near_not Ahead n x (λ k low high e. let differ = (steps_differ Ahead Ahead (n + 1) k x low (omega arith) here e).1 in absurd (omega arith))
+    new_not_done Ahead here = near_not Ahead n x
+        (λ k low high e. let differ = (steps_differ Ahead Ahead (n + 1) k x low (omega arith) here e).1 in absurd (omega arith))
     new_not_done Behind here = rw (
-      near_not Ahead (neighbours_in Ahead b d p) x (λ k low high e. let differ = (steps_differ Behind Ahead (n + 1) k x low (omega arith) here e).0 in cc),
-      near_not Behind n x (λ k low high e. let differ = (steps_differ Behind Behind (n + 1) k x low (omega arith) here e).1 in absurd (omega arith)),
+      near_not Ahead (neighbours_in Ahead b d p) x
+          (λ k low high e. let differ = (steps_differ Behind Ahead (n + 1) k x low (omega arith) here e).0 in cc),
+      near_not Behind n x (λ k low high e. let differ = (steps_differ Behind Behind (n + 1) k x low (omega arith) here e).1 in
+          absurd (omega arith)),
     ) refl
 
     or_true : (a c : Bool) → c ≡ true → (a || c) ≡ true
@@ -215,11 +236,13 @@ module _ (d : Axis) (p : Point) where
 
     new_done : (w : Way) → towards w d p (n + 1) ≡ Some x → followed w b d p (n + 1) x ≡ true
     new_done Ahead here = near_yes Ahead (n + 1) (n + 1) x (omega arith) (omega arith) here
-    new_done Behind here = or_true (is_near Ahead d p (neighbours_in Ahead b d p) x) _ (near_yes Behind (n + 1) (n + 1) x (omega arith) (omega arith) here)
+    new_done Behind here = or_true (is_near Ahead d p (neighbours_in Ahead b d p) x) _
+        (near_yes Behind (n + 1) (n + 1) x (omega arith) (omega arith) here)
 
     others_stay : (w : Way) → towards w d p (n + 1) ≡ Some x → (q : Point) → x ≢ q → followed w b d p (n + 1) q ≡ followed w b d p n q
     others_stay Ahead here q other = near_more Ahead n q (λ e. let same : Some x ≡ Some q = sym here ∙ e in other (cc))
-    others_stay Behind here q other = ap (λ r. is_near Ahead d p (neighbours_in Ahead b d p) q || r) (near_more Behind n q (λ e. let same : Some x ≡ Some q = sym here ∙ e in other (cc)))
+    others_stay Behind here q other = ap (λ r. is_near Ahead d p (neighbours_in Ahead b d p) q || r)
+        (near_more Behind n q (λ e. let same : Some x ≡ Some q = sym here ∙ e in other (cc)))
 
 -- ---- the codes of a point, before the change and after it
 
@@ -242,31 +265,41 @@ module _ (rule : RuleKind) (b : Grid) (s : Side) (p : Point) (ok : IsBoard b) (d
   by_white w k = weight w (reach_of rule White) (digit_of_stone s White) k
 
   module _ (w : Way) (k : ℕ) (x : Point) (here : towards w d p k ≡ Some x) (low : 1 ≤ k) (high : k ≤ 5) where
-    near_put : (t : Side) → is_empty b p ≡ true → line_code (reach_of rule t) (put b s p) t d x ≡ line_code (reach_of rule t) b t d x + weight w (reach_of rule t) (digit_of_stone s t) k
+    near_put : (t : Side) → is_empty b p ≡ true → line_code (reach_of rule t) (put b s p) t d x ≡ line_code (reach_of rule t) b t d x
+        + weight w (reach_of rule t) (digit_of_stone s t) k
     near_put t can = code_near b s p ok can w d k x here low high t (reach_of rule t) (reach_cases rule t)
 
-    near_lift : (t : Side) → holds b s p ≡ true → line_code (reach_of rule t) b t d x ≡ line_code (reach_of rule t) (lift b p) t d x + weight w (reach_of rule t) (digit_of_stone s t) k
+    near_lift : (t : Side) → holds b s p ≡ true → line_code (reach_of rule t) b t d x ≡ line_code (reach_of rule t) (lift b p) t d x
+        + weight w (reach_of rule t) (digit_of_stone s t) k
     near_lift t can =
         ap (λ (g : Grid). line_code (reach_of rule t) g t d x) (sym (put-lift b s p can))
-        ∙ code_near (lift b p) s p (IsBoard-lift b p ok) (lift-empty b p ok (and_left (is_on b p) _ can)) w d k x here low high t (reach_of rule t) (reach_cases rule t)
+        ∙ code_near (lift b p) s p (IsBoard-lift b p ok) (lift-empty b p ok (and_left (is_on b p) _ can)) w d k x here low high t
+        (reach_of rule t) (reach_cases rule t)
 
-    pub codes_near : (ch : Change) → can_change ch b s p ≡ true → codes_at rule (changed ch b s p) d x ≡ shifted ch (codes_at rule b d x) (by_black w k) (by_white w k)
+    pub codes_near : (ch : Change) → can_change ch b s p ≡ true
+        → codes_at rule (changed ch b s p) d x ≡ shifted ch (codes_at rule b d x) (by_black w k) (by_white w k)
     codes_near Put can = two_codes _ _ _ _ (near_put Black can) (near_put White can)
-    codes_near Lift can = two_codes _ _ _ _ (let e = near_lift Black can in omega (arith, e)) (let e = near_lift White can in omega (arith, e))
+    codes_near Lift can = two_codes _ _ _ _ (let e = near_lift Black can in omega (arith, e))
+        (let e = near_lift White can in omega (arith, e))
 
-    put_small : (t : Side) → is_empty b p ≡ true → line_code (reach_of rule t) b t d x + weight w (reach_of rule t) (digit_of_stone s t) k < 2 ^ 16
-    put_small t can = subst (λ n. n < 2 ^ 16) (near_put t can) (small _ (reach_of rule t) (reach_cases rule t) (code_low (put b s p) t d x (reach_of rule t) (reach_cases rule t)))
+    put_small : (t : Side) → is_empty b p ≡ true → line_code (reach_of rule t) b t d x + weight w (reach_of rule t) (digit_of_stone s t) k
+        < 2 ^ 16
+    put_small t can = subst (λ n. n < 2 ^ 16) (near_put t can)
+        (small _ (reach_of rule t) (reach_cases rule t) (code_low (put b s p) t d x (reach_of rule t) (reach_cases rule t)))
 
     pub codes_fit : (ch : Change) → can_change ch b s p ≡ true → FitChange ch (codes_at rule b d x) (by_black w k) (by_white w k)
     codes_fit Put can = (put_small Black can, put_small White can)
     codes_fit Lift can = (let e = near_lift Black can in omega (arith, e), let e = near_lift White can in omega (arith, e))
 
-  codes_far : (q : Point) → ((w : Way) (k : ℕ) → 1 ≤ k → k ≤ 5 → towards w d p k ≢ Some q) → (ch : Change) → can_change ch b s p ≡ true → codes_at rule (changed ch b s p) d q ≡ codes_at rule b d q
-  codes_far q far Put can = two_codes _ _ _ _ (code_far b s p ok can d q far Black _ (reach_cases rule Black)) (code_far b s p ok can d q far White _ (reach_cases rule White))
+  codes_far : (q : Point) → ((w : Way) (k : ℕ) → 1 ≤ k → k ≤ 5 → towards w d p k ≢ Some q) → (ch : Change) → can_change ch b s p ≡ true
+      → codes_at rule (changed ch b s p) d q ≡ codes_at rule b d q
+  codes_far q far Put can = two_codes _ _ _ _ (code_far b s p ok can d q far Black _ (reach_cases rule Black))
+      (code_far b s p ok can d q far White _ (reach_cases rule White))
   codes_far q far Lift can = two_codes _ _ _ _ (lifted Black) (lifted White) where
     lifted : (t : Side) → line_code (reach_of rule t) (lift b p) t d q ≡ line_code (reach_of rule t) b t d q
     lifted t =
-        sym (code_far (lift b p) s p (IsBoard-lift b p ok) (lift-empty b p ok (and_left (is_on b p) _ can)) d q far t (reach_of rule t) (reach_cases rule t))
+        sym (code_far (lift b p) s p (IsBoard-lift b p ok) (lift-empty b p ok (and_left (is_on b p) _ can)) d q far t (reach_of rule t)
+        (reach_cases rule t))
         ∙ ap (λ (g : Grid). line_code (reach_of rule t) g t d q) (put-lift b s p can)
 
   -- ---- the list, neighbour by neighbour
@@ -275,16 +308,19 @@ module _ (rule : RuleKind) (b : Grid) (s : Side) (p : Point) (ok : IsBoard b) (d
     abbrev next : Grid
     next = changed ch b s p
 
-    pub follow_middle : (codes : List Codes) → TellsSoFar rule b next d (followed Ahead b d p (neighbours_in Ahead b d p)) codes → TellsSoFar rule b next d (followed Behind b d p 0) codes
+    pub follow_middle : (codes : List Codes) → TellsSoFar rule b next d (followed Ahead b d p (neighbours_in Ahead b d p)) codes
+        → TellsSoFar rule b next d (followed Behind b d p 0) codes
     follow_middle codes h = record {
       size = h.size;
-      told = λ q on. h.told q on ∙ ap (λ r. let g : Grid = cond r next b in Some (codes_at rule g d q)) (or_none (is_near Ahead d p (neighbours_in Ahead b d p) q));
+      told = λ q on. h.told q on ∙ ap (λ r. let g : Grid = cond r next b in Some (codes_at rule g d q))
+          (or_none (is_near Ahead d p (neighbours_in Ahead b d p) q));
     } where
       or_none : (r : Bool) → r ≡ (r || false)
       or_none true = refl
       or_none false = refl
 
-    module _ (w : Way) (n : ℕ) (x : Point) (here : towards w d p (n + 1) ≡ Some x) (on : is_on b x ≡ true) (codes : List Codes) (h : TellsSoFar rule b next d (followed w b d p n) codes) where
+    module _ (w : Way) (n : ℕ) (x : Point) (here : towards w d p (n + 1) ≡ Some x) (on : is_on b x ≡ true) (codes : List Codes)
+        (h : TellsSoFar rule b next d (followed w b d p n) codes) where
       pub follow_read : slice_get codes (place_of b x) ≡ Some (codes_at rule b d x)
       follow_read = h.told x on ∙ ap (λ r. let g : Grid = cond r next b in Some (codes_at rule g d x)) (new_not_done d p b n x w here)
 
@@ -294,17 +330,21 @@ module _ (rule : RuleKind) (b : Grid) (s : Side) (p : Point) (ok : IsBoard b) (d
       written : List Codes
       written = set codes (place_of b x) (codes_at rule next d x)
 
-      get_back : (ys : List Codes) (i : ℕ) (v : Codes) → length ys ≡ length codes → i < length codes → get_or ys i v ≡ v → slice_get ys i ≡ Some v
+      get_back : (ys : List Codes) (i : ℕ) (v : Codes) → length ys ≡ length codes → i < length codes → get_or ys i v ≡ v
+          → slice_get ys i ≡ Some v
       get_back ys i v same low e = slice_get-get_or ys i v (omega arith) ∙ ap Some e
 
       told_here : slice_get written (place_of b x) ≡ Some (codes_at rule next d x)
       unfolding written
-      told_here = get_back _ _ _ (length-set codes (place_of b x) _) fits (get_or-set_same codes (place_of b x) (codes_at rule next d x) _ fits)
+      told_here = get_back _ _ _ (length-set codes (place_of b x) _) fits
+          (get_or-set_same codes (place_of b x) (codes_at rule next d x) _ fits)
 
-      told_there : (q : Point) (v : Codes) → Apart x q → is_on b q ≡ true → slice_get codes (place_of b q) ≡ Some v → slice_get written (place_of b q) ≡ Some v
+      told_there : (q : Point) (v : Codes) → Apart x q → is_on b q ≡ true → slice_get codes (place_of b q) ≡ Some v
+          → slice_get written (place_of b q) ≡ Some v
       unfolding written
       told_there q v apart on_q e = get_back _ _ _ (length-set codes (place_of b x) _) (slice_get_within codes (place_of b q) v e)
-          (get_or-set_other codes (place_of b x) (place_of b q) (codes_at rule next d x) v (places_differ b x q on on_q apart) ∙ get_or_from_slice_get codes (place_of b q) v v e)
+          (get_or-set_other codes (place_of b x) (place_of b q) (codes_at rule next d x) v (places_differ b x q on on_q apart)
+          ∙ get_or_from_slice_get codes (place_of b q) v v e)
 
       apart_not : (q : Point) → Apart x q → x ≢ q
       apart_not q apart e = apart.apart (ap (λ (r : Point). r.x) e) (ap (λ (r : Point). r.y) e)
@@ -314,14 +354,18 @@ module _ (rule : RuleKind) (b : Grid) (s : Side) (p : Point) (ok : IsBoard b) (d
       follow_step = record {
         size = length-set codes (place_of b x) _ ∙ h.size;
         told = λ q on_q. elim (same_or_apart x q) [
-          | inl same ↦ subst (λ (q : Point). slice_get written (place_of b q) ≡ Some (codes_at rule (cond (followed w b d p (n + 1) q) next b) d q)) same
+          | inl same ↦ subst (λ (q : Point). slice_get written (place_of b q) ≡ Some
+              (codes_at rule (cond (followed w b d p (n + 1) q) next b) d q)) same
               (told_here ∙ ap (λ r. let g : Grid = cond r next b in Some (codes_at rule g d x)) (sym (new_done d p b n x w here)))
-          | inr apart ↦ told_there q _ apart on_q (h.told q on_q) ∙ ap (λ r. let g : Grid = cond r next b in Some (codes_at rule g d q)) (sym (others_stay d p b n x w here q (apart_not q apart)))
+          | inr apart ↦ told_there q _ apart on_q (h.told q on_q)
+              ∙ ap (λ r. let g : Grid = cond r next b in Some (codes_at rule g d q))
+              (sym (others_stay d p b n x w here q (apart_not q apart)))
         ];
       }
 
     -- when all neighbours are followed, no other point sees the change
-    left_out : (q : Point) → is_on b q ≡ true → followed Behind b d p (neighbours_in Behind b d p) q ≡ false → codes_at rule next d q ≡ codes_at rule b d q
+    left_out : (q : Point) → is_on b q ≡ true → followed Behind b d p (neighbours_in Behind b d p) q ≡ false
+        → codes_at rule next d q ≡ codes_at rule b d q
     left_out q on h = codes_far q (λ w k low high e. missed w k low high e) ch can where
       no : (w : Way) → is_near w d p (neighbours_in w b d p) q ≡ false
       no Ahead = (or_parts _ _ h).0
@@ -346,13 +390,16 @@ module _ (rule : RuleKind) (b : Grid) (s : Side) (p : Point) (ok : IsBoard b) (d
     on_same Put q = refl
     on_same Lift q = refl
 
-    pub follow_end : (codes : List Codes) → TellsSoFar rule b next d (followed Behind b d p (neighbours_in Behind b d p)) codes → TellsAxis rule next d codes
+    pub follow_end : (codes : List Codes) → TellsSoFar rule b next d (followed Behind b d p (neighbours_in Behind b d p)) codes
+        → TellsAxis rule next d codes
     follow_end codes h = record {
       size = h.size ∙ sym (size_of ch);
       told = λ q on. let on_b : is_on b q ≡ true = sym (on_same ch q) ∙ on in
-          ap (slice_get codes) (place_same ch q) ∙ h.told q on_b ∙ by_test q on_b (followed Behind b d p (neighbours_in Behind b d p) q) refl;
+          ap (slice_get codes) (place_same ch q) ∙ h.told q on_b
+          ∙ by_test q on_b (followed Behind b d p (neighbours_in Behind b d p) q) refl;
     } where
-      by_test : (q : Point) → is_on b q ≡ true → (r : Bool) → followed Behind b d p (neighbours_in Behind b d p) q ≡ r → Some (codes_at rule (cond (followed Behind b d p (neighbours_in Behind b d p) q) next b) d q) ≡ Some (codes_at rule next d q)
+      by_test : (q : Point) → is_on b q ≡ true → (r : Bool) → followed Behind b d p (neighbours_in Behind b d p) q ≡ r
+          → Some (codes_at rule (cond (followed Behind b d p (neighbours_in Behind b d p) q) next b) d q) ≡ Some (codes_at rule next d q)
       by_test q on true e = ap (λ r. let g : Grid = cond r next b in Some (codes_at rule g d q)) e
       by_test q on false e = ap (λ r. let g : Grid = cond r next b in Some (codes_at rule g d q)) e ∙ ap Some (sym (left_out q on e))
 
@@ -365,12 +412,15 @@ weight_at w r digit (suc (suc (suc zero))) low = refl
 weight_at w r digit (suc (suc (suc (suc zero)))) low = refl
 weight_at w r digit (suc (suc (suc (suc (suc k))))) low = absurd (omega arith)
 
-module _ (b : Grid) (p : Point) (ok : IsBoard b) (on : is_on b p ≡ true) (w : Way) (d : Axis) (r : Bool) (s width height most k : ℕ) (way : r ≡ goes_on w d) (wide : width ≡ b.width) (tall : height ≡ b.height) (far : s ≡ stride d width) (left : most ≡ steps_left w d width height p) (more : k < most) where
+module _ (b : Grid) (p : Point) (ok : IsBoard b) (on : is_on b p ≡ true) (w : Way) (d : Axis) (r : Bool) (s width height most k : ℕ)
+    (way : r ≡ goes_on w d) (wide : width ≡ b.width) (tall : height ≡ b.height) (far : s ≡ stride d width)
+    (left : most ≡ steps_left w d width height p) (more : k < most) where
   stepped : StepOn b w d p (k + 1)
   stepped = step_on b p on w d (k + 1) (let same = left_by b w d p most width height wide tall left in omega arith)
 
   walked : Walked r (p.y * width + p.x) ((k + 1) * s) (place_of b stepped.0)
-  walked = walked_to b p stepped.0 d w (k + 1) width s r way wide far (place_walk b p stepped.0 (k + 1) (let low = ok.wide in omega arith) w d stepped.1)
+  walked = walked_to b p stepped.0 d w (k + 1) width s r way wide far
+      (place_walk b p stepped.0 (k + 1) (let low = ok.wide in omega arith) w d stepped.1)
 
   pub back : r ≡ false → (k + 1) * s ≤ p.y * width + p.x
   back h = Walked-back r (p.y * width + p.x) ((k + 1) * s) (place_of b stepped.0) walked h
@@ -379,14 +429,16 @@ module _ (b : Grid) (p : Point) (ok : IsBoard b) (on : is_on b p ≡ true) (w : 
     place_is : place ≡ place_of b stepped.0
     place_is = here ∙ sym (Walked-place r (p.y * width + p.x) ((k + 1) * s) (place_of b stepped.0) walked)
 
-    module _ (rule : RuleKind) (side : Side) (ch : Change) (can : can_change ch b side p ≡ true) (codes : List Codes) (h : TellsSoFar rule b (changed ch b side p) d (followed w b d p k) codes) where
+    module _ (rule : RuleKind) (side : Side) (ch : Change) (can : can_change ch b side p ≡ true) (codes : List Codes)
+        (h : TellsSoFar rule b (changed ch b side p) d (followed w b d p k) codes) where
       read : slice_get codes (place_of b stepped.0) ≡ Some (codes_at rule b d stepped.0)
       read = follow_read rule b side p ok d ch can w k stepped.0 stepped.1 stepped.2 codes h
 
       pub place_within : place < length codes
       place_within = rw place_is (slice_get_within codes (place_of b stepped.0) _ read)
 
-      module _ (black white : List ℕ) (as_black : black ≡ weights_to w (reach_of rule Black) (digit_of_stone side Black)) (as_white : white ≡ weights_to w (reach_of rule White) (digit_of_stone side White)) (low : k < 5) (other : Codes) where
+      module _ (black white : List ℕ) (as_black : black ≡ weights_to w (reach_of rule Black) (digit_of_stone side Black))
+          (as_white : white ≡ weights_to w (reach_of rule White) (digit_of_stone side White)) (low : k < 5) (other : Codes) where
         read_is : get_or codes place other ≡ codes_at rule b d stepped.0
         read_is = rw place_is (get_or_from_slice_get codes (place_of b stepped.0) _ other read)
 
@@ -397,10 +449,14 @@ module _ (b : Grid) (p : Point) (ok : IsBoard b) (on : is_on b p ≡ true) (w : 
         white_is = ap (λ xs. get_or xs k 0) as_white ∙ weight_at w _ _ k low
 
         pub change_fits : FitChange ch (get_or codes place other) (get_or black k 0) (get_or white k 0)
-        change_fits = rw (read_is, black_is, white_is) (codes_fit rule b side p ok d w (k + 1) stepped.0 stepped.1 (omega arith) (omega arith) ch can)
+        change_fits = rw (read_is, black_is, white_is)
+            (codes_fit rule b side p ok d w (k + 1) stepped.0 stepped.1 (omega arith) (omega arith) ch can)
 
-        now_is : (v : Codes) → v ≡ shifted ch (get_or codes place other) (get_or black k 0) (get_or white k 0) → v ≡ codes_at rule (changed ch b side p) d stepped.0
-        now_is v e = e ∙ rw (read_is, black_is, white_is) (sym (codes_near rule b side p ok d w (k + 1) stepped.0 stepped.1 (omega arith) (omega arith) ch can))
+        now_is : (v : Codes) → v ≡ shifted ch (get_or codes place other) (get_or black k 0) (get_or white k 0)
+            → v ≡ codes_at rule (changed ch b side p) d stepped.0
+        now_is v e = e ∙ rw (read_is, black_is, white_is)
+            (sym (codes_near rule b side p ok d w (k + 1) stepped.0 stepped.1 (omega arith) (omega arith) ch can))
 
-        pub step_followed : (v : Codes) → v ≡ shifted ch (get_or codes place other) (get_or black k 0) (get_or white k 0) → TellsSoFar rule b (changed ch b side p) d (followed w b d p (k + 1)) (slice_set codes place v)
+        pub step_followed : (v : Codes) → v ≡ shifted ch (get_or codes place other) (get_or black k 0) (get_or white k 0)
+            → TellsSoFar rule b (changed ch b side p) d (followed w b d p (k + 1)) (slice_set codes place v)
         step_followed v e = rw (place_is, now_is v e) (follow_step rule b side p ok d ch can w k stepped.0 stepped.1 stepped.2 codes h)

@@ -1,5 +1,6 @@
 -- The codes of all lines through the points of a board.
-use Rattle.std.specs.Prelude.{◌≡◌, ℕ, ◌+◌, ◌-◌, ◌*◌, ◌^◌, ◌<◌, ◌≤◌, min, Bool, true, ◌||◌, nat_le, if◌then◌else◌, List, map, length, Some, slice_get}
+use Rattle.std.specs.Prelude.{◌≡◌, ℕ, ◌+◌, ◌-◌, ◌*◌, ◌^◌, ◌<◌, ◌≤◌, min, Bool, true, ◌||◌, nat_le, if◌then◌else◌, List, map, length, Some}
+use Rattle.std.specs.Prelude.{slice_get}
 use Rattle.std.specs.List.{list_any, range_with_len}
 use Rattle.game_rules.specs.Grid.{Grid, IsBoard, is_on, is_empty, holds, place_of, put, lift}
 use Rattle.game_rules.specs.declared.RuleKind.{RuleKind}

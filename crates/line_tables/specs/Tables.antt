@@ -49,5 +49,7 @@ pub record TellsButEnds (rule : RuleKind) (b : Grid) (s : Side) (p : Point) (k :
   pub test : Point → Bool
   pub listed : points ≡ filter test (points_of b)
   pub fits : b.width * b.height ≤ room
-  pub right : (q : Point) → is_on b q ≡ true → ((d : Axis) (w : Way) → k ≤ end_number d w → is_end b s d w p q ≡ false) → test q ≡ five rule b s q
-  pub only : (d : Axis) (w : Way) (q : Point) → k ≤ end_number d w → is_end b s d w p q ≡ true → test q ≡ false → five rule b s q ≡ wins_on rule b s d q
+  pub right : (q : Point) → is_on b q ≡ true → ((d : Axis) (w : Way) → k ≤ end_number d w → is_end b s d w p q ≡ false)
+      → test q ≡ five rule b s q
+  pub only : (d : Axis) (w : Way) (q : Point) → k ≤ end_number d w → is_end b s d w p q ≡ true → test q ≡ false
+      → five rule b s q ≡ wins_on rule b s d q

@@ -4,7 +4,8 @@ use Rattle.std.specs.List.{AllByRecursion}
 use Rattle.game_rules.specs.Grid.{Grid, IsBoard, is_on}
 use Rattle.game_rules.specs.declared.Point.{Point}
 use Rattle.game_rules.proofs.Boards.{on_x, on_y}
-use Rattle.strategy_graph.specs.Tables.{Answers, answers_of, is_winning, rest_node, names_below, IsNode, IsTable, TableOnBoard, NamesOnBoard, RepliesOn}
+use Rattle.strategy_graph.specs.Tables.{Answers, answers_of, is_winning, rest_node, names_below, IsNode, IsTable, TableOnBoard}
+use Rattle.strategy_graph.specs.Tables.{NamesOnBoard, RepliesOn}
 use Rattle.strategy_graph.specs.declared.Reply.{Reply}
 use Rattle.strategy_graph.specs.declared.Rest.{Rest}
 use Rattle.strategy_graph.specs.declared.Rest.TheVariants.{To}
@@ -17,19 +18,27 @@ use Rattle.position_files.proofs.Common.{IsSide, AnswersFit, NodeFits, ReplyFits
 use Rattle.position_files.proofs.Stones.{is_on_within}
 
 pub corner_on : (b : Grid) → IsBoard b → NamesOnBoard b corner
-corner_on b ok = record { attack = is_on_within b (record { x = 0; y = 0 }) (record { column = let w = ok.wide in omega (arith, w); row = let h = ok.high in omega (arith, h) }); replies = tt }
+corner_on b ok = record {
+  attack = is_on_within b (record { x = 0; y = 0 })
+      (record { column = let w = ok.wide in omega (arith, w); row = let h = ok.high in omega (arith, h) });
+  replies = tt;
+}
 
 corner_fits : (width height : ℕ) → IsSide width → IsSide height → NodeFits width height corner
 corner_fits width height wide high =
     let w = wide.long in
     let h = high.long in
-    record { attack = record { column = omega (arith, w); row = omega (arith, h) }; answers = record { replies = tt; rest = tt; winning = λ wins. refl } }
+    record {
+      attack = record { column = omega (arith, w); row = omega (arith, h) };
+      answers = record { replies = tt; rest = tt; winning = λ wins. refl };
+    }
 
 corners_fit : (width height m : ℕ) → IsSide width → IsSide height → AllByRecursion (NodeFits width height) (replicate m corner)
 corners_fit width height zero wide high = tt
 corners_fit width height (suc m) wide high = (corner_fits width height wide high, corners_fit width height m wide high)
 
-pub filled_fit : (width height m : ℕ) (nodes : List Node) → IsSide width → IsSide height → AllByRecursion (NodeFits width height) nodes → AllByRecursion (NodeFits width height) (nodes ++ replicate m corner)
+pub filled_fit : (width height m : ℕ) (nodes : List Node) → IsSide width → IsSide height → AllByRecursion (NodeFits width height) nodes
+    → AllByRecursion (NodeFits width height) (nodes ++ replicate m corner)
 filled_fit width height m [] wide high all = corners_fit width height m wide high
 filled_fit width height m (n ∷ ns) wide high all = (all.0, filled_fit width height m ns wide high all.1)
 
@@ -51,7 +60,8 @@ rest_fits : (r : Rest) (k : ℕ) → k ≤ MAX_NODES → ((j : ℕ) → rest_nod
 rest_fits (To j) k few h = let low : j < k = h j refl in omega (arith, low, few)
 rest_fits _ k few h = tt
 
-pub answers_fit : (b : Grid) (a : Answers) (k : ℕ) → RepliesOn b a.replies → names_below a k ≡ true → k ≤ MAX_NODES → (is_winning a.rest ≡ true → a.replies ≡ []) → AnswersFit b.width b.height a
+pub answers_fit : (b : Grid) (a : Answers) (k : ℕ) → RepliesOn b a.replies → names_below a k ≡ true → k ≤ MAX_NODES
+    → (is_winning a.rest ≡ true → a.replies ≡ []) → AnswersFit b.width b.height a
 answers_fit b a k on_it below few winning =
     let none : Reply = record { at = record { x = 0; y = 0 }; next = 0 } in
     record {

@@ -18,7 +18,8 @@ use Rattle.text_lines.proofs.Leaving.{HasParts, leaves_after}
 use Rattle.text_lines.proofs.Badness.{first_bad, too_many}
 use Rattle.position_files.proofs.BoardLines.{board-free, board-length, board_lines-injective, least_side}
 use Rattle.foul_judge.specs.declared.position.PositionError.{PositionError}
-use Rattle.position_files.proofs.Common.{board_lines, position_text, IsTextOfPosition, IsPositionText, IsBoardLines, IsSectionFault, IsPositionFault, after_lines, in_file}
+use Rattle.position_files.proofs.Common.{board_lines, position_text, IsTextOfPosition, IsPositionText, IsBoardLines, IsSectionFault}
+use Rattle.position_files.proofs.Common.{IsPositionFault, after_lines, in_file}
 
 -- ---- the lines of a position
 
@@ -59,7 +60,9 @@ head_part = record {
 pub one_position : (file other : PositionFile) (bytes : List ℕ) → IsTextOfPosition file bytes → IsTextOfPosition other bytes → other ≡ file
 unfolding position_text
 one_position file other bytes a b =
-    let lines = text_of-injective (codes "renju-position 1" ∷ board_lines other.kind other.board) (codes "renju-position 1" ∷ board_lines file.kind file.board) (refl, board-free other.kind other.board b.board) (refl, board-free file.kind file.board a.board) (sym b.spelled ∙ a.spelled) in
+    let lines = text_of-injective (codes "renju-position 1" ∷ board_lines other.kind other.board)
+    (codes "renju-position 1" ∷ board_lines file.kind file.board) (refl, board-free other.kind other.board b.board)
+    (refl, board-free file.kind file.board a.board) (sym b.spelled ∙ a.spelled) in
     let same = board_lines-injective other.kind file.kind other.board file.board b.board a.board (let f = lines in cc) in
     let kind = same.0 in
     let board = same.1 in
@@ -67,10 +70,13 @@ one_position file other bytes a b =
 
 -- ---- whole texts
 
-pub position_found : (kind : RuleKind) (b found : Grid) (bytes rest tail : List ℕ) → IsBoard b → bytes ≡ codes "renju-position 1" ++ line_feed ∷ rest → rest ≡ text_of (board_lines kind b) ++ tail → tail ≡ [] → found ≡ b → IsTextOfPosition (record { kind = kind; board = found }) bytes
+pub position_found : (kind : RuleKind) (b found : Grid) (bytes rest tail : List ℕ) → IsBoard b
+    → bytes ≡ codes "renju-position 1" ++ line_feed ∷ rest → rest ≡ text_of (board_lines kind b) ++ tail → tail ≡ [] → found ≡ b
+    → IsTextOfPosition (record { kind = kind; board = found }) bytes
 unfolding position_text
 position_found kind b found bytes rest tail ok e1 e2 e3 same =
-    let made : IsTextOfPosition (record { kind = kind; board = b }) bytes = record { board = ok; spelled = whole_text (codes "renju-position 1") (board_lines kind b) bytes rest tail e1 e2 e3 } in
+    let made : IsTextOfPosition (record { kind = kind; board = b }) bytes =
+    record { board = ok; spelled = whole_text (codes "renju-position 1") (board_lines kind b) bytes rest tail e1 e2 e3 } in
     subst (λ (g : Grid). IsTextOfPosition (record { kind = kind; board = g }) bytes) (sym same) made
 
 -- ---- the faults
@@ -85,15 +91,18 @@ module _ (bytes : List ℕ) where
     enough = omega arith;
     so_far = refl;
     no_further = λ ls others is e.
-        let whole : bytes ≡ text_of (codes "renju-position 1" ∷ []) ++ others = subst (λ (l : List (List ℕ)). bytes ≡ text_of (take 1 l) ++ others) is.3 e in
+        let whole : bytes ≡ text_of (codes "renju-position 1" ∷ []) ++ others =
+        subst (λ (l : List (List ℕ)). bytes ≡ text_of (take 1 l) ++ others) is.3 e in
         none others (whole ∙ sym (text_of-cons (codes "renju-position 1") [] others));
   })
 
   module _ (rest : List ℕ) (e : bytes ≡ codes "renju-position 1" ++ line_feed ∷ rest) where
     pub board_fault : (error : HeadError) → IsSectionFault IsBoardLines rest error → IsPositionFault bytes (in_file (after_lines 1 error))
     board_fault (BadHead n) h =
-        let leaves = leaves_after (codes "renju-position 1" ∷ []) IsBoardLines IsPositionLines head_part bytes rest h.0 (e ∙ text_of-cons (codes "renju-position 1") [] rest) h.2 in
-        subst (FirstBad IsPositionText bytes) (let is = h.1 in omega (arith, is)) (first_bad IsPositionText IsPositionLines lines-free lines_of text_from bytes (1 + h.0) leaves)
+        let leaves = leaves_after (codes "renju-position 1" ∷ []) IsBoardLines IsPositionLines head_part bytes rest h.0
+        (e ∙ text_of-cons (codes "renju-position 1") [] rest) h.2 in
+        subst (FirstBad IsPositionText bytes) (let is = h.1 in omega (arith, is))
+        (first_bad IsPositionText IsPositionLines lines-free lines_of text_from bytes (1 + h.0) leaves)
     board_fault NoRoom h = tt
 
     module _ (kind : RuleKind) (b : Grid) (tail : List ℕ) (ok : IsBoard b) (lines : rest ≡ text_of (board_lines kind b) ++ tail) where
@@ -102,10 +111,15 @@ module _ (bytes : List ℕ) where
       more_lines_than_five more =
           let all : List (List ℕ) = codes "renju-position 1" ∷ board_lines kind b in
           let count = board-length kind b in
-          let found = too_many IsPositionText IsPositionLines lines-free lines_of text_from bytes tail all (kind, b, ok, refl) (e ∙ ap (λ (l : List ℕ). codes "renju-position 1" ++ line_feed ∷ l) lines ∙ text_of-cons (codes "renju-position 1") (board_lines kind b) tail) more
+          let found = too_many IsPositionText IsPositionLines lines-free lines_of text_from bytes tail all (kind, b, ok, refl)
+          (e ∙ ap (λ (l : List ℕ). codes "renju-position 1" ++ line_feed ∷ l) lines
+          ∙ text_of-cons (codes "renju-position 1") (board_lines kind b) tail) more
           (λ lt others is f. let other = board-length is.0 is.1 in let len = ap length is.3 in omega (arith, count, other, len)) in
           subst (FirstBad IsPositionText bytes) (omega (arith, count)) found
 
 -- the board of a position that is not lawful
-pub unlawful_fault : (file : PositionFile) (bytes : List ℕ) (why : PositionError) → IsTextOfPosition file bytes → refusal file.kind file.board ≡ Some why → IsPositionText bytes × ((other : PositionFile) → IsTextOfPosition other bytes → refusal other.kind other.board ≡ Some why)
-unlawful_fault file bytes why text first = ((file, text), λ other is. ap (λ (f : PositionFile). refusal f.kind f.board) (one_position file other bytes text is) ∙ first)
+pub unlawful_fault : (file : PositionFile) (bytes : List ℕ) (why : PositionError) → IsTextOfPosition file bytes
+    → refusal file.kind file.board ≡ Some why → IsPositionText bytes
+    × ((other : PositionFile) → IsTextOfPosition other bytes → refusal other.kind other.board ≡ Some why)
+unlawful_fault file bytes why text first =
+    ((file, text), λ other is. ap (λ (f : PositionFile). refusal f.kind f.board) (one_position file other bytes text is) ∙ first)

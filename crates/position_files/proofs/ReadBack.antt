@@ -29,19 +29,24 @@ use Rattle.position_files.specs.declared.error.GameError.{GameError}
 use Rattle.position_files.specs.declared.error.GameError.TheVariants.{BadLine as BadGame, Unlawful as UnlawfulGame, Memory as NoGame}
 use Rattle.position_files.specs.Games.{IsTextOfGame}
 use Rattle.position_files.proofs.GameLaws.{one_game}
-use Rattle.position_files.proofs.Common.{IsTextOfPosition, board_lines, IsTextOfTable, node_line, start_line, IsPositionFault, IsTableFault, HeadsReadBack, NamesFirstBad, NodesNameFirstBad, NodesReadBack, PositionsReadBack, StartsNameFirstBad, StartsReadBack, TablesReadBack, AreNodeLines, IsBoardLines, IsSectionFault, IsStartLines}
+use Rattle.position_files.proofs.Common.{IsTextOfPosition, board_lines, IsTextOfTable, node_line, start_line, IsPositionFault, IsTableFault}
+use Rattle.position_files.proofs.Common.{HeadsReadBack, NamesFirstBad, NodesNameFirstBad, NodesReadBack, PositionsReadBack}
+use Rattle.position_files.proofs.Common.{StartsNameFirstBad, StartsReadBack, TablesReadBack, AreNodeLines, IsBoardLines, IsSectionFault}
+use Rattle.position_files.proofs.Common.{IsStartLines}
 
 -- nothing is said against a lawful position
 not-unlawful : (kind : RuleKind) (b : Grid) (why : PositionError) → IsPosition kind b → refusal kind b ≡ Some why → ⊥
 not-unlawful kind b why lawful says = let no : None ≡ Some why = sym (none_from_lawful kind b lawful) ∙ says in cc
 
-position-fault : (file : PositionFile) (bytes : List ℕ) → IsTextOfPosition file bytes → IsPosition file.kind file.board → (error : FileError) → IsPositionFault bytes error → error ≡ Memory
+position-fault : (file : PositionFile) (bytes : List ℕ) → IsTextOfPosition file bytes → IsPosition file.kind file.board
+    → (error : FileError) → IsPositionFault bytes error → error ≡ Memory
 position-fault file bytes text lawful (BadLine n) h = absurd (h.no_further bytes (file, text) refl)
 position-fault file bytes text lawful (Unlawful why) h = absurd (not-unlawful file.kind file.board why lawful (h.1 file text))
 position-fault file bytes text lawful (WrongMoves written counted) h = absurd h
 position-fault file bytes text lawful Memory h = refl
 
-table-fault : (file : TableFile) (bytes : List ℕ) → IsTextOfTable file bytes → IsPosition file.kind file.board → file.moves ≡ root_depth file.table file.root → (error : FileError) → IsTableFault bytes error → error ≡ Memory
+table-fault : (file : TableFile) (bytes : List ℕ) → IsTextOfTable file bytes → IsPosition file.kind file.board
+    → file.moves ≡ root_depth file.table file.root → (error : FileError) → IsTableFault bytes error → error ≡ Memory
 table-fault file bytes text lawful moves (BadLine n) h = absurd (h.no_further bytes (file, text) refl)
 table-fault file bytes text lawful moves (Unlawful why) h = absurd (not-unlawful file.kind file.board why lawful (h.1 file text))
 table-fault file bytes text lawful moves (WrongMoves written counted) h =
@@ -63,7 +68,8 @@ table-read-back file bytes text lawful moves = record {
   no_fault = table-fault file bytes text lawful moves;
 }
 
-game-fault : (file : GameFile) (bytes : List ℕ) → IsTextOfGame file bytes → IsPosition file.kind file.board → (error : GameError) → IsGameFault bytes error → error ≡ NoGame
+game-fault : (file : GameFile) (bytes : List ℕ) → IsTextOfGame file bytes → IsPosition file.kind file.board → (error : GameError)
+    → IsGameFault bytes error → error ≡ NoGame
 game-fault file bytes text lawful (BadGame n) h = absurd (h.no_further bytes (file, text) refl)
 game-fault file bytes text lawful (UnlawfulGame why) h = absurd (not-unlawful file.kind file.board why lawful (h.1 file text))
 game-fault file bytes text lawful NoGame h = refl
@@ -77,7 +83,8 @@ game-read-back file bytes text lawful = record {
 
 -- ---- sections
 
-section-fault : (IsLines : List (List ℕ) → Type 0) (ls : List (List ℕ)) (bytes rest : List ℕ) → IsLines ls → bytes ≡ text_of ls ++ rest → (error : HeadError) → IsSectionFault IsLines bytes error → error ≡ NoRoom
+section-fault : (IsLines : List (List ℕ) → Type 0) (ls : List (List ℕ)) (bytes rest : List ℕ) → IsLines ls → bytes ≡ text_of ls ++ rest
+    → (error : HeadError) → IsSectionFault IsLines bytes error → error ≡ NoRoom
 section-fault IsLines ls bytes rest are e (BadHead n) h = absurd (not_left IsLines ls bytes rest h.0 are e h.2)
 section-fault IsLines ls bytes rest are e NoRoom h = refl
 
@@ -85,34 +92,43 @@ section-fault IsLines ls bytes rest are e NoRoom h = refl
 pub head-read-back : HeadsReadBack
 head-read-back head bytes is = record {
   no_other = λ other there. one_head head other bytes is there;
-  no_fault = section-fault IsBoardLines (board_lines head.kind head.board) bytes (drop head.taken bytes) (head.kind, head.board, is.board, refl) (front_parts (text_of (board_lines head.kind head.board)) bytes head.taken is.front);
+  no_fault = section-fault IsBoardLines (board_lines head.kind head.board) bytes (drop head.taken bytes)
+      (head.kind, head.board, is.board, refl) (front_parts (text_of (board_lines head.kind head.board)) bytes head.taken is.front);
 }
 
 -- bytes that begin with the lines of so many nodes are read as these nodes
 pub nodes-read-back : NodesReadBack
 nodes-read-back width height count found bytes wide high is = record {
   no_other = λ other there. one_list width height wide high count found other bytes is there;
-  no_fault = section-fault (AreNodeLines width height count) (map node_line found.table) bytes (drop found.taken bytes) (found.table, is.nodes, refl) (front_parts (text_of (map node_line found.table)) bytes found.taken is.front);
+  no_fault = section-fault (AreNodeLines width height count) (map node_line found.table) bytes (drop found.taken bytes)
+      (found.table, is.nodes, refl) (front_parts (text_of (map node_line found.table)) bytes found.taken is.front);
 }
 
 -- bytes that begin with the line of a start are read as that start
 pub start-read-back : StartsReadBack
 start-read-back width height below found bytes wide high is = record {
   no_other = λ other there. one_start width height wide high below found other bytes is there;
-  no_fault = section-fault (IsStartLines width height below) (start_line found.start ∷ []) bytes (drop found.taken bytes) (found.start, is.start, refl)
+  no_fault = section-fault (IsStartLines width height below) (start_line found.start ∷ []) bytes (drop found.taken bytes)
+      (found.start, is.start, refl)
       (start_parts width height below found bytes is ∙ text_of-cons (start_line found.start) [] (drop found.taken bytes));
 }
 
 -- ---- the first bad line of a section
 
-names_first : (IsLines : List (List ℕ) → Type 0) (m : ℕ) → ((ls : List (List ℕ)) → IsLines ls → AreFree ls) → ((ls : List (List ℕ)) → IsLines ls → length ls ≡ m) → NamesFirstBad IsLines
-names_first IsLines m free count bytes n h = subst (FirstBad (BeginsWith IsLines) bytes) (sym h.1) (front_bad IsLines m free count bytes h.0 h.2)
+names_first : (IsLines : List (List ℕ) → Type 0) (m : ℕ) → ((ls : List (List ℕ)) → IsLines ls → AreFree ls)
+    → ((ls : List (List ℕ)) → IsLines ls → length ls ≡ m) → NamesFirstBad IsLines
+names_first IsLines m free count bytes n h = subst (FirstBad (BeginsWith IsLines) bytes) (sym h.1)
+    (front_bad IsLines m free count bytes h.0 h.2)
 
 pub heads-first-bad : NamesFirstBad IsBoardLines
-heads-first-bad = names_first IsBoardLines 4 (λ ls is. subst AreFree (sym is.3) (board-free is.0 is.1 is.2)) (λ ls is. ap length is.3 ∙ board-length is.0 is.1)
+heads-first-bad = names_first IsBoardLines 4 (λ ls is. subst AreFree (sym is.3) (board-free is.0 is.1 is.2))
+    (λ ls is. ap length is.3 ∙ board-length is.0 is.1)
 
 pub nodes-first-bad : NodesNameFirstBad
-nodes-first-bad width height count wide high = names_first (AreNodeLines width height count) count (λ ls is. subst AreFree (sym is.2) (node_lines-free width height wide high is.0 is.1.fit)) (λ ls is. ap length is.2 ∙ length-map is.0 node_line ∙ is.1.counted)
+nodes-first-bad width height count wide high = names_first (AreNodeLines width height count) count
+    (λ ls is. subst AreFree (sym is.2) (node_lines-free width height wide high is.0 is.1.fit))
+    (λ ls is. ap length is.2 ∙ length-map is.0 node_line ∙ is.1.counted)
 
 pub starts-first-bad : StartsNameFirstBad
-starts-first-bad width height below wide high = names_first (IsStartLines width height below) 1 (λ ls is. subst AreFree (sym is.2) (start_line-free width height wide high below is.0 is.1, tt)) (λ ls is. ap length is.2)
+starts-first-bad width height below wide high = names_first (IsStartLines width height below) 1
+    (λ ls is. subst AreFree (sym is.2) (start_line-free width height wide high below is.0 is.1, tt)) (λ ls is. ap length is.2)

@@ -1,6 +1,7 @@
 -- What bytes begin with is one head, one list of nodes, or one start. Lines that are those of no node. Nodes that are read one after
 -- another.
-use Rattle.std.proofs.Common.{◌≡◌, ℕ, sym, ap, ◌∙◌, List, [], ◌∷◌, ◌++◌, length, map, append_assoc, codes, ◌+◌, ◌-◌, ◌≤◌, ◌<◌, true, refl, subst, arith, ◌^◌, inl, take, drop, replicate, get_or, Err}
+use Rattle.std.proofs.Common.{◌≡◌, ℕ, sym, ap, ◌∙◌, List, [], ◌∷◌, ◌++◌, length, map, append_assoc, codes, ◌+◌, ◌-◌, ◌≤◌, ◌<◌, true, refl}
+use Rattle.std.proofs.Common.{subst, arith, ◌^◌, inl, take, drop, replicate, get_or, Err}
 use Rattle.std.specs.List.{AllByRecursion}
 use Rattle.std.specs.Fmt.{decimal}
 use Rattle.std.proofs.lemmas.List.Concat.{flat_map-append}
@@ -26,7 +27,9 @@ use Rattle.strategy_graph.proofs.Filling.{corner, filled_table, filled_length, n
 use Rattle.position_files.specs.declared.sections.Head.{Head}
 use Rattle.position_files.specs.declared.sections.Nodes.{Nodes}
 use Rattle.position_files.specs.declared.sections.StartLine.{StartLine}
-use Rattle.position_files.proofs.Common.{board_lines, node_line, nodes_lines, NodeFits, ReplyFits, at_line, after_lines, IsSide, AreNodes, AreNodeLines, IsSectionFault, StartFits, answers_text, start_line, IsHeadOf, IsNodesOf, IsStartLines, IsStartOf}
+use Rattle.position_files.proofs.Common.{board_lines, node_line, nodes_lines, NodeFits, ReplyFits, at_line, after_lines, IsSide, AreNodes}
+use Rattle.position_files.proofs.Common.{AreNodeLines, IsSectionFault, StartFits, answers_text, start_line, IsHeadOf, IsNodesOf}
+use Rattle.position_files.proofs.Common.{IsStartLines, IsStartOf}
 use Rattle.position_files.specs.declared.error.HeadError.{HeadError}
 use Rattle.position_files.specs.declared.error.HeadError.TheVariants.{BadLine, Memory as NoRoom}
 use Rattle.position_files.proofs.Stones.{is_on_within}
@@ -52,17 +55,22 @@ replies_on b (r ∷ rs) all = (is_on_within b r.at all.0.at, replies_on b rs all
 
 pub nodes_on : (b : Grid) (ns : List Node) → AllByRecursion (NodeFits b.width b.height) ns → TableOnBoard b ns
 nodes_on b [] all = tt
-nodes_on b (n ∷ ns) all = (record { attack = is_on_within b n.attack all.0.attack; replies = replies_on b n.replies all.0.answers.replies }, nodes_on b ns all.1)
+nodes_on b (n ∷ ns) all =
+    (record { attack = is_on_within b n.attack all.0.attack; replies = replies_on b n.replies all.0.answers.replies }, nodes_on b ns all.1)
 
-pub body_text : (kind : RuleKind) (b : Grid) (nodes : List Node) (moves count : ℕ) (bytes r1 r2 r3 rest : List ℕ) → bytes ≡ text_of (board_lines kind b) ++ r1 → r1 ≡ (codes "moves " ++ decimal moves) ++ line_feed ∷ r2 → r2 ≡ (codes "nodes " ++ decimal count) ++ line_feed ∷ r3 → length nodes ≡ count → r3 ≡ text_of (map node_line nodes) ++ rest
+pub body_text : (kind : RuleKind) (b : Grid) (nodes : List Node) (moves count : ℕ) (bytes r1 r2 r3 rest : List ℕ)
+    → bytes ≡ text_of (board_lines kind b) ++ r1 → r1 ≡ (codes "moves " ++ decimal moves) ++ line_feed ∷ r2
+    → r2 ≡ (codes "nodes " ++ decimal count) ++ line_feed ∷ r3 → length nodes ≡ count → r3 ≡ text_of (map node_line nodes) ++ rest
     → bytes ≡ text_of (board_lines kind b ++ nodes_lines nodes moves) ++ rest
 unfolding nodes_lines
 body_text kind b nodes moves count bytes r1 r2 r3 rest e1 e2 e3 len e4 =
     let m = codes "moves " ++ decimal moves in
     let k : List ℕ = codes "nodes " ++ decimal (length nodes) in
     let l2 : r2 ≡ text_of (k ∷ map node_line nodes) ++ rest =
-    e3 ∙ ap (λ n. (codes "nodes " ++ decimal n) ++ line_feed ∷ r3) (sym len) ∙ ap (λ (l : List ℕ). k ++ line_feed ∷ l) e4 ∙ text_of-cons k (map node_line nodes) rest in
-    let l1 : r1 ≡ text_of (m ∷ k ∷ map node_line nodes) ++ rest = e2 ∙ ap (λ (l : List ℕ). m ++ line_feed ∷ l) l2 ∙ text_of-cons m (k ∷ map node_line nodes) rest in
+    e3 ∙ ap (λ n. (codes "nodes " ++ decimal n) ++ line_feed ∷ r3) (sym len) ∙ ap (λ (l : List ℕ). k ++ line_feed ∷ l) e4
+    ∙ text_of-cons k (map node_line nodes) rest in
+    let l1 : r1 ≡ text_of (m ∷ k ∷ map node_line nodes) ++ rest =
+    e2 ∙ ap (λ (l : List ℕ). m ++ line_feed ∷ l) l2 ∙ text_of-cons m (k ∷ map node_line nodes) rest in
     e1 ∙ ap (λ (l : List ℕ). text_of (board_lines kind b) ++ l) l1
     ∙ sym (append_assoc (text_of (board_lines kind b)) (text_of (m ∷ k ∷ map node_line nodes)) rest)
     ∙ ap (λ (l : List ℕ). l ++ rest) (sym (flat_map-append ended (board_lines kind b) (m ∷ k ∷ map node_line nodes)))
@@ -70,16 +78,21 @@ body_text kind b nodes moves count bytes r1 r2 r3 rest e1 e2 e3 len e4 =
 module _ (width height : ℕ) (wide : IsSide width) (high : IsSide height) (bytes : List ℕ) where
   module _ (text rest : List ℕ) (free : is_free line_feed text ≡ true) (line : bytes ≡ text ++ line_feed ∷ rest) where
     spelled : (n : Node) (others : List ℕ) → NodeFits width height n → bytes ≡ node_line n ++ line_feed ∷ others → text ≡ node_line n
-    spelled n others fits e = (same_line text rest (node_line n) others free (node_line-free width height wide high n fits) (sym line ∙ e)).0
+    spelled n others fits e =
+        (same_line text rest (node_line n) others free (node_line-free width height wide high n fits) (sym line ∙ e)).0
 
-    pub bad_node : (fault : Fault) → fault ≡ Bad → Gives (NodeFits width height) node_line (Err fault) text → (n : Node) (others : List ℕ) → NodeFits width height n → bytes ≡ node_line n ++ line_feed ∷ others → ⊥
+    pub bad_node : (fault : Fault) → fault ≡ Bad → Gives (NodeFits width height) node_line (Err fault) text → (n : Node) (others : List ℕ)
+        → NodeFits width height n → bytes ≡ node_line n ++ line_feed ∷ others → ⊥
     bad_node fault is h n others fits e = gives_bad (NodeFits width height) node_line fault text is h n fits (spelled n others fits e)
 
-    pub same_node : (found n : Node) (others : List ℕ) → NodeFits width height found → text ≡ node_line found → NodeFits width height n → bytes ≡ node_line n ++ line_feed ∷ others → n ≡ found
-    same_node found n others fits_found is fits e = node_line-injective width height wide high n found fits fits_found (sym (spelled n others fits e) ∙ is)
+    pub same_node : (found n : Node) (others : List ℕ) → NodeFits width height found → text ≡ node_line found → NodeFits width height n
+        → bytes ≡ node_line n ++ line_feed ∷ others → n ≡ found
+    same_node found n others fits_found is fits e = node_line-injective width height wide high n found fits fits_found
+        (sym (spelled n others fits e) ∙ is)
 
 -- lines spell one list of nodes
-pub nodes_injective : (width height : ℕ) → IsSide width → IsSide height → (ns ms : List Node) → AllByRecursion (NodeFits width height) ns → AllByRecursion (NodeFits width height) ms → map node_line ns ≡ map node_line ms → ns ≡ ms
+pub nodes_injective : (width height : ℕ) → IsSide width → IsSide height → (ns ms : List Node) → AllByRecursion (NodeFits width height) ns
+    → AllByRecursion (NodeFits width height) ms → map node_line ns ≡ map node_line ms → ns ≡ ms
 nodes_injective width height wide high [] [] fn fm e = refl
 nodes_injective width height wide high [] (m ∷ ms) fn fm e = absurd cc
 nodes_injective width height wide high (n ∷ ns) [] fn fm e = absurd cc
@@ -100,11 +113,14 @@ pub record NodesEnd (width height count : ℕ) (bytes : List ℕ) (j : ℕ) : Ty
   pub fewer : j < count
   pub none : (n : Node) (others : List ℕ) → NodeFits width height n → IsNode n j → rest ≡ node_line n ++ line_feed ∷ others → ⊥
 
-pub node_lines-free : (width height : ℕ) → IsSide width → IsSide height → (ns : List Node) → AllByRecursion (NodeFits width height) ns → AreFree (map node_line ns)
+pub node_lines-free : (width height : ℕ) → IsSide width → IsSide height → (ns : List Node) → AllByRecursion (NodeFits width height) ns
+    → AreFree (map node_line ns)
 node_lines-free width height wide high [] all = tt
-node_lines-free width height wide high (n ∷ ns) all = (node_line-free width height wide high n all.0, node_lines-free width height wide high ns all.1)
+node_lines-free width height wide high (n ∷ ns) all =
+    (node_line-free width height wide high n all.0, node_lines-free width height wide high ns all.1)
 
-module _ (width height count : ℕ) (wide : IsSide width) (high : IsSide height) (few : count ≤ MAX_NODES) (bytes : List ℕ) (j : ℕ) (end : NodesEnd width height count bytes j) where
+module _ (width height count : ℕ) (wide : IsSide width) (high : IsSide height) (few : count ≤ MAX_NODES) (bytes : List ℕ) (j : ℕ)
+    (end : NodesEnd width height count bytes j) where
   -- the nodes that are read, and nodes that win at once up to the number that is asked
   all_nodes : List Node
   all_nodes = end.nodes ++ replicate (count - j) corner
@@ -131,7 +147,8 @@ module _ (width height count : ℕ) (wide : IsSide width) (high : IsSide height)
       ∙ take-append_seam (map node_line end.nodes) added
 
   -- no other nodes have one more line there
-  no_next_node : (ns : List Node) (others : List ℕ) → AreNodes width height count ns → bytes ≡ text_of (take (j + 1) (map node_line ns)) ++ others → ⊥
+  no_next_node : (ns : List Node) (others : List ℕ) → AreNodes width height count ns
+      → bytes ≡ text_of (take (j + 1) (map node_line ns)) ++ others → ⊥
   no_next_node ns others are e =
       let n : Node = get_or ns j corner in
       let within : j < length ns = let c = are.counted in let fewer = end.fewer in omega (arith, c, fewer) in
@@ -143,7 +160,8 @@ module _ (width height count : ℕ) (wide : IsSide width) (high : IsSide height)
       e ∙ ap (λ (l : List (List ℕ)). text_of l ++ others) more ∙ sym (text_of-push (take j (map node_line ns)) (node_line n) others) in
       let lengths : length (map node_line end.nodes) ≡ length (take j (map node_line ns)) =
       length-map end.nodes node_line ∙ end.read.counted ∙ sym (length-take-le j (map node_line ns) (omega (arith, within, count_lines))) in
-      let same = same_lines (map node_line end.nodes) (take j (map node_line ns)) end.rest (node_line n ++ line_feed ∷ others) (node_lines-free width height wide high end.nodes end.read.fit)
+      let same = same_lines (map node_line end.nodes) (take j (map node_line ns)) end.rest (node_line n ++ line_feed ∷ others)
+      (node_lines-free width height wide high end.nodes end.read.fit)
       (free_take j (map node_line ns) (node_lines-free width height wide high ns are.fit)) lengths (sym end.read.text ∙ whole) in
       end.none n others (all_at (NodeFits width height) ns j corner are.fit within) (node_at ns j are.table within) same.1
 
@@ -152,13 +170,16 @@ module _ (width height count : ℕ) (wide : IsSide width) (high : IsSide height)
     lines = map node_line all_nodes;
     rest = end.rest;
     are = (all_nodes, are_all, refl);
-    enough = let lines = length-map all_nodes node_line in let all = are_all.counted in let fewer = end.fewer in omega (arith, lines, all, fewer);
+    enough = let lines = length-map all_nodes node_line in let all = are_all.counted in let fewer =
+        end.fewer in omega (arith, lines, all, fewer);
     so_far = end.read.text ∙ ap (λ (l : List (List ℕ)). text_of l ++ end.rest) (sym known_nodes);
     no_further = λ ls others is e. no_next_node is.0 others is.1 (e ∙ ap (λ (l : List (List ℕ)). text_of (take (j + 1) l) ++ others) is.2);
   }
 
-pub nodes_fault : (width height count : ℕ) (nodes : List Node) (j : ℕ) (bytes rest : List ℕ) (fault : Fault) → IsSide width → IsSide height → AreRead width height nodes j bytes rest → IsTable nodes → j < count → count ≤ MAX_NODES
-    → (fault ≡ Bad → (n : Node) (others : List ℕ) → NodeFits width height n → IsNode n (length nodes) → length nodes < MAX_NODES → rest ≡ node_line n ++ line_feed ∷ others → ⊥) → IsSectionFault (AreNodeLines width height count) bytes (at_line fault (j + 1))
+pub nodes_fault : (width height count : ℕ) (nodes : List Node) (j : ℕ) (bytes rest : List ℕ) (fault : Fault) → IsSide width → IsSide height
+    → AreRead width height nodes j bytes rest → IsTable nodes → j < count → count ≤ MAX_NODES
+    → (fault ≡ Bad → (n : Node) (others : List ℕ) → NodeFits width height n → IsNode n (length nodes) → length nodes < MAX_NODES
+    → rest ≡ node_line n ++ line_feed ∷ others → ⊥) → IsSectionFault (AreNodeLines width height count) bytes (at_line fault (j + 1))
 nodes_fault width height count nodes j bytes rest Bad wide high read table fewer few none = (
   j,
   refl,
@@ -168,7 +189,8 @@ nodes_fault width height count nodes j bytes rest Bad wide high read table fewer
     table = table;
     read = read;
     fewer = fewer;
-    none = λ n others fits is e. none refl n others fits (subst (IsNode n) (sym read.counted) is) (let c = read.counted in omega (arith, c)) e;
+    none = λ n others fits is e. none refl n others fits (subst (IsNode n) (sym read.counted) is) (let c = read.counted in omega (arith, c))
+        e;
   }),
 )
 nodes_fault width height count nodes j bytes rest Memory wide high read table fewer few none = tt
@@ -178,39 +200,55 @@ pub one_head : (head other : Head) (bytes : List ℕ) → IsHeadOf head bytes �
 one_head head other bytes h k =
     let here = front_parts (text_of (board_lines head.kind head.board)) bytes head.taken h.front in
     let there = front_parts (text_of (board_lines other.kind other.board)) bytes other.taken k.front in
-    let count : length (board_lines other.kind other.board) ≡ length (board_lines head.kind head.board) = board-length other.kind other.board ∙ sym (board-length head.kind head.board) in
-    let same = same_lines (board_lines other.kind other.board) (board_lines head.kind head.board) (drop other.taken bytes) (drop head.taken bytes) (board-free other.kind other.board k.board) (board-free head.kind head.board h.board) count (sym there ∙ here) in
+    let count : length (board_lines other.kind other.board) ≡ length (board_lines head.kind head.board) =
+    board-length other.kind other.board ∙ sym (board-length head.kind head.board) in
+    let same = same_lines (board_lines other.kind other.board) (board_lines head.kind head.board) (drop other.taken bytes)
+    (drop head.taken bytes) (board-free other.kind other.board k.board) (board-free head.kind head.board h.board) count
+    (sym there ∙ here) in
     let boards = board_lines-injective other.kind head.kind other.board head.board k.board h.board same.0 in
     let kind = boards.0 in
     let board = boards.1 in
     let taken : other.taken ≡ head.taken =
-    front_length (text_of (board_lines other.kind other.board)) bytes other.taken k.front ∙ ap (λ (l : List (List ℕ)). length (text_of l)) same.0 ∙ sym (front_length (text_of (board_lines head.kind head.board)) bytes head.taken h.front) in
+    front_length (text_of (board_lines other.kind other.board)) bytes other.taken k.front
+    ∙ ap (λ (l : List (List ℕ)). length (text_of l)) same.0
+    ∙ sym (front_length (text_of (board_lines head.kind head.board)) bytes head.taken h.front) in
     λ i. record { kind = kind i; board = board i; taken = taken i }
 
 module _ (width height : ℕ) (wide : IsSide width) (high : IsSide height) where
   -- bytes begin with one list of so many nodes
-  pub one_list : (count : ℕ) (found other : Nodes) (bytes : List ℕ) → IsNodesOf width height count found bytes → IsNodesOf width height count other bytes → other ≡ found
+  pub one_list : (count : ℕ) (found other : Nodes) (bytes : List ℕ) → IsNodesOf width height count found bytes
+      → IsNodesOf width height count other bytes → other ≡ found
   one_list count found other bytes h k =
       let here = front_parts (text_of (map node_line found.table)) bytes found.taken h.front in
       let there = front_parts (text_of (map node_line other.table)) bytes other.taken k.front in
-      let lengths : length (map node_line other.table) ≡ length (map node_line found.table) = length-map other.table node_line ∙ k.nodes.counted ∙ sym (length-map found.table node_line ∙ h.nodes.counted) in
-      let same = same_lines (map node_line other.table) (map node_line found.table) (drop other.taken bytes) (drop found.taken bytes) (node_lines-free width height wide high other.table k.nodes.fit) (node_lines-free width height wide high found.table h.nodes.fit) lengths (sym there ∙ here) in
+      let lengths : length (map node_line other.table) ≡ length (map node_line found.table) =
+      length-map other.table node_line ∙ k.nodes.counted ∙ sym (length-map found.table node_line ∙ h.nodes.counted) in
+      let same = same_lines (map node_line other.table) (map node_line found.table) (drop other.taken bytes) (drop found.taken bytes)
+      (node_lines-free width height wide high other.table k.nodes.fit) (node_lines-free width height wide high found.table h.nodes.fit)
+      lengths (sym there ∙ here) in
       let table = nodes_injective width height wide high other.table found.table k.nodes.fit h.nodes.fit same.0 in
       let taken : other.taken ≡ found.taken =
-      front_length (text_of (map node_line other.table)) bytes other.taken k.front ∙ ap (λ (l : List (List ℕ)). length (text_of l)) same.0 ∙ sym (front_length (text_of (map node_line found.table)) bytes found.taken h.front) in
+      front_length (text_of (map node_line other.table)) bytes other.taken k.front ∙ ap (λ (l : List (List ℕ)). length (text_of l)) same.0
+      ∙ sym (front_length (text_of (map node_line found.table)) bytes found.taken h.front) in
       λ i. record { table = table i; taken = taken i }
 
   -- bytes begin with the line of one start
-  pub one_start : (below : ℕ) (found other : StartLine) (bytes : List ℕ) → IsStartOf width height below found bytes → IsStartOf width height below other bytes → other ≡ found
+  pub one_start : (below : ℕ) (found other : StartLine) (bytes : List ℕ) → IsStartOf width height below found bytes
+      → IsStartOf width height below other bytes → other ≡ found
   one_start below found other bytes h k =
-      let here = front_parts (ended (start_line found.start)) bytes found.taken h.front ∙ append_assoc (start_line found.start) (line_feed ∷ []) (drop found.taken bytes) in
-      let there = front_parts (ended (start_line other.start)) bytes other.taken k.front ∙ append_assoc (start_line other.start) (line_feed ∷ []) (drop other.taken bytes) in
+      let here = front_parts (ended (start_line found.start)) bytes found.taken h.front
+      ∙ append_assoc (start_line found.start) (line_feed ∷ []) (drop found.taken bytes) in
+      let there = front_parts (ended (start_line other.start)) bytes other.taken k.front
+      ∙ append_assoc (start_line other.start) (line_feed ∷ []) (drop other.taken bytes) in
       let same = same_line (start_line other.start) (drop other.taken bytes) (start_line found.start) (drop found.taken bytes)
-      (start_line-free width height wide high below other.start k.start) (start_line-free width height wide high below found.start h.start) (sym there ∙ here) in
-      let text : answers_text other.start ≡ answers_text found.start = append_cancel_left (codes "start ") (answers_text other.start) (answers_text found.start) same.0 in
+      (start_line-free width height wide high below other.start k.start) (start_line-free width height wide high below found.start h.start)
+      (sym there ∙ here) in
+      let text : answers_text other.start ≡ answers_text found.start =
+      append_cancel_left (codes "start ") (answers_text other.start) (answers_text found.start) same.0 in
       let start = answers_text-injective width height wide high other.start found.start k.start.answers h.start.answers text in
       let taken : other.taken ≡ found.taken =
-      front_length (ended (start_line other.start)) bytes other.taken k.front ∙ ap (λ (l : List ℕ). length (ended l)) same.0 ∙ sym (front_length (ended (start_line found.start)) bytes found.taken h.front) in
+      front_length (ended (start_line other.start)) bytes other.taken k.front ∙ ap (λ (l : List ℕ). length (ended l)) same.0
+      ∙ sym (front_length (ended (start_line found.start)) bytes found.taken h.front) in
       λ i. record { start = start i; taken = taken i }
 
 -- ---- the line of a start
@@ -228,31 +266,41 @@ only_fits width height len = record {
 }
 
 -- the first line is that of the start
-pub start_found : (width height below : ℕ) (a : Answers) (bytes rest : List ℕ) → StartFits width height below a → bytes ≡ start_line a ++ line_feed ∷ rest → IsStartOf width height below (record { start = a; taken = length bytes - length rest }) bytes
+pub start_found : (width height below : ℕ) (a : Answers) (bytes rest : List ℕ) → StartFits width height below a
+    → bytes ≡ start_line a ++ line_feed ∷ rest → IsStartOf width height below (record { start = a; taken = length bytes - length rest })
+    bytes
 start_found width height below a bytes rest fits e = record {
   start = fits;
   front = front_taken (ended (start_line a)) bytes rest (e ∙ sym (append_assoc (start_line a) (line_feed ∷ []) rest));
 }
 
 -- the first line is that of none
-pub start_left : (width height below : ℕ) (bytes : List ℕ) (fault : Fault) → GivesLine (StartFits width height below) start_line (Err fault) bytes → IsSectionFault (IsStartLines width height below) bytes (at_line fault 1)
-start_left width height below bytes Bad none = (0, refl, leaves_first (StartFits width height below) start_line bytes only_start (only_fits width height below) none)
+pub start_left : (width height below : ℕ) (bytes : List ℕ) (fault : Fault)
+    → GivesLine (StartFits width height below) start_line (Err fault) bytes
+    → IsSectionFault (IsStartLines width height below) bytes (at_line fault 1)
+start_left width height below bytes Bad none =
+    (0, refl, leaves_first (StartFits width height below) start_line bytes only_start (only_fits width height below) none)
 start_left width height below bytes Memory none = tt
 
 -- the start of the first line, and what comes after the line
-pub start_parts : (width height below : ℕ) (found : StartLine) (bytes : List ℕ) → IsStartOf width height below found bytes → bytes ≡ start_line found.start ++ line_feed ∷ drop found.taken bytes
-start_parts width height below found bytes h = front_parts (ended (start_line found.start)) bytes found.taken h.front ∙ append_assoc (start_line found.start) (line_feed ∷ []) (drop found.taken bytes)
+pub start_parts : (width height below : ℕ) (found : StartLine) (bytes : List ℕ) → IsStartOf width height below found bytes
+    → bytes ≡ start_line found.start ++ line_feed ∷ drop found.taken bytes
+start_parts width height below found bytes h = front_parts (ended (start_line found.start)) bytes found.taken h.front
+    ∙ append_assoc (start_line found.start) (line_feed ∷ []) (drop found.taken bytes)
 
 -- ---- where bytes leave a section that is a part of another
 
 -- a fault of a part, said of the whole
-pub fault_after : (front : List (List ℕ)) (IsPart IsAll : List (List ℕ) → Type 0) → HasParts front IsPart IsAll → (bytes rest : List ℕ) (lines : ℕ) → lines ≡ length front → bytes ≡ text_of front ++ rest → (error : HeadError) → IsSectionFault IsPart rest error → IsSectionFault IsAll bytes (after_lines lines error)
+pub fault_after : (front : List (List ℕ)) (IsPart IsAll : List (List ℕ) → Type 0) → HasParts front IsPart IsAll
+    → (bytes rest : List ℕ) (lines : ℕ) → lines ≡ length front → bytes ≡ text_of front ++ rest → (error : HeadError)
+    → IsSectionFault IsPart rest error → IsSectionFault IsAll bytes (after_lines lines error)
 fault_after front IsPart IsAll has bytes rest lines count e (BadLine n) h =
     (length front + h.0, (let is = h.1 in omega (arith, is, count)), leaves_after front IsPart IsAll has bytes rest h.0 e h.2)
 fault_after front IsPart IsAll has bytes rest lines count e NoRoom h = tt
 
 -- a fault of a part at the front is one of the whole
-pub fault_in : (IsPart IsAll : List (List ℕ) → Type 0) → HasParts [] IsPart IsAll → (bytes : List ℕ) (error : HeadError) → IsSectionFault IsPart bytes error → IsSectionFault IsAll bytes error
+pub fault_in : (IsPart IsAll : List (List ℕ) → Type 0) → HasParts [] IsPart IsAll → (bytes : List ℕ) (error : HeadError)
+    → IsSectionFault IsPart bytes error → IsSectionFault IsAll bytes error
 fault_in IsPart IsAll has bytes (BadLine n) h =
     (h.0, h.1, subst (LeavesAt IsAll bytes) (omega arith) (leaves_after [] IsPart IsAll has bytes bytes h.0 refl h.2))
 fault_in IsPart IsAll has bytes NoRoom h = tt

@@ -1,5 +1,6 @@
 -- Rules and sizes are spelled in one way.
-use Rattle.std.proofs.Common.{◌≡◌, ℕ, ◌^◌, ◌<◌, Bool, true, false, cond, refl, sym, ◌∙◌, arith, List, ◌∷◌, ◌++◌, eqb, inl, Option, Some, None}
+use Rattle.std.proofs.Common.{◌≡◌, ℕ, ◌^◌, ◌<◌, Bool, true, false, cond, refl, sym, ◌∙◌, arith, List, ◌∷◌, ◌++◌, eqb, inl, Option, Some}
+use Rattle.std.proofs.Common.{None}
 use Rattle.std.specs.Fmt.{decimal}
 use Rattle.std.proofs.lemmas.Bool.{eqb-true, eq-eqb, false≢true}
 use Rattle.std.proofs.lemmas.Fmt.{decimal_injective}
@@ -25,16 +26,20 @@ size_tail width height = cond (eqb width height) None (Some (decimal height))
 size_words : (width height : ℕ) → size_text width height ≡ decimal width ++ tail_text comma (size_tail width height)
 unfolding size_tail
 size_words width height = by_test (eqb width height) where
-  by_test : (r : Bool) → cond r (decimal width) (pair_text width height) ≡ decimal width ++ tail_text comma (cond r None (Some (decimal height)))
+  by_test : (r : Bool) → cond r (decimal width) (pair_text width height) ≡ decimal width
+      ++ tail_text comma (cond r None (Some (decimal height)))
   by_test true = sym (append-nil (decimal width))
   by_test false = refl
 
-size_parts : (bytes a : List ℕ) (t : Option (List ℕ)) (sides : ℕ × ℕ) → AreSides sides → bytes ≡ a ++ tail_text comma t → is_free comma a ≡ true → bytes ≡ size_text sides.0 sides.1 → (a ≡ decimal sides.0) × (t ≡ size_tail sides.0 sides.1)
+size_parts : (bytes a : List ℕ) (t : Option (List ℕ)) (sides : ℕ × ℕ) → AreSides sides → bytes ≡ a ++ tail_text comma t
+    → is_free comma a ≡ true → bytes ≡ size_text sides.0 sides.1 → (a ≡ decimal sides.0) × (t ≡ size_tail sides.0 sides.1)
 size_parts bytes a t sides fit parts free e =
     let fits = fit.width.fits in
-    same_word comma a t (decimal sides.0) (size_tail sides.0 sides.1) free (decimal-free comma sides.0 (inl (omega arith)) (omega (arith, fits))) (sym parts ∙ e ∙ size_words sides.0 sides.1)
+    same_word comma a t (decimal sides.0) (size_tail sides.0 sides.1) free
+    (decimal-free comma sides.0 (inl (omega arith)) (omega (arith, fits))) (sym parts ∙ e ∙ size_words sides.0 sides.1)
 
-pub bad_width : (bytes a : List ℕ) (t : Option (List ℕ)) → bytes ≡ a ++ tail_text comma t → is_free comma a ≡ true → ((v : ℕ) → IsSide v → a ≡ decimal v → ⊥) → (sides : ℕ × ℕ) → AreSides sides → bytes ≡ size_text sides.0 sides.1 → ⊥
+pub bad_width : (bytes a : List ℕ) (t : Option (List ℕ)) → bytes ≡ a ++ tail_text comma t → is_free comma a ≡ true
+    → ((v : ℕ) → IsSide v → a ≡ decimal v → ⊥) → (sides : ℕ × ℕ) → AreSides sides → bytes ≡ size_text sides.0 sides.1 → ⊥
 bad_width bytes a t parts free none sides fit e = none sides.0 fit.width (size_parts bytes a t sides fit parts free e).0
 
 tail_is : (width height : ℕ) (r : List ℕ) → Some r ≡ size_tail width height → (width ≡ height → ⊥) × (r ≡ decimal height)
@@ -44,13 +49,15 @@ tail_is width height r e = by_test (eqb width height) refl e where
   by_test true t h = absurd cc
   by_test false t h = ((λ same. false≢true (sym t ∙ eq-eqb width height same)), cc)
 
-pub bad_height : (bytes a r : List ℕ) → bytes ≡ a ++ comma ∷ r → is_free comma a ≡ true → ((v : ℕ) → IsSide v → r ≡ decimal v → ⊥) → (sides : ℕ × ℕ) → AreSides sides → bytes ≡ size_text sides.0 sides.1 → ⊥
+pub bad_height : (bytes a r : List ℕ) → bytes ≡ a ++ comma ∷ r → is_free comma a ≡ true → ((v : ℕ) → IsSide v → r ≡ decimal v → ⊥)
+    → (sides : ℕ × ℕ) → AreSides sides → bytes ≡ size_text sides.0 sides.1 → ⊥
 bad_height bytes a r parts free none sides fit e =
     let words = size_parts bytes a (Some r) sides fit parts free e in
     none sides.1 fit.height (tail_is sides.0 sides.1 r words.1).1
 
 -- one number is not spelled twice
-pub bad_square : (bytes a r : List ℕ) (side : ℕ) → IsSide side → bytes ≡ a ++ comma ∷ r → is_free comma a ≡ true → a ≡ decimal side → r ≡ decimal side → (sides : ℕ × ℕ) → AreSides sides → bytes ≡ size_text sides.0 sides.1 → ⊥
+pub bad_square : (bytes a r : List ℕ) (side : ℕ) → IsSide side → bytes ≡ a ++ comma ∷ r → is_free comma a ≡ true → a ≡ decimal side
+    → r ≡ decimal side → (sides : ℕ × ℕ) → AreSides sides → bytes ≡ size_text sides.0 sides.1 → ⊥
 bad_square bytes a r side is_side parts free width height sides fit e =
     let words = size_parts bytes a (Some r) sides fit parts free e in
     let tail = tail_is sides.0 sides.1 r words.1 in
@@ -82,7 +89,8 @@ size_text-injective a b fa fb e =
     let a1 = fa.height.fits in
     let b0 = fb.width.fits in
     let b1 = fb.height.fits in
-    let words = size_parts (size_text a.0 a.1) (decimal a.0) (size_tail a.0 a.1) b fb (size_words a.0 a.1) (decimal-free comma a.0 (inl (omega arith)) (omega (arith, a0))) e in
+    let words = size_parts (size_text a.0 a.1) (decimal a.0) (size_tail a.0 a.1) b fb (size_words a.0 a.1)
+    (decimal-free comma a.0 (inl (omega arith)) (omega (arith, a0))) e in
     let width : a.0 ≡ b.0 = decimal_injective a.0 b.0 (omega (arith, a0)) (omega (arith, b0)) words.0 in
     (width, same_height a.0 a.1 b.0 b.1 width (omega (arith, a1)) (omega (arith, b1)) words.1)
 
@@ -96,8 +104,10 @@ pub size-free : (sides : ℕ × ℕ) → AreSides sides → is_free line_feed (s
 size-free sides fits =
     let w = fits.width.fits in
     let h = fits.height.fits in
-    by_test (eqb sides.0 sides.1) (decimal-free line_feed sides.0 (inl (omega arith)) (omega (arith, w))) (pair-free sides.0 sides.1 (omega (arith, w)) (omega (arith, h)))
+    by_test (eqb sides.0 sides.1) (decimal-free line_feed sides.0 (inl (omega arith)) (omega (arith, w)))
+    (pair-free sides.0 sides.1 (omega (arith, w)) (omega (arith, h)))
   where
-    by_test : (r : Bool) → is_free line_feed (decimal sides.0) ≡ true → is_free line_feed (pair_text sides.0 sides.1) ≡ true → is_free line_feed (cond r (decimal sides.0) (pair_text sides.0 sides.1)) ≡ true
+    by_test : (r : Bool) → is_free line_feed (decimal sides.0) ≡ true → is_free line_feed (pair_text sides.0 sides.1) ≡ true
+        → is_free line_feed (cond r (decimal sides.0) (pair_text sides.0 sides.1)) ≡ true
     by_test true a b = a
     by_test false a b = b

@@ -42,5 +42,6 @@ IsBodyLines least ls = (body : Body) × BodyFits least body × IsTable body.tabl
 abbrev pub IsFinishFault : Body → Root → FileError → Type 0
 IsFinishFault body root (BadLine n) = ⊥
 IsFinishFault body root (Unlawful why) = refusal body.kind body.board ≡ Some why
-IsFinishFault body root (WrongMoves written counted) = IsPosition body.kind body.board × (written ≡ body.moves) × (counted ≡ root_depth body.table root) × (written ≡ counted → ⊥)
+IsFinishFault body root (WrongMoves written counted) =
+    IsPosition body.kind body.board × (written ≡ body.moves) × (counted ≡ root_depth body.table root) × (written ≡ counted → ⊥)
 IsFinishFault body root Memory = Unit {0}

@@ -48,7 +48,8 @@ IsUpTo most NoRoom = Unit {0}
 -- text, and why its board is no lawful position; or that there is no memory.
 abbrev pub IsPositionFault : List ℕ → FileError → Type 0
 IsPositionFault bytes (BadLine n) = FirstBad IsPositionText bytes n
-IsPositionFault bytes (Unlawful why) = IsPositionText bytes × ((file : PositionFile) → IsTextOfPosition file bytes → refusal file.kind file.board ≡ Some why)
+IsPositionFault bytes (Unlawful why) = IsPositionText bytes
+    × ((file : PositionFile) → IsTextOfPosition file bytes → refusal file.kind file.board ≡ Some why)
 IsPositionFault bytes (WrongMoves written counted) = ⊥
 IsPositionFault bytes NoMemory = Unit {0}
 
@@ -56,7 +57,8 @@ IsPositionFault bytes NoMemory = Unit {0}
 -- text, and why its board is no lawful position; or that there is no memory.
 abbrev pub IsGameFault : List ℕ → GameError → Type 0
 IsGameFault bytes (BadGame n) = FirstBad IsGameText bytes n
-IsGameFault bytes (UnlawfulGame why) = IsGameText bytes × ((file : GameFile) → IsTextOfGame file bytes → refusal file.kind file.board ≡ Some why)
+IsGameFault bytes (UnlawfulGame why) = IsGameText bytes
+    × ((file : GameFile) → IsTextOfGame file bytes → refusal file.kind file.board ≡ Some why)
 IsGameFault bytes NoGame = Unit {0}
 
 -- the position of the file is lawful, and these are the number of moves that it says and the depth of its root, which differ
@@ -70,6 +72,8 @@ pub record IsMiscounted (file : TableFile) (written counted : ℕ) : Type 0 wher
 -- and why its board is no lawful position, or both numbers of moves; or that there is no memory.
 abbrev pub IsTableFault : List ℕ → FileError → Type 0
 IsTableFault bytes (BadLine n) = FirstBad IsTableText bytes n
-IsTableFault bytes (Unlawful why) = IsTableText bytes × ((file : TableFile) → IsTextOfTable file bytes → refusal file.kind file.board ≡ Some why)
-IsTableFault bytes (WrongMoves written counted) = IsTableText bytes × ((file : TableFile) → IsTextOfTable file bytes → IsMiscounted file written counted)
+IsTableFault bytes (Unlawful why) = IsTableText bytes
+    × ((file : TableFile) → IsTextOfTable file bytes → refusal file.kind file.board ≡ Some why)
+IsTableFault bytes (WrongMoves written counted) = IsTableText bytes
+    × ((file : TableFile) → IsTextOfTable file bytes → IsMiscounted file written counted)
 IsTableFault bytes NoMemory = Unit {0}

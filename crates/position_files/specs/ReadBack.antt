@@ -39,12 +39,14 @@ pub record OnlyGame (file : GameFile) (bytes : List ℕ) : Type 0 where
 
 -- the text of a lawful position is read back as that position
 abbrev pub PositionsReadBack : Type 0
-PositionsReadBack = (file : PositionFile) (bytes : List ℕ) → IsTextOfPosition file bytes → IsPosition file.kind file.board → OnlyPosition file bytes
+PositionsReadBack = (file : PositionFile) (bytes : List ℕ) → IsTextOfPosition file bytes → IsPosition file.kind file.board
+    → OnlyPosition file bytes
 
 -- the text of a table at a lawful position, whose moves are the depth of its root, is read back as that table
 abbrev pub TablesReadBack : Type 0
 TablesReadBack =
-    (file : TableFile) (bytes : List ℕ) → IsTextOfTable file bytes → IsPosition file.kind file.board → file.moves ≡ root_depth file.table file.root → OnlyTable file bytes
+    (file : TableFile) (bytes : List ℕ) → IsTextOfTable file bytes → IsPosition file.kind file.board
+    → file.moves ≡ root_depth file.table file.root → OnlyTable file bytes
 
 -- the text of a game from a lawful position is read back as that game
 abbrev pub GamesReadBack : Type 0
@@ -72,12 +74,14 @@ HeadsReadBack = (head : Head) (bytes : List ℕ) → IsHeadOf head bytes → Onl
 -- bytes that begin with the lines of so many nodes are read as these nodes
 abbrev pub NodesReadBack : Type 0
 NodesReadBack =
-    (width height count : ℕ) (found : Nodes) (bytes : List ℕ) → IsSide width → IsSide height → IsNodesOf width height count found bytes → OnlyNodes width height count found bytes
+    (width height count : ℕ) (found : Nodes) (bytes : List ℕ) → IsSide width → IsSide height → IsNodesOf width height count found bytes
+    → OnlyNodes width height count found bytes
 
 -- bytes that begin with the line of a start are read as that start
 abbrev pub StartsReadBack : Type 0
 StartsReadBack =
-    (width height below : ℕ) (found : StartLine) (bytes : List ℕ) → IsSide width → IsSide height → IsStartOf width height below found bytes → OnlyStart width height below found bytes
+    (width height below : ℕ) (found : StartLine) (bytes : List ℕ) → IsSide width → IsSide height → IsStartOf width height below found bytes
+    → OnlyStart width height below found bytes
 
 -- what is said of bad lines at the front of bytes is said of the first bad line of the texts that begin with such lines
 abbrev pub NamesFirstBad : (List (List ℕ) → Type 0) → Type 0

@@ -1,5 +1,6 @@
 -- The bytes of a board, and what they tell of it.
-use Rattle.std.proofs.Common.{◌≡◌, ℕ, zero, suc, ◌+◌, ◌*◌, ◌<◌, ◌≤◌, ◌/◌, ◌%◌, List, length, get_or, set, replicate, length-set, get_or-set_other, get_or-set_same, below_more, inl, inr, refl, sym, ap, subst, ◌∙◌, arith, lit<}
+use Rattle.std.proofs.Common.{◌≡◌, ℕ, zero, suc, ◌+◌, ◌*◌, ◌<◌, ◌≤◌, ◌/◌, ◌%◌, List, length, get_or, set, replicate, length-set}
+use Rattle.std.proofs.Common.{get_or-set_other, get_or-set_same, below_more, inl, inr, refl, sym, ap, subst, ◌∙◌, arith, lit<}
 use Rattle.std.proofs.lemmas.Bool.{cases_lt}
 use Rattle.std.proofs.lemmas.List.{ext_get_or, get_or_past, get_or-replicate, length-replicate}
 use Rattle.std.proofs.lemmas.List.FromFn.{fill_by_all, get_or-map-range_with_len}
@@ -23,7 +24,8 @@ byte_at-past cells k past =
     omega arith
 
 -- a list of 256 bytes that has each byte of the cells is the bytes of the cells
-pub bytes_of-fill : (bytes : List ℕ) (cells : List Cell) → length bytes ≡ 256 → ((k : ℕ) → k < 256 → get_or bytes k 0 ≡ byte_at cells k) → bytes ≡ bytes_of cells
+pub bytes_of-fill : (bytes : List ℕ) (cells : List Cell) → length bytes ≡ 256 → ((k : ℕ) → k < 256 → get_or bytes k 0 ≡ byte_at cells k)
+    → bytes ≡ bytes_of cells
 unfolding bytes_of
 bytes_of-fill bytes cells long each = fill_by_all (byte_at cells) bytes 256 0 long each
 
@@ -55,7 +57,8 @@ pub record AreSameFour (a b c d w x y z : ℕ) : Type 0 where
   pub third : c ≡ y
   pub fourth : d ≡ z
 
-four_told : (a b c d w x y z : ℕ) → a < 4 → b < 4 → c < 4 → w < 4 → x < 4 → y < 4 → a + 4 * b + 16 * c + 64 * d ≡ w + 4 * x + 16 * y + 64 * z → AreSameFour a b c d w x y z
+four_told : (a b c d w x y z : ℕ) → a < 4 → b < 4 → c < 4 → w < 4 → x < 4 → y < 4
+    → a + 4 * b + 16 * c + 64 * d ≡ w + 4 * x + 16 * y + 64 * z → AreSameFour a b c d w x y z
 four_told a b c d w x y z ha hb hc hw hx hy e = record {
   first = omega arith;
   second = omega arith;
@@ -63,9 +66,13 @@ four_told a b c d w x y z ha hb hc hw hx hy e = record {
   fourth = omega arith;
 }
 
-byte_told : (s t : List Cell) (k : ℕ) → byte_at s k ≡ byte_at t k → AreSameFour (code_at s (4 * k)) (code_at s (4 * k + 1)) (code_at s (4 * k + 2)) (code_at s (4 * k + 3)) (code_at t (4 * k)) (code_at t (4 * k + 1)) (code_at t (4 * k + 2)) (code_at t (4 * k + 3))
+byte_told : (s t : List Cell) (k : ℕ) → byte_at s k ≡ byte_at t k
+    → AreSameFour (code_at s (4 * k)) (code_at s (4 * k + 1)) (code_at s (4 * k + 2)) (code_at s (4 * k + 3)) (code_at t (4 * k))
+    (code_at t (4 * k + 1)) (code_at t (4 * k + 2)) (code_at t (4 * k + 3))
 byte_told s t k e =
-    four_told (code_at s (4 * k)) (code_at s (4 * k + 1)) (code_at s (4 * k + 2)) (code_at s (4 * k + 3)) (code_at t (4 * k)) (code_at t (4 * k + 1)) (code_at t (4 * k + 2)) (code_at t (4 * k + 3)) (code_of-small _) (code_of-small _) (code_of-small _) (code_of-small _) (code_of-small _) (code_of-small _) e
+    four_told (code_at s (4 * k)) (code_at s (4 * k + 1)) (code_at s (4 * k + 2)) (code_at s (4 * k + 3)) (code_at t (4 * k))
+    (code_at t (4 * k + 1)) (code_at t (4 * k + 2)) (code_at t (4 * k + 3)) (code_of-small _) (code_of-small _) (code_of-small _)
+    (code_of-small _) (code_of-small _) (code_of-small _) e
 
 told_at : (s t : List Cell) (k r : ℕ) → r < 4 → byte_at s k ≡ byte_at t k → code_at s (4 * k + r) ≡ code_at t (4 * k + r)
 told_at s t k zero below e = let none : 4 * k + 0 ≡ 4 * k = omega arith in rw none (byte_told s t k e).first

@@ -1,5 +1,6 @@
 -- The entries of a table of remembered positions.
-use Rattle.std.proofs.Common.{◌≡◌, ℕ, zero, suc, ◌+◌, ◌-◌, ◌<◌, ◌≤◌, Bool, true, false, ◌⊎◌, List, [], ◌∷◌, take, length, Contains, Option, Some, None, nat_eq, inl, inr, refl, sym, ap, subst, ◌∙◌, arith}
+use Rattle.std.proofs.Common.{◌≡◌, ℕ, zero, suc, ◌+◌, ◌-◌, ◌<◌, ◌≤◌, Bool, true, false, ◌⊎◌, List, [], ◌∷◌, take, length, Contains, Option}
+use Rattle.std.proofs.Common.{Some, None, nat_eq, inl, inr, refl, sym, ap, subst, ◌∙◌, arith}
 use Rattle.std.specs.Map.{lookup_entry, remove_entry}
 use Rattle.std.specs.Cmp.Lexicographic.{pointwise}
 use Rattle.std.proofs.lemmas.Bool.{eqb-true, eq-eqb}
@@ -11,7 +12,8 @@ use Rattle.game_rules.proofs.Boards.{and_left, and_right}
 use Rattle.game_rules.proofs.Common.{Grid, IsPosition}
 use Rattle.game_rules.specs.declared.RuleKind.{RuleKind}
 use Rattle.position_table.specs.Packing.{Packed, packed}
-use Rattle.position_table.specs.Remembering.{Remembered, IsTrueEntry, IsTrueTable, TestTells, same_packed, same_key, value_under, looked_up, kept}
+use Rattle.position_table.specs.Remembering.{Remembered, IsTrueEntry, IsTrueTable, TestTells, same_packed, same_key, value_under, looked_up}
+use Rattle.position_table.specs.Remembering.{kept}
 use Rattle.position_table.proofs.Packing.{packed-tells}
 
 same_bytes : (s t : List ℕ) → pointwise nat_eq s t ≡ true → s ≡ t
@@ -60,7 +62,8 @@ module _ {V : Type 0} (test : Packed × ℕ → Bool) where
   ]) refl
 
   -- with one, the list gets shorter
-  remove_some : (es : List ((Packed × ℕ) × V)) (f : (Packed × ℕ) × V) → lookup_entry test es ≡ Some f → length (remove_entry test es) + 1 ≡ length es
+  remove_some : (es : List ((Packed × ℕ) × V)) (f : (Packed × ℕ) × V) → lookup_entry test es ≡ Some f
+      → length (remove_entry test es) + 1 ≡ length es
   remove_some [] f h = cc
   remove_some (e ∷ es) f h = (elim (test e.0) as (λ y. test e.0 ≡ y → length (remove_entry test (e ∷ es)) + 1 ≡ length (e ∷ es)) [
     | true ↦ λ t. rw t (omega arith)
@@ -72,7 +75,8 @@ take_first zero x xs h = absurd (omega arith)
 take_first (suc n) x xs h = let less : suc n - 1 ≡ n = omega arith in rw less refl
 
 module _ {V : Type 0} (c : LruCache (Packed × ℕ) V) (key : Packed × ℕ) (value : V) where
-  entries_by : (o : Option ((Packed × ℕ) × V)) → lookup_entry (same_key key) c.entries ≡ o → length c.entries ≤ c.cap → 0 < c.cap → put_entries same_key c key value ≡ take c.cap ((key, value) ∷ remove_entry (same_key key) c.entries)
+  entries_by : (o : Option ((Packed × ℕ) × V)) → lookup_entry (same_key key) c.entries ≡ o → length c.entries ≤ c.cap → 0 < c.cap
+      → put_entries same_key c key value ≡ take c.cap ((key, value) ∷ remove_entry (same_key key) c.entries)
   entries_by None h fits room = rw (h, remove_none (same_key key) c.entries h) (sym (take_first c.cap (key, value) c.entries room))
   entries_by (Some f) h fits room =
       let own : key ≡ f.0 = same_key-tells key f.0 (Contains-lookup_entry (same_key key) c.entries f h).1 in
@@ -81,7 +85,8 @@ module _ {V : Type 0} (c : LruCache (Packed × ℕ) V) (key : Packed × ℕ) (va
       ∙ sym (take_all c.cap ((key, value) ∷ remove_entry (same_key key) c.entries) (omega arith)))
 
   -- what the cache holds after `put`
-  pub put_entries-kept : IsValid same_key c → put_entries same_key c key value ≡ take c.cap ((key, value) ∷ remove_entry (same_key key) c.entries)
+  pub put_entries-kept : IsValid same_key c → put_entries same_key c key value ≡ take c.cap
+      ((key, value) ∷ remove_entry (same_key key) c.entries)
   put_entries-kept valid = entries_by (lookup_entry (same_key key) c.entries) refl valid.1 valid.2
 
 module _ {V : Type 0} (key : Packed × ℕ) (t : Remembered V) where
@@ -98,36 +103,44 @@ module _ {V : Type 0} (key : Packed × ℕ) (t : Remembered V) where
 
   -- each entry after a value is kept was there before, or is the one that is kept
   pub kept-before : (value : V) (e : (Packed × ℕ) × V) → Contains (kept key value t).entries e → Contains t.entries e ⊎ ((key, value) ≡ e)
-  kept-before value e there = elim (Contains-cons (key, value) (remove_entry (same_key key) t.entries) e (Contains-take t.capacity ((key, value) ∷ remove_entry (same_key key) t.entries) e there)) [
-    | inl same ↦ inr same
-    | inr old ↦ inl (Contains-remove_entry (same_key key) t.entries e old)
-  ]
+  kept-before value e there = elim
+      (Contains-cons (key, value) (remove_entry (same_key key) t.entries) e
+      (Contains-take t.capacity ((key, value) ∷ remove_entry (same_key key) t.entries) e there)) [
+        | inl same ↦ inr same
+        | inr old ↦ inl (Contains-remove_entry (same_key key) t.entries e old)
+      ]
 
 -- ---- what is remembered is true, and stays true
 
 module _ {V : Type 0} (rule : RuleKind) (says : Grid → ℕ → V → Type 0) where
   -- of a table without entries
   pub true-none : (t : Remembered V) → t.entries ≡ [] → IsTrueTable V rule says t
-  true-none t none = record { each = λ e there. absurd (no_entry e (subst (λ (es : List ((Packed × ℕ) × V)). Contains es e) none there)) } where
+  true-none t none = record {
+    each = λ e there. absurd (no_entry e (subst (λ (es : List ((Packed × ℕ) × V)). Contains es e) none there));
+  } where
     no_entry : (e : (Packed × ℕ) × V) → Contains [] e → ⊥
     no_entry e there = let within = there.1 in omega arith
 
   -- after a look, or where none was taken
-  pub true-looked : (t after : Remembered V) (key : Packed × ℕ) → (after ≡ looked_up key t) ⊎ (after ≡ t) → IsTrueTable V rule says t → IsTrueTable V rule says after
+  pub true-looked : (t after : Remembered V) (key : Packed × ℕ) → (after ≡ looked_up key t) ⊎ (after ≡ t) → IsTrueTable V rule says t
+      → IsTrueTable V rule says after
   true-looked t after key (inl is) true_of = rw is (record { each = λ e there. true_of.each e (looked_up-before key t e there) })
   true-looked t after key (inr is) true_of = rw is true_of
 
   -- where more is said of what is remembered
-  pub true-weaker : (more : Grid → ℕ → V → Type 0) → ((b : Grid) (tag : ℕ) (value : V) → says b tag value → more b tag value) → (t : Remembered V) → IsTrueTable V rule says t → IsTrueTable V rule more t
+  pub true-weaker : (more : Grid → ℕ → V → Type 0) → ((b : Grid) (tag : ℕ) (value : V) → says b tag value → more b tag value)
+      → (t : Remembered V) → IsTrueTable V rule says t → IsTrueTable V rule more t
   true-weaker more weaker t true_of = record {
     each = λ e there. record { holds = λ b lawful key. weaker b e.0.1 e.1 ((true_of.each e there).holds b lawful key) };
   }
 
-  module _ (b w : Grid) (tag : ℕ) (value : V) (t : Remembered V) (lawful : IsPosition rule b) (same : w ≡ b) (true_of : IsTrueTable V rule says t) where
+  module _ (b w : Grid) (tag : ℕ) (value : V) (t : Remembered V) (lawful : IsPosition rule b) (same : w ≡ b)
+      (true_of : IsTrueTable V rule says t) where
     -- what is found at a position holds there
     pub true-found : Some value ≡ value_under (packed w, tag) t → says b tag value
     true-found found =
-        let there : value_under (packed b, tag) t ≡ Some value = subst (λ (v : Grid). value_under (packed v, tag) t ≡ Some value) same (sym found) in
+        let there : value_under (packed b, tag) t ≡ Some value =
+        subst (λ (v : Grid). value_under (packed v, tag) t ≡ Some value) same (sym found) in
         (true_of.each ((packed b, tag), value) (value_under-kept (packed b, tag) t value there)).holds b lawful refl
 
     -- what holds at a position holds at each with its key, and may be kept
@@ -141,6 +154,8 @@ module _ {V : Type 0} (rule : RuleKind) (says : Grid → ℕ → V → Type 0) w
       ];
     }
 
-    pub true-kept : (after : Remembered V) → says b tag value → (after ≡ kept (packed w, tag) value t) ⊎ (after ≡ t) → IsTrueTable V rule says after
-    true-kept after holds (inl is) = rw is (subst (λ (v : Grid). IsTrueTable V rule says (kept (packed v, tag) value t)) (sym same) (true-with holds))
+    pub true-kept : (after : Remembered V) → says b tag value → (after ≡ kept (packed w, tag) value t) ⊎ (after ≡ t)
+        → IsTrueTable V rule says after
+    true-kept after holds (inl is) = rw is
+        (subst (λ (v : Grid). IsTrueTable V rule says (kept (packed v, tag) value t)) (sym same) (true-with holds))
     true-kept after holds (inr is) = rw is true_of

@@ -1,5 +1,6 @@
 -- A step that gives a leaf of the attacker a child for each move to be tried, or settles it where there is none.
-use Rattle.std.proofs.Common.{◌≡◌, ◌∙◌, refl, ℕ, zero, suc, ◌+◌, ◌-◌, ◌<◌, ◌≤◌, false, cond, ◌&&◌, not, sym, ap, subst, arith, append-nil, List, [], ◌∷◌, ◌++◌, length, map, replicate, inl, All}
+use Rattle.std.proofs.Common.{◌≡◌, ◌∙◌, refl, ℕ, zero, suc, ◌+◌, ◌-◌, ◌<◌, ◌≤◌, false, cond, ◌&&◌, not, sym, ap, subst, arith, append-nil}
+use Rattle.std.proofs.Common.{List, [], ◌∷◌, ◌++◌, length, map, replicate, inl, All}
 use Rattle.std.proofs.lemmas.Bool.{eq-eqb}
 use Rattle.std.proofs.lemmas.List.{get_or-map, get_or-replicate, length-map, length-replicate}
 use Rattle.std.proofs.lemmas.List.Elements.{All-contains, All-from_get_or, All-replicate}
@@ -17,9 +18,12 @@ use Rattle.proof_tree.proofs.SumLaws.{IsFresh, fresh-sum}
 use Rattle.threat_game.proofs.Common.{threat_tree, move_at, nowhere, OthersFail, tried_moves}
 use Rattle.proof_number.specs.declared.notes.Note.{Note}
 use Rattle.proof_number.specs.declared.search.Search.{Search}
-use Rattle.proof_number.proofs.Common.{no_note, note_at, AreTried, GameTree, HasTried, board_at, left_at, IsTrueMemo, Grows, HasGrown, HasSpent, IsAtLeaf, IsExpandedAt, IsSettledAt, StandsAt, attacks_behind, behind_at, defences_behind, game_of, sum_below}
+use Rattle.proof_number.proofs.Common.{no_note, note_at, AreTried, GameTree, HasTried, board_at, left_at, IsTrueMemo, Grows, HasGrown}
+use Rattle.proof_number.proofs.Common.{HasSpent, IsAtLeaf, IsExpandedAt, IsSettledAt, StandsAt, attacks_behind, behind_at, defences_behind}
+use Rattle.proof_number.proofs.Common.{game_of, sum_below}
 use Rattle.threat_game.proofs.TreeLaws.{IsTriedMove, replies-positive, tried-at, tried-behind}
-use Rattle.proof_number.proofs.Expanding.{IsNewNote, expanded-grown, new_behind, unwritten_child, IsNewChild, sum-nothing, sum-under}
+use Rattle.proof_number.proofs.ExpandedCounts.{IsNewNote, expanded-grown, new_behind, unwritten_child, sum-nothing, sum-under}
+use Rattle.proof_number.proofs.Expanding.{IsNewChild}
 use Rattle.proof_number.proofs.Recording.{keeps-all}
 use Rattle.proof_number.proofs.Steps.{attack-moves, attack-no_five, leaf-compiled, leaf-lawful, leaf-noted, lost-step}
 use Rattle.proof_number.proofs.Sums.{sum-le, sum-less, sum-list}
@@ -43,7 +47,8 @@ note-of m ps j low = get_or-map (open_note m) ps j nowhere no_note low
 
 -- ---- the moves to be tried from one board, where the attacker has m moves left behind each
 
-module _ (rule : RuleKind) (b : Grid) (lawful : IsPosition rule b) (none : has_five rule b (mover b) ≡ false) (others : OthersFail rule b) where
+module _ (rule : RuleKind) (b : Grid) (lawful : IsPosition rule b) (none : has_five rule b (mover b) ≡ false)
+    (others : OthersFail rule b) where
   all-tried : All (IsTriedMove rule b) (tried_moves rule b)
   all-tried = All-from_get_or (IsTriedMove rule b) (tried_moves rule b) nowhere (tried-at rule b)
 
@@ -77,16 +82,20 @@ module _ (rule : RuleKind) (b : Grid) (lawful : IsPosition rule b) (none : has_f
   abbrev behind : ℕ → Point → ℕ
   behind m p = behind_replies rule (threat_tree rule m) (after b p)
 
-  behind-all : (m : ℕ) → 1 ≤ m → 1 + sum_below (length (tried_moves rule b)) (λ j. behind m (move_at (tried_moves rule b) j)) ≤ threat_tree rule (suc m) b
+  behind-all : (m : ℕ) → 1 ≤ m → 1 + sum_below (length (tried_moves rule b)) (λ j. behind m (move_at (tried_moves rule b) j)) ≤ threat_tree
+      rule (suc m) b
   behind-all zero l = absurd (omega arith)
   behind-all (suc n) l =
       omega (arith, tried-behind rule n b none, sum-list (behind (suc n)) nowhere (tried_moves rule b))
 
   -- one position of the defender stands behind each
-  behind-each : (m : ℕ) → sum_below (length (tried_moves rule b)) (λ j. behind m (move_at (tried_moves rule b) j) - 1) + length (tried_moves rule b) ≤ sum_below (length (tried_moves rule b)) (λ j. behind m (move_at (tried_moves rule b) j))
+  behind-each : (m : ℕ) → sum_below (length (tried_moves rule b)) (λ j. behind m (move_at (tried_moves rule b) j) - 1) + length
+      (tried_moves rule b) ≤ sum_below (length (tried_moves rule b)) (λ j. behind m (move_at (tried_moves rule b) j))
   behind-each m =
-      sum-under (length (tried_moves rule b)) (λ j. behind m (move_at (tried_moves rule b) j) - 1) (λ j. behind m (move_at (tried_moves rule b) j))
-      (λ j low. let some = replies-positive rule m (after b (move_at (tried_moves rule b) j)) (tried-at rule b j low).reply in omega (arith, some))
+      sum-under (length (tried_moves rule b)) (λ j. behind m (move_at (tried_moves rule b) j) - 1)
+      (λ j. behind m (move_at (tried_moves rule b) j))
+      (λ j low. let some = replies-positive rule m (after b (move_at (tried_moves rule b) j)) (tried-at rule b j low).reply in
+      omega (arith, some))
 
   -- there are fewer moves to be tried than positions
   moves-few : (m : ℕ) → 1 ≤ m → 1 + length (tried_moves rule b) ≤ threat_tree rule (suc m) b
@@ -94,7 +103,8 @@ module _ (rule : RuleKind) (b : Grid) (lawful : IsPosition rule b) (none : has_f
 
 -- ---- at a leaf of the attacker
 
-module _ (rule : RuleKind) (s : Search) (t : Tree) (c : List Node) (leaf : ℕ) (stands : StandsAt rule s t c leaf s.board) (attack : (link_at t.links leaf).kind ≡ Attack) (others : OthersFail rule s.board) where
+module _ (rule : RuleKind) (s : Search) (t : Tree) (c : List Node) (leaf : ℕ) (stands : StandsAt rule s t c leaf s.board)
+    (attack : (link_at t.links leaf).kind ≡ Attack) (others : OthersFail rule s.board) where
   here : IsAtLeaf rule s t c leaf s.board
   unfolding StandsAt
   here = stands
@@ -119,15 +129,20 @@ module _ (rule : RuleKind) (s : Search) (t : Tree) (c : List Node) (leaf : ℕ) 
   defences-fit =
       let g : GameTree = game_of rule s t in
       let own : behind_at defences_behind g leaf ≡ threat_tree rule (left_at g.left leaf) (board_at g leaf) - 1 =
-      ap (λ r. cond (r && not (is_settled (numbers_at t.numbers leaf))) (defences_behind (link_at t.links leaf).kind rule (left_at g.left leaf) (board_at g leaf)) 0) (eq-eqb (link_at t.links leaf).count 0 here.childless)
+      ap (λ r. cond (r && not (is_settled (numbers_at t.numbers leaf)))
+      (defences_behind (link_at t.links leaf).kind rule (left_at g.left leaf) (board_at g leaf)) 0)
+      (eq-eqb (link_at t.links leaf).count 0 here.childless)
       ∙ ap (λ r. cond (not r) (defences_behind (link_at t.links leaf).kind rule (left_at g.left leaf) (board_at g leaf)) 0) here.leaf_open
       ∙ ap (λ (k : Kind). defences_behind k rule (left_at g.left leaf) (board_at g leaf)) attack in
       let nothing = sum-nothing (length t.links) (λ i. 0) (λ i l. refl) in
-      let low = sum-less (length t.links) (λ i. 0) (behind_at defences_behind g) leaf (threat_tree rule (left_at g.left leaf) (board_at g leaf) - 1) here.in_tree (λ j l other. omega arith) (omega (arith, own)) in
+      let low = sum-less (length t.links) (λ i. 0) (behind_at defences_behind g) leaf
+      (threat_tree rule (left_at g.left leaf) (board_at g leaf) - 1) here.in_tree (λ j l other. omega arith) (omega (arith, own)) in
       let tree_is : threat_tree rule (note_at s.notes.items leaf).left s.board ≡ threat_tree rule (left_at g.left leaf) (board_at g leaf) =
       ap (λ (n : ℕ). threat_tree rule n s.board) (sym left-noted) ∙ ap (threat_tree rule (left_at g.left leaf)) here.view_is in
-      let first : left_at g.left 0 ≡ s.depth = get_or-map (λ (n : Note). n.left) s.notes.items 0 no_note 0 (let l = leaf-noted rule s t c leaf s.board stands in omega (arith, l)) ∙ here.searching.depth in
-      let root_is : threat_tree rule (left_at g.left 0) s.root ≡ threat_tree rule s.depth s.root = ap (λ (n : ℕ). threat_tree rule n s.root) first in
+      let first : left_at g.left 0 ≡ s.depth = get_or-map (λ (n : Note). n.left) s.notes.items 0 no_note 0
+      (let l = leaf-noted rule s t c leaf s.board stands in omega (arith, l)) ∙ here.searching.depth in
+      let root_is : threat_tree rule (left_at g.left 0) s.root ≡ threat_tree rule s.depth s.root =
+      ap (λ (n : ℕ). threat_tree rule n s.root) first in
       omega (arith, nothing, low, tree_is, root_is, here.searching.counted.defences)
 
   module _ (m : ℕ) (left_is : (note_at s.notes.items leaf).left ≡ suc m) where
@@ -143,7 +158,8 @@ module _ (rule : RuleKind) (s : Search) (t : Tree) (c : List Node) (leaf : ℕ) 
     -- where the budget does not reach, the game has more positions
     pub moves-spent : s.budget < s.defended + length (tried_moves rule s.board) → HasSpent rule s s t t
     moves-spent over = record {
-      spent = (let a = defences-fit in let d = moves-few rule s.board lawful-here no-five others m one-move in let e = tree-here in omega (arith, over, a, d, e));
+      spent = (let a = defences-fit in let d = moves-few rule s.board lawful-here no-five others m one-move in let e =
+          tree-here in omega (arith, over, a, d, e));
       same = refl;
       keeps = keeps-all s;
     }
@@ -152,15 +168,19 @@ module _ (rule : RuleKind) (s : Search) (t : Tree) (c : List Node) (leaf : ℕ) 
     left-suc = left-noted ∙ left_is
 
     -- what is known of the kind, the moves and the board of the leaf
-    at-leaf-is : (P : Kind → ℕ → Grid → Type 0) → P Attack (suc m) s.board → P (link_at t.links leaf).kind (left_at (game_of rule s t).left leaf) (board_at (game_of rule s t) leaf)
+    at-leaf-is : (P : Kind → ℕ → Grid → Type 0) → P Attack (suc m) s.board
+        → P (link_at t.links leaf).kind (left_at (game_of rule s t).left leaf) (board_at (game_of rule s t) leaf)
     at-leaf-is P h =
         subst (λ (k : Kind). P k (left_at (game_of rule s t).left leaf) (board_at (game_of rule s t) leaf)) (sym attack)
         (subst (λ (n : ℕ). P Attack n (board_at (game_of rule s t) leaf)) (sym left-suc)
         (subst (P Attack (suc m)) here.view_is h))
 
-    module _ (some : 0 < length (tried_moves rule s.board)) (u : Tree) (more : List Numbers) (are : more ≡ replicate (length (tried_moves rule s.board)) open_one) (e : IsExpandedAt t u leaf more)
-        (v : Search) (ms : List Note) (noted : ms ≡ map (open_note m) (tried_moves rule s.board)) (items : v.notes.items ≡ s.notes.items ++ ms)
-        (rest : v ≡ record s { notes = v.notes; defended = s.defended + length (tried_moves rule s.board) }) (fits : s.defended + length (tried_moves rule s.board) ≤ s.budget) where
+    module _ (some : 0 < length (tried_moves rule s.board)) (u : Tree) (more : List Numbers)
+        (are : more ≡ replicate (length (tried_moves rule s.board)) open_one) (e : IsExpandedAt t u leaf more)
+        (v : Search) (ms : List Note) (noted : ms ≡ map (open_note m) (tried_moves rule s.board))
+        (items : v.notes.items ≡ s.notes.items ++ ms)
+        (rest : v ≡ record s { notes = v.notes; defended = s.defended + length (tried_moves rule s.board) })
+        (fits : s.defended + length (tried_moves rule s.board) ≤ s.budget) where
       long : length more ≡ length (tried_moves rule s.board)
       long = ap length are ∙ length-replicate (length (tried_moves rule s.board)) open_one
 
@@ -168,26 +188,31 @@ module _ (rule : RuleKind) (s : Search) (t : Tree) (c : List Node) (leaf : ℕ) 
       note-at j low = ap (λ (ns : List Note). note_at ns j) noted ∙ note-of m (tried_moves rule s.board) j (omega (arith, low, long))
 
       number-at : (j : ℕ) → j < length more → numbers_at more j ≡ open_one
-      number-at j low = ap (λ (ns : List Numbers). numbers_at ns j) are ∙ get_or-replicate (length (tried_moves rule s.board)) j open_one (record { proof = 0; disproof = 0 }) (omega (arith, low, long))
+      number-at j low = ap (λ (ns : List Numbers). numbers_at ns j) are
+          ∙ get_or-replicate (length (tried_moves rule s.board)) j open_one (record { proof = 0; disproof = 0 }) (omega (arith, low, long))
 
       fresh : All IsFresh more
       fresh = subst (All IsFresh) (sym are) (All-replicate IsFresh (length (tried_moves rule s.board)) open_one (inl refl))
 
-      child-at : (j : ℕ) → j < length more → IsNewChild rule (link_at t.links leaf).kind (left_at (game_of rule s t).left leaf) (board_at (game_of rule s t) leaf) (note_at ms j).at (note_at ms j).left (numbers_at more j)
+      child-at : (j : ℕ) → j < length more → IsNewChild rule (link_at t.links leaf).kind (left_at (game_of rule s t).left leaf)
+          (board_at (game_of rule s t) leaf) (note_at ms j).at (note_at ms j).left (numbers_at more j)
       child-at j low =
           at-leaf-is (λ k n b. IsNewChild rule k n b (note_at ms j).at (note_at ms j).left (numbers_at more j))
           (subst (IsNewChild rule Attack (suc m) s.board (note_at ms j).at (note_at ms j).left) (sym (number-at j low))
           (subst (λ (n : Note). IsNewChild rule Attack (suc m) s.board n.at n.left open_one) (sym (note-at j low))
-          (child-tried rule s.board lawful-here no-five others m (move_at (tried_moves rule s.board) j) one-move (tried-at rule s.board j (omega (arith, low, long))))))
+          (child-tried rule s.board lawful-here no-five others m (move_at (tried_moves rule s.board) j) one-move
+          (tried-at rule s.board j (omega (arith, low, long))))))
 
-      noted-at : (j : ℕ) → j < length more → IsNewNote rule (link_at t.links leaf).kind (board_at (game_of rule s t) leaf) (c ++ []) (note_at ms j) (numbers_at more j)
+      noted-at : (j : ℕ) → j < length more → IsNewNote rule (link_at t.links leaf).kind (board_at (game_of rule s t) leaf) (c ++ [])
+          (note_at ms j) (numbers_at more j)
       noted-at j low =
           at-leaf-is (λ k n b. IsNewNote rule k b (c ++ []) (note_at ms j) (numbers_at more j))
           (subst (IsNewNote rule Attack s.board (c ++ []) (note_at ms j)) (sym (number-at j low))
           (subst (λ (n : Note). IsNewNote rule Attack s.board (c ++ []) n open_one) (sym (note-at j low))
           (note-tried rule s.board lawful-here no-five others m (move_at (tried_moves rule s.board) j) (c ++ []))))
 
-      tried-here : HasTried (link_at t.links leaf).kind rule (left_at (game_of rule s t).left leaf) (board_at (game_of rule s t) leaf) (map (λ (n : Note). n.at) ms)
+      tried-here : HasTried (link_at t.links leaf).kind rule (left_at (game_of rule s t).left leaf) (board_at (game_of rule s t) leaf)
+          (map (λ (n : Note). n.at) ms)
       tried-here =
           at-leaf-is (λ k n b. HasTried k rule n b (map (λ (n : Note). n.at) ms))
           (subst (AreTried rule m s.board) (sym (ap (map (λ (n : Note). n.at)) noted ∙ notes-moves m (tried_moves rule s.board)))
@@ -195,14 +220,21 @@ module _ (rule : RuleKind) (s : Search) (t : Tree) (c : List Node) (leaf : ℕ) 
 
       -- what is counted behind a child
       child-behind-is : (f : Kind → RuleKind → ℕ → Grid → ℕ) (j : ℕ) → j < length more
-          → new_behind f rule (link_at t.links leaf).kind (board_at (game_of rule s t) leaf) (note_at ms j) (numbers_at more j) ≡ f Defend rule m (after s.board (move_at (tried_moves rule s.board) j))
+          → new_behind f rule (link_at t.links leaf).kind (board_at (game_of rule s t) leaf) (note_at ms j) (numbers_at more j) ≡ f Defend
+          rule m (after s.board (move_at (tried_moves rule s.board) j))
       child-behind-is f j low =
-          at-leaf-is (λ k n b. new_behind f rule k b (note_at ms j) (numbers_at more j) ≡ f Defend rule m (after s.board (move_at (tried_moves rule s.board) j)))
-          (ap (new_behind f rule Attack s.board (note_at ms j)) (number-at j low) ∙ ap (λ (n : Note). new_behind f rule Attack s.board n open_one) (note-at j low))
+          at-leaf-is (λ k n b. new_behind f rule k b (note_at ms j) (numbers_at more j) ≡ f Defend rule m
+          (after s.board (move_at (tried_moves rule s.board) j)))
+          (ap (new_behind f rule Attack s.board (note_at ms j)) (number-at j low)
+          ∙ ap (λ (n : Note). new_behind f rule Attack s.board n open_one) (note-at j low))
 
-      same-sum : (f : Kind → RuleKind → ℕ → Grid → ℕ) → sum_below (length more) (λ j. new_behind f rule (link_at t.links leaf).kind (board_at (game_of rule s t) leaf) (note_at ms j) (numbers_at more j)) ≤ sum_below (length (tried_moves rule s.board)) (λ j. f Defend rule m (after s.board (move_at (tried_moves rule s.board) j)))
+      same-sum : (f : Kind → RuleKind → ℕ → Grid → ℕ) → sum_below (length more)
+          (λ j. new_behind f rule (link_at t.links leaf).kind (board_at (game_of rule s t) leaf) (note_at ms j) (numbers_at more j))
+          ≤ sum_below (length (tried_moves rule s.board)) (λ j. f Defend rule m (after s.board (move_at (tried_moves rule s.board) j)))
       same-sum f =
-          subst (λ (n : ℕ). sum_below (length more) (λ j. new_behind f rule (link_at t.links leaf).kind (board_at (game_of rule s t) leaf) (note_at ms j) (numbers_at more j)) ≤ sum_below n (λ j. f Defend rule m (after s.board (move_at (tried_moves rule s.board) j)))) long
+          subst (λ (n : ℕ). sum_below (length more)
+          (λ j. new_behind f rule (link_at t.links leaf).kind (board_at (game_of rule s t) leaf) (note_at ms j) (numbers_at more j))
+          ≤ sum_below n (λ j. f Defend rule m (after s.board (move_at (tried_moves rule s.board) j)))) long
           (sum-le (length more) _ _ (λ j low. let same = child-behind-is f j low in omega (arith, same)))
 
       count-is : v.attacked ≡ s.attacked
@@ -212,7 +244,8 @@ module _ (rule : RuleKind) (s : Search) (t : Tree) (c : List Node) (leaf : ℕ) 
       defended-is = ap (λ (w : Search). w.defended) rest
 
       written-none : sum_below (length more) (λ j. unwritten_child (link_at t.links leaf).kind (note_at ms j)) ≡ 0
-      written-none = sum-nothing (length more) (λ j. unwritten_child (link_at t.links leaf).kind (note_at ms j)) (λ j low. ap (λ (k : Kind). unwritten_child k (note_at ms j)) attack)
+      written-none = sum-nothing (length more) (λ j. unwritten_child (link_at t.links leaf).kind (note_at ms j))
+          (λ j low. ap (λ (k : Kind). unwritten_child k (note_at ms j)) attack)
 
       pub moves-grow : Grows rule s v t u c leaf
       unfolding Grows
@@ -221,8 +254,12 @@ module _ (rule : RuleKind) (s : Search) (t : Tree) (c : List Node) (leaf : ℕ) 
           let defences = same-sum defences_behind in
           let all = behind-all rule s.board lawful-here no-five others m one-move in
           let each = behind-each rule s.board lawful-here no-five others m in
-          let attacks_left : attacks_behind (link_at t.links leaf).kind rule (left_at (game_of rule s t).left leaf) (board_at (game_of rule s t) leaf) ≡ threat_tree rule (suc m) s.board - 1 = at-leaf-is (λ k n b. attacks_behind k rule n b ≡ threat_tree rule (suc m) s.board - 1) refl in
-          let defences_left : defences_behind (link_at t.links leaf).kind rule (left_at (game_of rule s t).left leaf) (board_at (game_of rule s t) leaf) ≡ threat_tree rule (suc m) s.board - 1 = at-leaf-is (λ k n b. defences_behind k rule n b ≡ threat_tree rule (suc m) s.board - 1) refl in
+          let attacks_left : attacks_behind (link_at t.links leaf).kind rule (left_at (game_of rule s t).left leaf)
+          (board_at (game_of rule s t) leaf) ≡ threat_tree rule (suc m) s.board - 1 =
+          at-leaf-is (λ k n b. attacks_behind k rule n b ≡ threat_tree rule (suc m) s.board - 1) refl in
+          let defences_left : defences_behind (link_at t.links leaf).kind rule (left_at (game_of rule s t).left leaf)
+          (board_at (game_of rule s t) leaf) ≡ threat_tree rule (suc m) s.board - 1 =
+          at-leaf-is (λ k n b. defences_behind k rule n b ≡ threat_tree rule (suc m) s.board - 1) refl in
           let budget = here.searching.counted.attacked_fits in
           let count = count-is in
           let defended = defended-is in
@@ -231,10 +268,12 @@ module _ (rule : RuleKind) (s : Search) (t : Tree) (c : List Node) (leaf : ℕ) 
           let same_table : v.settled ≡ s.settled = ap (λ (w : Search). w.settled) rest in
           subst (λ (d : List Node). HasGrown rule s v t u d leaf) (append-nil c)
           (expanded-grown rule s t c leaf s.board here u more e v []
-          (rest ∙ ap (λ (w : Search). record s { board = w.board; notes = v.notes; settled = w.settled; attacked = w.attacked; defended = w.defended }) (sym rest))
+          (rest ∙ ap (λ (w : Search). record s
+          { board = w.board; notes = v.notes; settled = w.settled; attacked = w.attacked; defended = w.defended }) (sym rest))
           (ap (λ (w : Search). w.board) rest)
           (subst IsCompiled (sym (append-nil c)) (leaf-compiled rule s t c leaf s.board stands))
-          (subst (λ (d : List Node). IsTrueMemo rule d v.settled) (sym (append-nil c)) (subst (IsTrueMemo rule c) (sym same_table) here.searching.remembered))
+          (subst (λ (d : List Node). IsTrueMemo rule d v.settled) (sym (append-nil c))
+          (subst (IsTrueMemo rule c) (sym same_table) here.searching.remembered))
           ms items (ap length noted ∙ length-map (tried_moves rule s.board) (open_note m) ∙ sym long) (omega (arith, some, size))
           tried-here child-at noted-at
           (omega (arith, count)) (omega (arith, defended)) (omega (arith, count, budget)) (omega (arith, defended, fits))

@@ -1,5 +1,6 @@
 -- A search whose tree has one node: the root is open, or it is settled as won or lost.
-use Rattle.std.proofs.Common.{◌≡◌, ◌∙◌, ℕ, ◌+◌, ◌-◌, ◌<◌, ◌≤◌, Bool, true, false, cond, ◌&&◌, not, refl, sym, ap, subst, arith, List, [], length, nat_eq}
+use Rattle.std.proofs.Common.{◌≡◌, ◌∙◌, ℕ, ◌+◌, ◌-◌, ◌<◌, ◌≤◌, Bool, true, false, cond, ◌&&◌, not, refl, sym, ap, subst, arith, List, []}
+use Rattle.std.proofs.Common.{length, nat_eq}
 use Rattle.std.proofs.lemmas.Bool.{eq-eqb, ne_eqb}
 use Rattle.std.proofs.lemmas.List.{get_or-map, get_or-set_same, length-map, length-set}
 use Rattle.game_rules.proofs.Common.{Grid, IsPosition, mover, WinsByThreats, has_five}
@@ -16,7 +17,9 @@ use Rattle.proof_tree.proofs.SumLaws.{lone-childless}
 use Rattle.threat_game.proofs.Common.{threat_tree, IsThreatWin}
 use Rattle.proof_number.specs.declared.notes.Note.{Note}
 use Rattle.proof_number.specs.declared.search.Search.{Search}
-use Rattle.proof_number.proofs.Common.{no_note, note_at, win_of, CanGrow, GameTree, IsGameTree, TellsTruly, WinsAt, board_at, left_at, IsTrueOf, AreWritten, IsCounted, IsNew, IsNotedWin, IsSettledAt, Searches, attacks_behind, behind_at, behind_leaves, defences_behind, game_of, is_attack, noted_won, sum_below, unwritten}
+use Rattle.proof_number.proofs.Common.{no_note, note_at, win_of, CanGrow, GameTree, IsGameTree, TellsTruly, WinsAt, board_at, left_at}
+use Rattle.proof_number.proofs.Common.{IsTrueOf, AreWritten, IsCounted, IsNew, IsNotedWin, IsSettledAt, Searches, attacks_behind, behind_at}
+use Rattle.proof_number.proofs.Common.{behind_leaves, defences_behind, game_of, is_attack, noted_won, sum_below, unwritten}
 use Rattle.proof_number.proofs.GameTruths.{board-root}
 use Rattle.strategy_compiler.proofs.Growing.{grows-length, win-some}
 use Rattle.proof_number.proofs.Sums.{sum-suc, sum-zero}
@@ -80,8 +83,10 @@ module _ (rule : RuleKind) (s : Search) (t : Tree) (c : List Node) (begun : IsBe
 
   lone-game : IsGameTree Game
   lone-game = record {
-    moves = (let a = length-map s.notes.items (λ (n : Note). n.at) in let b = begun.one_note in let d = begun.one_node in omega (arith, a, b, d));
-    left = (let a = length-map s.notes.items (λ (n : Note). n.left) in let b = begun.one_note in let d = begun.one_node in omega (arith, a, b, d));
+    moves = (let a = length-map s.notes.items (λ (n : Note). n.at) in let b = begun.one_note in let d =
+        begun.one_node in omega (arith, a, b, d));
+    left = (let a = length-map s.notes.items (λ (n : Note). n.left) in let b = begun.one_note in let d =
+        begun.one_node in omega (arith, a, b, d));
     lawful = begun.lawful;
     on = λ j some low. let one = begun.one_node in absurd (omega (arith, some, low, one));
     fewer = λ j some low. let one = begun.one_node in absurd (omega (arith, some, low, one));
@@ -93,7 +98,8 @@ module _ (rule : RuleKind) (s : Search) (t : Tree) (c : List Node) (begun : IsBe
         subst (λ (k : ℕ). CanGrow (link_at t.links k).kind rule (left_at Game.left k) (board_at Game k)) (only i low)
         (at-root (λ k n b. CanGrow k rule n b) (root.can_grow (unsettled-root i low unsettled)));
     leaf = λ i low none.
-        subst (λ (k : ℕ). TellsTruly (numbers_at t.numbers k) (WinsAt (link_at t.links k).kind rule (left_at Game.left k) (board_at Game k))) (only i low)
+        subst (λ (k : ℕ). TellsTruly (numbers_at t.numbers k)
+        (WinsAt (link_at t.links k).kind rule (left_at Game.left k) (board_at Game k))) (only i low)
         (at-root (λ k n b. TellsTruly (numbers_at t.numbers 0) (WinsAt k rule n b)) root.truth);
   }
 
@@ -101,13 +107,17 @@ module _ (rule : RuleKind) (s : Search) (t : Tree) (c : List Node) (begun : IsBe
   lone-written = record {
     true_wins = λ i low some.
         subst (λ (k : ℕ). IsNotedWin rule (left_at Game.left k) (board_at Game k) c (win_of (note_at s.notes.items k))) (only i low)
-        (at-root (λ k n b. IsNotedWin rule n b c (win_of (note_at s.notes.items 0))) (root.noted (subst (λ (k : ℕ). 0 < (note_at s.notes.items k).moves) (sym (only i low)) some)));
-    fresh = λ i low none unsettled. subst (λ (k : ℕ). (note_at s.notes.items k).moves ≡ 0) (only i low) (root.fresh (unsettled-root i low unsettled));
-    leaves = λ i low none attack proved. subst (λ (k : ℕ). 0 < (note_at s.notes.items k).moves) (only i low) (root.has_win (proved-root i low proved));
+        (at-root (λ k n b. IsNotedWin rule n b c (win_of (note_at s.notes.items 0)))
+        (root.noted (subst (λ (k : ℕ). 0 < (note_at s.notes.items k).moves) (sym (only i low)) some)));
+    fresh = λ i low none unsettled. subst (λ (k : ℕ). (note_at s.notes.items k).moves ≡ 0) (only i low)
+        (root.fresh (unsettled-root i low unsettled));
+    leaves = λ i low none attack proved. subst (λ (k : ℕ). 0 < (note_at s.notes.items k).moves) (only i low)
+        (root.has_win (proved-root i low proved));
     defends = λ i low none defend proved.
         let here : (link_at t.links 0).kind ≡ Defend = subst (λ (k : ℕ). (link_at t.links k).kind ≡ Defend) (sym (only i low)) defend in
         let bad : Attack ≡ Defend = sym attacks ∙ here in cc;
-    all = λ i low attack proved beside. subst (λ (k : ℕ). 0 < (note_at s.notes.items k).moves) (only i low) (root.has_win (proved-root i low proved));
+    all = λ i low attack proved beside. subst (λ (k : ℕ). 0 < (note_at s.notes.items k).moves) (only i low)
+        (root.has_win (proved-root i low proved));
     met = λ i low defend some q on out.
         let none = lone-childless t begun.tree begun.one_node in
         let here : 0 < (link_at t.links 0).count = subst (λ (k : ℕ). 0 < (link_at t.links k).count) (sym (only i low)) some in
@@ -121,9 +131,11 @@ module _ (rule : RuleKind) (s : Search) (t : Tree) (c : List Node) (begun : IsBe
       let b = sum-zero f in
       ap (λ (n : ℕ). sum_below n f) begun.one_node ∙ omega (arith, a, b)
 
-  lone-behind : (f : Kind → RuleKind → ℕ → Grid → ℕ) → behind_leaves f Game ≤ f (link_at t.links 0).kind rule (left_at Game.left 0) (board_at Game 0)
+  lone-behind : (f : Kind → RuleKind → ℕ → Grid → ℕ)
+      → behind_leaves f Game ≤ f (link_at t.links 0).kind rule (left_at Game.left 0) (board_at Game 0)
   lone-behind f =
-      let b = counts-less (nat_eq (link_at t.links 0).count 0 && not (is_settled (numbers_at t.numbers 0))) (f (link_at t.links 0).kind rule (left_at Game.left 0) (board_at Game 0)) in
+      let b = counts-less (nat_eq (link_at t.links 0).count 0 && not (is_settled (numbers_at t.numbers 0)))
+      (f (link_at t.links 0).kind rule (left_at Game.left 0) (board_at Game 0)) in
       omega (arith, lone-sum (behind_at f Game), b) where
         counts-less : (r : Bool) (x : ℕ) → cond r x 0 ≤ x
         counts-less true x = omega arith
@@ -132,13 +144,19 @@ module _ (rule : RuleKind) (s : Search) (t : Tree) (c : List Node) (begun : IsBe
   lone-counted : IsCounted Game s.budget s.attacked s.defended
   lone-counted = record {
     attacks = (
-        let b : attacks_behind (link_at t.links 0).kind rule (left_at Game.left 0) (board_at Game 0) ≡ threat_tree rule (left_at Game.left 0) (board_at Game 0) - 1 = ap (λ (k : Kind). attacks_behind k rule (left_at Game.left 0) (board_at Game 0)) attacks in
-        let d : threat_tree rule (left_at Game.left 0) (board_at Game 0) ≡ threat_tree rule (left_at Game.left 0) s.root = ap (threat_tree rule (left_at Game.left 0)) own-board in
+        let b : attacks_behind (link_at t.links 0).kind rule (left_at Game.left 0) (board_at Game 0) ≡ threat_tree rule
+        (left_at Game.left 0) (board_at Game 0) - 1 = ap (λ (k : Kind). attacks_behind k rule (left_at Game.left 0) (board_at Game 0))
+        attacks in
+        let d : threat_tree rule (left_at Game.left 0) (board_at Game 0) ≡ threat_tree rule (left_at Game.left 0) s.root =
+        ap (threat_tree rule (left_at Game.left 0)) own-board in
         omega (arith, lone-behind attacks_behind, b, d, tree-positive rule (left_at Game.left 0) s.root, begun.attacked_is)
         );
     defences = (
-        let b : defences_behind (link_at t.links 0).kind rule (left_at Game.left 0) (board_at Game 0) ≡ threat_tree rule (left_at Game.left 0) (board_at Game 0) - 1 = ap (λ (k : Kind). defences_behind k rule (left_at Game.left 0) (board_at Game 0)) attacks in
-        let d : threat_tree rule (left_at Game.left 0) (board_at Game 0) ≡ threat_tree rule (left_at Game.left 0) s.root = ap (threat_tree rule (left_at Game.left 0)) own-board in
+        let b : defences_behind (link_at t.links 0).kind rule (left_at Game.left 0) (board_at Game 0) ≡ threat_tree rule
+        (left_at Game.left 0) (board_at Game 0) - 1 = ap (λ (k : Kind). defences_behind k rule (left_at Game.left 0) (board_at Game 0))
+        attacks in
+        let d : threat_tree rule (left_at Game.left 0) (board_at Game 0) ≡ threat_tree rule (left_at Game.left 0) s.root =
+        ap (threat_tree rule (left_at Game.left 0)) own-board in
         omega (arith, lone-behind defences_behind, b, d, begun.defended_is)
         );
     nodes = (let a = begun.one_node in let b = begun.attacked_is in omega (arith, a, b));
@@ -160,20 +178,23 @@ module _ (rule : RuleKind) (s : Search) (t : Tree) (c : List Node) (begun : IsBe
     counted = lone-counted;
     compiled = begun.compiled;
     few = (
-        let b : unwritten t s.notes.items 0 ≡ one_where (nat_eq (note_at s.notes.items 0).moves 0) = ap (λ (k : Kind). one_where (is_attack k && nat_eq (note_at s.notes.items 0).moves 0)) attacks in
+        let b : unwritten t s.notes.items 0 ≡ one_where (nat_eq (note_at s.notes.items 0).moves 0) =
+        ap (λ (k : Kind). one_where (is_attack k && nat_eq (note_at s.notes.items 0).moves 0)) attacks in
         omega (arith, lone-sum (unwritten t s.notes.items), b, root.few, begun.attacked_is)
         );
   }
 
 -- ---- the first look at the root
 
-module _ (rule : RuleKind) (s : Search) (t : Tree) (c : List Node) (b : Grid) (begins : IsNew s.depth s.budget (length c) b s) (lawful : IsPosition rule b) (tree : IsTree t) (one : length t.links ≡ 1)
+module _ (rule : RuleKind) (s : Search) (t : Tree) (c : List Node) (b : Grid) (begins : IsNew s.depth s.budget (length c) b s)
+    (lawful : IsPosition rule b) (tree : IsTree t) (one : length t.links ≡ 1)
     (depth_fits : s.depth ≤ 60) (some_budget : 1 ≤ s.budget) (budget_fits : s.budget ≤ 10000000) where
   first-lawful : IsPosition rule s.root
   first-lawful = subst (IsPosition rule) (sym begins.root_is) lawful
 
   -- nothing is known of the root yet
-  pub begun-open : IsCompiled c → is_settled (numbers_at t.numbers 0) ≡ false → 2 ≤ s.depth → has_five rule b (mover b) ≡ false → Searches rule s t c (λ i. ⊥)
+  pub begun-open : IsCompiled c → is_settled (numbers_at t.numbers 0) ≡ false → 2 ≤ s.depth → has_five rule b (mover b) ≡ false
+      → Searches rule s t c (λ i. ⊥)
   begun-open compiled unsettled deep none = lone-searches rule s t c (record {
     tree = tree;
     one_node = one;
@@ -194,7 +215,8 @@ module _ (rule : RuleKind) (s : Search) (t : Tree) (c : List Node) (b : Grid) (b
     noted = λ some. let e = begins.unwon in absurd (omega (arith, some, e));
     has_win = λ e. absurd (not-settled true e);
     few = (
-        let f : one_where (nat_eq (note_at s.notes.items 0).moves 0) ≡ 1 = ap one_where (eq-eqb (note_at s.notes.items 0).moves 0 begins.unwon) in
+        let f : one_where (nat_eq (note_at s.notes.items 0).moves 0) ≡ 1 =
+        ap one_where (eq-eqb (note_at s.notes.items 0).moves 0 begins.unwon) in
         omega (arith, begins.before_is, f)
         );
   }) where
@@ -206,7 +228,8 @@ module _ (rule : RuleKind) (s : Search) (t : Tree) (c : List Node) (b : Grid) (b
     not-settled p e = let bad : true ≡ false = sym (settled-test p) ∙ ap is_settled (sym e) ∙ unsettled in cc
 
   -- the search changes but in what it notes
-  module _ (v : Search) (u : Tree) (d : List Node) (rest : v ≡ record s { board = v.board; notes = v.notes }) (links : u.links ≡ t.links) (tree_now : IsTree u) (compiled : IsCompiled d)
+  module _ (v : Search) (u : Tree) (d : List Node) (rest : v ≡ record s { board = v.board; notes = v.notes }) (links : u.links ≡ t.links)
+      (tree_now : IsTree u) (compiled : IsCompiled d)
       (long : length v.notes.items ≡ 1) (left : (note_at v.notes.items 0).left ≡ s.depth) where
     still-begun : IsBegun rule v u d
     still-begun = record {
@@ -225,12 +248,14 @@ module _ (rule : RuleKind) (s : Search) (t : Tree) (c : List Node) (b : Grid) (b
     }
 
   -- the root is won, and its win is compiled
-  module _ (v : Search) (u : Tree) (d : List Node) (win : WrittenWin) (rest : v ≡ record s { board = v.board; notes = v.notes }) (items : v.notes.items ≡ noted_won s.notes.items 0 win)
+  module _ (v : Search) (u : Tree) (d : List Node) (win : WrittenWin) (rest : v ≡ record s { board = v.board; notes = v.notes })
+      (items : v.notes.items ≡ noted_won s.notes.items 0 win)
       (st : IsSettledAt t u 0 true) (grown : GrowsBy c d 1) (compiled : IsCompiled d) (is : IsThreatWin rule s.depth b d win) where
     own-note : note_at v.notes.items 0 ≡ record (note_at s.notes.items 0) { moves = win.moves; node = win.node }
     own-note =
         let some : 0 < length s.notes.items = let one = begins.one in omega (arith, one) in
-        ap (λ (ns : List Note). note_at ns 0) items ∙ get_or-set_same s.notes.items 0 (record (note_at s.notes.items 0) { moves = win.moves; node = win.node }) no_note some
+        ap (λ (ns : List Note). note_at ns 0) items ∙ get_or-set_same s.notes.items 0
+        (record (note_at s.notes.items 0) { moves = win.moves; node = win.node }) no_note some
 
     won-moves : (note_at v.notes.items 0).moves ≡ win.moves
     won-moves = ap (λ (n : Note). n.moves) own-note
@@ -240,14 +265,16 @@ module _ (rule : RuleKind) (s : Search) (t : Tree) (c : List Node) (b : Grid) (b
 
     won-begun : IsBegun rule v u d
     won-begun = still-begun v u d rest st.links st.tree compiled
-        (ap length items ∙ length-set s.notes.items 0 (record (note_at s.notes.items 0) { moves = win.moves; node = win.node }) ∙ begins.one)
+        (ap length items ∙ length-set s.notes.items 0 (record (note_at s.notes.items 0) { moves = win.moves; node = win.node })
+        ∙ begins.one)
         (ap (λ (n : Note). n.left) own-note ∙ begins.left)
 
     won-noted : IsNotedWin rule v.depth v.root d (win_of (note_at v.notes.items 0))
     won-noted =
         subst (λ (n : Note). IsNotedWin rule v.depth v.root d (win_of n)) (sym own-note)
         (subst (λ (n : ℕ). IsNotedWin rule n v.root d win) (sym (ap (λ (w : Search). w.depth) rest))
-        (subst (λ (w : Grid). IsNotedWin rule s.depth w d win) (sym (ap (λ (w : Search). w.root) rest ∙ begins.root_is)) (is.written, is.by_threats)))
+        (subst (λ (w : Grid). IsNotedWin rule s.depth w d win) (sym (ap (λ (w : Search). w.root) rest ∙ begins.root_is))
+        (is.written, is.by_threats)))
 
     pub begun-won : Searches rule v u d (λ i. ⊥)
     begun-won = lone-searches rule v u d won-begun (record {
@@ -261,16 +288,20 @@ module _ (rule : RuleKind) (s : Search) (t : Tree) (c : List Node) (b : Grid) (b
       has_win = λ e. win-moves;
       few = (
           let e = ap (λ (w : Search). w.before) rest ∙ begins.before_is in
-          let f : one_where (nat_eq (note_at v.notes.items 0).moves 0) ≡ 0 = ap one_where (ne_eqb (note_at v.notes.items 0).moves 0 (λ z. let m = win-moves in omega (arith, z, m))) in
+          let f : one_where (nat_eq (note_at v.notes.items 0).moves 0) ≡ 0 =
+          ap one_where (ne_eqb (note_at v.notes.items 0).moves 0 (λ z. let m = win-moves in omega (arith, z, m))) in
           omega (arith, grows-length c d 1 grown, e, f)
           );
     })
 
   -- the root is lost: one move is left, and it does not win
-  module _ (v : Search) (u : Tree) (rest : v ≡ record s { board = v.board }) (st : IsSettledAt t u 0 false) (compiled : IsCompiled c) (last : s.depth ≡ 1) (none : WinsByThreats rule 1 b → ⊥) where
+  module _ (v : Search) (u : Tree) (rest : v ≡ record s { board = v.board }) (st : IsSettledAt t u 0 false) (compiled : IsCompiled c)
+      (last : s.depth ≡ 1) (none : WinsByThreats rule 1 b → ⊥) where
     lost-begun : IsBegun rule v u c
-    lost-begun = still-begun v u c (rest ∙ ap (λ (w : Search). record s { board = v.board; notes = w.notes }) (sym rest)) st.links st.tree compiled
-        (ap (λ (w : Search). length w.notes.items) rest ∙ begins.one) (ap (λ (w : Search). (note_at w.notes.items 0).left) rest ∙ begins.left)
+    lost-begun = still-begun v u c (rest ∙ ap (λ (w : Search). record s { board = v.board; notes = w.notes }) (sym rest)) st.links st.tree
+        compiled
+        (ap (λ (w : Search). length w.notes.items) rest ∙ begins.one)
+        (ap (λ (w : Search). (note_at w.notes.items 0).left) rest ∙ begins.left)
 
     pub begun-lost : Searches rule v u c (λ i. ⊥)
     begun-lost = lone-searches rule v u c lost-begun (record {
@@ -283,7 +314,8 @@ module _ (rule : RuleKind) (s : Search) (t : Tree) (c : List Node) (b : Grid) (b
             (subst (WinsByThreats rule v.depth) (ap (λ (w : Search). w.root) rest ∙ begins.root_is) wins)
             );
       };
-      noted = λ some. let e : (note_at v.notes.items 0).moves ≡ 0 = ap (λ (w : Search). (note_at w.notes.items 0).moves) rest ∙ begins.unwon in absurd (omega (arith, some, e));
+      noted = λ some. let e : (note_at v.notes.items 0).moves ≡ 0 =
+          ap (λ (w : Search). (note_at w.notes.items 0).moves) rest ∙ begins.unwon in absurd (omega (arith, some, e));
       has_win = λ e. let bad : 4294967295 ≡ 0 = ap (λ (n : Numbers). n.proof) (sym st.settled ∙ e) in absurd (omega (arith, bad));
       few = (
           let a = ap (λ (w : Search). w.before) rest ∙ begins.before_is in

@@ -1,8 +1,10 @@
 -- A proved node of the attacker is compiled: the nodes behind its proved move have wins, and the search goes on with one more. A proved
 -- node of the attacker is compiled, in the words of the contracts.
-use Rattle.std.proofs.Common.{◌≡◌, ◌≢◌, ◌⊎◌, inl, inr, ℕ, suc, ◌+◌, ◌<◌, ◌≤◌, Bool, true, false, ◌&&◌, refl, sym, ap, subst, ◌∙◌, arith, List, [], ◌∷◌, ◌++◌, map, length, take, drop, nat_eq, All, Ok}
+use Rattle.std.proofs.Common.{◌≡◌, ◌≢◌, ◌⊎◌, inl, inr, ℕ, suc, ◌+◌, ◌<◌, ◌≤◌, Bool, true, false, ◌&&◌, refl, sym, ap, subst, ◌∙◌, arith}
+use Rattle.std.proofs.Common.{List, [], ◌∷◌, ◌++◌, map, length, take, drop, nat_eq, All, Ok}
 use Rattle.std.proofs.lemmas.Bool.{cases_eq, eq-eqb, ne_eqb}
-use Rattle.std.proofs.lemmas.List.{get_or-map, get_or-take, get_or-drop, get_or-set_same, get_or-set_other, length-map, length-take, length-drop, length-append, take-map, drop-map}
+use Rattle.std.proofs.lemmas.List.{get_or-map, get_or-take, get_or-drop, get_or-set_same, get_or-set_other, length-map, length-take}
+use Rattle.std.proofs.lemmas.List.{length-drop, length-append, take-map, drop-map}
 use Rattle.std.specs.List.{AllByRecursion}
 use Rattle.std.proofs.lemmas.List.Elements.{All-from_get_or}
 use Rattle.std.proofs.Math.Seq.{map-set_same}
@@ -14,7 +16,8 @@ use Rattle.game_rules.proofs.ReadingOrder.{points-on}
 use Rattle.proof_tree.specs.declared.Kind.{Kind}
 use Rattle.proof_tree.specs.declared.Kind.TheVariants.{Attack, Defend}
 use Rattle.proof_tree.specs.declared.Numbers.{Numbers}
-use Rattle.proof_tree.proofs.Common.{combined, is_settled, other_kind, settled_numbers, total, IsChild, IsOnWayUp, Tree, children_of, link_at, numbers_at}
+use Rattle.proof_tree.proofs.Common.{combined, is_settled, other_kind, settled_numbers, total, IsChild, IsOnWayUp, Tree, children_of}
+use Rattle.proof_tree.proofs.Common.{link_at, numbers_at}
 use Rattle.proof_tree.proofs.Settled.{settled-proved, above-low}
 use Rattle.strategy_graph.specs.declared.Node.{Node}
 use Rattle.strategy_graph.specs.declared.TheConstants.{MAX_NODES}
@@ -28,7 +31,9 @@ use Rattle.threat_game.proofs.Common.{move_at, nowhere}
 use Rattle.threat_game.proofs.TreeLaws.{one_where}
 use Rattle.proof_number.specs.declared.notes.Note.{Note}
 use Rattle.proof_number.specs.declared.search.Search.{Search}
-use Rattle.proof_number.proofs.Common.{all_notes, answer_of, no_note, note_at, noted_for, win_of, AreMet, GameTree, HasTried, IsGameTree, among, board_at, left_at, left_before, moves_of, noted_tree, AreWritten, IsAbove, IsCounted, IsNotedWin, IsSearching, KeepsTree, game_of, is_attack, noted_won, sum_below, unwritten, Searches}
+use Rattle.proof_number.proofs.Common.{all_notes, answer_of, no_note, note_at, noted_for, win_of, AreMet, GameTree, HasTried, IsGameTree}
+use Rattle.proof_number.proofs.Common.{among, board_at, left_at, left_before, moves_of, noted_tree, AreWritten, IsAbove, IsCounted}
+use Rattle.proof_number.proofs.Common.{IsNotedWin, IsSearching, KeepsTree, game_of, is_attack, noted_won, sum_below, unwritten, Searches}
 use Rattle.proof_number.proofs.GameTruths.{IsChildOf, child-of, each-zero, left-low, points-same}
 use Rattle.proof_number.proofs.Recording.{all-points, note-for, written-node, won-node}
 use Rattle.proof_number.proofs.Remembering.{memo-grown}
@@ -38,16 +43,21 @@ use Rattle.proof_number.proofs.Sums.{sum-less, sum-zeros}
 -- ---- the notes of nodes
 
 -- the note of node i with a win has the move and the moves left that it had
-pub won-places : (rule : RuleKind) (s : Search) (t : Tree) (items : List Note) (i : ℕ) (win : WrittenWin) → items ≡ noted_won s.notes.items i win → noted_tree rule s.root t items ≡ game_of rule s t
+pub won-places : (rule : RuleKind) (s : Search) (t : Tree) (items : List Note) (i : ℕ) (win : WrittenWin)
+    → items ≡ noted_won s.notes.items i win → noted_tree rule s.root t items ≡ game_of rule s t
 won-places rule s t items i win is =
     let moves : map (λ (n : Note). n.at) items ≡ map (λ (n : Note). n.at) s.notes.items =
-    ap (map (λ (n : Note). n.at)) is ∙ map-set_same (λ (n : Note). n.at) s.notes.items i (record (note_at s.notes.items i) { moves = win.moves; node = win.node }) no_note refl in
+    ap (map (λ (n : Note). n.at)) is ∙ map-set_same (λ (n : Note). n.at) s.notes.items i
+    (record (note_at s.notes.items i) { moves = win.moves; node = win.node }) no_note refl in
     let left : map (λ (n : Note). n.left) items ≡ map (λ (n : Note). n.left) s.notes.items =
-    ap (map (λ (n : Note). n.left)) is ∙ map-set_same (λ (n : Note). n.left) s.notes.items i (record (note_at s.notes.items i) { moves = win.moves; node = win.node }) no_note refl in
+    ap (map (λ (n : Note). n.left)) is ∙ map-set_same (λ (n : Note). n.left) s.notes.items i
+    (record (note_at s.notes.items i) { moves = win.moves; node = win.node }) no_note refl in
     λ r. record { rule = rule; start = s.root; tree = t; moves = moves r; left = left r }
 
-module _ (rule : RuleKind) (s : Search) (t : Tree) (c : List Node) (node : ℕ) (h : IsSearching rule s t c (IsOnWayUp t.links node)) (inside : node < length t.links)
-    (attack : (link_at t.links node).kind ≡ Attack) (proved : numbers_at t.numbers node ≡ settled_numbers true) (unwon : (note_at s.notes.items node).moves ≡ 0) where
+module _ (rule : RuleKind) (s : Search) (t : Tree) (c : List Node) (node : ℕ) (h : IsSearching rule s t c (IsOnWayUp t.links node))
+    (inside : node < length t.links)
+    (attack : (link_at t.links node).kind ≡ Attack) (proved : numbers_at t.numbers node ≡ settled_numbers true)
+    (unwon : (note_at s.notes.items node).moves ≡ 0) where
   lower : NamesLower c
   lower = IsTable-lower c h.compiled.table
 
@@ -88,14 +98,21 @@ module _ (rule : RuleKind) (s : Search) (t : Tree) (c : List Node) (node : ℕ) 
         let a = length-take (link_at t.links j).count (drop (link_at t.links j).first s.notes.items) in
         omega (arith, a, length-drop (link_at t.links j).first s.notes.items, h.tree.linked.within j facts.inside, notes-long)
 
-    kid-note : (k : ℕ) → k < (link_at t.links j).count → note_at (take (link_at t.links j).count (drop (link_at t.links j).first s.notes.items)) k ≡ note_at s.notes.items ((link_at t.links j).first + k)
-    kid-note k low = get_or-take (link_at t.links j).count (drop (link_at t.links j).first s.notes.items) k no_note low ∙ get_or-drop (link_at t.links j).first s.notes.items k no_note
+    kid-note : (k : ℕ) → k < (link_at t.links j).count
+        → note_at (take (link_at t.links j).count (drop (link_at t.links j).first s.notes.items)) k ≡ note_at s.notes.items
+        ((link_at t.links j).first + k)
+    kid-note k low = get_or-take (link_at t.links j).count (drop (link_at t.links j).first s.notes.items) k no_note low
+        ∙ get_or-drop (link_at t.links j).first s.notes.items k no_note
 
-    met : AreMet rule (left_at (game_of rule s t).left j) (board_at (game_of rule s t) j) (moves_of (link_at t.links j) (map (λ n. n.at) s.notes.items))
-    met = subst (λ (k : Kind). HasTried k rule (left_at (game_of rule s t).left j) (board_at (game_of rule s t) j) (moves_of (link_at t.links j) (map (λ n. n.at) s.notes.items))) defends (h.game.inner j facts.inside child-some)
+    met : AreMet rule (left_at (game_of rule s t).left j) (board_at (game_of rule s t) j)
+        (moves_of (link_at t.links j) (map (λ n. n.at) s.notes.items))
+    met = subst (λ (k : Kind). HasTried k rule (left_at (game_of rule s t).left j) (board_at (game_of rule s t) j)
+        (moves_of (link_at t.links j) (map (λ n. n.at) s.notes.items))) defends (h.game.inner j facts.inside child-some)
 
-    kids-moves : map (λ n. n.at) (take (link_at t.links j).count (drop (link_at t.links j).first s.notes.items)) ≡ moves_of (link_at t.links j) (map (λ n. n.at) s.notes.items)
-    kids-moves = sym (ap (take (link_at t.links j).count) (drop-map (λ (n : Note). n.at) (link_at t.links j).first s.notes.items) ∙ take-map (λ (n : Note). n.at) (link_at t.links j).count (drop (link_at t.links j).first s.notes.items))
+    kids-moves : map (λ n. n.at) (take (link_at t.links j).count (drop (link_at t.links j).first s.notes.items)) ≡ moves_of
+        (link_at t.links j) (map (λ n. n.at) s.notes.items)
+    kids-moves = sym (ap (take (link_at t.links j).count) (drop-map (λ (n : Note). n.at) (link_at t.links j).first s.notes.items)
+        ∙ take-map (λ (n : Note). n.at) (link_at t.links j).count (drop (link_at t.links j).first s.notes.items))
 
     pub kids-some : 0 < length (take (link_at t.links j).count (drop (link_at t.links j).first s.notes.items))
     kids-some = let e = kids-length in let some = child-some in omega (arith, e, some)
@@ -103,73 +120,104 @@ module _ (rule : RuleKind) (s : Search) (t : Tree) (c : List Node) (node : ℕ) 
     -- the board and the moves left of each child, and its win
     own-total : total (map (λ n. n.proof) (children_of (link_at t.links j) t.numbers)) ≡ 0
     own-total =
-        let own : numbers_at t.numbers j ≡ combined Defend (children_of (link_at t.links j) t.numbers) = h.tree.numbered.combined_at j facts.inside child-some ∙ ap (λ (k : Kind). combined k (children_of (link_at t.links j) t.numbers)) defends in
+        let own : numbers_at t.numbers j ≡ combined Defend (children_of (link_at t.links j) t.numbers) =
+        h.tree.numbered.combined_at j facts.inside child-some
+        ∙ ap (λ (k : Kind). combined k (children_of (link_at t.links j) t.numbers)) defends in
         ap (λ (n : Numbers). n.proof) (sym own ∙ child-proved)
 
     kid-win : (k : ℕ) → k < (link_at t.links j).count
-        → IsWrittenWin rule (left_at (game_of rule s t).left j) (after (board_at (game_of rule s t) j) (note_at s.notes.items ((link_at t.links j).first + k)).at) c (win_of (note_at s.notes.items ((link_at t.links j).first + k)))
+        → IsWrittenWin rule (left_at (game_of rule s t).left j)
+        (after (board_at (game_of rule s t) j) (note_at s.notes.items ((link_at t.links j).first + k)).at) c
+        (win_of (note_at s.notes.items ((link_at t.links j).first + k)))
     kid-win k low =
         let m : ℕ = (link_at t.links j).first + k in
         let kid : IsChild (link_at t.links j) m = record { from_first = omega arith; below_end = omega (arith, low) } in
         let f = child-of (game_of rule s t) h.tree h.game j m facts.inside kid in
         let attacks : (link_at t.links m).kind ≡ Attack = f.kind ∙ ap other_kind defends in
         let numbers : numbers_at t.numbers m ≡ settled_numbers true =
-        settled-proved (numbers_at t.numbers m) (h.tree.numbered.each m f.inside) (each-zero (game_of rule s t) h.tree h.game j facts.inside (λ n. n.proof) own-total m kid) in
+        settled-proved (numbers_at t.numbers m) (h.tree.numbered.each m f.inside)
+        (each-zero (game_of rule s t) h.tree h.game j facts.inside (λ n. n.proof) own-total m kid) in
         let beside : IsOnWayUp t.links node m → ⊥ = λ way.
         omega (arith, above-low t.links h.tree.linked way.0 node inside, way.1, facts.later, f.later) in
         let some = h.written.all m f.inside attacks numbers beside in
         let win = (h.written.true_wins m f.inside some).0 in
-        let moved : move_at (map (λ n. n.at) s.notes.items) m ≡ (note_at s.notes.items m).at = get_or-map (λ (n : Note). n.at) s.notes.items m no_note nowhere (let long = notes-long in let i = f.inside in omega (arith, long, i)) in
-        let left : left_at (game_of rule s t).left m ≡ left_at (game_of rule s t).left j = ap (λ (q : Kind). left_before q (left_at (game_of rule s t).left m)) (sym attacks) ∙ f.fewer in
-        let board : board_at (game_of rule s t) m ≡ after (board_at (game_of rule s t) j) (note_at s.notes.items m).at = f.board ∙ ap (after (board_at (game_of rule s t) j)) moved in
-        subst (λ (n : ℕ). IsWrittenWin rule n (after (board_at (game_of rule s t) j) (note_at s.notes.items m).at) c (win_of (note_at s.notes.items m))) left
+        let moved : move_at (map (λ n. n.at) s.notes.items) m ≡ (note_at s.notes.items m).at =
+        get_or-map (λ (n : Note). n.at) s.notes.items m no_note nowhere
+        (let long = notes-long in let i = f.inside in omega (arith, long, i)) in
+        let left : left_at (game_of rule s t).left m ≡ left_at (game_of rule s t).left j =
+        ap (λ (q : Kind). left_before q (left_at (game_of rule s t).left m)) (sym attacks) ∙ f.fewer in
+        let board : board_at (game_of rule s t) m ≡ after (board_at (game_of rule s t) j) (note_at s.notes.items m).at =
+        f.board ∙ ap (after (board_at (game_of rule s t) j)) moved in
+        subst (λ (n : ℕ). IsWrittenWin rule n (after (board_at (game_of rule s t) j) (note_at s.notes.items m).at) c
+        (win_of (note_at s.notes.items m))) left
         (subst (λ (b : Grid). IsWrittenWin rule (left_at (game_of rule s t).left m) b c (win_of (note_at s.notes.items m))) board win)
 
     kids-win : (k : ℕ) → k < length (take (link_at t.links j).count (drop (link_at t.links j).first s.notes.items))
-        → IsWrittenWin rule (left_at (game_of rule s t).left j) (after (board_at (game_of rule s t) j) (note_at (take (link_at t.links j).count (drop (link_at t.links j).first s.notes.items)) k).at) c (win_of (note_at (take (link_at t.links j).count (drop (link_at t.links j).first s.notes.items)) k))
+        → IsWrittenWin rule (left_at (game_of rule s t).left j)
+        (after (board_at (game_of rule s t) j)
+        (note_at (take (link_at t.links j).count (drop (link_at t.links j).first s.notes.items)) k).at) c
+        (win_of (note_at (take (link_at t.links j).count (drop (link_at t.links j).first s.notes.items)) k))
     kids-win k low =
         let below : k < (link_at t.links j).count = let e = kids-length in omega (arith, e, low) in
-        subst (λ (n : Note). IsWrittenWin rule (left_at (game_of rule s t).left j) (after (board_at (game_of rule s t) j) n.at) c (win_of n)) (sym (kid-note k below)) (kid-win k below)
+        subst (λ (n : Note). IsWrittenWin rule (left_at (game_of rule s t).left j) (after (board_at (game_of rule s t) j) n.at) c
+        (win_of n)) (sym (kid-note k below)) (kid-win k below)
 
     kids-on : (k : ℕ) → k < length (take (link_at t.links j).count (drop (link_at t.links j).first s.notes.items))
-        → outcome rule (board_at (game_of rule s t) j) (note_at (take (link_at t.links j).count (drop (link_at t.links j).first s.notes.items)) k).at ≡ GoesOn
+        → outcome rule (board_at (game_of rule s t) j)
+        (note_at (take (link_at t.links j).count (drop (link_at t.links j).first s.notes.items)) k).at ≡ GoesOn
     kids-on k low =
         let below : k < (link_at t.links j).count = let e = kids-length in omega (arith, e, low) in
         let m : ℕ = (link_at t.links j).first + k in
         let kid : IsChild (link_at t.links j) m = record { from_first = omega arith; below_end = omega (arith, below) } in
         let f = child-of (game_of rule s t) h.tree h.game j m facts.inside kid in
-        let moved : move_at (map (λ n. n.at) s.notes.items) m ≡ (note_at s.notes.items m).at = get_or-map (λ (n : Note). n.at) s.notes.items m no_note nowhere (let long = notes-long in let i = f.inside in omega (arith, long, i)) in
-        ap (λ (n : Note). outcome rule (board_at (game_of rule s t) j) n.at) (kid-note k below) ∙ ap (outcome rule (board_at (game_of rule s t) j)) (sym moved) ∙ f.on
+        let moved : move_at (map (λ n. n.at) s.notes.items) m ≡ (note_at s.notes.items m).at =
+        get_or-map (λ (n : Note). n.at) s.notes.items m no_note nowhere
+        (let long = notes-long in let i = f.inside in omega (arith, long, i)) in
+        ap (λ (n : Note). outcome rule (board_at (game_of rule s t) j) n.at) (kid-note k below)
+        ∙ ap (outcome rule (board_at (game_of rule s t) j)) (sym moved) ∙ f.on
 
     pub kids-below : All (λ n. n.node < length c) (take (link_at t.links j).count (drop (link_at t.links j).first s.notes.items))
-    kids-below = All-from_get_or (λ n. n.node < length c) (take (link_at t.links j).count (drop (link_at t.links j).first s.notes.items)) no_note (λ k low. (kids-win k low).in_compiler)
+    kids-below = All-from_get_or (λ n. n.node < length c) (take (link_at t.links j).count (drop (link_at t.links j).first s.notes.items))
+        no_note (λ k low. (kids-win k low).in_compiler)
 
     -- the win of the note for a reply that goes on
     point-win : (q : Point) → outcome rule (board_at (game_of rule s t) j) q ≡ GoesOn
-        → IsWrittenWin rule (left_at (game_of rule s t).left j) (after (board_at (game_of rule s t) j) q) c (win_of (noted_for (take (link_at t.links j).count (drop (link_at t.links j).first s.notes.items)) q))
+        → IsWrittenWin rule (left_at (game_of rule s t).left j) (after (board_at (game_of rule s t) j) q) c
+        (win_of (noted_for (take (link_at t.links j).count (drop (link_at t.links j).first s.notes.items)) q))
     point-win q on =
         let K : List Note = take (link_at t.links j).count (drop (link_at t.links j).first s.notes.items) in
         let found = note-for K q kids-some in
-        subst (λ (n : Note). IsWrittenWin rule (left_at (game_of rule s t).left j) (after (board_at (game_of rule s t) j) q) c (win_of n)) (sym found.1.is) (by_move found.0 found.1.inside found.1.move) where
+        subst (λ (n : Note). IsWrittenWin rule (left_at (game_of rule s t).left j) (after (board_at (game_of rule s t) j) q) c (win_of n))
+        (sym found.1.is) (by_move found.0 found.1.inside found.1.move) where
           by_move : (k : ℕ) → k < length (take (link_at t.links j).count (drop (link_at t.links j).first s.notes.items))
-              → ((note_at (take (link_at t.links j).count (drop (link_at t.links j).first s.notes.items)) k).at ≡ q) ⊎ ((k ≡ 0) × (among (map (λ m. m.at) (take (link_at t.links j).count (drop (link_at t.links j).first s.notes.items))) q ≡ false))
-              → IsWrittenWin rule (left_at (game_of rule s t).left j) (after (board_at (game_of rule s t) j) q) c (win_of (note_at (take (link_at t.links j).count (drop (link_at t.links j).first s.notes.items)) k))
+              → ((note_at (take (link_at t.links j).count (drop (link_at t.links j).first s.notes.items)) k).at ≡ q) ⊎
+              ((k ≡ 0) × (among (map (λ m. m.at) (take (link_at t.links j).count (drop (link_at t.links j).first s.notes.items))) q
+              ≡ false))
+              → IsWrittenWin rule (left_at (game_of rule s t).left j) (after (board_at (game_of rule s t) j) q) c
+              (win_of (note_at (take (link_at t.links j).count (drop (link_at t.links j).first s.notes.items)) k))
           by_move k low (inl same) =
-              subst (λ (p : Point). IsWrittenWin rule (left_at (game_of rule s t).left j) (after (board_at (game_of rule s t) j) p) c (win_of (note_at (take (link_at t.links j).count (drop (link_at t.links j).first s.notes.items)) k))) same (kids-win k low)
+              subst (λ (p : Point). IsWrittenWin rule (left_at (game_of rule s t).left j) (after (board_at (game_of rule s t) j) p) c
+              (win_of (note_at (take (link_at t.links j).count (drop (link_at t.links j).first s.notes.items)) k))) same
+              (kids-win k low)
           by_move k low (inr out) =
-              let first = h.written.met j facts.inside defends child-some q on (ap (λ (ps : List Point). among ps q) (sym kids-moves) ∙ out.1) in
-              let note : note_at (take (link_at t.links j).count (drop (link_at t.links j).first s.notes.items)) k ≡ note_at s.notes.items (link_at t.links j).first =
+              let first = h.written.met j facts.inside defends child-some q on
+              (ap (λ (ps : List Point). among ps q) (sym kids-moves) ∙ out.1) in
+              let note : note_at (take (link_at t.links j).count (drop (link_at t.links j).first s.notes.items)) k ≡ note_at s.notes.items
+              (link_at t.links j).first =
               kid-note k (let e = kids-length in omega (arith, e, low)) ∙ ap (note_at s.notes.items) (let e = out.0 in omega (arith, e)) in
-              subst (λ (n : Note). IsWrittenWin rule (left_at (game_of rule s t).left j) (after (board_at (game_of rule s t) j) q) c (win_of n)) (sym note) first.win.0
+              subst (λ (n : Note). IsWrittenWin rule (left_at (game_of rule s t).left j) (after (board_at (game_of rule s t) j) q) c
+              (win_of n)) (sym note) first.win.0
 
     points-answer : (ps : List Point) → AllByRecursion (λ q. is_on (board_at (game_of rule s t) j) q ≡ true) ps
-        → AllByRecursion (λ m. IsAnswer rule (left_at (game_of rule s t).left j) (board_at (game_of rule s t) j) c (answer_of m)) (all_notes (take (link_at t.links j).count (drop (link_at t.links j).first s.notes.items)) ps)
+        → AllByRecursion (λ m. IsAnswer rule (left_at (game_of rule s t).left j) (board_at (game_of rule s t) j) c (answer_of m))
+        (all_notes (take (link_at t.links j).count (drop (link_at t.links j).first s.notes.items)) ps)
     points-answer [] on = tt
     points-answer (q ∷ ps) on =
         let K : List Note = take (link_at t.links j).count (drop (link_at t.links j).first s.notes.items) in
         let found = note-for K q kids-some in
         let own : IsAnswer rule (left_at (game_of rule s t).left j) (board_at (game_of rule s t) j) c (answer_of (note_at K found.0)) =
-        answer-by-win rule (left_at (game_of rule s t).left j) (board_at (game_of rule s t) j) c (answer_of (note_at K found.0)) (note_at K found.0).moves (kids-on found.0 found.1.inside) (kids-win found.0 found.1.inside) in (
+        answer-by-win rule (left_at (game_of rule s t).left j) (board_at (game_of rule s t) j) c (answer_of (note_at K found.0))
+        (note_at K found.0).moves (kids-on found.0 found.1.inside) (kids-win found.0 found.1.inside) in (
           record {
             on_board = on.0;
             accepted = λ go. (point-win q go).accepted;
@@ -179,7 +227,8 @@ module _ (rule : RuleKind) (s : Search) (t : Tree) (c : List Node) (node : ℕ) 
           points-answer ps on.1,
         )
 
-    points-deep : (ps : List Point) → AllByRecursion (λ m. depth c m.node ≡ m.moves) (all_notes (take (link_at t.links j).count (drop (link_at t.links j).first s.notes.items)) ps)
+    points-deep : (ps : List Point) → AllByRecursion (λ m. depth c m.node ≡ m.moves)
+        (all_notes (take (link_at t.links j).count (drop (link_at t.links j).first s.notes.items)) ps)
     points-deep [] = tt
     points-deep (q ∷ ps) =
         let K : List Note = take (link_at t.links j).count (drop (link_at t.links j).first s.notes.items) in
@@ -190,29 +239,39 @@ module _ (rule : RuleKind) (s : Search) (t : Tree) (c : List Node) (node : ℕ) 
 
     -- the node with these answers is a win at the node
     module _ (d : List Node) (i : ℕ) (p : Point) (move : (note_at s.notes.items j).at ≡ p)
-        (wins : WinsByAnswers c p (map answer_of (all_notes (take (link_at t.links j).count (drop (link_at t.links j).first s.notes.items)) (points_of s.root))) d i)
+        (wins : WinsByAnswers c p
+        (map answer_of (all_notes (take (link_at t.links j).count (drop (link_at t.links j).first s.notes.items)) (points_of s.root))) d
+        i)
       where
         pub node-win : IsWrittenWin rule (left_at (game_of rule s t).left node) (board_at (game_of rule s t) node) d
             (record {
               node = i;
               moves = greatest
-                  (map (λ m. m.moves) (all_notes (take (link_at t.links j).count (drop (link_at t.links j).first s.notes.items)) (points_of s.root))) + 1;
+                  (map (λ m. m.moves) (all_notes (take (link_at t.links j).count (drop (link_at t.links j).first s.notes.items))
+                  (points_of s.root))) + 1;
             })
         node-win =
             let b : Grid = board_at (game_of rule s t) node in
             let K : List Note = take (link_at t.links j).count (drop (link_at t.links j).first s.notes.items) in
-            let moved : move_at (map (λ n. n.at) s.notes.items) j ≡ p = get_or-map (λ (n : Note). n.at) s.notes.items j no_note nowhere (let long = notes-long in let f = facts.inside in omega (arith, long, f)) ∙ move in
+            let moved : move_at (map (λ n. n.at) s.notes.items) j ≡ p =
+            get_or-map (λ (n : Note). n.at) s.notes.items j no_note nowhere
+            (let long = notes-long in let f = facts.inside in omega (arith, long, f)) ∙ move in
             let on : outcome rule b p ≡ GoesOn = ap (outcome rule b) (sym moved) ∙ facts.on in
             let there : board_at (game_of rule s t) j ≡ after b p = facts.board ∙ ap (after b) moved in
-            let left : suc (left_at (game_of rule s t).left j) ≡ left_at (game_of rule s t).left node = ap (λ (q : Kind). left_before q (left_at (game_of rule s t).left j)) (sym defends) ∙ facts.fewer in
+            let left : suc (left_at (game_of rule s t).left j) ≡ left_at (game_of rule s t).left node =
+            ap (λ (q : Kind). left_before q (left_at (game_of rule s t).left j)) (sym defends) ∙ facts.fewer in
             let points : points_of (board_at (game_of rule s t) j) ≡ points_of s.root = points-same (game_of rule s t) j in
-            let answered = subst (λ (ps : List Point). AllByRecursion (λ m. IsAnswer rule (left_at (game_of rule s t).left j) (board_at (game_of rule s t) j) c (answer_of m)) (all_notes K ps)) points
+            let answered = subst (λ (ps : List Point). AllByRecursion
+            (λ m. IsAnswer rule (left_at (game_of rule s t).left j) (board_at (game_of rule s t) j) c (answer_of m)) (all_notes K ps))
+            points
             (points-answer (points_of (board_at (game_of rule s t) j)) (points-on (board_at (game_of rule s t) j))) in
-            subst (λ (n : ℕ). IsWrittenWin rule n b d (record { node = i; moves = greatest (map (λ m. m.moves) (all_notes K (points_of s.root))) + 1 })) left
+            subst (λ (n : ℕ). IsWrittenWin rule n b d
+            (record { node = i; moves = greatest (map (λ m. m.moves) (all_notes K (points_of s.root))) + 1 })) left
             (written-node rule b p on c d (all_notes K (points_of s.root)) (left_at (game_of rule s t).left j)
             (all-points K (points_of s.root) ∙ sym points ∙ ap points_of there)
             (λ q. subst (λ (e : Grid). LosesOr (outcome rule e q) (Unit {0})) there (met.none_saves q))
-            (subst (λ (e : Grid). AllByRecursion (λ m. IsAnswer rule (left_at (game_of rule s t).left j) e c (answer_of m)) (all_notes K (points_of s.root))) there answered)
+            (subst (λ (e : Grid). AllByRecursion (λ m. IsAnswer rule (left_at (game_of rule s t).left j) e c (answer_of m))
+            (all_notes K (points_of s.root))) there answered)
             (points-deep (points_of s.root))
             i wins)
 
@@ -223,14 +282,17 @@ module _ (rule : RuleKind) (s : Search) (t : Tree) (c : List Node) (node : ℕ) 
       (u : Search) (rest : u ≡ record s { notes = u.notes }) (items : u.notes.items ≡ noted_won s.notes.items node win) where
     here : note_at u.notes.items node ≡ record (note_at s.notes.items node) { moves = win.moves; node = win.node }
     here = ap (λ (l : List Note). note_at l node) items
-        ∙ get_or-set_same s.notes.items node (record (note_at s.notes.items node) { moves = win.moves; node = win.node }) no_note (let long = length-map s.notes.items (λ (n : Note). n.at) in let e = h.game.moves in omega (arith, long, e, inside))
+        ∙ get_or-set_same s.notes.items node (record (note_at s.notes.items node) { moves = win.moves; node = win.node }) no_note
+        (let long = length-map s.notes.items (λ (n : Note). n.at) in let e = h.game.moves in omega (arith, long, e, inside))
 
     other-note : (i : ℕ) → i ≢ node → note_at u.notes.items i ≡ note_at s.notes.items i
-    other-note i other = ap (λ (l : List Note). note_at l i) items ∙ get_or-set_other s.notes.items node i (record (note_at s.notes.items node) { moves = win.moves; node = win.node }) no_note other
+    other-note i other = ap (λ (l : List Note). note_at l i) items
+        ∙ get_or-set_other s.notes.items node i (record (note_at s.notes.items node) { moves = win.moves; node = win.node }) no_note other
 
     same_left : (i : ℕ) → (note_at u.notes.items i).left ≡ (note_at s.notes.items i).left
     same_left i = elim (cases_eq i node) [
-      | inl e ↦ ap (λ (k : ℕ). (note_at u.notes.items k).left) e ∙ ap (λ (n : Note). n.left) here ∙ ap (λ (k : ℕ). (note_at s.notes.items k).left) (sym e)
+      | inl e ↦ ap (λ (k : ℕ). (note_at u.notes.items k).left) e ∙ ap (λ (n : Note). n.left) here
+          ∙ ap (λ (k : ℕ). (note_at s.notes.items k).left) (sym e)
       | inr n ↦ ap (λ (n : Note). n.left) (other-note i n)
     ]
 
@@ -254,14 +316,18 @@ module _ (rule : RuleKind) (s : Search) (t : Tree) (c : List Node) (node : ℕ) 
         record {
           true_wins = λ i low positive. elim (cases_eq i node) [
             | inl e ↦
-                subst (λ (k : ℕ). IsNotedWin rule (left_at (game_of rule s t).left k) (board_at (game_of rule s t) k) (c ++ more) (win_of (note_at u.notes.items k))) (sym e)
-                (subst (λ (n : Note). IsNotedWin rule (left_at (game_of rule s t).left node) (board_at (game_of rule s t) node) (c ++ more) (win_of n)) (sym here) true_win)
+                subst (λ (k : ℕ). IsNotedWin rule (left_at (game_of rule s t).left k) (board_at (game_of rule s t) k) (c ++ more)
+                (win_of (note_at u.notes.items k))) (sym e)
+                (subst (λ (n : Note). IsNotedWin rule (left_at (game_of rule s t).left node) (board_at (game_of rule s t) node) (c ++ more)
+                (win_of n)) (sym here) true_win)
             | inr other ↦
-                subst (λ (n : Note). IsNotedWin rule (left_at (game_of rule s t).left i) (board_at (game_of rule s t) i) (c ++ more) (win_of n)) (sym (other-note i other))
+                subst (λ (n : Note). IsNotedWin rule (left_at (game_of rule s t).left i) (board_at (game_of rule s t) i) (c ++ more)
+                (win_of n)) (sym (other-note i other))
                 (grown.true_wins i low (subst (λ (n : Note). 0 < n.moves) (other-note i other) positive))
           ];
           fresh = λ i low none unsettled. elim (cases_eq i node) [
-            | inl e ↦ let is : is_settled (numbers_at t.numbers i) ≡ true = ap (λ (k : ℕ). is_settled (numbers_at t.numbers k)) e ∙ settled-here in let bad : true ≡ false = sym is ∙ unsettled in cc
+            | inl e ↦ let is : is_settled (numbers_at t.numbers i) ≡ true =
+                ap (λ (k : ℕ). is_settled (numbers_at t.numbers k)) e ∙ settled-here in let bad : true ≡ false = sym is ∙ unsettled in cc
             | inr other ↦ ap (λ (n : Note). n.moves) (other-note i other) ∙ h.written.fresh i low none unsettled
           ];
           leaves = λ i low none attacks numbers. elim (cases_eq i node) [
@@ -271,27 +337,32 @@ module _ (rule : RuleKind) (s : Search) (t : Tree) (c : List Node) (node : ℕ) 
           defends = h.written.defends;
           all = λ i low attacks numbers beside. elim (cases_eq i node) [
             | inl e ↦ subst (λ (k : ℕ). 0 < (note_at u.notes.items k).moves) (sym e) now-some
-            | inr other ↦ subst (λ (n : Note). 0 < n.moves) (sym (other-note i other)) (h.written.all i low attacks numbers (λ way. beside (way, other)))
+            | inr other ↦ subst (λ (n : Note). 0 < n.moves) (sym (other-note i other))
+                (h.written.all i low attacks numbers (λ way. beside (way, other)))
           ];
           met = λ i low defends several q on none.
               let is = grown.met i low defends several q on none in
               let first : ℕ = (link_at t.links i).first in
-              let other : first ≢ node = λ e. let nothing : (note_at s.notes.items first).moves ≡ 0 = ap (λ (k : ℕ). (note_at s.notes.items k).moves) e ∙ unwon in let positive = is.some in omega (arith, nothing, positive) in
+              let other : first ≢ node = λ e. let nothing : (note_at s.notes.items first).moves ≡ 0 =
+              ap (λ (k : ℕ). (note_at s.notes.items k).moves) e ∙ unwon in let positive = is.some in omega (arith, nothing, positive) in
               record {
                 some = subst (λ (n : Note). 0 < n.moves) (sym (other-note first other)) is.some;
-                win = subst (λ (n : Note). IsNotedWin rule (left_at (game_of rule s t).left i) (after (board_at (game_of rule s t) i) q) (c ++ more) (win_of n)) (sym (other-note first other)) is.win;
+                win = subst (λ (n : Note). IsNotedWin rule (left_at (game_of rule s t).left i) (after (board_at (game_of rule s t) i) q)
+                    (c ++ more) (win_of n)) (sym (other-note first other)) is.win;
               };
         }
 
     won-few : length (c ++ more) + sum_below (length t.links) (unwritten t u.notes.items) ≤ s.before + s.attacked
     won-few =
         let less = sum-less (length t.links) (unwritten t u.notes.items) (unwritten t s.notes.items) node 1 inside
-        (λ j low other. let e = ap (λ (n : Note). one_where (is_attack (link_at t.links j).kind && nat_eq n.moves 0)) (other-note j other) in omega (arith, e))
+        (λ j low other. let e = ap (λ (n : Note). one_where (is_attack (link_at t.links j).kind && nat_eq n.moves 0))
+        (other-note j other) in omega (arith, e))
         (let a = now-none in let b = was-one in omega (arith, a, b)) in
         omega (arith, less, length-append c more, few, h.few) where
           now-none : unwritten t u.notes.items node ≡ 0
           now-none =
-              ap (λ r. one_where (is_attack (link_at t.links node).kind && r)) (ne_eqb (note_at u.notes.items node).moves 0 (λ e. let more = now-some in omega (arith, e, more)))
+              ap (λ r. one_where (is_attack (link_at t.links node).kind && r))
+              (ne_eqb (note_at u.notes.items node).moves 0 (λ e. let more = now-some in omega (arith, e, more)))
               ∙ no-one (is_attack (link_at t.links node).kind) where
                 no-one : (r : Bool) → one_where (r && false) ≡ 0
                 no-one true = refl
@@ -311,15 +382,19 @@ module _ (rule : RuleKind) (s : Search) (t : Tree) (c : List Node) (node : ℕ) 
           depth = same_left 0 ∙ h.depth;
           depth_fits = h.depth_fits;
           budget_fits = h.budget_fits;
-          written = subst (λ (g : GameTree). AreWritten g u.notes.items (c ++ more) (IsAbove t.links node)) (sym (won-places rule s t u.notes.items node win items)) won-written;
+          written = subst (λ (g : GameTree). AreWritten g u.notes.items (c ++ more) (IsAbove t.links node))
+              (sym (won-places rule s t u.notes.items node win items)) won-written;
           remembered = memo-grown rule c more s.settled lower h.remembered;
-          counted = subst (λ (g : GameTree). IsCounted g s.budget s.attacked s.defended) (sym (won-places rule s t u.notes.items node win items)) h.counted;
+          counted = subst (λ (g : GameTree). IsCounted g s.budget s.attacked s.defended)
+              (sym (won-places rule s t u.notes.items node win items)) h.counted;
           compiled = compiled;
           few = won-few;
         })
 
-module _ (rule : RuleKind) (s : Search) (t : Tree) (c : List Node) (node : ℕ) (searches : Searches rule s t c (IsOnWayUp t.links node)) (inside : node < length t.links)
-    (attack : (link_at t.links node).kind ≡ Attack) (proved : numbers_at t.numbers node ≡ settled_numbers true) (unwon : (note_at s.notes.items node).moves ≡ 0) where
+module _ (rule : RuleKind) (s : Search) (t : Tree) (c : List Node) (node : ℕ) (searches : Searches rule s t c (IsOnWayUp t.links node))
+    (inside : node < length t.links)
+    (attack : (link_at t.links node).kind ≡ Attack) (proved : numbers_at t.numbers node ≡ settled_numbers true)
+    (unwon : (note_at s.notes.items node).moves ≡ 0) where
   h : IsSearching rule s t c (IsOnWayUp t.links node)
   unfolding Searches
   h = searches
@@ -335,7 +410,8 @@ module _ (rule : RuleKind) (s : Search) (t : Tree) (c : List Node) (node : ℕ) 
 
   own-left : left_at (game_of rule s t).left node ≤ 60
   own-left =
-      let root : left_at (game_of rule s t).left 0 ≡ (note_at s.notes.items 0).left = get_or-map (λ (n : Note). n.left) s.notes.items 0 no_note 0 (let l = compile-here in omega (arith, l)) in
+      let root : left_at (game_of rule s t).left 0 ≡ (note_at s.notes.items 0).left =
+      get_or-map (λ (n : Note). n.left) s.notes.items 0 no_note 0 (let l = compile-here in omega (arith, l)) in
       omega (arith, left-low (game_of rule s t) h.tree.linked h.game node inside, root, h.depth, h.depth_fits)
 
   module _ (j : ℕ) (child : IsChild (link_at t.links node) j) (nothing : (numbers_at t.numbers j).proof ≡ 0) where
@@ -350,10 +426,12 @@ module _ (rule : RuleKind) (s : Search) (t : Tree) (c : List Node) (node : ℕ) 
 
     module _ (kids : List Note) (are : kids ≡ take (link_at t.links j).count (drop (link_at t.links j).first s.notes.items)) where
       pub compile-kids : 0 < length kids
-      compile-kids = subst (λ (ns : List Note). 0 < length ns) (sym are) (kids-some rule s t c node h inside attack proved unwon j child nothing)
+      compile-kids = subst (λ (ns : List Note). 0 < length ns) (sym are)
+          (kids-some rule s t c node h inside attack proved unwon j child nothing)
 
       pub compile-below : All (λ n. n.node < length c) kids
-      compile-below = subst (λ (ns : List Note). All (λ n. n.node < length c) ns) (sym are) (kids-below rule s t c node h inside attack proved unwon j child nothing)
+      compile-below = subst (λ (ns : List Note). All (λ n. n.node < length c) ns) (sym are)
+          (kids-below rule s t c node h inside attack proved unwon j child nothing)
 
       module _ (d : List Node) (p : Point) (move : (note_at s.notes.items j).at ≡ p) (win : WrittenWin) (writes : Writes c d 1 (Ok win))
           (wins : WinsByAnswers c p (map answer_of (all_notes kids (points_of s.root))) d win.node)
@@ -370,7 +448,13 @@ module _ (rule : RuleKind) (s : Search) (t : Tree) (c : List Node) (node : ℕ) 
         pub compile-won : IsWrittenWin rule (left_at (game_of rule s t).left node) (board_at (game_of rule s t) node) d win
         compile-won =
             let K : List Note = take (link_at t.links j).count (drop (link_at t.links j).first s.notes.items) in
-            let same : record { node = win.node; moves = greatest (map (λ (n : Note). n.moves) (all_notes K (points_of s.root))) + 1 } ≡ win = λ i. record { node = win.node; moves = (ap (λ (ns : List Note). greatest (map (λ (n : Note). n.moves) (all_notes ns (points_of s.root))) + 1) (sym are) ∙ sym moves) i } in
+            let same : record { node = win.node; moves = greatest (map (λ (n : Note). n.moves) (all_notes K (points_of s.root))) + 1 }
+            ≡ win = λ i. record {
+              node = win.node;
+              moves =
+                  (ap (λ (ns : List Note). greatest (map (λ (n : Note). n.moves) (all_notes ns (points_of s.root))) + 1) (sym are)
+                  ∙ sym moves) i;
+            } in
             subst (λ (w : WrittenWin). IsWrittenWin rule (left_at (game_of rule s t).left node) (board_at (game_of rule s t) node) d w) same
             (node-win rule s t c node h inside attack proved unwon j child nothing d win.node p move
             (subst (λ (ns : List Note). WinsByAnswers c p (map answer_of (all_notes ns (points_of s.root))) d win.node) are wins))
@@ -385,16 +469,20 @@ module _ (rule : RuleKind) (s : Search) (t : Tree) (c : List Node) (node : ℕ) 
           pub compile-keeps : KeepsTree s u
           compile-keeps =
               let a = added in
-              won-keeps rule s t c node h inside attack proved unwon a.0 a.2 (subst IsCompiled a.1 compiled) win (win-some rule (left_at (game_of rule s t).left node) (board_at (game_of rule s t) node) d win compile-won)
-              (subst (λ (x : List Node). IsNotedWin rule (left_at (game_of rule s t).left node) (board_at (game_of rule s t) node) x win) a.1 noted) u rest items
+              won-keeps rule s t c node h inside attack proved unwon a.0 a.2 (subst IsCompiled a.1 compiled) win
+              (win-some rule (left_at (game_of rule s t).left node) (board_at (game_of rule s t) node) d win compile-won)
+              (subst (λ (x : List Node). IsNotedWin rule (left_at (game_of rule s t).left node) (board_at (game_of rule s t) node) x win)
+              a.1 noted) u rest items
 
           pub compile-searches : Searches rule u t d (IsAbove t.links node)
           unfolding Searches
           compile-searches =
               let a = added in
               subst (λ (x : List Node). IsSearching rule u t x (IsAbove t.links node)) (sym a.1)
-              (won-searching rule s t c node h inside attack proved unwon a.0 a.2 (subst IsCompiled a.1 compiled) win (win-some rule (left_at (game_of rule s t).left node) (board_at (game_of rule s t) node) d win compile-won)
-              (subst (λ (x : List Node). IsNotedWin rule (left_at (game_of rule s t).left node) (board_at (game_of rule s t) node) x win) a.1 noted) u rest items)
+              (won-searching rule s t c node h inside attack proved unwon a.0 a.2 (subst IsCompiled a.1 compiled) win
+              (win-some rule (left_at (game_of rule s t).left node) (board_at (game_of rule s t) node) d win compile-won)
+              (subst (λ (x : List Node). IsNotedWin rule (left_at (game_of rule s t).left node) (board_at (game_of rule s t) node) x win)
+              a.1 noted) u rest items)
 
   was-one : unwritten t s.notes.items node ≡ 1
   was-one =
@@ -403,7 +491,8 @@ module _ (rule : RuleKind) (s : Search) (t : Tree) (c : List Node) (node : ℕ) 
 
   sum-one : 1 ≤ sum_below (length t.links) (unwritten t s.notes.items)
   sum-one =
-      let less = sum-less (length t.links) (λ i. 0) (unwritten t s.notes.items) node 1 inside (λ k low other. omega arith) (let e = was-one in omega (arith, e)) in
+      let less = sum-less (length t.links) (λ i. 0) (unwritten t s.notes.items) node 1 inside (λ k low other. omega arith)
+      (let e = was-one in omega (arith, e)) in
       omega (arith, sum-zeros (length t.links), less)
 
   -- where the compiler is full, more positions are counted than it has room for

@@ -1,6 +1,7 @@
 -- The numbers and notes of the children of a node of the defender, one after another. A leaf of the defender is settled where a reply
 -- leaves no win, or else gets a child for each reply.
-use Rattle.std.proofs.Common.{◌≡◌, ◌⊎◌, inl, inr, ℕ, ◌+◌, ◌<◌, ◌≤◌, refl, sym, ap, subst, ◌∙◌, arith, List, [], ◌∷◌, ◌++◌, length, take, Option, Some, None, IfSome, is_none, sum_by, suc, ◌-◌, Bool, true, false, cond, ◌&&◌, not, map, All}
+use Rattle.std.proofs.Common.{◌≡◌, ◌⊎◌, inl, inr, ℕ, ◌+◌, ◌<◌, ◌≤◌, refl, sym, ap, subst, ◌∙◌, arith, List, [], ◌∷◌, ◌++◌, length, take}
+use Rattle.std.proofs.Common.{Option, Some, None, IfSome, is_none, sum_by, suc, ◌-◌, Bool, true, false, cond, ◌&&◌, not, map, All}
 use Rattle.std.proofs.lemmas.Bool.{cases_lt, eq-eqb, ne_eqb}
 use Rattle.std.proofs.lemmas.List.{get_or_append_left, get_or_push, length_push, get_or-map}
 use Rattle.std.proofs.lemmas.List.Sums.{sum_by_more, sum_by_more_le, sum_by-cons, sum_by-le}
@@ -9,7 +10,8 @@ use Rattle.game_rules.specs.declared.RuleKind.{RuleKind}
 use Rattle.game_rules.specs.declared.Outcome.{Outcome}
 use Rattle.game_rules.specs.declared.Outcome.TheVariants.{GoesOn}
 use Rattle.game_rules.specs.declared.Point.{Point}
-use Rattle.game_rules.proofs.Common.{Grid, after, is_empty, points_of, five, IsPosition, foul_of, mover, outcome, goes_on, LosesOr, WinsByThreats, has_five, if_goes_on, behind_replies}
+use Rattle.game_rules.proofs.Common.{Grid, after, is_empty, points_of, five, IsPosition, foul_of, mover, outcome, goes_on, LosesOr}
+use Rattle.game_rules.proofs.Common.{WinsByThreats, has_five, if_goes_on, behind_replies}
 use Rattle.game_rules.proofs.Points.{any_witness}
 use Rattle.game_rules.proofs.Positions.{IsPosition-after}
 use Rattle.game_rules.proofs.Outcomes.{goes_on-is, not-last, none-draws}
@@ -31,15 +33,21 @@ use Rattle.threat_game.specs.declared.replies.Child.{Child}
 use Rattle.threat_game.specs.declared.replies.Children.{Children}
 use Rattle.threat_game.specs.declared.replies.Judged.{Judged}
 use Rattle.threat_game.specs.declared.replies.Judged.TheVariants.{Five, Double as DoubleWins, Last, Open}
-use Rattle.threat_game.proofs.Common.{IsThreatWin, LosesToThreats, is_open, moves_for, nodes_for, threat_tree, has_reply, AreChildren, HasEscape, IsChild, IsJudged, counted_for, is_standing, kept_children, stands_for}
+use Rattle.threat_game.proofs.Common.{IsThreatWin, LosesToThreats, is_open, moves_for, nodes_for, threat_tree, has_reply, AreChildren}
+use Rattle.threat_game.proofs.Common.{HasEscape, IsChild, IsJudged, counted_for, is_standing, kept_children, stands_for}
 use Rattle.threat_game.proofs.ReplyLaws.{judged-short, judged-three}
 use Rattle.threat_game.proofs.Kept.{kept-covers, kept-each, kept-sum, stands-standing}
-use Rattle.threat_game.proofs.TreeLaws.{children-within, counted-few, one_where, counted-one, open_one, counted-parts, open_behind, whole-by}
+use Rattle.threat_game.proofs.TreeLaws.{children-within, counted-few, one_where, counted-one, open_one, counted-parts, open_behind}
+use Rattle.threat_game.proofs.TreeLaws.{whole-by}
 use Rattle.threat_game.proofs.AttackLaws.{escape-saves}
 use Rattle.proof_number.specs.declared.notes.Note.{Note}
 use Rattle.proof_number.specs.declared.search.Search.{Search}
-use Rattle.proof_number.proofs.Common.{AreSettled, IsSettledChild, child_at, child_note, child_numbers, no_child, no_note, note_at, win_of, open_numbers, AreMet, CanGrow, GameTree, HasTried, TellsTruly, WinsAt, among, board_at, left_at, IsTrueMemo, Grows, HasGrown, HasSpent, IsAtLeaf, IsExpandedAt, IsNotedWin, IsSettledAt, StandsAt, attacks_behind, behind_at, defences_behind, game_of, sum_below}
-use Rattle.proof_number.proofs.Expanding.{IsNewNote, expanded-grown, new_behind, unwritten_child, IsNewChild, sum-nothing}
+use Rattle.proof_number.proofs.Common.{AreSettled, IsSettledChild, child_at, child_note, child_numbers, no_child, no_note, note_at, win_of}
+use Rattle.proof_number.proofs.Common.{open_numbers, AreMet, CanGrow, GameTree, HasTried, TellsTruly, WinsAt, among, board_at, left_at}
+use Rattle.proof_number.proofs.Common.{IsTrueMemo, Grows, HasGrown, HasSpent, IsAtLeaf, IsExpandedAt, IsNotedWin, IsSettledAt, StandsAt}
+use Rattle.proof_number.proofs.Common.{attacks_behind, behind_at, defences_behind, game_of, sum_below}
+use Rattle.proof_number.proofs.ExpandedCounts.{IsNewNote, expanded-grown, new_behind, unwritten_child, sum-nothing}
+use Rattle.proof_number.proofs.Expanding.{IsNewChild}
 use Rattle.proof_number.proofs.Growing.{lost-grown}
 use Rattle.proof_number.proofs.Remembering.{memo-grown}
 use Rattle.proof_number.proofs.Steps.{leaf-lawful, leaf-noted}
@@ -58,19 +66,25 @@ standing-shut Open h e = cc
 
 module _ (rule : RuleKind) (left : ℕ) (c : Grid) where
   -- a child stays settled where the compiler grows
-  child-grown : (t more : List Node) (child : Child) (numbers : Numbers) (note : Note) → NamesLower t → IsSettledChild rule left c t child numbers note → IsSettledChild rule left c (t ++ more) child numbers note
+  child-grown : (t more : List Node) (child : Child) (numbers : Numbers) (note : Note) → NamesLower t
+      → IsSettledChild rule left c t child numbers note → IsSettledChild rule left c (t ++ more) child numbers note
   child-grown t more child numbers note lower h = record {
     at = h.at;
     left_is = h.left_is;
-    proved = λ e. let p = h.proved e in (p.0, p.1, (growth_keeps-wins rule left (after c child.at) t more (win_of note) lower p.2.0, p.2.1));
+    proved = λ e. let p = h.proved e in
+        (p.0, p.1, (growth_keeps-wins rule left (after c child.at) t more (win_of note) lower p.2.0, p.2.1));
     unproved = h.unproved;
-    stands = λ met same is. let p = h.stands met same is in (p.0, (growth_keeps-wins rule left (after c met.at) t more (win_of note) lower p.1.0, p.1.1));
+    stands = λ met same is. let p = h.stands met same is in
+        (p.0, (growth_keeps-wins rule left (after c met.at) t more (win_of note) lower p.1.0, p.1.1));
   }
 
   -- a child is settled by the win that is compiled for it
-  pub child-settled : (t : List Node) (child : Child) (win : Option WrittenWin) → is_none win ≡ is_open child.judged → moves_for child.judged ≤ left
-      → IfSome win (λ (found : WrittenWin). (moves : ℕ) → moves_for child.judged ≤ moves → IsThreatWin rule moves (after c child.at) t found)
-      → IfSome win (λ (found : WrittenWin). (moves : ℕ) (met : Child) → stands_for child.judged met.judged ≡ true → IsChild rule moves c met → IsThreatWin rule moves (after c met.at) t found)
+  pub child-settled : (t : List Node) (child : Child) (win : Option WrittenWin) → is_none win ≡ is_open child.judged
+      → moves_for child.judged ≤ left
+      → IfSome win (λ (found : WrittenWin). (moves : ℕ) → moves_for child.judged ≤ moves
+      → IsThreatWin rule moves (after c child.at) t found)
+      → IfSome win (λ (found : WrittenWin). (moves : ℕ) (met : Child) → stands_for child.judged met.judged ≡ true → IsChild rule moves c met
+      → IsThreatWin rule moves (after c met.at) t found)
       → IsSettledChild rule left c t child (child_numbers win) (child_note (first_note child left) win)
   child-settled t child None e enough h k = record {
     at = refl;
@@ -86,7 +100,8 @@ module _ (rule : RuleKind) (left : ℕ) (c : Grid) where
         left_is = refl;
         proved = λ f. (refl, win-some rule left (after c child.at) t found is.written, (is.written, is.by_threats));
         unproved = λ f. cc;
-        stands = λ met same child_is. let won = k left met same child_is in (win-some rule left (after c met.at) t found won.written, (won.written, won.by_threats));
+        stands = λ met same child_is. let won = k left met same child_is in
+            (win-some rule left (after c met.at) t found won.written, (won.written, won.by_threats));
       }
 
   module _ (children : List Child) where
@@ -94,40 +109,55 @@ module _ (rule : RuleKind) (left : ℕ) (c : Grid) where
     none-settled t = record { numbers_count = refl; notes_count = refl; each = λ k low. absurd (omega (arith, low)) }
 
     -- one more child
-    pub one-settled : (t more : List Node) (k : ℕ) (numbers : List Numbers) (notes : List Note) (child : Child) (n : Numbers) (note : Note) → NamesLower t → AreSettled rule left c t children k numbers notes
-        → child_at children k ≡ child → IsSettledChild rule left c (t ++ more) child n note → AreSettled rule left c (t ++ more) children (k + 1) (numbers ++ n ∷ []) (notes ++ note ∷ [])
+    pub one-settled : (t more : List Node) (k : ℕ) (numbers : List Numbers) (notes : List Note) (child : Child) (n : Numbers) (note : Note)
+        → NamesLower t → AreSettled rule left c t children k numbers notes
+        → child_at children k ≡ child → IsSettledChild rule left c (t ++ more) child n note
+        → AreSettled rule left c (t ++ more) children (k + 1) (numbers ++ n ∷ []) (notes ++ note ∷ [])
     one-settled t more k numbers notes child n note lower old is new = record {
       numbers_count = length_push numbers n ∙ ap (λ (m : ℕ). m + 1) old.numbers_count;
       notes_count = length_push notes note ∙ ap (λ (m : ℕ). m + 1) old.notes_count;
       each = λ j low. by_place j low (cases_lt j k);
     } where
-      moved : (x y : Child) (a b : Numbers) (p q : Note) → x ≡ y → a ≡ b → p ≡ q → IsSettledChild rule left c (t ++ more) y b q → IsSettledChild rule left c (t ++ more) x a p
+      moved : (x y : Child) (a b : Numbers) (p q : Note) → x ≡ y → a ≡ b → p ≡ q → IsSettledChild rule left c (t ++ more) y b q
+          → IsSettledChild rule left c (t ++ more) x a p
       moved x y a b p q ex ea ep h = rw (ex, ea, ep) h
 
-      by_place : (j : ℕ) → j < k + 1 → (j < k) ⊎ (k ≤ j) → IsSettledChild rule left c (t ++ more) (child_at children j) (numbers_at (numbers ++ n ∷ []) j) (note_at (notes ++ note ∷ []) j)
+      by_place : (j : ℕ) → j < k + 1 → (j < k) ⊎ (k ≤ j)
+          → IsSettledChild rule left c (t ++ more) (child_at children j) (numbers_at (numbers ++ n ∷ []) j) (note_at (notes ++ note ∷ []) j)
       by_place j low (inl before) =
-          moved (child_at children j) (child_at children j) (numbers_at (numbers ++ n ∷ []) j) (numbers_at numbers j) (note_at (notes ++ note ∷ []) j) (note_at notes j) refl
+          moved (child_at children j) (child_at children j) (numbers_at (numbers ++ n ∷ []) j) (numbers_at numbers j)
+          (note_at (notes ++ note ∷ []) j) (note_at notes j) refl
           (get_or_append_left numbers (n ∷ []) no_numbers j (let e = old.numbers_count in omega (arith, e, before)))
           (get_or_append_left notes (note ∷ []) no_note j (let e = old.notes_count in omega (arith, e, before)))
           (child-grown t more (child_at children j) (numbers_at numbers j) (note_at notes j) lower (old.each j before))
       by_place j low (inr past) =
           let last : j ≡ k = omega (arith, low, past) in
-          moved (child_at children j) child (numbers_at (numbers ++ n ∷ []) j) n (note_at (notes ++ note ∷ []) j) note (ap (child_at children) last ∙ is)
-          (get_or_push numbers n no_numbers j (old.numbers_count ∙ sym last)) (get_or_push notes note no_note j (old.notes_count ∙ sym last)) new
+          moved (child_at children j) child (numbers_at (numbers ++ n ∷ []) j) n (note_at (notes ++ note ∷ []) j) note
+          (ap (child_at children) last ∙ is)
+          (get_or_push numbers n no_numbers j (old.numbers_count ∙ sym last))
+          (get_or_push notes note no_note j (old.notes_count ∙ sym last)) new
 
     -- the same in the words of a loop
-    pub more-settled : (t u : List Node) (k count : ℕ) (numbers new_numbers : List Numbers) (notes new_notes : List Note) (child : Child) (win : Option WrittenWin) → NamesLower t → AreSettled rule left c t children k numbers notes
+    pub more-settled : (t u : List Node) (k count : ℕ) (numbers new_numbers : List Numbers) (notes new_notes : List Note) (child : Child)
+        (win : Option WrittenWin) → NamesLower t → AreSettled rule left c t children k numbers notes
         → child_at children k ≡ child → is_none win ≡ is_open child.judged → moves_for child.judged ≤ left
-        → IfSome win (λ (found : WrittenWin). (moves : ℕ) → moves_for child.judged ≤ moves → IsThreatWin rule moves (after c child.at) u found)
-        → IfSome win (λ (found : WrittenWin). (moves : ℕ) (met : Child) → stands_for child.judged met.judged ≡ true → IsChild rule moves c met → IsThreatWin rule moves (after c met.at) u found) → GrowsBy t u count
-        → new_numbers ≡ numbers ++ child_numbers win ∷ [] → new_notes ≡ notes ++ child_note (first_note child left) win ∷ [] → AreSettled rule left c u children (k + 1) new_numbers new_notes
-    more-settled t u k count numbers new_numbers notes new_notes child win lower old is open_is enough wins stands grows numbers_are notes_are =
+        → IfSome win (λ (found : WrittenWin). (moves : ℕ) → moves_for child.judged ≤ moves
+        → IsThreatWin rule moves (after c child.at) u found)
+        → IfSome win (λ (found : WrittenWin). (moves : ℕ) (met : Child) → stands_for child.judged met.judged ≡ true
+        → IsChild rule moves c met → IsThreatWin rule moves (after c met.at) u found) → GrowsBy t u count
+        → new_numbers ≡ numbers ++ child_numbers win ∷ [] → new_notes ≡ notes ++ child_note (first_note child left) win ∷ []
+        → AreSettled rule left c u children (k + 1) new_numbers new_notes
+    more-settled t u k count numbers new_numbers notes new_notes child win lower old is open_is enough wins stands grows numbers_are
+        notes_are =
         let new : IsSettledChild rule left c (t ++ grows.added) child (child_numbers win) (child_note (first_note child left) win) =
-        subst (λ (d : List Node). IsSettledChild rule left c d child (child_numbers win) (child_note (first_note child left) win)) grows.is (child-settled u child win open_is enough wins stands) in
-        let all = one-settled t grows.added k numbers notes child (child_numbers win) (child_note (first_note child left) win) lower old is new in
+        subst (λ (d : List Node). IsSettledChild rule left c d child (child_numbers win) (child_note (first_note child left) win)) grows.is
+        (child-settled u child win open_is enough wins stands) in
+        let all = one-settled t grows.added k numbers notes child (child_numbers win) (child_note (first_note child left) win) lower old is
+        new in
         subst (λ (d : List Node). AreSettled rule left c d children (k + 1) new_numbers new_notes) (sym grows.is)
         (subst (λ (ns : List Numbers). AreSettled rule left c (t ++ grows.added) children (k + 1) ns new_notes) (sym numbers_are)
-        (subst (λ (ms : List Note). AreSettled rule left c (t ++ grows.added) children (k + 1) (numbers ++ child_numbers win ∷ []) ms) (sym notes_are) all))
+        (subst (λ (ms : List Note). AreSettled rule left c (t ++ grows.added) children (k + 1) (numbers ++ child_numbers win ∷ []) ms)
+        (sym notes_are) all))
 
 -- ---- the nodes that are compiled
 
@@ -140,16 +170,19 @@ module _ (children : List Child) (a b d : List Node) (k : ℕ) (low : k < length
   nodes-more next =
       let e = sum_by_more (λ (x : Child). nodes_for x.judged) children k no_child low in
       let n = nodes-at in
-      grows-then a b d (sum_by (λ (x : Child). nodes_for x.judged) (take k children)) (nodes_for child.judged) (sum_by (λ (x : Child). nodes_for x.judged) (take (k + 1) children)) first next (omega (arith, e, n))
+      grows-then a b d (sum_by (λ (x : Child). nodes_for x.judged) (take k children)) (nodes_for child.judged)
+      (sum_by (λ (x : Child). nodes_for x.judged) (take (k + 1) children)) first next (omega (arith, e, n))
 
   pub nodes-within : GrowsBy b d (nodes_for child.judged) → GrowsBy a d (sum_by (λ (x : Child). nodes_for x.judged) children)
   nodes-within next =
       let e = sum_by_more_le (λ (x : Child). nodes_for x.judged) children k no_child low in
       let n = nodes-at in
-      grows-then a b d (sum_by (λ (x : Child). nodes_for x.judged) (take k children)) (nodes_for child.judged) (sum_by (λ (x : Child). nodes_for x.judged) children) first next (omega (arith, e, n))
+      grows-then a b d (sum_by (λ (x : Child). nodes_for x.judged) (take k children)) (nodes_for child.judged)
+      (sum_by (λ (x : Child). nodes_for x.judged) children) first next (omega (arith, e, n))
 
   -- where there is no room for the nodes of one child, there is none for those of all
-  pub no-room : (most : ℕ) → most < length b + nodes_for child.judged → most < length a + sum_by (λ (x : Child). nodes_for x.judged) children
+  pub no-room : (most : ℕ) → most < length b + nodes_for child.judged
+      → most < length a + sum_by (λ (x : Child). nodes_for x.judged) children
   no-room most over =
       let e = sum_by_more_le (λ (x : Child). nodes_for x.judged) children k no_child low in
       let long = grows-length a b (sum_by (λ (x : Child). nodes_for x.judged) (take k children)) first in
@@ -158,12 +191,15 @@ module _ (children : List Child) (a b d : List Node) (k : ℕ) (low : k < length
 -- ---- where a reply goes on, none fills the board
 
 -- no reply wins or fills the board, where the side to move has no five point and some reply goes on
-pub none-saves : (rule : RuleKind) (b : Grid) → has_five rule b (mover b) ≡ false → has_reply rule b ≡ true → (q : Point) → LosesOr (outcome rule b q) (Unit {0})
+pub none-saves : (rule : RuleKind) (b : Grid) → has_five rule b (mover b) ≡ false → has_reply rule b ≡ true → (q : Point)
+    → LosesOr (outcome rule b q) (Unit {0})
 unfolding outcome
 none-saves rule b none reply q =
     let going = any_witness (λ p. goes_on (outcome rule b p)) (points_of b) reply in
-    let more = not-last (is_empty b going.0) (five rule b (mover b) going.0) _ (foul_of rule b (mover b) going.0) (goes_on-is (outcome rule b going.0) going.1) in
-    none-draws (is_empty b q) (five rule b (mover b) q) _ (foul_of rule b (mover b) q) more (λ wins. let has = win-has_five rule b q wins in let bad : true ≡ false = sym has ∙ none in cc)
+    let more = not-last (is_empty b going.0) (five rule b (mover b) going.0) _ (foul_of rule b (mover b) going.0)
+    (goes_on-is (outcome rule b going.0) going.1) in
+    none-draws (is_empty b q) (five rule b (mover b) q) _ (foul_of rule b (mover b) q) more
+    (λ wins. let has = win-has_five rule b q wins in let bad : true ≡ false = sym has ∙ none in cc)
 
 -- ---- what is counted for the children
 
@@ -177,16 +213,20 @@ sum-many h one [] = omega arith
 sum-many h one (x ∷ xs) = let rest = sum-many h one xs in let here = one x in let d = sum_by-cons h x xs in omega (arith, rest, here, d)
 
 -- children settled at what is the same
-pub settled-same : (rule : RuleKind) (l k : ℕ) (b c : Grid) (d : List Node) (xs ys : List Child) (ns more : List Numbers) (ps ms : List Note) → l ≡ k → b ≡ c → xs ≡ ys → more ≡ ns → ms ≡ ps
+pub settled-same : (rule : RuleKind) (l k : ℕ) (b c : Grid) (d : List Node) (xs ys : List Child) (ns more : List Numbers)
+    (ps ms : List Note) → l ≡ k → b ≡ c → xs ≡ ys → more ≡ ns → ms ≡ ps
     → AreSettled rule l b d xs (length xs) ns ps → AreSettled rule k c d ys (length ys) more ms
 settled-same rule l k b c d xs ys ns more ps ms el eb ex en em h = rw (← el, ← eb, ← ex, en, em) h
 
 -- children at what is the same
-pub each-same : (rule : RuleKind) (l k : ℕ) (b c : Grid) (xs ys : List Child) → l ≡ k → b ≡ c → xs ≡ ys → All (IsChild rule k c) ys → All (IsChild rule l b) xs
+pub each-same : (rule : RuleKind) (l k : ℕ) (b c : Grid) (xs ys : List Child) → l ≡ k → b ≡ c → xs ≡ ys → All (IsChild rule k c) ys
+    → All (IsChild rule l b) xs
 each-same rule l k b c xs ys el eb ex h = rw (el, eb, ex) h
 
 -- the points of notes
-same-points : (ms : List Note) (items : List Child) → length ms ≡ length items → ((j : ℕ) → j < length items → (note_at ms j).at ≡ (child_at items j).at) → map (λ (n : Note). n.at) ms ≡ map (λ (child : Child). child.at) items
+same-points : (ms : List Note) (items : List Child) → length ms ≡ length items
+    → ((j : ℕ) → j < length items → (note_at ms j).at ≡ (child_at items j).at)
+    → map (λ (n : Note). n.at) ms ≡ map (λ (child : Child). child.at) items
 same-points [] [] e h = refl
 same-points [] (x ∷ items) e h = absurd (omega (arith, e))
 same-points (m ∷ ms) [] e h = absurd (omega (arith, e))
@@ -201,7 +241,8 @@ open-apart false e = let bad : 1 ≡ 0 = ap (λ (n : Numbers). n.disproof) e in 
 
 -- ---- one child
 
-module _ (rule : RuleKind) (left : ℕ) (b : Grid) (d : List Node) (child : Child) (numbers : Numbers) (note : Note) (is : IsChild rule left b child) (settled : IsSettledChild rule left b d child numbers note) where
+module _ (rule : RuleKind) (left : ℕ) (b : Grid) (d : List Node) (child : Child) (numbers : Numbers) (note : Note)
+    (is : IsChild rule left b child) (settled : IsSettledChild rule left b d child numbers note) where
   fresh-by : (r : Bool) → is_open child.judged ≡ r → IsFresh numbers
   fresh-by true e = inl (settled.unproved e).0
   fresh-by false e = inr (settled.proved e).0
@@ -210,10 +251,14 @@ module _ (rule : RuleKind) (left : ℕ) (b : Grid) (d : List Node) (child : Chil
   child-fresh = fresh-by (is_open child.judged) refl
 
   -- an open child can grow
-  grows-by : (judged : Judged) → child.judged ≡ judged → is_settled numbers ≡ false → (has_five rule (after b child.at) (mover (after b child.at)) ≡ false) × (2 ≤ left)
-  grows-by (Five w) e open_is = let proved = ap is_settled (settled.proved (ap is_open e)).0 in let bad : true ≡ false = sym proved ∙ open_is in cc
-  grows-by (DoubleWins double nodes) e open_is = let proved = ap is_settled (settled.proved (ap is_open e)).0 in let bad : true ≡ false = sym proved ∙ open_is in cc
-  grows-by (Last p) e open_is = let proved = ap is_settled (settled.proved (ap is_open e)).0 in let bad : true ≡ false = sym proved ∙ open_is in cc
+  grows-by : (judged : Judged) → child.judged ≡ judged → is_settled numbers ≡ false
+      → (has_five rule (after b child.at) (mover (after b child.at)) ≡ false) × (2 ≤ left)
+  grows-by (Five w) e open_is = let proved = ap is_settled (settled.proved (ap is_open e)).0 in let bad : true ≡ false =
+      sym proved ∙ open_is in cc
+  grows-by (DoubleWins double nodes) e open_is = let proved = ap is_settled (settled.proved (ap is_open e)).0 in let bad : true ≡ false =
+      sym proved ∙ open_is in cc
+  grows-by (Last p) e open_is = let proved = ap is_settled (settled.proved (ap is_open e)).0 in let bad : true ≡ false =
+      sym proved ∙ open_is in cc
   grows-by Open e open_is =
       let enough = is.enough in
       let two = ap moves_for e in
@@ -238,7 +283,8 @@ module _ (rule : RuleKind) (left : ℕ) (b : Grid) (d : List Node) (child : Chil
   }
 
   pub child-new : IsNewChild rule Defend left b note.at note.left numbers
-  child-new = subst (λ (p : Point). IsNewChild rule Defend left b p note.left numbers) (sym settled.at) (subst (λ (n : ℕ). IsNewChild rule Defend left b child.at n numbers) (sym settled.left_is) new-child)
+  child-new = subst (λ (p : Point). IsNewChild rule Defend left b p note.left numbers) (sym settled.at)
+      (subst (λ (n : ℕ). IsNewChild rule Defend left b child.at n numbers) (sym settled.left_is) new-child)
 
   wins-by : (r : Bool) → is_open child.judged ≡ r → 0 < note.moves → IsNotedWin rule left (after b child.at) d (win_of note)
   wins-by true e some = absurd (let none = (settled.unproved e).1 in omega (arith, none, some))
@@ -256,7 +302,8 @@ module _ (rule : RuleKind) (left : ℕ) (b : Grid) (d : List Node) (child : Chil
   child-noted = record {
     true_win = λ some.
         subst (λ (n : ℕ). IsNotedWin rule n (after b note.at) d (win_of note)) (sym settled.left_is)
-        (subst (λ (p : Point). IsNotedWin rule left (after b p) d (win_of note)) (sym settled.at) (wins-by (is_open child.judged) refl some));
+        (subst (λ (p : Point). IsNotedWin rule left (after b p) d (win_of note)) (sym settled.at)
+        (wins-by (is_open child.judged) refl some));
     fresh = fresh-note (is_open child.judged) refl;
     proved = λ proved. (refl, proved-note (is_open child.judged) refl proved);
   }
@@ -270,28 +317,33 @@ module _ (rule : RuleKind) (left : ℕ) (b : Grid) (d : List Node) (child : Chil
   child-unwritten = unwritten-by (is_open child.judged) refl
 
   -- what is counted behind it
-  behind-by : (f : Kind → RuleKind → ℕ → Grid → ℕ) → ((n : ℕ) (c : Grid) → f Attack rule n c ≡ threat_tree rule n c - 1) → (r : Bool) → is_open child.judged ≡ r
+  behind-by : (f : Kind → RuleKind → ℕ → Grid → ℕ) → ((n : ℕ) (c : Grid) → f Attack rule n c ≡ threat_tree rule n c - 1) → (r : Bool)
+      → is_open child.judged ≡ r
       → new_behind f rule Defend b note numbers ≡ cond r (threat_tree rule left (after b child.at) - 1) 0
   behind-by f trees true e =
       ap (λ (n : Numbers). cond (not (is_settled n)) (f Attack rule note.left (after b note.at)) 0) (settled.unproved e).0
       ∙ trees note.left (after b note.at)
       ∙ ap (λ (n : ℕ). threat_tree rule n (after b note.at) - 1) settled.left_is
       ∙ ap (λ (p : Point). threat_tree rule left (after b p) - 1) settled.at
-  behind-by f trees false e = ap (λ (n : Numbers). cond (not (is_settled n)) (f Attack rule note.left (after b note.at)) 0) (settled.proved e).0
+  behind-by f trees false e = ap (λ (n : Numbers). cond (not (is_settled n)) (f Attack rule note.left (after b note.at)) 0)
+      (settled.proved e).0
 
   pub child-behind : (f : Kind → RuleKind → ℕ → Grid → ℕ) → ((n : ℕ) (c : Grid) → f Attack rule n c ≡ threat_tree rule n c - 1)
       → new_behind f rule Defend b note numbers ≡ cond (is_open child.judged) (threat_tree rule left (after b child.at) - 1) 0
   child-behind f trees = behind-by f trees (is_open child.judged) refl
 
 child-whole : (rule : RuleKind) (left : ℕ) (b : Grid) → IsPosition rule b → (child : Child) → IsChild rule left b child
-    → counted_for child.judged + open_behind rule left b child ≤ if_goes_on (outcome rule b child.at) (threat_tree rule left (after b child.at))
+    → counted_for child.judged + open_behind rule left b child ≤ if_goes_on (outcome rule b child.at)
+    (threat_tree rule left (after b child.at))
 child-whole rule left b lawful child is =
     let few = counted-few rule left (after b child.at) child.judged (IsPosition-after rule b child.at lawful is.on) is.judged is.enough in
-    subst (λ (o : Outcome). counted_for child.judged + open_behind rule left b child ≤ if_goes_on o (threat_tree rule left (after b child.at))) (sym is.on) (whole-by rule left (after b child.at) child.judged few)
+    subst (λ (o : Outcome). counted_for child.judged + open_behind rule left b child ≤ if_goes_on o
+    (threat_tree rule left (after b child.at))) (sym is.on) (whole-by rule left (after b child.at) child.judged few)
 
 -- ---- at a leaf of the defender
 
-module _ (rule : RuleKind) (s : Search) (t : Tree) (c : List Node) (leaf : ℕ) (view : Grid) (stands : StandsAt rule s t c leaf view) (defend : (link_at t.links leaf).kind ≡ Defend) where
+module _ (rule : RuleKind) (s : Search) (t : Tree) (c : List Node) (leaf : ℕ) (view : Grid) (stands : StandsAt rule s t c leaf view)
+    (defend : (link_at t.links leaf).kind ≡ Defend) where
   here : IsAtLeaf rule s t c leaf view
   unfolding StandsAt
   here = stands
@@ -300,7 +352,8 @@ module _ (rule : RuleKind) (s : Search) (t : Tree) (c : List Node) (leaf : ℕ) 
   left-noted = get_or-map (λ (n : Note). n.left) s.notes.items leaf no_note 0 (leaf-noted rule s t c leaf view stands)
 
   can-grow : CanGrow Defend rule (left_at (game_of rule s t).left leaf) (board_at (game_of rule s t) leaf)
-  can-grow = subst (λ (q : Kind). CanGrow q rule (left_at (game_of rule s t).left leaf) (board_at (game_of rule s t) leaf)) defend (here.searching.game.open_leaf leaf here.in_tree here.childless here.leaf_open)
+  can-grow = subst (λ (q : Kind). CanGrow q rule (left_at (game_of rule s t).left leaf) (board_at (game_of rule s t) leaf)) defend
+      (here.searching.game.open_leaf leaf here.in_tree here.childless here.leaf_open)
 
   pub defend-no_five : has_five rule view (mover view) ≡ false
   defend-no_five = subst (λ (b : Grid). has_five rule b (mover b) ≡ false) (sym here.view_is) can-grow.0
@@ -312,21 +365,24 @@ module _ (rule : RuleKind) (s : Search) (t : Tree) (c : List Node) (leaf : ℕ) 
   defend-reply = subst (λ (b : Grid). has_reply rule b ≡ true) (sym here.view_is) can-grow.2
 
   -- what is known of the kind, the moves and the board of the leaf
-  at-leaf-is : (P : Kind → ℕ → Grid → Type 0) → P Defend (note_at s.notes.items leaf).left view → P (link_at t.links leaf).kind (left_at (game_of rule s t).left leaf) (board_at (game_of rule s t) leaf)
+  at-leaf-is : (P : Kind → ℕ → Grid → Type 0) → P Defend (note_at s.notes.items leaf).left view
+      → P (link_at t.links leaf).kind (left_at (game_of rule s t).left leaf) (board_at (game_of rule s t) leaf)
   at-leaf-is P h =
       subst (λ (k : Kind). P k (left_at (game_of rule s t).left leaf) (board_at (game_of rule s t) leaf)) (sym defend)
       (subst (λ (n : ℕ). P Defend n (board_at (game_of rule s t) leaf)) (sym left-noted)
       (subst (P Defend (note_at s.notes.items leaf).left) here.view_is h))
 
   -- where a reply leaves no win the leaf is settled
-  pub escape-grows : HasEscape rule (note_at s.notes.items leaf).left view → (u : Tree) → IsSettledAt t u leaf false → (b : Grid) → b ≡ s.board → Grows rule s (record s { board = b }) t u c leaf
+  pub escape-grows : HasEscape rule (note_at s.notes.items leaf).left view → (u : Tree) → IsSettledAt t u leaf false → (b : Grid)
+      → b ≡ s.board → Grows rule s (record s { board = b }) t u c leaf
   unfolding Grows
   escape-grows escape u st b same =
       lost-grown rule s t c leaf view here u st (record s { board = b }) refl same here.searching.remembered
       (at-leaf-is (λ k n d. WinsAt k rule n d → ⊥) (escape-saves rule (note_at s.notes.items leaf).left view escape))
 
   -- where the other side wins by its own fours the leaf is settled
-  pub denied-grows : ((moves : ℕ) → LosesToThreats rule moves view → ⊥) → (u : Tree) → IsSettledAt t u leaf false → Grows rule s s t u c leaf
+  pub denied-grows : ((moves : ℕ) → LosesToThreats rule moves view → ⊥) → (u : Tree) → IsSettledAt t u leaf false
+      → Grows rule s s t u c leaf
   unfolding Grows
   denied-grows denied u st =
       lost-grown rule s t c leaf view here u st s refl refl here.searching.remembered
@@ -338,13 +394,18 @@ module _ (rule : RuleKind) (s : Search) (t : Tree) (c : List Node) (leaf : ℕ) 
       let g : GameTree = game_of rule s t in
       let count : ℕ = behind_replies rule (threat_tree rule (note_at s.notes.items leaf).left) view in
       let own : behind_at attacks_behind g leaf ≡ count =
-      ap (λ r. cond (r && not (is_settled (numbers_at t.numbers leaf))) (attacks_behind (link_at t.links leaf).kind rule (left_at g.left leaf) (board_at g leaf)) 0) (eq-eqb (link_at t.links leaf).count 0 here.childless)
+      ap (λ r. cond (r && not (is_settled (numbers_at t.numbers leaf)))
+      (attacks_behind (link_at t.links leaf).kind rule (left_at g.left leaf) (board_at g leaf)) 0)
+      (eq-eqb (link_at t.links leaf).count 0 here.childless)
       ∙ ap (λ r. cond (not r) (attacks_behind (link_at t.links leaf).kind rule (left_at g.left leaf) (board_at g leaf)) 0) here.leaf_open
       ∙ at-leaf-is (λ k n b. attacks_behind k rule n b ≡ count) refl in
       let nothing = sum-nothing (length t.links) (λ i. 0) (λ i l. refl) in
-      let low = sum-less (length t.links) (λ i. 0) (behind_at attacks_behind g) leaf count here.in_tree (λ j l other. omega arith) (omega (arith, own)) in
-      let first : left_at g.left 0 ≡ s.depth = get_or-map (λ (n : Note). n.left) s.notes.items 0 no_note 0 (let l = leaf-noted rule s t c leaf view stands in omega (arith, l)) ∙ here.searching.depth in
-      let root_is : threat_tree rule (left_at g.left 0) s.root ≡ threat_tree rule s.depth s.root = ap (λ (n : ℕ). threat_tree rule n s.root) first in
+      let low = sum-less (length t.links) (λ i. 0) (behind_at attacks_behind g) leaf count here.in_tree (λ j l other. omega arith)
+      (omega (arith, own)) in
+      let first : left_at g.left 0 ≡ s.depth = get_or-map (λ (n : Note). n.left) s.notes.items 0 no_note 0
+      (let l = leaf-noted rule s t c leaf view stands in omega (arith, l)) ∙ here.searching.depth in
+      let root_is : threat_tree rule (left_at g.left 0) s.root ≡ threat_tree rule s.depth s.root =
+      ap (λ (n : ℕ). threat_tree rule n s.root) first in
       omega (arith, nothing, low, root_is, here.searching.counted.attacks)
 
   pub lawful-here : IsPosition rule view
@@ -361,7 +422,8 @@ module _ (rule : RuleKind) (s : Search) (t : Tree) (c : List Node) (leaf : ℕ) 
 
     nodes-few : sum_by (λ (x : Child). nodes_for x.judged) children.all.items + sum_by open_one children.all.items ≤ children.count
     nodes-few =
-        let parts = sum-parts (λ (x : Child). nodes_for x.judged) open_one (λ (x : Child). counted_for x.judged) (λ x. counted-parts x.judged) children.all.items in
+        let parts = sum-parts (λ (x : Child). nodes_for x.judged) open_one (λ (x : Child). counted_for x.judged)
+        (λ x. counted-parts x.judged) children.all.items in
         omega (arith, parts, are.count_is)
 
     pub children-many : length children.all.items ≤ children.count
@@ -382,13 +444,16 @@ module _ (rule : RuleKind) (s : Search) (t : Tree) (c : List Node) (leaf : ℕ) 
     pub replies-few : children.count ≤ 3072
     replies-few =
         let view_board : IsPosition rule view = lawful-here in
-        let sum = sum_by-le (λ (x : Child). counted_for x.judged) 3 are.judged (judged-three rule (note_at s.notes.items leaf).left view are.judged are.are) in
+        let sum = sum_by-le (λ (x : Child). counted_for x.judged) 3 are.judged
+        (judged-three rule (note_at s.notes.items leaf).left view are.judged are.are) in
         let short = judged-short rule (note_at s.notes.items leaf).left view view_board.board are.judged are.are in
         let all = all-sum (λ (x : Child). counted_for x.judged) in
         omega (arith, sum, are.count_is, short, all)
 
     -- where the compiler is full, more positions are counted than it has room for
-    pub replies-full : {E : Type 0} → s.attacked + children.count ≤ s.budget → (E → MAX_NODES < length c + sum_by (λ (x : Child). nodes_for x.judged) children.all.items) → E → (MAX_NODES < s.before + s.budget) × (MAX_NODES < s.before + threat_tree rule s.depth s.root)
+    pub replies-full : {E : Type 0} → s.attacked + children.count ≤ s.budget
+        → (E → MAX_NODES < length c + sum_by (λ (x : Child). nodes_for x.judged) children.all.items) → E
+        → (MAX_NODES < s.before + s.budget) × (MAX_NODES < s.before + threat_tree rule s.depth s.root)
     replies-full fits refused e =
         let over = refused e in
         let nodes = nodes-few in
@@ -398,27 +463,33 @@ module _ (rule : RuleKind) (s : Search) (t : Tree) (c : List Node) (leaf : ℕ) 
         (omega (arith, over, nodes, size, fits), omega (arith, over, nodes, size, a, few))
 
     -- what is counted and stands behind the children is no more than the game has there
-    counted-whole : children.count + sum_by (open_behind rule (note_at s.notes.items leaf).left view) children.all.items ≤ behind_replies rule (threat_tree rule (note_at s.notes.items leaf).left) view
+    counted-whole : children.count + sum_by (open_behind rule (note_at s.notes.items leaf).left view) children.all.items ≤ behind_replies
+        rule (threat_tree rule (note_at s.notes.items leaf).left) view
     counted-whole =
         let left : ℕ = (note_at s.notes.items leaf).left in
-        let within = children-within rule left view lawful-here (λ (x : Child). counted_for x.judged + open_behind rule left view x) (child-whole rule left view lawful-here) are.judged are.are.points are.are.each in
+        let within = children-within rule left view lawful-here (λ (x : Child). counted_for x.judged + open_behind rule left view x)
+        (child-whole rule left view lawful-here) are.judged are.are.points are.are.each in
         let whole = all-sum (λ (x : Child). counted_for x.judged + open_behind rule left view x) in
-        let parts = sum-parts (λ (x : Child). counted_for x.judged) (open_behind rule left view) (λ (x : Child). counted_for x.judged + open_behind rule left view x) (λ x. omega arith) children.all.items in
+        let parts = sum-parts (λ (x : Child). counted_for x.judged) (open_behind rule left view)
+        (λ (x : Child). counted_for x.judged + open_behind rule left view x) (λ x. omega arith) children.all.items in
         omega (arith, within, whole, parts, are.count_is)
 
-    module _ (d : List Node) (more : List Numbers) (ms : List Note) (settled : AreSettled rule (note_at s.notes.items leaf).left view d children.all.items (length children.all.items) more ms) where
+    module _ (d : List Node) (more : List Numbers) (ms : List Note)
+        (settled : AreSettled rule (note_at s.notes.items leaf).left view d children.all.items (length children.all.items) more ms) where
       low-than : (j : ℕ) → j < length more → j < length children.all.items
       low-than j low = let e = settled.numbers_count in omega (arith, e, low)
 
       is-child : (j : ℕ) → j < length more → IsChild rule (note_at s.notes.items leaf).left view (child_at children.all.items j)
       is-child j low = each-is j no_child (low-than j low)
 
-      is-settled : (j : ℕ) → j < length more → IsSettledChild rule (note_at s.notes.items leaf).left view d (child_at children.all.items j) (numbers_at more j) (note_at ms j)
+      is-settled : (j : ℕ) → j < length more → IsSettledChild rule (note_at s.notes.items leaf).left view d (child_at children.all.items j)
+          (numbers_at more j) (note_at ms j)
       is-settled j low = settled.each j (low-than j low)
 
       pub all-fresh : All IsFresh more
       all-fresh = All-from_get_or IsFresh more no_numbers (λ j low.
-          child-fresh rule (note_at s.notes.items leaf).left view d (child_at children.all.items j) (numbers_at more j) (note_at ms j) (is-child j low) (is-settled j low))
+          child-fresh rule (note_at s.notes.items leaf).left view d (child_at children.all.items j) (numbers_at more j) (note_at ms j)
+          (is-child j low) (is-settled j low))
 
       pub some-new : 0 < length more
       some-new = let e = settled.numbers_count in let some = are.some in omega (arith, e, some)
@@ -427,69 +498,100 @@ module _ (rule : RuleKind) (s : Search) (t : Tree) (c : List Node) (leaf : ℕ) 
       few-new fits = let e = settled.numbers_count in let many = children-many in omega (arith, e, many, fits)
 
       points-are : map (λ (n : Note). n.at) ms ≡ map (λ (x : Child). x.at) (kept_children are.judged)
-      points-are = same-points ms children.all.items settled.notes_count (λ j low. (settled.each j low).at) ∙ ap (map (λ (x : Child). x.at)) are.kept
+      points-are = same-points ms children.all.items settled.notes_count (λ j low. (settled.each j low).at)
+          ∙ ap (map (λ (x : Child). x.at)) are.kept
 
       -- a reply without a node is met by the win of the first that has one
       reply-met : (q : Point) → outcome rule view q ≡ GoesOn → among (map (λ (n : Note). n.at) ms) q ≡ false
           → (0 < (note_at ms 0).moves) × IsNotedWin rule (note_at s.notes.items leaf).left (after view q) d (win_of (note_at ms 0))
       reply-met q on none =
-          let is = kept-covers rule (note_at s.notes.items leaf).left view are.judged are.are q on (ap (λ (ps : List Point). among ps q) (sym points-are) ∙ none) in
+          let is = kept-covers rule (note_at s.notes.items leaf).left view are.judged are.are q on
+          (ap (λ (ps : List Point). among ps q) (sym points-are) ∙ none) in
           let first : child_at children.all.items 0 ≡ is.first = ap (λ (xs : List Child). child_at xs 0) (are.kept ∙ is.items_are) in
-          let won = (settled.each 0 are.some).stands is.met (ap (λ (x : Child). stands_for x.judged is.met.judged) first ∙ is.stands) is.is in
-          (won.0, subst (λ (p : Point). IsNotedWin rule (note_at s.notes.items leaf).left (after view p) d (win_of (note_at ms 0))) is.at won.1)
+          let won = (settled.each 0 are.some).stands is.met (ap (λ (x : Child). stands_for x.judged is.met.judged) first ∙ is.stands)
+          is.is in (
+            won.0,
+            subst (λ (p : Point). IsNotedWin rule (note_at s.notes.items leaf).left (after view p) d (win_of (note_at ms 0))) is.at
+                won.1,
+          )
 
-      pub met-here : (link_at t.links leaf).kind ≡ Defend → (q : Point) → outcome rule (board_at (game_of rule s t) leaf) q ≡ GoesOn → among (map (λ (n : Note). n.at) ms) q ≡ false
-          → (0 < (note_at ms 0).moves) × IsNotedWin rule (left_at (game_of rule s t).left leaf) (after (board_at (game_of rule s t) leaf) q) d (win_of (note_at ms 0))
-      met-here kind = at-leaf-is (λ k n b. (q : Point) → outcome rule b q ≡ GoesOn → among (map (λ (n : Note). n.at) ms) q ≡ false → (0 < (note_at ms 0).moves) × IsNotedWin rule n (after b q) d (win_of (note_at ms 0))) reply-met
+      pub met-here : (link_at t.links leaf).kind ≡ Defend → (q : Point) → outcome rule (board_at (game_of rule s t) leaf) q ≡ GoesOn
+          → among (map (λ (n : Note). n.at) ms) q ≡ false
+          → (0 < (note_at ms 0).moves) × IsNotedWin rule (left_at (game_of rule s t).left leaf) (after (board_at (game_of rule s t) leaf) q)
+          d (win_of (note_at ms 0))
+      met-here kind = at-leaf-is
+          (λ k n b. (q : Point) → outcome rule b q ≡ GoesOn → among (map (λ (n : Note). n.at) ms) q ≡ false
+          → (0 < (note_at ms 0).moves) × IsNotedWin rule n (after b q) d (win_of (note_at ms 0))) reply-met
 
-      child-at : (j : ℕ) → j < length more → IsNewChild rule (link_at t.links leaf).kind (left_at (game_of rule s t).left leaf) (board_at (game_of rule s t) leaf) (note_at ms j).at (note_at ms j).left (numbers_at more j)
+      child-at : (j : ℕ) → j < length more → IsNewChild rule (link_at t.links leaf).kind (left_at (game_of rule s t).left leaf)
+          (board_at (game_of rule s t) leaf) (note_at ms j).at (note_at ms j).left (numbers_at more j)
       child-at j low =
           at-leaf-is (λ k n b. IsNewChild rule k n b (note_at ms j).at (note_at ms j).left (numbers_at more j))
-          (child-new rule (note_at s.notes.items leaf).left view d (child_at children.all.items j) (numbers_at more j) (note_at ms j) (is-child j low) (is-settled j low))
+          (child-new rule (note_at s.notes.items leaf).left view d (child_at children.all.items j) (numbers_at more j) (note_at ms j)
+          (is-child j low) (is-settled j low))
 
-      noted-at : (j : ℕ) → j < length more → IsNewNote rule (link_at t.links leaf).kind (board_at (game_of rule s t) leaf) d (note_at ms j) (numbers_at more j)
+      noted-at : (j : ℕ) → j < length more → IsNewNote rule (link_at t.links leaf).kind (board_at (game_of rule s t) leaf) d (note_at ms j)
+          (numbers_at more j)
       noted-at j low =
           at-leaf-is (λ k n b. IsNewNote rule k b d (note_at ms j) (numbers_at more j))
-          (child-noted rule (note_at s.notes.items leaf).left view d (child_at children.all.items j) (numbers_at more j) (note_at ms j) (is-child j low) (is-settled j low))
+          (child-noted rule (note_at s.notes.items leaf).left view d (child_at children.all.items j) (numbers_at more j) (note_at ms j)
+          (is-child j low) (is-settled j low))
 
-      tried-here : HasTried (link_at t.links leaf).kind rule (left_at (game_of rule s t).left leaf) (board_at (game_of rule s t) leaf) (map (λ (n : Note). n.at) ms)
+      tried-here : HasTried (link_at t.links leaf).kind rule (left_at (game_of rule s t).left leaf) (board_at (game_of rule s t) leaf)
+          (map (λ (n : Note). n.at) ms)
       tried-here =
-          let all : AreMet rule (note_at s.notes.items leaf).left view (map (λ (n : Note). n.at) ms) = record { others = λ q on none. (reply-met q on none).1.1; none_saves = none-saves rule view defend-no_five defend-reply } in
+          let all : AreMet rule (note_at s.notes.items leaf).left view (map (λ (n : Note). n.at) ms) =
+          record { others = λ q on none. (reply-met q on none).1.1; none_saves = none-saves rule view defend-no_five defend-reply } in
           at-leaf-is (λ k n b. HasTried k rule n b (map (λ (n : Note). n.at) ms)) all
 
       -- sums over the new children, by what is judged of each
-      children-sum : (f : ℕ → ℕ) (h : Child → ℕ) → ((j : ℕ) → j < length more → f j ≡ h (child_at children.all.items j)) → sum_below (length more) f ≤ sum_by h children.all.items
+      children-sum : (f : ℕ → ℕ) (h : Child → ℕ) → ((j : ℕ) → j < length more → f j ≡ h (child_at children.all.items j))
+          → sum_below (length more) f ≤ sum_by h children.all.items
       children-sum f h same =
           let low = sum-le (length more) f (λ j. h (child_at children.all.items j)) (λ j l. let e = same j l in omega (arith, e)) in
           let all = sum-list h no_child children.all.items in
-          let size : sum_below (length more) (λ j. h (child_at children.all.items j)) ≡ sum_below (length children.all.items) (λ j. h (child_at children.all.items j)) =
+          let size : sum_below (length more) (λ j. h (child_at children.all.items j)) ≡ sum_below (length children.all.items)
+          (λ j. h (child_at children.all.items j)) =
           ap (λ (n : ℕ). sum_below n (λ j. h (child_at children.all.items j))) settled.numbers_count in
           omega (arith, low, all, size)
 
       behind-new : (f : Kind → RuleKind → ℕ → Grid → ℕ) → ((n : ℕ) (b : Grid) → f Attack rule n b ≡ threat_tree rule n b - 1)
-          → sum_below (length more) (λ j. new_behind f rule (link_at t.links leaf).kind (board_at (game_of rule s t) leaf) (note_at ms j) (numbers_at more j)) ≤ sum_by (open_behind rule (note_at s.notes.items leaf).left view) children.all.items
+          → sum_below (length more)
+          (λ j. new_behind f rule (link_at t.links leaf).kind (board_at (game_of rule s t) leaf) (note_at ms j) (numbers_at more j))
+          ≤ sum_by (open_behind rule (note_at s.notes.items leaf).left view) children.all.items
       behind-new f trees = children-sum
-          (λ j. new_behind f rule (link_at t.links leaf).kind (board_at (game_of rule s t) leaf) (note_at ms j) (numbers_at more j)) (open_behind rule (note_at s.notes.items leaf).left view)
+          (λ j. new_behind f rule (link_at t.links leaf).kind (board_at (game_of rule s t) leaf) (note_at ms j) (numbers_at more j))
+          (open_behind rule (note_at s.notes.items leaf).left view)
           (λ j low.
-          at-leaf-is (λ k n b. new_behind f rule k b (note_at ms j) (numbers_at more j) ≡ open_behind rule (note_at s.notes.items leaf).left view (child_at children.all.items j))
-          (child-behind rule (note_at s.notes.items leaf).left view d (child_at children.all.items j) (numbers_at more j) (note_at ms j) (is-child j low) (is-settled j low) f trees))
+          at-leaf-is (λ k n b. new_behind f rule k b (note_at ms j) (numbers_at more j) ≡ open_behind rule (note_at s.notes.items leaf).left
+          view (child_at children.all.items j))
+          (child-behind rule (note_at s.notes.items leaf).left view d (child_at children.all.items j) (numbers_at more j) (note_at ms j)
+          (is-child j low) (is-settled j low) f trees))
 
-      unwritten-new : sum_below (length more) (λ j. unwritten_child (link_at t.links leaf).kind (note_at ms j)) ≤ sum_by open_one children.all.items
+      unwritten-new : sum_below (length more) (λ j. unwritten_child (link_at t.links leaf).kind (note_at ms j)) ≤ sum_by open_one
+          children.all.items
       unwritten-new = children-sum (λ j. unwritten_child (link_at t.links leaf).kind (note_at ms j)) open_one (λ j low.
           at-leaf-is (λ k n b. unwritten_child k (note_at ms j) ≡ open_one (child_at children.all.items j))
-          (child-unwritten rule (note_at s.notes.items leaf).left view d (child_at children.all.items j) (numbers_at more j) (note_at ms j) (is-child j low) (is-settled j low)))
+          (child-unwritten rule (note_at s.notes.items leaf).left view d (child_at children.all.items j) (numbers_at more j) (note_at ms j)
+          (is-child j low) (is-settled j low)))
 
-    module _ (d : List Node) (grown : GrowsBy c d (sum_by (λ (x : Child). nodes_for x.judged) children.all.items)) (compiled : IsCompiled d) (more : List Numbers) (ms : List Note)
-        (settled : AreSettled rule (note_at s.notes.items leaf).left view d children.all.items (length children.all.items) more ms) (u : Tree) (e : IsExpandedAt t u leaf more)
-        (v : Search) (items : v.notes.items ≡ s.notes.items ++ ms) (rest : v ≡ record s { board = v.board; notes = v.notes; attacked = s.attacked + children.count }) (same_board : v.board ≡ s.board) (fits : s.attacked + children.count ≤ s.budget) where
+    module _ (d : List Node) (grown : GrowsBy c d (sum_by (λ (x : Child). nodes_for x.judged) children.all.items)) (compiled : IsCompiled d)
+        (more : List Numbers) (ms : List Note)
+        (settled : AreSettled rule (note_at s.notes.items leaf).left view d children.all.items (length children.all.items) more ms)
+        (u : Tree) (e : IsExpandedAt t u leaf more)
+        (v : Search) (items : v.notes.items ≡ s.notes.items ++ ms)
+        (rest : v ≡ record s { board = v.board; notes = v.notes; attacked = s.attacked + children.count })
+        (same_board : v.board ≡ s.board) (fits : s.attacked + children.count ≤ s.budget) where
       count-is : v.attacked ≡ s.attacked + children.count
       count-is = ap (λ (w : Search). w.attacked) rest
 
       defended-is : v.defended ≡ s.defended
       defended-is = ap (λ (w : Search). w.defended) rest
 
-      settled-now : AreSettled rule (note_at s.notes.items leaf).left view (c ++ grown.added) children.all.items (length children.all.items) more ms
-      settled-now = subst (λ (x : List Node). AreSettled rule (note_at s.notes.items leaf).left view x children.all.items (length children.all.items) more ms) grown.is settled
+      settled-now : AreSettled rule (note_at s.notes.items leaf).left view (c ++ grown.added) children.all.items (length children.all.items)
+          more ms
+      settled-now = subst (λ (x : List Node). AreSettled rule (note_at s.notes.items leaf).left view x children.all.items
+          (length children.all.items) more ms) grown.is settled
 
       pub replies-grow : Grows rule s v t u d leaf
       unfolding Grows
@@ -500,8 +602,12 @@ module _ (rule : RuleKind) (s : Search) (t : Tree) (c : List Node) (leaf : ℕ) 
           let whole = counted-whole in
           let attacks = behind-new (c ++ grown.added) more ms settled-now attacks_behind (λ n b. refl) in
           let defences = behind-new (c ++ grown.added) more ms settled-now defences_behind (λ n b. refl) in
-          let attacks_left : attacks_behind (link_at t.links leaf).kind rule (left_at (game_of rule s t).left leaf) (board_at (game_of rule s t) leaf) ≡ behind_replies rule (threat_tree rule left) view = at-leaf-is (λ k n b. attacks_behind k rule n b ≡ behind_replies rule (threat_tree rule left) view) refl in
-          let defences_left : defences_behind (link_at t.links leaf).kind rule (left_at (game_of rule s t).left leaf) (board_at (game_of rule s t) leaf) ≡ behind_replies rule (threat_tree rule left) view - 1 = at-leaf-is (λ k n b. defences_behind k rule n b ≡ behind_replies rule (threat_tree rule left) view - 1) refl in
+          let attacks_left : attacks_behind (link_at t.links leaf).kind rule (left_at (game_of rule s t).left leaf)
+          (board_at (game_of rule s t) leaf) ≡ behind_replies rule (threat_tree rule left) view =
+          at-leaf-is (λ k n b. attacks_behind k rule n b ≡ behind_replies rule (threat_tree rule left) view) refl in
+          let defences_left : defences_behind (link_at t.links leaf).kind rule (left_at (game_of rule s t).left leaf)
+          (board_at (game_of rule s t) leaf) ≡ behind_replies rule (threat_tree rule left) view - 1 =
+          at-leaf-is (λ k n b. defences_behind k rule n b ≡ behind_replies rule (threat_tree rule left) view - 1) refl in
           let unwritten = unwritten-new (c ++ grown.added) more ms settled-now in
           let nodes = nodes-few in
           let added = grown.few in
@@ -512,9 +618,11 @@ module _ (rule : RuleKind) (s : Search) (t : Tree) (c : List Node) (leaf : ℕ) 
           let same_table : v.settled ≡ s.settled = ap (λ (w : Search). w.settled) rest in
           subst (λ (x : List Node). HasGrown rule s v t u x leaf) (sym grown.is)
           (expanded-grown rule s t c leaf view here u more e v grown.added
-          (rest ∙ ap (λ (w : Search). record s { board = v.board; notes = v.notes; settled = w.settled; attacked = w.attacked; defended = w.defended }) (sym rest))
+          (rest ∙ ap (λ (w : Search). record s
+          { board = v.board; notes = v.notes; settled = w.settled; attacked = w.attacked; defended = w.defended }) (sym rest))
           same_board (subst IsCompiled grown.is compiled)
-          (memo-grown rule c grown.added v.settled (IsTable-lower c here.searching.compiled.table) (subst (IsTrueMemo rule c) (sym same_table) here.searching.remembered))
+          (memo-grown rule c grown.added v.settled (IsTable-lower c here.searching.compiled.table)
+          (subst (IsTrueMemo rule c) (sym same_table) here.searching.remembered))
           ms items (settled.notes_count ∙ sym settled.numbers_count) (some-new d more ms settled)
           (tried-here d more ms settled) (child-at d more ms settled) (noted-at (c ++ grown.added) more ms settled-now)
           (omega (arith, count)) (omega (arith, defended)) (omega (arith, count, fits)) (omega (arith, defended, defended_fits))

@@ -1,5 +1,6 @@
 -- The end of the search: what the note and the numbers of the root tell.
-use Rattle.std.proofs.Common.{◌≡◌, ◌∙◌, inl, inr, ℕ, zero, suc, ◌+◌, ◌*◌, ◌<◌, ◌≤◌, Bool, true, false, cond, sym, ap, subst, arith, List, length, get_or, min, Some, None}
+use Rattle.std.proofs.Common.{◌≡◌, ◌∙◌, inl, inr, ℕ, zero, suc, ◌+◌, ◌*◌, ◌<◌, ◌≤◌, Bool, true, false, cond, sym, ap, subst, arith, List}
+use Rattle.std.proofs.Common.{length, get_or, min, Some, None}
 use Rattle.std.proofs.lemmas.List.{get_or-map, get_or_default, length-map}
 use Rattle.game_rules.proofs.Common.{Grid, WinsByThreats, WinsWithin}
 use Rattle.game_rules.specs.declared.RuleKind.{RuleKind}
@@ -13,7 +14,8 @@ use Rattle.proof_tree.specs.declared.Kind.{Kind}
 use Rattle.proof_tree.proofs.Settled.{settled-one}
 use Rattle.proof_number.specs.declared.notes.Note.{Note}
 use Rattle.proof_number.specs.declared.search.Search.{Search}
-use Rattle.proof_number.proofs.Common.{HasNoThreatWin, no_note, note_at, noted_win, win_of, GameTree, TellsTruly, WinsAt, board_at, left_at, IsNotedWin, IsSearching, Searches, closed_nodes, game_of, is_open_leaf, sum_below}
+use Rattle.proof_number.proofs.Common.{HasNoThreatWin, no_note, note_at, noted_win, win_of, GameTree, TellsTruly, WinsAt, board_at, left_at}
+use Rattle.proof_number.proofs.Common.{IsNotedWin, IsSearching, Searches, closed_nodes, game_of, is_open_leaf, sum_below}
 use Rattle.threat_game.proofs.Common.{IsThreatWin, threat_tree}
 use Rattle.proof_number.proofs.GameTruths.{board-root, all-tell}
 use Rattle.proof_number.proofs.Recording.{noted-none, noted-some}
@@ -46,7 +48,8 @@ module _ (rule : RuleKind) (s : Search) (t : Tree) (c : List Node) (searches : S
       omega (arith, sum-ones (length t.links) (is_open_leaf t), h.counted.nodes, h.counted.attacked_fits, h.counted.defended_fits)
 
   pub root-noted : 0 < length s.notes.items
-  root-noted = let a = root-inside in let b = length-map s.notes.items (λ (n : Note). n.at) in let e = h.game.moves in omega (arith, a, b, e)
+  root-noted = let a = root-inside in let b = length-map s.notes.items (λ (n : Note). n.at) in let e =
+      h.game.moves in omega (arith, a, b, e)
 
   root-left : left_at Game.left 0 ≡ s.depth
   root-left = get_or-map (λ (n : Note). n.left) s.notes.items 0 no_note 0 root-noted ∙ h.depth
@@ -54,13 +57,16 @@ module _ (rule : RuleKind) (s : Search) (t : Tree) (c : List Node) (searches : S
   -- no more nodes were added than positions are counted
   pub added-few : length c ≤ s.before + min s.budget (threat_tree rule s.depth s.root)
   added-few =
-      let first : threat_tree rule (left_at Game.left 0) s.root ≡ threat_tree rule s.depth s.root = ap (λ (n : ℕ). threat_tree rule n s.root) root-left in
+      let first : threat_tree rule (left_at Game.left 0) s.root ≡ threat_tree rule s.depth s.root =
+      ap (λ (n : ℕ). threat_tree rule n s.root) root-left in
       omega (arith, h.few, h.counted.attacked_fits, h.counted.attacks, first)
 
   -- the same for what the search was begun with
-  pub told-few : (n budget : ℕ) (b : Grid) (old : List Node) → s.depth ≡ n → s.budget ≡ budget → s.root ≡ b → s.before ≡ length old → length c ≤ length old + min budget (threat_tree rule n b)
+  pub told-few : (n budget : ℕ) (b : Grid) (old : List Node) → s.depth ≡ n → s.budget ≡ budget → s.root ≡ b → s.before ≡ length old
+      → length c ≤ length old + min budget (threat_tree rule n b)
   told-few n budget b old deep for_budget from before =
-      let same : threat_tree rule s.depth s.root ≡ threat_tree rule n b = ap (λ (m : ℕ). threat_tree rule m s.root) deep ∙ ap (threat_tree rule n) from in
+      let same : threat_tree rule s.depth s.root ≡ threat_tree rule n b =
+      ap (λ (m : ℕ). threat_tree rule m s.root) deep ∙ ap (threat_tree rule n) from in
       omega (arith, added-few, same, for_budget, before)
 
   root-board : board_at Game 0 ≡ s.root
@@ -70,7 +76,8 @@ module _ (rule : RuleKind) (s : Search) (t : Tree) (c : List Node) (searches : S
   root-tells =
       subst (λ (b : Grid). TellsTruly (numbers_at t.numbers 0) (WinsByThreats rule s.depth b)) root-board
       (subst (λ (n : ℕ). TellsTruly (numbers_at t.numbers 0) (WinsByThreats rule n (board_at Game 0))) root-left
-      (subst (λ (k : Kind). TellsTruly (numbers_at t.numbers 0) (WinsAt k rule (left_at Game.left 0) (board_at Game 0))) h.tree.linked.root_attacks
+      (subst (λ (k : Kind). TellsTruly (numbers_at t.numbers 0) (WinsAt k rule (left_at Game.left 0) (board_at Game 0)))
+      h.tree.linked.root_attacks
       (all-tell Game h.tree h.game 0 root-inside)))
 
   -- where a win is noted
@@ -80,7 +87,8 @@ module _ (rule : RuleKind) (s : Search) (t : Tree) (c : List Node) (searches : S
         let noted = noted-some (note_at s.notes.items 0) w e in
         subst (IsNotedWin rule s.depth s.root c) noted.1
         (subst (λ (b : Grid). IsNotedWin rule s.depth b c (win_of (note_at s.notes.items 0))) root-board
-        (subst (λ (n : ℕ). IsNotedWin rule n (board_at Game 0) c (win_of (note_at s.notes.items 0))) root-left (h.written.true_wins 0 root-inside noted.0)))
+        (subst (λ (n : ℕ). IsNotedWin rule n (board_at Game 0) c (win_of (note_at s.notes.items 0))) root-left
+        (h.written.true_wins 0 root-inside noted.0)))
 
     pub root-win : IsThreatWin rule s.depth s.root c w
     root-win = record {
@@ -122,7 +130,8 @@ module _ (rule : RuleKind) (s : Search) (t : Tree) (c : List Node) (searches : S
         subst (λ (d : Grid). IsThreatWin rule n d c w) from
         (subst (λ (m : ℕ). IsThreatWin rule m s.root c w) deep (root-win w (ap noted_win root-note ∙ sym e)))
 
-    pub told-proved : (w : WrittenWin) → Some w ≡ noted_win note → is_settled (numbers_at t.numbers 0) ≡ true → numbers_at t.numbers 0 ≡ settled_numbers true
+    pub told-proved : (w : WrittenWin) → Some w ≡ noted_win note → is_settled (numbers_at t.numbers 0) ≡ true
+        → numbers_at t.numbers 0 ≡ settled_numbers true
     told-proved w e = root-proved w (ap noted_win root-note ∙ sym e)
 
     pub told-none : None ≡ noted_win note → is_settled (numbers_at t.numbers 0) ≡ true → HasNoThreatWin rule n b
@@ -136,5 +145,6 @@ module _ (rule : RuleKind) (s : Search) (t : Tree) (c : List Node) (searches : S
 -- ---- counts
 
 -- where a search that was begun for this is full, more positions are counted than the compiler has room for
-pub begun-full : {E : Type 0} (length budget positions : ℕ) → 1 ≤ budget → 1 ≤ positions → (E → MAX_NODES < length + 1) → E → MAX_NODES < length + min budget positions
+pub begun-full : {E : Type 0} (length budget positions : ℕ) → 1 ≤ budget → 1 ≤ positions → (E → MAX_NODES < length + 1) → E
+    → MAX_NODES < length + min budget positions
 begun-full length budget positions some more refused e = let over = refused e in omega (arith, over, some, more)

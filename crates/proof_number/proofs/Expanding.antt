@@ -1,9 +1,9 @@
--- What becomes of a tree of the game, of what is written, and of the counts where a leaf is given children. A step that gives the leaf
--- children: all holds again but on the way up from it. Bounds of a step that gives the leaf children of which nothing is known, or that are
--- proved.
-use Rattle.std.proofs.Common.{◌≡◌, ◌≢◌, ◌⊎◌, inl, inr, ℕ, ◌+◌, ◌-◌, ◌<◌, ◌≤◌, true, false, cond, not, ◌&&◌, refl, sym, ap, subst, ◌∙◌, arith, List, ◌++◌, length, take, drop, nat_eq, map, zero, suc, All}
+-- What becomes of a tree of the game where a leaf is given children: it is one again, and what is counted behind the leaf is what is
+-- counted behind its children.
+use Rattle.std.proofs.Common.{◌≡◌, ◌≢◌, ◌⊎◌, inl, inr, ℕ, ◌+◌, ◌-◌, ◌<◌, ◌≤◌, true, false, cond, not, ◌&&◌, refl, sym, ap, subst, ◌∙◌}
+use Rattle.std.proofs.Common.{arith, List, ◌++◌, length, take, drop, nat_eq}
 use Rattle.std.proofs.lemmas.Bool.{cases_eq, cases_lt, eq-eqb, ne_eqb}
-use Rattle.std.proofs.lemmas.List.{drop-append-le, get_or-append-add, get_or_append_left, length-append, length-drop, take-append-le, get_or-map, length-map, map-append}
+use Rattle.std.proofs.lemmas.List.{drop-append-le, get_or-append-add, get_or_append_left, length-append, length-drop, take-append-le}
 use Rattle.std.proofs.Math.Seq.{drop-append_seam, take-length}
 use Rattle.game_rules.specs.declared.Outcome.TheVariants.{GoesOn}
 use Rattle.game_rules.specs.declared.RuleKind.{RuleKind}
@@ -12,23 +12,15 @@ use Rattle.game_rules.proofs.Common.{Grid, outcome, after}
 use Rattle.proof_tree.specs.declared.Kind.{Kind}
 use Rattle.proof_tree.specs.declared.Link.{Link}
 use Rattle.proof_tree.specs.declared.Numbers.{Numbers}
-use Rattle.proof_tree.specs.declared.Kind.TheVariants.{Attack, Defend}
-use Rattle.proof_tree.specs.declared.TheConstants.{INFINITE}
-use Rattle.proof_tree.proofs.Common.{is_settled, no_numbers, other_kind, IsTree, OthersStay, Tree, link_at, numbers_at, finite, finite_sum, settled_numbers, sought, IsOnWayUp, grown_links, leaf_sum}
-use Rattle.proof_tree.proofs.Changed.{IsGrown, grown}
+use Rattle.proof_tree.proofs.Common.{is_settled, no_numbers, other_kind, IsTree, OthersStay, Tree, link_at, numbers_at}
+use Rattle.proof_tree.proofs.Changed.{IsGrown}
 use Rattle.proof_tree.proofs.Settled.{leaf-beside}
-use Rattle.proof_tree.proofs.SumLaws.{leaf_sum-grown, one-leaf, IsFresh, fresh-sum}
-use Rattle.strategy_graph.specs.declared.Node.{Node}
-use Rattle.strategy_graph.proofs.Filling.{IsTable-lower}
-use Rattle.strategy_compiler.proofs.Common.{IsCompiled}
-use Rattle.threat_game.proofs.Common.{move_at, nowhere, threat_tree}
-use Rattle.threat_game.proofs.TreeLaws.{one_where}
-use Rattle.proof_number.specs.declared.notes.Note.{Note}
-use Rattle.proof_number.specs.declared.search.Search.{Search}
-use Rattle.proof_number.proofs.Common.{CanGrow, GameTree, HasTried, IsGameTree, TellsTruly, WinsAt, among, board_at, board_of, left_at, left_before, moves_of, behind_at, behind_leaves, closed_nodes, is_open_leaf, sum_below, no_note, note_at, win_of, noted_tree, IsTrueMemo, AreWritten, HasGrown, IsAtLeaf, IsCounted, IsExpandedAt, IsMet, IsNotedWin, IsSearching, attacks_behind, defences_behind, game_of, is_attack, unwritten, StandsAt}
+use Rattle.threat_game.proofs.Common.{move_at, nowhere}
+use Rattle.proof_number.proofs.Common.{CanGrow, GameTree, HasTried, IsGameTree, TellsTruly, WinsAt, board_at, board_of, left_at}
+use Rattle.proof_number.proofs.Common.{left_before, moves_of, behind_at, behind_leaves, closed_nodes, is_open_leaf, sum_below}
 use Rattle.proof_number.proofs.GameTruths.{board-kept, board-step}
-use Rattle.proof_number.proofs.Settling.{one_unless, written-grown}
-use Rattle.proof_number.proofs.Sums.{sum-le, sum-less, sum-more, sum-suc, sum-zero}
+use Rattle.proof_number.proofs.Settling.{one_unless}
+use Rattle.proof_number.proofs.Sums.{sum-le, sum-less, sum-more}
 
 -- one child of a leaf with this kind, so many moves and this board: its move goes on, and if it is open it can grow, else it tells
 -- truly
@@ -38,21 +30,28 @@ pub record IsNewChild (rule : RuleKind) (kind : Kind) (left : ℕ) (b : Grid) (p
   pub grows : is_settled numbers ≡ false → CanGrow (other_kind kind) rule n (after b p)
   pub tells : TellsTruly numbers (WinsAt (other_kind kind) rule n (after b p))
 
-module _ (g : GameTree) (ok : IsTree g.tree) (leaf : ℕ) (inside : leaf < length g.tree.links) (childless : (link_at g.tree.links leaf).count ≡ 0) (game : IsGameTree g)
-    (links : List Link) (numbers more : List Numbers) (ps : List Point) (ns : List ℕ) (count : ℕ) (some : 0 < count) (points : length ps ≡ count) (lefts : length ns ≡ count) (values : length more ≡ count)
+module _ (g : GameTree) (ok : IsTree g.tree) (leaf : ℕ) (inside : leaf < length g.tree.links)
+    (childless : (link_at g.tree.links leaf).count ≡ 0) (game : IsGameTree g)
+    (links : List Link) (numbers more : List Numbers) (ps : List Point) (ns : List ℕ) (count : ℕ) (some : 0 < count)
+    (points : length ps ≡ count) (lefts : length ns ≡ count) (values : length more ≡ count)
     (long : IsGrown g.tree.links leaf count links) (new : IsTree (record { links = links; numbers = numbers }))
-    (others : OthersStay links leaf (g.tree.numbers ++ more) numbers) (children : (j : ℕ) → j < count → numbers_at numbers (length g.tree.links + j) ≡ numbers_at more j)
+    (others : OthersStay links leaf (g.tree.numbers ++ more) numbers)
+    (children : (j : ℕ) → j < count → numbers_at numbers (length g.tree.links + j) ≡ numbers_at more j)
     (tried : HasTried (link_at g.tree.links leaf).kind g.rule (left_at g.left leaf) (board_at g leaf) ps)
-    (unsettled : is_settled (numbers_at g.tree.numbers leaf) ≡ false) (each : (j : ℕ) → j < count → IsNewChild g.rule (link_at g.tree.links leaf).kind (left_at g.left leaf) (board_at g leaf) (move_at ps j) (left_at ns j) (numbers_at more j)) where
+    (unsettled : is_settled (numbers_at g.tree.numbers leaf) ≡ false)
+    (each : (j : ℕ) → j < count → IsNewChild g.rule (link_at g.tree.links leaf).kind (left_at g.left leaf) (board_at g leaf)
+    (move_at ps j) (left_at ns j) (numbers_at more j)) where
   pub old-parent : (j : ℕ) → j < length g.tree.links → (link_at links j).parent ≡ (link_at g.tree.links j).parent
   old-parent j low = elim (cases_eq j leaf) [
-    | inl e ↦ ap (λ (k : ℕ). (link_at links k).parent) e ∙ ap (λ (l : Link). l.parent) long.here ∙ ap (λ (k : ℕ). (link_at g.tree.links k).parent) (sym e)
+    | inl e ↦ ap (λ (k : ℕ). (link_at links k).parent) e ∙ ap (λ (l : Link). l.parent) long.here
+        ∙ ap (λ (k : ℕ). (link_at g.tree.links k).parent) (sym e)
     | inr n ↦ ap (λ (l : Link). l.parent) (long.others j low n)
   ]
 
   pub old-kind : (j : ℕ) → j < length g.tree.links → (link_at links j).kind ≡ (link_at g.tree.links j).kind
   old-kind j low = elim (cases_eq j leaf) [
-    | inl e ↦ ap (λ (k : ℕ). (link_at links k).kind) e ∙ ap (λ (l : Link). l.kind) long.here ∙ ap (λ (k : ℕ). (link_at g.tree.links k).kind) (sym e)
+    | inl e ↦ ap (λ (k : ℕ). (link_at links k).kind) e ∙ ap (λ (l : Link). l.kind) long.here
+        ∙ ap (λ (k : ℕ). (link_at g.tree.links k).kind) (sym e)
     | inr n ↦ ap (λ (l : Link). l.kind) (long.others j low n)
   ]
 
@@ -80,15 +79,18 @@ module _ (g : GameTree) (ok : IsTree g.tree) (leaf : ℕ) (inside : leaf < lengt
   pub new-kind : (j : ℕ) → j < count → (link_at links (length g.tree.links + j)).kind ≡ other_kind (link_at g.tree.links leaf).kind
   new-kind j low = ap (λ (l : Link). l.kind) (long.leaves (length g.tree.links + j) (omega arith) (omega (arith, low)))
 
-  pub new-board : (j : ℕ) → j < count → board_of links (g.moves ++ ps) g.start (length g.tree.links + j) ≡ after (board_at g leaf) (move_at ps j)
+  pub new-board : (j : ℕ) → j < count → board_of links (g.moves ++ ps) g.start (length g.tree.links + j) ≡ after (board_at g leaf)
+      (move_at ps j)
   new-board j low =
       board-step links (g.moves ++ ps) g.start new.linked (length g.tree.links + j) (omega (arith, inside)) (new-inside j low)
-      ∙ ap (λ (k : ℕ). after (board_of links (g.moves ++ ps) g.start k) (move_at (g.moves ++ ps) (length g.tree.links + j))) (new-parent j low)
+      ∙ ap (λ (k : ℕ). after (board_of links (g.moves ++ ps) g.start k) (move_at (g.moves ++ ps) (length g.tree.links + j)))
+      (new-parent j low)
       ∙ ap (λ (c : Grid). after c (move_at (g.moves ++ ps) (length g.tree.links + j))) (old-board leaf inside)
       ∙ ap (after (board_at g leaf)) (new-move j)
 
   -- leaves that are old have the numbers that they had
-  pub old-numbers : (j : ℕ) → j < length g.tree.links → (link_at links j).count ≡ 0 → j ≢ leaf → numbers_at numbers j ≡ numbers_at g.tree.numbers j
+  pub old-numbers : (j : ℕ) → j < length g.tree.links → (link_at links j).count ≡ 0 → j ≢ leaf
+      → numbers_at numbers j ≡ numbers_at g.tree.numbers j
   old-numbers j low none other =
       others j (leaf-beside links new.linked leaf j (let e = long.sized in omega (arith, e, inside)) none other)
       ∙ get_or_append_left g.tree.numbers more no_numbers j (let e = ok.numbered.count in omega (arith, e, low))
@@ -101,10 +103,12 @@ module _ (g : GameTree) (ok : IsTree g.tree) (leaf : ℕ) (inside : leaf < lengt
   ]
 
   has-children : (i : ℕ) → i ≡ leaf → (link_at links i).count ≡ 0 → ⊥
-  has-children i e none = let c : (link_at links leaf).count ≡ count = ap (λ (l : Link). l.count) long.here in let d = ap (λ (k : ℕ). (link_at links k).count) e in omega (arith, c, d, none, some)
+  has-children i e none = let c : (link_at links leaf).count ≡ count = ap (λ (l : Link). l.count) long.here in let d =
+      ap (λ (k : ℕ). (link_at links k).count) e in omega (arith, c, d, none, some)
 
   -- what a node has tried
-  pub old-moves_of : (i : ℕ) → i < length g.tree.links → moves_of (link_at g.tree.links i) (g.moves ++ ps) ≡ moves_of (link_at g.tree.links i) g.moves
+  pub old-moves_of : (i : ℕ) → i < length g.tree.links
+      → moves_of (link_at g.tree.links i) (g.moves ++ ps) ≡ moves_of (link_at g.tree.links i) g.moves
   old-moves_of i low =
       let l : Link = link_at g.tree.links i in
       let within = ok.linked.within i low in
@@ -120,7 +124,14 @@ module _ (g : GameTree) (ok : IsTree g.tree) (leaf : ℕ) (inside : leaf < lengt
       ∙ ap (λ (m : ℕ). take (length ps) (drop m (g.moves ++ ps))) (sym game.moves)
       ∙ ap (take (length ps)) (drop-append_seam g.moves ps) ∙ take-length ps
 
-  pub game-grown : IsGameTree (record { rule = g.rule; start = g.start; tree = record { links = links; numbers = numbers }; moves = g.moves ++ ps; left = g.left ++ ns })
+  pub game-grown : IsGameTree
+      (record {
+        rule = g.rule;
+        start = g.start;
+        tree = record { links = links; numbers = numbers };
+        moves = g.moves ++ ps;
+        left = g.left ++ ns;
+      })
   game-grown = record {
     moves = length-append g.moves ps ∙ (let a = game.moves in let b = long.sized in omega (arith, a, b, points));
     left = length-append g.left ns ∙ (let a = game.left in let b = long.sized in omega (arith, a, b, lefts));
@@ -129,12 +140,15 @@ module _ (g : GameTree) (ok : IsTree g.tree) (leaf : ℕ) (inside : leaf < lengt
       | inl old ↦
           let up = ok.linked.parent_first i positive old in
           ap (λ (k : ℕ). outcome g.rule (board_of links (g.moves ++ ps) g.start k) (move_at (g.moves ++ ps) i)) (old-parent i old)
-          ∙ ap (λ (c : Grid). outcome g.rule c (move_at (g.moves ++ ps) i)) (old-board (link_at g.tree.links i).parent (omega (arith, up, old)))
+          ∙ ap (λ (c : Grid). outcome g.rule c (move_at (g.moves ++ ps) i))
+          (old-board (link_at g.tree.links i).parent (omega (arith, up, old)))
           ∙ ap (outcome g.rule (board_at g (link_at g.tree.links i).parent)) (old-move i old)
           ∙ game.on i positive old
       | inr child ↦
-          ap (λ (m : ℕ). outcome g.rule (board_of links (g.moves ++ ps) g.start (link_at links m).parent) (move_at (g.moves ++ ps) m)) child.2
-          ∙ ap (λ (k : ℕ). outcome g.rule (board_of links (g.moves ++ ps) g.start k) (move_at (g.moves ++ ps) (length g.tree.links + child.0))) (new-parent child.0 child.1)
+          ap (λ (m : ℕ). outcome g.rule (board_of links (g.moves ++ ps) g.start (link_at links m).parent) (move_at (g.moves ++ ps) m))
+          child.2
+          ∙ ap (λ (k : ℕ). outcome g.rule (board_of links (g.moves ++ ps) g.start k)
+          (move_at (g.moves ++ ps) (length g.tree.links + child.0))) (new-parent child.0 child.1)
           ∙ ap (λ (c : Grid). outcome g.rule c (move_at (g.moves ++ ps) (length g.tree.links + child.0))) (old-board leaf inside)
           ∙ ap (outcome g.rule (board_at g leaf)) (new-move child.0)
           ∙ (each child.0 child.1).on
@@ -159,525 +173,233 @@ module _ (g : GameTree) (ok : IsTree g.tree) (leaf : ℕ) (inside : leaf < lengt
     inner = λ i low many. elim (split i low) [
       | inl old ↦ elim (cases_eq i leaf) [
         | inl e ↦
-            subst (λ (k : ℕ). HasTried (link_at links k).kind g.rule (left_at (g.left ++ ns) k) (board_of links (g.moves ++ ps) g.start k) (moves_of (link_at links k) (g.moves ++ ps))) (sym e) leaf-tried
+            subst (λ (k : ℕ). HasTried (link_at links k).kind g.rule (left_at (g.left ++ ns) k) (board_of links (g.moves ++ ps) g.start k)
+            (moves_of (link_at links k) (g.moves ++ ps))) (sym e) leaf-tried
         | inr n ↦
             let same : link_at links i ≡ link_at g.tree.links i = long.others i old n in
-            let before : HasTried (link_at g.tree.links i).kind g.rule (left_at g.left i) (board_at g i) (moves_of (link_at g.tree.links i) g.moves) =
+            let before : HasTried (link_at g.tree.links i).kind g.rule (left_at g.left i) (board_at g i)
+            (moves_of (link_at g.tree.links i) g.moves) =
             game.inner i old (subst (λ (l : Link). 0 < l.count) same many) in
-            tried-same (link_at links i).kind (link_at g.tree.links i).kind (left_at (g.left ++ ns) i) (left_at g.left i) (board_of links (g.moves ++ ps) g.start i) (board_at g i) (moves_of (link_at links i) (g.moves ++ ps)) (moves_of (link_at g.tree.links i) g.moves)
-            (ap (λ (l : Link). l.kind) same) (old-left i old) (old-board i old) (ap (λ (l : Link). moves_of l (g.moves ++ ps)) same ∙ old-moves_of i old) before
+            tried-same (link_at links i).kind (link_at g.tree.links i).kind (left_at (g.left ++ ns) i) (left_at g.left i)
+            (board_of links (g.moves ++ ps) g.start i) (board_at g i) (moves_of (link_at links i) (g.moves ++ ps))
+            (moves_of (link_at g.tree.links i) g.moves)
+            (ap (λ (l : Link). l.kind) same) (old-left i old) (old-board i old)
+            (ap (λ (l : Link). moves_of l (g.moves ++ ps)) same ∙ old-moves_of i old) before
       ]
-      | inr child ↦ absurd (let none : (link_at links i).count ≡ 0 = ap (λ (m : ℕ). (link_at links m).count) child.2 ∙ ap (λ (l : Link). l.count) (long.leaves (length g.tree.links + child.0) (omega arith) (omega (arith, child.1))) in omega (arith, none, many))
+      | inr child ↦ absurd (let none : (link_at links i).count ≡ 0 =
+          ap (λ (m : ℕ). (link_at links m).count) child.2
+          ∙ ap (λ (l : Link). l.count) (long.leaves (length g.tree.links + child.0) (omega arith) (omega (arith, child.1))) in
+          omega (arith, none, many))
     ];
     open_leaf = λ i low none not_settled. elim (split i low) [
       | inl old ↦ elim (cases_eq i leaf) [
         | inl e ↦ absurd (has-children i e none)
         | inr n ↦
             let same : link_at links i ≡ link_at g.tree.links i = long.others i old n in
-            let before = game.open_leaf i old (ap (λ (l : Link). l.count) (sym same) ∙ none) (ap is_settled (sym (old-numbers i old none n)) ∙ not_settled) in
-            grow-same (link_at links i).kind (link_at g.tree.links i).kind (left_at (g.left ++ ns) i) (left_at g.left i) (board_of links (g.moves ++ ps) g.start i) (board_at g i)
+            let before = game.open_leaf i old (ap (λ (l : Link). l.count) (sym same) ∙ none)
+            (ap is_settled (sym (old-numbers i old none n)) ∙ not_settled) in
+            grow-same (link_at links i).kind (link_at g.tree.links i).kind (left_at (g.left ++ ns) i) (left_at g.left i)
+            (board_of links (g.moves ++ ps) g.start i) (board_at g i)
             (ap (λ (l : Link). l.kind) same) (old-left i old) (old-board i old) before
       ]
       | inr child ↦
-          subst (λ (m : ℕ). CanGrow (link_at links m).kind g.rule (left_at (g.left ++ ns) m) (board_of links (g.moves ++ ps) g.start m)) (sym child.2)
+          subst (λ (m : ℕ). CanGrow (link_at links m).kind g.rule (left_at (g.left ++ ns) m) (board_of links (g.moves ++ ps) g.start m))
+          (sym child.2)
           (grow-same _ _ _ _ _ _ (new-kind child.0 child.1) (new-left child.0) (new-board child.0 child.1)
-          ((each child.0 child.1).grows (ap is_settled (sym (children child.0 child.1)) ∙ ap (λ (m : ℕ). is_settled (numbers_at numbers m)) (sym child.2) ∙ not_settled)))
+          ((each child.0 child.1).grows
+          (ap is_settled (sym (children child.0 child.1)) ∙ ap (λ (m : ℕ). is_settled (numbers_at numbers m)) (sym child.2)
+          ∙ not_settled)))
     ];
     leaf = λ i low none. elim (split i low) [
       | inl old ↦ elim (cases_eq i leaf) [
         | inl e ↦ absurd (has-children i e none)
         | inr n ↦
             let same : link_at links i ≡ link_at g.tree.links i = long.others i old n in
-            tell-same _ _ _ _ _ _ _ _ (ap (λ (l : Link). l.kind) same) (old-left i old) (old-board i old) (old-numbers i old none n) (game.leaf i old (ap (λ (l : Link). l.count) (sym same) ∙ none))
+            tell-same _ _ _ _ _ _ _ _ (ap (λ (l : Link). l.kind) same) (old-left i old) (old-board i old) (old-numbers i old none n)
+            (game.leaf i old (ap (λ (l : Link). l.count) (sym same) ∙ none))
       ]
       | inr child ↦
-          subst (λ (m : ℕ). TellsTruly (numbers_at numbers m) (WinsAt (link_at links m).kind g.rule (left_at (g.left ++ ns) m) (board_of links (g.moves ++ ps) g.start m))) (sym child.2)
-          (tell-same _ _ _ _ _ _ _ _ (new-kind child.0 child.1) (new-left child.0) (new-board child.0 child.1) (children child.0 child.1) (each child.0 child.1).tells)
+          subst (λ (m : ℕ). TellsTruly (numbers_at numbers m)
+          (WinsAt (link_at links m).kind g.rule (left_at (g.left ++ ns) m) (board_of links (g.moves ++ ps) g.start m))) (sym child.2)
+          (tell-same _ _ _ _ _ _ _ _ (new-kind child.0 child.1) (new-left child.0) (new-board child.0 child.1) (children child.0 child.1)
+          (each child.0 child.1).tells)
     ];
   } where
-    tried-same : (k k2 : Kind) (n n2 : ℕ) (c c2 : Grid) (ms ms2 : List Point) → k ≡ k2 → n ≡ n2 → c ≡ c2 → ms ≡ ms2 → HasTried k2 g.rule n2 c2 ms2 → HasTried k g.rule n c ms
+    tried-same : (k k2 : Kind) (n n2 : ℕ) (c c2 : Grid) (ms ms2 : List Point) → k ≡ k2 → n ≡ n2 → c ≡ c2 → ms ≡ ms2
+        → HasTried k2 g.rule n2 c2 ms2 → HasTried k g.rule n c ms
     tried-same k k2 n n2 c c2 ms ms2 ek en ec em h = rw (ek, en, ec, em) h
 
     grow-same : (k k2 : Kind) (n n2 : ℕ) (c c2 : Grid) → k ≡ k2 → n ≡ n2 → c ≡ c2 → CanGrow k2 g.rule n2 c2 → CanGrow k g.rule n c
     grow-same k k2 n n2 c c2 ek en ec h = rw (ek, en, ec) h
 
-    tell-same : (k k2 : Kind) (n n2 : ℕ) (c c2 : Grid) (m m2 : Numbers) → k ≡ k2 → n ≡ n2 → c ≡ c2 → m ≡ m2 → TellsTruly m2 (WinsAt k2 g.rule n2 c2) → TellsTruly m (WinsAt k g.rule n c)
+    tell-same : (k k2 : Kind) (n n2 : ℕ) (c c2 : Grid) (m m2 : Numbers) → k ≡ k2 → n ≡ n2 → c ≡ c2 → m ≡ m2
+        → TellsTruly m2 (WinsAt k2 g.rule n2 c2) → TellsTruly m (WinsAt k g.rule n c)
     tell-same k k2 n n2 c c2 m m2 ek en ec em h = rw (ek, en, ec, em) h
 
-    leaf-tried : HasTried (link_at links leaf).kind g.rule (left_at (g.left ++ ns) leaf) (board_of links (g.moves ++ ps) g.start leaf) (moves_of (link_at links leaf) (g.moves ++ ps))
+    leaf-tried : HasTried (link_at links leaf).kind g.rule (left_at (g.left ++ ns) leaf) (board_of links (g.moves ++ ps) g.start leaf)
+        (moves_of (link_at links leaf) (g.moves ++ ps))
     leaf-tried =
-        tried-same (link_at links leaf).kind (link_at g.tree.links leaf).kind (left_at (g.left ++ ns) leaf) (left_at g.left leaf) (board_of links (g.moves ++ ps) g.start leaf) (board_at g leaf) (moves_of (link_at links leaf) (g.moves ++ ps)) ps
+        tried-same (link_at links leaf).kind (link_at g.tree.links leaf).kind (left_at (g.left ++ ns) leaf) (left_at g.left leaf)
+        (board_of links (g.moves ++ ps) g.start leaf) (board_at g leaf) (moves_of (link_at links leaf) (g.moves ++ ps)) ps
         (old-kind leaf inside) (old-left leaf inside) (old-board leaf inside) grown-moves tried
 
   -- ---- counts
 
   -- what is counted behind child j, if it is open
   pub child-behind : (Kind → RuleKind → ℕ → Grid → ℕ) → ℕ → ℕ
-  child-behind f j = cond (not (is_settled (numbers_at more j))) (f (other_kind (link_at g.tree.links leaf).kind) g.rule (left_at ns j) (after (board_at g leaf) (move_at ps j))) 0
+  child-behind f j = cond (not (is_settled (numbers_at more j)))
+      (f (other_kind (link_at g.tree.links leaf).kind) g.rule (left_at ns j) (after (board_at g leaf) (move_at ps j))) 0
 
-  pub child-counts : (f : Kind → RuleKind → ℕ → Grid → ℕ) (j : ℕ) → child-behind f j ≡ cond (not (is_settled (numbers_at more j))) (f (other_kind (link_at g.tree.links leaf).kind) g.rule (left_at ns j) (after (board_at g leaf) (move_at ps j))) 0
+  pub child-counts : (f : Kind → RuleKind → ℕ → Grid → ℕ) (j : ℕ)
+      → child-behind f j ≡ cond (not (is_settled (numbers_at more j)))
+      (f (other_kind (link_at g.tree.links leaf).kind) g.rule (left_at ns j) (after (board_at g leaf) (move_at ps j))) 0
   unfolding child-behind
   child-counts f j = refl
 
   behind-old : (f : Kind → RuleKind → ℕ → Grid → ℕ) (i : ℕ) → i < length g.tree.links → i ≢ leaf
-      → behind_at f (record { rule = g.rule; start = g.start; tree = record { links = links; numbers = numbers }; moves = g.moves ++ ps; left = g.left ++ ns }) i ≡ behind_at f g i
+      → behind_at f (record {
+        rule = g.rule;
+        start = g.start;
+        tree = record { links = links; numbers = numbers };
+        moves = g.moves ++ ps;
+        left = g.left ++ ns;
+      }) i ≡ behind_at f g i
   behind-old f i low other = by_count (cases_eq (link_at g.tree.links i).count 0) where
     same : link_at links i ≡ link_at g.tree.links i
     same = long.others i low other
 
-    value : f (link_at links i).kind g.rule (left_at (g.left ++ ns) i) (board_of links (g.moves ++ ps) g.start i) ≡ f (link_at g.tree.links i).kind g.rule (left_at g.left i) (board_at g i)
+    value : f (link_at links i).kind g.rule (left_at (g.left ++ ns) i) (board_of links (g.moves ++ ps) g.start i) ≡ f
+        (link_at g.tree.links i).kind g.rule (left_at g.left i) (board_at g i)
     value =
         ap (λ (k : Kind). f k g.rule (left_at (g.left ++ ns) i) (board_of links (g.moves ++ ps) g.start i)) (ap (λ (l : Link). l.kind) same)
         ∙ ap (λ (n : ℕ). f (link_at g.tree.links i).kind g.rule n (board_of links (g.moves ++ ps) g.start i)) (old-left i low)
         ∙ ap (f (link_at g.tree.links i).kind g.rule (left_at g.left i)) (old-board i low)
 
-    by_count : ((link_at g.tree.links i).count ≡ 0) ⊎ ((link_at g.tree.links i).count ≡ 0 → ⊥) → behind_at f (record { rule = g.rule; start = g.start; tree = record { links = links; numbers = numbers }; moves = g.moves ++ ps; left = g.left ++ ns }) i ≡ behind_at f g i
+    by_count : ((link_at g.tree.links i).count ≡ 0) ⊎ ((link_at g.tree.links i).count ≡ 0 → ⊥)
+        → behind_at f (record {
+          rule = g.rule;
+          start = g.start;
+          tree = record { links = links; numbers = numbers };
+          moves = g.moves ++ ps;
+          left = g.left ++ ns;
+        }) i ≡ behind_at f g i
     by_count (inl none) =
-        ap (λ (l : Link). cond (nat_eq l.count 0 && not (is_settled (numbers_at numbers i))) (f (link_at links i).kind g.rule (left_at (g.left ++ ns) i) (board_of links (g.moves ++ ps) g.start i)) 0) same
-        ∙ ap (λ (m : Numbers). cond (nat_eq (link_at g.tree.links i).count 0 && not (is_settled m)) (f (link_at links i).kind g.rule (left_at (g.left ++ ns) i) (board_of links (g.moves ++ ps) g.start i)) 0)
+        ap (λ (l : Link). cond (nat_eq l.count 0 && not (is_settled (numbers_at numbers i)))
+        (f (link_at links i).kind g.rule (left_at (g.left ++ ns) i) (board_of links (g.moves ++ ps) g.start i)) 0) same
+        ∙ ap (λ (m : Numbers). cond (nat_eq (link_at g.tree.links i).count 0 && not (is_settled m))
+        (f (link_at links i).kind g.rule (left_at (g.left ++ ns) i) (board_of links (g.moves ++ ps) g.start i)) 0)
         (old-numbers i low (ap (λ (l : Link). l.count) same ∙ none) other)
         ∙ ap (λ (m : ℕ). cond (nat_eq (link_at g.tree.links i).count 0 && not (is_settled (numbers_at g.tree.numbers i))) m 0) value
     by_count (inr many) =
         let shut : nat_eq (link_at g.tree.links i).count 0 ≡ false = ne_eqb (link_at g.tree.links i).count 0 many in
-        ap (λ (l : Link). cond (nat_eq l.count 0 && not (is_settled (numbers_at numbers i))) (f (link_at links i).kind g.rule (left_at (g.left ++ ns) i) (board_of links (g.moves ++ ps) g.start i)) 0) same
-        ∙ ap (λ r. cond (r && not (is_settled (numbers_at numbers i))) (f (link_at links i).kind g.rule (left_at (g.left ++ ns) i) (board_of links (g.moves ++ ps) g.start i)) 0) shut
-        ∙ sym (ap (λ r. cond (r && not (is_settled (numbers_at g.tree.numbers i))) (f (link_at g.tree.links i).kind g.rule (left_at g.left i) (board_at g i)) 0) shut)
+        ap (λ (l : Link). cond (nat_eq l.count 0 && not (is_settled (numbers_at numbers i)))
+        (f (link_at links i).kind g.rule (left_at (g.left ++ ns) i) (board_of links (g.moves ++ ps) g.start i)) 0) same
+        ∙ ap (λ r. cond (r && not (is_settled (numbers_at numbers i)))
+        (f (link_at links i).kind g.rule (left_at (g.left ++ ns) i) (board_of links (g.moves ++ ps) g.start i)) 0) shut
+        ∙ sym (ap (λ r. cond (r && not (is_settled (numbers_at g.tree.numbers i)))
+        (f (link_at g.tree.links i).kind g.rule (left_at g.left i) (board_at g i)) 0) shut)
 
   leaf-inner : nat_eq (link_at links leaf).count 0 ≡ false
   leaf-inner = ne_eqb (link_at links leaf).count 0 (λ e. has-children leaf refl e)
 
   behind-leaf : (f : Kind → RuleKind → ℕ → Grid → ℕ)
-      → behind_at f (record { rule = g.rule; start = g.start; tree = record { links = links; numbers = numbers }; moves = g.moves ++ ps; left = g.left ++ ns }) leaf ≡ 0
-  behind-leaf f = ap (λ r. cond (r && not (is_settled (numbers_at numbers leaf))) (f (link_at links leaf).kind g.rule (left_at (g.left ++ ns) leaf) (board_of links (g.moves ++ ps) g.start leaf)) 0) leaf-inner
+      → behind_at f (record {
+        rule = g.rule;
+        start = g.start;
+        tree = record { links = links; numbers = numbers };
+        moves = g.moves ++ ps;
+        left = g.left ++ ns;
+      }) leaf ≡ 0
+  behind-leaf f = ap (λ r. cond (r && not (is_settled (numbers_at numbers leaf)))
+      (f (link_at links leaf).kind g.rule (left_at (g.left ++ ns) leaf) (board_of links (g.moves ++ ps) g.start leaf)) 0) leaf-inner
 
   behind-new : (f : Kind → RuleKind → ℕ → Grid → ℕ) (j : ℕ) → j < count
-      → behind_at f (record { rule = g.rule; start = g.start; tree = record { links = links; numbers = numbers }; moves = g.moves ++ ps; left = g.left ++ ns }) (length g.tree.links + j) ≡ child-behind f j
+      → behind_at f (record {
+        rule = g.rule;
+        start = g.start;
+        tree = record { links = links; numbers = numbers };
+        moves = g.moves ++ ps;
+        left = g.left ++ ns;
+      }) (length g.tree.links + j) ≡ child-behind f j
   unfolding child-behind
   behind-new f j low =
       let m : ℕ = length g.tree.links + j in
-      let leaf_count : nat_eq (link_at links m).count 0 ≡ true = eq-eqb (link_at links m).count 0 (ap (λ (l : Link). l.count) (long.leaves (length g.tree.links + j) (omega arith) (omega (arith, low)))) in
-      ap (λ r. cond (r && not (is_settled (numbers_at numbers m))) (f (link_at links m).kind g.rule (left_at (g.left ++ ns) m) (board_of links (g.moves ++ ps) g.start m)) 0) leaf_count
-      ∙ ap (λ (n : Numbers). cond (not (is_settled n)) (f (link_at links m).kind g.rule (left_at (g.left ++ ns) m) (board_of links (g.moves ++ ps) g.start m)) 0) (children j low)
-      ∙ ap (λ (k : Kind). cond (not (is_settled (numbers_at more j))) (f k g.rule (left_at (g.left ++ ns) m) (board_of links (g.moves ++ ps) g.start m)) 0) (new-kind j low)
-      ∙ ap (λ (n : ℕ). cond (not (is_settled (numbers_at more j))) (f (other_kind (link_at g.tree.links leaf).kind) g.rule n (board_of links (g.moves ++ ps) g.start m)) 0) (new-left j)
-      ∙ ap (λ (b : Grid). cond (not (is_settled (numbers_at more j))) (f (other_kind (link_at g.tree.links leaf).kind) g.rule (left_at ns j) b) 0) (new-board j low)
+      let leaf_count : nat_eq (link_at links m).count 0 ≡ true =
+      eq-eqb (link_at links m).count 0
+      (ap (λ (l : Link). l.count) (long.leaves (length g.tree.links + j) (omega arith) (omega (arith, low)))) in
+      ap (λ r. cond (r && not (is_settled (numbers_at numbers m)))
+      (f (link_at links m).kind g.rule (left_at (g.left ++ ns) m) (board_of links (g.moves ++ ps) g.start m)) 0) leaf_count
+      ∙ ap (λ (n : Numbers). cond (not (is_settled n))
+      (f (link_at links m).kind g.rule (left_at (g.left ++ ns) m) (board_of links (g.moves ++ ps) g.start m)) 0) (children j low)
+      ∙ ap (λ (k : Kind). cond (not (is_settled (numbers_at more j)))
+      (f k g.rule (left_at (g.left ++ ns) m) (board_of links (g.moves ++ ps) g.start m)) 0) (new-kind j low)
+      ∙ ap (λ (n : ℕ). cond (not (is_settled (numbers_at more j)))
+      (f (other_kind (link_at g.tree.links leaf).kind) g.rule n (board_of links (g.moves ++ ps) g.start m)) 0) (new-left j)
+      ∙ ap (λ (b : Grid). cond (not (is_settled (numbers_at more j)))
+      (f (other_kind (link_at g.tree.links leaf).kind) g.rule (left_at ns j) b) 0) (new-board j low)
 
   -- the leaf counts no longer, and its children do
   pub behind-grown : (f : Kind → RuleKind → ℕ → Grid → ℕ)
-      → behind_leaves f (record { rule = g.rule; start = g.start; tree = record { links = links; numbers = numbers }; moves = g.moves ++ ps; left = g.left ++ ns }) + behind_at f g leaf ≤ behind_leaves f g + sum_below count (child-behind f)
+      → behind_leaves f (record {
+        rule = g.rule;
+        start = g.start;
+        tree = record { links = links; numbers = numbers };
+        moves = g.moves ++ ps;
+        left = g.left ++ ns;
+      }) + behind_at f g leaf ≤ behind_leaves f g + sum_below count (child-behind f)
   behind-grown f =
-      let after_it : GameTree = record { rule = g.rule; start = g.start; tree = record { links = links; numbers = numbers }; moves = g.moves ++ ps; left = g.left ++ ns } in
-      let parts : behind_leaves f after_it ≡ sum_below (length g.tree.links) (behind_at f after_it) + sum_below count (λ j. behind_at f after_it (length g.tree.links + j)) =
+      let after_it : GameTree =
+      record {
+        rule = g.rule;
+        start = g.start;
+        tree = record { links = links; numbers = numbers };
+        moves = g.moves ++ ps;
+        left = g.left ++ ns;
+      } in
+      let parts : behind_leaves f after_it ≡ sum_below (length g.tree.links) (behind_at f after_it) + sum_below count
+      (λ j. behind_at f after_it (length g.tree.links + j)) =
       ap (λ (n : ℕ). sum_below n (behind_at f after_it)) long.sized ∙ sum-more (length g.tree.links) count (behind_at f after_it) in
-      let old = sum-less (length g.tree.links) (behind_at f after_it) (behind_at f g) leaf (behind_at f g leaf) inside (λ j low other. let e = behind-old f j low other in omega (arith, e)) (let e = behind-leaf f in omega (arith, e)) in
-      let fresh = sum-le count (λ j. behind_at f after_it (length g.tree.links + j)) (child-behind f) (λ j low. let e = behind-new f j low in omega (arith, e)) in
+      let old = sum-less (length g.tree.links) (behind_at f after_it) (behind_at f g) leaf (behind_at f g leaf) inside
+      (λ j low other. let e = behind-old f j low other in omega (arith, e)) (let e = behind-leaf f in omega (arith, e)) in
+      let fresh = sum-le count (λ j. behind_at f after_it (length g.tree.links + j)) (child-behind f)
+      (λ j low. let e = behind-new f j low in omega (arith, e)) in
       omega (arith, parts, old, fresh)
 
   -- one node more is closed
   pub closed-grown : closed_nodes g.tree + 1 ≤ closed_nodes (record { links = links; numbers = numbers })
   closed-grown =
       let u : Tree = record { links = links; numbers = numbers } in
-      let parts : closed_nodes u ≡ sum_below (length g.tree.links) (λ i. one_unless (is_open_leaf u i)) + sum_below count (λ j. one_unless (is_open_leaf u (length g.tree.links + j))) =
-      ap (λ (n : ℕ). sum_below n (λ i. one_unless (is_open_leaf u i))) long.sized ∙ sum-more (length g.tree.links) count (λ i. one_unless (is_open_leaf u i)) in
+      let parts : closed_nodes u ≡ sum_below (length g.tree.links) (λ i. one_unless (is_open_leaf u i)) + sum_below count
+      (λ j. one_unless (is_open_leaf u (length g.tree.links + j))) =
+      ap (λ (n : ℕ). sum_below n (λ i. one_unless (is_open_leaf u i))) long.sized
+      ∙ sum-more (length g.tree.links) count (λ i. one_unless (is_open_leaf u i)) in
       let old = sum-less (length g.tree.links) (λ i. one_unless (is_open_leaf g.tree i)) (λ i. one_unless (is_open_leaf u i)) leaf 1 inside
-      (λ j low other. let e = closed-old j low other in omega (arith, e)) (let a = leaf-before in let b = leaf-after in omega (arith, a, b)) in
+      (λ j low other. let e = closed-old j low other in omega (arith, e))
+      (let a = leaf-before in let b = leaf-after in omega (arith, a, b)) in
       omega (arith, parts, old) where
-        closed-old : (i : ℕ) → i < length g.tree.links → i ≢ leaf → one_unless (is_open_leaf g.tree i) ≡ one_unless (is_open_leaf (record { links = links; numbers = numbers }) i)
+        closed-old : (i : ℕ) → i < length g.tree.links → i ≢ leaf
+            → one_unless (is_open_leaf g.tree i) ≡ one_unless (is_open_leaf (record { links = links; numbers = numbers }) i)
         closed-old i low other = by_count (cases_eq (link_at g.tree.links i).count 0) where
           same : link_at links i ≡ link_at g.tree.links i
           same = long.others i low other
 
-          by_count : ((link_at g.tree.links i).count ≡ 0) ⊎ ((link_at g.tree.links i).count ≡ 0 → ⊥) → one_unless (is_open_leaf g.tree i) ≡ one_unless (is_open_leaf (record { links = links; numbers = numbers }) i)
+          by_count : ((link_at g.tree.links i).count ≡ 0) ⊎ ((link_at g.tree.links i).count ≡ 0 → ⊥)
+              → one_unless (is_open_leaf g.tree i) ≡ one_unless (is_open_leaf (record { links = links; numbers = numbers }) i)
           by_count (inl none) = sym (
               ap (λ (l : Link). one_unless (nat_eq l.count 0 && not (is_settled (numbers_at numbers i)))) same
-              ∙ ap (λ (m : Numbers). one_unless (nat_eq (link_at g.tree.links i).count 0 && not (is_settled m))) (old-numbers i low (ap (λ (l : Link). l.count) same ∙ none) other))
+              ∙ ap (λ (m : Numbers). one_unless (nat_eq (link_at g.tree.links i).count 0 && not (is_settled m)))
+              (old-numbers i low (ap (λ (l : Link). l.count) same ∙ none) other))
           by_count (inr many) =
               let shut : nat_eq (link_at g.tree.links i).count 0 ≡ false = ne_eqb (link_at g.tree.links i).count 0 many in
               ap (λ r. one_unless (r && not (is_settled (numbers_at g.tree.numbers i)))) shut
-              ∙ sym (ap (λ (l : Link). one_unless (nat_eq l.count 0 && not (is_settled (numbers_at numbers i)))) same ∙ ap (λ r. one_unless (r && not (is_settled (numbers_at numbers i)))) shut)
+              ∙ sym (ap (λ (l : Link). one_unless (nat_eq l.count 0 && not (is_settled (numbers_at numbers i)))) same
+              ∙ ap (λ r. one_unless (r && not (is_settled (numbers_at numbers i)))) shut)
 
         leaf-before : one_unless (is_open_leaf g.tree leaf) ≡ 0
         leaf-before =
-            ap (λ r. one_unless (r && not (is_settled (numbers_at g.tree.numbers leaf)))) (eq-eqb (link_at g.tree.links leaf).count 0 childless)
+            ap (λ r. one_unless (r && not (is_settled (numbers_at g.tree.numbers leaf))))
+            (eq-eqb (link_at g.tree.links leaf).count 0 childless)
             ∙ ap (λ r. one_unless (not r)) unsettled
 
         leaf-after : one_unless (is_open_leaf (record { links = links; numbers = numbers }) leaf) ≡ 1
         leaf-after = ap (λ r. one_unless (r && not (is_settled (numbers_at numbers leaf)))) leaf-inner
-
--- what is noted of a new child of this kind: a win that is written, where it is proved, and none where it is open
-pub record IsNewNote (rule : RuleKind) (kind : Kind) (b : Grid) (c : List Node) (note : Note) (numbers : Numbers) : Type 0 where
-  pub true_win : 0 < note.moves → IsNotedWin rule note.left (after b note.at) c (win_of note)
-  pub fresh : is_settled numbers ≡ false → note.moves ≡ 0
-  pub proved : numbers ≡ settled_numbers true → (other_kind kind ≡ Attack) × (0 < note.moves)
-
--- 1 for a child of the attacker without a win
-abbrev pub unwritten_child : Kind → Note → ℕ
-unwritten_child kind note = one_where (is_attack (other_kind kind) && nat_eq note.moves 0)
-
--- what is counted behind a new child of a leaf of this kind, if it is open
-abbrev pub new_behind : (Kind → RuleKind → ℕ → Grid → ℕ) → RuleKind → Kind → Grid → Note → Numbers → ℕ
-new_behind f rule kind b note numbers = cond (not (is_settled numbers)) (f (other_kind kind) rule note.left (after b note.at)) 0
-
-module _ (rule : RuleKind) (s : Search) (t : Tree) (c : List Node) (leaf : ℕ) (view : Grid) (h : IsAtLeaf rule s t c leaf view) (u : Tree) (more : List Numbers) (e : IsExpandedAt t u leaf more)
-    (v : Search) (nodes : List Node) (rest : v ≡ record s { board = v.board; notes = v.notes; settled = v.settled; attacked = v.attacked; defended = v.defended }) (same_board : v.board ≡ s.board)
-    (compiled : IsCompiled (c ++ nodes)) (table : IsTrueMemo rule (c ++ nodes) v.settled) (ms : List Note) (items : v.notes.items ≡ s.notes.items ++ ms) (many : length ms ≡ length more) (some : 0 < length more)
-    (tried : HasTried (link_at t.links leaf).kind rule (left_at (game_of rule s t).left leaf) (board_at (game_of rule s t) leaf) (map (λ n. n.at) ms))
-    (each : (j : ℕ) → j < length more → IsNewChild rule (link_at t.links leaf).kind (left_at (game_of rule s t).left leaf) (board_at (game_of rule s t) leaf) (note_at ms j).at (note_at ms j).left (numbers_at more j))
-    (noted : (j : ℕ) → j < length more → IsNewNote rule (link_at t.links leaf).kind (board_at (game_of rule s t) leaf) (c ++ nodes) (note_at ms j) (numbers_at more j))
-    (attacked_more : s.attacked ≤ v.attacked) (defended_more : s.defended ≤ v.defended) (attacked_fits : v.attacked ≤ s.budget) (defended_fits : v.defended ≤ s.budget)
-    (nodes_counted : s.attacked + s.defended + length more ≤ v.attacked + v.defended)
-    (low : (kind : Kind) → finite_sum (map (sought kind) more) ≤ length more)
-    (met : (link_at t.links leaf).kind ≡ Defend → (q : Point) → outcome rule (board_at (game_of rule s t) leaf) q ≡ GoesOn → among (map (λ n. n.at) ms) q ≡ false
-    → (0 < (note_at ms 0).moves) × IsNotedWin rule (left_at (game_of rule s t).left leaf) (after (board_at (game_of rule s t) leaf) q) (c ++ nodes) (win_of (note_at ms 0)))
-    (short : s.attacked + length nodes + sum_below (length more) (λ j. unwritten_child (link_at t.links leaf).kind (note_at ms j)) ≤ v.attacked) where
-  pub long : IsGrown t.links leaf (length more) u.links
-  long = subst (IsGrown t.links leaf (length more)) (sym e.links) (grown t.links leaf (length more) h.in_tree)
-
-  pub points : length (map (λ (n : Note). n.at) ms) ≡ length more
-  points = length-map ms (λ (n : Note). n.at) ∙ many
-
-  pub lefts : length (map (λ (n : Note). n.left) ms) ≡ length more
-  lefts = length-map ms (λ (n : Note). n.left) ∙ many
-
-  at-move : (j : ℕ) → j < length more → move_at (map (λ (n : Note). n.at) ms) j ≡ (note_at ms j).at
-  at-move j l = get_or-map (λ (n : Note). n.at) ms j no_note nowhere (omega (arith, many, l))
-
-  at-left : (j : ℕ) → j < length more → left_at (map (λ (n : Note). n.left) ms) j ≡ (note_at ms j).left
-  at-left j l = get_or-map (λ (n : Note). n.left) ms j no_note 0 (omega (arith, many, l))
-
-  pub each-child : (j : ℕ) → j < length more → IsNewChild rule (link_at t.links leaf).kind (left_at (map (λ (n : Note). n.left) s.notes.items) leaf) (board_at (game_of rule s t) leaf) (move_at (map (λ (n : Note). n.at) ms) j) (left_at (map (λ (n : Note). n.left) ms) j) (numbers_at more j)
-  each-child j l =
-      subst (λ (p : Point). IsNewChild rule (link_at t.links leaf).kind (left_at (game_of rule s t).left leaf) (board_at (game_of rule s t) leaf) p (left_at (map (λ (n : Note). n.left) ms) j) (numbers_at more j)) (sym (at-move j l))
-      (subst (λ (n : ℕ). IsNewChild rule (link_at t.links leaf).kind (left_at (game_of rule s t).left leaf) (board_at (game_of rule s t) leaf) (note_at ms j).at n (numbers_at more j)) (sym (at-left j l)) (each j l))
-
-  places : (w : Tree) → noted_tree rule s.root w v.notes.items ≡ record { rule = rule; start = s.root; tree = w; moves = map (λ (n : Note). n.at) s.notes.items ++ map (λ (n : Note). n.at) ms; left = map (λ (n : Note). n.left) s.notes.items ++ map (λ (n : Note). n.left) ms }
-  places w =
-      let moves : map (λ (n : Note). n.at) v.notes.items ≡ map (λ (n : Note). n.at) s.notes.items ++ map (λ (n : Note). n.at) ms = ap (map (λ (n : Note). n.at)) items ∙ map-append (λ (n : Note). n.at) s.notes.items ms in
-      let left : map (λ (n : Note). n.left) v.notes.items ≡ map (λ (n : Note). n.left) s.notes.items ++ map (λ (n : Note). n.left) ms = ap (map (λ (n : Note). n.left)) items ∙ map-append (λ (n : Note). n.left) s.notes.items ms in
-      λ i. record { rule = rule; start = s.root; tree = w; moves = moves i; left = left i }
-
-  notes-long : length s.notes.items ≡ length t.links
-  notes-long = sym (length-map s.notes.items (λ (n : Note). n.at)) ∙ h.searching.game.moves
-
-  old-note : (i : ℕ) → i < length t.links → note_at v.notes.items i ≡ note_at s.notes.items i
-  old-note i l = ap (λ (xs : List Note). note_at xs i) items ∙ get_or_append_left s.notes.items ms no_note i (let a = notes-long in omega (arith, a, l))
-
-  new-note : (j : ℕ) → note_at v.notes.items (length t.links + j) ≡ note_at ms j
-  new-note j = ap (λ (xs : List Note). note_at xs (length t.links + j)) items ∙ ap (λ (m : ℕ). note_at (s.notes.items ++ ms) (m + j)) (sym notes-long) ∙ get_or-append-add s.notes.items ms j no_note
-
-  count-open : (i : ℕ) → i ≡ leaf → (link_at u.links i).count ≡ 0 → ⊥
-  count-open i same none =
-      let a : (link_at u.links leaf).count ≡ length more = ap (λ (l : Link). l.count) long.here in
-      let b = ap (λ (m : ℕ). (link_at u.links m).count) same in
-      omega (arith, a, b, none, some)
-
-  old-link : (i : ℕ) → i < length t.links → i ≢ leaf → link_at u.links i ≡ link_at t.links i
-  old-link i l other = long.others i l other
-
-  new-link-kind : (j : ℕ) → j < length more → (link_at u.links (length t.links + j)).kind ≡ other_kind (link_at t.links leaf).kind
-  new-link-kind j l = new-kind (game_of rule s t) h.searching.tree leaf h.in_tree h.childless h.searching.game u.links u.numbers more (map (λ (n : Note). n.at) ms) (map (λ (n : Note). n.left) ms) (length more) some points lefts refl long e.tree e.others e.children tried h.leaf_open each-child j l
-
-  split-node : (i : ℕ) → i < length u.links → (i < length t.links) ⊎ ((j : ℕ) × (j < length more) × (i ≡ length t.links + j))
-  split-node i l = split (game_of rule s t) h.searching.tree leaf h.in_tree h.childless h.searching.game u.links u.numbers more (map (λ (n : Note). n.at) ms) (map (λ (n : Note). n.left) ms) (length more) some points lefts refl long e.tree e.others e.children tried h.leaf_open each-child i l
-
-  old-win : (i : ℕ) → i < length t.links → 0 < (note_at s.notes.items i).moves → IsNotedWin rule (left_at (map (λ (n : Note). n.left) s.notes.items ++ map (λ (n : Note). n.left) ms) i) (board_of u.links (map (λ (n : Note). n.at) s.notes.items ++ map (λ (n : Note). n.at) ms) s.root i) (c ++ nodes) (win_of (note_at s.notes.items i))
-  old-win i l positive =
-      let grown = written-grown (game_of rule s t) s.notes.items c nodes (λ j. ⊥) (IsTable-lower c h.searching.compiled.table) h.searching.written in
-      subst (λ (n : ℕ). IsNotedWin rule n (board_of u.links (map (λ (n : Note). n.at) s.notes.items ++ map (λ (n : Note). n.at) ms) s.root i) (c ++ nodes) (win_of (note_at s.notes.items i))) (sym (old-left (game_of rule s t) h.searching.tree leaf h.in_tree h.childless h.searching.game u.links u.numbers more (map (λ (n : Note). n.at) ms) (map (λ (n : Note). n.left) ms) (length more) some points lefts refl long e.tree e.others e.children tried h.leaf_open each-child i l))
-      (subst (λ (b : Grid). IsNotedWin rule (left_at (game_of rule s t).left i) b (c ++ nodes) (win_of (note_at s.notes.items i))) (sym (old-board (game_of rule s t) h.searching.tree leaf h.in_tree h.childless h.searching.game u.links u.numbers more (map (λ (n : Note). n.at) ms) (map (λ (n : Note). n.left) ms) (length more) some points lefts refl long e.tree e.others e.children tried h.leaf_open each-child i l)) (grown.true_wins i l positive))
-
-  new-win : (j : ℕ) → j < length more → 0 < (note_at ms j).moves → IsNotedWin rule (left_at (map (λ (n : Note). n.left) s.notes.items ++ map (λ (n : Note). n.left) ms) (length t.links + j)) (board_of u.links (map (λ (n : Note). n.at) s.notes.items ++ map (λ (n : Note). n.at) ms) s.root (length t.links + j)) (c ++ nodes) (win_of (note_at ms j))
-  new-win j l positive =
-      let there : board_of u.links (map (λ (n : Note). n.at) s.notes.items ++ map (λ (n : Note). n.at) ms) s.root (length t.links + j) ≡ after (board_at (game_of rule s t) leaf) (note_at ms j).at = new-board (game_of rule s t) h.searching.tree leaf h.in_tree h.childless h.searching.game u.links u.numbers more (map (λ (n : Note). n.at) ms) (map (λ (n : Note). n.left) ms) (length more) some points lefts refl long e.tree e.others e.children tried h.leaf_open each-child j l ∙ ap (after (board_at (game_of rule s t) leaf)) (at-move j l) in
-      let left : left_at (map (λ (n : Note). n.left) s.notes.items ++ map (λ (n : Note). n.left) ms) (length t.links + j) ≡ (note_at ms j).left = new-left (game_of rule s t) h.searching.tree leaf h.in_tree h.childless h.searching.game u.links u.numbers more (map (λ (n : Note). n.at) ms) (map (λ (n : Note). n.left) ms) (length more) some points lefts refl long e.tree e.others e.children tried h.leaf_open each-child j ∙ at-left j l in
-      subst (λ (n : ℕ). IsNotedWin rule n (board_of u.links (map (λ (n : Note). n.at) s.notes.items ++ map (λ (n : Note). n.at) ms) s.root (length t.links + j)) (c ++ nodes) (win_of (note_at ms j))) (sym left)
-      (subst (λ (b : Grid). IsNotedWin rule (note_at ms j).left b (c ++ nodes) (win_of (note_at ms j))) (sym there) ((noted j l).true_win positive))
-
-  old-value : (i : ℕ) → i < length t.links → (link_at u.links i).count ≡ 0 → i ≢ leaf → numbers_at u.numbers i ≡ numbers_at t.numbers i
-  old-value i l none other = old-numbers (game_of rule s t) h.searching.tree leaf h.in_tree h.childless h.searching.game u.links u.numbers more (map (λ (n : Note). n.at) ms) (map (λ (n : Note). n.left) ms) (length more) some points lefts refl long e.tree e.others e.children tried h.leaf_open each-child i l none other
-
-  abbrev Now : GameTree
-  Now = record { rule = rule; start = s.root; tree = record { links = u.links; numbers = u.numbers }; moves = map (λ (n : Note). n.at) s.notes.items ++ map (λ (n : Note). n.at) ms; left = map (λ (n : Note). n.left) s.notes.items ++ map (λ (n : Note). n.left) ms }
-
-  here-left : left_at Now.left leaf ≡ left_at (game_of rule s t).left leaf
-  here-left = old-left (game_of rule s t) h.searching.tree leaf h.in_tree h.childless h.searching.game u.links u.numbers more (map (λ (n : Note). n.at) ms) (map (λ (n : Note). n.left) ms) (length more) some points lefts refl long e.tree e.others e.children tried h.leaf_open each-child leaf h.in_tree
-
-  here-board : board_of u.links Now.moves s.root leaf ≡ board_at (game_of rule s t) leaf
-  here-board = old-board (game_of rule s t) h.searching.tree leaf h.in_tree h.childless h.searching.game u.links u.numbers more (map (λ (n : Note). n.at) ms) (map (λ (n : Note). n.left) ms) (length more) some points lefts refl long e.tree e.others e.children tried h.leaf_open each-child leaf h.in_tree
-
-  here-moves : moves_of (link_at u.links leaf) Now.moves ≡ map (λ (n : Note). n.at) ms
-  here-moves = grown-moves (game_of rule s t) h.searching.tree leaf h.in_tree h.childless h.searching.game u.links u.numbers more (map (λ (n : Note). n.at) ms) (map (λ (n : Note). n.left) ms) (length more) some points lefts refl long e.tree e.others e.children tried h.leaf_open each-child
-
-  here-first : note_at v.notes.items (link_at u.links leaf).first ≡ note_at ms 0
-  here-first =
-      let first : length t.links ≡ length t.links + 0 = omega arith in
-      ap (λ (k : Link). note_at v.notes.items k.first) long.here ∙ ap (note_at v.notes.items) first ∙ new-note 0
-
-  leaf-met : (link_at u.links leaf).kind ≡ Defend → (q : Point) → outcome rule (board_of u.links Now.moves s.root leaf) q ≡ GoesOn → among (moves_of (link_at u.links leaf) Now.moves) q ≡ false → IsMet Now v.notes.items (c ++ nodes) leaf q
-  leaf-met defend q on none =
-      let kind : (link_at t.links leaf).kind ≡ Defend = sym (ap (λ (k : Link). k.kind) long.here) ∙ defend in
-      let is = met kind q (ap (λ (b : Grid). outcome rule b q) (sym here-board) ∙ on) (ap (λ (ps : List Point). among ps q) (sym here-moves) ∙ none) in
-      record {
-        some = subst (λ (n : Note). 0 < n.moves) (sym here-first) is.0;
-        win =
-            subst (λ (n : Note). IsNotedWin rule (left_at Now.left leaf) (after (board_of u.links Now.moves s.root leaf) q) (c ++ nodes) (win_of n)) (sym here-first)
-            (subst (λ (b : Grid). IsNotedWin rule (left_at Now.left leaf) (after b q) (c ++ nodes) (win_of (note_at ms 0))) (sym here-board)
-            (subst (λ (n : ℕ). IsNotedWin rule n (after (board_at (game_of rule s t) leaf) q) (c ++ nodes) (win_of (note_at ms 0))) (sym here-left) is.1));
-      }
-
-  old-met : (i : ℕ) → i < length t.links → i ≢ leaf → (link_at u.links i).kind ≡ Defend → 0 < (link_at u.links i).count → (q : Point) → outcome rule (board_of u.links Now.moves s.root i) q ≡ GoesOn
-      → among (moves_of (link_at u.links i) Now.moves) q ≡ false → IsMet Now v.notes.items (c ++ nodes) i q
-  old-met i old other defend several q on none =
-      let same = old-link i old other in
-      let count : 0 < (link_at t.links i).count = subst (λ (k : Link). 0 < k.count) same several in
-      let first : ℕ = (link_at t.links i).first in
-      let within = h.searching.tree.linked.within i old in
-      let inside : first < length t.links = omega (arith, within, count) in
-      let board : board_of u.links Now.moves s.root i ≡ board_at (game_of rule s t) i = old-board (game_of rule s t) h.searching.tree leaf h.in_tree h.childless h.searching.game u.links u.numbers more (map (λ (n : Note). n.at) ms) (map (λ (n : Note). n.left) ms) (length more) some points lefts refl long e.tree e.others e.children tried h.leaf_open each-child i old in
-      let left : left_at Now.left i ≡ left_at (game_of rule s t).left i = old-left (game_of rule s t) h.searching.tree leaf h.in_tree h.childless h.searching.game u.links u.numbers more (map (λ (n : Note). n.at) ms) (map (λ (n : Note). n.left) ms) (length more) some points lefts refl long e.tree e.others e.children tried h.leaf_open each-child i old in
-      let moves : moves_of (link_at u.links i) Now.moves ≡ moves_of (link_at t.links i) (game_of rule s t).moves =
-      ap (λ (k : Link). moves_of k Now.moves) same ∙ old-moves_of (game_of rule s t) h.searching.tree leaf h.in_tree h.childless h.searching.game u.links u.numbers more (map (λ (n : Note). n.at) ms) (map (λ (n : Note). n.left) ms) (length more) some points lefts refl long e.tree e.others e.children tried h.leaf_open each-child i old in
-      let grown_written = written-grown (game_of rule s t) s.notes.items c nodes (λ j. ⊥) (IsTable-lower c h.searching.compiled.table) h.searching.written in
-      let is = grown_written.met i old (ap (λ (k : Link). k.kind) (sym same) ∙ defend) count q (ap (λ (b : Grid). outcome rule b q) (sym board) ∙ on) (ap (λ (ps : List Point). among ps q) (sym moves) ∙ none) in
-      let note : note_at v.notes.items (link_at u.links i).first ≡ note_at s.notes.items first = ap (λ (k : Link). note_at v.notes.items k.first) same ∙ old-note first inside in
-      record {
-        some = subst (λ (n : Note). 0 < n.moves) (sym note) is.some;
-        win =
-            subst (λ (n : Note). IsNotedWin rule (left_at Now.left i) (after (board_of u.links Now.moves s.root i) q) (c ++ nodes) (win_of n)) (sym note)
-            (subst (λ (b : Grid). IsNotedWin rule (left_at Now.left i) (after b q) (c ++ nodes) (win_of (note_at s.notes.items first))) (sym board)
-            (subst (λ (n : ℕ). IsNotedWin rule n (after (board_at (game_of rule s t) i) q) (c ++ nodes) (win_of (note_at s.notes.items first))) (sym left) is.win));
-      }
-
-  written-now : AreWritten (record { rule = rule; start = s.root; tree = record { links = u.links; numbers = u.numbers }; moves = map (λ (n : Note). n.at) s.notes.items ++ map (λ (n : Note). n.at) ms; left = map (λ (n : Note). n.left) s.notes.items ++ map (λ (n : Note). n.left) ms }) v.notes.items (c ++ nodes) (IsOnWayUp u.links leaf)
-  written-now = record {
-    true_wins = λ i l positive. elim (split-node i l) [
-      | inl old ↦
-          subst (λ (n : Note). IsNotedWin rule (left_at (map (λ (n : Note). n.left) s.notes.items ++ map (λ (n : Note). n.left) ms) i) (board_of u.links (map (λ (n : Note). n.at) s.notes.items ++ map (λ (n : Note). n.at) ms) s.root i) (c ++ nodes) (win_of n)) (sym (old-note i old)) (old-win i old (subst (λ (n : Note). 0 < n.moves) (old-note i old) positive))
-      | inr child ↦
-          let here : note_at v.notes.items i ≡ note_at ms child.0 = ap (note_at v.notes.items) child.2 ∙ new-note child.0 in
-          subst (λ (n : Note). IsNotedWin rule (left_at (map (λ (n : Note). n.left) s.notes.items ++ map (λ (n : Note). n.left) ms) i) (board_of u.links (map (λ (n : Note). n.at) s.notes.items ++ map (λ (n : Note). n.at) ms) s.root i) (c ++ nodes) (win_of n)) (sym here)
-          (subst (λ (m : ℕ). IsNotedWin rule (left_at (map (λ (n : Note). n.left) s.notes.items ++ map (λ (n : Note). n.left) ms) m) (board_of u.links (map (λ (n : Note). n.at) s.notes.items ++ map (λ (n : Note). n.at) ms) s.root m) (c ++ nodes) (win_of (note_at ms child.0))) (sym child.2) (new-win child.0 child.1 (subst (λ (n : Note). 0 < n.moves) here positive)))
-    ];
-    fresh = λ i l none unsettled. elim (split-node i l) [
-      | inl old ↦ elim (cases_eq i leaf) [
-        | inl same ↦ absurd (count-open i same none)
-        | inr other ↦
-            ap (λ (n : Note). n.moves) (old-note i old)
-            ∙ h.searching.written.fresh i old (ap (λ (m : Link). m.count) (sym (old-link i old other)) ∙ none) (ap is_settled (sym (old-value i old none other)) ∙ unsettled)
-      ]
-      | inr child ↦
-          ap (λ (m : ℕ). (note_at v.notes.items m).moves) child.2 ∙ ap (λ (n : Note). n.moves) (new-note child.0)
-          ∙ (noted child.0 child.1).fresh (ap is_settled (sym (e.children child.0 child.1)) ∙ ap (λ (m : ℕ). is_settled (numbers_at u.numbers m)) (sym child.2) ∙ unsettled)
-    ];
-    leaves = λ i l none attack proved. elim (split-node i l) [
-      | inl old ↦ elim (cases_eq i leaf) [
-        | inl same ↦ absurd (count-open i same none)
-        | inr other ↦
-            subst (λ (n : Note). 0 < n.moves) (sym (old-note i old))
-            (h.searching.written.leaves i old (ap (λ (m : Link). m.count) (sym (old-link i old other)) ∙ none) (ap (λ (m : Link). m.kind) (sym (old-link i old other)) ∙ attack) (sym (old-value i old none other) ∙ proved))
-      ]
-      | inr child ↦
-          subst (λ (n : Note). 0 < n.moves) (sym (ap (note_at v.notes.items) child.2 ∙ new-note child.0))
-          ((noted child.0 child.1).proved (sym (e.children child.0 child.1) ∙ ap (numbers_at u.numbers) (sym child.2) ∙ proved)).1
-    ];
-    defends = λ i l none defend proved. elim (split-node i l) [
-      | inl old ↦ elim (cases_eq i leaf) [
-        | inl same ↦ absurd (count-open i same none)
-        | inr other ↦
-            h.searching.written.defends i old (ap (λ (m : Link). m.count) (sym (old-link i old other)) ∙ none) (ap (λ (m : Link). m.kind) (sym (old-link i old other)) ∙ defend) (sym (old-value i old none other) ∙ proved)
-      ]
-      | inr child ↦
-          let attacks = ((noted child.0 child.1).proved (sym (e.children child.0 child.1) ∙ ap (numbers_at u.numbers) (sym child.2) ∙ proved)).0 in
-          let bad : Attack ≡ Defend = sym attacks ∙ sym (new-link-kind child.0 child.1) ∙ ap (λ (m : ℕ). (link_at u.links m).kind) (sym child.2) ∙ defend in
-          cc
-    ];
-    all = λ i l attack proved beside. elim (split-node i l) [
-      | inl old ↦
-          let other : i ≢ leaf = λ same. beside (0, sym same) in
-          let value : numbers_at u.numbers i ≡ numbers_at t.numbers i = e.others i beside ∙ get_or_append_left t.numbers more (record { proof = 0; disproof = 0 }) i (let a = h.searching.tree.numbered.count in omega (arith, a, old)) in
-          subst (λ (n : Note). 0 < n.moves) (sym (old-note i old)) (h.searching.written.all i old (ap (λ (m : Link). m.kind) (sym (old-link i old other)) ∙ attack) (sym value ∙ proved) (λ bad. bad))
-      | inr child ↦
-          subst (λ (n : Note). 0 < n.moves) (sym (ap (note_at v.notes.items) child.2 ∙ new-note child.0))
-          ((noted child.0 child.1).proved (sym (e.children child.0 child.1) ∙ ap (numbers_at u.numbers) (sym child.2) ∙ proved)).1
-    ];
-    met = λ i l defend several q on none. elim (split-node i l) [
-      | inl old ↦ elim (cases_eq i leaf) [
-        | inl same ↦
-            subst (λ (k : ℕ). IsMet Now v.notes.items (c ++ nodes) k q) (sym same)
-            (leaf-met (ap (λ (k : ℕ). (link_at u.links k).kind) (sym same) ∙ defend) q (subst (λ (k : ℕ). outcome rule (board_of u.links Now.moves s.root k) q ≡ GoesOn) same on)
-            (subst (λ (k : ℕ). among (moves_of (link_at u.links k) Now.moves) q ≡ false) same none))
-        | inr other ↦ old-met i old other defend several q on none
-      ]
-      | inr child ↦ absurd (let zero_count : (link_at u.links i).count ≡ 0 = ap (λ (m : ℕ). (link_at u.links m).count) child.2 ∙ ap (λ (l : Link). l.count) (long.leaves (length t.links + child.0) (omega arith) (let b = child.1 in omega (arith, b))) in omega (arith, zero_count, several))
-    ];
-  }
-
-  -- ---- counts
-
-  few-now : length (c ++ nodes) + sum_below (length u.links) (unwritten u v.notes.items) ≤ s.before + v.attacked
-  few-now =
-      let parts : sum_below (length u.links) (unwritten u v.notes.items) ≡ sum_below (length t.links) (unwritten u v.notes.items) + sum_below (length more) (λ j. unwritten u v.notes.items (length t.links + j)) =
-      ap (λ (n : ℕ). sum_below n (unwritten u v.notes.items)) long.sized ∙ sum-more (length t.links) (length more) (unwritten u v.notes.items) in
-      let old = sum-le (length t.links) (unwritten u v.notes.items) (unwritten t s.notes.items) (λ i l. let a = old-unwritten i l in omega (arith, a)) in
-      let fresh = sum-le (length more) (λ j. unwritten u v.notes.items (length t.links + j)) (λ j. unwritten_child (link_at t.links leaf).kind (note_at ms j)) (λ j l. let a = new-unwritten j l in omega (arith, a)) in
-      omega (arith, parts, old, fresh, length-append c nodes, h.searching.few, short) where
-        old-unwritten : (i : ℕ) → i < length t.links → unwritten u v.notes.items i ≡ unwritten t s.notes.items i
-        old-unwritten i l =
-            ap (λ (kind : Kind). one_where (is_attack kind && nat_eq (note_at v.notes.items i).moves 0)) (old-kind (game_of rule s t) h.searching.tree leaf h.in_tree h.childless h.searching.game u.links u.numbers more (map (λ (n : Note). n.at) ms) (map (λ (n : Note). n.left) ms) (length more) some points lefts refl long e.tree e.others e.children tried h.leaf_open each-child i l)
-            ∙ ap (λ (n : Note). one_where (is_attack (link_at t.links i).kind && nat_eq n.moves 0)) (old-note i l)
-
-        new-unwritten : (j : ℕ) → j < length more → unwritten u v.notes.items (length t.links + j) ≡ unwritten_child (link_at t.links leaf).kind (note_at ms j)
-        new-unwritten j l =
-            ap (λ (kind : Kind). one_where (is_attack kind && nat_eq (note_at v.notes.items (length t.links + j)).moves 0)) (new-link-kind j l)
-            ∙ ap (λ (n : Note). one_where (is_attack (other_kind (link_at t.links leaf).kind) && nat_eq n.moves 0)) (new-note j)
-
-  sums-now : (kind : Kind) → 1 < length u.links → leaf_sum kind u.links u.numbers ≤ length u.links
-  sums-now kind many_nodes =
-      let bound : leaf_sum kind u.links u.numbers ≤ leaf_sum kind (grown_links t.links leaf (length more)) (t.numbers ++ more) = subst (λ (l : List Link). leaf_sum kind u.links u.numbers ≤ leaf_sum kind l (t.numbers ++ more)) e.links (e.leaves kind) in
-      let grown = leaf_sum-grown kind t.links t.numbers more leaf h.searching.tree.numbered.count h.in_tree h.childless some in
-      let less = low kind in
-      let size = long.sized in
-      by_size (cases_lt 1 (length t.links)) bound grown less size where
-        by_size : (1 < length t.links) ⊎ (length t.links ≤ 1) → leaf_sum kind u.links u.numbers ≤ leaf_sum kind (grown_links t.links leaf (length more)) (t.numbers ++ more)
-            → leaf_sum kind (grown_links t.links leaf (length more)) (t.numbers ++ more) + finite (sought kind (numbers_at t.numbers leaf)) ≡ leaf_sum kind t.links t.numbers + finite_sum (map (sought kind) more)
-            → finite_sum (map (sought kind) more) ≤ length more → length u.links ≡ length t.links + length more → leaf_sum kind u.links u.numbers ≤ length u.links
-        by_size (inl several) bound grown less size = let before = h.searching.counted.leaves kind several in omega (arith, bound, grown, less, size, before)
-        by_size (inr one) bound grown less size =
-            let inside = h.in_tree in
-            let single : length t.links ≡ 1 = omega (arith, one, inside) in
-            let root : leaf ≡ 0 = omega (arith, one, inside) in
-            let alone = one-leaf kind t.links t.numbers single (h.searching.tree.numbered.count ∙ single) (ap (λ (m : ℕ). (link_at t.links m).count) (sym root) ∙ h.childless) in
-            let same : finite (sought kind (numbers_at t.numbers leaf)) ≡ finite (sought kind (numbers_at t.numbers 0)) = ap (λ (m : ℕ). finite (sought kind (numbers_at t.numbers m))) root in
-            omega (arith, bound, grown, less, size, alone, same)
-
-  -- what is counted behind the new children, by their notes and numbers
-  children-count : (f : Kind → RuleKind → ℕ → Grid → ℕ) → sum_below (length more) (child-behind (game_of rule s t) h.searching.tree leaf h.in_tree h.childless h.searching.game u.links u.numbers more (map (λ (n : Note). n.at) ms) (map (λ (n : Note). n.left) ms) (length more) some points lefts refl long e.tree e.others e.children tried h.leaf_open each-child f) ≤ sum_below (length more) (λ j. new_behind f rule (link_at t.links leaf).kind (board_at (game_of rule s t) leaf) (note_at ms j) (numbers_at more j))
-  children-count f =
-      sum-le (length more) (child-behind (game_of rule s t) h.searching.tree leaf h.in_tree h.childless h.searching.game u.links u.numbers more (map (λ (n : Note). n.at) ms) (map (λ (n : Note). n.left) ms) (length more) some points lefts refl long e.tree e.others e.children tried h.leaf_open each-child f) (λ j. new_behind f rule (link_at t.links leaf).kind (board_at (game_of rule s t) leaf) (note_at ms j) (numbers_at more j))
-      (λ j l. let same = child-same j l in omega (arith, same)) where
-        child-same : (j : ℕ) → j < length more → child-behind (game_of rule s t) h.searching.tree leaf h.in_tree h.childless h.searching.game u.links u.numbers more (map (λ (n : Note). n.at) ms) (map (λ (n : Note). n.left) ms) (length more) some points lefts refl long e.tree e.others e.children tried h.leaf_open each-child f j ≡ new_behind f rule (link_at t.links leaf).kind (board_at (game_of rule s t) leaf) (note_at ms j) (numbers_at more j)
-        child-same j l =
-            child-counts (game_of rule s t) h.searching.tree leaf h.in_tree h.childless h.searching.game u.links u.numbers more (map (λ (n : Note). n.at) ms) (map (λ (n : Note). n.left) ms) (length more) some points lefts refl long e.tree e.others e.children tried h.leaf_open each-child f j
-            ∙ ap (λ (n : ℕ). cond (not (is_settled (numbers_at more j))) (f (other_kind (link_at t.links leaf).kind) rule n (after (board_at (game_of rule s t) leaf) (move_at (map (λ (n : Note). n.at) ms) j))) 0) (at-left j l)
-            ∙ ap (λ (p : Point). cond (not (is_settled (numbers_at more j))) (f (other_kind (link_at t.links leaf).kind) rule (note_at ms j).left (after (board_at (game_of rule s t) leaf) p)) 0) (at-move j l)
-
-  module _ (attacks_counted : v.attacked + sum_below (length more) (λ j. new_behind attacks_behind rule (link_at t.links leaf).kind (board_at (game_of rule s t) leaf) (note_at ms j) (numbers_at more j)) ≤ s.attacked + attacks_behind (link_at t.links leaf).kind rule (left_at (game_of rule s t).left leaf) (board_at (game_of rule s t) leaf))
-      (defences_counted : v.defended + sum_below (length more) (λ j. new_behind defences_behind rule (link_at t.links leaf).kind (board_at (game_of rule s t) leaf) (note_at ms j) (numbers_at more j)) ≤ s.defended + defences_behind (link_at t.links leaf).kind rule (left_at (game_of rule s t).left leaf) (board_at (game_of rule s t) leaf)) where
-    leaf-counts : (f : Kind → RuleKind → ℕ → Grid → ℕ) → behind_at f (game_of rule s t) leaf ≡ f (link_at t.links leaf).kind rule (left_at (game_of rule s t).left leaf) (board_at (game_of rule s t) leaf)
-    leaf-counts f =
-        ap (λ r. cond (r && not (is_settled (numbers_at t.numbers leaf))) (f (link_at t.links leaf).kind rule (left_at (game_of rule s t).left leaf) (board_at (game_of rule s t) leaf)) 0) (eq-eqb (link_at t.links leaf).count 0 h.childless)
-        ∙ ap (λ r. cond (not r) (f (link_at t.links leaf).kind rule (left_at (game_of rule s t).left leaf) (board_at (game_of rule s t) leaf)) 0) h.leaf_open
-
-    root-left : left_at (map (λ (n : Note). n.left) s.notes.items ++ map (λ (n : Note). n.left) ms) 0 ≡ left_at (game_of rule s t).left 0
-    root-left = old-left (game_of rule s t) h.searching.tree leaf h.in_tree h.childless h.searching.game u.links u.numbers more (map (λ (n : Note). n.at) ms) (map (λ (n : Note). n.left) ms) (length more) some points lefts refl long e.tree e.others e.children tried h.leaf_open each-child 0 (let some_nodes = h.searching.tree.linked.some in some_nodes)
-
-    counted-now : IsCounted (record { rule = rule; start = s.root; tree = record { links = u.links; numbers = u.numbers }; moves = map (λ (n : Note). n.at) s.notes.items ++ map (λ (n : Note). n.at) ms; left = map (λ (n : Note). n.left) s.notes.items ++ map (λ (n : Note). n.left) ms }) s.budget v.attacked v.defended
-    counted-now = record {
-      attacks =
-          let b = behind-grown (game_of rule s t) h.searching.tree leaf h.in_tree h.childless h.searching.game u.links u.numbers more (map (λ (n : Note). n.at) ms) (map (λ (n : Note). n.left) ms) (length more) some points lefts refl long e.tree e.others e.children tried h.leaf_open each-child attacks_behind in
-          let same = ap (λ (n : ℕ). threat_tree rule n s.root) root-left in
-          omega (arith, h.searching.counted.attacks, b, leaf-counts attacks_behind, children-count attacks_behind, attacks_counted, same);
-      defences =
-          let a = h.searching.counted.defences in
-          let b = behind-grown (game_of rule s t) h.searching.tree leaf h.in_tree h.childless h.searching.game u.links u.numbers more (map (λ (n : Note). n.at) ms) (map (λ (n : Note). n.left) ms) (length more) some points lefts refl long e.tree e.others e.children tried h.leaf_open each-child defences_behind in
-          let same = ap (λ (n : ℕ). threat_tree rule n s.root) root-left in
-          omega (arith, a, b, leaf-counts defences_behind, children-count defences_behind, defences_counted, same);
-      nodes = let a = h.searching.counted.nodes in let b = long.sized in omega (arith, a, b, nodes_counted);
-      attacked_fits = attacked_fits;
-      defended_fits = defended_fits;
-      leaves = sums-now;
-    }
-
-    searching-now : IsSearching rule (record s { board = v.board; notes = v.notes; settled = v.settled; attacked = v.attacked; defended = v.defended }) u (c ++ nodes) (IsOnWayUp u.links leaf)
-    searching-now =
-        let to : noted_tree rule s.root u v.notes.items ≡ (record { rule = rule; start = s.root; tree = record { links = u.links; numbers = u.numbers }; moves = map (λ (n : Note). n.at) s.notes.items ++ map (λ (n : Note). n.at) ms; left = map (λ (n : Note). n.left) s.notes.items ++ map (λ (n : Note). n.left) ms }) = places u in
-        record {
-          tree = e.tree;
-          game = subst IsGameTree (sym to) (game-grown (game_of rule s t) h.searching.tree leaf h.in_tree h.childless h.searching.game u.links u.numbers more (map (λ (n : Note). n.at) ms) (map (λ (n : Note). n.left) ms) (length more) some points lefts refl long e.tree e.others e.children tried h.leaf_open each-child);
-          depth = ap (λ (n : Note). n.left) (old-note 0 h.searching.tree.linked.some) ∙ h.searching.depth;
-          depth_fits = h.searching.depth_fits;
-          budget_fits = h.searching.budget_fits;
-          written = subst (λ (w : GameTree). AreWritten w v.notes.items (c ++ nodes) (IsOnWayUp u.links leaf)) (sym to) written-now;
-          remembered = table;
-          counted = subst (λ (w : GameTree). IsCounted w s.budget v.attacked v.defended) (sym to) counted-now;
-          compiled = compiled;
-          few = few-now;
-        }
-
-    pub expanded-grown : HasGrown rule s v t u (c ++ nodes) leaf
-    expanded-grown = record {
-      searching = subst (λ (w : Search). IsSearching rule w u (c ++ nodes) (IsOnWayUp u.links leaf)) (sym rest) searching-now;
-      in_tree = let a = long.sized in let b = h.in_tree in omega (arith, a, b);
-      aim = record {
-        depth = ap (λ (w : Search). w.depth) rest;
-        budget = ap (λ (w : Search). w.budget) rest;
-        before = ap (λ (w : Search). w.before) rest;
-        root = ap (λ (w : Search). w.root) rest;
-      };
-      board = same_board;
-      place =
-          ap (λ (w : Search). board_at (game_of rule w u) leaf) rest
-          ∙ ap (λ (w : GameTree). board_at w leaf) (places u)
-          ∙ old-board (game_of rule s t) h.searching.tree leaf h.in_tree h.childless h.searching.game u.links u.numbers more (map (λ (n : Note). n.at) ms) (map (λ (n : Note). n.left) ms) (length more) some points lefts refl long e.tree e.others e.children tried h.leaf_open each-child leaf h.in_tree;
-      progress = let a = closed-grown (game_of rule s t) h.searching.tree leaf h.in_tree h.childless h.searching.game u.links u.numbers more (map (λ (n : Note). n.at) ms) (map (λ (n : Note). n.left) ms) (length more) some points lefts refl long e.tree e.others e.children tried h.leaf_open each-child in omega (arith, a);
-      longer = let a = long.sized in omega (arith, a);
-    }
-
--- a sum of nothing
-pub sum-nothing : (n : ℕ) (f : ℕ → ℕ) → ((i : ℕ) → i < n → f i ≡ 0) → sum_below n f ≡ 0
-sum-nothing zero f h = sum-zero f
-sum-nothing (suc n) f h =
-    let rest = sum-nothing n f (λ i low. h i (omega arith)) in
-    let here = h n (omega arith) in
-    omega (arith, sum-suc n f, rest, here)
-
--- terms that are less by 1 each
-pub sum-under : (n : ℕ) (f g : ℕ → ℕ) → ((i : ℕ) → i < n → f i + 1 ≤ g i) → sum_below n f + n ≤ sum_below n g
-sum-under zero f g h = let a = sum-zero f in let b = sum-zero g in omega (arith, a, b)
-sum-under (suc n) f g h =
-    let rest = sum-under n f g (λ i low. h i (omega arith)) in
-    let here = h n (omega arith) in
-    omega (arith, sum-suc n f, sum-suc n g, rest, here)
-
-module _ (rule : RuleKind) (s : Search) (t : Tree) (c : List Node) (leaf : ℕ) (view : Grid) (stands : StandsAt rule s t c leaf view) where
-  here : IsAtLeaf rule s t c leaf view
-  unfolding StandsAt
-  here = stands
-
-  -- the tree has no more nodes than the budget of both sides
-  pub nodes-few : length t.links ≤ 20000000
-  nodes-few =
-      let a = here.searching.counted.nodes in
-      omega (arith, a, here.searching.counted.attacked_fits, here.searching.counted.defended_fits, here.searching.budget_fits)
-
-  pub budget-few : s.budget ≤ 10000000
-  budget-few = here.searching.budget_fits
-
-  pub defended-few : s.defended ≤ 10000000
-  defended-few = let a = here.searching.counted.defended_fits in let b = here.searching.budget_fits in omega (arith, a, b)
-
-  -- no more children than the budget are few enough for the tree
-  module _ (more : List Numbers) (some : 0 < length more) (few : length more ≤ 10000000) where
-    pub short-there : length t.links + length more ≤ INFINITE
-    short-there = let a = nodes-few in omega (arith, a, few)
-
-    -- the sum over all leaves is no more than there are nodes
-    grown-sum : (kind : Kind) → finite_sum (map (sought kind) more) ≤ length more → leaf_sum kind (grown_links t.links leaf (length more)) (t.numbers ++ more) ≤ length t.links + length more
-    grown-sum kind low =
-        let grown = leaf_sum-grown kind t.links t.numbers more leaf here.searching.tree.numbered.count here.in_tree here.childless some in
-        by_size (cases_lt 1 (length t.links)) grown where
-          by_size : (1 < length t.links) ⊎ (length t.links ≤ 1)
-              → leaf_sum kind (grown_links t.links leaf (length more)) (t.numbers ++ more) + finite (sought kind (numbers_at t.numbers leaf)) ≡ leaf_sum kind t.links t.numbers + finite_sum (map (sought kind) more)
-              → leaf_sum kind (grown_links t.links leaf (length more)) (t.numbers ++ more) ≤ length t.links + length more
-          by_size (inl several) grown = let before = here.searching.counted.leaves kind several in omega (arith, grown, low, before)
-          by_size (inr one) grown =
-              let inside = here.in_tree in
-              let single : length t.links ≡ 1 = omega (arith, one, inside) in
-              let root : leaf ≡ 0 = omega (arith, one, inside) in
-              let alone = one-leaf kind t.links t.numbers single (here.searching.tree.numbered.count ∙ single) (ap (λ (m : ℕ). (link_at t.links m).count) (sym root) ∙ here.childless) in
-              let same : finite (sought kind (numbers_at t.numbers leaf)) ≡ finite (sought kind (numbers_at t.numbers 0)) = ap (λ (m : ℕ). finite (sought kind (numbers_at t.numbers m))) root in
-              omega (arith, grown, low, alone, same)
-
-    pub sums-there : All IsFresh more → (kind : Kind) → leaf_sum kind (grown_links t.links leaf (length more)) (t.numbers ++ more) < INFINITE
-    sums-there fresh kind =
-        omega (arith, nodes-few, grown-sum kind (fresh-sum kind more fresh), few)

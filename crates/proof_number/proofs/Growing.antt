@@ -1,5 +1,6 @@
 -- A step that settles the leaf: all holds again but on the way up from it.
-use Rattle.std.proofs.Common.{◌≡◌, ◌≢◌, inl, inr, ℕ, ◌+◌, ◌<◌, ◌≤◌, Bool, true, false, ◌&&◌, refl, sym, ap, subst, ◌∙◌, arith, List, [], ◌++◌, length, nat_eq}
+use Rattle.std.proofs.Common.{◌≡◌, ◌≢◌, inl, inr, ℕ, ◌+◌, ◌<◌, ◌≤◌, Bool, true, false, ◌&&◌, refl, sym, ap, subst, ◌∙◌, arith, List, []}
+use Rattle.std.proofs.Common.{◌++◌, length, nat_eq}
 use Rattle.std.proofs.lemmas.Bool.{cases_eq, eq-eqb, ne_eqb}
 use Rattle.std.proofs.lemmas.List.{get_or-set_same, append-nil, get_or-set_other, length-append, length-map}
 use Rattle.game_rules.proofs.Common.{Grid, WinsByThreats}
@@ -16,20 +17,29 @@ use Rattle.proof_tree.specs.declared.Numbers.{Numbers}
 use Rattle.threat_game.proofs.TreeLaws.{one_where}
 use Rattle.proof_number.specs.declared.notes.Note.{Note}
 use Rattle.proof_number.specs.declared.search.Search.{Search}
-use Rattle.proof_number.proofs.Common.{no_note, note_at, win_of, GameTree, IsGameTree, TellsTruly, WinsAt, board_at, left_at, noted_tree, IsTrueMemo, AreWritten, HasGrown, IsAtLeaf, IsCounted, IsNotedWin, IsSearching, IsSettledAt, attacks_behind, closed_nodes, game_of, is_attack, noted_won, sum_below, unwritten}
+use Rattle.proof_number.proofs.Common.{no_note, note_at, win_of, GameTree, IsGameTree, TellsTruly, WinsAt, board_at, left_at, noted_tree}
+use Rattle.proof_number.proofs.Common.{IsTrueMemo, AreWritten, HasGrown, IsAtLeaf, IsCounted, IsNotedWin, IsSearching, IsSettledAt}
+use Rattle.proof_number.proofs.Common.{attacks_behind, closed_nodes, game_of, is_attack, noted_won, sum_below, unwritten}
 use Rattle.proof_number.proofs.Compiling.{won-places}
 use Rattle.proof_number.proofs.Settling.{closed-settled, counted-settled, game-settled, written-grown, written-settled}
 use Rattle.proof_number.proofs.Sums.{sum-less}
 
 -- the search s at its leaf, and v after the leaf is settled in the tree u; c grows by more nodes
-module _ (rule : RuleKind) (s : Search) (t : Tree) (c : List Node) (leaf : ℕ) (view : Grid) (h : IsAtLeaf rule s t c leaf view) (u : Tree) (p : Bool) (st : IsSettledAt t u leaf p)
-    (v : Search) (more : List Node) (rest : v ≡ record s { board = v.board; notes = v.notes; settled = v.settled; attacked = v.attacked }) (same_board : v.board ≡ s.board)
+module _ (rule : RuleKind) (s : Search) (t : Tree) (c : List Node) (leaf : ℕ) (view : Grid) (h : IsAtLeaf rule s t c leaf view) (u : Tree)
+    (p : Bool) (st : IsSettledAt t u leaf p)
+    (v : Search) (more : List Node) (rest : v ≡ record s { board = v.board; notes = v.notes; settled = v.settled; attacked = v.attacked })
+    (same_board : v.board ≡ s.board)
     (compiled : IsCompiled (c ++ more)) (table : IsTrueMemo rule (c ++ more) v.settled)
-    (truth : TellsTruly (settled_numbers p) (WinsAt (link_at t.links leaf).kind rule (left_at (game_of rule s t).left leaf) (board_at (game_of rule s t) leaf)))
-    (grows : s.attacked ≤ v.attacked) (fits : v.attacked ≤ s.budget) (behind : v.attacked ≤ s.attacked + attacks_behind (link_at t.links leaf).kind rule (left_at (game_of rule s t).left leaf) (board_at (game_of rule s t) leaf))
-    (places : (w : Tree) → noted_tree rule s.root w v.notes.items ≡ game_of rule s w) (depth : (note_at v.notes.items 0).left ≡ (note_at s.notes.items 0).left)
+    (truth : TellsTruly (settled_numbers p)
+    (WinsAt (link_at t.links leaf).kind rule (left_at (game_of rule s t).left leaf) (board_at (game_of rule s t) leaf)))
+    (grows : s.attacked ≤ v.attacked) (fits : v.attacked ≤ s.budget)
+    (behind : v.attacked ≤ s.attacked + attacks_behind (link_at t.links leaf).kind rule (left_at (game_of rule s t).left leaf)
+    (board_at (game_of rule s t) leaf))
+    (places : (w : Tree) → noted_tree rule s.root w v.notes.items ≡ game_of rule s w)
+    (depth : (note_at v.notes.items 0).left ≡ (note_at s.notes.items 0).left)
     (other_notes : (i : ℕ) → i ≢ leaf → note_at v.notes.items i ≡ note_at s.notes.items i)
-    (own : 0 < (note_at v.notes.items leaf).moves → IsNotedWin rule (left_at (game_of rule s t).left leaf) (board_at (game_of rule s t) leaf) (c ++ more) (win_of (note_at v.notes.items leaf)))
+    (own : 0 < (note_at v.notes.items leaf).moves → IsNotedWin rule (left_at (game_of rule s t).left leaf)
+    (board_at (game_of rule s t) leaf) (c ++ more) (win_of (note_at v.notes.items leaf)))
     (has : p ≡ true → ((link_at t.links leaf).kind ≡ Attack) × (0 < (note_at v.notes.items leaf).moves))
     (few : length (c ++ more) + sum_below (length t.links) (unwritten t v.notes.items) ≤ s.before + v.attacked) where
   now : Tree
@@ -38,22 +48,28 @@ module _ (rule : RuleKind) (s : Search) (t : Tree) (c : List Node) (leaf : ℕ) 
   same-tree : u ≡ record { links = t.links; numbers = u.numbers }
   same-tree = λ i. record { links = st.links i; numbers = u.numbers }
 
-  searching-now : IsSearching rule (record s { board = v.board; notes = v.notes; settled = v.settled; attacked = v.attacked }) (record { links = t.links; numbers = u.numbers }) (c ++ more) (IsOnWayUp t.links leaf)
+  searching-now : IsSearching rule (record s { board = v.board; notes = v.notes; settled = v.settled; attacked = v.attacked })
+      (record { links = t.links; numbers = u.numbers }) (c ++ more) (IsOnWayUp t.links leaf)
   searching-now =
       let k = h.searching in
       let g : GameTree = game_of rule s t in
-      let to : noted_tree rule s.root (record { links = t.links; numbers = u.numbers }) v.notes.items ≡ game_of rule s (record { links = t.links; numbers = u.numbers }) = places (record { links = t.links; numbers = u.numbers }) in
+      let to : noted_tree rule s.root (record { links = t.links; numbers = u.numbers }) v.notes.items ≡ game_of rule s
+      (record { links = t.links; numbers = u.numbers }) = places (record { links = t.links; numbers = u.numbers }) in
       record {
         tree = subst IsTree same-tree st.tree;
-        game = subst IsGameTree (sym to) (game-settled g k.tree u.numbers leaf p h.in_tree h.childless h.leaf_open st.settled st.others k.game truth);
+        game = subst IsGameTree (sym to)
+            (game-settled g k.tree u.numbers leaf p h.in_tree h.childless h.leaf_open st.settled st.others k.game truth);
         depth = depth ∙ k.depth;
         depth_fits = k.depth_fits;
         budget_fits = k.budget_fits;
         written = subst (λ (w : GameTree). AreWritten w v.notes.items (c ++ more) (IsOnWayUp t.links leaf)) (sym to)
-            (written-settled g k.tree u.numbers leaf p h.in_tree h.childless h.leaf_open st.settled st.others s.notes.items v.notes.items (c ++ more) (written-grown g s.notes.items c more (λ i. ⊥) (IsTable-lower c k.compiled.table) k.written) other_notes own has);
+            (written-settled g k.tree u.numbers leaf p h.in_tree h.childless h.leaf_open st.settled st.others s.notes.items v.notes.items
+            (c ++ more) (written-grown g s.notes.items c more (λ i. ⊥) (IsTable-lower c k.compiled.table) k.written) other_notes own
+            has);
         remembered = table;
         counted = subst (λ (w : GameTree). IsCounted w s.budget v.attacked s.defended) (sym to)
-            (counted-settled g k.tree u.numbers leaf p h.in_tree h.childless h.leaf_open st.settled st.others s.budget s.attacked s.defended v.attacked k.counted grows fits behind
+            (counted-settled g k.tree u.numbers leaf p h.in_tree h.childless h.leaf_open st.settled st.others s.budget s.attacked s.defended
+            v.attacked k.counted grows fits behind
             (λ kind. subst (λ (l : List Link). leaf_sum kind l u.numbers ≤ leaf_sum kind t.links t.numbers) st.links (st.leaves kind)));
         compiled = compiled;
         few = few;
@@ -63,7 +79,8 @@ module _ (rule : RuleKind) (s : Search) (t : Tree) (c : List Node) (leaf : ℕ) 
   settled-grown = record {
     searching =
         subst (λ (w : Search). IsSearching rule w u (c ++ more) (IsOnWayUp u.links leaf)) (sym rest)
-        (subst (λ (w : Tree). IsSearching rule (record s { board = v.board; notes = v.notes; settled = v.settled; attacked = v.attacked }) w (c ++ more) (IsOnWayUp w.links leaf)) (sym same-tree) searching-now);
+        (subst (λ (w : Tree). IsSearching rule (record s { board = v.board; notes = v.notes; settled = v.settled; attacked = v.attacked }) w
+        (c ++ more) (IsOnWayUp w.links leaf)) (sym same-tree) searching-now);
     in_tree = subst (λ (w : Tree). leaf < length w.links) (sym same-tree) h.in_tree;
     aim = record {
       depth = ap (λ (w : Search). w.depth) rest;
@@ -77,7 +94,8 @@ module _ (rule : RuleKind) (s : Search) (t : Tree) (c : List Node) (leaf : ℕ) 
         ∙ ap (λ (w : GameTree). board_at w leaf) (places u)
         ∙ ap (λ (w : Tree). board_at (game_of rule s w) leaf) same-tree;
     progress = subst (λ (w : Tree). closed_nodes t < closed_nodes w) (sym same-tree)
-        (let more_closed = closed-settled (game_of rule s t) h.searching.tree u.numbers leaf p h.in_tree h.childless h.leaf_open st.settled st.others in omega (arith, more_closed));
+        (let more_closed = closed-settled (game_of rule s t) h.searching.tree u.numbers leaf p h.in_tree h.childless h.leaf_open st.settled
+        st.others in omega (arith, more_closed));
     longer = subst (λ (w : Tree). length t.links ≤ length w.links) (sym same-tree) (omega arith);
   }
 
@@ -85,32 +103,46 @@ unlike : (m : ℕ) → m ≡ 0 → m ≡ 4294967295 → ⊥
 unlike m e f = omega (arith, e, f)
 
 tells-won : (W : Type 0) → W → TellsTruly (settled_numbers true) W
-tells-won W w = record { proved = λ e. w; disproved = λ e. absurd (unlike (settled_numbers true).proof refl (ap (λ (n : Numbers). n.proof) e)) }
+tells-won W w = record {
+  proved = λ e. w;
+  disproved = λ e. absurd (unlike (settled_numbers true).proof refl (ap (λ (n : Numbers). n.proof) e));
+}
 
 tells-lost : (W : Type 0) → (W → ⊥) → TellsTruly (settled_numbers false) W
-tells-lost W lost = record { proved = λ e. absurd (unlike (settled_numbers false).disproof refl (ap (λ (n : Numbers). n.disproof) e)); disproved = λ e w. lost w }
+tells-lost W lost = record {
+  proved = λ e. absurd (unlike (settled_numbers false).disproof refl (ap (λ (n : Numbers). n.disproof) e));
+  disproved = λ e w. lost w;
+}
 
 -- an attacker's leaf is settled as won
-module _ (rule : RuleKind) (s : Search) (t : Tree) (c : List Node) (leaf : ℕ) (view : Grid) (h : IsAtLeaf rule s t c leaf view) (attack : (link_at t.links leaf).kind ≡ Attack) (u : Tree) (st : IsSettledAt t u leaf true)
-    (v : Search) (more : List Node) (rest : v ≡ record s { board = v.board; notes = v.notes; settled = v.settled; attacked = v.attacked }) (same_board : v.board ≡ s.board)
-    (compiled : IsCompiled (c ++ more)) (table : IsTrueMemo rule (c ++ more) v.settled) (win : WrittenWin) (items : v.notes.items ≡ noted_won s.notes.items leaf win) (some : 0 < win.moves)
+module _ (rule : RuleKind) (s : Search) (t : Tree) (c : List Node) (leaf : ℕ) (view : Grid) (h : IsAtLeaf rule s t c leaf view)
+    (attack : (link_at t.links leaf).kind ≡ Attack) (u : Tree) (st : IsSettledAt t u leaf true)
+    (v : Search) (more : List Node) (rest : v ≡ record s { board = v.board; notes = v.notes; settled = v.settled; attacked = v.attacked })
+    (same_board : v.board ≡ s.board)
+    (compiled : IsCompiled (c ++ more)) (table : IsTrueMemo rule (c ++ more) v.settled) (win : WrittenWin)
+    (items : v.notes.items ≡ noted_won s.notes.items leaf win) (some : 0 < win.moves)
     (written : IsWrittenWin rule (left_at (game_of rule s t).left leaf) (board_at (game_of rule s t) leaf) (c ++ more) win)
     (wins : WinsByThreats rule (left_at (game_of rule s t).left leaf) (board_at (game_of rule s t) leaf))
-    (grows : s.attacked ≤ v.attacked) (fits : v.attacked ≤ s.budget) (behind : v.attacked ≤ s.attacked + attacks_behind Attack rule (left_at (game_of rule s t).left leaf) (board_at (game_of rule s t) leaf))
+    (grows : s.attacked ≤ v.attacked) (fits : v.attacked ≤ s.budget)
+    (behind : v.attacked ≤ s.attacked + attacks_behind Attack rule (left_at (game_of rule s t).left leaf)
+    (board_at (game_of rule s t) leaf))
     (short : s.attacked + length more ≤ v.attacked + 1) where
   long : length s.notes.items ≡ length t.links
   long = sym (length-map s.notes.items (λ (n : Note). n.at)) ∙ h.searching.game.moves
 
   here : note_at v.notes.items leaf ≡ record (note_at s.notes.items leaf) { moves = win.moves; node = win.node }
   here = ap (λ (l : List Note). note_at l leaf) items
-      ∙ get_or-set_same s.notes.items leaf (record (note_at s.notes.items leaf) { moves = win.moves; node = win.node }) no_note (let e = long in let low = h.in_tree in omega (arith, e, low))
+      ∙ get_or-set_same s.notes.items leaf (record (note_at s.notes.items leaf) { moves = win.moves; node = win.node }) no_note
+      (let e = long in let low = h.in_tree in omega (arith, e, low))
 
   other-note : (i : ℕ) → i ≢ leaf → note_at v.notes.items i ≡ note_at s.notes.items i
-  other-note i other = ap (λ (l : List Note). note_at l i) items ∙ get_or-set_other s.notes.items leaf i (record (note_at s.notes.items leaf) { moves = win.moves; node = win.node }) no_note other
+  other-note i other = ap (λ (l : List Note). note_at l i) items
+      ∙ get_or-set_other s.notes.items leaf i (record (note_at s.notes.items leaf) { moves = win.moves; node = win.node }) no_note other
 
   same-left : (i : ℕ) → (note_at v.notes.items i).left ≡ (note_at s.notes.items i).left
   same-left i = elim (cases_eq i leaf) [
-    | inl e ↦ ap (λ (k : ℕ). (note_at v.notes.items k).left) e ∙ ap (λ (n : Note). n.left) here ∙ ap (λ (k : ℕ). (note_at s.notes.items k).left) (sym e)
+    | inl e ↦ ap (λ (k : ℕ). (note_at v.notes.items k).left) e ∙ ap (λ (n : Note). n.left) here
+        ∙ ap (λ (k : ℕ). (note_at s.notes.items k).left) (sym e)
     | inr n ↦ ap (λ (n : Note). n.left) (other-note i n)
   ]
 
@@ -120,12 +152,14 @@ module _ (rule : RuleKind) (s : Search) (t : Tree) (c : List Node) (leaf : ℕ) 
   now-few : length (c ++ more) + sum_below (length t.links) (unwritten t v.notes.items) ≤ s.before + v.attacked
   now-few =
       let less = sum-less (length t.links) (unwritten t v.notes.items) (unwritten t s.notes.items) leaf 1 h.in_tree
-      (λ j low other. let e = ap (λ (n : Note). one_where (is_attack (link_at t.links j).kind && nat_eq n.moves 0)) (other-note j other) in omega (arith, e))
+      (λ j low other. let e = ap (λ (n : Note). one_where (is_attack (link_at t.links j).kind && nat_eq n.moves 0)) (other-note j other) in
+      omega (arith, e))
       (let a = now-none in let b = was-one in omega (arith, a, b)) in
       omega (arith, less, length-append c more, short, h.searching.few) where
         now-none : unwritten t v.notes.items leaf ≡ 0
         now-none =
-            ap (λ r. one_where (is_attack (link_at t.links leaf).kind && r)) (ne_eqb (note_at v.notes.items leaf).moves 0 (λ e. let positive = now-some in omega (arith, e, positive)))
+            ap (λ r. one_where (is_attack (link_at t.links leaf).kind && r))
+            (ne_eqb (note_at v.notes.items leaf).moves 0 (λ e. let positive = now-some in omega (arith, e, positive)))
             ∙ no-one (is_attack (link_at t.links leaf).kind) where
               no-one : (r : Bool) → one_where (r && false) ≡ 0
               no-one true = refl
@@ -134,20 +168,26 @@ module _ (rule : RuleKind) (s : Search) (t : Tree) (c : List Node) (leaf : ℕ) 
         was-one : unwritten t s.notes.items leaf ≡ 1
         was-one =
             ap (λ (k : Kind). one_where (is_attack k && nat_eq (note_at s.notes.items leaf).moves 0)) attack
-            ∙ ap (λ r. one_where r) (eq-eqb (note_at s.notes.items leaf).moves 0 (h.searching.written.fresh leaf h.in_tree h.childless h.leaf_open))
+            ∙ ap (λ r. one_where r) (eq-eqb (note_at s.notes.items leaf).moves 0
+            (h.searching.written.fresh leaf h.in_tree h.childless h.leaf_open))
 
   pub won-grown : HasGrown rule s v t u (c ++ more) leaf
   won-grown =
       settled-grown rule s t c leaf view h u true st v more rest same_board compiled table
-      (tells-won (WinsAt (link_at t.links leaf).kind rule (left_at (game_of rule s t).left leaf) (board_at (game_of rule s t) leaf)) (subst (λ (k : Kind). WinsAt k rule (left_at (game_of rule s t).left leaf) (board_at (game_of rule s t) leaf)) (sym attack) wins))
-      grows fits (subst (λ (k : Kind). v.attacked ≤ s.attacked + attacks_behind k rule (left_at (game_of rule s t).left leaf) (board_at (game_of rule s t) leaf)) (sym attack) behind)
+      (tells-won (WinsAt (link_at t.links leaf).kind rule (left_at (game_of rule s t).left leaf) (board_at (game_of rule s t) leaf))
+      (subst (λ (k : Kind). WinsAt k rule (left_at (game_of rule s t).left leaf) (board_at (game_of rule s t) leaf)) (sym attack) wins))
+      grows fits (subst (λ (k : Kind). v.attacked ≤ s.attacked + attacks_behind k rule (left_at (game_of rule s t).left leaf)
+      (board_at (game_of rule s t) leaf)) (sym attack) behind)
       (λ w. won-places rule s w v.notes.items leaf win items) (same-left 0) other-note
-      (λ positive. subst (λ (n : Note). IsNotedWin rule (left_at (game_of rule s t).left leaf) (board_at (game_of rule s t) leaf) (c ++ more) (win_of n)) (sym here) (written, wins))
+      (λ positive. subst (λ (n : Note). IsNotedWin rule (left_at (game_of rule s t).left leaf) (board_at (game_of rule s t) leaf)
+      (c ++ more) (win_of n)) (sym here) (written, wins))
       (λ e. (attack, now-some)) now-few
 
 -- a leaf is settled as lost
-module _ (rule : RuleKind) (s : Search) (t : Tree) (c : List Node) (leaf : ℕ) (view : Grid) (h : IsAtLeaf rule s t c leaf view) (u : Tree) (st : IsSettledAt t u leaf false)
-    (v : Search) (rest : v ≡ record s { board = v.board; settled = v.settled }) (same_board : v.board ≡ s.board) (table : IsTrueMemo rule c v.settled)
+module _ (rule : RuleKind) (s : Search) (t : Tree) (c : List Node) (leaf : ℕ) (view : Grid) (h : IsAtLeaf rule s t c leaf view) (u : Tree)
+    (st : IsSettledAt t u leaf false)
+    (v : Search) (rest : v ≡ record s { board = v.board; settled = v.settled }) (same_board : v.board ≡ s.board)
+    (table : IsTrueMemo rule c v.settled)
     (lost : WinsAt (link_at t.links leaf).kind rule (left_at (game_of rule s t).left leaf) (board_at (game_of rule s t) leaf) → ⊥) where
   pub lost-grown : HasGrown rule s v t u c leaf
   lost-grown =
@@ -160,6 +200,8 @@ module _ (rule : RuleKind) (s : Search) (t : Tree) (c : List Node) (leaf : ℕ) 
       (subst IsCompiled (sym nil) k.compiled) (subst (λ (d : List Node). IsTrueMemo rule d v.settled) (sym nil) table)
       (tells-lost (WinsAt (link_at t.links leaf).kind rule (left_at (game_of rule s t).left leaf) (board_at (game_of rule s t) leaf)) lost)
       (omega arith) k.counted.attacked_fits (omega arith) (λ x. refl) refl (λ i other. refl)
-      (λ positive. subst (λ (d : List Node). IsNotedWin rule (left_at (game_of rule s t).left leaf) (board_at (game_of rule s t) leaf) d (win_of (note_at s.notes.items leaf))) (sym nil) (k.written.true_wins leaf h.in_tree positive))
+      (λ positive. subst (λ (d : List Node). IsNotedWin rule (left_at (game_of rule s t).left leaf) (board_at (game_of rule s t) leaf) d
+      (win_of (note_at s.notes.items leaf))) (sym nil) (k.written.true_wins leaf h.in_tree positive))
       (λ e. cc)
-      (subst (λ (d : List Node). length d + sum_below (length t.links) (unwritten t s.notes.items) ≤ s.before + s.attacked) (sym nil) k.few)))
+      (subst (λ (d : List Node). length d + sum_below (length t.links) (unwritten t s.notes.items) ≤ s.before + s.attacked) (sym nil)
+      k.few)))

@@ -13,6 +13,7 @@ mod Sums
 mod Settling
 mod Growing
 mod Expanding
+mod ExpandedCounts
 -- the steps of a search, in the words of its contracts, and those that win
 mod Steps
 mod Attacking

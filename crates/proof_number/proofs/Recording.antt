@@ -1,6 +1,7 @@
 -- What holds of a search on the way back: which proved nodes may lack a win, what is kept, and what is remembered. The win of a proved node
 -- of the attacker, made of those after each reply to a proved move. The way back, in the words of the contracts.
-use Rattle.std.proofs.Common.{◌≡◌, ◌⊎◌, inl, inr, ℕ, zero, suc, ◌<◌, Bool, true, false, cond, refl, sym, ap, subst, ◌∙◌, arith, List, length, nat_eq, Option, Some, None, All, ◌+◌, ◌||◌, [], ◌∷◌, map}
+use Rattle.std.proofs.Common.{◌≡◌, ◌⊎◌, inl, inr, ℕ, zero, suc, ◌<◌, Bool, true, false, cond, refl, sym, ap, subst, ◌∙◌, arith, List}
+use Rattle.std.proofs.Common.{length, nat_eq, Option, Some, None, All, ◌+◌, ◌||◌, [], ◌∷◌, map}
 use Rattle.std.specs.List.{find, list_any, AllByRecursion}
 use Rattle.std.proofs.lemmas.Bool.{cases_eq, ne_eqb}
 use Rattle.std.proofs.lemmas.List.{length-map}
@@ -25,7 +26,9 @@ use Rattle.strategy_compiler.proofs.Forks.{IsAnswer, alone-deep, answers-win, ma
 use Rattle.proof_number.specs.declared.notes.Note.{Note}
 use Rattle.proof_number.specs.declared.search.Search.{Search}
 use Rattle.proof_number.specs.declared.notes.Settled.{Settled}
-use Rattle.proof_number.proofs.Common.{all_notes, among, note_at, noted_for, noted_win, or_first, win_of, WinsAt, board_at, left_at, IsTrueMemo, IsAbove, IsSearching, KeepsTree, game_of, answer_of, no_note, IsGameTree, IsTrueOf, Searches}
+use Rattle.proof_number.proofs.Common.{all_notes, among, note_at, noted_for, noted_win, or_first, win_of, WinsAt, board_at, left_at}
+use Rattle.proof_number.proofs.Common.{IsTrueMemo, IsAbove, IsSearching, KeepsTree, game_of, answer_of, no_note, IsGameTree, IsTrueOf}
+use Rattle.proof_number.proofs.Common.{Searches}
 use Rattle.proof_number.proofs.GameTruths.{all-tell, position-at}
 
 -- ---- notes
@@ -62,7 +65,8 @@ keeps-then s u v first second = record {
 -- ---- which nodes may lack a win
 
 pub way-changed : (rule : RuleKind) (s : Search) (t : Tree) (c : List Node) (old new : ℕ → Type 0)
-    → ((i : ℕ) → i < length t.links → (link_at t.links i).kind ≡ Attack → numbers_at t.numbers i ≡ settled_numbers true → (new i → ⊥) → (old i → ⊥) ⊎ (0 < (note_at s.notes.items i).moves))
+    → ((i : ℕ) → i < length t.links → (link_at t.links i).kind ≡ Attack → numbers_at t.numbers i ≡ settled_numbers true → (new i → ⊥)
+    → (old i → ⊥) ⊎ (0 < (note_at s.notes.items i).moves))
     → IsSearching rule s t c old → IsSearching rule s t c new
 way-changed rule s t c old new change h = record {
   tree = h.tree;
@@ -88,16 +92,19 @@ way-changed rule s t c old new change h = record {
 }
 
 -- where a node has a win, or is no proved node of the attacker, only those above it may lack one
-pub way-above : (rule : RuleKind) (s : Search) (t : Tree) (c : List Node) (node : ℕ) → ((link_at t.links node).kind ≡ Attack → numbers_at t.numbers node ≡ settled_numbers true → 0 < (note_at s.notes.items node).moves)
+pub way-above : (rule : RuleKind) (s : Search) (t : Tree) (c : List Node) (node : ℕ)
+    → ((link_at t.links node).kind ≡ Attack → numbers_at t.numbers node ≡ settled_numbers true → 0 < (note_at s.notes.items node).moves)
     → IsSearching rule s t c (IsOnWayUp t.links node) → IsSearching rule s t c (IsAbove t.links node)
-way-above rule s t c node has h = way-changed rule s t c (IsOnWayUp t.links node) (IsAbove t.links node) (λ i low attack proved beside. elim (cases_eq i node) [
-  | inl e ↦ inr (subst (λ (k : ℕ). 0 < (note_at s.notes.items k).moves) (sym e)
-      (has (ap (λ (k : ℕ). (link_at t.links k).kind) (sym e) ∙ attack) (ap (numbers_at t.numbers) (sym e) ∙ proved)))
-  | inr other ↦ inl (λ way. beside (way, other))
-]) h
+way-above rule s t c node has h = way-changed rule s t c (IsOnWayUp t.links node) (IsAbove t.links node)
+    (λ i low attack proved beside. elim (cases_eq i node) [
+      | inl e ↦ inr (subst (λ (k : ℕ). 0 < (note_at s.notes.items k).moves) (sym e)
+          (has (ap (λ (k : ℕ). (link_at t.links k).kind) (sym e) ∙ attack) (ap (numbers_at t.numbers) (sym e) ∙ proved)))
+      | inr other ↦ inl (λ way. beside (way, other))
+    ]) h
 
 -- those above a node are on the way up from its parent
-pub way-parent : (rule : RuleKind) (s : Search) (t : Tree) (c : List Node) (node : ℕ) → IsSearching rule s t c (IsAbove t.links node) → IsSearching rule s t c (IsOnWayUp t.links (link_at t.links node).parent)
+pub way-parent : (rule : RuleKind) (s : Search) (t : Tree) (c : List Node) (node : ℕ) → IsSearching rule s t c (IsAbove t.links node)
+    → IsSearching rule s t c (IsOnWayUp t.links (link_at t.links node).parent)
 way-parent rule s t c node h = way-changed rule s t c (IsAbove t.links node) (IsOnWayUp t.links (link_at t.links node).parent)
     (λ i low attack proved beside. inl (λ above. up above.0.0 i above.0.1 above.1 beside)) h where
       up : (steps i : ℕ) → ancestor t.links steps node ≡ i → (i ≡ node → ⊥) → (IsOnWayUp t.links (link_at t.links node).parent i → ⊥) → ⊥
@@ -105,7 +112,8 @@ way-parent rule s t c node h = way-changed rule s t c (IsAbove t.links node) (Is
       up (suc n) i at other beside = beside (n, sym (ancestor-up t.links n node) ∙ at)
 
 -- and above the root there is none
-pub way-root : (rule : RuleKind) (s : Search) (t : Tree) (c : List Node) (node : ℕ) → node ≡ 0 → IsSearching rule s t c (IsAbove t.links node) → IsSearching rule s t c (λ i. ⊥)
+pub way-root : (rule : RuleKind) (s : Search) (t : Tree) (c : List Node) (node : ℕ) → node ≡ 0
+    → IsSearching rule s t c (IsAbove t.links node) → IsSearching rule s t c (λ i. ⊥)
 way-root rule s t c node root h = way-changed rule s t c (IsAbove t.links node) (λ i. ⊥)
     (λ i low attack proved beside. inl (λ above. above.1 (sym above.0.1 ∙ stays above.0.0 ∙ sym root))) h where
       stays : (steps : ℕ) → ancestor t.links steps node ≡ 0
@@ -114,21 +122,27 @@ way-root rule s t c node root h = way-changed rule s t c (IsAbove t.links node) 
 
 -- ---- what is known of a settled node
 
-pub lost-node : (rule : RuleKind) (s : Search) (t : Tree) (c : List Node) (way : ℕ → Type 0) (node : ℕ) → IsSearching rule s t c way → node < length t.links → (link_at t.links node).kind ≡ Attack
-    → numbers_at t.numbers node ≡ settled_numbers false → WinsByThreats rule (left_at (game_of rule s t).left node) (board_at (game_of rule s t) node) → ⊥
+pub lost-node : (rule : RuleKind) (s : Search) (t : Tree) (c : List Node) (way : ℕ → Type 0) (node : ℕ) → IsSearching rule s t c way
+    → node < length t.links → (link_at t.links node).kind ≡ Attack
+    → numbers_at t.numbers node ≡ settled_numbers false
+    → WinsByThreats rule (left_at (game_of rule s t).left node) (board_at (game_of rule s t) node) → ⊥
 lost-node rule s t c way node h inside attack lost wins =
     let told = all-tell (game_of rule s t) h.tree h.game node inside in
-    told.disproved lost (subst (λ (k : Kind). WinsAt k rule (left_at (game_of rule s t).left node) (board_at (game_of rule s t) node)) (sym attack) wins)
+    told.disproved lost (subst (λ (k : Kind). WinsAt k rule (left_at (game_of rule s t).left node) (board_at (game_of rule s t) node))
+    (sym attack) wins)
 
-pub won-node : (rule : RuleKind) (s : Search) (t : Tree) (c : List Node) (way : ℕ → Type 0) (node : ℕ) → IsSearching rule s t c way → node < length t.links → (link_at t.links node).kind ≡ Attack
-    → numbers_at t.numbers node ≡ settled_numbers true → WinsByThreats rule (left_at (game_of rule s t).left node) (board_at (game_of rule s t) node)
+pub won-node : (rule : RuleKind) (s : Search) (t : Tree) (c : List Node) (way : ℕ → Type 0) (node : ℕ) → IsSearching rule s t c way
+    → node < length t.links → (link_at t.links node).kind ≡ Attack
+    → numbers_at t.numbers node ≡ settled_numbers true
+    → WinsByThreats rule (left_at (game_of rule s t).left node) (board_at (game_of rule s t) node)
 won-node rule s t c way node h inside attack won =
     let told = all-tell (game_of rule s t) h.tree h.game node inside in
     subst (λ (k : Kind). WinsAt k rule (left_at (game_of rule s t).left node) (board_at (game_of rule s t) node)) attack (told.proved won)
 
 -- ---- what is remembered
 
-pub remembered-searching : (rule : RuleKind) (s u : Search) (t : Tree) (c : List Node) (way : ℕ → Type 0) → u ≡ record s { settled = u.settled } → IsTrueMemo rule c u.settled → IsSearching rule s t c way → IsSearching rule u t c way
+pub remembered-searching : (rule : RuleKind) (s u : Search) (t : Tree) (c : List Node) (way : ℕ → Type 0)
+    → u ≡ record s { settled = u.settled } → IsTrueMemo rule c u.settled → IsSearching rule s t c way → IsSearching rule u t c way
 remembered-searching rule s u t c way rest table h = subst (λ (w : Search). IsSearching rule w t c way) (sym rest) (record {
   tree = h.tree;
   game = h.game;
@@ -164,19 +178,22 @@ note-points (n ∷ ns) = ap (λ (ps : List Point). n.at ∷ ps) (note-points ns)
 -- ---- the note for a move
 
 -- the first note of a move is one of them, and without one the move is none of theirs
-find-note : (q : Point) (ns : List Note) (n : Note) → find (λ m. is_same_point q m.at) ns ≡ Some n → (k : ℕ) × (k < length ns) × (note_at ns k ≡ n) × (n.at ≡ q)
+find-note : (q : Point) (ns : List Note) (n : Note) → find (λ m. is_same_point q m.at) ns ≡ Some n
+    → (k : ℕ) × (k < length ns) × (note_at ns k ≡ n) × (n.at ≡ q)
 find-note q [] n e = cc
 find-note q (m ∷ ns) n e = by_test (is_same_point q m.at) refl e (find-note q ns n) where
   by_test : (r : Bool) → is_same_point q m.at ≡ r → cond r (Some m) (find (λ x. is_same_point q x.at) ns) ≡ Some n
       → (find (λ x. is_same_point q x.at) ns ≡ Some n → (k : ℕ) × (k < length ns) × (note_at ns k ≡ n) × (n.at ≡ q))
       → (k : ℕ) × (k < length (m ∷ ns)) × (note_at (m ∷ ns) k ≡ n) × (n.at ≡ q)
-  by_test true same found later = let is : m ≡ n = cc in (0, omega arith, is, sym (is_same_point-same q n.at (subst (λ (x : Note). is_same_point q x.at ≡ true) is same)))
+  by_test true same found later = let is : m ≡ n = cc in
+      (0, omega arith, is, sym (is_same_point-same q n.at (subst (λ (x : Note). is_same_point q x.at ≡ true) is same)))
   by_test false apart found later = let rest = later found in (suc rest.0, (let low = rest.1 in omega (arith, low)), rest.2, rest.3)
 
 find-nothing : (q : Point) (ns : List Note) → find (λ m. is_same_point q m.at) ns ≡ None → among (map (λ m. m.at) ns) q ≡ false
 find-nothing q [] e = refl
 find-nothing q (m ∷ ns) e = by_test (is_same_point q m.at) refl e (find-nothing q ns) where
-  by_test : (r : Bool) → is_same_point q m.at ≡ r → cond r (Some m) (find (λ x. is_same_point q x.at) ns) ≡ None → (find (λ x. is_same_point q x.at) ns ≡ None → among (map (λ x. x.at) ns) q ≡ false)
+  by_test : (r : Bool) → is_same_point q m.at ≡ r → cond r (Some m) (find (λ x. is_same_point q x.at) ns) ≡ None
+      → (find (λ x. is_same_point q x.at) ns ≡ None → among (map (λ x. x.at) ns) q ≡ false)
       → (r || among (map (λ x. x.at) ns) q) ≡ false
   by_test true same found later = cc
   by_test false apart found later = later found
@@ -207,7 +224,8 @@ all-points ns [] = refl
 all-points ns (p ∷ ps) = ap (λ (qs : List Point). p ∷ qs) (all-points ns ps)
 
 -- the answers by them name what the notes do
-pub all-below : (ns : List Note) (most : ℕ) → 0 < length ns → All (λ n. n.node < most) ns → (ps : List Point) → AllByRecursion (λ r. r.next < most) (map answer_of (all_notes ns ps))
+pub all-below : (ns : List Note) (most : ℕ) → 0 < length ns → All (λ n. n.node < most) ns → (ps : List Point)
+    → AllByRecursion (λ r. r.next < most) (map answer_of (all_notes ns ps))
 all-below ns most some low [] = tt
 all-below ns most some low (p ∷ ps) =
     let found = note-for ns p some in
@@ -232,7 +250,8 @@ written-node rule b p on t u ns n all none_saves each deep i by_answers =
     (alone-deep t (map answer_of ns) ∙ deep-notes (depth t) ns deep)
     (by_answers rule n b on answers)
 
-module _ (rule : RuleKind) (s : Search) (t : Tree) (c : List Node) (node : ℕ) (searches : Searches rule s t c (IsOnWayUp t.links node)) where
+module _ (rule : RuleKind) (s : Search) (t : Tree) (c : List Node) (node : ℕ)
+    (searches : Searches rule s t c (IsOnWayUp t.links node)) where
   h : IsSearching rule s t c (IsOnWayUp t.links node)
   unfolding Searches
   h = searches
@@ -240,27 +259,32 @@ module _ (rule : RuleKind) (s : Search) (t : Tree) (c : List Node) (node : ℕ) 
   pub noted-inside : node < length t.links → node < length s.notes.items
   noted-inside inside = let long = length-map s.notes.items (λ (n : Note). n.at) in let e = h.game.moves in omega (arith, long, e, inside)
 
-  pub noted-written : node < length t.links → (w : WrittenWin) → noted_win (note_at s.notes.items node) ≡ Some w → IsWrittenWin rule (left_at (game_of rule s t).left node) (board_at (game_of rule s t) node) c w
+  pub noted-written : node < length t.links → (w : WrittenWin) → noted_win (note_at s.notes.items node) ≡ Some w
+      → IsWrittenWin rule (left_at (game_of rule s t).left node) (board_at (game_of rule s t) node) c w
   noted-written inside w e =
       let noted = noted-some (note_at s.notes.items node) w e in
-      subst (λ (x : WrittenWin). IsWrittenWin rule (left_at (game_of rule s t).left node) (board_at (game_of rule s t) node) c x) noted.1 (h.written.true_wins node inside noted.0).0
+      subst (λ (x : WrittenWin). IsWrittenWin rule (left_at (game_of rule s t).left node) (board_at (game_of rule s t) node) c x) noted.1
+      (h.written.true_wins node inside noted.0).0
 
   pub noted-searches : (w : WrittenWin) → noted_win (note_at s.notes.items node) ≡ Some w → Searches rule s t c (IsAbove t.links node)
   unfolding Searches
   noted-searches w e = way-above rule s t c node (λ attack proved. (noted-some (note_at s.notes.items node) w e).0) h
 
   -- a node that is no proved one of the attacker
-  pub other-searches : ((link_at t.links node).kind ≡ Defend) ⊎ (numbers_at t.numbers node ≡ settled_numbers true → ⊥) → Searches rule s t c (IsAbove t.links node)
+  pub other-searches : ((link_at t.links node).kind ≡ Defend) ⊎ (numbers_at t.numbers node ≡ settled_numbers true → ⊥)
+      → Searches rule s t c (IsAbove t.links node)
   unfolding Searches
   other-searches other = way-above rule s t c node (λ attack proved. absurd (elim other [
     | inl defend ↦ let bad : Attack ≡ Defend = sym attack ∙ defend in cc
     | inr open_or_lost ↦ open_or_lost proved
   ])) h
 
-  pub lost-there : node < length t.links → (link_at t.links node).kind ≡ Attack → numbers_at t.numbers node ≡ settled_numbers false → WinsByThreats rule (left_at (game_of rule s t).left node) (board_at (game_of rule s t) node) → ⊥
+  pub lost-there : node < length t.links → (link_at t.links node).kind ≡ Attack → numbers_at t.numbers node ≡ settled_numbers false
+      → WinsByThreats rule (left_at (game_of rule s t).left node) (board_at (game_of rule s t) node) → ⊥
   lost-there inside attack lost = lost-node rule s t c (IsOnWayUp t.links node) node h inside attack lost
 
-  pub won-there : node < length t.links → (link_at t.links node).kind ≡ Attack → numbers_at t.numbers node ≡ settled_numbers true → WinsByThreats rule (left_at (game_of rule s t).left node) (board_at (game_of rule s t) node)
+  pub won-there : node < length t.links → (link_at t.links node).kind ≡ Attack → numbers_at t.numbers node ≡ settled_numbers true
+      → WinsByThreats rule (left_at (game_of rule s t).left node) (board_at (game_of rule s t) node)
   won-there inside attack won = won-node rule s t c (IsOnWayUp t.links node) node h inside attack won
 
   pub way-tree : IsTree t
@@ -283,8 +307,10 @@ module _ (rule : RuleKind) (s : Search) (t : Tree) (c : List Node) (node : ℕ) 
   root-searches root = way-root rule s t c node root above
 
   -- what is true of the node is kept in the table
-  pub kept-searches : (u : Search) (w : Grid) (n : ℕ) (v : Settled) → node < length t.links → u ≡ record s { settled = u.settled } → w ≡ board_at (game_of rule s t) node → n ≡ left_at (game_of rule s t).left node
-      → IsTrueOf rule c (board_at (game_of rule s t) node) (left_at (game_of rule s t).left node) v → (u.settled ≡ kept (packed w, n) v s.settled) ⊎ (u.settled ≡ s.settled) → Searches rule u t c (IsAbove t.links node)
+  pub kept-searches : (u : Search) (w : Grid) (n : ℕ) (v : Settled) → node < length t.links → u ≡ record s { settled = u.settled }
+      → w ≡ board_at (game_of rule s t) node → n ≡ left_at (game_of rule s t).left node
+      → IsTrueOf rule c (board_at (game_of rule s t) node) (left_at (game_of rule s t).left node) v
+      → (u.settled ≡ kept (packed w, n) v s.settled) ⊎ (u.settled ≡ s.settled) → Searches rule u t c (IsAbove t.links node)
   unfolding Searches
   kept-searches u w n v inside rest there left true_of keeps =
       remembered-searching rule s u t c (IsAbove t.links node) rest
@@ -293,10 +319,12 @@ module _ (rule : RuleKind) (s : Search) (t : Tree) (c : List Node) (node : ℕ) 
       (subst (λ (m : ℕ). IsTrueOf rule c (board_at (game_of rule s t) node) m v) (sym left) true_of) keeps) above
 
   pub above-inside : node < length t.links → node < length s.notes.items
-  above-inside inside = let long = length-map s.notes.items (λ (n : Note). n.at) in let e = above.game.moves in omega (arith, long, e, inside)
+  above-inside inside = let long = length-map s.notes.items (λ (n : Note). n.at) in let e =
+      above.game.moves in omega (arith, long, e, inside)
 
 -- the board that the moves are played on changes nothing else
-pub board-searches : (rule : RuleKind) (s u : Search) (t : Tree) (c : List Node) (way : ℕ → Type 0) → u ≡ record s { board = u.board } → Searches rule s t c way → Searches rule u t c way
+pub board-searches : (rule : RuleKind) (s u : Search) (t : Tree) (c : List Node) (way : ℕ → Type 0) → u ≡ record s { board = u.board }
+    → Searches rule s t c way → Searches rule u t c way
 unfolding Searches
 board-searches rule s u t c way rest h = subst (λ (w : Search). IsSearching rule w t c way) (sym rest) (record {
   tree = h.tree;

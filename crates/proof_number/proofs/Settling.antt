@@ -1,5 +1,6 @@
 -- What becomes of a tree of the game, of what is written, and of the counts where a leaf is settled.
-use Rattle.std.proofs.Common.{◌≡◌, ◌≢◌, ◌⊎◌, inl, inr, ℕ, ◌+◌, ◌<◌, ◌≤◌, Bool, true, false, cond, not, ◌&&◌, refl, sym, ap, subst, ◌∙◌, arith, List, ◌++◌, length, nat_eq}
+use Rattle.std.proofs.Common.{◌≡◌, ◌≢◌, ◌⊎◌, inl, inr, ℕ, ◌+◌, ◌<◌, ◌≤◌, Bool, true, false, cond, not, ◌&&◌, refl, sym, ap, subst, ◌∙◌}
+use Rattle.std.proofs.Common.{arith, List, ◌++◌, length, nat_eq}
 use Rattle.std.proofs.lemmas.Bool.{cases_eq, eq-eqb, ne_eqb}
 use Rattle.game_rules.specs.declared.RuleKind.{RuleKind}
 use Rattle.strategy_graph.specs.declared.Node.{Node}
@@ -10,7 +11,8 @@ use Rattle.proof_tree.specs.declared.Kind.TheVariants.{Attack, Defend}
 use Rattle.proof_tree.specs.declared.Numbers.{Numbers}
 use Rattle.proof_tree.proofs.Settled.{leaf-beside, settled-test}
 use Rattle.proof_number.specs.declared.notes.Note.{Note}
-use Rattle.proof_number.proofs.Common.{note_at, win_of, GameTree, IsGameTree, TellsTruly, WinsAt, board_at, left_at, AreWritten, IsNotedWin, IsCounted, attacks_behind, behind_at, behind_leaves, closed_nodes, defences_behind, is_open_leaf}
+use Rattle.proof_number.proofs.Common.{note_at, win_of, GameTree, IsGameTree, TellsTruly, WinsAt, board_at, left_at, AreWritten, IsNotedWin}
+use Rattle.proof_number.proofs.Common.{IsCounted, attacks_behind, behind_at, behind_leaves, closed_nodes, defences_behind, is_open_leaf}
 use Rattle.proof_number.proofs.Sums.{sum-less}
 use Rattle.game_rules.proofs.Common.{Grid, after}
 use Rattle.strategy_graph.proofs.Common.{NamesLower}
@@ -24,7 +26,8 @@ one_unless r = cond r 0 1
 -- ---- a leaf is settled
 
 module _ (g : GameTree) (ok : IsTree g.tree) (numbers : List Numbers) (leaf : ℕ) (p : Bool)
-    (inside : leaf < length g.tree.links) (childless : (link_at g.tree.links leaf).count ≡ 0) (unsettled : is_settled (numbers_at g.tree.numbers leaf) ≡ false)
+    (inside : leaf < length g.tree.links) (childless : (link_at g.tree.links leaf).count ≡ 0)
+    (unsettled : is_settled (numbers_at g.tree.numbers leaf) ≡ false)
     (here : numbers_at numbers leaf ≡ settled_numbers p) (others : OthersStay g.tree.links leaf g.tree.numbers numbers) where
   abbrev After : GameTree
   After = record g { tree = record { links = g.tree.links; numbers = numbers } }
@@ -35,8 +38,15 @@ module _ (g : GameTree) (ok : IsTree g.tree) (numbers : List Numbers) (leaf : �
   is-settled : is_settled (numbers_at numbers leaf) ≡ true
   is-settled = ap is_settled here ∙ settled-test p
 
-  pub game-settled : IsGameTree g → TellsTruly (settled_numbers p) (WinsAt (link_at g.tree.links leaf).kind g.rule (left_at g.left leaf) (board_at g leaf))
-      → IsGameTree (record { rule = g.rule; start = g.start; tree = record { links = g.tree.links; numbers = numbers }; moves = g.moves; left = g.left })
+  pub game-settled : IsGameTree g → TellsTruly (settled_numbers p)
+      (WinsAt (link_at g.tree.links leaf).kind g.rule (left_at g.left leaf) (board_at g leaf))
+      → IsGameTree (record {
+        rule = g.rule;
+        start = g.start;
+        tree = record { links = g.tree.links; numbers = numbers };
+        moves = g.moves;
+        left = g.left;
+      })
   game-settled game truth = record {
     moves = game.moves;
     left = game.left;
@@ -45,39 +55,57 @@ module _ (g : GameTree) (ok : IsTree g.tree) (numbers : List Numbers) (leaf : �
     fewer = game.fewer;
     inner = game.inner;
     open_leaf = λ i low none not_settled. elim (cases_eq i leaf) [
-      | inl same ↦ let yes_settled : is_settled (numbers_at numbers i) ≡ true = ap (λ (k : ℕ). is_settled (numbers_at numbers k)) same ∙ is-settled in let bad : true ≡ false = sym yes_settled ∙ not_settled in cc
+      | inl same ↦ let yes_settled : is_settled (numbers_at numbers i) ≡ true =
+          ap (λ (k : ℕ). is_settled (numbers_at numbers k)) same ∙ is-settled in let bad : true ≡ false =
+          sym yes_settled ∙ not_settled in cc
       | inr other ↦ game.open_leaf i low none (ap is_settled (sym (other-leaf i none other)) ∙ not_settled)
     ];
     leaf = λ i low none. elim (cases_eq i leaf) [
       | inl same ↦
-          subst (λ (k : ℕ). TellsTruly (numbers_at numbers k) (WinsAt (link_at g.tree.links k).kind g.rule (left_at g.left k) (board_at g k))) (sym same)
-          (subst (λ (n : Numbers). TellsTruly n (WinsAt (link_at g.tree.links leaf).kind g.rule (left_at g.left leaf) (board_at g leaf))) (sym here) truth)
-      | inr other ↦ subst (λ (n : Numbers). TellsTruly n (WinsAt (link_at g.tree.links i).kind g.rule (left_at g.left i) (board_at g i))) (sym (other-leaf i none other)) (game.leaf i low none)
+          subst (λ (k : ℕ). TellsTruly (numbers_at numbers k)
+          (WinsAt (link_at g.tree.links k).kind g.rule (left_at g.left k) (board_at g k))) (sym same)
+          (subst (λ (n : Numbers). TellsTruly n (WinsAt (link_at g.tree.links leaf).kind g.rule (left_at g.left leaf) (board_at g leaf)))
+          (sym here) truth)
+      | inr other ↦ subst (λ (n : Numbers). TellsTruly n (WinsAt (link_at g.tree.links i).kind g.rule (left_at g.left i) (board_at g i)))
+          (sym (other-leaf i none other)) (game.leaf i low none)
     ];
   }
 
-  pub written-settled : (notes more : List Note) (c : List Node) → AreWritten g notes c (λ i. ⊥) → ((i : ℕ) → i ≢ leaf → note_at more i ≡ note_at notes i)
+  pub written-settled : (notes more : List Note) (c : List Node) → AreWritten g notes c (λ i. ⊥)
+      → ((i : ℕ) → i ≢ leaf → note_at more i ≡ note_at notes i)
       → (0 < (note_at more leaf).moves → IsNotedWin g.rule (left_at g.left leaf) (board_at g leaf) c (win_of (note_at more leaf)))
       → (p ≡ true → ((link_at g.tree.links leaf).kind ≡ Attack) × (0 < (note_at more leaf).moves))
-      → AreWritten (record { rule = g.rule; start = g.start; tree = record { links = g.tree.links; numbers = numbers }; moves = g.moves; left = g.left }) more c (IsOnWayUp g.tree.links leaf)
+      → AreWritten (record {
+        rule = g.rule;
+        start = g.start;
+        tree = record { links = g.tree.links; numbers = numbers };
+        moves = g.moves;
+        left = g.left;
+      }) more c (IsOnWayUp g.tree.links leaf)
   written-settled notes more c written same own has = record {
     true_wins = λ i low some. elim (cases_eq i leaf) [
-      | inl e ↦ subst (λ (k : ℕ). IsNotedWin g.rule (left_at g.left k) (board_at g k) c (win_of (note_at more k))) (sym e) (own (subst (λ (k : ℕ). 0 < (note_at more k).moves) e some))
+      | inl e ↦ subst (λ (k : ℕ). IsNotedWin g.rule (left_at g.left k) (board_at g k) c (win_of (note_at more k))) (sym e)
+          (own (subst (λ (k : ℕ). 0 < (note_at more k).moves) e some))
       | inr other ↦
-          subst (λ (n : Note). IsNotedWin g.rule (left_at g.left i) (board_at g i) c (win_of n)) (sym (same i other)) (written.true_wins i low (subst (λ (n : Note). 0 < n.moves) (same i other) some))
+          subst (λ (n : Note). IsNotedWin g.rule (left_at g.left i) (board_at g i) c (win_of n)) (sym (same i other))
+          (written.true_wins i low (subst (λ (n : Note). 0 < n.moves) (same i other) some))
     ];
     fresh = λ i low none not_settled. elim (cases_eq i leaf) [
-      | inl e ↦ let is : is_settled (numbers_at numbers i) ≡ true = ap (λ (k : ℕ). is_settled (numbers_at numbers k)) e ∙ is-settled in let bad : true ≡ false = sym is ∙ not_settled in cc
-      | inr other ↦ ap (λ (n : Note). n.moves) (same i other) ∙ written.fresh i low none (ap is_settled (sym (other-leaf i none other)) ∙ not_settled)
+      | inl e ↦ let is : is_settled (numbers_at numbers i) ≡ true =
+          ap (λ (k : ℕ). is_settled (numbers_at numbers k)) e ∙ is-settled in let bad : true ≡ false = sym is ∙ not_settled in cc
+      | inr other ↦ ap (λ (n : Note). n.moves) (same i other)
+          ∙ written.fresh i low none (ap is_settled (sym (other-leaf i none other)) ∙ not_settled)
     ];
     leaves = λ i low none attack proved. elim (cases_eq i leaf) [
       | inl e ↦
           subst (λ (k : ℕ). 0 < (note_at more k).moves) (sym e)
           (has (same-test p (sym here ∙ ap (numbers_at numbers) (sym e) ∙ proved))).1
-      | inr other ↦ subst (λ (n : Note). 0 < n.moves) (sym (same i other)) (written.leaves i low none attack (sym (other-leaf i none other) ∙ proved))
+      | inr other ↦ subst (λ (n : Note). 0 < n.moves) (sym (same i other))
+          (written.leaves i low none attack (sym (other-leaf i none other) ∙ proved))
     ];
     defends = λ i low none defend proved. elim (cases_eq i leaf) [
-      | inl e ↦ let attack = (has (same-test p (sym here ∙ ap (numbers_at numbers) (sym e) ∙ proved))).0 in let bad : Attack ≡ Defend = sym attack ∙ ap (λ (k : ℕ). (link_at g.tree.links k).kind) (sym e) ∙ defend in cc
+      | inl e ↦ let attack = (has (same-test p (sym here ∙ ap (numbers_at numbers) (sym e) ∙ proved))).0 in let bad : Attack ≡ Defend =
+          sym attack ∙ ap (λ (k : ℕ). (link_at g.tree.links k).kind) (sym e) ∙ defend in cc
       | inr other ↦ written.defends i low none defend (sym (other-leaf i none other) ∙ proved)
     ];
     all = λ i low attack proved beside.
@@ -87,12 +115,14 @@ module _ (g : GameTree) (ok : IsTree g.tree) (numbers : List Numbers) (leaf : �
         let is = written.met i low defend some q on none in
         let first : ℕ = (link_at g.tree.links i).first in
         let other : first ≢ leaf = λ e.
-        let nothing : (note_at notes first).moves ≡ 0 = ap (λ (k : ℕ). (note_at notes k).moves) e ∙ written.fresh leaf inside childless unsettled in
+        let nothing : (note_at notes first).moves ≡ 0 = ap (λ (k : ℕ). (note_at notes k).moves) e
+        ∙ written.fresh leaf inside childless unsettled in
         let positive = is.some in
         omega (arith, nothing, positive) in
         record {
           some = subst (λ (n : Note). 0 < n.moves) (sym (same first other)) is.some;
-          win = subst (λ (n : Note). IsNotedWin g.rule (left_at g.left i) (after (board_at g i) q) c (win_of n)) (sym (same first other)) is.win;
+          win = subst (λ (n : Note). IsNotedWin g.rule (left_at g.left i) (after (board_at g i) q) c (win_of n)) (sym (same first other))
+              is.win;
         };
   } where
     same-test : (r : Bool) → settled_numbers r ≡ settled_numbers true → r ≡ true
@@ -101,48 +131,96 @@ module _ (g : GameTree) (ok : IsTree g.tree) (numbers : List Numbers) (leaf : �
 
   -- what is counted behind the leaf counts no longer
   behind-other : (f : Kind → RuleKind → ℕ → Grid → ℕ) (i : ℕ) → i ≢ leaf
-      → behind_at f (record { rule = g.rule; start = g.start; tree = record { links = g.tree.links; numbers = numbers }; moves = g.moves; left = g.left }) i ≡ behind_at f g i
+      → behind_at f (record {
+        rule = g.rule;
+        start = g.start;
+        tree = record { links = g.tree.links; numbers = numbers };
+        moves = g.moves;
+        left = g.left;
+      }) i ≡ behind_at f g i
   behind-other f i other = by_count (cases_eq (link_at g.tree.links i).count 0) where
-    by_count : ((link_at g.tree.links i).count ≡ 0) ⊎ ((link_at g.tree.links i).count ≡ 0 → ⊥) → behind_at f (record { rule = g.rule; start = g.start; tree = record { links = g.tree.links; numbers = numbers }; moves = g.moves; left = g.left }) i ≡ behind_at f g i
-    by_count (inl none) = ap (λ (n : Numbers). cond (nat_eq (link_at g.tree.links i).count 0 && not (is_settled n)) (f (link_at g.tree.links i).kind g.rule (left_at g.left i) (board_at g i)) 0) (other-leaf i none other)
+    by_count : ((link_at g.tree.links i).count ≡ 0) ⊎ ((link_at g.tree.links i).count ≡ 0 → ⊥)
+        → behind_at f (record {
+          rule = g.rule;
+          start = g.start;
+          tree = record { links = g.tree.links; numbers = numbers };
+          moves = g.moves;
+          left = g.left;
+        }) i ≡ behind_at f g i
+    by_count (inl none) = ap (λ (n : Numbers). cond (nat_eq (link_at g.tree.links i).count 0 && not (is_settled n))
+        (f (link_at g.tree.links i).kind g.rule (left_at g.left i) (board_at g i)) 0) (other-leaf i none other)
     by_count (inr some) =
         let shut : nat_eq (link_at g.tree.links i).count 0 ≡ false = ne_eqb (link_at g.tree.links i).count 0 some in
-        ap (λ r. cond (r && not (is_settled (numbers_at numbers i))) (f (link_at g.tree.links i).kind g.rule (left_at g.left i) (board_at g i)) 0) shut
-        ∙ sym (ap (λ r. cond (r && not (is_settled (numbers_at g.tree.numbers i))) (f (link_at g.tree.links i).kind g.rule (left_at g.left i) (board_at g i)) 0) shut)
+        ap (λ r. cond (r && not (is_settled (numbers_at numbers i)))
+        (f (link_at g.tree.links i).kind g.rule (left_at g.left i) (board_at g i)) 0) shut
+        ∙ sym (ap (λ r. cond (r && not (is_settled (numbers_at g.tree.numbers i)))
+        (f (link_at g.tree.links i).kind g.rule (left_at g.left i) (board_at g i)) 0) shut)
 
-  behind-here : (f : Kind → RuleKind → ℕ → Grid → ℕ) → behind_at f (record { rule = g.rule; start = g.start; tree = record { links = g.tree.links; numbers = numbers }; moves = g.moves; left = g.left }) leaf ≡ 0
+  behind-here : (f : Kind → RuleKind → ℕ → Grid → ℕ)
+      → behind_at f (record {
+        rule = g.rule;
+        start = g.start;
+        tree = record { links = g.tree.links; numbers = numbers };
+        moves = g.moves;
+        left = g.left;
+      }) leaf ≡ 0
   behind-here f =
-      ap (λ r. cond (r && not (is_settled (numbers_at numbers leaf))) (f (link_at g.tree.links leaf).kind g.rule (left_at g.left leaf) (board_at g leaf)) 0) (eq-eqb (link_at g.tree.links leaf).count 0 childless)
+      ap (λ r. cond (r && not (is_settled (numbers_at numbers leaf)))
+      (f (link_at g.tree.links leaf).kind g.rule (left_at g.left leaf) (board_at g leaf)) 0)
+      (eq-eqb (link_at g.tree.links leaf).count 0 childless)
       ∙ ap (λ r. cond (not r) (f (link_at g.tree.links leaf).kind g.rule (left_at g.left leaf) (board_at g leaf)) 0) is-settled
 
-  pub behind-before : (f : Kind → RuleKind → ℕ → Grid → ℕ) → behind_at f g leaf ≡ f (link_at g.tree.links leaf).kind g.rule (left_at g.left leaf) (board_at g leaf)
+  pub behind-before : (f : Kind → RuleKind → ℕ → Grid → ℕ)
+      → behind_at f g leaf ≡ f (link_at g.tree.links leaf).kind g.rule (left_at g.left leaf) (board_at g leaf)
   behind-before f =
-      ap (λ r. cond (r && not (is_settled (numbers_at g.tree.numbers leaf))) (f (link_at g.tree.links leaf).kind g.rule (left_at g.left leaf) (board_at g leaf)) 0) (eq-eqb (link_at g.tree.links leaf).count 0 childless)
+      ap (λ r. cond (r && not (is_settled (numbers_at g.tree.numbers leaf)))
+      (f (link_at g.tree.links leaf).kind g.rule (left_at g.left leaf) (board_at g leaf)) 0)
+      (eq-eqb (link_at g.tree.links leaf).count 0 childless)
       ∙ ap (λ r. cond (not r) (f (link_at g.tree.links leaf).kind g.rule (left_at g.left leaf) (board_at g leaf)) 0) unsettled
 
   pub behind-settled : (f : Kind → RuleKind → ℕ → Grid → ℕ)
-      → behind_leaves f (record { rule = g.rule; start = g.start; tree = record { links = g.tree.links; numbers = numbers }; moves = g.moves; left = g.left }) + f (link_at g.tree.links leaf).kind g.rule (left_at g.left leaf) (board_at g leaf) ≤ behind_leaves f g
+      → behind_leaves f (record {
+        rule = g.rule;
+        start = g.start;
+        tree = record { links = g.tree.links; numbers = numbers };
+        moves = g.moves;
+        left = g.left;
+      }) + f (link_at g.tree.links leaf).kind g.rule (left_at g.left leaf) (board_at g leaf) ≤ behind_leaves f g
   behind-settled f =
-      sum-less (length g.tree.links) (behind_at f (record { rule = g.rule; start = g.start; tree = record { links = g.tree.links; numbers = numbers }; moves = g.moves; left = g.left })) (behind_at f g) leaf (f (link_at g.tree.links leaf).kind g.rule (left_at g.left leaf) (board_at g leaf)) inside
+      sum-less (length g.tree.links)
+      (behind_at f (record {
+        rule = g.rule;
+        start = g.start;
+        tree = record { links = g.tree.links; numbers = numbers };
+        moves = g.moves;
+        left = g.left;
+      })) (behind_at f g) leaf
+      (f (link_at g.tree.links leaf).kind g.rule (left_at g.left leaf) (board_at g leaf)) inside
       (λ j low other. let e = behind-other f j other in omega (arith, e))
       (let a = behind-here f in let b = behind-before f in omega (arith, a, b))
 
   pub closed-settled : closed_nodes g.tree + 1 ≤ closed_nodes (record { links = g.tree.links; numbers = numbers })
   closed-settled =
-      sum-less (length g.tree.links) (λ i. one_unless (is_open_leaf g.tree i)) (λ i. one_unless (is_open_leaf (record { links = g.tree.links; numbers = numbers }) i)) leaf 1 inside
+      sum-less (length g.tree.links) (λ i. one_unless (is_open_leaf g.tree i))
+      (λ i. one_unless (is_open_leaf (record { links = g.tree.links; numbers = numbers }) i)) leaf 1 inside
       (λ j low other. let e = closed-other j other in omega (arith, e))
       (let a = open-before in let b = closed-here in omega (arith, a, b)) where
-        closed-other : (i : ℕ) → i ≢ leaf → one_unless (is_open_leaf g.tree i) ≡ one_unless (is_open_leaf (record { links = g.tree.links; numbers = numbers }) i)
+        closed-other : (i : ℕ) → i ≢ leaf → one_unless (is_open_leaf g.tree i) ≡ one_unless
+            (is_open_leaf (record { links = g.tree.links; numbers = numbers }) i)
         closed-other i other = by_count (cases_eq (link_at g.tree.links i).count 0) where
-          by_count : ((link_at g.tree.links i).count ≡ 0) ⊎ ((link_at g.tree.links i).count ≡ 0 → ⊥) → one_unless (is_open_leaf g.tree i) ≡ one_unless (is_open_leaf (record { links = g.tree.links; numbers = numbers }) i)
-          by_count (inl none) = sym (ap (λ (n : Numbers). one_unless (nat_eq (link_at g.tree.links i).count 0 && not (is_settled n))) (other-leaf i none other))
+          by_count : ((link_at g.tree.links i).count ≡ 0) ⊎ ((link_at g.tree.links i).count ≡ 0 → ⊥)
+              → one_unless (is_open_leaf g.tree i) ≡ one_unless (is_open_leaf (record { links = g.tree.links; numbers = numbers }) i)
+          by_count (inl none) = sym
+              (ap (λ (n : Numbers). one_unless (nat_eq (link_at g.tree.links i).count 0 && not (is_settled n))) (other-leaf i none other))
           by_count (inr some) =
               let shut : nat_eq (link_at g.tree.links i).count 0 ≡ false = ne_eqb (link_at g.tree.links i).count 0 some in
-              ap (λ r. one_unless (r && not (is_settled (numbers_at g.tree.numbers i)))) shut ∙ sym (ap (λ r. one_unless (r && not (is_settled (numbers_at numbers i)))) shut)
+              ap (λ r. one_unless (r && not (is_settled (numbers_at g.tree.numbers i)))) shut
+              ∙ sym (ap (λ r. one_unless (r && not (is_settled (numbers_at numbers i)))) shut)
 
         open-before : one_unless (is_open_leaf g.tree leaf) ≡ 0
         open-before =
-            ap (λ r. one_unless (r && not (is_settled (numbers_at g.tree.numbers leaf)))) (eq-eqb (link_at g.tree.links leaf).count 0 childless)
+            ap (λ r. one_unless (r && not (is_settled (numbers_at g.tree.numbers leaf))))
+            (eq-eqb (link_at g.tree.links leaf).count 0 childless)
             ∙ ap (λ r. one_unless (not r)) unsettled
 
         closed-here : one_unless (is_open_leaf (record { links = g.tree.links; numbers = numbers }) leaf) ≡ 1
@@ -153,7 +231,13 @@ module _ (g : GameTree) (ok : IsTree g.tree) (numbers : List Numbers) (leaf : �
   pub counted-settled : (budget attacked defended more : ℕ) → IsCounted g budget attacked defended → attacked ≤ more → more ≤ budget
       → more ≤ attacked + attacks_behind (link_at g.tree.links leaf).kind g.rule (left_at g.left leaf) (board_at g leaf)
       → ((kind : Kind) → leaf_sum kind g.tree.links numbers ≤ leaf_sum kind g.tree.links g.tree.numbers)
-      → IsCounted (record { rule = g.rule; start = g.start; tree = record { links = g.tree.links; numbers = numbers }; moves = g.moves; left = g.left }) budget more defended
+      → IsCounted (record {
+        rule = g.rule;
+        start = g.start;
+        tree = record { links = g.tree.links; numbers = numbers };
+        moves = g.moves;
+        left = g.left;
+      }) budget more defended
   counted-settled budget attacked defended more counted grows fits behind sums = record {
     attacks = let a = counted.attacks in let b = behind-settled attacks_behind in omega (arith, a, b, behind);
     defences = let a = counted.defences in let b = behind-settled defences_behind in omega (arith, a, b);
@@ -165,9 +249,11 @@ module _ (g : GameTree) (ok : IsTree g.tree) (numbers : List Numbers) (leaf : �
 
 -- ---- the compiler grows
 
-pub written-grown : (g : GameTree) (notes : List Note) (c more : List Node) (way : ℕ → Type 0) → NamesLower c → AreWritten g notes c way → AreWritten g notes (c ++ more) way
+pub written-grown : (g : GameTree) (notes : List Note) (c more : List Node) (way : ℕ → Type 0) → NamesLower c → AreWritten g notes c way
+    → AreWritten g notes (c ++ more) way
 written-grown g notes c more way lower written = record {
-  true_wins = λ i low some. let win = written.true_wins i low some in (growth_keeps-wins g.rule (left_at g.left i) (board_at g i) c more (win_of (note_at notes i)) lower win.0, win.1);
+  true_wins = λ i low some. let win = written.true_wins i low some in
+      (growth_keeps-wins g.rule (left_at g.left i) (board_at g i) c more (win_of (note_at notes i)) lower win.0, win.1);
   fresh = written.fresh;
   leaves = written.leaves;
   defends = written.defends;
@@ -176,6 +262,10 @@ written-grown g notes c more way lower written = record {
       let is = written.met i low defend some q on none in
       record {
         some = is.some;
-        win = (growth_keeps-wins g.rule (left_at g.left i) (after (board_at g i) q) c more (win_of (note_at notes (link_at g.tree.links i).first)) lower is.win.0, is.win.1);
+        win = (
+          growth_keeps-wins g.rule (left_at g.left i) (after (board_at g i) q) c more
+              (win_of (note_at notes (link_at g.tree.links i).first)) lower is.win.0,
+          is.win.1,
+        );
       };
 }

@@ -11,7 +11,8 @@ use Rattle.proof_number.specs.declared.notes.Note.{Note}
 use Rattle.proof_number.specs.declared.search.Search.{Search}
 use Rattle.proof_number.specs.declared.search.Step.{Step}
 use Rattle.proof_number.specs.declared.search.Step.TheVariants.{Done, Spent}
-use Rattle.proof_number.proofs.Common.{no_note, GameTree, IsGameTree, board_at, left_at, Grows, HasGrown, HasSpent, HasStayed, IsSameAim, IsSearching, KeepsTree, OnStep, Searches, StandsAt, game_of}
+use Rattle.proof_number.proofs.Common.{no_note, GameTree, IsGameTree, board_at, left_at, Grows, HasGrown, HasSpent, HasStayed, IsSameAim}
+use Rattle.proof_number.proofs.Common.{IsSearching, KeepsTree, OnStep, Searches, StandsAt, game_of}
 use Rattle.proof_number.proofs.Recording.{board-searches}
 
 module _ (rule : RuleKind) (s : Search) (t : Tree) (c : List Node) (searches : Searches rule s t c (λ i. ⊥)) where
@@ -26,11 +27,14 @@ module _ (rule : RuleKind) (s : Search) (t : Tree) (c : List Node) (searches : S
   searched-game = inside.game
 
   -- the search stands at the leaf to which the moves were played
-  pub stands-there : (moved : Search) (leaf : ℕ) (view : Grid) → is_settled (numbers_at t.numbers 0) ≡ false → moved ≡ record s { board = moved.board } → leaf ≡ most_proving t → leaf < length t.links → (link_at t.links leaf).count ≡ 0
-      → is_settled (numbers_at t.numbers leaf) ≡ false → view ≡ board_at (game_of rule s t) leaf → moved.board ≡ board_at (game_of rule s t) leaf → StandsAt rule moved t c leaf view
+  pub stands-there : (moved : Search) (leaf : ℕ) (view : Grid) → is_settled (numbers_at t.numbers 0) ≡ false
+      → moved ≡ record s { board = moved.board } → leaf ≡ most_proving t → leaf < length t.links → (link_at t.links leaf).count ≡ 0
+      → is_settled (numbers_at t.numbers leaf) ≡ false → view ≡ board_at (game_of rule s t) leaf
+      → moved.board ≡ board_at (game_of rule s t) leaf → StandsAt rule moved t c leaf view
   unfolding Searches StandsAt
   stands-there moved leaf view root_open rest is low none leaf_open view_is board_is =
-      let same : board_at (game_of rule s t) leaf ≡ board_at (game_of rule moved t) leaf = sym (ap (λ (w : Search). board_at (game_of rule w t) leaf) rest) in
+      let same : board_at (game_of rule s t) leaf ≡ board_at (game_of rule moved t) leaf =
+      sym (ap (λ (w : Search). board_at (game_of rule w t) leaf) rest) in
       record {
         searching = board-searches rule s moved t c (λ i. ⊥) rest searches;
         root_open = root_open;
@@ -50,7 +54,8 @@ on-done x D S E e h = subst (λ (y : Step). OnStep (Ok y) D S E) e h
 pub on-spent : (x : Step) (D S E : Type 0) → x ≡ Spent → OnStep (Ok x) D S E → S
 on-spent x D S E e h = subst (λ (y : Step). OnStep (Ok y) D S E) e h
 
-module _ (rule : RuleKind) (moved v : Search) (t u : Tree) (d : List Node) (leaf : ℕ) (x : Step) (h : OnStep (Ok x) (Grows rule moved v t u d leaf) (HasSpent rule moved v t u) (HasStayed moved v t u)) where
+module _ (rule : RuleKind) (moved v : Search) (t u : Tree) (d : List Node) (leaf : ℕ) (x : Step)
+    (h : OnStep (Ok x) (Grows rule moved v t u d leaf) (HasSpent rule moved v t u) (HasStayed moved v t u)) where
   pub step-done : x ≡ Done → Grows rule moved v t u d leaf
   step-done e = on-done x (Grows rule moved v t u d leaf) (HasSpent rule moved v t u) (HasStayed moved v t u) e h
 
@@ -76,7 +81,8 @@ aim-then s u v first second = record {
 }
 
 -- the step leaves the tree as it was
-module _ (rule : RuleKind) (s moved v : Search) (t u : Tree) (rest : moved ≡ record s { board = moved.board }) (same : u ≡ t) (keeps : KeepsTree moved v) where
+module _ (rule : RuleKind) (s moved v : Search) (t u : Tree) (rest : moved ≡ record s { board = moved.board }) (same : u ≡ t)
+    (keeps : KeepsTree moved v) where
   stayed-same : game_of rule v u ≡ game_of rule s t
   stayed-same = ap (game_of rule v) same ∙ keeps.places rule t ∙ ap (λ (w : Search). game_of rule w t) rest
 
@@ -114,7 +120,8 @@ module _ (rule : RuleKind) (s v : Search) (t u : Tree) (d : List Node) (leaf : �
   unfolding Searches
   grown-searches = grown-parts.searching
 
-  grown-full : {E : Type 0} → (E → MAX_NODES < v.before + v.attacked) → E → (MAX_NODES < s.before + s.budget) × (MAX_NODES < s.before + threat_tree rule s.depth s.root)
+  grown-full : {E : Type 0} → (E → MAX_NODES < v.before + v.attacked) → E
+      → (MAX_NODES < s.before + s.budget) × (MAX_NODES < s.before + threat_tree rule s.depth s.root)
   grown-full refused e =
       let over = refused e in
       let h = grown-parts.searching in
@@ -126,8 +133,10 @@ module _ (rule : RuleKind) (s v : Search) (t u : Tree) (d : List Node) (leaf : �
       let some = h.tree.linked.some in
       let long = length-map v.notes.items (λ (n : Note). n.at) in
       let many = h.game.moves in
-      let first : left_at (game_of rule v u).left 0 ≡ s.depth = get_or-map (λ (n : Note). n.left) v.notes.items 0 no_note 0 (omega (arith, some, long, many)) ∙ h.depth ∙ aim.depth in
-      let same : threat_tree rule (left_at (game_of rule v u).left 0) v.root ≡ threat_tree rule s.depth s.root = ap (λ (n : ℕ). threat_tree rule n v.root) first ∙ ap (threat_tree rule s.depth) aim.root in
+      let first : left_at (game_of rule v u).left 0 ≡ s.depth =
+      get_or-map (λ (n : Note). n.left) v.notes.items 0 no_note 0 (omega (arith, some, long, many)) ∙ h.depth ∙ aim.depth in
+      let same : threat_tree rule (left_at (game_of rule v u).left 0) v.root ≡ threat_tree rule s.depth s.root =
+      ap (λ (n : ℕ). threat_tree rule n v.root) first ∙ ap (threat_tree rule s.depth) aim.root in
       (omega (arith, over, before, budget, fits), omega (arith, over, before, all, same))
 
   -- from the search before the moves were played
@@ -142,5 +151,8 @@ module _ (rule : RuleKind) (s v : Search) (t u : Tree) (d : List Node) (leaf : �
     grown-place = sym (grown-parts.place ∙ ap (λ (w : Search). board_at (game_of rule w t) leaf) rest)
 
     -- where the compiler is full on the way back, more positions are counted than it has room for
-    pub step-full : {E : Type 0} → (E → MAX_NODES < v.before + v.attacked) → E → (MAX_NODES < before.before + before.budget) × (MAX_NODES < before.before + threat_tree rule before.depth before.root)
-    step-full refused e = subst (λ (w : Search). (MAX_NODES < w.before + w.budget) × (MAX_NODES < w.before + threat_tree rule w.depth w.root)) rest (grown-full refused e)
+    pub step-full : {E : Type 0} → (E → MAX_NODES < v.before + v.attacked) → E
+        → (MAX_NODES < before.before + before.budget) × (MAX_NODES < before.before + threat_tree rule before.depth before.root)
+    step-full refused e = subst
+        (λ (w : Search). (MAX_NODES < w.before + w.budget) × (MAX_NODES < w.before + threat_tree rule w.depth w.root)) rest
+        (grown-full refused e)

@@ -1,6 +1,7 @@
 -- The steps of a search, in the words of its contracts. Steps at a leaf of the attacker whose win is compiled at once: what is counted
 -- fits, and so do the nodes.
-use Rattle.std.proofs.Common.{◌≡◌, ℕ, ◌+◌, ◌<◌, ◌≤◌, Bool, true, false, inl, sym, ap, subst, ◌∙◌, arith, List, [], ◌++◌, append-nil, length, Some, Result, Ok, Err, refl, ◌-◌, cond, ◌&&◌, not, nat_eq}
+use Rattle.std.proofs.Common.{◌≡◌, ℕ, ◌+◌, ◌<◌, ◌≤◌, Bool, true, false, inl, sym, ap, subst, ◌∙◌, arith, List, [], ◌++◌, append-nil, length}
+use Rattle.std.proofs.Common.{Some, Result, Ok, Err, refl, ◌-◌, cond, ◌&&◌, not, nat_eq}
 use Rattle.std.proofs.lemmas.List.{get_or-map, length-map}
 use Rattle.std.proofs.lemmas.Bool.{eq-eqb}
 use Rattle.game_rules.specs.declared.RuleKind.{RuleKind}
@@ -26,7 +27,9 @@ use Rattle.proof_number.specs.declared.search.Step.TheVariants.{Done, Spent}
 use Rattle.proof_number.specs.declared.notes.Note.{Note}
 use Rattle.proof_number.specs.declared.notes.Settled.{Settled}
 use Rattle.proof_number.specs.declared.search.Search.{Search}
-use Rattle.proof_number.proofs.Common.{no_note, note_at, CanGrow, WinsAt, board_at, left_at, IsTrueOf, IsTrueMemo, Searches, Grows, HasGrown, HasSpent, HasStayed, KeepsTree, OnStep, IsAtLeaf, IsNotedWin, IsSettledAt, StandsAt, game_of, noted_won, GameTree, attacks_behind, behind_at, is_attack, unwritten}
+use Rattle.proof_number.proofs.Common.{no_note, note_at, CanGrow, WinsAt, board_at, left_at, IsTrueOf, IsTrueMemo, Searches, Grows}
+use Rattle.proof_number.proofs.Common.{HasGrown, HasSpent, HasStayed, KeepsTree, OnStep, IsAtLeaf, IsNotedWin, IsSettledAt, StandsAt}
+use Rattle.proof_number.proofs.Common.{game_of, noted_won, GameTree, attacks_behind, behind_at, is_attack, unwritten}
 use Rattle.proof_number.proofs.GameTruths.{left-low, position-at}
 use Rattle.proof_number.proofs.Growing.{lost-grown, won-grown}
 use Rattle.proof_number.proofs.Remembering.{memo-grown}
@@ -48,19 +51,23 @@ module _ (rule : RuleKind) (s : Search) (t : Tree) (c : List Node) (leaf : ℕ) 
   leaf-is = at-leaf.leaf_is
 
   pub leaf-noted : leaf < length s.notes.items
-  leaf-noted = let same = at-leaf.searching.game.moves in let long = length-map s.notes.items (λ (n : Note). n.at) in let low = at-leaf.in_tree in omega (arith, same, long, low)
+  leaf-noted = let same = at-leaf.searching.game.moves in let long = length-map s.notes.items (λ (n : Note). n.at) in let low =
+      at-leaf.in_tree in omega (arith, same, long, low)
 
   pub leaf-compiled : IsCompiled c
   leaf-compiled = at-leaf.searching.compiled
 
   pub leaf-lawful : IsPosition rule view
-  leaf-lawful = subst (IsPosition rule) (sym at-leaf.view_is) (position-at (game_of rule s t) at-leaf.searching.tree.linked at-leaf.searching.game leaf at-leaf.in_tree)
+  leaf-lawful = subst (IsPosition rule) (sym at-leaf.view_is)
+      (position-at (game_of rule s t) at-leaf.searching.tree.linked at-leaf.searching.game leaf at-leaf.in_tree)
 
   pub leaf-board : s.board ≡ view
   leaf-board = at-leaf.board_is ∙ sym at-leaf.view_is
 
-  grows-with : (kind : Kind) → (link_at t.links leaf).kind ≡ kind → CanGrow kind rule (left_at (game_of rule s t).left leaf) (board_at (game_of rule s t) leaf)
-  grows-with kind e = subst (λ (q : Kind). CanGrow q rule (left_at (game_of rule s t).left leaf) (board_at (game_of rule s t) leaf)) e (at-leaf.searching.game.open_leaf leaf at-leaf.in_tree at-leaf.childless at-leaf.leaf_open)
+  grows-with : (kind : Kind) → (link_at t.links leaf).kind ≡ kind
+      → CanGrow kind rule (left_at (game_of rule s t).left leaf) (board_at (game_of rule s t) leaf)
+  grows-with kind e = subst (λ (q : Kind). CanGrow q rule (left_at (game_of rule s t).left leaf) (board_at (game_of rule s t) leaf)) e
+      (at-leaf.searching.game.open_leaf leaf at-leaf.in_tree at-leaf.childless at-leaf.leaf_open)
 
   left-noted : left_at (game_of rule s t).left leaf ≡ (note_at s.notes.items leaf).left
   left-noted = get_or-map (λ (n : Note). n.left) s.notes.items leaf no_note 0 leaf-noted
@@ -69,7 +76,8 @@ module _ (rule : RuleKind) (s : Search) (t : Tree) (c : List Node) (leaf : ℕ) 
   pub left-few : (note_at s.notes.items leaf).left ≤ 60
   left-few =
       let low = left-low (game_of rule s t) at-leaf.searching.tree.linked at-leaf.searching.game leaf at-leaf.in_tree in
-      let root : left_at (game_of rule s t).left 0 ≡ (note_at s.notes.items 0).left = get_or-map (λ (n : Note). n.left) s.notes.items 0 no_note 0 (let l = leaf-noted in omega (arith, l)) in
+      let root : left_at (game_of rule s t).left 0 ≡ (note_at s.notes.items 0).left =
+      get_or-map (λ (n : Note). n.left) s.notes.items 0 no_note 0 (let l = leaf-noted in omega (arith, l)) in
       omega (arith, low, root, at-leaf.searching.depth, at-leaf.searching.depth_fits, left-noted)
 
   -- at an attacker's leaf
@@ -81,36 +89,49 @@ module _ (rule : RuleKind) (s : Search) (t : Tree) (c : List Node) (leaf : ℕ) 
     attack-moves = subst (λ (n : ℕ). 2 ≤ n) left-noted (grows-with Attack attack).1
 
     -- a win is known of the board of the view, and it is settled as won
-    module _ (u : Tree) (st : IsSettledAt t u leaf true) (v : Search) (more : List Node) (rest : v ≡ record s { board = v.board; notes = v.notes; settled = v.settled; attacked = v.attacked }) (same_board : v.board ≡ s.board)
-        (d : List Node) (grown : d ≡ c ++ more) (compiled : IsCompiled d) (win : WrittenWin) (items : v.notes.items ≡ noted_won s.notes.items leaf win)
-        (noted : IsNotedWin rule (note_at s.notes.items leaf).left view d win) (grows : s.attacked ≤ v.attacked) (fits : v.attacked ≤ s.budget) (behind : v.attacked + 1 ≤ s.attacked + threat_tree rule (note_at s.notes.items leaf).left view)
+    module _ (u : Tree) (st : IsSettledAt t u leaf true) (v : Search) (more : List Node)
+        (rest : v ≡ record s { board = v.board; notes = v.notes; settled = v.settled; attacked = v.attacked })
+        (same_board : v.board ≡ s.board)
+        (d : List Node) (grown : d ≡ c ++ more) (compiled : IsCompiled d) (win : WrittenWin)
+        (items : v.notes.items ≡ noted_won s.notes.items leaf win)
+        (noted : IsNotedWin rule (note_at s.notes.items leaf).left view d win) (grows : s.attacked ≤ v.attacked)
+        (fits : v.attacked ≤ s.budget) (behind : v.attacked + 1 ≤ s.attacked + threat_tree rule (note_at s.notes.items leaf).left view)
         (short : s.attacked + length more ≤ v.attacked + 1) (table : IsTrueMemo rule c v.settled) where
       pub won-step : Grows rule s v t u d leaf
       unfolding Grows
       won-step =
           let w : IsNotedWin rule (left_at (game_of rule s t).left leaf) (board_at (game_of rule s t) leaf) (c ++ more) win =
           subst (λ (x : List Node). IsNotedWin rule (left_at (game_of rule s t).left leaf) (board_at (game_of rule s t) leaf) x win) grown
-          (subst (λ (n : ℕ). IsNotedWin rule n (board_at (game_of rule s t) leaf) d win) (sym left-noted) (subst (λ (b : Grid). IsNotedWin rule (note_at s.notes.items leaf).left b d win) at-leaf.view_is noted)) in
-          let tree_is : threat_tree rule (note_at s.notes.items leaf).left view ≡ threat_tree rule (left_at (game_of rule s t).left leaf) (board_at (game_of rule s t) leaf) =
-          ap (λ (n : ℕ). threat_tree rule n view) (sym left-noted) ∙ ap (threat_tree rule (left_at (game_of rule s t).left leaf)) at-leaf.view_is in
+          (subst (λ (n : ℕ). IsNotedWin rule n (board_at (game_of rule s t) leaf) d win) (sym left-noted)
+          (subst (λ (b : Grid). IsNotedWin rule (note_at s.notes.items leaf).left b d win) at-leaf.view_is noted)) in
+          let tree_is : threat_tree rule (note_at s.notes.items leaf).left view ≡ threat_tree rule (left_at (game_of rule s t).left leaf)
+          (board_at (game_of rule s t) leaf) =
+          ap (λ (n : ℕ). threat_tree rule n view) (sym left-noted)
+          ∙ ap (threat_tree rule (left_at (game_of rule s t).left leaf)) at-leaf.view_is in
           subst (λ (x : List Node). HasGrown rule s v t u x leaf) (sym grown)
           (won-grown rule s t c leaf view at-leaf attack u st v more rest same_board (subst IsCompiled grown compiled)
-          (memo-grown rule c more v.settled (IsTable-lower c at-leaf.searching.compiled.table) table) win items (win-some rule (left_at (game_of rule s t).left leaf) (board_at (game_of rule s t) leaf) (c ++ more) win w.0) w.0 w.1
+          (memo-grown rule c more v.settled (IsTable-lower c at-leaf.searching.compiled.table) table) win items
+          (win-some rule (left_at (game_of rule s t).left leaf) (board_at (game_of rule s t) leaf) (c ++ more) win w.0) w.0 w.1
           grows fits (omega (arith, behind, tree_is)) short)
 
     -- none is known to be there
-    module _ (u : Tree) (st : IsSettledAt t u leaf false) (v : Search) (rest : v ≡ record s { board = v.board; settled = v.settled }) (same_board : v.board ≡ s.board) (table : IsTrueMemo rule c v.settled)
+    module _ (u : Tree) (st : IsSettledAt t u leaf false) (v : Search) (rest : v ≡ record s { board = v.board; settled = v.settled })
+        (same_board : v.board ≡ s.board) (table : IsTrueMemo rule c v.settled)
         (none : WinsByThreats rule (note_at s.notes.items leaf).left view → ⊥) where
       pub lost-step : Grows rule s v t u c leaf
       unfolding Grows
       lost-step = lost-grown rule s t c leaf view at-leaf u st v rest same_board table (λ wins.
-          let win : WinsByThreats rule (left_at (game_of rule s t).left leaf) (board_at (game_of rule s t) leaf) = subst (λ (q : Kind). WinsAt q rule (left_at (game_of rule s t).left leaf) (board_at (game_of rule s t) leaf)) attack wins in
-          none (subst (λ (n : ℕ). WinsByThreats rule n view) left-noted (subst (WinsByThreats rule (left_at (game_of rule s t).left leaf)) (sym at-leaf.view_is) win)))
+          let win : WinsByThreats rule (left_at (game_of rule s t).left leaf) (board_at (game_of rule s t) leaf) =
+          subst (λ (q : Kind). WinsAt q rule (left_at (game_of rule s t).left leaf) (board_at (game_of rule s t) leaf)) attack wins in
+          none (subst (λ (n : ℕ). WinsByThreats rule n view) left-noted
+          (subst (WinsByThreats rule (left_at (game_of rule s t).left leaf)) (sym at-leaf.view_is) win)))
 
     -- what is found in the table holds of the view
-    pub leaf-found : (w : Grid) (v : Settled) → w ≡ view → Some v ≡ value_under (packed w, (note_at s.notes.items leaf).left) s.settled → IsTrueOf rule c view (note_at s.notes.items leaf).left v
+    pub leaf-found : (w : Grid) (v : Settled) → w ≡ view → Some v ≡ value_under (packed w, (note_at s.notes.items leaf).left) s.settled
+        → IsTrueOf rule c view (note_at s.notes.items leaf).left v
     leaf-found w v same found =
-        true-found rule (IsTrueOf rule c) view w (note_at s.notes.items leaf).left v s.settled leaf-lawful same at-leaf.searching.remembered found
+        true-found rule (IsTrueOf rule c) view w (note_at s.notes.items leaf).left v s.settled leaf-lawful same at-leaf.searching.remembered
+        found
 
   pub leaf-table : IsTrueMemo rule c s.settled
   leaf-table = at-leaf.searching.remembered
@@ -119,13 +140,15 @@ module _ (rule : RuleKind) (s : Search) (t : Tree) (c : List Node) (leaf : ℕ) 
   leaf-budget = at-leaf.searching.counted.attacked_fits
 
 -- what stays where only the notes and the table changed
-pub rest-of : (s mid v : Search) → mid ≡ record s { settled = mid.settled } → v ≡ record mid { notes = v.notes } → v ≡ record s { board = v.board; notes = v.notes; settled = v.settled; attacked = v.attacked }
+pub rest-of : (s mid v : Search) → mid ≡ record s { settled = mid.settled } → v ≡ record mid { notes = v.notes }
+    → v ≡ record s { board = v.board; notes = v.notes; settled = v.settled; attacked = v.attacked }
 rest-of s mid v first second =
     let e : v ≡ record s { notes = v.notes; settled = mid.settled } = second ∙ ap (λ (w : Search). record w { notes = v.notes }) first in
     e ∙ ap (λ (w : Search). record s { board = w.board; notes = v.notes; settled = w.settled; attacked = w.attacked }) (sym e)
 
 -- a leaf that is settled by the tree, as the leaf of a search
-pub settled-at : (t u : Tree) (leaf : ℕ) (p : Bool) → leaf ≡ most_proving t → u.links ≡ t.links → numbers_at u.numbers (most_proving t) ≡ settled_numbers p → OthersStay t.links (most_proving t) t.numbers u.numbers
+pub settled-at : (t u : Tree) (leaf : ℕ) (p : Bool) → leaf ≡ most_proving t → u.links ≡ t.links
+    → numbers_at u.numbers (most_proving t) ≡ settled_numbers p → OthersStay t.links (most_proving t) t.numbers u.numbers
     → ((kind : Kind) → leaf_sum kind u.links u.numbers ≤ leaf_sum kind t.links t.numbers) → IsTree u → IsSettledAt t u leaf p
 settled-at t u leaf p is links settled others leaves tree = record {
   links = links;
@@ -135,27 +158,35 @@ settled-at t u leaf p is links settled others leaves tree = record {
   tree = tree;
 }
 
-module _ (rule : RuleKind) (s : Search) (t : Tree) (c : List Node) (leaf : ℕ) (view : Grid) (stands : StandsAt rule s t c leaf view) (attack : (link_at t.links leaf).kind ≡ Attack)
-    (mid : Search) (first : mid ≡ record s { settled = mid.settled }) (key : Packed × ℕ) (looked : mid.settled ≡ looked_up key s.settled) where
+module _ (rule : RuleKind) (s : Search) (t : Tree) (c : List Node) (leaf : ℕ) (view : Grid) (stands : StandsAt rule s t c leaf view)
+    (attack : (link_at t.links leaf).kind ≡ Attack)
+    (mid : Search) (first : mid ≡ record s { settled = mid.settled }) (key : Packed × ℕ)
+    (looked : mid.settled ≡ looked_up key s.settled) where
   table-now : IsTrueMemo rule c mid.settled
   table-now = true-looked rule (IsTrueOf rule c) s.settled mid.settled key (inl looked) (leaf-table rule s t c leaf view stands)
 
   -- what is remembered as won is settled so
-  pub recalled-won : (u : Tree) → IsSettledAt t u leaf true → (v : Search) → v ≡ record mid { notes = v.notes } → (win : WrittenWin) → v.notes.items ≡ noted_won mid.notes.items leaf win
+  pub recalled-won : (u : Tree) → IsSettledAt t u leaf true → (v : Search) → v ≡ record mid { notes = v.notes } → (win : WrittenWin)
+      → v.notes.items ≡ noted_won mid.notes.items leaf win
       → IsNotedWin rule (note_at s.notes.items leaf).left view c win → Grows rule s v t u c leaf
   recalled-won u st v second win items noted =
       let count : v.attacked ≡ s.attacked = ap (λ (w : Search). w.attacked) second ∙ ap (λ (w : Search). w.attacked) first in
       let board : v.board ≡ s.board = ap (λ (w : Search). w.board) second ∙ ap (λ (w : Search). w.board) first in
       let fits = leaf-budget rule s t c leaf view stands in
       let positive = tree-positive rule (note_at s.notes.items leaf).left view in
-      won-step rule s t c leaf view stands attack u st v [] (rest-of s mid v first second) board c (sym (append-nil c)) (leaf-compiled rule s t c leaf view stands) win
-      (items ∙ ap (λ (w : Search). noted_won w.notes.items leaf win) first) noted (omega (arith, count)) (omega (arith, count, fits)) (omega (arith, count, positive)) (omega (arith, count))
+      won-step rule s t c leaf view stands attack u st v [] (rest-of s mid v first second) board c (sym (append-nil c))
+      (leaf-compiled rule s t c leaf view stands) win
+      (items ∙ ap (λ (w : Search). noted_won w.notes.items leaf win) first) noted (omega (arith, count)) (omega (arith, count, fits))
+      (omega (arith, count, positive)) (omega (arith, count))
       (subst (IsTrueMemo rule c) (sym (ap (λ (w : Search). w.settled) second)) table-now)
 
   -- and what is remembered as lost
-  pub recalled-lost : (u : Tree) → IsSettledAt t u leaf false → (WinsByThreats rule (note_at s.notes.items leaf).left view → ⊥) → Grows rule s mid t u c leaf
+  pub recalled-lost : (u : Tree) → IsSettledAt t u leaf false → (WinsByThreats rule (note_at s.notes.items leaf).left view → ⊥)
+      → Grows rule s mid t u c leaf
   recalled-lost u st none =
-      lost-step rule s t c leaf view stands attack u st mid (first ∙ ap (λ (w : Search). record s { board = w.board; settled = mid.settled }) (sym first)) (ap (λ (w : Search). w.board) first) table-now none
+      lost-step rule s t c leaf view stands attack u st mid
+      (first ∙ ap (λ (w : Search). record s { board = w.board; settled = mid.settled }) (sym first))
+      (ap (λ (w : Search). w.board) first) table-now none
 
   -- the search stands at the leaf as before
   pub recalled-stands : StandsAt rule mid t c leaf view
@@ -186,7 +217,8 @@ module _ (rule : RuleKind) (s : Search) (t : Tree) (c : List Node) (leaf : ℕ) 
 
 -- ---- a step after a look at the table is one from before it
 
-module _ (rule : RuleKind) (s mid v : Search) (t u : Tree) (d : List Node) (leaf : ℕ) (first : mid ≡ record s { settled = mid.settled }) where
+module _ (rule : RuleKind) (s mid v : Search) (t u : Tree) (d : List Node) (leaf : ℕ)
+    (first : mid ≡ record s { settled = mid.settled }) where
   grown-from : HasGrown rule (record s { settled = mid.settled }) v t u d leaf → HasGrown rule s v t u d leaf
   grown-from h = record {
     searching = h.searching;
@@ -201,7 +233,8 @@ module _ (rule : RuleKind) (s mid v : Search) (t u : Tree) (d : List Node) (leaf
   keeps-from : KeepsTree (record s { settled = mid.settled }) v → KeepsTree s v
   keeps-from h = record { rest = h.rest; places = h.places }
 
-  pub step-from : (r : Result Step SearchError) → OnStep r (Grows rule mid v t u d leaf) (HasSpent rule mid v t u) (HasStayed mid v t u) → OnStep r (Grows rule s v t u d leaf) (HasSpent rule s v t u) (HasStayed s v t u)
+  pub step-from : (r : Result Step SearchError) → OnStep r (Grows rule mid v t u d leaf) (HasSpent rule mid v t u) (HasStayed mid v t u)
+      → OnStep r (Grows rule s v t u d leaf) (HasSpent rule s v t u) (HasStayed s v t u)
   unfolding Grows
   step-from (Ok Done) h = grown-from (subst (λ (w : Search). HasGrown rule w v t u d leaf) first h)
   step-from (Ok Spent) h =
@@ -221,12 +254,15 @@ module _ (rule : RuleKind) (s : Search) (t : Tree) (c : List Node) (leaf : ℕ) 
 
   -- the same on the board of the search, whatever the place that it stands in
   pub board-stands : (b : Grid) → b ≡ s.board → StandsAt rule (record s { board = b }) t c leaf b
-  board-stands b e = subst (λ (w : Grid). StandsAt rule (record s { board = w }) t c leaf w) (sym e) (subst (StandsAt rule s t c leaf) (sym (leaf-board rule s t c leaf view stands)) stands)
+  board-stands b e = subst (λ (w : Grid). StandsAt rule (record s { board = w }) t c leaf w) (sym e)
+      (subst (StandsAt rule s t c leaf) (sym (leaf-board rule s t c leaf view stands)) stands)
 
   module _ (attack : (link_at t.links leaf).kind ≡ Attack) where
-    own-behind : behind_at attacks_behind (game_of rule s t) leaf ≡ attacks_behind (link_at t.links leaf).kind rule (left_at (game_of rule s t).left leaf) (board_at (game_of rule s t) leaf)
+    own-behind : behind_at attacks_behind (game_of rule s t) leaf ≡ attacks_behind (link_at t.links leaf).kind rule
+        (left_at (game_of rule s t).left leaf) (board_at (game_of rule s t) leaf)
     own-behind =
-        let f : ℕ = attacks_behind (link_at t.links leaf).kind rule (left_at (game_of rule s t).left leaf) (board_at (game_of rule s t) leaf) in
+        let f : ℕ = attacks_behind (link_at t.links leaf).kind rule (left_at (game_of rule s t).left leaf)
+        (board_at (game_of rule s t) leaf) in
         ap (λ r. cond (r && not (is_settled (numbers_at t.numbers leaf))) f 0) (eq-eqb (link_at t.links leaf).count 0 here.childless)
         ∙ ap (λ r. cond (not r) f 0) here.leaf_open
 
@@ -234,14 +270,19 @@ module _ (rule : RuleKind) (s : Search) (t : Tree) (c : List Node) (leaf : ℕ) 
     pub behind-fits : s.attacked + threat_tree rule (note_at s.notes.items leaf).left view ≤ 1 + threat_tree rule s.depth s.root
     behind-fits =
         let g : GameTree = game_of rule s t in
-        let own : behind_at attacks_behind g leaf ≡ threat_tree rule (left_at g.left leaf) (board_at g leaf) - 1 = own-behind ∙ ap (λ (k : Kind). attacks_behind k rule (left_at g.left leaf) (board_at g leaf)) attack in
+        let own : behind_at attacks_behind g leaf ≡ threat_tree rule (left_at g.left leaf) (board_at g leaf) - 1 =
+        own-behind ∙ ap (λ (k : Kind). attacks_behind k rule (left_at g.left leaf) (board_at g leaf)) attack in
         let none = sum-zeros (length t.links) in
-        let low = sum-less (length t.links) (λ i. 0) (behind_at attacks_behind g) leaf (threat_tree rule (left_at g.left leaf) (board_at g leaf) - 1) here.in_tree (λ j l other. omega arith) (omega (arith, own)) in
-        let left_is : left_at g.left leaf ≡ (note_at s.notes.items leaf).left = get_or-map (λ (n : Note). n.left) s.notes.items leaf no_note 0 (leaf-noted rule s t c leaf view stands) in
+        let low = sum-less (length t.links) (λ i. 0) (behind_at attacks_behind g) leaf
+        (threat_tree rule (left_at g.left leaf) (board_at g leaf) - 1) here.in_tree (λ j l other. omega arith) (omega (arith, own)) in
+        let left_is : left_at g.left leaf ≡ (note_at s.notes.items leaf).left =
+        get_or-map (λ (n : Note). n.left) s.notes.items leaf no_note 0 (leaf-noted rule s t c leaf view stands) in
         let tree_is : threat_tree rule (note_at s.notes.items leaf).left view ≡ threat_tree rule (left_at g.left leaf) (board_at g leaf) =
         ap (λ (n : ℕ). threat_tree rule n view) (sym left_is) ∙ ap (threat_tree rule (left_at g.left leaf)) here.view_is in
-        let first : left_at g.left 0 ≡ s.depth = get_or-map (λ (n : Note). n.left) s.notes.items 0 no_note 0 (let l = leaf-noted rule s t c leaf view stands in omega (arith, l)) ∙ here.searching.depth in
-        let root_is : threat_tree rule (left_at g.left 0) s.root ≡ threat_tree rule s.depth s.root = ap (λ (n : ℕ). threat_tree rule n s.root) first in
+        let first : left_at g.left 0 ≡ s.depth = get_or-map (λ (n : Note). n.left) s.notes.items 0 no_note 0
+        (let l = leaf-noted rule s t c leaf view stands in omega (arith, l)) ∙ here.searching.depth in
+        let root_is : threat_tree rule (left_at g.left 0) s.root ≡ threat_tree rule s.depth s.root =
+        ap (λ (n : ℕ). threat_tree rule n s.root) first in
         omega (arith, none, low, tree_is, root_is, here.searching.counted.attacks)
 
     -- a node for the leaf is not in the compiler yet
@@ -249,24 +290,33 @@ module _ (rule : RuleKind) (s : Search) (t : Tree) (c : List Node) (leaf : ℕ) 
     node-fits =
         let one : unwritten t s.notes.items leaf ≡ 1 =
         ap (λ (k : Kind). one_where (is_attack k && nat_eq (note_at s.notes.items leaf).moves 0)) attack
-        ∙ ap (λ r. one_where r) (eq-eqb (note_at s.notes.items leaf).moves 0 (here.searching.written.fresh leaf here.in_tree here.childless here.leaf_open)) in
-        let low = sum-less (length t.links) (λ i. 0) (unwritten t s.notes.items) leaf 1 here.in_tree (λ j l other. omega arith) (omega (arith, one)) in
+        ∙ ap (λ r. one_where r) (eq-eqb (note_at s.notes.items leaf).moves 0
+        (here.searching.written.fresh leaf here.in_tree here.childless here.leaf_open)) in
+        let low = sum-less (length t.links) (λ i. 0) (unwritten t s.notes.items) leaf 1 here.in_tree (λ j l other. omega arith)
+        (omega (arith, one)) in
         omega (arith, sum-zeros (length t.links), low, here.searching.few)
 
-    pub double-fits : (d : Double) → IsDoubleWin rule view d → 1 + answer_nodes rule view d ≤ threat_tree rule (note_at s.notes.items leaf).left view
-    double-fits d wins = counted-within rule view d (leaf-lawful rule s t c leaf view stands) wins (attack-no_five rule s t c leaf view stands attack) (note_at s.notes.items leaf).left (attack-moves rule s t c leaf view stands attack)
+    pub double-fits : (d : Double) → IsDoubleWin rule view d
+        → 1 + answer_nodes rule view d ≤ threat_tree rule (note_at s.notes.items leaf).left view
+    double-fits d wins = counted-within rule view d (leaf-lawful rule s t c leaf view stands) wins
+        (attack-no_five rule s t c leaf view stands attack) (note_at s.notes.items leaf).left
+        (attack-moves rule s t c leaf view stands attack)
 
     -- where the budget does not reach, the game has more positions
-    pub spent-there : (added : ℕ) → s.budget < s.attacked + added → 1 + added ≤ threat_tree rule (note_at s.notes.items leaf).left view → HasSpent rule s s t t
+    pub spent-there : (added : ℕ) → s.budget < s.attacked + added → 1 + added ≤ threat_tree rule (note_at s.notes.items leaf).left view
+        → HasSpent rule s s t t
     spent-there added over few = record { spent = (let a = behind-fits in omega (arith, a, over, few)); same = refl; keeps = keeps-all s }
 
     -- where the compiler is full, more positions are counted than it has room for
-    pub full-there : (added : ℕ) → s.attacked + added ≤ s.budget → 1 + added ≤ threat_tree rule (note_at s.notes.items leaf).left view → MAX_NODES < length c + 1 + added
+    pub full-there : (added : ℕ) → s.attacked + added ≤ s.budget → 1 + added ≤ threat_tree rule (note_at s.notes.items leaf).left view
+        → MAX_NODES < length c + 1 + added
         → (MAX_NODES < s.before + s.budget) × (MAX_NODES < s.before + threat_tree rule s.depth s.root)
-    full-there added fits few over = let a = behind-fits in let b = node-fits in (omega (arith, b, fits, over), omega (arith, a, b, few, over))
+    full-there added fits few over = let a = behind-fits in let b =
+        node-fits in (omega (arith, b, fits, over), omega (arith, a, b, few, over))
 
     -- the same where the refusal is that of a win by a double point
-    pub double-full : {E : Type 0} (w : Grid) (d : Double) (nodes : ℕ) → w ≡ view → nodes ≡ answer_nodes rule view d → IsDoubleWin rule view d → s.attacked + nodes ≤ s.budget → (E → MAX_NODES < length c + (1 + answer_nodes rule w d))
+    pub double-full : {E : Type 0} (w : Grid) (d : Double) (nodes : ℕ) → w ≡ view → nodes ≡ answer_nodes rule view d
+        → IsDoubleWin rule view d → s.attacked + nodes ≤ s.budget → (E → MAX_NODES < length c + (1 + answer_nodes rule w d))
         → E → (MAX_NODES < s.before + s.budget) × (MAX_NODES < s.before + threat_tree rule s.depth s.root)
     double-full w d nodes same are wins fits refused e =
         let few = double-fits d wins in
@@ -275,7 +325,8 @@ module _ (rule : RuleKind) (s : Search) (t : Tree) (c : List Node) (leaf : ℕ) 
         full-there nodes fits (omega (arith, few, are)) (omega (arith, over, moved, are))
 
     -- and where it is that of a last move
-    pub last-full : {E : Type 0} → (E → MAX_NODES < length c + 1) → E → (MAX_NODES < s.before + s.budget) × (MAX_NODES < s.before + threat_tree rule s.depth s.root)
+    pub last-full : {E : Type 0} → (E → MAX_NODES < length c + 1) → E
+        → (MAX_NODES < s.before + s.budget) × (MAX_NODES < s.before + threat_tree rule s.depth s.root)
     last-full refused e =
         let over = refused e in
         let fits = here.searching.counted.attacked_fits in
@@ -286,8 +337,10 @@ module _ (rule : RuleKind) (s : Search) (t : Tree) (c : List Node) (leaf : ℕ) 
     win-few d win is = let a = left-few rule s t c leaf view stands in let b = is.written.within in omega (arith, a, b)
 
     -- the leaf is settled by a win that is compiled, and so many more positions are counted
-    module _ (added : ℕ) (fits : s.attacked + added ≤ s.budget) (few : 1 + added ≤ threat_tree rule (note_at s.notes.items leaf).left view) (u : Tree) (st : IsSettledAt t u leaf true) (v : Search)
-        (rest : v ≡ record s { notes = v.notes; attacked = s.attacked + added }) (d : List Node) (grown : GrowsBy c d (1 + added)) (compiled : IsCompiled d) (win : WrittenWin) (items : v.notes.items ≡ noted_won s.notes.items leaf win)
+    module _ (added : ℕ) (fits : s.attacked + added ≤ s.budget) (few : 1 + added ≤ threat_tree rule (note_at s.notes.items leaf).left view)
+        (u : Tree) (st : IsSettledAt t u leaf true) (v : Search)
+        (rest : v ≡ record s { notes = v.notes; attacked = s.attacked + added }) (d : List Node) (grown : GrowsBy c d (1 + added))
+        (compiled : IsCompiled d) (win : WrittenWin) (items : v.notes.items ≡ noted_won s.notes.items leaf win)
         (is : IsThreatWin rule (note_at s.notes.items leaf).left view d win) where
       pub counted-step : Grows rule s v t u d leaf
       counted-step =

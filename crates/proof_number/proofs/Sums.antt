@@ -1,5 +1,6 @@
 -- Sums over the first numbers: how they change where one term does, or where terms are added.
-use Rattle.std.proofs.Common.{◌≡◌, ◌≢◌, ◌⊎◌, inl, inr, ℕ, zero, suc, ◌+◌, ◌<◌, ◌≤◌, refl, sym, ap, subst, ◌∙◌, zero-add, arith, List, [], ◌∷◌, length, get_or, sum_by}
+use Rattle.std.proofs.Common.{◌≡◌, ◌≢◌, ◌⊎◌, inl, inr, ℕ, zero, suc, ◌+◌, ◌<◌, ◌≤◌, refl, sym, ap, subst, ◌∙◌, zero-add, arith, List, []}
+use Rattle.std.proofs.Common.{◌∷◌, length, get_or, sum_by}
 use Rattle.std.proofs.lemmas.List.Sums.{sum_by-cons}
 use Rattle.std.proofs.lemmas.Bool.{cases_eq}
 use Rattle.proof_number.specs.Searches.{sum_below}
@@ -21,7 +22,8 @@ sum-le (suc n) f g h =
     omega (arith, sum-suc n f, sum-suc n g, rest, here)
 
 -- the same, and one term is less by d or more
-pub sum-less : (n : ℕ) (f g : ℕ → ℕ) (i d : ℕ) → i < n → ((j : ℕ) → j < n → j ≢ i → f j ≤ g j) → f i + d ≤ g i → sum_below n f + d ≤ sum_below n g
+pub sum-less : (n : ℕ) (f g : ℕ → ℕ) (i d : ℕ) → i < n → ((j : ℕ) → j < n → j ≢ i → f j ≤ g j) → f i + d ≤ g i
+    → sum_below n f + d ≤ sum_below n g
 sum-less zero f g i d inside h less = absurd (omega arith)
 sum-less (suc n) f g i d inside h less = by_last (cases_eq n i) (λ low. sum-less n f g i d low (λ j l ne. h j (omega arith) ne) less) where
   by_last : (n ≡ i) ⊎ (n ≡ i → ⊥) → (i < n → sum_below n f + d ≤ sum_below n g) → sum_below (suc n) f + d ≤ sum_below (suc n) g
@@ -36,7 +38,8 @@ sum-less (suc n) f g i d inside h less = by_last (cases_eq n i) (λ low. sum-les
 
 -- further terms
 pub sum-more : (n k : ℕ) (f : ℕ → ℕ) → sum_below (n + k) f ≡ sum_below n f + sum_below k (λ j. f (n + j))
-sum-more n zero f = let a = sum-zero (λ j. f (n + j)) in let e : n + 0 ≡ n = omega arith in ap (λ (m : ℕ). sum_below m f) e ∙ omega (arith, a)
+sum-more n zero f = let a = sum-zero (λ j. f (n + j)) in let e : n + 0 ≡ n =
+    omega arith in ap (λ (m : ℕ). sum_below m f) e ∙ omega (arith, a)
 sum-more n (suc k) f =
     let a = sum-suc (n + k) f in
     let b = sum-suc k (λ j. f (n + j)) in
@@ -50,9 +53,11 @@ sum-list h d [] = sum-zero (λ j. h (get_or [] j d))
 sum-list h d (x ∷ xs) =
     let F : ℕ → ℕ = λ j. h (get_or (x ∷ xs) j d) in
     let e : suc (length xs) ≡ 1 + length xs = omega arith in
-    let same : sum_below (length xs) (λ j. F (1 + j)) ≡ sum_below (length xs) (λ j. h (get_or xs j d)) = ap (sum_below (length xs)) (λ i j. F (one_more j i)) in
+    let same : sum_below (length xs) (λ j. F (1 + j)) ≡ sum_below (length xs) (λ j. h (get_or xs j d)) =
+    ap (sum_below (length xs)) (λ i j. F (one_more j i)) in
     let first : sum_below 1 F ≡ h x = sum-suc 0 F ∙ ap (λ (m : ℕ). m + h x) (sum-zero F) ∙ zero-add (h x) in
-    ap (λ (m : ℕ). sum_below m F) e ∙ sum-more 1 (length xs) F ∙ ap (λ (m : ℕ). sum_below 1 F + m) (same ∙ sum-list h d xs) ∙ ap (λ (m : ℕ). m + sum_by h xs) first ∙ sym (sum_by-cons h x xs) where
+    ap (λ (m : ℕ). sum_below m F) e ∙ sum-more 1 (length xs) F ∙ ap (λ (m : ℕ). sum_below 1 F + m) (same ∙ sum-list h d xs)
+    ∙ ap (λ (m : ℕ). m + sum_by h xs) first ∙ sym (sum_by-cons h x xs) where
       one_more : (j : ℕ) → 1 + j ≡ suc j
       one_more j = omega arith
 

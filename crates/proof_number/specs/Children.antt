@@ -40,15 +40,19 @@ child_at children k = slice_index_or children k no_child
 
 -- The numbers and the note of a child of c with so many moves left: it is proved, with a win that is written, or open, as is judged
 -- of it. Its win is written after each other reply too for which it stands.
-pub record IsSettledChild (rule : RuleKind) (left : ℕ) (c : Grid) (t : List Node) (child : Child) (numbers : Numbers) (note : Note) : Type 0 where
+pub record IsSettledChild (rule : RuleKind) (left : ℕ) (c : Grid) (t : List Node) (child : Child) (numbers : Numbers) (note : Note) :
+    Type 0 where
   pub at : note.at ≡ child.at
   pub left_is : note.left ≡ left
-  pub proved : is_open child.judged ≡ false → (numbers ≡ settled_numbers true) × (0 < note.moves) × IsNotedWin rule left (after c child.at) t (win_of note)
+  pub proved : is_open child.judged ≡ false → (numbers ≡ settled_numbers true) × (0 < note.moves)
+      × IsNotedWin rule left (after c child.at) t (win_of note)
   pub unproved : is_open child.judged ≡ true → (numbers ≡ open_numbers) × (note.moves ≡ 0)
-  pub stands : (met : Child) → stands_for child.judged met.judged ≡ true → IsChild rule left c met → (0 < note.moves) × IsNotedWin rule left (after c met.at) t (win_of note)
+  pub stands : (met : Child) → stands_for child.judged met.judged ≡ true → IsChild rule left c met
+      → (0 < note.moves) × IsNotedWin rule left (after c met.at) t (win_of note)
 
 -- these are the numbers and notes of the first children, so many of them
-pub record AreSettled (rule : RuleKind) (left : ℕ) (c : Grid) (t : List Node) (children : List Child) (count : ℕ) (numbers : List Numbers) (notes : List Note) : Type 0 where
+pub record AreSettled (rule : RuleKind) (left : ℕ) (c : Grid) (t : List Node) (children : List Child) (count : ℕ) (numbers : List Numbers)
+    (notes : List Note) : Type 0 where
   pub numbers_count : length numbers ≡ count
   pub notes_count : length notes ≡ count
   pub each : (k : ℕ) → k < count → IsSettledChild rule left c t (child_at children k) (numbers_at numbers k) (note_at notes k)

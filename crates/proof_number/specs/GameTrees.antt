@@ -1,6 +1,7 @@
 -- A tree of numbers as a tree of the game of threats: the board of each node, what a node with children has tried, and when its
 -- numbers are true.
-use Rattle.std.specs.Prelude.{◌≡◌, ℕ, zero, suc, ◌<◌, ◌≤◌, Bool, true, false, nat_eq, if◌then◌else◌, List, map, length, take, drop, slice_index_or, Contains}
+use Rattle.std.specs.Prelude.{◌≡◌, ℕ, zero, suc, ◌<◌, ◌≤◌, Bool, true, false, nat_eq, if◌then◌else◌, List, map, length, take, drop}
+use Rattle.std.specs.Prelude.{slice_index_or, Contains}
 use Rattle.std.specs.List.{list_any}
 use Rattle.game_rules.specs.Grid.{Grid}
 use Rattle.game_rules.specs.Shapes.{is_same_point}
@@ -106,8 +107,10 @@ pub record IsGameTree (g : GameTree) : Type 0 where
   pub moves : length g.moves ≡ length g.tree.links
   pub left : length g.left ≡ length g.tree.links
   pub lawful : IsPosition g.rule g.start
-  pub on : (j : ℕ) → 0 < j → j < length g.tree.links → outcome g.rule (board_at g (link_at g.tree.links j).parent) (move_at g.moves j) ≡ GoesOn
-  pub fewer : (j : ℕ) → 0 < j → j < length g.tree.links → left_before (link_at g.tree.links j).kind (left_at g.left j) ≡ left_at g.left (link_at g.tree.links j).parent
+  pub on : (j : ℕ) → 0 < j → j < length g.tree.links
+      → outcome g.rule (board_at g (link_at g.tree.links j).parent) (move_at g.moves j) ≡ GoesOn
+  pub fewer : (j : ℕ) → 0 < j → j < length g.tree.links
+      → left_before (link_at g.tree.links j).kind (left_at g.left j) ≡ left_at g.left (link_at g.tree.links j).parent
   pub inner : (i : ℕ) → i < length g.tree.links → 0 < (link_at g.tree.links i).count
       → HasTried (link_at g.tree.links i).kind g.rule (left_at g.left i) (board_at g i) (moves_of (link_at g.tree.links i) g.moves)
   pub open_leaf : (i : ℕ) → i < length g.tree.links → (link_at g.tree.links i).count ≡ 0 → is_settled (numbers_at g.tree.numbers i) ≡ false

@@ -1,5 +1,6 @@
 -- What holds of a search between its steps: its tree stands for the game, won positions are written, and positions are counted.
-use Rattle.std.specs.Prelude.{◌≡◌, Result, Ok, Err, slice_set, ℕ, zero, suc, ◌+◌, ◌-◌, ◌<◌, ◌≤◌, Bool, true, false, ◌&&◌, not, nat_eq, if◌then◌else◌, List, [], ◌++◌, length}
+use Rattle.std.specs.Prelude.{◌≡◌, Result, Ok, Err, slice_set, ℕ, zero, suc, ◌+◌, ◌-◌, ◌<◌, ◌≤◌, Bool, true, false, ◌&&◌, not, nat_eq}
+use Rattle.std.specs.Prelude.{if◌then◌else◌, List, [], ◌++◌, length}
 use Rattle.game_rules.specs.Grid.{Grid}
 use Rattle.game_rules.specs.Games.{WinsByThreats, behind_replies}
 use Rattle.game_rules.specs.Play.{after, outcome}
@@ -47,17 +48,23 @@ pub record IsMet (g : GameTree) (notes : List Note) (c : List Node) (i : ℕ) (q
   pub some : 0 < (note_at notes (link_at g.tree.links i).first).moves
   pub win : IsNotedWin g.rule (left_at g.left i) (after (board_at g i) q) c (win_of (note_at notes (link_at g.tree.links i).first))
 
--- Notes tell wins by threats that are written at the boards of their nodes. Each proved node of the attacker has one, but for those for which
--- way holds and that are no leaves. Open leaves have none, and no leaf of the defender is proved. A reply that has no node is met by the win
--- of the first that has one.
+-- Notes tell wins by threats that are written at the boards of their nodes. Each proved node of the attacker has one, but for those for
+-- which way holds and that are no leaves. Open leaves have none, and no leaf of the defender is proved. A reply that has no node is met by
+-- the win of the first that has one.
 pub record AreWritten (g : GameTree) (notes : List Note) (c : List Node) (way : ℕ → Type 0) : Type 0 where
-  pub true_wins : (i : ℕ) → i < length g.tree.links → 0 < (note_at notes i).moves → IsNotedWin g.rule (left_at g.left i) (board_at g i) c (win_of (note_at notes i))
-  pub fresh : (i : ℕ) → i < length g.tree.links → (link_at g.tree.links i).count ≡ 0 → is_settled (numbers_at g.tree.numbers i) ≡ false → (note_at notes i).moves ≡ 0
-  pub leaves : (i : ℕ) → i < length g.tree.links → (link_at g.tree.links i).count ≡ 0 → (link_at g.tree.links i).kind ≡ Attack → numbers_at g.tree.numbers i ≡ settled_numbers true → 0 < (note_at notes i).moves
-  pub defends : (i : ℕ) → i < length g.tree.links → (link_at g.tree.links i).count ≡ 0 → (link_at g.tree.links i).kind ≡ Defend → numbers_at g.tree.numbers i ≡ settled_numbers true → ⊥
-  pub all : (i : ℕ) → i < length g.tree.links → (link_at g.tree.links i).kind ≡ Attack → numbers_at g.tree.numbers i ≡ settled_numbers true → ¬ way i → 0 < (note_at notes i).moves
+  pub true_wins : (i : ℕ) → i < length g.tree.links → 0 < (note_at notes i).moves
+      → IsNotedWin g.rule (left_at g.left i) (board_at g i) c (win_of (note_at notes i))
+  pub fresh : (i : ℕ) → i < length g.tree.links → (link_at g.tree.links i).count ≡ 0 → is_settled (numbers_at g.tree.numbers i) ≡ false
+      → (note_at notes i).moves ≡ 0
+  pub leaves : (i : ℕ) → i < length g.tree.links → (link_at g.tree.links i).count ≡ 0 → (link_at g.tree.links i).kind ≡ Attack
+      → numbers_at g.tree.numbers i ≡ settled_numbers true → 0 < (note_at notes i).moves
+  pub defends : (i : ℕ) → i < length g.tree.links → (link_at g.tree.links i).count ≡ 0 → (link_at g.tree.links i).kind ≡ Defend
+      → numbers_at g.tree.numbers i ≡ settled_numbers true → ⊥
+  pub all : (i : ℕ) → i < length g.tree.links → (link_at g.tree.links i).kind ≡ Attack → numbers_at g.tree.numbers i ≡ settled_numbers true
+      → ¬ way i → 0 < (note_at notes i).moves
   pub met : (i : ℕ) → i < length g.tree.links → (link_at g.tree.links i).kind ≡ Defend → 0 < (link_at g.tree.links i).count
-      → (q : Point) → outcome g.rule (board_at g i) q ≡ GoesOn → among (moves_of (link_at g.tree.links i) g.moves) q ≡ false → IsMet g notes c i q
+      → (q : Point) → outcome g.rule (board_at g i) q ≡ GoesOn → among (moves_of (link_at g.tree.links i) g.moves) q ≡ false
+      → IsMet g notes c i q
 
 -- the sum of f at the first n numbers
 unfoldable pub sum_below : ℕ → (ℕ → ℕ) → ℕ

@@ -1,14 +1,19 @@
 -- What becomes of a tree when its leaf is settled or given children.
-use Rattle.std.proofs.Common.{◌≡◌, ◌≢◌, ℕ, zero, suc, ◌+◌, ◌-◌, ◌<◌, ◌≤◌, List, ◌++◌, length, take, drop, set, replicate, get_or, true, inl, inr, refl, sym, ◌∙◌, ap, subst, arith, All}
+use Rattle.std.proofs.Common.{◌≡◌, ◌≢◌, ℕ, zero, suc, ◌+◌, ◌-◌, ◌<◌, ◌≤◌, List, ◌++◌, length, take, drop, set, replicate, get_or, true, inl}
+use Rattle.std.proofs.Common.{inr, refl, sym, ◌∙◌, ap, subst, arith, All}
 use Rattle.std.proofs.lemmas.Bool.{cases_eq, cases_lt}
-use Rattle.std.proofs.lemmas.List.{drop-append-le, get_or-append_right, get_or-replicate, get_or-set_other, get_or-set_same, get_or_append_left, length-append, length-drop, length-replicate, length-set, set-append_left, take-append-le}
+use Rattle.std.proofs.lemmas.List.{drop-append-le, get_or-append_right, get_or-replicate, get_or-set_other, get_or-set_same}
+use Rattle.std.proofs.lemmas.List.{get_or_append_left, length-append, length-drop, length-replicate, length-set, set-append_left}
+use Rattle.std.proofs.lemmas.List.{take-append-le}
 use Rattle.std.proofs.Math.Seq.{take-append_seam}
 use Rattle.proof_tree.specs.declared.TheConstants.{INFINITE}
 use Rattle.proof_tree.specs.declared.Kind.{Kind}
 use Rattle.proof_tree.specs.declared.Kind.TheVariants.{Attack, Defend}
 use Rattle.proof_tree.specs.declared.Numbers.{Numbers}
 use Rattle.proof_tree.specs.declared.Link.{Link}
-use Rattle.proof_tree.proofs.Common.{AreNumbers, combined, finite, is_settled, no_numbers, other_kind, sought, IsChild, IsCombinedAt, IsLinked, IsNumbered, IsOnWayUp, IsTree, OthersStay, Tree, ancestor, children_of, grown_links, leaf_link, leaf_sum, link_at, most_proving, numbers_at}
+use Rattle.proof_tree.proofs.Common.{AreNumbers, combined, finite, is_settled, no_numbers, other_kind, sought, IsChild, IsCombinedAt}
+use Rattle.proof_tree.proofs.Common.{IsLinked, IsNumbered, IsOnWayUp, IsTree, OthersStay, Tree, ancestor, children_of, grown_links}
+use Rattle.proof_tree.proofs.Common.{leaf_link, leaf_sum, link_at, most_proving, numbers_at}
 use Rattle.proof_tree.proofs.Combined.{finite-infinite, finite-le, settled-pair}
 use Rattle.proof_tree.proofs.LeafSums.{leaf_sum-set}
 use Rattle.proof_tree.proofs.Updated.{IsRightBut, stays-combined, written-each}
@@ -24,25 +29,29 @@ leaf-combined : (links : List Link) (numbers : List Numbers) (i : ℕ) → (link
 leaf-combined links numbers i z b = absurd (omega arith)
 
 -- where the root is a leaf and is settled, all are right
-pub settled-root : (links : List Link) (numbers : List Numbers) (x : Numbers) → IsLinked links → IsNumbered links numbers → (link_at links 0).count ≡ 0 → CountNothing x → IsNumbered links (set numbers 0 x)
+pub settled-root : (links : List Link) (numbers : List Numbers) (x : Numbers) → IsLinked links → IsNumbered links numbers
+    → (link_at links 0).count ≡ 0 → CountNothing x → IsNumbered links (set numbers 0 x)
 settled-root links numbers x w r z s = record {
   count = length-set numbers 0 x ∙ r.count;
   each = written-each links numbers 0 x (omega (arith, r.count, w.some)) s.good r.each;
   combined_at = λ j h. elim (cases_eq j 0) [
-    | inl q ↦ let P : ℕ → Type 0 = λ k. IsCombinedAt links (set numbers 0 x) k in subst P (sym q) (leaf-combined links (set numbers 0 x) 0 z)
+    | inl q ↦ let P : ℕ → Type 0 = λ k. IsCombinedAt links (set numbers 0 x) k in
+        subst P (sym q) (leaf-combined links (set numbers 0 x) 0 z)
     | inr n ↦ λ b. stays-combined links numbers 0 j x n (λ child. omega (arith, w.later j h b, child.from_first)) (r.combined_at j h) b
   ];
   sums = λ kind. omega (arith, r.sums kind, leaf_sum-set kind links numbers 0 x (inr (s.nothing kind)));
 }
 
 -- where another leaf is settled, its parent alone is left
-pub settled-leaf : (links : List Link) (numbers : List Numbers) (i : ℕ) (x : Numbers) → IsLinked links → IsNumbered links numbers → 0 < i → i < length links → (link_at links i).count ≡ 0 → CountNothing x → IsRightBut links (set numbers i x) (link_at links i).parent
+pub settled-leaf : (links : List Link) (numbers : List Numbers) (i : ℕ) (x : Numbers) → IsLinked links → IsNumbered links numbers → 0 < i
+    → i < length links → (link_at links i).count ≡ 0 → CountNothing x → IsRightBut links (set numbers i x) (link_at links i).parent
 settled-leaf links numbers i x w r b h z s = record {
   count = length-set numbers i x ∙ r.count;
   has_children = omega (arith, (w.children i b h).from_first, (w.children i b h).below_end);
   each = written-each links numbers i x (omega (arith, r.count)) s.good r.each;
   combined_at = λ j k other. elim (cases_eq j i) [
-    | inl q ↦ let P : ℕ → Type 0 = λ m. IsCombinedAt links (set numbers i x) m in subst P (sym q) (leaf-combined links (set numbers i x) i z)
+    | inl q ↦ let P : ℕ → Type 0 = λ m. IsCombinedAt links (set numbers i x) m in
+        subst P (sym q) (leaf-combined links (set numbers i x) i z)
     | inr n ↦ stays-combined links numbers i j x n (λ child. other (sym (w.parents j i k child))) (r.combined_at j k)
   ];
   sums = λ kind. omega (arith, r.sums kind, leaf_sum-set kind links numbers i x (inr (s.nothing kind)));
@@ -51,7 +60,12 @@ settled-leaf links numbers i x w r b h z s = record {
 -- the links of a tree whose leaf i is given children
 pub record IsGrown (links : List Link) (i count : ℕ) (new : List Link) : Type 0 where
   pub sized : length new ≡ length links + count
-  pub here : link_at new i ≡ record { kind = (link_at links i).kind; parent = (link_at links i).parent; first = length links; count = count }
+  pub here : link_at new i ≡ record {
+    kind = (link_at links i).kind;
+    parent = (link_at links i).parent;
+    first = length links;
+    count = count;
+  }
   pub others : (j : ℕ) → j < length links → j ≢ i → link_at new j ≡ link_at links j
   pub leaves : (j : ℕ) → length links ≤ j → j < length links + count → link_at new j ≡ leaf_link (other_kind (link_at links i).kind) i
 
@@ -62,18 +76,23 @@ grown links i count h =
     let none : Link = leaf_link Attack 0 in
     record {
       sized = length-append (set links i own) (replicate count child) ∙ omega (arith, length-set links i own, length-replicate count child);
-      here = get_or_append_left (set links i own) (replicate count child) none i (omega (arith, length-set links i own)) ∙ get_or-set_same links i own none h;
-      others = λ j k n. get_or_append_left (set links i own) (replicate count child) none j (omega (arith, length-set links i own)) ∙ get_or-set_other links i j own none n;
-      leaves = λ j from to. get_or-append_right (set links i own) (replicate count child) (length links) j none (length-set links i own) from ∙ get_or-replicate count (j - length links) child none (omega arith);
+      here = get_or_append_left (set links i own) (replicate count child) none i (omega (arith, length-set links i own))
+          ∙ get_or-set_same links i own none h;
+      others = λ j k n. get_or_append_left (set links i own) (replicate count child) none j (omega (arith, length-set links i own))
+          ∙ get_or-set_other links i j own none n;
+      leaves = λ j from to. get_or-append_right (set links i own) (replicate count child) (length links) j none (length-set links i own)
+          from ∙ get_or-replicate count (j - length links) child none (omega arith);
     }
 
-old-parent : (links : List Link) (i count : ℕ) (new : List Link) (j : ℕ) → IsGrown links i count new → j < length links → (link_at new j).parent ≡ (link_at links j).parent
+old-parent : (links : List Link) (i count : ℕ) (new : List Link) (j : ℕ) → IsGrown links i count new → j < length links
+    → (link_at new j).parent ≡ (link_at links j).parent
 old-parent links i count new j g h = elim (cases_eq j i) [
   | inl q ↦ ap (λ k. (link_at new k).parent) q ∙ (ap (λ l. l.parent) g.here ∙ ap (λ k. (link_at links k).parent) (sym q))
   | inr n ↦ ap (λ l. l.parent) (g.others j h n)
 ]
 
-old-kind : (links : List Link) (i count : ℕ) (new : List Link) (j : ℕ) → IsGrown links i count new → j < length links → (link_at new j).kind ≡ (link_at links j).kind
+old-kind : (links : List Link) (i count : ℕ) (new : List Link) (j : ℕ) → IsGrown links i count new → j < length links
+    → (link_at new j).kind ≡ (link_at links j).kind
 old-kind links i count new j g h = elim (cases_eq j i) [
   | inl q ↦ ap (λ k. (link_at new k).kind) q ∙ (ap (λ l. l.kind) g.here ∙ ap (λ k. (link_at links k).kind) (sym q))
   | inr n ↦ ap (λ l. l.kind) (g.others j h n)
@@ -83,11 +102,13 @@ old-kind links i count new j g h = elim (cases_eq j i) [
 data Place (links : List Link) (i count : ℕ) (new : List Link) (j : ℕ) : Type 0 where
   at_leaf : j ≡ i → (link_at new j).first ≡ length links → (link_at new j).count ≡ count → Place links i count new j
   at_other : j < length links → j ≢ i → link_at new j ≡ link_at links j → Place links i count new j
-  at_child : length links ≤ j → (link_at new j).count ≡ 0 → (link_at new j).first ≡ 0 → (link_at new j).parent ≡ i → (link_at new j).kind ≡ other_kind (link_at links i).kind → Place links i count new j
+  at_child : length links ≤ j → (link_at new j).count ≡ 0 → (link_at new j).first ≡ 0 → (link_at new j).parent ≡ i
+      → (link_at new j).kind ≡ other_kind (link_at links i).kind → Place links i count new j
 
 place : (links : List Link) (i count : ℕ) (new : List Link) (j : ℕ) → IsGrown links i count new → j < length new → Place links i count new j
 place links i count new j g h = elim (cases_eq j i) [
-  | inl q ↦ at_leaf q (ap (λ k. (link_at new k).first) q ∙ ap (λ l. l.first) g.here) (ap (λ k. (link_at new k).count) q ∙ ap (λ l. l.count) g.here)
+  | inl q ↦ at_leaf q (ap (λ k. (link_at new k).first) q ∙ ap (λ l. l.first) g.here)
+      (ap (λ k. (link_at new k).count) q ∙ ap (λ l. l.count) g.here)
   | inr n ↦ elim (cases_lt j (length links)) [
     | inl old ↦ at_other old n (g.others j old n)
     | inr from ↦
@@ -96,14 +117,16 @@ place links i count new j g h = elim (cases_eq j i) [
   ]
 ]
 
-later-grown : (links : List Link) (i count : ℕ) (new : List Link) → IsLinked links → i < length links → IsGrown links i count new → (j : ℕ) → j < length new → 0 < (link_at new j).count → j < (link_at new j).first
+later-grown : (links : List Link) (i count : ℕ) (new : List Link) → IsLinked links → i < length links → IsGrown links i count new → (j : ℕ)
+    → j < length new → 0 < (link_at new j).count → j < (link_at new j).first
 later-grown links i count new w h g j k b = elim (place links i count new j g k) [
   | at_leaf q f c ↦ omega (arith, q, f, h)
   | at_other old n l ↦ omega (arith, ap (λ m. m.first) l, w.later j old (omega (arith, ap (λ m. m.count) l, b)))
   | at_child from c f p t ↦ absurd (omega (arith, b, c))
 ]
 
-within-grown : (links : List Link) (i count : ℕ) (new : List Link) → IsLinked links → IsGrown links i count new → (j : ℕ) → j < length new → (link_at new j).first + (link_at new j).count ≤ length new
+within-grown : (links : List Link) (i count : ℕ) (new : List Link) → IsLinked links → IsGrown links i count new → (j : ℕ) → j < length new
+    → (link_at new j).first + (link_at new j).count ≤ length new
 within-grown links i count new w g j k = elim (place links i count new j g k) [
   | at_leaf q f c ↦ omega (arith, f, c, g.sized)
   | at_other old n l ↦ omega (arith, ap (λ m. m.first) l, ap (λ m. m.count) l, w.within j old, g.sized)
@@ -111,7 +134,8 @@ within-grown links i count new w g j k = elim (place links i count new j g k) [
 ]
 
 -- a child of another node of the old tree was its child there
-old-child : (links : List Link) (new : List Link) (j m : ℕ) → link_at new j ≡ link_at links j → IsChild (link_at new j) m → IsChild (link_at links j) m
+old-child : (links : List Link) (new : List Link) (j m : ℕ) → link_at new j ≡ link_at links j → IsChild (link_at new j) m
+    → IsChild (link_at links j) m
 old-child links new j m l child = let P : Link → Type 0 = λ k. IsChild k m in subst P l child
 
 -- the kinds and the parents of a node's children in the grown tree
@@ -119,10 +143,12 @@ record ChildSays (new : List Link) (j m : ℕ) : Type 0 where
   parent : (link_at new m).parent ≡ j
   kind : (link_at new m).kind ≡ other_kind (link_at new j).kind
 
-child-says : (links : List Link) (i count : ℕ) (new : List Link) → IsLinked links → i < length links → IsGrown links i count new → (j m : ℕ) → j < length new → IsChild (link_at new j) m → ChildSays new j m
+child-says : (links : List Link) (i count : ℕ) (new : List Link) → IsLinked links → i < length links → IsGrown links i count new → (j m : ℕ)
+    → j < length new → IsChild (link_at new j) m → ChildSays new j m
 child-says links i count new w h g j m k child = elim (place links i count new j g k) [
   | at_leaf q f c ↦
-      let l : link_at new m ≡ leaf_link (other_kind (link_at links i).kind) i = g.leaves m (omega (arith, f, child.from_first)) (omega (arith, f, c, child.below_end)) in
+      let l : link_at new m ≡ leaf_link (other_kind (link_at links i).kind) i =
+      g.leaves m (omega (arith, f, child.from_first)) (omega (arith, f, c, child.below_end)) in
       record {
         parent = ap (λ v. v.parent) l ∙ sym q;
         kind = ap (λ v. v.kind) l ∙ ap other_kind (sym (ap (λ v. (link_at new v).kind) q ∙ ap (λ v. v.kind) g.here));
@@ -137,7 +163,8 @@ child-says links i count new w h g j m k child = elim (place links i count new j
   | at_child from c f p t ↦ absurd (omega (arith, c, f, child.from_first, child.below_end))
 ]
 
-children-grown : (links : List Link) (i count : ℕ) (new : List Link) → IsLinked links → i < length links → (link_at links i).count ≡ 0 → IsGrown links i count new → (j : ℕ) → 0 < j → j < length new → IsChild (link_at new (link_at new j).parent) j
+children-grown : (links : List Link) (i count : ℕ) (new : List Link) → IsLinked links → i < length links → (link_at links i).count ≡ 0
+    → IsGrown links i count new → (j : ℕ) → 0 < j → j < length new → IsChild (link_at new (link_at new j).parent) j
 children-grown links i count new w h z g j b k = elim (cases_lt j (length links)) [
   | inl old ↦
       let up : ℕ = (link_at links j).parent in
@@ -152,13 +179,15 @@ children-grown links i count new w h z g j b k = elim (cases_lt j (length links)
       subst P (sym (ap (λ v. link_at new v.parent) l ∙ g.here)) (record { from_first = from; below_end = omega (arith, g.sized) })
 ]
 
-first-grown : (links : List Link) (i count : ℕ) (new : List Link) → IsLinked links → i < length links → IsGrown links i count new → (j : ℕ) → 0 < j → j < length new → (link_at new j).parent < j
+first-grown : (links : List Link) (i count : ℕ) (new : List Link) → IsLinked links → i < length links → IsGrown links i count new → (j : ℕ)
+    → 0 < j → j < length new → (link_at new j).parent < j
 first-grown links i count new w h g j b k = elim (cases_lt j (length links)) [
   | inl old ↦ omega (arith, old-parent links i count new j g old, w.parent_first j b old)
   | inr from ↦ omega (arith, ap (λ v. v.parent) (g.leaves j from (omega (arith, g.sized))))
 ]
 
-pub linked-grown : (links : List Link) (i count : ℕ) → IsLinked links → i < length links → (link_at links i).count ≡ 0 → IsLinked (grown_links links i count)
+pub linked-grown : (links : List Link) (i count : ℕ) → IsLinked links → i < length links → (link_at links i).count ≡ 0
+    → IsLinked (grown_links links i count)
 linked-grown links i count w h z =
     let new : List Link = grown_links links i count in
     let g : IsGrown links i count new = grown links i count h in
@@ -175,18 +204,26 @@ linked-grown links i count w h z =
     }
 
 -- the children of an old node stand among the old numbers
-old-children : (link : Link) (numbers more : List Numbers) → link.first + link.count ≤ length numbers → children_of link (numbers ++ more) ≡ children_of link numbers
+old-children : (link : Link) (numbers more : List Numbers) → link.first + link.count ≤ length numbers
+    → children_of link (numbers ++ more) ≡ children_of link numbers
 old-children link numbers more h =
-    ap (take link.count) (drop-append-le link.first numbers more (omega arith)) ∙ take-append-le link.count (drop link.first numbers) more (omega (arith, length-drop link.first numbers))
+    ap (take link.count) (drop-append-le link.first numbers more (omega arith))
+    ∙ take-append-le link.count (drop link.first numbers) more (omega (arith, length-drop link.first numbers))
 
-each-grown : (links : List Link) (numbers more : List Numbers) → length numbers ≡ length links → ((j : ℕ) → j < length links → AreNumbers (numbers_at numbers j)) → All AreNumbers more → (j : ℕ) → j < length links + length more → AreNumbers (numbers_at (numbers ++ more) j)
+each-grown : (links : List Link) (numbers more : List Numbers) → length numbers ≡ length links
+    → ((j : ℕ) → j < length links → AreNumbers (numbers_at numbers j)) → All AreNumbers more → (j : ℕ) → j < length links + length more
+    → AreNumbers (numbers_at (numbers ++ more) j)
 each-grown links numbers more s each good j h = elim (cases_lt j (length links)) [
   | inl old ↦ subst AreNumbers (sym (get_or_append_left numbers more no_numbers j (omega (arith, s)))) (each j old)
-  | inr from ↦ subst AreNumbers (sym (get_or-append_right numbers more (length links) j no_numbers s from)) (good (j - length links) no_numbers (omega arith))
+  | inr from ↦ subst AreNumbers (sym (get_or-append_right numbers more (length links) j no_numbers s from))
+      (good (j - length links) no_numbers (omega arith))
 ]
 
 -- once leaf i has children, its own numbers alone are left
-pub right-grown : (links : List Link) (numbers more : List Numbers) (i : ℕ) → IsLinked links → IsNumbered links numbers → i < length links → (link_at links i).count ≡ 0 → 0 < length more → All AreNumbers more → ((kind : Kind) → leaf_sum kind (grown_links links i (length more)) (numbers ++ more) < INFINITE) → IsRightBut (grown_links links i (length more)) (numbers ++ more) i
+pub right-grown : (links : List Link) (numbers more : List Numbers) (i : ℕ) → IsLinked links → IsNumbered links numbers → i < length links
+    → (link_at links i).count ≡ 0 → 0 < length more → All AreNumbers more
+    → ((kind : Kind) → leaf_sum kind (grown_links links i (length more)) (numbers ++ more) < INFINITE)
+    → IsRightBut (grown_links links i (length more)) (numbers ++ more) i
 right-grown links numbers more i w r h z some good sums =
     let count : ℕ = length more in
     let new : List Link = grown_links links i count in
@@ -200,7 +237,8 @@ right-grown links numbers more i w r h z some good sums =
         | at_other old m l ↦ λ b.
             get_or_append_left numbers more no_numbers j (omega (arith, r.count))
             ∙ (r.combined_at j old (omega (arith, ap (λ v. v.count) l))
-            ∙ (ap (combined (link_at links j).kind) (sym (old-children (link_at links j) numbers more (omega (arith, r.count, w.within j old))))
+            ∙ (ap (combined (link_at links j).kind)
+            (sym (old-children (link_at links j) numbers more (omega (arith, r.count, w.within j old))))
             ∙ ap (λ v. combined v.kind (children_of v (numbers ++ more))) (sym l)))
         | at_child from c f p t ↦ λ b. absurd (omega (arith, b, c))
       ];
@@ -215,8 +253,10 @@ pub settled-nothing : (x : Numbers) → is_settled x ≡ true → CountNothing x
 settled-nothing x h = record { good = inl h; nothing = none }
   where
     none : (kind : Kind) → finite (sought kind x) ≡ 0
-    none Attack = elim (settled-pair x.proof x.disproof h) [ inl q ↦ omega (arith, finite-le x.proof, q.0) | inr q ↦ finite-infinite x.proof q.0 ]
-    none Defend = elim (settled-pair x.proof x.disproof h) [ inl q ↦ finite-infinite x.disproof q.1 | inr q ↦ omega (arith, finite-le x.disproof, q.1) ]
+    none Attack = elim (settled-pair x.proof x.disproof h)
+        [ inl q ↦ omega (arith, finite-le x.proof, q.0) | inr q ↦ finite-infinite x.proof q.0 ]
+    none Defend = elim (settled-pair x.proof x.disproof h)
+        [ inl q ↦ finite-infinite x.disproof q.1 | inr q ↦ omega (arith, finite-le x.disproof, q.1) ]
 
 -- the way up
 
@@ -243,7 +283,8 @@ pub above-parent : (links : List Link) (i j : ℕ) → IsOnWayUp links (link_at 
 above-parent links i j on = (suc on.0, sym (ancestor-parent links i on.0) ∙ on.1)
 
 -- the numbers of the other nodes, named in other words
-pub others-moved : (links links' : List Link) (i i' : ℕ) (old old' new new' : List Numbers) → links ≡ links' → i ≡ i' → old ≡ old' → new ≡ new' → OthersStay links i old new → OthersStay links' i' old' new'
+pub others-moved : (links links' : List Link) (i i' : ℕ) (old old' new new' : List Numbers) → links ≡ links' → i ≡ i' → old ≡ old'
+    → new ≡ new' → OthersStay links i old new → OthersStay links' i' old' new'
 others-moved links links' i i' old old' new new' a b c d stay =
     let A : List Link → Type 0 = λ v. OthersStay v i old new in
     let B : ℕ → Type 0 = λ v. OthersStay links' v old new in
@@ -256,7 +297,9 @@ pub written-back : (n : ℕ) (new old : List Numbers) → length new ≡ n → t
 written-back n new old e = ap (λ k. take k (new ++ drop (length new) old)) (sym e) ∙ take-append_seam new (drop (length new) old)
 
 -- the links after the leaf is written and its children are there
-grown-by : (links longer : List Link) (i n len : ℕ) (link child : Link) → longer ≡ links ++ replicate n child → len ≡ length links → i < length links → link_at links i ≡ link → child ≡ leaf_link (other_kind link.kind) i → set longer i (record { kind = link.kind; parent = link.parent; first = len; count = n }) ≡ grown_links links i n
+grown-by : (links longer : List Link) (i n len : ℕ) (link child : Link) → longer ≡ links ++ replicate n child → len ≡ length links
+    → i < length links → link_at links i ≡ link → child ≡ leaf_link (other_kind link.kind) i
+    → set longer i (record { kind = link.kind; parent = link.parent; first = len; count = n }) ≡ grown_links links i n
 grown-by links longer i n len link child a l h here c =
     let own : Link = record { kind = link.kind; parent = link.parent; first = len; count = n } in
     let own' : Link = record { kind = (link_at links i).kind; parent = (link_at links i).parent; first = length links; count = n } in
@@ -279,7 +322,10 @@ pub record IsExpanded (t : Tree) (more : List Numbers) (links : List Link) (numb
   pub links_are : links ≡ grown_links t.links leaf (length more)
   pub numbers_are : numbers ≡ t.numbers ++ more
 
-expanded : (t : Tree) (more : List Numbers) (links : List Link) (numbers : List Numbers) (leaf : ℕ) → IsTree t → leaf < length t.links → (link_at t.links leaf).count ≡ 0 → 0 < length more → All AreNumbers more → ((kind : Kind) → leaf_sum kind (grown_links t.links leaf (length more)) (t.numbers ++ more) < INFINITE) → links ≡ grown_links t.links leaf (length more) → numbers ≡ t.numbers ++ more → IsExpanded t more links numbers leaf
+expanded : (t : Tree) (more : List Numbers) (links : List Link) (numbers : List Numbers) (leaf : ℕ) → IsTree t → leaf < length t.links
+    → (link_at t.links leaf).count ≡ 0 → 0 < length more → All AreNumbers more
+    → ((kind : Kind) → leaf_sum kind (grown_links t.links leaf (length more)) (t.numbers ++ more) < INFINITE)
+    → links ≡ grown_links t.links leaf (length more) → numbers ≡ t.numbers ++ more → IsExpanded t more links numbers leaf
 expanded t more links numbers leaf w h z some good sums l n =
     let new : List Link = grown_links t.links leaf (length more) in
     let size : length new ≡ length t.links + length more = grown-length t.links leaf (length more) h in
@@ -297,19 +343,30 @@ expanded t more links numbers leaf w h z some good sums l n =
     subst B (sym n) (subst A (sym l) here)
 
 -- the same by the steps of the code: the leaf's link is read, leaves are added to both lists, and the link is written
-pub expanded-by : (t inside : Tree) (leaf len : ℕ) (link : Link) (kind : Kind) (more : List Numbers) (longer links : List Link) (numbers : List Numbers) → inside ≡ t → IsTree inside → leaf ≡ most_proving t → leaf < length t.links → (link_at t.links leaf).count ≡ 0 → 0 < length more → All AreNumbers more → ((k : Kind) → leaf_sum k (grown_links t.links (most_proving t) (length more)) (t.numbers ++ more) < INFINITE) → link ≡ get_or inside.links leaf link → len ≡ length inside.links → kind ≡ other_kind link.kind → longer ≡ inside.links ++ replicate (length more) (leaf_link kind leaf) → links ≡ set longer leaf (record { kind = link.kind; parent = link.parent; first = len; count = length more }) → numbers ≡ inside.numbers ++ more → IsExpanded t more links numbers leaf
-expanded-by t inside leaf len link kind more longer links numbers view tree leaf-is h z some good sums read len-is kind-is longer-is links-is numbers-is =
+pub expanded-by : (t inside : Tree) (leaf len : ℕ) (link : Link) (kind : Kind) (more : List Numbers) (longer links : List Link)
+    (numbers : List Numbers) → inside ≡ t → IsTree inside → leaf ≡ most_proving t → leaf < length t.links → (link_at t.links leaf).count ≡ 0
+    → 0 < length more → All AreNumbers more
+    → ((k : Kind) → leaf_sum k (grown_links t.links (most_proving t) (length more)) (t.numbers ++ more) < INFINITE)
+    → link ≡ get_or inside.links leaf link → len ≡ length inside.links → kind ≡ other_kind link.kind
+    → longer ≡ inside.links ++ replicate (length more) (leaf_link kind leaf)
+    → links ≡ set longer leaf (record { kind = link.kind; parent = link.parent; first = len; count = length more })
+    → numbers ≡ inside.numbers ++ more → IsExpanded t more links numbers leaf
+expanded-by t inside leaf len link kind more longer links numbers view tree leaf-is h z some good sums read len-is kind-is longer-is
+    links-is numbers-is =
     let child : Link = leaf_link kind leaf in
     let L : inside.links ≡ t.links = ap (λ v. v.links) view in
     let N : inside.numbers ≡ t.numbers = ap (λ v. v.numbers) view in
-    let here : link_at t.links leaf ≡ link = ap (λ v. link_at v leaf) (sym L) ∙ read-at inside.links leaf (leaf_link Attack 0) link (omega (arith, ap length L, h)) read in
+    let here : link_at t.links leaf ≡ link = ap (λ v. link_at v leaf) (sym L)
+    ∙ read-at inside.links leaf (leaf_link Attack 0) link (omega (arith, ap length L, h)) read in
     let S : ℕ → Type 0 = λ v. (k : Kind) → leaf_sum k (grown_links t.links v (length more)) (t.numbers ++ more) < INFINITE in
     expanded t more links numbers leaf (subst IsTree view tree) h z some good (subst S (sym leaf-is) sums)
-    (links-is ∙ grown-by t.links longer leaf (length more) len link child (longer-is ∙ ap (λ v. v ++ replicate (length more) child) L) (len-is ∙ ap length L) h here (ap (λ v. leaf_link v leaf) kind-is))
+    (links-is ∙ grown-by t.links longer leaf (length more) len link child (longer-is ∙ ap (λ v. v ++ replicate (length more) child) L)
+    (len-is ∙ ap length L) h here (ap (λ v. leaf_link v leaf) kind-is))
     (numbers-is ∙ ap (λ v. v ++ more) N)
 
 -- the children of a leaf are not above it, so they have the numbers that they were given
-pub child-stays : (links : List Link) (leaf len j : ℕ) (numbers more new : List Numbers) → IsLinked links → leaf < len → len ≤ length links → length numbers ≡ len → OthersStay links leaf (numbers ++ more) new → numbers_at new (len + j) ≡ numbers_at more j
+pub child-stays : (links : List Link) (leaf len j : ℕ) (numbers more new : List Numbers) → IsLinked links → leaf < len → len ≤ length links
+    → length numbers ≡ len → OthersStay links leaf (numbers ++ more) new → numbers_at new (len + j) ≡ numbers_at more j
 child-stays links leaf len j numbers more new w h k s stay =
     let off : IsOnWayUp links leaf (len + j) → ⊥ = λ on. absurd (omega (arith, on.1, ancestor-le links leaf on.0 w (omega arith))) in
     let e : len + j - len ≡ j = omega arith in

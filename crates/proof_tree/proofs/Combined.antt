@@ -1,5 +1,6 @@
 -- What a node has of its children's numbers: a step of each loop, bounds, and that it is settled or open again.
-use Rattle.std.proofs.Common.{◌≡◌, ◌≢◌, ◌⊎◌, ℕ, suc, ◌+◌, ◌<◌, ◌≤◌, min, true, false, List, [], ◌∷◌, map, length, drop, get_or, nat_eq, inl, inr, refl, sym, ◌∙◌, ap, add-one, arith}
+use Rattle.std.proofs.Common.{◌≡◌, ◌≢◌, ◌⊎◌, ℕ, suc, ◌+◌, ◌<◌, ◌≤◌, min, true, false, List, [], ◌∷◌, map, length, drop, get_or, nat_eq, inl}
+use Rattle.std.proofs.Common.{inr, refl, sym, ◌∙◌, ap, add-one, arith}
 use Rattle.std.proofs.Math.Seq.{drop-cons}
 use Rattle.std.proofs.lemmas.Bool.Decides.{nat_tests}
 use Rattle.std.proofs.lemmas.Bool.{cases_eq, cases_lt, eq-eqb, ne_eqb}
@@ -7,7 +8,8 @@ use Rattle.proof_tree.specs.declared.TheConstants.{INFINITE}
 use Rattle.proof_tree.specs.declared.Kind.{Kind}
 use Rattle.proof_tree.specs.declared.Kind.TheVariants.{Attack, Defend}
 use Rattle.proof_tree.specs.declared.Numbers.{Numbers}
-use Rattle.proof_tree.specs.Combining.{AreNumbers, combined, no_numbers, finite, finite_sum, is_settled, least, other_kind, plus, sought, total}
+use Rattle.proof_tree.specs.Combining.{AreNumbers, combined, no_numbers, finite, finite_sum, is_settled, least, other_kind, plus, sought}
+use Rattle.proof_tree.specs.Combining.{total}
 
 -- the steps of the loops
 
@@ -46,7 +48,8 @@ finite-plus x y = elim (cases_eq x INFINITE) [
   | inl e ↦ let z : finite (plus x y) ≡ 0 = finite-infinite (plus x y) (plus-infinite_left x y e) in omega (arith, z)
   | inr n ↦ elim (cases_eq y INFINITE) [
     | inl e ↦ let z : finite (plus x y) ≡ 0 = finite-infinite (plus x y) (plus-infinite_right x y n e) in omega (arith, z)
-    | inr m ↦ let z : finite (plus x y) ≤ plus x y = finite-le (plus x y) in omega (arith, z, plus-other x y n m, finite-below x n, finite-below y m)
+    | inr m ↦ let z : finite (plus x y) ≤ plus x y = finite-le (plus x y) in
+        omega (arith, z, plus-other x y n m, finite-below x n, finite-below y m)
   ]
 ]
 
@@ -72,7 +75,8 @@ finite-combined Defend Defend ns = finite-least (map (λ n. n.disproof) ns)
 
 plus-grouped : (s y t : ℕ) → s + y + finite t < INFINITE → plus s (plus y t) ≡ plus (s + y) t
 plus-grouped s y t h = elim (cases_eq t INFINITE) [
-  | inl e ↦ plus-infinite_right s (plus y t) (λ q. omega arith) (plus-infinite_right y t (λ q. omega arith) e) ∙ sym (plus-infinite_right (s + y) t (λ q. omega arith) e)
+  | inl e ↦ plus-infinite_right s (plus y t) (λ q. omega arith) (plus-infinite_right y t (λ q. omega arith) e)
+      ∙ sym (plus-infinite_right (s + y) t (λ q. omega arith) e)
   | inr n ↦
       let f : finite t ≡ t = finite-below t n in
       let a : plus y t ≡ y + t = plus-finite y t (omega arith) (omega arith) in
@@ -83,14 +87,19 @@ plus-grouped s y t h = elim (cases_eq t INFINITE) [
 ]
 
 -- the sum so far, where number i is below infinity
-pub total-step : (f : Numbers → ℕ) (xs : List Numbers) (i s y : ℕ) (d : Numbers) → i < length xs → y ≡ f (get_or xs i d) → y ≢ INFINITE → s + finite_sum (map f (drop i xs)) < INFINITE → (s + y + finite_sum (map f (drop (i + 1) xs)) < INFINITE) × (plus s (total (map f (drop i xs))) ≡ plus (s + y) (total (map f (drop (i + 1) xs))))
+pub total-step : (f : Numbers → ℕ) (xs : List Numbers) (i s y : ℕ) (d : Numbers) → i < length xs → y ≡ f (get_or xs i d) → y ≢ INFINITE
+    → s + finite_sum (map f (drop i xs)) < INFINITE
+    → (s + y + finite_sum (map f (drop (i + 1) xs)) < INFINITE)
+    × (plus s (total (map f (drop i xs))) ≡ plus (s + y) (total (map f (drop (i + 1) xs))))
 total-step f xs i s y d h e n b =
     let cut : drop i xs ≡ get_or xs i d ∷ drop (suc i) xs = drop-cons xs i d h in
     let one : drop (i + 1) xs ≡ drop (suc i) xs = ap (λ j. drop j xs) (add-one i) in
     let sums : finite_sum (map f (drop i xs)) ≡ finite y + finite_sum (map f (drop (i + 1) xs)) =
-    ap (λ r. finite_sum (map f r)) cut ∙ (ap (λ z. finite z + finite_sum (map f (drop (suc i) xs))) (sym e) ∙ ap (λ r. finite y + finite_sum (map f r)) (sym one)) in
+    ap (λ r. finite_sum (map f r)) cut
+    ∙ (ap (λ z. finite z + finite_sum (map f (drop (suc i) xs))) (sym e) ∙ ap (λ r. finite y + finite_sum (map f r)) (sym one)) in
     let totals : total (map f (drop i xs)) ≡ plus y (total (map f (drop (i + 1) xs))) =
-    ap (λ r. total (map f r)) cut ∙ (ap (λ z. plus z (total (map f (drop (suc i) xs)))) (sym e) ∙ ap (λ r. plus y (total (map f r))) (sym one)) in
+    ap (λ r. total (map f r)) cut
+    ∙ (ap (λ z. plus z (total (map f (drop (suc i) xs)))) (sym e) ∙ ap (λ r. plus y (total (map f r))) (sym one)) in
     let fy : finite y ≡ y = finite-below y n in
     let left : s + y + finite_sum (map f (drop (i + 1) xs)) < INFINITE = omega (arith, sums, fy, b) in
     let bound : finite (total (map f (drop (i + 1) xs))) ≤ finite_sum (map f (drop (i + 1) xs)) = finite-total (map f (drop (i + 1) xs)) in
@@ -108,7 +117,8 @@ pair-swap a d (inl p) = inr (inl (p.1, p.0))
 pair-swap a d (inr (inl p)) = inl (p.1, p.0)
 pair-swap a d (inr (inr p)) = inr (inr (p.2, p.3, p.0, p.1))
 
-pub settled-pair : (p d : ℕ) → is_settled (record { proof = p; disproof = d }) ≡ true → ((p ≡ 0) × (d ≡ INFINITE)) ⊎ ((p ≡ INFINITE) × (d ≡ 0))
+pub settled-pair : (p d : ℕ) → is_settled (record { proof = p; disproof = d }) ≡ true
+    → ((p ≡ 0) × (d ≡ INFINITE)) ⊎ ((p ≡ INFINITE) × (d ≡ 0))
 settled-pair p d h = grind (arith, nat_tests)
 
 AreNumbers-pair : (n : Numbers) → AreNumbers n → Pair n.proof n.disproof
@@ -153,7 +163,8 @@ lost-pair : Pair INFINITE 0
 unfolding Pair
 lost-pair = inr (inl (refl, refl))
 
-pair-combined : (k : Kind) (ns : List Numbers) → ((j : ℕ) → j < length ns → AreNumbers (get_or ns j no_numbers)) → finite_sum (map (sought (other_kind k)) ns) < INFINITE → Pair (least (map (sought k) ns)) (total (map (sought (other_kind k)) ns))
+pair-combined : (k : Kind) (ns : List Numbers) → ((j : ℕ) → j < length ns → AreNumbers (get_or ns j no_numbers))
+    → finite_sum (map (sought (other_kind k)) ns) < INFINITE → Pair (least (map (sought k) ns)) (total (map (sought (other_kind k)) ns))
 pair-combined k [] each h = lost-pair
 pair-combined k (n ∷ ns) each h =
     pair-step (sought k n) (sought (other_kind k) n) (least (map (sought k) ns)) (total (map (sought (other_kind k)) ns))
@@ -161,6 +172,7 @@ pair-combined k (n ∷ ns) each h =
     (pair-combined k ns (λ j q. each (suc j) (omega arith)) (omega (arith, h)))
     (omega (arith, h, finite-total (map (sought (other_kind k)) ns)))
 
-pub AreNumbers-combined : (kind : Kind) (ns : List Numbers) → ((j : ℕ) → j < length ns → AreNumbers (get_or ns j no_numbers)) → ((k : Kind) → finite_sum (map (sought k) ns) < INFINITE) → AreNumbers (combined kind ns)
+pub AreNumbers-combined : (kind : Kind) (ns : List Numbers) → ((j : ℕ) → j < length ns → AreNumbers (get_or ns j no_numbers))
+    → ((k : Kind) → finite_sum (map (sought k) ns) < INFINITE) → AreNumbers (combined kind ns)
 AreNumbers-combined Attack ns each h = pair-AreNumbers (combined Attack ns) (pair-combined Attack ns each (h Defend))
 AreNumbers-combined Defend ns each h = pair-AreNumbers (combined Defend ns) (pair-swap _ _ (pair-combined Defend ns each (h Attack)))

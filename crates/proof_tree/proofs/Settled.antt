@@ -1,5 +1,6 @@
 -- The nodes above a node. Numbers that are settled, least ones and sums that are zero.
-use Rattle.std.proofs.Common.{◌≡◌, ◌⊎◌, inl, inr, ℕ, zero, suc, ◌<◌, ◌≤◌, ap, ◌∙◌, arith, List, length, refl, ◌≢◌, sym, subst, true, false, [], ◌∷◌, map, get_or, ◌+◌, Bool, cond, ◌||◌, nat_eq, ◌&&◌, drop}
+use Rattle.std.proofs.Common.{◌≡◌, ◌⊎◌, inl, inr, ℕ, zero, suc, ◌<◌, ◌≤◌, ap, ◌∙◌, arith, List, length, refl, ◌≢◌, sym, subst, true, false}
+use Rattle.std.proofs.Common.{[], ◌∷◌, map, get_or, ◌+◌, Bool, cond, ◌||◌, nat_eq, ◌&&◌, drop}
 use Rattle.std.proofs.lemmas.Bool.{cases_eq, and_parts, or_cases}
 use Rattle.std.proofs.lemmas.Bool.Decides.{Decides-eqb}
 use Rattle.std.proofs.lemmas.List.{length-take, length-drop}
@@ -8,7 +9,8 @@ use Rattle.proof_tree.specs.declared.Numbers.{Numbers}
 use Rattle.proof_tree.specs.declared.TheConstants.{INFINITE}
 use Rattle.proof_tree.specs.declared.Kind.{Kind}
 use Rattle.proof_tree.specs.declared.Kind.TheVariants.{Attack}
-use Rattle.proof_tree.proofs.Common.{IsLinked, ancestor, link_at, IsChild, IsOnWayUp, settled_numbers, least, no_numbers, plus, total, is_settled, AreNumbers, combined, children_of, numbers_at, IsTree, Tree}
+use Rattle.proof_tree.proofs.Common.{IsLinked, ancestor, link_at, IsChild, IsOnWayUp, settled_numbers, least, no_numbers, plus, total}
+use Rattle.proof_tree.proofs.Common.{is_settled, AreNumbers, combined, children_of, numbers_at, IsTree, Tree}
 use Rattle.proof_tree.proofs.Updated.{child-number}
 
 -- a node above another does not come after it
@@ -19,7 +21,8 @@ above-low links w (suc s) i inside = up (cases_eq (ancestor links s i) 0) (above
   up (inl root) low =
       let to : (link_at links (ancestor links s i)).parent ≡ 0 = ap (λ (m : ℕ). (link_at links m).parent) root ∙ w.root_parent in
       omega (arith, to)
-  up (inr more) low = let to = w.parent_first (ancestor links s i) (omega (arith, more)) (omega (arith, low, inside)) in omega (arith, to, low)
+  up (inr more) low = let to = w.parent_first (ancestor links s i) (omega (arith, more)) (omega (arith, low, inside)) in
+      omega (arith, to, low)
 
 pub ancestor-up : (links : List Link) (steps i : ℕ) → ancestor links (suc steps) i ≡ ancestor links steps (link_at links i).parent
 ancestor-up links zero i = refl
@@ -30,7 +33,8 @@ module _ (links : List Link) (w : IsLinked links) where
   ancestor-inside : (steps i : ℕ) → i < length links → ancestor links steps i < length links
   ancestor-inside zero i inside = inside
   ancestor-inside (suc s) i inside = below (cases_eq (ancestor links s i) 0) (ancestor-inside s i inside) where
-    below : (ancestor links s i ≡ 0) ⊎ (ancestor links s i ≡ 0 → ⊥) → ancestor links s i < length links → (link_at links (ancestor links s i)).parent < length links
+    below : (ancestor links s i ≡ 0) ⊎ (ancestor links s i ≡ 0 → ⊥) → ancestor links s i < length links
+        → (link_at links (ancestor links s i)).parent < length links
     below (inl root) low =
         let up : (link_at links (ancestor links s i)).parent ≡ 0 = ap (λ (m : ℕ). (link_at links m).parent) root ∙ w.root_parent in
         omega (arith, up, root, low)
@@ -38,17 +42,20 @@ module _ (links : List Link) (w : IsLinked links) where
 
   pub above-has_children : (steps i j : ℕ) → i < length links → ancestor links steps i ≡ j → j ≢ i → 0 < (link_at links j).count
   above-has_children zero i j inside at other = absurd (other (sym at))
-  above-has_children (suc s) i j inside at other = by_root (cases_eq (ancestor links s i) 0) (λ e. above-has_children s i j inside e other) where
-    by_root : (ancestor links s i ≡ 0) ⊎ (ancestor links s i ≡ 0 → ⊥) → (ancestor links s i ≡ j → 0 < (link_at links j).count) → 0 < (link_at links j).count
-    by_root (inl root) before =
-        let up : (link_at links (ancestor links s i)).parent ≡ 0 = ap (λ (m : ℕ). (link_at links m).parent) root ∙ w.root_parent in
-        before (root ∙ sym up ∙ at)
-    by_root (inr more) before =
-        let m : ℕ = ancestor links s i in
-        let child : IsChild (link_at links (link_at links m).parent) m = w.children m (omega (arith, more)) (ancestor-inside s i inside) in
-        let first = child.from_first in
-        let low = child.below_end in
-        subst (λ (k : ℕ). 0 < (link_at links k).count) at (omega (arith, first, low))
+  above-has_children (suc s) i j inside at other = by_root (cases_eq (ancestor links s i) 0)
+      (λ e. above-has_children s i j inside e other) where
+        by_root : (ancestor links s i ≡ 0) ⊎ (ancestor links s i ≡ 0 → ⊥) → (ancestor links s i ≡ j → 0 < (link_at links j).count)
+            → 0 < (link_at links j).count
+        by_root (inl root) before =
+            let up : (link_at links (ancestor links s i)).parent ≡ 0 = ap (λ (m : ℕ). (link_at links m).parent) root ∙ w.root_parent in
+            before (root ∙ sym up ∙ at)
+        by_root (inr more) before =
+            let m : ℕ = ancestor links s i in
+            let child : IsChild (link_at links (link_at links m).parent) m =
+            w.children m (omega (arith, more)) (ancestor-inside s i inside) in
+            let first = child.from_first in
+            let low = child.below_end in
+            subst (λ (k : ℕ). 0 < (link_at links k).count) at (omega (arith, first, low))
 
   -- another leaf is not above a node
   pub leaf-beside : (i j : ℕ) → i < length links → (link_at links j).count ≡ 0 → j ≢ i → IsOnWayUp links i j → ⊥
@@ -121,10 +128,12 @@ settled-won n s none = elim (settled-one n s) [
   | inr lost ↦ absurd (let bad : n.proof ≡ 4294967295 = ap (λ (m : Numbers). m.proof) lost in omega (arith, bad, none))
 ]
 
-pub proved-child : (t : Tree) (i : ℕ) → IsTree t → i < length t.links → 0 < (link_at t.links i).count → (link_at t.links i).kind ≡ Attack → numbers_at t.numbers i ≡ settled_numbers true → (j : ℕ) × IsChild (link_at t.links i) j × ((numbers_at t.numbers j).proof ≡ 0)
+pub proved-child : (t : Tree) (i : ℕ) → IsTree t → i < length t.links → 0 < (link_at t.links i).count → (link_at t.links i).kind ≡ Attack
+    → numbers_at t.numbers i ≡ settled_numbers true → (j : ℕ) × IsChild (link_at t.links i) j × ((numbers_at t.numbers j).proof ≡ 0)
 proved-child t i ok inside some kind proved =
     let l : Link = link_at t.links i in
-    let own : numbers_at t.numbers i ≡ combined Attack (children_of l t.numbers) = ok.numbered.combined_at i inside some ∙ ap (λ (k : Kind). combined k (children_of l t.numbers)) kind in
+    let own : numbers_at t.numbers i ≡ combined Attack (children_of l t.numbers) =
+    ok.numbered.combined_at i inside some ∙ ap (λ (k : Kind). combined k (children_of l t.numbers)) kind in
     let nothing : least (map (λ n. n.proof) (children_of l t.numbers)) ≡ 0 = ap (λ (n : Numbers). n.proof) (sym own ∙ proved) in
     let found = least-zero (λ n. n.proof) (children_of l t.numbers) nothing in
     let low : found.0 < l.count = omega (arith, found.1, length-take l.count (drop l.first t.numbers), length-drop l.first t.numbers) in (

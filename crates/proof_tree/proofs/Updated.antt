@@ -1,12 +1,15 @@
 -- Numbers brought up to date along the way up.
-use Rattle.std.proofs.Common.{◌≡◌, ◌≢◌, ℕ, suc, ◌+◌, ◌-◌, ◌<◌, ◌≤◌, List, map, length, take, drop, set, get_or, inl, inr, sym, ◌∙◌, ap, subst, arith}
+use Rattle.std.proofs.Common.{◌≡◌, ◌≢◌, ℕ, suc, ◌+◌, ◌-◌, ◌<◌, ◌≤◌, List, map, length, take, drop, set, get_or, inl, inr, sym, ◌∙◌, ap}
+use Rattle.std.proofs.Common.{subst, arith}
 use Rattle.std.proofs.lemmas.Bool.{cases_eq, cases_lt}
-use Rattle.std.proofs.lemmas.List.{drop-set-add, drop-set-lt, get_or-drop, get_or-set_other, get_or-set_same, get_or-take, length-set, length-take, take-set-le}
+use Rattle.std.proofs.lemmas.List.{drop-set-add, drop-set-lt, get_or-drop, get_or-set_other, get_or-set_same, get_or-take, length-set}
+use Rattle.std.proofs.lemmas.List.{length-take, take-set-le}
 use Rattle.proof_tree.specs.declared.TheConstants.{INFINITE}
 use Rattle.proof_tree.specs.declared.Kind.{Kind}
 use Rattle.proof_tree.specs.declared.Numbers.{Numbers}
 use Rattle.proof_tree.specs.declared.Link.{Link}
-use Rattle.proof_tree.proofs.Common.{AreNumbers, combined, no_numbers, finite_sum, sought, IsChild, IsCombinedAt, IsLinked, IsNumbered, IsOnWayUp, OthersStay, children_of, leaf_sum, link_at, numbers_at}
+use Rattle.proof_tree.proofs.Common.{AreNumbers, combined, no_numbers, finite_sum, sought, IsChild, IsCombinedAt, IsLinked, IsNumbered}
+use Rattle.proof_tree.proofs.Common.{IsOnWayUp, OthersStay, children_of, leaf_sum, link_at, numbers_at}
 use Rattle.proof_tree.proofs.Combined.{AreNumbers-combined}
 use Rattle.proof_tree.proofs.LeafSums.{children-le, leaf_sum-set}
 
@@ -19,7 +22,8 @@ pub record IsRightBut (links : List Link) (numbers : List Numbers) (i : ℕ) : T
   pub sums : (kind : Kind) → leaf_sum kind links numbers < INFINITE
 
 -- the numbers of the children stay where a number is written elsewhere
-pub children-elsewhere : (link : Link) (numbers : List Numbers) (i : ℕ) (x : Numbers) → (IsChild link i → ⊥) → children_of link (set numbers i x) ≡ children_of link numbers
+pub children-elsewhere : (link : Link) (numbers : List Numbers) (i : ℕ) (x : Numbers) → (IsChild link i → ⊥)
+    → children_of link (set numbers i x) ≡ children_of link numbers
 children-elsewhere link numbers i x h =
     elim (cases_lt i link.first) [
       | inl before ↦ ap (take link.count) (drop-set-lt link.first numbers i x before)
@@ -36,19 +40,24 @@ children-elsewhere link numbers i x h =
     ]
 
 -- a node is no child of its own
-not-own_child : (links : List Link) (i : ℕ) → IsLinked links → i < length links → 0 < (link_at links i).count → IsChild (link_at links i) i → ⊥
+not-own_child : (links : List Link) (i : ℕ) → IsLinked links → i < length links → 0 < (link_at links i).count → IsChild (link_at links i) i
+    → ⊥
 not-own_child links i w h b child = absurd (omega (arith, w.later i h b, child.from_first))
 
 -- the children of a node, by their places
-pub child-number : (link : Link) (numbers : List Numbers) (j : ℕ) → j < link.count → get_or (children_of link numbers) j no_numbers ≡ numbers_at numbers (link.first + j)
-child-number link numbers j h = get_or-take link.count (drop link.first numbers) j no_numbers h ∙ get_or-drop link.first numbers j no_numbers
+pub child-number : (link : Link) (numbers : List Numbers) (j : ℕ) → j < link.count
+    → get_or (children_of link numbers) j no_numbers ≡ numbers_at numbers (link.first + j)
+child-number link numbers j h = get_or-take link.count (drop link.first numbers) j no_numbers h
+    ∙ get_or-drop link.first numbers j no_numbers
 
 -- what `combined` needs of the children of node i
-pub children-sums : (links : List Link) (numbers : List Numbers) (i : ℕ) → IsLinked links → i < length links → IsRightBut links numbers i → (kind : Kind) → finite_sum (map (sought kind) (children_of (link_at links i) numbers)) < INFINITE
+pub children-sums : (links : List Link) (numbers : List Numbers) (i : ℕ) → IsLinked links → i < length links → IsRightBut links numbers i
+    → (kind : Kind) → finite_sum (map (sought kind) (children_of (link_at links i) numbers)) < INFINITE
 children-sums links numbers i w h r kind =
     omega (arith, r.sums kind, children-le kind links numbers i w r.count h r.has_children (λ j x y. r.combined_at j y (λ e. omega arith)))
 
-pub found-numbers : (links : List Link) (numbers : List Numbers) (i : ℕ) → IsLinked links → i < length links → IsRightBut links numbers i → AreNumbers (combined (link_at links i).kind (children_of (link_at links i) numbers))
+pub found-numbers : (links : List Link) (numbers : List Numbers) (i : ℕ) → IsLinked links → i < length links → IsRightBut links numbers i
+    → AreNumbers (combined (link_at links i).kind (children_of (link_at links i) numbers))
 found-numbers links numbers i w h r =
     let link : Link = link_at links i in
     AreNumbers-combined link.kind (children_of link numbers)
@@ -59,18 +68,23 @@ found-numbers links numbers i w h r =
     (children-sums links numbers i w h r)
 
 -- a node that has its children's numbers keeps them when another number is written, unless that is a child of it
-pub stays-combined : (links : List Link) (numbers : List Numbers) (i j : ℕ) (x : Numbers) → j ≢ i → (IsChild (link_at links j) i → ⊥) → IsCombinedAt links numbers j → IsCombinedAt links (set numbers i x) j
+pub stays-combined : (links : List Link) (numbers : List Numbers) (i j : ℕ) (x : Numbers) → j ≢ i → (IsChild (link_at links j) i → ⊥)
+    → IsCombinedAt links numbers j → IsCombinedAt links (set numbers i x) j
 stays-combined links numbers i j x n c right b =
-    get_or-set_other numbers i j x no_numbers n ∙ (right b ∙ ap (combined (link_at links j).kind) (sym (children-elsewhere (link_at links j) numbers i x c)))
+    get_or-set_other numbers i j x no_numbers n
+    ∙ (right b ∙ ap (combined (link_at links j).kind) (sym (children-elsewhere (link_at links j) numbers i x c)))
 
 -- the node that is counted anew has its children's numbers
-now-combined : (links : List Link) (numbers : List Numbers) (i : ℕ) → IsLinked links → i < length links → IsRightBut links numbers i → IsCombinedAt links (set numbers i (combined (link_at links i).kind (children_of (link_at links i) numbers))) i
+now-combined : (links : List Link) (numbers : List Numbers) (i : ℕ) → IsLinked links → i < length links → IsRightBut links numbers i
+    → IsCombinedAt links (set numbers i (combined (link_at links i).kind (children_of (link_at links i) numbers))) i
 now-combined links numbers i w h r b =
     let found : Numbers = combined (link_at links i).kind (children_of (link_at links i) numbers) in
     get_or-set_same numbers i found no_numbers (omega (arith, r.count))
     ∙ ap (combined (link_at links i).kind) (sym (children-elsewhere (link_at links i) numbers i found (not-own_child links i w h b)))
 
-pub written-each : (links : List Link) (numbers : List Numbers) (i : ℕ) (x : Numbers) → i < length numbers → AreNumbers x → ((j : ℕ) → j < length links → AreNumbers (numbers_at numbers j)) → (j : ℕ) → j < length links → AreNumbers (numbers_at (set numbers i x) j)
+pub written-each : (links : List Link) (numbers : List Numbers) (i : ℕ) (x : Numbers) → i < length numbers → AreNumbers x
+    → ((j : ℕ) → j < length links → AreNumbers (numbers_at numbers j)) → (j : ℕ) → j < length links
+    → AreNumbers (numbers_at (set numbers i x) j)
 written-each links numbers i x h good each j k =
     elim (cases_eq j i) [
       | inl e ↦ subst AreNumbers (sym (ap (numbers_at (set numbers i x)) e ∙ get_or-set_same numbers i x no_numbers h)) good
@@ -78,7 +92,8 @@ written-each links numbers i x h good each j k =
     ]
 
 -- once the root is counted anew, all are right
-pub right-at_root : (links : List Link) (numbers : List Numbers) → IsLinked links → IsRightBut links numbers 0 → IsNumbered links (set numbers 0 (combined (link_at links 0).kind (children_of (link_at links 0) numbers)))
+pub right-at_root : (links : List Link) (numbers : List Numbers) → IsLinked links → IsRightBut links numbers 0
+    → IsNumbered links (set numbers 0 (combined (link_at links 0).kind (children_of (link_at links 0) numbers)))
 right-at_root links numbers w r =
     let found : Numbers = combined (link_at links 0).kind (children_of (link_at links 0) numbers) in
     let new : List Numbers = set numbers 0 found in
@@ -87,13 +102,16 @@ right-at_root links numbers w r =
       each = written-each links numbers 0 found (omega (arith, r.count, w.some)) (found-numbers links numbers 0 w w.some r) r.each;
       combined_at = λ j h. elim (cases_eq j 0) [
         | inl q ↦ let P : ℕ → Type 0 = λ k. IsCombinedAt links new k in subst P (sym q) (now-combined links numbers 0 w w.some r)
-        | inr n ↦ λ b. stays-combined links numbers 0 j found n (λ child. omega (arith, w.later j h b, child.from_first)) (r.combined_at j h n) b
+        | inr n ↦ λ b. stays-combined links numbers 0 j found n (λ child. omega (arith, w.later j h b, child.from_first))
+            (r.combined_at j h n) b
       ];
       sums = λ kind. omega (arith, r.sums kind, leaf_sum-set kind links numbers 0 found (inl r.has_children));
     }
 
 -- once another node is counted anew, its parent alone is left
-pub right-above : (links : List Link) (numbers : List Numbers) (i : ℕ) → IsLinked links → i < length links → 0 < i → IsRightBut links numbers i → IsRightBut links (set numbers i (combined (link_at links i).kind (children_of (link_at links i) numbers))) (link_at links i).parent
+pub right-above : (links : List Link) (numbers : List Numbers) (i : ℕ) → IsLinked links → i < length links → 0 < i
+    → IsRightBut links numbers i → IsRightBut links
+    (set numbers i (combined (link_at links i).kind (children_of (link_at links i) numbers))) (link_at links i).parent
 right-above links numbers i w h b r =
     let found : Numbers = combined (link_at links i).kind (children_of (link_at links i) numbers) in
     let new : List Numbers = set numbers i found in
@@ -109,7 +127,8 @@ right-above links numbers i w h b r =
     }
 
 -- what is written on the way up leaves all nodes that are not on it
-pub others-written : (links : List Link) (start i : ℕ) (old numbers : List Numbers) (x : Numbers) → IsOnWayUp links start i → OthersStay links start old numbers → OthersStay links start old (set numbers i x)
+pub others-written : (links : List Link) (start i : ℕ) (old numbers : List Numbers) (x : Numbers) → IsOnWayUp links start i
+    → OthersStay links start old numbers → OthersStay links start old (set numbers i x)
 others-written links start i old numbers x on stay j h =
     get_or-set_other numbers i j x no_numbers (λ e. let P : ℕ → Type 0 = λ k. IsOnWayUp links start k in h (subst P (sym e) on)) ∙ stay j h
 
@@ -117,7 +136,8 @@ pub parent-above : (links : List Link) (start i : ℕ) → IsOnWayUp links start
 parent-above links start i on = (suc on.0, ap (λ k. (link_at links k).parent) on.1)
 
 -- the children as a slice
-pub slice-children : (link : Link) (numbers : List Numbers) → take (link.first + link.count - link.first) (drop link.first numbers) ≡ children_of link numbers
+pub slice-children : (link : Link) (numbers : List Numbers)
+    → take (link.first + link.count - link.first) (drop link.first numbers) ≡ children_of link numbers
 slice-children link numbers =
     let e : link.first + link.count - link.first ≡ link.count = omega arith in
     ap (λ n. take n (drop link.first numbers)) e

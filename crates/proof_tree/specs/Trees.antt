@@ -1,5 +1,6 @@
 -- Trees of proof numbers: how the nodes are joined, what holds of their numbers, the walk to the most-proving leaf, and growth.
-use Rattle.std.specs.Prelude.{◌≡◌, ℕ, zero, suc, ◌+◌, ◌<◌, ◌≤◌, if◌then◌else◌, nat_eq, List, [], ◌∷◌, ◌++◌, length, take, drop, replicate, slice_index_or, slice_set}
+use Rattle.std.specs.Prelude.{◌≡◌, ℕ, zero, suc, ◌+◌, ◌<◌, ◌≤◌, if◌then◌else◌, nat_eq, List, [], ◌∷◌, ◌++◌, length, take, drop, replicate}
+use Rattle.std.specs.Prelude.{slice_index_or, slice_set}
 use Rattle.std.specs.List.{position_or_len}
 use Rattle.proof_tree.specs.declared.TheConstants.{INFINITE}
 use Rattle.proof_tree.specs.declared.Kind.{Kind}
@@ -56,7 +57,8 @@ leaf_sum kind (l ∷ links) (n ∷ numbers) = (if nat_eq l.count 0 then finite (
 
 -- a node with children has minimum and sum of their numbers
 abbrev pub IsCombinedAt : List Link → List Numbers → ℕ → Type 0
-IsCombinedAt links numbers i = 0 < (link_at links i).count → numbers_at numbers i ≡ combined (link_at links i).kind (children_of (link_at links i) numbers)
+IsCombinedAt links numbers i = 0 < (link_at links i).count
+    → numbers_at numbers i ≡ combined (link_at links i).kind (children_of (link_at links i) numbers)
 
 -- The nodes have numbers. Each is settled or open, those with children have minimum and sum of the children's, and those of all
 -- leaves together are below infinity.
@@ -76,7 +78,8 @@ pub record IsTree (t : Tree) : Type 0 where
 abbrev pub chosen : Tree → ℕ → ℕ
 chosen t i =
     (link_at t.links i).first
-    + position_or_len (λ n. nat_eq (sought (link_at t.links i).kind n) (sought (link_at t.links i).kind (numbers_at t.numbers i))) (children_of (link_at t.links i) t.numbers)
+    + position_or_len (λ n. nat_eq (sought (link_at t.links i).kind n) (sought (link_at t.links i).kind (numbers_at t.numbers i)))
+    (children_of (link_at t.links i) t.numbers)
 
 -- where a walk of at most so many steps from node i ends: each goes to the first child with the node's minimum
 abbrev pub walk_end : ℕ → Tree → ℕ → ℕ

@@ -1,5 +1,6 @@
 -- The command `bind`: its words, how far its files are bound, its answers, and what its runs show.
-use Rattle.std.proofs.Common.{◌≡◌, ◌⊎◌, inl, inr, refl, sym, ap, subst, ◌∙◌, ℕ, zero, suc, ◌<◌, ◌≤◌, ◌+◌, List, [], ◌∷◌, ◌++◌, length, take, drop, get_or, map, arith, length-append, Result, Ok, Err, IfOk}
+use Rattle.std.proofs.Common.{◌≡◌, ◌⊎◌, inl, inr, refl, sym, ap, subst, ◌∙◌, ℕ, zero, suc, ◌<◌, ◌≤◌, ◌+◌, List, [], ◌∷◌, ◌++◌, length, take}
+use Rattle.std.proofs.Common.{drop, get_or, map, arith, length-append, Result, Ok, Err, IfOk}
 use Rattle.std.specs.Prelude.{Option, Some, None, IfSome, codes}
 use Rattle.std.specs.List.{AllByRecursion}
 use Rattle.strategy_graph.specs.declared.TheConstants.{MAX_NODES}
@@ -26,7 +27,8 @@ use Rattle.renju_cli.specs.Runs.{Change, Run, HasFailed, IsDelivered, IsOutOfMem
 use Rattle.renju_cli.specs.Forms.{HasWords}
 use Rattle.renju_cli.specs.Checks.{IsTableAt}
 use Rattle.renju_cli.specs.Brains.{IsFileName, IsFit, IsLoaded, IsUnheld, TableFileSays}
-use Rattle.renju_cli.specs.Binds.{AreBindable, AreFew, AreNames, BindSays, HasBound, IsBind, IsBindable, IsBookFull, IsBookTold, IsFileRefused, IsUnhinderedBind, ShowsBound, StopsAt, TellsBook, bind_words, of_file, words_after}
+use Rattle.renju_cli.specs.Binds.{AreBindable, AreFew, AreNames, BindSays, HasBound, IsBind, IsBindable, IsBookFull, IsBookTold}
+use Rattle.renju_cli.specs.Binds.{IsFileRefused, IsUnhinderedBind, ShowsBound, StopsAt, TellsBook, bind_words, of_file, words_after}
 use Rattle.renju_cli.specs.Binders.{BindsMore, IsAdded, IsAddedText}
 use Rattle.renju_cli.specs.Solves.{full_line}
 use Rattle.renju_cli.specs.Commands.{HasForm, IsForm}
@@ -142,7 +144,8 @@ names-at f (x ∷ xs) zero d l = refl
 names-at f (x ∷ xs) (suc i) d l = ap (λ (ws : List (List ℕ)). f x ∷ ws) (names-at f xs i d (omega arith))
 
 -- a word of a list of words, by its place
-module _ {X : Type 0} (f : X → List ℕ) (xs : List X) (i : ℕ) (x : X) (name : List ℕ) (l : i < length xs) (is : x ≡ get_or xs i x) (named : name ≡ f x) where
+module _ {X : Type 0} (f : X → List ℕ) (xs : List X) (i : ℕ) (x : X) (name : List ℕ) (l : i < length xs) (is : x ≡ get_or xs i x)
+    (named : name ≡ f x) where
   here : f (get_or xs i x) ≡ name
   here = ap f (sym is) ∙ sym named
 
@@ -168,7 +171,8 @@ room-left f xs i shelf book h are l =
 
 -- ---- one file
 
-module _ (shelf : Change (Option Files)) (n : ℕ) (name bytes : List ℕ) (old new : Book) (loaded : IsLoaded shelf name bytes) (fits : length bytes ≤ MAX_INPUT_BYTES) where
+module _ (shelf : Change (Option Files)) (n : ℕ) (name bytes : List ℕ) (old new : Book) (loaded : IsLoaded shelf name bytes)
+    (fits : length bytes ≤ MAX_INPUT_BYTES) where
   bindable-by : (file : TableFile) → IsTableAt file bytes → IsFit file → IsBindable shelf.before name file
   bindable-by file at fit = record { bytes = bytes; found = loaded.found; fits = fits; at = at; fit = fit }
 
@@ -216,9 +220,18 @@ module _ (old new : Change (Option Files)) (same : old.before ≡ new.before) (f
 
 -- ---- where it stops
 
-module _ (shelf : Change (Option Files)) (names before later : List (List ℕ)) (name : List ℕ) (book : Book) (h : BoundUpTo shelf.before before book) (are : names ≡ before ++ name ∷ later) where
+module _ (shelf : Change (Option Files)) (names before later : List (List ℕ)) (name : List ℕ) (book : Book)
+    (h : BoundUpTo shelf.before before book) (are : names ≡ before ++ name ∷ later) where
   stop : StopsAt names shelf
-  stop = record { before = before; name = name; later = later; names_are = are; files = h.files; bindable = h.bindable; few = up-to-few shelf.before before book h }
+  stop = record {
+    before = before;
+    name = name;
+    later = later;
+    names_are = are;
+    files = h.files;
+    bindable = h.bindable;
+    few = up-to-few shelf.before before book h;
+  }
 
   pub says-refused : (status : Status) (line text : List ℕ) → IsUnheld TableFileSays shelf name status line
       → text ≡ of_file (length before + 1) line → BindSays names shelf status text
@@ -230,7 +243,15 @@ module _ (shelf : Change (Option Files)) (names before later : List (List ℕ)) 
       → BindSays names shelf status text
   unfolding stop
   says-full file status text last sound more ends told =
-      inr (inr (record { stop = stop; file = file; last = last; sound = sound; full = bound-full h.files file book h.bound more; ends = ends; told = told }))
+      inr (inr (record {
+        stop = stop;
+        file = file;
+        last = last;
+        sound = sound;
+        full = bound-full h.files file book h.bound more;
+        ends = ends;
+        told = told;
+      }))
 
   -- what is told of a file that is not added
   pub says-stop : (n : ℕ) (new : Book) (answer : Answer) → n ≡ length before + 1 → IsAdded shelf n name book new (Some answer)
@@ -264,7 +285,8 @@ module _ (names : List (List ℕ)) (run : Run) (files : List TableFile) (free : 
   book-told : (status : Status) (text : List ℕ) → BindSays names run.shelf status text → IsDelivered status text run.output run.status
       → HasBound files run
   book-told status text (inl said) (inl whole) =
-      let same = same-tables free.shelf names files said.files free.bindable (told-of (λ shelf. AreBindable shelf names said.files) said.bindable) in
+      let same = same-tables free.shelf names files said.files free.bindable
+      (told-of (λ shelf. AreBindable shelf names said.files) said.bindable) in
       record {
         book = said.book;
         well_formed = said.well_formed;
@@ -278,13 +300,15 @@ module _ (names : List (List ℕ)) (run : Run) (files : List TableFile) (free : 
   book-told status text (inr (inl refused)) delivered =
       let there = at-name free.shelf refused.stop.before refused.stop.later refused.stop.name files
       (subst (λ (ns : List (List ℕ)). AreBindable (Some free.shelf) ns files) refused.stop.names_are free.bindable) in
-      absurd (free.shelf_sound (not-told refused.stop.name run free.shelf free.told there.1.bytes there.1.found TableFileSays there.1.fits (table-not_told there.0 there.1.bytes there.1.at there.1.fit) status refused.line refused.why))
+      absurd (free.shelf_sound (not-told refused.stop.name run free.shelf free.told there.1.bytes there.1.found TableFileSays there.1.fits
+      (table-not_told there.0 there.1.bytes there.1.at there.1.fit) status refused.line refused.why))
   book-told status text (inr (inr full)) delivered =
       let front = front-tables free.shelf full.stop.before full.stop.later full.stop.name files full.stop.files full.file
       (subst (λ (ns : List (List ℕ)). AreBindable (Some free.shelf) ns files) full.stop.names_are free.bindable)
       (told-of (λ shelf. AreBindable shelf full.stop.before full.stop.files) full.stop.bindable)
       (told-of (λ shelf. IsBindable shelf full.stop.name full.file) full.last) in
-      absurd (free.few (subst (λ (fs : List TableFile). HoldMore (tables_of fs) MAX_NODES) (sym front.1) (hold-longer (full.stop.files ++ full.file ∷ []) front.0 MAX_NODES full.full)))
+      absurd (free.few (subst (λ (fs : List TableFile). HoldMore (tables_of fs) MAX_NODES) (sym front.1)
+      (hold-longer (full.stop.files ++ full.file ∷ []) front.0 MAX_NODES full.full)))
 
 pub bind-answers : (names : List (List ℕ)) (run : Run) → IsBind names run → (files : List TableFile) → IsUnhinderedBind names run files
     → HasBound files run ⊎ IsOutOfMemory run.output run.status
@@ -295,7 +319,8 @@ bind-answers names run is files free = by-ends is.ends where
 
 -- ---- what is shown
 
-module _ (names : List (List ℕ)) (run : Run) (done : run.status ≡ status_number Done) (shelf : Files) (told : run.shelf.before ≡ Some shelf) where
+module _ (names : List (List ℕ)) (run : Run) (done : run.status ≡ status_number Done) (shelf : Files)
+    (told : run.shelf.before ≡ Some shelf) where
   shown-by : (status : Status) (text : List ℕ) → BindSays names run.shelf status text → IsDelivered status text run.output run.status
       → ShowsBound names shelf run
   shown-by status text (inl said) (inl whole) = record {
@@ -311,7 +336,8 @@ module _ (names : List (List ℕ)) (run : Run) (done : run.status ≡ status_num
   shown-by status text (inl said) (inr failed) = let e = sym done ∙ failed.0 in absurd (cc)
   shown-by status text (inr (inl refused)) delivered =
       absurd (not-other run.status (inl done)
-      (delivered-other status text run.output run.status (unheld-other TableFileSays table_told-other run.shelf refused.stop.name status refused.line refused.why) delivered))
+      (delivered-other status text run.output run.status
+      (unheld-other TableFileSays table_told-other run.shelf refused.stop.name status refused.line refused.why) delivered))
   shown-by status text (inr (inr full)) (inl whole) = let e = sym done ∙ whole.0 ∙ ap status_number full.ends in absurd (cc)
   shown-by status text (inr (inr full)) (inr failed) = let e = sym done ∙ failed.0 in absurd (cc)
 

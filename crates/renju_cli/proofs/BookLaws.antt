@@ -20,13 +20,15 @@ use Rattle.renju_cli.specs.declared.TheConstants.{MAX_WORK}
 use Rattle.renju_cli.specs.Statuses.{status_number}
 use Rattle.renju_cli.specs.Runs.{Run}
 use Rattle.renju_cli.specs.Told.{IsTold, IsYielded}
-use Rattle.renju_cli.specs.Books.{AreAccepted, AreWithin, BookSays, EntriesSay, IsBookAt, IsRefusedBook, IsRefusedEntry, IsWonBook, IsWonEntry, book_command, hold_refusal_status}
+use Rattle.renju_cli.specs.Books.{AreAccepted, AreWithin, BookSays, EntriesSay, IsBookAt, IsRefusedBook, IsRefusedEntry, IsWonBook}
+use Rattle.renju_cli.specs.Books.{IsWonEntry, book_command, hold_refusal_status}
 use Rattle.renju_cli.specs.Commands.{HasForm}
 use Rattle.renju_cli.proofs.FormLaws.{has-told}
 use Rattle.renju_cli.proofs.ToldLaws.{IsWhole, whole-or-yielded, given-told}
 
 -- `book` and words that are no number in its range have no form
-pub no-book : (rest : List (List ℕ)) → ((work : ℕ) → (1 ≤ work) × (work ≤ MAX_WORK) → rest ≡ decimal work ∷ [] → ⊥) → ¬ HasForm (codes "book" ∷ rest)
+pub no-book : (rest : List (List ℕ)) → ((work : ℕ) → (1 ≤ work) × (work ≤ MAX_WORK) → rest ≡ decimal work ∷ [] → ⊥)
+    → ¬ HasForm (codes "book" ∷ rest)
 no-book rest none h =
     let is = has-told (codes "book" ∷ rest) h in
     let spelled = is.spelled in
@@ -39,7 +41,8 @@ pub one-book : (book other : Book) (bytes : List ℕ) → IsBookAt book bytes �
 one-book book other bytes at is = let only = book-read-back book bytes at.text at.well_formed in only.no_other other is.text
 
 -- which is not refused
-pub book-not_refused : (book : Book) (bytes : List ℕ) → IsBookAt book bytes → (status : Status) (text : List ℕ) → IsRefusedBook bytes status text → ⊥
+pub book-not_refused : (book : Book) (bytes : List ℕ) → IsBookAt book bytes → (status : Status) (text : List ℕ)
+    → IsRefusedBook bytes status text → ⊥
 book-not_refused book bytes at status text refused =
     let only = book-read-back book bytes at.text at.well_formed in refused.cause (only.no_fault refused.error refused.fault)
 
@@ -50,11 +53,13 @@ at-place P (y ∷ es) zero e at all = let same : y ≡ e = cc in subst P same al
 at-place P (y ∷ es) (suc i) e at all = at-place P es i e at all.1
 
 -- entries that are accepted are not refused
-pub entries-not_refused : (work : ℕ) (book : Book) (status : Status) (text : List ℕ) → AreAccepted work book → IsRefusedEntry work book status text → ⊥
+pub entries-not_refused : (work : ℕ) (book : Book) (status : Status) (text : List ℕ) → AreAccepted work book
+    → IsRefusedEntry work book status text → ⊥
 entries-not_refused work book status text accepted refused = by-error refused.error refused.cause refused.fault where
   by-error : (error : HoldError) → (error ≡ NotHeld → ⊥) → IsHoldFault book.table book.entries work error → ⊥
   by-error (Refused n line why) cause fault =
-      let is = at-place (IsAccepted book.table work) book.entries (n - 1) fault.entry fault.earliest.entry accepted in fault.refused is.accepted
+      let is = at-place (IsAccepted book.table work) book.entries (n - 1) fault.entry fault.earliest.entry accepted in
+      fault.refused is.accepted
   by-error (SpentEntry n) cause fault =
       let is = at-place (IsAccepted book.table work) book.entries (n - 1) fault.entry fault.earliest.entry accepted in
       let few = is.arrivals in
@@ -63,9 +68,11 @@ entries-not_refused work book status text accepted refused = by-error refused.er
   by-error NotHeld cause fault = cause refl
 
 -- the status of entries whose arrivals are few enough
-within-refused : (work : ℕ) (book : Book) (status : Status) (text : List ℕ) → AreWithin work book → IsRefusedEntry work book status text → status ≡ RefusedTable
+within-refused : (work : ℕ) (book : Book) (status : Status) (text : List ℕ) → AreWithin work book → IsRefusedEntry work book status text
+    → status ≡ RefusedTable
 within-refused work book status text few refused = refused.ends ∙ by-error refused.error refused.cause refused.fault where
-  by-error : (error : HoldError) → (error ≡ NotHeld → ⊥) → IsHoldFault book.table book.entries work error → hold_refusal_status error ≡ RefusedTable
+  by-error : (error : HoldError) → (error ≡ NotHeld → ⊥) → IsHoldFault book.table book.entries work error
+      → hold_refusal_status error ≡ RefusedTable
   by-error (Refused n line why) cause fault = refl
   by-error (SpentEntry n) cause fault =
       let least = at-place (λ (e : Entry). entry_arrivals book.table e ≤ work) book.entries (n - 1) fault.entry fault.earliest.entry few in
@@ -74,12 +81,14 @@ within-refused work book status text few refused = refused.ends ∙ by-error ref
   by-error NotHeld cause fault = absurd (cause refl)
 
 -- what is said of a book for which the work is enough is an answer
-pub book-answers : (work : ℕ) (bytes : List ℕ) → (book_command work).IsAnswerable bytes → (status : Status) (text : List ℕ) → BookSays work bytes status text → (book_command work).IsAnswer status
+pub book-answers : (work : ℕ) (bytes : List ℕ) → (book_command work).IsAnswerable bytes → (status : Status) (text : List ℕ)
+    → BookSays work bytes status text → (book_command work).IsAnswer status
 book-answers work bytes can status text (inl refused) = absurd (book-not_refused can.0 bytes can.1 status text refused)
 book-answers work bytes can status text (inr said) = by-verdict said.2 where
   by-verdict : EntriesSay work said.0 status text → (status ≡ Done) ⊎ (status ≡ RefusedTable)
   by-verdict (inl accepted) = inl accepted.ends
-  by-verdict (inr refused) = inr (within-refused work said.0 status text (subst (AreWithin work) (sym (one-book can.0 said.0 bytes can.1 said.1)) can.2) refused)
+  by-verdict (inr refused) = inr
+      (within-refused work said.0 status text (subst (AreWithin work) (sym (one-book can.0 said.0 bytes can.1 said.1)) can.2) refused)
 
 -- ---- status 0
 
@@ -90,10 +99,12 @@ won-entry t work e sound accepted = record {
   accepted = accepted.accepted;
   within = accepted.arrivals;
   depth = sound.moves;
-  wins = subst (λ (n : ℕ). RootWins e.kind e.root n e.board) (sym sound.moves) (accepted-root-wins e.kind t e.root e.board accepted.accepted);
+  wins = subst (λ (n : ℕ). RootWins e.kind e.root n e.board) (sym sound.moves)
+      (accepted-root-wins e.kind t e.root e.board accepted.accepted);
 }
 
-won-entries : (t : List Node) (work : ℕ) (es : List Entry) → AllByRecursion (IsSound t) es → AllByRecursion (IsAccepted t work) es → AllByRecursion (IsWonEntry t work) es
+won-entries : (t : List Node) (work : ℕ) (es : List Entry) → AllByRecursion (IsSound t) es → AllByRecursion (IsAccepted t work) es
+    → AllByRecursion (IsWonEntry t work) es
 won-entries t work [] sound accepted = tt
 won-entries t work (e ∷ es) sound accepted = (won-entry t work e sound.0 accepted.0, won-entries t work es sound.1 accepted.1)
 
@@ -102,25 +113,29 @@ module _ (work : ℕ) (run : Run) (done : run.status ≡ 0) where
   other-status : (status other : Status) → run.status ≡ status_number status → status ≡ other → 0 ≡ status_number other
   other-status status other ends is = sym done ∙ ends ∙ ap status_number is
 
-  by-entries : (bytes : List ℕ) (status : Status) (text : List ℕ) (book : Book) → IsBookAt book bytes → run.status ≡ status_number status → Takes run.output.before text run.output.after → EntriesSay work book status text → IsWonBook work bytes run.output
+  by-entries : (bytes : List ℕ) (status : Status) (text : List ℕ) (book : Book) → IsBookAt book bytes → run.status ≡ status_number status
+      → Takes run.output.before text run.output.after → EntriesSay work book status text → IsWonBook work bytes run.output
   by-entries bytes status text book at ends whole (inl accepted) = record {
     book = book;
     text = at.text;
     entries = won-entries book.table work book.entries at.well_formed.entries accepted.accepted;
     line = subst (λ (l : List ℕ). Takes run.output.before l run.output.after) accepted.line whole;
   }
-  by-entries bytes status text book at ends whole (inr refused) = absurd (by-error refused.error refused.cause (other-status status (hold_refusal_status refused.error) ends refused.ends)) where
-    by-error : (error : HoldError) → (error ≡ NotHeld → ⊥) → 0 ≡ status_number (hold_refusal_status error) → ⊥
-    by-error (Refused n line why) cause e = cc
-    by-error (SpentEntry n) cause e = cc
-    by-error NotHeld cause e = cause refl
+  by-entries bytes status text book at ends whole (inr refused) =
+      absurd (by-error refused.error refused.cause (other-status status (hold_refusal_status refused.error) ends refused.ends)) where
+        by-error : (error : HoldError) → (error ≡ NotHeld → ⊥) → 0 ≡ status_number (hold_refusal_status error) → ⊥
+        by-error (Refused n line why) cause e = cc
+        by-error (SpentEntry n) cause e = cc
+        by-error NotHeld cause e = cause refl
 
-  by-saying : (bytes : List ℕ) (status : Status) (text : List ℕ) → run.status ≡ status_number status → Takes run.output.before text run.output.after → BookSays work bytes status text → IsWonBook work bytes run.output
+  by-saying : (bytes : List ℕ) (status : Status) (text : List ℕ) → run.status ≡ status_number status
+      → Takes run.output.before text run.output.after → BookSays work bytes status text → IsWonBook work bytes run.output
   by-saying bytes status text ends whole (inl refused) = absurd (let no = other-status status RefusedText ends refused.ends in cc)
   by-saying bytes status text ends whole (inr said) = by-entries bytes status text said.0 said.1 ends whole said.2
 
   by-end : IsWhole (BookSays work) run ⊎ IsYielded run.status → IfSome run.input.before (λ bytes. IsWonBook work bytes run.output)
-  by-end (inl w) = given-told (λ bytes. IsWonBook work bytes run.output) run.input.before w.bytes w.given (by-saying w.bytes w.status w.text w.ends w.whole w.says)
+  by-end (inl w) = given-told (λ bytes. IsWonBook work bytes run.output) run.input.before w.bytes w.given
+      (by-saying w.bytes w.status w.text w.ends w.whole w.says)
   by-end (inr (inl long)) = absurd (let no : 0 ≡ 11 = sym done ∙ long in cc)
   by-end (inr (inr (inl memory))) = absurd (let no : 0 ≡ 6 = sym done ∙ memory in cc)
   by-end (inr (inr (inr (inl read)))) = absurd (let no : 0 ≡ 7 = sym done ∙ read in cc)

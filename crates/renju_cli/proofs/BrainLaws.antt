@@ -12,7 +12,8 @@ use Rattle.gomocup_text.specs.declared.Command.TheVariants.{End}
 use Rattle.brain_session.specs.declared.sessions.ServeError.{ServeError}
 use Rattle.brain_session.specs.declared.sessions.ServeError.TheVariants.{ReadFailed, WriteFailed, Exhausted, Memory as NoMemory}
 use Rattle.brain_session.specs.States.{State, new_brain}
-use Rattle.brain_session.specs.Serving.{Output, Served, served, HasAnswered, IsReadToEnd, StopsAtRead, StopsAtWrite, StopsAtStep, within_limit, IsTooLong}
+use Rattle.brain_session.specs.Serving.{Output, Served, served, HasAnswered, IsReadToEnd, StopsAtRead, StopsAtWrite, StopsAtStep}
+use Rattle.brain_session.specs.Serving.{within_limit, IsTooLong}
 use Rattle.renju_cli.specs.declared.status.Status.{Status}
 use Rattle.renju_cli.specs.declared.status.Status.TheVariants.{Done, Memory, ReadFault, WriteFault, TooLong}
 use Rattle.brain_session.specs.declared.TheConstants.{BRAIN_WORK}
@@ -20,7 +21,10 @@ use Rattle.renju_cli.specs.Statuses.{status_number}
 use Rattle.renju_io.specs.Asked.{IsNotAsked}
 use Rattle.renju_cli.specs.Runs.{Change, Run, HasFailed, IsAskedNoMore, IsSound}
 use Rattle.renju_cli.specs.Checks.{IsTableAt, IsRefusedTable, IsSpentWork}
-use Rattle.renju_cli.specs.Brains.{nothing_held, held_by, named_entry, of_book, of_table, HeldFile, NamedRoot, session_of, shown_before, shown_after, EndsSession, IsSession, IsUnbegun, EndsBrain, IsUnhinderedSession, HasServed, AnswersAll, IsBrain, IsFit, IsHeldText, IsLoaded, BookFileSays, FileSays, TableFileSays, IsUnheld, IsBrainWith, TellsFile, PlaysByFile, GivesHeld, IsUnhinderedShelf}
+use Rattle.renju_cli.specs.Brains.{nothing_held, held_by, named_entry, of_book, of_table, HeldFile, NamedRoot, session_of, shown_before}
+use Rattle.renju_cli.specs.Brains.{shown_after, EndsSession, IsSession, IsUnbegun, EndsBrain, IsUnhinderedSession, HasServed, AnswersAll}
+use Rattle.renju_cli.specs.Brains.{IsBrain, IsFit, IsHeldText, IsLoaded, BookFileSays, FileSays, TableFileSays, IsUnheld, IsBrainWith}
+use Rattle.renju_cli.specs.Brains.{TellsFile, PlaysByFile, GivesHeld, IsUnhinderedShelf}
 use Rattle.renju_cli.specs.Loading.{session_status, IsLoadedBookText, IsLoadedHeld, IsLoadedText}
 use Rattle.renju_cli.specs.declared.loading.Loaded.{Loaded}
 use Rattle.renju_cli.specs.declared.loading.Loaded.TheVariants.{Holds, Tells}
@@ -36,13 +40,15 @@ use Rattle.table_book.specs.Books.{BeginsBook}
 use Rattle.table_book.proofs.Beginnings.{book-begins, table-no-book}
 
 -- a file under a name that is too long
-long-under : (name : List ℕ) (files : Files) (found : Option (List ℕ)) → file_under name files ≡ found → IsSomeAnd found (λ bytes. MAX_INPUT_BYTES < length bytes)
+long-under : (name : List ℕ) (files : Files) (found : Option (List ℕ)) → file_under name files ≡ found
+    → IsSomeAnd found (λ bytes. MAX_INPUT_BYTES < length bytes)
     → (bytes : List ℕ) × (found ≡ Some bytes) × (MAX_INPUT_BYTES < length bytes)
 long-under name files None is h = absurd h
 long-under name files (Some bytes) is h = (bytes, refl, h)
 
 -- bytes that the shelf has under the name and that are too many: those that it tells, and else some
-pub long-file : (name : List ℕ) (files : Option Files) → IfSome files (λ told. IsSomeAnd (file_under name told) (λ bytes. MAX_INPUT_BYTES < length bytes))
+pub long-file : (name : List ℕ) (files : Option Files)
+    → IfSome files (λ told. IsSomeAnd (file_under name told) (λ bytes. MAX_INPUT_BYTES < length bytes))
     → (bytes : List ℕ) × IfSome files (λ told. file_under name told ≡ Some bytes) × (MAX_INPUT_BYTES < length bytes)
 long-file name (Some told) h = long-under name told (file_under name told) refl h
 long-file name None h = let x = longer-than MAX_INPUT_BYTES in (x.0, tt, x.1)
@@ -61,7 +67,8 @@ pub record IsServed (first last : State) (input output : Change (Option (List �
   pub source_failed : IsErrOf outcome ReadFailed → HasFailed input
   pub write_failed : IsErrOf outcome WriteFailed → IfSome input.before (λ left. StopsAtWrite (did first last input output) (commands left))
   pub sink_failed : IsErrOf outcome WriteFailed → HasFailed output
-  pub exhausted : IsErrOf outcome Exhausted → IfSome input.before (λ left. HasAnswered (did first last input output) (commands (within_limit left)))
+  pub exhausted : IsErrOf outcome Exhausted → IfSome input.before
+      (λ left. HasAnswered (did first last input output) (commands (within_limit left)))
   pub too_long : IsErrOf outcome Exhausted → IfSome input.before IsTooLong
   pub few_past : IsErrOf outcome Exhausted → IsAskedNoMore (MAX_SESSION_BYTES + 1) input
   pub memory : IsErrOf outcome NoMemory → (last ≡ first) × (shown_after output ≡ shown_before output) × (input.after ≡ input.before)
@@ -76,10 +83,12 @@ both-told P Q None p q = tt
 both-told P Q (Some x) p q = (p, q)
 
 module _ (held : HeldTable) (last : State) (input output : Change (Option (List ℕ))) where
-  session-by : (status : Status) → EndsSession (session_of held last output) input output status → EndsBrain held input output (status_number status)
+  session-by : (status : Status) → EndsSession (session_of held last output) input output status
+      → EndsBrain held input output (status_number status)
   session-by status how = inl (record { status = status; last = last; ends = refl; how = how })
 
-  by-outcome : (outcome : Result (Unit {0}) ServeError) → IsServed (new_brain held) last input output outcome → EndsBrain held input output (status_number (session_status outcome))
+  by-outcome : (outcome : Result (Unit {0}) ServeError) → IsServed (new_brain held) last input output outcome
+      → EndsBrain held input output (status_number (session_status outcome))
   by-outcome (Ok done) is = session-by Done (is.ok, is.ended)
   by-outcome (Err ReadFailed) is = session-by ReadFault (is.source_failed refl, is.read_failed refl)
   by-outcome (Err WriteFailed) is = session-by WriteFault (is.sink_failed refl, is.write_failed refl)
@@ -100,7 +109,8 @@ module _ (held : HeldTable) (last : State) (input output : Change (Option (List 
     by-memory (inr stops) = session-by Memory stops
 
 -- how a brain ended that was to hold this
-pub session-ends : (held : HeldTable) (first last : State) (input output : Change (Option (List ℕ))) (outcome : Result (Unit {0}) ServeError) → first ≡ new_brain held
+pub session-ends : (held : HeldTable) (first last : State) (input output : Change (Option (List ℕ)))
+    (outcome : Result (Unit {0}) ServeError) → first ≡ new_brain held
     → IsServed first last input output outcome → EndsBrain held input output (status_number (session_status outcome))
 session-ends held first last input output outcome new is =
     by-outcome held last input output outcome (subst (λ (s : State). IsServed s last input output outcome) new is)
@@ -118,16 +128,19 @@ not-too_long bytes (inl few) long = let many = long.many in omega (arith, few, m
 not-too_long bytes (inr end) long = long.no_end end
 
 module _ (held : HeldTable) (run : Run) (bytes : List ℕ) (free : IsUnhinderedSession run bytes) where
-  by-status : (status : Status) (last : State) → run.status ≡ status_number status → EndsSession (session_of held last run.output) run.input run.output status
+  by-status : (status : Status) (last : State) → run.status ≡ status_number status
+      → EndsSession (session_of held last run.output) run.input run.output status
       → HasServed held run bytes ⊎ (run.status ≡ status_number Memory)
   by-status Done last ends how =
-      let answered = told-some (λ told. HasAnswered (session_of held last run.output) (commands told)) run.input.before bytes free.told how.0 in
+      let answered = told-some (λ told. HasAnswered (session_of held last run.output) (commands told)) run.input.before bytes free.told
+      how.0 in
       inl (record { ends = ends; whole = answered.writes.wrote })
   by-status Memory last ends how = inr ends
   by-status ReadFault last ends how = absurd (free.input_sound how.0)
   by-status WriteFault last ends how = absurd (free.output_sound how.0)
   by-status TooLong last ends how =
-      let long = told-some (λ told. HasAnswered (session_of held last run.output) (commands (within_limit told)) × IsTooLong told) run.input.before bytes free.told how.0 in
+      let long = told-some (λ told. HasAnswered (session_of held last run.output) (commands (within_limit told)) × IsTooLong told)
+      run.input.before bytes free.told how.0 in
       absurd (not-too_long bytes free.fits long.1)
   by-status _ last ends how = absurd how
 
@@ -142,23 +155,28 @@ brain-answers run is bytes free = session-serves nothing_held run bytes free is.
 -- ---- what a FILE gives
 
 -- the text of a table that is accepted is not refused
-pub table-not_told : (file : TableFile) (bytes : List ℕ) → IsTableAt file bytes → IsFit file → (status : Status) (text : List ℕ) → TableFileSays bytes status text → ⊥
+pub table-not_told : (file : TableFile) (bytes : List ℕ) → IsTableAt file bytes → IsFit file → (status : Status) (text : List ℕ)
+    → TableFileSays bytes status text → ⊥
 table-not_told file bytes at fit status text (inl refused) =
     let only = table-read-back file bytes at.text at.lawful at.moves in refused.cause (only.no_fault refused.error refused.fault)
 table-not_told file bytes at fit status text (inr said) =
-    by-verdict (subst (λ (f : TableFile). IsRefusedTable f status text ⊎ IsSpentWork BRAIN_WORK f status text) (one-table file said.0 bytes at said.1) said.2) where
+    by-verdict (subst (λ (f : TableFile). IsRefusedTable f status text ⊎ IsSpentWork BRAIN_WORK f status text)
+    (one-table file said.0 bytes at said.1) said.2) where
       by-verdict : IsRefusedTable file status text ⊎ IsSpentWork BRAIN_WORK file status text → ⊥
       by-verdict (inl refused) = refused.refused fit.accepted
       by-verdict (inr spent) = let more = spent.more in let few = fit.within in omega (arith, more, few)
 
 -- nor is that of a book of which each entry is accepted
-pub book-not_told : (book : Book) (bytes : List ℕ) → IsBookAt book bytes → AreAccepted BRAIN_WORK book → (status : Status) (text : List ℕ) → BookFileSays bytes status text → ⊥
+pub book-not_told : (book : Book) (bytes : List ℕ) → IsBookAt book bytes → AreAccepted BRAIN_WORK book → (status : Status) (text : List ℕ)
+    → BookFileSays bytes status text → ⊥
 book-not_told book bytes at fit status text (inl refused) = book-not_refused book bytes at status text refused
 book-not_told book bytes at fit status text (inr said) =
-    entries-not_refused BRAIN_WORK book status text fit (subst (λ (b : Book). IsRefusedEntry BRAIN_WORK b status text) (one-book book said.0 bytes at said.1) said.2)
+    entries-not_refused BRAIN_WORK book status text fit
+    (subst (λ (b : Book). IsRefusedEntry BRAIN_WORK b status text) (one-book book said.0 bytes at said.1) said.2)
 
 -- what bytes give is not told of
-held-not_told : (file : HeldFile) (bytes : List ℕ) → IsHeldText file bytes → (status : Status) (text : List ℕ) → FileSays bytes status text → ⊥
+held-not_told : (file : HeldFile) (bytes : List ℕ) → IsHeldText file bytes → (status : Status) (text : List ℕ) → FileSays bytes status text
+    → ⊥
 held-not_told file bytes (inl table) status text (inl says) = table-no-book table.file bytes table.at.text says.0
 held-not_told file bytes (inl table) status text (inr says) = table-not_told table.file bytes table.at table.fit status text says.1
 held-not_told file bytes (inr book) status text (inl says) = book-not_told book.book bytes book.at book.fit status text says.1
@@ -166,10 +184,14 @@ held-not_told file bytes (inr book) status text (inr says) = says.0 (book-begins
 
 -- bytes give one thing
 one-held : (file other : HeldFile) (bytes : List ℕ) → IsHeldText file bytes → IsHeldText other bytes → other ≡ file
-one-held file other bytes (inl table) (inl second) = second.gives ∙ ap of_table (one-table table.file second.file bytes table.at second.at) ∙ sym table.gives
-one-held file other bytes (inl table) (inr second) = absurd (table-no-book table.file bytes table.at.text (book-begins second.book bytes second.at.text))
-one-held file other bytes (inr book) (inl second) = absurd (table-no-book second.file bytes second.at.text (book-begins book.book bytes book.at.text))
-one-held file other bytes (inr book) (inr second) = second.gives ∙ ap of_book (one-book book.book second.book bytes book.at second.at) ∙ sym book.gives
+one-held file other bytes (inl table) (inl second) =
+    second.gives ∙ ap of_table (one-table table.file second.file bytes table.at second.at) ∙ sym table.gives
+one-held file other bytes (inl table) (inr second) =
+    absurd (table-no-book table.file bytes table.at.text (book-begins second.book bytes second.at.text))
+one-held file other bytes (inr book) (inl second) =
+    absurd (table-no-book second.file bytes second.at.text (book-begins book.book bytes book.at.text))
+one-held file other bytes (inr book) (inr second) =
+    second.gives ∙ ap of_book (one-book book.book second.book bytes book.at second.at) ∙ sym book.gives
 
 -- the roots of entries, as they are held
 named-roots : (es : List Entry) → map (λ (r : NamedRoot). r.root) (map named_entry es) ≡ map held_entry es
@@ -177,7 +199,8 @@ named-roots [] = refl
 named-roots (e ∷ es) = ap (λ (l : List HeldRoot). held_entry e ∷ l) (named-roots es)
 
 -- the table of a book, held with the roots of its entries
-pub book-held : (book : Book) (held : HeldTable) → held.table ≡ book.table → held.roots ≡ map held_entry book.entries → held ≡ held_by (of_book book)
+pub book-held : (book : Book) (held : HeldTable) → held.table ≡ book.table → held.roots ≡ map held_entry book.entries
+    → held ≡ held_by (of_book book)
 book-held book held table roots =
     let all : held.roots ≡ map (λ (r : NamedRoot). r.root) (map named_entry book.entries) = roots ∙ sym (named-roots book.entries) in
     λ i. record { table = table i; roots = all i }
@@ -203,9 +226,11 @@ module _ (name : List ℕ) (run : Run) (files : Files) (told : run.shelf.before 
     same-bytes bytes loaded = same_Some bytes own (sym (found-under bytes loaded) ∙ found)
 
     -- where they are not too many, and nothing is said of them, it was the shelf that failed
-    pub not-told : (Says : List ℕ → Status → List ℕ → Type 0) → length own ≤ MAX_INPUT_BYTES → ((status : Status) (text : List ℕ) → Says own status text → ⊥)
+    pub not-told : (Says : List ℕ → Status → List ℕ → Type 0) → length own ≤ MAX_INPUT_BYTES
+        → ((status : Status) (text : List ℕ) → Says own status text → ⊥)
         → (status : Status) (text : List ℕ) → IsUnheld Says run.shelf name status text → HasFailed run.shelf
-    not-told Says fits silent status text (inl refused) = absurd (silent status text (subst (λ (l : List ℕ). Says l status text) (same-bytes refused.bytes refused.loaded) refused.says))
+    not-told Says fits silent status text (inl refused) =
+        absurd (silent status text (subst (λ (l : List ℕ). Says l status text) (same-bytes refused.bytes refused.loaded) refused.says))
     not-told Says fits silent status text (inr (inl long)) =
         let size = ap length (same-bytes long.bytes long.loaded) in
         let more = long.long in
@@ -218,12 +243,15 @@ module _ (name : List ℕ) (run : Run) (files : Files) (told : run.shelf.before 
         → IsSession (held_by file) run.input run.output run.status ⊎ HasFailed run.shelf ⊎ IsUnbegun run.input run.output run.status
     ends-by (inl plays) =
         let at = subst (λ (l : List ℕ). IsHeldText plays.file l) (same-bytes fit.bytes fit.found plays.bytes plays.loaded) plays.at in
-        inl (subst (λ (f : HeldFile). IsSession (held_by f) run.input run.output run.status) (one-held file plays.file fit.bytes fit.at at) plays.session)
-    ends-by (inr (inl tells)) = inr (inl (not-told fit.bytes fit.found FileSays fit.fits (held-not_told file fit.bytes fit.at) tells.status tells.text tells.why))
+        inl (subst (λ (f : HeldFile). IsSession (held_by f) run.input run.output run.status) (one-held file plays.file fit.bytes fit.at at)
+        plays.session)
+    ends-by (inr (inl tells)) = inr
+        (inl (not-told fit.bytes fit.found FileSays fit.fits (held-not_told file fit.bytes fit.at) tells.status tells.text tells.why))
     ends-by (inr (inr unbegun)) = inr (inr unbegun)
 
 -- `brain FILE` serves its input to the end by what a file gives
-pub brain-with-answers : (name : List ℕ) (run : Run) → IsBrainWith name run → (file : HeldFile) → IsUnhinderedShelf (λ files. GivesHeld name files file) run → AnswersAll (held_by file) run
+pub brain-with-answers : (name : List ℕ) (run : Run) → IsBrainWith name run → (file : HeldFile)
+    → IsUnhinderedShelf (λ files. GivesHeld name files file) run → AnswersAll (held_by file) run
 brain-with-answers name run is file free bytes session = by-end (ends-by name run free.files free.told file free.fit is.ends) where
   by-end : IsSession (held_by file) run.input run.output run.status ⊎ HasFailed run.shelf ⊎ IsUnbegun run.input run.output run.status
       → HasServed (held_by file) run bytes ⊎ (run.status ≡ status_number Memory)

@@ -18,7 +18,8 @@ use Rattle.renju_cli.proofs.FormLaws.{has-told}
 use Rattle.renju_cli.proofs.ToldLaws.{IsWhole, whole-or-yielded, given-told}
 
 -- `check` and words that are no number in its range have no form
-pub no-check : (rest : List (List ℕ)) → ((work : ℕ) → (1 ≤ work) × (work ≤ MAX_WORK) → rest ≡ decimal work ∷ [] → ⊥) → ¬ HasForm (codes "check" ∷ rest)
+pub no-check : (rest : List (List ℕ)) → ((work : ℕ) → (1 ≤ work) × (work ≤ MAX_WORK) → rest ≡ decimal work ∷ [] → ⊥)
+    → ¬ HasForm (codes "check" ∷ rest)
 no-check rest none h =
     let is = has-told (codes "check" ∷ rest) h in
     let spelled = is.spelled in
@@ -29,7 +30,8 @@ pub one-table : (file other : TableFile) (bytes : List ℕ) → IsTableAt file b
 one-table file other bytes at is = let only = table-read-back file bytes at.text at.lawful at.moves in only.no_other other is.text
 
 -- what is said of a text for which the work is enough is an answer
-pub check-answers : (work : ℕ) (bytes : List ℕ) → (check_command work).IsAnswerable bytes → (status : Status) (text : List ℕ) → CheckSays work bytes status text → (check_command work).IsAnswer status
+pub check-answers : (work : ℕ) (bytes : List ℕ) → (check_command work).IsAnswerable bytes → (status : Status) (text : List ℕ)
+    → CheckSays work bytes status text → (check_command work).IsAnswer status
 check-answers work bytes can status text (inl refused) =
     let only = table-read-back can.0 bytes can.1.text can.1.lawful can.1.moves in
     absurd (refused.cause (only.no_fault refused.error refused.fault))
@@ -52,7 +54,8 @@ module _ (work : ℕ) (run : Run) (zero : run.status ≡ 0) where
   other-status : (status other : Status) → run.status ≡ status_number status → status ≡ other → 0 ≡ status_number other
   other-status status other ends is = sym zero ∙ ends ∙ ap status_number is
 
-  accepted-input : (bytes : List ℕ) (text : List ℕ) (file : TableFile) → IsTableAt file bytes → (status : Status) → IsAcceptedTable work file status text → Takes run.output.before text run.output.after → IsAcceptedInput work bytes run.output
+  accepted-input : (bytes : List ℕ) (text : List ℕ) (file : TableFile) → IsTableAt file bytes → (status : Status)
+      → IsAcceptedTable work file status text → Takes run.output.before text run.output.after → IsAcceptedInput work bytes run.output
   accepted-input bytes text file at status a whole = record {
     file = file;
     text = at.text;
@@ -65,17 +68,22 @@ module _ (work : ℕ) (run : Run) (zero : run.status ≡ 0) where
         (a.line ∙ ap (λ (n : ℕ). accepted_line n (root_arrivals file.kind file.table file.root file.board)) (sym at.moves)) whole;
   }
 
-  by-verdict : (bytes : List ℕ) (status : Status) (text : List ℕ) (file : TableFile) → IsTableAt file bytes → run.status ≡ status_number status → Takes run.output.before text run.output.after → TableSays work file status text → IsAcceptedInput work bytes run.output
+  by-verdict : (bytes : List ℕ) (status : Status) (text : List ℕ) (file : TableFile) → IsTableAt file bytes
+      → run.status ≡ status_number status → Takes run.output.before text run.output.after → TableSays work file status text
+      → IsAcceptedInput work bytes run.output
   by-verdict bytes status text file at ends whole (inl accepted) = accepted-input bytes text file at status accepted whole
-  by-verdict bytes status text file at ends whole (inr (inl refused)) = absurd (let no = other-status status RefusedTable ends refused.ends in cc)
+  by-verdict bytes status text file at ends whole (inr (inl refused)) =
+      absurd (let no = other-status status RefusedTable ends refused.ends in cc)
   by-verdict bytes status text file at ends whole (inr (inr spent)) = absurd (let no = other-status status Spent ends spent.ends in cc)
 
-  by-saying : (bytes : List ℕ) (status : Status) (text : List ℕ) → run.status ≡ status_number status → Takes run.output.before text run.output.after → CheckSays work bytes status text → IsAcceptedInput work bytes run.output
+  by-saying : (bytes : List ℕ) (status : Status) (text : List ℕ) → run.status ≡ status_number status
+      → Takes run.output.before text run.output.after → CheckSays work bytes status text → IsAcceptedInput work bytes run.output
   by-saying bytes status text ends whole (inl refused) = absurd (let no = other-status status RefusedText ends refused.ends in cc)
   by-saying bytes status text ends whole (inr said) = by-verdict bytes status text said.0 said.1 ends whole said.2
 
   by-end : IsWhole (CheckSays work) run ⊎ IsYielded run.status → IfSome run.input.before (λ bytes. IsAcceptedInput work bytes run.output)
-  by-end (inl w) = given-told (λ bytes. IsAcceptedInput work bytes run.output) run.input.before w.bytes w.given (by-saying w.bytes w.status w.text w.ends w.whole w.says)
+  by-end (inl w) = given-told (λ bytes. IsAcceptedInput work bytes run.output) run.input.before w.bytes w.given
+      (by-saying w.bytes w.status w.text w.ends w.whole w.says)
   by-end (inr (inl long)) = absurd (let no : 0 ≡ 11 = sym zero ∙ long in cc)
   by-end (inr (inr (inl memory))) = absurd (let no : 0 ≡ 6 = sym zero ∙ memory in cc)
   by-end (inr (inr (inr (inl read)))) = absurd (let no : 0 ≡ 7 = sym zero ∙ read in cc)

@@ -22,7 +22,8 @@ no-drill rest none h =
 -- what `drill` did in a run
 pub drill-answers : (n : ℕ) (run : Run) → IsDrill n run → AnswersDrill n run
 drill-answers n run does sound = by_end does.ends where
-  by_writing : (text : List ℕ) → IsDrillText n text → IsDelivered Done text run.output run.status → WritesDrill n run ⊎ IsOutOfMemory run.output run.status
+  by_writing : (text : List ℕ) → IsDrillText n text → IsDelivered Done text run.output run.status
+      → WritesDrill n run ⊎ IsOutOfMemory run.output run.status
   by_writing text drilled (inl written) = inl (record { text = text; drilled = drilled; ends = written.0; whole = written.1 })
   by_writing text drilled (inr failed) = absurd (sound failed.1)
 

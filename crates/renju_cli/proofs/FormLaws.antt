@@ -6,12 +6,14 @@ use Rattle.std.specs.Str.Parse.{digits_value}
 use Rattle.std.specs.Fmt.{decimal}
 use Rattle.std.proofs.lemmas.Fmt.{decimal_is_IsNumeral}
 use Rattle.renju_cli.specs.declared.commands.Form.{Form}
-use Rattle.renju_cli.specs.declared.commands.Form.TheVariants.{Check, Foul, Fours, Threats, Solve, Brain, BrainWith, Drill, Referee, RefereeWith, Image, Defend, Bind, Book}
+use Rattle.renju_cli.specs.declared.commands.Form.TheVariants.{Check, Foul, Fours, Threats, Solve, Brain, BrainWith, Drill, Referee}
+use Rattle.renju_cli.specs.declared.commands.Form.TheVariants.{RefereeWith, Image, Defend, Bind, Book}
 use Rattle.renju_cli.specs.declared.TheConstants.{MAX_WORK}
 use Rattle.renju_cli.specs.Forms.{HasWords}
 use Rattle.renju_cli.specs.Commands.{command, IsForm, HasForm}
 use Rattle.board_symmetry.specs.declared.symmetry.Symmetry.{Symmetry}
-use Rattle.board_symmetry.specs.declared.symmetry.Symmetry.TheVariants.{Identity, Half, FlipX, FlipY, Quarter, ThreeQuarter, Diagonal, AntiDiagonal}
+use Rattle.board_symmetry.specs.declared.symmetry.Symmetry.TheVariants.{Identity, Half, FlipX, FlipY, Quarter, ThreeQuarter, Diagonal}
+use Rattle.board_symmetry.specs.declared.symmetry.Symmetry.TheVariants.{AntiDiagonal}
 use Rattle.renju_cli.specs.Images.{symmetry_word}
 
 -- the number that a word writes
@@ -59,7 +61,8 @@ form_told words =
 number-written : (n : ℕ) → n ≤ MAX_WORK → digits_value 10 (decimal n) ≡ n
 number-written n few = let d = decimal_is_IsNumeral n (omega (arith, few)) in d.1
 
-two-written : (form : ℕ → ℕ → Form) (m n : ℕ) → m ≤ MAX_WORK → n ≤ MAX_WORK → form (digits_value 10 (decimal m)) (digits_value 10 (decimal n)) ≡ form m n
+two-written : (form : ℕ → ℕ → Form) (m n : ℕ) → m ≤ MAX_WORK → n ≤ MAX_WORK
+    → form (digits_value 10 (decimal m)) (digits_value 10 (decimal n)) ≡ form m n
 two-written form m n first second = let one = number-written m first in let two = number-written n second in λ i. form (one i) (two i)
 
 -- the words of a form tell it
@@ -90,7 +93,8 @@ pub has-told : (words : List (List ℕ)) → HasForm words → IsForm words (for
 has-told words h = subst (λ (f : Form). IsForm words f) (sym (told-form words h.0 h.1)) h.1
 
 -- the words after a name are those that are wanted after it
-pub after-name : {holds : Type 0} (name : List ℕ) (words wanted : List (List ℕ)) → HasWords (name ∷ words) (name ∷ wanted) holds → HasWords words wanted holds
+pub after-name : {holds : Type 0} (name : List ℕ) (words wanted : List (List ℕ)) → HasWords (name ∷ words) (name ∷ wanted) holds
+    → HasWords words wanted holds
 after-name name words wanted is = record { spelled = let same = is.spelled in cc; in_range = is.in_range }
 
 -- no words have no form
@@ -101,5 +105,6 @@ no-words h =
     cc
 
 -- words whose first is that of no command have no form
-pub no-command : (name : List ℕ) (rest : List (List ℕ)) → ((form : Form) (words : List (List ℕ)) → name ≡ get_or (command words form).words 0 [] → ⊥) → ¬ HasForm (name ∷ rest)
+pub no-command : (name : List ℕ) (rest : List (List ℕ))
+    → ((form : Form) (words : List (List ℕ)) → name ≡ get_or (command words form).words 0 [] → ⊥) → ¬ HasForm (name ∷ rest)
 no-command name rest other h = other h.0 (name ∷ rest) (ap (λ (l : List (List ℕ)). get_or l 0 []) h.1.spelled)

@@ -15,7 +15,8 @@ no-foul rest some h =
     some (cc)
 
 -- what is said of the text of a lawful position is an answer
-pub foul-answers : (bytes : List ℕ) → foul_command.IsAnswerable bytes → (status : Status) (text : List ℕ) → FoulSays bytes status text → foul_command.IsAnswer status
+pub foul-answers : (bytes : List ℕ) → foul_command.IsAnswerable bytes → (status : Status) (text : List ℕ) → FoulSays bytes status text
+    → foul_command.IsAnswer status
 foul-answers bytes can status text (inl refused) =
     let only = position-read-back can.0 bytes can.1.text can.1.lawful in
     absurd (refused.cause (only.no_fault refused.error refused.fault))

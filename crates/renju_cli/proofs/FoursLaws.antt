@@ -10,28 +10,35 @@ use Rattle.renju_cli.specs.Runs.{Run}
 use Rattle.renju_cli.specs.Told.{IsTold}
 use Rattle.renju_cli.specs.Searches.{SpeaksOfPosition, ShowsOfPosition}
 use Rattle.renju_cli.specs.Fours.{SearchSays, FoursSays, fours_command, IsSearchedByFours}
-use Rattle.renju_cli.proofs.PositionLaws.{said-of-position, search-silent, shows-of-position, found-searched, none-searched, spent-searched, yielded-searched}
+use Rattle.renju_cli.proofs.PositionLaws.{said-of-position, search-silent, shows-of-position, found-searched, none-searched, spent-searched}
+use Rattle.renju_cli.proofs.PositionLaws.{yielded-searched}
 
 -- what is said of a position for which the budget is enough is an answer
-pub fours-answers : (limit nodes : ℕ) (bytes : List ℕ) → (fours_command limit nodes).IsAnswerable bytes → (status : Status) (text : List ℕ) → FoursSays limit nodes bytes status text → (fours_command limit nodes).IsAnswer status
-fours-answers limit nodes bytes can status text says = by-search (said-of-position (SearchSays limit nodes) bytes can.0 can.1 status text says) where
-  by-search : SearchSays limit nodes can.0 status text → (status ≡ Done) ⊎ (status ≡ NotFound)
-  by-search (inl found) = inl found.ends
-  by-search (inr (inl denied)) = inr denied.ends
-  by-search (inr (inr spent)) =
-      let few = can.2 in
-      let more = spent.more in
-      absurd (omega (arith, few, more))
+pub fours-answers : (limit nodes : ℕ) (bytes : List ℕ) → (fours_command limit nodes).IsAnswerable bytes → (status : Status) (text : List ℕ)
+    → FoursSays limit nodes bytes status text → (fours_command limit nodes).IsAnswer status
+fours-answers limit nodes bytes can status text says =
+    by-search (said-of-position (SearchSays limit nodes) bytes can.0 can.1 status text says) where
+      by-search : SearchSays limit nodes can.0 status text → (status ≡ Done) ⊎ (status ≡ NotFound)
+      by-search (inl found) = inl found.ends
+      by-search (inr (inl denied)) = inr denied.ends
+      by-search (inr (inr spent)) =
+          let few = can.2 in
+          let more = spent.more in
+          absurd (omega (arith, few, more))
 
 -- ---- statuses 0, 9 and 5
 
 module _ (limit nodes : ℕ) (run : Run) where
-  searched-by : (file : PositionFile) (status : Status) (text : List ℕ) → run.status ≡ status_number status → Takes run.output.before text run.output.after → SearchSays limit nodes file status text → IsSearchedByFours limit nodes file run
+  searched-by : (file : PositionFile) (status : Status) (text : List ℕ) → run.status ≡ status_number status
+      → Takes run.output.before text run.output.after → SearchSays limit nodes file status text → IsSearchedByFours limit nodes file run
   searched-by file status text ends whole (inl found) =
       found-searched _ _ _ _ run (ends ∙ ap status_number found.ends) found.enough (record { text = text; win = found.win; whole = whole })
-  searched-by file status text ends whole (inr (inl denied)) = none-searched _ _ _ _ run (ends ∙ ap status_number denied.ends) denied.enough denied.none
+  searched-by file status text ends whole (inr (inl denied)) =
+      none-searched _ _ _ _ run (ends ∙ ap status_number denied.ends) denied.enough denied.none
   searched-by file status text ends whole (inr (inr spent)) = spent-searched _ _ _ _ run (ends ∙ ap status_number spent.ends) spent.more
 
   -- what `fours` did in a run
-  pub fours-searched : IsTold (FoursSays limit nodes) run → IfSome run.input.before (ShowsOfPosition (SpeaksOfPosition run.status) (λ file. IsSearchedByFours limit nodes file run))
-  fours-searched = shows-of-position (SearchSays limit nodes) SpeaksOfPosition search-silent run (λ file. IsSearchedByFours limit nodes file run) searched-by (λ file. yielded-searched _ _ _ _ run)
+  pub fours-searched : IsTold (FoursSays limit nodes) run
+      → IfSome run.input.before (ShowsOfPosition (SpeaksOfPosition run.status) (λ file. IsSearchedByFours limit nodes file run))
+  fours-searched = shows-of-position (SearchSays limit nodes) SpeaksOfPosition search-silent run
+      (λ file. IsSearchedByFours limit nodes file run) searched-by (λ file. yielded-searched _ _ _ _ run)

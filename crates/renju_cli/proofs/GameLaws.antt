@@ -1,5 +1,6 @@
 -- What runs of `brain` and `brain FILE` show of the games that the brain plays.
-use Rattle.std.proofs.Common.{◌≡◌, inl, inr, refl, sym, ap, subst, ◌∙◌, ◌⊎◌, ℕ, zero, suc, ◌≤◌, true, List, [], ◌∷◌, ◌++◌, length, take, drop, map, lit≤, arith, append_assoc, append-nil, get_or}
+use Rattle.std.proofs.Common.{◌≡◌, inl, inr, refl, sym, ap, subst, ◌∙◌, ◌⊎◌, ℕ, zero, suc, ◌≤◌, true, List, [], ◌∷◌, ◌++◌, length, take}
+use Rattle.std.proofs.Common.{drop, map, lit≤, arith, append_assoc, append-nil, get_or}
 use Rattle.std.proofs.lemmas.List.{length-map, map-append, take-append-drop}
 use Rattle.std.specs.List.{AllByRecursion}
 use Rattle.std.specs.Prelude.{Option, Some, None, IfSome, All, Contains}
@@ -48,12 +49,16 @@ use Rattle.brain_session.proofs.RootGames.{roots-begin_games}
 use Rattle.brain_session.proofs.TurnLines.{replies-in_bytes}
 use Rattle.brain_session.specs.declared.TheConstants.{BRAIN_WORK}
 use Rattle.renju_cli.specs.declared.status.Status.{Status}
-use Rattle.renju_cli.specs.declared.status.Status.TheVariants.{Done, ShelfFault, RefusedText, RefusedTable, Spent, Memory, ReadFault, WriteFault, TooLong}
+use Rattle.renju_cli.specs.declared.status.Status.TheVariants.{Done, ShelfFault, RefusedText, RefusedTable, Spent, Memory, ReadFault}
+use Rattle.renju_cli.specs.declared.status.Status.TheVariants.{WriteFault, TooLong}
 use Rattle.renju_cli.specs.Statuses.{status_number}
 use Rattle.renju_cli.specs.Runs.{Change, Run, IsDelivered}
 use Rattle.renju_cli.specs.Checks.{IsTableAt, IsRefusedTable, IsSpentWork}
-use Rattle.renju_cli.specs.Brains.{nothing_held, held_by, held_with, named_entry, named_root, of_table, HeldFile, NamedRoot, session_of, EndsSession, IsSession, IsFit, IsHeldText, BookFileSays, FileSays, TableFileSays, IsUnheld, IsBrain, IsBrainWith, GivesHeld, PlaysByFile, TellsFile, IsUnbegun}
-use Rattle.renju_cli.specs.Games.{state_told, StandsBehind, GamesGoWell, PlaysByRoots, OwnGamesGoWellIn, AnsweredLines, IsPlayedBy, ShowsGames, PlaysOwnWins}
+use Rattle.renju_cli.specs.Brains.{nothing_held, held_by, held_with, named_entry, named_root, of_table, HeldFile, NamedRoot, session_of}
+use Rattle.renju_cli.specs.Brains.{EndsSession, IsSession, IsFit, IsHeldText, BookFileSays, FileSays, TableFileSays, IsUnheld, IsBrain}
+use Rattle.renju_cli.specs.Brains.{IsBrainWith, GivesHeld, PlaysByFile, TellsFile, IsUnbegun}
+use Rattle.renju_cli.specs.Games.{state_told, StandsBehind, GamesGoWell, PlaysByRoots, OwnGamesGoWellIn, AnsweredLines, IsPlayedBy}
+use Rattle.renju_cli.specs.Games.{ShowsGames, PlaysOwnWins}
 use Rattle.renju_cli.proofs.BrainLaws.{told-some, found-under, ends-by}
 use Rattle.renju_cli.proofs.ToldLaws.{where-told}
 
@@ -265,7 +270,8 @@ due_table file bytes at fit = all_one (IsDueRoot file.table) (named_root file) (
 })
 
 -- so may those of a book of which each entry is accepted
-due_entries : (t : List Node) (es : List Entry) → AllByRecursion (EntryFits (length t)) es → AllByRecursion (IsSound t) es → AllByRecursion (IsAccepted t BRAIN_WORK) es
+due_entries : (t : List Node) (es : List Entry) → AllByRecursion (EntryFits (length t)) es → AllByRecursion (IsSound t) es
+    → AllByRecursion (IsAccepted t BRAIN_WORK) es
     → AllByRecursion (IsDueRoot t) (map named_entry es)
 due_entries t [] fits sound accepted = tt
 due_entries t (e ∷ es) fits sound accepted = (
@@ -282,14 +288,16 @@ record MayBeHeld (file : HeldFile) : Type 0 where
   few : length file.roots ≤ MAX_ROOTS
 
 may_be_held : (file : HeldFile) (bytes : List ℕ) → IsHeldText file bytes → MayBeHeld file
-may_be_held file bytes (inl table) = subst MayBeHeld (sym table.gives) (record { due = due_table table.file bytes table.at table.fit; few = lit≤ tt })
+may_be_held file bytes (inl table) = subst MayBeHeld (sym table.gives)
+    (record { due = due_table table.file bytes table.at table.fit; few = lit≤ tt })
 may_be_held file bytes (inr book) =
     let entries = book.book.entries in
     let text = book.at.well_formed.text in
     let some = text.some.few in
     let count = length-map entries named_entry in
     subst MayBeHeld (sym book.gives) (record {
-      due = all_places (IsDueRoot book.book.table) (map named_entry entries) (due_entries book.book.table entries text.entries book.at.well_formed.entries book.fit);
+      due = all_places (IsDueRoot book.book.table) (map named_entry entries)
+          (due_entries book.book.table entries text.entries book.at.well_formed.entries book.fit);
       few = omega (arith, some, count);
     })
 
@@ -300,7 +308,10 @@ module _ (file : HeldFile) (bytes : List ℕ) (at : IsHeldText file bytes) where
       let may = may_be_held file bytes at in
       let count = length-map file.roots (λ (r : NamedRoot). r.root) in
       let few = may.few in
-      record { roots = all_map (IsHeldRoot file.table) (IsDueRoot file.table) file.roots (λ r due. due.held) may.due; few = omega (arith, few, count) }
+      record {
+        roots = all_map (IsHeldRoot file.table) (IsDueRoot file.table) file.roots (λ r due. due.held) may.due;
+        few = omega (arith, few, count);
+      }
 
   file_plays : PlaysByRoots file.table file.roots
   file_plays = plays_by_roots file.table file.roots (may_be_held file bytes at).due file_held
@@ -332,11 +343,14 @@ file-other : (bytes : List ℕ) (status : Status) (text : List ℕ) → FileSays
 file-other bytes status text (inl says) = book_told-other bytes status text says.1
 file-other bytes status text (inr says) = table_told-other bytes status text says.1
 
-pub unheld-other : (Told : List ℕ → Status → List ℕ → Type 0) → ((bytes : List ℕ) (status : Status) (text : List ℕ) → Told bytes status text → IsOther (status_number status))
-    → (shelf : Change (Option Files)) (name : List ℕ) (status : Status) (text : List ℕ) → IsUnheld Told shelf name status text → IsOther (status_number status)
+pub unheld-other : (Told : List ℕ → Status → List ℕ → Type 0)
+    → ((bytes : List ℕ) (status : Status) (text : List ℕ) → Told bytes status text → IsOther (status_number status))
+    → (shelf : Change (Option Files)) (name : List ℕ) (status : Status) (text : List ℕ) → IsUnheld Told shelf name status text
+    → IsOther (status_number status)
 unheld-other Told other shelf name status text (inl refused) = other refused.bytes status text refused.says
 unheld-other Told other shelf name status text (inr (inl long)) = other-by status TooLong long.ends (λ e. absurd (cc), λ e. absurd (cc))
-unheld-other Told other shelf name status text (inr (inr fault)) = other-by status ShelfFault fault.ends (λ e. absurd (cc), λ e. absurd (cc))
+unheld-other Told other shelf name status text (inr (inr fault)) =
+    other-by status ShelfFault fault.ends (λ e. absurd (cc), λ e. absurd (cc))
 
 -- what is delivered with such a status, or with that of a write fault, is neither
 pub delivered-other : (status : Status) (text : List ℕ) (output : Change (Option (List ℕ))) (number : ℕ) → IsOther (status_number status)

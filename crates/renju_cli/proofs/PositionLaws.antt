@@ -19,21 +19,25 @@ use Rattle.renju_cli.proofs.ToldLaws.{IsWhole, whole-or-yielded, given-told, eve
 
 -- what is said of a text: why it is refused, or else what is said of its position
 abbrev SaysOfText : (PositionFile → Status → List ℕ → Type 0) → List ℕ → Status → List ℕ → Type 0
-SaysOfText Says bytes status text = IsRefusedText (IsPositionFault bytes) status text ⊎ ((file : PositionFile) × IsPositionAt file bytes × Says file status text)
+SaysOfText Says bytes status text = IsRefusedText (IsPositionFault bytes) status text ⊎
+    ((file : PositionFile) × IsPositionAt file bytes × Says file status text)
 
 -- the position at a board under a rule
 abbrev pub file_at : RuleKind → Grid → PositionFile
 file_at rule b = record { kind = rule; board = b }
 
 -- what is said of the position at the board of a text is said of the text's
-pub said-of-file : {E : Type 0} (Says : PositionFile → Status → List ℕ → Type 0) (r : Result Answer E) (file : PositionFile) (rule : RuleKind) (p : Grid)
-    → file.kind ≡ rule → p ≡ file.board → IfOk r (λ a. Says (file_at rule p) a.status a.text.items) → IfOk r (λ a. Says file a.status a.text.items)
+pub said-of-file : {E : Type 0} (Says : PositionFile → Status → List ℕ → Type 0) (r : Result Answer E) (file : PositionFile)
+    (rule : RuleKind) (p : Grid)
+    → file.kind ≡ rule → p ≡ file.board → IfOk r (λ a. Says (file_at rule p) a.status a.text.items)
+    → IfOk r (λ a. Says file a.status a.text.items)
 said-of-file Says r file rule p kind here says =
     let same : file_at rule p ≡ file = λ i. record { kind = sym kind i; board = here i } in
     subst (λ (f : PositionFile). IfOk r (λ a. Says f a.status a.text.items)) same says
 
 -- the text of a lawful position is not refused, and no other position has it: so what is said is said of this one
-pub said-of-position : (Says : PositionFile → Status → List ℕ → Type 0) (bytes : List ℕ) (file : PositionFile) → IsPositionAt file bytes → (status : Status) (text : List ℕ) → SaysOfText Says bytes status text → Says file status text
+pub said-of-position : (Says : PositionFile → Status → List ℕ → Type 0) (bytes : List ℕ) (file : PositionFile) → IsPositionAt file bytes
+    → (status : Status) (text : List ℕ) → SaysOfText Says bytes status text → Says file status text
 said-of-position Says bytes file is status text (inl refused) =
     let only = position-read-back file bytes is.text is.lawful in
     absurd (refused.cause (only.no_fault refused.error refused.fault))
@@ -49,10 +53,13 @@ search-silent number other e = grind arith
 
 -- Where each thing that is said of a position shows this of it, and so does each status that stands in place of that, then the statuses
 -- that speak of a position show it.
-module _ (Says : PositionFile → Status → List ℕ → Type 0) (Speaks : ℕ → Type 0) (silent : (number : ℕ) → IsYielded number ⊎ (number ≡ 3) → Speaks number → ⊥) (run : Run) (Holds : PositionFile → Type 0)
-    (by-said : (file : PositionFile) (status : Status) (text : List ℕ) → run.status ≡ status_number status → Takes run.output.before text run.output.after → Says file status text → Holds file)
+module _ (Says : PositionFile → Status → List ℕ → Type 0) (Speaks : ℕ → Type 0)
+    (silent : (number : ℕ) → IsYielded number ⊎ (number ≡ 3) → Speaks number → ⊥) (run : Run) (Holds : PositionFile → Type 0)
+    (by-said : (file : PositionFile) (status : Status) (text : List ℕ) → run.status ≡ status_number status
+    → Takes run.output.before text run.output.after → Says file status text → Holds file)
     (by-yielded : (file : PositionFile) → IsYielded run.status → Holds file) where
-  lawful-by : (bytes : List ℕ) (status : Status) (text : List ℕ) → run.status ≡ status_number status → SaysOfText Says bytes status text → Speaks run.status → (file : PositionFile) × IsPositionAt file bytes
+  lawful-by : (bytes : List ℕ) (status : Status) (text : List ℕ) → run.status ≡ status_number status → SaysOfText Says bytes status text
+      → Speaks run.status → (file : PositionFile) × IsPositionAt file bytes
   lawful-by bytes status text ends (inr said) speaks = (said.0, said.1)
   lawful-by bytes status text ends (inl refused) speaks = absurd (silent run.status (inr (ends ∙ ap status_number refused.ends)) speaks)
 

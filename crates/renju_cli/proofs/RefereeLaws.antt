@@ -21,7 +21,8 @@ use Rattle.renju_cli.specs.Told.{AnswersTold, EndsTold, IsYielded}
 use Rattle.renju_cli.specs.Refusals.{IsRefusedText}
 use Rattle.renju_cli.specs.Checks.{IsTableAt}
 use Rattle.renju_cli.specs.Brains.{IsFit, IsFitFile, IsUnbegun, IsUnhinderedShelf, TableFileSays, TellsFile}
-use Rattle.renju_cli.specs.Referees.{ComparesSays, HasGameFault, IsGameAt, IsRefereeWith, RefereeSays, RefereesByFile, ShowsGame, TellsTable, compares_command, of_game, referee_command, replay_line}
+use Rattle.renju_cli.specs.Referees.{ComparesSays, HasGameFault, IsGameAt, IsRefereeWith, RefereeSays, RefereesByFile, ShowsGame}
+use Rattle.renju_cli.specs.Referees.{TellsTable, compares_command, of_game, referee_command, replay_line}
 use Rattle.renju_cli.proofs.ToldLaws.{IsWhole, answers-by, by-end, given-told, where-told}
 use Rattle.renju_cli.proofs.CheckLaws.{one-table}
 use Rattle.renju_cli.proofs.BrainLaws.{found-under, not-told, same-bytes, table-not_told}
@@ -128,7 +129,8 @@ module _ (name : List ℕ) (run : Run) (done : run.status ≡ status_number Done
     by-ends (inr yielded) = absurd (not-yielded run.status done yielded)
   shown-by (inr (inl tells)) =
       absurd (not-other run.status (inl done)
-      (delivered-other tells.status tells.text run.output run.status (unheld-other TableFileSays table_told-other run.shelf name tells.status tells.text tells.why)
+      (delivered-other tells.status tells.text run.output run.status
+      (unheld-other TableFileSays table_told-other run.shelf name tells.status tells.text tells.why)
       tells.delivered))
   shown-by (inr (inr unbegun)) = let e = sym done ∙ unbegun.ends in absurd (cc)
 

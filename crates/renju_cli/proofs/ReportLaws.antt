@@ -1,7 +1,8 @@
 -- What follows of a run from its report: the command of its form did what it does, and so answered where it is sure to.
 use Rattle.std.proofs.Common.{◌≡◌, inl, inr, sym, ap, subst, ℕ, List}
 use Rattle.renju_cli.specs.declared.commands.Form.{Form}
-use Rattle.renju_cli.specs.declared.commands.Form.TheVariants.{Check, Foul, Fours, Threats, Solve, Brain, BrainWith, Drill, Referee, RefereeWith, Image, Defend, Bind, Book}
+use Rattle.renju_cli.specs.declared.commands.Form.TheVariants.{Check, Foul, Fours, Threats, Solve, Brain, BrainWith, Drill, Referee}
+use Rattle.renju_cli.specs.declared.commands.Form.TheVariants.{RefereeWith, Image, Defend, Bind, Book}
 use Rattle.renju_cli.specs.Runs.{Run}
 use Rattle.renju_cli.specs.Forms.{HasWords}
 use Rattle.renju_cli.specs.Checks.{check_command, ShowsWin}
@@ -38,7 +39,8 @@ use Rattle.renju_cli.proofs.BookLaws.{book-answers, book-shown}
 -- the command of the words did what it does
 does-of : (run : Run) → Report run → (form : Form) → IsForm run.words form → (command run.words form).Does run
 does-of run (inl usage) form is = absurd (usage.formless (form, is))
-does-of run (inr obeyed) form is = subst (λ (f : Form). (command run.words f).Does run) (one-form run.words obeyed.0 form obeyed.1 is) obeyed.2
+does-of run (inr obeyed) form is = subst (λ (f : Form). (command run.words f).Does run) (one-form run.words obeyed.0 form obeyed.1 is)
+    obeyed.2
 
 -- a command that did what it does answered where it is sure to
 answers : (form : Form) (run : Run) → (command run.words form).Does run → (command run.words form).Answers run
@@ -58,15 +60,18 @@ answers (Solve depth nodes) run does = answers-told (solve_command depth nodes) 
 answers (Defend depth nodes) run does = answers-told (defend_command depth nodes) (defend-answers depth nodes) run does
 
 -- what `brain FILE` did with its second word is the report of its run
-pub file-reported : (run : Run) (name : List ℕ) → IsForm run.words BrainWith → name ≡ second_word run.words → IsBrainWith name run → Report run
+pub file-reported : (run : Run) (name : List ℕ) → IsForm run.words BrainWith → name ≡ second_word run.words → IsBrainWith name run
+    → Report run
 file-reported run name form is does = inr (BrainWith, form, subst (λ (n : List ℕ). IsBrainWith n run) is does)
 
 -- what `bind` did with the words after the first is the report of its run
-pub bind-reported : (run : Run) (names : List (List ℕ)) → IsForm run.words Bind → names ≡ words_after run.words → IsBind names run → Report run
+pub bind-reported : (run : Run) (names : List (List ℕ)) → IsForm run.words Bind → names ≡ words_after run.words → IsBind names run
+    → Report run
 bind-reported run names form is does = inr (Bind, form, subst (λ (ns : List (List ℕ)). IsBind ns run) is does)
 
 -- the same of `referee FILE`
-pub game-reported : (run : Run) (name : List ℕ) → IsForm run.words RefereeWith → name ≡ second_word run.words → IsRefereeWith name run → Report run
+pub game-reported : (run : Run) (name : List ℕ) → IsForm run.words RefereeWith → name ≡ second_word run.words → IsRefereeWith name run
+    → Report run
 game-reported run name form is does = inr (RefereeWith, form, subst (λ (n : List ℕ). IsRefereeWith n run) is does)
 
 pub report-complete : (run : Run) → Report run → IsComplete run

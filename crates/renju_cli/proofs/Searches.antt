@@ -18,17 +18,25 @@ pub not-above : (n m : ℕ) → (n < m → ⊥) → m ≤ n
 not-above n m h = elim (cases_lt n m) [ inl more ↦ absurd (h more) | inr less ↦ less ]
 
 -- the answer that has the text of a win's table is what is said of the position
-pub win-says : {E : Type 0} (r : Result Answer E) (limit nodes : ℕ) (file : PositionFile) (rule : RuleKind) (p b : Grid) (compiled : List Node) (win : WrittenWin)
-    → file.kind ≡ rule → p ≡ file.board → b ≡ file.board → IsFourWin rule limit p compiled win → (nodes < four_cost rule limit p → ⊥) → IfOk r (λ a. a.status ≡ Done)
-    → IfOk r (λ a. (limit : ℕ) → IsFourWin file.kind limit b compiled win → IsFourText limit (record { kind = file.kind; board = b }) a.text.items) → IfOk r (λ a. SearchSays limit nodes file a.status a.text.items)
+pub win-says : {E : Type 0} (r : Result Answer E) (limit nodes : ℕ) (file : PositionFile) (rule : RuleKind) (p b : Grid)
+    (compiled : List Node) (win : WrittenWin)
+    → file.kind ≡ rule → p ≡ file.board → b ≡ file.board → IsFourWin rule limit p compiled win → (nodes < four_cost rule limit p → ⊥)
+    → IfOk r (λ a. a.status ≡ Done)
+    → IfOk r (λ a. (limit : ℕ) → IsFourWin file.kind limit b compiled win
+    → IsFourText limit (record { kind = file.kind; board = b }) a.text.items)
+    → IfOk r (λ a. SearchSays limit nodes file a.status a.text.items)
 win-says (Err e) limit nodes file rule p b compiled win kind here there is few done text = tt
 win-says (Ok a) limit nodes file rule p b compiled win kind here there is few done text =
     let at_kind : IsFourWin file.kind limit p compiled win = subst (λ (k : RuleKind). IsFourWin k limit p compiled win) (sym kind) is in
-    let at_board : IsFourWin file.kind limit b compiled win = subst (λ (c : Grid). IsFourWin file.kind limit c compiled win) (here ∙ sym there) at_kind in
+    let at_board : IsFourWin file.kind limit b compiled win =
+    subst (λ (c : Grid). IsFourWin file.kind limit c compiled win) (here ∙ sym there) at_kind in
     let same_kind : four_cost rule limit p ≡ four_cost file.kind limit p = ap (λ (k : RuleKind). four_cost k limit p) (sym kind) in
-    let same_cost : four_cost rule limit p ≡ four_cost file.kind limit file.board = same_kind ∙ ap (λ (c : Grid). four_cost file.kind limit c) here in
-    let cost : four_cost file.kind limit file.board ≤ nodes = subst (λ (n : ℕ). n ≤ nodes) same_cost (not-above nodes (four_cost rule limit p) few) in
-    let written : IsFourText limit file a.text.items = subst (λ (c : Grid). IsFourText limit (record { kind = file.kind; board = c }) a.text.items) there (text limit at_board) in
+    let same_cost : four_cost rule limit p ≡ four_cost file.kind limit file.board =
+    same_kind ∙ ap (λ (c : Grid). four_cost file.kind limit c) here in
+    let cost : four_cost file.kind limit file.board ≤ nodes =
+    subst (λ (n : ℕ). n ≤ nodes) same_cost (not-above nodes (four_cost rule limit p) few) in
+    let written : IsFourText limit file a.text.items =
+    subst (λ (c : Grid). IsFourText limit (record { kind = file.kind; board = c }) a.text.items) there (text limit at_board) in
     inl (record { enough = cost; win = written; ends = done })
 
 -- what is known where a search found none at a board under a rule
@@ -37,9 +45,12 @@ pub record IsKnownDenied (rule : RuleKind) (limit nodes : ℕ) (b : Grid) : Type
   pub enough : four_cost rule limit b ≤ nodes
 
 -- the answer that there is none is what is said of the position
-pub none-says : {E : Type 0} (r : Result Answer E) (limit nodes : ℕ) (file : PositionFile) (rule : RuleKind) (b : Grid) → file.kind ≡ rule → b ≡ file.board → IsKnownDenied rule limit nodes b → IfOk r (λ a. a.status ≡ NotFound) → IfOk r (λ a. a.text.items ≡ none_line) → IfOk r (λ a. SearchSays limit nodes file a.status a.text.items)
+pub none-says : {E : Type 0} (r : Result Answer E) (limit nodes : ℕ) (file : PositionFile) (rule : RuleKind) (b : Grid) → file.kind ≡ rule
+    → b ≡ file.board → IsKnownDenied rule limit nodes b → IfOk r (λ a. a.status ≡ NotFound) → IfOk r (λ a. a.text.items ≡ none_line)
+    → IfOk r (λ a. SearchSays limit nodes file a.status a.text.items)
 none-says (Ok a) limit nodes file rule b same here h status text =
     let at_rule = subst (λ (k : RuleKind). IsKnownDenied k limit nodes b) (sym same) h in
-    let at_board : IsKnownDenied file.kind limit nodes file.board = subst (λ (c : Grid). IsKnownDenied file.kind limit nodes c) here at_rule in
+    let at_board : IsKnownDenied file.kind limit nodes file.board =
+    subst (λ (c : Grid). IsKnownDenied file.kind limit nodes c) here at_rule in
     inr (inl (record { enough = at_board.enough; none = at_board.none; ends = status; line = text }))
 none-says (Err e) limit nodes file rule b same here h status text = tt

@@ -14,25 +14,29 @@ use Rattle.renju_cli.specs.Runs.{Run}
 use Rattle.renju_cli.specs.Told.{IsTold, IsYielded}
 use Rattle.renju_cli.specs.Searches.{ShowsOfPosition}
 use Rattle.renju_cli.specs.Fours.{IsFoundWin}
-use Rattle.renju_cli.specs.Solves.{IsWinText, IsWonByAStep, IsWonByFours, SolutionSays, SolveSays, solve_command, WritesSolution, SpeaksOfSolution, IsSolved}
+use Rattle.renju_cli.specs.Solves.{IsWinText, IsWonByAStep, IsWonByFours, SolutionSays, SolveSays, solve_command, WritesSolution}
+use Rattle.renju_cli.specs.Solves.{SpeaksOfSolution, IsSolved}
 use Rattle.renju_cli.proofs.PositionLaws.{said-of-position, shows-of-position}
 
 -- what is said of a position for which the budget is enough is an answer
-pub solve-answers : (limit nodes : ℕ) (bytes : List ℕ) → (solve_command limit nodes).IsAnswerable bytes → (status : Status) (text : List ℕ) → SolveSays limit nodes bytes status text → (solve_command limit nodes).IsAnswer status
-solve-answers limit nodes bytes can status text says = by-solution (said-of-position (SolutionSays limit nodes) bytes can.0 can.1 status text says) where
-  by-solution : SolutionSays limit nodes can.0 status text → (status ≡ Done) ⊎ (status ≡ NotFound) ⊎ (status ≡ Full)
-  by-solution (inl first) = inl first.found.ends
-  by-solution (inr (inl line)) = inl line.ends
-  by-solution (inr (inr (inl threats))) = inl threats.ends
-  by-solution (inr (inr (inr (inl unwon)))) = inr (inl unwon.ends)
-  by-solution (inr (inr (inr (inr (inl undecided))))) =
-      let few = can.2 in
-      let more = undecided.more in
-      absurd (omega (arith, few, more))
-  by-solution (inr (inr (inr (inr (inr great))))) = inr (inr great.ends)
+pub solve-answers : (limit nodes : ℕ) (bytes : List ℕ) → (solve_command limit nodes).IsAnswerable bytes → (status : Status) (text : List ℕ)
+    → SolveSays limit nodes bytes status text → (solve_command limit nodes).IsAnswer status
+solve-answers limit nodes bytes can status text says =
+    by-solution (said-of-position (SolutionSays limit nodes) bytes can.0 can.1 status text says) where
+      by-solution : SolutionSays limit nodes can.0 status text → (status ≡ Done) ⊎ (status ≡ NotFound) ⊎ (status ≡ Full)
+      by-solution (inl first) = inl first.found.ends
+      by-solution (inr (inl line)) = inl line.ends
+      by-solution (inr (inr (inl threats))) = inl threats.ends
+      by-solution (inr (inr (inr (inl unwon)))) = inr (inl unwon.ends)
+      by-solution (inr (inr (inr (inr (inl undecided))))) =
+          let few = can.2 in
+          let more = undecided.more in
+          absurd (omega (arith, few, more))
+      by-solution (inr (inr (inr (inr (inr great))))) = inr (inr great.ends)
 
 -- a win that `fours` finds is one of the first step
-first-won : (limit nodes : ℕ) (file : PositionFile) (status : Status) (text : List ℕ) → IsFoundWin limit nodes file status text → IsWonByFours limit nodes file
+first-won : (limit nodes : ℕ) (file : PositionFile) (status : Status) (text : List ℕ) → IsFoundWin limit nodes file status text
+    → IsWonByFours limit nodes file
 first-won limit nodes file status text found = record {
   wins = WinsUnder-more (has_five file.kind) file.kind found.win.moves limit file.board found.win.within found.win.fewest.wins;
   enough = found.enough;
@@ -54,7 +58,8 @@ module _ (limit nodes : ℕ) (run : Run) where
       win = win;
       whole = whole;
       wins = WinsUnder-more (λ c s. true) file.kind win.moves limit file.board win.within
-          (subst (λ (n : ℕ). WinsWithin file.kind n file.board) win.deep (accepted-wins file.kind win.table (last win.table) file.board win.accepted));
+          (subst (λ (n : ℕ). WinsWithin file.kind n file.board) win.deep
+          (accepted-wins file.kind win.table (last win.table) file.board win.accepted));
     }
 
     done-solved : run.status ≡ 0 → IsWonByAStep limit nodes file → IsWinText limit file text → IsSolved limit nodes file run
@@ -68,10 +73,13 @@ module _ (limit nodes : ℕ) (run : Run) where
       only = inl (inl here);
     }
 
-    solved-by : (status : Status) → run.status ≡ status_number status → SolutionSays limit nodes file status text → IsSolved limit nodes file run
-    solved-by status ends (inl first) = done-solved (ends ∙ ap status_number first.found.ends) (inl (first-won limit nodes file status text first.found)) first.win
+    solved-by : (status : Status) → run.status ≡ status_number status → SolutionSays limit nodes file status text
+        → IsSolved limit nodes file run
+    solved-by status ends (inl first) = done-solved (ends ∙ ap status_number first.found.ends)
+        (inl (first-won limit nodes file status text first.found)) first.win
     solved-by status ends (inr (inl line)) = done-solved (ends ∙ ap status_number line.ends) (inr (inl line.along)) line.win
-    solved-by status ends (inr (inr (inl threats))) = done-solved (ends ∙ ap status_number threats.ends) (inr (inr threats.by_threats)) threats.win
+    solved-by status ends (inr (inr (inl threats))) = done-solved (ends ∙ ap status_number threats.ends) (inr (inr threats.by_threats))
+        threats.win
     solved-by status ends (inr (inr (inr (inl unwon)))) =
         let here = ends ∙ ap status_number unwon.ends in
         record {
@@ -118,5 +126,7 @@ module _ (limit nodes : ℕ) (run : Run) where
   }
 
   -- what `solve` did in a run
-  pub solve-shown : IsTold (SolveSays limit nodes) run → IfSome run.input.before (ShowsOfPosition (SpeaksOfSolution run.status) (λ file. IsSolved limit nodes file run))
-  solve-shown = shows-of-position (SolutionSays limit nodes) SpeaksOfSolution silent run (λ file. IsSolved limit nodes file run) (λ file status text ends whole. solved-by file text whole status ends) yielded-solved
+  pub solve-shown : IsTold (SolveSays limit nodes) run
+      → IfSome run.input.before (ShowsOfPosition (SpeaksOfSolution run.status) (λ file. IsSolved limit nodes file run))
+  solve-shown = shows-of-position (SolutionSays limit nodes) SpeaksOfSolution silent run (λ file. IsSolved limit nodes file run)
+      (λ file status text ends whole. solved-by file text whole status ends) yielded-solved

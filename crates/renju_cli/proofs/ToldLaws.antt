@@ -10,14 +10,16 @@ use Rattle.renju_cli.specs.declared.status.Status.TheVariants.{TooLong}
 use Rattle.renju_cli.specs.Statuses.{status_number}
 use Rattle.renju_cli.specs.Texts.{too_long_line}
 use Rattle.renju_cli.specs.Runs.{Change, Run, IsAskedNoMore, IsDelivered, IsOutOfMemory}
-use Rattle.renju_cli.specs.Told.{ToldCommand, IsInput, IsSaid, IsTooLong, EndsTold, IsTold, IsYielded, IsUnhindered, HasAnswered, AnswersTold}
+use Rattle.renju_cli.specs.Told.{ToldCommand, IsInput, IsSaid, IsTooLong, EndsTold, IsTold, IsYielded, IsUnhindered, HasAnswered}
+use Rattle.renju_cli.specs.Told.{AnswersTold}
 
 -- some list is longer than n
 pub longer-than : (n : ℕ) → (x : List ℕ) × (n < length x)
 longer-than n = (replicate (suc n) 0, let zero : ℕ = 0 in let e = length-replicate (suc n) zero in omega (arith, e))
 
 -- bytes that the input gave and that are too many: those that it tells, and else some
-long-bytes : (left : Option (List ℕ)) → IfSome left (λ told. MAX_INPUT_BYTES < length told) → (bytes : List ℕ) × IsInput left bytes × (MAX_INPUT_BYTES < length bytes)
+long-bytes : (left : Option (List ℕ)) → IfSome left (λ told. MAX_INPUT_BYTES < length told)
+    → (bytes : List ℕ) × IsInput left bytes × (MAX_INPUT_BYTES < length bytes)
 long-bytes (Some told) h = (told, refl, h)
 long-bytes None h = let x = longer-than MAX_INPUT_BYTES in (x.0, tt, x.1)
 
@@ -60,9 +62,18 @@ pub record IsWhole (Says : List ℕ → Status → List ℕ → Type 0) (run : R
   pub whole : Takes run.output.before text run.output.after
 
 module _ (Says : List ℕ → Status → List ℕ → Type 0) (run : Run) where
-  by-delivery : (status : Status) (text : List ℕ) → IsSaid Says run.input status text ⊎ IsTooLong run.input status text → IsDelivered status text run.output run.status → IsWhole Says run ⊎ IsYielded run.status
+  by-delivery : (status : Status) (text : List ℕ) → IsSaid Says run.input status text ⊎ IsTooLong run.input status text
+      → IsDelivered status text run.output run.status → IsWhole Says run ⊎ IsYielded run.status
   by-delivery status text (inl said) (inl whole) =
-      inl (record { status = status; text = text; bytes = said.bytes; given = said.given; says = said.says; ends = whole.0; whole = whole.1 })
+      inl (record {
+        status = status;
+        text = text;
+        bytes = said.bytes;
+        given = said.given;
+        says = said.says;
+        ends = whole.0;
+        whole = whole.1;
+      })
   by-delivery status text (inr long) (inl whole) = inr (inl (whole.0 ∙ ap status_number long.ends))
   by-delivery status text due (inr failed) = inr (inr (inr (inr failed.0)))
 
@@ -77,35 +88,59 @@ module _ (Says : List ℕ → Status → List ℕ → Type 0) (run : Run) where
 
 -- what a command says, said in other words
 pub ends-map : (Says Others : List ℕ → Status → List ℕ → Type 0) (input output : Change (Option (List ℕ))) (number : ℕ)
-    → ((bytes : List ℕ) (status : Status) (text : List ℕ) → Says bytes status text → Others bytes status text) → EndsTold Says input output number
+    → ((bytes : List ℕ) (status : Status) (text : List ℕ) → Says bytes status text → Others bytes status text)
+    → EndsTold Says input output number
     → EndsTold Others input output number
-ends-map Says Others input output number other (inl a) = inl (record { status = a.status; text = a.text; due = by-due a.due; delivered = a.delivered }) where
-  by-due : IsSaid Says input a.status a.text ⊎ IsTooLong input a.status a.text → IsSaid Others input a.status a.text ⊎ IsTooLong input a.status a.text
-  by-due (inl said) = inl (record { bytes = said.bytes; given = said.given; fits = said.fits; ended = said.ended; says = other said.bytes a.status a.text said.says })
-  by-due (inr long) = inr long
+ends-map Says Others input output number other (inl a) =
+    inl (record { status = a.status; text = a.text; due = by-due a.due; delivered = a.delivered }) where
+      by-due : IsSaid Says input a.status a.text ⊎ IsTooLong input a.status a.text
+          → IsSaid Others input a.status a.text ⊎ IsTooLong input a.status a.text
+      by-due (inl said) = inl (record {
+        bytes = said.bytes;
+        given = said.given;
+        fits = said.fits;
+        ended = said.ended;
+        says = other said.bytes a.status a.text said.says;
+      })
+      by-due (inr long) = inr long
 ends-map Says Others input output number other (inr ends) = inr ends
 
 -- ---- a command that nothing hinders
 
-module _ (command : ToldCommand) (law : (bytes : List ℕ) → command.IsAnswerable bytes → (status : Status) (text : List ℕ) → command.Says bytes status text → command.IsAnswer status) (run : Run) (bytes : List ℕ) (free : IsUnhindered command run bytes) where
-  said-of : (status : Status) (text : List ℕ) → IsSaid command.Says run.input status text ⊎ IsTooLong run.input status text → command.Says bytes status text
-  said-of status text (inl said) = subst (λ (l : List ℕ). command.Says l status text) (told-bytes run.input.before bytes said.bytes free.told said.given) said.says
+module _ (command : ToldCommand)
+    (law : (bytes : List ℕ) → command.IsAnswerable bytes → (status : Status) (text : List ℕ) → command.Says bytes status text
+    → command.IsAnswer status) (run : Run) (bytes : List ℕ) (free : IsUnhindered command run bytes) where
+  said-of : (status : Status) (text : List ℕ) → IsSaid command.Says run.input status text ⊎ IsTooLong run.input status text
+      → command.Says bytes status text
+  said-of status text (inl said) = subst (λ (l : List ℕ). command.Says l status text)
+      (told-bytes run.input.before bytes said.bytes free.told said.given) said.says
   said-of status text (inr long) =
       let size = ap length (told-bytes run.input.before bytes long.bytes free.told long.given) in
       let more = long.long in
       let fits = free.fits in
       absurd (omega (arith, size, more, fits))
 
-  answered : (status : Status) (text : List ℕ) → command.Says bytes status text → IsDelivered status text run.output run.status → HasAnswered command run bytes
+  answered : (status : Status) (text : List ℕ) → command.Says bytes status text → IsDelivered status text run.output run.status
+      → HasAnswered command run bytes
   answered status text says (inl whole) =
-      record { status = status; text = text; answer = law bytes free.answerable status text says; says = says; ends = whole.0; whole = whole.1 }
+      record {
+        status = status;
+        text = text;
+        answer = law bytes free.answerable status text says;
+        says = says;
+        ends = whole.0;
+        whole = whole.1;
+      }
   answered status text says (inr failed) = absurd (free.output_sound failed.1)
 
-  pub answers-by : EndsTold command.Says run.input run.output run.status → HasAnswered command run bytes ⊎ IsOutOfMemory run.output run.status
+  pub answers-by : EndsTold command.Says run.input run.output run.status
+      → HasAnswered command run bytes ⊎ IsOutOfMemory run.output run.status
   answers-by (inl a) = inl (answered a.status a.text (said-of a.status a.text a.due) a.delivered)
   answers-by (inr (inl memory)) = inr memory
   answers-by (inr (inr fault)) = absurd (free.input_sound fault.failed)
 
 -- a told command of which each saying of an answerable input is an answer answers
-pub answers-told : (command : ToldCommand) → ((bytes : List ℕ) → command.IsAnswerable bytes → (status : Status) (text : List ℕ) → command.Says bytes status text → command.IsAnswer status) → (run : Run) → IsTold command.Says run → AnswersTold command run
+pub answers-told : (command : ToldCommand)
+    → ((bytes : List ℕ) → command.IsAnswerable bytes → (status : Status) (text : List ℕ) → command.Says bytes status text
+    → command.IsAnswer status) → (run : Run) → IsTold command.Says run → AnswersTold command run
 answers-told command law run told bytes free = answers-by command law run bytes free told.ends

@@ -21,7 +21,8 @@ use Rattle.renju_cli.specs.Binds.{IsBindable, of_file}
 -- what comes of the table of a text: it is accepted, or what is told of it says why not
 abbrev pub IsFittedFile : TableFile → Fitted → Type 0
 IsFittedFile file (Fits found) = IsFit file × (found ≡ file)
-IsFittedFile file (Tells answer) = IsRefusedTable file answer.status answer.text.items ⊎ IsSpentWork BRAIN_WORK file answer.status answer.text.items
+IsFittedFile file (Tells answer) = IsRefusedTable file answer.status answer.text.items ⊎ IsSpentWork BRAIN_WORK file answer.status
+    answer.text.items
 
 -- what comes of the bytes of a FILE: they are the text of a table that is accepted, or what is told of them says why not
 abbrev pub IsFittedText : List ℕ → Fitted → Type 0
@@ -53,4 +54,5 @@ abbrev pub IsAdded : Change (Option Files) → ℕ → List ℕ → Book → Boo
 IsAdded shelf n name old new None = (file : TableFile) × IsBindable shelf.before name file × IsSound shelf × BindsMore old file new
 IsAdded shelf n name old new (Some answer) =
     TellsOfFile n (IsUnheld TableFileSays shelf name) answer
-    ⊎ ((file : TableFile) × IsBindable shelf.before name file × IsSound shelf × HoldMore (old.table ∷ file.table ∷ []) MAX_NODES × TellsFull answer)
+    ⊎ ((file : TableFile) × IsBindable shelf.before name file × IsSound shelf × HoldMore (old.table ∷ file.table ∷ []) MAX_NODES
+    × TellsFull answer)

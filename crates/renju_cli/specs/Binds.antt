@@ -104,7 +104,8 @@ pub record IsBookFull (names : List (List ℕ)) (shelf : Change (Option Files)) 
 -- What `bind` says of the files under these names: their book, why the earliest one that cannot be bound is not, or that they hold
 -- too many nodes.
 abbrev pub BindSays : List (List ℕ) → Change (Option Files) → Status → List ℕ → Type 0
-BindSays names shelf status text = IsBookTold names shelf status text ⊎ IsFileRefused names shelf status text ⊎ IsBookFull names shelf status text
+BindSays names shelf status text = IsBookTold names shelf status text ⊎ IsFileRefused names shelf status text ⊎ IsBookFull names shelf
+    status text
 
 -- what is said of the files is delivered
 pub record TellsBook (names : List (List ℕ)) (run : Run) : Type 0 where

@@ -30,7 +30,8 @@ use Rattle.renju_cli.specs.Checks.{IsWork, refused_table_line, why_word}
 
 -- a book of which each entry is accepted: their number, and all arrivals
 abbrev pub accepted_book_line : ℕ → ℕ → List ℕ
-accepted_book_line entries arrivals = ended (codes "accepted " ++ decimal entries ++ codes " entries, " ++ decimal arrivals ++ codes " arrivals")
+accepted_book_line entries arrivals = ended
+    (codes "accepted " ++ decimal entries ++ codes " entries, " ++ decimal arrivals ++ codes " arrivals")
 
 -- what is said of an entry: its number, and what would be said of its text alone
 abbrev pub entry_line : ℕ → List ℕ → List ℕ

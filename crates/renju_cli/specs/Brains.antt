@@ -1,5 +1,6 @@
 -- The command `brain`: its words, how its sessions end, and what comes of its FILE.
-use Rattle.std.specs.Prelude.{◌≡◌, ◌≢◌, ◌⊎◌, ℕ, ◌+◌, ◌≤◌, ◌<◌, List, [], ◌∷◌, codes, length, map, Option, Some, IfSome, Contains, unwrap_or, slice_get}
+use Rattle.std.specs.Prelude.{◌≡◌, ◌≢◌, ◌⊎◌, ℕ, ◌+◌, ◌≤◌, ◌<◌, List, [], ◌∷◌, codes, length, map, Option, Some, IfSome, Contains, unwrap_or}
+use Rattle.std.specs.Prelude.{slice_get}
 use Rattle.strategy_graph.specs.Roots.{root_arrivals, AcceptedRoot}
 use Rattle.strategy_graph.specs.declared.Node.{Node}
 use Rattle.strategy_checker.specs.HeldRoots.{HeldTable}
@@ -17,9 +18,11 @@ use Rattle.gomocup_text.specs.Commands.{commands}
 use Rattle.gomocup_text.specs.declared.Command.TheVariants.{End}
 use Rattle.brain_session.specs.States.{State, new_brain}
 use Rattle.brain_session.specs.Sessions.{session_text}
-use Rattle.brain_session.specs.Serving.{Output, Served, served, HasAnswered, IsReadToEnd, StopsAtRead, StopsAtWrite, StopsAtStep, within_limit, IsTooLong}
+use Rattle.brain_session.specs.Serving.{Output, Served, served, HasAnswered, IsReadToEnd, StopsAtRead, StopsAtWrite, StopsAtStep}
+use Rattle.brain_session.specs.Serving.{within_limit, IsTooLong}
 use Rattle.renju_cli.specs.declared.status.Status.{Status}
-use Rattle.renju_cli.specs.declared.status.Status.TheVariants.{Done, Usage, ShelfFault, RefusedText, RefusedTable, Spent, Memory, ReadFault, WriteFault, NotFound, TooLong, Full}
+use Rattle.renju_cli.specs.declared.status.Status.TheVariants.{Done, Usage, ShelfFault, RefusedText, RefusedTable, Spent, Memory, ReadFault}
+use Rattle.renju_cli.specs.declared.status.Status.TheVariants.{WriteFault, NotFound, TooLong, Full}
 use Rattle.brain_session.specs.declared.TheConstants.{BRAIN_WORK}
 use Rattle.renju_cli.specs.Statuses.{status_number}
 use Rattle.renju_cli.specs.Texts.{too_long_line, shelf_line}
@@ -187,7 +190,8 @@ TableFileSays bytes status text =
 
 -- what is said of those of a book that is not held: why the text is refused, or else which entry is not accepted
 abbrev pub BookFileSays : List ℕ → Status → List ℕ → Type 0
-BookFileSays bytes status text = IsRefusedBook bytes status text ⊎ ((book : Book) × IsBookAt book bytes × IsRefusedEntry BRAIN_WORK book status text)
+BookFileSays bytes status text = IsRefusedBook bytes status text ⊎
+    ((book : Book) × IsBookAt book bytes × IsRefusedEntry BRAIN_WORK book status text)
 
 -- What is said of the bytes of a FILE that a brain does not hold: where their first line is that of a book what is said of a book, and
 -- else what is said of a table.

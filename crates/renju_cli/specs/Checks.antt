@@ -71,7 +71,8 @@ pub record IsSpentWork (work : ℕ) (file : TableFile) (status : Status) (text :
 
 -- what is said of a table text with so many arrivals allowed
 abbrev pub TableSays : ℕ → TableFile → Status → List ℕ → Type 0
-TableSays work file status text = IsAcceptedTable work file status text ⊎ IsRefusedTable file status text ⊎ IsSpentWork work file status text
+TableSays work file status text = IsAcceptedTable work file status text ⊎ IsRefusedTable file status text ⊎ IsSpentWork work file status
+    text
 
 -- What `check` says of an input that it has read whole: why the text is refused, or else what is said of the table.
 abbrev pub CheckSays : ℕ → List ℕ → Status → List ℕ → Type 0
@@ -112,4 +113,5 @@ pub record IsAcceptedInput (work : ℕ) (bytes : List ℕ) (output : Change (Opt
 
 -- The headline of the checker: where `check` answers 0, and the input tells its bytes, they are accepted.
 abbrev pub ShowsWin : Run → Type 0
-ShowsWin run = (work : ℕ) → HasWords run.words (check_words work) (IsWork work) → run.status ≡ status_number Done → IfSome run.input.before (λ bytes. IsAcceptedInput work bytes run.output)
+ShowsWin run = (work : ℕ) → HasWords run.words (check_words work) (IsWork work) → run.status ≡ status_number Done
+    → IfSome run.input.before (λ bytes. IsAcceptedInput work bytes run.output)

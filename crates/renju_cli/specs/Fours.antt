@@ -75,12 +75,14 @@ pub record IsSpentBudget (limit nodes : ℕ) (file : PositionFile) (status : Sta
 
 -- what is said of a position within so many moves and with so many positions to look at
 abbrev pub SearchSays : ℕ → ℕ → PositionFile → Status → List ℕ → Type 0
-SearchSays limit nodes file status text = IsFoundWin limit nodes file status text ⊎ IsDenied limit nodes file status text ⊎ IsSpentBudget limit nodes file status text
+SearchSays limit nodes file status text = IsFoundWin limit nodes file status text ⊎ IsDenied limit nodes file status text ⊎ IsSpentBudget
+    limit nodes file status text
 
 -- What `fours` says of an input that it has read whole: why the text is refused, or else what is said of the position.
 abbrev pub FoursSays : ℕ → ℕ → List ℕ → Status → List ℕ → Type 0
 FoursSays limit nodes input status text =
-    IsRefusedText (IsPositionFault input) status text ⊎ ((file : PositionFile) × IsPositionAt file input × SearchSays limit nodes file status text)
+    IsRefusedText (IsPositionFault input) status text ⊎
+    ((file : PositionFile) × IsPositionAt file input × SearchSays limit nodes file status text)
 
 -- the words `fours DEPTH NODES`, with both numbers in decimal without leading zeros
 abbrev pub fours_words : ℕ → ℕ → List (List ℕ)

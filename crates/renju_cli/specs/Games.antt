@@ -24,7 +24,8 @@ use Rattle.renju_cli.specs.declared.status.Status.TheVariants.{Done, ReadFault, 
 use Rattle.renju_cli.specs.Statuses.{status_number}
 use Rattle.renju_cli.specs.Runs.{Run, HasFailed}
 use Rattle.renju_cli.specs.Forms.{HasWords}
-use Rattle.renju_cli.specs.Brains.{brain_words, brain_with_words, IsFileName, nothing_held, held_by, held_with, HeldFile, NamedRoot, IsSession, IsUnbegun, GivesHeld}
+use Rattle.renju_cli.specs.Brains.{brain_words, brain_with_words, IsFileName, nothing_held, held_by, held_with, HeldFile, NamedRoot}
+use Rattle.renju_cli.specs.Brains.{IsSession, IsUnbegun, GivesHeld}
 
 -- the state of a brain that holds this after these commands
 abbrev pub state_told : HeldTable → List Asked → State

@@ -7,7 +7,8 @@ use Rattle.text_lines.specs.Lines.{ended}
 use Rattle.board_symmetry.specs.Points.{fits}
 use Rattle.board_symmetry.specs.Files.{file_image}
 use Rattle.board_symmetry.specs.declared.symmetry.Symmetry.{Symmetry}
-use Rattle.board_symmetry.specs.declared.symmetry.Symmetry.TheVariants.{Identity, Half, FlipX, FlipY, Quarter, ThreeQuarter, Diagonal, AntiDiagonal}
+use Rattle.board_symmetry.specs.declared.symmetry.Symmetry.TheVariants.{Identity, Half, FlipX, FlipY, Quarter, ThreeQuarter, Diagonal}
+use Rattle.board_symmetry.specs.declared.symmetry.Symmetry.TheVariants.{AntiDiagonal}
 use Rattle.renju_io.specs.Told.{Takes}
 use Rattle.renju_cli.specs.declared.status.Status.{Status}
 use Rattle.renju_cli.specs.declared.status.Status.TheVariants.{Done, RefusedText}

@@ -33,7 +33,8 @@ use Rattle.renju_cli.specs.Forms.{Command, HasWords}
 use Rattle.renju_cli.specs.Told.{AnswersTold, EndsTold, ToldCommand}
 use Rattle.renju_cli.specs.Refusals.{IsRefusedText}
 use Rattle.renju_cli.specs.Checks.{IsTableAt}
-use Rattle.renju_cli.specs.Brains.{IsFileName, IsFit, IsFitFile, IsLoaded, IsUnbegun, IsUnhinderedShelf, TableFileSays, TellsFile, held_by, of_table}
+use Rattle.renju_cli.specs.Brains.{IsFileName, IsFit, IsFitFile, IsLoaded, IsUnbegun, IsUnhinderedShelf, TableFileSays, TellsFile, held_by}
+use Rattle.renju_cli.specs.Brains.{of_table}
 
 -- the words `referee`
 abbrev pub referee_words : List (List ℕ)
@@ -156,7 +157,8 @@ referee_with_command name = record {
   words = referee_with_words name;
   in_range = IsFileName name;
   Does = IsRefereeWith name;
-  Answers = λ run. (file : TableFile) → IsUnhinderedShelf (λ files. IsFitFile name files file) run → AnswersTold (compares_command name file) run;
+  Answers = λ run. (file : TableFile) → IsUnhinderedShelf (λ files. IsFitFile name files file) run
+      → AnswersTold (compares_command name file) run;
 }
 
 -- FILE fits, the input is a game, and the output took the verdict and the line of the table, whole. Where that line says that the

@@ -133,7 +133,8 @@ SolutionSays limit nodes file status text =
 -- What `solve` says of an input that it has read whole: why the text is refused, or else what is said of the position.
 abbrev pub SolveSays : ℕ → ℕ → List ℕ → Status → List ℕ → Type 0
 SolveSays limit nodes input status text =
-    IsRefusedText (IsPositionFault input) status text ⊎ ((file : PositionFile) × IsPositionAt file input × SolutionSays limit nodes file status text)
+    IsRefusedText (IsPositionFault input) status text ⊎
+    ((file : PositionFile) × IsPositionAt file input × SolutionSays limit nodes file status text)
 
 -- the words `solve DEPTH NODES`, with both numbers in decimal without leading zeros
 abbrev pub solve_words : ℕ → ℕ → List (List ℕ)
@@ -166,12 +167,13 @@ pub record WritesSolution (limit nodes : ℕ) (file : PositionFile) (output : Ch
 
 -- the statuses of `solve` that speak of a position
 abbrev pub SpeaksOfSolution : ℕ → Type 0
-SpeaksOfSolution number = (number ≡ status_number Done) ⊎ (number ≡ status_number NotFound) ⊎ (number ≡ status_number Spent) ⊎ (number ≡ status_number Full)
+SpeaksOfSolution number = (number ≡ status_number Done) ⊎ (number ≡ status_number NotFound) ⊎ (number ≡ status_number Spent) ⊎
+    (number ≡ status_number Full)
 
--- What the statuses of `solve` say of the lawful position that is the input: 0 that the table of a win by fours, along a sequence or
--- by threats is written; 9 that there is no win by threats; 5 that their game has more positions than the budget; 12 that a table may have too many nodes. One of
--- them comes, unless the status is one that stands in place of each. Where the first step has a win it is 0, and where the
--- second has one 0 or 12.
+-- What the statuses of `solve` say of the lawful position that is the input: 0 that the table of a win by fours, along a sequence or by
+-- threats is written; 9 that there is no win by threats; 5 that their game has more positions than the budget; 12 that a table may have
+-- too many nodes. One of them comes, unless the status is one that stands in place of each. Where the first step has a win it is 0, and
+-- where the second has one 0 or 12.
 pub record IsSolved (limit nodes : ℕ) (file : PositionFile) (run : Run) : Type 0 where
   pub won : run.status ≡ status_number Done → WritesSolution limit nodes file run.output
   pub none : run.status ≡ status_number NotFound → ¬ WinsByThreats file.kind limit file.board

@@ -1,7 +1,8 @@
 -- The statuses of the program and their numbers.
 use Rattle.std.specs.Prelude.{ℕ}
 use Rattle.renju_cli.specs.declared.status.Status.{Status}
-use Rattle.renju_cli.specs.declared.status.Status.TheVariants.{Done, Usage, ShelfFault, RefusedText, RefusedTable, Spent, Memory, ReadFault, WriteFault, NotFound, TooLong, Full}
+use Rattle.renju_cli.specs.declared.status.Status.TheVariants.{Done, Usage, ShelfFault, RefusedText, RefusedTable, Spent, Memory, ReadFault}
+use Rattle.renju_cli.specs.declared.status.Status.TheVariants.{WriteFault, NotFound, TooLong, Full}
 
 -- the number that the program ends with
 abbrev pub status_number : Status → ℕ

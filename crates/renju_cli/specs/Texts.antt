@@ -16,4 +16,5 @@ shelf_line = ended (codes "shelf failed")
 
 -- what words without a form are answered with
 abbrev pub usage_line : List ℕ
-usage_line = ended (codes "usage: renju check WORK, foul, fours DEPTH NODES, threats LENGTH NODES, solve DEPTH NODES, brain [FILE], drill N, image SYMMETRY, referee [FILE], defend DEPTH NODES, bind FILE .., book WORK")
+usage_line = ended (codes
+    "usage: renju check WORK, foul, fours DEPTH NODES, threats LENGTH NODES, solve DEPTH NODES, brain [FILE], drill N, image SYMMETRY, referee [FILE], defend DEPTH NODES, bind FILE .., book WORK")

@@ -46,7 +46,8 @@ threat_line t = ended (kind_word t.kind ++ (space ∷ point_text t.gain) ++ (spa
 
 -- the number of threats, a line for each, and the final point
 abbrev pub sequence_text : List Threat → Point → List ℕ
-sequence_text ts f = ended (codes "threats " ++ decimal (length ts)) ++ flat_map threat_line ts ++ ended (codes "final" ++ (space ∷ point_text f))
+sequence_text ts f = ended (codes "threats " ++ decimal (length ts)) ++ flat_map threat_line ts
+    ++ ended (codes "final" ++ (space ∷ point_text f))
 
 -- the first sequence of at most so many threats of the side to move at the position
 abbrev pub sequence_at : ℕ → PositionFile → Option (List Threat × Point)
@@ -86,7 +87,8 @@ SequenceSays limit nodes file status text =
 -- What `threats` says of an input that it has read whole: why the text is refused, or else what is said of the position.
 abbrev pub ThreatsSays : ℕ → ℕ → List ℕ → Status → List ℕ → Type 0
 ThreatsSays limit nodes input status text =
-    IsRefusedText (IsPositionFault input) status text ⊎ ((file : PositionFile) × IsPositionAt file input × SequenceSays limit nodes file status text)
+    IsRefusedText (IsPositionFault input) status text ⊎
+    ((file : PositionFile) × IsPositionAt file input × SequenceSays limit nodes file status text)
 
 -- the words `threats LENGTH NODES`, with both numbers in decimal without leading zeros
 abbrev pub threats_words : ℕ → ℕ → List (List ℕ)
@@ -117,7 +119,8 @@ pub record WritesSequence (limit : ℕ) (file : PositionFile) (output : Change (
 -- What the statuses of `threats` say of the lawful position that is the input: 0 that there is a sequence and the budget is
 -- enough, and the first one is written; 9 that there is none and the budget is enough; 5 that the budget is not enough.
 abbrev pub IsSequenceSearched : ℕ → ℕ → PositionFile → Run → Type 0
-IsSequenceSearched limit nodes file run = IsSearched (cost_at limit file) nodes (WritesSequence limit file run.output) (sequence_at limit file ≡ None) run
+IsSequenceSearched limit nodes file run = IsSearched (cost_at limit file) nodes (WritesSequence limit file run.output)
+    (sequence_at limit file ≡ None) run
 
 -- The headline of the search for sequences: what the statuses of `threats` show, where the input tells its bytes.
 abbrev pub ShowsSequence : Run → Type 0

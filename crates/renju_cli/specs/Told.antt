@@ -25,7 +25,8 @@ IsInput None bytes = Unit {0}
 IsInput (Some told) bytes = told ≡ bytes
 
 -- the input was read to its end and has no more bytes than a command takes, and the command says this of it
-pub record IsSaid (Says : List ℕ → Status → List ℕ → Type 0) (input : Change (Option (List ℕ))) (status : Status) (text : List ℕ) : Type 0 where
+pub record IsSaid (Says : List ℕ → Status → List ℕ → Type 0) (input : Change (Option (List ℕ))) (status : Status) (text : List ℕ) :
+    Type 0 where
   pub bytes : List ℕ
   pub given : IsInput input.before bytes
   pub fits : length bytes ≤ MAX_INPUT_BYTES
@@ -66,7 +67,8 @@ pub record IsTold (Says : List ℕ → Status → List ℕ → Type 0) (run : Ru
 -- the number is that of a status that stands in place of what a command says: of an input that is too long, of want of memory,
 -- or of a fault of a device
 abbrev pub IsYielded : ℕ → Type 0
-IsYielded number = (number ≡ status_number TooLong) ⊎ (number ≡ status_number Memory) ⊎ (number ≡ status_number ReadFault) ⊎ (number ≡ status_number WriteFault)
+IsYielded number = (number ≡ status_number TooLong) ⊎ (number ≡ status_number Memory) ⊎ (number ≡ status_number ReadFault) ⊎
+    (number ≡ status_number WriteFault)
 
 -- What a told command needs to answer: an input that tells these bytes, no more than a command takes, for which its numbers
 -- are enough, and devices that count no fault in the run.

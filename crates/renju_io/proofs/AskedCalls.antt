@@ -1,5 +1,6 @@
 -- How often a device was asked, call by call.
-use Rattle.std.proofs.Common.{◌≡◌, ℕ, zero, suc, ◌+◌, ◌<◌, ◌≤◌, min, refl, sym, ap, ◌∙◌, List, [], ◌++◌, length, Option, subst, arith, length-append}
+use Rattle.std.proofs.Common.{◌≡◌, ℕ, zero, suc, ◌+◌, ◌<◌, ◌≤◌, min, refl, sym, ap, ◌∙◌, List, [], ◌++◌, length, Option, subst, arith}
+use Rattle.std.proofs.Common.{length-append}
 use Rattle.renju_io.specs.Asked.{one_more, after_calls, IsAsked, IsAskedAtMost, IsAskedOnce, IsAskedWithin, GivesByEach, piece_count}
 use Rattle.renju_io.specs.Told.{Gives}
 use Rattle.renju_io.specs.declared.TheConstants.{MAX_PIECE_BYTES}
@@ -81,7 +82,8 @@ by_each left left_before left_after a b c bytes given before last few once = rec
 pub by_each_failed : (left left_before left_after : Option (List ℕ)) (a b c : ℕ) (bytes : List ℕ) → Gives left bytes left_before
     → left_after ≡ left_before → IsAskedAtMost (length bytes) a b → IsAskedOnce b c → GivesByEach left left_after a c
 by_each_failed left left_before left_after a b c bytes before kept few once =
-    by_each left left_before left_after a b c bytes [] before (subst (λ l. Gives left_before [] l) (sym kept) (Gives-none left_before)) few once
+    by_each left left_before left_after a b c bytes [] before (subst (λ l. Gives left_before [] l) (sym kept) (Gives-none left_before)) few
+    once
 
 -- a piece of a text was written: the rest has fewer pieces by one
 pub one_piece_less : (rest piece later : List ℕ) → rest ≡ piece ++ later → length piece ≡ min MAX_PIECE_BYTES (length rest)
@@ -98,5 +100,6 @@ piece_written text rest later a b c few less once = record {
 }
 
 -- so there were no more writes than the text has pieces
-pub writes_few : (text later : List ℕ) (a b : ℕ) → IsAskedWithin (piece_count later) (piece_count text) a b → IsAskedAtMost (piece_count text) a b
+pub writes_few : (text later : List ℕ) (a b : ℕ) → IsAskedWithin (piece_count later) (piece_count text) a b
+    → IsAskedAtMost (piece_count text) a b
 writes_few text later a b few = record { calls = few.calls; few = omega (arith, few.few); asked = few.asked }

@@ -11,7 +11,9 @@ bytes_of_found : (name : List ℕ) (files : List MemoryFile) →
     option_map (λ file. file.bytes.items) (find (λ file. bytes_eq name (string_bytes file.name)) files) ≡ file_under name (entries files)
 bytes_of_found name [] = refl
 bytes_of_found name (file ∷ files) =
-    elim (bytes_eq name (string_bytes file.name)) as (λ b. option_map (λ file. file.bytes.items) (cond b (Some file) (find (λ file. bytes_eq name (string_bytes file.name)) files)) ≡ cond b (Some file.bytes.items) (file_under name (entries files)))
+    elim (bytes_eq name (string_bytes file.name)) as
+    (λ b. option_map (λ file. file.bytes.items) (cond b (Some file) (find (λ file. bytes_eq name (string_bytes file.name)) files))
+    ≡ cond b (Some file.bytes.items) (file_under name (entries files)))
     [ true ↦ refl | false ↦ bytes_of_found name files ]
 
 -- what is found is the file under the name

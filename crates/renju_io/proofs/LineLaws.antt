@@ -1,5 +1,7 @@
 -- Laws of the lines of an input.
-use Rattle.std.proofs.Common.{◌≡◌, ℕ, ◌+◌, ◌-◌, ◌<◌, ◌≤◌, Bool, true, false, cond, List, [], ◌∷◌, ◌++◌, length, take, drop, map, refl, sym, ap, subst, ◌∙◌, append_assoc, position, Some, None, arith, length-append, length-drop, length-take, inl, inr, get_or, lt-ltb, zero, suc}
+use Rattle.std.proofs.Common.{◌≡◌, ℕ, ◌+◌, ◌-◌, ◌<◌, ◌≤◌, Bool, true, false, cond, List, [], ◌∷◌, ◌++◌, length, take, drop, map, refl, sym}
+use Rattle.std.proofs.Common.{ap, subst, ◌∙◌, append_assoc, position, Some, None, arith, length-append, length-drop, length-take, inl, inr}
+use Rattle.std.proofs.Common.{get_or, lt-ltb, zero, suc}
 use Rattle.std.proofs.lemmas.List.{append-nil, take_all, length-take-le, drop-take, drop-drop}
 use Rattle.std.proofs.lemmas.List.Quantifiers.{position-Some}
 use Rattle.std.proofs.lemmas.List.Sums.{position_or_len_is, split_at_first, fails_before_first}
@@ -74,7 +76,8 @@ line_of-long piece long = ap (λ b. cond b TooLong (Text piece)) (lt-ltb MAX_LIN
 pub line_of-front : (piece : List ℕ) → line_of (take (MAX_LINE_BYTES + 1) piece) ≡ line_of piece
 line_of-front piece =
     elim (cases_lt MAX_LINE_BYTES (length piece)) [
-      | inl long ↦ line_of-long (take (MAX_LINE_BYTES + 1) piece) (omega (arith, length-take-le (MAX_LINE_BYTES + 1) piece (omega arith))) ∙ sym (line_of-long piece long)
+      | inl long ↦ line_of-long (take (MAX_LINE_BYTES + 1) piece) (omega (arith, length-take-le (MAX_LINE_BYTES + 1) piece (omega arith)))
+          ∙ sym (line_of-long piece long)
       | inr short ↦ ap line_of (take_all (MAX_LINE_BYTES + 1) piece (omega arith))
     ]
 
@@ -87,8 +90,13 @@ lines-front byte front more none =
           ∙ ap (λ line. line ∷ map line_of (later_of (pieces more)))
           (line_of-long ((byte ∷ front) ++ first_of (pieces more)) (omega (arith, length-append (byte ∷ front) (first_of (pieces more))))
           ∙ sym (line_of-long (take (MAX_LINE_BYTES + 1) (byte ∷ front) ++ first_of (pieces more))
-          (omega (arith, length-append (take (MAX_LINE_BYTES + 1) (byte ∷ front)) (first_of (pieces more)), length-take-le (MAX_LINE_BYTES + 1) (byte ∷ front) (omega arith)))))
-          ∙ sym (ap (map line_of) (pieces-open byte (take MAX_LINE_BYTES front) more (none.0, HasNoLineFeed-take MAX_LINE_BYTES front none.1)))
+          (omega (
+            arith,
+            length-append (take (MAX_LINE_BYTES + 1) (byte ∷ front)) (first_of (pieces more)),
+            length-take-le (MAX_LINE_BYTES + 1) (byte ∷ front) (omega arith),
+          ))))
+          ∙ sym (ap (map line_of) (pieces-open byte (take MAX_LINE_BYTES front) more
+          (none.0, HasNoLineFeed-take MAX_LINE_BYTES front none.1)))
       | inr short ↦ ap (λ front. lines (front ++ more)) (sym (take_all (MAX_LINE_BYTES + 1) (byte ∷ front) (omega arith)))
     ]
 
@@ -108,7 +116,8 @@ Tells-then bytes mid rest told before after = record { whatever = λ more. befor
 -- bytes that join what was told of and what is kept
 pub Tells-joined : (bytes given rest : List ℕ) → Tells bytes [] rest → Tells (bytes ++ given) [] (rest ++ given)
 Tells-joined bytes given rest tells = record {
-  whatever = λ more. ap lines (append_assoc bytes given more) ∙ tells.whatever (given ++ more) ∙ ap lines (sym (append_assoc rest given more));
+  whatever = λ more. ap lines (append_assoc bytes given more) ∙ tells.whatever (given ++ more)
+      ∙ ap lines (sym (append_assoc rest given more));
 }
 
 -- a piece that ends is told as a line
@@ -147,7 +156,8 @@ pub record CutAt (bytes : List ℕ) (at : ℕ) : Type 0 where
 pub CutAt-position : (bytes : List ℕ) (at : ℕ) → position is_line_feed bytes ≡ Some at → CutAt bytes at
 CutAt-position bytes at is =
     let facts = position-Some is_line_feed bytes at 0 is in
-    let first : position_or_len is_line_feed bytes ≡ at = position_or_len_is is_line_feed bytes at 0 (omega (arith, facts.0)) facts.2 (λ _. facts.1) in
+    let first : position_or_len is_line_feed bytes ≡ at =
+    position_or_len_is is_line_feed bytes at 0 (omega (arith, facts.0)) facts.2 (λ _. facts.1) in
     record {
       no_feed = open_below at bytes facts.2;
       cut = split_at_first is_line_feed bytes 0 (omega (arith, facts.0))
@@ -180,19 +190,29 @@ rest_of-range bytes next end at within =
 -- a line that ends in a piece of some bytes is told, and what is left of the piece is kept
 pub Tells-cut : (line bytes : List ℕ) (next end at : ℕ) → HasNoLineFeed line →
     position is_line_feed (slice_range bytes next end) ≡ Some at →
-    Tells (line ++ slice_range bytes next end) (line_of (take (MAX_LINE_BYTES + 1) (line ++ take at (slice_range bytes next end))) ∷ []) (slice_range bytes (next + (at + 1)) end)
+    Tells (line ++ slice_range bytes next end) (line_of (take (MAX_LINE_BYTES + 1) (line ++ take at (slice_range bytes next end))) ∷ [])
+    (slice_range bytes (next + (at + 1)) end)
 Tells-cut line bytes next end at none is =
     let cut = CutAt-position (slice_range bytes next end) at is in
     let piece = line ++ take at (slice_range bytes next end) in
-    let told = Tells-ended piece (drop (at + 1) (slice_range bytes next end)) (HasNoLineFeed-append line (take at (slice_range bytes next end)) none cut.no_feed) in
+    let told = Tells-ended piece (drop (at + 1) (slice_range bytes next end))
+    (HasNoLineFeed-append line (take at (slice_range bytes next end)) none cut.no_feed) in
     let P : List ℕ → Type 0 = λ rest. Tells (line ++ slice_range bytes next end) (line_of (take (MAX_LINE_BYTES + 1) piece) ∷ []) rest in
-    let Q : List ℕ → Type 0 = λ all. Tells all (line_of (take (MAX_LINE_BYTES + 1) piece) ∷ []) (drop (at + 1) (slice_range bytes next end)) in
+    let Q : List ℕ → Type 0 = λ all. Tells all (line_of (take (MAX_LINE_BYTES + 1) piece) ∷ [])
+    (drop (at + 1) (slice_range bytes next end)) in
     subst P (rest_of-range bytes next end at cut.within)
-    (subst Q (append_assoc line (take at (slice_range bytes next end)) (LINE_FEED ∷ drop (at + 1) (slice_range bytes next end)) ∙ ap (λ u. line ++ u) (sym cut.cut)) told)
+    (subst Q (append_assoc line (take at (slice_range bytes next end)) (LINE_FEED ∷ drop (at + 1) (slice_range bytes next end))
+    ∙ ap (λ u. line ++ u) (sym cut.cut)) told)
 
 -- and that is shorter than what was kept
 pub cut_is_shorter : (line bytes : List ℕ) (next end at : ℕ) → position is_line_feed (slice_range bytes next end) ≡ Some at →
     length (slice_range bytes (next + (at + 1)) end) < length (line ++ slice_range bytes next end)
 cut_is_shorter line bytes next end at is =
     let cut = CutAt-position (slice_range bytes next end) at is in
-    omega (arith, cut.within, ap length (rest_of-range bytes next end at cut.within), length-drop (at + 1) (slice_range bytes next end), length-append line (slice_range bytes next end))
+    omega (
+      arith,
+      cut.within,
+      ap length (rest_of-range bytes next end at cut.within),
+      length-drop (at + 1) (slice_range bytes next end),
+      length-append line (slice_range bytes next end),
+    )

@@ -1,17 +1,20 @@
 -- What a reader of lines has done since a call began, and what it may answer then.
-use Rattle.std.proofs.Common.{◌≡◌, ◌≢◌, ℕ, ◌+◌, ◌<◌, ◌≤◌, Bool, true, false, cond, List, [], ◌∷◌, ◌++◌, length, take, map, refl, sym, ap, subst, ◌∙◌, append_assoc, None, Some, Ok, Option, IfSome, arith, length-append, length-take, ◌⊎◌, inl, inr}
+use Rattle.std.proofs.Common.{◌≡◌, ◌≢◌, ℕ, ◌+◌, ◌<◌, ◌≤◌, Bool, true, false, cond, List, [], ◌∷◌, ◌++◌, length, take, map, refl, sym, ap}
+use Rattle.std.proofs.Common.{subst, ◌∙◌, append_assoc, None, Some, Ok, Option, IfSome, arith, length-append, length-take, ◌⊎◌, inl, inr}
 use Rattle.std.proofs.lemmas.List.{append-nil, length-map}
 use Rattle.std.specs.Option.{option_map}
 use Rattle.std.specs.Io.BufRead.{take_through}
 use Rattle.std.specs.Io.KnownBytes.{prepend_known, IsAtEnd}
 use Rattle.renju_io.specs.Told.{Gives}
-use Rattle.renju_io.specs.Lines.{LineText, Text, TooLong, begun, is_line_feed, line_of, lines, pieces, HasNoLineFeed, Tells, TellsLast, ReaderState, StaysOpen, KeepsLine, TakesLines, TakesTooMany, IsExhausted, lines_left, told_lines}
+use Rattle.renju_io.specs.Lines.{LineText, Text, TooLong, begun, is_line_feed, line_of, lines, pieces, HasNoLineFeed, Tells, TellsLast}
+use Rattle.renju_io.specs.Lines.{ReaderState, StaysOpen, KeepsLine, TakesLines, TakesTooMany, IsExhausted, lines_left, told_lines}
 use Rattle.renju_io.specs.LineReads.{ReadsOn}
 use Rattle.renju_io.specs.declared.line_reader.Line.{Line}
 use Rattle.renju_io.specs.declared.line_reader.Line.TheVariants as kind
 use Rattle.renju_io.specs.declared.TheConstants.{LINE_FEED, MAX_LINE_BYTES, MAX_SESSION_BYTES}
 use Rattle.renju_io.proofs.GivenBytes.{Gives-then}
-use Rattle.renju_io.proofs.LineLaws.{HasNoLineFeed-first, HasNoLineFeed-second, HasNoLineFeed-append, HasNoLineFeed-take, Tells-front, Tells-then, Tells-joined, pieces-ended}
+use Rattle.renju_io.proofs.LineLaws.{HasNoLineFeed-first, HasNoLineFeed-second, HasNoLineFeed-append, HasNoLineFeed-take, Tells-front}
+use Rattle.renju_io.proofs.LineLaws.{Tells-then, Tells-joined, pieces-ended}
 
 -- the reader took these bytes of the source, and its lines are as they were
 pub record ReadSoFar (old : ReaderState) (left : Option (List ℕ)) (now : ReaderState) (left_now : Option (List ℕ)) : Type 0 where
@@ -35,7 +38,8 @@ begun-length byte (piece ∷ ps) some = refl
 pub some_pieces : (bytes more : List ℕ) → 0 < length (pieces (bytes ++ (LINE_FEED ∷ more)))
 some_pieces [] more = omega arith
 some_pieces (byte ∷ bytes) more =
-    elim (is_line_feed byte) as (λ b. 0 < length (cond b ([] ∷ pieces (bytes ++ (LINE_FEED ∷ more))) (begun byte (pieces (bytes ++ (LINE_FEED ∷ more)))))) [
+    elim (is_line_feed byte) as
+    (λ b. 0 < length (cond b ([] ∷ pieces (bytes ++ (LINE_FEED ∷ more))) (begun byte (pieces (bytes ++ (LINE_FEED ∷ more)))))) [
       | true ↦ omega arith
       | false ↦ omega (arith, begun-length byte (pieces (bytes ++ (LINE_FEED ∷ more))) (some_pieces bytes more), some_pieces bytes more)
     ]
@@ -45,7 +49,8 @@ one_piece : (bytes : List ℕ) → length (pieces (bytes ++ (LINE_FEED ∷ [])))
 one_piece [] one = tt
 one_piece (byte ∷ bytes) one =
     let more = some_pieces bytes [] in
-    let P : Bool → Type 0 = λ b. length (cond b ([] ∷ pieces (bytes ++ (LINE_FEED ∷ []))) (begun byte (pieces (bytes ++ (LINE_FEED ∷ []))))) ≡ 1 → (b ≡ false) × HasNoLineFeed bytes in
+    let P : Bool → Type 0 = λ b. length (cond b ([] ∷ pieces (bytes ++ (LINE_FEED ∷ []))) (begun byte (pieces (bytes ++ (LINE_FEED ∷ [])))))
+    ≡ 1 → (b ≡ false) × HasNoLineFeed bytes in
     let both : P (is_line_feed byte) = elim (is_line_feed byte) as P [
       | true ↦ λ is. absurd (omega arith)
       | false ↦ λ is. (refl, one_piece bytes (sym (begun-length byte (pieces (bytes ++ (LINE_FEED ∷ []))) more) ∙ is))
@@ -65,7 +70,8 @@ open_before bytes kept stands none =
 stands_after : (bytes given kept : List ℕ) → Tells bytes [] kept → HasNoLineFeed kept →
     Tells (bytes ++ given) [] (take (MAX_LINE_BYTES + 1) kept ++ given)
 stands_after bytes given kept stands none =
-    Tells-joined bytes given (take (MAX_LINE_BYTES + 1) kept) (Tells-then bytes kept (take (MAX_LINE_BYTES + 1) kept) [] stands (Tells-front kept none))
+    Tells-joined bytes given (take (MAX_LINE_BYTES + 1) kept)
+    (Tells-then bytes kept (take (MAX_LINE_BYTES + 1) kept) [] stands (Tells-front kept none))
 
 -- what was read so far, and what a read gave
 reads_more : (old now next : ReaderState) (left left_now left_next : Option (List ℕ)) (count : ℕ) →
@@ -100,7 +106,15 @@ Reading-on old now next left left_now left_next count reading few none read text
         within = λ _. reads_more old now next left left_now left_next count so_far none read joined.1;
         past = λ more. absurd (omega arith);
         text = text ∙ reading.text;
-        grown = omega (arith, reading.grown, read.counted, read.many, ap length joined.1, length-append (take (MAX_LINE_BYTES + 1) now.kept) read.given, length-take (MAX_LINE_BYTES + 1) now.kept);
+        grown = omega (
+          arith,
+          reading.grown,
+          read.counted,
+          read.many,
+          ap length joined.1,
+          length-append (take (MAX_LINE_BYTES + 1) now.kept) read.given,
+          length-take (MAX_LINE_BYTES + 1) now.kept,
+        );
       }
       | inr at_most ↦ record {
         within = λ few. absurd (omega (arith, at_most.0, at_most.1, read.counted));
@@ -169,7 +183,8 @@ take_through-le (byte ∷ bytes) =
 take_through-within : (bytes more : List ℕ) → (HasNoLineFeed bytes → ⊥) → length (take_through LINE_FEED (bytes ++ more)) ≤ length bytes
 take_through-within [] more some = absurd (some tt)
 take_through-within (byte ∷ bytes) more some =
-    let P : Bool → Type 0 = λ b. ((b ≡ false) × HasNoLineFeed bytes → ⊥) → length (cond b (byte ∷ []) (byte ∷ take_through LINE_FEED (bytes ++ more))) ≤ length (byte ∷ bytes) in
+    let P : Bool → Type 0 = λ b. ((b ≡ false) × HasNoLineFeed bytes → ⊥)
+    → length (cond b (byte ∷ []) (byte ∷ take_through LINE_FEED (bytes ++ more))) ≤ length (byte ∷ bytes) in
     let both : P (is_line_feed byte) = elim (is_line_feed byte) as P [
       | true ↦ λ h. omega arith
       | false ↦ λ h. omega (arith, take_through-within bytes more (λ none. h (refl, none)))
@@ -180,7 +195,8 @@ take_through-within (byte ∷ bytes) more some =
 take_through-past : (bytes : List ℕ) (byte : ℕ) (more : List ℕ) → HasNoLineFeed bytes →
     length bytes < length (take_through LINE_FEED (bytes ++ (byte ∷ more)))
 take_through-past [] byte more none =
-    elim (is_line_feed byte) as (λ b. 0 < length (cond b (byte ∷ []) (byte ∷ take_through LINE_FEED more))) [ true ↦ omega arith | false ↦ omega arith ]
+    elim (is_line_feed byte) as (λ b. 0 < length (cond b (byte ∷ []) (byte ∷ take_through LINE_FEED more)))
+    [ true ↦ omega arith | false ↦ omega arith ]
 take_through-past (first ∷ bytes) byte more none =
     let is : take_through LINE_FEED (first ∷ (bytes ++ (byte ∷ more))) ≡ first ∷ take_through LINE_FEED (bytes ++ (byte ∷ more)) =
     ap (λ b. cond b (first ∷ []) (first ∷ take_through LINE_FEED (bytes ++ (byte ∷ more)))) none.0 in
@@ -191,9 +207,14 @@ exhausted_at : (old : ReaderState) (given past more : List ℕ) → old.taken + 
 exhausted_at old given [] more all one none = absurd (omega arith)
 exhausted_at old given (byte ∷ past) more all one none =
     let longer = take_through-past given byte (past ++ more) (HasNoLineFeed-second old.kept given none) in
-    inr (HasNoLineFeed-first old.kept given none, omega (arith, longer, ap (λ bytes. length (take_through LINE_FEED bytes)) (append_assoc given (byte ∷ past) more)))
+    inr (
+      HasNoLineFeed-first old.kept given none,
+      omega
+          (arith, longer, ap (λ bytes. length (take_through LINE_FEED bytes)) (append_assoc given (byte ∷ past) more)),
+    )
 
-exhausted_if : (old : ReaderState) (given past : List ℕ) (left_now : Option (List ℕ)) → old.taken + length given ≡ MAX_SESSION_BYTES → length past ≡ 1 →
+exhausted_if : (old : ReaderState) (given past : List ℕ) (left_now : Option (List ℕ)) → old.taken + length given ≡ MAX_SESSION_BYTES
+    → length past ≡ 1 →
     HasNoLineFeed (old.kept ++ given) → IfSome (prepend_known (given ++ past) left_now) (IsExhausted old)
 exhausted_if old given past None all one none = tt
 exhausted_if old given past (Some more) all one none = exhausted_at old given past more all one none
@@ -203,7 +224,8 @@ exhausted_before old None more = tt
 exhausted_before old (Some bytes) more = inl more
 
 -- a reader that took too many bytes was exhausted
-pub IsExhausted-past : (old new : ReaderState) (left left_now : Option (List ℕ)) → TakesTooMany old left new left_now → IfSome left (IsExhausted old)
+pub IsExhausted-past : (old new : ReaderState) (left left_now : Option (List ℕ)) → TakesTooMany old left new left_now
+    → IfSome left (IsExhausted old)
 IsExhausted-past old new left left_now (inl goes) =
     subst (λ (told : Option (List ℕ)). IfSome told (IsExhausted old)) (sym goes.gives)
     (exhausted_if old goes.given goes.past left_now goes.all goes.one goes.stays.open_still)
@@ -217,14 +239,16 @@ told_ends bytes rest line tells none =
     let after = length-map (pieces (rest ++ (LINE_FEED ∷ []))) line_of in
     absurd (omega (arith, one, before, after, ap length (tells.whatever (LINE_FEED ∷ [])), some_pieces rest []))
 
-not_exhausted_at : (old new : ReaderState) (given more : List ℕ) (told : List LineText) (line : LineText) → new.taken ≡ old.taken + length given →
+not_exhausted_at : (old new : ReaderState) (given more : List ℕ) (told : List LineText) (line : LineText)
+    → new.taken ≡ old.taken + length given →
     new.taken ≤ MAX_SESSION_BYTES →
     ((told ≡ line ∷ []) × Tells (old.kept ++ given) told new.kept) ⊎ TellsLast (old.kept ++ given) told new.kept (Some more) →
     IsExhausted old (given ++ more) → ⊥
 not_exhausted_at old new given more told line counted few tells (inl before) = absurd (omega arith)
 not_exhausted_at old new given more told line counted few (inl tells) (inr past) =
     let ends : HasNoLineFeed given → ⊥ = λ none. told_ends (old.kept ++ given) new.kept line
-    (subst (λ (ls : List LineText). Tells (old.kept ++ given) ls new.kept) tells.0 tells.1) (HasNoLineFeed-append old.kept given past.0 none) in
+    (subst (λ (ls : List LineText). Tells (old.kept ++ given) ls new.kept) tells.0 tells.1)
+    (HasNoLineFeed-append old.kept given past.0 none) in
     absurd (omega (arith, past.1, take_through-within given more ends))
 not_exhausted_at old new given more told line counted few (inr last) (inr past) =
     absurd (omega (arith, past.1, take_through-le (given ++ more), length-append given more, ap length last.ended))
@@ -254,11 +278,17 @@ pub not_exhausted_line : (old now new : ReaderState) (left left_now : Option (Li
     IfSome left (λ bytes. IsExhausted old bytes → ⊥)
 not_exhausted_line old now new left left_now line so_far tells taken few is_line =
     subst (λ (told : Option (List ℕ)). IfSome told (λ bytes. IsExhausted old bytes → ⊥)) (sym so_far.gives)
-    (not_exhausted_if old new so_far.given left_now (told_lines (Ok line) new.text) (line_told line new.text) (taken ∙ so_far.counted) (omega arith)
-    (inl (told_one line new.text is_line, Tells-then (old.kept ++ so_far.given) now.kept new.kept (told_lines (Ok line) new.text) so_far.stands tells)))
+    (not_exhausted_if old new so_far.given left_now (told_lines (Ok line) new.text) (line_told line new.text) (taken ∙ so_far.counted)
+    (omega arith)
+    (inl (
+      told_one line new.text is_line,
+      Tells-then (old.kept ++ so_far.given) now.kept new.kept (told_lines (Ok line) new.text)
+          so_far.stands tells,
+    )))
 
 -- nor was one that came to the end of the input
-pub not_exhausted_last : (old new : ReaderState) (left left_now : Option (List ℕ)) (told : List LineText) (takes : TakesLines old left told new left_now) →
+pub not_exhausted_last : (old new : ReaderState) (left left_now : Option (List ℕ)) (told : List LineText)
+    (takes : TakesLines old left told new left_now) →
     TellsLast (old.kept ++ takes.given) told new.kept left_now → new.taken ≤ MAX_SESSION_BYTES →
     IfSome left (λ bytes. IsExhausted old bytes → ⊥)
 not_exhausted_last old new left left_now told takes last few =
@@ -281,7 +311,8 @@ open_after now next left left_next count read nothing none =
     ]
 
 -- a reader is its text, what it kept, how many bytes it took, and whether the end was told
-same_state : (one other : ReaderState) → one.text ≡ other.text → one.kept ≡ other.kept → one.taken ≡ other.taken → one.ended ≡ other.ended → one ≡ other
+same_state : (one other : ReaderState) → one.text ≡ other.text → one.kept ≡ other.kept → one.taken ≡ other.taken → one.ended ≡ other.ended
+    → one ≡ other
 same_state one other text kept taken ended =
     ap (λ t. let r : ReaderState = record { text = t; kept = one.kept; taken = one.taken; ended = one.ended } in r) text
     ∙ ap (λ k. let r : ReaderState = record { text = other.text; kept = k; taken = one.taken; ended = one.ended } in r) kept
@@ -307,7 +338,8 @@ append_none [] second is = (refl, is)
 append_none (byte ∷ first) second is = cc
 
 -- a reader has told the last lines of the input, and took no more than it may
-pub record Ended (old : ReaderState) (left : Option (List ℕ)) (told : List LineText) (new : ReaderState) (left_now : Option (List ℕ)) : Type 0 where
+pub record Ended (old : ReaderState) (left : Option (List ℕ)) (told : List LineText) (new : ReaderState) (left_now : Option (List ℕ)) :
+    Type 0 where
   pub takes : TakesLines old left told new left_now
   pub last : TellsLast (old.kept ++ takes.given) told new.kept left_now
   pub few : new.taken ≤ MAX_SESSION_BYTES
@@ -318,15 +350,19 @@ pub Reading-read : (old now mid next : ReaderState) (left left_now left_next : O
     ReadsOn mid left_now count next left_next → next.text ≡ mid.text → Reading old left next left_next
 Reading-read old now mid next left left_now left_next count reading same few none read text =
     let P : ReaderState → Type 0 = λ reader. ReadsOn reader left_now count next left_next in
-    Reading-on old now next left left_now left_next count reading few none (subst P same read) (text ∙ ap (λ (reader : ReaderState). reader.text) same)
+    Reading-on old now next left left_now left_next count reading few none (subst P same read)
+    (text ∙ ap (λ (reader : ReaderState). reader.text) same)
 
 -- a read that gave nothing ends the input
 pub Ended-read : (old now mid next new : ReaderState) (left left_now left_next : Option (List ℕ)) (count : ℕ) (told : List LineText) →
     Reading old left now left_now → mid ≡ now → now.taken ≤ MAX_SESSION_BYTES → HasNoLineFeed now.kept →
     ReadsOn mid left_now count next left_next → next.text ≡ mid.text → count ≡ 0 →
-    lines next.kept ≡ told → new.kept ≡ [] → new.taken ≡ next.taken → new.ended ≡ true → IsAtEnd left_next → Ended old left told new left_next
-Ended-read old now mid next new left left_now left_next count told reading same few none read text nothing all none_kept taken at_end ended =
-    let few_next : next.taken ≤ MAX_SESSION_BYTES = omega (arith, read.counted, nothing, ap (λ (reader : ReaderState). reader.taken) same) in
+    lines next.kept ≡ told → new.kept ≡ [] → new.taken ≡ next.taken → new.ended ≡ true → IsAtEnd left_next
+    → Ended old left told new left_next
+Ended-read old now mid next new left left_now left_next count told reading same few none read text nothing all none_kept taken at_end
+    ended =
+    let few_next : next.taken ≤ MAX_SESSION_BYTES = omega
+    (arith, read.counted, nothing, ap (λ (reader : ReaderState). reader.taken) same) in
     let next_reading = Reading-read old now mid next left left_now left_next count reading same few none read text in
     let so_far = next_reading.within few_next in
     let last = TellsLast-read old next new left left_next told so_far all none_kept ended in
@@ -341,8 +377,11 @@ pub ends_as_before : (old new : ReaderState) (left left_now : Option (List ℕ))
     told ≡ [] → new.text ≡ old.text → new.ended ≡ true → (new ≡ record old { ended = true }) × (old.kept ≡ []) × IsAtEnd left_now
 ends_as_before old new left left_now told ended is text at_end =
     let none = append_none old.kept ended.takes.given (lines_none (old.kept ++ ended.takes.given) (ended.last.all ∙ is)) in
-    let after : ReaderState = record old { ended = true } in
-    (same_state new after text (ended.last.none_kept ∙ sym none.0) (omega (arith, ended.takes.counted, ap length none.1)) at_end, none.0, ended.last.ended)
+    let after : ReaderState = record old { ended = true } in (
+      same_state new after text (ended.last.none_kept ∙ sym none.0) (omega (arith, ended.takes.counted, ap length none.1)) at_end,
+      none.0,
+      ended.last.ended,
+    )
 
 -- where a line is told at the end of the input, some bytes were kept
 pub some_kept : (kept text : List ℕ) (line : Line) → lines kept ≡ told_lines (Ok line) text → line ≢ kind.End → 0 < length kept

@@ -47,6 +47,7 @@ pub stops : (old mid new : Option (List ℕ)) (text before piece rest : List ℕ
 stops old mid new text before piece rest so_far cut part = record {
   count = length (so_far.done ++ take part.count piece);
   takes = Takes-then old mid new so_far.done (take part.count piece) so_far.takes part.takes
-      ∙ ap (append_known old) (sym (ap (take (length (so_far.done ++ take part.count piece))) (so_far.split ∙ ap (λ xs. so_far.done ++ xs) cut)
+      ∙ ap (append_known old) (sym
+      (ap (take (length (so_far.done ++ take part.count piece))) (so_far.split ∙ ap (λ xs. so_far.done ++ xs) cut)
       ∙ front so_far.done piece rest part.count));
 }

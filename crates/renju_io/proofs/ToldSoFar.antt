@@ -1,5 +1,6 @@
 -- What a reader has told of an input, line by line.
-use Rattle.std.proofs.Common.{List, Option, false, [], ◌≤◌, refl, Some, None, sym, ap, ◌≡◌, true, inl, inr, ◌++◌, ◌∙◌, append_assoc, arith, length-append, subst, Bool, ◌⊎◌, length, ℕ, IfSome}
+use Rattle.std.proofs.Common.{List, Option, false, [], ◌≤◌, refl, Some, None, sym, ap, ◌≡◌, true, inl, inr, ◌++◌, ◌∙◌, append_assoc, arith}
+use Rattle.std.proofs.Common.{length-append, subst, Bool, ◌⊎◌, length, ℕ, IfSome}
 use Rattle.std.proofs.lemmas.List.{append-nil}
 use Rattle.renju_io.specs.Lines.{ReaderState, LineText, KnowsEnd, TakesLines, Tells, lines, whole_lines, HasNoLineFeed, TellsLast}
 use Rattle.renju_io.specs.declared.TheConstants.{MAX_SESSION_BYTES}

@@ -1,9 +1,11 @@
 -- The lines that end within some bytes, and what a reader tells call by call.
-use Rattle.std.proofs.Common.{◌≡◌, ℕ, ◌+◌, ◌-◌, ◌<◌, ◌≤◌, Bool, true, false, cond, not, List, [], ◌∷◌, ◌++◌, length, take, map, refl, sym, ap, subst, ◌∙◌, append_assoc, get_or, arith, length-append, zero, suc}
+use Rattle.std.proofs.Common.{◌≡◌, ℕ, ◌+◌, ◌-◌, ◌<◌, ◌≤◌, Bool, true, false, cond, not, List, [], ◌∷◌, ◌++◌, length, take, map, refl, sym}
+use Rattle.std.proofs.Common.{ap, subst, ◌∙◌, append_assoc, get_or, arith, length-append, zero, suc}
 use Rattle.std.proofs.lemmas.Bool.{eqb-true}
 use Rattle.std.proofs.lemmas.List.{append-nil, map-append, get_or-append-add, get_or_at, take-append-le, take_all}
 use Rattle.std.proofs.lemmas.List.Sums.{suffix_len_is}
-use Rattle.renju_io.specs.Lines.{LineText, begun, is_line_feed, line_of, lines, pieces, whole_lines, HasNoLineFeed, Tells, ToldAddsUp, ToldAreWhole, ToldToTheEnd}
+use Rattle.renju_io.specs.Lines.{LineText, begun, is_line_feed, line_of, lines, pieces, whole_lines, HasNoLineFeed, Tells, ToldAddsUp}
+use Rattle.renju_io.specs.Lines.{ToldAreWhole, ToldToTheEnd}
 use Rattle.renju_io.specs.declared.TheConstants.{LINE_FEED}
 use Rattle.renju_io.proofs.LineLaws.{pieces-ended}
 use Rattle.renju_io.proofs.LinesSoFar.{some_pieces}
@@ -43,7 +45,8 @@ pieces-whole [] more = refl
 pieces-whole (byte ∷ front) more =
     let ended = front ++ (LINE_FEED ∷ []) in
     let all = front ++ (LINE_FEED ∷ more) in
-    elim (is_line_feed byte) as (λ b. cond b ([] ∷ pieces all) (begun byte (pieces all)) ≡ cond b ([] ∷ pieces ended) (begun byte (pieces ended)) ++ pieces more) [
+    elim (is_line_feed byte) as
+    (λ b. cond b ([] ∷ pieces all) (begun byte (pieces all)) ≡ cond b ([] ∷ pieces ended) (begun byte (pieces ended)) ++ pieces more) [
       | true ↦ ap (λ ps. [] ∷ ps) (pieces-whole front more)
       | false ↦ ap (begun byte) (pieces-whole front more) ∙ begun-append byte (pieces ended) (pieces more) (some_pieces front [])
     ]
@@ -82,7 +85,8 @@ cut_behind front back none =
     let on : (k : ℕ) → n ≤ k → k < length all → goes_on (get_or all k 0) ≡ true = λ k past within.
     let place : (length front + 1) + (k - n) ≡ k = omega arith in
     subst (λ (i : ℕ). goes_on (get_or all i 0) ≡ true) place
-    (ap goes_on (ap (λ i. get_or all i 0) (omega arith) ∙ get_or-append-add front (LINE_FEED ∷ back) (suc (k - n)) 0) ∙ open_at back (k - n) 0 none (omega (arith, long))) in
+    (ap goes_on (ap (λ i. get_or all i 0) (omega arith) ∙ get_or-append-add front (LINE_FEED ∷ back) (suc (k - n)) 0)
+    ∙ open_at back (k - n) 0 none (omega (arith, long))) in
     let off : 0 < n → goes_on (get_or all (n - 1) 0) ≡ false = λ some.
     subst (λ (i : ℕ). goes_on (get_or all i 0) ≡ false) (omega arith) (ap goes_on (get_or_at front LINE_FEED back 0 (length front) refl)) in
     let joined = append_assoc front (LINE_FEED ∷ []) back in
@@ -90,7 +94,8 @@ cut_behind front back none =
     ap (take n) (sym joined) ∙ take-append-le n (front ++ (LINE_FEED ∷ [])) back (omega (arith, length-append front (LINE_FEED ∷ [])))
     ∙ take_all n (front ++ (LINE_FEED ∷ [])) (omega (arith, length-append front (LINE_FEED ∷ []))) in
     cut_of all (front ++ (LINE_FEED ∷ [])) back (open_behind all n (omega (arith, long)) on off ∙ ended) (sym joined) none
-    (λ more. ap lines (append_assoc front (LINE_FEED ∷ []) more) ∙ ap (map line_of) (pieces-whole front more) ∙ map-append line_of (pieces (front ++ (LINE_FEED ∷ []))) (pieces more))
+    (λ more. ap lines (append_assoc front (LINE_FEED ∷ []) more) ∙ ap (map line_of) (pieces-whole front more)
+    ∙ map-append line_of (pieces (front ++ (LINE_FEED ∷ []))) (pieces more))
 
 pub whole_lines-open : (bytes : List ℕ) → HasNoLineFeed bytes → whole_lines bytes ≡ []
 whole_lines-open bytes none =
@@ -133,12 +138,14 @@ ended_lines bytes =
     )
 
 -- the whole lines of some bytes are those told of them, and those of the bytes that are kept
-pub told_then_whole : (bytes rest : List ℕ) (told : List LineText) → Tells bytes told rest → lines (whole_lines bytes) ≡ told ++ lines (whole_lines rest)
+pub told_then_whole : (bytes rest : List ℕ) (told : List LineText) → Tells bytes told rest
+    → lines (whole_lines bytes) ≡ told ++ lines (whole_lines rest)
 told_then_whole bytes rest told tells =
     let all = ended_lines bytes in
     let later = ended_lines rest in
     same_before (lines (whole_lines bytes)) (told ++ lines (whole_lines rest)) (line_of all.0) (line_of later.0)
-    (sym all.1 ∙ tells.whatever (LINE_FEED ∷ []) ∙ ap (λ ls. told ++ ls) later.1 ∙ sym (append_assoc told (lines (whole_lines rest)) (line_of later.0 ∷ [])))
+    (sym all.1 ∙ tells.whatever (LINE_FEED ∷ []) ∙ ap (λ ls. told ++ ls) later.1
+    ∙ sym (append_assoc told (lines (whole_lines rest)) (line_of later.0 ∷ [])))
 
 -- the lines told before an open line are those that end
 pub told_are_whole : ToldAreWhole

@@ -6,7 +6,8 @@ use Rattle.renju_io.specs.declared.TheConstants.{MAX_LINE_BYTES, MAX_SESSION_BYT
 
 -- the reader took so many bytes of the source. They join those that it had kept, of a line that is too long as many as
 -- show that; only the byte after the most that it may take is not kept.
-pub record ReadsOn (old : ReaderState) (left : Option (List ℕ)) (count : ℕ) (new : ReaderState) (left_after : Option (List ℕ)) : Type 0 where
+pub record ReadsOn (old : ReaderState) (left : Option (List ℕ)) (count : ℕ) (new : ReaderState) (left_after : Option (List ℕ)) :
+    Type 0 where
   pub given : List ℕ
   pub gives : Gives left given left_after
   pub many : length given ≡ count

@@ -1,5 +1,6 @@
 -- The lines of an input, and what a reader of lines keeps of it.
-use Rattle.std.specs.Prelude.{◌≡◌, ℕ, ◌+◌, ◌-◌, ◌<◌, Bool, true, false, not, List, [], ◌∷◌, ◌++◌, ◌⊎◌, ◌==◌, if◌then◌else◌, nat_lt, length, take, map, Option, Result, Ok, Err}
+use Rattle.std.specs.Prelude.{◌≡◌, ℕ, ◌+◌, ◌-◌, ◌<◌, Bool, true, false, not, List, [], ◌∷◌, ◌++◌, ◌⊎◌, ◌==◌, if◌then◌else◌, nat_lt, length}
+use Rattle.std.specs.Prelude.{take, map, Option, Result, Ok, Err}
 use Rattle.std.specs.List.{AllByRecursion, suffix_len}
 use Rattle.std.specs.Option.{option_map}
 use Rattle.std.specs.Io.KnownBytes.{prepend_known, IsAtEnd}
@@ -81,7 +82,8 @@ pub record TellsLast (bytes : List ℕ) (told : List LineText) (rest : List ℕ)
 
 -- the reader took some bytes of the source, which gave no others, and told the first lines of those that it had kept and
 -- of those, or the last ones, where a read told the end of the input
-pub record TakesLines (old : ReaderState) (left : Option (List ℕ)) (told : List LineText) (new : ReaderState) (left_after : Option (List ℕ)) : Type 0 where
+pub record TakesLines (old : ReaderState) (left : Option (List ℕ)) (told : List LineText) (new : ReaderState)
+    (left_after : Option (List ℕ)) : Type 0 where
   pub given : List ℕ
   pub gives : Gives left given left_after
   pub counted : new.taken ≡ old.taken + length given

@@ -1,5 +1,6 @@
 -- Devices in memory: what they hold, and which of their calls fail.
-use Rattle.std.specs.Prelude.{◌≡◌, ℕ, ◌+◌, Bool, true, false, List, [], ◌⊎◌, ◌++◌, min, length, take, drop, ◌==◌, if◌then◌else◌, nat_lt, Option, None, Some, Result, Ok, Err, map, string_bytes}
+use Rattle.std.specs.Prelude.{◌≡◌, ℕ, ◌+◌, Bool, true, false, List, [], ◌⊎◌, ◌++◌, min, length, take, drop, ◌==◌, if◌then◌else◌, nat_lt}
+use Rattle.std.specs.Prelude.{Option, None, Some, Result, Ok, Err, map, string_bytes}
 use Rattle.std.specs.List.{list_any}
 use Rattle.renju_io.specs.Asked.{one_more}
 use Rattle.renju_io.specs.Files.{Files, file_under}
@@ -25,7 +26,8 @@ fails_next calls = list_any (λ number. number == one_more calls.made) calls.fai
 
 -- the calls after one more, which failed or not
 abbrev pub after_call : Calls → Bool → Calls
-after_call calls failed = record { failing = calls.failing; made = one_more calls.made; faults = if failed then one_more calls.faults else calls.faults }
+after_call calls failed =
+    record { failing = calls.failing; made = one_more calls.made; faults = if failed then one_more calls.faults else calls.faults }
 
 -- a source in memory: the bytes that are left, the most that one read gives, and the calls
 pub record SourceState : Type 0 where
@@ -57,7 +59,8 @@ after_write sink bytes failed = record { written = sink.written ++ bytes; kept =
 
 -- a write failed: it kept nothing, for want of memory, or it was to fail and kept the first bytes of its piece
 abbrev pub FailsToWrite : SinkState → List ℕ → SinkState → Type 0
-FailsToWrite old piece new = (new ≡ after_write old [] true) ⊎ (fails_next old.calls ≡ true) × (new ≡ after_write old (take old.kept piece) true)
+FailsToWrite old piece new = (new ≡ after_write old [] true) ⊎ (fails_next old.calls ≡ true)
+    × (new ≡ after_write old (take old.kept piece) true)
 
 -- files as names with their bytes
 abbrev pub entries : List MemoryFile → Files

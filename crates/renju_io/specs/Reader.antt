@@ -6,7 +6,12 @@ use Rattle.renju_io.specs.declared.TheConstants.{MAX_LINE_BYTES, MAX_SESSION_BYT
 
 -- what a reader shows: its kept bytes are those of the line begun, and those of the last read that were not looked at
 abbrev pub reader_state : Inside → ReaderState
-reader_state r = record { text = r.text.items; kept = r.line.items ++ slice_range r.piece.items r.next r.end; taken = r.taken; ended = r.ended }
+reader_state r = record {
+  text = r.text.items;
+  kept = r.line.items ++ slice_range r.piece.items r.next r.end;
+  taken = r.taken;
+  ended = r.ended;
+}
 
 -- there is room for a line and for one read, the line begun has no end, one byte too many at most was taken, and nothing is
 -- kept behind the end of the input, which comes before that byte

@@ -1,5 +1,6 @@
 -- The codes of lines.
-use Rattle.std.proofs.Common.{◌≡◌, ℕ, zero, suc, ◌+◌, ◌-◌, ◌*◌, ◌^◌, ◌≤◌, ◌<◌, Bool, true, false, cond, refl, sym, ap, ◌∙◌, arith, nat_lt, drop, ◌⊎◌, inl, inr, List, [], ◌∷◌, ◌≢◌, ◌&&◌}
+use Rattle.std.proofs.Common.{◌≡◌, ℕ, zero, suc, ◌+◌, ◌-◌, ◌*◌, ◌^◌, ◌≤◌, ◌<◌, Bool, true, false, cond, refl, sym, ap, ◌∙◌, arith, nat_lt}
+use Rattle.std.proofs.Common.{drop, ◌⊎◌, inl, inr, List, [], ◌∷◌, ◌≢◌, ◌&&◌}
 use Rattle.std.specs.Prelude.{Option, Some, None, map}
 use Rattle.game_rules.proofs.Common.{Grid, is_on, along, IsBoard, is_empty, put, has_fouls, row_wins, run_of, wins_on, fours_of}
 use Rattle.game_rules.specs.declared.Side.{Side}
@@ -69,7 +70,8 @@ five_step f (suc (suc (suc (suc (suc (suc (suc (suc zero)))))))) h = refl
 five_step f (suc (suc (suc (suc (suc (suc (suc (suc (suc zero))))))))) h = refl
 five_step f (suc (suc (suc (suc (suc (suc (suc (suc (suc (suc k)))))))))) h = absurd (omega arith)
 
-pub code_step : (f : ℕ → ℕ) (reach k : ℕ) → 4 ≤ reach → reach ≤ 5 → k < 2 * reach → last_digits f reach (k + 1) ≡ f (beside reach (2 * reach - 1 - k)) + 3 * last_digits f reach k
+pub code_step : (f : ℕ → ℕ) (reach k : ℕ) → 4 ≤ reach → reach ≤ 5 → k < 2 * reach
+    → last_digits f reach (k + 1) ≡ f (beside reach (2 * reach - 1 - k)) + 3 * last_digits f reach k
 code_step f zero k low high h = absurd (omega arith)
 code_step f (suc zero) k low high h = absurd (omega arith)
 code_step f (suc (suc zero)) k low high h = absurd (omega arith)
@@ -140,32 +142,61 @@ pub code_low : (b : Grid) (s : Side) (d : Axis) (q : Point) (r : ℕ) → (r ≡
 unfolding line_code
 code_low b s d q r reach = digits_low (λ i. digit_at b s (along d q i r)) (λ i. digit_low b s (along d q i r)) r reach
 
-pub code_bound : (rule : RuleKind) (b : Grid) (s : Side) (d : Axis) (p : Point) → line_code (reach_of rule s) b s d p < 3 ^ (2 * reach_of rule s)
+pub code_bound : (rule : RuleKind) (b : Grid) (s : Side) (d : Axis) (p : Point)
+    → line_code (reach_of rule s) b s d p < 3 ^ (2 * reach_of rule s)
 code_bound rule b s d p = code_low b s d p (reach_of rule s) (reach_cases rule s)
 
-pub from_digits-sum : (f g e : ℕ → ℕ) → ((i : ℕ) → g i ≡ f i + e i) → (xs : List ℕ) → from_digits (map g xs) ≡ from_digits (map f xs) + from_digits (map e xs)
+pub from_digits-sum : (f g e : ℕ → ℕ) → ((i : ℕ) → g i ≡ f i + e i) → (xs : List ℕ)
+    → from_digits (map g xs) ≡ from_digits (map f xs) + from_digits (map e xs)
 from_digits-sum f g e h [] = refl
 from_digits-sum f g e h (x ∷ xs) = let here = h x in let rest = from_digits-sum f g e h xs in omega arith
 
 -- the same digits make the same number, whatever stands in the middle
-pub digits_same : (f g : ℕ → ℕ) (r : ℕ) → (r ≡ 4) ⊎ (r ≡ 5) → ((i : ℕ) → i ≤ 2 * r → i ≢ r → g i ≡ f i) → from_digits (map g (places_beside r)) ≡ from_digits (map f (places_beside r))
+pub digits_same : (f g : ℕ → ℕ) (r : ℕ) → (r ≡ 4) ⊎ (r ≡ 5) → ((i : ℕ) → i ≤ 2 * r → i ≢ r → g i ≡ f i)
+    → from_digits (map g (places_beside r)) ≡ from_digits (map f (places_beside r))
 digits_same f g r (inl four) h =
     let same : (i : ℕ) → i ≤ 8 → i ≢ 4 → g i ≡ f i = λ i low other. h i (omega arith) (λ e. other (e ∙ four)) in
-    rw (four, same 0 (omega arith) (λ e. absurd (omega arith)), same 1 (omega arith) (λ e. absurd (omega arith)), same 2 (omega arith) (λ e. absurd (omega arith)), same 3 (omega arith) (λ e. absurd (omega arith)), same 5 (omega arith) (λ e. absurd (omega arith)), same 6 (omega arith) (λ e. absurd (omega arith)), same 7 (omega arith) (λ e. absurd (omega arith)), same 8 (omega arith) (λ e. absurd (omega arith))) refl
+    rw (
+      four,
+      same 0 (omega arith) (λ e. absurd (omega arith)),
+      same 1 (omega arith) (λ e. absurd (omega arith)),
+      same 2 (omega arith) (λ e. absurd (omega arith)),
+      same 3 (omega arith) (λ e. absurd (omega arith)),
+      same 5 (omega arith) (λ e. absurd (omega arith)),
+      same 6 (omega arith) (λ e. absurd (omega arith)),
+      same 7 (omega arith) (λ e. absurd (omega arith)),
+      same 8 (omega arith) (λ e. absurd (omega arith)),
+    ) refl
 digits_same f g r (inr five) h =
     let same : (i : ℕ) → i ≤ 10 → i ≢ 5 → g i ≡ f i = λ i low other. h i (omega arith) (λ e. other (e ∙ five)) in
-    rw (five, same 0 (omega arith) (λ e. absurd (omega arith)), same 1 (omega arith) (λ e. absurd (omega arith)), same 2 (omega arith) (λ e. absurd (omega arith)), same 3 (omega arith) (λ e. absurd (omega arith)), same 4 (omega arith) (λ e. absurd (omega arith)), same 6 (omega arith) (λ e. absurd (omega arith)), same 7 (omega arith) (λ e. absurd (omega arith)), same 8 (omega arith) (λ e. absurd (omega arith)), same 9 (omega arith) (λ e. absurd (omega arith)), same 10 (omega arith) (λ e. absurd (omega arith))) refl
+    rw (
+      five,
+      same 0 (omega arith) (λ e. absurd (omega arith)),
+      same 1 (omega arith) (λ e. absurd (omega arith)),
+      same 2 (omega arith) (λ e. absurd (omega arith)),
+      same 3 (omega arith) (λ e. absurd (omega arith)),
+      same 4 (omega arith) (λ e. absurd (omega arith)),
+      same 6 (omega arith) (λ e. absurd (omega arith)),
+      same 7 (omega arith) (λ e. absurd (omega arith)),
+      same 8 (omega arith) (λ e. absurd (omega arith)),
+      same 9 (omega arith) (λ e. absurd (omega arith)),
+      same 10 (omega arith) (λ e. absurd (omega arith)),
+    ) refl
 
 -- the shape that the code tells is the one that a stone makes
-pub told_shape : (rule : RuleKind) (b : Grid) (s : Side) (d : Axis) (p : Point) → IsBoard b → is_empty b p ≡ true → IsShape (reach_of rule s) (shape_of (reach_of rule s) (line_code (reach_of rule s) b s d p)) (shape_at rule b s d p)
+pub told_shape : (rule : RuleKind) (b : Grid) (s : Side) (d : Axis) (p : Point) → IsBoard b → is_empty b p ≡ true
+    → IsShape (reach_of rule s) (shape_of (reach_of rule s) (line_code (reach_of rule s) b s d p)) (shape_at rule b s d p)
 told_shape rule b s d p ok empty = reach_law rule b s d p ok empty
 
 -- so its five tells whether a stone wins there
-pub told_five : (rule : RuleKind) (b : Grid) (s : Side) (d : Axis) (p : Point) → IsBoard b → is_empty b p ≡ true → (shape_of (reach_of rule s) (line_code (reach_of rule s) b s d p)).five ≡ wins_on rule b s d p
+pub told_five : (rule : RuleKind) (b : Grid) (s : Side) (d : Axis) (p : Point) → IsBoard b → is_empty b p ≡ true
+    → (shape_of (reach_of rule s) (line_code (reach_of rule s) b s d p)).five ≡ wins_on rule b s d p
 unfolding shape_at
-told_five rule b s d p ok empty = (told_shape rule b s d p ok empty).five ∙ sym (ap (λ r. r && row_wins rule s (run_of (put b s p) s d p)) empty)
+told_five rule b s d p ok empty = (told_shape rule b s d p ok empty).five
+    ∙ sym (ap (λ r. r && row_wins rule s (run_of (put b s p) s d p)) empty)
 
 -- and its fours are those of the stone
-pub told_fours : (rule : RuleKind) (b : Grid) (s : Side) (d : Axis) (p : Point) → IsBoard b → is_empty b p ≡ true → (shape_of (reach_of rule s) (line_code (reach_of rule s) b s d p)).fours ≡ fours_of rule (put b s p) s d p
+pub told_fours : (rule : RuleKind) (b : Grid) (s : Side) (d : Axis) (p : Point) → IsBoard b → is_empty b p ≡ true
+    → (shape_of (reach_of rule s) (line_code (reach_of rule s) b s d p)).fours ≡ fours_of rule (put b s p) s d p
 unfolding shape_at
 told_fours rule b s d p ok empty = (told_shape rule b s d p ok empty).fours

@@ -1,5 +1,6 @@
 -- Fours counted by gaps: each four by the first of its five places and by the one that is left out.
-use Rattle.std.proofs.Common.{◌≡◌, ℕ, ◌+◌, ◌<◌, Bool, true, false, cond, ◌&&◌, ◌||◌, refl, arith, zero, suc, ◌≤◌, ◌≢◌, ◌-◌, not, sym, ◌∙◌, nat_eq}
+use Rattle.std.proofs.Common.{◌≡◌, ℕ, ◌+◌, ◌<◌, Bool, true, false, cond, ◌&&◌, ◌||◌, refl, arith, zero, suc, ◌≤◌, ◌≢◌, ◌-◌, not, sym, ◌∙◌}
+use Rattle.std.proofs.Common.{nat_eq}
 use Rattle.std.specs.Prelude.{map, count_by}
 use Rattle.std.specs.List.{sum_by, range_with_len}
 use Rattle.std.proofs.lemmas.Bool.{false_from_ne_true, or_right}
@@ -25,9 +26,11 @@ or-swap false false = refl
 -- the two ways to count fours agree
 pub count_fours-gap : (stone wins : ℕ → Bool) → count_fours stone wins ≡ fours_by_gap stone wins
 unfolding is_four are_stones
-count_fours-gap stone wins = rw (or-swap (wins 8) (wins 3), or-swap (wins 7) (wins 2), or-swap (wins 6) (wins 1), or-swap (wins 5) (wins 0)) (omega arith)
+count_fours-gap stone wins = rw (or-swap (wins 8) (wins 3), or-swap (wins 7) (wins 2), or-swap (wins 6) (wins 1), or-swap (wins 5) (wins 0))
+    (omega arith)
 
-pub fours_of-gap : (rule : RuleKind) (b : Grid) (s : Side) (d : Axis) (p : Point) → fours_of rule b s d p ≡ fours_by_gap (place_stone b s d p) (place_wins rule b s d p)
+pub fours_of-gap : (rule : RuleKind) (b : Grid) (s : Side) (d : Axis) (p : Point)
+    → fours_of rule b s d p ≡ fours_by_gap (place_stone b s d p) (place_wins rule b s d p)
 unfolding fours_of
 fours_of-gap rule b s d p = count_fours-gap (place_stone b s d p) (place_wins rule b s d p)
 
@@ -46,8 +49,10 @@ four_true true false c d h = cc
 four_true false b c d h = cc
 
 module _ (stone wins : ℕ → Bool) (few : count_by stone (range_with_len 0 9) < 4) where
-  not_all : (i j k l : ℕ) → cond (stone i) 1 0 + cond (stone j) 1 0 + cond (stone k) 1 0 + cond (stone l) 1 0 < 4 → (stone i && (stone j && (stone k && (stone l && true)))) ≡ false
-  not_all i j k l h = false_from_ne_true _ (λ all. let four = four_true (stone i) (stone j) (stone k) (stone l) all in absurd (omega (arith, four, h)))
+  not_all : (i j k l : ℕ) → cond (stone i) 1 0 + cond (stone j) 1 0 + cond (stone k) 1 0 + cond (stone l) 1 0 < 4
+      → (stone i && (stone j && (stone k && (stone l && true)))) ≡ false
+  not_all i j k l h = false_from_ne_true _
+      (λ all. let four = four_true (stone i) (stone j) (stone k) (stone l) all in absurd (omega (arith, four, h)))
 
   -- where fewer than four of the places hold stones, none of them are in a four
   pub no_fours : fours_by_gap stone wins ≡ 0
@@ -93,21 +98,26 @@ each_none f h (suc (suc (suc (suc (suc k))))) low high = absurd (omega arith)
 
 module _ (stone wins : ℕ → Bool) (none : fours_by_gap stone wins ≡ 0) where
   no_four : (first gap : ℕ) → first < 5 → 1 ≤ gap → gap ≤ 4 → is_four stone wins first gap ≡ false
-  no_four first gap low some high = each_none (λ g. is_four stone wins first g) (each_zero (λ f. fours_from stone wins f) none first low) gap some high
+  no_four first gap low some high = each_none (λ g. is_four stone wins first g) (each_zero (λ f. fours_from stone wins f) none first low)
+      gap some high
 
   stones_but : (first gap : ℕ) → ((i : ℕ) → i < 5 → i ≢ gap → stone (i + 4 - first) ≡ true) → are_stones stone first gap ≡ true
   unfolding are_stones
-  stones_but first gap h = all_range (λ i. nat_eq i gap || stone (i + 4 - first)) 5 0 (λ i low high. by_test i (nat_eq i gap) refl (omega arith)) where
-    by_test : (i : ℕ) (r : Bool) → nat_eq i gap ≡ r → i < 5 → (r || stone (i + 4 - first)) ≡ true
-    by_test i true e high = refl
-    by_test i false e high = h i high (λ same. absurd (let yes : nat_eq i gap ≡ true = grind (arith, nat_tests) in let differ : false ≡ true = sym e ∙ yes in cc))
+  stones_but first gap h = all_range (λ i. nat_eq i gap || stone (i + 4 - first)) 5 0
+      (λ i low high. by_test i (nat_eq i gap) refl (omega arith)) where
+        by_test : (i : ℕ) (r : Bool) → nat_eq i gap ≡ r → i < 5 → (r || stone (i + 4 - first)) ≡ true
+        by_test i true e high = refl
+        by_test i false e high = h i high
+            (λ same. absurd (let yes : nat_eq i gap ≡ true = grind (arith, nat_tests) in let differ : false ≡ true = sym e ∙ yes in cc))
 
   -- five places with one to win between them, or past four in a row
-  pub no_window : (first gap : ℕ) → first < 5 → 1 ≤ gap → gap ≤ 4 → first ≢ gap → ((i : ℕ) → i < 5 → i ≢ gap → stone (i + 4 - first) ≡ true) → wins (gap + 4 - first) ≡ true → ⊥
+  pub no_window : (first gap : ℕ) → first < 5 → 1 ≤ gap → gap ≤ 4 → first ≢ gap → ((i : ℕ) → i < 5 → i ≢ gap → stone (i + 4 - first) ≡ true)
+      → wins (gap + 4 - first) ≡ true → ⊥
   unfolding is_four
   no_window first gap low some high differ stones win =
       let apart : nat_eq first gap ≡ false = false_from_ne_true _ (λ e. differ (grind (arith, nat_tests))) in
-      let four : (not (nat_eq first gap) && are_stones stone first gap && (wins (gap + 4 - first) || (nat_eq gap 4 && wins (3 - first)))) ≡ true = rw (apart, stones_but first gap stones, win) refl in
+      let four : (not (nat_eq first gap) && are_stones stone first gap && (wins (gap + 4 - first) || (nat_eq gap 4 && wins (3 - first))))
+      ≡ true = rw (apart, stones_but first gap stones, win) refl in
       let no = no_four first gap low some high in
       let both : false ≡ true = sym no ∙ four in
       cc
@@ -116,7 +126,8 @@ module _ (stone wins : ℕ → Bool) (none : fours_by_gap stone wins ≡ 0) wher
   unfolding is_four
   no_row first low stones win =
       let apart : nat_eq first 4 ≡ false = grind (arith, nat_tests) in
-      let four : (not (nat_eq first 4) && are_stones stone first 4 && (wins (4 + 4 - first) || (nat_eq 4 4 && wins (3 - first)))) ≡ true = rw (apart, stones_but first 4 (λ i small other. stones i (omega arith))) (or_right (wins (4 + 4 - first)) _ win) in
+      let four : (not (nat_eq first 4) && are_stones stone first 4 && (wins (4 + 4 - first) || (nat_eq 4 4 && wins (3 - first)))) ≡ true =
+      rw (apart, stones_but first 4 (λ i small other. stones i (omega arith))) (or_right (wins (4 + 4 - first)) _ win) in
       let no = no_four first 4 (omega arith) (omega arith) (omega arith) in
       let both : false ≡ true = sym no ∙ four in
       cc

@@ -3,12 +3,14 @@ use Rattle.std.proofs.Common.{◌≡◌, ◌≢◌, inl, inr, true, false, cond,
 use Rattle.std.specs.List.{list_all}
 use Rattle.std.proofs.lemmas.Bool.{false_from_ne_true}
 use Rattle.std.proofs.Math.Bool.{and-true, and-false}
-use Rattle.game_rules.proofs.Common.{Grid, IsBoard, is_empty, put, points_of, five, is_same_point, other, IsPosition, mover, after, has_five, five_points}
+use Rattle.game_rules.proofs.Common.{Grid, IsBoard, is_empty, put, points_of, five, is_same_point, other, IsPosition, mover, after}
+use Rattle.game_rules.proofs.Common.{has_five, five_points}
 use Rattle.game_rules.specs.declared.RuleKind.{RuleKind}
 use Rattle.game_rules.specs.declared.Side.{Side}
 use Rattle.game_rules.specs.declared.Point.{Point}
 use Rattle.game_rules.proofs.Boards.{Apart, not-apart, same_or_apart, and_left, and_right, is_empty-on}
-use Rattle.game_rules.proofs.Points.{points-found, filter-passes, filter-none, filter-some, is_same_point-itself, is_same_point-same, apart-is_same_point}
+use Rattle.game_rules.proofs.Points.{points-found, filter-passes, filter-none, filter-some, is_same_point-itself, is_same_point-same}
+use Rattle.game_rules.proofs.Points.{apart-is_same_point}
 use Rattle.game_rules.proofs.Fives.{five-empty, five-other}
 use Rattle.game_rules.proofs.Places.{two_passing-apart}
 use Rattle.game_rules.proofs.OneLine.{empty-before}
@@ -36,7 +38,8 @@ has_five-none rule b s h = filter-none (five rule b s) (points_of b) (short-none
 pub has_five-one : (rule : RuleKind) (b : Grid) (s : Side) (w : Point) → in_short (five_points rule b s) ≡ One w → has_five rule b s ≡ true
 has_five-one rule b s w h = filter-some (five rule b s) w [] (points_of b) (short-one w (five_points rule b s) h)
 
-has_five-list : (rule : RuleKind) (b : Grid) (s : Side) (xs : List Point) → five_points rule b s ≡ xs → in_short xs ≡ Several → has_five rule b s ≡ true
+has_five-list : (rule : RuleKind) (b : Grid) (s : Side) (xs : List Point) → five_points rule b s ≡ xs → in_short xs ≡ Several
+    → has_five rule b s ≡ true
 has_five-list rule b s [] e h = cc
 has_five-list rule b s (w ∷ more) e h = filter-some (five rule b s) w more (points_of b) e
 
@@ -58,7 +61,8 @@ none-listed rule b s none = short-none (five_points rule b s) (none-short rule b
 -- the one five point that is told is one, so it is empty
 pub one-five : (rule : RuleKind) (b : Grid) (s : Side) (w : Point) → in_short (five_points rule b s) ≡ One w → five rule b s w ≡ true
 one-five rule b s w h =
-    let all : list_all (five rule b s) (w ∷ []) ≡ true = ap (list_all (five rule b s)) (sym (short-one w (five_points rule b s) h)) ∙ filter-passes (five rule b s) (points_of b) in
+    let all : list_all (five rule b s) (w ∷ []) ≡ true =
+    ap (list_all (five rule b s)) (sym (short-one w (five_points rule b s) h)) ∙ filter-passes (five rule b s) (points_of b) in
     and_left (five rule b s w) _ all
 
 pub one-empty : (rule : RuleKind) (b : Grid) (s : Side) (w : Point) → in_short (five_points rule b s) ≡ One w → is_empty b w ≡ true
@@ -83,7 +87,8 @@ module _ (rule : RuleKind) (b : Grid) (s : Side) (p : Point) (ok : IsBoard b) (e
 
   -- a stone takes from the five points of the other side its own point, and no other
   pub left-points : five_points rule (put b s p) (other s) ≡ without p (five_points rule b (other s))
-  left-points = filter-same (five rule (put b s p) (other s)) (λ q. five rule b (other s) q && not (is_same_point p q)) (points_of b) five-left
+  left-points = filter-same (five rule (put b s p) (other s)) (λ q. five rule b (other s) q && not (is_same_point p q)) (points_of b)
+      five-left
       ∙ filter-both (five rule b (other s)) (λ q. not (is_same_point p q)) (points_of b)
 
   -- with none, none is left
@@ -91,28 +96,34 @@ module _ (rule : RuleKind) (b : Grid) (s : Side) (p : Point) (ok : IsBoard b) (e
   none-left h = ap in_short (left-points ∙ ap (without p) (short-none (five_points rule b (other s)) h))
 
   -- with one, that is left, unless it is taken
-  pub one-left : (w : Point) → in_short (five_points rule b (other s)) ≡ One w → p ≢ w → in_short (five_points rule (put b s p) (other s)) ≡ One w
+  pub one-left : (w : Point) → in_short (five_points rule b (other s)) ≡ One w → p ≢ w
+      → in_short (five_points rule (put b s p) (other s)) ≡ One w
   one-left w h differ =
-      let else : is_same_point p w ≡ false = elim (same_or_apart p w) [ inl same ↦ absurd (differ same) | inr apart ↦ apart-is_same_point p w apart ] in
+      let else : is_same_point p w ≡ false = elim (same_or_apart p w)
+      [ inl same ↦ absurd (differ same) | inr apart ↦ apart-is_same_point p w apart ] in
       ap in_short (left-points ∙ ap (without p) (short-one w (five_points rule b (other s)) h) ∙ ap (λ r. cond (not r) (w ∷ []) []) else)
 
-  pub one-taken : (w : Point) → in_short (five_points rule b (other s)) ≡ One w → p ≡ w → in_short (five_points rule (put b s p) (other s)) ≡ None
+  pub one-taken : (w : Point) → in_short (five_points rule b (other s)) ≡ One w → p ≡ w
+      → in_short (five_points rule (put b s p) (other s)) ≡ None
   one-taken w h same =
       let here : is_same_point p w ≡ true = ap (is_same_point p) (sym same) ∙ is_same_point-itself p in
       ap in_short (left-points ∙ ap (without p) (short-one w (five_points rule b (other s)) h) ∙ ap (λ r. cond (not r) (w ∷ []) []) here)
 
   left-five : (w : Point) → five rule b (other s) w ≡ true → Apart p w → has_five rule (put b s p) (other s) ≡ true
-  left-five w h apart = points-found (put b s p) (five rule (put b s p) (other s)) w (is_empty-on b w (five-empty rule b (other s) w h)) (five-other b s p ok empty rule w apart ∙ h)
+  left-five w h apart = points-found (put b s p) (five rule (put b s p) (other s)) w (is_empty-on b w (five-empty rule b (other s) w h))
+      (five-other b s p ok empty rule w apart ∙ h)
 
   several-by : (xs : List Point) → five_points rule b (other s) ≡ xs → in_short xs ≡ Several → has_five rule (put b s p) (other s) ≡ true
   several-by [] e h = cc
   several-by (w ∷ []) e h = cc
   several-by (w ∷ v ∷ more) e h =
-      let all : list_all (five rule b (other s)) (w ∷ v ∷ more) ≡ true = ap (list_all (five rule b (other s))) (sym e) ∙ filter-passes (five rule b (other s)) (points_of b) in
+      let all : list_all (five rule b (other s)) (w ∷ v ∷ more) ≡ true =
+      ap (list_all (five rule b (other s))) (sym e) ∙ filter-passes (five rule b (other s)) (points_of b) in
       let first : five rule b (other s) w ≡ true = and_left (five rule b (other s) w) _ all in
       let second : five rule b (other s) v ≡ true = and_left (five rule b (other s) v) _ (and_right (five rule b (other s) w) _ all) in
       elim (same_or_apart p w) [
-        | inl same ↦ left-five v second (subst (λ (r : Point). Apart r v) (sym same) (two_passing-apart b (five rule b (other s)) w v more e))
+        | inl same ↦ left-five v second
+            (subst (λ (r : Point). Apart r v) (sym same) (two_passing-apart b (five rule b (other s)) w v more e))
         | inr apart ↦ left-five w first apart
       ]
 
@@ -121,28 +132,38 @@ module _ (rule : RuleKind) (b : Grid) (s : Side) (p : Point) (ok : IsBoard b) (e
   several-left h = several-by (five_points rule b (other s)) refl h
 
   -- a stone that takes none of them, or not all, leaves one
-  pub not_taken-five : (t : FivePoints) → t ≡ in_short (five_points rule b (other s)) → takes t p ≡ false → has_five rule (put b s p) (other s) ≡ true
+  pub not_taken-five : (t : FivePoints) → t ≡ in_short (five_points rule b (other s)) → takes t p ≡ false
+      → has_five rule (put b s p) (other s) ≡ true
   not_taken-five None e h = cc
   not_taken-five (One w) e h =
-      let differ : p ≢ w = λ same. let yes : is_same_point w p ≡ true = ap (is_same_point w) same ∙ is_same_point-itself w in let bad : false ≡ true = sym h ∙ yes in cc in
+      let differ : p ≢ w = λ same. let yes : is_same_point w p ≡ true =
+      ap (is_same_point w) same ∙ is_same_point-itself w in let bad : false ≡ true = sym h ∙ yes in cc in
       has_five-one rule (put b s p) (other s) w (one-left w (sym e) differ)
   not_taken-five Several e h = several-left (sym e)
 
   -- one that takes all leaves none
-  pub taken-none : (t : FivePoints) → t ≡ in_short (five_points rule b (other s)) → takes t p ≡ true → has_five rule (put b s p) (other s) ≡ false
+  pub taken-none : (t : FivePoints) → t ≡ in_short (five_points rule b (other s)) → takes t p ≡ true
+      → has_five rule (put b s p) (other s) ≡ false
   taken-none None e h = has_five-none rule (put b s p) (other s) (none-left (sym e))
   taken-none (One w) e h = has_five-none rule (put b s p) (other s) (one-taken w (sym e) (sym (is_same_point-same w p h)))
   taken-none Several e h = cc
 
 module _ (rule : RuleKind) (b : Grid) (lawful : IsPosition rule b) (p : Point) (empty : is_empty b p ≡ true) where
-  pub one-stays : (w : Point) → in_short (five_points rule b (other (mover b))) ≡ OnePoint w → is_same_point p w ≡ false → has_five rule (after b p) (other (mover b)) ≡ true
+  pub one-stays : (w : Point) → in_short (five_points rule b (other (mover b))) ≡ OnePoint w → is_same_point p w ≡ false
+      → has_five rule (after b p) (other (mover b)) ≡ true
   one-stays w h differ =
-      has_five-one rule (after b p) (other (mover b)) w (one-left rule b (mover b) p lawful.board empty w h (λ same. let yes : is_same_point p w ≡ true = ap (is_same_point p) (sym same) ∙ is_same_point-itself p in let no : false ≡ true = sym differ ∙ yes in cc))
+      has_five-one rule (after b p) (other (mover b)) w
+      (one-left rule b (mover b) p lawful.board empty w h
+      (λ same. let yes : is_same_point p w ≡ true = ap (is_same_point p) (sym same) ∙ is_same_point-itself p in let no : false ≡ true =
+      sym differ ∙ yes in cc))
 
   -- where the defender has no five point, it has none after a stone of the attacker
   pub none-stays : has_five rule b (other (mover b)) ≡ false → has_five rule (after b p) (other (mover b)) ≡ false
-  none-stays h = has_five-none rule (after b p) (other (mover b)) (none-left rule b (mover b) p lawful.board empty (none-short rule b (other (mover b)) h))
+  none-stays h = has_five-none rule (after b p) (other (mover b))
+      (none-left rule b (mover b) p lawful.board empty (none-short rule b (other (mover b)) h))
 
 -- where the defender has one five point, it has none once that is taken
-pub one-gone : (rule : RuleKind) (b : Grid) (w : Point) → IsPosition rule b → in_short (five_points rule b (other (mover b))) ≡ OnePoint w → has_five rule (after b w) (other (mover b)) ≡ false
-one-gone rule b w lawful h = has_five-none rule (after b w) (other (mover b)) (one-taken rule b (mover b) w lawful.board (one-empty rule b (other (mover b)) w h) w h refl)
+pub one-gone : (rule : RuleKind) (b : Grid) (w : Point) → IsPosition rule b → in_short (five_points rule b (other (mover b))) ≡ OnePoint w
+    → has_five rule (after b w) (other (mover b)) ≡ false
+one-gone rule b w lawful h = has_five-none rule (after b w) (other (mover b))
+    (one-taken rule b (mover b) w lawful.board (one-empty rule b (other (mover b)) w h) w h refl)

@@ -2,7 +2,8 @@
 use Rattle.std.proofs.Common.{◌≡◌, ◌≢◌, inl, inr, ℕ, ◌+◌, ◌-◌, ◌≤◌, true, false, cond, ◌&&◌, refl, sym, ap, ◌∙◌, arith}
 use Rattle.std.specs.Prelude.{Option, Some, None}
 use Rattle.std.proofs.lemmas.Bool.{cases_lt, false_from_ne_true}
-use Rattle.game_rules.proofs.Common.{Grid, IsBoard, is_on, is_empty, put, along, row_wins, stone_at, wins_on, wins_at, fours_of, place_stone, place_wins, has_five, opposite, stones_towards, go, run_end}
+use Rattle.game_rules.proofs.Common.{Grid, IsBoard, is_on, is_empty, put, along, row_wins, stone_at, wins_on, wins_at, fours_of}
+use Rattle.game_rules.proofs.Common.{place_stone, place_wins, has_five, opposite, stones_towards, go, run_end}
 use Rattle.game_rules.specs.declared.RuleKind.{RuleKind}
 use Rattle.game_rules.specs.declared.Side.{Side}
 use Rattle.game_rules.specs.declared.Axis.{Axis}
@@ -50,7 +51,8 @@ module _ (rule : RuleKind) (b : Grid) (s : Side) (p : Point) (ok : IsBoard b) (e
     past : (j : ℕ) → 1 ≤ j → j ≤ beyond → stone_at next s (go w d p (1 + near + j) 0) ≡ true
     past j low high =
         let same = beyond-put b s p on_p w d near q here on_q in
-        ap (stone_at next s) (go-same w d p (1 + near + j) 0 (1 + near + j) (0 + 0) (omega arith) ∙ sym (go-then w d p q (1 + near) 0 j 0 here)) ∙ (leads next s d q on_q w).holds j low (omega arith)
+        ap (stone_at next s) (go-same w d p (1 + near + j) 0 (1 + near + j) (0 + 0) (omega arith)
+        ∙ sym (go-then w d p q (1 + near) 0 j 0 here)) ∙ (leads next s d q on_q w).holds j low (omega arith)
 
     -- all places of the run with q but q itself hold stones
     run_stone : (x y : ℕ) → y ≤ x + far → x ≤ y + near + 1 + beyond → x ≢ y + near + 1 → stone_at next s (go w d p x y) ≡ true
@@ -65,7 +67,8 @@ module _ (rule : RuleKind) (b : Grid) (s : Side) (p : Point) (ok : IsBoard b) (e
       ]
     ]
 
-    module _ (win : wins_on rule next s d q ≡ true) (short : near + far ≤ 3) (long : 3 ≤ near + far + beyond) (none : fours_of rule next s d p ≡ 0) where
+    module _ (win : wins_on rule next s d q ≡ true) (short : near + far ≤ 3) (long : 3 ≤ near + far + beyond)
+        (none : fours_of rule next s d p ≡ 0) where
       no_fours : fours_by_gap (place_stone next s d p) (place_wins rule next s d p) ≡ 0
       no_fours = sym (fours_of-gap rule next s d p) ∙ none
 
@@ -77,21 +80,28 @@ module _ (rule : RuleKind) (b : Grid) (s : Side) (p : Point) (ok : IsBoard b) (e
       → 3 ≤ stones_towards w b s d p + stones_towards (opposite w) b s d p + stones_towards w b s d q → fours_of rule next s d p ≡ 0 → ⊥
   contradiction Ahead q end on_q win short long none =
       no_window (place_stone next s d p) (place_wins rule next s d p) (no_fours Ahead q end on_q win short long none)
-      (stones_towards Behind b s d p) (stones_towards Behind b s d p + stones_towards Ahead b s d p + 1) (omega arith) (omega arith) (omega arith) (λ same. absurd (omega arith))
-      (λ i small other. run_stone Ahead q end on_q (i + 4 - stones_towards Behind b s d p) 4 (omega arith) (omega arith) (λ same. other (omega arith)))
-      (wins_here Ahead q end on_q win short long none (stones_towards Behind b s d p + stones_towards Ahead b s d p + 1 + 4 - stones_towards Behind b s d p)
+      (stones_towards Behind b s d p) (stones_towards Behind b s d p + stones_towards Ahead b s d p + 1) (omega arith) (omega arith)
+      (omega arith) (λ same. absurd (omega arith))
+      (λ i small other. run_stone Ahead q end on_q (i + 4 - stones_towards Behind b s d p) 4 (omega arith) (omega arith)
+      (λ same. other (omega arith)))
+      (wins_here Ahead q end on_q win short long none
+      (stones_towards Behind b s d p + stones_towards Ahead b s d p + 1 + 4 - stones_towards Behind b s d p)
       (go-same Ahead d p (stones_towards Behind b s d p + stones_towards Ahead b s d p + 1 + 4 - stones_towards Behind b s d p) 4
       (1 + stones_towards Ahead b s d p) 0 (omega arith) ∙ end))
   contradiction Behind q end on_q win short long none = elim (cases_lt (stones_towards Behind b s d p + stones_towards Ahead b s d p) 3) [
     | inl gap ↦ no_window (place_stone next s d p) (place_wins rule next s d p) (no_fours Behind q end on_q win short long none)
-        (4 - stones_towards Ahead b s d p) (3 - stones_towards Behind b s d p - stones_towards Ahead b s d p) (omega arith) (omega arith) (omega arith) (λ same. absurd (omega arith))
-        (λ i small other. run_stone Behind q end on_q 4 (i + 4 - (4 - stones_towards Ahead b s d p)) (omega arith) (omega arith) (λ same. other (omega arith)))
-        (wins_here Behind q end on_q win short long none (3 - stones_towards Behind b s d p - stones_towards Ahead b s d p + 4 - (4 - stones_towards Ahead b s d p))
+        (4 - stones_towards Ahead b s d p) (3 - stones_towards Behind b s d p - stones_towards Ahead b s d p) (omega arith) (omega arith)
+        (omega arith) (λ same. absurd (omega arith))
+        (λ i small other. run_stone Behind q end on_q 4 (i + 4 - (4 - stones_towards Ahead b s d p)) (omega arith) (omega arith)
+        (λ same. other (omega arith)))
+        (wins_here Behind q end on_q win short long none
+        (3 - stones_towards Behind b s d p - stones_towards Ahead b s d p + 4 - (4 - stones_towards Ahead b s d p))
         (go-same Behind d p 4 (3 - stones_towards Behind b s d p - stones_towards Ahead b s d p + 4 - (4 - stones_towards Ahead b s d p))
         (1 + stones_towards Behind b s d p) 0 (omega arith) ∙ end))
     | inr row ↦ no_row (place_stone next s d p) (place_wins rule next s d p) (no_fours Behind q end on_q win short long none)
         (stones_towards Behind b s d p) (omega arith)
-        (λ i small. run_stone Behind q end on_q 4 (i + 4 - stones_towards Behind b s d p) (omega arith) (omega arith) (λ same. absurd (omega arith)))
+        (λ i small. run_stone Behind q end on_q 4 (i + 4 - stones_towards Behind b s d p) (omega arith) (omega arith)
+        (λ same. absurd (omega arith)))
         (wins_here Behind q end on_q win short long none (3 - stones_towards Behind b s d p)
         (go-same Behind d p 4 (3 - stones_towards Behind b s d p) (1 + stones_towards Behind b s d p) 0 (omega arith) ∙ end))
   ]
@@ -104,7 +114,9 @@ module _ (rule : RuleKind) (b : Grid) (s : Side) (p : Point) (ok : IsBoard b) (e
 
     loses : (w : Way) (q : Point) → run_end b s d w p ≡ Some q → wins_on rule next s d q ≡ true → ⊥
     loses w q end win =
-        let joins : (is_empty b q && row_wins rule s (1 + (1 + stones_towards w b s d p + stones_towards (opposite w) b s d p) + stones_towards w b s d q)) ≡ true = sym (end_joins b s p ok empty w d q end rule) ∙ win in
+        let joins : (is_empty b q && row_wins rule s
+        (1 + (1 + stones_towards w b s d p + stones_towards (opposite w) b s d p) + stones_towards w b s d q)) ≡ true =
+        sym (end_joins b s p ok empty w d q end rule) ∙ win in
         let on_q : is_on b q ≡ true = is_empty-on b q (and_left (is_empty b q) _ joins) in
         let lengths = run_short rule s (1 + stones_towards w b s d p + stones_towards (opposite w) b s d p)
         (1 + (1 + stones_towards w b s d p + stones_towards (opposite w) b s d p) + stones_towards w b s d q)
@@ -123,4 +135,5 @@ module _ (rule : RuleKind) (b : Grid) (s : Side) (p : Point) (ok : IsBoard b) (e
 
     -- such an axis tells nothing
     pub nothing_told : (found : FivePoints) → found ≡ with_axis rule b s p found d
-    nothing_told found = sym (ap (λ (o : Option Point). with_more (with_more found (end_five rule b s d p Ahead)) o) (no_end Behind) ∙ ap (λ (o : Option Point). with_more found o) (no_end Ahead))
+    nothing_told found = sym (ap (λ (o : Option Point). with_more (with_more found (end_five rule b s d p Ahead)) o) (no_end Behind)
+        ∙ ap (λ (o : Option Point). with_more found o) (no_end Ahead))

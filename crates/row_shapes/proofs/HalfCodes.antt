@@ -40,7 +40,11 @@ join_digits (suc n) m low high h =
 -- ---- the board of both halves
 
 abbrev board_of : ℕ → List ℕ → Grid
-board_of reach digits = record { width = 2 * reach + 1; height = 5; cells = line_cells reach digits ++ replicate (4 * (2 * reach + 1)) Empty }
+board_of reach digits = record {
+  width = 2 * reach + 1;
+  height = 5;
+  cells = line_cells reach digits ++ replicate (4 * (2 * reach + 1)) Empty;
+}
 
 -- the board of the code with these digits, and a stone in its middle
 abbrev stone_board : ℕ → ℕ → ℕ → Grid
@@ -65,7 +69,8 @@ SameFree reach low high w half k = free_at (stone_board reach low high) (towards
 
 module _ (low high : ℕ) where
   four_board : IsBoard (stone_board 4 low high)
-  four_board = IsBoard-put (board_of 4 (first_digits 4 low ++ first_digits 4 high)) Black (middle 4) (record { wide = omega arith; width_fits = omega arith; high = omega arith; height_fits = omega arith; filled = refl })
+  four_board = IsBoard-put (board_of 4 (first_digits 4 low ++ first_digits 4 high)) Black (middle 4)
+      (record { wide = omega arith; width_fits = omega arith; high = omega arith; height_fits = omega arith; filled = refl })
 
   four_line : SeesLine (half_cells Ahead 4 high) (half_cells Behind 4 low) (stone_board 4 low high) (middle 4)
   four_line = record {
@@ -84,7 +89,8 @@ module _ (low high : ℕ) where
   }
 
   five_board : IsBoard (stone_board 5 low high)
-  five_board = IsBoard-put (board_of 5 (first_digits 5 low ++ first_digits 5 high)) Black (middle 5) (record { wide = omega arith; width_fits = omega arith; high = omega arith; height_fits = omega arith; filled = refl })
+  five_board = IsBoard-put (board_of 5 (first_digits 5 low ++ first_digits 5 high)) Black (middle 5)
+      (record { wide = omega arith; width_fits = omega arith; high = omega arith; height_fits = omega arith; filled = refl })
 
   five_line : SeesLine (half_cells Ahead 5 high) (half_cells Behind 5 low) (stone_board 5 low high) (middle 5)
   five_line = record {
@@ -102,17 +108,23 @@ module _ (low high : ℕ) where
     };
   }
 
-code_four : (low high : ℕ) → low < 3 ^ 4 → SeesLine (half_cells Ahead 4 high) (half_cells Behind 4 low) (put (line_board 4 (low + 3 ^ 4 * high)) Black (middle 4)) (middle 4)
+code_four : (low high : ℕ) → low < 3 ^ 4 → SeesLine (half_cells Ahead 4 high) (half_cells Behind 4 low)
+    (put (line_board 4 (low + 3 ^ 4 * high)) Black (middle 4)) (middle 4)
 code_four low high h =
-    let P : List ℕ → Type 0 = λ digits. SeesLine (half_cells Ahead 4 high) (half_cells Behind 4 low) (put (board_of 4 digits) Black (middle 4)) (middle 4) in
+    let P : List ℕ → Type 0 = λ digits. SeesLine (half_cells Ahead 4 high) (half_cells Behind 4 low)
+    (put (board_of 4 digits) Black (middle 4)) (middle 4) in
     subst P (sym (join_digits 4 4 low high h)) (four_line low high)
 
-code_five : (low high : ℕ) → low < 3 ^ 5 → SeesLine (half_cells Ahead 5 high) (half_cells Behind 5 low) (put (line_board 5 (low + 3 ^ 5 * high)) Black (middle 5)) (middle 5)
+code_five : (low high : ℕ) → low < 3 ^ 5 → SeesLine (half_cells Ahead 5 high) (half_cells Behind 5 low)
+    (put (line_board 5 (low + 3 ^ 5 * high)) Black (middle 5)) (middle 5)
 code_five low high h =
-    let P : List ℕ → Type 0 = λ digits. SeesLine (half_cells Ahead 5 high) (half_cells Behind 5 low) (put (board_of 5 digits) Black (middle 5)) (middle 5) in
+    let P : List ℕ → Type 0 = λ digits. SeesLine (half_cells Ahead 5 high) (half_cells Behind 5 low)
+    (put (board_of 5 digits) Black (middle 5)) (middle 5) in
     subst P (sym (join_digits 5 5 low high h)) (five_line low high)
 
 -- the halves of a code are what stands around the stone in the middle of its board
-pub code_line : (reach low high : ℕ) → (reach ≡ 4) ⊎ (reach ≡ 5) → low < 3 ^ reach → SeesLine (half_cells Ahead reach high) (half_cells Behind reach low) (put (line_board reach (low + 3 ^ reach * high)) Black (middle reach)) (middle reach)
+pub code_line : (reach low high : ℕ) → (reach ≡ 4) ⊎ (reach ≡ 5) → low < 3 ^ reach
+    → SeesLine (half_cells Ahead reach high) (half_cells Behind reach low)
+    (put (line_board reach (low + 3 ^ reach * high)) Black (middle reach)) (middle reach)
 code_line reach low high (inl e) h = rw e (code_four low high (rw e at h))
 code_line reach low high (inr e) h = rw e (code_five low high (rw e at h))

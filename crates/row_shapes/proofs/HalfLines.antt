@@ -1,11 +1,13 @@
 -- What a stone of Black makes on its line, as the two halves of the line tell it.
-use Rattle.std.proofs.Common.{◌≡◌, ◌≢◌, inl, inr, ℕ, ◌+◌, ◌-◌, ◌≤◌, ◌<◌, ◌^◌, min, max, Bool, true, false, cond, ◌&&◌, List, length, drop, get_or, refl, sym, ap, ◌∙◌, arith, nat_eq, nat_le, length-drop}
+use Rattle.std.proofs.Common.{◌≡◌, ◌≢◌, inl, inr, ℕ, ◌+◌, ◌-◌, ◌≤◌, ◌<◌, ◌^◌, min, max, Bool, true, false, cond, ◌&&◌, List, length, drop}
+use Rattle.std.proofs.Common.{get_or, refl, sym, ap, ◌∙◌, arith, nat_eq, nat_le, length-drop}
 use Rattle.std.specs.Prelude.{Option, Some, None, bit_or}
 use Rattle.std.proofs.lemmas.Bool.{cases_lt}
 use Rattle.std.proofs.lemmas.Nat.{or_lt, pow_below}
 use Rattle.std.proofs.lemmas.List.{get_or-drop, get_or_past}
 use Rattle.std.proofs.lemmas.List.Sums.{prefix_len_passes, prefix_len_stops, prefix_len-le-length}
-use Rattle.game_rules.proofs.Common.{Grid, is_on, is_empty, is_stone_of, along, row_wins, stone_at, run_of, fours_of, is_straight, is_line_three_at, towards, opposite, stones_towards, go}
+use Rattle.game_rules.proofs.Common.{Grid, is_on, is_empty, is_stone_of, along, row_wins, stone_at, run_of, fours_of, is_straight}
+use Rattle.game_rules.proofs.Common.{is_line_three_at, towards, opposite, stones_towards, go}
 use Rattle.game_rules.specs.declared.Cell.{Cell}
 use Rattle.game_rules.specs.declared.RuleKind.{RuleKind}
 use Rattle.game_rules.specs.declared.Point.{Point}
@@ -44,7 +46,8 @@ module _ (cells : List Cell) (k : ℕ) where
   -- as many places hold stones, and the next does not
   pub Leads-row : Leads (λ j. owns cells (k + j)) (row_past cells k)
   Leads-row = record {
-    holds = λ j low high. row_next (j - 1) j (omega arith) ∙ prefix_len_passes (is_stone_of Black) (drop k cells) (j - 1) WhiteStone (omega arith);
+    holds = λ j low high. row_next (j - 1) j (omega arith)
+        ∙ prefix_len_passes (is_stone_of Black) (drop k cells) (j - 1) WhiteStone (omega arith);
     stops = row_next (row_past cells k) (1 + row_past cells k) (omega arith) ∙ row_end;
   }
 
@@ -56,7 +59,8 @@ module _ (cells : List Cell) (k : ℕ) where
 
 -- ---- the line of a stone
 
-module _ (r : ℕ) (rule : RuleKind) (front rear : List Cell) (b : Grid) (p : Point) (low : 4 ≤ r) (high : r ≤ 5) (reads : (n : ℕ) → row_wins rule Black n ≡ wins_by r n) (sees : SeesLine front rear b p) where
+module _ (r : ℕ) (rule : RuleKind) (front rear : List Cell) (b : Grid) (p : Point) (low : 4 ≤ r) (high : r ≤ 5)
+    (reads : (n : ℕ) → row_wins rule Black n ≡ wins_by r n) (sees : SeesLine front rear b p) where
   -- the half in that way
   abbrev pub half : Way → List Cell
   half Ahead = front
@@ -78,7 +82,8 @@ module _ (r : ℕ) (rule : RuleKind) (front rear : List Cell) (b : Grid) (p : Po
   -- the stones next to the middle, up to five
   near : (w : Way) → min 5 (stones_towards w b Black Row p) ≡ row_past (half w) 0
   near w =
-      let same = leads_alike (λ k. stone_at b Black (go w Row p k 0)) (λ j. owns (half w) (0 + j)) (stones_towards w b Black Row p) (row_past (half w) 0) 5 (leads b Black Row p on_p w) (Leads-row (half w) 0)
+      let same = leads_alike (λ k. stone_at b Black (go w Row p k 0)) (λ j. owns (half w) (0 + j)) (stones_towards w b Black Row p)
+      (row_past (half w) 0) 5 (leads b Black Row p on_p w) (Leads-row (half w) 0)
       (λ k some far. let here : k ≡ 0 + k = omega arith in stones w k some far ∙ ap (owns (half w)) here) in
       let few = row_few (half w) 0 (seen w).places (omega arith) in
       omega (arith, same, few)
@@ -90,11 +95,17 @@ module _ (r : ℕ) (rule : RuleKind) (front rear : List Cell) (b : Grid) (p : Po
     next_is : row_past (half w) 0 ≡ stones_towards w b Black Row p
     next_is = let row = near w in omega (arith, row, close)
 
-    beyond_by : (q : Point) (t : Bool) → first ≡ Some q → is_empty b q ≡ t → is_free (half w) (1 + stones_towards w b Black Row p) ≡ t → min (4 - stones_towards w b Black Row p) (stones_past w b Black Row (Some q)) ≡ cond t (row_past (half w) (1 + stones_towards w b Black Row p)) 0
+    beyond_by : (q : Point) (t : Bool) → first ≡ Some q → is_empty b q ≡ t → is_free (half w) (1 + stones_towards w b Black Row p) ≡ t
+        → min (4 - stones_towards w b Black Row p) (stones_past w b Black Row (Some q)) ≡ cond t
+        (row_past (half w) (1 + stones_towards w b Black Row p)) 0
     beyond_by q false here e f = rw e (omega arith)
     beyond_by q true here e f =
-        let there : (j : ℕ) → go w Row q j 0 ≡ go w Row p (1 + stones_towards w b Black Row p + j) 0 = λ j. go-then w Row p q (1 + stones_towards w b Black Row p) 0 j 0 here ∙ go-same w Row p (1 + stones_towards w b Black Row p + j) (0 + 0) (1 + stones_towards w b Black Row p + j) 0 (omega arith) in
-        let same = leads_alike (λ j. stone_at b Black (go w Row q j 0)) (λ j. owns (half w) (1 + stones_towards w b Black Row p + j)) (stones_towards w b Black Row q) (row_past (half w) (1 + stones_towards w b Black Row p)) (4 - stones_towards w b Black Row p) (leads b Black Row q (is_empty-on b q e) w) (Leads-row (half w) (1 + stones_towards w b Black Row p))
+        let there : (j : ℕ) → go w Row q j 0 ≡ go w Row p (1 + stones_towards w b Black Row p + j) 0 =
+        λ j. go-then w Row p q (1 + stones_towards w b Black Row p) 0 j 0 here
+        ∙ go-same w Row p (1 + stones_towards w b Black Row p + j) (0 + 0) (1 + stones_towards w b Black Row p + j) 0 (omega arith) in
+        let same = leads_alike (λ j. stone_at b Black (go w Row q j 0)) (λ j. owns (half w) (1 + stones_towards w b Black Row p + j))
+        (stones_towards w b Black Row q) (row_past (half w) (1 + stones_towards w b Black Row p)) (4 - stones_towards w b Black Row p)
+        (leads b Black Row q (is_empty-on b q e) w) (Leads-row (half w) (1 + stones_towards w b Black Row p))
         (λ j some far. ap (stone_at b Black) (there j) ∙ stones w (1 + stones_towards w b Black Row p + j) (omega arith) (omega arith)) in
         let few = row_few (half w) (1 + stones_towards w b Black Row p) (seen w).places (omega (arith, close)) in
         rw e (omega (arith, same, few))
@@ -102,12 +113,15 @@ module _ (r : ℕ) (rule : RuleKind) (front rear : List Cell) (b : Grid) (p : Po
     -- the stones past the first empty place, as far as the half goes
     beyond : min (4 - stones_towards w b Black Row p) (stones_past w b Black Row first) ≡ row_beyond (half w)
     beyond = by_point first refl ∙ ap (λ k. cond (is_free (half w) (1 + k)) (row_past (half w) (1 + k)) 0) (sym next_is) where
-      by_point : (o : Option Point) → first ≡ o → min (4 - stones_towards w b Black Row p) (stones_past w b Black Row o) ≡ cond (is_free (half w) (1 + stones_towards w b Black Row p)) (row_past (half w) (1 + stones_towards w b Black Row p)) 0
+      by_point : (o : Option Point) → first ≡ o → min (4 - stones_towards w b Black Row p) (stones_past w b Black Row o) ≡ cond
+          (is_free (half w) (1 + stones_towards w b Black Row p)) (row_past (half w) (1 + stones_towards w b Black Row p)) 0
       by_point None h =
-          let taken : is_free (half w) (1 + stones_towards w b Black Row p) ≡ false = sym (frees w (1 + stones_towards w b Black Row p) (omega arith) (omega (arith, close))) ∙ ap (free_at b) h in
+          let taken : is_free (half w) (1 + stones_towards w b Black Row p) ≡ false =
+          sym (frees w (1 + stones_towards w b Black Row p) (omega arith) (omega (arith, close))) ∙ ap (free_at b) h in
           rw taken (omega arith)
       by_point (Some q) h =
-          let free : is_free (half w) (1 + stones_towards w b Black Row p) ≡ is_empty b q = sym (frees w (1 + stones_towards w b Black Row p) (omega arith) (omega (arith, close))) ∙ ap (free_at b) h in
+          let free : is_free (half w) (1 + stones_towards w b Black Row p) ≡ is_empty b q =
+          sym (frees w (1 + stones_towards w b Black Row p) (omega arith) (omega (arith, close))) ∙ ap (free_at b) h in
           rw free (beyond_by q (is_empty b q) h refl free)
 
   -- ---- runs
@@ -137,7 +151,8 @@ module _ (r : ℕ) (rule : RuleKind) (front rear : List Cell) (b : Grid) (p : Po
       let next = stones w (1 + k) (omega arith) (omega arith) in
       past_value r rule b Black Row p sees.board sees.stone reads w k ∙ rw (free, next) refl
 
-  open_by : (t : Bool) (w : Way) (fore back : ℕ) → nat_eq (fore + back) 3 ≡ t → is_open_four rule b Black Row p w fore back ≡ is_open any (half w) (half (opposite w)) fore back
+  open_by : (t : Bool) (w : Way) (fore back : ℕ) → nat_eq (fore + back) 3 ≡ t
+      → is_open_four rule b Black Row p w fore back ≡ is_open any (half w) (half (opposite w)) fore back
   open_by false w fore back h = rw h refl
   open_by true w fore back h =
       let four = eq_from (fore + back) 3 h in
@@ -158,7 +173,8 @@ module _ (r : ℕ) (rule : RuleKind) (front rear : List Cell) (b : Grid) (p : Po
       straight_value r rule b Black Row p sees.board sees.stone reads
       ∙ open_here Ahead (stones_towards Ahead b Black Row p) (stones_towards Behind b Black Row p)
       ∙ elim (cases_lt 3 (stones_towards Ahead b Black Row p + stones_towards Behind b Black Row p)) [
-        | inl many ↦ not_open any front rear _ _ (λ f. absurd (omega arith)) ∙ sym (not_open any front rear _ _ (λ f. absurd (omega (arith, ahead, behind))))
+        | inl many ↦ not_open any front rear _ _ (λ f. absurd (omega arith))
+            ∙ sym (not_open any front rear _ _ (λ f. absurd (omega (arith, ahead, behind))))
         | inr few ↦
             let fore : stones_towards Ahead b Black Row p ≡ row_past front 0 = omega (arith, ahead) in
             let back : stones_towards Behind b Black Row p ≡ row_past rear 0 = omega (arith, behind) in
@@ -167,24 +183,33 @@ module _ (r : ℕ) (rule : RuleKind) (front rear : List Cell) (b : Grid) (p : Po
 
   -- ---- three points
 
-  same_open : (w : Way) (n m m' o : ℕ) → n + o ≤ 2 → min (4 - n) m ≡ m' → is_open_four rule b Black Row p w (1 + n + m) o ≡ is_open any (half w) (half (opposite w)) (1 + n + m') o
+  same_open : (w : Way) (n m m' o : ℕ) → n + o ≤ 2 → min (4 - n) m ≡ m'
+      → is_open_four rule b Black Row p w (1 + n + m) o ≡ is_open any (half w) (half (opposite w)) (1 + n + m') o
   same_open w n m m' o few past = open_here w (1 + n + m) o ∙ elim (cases_lt 3 (1 + n + m + o)) [
-    | inl many ↦ not_open any (half w) (half (opposite w)) (1 + n + m) o (λ f. absurd (omega arith)) ∙ sym (not_open any (half w) (half (opposite w)) (1 + n + m') o (λ f. absurd (omega arith)))
+    | inl many ↦ not_open any (half w) (half (opposite w)) (1 + n + m) o (λ f. absurd (omega arith))
+        ∙ sym (not_open any (half w) (half (opposite w)) (1 + n + m') o (λ f. absurd (omega arith)))
     | inr fit ↦ let same : m ≡ m' = omega arith in ap (λ j. is_open any (half w) (half (opposite w)) (1 + n + j) o) same
   ]
 
   three_test : (w : Way) → stones_towards w b Black Row p + stones_towards (opposite w) b Black Row p ≤ 2 →
-      is_line_three_at rule b Black Row p (towards w Row p (1 + stones_towards w b Black Row p)) ≡ (is_free (half w) (1 + row_past (half w) 0) && is_open any (half w) (half (opposite w)) (1 + row_past (half w) 0 + row_beyond (half w)) (row_past (half (opposite w)) 0))
+      is_line_three_at rule b Black Row p (towards w Row p (1 + stones_towards w b Black Row p))
+      ≡ (is_free (half w) (1 + row_past (half w) 0) && is_open any (half w) (half (opposite w))
+      (1 + row_past (half w) 0 + row_beyond (half w)) (row_past (half (opposite w)) 0))
   three_test w few =
       let fore : stones_towards w b Black Row p ≡ row_past (half w) 0 = let row = near w in omega (arith, row) in
-      let back : stones_towards (opposite w) b Black Row p ≡ row_past (half (opposite w)) 0 = let row = near (opposite w) in omega (arith, row) in
+      let back : stones_towards (opposite w) b Black Row p ≡ row_past (half (opposite w)) 0 = let row =
+      near (opposite w) in omega (arith, row) in
       let free = frees w (1 + stones_towards w b Black Row p) (omega arith) (omega arith) in
       let past = beyond w (omega arith) in
-      let opens = same_open w (stones_towards w b Black Row p) (stones_past w b Black Row (go w Row p (1 + stones_towards w b Black Row p) 0)) (row_beyond (half w)) (stones_towards (opposite w) b Black Row p) few past in
+      let opens = same_open w (stones_towards w b Black Row p)
+      (stones_past w b Black Row (go w Row p (1 + stones_towards w b Black Row p) 0)) (row_beyond (half w))
+      (stones_towards (opposite w) b Black Row p) few past in
       three_value rule b Black Row p sees.board sees.stone w
       ∙ rw (free, opens) refl
-      ∙ ap (λ n. is_free (half w) (1 + n) && is_open any (half w) (half (opposite w)) (1 + n + row_beyond (half w)) (stones_towards (opposite w) b Black Row p)) fore
-      ∙ ap (λ o. is_free (half w) (1 + row_past (half w) 0) && is_open any (half w) (half (opposite w)) (1 + row_past (half w) 0 + row_beyond (half w)) o) back
+      ∙ ap (λ n. is_free (half w) (1 + n) && is_open any (half w) (half (opposite w)) (1 + n + row_beyond (half w))
+      (stones_towards (opposite w) b Black Row p)) fore
+      ∙ ap (λ o. is_free (half w) (1 + row_past (half w) 0) && is_open any (half w) (half (opposite w))
+      (1 + row_past (half w) 0 + row_beyond (half w)) o) back
 
   three_way : (w : Way) → three_place rule b Black Row p w ≡ three_off any w (half w) (half (opposite w))
   three_way w =
@@ -205,20 +230,26 @@ module _ (r : ℕ) (rule : RuleKind) (front rear : List Cell) (b : Grid) (p : Po
   place_low Ahead n h = omega arith
   place_low Behind n h = omega arith
 
-  bit_low_by : (w : Way) (t u v : Bool) (n : ℕ) → (t ≡ true → n ≤ 2) → bit_of (cond (t && u && v) (Some (place_towards w (1 + n))) None) < 2 ^ 11
+  bit_low_by : (w : Way) (t u v : Bool) (n : ℕ) → (t ≡ true → n ≤ 2)
+      → bit_of (cond (t && u && v) (Some (place_towards w (1 + n))) None) < 2 ^ 11
   bit_low_by w false u v n few = omega arith
   bit_low_by w true false v n few = omega arith
   bit_low_by w true true false n few = omega arith
   bit_low_by w true true true n few = pow_below (place_towards w (1 + n)) 11 (place_low w n (few refl))
 
-  three_sum : (ahead behind : Option ℕ) → three_place rule b Black Row p Ahead ≡ ahead → three_place rule b Black Row p Behind ≡ behind → bit_of ahead < 2 ^ 11 → bit_of behind < 2 ^ 11 → three_bits rule b Black Row p ≡ bit_or (bit_of ahead) (bit_of behind)
+  three_sum : (ahead behind : Option ℕ) → three_place rule b Black Row p Ahead ≡ ahead → three_place rule b Black Row p Behind ≡ behind
+      → bit_of ahead < 2 ^ 11 → bit_of behind < 2 ^ 11 → three_bits rule b Black Row p ≡ bit_or (bit_of ahead) (bit_of behind)
   unfolding three_bits
-  three_sum ahead behind e f x y = sym (eleven_bits (λ i. is_line_three_at rule b Black Row p (along Row p i 5)) (bit_or (bit_of ahead) (bit_of behind)) (or_lt 11 _ _ x y) (λ i small. rw (← e, ← f) (three_bits-at rule b Black Row p sees.board sees.stone i)))
+  three_sum ahead behind e f x y = sym
+      (eleven_bits (λ i. is_line_three_at rule b Black Row p (along Row p i 5)) (bit_or (bit_of ahead) (bit_of behind)) (or_lt 11 _ _ x y)
+      (λ i small. rw (← e, ← f) (three_bits-at rule b Black Row p sees.board sees.stone i)))
 
-  pub three_here : three_bits rule b Black Row p ≡ bit_or (bit_of (three_off any Ahead front rear)) (bit_of (three_off any Behind rear front))
+  pub three_here : three_bits rule b Black Row p ≡ bit_or (bit_of (three_off any Ahead front rear))
+      (bit_of (three_off any Behind rear front))
   three_here = three_sum _ _ (three_way Ahead) (three_way Behind) (bit_low Ahead) (bit_low Behind) where
     bit_low : (w : Way) → bit_of (three_off any w (half w) (half (opposite w))) < 2 ^ 11
-    bit_low w = bit_low_by w (nat_le (row_past (half w) 0 + row_past (half (opposite w)) 0) 2) _ _ (row_past (half w) 0) (λ h. let few = le_from _ 2 h in omega (arith, few))
+    bit_low w = bit_low_by w (nat_le (row_past (half w) 0 + row_past (half (opposite w)) 0) 2) _ _ (row_past (half w) 0)
+        (λ h. let few = le_from _ 2 h in omega (arith, few))
 
   -- ---- few stones within reach
 

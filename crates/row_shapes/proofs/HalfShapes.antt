@@ -16,7 +16,8 @@ use Rattle.row_shapes.proofs.HalfLines.{run_wins, run_long, straight_here, three
 use Rattle.row_shapes.proofs.HalfFours.{fours_here}
 
 module _ (front rear : List Cell) (b : Grid) (p : Point) (sees : SeesLine front rear b p) where
-  pub five_told : (any : Bool) → row_wins (rule_by any) Black (run_of b Black Row p) ≡ cond any (nat_le 5 (1 + row_past front 0 + row_past rear 0)) (nat_eq (1 + row_past front 0 + row_past rear 0) 5)
+  pub five_told : (any : Bool) → row_wins (rule_by any) Black (run_of b Black Row p) ≡ cond any
+      (nat_le 5 (1 + row_past front 0 + row_past rear 0)) (nat_eq (1 + row_past front 0 + row_past rear 0) 5)
   five_told true = run_wins 4 Freestyle front rear b p (omega arith) (omega arith) (wins-line 4) sees
   five_told false = run_wins 5 Exact front rear b p (omega arith) (omega arith) (wins-line 5) sees
 
@@ -27,14 +28,18 @@ module _ (front rear : List Cell) (b : Grid) (p : Point) (sees : SeesLine front 
   straight_told true = straight_here 4 Freestyle front rear b p (omega arith) (omega arith) (wins-line 4) sees
   straight_told false = straight_here 5 Exact front rear b p (omega arith) (omega arith) (wins-line 5) sees
 
-  pub three_told : (any : Bool) → three_bits (rule_by any) b Black Row p ≡ bit_or (bit_of (three_off any Ahead front rear)) (bit_of (three_off any Behind rear front))
+  pub three_told : (any : Bool) → three_bits (rule_by any) b Black Row p ≡ bit_or (bit_of (three_off any Ahead front rear))
+      (bit_of (three_off any Behind rear front))
   three_told true = three_here 4 Freestyle front rear b p (omega arith) (omega arith) (wins-line 4) sees
   three_told false = three_here 5 Exact front rear b p (omega arith) (omega arith) (wins-line 5) sees
 
-  pub no_fours : (any : Bool) → row_past front 0 + row_past rear 0 + max (row_beyond front) (row_beyond rear) < 3 → fours_of (rule_by any) b Black Row p ≡ 0
+  pub no_fours : (any : Bool) → row_past front 0 + row_past rear 0 + max (row_beyond front) (row_beyond rear) < 3
+      → fours_of (rule_by any) b Black Row p ≡ 0
   no_fours true few = few_fours 4 Freestyle front rear b p (omega arith) (omega arith) (wins-line 4) sees few
   no_fours false few = few_fours 5 Exact front rear b p (omega arith) (omega arith) (wins-line 5) sees few
 
-  pub all_fours : (any : Bool) → fours_of (rule_by any) b Black Row p ≡ fours_off any front rear (nine_places front rear) 0 + fours_off any front rear (nine_places front rear) 1 + fours_off any front rear (nine_places front rear) 2 + fours_off any front rear (nine_places front rear) 3 + fours_off any front rear (nine_places front rear) 4
+  pub all_fours : (any : Bool) → fours_of (rule_by any) b Black Row p ≡ fours_off any front rear (nine_places front rear) 0 + fours_off any
+      front rear (nine_places front rear) 1 + fours_off any front rear (nine_places front rear) 2 + fours_off any front rear
+      (nine_places front rear) 3 + fours_off any front rear (nine_places front rear) 4
   all_fours true = let sum = fours_here 4 Freestyle front rear b p (omega arith) (omega arith) (wins-line 4) sees in sum ∙ omega arith
   all_fours false = let sum = fours_here 5 Exact front rear b p (omega arith) (omega arith) (wins-line 5) sees in sum ∙ omega arith

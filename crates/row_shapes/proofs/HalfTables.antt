@@ -1,5 +1,6 @@
 -- Tables made of halves: the halves of a code, and what one more shape tells.
-use Rattle.std.proofs.Common.{◌≡◌, ℕ, ◌+◌, ◌*◌, ◌/◌, ◌%◌, ◌^◌, ◌≤◌, ◌<◌, ◌⊎◌, inl, inr, List, [], ◌∷◌, ◌++◌, length, get_or, sym, ap, ◌∙◌, arith, nat_eq, length-append}
+use Rattle.std.proofs.Common.{◌≡◌, ℕ, ◌+◌, ◌*◌, ◌/◌, ◌%◌, ◌^◌, ◌≤◌, ◌<◌, ◌⊎◌, inl, inr, List, [], ◌∷◌, ◌++◌, length, get_or, sym, ap, ◌∙◌}
+use Rattle.std.proofs.Common.{arith, nat_eq, length-append}
 use Rattle.std.specs.Prelude.{Some, slice_get}
 use Rattle.std.proofs.lemmas.Bool.{cases_lt}
 use Rattle.std.proofs.lemmas.List.{get_or_push, get_or_append_left}
@@ -37,7 +38,8 @@ module _ {X : Type 0} (xs : List X) (x : X) where
 some_is : {X : Type 0} (x y : X) → Some x ≡ Some y → x ≡ y
 some_is x y h = cc
 
-pub halves_push : (way : Way) (reach count : ℕ) (halves : List Half) (half : Half) → TellsHalves way reach count halves → half.cells ≡ half_cells way reach count → TellsHalves way reach (count + 1) (halves ++ half ∷ [])
+pub halves_push : (way : Way) (reach count : ℕ) (halves : List Half) (half : Half) → TellsHalves way reach count halves
+    → half.cells ≡ half_cells way reach count → TellsHalves way reach (count + 1) (halves ++ half ∷ [])
 halves_push way reach count halves half h e = record {
   all = let more = length-append halves (half ∷ []) in let all = h.all in omega (arith, more, all);
   told = λ digits low other f. elim (cases_lt digits count) [
@@ -49,7 +51,9 @@ halves_push way reach count halves half h e = record {
   ];
 }
 
-pub shapes_push : (reach code : ℕ) (shapes : List Shape) (shape : Shape) → length shapes ≡ code → ((k : ℕ) → k < code → slice_get shapes k ≡ Some (shape_of reach k)) → shape ≡ shape_of reach code → (k : ℕ) → k < code + 1 → slice_get (shapes ++ shape ∷ []) k ≡ Some (shape_of reach k)
+pub shapes_push : (reach code : ℕ) (shapes : List Shape) (shape : Shape) → length shapes ≡ code
+    → ((k : ℕ) → k < code → slice_get shapes k ≡ Some (shape_of reach k)) → shape ≡ shape_of reach code → (k : ℕ) → k < code + 1
+    → slice_get (shapes ++ shape ∷ []) k ≡ Some (shape_of reach k)
 shapes_push reach code shapes shape all told e k low = elim (cases_lt k code) [
   | inl old ↦ slice_before shapes shape k (omega (arith, all, old)) ∙ told k old
   | inr new ↦ let same : code ≡ k = omega arith in slice_last shapes shape k (all ∙ same) ∙ ap Some (e ∙ ap (shape_of reach) same)
@@ -74,6 +78,7 @@ pub code_shape : (reach code power : ℕ) (ahead behind : Half) (shape : Shape) 
 unfolding shape_of shape_at
 code_shape reach code power ahead behind shape four e some f g tells =
     let all : code % power + 3 ^ reach * (code / power) ≡ code = ap (λ n. code % power + n * (code / power)) (sym e) ∙ omega arith in
-    let line : SeesLine (half_cells Ahead reach (code / power)) (half_cells Behind reach (code % power)) (put (line_board reach code) Black (middle reach)) (middle reach) =
+    let line : SeesLine (half_cells Ahead reach (code / power)) (half_cells Behind reach (code % power))
+    (put (line_board reach code) Black (middle reach)) (middle reach) =
     rw all at (code_line reach (code % power) (code / power) four (omega (arith, e, some))) in
     tells (put (line_board reach code) Black (middle reach)) (middle reach) (rw (f, g) line)

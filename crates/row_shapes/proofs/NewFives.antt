@@ -1,7 +1,8 @@
 -- A side with no five point gets one by a stone only at the ends of the runs of that stone.
 use Rattle.std.proofs.Common.{◌≡◌, ◌⊎◌, inl, inr, ℕ, ◌+◌, Bool, true, false, cond, ◌&&◌, refl, sym, ap, ◌∙◌, arith}
 use Rattle.std.specs.Prelude.{Option, Some, None}
-use Rattle.game_rules.proofs.Common.{Grid, IsBoard, is_on, is_empty, holds, put, row_wins, wins_on, five, has_five, five_points, towards, opposite, stones_towards, run_end}
+use Rattle.game_rules.proofs.Common.{Grid, IsBoard, is_on, is_empty, holds, put, row_wins, wins_on, five, has_five, five_points, towards}
+use Rattle.game_rules.proofs.Common.{opposite, stones_towards, run_end}
 use Rattle.game_rules.specs.declared.RuleKind.{RuleKind}
 use Rattle.game_rules.specs.declared.Side.{Side}
 use Rattle.game_rules.specs.declared.Axis.{Axis}
@@ -27,7 +28,8 @@ abbrev pub end_fives : RuleKind → Grid → Side → Point → FivePoints
 end_fives rule b s p = with_axis rule b s p (with_axis rule b s p (with_axis rule b s p (with_axis rule b s p NoPoint Row) Column) Down) Up
 
 -- a point that is kept is the point, and wins
-pub kept_five-Some : (rule : RuleKind) (b : Grid) (s : Side) (d : Axis) (o : Option Point) (q : Point) → kept_five rule b s d o ≡ Some q → (o ≡ Some q) × (wins_on rule b s d q ≡ true)
+pub kept_five-Some : (rule : RuleKind) (b : Grid) (s : Side) (d : Axis) (o : Option Point) (q : Point) → kept_five rule b s d o ≡ Some q
+    → (o ≡ Some q) × (wins_on rule b s d q ≡ true)
 kept_five-Some rule b s d None q h = cc
 kept_five-Some rule b s d (Some r) q h = by_test (wins_on rule b s d r) refl h where
   by_test : (t : Bool) → wins_on rule b s d r ≡ t → cond t (Some r) None ≡ Some q → (Some r ≡ Some q) × (wins_on rule b s d q ≡ true)
@@ -51,10 +53,13 @@ module _ (b : Grid) (s : Side) (p : Point) (ok : IsBoard b) (empty : is_empty b 
     before : is_on b q ≡ true → stones_towards (opposite w) (put b s p) s d q ≡ near w d + 1 + near (opposite w) d
     before on =
         let there : run_end (put b s p) s d w p ≡ Some q = end_same b s p on_p d w ∙ end in
-        run_before_end (put b s p) s w d p q mine there on ∙ ap (λ k. k + 1 + stones_towards (opposite w) (put b s p) s d p) (towards-put b s p on_p w d) ∙ ap (λ k. near w d + 1 + k) (towards-put b s p on_p (opposite w) d)
+        run_before_end (put b s p) s w d p q mine there on
+        ∙ ap (λ k. k + 1 + stones_towards (opposite w) (put b s p) s d p) (towards-put b s p on_p w d)
+        ∙ ap (λ k. near w d + 1 + k) (towards-put b s p on_p (opposite w) d)
 
     -- a stone at the end joins what stands on its two sides
-    joined : is_on b q ≡ true → 1 + stones_towards w (put b s p) s d q + stones_towards (opposite w) (put b s p) s d q ≡ 1 + (1 + near w d + near (opposite w) d) + stones_towards w b s d q
+    joined : is_on b q ≡ true → 1 + stones_towards w (put b s p) s d q + stones_towards (opposite w) (put b s p) s d q ≡ 1
+        + (1 + near w d + near (opposite w) d) + stones_towards w b s d q
     joined on =
         let fore = beyond-put b s p on_p w d (near w d) q end on in
         let back = before on in
@@ -63,11 +68,13 @@ module _ (b : Grid) (s : Side) (p : Point) (ok : IsBoard b) (empty : is_empty b 
     pub end_joins : (rule : RuleKind) → wins_on rule (put b s p) s d q ≡ joins_to_win rule b s d w q (1 + near w d + near (opposite w) d)
     end_joins rule =
         wins_on-ways rule (put b s p) s w d q (IsBoard-put b s p ok)
-        ∙ ap (λ r. r && row_wins rule s (1 + stones_towards w (put b s p) s d q + stones_towards (opposite w) (put b s p) s d q)) (is_empty-put b s p q on_p (end_apart b s p q d w end))
+        ∙ ap (λ r. r && row_wins rule s (1 + stones_towards w (put b s p) s d q + stones_towards (opposite w) (put b s p) s d q))
+        (is_empty-put b s p q on_p (end_apart b s p q d w end))
         ∙ and-same (is_empty b q) _ _ (λ e. ap (row_wins rule s) (joined (is_empty-on b q e)))
 
     -- the end as the code finds it
-    pub end_is : (rule : RuleKind) (r : Bool) → joins_to_win rule b s d w q (1 + near w d + near (opposite w) d) ≡ r → end_five rule b s d p w ≡ cond r (Some q) None
+    pub end_is : (rule : RuleKind) (r : Bool) → joins_to_win rule b s d w q (1 + near w d + near (opposite w) d) ≡ r
+        → end_five rule b s d p w ≡ cond r (Some q) None
     unfolding end_five
     end_is rule r h = ap (kept_five rule (put b s p) s d) end ∙ ap (λ t. cond t (Some q) None) (end_joins rule ∙ h)
 
@@ -80,10 +87,13 @@ module _ (b : Grid) (s : Side) (p : Point) (ok : IsBoard b) (empty : is_empty b 
   found_wins rule d w q h = (kept_five-Some rule (put b s p) s d (run_end b s d w p) q h).1
 
   -- the end as the code finds it, by the numbers of stones that it counts
-  pub end_by : (rule : RuleKind) (w : Way) (d : Axis) (q : Point) (n f : ℕ) → n ≡ near w d → f ≡ near (opposite w) d → towards w d p (1 + n) ≡ Some q → (t r : Bool) → t ≡ joins_to_win rule b s d w q (1 + n + f) → t ≡ r → cond r (Some q) None ≡ end_five rule b s d p w
+  pub end_by : (rule : RuleKind) (w : Way) (d : Axis) (q : Point) (n f : ℕ) → n ≡ near w d → f ≡ near (opposite w) d
+      → towards w d p (1 + n) ≡ Some q → (t r : Bool) → t ≡ joins_to_win rule b s d w q (1 + n + f) → t ≡ r
+      → cond r (Some q) None ≡ end_five rule b s d p w
   end_by rule w d q n f e g end t r h k = sym
       (end_is w d q (ap (λ k. towards w d p (1 + k)) (sym e) ∙ end) rule r
-      (ap (λ k. joins_to_win rule b s d w q (1 + k + near (opposite w) d)) (sym e) ∙ ap (λ k. joins_to_win rule b s d w q (1 + n + k)) (sym g) ∙ sym h ∙ k))
+      (ap (λ k. joins_to_win rule b s d w q (1 + k + near (opposite w) d)) (sym e)
+      ∙ ap (λ k. joins_to_win rule b s d w q (1 + n + k)) (sym g) ∙ sym h ∙ k))
 
   -- ---- the side had no five point
 
@@ -114,7 +124,8 @@ module _ (b : Grid) (s : Side) (p : Point) (ok : IsBoard b) (empty : is_empty b 
 
     tells-axis : (F : Point → Type 0) (found : FivePoints) (d : Axis) → Tells found F → Tells (with_axis rule b s p found d) (Ends F d)
     tells-axis F found d h =
-        tells-more (λ q. F q ⊎ (end_five rule b s d p Ahead ≡ Some q)) (with_more found (end_five rule b s d p Ahead)) (end_five rule b s d p Behind)
+        tells-more (λ q. F q ⊎ (end_five rule b s d p Ahead ≡ Some q)) (with_more found (end_five rule b s d p Ahead))
+        (end_five rule b s d p Behind)
         (tells-more F found (end_five rule b s d p Ahead) h)
 
     tells-ends : Tells (end_fives rule b s p) AllEnds
@@ -123,7 +134,8 @@ module _ (b : Grid) (s : Side) (p : Point) (ok : IsBoard b) (empty : is_empty b 
     wins_five : (d : Axis) (w : Way) (q : Point) → end_five rule b s d p w ≡ Some q → five rule (put b s p) s q ≡ true
     wins_five d w q h = axis_of (λ e. wins_on rule (put b s p) s e q) d (found_wins rule d w q h)
 
-    ends-five : (F : Point → Type 0) (d : Axis) (q : Point) → (F q → five rule (put b s p) s q ≡ true) → Ends F d q → five rule (put b s p) s q ≡ true
+    ends-five : (F : Point → Type 0) (d : Axis) (q : Point) → (F q → five rule (put b s p) s q ≡ true) → Ends F d q
+        → five rule (put b s p) s q ≡ true
     ends-five F d q h (inl (inl f)) = h f
     ends-five F d q h (inl (inr e)) = wins_five d Ahead q e
     ends-five F d q h (inr e) = wins_five d Behind q e
@@ -149,12 +161,15 @@ module _ (b : Grid) (s : Side) (p : Point) (ok : IsBoard b) (empty : is_empty b 
 
     -- what the ends tell are the five points after the stone in short
     pub ends_short : end_fives rule b s p ≡ in_short (five_points rule (put b s p) s)
-    ends_short = tells-short (put b s p) (five rule (put b s p) s) (λ q h. is_empty-on (put b s p) q (five-empty rule (put b s p) s q h)) (end_fives rule b s p)
+    ends_short = tells-short (put b s p) (five rule (put b s p) s) (λ q h. is_empty-on (put b s p) q (five-empty rule (put b s p) s q h))
+        (end_fives rule b s p)
         (tells-map AllEnds (λ q. five rule (put b s p) s q ≡ true) (end_fives rule b s p) all-five five-all tells-ends)
 
 -- ---- as the code tells them
 
-told_axes : (rule : RuleKind) (b : Grid) (s : Side) (p : Point) (row column down up : FivePoints) → row ≡ with_axis rule b s p NoPoint Row → column ≡ with_axis rule b s p row Column → down ≡ with_axis rule b s p column Down → up ≡ with_axis rule b s p down Up → up ≡ end_fives rule b s p
+told_axes : (rule : RuleKind) (b : Grid) (s : Side) (p : Point) (row column down up : FivePoints) → row ≡ with_axis rule b s p NoPoint Row
+    → column ≡ with_axis rule b s p row Column → down ≡ with_axis rule b s p column Down → up ≡ with_axis rule b s p down Up
+    → up ≡ end_fives rule b s p
 told_axes rule b s p row column down up e f g h =
     h
     ∙ ap (λ (t : FivePoints). with_axis rule b s p t Up) (g
@@ -162,5 +177,8 @@ told_axes rule b s p row column down up e f g h =
     ∙ ap (λ (t : FivePoints). with_axis rule b s p t Column) e))
 
 -- they are the five points after the stone in short
-pub told_by : (rule : RuleKind) (b : Grid) (s : Side) (p : Point) → IsBoard b → is_empty b p ≡ true → has_five rule b s ≡ false → (row column down up : FivePoints) → row ≡ with_axis rule b s p NoPoint Row → column ≡ with_axis rule b s p row Column → down ≡ with_axis rule b s p column Down → up ≡ with_axis rule b s p down Up → up ≡ in_short (five_points rule (put b s p) s)
-told_by rule b s p ok empty none row column down up e f g h = told_axes rule b s p row column down up e f g h ∙ ends_short b s p ok empty rule none
+pub told_by : (rule : RuleKind) (b : Grid) (s : Side) (p : Point) → IsBoard b → is_empty b p ≡ true → has_five rule b s ≡ false
+    → (row column down up : FivePoints) → row ≡ with_axis rule b s p NoPoint Row → column ≡ with_axis rule b s p row Column
+    → down ≡ with_axis rule b s p column Down → up ≡ with_axis rule b s p down Up → up ≡ in_short (five_points rule (put b s p) s)
+told_by rule b s p ok empty none row column down up e f g h =
+    told_axes rule b s p row column down up e f g h ∙ ends_short b s p ok empty rule none

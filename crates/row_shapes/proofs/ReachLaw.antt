@@ -1,5 +1,6 @@
 -- The law of reach: the shape of the code of a line is the one that a stone makes there.
-use Rattle.std.proofs.Common.{◌≡◌, ◌≢◌, ℕ, zero, suc, ◌+◌, ◌-◌, ◌*◌, ◌/◌, ◌%◌, ◌≤◌, ◌<◌, Bool, true, false, cond, List, [], ◌∷◌, ◌++◌, refl, sym, ap, subst, ◌∙◌, arith, nat_eq, length}
+use Rattle.std.proofs.Common.{◌≡◌, ◌≢◌, ℕ, zero, suc, ◌+◌, ◌-◌, ◌*◌, ◌/◌, ◌%◌, ◌≤◌, ◌<◌, Bool, true, false, cond, List, [], ◌∷◌, ◌++◌, refl}
+use Rattle.std.proofs.Common.{sym, ap, subst, ◌∙◌, arith, nat_eq, length}
 use Rattle.std.specs.Prelude.{Option, Some, None, map, replicate}
 use Rattle.game_rules.proofs.Common.{Grid, IsBoard, is_on, is_empty, is_empty_cell, is_stone_of, holds, put, along, row_wins, stone_at, go}
 use Rattle.game_rules.specs.declared.RuleKind.{RuleKind}
@@ -56,15 +57,20 @@ digit_low b s (Some q) = low_by (is_empty b q) (holds b s q)
 
 -- ---- lines with the same digits
 
-module _ (r : ℕ) (b c : Grid) (s t : Side) (d e : Axis) (p q : Point) (same : (i : ℕ) → i < 2 * r + 1 → i ≢ r → digit_at b s (along d p i r) ≡ digit_at c t (along e q i r)) where
+module _ (r : ℕ) (b c : Grid) (s t : Side) (d e : Axis) (p q : Point)
+    (same : (i : ℕ) → i < 2 * r + 1 → i ≢ r → digit_at b s (along d p i r) ≡ digit_at c t (along e q i r)) where
   digits_at : (w : Way) (k : ℕ) → 1 ≤ k → k ≤ r → digit_at b s (go w d p k 0) ≡ digit_at c t (go w e q k 0)
-  digits_at Ahead k low high = ap (digit_at b s) (along-same d p k 0 (r + k) r (omega arith)) ∙ same (r + k) (omega arith) (λ f. absurd (omega arith)) ∙ ap (digit_at c t) (along-same e q (r + k) r k 0 (omega arith))
-  digits_at Behind k low high = ap (digit_at b s) (along-same d p 0 k (r - k) r (omega arith)) ∙ same (r - k) (omega arith) (λ f. absurd (omega arith)) ∙ ap (digit_at c t) (along-same e q (r - k) r 0 k (omega arith))
+  digits_at Ahead k low high = ap (digit_at b s) (along-same d p k 0 (r + k) r (omega arith))
+      ∙ same (r + k) (omega arith) (λ f. absurd (omega arith)) ∙ ap (digit_at c t) (along-same e q (r + k) r k 0 (omega arith))
+  digits_at Behind k low high = ap (digit_at b s) (along-same d p 0 k (r - k) r (omega arith))
+      ∙ same (r - k) (omega arith) (λ f. absurd (omega arith)) ∙ ap (digit_at c t) (along-same e q (r - k) r 0 k (omega arith))
 
   digits-Alike : Alike r b c s t d e p q
   digits-Alike = record {
-    stones = λ w k low high. digit_stone b s (go w d p k 0) ∙ ap (λ n. nat_eq n 1) (digits_at w k low high) ∙ sym (digit_stone c t (go w e q k 0));
-    frees = λ w k low high. digit_free b s (go w d p k 0) ∙ ap (λ n. nat_eq n 0) (digits_at w k low high) ∙ sym (digit_free c t (go w e q k 0));
+    stones = λ w k low high. digit_stone b s (go w d p k 0) ∙ ap (λ n. nat_eq n 1) (digits_at w k low high)
+        ∙ sym (digit_stone c t (go w e q k 0));
+    frees = λ w k low high. digit_free b s (go w d p k 0) ∙ ap (λ n. nat_eq n 0) (digits_at w k low high)
+        ∙ sym (digit_free c t (go w e q k 0));
   }
 
 -- a stone in the middle changes no neighbour
@@ -78,13 +84,15 @@ module _ (b : Grid) (s : Side) (d : Axis) (p : Point) (on : is_on b p ≡ true) 
     by_point None h = refl
     by_point (Some x) h = is_empty-put b s p x on (go-apart w d p p x 0 0 k 0 (go-zero w d p) h (λ f. absurd (omega arith)))
 
-Alike-put : (r : ℕ) (b c : Grid) (s t : Side) (d e : Axis) (p q : Point) → is_on b p ≡ true → is_on c q ≡ true → Alike r b c s t d e p q → Alike r (put b s p) (put c t q) s t d e p q
+Alike-put : (r : ℕ) (b c : Grid) (s t : Side) (d e : Axis) (p q : Point) → is_on b p ≡ true → is_on c q ≡ true → Alike r b c s t d e p q
+    → Alike r (put b s p) (put c t q) s t d e p q
 Alike-put r b c s t d e p q on on' alike = record {
   stones = λ w k low high. stone_beside b s d p on w k low ∙ alike.stones w k low high ∙ sym (stone_beside c t e q on' w k low);
   frees = λ w k low high. free_beside b s d p on w k low ∙ alike.frees w k low high ∙ sym (free_beside c t e q on' w k low);
 }
 
-same_shape : (r : ℕ) (rule kind : RuleKind) (b c : Grid) (s t : Side) (d e : Axis) (p q : Point) → Both r rule kind b c s t d e p q → IsShape r (stone_shape kind c t e q) (stone_shape rule b s d p)
+same_shape : (r : ℕ) (rule kind : RuleKind) (b c : Grid) (s t : Side) (d e : Axis) (p q : Point) → Both r rule kind b c s t d e p q
+    → IsShape r (stone_shape kind c t e q) (stone_shape rule b s d p)
 same_shape r rule kind b c s t d e p q both = record {
   five = sym (five-alike r rule kind b c s t d e p q both);
   over = λ f. sym (over-alike r rule kind b c s t d e p q both f);
@@ -93,7 +101,8 @@ same_shape r rule kind b c s t d e p q both = record {
   three = sym (three-alike r rule kind b c s t d e p q both);
 }
 
-digits_shape : (r : ℕ) (rule kind : RuleKind) (b c : Grid) (s t : Side) (d e : Axis) (p q : Point) → 4 ≤ r → r ≤ 5 → IsBoard b → IsBoard c → is_empty b p ≡ true → is_empty c q ≡ true →
+digits_shape : (r : ℕ) (rule kind : RuleKind) (b c : Grid) (s t : Side) (d e : Axis) (p q : Point) → 4 ≤ r → r ≤ 5 → IsBoard b → IsBoard c
+    → is_empty b p ≡ true → is_empty c q ≡ true →
     ((n : ℕ) → row_wins rule s n ≡ wins_by r n) → ((n : ℕ) → row_wins kind t n ≡ wins_by r n) →
     ((i : ℕ) → i < 2 * r + 1 → i ≢ r → digit_at b s (along d p i r) ≡ digit_at c t (along e q i r)) →
     IsShape r (stone_shape kind (put c t q) t e q) (stone_shape rule (put b s p) s d p)
@@ -183,8 +192,10 @@ module _ (rule : RuleKind) (b : Grid) (s : Side) (d : Axis) (p : Point) (ok : Is
       let f : ℕ → ℕ = λ i. digit_at b s (along d p i 4) in
       let low : (i : ℕ) → f i < 3 = λ i. digit_low b s (along d p i 4) in
       let ds : List ℕ = map f (places_beside 4) in
-      let P : List ℕ → Type 0 = λ ds. IsShape 4 (stone_shape Freestyle (put (board_of 4 ds) Black (middle 4)) Black Row (middle 4)) (stone_shape rule (put b s p) s d p) in
-      let told : P ds = digits_shape 4 rule Freestyle b (board_of 4 ds) s Black d Row p (middle 4) (omega arith) (omega arith) ok (board_four f low) empty refl reads (wins-line 4) (λ i x y. sym (line_four f low i x y)) in
+      let P : List ℕ → Type 0 = λ ds. IsShape 4 (stone_shape Freestyle (put (board_of 4 ds) Black (middle 4)) Black Row (middle 4))
+      (stone_shape rule (put b s p) s d p) in
+      let told : P ds = digits_shape 4 rule Freestyle b (board_of 4 ds) s Black d Row p (middle 4) (omega arith) (omega arith) ok
+      (board_four f low) empty refl reads (wins-line 4) (λ i x y. sym (line_four f low i x y)) in
       subst P (sym (digits_back ds (low_map f low (places_beside 4)))) told
 
   law_five : ((n : ℕ) → row_wins rule s n ≡ wins_by 5 n) → IsShape 5 (shape_of 5 (line_code 5 b s d p)) (shape_at rule b s d p)
@@ -193,8 +204,10 @@ module _ (rule : RuleKind) (b : Grid) (s : Side) (d : Axis) (p : Point) (ok : Is
       let f : ℕ → ℕ = λ i. digit_at b s (along d p i 5) in
       let low : (i : ℕ) → f i < 3 = λ i. digit_low b s (along d p i 5) in
       let ds : List ℕ = map f (places_beside 5) in
-      let P : List ℕ → Type 0 = λ ds. IsShape 5 (stone_shape Exact (put (board_of 5 ds) Black (middle 5)) Black Row (middle 5)) (stone_shape rule (put b s p) s d p) in
-      let told : P ds = digits_shape 5 rule Exact b (board_of 5 ds) s Black d Row p (middle 5) (omega arith) (omega arith) ok (board_five f low) empty refl reads (wins-line 5) (λ i x y. sym (line_five f low i x y)) in
+      let P : List ℕ → Type 0 = λ ds. IsShape 5 (stone_shape Exact (put (board_of 5 ds) Black (middle 5)) Black Row (middle 5))
+      (stone_shape rule (put b s p) s d p) in
+      let told : P ds = digits_shape 5 rule Exact b (board_of 5 ds) s Black d Row p (middle 5) (omega arith) (omega arith) ok
+      (board_five f low) empty refl reads (wins-line 5) (λ i x y. sym (line_five f low i x y)) in
       subst P (sym (digits_back ds (low_map f low (places_beside 5)))) told
 
 pub reach_law : LawOfReach

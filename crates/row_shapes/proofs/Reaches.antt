@@ -1,11 +1,13 @@
 -- What stands within reach of a stone: three others where it is in a four, two where it has a three point.
-use Rattle.std.proofs.Common.{◌≡◌, ◌≢◌, inl, inr, ℕ, zero, suc, ◌+◌, ◌-◌, ◌≤◌, ◌<◌, Bool, true, false, cond, ◌&&◌, ◌||◌, not, refl, sym, ap, ◌∙◌, arith, nat_eq, eq-eqb}
+use Rattle.std.proofs.Common.{◌≡◌, ◌≢◌, inl, inr, ℕ, zero, suc, ◌+◌, ◌-◌, ◌≤◌, ◌<◌, Bool, true, false, cond, ◌&&◌, ◌||◌, not, refl, sym, ap}
+use Rattle.std.proofs.Common.{◌∙◌, arith, nat_eq, eq-eqb}
 use Rattle.std.specs.Prelude.{Option, Some, None}
 use Rattle.std.specs.List.{range_with_len, sum_by}
 use Rattle.std.proofs.lemmas.Bool.{cases_lt, false_from_ne_true}
 use Rattle.std.proofs.lemmas.Bool.Decides.{nat_tests}
 use Rattle.std.proofs.lemmas.List.Sums.{sum_by-cons}
-use Rattle.game_rules.proofs.Common.{Grid, IsBoard, is_on, is_empty, holds, put, along, stone_at, wins_at, fours_of, place_stone, place_wins, is_line_three_point, towards, opposite, stones_towards, go}
+use Rattle.game_rules.proofs.Common.{Grid, IsBoard, is_on, is_empty, holds, put, along, stone_at, wins_at, fours_of, place_stone}
+use Rattle.game_rules.proofs.Common.{place_wins, is_line_three_point, towards, opposite, stones_towards, go}
 use Rattle.game_rules.specs.declared.RuleKind.{RuleKind}
 use Rattle.game_rules.specs.declared.Side.{Side}
 use Rattle.game_rules.specs.declared.Axis.{Axis}
@@ -33,7 +35,8 @@ module _ (b : Grid) (s : Side) (p : Point) (on : is_on b p ≡ true) where
     past_by true h = rw (is_empty-put b s p e on apart, h) (beyond-put b s p on w d k e here (is_empty-on b e h))
     past_by false h = rw (is_empty-put b s p e on apart, h) refl
 
-  past-put : (w : Way) (d : Axis) (k : ℕ) → stones_past w (put b s p) s d (towards w d p (1 + k)) ≡ stones_past w b s d (towards w d p (1 + k))
+  past-put : (w : Way) (d : Axis) (k : ℕ) → stones_past w (put b s p) s d (towards w d p (1 + k)) ≡ stones_past w b s d
+      (towards w d p (1 + k))
   past-put w d k = by_point (towards w d p (1 + k)) refl where
     by_point : (o : Option Point) → towards w d p (1 + k) ≡ o → stones_past w (put b s p) s d o ≡ stones_past w b s d o
     by_point None h = refl
@@ -58,14 +61,18 @@ sum_none f (suc n) a h =
 
 module _ (b : Grid) (s : Side) (d : Axis) (p : Point) (on : is_on b p ≡ true) where
   -- four stones of one row
-  row_reach : (w : Way) (fore aft : ℕ) → 3 ≤ fore + aft → ((j : ℕ) → 1 ≤ j → j ≤ fore → stone_at b s (go w d p j 0) ≡ true) → ((j : ℕ) → 1 ≤ j → j ≤ aft → stone_at b s (go w d p 0 j) ≡ true) → 3 ≤ reach_towards w b s d p
+  row_reach : (w : Way) (fore aft : ℕ) → 3 ≤ fore + aft → ((j : ℕ) → 1 ≤ j → j ≤ fore → stone_at b s (go w d p j 0) ≡ true)
+      → ((j : ℕ) → 1 ≤ j → j ≤ aft → stone_at b s (go w d p 0 j) ≡ true) → 3 ≤ reach_towards w b s d p
   row_reach w fore aft three before behind =
       let near = least b s d p on w fore before in
       let far = least_back b s d p on w aft behind in
       omega (arith, near, far, three)
 
   -- four stones of five places, of which the one that is g steps on is empty
-  gap_reach : (w : Way) (g fore aft : ℕ) (e : Point) → 1 ≤ g → g ≤ fore → fore + aft ≡ 4 → ((j : ℕ) → 1 ≤ j → j ≤ fore → j ≢ g → stone_at b s (go w d p j 0) ≡ true) → ((j : ℕ) → 1 ≤ j → j ≤ aft → stone_at b s (go w d p 0 j) ≡ true) → go w d p g 0 ≡ Some e → is_empty b e ≡ true → 3 ≤ reach_towards w b s d p
+  gap_reach : (w : Way) (g fore aft : ℕ) (e : Point) → 1 ≤ g → g ≤ fore → fore + aft ≡ 4
+      → ((j : ℕ) → 1 ≤ j → j ≤ fore → j ≢ g → stone_at b s (go w d p j 0) ≡ true)
+      → ((j : ℕ) → 1 ≤ j → j ≤ aft → stone_at b s (go w d p 0 j) ≡ true) → go w d p g 0 ≡ Some e → is_empty b e ≡ true
+      → 3 ≤ reach_towards w b s d p
   gap_reach w g fore aft e low high five before behind here empty =
       let none : holds b s e ≡ false = empty_holds b s e empty in
       let next : 1 + (g - 1) ≡ g = omega arith in
@@ -75,9 +82,12 @@ module _ (b : Grid) (s : Side) (d : Axis) (p : Point) (on : is_on b p ≡ true) 
       }) in
       let far = least_back b s d p on w aft behind in
       let beyond = least b s d e (is_empty-on b e empty) w (fore - g) (λ j from to.
-      ap (stone_at b s) (go-then w d p e g 0 j 0 here ∙ go-same w d p (g + j) (0 + 0) (g + j) 0 (omega arith)) ∙ before (g + j) (omega arith) (omega arith) (λ same. absurd (omega arith))) in
-      let there : towards w d p (1 + stones_towards w b s d p) ≡ Some e = ap (λ k. go w d p (1 + k) 0) near ∙ ap (λ k. go w d p k 0) next ∙ here in
-      let past : stones_past w b s d (towards w d p (1 + stones_towards w b s d p)) ≡ stones_towards w b s d e = ap (stones_past w b s d) there ∙ ap (λ r. cond r (stones_towards w b s d e) 0) empty in
+      ap (stone_at b s) (go-then w d p e g 0 j 0 here ∙ go-same w d p (g + j) (0 + 0) (g + j) 0 (omega arith))
+      ∙ before (g + j) (omega arith) (omega arith) (λ same. absurd (omega arith))) in
+      let there : towards w d p (1 + stones_towards w b s d p) ≡ Some e =
+      ap (λ k. go w d p (1 + k) 0) near ∙ ap (λ k. go w d p k 0) next ∙ here in
+      let past : stones_past w b s d (towards w d p (1 + stones_towards w b s d p)) ≡ stones_towards w b s d e =
+      ap (stones_past w b s d) there ∙ ap (λ r. cond r (stones_towards w b s d e) 0) empty in
       omega (arith, near, far, beyond, past, five, low, high)
 
   -- ---- a place that is left out of five, as the count of fours has them
@@ -107,26 +117,30 @@ module _ (b : Grid) (s : Side) (d : Axis) (p : Point) (on : is_on b p ≡ true) 
       ahead_stone j l other = ap (stone_at b s) (ahead_place j (j + first + 4 - first) (omega arith)) ∙ stone_there (j + first) l other
 
       behind_stone : (j : ℕ) → j ≤ first → first - j ≢ gap → stone_at b s (go Behind d p j 0) ≡ true
-      behind_stone j l other = ap (stone_at b s) (behind_place j (first - j + 4 - first) (omega arith)) ∙ stone_there (first - j) (omega arith) other
+      behind_stone j l other = ap (stone_at b s) (behind_place j (first - j + 4 - first) (omega arith))
+          ∙ stone_there (first - j) (omega arith) other
 
       last_reach : gap ≡ 4 → first ≢ gap → 3 ≤ reach_towards Ahead b s d p
       last_reach last differ = row_reach Ahead (3 - first) first (omega arith)
           (λ j from to. ahead_stone j (omega arith) (λ same. absurd (omega arith)))
           (λ j from to. behind_stone j to (λ same. absurd (omega arith)))
 
-      later_reach : (e : Point) → first < gap → along d p (gap + 4 - first) 4 ≡ Some e → is_empty b e ≡ true → 3 ≤ reach_towards Ahead b s d p
+      later_reach : (e : Point) → first < gap → along d p (gap + 4 - first) 4 ≡ Some e → is_empty b e ≡ true
+          → 3 ≤ reach_towards Ahead b s d p
       later_reach e past here empty = gap_reach Ahead (gap - first) (4 - first) first e (omega arith) (omega arith) (omega arith)
           (λ j from to other. ahead_stone j (omega arith) (λ same. other (omega arith)))
           (λ j from to. behind_stone j to (λ same. absurd (omega arith)))
           (ahead_place (gap - first) (gap + 4 - first) (omega arith) ∙ here) empty
 
-      sooner_reach : (e : Point) → gap < first → along d p (gap + 4 - first) 4 ≡ Some e → is_empty b e ≡ true → 3 ≤ reach_towards Behind b s d p
+      sooner_reach : (e : Point) → gap < first → along d p (gap + 4 - first) 4 ≡ Some e → is_empty b e ≡ true
+          → 3 ≤ reach_towards Behind b s d p
       sooner_reach e before here empty = gap_reach Behind (first - gap) first (4 - first) e (omega arith) (omega arith) (omega arith)
           (λ j from to other. behind_stone j to (λ same. other (omega arith)))
           (λ j from to. ahead_stone j (omega arith) (λ same. absurd (omega arith)))
           (behind_place (first - gap) (gap + 4 - first) (omega arith) ∙ here) empty
 
-      gap_wins : (o : Option Point) → along d p (gap + 4 - first) 4 ≡ o → wins_at rule b s d o ≡ true → first ≢ gap → 3 ≤ stones_in_reach b s d p
+      gap_wins : (o : Option Point) → along d p (gap + 4 - first) 4 ≡ o → wins_at rule b s d o ≡ true → first ≢ gap
+          → 3 ≤ stones_in_reach b s d p
       gap_wins None here h differ = cc
       gap_wins (Some e) here h differ =
           let empty : is_empty b e ≡ true = and_left (is_empty b e) _ h in
@@ -151,7 +165,8 @@ module _ (b : Grid) (s : Side) (d : Axis) (p : Point) (on : is_on b p ≡ true) 
     four_reach : is_four stone wins first gap ≡ true → 3 ≤ stones_in_reach b s d p
     unfolding is_four
     four_reach h =
-        let all : ((not (nat_eq first gap) && are_stones stone first gap) && (wins (gap + 4 - first) || (nat_eq gap 4 && wins (3 - first)))) ≡ true = h in
+        let all : ((not (nat_eq first gap) && are_stones stone first gap) && (wins (gap + 4 - first) || (nat_eq gap 4 && wins (3 - first))))
+        ≡ true = h in
         let front = and_left (not (nat_eq first gap) && are_stones stone first gap) _ all in
         let differ : first ≢ gap = λ same. let e = and_left (not (nat_eq first gap)) _ front in let yes = eq-eqb first gap same in cc in
         by_wins (and_right (not (nat_eq first gap)) _ front) (and_right (not (nat_eq first gap) && are_stones stone first gap) _ all) differ
@@ -167,7 +182,8 @@ module _ (b : Grid) (s : Side) (d : Axis) (p : Point) (on : is_on b p ≡ true) 
       ap (λ r. cond r 1 0) (no_four rule first gap (omega arith) (omega arith) few)))
 
   -- where fewer than two are, it has no three point
-  pub few-no_three : (rule : RuleKind) (q : Point) → IsBoard b → holds b s p ≡ true → stones_in_reach b s d p < 2 → is_line_three_point rule b s d p q ≡ false
+  pub few-no_three : (rule : RuleKind) (q : Point) → IsBoard b → holds b s p ≡ true → stones_in_reach b s d p < 2
+      → is_line_three_point rule b s d p q ≡ false
   few-no_three rule q ok mine few = false_from_ne_true _ (λ h.
       let w = three_first rule b s d p q ok mine h in
       let there : towards w.0 d p (1 + stones_towards w.0 b s d p) ≡ Some q = w.1 in

@@ -27,7 +27,8 @@ Tells (One w) F = F w × ((q : Point) → F q → q ≡ w)
 Tells Several F = (w : Point) × (v : Point) × F w × F v × Apart w v
 
 -- the same is told of a property that is the same
-pub tells-map : (F G : Point → Type 0) (found : FivePoints) → ((q : Point) → F q → G q) → ((q : Point) → G q → F q) → Tells found F → Tells found G
+pub tells-map : (F G : Point → Type 0) (found : FivePoints) → ((q : Point) → F q → G q) → ((q : Point) → G q → F q) → Tells found F
+    → Tells found G
 tells-map F G NoPoint to back h = λ q g. h q (back q g)
 tells-map F G (One w) to back h = (to w h.0, λ q g. h.1 q (back q g))
 tells-map F G Several to back h = (h.0, h.1, to h.0 h.2, to h.1 h.3, h.4)
@@ -38,7 +39,8 @@ the_point q r e = cc
 -- ---- one more point
 
 -- what is told with one more point, of the property that this point has too
-pub tells-more : (F : Point → Type 0) (found : FivePoints) (o : Option Point) → Tells found F → Tells (with_more found o) (λ q. F q ⊎ (o ≡ Some q))
+pub tells-more : (F : Point → Type 0) (found : FivePoints) (o : Option Point) → Tells found F
+    → Tells (with_more found o) (λ q. F q ⊎ (o ≡ Some q))
 tells-more F NoPoint None h = λ q m. elim m [ inl x ↦ h q x | inr e ↦ cc ]
 tells-more F (One w) None h = (inl h.0, λ q m. elim m [ inl x ↦ h.1 q x | inr e ↦ cc ])
 tells-more F Several None h = (h.0, h.1, inl h.2, inl h.3, h.4)

@@ -33,7 +33,8 @@ sum_bits t (suc k) a n low bits =
     sum_step (t a) (2 ^ a) n (n / 2) _ (omega (arith, bit)) (ap (λ p. p * (n / 2)) (sym power) ∙ rest)
 
 -- a number below 2 ^ 11 whose bits are told by a test
-pub eleven_bits : (t : ℕ → Bool) (n : ℕ) → n < 2 ^ 11 → ((i : ℕ) → i < 11 → bit_at n i ≡ cond (t i) 1 0) → n ≡ sum_by (λ i. cond (t i) (2 ^ i) 0) (range_with_len 0 11)
+pub eleven_bits : (t : ℕ → Bool) (n : ℕ) → n < 2 ^ 11 → ((i : ℕ) → i < 11 → bit_at n i ≡ cond (t i) 1 0)
+    → n ≡ sum_by (λ i. cond (t i) (2 ^ i) 0) (range_with_len 0 11)
 eleven_bits t n low bits =
     let all = sum_bits t 11 0 n low (λ i l. let same : i ≡ 0 + i = omega arith in bits i l ∙ ap (λ j. cond (t j) 1 0) same) in
     omega (arith, all)

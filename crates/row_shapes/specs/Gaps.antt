@@ -14,7 +14,8 @@ are_stones stone first gap = list_all (λ i. i == gap || stone (i + 4 - first)) 
 -- Whether these four stones hold the stone in the middle and are completed by a place that wins. Where the place left
 -- out is the last of the five, the four stand in a row, and the place before them completes them too.
 unfoldable pub is_four : (ℕ → Bool) → (ℕ → Bool) → ℕ → ℕ → Bool
-is_four stone wins first gap = not (first == gap) && are_stones stone first gap && (wins (gap + 4 - first) || (gap == 4 && wins (3 - first)))
+is_four stone wins first gap = not (first == gap) && are_stones stone first gap
+    && (wins (gap + 4 - first) || (gap == 4 && wins (3 - first)))
 
 -- the fours among the five places that begin so many steps behind the stone, but for those without the first of them
 abbrev pub fours_from : (ℕ → Bool) → (ℕ → Bool) → ℕ → ℕ

@@ -1,7 +1,8 @@
 -- A line seen as two halves, one in each way from a stone of Black: a second way to say what the stone makes on its line, from
 -- which the code reads. A half is the list of what stands on its places, the nearest first. Past the last of them counts
 -- as taken by White.
-use Rattle.std.specs.Prelude.{◌≡◌, ℕ, ◌+◌, ◌-◌, ◌≤◌, Bool, false, true, ◌&&◌, ◌||◌, not, nat_le, nat_lt, ◌==◌, if◌then◌else◌, List, [], ◌∷◌, ◌++◌, map, length, drop, replicate, reverse, slice_index_or, Option, Some, None}
+use Rattle.std.specs.Prelude.{◌≡◌, ℕ, ◌+◌, ◌-◌, ◌≤◌, Bool, false, true, ◌&&◌, ◌||◌, not, nat_le, nat_lt, ◌==◌, if◌then◌else◌, List, [], ◌∷◌}
+use Rattle.std.specs.Prelude.{◌++◌, map, length, drop, replicate, reverse, slice_index_or, Option, Some, None}
 use Rattle.std.specs.List.{count_by, prefix_len, range_with_len}
 use Rattle.game_rules.specs.Grid.{Grid, IsBoard, is_empty, is_empty_cell, is_stone_of, holds}
 use Rattle.game_rules.specs.Shapes.{stone_at}

@@ -1,5 +1,6 @@
 -- The shape that a stone makes on one axis, and the shape of a code.
-use Rattle.std.specs.Prelude.{◌≡◌, ℕ, zero, suc, ◌+◌, ◌*◌, ◌^◌, ◌<◌, true, nat_le, ◌==◌, if◌then◌else◌, List, ◌∷◌, ◌++◌, map, take, drop, replicate, Some, slice_get}
+use Rattle.std.specs.Prelude.{◌≡◌, ℕ, zero, suc, ◌+◌, ◌*◌, ◌^◌, ◌<◌, true, nat_le, ◌==◌, if◌then◌else◌, List, ◌∷◌, ◌++◌, map, take, drop}
+use Rattle.std.specs.Prelude.{replicate, Some, slice_get}
 use Rattle.std.specs.List.{sum_by, range_with_len}
 use Rattle.game_rules.specs.Grid.{Grid, IsBoard, is_empty, put, along}
 use Rattle.game_rules.specs.Shapes.{row_wins, run_of, fours_of, is_straight, is_line_three_at}

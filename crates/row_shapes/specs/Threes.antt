@@ -19,7 +19,8 @@ wins_past rule b s d way (Some q) = is_empty b q && row_wins rule s (5 + stones_
 -- whether a stone with so many stones next to it in that way, and so many in the other, is in a straight four
 abbrev pub is_open_four : RuleKind → Grid → Side → Axis → Point → Way → ℕ → ℕ → Bool
 is_open_four rule b s d p way fore back =
-    fore + back == 3 && wins_past rule b s d way (towards way d p (1 + fore)) && wins_past rule b s d (opposite way) (towards (opposite way) d p (1 + back))
+    fore + back == 3 && wins_past rule b s d way (towards way d p (1 + fore)) && wins_past rule b s d (opposite way)
+    (towards (opposite way) d p (1 + back))
 
 -- the place so many steps along in that way
 abbrev pub place_towards : Way → ℕ → ℕ

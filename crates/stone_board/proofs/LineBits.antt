@@ -1,5 +1,6 @@
 -- The bits of lines: a turn of a point's bits on its four lines changes what is told of that point and side, and nothing else.
-use Rattle.std.proofs.Common.{◌≡◌, ◌≢◌, ◌⊎◌, inl, inr, ℕ, zero, suc, ◌+◌, ◌*◌, ◌%◌, ◌^◌, ◌<◌, true, false, cond, ◌&&◌, refl, sym, ap, subst, ◌∙◌, arith, List, length, replicate}
+use Rattle.std.proofs.Common.{◌≡◌, ◌≢◌, ◌⊎◌, inl, inr, ℕ, zero, suc, ◌+◌, ◌*◌, ◌%◌, ◌^◌, ◌<◌, true, false, cond, ◌&&◌, refl, sym, ap, subst}
+use Rattle.std.proofs.Common.{◌∙◌, arith, List, length, replicate}
 use Rattle.std.specs.Prelude.{slice_index_or, bit_xor}
 use Rattle.std.specs.Int.{bit_at}
 use Rattle.std.proofs.lemmas.Bool.{cases_eq, cases_lt, both_ways}
@@ -15,7 +16,8 @@ use Rattle.game_rules.specs.declared.Side.TheVariants.{Black, White}
 use Rattle.game_rules.specs.declared.Axis.{Axis}
 use Rattle.game_rules.specs.declared.Axis.TheVariants.{Row, Column, Down, Up}
 use Rattle.game_rules.specs.declared.Point.{Point}
-use Rattle.game_rules.proofs.Boards.{Apart, same_or_apart, not-apart, and_left, empty_holds, stone_of_side, holds-put_same, holds-put_other, is_empty-on, on_x, on_y}
+use Rattle.game_rules.proofs.Boards.{Apart, same_or_apart, not-apart, and_left, empty_holds, stone_of_side, holds-put_same, holds-put_other}
+use Rattle.game_rules.proofs.Boards.{is_empty-on, on_x, on_y}
 use Rattle.game_rules.proofs.Positions.{holds-other, put-lift, lift-empty, IsBoard-lift}
 use Rattle.game_rules.proofs.Cells.{empty_cell, empty_stone}
 use Rattle.stone_board.specs.Lines.{line_of, place_on, axis_number, side_number, index_of, told, AreLines, turned, all_turned}

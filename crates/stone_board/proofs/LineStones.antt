@@ -8,7 +8,8 @@ use Rattle.game_rules.specs.declared.Side.{Side}
 use Rattle.game_rules.specs.declared.Axis.{Axis}
 use Rattle.game_rules.specs.declared.Axis.TheVariants.{Row, Column, Down, Up}
 use Rattle.game_rules.specs.declared.Point.{Point}
-use Rattle.game_rules.proofs.Boards.{Apart, and_left, same_or_apart, not-apart, empty_holds, holds-put_same, holds-put_other, is_empty-on, stone_of-other, on_x, on_y}
+use Rattle.game_rules.proofs.Boards.{Apart, and_left, same_or_apart, not-apart, empty_holds, holds-put_same, holds-put_other, is_empty-on}
+use Rattle.game_rules.proofs.Boards.{stone_of-other, on_x, on_y}
 use Rattle.std.proofs.lemmas.Bool.{cases_lt}
 use Rattle.game_rules.proofs.Lines.{OnLine, along-OnLine}
 use Rattle.game_rules.proofs.Positions.{holds-other}

@@ -17,7 +17,8 @@ kept-Some b (Some p) q h =
     let both = kept_by b p q (is_on b p) refl h in
     (ap Some both.0, ap (is_on b) (sym both.0) ∙ both.1)
 
-pub three-kept : (rule : RuleKind) (b : Grid) (s : Side) (d : Axis) (p : Point) (o : Option Point) → is_line_three_at rule b s d p (kept_on b o) ≡ is_line_three_at rule b s d p o
+pub three-kept : (rule : RuleKind) (b : Grid) (s : Side) (d : Axis) (p : Point) (o : Option Point)
+    → is_line_three_at rule b s d p (kept_on b o) ≡ is_line_three_at rule b s d p o
 three-kept rule b s d p None = refl
 three-kept rule b s d p (Some q) = kept_three_by rule b s d p q (is_on b q) refl
 

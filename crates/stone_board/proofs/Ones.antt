@@ -3,7 +3,8 @@ use Rattle.std.proofs.Common.{◌≡◌, ℕ, suc, ◌+◌, ◌-◌, ◌*◌, �
 use Rattle.std.specs.Int.{bit_at, bit_not, leading_ones, trailing_ones, w32}
 use Rattle.std.proofs.lemmas.Nat.{pow-add, pow_pos, shr_le, leading_top, mul-mod_first, div-add-mod'}
 use Rattle.std.proofs.Math.Nat.{div-div-eq-div-mul, mul_assoc}
-use Rattle.std.proofs.lemmas.Nat.Bits.{bit_at_not, bit_at-trailing_ones, bit_at-lt, bit_at-zero, bit_at_lowest, bit_at_above, bit_at_cat_low, bit_at_cat_high}
+use Rattle.std.proofs.lemmas.Nat.Bits.{bit_at_not, bit_at-trailing_ones, bit_at-lt, bit_at-zero, bit_at_lowest, bit_at_above}
+use Rattle.std.proofs.lemmas.Nat.Bits.{bit_at_cat_low, bit_at_cat_high}
 
 -- the bits of a number that is shifted down, and up in 32 bits
 pub bit_shr : (n k i : ℕ) → bit_at (n / 2 ^ k) i ≡ bit_at n (i + k)
@@ -33,7 +34,8 @@ module _ (bits place : ℕ) (fits : bits < 2 ^ 32) where
   ahead_bit : (k : ℕ) → bit_at ahead k ≡ bit_at bits (place + (1 + k))
   ahead_bit k = bit_shr (bits / 2 ^ place) 1 k ∙ bit_shr bits place (k + 1) ∙ ap (bit_at bits) (omega arith)
 
-  ones : (trailing_ones w32 ahead < 32) × (bit_at ahead (trailing_ones w32 ahead) ≡ 0) × ((i : ℕ) → i < trailing_ones w32 ahead → bit_at ahead i ≡ 1)
+  ones : (trailing_ones w32 ahead < 32) × (bit_at ahead (trailing_ones w32 ahead) ≡ 0)
+      × ((i : ℕ) → i < trailing_ones w32 ahead → bit_at ahead i ≡ 1)
   ones = let low = shr_le bits place in bit_at-trailing_ones w32 ahead (omega (arith, low, fits))
 
   pub ahead_set : (k : ℕ) → 1 ≤ k → k ≤ trailing_ones w32 ahead → bit_at bits (place + k) ≡ 1
@@ -63,7 +65,8 @@ module _ (bits place : ℕ) (near : place < 32) where
   moved_is =
       let one : 31 - place + 1 ≡ 32 - place = omega (arith, near) in
       mul-mod_first (bits * 2 ^ (31 - place)) 2 4294967296
-      ∙ ap (λ m. m % 2 ^ 32) (mul_assoc bits (2 ^ (31 - place)) 2 ∙ ap (λ m. bits * m) (sym (pow-add 2 (31 - place) 1) ∙ ap (λ m. 2 ^ m) one))
+      ∙ ap (λ m. m % 2 ^ 32) (mul_assoc bits (2 ^ (31 - place)) 2
+      ∙ ap (λ m. bits * m) (sym (pow-add 2 (31 - place) 1) ∙ ap (λ m. 2 ^ m) one))
 
   moved_bit : (i : ℕ) → i < 32 → bit_at moved i ≡ bit_at (bits * 2 ^ (32 - place)) i
   moved_bit i low = ap (λ m. bit_at m i) moved_is ∙ bit_low (bits * 2 ^ (32 - place)) 32 i low
@@ -74,7 +77,8 @@ module _ (bits place : ℕ) (near : place < 32) where
   -- some bit is clear, since the lowest is
   some : 0 < bit_not w32 moved
   some =
-      let even : moved % 2 ≡ 0 = sym (bit_at_lowest moved) ∙ moved_bit 0 (omega arith) ∙ bit_shl_low bits (32 - place) 0 (omega (arith, near)) in
+      let even : moved % 2 ≡ 0 = sym (bit_at_lowest moved) ∙ moved_bit 0 (omega arith)
+      ∙ bit_shl_low bits (32 - place) 0 (omega (arith, near)) in
       let fits = moved_fits in
       omega (arith, even, fits)
 
@@ -90,7 +94,8 @@ module _ (bits place : ℕ) (near : place < 32) where
   pub behind_set : (k : ℕ) → 1 ≤ k → k ≤ leading_ones w32 moved → k ≤ place → bit_at bits (place - k) ≡ 1
   behind_set k low high within =
       let sum = top.1 in
-      let none : bit_at (bit_not w32 moved) (32 - k) ≡ 0 = bit_at_above (bit_not w32 moved) (suc top.0) (32 - k) top.3 (omega (arith, sum, high)) in
+      let none : bit_at (bit_not w32 moved) (32 - k) ≡ 0 =
+      bit_at_above (bit_not w32 moved) (suc top.0) (32 - k) top.3 (omega (arith, sum, high)) in
       let turn = bit_at_not w32 moved (32 - k) moved_fits (omega (arith, low)) in
       let bit = bit_at-lt moved (32 - k) in
       behind_bit k low within ∙ omega (arith, none, turn, bit)

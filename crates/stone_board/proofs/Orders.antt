@@ -7,7 +7,8 @@ use Rattle.game_rules.proofs.ReadingOrder.{row_from-first, rows_from, rows_from-
 use Rattle.stone_board.specs.Order.{points_left, following}
 use borrow.Author.Tests.{ltb-true}
 
-left_from_row-rows : (width height y : ℕ) (r : Bool) → nat_lt y height ≡ r → rows_from width y (height - y) ≡ cond r (row_from y 0 (width - 0) ++ rows_from width (y + 1) (height - (y + 1))) []
+left_from_row-rows : (width height y : ℕ) (r : Bool) → nat_lt y height ≡ r
+    → rows_from width y (height - y) ≡ cond r (row_from y 0 (width - 0) ++ rows_from width (y + 1) (height - (y + 1))) []
 left_from_row-rows width height y true h =
     let below : y < height = ltb-true _ _ h in
     let whole : width - 0 ≡ width = omega arith in
@@ -21,9 +22,11 @@ points_left-all width height =
     let whole : height - 0 ≡ height = omega arith in
     sym (left_from_row-rows width height 0 (nat_lt 0 height) refl) ∙ ap (rows_from width 0) whole
 
-step_by : (width height : ℕ) (p : Point) (r : Bool) → nat_lt (p.x + 1) width ≡ r → p.x < width → nat_lt p.y height ≡ true → points_left width height p ≡ p ∷ points_left width height (cond r (record { x = p.x + 1; y = p.y }) (record { x = 0; y = p.y + 1 }))
+step_by : (width height : ℕ) (p : Point) (r : Bool) → nat_lt (p.x + 1) width ≡ r → p.x < width → nat_lt p.y height ≡ true
+    → points_left width height p ≡ p ∷ points_left width height (cond r (record { x = p.x + 1; y = p.y }) (record { x = 0; y = p.y + 1 }))
 step_by width height p true h column row =
-    let more : row_from p.y p.x (width - p.x) ≡ p ∷ row_from p.y (p.x + 1) (width - (p.x + 1)) = row_from-first p.y p.x (width - p.x) (width - (p.x + 1)) (omega arith) in
+    let more : row_from p.y p.x (width - p.x) ≡ p ∷ row_from p.y (p.x + 1) (width - (p.x + 1)) =
+    row_from-first p.y p.x (width - p.x) (width - (p.x + 1)) (omega arith) in
     rw (row, more) refl
 step_by width height p false h column row =
     let one : row_from p.y p.x (width - p.x) ≡ p ∷ [] = row_from-first p.y p.x (width - p.x) 0 (grind (arith, nat_tests)) in
@@ -31,5 +34,6 @@ step_by width height p false h column row =
     rw (row, one) (ap (λ (l : List Point). p ∷ l) rest)
 
 -- where a point is left, it is the first of those left, and the others are left from the next on
-pub points_left-next : (width height : ℕ) (p : Point) → p.x < width → nat_lt p.y height ≡ true → points_left width height p ≡ p ∷ points_left width height (following width p)
+pub points_left-next : (width height : ℕ) (p : Point) → p.x < width → nat_lt p.y height ≡ true
+    → points_left width height p ≡ p ∷ points_left width height (following width p)
 points_left-next width height p column row = step_by width height p (nat_lt (p.x + 1) width) refl column row

@@ -65,7 +65,8 @@ module _ (b : Grid) (p q : Point) (k : ℕ) (wide : 1 ≤ b.width) where
   behind_walk Up h = up_more q.x q.y p.x p.y b.width k wide (omega arith) (omega arith)
 
   -- a point so many steps away is as many strides away in reading order
-  pub place_walk : (w : Way) (d : Axis) → towards w d p k ≡ Some q → Walked (goes_on w d) (place_of b p) (k * stride d b.width) (place_of b q)
+  pub place_walk : (w : Way) (d : Axis) → towards w d p k ≡ Some q
+      → Walked (goes_on w d) (place_of b p) (k * stride d b.width) (place_of b q)
   place_walk Ahead d h = ahead_walk d (along-OnLine d p k 0 q h)
   place_walk Behind d h = behind_walk d (along-OnLine d p 0 k q h)
 
@@ -99,14 +100,22 @@ module _ (b : Grid) (p : Point) (on : is_on b p ≡ true) where
 
   -- each of the steps left stays on the board
   pub step_on : (w : Way) (d : Axis) (k : ℕ) → k ≤ left w d → StepOn b w d p k
-  step_on Ahead Row k h = let x = x_low in let y = y_low in ahead_to Row k (record { x = p.x + k; y = p.y }) (omega arith, refl) (omega arith) (omega arith)
-  step_on Ahead Column k h = let x = x_low in let y = y_low in ahead_to Column k (record { x = p.x; y = p.y + k }) (refl, omega arith) (omega arith) (omega arith)
-  step_on Ahead Down k h = let x = x_low in let y = y_low in ahead_to Down k (record { x = p.x + k; y = p.y + k }) (omega arith, omega arith) (omega arith) (omega arith)
-  step_on Ahead Up k h = let x = x_low in let y = y_low in ahead_to Up k (record { x = p.x + k; y = p.y - k }) (omega arith, omega arith) (omega arith) (omega arith)
-  step_on Behind Row k h = let x = x_low in let y = y_low in behind_to Row k (record { x = p.x - k; y = p.y }) (omega arith, refl) (omega arith) (omega arith)
-  step_on Behind Column k h = let x = x_low in let y = y_low in behind_to Column k (record { x = p.x; y = p.y - k }) (refl, omega arith) (omega arith) (omega arith)
-  step_on Behind Down k h = let x = x_low in let y = y_low in behind_to Down k (record { x = p.x - k; y = p.y - k }) (omega arith, omega arith) (omega arith) (omega arith)
-  step_on Behind Up k h = let x = x_low in let y = y_low in behind_to Up k (record { x = p.x - k; y = p.y + k }) (omega arith, omega arith) (omega arith) (omega arith)
+  step_on Ahead Row k h = let x = x_low in let y = y_low in
+      ahead_to Row k (record { x = p.x + k; y = p.y }) (omega arith, refl) (omega arith) (omega arith)
+  step_on Ahead Column k h = let x = x_low in let y =
+      y_low in ahead_to Column k (record { x = p.x; y = p.y + k }) (refl, omega arith) (omega arith) (omega arith)
+  step_on Ahead Down k h = let x = x_low in let y = y_low in
+      ahead_to Down k (record { x = p.x + k; y = p.y + k }) (omega arith, omega arith) (omega arith) (omega arith)
+  step_on Ahead Up k h = let x = x_low in let y = y_low in
+      ahead_to Up k (record { x = p.x + k; y = p.y - k }) (omega arith, omega arith) (omega arith) (omega arith)
+  step_on Behind Row k h = let x = x_low in let y = y_low in
+      behind_to Row k (record { x = p.x - k; y = p.y }) (omega arith, refl) (omega arith) (omega arith)
+  step_on Behind Column k h = let x = x_low in let y =
+      y_low in behind_to Column k (record { x = p.x; y = p.y - k }) (refl, omega arith) (omega arith) (omega arith)
+  step_on Behind Down k h = let x = x_low in let y =
+      y_low in behind_to Down k (record { x = p.x - k; y = p.y - k }) (omega arith, omega arith) (omega arith) (omega arith)
+  step_on Behind Up k h = let x = x_low in let y = y_low in
+      behind_to Up k (record { x = p.x - k; y = p.y + k }) (omega arith, omega arith) (omega arith) (omega arith)
 
   -- and the next does not
   ahead_past : (d : Axis) (q : Point) → OnLine d p (1 + left Ahead d) 0 q → q.x < b.width → q.y < b.height → ⊥
@@ -150,12 +159,14 @@ module _ (b : Grid) (p : Point) (on : is_on b p ≡ true) where
 walked_by : (r t : Bool) (start s u place n : ℕ) → r ≡ t → s ≡ u → Walked t start (n * u) place → Walked r start (n * s) place
 walked_by r t start s u place n e f h = rw (e, f) h
 
-module _ (b : Grid) (p : Point) (ok : IsBoard b) (on : is_on b p ≡ true) (w : Way) (d : Axis) (r : Bool) (s most k : ℕ) (way : r ≡ goes_on w d) (far : s ≡ stride d b.width) (left_is : most ≡ steps_left w d b.width b.height p) (more : k < most) where
+module _ (b : Grid) (p : Point) (ok : IsBoard b) (on : is_on b p ≡ true) (w : Way) (d : Axis) (r : Bool) (s most k : ℕ)
+    (way : r ≡ goes_on w d) (far : s ≡ stride d b.width) (left_is : most ≡ steps_left w d b.width b.height p) (more : k < most) where
   step_here : StepOn b w d p (k + 1)
   step_here = step_on b p on w d (k + 1) (let same = left_is in omega arith)
 
   walked : Walked r (place_of b p) ((k + 1) * s) (place_of b step_here.0)
-  walked = walked_by r (goes_on w d) (place_of b p) s (stride d b.width) (place_of b step_here.0) (k + 1) way far (place_walk b p step_here.0 (k + 1) (let wide = ok.wide in omega arith) w d step_here.1)
+  walked = walked_by r (goes_on w d) (place_of b p) s (stride d b.width) (place_of b step_here.0) (k + 1) way far
+      (place_walk b p step_here.0 (k + 1) (let wide = ok.wide in omega arith) w d step_here.1)
 
   pub walk_back : r ≡ false → (k + 1) * s ≤ place_of b p
   walk_back h = Walked-back r (place_of b p) ((k + 1) * s) (place_of b step_here.0) walked h
@@ -170,26 +181,34 @@ module _ (b : Grid) (p : Point) (ok : IsBoard b) (on : is_on b p ≡ true) (w : 
     -- whether a stone stands there is what the cell says
     pub walk_stone : (t : Side) (c : Cell) → c ≡ slice_index_or b.cells place c → stone_at b t (towards w d p (k + 1)) ≡ is_stone_of t c
     walk_stone t c e =
-        let cell : c ≡ cell_at b step_here.0 = e ∙ same_item b.cells place c Empty walk_fits ∙ ap (λ i. slice_index_or b.cells i Empty) place_is in
+        let cell : c ≡ cell_at b step_here.0 = e ∙ same_item b.cells place c Empty walk_fits
+        ∙ ap (λ i. slice_index_or b.cells i Empty) place_is in
         rw (step_here.1, step_here.2) (ap (is_stone_of t) (sym cell))
 
 -- a point so many strides away, in the numbers that the code keeps
-pub walked_to : (b : Grid) (p x : Point) (d : Axis) (w : Way) (n width s : ℕ) (r : Bool) → r ≡ goes_on w d → width ≡ b.width → s ≡ stride d width → Walked (goes_on w d) (place_of b p) (n * stride d b.width) (place_of b x) → Walked r (p.y * width + p.x) (n * s) (place_of b x)
+pub walked_to : (b : Grid) (p x : Point) (d : Axis) (w : Way) (n width s : ℕ) (r : Bool) → r ≡ goes_on w d → width ≡ b.width
+    → s ≡ stride d width → Walked (goes_on w d) (place_of b p) (n * stride d b.width) (place_of b x)
+    → Walked r (p.y * width + p.x) (n * s) (place_of b x)
 walked_to b p x d w n width s r way wide far h = rw (way, far, wide) h
 
-pub left_by : (b : Grid) (w : Way) (d : Axis) (p : Point) (most width height : ℕ) → width ≡ b.width → height ≡ b.height → most ≡ steps_left w d width height p → most ≡ steps_left w d b.width b.height p
-left_by b w d p most width height wide tall left = left ∙ ap (λ n. steps_left w d n height p) wide ∙ ap (λ n. steps_left w d b.width n p) tall
+pub left_by : (b : Grid) (w : Way) (d : Axis) (p : Point) (most width height : ℕ) → width ≡ b.width → height ≡ b.height
+    → most ≡ steps_left w d width height p → most ≡ steps_left w d b.width b.height p
+left_by b w d p most width height wide tall left =
+    left ∙ ap (λ n. steps_left w d n height p) wide ∙ ap (λ n. steps_left w d b.width n p) tall
 
 -- a point of the board is no more steps away than stay on the board
-pub on_left : (b : Grid) (p q : Point) (k : ℕ) → is_on b p ≡ true → is_on b q ≡ true → (w : Way) (d : Axis) → towards w d p k ≡ Some q → k ≤ steps_left w d b.width b.height p
+pub on_left : (b : Grid) (p q : Point) (k : ℕ) → is_on b p ≡ true → is_on b q ≡ true → (w : Way) (d : Axis) → towards w d p k ≡ Some q
+    → k ≤ steps_left w d b.width b.height p
 on_left b p q k on_p on_q w d h = by_way w h where
-  ahead : (d : Axis) → OnLine d p k 0 q → p.x < b.width → p.y < b.height → q.x < b.width → q.y < b.height → k ≤ steps_left Ahead d b.width b.height p
+  ahead : (d : Axis) → OnLine d p k 0 q → p.x < b.width → p.y < b.height → q.x < b.width → q.y < b.height
+      → k ≤ steps_left Ahead d b.width b.height p
   ahead Row l x y u v = omega arith
   ahead Column l x y u v = omega arith
   ahead Down l x y u v = omega arith
   ahead Up l x y u v = omega arith
 
-  behind : (d : Axis) → OnLine d p 0 k q → p.x < b.width → p.y < b.height → q.x < b.width → q.y < b.height → k ≤ steps_left Behind d b.width b.height p
+  behind : (d : Axis) → OnLine d p 0 k q → p.x < b.width → p.y < b.height → q.x < b.width → q.y < b.height
+      → k ≤ steps_left Behind d b.width b.height p
   behind Row l x y u v = omega arith
   behind Column l x y u v = omega arith
   behind Down l x y u v = omega arith

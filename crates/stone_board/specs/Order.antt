@@ -8,7 +8,8 @@ use Rattle.game_rules.specs.declared.Point.{Point}
 -- the points of a board of this width and height from a point on, in reading order: the rest of its row, and the rows after it
 abbrev pub points_left : ℕ → ℕ → Point → List Point
 points_left width height p =
-    if nat_lt p.y height then row_from p.y p.x (width - p.x) ++ flat_map (λ y. row_from y 0 width) (range_with_len (p.y + 1) (height - (p.y + 1))) else []
+    if nat_lt p.y height then row_from p.y p.x (width - p.x)
+    ++ flat_map (λ y. row_from y 0 width) (range_with_len (p.y + 1) (height - (p.y + 1))) else []
 
 -- the point after p in reading order, which may be below the board
 abbrev pub following : ℕ → Point → Point

@@ -39,7 +39,8 @@ module _ (rule : RuleKind) (b : Grid) (p : Point) (lawful : IsPosition rule b) (
 -- ---- stops
 
 -- a fault of the move p itself
-pub fault-stops : (rule : RuleKind) (t : List Node) (A : Type 0) (n : ℕ) (L : List Point → Why → Type 0) (p : Point) (why : Why) (old new : Walk) (stop : Stop)
+pub fault-stops : (rule : RuleKind) (t : List Node) (A : Type 0) (n : ℕ) (L : List Point → Why → Type 0) (p : Point) (why : Why)
+    (old new : Walk) (stop : Stop)
     → old.line ≡ [] → L (p ∷ []) why → IsNoted p old.line new.line (Fault why) stop → Walked rule t A n L old new (Err stop)
 fault-stops rule t A n L p why old new (Fault w) none here noted =
     let new_is : new.line ≡ p ∷ [] = noted.1 ∙ ap (λ l. l ++ p ∷ []) none in
@@ -50,7 +51,8 @@ fault-stops rule t A n L p why old new Memory none here noted = tt
 -- ---- steps
 
 -- a step behind k arrivals, said in other words
-pub walked-then : (rule : RuleKind) (t : List Node) (B C : Type 0) (k m n : ℕ) (L M : List Point → Why → Type 0) (old mid new : Walk) (r : Result (Unit {0}) Stop)
+pub walked-then : (rule : RuleKind) (t : List Node) (B C : Type 0) (k m n : ℕ) (L M : List Point → Why → Type 0) (old mid new : Walk)
+    (r : Result (Unit {0}) Stop)
     → old.left ≡ mid.left + k → n ≡ k + m → (B → C) → ((line : List Point) (why : Why) → L line why → M line why)
     → Walked rule t B m L mid new r → Walked rule t C n M old new r
 walked-then rule t B C k m n L M old mid new (Ok done) before all f leads walked =
@@ -61,14 +63,16 @@ walked-then rule t B C k m n L M old mid new (Err Spent) before all f leads h = 
 walked-then rule t B C k m n L M old mid new (Err Memory) before all f leads h = tt
 
 -- a stop behind k arrivals, where more are behind it
-pub walked-stops : (rule : RuleKind) (t : List Node) (B C : Type 0) (k m n : ℕ) (L : List Point → Why → Type 0) (old mid new : Walk) (stop : Stop)
+pub walked-stops : (rule : RuleKind) (t : List Node) (B C : Type 0) (k m n : ℕ) (L : List Point → Why → Type 0) (old mid new : Walk)
+    (stop : Stop)
     → old.left ≡ mid.left + k → k + m ≤ n → Walked rule t B m L mid new (Err stop) → Walked rule t C n L old new (Err stop)
 walked-stops rule t B C k m n L old mid new (Fault why) before most h = h
 walked-stops rule t B C k m n L old mid new Spent before most h = omega (arith, h, before, most)
 walked-stops rule t B C k m n L old mid new Memory before most h = tt
 
 -- arrivals that are taken
-pub taken : (rule : RuleKind) (t : List Node) (A : Type 0) (n : ℕ) (L : List Point → Why → Type 0) (old new : Walk) (r : Result (Unit {0}) Stop)
+pub taken : (rule : RuleKind) (t : List Node) (A : Type 0) (n : ℕ) (L : List Point → Why → Type 0) (old new : Walk)
+    (r : Result (Unit {0}) Stop)
     → old.line ≡ [] → IsTrueMemo rule t old.memo → A → Takes n old new r → Walked rule t A n L old new r
 taken rule t A n L old new (Ok done) none memo a takes = (
   a,
@@ -81,7 +85,8 @@ taken rule t A n L old new (Ok done) none memo a takes = (
 taken rule t A n L old new (Err stop) none memo a takes = rw takes.0 takes.1
 
 -- a walk that has taken arrivals may step on
-pub taken-ready : (rule : RuleKind) (t : List Node) (b : Grid) (n : ℕ) (old new : Walk) → IsReady rule t b old → Takes n old new (Ok tt) → IsReady rule t b new
+pub taken-ready : (rule : RuleKind) (t : List Node) (b : Grid) (n : ℕ) (old new : Walk) → IsReady rule t b old → Takes n old new (Ok tt)
+    → IsReady rule t b new
 taken-ready rule t b n old new ready takes =
     let did = (taken rule t (Unit {0}) n (λ line why. ⊥) old new (Ok tt) ready.no_line ready.memo tt takes).1 in
     record { lawful = ready.lawful; no_line = did.no_line; memo = did.memo }
@@ -92,7 +97,8 @@ pub taken-short : (rule : RuleKind) (t : List Node) (A : Type 0) (k n : ℕ) (L 
 taken-short rule t A k n L old new stop least takes = let short = takes.1 in rw takes.0 (omega (arith, short, least))
 
 -- what came of a walk behind the move p, which took k arrivals, once p is noted
-pub noted-then : (rule : RuleKind) (t : List Node) (B C : Type 0) (k m n : ℕ) (L M : List Point → Why → Type 0) (p : Point) (old mid late new : Walk) (r s : Result (Unit {0}) Stop)
+pub noted-then : (rule : RuleKind) (t : List Node) (B C : Type 0) (k m n : ℕ) (L M : List Point → Why → Type 0) (p : Point)
+    (old mid late new : Walk) (r s : Result (Unit {0}) Stop)
     → old.left ≡ mid.left + k → n ≡ k + m → (B → C) → ((line : List Point) (why : Why) → L line why → M (p ∷ line) why)
     → Walked rule t B m L mid late r → NotesAt p late new r s → Walked rule t C n M old new s
 noted-then rule t B C k m n L M p old mid late new (Ok done) s before all f leads walked noted =
@@ -102,7 +108,8 @@ noted-then rule t B C k m n L M p old mid late new (Err (Fault why)) (Err (Fault
     rw (new_is, noted.0) (leads (reverse late.line) why h)
 noted-then rule t B C k m n L M p old mid late new (Err (Fault why)) (Err Spent) before all f leads h noted = absurd noted
 noted-then rule t B C k m n L M p old mid late new (Err (Fault why)) (Err Memory) before all f leads h noted = tt
-noted-then rule t B C k m n L M p old mid late new (Err Spent) (Err last) before all f leads h noted = rw noted (omega (arith, h, before, all))
+noted-then rule t B C k m n L M p old mid late new (Err Spent) (Err last) before all f leads h noted =
+    rw noted (omega (arith, h, before, all))
 noted-then rule t B C k m n L M p old mid late new (Err Memory) (Err last) before all f leads h noted = rw noted tt
 noted-then rule t B C k m n L M p old mid late new (Err stop) (Ok done) before all f leads h noted = absurd noted
 
@@ -117,21 +124,28 @@ attack-stops rule t i b n why u old new stop at o h none noted =
     (leads-attack rule t i b n why at (ap (λ (v : Outcome). attack_fault v n.rest) (sym o) ∙ h)) noted
 
 -- an attack that goes on, and a line from one of the replies to it
-pub attack-then-leads : (rule : RuleKind) (t : List Node) (i : ℕ) (b : Grid) (n : Node) (line : List Point) (why : Why) → slice_get t i ≡ Some n → outcome rule b n.attack ≡ GoesOn → is_winning n.rest ≡ false → LeadsStart rule t (answers_of n) (after b n.attack) line why → Leads rule t i b (n.attack ∷ line) why
+pub attack-then-leads : (rule : RuleKind) (t : List Node) (i : ℕ) (b : Grid) (n : Node) (line : List Point) (why : Why)
+    → slice_get t i ≡ Some n → outcome rule b n.attack ≡ GoesOn → is_winning n.rest ≡ false
+    → LeadsStart rule t (answers_of n) (after b n.attack) line why → Leads rule t i b (n.attack ∷ line) why
 attack-then-leads rule t i b n [] why at on more h = absurd h
 attack-then-leads rule t i b n (q ∷ line) why at on more h = leads-reply rule t i b n q line why at on more h
 
 -- ---- one reply after another
 
 -- a walk over points that are named by the items of a list: what is left of them, and what it did so far
-pub record Going {X : Type 0} (at : X → Point) (rule : RuleKind) (t : List Node) (a : Answers) (b : Grid) (all left : List X) (old now : Walk) : Type 0 where
-  pub counted : now.left + sum_by (λ x. arrivals_at rule a (arrivals rule t) b (at x)) all ≡ old.left + sum_by (λ x. arrivals_at rule a (arrivals rule t) b (at x)) left
+pub record Going {X : Type 0} (at : X → Point) (rule : RuleKind) (t : List Node) (a : Answers) (b : Grid) (all left : List X)
+    (old now : Walk) : Type 0 where
+  pub counted : now.left + sum_by (λ x. arrivals_at rule a (arrivals rule t) b (at x)) all ≡ old.left + sum_by
+      (λ x. arrivals_at rule a (arrivals rule t) b (at x)) left
   pub met : All (λ x. Meets rule a (Accepted rule t) b (at x)) left → All (λ x. Meets rule a (Accepted rule t) b (at x)) all
   pub ready : IsReady rule t b now
 
-module _ {X : Type 0} (at : X → Point) (rule : RuleKind) (t : List Node) (a : Answers) (b : Grid) (all : List X) (x : X) (left more : List X) (first : left ≡ x ∷ more) (old now next : Walk) (so_far : Going at rule t a b all left old now) where
-  split : sum_by (λ x. arrivals_at rule a (arrivals rule t) b (at x)) left ≡ arrivals_at rule a (arrivals rule t) b (at x) + sum_by (λ x. arrivals_at rule a (arrivals rule t) b (at x)) more
-  split = ap (sum_by (λ x. arrivals_at rule a (arrivals rule t) b (at x))) first ∙ sum_by-cons (λ x. arrivals_at rule a (arrivals rule t) b (at x)) x more
+module _ {X : Type 0} (at : X → Point) (rule : RuleKind) (t : List Node) (a : Answers) (b : Grid) (all : List X) (x : X)
+    (left more : List X) (first : left ≡ x ∷ more) (old now next : Walk) (so_far : Going at rule t a b all left old now) where
+  split : sum_by (λ x. arrivals_at rule a (arrivals rule t) b (at x)) left ≡ arrivals_at rule a (arrivals rule t) b (at x) + sum_by
+      (λ x. arrivals_at rule a (arrivals rule t) b (at x)) more
+  split = ap (sum_by (λ x. arrivals_at rule a (arrivals rule t) b (at x))) first
+      ∙ sum_by-cons (λ x. arrivals_at rule a (arrivals rule t) b (at x)) x more
 
   pub going-on : WalkedReply rule t a b (at x) now next (Ok tt) → Going at rule t a b all more old next
   going-on walked =
@@ -143,13 +157,15 @@ module _ {X : Type 0} (at : X → Point) (rule : RuleKind) (t : List Node) (a : 
         ready = record { lawful = so_far.ready.lawful; no_line = walked.1.no_line; memo = walked.1.memo };
       }
 
-  pub going-stops : (A : Type 0) (stop : Stop) → WalkedReply rule t a b (at x) now next (Err stop) → Walked rule t A (sum_by (λ x. arrivals_at rule a (arrivals rule t) b (at x)) all) (LeadsStart rule t a b) old next (Err stop)
+  pub going-stops : (A : Type 0) (stop : Stop) → WalkedReply rule t a b (at x) now next (Err stop)
+      → Walked rule t A (sum_by (λ x. arrivals_at rule a (arrivals rule t) b (at x)) all) (LeadsStart rule t a b) old next (Err stop)
   going-stops A (Fault why) h = h
   going-stops A Spent h = let before = so_far.counted in omega (arith, before, split, h)
   going-stops A Memory h = tt
 
 -- a reply that is no move is met, with no arrivals
-pub refused-reply : (rule : RuleKind) (t : List Node) (a : Answers) (b : Grid) (q : Point) (now : Walk) → IsReady rule t b now → is_empty b q ≡ false → WalkedReply rule t a b q now now (Ok tt)
+pub refused-reply : (rule : RuleKind) (t : List Node) (a : Answers) (b : Grid) (q : Point) (now : Walk) → IsReady rule t b now
+    → is_empty b q ≡ false → WalkedReply rule t a b q now now (Ok tt)
 refused-reply rule t a b q now ready taken =
     let none = arrivals-stops rule t a b q Refused (taken_refused rule b q taken) (λ e. cc) in (
       met-no_move rule t a b q (taken_refused rule b q taken),
@@ -157,9 +173,11 @@ refused-reply rule t a b q now ready taken =
     )
 
 -- at the end each is met
-pub going-done : {X : Type 0} (at : X → Point) (rule : RuleKind) (t : List Node) (a : Answers) (b : Grid) (all left : List X) (old now : Walk)
+pub going-done : {X : Type 0} (at : X → Point) (rule : RuleKind) (t : List Node) (a : Answers) (b : Grid) (all left : List X)
+    (old now : Walk)
     → left ≡ [] → Going at rule t a b all left old now
-    → Walked rule t (All (λ x. Meets rule a (Accepted rule t) b (at x)) all) (sum_by (λ x. arrivals_at rule a (arrivals rule t) b (at x)) all) (LeadsStart rule t a b) old now (Ok tt)
+    → Walked rule t (All (λ x. Meets rule a (Accepted rule t) b (at x)) all)
+    (sum_by (λ x. arrivals_at rule a (arrivals rule t) b (at x)) all) (LeadsStart rule t a b) old now (Ok tt)
 going-done at rule t a b all left old now none so_far =
     let before = so_far.counted in
     let nothing : sum_by (λ x. arrivals_at rule a (arrivals rule t) b (at x)) left ≡ 0 = rw none refl in (

@@ -1,6 +1,7 @@
 -- What a step of a walk through a table did, how it stops before it has met every reply, what it remembers, and which answers
 -- are sure.
-use Rattle.std.specs.Prelude.{◌≡◌, ◌==◌, ◌&&◌, ◌||◌, ◌+◌, ◌<◌, ℕ, Bool, true, false, not, if◌then◌else◌, Option, Some, None, IfSome, Result, Ok, Err, List, [], ◌∷◌, ◌++◌, reverse, slice_get}
+use Rattle.std.specs.Prelude.{◌≡◌, ◌==◌, ◌&&◌, ◌||◌, ◌+◌, ◌<◌, ℕ, Bool, true, false, not, if◌then◌else◌, Option, Some, None, IfSome, Result}
+use Rattle.std.specs.Prelude.{Ok, Err, List, [], ◌∷◌, ◌++◌, reverse, slice_get}
 use Rattle.std.specs.List.{list_any}
 use Rattle.std.specs.Option.{option_map}
 use Rattle.game_rules.specs.Grid.{Grid, is_empty, lift}

@@ -1,6 +1,8 @@
 -- A set of nodes in order: which node is at a place, and what is put in. The node that answers given replies: it is a node of a table,
 -- answers each as given, and stands for the tree of these branches. The commonest of some numbers, found by going over them.
-use Rattle.std.proofs.Common.{◌≡◌, inl, inr, ◌<◌, ◌≤◌, Bool, true, false, cond, List, [], ◌∷◌, ◌++◌, length, refl, sym, subst, ℕ, not, map, filter, ap, ◌∙◌, Option, Some, None, Result, Ok, Err, IfOk, OnOk, nat_lt, nat_eq, slice_get, All, Contains, ◌+◌, max, ◌&&◌, ◌==◌, take, get_or, arith, IsSome, nat_le}
+use Rattle.std.proofs.Common.{◌≡◌, inl, inr, ◌<◌, ◌≤◌, Bool, true, false, cond, List, [], ◌∷◌, ◌++◌, length, refl, sym, subst, ℕ, not, map}
+use Rattle.std.proofs.Common.{filter, ap, ◌∙◌, Option, Some, None, Result, Ok, Err, IfOk, OnOk, nat_lt, nat_eq, slice_get, All, Contains}
+use Rattle.std.proofs.Common.{◌+◌, max, ◌&&◌, ◌==◌, take, get_or, arith, IsSome, nat_le}
 use Rattle.std.specs.List.{list_any, IsDistinct, list_all, find, AllByRecursion, count_by, sum_by}
 use Rattle.std.specs.Option.{option_or, option_eq}
 use Rattle.std.proofs.lemmas.Bool.Decides.{Decides-eqb, nat_tests}
@@ -19,9 +21,12 @@ use Rattle.strategy_graph.specs.declared.Reply.{Reply}
 use Rattle.strategy_graph.specs.declared.Rest.TheVariants.{Wins}
 use Rattle.strategy_graph.proofs.Equal.{lt_of_le, Contains-found, list_any-Contains, different_by}
 use Rattle.strategy_graph.proofs.Filling.{IsTable-push}
-use Rattle.strategy_graph.proofs.Common.{IsNode, IsTable, Answers, answers_of, answer, answer_at, listed_node, is_rising, is_winning, named, rest_node, rest_nodes, Answered, AtNode, greatest}
+use Rattle.strategy_graph.proofs.Common.{IsNode, IsTable, Answers, answers_of, answer, answer_at, listed_node, is_rising, is_winning, named}
+use Rattle.strategy_graph.proofs.Common.{rest_node, rest_nodes, Answered, AtNode, greatest}
 use Rattle.strategy_graph.proofs.Rising.{is_rising-filter, next-filter, Kept, kept_all, AnsweredAsGiven, point-given, all-next}
-use Rattle.strategy_compiler.proofs.Common.{AreDifferent, IsCompiled, PutsIn, Tree, Branches, Leaf, Fork, NoBranch, Branch, StandsFor, StandsForAll, AnswersBranches, AnswersBriefly, replies_of, answers_to, commonest, NamesOnly, answering_node, answers_beside, brief_answers, commonest_next, rest_of, winning_node, times}
+use Rattle.strategy_compiler.proofs.Common.{AreDifferent, IsCompiled, PutsIn, Tree, Branches, Leaf, Fork, NoBranch, Branch, StandsFor}
+use Rattle.strategy_compiler.proofs.Common.{StandsForAll, AnswersBranches, AnswersBriefly, replies_of, answers_to, commonest, NamesOnly}
+use Rattle.strategy_compiler.proofs.Common.{answering_node, answers_beside, brief_answers, commonest_next, rest_of, winning_node, times}
 use Rattle.strategy_compiler.proofs.Standing.{stands-put_in}
 use Rattle.indexmap.specs.IndexSet.{insert_key}
 
@@ -29,7 +34,8 @@ use Rattle.indexmap.specs.IndexSet.{insert_key}
 
 -- ---- what is put in
 
-put_by : (old : List Node) (n : Node) (new : List Node) (b : Bool) → list_any (node_ghosts.eq n) old ≡ b → new ≡ cond b old (old ++ n ∷ []) → PutsIn old n new
+put_by : (old : List Node) (n : Node) (new : List Node) (b : Bool) → list_any (node_ghosts.eq n) old ≡ b → new ≡ cond b old (old ++ n ∷ [])
+    → PutsIn old n new
 put_by old n new true e h = inl (Contains-found n old e, h)
 put_by old n new false e h = inr (list_any-Contains n old e, h)
 
@@ -43,15 +49,20 @@ AreDifferent-distinct ks h = record { different = different_by ks h }
 
 -- ---- the nodes of a compiler
 
-table_by : (old : List Node) (n : Node) (new : List Node) → IsTable old → IsNode n (length old) → length old < MAX_NODES → PutsIn old n new → IsTable new
+table_by : (old : List Node) (n : Node) (new : List Node) → IsTable old → IsNode n (length old) → length old < MAX_NODES → PutsIn old n new
+    → IsTable new
 table_by old n new t node room (inl h) = subst IsTable (sym h.1) t
 table_by old n new t node room (inr h) = subst IsTable (sym h.1) (IsTable-push old n t node room)
 
 -- they stay so once a node is put in
-pub IsCompiled-insert_key : (old : List Node) (n : Node) (new : List Node) → IsCompiled old → IsNode n (length old) → (length old ≡ MAX_NODES → ⊥) → IsDistinct node_ghosts.eq new → new ≡ insert_key node_ghosts.eq old n → IsCompiled new
+pub IsCompiled-insert_key : (old : List Node) (n : Node) (new : List Node) → IsCompiled old → IsNode n (length old)
+    → (length old ≡ MAX_NODES → ⊥) → IsDistinct node_ghosts.eq new → new ≡ insert_key node_ghosts.eq old n → IsCompiled new
 IsCompiled-insert_key old n new c node room distinct h =
     let few : length old ≤ MAX_NODES = c.table.size in
-    record { table = table_by old n new c.table node (lt_of_le old few room) (PutsIn-insert_key old n new h); different = AreDifferent-distinct new distinct }
+    record {
+      table = table_by old n new c.table node (lt_of_le old few room) (PutsIn-insert_key old n new h);
+      different = AreDifferent-distinct new distinct;
+    }
 
 pub PutsIn-found : (n : Node) (ks : List Node) → list_any (node_ghosts.eq n) ks ≡ true → PutsIn ks n ks
 PutsIn-found n ks h = inl (Contains-found n ks h, refl)
@@ -87,7 +98,8 @@ pub brief-not_winning : (rs : List Reply) → is_winning (brief_answers rs).rest
 brief-not_winning rs = not_winning (commonest_next rs)
 
 -- the node that answers rising replies by nodes below k is one of a table, as node k
-pub IsNode-answering : (attack : Point) (rs : List Reply) (k : ℕ) → is_rising rs ≡ true → All (λ r. r.next < k) rs → IsNode (answering_node attack rs) k
+pub IsNode-answering : (attack : Point) (rs : List Reply) (k : ℕ) → is_rising rs ≡ true → All (λ r. r.next < k) rs
+    → IsNode (answering_node attack rs) k
 IsNode-answering attack rs k rising below = record {
   below = brief-named (λ j. nat_lt j k) rs (all-next rs k below);
   rising = brief-rising rs rising;
@@ -108,7 +120,8 @@ answer_by : (o : Option ℕ) (j : ℕ) (b : Bool) → option_eq nat_eq (Some j) 
 answer_by o j true h = equal_option j o h
 answer_by o j false h = refl
 
-as_given : (a : Answers) (o : Option ℕ) (rs ss : List Reply) → a.replies ≡ answers_beside o rs → rest_node a.rest ≡ o → AllByRecursion (Kept (λ r. not (option_eq nat_eq (Some r.next) o)) rs) ss → AnsweredAsGiven a ss
+as_given : (a : Answers) (o : Option ℕ) (rs ss : List Reply) → a.replies ≡ answers_beside o rs → rest_node a.rest ≡ o
+    → AllByRecursion (Kept (λ r. not (option_eq nat_eq (Some r.next) o)) rs) ss → AnsweredAsGiven a ss
 unfolding Kept
 as_given a o rs [] e f h = tt
 as_given a o rs (s ∷ ss) e f h = (
@@ -126,10 +139,12 @@ brief-as_given rs h =
     (kept_all (λ r. not (option_eq nat_eq (Some r.next) (commonest_next rs))) rs h)
 
 -- in a table that has the node
-pub answers-at : (t : List Node) (i : ℕ) (attack : Point) (rs : List Reply) → slice_get t i ≡ Some (answering_node attack rs) → is_rising rs ≡ true → All (λ r. answer_at t i r.at ≡ Some r.next) rs
+pub answers-at : (t : List Node) (i : ℕ) (attack : Point) (rs : List Reply) → slice_get t i ≡ Some (answering_node attack rs)
+    → is_rising rs ≡ true → All (λ r. answer_at t i r.at ≡ Some r.next) rs
 answers-at t i attack rs at h =
     All-from_recursion (λ r. answer_at t i r.at ≡ Some r.next) rs (at_node rs (brief-as_given rs h)) where
-      at_node : (ss : List Reply) → AnsweredAsGiven (answers_of (answering_node attack rs)) ss → AllByRecursion (λ r. answer_at t i r.at ≡ Some r.next) ss
+      at_node : (ss : List Reply) → AnsweredAsGiven (answers_of (answering_node attack rs)) ss
+          → AllByRecursion (λ r. answer_at t i r.at ≡ Some r.next) ss
       at_node [] k = tt
       at_node (s ∷ ss) k = (rw at k.0, at_node ss k.1)
 
@@ -145,27 +160,36 @@ answers_to-given : (a : Answers) (rs : List Reply) → AnsweredAsGiven a rs → 
 answers_to-given a [] h = refl
 answers_to-given a (r ∷ rs) h = rw (h.0, answers_to-given a rs h.1) refl
 
-others-given : (a : Answers) (o : Option ℕ) (rs : List Reply) → AnsweredAsGiven a rs → map (λ r. r.at) (answers_beside o rs) ≡ filter (λ q. not (option_eq nat_eq (answer a q) o)) (map (λ r. r.at) rs)
+others-given : (a : Answers) (o : Option ℕ) (rs : List Reply) → AnsweredAsGiven a rs
+    → map (λ r. r.at) (answers_beside o rs) ≡ filter (λ q. not (option_eq nat_eq (answer a q) o)) (map (λ r. r.at) rs)
 others-given a o [] h = refl
 others-given a o (r ∷ rs) h =
     at_kept (not (option_eq nat_eq (Some r.next) o)) (others-given a o rs h.1)
-    ∙ ap (λ (p : Option ℕ). cond (not (option_eq nat_eq p o)) (r.at ∷ filter (λ q. not (option_eq nat_eq (answer a q) o)) (map (λ r. r.at) rs)) (filter (λ q. not (option_eq nat_eq (answer a q) o)) (map (λ r. r.at) rs))) (sym h.0)
+    ∙ ap (λ (p : Option ℕ). cond (not (option_eq nat_eq p o))
+    (r.at ∷ filter (λ q. not (option_eq nat_eq (answer a q) o)) (map (λ r. r.at) rs))
+    (filter (λ q. not (option_eq nat_eq (answer a q) o)) (map (λ r. r.at) rs))) (sym h.0)
   where
-    at_kept : (b : Bool) → map (λ r. r.at) (answers_beside o rs) ≡ filter (λ q. not (option_eq nat_eq (answer a q) o)) (map (λ r. r.at) rs) → map (λ r. r.at) (cond b (r ∷ answers_beside o rs) (answers_beside o rs)) ≡ cond b (r.at ∷ filter (λ q. not (option_eq nat_eq (answer a q) o)) (map (λ r. r.at) rs)) (filter (λ q. not (option_eq nat_eq (answer a q) o)) (map (λ r. r.at) rs))
+    at_kept : (b : Bool) → map (λ r. r.at) (answers_beside o rs) ≡ filter (λ q. not (option_eq nat_eq (answer a q) o)) (map (λ r. r.at) rs)
+        → map (λ r. r.at) (cond b (r ∷ answers_beside o rs) (answers_beside o rs)) ≡ cond b
+        (r.at ∷ filter (λ q. not (option_eq nat_eq (answer a q) o)) (map (λ r. r.at) rs))
+        (filter (λ q. not (option_eq nat_eq (answer a q) o)) (map (λ r. r.at) rs))
     at_kept true k = ap (λ (ps : List Point). r.at ∷ ps) k
     at_kept false k = k
 
-answers-briefly : (attack : Point) (rs : List Reply) → AnsweredAsGiven (answers_of (answering_node attack rs)) rs → AnswersBriefly (answers_of (answering_node attack rs)) (map (λ r. r.at) rs)
+answers-briefly : (attack : Point) (rs : List Reply) → AnsweredAsGiven (answers_of (answering_node attack rs)) rs
+    → AnswersBriefly (answers_of (answering_node attack rs)) (map (λ r. r.at) rs)
 answers-briefly attack [] h = (refl, refl)
 answers-briefly attack (r ∷ rs) h =
     let a : Answers = answers_of (answering_node attack (r ∷ rs)) in
     let o : Option ℕ = commonest_next (r ∷ rs) in
     record {
       rest_is_commonest = rest_node-of o ∙ ap commonest (sym (answers_to-given a (r ∷ rs) h));
-      others_are_listed = others-given a o (r ∷ rs) h ∙ ap (λ (p : Option ℕ). filter (λ q. not (option_eq nat_eq (answer a q) p)) (map (λ r. r.at) (r ∷ rs))) (sym (rest_node-of o));
+      others_are_listed = others-given a o (r ∷ rs) h ∙ ap
+          (λ (p : Option ℕ). filter (λ q. not (option_eq nat_eq (answer a q) p)) (map (λ r. r.at) (r ∷ rs))) (sym (rest_node-of o));
     }
 
-stands-all : (t u : List Node) (a : Answers) (rs : List Reply) (bs : Branches) → ((j : ℕ) (s : Tree) → StandsFor t j s → StandsFor u j s) → AnsweredAsGiven a rs → AnswersBranches t rs bs → StandsForAll u a bs
+stands-all : (t u : List Node) (a : Answers) (rs : List Reply) (bs : Branches) → ((j : ℕ) (s : Tree) → StandsFor t j s → StandsFor u j s)
+    → AnsweredAsGiven a rs → AnswersBranches t rs bs → StandsForAll u a bs
 unfolding StandsForAll
 stands-all t u a [] NoBranch keep g h = tt
 stands-all t u a [] (Branch q s bs) keep g h = absurd h
@@ -175,23 +199,29 @@ stands-all t u a (r ∷ rs) (Branch q s bs) keep g h =
     (subst (λ (o : Option ℕ). Answered o (λ j. StandsFor u j s)) (sym given) (keep r.next s h.1), stands-all t u a rs bs keep g.1 h.2)
 
 -- where each given node stands for the tree of a branch, the node put in stands for the tree with this attack and these branches
-pub stands-answering : (old new : List Node) (i : ℕ) (attack : Point) (rs : List Reply) → is_rising rs ≡ true → PutsIn old (answering_node attack rs) new → slice_get new i ≡ Some (answering_node attack rs) → (bs : Branches) → AnswersBranches old rs bs → StandsFor new i (Fork attack bs)
+pub stands-answering : (old new : List Node) (i : ℕ) (attack : Point) (rs : List Reply) → is_rising rs ≡ true
+    → PutsIn old (answering_node attack rs) new → slice_get new i ≡ Some (answering_node attack rs) → (bs : Branches)
+    → AnswersBranches old rs bs → StandsFor new i (Fork attack bs)
 unfolding StandsFor
 stands-answering old new i attack rs h put at bs given =
     let given_as : AnsweredAsGiven (answers_of (answering_node attack rs)) rs = brief-as_given rs h in
     let P : Node → Type 0 = λ n. (n.attack ≡ attack) × AnswersBriefly (answers_of n) (replies_of bs) × StandsForAll new (answers_of n) bs in
     subst (λ (o : Option Node). AtNode o P) (sym at) (
       refl,
-      subst (AnswersBriefly (answers_of (answering_node attack rs))) (replies-branches old rs bs given) (answers-briefly attack rs given_as),
-      stands-all old new (answers_of (answering_node attack rs)) rs bs (λ j s k. stands-put_in old (answering_node attack rs) new put j s k) given_as given,
+      subst (AnswersBriefly (answers_of (answering_node attack rs))) (replies-branches old rs bs given)
+          (answers-briefly attack rs given_as),
+      stands-all old new (answers_of (answering_node attack rs)) rs bs (λ j s k. stands-put_in old (answering_node attack rs) new put j s k)
+          given_as given,
     )
 
 pub stands-winning : (t : List Node) (i : ℕ) (attack : Point) → slice_get t i ≡ Some (winning_node attack) → StandsFor t i (Leaf attack)
 unfolding StandsFor
-stands-winning t i attack at = subst (λ (o : Option Node). AtNode o (λ n. (n.attack ≡ attack) × (is_winning n.rest ≡ true))) (sym at) (refl, refl)
+stands-winning t i attack at = subst (λ (o : Option Node). AtNode o (λ n. (n.attack ≡ attack) × (is_winning n.rest ≡ true))) (sym at)
+    (refl, refl)
 
 pub points-kept : (rs : List Reply) → All (λ r. Contains (map (λ s. s.at) rs) r.at) (brief_answers rs).replies
-points-kept rs = All-filter (λ r. not (option_eq nat_eq (Some r.next) (commonest_next rs))) (λ r. Contains (map (λ r. r.at) rs) r.at) rs (point-given rs)
+points-kept rs = All-filter (λ r. not (option_eq nat_eq (Some r.next) (commonest_next rs))) (λ r. Contains (map (λ r. r.at) rs) r.at) rs
+    (point-given rs)
 
 names-only : (attack : Point) (rs : List Reply) → NamesOnly attack (map (λ r. r.at) rs) (answering_node attack rs)
 names-only attack rs = record {
@@ -206,24 +236,32 @@ IfOk-both (Ok x) P Q W f h k = f x h k
 IfOk-both (Err e) P Q W f h k = h
 
 module _ {E : Type 0} (old new : List Node) (r : Result ℕ E) (attack : Point) where
-  pub answered-stands : (rs : List Reply) (n : Node) → n ≡ answering_node attack rs → is_rising rs ≡ true → IfOk r (λ i. slice_get new i ≡ Some n) → OnOk r (PutsIn old n new) → IfOk r (λ i. (bs : Branches) → AnswersBranches old rs bs → StandsFor new i (Fork attack bs))
+  pub answered-stands : (rs : List Reply) (n : Node) → n ≡ answering_node attack rs → is_rising rs ≡ true
+      → IfOk r (λ i. slice_get new i ≡ Some n) → OnOk r (PutsIn old n new)
+      → IfOk r (λ i. (bs : Branches) → AnswersBranches old rs bs → StandsFor new i (Fork attack bs))
   answered-stands rs n e rising =
-      IfOk-both r (λ i. slice_get new i ≡ Some n) (λ i. (bs : Branches) → AnswersBranches old rs bs → StandsFor new i (Fork attack bs)) (PutsIn old n new)
+      IfOk-both r (λ i. slice_get new i ≡ Some n) (λ i. (bs : Branches) → AnswersBranches old rs bs → StandsFor new i (Fork attack bs))
+      (PutsIn old n new)
       (λ i at put. stands-answering old new i attack rs rising (subst (λ (m : Node). PutsIn old m new) e put) (at ∙ ap Some e))
 
-  pub answered-answers : (rs : List Reply) (n : Node) → n ≡ answering_node attack rs → is_rising rs ≡ true → IfOk r (λ i. slice_get new i ≡ Some n) → IfOk r (λ i. All (λ r. answer_at new i r.at ≡ Some r.next) rs)
+  pub answered-answers : (rs : List Reply) (n : Node) → n ≡ answering_node attack rs → is_rising rs ≡ true
+      → IfOk r (λ i. slice_get new i ≡ Some n) → IfOk r (λ i. All (λ r. answer_at new i r.at ≡ Some r.next) rs)
   answered-answers rs n e rising =
       IfOk-weaker r (λ i. slice_get new i ≡ Some n) (λ i. All (λ r. answer_at new i r.at ≡ Some r.next) rs)
       (λ i at. answers-at new i attack rs (at ∙ ap Some e) rising)
 
-  pub answered-points : (rs : List Reply) (n : Node) → n ≡ answering_node attack rs → IfOk r (λ i. slice_get new i ≡ Some n) → IfOk r (λ i. AtNode (slice_get new i) (NamesOnly attack (map (λ r. r.at) rs)))
+  pub answered-points : (rs : List Reply) (n : Node) → n ≡ answering_node attack rs → IfOk r (λ i. slice_get new i ≡ Some n)
+      → IfOk r (λ i. AtNode (slice_get new i) (NamesOnly attack (map (λ r. r.at) rs)))
   answered-points rs n e =
       IfOk-weaker r (λ i. slice_get new i ≡ Some n) (λ i. AtNode (slice_get new i) (NamesOnly attack (map (λ r. r.at) rs)))
       (λ i at. subst (λ (o : Option Node). AtNode o (NamesOnly attack (map (λ r. r.at) rs))) (sym (at ∙ ap Some e)) (names-only attack rs))
 
-  pub answered-winning : (rs : List Reply) → rs ≡ [] → IfOk r (λ i. slice_get new i ≡ Some (record { attack = attack; replies = rs; rest = Wins })) → IfOk r (λ i. StandsFor new i (Leaf attack))
+  pub answered-winning : (rs : List Reply) → rs ≡ []
+      → IfOk r (λ i. slice_get new i ≡ Some (record { attack = attack; replies = rs; rest = Wins }))
+      → IfOk r (λ i. StandsFor new i (Leaf attack))
   answered-winning rs e =
-      IfOk-weaker r (λ i. slice_get new i ≡ Some (record { attack = attack; replies = rs; rest = Wins })) (λ i. StandsFor new i (Leaf attack))
+      IfOk-weaker r (λ i. slice_get new i ≡ Some (record { attack = attack; replies = rs; rest = Wins }))
+      (λ i. StandsFor new i (Leaf attack))
       (λ i at. stands-winning new i attack (at ∙ λ k. Some (record { attack = attack; replies = e k; rest = Wins })))
 
 -- how many of the answers are the node j
@@ -249,14 +287,16 @@ IsCommonestSoFar answers seen best most = IsBestSoFar (answers_of_node answers) 
 find-push_none : (p : ℕ → Bool) (js : List ℕ) (j : ℕ) → find p js ≡ None → find p (js ++ j ∷ []) ≡ cond (p j) (Some j) None
 find-push_none p [] j h = refl
 find-push_none p (x ∷ xs) j h = by_test (p x) h (find-push_none p xs j) where
-  by_test : (b : Bool) → cond b (Some x) (find p xs) ≡ None → (find p xs ≡ None → find p (xs ++ j ∷ []) ≡ cond (p j) (Some j) None) → cond b (Some x) (find p (xs ++ j ∷ [])) ≡ cond (p j) (Some j) None
+  by_test : (b : Bool) → cond b (Some x) (find p xs) ≡ None → (find p xs ≡ None → find p (xs ++ j ∷ []) ≡ cond (p j) (Some j) None)
+      → cond b (Some x) (find p (xs ++ j ∷ [])) ≡ cond (p j) (Some j) None
   by_test true h next = cc
   by_test false h next = next h
 
 find-push_some : (p : ℕ → Bool) (js : List ℕ) (j k : ℕ) → find p js ≡ Some k → find p (js ++ j ∷ []) ≡ Some k
 find-push_some p [] j k h = cc
 find-push_some p (x ∷ xs) j k h = by_test (p x) h (find-push_some p xs j k) where
-  by_test : (b : Bool) → cond b (Some x) (find p xs) ≡ Some k → (find p xs ≡ Some k → find p (xs ++ j ∷ []) ≡ Some k) → cond b (Some x) (find p (xs ++ j ∷ [])) ≡ Some k
+  by_test : (b : Bool) → cond b (Some x) (find p xs) ≡ Some k → (find p xs ≡ Some k → find p (xs ++ j ∷ []) ≡ Some k)
+      → cond b (Some x) (find p (xs ++ j ∷ [])) ≡ Some k
   by_test true h next = h
   by_test false h next = next h
 
@@ -284,7 +324,8 @@ module _ (f : ℕ → ℕ) (js : List ℕ) (best : Option ℕ) (most j : ℕ) (s
       let most_is : most ≡ greatest (map f js) = so_far.most_is in
       let none : first_with f (f j) js ≡ None = none_above f (f j) js (omega arith) in
       record {
-        best_is = sym (find-push_none (λ k. nat_le (f j) (f k)) js j none ∙ ap (λ (b : Bool). cond b (Some j) None) (le-leb (f j) (f j) (omega arith)));
+        best_is = sym (find-push_none (λ k. nat_le (f j) (f k)) js j none
+            ∙ ap (λ (b : Bool). cond b (Some j) None) (le-leb (f j) (f j) (omega arith)));
         most_is = let both = greatest-push f js j in omega arith;
         some = λ l. refl;
       }
@@ -307,12 +348,14 @@ module _ (f : ℕ → ℕ) (js : List ℕ) (best : Option ℕ) (most j : ℕ) (s
 found-le : (f : ℕ → ℕ) (p : ℕ → Bool) (js : List ℕ) (k : ℕ) → find p js ≡ Some k → f k ≤ greatest (map f js)
 found-le f p [] k h = cc
 found-le f p (j ∷ js) k h = by_test (p j) h (found-le f p js k) where
-  by_test : (b : Bool) → cond b (Some j) (find p js) ≡ Some k → (find p js ≡ Some k → f k ≤ greatest (map f js)) → f k ≤ max (f j) (greatest (map f js))
+  by_test : (b : Bool) → cond b (Some j) (find p js) ≡ Some k → (find p js ≡ Some k → f k ≤ greatest (map f js))
+      → f k ≤ max (f j) (greatest (map f js))
   by_test true h next = let same : f j ≡ f k = cc in omega (arith, same)
   by_test false h next = let later = next h in omega (arith, later)
 
 -- with the best itself
-pub best-again : (f : ℕ → ℕ) (js : List ℕ) (best : Option ℕ) (most j : ℕ) → IsBestSoFar f js best most → best ≡ Some j → 1 ≤ f j → IsBestSoFar f (js ++ j ∷ []) best most
+pub best-again : (f : ℕ → ℕ) (js : List ℕ) (best : Option ℕ) (most j : ℕ) → IsBestSoFar f js best most → best ≡ Some j → 1 ≤ f j
+    → IsBestSoFar f (js ++ j ∷ []) best most
 best-again f js best most j so_far e l =
     let most_is : most ≡ greatest (map f js) = so_far.most_is in
     let low = found-le f (λ k. nat_le most (f k)) js j (sym so_far.best_is ∙ e) in
@@ -326,7 +369,8 @@ le_greatest f m (j ∷ js) = ap (λ (b : Bool). nat_le (f j) m && b) (le_greates
   both : (a b m : ℕ) → (nat_le a m && nat_le b m) ≡ nat_le (max a b) m
   both a b m = grind (arith, nat_tests)
 
-best-all : (f : ℕ → ℕ) (js : List ℕ) (best : Option ℕ) (most : ℕ) → IsBestSoFar f js best most → best ≡ find (λ j. list_all (λ k. nat_le (f k) (f j)) js) js
+best-all : (f : ℕ → ℕ) (js : List ℕ) (best : Option ℕ) (most : ℕ) → IsBestSoFar f js best most
+    → best ≡ find (λ j. list_all (λ k. nat_le (f k) (f j)) js) js
 best-all f js best most h =
     h.best_is ∙ ap (λ (m : ℕ). first_with f m js) h.most_is
     ∙ ap (λ (p : ℕ → Bool). find p js) (λ i j. sym (le_greatest f (f j) js) i)
@@ -338,45 +382,58 @@ times-map answers j = sum_by-map_of (λ k. cond (k == j) 1 0) answers where
   sum_by-map_of : (g : ℕ → ℕ) (rs : List Reply) → sum_by (λ r. g r.next) rs ≡ sum_by g (map (λ r. r.next) rs)
   sum_by-map_of g [] = refl
   sum_by-map_of g (r ∷ rs) =
-      sum_by-cons (λ r. g r.next) r rs ∙ ap (λ (n : ℕ). g r.next + n) (sum_by-map_of g rs) ∙ sym (sum_by-cons g r.next (map (λ r. r.next) rs))
+      sum_by-cons (λ r. g r.next) r rs ∙ ap (λ (n : ℕ). g r.next + n) (sum_by-map_of g rs)
+      ∙ sym (sum_by-cons g r.next (map (λ r. r.next) rs))
 
 positive : (answers : List Reply) (i : ℕ) (d : Reply) → i < length answers → 1 ≤ answers_of_node answers (get_or answers i d).next
 positive answers i d l =
     let one : ℕ = 1 in
-    let here : cond ((get_or answers i d).next == (get_or answers i d).next) one 0 ≡ one = ap (λ (b : Bool). cond b one 0) ((Decides-eqb (get_or answers i d).next (get_or answers i d).next).1 refl) in
+    let here : cond ((get_or answers i d).next == (get_or answers i d).next) one 0 ≡ one =
+    ap (λ (b : Bool). cond b one 0) ((Decides-eqb (get_or answers i d).next (get_or answers i d).next).1 refl) in
     let low = get_or-le-sum_by (λ r. cond (r.next == (get_or answers i d).next) 1 0) answers i d l in
     omega (arith, here, low)
 
-module _ (answers : List Reply) (i : ℕ) (d : Reply) (best : Option ℕ) (most count : ℕ) (so_far : IsCommonestSoFar answers (take i answers) best most) (l : i < length answers) (is : count ≡ answers_of_node answers (get_or answers i d).next) where
+module _ (answers : List Reply) (i : ℕ) (d : Reply) (best : Option ℕ) (most count : ℕ)
+    (so_far : IsCommonestSoFar answers (take i answers) best most) (l : i < length answers)
+    (is : count ≡ answers_of_node answers (get_or answers i d).next) where
   one_more : map (λ r. r.next) (take (i + 1) answers) ≡ map (λ r. r.next) (take i answers) ++ (get_or answers i d).next ∷ []
   one_more = map_more (λ (r : Reply). r.next) answers i d l
 
-  pub commonest-greater : (best' : Option ℕ) (most' : ℕ) → best' ≡ Some (get_or answers i d).next → most' ≡ count → most < count → IsCommonestSoFar answers (take (i + 1) answers) best' most'
+  pub commonest-greater : (best' : Option ℕ) (most' : ℕ) → best' ≡ Some (get_or answers i d).next → most' ≡ count → most < count
+      → IsCommonestSoFar answers (take (i + 1) answers) best' most'
   commonest-greater best' most' b m h =
       subst (λ (js : List ℕ). IsBestSoFar (answers_of_node answers) js best' most') (sym one_more)
-      (rw (b, m ∙ is) (best-greater (answers_of_node answers) (map (λ r. r.next) (take i answers)) best most (get_or answers i d).next so_far (omega arith)))
+      (rw (b, m ∙ is) (best-greater (answers_of_node answers) (map (λ r. r.next) (take i answers)) best most (get_or answers i d).next
+      so_far (omega arith)))
 
-  pub commonest-kept : (best' : Option ℕ) (most' : ℕ) → best' ≡ best → most' ≡ most → count ≤ most → IsCommonestSoFar answers (take (i + 1) answers) best' most'
+  pub commonest-kept : (best' : Option ℕ) (most' : ℕ) → best' ≡ best → most' ≡ most → count ≤ most
+      → IsCommonestSoFar answers (take (i + 1) answers) best' most'
   commonest-kept best' most' b m h =
       let low = positive answers i d l in
       subst (λ (js : List ℕ). IsBestSoFar (answers_of_node answers) js best' most') (sym one_more)
-      (rw (b, m) (best-kept (answers_of_node answers) (map (λ r. r.next) (take i answers)) best most (get_or answers i d).next so_far (omega arith) low))
+      (rw (b, m) (best-kept (answers_of_node answers) (map (λ r. r.next) (take i answers)) best most (get_or answers i d).next so_far
+      (omega arith) low))
 
 pub equal_best : (o : Option ℕ) (j : ℕ) → option_eq nat_eq o (Some j) ≡ true → o ≡ Some j
 equal_best None j h = cc
 equal_best (Some i) j h = ap Some ((Decides-eqb i j).0 h)
 
 -- an answer that is the best already
-pub commonest-again : (answers : List Reply) (i : ℕ) (d : Reply) (best : Option ℕ) (most : ℕ) → IsCommonestSoFar answers (take i answers) best most → i < length answers → best ≡ Some (get_or answers i d).next → IsCommonestSoFar answers (take (i + 1) answers) best most
+pub commonest-again : (answers : List Reply) (i : ℕ) (d : Reply) (best : Option ℕ) (most : ℕ)
+    → IsCommonestSoFar answers (take i answers) best most → i < length answers → best ≡ Some (get_or answers i d).next
+    → IsCommonestSoFar answers (take (i + 1) answers) best most
 commonest-again answers i d best most so_far l e =
     subst (λ (js : List ℕ). IsBestSoFar (answers_of_node answers) js best most) (sym (map_more (λ (r : Reply). r.next) answers i d l))
-    (best-again (answers_of_node answers) (map (λ r. r.next) (take i answers)) best most (get_or answers i d).next so_far e (positive answers i d l))
+    (best-again (answers_of_node answers) (map (λ r. r.next) (take i answers)) best most (get_or answers i d).next so_far e
+    (positive answers i d l))
 
 -- once all were seen, it is the commonest of all
-pub commonest-all : (answers : List Reply) (i : ℕ) (best : Option ℕ) (most : ℕ) → length answers ≤ i → IsCommonestSoFar answers (take i answers) best most → best ≡ commonest_next answers
+pub commonest-all : (answers : List Reply) (i : ℕ) (best : Option ℕ) (most : ℕ) → length answers ≤ i
+    → IsCommonestSoFar answers (take i answers) best most → best ≡ commonest_next answers
 commonest-all answers i best most l h =
     let nexts : List ℕ = map (λ r. r.next) answers in
-    let all : IsBestSoFar (answers_of_node answers) nexts best most = subst (λ (rs : List Reply). IsCommonestSoFar answers rs best most) (take_all i answers l) h in
+    let all : IsBestSoFar (answers_of_node answers) nexts best most =
+    subst (λ (rs : List Reply). IsCommonestSoFar answers rs best most) (take_all i answers l) h in
     best-all (answers_of_node answers) nexts best most all
     ∙ ap (λ (f : ℕ → ℕ). find (λ j. list_all (λ k. nat_le (f k) (f j)) nexts) nexts) (λ p j. times-map answers j p)
 
@@ -385,7 +442,8 @@ commonest-all answers i best most l h =
 some-greatest : (f : ℕ → ℕ) (m : ℕ) (js : List ℕ) → 1 ≤ m → m ≤ greatest (map f js) → find (λ j. nat_le m (f j)) js ≡ None → ⊥
 some-greatest f m [] l h e = absurd (omega arith)
 some-greatest f m (j ∷ js) l h e = by_test (nat_le m (f j)) refl e (some-greatest f m js l) where
-  by_test : (b : Bool) → nat_le m (f j) ≡ b → cond b (Some j) (find (λ j. nat_le m (f j)) js) ≡ None → (m ≤ greatest (map f js) → find (λ j. nat_le m (f j)) js ≡ None → ⊥) → ⊥
+  by_test : (b : Bool) → nat_le m (f j) ≡ b → cond b (Some j) (find (λ j. nat_le m (f j)) js) ≡ None
+      → (m ≤ greatest (map f js) → find (λ j. nat_le m (f j)) js ≡ None → ⊥) → ⊥
   by_test true k e next = cc
   by_test false k e next = let low : f j < m = leb-false _ _ k in next (omega (arith, h, low)) e
 

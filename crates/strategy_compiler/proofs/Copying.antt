@@ -1,6 +1,7 @@
 -- A table that holds nodes of another under other numbers, no two under one: its copies stand for the same trees, are
 -- completed in the same order, reach the same nodes, and are different where the nodes are.
-use Rattle.std.proofs.Common.{◌≡◌, ℕ, zero, suc, ◌+◌, Bool, true, false, cond, not, ◌&&◌, ◌||◌, ◌==◌, List, [], ◌∷◌, ◌++◌, map, filter, refl, sym, ap, subst, ◌∙◌, arith, Option, Some, None, nat_le, nat_eq, slice_get, fold, Contains}
+use Rattle.std.proofs.Common.{◌≡◌, ℕ, zero, suc, ◌+◌, Bool, true, false, cond, not, ◌&&◌, ◌||◌, ◌==◌, List, [], ◌∷◌, ◌++◌, map, filter}
+use Rattle.std.proofs.Common.{refl, sym, ap, subst, ◌∙◌, arith, Option, Some, None, nat_le, nat_eq, slice_get, fold, Contains}
 use Rattle.std.specs.List.{list_all, find, cons_option}
 use Rattle.std.specs.Option.{option_map, option_map_or, option_eq}
 use Rattle.std.proofs.lemmas.Option.{same_Some}
@@ -13,11 +14,14 @@ use Rattle.strategy_graph.specs.declared.Node.{Node}
 use Rattle.strategy_graph.specs.declared.Reply.{Reply}
 use Rattle.strategy_graph.specs.declared.Rest.{Rest}
 use Rattle.strategy_graph.specs.declared.Rest.TheVariants.{To}
-use Rattle.strategy_graph.proofs.Common.{Answers, answers_of, answer, named, rest_node, rest_nodes, is_winning, Answered, AtNode, renumbered_node, renumbered_reply, renumbered_rest, renumbered_answers}
+use Rattle.strategy_graph.proofs.Common.{Answers, answers_of, answer, named, rest_node, rest_nodes, is_winning, Answered, AtNode}
+use Rattle.strategy_graph.proofs.Common.{renumbered_node, renumbered_reply, renumbered_rest, renumbered_answers}
 use Rattle.strategy_graph.proofs.Answering.{answer-named}
 use Rattle.strategy_graph.proofs.Copies.{Copies, answer-renumbered, is_winning-renumbered, named-renumbered}
 use Rattle.strategy_graph.proofs.Renumbering.{points-renumbered, IsOneToOne, rest_node-renumbered, rest_nodes-renumbered, nexts-renumbered}
-use Rattle.strategy_compiler.proofs.Common.{Tree, Branches, Leaf, Fork, NoBranch, Branch, StandsFor, StandsForAll, AnswersBriefly, replies_of, answers_to, commonest, times, Reaches, Itself, Through, visits, visits_at, is_in_list, completed_within}
+use Rattle.strategy_compiler.proofs.Common.{Tree, Branches, Leaf, Fork, NoBranch, Branch, StandsFor, StandsForAll, AnswersBriefly}
+use Rattle.strategy_compiler.proofs.Common.{replies_of, answers_to, commonest, times, Reaches, Itself, Through, visits, visits_at}
+use Rattle.strategy_compiler.proofs.Common.{is_in_list, completed_within}
 use Rattle.strategy_compiler.proofs.Walking.{contains-map}
 
 module _ (f : ℕ → ℕ) (passes : ℕ → Bool) (one : IsOneToOne f passes) where
@@ -43,12 +47,16 @@ module _ (f : ℕ → ℕ) (passes : ℕ → Bool) (one : IsOneToOne f passes) w
   tops-map j js (k ∷ ks) p h =
       λ i. nat_le (times-map k js (and_left (passes k) _ h) i) (times-map j js p i) && tops-map j js ks p (and_right (passes k) _ h) i
 
-  find-map : (js ks : List ℕ) → list_all passes js ≡ true → list_all passes ks ≡ true → find (λ j. tops j (map f js) (map f js)) (map f ks) ≡ option_map f (find (λ j. tops j js js) ks)
+  find-map : (js ks : List ℕ) → list_all passes js ≡ true → list_all passes ks ≡ true
+      → find (λ j. tops j (map f js) (map f js)) (map f ks) ≡ option_map f (find (λ j. tops j js js) ks)
   find-map js [] h l = refl
   find-map js (k ∷ ks) h l =
-      ap (λ (b : Bool). cond b (Some (f k)) (find (λ j. tops j (map f js) (map f js)) (map f ks))) (tops-map k js js (and_left (passes k) _ l) h)
+      ap (λ (b : Bool). cond b (Some (f k)) (find (λ j. tops j (map f js) (map f js)) (map f ks)))
+      (tops-map k js js (and_left (passes k) _ l) h)
       ∙ by_test (tops k js js) (find-map js ks h (and_right (passes k) _ l)) where
-        by_test : (b : Bool) → find (λ j. tops j (map f js) (map f js)) (map f ks) ≡ option_map f (find (λ j. tops j js js) ks) → cond b (Some (f k)) (find (λ j. tops j (map f js) (map f js)) (map f ks)) ≡ option_map f (cond b (Some k) (find (λ j. tops j js js) ks))
+        by_test : (b : Bool) → find (λ j. tops j (map f js) (map f js)) (map f ks) ≡ option_map f (find (λ j. tops j js js) ks)
+            → cond b (Some (f k)) (find (λ j. tops j (map f js) (map f js)) (map f ks)) ≡ option_map f
+            (cond b (Some k) (find (λ j. tops j js js) ks))
         by_test true e = refl
         by_test false e = e
 
@@ -71,24 +79,29 @@ module _ (f : ℕ → ℕ) (passes : ℕ → Bool) (one : IsOneToOne f passes) w
     answers_to-pass : (qs : List Point) → list_all passes (answers_to a qs) ≡ true
     answers_to-pass [] = refl
     answers_to-pass (q ∷ qs) = by_answer (answer a q) (λ j e. answer-named passes a q j all e) (answers_to-pass qs) where
-      by_answer : (o : Option ℕ) → ((j : ℕ) → o ≡ Some j → passes j ≡ true) → list_all passes (answers_to a qs) ≡ true → list_all passes (cons_option o (answers_to a qs)) ≡ true
+      by_answer : (o : Option ℕ) → ((j : ℕ) → o ≡ Some j → passes j ≡ true) → list_all passes (answers_to a qs) ≡ true
+          → list_all passes (cons_option o (answers_to a qs)) ≡ true
       by_answer None g h = h
       by_answer (Some j) g h = rw (g j refl) h
 
     rest-passes : (j : ℕ) → rest_node a.rest ≡ Some j → passes j ≡ true
-    rest-passes j e = by_rest a.rest (and_right (list_all passes (map (λ (r : Reply). r.next) a.replies)) _ (sym (list_all-append passes (map (λ (r : Reply). r.next) a.replies) (rest_nodes a.rest)) ∙ all)) e where
-      by_rest : (r : Rest) → list_all passes (rest_nodes r) ≡ true → rest_node r ≡ Some j → passes j ≡ true
-      by_rest (To k) h e = let same : k ≡ j = cc in subst (λ (i : ℕ). passes i ≡ true) same (and_left (passes k) true h)
-      by_rest _ h e = cc
+    rest-passes j e = by_rest a.rest
+        (and_right (list_all passes (map (λ (r : Reply). r.next) a.replies)) _
+        (sym (list_all-append passes (map (λ (r : Reply). r.next) a.replies) (rest_nodes a.rest)) ∙ all)) e where
+          by_rest : (r : Rest) → list_all passes (rest_nodes r) ≡ true → rest_node r ≡ Some j → passes j ≡ true
+          by_rest (To k) h e = let same : k ≡ j = cc in subst (λ (i : ℕ). passes i ≡ true) same (and_left (passes k) true h)
+          by_rest _ h e = cc
 
     -- whether an answer is that of the rest
-    same-renumbered : (o r : Option ℕ) → ((j : ℕ) → r ≡ Some j → passes j ≡ true) → option_eq nat_eq (option_map f o) (option_map f r) ≡ option_eq nat_eq o r
+    same-renumbered : (o r : Option ℕ) → ((j : ℕ) → r ≡ Some j → passes j ≡ true)
+        → option_eq nat_eq (option_map f o) (option_map f r) ≡ option_eq nat_eq o r
     same-renumbered None None g = refl
     same-renumbered None (Some j) g = refl
     same-renumbered (Some i) None g = refl
     same-renumbered (Some i) (Some j) g = one.apart i j (g j refl)
 
-    beside-renumbered : (q : Point) → not (option_eq nat_eq (answer (renumbered_answers f a) q) (rest_node (renumbered_rest f a.rest))) ≡ not (option_eq nat_eq (answer a q) (rest_node a.rest))
+    beside-renumbered : (q : Point) → not (option_eq nat_eq (answer (renumbered_answers f a) q) (rest_node (renumbered_rest f a.rest)))
+        ≡ not (option_eq nat_eq (answer a q) (rest_node a.rest))
     beside-renumbered q =
         ap (λ (o : Option ℕ). not (option_eq nat_eq o (rest_node (renumbered_rest f a.rest)))) (answer-renumbered f a q)
         ∙ ap (λ (o : Option ℕ). not (option_eq nat_eq (option_map f (answer a q)) o)) ((rest_node-renumbered f passes one) a.rest)
@@ -140,24 +153,31 @@ module _ (f : ℕ → ℕ) (passes : ℕ → Bool) (one : IsOneToOne f passes) w
         let c = copies.copied i p in
         ap (λ (o : Option Node). list_all passes (option_map_or (λ n. visits (answers_of n)) o [])) c.1 ∙ visits-pass (answers_of c.0) c.3
 
-    pub fold-copied : (g h : List ℕ → ℕ → List ℕ) → ((done : List ℕ) (j : ℕ) → passes j ≡ true → h (map f done) (f j) ≡ map f (g done j)) → (js done : List ℕ) → list_all passes js ≡ true → fold h (map f done) (map f js) ≡ map f (fold g done js)
+    pub fold-copied : (g h : List ℕ → ℕ → List ℕ) → ((done : List ℕ) (j : ℕ) → passes j ≡ true → h (map f done) (f j) ≡ map f (g done j))
+        → (js done : List ℕ) → list_all passes js ≡ true → fold h (map f done) (map f js) ≡ map f (fold g done js)
     fold-copied g h same [] done l = refl
     fold-copied g h same (j ∷ js) done l =
         ap (λ (d : List ℕ). fold h d (map f js)) (same done j (and_left (passes j) _ l))
         ∙ fold-copied g h same js (g done j) (and_right (passes j) _ l)
 
     -- the copies are completed in the same order
-    pub within-copied : (k : ℕ) (done : List ℕ) (i : ℕ) → passes i ≡ true → completed_within k u (map f done) (f i) ≡ map f (completed_within k t done i)
+    pub within-copied : (k : ℕ) (done : List ℕ) (i : ℕ) → passes i ≡ true
+        → completed_within k u (map f done) (f i) ≡ map f (completed_within k t done i)
     unfolding completed_within
     within-copied zero done i p = refl
     within-copied (suc k) done i p =
-        ap (λ (b : Bool). cond b (map f done) (fold (completed_within k u) (map f done) (visits_at u (f i)) ++ f i ∷ [])) (among-map i done p)
-        ∙ ap (λ (js : List ℕ). cond (is_in_list i done) (map f done) (fold (completed_within k u) (map f done) js ++ f i ∷ [])) (visits_at-copied i p)
+        ap (λ (b : Bool). cond b (map f done) (fold (completed_within k u) (map f done) (visits_at u (f i)) ++ f i ∷ []))
+        (among-map i done p)
+        ∙ ap (λ (js : List ℕ). cond (is_in_list i done) (map f done) (fold (completed_within k u) (map f done) js ++ f i ∷ []))
+        (visits_at-copied i p)
         ∙ ap (λ (ds : List ℕ). cond (is_in_list i done) (map f done) (ds ++ f i ∷ []))
-        (fold-copied (completed_within k t) (completed_within k u) (λ d j q. within-copied k d j q) (visits_at t i) done (visits_at-pass i p))
-        ∙ ap (λ (ds : List ℕ). cond (is_in_list i done) (map f done) ds) (sym (map-append f (fold (completed_within k t) done (visits_at t i)) (i ∷ [])))
+        (fold-copied (completed_within k t) (completed_within k u) (λ d j q. within-copied k d j q) (visits_at t i) done
+        (visits_at-pass i p))
+        ∙ ap (λ (ds : List ℕ). cond (is_in_list i done) (map f done) ds)
+        (sym (map-append f (fold (completed_within k t) done (visits_at t i)) (i ∷ [])))
         ∙ by_test (is_in_list i done) where
-          by_test : (b : Bool) → cond b (map f done) (map f (fold (completed_within k t) done (visits_at t i) ++ i ∷ [])) ≡ map f (cond b done (fold (completed_within k t) done (visits_at t i) ++ i ∷ []))
+          by_test : (b : Bool) → cond b (map f done) (map f (fold (completed_within k t) done (visits_at t i) ++ i ∷ [])) ≡ map f
+              (cond b done (fold (completed_within k t) done (visits_at t i) ++ i ∷ []))
           by_test true = refl
           by_test false = refl
 
@@ -167,18 +187,22 @@ module _ (f : ℕ → ℕ) (passes : ℕ → Bool) (one : IsOneToOne f passes) w
     reaches-copied _ _ p (Through i j k n at c r) =
         let copy = copies.copied i p in
         let same : copy.0 ≡ n = same_Some copy.0 n (sym copy.1 ∙ at) in
-        let all : list_all passes (named (answers_of n)) ≡ true = subst (λ (m : Node). list_all passes (named (answers_of m)) ≡ true) same copy.3 in
+        let all : list_all passes (named (answers_of n)) ≡ true =
+        subst (λ (m : Node). list_all passes (named (answers_of m)) ≡ true) same copy.3 in
         let there : slice_get u (f i) ≡ Some (renumbered_node f n) = copy.2 ∙ ap (λ (m : Node). Some (renumbered_node f m)) same in
         Through (f i) (f j) (f k) (renumbered_node f n) there
         (subst (λ (js : List ℕ). Contains js (f j)) (sym (named-renumbered f (answers_of n))) (contains-map f (named (answers_of n)) j c))
         (reaches-copied j k (contained-passes (named (answers_of n)) j all c) r)
 
-    at-copy : (i : ℕ) (P Q : Node → Type 0) → passes i ≡ true → ((n : Node) → list_all passes (named (answers_of n)) ≡ true → P n → Q (renumbered_node f n)) → AtNode (slice_get t i) P → AtNode (slice_get u (f i)) Q
+    at-copy : (i : ℕ) (P Q : Node → Type 0) → passes i ≡ true
+        → ((n : Node) → list_all passes (named (answers_of n)) ≡ true → P n → Q (renumbered_node f n)) → AtNode (slice_get t i) P
+        → AtNode (slice_get u (f i)) Q
     at-copy i P Q p g h =
         let c = copies.copied i p in
         subst (λ (o : Option Node). AtNode o Q) (sym c.2) (g c.0 c.3 (subst (λ (o : Option Node). AtNode o P) c.1 h))
 
-    answered-copied : (o : Option ℕ) (P Q : ℕ → Type 0) → ((j : ℕ) → o ≡ Some j → P j → Q (f j)) → Answered o P → Answered (option_map f o) Q
+    answered-copied : (o : Option ℕ) (P Q : ℕ → Type 0) → ((j : ℕ) → o ≡ Some j → P j → Q (f j)) → Answered o P
+        → Answered (option_map f o) Q
     answered-copied None P Q g h = h
     answered-copied (Some j) P Q g h = g j refl h
 
@@ -196,10 +220,12 @@ module _ (f : ℕ → ℕ) (passes : ℕ → Bool) (one : IsOneToOne f passes) w
           (λ n. (n.attack ≡ q) × AnswersBriefly (answers_of n) (replies_of bs) × StandsForAll u (answers_of n) bs) p
           (λ n all k. (k.0, brief-renumbered (answers_of n) all (replies_of bs) k.1, stands_all-copied (answers_of n) bs all k.2)) h
 
-      stands_all-copied : (a : Answers) (bs : Branches) → list_all passes (named a) ≡ true → StandsForAll t a bs → StandsForAll u (renumbered_answers f a) bs
+      stands_all-copied : (a : Answers) (bs : Branches) → list_all passes (named a) ≡ true → StandsForAll t a bs
+          → StandsForAll u (renumbered_answers f a) bs
       stands_all-copied a NoBranch all h = tt
       stands_all-copied a (Branch q s bs) all h = (
         subst (λ (o : Option ℕ). Answered o (λ j. StandsFor u j s)) (sym (answer-renumbered f a q))
-            (answered-copied (answer a q) (λ j. StandsFor t j s) (λ j. StandsFor u j s) (λ j e k. stands-copied j s (answer-named passes a q j all e) k) h.0),
+            (answered-copied (answer a q) (λ j. StandsFor t j s) (λ j. StandsFor u j s)
+            (λ j e k. stands-copied j s (answer-named passes a q j all e) k) h.0),
         stands_all-copied a bs all h.1,
       )

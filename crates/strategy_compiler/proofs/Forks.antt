@@ -1,5 +1,7 @@
 -- A node whose attack wins at once is a win, and so is one whose attack goes on and whose answers win after it.
-use Rattle.std.proofs.Common.{◌≡◌, ◌⊎◌, inl, inr, ℕ, suc, ◌+◌, ◌≤◌, ◌<◌, Bool, true, false, cond, not, ◌||◌, refl, sym, ap, subst, ◌∙◌, arith, List, [], ◌∷◌, ◌++◌, map, length, filter, nat_eq, Option, Some, None, IsSome, Result, Ok, Err, IfOk, OnOk, All, Contains, slice_get, nat_lt}
+use Rattle.std.proofs.Common.{◌≡◌, ◌⊎◌, inl, inr, ℕ, suc, ◌+◌, ◌≤◌, ◌<◌, Bool, true, false, cond, not, ◌||◌, refl, sym, ap, subst, ◌∙◌}
+use Rattle.std.proofs.Common.{arith, List, [], ◌∷◌, ◌++◌, map, length, filter, nat_eq, Option, Some, None, IsSome, Result, Ok, Err, IfOk}
+use Rattle.std.proofs.Common.{OnOk, All, Contains, slice_get, nat_lt}
 use Rattle.std.specs.List.{list_any, list_all, find, cons_option, filter_map, AllByRecursion}
 use Rattle.std.specs.Option.{option_map, option_or, option_eq}
 use Rattle.std.proofs.lemmas.Bool.{or_right}
@@ -18,14 +20,18 @@ use Rattle.strategy_graph.specs.declared.Node.{Node}
 use Rattle.strategy_graph.specs.declared.Reply.{Reply}
 use Rattle.strategy_graph.specs.declared.Rest.{Rest}
 use Rattle.strategy_graph.specs.declared.Rest.TheVariants.{To}
-use Rattle.strategy_graph.proofs.Common.{Answers, answer, rest_node, rest_nodes, answers_of, named, names_below, listed_node, is_rising, NamesLower, NamesOnBoard, depth, node_depth, start_depth, greatest, Answered, Accepted, AcceptedStart}
+use Rattle.strategy_graph.proofs.Common.{Answers, answer, rest_node, rest_nodes, answers_of, named, names_below, listed_node, is_rising}
+use Rattle.strategy_graph.proofs.Common.{NamesLower, NamesOnBoard, depth, node_depth, start_depth, greatest, Answered, Accepted}
+use Rattle.strategy_graph.proofs.Common.{AcceptedStart}
 use Rattle.strategy_graph.proofs.Filling.{IsTable-lower, growth-same-start}
 use Rattle.strategy_graph.proofs.Fuel.{depth-step}
 use Rattle.strategy_graph.proofs.Steps.{accepted-by-win, accepted-by-replies}
 use Rattle.strategy_graph.proofs.Rising.{answered-as-listed, all-next}
 use Rattle.strategy_graph.proofs.Answering.{next-all}
 use Rattle.strategy_graph.proofs.Greatest.{greatest-all, contained}
-use Rattle.strategy_compiler.proofs.Common.{IsCompiled, PutsIn, winning_node, answering_node, answers_alone, AnswersEach, Reaches, Itself, Through, StaysOnBoard, IsWrittenWin, AnswersWin, WinsAtOnce, WinsByAnswers, IsDoubleThreat, answer_node, two_answers, double_moves, AnswersBriefly, commonest, answers_to}
+use Rattle.strategy_compiler.proofs.Common.{IsCompiled, PutsIn, winning_node, answering_node, answers_alone, AnswersEach, Reaches, Itself}
+use Rattle.strategy_compiler.proofs.Common.{Through, StaysOnBoard, IsWrittenWin, AnswersWin, WinsAtOnce, WinsByAnswers, IsDoubleThreat}
+use Rattle.strategy_compiler.proofs.Common.{answer_node, two_answers, double_moves, AnswersBriefly, commonest, answers_to}
 use Rattle.strategy_compiler.proofs.Briefs.{brief-not_winning}
 use Rattle.strategy_compiler.proofs.Starting.{brief-inside, brief-deep, brief-accepted}
 use Rattle.strategy_compiler.proofs.Growing.{stays-longer}

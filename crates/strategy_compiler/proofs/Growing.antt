@@ -1,5 +1,6 @@
 -- Wins that a search wrote: they stay, and the table of one. Nodes that are added, in steps.
-use Rattle.std.proofs.Common.{◌≡◌, ℕ, zero, suc, ◌<◌, List, [], ◌∷◌, ◌++◌, length, ap, ◌∙◌, arith, refl, subst, All, Result, Ok, Err, IfOk, ◌+◌, ◌≤◌, sym, append_assoc, length-append, Some, OnOk, slice_get}
+use Rattle.std.proofs.Common.{◌≡◌, ℕ, zero, suc, ◌<◌, List, [], ◌∷◌, ◌++◌, length, ap, ◌∙◌, arith, refl, subst, All, Result, Ok, Err, IfOk}
+use Rattle.std.proofs.Common.{◌+◌, ◌≤◌, sym, append_assoc, length-append, Some, OnOk, slice_get}
 use Rattle.game_rules.specs.declared.RuleKind.{RuleKind}
 use Rattle.game_rules.proofs.Common.{Grid, is_on, WinsWithin}
 use Rattle.strategy_graph.specs.declared.Node.{Node}
@@ -12,13 +13,15 @@ use Rattle.strategy_graph.proofs.Soundness.{accepted-wins}
 use Rattle.strategy_compiler.specs.declared.wins.WrittenWin.{WrittenWin}
 use Rattle.strategy_compiler.specs.declared.error.SearchError.{SearchError}
 use Rattle.strategy_compiler.specs.declared.error.SearchError.TheVariants.{Full, Memory}
-use Rattle.strategy_compiler.proofs.Common.{NamesPointsReached, last, StaysOnBoard, IsWrittenWin, IsWinTable, GrowthKeepsWins, IsCompiled, GrowsBy, Writes, Tree, StandsFor, GrowthKeepsTrees}
+use Rattle.strategy_compiler.proofs.Common.{NamesPointsReached, last, StaysOnBoard, IsWrittenWin, IsWinTable, GrowthKeepsWins, IsCompiled}
+use Rattle.strategy_compiler.proofs.Common.{GrowsBy, Writes, Tree, StandsFor, GrowthKeepsTrees}
 use Rattle.strategy_compiler.proofs.Standing.{reaches-shorter, reaches-inside}
 
 -- ---- a list of nodes that grows
 
 -- what a node reaches stays on the board
-pub stays-longer : (b : Grid) (t more : List Node) → NamesLower t → (i : ℕ) → i < length t → StaysOnBoard b t i → StaysOnBoard b (t ++ more) i
+pub stays-longer : (b : Grid) (t more : List Node) → NamesLower t → (i : ℕ) → i < length t → StaysOnBoard b t i
+    → StaysOnBoard b (t ++ more) i
 stays-longer b t more lower i low h k n reach at =
     let back = reaches-shorter t more lower i k low reach in
     h k n back (slice_get-shorter t more k n (reaches-inside t lower i k low back) at)
@@ -60,13 +63,15 @@ win-table t win u same points rule limit b h = record {
   on_board = table-on b t win.node h.on_board u points;
 }
 
-pub win-tables : (t : List Node) (win : WrittenWin) {E : Type 0} (r : Result (List Node) E) → IfOk r (λ u. SaysSame t win.node u (last u)) → IfOk r (λ u. All (NamesPointsReached t win.node) u)
+pub win-tables : (t : List Node) (win : WrittenWin) {E : Type 0} (r : Result (List Node) E) → IfOk r (λ u. SaysSame t win.node u (last u))
+    → IfOk r (λ u. All (NamesPointsReached t win.node) u)
     → IfOk r (λ u. (rule : RuleKind) (limit : ℕ) (b : Grid) → IsWrittenWin rule limit b t win → IsWinTable rule b win u)
 win-tables t win (Ok u) same points = win-table t win u same points
 win-tables t win (Err e) same points = tt
 
 -- a win whose moves are told as the depth of its node
-pub win-deep : (rule : RuleKind) (n : ℕ) (b : Grid) (t : List Node) (win : WrittenWin) → IsWrittenWin rule n b t win → IsWrittenWin rule n b t (record { node = win.node; moves = depth t win.node })
+pub win-deep : (rule : RuleKind) (n : ℕ) (b : Grid) (t : List Node) (win : WrittenWin) → IsWrittenWin rule n b t win
+    → IsWrittenWin rule n b t (record { node = win.node; moves = depth t win.node })
 win-deep rule n b t win h = record {
   in_compiler = h.in_compiler;
   accepted = h.accepted;
@@ -182,5 +187,6 @@ writes-then-fails {B = B} {C = C} a b c j k m x e s f g l is = writes-fails {A =
     (writes-then a b c j k m x (Err e) f g l) (omega arith) is
 
 -- a node that stood for a tree still does
-pub stands-grown : GrowthKeepsTrees → (a c : List Node) (k : ℕ) → GrowsBy a c k → (i : ℕ) (tree : Tree) → StandsFor a i tree → StandsFor c i tree
+pub stands-grown : GrowthKeepsTrees → (a c : List Node) (k : ℕ) → GrowsBy a c k → (i : ℕ) (tree : Tree) → StandsFor a i tree
+    → StandsFor c i tree
 stands-grown law a c k g i tree h = subst (λ (t : List Node). StandsFor t i tree) (sym g.is) (law a g.added i tree h)

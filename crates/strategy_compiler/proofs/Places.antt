@@ -1,6 +1,8 @@
 -- The places of numbers in an order, and nodes with these in place of the numbers. The table that is made of the nodes that some roots
 -- reach, in the order in which walks complete them.
-use Rattle.std.proofs.Common.{◌≡◌, ◌≢◌, ℕ, zero, suc, ◌+◌, ◌<◌, ◌≤◌, Bool, true, false, cond, not, ◌||◌, ◌==◌, List, [], ◌∷◌, ◌++◌, length, take, get_or, refl, sym, ap, subst, ◌∙◌, ◌⊎◌, inl, inr, arith, length-append, one-add, Some, nat_lt, slice_get, replicate, Contains, map, fold, All}
+use Rattle.std.proofs.Common.{◌≡◌, ◌≢◌, ℕ, zero, suc, ◌+◌, ◌<◌, ◌≤◌, Bool, true, false, cond, not, ◌||◌, ◌==◌, List, [], ◌∷◌, ◌++◌, length}
+use Rattle.std.proofs.Common.{take, get_or, refl, sym, ap, subst, ◌∙◌, ◌⊎◌, inl, inr, arith, length-append, one-add, Some, nat_lt}
+use Rattle.std.proofs.Common.{slice_get, replicate, Contains, map, fold, All}
 use Rattle.std.specs.List.{list_all, range_with_len}
 use Rattle.std.proofs.Math.ListN.{set, length-set}
 use Rattle.std.proofs.lemmas.List.{get_or-set_same, get_or-set_other, length-replicate, ext_get_or, get_or-map, length-map}
@@ -11,12 +13,16 @@ use Rattle.std.proofs.lemmas.List.FromFn.{length-range_with_len, get_or-range_wi
 use Rattle.strategy_graph.specs.declared.Node.{Node}
 use Rattle.strategy_graph.specs.declared.TheConstants.{MAX_NODES}
 use Rattle.strategy_graph.specs.declared.Reply.{Reply}
-use Rattle.strategy_graph.proofs.Common.{answers_of, named, names_below, IsNode, IsTable, renumbered_node, Answers, NamesLower, SaysSame, StartSaysSame, renumbered_answers}
+use Rattle.strategy_graph.proofs.Common.{answers_of, named, names_below, IsNode, IsTable, renumbered_node, Answers, NamesLower, SaysSame}
+use Rattle.strategy_graph.proofs.Common.{StartSaysSame, renumbered_answers}
 use Rattle.strategy_graph.proofs.Filling.{names_below-more, last_node, IsTable-lower, list_all-weaker}
-use Rattle.strategy_graph.proofs.Renumbering.{renumbered-agree, IsNode-renumbered, copies-same, copies-same-start, points-renumbered, IsOneToOne, nodes-renumbered}
+use Rattle.strategy_graph.proofs.Renumbering.{renumbered-agree, IsNode-renumbered, copies-same, copies-same-start, points-renumbered}
+use Rattle.strategy_graph.proofs.Renumbering.{IsOneToOne, nodes-renumbered}
 use Rattle.strategy_graph.proofs.Naming.{slice_get-longer}
 use Rattle.strategy_graph.proofs.Copies.{Copies}
-use Rattle.strategy_compiler.proofs.Common.{is_in_list, place_in, Renumbers, ArePlaces, IsOrder, Tree, StandsFor, AreDifferent, IsNumberedByWalk, IsTableOf, NamesPointsFrom, NamesPointsReached, ReachedFrom, Reaches, completed, completed_after, completed_from, last, visits_at, IsMadeFrom, IsMadeOf}
+use Rattle.strategy_compiler.proofs.Common.{is_in_list, place_in, Renumbers, ArePlaces, IsOrder, Tree, StandsFor, AreDifferent}
+use Rattle.strategy_compiler.proofs.Common.{IsNumberedByWalk, IsTableOf, NamesPointsFrom, NamesPointsReached, ReachedFrom, Reaches}
+use Rattle.strategy_compiler.proofs.Common.{completed, completed_after, completed_from, last, visits_at, IsMadeFrom, IsMadeOf}
 use Rattle.strategy_compiler.proofs.Walking.{among-at, walked-step, walks-itself, visited-above, within-enough, contains-map}
 use Rattle.strategy_compiler.proofs.Copying.{fold-copied, within-copied, reaches-copied, stands-copied}
 use Rattle.strategy_compiler.proofs.Standing.{completed-reached}
@@ -27,12 +33,14 @@ use Rattle.strategy_compiler.proofs.Standing.{completed-reached}
 pub among-place : (order : List ℕ) (i : ℕ) → is_in_list i order ≡ true → slice_get order (place_in order i) ≡ Some i
 among-place [] i h = cc
 among-place (x ∷ xs) i h = by_test (x == i) refl h (among-place xs i) where
-  by_test : (b : Bool) → (x == i) ≡ b → (b || is_in_list i xs) ≡ true → (is_in_list i xs ≡ true → slice_get xs (place_in xs i) ≡ Some i) → slice_get (x ∷ xs) (cond (not b) (1 + place_in xs i) 0) ≡ Some i
+  by_test : (b : Bool) → (x == i) ≡ b → (b || is_in_list i xs) ≡ true → (is_in_list i xs ≡ true → slice_get xs (place_in xs i) ≡ Some i)
+      → slice_get (x ∷ xs) (cond (not b) (1 + place_in xs i) 0) ≡ Some i
   by_test true e h next = ap Some ((Decides-eqb x i).0 e)
   by_test false e h next = rw one-add (next h)
 
 -- a number that comes once is at that place alone
-pub place-at : (order : List ℕ) → ((k l i : ℕ) → slice_get order k ≡ Some i → slice_get order l ≡ Some i → k ≡ l) → (k i : ℕ) → slice_get order k ≡ Some i → place_in order i ≡ k
+pub place-at : (order : List ℕ) → ((k l i : ℕ) → slice_get order k ≡ Some i → slice_get order l ≡ Some i → k ≡ l) → (k i : ℕ)
+    → slice_get order k ≡ Some i → place_in order i ≡ k
 place-at order once k i e = once (place_in order i) k i (among-place order i (among-at order k i e)) e
 
 -- what is among the first k is at a place below k
@@ -40,7 +48,9 @@ pub among-take : (order : List ℕ) (k i : ℕ) → is_in_list i (take k order) 
 among-take order zero i h = cc
 among-take [] (suc k) i h = cc
 among-take (x ∷ xs) (suc k) i h = by_test (x == i) refl h (among-take xs k i) where
-  by_test : (b : Bool) → (x == i) ≡ b → (b || is_in_list i (take k xs)) ≡ true → (is_in_list i (take k xs) ≡ true → (m : ℕ) × (m < k) × (slice_get xs m ≡ Some i)) → (m : ℕ) × (m < suc k) × (slice_get (x ∷ xs) m ≡ Some i)
+  by_test : (b : Bool) → (x == i) ≡ b → (b || is_in_list i (take k xs)) ≡ true
+      → (is_in_list i (take k xs) ≡ true → (m : ℕ) × (m < k) × (slice_get xs m ≡ Some i))
+      → (m : ℕ) × (m < suc k) × (slice_get (x ∷ xs) m ≡ Some i)
   by_test true e h next = (0, omega arith, ap Some ((Decides-eqb x i).0 e))
   by_test false e h next = let later = next h in (suc later.0, omega arith, later.2)
 
@@ -61,19 +71,28 @@ not_same k p low e = omega arith
 pub places-none : (order : List ℕ) (len : ℕ) (places : List ℕ) → places ≡ replicate len 0 → PlacesUpTo order len places 0
 places-none order len places zeros = record { sized = ap length zeros ∙ length-replicate len 0; up_to = λ k i l e. absurd (omega arith) }
 
-pub places-more : (order : List ℕ) (len : ℕ) (places : List ℕ) (p : ℕ) → ((k l i : ℕ) → slice_get order k ≡ Some i → slice_get order l ≡ Some i → k ≡ l) → p < length order → get_or order p 0 < len → PlacesUpTo order len places p → PlacesUpTo order len (set places (get_or order p 0) p) (p + 1)
-places-more order len places p once l low h = record { sized = length-set places (get_or order p 0) p ∙ h.sized; up_to = λ k i m e. elim (below_more_cases k p m) [ inl same ↦ here k i same e | inr low ↦ before k i low e ] } where
-  here : (k i : ℕ) → k ≡ p → slice_get order k ≡ Some i → get_or (set places (get_or order p 0) p) i 0 ≡ k
-  here k i same e =
-      let is : get_or order p 0 ≡ i = get_or_from_slice_get order p i 0 (subst (λ (m : ℕ). slice_get order m ≡ Some i) same e) in
-      subst (λ (j : ℕ). get_or (set places (get_or order p 0) p) j 0 ≡ k) is (get_or-set_same places (get_or order p 0) p 0 (let sized = h.sized in omega (arith, sized, low)) ∙ sym same)
+pub places-more : (order : List ℕ) (len : ℕ) (places : List ℕ) (p : ℕ)
+    → ((k l i : ℕ) → slice_get order k ≡ Some i → slice_get order l ≡ Some i → k ≡ l) → p < length order → get_or order p 0 < len
+    → PlacesUpTo order len places p → PlacesUpTo order len (set places (get_or order p 0) p) (p + 1)
+places-more order len places p once l low h =
+    record {
+      sized = length-set places (get_or order p 0) p ∙ h.sized;
+      up_to = λ k i m e. elim (below_more_cases k p m) [ inl same ↦ here k i same e | inr low ↦ before k i low e ];
+    } where
+      here : (k i : ℕ) → k ≡ p → slice_get order k ≡ Some i → get_or (set places (get_or order p 0) p) i 0 ≡ k
+      here k i same e =
+          let is : get_or order p 0 ≡ i = get_or_from_slice_get order p i 0 (subst (λ (m : ℕ). slice_get order m ≡ Some i) same e) in
+          subst (λ (j : ℕ). get_or (set places (get_or order p 0) p) j 0 ≡ k) is
+          (get_or-set_same places (get_or order p 0) p 0 (let sized = h.sized in omega (arith, sized, low)) ∙ sym same)
 
-  before : (k i : ℕ) → k < p → slice_get order k ≡ Some i → get_or (set places (get_or order p 0) p) i 0 ≡ k
-  before k i less e =
-      let other : i ≢ get_or order p 0 = λ (same : i ≡ get_or order p 0). not_same k p less (once k p i e (slice_get-get_or order p 0 l ∙ ap Some (sym same))) in
-      get_or-set_other places (get_or order p 0) i p 0 other ∙ h.up_to k i less e
+      before : (k i : ℕ) → k < p → slice_get order k ≡ Some i → get_or (set places (get_or order p 0) p) i 0 ≡ k
+      before k i less e =
+          let other : i ≢ get_or order p 0 = λ (same : i ≡ get_or order p 0). not_same k p less
+          (once k p i e (slice_get-get_or order p 0 l ∙ ap Some (sym same))) in
+          get_or-set_other places (get_or order p 0) i p 0 other ∙ h.up_to k i less e
 
-pub places-all : (order : List ℕ) (len : ℕ) (places : List ℕ) (p : ℕ) → length order ≤ p → PlacesUpTo order len places p → ArePlaces order places
+pub places-all : (order : List ℕ) (len : ℕ) (places : List ℕ) (p : ℕ) → length order ≤ p → PlacesUpTo order len places p
+    → ArePlaces order places
 places-all order len places p l h = record { placed = λ k i e. let inside = slice_get_within order k i e in h.up_to k i (omega arith) e }
 
 -- ---- nodes with places for numbers
@@ -85,12 +104,14 @@ all_by p [] f = refl
 all_by p (j ∷ js) f = rw (f j (0, omega arith, refl)) (all_by p js (λ l c. f l (suc c.0, omega arith, c.2)))
 
 -- each number that node i names is among the first k of the order, where node i is at place k
-pub named-among : (t : List Node) (order : List ℕ) (k i : ℕ) (n : Node) → IsOrder t order → slice_get order k ≡ Some i → slice_get t i ≡ Some n → list_all (λ j. is_in_list j (take k order)) (named (answers_of n)) ≡ true
+pub named-among : (t : List Node) (order : List ℕ) (k i : ℕ) (n : Node) → IsOrder t order → slice_get order k ≡ Some i
+    → slice_get t i ≡ Some n → list_all (λ j. is_in_list j (take k order)) (named (answers_of n)) ≡ true
 named-among t order k i n h e at = all_by (λ j. is_in_list j (take k order)) (named (answers_of n)) (λ j c. h.after_named k i j n e at c)
 
 pub record RenumbersUpTo (t : List Node) (order : List ℕ) (u : List Node) (p : ℕ) : Type 0 where
   pub count : length u ≡ p
-  pub each : (k i : ℕ) → k < p → slice_get order k ≡ Some i → (n : Node) × (slice_get t i ≡ Some n) × (slice_get u k ≡ Some (renumbered_node (place_in order) n))
+  pub each : (k i : ℕ) → k < p → slice_get order k ≡ Some i
+      → (n : Node) × (slice_get t i ≡ Some n) × (slice_get u k ≡ Some (renumbered_node (place_in order) n))
 
 pub from-renumbers : (t : List Node) (order : List ℕ) (u : List Node) → Renumbers t order u → RenumbersUpTo t order u (length order)
 from-renumbers t order u re = record {
@@ -118,21 +139,27 @@ module _ (t : List Node) (order : List ℕ) (table : IsTable t) (is_order : IsOr
     renumbered-node = IsNode-renumbered (place_in order) (λ j. is_in_list j (take k order)) n i k (table.nodes i n at) low-place all-among
 
     -- and it is the node with the places that are kept
-    pub renumbered-places : (f : ℕ → ℕ) → ((k i : ℕ) → slice_get order k ≡ Some i → f i ≡ k) → renumbered_node f n ≡ renumbered_node (place_in order) n
+    pub renumbered-places : (f : ℕ → ℕ) → ((k i : ℕ) → slice_get order k ≡ Some i → f i ≡ k)
+        → renumbered_node f n ≡ renumbered_node (place_in order) n
     renumbered-places f places =
         renumbered-agree f (place_in order) (λ j. is_in_list j (take k order))
         (λ j h. let m = among-take order k j h in places m.0 j m.2 ∙ sym (place-is m.0 j m.2)) n all-among
 
   -- one node more
-  pub renumbers-more : (u : List Node) (p i : ℕ) (n m : Node) (f : ℕ → ℕ) → RenumbersUpTo t order u p → slice_get order p ≡ Some i → slice_get t i ≡ Some n → ((k i : ℕ) → slice_get order k ≡ Some i → f i ≡ k) → m ≡ renumbered_node f n → RenumbersUpTo t order (u ++ m ∷ []) (p + 1)
+  pub renumbers-more : (u : List Node) (p i : ℕ) (n m : Node) (f : ℕ → ℕ) → RenumbersUpTo t order u p → slice_get order p ≡ Some i
+      → slice_get t i ≡ Some n → ((k i : ℕ) → slice_get order k ≡ Some i → f i ≡ k) → m ≡ renumbered_node f n
+      → RenumbersUpTo t order (u ++ m ∷ []) (p + 1)
   renumbers-more u p i n m f h e at places is = record {
     count = let longer = length-append u (m ∷ []) in let count = h.count in omega (arith, longer, count);
     each = λ k j l d. elim (below_more_cases k p l) [ inl same ↦ here k j same d | inr low ↦ before k j low d ];
   } where
-    before : (k j : ℕ) → k < p → slice_get order k ≡ Some j → (n : Node) × (slice_get t j ≡ Some n) × (slice_get (u ++ m ∷ []) k ≡ Some (renumbered_node (place_in order) n))
-    before k j low d = let old = h.each k j low d in (old.0, old.1, slice_get-longer u (m ∷ []) k (renumbered_node (place_in order) old.0) old.2)
+    before : (k j : ℕ) → k < p → slice_get order k ≡ Some j
+        → (n : Node) × (slice_get t j ≡ Some n) × (slice_get (u ++ m ∷ []) k ≡ Some (renumbered_node (place_in order) n))
+    before k j low d = let old = h.each k j low d in
+        (old.0, old.1, slice_get-longer u (m ∷ []) k (renumbered_node (place_in order) old.0) old.2)
 
-    here : (k j : ℕ) → k ≡ p → slice_get order k ≡ Some j → (n : Node) × (slice_get t j ≡ Some n) × (slice_get (u ++ m ∷ []) k ≡ Some (renumbered_node (place_in order) n))
+    here : (k j : ℕ) → k ≡ p → slice_get order k ≡ Some j
+        → (n : Node) × (slice_get t j ≡ Some n) × (slice_get (u ++ m ∷ []) k ≡ Some (renumbered_node (place_in order) n))
     here k j same d =
         let number : i ≡ j = same_Some i j (sym e ∙ ap (slice_get order) (sym same) ∙ d) in (
           n,
@@ -148,7 +175,8 @@ module _ (t : List Node) (order : List ℕ) (table : IsTable t) (is_order : IsOr
 
 -- ---- the same, as the loop reads it
 
-module _ (t : List Node) (order : List ℕ) (table : IsTable t) (is_order : IsOrder t order) (p : ℕ) (l : p < length order) (n : Node) (read : n ≡ get_or t (get_or order p 0) n) where
+module _ (t : List Node) (order : List ℕ) (table : IsTable t) (is_order : IsOrder t order) (p : ℕ) (l : p < length order) (n : Node)
+    (read : n ≡ get_or t (get_or order p 0) n) where
   number-here : slice_get order p ≡ Some (get_or order p 0)
   number-here = slice_get-get_or order p 0 l
 
@@ -160,11 +188,14 @@ module _ (t : List Node) (order : List ℕ) (table : IsTable t) (is_order : IsOr
       let inside = is_order.within p (get_or order p 0) number-here in
       names_below-more (answers_of n) (get_or order p 0) k (omega (arith, inside, e)) ((table.nodes (get_or order p 0) n node-at).below)
 
-  module _ (places : List ℕ) (are_places : ArePlaces order places) (m : Node) (is : m ≡ renumbered_node (λ j. get_or places j 0) n) (u : List Node) (so_far : RenumbersUpTo t order u p) where
+  module _ (places : List ℕ) (are_places : ArePlaces order places) (m : Node) (is : m ≡ renumbered_node (λ j. get_or places j 0) n)
+      (u : List Node) (so_far : RenumbersUpTo t order u p) where
     pub node-next : IsNode m (length u)
     node-next =
         subst (λ (k : ℕ). IsNode m k) (sym so_far.count)
-        (subst (λ (x : Node). IsNode x p) (sym (is ∙ renumbered-places t order table is_order p (get_or order p 0) n number-here node-at (λ j. get_or places j 0) are_places.placed))
+        (subst (λ (x : Node). IsNode x p)
+        (sym (is ∙ renumbered-places t order table is_order p (get_or order p 0) n number-here node-at (λ j. get_or places j 0)
+        are_places.placed))
         (renumbered-node t order table is_order p (get_or order p 0) n number-here node-at))
 
     pub room-next : length u < MAX_NODES
@@ -174,13 +205,15 @@ module _ (t : List Node) (order : List ℕ) (table : IsTable t) (is_order : IsOr
     pub renumbers-next : (v : List Node) → v ≡ u ++ m ∷ [] → RenumbersUpTo t order v (p + 1)
     renumbers-next v e =
         subst (λ (w : List Node). RenumbersUpTo t order w (p + 1)) (sym e)
-        (renumbers-more t order table is_order u p (get_or order p 0) n m (λ j. get_or places j 0) so_far number-here node-at are_places.placed (is))
+        (renumbers-more t order table is_order u p (get_or order p 0) n m (λ j. get_or places j 0) so_far number-here node-at
+        are_places.placed (is))
 
 -- a number that is not in the list has its length for a place
 place-absent : (order : List ℕ) (i : ℕ) → is_in_list i order ≡ false → place_in order i ≡ length order
 place-absent [] i h = refl
 place-absent (x ∷ xs) i h = by_test (x == i) h (place-absent xs i) where
-  by_test : (b : Bool) → (b || is_in_list i xs) ≡ false → (is_in_list i xs ≡ false → place_in xs i ≡ length xs) → cond (not b) (1 + place_in xs i) 0 ≡ suc (length xs)
+  by_test : (b : Bool) → (b || is_in_list i xs) ≡ false → (is_in_list i xs ≡ false → place_in xs i ≡ length xs)
+      → cond (not b) (1 + place_in xs i) 0 ≡ suc (length xs)
   by_test true e next = cc
   by_test false e next = let later = next e in omega (arith, later)
 
@@ -198,14 +231,18 @@ module _ (order : List ℕ) where
   places-apart : IsOneToOne (place_in order) (λ i. is_in_list i order)
   places-apart = record { apart = λ j i h. by_test j i h (j == i) refl } where
     by_test : (j i : ℕ) → is_in_list i order ≡ true → (b : Bool) → (j == i) ≡ b → (place_in order j == place_in order i) ≡ (j == i)
-    by_test j i h true e = let same : j ≡ i = (Decides-eqb j i).0 e in (Decides-eqb (place_in order j) (place_in order i)).1 (ap (place_in order) same) ∙ sym e
+    by_test j i h true e = let same : j ≡ i = (Decides-eqb j i).0 e in
+        (Decides-eqb (place_in order j) (place_in order i)).1 (ap (place_in order) same) ∙ sym e
     by_test j i h false e = by_place (place_in order j == place_in order i) refl where
       by_place : (b : Bool) → (place_in order j == place_in order i) ≡ b → b ≡ (j == i)
-      by_place true k = let same : j ≡ i = same_place j i h ((Decides-eqb (place_in order j) (place_in order i)).0 k) in let equal : (j == i) ≡ true = (Decides-eqb j i).1 same in sym equal
+      by_place true k = let same : j ≡ i = same_place j i h ((Decides-eqb (place_in order j) (place_in order i)).0 k) in
+          let equal : (j == i) ≡ true = (Decides-eqb j i).1 same in sym equal
       by_place false k = sym e
 
-module _ (t : List Node) (roots order : List ℕ) (u : List Node) (table : IsTable t) (different : AreDifferent t) (is_order : IsOrder t order) (walked : order ≡ completed_from t roots) (re : RenumbersUpTo t order u (length order)) where
-  each : (k i : ℕ) → slice_get order k ≡ Some i → (n : Node) × (slice_get t i ≡ Some n) × (slice_get u k ≡ Some (renumbered_node (place_in order) n))
+module _ (t : List Node) (roots order : List ℕ) (u : List Node) (table : IsTable t) (different : AreDifferent t)
+    (is_order : IsOrder t order) (walked : order ≡ completed_from t roots) (re : RenumbersUpTo t order u (length order)) where
+  each : (k i : ℕ) → slice_get order k ≡ Some i → (n : Node) × (slice_get t i ≡ Some n)
+      × (slice_get u k ≡ Some (renumbered_node (place_in order) n))
   each k i e = re.each k i (slice_get_within order k i e) e
 
   lower : NamesLower t
@@ -213,7 +250,9 @@ module _ (t : List Node) (roots order : List ℕ) (u : List Node) (table : IsTab
 
   -- ---- the copies
 
-  copied-node : (i : ℕ) → is_in_list i order ≡ true → (n : Node) × (slice_get t i ≡ Some n) × (slice_get u (place_in order i) ≡ Some (renumbered_node (place_in order) n)) × (list_all (λ i. is_in_list i order) (named (answers_of n)) ≡ true)
+  copied-node : (i : ℕ) → is_in_list i order ≡ true → (n : Node) × (slice_get t i ≡ Some n)
+      × (slice_get u (place_in order i) ≡ Some (renumbered_node (place_in order) n))
+      × (list_all (λ i. is_in_list i order) (named (answers_of n)) ≡ true)
   copied-node i p =
       let at = among-place order i p in
       let r = each (place_in order i) i at in (
@@ -234,7 +273,11 @@ module _ (t : List Node) (roots order : List ℕ) (u : List Node) (table : IsTab
   -- ---- a table
 
   pub made-table : IsTable u
-  made-table = record { nodes = node_at; size = let count = re.count in let short = is_order.short in let size = table.size in omega (arith, count, short, size) } where
+  made-table = record {
+    nodes = node_at;
+    size = let count = re.count in let short = is_order.short in let size =
+        table.size in omega (arith, count, short, size);
+  } where
     node_at : (k : ℕ) (m : Node) → slice_get u k ≡ Some m → IsNode m k
     node_at k m at =
         let e = number-at k (slice_get_within u k m at) in
@@ -259,7 +302,8 @@ module _ (t : List Node) (roots order : List ℕ) (u : List Node) (table : IsTab
         trees = λ tree h. stands-copied (place_in order) (λ i. is_in_list i order) (places-apart order) t u copies i tree among h;
       }
 
-  pub made-start : (a : Answers) → ((j : ℕ) → Contains (named a) j → Contains roots j) → StartSaysSame t a u (renumbered_answers (place_in order) a)
+  pub made-start : (a : Answers) → ((j : ℕ) → Contains (named a) j → Contains roots j)
+      → StartSaysSame t a u (renumbered_answers (place_in order) a)
   made-start a named_by = copies-same-start (place_in order) (λ i. is_in_list i order) t u copies lower (IsTable-lower u made-table) a
       (all_by (λ i. is_in_list i order) (named a) (λ j c. root-among j (named_by j c)))
 
@@ -277,17 +321,20 @@ module _ (t : List Node) (roots order : List ℕ) (u : List Node) (table : IsTab
         zero_plus : (k : ℕ) → 0 + k ≡ k
         zero_plus k = omega arith
 
-  step-copied : (done : List ℕ) (i : ℕ) → is_in_list i order ≡ true → completed_after u (map (place_in order) done) (place_in order i) ≡ map (place_in order) (completed_after t done i)
+  step-copied : (done : List ℕ) (i : ℕ) → is_in_list i order ≡ true
+      → completed_after u (map (place_in order) done) (place_in order i) ≡ map (place_in order) (completed_after t done i)
   unfolding completed_after
   step-copied done i among =
       let most : ℕ = suc (i + place_in order i) in
-      within-enough u (IsTable-lower u made-table) (suc (place_in order i)) most (place_in order i) (map (place_in order) done) (omega arith) (omega arith)
+      within-enough u (IsTable-lower u made-table) (suc (place_in order i)) most (place_in order i) (map (place_in order) done)
+      (omega arith) (omega arith)
       ∙ within-copied (place_in order) (λ i. is_in_list i order) (places-apart order) t u copies most done i among
       ∙ ap (map (place_in order)) (within-enough t lower most (suc i) i done (omega arith) (omega arith))
 
   pub made-numbered : completed_from u (map (place_in order) roots) ≡ range_with_len 0 (length u)
   made-numbered =
-      fold-copied (place_in order) (λ i. is_in_list i order) (places-apart order) t u copies (completed_after t) (completed_after u) step-copied roots [] roots-among
+      fold-copied (place_in order) (λ i. is_in_list i order) (places-apart order) t u copies (completed_after t) (completed_after u)
+      step-copied roots [] roots-among
       ∙ ap (map (place_in order)) (sym walked)
       ∙ in-order
 
@@ -305,7 +352,8 @@ module _ (t : List Node) (roots order : List ℕ) (u : List Node) (table : IsTab
         let place' : place_in order j ≡ b = place-is t order table is_order b j e' in
         let here : renumbered_node (place_in order) c.0 ≡ m = same_Some _ m (sym c.2 ∙ ap (slice_get u) place ∙ at) in
         let there : renumbered_node (place_in order) c'.0 ≡ m = same_Some _ m (sym c'.2 ∙ ap (slice_get u) place' ∙ at') in
-        let same : c.0 ≡ c'.0 = nodes-renumbered (place_in order) (λ i. is_in_list i order) (places-apart order) c.0 c'.0 c.3 c'.3 (here ∙ sym there) in
+        let same : c.0 ≡ c'.0 = nodes-renumbered (place_in order) (λ i. is_in_list i order) (places-apart order) c.0 c'.0 c.3 c'.3
+        (here ∙ sym there) in
         let number : i ≡ j = different.different i j c'.0 (c.1 ∙ ap Some same) c'.1 in
         sym place ∙ ap (place_in order) number ∙ place'
 
@@ -329,13 +377,15 @@ module _ (t : List Node) (roots order : List ℕ) (u : List Node) (table : IsTab
         let is : renumbered_node (place_in order) r.0 ≡ m = same_Some _ m (sym r.2 ∙ at) in (
           get_or order k 0,
           r.0,
-          completed-reached t roots (get_or order k 0) (ap (is_in_list (get_or order k 0)) (sym walked) ∙ among-at order k (get_or order k 0) e),
+          completed-reached t roots (get_or order k 0)
+              (ap (is_in_list (get_or order k 0)) (sym walked) ∙ among-at order k (get_or order k 0) e),
           r.1,
           sym (ap (λ (x : Node). x.attack) is),
           ap (λ (x : Node). map (λ (y : Reply). y.at) x.replies) (sym is) ∙ points-renumbered (place_in order) r.0.replies,
         )
 
-pub made-from : (t : List Node) (roots order : List ℕ) (u : List Node) → IsTable t → AreDifferent t → IsOrder t order → order ≡ completed_from t roots → Renumbers t order u → IsMadeFrom t roots (completed_from t roots) u
+pub made-from : (t : List Node) (roots order : List ℕ) (u : List Node) → IsTable t → AreDifferent t → IsOrder t order
+    → order ≡ completed_from t roots → Renumbers t order u → IsMadeFrom t roots (completed_from t roots) u
 made-from t roots order u table different is_order walked re = subst (λ (o : List ℕ). IsMadeFrom t roots o u) walked (record {
   table = made-table t roots order u table different is_order walked (from-renumbers t order u re);
   nodes = re;
@@ -353,11 +403,13 @@ made-from t roots order u table different is_order walked re = subst (λ (o : Li
 place-last : (js : List ℕ) (i : ℕ) → is_in_list i js ≡ false → place_in (js ++ i ∷ []) i ≡ length js
 place-last [] i h = ap (λ (b : Bool). cond (not b) 1 0) ((Decides-eqb i i).1 refl)
 place-last (x ∷ xs) i h = by_test (x == i) h (place-last xs i) where
-  by_test : (b : Bool) → (b || is_in_list i xs) ≡ false → (is_in_list i xs ≡ false → place_in (xs ++ i ∷ []) i ≡ length xs) → cond (not b) (1 + place_in (xs ++ i ∷ []) i) 0 ≡ suc (length xs)
+  by_test : (b : Bool) → (b || is_in_list i xs) ≡ false → (is_in_list i xs ≡ false → place_in (xs ++ i ∷ []) i ≡ length xs)
+      → cond (not b) (1 + place_in (xs ++ i ∷ []) i) 0 ≡ suc (length xs)
   by_test true e next = cc
   by_test false e next = let later = next e in omega (arith, later)
 
-module _ (t : List Node) (root : ℕ) (u : List Node) (lower : NamesLower t) (made : IsMadeFrom t (root ∷ []) (completed_from t (root ∷ [])) u) where
+module _ (t : List Node) (root : ℕ) (u : List Node) (lower : NamesLower t)
+    (made : IsMadeFrom t (root ∷ []) (completed_from t (root ∷ [])) u) where
   -- walks from one root are a walk from it
   walk-is : completed_from t (root ∷ []) ≡ completed t root
   unfolding completed_after
@@ -374,8 +426,10 @@ module _ (t : List Node) (root : ℕ) (u : List Node) (lower : NamesLower t) (ma
   root-last : place_in (completed_from t (root ∷ [])) root ≡ last u
   unfolding before-root
   root-last =
-      let place : place_in (completed_from t (root ∷ [])) root ≡ length before-root = ap (λ (js : List ℕ). place_in js root) order-is ∙ place-last before-root root (visited-above t lower root) in
-      let long : length (completed_from t (root ∷ [])) ≡ length before-root + 1 = ap length order-is ∙ length-append before-root (root ∷ []) in
+      let place : place_in (completed_from t (root ∷ [])) root ≡ length before-root =
+      ap (λ (js : List ℕ). place_in js root) order-is ∙ place-last before-root root (visited-above t lower root) in
+      let long : length (completed_from t (root ∷ [])) ≡ length before-root + 1 =
+      ap length order-is ∙ length-append before-root (root ∷ []) in
       omega (arith, place, long, made.nodes.count)
 
   root-made : IsMadeOf t root u (last u)
@@ -402,7 +456,8 @@ module _ (t : List Node) (root : ℕ) (u : List Node) (lower : NamesLower t) (ma
   one-reached k l =
       let r = made.reached k l in
       subst (λ (i : ℕ). Reaches u i k) (sym (only_place r.0 r.1) ∙ root-last) r.2 where
-        only_place : (i : ℕ) → Contains (map (place_in (completed_from t (root ∷ []))) (root ∷ [])) i → place_in (completed_from t (root ∷ [])) root ≡ i
+        only_place : (i : ℕ) → Contains (map (place_in (completed_from t (root ∷ []))) (root ∷ [])) i
+            → place_in (completed_from t (root ∷ [])) root ≡ i
         only_place i (zero, l, e) = e
         only_place i (suc k, l, e) = absurd (omega arith)
 
@@ -423,7 +478,8 @@ pub record IsFinished (t : List Node) (root : ℕ) (u : List Node) : Type 0 wher
   pub same : SaysSame t root u (last u)
   pub points : All (NamesPointsReached t root) u
 
-pub finished : (t s : List Node) (root : ℕ) (u : List Node) → s ≡ t → IsTable s → IsMadeFrom s (root ∷ []) (completed_from s (root ∷ [])) u → IsFinished t root u
+pub finished : (t s : List Node) (root : ℕ) (u : List Node) → s ≡ t → IsTable s → IsMadeFrom s (root ∷ []) (completed_from s (root ∷ [])) u
+    → IsFinished t root u
 finished t s root u e table made = subst (λ (x : List Node). IsFinished x root u) e (record {
   nodes = one-nodes s root u (IsTable-lower s table) made;
   some = one-some s root u (IsTable-lower s table) made;

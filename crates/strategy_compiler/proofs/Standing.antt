@@ -1,6 +1,7 @@
 -- What nodes reach: walks complete nothing else, and a table that grows keeps it. A node stands for the same trees in each table that
 -- begins with its table.
-use Rattle.std.proofs.Common.{◌≡◌, ◌⊎◌, inl, inr, ℕ, zero, suc, ◌<◌, Bool, true, false, cond, ◌||◌, ◌==◌, List, [], ◌∷◌, ◌++◌, length, refl, sym, subst, ◌∙◌, arith, Option, Some, None, fold, slice_get, Contains, ◌*◌, ◌≤◌}
+use Rattle.std.proofs.Common.{◌≡◌, ◌⊎◌, inl, inr, ℕ, zero, suc, ◌<◌, Bool, true, false, cond, ◌||◌, ◌==◌, List, [], ◌∷◌, ◌++◌, length, refl}
+use Rattle.std.proofs.Common.{sym, subst, ◌∙◌, arith, Option, Some, None, fold, slice_get, Contains, ◌*◌, ◌≤◌}
 use Rattle.std.specs.Option.{option_map_or, option_map}
 use Rattle.std.proofs.lemmas.Bool.Decides.{Decides-eqb}
 use Rattle.game_rules.specs.declared.Point.{Point}
@@ -13,7 +14,10 @@ use Rattle.strategy_graph.proofs.Naming.{slice_get-longer, slice_get-shorter}
 use Rattle.strategy_graph.proofs.Common.{Answers, answers_of, NamesLower, answer, depth, is_winning, IsTable, AtNode, Accepted, arrivals}
 use Rattle.strategy_graph.proofs.Answering.{Answered-map, attack_at, AtNode-parts, nothing_not_winning, winning_no_answer, not_winning_by}
 use Rattle.strategy_compiler.proofs.Walking.{among-push, visited-named, named-below, lt_trans}
-use Rattle.strategy_compiler.proofs.Common.{visits, visits_at, is_in_list, completed_within, completed_after, completed_from, Reaches, Itself, Through, ReachedFrom, GrowthKeepsReach, Tree, Branches, Leaf, Fork, NoBranch, Branch, StandsFor, StandsForAll, GrowthKeepsTrees, AnswersBriefly, replies_of, PutsIn, winning_node, IsCompiled, StaysOnBoard}
+use Rattle.strategy_compiler.proofs.Common.{visits, visits_at, is_in_list, completed_within, completed_after, completed_from, Reaches}
+use Rattle.strategy_compiler.proofs.Common.{Itself, Through, ReachedFrom, GrowthKeepsReach, Tree, Branches, Leaf, Fork, NoBranch, Branch}
+use Rattle.strategy_compiler.proofs.Common.{StandsFor, StandsForAll, GrowthKeepsTrees, AnswersBriefly, replies_of, PutsIn, winning_node}
+use Rattle.strategy_compiler.proofs.Common.{IsCompiled, StaysOnBoard}
 
 -- ---- what walks complete
 
@@ -25,7 +29,9 @@ module _ (t : List Node) where
     by_node (Some n) at c = Through i j k n at (visited-named (answers_of n) j c) r
 
   -- what a walk from each of these numbers completes was completed before, or one of them reaches it
-  fold-reached : (f : List ℕ → ℕ → List ℕ) (k : ℕ) → ((done : List ℕ) (j : ℕ) → is_in_list k (f done j) ≡ true → (is_in_list k done ≡ true) ⊎ Reaches t j k) → (js done : List ℕ) → is_in_list k (fold f done js) ≡ true → (is_in_list k done ≡ true) ⊎ ReachedFrom t js k
+  fold-reached : (f : List ℕ → ℕ → List ℕ) (k : ℕ)
+      → ((done : List ℕ) (j : ℕ) → is_in_list k (f done j) ≡ true → (is_in_list k done ≡ true) ⊎ Reaches t j k) → (js done : List ℕ)
+      → is_in_list k (fold f done js) ≡ true → (is_in_list k done ≡ true) ⊎ ReachedFrom t js k
   fold-reached f k step [] done h = inl h
   fold-reached f k step (j ∷ js) done h = elim (fold-reached f k step js (f done j) h) [
     | inl e ↦ elim (step done j e) [ inl before ↦ inl before | inr r ↦ inr (j, (0, omega arith, refl), r) ]
@@ -36,31 +42,38 @@ module _ (t : List Node) where
   either true b h = inl refl
   either false b h = inr h
 
-  within-reached : (f k : ℕ) (done : List ℕ) (i : ℕ) → is_in_list k (completed_within f t done i) ≡ true → (is_in_list k done ≡ true) ⊎ Reaches t i k
+  within-reached : (f k : ℕ) (done : List ℕ) (i : ℕ) → is_in_list k (completed_within f t done i) ≡ true
+      → (is_in_list k done ≡ true) ⊎ Reaches t i k
   unfolding completed_within
   within-reached zero k done i h = inl h
-  within-reached (suc f) k done i h = by_test (is_in_list i done) h (λ e. inner (fold-reached (completed_within f t) k (λ d j. within-reached f k d j) (visits_at t i) done e)) where
-    inner : (is_in_list k done ≡ true) ⊎ ReachedFrom t (visits_at t i) k → (is_in_list k done ≡ true) ⊎ Reaches t i k
-    inner (inl before) = inl before
-    inner (inr r) = inr (visits-through i r.0 k r.1 r.2)
+  within-reached (suc f) k done i h = by_test (is_in_list i done) h
+      (λ e. inner (fold-reached (completed_within f t) k (λ d j. within-reached f k d j) (visits_at t i) done e)) where
+        inner : (is_in_list k done ≡ true) ⊎ ReachedFrom t (visits_at t i) k → (is_in_list k done ≡ true) ⊎ Reaches t i k
+        inner (inl before) = inl before
+        inner (inr r) = inr (visits-through i r.0 k r.1 r.2)
 
-    by_test : (b : Bool) → is_in_list k (cond b done (fold (completed_within f t) done (visits_at t i) ++ i ∷ [])) ≡ true → (is_in_list k (fold (completed_within f t) done (visits_at t i)) ≡ true → (is_in_list k done ≡ true) ⊎ Reaches t i k) → (is_in_list k done ≡ true) ⊎ Reaches t i k
-    by_test true h next = inl h
-    by_test false h next =
-        elim (either (is_in_list k (fold (completed_within f t) done (visits_at t i))) (i == k) (sym (among-push k i (fold (completed_within f t) done (visits_at t i))) ∙ h)) [
-          | inl e ↦ next e
-          | inr same ↦ inr (subst (Reaches t i) ((Decides-eqb i k).0 same) (Itself i))
-        ]
+        by_test : (b : Bool) → is_in_list k (cond b done (fold (completed_within f t) done (visits_at t i) ++ i ∷ [])) ≡ true
+            → (is_in_list k (fold (completed_within f t) done (visits_at t i)) ≡ true → (is_in_list k done ≡ true) ⊎ Reaches t i k)
+            → (is_in_list k done ≡ true) ⊎ Reaches t i k
+        by_test true h next = inl h
+        by_test false h next =
+            elim (either (is_in_list k (fold (completed_within f t) done (visits_at t i))) (i == k)
+            (sym (among-push k i (fold (completed_within f t) done (visits_at t i))) ∙ h)) [
+              | inl e ↦ next e
+              | inr same ↦ inr (subst (Reaches t i) ((Decides-eqb i k).0 same) (Itself i))
+            ]
 
-  walk-reached : (k : ℕ) (done : List ℕ) (i : ℕ) → is_in_list k (completed_after t done i) ≡ true → (is_in_list k done ≡ true) ⊎ Reaches t i k
+  walk-reached : (k : ℕ) (done : List ℕ) (i : ℕ) → is_in_list k (completed_after t done i) ≡ true
+      → (is_in_list k done ≡ true) ⊎ Reaches t i k
   unfolding completed_after
   walk-reached k done i h = within-reached (suc i) k done i h
 
   -- one of the roots reaches each node that walks from them complete
   pub completed-reached : (roots : List ℕ) (k : ℕ) → is_in_list k (completed_from t roots) ≡ true → ReachedFrom t roots k
-  completed-reached roots k h = elim (fold-reached (completed_after t) k (λ d j. walk-reached k d j) roots [] h) [ inl none ↦ absurd (nothing none) | inr r ↦ r ] where
-    nothing : is_in_list k [] ≡ true → ⊥
-    nothing e = cc
+  completed-reached roots k h = elim (fold-reached (completed_after t) k (λ d j. walk-reached k d j) roots [] h)
+      [ inl none ↦ absurd (nothing none) | inr r ↦ r ] where
+        nothing : is_in_list k [] ≡ true → ⊥
+        nothing e = cc
 
 -- ---- what a node reaches, however the table grows
 
@@ -77,12 +90,14 @@ reaches-shorter t more lower _ _ l (Through i j k n at c r) =
 -- what is reached is no higher
 pub reaches-inside : (t : List Node) → NamesLower t → (i k : ℕ) → i < length t → Reaches t i k → k < length t
 reaches-inside t lower _ _ l (Itself i) = l
-reaches-inside t lower _ _ l (Through i j k n at c r) = reaches-inside t lower j k (lt_trans j i (length t) (named-below t lower i n at j c) l) r
+reaches-inside t lower _ _ l (Through i j k n at c r) =
+    reaches-inside t lower j k (lt_trans j i (length t) (named-below t lower i n at j c) l) r
 
 pub growth_keeps-reach : GrowthKeepsReach
 growth_keeps-reach t more lower i k l = (reaches-shorter t more lower i k l, reaches-longer t more i k)
 
-AtNode-from : (o p : Option Node) (P Q : Node → Type 0) → ((n : Node) → o ≡ Some n → p ≡ Some n) → ((n : Node) → P n → Q n) → AtNode o P → AtNode p Q
+AtNode-from : (o p : Option Node) (P Q : Node → Type 0) → ((n : Node) → o ≡ Some n → p ≡ Some n) → ((n : Node) → P n → Q n) → AtNode o P
+    → AtNode p Q
 AtNode-from None p P Q f g h = absurd h
 AtNode-from (Some n) p P Q f g h = subst (λ (o : Option Node). AtNode o Q) (sym (f n refl)) (g n h)
 
@@ -92,18 +107,22 @@ mutual
   stands-longer : (t more : List Node) (i : ℕ) (tree : Tree) → StandsFor t i tree → StandsFor (t ++ more) i tree
   stands-longer t more i (Leaf p) h = AtNode-from (slice_get t i) (slice_get (t ++ more) i) _ _ (slice_get-longer t more i) (λ n k. k) h
   stands-longer t more i (Fork p bs) h =
-      AtNode-from (slice_get t i) (slice_get (t ++ more) i) _ _ (slice_get-longer t more i) (λ n k. (k.0, k.1, stands_all-longer t more (answers_of n) bs k.2)) h
+      AtNode-from (slice_get t i) (slice_get (t ++ more) i) _ _ (slice_get-longer t more i)
+      (λ n k. (k.0, k.1, stands_all-longer t more (answers_of n) bs k.2)) h
 
   stands_all-longer : (t more : List Node) (a : Answers) (bs : Branches) → StandsForAll t a bs → StandsForAll (t ++ more) a bs
   stands_all-longer t more a NoBranch h = tt
-  stands_all-longer t more a (Branch q s bs) h =
-      (Answered-map (answer a q) (λ j. StandsFor t j s) (λ j. StandsFor (t ++ more) j s) (λ j e k. stands-longer t more j s k) h.0, stands_all-longer t more a bs h.1)
+  stands_all-longer t more a (Branch q s bs) h = (
+    Answered-map (answer a q) (λ j. StandsFor t j s) (λ j. StandsFor (t ++ more) j s) (λ j e k. stands-longer t more j s k) h.0,
+    stands_all-longer t more a bs h.1,
+  )
 
 pub growth_keeps-trees : GrowthKeepsTrees
 growth_keeps-trees t more i tree h = stands-longer t more i tree h
 
 -- and once a node is put in
-pub stands-put_in : (old : List Node) (n : Node) (new : List Node) → PutsIn old n new → (i : ℕ) (tree : Tree) → StandsFor old i tree → StandsFor new i tree
+pub stands-put_in : (old : List Node) (n : Node) (new : List Node) → PutsIn old n new → (i : ℕ) (tree : Tree) → StandsFor old i tree
+    → StandsFor new i tree
 stands-put_in old n new p i tree h = by_put p where
   by_put : PutsIn old n new → StandsFor new i tree
   by_put (inl k) = subst (λ (t : List Node). StandsFor t i tree) (sym k.1) h
@@ -113,15 +132,18 @@ unfoldable pub tree_attack : Tree → Point
 tree_attack (Leaf p) = p
 tree_attack (Fork p bs) = p
 
-pub tree-attack : (t : List Node) (i : ℕ) (tree : Tree) → StandsFor t i tree → option_map (λ n. n.attack) (slice_get t i) ≡ Some (tree_attack tree)
+pub tree-attack : (t : List Node) (i : ℕ) (tree : Tree) → StandsFor t i tree
+    → option_map (λ n. n.attack) (slice_get t i) ≡ Some (tree_attack tree)
 unfolding StandsFor tree_attack
 tree-attack t i (Leaf p) h = attack_at (slice_get t i) _ p (λ n k. k.0) h
 tree-attack t i (Fork p bs) h = attack_at (slice_get t i) _ p (λ n k. k.0) h
 
-pub at_fork : (t : List Node) (i : ℕ) (p : Point) (bs : Branches) → StandsFor t i (Fork p bs) → (n : Node) × (slice_get t i ≡ Some n) × StandsForAll t (answers_of n) bs
+pub at_fork : (t : List Node) (i : ℕ) (p : Point) (bs : Branches) → StandsFor t i (Fork p bs)
+    → (n : Node) × (slice_get t i ≡ Some n) × StandsForAll t (answers_of n) bs
 unfolding StandsFor
 at_fork t i p bs h = by_node (slice_get t i) _ (λ n k. k.2) h where
-  by_node : (o : Option Node) (P : Node → Type 0) → ((n : Node) → P n → StandsForAll t (answers_of n) bs) → AtNode o P → (n : Node) × (o ≡ Some n) × StandsForAll t (answers_of n) bs
+  by_node : (o : Option Node) (P : Node → Type 0) → ((n : Node) → P n → StandsForAll t (answers_of n) bs) → AtNode o P
+      → (n : Node) × (o ≡ Some n) × StandsForAll t (answers_of n) bs
   by_node None P f h = absurd h
   by_node (Some n) P f h = (n, refl, f n h)
 
@@ -133,7 +155,8 @@ pub record IsWritten (rule : RuleKind) (t : List Node) (i n : ℕ) (b : Grid) : 
   pub on_board : StaysOnBoard b t i
   pub short : arrivals rule t i b ≤ b.width * b.height * n
 
-pub winning-is : (t : List Node) (i : ℕ) (n : Node) (x : Point) → IsTable t → slice_get t i ≡ Some n → n.attack ≡ x → is_winning n.rest ≡ true
+pub winning-is : (t : List Node) (i : ℕ) (n : Node) (x : Point) → IsTable t → slice_get t i ≡ Some n → n.attack ≡ x
+    → is_winning n.rest ≡ true
     → n ≡ winning_node x
 winning-is t i n x table at plays win =
     let none = (table.nodes i n at).winning win in
@@ -143,19 +166,25 @@ winning-is t i n x table at plays win =
       by_rest Wins h = refl
       by_rest _ h = cc
 
-pub leaf_node : (t : List Node) (i : ℕ) (x : Point) → StandsFor t i (Leaf x) → (n : Node) × (slice_get t i ≡ Some n) × ((n.attack ≡ x) × (is_winning n.rest ≡ true))
+pub leaf_node : (t : List Node) (i : ℕ) (x : Point) → StandsFor t i (Leaf x)
+    → (n : Node) × (slice_get t i ≡ Some n) × ((n.attack ≡ x) × (is_winning n.rest ≡ true))
 unfolding StandsFor
 leaf_node t i x h = AtNode-parts (slice_get t i) (λ n. (n.attack ≡ x) × (is_winning n.rest ≡ true)) h
 
-pub fork_node : (t : List Node) (i : ℕ) (x : Point) (bs : Branches) → StandsFor t i (Fork x bs) → (n : Node) × (slice_get t i ≡ Some n) × ((n.attack ≡ x) × AnswersBriefly (answers_of n) (replies_of bs) × StandsForAll t (answers_of n) bs)
+pub fork_node : (t : List Node) (i : ℕ) (x : Point) (bs : Branches) → StandsFor t i (Fork x bs)
+    → (n : Node) × (slice_get t i ≡ Some n)
+    × ((n.attack ≡ x) × AnswersBriefly (answers_of n) (replies_of bs) × StandsForAll t (answers_of n) bs)
 unfolding StandsFor
-fork_node t i x bs h = AtNode-parts (slice_get t i) (λ n. (n.attack ≡ x) × AnswersBriefly (answers_of n) (replies_of bs) × StandsForAll t (answers_of n) bs) h
+fork_node t i x bs h = AtNode-parts (slice_get t i)
+    (λ n. (n.attack ≡ x) × AnswersBriefly (answers_of n) (replies_of bs) × StandsForAll t (answers_of n) bs) h
 
-pub forks_not_winning : (t : List Node) (i : ℕ) (n : Node) → IsTable t → slice_get t i ≡ Some n → (bs : Branches) → AnswersBriefly (answers_of n) (replies_of bs) → StandsForAll t (answers_of n) bs → is_winning n.rest ≡ true → ⊥
+pub forks_not_winning : (t : List Node) (i : ℕ) (n : Node) → IsTable t → slice_get t i ≡ Some n → (bs : Branches)
+    → AnswersBriefly (answers_of n) (replies_of bs) → StandsForAll t (answers_of n) bs → is_winning n.rest ≡ true → ⊥
 unfolding StandsFor
 forks_not_winning t i n table at NoBranch brief stands win = nothing_not_winning n.rest brief.0 win
 forks_not_winning t i n table at (Branch q s bs) brief stands win =
-    not_winning_by (answer (answers_of n) q) (λ j. StandsFor t j s) (winning_no_answer n q n.rest win ((table.nodes i n at).winning win)) stands.0
+    not_winning_by (answer (answers_of n) q) (λ j. StandsFor t j s) (winning_no_answer n q n.rest win ((table.nodes i n at).winning win))
+    stands.0
 
 pub compiled-lower : (t : List Node) → IsCompiled t → NamesLower t
 compiled-lower t ok = record { lower = λ i n at. (ok.table.nodes i n at).below }

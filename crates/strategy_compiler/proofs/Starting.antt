@@ -1,5 +1,6 @@
 -- The start that is made of answers: it has them in brief, and says what they say alone.
-use Rattle.std.proofs.Common.{◌≡◌, inl, inr, ℕ, zero, suc, ◌<◌, Bool, true, false, ◌||◌, ◌==◌, List, [], ◌∷◌, ◌++◌, map, length, refl, sym, ap, subst, ◌∙◌, arith, ◌↔◌, Option, Some, None, IsSome, All, Contains, nat_lt, slice_index}
+use Rattle.std.proofs.Common.{◌≡◌, inl, inr, ℕ, zero, suc, ◌<◌, Bool, true, false, ◌||◌, ◌==◌, List, [], ◌∷◌, ◌++◌, map, length, refl, sym}
+use Rattle.std.proofs.Common.{ap, subst, ◌∙◌, arith, ◌↔◌, Option, Some, None, IsSome, All, Contains, nat_lt, slice_index}
 use Rattle.std.specs.List.{list_all, AllByRecursion, sum_by}
 use Rattle.std.specs.Option.{option_map, option_or}
 use Rattle.std.proofs.lemmas.Bool.{or_right}
@@ -15,13 +16,17 @@ use Rattle.game_rules.proofs.Boards.{and_left, and_right}
 use Rattle.strategy_graph.specs.declared.Node.{Node}
 use Rattle.strategy_graph.specs.declared.Reply.{Reply}
 use Rattle.strategy_graph.specs.declared.Rest.{Rest}
-use Rattle.strategy_graph.proofs.Common.{Answers, answer, listed_node, named, names_below, rest_nodes, is_rising, greatest, depth, NamesLower, renumbered_answers, renumbered_reply, Answered, Accepted, AcceptedStart, if_answered, arrivals_at, arrivals, start_arrivals, SaysSame, StartSaysSame}
+use Rattle.strategy_graph.proofs.Common.{Answers, answer, listed_node, named, names_below, rest_nodes, is_rising, greatest, depth}
+use Rattle.strategy_graph.proofs.Common.{NamesLower, renumbered_answers, renumbered_reply, Answered, Accepted, AcceptedStart, if_answered}
+use Rattle.strategy_graph.proofs.Common.{arrivals_at, arrivals, start_arrivals, SaysSame, StartSaysSame}
 use Rattle.strategy_graph.proofs.Answering.{answer-named}
 use Rattle.strategy_graph.proofs.Copies.{iff_by, answer-renumbered, named-renumbered}
 use Rattle.strategy_graph.proofs.Renumbering.{renumbered_replies-agree, renumbered_rest-agree}
 use Rattle.strategy_graph.proofs.Rising.{AnsweredAsGiven, listed-given, all-next}
 use Rattle.strategy_graph.proofs.Greatest.{greatest-same}
-use Rattle.strategy_compiler.proofs.Common.{is_in_list, completed_from, place_in, visits, ArePlaces, IsMadeFrom, brief_answers, answers_beside, commonest_next, rest_of, answers_alone, AnswersEach, start_order, IsMadeOfAnswers}
+use Rattle.strategy_compiler.proofs.Common.{is_in_list, completed_from, place_in, visits, ArePlaces, IsMadeFrom, brief_answers}
+use Rattle.strategy_compiler.proofs.Common.{answers_beside, commonest_next, rest_of, answers_alone, AnswersEach, start_order}
+use Rattle.strategy_compiler.proofs.Common.{IsMadeOfAnswers}
 use Rattle.strategy_compiler.proofs.Walking.{visited-named, named-visited, all-contains, contains-map, visits-below, walks-itself}
 use Rattle.strategy_compiler.proofs.Places.{all_by, among-place}
 use Rattle.strategy_compiler.proofs.Briefs.{brief-named, brief-as_given, points-kept}
@@ -60,18 +65,22 @@ module _ (answers : List Reply) (rising : is_rising answers ≡ true) where
   pub brief-inside : (j : ℕ) → Contains (named (brief_answers answers)) j → Contains (map (λ r. r.next) answers) j
   brief-inside j c =
       let js : List ℕ = map (λ r. r.next) answers in
-      in-list-contains js j (all-contains (λ k. is_in_list k js) (named (brief_answers answers)) j (brief-named (λ k. is_in_list k js) answers (all-in-list js)) c)
+      in-list-contains js j (all-contains (λ k. is_in_list k js) (named (brief_answers answers)) j
+      (brief-named (λ k. is_in_list k js) answers (all-in-list js)) c)
 
-  given-at : (rs : List Reply) → AnsweredAsGiven (brief_answers answers) rs → (j : ℕ) → Contains (map (λ r. r.next) rs) j → Contains (named (brief_answers answers)) j
+  given-at : (rs : List Reply) → AnsweredAsGiven (brief_answers answers) rs → (j : ℕ) → Contains (map (λ r. r.next) rs) j
+      → Contains (named (brief_answers answers)) j
   given-at [] given j (k, l, e) = absurd (omega arith)
-  given-at (r ∷ rs) given j (zero, l, e) = subst (Contains (named (brief_answers answers))) e (answer-contained (brief_answers answers) r.at r.next given.0)
+  given-at (r ∷ rs) given j (zero, l, e) = subst (Contains (named (brief_answers answers))) e
+      (answer-contained (brief_answers answers) r.at r.next given.0)
   given-at (r ∷ rs) given j (suc k, l, e) = given-at rs given.1 j (k, omega arith, e)
 
   brief-outside : (j : ℕ) → Contains (map (λ r. r.next) answers) j → Contains (named (brief_answers answers)) j
   brief-outside = given-at answers (brief-as_given answers rising)
 
   alone-inside : (j : ℕ) → Contains (map (λ r. r.next) answers ++ []) j → Contains (map (λ r. r.next) answers) j
-  alone-inside j c = elim (Contains-append_cases (map (λ r. r.next) answers) [] j c) [ inl here ↦ here | inr none ↦ absurd (let inside = none.1 in omega (arith, inside)) ]
+  alone-inside j c = elim (Contains-append_cases (map (λ r. r.next) answers) [] j c)
+      [ inl here ↦ here | inr none ↦ absurd (let inside = none.1 in omega (arith, inside)) ]
 
   pub brief-deep : (d : ℕ → ℕ) → greatest (map d (named (brief_answers answers))) ≡ greatest (map d (named (answers_alone answers)))
   brief-deep d =
@@ -87,15 +96,21 @@ module _ (answers : List Reply) (rising : is_rising answers ≡ true) where
     by_listed (Some j) e s = listed-given (brief_answers answers) answers q j (brief-as_given answers rising) e ∙ sym e
 
   module _ (rule : RuleKind) (b : Grid) (all : AnswersEach rule b answers) where
-    met-alike : (N : ℕ → Grid → Type 0) (q : Point) → LosesOr (outcome rule b q) (Answered (answer (brief_answers answers) q) (λ j. N j (after b q))) ≡ LosesOr (outcome rule b q) (Answered (answer (answers_alone answers) q) (λ j. N j (after b q)))
+    met-alike : (N : ℕ → Grid → Type 0) (q : Point) → LosesOr (outcome rule b q)
+        (Answered (answer (brief_answers answers) q) (λ j. N j (after b q))) ≡ LosesOr (outcome rule b q)
+        (Answered (answer (answers_alone answers) q) (λ j. N j (after b q)))
     met-alike N q = by_outcome (outcome rule b q) refl where
-      by_outcome : (o : Outcome) → outcome rule b q ≡ o → LosesOr o (Answered (answer (brief_answers answers) q) (λ j. N j (after b q))) ≡ LosesOr o (Answered (answer (answers_alone answers) q) (λ j. N j (after b q)))
+      by_outcome : (o : Outcome) → outcome rule b q ≡ o → LosesOr o (Answered (answer (brief_answers answers) q) (λ j. N j (after b q)))
+          ≡ LosesOr o (Answered (answer (answers_alone answers) q) (λ j. N j (after b q)))
       by_outcome GoesOn e = ap (λ (o : Option ℕ). Answered o (λ j. N j (after b q))) (brief-answer q (all q e))
       by_outcome _ e = refl
 
-    count-alike : (m : ℕ → Grid → ℕ) (q : Point) → arrivals_at rule (brief_answers answers) m b q ≡ arrivals_at rule (answers_alone answers) m b q
+    count-alike : (m : ℕ → Grid → ℕ) (q : Point) → arrivals_at rule (brief_answers answers) m b q ≡ arrivals_at rule (answers_alone answers)
+        m b q
     count-alike m q = by_outcome (outcome rule b q) refl where
-      by_outcome : (o : Outcome) → outcome rule b q ≡ o → if_goes_on o (if_answered (answer (brief_answers answers) q) (λ j. m j (after b q))) ≡ if_goes_on o (if_answered (answer (answers_alone answers) q) (λ j. m j (after b q)))
+      by_outcome : (o : Outcome) → outcome rule b q ≡ o → if_goes_on o
+          (if_answered (answer (brief_answers answers) q) (λ j. m j (after b q))) ≡ if_goes_on o
+          (if_answered (answer (answers_alone answers) q) (λ j. m j (after b q)))
       by_outcome GoesOn e = ap (λ (o : Option ℕ). if_answered o (λ j. m j (after b q))) (brief-answer q (all q e))
       by_outcome _ e = refl
 
@@ -111,22 +126,30 @@ module _ (answers : List Reply) (rising : is_rising answers ≡ true) where
     named-root : (j : ℕ) → Contains (named (brief_answers answers)) j → Contains (visits (brief_answers answers)) j
     named-root j c = named-visited (brief_answers answers) j c
 
-    made-each : AllByRecursion (λ r. Answered (answer (renumbered_answers (place_in (start_order t answers)) (brief_answers answers)) r.at) (SaysSame t r.next u)) answers
+    made-each : AllByRecursion
+        (λ r. Answered (answer (renumbered_answers (place_in (start_order t answers)) (brief_answers answers)) r.at) (SaysSame t r.next u))
+        answers
     made-each = each answers (brief-as_given answers rising) where
-      each : (rs : List Reply) → AnsweredAsGiven (brief_answers answers) rs → AllByRecursion (λ r. Answered (answer (renumbered_answers (place_in (start_order t answers)) (brief_answers answers)) r.at) (SaysSame t r.next u)) rs
+      each : (rs : List Reply) → AnsweredAsGiven (brief_answers answers) rs
+          → AllByRecursion (λ r. Answered (answer (renumbered_answers (place_in (start_order t answers)) (brief_answers answers)) r.at)
+          (SaysSame t r.next u)) rs
       each [] given = tt
       each (r ∷ rs) given = (
         subst (λ (o : Option ℕ). Answered o (SaysSame t r.next u))
-            (sym (answer-renumbered (place_in (start_order t answers)) (brief_answers answers) r.at ∙ ap (option_map (place_in (start_order t answers))) given.0))
+            (sym (answer-renumbered (place_in (start_order t answers)) (brief_answers answers) r.at
+            ∙ ap (option_map (place_in (start_order t answers))) given.0))
             (made.each_root r.next (named-root r.next (answer-contained (brief_answers answers) r.at r.next given.0))).same,
         each rs given.1,
       )
 
-    renumbered-points : (P : Point → Type 0) (f : ℕ → ℕ) (rs : List Reply) → All (λ r. P r.at) rs → All (λ r. P r.at) (map (renumbered_reply f) rs)
+    renumbered-points : (P : Point → Type 0) (f : ℕ → ℕ) (rs : List Reply) → All (λ r. P r.at) rs
+        → All (λ r. P r.at) (map (renumbered_reply f) rs)
     renumbered-points P f [] h = All-nil (λ (r : Reply). P r.at)
-    renumbered-points P f (r ∷ rs) h = All-cons (λ (r : Reply). P r.at) (renumbered_reply f r) (map (renumbered_reply f) rs) (h 0 r (omega arith)) (renumbered-points P f rs (λ i d l. h (suc i) d (omega arith)))
+    renumbered-points P f (r ∷ rs) h = All-cons (λ (r : Reply). P r.at) (renumbered_reply f r) (map (renumbered_reply f) rs)
+        (h 0 r (omega arith)) (renumbered-points P f rs (λ i d l. h (suc i) d (omega arith)))
 
-    pub made-of-answers : (a : Answers) → a ≡ renumbered_answers (place_in (start_order t answers)) (brief_answers answers) → IsMadeOfAnswers t answers u a
+    pub made-of-answers : (a : Answers) → a ≡ renumbered_answers (place_in (start_order t answers)) (brief_answers answers)
+        → IsMadeOfAnswers t answers u a
     made-of-answers a is = subst (IsMadeOfAnswers t answers u) (sym is) (record {
       nodes = made.nodes;
       start = refl;
@@ -135,10 +158,14 @@ module _ (answers : List Reply) (rising : is_rising answers ≡ true) where
           ap (list_all (λ j. nat_lt j (length u))) (named-renumbered (place_in (start_order t answers)) (brief_answers answers))
           ∙ all-mapped (named (brief_answers answers)) (λ j c. (made.each_root j (named-root j c)).inside);
       reached = λ k l. let r = made.reached k l in (r.0, start-names r.0 r.1, r.2);
-      each = All-from_recursion (λ r. Answered (answer (renumbered_answers (place_in (start_order t answers)) (brief_answers answers)) r.at) (SaysSame t r.next u)) answers made-each;
+      each = All-from_recursion
+          (λ r. Answered (answer (renumbered_answers (place_in (start_order t answers)) (brief_answers answers)) r.at)
+          (SaysSame t r.next u)) answers made-each;
       deep = said.same_depth ∙ brief-deep (depth t);
-      table_points = λ k d l. let p = made.points k d l in (p.0, p.1, (p.2.0, brief-inside p.2.0 (visited-named (brief_answers answers) p.2.0 p.2.1), p.2.2), p.3, p.4, p.5);
-      start_points = renumbered-points (Contains (map (λ s. s.at) answers)) (place_in (start_order t answers)) (brief_answers answers).replies (points-kept answers);
+      table_points = λ k d l. let p = made.points k d l in
+          (p.0, p.1, (p.2.0, brief-inside p.2.0 (visited-named (brief_answers answers) p.2.0 p.2.1), p.2.2), p.3, p.4, p.5);
+      start_points = renumbered-points (Contains (map (λ s. s.at) answers)) (place_in (start_order t answers))
+          (brief_answers answers).replies (points-kept answers);
       accepted = λ rule b all. iff_then _ _ _ (said.same_accepted rule b) (iff_by _ _ (brief-accepted rule b all t));
       count = λ rule b all. said.same_arrivals rule b ∙ brief-count rule b all t;
     }) where
@@ -148,30 +175,39 @@ module _ (answers : List Reply) (rising : is_rising answers ≡ true) where
       iff_then : (A B C : Type 0) → A ↔ B → B ↔ C → A ↔ C
       iff_then A B C h k = (λ a. k.0 (h.0 a), λ c. h.1 (k.1 c))
 
-      all-mapped : (js : List ℕ) → ((j : ℕ) → Contains js j → place_in (start_order t answers) j < length u) → list_all (λ j. nat_lt j (length u)) (map (place_in (start_order t answers)) js) ≡ true
+      all-mapped : (js : List ℕ) → ((j : ℕ) → Contains js j → place_in (start_order t answers) j < length u)
+          → list_all (λ j. nat_lt j (length u)) (map (place_in (start_order t answers)) js) ≡ true
       all-mapped [] low = refl
       all-mapped (j ∷ js) low = rw (lt-ltb _ _ (low j (0, omega arith, refl))) (all-mapped js (λ i c. low i (suc c.0, omega arith, c.2)))
 
-      mapped-inside : (js ks : List ℕ) → ((j : ℕ) → Contains js j → Contains ks j) → (i : ℕ) → Contains (map (place_in (start_order t answers)) js) i → Contains (map (place_in (start_order t answers)) ks) i
+      mapped-inside : (js ks : List ℕ) → ((j : ℕ) → Contains js j → Contains ks j) → (i : ℕ)
+          → Contains (map (place_in (start_order t answers)) js) i → Contains (map (place_in (start_order t answers)) ks) i
       mapped-inside [] ks inside i (k, l, e) = absurd (omega arith)
-      mapped-inside (j ∷ js) ks inside i (zero, l, e) = subst (Contains (map (place_in (start_order t answers)) ks)) e (contains-map (place_in (start_order t answers)) ks j (inside j (0, omega arith, refl)))
-      mapped-inside (j ∷ js) ks inside i (suc k, l, e) = mapped-inside js ks (λ m c. inside m (suc c.0, omega arith, c.2)) i (k, omega arith, e)
+      mapped-inside (j ∷ js) ks inside i (zero, l, e) = subst (Contains (map (place_in (start_order t answers)) ks)) e
+          (contains-map (place_in (start_order t answers)) ks j (inside j (0, omega arith, refl)))
+      mapped-inside (j ∷ js) ks inside i (suc k, l, e) =
+          mapped-inside js ks (λ m c. inside m (suc c.0, omega arith, c.2)) i (k, omega arith, e)
 
-      start-names : (i : ℕ) → Contains (map (place_in (start_order t answers)) (visits (brief_answers answers))) i → Contains (named (renumbered_answers (place_in (start_order t answers)) (brief_answers answers))) i
+      start-names : (i : ℕ) → Contains (map (place_in (start_order t answers)) (visits (brief_answers answers))) i
+          → Contains (named (renumbered_answers (place_in (start_order t answers)) (brief_answers answers))) i
       start-names i c =
           subst (λ (js : List ℕ). Contains js i) (sym (named-renumbered (place_in (start_order t answers)) (brief_answers answers)))
-          (mapped-inside (visits (brief_answers answers)) (named (brief_answers answers)) (λ j d. visited-named (brief_answers answers) j d) i c)
+          (mapped-inside (visits (brief_answers answers)) (named (brief_answers answers)) (λ j d. visited-named (brief_answers answers) j d)
+          i c)
 
 -- ---- the same, as the code reads it
 
-pub brief-is : (answers : List Reply) (o : Option ℕ) (rs : List Reply) (rest : Rest) → o ≡ commonest_next answers → rs ≡ answers_beside o answers → rest ≡ rest_of o → brief_answers answers ≡ record { replies = rs; rest = rest }
+pub brief-is : (answers : List Reply) (o : Option ℕ) (rs : List Reply) (rest : Rest) → o ≡ commonest_next answers
+    → rs ≡ answers_beside o answers → rest ≡ rest_of o → brief_answers answers ≡ record { replies = rs; rest = rest }
 brief-is answers o rs rest e f g =
     let replies : answers_beside (commonest_next answers) answers ≡ rs = ap (λ (p : Option ℕ). answers_beside p answers) (sym e) ∙ sym f in
     let others : rest_of (commonest_next answers) ≡ rest = ap rest_of (sym e) ∙ sym g in
     λ i. record { replies = replies i; rest = others i }
 
-pub brief-below : (answers : List Reply) (a : Answers) (k : ℕ) → brief_answers answers ≡ a → All (λ r. r.next < k) answers → names_below a k ≡ true
-brief-below answers a k is below = ap (λ (x : Answers). names_below x k) (sym is) ∙ brief-named (λ j. nat_lt j k) answers (all-next answers k below)
+pub brief-below : (answers : List Reply) (a : Answers) (k : ℕ) → brief_answers answers ≡ a → All (λ r. r.next < k) answers
+    → names_below a k ≡ true
+brief-below answers a k is below = ap (λ (x : Answers). names_below x k) (sym is)
+    ∙ brief-named (λ j. nat_lt j k) answers (all-next answers k below)
 
 pub visits-low : (a : Answers) (k : ℕ) (roots : List ℕ) → roots ≡ visits a → names_below a k ≡ true → All (λ j. j < k) roots
 visits-low a k roots is below = subst (All (λ j. j < k)) (sym is) (all_low (visits a) (visits-below a k below)) where
@@ -180,19 +216,27 @@ visits-low a k roots is below = subst (All (λ j. j < k)) (sym is) (all_low (vis
   all_low (j ∷ js) h = All-cons (λ j. j < k) j js (ltb-true _ _ (and_left (nat_lt j k) _ h)) (all_low js (and_right (nat_lt j k) _ h))
 
 -- the places that are kept are those in the order
-places-agree : (t : List Node) → NamesLower t → (answers : List Reply) (places : List ℕ) → ArePlaces (start_order t answers) places → renumbered_answers (λ j. slice_index places j) (brief_answers answers) ≡ renumbered_answers (place_in (start_order t answers)) (brief_answers answers)
+places-agree : (t : List Node) → NamesLower t → (answers : List Reply) (places : List ℕ) → ArePlaces (start_order t answers) places
+    → renumbered_answers (λ j. slice_index places j) (brief_answers answers) ≡ renumbered_answers (place_in (start_order t answers))
+    (brief_answers answers)
 places-agree t lower answers places are =
     let a : Answers = brief_answers answers in
     let order : List ℕ = start_order t answers in
-    let all : list_all (λ j. is_in_list j order) (named a) ≡ true = all_by (λ j. is_in_list j order) (named a) (λ j c. walks-itself t lower (visits a) [] j (named-visited a j c)) in
+    let all : list_all (λ j. is_in_list j order) (named a) ≡ true =
+    all_by (λ j. is_in_list j order) (named a) (λ j c. walks-itself t lower (visits a) [] j (named-visited a j c)) in
     let parts = sym (list_all-append (λ j. is_in_list j order) (map (λ (r : Reply). r.next) a.replies) (rest_nodes a.rest)) ∙ all in
-    let same : (j : ℕ) → is_in_list j order ≡ true → slice_index places j ≡ place_in order j = λ j h. are.placed (place_in order j) j (among-place order j h) in
-    let replies = renumbered_replies-agree (λ j. slice_index places j) (place_in order) (λ j. is_in_list j order) same a.replies (and_left _ (list_all (λ j. is_in_list j order) (rest_nodes a.rest)) parts) in
-    let rest = renumbered_rest-agree (λ j. slice_index places j) (place_in order) (λ j. is_in_list j order) same a.rest (and_right (list_all (λ j. is_in_list j order) (map (λ (r : Reply). r.next) a.replies)) _ parts) in
+    let same : (j : ℕ) → is_in_list j order ≡ true → slice_index places j ≡ place_in order j =
+    λ j h. are.placed (place_in order j) j (among-place order j h) in
+    let replies = renumbered_replies-agree (λ j. slice_index places j) (place_in order) (λ j. is_in_list j order) same a.replies
+    (and_left _ (list_all (λ j. is_in_list j order) (rest_nodes a.rest)) parts) in
+    let rest = renumbered_rest-agree (λ j. slice_index places j) (place_in order) (λ j. is_in_list j order) same a.rest
+    (and_right (list_all (λ j. is_in_list j order) (map (λ (r : Reply). r.next) a.replies)) _ parts) in
     λ i. record { replies = replies i; rest = rest i }
 
-pub start-made : (t : List Node) → NamesLower t → (answers : List Reply) → is_rising answers ≡ true → (a : Answers) (roots places : List ℕ) (u : List Node) (start : Answers) → brief_answers answers ≡ a → roots ≡ visits a
-    → IsMadeFrom t roots (completed_from t roots) u → ArePlaces (completed_from t roots) places → start ≡ renumbered_answers (λ j. slice_index places j) a → IsMadeOfAnswers t answers u start
+pub start-made : (t : List Node) → NamesLower t → (answers : List Reply) → is_rising answers ≡ true
+    → (a : Answers) (roots places : List ℕ) (u : List Node) (start : Answers) → brief_answers answers ≡ a → roots ≡ visits a
+    → IsMadeFrom t roots (completed_from t roots) u → ArePlaces (completed_from t roots) places
+    → start ≡ renumbered_answers (λ j. slice_index places j) a → IsMadeOfAnswers t answers u start
 start-made t lower answers rising a roots places u start is visited made are starts =
     let here : roots ≡ visits (brief_answers answers) = visited ∙ ap visits (sym is) in
     let made_here = subst (λ (js : List ℕ). IsMadeFrom t js (completed_from t js) u) here made in

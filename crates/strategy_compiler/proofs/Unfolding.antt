@@ -1,6 +1,7 @@
 -- Nodes unfolded: copies are the same nodes, and in a table with no two equal nodes no two are the same. So such a table holds as
 -- many different nodes as it has.
-use Rattle.std.proofs.Common.{◌≡◌, ℕ, zero, suc, ◌<◌, ◌≤◌, ◌+◌, Bool, true, false, ◌||◌, ◌==◌, List, [], ◌∷◌, length, refl, sym, ap, subst, ◌∙◌, arith, Option, Some, None, nat_lt, slice_get, map, All, Contains, ◌++◌, ◌⊎◌, inl, inr, length-append}
+use Rattle.std.proofs.Common.{◌≡◌, ℕ, zero, suc, ◌<◌, ◌≤◌, ◌+◌, Bool, true, false, ◌||◌, ◌==◌, List, [], ◌∷◌, length, refl, sym, ap, subst}
+use Rattle.std.proofs.Common.{◌∙◌, arith, Option, Some, None, nat_lt, slice_get, map, All, Contains, ◌++◌, ◌⊎◌, inl, inr, length-append}
 use Rattle.std.specs.List.{list_all, list_any, range_with_len, AllByRecursion, IsDistinct}
 use Rattle.std.proofs.lemmas.Bool.{cases_lt}
 use Rattle.std.proofs.lemmas.Option.{same_Some}
@@ -14,13 +15,15 @@ use Rattle.strategy_graph.specs.declared.Node.{Node}
 use Rattle.strategy_graph.specs.declared.Reply.{Reply}
 use Rattle.strategy_graph.specs.declared.Rest.{Rest}
 use Rattle.strategy_graph.specs.declared.Rest.TheVariants.{Wins, To, Nothing}
-use Rattle.strategy_graph.proofs.Common.{Answers, NamesLower, answers_of, named, names_below, rest_nodes, renumbered_node, renumbered_reply, renumbered_rest}
+use Rattle.strategy_graph.proofs.Common.{Answers, NamesLower, answers_of, named, names_below, rest_nodes, renumbered_node, renumbered_reply}
+use Rattle.strategy_graph.proofs.Common.{renumbered_rest}
 use Rattle.strategy_graph.specs.Tables.{IsNode}
 use Rattle.strategy_graph.proofs.Naming.{slice_get-longer}
 use Rattle.strategy_graph.proofs.Filling.{IsTable-lower, names_below-more, last_node}
 use Rattle.strategy_graph.proofs.Copies.{Copies, renumbered-same}
 use Rattle.strategy_compiler.proofs.Common.{AreDifferent, IsCompiled}
-use Rattle.strategy_compiler.specs.Unfolded.{Unfolded, Plays, Answers as Answered, Goes, HoldMore, IsHeld, unfolded, unfolded_node, unfolded_nodes, unfolded_replies, unfolded_rest}
+use Rattle.strategy_compiler.specs.Unfolded.{Unfolded, Plays, Answers as Answered, Goes, HoldMore, IsHeld, unfolded, unfolded_node}
+use Rattle.strategy_compiler.specs.Unfolded.{unfolded_nodes, unfolded_replies, unfolded_rest}
 unfoldable use Rattle.strategy_compiler.specs.Unfolded.{unfolded_within}
 
 -- the replies that are listed, and the rest, pass where all that is named does
@@ -30,7 +33,8 @@ listed-pass p a h =
     (sym (list_all-append p (map (λ (r : Reply). r.next) a.replies) (rest_nodes a.rest)) ∙ h)
 
 rest-passes : (p : ℕ → Bool) (a : Answers) → list_all p (named a) ≡ true → list_all p (rest_nodes a.rest) ≡ true
-rest-passes p a h = and_right (list_all p (map (λ (r : Reply). r.next) a.replies)) _ (sym (list_all-append p (map (λ (r : Reply). r.next) a.replies) (rest_nodes a.rest)) ∙ h)
+rest-passes p a h = and_right (list_all p (map (λ (r : Reply). r.next) a.replies)) _
+    (sym (list_all-append p (map (λ (r : Reply). r.next) a.replies) (rest_nodes a.rest)) ∙ h)
 
 -- ---- other numbers for the same nodes
 
@@ -93,7 +97,8 @@ module _ (t : List Node) (lower : NamesLower t) where
   within-longer more (suc k) i l =
       let n = node-inside t i l in
       ap (unfolded_node (unfolded_within k (t ++ more))) (slice_get-longer t more i n.0 n.1)
-      ∙ node-agree (unfolded_within k t) (unfolded_within k (t ++ more)) i n.0 (lower.lower i n.0 n.1) (λ j low. within-longer more k j (omega arith))
+      ∙ node-agree (unfolded_within k t) (unfolded_within k (t ++ more)) i n.0 (lower.lower i n.0 n.1)
+      (λ j low. within-longer more k j (omega arith))
       ∙ ap (unfolded_node (unfolded_within k t)) (sym n.1)
 
   within-enough : (k m i : ℕ) → i < k → i < m → unfolded_within m t i ≡ unfolded_within k t i
@@ -126,8 +131,11 @@ pub answers-copied : (f : ℕ → ℕ) (passes : ℕ → Bool) (t u : List Node)
     → (unfolded_replies (unfolded u) (map (renumbered_reply f) a.replies) ≡ unfolded_replies (unfolded t) a.replies)
     × (unfolded_rest (unfolded u) (renumbered_rest f a.rest) ≡ unfolded_rest (unfolded t) a.rest)
 answers-copied f passes t u copies lower lower' a all =
-    let same : (j : ℕ) → passes j ≡ true → unfolded u (f j) ≡ unfolded t j = λ j p. unfolded-copied f passes t u copies lower lower' j p in
-    (replies-copied f passes (unfolded t) (unfolded u) same a.replies (listed-pass passes a all), rest-copied f passes (unfolded t) (unfolded u) same a.rest (rest-passes passes a all))
+    let same : (j : ℕ) → passes j ≡ true → unfolded u (f j) ≡ unfolded t j =
+    λ j p. unfolded-copied f passes t u copies lower lower' j p in (
+      replies-copied f passes (unfolded t) (unfolded u) same a.replies (listed-pass passes a all),
+      rest-copied f passes (unfolded t) (unfolded u) same a.rest (rest-passes passes a all),
+    )
 
 pub answers-longer : (t more : List Node) → NamesLower t → (a : Answers) → names_below a (length t) ≡ true
     → (unfolded_replies (unfolded (t ++ more)) a.replies ≡ unfolded_replies (unfolded t) a.replies)
@@ -250,7 +258,8 @@ held-within tables most u find h =
     let found = numbered u h.nodes (λ w c. find w (all-at h.nodes (IsHeld tables) h.held w c)) in
     let count = count-at u h.nodes found.0 found.1 in
     let few =
-    length-le_from_distinct_below found.0 (length u) (distinct-at u h.nodes found.0 found.1 h.different) (below-at u h.nodes found.0 found.1) in
+    length-le_from_distinct_below found.0 (length u) (distinct-at u h.nodes found.0 found.1 h.different)
+    (below-at u h.nodes found.0 found.1) in
     let more = h.more in
     omega arith where
       all-at : (ws : List Unfolded) (P : Unfolded → Type 0) → All P ws → (w : Unfolded) → Contains ws w → P w
@@ -341,7 +350,8 @@ lower-push : (t : List Node) (n : Node) → NamesLower t → names_below (answer
 lower-push t n lower below = record {
   lower = λ i m h. elim (pushed-node t n i m h) [
     | inl e ↦ lower.lower i m e
-    | inr p ↦ subst (λ (j : ℕ). names_below (answers_of m) j ≡ true) (sym p.0) (subst (λ (v : Node). names_below (answers_of v) (length t) ≡ true) p.1 below)
+    | inr p ↦ subst (λ (j : ℕ). names_below (answers_of m) j ≡ true) (sym p.0)
+        (subst (λ (v : Node). names_below (answers_of v) (length t) ≡ true) p.1 below)
   ];
 }
 

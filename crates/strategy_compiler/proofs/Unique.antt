@@ -1,5 +1,7 @@
 -- A tree has one table: nodes that stand for a same tree in two tables are walked over alike, and are the same.
-use Rattle.std.proofs.Common.{◌≡◌, ℕ, zero, suc, ◌+◌, ◌<◌, ◌≤◌, Bool, true, false, cond, not, ◌&&◌, ◌||◌, ◌==◌, List, [], ◌∷◌, ◌++◌, filter, length, get_or, refl, sym, ap, subst, ◌∙◌, arith, Option, Some, None, nat_le, nat_eq, slice_get, fold, Contains}
+use Rattle.std.proofs.Common.{◌≡◌, ℕ, zero, suc, ◌+◌, ◌<◌, ◌≤◌, Bool, true, false, cond, not, ◌&&◌, ◌||◌, ◌==◌, List, [], ◌∷◌, ◌++◌, filter}
+use Rattle.std.proofs.Common.{length, get_or, refl, sym, ap, subst, ◌∙◌, arith, Option, Some, None, nat_le, nat_eq, slice_get, fold}
+use Rattle.std.proofs.Common.{Contains}
 use Rattle.std.specs.List.{list_all, find, cons_option, range_with_len}
 use Rattle.std.specs.Option.{option_map_or, option_eq}
 use Rattle.std.proofs.lemmas.Bool.Decides.{Decides-eqb}
@@ -16,10 +18,14 @@ use Rattle.strategy_graph.proofs.Filling.{IsTable-lower}
 use Rattle.strategy_compiler.proofs.Walking.{within-enough}
 use Rattle.strategy_graph.proofs.Answering.{answer-below}
 use Rattle.strategy_graph.proofs.Rising.{answered-as-listed}
-use Rattle.strategy_graph.proofs.Pairs.{Pairs, Ends, Goes, OptionPair, Neither, Both, TellsApart, NodePair, AnswerPairs, IsThere, AtNode-some, there-at, same-pairs, pairs-append, pairs-length, pairs-at, pairs-weaker, fold-pairs, node-right, node-left, node-itself, bare-pair, winning-rest, rest-to, listed-pairs}
+use Rattle.strategy_graph.proofs.Pairs.{Pairs, Ends, Goes, OptionPair, Neither, Both, TellsApart, NodePair, AnswerPairs, IsThere}
+use Rattle.strategy_graph.proofs.Pairs.{AtNode-some, there-at, same-pairs, pairs-append, pairs-length, pairs-at, pairs-weaker, fold-pairs}
+use Rattle.strategy_graph.proofs.Pairs.{node-right, node-left, node-itself, bare-pair, winning-rest, rest-to, listed-pairs}
 use Rattle.strategy_graph.proofs.Naming.{ext-slice_get}
 use Rattle.strategy_compiler.proofs.Briefs.{commonest-there}
-use Rattle.strategy_compiler.proofs.Common.{Tree, Branches, Leaf, Fork, NoBranch, Branch, StandsFor, StandsForAll, IsBrief, replies_of, answers_to, commonest, times, AreDifferent, IsTableOf, completed_within, is_in_list, last, visits, visits_at}
+use Rattle.strategy_compiler.proofs.Common.{Tree, Branches, Leaf, Fork, NoBranch, Branch, StandsFor, StandsForAll, IsBrief, replies_of}
+use Rattle.strategy_compiler.proofs.Common.{answers_to, commonest, times, AreDifferent, IsTableOf, completed_within, is_in_list, last}
+use Rattle.strategy_compiler.proofs.Common.{visits, visits_at}
 
 -- ---- lists that are related place by place
 
@@ -41,13 +47,16 @@ module _ (R : ℕ → ℕ → Type 0) (one : TellsApart R) where
   tops-pairs : (i j : ℕ) (is js xs ys : List ℕ) → R i j → Pairs R is js → Pairs R xs ys → tops i is xs ≡ tops j js ys
   unfolding tops
   tops-pairs i j is js _ _ r p Ends = refl
-  tops-pairs i j is js _ _ r p (Goes x y xs ys s q) = λ k. nat_le (times-pairs x y is js s p k) (times-pairs i j is js r p k) && tops-pairs i j is js xs ys r p q k
+  tops-pairs i j is js _ _ r p (Goes x y xs ys s q) =
+      λ k. nat_le (times-pairs x y is js s p k) (times-pairs i j is js r p k) && tops-pairs i j is js xs ys r p q k
 
-  find-pairs : (is js xs ys : List ℕ) → Pairs R is js → Pairs R xs ys → OptionPair R (find (λ k. tops k is is) xs) (find (λ k. tops k js js) ys)
+  find-pairs : (is js xs ys : List ℕ) → Pairs R is js → Pairs R xs ys
+      → OptionPair R (find (λ k. tops k is is) xs) (find (λ k. tops k js js) ys)
   find-pairs is js _ _ p Ends = Neither
   find-pairs is js _ _ p (Goes x y xs ys s q) =
       by_test (tops x is is) (tops y js js) (tops-pairs x y is js is js s p p) (find-pairs is js xs ys p q) where
-        by_test : (a b : Bool) → a ≡ b → OptionPair R (find (λ k. tops k is is) xs) (find (λ k. tops k js js) ys) → OptionPair R (cond a (Some x) (find (λ k. tops k is is) xs)) (cond b (Some y) (find (λ k. tops k js js) ys))
+        by_test : (a b : Bool) → a ≡ b → OptionPair R (find (λ k. tops k is is) xs) (find (λ k. tops k js js) ys)
+            → OptionPair R (cond a (Some x) (find (λ k. tops k is is) xs)) (cond b (Some y) (find (λ k. tops k js js) ys))
         by_test true true e h = Both x y s
         by_test true false e h = cc
         by_test false true e h = cc
@@ -69,11 +78,13 @@ pub record Alike (u v : List Node) (i j : ℕ) : Type 0 where
 answers-pairs : (R : ℕ → ℕ → Type 0) (a b : Answers) (qs : List Point) → AnswerPairs R a b qs → Pairs R (answers_to a qs) (answers_to b qs)
 answers-pairs R a b [] h = Ends
 answers-pairs R a b (q ∷ qs) h = by_answers (answer a q) (answer b q) h.0 (answers-pairs R a b qs h.2) where
-  by_answers : (o p : Option ℕ) → OptionPair R o p → Pairs R (answers_to a qs) (answers_to b qs) → Pairs R (cons_option o (answers_to a qs)) (cons_option p (answers_to b qs))
+  by_answers : (o p : Option ℕ) → OptionPair R o p → Pairs R (answers_to a qs) (answers_to b qs)
+      → Pairs R (cons_option o (answers_to a qs)) (cons_option p (answers_to b qs))
   by_answers _ _ Neither k = k
   by_answers _ _ (Both x y g) k = Goes x y _ _ g k
 
-others-alike : (R : ℕ → ℕ → Type 0) → TellsApart R → (a b : Answers) (o p : Option ℕ) (qs : List Point) → OptionPair R o p → AnswerPairs R a b qs → filter (λ q. not (option_eq nat_eq (answer a q) o)) qs ≡ filter (λ q. not (option_eq nat_eq (answer b q) p)) qs
+others-alike : (R : ℕ → ℕ → Type 0) → TellsApart R → (a b : Answers) (o p : Option ℕ) (qs : List Point) → OptionPair R o p
+    → AnswerPairs R a b qs → filter (λ q. not (option_eq nat_eq (answer a q) o)) qs ≡ filter (λ q. not (option_eq nat_eq (answer b q) p)) qs
 others-alike R one a b o p [] g h = refl
 others-alike R one a b o p (q ∷ qs) g h =
     let here = same-pairs R one (answer a q) o (answer b q) p h.0 g in
@@ -85,12 +96,14 @@ module _ (u v : List Node) (tu : IsTable u) (tv : IsTable v) where
   abbrev pub AlikeBelow : ℕ → ℕ → ℕ → Type 0
   AlikeBelow k i j = Alike u v i j × (i < k)
 
-  answers-from : (i : ℕ) (a b : Answers) (bs : Branches) → names_below a i ≡ true → StandsForAll u a bs → StandsForAll v b bs → AnswerPairs (AlikeBelow i) a b (replies_of bs)
+  answers-from : (i : ℕ) (a b : Answers) (bs : Branches) → names_below a i ≡ true → StandsForAll u a bs → StandsForAll v b bs
+      → AnswerPairs (AlikeBelow i) a b (replies_of bs)
   unfolding StandsForAll
   answers-from i a b NoBranch low h k = tt
   answers-from i a b (Branch q s bs) low h k =
       (both (answer a q) (answer b q) refl h.0 k.0, there (answer a q) h.0, answers-from i a b bs low h.1 k.1) where
-        both : (o p : Option ℕ) → answer a q ≡ o → Answered o (λ x. StandsFor u x s) → Answered p (λ y. StandsFor v y s) → OptionPair (AlikeBelow i) o p
+        both : (o p : Option ℕ) → answer a q ≡ o → Answered o (λ x. StandsFor u x s) → Answered p (λ y. StandsFor v y s)
+            → OptionPair (AlikeBelow i) o p
         both None p e x y = absurd x
         both (Some m) None e x y = absurd y
         both (Some m) (Some l) e x y = Both m l (record { tree = s; left = x; right = y }, answer-below a i q m low e)
@@ -99,22 +112,26 @@ module _ (u v : List Node) (tu : IsTable u) (tv : IsTable v) where
         there None x = absurd x
         there (Some m) x = tt
 
-  first-there : (R : ℕ → ℕ → Type 0) (a b : Answers) (q : Point) (qs : List Point) → AnswerPairs R a b (q ∷ qs) → commonest (answers_to a (q ∷ qs)) ≡ None → ⊥
+  first-there : (R : ℕ → ℕ → Type 0) (a b : Answers) (q : Point) (qs : List Point) → AnswerPairs R a b (q ∷ qs)
+      → commonest (answers_to a (q ∷ qs)) ≡ None → ⊥
   first-there R a b q qs h = by_answer (answer a q) h.1 where
     by_answer : (o : Option ℕ) → IsThere o → commonest (cons_option o (answers_to a qs)) ≡ None → ⊥
     by_answer None t e = t
     by_answer (Some x) t e = commonest-there x (answers_to a qs) e
 
   module _ (i j : ℕ) (n m : Node) (one : TellsApart (AlikeBelow i)) (at : slice_get u i ≡ Some n) (at' : slice_get v j ≡ Some m) where
-    fork-pair : (q : Point) (qs : List Point) → n.attack ≡ m.attack → IsBrief (answers_of n) (q ∷ qs) → IsBrief (answers_of m) (q ∷ qs) → AnswerPairs (AlikeBelow i) (answers_of n) (answers_of m) (q ∷ qs) → NodePair (AlikeBelow i) n m
+    fork-pair : (q : Point) (qs : List Point) → n.attack ≡ m.attack → IsBrief (answers_of n) (q ∷ qs) → IsBrief (answers_of m) (q ∷ qs)
+        → AnswerPairs (AlikeBelow i) (answers_of n) (answers_of m) (q ∷ qs) → NodePair (AlikeBelow i) n m
     fork-pair q qs attack brief brief' h =
         let a : Answers = answers_of n in
         let b : Answers = answers_of m in
-        let best = commonest-pairs (AlikeBelow i) one (answers_to a (q ∷ qs)) (answers_to b (q ∷ qs)) (answers-pairs (AlikeBelow i) a b (q ∷ qs) h) in
+        let best = commonest-pairs (AlikeBelow i) one (answers_to a (q ∷ qs)) (answers_to b (q ∷ qs))
+        (answers-pairs (AlikeBelow i) a b (q ∷ qs) h) in
         let rests : OptionPair (AlikeBelow i) (rest_node n.rest) (rest_node m.rest) =
         subst (λ (o : Option ℕ). OptionPair (AlikeBelow i) o (rest_node m.rest)) (sym brief.rest_is_commonest)
         (subst (λ (o : Option ℕ). OptionPair (AlikeBelow i) (commonest (answers_to a (q ∷ qs))) o) (sym brief'.rest_is_commonest) best) in
-        let points = brief.others_are_listed ∙ others-alike (AlikeBelow i) one a b (rest_node n.rest) (rest_node m.rest) (q ∷ qs) rests h ∙ sym brief'.others_are_listed in
+        let points = brief.others_are_listed ∙ others-alike (AlikeBelow i) one a b (rest_node n.rest) (rest_node m.rest) (q ∷ qs) rests h
+        ∙ sym brief'.others_are_listed in
         let to = by_rest (rest_node n.rest) (rest_node m.rest) refl refl rests in
         record {
           attack = attack;
@@ -125,12 +142,14 @@ module _ (u v : List Node) (tu : IsTable u) (tv : IsTable v) where
               (subst (λ (r : Rest). Pairs (AlikeBelow i) (to.0 ∷ []) (rest_nodes r)) (sym to.4) (Goes to.0 to.1 [] [] to.2 Ends));
           nexts =
               listed-pairs (AlikeBelow i) a b (q ∷ qs) n.replies m.replies h points
-              (λ p c. filter-inside (λ p. not (option_eq nat_eq (answer a p) (rest_node a.rest))) (q ∷ qs) p (subst (λ (ps : List Point). Contains ps p) brief.others_are_listed c))
+              (λ p c. filter-inside (λ p. not (option_eq nat_eq (answer a p) (rest_node a.rest))) (q ∷ qs) p
+              (subst (λ (ps : List Point). Contains ps p) brief.others_are_listed c))
               (answered-as-listed a ((tu.nodes i n at).rising)) (answered-as-listed b ((tv.nodes j m at').rising));
         } where
           by_rest : (o p : Option ℕ) → rest_node n.rest ≡ o → rest_node m.rest ≡ p → OptionPair (AlikeBelow i) o p
               → (x : ℕ) × (y : ℕ) × AlikeBelow i x y × (n.rest ≡ To x) × (m.rest ≡ To y)
-          by_rest _ _ e f Neither = absurd (first-there (AlikeBelow i) (answers_of n) (answers_of m) q qs h (sym brief.rest_is_commonest ∙ e))
+          by_rest _ _ e f Neither = absurd
+              (first-there (AlikeBelow i) (answers_of n) (answers_of m) q qs h (sym brief.rest_is_commonest ∙ e))
           by_rest _ _ e f (Both x y g) = (x, y, g, rest-to n.rest x e, rest-to m.rest y f)
 
     pair-by : (s : Tree) → StandsFor u i s → StandsFor v j s → NodePair (AlikeBelow i) n m
@@ -138,16 +157,20 @@ module _ (u v : List Node) (tu : IsTable u) (tv : IsTable v) where
     pair-by (Leaf p) h k =
         let here = AtNode-some (slice_get u i) n (λ n. (n.attack ≡ p) × (is_winning n.rest ≡ true)) at h in
         let there = AtNode-some (slice_get v j) m (λ n. (n.attack ≡ p) × (is_winning n.rest ≡ true)) at' k in
-        bare-pair (AlikeBelow i) n m (here.0 ∙ sym there.0) (winning-rest n.rest here.1 ∙ sym (winning-rest m.rest there.1)) (ap rest_nodes (winning-rest m.rest there.1))
+        bare-pair (AlikeBelow i) n m (here.0 ∙ sym there.0) (winning-rest n.rest here.1 ∙ sym (winning-rest m.rest there.1))
+        (ap rest_nodes (winning-rest m.rest there.1))
         ((tu.nodes i n at).winning here.1) ((tv.nodes j m at').winning there.1)
     pair-by (Fork p NoBranch) h k =
         let here = AtNode-some (slice_get u i) n (λ n. (n.attack ≡ p) × ((n.rest ≡ Nothing) × (n.replies ≡ [])) × Unit {0}) at h in
         let there = AtNode-some (slice_get v j) m (λ n. (n.attack ≡ p) × ((n.rest ≡ Nothing) × (n.replies ≡ [])) × Unit {0}) at' k in
         bare-pair (AlikeBelow i) n m (here.0 ∙ sym there.0) (here.1.0 ∙ sym there.1.0) (ap rest_nodes there.1.0) here.1.1 there.1.1
     pair-by (Fork p (Branch q s bs)) h k =
-        let here = AtNode-some (slice_get u i) n (λ n. (n.attack ≡ p) × IsBrief (answers_of n) (q ∷ replies_of bs) × StandsForAll u (answers_of n) (Branch q s bs)) at h in
-        let there = AtNode-some (slice_get v j) m (λ n. (n.attack ≡ p) × IsBrief (answers_of n) (q ∷ replies_of bs) × StandsForAll v (answers_of n) (Branch q s bs)) at' k in
-        fork-pair q (replies_of bs) (here.0 ∙ sym there.0) here.1 there.1 (answers-from i (answers_of n) (answers_of m) (Branch q s bs) ((tu.nodes i n at).below) here.2 there.2)
+        let here = AtNode-some (slice_get u i) n
+        (λ n. (n.attack ≡ p) × IsBrief (answers_of n) (q ∷ replies_of bs) × StandsForAll u (answers_of n) (Branch q s bs)) at h in
+        let there = AtNode-some (slice_get v j) m
+        (λ n. (n.attack ≡ p) × IsBrief (answers_of n) (q ∷ replies_of bs) × StandsForAll v (answers_of n) (Branch q s bs)) at' k in
+        fork-pair q (replies_of bs) (here.0 ∙ sym there.0) here.1 there.1
+        (answers-from i (answers_of n) (answers_of m) (Branch q s bs) ((tu.nodes i n at).below) here.2 there.2)
 
   node-at : (i : ℕ) (s : Tree) (t : List Node) → StandsFor t i s → (n : Node) × (slice_get t i ≡ Some n)
   unfolding StandsFor
@@ -156,7 +179,10 @@ module _ (u v : List Node) (tu : IsTable u) (tv : IsTable v) where
 
   module _ (du : AreDifferent u) (dv : AreDifferent v) where
     one-less : (k i : ℕ) → i ≤ k → TellsApart (AlikeBelow k) → TellsApart (AlikeBelow i)
-    one-less k i l one = record { apart = λ x x' y y' h h'. one.apart x x' y y' (h.0, below-more x i k h.1 l) (h'.0, below-more x' i k h'.1 l) } where
+    one-less k i l one = record {
+      apart = λ x x' y y' h h'. one.apart x x' y y' (h.0, below-more x i k h.1 l)
+          (h'.0, below-more x' i k h'.1 l);
+    } where
       below-more : (x i k : ℕ) → x < i → i ≤ k → x < k
       below-more x i k a b = omega arith
 
@@ -171,12 +197,14 @@ module _ (u v : List Node) (tu : IsTable u) (tv : IsTable v) where
       right-node = node-at j alike.tree v alike.right
 
       node-pair : NodePair (AlikeBelow i) left-node.0 right-node.0
-      node-pair = pair-by i j left-node.0 right-node.0 (one-less k i (omega arith) one) left-node.1 right-node.1 alike.tree alike.left alike.right
+      node-pair = pair-by i j left-node.0 right-node.0 (one-less k i (omega arith) one) left-node.1 right-node.1 alike.tree alike.left
+          alike.right
 
     equal-tests : (x y : ℕ) (b : Bool) → (x == y) ≡ b → (b ≡ true → x ≡ y)
     equal-tests x y b e h = (Decides-eqb x y).0 (e ∙ h)
 
-    module _ (k : ℕ) (one : TellsApart (AlikeBelow k)) (i i' j j' : ℕ) (a : Alike u v i j) (l : i < suc k) (a' : Alike u v i' j') (l' : i' < suc k) where
+    module _ (k : ℕ) (one : TellsApart (AlikeBelow k)) (i i' j j' : ℕ) (a : Alike u v i j) (l : i < suc k) (a' : Alike u v i' j')
+        (l' : i' < suc k) where
       to-right : i ≡ i' → j ≡ j'
       to-right e =
           let n = left-node k one i j a l in
@@ -185,7 +213,9 @@ module _ (u v : List Node) (tu : IsTable u) (tv : IsTable v) where
           let m' = right-node k one i' j' a' l' in
           let same : n.0 ≡ n'.0 = same_Some _ _ (sym n.1 ∙ ap (slice_get u) e ∙ n'.1) in
           let equal : m.0 ≡ m'.0 =
-          node-right (AlikeBelow i) (AlikeBelow i') (λ x y z r s. (Decides-eqb y z).0 (sym (one.apart x x y z (r.0, below x i k r.1 l) (s.0, below x i' k s.1 l')) ∙ (Decides-eqb x x).1 refl)) n.0 m.0 m'.0
+          node-right (AlikeBelow i) (AlikeBelow i')
+          (λ x y z r s. (Decides-eqb y z).0
+          (sym (one.apart x x y z (r.0, below x i k r.1 l) (s.0, below x i' k s.1 l')) ∙ (Decides-eqb x x).1 refl)) n.0 m.0 m'.0
           (node-pair k one i j a l) (subst (λ (x : Node). NodePair (AlikeBelow i') x m'.0) (sym same) (node-pair k one i' j' a' l')) in
           dv.different j j' m'.0 (m.1 ∙ ap Some equal) m'.1
 
@@ -197,7 +227,9 @@ module _ (u v : List Node) (tu : IsTable u) (tv : IsTable v) where
           let m' = right-node k one i' j' a' l' in
           let same : m.0 ≡ m'.0 = same_Some _ _ (sym m.1 ∙ ap (slice_get v) e ∙ m'.1) in
           let equal : n.0 ≡ n'.0 =
-          node-left (AlikeBelow i) (AlikeBelow i') (λ x y z r s. (Decides-eqb y z).0 (one.apart y z x x (r.0, below y i k r.1 l) (s.0, below z i' k s.1 l') ∙ (Decides-eqb x x).1 refl)) m.0 n.0 n'.0
+          node-left (AlikeBelow i) (AlikeBelow i')
+          (λ x y z r s. (Decides-eqb y z).0
+          (one.apart y z x x (r.0, below y i k r.1 l) (s.0, below z i' k s.1 l') ∙ (Decides-eqb x x).1 refl)) m.0 n.0 n'.0
           (node-pair k one i j a l) (subst (λ (x : Node). NodePair (AlikeBelow i') n'.0 x) (sym same) (node-pair k one i' j' a' l')) in
           du.different i i' n'.0 (n.1 ∙ ap Some equal) n'.1
 
@@ -230,19 +262,25 @@ module _ (u v : List Node) (tu : IsTable u) (tv : IsTable v) where
         let m = node-at j h.tree v h.right in
         let pair = pair-at i j n.0 m.0 n.1 m.1 h in
         subst (λ (o : Option Node). Pairs (Alike u v) (option_map_or (λ n. visits (answers_of n)) o []) (visits_at v j)) (sym n.1)
-        (subst (λ (o : Option Node). Pairs (Alike u v) (visits (answers_of n.0)) (option_map_or (λ n. visits (answers_of n)) o [])) (sym m.1)
+        (subst (λ (o : Option Node). Pairs (Alike u v) (visits (answers_of n.0)) (option_map_or (λ n. visits (answers_of n)) o []))
+        (sym m.1)
         (pairs-append (Alike u v) _ _ _ _ (pairs-weaker (AlikeBelow i) (Alike u v) (λ x y r. r.0) _ _ pair.rests)
         (pairs-weaker (AlikeBelow i) (Alike u v) (λ x y r. r.0) _ _ pair.nexts)))
 
-    within-alike : (k : ℕ) (d e : List ℕ) (i j : ℕ) → Alike u v i j → Pairs (Alike u v) d e → Pairs (Alike u v) (completed_within k u d i) (completed_within k v e j)
+    within-alike : (k : ℕ) (d e : List ℕ) (i j : ℕ) → Alike u v i j → Pairs (Alike u v) d e
+        → Pairs (Alike u v) (completed_within k u d i) (completed_within k v e j)
     unfolding completed_within
     within-alike zero d e i j h p = p
     within-alike (suc k) d e i j h p =
         by_test (is_in_list i d) (is_in_list j e) (among-pairs (Alike u v) alike-one i j d e h p)
         (pairs-append (Alike u v) _ _ (i ∷ []) (j ∷ [])
-        (fold-pairs (Alike u v) (completed_within k u) (completed_within k v) (λ d e x y r q. within-alike k d e x y r q) (visits_at u i) (visits_at v j) d e (visits-alike i j h) p)
+        (fold-pairs (Alike u v) (completed_within k u) (completed_within k v) (λ d e x y r q. within-alike k d e x y r q) (visits_at u i)
+        (visits_at v j) d e (visits-alike i j h) p)
         (Goes i j [] [] h Ends)) where
-          by_test : (a b : Bool) → a ≡ b → Pairs (Alike u v) (fold (completed_within k u) d (visits_at u i) ++ i ∷ []) (fold (completed_within k v) e (visits_at v j) ++ j ∷ []) → Pairs (Alike u v) (cond a d (fold (completed_within k u) d (visits_at u i) ++ i ∷ [])) (cond b e (fold (completed_within k v) e (visits_at v j) ++ j ∷ []))
+          by_test : (a b : Bool) → a ≡ b → Pairs (Alike u v) (fold (completed_within k u) d (visits_at u i) ++ i ∷ [])
+              (fold (completed_within k v) e (visits_at v j) ++ j ∷ [])
+              → Pairs (Alike u v) (cond a d (fold (completed_within k u) d (visits_at u i) ++ i ∷ []))
+              (cond b e (fold (completed_within k v) e (visits_at v j) ++ j ∷ []))
           by_test true true s q = p
           by_test true false s q = cc
           by_test false true s q = cc
@@ -272,15 +310,18 @@ module _ (tree : Tree) (u v : List Node) (hu : IsTableOf tree u) (hv : IsTableOf
 
   same-length : length u ≡ length v
   same-length =
-      sym (length-range_with_len 0 (length u)) ∙ pairs-length (Alike u v) (range_with_len 0 (length u)) (range_with_len 0 (length v)) numbers-alike ∙ length-range_with_len 0 (length v)
+      sym (length-range_with_len 0 (length u)) ∙ pairs-length (Alike u v) (range_with_len 0 (length u)) (range_with_len 0 (length v))
+      numbers-alike ∙ length-range_with_len 0 (length v)
 
   number-alike : (k : ℕ) → k < length u → Alike u v k k
   number-alike k l =
       let long = length-range_with_len 0 (length u) in
       let both = same-length in
-      let pair = pairs-at (Alike u v) (range_with_len 0 (length u)) (range_with_len 0 (length v)) k numbers-alike (omega (arith, long, l)) in
+      let pair = pairs-at (Alike u v) (range_with_len 0 (length u)) (range_with_len 0 (length v)) k numbers-alike
+      (omega (arith, long, l)) in
       subst (λ (j : ℕ). Alike u v j k) (range-at u v hu.table hv.table hu.different hv.different (length u) k l)
-      (subst (Alike u v (get_or (range_with_len 0 (length u)) k 0)) (range-at u v hu.table hv.table hu.different hv.different (length v) k (omega (arith, both, l))) pair)
+      (subst (Alike u v (get_or (range_with_len 0 (length u)) k 0))
+      (range-at u v hu.table hv.table hu.different hv.different (length v) k (omega (arith, both, l))) pair)
 
   node-same : (k : ℕ) → k < length u → slice_get u k ≡ slice_get v k
   node-same k l =
@@ -291,7 +332,8 @@ module _ (tree : Tree) (u v : List Node) (hu : IsTableOf tree u) (hv : IsTableOf
       let one = alike-one u v hu.table hv.table hu.different hv.different in
       let itself : NodePair (λ x y. x ≡ y) n.0 n.0 = node-itself n.0 in
       let same : n.0 ≡ m.0 =
-      node-right (λ x y. x ≡ y) (AlikeBelow u v hu.table hv.table k) (λ x y z e r. sym e ∙ same-number x z (lt_trans x k (length u) r.1 l) r.0) n.0 n.0 m.0 itself pair in
+      node-right (λ x y. x ≡ y) (AlikeBelow u v hu.table hv.table k)
+      (λ x y z e r. sym e ∙ same-number x z (lt_trans x k (length u) r.1 l) r.0) n.0 n.0 m.0 itself pair in
       n.1 ∙ ap Some same ∙ sym m.1 where
         lt_trans : (a b c : ℕ) → a < b → b < c → a < c
         lt_trans a b c h k = omega arith

@@ -1,5 +1,6 @@
 -- Orders of nodes on the way to a table, and what is made of the nodes that some roots reach.
-use Rattle.std.specs.Prelude.{◌≡◌, ℕ, ◌+◌, ◌<◌, ◌≤◌, if◌then◌else◌, List, map, length, take, Bool, true, false, All, Contains, Some, slice_get, slice_index, slice_index_or}
+use Rattle.std.specs.Prelude.{◌≡◌, ℕ, ◌+◌, ◌<◌, ◌≤◌, if◌then◌else◌, List, map, length, take, Bool, true, false, All, Contains, Some}
+use Rattle.std.specs.Prelude.{slice_get, slice_index, slice_index_or}
 use Rattle.std.specs.List.{sum_by, range_with_len}
 use Rattle.strategy_graph.specs.declared.Node.{Node}
 use Rattle.strategy_graph.specs.Tables.{Answers, answers_of, named, IsTable}
@@ -12,7 +13,8 @@ use Rattle.strategy_compiler.specs.Walks.{AreDifferent, NamesPointsFrom, Reached
 pub record IsOrder (t : List Node) (order : List ℕ) : Type 0 where
   pub within : (k i : ℕ) → slice_get order k ≡ Some i → i < length t
   pub once : (k l i : ℕ) → slice_get order k ≡ Some i → slice_get order l ≡ Some i → k ≡ l
-  pub after_named : (k i j : ℕ) (n : Node) → slice_get order k ≡ Some i → slice_get t i ≡ Some n → Contains (named (answers_of n)) j → is_in_list j (take k order) ≡ true
+  pub after_named : (k i j : ℕ) (n : Node) → slice_get order k ≡ Some i → slice_get t i ≡ Some n → Contains (named (answers_of n)) j
+      → is_in_list j (take k order) ≡ true
   pub short : length order ≤ length t
 
 -- each flag tells whether its number is in the list
@@ -47,7 +49,8 @@ pub record IsMadeFrom (t : List Node) (roots order : List ℕ) (u : List Node) :
   pub nodes : Renumbers t order u
   pub different : AreDifferent u
   pub each_root : (i : ℕ) → Contains roots i → IsMadeOf t i u (place_in order i)
-  pub each_start : (a : Answers) → ((j : ℕ) → Contains (named a) j → Contains roots j) → StartSaysSame t a u (renumbered_answers (place_in order) a)
+  pub each_start : (a : Answers) → ((j : ℕ) → Contains (named a) j → Contains roots j)
+      → StartSaysSame t a u (renumbered_answers (place_in order) a)
   pub reached : (k : ℕ) → k < length u → ReachedFrom u (map (place_in order) roots) k
   pub numbered : completed_from u (map (place_in order) roots) ≡ range_with_len 0 (length u)
   pub points : All (NamesPointsFrom t roots) u

@@ -43,5 +43,7 @@ pub record IsMadeOfAnswers (t : List Node) (answers : List Reply) (u : List Node
   pub table_points : All (NamesPointsFrom t (map (λ r. r.next) answers)) u
   pub start_points : All (λ r. Contains (map (λ s. s.at) answers) r.at) a.replies
   -- where the answers are to each move that goes on, the start is accepted where they are, with as many arrivals
-  pub accepted : (rule : RuleKind) (b : Grid) → AnswersEach rule b answers → AcceptedStart rule u a b ↔ AcceptedStart rule t (answers_alone answers) b
-  pub count : (rule : RuleKind) (b : Grid) → AnswersEach rule b answers → start_arrivals rule u a b ≡ start_arrivals rule t (answers_alone answers) b
+  pub accepted : (rule : RuleKind) (b : Grid) → AnswersEach rule b answers
+      → AcceptedStart rule u a b ↔ AcceptedStart rule t (answers_alone answers) b
+  pub count : (rule : RuleKind) (b : Grid) → AnswersEach rule b answers
+      → start_arrivals rule u a b ≡ start_arrivals rule t (answers_alone answers) b

@@ -1,5 +1,6 @@
 -- Walks over the nodes of a table: what nodes reach, the order in which walks complete nodes, and the table of a tree.
-use Rattle.std.specs.Prelude.{◌≡◌, ◌↔◌, ℕ, zero, suc, ◌-◌, ◌<◌, ◌==◌, if◌then◌else◌, List, [], ◌∷◌, ◌++◌, map, fold, length, Bool, Contains, Some, slice_get}
+use Rattle.std.specs.Prelude.{◌≡◌, ◌↔◌, ℕ, zero, suc, ◌-◌, ◌<◌, ◌==◌, if◌then◌else◌, List, [], ◌∷◌, ◌++◌, map, fold, length, Bool, Contains}
+use Rattle.std.specs.Prelude.{Some, slice_get}
 use Rattle.std.specs.List.{list_any, position_or_len, range_with_len}
 use Rattle.std.specs.Option.{option_map_or}
 use Rattle.strategy_graph.specs.declared.Node.{Node}
@@ -54,7 +55,8 @@ place_in js i = position_or_len (λ j. j == i) js
 -- table u has the nodes of t with these numbers in this order, and for each number that a node names its place among them
 pub record Renumbers (t : List Node) (order : List ℕ) (u : List Node) : Type 0 where
   pub count : length u ≡ length order
-  pub each : (k i : ℕ) → slice_get order k ≡ Some i → (n : Node) × (slice_get t i ≡ Some n) × (slice_get u k ≡ Some (renumbered_node (place_in order) n))
+  pub each : (k i : ℕ) → slice_get order k ≡ Some i → (n : Node) × (slice_get t i ≡ Some n)
+      × (slice_get u k ≡ Some (renumbered_node (place_in order) n))
 
 -- the number of the last node
 abbrev pub last : List Node → ℕ
@@ -83,12 +85,14 @@ ReachedFrom t roots k = (i : ℕ) × Contains roots i × Reaches t i k
 -- the node names the points of one that the root reaches in t
 abbrev pub NamesPointsReached : List Node → ℕ → Node → Type 0
 NamesPointsReached t root m =
-    (i : ℕ) × (n : Node) × Reaches t root i × (slice_get t i ≡ Some n) × (m.attack ≡ n.attack) × (map (λ r. r.at) m.replies ≡ map (λ r. r.at) n.replies)
+    (i : ℕ) × (n : Node) × Reaches t root i × (slice_get t i ≡ Some n) × (m.attack ≡ n.attack)
+    × (map (λ r. r.at) m.replies ≡ map (λ r. r.at) n.replies)
 
 -- the node names the points of one that one of the roots reaches in t
 abbrev pub NamesPointsFrom : List Node → List ℕ → Node → Type 0
 NamesPointsFrom t roots m =
-    (i : ℕ) × (n : Node) × ReachedFrom t roots i × (slice_get t i ≡ Some n) × (m.attack ≡ n.attack) × (map (λ r. r.at) m.replies ≡ map (λ r. r.at) n.replies)
+    (i : ℕ) × (n : Node) × ReachedFrom t roots i × (slice_get t i ≡ Some n) × (m.attack ≡ n.attack)
+    × (map (λ r. r.at) m.replies ≡ map (λ r. r.at) n.replies)
 
 -- a node reaches the same nodes however the table grows
 abbrev pub GrowthKeepsReach : Type 0

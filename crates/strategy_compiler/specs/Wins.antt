@@ -41,4 +41,5 @@ pub record IsWinTable (rule : RuleKind) (b : Grid) (win : WrittenWin) (t : List 
 -- a win is one in each list of nodes that begins with these
 abbrev pub GrowthKeepsWins : Type 0
 GrowthKeepsWins =
-    (rule : RuleKind) (limit : ℕ) (b : Grid) (t more : List Node) (win : WrittenWin) → NamesLower t → IsWrittenWin rule limit b t win → IsWrittenWin rule limit b (t ++ more) win
+    (rule : RuleKind) (limit : ℕ) (b : Grid) (t more : List Node) (win : WrittenWin) → NamesLower t → IsWrittenWin rule limit b t win
+    → IsWrittenWin rule limit b (t ++ more) win

@@ -1,5 +1,6 @@
 -- Answers to replies: which nodes they are, and what holds of them.
-use Rattle.std.proofs.Common.{◌≡◌, ℕ, ◌≤◌, ◌<◌, max, Bool, true, false, cond, List, [], ◌∷◌, ◌++◌, map, refl, arith, zero, suc, subst, ap, ◌+◌, length, drop, get_or, drop-cons, add-one, ◌∙◌, sym, Option, Some, None, nat_lt, Contains}
+use Rattle.std.proofs.Common.{◌≡◌, ℕ, ◌≤◌, ◌<◌, max, Bool, true, false, cond, List, [], ◌∷◌, ◌++◌, map, refl, arith, zero, suc, subst, ap}
+use Rattle.std.proofs.Common.{◌+◌, length, drop, get_or, drop-cons, add-one, ◌∙◌, sym, Option, Some, None, nat_lt, Contains}
 use Rattle.std.specs.List.{list_all, find, AllByRecursion, filter}
 use Rattle.std.specs.Option.{option_map, option_or}
 use Rattle.std.proofs.Math.ListN.{drop_of_length-le}
@@ -8,7 +9,8 @@ use Rattle.game_rules.specs.declared.Point.{Point}
 use Rattle.strategy_graph.specs.declared.Reply.{Reply}
 use Rattle.strategy_graph.specs.declared.Rest.{Rest}
 use Rattle.strategy_graph.specs.declared.Rest.TheVariants.{Wins, To, Nothing}
-use Rattle.strategy_graph.proofs.Common.{Answers, answer, listed_node, rest_node, rest_nodes, named, names_below, greatest, RepliesOn, is_winning, Answered, AtNode}
+use Rattle.strategy_graph.proofs.Common.{Answers, answer, listed_node, rest_node, rest_nodes, named, names_below, greatest, RepliesOn}
+use Rattle.strategy_graph.proofs.Common.{is_winning, Answered, AtNode}
 use Rattle.strategy_graph.specs.declared.Node.{Node}
 use Rattle.game_rules.proofs.Boards.{and_left, and_right}
 use borrow.Author.Tests.{ltb-true}
@@ -19,10 +21,13 @@ option_or_cases None p j W f g h = g h
 option_or_cases (Some i) p j W f g h = f h
 
 -- an answer is no deeper than the deepest node that is named
-greatest-left : (d : ℕ → ℕ) (rs : List Reply) (js : List ℕ) (q : Point) (j : ℕ) → listed_node rs q ≡ Some j → d j ≤ greatest (map d (map (λ r. r.next) rs ++ js))
+greatest-left : (d : ℕ → ℕ) (rs : List Reply) (js : List ℕ) (q : Point) (j : ℕ) → listed_node rs q ≡ Some j
+    → d j ≤ greatest (map d (map (λ r. r.next) rs ++ js))
 greatest-left d [] js q j h = cc
 greatest-left d (r ∷ rs) js q j h = by_test (is_same_point r.at q) h (greatest-left d rs js q j) where
-  by_test : (t : Bool) → option_map (λ r. r.next) (cond t (Some r) (find (λ r. is_same_point r.at q) rs)) ≡ Some j → (listed_node rs q ≡ Some j → d j ≤ greatest (map d (map (λ r. r.next) rs ++ js))) → d j ≤ max (d r.next) (greatest (map d (map (λ r. r.next) rs ++ js)))
+  by_test : (t : Bool) → option_map (λ r. r.next) (cond t (Some r) (find (λ r. is_same_point r.at q) rs)) ≡ Some j
+      → (listed_node rs q ≡ Some j → d j ≤ greatest (map d (map (λ r. r.next) rs ++ js)))
+      → d j ≤ max (d r.next) (greatest (map d (map (λ r. r.next) rs ++ js)))
   by_test true h below = let e : d r.next ≡ d j = cc in omega (arith, e)
   by_test false h below = let low = below h in omega (arith, low)
 
@@ -30,7 +35,8 @@ greatest-rest : (d : ℕ → ℕ) (rest : Rest) (j : ℕ) → rest_node rest ≡
 greatest-rest d (To k) j h = let e : d k ≡ d j = cc in omega (arith, e)
 greatest-rest d _ j h = cc
 
-greatest-right : (d : ℕ → ℕ) (rs : List Reply) (js : List ℕ) (m : ℕ) → m ≤ greatest (map d js) → m ≤ greatest (map d (map (λ r. r.next) rs ++ js))
+greatest-right : (d : ℕ → ℕ) (rs : List Reply) (js : List ℕ) (m : ℕ) → m ≤ greatest (map d js)
+    → m ≤ greatest (map d (map (λ r. r.next) rs ++ js))
 greatest-right d [] js m h = h
 greatest-right d (r ∷ rs) js m h = let low = greatest-right d rs js m h in omega (arith, low)
 
@@ -40,10 +46,12 @@ answer-greatest d a q j h =
     (λ e. greatest-right d a.replies (rest_nodes a.rest) (d j) (greatest-rest d a.rest j e)) h
 
 -- an answer is one of the nodes that are named
-all-left : (p : ℕ → Bool) (rs : List Reply) (js : List ℕ) (q : Point) (j : ℕ) → list_all p (map (λ r. r.next) rs ++ js) ≡ true → listed_node rs q ≡ Some j → p j ≡ true
+all-left : (p : ℕ → Bool) (rs : List Reply) (js : List ℕ) (q : Point) (j : ℕ) → list_all p (map (λ r. r.next) rs ++ js) ≡ true
+    → listed_node rs q ≡ Some j → p j ≡ true
 all-left p [] js q j all h = cc
 all-left p (r ∷ rs) js q j all h = by_test (is_same_point r.at q) h (all-left p rs js q j (and_right (p r.next) _ all)) where
-  by_test : (t : Bool) → option_map (λ r. r.next) (cond t (Some r) (find (λ r. is_same_point r.at q) rs)) ≡ Some j → (listed_node rs q ≡ Some j → p j ≡ true) → p j ≡ true
+  by_test : (t : Bool) → option_map (λ r. r.next) (cond t (Some r) (find (λ r. is_same_point r.at q) rs)) ≡ Some j
+      → (listed_node rs q ≡ Some j → p j ≡ true) → p j ≡ true
   by_test true h below = let e : r.next ≡ j = cc in let here : p r.next ≡ true = and_left (p r.next) _ all in cc
   by_test false h below = below h
 
@@ -85,11 +93,15 @@ nodes-append_nil [] = refl
 nodes-append_nil (n ∷ t) = ap (λ (r : List Node). n ∷ r) (nodes-append_nil t)
 
 module _ (p : ℕ → Bool) (rs : List Reply) (i : ℕ) where
-  pub find-next_hit : (d : Reply) → i < length rs → p (get_or rs i d).next ≡ true → find p (map (λ r. r.next) (drop i rs)) ≡ Some (get_or rs i d).next
-  find-next_hit d l h = rw (drop-cons rs i d) (ap (λ (b : Bool). cond b (Some (get_or rs i d).next) (find p (map (λ r. r.next) (drop (suc i) rs)))) h)
+  pub find-next_hit : (d : Reply) → i < length rs → p (get_or rs i d).next ≡ true
+      → find p (map (λ r. r.next) (drop i rs)) ≡ Some (get_or rs i d).next
+  find-next_hit d l h = rw (drop-cons rs i d)
+      (ap (λ (b : Bool). cond b (Some (get_or rs i d).next) (find p (map (λ r. r.next) (drop (suc i) rs)))) h)
 
-  pub find-next_miss : (d : Reply) → i < length rs → p (get_or rs i d).next ≡ false → find p (map (λ r. r.next) (drop i rs)) ≡ find p (map (λ r. r.next) (drop (i + 1) rs))
-  find-next_miss d l h = rw (add-one, drop-cons rs i d) (ap (λ (b : Bool). cond b (Some (get_or rs i d).next) (find p (map (λ r. r.next) (drop (suc i) rs)))) h)
+  pub find-next_miss : (d : Reply) → i < length rs → p (get_or rs i d).next ≡ false
+      → find p (map (λ r. r.next) (drop i rs)) ≡ find p (map (λ r. r.next) (drop (i + 1) rs))
+  find-next_miss d l h = rw (add-one, drop-cons rs i d)
+      (ap (λ (b : Bool). cond b (Some (get_or rs i d).next) (find p (map (λ r. r.next) (drop (suc i) rs)))) h)
 
   pub find-next_none : length rs ≤ i → find p (map (λ r. r.next) (drop i rs)) ≡ None
   find-next_none l = ap (λ (xs : List Reply). find p (map (λ r. r.next) xs)) (drop_of_length-le rs l)
@@ -103,7 +115,8 @@ replies-on b (r ∷ rs) (s ∷ ss) e h =
     let later : map (λ r. r.at) rs ≡ map (λ r. r.at) ss = cc in
     (ap (is_on b) at ∙ h.0, replies-on b rs ss later h.1)
 
-pub attack_at : (o : Option Node) (P : Node → Type 0) (p : Point) → ((n : Node) → P n → n.attack ≡ p) → AtNode o P → option_map (λ n. n.attack) o ≡ Some p
+pub attack_at : (o : Option Node) (P : Node → Type 0) (p : Point) → ((n : Node) → P n → n.attack ≡ p) → AtNode o P
+    → option_map (λ n. n.attack) o ≡ Some p
 attack_at None P p f h = absurd h
 attack_at (Some n) P p f h = ap Some (f n h)
 
@@ -115,7 +128,8 @@ pub nothing_not_winning : (r : Rest) → r ≡ Nothing → is_winning r ≡ true
 nothing_not_winning Wins e h = cc
 nothing_not_winning _ e h = cc
 
-pub winning_no_answer : (n : Node) (q : Point) (r : Rest) → is_winning r ≡ true → n.replies ≡ [] → answer (record { replies = n.replies; rest = r }) q ≡ None
+pub winning_no_answer : (n : Node) (q : Point) (r : Rest) → is_winning r ≡ true → n.replies ≡ []
+    → answer (record { replies = n.replies; rest = r }) q ≡ None
 winning_no_answer n q Wins h e = ap (λ (rs : List Reply). answer (record { replies = rs; rest = Wins }) q) e
 winning_no_answer n q _ h e = cc
 
@@ -124,7 +138,8 @@ not_winning_by None P e h = h
 not_winning_by (Some j) P e h = cc
 
 -- replies at points that pass
-pub passed : (f : Point → Bool) (ps : List Point) (rs : List Reply) → map (λ r. r.at) rs ≡ filter f ps → AllByRecursion (λ r. f r.at ≡ true) rs
+pub passed : (f : Point → Bool) (ps : List Point) (rs : List Reply) → map (λ r. r.at) rs ≡ filter f ps
+    → AllByRecursion (λ r. f r.at ≡ true) rs
 passed f ps rs e = at_points rs (subst (AllByRecursion (λ q. f q ≡ true)) (sym e) (passing ps)) where
   at_points : (rs : List Reply) → AllByRecursion (λ q. f q ≡ true) (map (λ r. r.at) rs) → AllByRecursion (λ r. f r.at ≡ true) rs
   at_points [] h = tt

@@ -1,9 +1,11 @@
 -- The words of tables, all in one place for the files of laws.
 pub use Rattle.strategy_graph.specs.Acceptance.{Accepted, AcceptedNode, AcceptedStart, Answered, Meets, NotWinning}
 unfoldable pub use Rattle.strategy_graph.specs.Acceptance.{AcceptedWithin}
-pub use Rattle.strategy_graph.specs.Arrivals.{arrivals, arrivals_after, arrivals_among, arrivals_at, arrivals_behind, if_answered, start_arrivals}
+pub use Rattle.strategy_graph.specs.Arrivals.{arrivals, arrivals_after, arrivals_among, arrivals_at, arrivals_behind, if_answered}
+pub use Rattle.strategy_graph.specs.Arrivals.{start_arrivals}
 unfoldable pub use Rattle.strategy_graph.specs.Arrivals.{arrivals_within}
-pub use Rattle.strategy_graph.specs.Games.{Drawn, End, EndsWell, IllegalReply, Lost, NoMove, Open, Won, after_attack, after_reply, attacks_at, end_at, if_node, one_later, points_from, points_on}
+pub use Rattle.strategy_graph.specs.Games.{Drawn, End, EndsWell, IllegalReply, Lost, NoMove, Open, Won, after_attack, after_reply}
+pub use Rattle.strategy_graph.specs.Games.{attacks_at, end_at, if_node, one_later, points_from, points_on}
 unfoldable pub use Rattle.strategy_graph.specs.Games.{attacks, game}
 pub use Rattle.strategy_graph.specs.Laws.{SaysSame, StartSaysSame}
 pub use Rattle.strategy_graph.specs.Leads.{AtNode, LeadsStart, ReplyLeads, attack_fault, reply_fault}
@@ -11,5 +13,7 @@ unfoldable pub use Rattle.strategy_graph.specs.Leads.{Leads}
 pub use Rattle.strategy_graph.specs.Renumbered.{renumbered_answers, renumbered_node, renumbered_reply, renumbered_rest}
 pub use Rattle.strategy_graph.specs.Roots.{AcceptedRoot, LeadsRoot, RootWins, root_arrivals, root_below, root_depth}
 pub use Rattle.strategy_graph.specs.Same.{same_replies, same_replies_decides}
-pub use Rattle.strategy_graph.specs.Tables.{Answers, AreDepths, IsNode, IsTable, IsTableWithDepths, NamesLower, NamesOnBoard, RepliesOn, TableOnBoard, answer, answer_at, answers_of, depth, greatest, is_rising, is_winning, listed_node, named, names_below, node_depth, rest_node, rest_nodes, start_depth}
+pub use Rattle.strategy_graph.specs.Tables.{Answers, AreDepths, IsNode, IsTable, IsTableWithDepths, NamesLower, NamesOnBoard, RepliesOn}
+pub use Rattle.strategy_graph.specs.Tables.{TableOnBoard, answer, answer_at, answers_of, depth, greatest, is_rising, is_winning}
+pub use Rattle.strategy_graph.specs.Tables.{listed_node, named, names_below, node_depth, rest_node, rest_nodes, start_depth}
 unfoldable pub use Rattle.strategy_graph.specs.Tables.{depth_within}

@@ -1,5 +1,6 @@
 -- A table that holds a copy of nodes of another, under other numbers, says the same at them.
-use Rattle.std.proofs.Common.{◌≡◌, ℕ, zero, suc, Bool, true, false, cond, List, [], ◌∷◌, ◌++◌, map, refl, sym, ap, subst, ◌∙◌, Option, Some, None, slice_get, ◌↔◌}
+use Rattle.std.proofs.Common.{◌≡◌, ℕ, zero, suc, Bool, true, false, cond, List, [], ◌∷◌, ◌++◌, map, refl, sym, ap, subst, ◌∙◌, Option, Some}
+use Rattle.std.proofs.Common.{None, slice_get, ◌↔◌}
 use Rattle.std.specs.List.{list_all, find, sum_by}
 use Rattle.std.specs.Option.{option_map, option_or}
 use Rattle.game_rules.proofs.Common.{Grid, points_of, is_same_point, outcome, after, WinsOr, LosesOr, if_goes_on}
@@ -12,14 +13,20 @@ use Rattle.strategy_graph.specs.declared.Rest.{Rest}
 use Rattle.strategy_graph.specs.declared.Rest.TheVariants.{Wins, To, Nothing}
 use Rattle.strategy_graph.specs.declared.Node.{Node}
 use Rattle.strategy_graph.specs.declared.Why.{Why}
-use Rattle.strategy_graph.proofs.Common.{Answers, answers_of, answer, listed_node, rest_node, rest_nodes, named, is_winning, greatest, node_depth, depth_within, renumbered_rest, renumbered_reply, renumbered_answers, renumbered_node, Answered, NotWinning, Meets, AcceptedNode, AcceptedWithin, if_answered, arrivals_at, arrivals_after, arrivals_behind, arrivals_within, End, NoMove, Open, after_attack, after_reply, one_later, if_node, end_at, game, points_on, points_from, attacks_at, attacks, attack_fault, reply_fault, AtNode, ReplyLeads, Leads}
+use Rattle.strategy_graph.proofs.Common.{Answers, answers_of, answer, listed_node, rest_node, rest_nodes, named, is_winning, greatest}
+use Rattle.strategy_graph.proofs.Common.{node_depth, depth_within, renumbered_rest, renumbered_reply, renumbered_answers, renumbered_node}
+use Rattle.strategy_graph.proofs.Common.{Answered, NotWinning, Meets, AcceptedNode, AcceptedWithin, if_answered, arrivals_at}
+use Rattle.strategy_graph.proofs.Common.{arrivals_after, arrivals_behind, arrivals_within, End, NoMove, Open, after_attack, after_reply}
+use Rattle.strategy_graph.proofs.Common.{one_later, if_node, end_at, game, points_on, points_from, attacks_at, attacks, attack_fault}
+use Rattle.strategy_graph.proofs.Common.{reply_fault, AtNode, ReplyLeads, Leads}
 use Rattle.strategy_graph.proofs.Answering.{answer-named}
 use Rattle.game_rules.proofs.Boards.{and_left, and_right}
 
 -- For each number i that passes, table t has a node i, table u has the same node renumbered_node at f i, and each number that
 -- the node names passes too.
 pub record Copies (f : ℕ → ℕ) (passes : ℕ → Bool) (t u : List Node) : Type 0 where
-  pub copied : (i : ℕ) → passes i ≡ true → (n : Node) × (slice_get t i ≡ Some n) × (slice_get u (f i) ≡ Some (renumbered_node f n)) × (list_all passes (named (answers_of n)) ≡ true)
+  pub copied : (i : ℕ) → passes i ≡ true → (n : Node) × (slice_get t i ≡ Some n) × (slice_get u (f i) ≡ Some (renumbered_node f n))
+      × (list_all passes (named (answers_of n)) ≡ true)
 
 -- facts that are equal follow from one another
 pub iff_by : (A B : Type 0) → A ≡ B → A ↔ B
@@ -31,10 +38,13 @@ option_or-map : (f : ℕ → ℕ) (o p : Option ℕ) → option_or (option_map f
 option_or-map f None p = refl
 option_or-map f (Some j) p = refl
 
-listed-renumbered : (f : ℕ → ℕ) (rs : List Reply) (q : Point) → listed_node (map (renumbered_reply f) rs) q ≡ option_map f (listed_node rs q)
+listed-renumbered : (f : ℕ → ℕ) (rs : List Reply) (q : Point)
+    → listed_node (map (renumbered_reply f) rs) q ≡ option_map f (listed_node rs q)
 listed-renumbered f [] q = refl
 listed-renumbered f (r ∷ rs) q = by_test (is_same_point r.at q) (listed-renumbered f rs q) where
-  by_test : (b : Bool) → listed_node (map (renumbered_reply f) rs) q ≡ option_map f (listed_node rs q) → option_map (λ r. r.next) (cond b (Some (renumbered_reply f r)) (find (λ r. is_same_point r.at q) (map (renumbered_reply f) rs))) ≡ option_map f (option_map (λ r. r.next) (cond b (Some r) (find (λ r. is_same_point r.at q) rs)))
+  by_test : (b : Bool) → listed_node (map (renumbered_reply f) rs) q ≡ option_map f (listed_node rs q)
+      → option_map (λ r. r.next) (cond b (Some (renumbered_reply f r)) (find (λ r. is_same_point r.at q) (map (renumbered_reply f) rs)))
+      ≡ option_map f (option_map (λ r. r.next) (cond b (Some r) (find (λ r. is_same_point r.at q) rs)))
   by_test true h = refl
   by_test false h = h
 
@@ -43,7 +53,8 @@ rest_node-renumbered f Wins = refl
 rest_node-renumbered f _ = refl
 
 pub answer-renumbered : (f : ℕ → ℕ) (a : Answers) (q : Point) → answer (renumbered_answers f a) q ≡ option_map f (answer a q)
-answer-renumbered f a q = rw (listed-renumbered f a.replies q, rest_node-renumbered f a.rest) (option_or-map f (listed_node a.replies q) (rest_node a.rest))
+answer-renumbered f a q = rw (listed-renumbered f a.replies q, rest_node-renumbered f a.rest)
+    (option_or-map f (listed_node a.replies q) (rest_node a.rest))
 
 pub is_winning-renumbered : (f : ℕ → ℕ) (r : Rest) → is_winning (renumbered_rest f r) ≡ is_winning r
 is_winning-renumbered f Wins = refl
@@ -57,7 +68,8 @@ rest_nodes-renumbered : (f : ℕ → ℕ) (r : Rest) → rest_nodes (renumbered_
 rest_nodes-renumbered f Wins = refl
 rest_nodes-renumbered f _ = refl
 
-named_by : (f : ℕ → ℕ) (rs : List Reply) (r : Rest) → map (λ r. r.next) (map (renumbered_reply f) rs) ++ rest_nodes (renumbered_rest f r) ≡ map f (map (λ r. r.next) rs ++ rest_nodes r)
+named_by : (f : ℕ → ℕ) (rs : List Reply) (r : Rest)
+    → map (λ r. r.next) (map (renumbered_reply f) rs) ++ rest_nodes (renumbered_rest f r) ≡ map f (map (λ r. r.next) rs ++ rest_nodes r)
 named_by f [] r = rest_nodes-renumbered f r
 named_by f (x ∷ rs) r = ap (λ js. f x.next ∷ js) (named_by f rs r)
 
@@ -83,18 +95,21 @@ renumbered_answers-same a = λ i. record { replies = renumbered_replies-same a.r
 -- ---- one step, where the values at the answers agree
 
 module _ (f : ℕ → ℕ) (passes : ℕ → Bool) where
-  greatest-copied : (d e : ℕ → ℕ) → ((j : ℕ) → passes j ≡ true → e (f j) ≡ d j) → (js : List ℕ) → list_all passes js ≡ true → greatest (map e (map f js)) ≡ greatest (map d js)
+  greatest-copied : (d e : ℕ → ℕ) → ((j : ℕ) → passes j ≡ true → e (f j) ≡ d j) → (js : List ℕ) → list_all passes js ≡ true
+      → greatest (map e (map f js)) ≡ greatest (map d js)
   greatest-copied d e same [] all = refl
   greatest-copied d e same (j ∷ js) all =
       let here : e (f j) ≡ d j = same j (and_left (passes j) _ all) in
       let later : greatest (map e (map f js)) ≡ greatest (map d js) = greatest-copied d e same js (and_right (passes j) _ all) in
       rw (here, later) refl
 
-  answered-copied : (P P' : ℕ → Type 0) (o : Option ℕ) → ((j : ℕ) → o ≡ Some j → P' (f j) ≡ P j) → Answered (option_map f o) P' ≡ Answered o P
+  answered-copied : (P P' : ℕ → Type 0) (o : Option ℕ) → ((j : ℕ) → o ≡ Some j → P' (f j) ≡ P j)
+      → Answered (option_map f o) P' ≡ Answered o P
   answered-copied P P' None h = refl
   answered-copied P P' (Some j) h = h j refl
 
-  if_answered-copied : (m m' : ℕ → ℕ) (o : Option ℕ) → ((j : ℕ) → o ≡ Some j → m' (f j) ≡ m j) → if_answered (option_map f o) m' ≡ if_answered o m
+  if_answered-copied : (m m' : ℕ → ℕ) (o : Option ℕ) → ((j : ℕ) → o ≡ Some j → m' (f j) ≡ m j)
+      → if_answered (option_map f o) m' ≡ if_answered o m
   if_answered-copied m m' None h = refl
   if_answered-copied m m' (Some j) h = h j refl
 
@@ -102,7 +117,8 @@ module _ (f : ℕ → ℕ) (passes : ℕ → Bool) where
   if_node-copied e e' None h = refl
   if_node-copied e e' (Some j) h = ap one_later (h j refl)
 
-  points_from-copied : (ps ps' : ℕ → List Point) (o : Option ℕ) → ((j : ℕ) → o ≡ Some j → ps' (f j) ≡ ps j) → points_from (option_map f o) ps' ≡ points_from o ps
+  points_from-copied : (ps ps' : ℕ → List Point) (o : Option ℕ) → ((j : ℕ) → o ≡ Some j → ps' (f j) ≡ ps j)
+      → points_from (option_map f o) ps' ≡ points_from o ps
   points_from-copied ps ps' None h = refl
   points_from-copied ps ps' (Some j) h = h j refl
 
@@ -114,7 +130,8 @@ module _ (f : ℕ → ℕ) (passes : ℕ → Bool) where
   reply_fault-copied GoesOn None = refl
   reply_fault-copied GoesOn (Some j) = refl
 
-  reply_leads-copied : (u : Outcome) (o : Option ℕ) (line : List Point) (P P' : ℕ → Type 0) (why : Why) → ((j : ℕ) → o ≡ Some j → P' (f j) ≡ P j) → ReplyLeads u (option_map f o) line P' why ≡ ReplyLeads u o line P why
+  reply_leads-copied : (u : Outcome) (o : Option ℕ) (line : List Point) (P P' : ℕ → Type 0) (why : Why)
+      → ((j : ℕ) → o ≡ Some j → P' (f j) ≡ P j) → ReplyLeads u (option_map f o) line P' why ≡ ReplyLeads u o line P why
   reply_leads-copied u o [] P P' why h = ap (λ (w : Option Why). w ≡ Some why) (reply_fault-copied u o)
   reply_leads-copied u o (p ∷ line) P P' why h = ap (λ (W : Type 0). (u ≡ GoesOn) × W) (answered-copied P P' o h)
 
@@ -123,68 +140,104 @@ module _ (f : ℕ → ℕ) (passes : ℕ → Bool) where
     passing : (q : Point) (j : ℕ) → answer a q ≡ Some j → passes j ≡ true
     passing q j e = answer-named passes a q j all e
 
-    pub Meets-copied : (rule : RuleKind) (N N' : ℕ → Grid → Type 0) → ((j : ℕ) → passes j ≡ true → (c : Grid) → N' (f j) c ≡ N j c) → (b : Grid) (q : Point) → Meets rule (renumbered_answers f a) N' b q ≡ Meets rule a N b q
+    pub Meets-copied : (rule : RuleKind) (N N' : ℕ → Grid → Type 0) → ((j : ℕ) → passes j ≡ true → (c : Grid) → N' (f j) c ≡ N j c)
+        → (b : Grid) (q : Point) → Meets rule (renumbered_answers f a) N' b q ≡ Meets rule a N b q
     Meets-copied rule N N' same b q =
         ap (λ (W : Type 0). LosesOr (outcome rule b q) W)
         (ap (λ (o : Option ℕ). Answered o (λ j. N' j (after b q))) (answer-renumbered f a q)
         ∙ answered-copied (λ j. N j (after b q)) (λ j. N' j (after b q)) (answer a q) (λ j e. same j (passing q j e) (after b q)))
 
-    arrivals_at-copied : (rule : RuleKind) (m m' : ℕ → Grid → ℕ) → ((j : ℕ) → passes j ≡ true → (c : Grid) → m' (f j) c ≡ m j c) → (b : Grid) (q : Point) → arrivals_at rule (renumbered_answers f a) m' b q ≡ arrivals_at rule a m b q
+    arrivals_at-copied : (rule : RuleKind) (m m' : ℕ → Grid → ℕ) → ((j : ℕ) → passes j ≡ true → (c : Grid) → m' (f j) c ≡ m j c)
+        → (b : Grid) (q : Point) → arrivals_at rule (renumbered_answers f a) m' b q ≡ arrivals_at rule a m b q
     arrivals_at-copied rule m m' same b q =
         ap (λ (k : ℕ). if_goes_on (outcome rule b q) k)
         (ap (λ (o : Option ℕ). if_answered o (λ j. m' j (after b q))) (answer-renumbered f a q)
         ∙ if_answered-copied (λ j. m j (after b q)) (λ j. m' j (after b q)) (answer a q) (λ j e. same j (passing q j e) (after b q)))
 
-    pub arrivals_after-copied : (rule : RuleKind) (m m' : ℕ → Grid → ℕ) → ((j : ℕ) → passes j ≡ true → (c : Grid) → m' (f j) c ≡ m j c) → (b : Grid) → arrivals_after rule (renumbered_answers f a) m' b ≡ arrivals_after rule a m b
+    pub arrivals_after-copied : (rule : RuleKind) (m m' : ℕ → Grid → ℕ) → ((j : ℕ) → passes j ≡ true → (c : Grid) → m' (f j) c ≡ m j c)
+        → (b : Grid) → arrivals_after rule (renumbered_answers f a) m' b ≡ arrivals_after rule a m b
     arrivals_after-copied rule m m' same b =
-        let each : arrivals_at rule (renumbered_answers f a) m' b ≡ arrivals_at rule a m b = λ i q. arrivals_at-copied rule m m' same b q i in
+        let each : arrivals_at rule (renumbered_answers f a) m' b ≡ arrivals_at rule a m b =
+        λ i q. arrivals_at-copied rule m m' same b q i in
         ap (λ (g : Point → ℕ). sum_by g (points_of b)) each
 
-    if_node-answer : (e e' : ℕ → Grid → End) → ((j : ℕ) → passes j ≡ true → (c : Grid) → e' (f j) c ≡ e j c) → (c : Grid) (q : Point) → if_node (answer (renumbered_answers f a) q) (λ j. e' j c) ≡ if_node (answer a q) (λ j. e j c)
+    if_node-answer : (e e' : ℕ → Grid → End) → ((j : ℕ) → passes j ≡ true → (c : Grid) → e' (f j) c ≡ e j c) → (c : Grid) (q : Point)
+        → if_node (answer (renumbered_answers f a) q) (λ j. e' j c) ≡ if_node (answer a q) (λ j. e j c)
     if_node-answer e e' same c q =
         ap (λ (o : Option ℕ). if_node o (λ j. e' j c)) (answer-renumbered f a q)
         ∙ if_node-copied (λ j. e j c) (λ j. e' j c) (answer a q) (λ j h. same j (passing q j h) c)
 
-    points_from-answer : (ps ps' : ℕ → Grid → List Point) → ((j : ℕ) → passes j ≡ true → (c : Grid) → ps' (f j) c ≡ ps j c) → (c : Grid) (q : Point) → points_from (answer (renumbered_answers f a) q) (λ j. ps' j c) ≡ points_from (answer a q) (λ j. ps j c)
+    points_from-answer : (ps ps' : ℕ → Grid → List Point) → ((j : ℕ) → passes j ≡ true → (c : Grid) → ps' (f j) c ≡ ps j c)
+        → (c : Grid) (q : Point) → points_from (answer (renumbered_answers f a) q) (λ j. ps' j c) ≡ points_from (answer a q) (λ j. ps j c)
     points_from-answer ps ps' same c q =
         ap (λ (o : Option ℕ). points_from o (λ j. ps' j c)) (answer-renumbered f a q)
         ∙ points_from-copied (λ j. ps j c) (λ j. ps' j c) (answer a q) (λ j h. same j (passing q j h) c)
 
-    pub reply_leads-answer : (N N' : ℕ → Grid → Type 0) → ((j : ℕ) → passes j ≡ true → (c : Grid) → N' (f j) c ≡ N j c) → (u : Outcome) (line : List Point) (why : Why) (c : Grid) (q : Point) → ReplyLeads u (answer (renumbered_answers f a) q) line (λ j. N' j c) why ≡ ReplyLeads u (answer a q) line (λ j. N j c) why
+    pub reply_leads-answer : (N N' : ℕ → Grid → Type 0) → ((j : ℕ) → passes j ≡ true → (c : Grid) → N' (f j) c ≡ N j c)
+        → (u : Outcome) (line : List Point) (why : Why) (c : Grid) (q : Point)
+        → ReplyLeads u (answer (renumbered_answers f a) q) line (λ j. N' j c) why ≡ ReplyLeads u (answer a q) line (λ j. N j c) why
     reply_leads-answer N N' same u line why c q =
         ap (λ (o : Option ℕ). ReplyLeads u o line (λ j. N' j c) why) (answer-renumbered f a q)
         ∙ reply_leads-copied u (answer a q) line (λ j. N j c) (λ j. N' j c) why (λ j h. same j (passing q j h) c)
 
-    pub depths-copied : (d e : ℕ → ℕ) → ((j : ℕ) → passes j ≡ true → e (f j) ≡ d j) → greatest (map e (named (renumbered_answers f a))) ≡ greatest (map d (named a))
+    pub depths-copied : (d e : ℕ → ℕ) → ((j : ℕ) → passes j ≡ true → e (f j) ≡ d j)
+        → greatest (map e (named (renumbered_answers f a))) ≡ greatest (map d (named a))
     depths-copied d e same = ap (λ (js : List ℕ). greatest (map e js)) (named-renumbered f a) ∙ greatest-copied d e same (named a) all
 
   module _ (n : Node) (all : list_all passes (named (answers_of n)) ≡ true) where
-    pub accepted_node-copied : (rule : RuleKind) (N N' : ℕ → Grid → Type 0) → ((j : ℕ) → passes j ≡ true → (c : Grid) → N' (f j) c ≡ N j c) → (b : Grid) → AcceptedNode rule (Some (renumbered_node f n)) N' b ≡ AcceptedNode rule (Some n) N b
+    pub accepted_node-copied : (rule : RuleKind) (N N' : ℕ → Grid → Type 0) → ((j : ℕ) → passes j ≡ true → (c : Grid) → N' (f j) c ≡ N j c)
+        → (b : Grid) → AcceptedNode rule (Some (renumbered_node f n)) N' b ≡ AcceptedNode rule (Some n) N b
     accepted_node-copied rule N N' same b =
-        let inside : (NotWinning (renumbered_rest f n.rest) × ((q : Point) → Meets rule (renumbered_answers f (answers_of n)) N' (after b n.attack) q)) ≡ (NotWinning n.rest × ((q : Point) → Meets rule (answers_of n) N (after b n.attack) q)) =
+        let inside : (NotWinning (renumbered_rest f n.rest)
+        × ((q : Point) → Meets rule (renumbered_answers f (answers_of n)) N' (after b n.attack) q))
+        ≡ (NotWinning n.rest × ((q : Point) → Meets rule (answers_of n) N (after b n.attack) q)) =
         λ i. NotWinning-renumbered f n.rest i × ((q : Point) → Meets-copied (answers_of n) all rule N N' same (after b n.attack) q i) in
         ap (λ (W : Type 0). WinsOr (outcome rule b n.attack) W) inside
 
-    pub arrivals_behind-copied : (rule : RuleKind) (m m' : ℕ → Grid → ℕ) → ((j : ℕ) → passes j ≡ true → (c : Grid) → m' (f j) c ≡ m j c) → (b : Grid) → arrivals_behind rule (Some (renumbered_node f n)) m' b ≡ arrivals_behind rule (Some n) m b
+    pub arrivals_behind-copied : (rule : RuleKind) (m m' : ℕ → Grid → ℕ) → ((j : ℕ) → passes j ≡ true → (c : Grid) → m' (f j) c ≡ m j c)
+        → (b : Grid) → arrivals_behind rule (Some (renumbered_node f n)) m' b ≡ arrivals_behind rule (Some n) m b
     arrivals_behind-copied rule m m' same b =
-        ap (λ (w : Bool). if_goes_on (outcome rule b n.attack) (cond w 0 (arrivals_after rule (renumbered_answers f (answers_of n)) m' (after b n.attack)))) (is_winning-renumbered f n.rest)
-        ∙ ap (λ (k : ℕ). if_goes_on (outcome rule b n.attack) (cond (is_winning n.rest) 0 k)) (arrivals_after-copied (answers_of n) all rule m m' same (after b n.attack))
+        ap (λ (w : Bool). if_goes_on (outcome rule b n.attack)
+        (cond w 0 (arrivals_after rule (renumbered_answers f (answers_of n)) m' (after b n.attack)))) (is_winning-renumbered f n.rest)
+        ∙ ap (λ (k : ℕ). if_goes_on (outcome rule b n.attack) (cond (is_winning n.rest) 0 k))
+        (arrivals_after-copied (answers_of n) all rule m m' same (after b n.attack))
 
     end_at-open : (rule : RuleKind) (b : Grid) → end_at rule (Some (renumbered_node f n)) b (λ n. Open) ≡ end_at rule (Some n) b (λ n. Open)
     end_at-open rule b = ap (λ (w : Bool). after_attack (outcome rule b n.attack) (cond w NoMove Open)) (is_winning-renumbered f n.rest)
 
-    end_at-copied : (rule : RuleKind) (e e' : ℕ → Grid → End) → ((j : ℕ) → passes j ≡ true → (c : Grid) → e' (f j) c ≡ e j c) → (b : Grid) (q : Point) → end_at rule (Some (renumbered_node f n)) b (λ n. after_reply (outcome rule (after b n.attack) q) (if_node (answer (answers_of n) q) (λ j. e' j (after (after b n.attack) q)))) ≡ end_at rule (Some n) b (λ n. after_reply (outcome rule (after b n.attack) q) (if_node (answer (answers_of n) q) (λ j. e j (after (after b n.attack) q))))
+    end_at-copied : (rule : RuleKind) (e e' : ℕ → Grid → End) → ((j : ℕ) → passes j ≡ true → (c : Grid) → e' (f j) c ≡ e j c)
+        → (b : Grid) (q : Point) → end_at rule (Some (renumbered_node f n)) b
+        (λ n. after_reply (outcome rule (after b n.attack) q) (if_node (answer (answers_of n) q) (λ j. e' j (after (after b n.attack) q))))
+        ≡ end_at rule (Some n) b
+        (λ n. after_reply (outcome rule (after b n.attack) q) (if_node (answer (answers_of n) q) (λ j. e j (after (after b n.attack) q))))
     end_at-copied rule e e' same b q =
-        ap (λ (w : Bool). after_attack (outcome rule b n.attack) (cond w NoMove (after_reply (outcome rule (after b n.attack) q) (if_node (answer (renumbered_answers f (answers_of n)) q) (λ j. e' j (after (after b n.attack) q)))))) (is_winning-renumbered f n.rest)
-        ∙ ap (λ (x : End). after_attack (outcome rule b n.attack) (cond (is_winning n.rest) NoMove (after_reply (outcome rule (after b n.attack) q) x))) (if_node-answer (answers_of n) all e e' same (after (after b n.attack) q) q)
+        ap (λ (w : Bool). after_attack (outcome rule b n.attack)
+        (cond w NoMove (after_reply (outcome rule (after b n.attack) q)
+        (if_node (answer (renumbered_answers f (answers_of n)) q) (λ j. e' j (after (after b n.attack) q))))))
+        (is_winning-renumbered f n.rest)
+        ∙ ap (λ (x : End). after_attack (outcome rule b n.attack)
+        (cond (is_winning n.rest) NoMove (after_reply (outcome rule (after b n.attack) q) x)))
+        (if_node-answer (answers_of n) all e e' same (after (after b n.attack) q) q)
 
-    attacks_at-none : (rule : RuleKind) (b : Grid) → attacks_at rule (Some (renumbered_node f n)) b (λ n. []) ≡ attacks_at rule (Some n) b (λ n. [])
-    attacks_at-none rule b = ap (λ (w : Bool). n.attack ∷ points_on (outcome rule b n.attack) (cond w [] [])) (is_winning-renumbered f n.rest)
+    attacks_at-none : (rule : RuleKind) (b : Grid) → attacks_at rule (Some (renumbered_node f n)) b (λ n. []) ≡ attacks_at rule (Some n) b
+        (λ n. [])
+    attacks_at-none rule b = ap (λ (w : Bool). n.attack ∷ points_on (outcome rule b n.attack) (cond w [] []))
+        (is_winning-renumbered f n.rest)
 
-    attacks_at-copied : (rule : RuleKind) (ps ps' : ℕ → Grid → List Point) → ((j : ℕ) → passes j ≡ true → (c : Grid) → ps' (f j) c ≡ ps j c) → (b : Grid) (q : Point) → attacks_at rule (Some (renumbered_node f n)) b (λ n. points_on (outcome rule (after b n.attack) q) (points_from (answer (answers_of n) q) (λ j. ps' j (after (after b n.attack) q)))) ≡ attacks_at rule (Some n) b (λ n. points_on (outcome rule (after b n.attack) q) (points_from (answer (answers_of n) q) (λ j. ps j (after (after b n.attack) q))))
+    attacks_at-copied : (rule : RuleKind) (ps ps' : ℕ → Grid → List Point) → ((j : ℕ) → passes j ≡ true → (c : Grid) → ps' (f j) c ≡ ps j c)
+        → (b : Grid) (q : Point) → attacks_at rule (Some (renumbered_node f n)) b
+        (λ n. points_on (outcome rule (after b n.attack) q)
+        (points_from (answer (answers_of n) q) (λ j. ps' j (after (after b n.attack) q)))) ≡ attacks_at rule (Some n) b
+        (λ n. points_on (outcome rule (after b n.attack) q)
+        (points_from (answer (answers_of n) q) (λ j. ps j (after (after b n.attack) q))))
     attacks_at-copied rule ps ps' same b q =
-        ap (λ (w : Bool). n.attack ∷ points_on (outcome rule b n.attack) (cond w [] (points_on (outcome rule (after b n.attack) q) (points_from (answer (renumbered_answers f (answers_of n)) q) (λ j. ps' j (after (after b n.attack) q)))))) (is_winning-renumbered f n.rest)
-        ∙ ap (λ (xs : List Point). n.attack ∷ points_on (outcome rule b n.attack) (cond (is_winning n.rest) [] (points_on (outcome rule (after b n.attack) q) xs))) (points_from-answer (answers_of n) all ps ps' same (after (after b n.attack) q) q)
+        ap (λ (w : Bool). n.attack ∷ points_on (outcome rule b n.attack)
+        (cond w [] (points_on (outcome rule (after b n.attack) q)
+        (points_from (answer (renumbered_answers f (answers_of n)) q) (λ j. ps' j (after (after b n.attack) q))))))
+        (is_winning-renumbered f n.rest)
+        ∙ ap (λ (xs : List Point). n.attack ∷ points_on (outcome rule b n.attack)
+        (cond (is_winning n.rest) [] (points_on (outcome rule (after b n.attack) q) xs)))
+        (points_from-answer (answers_of n) all ps ps' same (after (after b n.attack) q) q)
 
     attack_fault-renumbered : (u : Outcome) → attack_fault u (renumbered_rest f n.rest) ≡ attack_fault u n.rest
     attack_fault-renumbered u = by_rest u n.rest where
@@ -197,18 +250,29 @@ module _ (f : ℕ → ℕ) (passes : ℕ → Bool) where
       by_rest GoesOn (To j) = refl
       by_rest GoesOn Nothing = refl
 
-    leads_last-copied : (rule : RuleKind) (b : Grid) (p : Point) (why : Why) → AtNode (Some (renumbered_node f n)) (λ n. (p ≡ n.attack) × (attack_fault (outcome rule b p) n.rest ≡ Some why)) ≡ AtNode (Some n) (λ n. (p ≡ n.attack) × (attack_fault (outcome rule b p) n.rest ≡ Some why))
+    leads_last-copied : (rule : RuleKind) (b : Grid) (p : Point) (why : Why)
+        → AtNode (Some (renumbered_node f n)) (λ n. (p ≡ n.attack) × (attack_fault (outcome rule b p) n.rest ≡ Some why)) ≡ AtNode (Some n)
+        (λ n. (p ≡ n.attack) × (attack_fault (outcome rule b p) n.rest ≡ Some why))
     leads_last-copied rule b p why = ap (λ (w : Option Why). (p ≡ n.attack) × (w ≡ Some why)) (attack_fault-renumbered (outcome rule b p))
 
-    leads_step-copied : (rule : RuleKind) (N N' : ℕ → Grid → Type 0) → ((j : ℕ) → passes j ≡ true → (c : Grid) → N' (f j) c ≡ N j c) → (b : Grid) (p q : Point) (line : List Point) (why : Why) → AtNode (Some (renumbered_node f n)) (λ n. (p ≡ n.attack) × (outcome rule b p ≡ GoesOn) × NotWinning n.rest × ReplyLeads (outcome rule (after b p) q) (answer (answers_of n) q) line (λ j. N' j (after (after b p) q)) why) ≡ AtNode (Some n) (λ n. (p ≡ n.attack) × (outcome rule b p ≡ GoesOn) × NotWinning n.rest × ReplyLeads (outcome rule (after b p) q) (answer (answers_of n) q) line (λ j. N j (after (after b p) q)) why)
+    leads_step-copied : (rule : RuleKind) (N N' : ℕ → Grid → Type 0) → ((j : ℕ) → passes j ≡ true → (c : Grid) → N' (f j) c ≡ N j c)
+        → (b : Grid) (p q : Point) (line : List Point) (why : Why)
+        → AtNode (Some (renumbered_node f n))
+        (λ n. (p ≡ n.attack) × (outcome rule b p ≡ GoesOn) × NotWinning n.rest
+        × ReplyLeads (outcome rule (after b p) q) (answer (answers_of n) q) line (λ j. N' j (after (after b p) q)) why) ≡ AtNode (Some n)
+        (λ n. (p ≡ n.attack) × (outcome rule b p ≡ GoesOn) × NotWinning n.rest
+        × ReplyLeads (outcome rule (after b p) q) (answer (answers_of n) q) line (λ j. N j (after (after b p) q)) why)
     leads_step-copied rule N N' same b p q line why =
-        λ i. (p ≡ n.attack) × (outcome rule b p ≡ GoesOn) × NotWinning-renumbered f n.rest i × reply_leads-answer (answers_of n) all N N' same (outcome rule (after b p) q) line why (after (after b p) q) q i
+        λ i. (p ≡ n.attack) × (outcome rule b p ≡ GoesOn) × NotWinning-renumbered f n.rest i
+        × reply_leads-answer (answers_of n) all N N' same (outcome rule (after b p) q) line why (after (after b p) q) q i
 
 -- ---- whole tables
 
 module _ (f : ℕ → ℕ) (passes : ℕ → Bool) (t u : List Node) (copies : Copies f passes t u) where
   -- what is computed of a node of each table agrees where it agrees for the node and its copy
-  at_copy {ℓ} : (X : Type ℓ) (g g' : Option Node → X) (i : ℕ) → passes i ≡ true → ((n : Node) → list_all passes (named (answers_of n)) ≡ true → g' (Some (renumbered_node f n)) ≡ g (Some n)) → g' (slice_get u (f i)) ≡ g (slice_get t i)
+  at_copy {ℓ} : (X : Type ℓ) (g g' : Option Node → X) (i : ℕ) → passes i ≡ true
+      → ((n : Node) → list_all passes (named (answers_of n)) ≡ true → g' (Some (renumbered_node f n)) ≡ g (Some n))
+      → g' (slice_get u (f i)) ≡ g (slice_get t i)
   at_copy X g g' i p h =
       let c = copies.copied i p in
       ap g' c.2 ∙ h c.0 c.3 ∙ sym (ap g c.1)
@@ -220,19 +284,24 @@ module _ (f : ℕ → ℕ) (passes : ℕ → Bool) (t u : List Node) (copies : C
       at_copy ℕ (λ o. node_depth o (depth_within k t)) (λ o. node_depth o (depth_within k u)) i p
       (λ n all. ap suc (depths-copied f passes (answers_of n) all (depth_within k t) (depth_within k u) (λ j h. depth_within-copied k j h)))
 
-  pub accepted_within-copied : (rule : RuleKind) (k i : ℕ) (b : Grid) → passes i ≡ true → AcceptedWithin k rule u (f i) b ≡ AcceptedWithin k rule t i b
+  pub accepted_within-copied : (rule : RuleKind) (k i : ℕ) (b : Grid) → passes i ≡ true
+      → AcceptedWithin k rule u (f i) b ≡ AcceptedWithin k rule t i b
   unfolding AcceptedWithin
   accepted_within-copied rule zero i b p = refl
   accepted_within-copied rule (suc k) i b p =
       at_copy (Type 0) (λ o. AcceptedNode rule o (AcceptedWithin k rule t) b) (λ o. AcceptedNode rule o (AcceptedWithin k rule u) b) i p
-      (λ n all. accepted_node-copied f passes n all rule (AcceptedWithin k rule t) (AcceptedWithin k rule u) (λ j h c. accepted_within-copied rule k j c h) b)
+      (λ n all. accepted_node-copied f passes n all rule (AcceptedWithin k rule t) (AcceptedWithin k rule u)
+      (λ j h c. accepted_within-copied rule k j c h) b)
 
-  pub arrivals_within-copied : (rule : RuleKind) (k i : ℕ) (b : Grid) → passes i ≡ true → arrivals_within k rule u (f i) b ≡ arrivals_within k rule t i b
+  pub arrivals_within-copied : (rule : RuleKind) (k i : ℕ) (b : Grid) → passes i ≡ true
+      → arrivals_within k rule u (f i) b ≡ arrivals_within k rule t i b
   unfolding arrivals_within
   arrivals_within-copied rule zero i b p = refl
   arrivals_within-copied rule (suc k) i b p =
-      at_copy ℕ (λ o. suc (arrivals_behind rule o (arrivals_within k rule t) b)) (λ o. suc (arrivals_behind rule o (arrivals_within k rule u) b)) i p
-      (λ n all. ap suc (arrivals_behind-copied f passes n all rule (arrivals_within k rule t) (arrivals_within k rule u) (λ j h c. arrivals_within-copied rule k j c h) b))
+      at_copy ℕ (λ o. suc (arrivals_behind rule o (arrivals_within k rule t) b))
+      (λ o. suc (arrivals_behind rule o (arrivals_within k rule u) b)) i p
+      (λ n all. ap suc (arrivals_behind-copied f passes n all rule (arrivals_within k rule t) (arrivals_within k rule u)
+      (λ j h c. arrivals_within-copied rule k j c h) b))
 
   pub game-copied : (rule : RuleKind) (i : ℕ) (b : Grid) (qs : List Point) → passes i ≡ true → game rule u (f i) b qs ≡ game rule t i b qs
   unfolding game
@@ -240,21 +309,32 @@ module _ (f : ℕ → ℕ) (passes : ℕ → Bool) (t u : List Node) (copies : C
       at_copy End (λ o. end_at rule o b (λ n. Open)) (λ o. end_at rule o b (λ n. Open)) i p (λ n all. end_at-open f passes n all rule b)
   game-copied rule i b (q ∷ qs) p =
       at_copy End
-      (λ o. end_at rule o b (λ n. after_reply (outcome rule (after b n.attack) q) (if_node (answer (answers_of n) q) (λ j. game rule t j (after (after b n.attack) q) qs))))
-      (λ o. end_at rule o b (λ n. after_reply (outcome rule (after b n.attack) q) (if_node (answer (answers_of n) q) (λ j. game rule u j (after (after b n.attack) q) qs))))
-      i p (λ n all. end_at-copied f passes n all rule (λ j c. game rule t j c qs) (λ j c. game rule u j c qs) (λ j h c. game-copied rule j c qs h) b q)
+      (λ o. end_at rule o b (λ n. after_reply (outcome rule (after b n.attack) q)
+      (if_node (answer (answers_of n) q) (λ j. game rule t j (after (after b n.attack) q) qs))))
+      (λ o. end_at rule o b (λ n. after_reply (outcome rule (after b n.attack) q)
+      (if_node (answer (answers_of n) q) (λ j. game rule u j (after (after b n.attack) q) qs))))
+      i p (λ n all. end_at-copied f passes n all rule (λ j c. game rule t j c qs) (λ j c. game rule u j c qs)
+      (λ j h c. game-copied rule j c qs h) b q)
 
-  pub attacks-copied : (rule : RuleKind) (i : ℕ) (b : Grid) (qs : List Point) → passes i ≡ true → attacks rule u (f i) b qs ≡ attacks rule t i b qs
+  pub attacks-copied : (rule : RuleKind) (i : ℕ) (b : Grid) (qs : List Point) → passes i ≡ true
+      → attacks rule u (f i) b qs ≡ attacks rule t i b qs
   unfolding attacks
   attacks-copied rule i b [] p =
-      at_copy (List Point) (λ o. attacks_at rule o b (λ n. [])) (λ o. attacks_at rule o b (λ n. [])) i p (λ n all. attacks_at-none f passes n all rule b)
+      at_copy (List Point) (λ o. attacks_at rule o b (λ n. [])) (λ o. attacks_at rule o b (λ n. [])) i p
+      (λ n all. attacks_at-none f passes n all rule b)
   attacks-copied rule i b (q ∷ qs) p =
       at_copy (List Point)
-      (λ o. attacks_at rule o b (λ n. points_on (outcome rule (after b n.attack) q) (points_from (answer (answers_of n) q) (λ j. attacks rule t j (after (after b n.attack) q) qs))))
-      (λ o. attacks_at rule o b (λ n. points_on (outcome rule (after b n.attack) q) (points_from (answer (answers_of n) q) (λ j. attacks rule u j (after (after b n.attack) q) qs))))
-      i p (λ n all. attacks_at-copied f passes n all rule (λ j c. attacks rule t j c qs) (λ j c. attacks rule u j c qs) (λ j h c. attacks-copied rule j c qs h) b q)
+      (λ o. attacks_at rule o b
+      (λ n. points_on (outcome rule (after b n.attack) q)
+      (points_from (answer (answers_of n) q) (λ j. attacks rule t j (after (after b n.attack) q) qs))))
+      (λ o. attacks_at rule o b
+      (λ n. points_on (outcome rule (after b n.attack) q)
+      (points_from (answer (answers_of n) q) (λ j. attacks rule u j (after (after b n.attack) q) qs))))
+      i p (λ n all. attacks_at-copied f passes n all rule (λ j c. attacks rule t j c qs) (λ j c. attacks rule u j c qs)
+      (λ j h c. attacks-copied rule j c qs h) b q)
 
-  pub Leads-copied : (rule : RuleKind) (i : ℕ) (b : Grid) (line : List Point) (why : Why) → passes i ≡ true → Leads rule u (f i) b line why ≡ Leads rule t i b line why
+  pub Leads-copied : (rule : RuleKind) (i : ℕ) (b : Grid) (line : List Point) (why : Why) → passes i ≡ true
+      → Leads rule u (f i) b line why ≡ Leads rule t i b line why
   unfolding Leads
   Leads-copied rule i b [] why h = refl
   Leads-copied rule i b (p ∷ []) why h =
@@ -264,6 +344,11 @@ module _ (f : ℕ → ℕ) (passes : ℕ → Bool) (t u : List Node) (copies : C
       i h (λ n all. leads_last-copied f passes n all rule b p why)
   Leads-copied rule i b (p ∷ q ∷ line) why h =
       at_copy (Type 0)
-      (λ o. AtNode o (λ n. (p ≡ n.attack) × (outcome rule b p ≡ GoesOn) × NotWinning n.rest × ReplyLeads (outcome rule (after b p) q) (answer (answers_of n) q) line (λ j. Leads rule t j (after (after b p) q) line why) why))
-      (λ o. AtNode o (λ n. (p ≡ n.attack) × (outcome rule b p ≡ GoesOn) × NotWinning n.rest × ReplyLeads (outcome rule (after b p) q) (answer (answers_of n) q) line (λ j. Leads rule u j (after (after b p) q) line why) why))
-      i h (λ n all. leads_step-copied f passes n all rule (λ j c. Leads rule t j c line why) (λ j c. Leads rule u j c line why) (λ j k c. Leads-copied rule j c line why k) b p q line why)
+      (λ o. AtNode o (λ n. (p ≡ n.attack) × (outcome rule b p ≡ GoesOn) × NotWinning n.rest
+      × ReplyLeads (outcome rule (after b p) q) (answer (answers_of n) q) line (λ j. Leads rule t j (after (after b p) q) line why)
+      why))
+      (λ o. AtNode o (λ n. (p ≡ n.attack) × (outcome rule b p ≡ GoesOn) × NotWinning n.rest
+      × ReplyLeads (outcome rule (after b p) q) (answer (answers_of n) q) line (λ j. Leads rule u j (after (after b p) q) line why)
+      why))
+      i h (λ n all. leads_step-copied f passes n all rule (λ j c. Leads rule t j c line why) (λ j c. Leads rule u j c line why)
+      (λ j k c. Leads-copied rule j c line why k) b p q line why)

@@ -1,5 +1,6 @@
 -- Games from an accepted node end well. One step of a game against a table, and of its attacks: what a player that follows a table needs.
-use Rattle.std.proofs.Common.{◌≡◌, ℕ, zero, suc, ◌≤◌, cond, List, [], ◌∷◌, length, refl, arith, Option, Some, None, slice_get, false, Bool, true, ap}
+use Rattle.std.proofs.Common.{◌≡◌, ℕ, zero, suc, ◌≤◌, cond, List, [], ◌∷◌, length, refl, arith, Option, Some, None, slice_get, false, Bool}
+use Rattle.std.proofs.Common.{true, ap}
 use Rattle.game_rules.specs.declared.RuleKind.{RuleKind}
 use Rattle.game_rules.specs.declared.Outcome.{Outcome}
 use Rattle.game_rules.specs.declared.Outcome.TheVariants.{Refused, Wins as WinsNow, Fouls, GoesOn}
@@ -9,7 +10,9 @@ use Rattle.game_rules.proofs.Common.{Grid, outcome, after, WinsOr, LosesOr}
 use Rattle.strategy_graph.specs.declared.Rest.{Rest}
 use Rattle.strategy_graph.specs.declared.Rest.TheVariants.{Wins}
 use Rattle.strategy_graph.specs.declared.Node.{Node}
-use Rattle.strategy_graph.proofs.Common.{answers_of, answer, is_winning, node_depth, depth_within, depth, Answered, NotWinning, AcceptedNode, AcceptedWithin, Accepted, End, Won, NoMove, Open, IllegalReply, after_attack, after_reply, one_later, if_node, end_at, game, EndsWell, attacks, points_on, attacks_at}
+use Rattle.strategy_graph.proofs.Common.{answers_of, answer, is_winning, node_depth, depth_within, depth, Answered, NotWinning}
+use Rattle.strategy_graph.proofs.Common.{AcceptedNode, AcceptedWithin, Accepted, End, Won, NoMove, Open, IllegalReply, after_attack}
+use Rattle.strategy_graph.proofs.Common.{after_reply, one_later, if_node, end_at, game, EndsWell, attacks, points_on, attacks_at}
 use Rattle.strategy_graph.proofs.Answering.{answer-greatest}
 
 attack_ends : (o : Outcome) (W : Type 0) (d m : ℕ) (e : End) → 1 ≤ d → (W → EndsWell d m e) → WinsOr o W → EndsWell d m (after_attack o e)
@@ -32,25 +35,33 @@ one_later_ends (Won k) d dd m l h = let low = h.0 in let high = h.1 in (omega (a
 one_later_ends Open d dd m l h = omega arith
 one_later_ends _ d dd m l h = h
 
-node_ends_well : (o : Option ℕ) (P : ℕ → Type 0) (d m : ℕ) (end_from : ℕ → End) → ((j : ℕ) → o ≡ Some j → P j → EndsWell d m (one_later (end_from j))) → Answered o P → EndsWell d m (if_node o end_from)
+node_ends_well : (o : Option ℕ) (P : ℕ → Type 0) (d m : ℕ) (end_from : ℕ → End)
+    → ((j : ℕ) → o ≡ Some j → P j → EndsWell d m (one_later (end_from j))) → Answered o P → EndsWell d m (if_node o end_from)
 node_ends_well None P d m end_from f h = absurd h
 node_ends_well (Some j) P d m end_from f h = f j refl h
 
-no_reply_ends : (rule : RuleKind) (o : Option Node) (Next : ℕ → Grid → Type 0) (d : ℕ → ℕ) (b : Grid) → AcceptedNode rule o Next b → EndsWell (node_depth o d) 0 (end_at rule o b (λ n. Open))
+no_reply_ends : (rule : RuleKind) (o : Option Node) (Next : ℕ → Grid → Type 0) (d : ℕ → ℕ) (b : Grid) → AcceptedNode rule o Next b
+    → EndsWell (node_depth o d) 0 (end_at rule o b (λ n. Open))
 no_reply_ends rule None Next d b h = absurd h
 no_reply_ends rule (Some n) Next d b h =
     attack_ends (outcome rule b n.attack) _ _ 0 _ (omega arith) (λ w. rw (not_winning n.rest Open w.0) (omega arith)) h
 
-step_ends : (rule : RuleKind) (o : Option Node) (Next : ℕ → Grid → Type 0) (d : ℕ → ℕ) (end : ℕ → Grid → End) (m : ℕ) → ((j : ℕ) (c : Grid) → Next j c → EndsWell (d j) m (end j c)) → (b : Grid) (q : Point) → AcceptedNode rule o Next b → EndsWell (node_depth o d) (suc m) (end_at rule o b (λ n. after_reply (outcome rule (after b n.attack) q) (if_node (answer (answers_of n) q) (λ j. end j (after (after b n.attack) q)))))
+step_ends : (rule : RuleKind) (o : Option Node) (Next : ℕ → Grid → Type 0) (d : ℕ → ℕ) (end : ℕ → Grid → End) (m : ℕ)
+    → ((j : ℕ) (c : Grid) → Next j c → EndsWell (d j) m (end j c)) → (b : Grid) (q : Point) → AcceptedNode rule o Next b
+    → EndsWell (node_depth o d) (suc m)
+    (end_at rule o b (λ n. after_reply (outcome rule (after b n.attack) q)
+    (if_node (answer (answers_of n) q) (λ j. end j (after (after b n.attack) q)))))
 step_ends rule None Next d end m next b q h = absurd h
 step_ends rule (Some n) Next d end m next b q h =
     attack_ends (outcome rule b n.attack) _ _ (suc m) _ (omega arith) (λ w. rw (not_winning n.rest _ w.0)
     (reply_ends (outcome rule (after b n.attack) q) _ _ (suc m) _ (omega arith)
     (node_ends_well (answer (answers_of n) q) _ _ (suc m) (λ j. end j (after (after b n.attack) q)) (λ j e k.
-    one_later_ends (end j (after (after b n.attack) q)) (d j) _ m (answer-greatest d (answers_of n) q j e) (next j (after (after b n.attack) q) k)))
+    one_later_ends (end j (after (after b n.attack) q)) (d j) _ m (answer-greatest d (answers_of n) q j e)
+    (next j (after (after b n.attack) q) k)))
     (w.1 q))) h
 
-within_ends : (rule : RuleKind) (t : List Node) (f i : ℕ) (b : Grid) (qs : List Point) → AcceptedWithin f rule t i b → EndsWell (depth_within f t i) (length qs) (game rule t i b qs)
+within_ends : (rule : RuleKind) (t : List Node) (f i : ℕ) (b : Grid) (qs : List Point) → AcceptedWithin f rule t i b
+    → EndsWell (depth_within f t i) (length qs) (game rule t i b qs)
 unfolding AcceptedWithin depth_within game
 within_ends rule t zero i b qs h = absurd h
 within_ends rule t (suc f) i b [] h = no_reply_ends rule (slice_get t i) (AcceptedWithin f rule t) (depth_within f t) b h
@@ -59,7 +70,8 @@ within_ends rule t (suc f) i b (q ∷ qs) h =
     (λ j c. within_ends rule t f j c qs) b q h
 
 -- a game from an accepted node ends well, whatever the replies
-pub games-end-well : (rule : RuleKind) (t : List Node) (i : ℕ) (b : Grid) (qs : List Point) → Accepted rule t i b → EndsWell (depth t i) (length qs) (game rule t i b qs)
+pub games-end-well : (rule : RuleKind) (t : List Node) (i : ℕ) (b : Grid) (qs : List Point) → Accepted rule t i b
+    → EndsWell (depth t i) (length qs) (game rule t i b qs)
 games-end-well rule t i b qs h = within_ends rule t (suc i) i b qs h
 
 module _ (rule : RuleKind) (t : List Node) (i : ℕ) (b : Grid) (n : Node) (at : slice_get t i ≡ Some n) where
@@ -99,11 +111,13 @@ module _ (rule : RuleKind) (t : List Node) (i : ℕ) (b : Grid) (n : Node) (at :
       game-no_move e = rw (at, o, r, e) refl
 
       -- a reply that goes on leads to the answer to it
-      pub game-next : (j : ℕ) → outcome rule (after b n.attack) q ≡ GoesOn → answer (answers_of n) q ≡ Some j → game rule t i b (q ∷ qs) ≡ one_later (game rule t j (after (after b n.attack) q) qs)
+      pub game-next : (j : ℕ) → outcome rule (after b n.attack) q ≡ GoesOn → answer (answers_of n) q ≡ Some j
+          → game rule t i b (q ∷ qs) ≡ one_later (game rule t j (after (after b n.attack) q) qs)
       unfolding game
       game-next j e w = rw (at, o, r, e, w) refl
 
-      pub attacks-next : (j : ℕ) → outcome rule (after b n.attack) q ≡ GoesOn → answer (answers_of n) q ≡ Some j → attacks rule t i b (q ∷ qs) ≡ n.attack ∷ attacks rule t j (after (after b n.attack) q) qs
+      pub attacks-next : (j : ℕ) → outcome rule (after b n.attack) q ≡ GoesOn → answer (answers_of n) q ≡ Some j
+          → attacks rule t i b (q ∷ qs) ≡ n.attack ∷ attacks rule t j (after (after b n.attack) q) qs
       unfolding attacks
       attacks-next j e w = rw (at, o, r, e, w) refl
 
@@ -112,7 +126,8 @@ none_on GoesOn true = refl
 none_on GoesOn false = refl
 none_on _ r = refl
 
-pub first_at : (rule : RuleKind) (b : Grid) (o : Option Node) (n : Node) (next : Node → List Point) → o ≡ Some n → (rest : List Point) × (attacks_at rule o b next ≡ n.attack ∷ rest)
+pub first_at : (rule : RuleKind) (b : Grid) (o : Option Node) (n : Node) (next : Node → List Point) → o ≡ Some n
+    → (rest : List Point) × (attacks_at rule o b next ≡ n.attack ∷ rest)
 first_at rule b None n next e = cc
 first_at rule b (Some m) n next e =
     let same : m ≡ n = cc in

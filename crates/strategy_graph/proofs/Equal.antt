@@ -1,5 +1,6 @@
 -- `==` holds of two nodes exactly where they are equal.
-use Rattle.std.proofs.Common.{◌≡◌, true, ◌&&◌, ◌==◌, refl, ap, subst, ◌<◌, ◌≤◌, List, length, arith, ℕ, get_or, sym, ◌∙◌, zero, suc, false, [], ◌∷◌, Some, slice_get, position, Contains}
+use Rattle.std.proofs.Common.{◌≡◌, true, ◌&&◌, ◌==◌, refl, ap, subst, ◌<◌, ◌≤◌, List, length, arith, ℕ, get_or, sym, ◌∙◌, zero, suc, false}
+use Rattle.std.proofs.Common.{[], ◌∷◌, Some, slice_get, position, Contains}
 use Rattle.std.specs.Bool.{Decides}
 use Rattle.std.proofs.lemmas.Bool.Decides.{Decides-eqb}
 use Rattle.std.proofs.lemmas.List.Quantifiers.{position-Some}
@@ -29,17 +30,24 @@ rest-eq Nothing Nothing = (λ h. refl, λ e. refl)
 
 node_from : (m n : Node) → node_ghosts.eq m n ≡ true → m ≡ n
 node_from m n h =
-    let at : (m.attack.x == n.attack.x && m.attack.y == n.attack.y) ≡ true = and_left (m.attack.x == n.attack.x && m.attack.y == n.attack.y) _ h in
-    let others : (same_replies m.replies n.replies && rest_ghosts.eq m.rest n.rest) ≡ true = and_right (m.attack.x == n.attack.x && m.attack.y == n.attack.y) _ h in
+    let at : (m.attack.x == n.attack.x && m.attack.y == n.attack.y) ≡ true =
+    and_left (m.attack.x == n.attack.x && m.attack.y == n.attack.y) _ h in
+    let others : (same_replies m.replies n.replies && rest_ghosts.eq m.rest n.rest) ≡ true =
+    and_right (m.attack.x == n.attack.x && m.attack.y == n.attack.y) _ h in
     let x : m.attack.x ≡ n.attack.x = (Decides-eqb m.attack.x n.attack.x).0 (and_left (m.attack.x == n.attack.x) _ at) in
     let y : m.attack.y ≡ n.attack.y = (Decides-eqb m.attack.y n.attack.y).0 (and_right (m.attack.x == n.attack.x) _ at) in
-    let replies : m.replies ≡ n.replies = (same_replies_decides m.replies n.replies).0 (and_left (same_replies m.replies n.replies) _ others) in
+    let replies : m.replies ≡ n.replies = (same_replies_decides m.replies n.replies).0
+    (and_left (same_replies m.replies n.replies) _ others) in
     let rest : m.rest ≡ n.rest = (rest-eq m.rest n.rest).0 (and_right (same_replies m.replies n.replies) _ others) in
     λ i. record { attack = record { x = x i; y = y i }; replies = replies i; rest = rest i }
 
 node_itself : (n : Node) → node_ghosts.eq n n ≡ true
 node_itself n =
-    rw ((Decides-eqb n.attack.x n.attack.x).1 refl, (Decides-eqb n.attack.y n.attack.y).1 refl, (same_replies_decides n.replies n.replies).1 refl) ((rest-eq n.rest n.rest).1 refl)
+    rw (
+      (Decides-eqb n.attack.x n.attack.x).1 refl,
+      (Decides-eqb n.attack.y n.attack.y).1 refl,
+      (same_replies_decides n.replies n.replies).1 refl,
+    ) ((rest-eq n.rest n.rest).1 refl)
 
 -- `==` of nodes tells whether they are equal
 pub node-eq : (m n : Node) → Decides (node_ghosts.eq m n) (m ≡ n)
@@ -66,18 +74,23 @@ list_any-Contains n (k ∷ ks) h (zero, l, e) =
 list_any-Contains n (k ∷ ks) h (suc i, l, e) = list_any-Contains n ks (or_right (node_ghosts.eq n k) _ h) (i, omega arith, e)
 
 -- the node is at the place where one is equal to it
-pub stored-at : (n : Node) (ks : List Node) (i : ℕ) → (k : Node) × (slice_get ks i ≡ Some k) × (node_ghosts.eq n k ≡ true) → slice_get ks i ≡ Some n
+pub stored-at : (n : Node) (ks : List Node) (i : ℕ) → (k : Node) × (slice_get ks i ≡ Some k) × (node_ghosts.eq n k ≡ true)
+    → slice_get ks i ≡ Some n
 stored-at n ks i (k, at, e) = at ∙ ap Some (sym (node_from n k e))
 
 none_equal : (n : Node) (ks : List Node) (i : ℕ) → AllByRecursion (λ k. node_ghosts.eq n k ≡ false) ks → slice_get ks i ≡ Some n → ⊥
 none_equal n [] i h e = cc
-none_equal n (k ∷ ks) zero h e = let equal : k ≡ n = cc in let is : node_ghosts.eq n n ≡ false = subst (λ (m : Node). node_ghosts.eq n m ≡ false) equal h.0 in cc (node_itself n)
+none_equal n (k ∷ ks) zero h e = let equal : k ≡ n = cc in let is : node_ghosts.eq n n ≡ false =
+    subst (λ (m : Node). node_ghosts.eq n m ≡ false) equal h.0 in cc (node_itself n)
 none_equal n (k ∷ ks) (suc i) h e = none_equal n ks i h.1 e
 
-pub different_by : (ks : List Node) → IsDistinct node_ghosts.eq ks → (i j : ℕ) (n : Node) → slice_get ks i ≡ Some n → slice_get ks j ≡ Some n → i ≡ j
+pub different_by : (ks : List Node) → IsDistinct node_ghosts.eq ks → (i j : ℕ) (n : Node) → slice_get ks i ≡ Some n
+    → slice_get ks j ≡ Some n → i ≡ j
 unfolding IsDistinct
 different_by [] h i j n a b = cc
 different_by (k ∷ ks) h zero zero n a b = refl
-different_by (k ∷ ks) h zero (suc j) n a b = let equal : k ≡ n = cc in absurd (none_equal n ks j (subst (λ (m : Node). AllByRecursion (λ y. node_ghosts.eq m y ≡ false) ks) equal h.0) b)
-different_by (k ∷ ks) h (suc i) zero n a b = let equal : k ≡ n = cc in absurd (none_equal n ks i (subst (λ (m : Node). AllByRecursion (λ y. node_ghosts.eq m y ≡ false) ks) equal h.0) a)
+different_by (k ∷ ks) h zero (suc j) n a b = let equal : k ≡ n =
+    cc in absurd (none_equal n ks j (subst (λ (m : Node). AllByRecursion (λ y. node_ghosts.eq m y ≡ false) ks) equal h.0) b)
+different_by (k ∷ ks) h (suc i) zero n a b = let equal : k ≡ n =
+    cc in absurd (none_equal n ks i (subst (λ (m : Node). AllByRecursion (λ y. node_ghosts.eq m y ≡ false) ks) equal h.0) a)
 different_by (k ∷ ks) h (suc i) (suc j) n a b = ap suc (different_by ks h.1 i j n a b)

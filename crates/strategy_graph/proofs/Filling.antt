@@ -1,5 +1,7 @@
 -- A table that grows says the same at the nodes that it had. Tables that a node is added to, with the depths of their nodes.
-use Rattle.std.proofs.Common.{◌≡◌, ℕ, zero, suc, ◌≤◌, ◌<◌, Bool, true, List, [], ◌∷◌, ◌++◌, length, refl, ap, sym, subst, ◌∙◌, arith, Some, slice_get, nat_lt, ◌+◌, map, ◌⊎◌, inl, inr, length-append, get_or, replicate, append_assoc, Option, None, IfSome, slice_index}
+use Rattle.std.proofs.Common.{◌≡◌, ℕ, zero, suc, ◌≤◌, ◌<◌, Bool, true, List, [], ◌∷◌, ◌++◌, length, refl, ap, sym, subst, ◌∙◌, arith, Some}
+use Rattle.std.proofs.Common.{slice_get, nat_lt, ◌+◌, map, ◌⊎◌, inl, inr, length-append, get_or, replicate, append_assoc, Option, None}
+use Rattle.std.proofs.Common.{IfSome, slice_index}
 use Rattle.std.specs.List.{list_all}
 use borrow.Author.Tests.{ltb-true, lt-ltb}
 use Rattle.std.proofs.lemmas.Option.{slice_get_read, slice_get-get_or}
@@ -12,8 +14,10 @@ use Rattle.strategy_graph.specs.declared.Reply.{Reply}
 use Rattle.strategy_graph.specs.declared.Rest.{Rest}
 use Rattle.strategy_graph.specs.declared.TheConstants.{MAX_NODES}
 use Rattle.strategy_graph.specs.declared.Rest.TheVariants.{Wins}
-use Rattle.strategy_graph.proofs.Common.{Answers, answers_of, named, names_below, NamesLower, SaysSame, StartSaysSame, answer, IsNode, IsTable, AreDepths, IsTableWithDepths, greatest, node_depth, depth_within, depth, start_depth}
-use Rattle.strategy_graph.proofs.Copies.{iff_by, renumbered-same, renumbered_answers-same, Copies, depth_within-copied, accepted_within-copied, arrivals_within-copied, game-copied, attacks-copied, Leads-copied}
+use Rattle.strategy_graph.proofs.Common.{Answers, answers_of, named, names_below, NamesLower, SaysSame, StartSaysSame, answer, IsNode}
+use Rattle.strategy_graph.proofs.Common.{IsTable, AreDepths, IsTableWithDepths, greatest, node_depth, depth_within, depth, start_depth}
+use Rattle.strategy_graph.proofs.Copies.{iff_by, renumbered-same, renumbered_answers-same, Copies, depth_within-copied}
+use Rattle.strategy_graph.proofs.Copies.{accepted_within-copied, arrivals_within-copied, game-copied, attacks-copied, Leads-copied}
 use Rattle.strategy_graph.proofs.Starts.{starts-same}
 use Rattle.strategy_graph.proofs.Fuel.{depth-step}
 use Rattle.strategy_graph.proofs.Answering.{answer-below}
@@ -31,7 +35,8 @@ list_all-weaker p q f (j ∷ js) h = rw (f j (and_left (p j) _ h), list_all-weak
 
 -- what names only nodes below i names only nodes below a greater number
 pub names_below-more : (a : Answers) (i k : ℕ) → i ≤ k → names_below a i ≡ true → names_below a k ≡ true
-names_below-more a i k l h = list_all-weaker (λ j. nat_lt j i) (λ j. nat_lt j k) (λ j e. let low : j < i = ltb-true _ _ e in lt-ltb _ _ (omega (arith, low, l))) (named a) h
+names_below-more a i k l h = list_all-weaker (λ j. nat_lt j i) (λ j. nat_lt j k)
+    (λ j e. let low : j < i = ltb-true _ _ e in lt-ltb _ _ (omega (arith, low, l))) (named a) h
 
 growth-Copies : (t more : List Node) → NamesLower t → Copies (λ j. j) (λ j. nat_lt j (length t)) t (t ++ more)
 growth-Copies t more lower = record {
@@ -60,7 +65,8 @@ growth-same t more lower i l =
     }
 
 -- a start that names nodes of the shorter table
-pub growth-same-start : (t more : List Node) → NamesLower t → (a : Answers) → names_below a (length t) ≡ true → StartSaysSame t a (t ++ more) a
+pub growth-same-start : (t more : List Node) → NamesLower t → (a : Answers) → names_below a (length t) ≡ true
+    → StartSaysSame t a (t ++ more) a
 growth-same-start t more lower a below =
     let c = growth-Copies t more lower in
     subst (StartSaysSame t a (t ++ more)) (renumbered_answers-same a)
@@ -73,7 +79,8 @@ growth-same-start t more lower a below =
     }) a below)
 
 -- a node of the longer table is one of the shorter, or the new one
-pushed_node : (t : List Node) (n : Node) (i : ℕ) (m : Node) → slice_get (t ++ n ∷ []) i ≡ Some m → (slice_get t i ≡ Some m) ⊎ ((length t ≡ i) × (n ≡ m))
+pushed_node : (t : List Node) (n : Node) (i : ℕ) (m : Node) → slice_get (t ++ n ∷ []) i ≡ Some m
+    → (slice_get t i ≡ Some m) ⊎ ((length t ≡ i) × (n ≡ m))
 pushed_node [] n zero m h = inr (refl, cc)
 pushed_node [] n (suc i) m h = cc
 pushed_node (x ∷ t) n zero m h = inl h
@@ -112,14 +119,16 @@ within_le (suc k) t i = node_depth_le (slice_get t i) (depth_within k t) k (with
 depth-le : (t : List Node) (i : ℕ) → depth t i ≤ suc i
 depth-le t i = within_le (suc i) t i
 
-greatest_same : (p : ℕ → ℕ) (d : ℕ → ℕ) (k : ℕ) → ((j : ℕ) → j < k → p j ≡ d j) → (js : List ℕ) → list_all (λ j. nat_lt j k) js ≡ true → greatest (map p js) ≡ greatest (map d js)
+greatest_same : (p : ℕ → ℕ) (d : ℕ → ℕ) (k : ℕ) → ((j : ℕ) → j < k → p j ≡ d j) → (js : List ℕ) → list_all (λ j. nat_lt j k) js ≡ true
+    → greatest (map p js) ≡ greatest (map d js)
 greatest_same p d k h [] all = refl
 greatest_same p d k h (j ∷ js) all =
     let here : p j ≡ d j = h j (ltb-true _ _ (and_left (nat_lt j k) _ all)) in
     let rest : greatest (map p js) ≡ greatest (map d js) = greatest_same p d k h js (and_right (nat_lt j k) _ all) in
     rw (here, rest) refl
 
-greatest_under : (p : ℕ → ℕ) (k : ℕ) → ((j : ℕ) → j < k → p j ≤ k) → (js : List ℕ) → list_all (λ j. nat_lt j k) js ≡ true → greatest (map p js) ≤ k
+greatest_under : (p : ℕ → ℕ) (k : ℕ) → ((j : ℕ) → j < k → p j ≤ k) → (js : List ℕ) → list_all (λ j. nat_lt j k) js ≡ true
+    → greatest (map p js) ≤ k
 greatest_under p k h [] all = omega arith
 greatest_under p k h (j ∷ js) all =
     let here : p j ≤ k = h j (ltb-true _ _ (and_left (nat_lt j k) _ all)) in
@@ -127,12 +136,15 @@ greatest_under p k h (j ∷ js) all =
     omega (arith, here, rest)
 
 -- the greatest depth by the list is that of the table
-greatest-depths : (t : List Node) (ds : List ℕ) → AreDepths t ds → (a : Answers) → names_below a (length t) ≡ true → greatest (map (λ j. slice_index ds j) (named a)) ≡ start_depth t a
+greatest-depths : (t : List Node) (ds : List ℕ) → AreDepths t ds → (a : Answers) → names_below a (length t) ≡ true
+    → greatest (map (λ j. slice_index ds j) (named a)) ≡ start_depth t a
 greatest-depths t ds h a below = greatest_same (λ j. slice_index ds j) (depth t) (length t) h.each (named a) below
 
 -- the nodes that are named are no deeper than the table is long
-pub greatest-le : (t : List Node) (ds : List ℕ) → AreDepths t ds → (a : Answers) → names_below a (length t) ≡ true → greatest (map (λ j. slice_index ds j) (named a)) ≤ length t
-greatest-le t ds h a below = greatest_under (λ j. slice_index ds j) (length t) (λ j l. let e = h.each j l in let most = depth-le t j in omega (arith, e, most)) (named a) below
+pub greatest-le : (t : List Node) (ds : List ℕ) → AreDepths t ds → (a : Answers) → names_below a (length t) ≡ true
+    → greatest (map (λ j. slice_index ds j) (named a)) ≤ length t
+greatest-le t ds h a below = greatest_under (λ j. slice_index ds j) (length t)
+    (λ j l. let e = h.each j l in let most = depth-le t j in omega (arith, e, most)) (named a) below
 
 node_depth-at : (t : List Node) (i : ℕ) (n : Node) → NamesLower t → slice_get t i ≡ Some n → depth t i ≡ suc (start_depth t (answers_of n))
 node_depth-at t i n lower e = depth-step t lower i ∙ ap (λ (o : Option Node). node_depth o (depth t)) e
@@ -142,12 +154,15 @@ last_node [] n = refl
 last_node (m ∷ t) n = last_node t n
 
 -- a node that is added is one deeper than the deepest that it names
-added_depth : (t : List Node) (ds : List ℕ) (n : Node) → NamesLower t → NamesLower (t ++ n ∷ []) → AreDepths t ds → names_below (answers_of n) (length t) ≡ true → depth (t ++ n ∷ []) (length t) ≡ suc (greatest (map (λ j. slice_index ds j) (named (answers_of n))))
+added_depth : (t : List Node) (ds : List ℕ) (n : Node) → NamesLower t → NamesLower (t ++ n ∷ []) → AreDepths t ds
+    → names_below (answers_of n) (length t) ≡ true
+    → depth (t ++ n ∷ []) (length t) ≡ suc (greatest (map (λ j. slice_index ds j) (named (answers_of n))))
 added_depth t ds n lower longer h below =
     node_depth-at (t ++ n ∷ []) (length t) n longer (last_node t n)
     ∙ ap suc ((growth-same-start t (n ∷ []) lower (answers_of n) below).same_depth ∙ sym (greatest-depths t ds h (answers_of n) below))
 
-AreDepths-push : (t : List Node) (ds : List ℕ) (n : Node) (d : ℕ) → NamesLower t → AreDepths t ds → d ≡ depth (t ++ n ∷ []) (length t) → AreDepths (t ++ n ∷ []) (ds ++ d ∷ [])
+AreDepths-push : (t : List Node) (ds : List ℕ) (n : Node) (d : ℕ) → NamesLower t → AreDepths t ds → d ≡ depth (t ++ n ∷ []) (length t)
+    → AreDepths (t ++ n ∷ []) (ds ++ d ∷ [])
 AreDepths-push t ds n d lower h e = record {
   count = let count = h.count in omega (arith, count, length-append ds (d ∷ []), length-append t (n ∷ []));
   each = λ i l. elim (cases_lt i (length t)) [
@@ -161,7 +176,9 @@ AreDepths-push t ds n d lower h e = record {
 }
 
 -- a table and its depths stay so when such a node is added with its depth
-pub IsTableWithDepths-push : (t : List Node) (ds : List ℕ) (n : Node) (m : ℕ) → IsTableWithDepths t ds → IsNode n (length t) → length t < MAX_NODES → m ≡ greatest (map (λ j. slice_index ds j) (named (answers_of n))) → IsTableWithDepths (t ++ n ∷ []) (ds ++ (m + 1) ∷ [])
+pub IsTableWithDepths-push : (t : List Node) (ds : List ℕ) (n : Node) (m : ℕ) → IsTableWithDepths t ds → IsNode n (length t)
+    → length t < MAX_NODES → m ≡ greatest (map (λ j. slice_index ds j) (named (answers_of n)))
+    → IsTableWithDepths (t ++ n ∷ []) (ds ++ (m + 1) ∷ [])
 IsTableWithDepths-push t ds n m h new room value =
     let longer : IsTable (t ++ n ∷ []) = IsTable-push t n h.table new room in
     let added = added_depth t ds n (IsTable-lower t h.table) (IsTable-lower (t ++ n ∷ []) longer) h.counted new.below in
@@ -169,10 +186,13 @@ IsTableWithDepths-push t ds n m h new room value =
 
 -- ---- the same where answers are read in parts
 
-pub greatest-read : (ds es : List ℕ) (a : Answers) (rs : List Reply) (r : Rest) (m : ℕ) → es ≡ ds → rs ≡ a.replies → r ≡ a.rest → m ≡ greatest (map (λ j. slice_index es j) (named (record { replies = rs; rest = r }))) → m ≡ greatest (map (λ j. slice_index ds j) (named a))
+pub greatest-read : (ds es : List ℕ) (a : Answers) (rs : List Reply) (r : Rest) (m : ℕ) → es ≡ ds → rs ≡ a.replies → r ≡ a.rest
+    → m ≡ greatest (map (λ j. slice_index es j) (named (record { replies = rs; rest = r })))
+    → m ≡ greatest (map (λ j. slice_index ds j) (named a))
 greatest-read ds es a rs r m list same last value = value ∙ rw (same, last, list) refl
 
-pub start_depth-read : (t u : List Node) (ds : List ℕ) (a : Answers) (m : ℕ) → u ≡ t → AreDepths u ds → names_below a (length t) ≡ true → m ≡ greatest (map (λ j. slice_index ds j) (named a)) → m ≡ start_depth t a
+pub start_depth-read : (t u : List Node) (ds : List ℕ) (a : Answers) (m : ℕ) → u ≡ t → AreDepths u ds → names_below a (length t) ≡ true
+    → m ≡ greatest (map (λ j. slice_index ds j) (named a)) → m ≡ start_depth t a
 start_depth-read t u ds a m table h below value =
     value ∙ greatest-depths u ds h a (rw table below) ∙ ap (λ (x : List Node). start_depth x a) table
 
@@ -181,7 +201,8 @@ answer_lower : (a : Answers) (i : ℕ) (q : Point) (o : Option ℕ) → names_be
 answer_lower a i q None below e = tt
 answer_lower a i q (Some j) below e = answer-below a i q j below (sym e)
 
-pub lookup-below : (t u : List Node) (i : ℕ) (n : Node) (q : Point) (o : Option ℕ) → IsTable t → t ≡ u → i < length u → n ≡ get_or t i n → o ≡ answer (answers_of n) q → IfSome o (λ j. j < i)
+pub lookup-below : (t u : List Node) (i : ℕ) (n : Node) (q : Point) (o : Option ℕ) → IsTable t → t ≡ u → i < length u → n ≡ get_or t i n
+    → o ≡ answer (answers_of n) q → IfSome o (λ j. j < i)
 lookup-below t u i n q o ok same low here e =
     let count : length t ≡ length u = ap length same in
     let within : i < length t = omega (arith, count) in
@@ -198,7 +219,9 @@ pub filled_table : (m : ℕ) (nodes : List Node) → IsTable nodes → length no
 filled_table zero nodes table few = subst IsTable (sym (append-nil nodes)) table
 filled_table (suc m) nodes table few =
     let count = length-append nodes (corner ∷ []) in
-    subst IsTable (append_assoc nodes (corner ∷ []) (replicate m corner)) (filled_table m (nodes ++ corner ∷ []) (IsTable-push nodes corner table (corner_node (length nodes)) (omega arith)) (omega (arith, count)))
+    subst IsTable (append_assoc nodes (corner ∷ []) (replicate m corner))
+    (filled_table m (nodes ++ corner ∷ []) (IsTable-push nodes corner table (corner_node (length nodes)) (omega arith))
+    (omega (arith, count)))
 
 pub filled_length : (m : ℕ) (nodes : List Node) → length (nodes ++ replicate m corner) ≡ length nodes + m
 filled_length m nodes = length-append nodes (replicate m corner) ∙ ap (λ n. length nodes + n) (length-replicate m corner)

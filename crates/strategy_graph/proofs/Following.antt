@@ -1,6 +1,7 @@
 -- One move on from an accepted node or start: its attack is a legal move, and the node that answers a reply is accepted where it
 -- leads, and is no deeper.
-use Rattle.std.proofs.Common.{◌≡◌, ℕ, zero, suc, ◌<◌, ◌≤◌, List, [], ◌∷◌, length, refl, ap, subst, ◌∙◌, arith, true, sym, Option, Some, None, slice_get}
+use Rattle.std.proofs.Common.{◌≡◌, ℕ, zero, suc, ◌<◌, ◌≤◌, List, [], ◌∷◌, length, refl, ap, subst, ◌∙◌, arith, true, sym, Option, Some}
+use Rattle.std.proofs.Common.{None, slice_get}
 use Rattle.std.specs.Option.{option_map, option_and_then}
 use Rattle.game_rules.proofs.Common.{Grid, is_empty, outcome, after, WinsOr, LosesOr}
 use Rattle.game_rules.proofs.Games.{WinsOr-map}
@@ -10,7 +11,8 @@ use Rattle.game_rules.specs.declared.Outcome.TheVariants.{GoesOn}
 use Rattle.game_rules.specs.declared.Point.{Point}
 use Rattle.game_rules.proofs.Outcomes.{empty_at}
 use Rattle.strategy_graph.specs.declared.Node.{Node}
-use Rattle.strategy_graph.proofs.Common.{Answers, answers_of, answer, answer_at, IsTable, depth, start_depth, Answered, NotWinning, Meets, AcceptedNode, AcceptedWithin, Accepted}
+use Rattle.strategy_graph.proofs.Common.{Answers, answers_of, answer, answer_at, IsTable, depth, start_depth, Answered, NotWinning, Meets}
+use Rattle.strategy_graph.proofs.Common.{AcceptedNode, AcceptedWithin, Accepted}
 use Rattle.strategy_graph.proofs.Answering.{answer-greatest}
 use Rattle.strategy_graph.proofs.Fuel.{accepted-step}
 use Rattle.strategy_graph.proofs.Filling.{IsTable-lower}
@@ -27,7 +29,8 @@ pub accepted-node : (rule : RuleKind) (t : List Node) (i : ℕ) (b : Grid) → A
     → (n : Node) × (slice_get t i ≡ Some n) × WinsOr (outcome rule b n.attack) (Unit {0})
 unfolding AcceptedWithin
 accepted-node rule t i b h = by_node (slice_get t i) (AcceptedWithin i rule t) h where
-  by_node : (o : Option Node) (Next : ℕ → Grid → Type 0) → AcceptedNode rule o Next b → (n : Node) × (o ≡ Some n) × WinsOr (outcome rule b n.attack) (Unit {0})
+  by_node : (o : Option Node) (Next : ℕ → Grid → Type 0) → AcceptedNode rule o Next b
+      → (n : Node) × (o ≡ Some n) × WinsOr (outcome rule b n.attack) (Unit {0})
   by_node None Next h = absurd h
   by_node (Some n) Next h = (n, refl, WinsOr-map (outcome rule b n.attack) _ _ (λ w. tt) h)
 
@@ -35,19 +38,25 @@ pub accepted-in_table : (rule : RuleKind) (t : List Node) (i : ℕ) (b : Grid) �
 accepted-in_table rule t i b h = let there = accepted-node rule t i b h in inside t i there.0 there.1
 
 -- where the attack goes on, each reply is no move, fouls, or goes on to a board where the answer to it is accepted
-replies_by : (rule : RuleKind) (o : Option Node) (Next : ℕ → Grid → Type 0) (b : Grid) (p : Point) → option_map (λ n. n.attack) o ≡ Some p → AcceptedNode rule o Next b → outcome rule b p ≡ GoesOn
-    → (q : Point) → LosesOr (outcome rule (after b p) q) (Answered (option_and_then (λ n. answer (answers_of n) q) o) (λ j. Next j (after (after b p) q)))
+replies_by : (rule : RuleKind) (o : Option Node) (Next : ℕ → Grid → Type 0) (b : Grid) (p : Point) → option_map (λ n. n.attack) o ≡ Some p
+    → AcceptedNode rule o Next b → outcome rule b p ≡ GoesOn
+    → (q : Point) → LosesOr (outcome rule (after b p) q)
+    (Answered (option_and_then (λ n. answer (answers_of n) q) o) (λ j. Next j (after (after b p) q)))
 replies_by rule None Next b p e h go q = absurd h
 replies_by rule (Some n) Next b p e h go q =
     let same : n.attack ≡ p = cc in
     let on : outcome rule b n.attack ≡ GoesOn = ap (outcome rule b) same ∙ go in
-    let w = subst (λ (o : Outcome). WinsOr o (NotWinning n.rest × ((x : Point) → Meets rule (answers_of n) Next (after b n.attack) x))) on h in
-    subst (λ (x : Point). LosesOr (outcome rule (after b x) q) (Answered (answer (answers_of n) q) (λ j. Next j (after (after b x) q)))) same (w.1 q)
+    let w = subst (λ (o : Outcome). WinsOr o (NotWinning n.rest × ((x : Point) → Meets rule (answers_of n) Next (after b n.attack) x))) on
+    h in
+    subst (λ (x : Point). LosesOr (outcome rule (after b x) q) (Answered (answer (answers_of n) q) (λ j. Next j (after (after b x) q))))
+    same (w.1 q)
 
-pub accepted-replies : (rule : RuleKind) (t : List Node) → IsTable t → (i : ℕ) (b : Grid) (p : Point) → option_map (λ n. n.attack) (slice_get t i) ≡ Some p → Accepted rule t i b → outcome rule b p ≡ GoesOn
+pub accepted-replies : (rule : RuleKind) (t : List Node) → IsTable t → (i : ℕ) (b : Grid) (p : Point)
+    → option_map (λ n. n.attack) (slice_get t i) ≡ Some p → Accepted rule t i b → outcome rule b p ≡ GoesOn
     → (q : Point) → LosesOr (outcome rule (after b p) q) (Answered (answer_at t i q) (λ j. Accepted rule t j (after (after b p) q)))
 accepted-replies rule t table i b p e h go q =
-    replies_by rule (slice_get t i) (Accepted rule t) b p e (subst (λ (X : Type 0). X) (accepted-step t (IsTable-lower t table) rule i b) h) go q
+    replies_by rule (slice_get t i) (Accepted rule t) b p e (subst (λ (X : Type 0). X) (accepted-step t (IsTable-lower t table) rule i b) h)
+    go q
 
 -- ---- depths
 
@@ -56,7 +65,8 @@ pub answer-no_deeper : (t : List Node) (a : Answers) (q : Point) (j : ℕ) → a
 answer-no_deeper t a q j e = answer-greatest (depth t) a q j e
 
 -- the attack of an accepted node is an empty point
-pub attack_empty : (rule : RuleKind) (t : List Node) (i : ℕ) (b : Grid) (p : Point) → Accepted rule t i b → option_map (λ n. n.attack) (slice_get t i) ≡ Some p → is_empty b p ≡ true
+pub attack_empty : (rule : RuleKind) (t : List Node) (i : ℕ) (b : Grid) (p : Point) → Accepted rule t i b
+    → option_map (λ n. n.attack) (slice_get t i) ≡ Some p → is_empty b p ≡ true
 attack_empty rule t i b p accepted e =
     let there = accepted-node rule t i b accepted in
     let same : Some there.0.attack ≡ Some p = sym (ap (option_map (λ (n : Node). n.attack)) there.1) ∙ e in

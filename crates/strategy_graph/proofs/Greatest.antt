@@ -31,10 +31,12 @@ greatest-within d (j ∷ js) ks inside =
     let later = greatest-within d js ks (λ i c. inside i (suc c.0, omega arith, c.2)) in
     omega (arith, here, later)
 
-pub greatest-same : (d : ℕ → ℕ) (js ks : List ℕ) → ((j : ℕ) → Contains js j → Contains ks j) → ((j : ℕ) → Contains ks j → Contains js j) → greatest (map d js) ≡ greatest (map d ks)
+pub greatest-same : (d : ℕ → ℕ) (js ks : List ℕ) → ((j : ℕ) → Contains js j → Contains ks j) → ((j : ℕ) → Contains ks j → Contains js j)
+    → greatest (map d js) ≡ greatest (map d ks)
 greatest-same d js ks inside outside =
     omega (arith, greatest-within d js ks inside, greatest-within d ks js outside)
 
-pub push-most : (d : ℕ → ℕ) (rs : List Reply) (r : Reply) → greatest (map d (map (λ r. r.next) (rs ++ r ∷ []))) ≡ max (greatest (map d (map (λ r. r.next) rs))) (d r.next)
+pub push-most : (d : ℕ → ℕ) (rs : List Reply) (r : Reply)
+    → greatest (map d (map (λ r. r.next) (rs ++ r ∷ []))) ≡ max (greatest (map d (map (λ r. r.next) rs))) (d r.next)
 push-most d [] r = omega arith
 push-most d (s ∷ rs) r = let rest = push-most d rs r in omega (arith, rest)

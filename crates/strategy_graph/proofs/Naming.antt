@@ -1,5 +1,6 @@
 -- Nodes at their places in a table, and in one that grows. The nodes that answers name, and the greatest of their depths.
-use Rattle.std.proofs.Common.{◌≡◌, ℕ, zero, suc, ◌<◌, List, [], ◌∷◌, ◌++◌, length, arith, refl, Some, slice_get, ◌+◌, max, Bool, true, false, ◌&&◌, map, get_or, drop, drop-cons, add-one, sym, ap, ◌∙◌, subst, nat_lt, None, All}
+use Rattle.std.proofs.Common.{◌≡◌, ℕ, zero, suc, ◌<◌, List, [], ◌∷◌, ◌++◌, length, arith, refl, Some, slice_get, ◌+◌, max, Bool, true}
+use Rattle.std.proofs.Common.{false, ◌&&◌, map, get_or, drop, drop-cons, add-one, sym, ap, ◌∙◌, subst, nat_lt, None, All}
 use Rattle.std.specs.List.{list_all}
 use Rattle.std.proofs.lemmas.Option.{same_Some}
 use Rattle.std.proofs.lemmas.List.Folds.{list_all-append, list_all-map}
@@ -33,14 +34,17 @@ ext-slice_get (n ∷ t) (m ∷ u) e h =
     λ i. first i ∷ others i
 
 -- the nodes that are listed, and that of the rest
-pub names_below-parts : (a : Answers) (k : ℕ) → names_below a k ≡ (list_all (λ r. nat_lt r.next k) a.replies && list_all (λ j. nat_lt j k) (rest_nodes a.rest))
+pub names_below-parts : (a : Answers) (k : ℕ) → names_below a k
+    ≡ (list_all (λ r. nat_lt r.next k) a.replies && list_all (λ j. nat_lt j k) (rest_nodes a.rest))
 names_below-parts a k =
     list_all-append (λ j. nat_lt j k) (map (λ r. r.next) a.replies) (rest_nodes a.rest)
-    ∙ ap (λ (b : Bool). b && list_all (λ j. nat_lt j k) (rest_nodes a.rest)) (list_all-map (λ j. nat_lt j k) (λ (r : Reply). r.next) a.replies)
+    ∙ ap (λ (b : Bool). b && list_all (λ j. nat_lt j k) (rest_nodes a.rest))
+    (list_all-map (λ j. nat_lt j k) (λ (r : Reply). r.next) a.replies)
 
 -- a reply that is listed names a node below k where all do
 pub reply-below : (a : Answers) (k i : ℕ) (d : Reply) → names_below a k ≡ true → i < length a.replies → (get_or a.replies i d).next < k
-reply-below a k i d h l = ltb-true _ _ (AllPass-from_list_all (λ r. nat_lt r.next k) a.replies (and_left _ _ (sym (names_below-parts a k) ∙ h)) i d l)
+reply-below a k i d h l = ltb-true _ _
+    (AllPass-from_list_all (λ r. nat_lt r.next k) a.replies (and_left _ _ (sym (names_below-parts a k) ∙ h)) i d l)
 
 rest_by : (r : Rest) (k j : ℕ) → list_all (λ j. nat_lt j k) (rest_nodes r) ≡ true → rest_node r ≡ Some j → j < k
 rest_by (To i) k j h e = let same : i ≡ j = cc in let low : i < k = ltb-true _ _ (and_left (nat_lt i k) true h) in omega (arith, same, low)
@@ -60,10 +64,12 @@ greatest-append d (x ∷ xs) ys = let rest = greatest-append d xs ys in omega (a
 abbrev pub greatest_listed : (ℕ → ℕ) → List Reply → ℕ
 greatest_listed d rs = greatest (map d (map (λ r. r.next) rs))
 
-pub greatest-parts : (d : ℕ → ℕ) (a : Answers) → greatest (map d (named a)) ≡ max (greatest (map d (rest_nodes a.rest))) (greatest_listed d a.replies)
+pub greatest-parts : (d : ℕ → ℕ) (a : Answers) → greatest (map d (named a)) ≡ max (greatest (map d (rest_nodes a.rest)))
+    (greatest_listed d a.replies)
 greatest-parts d a = let both = greatest-append d (map (λ r. r.next) a.replies) (rest_nodes a.rest) in omega (arith, both)
 
-pub greatest_listed-drop : (d : ℕ → ℕ) (rs : List Reply) (i : ℕ) (z : Reply) → i < length rs → greatest_listed d (drop i rs) ≡ max (d (get_or rs i z).next) (greatest_listed d (drop (i + 1) rs))
+pub greatest_listed-drop : (d : ℕ → ℕ) (rs : List Reply) (i : ℕ) (z : Reply) → i < length rs
+    → greatest_listed d (drop i rs) ≡ max (d (get_or rs i z).next) (greatest_listed d (drop (i + 1) rs))
 greatest_listed-drop d rs i z l = rw (add-one, drop-cons rs i z) refl
 
 pub greatest_rest-none : (d : ℕ → ℕ) (r : Rest) → rest_node r ≡ None → greatest (map d (rest_nodes r)) ≡ 0
@@ -76,18 +82,23 @@ greatest_rest-some d _ j e = cc
 
 -- ---- by parts
 
-pub names_below-then : (a : Answers) (k : ℕ) (y : Bool) → list_all (λ r. nat_lt r.next k) a.replies ≡ true → y ≡ list_all (λ j. nat_lt j k) (rest_nodes a.rest) → y ≡ names_below a k
+pub names_below-then : (a : Answers) (k : ℕ) (y : Bool) → list_all (λ r. nat_lt r.next k) a.replies ≡ true
+    → y ≡ list_all (λ j. nat_lt j k) (rest_nodes a.rest) → y ≡ names_below a k
 names_below-then a k y h e = e ∙ sym (names_below-parts a k ∙ ap (λ (b : Bool). b && list_all (λ j. nat_lt j k) (rest_nodes a.rest)) h)
 
-pub names_below-else : (a : Answers) (k : ℕ) (y : Bool) → list_all (λ r. nat_lt r.next k) a.replies ≡ false → y ≡ false → y ≡ names_below a k
+pub names_below-else : (a : Answers) (k : ℕ) (y : Bool) → list_all (λ r. nat_lt r.next k) a.replies ≡ false → y ≡ false
+    → y ≡ names_below a k
 names_below-else a k y h e = e ∙ sym (names_below-parts a k ∙ ap (λ (b : Bool). b && list_all (λ j. nat_lt j k) (rest_nodes a.rest)) h)
 
 -- the greatest depth begins with that of the rest
-pub greatest-none : (d : ℕ → ℕ) (a : Answers) (m : ℕ) → rest_node a.rest ≡ None → m ≡ 0 → greatest (map d (named a)) ≡ max m (greatest_listed d a.replies)
+pub greatest-none : (d : ℕ → ℕ) (a : Answers) (m : ℕ) → rest_node a.rest ≡ None → m ≡ 0
+    → greatest (map d (named a)) ≡ max m (greatest_listed d a.replies)
 greatest-none d a m e h = greatest-parts d a ∙ ap (λ (k : ℕ). max k (greatest_listed d a.replies)) (greatest_rest-none d a.rest e ∙ sym h)
 
-pub greatest-some : (d : ℕ → ℕ) (a : Answers) (m j : ℕ) → rest_node a.rest ≡ Some j → m ≡ d j → greatest (map d (named a)) ≡ max m (greatest_listed d a.replies)
-greatest-some d a m j e h = greatest-parts d a ∙ ap (λ (k : ℕ). max k (greatest_listed d a.replies)) (greatest_rest-some d a.rest j e ∙ sym h)
+pub greatest-some : (d : ℕ → ℕ) (a : Answers) (m j : ℕ) → rest_node a.rest ≡ Some j → m ≡ d j
+    → greatest (map d (named a)) ≡ max m (greatest_listed d a.replies)
+greatest-some d a m j e h = greatest-parts d a ∙ ap (λ (k : ℕ). max k (greatest_listed d a.replies))
+    (greatest_rest-some d a.rest j e ∙ sym h)
 
 -- the listed replies name nodes below k where all that is named is
 pub replies-below : (a : Answers) (k : ℕ) (rs : List Reply) → rs ≡ a.replies → names_below a k ≡ true → All (λ r. r.next < k) rs

@@ -1,5 +1,6 @@
 -- Lists of numbers that are related place by place, and nodes that are the same but for related numbers.
-use Rattle.std.proofs.Common.{ℕ, true, List, [], ◌∷◌, ◌++◌, ◌≡◌, ◌==◌, ◌<◌, subst, refl, ap, sym, ◌∙◌, map, zero, suc, arith, length, get_or, Option, Some, None, Contains, fold, nat_eq}
+use Rattle.std.proofs.Common.{ℕ, true, List, [], ◌∷◌, ◌++◌, ◌≡◌, ◌==◌, ◌<◌, subst, refl, ap, sym, ◌∙◌, map, zero, suc, arith, length}
+use Rattle.std.proofs.Common.{get_or, Option, Some, None, Contains, fold, nat_eq}
 use Rattle.std.specs.List.{AllByRecursion}
 use Rattle.std.specs.Option.{option_eq}
 use Rattle.game_rules.specs.declared.Point.{Point}
@@ -14,7 +15,8 @@ pub data Pairs (R : ℕ → ℕ → Type 0) : List ℕ → List ℕ → Type 0 w
   Goes : (j k : ℕ) (js ks : List ℕ) → R j k → Pairs R js ks → Pairs R (j ∷ js) (k ∷ ks)
 
 -- what is related to one thing is one, on either side
-pub pairs-right : (R S : ℕ → ℕ → Type 0) → ((x y z : ℕ) → R x y → S x z → y ≡ z) → (js ks ls : List ℕ) → Pairs R js ks → Pairs S js ls → ks ≡ ls
+pub pairs-right : (R S : ℕ → ℕ → Type 0) → ((x y z : ℕ) → R x y → S x z → y ≡ z) → (js ks ls : List ℕ) → Pairs R js ks → Pairs S js ls
+    → ks ≡ ls
 pairs-right R S f _ _ ls Ends k = none ls k where
   none : (ls : List ℕ) → Pairs S [] ls → [] ≡ ls
   none _ Ends = refl
@@ -22,7 +24,8 @@ pairs-right R S f _ _ ls (Goes x y js ks h hs) k = more ls k (λ ls k. pairs-rig
   more : (ls : List ℕ) → Pairs S (x ∷ js) ls → ((ls : List ℕ) → Pairs S js ls → ks ≡ ls) → y ∷ ks ≡ ls
   more _ (Goes _ z _ ls k ks) later = let first = f x y z h k in let others = later ls ks in λ i. first i ∷ others i
 
-pub pairs-left : (R S : ℕ → ℕ → Type 0) → ((x y z : ℕ) → R y x → S z x → y ≡ z) → (js ks ls : List ℕ) → Pairs R ks js → Pairs S ls js → ks ≡ ls
+pub pairs-left : (R S : ℕ → ℕ → Type 0) → ((x y z : ℕ) → R y x → S z x → y ≡ z) → (js ks ls : List ℕ) → Pairs R ks js → Pairs S ls js
+    → ks ≡ ls
 pairs-left R S f js ks ls h k = pairs-right (λ x y. R y x) (λ x y. S y x) f js ks ls (flip R ks js h) (flip S ls js k) where
   flip : (T : ℕ → ℕ → Type 0) (xs ys : List ℕ) → Pairs T xs ys → Pairs (λ x y. T y x) ys xs
   flip T _ _ Ends = Ends
@@ -49,7 +52,8 @@ pairs-at R _ _ i Ends l = absurd (omega arith)
 pairs-at R _ _ zero (Goes j k js ks r p) l = r
 pairs-at R _ _ (suc i) (Goes j k js ks r p) l = pairs-at R js ks i p (omega arith)
 
-pub fold-pairs : (R : ℕ → ℕ → Type 0) (f g : List ℕ → ℕ → List ℕ) → ((d e : List ℕ) (x y : ℕ) → R x y → Pairs R d e → Pairs R (f d x) (g e y))
+pub fold-pairs : (R : ℕ → ℕ → Type 0) (f g : List ℕ → ℕ → List ℕ)
+    → ((d e : List ℕ) (x y : ℕ) → R x y → Pairs R d e → Pairs R (f d x) (g e y))
     → (js ks d e : List ℕ) → Pairs R js ks → Pairs R d e → Pairs R (fold f d js) (fold g e ks)
 fold-pairs R f g step _ _ d e Ends p = p
 fold-pairs R f g step _ _ d e (Goes j k js ks r q) p = fold-pairs R f g step js ks (f d j) (g e k) q (step d e j k r p)
@@ -63,7 +67,8 @@ pub data OptionPair (R : ℕ → ℕ → Type 0) : Option ℕ → Option ℕ →
 pub record TellsApart (R : ℕ → ℕ → Type 0) : Type 0 where
   pub apart : (i i' j j' : ℕ) → R i j → R i' j' → (i == i') ≡ (j == j')
 
-pub same-pairs : (R : ℕ → ℕ → Type 0) → TellsApart R → (o p o' p' : Option ℕ) → OptionPair R o o' → OptionPair R p p' → option_eq nat_eq o p ≡ option_eq nat_eq o' p'
+pub same-pairs : (R : ℕ → ℕ → Type 0) → TellsApart R → (o p o' p' : Option ℕ) → OptionPair R o o' → OptionPair R p p'
+    → option_eq nat_eq o p ≡ option_eq nat_eq o' p'
 same-pairs R one _ _ _ _ (Both a b r) (Both c d r') = one.apart a c b d r r'
 same-pairs R one _ _ _ _ (Both a b r) Neither = refl
 same-pairs R one _ _ _ _ Neither Neither = refl
@@ -83,7 +88,8 @@ cons-first x y xs ys e = cc
 pub cons-others : {X : Type 0} (x y : X) (xs ys : List X) → x ∷ xs ≡ y ∷ ys → xs ≡ ys
 cons-others x y xs ys e = cc
 
-pub node-by_parts : (n m : Node) → n.attack ≡ m.attack → is_winning n.rest ≡ is_winning m.rest → map (λ r. r.at) n.replies ≡ map (λ r. r.at) m.replies
+pub node-by_parts : (n m : Node) → n.attack ≡ m.attack → is_winning n.rest ≡ is_winning m.rest
+    → map (λ r. r.at) n.replies ≡ map (λ r. r.at) m.replies
     → rest_nodes n.rest ≡ rest_nodes m.rest → map (λ r. r.next) n.replies ≡ map (λ r. r.next) m.replies → n ≡ m
 node-by_parts n m attack winning points rests nexts =
     let rest = rest-same n.rest m.rest winning rests in
@@ -121,15 +127,24 @@ node-left R S f n m l h k =
     (pairs-left R S f _ _ _ h.rests k.rests) (pairs-left R S f _ _ _ h.nexts k.nexts)
 
 pub node-itself : (n : Node) → NodePair (λ x y. x ≡ y) n n
-node-itself n = record { attack = refl; winning = refl; points = refl; rests = pairs-itself (rest_nodes n.rest); nexts = pairs-itself (map (λ r. r.next) n.replies) }
+node-itself n = record {
+  attack = refl;
+  winning = refl;
+  points = refl;
+  rests = pairs-itself (rest_nodes n.rest);
+  nexts =
+      pairs-itself (map (λ r. r.next) n.replies);
+}
 
 -- nodes that name none
-pub bare-pair : (R : ℕ → ℕ → Type 0) (n m : Node) → n.attack ≡ m.attack → n.rest ≡ m.rest → rest_nodes m.rest ≡ [] → n.replies ≡ [] → m.replies ≡ [] → NodePair R n m
+pub bare-pair : (R : ℕ → ℕ → Type 0) (n m : Node) → n.attack ≡ m.attack → n.rest ≡ m.rest → rest_nodes m.rest ≡ [] → n.replies ≡ []
+    → m.replies ≡ [] → NodePair R n m
 bare-pair R n m attack rest none e f = record {
   attack = attack;
   winning = ap is_winning rest;
   points = ap (map (λ r. r.at)) (e ∙ sym f);
-  rests = subst (λ (r : Rest). Pairs R (rest_nodes r) (rest_nodes m.rest)) (sym rest) (subst (λ (js : List ℕ). Pairs R js js) (sym none) Ends);
+  rests = subst (λ (r : Rest). Pairs R (rest_nodes r) (rest_nodes m.rest)) (sym rest)
+      (subst (λ (js : List ℕ). Pairs R js js) (sym none) Ends);
   nexts =
       subst (λ (rs : List Reply). Pairs R (map (λ r. r.next) rs) (map (λ r. r.next) m.replies)) (sym e)
       (subst (λ (rs : List Reply). Pairs R [] (map (λ r. r.next) rs)) (sym f) Ends);
@@ -163,15 +178,18 @@ AnswerPairs R a b (q ∷ qs) = OptionPair R (answer a q) (answer b q) × IsThere
 some-pair : (R : ℕ → ℕ → Type 0) (j k : ℕ) → OptionPair R (Some j) (Some k) → R j k
 some-pair R _ _ (Both j k r) = r
 
-answer-pair : (R : ℕ → ℕ → Type 0) (a b : Answers) (qs : List Point) (q : Point) (j k : ℕ) → AnswerPairs R a b qs → Contains qs q → answer a q ≡ Some j → answer b q ≡ Some k → R j k
+answer-pair : (R : ℕ → ℕ → Type 0) (a b : Answers) (qs : List Point) (q : Point) (j k : ℕ) → AnswerPairs R a b qs → Contains qs q
+    → answer a q ≡ Some j → answer b q ≡ Some k → R j k
 answer-pair R a b [] q j k h (m, l, e) x y = absurd (omega arith)
 answer-pair R a b (p ∷ qs) q j k h (zero, l, e) x y =
     some-pair R j k (subst (λ (o : Option ℕ). OptionPair R o (Some k)) x
     (subst (λ (o : Option ℕ). OptionPair R (answer a q) o) y (subst (λ (r : Point). OptionPair R (answer a r) (answer b r)) e h.0)))
 answer-pair R a b (p ∷ qs) q j k h (suc m, l, e) x y = answer-pair R a b qs q j k h.2 (m, omega arith, e) x y
 
-pub listed-pairs : (R : ℕ → ℕ → Type 0) (a b : Answers) (qs : List Point) (rs ss : List Reply) → AnswerPairs R a b qs → map (λ r. r.at) rs ≡ map (λ s. s.at) ss
-    → ((q : Point) → Contains (map (λ r. r.at) rs) q → Contains qs q) → AllByRecursion (λ r. answer a r.at ≡ Some r.next) rs → AllByRecursion (λ r. answer b r.at ≡ Some r.next) ss
+pub listed-pairs : (R : ℕ → ℕ → Type 0) (a b : Answers) (qs : List Point) (rs ss : List Reply) → AnswerPairs R a b qs
+    → map (λ r. r.at) rs ≡ map (λ s. s.at) ss
+    → ((q : Point) → Contains (map (λ r. r.at) rs) q → Contains qs q) → AllByRecursion (λ r. answer a r.at ≡ Some r.next) rs
+    → AllByRecursion (λ r. answer b r.at ≡ Some r.next) ss
     → Pairs R (map (λ r. r.next) rs) (map (λ s. s.next) ss)
 listed-pairs R a b qs [] [] h e inside x y = Ends
 listed-pairs R a b qs [] (s ∷ ss) h e inside x y = cc

@@ -9,7 +9,8 @@ use Rattle.strategy_graph.specs.declared.Rest.{Rest}
 use Rattle.strategy_graph.specs.declared.Rest.TheVariants.{Wins, To, Nothing}
 use Rattle.strategy_graph.specs.declared.Node.{Node}
 use Rattle.strategy_graph.specs.declared.Why.{Why}
-use Rattle.strategy_graph.proofs.Common.{Answers, answers_of, answer, Answered, NotWinning, Meets, AcceptedNode, AcceptedWithin, Accepted, AcceptedStart, attack_fault, reply_fault, AtNode, ReplyLeads, Leads, LeadsStart}
+use Rattle.strategy_graph.proofs.Common.{Answers, answers_of, answer, Answered, NotWinning, Meets, AcceptedNode, AcceptedWithin, Accepted}
+use Rattle.strategy_graph.proofs.Common.{AcceptedStart, attack_fault, reply_fault, AtNode, ReplyLeads, Leads, LeadsStart}
 
 -- an attack with a fault neither wins nor goes on from a node that is no winning one
 attack_refutes : (o : Outcome) (rest : Rest) (why : Why) (W : Type 0) → attack_fault o rest ≡ Some why → WinsOr o (NotWinning rest × W) → ⊥
@@ -35,27 +36,37 @@ both_answered None P Q f h k = h
 both_answered (Some j) P Q f h k = f j h k
 
 -- a reply that leads to a fault is not met
-reply_refutes : (o : Outcome) (a : Option ℕ) (line : List Point) (Next P : ℕ → Type 0) (why : Why) → ((j : ℕ) → Next j → P j → ⊥) → ReplyLeads o a line Next why → LosesOr o (Answered a P) → ⊥
+reply_refutes : (o : Outcome) (a : Option ℕ) (line : List Point) (Next P : ℕ → Type 0) (why : Why) → ((j : ℕ) → Next j → P j → ⊥)
+    → ReplyLeads o a line Next why → LosesOr o (Answered a P) → ⊥
 reply_refutes o a [] Next P why f h k = fault_refutes o a why P h k
 reply_refutes o a (p ∷ line) Next P why f h k = both_answered a Next P f h.1 (subst (λ (u : Outcome). LosesOr u (Answered a P)) h.0 k)
 
-last_refutes : (rule : RuleKind) (o : Option Node) (Next : ℕ → Grid → Type 0) (b : Grid) (p : Point) (why : Why) → AtNode o (λ n. (p ≡ n.attack) × (attack_fault (outcome rule b p) n.rest ≡ Some why)) → AcceptedNode rule o Next b → ⊥
+last_refutes : (rule : RuleKind) (o : Option Node) (Next : ℕ → Grid → Type 0) (b : Grid) (p : Point) (why : Why)
+    → AtNode o (λ n. (p ≡ n.attack) × (attack_fault (outcome rule b p) n.rest ≡ Some why)) → AcceptedNode rule o Next b → ⊥
 last_refutes rule None Next b p why h k = h
 last_refutes rule (Some n) Next b p why h k =
     attack_refutes (outcome rule b p) n.rest why ((q : Point) → Meets rule (answers_of n) Next (after b p) q) h.1
-    (subst (λ (v : Point). WinsOr (outcome rule b v) (NotWinning n.rest × ((q : Point) → Meets rule (answers_of n) Next (after b v) q))) (sym h.0) k)
+    (subst (λ (v : Point). WinsOr (outcome rule b v) (NotWinning n.rest × ((q : Point) → Meets rule (answers_of n) Next (after b v) q)))
+    (sym h.0) k)
 
-step_refutes : (rule : RuleKind) (o : Option Node) (Next Bad : ℕ → Grid → Type 0) (b : Grid) (p q : Point) (line : List Point) (why : Why) → ((j : ℕ) (c : Grid) → Bad j c → Next j c → ⊥) → AtNode o (λ n. (p ≡ n.attack) × (outcome rule b p ≡ GoesOn) × NotWinning n.rest × ReplyLeads (outcome rule (after b p) q) (answer (answers_of n) q) line (λ j. Bad j (after (after b p) q)) why) → AcceptedNode rule o Next b → ⊥
+step_refutes : (rule : RuleKind) (o : Option Node) (Next Bad : ℕ → Grid → Type 0) (b : Grid) (p q : Point) (line : List Point) (why : Why)
+    → ((j : ℕ) (c : Grid) → Bad j c → Next j c → ⊥)
+    → AtNode o (λ n. (p ≡ n.attack) × (outcome rule b p ≡ GoesOn) × NotWinning n.rest
+    × ReplyLeads (outcome rule (after b p) q) (answer (answers_of n) q) line (λ j. Bad j (after (after b p) q)) why)
+    → AcceptedNode rule o Next b → ⊥
 step_refutes rule None Next Bad b p q line why f h k = h
 step_refutes rule (Some n) Next Bad b p q line why f h k =
     let here : WinsOr (outcome rule b p) (NotWinning n.rest × ((q : Point) → Meets rule (answers_of n) Next (after b p) q)) =
-    subst (λ (v : Point). WinsOr (outcome rule b v) (NotWinning n.rest × ((q : Point) → Meets rule (answers_of n) Next (after b v) q))) (sym h.0) k in
+    subst (λ (v : Point). WinsOr (outcome rule b v) (NotWinning n.rest × ((q : Point) → Meets rule (answers_of n) Next (after b v) q)))
+    (sym h.0) k in
     let on : NotWinning n.rest × ((q : Point) → Meets rule (answers_of n) Next (after b p) q) =
     subst (λ (u : Outcome). WinsOr u (NotWinning n.rest × ((q : Point) → Meets rule (answers_of n) Next (after b p) q))) h.1 here in
-    reply_refutes (outcome rule (after b p) q) (answer (answers_of n) q) line (λ j. Bad j (after (after b p) q)) (λ j. Next j (after (after b p) q)) why
+    reply_refutes (outcome rule (after b p) q) (answer (answers_of n) q) line (λ j. Bad j (after (after b p) q))
+    (λ j. Next j (after (after b p) q)) why
     (λ j. f j (after (after b p) q)) h.3 (on.1 q)
 
-within_refutes : (rule : RuleKind) (t : List Node) (f i : ℕ) (b : Grid) (line : List Point) (why : Why) → Leads rule t i b line why → AcceptedWithin f rule t i b → ⊥
+within_refutes : (rule : RuleKind) (t : List Node) (f i : ℕ) (b : Grid) (line : List Point) (why : Why) → Leads rule t i b line why
+    → AcceptedWithin f rule t i b → ⊥
 unfolding AcceptedWithin Leads
 within_refutes rule t zero i b line why h k = k
 within_refutes rule t (suc f) i b [] why h k = h
@@ -65,11 +76,13 @@ within_refutes rule t (suc f) i b (p ∷ q ∷ line) why h k =
     (λ j c. within_refutes rule t f j c line why) h k
 
 -- a node from which a line leads to a fault is not accepted
-pub leads-refutes : (rule : RuleKind) (t : List Node) (i : ℕ) (b : Grid) (line : List Point) (why : Why) → Leads rule t i b line why → Accepted rule t i b → ⊥
+pub leads-refutes : (rule : RuleKind) (t : List Node) (i : ℕ) (b : Grid) (line : List Point) (why : Why) → Leads rule t i b line why
+    → Accepted rule t i b → ⊥
 leads-refutes rule t i b line why h k = within_refutes rule t (suc i) i b line why h k
 
 -- a start from which a line leads to a fault is not accepted
-pub leads-refutes-start : (rule : RuleKind) (t : List Node) (a : Answers) (b : Grid) (line : List Point) (why : Why) → LeadsStart rule t a b line why → AcceptedStart rule t a b → ⊥
+pub leads-refutes-start : (rule : RuleKind) (t : List Node) (a : Answers) (b : Grid) (line : List Point) (why : Why)
+    → LeadsStart rule t a b line why → AcceptedStart rule t a b → ⊥
 leads-refutes-start rule t a b [] why h k = h
 leads-refutes-start rule t a b (q ∷ line) why h k =
     reply_refutes (outcome rule b q) (answer a q) line (λ j. Leads rule t j (after b q) line why) (λ j. Accepted rule t j (after b q)) why

@@ -11,8 +11,11 @@ use Rattle.std.proofs.lemmas.List.Folds.{list_all-append}
 use Rattle.std.specs.Option.{option_map}
 use Rattle.std.proofs.lemmas.Bool.Decides.{Decides-eqb}
 use borrow.Author.Tests.{lt-ltb}
-use Rattle.strategy_graph.proofs.Common.{Answers, NamesLower, depth, named, rest_nodes, answers_of, is_rising, rest_node, IsNode, renumbered_answers, renumbered_rest, renumbered_reply, renumbered_node, Accepted, arrivals, SaysSame, StartSaysSame}
-use Rattle.strategy_graph.proofs.Copies.{iff_by, Copies, depth_within-copied, accepted_within-copied, arrivals_within-copied, game-copied, attacks-copied, Leads-copied, named-renumbered, is_winning-renumbered}
+use Rattle.strategy_graph.proofs.Common.{Answers, NamesLower, depth, named, rest_nodes, answers_of, is_rising, rest_node, IsNode}
+use Rattle.strategy_graph.proofs.Common.{renumbered_answers, renumbered_rest, renumbered_reply, renumbered_node, Accepted, arrivals}
+use Rattle.strategy_graph.proofs.Common.{SaysSame, StartSaysSame}
+use Rattle.strategy_graph.proofs.Copies.{iff_by, Copies, depth_within-copied, accepted_within-copied, arrivals_within-copied, game-copied}
+use Rattle.strategy_graph.proofs.Copies.{attacks-copied, Leads-copied, named-renumbered, is_winning-renumbered}
 use Rattle.strategy_graph.proofs.Starts.{starts-same}
 use Rattle.strategy_graph.proofs.Fuel.{depth_within-enough, accepted_within-enough, arrivals_within-enough}
 use Rattle.strategy_graph.specs.declared.Rest.{Rest}
@@ -20,7 +23,8 @@ use Rattle.strategy_graph.specs.declared.Rest.TheVariants.{Wins, To, Nothing}
 use Rattle.strategy_graph.specs.declared.Reply.{Reply}
 use Rattle.strategy_graph.proofs.Pairs.{cons-first, cons-others}
 
-module _ (f : ℕ → ℕ) (passes : ℕ → Bool) (t u : List Node) (copies : Copies f passes t u) (lower : NamesLower t) (lower' : NamesLower u) (i : ℕ) (p : passes i ≡ true) where
+module _ (f : ℕ → ℕ) (passes : ℕ → Bool) (t u : List Node) (copies : Copies f passes t u) (lower : NamesLower t) (lower' : NamesLower u)
+    (i : ℕ) (p : passes i ≡ true) where
   -- more than either number
   most : ℕ
   most = suc (i + f i)
@@ -58,7 +62,8 @@ module _ (f : ℕ → ℕ) (passes : ℕ → Bool) (t u : List Node) (copies : C
   }
 
 -- a start with the numbers of the copies says what the start says
-pub copies-same-start : (f : ℕ → ℕ) (passes : ℕ → Bool) (t u : List Node) → Copies f passes t u → NamesLower t → NamesLower u → (a : Answers) → list_all passes (named a) ≡ true → StartSaysSame t a u (renumbered_answers f a)
+pub copies-same-start : (f : ℕ → ℕ) (passes : ℕ → Bool) (t u : List Node) → Copies f passes t u → NamesLower t → NamesLower u
+    → (a : Answers) → list_all passes (named a) ≡ true → StartSaysSame t a u (renumbered_answers f a)
 copies-same-start f passes t u copies lower lower' a all =
     starts-same f passes t u
     (record {
@@ -69,18 +74,21 @@ copies-same-start f passes t u copies lower lower' a all =
     }) a all
 
 -- it matters only what is put for the numbers that are named
-pub renumbered_rest-agree : (f g : ℕ → ℕ) (passes : ℕ → Bool) → ((j : ℕ) → passes j ≡ true → f j ≡ g j) → (rest : Rest) → list_all passes (rest_nodes rest) ≡ true → renumbered_rest f rest ≡ renumbered_rest g rest
+pub renumbered_rest-agree : (f g : ℕ → ℕ) (passes : ℕ → Bool) → ((j : ℕ) → passes j ≡ true → f j ≡ g j) → (rest : Rest)
+    → list_all passes (rest_nodes rest) ≡ true → renumbered_rest f rest ≡ renumbered_rest g rest
 renumbered_rest-agree f g passes same (To j) h = ap To (same j (and_left (passes j) true h))
 renumbered_rest-agree f g passes same _ h = refl
 
-pub renumbered_replies-agree : (f g : ℕ → ℕ) (passes : ℕ → Bool) → ((j : ℕ) → passes j ≡ true → f j ≡ g j) → (rs : List Reply) → list_all passes (map (λ r. r.next) rs) ≡ true → map (renumbered_reply f) rs ≡ map (renumbered_reply g) rs
+pub renumbered_replies-agree : (f g : ℕ → ℕ) (passes : ℕ → Bool) → ((j : ℕ) → passes j ≡ true → f j ≡ g j) → (rs : List Reply)
+    → list_all passes (map (λ r. r.next) rs) ≡ true → map (renumbered_reply f) rs ≡ map (renumbered_reply g) rs
 renumbered_replies-agree f g passes same [] h = refl
 renumbered_replies-agree f g passes same (r ∷ rs) h =
     let here : f r.next ≡ g r.next = same r.next (and_left (passes r.next) _ h) in
     let later = renumbered_replies-agree f g passes same rs (and_right (passes r.next) _ h) in
     λ i. record { at = r.at; next = here i } ∷ later i
 
-pub renumbered-agree : (f g : ℕ → ℕ) (passes : ℕ → Bool) → ((j : ℕ) → passes j ≡ true → f j ≡ g j) → (n : Node) → list_all passes (named (answers_of n)) ≡ true → renumbered_node f n ≡ renumbered_node g n
+pub renumbered-agree : (f g : ℕ → ℕ) (passes : ℕ → Bool) → ((j : ℕ) → passes j ≡ true → f j ≡ g j) → (n : Node)
+    → list_all passes (named (answers_of n)) ≡ true → renumbered_node f n ≡ renumbered_node g n
 renumbered-agree f g passes same n h =
     let parts = sym (list_all-append passes (map (λ (r : Reply). r.next) n.replies) (rest_nodes n.rest)) ∙ h in
     let replies = renumbered_replies-agree f g passes same n.replies (and_left _ (list_all passes (rest_nodes n.rest)) parts) in
@@ -88,7 +96,8 @@ renumbered-agree f g passes same n h =
     λ i. record { attack = n.attack; replies = replies i; rest = rest i }
 
 -- the replies are as they were
-all_precede-renumbered : (f : ℕ → ℕ) (p : Point) (rs : List Reply) → list_all (λ s. precedes p s.at) (map (renumbered_reply f) rs) ≡ list_all (λ s. precedes p s.at) rs
+all_precede-renumbered : (f : ℕ → ℕ) (p : Point) (rs : List Reply)
+    → list_all (λ s. precedes p s.at) (map (renumbered_reply f) rs) ≡ list_all (λ s. precedes p s.at) rs
 all_precede-renumbered f p [] = refl
 all_precede-renumbered f p (r ∷ rs) = ap (λ (b : Bool). precedes p r.at && b) (all_precede-renumbered f p rs)
 
@@ -119,7 +128,8 @@ module _ (f : ℕ → ℕ) (passes : ℕ → Bool) (one : IsOneToOne f passes) w
         one-to-one : (j i : ℕ) → passes i ≡ true → f j ≡ f i → j ≡ i
         one-to-one j i p e = (Decides-eqb j i).0 (sym (one.apart j i p) ∙ (Decides-eqb (f j) (f i)).1 e)
 
-  pub replies-renumbered : (rs ss : List Reply) → list_all passes (map (λ r. r.next) rs) ≡ true → list_all passes (map (λ r. r.next) ss) ≡ true → map (renumbered_reply f) rs ≡ map (renumbered_reply f) ss → rs ≡ ss
+  pub replies-renumbered : (rs ss : List Reply) → list_all passes (map (λ r. r.next) rs) ≡ true
+      → list_all passes (map (λ r. r.next) ss) ≡ true → map (renumbered_reply f) rs ≡ map (renumbered_reply f) ss → rs ≡ ss
   replies-renumbered [] [] h k e = refl
   replies-renumbered [] (s ∷ ss) h k e = cc
   replies-renumbered (r ∷ rs) [] h k e = cc
@@ -130,7 +140,8 @@ module _ (f : ℕ → ℕ) (passes : ℕ → Bool) (one : IsOneToOne f passes) w
       let later : rs ≡ ss = replies-renumbered rs ss (and_right (passes r.next) _ h) (and_right (passes s.next) _ k) others in
       λ i. here i ∷ later i
 
-  pub rests-renumbered : (r s : Rest) → list_all passes (rest_nodes r) ≡ true → list_all passes (rest_nodes s) ≡ true → renumbered_rest f r ≡ renumbered_rest f s → r ≡ s
+  pub rests-renumbered : (r s : Rest) → list_all passes (rest_nodes r) ≡ true → list_all passes (rest_nodes s) ≡ true
+      → renumbered_rest f r ≡ renumbered_rest f s → r ≡ s
   rests-renumbered Wins Wins h k e = refl
   rests-renumbered Wins (To j) h k e = cc
   rests-renumbered Wins Nothing h k e = cc
@@ -144,15 +155,18 @@ module _ (f : ℕ → ℕ) (passes : ℕ → Bool) (one : IsOneToOne f passes) w
   rests-renumbered Nothing Nothing h k e = refl
 
   -- nodes that are different stay so
-  pub nodes-renumbered : (n m : Node) → list_all passes (named (answers_of n)) ≡ true → list_all passes (named (answers_of m)) ≡ true → renumbered_node f n ≡ renumbered_node f m → n ≡ m
+  pub nodes-renumbered : (n m : Node) → list_all passes (named (answers_of n)) ≡ true → list_all passes (named (answers_of m)) ≡ true
+      → renumbered_node f n ≡ renumbered_node f m → n ≡ m
   nodes-renumbered n m h k e =
       let parts = sym (list_all-append passes (map (λ (r : Reply). r.next) n.replies) (rest_nodes n.rest)) ∙ h in
       let parts' = sym (list_all-append passes (map (λ (r : Reply). r.next) m.replies) (rest_nodes m.rest)) ∙ k in
       let attack : n.attack ≡ m.attack = ap (λ (x : Node). x.attack) e in
       let replies : n.replies ≡ m.replies =
-      replies-renumbered n.replies m.replies (and_left _ (list_all passes (rest_nodes n.rest)) parts) (and_left _ (list_all passes (rest_nodes m.rest)) parts') (ap (λ (x : Node). x.replies) e) in
+      replies-renumbered n.replies m.replies (and_left _ (list_all passes (rest_nodes n.rest)) parts)
+      (and_left _ (list_all passes (rest_nodes m.rest)) parts') (ap (λ (x : Node). x.replies) e) in
       let rest : n.rest ≡ m.rest =
-      rests-renumbered n.rest m.rest (and_right (list_all passes (map (λ (r : Reply). r.next) n.replies)) _ parts) (and_right (list_all passes (map (λ (r : Reply). r.next) m.replies)) _ parts') (ap (λ (x : Node). x.rest) e) in
+      rests-renumbered n.rest m.rest (and_right (list_all passes (map (λ (r : Reply). r.next) n.replies)) _ parts)
+      (and_right (list_all passes (map (λ (r : Reply). r.next) m.replies)) _ parts') (ap (λ (x : Node). x.rest) e) in
       λ i. record { attack = attack i; replies = replies i; rest = rest i }
 
   -- ---- tables
@@ -164,14 +178,17 @@ module _ (f : ℕ → ℕ) (passes : ℕ → Bool) (one : IsOneToOne f passes) w
   nexts-renumbered [] = refl
   nexts-renumbered (r ∷ rs) = ap (λ (js : List ℕ). f r.next ∷ js) (nexts-renumbered rs)
 
-all-mapped : (p q : ℕ → Bool) (f : ℕ → ℕ) → ((j : ℕ) → p j ≡ true → q (f j) ≡ true) → (js : List ℕ) → list_all p js ≡ true → list_all q (map f js) ≡ true
+all-mapped : (p q : ℕ → Bool) (f : ℕ → ℕ) → ((j : ℕ) → p j ≡ true → q (f j) ≡ true) → (js : List ℕ) → list_all p js ≡ true
+    → list_all q (map f js) ≡ true
 all-mapped p q f keep [] h = refl
 all-mapped p q f keep (j ∷ js) h = rw (keep j (and_left (p j) _ h)) (all-mapped p q f keep js (and_right (p j) _ h))
 
 -- it is a node of a table, at a place above those of all that it names
-pub IsNode-renumbered : (f : ℕ → ℕ) (passes : ℕ → Bool) (n : Node) (i k : ℕ) → IsNode n i → ((j : ℕ) → passes j ≡ true → f j < k) → list_all passes (named (answers_of n)) ≡ true → IsNode (renumbered_node f n) k
+pub IsNode-renumbered : (f : ℕ → ℕ) (passes : ℕ → Bool) (n : Node) (i k : ℕ) → IsNode n i → ((j : ℕ) → passes j ≡ true → f j < k)
+    → list_all passes (named (answers_of n)) ≡ true → IsNode (renumbered_node f n) k
 IsNode-renumbered f passes n i k node low h = record {
-  below = ap (list_all (λ j. nat_lt j k)) (named-renumbered f (answers_of n)) ∙ all-mapped passes (λ j. nat_lt j k) f (λ j e. lt-ltb (f j) k (low j e)) (named (answers_of n)) h;
+  below = ap (list_all (λ j. nat_lt j k)) (named-renumbered f (answers_of n))
+      ∙ all-mapped passes (λ j. nat_lt j k) f (λ j e. lt-ltb (f j) k (low j e)) (named (answers_of n)) h;
   rising = rising-renumbered f n.replies ∙ node.rising;
   winning = λ e. ap (map (renumbered_reply f)) (node.winning (sym (is_winning-renumbered f n.rest) ∙ e));
 }

@@ -1,5 +1,6 @@
 -- Points in reading order, and replies at such points, which rise. Replies that rise strictly in reading order.
-use Rattle.std.proofs.Common.{◌≡◌, ℕ, ◌+◌, Bool, true, refl, sym, subst, List, [], ◌∷◌, map, zero, suc, ◌≤◌, ◌<◌, false, cond, ◌&&◌, length, get_or, drop, drop-cons, add-one, ap, ◌∙◌, arith, Some, None, Option, All, Contains, nat_lt}
+use Rattle.std.proofs.Common.{◌≡◌, ℕ, ◌+◌, Bool, true, refl, sym, subst, List, [], ◌∷◌, map, zero, suc, ◌≤◌, ◌<◌, false, cond, ◌&&◌, length}
+use Rattle.std.proofs.Common.{get_or, drop, drop-cons, add-one, ap, ◌∙◌, arith, Some, None, Option, All, Contains, nat_lt}
 use Rattle.std.specs.List.{list_all, filter, find, AllByRecursion}
 use Rattle.std.specs.Option.{option_map, option_or}
 use Rattle.std.proofs.lemmas.List.Sums.{AllPass-from_list_all}
@@ -16,7 +17,8 @@ use Rattle.strategy_graph.proofs.Common.{is_rising, listed_node, Answers, answer
 
 -- ---- replies at such points
 
-all-after : (p : Point) (y x : ℕ) (rs : List Reply) → ((q : Point) → From y x q → From p.y (p.x + 1) q) → Following y x (map (λ r. r.at) rs) → list_all (λ s. precedes p s.at) rs ≡ true
+all-after : (p : Point) (y x : ℕ) (rs : List Reply) → ((q : Point) → From y x q → From p.y (p.x + 1) q) → Following y x (map (λ r. r.at) rs)
+    → list_all (λ s. precedes p s.at) rs ≡ true
 unfolding Following
 all-after p y x [] f h = refl
 all-after p y x (r ∷ rs) f h =
@@ -33,7 +35,8 @@ replies-rise y x (r ∷ rs) h =
 -- replies at the points of a board that pass a test, in reading order, rise
 pub replies-rising : (b : Grid) (f : Point → Bool) (rs : List Reply) → map (λ r. r.at) rs ≡ filter f (points_of b) → is_rising rs ≡ true
 replies-rising b f rs e =
-    replies-rise 0 0 rs (subst (λ (ps : List Point). Following 0 0 ps) (sym e) (filter-following f 0 0 (points_of b) (rows-following b.width 0 b.height)))
+    replies-rise 0 0 rs (subst (λ (ps : List Point). Following 0 0 ps) (sym e)
+    (filter-following f 0 0 (points_of b) (rows-following b.width 0 b.height)))
 
 -- and so do replies at all points
 pub points-rising : (b : Grid) (rs : List Reply) → map (λ r. r.at) rs ≡ points_of b → is_rising rs ≡ true
@@ -45,9 +48,11 @@ abbrev pub climbs : Point → List Reply → Bool
 climbs p [] = true
 climbs p (r ∷ rs) = precedes p r.at && climbs r.at rs
 
-all_after : (p q : Point) → precedes p q ≡ true → (rs : List Reply) → list_all (λ s. precedes q s.at) rs ≡ true → list_all (λ s. precedes p s.at) rs ≡ true
+all_after : (p q : Point) → precedes p q ≡ true → (rs : List Reply) → list_all (λ s. precedes q s.at) rs ≡ true
+    → list_all (λ s. precedes p s.at) rs ≡ true
 all_after p q h [] k = refl
-all_after p q h (r ∷ rs) k = rw (precedes-trans p q r.at h (and_left (precedes q r.at) _ k), all_after p q h rs (and_right (precedes q r.at) _ k)) refl
+all_after p q h (r ∷ rs) k =
+    rw (precedes-trans p q r.at h (and_left (precedes q r.at) _ k), all_after p q h rs (and_right (precedes q r.at) _ k)) refl
 
 climbs_by : (a b c d : Bool) → (a ≡ true → b ≡ true → c ≡ true) → (a && (b && d)) ≡ ((a && c) && (b && d))
 climbs_by true true c d f = rw (f refl refl) refl
@@ -60,45 +65,59 @@ pub climbs-rising : (p : Point) (rs : List Reply) → climbs p rs ≡ (list_all 
 climbs-rising p [] = refl
 climbs-rising p (r ∷ rs) =
     ap (λ (b : Bool). precedes p r.at && b) (climbs-rising r.at rs)
-    ∙ climbs_by (precedes p r.at) (list_all (λ s. precedes r.at s.at) rs) (list_all (λ s. precedes p s.at) rs) (is_rising rs) (λ h k. all_after p r.at h rs k)
+    ∙ climbs_by (precedes p r.at) (list_all (λ s. precedes r.at s.at) rs) (list_all (λ s. precedes p s.at) rs) (is_rising rs)
+    (λ h k. all_after p r.at h rs k)
 
 pub is_rising-climbs : (r : Reply) (rs : List Reply) → is_rising (r ∷ rs) ≡ climbs r.at rs
 is_rising-climbs r rs = sym (climbs-rising r.at rs)
 
-pub climbs-drop : (p : Point) (rs : List Reply) (i : ℕ) (d : Reply) → i < length rs → climbs p (drop i rs) ≡ (precedes p (get_or rs i d).at && climbs (get_or rs i d).at (drop (i + 1) rs))
+pub climbs-drop : (p : Point) (rs : List Reply) (i : ℕ) (d : Reply) → i < length rs
+    → climbs p (drop i rs) ≡ (precedes p (get_or rs i d).at && climbs (get_or rs i d).at (drop (i + 1) rs))
 climbs-drop p rs i d l = rw (add-one, drop-cons rs i d) refl
 
 -- ---- what is listed of rising replies
 
 -- nothing is listed for a point before all of them, some of them left out or not
-none_listed : (f : Reply → Bool) (p : Point) (rs : List Reply) → list_all (λ s. precedes p s.at) rs ≡ true → listed_node (filter f rs) p ≡ None
+none_listed : (f : Reply → Bool) (p : Point) (rs : List Reply) → list_all (λ s. precedes p s.at) rs ≡ true
+    → listed_node (filter f rs) p ≡ None
 none_listed f p [] h = refl
 none_listed f p (r ∷ rs) h =
-    by_test (f r) (precedes-differs_back p r.at (and_left (precedes p r.at) _ h)) (none_listed f p rs (and_right (precedes p r.at) _ h)) where
-      by_test : (b : Bool) → is_same_point r.at p ≡ false → listed_node (filter f rs) p ≡ None → listed_node (cond b (r ∷ filter f rs) (filter f rs)) p ≡ None
+    by_test (f r) (precedes-differs_back p r.at (and_left (precedes p r.at) _ h))
+    (none_listed f p rs (and_right (precedes p r.at) _ h)) where
+      by_test : (b : Bool) → is_same_point r.at p ≡ false → listed_node (filter f rs) p ≡ None
+          → listed_node (cond b (r ∷ filter f rs) (filter f rs)) p ≡ None
       by_test true e h = rw e h
       by_test false e h = h
 
-after_head : (r : Reply) (rs : List Reply) (k : ℕ) (d : Reply) → is_rising (r ∷ rs) ≡ true → k < length rs → is_same_point r.at (get_or rs k d).at ≡ false
-after_head r rs k d h l = precedes-differs r.at (get_or rs k d).at (AllPass-from_list_all (λ s. precedes r.at s.at) rs (and_left _ _ h) k d l)
+after_head : (r : Reply) (rs : List Reply) (k : ℕ) (d : Reply) → is_rising (r ∷ rs) ≡ true → k < length rs
+    → is_same_point r.at (get_or rs k d).at ≡ false
+after_head r rs k d h l = precedes-differs r.at (get_or rs k d).at
+    (AllPass-from_list_all (λ s. precedes r.at s.at) rs (and_left _ _ h) k d l)
 
 -- of rising replies, one that is kept is listed for its point
-pub listed-kept : (f : Reply → Bool) (rs : List Reply) (k : ℕ) (d : Reply) → is_rising rs ≡ true → k < length rs → f (get_or rs k d) ≡ true → listed_node (filter f rs) (get_or rs k d).at ≡ Some (get_or rs k d).next
+pub listed-kept : (f : Reply → Bool) (rs : List Reply) (k : ℕ) (d : Reply) → is_rising rs ≡ true → k < length rs → f (get_or rs k d) ≡ true
+    → listed_node (filter f rs) (get_or rs k d).at ≡ Some (get_or rs k d).next
 listed-kept f [] k d h l e = absurd (omega arith)
 listed-kept f (r ∷ rs) zero d h l e = rw (e, is_same_point-itself r.at) refl
 listed-kept f (r ∷ rs) (suc k) d h l e =
-    by_test (f r) (after_head r rs k d h (omega arith)) (listed-kept f rs k d (and_right (list_all (λ s. precedes r.at s.at) rs) _ h) (omega arith) e) where
-      by_test : (b : Bool) → is_same_point r.at (get_or rs k d).at ≡ false → listed_node (filter f rs) (get_or rs k d).at ≡ Some (get_or rs k d).next → listed_node (cond b (r ∷ filter f rs) (filter f rs)) (get_or rs k d).at ≡ Some (get_or rs k d).next
+    by_test (f r) (after_head r rs k d h (omega arith))
+    (listed-kept f rs k d (and_right (list_all (λ s. precedes r.at s.at) rs) _ h) (omega arith) e) where
+      by_test : (b : Bool) → is_same_point r.at (get_or rs k d).at ≡ false
+          → listed_node (filter f rs) (get_or rs k d).at ≡ Some (get_or rs k d).next
+          → listed_node (cond b (r ∷ filter f rs) (filter f rs)) (get_or rs k d).at ≡ Some (get_or rs k d).next
       by_test true e h = rw e h
       by_test false e h = h
 
 -- and for the point of one that is left out nothing is listed
-pub listed-left_out : (f : Reply → Bool) (rs : List Reply) (k : ℕ) (d : Reply) → is_rising rs ≡ true → k < length rs → f (get_or rs k d) ≡ false → listed_node (filter f rs) (get_or rs k d).at ≡ None
+pub listed-left_out : (f : Reply → Bool) (rs : List Reply) (k : ℕ) (d : Reply) → is_rising rs ≡ true → k < length rs
+    → f (get_or rs k d) ≡ false → listed_node (filter f rs) (get_or rs k d).at ≡ None
 listed-left_out f [] k d h l e = absurd (omega arith)
 listed-left_out f (r ∷ rs) zero d h l e = rw e (none_listed f r.at rs (and_left _ _ h))
 listed-left_out f (r ∷ rs) (suc k) d h l e =
-    by_test (f r) (after_head r rs k d h (omega arith)) (listed-left_out f rs k d (and_right (list_all (λ s. precedes r.at s.at) rs) _ h) (omega arith) e) where
-      by_test : (b : Bool) → is_same_point r.at (get_or rs k d).at ≡ false → listed_node (filter f rs) (get_or rs k d).at ≡ None → listed_node (cond b (r ∷ filter f rs) (filter f rs)) (get_or rs k d).at ≡ None
+    by_test (f r) (after_head r rs k d h (omega arith))
+    (listed-left_out f rs k d (and_right (list_all (λ s. precedes r.at s.at) rs) _ h) (omega arith) e) where
+      by_test : (b : Bool) → is_same_point r.at (get_or rs k d).at ≡ false → listed_node (filter f rs) (get_or rs k d).at ≡ None
+          → listed_node (cond b (r ∷ filter f rs) (filter f rs)) (get_or rs k d).at ≡ None
       by_test true e h = rw e h
       by_test false e h = h
 
@@ -113,45 +132,57 @@ all_filter p f (r ∷ rs) h = by_test (f r) (and_left (p r) _ h) (all_filter p f
 pub is_rising-filter : (f : Reply → Bool) (rs : List Reply) → is_rising rs ≡ true → is_rising (filter f rs) ≡ true
 is_rising-filter f [] h = refl
 is_rising-filter f (r ∷ rs) h =
-    by_test (f r) (all_filter (λ s. precedes r.at s.at) f rs (and_left _ _ h)) (is_rising-filter f rs (and_right (list_all (λ s. precedes r.at s.at) rs) _ h)) where
-      by_test : (b : Bool) → list_all (λ s. precedes r.at s.at) (filter f rs) ≡ true → is_rising (filter f rs) ≡ true → is_rising (cond b (r ∷ filter f rs) (filter f rs)) ≡ true
+    by_test (f r) (all_filter (λ s. precedes r.at s.at) f rs (and_left _ _ h))
+    (is_rising-filter f rs (and_right (list_all (λ s. precedes r.at s.at) rs) _ h)) where
+      by_test : (b : Bool) → list_all (λ s. precedes r.at s.at) (filter f rs) ≡ true → is_rising (filter f rs) ≡ true
+          → is_rising (cond b (r ∷ filter f rs) (filter f rs)) ≡ true
       by_test true e h = rw (e, h) refl
       by_test false e h = h
 
 -- ---- a walk over the replies after the first
 
-pub falls-at : (rs : List Reply) (r : Reply) (os : List Reply) (last : Point) (i : ℕ) (d : Reply) → rs ≡ r ∷ os → climbs r.at os ≡ climbs last (drop i os) → i < length os → precedes last (get_or os i d).at ≡ false → false ≡ is_rising rs
+pub falls-at : (rs : List Reply) (r : Reply) (os : List Reply) (last : Point) (i : ℕ) (d : Reply) → rs ≡ r ∷ os
+    → climbs r.at os ≡ climbs last (drop i os) → i < length os → precedes last (get_or os i d).at ≡ false → false ≡ is_rising rs
 falls-at rs r os last i d e h l not_after =
-    sym (ap is_rising e ∙ is_rising-climbs r os ∙ h ∙ climbs-drop last os i d l ∙ ap (λ (b : Bool). b && climbs (get_or os i d).at (drop (i + 1) os)) not_after)
+    sym (ap is_rising e ∙ is_rising-climbs r os ∙ h ∙ climbs-drop last os i d l
+    ∙ ap (λ (b : Bool). b && climbs (get_or os i d).at (drop (i + 1) os)) not_after)
 
-pub rises-to : (rs : List Reply) (r : Reply) (os : List Reply) (last : Point) (i : ℕ) → rs ≡ r ∷ os → climbs r.at os ≡ climbs last (drop i os) → length os ≤ i → true ≡ is_rising rs
+pub rises-to : (rs : List Reply) (r : Reply) (os : List Reply) (last : Point) (i : ℕ) → rs ≡ r ∷ os
+    → climbs r.at os ≡ climbs last (drop i os) → length os ≤ i → true ≡ is_rising rs
 rises-to rs r os last i e h l = sym (ap is_rising e ∙ is_rising-climbs r os ∙ h ∙ ap (climbs last) (drop_of_length-le os l))
 
-pub next-filter : (p : ℕ → Bool) (q : Reply → Bool) (rs : List Reply) → list_all p (map (λ r. r.next) rs) ≡ true → list_all p (map (λ r. r.next) (filter q rs)) ≡ true
+pub next-filter : (p : ℕ → Bool) (q : Reply → Bool) (rs : List Reply) → list_all p (map (λ r. r.next) rs) ≡ true
+    → list_all p (map (λ r. r.next) (filter q rs)) ≡ true
 next-filter p q [] h = refl
 next-filter p q (r ∷ rs) h = by_test (q r) (next-filter p q rs (and_right (p r.next) _ h)) where
-  by_test : (b : Bool) → list_all p (map (λ r. r.next) (filter q rs)) ≡ true → list_all p (map (λ r. r.next) (cond b (r ∷ filter q rs) (filter q rs))) ≡ true
+  by_test : (b : Bool) → list_all p (map (λ r. r.next) (filter q rs)) ≡ true
+      → list_all p (map (λ r. r.next) (cond b (r ∷ filter q rs) (filter q rs))) ≡ true
   by_test true k = rw (and_left (p r.next) _ h) k
   by_test false k = k
 
 -- the first of rising replies, and those after it
-listed-first : (q : Reply → Bool) (r : Reply) (rs : List Reply) → list_all (λ s. precedes r.at s.at) rs ≡ true → listed_node (filter q (r ∷ rs)) r.at ≡ cond (q r) (Some r.next) None
+listed-first : (q : Reply → Bool) (r : Reply) (rs : List Reply) → list_all (λ s. precedes r.at s.at) rs ≡ true
+    → listed_node (filter q (r ∷ rs)) r.at ≡ cond (q r) (Some r.next) None
 listed-first q r rs h = by_test (q r) where
   by_test : (b : Bool) → listed_node (cond b (r ∷ filter q rs) (filter q rs)) r.at ≡ cond b (Some r.next) None
-  by_test true = ap (λ (b : Bool). option_map (λ r. r.next) (cond b (Some r) (find (λ s. is_same_point s.at r.at) (filter q rs)))) (is_same_point-itself r.at)
+  by_test true = ap (λ (b : Bool). option_map (λ r. r.next) (cond b (Some r) (find (λ s. is_same_point s.at r.at) (filter q rs))))
+      (is_same_point-itself r.at)
   by_test false = none_listed q r.at rs h
 
-listed-skips : (q : Reply → Bool) (r : Reply) (rs : List Reply) (p : Point) → precedes r.at p ≡ true → listed_node (filter q (r ∷ rs)) p ≡ listed_node (filter q rs) p
+listed-skips : (q : Reply → Bool) (r : Reply) (rs : List Reply) (p : Point) → precedes r.at p ≡ true
+    → listed_node (filter q (r ∷ rs)) p ≡ listed_node (filter q rs) p
 listed-skips q r rs p h = by_test (q r) where
   by_test : (b : Bool) → listed_node (cond b (r ∷ filter q rs) (filter q rs)) p ≡ listed_node (filter q rs) p
-  by_test true = ap (λ (b : Bool). option_map (λ r. r.next) (cond b (Some r) (find (λ s. is_same_point s.at p) (filter q rs)))) (precedes-differs r.at p h)
+  by_test true = ap (λ (b : Bool). option_map (λ r. r.next) (cond b (Some r) (find (λ s. is_same_point s.at p) (filter q rs))))
+      (precedes-differs r.at p h)
   by_test false = refl
 
 -- each reply that is kept is listed with its node, and no other is
 unfoldable pub Kept : (Reply → Bool) → List Reply → Reply → Type 0
 Kept q rs r = listed_node (filter q rs) r.at ≡ cond (q r) (Some r.next) None
 
-kept_more : (q : Reply → Bool) (r : Reply) (rs ss : List Reply) → list_all (λ s. precedes r.at s.at) ss ≡ true → AllByRecursion (Kept q rs) ss → AllByRecursion (Kept q (r ∷ rs)) ss
+kept_more : (q : Reply → Bool) (r : Reply) (rs ss : List Reply) → list_all (λ s. precedes r.at s.at) ss ≡ true
+    → AllByRecursion (Kept q rs) ss → AllByRecursion (Kept q (r ∷ rs)) ss
 unfolding Kept
 kept_more q r rs [] h k = tt
 kept_more q r rs (s ∷ ss) h k =
@@ -178,17 +209,28 @@ unfolding Kept
 answered-as-listed a h = each a.replies (kept_all (λ r. true) a.replies h) where
   each : (rs : List Reply) → AllByRecursion (Kept (λ r. true) a.replies) rs → AllByRecursion (λ r. answer a r.at ≡ Some r.next) rs
   each [] k = tt
-  each (r ∷ rs) k = (ap (λ (o : Option ℕ). option_or o (rest_node a.rest)) (sym (ap (λ (xs : List Reply). listed_node xs r.at) (filter-all a.replies)) ∙ k.0), each rs k.1)
+  each (r ∷ rs) k = (
+    ap (λ (o : Option ℕ). option_or o (rest_node a.rest))
+        (sym (ap (λ (xs : List Reply). listed_node xs r.at) (filter-all a.replies)) ∙ k.0),
+    each rs k.1,
+  )
 
 -- it names no points but those given
 pub point-given : (rs : List Reply) → All (λ r. Contains (map (λ r. r.at) rs) r.at) rs
-point-given rs = λ k d l. (k, let long = length-map rs (λ (r : Reply). r.at) in omega (arith, long, l), get_or-map (λ (r : Reply). r.at) rs k d (get_or rs k d).at l)
+point-given rs = λ k d l. (
+  k,
+  let long = length-map rs (λ (r : Reply). r.at) in
+      omega (arith, long, l),
+  get_or-map (λ (r : Reply). r.at) rs k d (get_or rs k d).at l,
+)
 
 -- a reply that is listed is answered as given
-pub listed-given : (a : Answers) (rs : List Reply) (q : Point) (j : ℕ) → AnsweredAsGiven a rs → listed_node rs q ≡ Some j → answer a q ≡ Some j
+pub listed-given : (a : Answers) (rs : List Reply) (q : Point) (j : ℕ) → AnsweredAsGiven a rs → listed_node rs q ≡ Some j
+    → answer a q ≡ Some j
 listed-given a [] q j given e = cc
 listed-given a (r ∷ rs) q j given e = by_test (is_same_point r.at q) refl e (listed-given a rs q j given.1) where
-  by_test : (b : Bool) → is_same_point r.at q ≡ b → option_map (λ r. r.next) (cond b (Some r) (find (λ r. is_same_point r.at q) rs)) ≡ Some j → (listed_node rs q ≡ Some j → answer a q ≡ Some j) → answer a q ≡ Some j
+  by_test : (b : Bool) → is_same_point r.at q ≡ b → option_map (λ r. r.next) (cond b (Some r) (find (λ r. is_same_point r.at q) rs)) ≡ Some
+      j → (listed_node rs q ≡ Some j → answer a q ≡ Some j) → answer a q ≡ Some j
   by_test true same e next = ap (answer a) (sym (is_same_point-same r.at q same)) ∙ given.0 ∙ e
   by_test false same e next = next e
 

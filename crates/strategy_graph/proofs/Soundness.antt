@@ -1,28 +1,35 @@
 -- An accepted node, and an accepted start, wins within its depth. A node is accepted where its answers are, step by step.
-use Rattle.std.proofs.Common.{ℕ, zero, suc, map, List, refl, Option, Some, None, slice_get, Bool, false, ◌&&◌, ◌||◌, not, ◌≡◌, inl, inr, true, nat_eq}
+use Rattle.std.proofs.Common.{ℕ, zero, suc, map, List, refl, Option, Some, None, slice_get, Bool, false, ◌&&◌, ◌||◌, not, ◌≡◌, inl, inr}
+use Rattle.std.proofs.Common.{true, nat_eq}
 use Rattle.std.specs.List.{list_all}
 use Rattle.std.proofs.lemmas.Bool.{or_cases, not-true}
 use Rattle.game_rules.specs.declared.RuleKind.{RuleKind}
 use Rattle.game_rules.specs.declared.Point.{Point}
 use Rattle.game_rules.specs.declared.Outcome.TheVariants.{GoesOn}
-use Rattle.game_rules.proofs.Common.{Grid, outcome, after, LosesOr, WinsWithin, WinsAfter, is_empty, is_on, points_of, empties_of, five, mover}
+use Rattle.game_rules.proofs.Common.{Grid, outcome, after, LosesOr, WinsWithin, WinsAfter, is_empty, is_on, points_of, empties_of, five}
+use Rattle.game_rules.proofs.Common.{mover}
 use Rattle.game_rules.proofs.Games.{WinsOr-map, LosesOr-map, WinsWithin-more}
 use Rattle.game_rules.proofs.Boards.{and_left, and_right}
 use Rattle.game_rules.proofs.Points.{all_at, taken_refused, off_refused}
 use Rattle.game_rules.proofs.Outcomes.{wins_now, quiet_move}
 use Rattle.strategy_graph.specs.declared.Node.{Node}
-use Rattle.strategy_graph.proofs.Common.{Answers, answers_of, answer, named, greatest, node_depth, depth_within, depth, start_depth, Meets, AcceptedNode, AcceptedWithin, Accepted, AcceptedStart, NamesLower}
+use Rattle.strategy_graph.proofs.Common.{Answers, answers_of, answer, named, greatest, node_depth, depth_within, depth, start_depth, Meets}
+use Rattle.strategy_graph.proofs.Common.{AcceptedNode, AcceptedWithin, Accepted, AcceptedStart, NamesLower}
 use Rattle.strategy_graph.proofs.Answering.{answer-greatest, Answered-elim}
 use Rattle.strategy_graph.proofs.Steps.{accepted-by-win, met-no_move, met-foul, met-answer}
 
 -- a reply that is met loses within the greatest depth of the nodes that are named
-met_loses : (rule : RuleKind) (a : Answers) (Next : ℕ → Grid → Type 0) (d : ℕ → ℕ) → ((j : ℕ) (c : Grid) → Next j c → WinsWithin rule (d j) c) → (b : Grid) (q : Point) → Meets rule a Next b q → LosesOr (outcome rule b q) (WinsWithin rule (greatest (map d (named a))) (after b q))
+met_loses : (rule : RuleKind) (a : Answers) (Next : ℕ → Grid → Type 0) (d : ℕ → ℕ)
+    → ((j : ℕ) (c : Grid) → Next j c → WinsWithin rule (d j) c) → (b : Grid) (q : Point) → Meets rule a Next b q
+    → LosesOr (outcome rule b q) (WinsWithin rule (greatest (map d (named a))) (after b q))
 met_loses rule a Next d next b q h =
     LosesOr-map (outcome rule b q) _ _
     (Answered-elim (answer a q) (λ j. Next j (after b q)) _ (λ j e k.
     WinsWithin-more rule (d j) _ (after b q) (answer-greatest d a q j e) (next j (after b q) k))) h
 
-node_wins : (rule : RuleKind) (o : Option Node) (Next : ℕ → Grid → Type 0) (d : ℕ → ℕ) → ((j : ℕ) (c : Grid) → Next j c → WinsWithin rule (d j) c) → (b : Grid) → AcceptedNode rule o Next b → WinsWithin rule (node_depth o d) b
+node_wins : (rule : RuleKind) (o : Option Node) (Next : ℕ → Grid → Type 0) (d : ℕ → ℕ)
+    → ((j : ℕ) (c : Grid) → Next j c → WinsWithin rule (d j) c) → (b : Grid) → AcceptedNode rule o Next b
+    → WinsWithin rule (node_depth o d) b
 node_wins rule None Next d next b h = absurd h
 node_wins rule (Some n) Next d next b h = (
   n.attack,
@@ -39,7 +46,8 @@ pub accepted-wins : (rule : RuleKind) (t : List Node) (i : ℕ) (b : Grid) → A
 accepted-wins rule t i b h = within_wins rule t (suc i) i b h
 
 -- whatever is played first, an accepted start wins within its depth
-pub accepted-start-wins : (rule : RuleKind) (t : List Node) (a : Answers) (b : Grid) → AcceptedStart rule t a b → WinsAfter rule (start_depth t a) b
+pub accepted-start-wins : (rule : RuleKind) (t : List Node) (a : Answers) (b : Grid) → AcceptedStart rule t a b
+    → WinsAfter rule (start_depth t a) b
 accepted-start-wins rule t a b h q = met_loses rule a (Accepted rule t) (depth t) (accepted-wins rule t) b q (h q)
 
 -- whether there is such a node, and its attack wins
@@ -56,25 +64,29 @@ answer_wins rule t (Some j) c = accepted_wins rule (slice_get t j) c
 abbrev pub is_met : RuleKind → List Node → Answers → Grid → (Point → Bool) → Point → Bool
 is_met rule t a b skip q = skip q || (not (is_empty b q) || (not (five rule b (mover b) q) && answer_wins rule t (answer a q) (after b q)))
 
-module _ (rule : RuleKind) (t : List Node) (lower : NamesLower t) (a : Answers) (b : Grid) (some : nat_eq (empties_of b) 1 ≡ false) (q : Point) where
+module _ (rule : RuleKind) (t : List Node) (lower : NamesLower t) (a : Answers) (b : Grid) (some : nat_eq (empties_of b) 1 ≡ false)
+    (q : Point) where
   by_node : (j : ℕ) (o : Option Node) → slice_get t j ≡ o → accepted_wins rule o (after b q) ≡ true → Accepted rule t j (after b q)
   by_node j None e h = cc
   by_node j (Some m) e h =
       accepted-by-win rule t lower j (after b q) m e
       (wins_now rule (after b q) m.attack (and_left (is_empty (after b q) m.attack) _ h) (and_right (is_empty (after b q) m.attack) _ h))
 
-  by_answer : (o : Option ℕ) → answer a q ≡ o → answer_wins rule t o (after b q) ≡ true → outcome rule b q ≡ GoesOn → Meets rule a (Accepted rule t) b q
+  by_answer : (o : Option ℕ) → answer a q ≡ o → answer_wins rule t o (after b q) ≡ true → outcome rule b q ≡ GoesOn
+      → Meets rule a (Accepted rule t) b q
   by_answer None e h on = cc
   by_answer (Some j) e h on = met-answer rule t a b q j on e (by_node j (slice_get t j) refl h)
 
-  by_empty : (r : Bool) → is_empty b q ≡ r → (not r || (not (five rule b (mover b) q) && answer_wins rule t (answer a q) (after b q))) ≡ true → Meets rule a (Accepted rule t) b q
+  by_empty : (r : Bool) → is_empty b q ≡ r → (not r || (not (five rule b (mover b) q) && answer_wins rule t (answer a q) (after b q)))
+      ≡ true → Meets rule a (Accepted rule t) b q
   by_empty false e h = met-no_move rule t a b q (taken_refused rule b q e)
   by_empty true e h = elim (quiet_move rule b q e (not-true (five rule b (mover b) q) (and_left (not (five rule b (mover b) q)) _ h)) some) [
     | inl on ↦ by_answer (answer a q) refl (and_right (not (five rule b (mover b) q)) _ h) on
     | inr foul ↦ met-foul rule t a b q foul.0 foul.1
   ]
 
-  pub met-by_test : (skip : Point → Bool) → list_all (is_met rule t a b skip) (points_of b) ≡ true → (skip q ≡ true → Meets rule a (Accepted rule t) b q) → Meets rule a (Accepted rule t) b q
+  pub met-by_test : (skip : Point → Bool) → list_all (is_met rule t a b skip) (points_of b) ≡ true
+      → (skip q ≡ true → Meets rule a (Accepted rule t) b q) → Meets rule a (Accepted rule t) b q
   met-by_test skip all passed = by_on (is_on b q) refl where
     by_on : (r : Bool) → is_on b q ≡ r → Meets rule a (Accepted rule t) b q
     by_on false e = met-no_move rule t a b q (off_refused rule b q e)

@@ -1,6 +1,7 @@
 -- One step of acceptance, of arrivals and of a line to a fault, at a node and at a reply, and over the replies so
 -- far: what a checker of tables needs.
-use Rattle.std.proofs.Common.{◌≡◌, ℕ, suc, ◌+◌, ◌≤◌, Bool, true, false, cond, List, [], ◌∷◌, ◌++◌, refl, sym, ap, subst, ◌∙◌, arith, Option, Some, None, slice_get, All}
+use Rattle.std.proofs.Common.{◌≡◌, ℕ, suc, ◌+◌, ◌≤◌, Bool, true, false, cond, List, [], ◌∷◌, ◌++◌, refl, sym, ap, subst, ◌∙◌, arith, Option}
+use Rattle.std.proofs.Common.{Some, None, slice_get, All}
 use Rattle.std.proofs.lemmas.List.Sums.{sum_by-append}
 use Rattle.game_rules.proofs.Common.{Grid, is_on, points_of, is_same_point, outcome, after, WinsOr, LosesOr, if_goes_on}
 use Rattle.game_rules.specs.declared.RuleKind.{RuleKind}
@@ -15,7 +16,9 @@ use Rattle.strategy_graph.specs.declared.Rest.{Rest}
 use Rattle.strategy_graph.specs.declared.Rest.TheVariants.{Wins}
 use Rattle.strategy_graph.specs.declared.Node.{Node}
 use Rattle.strategy_graph.specs.declared.Why.{Why}
-use Rattle.strategy_graph.proofs.Common.{Answers, answers_of, answer, is_winning, NamesLower, Answered, NotWinning, Meets, AcceptedNode, Accepted, if_answered, arrivals_at, arrivals_among, arrivals_after, arrivals_behind, arrivals_within, arrivals, attack_fault, reply_fault, Leads, LeadsStart}
+use Rattle.strategy_graph.proofs.Common.{Answers, answers_of, answer, is_winning, NamesLower, Answered, NotWinning, Meets, AcceptedNode}
+use Rattle.strategy_graph.proofs.Common.{Accepted, if_answered, arrivals_at, arrivals_among, arrivals_after, arrivals_behind}
+use Rattle.strategy_graph.proofs.Common.{arrivals_within, arrivals, attack_fault, reply_fault, Leads, LeadsStart}
 use Rattle.strategy_graph.proofs.Fuel.{accepted-step, arrivals-step}
 
 NotWinning-by : (r : Rest) → is_winning r ≡ false → NotWinning r
@@ -40,38 +43,49 @@ module _ (rule : RuleKind) (t : List Node) (lower : NamesLower t) (i : ℕ) (b :
   pub accepted-by-win : outcome rule b n.attack ≡ WinsNow → Accepted rule t i b
   accepted-by-win o =
       subst (λ (X : Type 0). X) (sym accepted-at)
-      (subst (λ (u : Outcome). WinsOr u (NotWinning n.rest × ((q : Point) → Meets rule (answers_of n) (Accepted rule t) (after b n.attack) q))) (sym o) tt)
+      (subst (λ (u : Outcome). WinsOr u
+      (NotWinning n.rest × ((q : Point) → Meets rule (answers_of n) (Accepted rule t) (after b n.attack) q))) (sym o) tt)
 
   -- an attack that goes on, of a node that is no winning one
-  pub accepted-by-replies : outcome rule b n.attack ≡ GoesOn → is_winning n.rest ≡ false → ((q : Point) → Meets rule (answers_of n) (Accepted rule t) (after b n.attack) q) → Accepted rule t i b
+  pub accepted-by-replies : outcome rule b n.attack ≡ GoesOn → is_winning n.rest ≡ false
+      → ((q : Point) → Meets rule (answers_of n) (Accepted rule t) (after b n.attack) q) → Accepted rule t i b
   accepted-by-replies o r met =
       subst (λ (X : Type 0). X) (sym accepted-at)
-      (subst (λ (u : Outcome). WinsOr u (NotWinning n.rest × ((q : Point) → Meets rule (answers_of n) (Accepted rule t) (after b n.attack) q))) (sym o) (NotWinning-by n.rest r, met))
+      (subst (λ (u : Outcome). WinsOr u
+      (NotWinning n.rest × ((q : Point) → Meets rule (answers_of n) (Accepted rule t) (after b n.attack) q))) (sym o)
+      (NotWinning-by n.rest r, met))
 
-  pub replies-met : outcome rule b n.attack ≡ GoesOn → Accepted rule t i b → (q : Point) → Meets rule (answers_of n) (Accepted rule t) (after b n.attack) q
+  pub replies-met : outcome rule b n.attack ≡ GoesOn → Accepted rule t i b → (q : Point)
+      → Meets rule (answers_of n) (Accepted rule t) (after b n.attack) q
   replies-met o h =
       let inside : NotWinning n.rest × ((q : Point) → Meets rule (answers_of n) (Accepted rule t) (after b n.attack) q) =
-      subst (λ (u : Outcome). WinsOr u (NotWinning n.rest × ((q : Point) → Meets rule (answers_of n) (Accepted rule t) (after b n.attack) q))) o (subst (λ (X : Type 0). X) accepted-at h) in
+      subst (λ (u : Outcome). WinsOr u
+      (NotWinning n.rest × ((q : Point) → Meets rule (answers_of n) (Accepted rule t) (after b n.attack) q))) o
+      (subst (λ (X : Type 0). X) accepted-at h) in
       inside.1
 
   -- the arrivals where the attack goes on, and where it does not
-  pub arrivals-by-replies : outcome rule b n.attack ≡ GoesOn → is_winning n.rest ≡ false → arrivals rule t i b ≡ suc (arrivals_after rule (answers_of n) (arrivals rule t) (after b n.attack))
+  pub arrivals-by-replies : outcome rule b n.attack ≡ GoesOn → is_winning n.rest ≡ false
+      → arrivals rule t i b ≡ suc (arrivals_after rule (answers_of n) (arrivals rule t) (after b n.attack))
   arrivals-by-replies o r = arrivals-at ∙ rw (o, r) refl
 
   pub arrivals-one : (u : Outcome) → outcome rule b n.attack ≡ u → (u ≡ GoesOn → ⊥) → arrivals rule t i b ≡ 1
   arrivals-one u o stops =
-      arrivals-at ∙ ap (λ (v : Outcome). suc (if_goes_on v (cond (is_winning n.rest) 0 (arrivals_after rule (answers_of n) (arrivals rule t) (after b n.attack))))) o
+      arrivals-at ∙ ap (λ (v : Outcome). suc
+      (if_goes_on v (cond (is_winning n.rest) 0 (arrivals_after rule (answers_of n) (arrivals rule t) (after b n.attack))))) o
       ∙ ap suc (if_goes_on-stops u _ stops)
 
   pub arrivals-winning : is_winning n.rest ≡ true → arrivals rule t i b ≡ 1
   arrivals-winning r =
-      arrivals-at ∙ ap (λ (w : Bool). suc (if_goes_on (outcome rule b n.attack) (cond w 0 (arrivals_after rule (answers_of n) (arrivals rule t) (after b n.attack))))) r
+      arrivals-at ∙ ap (λ (w : Bool). suc
+      (if_goes_on (outcome rule b n.attack) (cond w 0 (arrivals_after rule (answers_of n) (arrivals rule t) (after b n.attack))))) r
       ∙ ap suc (if_goes_on-none (outcome rule b n.attack))
 
 -- ---- at a reply
 
 module _ (rule : RuleKind) (t : List Node) (a : Answers) (c : Grid) (q : Point) where
-  met-by : (u : Outcome) (o : Option ℕ) → outcome rule c q ≡ u → answer a q ≡ o → LosesOr u (Answered o (λ j. Accepted rule t j (after c q))) → Meets rule a (Accepted rule t) c q
+  met-by : (u : Outcome) (o : Option ℕ) → outcome rule c q ≡ u → answer a q ≡ o
+      → LosesOr u (Answered o (λ j. Accepted rule t j (after c q))) → Meets rule a (Accepted rule t) c q
   met-by u o e w h = rw (e, w) h
 
   -- a reply that is no move, or fouls, or goes on to where its answer is accepted, is met
@@ -81,17 +95,20 @@ module _ (rule : RuleKind) (t : List Node) (a : Answers) (c : Grid) (q : Point) 
   pub met-foul : (f : Foul) → outcome rule c q ≡ Fouls f → Meets rule a (Accepted rule t) c q
   met-foul f e = met-by (Fouls f) (answer a q) e refl tt
 
-  pub met-answer : (j : ℕ) → outcome rule c q ≡ GoesOn → answer a q ≡ Some j → Accepted rule t j (after c q) → Meets rule a (Accepted rule t) c q
+  pub met-answer : (j : ℕ) → outcome rule c q ≡ GoesOn → answer a q ≡ Some j → Accepted rule t j (after c q)
+      → Meets rule a (Accepted rule t) c q
   met-answer j e w h = met-by GoesOn (Some j) e w h
 
   -- where a reply that goes on is met, its answer is accepted
-  pub answer-accepted : (j : ℕ) → outcome rule c q ≡ GoesOn → answer a q ≡ Some j → Meets rule a (Accepted rule t) c q → Accepted rule t j (after c q)
+  pub answer-accepted : (j : ℕ) → outcome rule c q ≡ GoesOn → answer a q ≡ Some j → Meets rule a (Accepted rule t) c q
+      → Accepted rule t j (after c q)
   answer-accepted j e w h =
       subst (λ (o : Option ℕ). Answered o (λ j. Accepted rule t j (after c q))) w
       (subst (λ (u : Outcome). LosesOr u (Answered (answer a q) (λ j. Accepted rule t j (after c q)))) e h)
 
   -- the arrivals behind a reply
-  pub arrivals-answer : (j : ℕ) → outcome rule c q ≡ GoesOn → answer a q ≡ Some j → arrivals_at rule a (arrivals rule t) c q ≡ arrivals rule t j (after c q)
+  pub arrivals-answer : (j : ℕ) → outcome rule c q ≡ GoesOn → answer a q ≡ Some j
+      → arrivals_at rule a (arrivals rule t) c q ≡ arrivals rule t j (after c q)
   arrivals-answer j e w = rw (e, w) refl
 
   pub arrivals-no_answer : answer a q ≡ None → arrivals_at rule a (arrivals rule t) c q ≡ 0
@@ -100,43 +117,53 @@ module _ (rule : RuleKind) (t : List Node) (a : Answers) (c : Grid) (q : Point) 
       ∙ if_goes_on-none (outcome rule c q)
 
   pub arrivals-stops : (u : Outcome) → outcome rule c q ≡ u → (u ≡ GoesOn → ⊥) → arrivals_at rule a (arrivals rule t) c q ≡ 0
-  arrivals-stops u e stops = ap (λ (v : Outcome). if_goes_on v (if_answered (answer a q) (λ j. arrivals rule t j (after c q)))) e ∙ if_goes_on-stops u _ stops
+  arrivals-stops u e stops = ap (λ (v : Outcome). if_goes_on v (if_answered (answer a q) (λ j. arrivals rule t j (after c q)))) e
+      ∙ if_goes_on-stops u _ stops
 
 -- ---- over the replies so far
 
 -- once each point of the board is met as a reply, each reply is
-pub met-all : (rule : RuleKind) (t : List Node) (a : Answers) (c : Grid) → All (λ q. Meets rule a (Accepted rule t) c q) (points_of c) → (q : Point) → Meets rule a (Accepted rule t) c q
+pub met-all : (rule : RuleKind) (t : List Node) (a : Answers) (c : Grid) → All (λ q. Meets rule a (Accepted rule t) c q) (points_of c)
+    → (q : Point) → Meets rule a (Accepted rule t) c q
 met-all rule t a c all q = by_test (is_on c q) refl where
   by_test : (r : Bool) → is_on c q ≡ r → Meets rule a (Accepted rule t) c q
-  by_test true on = found_all (λ q. Meets rule a (Accepted rule t) c q) q (points_of c) all (points-found c (is_same_point q) q on (is_same_point-itself q))
+  by_test true on = found_all (λ q. Meets rule a (Accepted rule t) c q) q (points_of c) all
+      (points-found c (is_same_point q) q on (is_same_point-itself q))
   by_test false off = met-no_move rule t a c q (off_refused rule c q off)
 
 -- one reply more
-pub arrivals_among-push : (rule : RuleKind) (a : Answers) (count : ℕ → Grid → ℕ) (c : Grid) (qs : List Point) (q : Point) → arrivals_among rule a count c (qs ++ q ∷ []) ≡ arrivals_among rule a count c qs + arrivals_at rule a count c q
+pub arrivals_among-push : (rule : RuleKind) (a : Answers) (count : ℕ → Grid → ℕ) (c : Grid) (qs : List Point) (q : Point)
+    → arrivals_among rule a count c (qs ++ q ∷ []) ≡ arrivals_among rule a count c qs + arrivals_at rule a count c q
 arrivals_among-push rule a count c qs q = let both = sum_by-append (arrivals_at rule a count c) qs (q ∷ []) in omega (arith, both)
 
 -- the arrivals behind some of the replies are no more than those behind all
-pub arrivals_among-le : (rule : RuleKind) (a : Answers) (count : ℕ → Grid → ℕ) (c : Grid) (qs more : List Point) → arrivals_among rule a count c qs ≤ arrivals_among rule a count c (qs ++ more)
+pub arrivals_among-le : (rule : RuleKind) (a : Answers) (count : ℕ → Grid → ℕ) (c : Grid) (qs more : List Point)
+    → arrivals_among rule a count c qs ≤ arrivals_among rule a count c (qs ++ more)
 arrivals_among-le rule a count c qs more = let both = sum_by-append (arrivals_at rule a count c) qs more in omega (arith, both)
 
 -- ---- lines to a fault
 
 -- an attack with a fault
-pub leads-attack : (rule : RuleKind) (t : List Node) (i : ℕ) (b : Grid) (n : Node) (why : Why) → slice_get t i ≡ Some n → attack_fault (outcome rule b n.attack) n.rest ≡ Some why → Leads rule t i b (n.attack ∷ []) why
+pub leads-attack : (rule : RuleKind) (t : List Node) (i : ℕ) (b : Grid) (n : Node) (why : Why) → slice_get t i ≡ Some n
+    → attack_fault (outcome rule b n.attack) n.rest ≡ Some why → Leads rule t i b (n.attack ∷ []) why
 unfolding Leads
 leads-attack rule t i b n why at h = rw at (refl, h)
 
 -- an attack that goes on, and a reply that leads to a fault
-pub leads-reply : (rule : RuleKind) (t : List Node) (i : ℕ) (b : Grid) (n : Node) (q : Point) (line : List Point) (why : Why) → slice_get t i ≡ Some n → outcome rule b n.attack ≡ GoesOn → is_winning n.rest ≡ false → LeadsStart rule t (answers_of n) (after b n.attack) (q ∷ line) why → Leads rule t i b (n.attack ∷ q ∷ line) why
+pub leads-reply : (rule : RuleKind) (t : List Node) (i : ℕ) (b : Grid) (n : Node) (q : Point) (line : List Point) (why : Why)
+    → slice_get t i ≡ Some n → outcome rule b n.attack ≡ GoesOn → is_winning n.rest ≡ false
+    → LeadsStart rule t (answers_of n) (after b n.attack) (q ∷ line) why → Leads rule t i b (n.attack ∷ q ∷ line) why
 unfolding Leads
 leads-reply rule t i b n q line why at o r h = rw at (refl, o, NotWinning-by n.rest r, h)
 
 -- a reply with a fault
-pub leads-fault : (rule : RuleKind) (t : List Node) (a : Answers) (c : Grid) (q : Point) (why : Why) → reply_fault (outcome rule c q) (answer a q) ≡ Some why → LeadsStart rule t a c (q ∷ []) why
+pub leads-fault : (rule : RuleKind) (t : List Node) (a : Answers) (c : Grid) (q : Point) (why : Why)
+    → reply_fault (outcome rule c q) (answer a q) ≡ Some why → LeadsStart rule t a c (q ∷ []) why
 leads-fault rule t a c q why h = h
 
 -- a reply that goes on to where its answer leads to a fault
-pub leads-answer : (rule : RuleKind) (t : List Node) (a : Answers) (c : Grid) (q : Point) (j : ℕ) (line : List Point) (why : Why) → outcome rule c q ≡ GoesOn → answer a q ≡ Some j → Leads rule t j (after c q) line why → LeadsStart rule t a c (q ∷ line) why
+pub leads-answer : (rule : RuleKind) (t : List Node) (a : Answers) (c : Grid) (q : Point) (j : ℕ) (line : List Point) (why : Why)
+    → outcome rule c q ≡ GoesOn → answer a q ≡ Some j → Leads rule t j (after c q) line why → LeadsStart rule t a c (q ∷ line) why
 unfolding Leads
 leads-answer rule t a c q j [] why o w h = absurd h
 leads-answer rule t a c q j (p ∷ line) why o w h = (o, rw w h)

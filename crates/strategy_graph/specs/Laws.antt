@@ -34,7 +34,8 @@ AcceptedStartWins =
 -- a game from an accepted node ends well, whatever the replies
 abbrev pub GamesEndWell : Type 0
 GamesEndWell =
-    (rule : RuleKind) (t : List Node) (i : ℕ) (b : Grid) (qs : List Point) → Accepted rule t i b → EndsWell (depth t i) (length qs) (game rule t i b qs)
+    (rule : RuleKind) (t : List Node) (i : ℕ) (b : Grid) (qs : List Point) → Accepted rule t i b
+    → EndsWell (depth t i) (length qs) (game rule t i b qs)
 
 -- node j of table u says what node i of table t says: its depth, where it is accepted, its arrivals, its games, and
 -- the lines to a fault
@@ -52,7 +53,8 @@ pub record StartSaysSame (t : List Node) (a : Answers) (u : List Node) (c : Answ
   pub same_depth : start_depth u c ≡ start_depth t a
   pub same_accepted : (rule : RuleKind) (b : Grid) → AcceptedStart rule u c b ↔ AcceptedStart rule t a b
   pub same_arrivals : (rule : RuleKind) (b : Grid) → start_arrivals rule u c b ≡ start_arrivals rule t a b
-  pub same_leads : (rule : RuleKind) (b : Grid) (line : List Point) (why : Why) → LeadsStart rule u c b line why ↔ LeadsStart rule t a b line why
+  pub same_leads : (rule : RuleKind) (b : Grid) (line : List Point) (why : Why)
+      → LeadsStart rule u c b line why ↔ LeadsStart rule t a b line why
 
 -- a node says the same however the table grows
 abbrev pub GrowthKeeps : Type 0
@@ -70,4 +72,5 @@ FaultsRefute =
 -- a start from which a line leads to a fault is not accepted
 abbrev pub FaultsRefuteStart : Type 0
 FaultsRefuteStart =
-    (rule : RuleKind) (t : List Node) (a : Answers) (b : Grid) (line : List Point) (why : Why) → LeadsStart rule t a b line why → ¬ AcceptedStart rule t a b
+    (rule : RuleKind) (t : List Node) (a : Answers) (b : Grid) (line : List Point) (why : Why) → LeadsStart rule t a b line why
+    → ¬ AcceptedStart rule t a b

@@ -25,7 +25,8 @@ hashed_replies = slice (λ r. u8 r.at.x ++ u8 r.at.y ++ u32 r.next)
 
 -- to be the same is an equivalence
 same_reply_equiv : IsEquivalence same_reply
-same_reply_equiv = and_equiv (and_equiv (on_equiv (λ (r : Reply). r.at.x) nat_eq_equiv) (on_equiv (λ (r : Reply). r.at.y) nat_eq_equiv)) (on_equiv (λ (r : Reply). r.next) nat_eq_equiv)
+same_reply_equiv = and_equiv (and_equiv (on_equiv (λ (r : Reply). r.at.x) nat_eq_equiv) (on_equiv (λ (r : Reply). r.at.y) nat_eq_equiv))
+    (on_equiv (λ (r : Reply). r.next) nat_eq_equiv)
 
 -- and so it is of lists
 pub same_replies_equiv : IsEquivalence same_replies

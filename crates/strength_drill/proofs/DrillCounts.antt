@@ -1,7 +1,8 @@
 -- The counts of a drill: each table of a win may be held, each game is won, a number has one drill; and what the calls say of a position.
 use Rattle.std.specs.Prelude.{Option, Some, None, ◌≢◌}
 use Rattle.std.specs.List.{All, find, range_with_len}
-use Rattle.std.proofs.Common.{◌≡◌, ◌⊎◌, inl, inr, refl, sym, ap, subst, ◌∙◌, ℕ, zero, suc, ◌+◌, ◌*◌, ◌<◌, ◌≤◌, Bool, true, false, cond, nat_le, List, [], ◌∷◌, length, add-one, arith, ◌-◌, ◌++◌}
+use Rattle.std.proofs.Common.{◌≡◌, ◌⊎◌, inl, inr, refl, sym, ap, subst, ◌∙◌, ℕ, zero, suc, ◌+◌, ◌*◌, ◌<◌, ◌≤◌, Bool, true, false, cond}
+use Rattle.std.proofs.Common.{nat_le, List, [], ◌∷◌, length, add-one, arith, ◌-◌, ◌++◌}
 use Rattle.std.proofs.lemmas.Bool.{cases_lt, lt-ltb}
 use Rattle.std.proofs.lemmas.Bool.Decides.{nat_tests}
 use Rattle.game_rules.specs.Grid.{Grid}
@@ -35,8 +36,10 @@ use Rattle.strength_drill.specs.declared.drill.TheConstants.{DEPTH, BUDGET}
 use Rattle.strength_drill.specs.declared.TheConstants.{POSITIONS}
 use Rattle.strength_drill.specs.declared.positions.TheConstants.{SIDE, DRAWN_POINTS}
 use Rattle.strength_drill.specs.Draws.{next_number, drawn, number_after, position_drawn, rule_at}
-use Rattle.strength_drill.specs.DrillGames.{held_at, position_lines, move_said, drawn_move, told_all, state_begun, is_ended, after_turns, moves_of_brain, is_won, IsPlayedOut, IsGamePlayed}
-use Rattle.strength_drill.specs.Counts.{Found, WinIn, NoWin, OverBudget, found_by, found_within, no_counts, together, IsHoldable, PlaysGame, IsNotHeld, ComesOf, IsShare, AreCounts, IsCounted, AreOnlyCounts, AreWithin}
+use Rattle.strength_drill.specs.DrillGames.{held_at, position_lines, move_said, drawn_move, told_all, state_begun, is_ended, after_turns}
+use Rattle.strength_drill.specs.DrillGames.{moves_of_brain, is_won, IsPlayedOut, IsGamePlayed}
+use Rattle.strength_drill.specs.Counts.{Found, WinIn, NoWin, OverBudget, found_by, found_within, no_counts, together, IsHoldable, PlaysGame}
+use Rattle.strength_drill.specs.Counts.{IsNotHeld, ComesOf, IsShare, AreCounts, IsCounted, AreOnlyCounts, AreWithin}
 use Rattle.strength_drill.proofs.DrillMaking.{board-wide, board-high, board-lawful}
 use Rattle.strength_drill.proofs.DrillTurns.{IsOver, attacks, over-now, ended-now, going-now}
 use Rattle.strength_drill.proofs.DrillCourse.{IsOpened, opened, IsAtTurn, turn-none, course-first, outcome-at, met, then_state, course-next}
@@ -44,14 +47,16 @@ use Rattle.strength_drill.proofs.DrillCourse.{IsOpened, opened, IsAtTurn, turn-n
 -- ---- what a search finds
 
 module _ (depth budget : ℕ) (rule : RuleKind) (b : Grid) where
-  found-by : (r : Bool) → nat_le (four_cost rule depth b) budget ≡ r → found_within depth budget rule b ≡ cond r (found_by (least_moves rule depth b)) OverBudget
+  found-by : (r : Bool) → nat_le (four_cost rule depth b) budget ≡ r
+      → found_within depth budget rule b ≡ cond r (found_by (least_moves rule depth b)) OverBudget
   unfolding found_within
   found-by r e = ap (λ (t : Bool). cond t (found_by (least_moves rule depth b)) OverBudget) e
 
   within : four_cost rule depth b ≤ budget → found_within depth budget rule b ≡ found_by (least_moves rule depth b)
   within fits = found-by true (grind (arith, nat_tests))
 
-  pub found-win : (moves : ℕ) → four_cost rule depth b ≤ budget → least_moves rule depth b ≡ Some moves → found_within depth budget rule b ≡ WinIn moves
+  pub found-win : (moves : ℕ) → four_cost rule depth b ≤ budget → least_moves rule depth b ≡ Some moves
+      → found_within depth budget rule b ≡ WinIn moves
   found-win moves fits least = within fits ∙ ap found_by least
 
   pub found-none : wins_by_fours rule depth b ≡ false → four_cost rule depth b ≤ budget → found_within depth budget rule b ≡ NoWin
@@ -74,7 +79,8 @@ module _ (depth budget : ℕ) (rule : RuleKind) (b : Grid) where
 find-below : (f : ℕ → Bool) (d a m : ℕ) → find f (range_with_len a d) ≡ Some m → m < a + d
 find-below f zero a m h = cc
 find-below f (suc d) a m h = by_test (f a) h (find-below f d (a + 1) m) where
-  by_test : (r : Bool) → cond r (Some a) (find f (range_with_len (a + 1) d)) ≡ Some m → (find f (range_with_len (a + 1) d) ≡ Some m → m < a + 1 + d) → m < a + suc d
+  by_test : (r : Bool) → cond r (Some a) (find f (range_with_len (a + 1) d)) ≡ Some m
+      → (find f (range_with_len (a + 1) d) ≡ Some m → m < a + 1 + d) → m < a + suc d
   by_test true e rest = let same : a ≡ m = cc in omega (arith, same)
   by_test false e rest = let low = rest e in omega (arith, low)
 
@@ -90,7 +96,8 @@ few-arrivals w g m a wide high low short =
     let most : a ≤ SIDE * SIDE * m = subst (λ (n : ℕ). a ≤ n * m) size short in
     omega (arith, most, low)
 
-pub win-holdable : (rule : RuleKind) (b : Grid) → IsPosition rule b → b.width ≡ SIDE → b.height ≡ SIDE → (moves : ℕ) → found_within DEPTH BUDGET rule b ≡ WinIn moves → (t : List Node) → IsTableOf (four_plan rule moves b) t → IsHoldable rule b t
+pub win-holdable : (rule : RuleKind) (b : Grid) → IsPosition rule b → b.width ≡ SIDE → b.height ≡ SIDE → (moves : ℕ)
+    → found_within DEPTH BUDGET rule b ≡ WinIn moves → (t : List Node) → IsTableOf (four_plan rule moves b) t → IsHoldable rule b t
 win-holdable rule b lawful wide high moves found t table =
     let least = found-least DEPTH BUDGET rule b moves found in
     let written = plan-written rule t table.table moves (last t) b lawful (least-wins rule DEPTH b moves least) table.stands in
@@ -102,7 +109,8 @@ win-holdable rule b lawful wide high moves found t table =
 -- ---- each game is won
 
 -- the state of the definition is that of its last step
-begun-is : (h : HeldTable) (rule : RuleKind) (b : Grid) → (brain_step (told_all (new_brain h) (position_lines rule b)) Done).next ≡ state_begun h rule b
+begun-is : (h : HeldTable) (rule : RuleKind) (b : Grid)
+    → (brain_step (told_all (new_brain h) (position_lines rule b)) Done).next ≡ state_begun h rule b
 begun-is h rule b = refl
 
 -- after so many turns, none of which found the game ended, the brain has made a move by the table, or the game is over
@@ -124,12 +132,14 @@ over-won s k g over at =
 differ : (r : Bool) → r ≡ true → r ≡ false → ⊥
 differ r on off = let wrong : true ≡ false = sym on ∙ off in cc
 
-module _ (h : HeldTable) (rule : RuleKind) (b : Grid) (n : ℕ) (open_ : IsOpened h rule b (brain_step (told_all (new_brain h) (position_lines rule b)) Done)) where
+module _ (h : HeldTable) (rule : RuleKind) (b : Grid) (n : ℕ)
+    (open_ : IsOpened h rule b (brain_step (told_all (new_brain h) (position_lines rule b)) Done)) where
   abbrev begun : State
   begun = state_begun h rule b
 
   -- one turn more
-  module _ (k number : ℕ) (c : Grid) (at : Point) (t : IsAtTurn h rule b n (after_turns begun n k) number c at k) (on : outcome rule c at ≡ GoesOn) where
+  module _ (k number : ℕ) (c : Grid) (at : Point) (t : IsAtTurn h rule b n (after_turns begun n k) number c at k)
+      (on : outcome rule c at ≡ GoesOn) where
     abbrev now : State
     now = after_turns begun n k
 
@@ -139,15 +149,18 @@ module _ (h : HeldTable) (rule : RuleKind) (b : Grid) (n : ℕ) (open_ : IsOpene
     more-turns : AtOrOver h rule b n (k + 1)
     unfolding AtOrOver
     more-turns =
-        let then = then_state h rule b n now number c at k t on (after c at) refl (next_number number) (drawn (next_number number)) refl refl q refl in
+        let then = then_state h rule b n now number c at k t on (after c at) refl (next_number number) (drawn (next_number number)) refl
+        refl q refl in
         elim (met h rule b n now number c at k t on (after c at) refl (next_number number) (drawn (next_number number)) refl refl q refl) [
           | inl foul ↦ inr (subst (λ (x : State). IsOver x (k + 1)) then foul.over)
           | inr answer ↦ inl (
             next_number number,
             after (after c at) q,
             answer.playing.node.attack,
-            course-next h rule b n now number c at k t on (after c at) refl (next_number number) (drawn (next_number number)) refl refl q refl
-                (after_turns begun n (k + 1)) (brain_step now (Turn q.x q.y)).reaction (sym then) refl answer.playing.node.attack (ap move_said answer.says),
+            course-next h rule b n now number c at k t on (after c at) refl (next_number number) (drawn (next_number number)) refl refl q
+                refl
+                (after_turns begun n (k + 1)) (brain_step now (Turn q.x q.y)).reaction (sym then) refl answer.playing.node.attack
+                (ap move_said answer.says),
           )
         ]
 
@@ -155,7 +168,13 @@ module _ (h : HeldTable) (rule : RuleKind) (b : Grid) (n : ℕ) (open_ : IsOpene
   unfolding AtOrOver
   at-or-over zero before =
       let first = turn-none begun n in
-      inl (n, b, open_.playing.node.attack, course-first h rule b n (brain_step (told_all (new_brain h) (position_lines rule b)) Done) (after_turns begun n 0) n b open_.playing.node.attack refl open_ first refl refl (ap move_said open_.says))
+      inl (
+        n,
+        b,
+        open_.playing.node.attack,
+        course-first h rule b n (brain_step (told_all (new_brain h) (position_lines rule b)) Done)
+            (after_turns begun n 0) n b open_.playing.node.attack refl open_ first refl refl (ap move_said open_.says),
+      )
   at-or-over (suc k) before = subst (AtOrOver h rule b n) (add-one k) (elim (at-or-over k (λ j less. before j (omega (arith, less)))) [
     | inl at ↦ elim (attacks h rule (after_turns begun n k) k at.3.playing) [
       | inl wins ↦ absurd (differ _ (ended-now h rule (after_turns begun n k) k at.3.playing wins) (before k (omega arith)))
@@ -169,8 +188,10 @@ module _ (h : HeldTable) (rule : RuleKind) (b : Grid) (n : ℕ) (open_ : IsOpene
   unfolding AtOrOver
   played-won turns g played = elim (at-or-over turns played.no_sooner) [
     | inl at ↦ elim (attacks h rule (after_turns begun n turns) turns at.3.playing) [
-      | inl wins ↦ over-won (after_turns begun n turns) (turns + 1) g (over-now h rule (after_turns begun n turns) turns at.3.playing wins) played.game
-      | inr on ↦ absurd (differ _ (ap is_ended played.game ∙ played.ended) (going-now h rule (after_turns begun n turns) turns at.3.playing on))
+      | inl wins ↦ over-won (after_turns begun n turns) (turns + 1) g (over-now h rule (after_turns begun n turns) turns at.3.playing wins)
+          played.game
+      | inr on ↦ absurd (differ _ (ap is_ended played.game ∙ played.ended)
+          (going-now h rule (after_turns begun n turns) turns at.3.playing on))
     ]
     | inr over ↦ over-won (after_turns begun n turns) turns g over played.game
   ]
@@ -178,16 +199,24 @@ module _ (h : HeldTable) (rule : RuleKind) (b : Grid) (n : ℕ) (open_ : IsOpene
 -- a brain may hold the table with this one root
 pub held-one : (rule : RuleKind) (b : Grid) (t : List Node) → IsPosition rule b → Accepted rule t (last t) b → IsHeld (held_at rule b t)
 held-one rule b t lawful accepted = record {
-  roots = one (record { lawful = lawful; below = lt-ltb (last t) (length t) (accepted-in_table rule t (last t) b accepted); accepted = accepted });
+  roots = one (record {
+    lawful = lawful;
+    below = lt-ltb (last t) (length t) (accepted-in_table rule t (last t) b accepted);
+    accepted = accepted;
+  });
   few = omega arith;
 } where
-  one : IsHeldRoot t (record { root = Attack (last t); kind = rule; board = b }) → All (IsHeldRoot t) (record { root = Attack (last t); kind = rule; board = b } ∷ [])
+  one : IsHeldRoot t (record { root = Attack (last t); kind = rule; board = b })
+      → All (IsHeldRoot t) (record { root = Attack (last t); kind = rule; board = b } ∷ [])
   one held zero d less = held
   one held (suc k) d less = absurd (omega (arith, less))
 
-pub game-won : (rule : RuleKind) (b : Grid) (t : List Node) → IsPosition rule b → b.width ≡ SIDE → b.height ≡ SIDE → IsHoldable rule b t → (n moves : ℕ) (won : Bool) (u : ℕ) → IsGamePlayed (state_begun (held_at rule b t) rule b) n moves won u → won ≡ true
+pub game-won : (rule : RuleKind) (b : Grid) (t : List Node) → IsPosition rule b → b.width ≡ SIDE → b.height ≡ SIDE → IsHoldable rule b t
+    → (n moves : ℕ) (won : Bool) (u : ℕ) → IsGamePlayed (state_begun (held_at rule b t) rule b) n moves won u → won ≡ true
 game-won rule b t lawful wide high can n moves won u played =
-    played.ends ∙ played-won (held_at rule b t) rule b n (opened (held_at rule b t) rule b (last t) wide high lawful (held-one rule b t lawful can.accepted) refl) played.turns played.game played.played
+    played.ends ∙ played-won (held_at rule b t) rule b n
+    (opened (held_at rule b t) rule b (last t) wide high lawful (held-one rule b t lawful can.accepted) refl) played.turns played.game
+    played.played
 
 -- ---- one game
 
@@ -215,7 +244,8 @@ pub record IsSame (m k : ℕ) (won lost : Bool) (u v : ℕ) : Type 0 where
   pub ends : won ≡ lost
   pub number : u ≡ v
 
-game-one : (s : State) (n m k : ℕ) (won lost : Bool) (u v : ℕ) → IsGamePlayed s n m won u → IsGamePlayed s n k lost v → IsSame m k won lost u v
+game-one : (s : State) (n m k : ℕ) (won lost : Bool) (u v : ℕ) → IsGamePlayed s n m won u → IsGamePlayed s n k lost v
+    → IsSame m k won lost u v
 game-one s n m k won lost u v first second =
     let same = played-one s n first.turns second.turns first.game second.game first.played second.played in
     record {
@@ -263,17 +293,20 @@ module _ (rule : RuleKind) (n : ℕ) where
   -- two that come of one position are one
   plays-one : (t : List Node) (s : ℕ) (c d : Counts) (u v : ℕ) → PlaysGame rule b t s c u → PlaysGame rule b t s d v → (c ≡ d) × (u ≡ v)
   plays-one t s c d u v first second =
-      let same = game-one (state_begun (held_at rule b t) rule b) s first.moves second.moves first.won second.won u v first.game second.game in (
+      let same = game-one (state_begun (held_at rule b t) rule b) s first.moves second.moves first.won second.won u v first.game
+      second.game in (
         first.counts ∙ ap (λ (m : ℕ). win_counts m first.won) same.moves ∙ ap (win_counts second.moves) same.ends ∙ sym second.counts,
         same.number,
       )
 
-  tried-one : (t : List Node) (s : ℕ) (c d : Counts) (u v : ℕ) → IsHoldable rule b t → PlaysGame rule b t s c u ⊎ IsNotHeld rule b t s c u → PlaysGame rule b t s d v ⊎ IsNotHeld rule b t s d v → (c ≡ d) × (u ≡ v)
+  tried-one : (t : List Node) (s : ℕ) (c d : Counts) (u v : ℕ) → IsHoldable rule b t → PlaysGame rule b t s c u ⊎ IsNotHeld rule b t s c u
+      → PlaysGame rule b t s d v ⊎ IsNotHeld rule b t s d v → (c ≡ d) × (u ≡ v)
   tried-one t s c d u v can (inl first) (inl second) = plays-one t s c d u v first second
   tried-one t s c d u v can (inl first) (inr second) = absurd (second.refused can)
   tried-one t s c d u v can (inr first) second = absurd (first.refused can)
 
-  comes-one : (f : Found) → found_within DEPTH BUDGET rule b ≡ f → (s : ℕ) (c d : Counts) (u v : ℕ) → ComesOf rule b f s c u → ComesOf rule b f s d v → (c ≡ d) × (u ≡ v)
+  comes-one : (f : Found) → found_within DEPTH BUDGET rule b ≡ f → (s : ℕ) (c d : Counts) (u v : ℕ) → ComesOf rule b f s c u
+      → ComesOf rule b f s d v → (c ≡ d) × (u ≡ v)
   comes-one (WinIn moves) e s c d u v first second =
       let same : second.0 ≡ first.0 = one-table (four_plan rule moves b) second.0 first.0 second.1 first.1 in
       tried-one first.0 s c d u v (win-holdable rule b lawful wide high moves e first.0 first.1) first.2
@@ -294,9 +327,11 @@ pub counts-none : (n s : ℕ) → s ≡ n → AreCounts n 0 no_counts s
 unfolding AreCounts
 counts-none n s same = (refl, same)
 
-pub counts-more : (n i : ℕ) (before share c : Counts) (r s : ℕ) → AreCounts n i before r → IsShare (rule_at i) r share s → c ≡ together before share → AreCounts n (i + 1) c s
+pub counts-more : (n i : ℕ) (before share c : Counts) (r s : ℕ) → AreCounts n i before r → IsShare (rule_at i) r share s
+    → c ≡ together before share → AreCounts n (i + 1) c s
 unfolding AreCounts
-counts-more n i before share c r s counts is sum = subst (λ (k : ℕ). AreCounts n k c s) (sym (add-one i)) (before, share, r, counts, is, sum)
+counts-more n i before share c r s counts is sum =
+    subst (λ (k : ℕ). AreCounts n k c s) (sym (add-one i)) (before, share, r, counts, is, sum)
 
 pub counts-won : (n i : ℕ) (c : Counts) (s : ℕ) → AreCounts n i c s → AreAllWon c
 unfolding AreCounts
@@ -315,7 +350,8 @@ unfolding AreCounts
 counts-one n zero c d s r first second = (first.0 ∙ sym second.0, first.1 ∙ sym second.1)
 counts-one n (suc i) c d s r first second =
     let before = counts-one n i first.0 second.0 first.2 second.2 first.3 second.3 in
-    let share = share-one (rule_at i) second.2 first.1 second.1 s r (subst (λ (m : ℕ). IsShare (rule_at i) m first.1 s) before.1 first.4) second.4 in
+    let share = share-one (rule_at i) second.2 first.1 second.1 s r (subst (λ (m : ℕ). IsShare (rule_at i) m first.1 s) before.1 first.4)
+    second.4 in
     (first.5 ∙ ap (λ (x : Counts). together x first.1) before.0 ∙ ap (together second.0) share.0 ∙ sym second.5, share.1)
 
 pub only-counts : (n : ℕ) (c : Counts) → IsCounted n c → AreOnlyCounts n c
@@ -332,8 +368,10 @@ pub last-below : (t u : List Node) (k : ℕ) → u ≡ t → k ≡ length t → 
 last-below t u k same count some = lt-ltb (k - 1) (length u) (let e : length u ≡ length t = ap length same in omega (arith, e, count, some))
 
 -- the root that was added to the table is its last node, at the board
-pub held-as : (rule : RuleKind) (b c : Grid) (t : List Node) (k : ℕ) (new old : HeldTable) → c ≡ b → k ≡ length t → old.table ≡ t → old.roots ≡ [] → new.table ≡ old.table
-    → new.roots ≡ old.roots ++ (let r : HeldRoot = record { root = Attack (k - 1); kind = rule; board = c } in r) ∷ [] → new ≡ held_at rule b t
+pub held-as : (rule : RuleKind) (b c : Grid) (t : List Node) (k : ℕ) (new old : HeldTable) → c ≡ b → k ≡ length t → old.table ≡ t
+    → old.roots ≡ [] → new.table ≡ old.table
+    → new.roots ≡ old.roots ++ (let r : HeldRoot = record { root = Attack (k - 1); kind = rule; board = c } in r) ∷ []
+    → new ≡ held_at rule b t
 held-as rule b c t k new old board count table none kept added =
     let root : k - 1 ≡ last t = ap (λ (n : ℕ). n - 1) count in
     let tables : new.table ≡ t = kept ∙ table in
@@ -355,21 +393,27 @@ module _ (rule : RuleKind) (b c : Grid) (t u : List Node) (k : ℕ) (board : c �
   -- the table may be held where its last node was found to be so, and only there
   pub holdable-as : IsHeldNode rule u (k - 1) c → IsHoldable rule b t
   holdable-as held =
-      let here : IsHeldNode rule t (last t) b = subst (λ (x : Grid). IsHeldNode rule t (last t) x) board (subst (λ (v : List Node). IsHeldNode rule v (last t) c) table (subst (λ (i : ℕ). IsHeldNode rule u i c) root held)) in
+      let here : IsHeldNode rule t (last t) b = subst (λ (x : Grid). IsHeldNode rule t (last t) x) board
+      (subst (λ (v : List Node). IsHeldNode rule v (last t) c) table (subst (λ (i : ℕ). IsHeldNode rule u i c) root held)) in
       record { accepted = here.0; within = here.1 }
 
   held-back : IsHoldable rule b t → IsHeldNode rule u (k - 1) c
   held-back can =
       let here : IsHeldNode rule t (last t) b = (can.accepted, can.within) in
-      subst (λ (i : ℕ). IsHeldNode rule u i c) (sym root) (subst (λ (v : List Node). IsHeldNode rule v (last t) c) (sym table) (subst (λ (x : Grid). IsHeldNode rule t (last t) x) (sym board) here))
+      subst (λ (i : ℕ). IsHeldNode rule u i c) (sym root)
+      (subst (λ (v : List Node). IsHeldNode rule v (last t) c) (sym table)
+      (subst (λ (x : Grid). IsHeldNode rule t (last t) x) (sym board) here))
 
-  pub not-holdable : (error : HeldError) → error ≢ Memory → IfRootRefused (λ line why. ¬ Accepted rule u (k - 1) c) error → IfRootSpent (BRAIN_WORK < arrivals rule u (k - 1) c) error → ¬ IsHoldable rule b t
+  pub not-holdable : (error : HeldError) → error ≢ Memory → IfRootRefused (λ line why. ¬ Accepted rule u (k - 1) c) error
+      → IfRootSpent (BRAIN_WORK < arrivals rule u (k - 1) c) error → ¬ IsHoldable rule b t
   not-holdable (Refused line why) other refused spent = λ can. refused (held-back can).0
   not-holdable Spent other refused spent = λ can. let few = (held-back can).1 in omega (arith, few, spent)
   not-holdable Memory other refused spent = absurd (other refl)
 
 -- what comes of a table that is held, by the game that is played by it
-pub plays-as : (rule : RuleKind) (b : Grid) (t : List Node) (s : ℕ) (c : Counts) (u moves : ℕ) (won : Bool) (h : HeldTable) → h ≡ held_at rule b t → IsHoldable rule b t → IsGamePlayed (state_begun h rule b) s moves won u → c ≡ win_counts moves won → PlaysGame rule b t s c u
+pub plays-as : (rule : RuleKind) (b : Grid) (t : List Node) (s : ℕ) (c : Counts) (u moves : ℕ) (won : Bool) (h : HeldTable)
+    → h ≡ held_at rule b t → IsHoldable rule b t → IsGamePlayed (state_begun h rule b) s moves won u → c ≡ win_counts moves won
+    → PlaysGame rule b t s c u
 plays-as rule b t s c u moves won h held can game counts = record {
   holdable = can;
   moves = moves;
@@ -380,27 +424,40 @@ plays-as rule b t s c u moves won h held can game counts = record {
 
 -- the counts of one win
 pub win-within : (moves : ℕ) (won : Bool) → moves ≤ 225 → AreWithin 1 (win_counts moves won)
-win-within moves won few = record { wins = omega arith; none = omega arith; spent = omega arith; accepted = omega arith; games = by_won won; moves = omega (arith, few) } where
-  by_won : (r : Bool) → cond r 1 0 ≤ 1
-  by_won true = omega arith
-  by_won false = omega arith
+win-within moves won few =
+    record {
+      wins = omega arith;
+      none = omega arith;
+      spent = omega arith;
+      accepted = omega arith;
+      games = by_won won;
+      moves = omega (arith, few);
+    } where
+      by_won : (r : Bool) → cond r 1 0 ≤ 1
+      by_won true = omega arith
+      by_won false = omega arith
 
 -- ---- the position
 
-module _ (rule : RuleKind) (n : ℕ) (c : Counts) (u : ℕ) (b : Grid) (s : ℕ) (board : b ≡ position_drawn rule n) (number : s ≡ number_after n DRAWN_POINTS) where
+module _ (rule : RuleKind) (n : ℕ) (c : Counts) (u : ℕ) (b : Grid) (s : ℕ) (board : b ≡ position_drawn rule n)
+    (number : s ≡ number_after n DRAWN_POINTS) where
   -- what comes of the board, by what is found there
   by-found : (f : Found) → found_within DEPTH BUDGET rule b ≡ f → ComesOf rule b f s c u → IsShare rule n c u
   by-found f found comes =
-      let here : ComesOf rule b (found_within DEPTH BUDGET rule b) s c u = subst (λ (x : Found). ComesOf rule b x s c u) (sym found) comes in
+      let here : ComesOf rule b (found_within DEPTH BUDGET rule b) s c u =
+      subst (λ (x : Found). ComesOf rule b x s c u) (sym found) comes in
       subst (λ (x : ℕ). ComesOf rule (position_drawn rule n) (found_within DEPTH BUDGET rule (position_drawn rule n)) x c u) number
       (subst (λ (x : Grid). ComesOf rule x (found_within DEPTH BUDGET rule x) s c u) board here)
 
-  pub share-win : (moves : ℕ) (t : List Node) → (BUDGET < four_cost rule DEPTH b → ⊥) → least_moves rule DEPTH b ≡ Some moves → IsTableOf (four_plan rule moves b) t → PlaysGame rule b t s c u ⊎ IsNotHeld rule b t s c u → IsShare rule n c u
-  share-win moves t enough least table comes = by-found _ (found-win DEPTH BUDGET rule b moves (not_above (four_cost rule DEPTH b) BUDGET enough) least) (t, table, comes) where
-    not_above : (cost budget : ℕ) → (budget < cost → ⊥) → cost ≤ budget
-    not_above cost budget h = omega arith
+  pub share-win : (moves : ℕ) (t : List Node) → (BUDGET < four_cost rule DEPTH b → ⊥) → least_moves rule DEPTH b ≡ Some moves
+      → IsTableOf (four_plan rule moves b) t → PlaysGame rule b t s c u ⊎ IsNotHeld rule b t s c u → IsShare rule n c u
+  share-win moves t enough least table comes = by-found _
+      (found-win DEPTH BUDGET rule b moves (not_above (four_cost rule DEPTH b) BUDGET enough) least) (t, table, comes) where
+        not_above : (cost budget : ℕ) → (budget < cost → ⊥) → cost ≤ budget
+        not_above cost budget h = omega arith
 
-  pub share-none : wins_by_fours rule DEPTH b ≡ false → four_cost rule DEPTH b ≤ BUDGET → c ≡ record no_counts { none = 1 } → u ≡ s → IsShare rule n c u
+  pub share-none : wins_by_fours rule DEPTH b ≡ false → four_cost rule DEPTH b ≤ BUDGET → c ≡ record no_counts { none = 1 } → u ≡ s
+      → IsShare rule n c u
   share-none none enough counts same = by-found _ (found-none DEPTH BUDGET rule b none enough) (counts, same)
 
   pub share-spent : BUDGET < four_cost rule DEPTH b → c ≡ record no_counts { spent = 1 } → u ≡ s → IsShare rule n c u

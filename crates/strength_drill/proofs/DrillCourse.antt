@@ -1,6 +1,7 @@
 -- A game of the drill as it goes: its first move by the table, the state of the brain after so many turns, and how the game ends.
 use Rattle.std.specs.Prelude.{◌≢◌, Some, None}
-use Rattle.std.proofs.Common.{◌≡◌, refl, sym, ap, subst, ◌∙◌, ℕ, ◌*◌, ◌≤◌, [], ◌∷◌, length, arith, ◌⊎◌, inl, inr, ◌+◌, ◌<◌, Bool, true, false, add-one}
+use Rattle.std.proofs.Common.{◌≡◌, refl, sym, ap, subst, ◌∙◌, ℕ, ◌*◌, ◌≤◌, [], ◌∷◌, length, arith, ◌⊎◌, inl, inr, ◌+◌, ◌<◌, Bool, true}
+use Rattle.std.proofs.Common.{false, add-one}
 use Rattle.std.proofs.lemmas.List.Sums.{count_by-le-length}
 use Rattle.std.proofs.lemmas.Bool.{cases_lt}
 use Rattle.game_rules.specs.Grid.{Grid, is_empty_cell, empties_of, points_of, is_empty}
@@ -28,10 +29,12 @@ use Rattle.brain_session.proofs.LawfulStates.{IsKept, next-lawful, new-lawful}
 use Rattle.brain_session.proofs.LegalMoves.{plain-is_empty}
 use Rattle.brain_session.proofs.BatchStones.{stones_at}
 use Rattle.strength_drill.specs.declared.positions.TheConstants.{SIDE}
-use Rattle.strength_drill.specs.DrillGames.{wish_of, position_lines, told_all, state_begun, board_now, is_ended, move_said, says_foul, board_point, drawn_move, drawn_turn, after_turns, IsGamePlayed}
+use Rattle.strength_drill.specs.DrillGames.{wish_of, position_lines, told_all, state_begun, board_now, is_ended, move_said, says_foul}
+use Rattle.strength_drill.specs.DrillGames.{board_point, drawn_move, drawn_turn, after_turns, IsGamePlayed}
 use Rattle.strength_drill.specs.Draws.{next_number, drawn, number_after}
 use Rattle.strength_drill.proofs.DrillTelling.{batch_read, told-position, told-kept, wish-rule, begins-held}
-use Rattle.strength_drill.proofs.DrillTurns.{IsPlaying, IsOver, IsFouled, IsAnswered, attacks, over-now, going-now, board-then, lawful-then, reply-met}
+use Rattle.strength_drill.proofs.DrillTurns.{IsPlaying, IsOver, IsFouled, IsAnswered, attacks, over-now, going-now, board-then, lawful-then}
+use Rattle.strength_drill.proofs.DrillTurns.{reply-met}
 use Rattle.strength_drill.proofs.DrillMaking.{number-next, number-none}
 
 -- the brain has made its first move at b by the table that it holds there, and has said it
@@ -47,7 +50,8 @@ empties-few rule b lawful wide high =
     let most : empties_of b ≤ length b.cells = count_by-le-length is_empty_cell b.cells in
     omega (arith, all, most)
 
-pub opened : (h : HeldTable) (rule : RuleKind) (b : Grid) (i : ℕ) → b.width ≡ SIDE → b.height ≡ SIDE → IsPosition rule b → IsHeld h → h.roots ≡ record { root = Attack i; kind = rule; board = b } ∷ []
+pub opened : (h : HeldTable) (rule : RuleKind) (b : Grid) (i : ℕ) → b.width ≡ SIDE → b.height ≡ SIDE → IsPosition rule b → IsHeld h
+    → h.roots ≡ record { root = Attack i; kind = rule; board = b } ∷ []
     → IsOpened h rule b (brain_step (told_all (new_brain h) (position_lines rule b)) Done)
 opened h rule b i wide high lawful held roots =
     let s = batch_read h (wish_of rule) (stones_at b (points_of b)) in
@@ -81,17 +85,23 @@ opened h rule b i wide high lawful held roots =
 -- ---- the same, as the calls say it
 
 -- the brain was told the position
-pub told-as : (h : HeldTable) (rule kind : RuleKind) (b board : Grid) (new told : State) → told ≡ told_all new (position_lines kind board) → new ≡ new_brain h → kind ≡ rule → board ≡ b → told ≡ told_all (new_brain h) (position_lines rule b)
+pub told-as : (h : HeldTable) (rule kind : RuleKind) (b board : Grid) (new told : State) → told ≡ told_all new (position_lines kind board)
+    → new ≡ new_brain h → kind ≡ rule → board ≡ b → told ≡ told_all (new_brain h) (position_lines rule b)
 told-as h rule kind b board new told lines begun same there =
-    lines ∙ ap (λ (s : State). told_all s (position_lines kind board)) begun ∙ ap (λ (k : RuleKind). told_all (new_brain h) (position_lines k board)) same ∙ ap (λ (c : Grid). told_all (new_brain h) (position_lines rule c)) there
+    lines ∙ ap (λ (s : State). told_all s (position_lines kind board)) begun
+    ∙ ap (λ (k : RuleKind). told_all (new_brain h) (position_lines k board)) same
+    ∙ ap (λ (c : Grid). told_all (new_brain h) (position_lines rule c)) there
 
 -- a brain that holds accepted roots after its first move held them before
-pub opened-as : (h : HeldTable) (rule : RuleKind) (b : Grid) (told s : State) → b.width ≡ SIDE → b.height ≡ SIDE → IsPosition rule b → (i : ℕ) × (h.roots ≡ record { root = Attack i; kind = rule; board = b } ∷ [])
-    → told ≡ told_all (new_brain h) (position_lines rule b) → s ≡ (brain_step told Done).next → IsHeld s.held → IsOpened h rule b (brain_step told Done)
+pub opened-as : (h : HeldTable) (rule : RuleKind) (b : Grid) (told s : State) → b.width ≡ SIDE → b.height ≡ SIDE → IsPosition rule b
+    → (i : ℕ) × (h.roots ≡ record { root = Attack i; kind = rule; board = b } ∷ [])
+    → told ≡ told_all (new_brain h) (position_lines rule b) → s ≡ (brain_step told Done).next → IsHeld s.held
+    → IsOpened h rule b (brain_step told Done)
 opened-as h rule b told s wide high lawful root is next held =
     let kept = told-kept h (new_brain h) (position_lines rule b) (new-lawful h) in
     let still : s.held ≡ h = ap (λ (t : State). t.held) next ∙ (next-lawful h told Done (subst (IsKept h) (sym is) kept)).1 in
-    subst (λ (t : State). IsOpened h rule b (brain_step t Done)) (sym is) (opened h rule b root.0 wide high lawful (subst IsHeld still held) root.1)
+    subst (λ (t : State). IsOpened h rule b (brain_step t Done)) (sym is)
+    (opened h rule b root.0 wide high lawful (subst IsHeld still held) root.1)
 
 -- ---- a drawn move is at an empty point
 
@@ -103,7 +113,8 @@ drawn-empty rule b lawful v =
 
 -- ---- one more turn
 
-turn-after : (s : State) (n k : ℕ) → after_turns s n (k + 1) ≡ (brain_step (after_turns s n k) (drawn_turn (board_now (after_turns s n k).place) (drawn (number_after n (k + 1))))).next
+turn-after : (s : State) (n k : ℕ) → after_turns s n (k + 1)
+    ≡ (brain_step (after_turns s n k) (drawn_turn (board_now (after_turns s n k).place) (drawn (number_after n (k + 1))))).next
 unfolding after_turns
 turn-after s n k = rw add-one refl
 
@@ -116,7 +127,8 @@ pub turn-as : (x y : ℕ) (q : Point) → x ≡ q.x → y ≡ q.y → Turn x y �
 turn-as x y q across down = ap (λ (m : ℕ). let a : Asked = Turn m y in a) across ∙ ap (λ (m : ℕ). let a : Asked = Turn q.x m in a) down
 
 -- the brain, which began with this at b, has made a move after so many turns, at the board c
-pub record IsAtTurn (h : HeldTable) (rule : RuleKind) (b : Grid) (n : ℕ) (s : State) (number : ℕ) (c : Grid) (at : Point) (turns : ℕ) : Type 0 where
+pub record IsAtTurn (h : HeldTable) (rule : RuleKind) (b : Grid) (n : ℕ) (s : State) (number : ℕ) (c : Grid) (at : Point) (turns : ℕ) :
+    Type 0 where
   pub playing : IsPlaying h rule s turns
   pub state : s ≡ after_turns (state_begun h rule b) n turns
   pub drawn : number ≡ number_after n turns
@@ -125,7 +137,8 @@ pub record IsAtTurn (h : HeldTable) (rule : RuleKind) (b : Grid) (n : ℕ) (s : 
   pub move : at ≡ playing.node.attack
 
 -- a turn at which the game went on, and those before it
-no-later : (s : State) (n turns : ℕ) → ((k : ℕ) → k < turns → is_ended (after_turns s n k).place ≡ false) → is_ended (after_turns s n turns).place ≡ false → (k : ℕ) → k < turns + 1 → is_ended (after_turns s n k).place ≡ false
+no-later : (s : State) (n turns : ℕ) → ((k : ℕ) → k < turns → is_ended (after_turns s n k).place ≡ false)
+    → is_ended (after_turns s n turns).place ≡ false → (k : ℕ) → k < turns + 1 → is_ended (after_turns s n k).place ≡ false
 no-later s n turns before here k less = elim (cases_lt k turns) [
   | inl low ↦ before k low
   | inr high ↦ let same : turns ≡ k = omega (arith, high, less) in subst (λ (j : ℕ). is_ended (after_turns s n j).place ≡ false) same here
@@ -136,7 +149,8 @@ module _ (h : HeldTable) (rule : RuleKind) (b : Grid) (n : ℕ) where
   s0 = state_begun h rule b
 
   -- the first move
-  pub course-first : (step : Step) (s : State) (number : ℕ) (c : Grid) (at : Point) → step.next ≡ s0 → IsOpened h rule b step → s ≡ step.next → number ≡ n → c ≡ b → move_said step.reaction ≡ Some at → IsAtTurn h rule b n s number c at 0
+  pub course-first : (step : Step) (s : State) (number : ℕ) (c : Grid) (at : Point) → step.next ≡ s0 → IsOpened h rule b step
+      → s ≡ step.next → number ≡ n → c ≡ b → move_said step.reaction ≡ Some at → IsAtTurn h rule b n s number c at 0
   course-first step s number c at begun opened is same board says =
       let t : IsAtTurn h rule b n step.next n b opened.playing.node.attack 0 = record {
         playing = opened.playing;
@@ -157,7 +171,8 @@ module _ (h : HeldTable) (rule : RuleKind) (b : Grid) (n : ℕ) where
     pub outcome-at : outcome rule c at ≡ outcome rule (board_of t.playing.game) t.playing.node.attack
     outcome-at = ap (λ (x : Grid). outcome rule x at) t.board ∙ ap (outcome rule (board_of t.playing.game)) t.move
 
-    played : (turned moves u : ℕ) (e : State) → e ≡ after_turns s0 n turned → IsOver e moves → ((k : ℕ) → k < turned → is_ended (after_turns s0 n k).place ≡ false) → u ≡ number_after n turned → IsGamePlayed s0 n moves true u
+    played : (turned moves u : ℕ) (e : State) → e ≡ after_turns s0 n turned → IsOver e moves
+        → ((k : ℕ) → k < turned → is_ended (after_turns s0 n k).place ≡ false) → u ≡ number_after n turned → IsGamePlayed s0 n moves true u
     played turned moves u e state over no_sooner number_is = record {
       turns = turned;
       game = over.game;
@@ -169,18 +184,21 @@ module _ (h : HeldTable) (rule : RuleKind) (b : Grid) (n : ℕ) where
 
     -- its move wins
     pub course-won : outcome rule c at ≡ WinsNow → IsGamePlayed s0 n (turns + 1) true number
-    course-won wins = played turns (turns + 1) number s t.state (over-now h rule s turns t.playing (sym outcome-at ∙ wins)) t.no_sooner t.drawn
+    course-won wins = played turns (turns + 1) number s t.state (over-now h rule s turns t.playing (sym outcome-at ∙ wins)) t.no_sooner
+        t.drawn
 
     -- it wins or goes on
     pub course-one : outcome rule c at ≢ WinsNow → outcome rule c at ≢ GoesOn → ⊥
-    course-one not_won not_on = elim (attacks h rule s turns t.playing) [ inl wins ↦ not_won (outcome-at ∙ wins) | inr on ↦ not_on (outcome-at ∙ on) ]
+    course-one not_won not_on = elim (attacks h rule s turns t.playing)
+        [ inl wins ↦ not_won (outcome-at ∙ wins) | inr on ↦ not_on (outcome-at ∙ on) ]
 
     -- there is room for each turn
     pub course-room : turns < 113
     course-room = let few = t.playing.few in omega (arith, few)
 
     -- its move goes on, and the opponent's is drawn
-    module _ (on : outcome rule c at ≡ GoesOn) (c1 : Grid) (board : c1 ≡ after c at) (u v : ℕ) (next : u ≡ next_number number) (draw : v ≡ drawn u) (q : Point) (point : q ≡ drawn_move c1 v) where
+    module _ (on : outcome rule c at ≡ GoesOn) (c1 : Grid) (board : c1 ≡ after c at) (u v : ℕ) (next : u ≡ next_number number)
+        (draw : v ≡ drawn u) (q : Point) (point : q ≡ drawn_move c1 v) where
       goes : outcome rule (board_of t.playing.game) t.playing.node.attack ≡ GoesOn
       goes = sym outcome-at ∙ on
 
@@ -210,13 +228,16 @@ module _ (h : HeldTable) (rule : RuleKind) (b : Grid) (n : ℕ) where
           ∙ sym (turn-after s0 n turns)
 
       then_sooner : (k : ℕ) → k < turns + 1 → is_ended (after_turns s0 n k).place ≡ false
-      then_sooner = no-later s0 n turns t.no_sooner (subst (λ (x : State). is_ended x.place ≡ false) t.state (going-now h rule s turns t.playing goes))
+      then_sooner = no-later s0 n turns t.no_sooner
+          (subst (λ (x : State). is_ended x.place ≡ false) t.state (going-now h rule s turns t.playing goes))
 
       pub met : IsFouled (brain_step s (Turn q.x q.y)) (turns + 1) ⊎ IsAnswered h rule c1 q (brain_step s (Turn q.x q.y)) (turns + 1)
-      met = subst (λ (x : Grid). IsFouled (brain_step s (Turn q.x q.y)) (turns + 1) ⊎ IsAnswered h rule x q (brain_step s (Turn q.x q.y)) (turns + 1)) (sym then_board)
+      met = subst (λ (x : Grid). IsFouled (brain_step s (Turn q.x q.y)) (turns + 1) ⊎ IsAnswered h rule x q (brain_step s (Turn q.x q.y))
+          (turns + 1)) (sym then_board)
           (reply-met h rule s turns t.playing goes q (subst (λ (x : Grid). is_empty x q ≡ true) then_board course-empty))
 
-      module _ (s1 : State) (r : Reaction) (state : s1 ≡ (brain_step s (Turn q.x q.y)).next) (reaction : r ≡ (brain_step s (Turn q.x q.y)).reaction) where
+      module _ (s1 : State) (r : Reaction) (state : s1 ≡ (brain_step s (Turn q.x q.y)).next)
+          (reaction : r ≡ (brain_step s (Turn q.x q.y)).reaction) where
         -- what the brain says where the opponent's move is a foul, and where it answers it
         foul-said : (brain_step s (Turn q.x q.y)).reaction ≡ Says (Error OpponentFoul) → (move_said r ≡ None) × (says_foul r ≡ true)
         foul-said says = (ap move_said (reaction ∙ says), ap says_foul (reaction ∙ says))

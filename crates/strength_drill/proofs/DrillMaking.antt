@@ -1,5 +1,6 @@
 -- A position of the drill, draw by draw.
-use Rattle.std.proofs.Common.{◌≡◌, refl, sym, ap, ◌∙◌, ℕ, zero, suc, ◌+◌, ◌*◌, ◌/◌, ◌^◌, ◌<◌, ◌≤◌, Bool, true, false, cond, ◌&&◌, nat_lt, add-one, arith}
+use Rattle.std.proofs.Common.{◌≡◌, refl, sym, ap, ◌∙◌, ℕ, zero, suc, ◌+◌, ◌*◌, ◌/◌, ◌^◌, ◌<◌, ◌≤◌, Bool, true, false, cond, ◌&&◌, nat_lt}
+use Rattle.std.proofs.Common.{add-one, arith}
 use Rattle.std.specs.Prelude.{◌≢◌}
 use Rattle.std.proofs.lemmas.Bool.Decides.{nat_tests}
 use Rattle.std.proofs.lemmas.List.{length-replicate}
@@ -26,28 +27,32 @@ module _ (rule : RuleKind) (b : Grid) (p : Point) where
   by_tests : (few on : Bool) → Grid
   by_tests few on = cond (few && on) (after b p) b
 
-  point-by : (few on : Bool) → nat_lt (all_stones b) MOST_STONES ≡ few → goes_on (outcome rule b p) ≡ on → with_point rule b p ≡ cond (few && on) (after b p) b
+  point-by : (few on : Bool) → nat_lt (all_stones b) MOST_STONES ≡ few → goes_on (outcome rule b p) ≡ on
+      → with_point rule b p ≡ cond (few && on) (after b p) b
   unfolding with_point
   point-by few on e f = rw (e, f) refl
 
   -- no more stones are put
   pub point-many : MOST_STONES ≤ all_stones b → with_point rule b p ≡ b
-  point-many many = let test : nat_lt (all_stones b) MOST_STONES ≡ false = grind (arith, nat_tests) in point-by false (goes_on (outcome rule b p)) test refl
+  point-many many = let test : nat_lt (all_stones b) MOST_STONES ≡ false =
+      grind (arith, nat_tests) in point-by false (goes_on (outcome rule b p)) test refl
 
   -- the move does not go on
   pub point-not : outcome rule b p ≢ GoesOn → with_point rule b p ≡ b
-  point-not other = point-by (nat_lt (all_stones b) MOST_STONES) false refl (not_on (outcome rule b p) other) ∙ neither (nat_lt (all_stones b) MOST_STONES) where
-    not_on : (o : Outcome) → o ≢ GoesOn → goes_on o ≡ false
-    not_on GoesOn h = absurd (h refl)
-    not_on _ h = refl
+  point-not other = point-by (nat_lt (all_stones b) MOST_STONES) false refl (not_on (outcome rule b p) other)
+      ∙ neither (nat_lt (all_stones b) MOST_STONES) where
+        not_on : (o : Outcome) → o ≢ GoesOn → goes_on o ≡ false
+        not_on GoesOn h = absurd (h refl)
+        not_on _ h = refl
 
-    neither : (r : Bool) → cond (r && false) (after b p) b ≡ b
-    neither true = refl
-    neither false = refl
+        neither : (r : Bool) → cond (r && false) (after b p) b ≡ b
+        neither true = refl
+        neither false = refl
 
   -- the move is made
   pub point-on : all_stones b < MOST_STONES → outcome rule b p ≡ GoesOn → with_point rule b p ≡ after b p
-  point-on few on = let test : nat_lt (all_stones b) MOST_STONES ≡ true = grind (arith, nat_tests) in point-by true true test (ap goes_on on)
+  point-on few on = let test : nat_lt (all_stones b) MOST_STONES ≡ true =
+      grind (arith, nat_tests) in point-by true true test (ap goes_on on)
 
   -- the board has the same size
   pub point-wide : (with_point rule b p).width ≡ b.width
@@ -75,7 +80,8 @@ module _ (rule : RuleKind) (b : Grid) (p : Point) where
 
 -- ---- all draws
 
-pub board-next : (rule : RuleKind) (s k : ℕ) → board_drawn rule s (k + 1) ≡ with_point rule (board_drawn rule s k) (middle_point (draw_at s k))
+pub board-next : (rule : RuleKind) (s k : ℕ) → board_drawn rule s (k + 1) ≡ with_point rule (board_drawn rule s k)
+    (middle_point (draw_at s k))
 unfolding board_drawn
 board-next rule s k = rw add-one refl
 
@@ -117,11 +123,14 @@ unfolding number_after
 number-none s = refl
 
 -- one more draw, of a board and a number that are those after so many
-pub board-more : (rule : RuleKind) (s k number more : ℕ) (b c : Grid) (v : ℕ) (p : Point) → b ≡ board_drawn rule s k → number ≡ number_after s k → more ≡ next_number number → v ≡ more / 2 ^ 33 → p ≡ middle_point v → c ≡ with_point rule b p → c ≡ board_drawn rule s (k + 1)
+pub board-more : (rule : RuleKind) (s k number more : ℕ) (b c : Grid) (v : ℕ) (p : Point) → b ≡ board_drawn rule s k
+    → number ≡ number_after s k → more ≡ next_number number → v ≡ more / 2 ^ 33 → p ≡ middle_point v → c ≡ with_point rule b p
+    → c ≡ board_drawn rule s (k + 1)
 board-more rule s k number more b c v p at same next draw point made =
     let here : more ≡ number_after s (k + 1) = next ∙ ap next_number same ∙ sym (number-next s k) in
     let number_is : number_after s (suc k) ≡ number_after s (k + 1) = rw add-one refl in
-    made ∙ ap (λ (x : Grid). with_point rule x p) at ∙ ap (with_point rule (board_drawn rule s k)) (point ∙ ap middle_point (draw ∙ ap (λ (n : ℕ). n / 2 ^ 33) (here ∙ sym number_is))) ∙ sym (board-next rule s k)
+    made ∙ ap (λ (x : Grid). with_point rule x p) at ∙ ap (with_point rule (board_drawn rule s k))
+    (point ∙ ap middle_point (draw ∙ ap (λ (n : ℕ). n / 2 ^ 33) (here ∙ sym number_is))) ∙ sym (board-next rule s k)
 
 pub number-more : (s k number more : ℕ) → number ≡ number_after s k → more ≡ next_number number → more ≡ number_after s (k + 1)
 number-more s k number more same next = next ∙ ap next_number same ∙ sym (number-next s k)

@@ -2,7 +2,8 @@
 use Rattle.std.specs.Prelude.{nat_lt, Some, None}
 use Rattle.std.specs.List.{filter, list_any, count_by}
 use Rattle.std.specs.Option.{option_or}
-use Rattle.std.proofs.Common.{◌≡◌, refl, sym, ap, subst, ◌∙◌, ℕ, ◌+◌, ◌*◌, ◌≤◌, Bool, true, false, cond, not, ◌&&◌, ◌||◌, List, [], ◌∷◌, ◌++◌, map, arith, append_assoc, eqb}
+use Rattle.std.proofs.Common.{◌≡◌, refl, sym, ap, subst, ◌∙◌, ℕ, ◌+◌, ◌*◌, ◌≤◌, Bool, true, false, cond, not, ◌&&◌, ◌||◌, List, [], ◌∷◌}
+use Rattle.std.proofs.Common.{◌++◌, map, arith, append_assoc, eqb}
 use Rattle.std.proofs.lemmas.Bool.{or_right}
 use Rattle.std.proofs.lemmas.List.{append-nil}
 use Rattle.game_rules.specs.Grid.{Grid, is_on, is_empty, holds, points_of, stones_of}
@@ -30,7 +31,8 @@ use Rattle.brain_session.specs.HeldGames.{BeginsHeldGame}
 use Rattle.brain_session.proofs.BatchGames.{batch-counts, batch-colour}
 use Rattle.brain_session.proofs.PlayedMoves.{same_board-itself}
 use Rattle.brain_session.proofs.LawfulStates.{BatchFits, IsKept, next-lawful, new-lawful}
-use Rattle.brain_session.proofs.BatchStones.{stone_at, stones_at, Before, before-none, before-more, before-push, before-apart, same_rule-itself, next, stones-make}
+use Rattle.brain_session.proofs.BatchStones.{stone_at, stones_at, Before, before-none, before-more, before-push, before-apart}
+use Rattle.brain_session.proofs.BatchStones.{same_rule-itself, next, stones-make}
 use Rattle.strength_drill.specs.declared.positions.TheConstants.{SIDE}
 use Rattle.strength_drill.specs.DrillGames.{wish_of, stone_line, stone_lines, position_lines, told_all}
 
@@ -46,59 +48,73 @@ batch_read h w stones = record { wish = w; held = h; place = Fresh SIDE SIDE; ba
 
 -- a line of a stone on the board, where no stone is yet, adds the stone
 with_known : (own on taken : Bool) (stones : List BatchStone) (p : Point) → on ≡ true → taken ≡ false
-    → cond ((on && (eqb (cond own 1 2) 1 || eqb (cond own 1 2) 2)) && not taken) (let b : Batch = record { stones = stones ++ record { at = p; own = eqb (cond own 1 2) 1 } ∷ []; bad = false } in b) (spoiled (record { stones = stones; bad = false }))
+    → cond ((on && (eqb (cond own 1 2) 1 || eqb (cond own 1 2) 2)) && not taken)
+    (let b : Batch = record { stones = stones ++ record { at = p; own = eqb (cond own 1 2) 1 } ∷ []; bad = false } in b)
+    (spoiled (record { stones = stones; bad = false }))
     ≡ record { stones = stones ++ record { at = p; own = own } ∷ []; bad = false }
 with_known true on taken stones p e f = rw (e, f) refl
 with_known false on taken stones p e f = rw (e, f) refl
 
-step-stone : (h : HeldTable) (w : ℕ) (b : Grid) (stones : List BatchStone) (p : Point) → is_on (empty_board SIDE SIDE) p ≡ true → has_stone_at stones p ≡ false
-    → brain_step (batch_read h w stones) (stone_line b p) ≡ record { reaction = Silent; next = batch_read h w (stones ++ stone_at b p ∷ []) }
+step-stone : (h : HeldTable) (w : ℕ) (b : Grid) (stones : List BatchStone) (p : Point) → is_on (empty_board SIDE SIDE) p ≡ true
+    → has_stone_at stones p ≡ false
+    → brain_step (batch_read h w stones) (stone_line b p)
+    ≡ record { reaction = Silent; next = batch_read h w (stones ++ stone_at b p ∷ []) }
 unfolding row_of
 step-stone h w b stones p on free =
-    ap (λ (x : Batch). let s : Step = record { reaction = Silent; next = record { wish = w; held = h; place = Fresh SIDE SIDE; batch = Some x } } in s)
+    ap (λ (x : Batch). let s : Step =
+    record { reaction = Silent; next = record { wish = w; held = h; place = Fresh SIDE SIDE; batch = Some x } } in s)
     (with_known (holds b (mover b) p) (is_on (empty_board SIDE SIDE) p) (has_stone_at stones p) stones p on free)
 
 -- ---- all stones
 
 module _ (h : HeldTable) (w : ℕ) (b : Grid) (wide : b.width ≡ SIDE) (high : b.height ≡ SIDE) where
   on-side : (p : Point) → is_on b p ≡ true → is_on (empty_board SIDE SIDE) p ≡ true
-  on-side p on = ap (λ (n : ℕ). nat_lt p.x n && nat_lt p.y SIDE) (sym wide) ∙ ap (λ (n : ℕ). nat_lt p.x b.width && nat_lt p.y n) (sym high) ∙ on
+  on-side p on = ap (λ (n : ℕ). nat_lt p.x n && nat_lt p.y SIDE) (sym wide) ∙ ap (λ (n : ℕ). nat_lt p.x b.width && nat_lt p.y n) (sym high)
+      ∙ on
 
-  told-stones : (ps : List Point) (k : ℕ) (stones : List BatchStone) → Rising b.width k ps → On b ps → Before b.width k stones → told_all (batch_read h w stones) (stone_lines b ps) ≡ batch_read h w (stones ++ stones_at b ps)
+  told-stones : (ps : List Point) (k : ℕ) (stones : List BatchStone) → Rising b.width k ps → On b ps → Before b.width k stones
+      → told_all (batch_read h w stones) (stone_lines b ps) ≡ batch_read h w (stones ++ stones_at b ps)
   unfolding On
   told-stones [] k stones rising on before = ap (batch_read h w) (sym (append-nil stones))
-  told-stones (p ∷ ps) k stones rising on before = by_test (is_empty b p) refl (λ more those. told-stones ps (place b.width p + 1) more first.1 rest those) where
-    first : (k ≤ place b.width p) × Rising b.width (place b.width p + 1) ps
-    first = rising-first b.width k p ps rising
+  told-stones (p ∷ ps) k stones rising on before = by_test (is_empty b p) refl
+      (λ more those. told-stones ps (place b.width p + 1) more first.1 rest those) where
+        first : (k ≤ place b.width p) × Rising b.width (place b.width p + 1) ps
+        first = rising-first b.width k p ps rising
 
-    rest : (q : Point) → list_any (λ x. is_same_point x q) ps ≡ true → is_on b q ≡ true
-    rest q e = on q (or_right (is_same_point p q) _ e)
+        rest : (q : Point) → list_any (λ x. is_same_point x q) ps ≡ true → is_on b q ≡ true
+        rest q e = on q (or_right (is_same_point p q) _ e)
 
-    on_p : is_on b p ≡ true
-    on_p = on p (ap (λ (r : Bool). r || list_any (λ x. is_same_point x p) ps) (is_same_point-itself p))
+        on_p : is_on b p ≡ true
+        on_p = on p (ap (λ (r : Bool). r || list_any (λ x. is_same_point x p) ps) (is_same_point-itself p))
 
-    here : Before b.width (place b.width p) stones
-    here = before-more b.width k (place b.width p) stones first.0 before
+        here : Before b.width (place b.width p) stones
+        here = before-more b.width k (place b.width p) stones first.0 before
 
-    then : Before b.width (place b.width p + 1) stones
-    then = before-more b.width (place b.width p) (place b.width p + 1) stones (omega arith) here
+        then : Before b.width (place b.width p + 1) stones
+        then = before-more b.width (place b.width p) (place b.width p + 1) stones (omega arith) here
 
-    by_test : (r : Bool) → is_empty b p ≡ r
-        → ((more : List BatchStone) → Before b.width (place b.width p + 1) more → told_all (batch_read h w more) (stone_lines b ps) ≡ batch_read h w (more ++ stones_at b ps))
-        → told_all (batch_read h w stones) (map (stone_line b) (cond (not r) (p ∷ filter (λ x. not (is_empty b x)) ps) (filter (λ x. not (is_empty b x)) ps)))
-        ≡ batch_read h w (stones ++ map (stone_at b) (cond (not r) (p ∷ filter (λ x. not (is_empty b x)) ps) (filter (λ x. not (is_empty b x)) ps)))
-    by_test true e later = later stones then
-    by_test false e later =
-        ap (λ (t : Step). told_all t.next (stone_lines b ps)) (step-stone h w b stones p (on-side p on_p) (before-apart b.width p stones here))
-        ∙ later (stones ++ stone_at b p ∷ []) (before-push b.width (place b.width p + 1) stones (stone_at b p) then (omega arith))
-        ∙ ap (batch_read h w) (append_assoc stones (stone_at b p ∷ []) (stones_at b ps))
+        by_test : (r : Bool) → is_empty b p ≡ r
+            → ((more : List BatchStone) → Before b.width (place b.width p + 1) more
+            → told_all (batch_read h w more) (stone_lines b ps) ≡ batch_read h w (more ++ stones_at b ps))
+            → told_all (batch_read h w stones)
+            (map (stone_line b) (cond (not r) (p ∷ filter (λ x. not (is_empty b x)) ps) (filter (λ x. not (is_empty b x)) ps)))
+            ≡ batch_read h w (stones ++ map (stone_at b)
+            (cond (not r) (p ∷ filter (λ x. not (is_empty b x)) ps) (filter (λ x. not (is_empty b x)) ps)))
+        by_test true e later = later stones then
+        by_test false e later =
+            ap (λ (t : Step). told_all t.next (stone_lines b ps))
+            (step-stone h w b stones p (on-side p on_p) (before-apart b.width p stones here))
+            ∙ later (stones ++ stone_at b p ∷ []) (before-push b.width (place b.width p + 1) stones (stone_at b p) then (omega arith))
+            ∙ ap (batch_read h w) (append_assoc stones (stone_at b p ∷ []) (stones_at b ps))
 
 -- ---- the position
 
-pub told-position : (h : HeldTable) (rule : RuleKind) (b : Grid) → b.width ≡ SIDE → b.height ≡ SIDE → told_all (new_brain h) (position_lines rule b) ≡ batch_read h (wish_of rule) (stones_at b (points_of b))
+pub told-position : (h : HeldTable) (rule : RuleKind) (b : Grid) → b.width ≡ SIDE → b.height ≡ SIDE
+    → told_all (new_brain h) (position_lines rule b) ≡ batch_read h (wish_of rule) (stones_at b (points_of b))
 unfolding row_of On
 told-position h rule b wide high =
-    told-stones h (wish_of rule) b wide high (points_of b) (0 * b.width) [] (rows-rising b.width 0 b.height) (listed_on b) (before-none b.width (0 * b.width))
+    told-stones h (wish_of rule) b wide high (points_of b) (0 * b.width) [] (rows-rising b.width 0 b.height) (listed_on b)
+    (before-none b.width (0 * b.width))
 
 -- what a brain is told leaves it lawful, and holding what it holds
 pub told-kept : (h : HeldTable) (s : State) (cs : List Asked) → IsKept h s → IsKept h (told_all s cs)
@@ -113,7 +129,9 @@ wish-rule Exact = refl
 wish-rule Renju = refl
 
 -- the game from a batch whose stones make the lawful board b
-batch-game : (rule : RuleKind) (b e : Grid) (stones : List BatchStone) → colour_in stones ≡ Some (mover b) → with_stones (mover b) e stones ≡ b → refusal rule b ≡ None → game_from rule e (record { stones = stones; bad = false }) ≡ Some (new_game rule b (mover b))
+batch-game : (rule : RuleKind) (b e : Grid) (stones : List BatchStone) → colour_in stones ≡ Some (mover b)
+    → with_stones (mover b) e stones ≡ b → refusal rule b ≡ None
+    → game_from rule e (record { stones = stones; bad = false }) ≡ Some (new_game rule b (mover b))
 batch-game rule b e stones colour make lawful = rw (colour, make, lawful) refl
 
 module _ (h : HeldTable) (rule : RuleKind) (b : Grid) (wide : b.width ≡ SIDE) (high : b.height ≡ SIDE) (lawful : IsPosition rule b) where
@@ -130,24 +148,28 @@ module _ (h : HeldTable) (rule : RuleKind) (b : Grid) (wide : b.width ≡ SIDE) 
   fits = (subst (IsKept h) read-is (told-kept h (new_brain h) (position_lines rule b) (new-lawful h))).0.batch
 
   make : with_stones (mover b) (empty_board SIDE SIDE) stones ≡ b
-  make = subst (λ (n : ℕ). with_stones (mover b) (empty_board n SIDE) stones ≡ b) wide (subst (λ (n : ℕ). with_stones (mover b) (empty_board b.width n) stones ≡ b) high (stones-make b lawful.board))
+  make = subst (λ (n : ℕ). with_stones (mover b) (empty_board n SIDE) stones ≡ b) wide
+      (subst (λ (n : ℕ). with_stones (mover b) (empty_board b.width n) stones ≡ b) high (stones-make b lawful.board))
 
   colour : colour_in stones ≡ Some (mover b)
   colour =
       let counts = batch-counts (mover b) SIDE SIDE stones false fits.0 fits.1 in
       batch-colour (mover b) b (count_by (λ x. x.own) stones) (count_by (λ x. not x.own) stones) lawful.turns refl
-      (sym (ap (λ (c : Grid). stones_of c (mover b)) make) ∙ counts.0) (sym (ap (λ (c : Grid). stones_of c (other (mover b))) make) ∙ counts.1)
+      (sym (ap (λ (c : Grid). stones_of c (mover b)) make) ∙ counts.0)
+      (sym (ap (λ (c : Grid). stones_of c (other (mover b))) make) ∙ counts.1)
 
   done-row : row_of (batch_read h (wish_of rule) stones) Done ≡ Chooses (new_game rule b (mover b))
   unfolding row_of
   done-row = rw (wish-rule rule, batch-game rule b (empty_board SIDE SIDE) stones colour make (none_from_lawful rule b lawful)) refl
 
   -- where the table is held at the position, a held game begins
-  pub begins-held : (i : ℕ) → h.roots ≡ record { root = Attack i; kind = rule; board = b } ∷ [] → BeginsHeldGame (batch_read h (wish_of rule) stones) Done (new_game rule b (mover b)) i
+  pub begins-held : (i : ℕ) → h.roots ≡ record { root = Attack i; kind = rule; board = b } ∷ []
+      → BeginsHeldGame (batch_read h (wish_of rule) stones) Done (new_game rule b (mover b)) i
   begins-held i roots = record {
     chooses = done-row;
     not_followed = refl;
-    leads = ap (first_node (new_game rule b (mover b))) roots ∙ leads-first (same_rule rule rule) (same_board b b) (same_rule-itself rule) (same_board-itself b);
+    leads = ap (first_node (new_game rule b (mover b))) roots
+        ∙ leads-first (same_rule rule rule) (same_board b b) (same_rule-itself rule) (same_board-itself b);
   } where
     leads-first : (r s : Bool) → r ≡ true → s ≡ true → option_or (cond r (cond s (Some i) None) None) None ≡ Some i
     leads-first r s e f = rw (e, f) refl

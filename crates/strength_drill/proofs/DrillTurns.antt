@@ -1,5 +1,6 @@
 -- A game of the drill, move by move: what the state of the brain says once it made a move by the held table, and after each TURN.
-use Rattle.std.proofs.Common.{◌≡◌, ◌⊎◌, inl, inr, refl, sym, ap, subst, ◌∙◌, ℕ, ◌+◌, ◌*◌, ◌≤◌, Bool, true, false, cond, not, ◌&&◌, ◌∷◌, arith}
+use Rattle.std.proofs.Common.{◌≡◌, ◌⊎◌, inl, inr, refl, sym, ap, subst, ◌∙◌, ℕ, ◌+◌, ◌*◌, ◌≤◌, Bool, true, false, cond, not, ◌&&◌, ◌∷◌}
+use Rattle.std.proofs.Common.{arith}
 use Rattle.std.specs.Prelude.{Option, Some}
 use Rattle.game_rules.specs.Grid.{Grid, is_empty, empties_of}
 use Rattle.game_rules.specs.Play.{IsPosition, outcome, mover, after, goes_on, is_foul, is_win}
@@ -83,7 +84,11 @@ module _ (h : HeldTable) (rule : RuleKind) (s : State) (turns : ℕ) (p : IsPlay
   game_now = with_choice p.game (by_node p.i p.node)
 
   pub attacks : (outcome rule board_before p.node.attack ≡ WinsNow) ⊎ (outcome rule board_before p.node.attack ≡ GoesOn)
-  attacks = wins_or_goes_on (outcome rule board_before p.node.attack) _ (subst (λ (r : RuleKind). WinsOr (outcome r board_before p.node.attack) (NotWinning p.node.rest × ((q : Point) → Meets p.game.rule (answers_of p.node) (AcceptedWithin p.more p.game.rule h.table) (after board_before p.node.attack) q))) p.rule_is p.stands.wins)
+  attacks = wins_or_goes_on (outcome rule board_before p.node.attack) _
+      (subst (λ (r : RuleKind). WinsOr (outcome r board_before p.node.attack)
+      (NotWinning p.node.rest
+      × ((q : Point) → Meets p.game.rule (answers_of p.node) (AcceptedWithin p.more p.game.rule h.table) (after board_before p.node.attack)
+      q))) p.rule_is p.stands.wins)
 
   here : (o : Outcome) → outcome rule board_before p.node.attack ≡ o → outcome p.game.rule board_before p.node.attack ≡ o
   here o e = ap (λ (r : RuleKind). outcome r board_before p.node.attack) p.rule_is ∙ e
@@ -103,7 +108,8 @@ module _ (h : HeldTable) (rule : RuleKind) (s : State) (turns : ℕ) (p : IsPlay
         ended = ended;
         won =
             ap (λ (r : Bool). r && last_wins p.game.rule p.game.brain p.game.start game_now.moves) ended
-            ∙ ap (λ (r : Bool). cond r (is_win (outcome p.game.rule board_before p.node.attack)) (is_foul (outcome p.game.rule board_before p.node.attack))) turn
+            ∙ ap (λ (r : Bool). cond r (is_win (outcome p.game.rule board_before p.node.attack))
+            (is_foul (outcome p.game.rule board_before p.node.attack))) turn
             ∙ ap is_win wins;
         made = ap (λ (r : Bool). moves_by p.game.brain p.game.start p.game.moves + cond r 1 0) turn ∙ ap (λ (n : ℕ). n + 1) p.made;
       }
@@ -120,7 +126,8 @@ module _ (h : HeldTable) (rule : RuleKind) (s : State) (turns : ℕ) (p : IsPlay
     board-then = ap board_now placed-now
 
     pub lawful-then : IsPosition rule (after board_before p.node.attack)
-    lawful-then = subst (λ (r : RuleKind). IsPosition r (after board_before p.node.attack)) p.rule_is (lawful_then h p.game p.i p.node p.more p.stands (here GoesOn on))
+    lawful-then = subst (λ (r : RuleKind). IsPosition r (after board_before p.node.attack)) p.rule_is
+        (lawful_then h p.game p.i p.node p.more p.stands (here GoesOn on))
 
     -- a move of the opponent
     module _ (q : Point) (empty : is_empty (after board_before p.node.attack) q ≡ true) where
@@ -140,13 +147,16 @@ module _ (h : HeldTable) (rule : RuleKind) (s : State) (turns : ℕ) (p : IsPlay
       step-then o e = ap (λ (t : State). brain_step t (Turn q.x q.y)) p.state ∙ ap (step_by now) (row-then o e)
 
       opponent-turn : same_side (mover (after board_before p.node.attack)) p.game.brain ≡ false
-      opponent-turn = other_side p.game.brain (mover (after board_before p.node.attack)) (turn_then h p.game p.i p.node p.more p.stands (here GoesOn on))
+      opponent-turn = other_side p.game.brain (mover (after board_before p.node.attack))
+          (turn_then h p.game p.i p.node p.more p.stands (here GoesOn on))
 
       made-now : moves_by p.game.brain p.game.start (p.node.attack ∷ p.game.moves) ≡ turns + 1
-      made-now = ap (λ (r : Bool). moves_by p.game.brain p.game.start p.game.moves + cond r 1 0) (own-turn (mover board_before) p.game.brain p.stands.turn) ∙ ap (λ (n : ℕ). n + 1) p.made
+      made-now = ap (λ (r : Bool). moves_by p.game.brain p.game.start p.game.moves + cond r 1 0)
+          (own-turn (mover board_before) p.game.brain p.stands.turn) ∙ ap (λ (n : ℕ). n + 1) p.made
 
       made-then : moves_by p.game.brain p.game.start (q ∷ p.node.attack ∷ p.game.moves) ≡ turns + 1
-      made-then = ap (λ (r : Bool). moves_by p.game.brain p.game.start (p.node.attack ∷ p.game.moves) + cond r 1 0) opponent-turn ∙ ap (λ (n : ℕ). n + 0) made-now ∙ omega arith
+      made-then = ap (λ (r : Bool). moves_by p.game.brain p.game.start (p.node.attack ∷ p.game.moves) + cond r 1 0) opponent-turn
+          ∙ ap (λ (n : ℕ). n + 0) made-now ∙ omega arith
 
       fouled : (f : Foul) → there ≡ Fouls f → IsFouled (brain_step s (Turn q.x q.y)) (turns + 1)
       fouled f e = subst (λ (t : Step). IsFouled t (turns + 1)) (sym (step-then (Fouls f) e)) (record {
@@ -160,15 +170,21 @@ module _ (h : HeldTable) (rule : RuleKind) (s : State) (turns : ℕ) (p : IsPlay
         };
       })
 
-      answered : there ≡ GoesOn → (j : ℕ) → answer (answers_of p.node) q ≡ Some j → AcceptedWithin p.more p.game.rule h.table j (after (after board_before p.node.attack) q) → IsAnswered h rule (after board_before p.node.attack) q (brain_step s (Turn q.x q.y)) (turns + 1)
+      answered : there ≡ GoesOn → (j : ℕ) → answer (answers_of p.node) q ≡ Some j
+          → AcceptedWithin p.more p.game.rule h.table j (after (after board_before p.node.attack) q)
+          → IsAnswered h rule (after board_before p.node.attack) q (brain_step s (Turn q.x q.y)) (turns + 1)
       answered e j reply accepted =
           let g2 = with_move game_now q false in
           let next = next_stands h p.game p.i p.node p.more p.stands (here GoesOn on) q e j reply accepted in
-          let fewer = empties_of-put board_before (mover board_before) p.node.attack p.stands.lawful.board (GoesOn-empty rule board_before p.node.attack on) in
-          let fewer_still = empties_of-put (after board_before p.node.attack) (mover (after board_before p.node.attack)) q lawful-then.board empty in
+          let fewer = empties_of-put board_before (mover board_before) p.node.attack p.stands.lawful.board
+          (GoesOn-empty rule board_before p.node.attack on) in
+          let fewer_still = empties_of-put (after board_before p.node.attack) (mover (after board_before p.node.attack)) q lawful-then.board
+          empty in
           let few = p.few in
           subst (λ (t : Step). IsAnswered h rule (after board_before p.node.attack) q t (turns + 1))
-          (sym (step-then GoesOn e ∙ ap (λ (c : Choice). let t : Step = record { reaction = Says (Move c.at); next = state_in h p.wish (with_choice g2 c) } in t) next.chooses))
+          (sym (step-then GoesOn e ∙ ap
+          (λ (c : Choice). let t : Step = record { reaction = Says (Move c.at); next = state_in h p.wish (with_choice g2 c) } in t)
+          next.chooses))
           (record {
             on = ap (λ (r : RuleKind). outcome r (after board_before p.node.attack) q) (sym p.rule_is) ∙ e;
             playing = record {
@@ -191,9 +207,14 @@ module _ (h : HeldTable) (rule : RuleKind) (s : State) (turns : ℕ) (p : IsPlay
           })
 
       -- one of the two comes
-      pub reply-met : IsFouled (brain_step s (Turn q.x q.y)) (turns + 1) ⊎ IsAnswered h rule (after board_before p.node.attack) q (brain_step s (Turn q.x q.y)) (turns + 1)
+      pub reply-met : IsFouled (brain_step s (Turn q.x q.y)) (turns + 1) ⊎ IsAnswered h rule (after board_before p.node.attack) q
+          (brain_step s (Turn q.x q.y)) (turns + 1)
       reply-met = by_outcome there refl ((parts h p.game p.i p.node p.more p.stands (here GoesOn on)).1 q) where
-        by_outcome : (o : Outcome) → there ≡ o → LosesOr o (Answered (answer (answers_of p.node) q) (λ j. AcceptedWithin p.more p.game.rule h.table j (after (after board_before p.node.attack) q))) → IsFouled (brain_step s (Turn q.x q.y)) (turns + 1) ⊎ IsAnswered h rule (after board_before p.node.attack) q (brain_step s (Turn q.x q.y)) (turns + 1)
+        by_outcome : (o : Outcome) → there ≡ o → LosesOr o
+            (Answered (answer (answers_of p.node) q)
+            (λ j. AcceptedWithin p.more p.game.rule h.table j (after (after board_before p.node.attack) q)))
+            → IsFouled (brain_step s (Turn q.x q.y)) (turns + 1) ⊎ IsAnswered h rule (after board_before p.node.attack) q
+            (brain_step s (Turn q.x q.y)) (turns + 1)
         by_outcome Refused e met = absurd (moved p.game.rule (after board_before p.node.attack) q empty e)
         by_outcome WinsNow e met = absurd met
         by_outcome (Fouls f) e met = inl (fouled f e)

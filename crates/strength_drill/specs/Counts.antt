@@ -80,7 +80,8 @@ pub record IsNotHeld (rule : RuleKind) (b : Grid) (t : List Node) (s : ℕ) (c :
 -- What comes of a position, by what is found: a win is counted, and the table of its plan is tried; else it is counted that there
 -- is no win, or that the budget is not enough.
 abbrev pub ComesOf : RuleKind → Grid → Found → ℕ → Counts → ℕ → Type 0
-ComesOf rule b (WinIn moves) s c u = (t : List Node) × IsTableOf (four_plan rule moves b) t × (PlaysGame rule b t s c u ⊎ IsNotHeld rule b t s c u)
+ComesOf rule b (WinIn moves) s c u = (t : List Node) × IsTableOf (four_plan rule moves b) t
+    × (PlaysGame rule b t s c u ⊎ IsNotHeld rule b t s c u)
 ComesOf rule b NoWin s c u = (c ≡ record no_counts { none = 1 }) × (u ≡ s)
 ComesOf rule b OverBudget s c u = (c ≡ record no_counts { spent = 1 }) × (u ≡ s)
 

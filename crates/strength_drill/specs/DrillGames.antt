@@ -1,6 +1,7 @@
 -- The games of the drill: one against a brain that holds a table for the position, which is told the position stone by stone, and
 -- is answered by moves that are drawn.
-use Rattle.std.specs.Prelude.{◌≡◌, ℕ, zero, suc, ◌+◌, ◌/◌, ◌%◌, ◌<◌, Bool, true, false, ◌&&◌, not, if◌then◌else◌, List, [], ◌∷◌, map, fold, unwrap_or, Option, Some, None}
+use Rattle.std.specs.Prelude.{◌≡◌, ℕ, zero, suc, ◌+◌, ◌/◌, ◌%◌, ◌<◌, Bool, true, false, ◌&&◌, not, if◌then◌else◌, List, [], ◌∷◌, map, fold}
+use Rattle.std.specs.Prelude.{unwrap_or, Option, Some, None}
 use Rattle.std.specs.List.{filter}
 use Rattle.game_rules.specs.Grid.{Grid, is_empty, holds, points_of}
 use Rattle.game_rules.specs.Play.{outcome, mover, is_foul, is_win}

@@ -1,6 +1,8 @@
 -- The nodes of a table, adopted one after the other: each is a copy under its new number, and is the same node. So what is held is
 -- what was held before, and the nodes of the table.
-use Rattle.std.proofs.Common.{◌≡◌, ◌⊎◌, inl, inr, ℕ, zero, suc, ◌<◌, ◌≤◌, ◌+◌, Bool, true, List, [], ◌∷◌, ◌++◌, length, refl, sym, ap, subst, ◌∙◌, arith, Option, Some, None, nat_lt, slice_get, slice_index, get_or, Contains, length-append, append-nil, append_assoc, Result, Ok, Err}
+use Rattle.std.proofs.Common.{◌≡◌, ◌⊎◌, inl, inr, ℕ, zero, suc, ◌<◌, ◌≤◌, ◌+◌, Bool, true, List, [], ◌∷◌, ◌++◌, length, refl, sym, ap}
+use Rattle.std.proofs.Common.{subst, ◌∙◌, arith, Option, Some, None, nat_lt, slice_get, slice_index, get_or, Contains, length-append}
+use Rattle.std.proofs.Common.{append-nil, append_assoc, Result, Ok, Err}
 use Rattle.std.specs.Result.{IsErrAnd}
 use Rattle.std.specs.List.{list_all, AllByRecursion}
 use Rattle.std.proofs.lemmas.Bool.{cases_lt}
@@ -61,7 +63,9 @@ held-second t u k w l e = (u, k, (1, omega arith, refl), l, e)
 
 -- ---- copies
 
-module _ (t u : List Node) (numbers : List ℕ) (i : ℕ) (table : IsTable t) (few : i ≤ length t) (copied : (j : ℕ) (n : Node) → j < i → slice_get t j ≡ Some n → slice_get u (slice_index numbers j) ≡ Some (renumbered_node (λ j. slice_index numbers j) n)) where
+module _ (t u : List Node) (numbers : List ℕ) (i : ℕ) (table : IsTable t) (few : i ≤ length t)
+    (copied : (j : ℕ) (n : Node) → j < i → slice_get t j ≡ Some n
+    → slice_get u (slice_index numbers j) ≡ Some (renumbered_node (λ j. slice_index numbers j) n)) where
   copies-by : Copies (λ j. slice_index numbers j) (λ j. nat_lt j i) t u
   copies-by = record {
     copied = λ j p.
@@ -88,7 +92,11 @@ unfolding largest
 renumbered-fits f n k fits node few =
     let on = nodes_on largest (n ∷ []) (fits, tt) in
     let moved : NamesOnBoard largest (renumbered_node f n) =
-    record { attack = on.0.attack; replies = replies-on largest (renumbered_node f n).replies n.replies (points-renumbered f n.replies) on.0.replies } in
+    record {
+      attack = on.0.attack;
+      replies = replies-on largest (renumbered_node f n).replies n.replies (points-renumbered f n.replies)
+          on.0.replies;
+    } in
     node_fits largest (renumbered_node f n) k moved node few
 
 all-push : (P : Node → Type 0) (ns : List Node) (n : Node) → AllByRecursion P ns → P n → AllByRecursion P (ns ++ n ∷ [])
@@ -112,13 +120,15 @@ adopted-none old t new numbers compiled fit e none = record {
   compiled = subst IsCompiled (sym e) compiled;
   more = [];
   grown = e ∙ sym (append-nil old);
-  held = λ k l. subst (λ (u : List Node). (k : ℕ) → k < length u → IsHeld (old ∷ t ∷ []) (unfolded u k)) (sym e) (λ k l. held-first old t k l) k l;
+  held = λ k l. subst (λ (u : List Node). (k : ℕ) → k < length u → IsHeld (old ∷ t ∷ []) (unfolded u k)) (sym e)
+      (λ k l. held-first old t k l) k l;
   fit = subst (AllByRecursion (NodeFits MAX_SIDE MAX_SIDE)) (sym e) fit;
   covered = λ k low high. let same : length new ≡ length old = ap length e in absurd (omega arith);
   in_order = λ k q low high is. absurd (omega arith);
 }
 
-module _ (old t new : List Node) (numbers : List ℕ) (i : ℕ) (n m : Node) (h : AdoptedUpTo old t new numbers i) (table : IsTable t) (at : slice_get t i ≡ Some n) (is : m ≡ renumbered_node (λ j. slice_index numbers j) n) where
+module _ (old t new : List Node) (numbers : List ℕ) (i : ℕ) (n m : Node) (h : AdoptedUpTo old t new numbers i) (table : IsTable t)
+    (at : slice_get t i ≡ Some n) (is : m ≡ renumbered_node (λ j. slice_index numbers j) n) where
   i-inside : i < length t
   i-inside = slice_get_within t i n at
 
@@ -144,7 +154,8 @@ module _ (old t new : List Node) (numbers : List ℕ) (i : ℕ) (n m : Node) (h 
         (λ k p. sym (number-before k (let low : k < j = ltb-true _ _ p in omega arith))) v (table.nodes j v e).below
 
     -- the copies so far, and the new one, in nodes that have them
-    module _ (new' : List Node) (stay : (k : ℕ) (v : Node) → slice_get new k ≡ Some v → slice_get new' k ≡ Some v) (there : slice_get new' x ≡ Some m) where
+    module _ (new' : List Node) (stay : (k : ℕ) (v : Node) → slice_get new k ≡ Some v → slice_get new' k ≡ Some v)
+        (there : slice_get new' x ≡ Some m) where
       copied-more : (j : ℕ) (v : Node) → j < i + 1 → slice_get t j ≡ Some v
           → slice_get new' (slice_index numbers' j) ≡ Some (renumbered_node (λ j. slice_index numbers' j) v)
       copied-more j v l e = by_place (cases_lt j i) where
@@ -163,7 +174,8 @@ module _ (old t new : List Node) (numbers : List ℕ) (i : ℕ) (n m : Node) (h 
       copy-is lower' =
           ap (unfolded new') (sym number-last)
           ∙ unfolded-copied (λ j. slice_index numbers' j) (λ j. nat_lt j (i + 1)) t new'
-          (copies-by t new' numbers' (i + 1) table (let l = i-inside in omega arith) copied-more) (IsTable-lower t table) lower' i (lt-more i) where
+          (copies-by t new' numbers' (i + 1) table (let l = i-inside in omega arith) copied-more) (IsTable-lower t table) lower' i
+          (lt-more i) where
             lt-more : (i : ℕ) → nat_lt i (i + 1) ≡ true
             lt-more i = lt-ltb i (i + 1) (omega arith)
 
@@ -180,9 +192,11 @@ module _ (old t new : List Node) (numbers : List ℕ) (i : ℕ) (n m : Node) (h 
   fits-by : NodeFits MAX_SIDE MAX_SIDE n → NodeFits MAX_SIDE MAX_SIDE m
   fits-by fits =
       subst (NodeFits MAX_SIDE MAX_SIDE) (sym is)
-      (renumbered-fits (λ j. slice_index numbers j) n (length new) fits (subst (λ (v : Node). IsNode v (length new)) is adopt-node) h.compiled.table.size)
+      (renumbered-fits (λ j. slice_index numbers j) n (length new) fits (subst (λ (v : Node). IsNode v (length new)) is adopt-node)
+      h.compiled.table.size)
 
-  module _ (x : ℕ) (numbers' : List ℕ) (pushed : numbers' ≡ numbers ++ x ∷ []) (new' : List Node) (put : PutsIn new m new') (there : slice_get new' x ≡ Some m) (compiled : IsCompiled new') where
+  module _ (x : ℕ) (numbers' : List ℕ) (pushed : numbers' ≡ numbers ++ x ∷ []) (new' : List Node) (put : PutsIn new m new')
+      (there : slice_get new' x ≡ Some m) (compiled : IsCompiled new') where
     held-by : (k : ℕ) → k < length new' → IsHeld (old ∷ t ∷ []) (unfolded new' k)
     held-by k l = by_put put where
       is_new : (grown : new' ≡ new ++ m ∷ []) → unfolded new' x ≡ unfolded t i
@@ -190,7 +204,8 @@ module _ (old t new : List Node) (numbers : List ℕ) (i : ℕ) (n m : Node) (h 
 
       by_place : (grown : new' ≡ new ++ m ∷ []) → (k < length new) ⊎ (length new ≤ k) → IsHeld (old ∷ t ∷ []) (unfolded new' k)
       by_place grown (inl low) =
-          subst (IsHeld (old ∷ t ∷ [])) (sym (ap (λ (u : List Node). unfolded u k) grown ∙ unfolded-longer new (m ∷ []) new-lower k low)) (h.held k low)
+          subst (IsHeld (old ∷ t ∷ [])) (sym (ap (λ (u : List Node). unfolded u k) grown ∙ unfolded-longer new (m ∷ []) new-lower k low))
+          (h.held k low)
       by_place grown (inr high) =
           let count : length new' ≡ length new + 1 = ap length grown ∙ length-append new (m ∷ []) in
           let last : length new ≡ k = omega arith in
@@ -208,7 +223,8 @@ module _ (old t new : List Node) (numbers : List ℕ) (i : ℕ) (n m : Node) (h 
     fit-more fits = by_put put where
       by_put : PutsIn new m new' → AllByRecursion (NodeFits MAX_SIDE MAX_SIDE) new'
       by_put (inl e) = subst (AllByRecursion (NodeFits MAX_SIDE MAX_SIDE)) (sym e.1) h.fit
-      by_put (inr e) = subst (AllByRecursion (NodeFits MAX_SIDE MAX_SIDE)) (sym e.1) (all-push (NodeFits MAX_SIDE MAX_SIDE) new m h.fit (fits-by fits))
+      by_put (inr e) = subst (AllByRecursion (NodeFits MAX_SIDE MAX_SIDE)) (sym e.1)
+          (all-push (NodeFits MAX_SIDE MAX_SIDE) new m h.fit (fits-by fits))
 
     -- each of the new nodes has its place
     covered-by : (k : ℕ) → length old ≤ k → k < length new' → (p : ℕ) × (p < i + 1) × (slice_index numbers' p ≡ k)
@@ -273,7 +289,8 @@ module _ (old t new : List Node) (numbers : List ℕ) (i : ℕ) (n m : Node) (h 
   adopt-full none full =
       held-one_more (old ∷ t ∷ []) MAX_NODES new m h.compiled adopt-node none full h.held
       (λ lower'. held-second old t i _ i-inside
-      (sym (copy-is (length new) (numbers ++ length new ∷ []) refl (new ++ m ∷ []) (stays-by (new ++ m ∷ []) (m ∷ []) refl) (last_node new m) lower')))
+      (sym (copy-is (length new) (numbers ++ length new ∷ []) refl (new ++ m ∷ []) (stays-by (new ++ m ∷ []) (m ∷ []) refl)
+      (last_node new m) lower')))
 
 -- ---- at the end
 

@@ -16,10 +16,13 @@ pub book-begins : (book : Book) (bytes : List ℕ) → IsTextOfBook book bytes �
 unfolding book_text book_lines
 book-begins book bytes text = (text_of (drop 1 (book_lines book)), text.spelled)
 
-begins-apart : (kind : RuleKind) (b : Grid) (nodes : List Node) (root : Root) (moves : ℕ) (bytes : List ℕ) → bytes ≡ table_text kind b nodes root moves → BeginsBook bytes → ⊥
+begins-apart : (kind : RuleKind) (b : Grid) (nodes : List Node) (root : Root) (moves : ℕ) (bytes : List ℕ)
+    → bytes ≡ table_text kind b nodes root moves → BeginsBook bytes → ⊥
 unfolding table_text
-begins-apart kind b nodes (Attack r) moves bytes e begins = let letter : 116 ≡ 98 = ap (λ (l : List ℕ). get_or l 6 0) (sym e ∙ begins.1) in omega (arith, letter)
-begins-apart kind b nodes (Defend a) moves bytes e begins = let letter : 116 ≡ 98 = ap (λ (l : List ℕ). get_or l 6 0) (sym e ∙ begins.1) in omega (arith, letter)
+begins-apart kind b nodes (Attack r) moves bytes e begins = let letter : 116 ≡ 98 =
+    ap (λ (l : List ℕ). get_or l 6 0) (sym e ∙ begins.1) in omega (arith, letter)
+begins-apart kind b nodes (Defend a) moves bytes e begins = let letter : 116 ≡ 98 =
+    ap (λ (l : List ℕ). get_or l 6 0) (sym e ∙ begins.1) in omega (arith, letter)
 
 -- that of a table does not
 pub table-no-book : (file : TableFile) (bytes : List ℕ) → IsTextOfTable file bytes → BeginsBook bytes → ⊥

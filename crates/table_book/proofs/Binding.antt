@@ -1,5 +1,7 @@
 -- Files that are bound into a book one after the other: what the book has of them stays as it grows.
-use Rattle.std.proofs.Common.{◌≡◌, ◌⊎◌, inl, inr, ◌↔◌, ℕ, zero, suc, ◌<◌, ◌≤◌, ◌+◌, Bool, true, List, [], ◌∷◌, ◌++◌, length, refl, sym, ap, subst, ◌∙◌, arith, Option, Some, None, nat_lt, slice_get, map, Contains, length-append, append-nil, append_assoc}
+use Rattle.std.proofs.Common.{◌≡◌, ◌⊎◌, inl, inr, ◌↔◌, ℕ, zero, suc, ◌<◌, ◌≤◌, ◌+◌, Bool, true, List, [], ◌∷◌, ◌++◌, length, refl, sym, ap}
+use Rattle.std.proofs.Common.{subst, ◌∙◌, arith, Option, Some, None, nat_lt, slice_get, map, Contains, length-append, append-nil}
+use Rattle.std.proofs.Common.{append_assoc}
 use Rattle.std.specs.List.{AllByRecursion, flat_map}
 use Rattle.std.proofs.lemmas.Bool.{cases_lt}
 use Rattle.std.proofs.lemmas.List.{map-append}
@@ -21,12 +23,14 @@ use Rattle.strategy_graph.proofs.Common.{Answers, NamesLower, SaysSame, StartSay
 use Rattle.strategy_graph.proofs.Answering.{answer-below}
 use Rattle.strategy_graph.proofs.Filling.{IsTable-lower, growth-same, growth-same-start}
 use Rattle.strategy_compiler.proofs.Common.{IsCompiled}
-use Rattle.strategy_compiler.proofs.Unfolding.{answers-longer, held-within, unfolded-apart, unfolded-longer, unfolded_nodes-at, unfolded_nodes-count, unfolded_nodes-there}
+use Rattle.strategy_compiler.proofs.Unfolding.{answers-longer, held-within, unfolded-apart, unfolded-longer, unfolded_nodes-at}
+use Rattle.strategy_compiler.proofs.Unfolding.{unfolded_nodes-count, unfolded_nodes-there}
 use Rattle.strategy_compiler.specs.Unfolded.{HoldMore, IsHeld, Unfolded, unfolded, unfolded_nodes, unfolded_replies, unfolded_rest}
 use Rattle.table_book.specs.declared.Book.{Book}
 use Rattle.table_book.specs.declared.Entry.{Entry}
 use Rattle.table_book.specs.Books.{EntryFits, IsSound, RootFits}
-use Rattle.table_book.specs.Binding.{AddsFile, AnswersSaySame, AreEntriesOf, AreInOrder, HoldSame, IsBinding, IsBound, IsEntryOf, RootSaysSame, SameRoot, Stays, nodes_of, tables_of}
+use Rattle.table_book.specs.Binding.{AddsFile, AnswersSaySame, AreEntriesOf, AreInOrder, HoldSame, IsBinding, IsBound, IsEntryOf}
+use Rattle.table_book.specs.Binding.{RootSaysSame, SameRoot, Stays, nodes_of, tables_of}
 
 -- ---- what says the same as what says the same
 
@@ -132,7 +136,8 @@ held-more t tables w is = (is.0, is.1, (suc is.2.0, (let inside = is.2.1 in omeg
 place-held : (files : List TableFile) (q : ℕ) (w : Unfolded) → slice_get (nodes_of files) q ≡ Some w → IsHeld (tables_of files) w
 place-held [] q w e = cc
 place-held (file ∷ files) q w e = by_place (get-cases (unfolded_nodes file.table) (nodes_of files) q w e) (place-held files) where
-  by_place : (slice_get (unfolded_nodes file.table) q ≡ Some w) ⊎ ((k : ℕ) × (q ≡ length (unfolded_nodes file.table) + k) × (slice_get (nodes_of files) k ≡ Some w))
+  by_place : (slice_get (unfolded_nodes file.table) q ≡ Some w) ⊎
+      ((k : ℕ) × (q ≡ length (unfolded_nodes file.table) + k) × (slice_get (nodes_of files) k ≡ Some w))
       → ((k : ℕ) (w : Unfolded) → slice_get (nodes_of files) k ≡ Some w → IsHeld (tables_of files) w) → IsHeld (tables_of (file ∷ files)) w
   by_place (inl e) next = let at = unfolded_nodes-at file.table q w e in (file.table, q, (0, omega arith, refl), at.0, at.1)
   by_place (inr e) next = held-more file.table (tables_of files) w (next e.0 w e.2)
@@ -191,7 +196,8 @@ bound-none book none without = record {
 
 -- ---- one file more
 
-module _ (files : List TableFile) (file : TableFile) (old new : Book) (before : IsBound files old) (adds : AddsFile old file new) (stays : Stays old.table file.table new.table) (binding : IsBinding new) where
+module _ (files : List TableFile) (file : TableFile) (old new : Book) (before : IsBound files old) (adds : AddsFile old file new)
+    (stays : Stays old.table file.table new.table) (binding : IsBinding new) where
   old-lower : NamesLower old.table
   old-lower = IsTable-lower old.table before.binding.compiled.table
 
@@ -217,24 +223,26 @@ module _ (files : List TableFile) (file : TableFile) (old new : Book) (before : 
   both-held : HoldSame (old.table ∷ file.table ∷ []) (tables_of (files ++ file ∷ []))
   both-held w = (to, from) where
     to : IsHeld (old.table ∷ file.table ∷ []) w → IsHeld (tables_of (files ++ file ∷ [])) w
-    to is = subst (λ (ts : List (List Node)). IsHeld ts w) (sym (tables-more files file)) (by_two is.0 is.1 (one-of-two old.table file.table is.0 is.2) is.3 is.4) where
-      by_two : (t : List Node) (i : ℕ) → (old.table ≡ t) ⊎ (file.table ≡ t) → i < length t → unfolded t i ≡ w
-          → IsHeld (tables_of files ++ file.table ∷ []) w
-      by_two t i (inl same) l e =
-          let inside : i < length old.table = subst (λ (v : List Node). i < length v) (sym same) l in
-          let there = held-old i inside in (
-            there.0,
-            there.1,
-            Contains-append_left (tables_of files) (file.table ∷ []) there.0 there.2,
-            there.3,
-            there.4 ∙ ap (λ (v : List Node). unfolded v i) same ∙ e,
-          )
-      by_two t i (inr same) l e =
-          (t, i, Contains-append_right (tables_of files) (file.table ∷ []) t (0, omega arith, same), l, e)
+    to is = subst (λ (ts : List (List Node)). IsHeld ts w) (sym (tables-more files file))
+        (by_two is.0 is.1 (one-of-two old.table file.table is.0 is.2) is.3 is.4) where
+          by_two : (t : List Node) (i : ℕ) → (old.table ≡ t) ⊎ (file.table ≡ t) → i < length t → unfolded t i ≡ w
+              → IsHeld (tables_of files ++ file.table ∷ []) w
+          by_two t i (inl same) l e =
+              let inside : i < length old.table = subst (λ (v : List Node). i < length v) (sym same) l in
+              let there = held-old i inside in (
+                there.0,
+                there.1,
+                Contains-append_left (tables_of files) (file.table ∷ []) there.0 there.2,
+                there.3,
+                there.4 ∙ ap (λ (v : List Node). unfolded v i) same ∙ e,
+              )
+          by_two t i (inr same) l e =
+              (t, i, Contains-append_right (tables_of files) (file.table ∷ []) t (0, omega arith, same), l, e)
 
     from : IsHeld (tables_of (files ++ file ∷ [])) w → IsHeld (old.table ∷ file.table ∷ []) w
     from is =
-        by_two is.0 is.1 (Contains-append_cases (tables_of files) (file.table ∷ []) is.0 (subst (λ (ts : List (List Node)). Contains ts is.0) (tables-more files file) is.2)) is.3 is.4 where
+        by_two is.0 is.1 (Contains-append_cases (tables_of files) (file.table ∷ []) is.0
+        (subst (λ (ts : List (List Node)). Contains ts is.0) (tables-more files file) is.2)) is.3 is.4 where
           by_two : (t : List Node) (i : ℕ) → Contains (tables_of files) t ⊎ Contains (file.table ∷ []) t → i < length t → unfolded t i ≡ w
               → IsHeld (old.table ∷ file.table ∷ []) w
           by_two t i (inl c) l e = let there = old-held w (t, i, c, l, e) in (old.table, there.0, (0, omega arith, refl), there.1, there.2)
@@ -258,7 +266,8 @@ module _ (files : List TableFile) (file : TableFile) (old new : Book) (before : 
     before-file r is (inr high) there =
         let place = adds.in_order k r high l there.0 there.1 in
         let low : place.0 < length file.table = (let less = place.1 in let inside = there.0 in omega arith) in
-        let at-file = get-right (nodes_of files) (unfolded_nodes file.table) place.0 (unfolded new.table k) (unfolded_nodes-there file.table place.0 low ∙ ap Some place.2) in
+        let at-file = get-right (nodes_of files) (unfolded_nodes file.table) place.0 (unfolded new.table k)
+        (unfolded_nodes-there file.table place.0 low ∙ ap Some place.2) in
         (at-file.0, (let here = at-file.1 in let less = place.1 in omega arith), at-file.2)
 
     by_place : (slice_get (nodes_of files) q ≡ Some (unfolded new.table (suc k)))
@@ -268,11 +277,17 @@ module _ (files : List TableFile) (file : TableFile) (old new : Book) (before : 
         let there = old-held (unfolded new.table (suc k)) (place-held files q (unfolded new.table (suc k)) e) in
         let c = count in
         let next : there.0 ≡ suc k =
-        unfolded-apart new.table new-lower binding.compiled.different there.0 (suc k) (let low = there.1 in omega arith) l (stays-at there.0 there.1 ∙ there.2) in
+        unfolded-apart new.table new-lower binding.compiled.different there.0 (suc k) (let low = there.1 in omega arith) l
+        (stays-at there.0 there.1 ∙ there.2) in
         let low : suc k < length old.table = (let inside = there.1 in omega arith) in
-        let place = before.in_order k q low (e ∙ ap Some (stays-at (suc k) low)) in
-        (place.0, place.1, get-left (nodes_of files) (unfolded_nodes file.table) place.0 (unfolded new.table k) (place.2 ∙ ap Some (sym (stays-at k (omega arith)))))
-    by_place (inr e) = before-file e.0 e.1 (cases_lt k (length old.table)) (unfolded_nodes-at file.table e.0 (unfolded new.table (suc k)) e.2)
+        let place = before.in_order k q low (e ∙ ap Some (stays-at (suc k) low)) in (
+          place.0,
+          place.1,
+          get-left (nodes_of files) (unfolded_nodes file.table) place.0 (unfolded new.table k)
+              (place.2 ∙ ap Some (sym (stays-at k (omega arith)))),
+        )
+    by_place (inr e) = before-file e.0 e.1 (cases_lt k (length old.table))
+        (unfolded_nodes-at file.table e.0 (unfolded new.table (suc k)) e.2)
 
   pub bound-more : IsBound (files ++ file ∷ []) new
   bound-more = record {
@@ -298,8 +313,12 @@ pub bound-few : (files : List TableFile) (book : Book) → IsBound files book �
 bound-few files book bound h =
     let find : (w : Unfolded) → IsHeld (tables_of files) w → (x : ℕ) × (x < length book.table) × (unfolded book.table x ≡ w) = λ w is.
     let there = (bound.held w).1 is in
-    let same : book.table ≡ there.0 = only-one book.table there.0 there.2 in
-    (there.1, subst (λ (v : List Node). there.1 < length v) (sym same) there.3, ap (λ (v : List Node). unfolded v there.1) same ∙ there.4) in
+    let same : book.table ≡ there.0 = only-one book.table there.0 there.2 in (
+      there.1,
+      subst (λ (v : List Node). there.1 < length v) (sym same) there.3,
+      ap (λ (v : List Node). unfolded v there.1) same
+          ∙ there.4,
+    ) in
     let over = held-within (tables_of files) MAX_NODES book.table find h in
     let size = bound.binding.compiled.table.size in
     omega arith
@@ -307,20 +326,27 @@ bound-few files book bound h =
 -- where the nodes so far and a file hold too many, so do the files
 pub bound-full : (files : List TableFile) (file : TableFile) (book : Book) → IsBound files book
     → HoldMore (book.table ∷ file.table ∷ []) MAX_NODES → HoldMore (tables_of (files ++ file ∷ [])) MAX_NODES
-bound-full files file book bound h = more-held (book.table ∷ file.table ∷ []) (tables_of (files ++ file ∷ [])) MAX_NODES (λ w is. by_two w is.0 is.1 (one-of-two book.table file.table is.0 is.2) is.3 is.4) h where
-  by_two : (w : Unfolded) (t : List Node) (i : ℕ) → (book.table ≡ t) ⊎ (file.table ≡ t) → i < length t → unfolded t i ≡ w
-      → IsHeld (tables_of (files ++ file ∷ [])) w
-  by_two w t i (inl same) l e =
-      let inside : i < length book.table = subst (λ (v : List Node). i < length v) (sym same) l in
-      let there = (bound.held w).0 (book.table, i, (0, omega arith, refl), inside, ap (λ (v : List Node). unfolded v i) same ∙ e) in
-      subst (λ (ts : List (List Node)). IsHeld ts w) (sym (tables-more files file))
-      (there.0, there.1, Contains-append_left (tables_of files) (file.table ∷ []) there.0 there.2, there.3, there.4)
-  by_two w t i (inr same) l e =
-      subst (λ (ts : List (List Node)). IsHeld ts w) (sym (tables-more files file))
-      (t, i, Contains-append_right (tables_of files) (file.table ∷ []) t (0, omega arith, same), l, e)
+bound-full files file book bound h = more-held (book.table ∷ file.table ∷ []) (tables_of (files ++ file ∷ [])) MAX_NODES
+    (λ w is. by_two w is.0 is.1 (one-of-two book.table file.table is.0 is.2) is.3 is.4) h where
+      by_two : (w : Unfolded) (t : List Node) (i : ℕ) → (book.table ≡ t) ⊎ (file.table ≡ t) → i < length t → unfolded t i ≡ w
+          → IsHeld (tables_of (files ++ file ∷ [])) w
+      by_two w t i (inl same) l e =
+          let inside : i < length book.table = subst (λ (v : List Node). i < length v) (sym same) l in
+          let there = (bound.held w).0 (book.table, i, (0, omega arith, refl), inside, ap (λ (v : List Node). unfolded v i) same ∙ e) in
+          subst (λ (ts : List (List Node)). IsHeld ts w) (sym (tables-more files file))
+          (there.0, there.1, Contains-append_left (tables_of files) (file.table ∷ []) there.0 there.2, there.3, there.4)
+      by_two w t i (inr same) l e =
+          subst (λ (ts : List (List Node)). IsHeld ts w) (sym (tables-more files file))
+          (t, i, Contains-append_right (tables_of files) (file.table ∷ []) t (0, omega arith, same), l, e)
 
 -- more files hold no fewer
 pub hold-longer : (files more : List TableFile) (most : ℕ) → HoldMore (tables_of files) most → HoldMore (tables_of (files ++ more)) most
 hold-longer files more most h =
-    more-held (tables_of files) (tables_of (files ++ more)) most (λ w is.
-    (is.0, is.1, subst (λ (ts : List (List Node)). Contains ts is.0) (sym (map-append (λ (f : TableFile). f.table) files more)) (Contains-append_left (tables_of files) (tables_of more) is.0 is.2), is.3, is.4)) h
+    more-held (tables_of files) (tables_of (files ++ more)) most (λ w is. (
+      is.0,
+      is.1,
+      subst (λ (ts : List (List Node)). Contains ts is.0) (sym (map-append (λ (f : TableFile). f.table) files more))
+          (Contains-append_left (tables_of files) (tables_of more) is.0 is.2),
+      is.3,
+      is.4,
+    )) h

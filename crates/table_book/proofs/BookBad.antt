@@ -1,5 +1,6 @@
 -- Where bytes leave the lines of books, and the first bad line of their texts.
-use Rattle.std.proofs.Common.{◌≡◌, ℕ, ◌+◌, ◌≤◌, refl, sym, ap, subst, ◌∙◌, arith, List, [], ◌∷◌, ◌++◌, length, map, take, drop, take-append-drop, replicate, get_or, inl, inr, None, codes}
+use Rattle.std.proofs.Common.{◌≡◌, ℕ, ◌+◌, ◌≤◌, refl, sym, ap, subst, ◌∙◌, arith, List, [], ◌∷◌, ◌++◌, length, map, take, drop}
+use Rattle.std.proofs.Common.{take-append-drop, replicate, get_or, inl, inr, None, codes}
 use Rattle.std.specs.List.{AllByRecursion, flat_map}
 use Rattle.std.specs.Fmt.{decimal}
 use Rattle.std.proofs.lemmas.Bool.{cases_lt}
@@ -37,8 +38,16 @@ nodes_in_rest : (k : ℕ) → HasParts [] (AreNodeLines MAX_SIDE MAX_SIDE k) (Is
 nodes_in_rest k = record {
   free = tt;
   whole = λ l is.
-      let end : List (List ℕ) = entries_line 1 ∷ flat_map entry_lines (least_entry ∷ []) in
-      (end, (is.0, end, is.1, (least_entry ∷ [], (least_entry-fits k, tt), record { enough = omega arith; few = omega arith }, refl), ap (λ (m : List (List ℕ)). m ++ end) is.2));
+      let end : List (List ℕ) = entries_line 1 ∷ flat_map entry_lines (least_entry ∷ []) in (
+        end,
+        (
+          is.0,
+          end,
+          is.1,
+          (least_entry ∷ [], (least_entry-fits k, tt), record { enough = omega arith; few = omega arith }, refl),
+          ap (λ (m : List (List ℕ)). m ++ end) is.2,
+        ),
+      );
   parts = λ ls is. record {
     first = [];
     part = map node_line is.0;
@@ -50,7 +59,8 @@ nodes_in_rest k = record {
   };
 }
 
-pub rest_nodes_fault : (k : ℕ) (bytes : List ℕ) (error : HeadError) → IsSectionFault (AreNodeLines MAX_SIDE MAX_SIDE k) bytes error → IsSectionFault (IsRestLines k) bytes error
+pub rest_nodes_fault : (k : ℕ) (bytes : List ℕ) (error : HeadError) → IsSectionFault (AreNodeLines MAX_SIDE MAX_SIDE k) bytes error
+    → IsSectionFault (IsRestLines k) bytes error
 rest_nodes_fault k bytes error h = fault_in (AreNodeLines MAX_SIDE MAX_SIDE k) (IsRestLines k) (nodes_in_rest k) bytes error h
 
 module _ (k : ℕ) (t : List Node) (nodes : AreNodes MAX_SIDE MAX_SIDE k t) where
@@ -69,10 +79,13 @@ module _ (k : ℕ) (t : List Node) (nodes : AreNodes MAX_SIDE MAX_SIDE k t) wher
     };
   }
 
-  pub rest_end_fault : (bytes rest : List ℕ) → bytes ≡ text_of (map node_line t) ++ rest → (error : HeadError) → IsSectionFault (IsEndLines k) rest error → IsSectionFault (IsRestLines k) bytes (after_lines k error)
-  rest_end_fault bytes rest e error h = fault_after (map node_line t) (IsEndLines k) (IsRestLines k) end_in_rest bytes rest k (sym (length-map t node_line ∙ nodes.counted)) e error h
+  pub rest_end_fault : (bytes rest : List ℕ) → bytes ≡ text_of (map node_line t) ++ rest → (error : HeadError)
+      → IsSectionFault (IsEndLines k) rest error → IsSectionFault (IsRestLines k) bytes (after_lines k error)
+  rest_end_fault bytes rest e error h = fault_after (map node_line t) (IsEndLines k) (IsRestLines k) end_in_rest bytes rest k
+      (sym (length-map t node_line ∙ nodes.counted)) e error h
 
-pub rest_has : (k : ℕ) (t : List Node) (es : List Entry) → AreNodes MAX_SIDE MAX_SIDE k t → AllByRecursion (EntryFits k) es → IsBetween 1 MAX_ENTRIES (length es) → HasText (record { table = t; entries = es })
+pub rest_has : (k : ℕ) (t : List Node) (es : List Entry) → AreNodes MAX_SIDE MAX_SIDE k t → AllByRecursion (EntryFits k) es
+    → IsBetween 1 MAX_ENTRIES (length es) → HasText (record { table = t; entries = es })
 rest_has k t es nodes fits some = record {
   table = nodes.table;
   nodes = nodes.fit;
@@ -106,7 +119,8 @@ no_first_line bytes none = record {
   are = (filled_book 0, filled_has 0 (omega arith), refl);
   enough = omega arith;
   so_far = refl;
-  no_further = λ ls others is e. none others (e ∙ ap (λ (l : List (List ℕ)). text_of (take 1 l) ++ others) is.2 ∙ sym (text_of-cons first_line [] others));
+  no_further = λ ls others is e. none others
+      (e ∙ ap (λ (l : List (List ℕ)). text_of (take 1 l) ++ others) is.2 ∙ sym (text_of-cons first_line [] others));
 }
 
 number_in_book : HasParts (first_line ∷ []) (IsLineOf (IsBetween 0 MAX_NODES) nodes_line) IsBookLines
@@ -116,8 +130,15 @@ number_in_book = record {
   whole = λ l is.
       let n : ℕ = is.0 in
       let rest : List (List ℕ) = rest_lines (filled_book n) in
-      let count = length-replicate n corner in
-      (rest, (filled_book n, filled_has n is.1.few, ap (λ (m : List (List ℕ)). first_line ∷ m ++ rest) is.2 ∙ ap (λ c. first_line ∷ nodes_line c ∷ rest) (sym count)));
+      let count = length-replicate n corner in (
+        rest,
+        (
+          filled_book n,
+          filled_has n is.1.few,
+          ap (λ (m : List (List ℕ)). first_line ∷ m ++ rest) is.2
+              ∙ ap (λ c. first_line ∷ nodes_line c ∷ rest) (sym count),
+        ),
+      );
   parts = λ ls is.
       let size = is.1.table.size in
       record {
@@ -131,9 +152,12 @@ number_in_book = record {
       };
 }
 
-pub no_nodes_line : (bytes rest : List ℕ) → bytes ≡ first_line ++ line_feed ∷ rest → ReadsLine (IsBetween 0 MAX_NODES) nodes_line None rest → LeavesAt IsBookLines bytes 1
+pub no_nodes_line : (bytes rest : List ℕ) → bytes ≡ first_line ++ line_feed ∷ rest → ReadsLine (IsBetween 0 MAX_NODES) nodes_line None rest
+    → LeavesAt IsBookLines bytes 1
 no_nodes_line bytes rest e none =
-    leaves_after (first_line ∷ []) (IsLineOf (IsBetween 0 MAX_NODES) nodes_line) IsBookLines number_in_book bytes rest 0 (e ∙ text_of-cons first_line [] rest) (leaves_first (IsBetween 0 MAX_NODES) nodes_line rest 0 (record { enough = omega arith; few = omega arith }) none)
+    leaves_after (first_line ∷ []) (IsLineOf (IsBetween 0 MAX_NODES) nodes_line) IsBookLines number_in_book bytes rest 0
+    (e ∙ text_of-cons first_line [] rest)
+    (leaves_first (IsBetween 0 MAX_NODES) nodes_line rest 0 (record { enough = omega arith; few = omega arith }) none)
 
 module _ (k : ℕ) (few : k ≤ MAX_NODES) where
   rest_in_book : HasParts (first_line ∷ nodes_line k ∷ []) (IsRestLines k) IsBookLines
@@ -146,7 +170,9 @@ module _ (k : ℕ) (few : k ≤ MAX_NODES) where
           (
             book,
             rest_has k is.0 is.3.0 is.2 is.3.1 is.3.2,
-            ap (λ (m : List (List ℕ)). first_line ∷ nodes_line k ∷ m) (append-nil l ∙ is.4 ∙ ap (λ (m : List (List ℕ)). map node_line is.0 ++ m) is.3.3) ∙ ap (λ c. first_line ∷ nodes_line c ∷ rest_lines book) (sym is.2.counted),
+            ap (λ (m : List (List ℕ)). first_line ∷ nodes_line k ∷ m)
+                (append-nil l ∙ is.4 ∙ ap (λ (m : List (List ℕ)). map node_line is.0 ++ m) is.3.3)
+                ∙ ap (λ c. first_line ∷ nodes_line c ∷ rest_lines book) (sym is.2.counted),
           ),
         );
     parts = λ ls is.
@@ -161,7 +187,8 @@ module _ (k : ℕ) (few : k ≤ MAX_NODES) where
           count = refl;
           are = λ same.
               let line : nodes_line (length book.table) ≡ nodes_line k = ap (λ (m : List (List ℕ)). get_or m 1 []) same in
-              let number : length book.table ≡ k = decimal_injective (length book.table) k (omega (arith, size)) (omega (arith, few)) (append_cancel_left (codes "nodes ") (decimal (length book.table)) (decimal k) line) in (
+              let number : length book.table ≡ k = decimal_injective (length book.table) k (omega (arith, size)) (omega (arith, few))
+              (append_cancel_left (codes "nodes ") (decimal (length book.table)) (decimal k) line) in (
                 book.table,
                 entries_line (length book.entries) ∷ flat_map entry_lines book.entries,
                 record { table = is.1.table; fit = is.1.nodes; counted = number },
@@ -171,15 +198,19 @@ module _ (k : ℕ) (few : k ≤ MAX_NODES) where
         };
   }
 
-  pub book_rest_fault : (bytes r1 rest : List ℕ) → bytes ≡ first_line ++ line_feed ∷ r1 → r1 ≡ nodes_line k ++ line_feed ∷ rest → (error : HeadError) → IsSectionFault (IsRestLines k) rest error → IsSectionFault IsBookLines bytes (after_lines 2 error)
+  pub book_rest_fault : (bytes r1 rest : List ℕ) → bytes ≡ first_line ++ line_feed ∷ r1 → r1 ≡ nodes_line k ++ line_feed ∷ rest
+      → (error : HeadError) → IsSectionFault (IsRestLines k) rest error → IsSectionFault IsBookLines bytes (after_lines 2 error)
   book_rest_fault bytes r1 rest e1 e2 error h =
       fault_after (first_line ∷ nodes_line k ∷ []) (IsRestLines k) IsBookLines rest_in_book bytes rest 2 refl
-      (e1 ∙ ap (λ (l : List ℕ). first_line ++ line_feed ∷ l) (e2 ∙ text_of-cons (nodes_line k) [] rest) ∙ text_of-cons first_line (nodes_line k ∷ []) rest) error h
+      (e1 ∙ ap (λ (l : List ℕ). first_line ++ line_feed ∷ l) (e2 ∙ text_of-cons (nodes_line k) [] rest)
+      ∙ text_of-cons first_line (nodes_line k ∷ []) rest) error h
 
-pub all_text : (k : ℕ) (book : Book) (bytes r1 r2 rest : List ℕ) → length book.table ≡ k → bytes ≡ first_line ++ line_feed ∷ r1 → r1 ≡ nodes_line k ++ line_feed ∷ r2 → r2 ≡ text_of (rest_lines book) ++ rest → bytes ≡ text_of (book_lines book) ++ rest
+pub all_text : (k : ℕ) (book : Book) (bytes r1 r2 rest : List ℕ) → length book.table ≡ k → bytes ≡ first_line ++ line_feed ∷ r1
+    → r1 ≡ nodes_line k ++ line_feed ∷ r2 → r2 ≡ text_of (rest_lines book) ++ rest → bytes ≡ text_of (book_lines book) ++ rest
 unfolding book_lines
 all_text k book bytes r1 r2 rest count e1 e2 e3 =
-    e1 ∙ ap (λ (l : List ℕ). first_line ++ line_feed ∷ l) (e2 ∙ ap (λ (l : List ℕ). nodes_line k ++ line_feed ∷ l) e3 ∙ text_of-cons (nodes_line k) (rest_lines book) rest)
+    e1 ∙ ap (λ (l : List ℕ). first_line ++ line_feed ∷ l)
+    (e2 ∙ ap (λ (l : List ℕ). nodes_line k ++ line_feed ∷ l) e3 ∙ text_of-cons (nodes_line k) (rest_lines book) rest)
     ∙ text_of-cons first_line (nodes_line k ∷ rest_lines book) rest
     ∙ ap (λ c. text_of (first_line ∷ nodes_line c ∷ rest_lines book) ++ rest) (sym count)
 
@@ -198,17 +229,21 @@ lines-free ls is = subst AreFree (sym is.2) (book-free is.0 is.1)
 
 -- the error of the lines of a book, said of the text
 pub lines_fault : (bytes : List ℕ) (error : HeadError) → IsSectionFault IsBookLines bytes error → IsBookFault bytes (in_book error)
-lines_fault bytes (BadLine n) h = subst (FirstBad IsBookText bytes) (sym h.1) (first_bad IsBookText IsBookLines lines-free lines_of text_from bytes h.0 h.2)
+lines_fault bytes (BadLine n) h = subst (FirstBad IsBookText bytes) (sym h.1)
+    (first_bad IsBookText IsBookLines lines-free lines_of text_from bytes h.0 h.2)
 lines_fault bytes Memory h = tt
 
 -- a book that the bytes go on behind has a line too many
 module _ (book : Book) (bytes rest : List ℕ) (has : HasText book) (text : bytes ≡ text_of (book_lines book) ++ rest) where
-  most : (ls : List (List ℕ)) (others : List ℕ) → IsBookLines ls → bytes ≡ text_of (take (length (book_lines book)) ls) ++ others → length ls ≤ length (book_lines book)
+  most : (ls : List (List ℕ)) (others : List ℕ) → IsBookLines ls → bytes ≡ text_of (take (length (book_lines book)) ls) ++ others
+      → length ls ≤ length (book_lines book)
   most ls others is e = elim (cases_lt (length (book_lines book)) (length ls)) [
     | inl longer ↦
         let n : ℕ = length (book_lines book) in
-        let same = same_lines (book_lines book) (take n ls) rest others (book-free book has) (free_take n ls (lines-free ls is)) (sym (length-take-le n ls (omega (arith, longer)))) (sym text ∙ e) in
-        let whole : book_lines is.0 ≡ book_lines book ++ drop n ls = sym is.2 ∙ sym (take-append-drop n ls) ∙ ap (λ (l : List (List ℕ)). l ++ drop n ls) (sym same.0) in
+        let same = same_lines (book_lines book) (take n ls) rest others (book-free book has) (free_take n ls (lines-free ls is))
+        (sym (length-take-le n ls (omega (arith, longer)))) (sym text ∙ e) in
+        let whole : book_lines is.0 ≡ book_lines book ++ drop n ls =
+        sym is.2 ∙ sym (take-append-drop n ls) ∙ ap (λ (l : List (List ℕ)). l ++ drop n ls) (sym same.0) in
         let numbers = same_numbers book is.0 (drop n ls) has is.1 whole in
         let nodes = numbers.nodes in
         let entries = numbers.entries in
@@ -220,4 +255,5 @@ module _ (book : Book) (bytes rest : List ℕ) (has : HasText book) (text : byte
   ]
 
   pub book_too_many : (rest ≡ [] → ⊥) → FirstBad IsBookText bytes (length (book_lines book) + 1)
-  book_too_many more = too_many IsBookText IsBookLines lines-free lines_of text_from bytes rest (book_lines book) (book, has, refl) text more most
+  book_too_many more = too_many IsBookText IsBookLines lines-free lines_of text_from bytes rest (book_lines book) (book, has, refl) text
+      more most

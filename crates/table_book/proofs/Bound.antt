@@ -1,5 +1,6 @@
 -- What a binder holds stays as its nodes grow, and the entry of a file says in the book what the file says.
-use Rattle.std.proofs.Common.{◌≡◌, ◌⊎◌, inl, inr, ◌↔◌, ℕ, zero, suc, ◌<◌, ◌≤◌, ◌+◌, Bool, true, false, List, [], ◌∷◌, ◌++◌, length, refl, sym, ap, subst, ◌∙◌, arith, Option, Some, None, nat_lt, slice_get, slice_index, map, length-append}
+use Rattle.std.proofs.Common.{◌≡◌, ◌⊎◌, inl, inr, ◌↔◌, ℕ, zero, suc, ◌<◌, ◌≤◌, ◌+◌, Bool, true, false, List, [], ◌∷◌, ◌++◌, length, refl}
+use Rattle.std.proofs.Common.{sym, ap, subst, ◌∙◌, arith, Option, Some, None, nat_lt, slice_get, slice_index, map, length-append}
 use Rattle.std.specs.List.{list_all, AllByRecursion}
 use Rattle.std.specs.Option.{option_map}
 use Rattle.std.proofs.lemmas.Option.{slice_get_within}
@@ -19,19 +20,22 @@ use Rattle.strategy_graph.specs.declared.TheConstants.{MAX_NODES}
 use Rattle.strategy_graph.specs.declared.roots.Root.{Root}
 use Rattle.strategy_graph.specs.declared.roots.Root.TheVariants.{Attack, Defend}
 use Rattle.strategy_graph.specs.Tables.{IsStart, RepliesOn, TableOnBoard, NamesOnBoard}
-use Rattle.strategy_graph.proofs.Common.{Answers, IsTable, NamesLower, SaysSame, answer, answers_of, is_rising, is_winning, named, names_below, renumbered_answers, renumbered_node, root_below, root_depth}
+use Rattle.strategy_graph.proofs.Common.{Answers, IsTable, NamesLower, SaysSame, answer, answers_of, is_rising, is_winning, named}
+use Rattle.strategy_graph.proofs.Common.{names_below, renumbered_answers, renumbered_node, root_below, root_depth}
 use Rattle.strategy_graph.proofs.Answering.{answer-named, replies-on}
 use Rattle.strategy_graph.proofs.Copies.{Copies, answer-renumbered, is_winning-renumbered, named-renumbered}
 use Rattle.strategy_graph.proofs.Filling.{IsTable-lower, growth-same, growth-same-start, names_below-more}
 use Rattle.strategy_graph.proofs.Renumbering.{copies-same, copies-same-start, points-renumbered, rising-renumbered}
 use Rattle.strategy_compiler.proofs.Common.{IsCompiled}
-use Rattle.strategy_compiler.proofs.Unfolding.{answers-copied, answers-longer, node-inside, unfolded-apart, unfolded-copied, unfolded-longer}
+use Rattle.strategy_compiler.proofs.Unfolding.{answers-copied, answers-longer, node-inside, unfolded-apart, unfolded-copied}
+use Rattle.strategy_compiler.proofs.Unfolding.{unfolded-longer}
 use Rattle.strategy_compiler.specs.Unfolded.{Unfolded, IsHeld, unfolded}
 use Rattle.table_book.specs.declared.Book.{Book}
 use Rattle.table_book.specs.declared.Entry.{Entry}
 use Rattle.table_book.specs.declared.TheConstants.{MAX_ENTRIES}
 use Rattle.table_book.specs.Books.{EntryFits, IsSound, RootFits}
-use Rattle.table_book.specs.Binding.{AddsFile, AnswersSaySame, AreNumbers, CanBeBound, HoldSame, IsBinding, IsEntryOf, RootSaysSame, SameRoot, Stays, renumbered_root}
+use Rattle.table_book.specs.Binding.{AddsFile, AnswersSaySame, AreNumbers, CanBeBound, HoldSame, IsBinding, IsEntryOf, RootSaysSame}
+use Rattle.table_book.specs.Binding.{SameRoot, Stays, renumbered_root}
 use Rattle.table_book.proofs.Adopting.{among-two}
 unfoldable use Rattle.table_book.proofs.Adopting.{largest}
 
@@ -52,8 +56,10 @@ replies-largest b (r ∷ rs) ok on = (on-largest b r.at ok on.0, replies-largest
 
 table-largest : (b : Grid) (t : List Node) → IsBoard b → TableOnBoard b t → TableOnBoard largest t
 table-largest b [] ok on = tt
-table-largest b (n ∷ t) ok on =
-    (record { attack = on-largest b n.attack ok on.0.attack; replies = replies-largest b n.replies ok on.0.replies }, table-largest b t ok on.1)
+table-largest b (n ∷ t) ok on = (
+  record { attack = on-largest b n.attack ok on.0.attack; replies = replies-largest b n.replies ok on.0.replies },
+  table-largest b t ok on.1,
+)
 
 -- the nodes of a table's text fit a book
 pub text-fits : (file : TableFile) (bytes : List ℕ) → IsTextOfTable file bytes → AllByRecursion (NodeFits MAX_SIDE MAX_SIDE) file.table
@@ -87,8 +93,10 @@ module _ (t more : List Node) (lower : NamesLower t) where
 
   entries-grown : (es : List Entry) → AllByRecursion (EntryFits (length t)) es → AllByRecursion (EntryFits (length (t ++ more))) es
   entries-grown [] all = tt
-  entries-grown (e ∷ es) all =
-      (record { board = all.0.board; moves = all.0.moves; root = root-grown (length t) (length (t ++ more)) e.root longer all.0.root }, entries-grown es all.1)
+  entries-grown (e ∷ es) all = (
+    record { board = all.0.board; moves = all.0.moves; root = root-grown (length t) (length (t ++ more)) e.root longer all.0.root },
+    entries-grown es all.1,
+  )
 
   sound-grown : (es : List Entry) → AllByRecursion (EntryFits (length t)) es → AllByRecursion (IsSound t) es
       → AllByRecursion (IsSound (t ++ more)) es
@@ -105,8 +113,10 @@ binding-grown old t new es h stays compiled fit =
     record {
       compiled = compiled;
       nodes = fit;
-      entries = subst (λ (u : List Node). AllByRecursion (EntryFits (length u)) es) (sym stays.is) (entries-grown old stays.more lower es h.entries);
-      sound = subst (λ (u : List Node). AllByRecursion (IsSound u) es) (sym stays.is) (sound-grown old stays.more lower es h.entries h.sound);
+      entries = subst (λ (u : List Node). AllByRecursion (EntryFits (length u)) es) (sym stays.is)
+          (entries-grown old stays.more lower es h.entries);
+      sound = subst (λ (u : List Node). AllByRecursion (IsSound u) es) (sym stays.is)
+          (sound-grown old stays.more lower es h.entries h.sound);
       few = h.few;
     }
 
@@ -132,8 +142,13 @@ module _ (old t new : List Node) (numbers : List ℕ) (table : IsTable t) (lower
   copies : Copies (λ j. slice_index numbers j) (λ j. nat_lt j (length t)) t new
   copies = record {
     copied = λ j p.
-        let n = node-inside t j (ltb-true _ _ p) in
-        (n.0, n.1, are.each j n.0 n.1, names_below-more (answers_of n.0) j (length t) (let l : j < length t = ltb-true _ _ p in omega arith) (table.nodes j n.0 n.1).below);
+        let n = node-inside t j (ltb-true _ _ p) in (
+          n.0,
+          n.1,
+          are.each j n.0 n.1,
+          names_below-more (answers_of n.0) j (length t) (let l : j < length t = ltb-true _ _ p in omega arith)
+              (table.nodes j n.0 n.1).below,
+        );
   }
 
   number-inside : (j : ℕ) → nat_lt j (length t) ≡ true → slice_index numbers j < length new
@@ -150,7 +165,8 @@ module _ (old t new : List Node) (numbers : List ℕ) (table : IsTable t) (lower
   root-same (Attack i) below = node-same i below
   root-same (Defend a) below = (
     copies-same-start (λ j. slice_index numbers j) (λ j. nat_lt j (length t)) t new copies (IsTable-lower t table) lower a below,
-    λ q. subst (AnswersSaySame t (answer a q) new) (sym (answer-renumbered (λ j. slice_index numbers j) a q)) (by_answer (answer a q) (λ j e. answer-named (λ j. nat_lt j (length t)) a q j below e)),
+    λ q. subst (AnswersSaySame t (answer a q) new) (sym (answer-renumbered (λ j. slice_index numbers j) a q))
+        (by_answer (answer a q) (λ j e. answer-named (λ j. nat_lt j (length t)) a q j below e)),
   ) where
     by_answer : (o : Option ℕ) → ((j : ℕ) → o ≡ Some j → nat_lt j (length t) ≡ true)
         → AnswersSaySame t o new (option_map (λ j. slice_index numbers j) o)
@@ -159,14 +175,17 @@ module _ (old t new : List Node) (numbers : List ℕ) (table : IsTable t) (lower
 
   -- and is the same
   root-is : (root : Root) → root_below root (length t) ≡ true → SameRoot t root new (renumbered_root (λ j. slice_index numbers j) root)
-  root-is (Attack i) below = unfolded-copied (λ j. slice_index numbers j) (λ j. nat_lt j (length t)) t new copies (IsTable-lower t table) lower i below
-  root-is (Defend a) below = answers-copied (λ j. slice_index numbers j) (λ j. nat_lt j (length t)) t new copies (IsTable-lower t table) lower a below
+  root-is (Attack i) below = unfolded-copied (λ j. slice_index numbers j) (λ j. nat_lt j (length t)) t new copies (IsTable-lower t table)
+      lower i below
+  root-is (Defend a) below = answers-copied (λ j. slice_index numbers j) (λ j. nat_lt j (length t)) t new copies (IsTable-lower t table)
+      lower a below
 
   all-mapped : (js : List ℕ) → list_all (λ j. nat_lt j (length t)) js ≡ true
       → list_all (λ j. nat_lt j (length new)) (map (λ j. slice_index numbers j) js) ≡ true
   all-mapped [] h = refl
   all-mapped (j ∷ js) h =
-      rw (lt-ltb (slice_index numbers j) (length new) (number-inside j (and_left (nat_lt j (length t)) _ h))) (all-mapped js (and_right (nat_lt j (length t)) _ h))
+      rw (lt-ltb (slice_index numbers j) (length new) (number-inside j (and_left (nat_lt j (length t)) _ h)))
+      (all-mapped js (and_right (nat_lt j (length t)) _ h))
 
   -- and fits the book
   root-fits : (b : Grid) (root : Root) (moves : ℕ) → IsBoard b → length new ≤ MAX_NODES → RootFitsText b t root moves
@@ -175,11 +194,14 @@ module _ (old t new : List Node) (numbers : List ℕ) (table : IsTable t) (lower
   root-fits b (Attack i) moves ok few fits = number-inside i (let last = fits.0 in lt-ltb i (length t) (omega arith))
   root-fits b (Defend a) moves ok few fits =
       let f : ℕ → ℕ = λ j. slice_index numbers j in
-      let below : names_below (renumbered_answers f a) (length new) ≡ true = ap (list_all (λ j. nat_lt j (length new))) (named-renumbered f a) ∙ all-mapped (named a) fits.1 in
+      let below : names_below (renumbered_answers f a) (length new) ≡ true =
+      ap (list_all (λ j. nat_lt j (length new))) (named-renumbered f a) ∙ all-mapped (named a) fits.1 in
       let rest : is_winning (renumbered_answers f a).rest ≡ false = is_winning-renumbered f a.rest ∙ fits.0.not_winning in
-      let start : IsStart (renumbered_answers f a) = record { not_winning = rest; rising = rising-renumbered f a.replies ∙ fits.0.rising } in
+      let start : IsStart (renumbered_answers f a) =
+      record { not_winning = rest; rising = rising-renumbered f a.replies ∙ fits.0.rising } in
       let on : RepliesOn largest (renumbered_answers f a).replies =
-      replies-on largest (renumbered_answers f a).replies a.replies (points-renumbered f a.replies) (replies-largest b a.replies ok fits.2) in
+      replies-on largest (renumbered_answers f a).replies a.replies (points-renumbered f a.replies)
+      (replies-largest b a.replies ok fits.2) in
       record {
         answers = answers_fit largest (renumbered_answers f a) (length new) on below few (λ wins. cc);
         start = start;
@@ -206,7 +228,8 @@ module _ (old t new : List Node) (numbers : List ℕ) (table : IsTable t) (lower
       )
 
 -- the entry of a file whose nodes are adopted
-module _ (file : TableFile) (old new : List Node) (numbers : List ℕ) (root : Root) (can : CanBeBound file) (compiled : IsCompiled new) (are : AreNumbers old file.table new numbers) (is : root ≡ renumbered_root (λ j. slice_index numbers j) file.root) where
+module _ (file : TableFile) (old new : List Node) (numbers : List ℕ) (root : Root) (can : CanBeBound file) (compiled : IsCompiled new)
+    (are : AreNumbers old file.table new numbers) (is : root ≡ renumbered_root (λ j. slice_index numbers j) file.root) where
   abbrev pub entry : Entry
   entry = record { kind = file.kind; board = file.board; root = root; moves = file.moves }
 
@@ -235,7 +258,8 @@ module _ (file : TableFile) (old new : List Node) (numbers : List ℕ) (root : R
     moves = moves-few old file.table new numbers can.text.1.table new-lower are file.board file.root file.moves can.text.1.root;
     root =
         subst (RootFits (length new)) (sym is)
-        (root-fits old file.table new numbers can.text.1.table new-lower are file.board file.root file.moves can.text.1.board compiled.table.size can.text.1.root);
+        (root-fits old file.table new numbers can.text.1.table new-lower are file.board file.root file.moves can.text.1.board
+        compiled.table.size can.text.1.root);
   }
 
   pub entry-sound : IsSound new entry

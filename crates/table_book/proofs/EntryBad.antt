@@ -1,5 +1,6 @@
 -- Where bytes leave the lines of entries.
-use Rattle.std.proofs.Common.{◌≡◌, ℕ, suc, ◌+◌, ◌-◌, ◌*◌, ◌^◌, ◌<◌, ◌≤◌, refl, sym, ap, subst, ◌∙◌, arith, List, [], ◌∷◌, ◌++◌, length, take, drop, take-append-drop, get_or, replicate, None, codes}
+use Rattle.std.proofs.Common.{◌≡◌, ℕ, suc, ◌+◌, ◌-◌, ◌*◌, ◌^◌, ◌<◌, ◌≤◌, refl, sym, ap, subst, ◌∙◌, arith, List, [], ◌∷◌, ◌++◌, length}
+use Rattle.std.proofs.Common.{take, drop, take-append-drop, get_or, replicate, None, codes}
 use Rattle.std.specs.List.{AllByRecursion, flat_map}
 use Rattle.std.specs.Fmt.{decimal}
 use Rattle.std.proofs.lemmas.Fmt.{decimal_injective}
@@ -47,25 +48,32 @@ least_root-fits k = only_fits MAX_SIDE MAX_SIDE k
 
 module _ (k : ℕ) (bytes : List ℕ) where
   -- a number that is no number of a node
-  pub no_such_node : (n : ℕ) (rest : List ℕ) → n < 2 ^ 32 → k < 2 ^ 32 → k ≤ n → bytes ≡ (codes "root " ++ decimal n) ++ line_feed ∷ rest → ReadsLine (RootFits k) root_line None bytes
+  pub no_such_node : (n : ℕ) (rest : List ℕ) → n < 2 ^ 32 → k < 2 ^ 32 → k ≤ n → bytes ≡ (codes "root " ++ decimal n) ++ line_feed ∷ rest
+      → ReadsLine (RootFits k) root_line None bytes
   no_such_node n rest few few_k past line (Attack i) others fits e =
       let low : i < k = fits in
-      let same = same_line (codes "root " ++ decimal n) rest (codes "root " ++ decimal i) others (number-free (codes "root ") n refl (omega (arith, few))) (number-free (codes "root ") i refl (omega (arith, low, few_k))) (sym line ∙ e) in
-      let number : n ≡ i = decimal_injective n i (omega (arith, few)) (omega (arith, low, few_k)) (append_cancel_left (codes "root ") (decimal n) (decimal i) same.0) in
+      let same = same_line (codes "root " ++ decimal n) rest (codes "root " ++ decimal i) others
+      (number-free (codes "root ") n refl (omega (arith, few))) (number-free (codes "root ") i refl (omega (arith, low, few_k)))
+      (sym line ∙ e) in
+      let number : n ≡ i = decimal_injective n i (omega (arith, few)) (omega (arith, low, few_k))
+      (append_cancel_left (codes "root ") (decimal n) (decimal i) same.0) in
       omega (arith, low, past, number)
   no_such_node n rest few few_k past line (Defend a) others fits e =
       let letter : 114 ≡ 115 = ap (λ (l : List ℕ). get_or l 0 0) (sym line ∙ e) in
       absurd (omega (arith, letter))
 
   -- neither a number nor a start
-  no_root : ReadsLine (IsBetween 0 (2 ^ 32 - 1)) (λ n. codes "root " ++ decimal n) None bytes → ReadsLine (StartFits MAX_SIDE MAX_SIDE k) start_line None bytes → k < 2 ^ 32 → ReadsLine (RootFits k) root_line None bytes
-  no_root no_number no_start few_k (Attack i) others fits e = no_number i others (let low : i < k = fits in record { enough = omega arith; few = omega (arith, low, few_k) }) e
+  no_root : ReadsLine (IsBetween 0 (2 ^ 32 - 1)) (λ n. codes "root " ++ decimal n) None bytes
+      → ReadsLine (StartFits MAX_SIDE MAX_SIDE k) start_line None bytes → k < 2 ^ 32 → ReadsLine (RootFits k) root_line None bytes
+  no_root no_number no_start few_k (Attack i) others fits e =
+      no_number i others (let low : i < k = fits in record { enough = omega arith; few = omega (arith, low, few_k) }) e
   no_root no_number no_start few_k (Defend a) others fits e = no_start a others fits e
 
   pub no_root_line : ReadsLine (RootFits k) root_line None bytes → LeavesAt (IsLineOf (RootFits k) root_line) bytes 0
   no_root_line none = leaves_first (RootFits k) root_line bytes least_root (least_root-fits k) none
 
-  pub root_fault : ReadsLine (IsBetween 0 (2 ^ 32 - 1)) (λ n. codes "root " ++ decimal n) None bytes → k < 2 ^ 32 → (error : HeadError) → IsSectionFault (IsStartLines MAX_SIDE MAX_SIDE k) bytes error → IsSectionFault (IsLineOf (RootFits k) root_line) bytes error
+  pub root_fault : ReadsLine (IsBetween 0 (2 ^ 32 - 1)) (λ n. codes "root " ++ decimal n) None bytes → k < 2 ^ 32 → (error : HeadError)
+      → IsSectionFault (IsStartLines MAX_SIDE MAX_SIDE k) bytes error → IsSectionFault (IsLineOf (RootFits k) root_line) bytes error
   root_fault no_number few_k (BadLine n) h =
       let left = left_first (StartFits MAX_SIDE MAX_SIDE k) start_line bytes h.0 h.2 in
       let at : h.0 ≡ 0 = left.0 in
@@ -81,7 +89,11 @@ head_in_entry k = record {
   free = tt;
   whole = λ l is. (
     moves_line 0 ∷ root_line least_root ∷ [],
-    (record { kind = is.0; board = is.1; root = least_root; moves = 0 }, record { board = is.2; moves = omega arith; root = least_root-fits k }, ap (λ (m : List (List ℕ)). m ++ moves_line 0 ∷ root_line least_root ∷ []) is.3),
+    (
+      record { kind = is.0; board = is.1; root = least_root; moves = 0 },
+      record { board = is.2; moves = omega arith; root = least_root-fits k },
+      ap (λ (m : List (List ℕ)). m ++ moves_line 0 ∷ root_line least_root ∷ []) is.3,
+    ),
   );
   parts = λ ls is. record {
     first = [];
@@ -102,7 +114,11 @@ module _ (k : ℕ) (kind : RuleKind) (b : Grid) (ok : IsBoard b) where
     free = board-free kind b ok;
     whole = λ l is. (
       root_line least_root ∷ [],
-      (record { kind = kind; board = b; root = least_root; moves = is.0 }, record { board = ok; moves = is.1.few; root = least_root-fits k }, ap (λ (m : List (List ℕ)). board_lines kind b ++ (m ++ root_line least_root ∷ [])) is.2),
+      (
+        record { kind = kind; board = b; root = least_root; moves = is.0 },
+        record { board = ok; moves = is.1.few; root = least_root-fits k },
+        ap (λ (m : List (List ℕ)). board_lines kind b ++ (m ++ root_line least_root ∷ [])) is.2,
+      ),
     );
     parts = λ ls is. record {
       first = board_lines is.0.kind is.0.board;
@@ -120,35 +136,46 @@ module _ (k : ℕ) (kind : RuleKind) (b : Grid) (ok : IsBoard b) where
     root_in_entry : HasParts (board_lines kind b ++ moves_line m ∷ []) (IsLineOf (RootFits k) root_line) (IsEntryLines k)
     unfolding entry_lines board_lines
     root_in_entry = record {
-      free = free_append (board_lines kind b) (moves_line m ∷ []) (board-free kind b ok) (number-free (codes "moves ") m refl (omega (arith, most)), tt);
+      free = free_append (board_lines kind b) (moves_line m ∷ []) (board-free kind b ok)
+          (number-free (codes "moves ") m refl (omega (arith, most)), tt);
       whole = λ l is. (
         [],
-        (record { kind = kind; board = b; root = is.0; moves = m }, record { board = ok; moves = most; root = is.1 }, ap (λ (n : List (List ℕ)). board_lines kind b ++ moves_line m ∷ n) (append-nil l ∙ is.2)),
+        (
+          record { kind = kind; board = b; root = is.0; moves = m },
+          record { board = ok; moves = most; root = is.1 },
+          ap (λ (n : List (List ℕ)). board_lines kind b ++ moves_line m ∷ n) (append-nil l ∙ is.2),
+        ),
       );
       parts = λ ls is. record {
         first = board_lines is.0.kind is.0.board ++ moves_line is.0.moves ∷ [];
         part = root_line is.0.root ∷ [];
         more = [];
         lines = is.2;
-        free = free_append (board_lines is.0.kind is.0.board) (moves_line is.0.moves ∷ []) (board-free is.0.kind is.0.board is.1.board) (moves_line-free k is.0 is.1, tt);
+        free = free_append (board_lines is.0.kind is.0.board) (moves_line is.0.moves ∷ []) (board-free is.0.kind is.0.board is.1.board)
+            (moves_line-free k is.0 is.1, tt);
         count = refl;
         are = λ same. (is.0.root, is.1.root, refl);
       };
     }
 
-    pub entry_root_fault : (bytes r1 r2 : List ℕ) → bytes ≡ text_of (board_lines kind b) ++ r1 → r1 ≡ moves_line m ++ line_feed ∷ r2 → (error : HeadError) → IsSectionFault (IsLineOf (RootFits k) root_line) r2 error → IsSectionFault (IsEntryLines k) bytes (after_lines 5 error)
+    pub entry_root_fault : (bytes r1 r2 : List ℕ) → bytes ≡ text_of (board_lines kind b) ++ r1 → r1 ≡ moves_line m ++ line_feed ∷ r2
+        → (error : HeadError) → IsSectionFault (IsLineOf (RootFits k) root_line) r2 error
+        → IsSectionFault (IsEntryLines k) bytes (after_lines 5 error)
     entry_root_fault bytes r1 r2 e1 e2 error h =
         let lengths = length-append (board_lines kind b) (moves_line m ∷ []) in
         let four = board-length kind b in
-        fault_after (board_lines kind b ++ moves_line m ∷ []) (IsLineOf (RootFits k) root_line) (IsEntryLines k) root_in_entry bytes r2 5 (omega (arith, lengths, four))
+        fault_after (board_lines kind b ++ moves_line m ∷ []) (IsLineOf (RootFits k) root_line) (IsEntryLines k) root_in_entry bytes r2 5
+        (omega (arith, lengths, four))
         (e1 ∙ ap (λ (l : List ℕ). text_of (board_lines kind b) ++ l) e2 ∙ text_of-push (board_lines kind b) (moves_line m) r2) error h
 
-  pub no_moves_line : (bytes rest : List ℕ) → bytes ≡ text_of (board_lines kind b) ++ rest → ReadsLine (IsBetween 0 MAX_MOVES) moves_line None rest → LeavesAt (IsEntryLines k) bytes 4
+  pub no_moves_line : (bytes rest : List ℕ) → bytes ≡ text_of (board_lines kind b) ++ rest
+      → ReadsLine (IsBetween 0 MAX_MOVES) moves_line None rest → LeavesAt (IsEntryLines k) bytes 4
   no_moves_line bytes rest e none =
       let four = board-length kind b in
       let there : length (board_lines kind b) + 0 ≡ 4 = omega (arith, four) in
       subst (LeavesAt (IsEntryLines k) bytes) there
-      (leaves_after (board_lines kind b) (IsLineOf (IsBetween 0 MAX_MOVES) moves_line) (IsEntryLines k) moves_in_entry bytes rest 0 e (leaves_first (IsBetween 0 MAX_MOVES) moves_line rest 0 (record { enough = omega arith; few = omega arith }) none))
+      (leaves_after (board_lines kind b) (IsLineOf (IsBetween 0 MAX_MOVES) moves_line) (IsEntryLines k) moves_in_entry bytes rest 0 e
+      (leaves_first (IsBetween 0 MAX_MOVES) moves_line rest 0 (record { enough = omega arith; few = omega arith }) none))
 
 -- ---- entries one after another
 
@@ -189,7 +216,8 @@ module _ (k count : ℕ) (few_k : k < 2 ^ 64) (es : List Entry) (fit : AllByRecu
           fit = all_append (EntryFits k) es (is.0 ∷ left) fit (is.1, left-fits);
           counted = let sum = length-append es (is.0 ∷ left) in let others = left-length in omega (arith, sum, others, fewer);
         },
-        ap (λ (m : List (List ℕ)). flat_map entry_lines es ++ (m ++ flat_map entry_lines left)) is.2 ∙ sym (flat_map-append entry_lines es (is.0 ∷ left)),
+        ap (λ (m : List (List ℕ)). flat_map entry_lines es ++ (m ++ flat_map entry_lines left)) is.2
+            ∙ sym (flat_map-append entry_lines es (is.0 ∷ left)),
       ),
     );
     parts = λ ls is.
@@ -202,21 +230,30 @@ module _ (k count : ℕ) (few_k : k < 2 ^ 64) (es : List Entry) (fit : AllByRecu
           more = flat_map entry_lines (drop (suc (length es)) all);
           lines =
               is.2
-              ∙ ap (flat_map entry_lines) (sym (take-append-drop (length es) all) ∙ ap (λ (l : List Entry). take (length es) all ++ l) (drop-cons all (length es) least_entry within))
+              ∙ ap (flat_map entry_lines)
+              (sym (take-append-drop (length es) all) ∙ ap (λ (l : List Entry). take (length es) all ++ l)
+              (drop-cons all (length es) least_entry within))
               ∙ flat_map-append entry_lines (take (length es) all) (get_or all (length es) least_entry ∷ drop (suc (length es)) all);
           free = entries-free k (take (length es) all) few_k (all_take (EntryFits k) (length es) all is.1.fit);
-          count = entries-length (take (length es) all) ∙ ap (λ n. 6 * n) (length-take-le (length es) all (omega (arith, within))) ∙ sym (entries-length es);
+          count = entries-length (take (length es) all) ∙ ap (λ n. 6 * n) (length-take-le (length es) all (omega (arith, within)))
+              ∙ sym (entries-length es);
           are = λ same. (get_or all (length es) least_entry, all_at (EntryFits k) all (length es) least_entry is.1.fit within, refl);
         };
   }
 
-  pub entry_fault : (bytes rest : List ℕ) (lines : ℕ) → lines ≡ 6 * length es → bytes ≡ text_of (flat_map entry_lines es) ++ rest → (error : HeadError) → IsSectionFault (IsEntryLines k) rest error → IsSectionFault (AreEntryLines k count) bytes (after_lines lines error)
-  entry_fault bytes rest lines is e error h = fault_after (flat_map entry_lines es) (IsEntryLines k) (AreEntryLines k count) entry_in_entries bytes rest lines (is ∙ sym (entries-length es)) e error h
+  pub entry_fault : (bytes rest : List ℕ) (lines : ℕ) → lines ≡ 6 * length es → bytes ≡ text_of (flat_map entry_lines es) ++ rest
+      → (error : HeadError) → IsSectionFault (IsEntryLines k) rest error
+      → IsSectionFault (AreEntryLines k count) bytes (after_lines lines error)
+  entry_fault bytes rest lines is e error h = fault_after (flat_map entry_lines es) (IsEntryLines k) (AreEntryLines k count)
+      entry_in_entries bytes rest lines (is ∙ sym (entries-length es)) e error h
 
-pub entries_fault : (k count number : ℕ) (es : List Entry) (bytes rest : List ℕ) (lines : ℕ) → k < 2 ^ 64 → AreRead k es number bytes rest → number < count → lines ≡ 6 * number → (error : HeadError) → IsSectionFault (IsEntryLines k) rest error → IsSectionFault (AreEntryLines k count) bytes (after_lines lines error)
+pub entries_fault : (k count number : ℕ) (es : List Entry) (bytes rest : List ℕ) (lines : ℕ) → k < 2 ^ 64 → AreRead k es number bytes rest
+    → number < count → lines ≡ 6 * number → (error : HeadError) → IsSectionFault (IsEntryLines k) rest error
+    → IsSectionFault (AreEntryLines k count) bytes (after_lines lines error)
 entries_fault k count number es bytes rest lines few_k read fewer is error h =
     let so_far = read.counted in
-    entry_fault k count few_k es read.fit (omega (arith, so_far, fewer)) bytes rest lines (is ∙ ap (λ n. 6 * n) (sym so_far)) read.text error h
+    entry_fault k count few_k es read.fit (omega (arith, so_far, fewer)) bytes rest lines (is ∙ ap (λ n. 6 * n) (sym so_far)) read.text
+    error h
 
 -- ---- entries behind their number
 
@@ -234,7 +271,8 @@ number_in_end k = record {
           replicate n least_entry,
           all_replicate (EntryFits k) n least_entry (least_entry-fits k),
           subst (IsBetween 1 MAX_ENTRIES) (sym count) is.1,
-          ap (λ (m : List (List ℕ)). m ++ flat_map entry_lines (replicate n least_entry)) is.2 ∙ ap (λ c. entries_line c ∷ flat_map entry_lines (replicate n least_entry)) (sym count),
+          ap (λ (m : List (List ℕ)). m ++ flat_map entry_lines (replicate n least_entry)) is.2
+              ∙ ap (λ c. entries_line c ∷ flat_map entry_lines (replicate n least_entry)) (sym count),
         ),
       );
   parts = λ ls is. record {
@@ -248,8 +286,10 @@ number_in_end k = record {
   };
 }
 
-pub no_entries_line : (k : ℕ) (bytes : List ℕ) → ReadsLine (IsBetween 1 MAX_ENTRIES) entries_line None bytes → LeavesAt (IsEndLines k) bytes 0
-no_entries_line k bytes none = leaves_after [] (IsLineOf (IsBetween 1 MAX_ENTRIES) entries_line) (IsEndLines k) (number_in_end k) bytes bytes 0 refl (leaves_first (IsBetween 1 MAX_ENTRIES) entries_line bytes 1 (record { enough = omega arith; few = omega arith }) none)
+pub no_entries_line : (k : ℕ) (bytes : List ℕ) → ReadsLine (IsBetween 1 MAX_ENTRIES) entries_line None bytes
+    → LeavesAt (IsEndLines k) bytes 0
+no_entries_line k bytes none = leaves_after [] (IsLineOf (IsBetween 1 MAX_ENTRIES) entries_line) (IsEndLines k) (number_in_end k) bytes
+    bytes 0 refl (leaves_first (IsBetween 1 MAX_ENTRIES) entries_line bytes 1 (record { enough = omega arith; few = omega arith }) none)
 
 module _ (k n : ℕ) (some : IsBetween 1 MAX_ENTRIES n) where
   entries_in_end : HasParts (entries_line n ∷ []) (AreEntryLines k n) (IsEndLines k)
@@ -261,7 +301,8 @@ module _ (k n : ℕ) (some : IsBetween 1 MAX_ENTRIES n) where
         is.0,
         is.1.fit,
         subst (IsBetween 1 MAX_ENTRIES) (sym is.1.counted) some,
-        ap (λ (m : List (List ℕ)). entries_line n ∷ m) (append-nil l ∙ is.2) ∙ ap (λ c. entries_line c ∷ flat_map entry_lines is.0) (sym is.1.counted),
+        ap (λ (m : List (List ℕ)). entries_line n ∷ m) (append-nil l ∙ is.2)
+            ∙ ap (λ c. entries_line c ∷ flat_map entry_lines is.0) (sym is.1.counted),
       ),
     );
     parts = λ ls is. record {
@@ -276,11 +317,17 @@ module _ (k n : ℕ) (some : IsBetween 1 MAX_ENTRIES n) where
           let most = is.2.few in
           let few = some.few in (
             is.0,
-            record { fit = is.1; counted = decimal_injective (length is.0) n (omega (arith, most)) (omega (arith, few)) (append_cancel_left (codes "entries ") (decimal (length is.0)) (decimal n) line) },
+            record {
+              fit = is.1;
+              counted = decimal_injective (length is.0) n (omega (arith, most)) (omega (arith, few))
+                  (append_cancel_left (codes "entries ") (decimal (length is.0)) (decimal n) line);
+            },
             refl,
           );
     };
   }
 
-  pub end_fault : (bytes rest : List ℕ) → bytes ≡ entries_line n ++ line_feed ∷ rest → (error : HeadError) → IsSectionFault (AreEntryLines k n) rest error → IsSectionFault (IsEndLines k) bytes (after_lines 1 error)
-  end_fault bytes rest e error h = fault_after (entries_line n ∷ []) (AreEntryLines k n) (IsEndLines k) entries_in_end bytes rest 1 refl (e ∙ text_of-push [] (entries_line n) rest) error h
+  pub end_fault : (bytes rest : List ℕ) → bytes ≡ entries_line n ++ line_feed ∷ rest → (error : HeadError)
+      → IsSectionFault (AreEntryLines k n) rest error → IsSectionFault (IsEndLines k) bytes (after_lines 1 error)
+  end_fault bytes rest e error h = fault_after (entries_line n ∷ []) (AreEntryLines k n) (IsEndLines k) entries_in_end bytes rest 1 refl
+      (e ∙ text_of-push [] (entries_line n) rest) error h

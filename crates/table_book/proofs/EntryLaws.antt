@@ -1,5 +1,6 @@
 -- The lines of entries: they have no line feed, and spell one entry.
-use Rattle.std.proofs.Common.{◌≡◌, ℕ, ◌+◌, ◌*◌, ◌^◌, ◌<◌, true, refl, sym, ap, ◌∙◌, arith, List, [], ◌∷◌, ◌++◌, append_assoc, length, take, get_or, codes}
+use Rattle.std.proofs.Common.{◌≡◌, ℕ, ◌+◌, ◌*◌, ◌^◌, ◌<◌, true, refl, sym, ap, ◌∙◌, arith, List, [], ◌∷◌, ◌++◌, append_assoc, length, take}
+use Rattle.std.proofs.Common.{get_or, codes}
 use Rattle.std.specs.List.{AllByRecursion, flat_map}
 use Rattle.std.specs.Fmt.{decimal}
 use Rattle.std.proofs.lemmas.Fmt.{decimal_injective}
@@ -35,11 +36,13 @@ moves_line-free k e fits = number-free (codes "moves ") e.moves refl (let most =
 pub entry-free : (k : ℕ) (e : Entry) → k < 2 ^ 64 → EntryFits k e → AreFree (entry_lines e)
 unfolding entry_lines
 entry-free k e few fits =
-    free_append (board_lines e.kind e.board) (moves_line e.moves ∷ root_line e.root ∷ []) (board-free e.kind e.board fits.board) (moves_line-free k e fits, (root_line-free k e.root few fits.root, tt))
+    free_append (board_lines e.kind e.board) (moves_line e.moves ∷ root_line e.root ∷ []) (board-free e.kind e.board fits.board)
+    (moves_line-free k e fits, (root_line-free k e.root few fits.root, tt))
 
 pub entries-free : (k : ℕ) (es : List Entry) → k < 2 ^ 64 → AllByRecursion (EntryFits k) es → AreFree (flat_map entry_lines es)
 entries-free k [] few all = tt
-entries-free k (e ∷ es) few all = free_append (entry_lines e) (flat_map entry_lines es) (entry-free k e few all.0) (entries-free k es few all.1)
+entries-free k (e ∷ es) few all = free_append (entry_lines e) (flat_map entry_lines es) (entry-free k e few all.0)
+    (entries-free k es few all.1)
 
 -- ---- how many lines there are
 
@@ -52,7 +55,8 @@ entries-length [] = refl
 entries-length (e ∷ es) =
     let one = entry-length e in
     let more = entries-length es in
-    let sum : length (entry_lines e ++ flat_map entry_lines es) ≡ length (entry_lines e) + length (flat_map entry_lines es) = length-append (entry_lines e) (flat_map entry_lines es) in
+    let sum : length (entry_lines e ++ flat_map entry_lines es) ≡ length (entry_lines e) + length (flat_map entry_lines es) =
+    length-append (entry_lines e) (flat_map entry_lines es) in
     sum ∙ omega (arith, one, more)
 
 -- ---- lines spell one entry
@@ -61,13 +65,18 @@ pub root_line-injective : (k m : ℕ) (r s : Root) → k < 2 ^ 64 → m < 2 ^ 64
 root_line-injective k m (Attack i) (Attack j) few few_m fits fit e =
     let low_i : i < k = fits in
     let low_j : j < m = fit in
-    ap Attack (decimal_injective i j (omega (arith, low_i, few)) (omega (arith, low_j, few_m)) (append_cancel_left (codes "root ") (decimal i) (decimal j) e))
-root_line-injective k m (Attack i) (Defend a) few few_m fits fit e = let letter : 114 ≡ 115 = ap (λ (l : List ℕ). get_or l 0 0) e in absurd (omega (arith, letter))
-root_line-injective k m (Defend a) (Attack i) few few_m fits fit e = let letter : 115 ≡ 114 = ap (λ (l : List ℕ). get_or l 0 0) e in absurd (omega (arith, letter))
+    ap Attack (decimal_injective i j (omega (arith, low_i, few)) (omega (arith, low_j, few_m))
+    (append_cancel_left (codes "root ") (decimal i) (decimal j) e))
+root_line-injective k m (Attack i) (Defend a) few few_m fits fit e = let letter : 114 ≡ 115 =
+    ap (λ (l : List ℕ). get_or l 0 0) e in absurd (omega (arith, letter))
+root_line-injective k m (Defend a) (Attack i) few few_m fits fit e = let letter : 115 ≡ 114 =
+    ap (λ (l : List ℕ). get_or l 0 0) e in absurd (omega (arith, letter))
 root_line-injective k m (Defend a) (Defend c) few few_m fits fit e =
-    ap Defend (answers_text-injective MAX_SIDE MAX_SIDE largest_side largest_side a c fits.answers fit.answers (append_cancel_left (codes "start ") (answers_text a) (answers_text c) e))
+    ap Defend (answers_text-injective MAX_SIDE MAX_SIDE largest_side largest_side a c fits.answers fit.answers
+    (append_cancel_left (codes "start ") (answers_text a) (answers_text c) e))
 
-pub entry_lines-injective : (k m : ℕ) (e f : Entry) → k < 2 ^ 64 → m < 2 ^ 64 → EntryFits k e → EntryFits m f → entry_lines e ≡ entry_lines f → e ≡ f
+pub entry_lines-injective : (k m : ℕ) (e f : Entry) → k < 2 ^ 64 → m < 2 ^ 64 → EntryFits k e → EntryFits m f
+    → entry_lines e ≡ entry_lines f → e ≡ f
 unfolding entry_lines board_lines
 entry_lines-injective k m e f few few_m fits fit same =
     let boards = board_lines-injective e.kind f.kind e.board f.board fits.board fit.board (ap (take 4) same) in
@@ -76,12 +85,14 @@ entry_lines-injective k m e f few few_m fits fit same =
     let most = fits.moves in
     let most_other = fit.moves in
     let line : moves_line e.moves ≡ moves_line f.moves = ap (λ (l : List (List ℕ)). get_or l 4 []) same in
-    let moves : e.moves ≡ f.moves = decimal_injective e.moves f.moves (omega (arith, most)) (omega (arith, most_other)) (append_cancel_left (codes "moves ") (decimal e.moves) (decimal f.moves) line) in
+    let moves : e.moves ≡ f.moves = decimal_injective e.moves f.moves (omega (arith, most)) (omega (arith, most_other))
+    (append_cancel_left (codes "moves ") (decimal e.moves) (decimal f.moves) line) in
     let last : root_line e.root ≡ root_line f.root = ap (λ (l : List (List ℕ)). get_or l 5 []) same in
     let root = root_line-injective k m e.root f.root few few_m fits.root fit.root last in
     λ i. record { kind = kind i; board = board i; root = root i; moves = moves i }
 
-pub entries-injective : (k m : ℕ) (es fs : List Entry) → k < 2 ^ 64 → m < 2 ^ 64 → AllByRecursion (EntryFits k) es → AllByRecursion (EntryFits m) fs → flat_map entry_lines es ≡ flat_map entry_lines fs → es ≡ fs
+pub entries-injective : (k m : ℕ) (es fs : List Entry) → k < 2 ^ 64 → m < 2 ^ 64 → AllByRecursion (EntryFits k) es
+    → AllByRecursion (EntryFits m) fs → flat_map entry_lines es ≡ flat_map entry_lines fs → es ≡ fs
 entries-injective k m [] [] few few_m all other same = refl
 entries-injective k m [] (f ∷ fs) few few_m all other same =
     let count : 0 ≡ 6 * length (f ∷ fs) = ap length same ∙ entries-length (f ∷ fs) in
@@ -90,24 +101,32 @@ entries-injective k m (e ∷ es) [] few few_m all other same =
     let count : 6 * length (e ∷ es) ≡ 0 = sym (entries-length (e ∷ es)) ∙ ap length same in
     absurd (omega (arith, count))
 entries-injective k m (e ∷ es) (f ∷ fs) few few_m all other same =
-    let parts = same_parts (entry_lines e) (flat_map entry_lines es) (entry_lines f) (flat_map entry_lines fs) (entry-length e ∙ sym (entry-length f)) same in
-    ap (λ (x : Entry). x ∷ es) (entry_lines-injective k m e f few few_m all.0 other.0 parts.0) ∙ ap (λ (l : List Entry). f ∷ l) (entries-injective k m es fs few few_m all.1 other.1 parts.1)
+    let parts = same_parts (entry_lines e) (flat_map entry_lines es) (entry_lines f) (flat_map entry_lines fs)
+    (entry-length e ∙ sym (entry-length f)) same in
+    ap (λ (x : Entry). x ∷ es) (entry_lines-injective k m e f few few_m all.0 other.0 parts.0)
+    ∙ ap (λ (l : List Entry). f ∷ l) (entries-injective k m es fs few few_m all.1 other.1 parts.1)
 
 -- ---- texts of entries that are put together
 
-pub entry_text : (e : Entry) (bytes r1 r2 rest : List ℕ) → bytes ≡ text_of (board_lines e.kind e.board) ++ r1 → r1 ≡ moves_line e.moves ++ line_feed ∷ r2 → r2 ≡ ended (root_line e.root) ++ rest → bytes ≡ text_of (entry_lines e) ++ rest
+pub entry_text : (e : Entry) (bytes r1 r2 rest : List ℕ) → bytes ≡ text_of (board_lines e.kind e.board) ++ r1
+    → r1 ≡ moves_line e.moves ++ line_feed ∷ r2 → r2 ≡ ended (root_line e.root) ++ rest → bytes ≡ text_of (entry_lines e) ++ rest
 unfolding entry_lines
 entry_text e bytes r1 r2 rest e1 e2 e3 =
-    let last : r2 ≡ text_of (root_line e.root ∷ []) ++ rest = e3 ∙ append_assoc (root_line e.root) (line_feed ∷ []) rest ∙ text_of-cons (root_line e.root) [] rest in
+    let last : r2 ≡ text_of (root_line e.root ∷ []) ++ rest =
+    e3 ∙ append_assoc (root_line e.root) (line_feed ∷ []) rest ∙ text_of-cons (root_line e.root) [] rest in
     let two : r1 ≡ text_of (moves_line e.moves ∷ root_line e.root ∷ []) ++ rest =
     e2 ∙ ap (λ (l : List ℕ). moves_line e.moves ++ line_feed ∷ l) last ∙ text_of-cons (moves_line e.moves) (root_line e.root ∷ []) rest in
-    e1 ∙ ap (λ (l : List ℕ). text_of (board_lines e.kind e.board) ++ l) two ∙ sym (text_of-append (board_lines e.kind e.board) (moves_line e.moves ∷ root_line e.root ∷ []) rest)
+    e1 ∙ ap (λ (l : List ℕ). text_of (board_lines e.kind e.board) ++ l) two
+    ∙ sym (text_of-append (board_lines e.kind e.board) (moves_line e.moves ∷ root_line e.root ∷ []) rest)
 
 -- one more entry
 pub entries_lines-push : (es : List Entry) (e : Entry) → flat_map entry_lines (es ++ e ∷ []) ≡ flat_map entry_lines es ++ entry_lines e
-entries_lines-push es e = flat_map-append entry_lines es (e ∷ []) ∙ ap (λ (l : List (List ℕ)). flat_map entry_lines es ++ l) (append-nil (entry_lines e))
+entries_lines-push es e = flat_map-append entry_lines es (e ∷ [])
+    ∙ ap (λ (l : List (List ℕ)). flat_map entry_lines es ++ l) (append-nil (entry_lines e))
 
-pub entries_text-push : (es : List Entry) (e : Entry) (bytes rest after : List ℕ) → bytes ≡ text_of (flat_map entry_lines es) ++ rest → rest ≡ text_of (entry_lines e) ++ after → bytes ≡ text_of (flat_map entry_lines (es ++ e ∷ [])) ++ after
+pub entries_text-push : (es : List Entry) (e : Entry) (bytes rest after : List ℕ) → bytes ≡ text_of (flat_map entry_lines es) ++ rest
+    → rest ≡ text_of (entry_lines e) ++ after → bytes ≡ text_of (flat_map entry_lines (es ++ e ∷ [])) ++ after
 entries_text-push es e bytes rest after so_far next =
-    so_far ∙ ap (λ (l : List ℕ). text_of (flat_map entry_lines es) ++ l) next ∙ sym (text_of-append (flat_map entry_lines es) (entry_lines e) after)
+    so_far ∙ ap (λ (l : List ℕ). text_of (flat_map entry_lines es) ++ l) next
+    ∙ sym (text_of-append (flat_map entry_lines es) (entry_lines e) after)
     ∙ ap (λ (l : List (List ℕ)). text_of l ++ after) (sym (entries_lines-push es e))

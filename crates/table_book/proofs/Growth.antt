@@ -13,17 +13,23 @@ use Rattle.table_book.specs.Books.{book_lines, book_text, entries_line, entry_li
 use Rattle.table_book.proofs.EntryLaws.{entries_lines-push}
 
 -- the lines of an entry
-pub entry_grown : (e : Entry) (old t1 t2 t3 : List ℕ) → t1 ≡ old ++ text_of (board_lines e.kind e.board) → t2 ≡ t1 ++ ended (moves_line e.moves) → t3 ≡ t2 ++ ended (root_line e.root) → t3 ≡ old ++ text_of (entry_lines e)
+pub entry_grown : (e : Entry) (old t1 t2 t3 : List ℕ) → t1 ≡ old ++ text_of (board_lines e.kind e.board)
+    → t2 ≡ t1 ++ ended (moves_line e.moves) → t3 ≡ t2 ++ ended (root_line e.root) → t3 ≡ old ++ text_of (entry_lines e)
 unfolding entry_lines board_lines
 entry_grown e old t1 t2 t3 e1 e2 e3 =
     let two : t2 ≡ old ++ text_of (board_lines e.kind e.board ++ moves_line e.moves ∷ []) =
-    e2 ∙ ap (λ (l : List ℕ). l ++ ended (moves_line e.moves)) e1 ∙ flat_map_more ended old (board_lines e.kind e.board) (moves_line e.moves) in
-    e3 ∙ ap (λ (l : List ℕ). l ++ ended (root_line e.root)) two ∙ flat_map_more ended old (board_lines e.kind e.board ++ moves_line e.moves ∷ []) (root_line e.root)
+    e2 ∙ ap (λ (l : List ℕ). l ++ ended (moves_line e.moves)) e1
+    ∙ flat_map_more ended old (board_lines e.kind e.board) (moves_line e.moves) in
+    e3 ∙ ap (λ (l : List ℕ). l ++ ended (root_line e.root)) two
+    ∙ flat_map_more ended old (board_lines e.kind e.board ++ moves_line e.moves ∷ []) (root_line e.root)
 
 -- one more entry
-pub entries_grown : (old before after : List ℕ) (es : List Entry) (i : ℕ) (e : Entry) → before ≡ old ++ text_of (flat_map entry_lines (take i es)) → slice_get es i ≡ Some e → after ≡ before ++ text_of (entry_lines e) → after ≡ old ++ text_of (flat_map entry_lines (take (i + 1) es))
+pub entries_grown : (old before after : List ℕ) (es : List Entry) (i : ℕ) (e : Entry)
+    → before ≡ old ++ text_of (flat_map entry_lines (take i es)) → slice_get es i ≡ Some e → after ≡ before ++ text_of (entry_lines e)
+    → after ≡ old ++ text_of (flat_map entry_lines (take (i + 1) es))
 entries_grown old before after es i e so_far at is =
-    let more : take (i + 1) es ≡ take i es ++ e ∷ [] = take_more es i e (slice_get_within es i e at) ∙ ap (λ (x : Entry). take i es ++ x ∷ []) (get_or_from_slice_get es i e e at) in
+    let more : take (i + 1) es ≡ take i es ++ e ∷ [] =
+    take_more es i e (slice_get_within es i e at) ∙ ap (λ (x : Entry). take i es ++ x ∷ []) (get_or_from_slice_get es i e e at) in
     is ∙ ap (λ (l : List ℕ). l ++ text_of (entry_lines e)) so_far
     ∙ append_assoc old (text_of (flat_map entry_lines (take i es))) (text_of (entry_lines e))
     ∙ ap (λ (l : List ℕ). old ++ l) (sym (flat_map-append ended (flat_map entry_lines (take i es)) (entry_lines e)))
@@ -34,7 +40,9 @@ sections : (a b d : List ℕ) (m f : List ℕ) → (((ended a ++ ended b) ++ m) 
 sections a b d m f = simp append_assoc
 
 -- all of a book
-pub book_grown : (book : Book) (none t0 t1 t2 t3 t4 : List ℕ) → none ≡ [] → t0 ≡ none ++ ended first_line → t1 ≡ t0 ++ ended (nodes_line (length book.table)) → t2 ≡ t1 ++ text_of (map node_line book.table) → t3 ≡ t2 ++ ended (entries_line (length book.entries)) → t4 ≡ t3 ++ text_of (flat_map entry_lines book.entries) → t4 ≡ book_text book
+pub book_grown : (book : Book) (none t0 t1 t2 t3 t4 : List ℕ) → none ≡ [] → t0 ≡ none ++ ended first_line
+    → t1 ≡ t0 ++ ended (nodes_line (length book.table)) → t2 ≡ t1 ++ text_of (map node_line book.table)
+    → t3 ≡ t2 ++ ended (entries_line (length book.entries)) → t4 ≡ t3 ++ text_of (flat_map entry_lines book.entries) → t4 ≡ book_text book
 unfolding book_text book_lines
 book_grown book none t0 t1 t2 t3 t4 e e0 e1 e2 e3 e4 =
     let s0 : t0 ≡ ended first_line = e0 ∙ ap (λ (l : List ℕ). l ++ ended first_line) e in
@@ -42,5 +50,7 @@ book_grown book none t0 t1 t2 t3 t4 e e0 e1 e2 e3 e4 =
     let s2 = e2 ∙ ap (λ (l : List ℕ). l ++ text_of (map node_line book.table)) s1 in
     let s3 = e3 ∙ ap (λ (l : List ℕ). l ++ ended (entries_line (length book.entries))) s2 in
     e4 ∙ ap (λ (l : List ℕ). l ++ text_of (flat_map entry_lines book.entries)) s3
-    ∙ sections first_line (nodes_line (length book.table)) (entries_line (length book.entries)) (text_of (map node_line book.table)) (text_of (flat_map entry_lines book.entries))
-    ∙ ap (λ (l : List ℕ). ended first_line ++ (ended (nodes_line (length book.table)) ++ l)) (sym (flat_map-append ended (map node_line book.table) (entries_line (length book.entries) ∷ flat_map entry_lines book.entries)))
+    ∙ sections first_line (nodes_line (length book.table)) (entries_line (length book.entries)) (text_of (map node_line book.table))
+    (text_of (flat_map entry_lines book.entries))
+    ∙ ap (λ (l : List ℕ). ended first_line ++ (ended (nodes_line (length book.table)) ++ l))
+    (sym (flat_map-append ended (map node_line book.table) (entries_line (length book.entries) ∷ flat_map entry_lines book.entries)))

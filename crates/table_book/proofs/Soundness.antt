@@ -23,7 +23,8 @@ root_fits-below k (Attack i) fits = lt-ltb i k fits
 root_fits-below k (Defend a) fits = fits.below
 
 -- the entry at a place is the first at which P fails, where P holds of those before it
-pub earliest_at : (P : Entry → Type 0) (es : List Entry) (i n : ℕ) (e : Entry) → n ≡ i + 1 → slice_get es i ≡ Some e → AllByRecursion P (take i es) → IsEarliest P es n e
+pub earliest_at : (P : Entry → Type 0) (es : List Entry) (i n : ℕ) (e : Entry) → n ≡ i + 1 → slice_get es i ≡ Some e
+    → AllByRecursion P (take i es) → IsEarliest P es n e
 earliest_at P es i n e next at before =
     let place : i ≡ n - 1 = omega (arith, next) in
     record {
@@ -32,18 +33,26 @@ earliest_at P es i n e next at before =
       before = subst (λ m. AllByRecursion P (take m es)) place before;
     }
 
-pub unsound_at : (t : List Node) (es : List Entry) (i number : ℕ) (e : Entry) → number ≡ i + 1 → slice_get es i ≡ Some e → AllByRecursion (IsSound t) (take i es) → (error : BookError) → IsEntryFault t e number error → IsUnsound t es error
+pub unsound_at : (t : List Node) (es : List Entry) (i number : ℕ) (e : Entry) → number ≡ i + 1 → slice_get es i ≡ Some e
+    → AllByRecursion (IsSound t) (take i es) → (error : BookError) → IsEntryFault t e number error → IsUnsound t es error
 unsound_at t es i number e next at before (BadLine n) h = h
-unsound_at t es i number e next at before (Unlawful n why) h = record { entry = e; earliest = earliest_at (IsSound t) es i n e (h.0 ∙ next) at before; unlawful = h.1 }
-unsound_at t es i number e next at before (WrongMoves n written counted) h = record { entry = e; earliest = earliest_at (IsSound t) es i n e (h.0 ∙ next) at before; miscounted = h.1 }
+unsound_at t es i number e next at before (Unlawful n why) h =
+    record { entry = e; earliest = earliest_at (IsSound t) es i n e (h.0 ∙ next) at before; unlawful = h.1 }
+unsound_at t es i number e next at before (WrongMoves n written counted) h =
+    record { entry = e; earliest = earliest_at (IsSound t) es i n e (h.0 ∙ next) at before; miscounted = h.1 }
 unsound_at t es i number e next at before Memory h = tt
 
 -- what is said of the entries of a book is said of its text
-pub unsound_fault : (book : Book) (bytes : List ℕ) → IsTextOfBook book bytes → (error : BookError) → IsUnsound book.table book.entries error → IsBookFault bytes error
+pub unsound_fault : (book : Book) (bytes : List ℕ) → IsTextOfBook book bytes → (error : BookError) → IsUnsound book.table book.entries error
+    → IsBookFault bytes error
 unsound_fault book bytes text (BadLine n) h = absurd h
-unsound_fault book bytes text (Unlawful n why) h = ((book, text), λ other is. subst (λ (b : Book). IsUnlawfulAt b.table b.entries n why) (sym (one_book book other bytes text is)) h)
-unsound_fault book bytes text (WrongMoves n written counted) h =
-    ((book, text), λ other is. subst (λ (b : Book). IsMiscountedAt b.table b.entries n written counted) (sym (one_book book other bytes text is)) h)
+unsound_fault book bytes text (Unlawful n why) h =
+    ((book, text), λ other is. subst (λ (b : Book). IsUnlawfulAt b.table b.entries n why) (sym (one_book book other bytes text is)) h)
+unsound_fault book bytes text (WrongMoves n written counted) h = (
+  (book, text),
+  λ other is. subst (λ (b : Book). IsMiscountedAt b.table b.entries n written counted)
+      (sym (one_book book other bytes text is)) h,
+)
 unsound_fault book bytes text Memory h = tt
 
 -- ---- nothing is said against a book that is well formed
@@ -51,7 +60,8 @@ unsound_fault book bytes text Memory h = tt
 sound_there : (book : Book) (n : ℕ) (e : Entry) → IsWellFormed book → slice_get book.entries (n - 1) ≡ Some e → IsSound book.table e
 sound_there book n e well at = all_get (IsSound book.table) book.entries (n - 1) e at well.entries
 
-no_book_fault : (book : Book) (bytes : List ℕ) → IsTextOfBook book bytes → IsWellFormed book → (error : BookError) → IsBookFault bytes error → error ≡ Memory
+no_book_fault : (book : Book) (bytes : List ℕ) → IsTextOfBook book bytes → IsWellFormed book → (error : BookError) → IsBookFault bytes error
+    → error ≡ Memory
 no_book_fault book bytes text well (BadLine n) h = absurd (h.no_further bytes (book, text) refl)
 no_book_fault book bytes text well (Unlawful n why) h =
     let at = h.1 book text in

@@ -52,7 +52,8 @@ entry_lines e = board_lines e.kind e.board ++ moves_line e.moves ∷ root_line e
 -- the lines of a book: its nodes after their number, and its entries after theirs
 unfoldable pub book_lines : Book → List (List ℕ)
 book_lines book =
-    first_line ∷ nodes_line (length book.table) ∷ map node_line book.table ++ entries_line (length book.entries) ∷ flat_map entry_lines book.entries
+    first_line ∷ nodes_line (length book.table) ∷ map node_line book.table
+    ++ entries_line (length book.entries) ∷ flat_map entry_lines book.entries
 
 -- the text of a book
 unfoldable pub book_text : Book → List ℕ

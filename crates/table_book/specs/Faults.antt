@@ -63,7 +63,8 @@ IsUnsound t es Memory = Unit {0}
 -- and which of its entries is the first that is not sound, and why; or that there is no memory.
 abbrev pub IsBookFault : List ℕ → BookError → Type 0
 IsBookFault bytes (BadLine n) = FirstBad IsBookText bytes n
-IsBookFault bytes (Unlawful n why) = IsBookText bytes × ((book : Book) → IsTextOfBook book bytes → IsUnlawfulAt book.table book.entries n why)
+IsBookFault bytes (Unlawful n why) = IsBookText bytes
+    × ((book : Book) → IsTextOfBook book bytes → IsUnlawfulAt book.table book.entries n why)
 IsBookFault bytes (WrongMoves n written counted) =
     IsBookText bytes × ((book : Book) → IsTextOfBook book bytes → IsMiscountedAt book.table book.entries n written counted)
 IsBookFault bytes Memory = Unit {0}

@@ -27,7 +27,8 @@ AreEntryLines k count ls = (es : List Entry) × AreEntries k count es × (ls ≡
 -- the lines are those of a number of entries, and of the entries
 abbrev pub IsEndLines : ℕ → List (List ℕ) → Type 0
 IsEndLines k ls =
-    (es : List Entry) × AllByRecursion (EntryFits k) es × IsBetween 1 MAX_ENTRIES (length es) × (ls ≡ entries_line (length es) ∷ flat_map entry_lines es)
+    (es : List Entry) × AllByRecursion (EntryFits k) es × IsBetween 1 MAX_ENTRIES (length es)
+    × (ls ≡ entries_line (length es) ∷ flat_map entry_lines es)
 
 -- the lines of a book from its nodes on
 abbrev pub rest_lines : Book → List (List ℕ)

@@ -1,5 +1,7 @@
 -- Words and the separators between them.
-use Rattle.std.proofs.Common.{◌≡◌, ℕ, suc, ◌+◌, ◌<◌, ◌≤◌, Bool, true, false, cond, not, ◌&&◌, refl, sym, ap, ◌∙◌, arith, List, [], ◌∷◌, ◌++◌, length, take, drop, eqb, get_or, nat_lt, nat_eq, Bor, take-append-drop, drop-cons, length-drop, ◌-◌, Option, Some, None, option_copied}
+use Rattle.std.proofs.Common.{◌≡◌, ℕ, suc, ◌+◌, ◌<◌, ◌≤◌, Bool, true, false, cond, not, ◌&&◌, refl, sym, ap, ◌∙◌, arith, List, [], ◌∷◌}
+use Rattle.std.proofs.Common.{◌++◌, length, take, drop, eqb, get_or, nat_lt, nat_eq, Bor, take-append-drop, drop-cons, length-drop, ◌-◌}
+use Rattle.std.proofs.Common.{Option, Some, None, option_copied}
 use Rattle.std.specs.Option.{MatchOption}
 use Rattle.std.specs.Bool.{Decides}
 use Rattle.std.specs.Cmp.Lexicographic.{pointwise}
@@ -15,7 +17,8 @@ use Rattle.std.proofs.Math.Seq.{take-length}
 use Rattle.game_rules.proofs.Boards.{and_right}
 use Rattle.text_lines.specs.Reading.{Reads, is_free, tail_text}
 
-prefix_all_by : (test : ℕ → Bool) (x : ℕ) (xs : List ℕ) (r : Bool) → test x ≡ r → list_all test (take (prefix_len test xs) xs) ≡ true → list_all test (take (cond r (1 + prefix_len test xs) 0) (x ∷ xs)) ≡ true
+prefix_all_by : (test : ℕ → Bool) (x : ℕ) (xs : List ℕ) (r : Bool) → test x ≡ r → list_all test (take (prefix_len test xs) xs) ≡ true
+    → list_all test (take (cond r (1 + prefix_len test xs) 0) (x ∷ xs)) ≡ true
 prefix_all_by test x xs true e rest =
     let one : 1 + prefix_len test xs ≡ suc (prefix_len test xs) = omega arith in
     rw (one, e) rest
@@ -53,7 +56,8 @@ free_all s xs h =
     ap (list_all test) (sym all) ∙ all_in_prefix test xs
 
 -- the bytes are those before the separator, it, and those after it
-pub parts_at : (s i : ℕ) (xs : List ℕ) → position (λ b. eqb b s) xs ≡ Some i → xs ≡ take i xs ++ s ∷ take (length xs - (i + 1)) (drop (i + 1) xs)
+pub parts_at : (s i : ℕ) (xs : List ℕ) → position (λ b. eqb b s) xs ≡ Some i
+    → xs ≡ take i xs ++ s ∷ take (length xs - (i + 1)) (drop (i + 1) xs)
 parts_at s i xs h =
     let at = position-Some (λ b. eqb b s) xs i 0 h in
     let same : get_or xs i 0 ≡ s = eqb-true _ _ at.1 in
@@ -81,7 +85,8 @@ empty_word s b c None ne h = cc
 empty_word s b c (Some r) ne h = ne (let e : s ≡ b = cc in sym e)
 
 -- where the words are free of the separator, bytes have one first word, and one tail after it
-pub same_word : (s : ℕ) (a : List ℕ) (x : Option (List ℕ)) (c : List ℕ) (y : Option (List ℕ)) → is_free s a ≡ true → is_free s c ≡ true → a ++ tail_text s x ≡ c ++ tail_text s y → (a ≡ c) × (x ≡ y)
+pub same_word : (s : ℕ) (a : List ℕ) (x : Option (List ℕ)) (c : List ℕ) (y : Option (List ℕ)) → is_free s a ≡ true → is_free s c ≡ true
+    → a ++ tail_text s x ≡ c ++ tail_text s y → (a ≡ c) × (x ≡ y)
 same_word s [] x [] y fa fc h = (refl, tails_same s x y h)
 same_word s [] x (b ∷ c) y fa fc h = absurd (empty_word s b (c ++ tail_text s y) x (test_not b s (is_free s c) fc) h)
 same_word s (b ∷ a) x [] y fa fc h = absurd (empty_word s b (a ++ tail_text s x) y (test_not b s (is_free s a) fa) (sym h))
@@ -97,12 +102,16 @@ is_free-append s a b fa fb = list_all-append (λ c. not (eqb c s)) a b ∙ rw (f
 -- ---- texts that bytes begin with
 
 pub after_reads : (text bytes : List ℕ) (r : Option (Bor (List ℕ)))
-    → MatchOption r (pointwise nat_eq (take (length text) bytes) text ≡ false) (λ x. (pointwise nat_eq (take (length text) bytes) text ≡ true) × (x.now ≡ drop (length text) bytes) × (length x.now + length text ≡ length bytes))
+    → MatchOption r (pointwise nat_eq (take (length text) bytes) text ≡ false)
+    (λ x. (pointwise nat_eq (take (length text) bytes) text ≡ true) × (x.now ≡ drop (length text) bytes)
+    × (length x.now + length text ≡ length bytes))
     → Reads (λ _. Unit {0}) (λ rest. text ++ rest) (option_copied r) bytes
 after_reads text bytes None h = λ rest fits e.
-    let same : Decides (pointwise nat_eq (take (length text) bytes) text) (take (length text) bytes ≡ text) = slice_eq-Decides Decides-eqb _ _ _ refl in
+    let same : Decides (pointwise nat_eq (take (length text) bytes) text) (take (length text) bytes ≡ text) =
+    slice_eq-Decides Decides-eqb _ _ _ refl in
     let front : take (length text) bytes ≡ text = ap (take (length text)) e ∙ take_at text rest (length text) refl in
     false≢true (sym h ∙ same.1 front)
 after_reads text bytes (Some x) h =
-    let same : Decides (pointwise nat_eq (take (length text) bytes) text) (take (length text) bytes ≡ text) = slice_eq-Decides Decides-eqb _ _ _ refl in
+    let same : Decides (pointwise nat_eq (take (length text) bytes) text) (take (length text) bytes ≡ text) =
+    slice_eq-Decides Decides-eqb _ _ _ refl in
     (tt, sym (take-append-drop (length text) bytes) ∙ rw (h.1, same.0 h.0) refl)

@@ -1,11 +1,13 @@
 -- Decimal numbers.
-use Rattle.std.proofs.Common.{◌≡◌, ℕ, ◌+◌, ◌*◌, ◌-◌, ◌^◌, ◌<◌, ◌≤◌, refl, sym, ap, subst, ◌∙◌, arith, List, [], ◌∷◌, length, take, get_or, nat_lt, eqb, not, true, false, inl, inr}
+use Rattle.std.proofs.Common.{◌≡◌, ℕ, ◌+◌, ◌*◌, ◌-◌, ◌^◌, ◌<◌, ◌≤◌, refl, sym, ap, subst, ◌∙◌, arith, List, [], ◌∷◌, length, take, get_or}
+use Rattle.std.proofs.Common.{nat_lt, eqb, not, true, false, inl, inr}
 use Rattle.std.specs.Char.{digit_value, IsNotAsciiDigit}
 use Rattle.std.specs.Fmt.{decimal}
 use Rattle.std.specs.Str.Parse.{AllDigits, digits_value}
 use Rattle.std.proofs.lemmas.Bool.{cases_eq, le-ltb, lt-ltb, ne_eqb}
 use Rattle.std.proofs.Math.Seq.{take-length}
-use Rattle.std.proofs.lemmas.Fmt.{decimal_digit, decimal_nonempty, first_decimal, decimal-digits_value, digits_decimal, digits_value-decimal}
+use Rattle.std.proofs.lemmas.Fmt.{decimal_digit, decimal_nonempty, first_decimal, decimal-digits_value, digits_decimal}
+use Rattle.std.proofs.lemmas.Fmt.{digits_value-decimal}
 use Rattle.std.proofs.lemmas.Int.Digits.{digits_value_more, digits_more}
 use Rattle.std.proofs.lemmas.Str.Parse.{IsNumeralModel, numerals_by_value, tells_digits, digit_at, digit_from_value, digits_value-take-le}
 use Rattle.text_lines.specs.Reading.{IsPlain, is_free}
@@ -26,7 +28,8 @@ decimal_plain n fits = record {
 pub plain_if_spelled : (bytes : List ℕ) (n : ℕ) → n < 2 ^ 64 → bytes ≡ decimal n → IsPlain bytes
 plain_if_spelled bytes n few e = subst IsPlain (sym e) (decimal_plain n (omega arith))
 
-pub digits_if_spelled : (bytes : List ℕ) (n i : ℕ) → n < 2 ^ 64 → bytes ≡ decimal n → i < length bytes → (48 ≤ get_or bytes i 0) × (get_or bytes i 0 ≤ 57)
+pub digits_if_spelled : (bytes : List ℕ) (n i : ℕ) → n < 2 ^ 64 → bytes ≡ decimal n → i < length bytes
+    → (48 ≤ get_or bytes i 0) × (get_or bytes i 0 ≤ 57)
 digits_if_spelled bytes n i few e within =
     let all : AllDigits 10 bytes = subst (AllDigits 10) (sym e) (digits_decimal own n (omega arith)) in
     digit_at bytes i all within
@@ -37,7 +40,8 @@ value_if_spelled bytes n i few e =
     let part = digits_value-take-le 10 bytes i (omega arith) in
     omega (arith, value, part)
 
-pub spelled_by_digits : (bytes : List ℕ) (n : ℕ) → IsPlain bytes → AllDigits 10 bytes → n ≡ digits_value 10 bytes → n < 2 ^ 64 → bytes ≡ decimal n
+pub spelled_by_digits : (bytes : List ℕ) (n : ℕ) → IsPlain bytes → AllDigits 10 bytes → n ≡ digits_value 10 bytes → n < 2 ^ 64
+    → bytes ≡ decimal n
 spelled_by_digits bytes n plain all e few =
     let back : decimal (digits_value 10 bytes) ≡ bytes = decimal-digits_value own bytes all plain.some plain.plain (omega arith) in
     sym back ∙ ap decimal (sym e)
@@ -57,7 +61,9 @@ digit_is b low high =
     let below : nat_lt b 58 ≡ true = lt-ltb b 58 (omega arith) in
     rw (above, below) refl
 
-pub number_more : (bytes : List ℕ) (i n most : ℕ) → i < length bytes → 48 ≤ get_or bytes i 0 → get_or bytes i 0 ≤ 57 → IsNumberOf (take i bytes) n most → n * 10 + (get_or bytes i 0 - 48) ≤ most → IsNumberOf (take (i + 1) bytes) (n * 10 + (get_or bytes i 0 - 48)) most
+pub number_more : (bytes : List ℕ) (i n most : ℕ) → i < length bytes → 48 ≤ get_or bytes i 0 → get_or bytes i 0 ≤ 57
+    → IsNumberOf (take i bytes) n most → n * 10 + (get_or bytes i 0 - 48) ≤ most
+    → IsNumberOf (take (i + 1) bytes) (n * 10 + (get_or bytes i 0 - 48)) most
 number_more bytes i n most within low high so_far few =
     let d = digit_is (get_or bytes i 0) low high in
     record {
@@ -67,12 +73,14 @@ number_more bytes i n most within low high so_far few =
     }
 
 -- bytes whose front is more than the number do not spell it
-pub too_much : (bytes : List ℕ) (i n v most : ℕ) → i < length bytes → 48 ≤ get_or bytes i 0 → get_or bytes i 0 ≤ 57 → IsNumberOf (take i bytes) n most → most < n * 10 + (get_or bytes i 0 - 48) → most < 2 ^ 64 → v ≤ most → bytes ≡ decimal v → ⊥
+pub too_much : (bytes : List ℕ) (i n v most : ℕ) → i < length bytes → 48 ≤ get_or bytes i 0 → get_or bytes i 0 ≤ 57
+    → IsNumberOf (take i bytes) n most → most < n * 10 + (get_or bytes i 0 - 48) → most < 2 ^ 64 → v ≤ most → bytes ≡ decimal v → ⊥
 too_much bytes i n v most within low high so_far over bound few e =
     let part = value_if_spelled bytes v (i + 1) (omega arith) e in
     omega (arith, digit_is (get_or bytes i 0) low high, digits_value_more 10 bytes i within, so_far.value, part)
 
-pub is_spelled : (bytes : List ℕ) (i n most : ℕ) → i ≡ length bytes → IsNumberOf (take i bytes) n most → IsPlain bytes → most < 2 ^ 64 → (n ≤ most) × (bytes ≡ decimal n)
+pub is_spelled : (bytes : List ℕ) (i n most : ℕ) → i ≡ length bytes → IsNumberOf (take i bytes) n most → IsPlain bytes → most < 2 ^ 64
+    → (n ≤ most) × (bytes ≡ decimal n)
 is_spelled bytes i n most end so_far plain bound =
     let whole : take i bytes ≡ bytes = rw end (take-length bytes) in
     let all : IsNumberOf bytes n most = subst (λ (l : List ℕ). IsNumberOf l n most) whole so_far in

@@ -5,7 +5,8 @@ use Rattle.text_lines.specs.declared.fault.Fault.TheVariants.{Bad, Memory}
 use Rattle.text_lines.specs.Reading.{Gives}
 
 -- a reader that answers Bad says that nothing is spelled so
-pub gives_bad : {X : Type 0} (Fits : X → Type 0) (spelling : X → List ℕ) (fault : Fault) (line : List ℕ) → fault ≡ Bad → Gives Fits spelling (Err fault) line → (x : X) → Fits x → line ≡ spelling x → ⊥
+pub gives_bad : {X : Type 0} (Fits : X → Type 0) (spelling : X → List ℕ) (fault : Fault) (line : List ℕ) → fault ≡ Bad
+    → Gives Fits spelling (Err fault) line → (x : X) → Fits x → line ≡ spelling x → ⊥
 gives_bad Fits spelling Bad line e h = h
 gives_bad Fits spelling Memory line e h = absurd cc
 

@@ -1,5 +1,6 @@
 -- The pieces of bytes that begin with lines.
-use Rattle.std.proofs.Common.{◌≡◌, ℕ, zero, suc, ◌+◌, ◌-◌, ◌≤◌, ◌<◌, Bool, true, false, cond, not, refl, sym, ap, subst, ◌∙◌, arith, List, [], ◌∷◌, ◌++◌, length, take, drop, map, eqb, take-append-drop, inl, inr}
+use Rattle.std.proofs.Common.{◌≡◌, ℕ, zero, suc, ◌+◌, ◌-◌, ◌≤◌, ◌<◌, Bool, true, false, cond, not, refl, sym, ap, subst, ◌∙◌, arith, List}
+use Rattle.std.proofs.Common.{[], ◌∷◌, ◌++◌, length, take, drop, map, eqb, take-append-drop, inl, inr}
 use Rattle.std.specs.List.{onto_first, concat}
 use Rattle.std.proofs.lemmas.Bool.{and_parts, not-true, cases_lt}
 use Rattle.std.proofs.lemmas.List.{append-nil, append_cancel_left, take-append-le, take-map, length-map, take_all}
@@ -18,7 +19,8 @@ line_piece (b ∷ l) s free =
 pub pieces-text : (ls : List (List ℕ)) (r : List ℕ) → AreFree ls → pieces (text_of ls ++ r) ≡ map ended ls ++ pieces r
 pieces-text [] r free = refl
 pieces-text (l ∷ ls) r free =
-    ap pieces (sym (text_of-cons l ls r)) ∙ line_piece l (text_of ls ++ r) free.0 ∙ ap (λ (ps : List (List ℕ)). ended l ∷ ps) (pieces-text ls r free.1)
+    ap pieces (sym (text_of-cons l ls r)) ∙ line_piece l (text_of ls ++ r) free.0
+    ∙ ap (λ (ps : List (List ℕ)). ended l ∷ ps) (pieces-text ls r free.1)
 
 -- ---- the pieces, joined, are the bytes
 
@@ -26,7 +28,8 @@ joined_first : (b : ℕ) (ps : List (List ℕ)) → concat (onto_first b ps) ≡
 joined_first b [] = refl
 joined_first b (p ∷ ps) = refl
 
-joined_by : (b : ℕ) (bytes : List ℕ) (ps : List (List ℕ)) → concat ps ≡ bytes → (r : Bool) → concat (cond r ((b ∷ []) ∷ ps) (onto_first b ps)) ≡ b ∷ bytes
+joined_by : (b : ℕ) (bytes : List ℕ) (ps : List (List ℕ)) → concat ps ≡ bytes → (r : Bool)
+    → concat (cond r ((b ∷ []) ∷ ps) (onto_first b ps)) ≡ b ∷ bytes
 joined_by b bytes ps h true = ap (λ (l : List ℕ). b ∷ l) h
 joined_by b bytes ps h false = joined_first b ps ∙ ap (λ (l : List ℕ). b ∷ l) h
 
@@ -39,7 +42,8 @@ joined-ended [] = refl
 joined-ended (l ∷ ls) = ap (λ (t : List ℕ). ended l ++ t) (joined-ended ls)
 
 -- the first piece is empty only at the end
-no_piece_by : (b m : ℕ) (l : List (List ℕ)) (ps : List (List ℕ)) → (t : Bool) → take (suc m) (cond t ((b ∷ []) ∷ ps) (onto_first b ps)) ≡ [] ∷ l → ⊥
+no_piece_by : (b m : ℕ) (l : List (List ℕ)) (ps : List (List ℕ)) → (t : Bool)
+    → take (suc m) (cond t ((b ∷ []) ∷ ps) (onto_first b ps)) ≡ [] ∷ l → ⊥
 no_piece_by b m l ps true e = cc
 no_piece_by b m l [] false e = cc
 no_piece_by b m l (p ∷ ps) false e = cc
@@ -59,11 +63,13 @@ pub record Begun (ls : List (List ℕ)) (bytes : List ℕ) (n : ℕ) : Type 0 wh
   pub is : bytes ≡ text_of (take n ls) ++ rest
   pub end : length ls < n → rest ≡ []
 
-begun_within : (ls : List (List ℕ)) (bytes : List ℕ) (n : ℕ) → AreFree ls → n ≤ length ls → take n (pieces (text_of ls)) ≡ take n (pieces bytes) → bytes ≡ text_of (take n ls) ++ concat (drop n (pieces bytes))
+begun_within : (ls : List (List ℕ)) (bytes : List ℕ) (n : ℕ) → AreFree ls → n ≤ length ls
+    → take n (pieces (text_of ls)) ≡ take n (pieces bytes) → bytes ≡ text_of (take n ls) ++ concat (drop n (pieces bytes))
 begun_within ls bytes n free few e =
     let count = length-map ls ended in
     let front : take n (pieces bytes) ≡ map ended (take n ls) =
-    sym e ∙ ap (take n) (whole_pieces ls free) ∙ take-append-le n (map ended ls) ([] ∷ []) (omega (arith, few, count)) ∙ take-map ended n ls in
+    sym e ∙ ap (take n) (whole_pieces ls free) ∙ take-append-le n (map ended ls) ([] ∷ []) (omega (arith, few, count))
+    ∙ take-map ended n ls in
     sym (joined bytes) ∙ ap concat (sym (take-append-drop n (pieces bytes))) ∙ concat-append (take n (pieces bytes)) (drop n (pieces bytes))
     ∙ ap (λ (l : List ℕ). l ++ concat (drop n (pieces bytes))) (ap concat front ∙ joined-ended (take n ls))
 
@@ -72,26 +78,34 @@ take_fewer n m xs ys e = sym (take_take n m xs) ∙ ap (take n) e ∙ take_take 
   take_take : {X : Type 0} (n m : ℕ) (xs : List X) → take n (take (n + m) xs) ≡ take n xs
   take_take {X} zero m xs = refl
   take_take {X} (suc n) m [] = let one : suc n + m ≡ suc (n + m) = omega arith in rw one refl
-  take_take {X} (suc n) m (x ∷ xs) = let one : suc n + m ≡ suc (n + m) = omega arith in rw one (ap (λ (l : List X). x ∷ l) (take_take n m xs))
+  take_take {X} (suc n) m (x ∷ xs) = let one : suc n + m ≡ suc (n + m) =
+      omega arith in rw one (ap (λ (l : List X). x ∷ l) (take_take n m xs))
 
-begun_past : (ls : List (List ℕ)) (bytes : List ℕ) (m : ℕ) → AreFree ls → take (length ls + suc m) (pieces (text_of ls)) ≡ take (length ls + suc m) (pieces bytes) → bytes ≡ text_of ls
+begun_past : (ls : List (List ℕ)) (bytes : List ℕ) (m : ℕ) → AreFree ls
+    → take (length ls + suc m) (pieces (text_of ls)) ≡ take (length ls + suc m) (pieces bytes) → bytes ≡ text_of ls
 begun_past ls bytes m free e =
     let rest : List ℕ = concat (drop (length ls) (pieces bytes)) in
     let front : bytes ≡ text_of ls ++ rest =
-    begun_within ls bytes (length ls) free (omega arith) (take_fewer (length ls) (suc m) (pieces (text_of ls)) (pieces bytes) e) ∙ ap (λ (l : List (List ℕ)). text_of l ++ rest) (take-length ls) in
+    begun_within ls bytes (length ls) free (omega arith) (take_fewer (length ls) (suc m) (pieces (text_of ls)) (pieces bytes) e)
+    ∙ ap (λ (l : List (List ℕ)). text_of l ++ rest) (take-length ls) in
     let count : length (map ended ls) ≡ length ls = length-map ls ended in
     let here : map ended ls ++ take (suc m) ([] ∷ []) ≡ map ended ls ++ take (suc m) (pieces rest) =
-    sym (take-append-add (map ended ls) ([] ∷ []) (suc m)) ∙ ap (λ n. take (n + suc m) (map ended ls ++ [] ∷ [])) count ∙ ap (take (length ls + suc m)) (sym (whole_pieces ls free)) ∙ e
-    ∙ ap (take (length ls + suc m)) (ap pieces front ∙ pieces-text ls rest free) ∙ ap (λ n. take (n + suc m) (map ended ls ++ pieces rest)) (sym count) ∙ take-append-add (map ended ls) (pieces rest) (suc m) in
-    let none : rest ≡ [] = no_piece rest m (take m []) (sym (append_cancel_left (map ended ls) (take (suc m) ([] ∷ [])) (take (suc m) (pieces rest)) here)) in
+    sym (take-append-add (map ended ls) ([] ∷ []) (suc m)) ∙ ap (λ n. take (n + suc m) (map ended ls ++ [] ∷ [])) count
+    ∙ ap (take (length ls + suc m)) (sym (whole_pieces ls free)) ∙ e
+    ∙ ap (take (length ls + suc m)) (ap pieces front ∙ pieces-text ls rest free)
+    ∙ ap (λ n. take (n + suc m) (map ended ls ++ pieces rest)) (sym count) ∙ take-append-add (map ended ls) (pieces rest) (suc m) in
+    let none : rest ≡ [] = no_piece rest m (take m [])
+    (sym (append_cancel_left (map ended ls) (take (suc m) ([] ∷ [])) (take (suc m) (pieces rest)) here)) in
     front ∙ ap (λ (l : List ℕ). text_of ls ++ l) none ∙ append-nil (text_of ls)
 
-pub begun : (ls : List (List ℕ)) (bytes : List ℕ) (n : ℕ) → AreFree ls → take n (pieces (text_of ls)) ≡ take n (pieces bytes) → Begun ls bytes n
+pub begun : (ls : List (List ℕ)) (bytes : List ℕ) (n : ℕ) → AreFree ls → take n (pieces (text_of ls)) ≡ take n (pieces bytes)
+    → Begun ls bytes n
 begun ls bytes n free e = elim (cases_lt (length ls) n) [
   | inr few ↦ record { rest = concat (drop n (pieces bytes)); is = begun_within ls bytes n free few e; end = λ more. absurd (omega arith) }
   | inl more ↦
       let past : n ≡ length ls + suc (n - length ls - 1) = omega arith in
-      let all : bytes ≡ text_of ls = begun_past ls bytes (n - length ls - 1) free (subst (λ k. take k (pieces (text_of ls)) ≡ take k (pieces bytes)) past e) in
+      let all : bytes ≡ text_of ls = begun_past ls bytes (n - length ls - 1) free
+      (subst (λ k. take k (pieces (text_of ls)) ≡ take k (pieces bytes)) past e) in
       record {
         rest = [];
         is = all ∙ ap text_of (sym (take_all n ls (omega arith))) ∙ sym (append-nil (text_of (take n ls)));
@@ -100,7 +114,9 @@ begun ls bytes n free e = elim (cases_lt (length ls) n) [
 ]
 
 -- the bytes begin with lines, so their first pieces are these
-pub same_front : (ls : List (List ℕ)) (x y : List ℕ) → AreFree ls → take (length ls) (pieces (text_of ls ++ x)) ≡ take (length ls) (pieces (text_of ls ++ y))
+pub same_front : (ls : List (List ℕ)) (x y : List ℕ) → AreFree ls
+    → take (length ls) (pieces (text_of ls ++ x)) ≡ take (length ls) (pieces (text_of ls ++ y))
 same_front ls x y free = front x ∙ sym (front y) where
   front : (z : List ℕ) → take (length ls) (pieces (text_of ls ++ z)) ≡ map ended ls
-  front z = ap (take (length ls)) (pieces-text ls z free) ∙ ap (λ n. take n (map ended ls ++ pieces z)) (sym (length-map ls ended)) ∙ take-append_seam (map ended ls) (pieces z)
+  front z = ap (take (length ls)) (pieces-text ls z free) ∙ ap (λ n. take n (map ended ls ++ pieces z)) (sym (length-map ls ended))
+      ∙ take-append_seam (map ended ls) (pieces z)

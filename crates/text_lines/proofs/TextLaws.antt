@@ -1,5 +1,6 @@
 -- Texts that grow by one piece after another. Texts of lists of lines.
-use Rattle.std.proofs.Common.{◌≡◌, ℕ, ◌∙◌, List, Result, Ok, Err, IfOk, zero, suc, ◌+◌, ◌-◌, ◌≤◌, ◌<◌, true, false, refl, sym, ap, arith, [], ◌∷◌, ◌++◌, append_assoc, length, take, drop, eqb, take-append-drop}
+use Rattle.std.proofs.Common.{◌≡◌, ℕ, ◌∙◌, List, Result, Ok, Err, IfOk, zero, suc, ◌+◌, ◌-◌, ◌≤◌, ◌<◌, true, false, refl, sym, ap, arith}
+use Rattle.std.proofs.Common.{[], ◌∷◌, ◌++◌, append_assoc, length, take, drop, eqb, take-append-drop}
 use Rattle.std.specs.List.{AllByRecursion}
 use Rattle.std.proofs.lemmas.Bool.{eqb-true, eq-eqb, both_ways}
 use Rattle.std.proofs.lemmas.List.{append-nil, nil_from_length, length-append, length-drop, length-take-le, take_all, take_at}
@@ -8,7 +9,8 @@ use Rattle.text_lines.proofs.Common.{line_feed, ended, text_of, IsFront, is_free
 use Rattle.text_lines.proofs.LineLaws.{same_line}
 
 -- the same bytes, put together in another way
-pub regroup : {X E : Type 0} (bytes : X → List ℕ) (r : Result X E) (a b : List ℕ) → a ≡ b → IfOk r (λ t. bytes t ≡ a) → IfOk r (λ t. bytes t ≡ b)
+pub regroup : {X E : Type 0} (bytes : X → List ℕ) (r : Result X E) (a b : List ℕ) → a ≡ b → IfOk r (λ t. bytes t ≡ a)
+    → IfOk r (λ t. bytes t ≡ b)
 regroup bytes (Ok t) a b e h = h ∙ e
 regroup bytes (Err f) a b e h = tt
 
@@ -30,24 +32,29 @@ free_append (l ∷ a) b fa fb = (fa.0, free_append a b fa.1 fb)
 -- a line before lines
 pub text_of-cons : (l : List ℕ) (ls : List (List ℕ)) (rest : List ℕ) → l ++ line_feed ∷ (text_of ls ++ rest) ≡ text_of (l ∷ ls) ++ rest
 text_of-cons l ls rest =
-    let one : l ++ line_feed ∷ (text_of ls ++ rest) ≡ (l ++ line_feed ∷ []) ++ (text_of ls ++ rest) = sym (append_assoc l (line_feed ∷ []) (text_of ls ++ rest)) in
+    let one : l ++ line_feed ∷ (text_of ls ++ rest) ≡ (l ++ line_feed ∷ []) ++ (text_of ls ++ rest) =
+    sym (append_assoc l (line_feed ∷ []) (text_of ls ++ rest)) in
     one ∙ sym (append_assoc (l ++ line_feed ∷ []) (text_of ls) rest)
 
 -- the text of one more line
 pub text_of-push : (ls : List (List ℕ)) (l rest : List ℕ) → text_of ls ++ (l ++ line_feed ∷ rest) ≡ text_of (ls ++ l ∷ []) ++ rest
 text_of-push ls l rest =
     let one : text_of (l ∷ []) ≡ l ++ line_feed ∷ [] = append-nil (l ++ line_feed ∷ []) in
-    let joined : l ++ line_feed ∷ rest ≡ text_of (l ∷ []) ++ rest = sym (append_assoc l (line_feed ∷ []) rest) ∙ ap (λ (x : List ℕ). x ++ rest) (sym one) in
-    ap (λ (x : List ℕ). text_of ls ++ x) joined ∙ sym (append_assoc (text_of ls) (text_of (l ∷ [])) rest) ∙ ap (λ (x : List ℕ). x ++ rest) (sym (flat_map-append ended ls (l ∷ [])))
+    let joined : l ++ line_feed ∷ rest ≡ text_of (l ∷ []) ++ rest =
+    sym (append_assoc l (line_feed ∷ []) rest) ∙ ap (λ (x : List ℕ). x ++ rest) (sym one) in
+    ap (λ (x : List ℕ). text_of ls ++ x) joined ∙ sym (append_assoc (text_of ls) (text_of (l ∷ [])) rest)
+    ∙ ap (λ (x : List ℕ). x ++ rest) (sym (flat_map-append ended ls (l ∷ [])))
 
 -- the text of two lists of lines
 pub text_of-append : (a b : List (List ℕ)) (rest : List ℕ) → text_of (a ++ b) ++ rest ≡ text_of a ++ (text_of b ++ rest)
 text_of-append a b rest = ap (λ (l : List ℕ). l ++ rest) (flat_map-append ended a b) ∙ append_assoc (text_of a) (text_of b) rest
 
 -- a first line, and lines after it up to the end
-pub whole_text : (first : List ℕ) (ls : List (List ℕ)) (bytes rest tail : List ℕ) → bytes ≡ first ++ line_feed ∷ rest → rest ≡ text_of ls ++ tail → tail ≡ [] → bytes ≡ text_of (first ∷ ls)
+pub whole_text : (first : List ℕ) (ls : List (List ℕ)) (bytes rest tail : List ℕ) → bytes ≡ first ++ line_feed ∷ rest
+    → rest ≡ text_of ls ++ tail → tail ≡ [] → bytes ≡ text_of (first ∷ ls)
 whole_text first ls bytes rest tail e1 e2 e3 =
-    e1 ∙ ap (λ (l : List ℕ). first ++ line_feed ∷ l) e2 ∙ text_of-cons first ls tail ∙ ap (λ (l : List ℕ). text_of (first ∷ ls) ++ l) e3 ∙ append-nil (text_of (first ∷ ls))
+    e1 ∙ ap (λ (l : List ℕ). first ++ line_feed ∷ l) e2 ∙ text_of-cons first ls tail ∙ ap (λ (l : List ℕ). text_of (first ∷ ls) ++ l) e3
+    ∙ append-nil (text_of (first ∷ ls))
 
 pub no_bytes : (bytes : List ℕ) → eqb (length bytes) 0 ≡ true → bytes ≡ []
 no_bytes bytes h = nil_from_length bytes (eqb-true (length bytes) 0 h)
@@ -57,7 +64,8 @@ some_bytes bytes h e = both_ways (eqb (length bytes) 0) h (eq-eqb (length bytes)
 
 -- ---- bytes begin with one list of lines
 
-pub more_lines : (a b : List (List ℕ)) (x y : List ℕ) → AreFree a → AreFree b → length a ≤ length b → text_of a ++ x ≡ text_of b ++ y → (more : List (List ℕ)) × (b ≡ a ++ more) × (x ≡ text_of more ++ y)
+pub more_lines : (a b : List (List ℕ)) (x y : List ℕ) → AreFree a → AreFree b → length a ≤ length b → text_of a ++ x ≡ text_of b ++ y
+    → (more : List (List ℕ)) × (b ≡ a ++ more) × (x ≡ text_of more ++ y)
 more_lines [] b x y fa fb few e = (b, refl, e)
 more_lines (l ∷ a) [] x y fa fb few e = absurd (omega arith)
 more_lines (l ∷ a) (k ∷ b) x y fa fb few e =
@@ -65,7 +73,8 @@ more_lines (l ∷ a) (k ∷ b) x y fa fb few e =
     let rest = more_lines a b x y fa.1 fb.1 (omega arith) same.1 in
     (rest.0, ap (λ (h : List ℕ). h ∷ b) (sym same.0) ∙ ap (λ (t : List (List ℕ)). l ∷ t) rest.1, rest.2)
 
-pub same_lines : (a b : List (List ℕ)) (x y : List ℕ) → AreFree a → AreFree b → length a ≡ length b → text_of a ++ x ≡ text_of b ++ y → (a ≡ b) × (x ≡ y)
+pub same_lines : (a b : List (List ℕ)) (x y : List ℕ) → AreFree a → AreFree b → length a ≡ length b → text_of a ++ x ≡ text_of b ++ y
+    → (a ≡ b) × (x ≡ y)
 same_lines [] [] x y fa fb count e = (refl, e)
 same_lines [] (k ∷ b) x y fa fb count e = absurd (omega arith)
 same_lines (l ∷ a) [] x y fa fb count e = absurd (omega arith)
@@ -100,10 +109,12 @@ pub front_parts : (text bytes : List ℕ) (taken : ℕ) → IsFront text bytes t
 front_parts text bytes taken h = sym (take-append-drop taken bytes) ∙ ap (λ (l : List ℕ). l ++ drop taken bytes) h.spelled
 
 -- what comes after it, as a slice of the bytes
-pub front_rest : (text bytes : List ℕ) (taken : ℕ) → IsFront text bytes taken → bytes ≡ text ++ take (length bytes - taken) (drop taken bytes)
+pub front_rest : (text bytes : List ℕ) (taken : ℕ) → IsFront text bytes taken
+    → bytes ≡ text ++ take (length bytes - taken) (drop taken bytes)
 front_rest text bytes taken h =
     let count : length (drop taken bytes) ≡ length bytes - taken = length-drop taken bytes in
-    front_parts text bytes taken h ∙ ap (λ (l : List ℕ). text ++ l) (sym (take_all (length bytes - taken) (drop taken bytes) (omega (arith, count))))
+    front_parts text bytes taken h ∙ ap (λ (l : List ℕ). text ++ l)
+    (sym (take_all (length bytes - taken) (drop taken bytes) (omega (arith, count))))
 
 -- bytes that begin with a text, where its length is counted by what comes after it
 pub front_taken : (text bytes rest : List ℕ) → bytes ≡ text ++ rest → IsFront text bytes (length bytes - length rest)
@@ -123,4 +134,5 @@ pub front_ends : (bytes : List ℕ) (taken : ℕ) → length bytes ≤ taken →
 front_ends bytes taken all = nil_from_length (drop taken bytes) (let count = length-drop taken bytes in omega (arith, count))
 
 pub front_goes_on : (bytes : List ℕ) (taken : ℕ) → taken < length bytes → drop taken bytes ≡ [] → ⊥
-front_goes_on bytes taken more e = let count = length-drop taken bytes in let none : length (drop taken bytes) ≡ 0 = ap length e in omega (arith, count, none)
+front_goes_on bytes taken more e = let count = length-drop taken bytes in let none : length (drop taken bytes) ≡ 0 =
+    ap length e in omega (arith, count, none)

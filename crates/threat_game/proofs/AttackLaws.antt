@@ -1,14 +1,17 @@
 -- Moves of the game of threats: which of them have to be tried, and what each other comes to. Wins within one move: only by a five point,
 -- or by a last move, to which each reply fouls. The moves that have to be tried are enough: where there is a win by threats, one of them
 -- wins.
-use Rattle.std.proofs.Common.{◌≡◌, Bool, true, false, cond, ◌&&◌, ◌||◌, not, refl, sym, ap, ◌∙◌, ℕ, suc, subst, IsTrue, zero, ◌≤◌, arith, List, [], Contains}
+use Rattle.std.proofs.Common.{◌≡◌, Bool, true, false, cond, ◌&&◌, ◌||◌, not, refl, sym, ap, ◌∙◌, ℕ, suc, subst, IsTrue, zero, ◌≤◌, arith}
+use Rattle.std.proofs.Common.{List, [], Contains}
 use Rattle.std.specs.List.{list_any, list_all}
 use Rattle.std.proofs.Math.Bool.{and-true, and-false}
 use Rattle.game_rules.specs.declared.RuleKind.{RuleKind}
 use Rattle.game_rules.specs.declared.Outcome.{Outcome}
 use Rattle.game_rules.specs.declared.Outcome.TheVariants.{Refused, Wins, Fouls, Draws, GoesOn}
 use Rattle.game_rules.specs.declared.Point.{Point}
-use Rattle.game_rules.proofs.Common.{Grid, is_empty, points_of, five, IsPosition, outcome, mover, other, after, goes_on_with, goes_on, saves, has_five, has_threat, is_double_point, has_fouls, WinsOr, LosesOr, WinsByThreats, loses_or, is_on}
+use Rattle.game_rules.proofs.Common.{Grid, is_empty, points_of, five, IsPosition, outcome, mover, other, after, goes_on_with, goes_on}
+use Rattle.game_rules.proofs.Common.{saves, has_five, has_threat, is_double_point, has_fouls, WinsOr, LosesOr, WinsByThreats, loses_or}
+use Rattle.game_rules.proofs.Common.{is_on}
 use Rattle.game_rules.proofs.Boards.{is_empty-on, and_left, and_right}
 use Rattle.game_rules.proofs.Positions.{GoesOn-empty, GoesOn-on, mover-then}
 use Rattle.game_rules.proofs.Points.{points-found, any_witness, all_at, all_of}
@@ -21,14 +24,16 @@ use Rattle.threat_moves.proofs.BlockLaw.{no-reply-wins}
 use Rattle.threat_moves.proofs.GainLaws.{threat-empty}
 use Rattle.threat_game.specs.declared.attacks.Attempt.TheVariants.{Tried, Passed}
 use Rattle.threat_game.specs.declared.attacks.BestReply.TheVariants.{GoesOn as SomeGoesOn, Saves, Fouls as EachFouls}
-use Rattle.threat_game.proofs.Common.{is_threat_move, has_reply, has_saving, best_reply, is_fouled, is_last_move, is_tried, is_settled_move, IsAttempt, OthersFail, LosesToThreats, tried_moves, HasEscape}
+use Rattle.threat_game.proofs.Common.{is_threat_move, has_reply, has_saving, best_reply, is_fouled, is_last_move, is_tried, is_settled_move}
+use Rattle.threat_game.proofs.Common.{IsAttempt, OthersFail, LosesToThreats, tried_moves, HasEscape}
 
 -- ---- a threat move is a four move or a three move
 
 module _ (rule : RuleKind) (b : Grid) (p : Point) where
   threat-split : is_threat_move rule b p ≡ (is_four_move rule b p || is_three_move rule b p)
   unfolding is_threat_move is_four_move is_three_move
-  threat-split = goes_on-split (outcome rule b p) (has_five rule (after b p) (mover b)) (list_any (is_double_point rule (after b p) (mover b)) (points_of (after b p)))
+  threat-split = goes_on-split (outcome rule b p) (has_five rule (after b p) (mover b))
+      (list_any (is_double_point rule (after b p) (mover b)) (points_of (after b p)))
 
   pub four-threat : is_four_move rule b p ≡ true → true ≡ is_threat_move rule b p
   four-threat h = sym (threat-split ∙ ap (λ r. r || is_three_move rule b p) h)
@@ -133,7 +138,8 @@ module _ (rule : RuleKind) (b : Grid) (p : Point) where
   )
 
   -- a five point of the other side saves it
-  saved-by-five : IsPosition rule b → is_threat_move rule b p ≡ true → has_five rule (after b p) (other (mover b)) ≡ true → has_saving rule (after b p) ≡ true
+  saved-by-five : IsPosition rule b → is_threat_move rule b p ≡ true → has_five rule (after b p) (other (mover b)) ≡ true
+      → has_saving rule (after b p) ≡ true
   saved-by-five lawful threat some =
       let on = threat-goes_on rule b p threat in
       let turn : mover (after b p) ≡ other (mover b) = mover-then rule b p lawful on in
@@ -157,7 +163,8 @@ module _ (rule : RuleKind) (b : Grid) (p : Point) where
   and_never false c = refl
 
   -- a move that leaves the other side a five point need not be tried
-  pub unsafe-passed : IsPosition rule b → (is_empty b p ≡ true → has_five rule (after b p) (other (mover b)) ≡ true) → IsAttempt rule b p Passed
+  pub unsafe-passed : IsPosition rule b → (is_empty b p ≡ true → has_five rule (after b p) (other (mover b)) ≡ true)
+      → IsAttempt rule b p Passed
   unfolding is_tried is_settled_move
   unsafe-passed lawful some = by_test (is_threat_move rule b p) refl where
     by_test : (r : Bool) → is_threat_move rule b p ≡ r → IsAttempt rule b p Passed
@@ -165,8 +172,10 @@ module _ (rule : RuleKind) (b : Grid) (p : Point) where
     by_test true h =
         let five_there = some (GoesOn-empty rule b p (threat-goes_on rule b p h)) in
         let saved = saved-by-five lawful h five_there in (
-          ap (λ r. is_threat_move rule b p && not r && has_reply rule (after b p)) five_there ∙ and_never (is_threat_move rule b p) (has_reply rule (after b p)),
-          ap (λ r. not (is_threat_move rule b p) || is_tried rule b p || r) saved ∙ or_last (not (is_threat_move rule b p)) (is_tried rule b p),
+          ap (λ r. is_threat_move rule b p && not r && has_reply rule (after b p)) five_there
+              ∙ and_never (is_threat_move rule b p) (has_reply rule (after b p)),
+          ap (λ r. not (is_threat_move rule b p) || is_tried rule b p || r) saved
+              ∙ or_last (not (is_threat_move rule b p)) (is_tried rule b p),
         )
 
   module _ (threat : is_threat_move rule b p ≡ true) (safe : has_five rule (after b p) (other (mover b)) ≡ false) where
@@ -176,32 +185,42 @@ module _ (rule : RuleKind) (b : Grid) (p : Point) where
         let here : is_tried rule b p ≡ true =
         ap (λ r. r && not (has_five rule (after b p) (other (mover b))) && has_reply rule (after b p)) threat
         ∙ ap (λ r. not r && has_reply rule (after b p)) safe
-        ∙ best-goes_on rule (after b p) best in
-        (here, ap (λ r. not (is_threat_move rule b p) || r || has_saving rule (after b p)) here ∙ or_middle (not (is_threat_move rule b p)) (has_saving rule (after b p)))
+        ∙ best-goes_on rule (after b p) best in (
+          here,
+          ap (λ r. not (is_threat_move rule b p) || r || has_saving rule (after b p)) here
+              ∙ or_middle (not (is_threat_move rule b p)) (has_saving rule (after b p)),
+        )
 
     pub saved-passed : best_reply rule (after b p) ≡ Saves → IsAttempt rule b p Passed
     unfolding is_tried is_settled_move
     saved-passed best =
         let told = best-saves rule (after b p) best in (
-          ap (λ r. is_threat_move rule b p && not (has_five rule (after b p) (other (mover b))) && r) told.0 ∙ and-false (is_threat_move rule b p && not (has_five rule (after b p) (other (mover b)))),
-          ap (λ r. not (is_threat_move rule b p) || is_tried rule b p || r) told.1 ∙ or_last (not (is_threat_move rule b p)) (is_tried rule b p),
+          ap (λ r. is_threat_move rule b p && not (has_five rule (after b p) (other (mover b))) && r) told.0
+              ∙ and-false (is_threat_move rule b p && not (has_five rule (after b p) (other (mover b)))),
+          ap (λ r. not (is_threat_move rule b p) || is_tried rule b p || r) told.1
+              ∙ or_last (not (is_threat_move rule b p)) (is_tried rule b p),
         )
 
   pub fouls-last : is_threat_move rule b p ≡ true → best_reply rule (after b p) ≡ EachFouls → is_last_move rule b p ≡ true
   unfolding is_last_move
   fouls-last threat best = ap (λ r. r && all_foul rule (after b p)) threat ∙ best-all_foul rule (after b p) best
 
-  settled-fails : is_settled_move rule b p ≡ true → is_threat_move rule b p ≡ true → is_tried rule b p ≡ false → has_saving rule (after b p) ≡ true
+  settled-fails : is_settled_move rule b p ≡ true → is_threat_move rule b p ≡ true → is_tried rule b p ≡ false
+      → has_saving rule (after b p) ≡ true
   unfolding is_settled_move
-  settled-fails settled threat untried = by_tests (is_threat_move rule b p) (is_tried rule b p) (has_saving rule (after b p)) settled threat untried where
-    by_tests : (r t s : Bool) → (not r || t || s) ≡ true → r ≡ true → t ≡ false → s ≡ true
-    by_tests true false s h e f = h
-    by_tests true true s h e f = cc
-    by_tests false t s h e f = cc
+  settled-fails settled threat untried = by_tests (is_threat_move rule b p) (is_tried rule b p) (has_saving rule (after b p)) settled threat
+      untried where
+        by_tests : (r t s : Bool) → (not r || t || s) ≡ true → r ≡ true → t ≡ false → s ≡ true
+        by_tests true false s h e f = h
+        by_tests true true s h e f = cc
+        by_tests false t s h e f = cc
 
 -- where that is so of all points, all moves that need not be tried fail
 pub others-fail : (rule : RuleKind) (b : Grid) → list_all (is_settled_move rule b) (points_of b) ≡ true → OthersFail rule b
-others-fail rule b all = record { fails = λ p threat untried. settled-fails rule b p (all_at b (is_settled_move rule b) p all (GoesOn-on rule b p (threat-goes_on rule b p threat))) threat untried }
+others-fail rule b all = record {
+  fails = λ p threat untried. settled-fails rule b p
+      (all_at b (is_settled_move rule b) p all (GoesOn-on rule b p (threat-goes_on rule b p threat))) threat untried;
+}
 
 module _ (rule : RuleKind) (b : Grid) (p : Point) where
   last-parts : is_last_move rule b p ≡ true → (is_threat_move rule b p ≡ true) × (all_foul rule (after b p) ≡ true)
@@ -213,7 +232,8 @@ module _ (rule : RuleKind) (b : Grid) (p : Point) where
   last-goes_on h = threat-goes_on rule b p (last-parts h).0
 
   -- each reply to it fouls
-  pub last-fouled : is_last_move rule b p ≡ true → (W : Grid → Type 0) → (q : Point) → LosesOr (outcome rule (after b p) q) (W (after (after b p) q))
+  pub last-fouled : is_last_move rule b p ≡ true → (W : Grid → Type 0) → (q : Point)
+      → LosesOr (outcome rule (after b p) q) (W (after (after b p) q))
   last-fouled h W q = each_reply rule (after b p) (λ c. false) W (λ c e. absurd (never e)) (last-parts h).1 q where
     never : false ≡ true → ⊥
     never e = cc
@@ -222,7 +242,9 @@ module _ (rule : RuleKind) (b : Grid) (p : Point) where
   pub last-wins : is_last_move rule b p ≡ true → (n : ℕ) → WinsByThreats rule (suc n) b
   last-wins h n = (
     p,
-    subst (λ (o : Outcome). WinsOr o (IsTrue (has_threat rule (after b p) (mover b)) × ((q : Point) → LosesOr (outcome rule (after b p) q) (WinsByThreats rule n (after (after b p) q))))) (sym (last-goes_on h))
+    subst (λ (o : Outcome). WinsOr o
+        (IsTrue (has_threat rule (after b p) (mover b))
+        × ((q : Point) → LosesOr (outcome rule (after b p) q) (WinsByThreats rule n (after (after b p) q))))) (sym (last-goes_on h))
         (threat-left rule b p (last-parts h).0, λ q. last-fouled h (WinsByThreats rule n) q),
   )
 
@@ -230,14 +252,17 @@ module _ (rule : RuleKind) (b : Grid) (lawful : IsPosition rule b) (none : has_f
   one-last : WinsByThreats rule 1 b → (p : Point) × (is_last_move rule b p ≡ true)
   unfolding is_last_move
   one-last win = (win.0, by_outcome (outcome rule b win.0) refl win.1) where
-    by_outcome : (o : Outcome) → outcome rule b win.0 ≡ o → WinsOr o (IsTrue (has_threat rule (after b win.0) (mover b)) × ((q : Point) → LosesOr (outcome rule (after b win.0) q) ⊥)) → (is_threat_move rule b win.0 && all_foul rule (after b win.0)) ≡ true
+    by_outcome : (o : Outcome) → outcome rule b win.0 ≡ o
+        → WinsOr o (IsTrue (has_threat rule (after b win.0) (mover b)) × ((q : Point) → LosesOr (outcome rule (after b win.0) q) ⊥))
+        → (is_threat_move rule b win.0 && all_foul rule (after b win.0)) ≡ true
     by_outcome Refused e h = absurd h
     by_outcome Wins e h = absurd (no-reply-wins rule b lawful none win.0 e)
     by_outcome (Fouls f) e h = absurd h
     by_outcome Draws e h = absurd h
     by_outcome GoesOn e h =
         ap (λ r. r && all_foul rule (after b win.0)) (threat-by rule b win.0 e h.0)
-        ∙ all_of (λ q. loses_or (outcome rule (after b win.0) q) false) (points_of (after b win.0)) (λ q. LosesOr-loses_or (outcome rule (after b win.0) q) false ⊥ (λ k. absurd k) (h.1 q))
+        ∙ all_of (λ q. loses_or (outcome rule (after b win.0) q) false) (points_of (after b win.0))
+        (λ q. LosesOr-loses_or (outcome rule (after b win.0) q) false ⊥ (λ k. absurd k) (h.1 q))
 
   -- without a last move there is no win within one move
   pub none-last : false ≡ list_any (is_last_move rule b) (points_of b) → WinsByThreats rule 1 b → ⊥
@@ -256,7 +281,8 @@ module _ (rule : RuleKind) (b : Grid) (lawful : IsPosition rule b) (none : has_f
       let on = threat-goes_on rule b p parts.0 in
       let w = threat-empty rule (after b p) (mover b) (threat-left rule b p parts.0) in
       let turn : mover (after b p) ≡ other (mover b) = mover-then rule b p lawful on in
-      let lost : loses_or (outcome rule (after b p) w.0) false ≡ true = all_at (after b p) (λ q. loses_or (outcome rule (after b p) q) false) w.0 parts.1 (is_empty-on (after b p) w.0 w.1) in
+      let lost : loses_or (outcome rule (after b p) w.0) false ≡ true =
+      all_at (after b p) (λ q. loses_or (outcome rule (after b p) q) false) w.0 parts.1 (is_empty-on (after b p) w.0 w.1) in
       let stays = reply-stays rule (after b p) w.0 w.1 (ap (has_fouls rule) turn ∙ free) in
       let bad : false ≡ true = sym stays ∙ lost in
       cc
@@ -264,13 +290,15 @@ module _ (rule : RuleKind) (b : Grid) (lawful : IsPosition rule b) (none : has_f
 tried-listed : (rule : RuleKind) (b : Grid) (p : Point) → is_on b p ≡ true → is_tried rule b p ≡ true → Contains (tried_moves rule b) p
 tried-listed rule b p on tried = points_passing b (is_tried rule b) p on tried
 
-pub tried-enough : (rule : RuleKind) (n : ℕ) (b : Grid) → has_five rule b (mover b) ≡ false → OthersFail rule b → WinsByThreats rule (suc n) b → (p : Point) × Contains (tried_moves rule b) p × LosesToThreats rule n (after b p)
+pub tried-enough : (rule : RuleKind) (n : ℕ) (b : Grid) → has_five rule b (mover b) ≡ false → OthersFail rule b
+    → WinsByThreats rule (suc n) b → (p : Point) × Contains (tried_moves rule b) p × LosesToThreats rule n (after b p)
 unfolding is_threat_move
 tried-enough rule n b none others (p, win) = by_outcome (outcome rule b p) refl win where
   Goal : Type 0
   Goal = (q : Point) × Contains (tried_moves rule b) q × LosesToThreats rule n (after b q)
 
-  on-goes : outcome rule b p ≡ GoesOn → IsTrue (has_threat rule (after b p) (mover b)) → LosesToThreats rule n (after b p) → (q : Point) × Contains (tried_moves rule b) q × LosesToThreats rule n (after b q)
+  on-goes : outcome rule b p ≡ GoesOn → IsTrue (has_threat rule (after b p) (mover b)) → LosesToThreats rule n (after b p)
+      → (q : Point) × Contains (tried_moves rule b) q × LosesToThreats rule n (after b q)
   on-goes go threat loses = by_test (is_tried rule b p) refl where
     threat-move : is_threat_move rule b p ≡ true
     threat-move = ap (λ o. goes_on_with o (has_threat rule (after b p) (mover b))) go ∙ threat
@@ -281,13 +309,16 @@ tried-enough rule n b none others (p, win) = by_outcome (outcome rule b p) refl 
         let saving = any_witness (λ q. saves (outcome rule (after b p) q)) (points_of (after b p)) (others.fails p threat-move e) in
         absurd (saved (outcome rule (after b p) saving.0) (WinsByThreats rule n (after (after b p) saving.0)) saving.1 (loses saving.0))
 
-  by_outcome : (o : Outcome) → outcome rule b p ≡ o → WinsOr o (IsTrue (has_threat rule (after b p) (mover b)) × LosesToThreats rule n (after b p)) → (q : Point) × Contains (tried_moves rule b) q × LosesToThreats rule n (after b q)
+  by_outcome : (o : Outcome) → outcome rule b p ≡ o → WinsOr o
+      (IsTrue (has_threat rule (after b p) (mover b)) × LosesToThreats rule n (after b p))
+      → (q : Point) × Contains (tried_moves rule b) q × LosesToThreats rule n (after b q)
   by_outcome Wins e w = absurd (let yes_five = win-has_five rule b p e in let bad : true ≡ false = sym yes_five ∙ none in cc)
   by_outcome GoesOn e w = on-goes e w.0 w.1
   by_outcome _ e w = absurd w
 
 -- where no move has to be tried there is no win by threats
-pub none-tried : (rule : RuleKind) (n : ℕ) (b : Grid) → has_five rule b (mover b) ≡ false → OthersFail rule b → tried_moves rule b ≡ [] → 1 ≤ n → WinsByThreats rule n b → ⊥
+pub none-tried : (rule : RuleKind) (n : ℕ) (b : Grid) → has_five rule b (mover b) ≡ false → OthersFail rule b → tried_moves rule b ≡ []
+    → 1 ≤ n → WinsByThreats rule n b → ⊥
 none-tried rule zero b none others empty some win = absurd win
 none-tried rule (suc n) b none others empty some win =
     let found = tried-enough rule n b none others win in
@@ -296,4 +327,5 @@ none-tried rule (suc n) b none others empty some win =
 
 -- where a reply leaves no win the attacker does not win whatever the reply
 pub escape-saves : (rule : RuleKind) (n : ℕ) (c : Grid) → HasEscape rule n c → LosesToThreats rule n c → ⊥
-escape-saves rule n c escape loses = escape.no_win (subst (λ (o : Outcome). LosesOr o (WinsByThreats rule n (after c escape.reply))) escape.on (loses escape.reply))
+escape-saves rule n c escape loses = escape.no_win
+    (subst (λ (o : Outcome). LosesOr o (WinsByThreats rule n (after c escape.reply))) escape.on (loses escape.reply))

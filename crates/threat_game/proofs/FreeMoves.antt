@@ -1,13 +1,15 @@
 -- Where an escape meets each move that has to be tried, there is no win by threats. Where each move on an empty point goes on, and what
 -- that tells of the replies.
-use Rattle.std.proofs.Common.{◌≡◌, ℕ, suc, Bool, false, subst, List, IfOk, IsTrue, Result, Ok, Err, All, ◌≤◌, true, ◌&&◌, not, refl, sym, ap, ◌∙◌, arith, nat_eq, Option, None}
+use Rattle.std.proofs.Common.{◌≡◌, ℕ, suc, Bool, false, subst, List, IfOk, IsTrue, Result, Ok, Err, All, ◌≤◌, true, ◌&&◌, not, refl, sym}
+use Rattle.std.proofs.Common.{ap, ◌∙◌, arith, nat_eq, Option, None}
 use Rattle.std.proofs.lemmas.List.Elements.{All-contains, All-from_get_or}
 use Rattle.std.proofs.lemmas.Bool.Decides.{nat_tests}
 use Rattle.game_rules.specs.declared.RuleKind.{RuleKind}
 use Rattle.game_rules.specs.declared.Outcome.TheVariants.{GoesOn}
 use Rattle.game_rules.specs.declared.Point.{Point}
 use Rattle.game_rules.specs.declared.Foul.{Foul}
-use Rattle.game_rules.proofs.Common.{Grid, outcome, mover, after, WinsByThreats, has_five, is_empty, empties_of, points_of, five, is_same_point, IsPosition, outcome_by, has_fouls, foul_of, goes_on}
+use Rattle.game_rules.proofs.Common.{Grid, outcome, mover, after, WinsByThreats, has_five, is_empty, empties_of, points_of, five}
+use Rattle.game_rules.proofs.Common.{is_same_point, IsPosition, outcome_by, has_fouls, foul_of, goes_on}
 use Rattle.game_rules.proofs.Boards.{and_left, and_right}
 use Rattle.game_rules.proofs.Positions.{GoesOn-on, mover-then}
 use Rattle.game_rules.proofs.Points.{points-found, any_witness, taken_refused, is_same_point-itself, is_same_point-same}
@@ -27,11 +29,14 @@ pub tried-escaped : (rule : RuleKind) (n : ℕ) (b : Grid) → has_five rule b (
     → All (λ p. HasEscape rule n (after b p)) (tried_moves rule b) → WinsByThreats rule (suc n) b → ⊥
 tried-escaped rule n b none others escapes win =
     let found = tried-enough rule n b none others win in
-    escape-saves rule n (after b found.0) (All-contains (λ p. HasEscape rule n (after b p)) (tried_moves rule b) found.0 escapes found.1) found.2
+    escape-saves rule n (after b found.0) (All-contains (λ p. HasEscape rule n (after b p)) (tried_moves rule b) found.0 escapes found.1)
+    found.2
 
 -- the same of an answer that tells of such escapes
-pub fails-told : {E : Type 0} (rule : RuleKind) (n : ℕ) (b d : Grid) → d ≡ b → has_five rule b (mover b) ≡ false → OthersFail rule b → (moves : List Point) → moves ≡ tried_moves rule b → (told : Result Bool E)
-    → IfOk told (λ found. IsTrue found → All (λ p. HasEscape rule n (after d p)) moves) → IfOk told (λ found. IsTrue found → WinsByThreats rule (suc n) b → ⊥)
+pub fails-told : {E : Type 0} (rule : RuleKind) (n : ℕ) (b d : Grid) → d ≡ b → has_five rule b (mover b) ≡ false → OthersFail rule b
+    → (moves : List Point) → moves ≡ tried_moves rule b → (told : Result Bool E)
+    → IfOk told (λ found. IsTrue found → All (λ p. HasEscape rule n (after d p)) moves)
+    → IfOk told (λ found. IsTrue found → WinsByThreats rule (suc n) b → ⊥)
 fails-told rule n b d same none others moves are (Err e) escapes = tt
 fails-told rule n b d same none others moves are (Ok found) escapes =
     λ is.
@@ -43,7 +48,8 @@ not_one : (n : ℕ) → 2 ≤ n → nat_eq n 1 ≡ false
 not_one n h = grind (arith, nat_tests)
 
 -- without a five point and fouls, and with two empty points or more, each goes on
-pub each-goes_on : (rule : RuleKind) (b : Grid) → has_five rule b (mover b) ≡ false → has_fouls rule (mover b) ≡ false → 2 ≤ empties_of b → EachGoesOn rule b
+pub each-goes_on : (rule : RuleKind) (b : Grid) → has_five rule b (mover b) ≡ false → has_fouls rule (mover b) ≡ false → 2 ≤ empties_of b
+    → EachGoesOn rule b
 unfolding outcome
 each-goes_on rule b none calm many = record {
   on = λ q empty.
@@ -83,11 +89,13 @@ reply-at rule c w = by_test (goes_on (outcome rule c w)) refl where
 
   by_test : (r : Bool) → goes_on (outcome rule c w) ≡ r → goes_on (outcome rule c w) ≡ has_reply_at rule c w
   by_test true e =
-      e ∙ sym (points-found c (λ q. goes_on (outcome rule c q) && is_same_point q w) w (GoesOn-on rule c w (goes_on-is (outcome rule c w) e))
+      e ∙ sym (points-found c (λ q. goes_on (outcome rule c q) && is_same_point q w) w
+      (GoesOn-on rule c w (goes_on-is (outcome rule c w) e))
       (ap (λ r. r && is_same_point w w) e ∙ is_same_point-itself w))
   by_test false e = e ∙ by_some (has_reply_at rule c w) refl e
 
 -- after a double point that wins the other side has no five point
-pub double-safe : (rule : RuleKind) (b : Grid) (d : Double) → IsPosition rule b → IsDoubleWin rule b d → has_five rule (after b d.at) (mover (after b d.at)) ≡ false
+pub double-safe : (rule : RuleKind) (b : Grid) (d : Double) → IsPosition rule b → IsDoubleWin rule b d
+    → has_five rule (after b d.at) (mover (after b d.at)) ≡ false
 double-safe rule b d lawful wins =
     ap (has_five rule (after b d.at)) (mover-then rule b d.at lawful wins.on) ∙ still-safe rule b d.at lawful wins.on wins.safe

@@ -1,5 +1,6 @@
 -- One reply stands for others: what is kept of all that is judged, and the win that is compiled for the one.
-use Rattle.std.proofs.Common.{◌≡◌, ℕ, ◌+◌, ◌≤◌, ◌<◌, Bool, true, false, cond, ◌&&◌, ◌||◌, not, refl, sym, ap, subst, ◌∙◌, arith, List, [], ◌∷◌, ◌++◌, map, length, get_or, All, Option, Some, None, IfSome, nat_eq, take}
+use Rattle.std.proofs.Common.{◌≡◌, ℕ, ◌+◌, ◌≤◌, ◌<◌, Bool, true, false, cond, ◌&&◌, ◌||◌, not, refl, sym, ap, subst, ◌∙◌, arith, List, []}
+use Rattle.std.proofs.Common.{◌∷◌, ◌++◌, map, length, get_or, All, Option, Some, None, IfSome, nat_eq, take}
 use Rattle.std.specs.List.{find, filter, list_any, sum_by, AllByRecursion}
 use Rattle.std.proofs.lemmas.Bool.{and_parts, eqb-true}
 use Rattle.std.proofs.lemmas.List.Elements.{All-filter, All-from_recursion, recursion_from_All, filter_more}
@@ -19,7 +20,9 @@ use Rattle.threat_game.specs.declared.replies.Child.{Child}
 use Rattle.threat_game.specs.declared.replies.Children.{Children}
 use Rattle.threat_game.specs.declared.replies.Judged.{Judged}
 use Rattle.threat_game.specs.declared.replies.Judged.TheVariants.{Five, Double as DoubleWins, Last, Open}
-use Rattle.threat_game.proofs.Common.{IsDoubleWin, IsJudged, IsChild, IsThreatWin, AreJudged, AreChildren, counted_for, moves_for, replies_at, is_standing, is_same_double, stands_for, is_met, put_first, kept_children, has_reply, threat_tree}
+use Rattle.threat_game.proofs.Common.{IsDoubleWin, IsJudged, IsChild, IsThreatWin, AreJudged, AreChildren, counted_for, moves_for}
+use Rattle.threat_game.proofs.Common.{replies_at, is_standing, is_same_double, stands_for, is_met, put_first, kept_children, has_reply}
+use Rattle.threat_game.proofs.Common.{threat_tree}
 
 -- ---- what is judged first stands for itself
 
@@ -46,7 +49,8 @@ stands-standing Open judged h = cc
 abbrev stands : Child → Bool
 stands child = is_standing child.judged
 
-first-within : (f : Child → ℕ) (s : Child) (xs : List Child) → find stands xs ≡ Some s → f s ≤ sum_by f (filter (λ x. stands_for s.judged x.judged) xs)
+first-within : (f : Child → ℕ) (s : Child) (xs : List Child) → find stands xs ≡ Some s
+    → f s ≤ sum_by f (filter (λ x. stands_for s.judged x.judged) xs)
 first-within f s [] e = cc
 first-within f s (x ∷ xs) e = by_test (stands x) refl e (first-within f s xs) where
   met : Child → Bool
@@ -56,7 +60,8 @@ first-within f s (x ∷ xs) e = by_test (stands x) refl e (first-within f s xs) 
   by_met true h low = omega (arith, low, sum_by-cons f x (filter met xs))
   by_met false h low = low
 
-  by_test : (r : Bool) → stands x ≡ r → cond r (Some x) (find stands xs) ≡ Some s → (find stands xs ≡ Some s → f s ≤ sum_by f (filter met xs))
+  by_test : (r : Bool) → stands x ≡ r → cond r (Some x) (find stands xs) ≡ Some s
+      → (find stands xs ≡ Some s → f s ≤ sum_by f (filter met xs))
       → f s ≤ sum_by f (cond (met x) (x ∷ filter met xs) (filter met xs))
   by_test true h found later =
       let same : x ≡ s = cc in
@@ -68,10 +73,12 @@ first-within f s (x ∷ xs) e = by_test (stands x) refl e (first-within f s xs) 
 -- no more than over all
 pub kept-sum : (f : Child → ℕ) (xs : List Child) → sum_by f (kept_children xs) ≤ sum_by f xs
 kept-sum f xs = by_first (find stands xs) refl where
-  by_first : (first : Option Child) → find stands xs ≡ first → sum_by f (put_first first (filter (λ x. not (is_met first x.judged)) xs)) ≤ sum_by f xs
+  by_first : (first : Option Child) → find stands xs ≡ first
+      → sum_by f (put_first first (filter (λ x. not (is_met first x.judged)) xs)) ≤ sum_by f xs
   by_first None e = omega (arith, sum_by-filter_both (λ (x : Child). not false) (λ x. false) (λ x. refl) f xs)
   by_first (Some s) e =
-      let both = sum_by-filter_both (λ (x : Child). not (stands_for s.judged x.judged)) (λ x. stands_for s.judged x.judged) (λ x. twice (stands_for s.judged x.judged)) f xs in
+      let both = sum_by-filter_both (λ (x : Child). not (stands_for s.judged x.judged)) (λ x. stands_for s.judged x.judged)
+      (λ x. twice (stands_for s.judged x.judged)) f xs in
       omega (arith, both, first-within f s xs e, sum_by-cons f s (filter (λ (x : Child). not (stands_for s.judged x.judged)) xs)) where
         twice : (r : Bool) → r ≡ not (not r)
         twice true = refl
@@ -91,8 +98,10 @@ kept-each P xs all = by_first (find stands xs) refl where
   by_first : (first : Option Child) → find stands xs ≡ first → All P (put_first first (filter (λ x. not (is_met first x.judged)) xs))
   by_first None e = All-filter (λ x. not false) P xs all
   by_first (Some s) e =
-      All-from_recursion P (s ∷ filter (λ x. not (stands_for s.judged x.judged)) xs)
-      (found-all P s xs (recursion_from_All P xs all) e, recursion_from_All P _ (All-filter (λ x. not (stands_for s.judged x.judged)) P xs all))
+      All-from_recursion P (s ∷ filter (λ x. not (stands_for s.judged x.judged)) xs) (
+        found-all P s xs (recursion_from_All P xs all) e,
+        recursion_from_All P _ (All-filter (λ x. not (stands_for s.judged x.judged)) P xs all),
+      )
 
 filter-all : (xs : List Child) → filter (λ x. not false) xs ≡ xs
 filter-all [] = refl
@@ -116,7 +125,8 @@ put_first-more None xs ys = refl
 put_first-more (Some s) xs ys = refl
 
 -- what is kept of one more: the child, where it is not met, and else nothing
-pub kept-more : (first : Option Child) (xs : List Child) (k : ℕ) (d : Child) → k < length xs → (r : Bool) → is_met first (get_or xs k d).judged ≡ r
+pub kept-more : (first : Option Child) (xs : List Child) (k : ℕ) (d : Child) → k < length xs → (r : Bool)
+    → is_met first (get_or xs k d).judged ≡ r
     → put_first first (filter (λ x. not (is_met first x.judged)) (take (k + 1) xs))
     ≡ put_first first (filter (λ x. not (is_met first x.judged)) (take k xs)) ++ cond (not r) (get_or xs k d ∷ []) []
 kept-more first xs k d low r e =
@@ -136,13 +146,16 @@ pub record IsMetBy (rule : RuleKind) (moves : ℕ) (c : Grid) (items : List Chil
   pub is : IsChild rule moves c met
   pub stands : stands_for first.judged met.judged ≡ true
 
-filtered-out : (P : Child → Type 0) (q : Point) (r : Child → Bool) (xs : List Child) → AllByRecursion P xs → list_any (is_same_point q) (map (λ child. child.at) xs) ≡ true
+filtered-out : (P : Child → Type 0) (q : Point) (r : Child → Bool) (xs : List Child) → AllByRecursion P xs
+    → list_any (is_same_point q) (map (λ child. child.at) xs) ≡ true
     → list_any (is_same_point q) (map (λ child. child.at) (filter r xs)) ≡ false → (x : Child) × (x.at ≡ q) × P x × (r x ≡ false)
 filtered-out P q r [] all found none = cc
 filtered-out P q r (x ∷ xs) all found none = by_test (is_same_point q x.at) refl (r x) refl found none (filtered-out P q r xs all.1) where
-  by_test : (s : Bool) → is_same_point q x.at ≡ s → (k : Bool) → r x ≡ k → (s || list_any (is_same_point q) (map (λ child. child.at) xs)) ≡ true
+  by_test : (s : Bool) → is_same_point q x.at ≡ s → (k : Bool) → r x ≡ k
+      → (s || list_any (is_same_point q) (map (λ child. child.at) xs)) ≡ true
       → list_any (is_same_point q) (map (λ child. child.at) (cond k (x ∷ filter r xs) (filter r xs))) ≡ false
-      → (list_any (is_same_point q) (map (λ child. child.at) xs) ≡ true → list_any (is_same_point q) (map (λ child. child.at) (filter r xs)) ≡ false
+      → (list_any (is_same_point q) (map (λ child. child.at) xs) ≡ true
+      → list_any (is_same_point q) (map (λ child. child.at) (filter r xs)) ≡ false
       → (y : Child) × (y.at ≡ q) × P y × (r y ≡ false))
       → (y : Child) × (y.at ≡ q) × P y × (r y ≡ false)
   by_test true same true kept found none later =
@@ -153,7 +166,8 @@ filtered-out P q r (x ∷ xs) all found none = by_test (is_same_point q x.at) re
       later found (ap (λ b. b || list_any (is_same_point q) (map (λ child. child.at) (filter r xs))) (sym apart) ∙ none)
   by_test false apart false out found none later = later found none
 
-pub kept-covers : (rule : RuleKind) (moves : ℕ) (c : Grid) (judged : List Child) → AreJudged rule moves c judged → (q : Point) → outcome rule c q ≡ GoesOn
+pub kept-covers : (rule : RuleKind) (moves : ℕ) (c : Grid) (judged : List Child) → AreJudged rule moves c judged → (q : Point)
+    → outcome rule c q ≡ GoesOn
     → list_any (is_same_point q) (map (λ child. child.at) (kept_children judged)) ≡ false → IsMetBy rule moves c (kept_children judged) q
 kept-covers rule moves c judged are q on none = by_first (find stands judged) none where
   listed : list_any (is_same_point q) (map (λ child. child.at) judged) ≡ true
@@ -162,13 +176,17 @@ kept-covers rule moves c judged are q on none = by_first (find stands judged) no
       ∙ still-found (λ p. goes_on (outcome rule c p)) q (points_of c) (ap goes_on on)
       (points-found c (is_same_point q) q (GoesOn-on rule c q on) (is_same_point-itself q))
 
-  by_first : (first : Option Child) → list_any (is_same_point q) (map (λ child. child.at) (put_first first (filter (λ x. not (is_met first x.judged)) judged))) ≡ false
+  by_first : (first : Option Child) → list_any (is_same_point q)
+      (map (λ child. child.at) (put_first first (filter (λ x. not (is_met first x.judged)) judged))) ≡ false
       → IsMetBy rule moves c (put_first first (filter (λ x. not (is_met first x.judged)) judged)) q
   by_first None out =
-      let bad : true ≡ false = sym listed ∙ ap (λ (xs : List Child). list_any (is_same_point q) (map (λ child. child.at) xs)) (sym (filter-all judged)) ∙ out in cc
+      let bad : true ≡ false = sym listed ∙ ap (λ (xs : List Child). list_any (is_same_point q) (map (λ child. child.at) xs))
+      (sym (filter-all judged)) ∙ out in cc
   by_first (Some s) out =
-      let rest : list_any (is_same_point q) (map (λ child. child.at) (filter (λ x. not (stands_for s.judged x.judged)) judged)) ≡ false = or_right (is_same_point q s.at) _ out in
-      let found = filtered-out (IsChild rule moves c) q (λ x. not (stands_for s.judged x.judged)) judged (recursion_from_All (IsChild rule moves c) judged are.each) listed rest in
+      let rest : list_any (is_same_point q) (map (λ child. child.at) (filter (λ x. not (stands_for s.judged x.judged)) judged)) ≡ false =
+      or_right (is_same_point q s.at) _ out in
+      let found = filtered-out (IsChild rule moves c) q (λ x. not (stands_for s.judged x.judged)) judged
+      (recursion_from_All (IsChild rule moves c) judged are.each) listed rest in
       record {
         first = s;
         more = filter (λ x. not (stands_for s.judged x.judged)) judged;
@@ -189,7 +207,8 @@ kept-covers rule moves c judged are q on none = by_first (find stands judged) no
 -- ---- the wins that are compiled
 
 -- where the five point stands, it is one here
-pub five-stands : (rule : RuleKind) (b : Grid) (w : Point) (judged : Judged) → stands_for (Five w) judged ≡ true → IsJudged rule b judged → five rule b (mover b) w ≡ true
+pub five-stands : (rule : RuleKind) (b : Grid) (w : Point) (judged : Judged) → stands_for (Five w) judged ≡ true → IsJudged rule b judged
+    → five rule b (mover b) w ≡ true
 five-stands rule b w (Five v) h is = subst (λ (p : Point). five rule b (mover b) p ≡ true) (sym (is_same_point-same w v h)) is
 five-stands rule b w (DoubleWins d nodes) h is = cc
 five-stands rule b w (Last p) h is = cc
@@ -205,7 +224,8 @@ double-same d e h =
     λ i. record { at = at i; first = first i; second = second i }
 
 -- and the double point wins here
-pub double-stands : (rule : RuleKind) (b : Grid) (d : Double) (nodes : ℕ) (judged : Judged) → stands_for (DoubleWins d nodes) judged ≡ true → IsJudged rule b judged
+pub double-stands : (rule : RuleKind) (b : Grid) (d : Double) (nodes : ℕ) (judged : Judged) → stands_for (DoubleWins d nodes) judged ≡ true
+    → IsJudged rule b judged
     → IsDoubleWin rule b d × (moves_for judged ≡ 2)
 double-stands rule b d nodes (DoubleWins e more) h is =
     (subst (IsDoubleWin rule b) (double-same d e (and_parts (nat_eq nodes 2) (is_same_double d e) h).1) is.wins, refl)
@@ -220,13 +240,17 @@ last-stands p judged h = let standing = stands-standing (Last p) judged h in cc
 pub two-stands : (d : Double) (nodes : ℕ) (judged : Judged) → stands_for (DoubleWins d nodes) judged ≡ true → nodes ≡ 2
 two-stands d nodes judged h = eqb-true nodes 2 (stands-standing (DoubleWins d nodes) judged h)
 
-module _ (rule : RuleKind) (c : Grid) (lawful : IsPosition rule c) (t : List Node) (win : WrittenWin) (moves : ℕ) (met : Child) (is : IsChild rule moves c met) where
-  pub standing-five : (w : Point) → ((rule : RuleKind) (d : Grid) (moves : ℕ) → IsPosition rule d → five rule d (mover d) w ≡ true → 1 ≤ moves → IsThreatWin rule moves d t win)
+module _ (rule : RuleKind) (c : Grid) (lawful : IsPosition rule c) (t : List Node) (win : WrittenWin) (moves : ℕ) (met : Child)
+    (is : IsChild rule moves c met) where
+  pub standing-five : (w : Point)
+      → ((rule : RuleKind) (d : Grid) (moves : ℕ) → IsPosition rule d → five rule d (mover d) w ≡ true → 1 ≤ moves
+      → IsThreatWin rule moves d t win)
       → stands_for (Five w) met.judged ≡ true → IsThreatWin rule moves (after c met.at) t win
   standing-five w says h =
       let some = moves-some met.judged in
       let enough = is.enough in
-      says rule (after c met.at) moves (IsPosition-after rule c met.at lawful is.on) (five-stands rule (after c met.at) w met.judged h is.judged) (omega (arith, some, enough)) where
+      says rule (after c met.at) moves (IsPosition-after rule c met.at lawful is.on)
+      (five-stands rule (after c met.at) w met.judged h is.judged) (omega (arith, some, enough)) where
         moves-some : (judged : Judged) → 1 ≤ moves_for judged
         moves-some (Five v) = omega arith
         moves-some (DoubleWins e nodes) = omega arith
@@ -234,7 +258,8 @@ module _ (rule : RuleKind) (c : Grid) (lawful : IsPosition rule c) (t : List Nod
         moves-some Open = omega arith
 
   pub standing-double : (d : Double) (nodes : ℕ)
-      → ((rule : RuleKind) (b : Grid) (moves : ℕ) → IsPosition rule b → points_of b ≡ points_of c → IsDoubleWin rule b d → 2 ≤ moves → IsThreatWin rule moves b t win)
+      → ((rule : RuleKind) (b : Grid) (moves : ℕ) → IsPosition rule b → points_of b ≡ points_of c → IsDoubleWin rule b d → 2 ≤ moves
+      → IsThreatWin rule moves b t win)
       → stands_for (DoubleWins d nodes) met.judged ≡ true → IsThreatWin rule moves (after c met.at) t win
   standing-double d nodes says h =
       let here = double-stands rule (after c met.at) d nodes met.judged h is.judged in

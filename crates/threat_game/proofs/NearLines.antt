@@ -1,7 +1,8 @@
 -- Where a stone can make a double point, if no point makes two five points before it: on a line with the stone on which two others
 -- of its side stand within four steps. The stone and that on the double point are in a winning run of five stones or more, with one
 -- five point, so at least two more are.
-use Rattle.std.proofs.Common.{◌≡◌, ◌≢◌, inl, inr, ℕ, ◌+◌, ◌-◌, ◌≤◌, ◌<◌, Bool, true, false, cond, ◌&&◌, ◌||◌, not, length, refl, sym, ap, subst, ◌∙◌, arith, nat_le}
+use Rattle.std.proofs.Common.{◌≡◌, ◌≢◌, inl, inr, ℕ, ◌+◌, ◌-◌, ◌≤◌, ◌<◌, Bool, true, false, cond, ◌&&◌, ◌||◌, not, length, refl, sym, ap}
+use Rattle.std.proofs.Common.{subst, ◌∙◌, arith, nat_le}
 use Rattle.std.specs.Prelude.{Some, unwrap_or}
 use Rattle.std.specs.List.{filter, find, list_any, range_with_len}
 use Rattle.std.proofs.lemmas.Bool.{cases_lt, false_from_ne_true, both_ways}
@@ -280,7 +281,8 @@ module _ (rule : RuleKind) (b : Grid) (s : Side) (p q : Point) (ok : IsBoard b) 
       three_there : 3 ≤ among (λ k. stone_at with_q s (go v d p k 0)) + among (λ k. stone_at with_q s (go v d p 0 k))
       three_there = at_least (λ k. stone_at with_q s (go v d p k 0)) (λ k. stone_at with_q s (go v d p 0 k)) near back past many
           (leads with_q s d p on_p v).holds (leads_back with_q s d p on_p v).holds
-          (λ j low high. ap (stone_at with_q s) (sym (go-then v d p w (1 + near) 0 j 0 here)) ∙ (leads with_q s d w on_w v).holds j low high)
+          (λ j low high. ap (stone_at with_q s) (sym (go-then v d p w (1 + near) 0 j 0 here))
+          ∙ (leads with_q s d w on_w v).holds j low high)
 
       -- so two others do
       module _ (x y : ℕ) (at : go v d p x y ≡ Some q) where
@@ -339,7 +341,8 @@ module _ (rule : RuleKind) (b : Grid) (s : Side) (p q : Point) (ok : IsBoard b) 
       (λ w. more_pass _ _ (none_new quiet w)) in
       rw (length-filter (five rule full s) (points_of b), length-filter (five rule with_q s) (points_of b)) more
 
-  two_before : some_makes_two rule b s ≡ false → nat_le 2 (length (five_points rule full s)) ≡ true → list_any new_there (points_of b) ≡ true
+  two_before : some_makes_two rule b s ≡ false → nat_le 2 (length (five_points rule full s)) ≡ true
+      → list_any new_there (points_of b) ≡ true
   two_before quiet two = by_test (list_any new_there (points_of b)) refl where
     by_test : (r : Bool) → list_any new_there (points_of b) ≡ r → list_any new_there (points_of b) ≡ true
     by_test true e = e
@@ -363,7 +366,8 @@ module _ (rule : RuleKind) (b : Grid) (s : Side) (p q : Point) (ok : IsBoard b) 
 -- the lines that were found tell whether a point is near
 pub near_told : (b : Grid) (s : Side) (p q : Point) (lines : NearLines) → AreNearLines b s p lines → lines_hold lines p q ≡ is_near b s p q
 near_told b s p q lines are =
-    last (lines.row && same_line Row p q) (lines.column && same_line Column p q) (lines.down && same_line Down p q) (lines.up && same_line Up p q)
+    last (lines.row && same_line Row p q) (lines.column && same_line Column p q) (lines.down && same_line Down p q)
+    (lines.up && same_line Up p q)
     ∙ rw (are.row, are.column, are.down, are.up) refl where
       last : (r t u v : Bool) → (r || t || u || v) ≡ (r || (t || (u || (v || false))))
       last true t u v = refl
@@ -373,7 +377,8 @@ near_told b s p q lines are =
       last false false false false = refl
 
 -- where no line is one, no point is near
-pub nowhere-near : (b : Grid) (s : Side) (p q : Point) (lines : NearLines) → AreNearLines b s p lines → is_some_line lines ≡ false → is_near b s p q ≡ false
+pub nowhere-near : (b : Grid) (s : Side) (p q : Point) (lines : NearLines) → AreNearLines b s p lines → is_some_line lines ≡ false
+    → is_near b s p q ≡ false
 nowhere-near b s p q lines are none = sym (near_told b s p q lines are) ∙ by_fields lines.row lines.column lines.down lines.up none where
   by_fields : (a c d e : Bool) → (a || c || d || e) ≡ false
       → ((a && same_line Row p q) || (c && same_line Column p q) || (d && same_line Down p q) || (e && same_line Up p q)) ≡ false

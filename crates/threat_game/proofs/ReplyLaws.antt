@@ -1,6 +1,7 @@
 -- What a reply leaves of the five points and the double points of the attacker. The replies that go on, one after another, and what is
 -- judged of them.
-use Rattle.std.proofs.Common.{◌≡◌, true, false, ◌&&◌, not, sym, ap, subst, ◌∙◌, List, Some, None, All, ℕ, ◌+◌, ◌*◌, ◌≤◌, ◌<◌, Bool, cond, refl, arith, [], ◌∷◌, ◌++◌, map, length, get_or, append_assoc}
+use Rattle.std.proofs.Common.{◌≡◌, true, false, ◌&&◌, not, sym, ap, subst, ◌∙◌, List, Some, None, All, ℕ, ◌+◌, ◌*◌, ◌≤◌, ◌<◌, Bool, cond}
+use Rattle.std.proofs.Common.{refl, arith, [], ◌∷◌, ◌++◌, map, length, get_or, append_assoc}
 use Rattle.std.specs.List.{list_all, find, list_any, filter, sum_by, AllByRecursion}
 use Rattle.std.proofs.lemmas.Bool.{not-true}
 use Rattle.std.proofs.lemmas.List.Filters.{length-filter_both}
@@ -10,7 +11,8 @@ use Rattle.game_rules.specs.declared.RuleKind.{RuleKind}
 use Rattle.game_rules.specs.declared.Side.{Side}
 use Rattle.game_rules.specs.declared.Outcome.TheVariants.{GoesOn}
 use Rattle.game_rules.specs.declared.Point.{Point}
-use Rattle.game_rules.proofs.Common.{Grid, is_empty, put, points_of, five, is_same_point, IsPosition, outcome, mover, other, after, has_five, five_points, IsBoard, goes_on, WinsByThreats}
+use Rattle.game_rules.proofs.Common.{Grid, is_empty, put, points_of, five, is_same_point, IsPosition, outcome, mover, other, after}
+use Rattle.game_rules.proofs.Common.{has_five, five_points, IsBoard, goes_on, WinsByThreats}
 use Rattle.game_rules.proofs.Boards.{Apart, and_left, and_right, is_empty-on, is_empty-put, put_comm}
 use Rattle.game_rules.proofs.Positions.{GoesOn-empty, IsBoard-put, mover-then}
 use Rattle.game_rules.proofs.Points.{filter-passes, filter-none, is_same_point-apart}
@@ -24,7 +26,8 @@ use Rattle.threat_game.specs.declared.replies.Child.{Child}
 use Rattle.threat_game.specs.declared.replies.Children.{Children}
 use Rattle.threat_game.specs.declared.replies.Judged.{Judged}
 use Rattle.threat_game.specs.declared.replies.Judged.TheVariants.{Five, Double as DoubleWins, Last, Open}
-use Rattle.threat_game.proofs.Common.{LeavesBoth, IsBeside, has_reply, IsJudged, IsChild, EscapesBy, HasEscape, AreChildren, AreJudged, kept_children, moves_for, one_if, has_reply_at, has_reply_beside, counted_for, replies_at}
+use Rattle.threat_game.proofs.Common.{LeavesBoth, IsBeside, has_reply, IsJudged, IsChild, EscapesBy, HasEscape, AreChildren, AreJudged}
+use Rattle.threat_game.proofs.Common.{kept_children, moves_for, one_if, has_reply_at, has_reply_beside, counted_for, replies_at}
 use Rattle.threat_game.proofs.TreeLaws.{children-few}
 use Rattle.threat_game.proofs.Kept.{kept-some, kept-sum}
 
@@ -42,38 +45,50 @@ module _ (rule : RuleKind) (c : Grid) (q : Point) (lawful : IsPosition rule c) (
   empty = GoesOn-empty rule c q on
 
   -- a five point of the attacker beside the reply stays
-  pub beside-five : (w : Point) → five rule c (other (mover c)) w ≡ true → is_same_point w q ≡ false → five rule (after c q) (mover (after c q)) w ≡ true
+  pub beside-five : (w : Point) → five rule c (other (mover c)) w ≡ true → is_same_point w q ≡ false
+      → five rule (after c q) (mover (after c q)) w ≡ true
   beside-five w h differ =
       ap (λ (s : Side). five rule (after c q) s w) turn
       ∙ five-other c (mover c) q lawful.board empty rule w (Apart-back w q (is_same_point-apart w q differ)) ∙ h
 
   -- the first of the five points that is beside it
-  pub first-beside : (fives : List Point) (w : Point) → fives ≡ five_points rule c (other (mover c)) → Some w ≡ find (λ x. not (is_same_point x q)) fives → five rule (after c q) (mover (after c q)) w ≡ true
+  pub first-beside : (fives : List Point) (w : Point) → fives ≡ five_points rule c (other (mover c))
+      → Some w ≡ find (λ x. not (is_same_point x q)) fives → five rule (after c q) (mover (after c q)) w ≡ true
   first-beside fives w are found =
-      let all : list_all (five rule c (other (mover c))) fives ≡ true = ap (list_all (five rule c (other (mover c)))) are ∙ filter-passes (five rule c (other (mover c))) (points_of c) in
+      let all : list_all (five rule c (other (mover c))) fives ≡ true =
+      ap (list_all (five rule c (other (mover c)))) are ∙ filter-passes (five rule c (other (mover c))) (points_of c) in
       let both = find-in (λ x. not (is_same_point x q)) (five rule c (other (mover c))) fives w all (sym found) in
       beside-five w both.1 (not-true (is_same_point w q) both.0)
 
   -- with none beside it, none is left
-  pub none-beside : (fives : List Point) → fives ≡ five_points rule c (other (mover c)) → None ≡ find (λ x. not (is_same_point x q)) fives → has_five rule (after c q) (mover (after c q)) ≡ false
+  pub none-beside : (fives : List Point) → fives ≡ five_points rule c (other (mover c)) → None ≡ find (λ x. not (is_same_point x q)) fives
+      → has_five rule (after c q) (mover (after c q)) ≡ false
   none-beside fives are found =
       ap (has_five rule (after c q)) turn
       ∙ filter-none (five rule (after c q) (other (mover c))) (points_of (after c q))
       (left-points rule c (mover c) q lawful.board empty ∙ ap (without q) (sym are)
       ∙ none_found-filter (λ x. not (is_same_point x q)) (λ x. not (is_same_point q x)) (λ x h. other_way q x h) fives (sym found))
 
-  kept-five : (d w : Point) → is_empty c d ≡ true → Apart d q → Apart q w → five rule (put c (other (mover c)) d) (other (mover c)) w ≡ true → five rule (put (after c q) (other (mover c)) d) (other (mover c)) w ≡ true
+  kept-five : (d w : Point) → is_empty c d ≡ true → Apart d q → Apart q w → five rule (put c (other (mover c)) d) (other (mover c)) w ≡ true
+      → five rule (put (after c q) (other (mover c)) d) (other (mover c)) w ≡ true
   kept-five d w free apart beside h =
-      let still : is_empty (put c (other (mover c)) d) q ≡ true = is_empty-put c (other (mover c)) d q (is_empty-on c d free) apart ∙ empty in
-      ap (λ (g : Grid). five rule g (other (mover c)) w) (put_comm c (mover c) (other (mover c)) q d (is_empty-on c q empty) (is_empty-on c d free) (Apart-back d q apart))
+      let still : is_empty (put c (other (mover c)) d) q ≡ true =
+      is_empty-put c (other (mover c)) d q (is_empty-on c d free) apart ∙ empty in
+      ap (λ (g : Grid). five rule g (other (mover c)) w)
+      (put_comm c (mover c) (other (mover c)) q d (is_empty-on c q empty) (is_empty-on c d free) (Apart-back d q apart))
       ∙ five-other (put c (other (mover c)) d) (mover c) q (IsBoard-put c (other (mover c)) d lawful.board) still rule w beside ∙ h
 
   -- a stone beside a double point and its two five points leaves all three
   pub both-kept : (d : Double) → LeavesBoth rule c (other (mover c)) d → IsBeside d q → LeavesBoth rule (after c q) (mover (after c q)) d
   both-kept d both beside =
-      let at : Apart d.at q = is_same_point-apart d.at q (not-true (is_same_point d.at q) (and_left (not (is_same_point d.at q)) _ (and_left (not (is_same_point d.at q) && not (is_same_point d.first q)) _ beside))) in
-      let first : Apart d.first q = is_same_point-apart d.first q (not-true (is_same_point d.first q) (and_right (not (is_same_point d.at q)) _ (and_left (not (is_same_point d.at q) && not (is_same_point d.first q)) _ beside))) in
-      let second : Apart d.second q = is_same_point-apart d.second q (not-true (is_same_point d.second q) (and_right (not (is_same_point d.at q) && not (is_same_point d.first q)) _ beside)) in
+      let at : Apart d.at q = is_same_point-apart d.at q
+      (not-true (is_same_point d.at q)
+      (and_left (not (is_same_point d.at q)) _ (and_left (not (is_same_point d.at q) && not (is_same_point d.first q)) _ beside))) in
+      let first : Apart d.first q = is_same_point-apart d.first q
+      (not-true (is_same_point d.first q)
+      (and_right (not (is_same_point d.at q)) _ (and_left (not (is_same_point d.at q) && not (is_same_point d.first q)) _ beside))) in
+      let second : Apart d.second q = is_same_point-apart d.second q
+      (not-true (is_same_point d.second q) (and_right (not (is_same_point d.at q) && not (is_same_point d.first q)) _ beside)) in
       subst (λ (s : Side). LeavesBoth rule (after c q) s d) (sym turn)
       (record {
         empty = is_empty-put c (mover c) q d.at (is_empty-on c q empty) (Apart-back d.at q at) ∙ both.empty;
@@ -82,7 +97,8 @@ module _ (rule : RuleKind) (c : Grid) (q : Point) (lawful : IsPosition rule c) (
         apart = both.apart;
       })
 
-  pub all-kept : (ds : List Double) → All (LeavesBoth rule c (other (mover c))) ds → All (λ d. IsBeside d q → LeavesBoth rule (after c q) (mover (after c q)) d) ds
+  pub all-kept : (ds : List Double) → All (LeavesBoth rule c (other (mover c))) ds
+      → All (λ d. IsBeside d q → LeavesBoth rule (after c q) (mover (after c q)) d) ds
   all-kept ds all i d within beside = both-kept _ (all i d within) beside
 
 -- ---- few are counted for each
@@ -113,38 +129,51 @@ all-judged rule moves c all so_far = record {
 }
 
 -- one more reply
-pub step-more : (rule : RuleKind) (moves : ℕ) (c d : Grid) → d ≡ c → (all : List Child) (q : Point) (left before : List Point) → before ≡ q ∷ left → SoFar rule moves c all before
-    → (judged : Judged) → IsChild rule moves d (record { at = q; judged = judged }) → (more : List Child) → more ≡ all ++ record { at = q; judged = judged } ∷ [] → SoFar rule moves c more left
+pub step-more : (rule : RuleKind) (moves : ℕ) (c d : Grid) → d ≡ c → (all : List Child) (q : Point) (left before : List Point)
+    → before ≡ q ∷ left → SoFar rule moves c all before
+    → (judged : Judged) → IsChild rule moves d (record { at = q; judged = judged }) → (more : List Child)
+    → more ≡ all ++ record { at = q; judged = judged } ∷ [] → SoFar rule moves c more left
 step-more rule moves c d same all q left before is so_far judged child more added =
     let this : Child = record { at = q; judged = judged } in
-    let here : IsChild rule moves c (record { at = q; judged = judged }) = subst (λ (e : Grid). IsChild rule moves e (record { at = q; judged = judged })) same child in
+    let here : IsChild rule moves c (record { at = q; judged = judged }) =
+    subst (λ (e : Grid). IsChild rule moves e (record { at = q; judged = judged })) same child in
     let old : SoFar rule moves c all (q ∷ left) = subst (λ (ps : List Point). SoFar rule moves c all ps) is so_far in
     subst (λ (items : List Child). SoFar rule moves c items left) (sym added) (record {
       points =
-          ap (λ (ps : List Point). ps ++ filter (λ q. goes_on (outcome rule c q)) left) (map-append (λ (child : Child). child.at) all (this ∷ []))
+          ap (λ (ps : List Point). ps ++ filter (λ q. goes_on (outcome rule c q)) left)
+          (map-append (λ (child : Child). child.at) all (this ∷ []))
           ∙ append_assoc (map (λ (child : Child). child.at) all) (q ∷ []) (filter (λ q. goes_on (outcome rule c q)) left)
-          ∙ sym (ap (λ o. map (λ (child : Child). child.at) all ++ cond (goes_on o) (q ∷ filter (λ q. goes_on (outcome rule c q)) left) (filter (λ q. goes_on (outcome rule c q)) left)) here.on)
+          ∙ sym (ap (λ o. map (λ (child : Child). child.at) all
+          ++ cond (goes_on o) (q ∷ filter (λ q. goes_on (outcome rule c q)) left) (filter (λ q. goes_on (outcome rule c q)) left))
+          here.on)
           ∙ old.points;
       each = all_push (IsChild rule moves c) all this old.each here;
     })
 
 -- few are judged, each of which counts at most 3
-pub judged-short : (rule : RuleKind) (moves : ℕ) (c : Grid) → IsBoard c → (judged : List Child) → AreJudged rule moves c judged → length judged ≤ 1024
+pub judged-short : (rule : RuleKind) (moves : ℕ) (c : Grid) → IsBoard c → (judged : List Child) → AreJudged rule moves c judged
+    → length judged ≤ 1024
 judged-short rule moves c ok judged are =
     let size = length-map judged (λ (x : Child). x.at) in
-    let both = length-filter_both (λ (q : Point). goes_on (outcome rule c q)) (λ (q : Point). not (goes_on (outcome rule c q))) (λ q. refl) (points_of c) in
+    let both = length-filter_both (λ (q : Point). goes_on (outcome rule c q)) (λ (q : Point). not (goes_on (outcome rule c q))) (λ q. refl)
+    (points_of c) in
     omega (arith, ap length are.points, size, both, points_few c ok)
 
-pub judged-three : (rule : RuleKind) (moves : ℕ) (c : Grid) (judged : List Child) → AreJudged rule moves c judged → All (λ child. counted_for child.judged ≤ 3) judged
-judged-three rule moves c judged are k x low = counted-three rule (after c (get_or judged k x).at) (get_or judged k x).judged (are.each k x low).judged
+pub judged-three : (rule : RuleKind) (moves : ℕ) (c : Grid) (judged : List Child) → AreJudged rule moves c judged
+    → All (λ child. counted_for child.judged ≤ 3) judged
+judged-three rule moves c judged are k x low = counted-three rule (after c (get_or judged k x).at) (get_or judged k x).judged
+    (are.each k x low).judged
 
-some-listed : (g : Point → Bool) (ps : List Point) (items : List Child) → map (λ (child : Child). child.at) items ≡ filter g ps → list_any g ps ≡ true → 0 < length items
+some-listed : (g : Point → Bool) (ps : List Point) (items : List Child) → map (λ (child : Child). child.at) items ≡ filter g ps
+    → list_any g ps ≡ true → 0 < length items
 some-listed g ps (x ∷ items) e h = omega arith
 some-listed g ps [] e h = absurd (none-listed g ps e h)
 
 -- the children that are kept
-pub are-children : (rule : RuleKind) (moves : ℕ) (c : Grid) → IsPosition rule c → has_reply rule c ≡ true → (judged : List Child) → AreJudged rule moves c judged → (children : Children)
-    → children.all.items ≡ kept_children judged → children.count ≡ sum_by (λ child. counted_for child.judged) (kept_children judged) → AreChildren rule moves c children
+pub are-children : (rule : RuleKind) (moves : ℕ) (c : Grid) → IsPosition rule c → has_reply rule c ≡ true → (judged : List Child)
+    → AreJudged rule moves c judged → (children : Children)
+    → children.all.items ≡ kept_children judged → children.count ≡ sum_by (λ child. counted_for child.judged) (kept_children judged)
+    → AreChildren rule moves c children
 are-children rule moves c lawful reply judged are children kept counted =
     let many = some-listed (λ q. goes_on (outcome rule c q)) (points_of c) judged are.points reply in
     record {
@@ -153,14 +182,16 @@ are-children rule moves c lawful reply judged are children kept counted =
       kept = kept;
       some = subst (λ (items : List Child). 0 < length items) (sym kept) (kept-some judged many);
       count_is = counted ∙ ap (sum_by (λ (child : Child). counted_for child.judged)) (sym kept);
-      few = let all = children-few rule moves c lawful judged are.points are.each in let low = kept-sum (λ (child : Child). counted_for child.judged) judged in omega (arith, all, low, counted);
+      few = let all = children-few rule moves c lawful judged are.points are.each in let low =
+          kept-sum (λ (child : Child). counted_for child.judged) judged in omega (arith, all, low, counted);
     }
 
 -- ---- what is judged of one reply
 
 module _ (rule : RuleKind) (moves : ℕ) (c : Grid) (q : Point) (on : outcome rule c q ≡ GoesOn) where
   -- a child, where what is judged of the position after it is true
-  pub child-is : (d : Grid) (judged : Judged) (k : ℕ) → d ≡ after c q → IsJudged rule d judged → moves_for judged ≤ k → k ≤ moves → IsChild rule moves c (record { at = q; judged = judged })
+  pub child-is : (d : Grid) (judged : Judged) (k : ℕ) → d ≡ after c q → IsJudged rule d judged → moves_for judged ≤ k → k ≤ moves
+      → IsChild rule moves c (record { at = q; judged = judged })
   child-is d judged k played is enough l = record {
     on = on;
     judged = subst (λ (e : Grid). IsJudged rule e judged) played is;
@@ -171,7 +202,8 @@ module _ (rule : RuleKind) (moves : ℕ) (c : Grid) (q : Point) (on : outcome ru
   pub escape-is : (d : Grid) (n : ℕ) → moves ≡ n → d ≡ after c q → (WinsByThreats rule n d → ⊥) → EscapesBy rule moves c q
   escape-is d n left played none = record {
     on = on;
-    no_win = λ win. none (subst (λ (e : Grid). WinsByThreats rule n e) (sym played) (subst (λ (k : ℕ). WinsByThreats rule k (after c q)) left win));
+    no_win = λ win. none (subst (λ (e : Grid). WinsByThreats rule n e) (sym played)
+        (subst (λ (k : ℕ). WinsByThreats rule k (after c q)) left win));
   }
 
 -- an escape by one reply

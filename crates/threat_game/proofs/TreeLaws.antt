@@ -1,6 +1,7 @@
 -- How many positions of the game of threats stand behind what is counted. How many positions of the game of threats stand behind the moves
 -- that are tried, and behind the replies.
-use Rattle.std.proofs.Common.{◌≡◌, ℕ, zero, suc, ◌+◌, ◌≤◌, Bool, true, false, cond, ◌&&◌, ◌||◌, not, refl, sym, ap, subst, ◌∙◌, arith, List, [], ◌∷◌, map, All, ◌<◌, length, get_or, ◌-◌, Option, Some, None, IfSome, IsTrue}
+use Rattle.std.proofs.Common.{◌≡◌, ℕ, zero, suc, ◌+◌, ◌≤◌, Bool, true, false, cond, ◌&&◌, ◌||◌, not, refl, sym, ap, subst, ◌∙◌, arith, List}
+use Rattle.std.proofs.Common.{[], ◌∷◌, map, All, ◌<◌, length, get_or, ◌-◌, Option, Some, None, IfSome, IsTrue}
 use Rattle.std.specs.List.{list_any, filter, sum_by, list_all}
 use Rattle.std.proofs.lemmas.List.Sums.{sum_by-cons}
 use Rattle.std.proofs.lemmas.Bool.{and_parts, not-true}
@@ -8,7 +9,8 @@ use Rattle.game_rules.specs.declared.RuleKind.{RuleKind}
 use Rattle.game_rules.specs.declared.Outcome.{Outcome}
 use Rattle.game_rules.specs.declared.Outcome.TheVariants.{GoesOn}
 use Rattle.game_rules.specs.declared.Point.{Point}
-use Rattle.game_rules.proofs.Common.{Grid, points_of, is_same_point, IsPosition, outcome, mover, other, after, goes_on, has_five, if_goes_on, is_double_point, behind_replies, has_threat, WinsOr, WinsByThreats}
+use Rattle.game_rules.proofs.Common.{Grid, points_of, is_same_point, IsPosition, outcome, mover, other, after, goes_on, has_five}
+use Rattle.game_rules.proofs.Common.{if_goes_on, is_double_point, behind_replies, has_threat, WinsOr, WinsByThreats}
 use Rattle.game_rules.proofs.Boards.{is_empty-on}
 use Rattle.game_rules.proofs.Positions.{GoesOn-empty, GoesOn-on, IsPosition-after}
 use Rattle.game_rules.proofs.Points.{points-found, filter-passes}
@@ -22,7 +24,9 @@ use Rattle.threat_game.specs.declared.doubles.Double.{Double}
 use Rattle.threat_game.specs.declared.replies.Judged.{Judged}
 use Rattle.threat_game.specs.declared.replies.Judged.TheVariants.{Five, Double as DoubleWins, Last, Open}
 use Rattle.threat_game.specs.declared.replies.Child.{Child}
-use Rattle.threat_game.proofs.Common.{is_threat_move, is_safe_threat, threat_tree, IsDoubleWin, answer_nodes, one_if, IsJudged, IsChild, counted_for, moves_for, nowhere, move_at, LosesToThreats, has_reply, is_tried, tried_moves, IsThreatWin, is_open, nodes_for}
+use Rattle.threat_game.proofs.Common.{is_threat_move, is_safe_threat, threat_tree, IsDoubleWin, answer_nodes, one_if, IsJudged, IsChild}
+use Rattle.threat_game.proofs.Common.{counted_for, moves_for, nowhere, move_at, LosesToThreats, has_reply, is_tried, tried_moves}
+use Rattle.threat_game.proofs.Common.{IsThreatWin, is_open, nodes_for}
 use Rattle.threat_game.proofs.AttackLaws.{threat-by}
 
 -- ---- sums over points
@@ -38,7 +42,8 @@ one-split true false k low = low refl
 one-split false a k low = omega arith
 
 -- a reply on a point, and one beside it, are two of the replies
-sum-two : (f : Point → ℕ) (g a : Point → Bool) → ((q : Point) → g q ≡ true → 1 ≤ f q) → (ps : List Point) → one_if (list_any (λ q. g q && a q) ps) + one_if (list_any (λ q. g q && not (a q)) ps) ≤ sum_by f ps
+sum-two : (f : Point → ℕ) (g a : Point → Bool) → ((q : Point) → g q ≡ true → 1 ≤ f q) → (ps : List Point)
+    → one_if (list_any (λ q. g q && a q) ps) + one_if (list_any (λ q. g q && not (a q)) ps) ≤ sum_by f ps
 sum-two f g a low [] = omega arith
 sum-two f g a low (p ∷ ps) =
     let first = one-or (g p && a p) (list_any (λ q. g q && a q) ps) in
@@ -56,34 +61,43 @@ unfolding threat_tree
 tree-positive rule zero b = omega arith
 tree-positive rule (suc zero) b = omega arith
 tree-positive rule (suc (suc n)) b =
-    tree_by (has_five rule b (mover b)) (sum_by (λ p. cond (is_safe_threat rule b p) (behind_replies rule (threat_tree rule (suc n)) (after b p)) 0) (points_of b))
+    tree_by (has_five rule b (mover b))
+    (sum_by (λ p. cond (is_safe_threat rule b p) (behind_replies rule (threat_tree rule (suc n)) (after b p)) 0) (points_of b))
 
 -- the other side has no five point after a move, where it has none before
-pub still-safe : (rule : RuleKind) (b : Grid) (p : Point) → IsPosition rule b → outcome rule b p ≡ GoesOn → has_five rule b (other (mover b)) ≡ false → has_five rule (after b p) (other (mover b)) ≡ false
+pub still-safe : (rule : RuleKind) (b : Grid) (p : Point) → IsPosition rule b → outcome rule b p ≡ GoesOn
+    → has_five rule b (other (mover b)) ≡ false → has_five rule (after b p) (other (mover b)) ≡ false
 still-safe rule b p lawful on none =
-    has_five-none rule (after b p) (other (mover b)) (none-left rule b (mover b) p lawful.board (GoesOn-empty rule b p on) (none-short rule b (other (mover b)) none))
+    has_five-none rule (after b p) (other (mover b))
+    (none-left rule b (mover b) p lawful.board (GoesOn-empty rule b p on) (none-short rule b (other (mover b)) none))
 
 module _ (rule : RuleKind) (b : Grid) (d : Double) (lawful : IsPosition rule b) (wins : IsDoubleWin rule b d) where
   -- after a double point its side has a five point
   pub double-five : has_five rule (after b d.at) (mover b) ≡ true
-  double-five = points-found (after b d.at) _ d.first (is_empty-on (after b d.at) d.first (five-empty rule (after b d.at) (mover b) d.first wins.both.first)) wins.both.first
+  double-five = points-found (after b d.at) _ d.first
+      (is_empty-on (after b d.at) d.first (five-empty rule (after b d.at) (mover b) d.first wins.both.first)) wins.both.first
 
   pub double-threat : is_threat_move rule b d.at ≡ true
-  double-threat = threat-by rule b d.at wins.on (ap (λ r. r || list_any (is_double_point rule (after b d.at) (mover b)) (points_of (after b d.at))) double-five)
+  double-threat = threat-by rule b d.at wins.on
+      (ap (λ r. r || list_any (is_double_point rule (after b d.at) (mover b)) (points_of (after b d.at))) double-five)
 
   double-safe : is_safe_threat rule b d.at ≡ true
-  double-safe = ap (λ r. r && not (has_five rule (after b d.at) (other (mover b)))) double-threat ∙ ap not (still-safe rule b d.at lawful wins.on wins.safe)
+  double-safe = ap (λ r. r && not (has_five rule (after b d.at) (other (mover b)))) double-threat
+      ∙ ap not (still-safe rule b d.at lawful wins.on wins.safe)
 
   pub double-counted : (n : ℕ) → has_five rule b (mover b) ≡ false → 1 + answer_nodes rule b d ≤ threat_tree rule (suc (suc n)) b
   unfolding threat_tree
   double-counted n none =
       let c : Grid = after b d.at in
       let f : Point → ℕ = λ p. cond (is_safe_threat rule b p) (behind_replies rule (threat_tree rule (suc n)) (after b p)) 0 in
-      let here : f d.at ≡ behind_replies rule (threat_tree rule (suc n)) c = ap (λ r. cond r (behind_replies rule (threat_tree rule (suc n)) c) 0) double-safe in
+      let here : f d.at ≡ behind_replies rule (threat_tree rule (suc n)) c =
+      ap (λ r. cond r (behind_replies rule (threat_tree rule (suc n)) c) 0) double-safe in
       let total : threat_tree rule (suc (suc n)) b ≡ 1 + sum_by f (points_of b) = ap (λ r. cond r 1 (1 + sum_by f (points_of b))) none in
       let least = sum-least f b d.at (GoesOn-on rule b d.at wins.on) in
-      let two = sum-two (λ q. if_goes_on (outcome rule c q) (threat_tree rule (suc n) (after c q))) (λ q. goes_on (outcome rule c q)) (λ q. is_same_point q d.first)
-      (λ q h. if_goes_on-one (outcome rule c q) (threat_tree rule (suc n) (after c q)) (tree-positive rule (suc n) (after c q)) h) (points_of c) in
+      let two = sum-two (λ q. if_goes_on (outcome rule c q) (threat_tree rule (suc n) (after c q))) (λ q. goes_on (outcome rule c q))
+      (λ q. is_same_point q d.first)
+      (λ q h. if_goes_on-one (outcome rule c q) (threat_tree rule (suc n) (after c q)) (tree-positive rule (suc n) (after c q)) h)
+      (points_of c) in
       omega (arith, here, total, least, two)
 
 two_more : (n : ℕ) → 2 ≤ n → (m : ℕ) × (n ≡ suc (suc m))
@@ -92,7 +106,8 @@ two_more (suc zero) h = absurd (omega arith)
 two_more (suc (suc m)) h = (m, refl)
 
 -- what is counted for a position is no more than the game of threats has there
-pub counted-few : (rule : RuleKind) (moves : ℕ) (b : Grid) (judged : Judged) → IsPosition rule b → IsJudged rule b judged → moves_for judged ≤ moves → counted_for judged ≤ threat_tree rule moves b
+pub counted-few : (rule : RuleKind) (moves : ℕ) (b : Grid) (judged : Judged) → IsPosition rule b → IsJudged rule b judged
+    → moves_for judged ≤ moves → counted_for judged ≤ threat_tree rule moves b
 counted-few rule moves b (Five w) lawful h l = tree-positive rule moves b
 counted-few rule moves b (DoubleWins d nodes) lawful h l =
     let more = two_more moves l in
@@ -110,15 +125,20 @@ module _ (rule : RuleKind) (moves : ℕ) (c : Grid) (lawful : IsPosition rule c)
   child-few : (child : Child) → IsChild rule moves c child → counted_for child.judged ≤ count_at child.at
   unfolding count_at
   child-few child is =
-      let few = counted-few rule moves (after c child.at) child.judged (IsPosition-after rule c child.at lawful is.on) is.judged is.enough in
+      let few = counted-few rule moves (after c child.at) child.judged (IsPosition-after rule c child.at lawful is.on) is.judged
+      is.enough in
       subst (λ (o : Outcome). counted_for child.judged ≤ if_goes_on o (threat_tree rule moves (after c child.at))) (sym is.on) few
 
-  children-sum : (f : Child → ℕ) → ((child : Child) → IsChild rule moves c child → f child ≤ count_at child.at) → (ps : List Point) (items : List Child) → map (λ child. child.at) items ≡ filter (λ q. goes_on (outcome rule c q)) ps → All (IsChild rule moves c) items → sum_by f items ≤ sum_by count_at ps
+  children-sum : (f : Child → ℕ) → ((child : Child) → IsChild rule moves c child → f child ≤ count_at child.at)
+      → (ps : List Point) (items : List Child) → map (λ child. child.at) items ≡ filter (λ q. goes_on (outcome rule c q)) ps
+      → All (IsChild rule moves c) items → sum_by f items ≤ sum_by count_at ps
   children-sum f low [] [] e all = omega arith
   children-sum f low [] (x ∷ items) e all = cc
   children-sum f low (p ∷ ps) items e all = by_test (goes_on (outcome rule c p)) items e all (children-sum f low ps) where
-    by_test : (r : Bool) (items : List Child) → map (λ child. child.at) items ≡ cond r (p ∷ filter (λ q. goes_on (outcome rule c q)) ps) (filter (λ q. goes_on (outcome rule c q)) ps) → All (IsChild rule moves c) items
-        → ((more : List Child) → map (λ child. child.at) more ≡ filter (λ q. goes_on (outcome rule c q)) ps → All (IsChild rule moves c) more → sum_by f more ≤ sum_by count_at ps)
+    by_test : (r : Bool) (items : List Child) → map (λ child. child.at) items ≡ cond r (p ∷ filter (λ q. goes_on (outcome rule c q)) ps)
+        (filter (λ q. goes_on (outcome rule c q)) ps) → All (IsChild rule moves c) items
+        → ((more : List Child) → map (λ child. child.at) more ≡ filter (λ q. goes_on (outcome rule c q)) ps
+        → All (IsChild rule moves c) more → sum_by f more ≤ sum_by count_at ps)
         → sum_by f items ≤ sum_by count_at (p ∷ ps)
     by_test true [] e all rest = cc
     by_test true (x ∷ items) e all rest =
@@ -132,12 +152,16 @@ module _ (rule : RuleKind) (moves : ℕ) (c : Grid) (lawful : IsPosition rule c)
         omega (arith, rest items e all, sum_by-cons count_at p ps)
 
   -- what is no more at each child than the positions of the game there is no more in all
-  pub children-within : (f : Child → ℕ) → ((child : Child) → IsChild rule moves c child → f child ≤ if_goes_on (outcome rule c child.at) (threat_tree rule moves (after c child.at)))
-      → (items : List Child) → map (λ child. child.at) items ≡ filter (λ q. goes_on (outcome rule c q)) (points_of c) → All (IsChild rule moves c) items → sum_by f items ≤ behind_replies rule (threat_tree rule moves) c
+  pub children-within : (f : Child → ℕ)
+      → ((child : Child) → IsChild rule moves c child
+      → f child ≤ if_goes_on (outcome rule c child.at) (threat_tree rule moves (after c child.at)))
+      → (items : List Child) → map (λ child. child.at) items ≡ filter (λ q. goes_on (outcome rule c q)) (points_of c)
+      → All (IsChild rule moves c) items → sum_by f items ≤ behind_replies rule (threat_tree rule moves) c
   unfolding count_at
   children-within f low items e all = children-sum f low (points_of c) items e all
 
-  pub children-few : (items : List Child) → map (λ child. child.at) items ≡ filter (λ q. goes_on (outcome rule c q)) (points_of c) → All (IsChild rule moves c) items → sum_by (λ child. counted_for child.judged) items ≤ behind_replies rule (threat_tree rule moves) c
+  pub children-few : (items : List Child) → map (λ child. child.at) items ≡ filter (λ q. goes_on (outcome rule c q)) (points_of c)
+      → All (IsChild rule moves c) items → sum_by (λ child. counted_for child.judged) items ≤ behind_replies rule (threat_tree rule moves) c
   unfolding count_at
   children-few items e all = children-sum (λ (child : Child). counted_for child.judged) child-few (points_of c) items e all
 
@@ -157,7 +181,13 @@ tried-is rule b p h =
     let parts = and_parts (is_safe_threat rule b p) (has_reply rule (after b p)) h in
     let more = and_parts (is_threat_move rule b p) (not (has_five rule (after b p) (other (mover b)))) parts.0 in
     let moves = goes_on_with-parts (outcome rule b p) (has_threat rule (after b p) (mover b)) more.0 in
-    record { on = moves.0; threat = moves.1; safe = not-true (has_five rule (after b p) (other (mover b))) more.1; reply = parts.1; is_safe = parts.0 }
+    record {
+      on = moves.0;
+      threat = moves.1;
+      safe = not-true (has_five rule (after b p) (other (mover b))) more.1;
+      reply = parts.1;
+      is_safe = parts.0;
+    }
 
 passes-at : (f : Point → Bool) (ps : List Point) → list_all f ps ≡ true → (k : ℕ) → k < length ps → f (get_or ps k nowhere) ≡ true
 passes-at f [] h k low = absurd (omega arith)
@@ -165,16 +195,19 @@ passes-at f (p ∷ ps) h zero low = (and_parts (f p) (list_all f ps) h).0
 passes-at f (p ∷ ps) h (suc k) low = passes-at f ps (and_parts (f p) (list_all f ps) h).1 k (omega arith)
 
 pub tried-at : (rule : RuleKind) (b : Grid) (k : ℕ) → k < length (tried_moves rule b) → IsTriedMove rule b (move_at (tried_moves rule b) k)
-tried-at rule b k low = tried-is rule b (move_at (tried_moves rule b) k) (passes-at (is_tried rule b) (tried_moves rule b) (filter-passes (is_tried rule b) (points_of b)) k low)
+tried-at rule b k low = tried-is rule b (move_at (tried_moves rule b) k)
+    (passes-at (is_tried rule b) (tried_moves rule b) (filter-passes (is_tried rule b) (points_of b)) k low)
 
 -- ---- sums
 
 -- the positions behind the moves to be tried are fewer than those of the game of threats
-pub tried-behind : (rule : RuleKind) (n : ℕ) (b : Grid) → has_five rule b (mover b) ≡ false → 1 + sum_by (λ p. behind_replies rule (threat_tree rule (suc n)) (after b p)) (tried_moves rule b) ≤ threat_tree rule (suc (suc n)) b
+pub tried-behind : (rule : RuleKind) (n : ℕ) (b : Grid) → has_five rule b (mover b) ≡ false
+    → 1 + sum_by (λ p. behind_replies rule (threat_tree rule (suc n)) (after b p)) (tried_moves rule b) ≤ threat_tree rule (suc (suc n)) b
 unfolding threat_tree
 tried-behind rule n b none =
     let h : Point → ℕ = λ p. behind_replies rule (threat_tree rule (suc n)) (after b p) in
-    let total : threat_tree rule (suc (suc n)) b ≡ 1 + sum_by (λ p. cond (is_safe_threat rule b p) (h p) 0) (points_of b) = ap (λ r. cond r 1 (1 + sum_by (λ p. cond (is_safe_threat rule b p) (h p) 0) (points_of b))) none in
+    let total : threat_tree rule (suc (suc n)) b ≡ 1 + sum_by (λ p. cond (is_safe_threat rule b p) (h p) 0) (points_of b) =
+    ap (λ r. cond r 1 (1 + sum_by (λ p. cond (is_safe_threat rule b p) (h p) 0) (points_of b))) none in
     let few = filter-sum (is_tried rule b) (is_safe_threat rule b) h (λ p e. (tried-is rule b p e).is_safe) (points_of b) in
     omega (arith, total, few)
 
@@ -182,20 +215,29 @@ tried-behind rule n b none =
 
 pub replies-positive : (rule : RuleKind) (n : ℕ) (c : Grid) → has_reply rule c ≡ true → 1 ≤ behind_replies rule (threat_tree rule n) c
 replies-positive rule n c some =
-    some-counts (λ q. goes_on (outcome rule c q)) (λ q. if_goes_on (outcome rule c q) (threat_tree rule n (after c q))) (λ q h. if_goes_on-one (outcome rule c q) (threat_tree rule n (after c q)) (tree-positive rule n (after c q)) h) (points_of c) some
+    some-counts (λ q. goes_on (outcome rule c q)) (λ q. if_goes_on (outcome rule c q) (threat_tree rule n (after c q)))
+    (λ q h. if_goes_on-one (outcome rule c q) (threat_tree rule n (after c q)) (tree-positive rule n (after c q)) h) (points_of c) some
 
 -- a win within the depth has few moves
-pub few-moves : (rule : RuleKind) (n : ℕ) (b : Grid) (c : List Node) (win : WrittenWin) → n ≤ 60 → IsThreatWin rule n b c win → win.moves < 256
+pub few-moves : (rule : RuleKind) (n : ℕ) (b : Grid) (c : List Node) (win : WrittenWin) → n ≤ 60 → IsThreatWin rule n b c win
+    → win.moves < 256
 few-moves rule n b c win low is = let m = is.written.within in omega (arith, low, m)
 
 -- a win that is compiled takes no more moves than are left
-pub moves-few : (rule : RuleKind) (left least : ℕ) (b : Grid) (t : List Node) (win : Option WrittenWin) → least ≤ left → left < 256 → IfSome win (λ (found : WrittenWin). (moves : ℕ) → least ≤ moves → IsThreatWin rule moves b t found) → IfSome win (λ (found : WrittenWin). found.moves < 256)
+pub moves-few : (rule : RuleKind) (left least : ℕ) (b : Grid) (t : List Node) (win : Option WrittenWin) → least ≤ left → left < 256
+    → IfSome win (λ (found : WrittenWin). (moves : ℕ) → least ≤ moves → IsThreatWin rule moves b t found)
+    → IfSome win (λ (found : WrittenWin). found.moves < 256)
 moves-few rule left least b t None enough fits h = tt
-moves-few rule left least b t (Some found) enough fits h = let is = h left enough in let within = is.written.within in omega (arith, within, fits)
+moves-few rule left least b t (Some found) enough fits h = let is = h left enough in let within =
+    is.written.within in omega (arith, within, fits)
 
-pub by_move : (rule : RuleKind) (n : ℕ) (b : Grid) (p : Point) → outcome rule b p ≡ GoesOn → has_threat rule (after b p) (mover b) ≡ true → LosesToThreats rule n (after b p) → WinsByThreats rule (suc n) b
-by_move rule n b p on threat loses =
-    (p, subst (λ (o : Outcome). WinsOr o (IsTrue (has_threat rule (after b p) (mover b)) × LosesToThreats rule n (after b p))) (sym on) (threat, loses))
+pub by_move : (rule : RuleKind) (n : ℕ) (b : Grid) (p : Point) → outcome rule b p ≡ GoesOn → has_threat rule (after b p) (mover b) ≡ true
+    → LosesToThreats rule n (after b p) → WinsByThreats rule (suc n) b
+by_move rule n b p on threat loses = (
+  p,
+  subst (λ (o : Outcome). WinsOr o (IsTrue (has_threat rule (after b p) (mover b)) × LosesToThreats rule n (after b p))) (sym on)
+      (threat, loses),
+)
 
 pub counted-one : (judged : Judged) → 1 ≤ counted_for judged
 counted-one (Five w) = omega arith
@@ -218,11 +260,13 @@ abbrev pub open_behind : RuleKind → ℕ → Grid → Child → ℕ
 open_behind rule left b child = cond (is_open child.judged) (threat_tree rule left (after b child.at) - 1) 0
 
 -- what is counted for a child and behind it is no more than the game has there
-pub whole-by : (rule : RuleKind) (left : ℕ) (c : Grid) (judged : Judged) → counted_for judged ≤ threat_tree rule left c → counted_for judged + cond (is_open judged) (threat_tree rule left c - 1) 0 ≤ threat_tree rule left c
+pub whole-by : (rule : RuleKind) (left : ℕ) (c : Grid) (judged : Judged) → counted_for judged ≤ threat_tree rule left c
+    → counted_for judged + cond (is_open judged) (threat_tree rule left c - 1) 0 ≤ threat_tree rule left c
 whole-by rule left c (Five w) few = omega (arith, few)
 whole-by rule left c _ few = omega (arith, few)
 
-pub counted-within : (rule : RuleKind) (b : Grid) (d : Double) → IsPosition rule b → IsDoubleWin rule b d → has_five rule b (mover b) ≡ false → (n : ℕ) → 2 ≤ n → 1 + answer_nodes rule b d ≤ threat_tree rule n b
+pub counted-within : (rule : RuleKind) (b : Grid) (d : Double) → IsPosition rule b → IsDoubleWin rule b d
+    → has_five rule b (mover b) ≡ false → (n : ℕ) → 2 ≤ n → 1 + answer_nodes rule b d ≤ threat_tree rule n b
 counted-within rule b d lawful wins none zero l = absurd (omega arith)
 counted-within rule b d lawful wins none (suc zero) l = absurd (omega arith)
 counted-within rule b d lawful wins none (suc (suc n)) l = double-counted rule b d lawful wins n none

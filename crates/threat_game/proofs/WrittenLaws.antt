@@ -19,9 +19,11 @@ use Rattle.threat_game.specs.declared.replies.Judged.TheVariants.{Five, Double a
 use Rattle.threat_game.proofs.Common.{IsDoubleWin, is_last_move, IsJudged, IsJudgedDouble, answer_nodes, moves_for, nodes_for, IsThreatWin}
 use Rattle.threat_game.proofs.AttackLaws.{last-goes_on, last-fouled, last-wins}
 
-module _ (rule : RuleKind) (b : Grid) (q : Point) (on : outcome rule b q ≡ GoesOn) (judged : Judged) (is : IsJudged rule (after b q) judged) where
+module _ (rule : RuleKind) (b : Grid) (q : Point) (on : outcome rule b q ≡ GoesOn) (judged : Judged)
+    (is : IsJudged rule (after b q) judged) where
   pub five-settled : (w : Point) → judged ≡ Five w → IsPosition rule b → (t : List Node) (win : WrittenWin)
-      → ((rule : RuleKind) (d : Grid) (moves : ℕ) → IsPosition rule d → five rule d (mover d) w ≡ true → 1 ≤ moves → IsThreatWin rule moves d t win)
+      → ((rule : RuleKind) (d : Grid) (moves : ℕ) → IsPosition rule d → five rule d (mover d) w ≡ true → 1 ≤ moves
+      → IsThreatWin rule moves d t win)
       → (moves : ℕ) → moves_for judged ≤ moves → IsThreatWin rule moves (after b q) t win
   five-settled w e lawful t win says moves l =
       let here : IsJudged rule (after b q) (Five w) = subst (λ (j : Judged). IsJudged rule (after b q) j) e is in
@@ -29,7 +31,8 @@ module _ (rule : RuleKind) (b : Grid) (q : Point) (on : outcome rule b q ≡ Goe
       says rule (after b q) moves (IsPosition-after rule b q lawful on) here (omega (arith, least, l))
 
   pub last-settled : (p : Point) → judged ≡ Last p → IsPosition rule b → (t : List Node) (win : WrittenWin)
-      → ((rule : RuleKind) (d : Grid) (moves : ℕ) → IsPosition rule d → is_last_move rule d p ≡ true → 1 ≤ moves → IsThreatWin rule moves d t win)
+      → ((rule : RuleKind) (d : Grid) (moves : ℕ) → IsPosition rule d → is_last_move rule d p ≡ true → 1 ≤ moves
+      → IsThreatWin rule moves d t win)
       → (moves : ℕ) → moves_for judged ≤ moves → IsThreatWin rule moves (after b q) t win
   last-settled p e lawful t win says moves l =
       let here : IsJudged rule (after b q) (Last p) = subst (λ (j : Judged). IsJudged rule (after b q) j) e is in
@@ -43,7 +46,9 @@ module _ (rule : RuleKind) (b : Grid) (q : Point) (on : outcome rule b q ≡ Goe
     pub double-wins : IsDoubleWin rule (after b q) d
     double-wins = double-is.wins
 
-    pub double-settled : (c : Grid) → c ≡ after b q → (t : List Node) (win : WrittenWin) → ((moves : ℕ) → 2 ≤ moves → IsThreatWin rule moves c t win) → (moves : ℕ) → moves_for judged ≤ moves → IsThreatWin rule moves (after b q) t win
+    pub double-settled : (c : Grid) → c ≡ after b q → (t : List Node) (win : WrittenWin)
+        → ((moves : ℕ) → 2 ≤ moves → IsThreatWin rule moves c t win) → (moves : ℕ) → moves_for judged ≤ moves
+        → IsThreatWin rule moves (after b q) t win
     double-settled c played t win says moves l =
         let least : moves_for judged ≡ 2 = ap moves_for e in
         subst (λ (g : Grid). IsThreatWin rule moves g t win) played (says moves (omega (arith, least, l)))

@@ -1,5 +1,6 @@
 -- The replies to a move of the attacker, and what is known at once of the positions after them.
-use Rattle.std.specs.Prelude.{◌≡◌, ℕ, ◌+◌, ◌<◌, ◌≤◌, nat_eq, Bool, false, true, ◌&&◌, not, if◌then◌else◌, List, ◌∷◌, map, length, All, Option, Some, None}
+use Rattle.std.specs.Prelude.{◌≡◌, ℕ, ◌+◌, ◌<◌, ◌≤◌, nat_eq, Bool, false, true, ◌&&◌, not, if◌then◌else◌, List, ◌∷◌, map, length, All}
+use Rattle.std.specs.Prelude.{Option, Some, None}
 use Rattle.std.specs.List.{list_any, filter, find, sum_by}
 use Rattle.game_rules.specs.Grid.{Grid, points_of}
 use Rattle.game_rules.specs.Shapes.{five, is_same_point}

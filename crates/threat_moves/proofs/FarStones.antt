@@ -1,8 +1,10 @@
 -- A stone of the other side that stands away from a three leaves the three as it was: whether a point gives a straight four is
 -- decided by the places of the three's line.
-use Rattle.std.proofs.Common.{◌≡◌, ◌≢◌, inl, inr, ℕ, ◌+◌, ◌-◌, ◌≤◌, ◌<◌, Bool, true, false, ◌&&◌, not, refl, sym, ap, ◌∙◌, arith, nat_eq, Option, Some, None, is_none, nat_le}
+use Rattle.std.proofs.Common.{◌≡◌, ◌≢◌, inl, inr, ℕ, ◌+◌, ◌-◌, ◌≤◌, ◌<◌, Bool, true, false, ◌&&◌, not, refl, sym, ap, ◌∙◌, arith, nat_eq}
+use Rattle.std.proofs.Common.{Option, Some, None, is_none, nat_le}
 use Rattle.std.proofs.lemmas.Bool.{eq-eqb, eqb-true, le-leb}
-use Rattle.game_rules.proofs.Common.{Grid, IsBoard, is_empty, put, along, points_of, holds, is_line_three_point, five, foul_of, black_foul, has_fouls, other, towards, opposite, stones_towards, go}
+use Rattle.game_rules.proofs.Common.{Grid, IsBoard, is_empty, put, along, points_of, holds, is_line_three_point, five, foul_of, black_foul}
+use Rattle.game_rules.proofs.Common.{has_fouls, other, towards, opposite, stones_towards, go}
 use Rattle.game_rules.specs.declared.RuleKind.{RuleKind}
 use Rattle.game_rules.specs.declared.RuleKind.TheVariants.{Freestyle, Exact, Renju}
 use Rattle.game_rules.specs.declared.Side.{Side}
@@ -58,7 +60,8 @@ place-near d g q i low here = by_axis d (along-OnLine d g i 5 q here) where
 
 -- ---- a stone of the other side on an empty point
 
-module _ (rule : RuleKind) (b : Grid) (s : Side) (d : Axis) (p z : Point) (ok : IsBoard b) (mine : holds b s p ≡ true) (empty : is_empty b z ≡ true) where
+module _ (rule : RuleKind) (b : Grid) (s : Side) (d : Axis) (p z : Point) (ok : IsBoard b) (mine : holds b s p ≡ true)
+    (empty : is_empty b z ≡ true) where
   abbrev later : Grid
   later = put b (other s) z
 
@@ -105,21 +108,24 @@ module _ (rule : RuleKind) (b : Grid) (s : Side) (d : Axis) (p z : Point) (ok : 
           rw (front, rear) refl
 
     -- a three point as far as the axis decides stays one
-    three_by : (q : Point) (w : Way) → go w d p (1 + stones_towards w b s d p) 0 ≡ Some q → q ≢ z → is_empty b q ≡ true → is_line_three_point rule later s d p q ≡ is_line_three_point rule b s d p q
+    three_by : (q : Point) (w : Way) → go w d p (1 + stones_towards w b s d p) 0 ≡ Some q → q ≢ z → is_empty b q ≡ true
+        → is_line_three_point rule later s d p q ≡ is_line_three_point rule b s d p q
     three_by q w here differ free =
         let near = towards_same w d p in
         let more = towards_same w d q in
         let far_same = towards_same (opposite w) d p in
         let there : go w d p (1 + stones_towards w later s d p) 0 ≡ Some q = ap (λ k. go w d p (1 + k) 0) near ∙ here in
         three-open rule later s w d p q ok_later mine_later (empty_same q differ ∙ free) there
-        ∙ rw (near, more, far_same) (open_same w (1 + stones_towards w b s d p + stones_towards w b s d q) (stones_towards (opposite w) b s d p))
+        ∙ rw (near, more, far_same)
+        (open_same w (1 + stones_towards w b s d p + stones_towards w b s d q) (stones_towards (opposite w) b s d p))
         ∙ sym (three-open rule b s w d p q ok mine free here)
 
     not_z : (q : Point) → is_line_three_point rule b s d p q ≡ true → q ≢ z
     not_z q h same = let place = three_near rule b s d p ok mine q h in not_place place.0 place.1 (place.2 ∙ ap Some same)
 
     three-stays : (q : Point) → is_line_three_point rule b s d p q ≡ true → is_line_three_point rule later s d p q ≡ true
-    three-stays q h = let first = three_first rule b s d p q ok mine h in three_by q first.0 first.1 (not_z q h) (three_empty rule b s d p q h) ∙ h
+    three-stays q h = let first = three_first rule b s d p q ok mine h in
+        three_by q first.0 first.1 (not_z q h) (three_empty rule b s d p q h) ∙ h
 
     five-stays : (q : Point) → q ≢ z → five rule later s q ≡ five rule b s q
     five-stays q differ = elim (same_or_apart z q) [
@@ -130,15 +136,19 @@ module _ (rule : RuleKind) (b : Grid) (s : Side) (d : Axis) (p z : Point) (ok : 
     ]
 
     -- a point that gives a straight four stays one where it is no foul then
-    straight-stays : (q : Point) → is_straight_point rule b s d p q ≡ true → is_none (foul_of rule later s q) ≡ true → is_straight_point rule later s d p q ≡ true
+    straight-stays : (q : Point) → is_straight_point rule b s d p q ≡ true → is_none (foul_of rule later s q) ≡ true
+        → is_straight_point rule later s d p q ≡ true
     straight-stays q h free =
         let line = line_three rule b s d p q h in
-        let all : (is_line_three_point rule b s d p q && not (five rule b s q) && is_none (foul_of rule b s q)) ≡ true = sym (straight-line rule b s d p q) ∙ h in
-        let no_five : not (five rule b s q) ≡ true = and_right (is_line_three_point rule b s d p q) _ (and_left (is_line_three_point rule b s d p q && not (five rule b s q)) _ all) in
+        let all : (is_line_three_point rule b s d p q && not (five rule b s q) && is_none (foul_of rule b s q)) ≡ true =
+        sym (straight-line rule b s d p q) ∙ h in
+        let no_five : not (five rule b s q) ≡ true = and_right (is_line_three_point rule b s d p q) _
+        (and_left (is_line_three_point rule b s d p q && not (five rule b s q)) _ all) in
         straight-line rule later s d p q ∙ rw (three-stays q line, five-stays q (not_z q line), no_five, free) refl
 
     -- and then z is no cost
-    no_stop-by : (q : Point) → is_straight_point rule b s d p q ≡ true → is_none (foul_of rule later s q) ≡ true → stops_three rule b s d p z ≡ false
+    no_stop-by : (q : Point) → is_straight_point rule b s d p q ≡ true → is_none (foul_of rule later s q) ≡ true
+        → stops_three rule b s d p z ≡ false
     unfolding has_straight_point
     no_stop-by q h free =
         let now = straight-stays q h free in
@@ -157,26 +167,31 @@ module _ (rule : RuleKind) (b : Grid) (s : Side) (d : Axis) (p z : Point) (ok : 
     none_foul q h = and_right (is_line_three_point rule b s d p q && not (five rule b s q)) _ (sym (straight-line rule b s d p q) ∙ h)
 
 -- no foul of Black is freed where fewer than two axes have three points
-foul-stays : (rule : RuleKind) (b : Grid) (s : Side) (q z : Point) → IsBoard b → is_empty b q ≡ true → is_empty b z ≡ true → Apart z q → IsSure rule b s q
+foul-stays : (rule : RuleKind) (b : Grid) (s : Side) (q z : Point) → IsBoard b → is_empty b q ≡ true → is_empty b z ≡ true → Apart z q
+    → IsSure rule b s q
     → is_none (foul_of rule b s q) ≡ true → is_none (foul_of rule (put b (other s) z) s q) ≡ true
 foul-stays Freestyle b s q z ok free_q free_z apart few h = refl
 foul-stays Exact b s q z ok free_q free_z apart few h = refl
 foul-stays Renju b White q z ok free_q free_z apart few h = refl
-foul-stays Renju b Black q z ok free_q free_z apart few h = ap is_none (white-no_foul b q z ok free_q free_z apart Renju (few refl) (none_of (black_foul Renju b q) h)) where
-  none_of : (o : Option Foul) → is_none o ≡ true → o ≡ None
-  none_of None h = refl
-  none_of (Some f) h = cc
+foul-stays Renju b Black q z ok free_q free_z apart few h =
+    ap is_none (white-no_foul b q z ok free_q free_z apart Renju (few refl) (none_of (black_foul Renju b q) h)) where
+      none_of : (o : Option Foul) → is_none o ≡ true → o ≡ None
+      none_of None h = refl
+      none_of (Some f) h = cc
 
 -- a point that is sure leaves no cost away from the line
-pub sure-far : (rule : RuleKind) (b : Grid) (s : Side) (d : Axis) (p q : Point) → IsBoard b → holds b s p ≡ true → is_straight_point rule b s d p q ≡ true → IsSure rule b s q → CostsAreNear rule b s d p
+pub sure-far : (rule : RuleKind) (b : Grid) (s : Side) (d : Axis) (p q : Point) → IsBoard b → holds b s p ≡ true
+    → is_straight_point rule b s d p q ≡ true → IsSure rule b s q → CostsAreNear rule b s d p
 sure-far rule b s d p q ok mine h few z empty far =
     let free = three_empty rule b s d p q (line_three rule b s d p q h) in
     let differ = not_z rule b s d p z ok mine empty far q (line_three rule b s d p q h) in
     elim (same_or_apart z q) [
       | inl same ↦ absurd (differ (sym same))
-      | inr apart ↦ no_stop-by rule b s d p z ok mine empty far q h (foul-stays rule b s q z ok free empty apart few (none_foul rule b s d p z ok mine empty far q h))
+      | inr apart ↦ no_stop-by rule b s d p z ok mine empty far q h
+          (foul-stays rule b s q z ok free empty apart few (none_foul rule b s d p z ok mine empty far q h))
     ]
 
 -- so is each of a side without fouls
-pub free-far : (rule : RuleKind) (b : Grid) (s : Side) (d : Axis) (p : Point) → IsBoard b → holds b s p ≡ true → has_straight_point rule b s d p ≡ true → has_fouls rule s ≡ false → CostsAreNear rule b s d p
+pub free-far : (rule : RuleKind) (b : Grid) (s : Side) (d : Axis) (p : Point) → IsBoard b → holds b s p ≡ true
+    → has_straight_point rule b s d p ≡ true → has_fouls rule s ≡ false → CostsAreNear rule b s d p
 free-far rule b s d p ok mine h free z empty far = free-no_stop rule b s d p z ok mine empty far free h

@@ -1,6 +1,7 @@
 -- What becomes of a four with one block.
 use Rattle.std.proofs.Common.{◌≡◌, Bool, true, false, cond, refl, ap, List, [], ◌∷◌, ◌∙◌, sym}
-use Rattle.game_rules.proofs.Common.{Grid, IsBoard, is_empty, outcome, mover, other, after, has_fouls, IsPosition, has_five, five_points, loses_or}
+use Rattle.game_rules.proofs.Common.{Grid, IsBoard, is_empty, outcome, mover, other, after, has_fouls, IsPosition, has_five, five_points}
+use Rattle.game_rules.proofs.Common.{loses_or}
 use Rattle.game_rules.specs.declared.RuleKind.{RuleKind}
 use Rattle.game_rules.specs.declared.Outcome.{Outcome}
 use Rattle.game_rules.specs.declared.Outcome.TheVariants.{Refused, GoesOn}
@@ -28,15 +29,18 @@ module _ (rule : RuleKind) (c : Grid) where
   one-block w (v ∷ u ∷ more) h = cc
 
   -- a four with one block: the defender has no five point, and the attacker has the block alone
-  pub block-alone : (w : Point) → fate rule c ≡ OneBlock w → (has_five rule c (mover c) ≡ false) × (five_points rule c (other (mover c)) ≡ w ∷ [])
+  pub block-alone : (w : Point) → fate rule c ≡ OneBlock w
+      → (has_five rule c (mover c) ≡ false) × (five_points rule c (other (mover c)) ≡ w ∷ [])
   unfolding fate
   block-alone w h = by_test (has_five rule c (mover c)) h where
-    by_test : (r : Bool) → cond r Lost (by_fives rule c (five_points rule c (other (mover c)))) ≡ OneBlock w → (r ≡ false) × (five_points rule c (other (mover c)) ≡ w ∷ [])
+    by_test : (r : Bool) → cond r Lost (by_fives rule c (five_points rule c (other (mover c)))) ≡ OneBlock w
+        → (r ≡ false) × (five_points rule c (other (mover c)) ≡ w ∷ [])
     by_test true k = cc
     by_test false k = (refl, one-block w (five_points rule c (other (mover c))) k)
 
   -- once the block is taken, the attacker has no five point
-  pub blocked : (w : Point) → IsBoard c → is_empty c w ≡ true → in_short (five_points rule c (other (mover c))) ≡ One w → has_five rule (after c w) (other (mover c)) ≡ false
+  pub blocked : (w : Point) → IsBoard c → is_empty c w ≡ true → in_short (five_points rule c (other (mover c))) ≡ One w
+      → has_five rule (after c w) (other (mover c)) ≡ false
   blocked w ok empty h = has_five-none rule (after c w) (other (mover c)) (one-taken rule c (mover c) w ok empty w h refl)
 
 pub one-points : (rule : RuleKind) (c : Grid) (w : Point) → OneBlock w ≡ fate rule c → five_points rule c (other (mover c)) ≡ w ∷ []
@@ -51,12 +55,14 @@ one-points rule c w h = by_fate (has_five rule c (mover c)) h where
   by_points (v ∷ []) h = ap (λ (x : Point). x ∷ []) (by_block_one v (outcome rule c v) h)
   by_points (v ∷ u ∷ more) h = cc
 
-  by_fate : (r : Bool) → OneBlock w ≡ cond r Lost (by_fives rule c (five_points rule c (other (mover c)))) → five_points rule c (other (mover c)) ≡ w ∷ []
+  by_fate : (r : Bool) → OneBlock w ≡ cond r Lost (by_fives rule c (five_points rule c (other (mover c))))
+      → five_points rule c (other (mover c)) ≡ w ∷ []
   by_fate true h = cc
   by_fate false h = by_points (five_points rule c (other (mover c))) h
 
 -- a four that has won by its one block: the block does not go on
-pub won-foul : (rule : RuleKind) (c : Grid) (w : Point) → Won ≡ fate rule c → five_points rule c (other (mover c)) ≡ w ∷ [] → outcome rule c w ≡ GoesOn → ⊥
+pub won-foul : (rule : RuleKind) (c : Grid) (w : Point) → Won ≡ fate rule c → five_points rule c (other (mover c)) ≡ w ∷ []
+    → outcome rule c w ≡ GoesOn → ⊥
 unfolding fate
 won-foul rule c w h e on = by_fate (has_five rule c (mover c)) h where
   by_points : Won ≡ by_fives rule c (five_points rule c (other (mover c))) → ⊥
@@ -75,7 +81,8 @@ won-some rule c h e = by_fate (has_five rule c (mover c)) h where
   by_fate true h = cc
   by_fate false h = let k : Won ≡ Lost = h ∙ ap (by_fives rule c) e in cc
 
-pub not_all-foul : (rule : RuleKind) (c : Grid) (w : Point) → is_empty c w ≡ true → has_fouls rule (mover c) ≡ false → all_foul rule c ≡ false
+pub not_all-foul : (rule : RuleKind) (c : Grid) (w : Point) → is_empty c w ≡ true → has_fouls rule (mover c) ≡ false
+    → all_foul rule c ≡ false
 not_all-foul rule c w empty h = by_test (all_foul rule c) refl where
   by_test : (r : Bool) → all_foul rule c ≡ r → r ≡ false
   by_test false e = refl

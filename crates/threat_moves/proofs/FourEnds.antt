@@ -1,5 +1,6 @@
 -- A four is filled at one of the two ends of its run, and the run has three other stones within reach.
-use Rattle.std.proofs.Common.{◌≡◌, inl, inr, ◌≤◌, ◌<◌, Bool, true, false, cond, ◌||◌, refl, sym, ap, ◌∙◌, arith, Option, Some, None, is_some, filter}
+use Rattle.std.proofs.Common.{◌≡◌, inl, inr, ◌≤◌, ◌<◌, Bool, true, false, cond, ◌||◌, refl, sym, ap, ◌∙◌, arith, Option, Some, None}
+use Rattle.std.proofs.Common.{is_some, filter}
 use Rattle.std.proofs.lemmas.Bool.{both_ways, false_from_ne_true, or_left, or_right, or_cases}
 use Rattle.game_rules.proofs.Common.{Grid, IsBoard, is_empty, holds, put, points_of, wins_on, is_at, is_in_run, stones_towards, run_end}
 use Rattle.game_rules.specs.declared.RuleKind.{RuleKind}
@@ -92,29 +93,34 @@ module _ (rule : RuleKind) (b : Grid) (s : Side) (d : Axis) (g : Point) (ok : Is
       less Behind h = omega (arith, few, h)
 
   -- the costs of a four, by the two ends
-  pub ends-costs : (o w : Option Point) → o ≡ five_end rule b s d g Ahead → w ≡ five_end rule b s d g Behind → filter (λ q. is_at q o || is_at q w) (points_of b) ≡ filter (fills_five rule b s d g) (points_of b)
+  pub ends-costs : (o w : Option Point) → o ≡ five_end rule b s d g Ahead → w ≡ five_end rule b s d g Behind
+      → filter (λ q. is_at q o || is_at q w) (points_of b) ≡ filter (fills_five rule b s d g) (points_of b)
   ends-costs o w e f = λ i. filter (λ q. same q i) (points_of b) where
     same : (q : Point) → (is_at q o || is_at q w) ≡ fills_five rule b s d g q
     same q = rw (e, f) (ends-fill q)
 
   -- there is a four where one of the ends wins
-  pub ends-four : (o w : Option Point) → o ≡ five_end rule b s d g Ahead → w ≡ five_end rule b s d g Behind → (is_some o || is_some w) ≡ makes_threat rule b s d g Four
-  ends-four o w e f = same_tests _ _ (found o w e f) (λ h. let c = any_witness (fills_five rule b s d g) (points_of b) h in some c.0 o w e f (fills_end c.0 c.1)) where
-    fills : (c : Point) → fills_five rule b s d g c ≡ true → makes_threat rule b s d g Four ≡ true
-    fills c h = points-found b (fills_five rule b s d g) c (is_empty-on b c (wins_empty c (fills_wins c h))) h
+  pub ends-four : (o w : Option Point) → o ≡ five_end rule b s d g Ahead → w ≡ five_end rule b s d g Behind
+      → (is_some o || is_some w) ≡ makes_threat rule b s d g Four
+  ends-four o w e f = same_tests _ _ (found o w e f)
+      (λ h. let c = any_witness (fills_five rule b s d g) (points_of b) h in some c.0 o w e f (fills_end c.0 c.1)) where
+        fills : (c : Point) → fills_five rule b s d g c ≡ true → makes_threat rule b s d g Four ≡ true
+        fills c h = points-found b (fills_five rule b s d g) c (is_empty-on b c (wins_empty c (fills_wins c h))) h
 
-    at : (w : Way) (c : Point) → Some c ≡ five_end rule b s d g w → makes_threat rule b s d g Four ≡ true
-    at w c e = fills c (end_fills c w (ap (is_at c) (sym e) ∙ is_same_point-itself c))
+        at : (w : Way) (c : Point) → Some c ≡ five_end rule b s d g w → makes_threat rule b s d g Four ≡ true
+        at w c e = fills c (end_fills c w (ap (is_at c) (sym e) ∙ is_same_point-itself c))
 
-    found : (o w : Option Point) → o ≡ five_end rule b s d g Ahead → w ≡ five_end rule b s d g Behind → (is_some o || is_some w) ≡ true → makes_threat rule b s d g Four ≡ true
-    found (Some c) w e f h = at Ahead c e
-    found None (Some c) e f h = at Behind c f
-    found None None e f h = cc
+        found : (o w : Option Point) → o ≡ five_end rule b s d g Ahead → w ≡ five_end rule b s d g Behind → (is_some o || is_some w) ≡ true
+            → makes_threat rule b s d g Four ≡ true
+        found (Some c) w e f h = at Ahead c e
+        found None (Some c) e f h = at Behind c f
+        found None None e f h = cc
 
-    some : (c : Point) (o w : Option Point) → o ≡ five_end rule b s d g Ahead → w ≡ five_end rule b s d g Behind → is_five_end rule b s d g c ≡ true → (is_some o || is_some w) ≡ true
-    some c (Some p) w e f h = refl
-    some c None (Some p) e f h = refl
-    some c None None e f h = absurd (both_ways (is_five_end rule b s d g c) (rw (sym e, sym f) refl) h)
+        some : (c : Point) (o w : Option Point) → o ≡ five_end rule b s d g Ahead → w ≡ five_end rule b s d g Behind
+            → is_five_end rule b s d g c ≡ true → (is_some o || is_some w) ≡ true
+        some c (Some p) w e f h = refl
+        some c None (Some p) e f h = refl
+        some c None None e f h = absurd (both_ways (is_five_end rule b s d g c) (rw (sym e, sym f) refl) h)
 
   pub few-no_four : stones_in_reach b s d g < 2 → makes_threat rule b s d g Four ≡ false
   few-no_four few = none_of (fills_five rule b s d g) (points_of b) (λ c h. both_ways _ (few-fills c few) h)

@@ -1,7 +1,8 @@
 -- Four moves: what they are, and what their lists hold.
 use Rattle.std.proofs.Common.{◌≡◌, Bool, true, false, cond, refl, sym, ap, ◌∙◌, List, [], ◌∷◌, zero}
 use Rattle.std.specs.List.{list_any}
-use Rattle.game_rules.proofs.Common.{Grid, is_empty, outcome, mover, after, other, goes_on_with, has_five, five_points, wins_under, is_same_point}
+use Rattle.game_rules.proofs.Common.{Grid, is_empty, outcome, mover, after, other, goes_on_with, has_five, five_points, wins_under}
+use Rattle.game_rules.proofs.Common.{is_same_point}
 use Rattle.game_rules.specs.declared.RuleKind.{RuleKind}
 use Rattle.game_rules.specs.declared.Outcome.{Outcome}
 use Rattle.game_rules.specs.declared.Outcome.TheVariants.{GoesOn}
@@ -56,7 +57,8 @@ pub taken-no_four : (rule : RuleKind) (b : Grid) (p : Point) → is_empty b p �
 unfolding is_four_move
 taken-no_four rule b p h = ap (λ o. goes_on_with o (has_five rule (after b p) (mover b))) (taken_refused rule b p h)
 
-pub two-won : (rule : RuleKind) (c : Grid) (w v : Point) (xs : List Point) → list_any (is_same_point w) xs ≡ true → list_any (is_same_point v) xs ≡ true → is_same_point w v ≡ false → by_fives rule c xs ≡ Won
+pub two-won : (rule : RuleKind) (c : Grid) (w v : Point) (xs : List Point) → list_any (is_same_point w) xs ≡ true
+    → list_any (is_same_point v) xs ≡ true → is_same_point w v ≡ false → by_fives rule c xs ≡ Won
 two-won rule c w v [] first second apart = cc
 two-won rule c w v (x ∷ []) first second apart =
     let one : w ≡ x = is_same_point-same w x (or_false (is_same_point w x) first) in

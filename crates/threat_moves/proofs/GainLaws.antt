@@ -1,6 +1,7 @@
 -- What the stone on a gain is asked for, and what is found where it is taken off again; double points. The points at which a three becomes
 -- a straight four are among the places of its line; a gain with few stones within reach makes no threat.
-use Rattle.std.proofs.Common.{◌≡◌, ◌≤◌, Bool, true, false, cond, ◌&&◌, not, List, [], ◌∷◌, length, refl, sym, ap, ◌∙◌, arith, ◌||◌, nat_le, ℕ, ◌<◌, Option, Some, None, is_none}
+use Rattle.std.proofs.Common.{◌≡◌, ◌≤◌, Bool, true, false, cond, ◌&&◌, not, List, [], ◌∷◌, length, refl, sym, ap, ◌∙◌, arith, ◌||◌, nat_le}
+use Rattle.std.proofs.Common.{ℕ, ◌<◌, Option, Some, None, is_none}
 use Rattle.std.specs.List.{flat_map, list_any}
 use Rattle.std.proofs.lemmas.Bool.Decides.{nat_tests}
 use Rattle.std.proofs.Math.Bool.{and-false, and-true}
@@ -10,7 +11,9 @@ use Rattle.game_rules.specs.declared.Outcome.TheVariants.{GoesOn}
 use Rattle.game_rules.specs.declared.Axis.{Axis}
 use Rattle.game_rules.specs.declared.Point.{Point}
 use Rattle.game_rules.specs.declared.Axis.TheVariants.{Row, Column, Down, Up}
-use Rattle.game_rules.proofs.Common.{Grid, is_empty, put, axes, points_of, five, other, outcome, mover, goes_on_with, five_points, is_double_point, has_five, has_threat, IsBoard, is_on, along, holds, is_line_three_point, is_line_three_at, foul_of}
+use Rattle.game_rules.proofs.Common.{Grid, is_empty, put, axes, points_of, five, other, outcome, mover, goes_on_with, five_points}
+use Rattle.game_rules.proofs.Common.{is_double_point, has_five, has_threat, IsBoard, is_on, along, holds, is_line_three_point}
+use Rattle.game_rules.proofs.Common.{is_line_three_at, foul_of}
 use Rattle.game_rules.proofs.Boards.{and_left, is_empty-on, holds-put_same}
 use Rattle.game_rules.proofs.Points.{any_witness, points-found, none_of}
 use Rattle.game_rules.proofs.Fives.{five-empty}
@@ -24,7 +27,8 @@ use Rattle.row_shapes.specs.Reach.{stones_in_reach}
 use Rattle.row_shapes.proofs.Reaches.{reach-put, few-no_three}
 use Rattle.row_shapes.proofs.ThreePoints.{three_near}
 use Rattle.threat_moves.specs.declared.threat_list.ThreatKind.{ThreatKind}
-use Rattle.threat_moves.proofs.Common.{is_gain, is_threat, makes_threat, stops_three, has_straight_point, threats_on, threats_at, is_several, is_three_move, makes_double_point, has_double_point, is_straight_point, is_straight_at}
+use Rattle.threat_moves.proofs.Common.{is_gain, is_threat, makes_threat, stops_three, has_straight_point, threats_on, threats_at}
+use Rattle.threat_moves.proofs.Common.{is_several, is_three_move, makes_double_point, has_double_point, is_straight_point, is_straight_at}
 use Rattle.threat_moves.proofs.FourEnds.{few-no_four}
 
 module _ (rule : RuleKind) (b : Grid) (s : Side) (g : Point) where
@@ -38,7 +42,8 @@ module _ (rule : RuleKind) (b : Grid) (s : Side) (g : Point) where
   unfolding is_threat
   no_gain-no_threat d kind h = ap (λ r. r && makes_threat rule (put b s g) s d g kind) h
 
-  pub gain-threat : (d : Axis) (kind : ThreatKind) → is_gain rule b s g ≡ true → is_threat rule b s g d kind ≡ makes_threat rule (put b s g) s d g kind
+  pub gain-threat : (d : Axis) (kind : ThreatKind) → is_gain rule b s g ≡ true
+      → is_threat rule b s g d kind ≡ makes_threat rule (put b s g) s d g kind
   unfolding is_threat
   gain-threat d kind h = ap (λ r. r && makes_threat rule (put b s g) s d g kind) h
 
@@ -69,13 +74,16 @@ several (w ∷ v ∷ ps) =
 
 module _ (rule : RuleKind) (b : Grid) (s : Side) (g : Point) where
   pub gain-double : is_gain rule b s g ≡ true → is_double_point rule b s g ≡ is_several (in_short (five_points rule (put b s g) s))
-  gain-double h = double-parts rule b s g ∙ ap (λ r. r && nat_le 2 (length (five_points rule (put b s g) s))) h ∙ sym (several (five_points rule (put b s g) s))
+  gain-double h = double-parts rule b s g ∙ ap (λ r. r && nat_le 2 (length (five_points rule (put b s g) s))) h
+      ∙ sym (several (five_points rule (put b s g) s))
 
   pub few-double : is_several (in_short (five_points rule (put b s g) s)) ≡ false → is_double_point rule b s g ≡ false
-  few-double h = double-parts rule b s g ∙ ap (λ r. is_gain rule b s g && r) (sym (several (five_points rule (put b s g) s)) ∙ h) ∙ and-false (is_gain rule b s g)
+  few-double h = double-parts rule b s g ∙ ap (λ r. is_gain rule b s g && r) (sym (several (five_points rule (put b s g) s)) ∙ h)
+      ∙ and-false (is_gain rule b s g)
 
   pub several-double : is_several (in_short (five_points rule (put b s g) s)) ≡ true → is_double_point rule b s g ≡ is_gain rule b s g
-  several-double h = double-parts rule b s g ∙ ap (λ r. is_gain rule b s g && r) (sym (several (five_points rule (put b s g) s)) ∙ h) ∙ and-true (is_gain rule b s g)
+  several-double h = double-parts rule b s g ∙ ap (λ r. is_gain rule b s g && r) (sym (several (five_points rule (put b s g) s)) ∙ h)
+      ∙ and-true (is_gain rule b s g)
 
 -- ---- costs of a three
 
@@ -91,7 +99,8 @@ module _ (rule : RuleKind) (b : Grid) (s : Side) (d : Axis) (g q : Point) where
 -- ---- three moves
 
 -- a move that goes on is a three move where its stone leaves no five point but a double point
-pub goes_on-three : (rule : RuleKind) (b : Grid) (p : Point) → outcome rule b p ≡ GoesOn → is_three_move rule b p ≡ makes_double_point rule b (mover b) p
+pub goes_on-three : (rule : RuleKind) (b : Grid) (p : Point) → outcome rule b p ≡ GoesOn
+    → is_three_move rule b p ≡ makes_double_point rule b (mover b) p
 unfolding is_three_move
 goes_on-three rule b p h = ap (λ o. goes_on_with o (makes_double_point rule b (mover b) p)) h
 
@@ -102,7 +111,8 @@ double-empty rule c s w e = gain-empty rule c s w (and_left (is_gain rule c s w)
 -- a threat leaves a point empty
 pub threat-empty : (rule : RuleKind) (c : Grid) (s : Side) → has_threat rule c s ≡ true → (w : Point) × (is_empty c w ≡ true)
 threat-empty rule c s h = by_test (has_five rule c s) refl h where
-  by_test : (r : Bool) → has_five rule c s ≡ r → (r || list_any (is_double_point rule c s) (points_of c)) ≡ true → (w : Point) × (is_empty c w ≡ true)
+  by_test : (r : Bool) → has_five rule c s ≡ r → (r || list_any (is_double_point rule c s) (points_of c)) ≡ true
+      → (w : Point) × (is_empty c w ≡ true)
   by_test true e k = let found = any_witness (five rule c s) (points_of c) e in (found.0, five-empty rule c s found.0 found.1)
   by_test false e k = let found = any_witness (is_double_point rule c s) (points_of c) k in (found.0, double-empty rule c s found.0 found.1)
 
@@ -115,12 +125,14 @@ threat-by_double rule c s h = sym (ap (λ r. r || has_double_point rule c s) h)
 -- ---- one point
 
 module _ (rule : RuleKind) (b : Grid) (s : Side) (d : Axis) (p : Point) where
-  pub straight-line : (q : Point) → is_straight_point rule b s d p q ≡ (is_line_three_point rule b s d p q && not (five rule b s q) && is_none (foul_of rule b s q))
+  pub straight-line : (q : Point) → is_straight_point rule b s d p q
+      ≡ (is_line_three_point rule b s d p q && not (five rule b s q) && is_none (foul_of rule b s q))
   unfolding is_straight_point
   straight-line q = ap (λ r. r && is_none (foul_of rule b s q)) ((three_by rule b s d p) q (five rule b s q) refl)
 
   pub line_three : (q : Point) → is_straight_point rule b s d p q ≡ true → is_line_three_point rule b s d p q ≡ true
-  line_three q h = and_left (is_line_three_point rule b s d p q) _ (and_left (is_line_three_point rule b s d p q && not (five rule b s q)) _ (sym (straight-line q) ∙ h))
+  line_three q h = and_left (is_line_three_point rule b s d p q) _
+      (and_left (is_line_three_point rule b s d p q && not (five rule b s q)) _ (sym (straight-line q) ∙ h))
 
   -- no three point as far as the axis decides is none
   pub not_straight : (o : Option Point) → is_line_three_at rule b s d p o ≡ false → is_straight_at rule b s d p o ≡ false
@@ -132,7 +144,8 @@ module _ (rule : RuleKind) (b : Grid) (s : Side) (d : Axis) (p : Point) where
   no_straight o e = not_straight o (sym (three-kept rule b s d p o) ∙ ap (is_line_three_at rule b s d p) e)
 
   -- a three point as far as the axis decides is one where it may be a gain
-  pub straight-gain : (o : Option Point) (q : Point) → o ≡ Some q → is_line_three_at rule b s d p o ≡ true → is_straight_at rule b s d p o ≡ is_gain rule b s q
+  pub straight-gain : (o : Option Point) (q : Point) → o ≡ Some q → is_line_three_at rule b s d p o ≡ true
+      → is_straight_at rule b s d p o ≡ is_gain rule b s q
   straight-gain o q e h =
       let here : is_line_three_point rule b s d p q ≡ true = ap (is_line_three_at rule b s d p) (sym e) ∙ h in
       let empty : is_empty b q ≡ true = three_empty rule b s d p q here in
@@ -141,13 +154,15 @@ module _ (rule : RuleKind) (b : Grid) (s : Side) (d : Axis) (p : Point) where
   found_straight : (o : Option Point) → is_straight_at rule b s d p o ≡ true → has_straight_point rule b s d p ≡ true
   unfolding has_straight_point
   found_straight None h = cc
-  found_straight (Some q) h = points-found b (is_straight_point rule b s d p) q (is_empty-on b q (three_empty rule b s d p q (line_three q h))) h
+  found_straight (Some q) h = points-found b (is_straight_point rule b s d p) q
+      (is_empty-on b q (three_empty rule b s d p q (line_three q h))) h
 
   -- there is such a point exactly where one of the places is one
   pub straight_by_place : (i : ℕ) → is_straight_at rule b s d p (along d p i 5) ≡ true → has_straight_point rule b s d p ≡ true
   straight_by_place i h = found_straight (along d p i 5) h
 
-  pub no_straight_place : IsBoard b → holds b s p ≡ true → ((i : ℕ) → i < 11 → is_straight_at rule b s d p (along d p i 5) ≡ false) → has_straight_point rule b s d p ≡ false
+  pub no_straight_place : IsBoard b → holds b s p ≡ true → ((i : ℕ) → i < 11 → is_straight_at rule b s d p (along d p i 5) ≡ false)
+      → has_straight_point rule b s d p ≡ false
   unfolding has_straight_point
   no_straight_place ok mine none = none_of (is_straight_point rule b s d p) (points_of b) (λ q h.
       let near = three_near rule b s d p ok mine q (line_three q h) in
@@ -169,7 +184,8 @@ module _ (rule : RuleKind) (b : Grid) (s : Side) (d : Axis) (p : Point) where
   few-no_threats ok mine few = rw (few-no_four rule b s d p ok mine few, few-no_straight ok mine few) refl
 
 -- a point with fewer than two stones within reach on each axis is the gain of no threat
-module _ (rule : RuleKind) (b : Grid) (s : Side) (g : Point) (ok : IsBoard b) (empty : is_empty b g ≡ true) (few : list_any (λ d. nat_le 2 (stones_in_reach b s d g)) axes ≡ false) where
+module _ (rule : RuleKind) (b : Grid) (s : Side) (g : Point) (ok : IsBoard b) (empty : is_empty b g ≡ true)
+    (few : list_any (λ d. nat_le 2 (stones_in_reach b s d g)) axes ≡ false) where
   on_g : is_on b g ≡ true
   on_g = is_empty-on b g empty
 

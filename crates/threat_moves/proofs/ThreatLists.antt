@@ -1,5 +1,6 @@
 -- Lists of threats, and lists of such lists after a path.
-use Rattle.std.proofs.Common.{◌≡◌, suc, ◌-◌, ◌<◌, List, [], ◌∷◌, ◌++◌, length, get_or, refl, ap, ◌∙◌, arith, map, sym, append_assoc, take, ℕ, ◌+◌, drop, add-one, drop-cons, Option}
+use Rattle.std.proofs.Common.{◌≡◌, suc, ◌-◌, ◌<◌, List, [], ◌∷◌, ◌++◌, length, get_or, refl, ap, ◌∙◌, arith, map, sym, append_assoc, take}
+use Rattle.std.proofs.Common.{ℕ, ◌+◌, drop, add-one, drop-cons, Option}
 use Rattle.std.proofs.lemmas.List.{length-append}
 use Rattle.std.proofs.Math.Seq.{take-append_seam}
 use Rattle.game_rules.specs.declared.Point.{Point}
@@ -30,7 +31,8 @@ pub map-append : (f : List Threat → List Threat) (xs ys : Lists) → map f (xs
 map-append f [] ys = refl
 map-append f (x ∷ xs) ys = ap (λ (zs : Lists). f x ∷ zs) (map-append f xs ys)
 
-pub path-longer : (path : List Threat) (t : Threat) (lists : Lists) → after_path path (map (λ more. t ∷ more) lists) ≡ after_path (path ++ t ∷ []) lists
+pub path-longer : (path : List Threat) (t : Threat) (lists : Lists)
+    → after_path path (map (λ more. t ∷ more) lists) ≡ after_path (path ++ t ∷ []) lists
 path-longer path t [] = refl
 path-longer path t (ts ∷ lists) = λ i. (sym (append_assoc path (t ∷ []) ts) i) ∷ (path-longer path t lists i)
 

@@ -2,13 +2,15 @@
 -- final point depends on a gain only if both are on one line: the stone on the gain plays no part in the runs through any other point. A
 -- threat keeps the lines on which its gain is not, but for what it fills. So where a point makes two five points after it, and is on no
 -- line with its gain, it did so before.
-use Rattle.std.proofs.Common.{◌≡◌, ℕ, ◌+◌, ◌<◌, false, ◌||◌, List, ◌∷◌, drop, length, get_or, sym, ap, ◌∙◌, add-one, drop-cons, suc, ◌-◌, Bool, true, cond, ◌&&◌, not, [], refl, subst, arith, nat_le, is_none, ◌++◌, Result, Ok, Err, IfOk, filter}
+use Rattle.std.proofs.Common.{◌≡◌, ℕ, ◌+◌, ◌<◌, false, ◌||◌, List, ◌∷◌, drop, length, get_or, sym, ap, ◌∙◌, add-one, drop-cons, suc, ◌-◌}
+use Rattle.std.proofs.Common.{Bool, true, cond, ◌&&◌, not, [], refl, subst, arith, nat_le, is_none, ◌++◌, Result, Ok, Err, IfOk, filter}
 use Rattle.std.proofs.lemmas.Bool.{false_from_ne_true, and_from, or_right}
 use Rattle.std.proofs.lemmas.Bool.Decides.{nat_tests}
 use Rattle.game_rules.specs.declared.RuleKind.{RuleKind}
 use Rattle.game_rules.specs.declared.Side.{Side}
 use Rattle.game_rules.specs.declared.Point.{Point}
-use Rattle.game_rules.proofs.Common.{Grid, is_double_point, has_five, IsBoard, is_on, is_empty, is_stone_of, cell_at, put, lift, five, foul_of, has_fouls, five_points, is_aligned, points_of, is_same_point, other}
+use Rattle.game_rules.proofs.Common.{Grid, is_double_point, has_five, IsBoard, is_on, is_empty, is_stone_of, cell_at, put, lift, five}
+use Rattle.game_rules.proofs.Common.{foul_of, has_fouls, five_points, is_aligned, points_of, is_same_point, other}
 use Rattle.game_rules.proofs.Wins.{no_five}
 use Rattle.game_rules.proofs.Boards.{and_left, and_right, is_empty-on}
 use Rattle.game_rules.proofs.Positions.{IsBoard-lift, put-lift}
@@ -21,18 +23,22 @@ use Rattle.threat_moves.specs.declared.threat_list.Threat.{Threat}
 use Rattle.threat_moves.proofs.GainLaws.{several}
 use Rattle.threat_moves.proofs.ThreatLists.{last_added}
 use Rattle.threat_moves.proofs.Common.{is_several}
-use Rattle.threat_space.specs.Sequences.{with_stone, with_stones, is_final_point, played, played_all, final_depends, all_needed, is_sequence}
+use Rattle.threat_space.specs.Sequences.{with_stone, with_stones, is_final_point, played, played_all, final_depends, all_needed}
+use Rattle.threat_space.specs.Sequences.{is_sequence}
 use Rattle.threat_space.specs.Lines.{has_point, may_make_two, HasPairsAfter, EndsNear, HasPairsOf, HasFarPairs}
 
 -- the point that stands where there is none
 abbrev pub zero_point : Point
 zero_point = record { x = 0; y = 0 }
 
-pub put-next : (b : Grid) (s : Side) (ps : List Point) (i : ℕ) → i < length ps → with_stones b s (drop i ps) ≡ with_stones (with_stone b s (get_or ps i zero_point)) s (drop (i + 1) ps)
-put-next b s ps i low = ap (with_stones b s) (drop-cons ps i zero_point low ∙ ap (λ k. get_or ps i zero_point ∷ drop k ps) (sym (add-one i)))
+pub put-next : (b : Grid) (s : Side) (ps : List Point) (i : ℕ) → i < length ps
+    → with_stones b s (drop i ps) ≡ with_stones (with_stone b s (get_or ps i zero_point)) s (drop (i + 1) ps)
+put-next b s ps i low = ap (with_stones b s)
+    (drop-cons ps i zero_point low ∙ ap (λ k. get_or ps i zero_point ∷ drop k ps) (sym (add-one i)))
 
 -- where the side has no five point, a final point is a double point
-pub new-final : (rule : RuleKind) (b : Grid) (s : Side) (p : Point) → has_five rule b s ≡ false → is_final_point rule b s p ≡ is_double_point rule b s p
+pub new-final : (rule : RuleKind) (b : Grid) (s : Side) (p : Point) → has_five rule b s ≡ false
+    → is_final_point rule b s p ≡ is_double_point rule b s p
 unfolding is_final_point
 new-final rule b s p none = ap (λ r. r || is_double_point rule b s p) (no_five rule b s p none)
 
@@ -41,7 +47,8 @@ all_four a b c d e f g h = rw (e, f, g, h) refl
 
 -- ---- the board without the stone on the gain g
 
-module _ (rule : RuleKind) (b : Grid) (s : Side) (g f : Point) (ok : IsBoard b) (there : holds_stone b g ≡ true) (off : is_aligned g f ≡ false) (free : has_fouls rule s ≡ false) (none : has_five rule b s ≡ false) (open_f : is_empty b f ≡ true) where
+module _ (rule : RuleKind) (b : Grid) (s : Side) (g f : Point) (ok : IsBoard b) (there : holds_stone b g ≡ true)
+    (off : is_aligned g f ≡ false) (free : has_fouls rule s ≡ false) (none : has_five rule b s ≡ false) (open_f : is_empty b f ≡ true) where
   abbrev less : Grid
   less = lift b g
 
@@ -77,14 +84,18 @@ module _ (rule : RuleKind) (b : Grid) (s : Side) (g f : Point) (ok : IsBoard b) 
 
 -- ---- the final point of a list
 
-final_empty : (rule : RuleKind) (b : Grid) (s : Side) (f : Point) → has_five rule b s ≡ false → is_final_point rule b s f ≡ true → is_empty b f ≡ true
+final_empty : (rule : RuleKind) (b : Grid) (s : Side) (f : Point) → has_five rule b s ≡ false → is_final_point rule b s f ≡ true
+    → is_empty b f ≡ true
 unfolding is_double_point
 final_empty rule b s f none h =
     let double : is_double_point rule b s f ≡ true = sym (new-final rule b s f none) ∙ h in
-    and_left (is_empty b f) _ (and_left (is_empty b f && not (five rule b s f)) _ (and_left (is_empty b f && not (five rule b s f) && is_none (foul_of rule b s f)) _ double))
+    and_left (is_empty b f) _
+    (and_left (is_empty b f && not (five rule b s f)) _
+    (and_left (is_empty b f && not (five rule b s f) && is_none (foul_of rule b s f)) _ double))
 
 -- a final point that is on no line with a gain does not depend on it
-far_final : (rule : RuleKind) (b : Grid) (s : Side) (g f : Point) → IsBoard b → is_aligned g f ≡ false → has_fouls rule s ≡ false → has_five rule b s ≡ false → is_final_point rule b s f ≡ true → final_depends rule b s g f ≡ false
+far_final : (rule : RuleKind) (b : Grid) (s : Side) (g f : Point) → IsBoard b → is_aligned g f ≡ false → has_fouls rule s ≡ false
+    → has_five rule b s ≡ false → is_final_point rule b s f ≡ true → final_depends rule b s g f ≡ false
 unfolding final_depends
 far_final rule b s g f ok off free none h = ap not (by_stone (holds_stone b g) refl) where
   by_stone : (r : Bool) → holds_stone b g ≡ r → is_final_point rule (cond r (lift b g) b) s f ≡ true
@@ -93,7 +104,8 @@ far_final rule b s g f ok off free none h = ap not (by_stone (holds_stone b g) r
 
 module _ (rule : RuleKind) (s : Side) (f : Point) where
   -- the last gain is needed by the final point alone
-  last_needed : (b : Grid) (ts : List Threat) (t : Threat) → 0 < length ts → t ≡ get_or ts (length ts - 1) t → all_needed rule s f b ts ≡ true → final_depends rule (played_all b s ts) s t.gain f ≡ true
+  last_needed : (b : Grid) (ts : List Threat) (t : Threat) → 0 < length ts → t ≡ get_or ts (length ts - 1) t
+      → all_needed rule s f b ts ≡ true → final_depends rule (played_all b s ts) s t.gain f ≡ true
   last_needed b [] t some is h = absurd (omega (arith, some))
   last_needed b (u ∷ []) t some is h =
       let first : final_depends rule (played b s u) s u.gain f ≡ true = and_left (final_depends rule (played b s u) s u.gain f) _ h in
@@ -103,21 +115,28 @@ module _ (rule : RuleKind) (s : Side) (f : Point) where
       last_needed (played b s u) (v ∷ us) t (omega arith) (is ∙ ap (λ k. get_or (u ∷ v ∷ us) k t) place) (and_right _ _ h)
 
 -- so where the side has no fouls, a list whose final point is on no line with its last gain is no sequence
-ends-aligned : (rule : RuleKind) (s : Side) (start b : Grid) (ts : List Threat) (t : Threat) → IsBoard b → b ≡ played_all start s ts → 0 < length ts → t ≡ get_or ts (length ts - 1) t → has_fouls rule s ≡ false → has_five rule b s ≡ false → (f : Point) → is_aligned t.gain f ≡ false → is_sequence rule s start ts f ≡ false
+ends-aligned : (rule : RuleKind) (s : Side) (start b : Grid) (ts : List Threat) (t : Threat) → IsBoard b → b ≡ played_all start s ts
+    → 0 < length ts → t ≡ get_or ts (length ts - 1) t → has_fouls rule s ≡ false → has_five rule b s ≡ false → (f : Point)
+    → is_aligned t.gain f ≡ false → is_sequence rule s start ts f ≡ false
 unfolding is_sequence
 ends-aligned rule s start b ts t ok is some last free none f off = false_from_ne_true _ (λ h.
-    let final : is_final_point rule b s f ≡ true = ap (λ (c : Grid). is_final_point rule c s f) is ∙ and_left (is_final_point rule (played_all start s ts) s f) _ h in
-    let needed : final_depends rule b s t.gain f ≡ true = ap (λ (c : Grid). final_depends rule c s t.gain f) is ∙ last_needed rule s f start ts t some last (and_right (is_final_point rule (played_all start s ts) s f) _ h) in
+    let final : is_final_point rule b s f ≡ true = ap (λ (c : Grid). is_final_point rule c s f) is
+    ∙ and_left (is_final_point rule (played_all start s ts) s f) _ h in
+    let needed : final_depends rule b s t.gain f ≡ true =
+    ap (λ (c : Grid). final_depends rule c s t.gain f) is
+    ∙ last_needed rule s f start ts t some last (and_right (is_final_point rule (played_all start s ts) s f) _ h) in
     let no : final_depends rule b s t.gain f ≡ false = far_final rule b s t.gain f ok off free none final in
     let bad : true ≡ false = sym needed ∙ no in
     cc)
 
 -- and where it has some, such a final point is one at which a stone makes two five points
-final-pair : (rule : RuleKind) (b : Grid) (s : Side) (f : Point) → has_five rule b s ≡ false → is_final_point rule b s f ≡ true → may_make_two rule b s f ≡ true
+final-pair : (rule : RuleKind) (b : Grid) (s : Side) (f : Point) → has_five rule b s ≡ false → is_final_point rule b s f ≡ true
+    → may_make_two rule b s f ≡ true
 unfolding is_double_point
 final-pair rule b s f none h =
     let double : is_double_point rule b s f ≡ true = sym (new-final rule b s f none) ∙ h in
-    let two : nat_le 2 (length (five_points rule (put b s f) s)) ≡ true = and_right (is_empty b f && not (five rule b s f) && is_none (foul_of rule b s f)) _ double in
+    let two : nat_le 2 (length (five_points rule (put b s f) s)) ≡ true =
+    and_right (is_empty b f && not (five rule b s f) && is_none (foul_of rule b s f)) _ double in
     both (is_empty b f) (has_five rule b s) _ (final_empty rule b s f none h) (several (five_points rule (put b s f) s) ∙ two) where
       both : (r t u : Bool) → r ≡ true → u ≡ true → (r && (t || u)) ≡ true
       both true true u e k = refl
@@ -125,13 +144,16 @@ final-pair rule b s f none h =
       both false t u e k = e
 
 -- a list with a final point that is on no line with its last gain, and is none of the pairs, is no sequence
-pub ends-near : (rule : RuleKind) (s : Side) (start b : Grid) (ts : List Threat) (t : Threat) (far : List Point) → IsBoard b → b ≡ played_all start s ts → 0 < length ts → t ≡ get_or ts (length ts - 1) t → has_five rule b s ≡ false → HasPairsAfter rule b s ts far → EndsNear rule s start ts t.gain far
+pub ends-near : (rule : RuleKind) (s : Side) (start b : Grid) (ts : List Threat) (t : Threat) (far : List Point) → IsBoard b
+    → b ≡ played_all start s ts → 0 < length ts → t ≡ get_or ts (length ts - 1) t → has_five rule b s ≡ false
+    → HasPairsAfter rule b s ts far → EndsNear rule s start ts t.gain far
 unfolding is_sequence
 ends-near rule s start b ts t far ok is some last none pairs f off not_far = by_fouls (has_fouls rule s) refl where
   by_fouls : (r : Bool) → has_fouls rule s ≡ r → is_sequence rule s start ts f ≡ false
   by_fouls false free = ends-aligned rule s start b ts t ok is some last free none f off
   by_fouls true fouls = false_from_ne_true _ (λ h.
-      let final : is_final_point rule b s f ≡ true = ap (λ (c : Grid). is_final_point rule c s f) is ∙ and_left (is_final_point rule (played_all start s ts) s f) _ h in
+      let final : is_final_point rule b s f ≡ true = ap (λ (c : Grid). is_final_point rule c s f) is
+      ∙ and_left (is_final_point rule (played_all start s ts) s f) _ h in
       let there : has_point far f ≡ true = pairs fouls t some last none f off (final-pair rule b s f none final) in
       let bad : false ≡ true = sym not_far ∙ there in
       cc)
@@ -178,7 +200,8 @@ pair_kept rule b c s f keeps none open_f h =
 -- ---- lists of such points
 
 -- what a list has of the board before a threat, it has far from the gain of the board after it
-pub far-pairs : (rule : RuleKind) (b : Grid) (s : Side) (t : Threat) (far : List Point) → IsBoard b → has_fouls rule s ≡ true → HasPairsOf rule b s far → HasFarPairs rule (played b s t) s t.gain far
+pub far-pairs : (rule : RuleKind) (b : Grid) (s : Side) (t : Threat) (far : List Point) → IsBoard b → has_fouls rule s ≡ true
+    → HasPairsOf rule b s far → HasFarPairs rule (played b s t) s t.gain far
 far-pairs rule b s t far ok fouls pairs none p off two =
     let open_p : is_empty (played b s t) p ≡ true = and_left (is_empty (played b s t) p) _ two in
     let here : is_several (in_short (five_points rule (put (played b s t) s p) s)) ≡ true = second (has_five rule (played b s t) s) _ none
@@ -187,7 +210,8 @@ far-pairs rule b s t far ok fouls pairs none p off two =
       second : (r t : Bool) → r ≡ false → (r || t) ≡ true → t ≡ true
       second r t e h = sym (ap (λ v. v || t) e) ∙ h
 
-pub pairs-after : (rule : RuleKind) (b : Grid) (s : Side) (path longer : List Threat) (t : Threat) (far : List Point) → IsBoard b → HasPairsOf rule b s far → longer ≡ path ++ t ∷ [] → HasPairsAfter rule (played b s t) s longer far
+pub pairs-after : (rule : RuleKind) (b : Grid) (s : Side) (path longer : List Threat) (t : Threat) (far : List Point) → IsBoard b
+    → HasPairsOf rule b s far → longer ≡ path ++ t ∷ [] → HasPairsAfter rule (played b s t) s longer far
 pairs-after rule b s path longer t far ok pairs is fouls u some last =
     let same : u ≡ t = last ∙ ap (λ (ts : List Threat). get_or ts (length ts - 1) u) is ∙ last_added path t u in
     subst (λ (v : Threat). HasFarPairs rule (played b s t) s v.gain far) (sym same) (far-pairs rule b s t far ok fouls pairs)
@@ -196,7 +220,8 @@ pairs-after rule b s path longer t far ok pairs is fouls u some last =
 passes_too : (h : Point → Bool) (xs : List Point) (p : Point) → h p ≡ true → has_point xs p ≡ true → has_point (filter h xs) p ≡ true
 passes_too h [] p pass there = there
 passes_too h (x ∷ xs) p pass there = by_same (is_same_point x p) refl there (passes_too h xs p pass) where
-  by_same : (r : Bool) → is_same_point x p ≡ r → (r || has_point xs p) ≡ true → (has_point xs p ≡ true → has_point (filter h xs) p ≡ true) → has_point (cond (h x) (x ∷ filter h xs) (filter h xs)) p ≡ true
+  by_same : (r : Bool) → is_same_point x p ≡ r → (r || has_point xs p) ≡ true → (has_point xs p ≡ true → has_point (filter h xs) p ≡ true)
+      → has_point (cond (h x) (x ∷ filter h xs) (filter h xs)) p ≡ true
   by_same true e k rest =
       let pass_x : h x ≡ true = ap h (is_same_point-same x p e) ∙ pass in
       rw (pass_x, e) refl
@@ -206,7 +231,8 @@ passes_too h (x ∷ xs) p pass there = by_same (is_same_point x p) refl there (p
     by_test false there = there
 
 -- so the points of a board that pass the test are all pairs
-pub filtered-pairs : {E : Type 0} (rule : RuleKind) (b : Grid) (s : Side) (r : Result (List Point) E) → IfOk r (λ found. found ≡ filter (may_make_two rule b s) (points_of b)) → IfOk r (λ found. HasPairsOf rule b s found)
+pub filtered-pairs : {E : Type 0} (rule : RuleKind) (b : Grid) (s : Side) (r : Result (List Point) E)
+    → IfOk r (λ found. found ≡ filter (may_make_two rule b s) (points_of b)) → IfOk r (λ found. HasPairsOf rule b s found)
 filtered-pairs rule b s (Err e) h = h
 filtered-pairs rule b s (Ok found) is = λ fouls p two.
     let on : is_on b p ≡ true = is_empty-on b p (and_left (is_empty b p) _ two) in

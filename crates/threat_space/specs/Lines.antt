@@ -28,11 +28,13 @@ HasPairsOf rule b s far = has_fouls rule s ≡ true → (p : Point) → may_make
 
 -- where the side has no five point, the list has each point, but those on a line with g, at which its stone makes two or more
 abbrev pub HasFarPairs : RuleKind → Grid → Side → Point → List Point → Type 0
-HasFarPairs rule b s g far = has_five rule b s ≡ false → (p : Point) → is_aligned g p ≡ false → may_make_two rule b s p ≡ true → has_point far p ≡ true
+HasFarPairs rule b s g far = has_five rule b s ≡ false → (p : Point) → is_aligned g p ≡ false → may_make_two rule b s p ≡ true
+    → has_point far p ≡ true
 
 -- the same where b is the board after these threats of a side with fouls, and g the last gain
 abbrev pub HasPairsAfter : RuleKind → Grid → Side → List Threat → List Point → Type 0
-HasPairsAfter rule b s ts far = has_fouls rule s ≡ true → (t : Threat) → 0 < length ts → t ≡ get_or ts (length ts - 1) t → HasFarPairs rule b s t.gain far
+HasPairsAfter rule b s ts far = has_fouls rule s ≡ true → (t : Threat) → 0 < length ts → t ≡ get_or ts (length ts - 1) t
+    → HasFarPairs rule b s t.gain far
 
 -- the list from b is a sequence with no final point but those on a line with g and those of the list
 abbrev pub EndsNear : RuleKind → Side → Grid → List Threat → Point → List Point → Type 0

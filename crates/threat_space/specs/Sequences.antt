@@ -1,6 +1,7 @@
 -- Sequences of threats, their order, and how many lists a search of one looks at (after Allis, van den Herik and Huntjens, "Go-Moku
 -- and Threat-Space Search").
-use Rattle.std.specs.Prelude.{ℕ, zero, suc, ◌+◌, Bool, true, ◌&&◌, ◌||◌, not, if◌then◌else◌, nat_le, List, [], ◌∷◌, map, Option, Some, None, is_some}
+use Rattle.std.specs.Prelude.{ℕ, zero, suc, ◌+◌, Bool, true, ◌&&◌, ◌||◌, not, if◌then◌else◌, nat_le, List, [], ◌∷◌, map, Option, Some, None}
+use Rattle.std.specs.Prelude.{is_some}
 use Rattle.std.specs.List.{flat_map, find, range_with_len}
 use Rattle.game_rules.specs.Grid.{Grid, is_empty, put, lift, points_of}
 use Rattle.game_rules.specs.Shapes.{five}

@@ -1,9 +1,11 @@
 -- The sessions with the block that is a foul.
-use Rattle.std.proofs.Common.{◌≡◌, ℕ, zero, suc, Bool, true, false, List, [], ◌∷◌, ◌++◌, codes, refl, ap, subst, ◌∙◌, arith, nat_eq, Option, Some, None, slice_get}
+use Rattle.std.proofs.Common.{◌≡◌, ℕ, zero, suc, Bool, true, false, List, [], ◌∷◌, ◌++◌, codes, refl, ap, subst, ◌∙◌, arith, nat_eq, Option}
+use Rattle.std.proofs.Common.{Some, None, slice_get}
 use Rattle.std.specs.Fmt.{digits}
 use Rattle.std.specs.List.{list_all}
 use Rattle.std.proofs.lemmas.List.Elements.{All-nil, All-cons}
-use Rattle.game_rules.proofs.Common.{Grid, IsBoard, points_of, empties_of, is_same_point, fours_of, three_points_of, is_three_point, gives_straight, is_straight, outcome, after, black_foul, black_foul_within, stone_foul, is_three}
+use Rattle.game_rules.proofs.Common.{Grid, IsBoard, points_of, empties_of, is_same_point, fours_of, three_points_of, is_three_point}
+use Rattle.game_rules.proofs.Common.{gives_straight, is_straight, outcome, after, black_foul, black_foul_within, stone_foul, is_three}
 use Rattle.game_rules.specs.declared.RuleKind.TheVariants.{Renju}
 use Rattle.game_rules.specs.declared.Side.TheVariants.{White}
 use Rattle.game_rules.specs.declared.Foul.TheVariants.{Overline}
@@ -62,7 +64,8 @@ unfolding attacked on_the_block overline_board
 all_met = refl
 
 block_fouls : outcome Renju attacked (point_at 7 3) ≡ Fouls Overline
-unfolding attacked overline_board outcome black_foul black_foul_within stone_foul fours_of is_three three_points_of is_three_point gives_straight is_straight
+unfolding attacked overline_board outcome black_foul black_foul_within stone_foul fours_of is_three three_points_of is_three_point
+    gives_straight is_straight
 block_fouls = refl
 
 attack_goes_on : outcome Renju overline_board (point_at 6 3) ≡ GoesOn
@@ -90,7 +93,9 @@ unrefused = refl
 
 pub overline-held : IsHeld overline_table
 overline-held = record {
-  roots = All-cons (IsHeldRoot overline_table.table) _ [] (record { lawful = lawful_from_none Renju overline_board is_board unrefused; below = refl; accepted = accepted }) (All-nil (IsHeldRoot overline_table.table));
+  roots = All-cons (IsHeldRoot overline_table.table) _ []
+      (record { lawful = lawful_from_none Renju overline_board is_board unrefused; below = refl; accepted = accepted })
+      (All-nil (IsHeldRoot overline_table.table));
   few = omega arith;
 }
 
@@ -98,14 +103,16 @@ overline-held = record {
 
 told : List Command
 told =
-    Start 15 ∷ Rule 4 ∷ Board ∷ Stone 3 3 1 ∷ Stone 4 3 1 ∷ Stone 5 3 1 ∷ Stone 12 14 1 ∷ Stone 14 14 1 ∷ Stone 7 0 2 ∷ Stone 7 1 2 ∷ Stone 7 2 2 ∷ Stone 2 3 2
+    Start 15 ∷ Rule 4 ∷ Board ∷ Stone 3 3 1 ∷ Stone 4 3 1 ∷ Stone 5 3 1 ∷ Stone 12 14 1 ∷ Stone 14 14 1 ∷ Stone 7 0 2 ∷ Stone 7 1 2 ∷ Stone
+    7 2 2 ∷ Stone 2 3 2
     ∷ Stone 7 4 2 ∷ Stone 7 5 2 ∷ []
 
 played : Game
 played = new_game Renju overline_board White
 
 begins : BeginsHeldGame (state_after (new_brain overline_table) told) Done played 1
-unfolding told played overline_board state_after row_of chosen chosen_anew refusal outcome black_foul black_foul_within stone_foul fours_of is_three three_points_of is_three_point gives_straight is_straight
+unfolding told played overline_board state_after row_of chosen chosen_anew refusal outcome black_foul black_foul_within stone_foul fours_of
+    is_three three_points_of is_three_point gives_straight is_straight
 begins = record { chooses = refl; not_followed = refl; leads = refl }
 
 elsewhere : List Command
@@ -115,24 +122,31 @@ elsewhere_lines : commands elsewhere_input ≡ told ++ Done ∷ elsewhere
 unfolding elsewhere_input told elsewhere
 elsewhere_lines = refl
 
-elsewhere_answers : answers_from (new_brain overline_table) (told ++ Done ∷ elsewhere) ≡ SaysOk ∷ Move (point_at 6 3) ∷ Move (point_at 7 3) ∷ Error GameOver ∷ []
-unfolding told elsewhere overline_board answers_from row_of chosen chosen_anew refusal outcome black_foul black_foul_within stone_foul fours_of is_three three_points_of is_three_point gives_straight is_straight
+elsewhere_answers : answers_from (new_brain overline_table) (told ++ Done ∷ elsewhere) ≡ SaysOk ∷ Move (point_at 6 3) ∷ Move (point_at 7 3)
+    ∷ Error GameOver ∷ []
+unfolding told elsewhere overline_board answers_from row_of chosen chosen_anew refusal outcome black_foul black_foul_within stone_foul
+    fours_of is_three three_points_of is_three_point gives_straight is_straight
 elsewhere_answers = refl
 
 pub elsewhere-text : session_text (new_brain overline_table) elsewhere_input ≡ codes "OK\r\n6,3\r\n7,3\r\nERROR game over\r\n"
 unfolding digits
-elsewhere-text = ap (λ (cs : List Command). answer_texts (answers_from (new_brain overline_table) cs)) elsewhere_lines ∙ ap answer_texts elsewhere_answers
+elsewhere-text = ap (λ (cs : List Command). answer_texts (answers_from (new_brain overline_table) cs)) elsewhere_lines
+    ∙ ap answer_texts elsewhere_answers
 
 elsewhere_replies : replies (brain_step (state_after (new_brain overline_table) told) Done).next elsewhere ≡ point_at 0 14 ∷ []
-unfolding told elsewhere overline_board replies state_after row_of chosen chosen_anew refusal outcome black_foul black_foul_within stone_foul fours_of is_three three_points_of is_three_point gives_straight is_straight
+unfolding told elsewhere overline_board replies state_after row_of chosen chosen_anew refusal outcome black_foul black_foul_within
+    stone_foul fours_of is_three three_points_of is_three_point gives_straight is_straight
 elsewhere_replies = refl
 
-elsewhere_game : game_answers Renju overline_table.table 1 overline_board (point_at 0 14 ∷ []) ≡ Move (point_at 6 3) ∷ Move (point_at 7 3) ∷ []
-unfolding overline_board attacks outcome black_foul black_foul_within stone_foul fours_of is_three three_points_of is_three_point gives_straight is_straight
+elsewhere_game : game_answers Renju overline_table.table 1 overline_board (point_at 0 14 ∷ []) ≡ Move (point_at 6 3) ∷ Move (point_at 7 3) ∷
+    []
+unfolding overline_board attacks outcome black_foul black_foul_within stone_foul fours_of is_three three_points_of is_three_point
+    gives_straight is_straight
 elsewhere_game = refl
 
 elsewhere_won : game Renju overline_table.table 1 overline_board (point_at 0 14 ∷ []) ≡ Won 2
-unfolding overline_board game outcome black_foul black_foul_within stone_foul fours_of is_three three_points_of is_three_point gives_straight is_straight
+unfolding overline_board game outcome black_foul black_foul_within stone_foul fours_of is_three three_points_of is_three_point
+    gives_straight is_straight
 elsewhere_won = refl
 
 pub elsewhere-game : PlaysHeldGame overline_table elsewhere_input 1 (point_at 0 14 ∷ []) (Move (point_at 6 3) ∷ Move (point_at 7 3) ∷ []) 2
@@ -149,7 +163,8 @@ elsewhere-game =
       replied = elsewhere_replies;
       first = law.first;
       says = law.says;
-      answered = law.answers ∙ ap (λ (qs : List Point). game_answers Renju overline_table.table 1 overline_board qs) elsewhere_replies ∙ elsewhere_game;
+      answered = law.answers ∙ ap (λ (qs : List Point). game_answers Renju overline_table.table 1 overline_board qs) elsewhere_replies
+          ∙ elsewhere_game;
       won = elsewhere_won;
     }
 
@@ -162,24 +177,30 @@ block_lines : commands block_input ≡ told ++ Done ∷ block
 unfolding block_input told block
 block_lines = refl
 
-block_answers : answers_from (new_brain overline_table) (told ++ Done ∷ block) ≡ SaysOk ∷ Move (point_at 6 3) ∷ Error OpponentFoul ∷ Error GameOver ∷ []
-unfolding told block overline_board answers_from row_of chosen chosen_anew refusal outcome black_foul black_foul_within stone_foul fours_of is_three three_points_of is_three_point gives_straight is_straight
+block_answers : answers_from (new_brain overline_table) (told ++ Done ∷ block) ≡ SaysOk ∷ Move (point_at 6 3) ∷ Error OpponentFoul ∷ Error
+    GameOver ∷ []
+unfolding told block overline_board answers_from row_of chosen chosen_anew refusal outcome black_foul black_foul_within stone_foul fours_of
+    is_three three_points_of is_three_point gives_straight is_straight
 block_answers = refl
 
 pub block-text : session_text (new_brain overline_table) block_input ≡ codes "OK\r\n6,3\r\nERROR opponent foul\r\nERROR game over\r\n"
 unfolding digits
-block-text = ap (λ (cs : List Command). answer_texts (answers_from (new_brain overline_table) cs)) block_lines ∙ ap answer_texts block_answers
+block-text = ap (λ (cs : List Command). answer_texts (answers_from (new_brain overline_table) cs)) block_lines
+    ∙ ap answer_texts block_answers
 
 block_replies : replies (brain_step (state_after (new_brain overline_table) told) Done).next block ≡ point_at 7 3 ∷ []
-unfolding told block overline_board replies state_after row_of chosen chosen_anew refusal outcome black_foul black_foul_within stone_foul fours_of is_three three_points_of is_three_point gives_straight is_straight
+unfolding told block overline_board replies state_after row_of chosen chosen_anew refusal outcome black_foul black_foul_within stone_foul
+    fours_of is_three three_points_of is_three_point gives_straight is_straight
 block_replies = refl
 
 block_game : game_answers Renju overline_table.table 1 overline_board (point_at 7 3 ∷ []) ≡ Move (point_at 6 3) ∷ Error OpponentFoul ∷ []
-unfolding overline_board attacks outcome black_foul black_foul_within stone_foul fours_of is_three three_points_of is_three_point gives_straight is_straight
+unfolding overline_board attacks outcome black_foul black_foul_within stone_foul fours_of is_three three_points_of is_three_point
+    gives_straight is_straight
 block_game = refl
 
 block_won : game Renju overline_table.table 1 overline_board (point_at 7 3 ∷ []) ≡ Won 1
-unfolding overline_board game outcome black_foul black_foul_within stone_foul fours_of is_three three_points_of is_three_point gives_straight is_straight
+unfolding overline_board game outcome black_foul black_foul_within stone_foul fours_of is_three three_points_of is_three_point
+    gives_straight is_straight
 block_won = refl
 
 pub block-game : PlaysHeldGame overline_table block_input 1 (point_at 7 3 ∷ []) (Move (point_at 6 3) ∷ Error OpponentFoul ∷ []) 1
@@ -196,6 +217,7 @@ block-game =
       replied = block_replies;
       first = law.first;
       says = law.says;
-      answered = law.answers ∙ ap (λ (qs : List Point). game_answers Renju overline_table.table 1 overline_board qs) block_replies ∙ block_game;
+      answered = law.answers ∙ ap (λ (qs : List Point). game_answers Renju overline_table.table 1 overline_board qs) block_replies
+          ∙ block_game;
       won = block_won;
     }

@@ -1,5 +1,6 @@
 -- Sessions in which a win of the brain's own is followed to its end, whatever is held that has no say where it is found.
-use Rattle.std.proofs.Common.{◌≡◌, ℕ, Bool, true, false, List, [], ◌∷◌, ◌++◌, codes, refl, ap, subst, ◌∙◌, arith, Option, Some, None, slice_get, zero, suc}
+use Rattle.std.proofs.Common.{◌≡◌, ℕ, Bool, true, false, List, [], ◌∷◌, ◌++◌, codes, refl, ap, subst, ◌∙◌, arith, Option, Some, None}
+use Rattle.std.proofs.Common.{slice_get, zero, suc}
 use Rattle.std.specs.Fmt.{digits}
 use Rattle.std.specs.List.{find}
 use Rattle.std.proofs.lemmas.List.Elements.{All-nil, All-cons}
@@ -38,7 +39,8 @@ use Rattle.worked_examples.proofs.OwnWinSession.{chooses, answers_by_step, repli
 
 -- the game at its beginning, and after Black's first move
 abbrev game_with : List Point → Option Followed → Game
-game_with moves followed = record { rule = Freestyle; start = three_board; moves = moves; brain = Black; ended = false; followed = followed }
+game_with moves followed =
+    record { rule = Freestyle; start = three_board; moves = moves; brain = Black; ended = false; followed = followed }
 
 abbrev start_game : Game
 start_game = game_with [] None

@@ -1,5 +1,6 @@
 -- The session in which a win of the brain's own is followed, and after moves were taken back a held start.
-use Rattle.std.proofs.Common.{◌≡◌, ℕ, zero, suc, Bool, true, false, List, [], ◌∷◌, ◌++◌, codes, refl, sym, ap, subst, ◌∙◌, arith, nat_eq, Option, Some, None, slice_get}
+use Rattle.std.proofs.Common.{◌≡◌, ℕ, zero, suc, Bool, true, false, List, [], ◌∷◌, ◌++◌, codes, refl, sym, ap, subst, ◌∙◌, arith, nat_eq}
+use Rattle.std.proofs.Common.{Option, Some, None, slice_get}
 use Rattle.std.specs.Fmt.{digits}
 use Rattle.std.specs.List.{list_all}
 use Rattle.std.proofs.lemmas.List.Elements.{All-nil, All-cons}
@@ -81,26 +82,33 @@ four_unrefused = refl
 
 pub one_start-held : IsHeld one_start
 one_start-held = record {
-  roots = All-cons (IsHeldRoot one_start.table) (record { root = Defend after_four; kind = Freestyle; board = four_board }) [] (record { lawful = lawful_from_none Freestyle four_board four_is_board four_unrefused; below = refl; accepted = start_accepted }) (All-nil (IsHeldRoot one_start.table));
+  roots = All-cons (IsHeldRoot one_start.table) (record { root = Defend after_four; kind = Freestyle; board = four_board }) []
+      (record { lawful = lawful_from_none Freestyle four_board four_is_board four_unrefused; below = refl; accepted = start_accepted })
+      (All-nil (IsHeldRoot one_start.table));
   few = omega arith;
 }
 
 -- ---- one command after another
 
-pub chooses : (s : State) (c : Command) (g : Game) (ch : Choice) → row_of s c ≡ Chooses g → chosen s.held g ≡ ch → brain_step s c ≡ record { reaction = Says (Move ch.at); next = placed s (InGame (with_choice g ch)) }
-chooses s c g ch row is = ap (step_by s) row ∙ ap (λ (x : Choice). let st : Step = record { reaction = Says (Move x.at); next = placed s (InGame (with_choice g x)) } in st) is
+pub chooses : (s : State) (c : Command) (g : Game) (ch : Choice) → row_of s c ≡ Chooses g → chosen s.held g ≡ ch
+    → brain_step s c ≡ record { reaction = Says (Move ch.at); next = placed s (InGame (with_choice g ch)) }
+chooses s c g ch row is = ap (step_by s) row ∙ ap
+    (λ (x : Choice). let st : Step = record { reaction = Says (Move x.at); next = placed s (InGame (with_choice g x)) } in st) is
 
-pub answers_by_step : (s : State) (c : Command) (cs : List Command) (st : Step) → brain_step s c ≡ st → answers_from s (c ∷ cs) ≡ then_answers st.reaction (answers_from st.next cs)
+pub answers_by_step : (s : State) (c : Command) (cs : List Command) (st : Step) → brain_step s c ≡ st
+    → answers_from s (c ∷ cs) ≡ then_answers st.reaction (answers_from st.next cs)
 unfolding answers_from
 answers_by_step s c cs st e = ap (λ (x : Step). then_answers x.reaction (answers_from x.next cs)) e
 
-state_by_step : (s : State) (c : Command) (cs : List Command) (st : Step) → brain_step s c ≡ st → state_after s (c ∷ cs) ≡ then_state st.reaction st.next (state_after st.next cs)
+state_by_step : (s : State) (c : Command) (cs : List Command) (st : Step) → brain_step s c ≡ st
+    → state_after s (c ∷ cs) ≡ then_state st.reaction st.next (state_after st.next cs)
 unfolding state_after
 state_by_step s c cs st e = ap (λ (x : Step). then_state x.reaction x.next (state_after x.next cs)) e
 
 -- the game at its beginning, after the brain's move, after White's, and at its end
 abbrev game_at : List Point → Bool → Option Followed → Game
-game_at moves ended followed = record { rule = Freestyle; start = three_board; moves = moves; brain = Black; ended = ended; followed = followed }
+game_at moves ended followed =
+    record { rule = Freestyle; start = three_board; moves = moves; brain = Black; ended = ended; followed = followed }
 
 abbrev state_at : Game → State
 state_at g = record { wish = 0; held = one_start; place = InGame g; batch = None }
@@ -115,7 +123,8 @@ own_choice : chosen one_start (game_at [] false None) ≡ record { at = point_at
 unfolding chosen chosen_anew
 own_choice = rw (own_win_is, first_move) refl
 
-own_choice_again : chosen one_start (game_at (point_at 0 14 ∷ point_at 4 7 ∷ []) false (Some (OwnWin 2))) ≡ record { at = point_at 3 7; followed = Some (OwnWin 1) }
+own_choice_again : chosen one_start (game_at (point_at 0 14 ∷ point_at 4 7 ∷ []) false (Some (OwnWin 2)))
+    ≡ record { at = point_at 3 7; followed = Some (OwnWin 1) }
 unfolding chosen replied_board
 own_choice_again = rw second_move refl
 
@@ -123,17 +132,24 @@ done_row : row_of (state_after (new_brain one_start) told) Done ≡ Chooses (gam
 unfolding told three_board state_after row_of refusal
 done_row = refl
 
-done_step : brain_step (state_after (new_brain one_start) told) Done ≡ record { reaction = Says (Move (point_at 4 7)); next = state_at (game_at (point_at 4 7 ∷ []) false (Some (OwnWin 2))) }
+done_step : brain_step (state_after (new_brain one_start) told) Done
+    ≡ record { reaction = Says (Move (point_at 4 7)); next = state_at (game_at (point_at 4 7 ∷ []) false (Some (OwnWin 2))) }
 unfolding told three_board state_after row_of outcome
 done_step = chooses (state_after (new_brain one_start) told) Done (game_at [] false None) _ done_row own_choice
 
-turn_row : row_of (state_at (game_at (point_at 4 7 ∷ []) false (Some (OwnWin 2)))) (Turn 0 14) ≡ Chooses (game_at (point_at 0 14 ∷ point_at 4 7 ∷ []) false (Some (OwnWin 2)))
+turn_row : row_of (state_at (game_at (point_at 4 7 ∷ []) false (Some (OwnWin 2)))) (Turn 0 14) ≡ Chooses
+    (game_at (point_at 0 14 ∷ point_at 4 7 ∷ []) false (Some (OwnWin 2)))
 unfolding three_board row_of outcome
 turn_row = refl
 
-turn_step : brain_step (state_at (game_at (point_at 4 7 ∷ []) false (Some (OwnWin 2)))) (Turn 0 14) ≡ record { reaction = Says (Move (point_at 3 7)); next = state_at (game_at (point_at 3 7 ∷ point_at 0 14 ∷ point_at 4 7 ∷ []) true (Some (OwnWin 1))) }
+turn_step : brain_step (state_at (game_at (point_at 4 7 ∷ []) false (Some (OwnWin 2)))) (Turn 0 14)
+    ≡ record {
+      reaction = Says (Move (point_at 3 7));
+      next = state_at (game_at (point_at 3 7 ∷ point_at 0 14 ∷ point_at 4 7 ∷ []) true (Some (OwnWin 1)));
+    }
 unfolding three_board outcome
-turn_step = chooses (state_at (game_at (point_at 4 7 ∷ []) false (Some (OwnWin 2)))) (Turn 0 14) (game_at (point_at 0 14 ∷ point_at 4 7 ∷ []) false (Some (OwnWin 2))) _ turn_row own_choice_again
+turn_step = chooses (state_at (game_at (point_at 4 7 ∷ []) false (Some (OwnWin 2)))) (Turn 0 14)
+    (game_at (point_at 0 14 ∷ point_at 4 7 ∷ []) false (Some (OwnWin 2))) _ turn_row own_choice_again
 
 -- ---- the session
 
@@ -141,19 +157,23 @@ lines : commands taken_back_input ≡ told ++ Done ∷ Turn 0 14 ∷ rest
 unfolding taken_back_input told rest
 lines = refl
 
-told_answers : answers_from (new_brain one_start) (told ++ Done ∷ Turn 0 14 ∷ rest) ≡ SaysOk ∷ answers_from (state_after (new_brain one_start) told) (Done ∷ Turn 0 14 ∷ rest)
+told_answers : answers_from (new_brain one_start) (told ++ Done ∷ Turn 0 14 ∷ rest) ≡ SaysOk ∷ answers_from
+    (state_after (new_brain one_start) told) (Done ∷ Turn 0 14 ∷ rest)
 unfolding told answers_from state_after row_of
 told_answers = refl
 
-rest_answers : answers_from (state_at (game_at (point_at 3 7 ∷ point_at 0 14 ∷ point_at 4 7 ∷ []) true (Some (OwnWin 1)))) rest ≡ SaysOk ∷ SaysOk ∷ Move (point_at 8 7) ∷ []
+rest_answers : answers_from (state_at (game_at (point_at 3 7 ∷ point_at 0 14 ∷ point_at 4 7 ∷ []) true (Some (OwnWin 1)))) rest ≡ SaysOk ∷
+    SaysOk ∷ Move (point_at 8 7) ∷ []
 unfolding rest three_board four_board answers_from row_of chosen chosen_anew outcome
 rest_answers = refl
 
-answers : answers_from (new_brain one_start) (told ++ Done ∷ Turn 0 14 ∷ rest) ≡ SaysOk ∷ Move (point_at 4 7) ∷ Move (point_at 3 7) ∷ SaysOk ∷ SaysOk ∷ Move (point_at 8 7) ∷ []
+answers : answers_from (new_brain one_start) (told ++ Done ∷ Turn 0 14 ∷ rest) ≡ SaysOk ∷ Move (point_at 4 7) ∷ Move (point_at 3 7) ∷ SaysOk
+    ∷ SaysOk ∷ Move (point_at 8 7) ∷ []
 answers =
     told_answers
     ∙ ap (λ (x : List Answer). SaysOk ∷ x) (answers_by_step (state_after (new_brain one_start) told) Done (Turn 0 14 ∷ rest) _ done_step)
-    ∙ ap (λ (x : List Answer). SaysOk ∷ Move (point_at 4 7) ∷ x) (answers_by_step (state_at (game_at (point_at 4 7 ∷ []) false (Some (OwnWin 2)))) (Turn 0 14) rest _ turn_step)
+    ∙ ap (λ (x : List Answer). SaysOk ∷ Move (point_at 4 7) ∷ x)
+    (answers_by_step (state_at (game_at (point_at 4 7 ∷ []) false (Some (OwnWin 2)))) (Turn 0 14) rest _ turn_step)
     ∙ ap (λ (x : List Answer). SaysOk ∷ Move (point_at 4 7) ∷ Move (point_at 3 7) ∷ x) rest_answers
 
 pub own_win-text : session_text (new_brain one_start) taken_back_input ≡ codes "OK\r\n4,7\r\n3,7\r\nOK\r\nOK\r\n8,7\r\n"
@@ -176,7 +196,8 @@ told_state : state_after (new_brain one_start) before ≡ state_after (state_aft
 unfolding told state_after row_of
 told_state = refl
 
-taken_state : state_after (state_at (game_at (point_at 3 7 ∷ point_at 0 14 ∷ point_at 4 7 ∷ []) true (Some (OwnWin 1)))) taken_back ≡ state_at (game_at (point_at 4 7 ∷ []) false None)
+taken_state : state_after (state_at (game_at (point_at 3 7 ∷ point_at 0 14 ∷ point_at 4 7 ∷ []) true (Some (OwnWin 1)))) taken_back
+    ≡ state_at (game_at (point_at 4 7 ∷ []) false None)
 unfolding taken_back three_board state_after row_of
 taken_state = refl
 
@@ -225,7 +246,8 @@ own_win-game =
       says = law.says;
       answered =
           law.answers
-          ∙ ap (λ (s : State). game_answers Freestyle s.held.table 0 (board_of played) (replies (brain_step (state_after (new_brain one_start) before) (Turn 1 14)).next (End ∷ []))) state_is
+          ∙ ap (λ (s : State). game_answers Freestyle s.held.table 0 (board_of played)
+          (replies (brain_step (state_after (new_brain one_start) before) (Turn 1 14)).next (End ∷ []))) state_is
           ∙ ap (λ (qs : List Point). game_answers Freestyle one_start.table 0 (board_of played) qs) no_reply
           ∙ game_said;
       won = game_won;
@@ -237,7 +259,8 @@ own_begins : BeginsOwnGame (state_after (new_brain one_start) told) Done (game_a
 unfolding told three_board state_after row_of refusal
 own_begins = record { chooses = done_row; not_followed = refl; not_held = refl; found = own_win_is }
 
-pub replies_by_step : (s : State) (c : Command) (cs : List Command) (st : Step) → brain_step s c ≡ st → replies s (c ∷ cs) ≡ then_replies c st.reaction (replies st.next cs)
+pub replies_by_step : (s : State) (c : Command) (cs : List Command) (st : Step) → brain_step s c ≡ st
+    → replies s (c ∷ cs) ≡ then_replies c st.reaction (replies st.next cs)
 unfolding replies
 replies_by_step s c cs st e = ap (λ (x : Step). then_replies c x.reaction (replies x.next cs)) e
 
@@ -273,7 +296,8 @@ own_attacks = rw (first_move, first_on, reply_on) (ap (λ (ps : List Point). poi
 
 own_said : win_answers Freestyle 2 three_board (point_at 0 14 ∷ []) ≡ Move (point_at 4 7) ∷ Move (point_at 3 7) ∷ []
 own_said = ap (λ (ps : List Point). answers_by Freestyle three_board ps (point_at 0 14 ∷ [])) own_attacks ∙ no_foul where
-  no_foul : answers_by Freestyle three_board (point_at 4 7 ∷ point_at 3 7 ∷ []) (point_at 0 14 ∷ []) ≡ Move (point_at 4 7) ∷ Move (point_at 3 7) ∷ []
+  no_foul : answers_by Freestyle three_board (point_at 4 7 ∷ point_at 3 7 ∷ []) (point_at 0 14 ∷ []) ≡ Move (point_at 4 7) ∷ Move
+      (point_at 3 7) ∷ []
   no_foul = rw reply_on refl
 
 end_later : win_game Freestyle 1 replied_board [] ≡ Won 1

@@ -1,10 +1,13 @@
 -- The win by continuous fours that the brain finds with three in the row, open at both ends.
-use Rattle.std.proofs.Common.{◌≡◌, ◌≢◌, ℕ, ◌+◌, ◌≤◌, Bool, true, false, cond, ◌&&◌, ◌||◌, not, List, ◌∷◌, ◌++◌, get_or, length, drop, refl, sym, ap, subst, ◌∙◌, arith, inl, inr, nat_eq, if◌then◌else◌, Option, Some, None, nat_le}
+use Rattle.std.proofs.Common.{◌≡◌, ◌≢◌, ℕ, ◌+◌, ◌≤◌, Bool, true, false, cond, ◌&&◌, ◌||◌, not, List, ◌∷◌, ◌++◌, get_or, length, drop, refl}
+use Rattle.std.proofs.Common.{sym, ap, subst, ◌∙◌, arith, inl, inr, nat_eq, if◌then◌else◌, Option, Some, None, nat_le}
 use Rattle.std.specs.List.{list_all, find, sum_by}
 use Rattle.std.proofs.lemmas.List.Sums.{sum_by-le}
 use Rattle.std.proofs.lemmas.Bool.{or_cases, not-true}
 use Rattle.std.proofs.lemmas.Bool.Decides.{nat_tests}
-use Rattle.game_rules.proofs.Common.{Grid, is_on, is_empty, row_from, points_of, empties_of, five, is_same_point, is_at, outcome, outcome_by, foul_of, after, mover, has_five, wins_or, loses_or, starts_win, wins_under, wins_by_fours, four_move}
+use Rattle.game_rules.proofs.Common.{Grid, is_on, is_empty, row_from, points_of, empties_of, five, is_same_point, is_at, outcome}
+use Rattle.game_rules.proofs.Common.{outcome_by, foul_of, after, mover, has_five, wins_or, loses_or, starts_win, wins_under, wins_by_fours}
+use Rattle.game_rules.proofs.Common.{four_move}
 use Rattle.game_rules.specs.declared.RuleKind.TheVariants.{Freestyle}
 use Rattle.game_rules.specs.declared.Side.{Side}
 use Rattle.game_rules.specs.declared.Foul.{Foul}
@@ -34,30 +37,38 @@ spare p = if is_same_point (point_at 14 14) p then point_at 13 14 else point_at 
 
 -- whether the move p does not win, and the other side can play elsewhere after it
 abbrev leaves_spare : Grid → Point → Bool
-leaves_spare c p = not (five Freestyle c (mover c) p) && (not (is_empty c p) || (is_on c (spare p) && is_going (outcome Freestyle (after c p) (spare p))))
+leaves_spare c p = not (five Freestyle c (mover c) p)
+    && (not (is_empty c p) || (is_on c (spare p) && is_going (outcome Freestyle (after c p) (spare p))))
 
 -- where each move leaves a spare point, nobody wins at once
-spare_none : (c : Grid) (demand : Grid → Side → Bool) (next : Grid → Bool) → ((b : Grid) → next b ≡ false) → (p : Point) → leaves_spare c p ≡ true → starts_win demand Freestyle c next p ≡ false
+spare_none : (c : Grid) (demand : Grid → Side → Bool) (next : Grid → Bool) → ((b : Grid) → next b ≡ false) → (p : Point)
+    → leaves_spare c p ≡ true → starts_win demand Freestyle c next p ≡ false
 spare_none c demand next never p h = by_empty (is_empty c p) refl (and_right (not (five Freestyle c (mover c) p)) _ h) where
   quiet : outcome Freestyle c p ≢ WinsNow
   quiet = not_wins Freestyle c p (not-true (five Freestyle c (mover c) p) (and_left (not (five Freestyle c (mover c) p)) _ h))
 
-  by_empty : (r : Bool) → is_empty c p ≡ r → (not r || (is_on c (spare p) && is_going (outcome Freestyle (after c p) (spare p)))) ≡ true → starts_win demand Freestyle c next p ≡ false
-  by_empty false e k = ap (λ (o : Outcome). wins_or o (demand (after c p) (mover c) && list_all (λ q. loses_or (outcome Freestyle (after c p) q) (next (after (after c p) q))) (points_of c))) (taken_refused Freestyle c p e)
+  by_empty : (r : Bool) → is_empty c p ≡ r → (not r || (is_on c (spare p) && is_going (outcome Freestyle (after c p) (spare p)))) ≡ true
+      → starts_win demand Freestyle c next p ≡ false
+  by_empty false e k = ap (λ (o : Outcome). wins_or o
+      (demand (after c p) (mover c) && list_all (λ q. loses_or (outcome Freestyle (after c p) q) (next (after (after c p) q)))
+      (points_of c))) (taken_refused Freestyle c p e)
   by_empty true e k =
       no_start-reply Freestyle demand c next p quiet (spare p) (and_left (is_on c (spare p)) _ k)
       (going_is (outcome Freestyle (after c p) (spare p)) (and_right (is_on c (spare p)) _ k)) (never (after (after c p) (spare p)))
 
 no_win_at_once : (c : Grid) → list_all (leaves_spare c) (points_of c) ≡ true → wins_by_fours Freestyle 1 c ≡ false
 unfolding wins_under
-no_win_at_once c all = any_none (starts_win (has_five Freestyle) Freestyle c (λ b. false)) (leaves_spare c) (points_of c) (spare_none c (has_five Freestyle) (λ b. false) (λ b. refl)) all
+no_win_at_once c all = any_none (starts_win (has_five Freestyle) Freestyle c (λ b. false)) (leaves_spare c) (points_of c)
+    (spare_none c (has_five Freestyle) (λ b. false) (λ b. refl)) all
 
 -- a five point wins at once
 win_at_once : (c : Grid) (w : Point) → is_empty c w ≡ true → five Freestyle c (mover c) w ≡ true → wins_by_fours Freestyle 1 c ≡ true
 unfolding wins_under
 win_at_once c w e f =
     points-found c (starts_win (has_five Freestyle) Freestyle c (λ b. false)) w (is_empty-on c w e)
-    (ap (λ (o : Outcome). wins_or o (has_five Freestyle (after c w) (mover c) && list_all (λ q. loses_or (outcome Freestyle (after c w) q) false) (points_of c))) (wins_now Freestyle c w e f))
+    (ap (λ (o : Outcome). wins_or o
+    (has_five Freestyle (after c w) (mover c) && list_all (λ q. loses_or (outcome Freestyle (after c w) q) false) (points_of c)))
+    (wins_now Freestyle c w e f))
 
 -- ---- the board with three: nobody wins at once, and 4,7 wins with the next move
 
@@ -67,9 +78,12 @@ five_left q = if is_same_point (point_at 3 7) q then point_at 8 7 else point_at 
 
 -- whether the reply q at b is no move, or wins nothing and leaves Black its five
 abbrev leaves_five : Grid → Point → Bool
-leaves_five b q = not (is_empty b q) || (not (five Freestyle b (mover b) q) && (is_empty (after b q) (five_left q) && five Freestyle (after b q) (mover (after b q)) (five_left q)))
+leaves_five b q = not (is_empty b q)
+    || (not (five Freestyle b (mover b) q)
+    && (is_empty (after b q) (five_left q) && five Freestyle (after b q) (mover (after b q)) (five_left q)))
 
-some_left : (e w l : Bool) (o : Option Foul) → w ≡ false → l ≡ false → (r : Bool) → (e ≡ true → r ≡ true) → loses_or (outcome_by e w o l) r ≡ true
+some_left : (e w l : Bool) (o : Option Foul) → w ≡ false → l ≡ false → (r : Bool) → (e ≡ true → r ≡ true)
+    → loses_or (outcome_by e w o l) r ≡ true
 some_left true false false None f g r h = h refl
 some_left true false false (Some k) f g r h = refl
 some_left false false false None f g r h = refl
@@ -77,15 +91,22 @@ some_left false false false (Some k) f g r h = refl
 some_left e true l o f g r h = cc
 some_left e false true o f g r h = cc
 
-reply_loses : (b : Grid) (q : Point) → nat_eq (empties_of b) 1 ≡ false → leaves_five b q ≡ true → loses_or (outcome Freestyle b q) (wins_by_fours Freestyle 1 (after b q)) ≡ true
+reply_loses : (b : Grid) (q : Point) → nat_eq (empties_of b) 1 ≡ false → leaves_five b q ≡ true
+    → loses_or (outcome Freestyle b q) (wins_by_fours Freestyle 1 (after b q)) ≡ true
 unfolding outcome
 reply_loses b q some h = by_empty (is_empty b q) refl h where
-  by_empty : (r : Bool) → is_empty b q ≡ r → (not r || (not (five Freestyle b (mover b) q) && (is_empty (after b q) (five_left q) && five Freestyle (after b q) (mover (after b q)) (five_left q)))) ≡ true → loses_or (outcome_by (is_empty b q) (five Freestyle b (mover b) q) (foul_of Freestyle b (mover b) q) (nat_eq (empties_of b) 1)) (wins_by_fours Freestyle 1 (after b q)) ≡ true
+  by_empty : (r : Bool) → is_empty b q ≡ r
+      → (not r || (not (five Freestyle b (mover b) q)
+      && (is_empty (after b q) (five_left q) && five Freestyle (after b q) (mover (after b q)) (five_left q)))) ≡ true
+      → loses_or (outcome_by (is_empty b q) (five Freestyle b (mover b) q) (foul_of Freestyle b (mover b) q) (nat_eq (empties_of b) 1))
+      (wins_by_fours Freestyle 1 (after b q)) ≡ true
   by_empty false e k = ap (λ (o : Outcome). loses_or o (wins_by_fours Freestyle 1 (after b q))) (taken_refused Freestyle b q e)
   by_empty true e k =
       let rest = and_right (not (five Freestyle b (mover b) q)) _ k in
-      some_left (is_empty b q) (five Freestyle b (mover b) q) (nat_eq (empties_of b) 1) (foul_of Freestyle b (mover b) q) (not-true (five Freestyle b (mover b) q) (and_left (not (five Freestyle b (mover b) q)) _ k)) some _
-      (λ empty. win_at_once (after b q) (five_left q) (and_left (is_empty (after b q) (five_left q)) _ rest) (and_right (is_empty (after b q) (five_left q)) _ rest))
+      some_left (is_empty b q) (five Freestyle b (mover b) q) (nat_eq (empties_of b) 1) (foul_of Freestyle b (mover b) q)
+      (not-true (five Freestyle b (mover b) q) (and_left (not (five Freestyle b (mover b) q)) _ k)) some _
+      (λ empty. win_at_once (after b q) (five_left q) (and_left (is_empty (after b q) (five_left q)) _ rest)
+      (and_right (is_empty (after b q) (five_left q)) _ rest))
 
 three_tested : list_all (leaves_spare three_board) (points_of three_board) ≡ true
 unfolding three_board outcome
@@ -116,13 +137,16 @@ attack_threatens = refl
 attack_starts : starts_win (has_five Freestyle) Freestyle three_board (wins_by_fours Freestyle 1) (point_at 4 7) ≡ true
 unfolding attacked
 attack_starts =
-    let all : list_all (λ q. loses_or (outcome Freestyle attacked q) (wins_by_fours Freestyle 1 (after attacked q))) (points_of attacked) ≡ true =
-    all_implied (λ q. loses_or (outcome Freestyle attacked q) (wins_by_fours Freestyle 1 (after attacked q))) (leaves_five attacked) (points_of attacked) (λ q. reply_loses attacked q attacked_some) attacked_tested in
+    let all : list_all (λ q. loses_or (outcome Freestyle attacked q) (wins_by_fours Freestyle 1 (after attacked q))) (points_of attacked)
+    ≡ true =
+    all_implied (λ q. loses_or (outcome Freestyle attacked q) (wins_by_fours Freestyle 1 (after attacked q))) (leaves_five attacked)
+    (points_of attacked) (λ q. reply_loses attacked q attacked_some) attacked_tested in
     rw (attack_goes_on, attack_threatens, all) refl
 
 second_wins : wins_by_fours Freestyle 2 three_board ≡ true
 unfolding wins_under
-second_wins = points-found three_board (starts_win (has_five Freestyle) Freestyle three_board (wins_by_fours Freestyle 1)) (point_at 4 7) (GoesOn-on Freestyle three_board (point_at 4 7) attack_goes_on) attack_starts
+second_wins = points-found three_board (starts_win (has_five Freestyle) Freestyle three_board (wins_by_fours Freestyle 1)) (point_at 4 7)
+    (GoesOn-on Freestyle three_board (point_at 4 7) attack_goes_on) attack_starts
 
 -- ---- the search of it looks at few positions
 
@@ -146,11 +170,13 @@ unfolding four_tree
 tree_small = by_test (has_five Freestyle three_board (mover three_board)) where
   few : sum_by (behind_move Freestyle three_board (four_tree Freestyle 1)) (tried Freestyle 2 three_board) ≤ 225
   few =
-      let each = sum_by-le (behind_move Freestyle three_board (four_tree Freestyle 1)) 1 (tried Freestyle 2 three_board) (λ k d lt. one_behind three_board (get_or (tried Freestyle 2 three_board) k d)) in
+      let each = sum_by-le (behind_move Freestyle three_board (four_tree Freestyle 1)) 1 (tried Freestyle 2 three_board)
+      (λ k d lt. one_behind three_board (get_or (tried Freestyle 2 three_board) k d)) in
       let short = until-length (λ p. is_at p (four_move Freestyle 2 three_board)) (points_of three_board) in
       omega (arith, each, short, points_are)
 
-  by_test : (r : Bool) → cond r 1 (1 + sum_by (behind_move Freestyle three_board (four_tree Freestyle 1)) (tried Freestyle 2 three_board)) ≤ 226
+  by_test : (r : Bool) → cond r 1 (1 + sum_by (behind_move Freestyle three_board (four_tree Freestyle 1)) (tried Freestyle 2 three_board))
+      ≤ 226
   by_test true = omega arith
   by_test false = let h = few in omega (arith, h)
 
@@ -187,7 +213,8 @@ block_goes_on = refl
 
 -- whether p is 3,7, or does not win and leaves no five point
 starts_none : Point → Bool
-starts_none p = is_same_point (point_at 3 7) p || (not (five Freestyle three_board (mover three_board) p) && not (has_five Freestyle (after three_board p) (mover three_board)))
+starts_none p = is_same_point (point_at 3 7) p
+    || (not (five Freestyle three_board (mover three_board) p) && not (has_five Freestyle (after three_board p) (mover three_board)))
 
 abbrev from_six : List Point
 from_six = row_from 6 0 15 ++ row_from 7 0 4
@@ -253,8 +280,10 @@ points_split = refl
 front_tested : list_all starts_none front ≡ true
 unfolding front
 front_tested =
-    all-append starts_none (row_from 0 0 15) from_one row_zero (all-append starts_none (row_from 1 0 15) from_two row_one (all-append starts_none (row_from 2 0 15) from_three row_two
-    (all-append starts_none (row_from 3 0 15) from_four row_three (all-append starts_none (row_from 4 0 15) from_five row_four (all-append starts_none (row_from 5 0 15) from_six row_five
+    all-append starts_none (row_from 0 0 15) from_one row_zero
+    (all-append starts_none (row_from 1 0 15) from_two row_one (all-append starts_none (row_from 2 0 15) from_three row_two
+    (all-append starts_none (row_from 3 0 15) from_four row_three
+    (all-append starts_none (row_from 4 0 15) from_five row_four (all-append starts_none (row_from 5 0 15) from_six row_five
     (all-append starts_none (row_from 6 0 15) (row_from 7 0 4) row_six row_seven))))))
 
 no_five_yet : has_five Freestyle three_board (mover three_board) ≡ false
@@ -269,24 +298,33 @@ no_five_there = refl
 block_starts_none : starts_win (has_five Freestyle) Freestyle three_board (wins_by_fours Freestyle 1) (point_at 3 7) ≡ false
 unfolding blocked
 block_starts_none =
-    no_start-reply Freestyle (has_five Freestyle) three_board (wins_by_fours Freestyle 1) (point_at 3 7) (not_wins Freestyle three_board (point_at 3 7) no_five_there) (point_at 4 7)
+    no_start-reply Freestyle (has_five Freestyle) three_board (wins_by_fours Freestyle 1) (point_at 3 7)
+    (not_wins Freestyle three_board (point_at 3 7) no_five_there) (point_at 4 7)
     (GoesOn-on Freestyle three_board (point_at 4 7) attack_goes_on) block_goes_on (no_win_at_once blocked blocked_tested)
 
-none_before : (p : Point) → starts_none p ≡ true → starts_win (has_five Freestyle) Freestyle three_board (wins_by_fours Freestyle 1) p ≡ false
+none_before : (p : Point) → starts_none p ≡ true → starts_win (has_five Freestyle) Freestyle three_board (wins_by_fours Freestyle 1) p
+    ≡ false
 unfolding starts_none
 none_before p h = elim (or_cases (is_same_point (point_at 3 7) p) _ h) [
-  | inl same ↦ subst (λ (q : Point). starts_win (has_five Freestyle) Freestyle three_board (wins_by_fours Freestyle 1) q ≡ false) (is_same_point-same (point_at 3 7) p same) block_starts_none
+  | inl same ↦ subst (λ (q : Point). starts_win (has_five Freestyle) Freestyle three_board (wins_by_fours Freestyle 1) q ≡ false)
+      (is_same_point-same (point_at 3 7) p same) block_starts_none
   | inr k ↦
       no_start-demand Freestyle (has_five Freestyle) three_board (wins_by_fours Freestyle 1) p
-      (not_wins Freestyle three_board p (not-true (five Freestyle three_board (mover three_board) p) (and_left (not (five Freestyle three_board (mover three_board) p)) _ k)))
-      (not-true (has_five Freestyle (after three_board p) (mover three_board)) (and_right (not (five Freestyle three_board (mover three_board) p)) _ k))
+      (not_wins Freestyle three_board p
+      (not-true (five Freestyle three_board (mover three_board) p)
+      (and_left (not (five Freestyle three_board (mover three_board) p)) _ k)))
+      (not-true (has_five Freestyle (after three_board p) (mover three_board))
+      (and_right (not (five Freestyle three_board (mover three_board) p)) _ k))
 ]
 
 pub first_move : four_move Freestyle 2 three_board ≡ Some (point_at 4 7)
 unfolding four_move
-first_move = rw no_five_yet (subst (λ (ps : List Point). find (starts_win (has_five Freestyle) Freestyle three_board (wins_by_fours Freestyle 1)) ps ≡ Some (point_at 4 7)) (sym points_split)
+first_move = rw no_five_yet
+    (subst (λ (ps : List Point). find (starts_win (has_five Freestyle) Freestyle three_board (wins_by_fours Freestyle 1)) ps ≡ Some
+    (point_at 4 7)) (sym points_split)
     (find_after (starts_win (has_five Freestyle) Freestyle three_board (wins_by_fours Freestyle 1)) front (point_at 4 7) back
-    (any_none (starts_win (has_five Freestyle) Freestyle three_board (wins_by_fours Freestyle 1)) starts_none front none_before front_tested) attack_starts))
+    (any_none (starts_win (has_five Freestyle) Freestyle three_board (wins_by_fours Freestyle 1)) starts_none front none_before
+    front_tested) attack_starts))
 
 -- ---- the move after it
 
@@ -301,7 +339,8 @@ five_found : find (five Freestyle replied_board (mover replied_board)) (points_o
 unfolding replied_board three_board
 five_found = refl
 
-pub move-five : (b : Grid) → has_five Freestyle b (mover b) ≡ true → four_move Freestyle 1 b ≡ find (five Freestyle b (mover b)) (points_of b)
+pub move-five : (b : Grid) → has_five Freestyle b (mover b) ≡ true
+    → four_move Freestyle 1 b ≡ find (five Freestyle b (mover b)) (points_of b)
 unfolding four_move
 move-five b e = rw e refl
 

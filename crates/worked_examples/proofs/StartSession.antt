@@ -1,5 +1,6 @@
 -- The session in which a start is followed after moves were taken back.
-use Rattle.std.proofs.Common.{◌≡◌, ℕ, zero, suc, Bool, true, false, List, [], ◌∷◌, ◌++◌, codes, refl, ap, subst, ◌∙◌, arith, nat_eq, Option, Some, None, slice_get}
+use Rattle.std.proofs.Common.{◌≡◌, ℕ, zero, suc, Bool, true, false, List, [], ◌∷◌, ◌++◌, codes, refl, ap, subst, ◌∙◌, arith, nat_eq, Option}
+use Rattle.std.proofs.Common.{Some, None, slice_get}
 use Rattle.std.specs.Fmt.{digits}
 use Rattle.std.specs.List.{list_all}
 use Rattle.std.proofs.lemmas.List.Elements.{All-nil, All-cons}
@@ -103,8 +104,14 @@ start_root = record { root = Defend after_four; kind = Freestyle; board = four_b
 pub two_roots-held : IsHeld two_roots
 two_roots-held = record {
   roots =
-      All-cons (IsHeldRoot two_roots.table) _ (start_root ∷ []) (record { lawful = lawful_from_none Freestyle three_board three_is_board three_unrefused; below = refl; accepted = attack_accepted })
-      (All-cons (IsHeldRoot two_roots.table) start_root [] (record { lawful = lawful_from_none Freestyle four_board four_is_board four_unrefused; below = refl; accepted = start_accepted })
+      All-cons (IsHeldRoot two_roots.table) _ (start_root ∷ [])
+      (record {
+        lawful = lawful_from_none Freestyle three_board three_is_board three_unrefused;
+        below = refl;
+        accepted = attack_accepted;
+      })
+      (All-cons (IsHeldRoot two_roots.table) start_root []
+      (record { lawful = lawful_from_none Freestyle four_board four_is_board four_unrefused; below = refl; accepted = start_accepted })
       (All-nil (IsHeldRoot two_roots.table)));
   few = omega arith;
 }
@@ -118,7 +125,8 @@ later : List Command
 later = Turn 0 14 ∷ Takeback 3 7 ∷ Takeback 0 14 ∷ Turn 1 14 ∷ End ∷ []
 
 told_again : List Command
-told_again = Start 15 ∷ Board ∷ Stone 5 7 1 ∷ Stone 6 7 1 ∷ Stone 7 7 1 ∷ Stone 0 0 2 ∷ Stone 2 0 2 ∷ Stone 4 0 2 ∷ Done ∷ Turn 0 14 ∷ Takeback 3 7 ∷ Takeback 0 14 ∷ []
+told_again = Start 15 ∷ Board ∷ Stone 5 7 1 ∷ Stone 6 7 1 ∷ Stone 7 7 1 ∷ Stone 0 0 2 ∷ Stone 2 0 2 ∷ Stone 4 0 2 ∷ Done ∷ Turn 0 14 ∷
+    Takeback 3 7 ∷ Takeback 0 14 ∷ []
 
 lines : commands taken_back_input ≡ told ++ Done ∷ later
 unfolding taken_back_input told later
@@ -128,7 +136,8 @@ lines_again : commands taken_back_input ≡ told_again ++ Turn 1 14 ∷ End ∷ 
 unfolding taken_back_input told_again
 lines_again = refl
 
-answers : answers_from (new_brain two_roots) (told ++ Done ∷ later) ≡ SaysOk ∷ Move (point_at 4 7) ∷ Move (point_at 3 7) ∷ SaysOk ∷ SaysOk ∷ Move (point_at 8 7) ∷ []
+answers : answers_from (new_brain two_roots) (told ++ Done ∷ later) ≡ SaysOk ∷ Move (point_at 4 7) ∷ Move (point_at 3 7) ∷ SaysOk ∷ SaysOk ∷
+    Move (point_at 8 7) ∷ []
 unfolding told later three_board four_board answers_from row_of chosen chosen_anew refusal outcome
 answers = refl
 
@@ -178,7 +187,14 @@ first-game =
 -- ---- the second game, in which White's move was made at the start
 
 played_again : Game
-played_again = record { rule = Freestyle; start = three_board; moves = point_at 1 14 ∷ point_at 4 7 ∷ []; brain = Black; ended = false; followed = None }
+played_again = record {
+  rule = Freestyle;
+  start = three_board;
+  moves = point_at 1 14 ∷ point_at 4 7 ∷ [];
+  brain = Black;
+  ended = false;
+  followed = None;
+}
 
 begins_again : BeginsHeldGame (state_after (new_brain two_roots) told_again) (Turn 1 14) played_again 1
 unfolding told_again played_again three_board four_board state_after row_of chosen chosen_anew refusal outcome
@@ -210,6 +226,7 @@ second-game =
       replied = no_reply;
       first = law.first;
       says = law.says;
-      answered = law.answers ∙ ap (λ (qs : List Point). game_answers Freestyle two_roots.table 1 (board_of played_again) qs) no_reply ∙ game_said_again;
+      answered = law.answers ∙ ap (λ (qs : List Point). game_answers Freestyle two_roots.table 1 (board_of played_again) qs) no_reply
+          ∙ game_said_again;
       won = game_won_again;
     }

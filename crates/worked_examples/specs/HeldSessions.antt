@@ -25,7 +25,8 @@ use Rattle.brain_session.specs.OwnGames.{BeginsOwnGame, win_game}
 
 -- Some line of the input, after those of the commands before, begins a held game from this node. Its replies are these points, the
 -- answers to it and to them are these, and the game is won with so many attacks.
-pub record PlaysHeldGame (held : HeldTable) (input : List ℕ) (node : ℕ) (points : List Point) (said : List Answer) (attacks : ℕ) : Type 0 where
+pub record PlaysHeldGame (held : HeldTable) (input : List ℕ) (node : ℕ) (points : List Point) (said : List Answer) (attacks : ℕ) :
+    Type 0 where
   pub before : List Command
   pub command : Command
   pub later : List Command
@@ -40,7 +41,8 @@ pub record PlaysHeldGame (held : HeldTable) (input : List ℕ) (node : ℕ) (poi
 
 -- Some line of the input, after those of the commands before, begins a game by a win of the brain's own within so many moves. Its
 -- replies are these points, the answers to it and to them are these, and the game is won with so many attacks.
-pub record PlaysOwnGame (held : HeldTable) (input : List ℕ) (moves : ℕ) (points : List Point) (said : List Answer) (attacks : ℕ) : Type 0 where
+pub record PlaysOwnGame (held : HeldTable) (input : List ℕ) (moves : ℕ) (points : List Point) (said : List Answer) (attacks : ℕ) :
+    Type 0 where
   pub before : List Command
   pub command : Command
   pub later : List Command
@@ -110,7 +112,11 @@ two_roots = record {
   table = wins_at (point_at 3 7) ∷ wins_at (point_at 8 7) ∷ answers_by (point_at 4 7) (record { at = point_at 3 7; next = 1 } ∷ []) 0 ∷ [];
   roots =
       record { root = Attack 2; kind = Freestyle; board = three_board }
-      ∷ record { root = Defend (record { replies = record { at = point_at 8 7; next = 0 } ∷ []; rest = To 1 }); kind = Freestyle; board = four_board }
+      ∷ record {
+        root = Defend (record { replies = record { at = point_at 8 7; next = 0 } ∷ []; rest = To 1 });
+        kind = Freestyle;
+        board = four_board;
+      }
       ∷ [];
 }
 
@@ -118,7 +124,11 @@ two_roots = record {
 abbrev pub one_start : HeldTable
 one_start = record {
   table = wins_at (point_at 8 7) ∷ wins_at (point_at 3 7) ∷ [];
-  roots = record { root = Defend (record { replies = record { at = point_at 8 7; next = 1 } ∷ []; rest = To 0 }); kind = Freestyle; board = four_board } ∷ [];
+  roots = record {
+    root = Defend (record { replies = record { at = point_at 8 7; next = 1 } ∷ []; rest = To 0 });
+    kind = Freestyle;
+    board = four_board;
+  } ∷ [];
 }
 
 -- the position with three is sent and played to its end; two moves are taken back, and the opponent plays another

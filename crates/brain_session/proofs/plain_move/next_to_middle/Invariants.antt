@@ -10,5 +10,7 @@ use Rattle.brain_session.proofs.plain_move.next_to_middle.Given as goal
 abbrev pub invariant-loop-p : goal.invariant-loop-p
 invariant-loop-p g l = record {
   same : l.board ≡ l.fn.board;
-  rest : nearest_of (off_middle l.board) l.best (filter (λ p. is_empty l.board p && not (is_foul (outcome g.R.Rule.KIND l.board p))) l.p-iterator) ≡ next_to_middle g.R.Rule.KIND l.board;
+  rest : nearest_of (off_middle l.board) l.best
+      (filter (λ p. is_empty l.board p && not (is_foul (outcome g.R.Rule.KIND l.board p))) l.p-iterator) ≡ next_to_middle g.R.Rule.KIND
+      l.board;
 }

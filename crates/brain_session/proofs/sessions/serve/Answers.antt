@@ -11,7 +11,9 @@ use Rattle.gomocup_text.specs.declared.Command.{Command}
 use Rattle.brain_session.specs.declared.sessions.ServeError.{ServeError}
 use Rattle.brain_session.specs.declared.sessions.ServeError.TheVariants.{ReadFailed, WriteFailed, Exhausted, Memory}
 use Rattle.brain_session.specs.Serving.{TakesCommands, IsAnswered, output_of, served}
-use Rattle.brain_session.proofs.Serving.{Asked, EndsAt, PastLimit, SoFar-begun, Asked-told, SoFar-answered, HasAnswered-end, IsReadToEnd-end, StopsAtWrite-asked, StopsAtStep-asked, EndsAt-told, StopsAtRead-open, PastLimit-taken, GivesSome-past, by_each_told, by_each_open, AsksPast-taken}
+use Rattle.brain_session.proofs.Serving.{Asked, EndsAt, PastLimit, SoFar-begun, Asked-told, SoFar-answered, HasAnswered-end}
+use Rattle.brain_session.proofs.Serving.{IsReadToEnd-end, StopsAtWrite-asked, StopsAtStep-asked, EndsAt-told, StopsAtRead-open}
+use Rattle.brain_session.proofs.Serving.{PastLimit-taken, GivesSome-past, by_each_told, by_each_open, AsksPast-taken}
 use Rattle.brain_session.proofs.sessions.serve.Given.{Over}
 use Rattle.brain_session.proofs.sessions.serve.Goals as goal
 
@@ -35,7 +37,8 @@ loop-lines-init g c = record {
   so_far = SoFar-begun c.args.brain.now _ _ c.in-Ok.lines c.in-Ok.ensures.fresh;
   source_stayed = refl;
   sink_stayed = refl;
-  reads = subst (λ (reader : ReaderState). IsAskedWithin 0 (reads_for reader) (g.S.Source.asked c.args.source.now) (g.S.Source.asked c.args.source.now))
+  reads = subst (λ (reader : ReaderState). IsAskedWithin 0 (reads_for reader) (g.S.Source.asked c.args.source.now)
+      (g.S.Source.asked c.args.source.now))
       (sym c.in-Ok.ensures.fresh) (none_within 0 (g.S.Source.asked c.args.source.now));
 }
 
@@ -44,7 +47,8 @@ pub returns-in_err-command-clause-read_failed : goal.returns-in_err-command-clau
 returns-in_err-command-clause-read_failed g c = λ failed.
     let is = same_error c.from_residual.result c.in_err-command.field-0.0 ReadFailed c.from_residual.ensures.1 failed in
     StopsAtRead-open _ _ c.next_command.new.lines _ c.loop-lines.invariant.so_far
-    (λ e. not_error None c.in_err-command.field-0.0 (c.in_err-command.ensures.asks_no_more e).0) (c.in_err-command.ensures.stays (ap (λ x. Err x) is))
+    (λ e. not_error None c.in_err-command.field-0.0 (c.in_err-command.ensures.asks_no_more e).0)
+    (c.in_err-command.ensures.stays (ap (λ x. Err x) is))
 
 pub returns-in_err-command-clause-read_last : goal.returns-in_err-command-clause-read_last
 returns-in_err-command-clause-read_last g c = λ failed.
@@ -63,10 +67,13 @@ returns-in_err-command-clause-read_last g c = λ failed.
     }
 
 too_long : (g : Over) (c : goal.After-drop-lines-inside-in_err-command-2 g) → c.in_err-command.field-0.0 ≡ Exhausted →
-    PastLimit (g.S.Source.left c.args.source.now) (served c.args.brain.now c.loop-lines.brain (output_of g.O.Sink.written g.O.Sink.asked c.args.sink.now) (output_of g.O.Sink.written g.O.Sink.asked c.loop-lines.sink))
+    PastLimit (g.S.Source.left c.args.source.now)
+    (served c.args.brain.now c.loop-lines.brain (output_of g.O.Sink.written g.O.Sink.asked c.args.sink.now)
+    (output_of g.O.Sink.written g.O.Sink.asked c.loop-lines.sink))
 too_long g c is =
     PastLimit-taken _ _ c.next_command.new.lines _ c.loop-lines.invariant.so_far
-    (λ e. not_error None c.in_err-command.field-0.0 (c.in_err-command.ensures.asks_no_more e).0) (c.in_err-command.ensures.past (ap (λ x. Err x) is))
+    (λ e. not_error None c.in_err-command.field-0.0 (c.in_err-command.ensures.asks_no_more e).0)
+    (c.in_err-command.ensures.past (ap (λ x. Err x) is))
 
 pub returns-in_err-command-clause-exhausted : goal.returns-in_err-command-clause-exhausted
 returns-in_err-command-clause-exhausted g c = λ failed.
@@ -98,28 +105,38 @@ returns-in_err-command-clause-taken g c =
     let so_far = c.loop-lines.invariant.so_far in
     elim c.in_err-command.ensures.no_other [
       | inl is ↦
-          let stops = StopsAtRead-open _ _ c.next_command.new.lines _ so_far (λ e. not_error None c.in_err-command.field-0.0 (c.in_err-command.ensures.asks_no_more e).0) (c.in_err-command.ensures.stays (ap (λ x. Err x) is)) in
+          let stops = StopsAtRead-open _ _ c.next_command.new.lines _ so_far
+          (λ e. not_error None c.in_err-command.field-0.0 (c.in_err-command.ensures.asks_no_more e).0)
+          (c.in_err-command.ensures.stays (ap (λ x. Err x) is)) in
           Gives-some _ _ stops.given stops.gives
       | inr is ↦ GivesSome-past _ _ c.next_command.new.lines _ so_far (c.in_err-command.ensures.past (ap (λ x. Err x) is))
     ]
 
 -- one more line was read, and its answer was not written, or there was no memory for its step
 asked : (g : Over) (c : goal.After-drop-lines-inside-in_err-answer-3 g) →
-    Asked (record { left_before = g.S.Source.left c.args.source.now; reader = c.next_command.new.lines; left = g.S.Source.left c.next_command.new.source })
-    (served c.args.brain.now c.loop-lines.brain (output_of g.O.Sink.written g.O.Sink.asked c.args.sink.now) (output_of g.O.Sink.written g.O.Sink.asked c.loop-lines.sink)) c.in-Some.command
+    Asked (record {
+      left_before = g.S.Source.left c.args.source.now;
+      reader = c.next_command.new.lines;
+      left = g.S.Source.left c.next_command.new.source;
+    })
+    (served c.args.brain.now c.loop-lines.brain (output_of g.O.Sink.written g.O.Sink.asked c.args.sink.now)
+    (output_of g.O.Sink.written g.O.Sink.asked c.loop-lines.sink)) c.in-Some.command
 asked g c =
     Asked-told _ _ c.in_ok-command.field-0 c.in-Some.command c.next_command.new.lines _ c.loop-lines.invariant.so_far c.in-Some.is
-    (λ e. ok_is c.in_ok-command.field-0 None (c.in_ok-command.ensures.asks_no_more e).0) c.in_ok-command.ensures.told c.in_ok-command.ensures.limit c.in_ok-command.ensures.knows_end
+    (λ e. ok_is c.in_ok-command.field-0 None (c.in_ok-command.ensures.asks_no_more e).0) c.in_ok-command.ensures.told
+    c.in_ok-command.ensures.limit c.in_ok-command.ensures.knows_end
 
 pub returns-in_err-answer-clause-write_failed : goal.returns-in_err-answer-clause-write_failed
 returns-in_err-answer-clause-write_failed g c = λ failed.
-    let is = same_error c.from_residual-in_err-answer.result c.in_err-answer.field-0.0 WriteFailed c.from_residual-in_err-answer.ensures.1 failed in
+    let is = same_error c.from_residual-in_err-answer.result c.in_err-answer.field-0.0 WriteFailed c.from_residual-in_err-answer.ensures.1
+    failed in
     StopsAtWrite-asked _ _ c.in-Some.command c.answer.new.brain _ (asked g c)
     (c.in_err-answer.ensures.write_failed (ap (λ x. Err x) is))
 
 pub returns-in_err-answer-clause-written_last : goal.returns-in_err-answer-clause-written_last
 returns-in_err-answer-clause-written_last g c = λ failed.
-    let is = same_error c.from_residual-in_err-answer.result c.in_err-answer.field-0.0 WriteFailed c.from_residual-in_err-answer.ensures.1 failed in
+    let is = same_error c.from_residual-in_err-answer.result c.in_err-answer.field-0.0 WriteFailed c.from_residual-in_err-answer.ensures.1
+    failed in
     let last = c.in_err-answer.ensures.written_last (ap (λ x. Err x) is) in
     let wrote = c.loop-lines.invariant.so_far.answered.writes.wrote in
     record {
@@ -134,7 +151,8 @@ returns-in_err-answer-clause-written_last g c = λ failed.
 
 pub returns-in_err-answer-clause-memory : goal.returns-in_err-answer-clause-memory
 returns-in_err-answer-clause-memory g c = λ failed.
-    let is = same_error c.from_residual-in_err-answer.result c.in_err-answer.field-0.0 Memory c.from_residual-in_err-answer.ensures.1 failed in
+    let is = same_error c.from_residual-in_err-answer.result c.in_err-answer.field-0.0 Memory c.from_residual-in_err-answer.ensures.1
+    failed in
     let none = c.in_err-answer.ensures.memory (ap (λ x. Err x) is) in
     inr (StopsAtStep-asked _ _ c.in-Some.command c.answer.new.brain _ (asked g c) none.0 none.1 none.2)
 
@@ -147,19 +165,28 @@ returns-in_err-answer-clause-by_each g c =
 
 -- END was read
 asked_end : (g : Over) (c : goal.After-drop-lines-inside-then-not-branch-3 g) →
-    Asked (record { left_before = g.S.Source.left c.args.source.now; reader = c.next_command.new.lines; left = g.S.Source.left c.next_command.new.source })
-    (served c.args.brain.now c.loop-lines.brain (output_of g.O.Sink.written g.O.Sink.asked c.args.sink.now) (output_of g.O.Sink.written g.O.Sink.asked c.loop-lines.sink)) c.in-Some.command
+    Asked (record {
+      left_before = g.S.Source.left c.args.source.now;
+      reader = c.next_command.new.lines;
+      left = g.S.Source.left c.next_command.new.source;
+    })
+    (served c.args.brain.now c.loop-lines.brain (output_of g.O.Sink.written g.O.Sink.asked c.args.sink.now)
+    (output_of g.O.Sink.written g.O.Sink.asked c.loop-lines.sink)) c.in-Some.command
 asked_end g c =
     Asked-told _ _ c.in_ok-command.field-0 c.in-Some.command c.next_command.new.lines _ c.loop-lines.invariant.so_far c.in-Some.is
-    (λ e. ok_is c.in_ok-command.field-0 None (c.in_ok-command.ensures.asks_no_more e).0) c.in_ok-command.ensures.told c.in_ok-command.ensures.limit c.in_ok-command.ensures.knows_end
+    (λ e. ok_is c.in_ok-command.field-0 None (c.in_ok-command.ensures.asks_no_more e).0) c.in_ok-command.ensures.told
+    c.in_ok-command.ensures.limit c.in_ok-command.ensures.knows_end
 
 stops : (g : Over) (c : goal.After-drop-lines-inside-then-not-branch-3 g) → c.in_ok-answer.field-0 ≡ false
 stops g c = grind (arith, c.if-not-branch.true)
 
 pub returns-then-not-branch-clause-ok : goal.returns-then-not-branch-clause-ok
 returns-then-not-branch-clause-ok g c =
-    let answered = subst (λ goes_on. IsAnswered c.loop-lines.brain c.in-Some.command goes_on c.answer.new.brain (output_of g.O.Sink.written g.O.Sink.asked c.loop-lines.sink) (output_of g.O.Sink.written g.O.Sink.asked c.answer.new.sink)) (stops g c) c.in_ok-answer.ensures.stepped in
-    HasAnswered-end _ _ c.in-Some.command c.answer.new.brain _ (asked_end g c) answered (c.in_ok-answer.ensures.ends (ap (λ b. Ok b) (stops g c)))
+    let answered = subst (λ goes_on. IsAnswered c.loop-lines.brain c.in-Some.command goes_on c.answer.new.brain
+    (output_of g.O.Sink.written g.O.Sink.asked c.loop-lines.sink) (output_of g.O.Sink.written g.O.Sink.asked c.answer.new.sink))
+    (stops g c) c.in_ok-answer.ensures.stepped in
+    HasAnswered-end _ _ c.in-Some.command c.answer.new.brain _ (asked_end g c) answered
+    (c.in_ok-answer.ensures.ends (ap (λ b. Ok b) (stops g c)))
 
 pub returns-then-not-branch-clause-ended : goal.returns-then-not-branch-clause-ended
 returns-then-not-branch-clause-ended g c =
@@ -178,8 +205,11 @@ loop-lines-preserved g c =
     let goes_on : c.in_ok-answer.field-0 ≡ true = grind (arith, c.if-not-branch.false) in
     let now =
     Asked-told _ _ c.in_ok-command.field-0 c.in-Some.command c.next_command.new.lines _ c.loop-lines.invariant.so_far c.in-Some.is
-    (λ e. ok_is c.in_ok-command.field-0 None (c.in_ok-command.ensures.asks_no_more e).0) c.in_ok-command.ensures.told c.in_ok-command.ensures.limit c.in_ok-command.ensures.knows_end in
-    let answered = subst (λ goes_on. IsAnswered c.loop-lines.brain c.in-Some.command goes_on c.answer.new.brain (output_of g.O.Sink.written g.O.Sink.asked c.loop-lines.sink) (output_of g.O.Sink.written g.O.Sink.asked c.answer.new.sink)) goes_on c.in_ok-answer.ensures.stepped in
+    (λ e. ok_is c.in_ok-command.field-0 None (c.in_ok-command.ensures.asks_no_more e).0) c.in_ok-command.ensures.told
+    c.in_ok-command.ensures.limit c.in_ok-command.ensures.knows_end in
+    let answered = subst (λ goes_on. IsAnswered c.loop-lines.brain c.in-Some.command goes_on c.answer.new.brain
+    (output_of g.O.Sink.written g.O.Sink.asked c.loop-lines.sink) (output_of g.O.Sink.written g.O.Sink.asked c.answer.new.sink)) goes_on
+    c.in_ok-answer.ensures.stepped in
     record {
       so_far = SoFar-answered _ _ c.in-Some.command c.answer.new.brain _ now answered;
       source_stayed = c.in_ok-command.ensures.uncounted (λ e. cc) ∙ c.loop-lines.invariant.source_stayed;
@@ -189,13 +219,19 @@ loop-lines-preserved g c =
 
 -- the input has ended
 ends : (g : Over) (c : goal.After-drop-lines-inside-4 g) →
-    EndsAt (record { left_before = g.S.Source.left c.args.source.now; reader = c.next_command.new.lines; left = g.S.Source.left c.next_command.new.source })
-    (served c.args.brain.now c.loop-lines.brain (output_of g.O.Sink.written g.O.Sink.asked c.args.sink.now) (output_of g.O.Sink.written g.O.Sink.asked c.loop-lines.sink))
+    EndsAt (record {
+      left_before = g.S.Source.left c.args.source.now;
+      reader = c.next_command.new.lines;
+      left = g.S.Source.left c.next_command.new.source;
+    })
+    (served c.args.brain.now c.loop-lines.brain (output_of g.O.Sink.written g.O.Sink.asked c.args.sink.now)
+    (output_of g.O.Sink.written g.O.Sink.asked c.loop-lines.sink))
 ends g c =
     let none = none_is c.in_ok-command.field-0 c.in_default-2.not-Some in
     let told = c.in_ok-command.ensures.end (ap (λ o. Ok o) none) in
     EndsAt-told _ _ c.next_command.new.lines _ c.loop-lines.invariant.so_far
-    (subst (λ (o : Option Command). TakesCommands c.loop-lines.lines (g.S.Source.left c.loop-lines.source) (option_to_list o) c.next_command.new.lines (g.S.Source.left c.next_command.new.source)) none c.in_ok-command.ensures.told)
+    (subst (λ (o : Option Command). TakesCommands c.loop-lines.lines (g.S.Source.left c.loop-lines.source) (option_to_list o)
+    c.next_command.new.lines (g.S.Source.left c.next_command.new.source)) none c.in_ok-command.ensures.told)
     told.0 told.1 told.2 (λ e. ap (λ source. g.S.Source.left source) (c.in_ok-command.ensures.asks_no_more e).2)
 
 pub returns-clause-ok : goal.returns-clause-ok

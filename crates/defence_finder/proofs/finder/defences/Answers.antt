@@ -11,7 +11,8 @@ loop-q-init g c =
     let b : Grid = g.V.Seen.position c.args.view.now in
     record {
       same = refl;
-      walk = rw (c.new-good.ensures.empty, c.new-bad.ensures.empty) (walk-first g.R.Rule.KIND c.args.depth c.args.budget b c.args.compiler.now c.len.ensures.compiled _ (search rules));
+      walk = rw (c.new-good.ensures.empty, c.new-bad.ensures.empty)
+          (walk-first g.R.Rule.KIND c.args.depth c.args.budget b c.args.compiler.now c.len.ensures.compiled _ (search rules));
     }
 
 -- ---- one move more: it is no reply, it holds, or it is beaten

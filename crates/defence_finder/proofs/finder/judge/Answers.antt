@@ -21,7 +21,8 @@ returns-in_ok-leaf-in-Some-clause-writes g c =
     let b : Grid = g.V.Seen.position c.args.view.now in
     let some = c.requires.some_depth in
     let nodes = nodes-on g.R.Rule.KIND c.args.question.now.depth b c.args.q (sym c.in-GoesOn.ensures.outcome) in
-    writes-tells _ _ 1 (nodes_after c.args.question.now.depth b c.args.q) _ _ c.in_ok-leaf-in-Some.ensures.writes (omega (arith, some, nodes))
+    writes-tells _ _ 1 (nodes_after c.args.question.now.depth b c.args.q) _ _ c.in_ok-leaf-in-Some.ensures.writes
+    (omega (arith, some, nodes))
 
 pub returns-in_ok-leaf-in-Some-clause-verdict : goal.returns-in_ok-leaf-in-Some-clause-verdict
 returns-in_ok-leaf-in-Some-clause-verdict g c =
@@ -38,5 +39,6 @@ returns-in_ok-leaf-in-Some-clause-verdict g c =
 
 pub returns-in-None-clause-writes : goal.returns-in-None-clause-writes
 returns-in-None-clause-writes g c =
-    let nodes = nodes-on g.R.Rule.KIND c.args.question.now.depth (g.V.Seen.position c.args.view.now) c.args.q (sym c.in-GoesOn.ensures.outcome) in
+    let nodes = nodes-on g.R.Rule.KIND c.args.question.now.depth (g.V.Seen.position c.args.view.now) c.args.q
+    (sym c.in-GoesOn.ensures.outcome) in
     subst (λ (k : ℕ). Writes c.args.compiler.now c.judge_after.new.compiler k c.judge_after.result) (sym nodes) c.judge_after.ensures.writes

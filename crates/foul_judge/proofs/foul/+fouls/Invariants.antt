@@ -20,4 +20,5 @@ decreases-is_free_three g l = 5 * empties_of l.board.now + 1
 
 -- none of the places so far is a three point that is no foul
 abbrev pub invariant-is_three-loop-place : goal.invariant-is_three-loop-place
-invariant-is_three-loop-place g l = (l.board ≡ l.fn.board) × ((i : ℕ) → i < l.place → free_three g.R.Rule.KIND l.fn.board l.axis l.p (along l.axis l.p i 5) ≡ false)
+invariant-is_three-loop-place g l = (l.board ≡ l.fn.board)
+    × ((i : ℕ) → i < l.place → free_three g.R.Rule.KIND l.fn.board l.axis l.p (along l.axis l.p i 5) ≡ false)

@@ -11,7 +11,8 @@ pub undo-requires-clause-unwon : goal.undo-requires-clause-unwon
 undo-requires-clause-unwon g c =
     let p : Point = record { x = 2; y = 2 } in
     let b : Grid = c.outcome.new.self in
-    let on : outcome Renju b p ≡ GoesOn = ap (λ (w : Grid). outcome Renju w p) c.outcome.ensures.same ∙ sym c.outcome.ensures.outcome ∙ c.in-GoesOn.is in
+    let on : outcome Renju b p ≡ GoesOn = ap (λ (w : Grid). outcome Renju w p) c.outcome.ensures.same ∙ sym c.outcome.ensures.outcome
+    ∙ c.in-GoesOn.is in
     let lawful : IsPosition Renju b = c.side.ensures.lawful in
     let again : lift c.play.new.self p ≡ b = ap (λ (w : Grid). lift w p) c.play.ensures.played ∙ lift-after Renju b p lawful on in
     subst (IsUnwon Renju) (sym again) lawful.unwon

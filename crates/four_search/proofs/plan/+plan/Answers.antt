@@ -6,47 +6,59 @@ use Rattle.game_rules.proofs.Undo.{stone_back, lift_back, unwon_back}
 use Rattle.game_rules.proofs.Fives.{no-fives}
 use Rattle.game_rules.proofs.Games.{wins-some}
 use Rattle.strategy_compiler.proofs.Growing.{writes-then, writes-then-fails, writes-more, stands-grown}
-use Rattle.four_search.proofs.Planning.{plan-some, plan-goes_on, plan-one, plan-wins, plan-block, plan-not-lost, plan-not-draw, chosen-last, line-some, plan-five, plan-four}
+use Rattle.four_search.proofs.Planning.{plan-some, plan-goes_on, plan-one, plan-wins, plan-block, plan-not-lost, plan-not-draw, chosen-last}
+use Rattle.four_search.proofs.Planning.{line-some, plan-five, plan-four}
 use Rattle.four_search.proofs.plan.+plan.Goals as goal
 
 pub compile_after-undo-requires-clause-stone : goal.compile_after-undo-requires-clause-stone
 compile_after-undo-requires-clause-stone g t c =
     let b : Grid = g.V.Seen.position c.args.view.now in
-    let lawful : IsPosition g.R.Rule.KIND (after b c.args.p) = IsPosition-after g.R.Rule.KIND b c.args.p c.play.ensures.lawful c.requires.goes_on in
-    stone_back g.R.Rule.KIND (after b c.args.p) _ c.args.block lawful c.requires.block (c.compile-node.ensures.same ∙ c.play-2.ensures.played ∙ ap (λ (w : Grid). after w c.args.block) c.play.ensures.played)
+    let lawful : IsPosition g.R.Rule.KIND (after b c.args.p) =
+    IsPosition-after g.R.Rule.KIND b c.args.p c.play.ensures.lawful c.requires.goes_on in
+    stone_back g.R.Rule.KIND (after b c.args.p) _ c.args.block lawful c.requires.block
+    (c.compile-node.ensures.same ∙ c.play-2.ensures.played ∙ ap (λ (w : Grid). after w c.args.block) c.play.ensures.played)
 
 pub compile_after-undo-requires-clause-unwon : goal.compile_after-undo-requires-clause-unwon
 compile_after-undo-requires-clause-unwon g t c =
     let b : Grid = g.V.Seen.position c.args.view.now in
-    let lawful : IsPosition g.R.Rule.KIND (after b c.args.p) = IsPosition-after g.R.Rule.KIND b c.args.p c.play.ensures.lawful c.requires.goes_on in
-    unwon_back g.R.Rule.KIND (after b c.args.p) _ c.args.block lawful c.requires.block (c.compile-node.ensures.same ∙ c.play-2.ensures.played ∙ ap (λ (w : Grid). after w c.args.block) c.play.ensures.played)
+    let lawful : IsPosition g.R.Rule.KIND (after b c.args.p) =
+    IsPosition-after g.R.Rule.KIND b c.args.p c.play.ensures.lawful c.requires.goes_on in
+    unwon_back g.R.Rule.KIND (after b c.args.p) _ c.args.block lawful c.requires.block
+    (c.compile-node.ensures.same ∙ c.play-2.ensures.played ∙ ap (λ (w : Grid). after w c.args.block) c.play.ensures.played)
 
 pub compile_after-undo-requires-2-clause-stone : goal.compile_after-undo-requires-2-clause-stone
 compile_after-undo-requires-2-clause-stone g t c =
     let b : Grid = g.V.Seen.position c.args.view.now in
-    let lawful : IsPosition g.R.Rule.KIND (after b c.args.p) = IsPosition-after g.R.Rule.KIND b c.args.p c.play.ensures.lawful c.requires.goes_on in
-    let back = c.undo.ensures.undone ∙ lift_back g.R.Rule.KIND (after b c.args.p) _ c.args.block lawful c.requires.block (c.compile-node.ensures.same ∙ c.play-2.ensures.played ∙ ap (λ (w : Grid). after w c.args.block) c.play.ensures.played) in
+    let lawful : IsPosition g.R.Rule.KIND (after b c.args.p) =
+    IsPosition-after g.R.Rule.KIND b c.args.p c.play.ensures.lawful c.requires.goes_on in
+    let back = c.undo.ensures.undone ∙ lift_back g.R.Rule.KIND (after b c.args.p) _ c.args.block lawful c.requires.block
+    (c.compile-node.ensures.same ∙ c.play-2.ensures.played ∙ ap (λ (w : Grid). after w c.args.block) c.play.ensures.played) in
     stone_back g.R.Rule.KIND b _ c.args.p c.play.ensures.lawful c.requires.goes_on back
 
 pub compile_after-undo-requires-2-clause-unwon : goal.compile_after-undo-requires-2-clause-unwon
 compile_after-undo-requires-2-clause-unwon g t c =
     let b : Grid = g.V.Seen.position c.args.view.now in
-    let lawful : IsPosition g.R.Rule.KIND (after b c.args.p) = IsPosition-after g.R.Rule.KIND b c.args.p c.play.ensures.lawful c.requires.goes_on in
-    let back = c.undo.ensures.undone ∙ lift_back g.R.Rule.KIND (after b c.args.p) _ c.args.block lawful c.requires.block (c.compile-node.ensures.same ∙ c.play-2.ensures.played ∙ ap (λ (w : Grid). after w c.args.block) c.play.ensures.played) in
+    let lawful : IsPosition g.R.Rule.KIND (after b c.args.p) =
+    IsPosition-after g.R.Rule.KIND b c.args.p c.play.ensures.lawful c.requires.goes_on in
+    let back = c.undo.ensures.undone ∙ lift_back g.R.Rule.KIND (after b c.args.p) _ c.args.block lawful c.requires.block
+    (c.compile-node.ensures.same ∙ c.play-2.ensures.played ∙ ap (λ (w : Grid). after w c.args.block) c.play.ensures.played) in
     unwon_back g.R.Rule.KIND b _ c.args.p c.play.ensures.lawful c.requires.goes_on back
 
 pub compile_after-returns-clause-same : goal.compile_after-returns-clause-same
 compile_after-returns-clause-same g t c =
     let b : Grid = g.V.Seen.position c.args.view.now in
-    let lawful : IsPosition g.R.Rule.KIND (after b c.args.p) = IsPosition-after g.R.Rule.KIND b c.args.p c.play.ensures.lawful c.requires.goes_on in
-    let back = c.undo.ensures.undone ∙ lift_back g.R.Rule.KIND (after b c.args.p) _ c.args.block lawful c.requires.block (c.compile-node.ensures.same ∙ c.play-2.ensures.played ∙ ap (λ (w : Grid). after w c.args.block) c.play.ensures.played) in
+    let lawful : IsPosition g.R.Rule.KIND (after b c.args.p) =
+    IsPosition-after g.R.Rule.KIND b c.args.p c.play.ensures.lawful c.requires.goes_on in
+    let back = c.undo.ensures.undone ∙ lift_back g.R.Rule.KIND (after b c.args.p) _ c.args.block lawful c.requires.block
+    (c.compile-node.ensures.same ∙ c.play-2.ensures.played ∙ ap (λ (w : Grid). after w c.args.block) c.play.ensures.played) in
     c.undo-2.ensures.undone ∙ lift_back g.R.Rule.KIND b _ c.args.p c.play.ensures.lawful c.requires.goes_on back
 
 pub compile-returns-in-len1-up-clause-stands : goal.compile-returns-in-len1-up-clause-stands
 compile-returns-in-len1-up-clause-stands g t c =
     let b : Grid = g.V.Seen.position c.args.view.now in
     let nowhere : Point = record { x = 0; y = 0 } in
-    let points : c.as_slice.result.now ≡ five_points g.R.Rule.KIND b (mover b) = c.as_slice.ensures.items ∙ c.in-Ok.ensures.fives ∙ ap (five_points g.R.Rule.KIND b) c.side-attacker.ensures.side in
+    let points : c.as_slice.result.now ≡ five_points g.R.Rule.KIND b (mover b) =
+    c.as_slice.ensures.items ∙ c.in-Ok.ensures.fives ∙ ap (five_points g.R.Rule.KIND b) c.side-attacker.ensures.side in
     plan-five g.R.Rule.KIND c.args.moves b c.as_slice.result.now nowhere c.leaf.new.self c.leaf.result points c.in-len1-up.len_at_least
     (wins-some g.R.Rule.KIND c.args.moves b c.requires.wins) c.leaf.ensures.stands
 
@@ -58,39 +70,50 @@ compile-returns-in-len1-up-clause-writes g t c =
 pub compile-unreachable-requires : goal.compile-unreachable-requires
 compile-unreachable-requires g t c =
     let b : Grid = g.V.Seen.position c.args.view.now in
-    let points : c.as_slice.result.now ≡ five_points g.R.Rule.KIND b (mover b) = c.as_slice.ensures.items ∙ c.in-Ok.ensures.fives ∙ ap (five_points g.R.Rule.KIND b) c.side-attacker.ensures.side in
+    let points : c.as_slice.result.now ≡ five_points g.R.Rule.KIND b (mover b) =
+    c.as_slice.ensures.items ∙ c.in-Ok.ensures.fives ∙ ap (five_points g.R.Rule.KIND b) c.side-attacker.ensures.side in
     let none : has_five g.R.Rule.KIND b (mover b) ≡ false = no-fives g.R.Rule.KIND b c.as_slice.result.now points c.in-empty.len_below in
-    line-some g.R.Rule.KIND c.args.moves b c.args.line.now c.side-attacker.ensures.lawful none c.requires.wins c.requires.line c.in-None.ensures.cases
+    line-some g.R.Rule.KIND c.args.moves b c.args.line.now c.side-attacker.ensures.lawful none c.requires.wins c.requires.line
+    c.in-None.ensures.cases
 
 pub compile-compile_four-requires : goal.compile-compile_four-requires
 compile-compile_four-requires g t c =
     let b : Grid = g.V.Seen.position c.args.view.now in
-    let points : c.as_slice.result.now ≡ five_points g.R.Rule.KIND b (mover b) = c.as_slice.ensures.items ∙ c.in-Ok.ensures.fives ∙ ap (five_points g.R.Rule.KIND b) c.side-attacker.ensures.side in
+    let points : c.as_slice.result.now ≡ five_points g.R.Rule.KIND b (mover b) =
+    c.as_slice.ensures.items ∙ c.in-Ok.ensures.fives ∙ ap (five_points g.R.Rule.KIND b) c.side-attacker.ensures.side in
     let none : has_five g.R.Rule.KIND b (mover b) ≡ false = no-fives g.R.Rule.KIND b c.as_slice.result.now points c.in-empty.len_below in
-    let last = chosen-last g.R.Rule.KIND c.args.moves b c.args.line.now c.in-Some.inner.now c.in-Some.attack.now c.side-attacker.ensures.lawful none c.requires.wins c.requires.line c.in-Some.ensures.cases.0 in
+    let last = chosen-last g.R.Rule.KIND c.args.moves b c.args.line.now c.in-Some.inner.now c.in-Some.attack.now
+    c.side-attacker.ensures.lawful none c.requires.wins c.requires.line c.in-Some.ensures.cases.0 in
     let chosen = last.0 in
     let line = last.1 in
     search rules
 
 pub compile_four-forced-requires : goal.compile_four-forced-requires
 compile_four-forced-requires g t c =
-    record { four = plan-four g.R.Rule.KIND c.args.moves (g.V.Seen.position c.args.view.now) c.args.p c.requires.lawful c.requires.five c.requires.chosen }
+    record {
+      four = plan-four g.R.Rule.KIND c.args.moves (g.V.Seen.position c.args.view.now) c.args.p c.requires.lawful c.requires.five
+          c.requires.chosen;
+    }
 
 pub compile_four-unreachable-requires : goal.compile_four-unreachable-requires
 compile_four-unreachable-requires g t c =
-    plan-not-lost g.R.Rule.KIND c.args.moves (g.V.Seen.position c.args.view.now) c.args.p c.requires.lawful c.requires.five c.requires.chosen (sym c.in-Ok.ensures.answer ∙ c.in-Lost.is)
+    plan-not-lost g.R.Rule.KIND c.args.moves (g.V.Seen.position c.args.view.now) c.args.p c.requires.lawful c.requires.five
+    c.requires.chosen (sym c.in-Ok.ensures.answer ∙ c.in-Lost.is)
 
 pub compile_one-overflow_sub-moves : goal.compile_one-overflow_sub-moves
 compile_one-overflow_sub-moves g t c =
-    let some = plan-some g.R.Rule.KIND c.args.moves (g.V.Seen.position c.args.view.now) c.args.p c.requires.lawful c.requires.five c.requires.chosen in
+    let some = plan-some g.R.Rule.KIND c.args.moves (g.V.Seen.position c.args.view.now) c.args.p c.requires.lawful c.requires.five
+    c.requires.chosen in
     omega (arith, some)
 
 pub compile_one-compile_after-requires : goal.compile_one-compile_after-requires
 compile_one-compile_after-requires g t c =
     let b : Grid = g.V.Seen.position c.args.view.now in
     let goes_on = plan-goes_on g.R.Rule.KIND c.args.moves b c.args.p c.requires.lawful c.requires.five c.requires.chosen in
-    let block = plan-block g.R.Rule.KIND c.args.moves b c.args.p c.requires.lawful c.requires.five c.requires.chosen c.args.block c.requires.one in
-    let both = plan-wins g.R.Rule.KIND c.args.moves b c.args.p c.requires.lawful c.requires.five c.requires.chosen c.args.block c.requires.one in
+    let block = plan-block g.R.Rule.KIND c.args.moves b c.args.p c.requires.lawful c.requires.five c.requires.chosen c.args.block
+    c.requires.one in
+    let both = plan-wins g.R.Rule.KIND c.args.moves b c.args.p c.requires.lawful c.requires.five c.requires.chosen c.args.block
+    c.requires.one in
     let wins = both.0 in
     let more = both.1 in
     let some = plan-some g.R.Rule.KIND c.args.moves b c.args.p c.requires.lawful c.requires.five c.requires.chosen in
@@ -98,20 +121,23 @@ compile_one-compile_after-requires g t c =
 
 pub compile_one-returns-in_err-beside-clause-writes : goal.compile_one-returns-in_err-beside-clause-writes
 compile_one-returns-in_err-beside-clause-writes g t c =
-    let some = plan-some g.R.Rule.KIND c.args.moves (g.V.Seen.position c.args.view.now) c.args.p c.requires.lawful c.requires.five c.requires.chosen in
+    let some = plan-some g.R.Rule.KIND c.args.moves (g.V.Seen.position c.args.view.now) c.args.p c.requires.lawful c.requires.five
+    c.requires.chosen in
     writes-then-fails _ _ _ (2 * (c.args.moves - 1)) 1 _ _ _ _ c.in_ok-at_block.ensures.writes c.in_err-beside.ensures.writes
     (omega (arith, some)) (search rules)
 
 pub compile_one-block_node-requires-clause-goes_on : goal.compile_one-block_node-requires-clause-goes_on
 compile_one-block_node-requires-clause-goes_on g t c =
     let b : Grid = g.V.Seen.position c.args.view.now in
-    ap (λ (w : Grid). outcome g.R.Rule.KIND w c.args.p) c.in_ok-at_block.ensures.same ∙ plan-goes_on g.R.Rule.KIND c.args.moves b c.args.p c.requires.lawful c.requires.five c.requires.chosen
+    ap (λ (w : Grid). outcome g.R.Rule.KIND w c.args.p) c.in_ok-at_block.ensures.same
+    ∙ plan-goes_on g.R.Rule.KIND c.args.moves b c.args.p c.requires.lawful c.requires.five c.requires.chosen
 
 pub compile_one-returns-clause-stands : goal.compile_one-returns-clause-stands
 compile_one-returns-clause-stands g t c =
     let b : Grid = g.V.Seen.position c.args.view.now in
     let d : Grid = g.V.Seen.position c.compile_after.new.view in
-    let both = plan-wins g.R.Rule.KIND c.args.moves b c.args.p c.requires.lawful c.requires.five c.requires.chosen c.args.block c.requires.one in
+    let both = plan-wins g.R.Rule.KIND c.args.moves b c.args.p c.requires.lawful c.requires.five c.requires.chosen c.args.block
+    c.requires.one in
     let at_block = stands-grown c.growth_keeps_trees.ensures.same _ _ 1 c.in_ok-beside.ensures.writes.grows c.in_ok-at_block.at_block _
     c.in_ok-at_block.ensures.stands in
     plan-one g.R.Rule.KIND c.args.moves b c.args.p c.requires.lawful c.requires.five c.requires.chosen c.leaf.new.self
@@ -121,7 +147,8 @@ compile_one-returns-clause-stands g t c =
 
 pub compile_one-returns-clause-writes : goal.compile_one-returns-clause-writes
 compile_one-returns-clause-writes g t c =
-    let some = plan-some g.R.Rule.KIND c.args.moves (g.V.Seen.position c.args.view.now) c.args.p c.requires.lawful c.requires.five c.requires.chosen in
+    let some = plan-some g.R.Rule.KIND c.args.moves (g.V.Seen.position c.args.view.now) c.args.p c.requires.lawful c.requires.five
+    c.requires.chosen in
     writes-then _ _ _ (2 * (c.args.moves - 1) + 1) 1 _ _ _
     (writes-then _ _ _ (2 * (c.args.moves - 1)) 1
     (2 * (c.args.moves - 1) + 1) _ _ c.in_ok-at_block.ensures.writes c.in_ok-beside.ensures.writes (omega arith))
@@ -129,4 +156,5 @@ compile_one-returns-clause-writes g t c =
 
 pub compile_four-unreachable-requires-in-Draw : goal.compile_four-unreachable-requires-in-Draw
 compile_four-unreachable-requires-in-Draw g t c =
-    plan-not-draw g.R.Rule.KIND c.args.moves (g.V.Seen.position c.args.view.now) c.args.p c.requires.lawful c.requires.five c.requires.chosen _ (sym c.in-Ok.ensures.answer ∙ c.in-Draw.is)
+    plan-not-draw g.R.Rule.KIND c.args.moves (g.V.Seen.position c.args.view.now) c.args.p c.requires.lawful c.requires.five
+    c.requires.chosen _ (sym c.in-Ok.ensures.answer ∙ c.in-Draw.is)

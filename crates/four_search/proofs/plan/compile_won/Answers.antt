@@ -20,17 +20,20 @@ pub unreachable-requires : goal.unreachable-requires
 unreachable-requires g c =
     let b : Grid = g.V.Seen.position c.args.view.now in
     let low : length c.as_slice.result.now < 1 = c.in-empty.len_below in
-    plan-won-points g.R.Rule.KIND c.args.moves b c.args.p c.requires.lawful c.requires.five c.requires.chosen c.as_slice.result.now (c.as_slice.ensures.items ∙ c.in-Ok.ensures.fives) c.requires.won low
+    plan-won-points g.R.Rule.KIND c.args.moves b c.args.p c.requires.lawful c.requires.five c.requires.chosen c.as_slice.result.now
+    (c.as_slice.ensures.items ∙ c.in-Ok.ensures.fives) c.requires.won low
 
 pub returns-in_err-beside-in-len1-clause-writes : goal.returns-in_err-beside-in-len1-clause-writes
 returns-in_err-beside-in-len1-clause-writes g c =
-    let some = plan-some g.R.Rule.KIND c.args.moves (g.V.Seen.position c.args.view.now) c.args.p c.requires.lawful c.requires.five c.requires.chosen in
+    let some = plan-some g.R.Rule.KIND c.args.moves (g.V.Seen.position c.args.view.now) c.args.p c.requires.lawful c.requires.five
+    c.requires.chosen in
     writes-fails _ _ 1 _ _ _ c.in_err-beside-in-len1.ensures.writes (omega (arith, some)) (search rules)
 
 pub block_node-requires-clause-goes_on : goal.block_node-requires-clause-goes_on
 block_node-requires-clause-goes_on g c =
     let b : Grid = g.V.Seen.position c.args.view.now in
-    ap (λ (w : Grid). outcome g.R.Rule.KIND w c.args.p) c.in-Ok.ensures.same ∙ plan-goes_on g.R.Rule.KIND c.args.moves b c.args.p c.requires.lawful c.requires.five c.requires.chosen
+    ap (λ (w : Grid). outcome g.R.Rule.KIND w c.args.p) c.in-Ok.ensures.same
+    ∙ plan-goes_on g.R.Rule.KIND c.args.moves b c.args.p c.requires.lawful c.requires.five c.requires.chosen
 
 pub returns-in-len1-clause-stands : goal.returns-in-len1-clause-stands
 returns-in-len1-clause-stands g c =
@@ -48,17 +51,20 @@ returns-in-len1-clause-stands g c =
 
 pub returns-in-len1-clause-writes : goal.returns-in-len1-clause-writes
 returns-in-len1-clause-writes g c =
-    let some = plan-some g.R.Rule.KIND c.args.moves (g.V.Seen.position c.args.view.now) c.args.p c.requires.lawful c.requires.five c.requires.chosen in
+    let some = plan-some g.R.Rule.KIND c.args.moves (g.V.Seen.position c.args.view.now) c.args.p c.requires.lawful c.requires.five
+    c.requires.chosen in
     writes-then _ _ _ 1 1 _ _ _ c.in_ok-beside-in-len1.ensures.writes c.block_node.ensures.writes (omega (arith, some))
 
 pub returns-in_err-beside-in-len2-up-clause-writes : goal.returns-in_err-beside-in-len2-up-clause-writes
 returns-in_err-beside-in-len2-up-clause-writes g c =
-    let some = plan-some g.R.Rule.KIND c.args.moves (g.V.Seen.position c.args.view.now) c.args.p c.requires.lawful c.requires.five c.requires.chosen in
+    let some = plan-some g.R.Rule.KIND c.args.moves (g.V.Seen.position c.args.view.now) c.args.p c.requires.lawful c.requires.five
+    c.requires.chosen in
     writes-fails _ _ 1 _ _ _ c.in_err-beside-in-len2-up.ensures.writes (omega (arith, some)) (search rules)
 
 pub returns-in_err-at_first-in-len2-up-clause-writes : goal.returns-in_err-at_first-in-len2-up-clause-writes
 returns-in_err-at_first-in-len2-up-clause-writes g c =
-    let some = plan-some g.R.Rule.KIND c.args.moves (g.V.Seen.position c.args.view.now) c.args.p c.requires.lawful c.requires.five c.requires.chosen in
+    let some = plan-some g.R.Rule.KIND c.args.moves (g.V.Seen.position c.args.view.now) c.args.p c.requires.lawful c.requires.five
+    c.requires.chosen in
     let one = c.if-moves-eq1.false in
     writes-then-fails _ _ _ 1 1 _ _ _ _ c.in_ok-beside-in-len2-up.ensures.writes c.in_err-at_first-in-len2-up.ensures.writes
     (omega (arith, some, one)) (search rules)
@@ -66,7 +72,8 @@ returns-in_err-at_first-in-len2-up-clause-writes g c =
 pub block_node-requires-in-len2-up-clause-goes_on : goal.block_node-requires-in-len2-up-clause-goes_on
 block_node-requires-in-len2-up-clause-goes_on g c =
     let b : Grid = g.V.Seen.position c.args.view.now in
-    ap (λ (w : Grid). outcome g.R.Rule.KIND w c.args.p) c.in-Ok.ensures.same ∙ plan-goes_on g.R.Rule.KIND c.args.moves b c.args.p c.requires.lawful c.requires.five c.requires.chosen
+    ap (λ (w : Grid). outcome g.R.Rule.KIND w c.args.p) c.in-Ok.ensures.same
+    ∙ plan-goes_on g.R.Rule.KIND c.args.moves b c.args.p c.requires.lawful c.requires.five c.requires.chosen
 
 pub returns-clause-stands : goal.returns-clause-stands
 returns-clause-stands g c =
@@ -87,7 +94,8 @@ returns-clause-stands g c =
 
 pub returns-clause-writes : goal.returns-clause-writes
 returns-clause-writes g c =
-    let some = plan-some g.R.Rule.KIND c.args.moves (g.V.Seen.position c.args.view.now) c.args.p c.requires.lawful c.requires.five c.requires.chosen in
+    let some = plan-some g.R.Rule.KIND c.args.moves (g.V.Seen.position c.args.view.now) c.args.p c.requires.lawful c.requires.five
+    c.requires.chosen in
     let one = c.if-moves-eq1.false in
     writes-then _ _ _ 2 1 _ _ _ (writes-then _ _ _ 1 1 2 _ _ c.in_ok-beside-in-len2-up.ensures.writes
     c.in_ok-at_first-in-len2-up.ensures.writes (omega arith)) c.block_node-in-len2-up.ensures.writes (omega (arith, some, one))

@@ -13,7 +13,9 @@ use Rattle.four_search.specs.declared.search.Found.TheVariants.{NoWin}
 use Rattle.four_search.specs.declared.makers.Maker.{Maker}
 use Rattle.four_search.specs.Makers.{makers_of, AfterFour, AfterReply}
 use Rattle.four_search.proofs.Listing.{drop-all, drop-next}
-use Rattle.four_search.proofs.Trying.{found-makers, ruled-out, each-maker, not_taken, taken-safe, try_all, try_all-none, step_at, step-goes_on, step-ends, found-nothing, answering-no-more, behind-else, block-none, block-threat, block-last, trying-else, trying-goes}
+use Rattle.four_search.proofs.Trying.{found-makers, ruled-out, each-maker, not_taken, taken-safe, try_all, try_all-none, step_at}
+use Rattle.four_search.proofs.Trying.{step-goes_on, step-ends, found-nothing, answering-no-more, behind-else, block-none, block-threat}
+use Rattle.four_search.proofs.Trying.{block-last, trying-else, trying-goes}
 use Rattle.four_search.specs.Searching.{found_trying, found_behind, found_answering}
 use Rattle.four_search.specs.Remembering.{IsDenied}
 use Rattle.four_search.proofs.Remembering.{denied-found, found-denied}
@@ -29,13 +31,16 @@ pub after_block-returns-then-not-has_fouls-clause-found :
     goal.after_block-returns-then-not-has_fouls-clause-found
 after_block-returns-then-not-has_fouls-clause-found g t c =
     let b : Grid = g.V.Seen.position c.args.view.now in
-    let calm : has_fouls g.R.Rule.KIND (mover b) ≡ false = ap (has_fouls g.R.Rule.KIND) (sym c.side-defender.ensures.side) ∙ sym c.if-not-has_fouls.ensures.fouls in
+    let calm : has_fouls g.R.Rule.KIND (mover b) ≡ false =
+    ap (has_fouls g.R.Rule.KIND) (sym c.side-defender.ensures.side) ∙ sym c.if-not-has_fouls.ensures.fouls in
     let fits = c.if-budget-eq0.false in
-    block-last g.R.Rule.KIND b c.args.block c.side-defender.ensures.lawful c.requires.goes_on c.requires.one c.args.moves c.args.budget c.if-moves-eq1.true (omega (arith, fits)) calm
+    block-last g.R.Rule.KIND b c.args.block c.side-defender.ensures.lawful c.requires.goes_on c.requires.one c.args.moves c.args.budget
+    c.if-moves-eq1.true (omega (arith, fits)) calm
 
 pub after_block-fives_made-threat-requires-clause-empty :
     goal.after_block-fives_made-threat-requires-clause-empty
-after_block-fives_made-threat-requires-clause-empty g t c = GoesOn-empty g.R.Rule.KIND (g.V.Seen.position c.args.view.now) c.args.block c.requires.goes_on
+after_block-fives_made-threat-requires-clause-empty g t c =
+    GoesOn-empty g.R.Rule.KIND (g.V.Seen.position c.args.view.now) c.args.block c.requires.goes_on
 
 pub after_block-search_on-found-requires : goal.after_block-search_on-found-requires
 after_block-search_on-found-requires g t c κs within =
@@ -43,9 +48,12 @@ after_block-search_on-found-requires g t c κs within =
     let lawful : IsPosition g.R.Rule.KIND b = c.side-defender.ensures.lawful in
     let fits : 0 < c.args.budget = let some = c.if-budget-eq0.false in omega (arith, some) in
     let none : has_five g.R.Rule.KIND (g.V.Seen.position c.play.new.self) (mover (g.V.Seen.position c.play.new.self)) ≡ false =
-    ap (λ (w : Grid). has_five g.R.Rule.KIND w (mover w)) c.play.ensures.played ∙ block-none g.R.Rule.KIND b c.args.block lawful c.requires.goes_on c.requires.one in
-    let threat : c.fives_made-threat.result ≡ in_short (five_points g.R.Rule.KIND (g.V.Seen.position c.play.new.self) (other (mover (g.V.Seen.position c.play.new.self)))) =
-    c.fives_made-threat.ensures.made ∙ block-threat g.R.Rule.KIND b c.args.block lawful c.requires.goes_on c.requires.one ∙ ap (λ (w : Grid). in_short (five_points g.R.Rule.KIND w (other (mover w)))) (sym c.play.ensures.played) in
+    ap (λ (w : Grid). has_five g.R.Rule.KIND w (mover w)) c.play.ensures.played
+    ∙ block-none g.R.Rule.KIND b c.args.block lawful c.requires.goes_on c.requires.one in
+    let threat : c.fives_made-threat.result ≡ in_short
+    (five_points g.R.Rule.KIND (g.V.Seen.position c.play.new.self) (other (mover (g.V.Seen.position c.play.new.self)))) =
+    c.fives_made-threat.ensures.made ∙ block-threat g.R.Rule.KIND b c.args.block lawful c.requires.goes_on c.requires.one
+    ∙ ap (λ (w : Grid). in_short (five_points g.R.Rule.KIND w (other (mover w)))) (sym c.play.ensures.played) in
     let before : AfterReply g.R.Rule.KIND c.args.makers.now c.args.p c.args.block (g.V.Seen.position c.play.new.self) =
     record { four = b; from = c.requires.makers; on = c.requires.goes_on; is = c.play.ensures.played } in
     search rules
@@ -53,36 +61,52 @@ after_block-search_on-found-requires g t c κs within =
 pub after_block-undo-requires-clause-stone : goal.after_block-undo-requires-clause-stone
 after_block-undo-requires-clause-stone g t c =
     let b : Grid = g.V.Seen.position c.args.view.now in
-    stone_back g.R.Rule.KIND b _ c.args.block c.side-defender.ensures.lawful c.requires.goes_on (c.search_on-found.ensures.same ∙ c.play.ensures.played)
+    stone_back g.R.Rule.KIND b _ c.args.block c.side-defender.ensures.lawful c.requires.goes_on
+    (c.search_on-found.ensures.same ∙ c.play.ensures.played)
 
 pub after_block-undo-requires-clause-unwon : goal.after_block-undo-requires-clause-unwon
 after_block-undo-requires-clause-unwon g t c =
     let b : Grid = g.V.Seen.position c.args.view.now in
-    unwon_back g.R.Rule.KIND b _ c.args.block c.side-defender.ensures.lawful c.requires.goes_on (c.search_on-found.ensures.same ∙ c.play.ensures.played)
+    unwon_back g.R.Rule.KIND b _ c.args.block c.side-defender.ensures.lawful c.requires.goes_on
+    (c.search_on-found.ensures.same ∙ c.play.ensures.played)
 
 pub after_block-returns-clause-same : goal.after_block-returns-clause-same
 after_block-returns-clause-same g t c =
     let b : Grid = g.V.Seen.position c.args.view.now in
-    c.undo.ensures.undone ∙ lift_back g.R.Rule.KIND b _ c.args.block c.side-defender.ensures.lawful c.requires.goes_on (c.search_on-found.ensures.same ∙ c.play.ensures.played)
+    c.undo.ensures.undone ∙ lift_back g.R.Rule.KIND b _ c.args.block c.side-defender.ensures.lawful c.requires.goes_on
+    (c.search_on-found.ensures.same ∙ c.play.ensures.played)
 
 pub answering-after_block-requires : goal.answering-after_block-requires
 answering-after_block-requires g t c κs within =
     let b : Grid = g.V.Seen.position c.args.view.now in
     let d : Grid = g.V.Seen.position c.fate.new.view in
     let one = sym c.in-One.ensures.fate in
-    let goes_on : outcome g.R.Rule.KIND d c.in-One.block ≡ GoesOn = ap (λ (w : Grid). outcome g.R.Rule.KIND w c.in-One.block) c.fate.ensures.same ∙ one-goes_on g.R.Rule.KIND b c.in-One.block c.in-One.ensures.fate in
+    let goes_on : outcome g.R.Rule.KIND d c.in-One.block ≡ GoesOn =
+    ap (λ (w : Grid). outcome g.R.Rule.KIND w c.in-One.block) c.fate.ensures.same
+    ∙ one-goes_on g.R.Rule.KIND b c.in-One.block c.in-One.ensures.fate in
     let alone : in_short (five_points g.R.Rule.KIND d (other (mover d))) ≡ One c.in-One.block =
-    ap (λ (w : Grid). in_short (five_points g.R.Rule.KIND w (other (mover w)))) c.fate.ensures.same ∙ ap in_short (block-alone g.R.Rule.KIND b c.in-One.block one).1 in
-    let safe : has_five g.R.Rule.KIND d (mover d) ≡ false = ap (λ (w : Grid). has_five g.R.Rule.KIND w (mover w)) c.fate.ensures.same ∙ c.requires.safe in
+    ap (λ (w : Grid). in_short (five_points g.R.Rule.KIND w (other (mover w)))) c.fate.ensures.same
+    ∙ ap in_short (block-alone g.R.Rule.KIND b c.in-One.block one).1 in
+    let safe : has_five g.R.Rule.KIND d (mover d) ≡ false =
+    ap (λ (w : Grid). has_five g.R.Rule.KIND w (mover w)) c.fate.ensures.same ∙ c.requires.safe in
     let some : 0 < c.args.moves = let more = c.if-moves-eq0.false in omega (arith, more) in
     let from = c.requires.makers in
-    let makers : AfterFour g.R.Rule.KIND c.args.makers.now c.args.p d = record { first = from.first; lawful = from.lawful; none = from.none; on = from.on; is = c.fate.ensures.same ∙ from.is; makers = from.makers } in
+    let makers : AfterFour g.R.Rule.KIND c.args.makers.now c.args.p d =
+    record {
+      first = from.first;
+      lawful = from.lawful;
+      none = from.none;
+      on = from.on;
+      is = c.fate.ensures.same ∙ from.is;
+      makers = from.makers;
+    } in
     search rules
 
 pub answering-returns-then-moves-eq0-clause-found :
     goal.answering-returns-then-moves-eq0-clause-found
 answering-returns-then-moves-eq0-clause-found g t c =
-    answering-no-more g.R.Rule.KIND (g.V.Seen.position c.args.view.now) c.args.budget c.args.moves c.in-One.block c.if-moves-eq0.true c.in-One.ensures.fate
+    answering-no-more g.R.Rule.KIND (g.V.Seen.position c.args.view.now) c.args.budget c.args.moves c.in-One.block c.if-moves-eq0.true
+    c.in-One.ensures.fate
 
 pub behind-answering-found-requires : goal.behind-answering-found-requires
 behind-answering-found-requires g t c κs within =
@@ -90,10 +114,22 @@ behind-answering-found-requires g t c κs within =
     let d : Grid = g.V.Seen.position c.play.new.self in
     let lawful : IsPosition g.R.Rule.KIND b = c.play.ensures.lawful in
     let made : c.args.made ≡ in_short (five_points g.R.Rule.KIND d (other (mover d))) =
-    c.requires.made ∙ ap (λ s. in_short (five_points g.R.Rule.KIND (after b c.args.p) s)) (sym (mover-other g.R.Rule.KIND b c.args.p lawful c.requires.goes_on)) ∙ ap (λ (w : Grid). in_short (five_points g.R.Rule.KIND w (other (mover w)))) (sym c.play.ensures.played) in
+    c.requires.made ∙ ap (λ s. in_short (five_points g.R.Rule.KIND (after b c.args.p) s))
+    (sym (mover-other g.R.Rule.KIND b c.args.p lawful c.requires.goes_on))
+    ∙ ap (λ (w : Grid). in_short (five_points g.R.Rule.KIND w (other (mover w)))) (sym c.play.ensures.played) in
     let safe : has_five g.R.Rule.KIND d (mover d) ≡ false =
-    ap (λ (w : Grid). has_five g.R.Rule.KIND w (mover w)) c.play.ensures.played ∙ ap (has_five g.R.Rule.KIND (after b c.args.p)) (mover-then g.R.Rule.KIND b c.args.p lawful c.requires.goes_on) ∙ c.requires.safe in
-    let makers : AfterFour g.R.Rule.KIND c.args.makers.now c.args.p d = record { first = b; lawful = lawful; none = c.requires.none; on = c.requires.goes_on; is = c.play.ensures.played; makers = c.requires.makers } in
+    ap (λ (w : Grid). has_five g.R.Rule.KIND w (mover w)) c.play.ensures.played
+    ∙ ap (has_five g.R.Rule.KIND (after b c.args.p)) (mover-then g.R.Rule.KIND b c.args.p lawful c.requires.goes_on)
+    ∙ c.requires.safe in
+    let makers : AfterFour g.R.Rule.KIND c.args.makers.now c.args.p d =
+    record {
+      first = b;
+      lawful = lawful;
+      none = c.requires.none;
+      on = c.requires.goes_on;
+      is = c.play.ensures.played;
+      makers = c.requires.makers;
+    } in
     search rules
 
 pub behind-undo-requires-clause-stone : goal.behind-undo-requires-clause-stone
@@ -109,12 +145,14 @@ behind-undo-requires-clause-unwon g t c =
 pub behind-returns-in_err-found-clause-same : goal.behind-returns-in_err-found-clause-same
 behind-returns-in_err-found-clause-same g t c =
     let b : Grid = g.V.Seen.position c.args.view.now in
-    c.undo.ensures.undone ∙ lift_back g.R.Rule.KIND b _ c.args.p c.play.ensures.lawful c.requires.goes_on (c.answering-found.ensures.same ∙ c.play.ensures.played)
+    c.undo.ensures.undone ∙ lift_back g.R.Rule.KIND b _ c.args.p c.play.ensures.lawful c.requires.goes_on
+    (c.answering-found.ensures.same ∙ c.play.ensures.played)
 
 pub behind-returns-in-Win-clause-same : goal.behind-returns-in-Win-clause-same
 behind-returns-in-Win-clause-same g t c =
     let b : Grid = g.V.Seen.position c.args.view.now in
-    c.undo.ensures.undone ∙ lift_back g.R.Rule.KIND b _ c.args.p c.play.ensures.lawful c.requires.goes_on (c.answering-found.ensures.same ∙ c.play.ensures.played)
+    c.undo.ensures.undone ∙ lift_back g.R.Rule.KIND b _ c.args.p c.play.ensures.lawful c.requires.goes_on
+    (c.answering-found.ensures.same ∙ c.play.ensures.played)
 
 pub behind-returns-in_default : goal.behind-returns-in_default
 behind-returns-in_default g t c =
@@ -123,7 +161,8 @@ behind-returns-in_default g t c =
     c.in_ok-found.ensures.found ∙ ap (λ (w : Grid). found_answering g.R.Rule.KIND c.args.moves w c.args.budget) c.play.ensures.played in
     record {
       found = behind-else g.R.Rule.KIND c.args.moves b c.args.p c.args.budget c.in_ok-found.found c.in_default.not-Win found;
-      same = c.undo.ensures.undone ∙ lift_back g.R.Rule.KIND b _ c.args.p c.play.ensures.lawful c.requires.goes_on (c.answering-found.ensures.same ∙ c.play.ensures.played);
+      same = c.undo.ensures.undone ∙ lift_back g.R.Rule.KIND b _ c.args.p c.play.ensures.lawful c.requires.goes_on
+          (c.answering-found.ensures.same ∙ c.play.ensures.played);
     }
 
 pub remembered-returns-in-Some-clause-found : goal.remembered-returns-in-Some-clause-found
@@ -149,7 +188,8 @@ remembered-keep-requires g t c =
 pub search_on-returns-then-rules_out-clause-found : goal.search_on-returns-then-rules_out-clause-found
 search_on-returns-then-rules_out-clause-found g t c =
     let b : Grid = g.V.Seen.position c.args.view.now in
-    ruled-out g.R.Rule.KIND b c.requires.lawful c.args.threat c.requires.threat c.args.moves c.args.budget c.requires.none c.requires.some c.requires.some_budget (c.rules_out.ensures.out c.if-rules_out.true)
+    ruled-out g.R.Rule.KIND b c.requires.lawful c.args.threat c.requires.threat c.args.moves c.args.budget c.requires.none c.requires.some
+    c.requires.some_budget (c.rules_out.ensures.out c.if-rules_out.true)
 
 pub try_makers-try_point-requires : goal.try_makers-try_point-requires
 try_makers-try_point-requires g t c κs within =
@@ -160,13 +200,18 @@ try_makers-try_point-requires g t c κs within =
     let m : Maker = get_or c.args.makers.now i none in
     let each = each-maker g.R.Rule.KIND b c.requires.lawful c.args.makers.now i none c.requires.makers c.loop-maker-test.true in
     let same : d ≡ b = c.loop-maker.invariant.same in
-    let some : has_five g.R.Rule.KIND (after d m.at) (mover d) ≡ true = ap (λ (w : Grid). has_five g.R.Rule.KIND (after w m.at) (mover w)) same ∙ and_right (is_empty b m.at) _ each.1 in
-    let made : m.made ≡ in_short (five_points g.R.Rule.KIND (after d m.at) (mover d)) = ap (λ (x : Maker). x.made) each.0 ∙ sym (ap (λ (w : Grid). in_short (five_points g.R.Rule.KIND (after w m.at) (mover w))) same) in
+    let some : has_five g.R.Rule.KIND (after d m.at) (mover d) ≡ true =
+    ap (λ (w : Grid). has_five g.R.Rule.KIND (after w m.at) (mover w)) same ∙ and_right (is_empty b m.at) _ each.1 in
+    let made : m.made ≡ in_short (five_points g.R.Rule.KIND (after d m.at) (mover d)) =
+    ap (λ (x : Maker). x.made) each.0 ∙ sym (ap (λ (w : Grid). in_short (five_points g.R.Rule.KIND (after w m.at) (mover w))) same) in
     let safe : has_five g.R.Rule.KIND (after d m.at) (other (mover d)) ≡ false =
-    ap (λ (w : Grid). has_five g.R.Rule.KIND (after w m.at) (other (mover w))) same ∙ taken-safe g.R.Rule.KIND b c.requires.lawful c.args.threat c.requires.threat m.at (and_left (is_empty b m.at) _ each.1) (sym c.takes.ensures.takes ∙ c.if-takes.true) in
+    ap (λ (w : Grid). has_five g.R.Rule.KIND (after w m.at) (other (mover w))) same
+    ∙ taken-safe g.R.Rule.KIND b c.requires.lawful c.args.threat c.requires.threat m.at (and_left (is_empty b m.at) _ each.1)
+    (sym c.takes.ensures.takes ∙ c.if-takes.true) in
     let makers : c.args.makers.now ≡ makers_of g.R.Rule.KIND d = c.requires.makers ∙ ap (makers_of g.R.Rule.KIND) (sym same) in
     let empty : is_empty d m.at ≡ true = ap (λ (w : Grid). is_empty w m.at) same ∙ and_left (is_empty b m.at) _ each.1 in
-    let no_five : has_five g.R.Rule.KIND d (mover d) ≡ false = ap (λ (w : Grid). has_five g.R.Rule.KIND w (mover w)) same ∙ c.requires.none in
+    let no_five : has_five g.R.Rule.KIND d (mover d) ≡ false =
+    ap (λ (w : Grid). has_five g.R.Rule.KIND w (mover w)) same ∙ c.requires.none in
     search rules
 
 pub try_makers-returns-in_default : goal.try_makers-returns-in_default
@@ -175,12 +220,17 @@ try_makers-returns-in_default g t c =
     let i : ℕ = c.loop-maker.maker-index in
     let none : Maker = record { at = record { x = 0; y = 0 }; made = None } in
     let m : Maker = get_or c.args.makers.now i none in
-    let next : map (λ x. x.at) (drop i c.args.makers.now) ≡ m.at ∷ map (λ x. x.at) (drop (i + 1) c.args.makers.now) = drop-next c.args.makers.now i none c.loop-maker-test.true in
-    let found : c.in_ok-found.found ≡ found_trying g.R.Rule.KIND (c.args.moves - 1) b m.at c.loop-maker.left = c.in_ok-found.ensures.found ∙ ap (λ (w : Grid). found_trying g.R.Rule.KIND (c.args.moves - 1) w m.at c.loop-maker.left) c.loop-maker.invariant.same in
+    let next : map (λ x. x.at) (drop i c.args.makers.now) ≡ m.at ∷ map (λ x. x.at) (drop (i + 1) c.args.makers.now) =
+    drop-next c.args.makers.now i none c.loop-maker-test.true in
+    let found : c.in_ok-found.found ≡ found_trying g.R.Rule.KIND (c.args.moves - 1) b m.at c.loop-maker.left =
+    c.in_ok-found.ensures.found ∙ ap (λ (w : Grid). found_trying g.R.Rule.KIND (c.args.moves - 1) w m.at c.loop-maker.left)
+    c.loop-maker.invariant.same in
     record {
-      found = sym (step-ends g.R.Rule.KIND (c.args.moves - 1) b c.loop-maker.left m.at (map (λ x. x.at) (drop i c.args.makers.now)) (map (λ x. x.at) (drop (i + 1) c.args.makers.now)) next c.in_ok-found.found found c.in_default.not-NoWin)
+      found = sym (step-ends g.R.Rule.KIND (c.args.moves - 1) b c.loop-maker.left m.at (map (λ x. x.at) (drop i c.args.makers.now))
+          (map (λ x. x.at) (drop (i + 1) c.args.makers.now)) next c.in_ok-found.found found c.in_default.not-NoWin)
           ∙ c.loop-maker.invariant.rest
-          ∙ found-makers g.R.Rule.KIND b c.requires.lawful c.args.makers.now c.args.moves c.args.budget c.requires.makers c.requires.none c.requires.some c.requires.some_budget;
+          ∙ found-makers g.R.Rule.KIND b c.requires.lawful c.args.makers.now c.args.moves c.args.budget c.requires.makers c.requires.none
+          c.requires.some c.requires.some_budget;
       same = c.try_point.ensures.same ∙ c.loop-maker.invariant.same;
     }
 
@@ -190,19 +240,29 @@ try_makers-loop-maker-preserved g t c =
     let i : ℕ = c.loop-maker.maker-index in
     let none : Maker = record { at = record { x = 0; y = 0 }; made = None } in
     let m : Maker = get_or c.args.makers.now i none in
-    let next : map (λ x. x.at) (drop i c.args.makers.now) ≡ m.at ∷ map (λ x. x.at) (drop (i + 1) c.args.makers.now) = drop-next c.args.makers.now i none c.loop-maker-test.true in
+    let next : map (λ x. x.at) (drop i c.args.makers.now) ≡ m.at ∷ map (λ x. x.at) (drop (i + 1) c.args.makers.now) =
+    drop-next c.args.makers.now i none c.loop-maker-test.true in
     let rest_of : ℕ → Found = λ l. try_all g.R.Rule.KIND (c.args.moves - 1) b l (map (λ x. x.at) (drop (i + 1) c.args.makers.now)) in
     elim c.if-takes.branch [
       | try_makers-then-takes+in_ok-found+in-NoWin w ↦
-          let found : w.in_ok-found.found ≡ found_trying g.R.Rule.KIND (c.args.moves - 1) b m.at c.loop-maker.left = w.in_ok-found.ensures.found ∙ ap (λ (v : Grid). found_trying g.R.Rule.KIND (c.args.moves - 1) v m.at c.loop-maker.left) c.loop-maker.invariant.same in
+          let found : w.in_ok-found.found ≡ found_trying g.R.Rule.KIND (c.args.moves - 1) b m.at c.loop-maker.left =
+          w.in_ok-found.ensures.found ∙ ap (λ (v : Grid). found_trying g.R.Rule.KIND (c.args.moves - 1) v m.at c.loop-maker.left)
+          c.loop-maker.invariant.same in
           record {
             same = ap g.V.Seen.position w.view-is ∙ w.try_point.ensures.same ∙ c.loop-maker.invariant.same;
-            rest = ap rest_of w.left-is ∙ sym (step-goes_on g.R.Rule.KIND (c.args.moves - 1) b c.loop-maker.left m.at (map (λ x. x.at) (drop i c.args.makers.now)) (map (λ x. x.at) (drop (i + 1) c.args.makers.now)) next w.in_ok-found.found found w.in-NoWin.rest w.in-NoWin.is) ∙ c.loop-maker.invariant.rest;
+            rest = ap rest_of w.left-is ∙ sym
+                (step-goes_on g.R.Rule.KIND (c.args.moves - 1) b c.loop-maker.left m.at (map (λ x. x.at) (drop i c.args.makers.now))
+                (map (λ x. x.at) (drop (i + 1) c.args.makers.now)) next w.in_ok-found.found found w.in-NoWin.rest w.in-NoWin.is)
+                ∙ c.loop-maker.invariant.rest;
           }
       | try_makers-else-takes w ↦
           record {
             same = ap g.V.Seen.position w.view-is ∙ c.loop-maker.invariant.same;
-            rest = ap rest_of w.left-is ∙ sym (step_at g.R.Rule.KIND (c.args.moves - 1) b c.loop-maker.left m.at (map (λ x. x.at) (drop i c.args.makers.now)) (map (λ x. x.at) (drop (i + 1) c.args.makers.now)) next (NoWin c.loop-maker.left) (not_taken g.R.Rule.KIND b c.requires.lawful c.args.threat c.requires.threat m.at (c.args.moves - 1) c.loop-maker.left (sym c.takes.ensures.takes ∙ w.if-takes.false))) ∙ c.loop-maker.invariant.rest;
+            rest = ap rest_of w.left-is ∙ sym
+                (step_at g.R.Rule.KIND (c.args.moves - 1) b c.loop-maker.left m.at (map (λ x. x.at) (drop i c.args.makers.now))
+                (map (λ x. x.at) (drop (i + 1) c.args.makers.now)) next (NoWin c.loop-maker.left)
+                (not_taken g.R.Rule.KIND b c.requires.lawful c.args.threat c.requires.threat m.at (c.args.moves - 1) c.loop-maker.left
+                (sym c.takes.ensures.takes ∙ w.if-takes.false))) ∙ c.loop-maker.invariant.rest;
           }
     ]
 
@@ -210,15 +270,18 @@ pub try_makers-returns-clause-found : goal.try_makers-returns-clause-found
 try_makers-returns-clause-found g t c =
     let b : Grid = g.V.Seen.position c.args.view.now in
     sym (try_all-none g.R.Rule.KIND (c.args.moves - 1) b c.loop-maker.left)
-    ∙ ap (λ (ms : List Maker). try_all g.R.Rule.KIND (c.args.moves - 1) b c.loop-maker.left (map (λ m. m.at) ms)) (sym (drop-all c.args.makers.now c.loop-maker.maker-index c.loop-maker-test.false))
+    ∙ ap (λ (ms : List Maker). try_all g.R.Rule.KIND (c.args.moves - 1) b c.loop-maker.left (map (λ m. m.at) ms))
+    (sym (drop-all c.args.makers.now c.loop-maker.maker-index c.loop-maker-test.false))
     ∙ c.loop-maker.invariant.rest
-    ∙ found-makers g.R.Rule.KIND b c.requires.lawful c.args.makers.now c.args.moves c.args.budget c.requires.makers c.requires.none c.requires.some c.requires.some_budget
+    ∙ found-makers g.R.Rule.KIND b c.requires.lawful c.args.makers.now c.args.moves c.args.budget c.requires.makers c.requires.none
+    c.requires.some c.requires.some_budget
 
 pub try_point-returns-in-GoesOn : goal.try_point-returns-in-GoesOn
 try_point-returns-in-GoesOn g t c =
     let b : Grid = g.V.Seen.position c.args.view.now in
     let on : outcome g.R.Rule.KIND b c.args.p ≡ GoesOn = sym c.in-GoesOn.ensures.outcome in
-    let same : found_behind g.R.Rule.KIND c.args.moves (g.V.Seen.position c.no_five_outcome.new.view) c.args.p c.args.budget ≡ found_trying g.R.Rule.KIND c.args.moves b c.args.p c.args.budget =
+    let same : found_behind g.R.Rule.KIND c.args.moves (g.V.Seen.position c.no_five_outcome.new.view) c.args.p c.args.budget ≡ found_trying
+    g.R.Rule.KIND c.args.moves b c.args.p c.args.budget =
     ap (λ (w : Grid). found_behind g.R.Rule.KIND c.args.moves w c.args.p c.args.budget) c.no_five_outcome.ensures.same
     ∙ trying-goes g.R.Rule.KIND c.args.moves b c.args.p c.args.budget c.requires.some on in
     record {
@@ -230,6 +293,7 @@ pub try_point-returns-in_default : goal.try_point-returns-in_default
 try_point-returns-in_default g t c =
     let b : Grid = g.V.Seen.position c.args.view.now in
     record {
-      found = trying-else g.R.Rule.KIND c.args.moves b c.args.p c.args.budget (λ on. c.in_default.not-GoesOn (c.no_five_outcome.ensures.outcome ∙ on));
+      found = trying-else g.R.Rule.KIND c.args.moves b c.args.p c.args.budget
+          (λ on. c.in_default.not-GoesOn (c.no_five_outcome.ensures.outcome ∙ on));
       same = c.no_five_outcome.ensures.same;
     }

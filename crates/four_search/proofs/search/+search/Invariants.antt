@@ -27,5 +27,6 @@ decreases-after_block g l = 7 * l.moves + 2
 abbrev pub invariant-try_makers-loop-maker : goal.invariant-try_makers-loop-maker
 invariant-try_makers-loop-maker g l = record {
   same : g.V.Seen.position l.view ≡ g.V.Seen.position l.fn.view;
-  rest : try_all g.R.Rule.KIND (l.moves - 1) (g.V.Seen.position l.fn.view) l.left (map (λ m. m.at) (drop l.maker-index l.makers)) ≡ try_all g.R.Rule.KIND (l.moves - 1) (g.V.Seen.position l.fn.view) (l.budget - 1) (map (λ m. m.at) l.makers);
+  rest : try_all g.R.Rule.KIND (l.moves - 1) (g.V.Seen.position l.fn.view) l.left (map (λ m. m.at) (drop l.maker-index l.makers)) ≡ try_all
+      g.R.Rule.KIND (l.moves - 1) (g.V.Seen.position l.fn.view) (l.budget - 1) (map (λ m. m.at) l.makers);
 }

@@ -13,4 +13,7 @@ fives_made-requires-clause-empty g c =
 pub returns-in-None-matches : goal.returns-in-None-matches
 returns-in-None-matches g c =
     let b : Grid = g.V.Seen.position c.args.view.now in
-    record { out = λ e. subst (λ (t : FivePoints). RulesOut g.R.Rule.KIND b t) (sym c.in-One.is) (has_five-none g.R.Rule.KIND (after b c.in-One.point) (mover b) (sym c.in-None-matches.ensures.made)) }
+    record {
+      out = λ e. subst (λ (t : FivePoints). RulesOut g.R.Rule.KIND b t) (sym c.in-One.is)
+          (has_five-none g.R.Rule.KIND (after b c.in-One.point) (mover b) (sym c.in-None-matches.ensures.made));
+    }

@@ -36,4 +36,5 @@ loop-back-preserved g c =
     let n : c.play_on-played.result.0 - 1 - c.loop-back.back ≡ c.play_on-played.result.0 - (c.loop-back.back + 1) = omega arith in
     let board = c.undo.ensures.undone ∙ lift_back g.R.Rule.KIND last.board c.loop-back.position _ last.lawful last.on last.played in
     subst (λ k. WentOn g.R.Rule.KIND c.args.position.now c.args.moves.now k c.undo.new.self) n
-    (subst (WentOn g.R.Rule.KIND c.args.position.now c.args.moves.now (c.play_on-played.result.0 - 1 - c.loop-back.back)) (sym board) last.went)
+    (subst (WentOn g.R.Rule.KIND c.args.position.now c.args.moves.now (c.play_on-played.result.0 - 1 - c.loop-back.back)) (sym board)
+    last.went)

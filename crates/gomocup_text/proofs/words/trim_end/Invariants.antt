@@ -5,7 +5,8 @@ use Rattle.gomocup_text.proofs.words.trim_end.Given as goal
 
 -- the gaps so far, and those that are left at the end
 abbrev pub invariant-loop-end : goal.invariant-loop-end
-invariant-loop-end l = (l.end ≤ length l.bytes) × (l.end + suffix_len is_gap l.bytes ≡ length l.bytes + suffix_len is_gap (take l.end l.bytes))
+invariant-loop-end l = (l.end ≤ length l.bytes)
+    × (l.end + suffix_len is_gap l.bytes ≡ length l.bytes + suffix_len is_gap (take l.end l.bytes))
 
 abbrev pub decreases-loop-end : goal.decreases-loop-end
 decreases-loop-end l = l.end

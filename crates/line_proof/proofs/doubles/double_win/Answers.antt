@@ -15,7 +15,8 @@ returns-in-Some-clause-win g c =
 
 pub returns-in-Some-clause-wins : goal.returns-in-Some-clause-wins
 returns-in-Some-clause-wins g c =
-    pressed-wins g.R.Rule.KIND (g.V.Seen.position c.args.view.now) c.side.ensures.lawful c.in-Some.double.start c.in-Some.double.ends c.in-Some.ensures.pressed
+    pressed-wins g.R.Rule.KIND (g.V.Seen.position c.args.view.now) c.side.ensures.lawful c.in-Some.double.start c.in-Some.double.ends
+    c.in-Some.ensures.pressed
 
 pub returns-in-Some-clause-writes : goal.returns-in-Some-clause-writes
 returns-in-Some-clause-writes g c = writes-nothing _ _ _ _ c.requires.compiled refl

@@ -9,7 +9,9 @@ use Rattle.line_proof.proofs.fives.five_win.Goals as goal
 pub returns-in_err-node-in-Some-clause-writes : goal.returns-in_err-node-in-Some-clause-writes
 returns-in_err-node-in-Some-clause-writes g c =
     let b : Grid = g.V.Seen.position c.args.view.now in
-    let there : five g.R.Rule.KIND b (mover b) c.in-Some.point ≡ true = sym (ap (λ s. five g.R.Rule.KIND b s c.in-Some.point) c.side-attacker.ensures.side) ∙ c.is_five.ensures.five c.if-not-is_five.false in
+    let there : five g.R.Rule.KIND b (mover b) c.in-Some.point ≡ true =
+    sym (ap (λ s. five g.R.Rule.KIND b s c.in-Some.point) c.side-attacker.ensures.side)
+    ∙ c.is_five.ensures.five c.if-not-is_five.false in
     subst (λ (r : Bool). Writes c.args.compiler.now c.leaf.new.self (cond r 1 0) c.from_residual.result)
     (sym (five-found g.R.Rule.KIND b c.in-Some.point there))
     (writes-fails _ _ 1 1 _ _ c.in_err-node-in-Some.ensures.writes (omega arith) (search rules))
@@ -17,17 +19,23 @@ returns-in_err-node-in-Some-clause-writes g c =
 pub returns-in_ok-node-in-Some-clause-writes : goal.returns-in_ok-node-in-Some-clause-writes
 returns-in_ok-node-in-Some-clause-writes g c =
     let b : Grid = g.V.Seen.position c.args.view.now in
-    let there : five g.R.Rule.KIND b (mover b) c.in-Some.point ≡ true = sym (ap (λ s. five g.R.Rule.KIND b s c.in-Some.point) c.side-attacker.ensures.side) ∙ c.is_five.ensures.five c.if-not-is_five.false in
+    let there : five g.R.Rule.KIND b (mover b) c.in-Some.point ≡ true =
+    sym (ap (λ s. five g.R.Rule.KIND b s c.in-Some.point) c.side-attacker.ensures.side)
+    ∙ c.is_five.ensures.five c.if-not-is_five.false in
     rw (five-found g.R.Rule.KIND b c.in-Some.point there) (writes-tells _ _ 1 1 _ _ c.in_ok-node-in-Some.ensures.writes (omega arith))
 
 pub returns-in_ok-node-in-Some-clause-win : goal.returns-in_ok-node-in-Some-clause-win
 returns-in_ok-node-in-Some-clause-win g c =
     let b : Grid = g.V.Seen.position c.args.view.now in
-    let there : five g.R.Rule.KIND b (mover b) c.in-Some.point ≡ true = sym (ap (λ s. five g.R.Rule.KIND b s c.in-Some.point) c.side-attacker.ensures.side) ∙ c.is_five.ensures.five c.if-not-is_five.false in
+    let there : five g.R.Rule.KIND b (mover b) c.in-Some.point ≡ true =
+    sym (ap (λ s. five g.R.Rule.KIND b s c.in-Some.point) c.side-attacker.ensures.side)
+    ∙ c.is_five.ensures.five c.if-not-is_five.false in
     c.in_ok-node-in-Some.ensures.wins g.R.Rule.KIND b (five-outcome g.R.Rule.KIND b c.in-Some.point there)
 
 pub returns-in_ok-node-in-Some-clause-wins : goal.returns-in_ok-node-in-Some-clause-wins
 returns-in_ok-node-in-Some-clause-wins g c =
     let b : Grid = g.V.Seen.position c.args.view.now in
-    let there : five g.R.Rule.KIND b (mover b) c.in-Some.point ≡ true = sym (ap (λ s. five g.R.Rule.KIND b s c.in-Some.point) c.side-attacker.ensures.side) ∙ c.is_five.ensures.five c.if-not-is_five.false in
+    let there : five g.R.Rule.KIND b (mover b) c.in-Some.point ≡ true =
+    sym (ap (λ s. five g.R.Rule.KIND b s c.in-Some.point) c.side-attacker.ensures.side)
+    ∙ c.is_five.ensures.five c.if-not-is_five.false in
     five-found g.R.Rule.KIND b c.in-Some.point there

@@ -1,4 +1,5 @@
-use Rattle.std.proofs.Common.{rules, ◌≡◌, ℕ, ◌≤◌, Bool, true, false, sym, ap, subst, ◌∙◌, arith, min, IfOk, refl, List, Option, Some, None, IfSome, is_some, sum_by}
+use Rattle.std.proofs.Common.{rules, ◌≡◌, ℕ, ◌≤◌, Bool, true, false, sym, ap, subst, ◌∙◌, arith, min, IfOk, refl, List, Option, Some, None}
+use Rattle.std.proofs.Common.{IfSome, is_some, sum_by}
 use Rattle.game_rules.proofs.Common.{Grid, points_of, outcome, mover, after, goes_on_with, has_five, wins_by_fours, if_goes_on}
 use Rattle.game_rules.specs.declared.Outcome.TheVariants.{GoesOn}
 use Rattle.strategy_graph.specs.declared.Node.{Node}
@@ -16,7 +17,8 @@ use Rattle.strategy_compiler.proofs.Standing.{compiled-lower}
 use Rattle.strategy_graph.proofs.Rising.{replies-rising}
 use Rattle.line_proof.proofs.Gathering.{answers-grown, answers-more, answers-few, few-step, rest-step, lose-step}
 use Rattle.line_proof.proofs.Doubling.{hint-grown}
-use Rattle.line_proof.proofs.Steps.{no_moves-wins, quick-wins, quick-most, double-quick, double-most, five-quick, five-most, of-some, on-ok, five-refutes, move-wins, move-tree, no-value}
+use Rattle.line_proof.proofs.Steps.{no_moves-wins, quick-wins, quick-most, double-quick, double-most, five-quick, five-most, of-some, on-ok}
+use Rattle.line_proof.proofs.Steps.{five-refutes, move-wins, move-tree, no-value}
 use Rattle.line_proof.proofs.proof.+line.Goals as goal
 
 -- ---- all replies
@@ -41,10 +43,15 @@ answer_each-loop-q-preserved g t c =
       compiled = c.in_ok-answer_reply.ensures.writes.compiled;
       left = omega (arith, left, split);
       grows = grows-then _ _ _ _ _ _ c.loop-q.invariant.grows c.in_ok-answer_reply.ensures.writes.grows (omega (arith, left, split));
-      hint = subst (λ (w : Grid). IfSome c.answer_reply.new.hint (IsDouble w.width w.height c.answer_reply.new.compiler)) same c.in_ok-answer_reply.ensures.hint;
-      answers = subst (λ (w : Grid). AreAnswers g.R.Rule.KIND c.args.moves c.answer_reply.new.compiler w c.answer_reply.new.answers) same (c.in_ok-answer_reply.ensures.answers loses);
-      rest = rest-step g.R.Rule.KIND b v same c.in-Some.q c.loop-q.q-iterator c.next.new.self c.in-Some.ensures.steps _ _ (c.in_ok-answer_reply.ensures.added loses) ∙ c.loop-q.invariant.rest;
-      lose = lose-step g.R.Rule.KIND b v same c.in-Some.q c.loop-q.q-iterator c.next.new.self c.in-Some.ensures.steps (line_wins g.R.Rule.KIND c.args.threats.now c.args.moves) c.in_ok-answer_reply.field-0 c.in_ok-answer_reply.ensures.loses loses ∙ c.loop-q.invariant.lose;
+      hint = subst (λ (w : Grid). IfSome c.answer_reply.new.hint (IsDouble w.width w.height c.answer_reply.new.compiler)) same
+          c.in_ok-answer_reply.ensures.hint;
+      answers = subst (λ (w : Grid). AreAnswers g.R.Rule.KIND c.args.moves c.answer_reply.new.compiler w c.answer_reply.new.answers) same
+          (c.in_ok-answer_reply.ensures.answers loses);
+      rest = rest-step g.R.Rule.KIND b v same c.in-Some.q c.loop-q.q-iterator c.next.new.self c.in-Some.ensures.steps _ _
+          (c.in_ok-answer_reply.ensures.added loses) ∙ c.loop-q.invariant.rest;
+      lose = lose-step g.R.Rule.KIND b v same c.in-Some.q c.loop-q.q-iterator c.next.new.self c.in-Some.ensures.steps
+          (line_wins g.R.Rule.KIND c.args.threats.now c.args.moves) c.in_ok-answer_reply.field-0 c.in_ok-answer_reply.ensures.loses loses
+          ∙ c.loop-q.invariant.lose;
     }
 
 -- ---- one reply
@@ -52,11 +59,16 @@ answer_each-loop-q-preserved g t c =
 pub answer_reply-returns-in_ok-add-in-Proved-clause-answers : goal.answer_reply-returns-in_ok-add-in-Proved-clause-answers
 answer_reply-returns-in_ok-add-in-Proved-clause-answers g t c =
     let b : Grid = g.V.Seen.position c.args.view.now in
-    let proved : IsWrittenWin g.R.Rule.KIND c.args.moves (after (g.V.Seen.position c.outcome.new.self) c.args.q) c.prove_after.new.compiler c.in-Proved.win =
-    subst (λ (a : LineAnswer). OnProved a (IsWrittenWin g.R.Rule.KIND c.args.moves (after (g.V.Seen.position c.outcome.new.self) c.args.q) c.prove_after.new.compiler)) c.in-Proved.is c.in_ok-prove_after-in-GoesOn.ensures.proved in
+    let proved : IsWrittenWin g.R.Rule.KIND c.args.moves (after (g.V.Seen.position c.outcome.new.self) c.args.q) c.prove_after.new.compiler
+    c.in-Proved.win =
+    subst (λ (a : LineAnswer). OnProved a
+    (IsWrittenWin g.R.Rule.KIND c.args.moves (after (g.V.Seen.position c.outcome.new.self) c.args.q) c.prove_after.new.compiler))
+    c.in-Proved.is c.in_ok-prove_after-in-GoesOn.ensures.proved in
     let won : IsWrittenWin g.R.Rule.KIND c.args.moves (after b c.args.q) c.prove_after.new.compiler c.in-Proved.win =
-    subst (λ (w : Grid). IsWrittenWin g.R.Rule.KIND c.args.moves (after w c.args.q) c.prove_after.new.compiler c.in-Proved.win) c.in-GoesOn.ensures.same proved in
-    λ yes. answers-more g.R.Rule.KIND c.args.moves c.prove_after.new.compiler b c.args.q c.in-Proved.win c.args.answers.now c.add.new.answers
+    subst (λ (w : Grid). IsWrittenWin g.R.Rule.KIND c.args.moves (after w c.args.q) c.prove_after.new.compiler c.in-Proved.win)
+    c.in-GoesOn.ensures.same proved in
+    λ yes. answers-more g.R.Rule.KIND c.args.moves c.prove_after.new.compiler b c.args.q c.in-Proved.win c.args.answers.now
+    c.add.new.answers
     c.in_ok-add-in-Proved.ensures.added c.in_ok-add-in-Proved.ensures.most won
     (answers-grown g.R.Rule.KIND c.args.moves b c.args.compiler.now c.prove_after.new.compiler _
     (compiled-lower c.args.compiler.now c.requires.compiled) c.in_ok-prove_after-in-GoesOn.ensures.writes.grows c.args.answers.now
@@ -67,21 +79,25 @@ answer_reply-returns-in_ok-add-in-Proved-clause-answers g t c =
 pub prove-returns-then-moves-eq0-clause-wins : goal.prove-returns-then-moves-eq0-clause-wins
 prove-returns-then-moves-eq0-clause-wins g t c =
     let b : Grid = g.V.Seen.position c.args.view.now in
-    sym (ap (λ (k : ℕ). line_wins g.R.Rule.KIND c.args.threats.now k b) c.if-moves-eq0.true ∙ no_moves-wins g.R.Rule.KIND c.args.threats.now b)
+    sym (ap (λ (k : ℕ). line_wins g.R.Rule.KIND c.args.threats.now k b) c.if-moves-eq0.true
+    ∙ no_moves-wins g.R.Rule.KIND c.args.threats.now b)
 
 pub prove-returns-in-Some-clause-wins : goal.prove-returns-in-Some-clause-wins
 prove-returns-in-Some-clause-wins g t c =
     let b : Grid = g.V.Seen.position c.args.view.now in
     let some : 1 ≤ c.args.moves = let more = c.if-moves-eq0.false in omega (arith, more) in
-    sym (quick-wins g.R.Rule.KIND c.args.threats.now b c.args.moves some (sym c.in_ok-win.ensures.wins ∙ ap (λ (o : Option WrittenWin). is_some o) c.in-Some.is))
+    sym (quick-wins g.R.Rule.KIND c.args.threats.now b c.args.moves some
+    (sym c.in_ok-win.ensures.wins ∙ ap (λ (o : Option WrittenWin). is_some o) c.in-Some.is))
 
 pub prove-returns-in-Some-2-clause-wins : goal.prove-returns-in-Some-2-clause-wins
 prove-returns-in-Some-2-clause-wins g t c =
     let b : Grid = g.V.Seen.position c.args.view.now in
     let some : 1 ≤ c.args.moves = let more = c.if-moves-eq0.false in omega (arith, more) in
     let none : c.in_ok-win.field-0 ≡ None = no-value c.in_ok-win.field-0 c.in_default.not-Some in
-    let slow : wins_by_fours g.R.Rule.KIND (min c.args.moves 2) b ≡ false = sym c.in_ok-win.ensures.wins ∙ ap (λ (o : Option WrittenWin). is_some o) none in
-    let is = move-wins g.R.Rule.KIND c.args.threats.now b c.args.moves (g.V.Seen.position c.quick_win.new.view) (Some c.in-Some-2.block) some c.in_ok-win.ensures.same (sym c.in-Some-2.is ∙ c.in_ok-block.ensures.block) slow in
+    let slow : wins_by_fours g.R.Rule.KIND (min c.args.moves 2) b ≡ false =
+    sym c.in_ok-win.ensures.wins ∙ ap (λ (o : Option WrittenWin). is_some o) none in
+    let is = move-wins g.R.Rule.KIND c.args.threats.now b c.args.moves (g.V.Seen.position c.quick_win.new.view) (Some c.in-Some-2.block)
+    some c.in_ok-win.ensures.same (sym c.in-Some-2.is ∙ c.in_ok-block.ensures.block) slow in
     subst (λ (r : Bool). IfOk c.prove_move.result (λ a. is_proved a ≡ r)) is c.prove_move.ensures.wins
 
 pub prove-returns-in-None-clause-wins : goal.prove-returns-in-None-clause-wins
@@ -89,49 +105,60 @@ prove-returns-in-None-clause-wins g t c =
     let b : Grid = g.V.Seen.position c.args.view.now in
     let some : 1 ≤ c.args.moves = let more = c.if-moves-eq0.false in omega (arith, more) in
     let none : c.in_ok-win.field-0 ≡ None = no-value c.in_ok-win.field-0 c.in_default.not-Some in
-    let slow : wins_by_fours g.R.Rule.KIND (min c.args.moves 2) b ≡ false = sym c.in_ok-win.ensures.wins ∙ ap (λ (o : Option WrittenWin). is_some o) none in
-    let is = move-wins g.R.Rule.KIND c.args.threats.now b c.args.moves (g.V.Seen.position c.quick_win.new.view) None some c.in_ok-win.ensures.same (sym c.in-None.is ∙ c.in_ok-block.ensures.block) slow in
+    let slow : wins_by_fours g.R.Rule.KIND (min c.args.moves 2) b ≡ false =
+    sym c.in_ok-win.ensures.wins ∙ ap (λ (o : Option WrittenWin). is_some o) none in
+    let is = move-wins g.R.Rule.KIND c.args.threats.now b c.args.moves (g.V.Seen.position c.quick_win.new.view) None some
+    c.in_ok-win.ensures.same (sym c.in-None.is ∙ c.in_ok-block.ensures.block) slow in
     subst (λ (r : Bool). IfOk c.prove_gain.result (λ a. is_proved a ≡ r)) is c.prove_gain.ensures.wins
 
 -- ---- a reply, taken back
 
 pub prove_after-undo-requires-clause-stone : goal.prove_after-undo-requires-clause-stone
 prove_after-undo-requires-clause-stone g t c =
-    stone_back g.R.Rule.KIND (g.V.Seen.position c.args.view.now) _ c.args.q c.play.ensures.lawful c.requires.goes_on (c.prove_reply-found.ensures.same ∙ c.play.ensures.played)
+    stone_back g.R.Rule.KIND (g.V.Seen.position c.args.view.now) _ c.args.q c.play.ensures.lawful c.requires.goes_on
+    (c.prove_reply-found.ensures.same ∙ c.play.ensures.played)
 
 pub prove_after-undo-requires-clause-unwon : goal.prove_after-undo-requires-clause-unwon
 prove_after-undo-requires-clause-unwon g t c =
-    unwon_back g.R.Rule.KIND (g.V.Seen.position c.args.view.now) _ c.args.q c.play.ensures.lawful c.requires.goes_on (c.prove_reply-found.ensures.same ∙ c.play.ensures.played)
+    unwon_back g.R.Rule.KIND (g.V.Seen.position c.args.view.now) _ c.args.q c.play.ensures.lawful c.requires.goes_on
+    (c.prove_reply-found.ensures.same ∙ c.play.ensures.played)
 
 pub prove_after-returns-clause-same : goal.prove_after-returns-clause-same
 prove_after-returns-clause-same g t c =
-    c.undo.ensures.undone ∙ lift_back g.R.Rule.KIND (g.V.Seen.position c.args.view.now) _ c.args.q c.play.ensures.lawful c.requires.goes_on (c.prove_reply-found.ensures.same ∙ c.play.ensures.played)
+    c.undo.ensures.undone ∙ lift_back g.R.Rule.KIND (g.V.Seen.position c.args.view.now) _ c.args.q c.play.ensures.lawful c.requires.goes_on
+    (c.prove_reply-found.ensures.same ∙ c.play.ensures.played)
 
 -- ---- a move, taken back
 
 pub prove_on-undo-requires-clause-stone : goal.prove_on-undo-requires-clause-stone
 prove_on-undo-requires-clause-stone g t c =
-    stone_back g.R.Rule.KIND (g.V.Seen.position c.args.view.now) _ c.args.p c.play.ensures.lawful c.requires.goes_on (c.answer_each-found.ensures.same ∙ c.play.ensures.played)
+    stone_back g.R.Rule.KIND (g.V.Seen.position c.args.view.now) _ c.args.p c.play.ensures.lawful c.requires.goes_on
+    (c.answer_each-found.ensures.same ∙ c.play.ensures.played)
 
 pub prove_on-undo-requires-clause-unwon : goal.prove_on-undo-requires-clause-unwon
 prove_on-undo-requires-clause-unwon g t c =
-    unwon_back g.R.Rule.KIND (g.V.Seen.position c.args.view.now) _ c.args.p c.play.ensures.lawful c.requires.goes_on (c.answer_each-found.ensures.same ∙ c.play.ensures.played)
+    unwon_back g.R.Rule.KIND (g.V.Seen.position c.args.view.now) _ c.args.p c.play.ensures.lawful c.requires.goes_on
+    (c.answer_each-found.ensures.same ∙ c.play.ensures.played)
 
 pub prove_on-returns-in_err-found-clause-same : goal.prove_on-returns-in_err-found-clause-same
 prove_on-returns-in_err-found-clause-same g t c =
-    c.undo.ensures.undone ∙ lift_back g.R.Rule.KIND (g.V.Seen.position c.args.view.now) _ c.args.p c.play.ensures.lawful c.requires.goes_on (c.answer_each-found.ensures.same ∙ c.play.ensures.played)
+    c.undo.ensures.undone ∙ lift_back g.R.Rule.KIND (g.V.Seen.position c.args.view.now) _ c.args.p c.play.ensures.lawful c.requires.goes_on
+    (c.answer_each-found.ensures.same ∙ c.play.ensures.played)
 
 pub prove_on-returns-in-None-clause-same : goal.prove_on-returns-in-None-clause-same
 prove_on-returns-in-None-clause-same g t c =
-    c.undo.ensures.undone ∙ lift_back g.R.Rule.KIND (g.V.Seen.position c.args.view.now) _ c.args.p c.play.ensures.lawful c.requires.goes_on (c.answer_each-found.ensures.same ∙ c.play.ensures.played)
+    c.undo.ensures.undone ∙ lift_back g.R.Rule.KIND (g.V.Seen.position c.args.view.now) _ c.args.p c.play.ensures.lawful c.requires.goes_on
+    (c.answer_each-found.ensures.same ∙ c.play.ensures.played)
 
 pub prove_on-returns-in_err-fork-in-Some-clause-same : goal.prove_on-returns-in_err-fork-in-Some-clause-same
 prove_on-returns-in_err-fork-in-Some-clause-same g t c =
-    c.undo.ensures.undone ∙ lift_back g.R.Rule.KIND (g.V.Seen.position c.args.view.now) _ c.args.p c.play.ensures.lawful c.requires.goes_on (c.answer_each-found.ensures.same ∙ c.play.ensures.played)
+    c.undo.ensures.undone ∙ lift_back g.R.Rule.KIND (g.V.Seen.position c.args.view.now) _ c.args.p c.play.ensures.lawful c.requires.goes_on
+    (c.answer_each-found.ensures.same ∙ c.play.ensures.played)
 
 pub prove_on-returns-in_ok-fork-in-Some-clause-same : goal.prove_on-returns-in_ok-fork-in-Some-clause-same
 prove_on-returns-in_ok-fork-in-Some-clause-same g t c =
-    c.undo.ensures.undone ∙ lift_back g.R.Rule.KIND (g.V.Seen.position c.args.view.now) _ c.args.p c.play.ensures.lawful c.requires.goes_on (c.answer_each-found.ensures.same ∙ c.play.ensures.played)
+    c.undo.ensures.undone ∙ lift_back g.R.Rule.KIND (g.V.Seen.position c.args.view.now) _ c.args.p c.play.ensures.lawful c.requires.goes_on
+    (c.answer_each-found.ensures.same ∙ c.play.ensures.played)
 
 -- ---- the node of a move
 
@@ -140,7 +167,8 @@ prove_on-fork-requires-clause-rising g t c =
     let d : Grid = g.V.Seen.position c.play.new.self in
     let lost : Bool = each_loses g.R.Rule.KIND d (line_wins g.R.Rule.KIND c.args.threats.now c.args.moves) in
     let found : FindsAnswers g.R.Rule.KIND c.args.moves c.answer_each-found.new.compiler d lost (Some c.in-Some.answers) =
-    subst (λ (o : Option Answering). FindsAnswers g.R.Rule.KIND c.args.moves c.answer_each-found.new.compiler d lost o) c.in-Some.is c.in_ok-found.ensures.found in
+    subst (λ (o : Option Answering). FindsAnswers g.R.Rule.KIND c.args.moves c.answer_each-found.new.compiler d lost o) c.in-Some.is
+    c.in_ok-found.ensures.found in
     replies-rising d (λ q. goes_on_with (outcome g.R.Rule.KIND d q) true) c.in-Some.answers.replies.items found.1.all
 
 pub prove_on-fork-requires-clause-few_moves : goal.prove_on-fork-requires-clause-few_moves
@@ -148,7 +176,8 @@ prove_on-fork-requires-clause-few_moves g t c =
     let d : Grid = g.V.Seen.position c.play.new.self in
     let lost : Bool = each_loses g.R.Rule.KIND d (line_wins g.R.Rule.KIND c.args.threats.now c.args.moves) in
     let found : FindsAnswers g.R.Rule.KIND c.args.moves c.answer_each-found.new.compiler d lost (Some c.in-Some.answers) =
-    subst (λ (o : Option Answering). FindsAnswers g.R.Rule.KIND c.args.moves c.answer_each-found.new.compiler d lost o) c.in-Some.is c.in_ok-found.ensures.found in
+    subst (λ (o : Option Answering). FindsAnswers g.R.Rule.KIND c.args.moves c.answer_each-found.new.compiler d lost o) c.in-Some.is
+    c.in_ok-found.ensures.found in
     let few = answers-few g.R.Rule.KIND c.args.moves c.answer_each-found.new.compiler d c.in-Some.answers found.1.answers in
     omega (arith, few, c.requires.fits)
 
@@ -158,10 +187,14 @@ prove_on-returns-in_ok-fork-in-Some-clause-proved g t c =
     let d : Grid = g.V.Seen.position c.play.new.self in
     let lost : Bool = each_loses g.R.Rule.KIND d (line_wins g.R.Rule.KIND c.args.threats.now c.args.moves) in
     let found : FindsAnswers g.R.Rule.KIND c.args.moves c.answer_each-found.new.compiler d lost (Some c.in-Some.answers) =
-    subst (λ (o : Option Answering). FindsAnswers g.R.Rule.KIND c.args.moves c.answer_each-found.new.compiler d lost o) c.in-Some.is c.in_ok-found.ensures.found in
-    c.in_ok-fork-in-Some.ensures.win g.R.Rule.KIND c.args.moves b (line_wins g.R.Rule.KIND c.args.threats.now c.args.moves) c.requires.goes_on
-    (subst (λ (w : Grid). each_loses g.R.Rule.KIND w (line_wins g.R.Rule.KIND c.args.threats.now c.args.moves) ≡ true) c.play.ensures.played found.0)
-    (subst (λ (w : Grid). AnswersAll g.R.Rule.KIND c.args.moves c.answer_each-found.new.compiler w c.in-Some.answers) c.play.ensures.played found.1)
+    subst (λ (o : Option Answering). FindsAnswers g.R.Rule.KIND c.args.moves c.answer_each-found.new.compiler d lost o) c.in-Some.is
+    c.in_ok-found.ensures.found in
+    c.in_ok-fork-in-Some.ensures.win g.R.Rule.KIND c.args.moves b (line_wins g.R.Rule.KIND c.args.threats.now c.args.moves)
+    c.requires.goes_on
+    (subst (λ (w : Grid). each_loses g.R.Rule.KIND w (line_wins g.R.Rule.KIND c.args.threats.now c.args.moves) ≡ true) c.play.ensures.played
+    found.0)
+    (subst (λ (w : Grid). AnswersAll g.R.Rule.KIND c.args.moves c.answer_each-found.new.compiler w c.in-Some.answers) c.play.ensures.played
+    found.1)
 
 -- ---- a double threat, tried first
 
@@ -169,8 +202,11 @@ pub prove_double-returns-in-Some-clause-wins : goal.prove_double-returns-in-Some
 prove_double-returns-in-Some-clause-wins g t c =
     let b : Grid = g.V.Seen.position c.args.view.now in
     let more : 2 ≤ c.args.moves = let l = c.if-moves-lt2.false in omega (arith, l) in
-    let two : wins_by_fours g.R.Rule.KIND 2 b ≡ true = of-some (λ (w : WrittenWin). wins_by_fours g.R.Rule.KIND 2 b ≡ true) c.in_ok-win.field-0 c.in-Some.win c.in-Some.is c.in_ok-win.ensures.wins in
-    sym (quick-wins g.R.Rule.KIND c.args.threats.now b c.args.moves (omega (arith, more)) (double-quick g.R.Rule.KIND c.args.threats.now b c.args.moves more two))
+    let two : wins_by_fours g.R.Rule.KIND 2 b ≡ true =
+    of-some (λ (w : WrittenWin). wins_by_fours g.R.Rule.KIND 2 b ≡ true) c.in_ok-win.field-0 c.in-Some.win c.in-Some.is
+    c.in_ok-win.ensures.wins in
+    sym (quick-wins g.R.Rule.KIND c.args.threats.now b c.args.moves (omega (arith, more))
+    (double-quick g.R.Rule.KIND c.args.threats.now b c.args.moves more two))
 
 pub prove_double-returns-in-None-clause-hint : goal.prove_double-returns-in-None-clause-hint
 prove_double-returns-in-None-clause-hint g t c =
@@ -185,8 +221,11 @@ pub prove_reply-returns-in-Some-clause-wins : goal.prove_reply-returns-in-Some-c
 prove_reply-returns-in-Some-clause-wins g t c =
     let b : Grid = g.V.Seen.position c.args.view.now in
     let some : 1 ≤ c.args.moves = let l = c.if-moves-eq0.false in omega (arith, l) in
-    let five : has_five g.R.Rule.KIND b (mover b) ≡ true = of-some (λ (w : WrittenWin). has_five g.R.Rule.KIND b (mover b) ≡ true) c.in_ok-win.field-0 c.in-Some.win c.in-Some.is c.in_ok-win.ensures.wins in
-    sym (quick-wins g.R.Rule.KIND c.args.threats.now b c.args.moves some (five-quick g.R.Rule.KIND c.args.threats.now b c.args.moves some five))
+    let five : has_five g.R.Rule.KIND b (mover b) ≡ true =
+    of-some (λ (w : WrittenWin). has_five g.R.Rule.KIND b (mover b) ≡ true) c.in_ok-win.field-0 c.in-Some.win c.in-Some.is
+    c.in_ok-win.ensures.wins in
+    sym (quick-wins g.R.Rule.KIND c.args.threats.now b c.args.moves some
+    (five-quick g.R.Rule.KIND c.args.threats.now b c.args.moves some five))
 
 pub prove_reply-returns-in-Some-clause-hint : goal.prove_reply-returns-in-Some-clause-hint
 prove_reply-returns-in-Some-clause-hint g t c =
@@ -246,8 +285,10 @@ prove-returns-in-Some-2-clause-writes g t c =
     let b : Grid = g.V.Seen.position c.args.view.now in
     let some : 1 ≤ c.args.moves = let more = c.if-moves-eq0.false in omega (arith, more) in
     let none : c.in_ok-win.field-0 ≡ None = no-value c.in_ok-win.field-0 c.in_default.not-Some in
-    let slow : wins_by_fours g.R.Rule.KIND (min c.args.moves 2) b ≡ false = sym c.in_ok-win.ensures.wins ∙ ap (λ (o : Option WrittenWin). is_some o) none in
-    let tree = move-tree g.R.Rule.KIND c.args.threats.now b c.args.moves (g.V.Seen.position c.quick_win.new.view) (Some c.in-Some-2.block) some c.in_ok-win.ensures.same (sym c.in-Some-2.is ∙ c.in_ok-block.ensures.block) slow in
+    let slow : wins_by_fours g.R.Rule.KIND (min c.args.moves 2) b ≡ false =
+    sym c.in_ok-win.ensures.wins ∙ ap (λ (o : Option WrittenWin). is_some o) none in
+    let tree = move-tree g.R.Rule.KIND c.args.threats.now b c.args.moves (g.V.Seen.position c.quick_win.new.view) (Some c.in-Some-2.block)
+    some c.in_ok-win.ensures.same (sym c.in-Some-2.is ∙ c.in_ok-block.ensures.block) slow in
     subst (λ (t : List Node). Writes t c.prove_move.new.compiler
     (line_tree g.R.Rule.KIND c.args.threats.now c.args.moves b) c.prove_move.result) (c.in_ok-win.ensures.none none)
     (subst (λ (k : ℕ). Writes c.quick_win.new.compiler c.prove_move.new.compiler k c.prove_move.result) tree c.prove_move.ensures.writes)
@@ -257,8 +298,10 @@ prove-returns-in-None-clause-writes g t c =
     let b : Grid = g.V.Seen.position c.args.view.now in
     let some : 1 ≤ c.args.moves = let more = c.if-moves-eq0.false in omega (arith, more) in
     let none : c.in_ok-win.field-0 ≡ None = no-value c.in_ok-win.field-0 c.in_default.not-Some in
-    let slow : wins_by_fours g.R.Rule.KIND (min c.args.moves 2) b ≡ false = sym c.in_ok-win.ensures.wins ∙ ap (λ (o : Option WrittenWin). is_some o) none in
-    let tree = move-tree g.R.Rule.KIND c.args.threats.now b c.args.moves (g.V.Seen.position c.quick_win.new.view) None some c.in_ok-win.ensures.same (sym c.in-None.is ∙ c.in_ok-block.ensures.block) slow in
+    let slow : wins_by_fours g.R.Rule.KIND (min c.args.moves 2) b ≡ false =
+    sym c.in_ok-win.ensures.wins ∙ ap (λ (o : Option WrittenWin). is_some o) none in
+    let tree = move-tree g.R.Rule.KIND c.args.threats.now b c.args.moves (g.V.Seen.position c.quick_win.new.view) None some
+    c.in_ok-win.ensures.same (sym c.in-None.is ∙ c.in_ok-block.ensures.block) slow in
     subst (λ (t : List Node). Writes t c.prove_gain.new.compiler
     (line_tree g.R.Rule.KIND c.args.threats.now c.args.moves b) c.prove_gain.result) (c.in_ok-win.ensures.none none)
     (subst (λ (k : ℕ). Writes c.quick_win.new.compiler c.prove_gain.new.compiler k c.prove_gain.result) tree c.prove_gain.ensures.writes)

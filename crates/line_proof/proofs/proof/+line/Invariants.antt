@@ -34,8 +34,8 @@ decreases-prove_move g l = 9 * l.moves + 7
 abbrev pub decreases-prove_gain : goal.decreases-prove_gain
 decreases-prove_gain g l = 9 * l.moves + 8
 
--- the view is as before, and the hint is one; the answers found, and those that the points left need, are all, and so are the nodes; the points left lose
--- where all points do
+-- the view is as before, and the hint is one; the answers found, and those that the points left need, are all, and so are the nodes; the
+-- points left lose where all points do
 abbrev pub invariant-answer_each-loop-q : goal.invariant-answer_each-loop-q
 invariant-answer_each-loop-q g l = record {
   same : g.V.Seen.position l.view ≡ g.V.Seen.position l.fn.view;
@@ -49,6 +49,9 @@ invariant-answer_each-loop-q g l = record {
       (line_tree g.R.Rule.KIND l.threats l.moves (after (g.V.Seen.position l.fn.view) q))) l.q-iterator);
   hint : IfSome l.hint (IsDouble (g.V.Seen.position l.fn.view).width (g.V.Seen.position l.fn.view).height l.compiler);
   answers : AreAnswers g.R.Rule.KIND l.moves l.compiler (g.V.Seen.position l.fn.view) l.answers;
-  rest : answered l.answers ++ going_on g.R.Rule.KIND (g.V.Seen.position l.fn.view) l.q-iterator ≡ going_on g.R.Rule.KIND (g.V.Seen.position l.fn.view) (points_of (g.V.Seen.position l.fn.view));
-  lose : list_all (λ q. loses_or (outcome g.R.Rule.KIND (g.V.Seen.position l.fn.view) q) (line_wins g.R.Rule.KIND l.threats l.moves (after (g.V.Seen.position l.fn.view) q))) l.q-iterator ≡ each_loses g.R.Rule.KIND (g.V.Seen.position l.fn.view) (line_wins g.R.Rule.KIND l.threats l.moves);
+  rest : answered l.answers ++ going_on g.R.Rule.KIND (g.V.Seen.position l.fn.view) l.q-iterator ≡ going_on g.R.Rule.KIND
+      (g.V.Seen.position l.fn.view) (points_of (g.V.Seen.position l.fn.view));
+  lose : list_all (λ q. loses_or (outcome g.R.Rule.KIND (g.V.Seen.position l.fn.view) q)
+      (line_wins g.R.Rule.KIND l.threats l.moves (after (g.V.Seen.position l.fn.view) q))) l.q-iterator ≡ each_loses g.R.Rule.KIND
+      (g.V.Seen.position l.fn.view) (line_wins g.R.Rule.KIND l.threats l.moves);
 }

@@ -10,4 +10,5 @@ returns-then-shape-eq0-clause-fives g c =
     let told = told_fours g.R.Rule.KIND c.args.codes.now c.args.side c.args.axis c.args.p c.shape.ensures.board c.requires.empty in
     let none : fours_of g.R.Rule.KIND (put c.args.codes.now c.args.side c.args.p) c.args.side c.args.axis c.args.p ≡ 0 =
     sym (ap (λ (shape : Shape). shape.fours) c.shape.ensures.shape ∙ told) ∙ c.if-shape-eq0.true in
-    nothing_told g.R.Rule.KIND c.args.codes.now c.args.side c.args.p c.shape.ensures.board c.requires.empty c.args.axis c.requires.none none c.args.found
+    nothing_told g.R.Rule.KIND c.args.codes.now c.args.side c.args.p c.shape.ensures.board c.requires.empty c.args.axis c.requires.none none
+    c.args.found

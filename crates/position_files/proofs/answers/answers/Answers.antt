@@ -14,5 +14,6 @@ pub returns-in_err-replies : goal.returns-in_err-replies
 returns-in_err-replies c =
     let p = err_from_is_err_and c.from_residual.result c.from_residual.ensures.1 in
     rw (p.1, p.2) (record {
-      answers = no_replies c.args.width c.args.height c.requires.wide c.requires.high c.in_err-replies.field-0.0 c.args.bytes.now c.in-Some.rest _ c.in-Some.ensures.rest.0 c.in-Some.ensures.rest.1 c.in_err-replies.ensures.replies;
+      answers = no_replies c.args.width c.args.height c.requires.wide c.requires.high c.in_err-replies.field-0.0 c.args.bytes.now
+          c.in-Some.rest _ c.in-Some.ensures.rest.0 c.in-Some.ensures.rest.1 c.in_err-replies.ensures.replies;
     })

@@ -6,14 +6,19 @@ use Rattle.position_files.proofs.AnswerLaws.{reply_items}
 use Rattle.position_files.proofs.answers.replies.Goals as goal
 
 pub loop-rest-init : goal.loop-rest-init
-loop-rest-init c = rw c.new-replies.ensures.empty (begins (ReplyFits c.args.width c.args.height) reply_text (tail_text space (option_copied c.args.tail)))
+loop-rest-init c = rw c.new-replies.ensures.empty
+    (begins (ReplyFits c.args.width c.args.height) reply_text (tail_text space (option_copied c.args.tail)))
 
 pub returns-in_default-reply : goal.returns-in_default-reply
 returns-in_default-reply c =
-    let now : Follows (ReplyFits c.args.width c.args.height) reply_text c.loop-rest.replies (space ∷ c.in-Some.text.now) (tail_text space (option_copied c.args.tail)) =
-    subst (λ (t : Option (Bor (List ℕ))). Follows (ReplyFits c.args.width c.args.height) reply_text c.loop-rest.replies (tail_text space (option_copied t)) (tail_text space (option_copied c.args.tail))) c.in-Some.is c.loop-rest.invariant in
+    let now : Follows (ReplyFits c.args.width c.args.height) reply_text c.loop-rest.replies (space ∷ c.in-Some.text.now)
+    (tail_text space (option_copied c.args.tail)) =
+    subst (λ (t : Option (Bor (List ℕ))). Follows (ReplyFits c.args.width c.args.height) reply_text c.loop-rest.replies
+    (tail_text space (option_copied t)) (tail_text space (option_copied c.args.tail))) c.in-Some.is c.loop-rest.invariant in
     record {
-      replies = stops (ReplyFits c.args.width c.args.height) reply_text (reply_items c.args.width c.args.height c.requires.wide c.requires.high) c.loop-rest.replies c.in-Some.text.now c.cut.result.0.now _ (tail_text space (option_copied c.args.tail)) now c.cut.ensures.parts c.cut.ensures.word c.in_default-reply.ensures.reply;
+      replies = stops (ReplyFits c.args.width c.args.height) reply_text
+          (reply_items c.args.width c.args.height c.requires.wide c.requires.high) c.loop-rest.replies c.in-Some.text.now c.cut.result.0.now
+          _ (tail_text space (option_copied c.args.tail)) now c.cut.ensures.parts c.cut.ensures.word c.in_default-reply.ensures.reply;
     }
 
 pub loop-rest-smaller : goal.loop-rest-smaller
@@ -23,12 +28,22 @@ loop-rest-smaller c =
 
 pub loop-rest-preserved : goal.loop-rest-preserved
 loop-rest-preserved c =
-    let now : Follows (ReplyFits c.args.width c.args.height) reply_text c.loop-rest.replies (space ∷ c.in-Some.text.now) (tail_text space (option_copied c.args.tail)) =
-    subst (λ (t : Option (Bor (List ℕ))). Follows (ReplyFits c.args.width c.args.height) reply_text c.loop-rest.replies (tail_text space (option_copied t)) (tail_text space (option_copied c.args.tail))) c.in-Some.is c.loop-rest.invariant in
-    rw c.in_ok-push.ensures.pushed (goes_on (ReplyFits c.args.width c.args.height) reply_text (reply_items c.args.width c.args.height c.requires.wide c.requires.high) c.loop-rest.replies c.in-Some-reply.found c.in-Some.text.now c.cut.result.0.now _ (tail_text space (option_copied c.args.tail)) now c.cut.ensures.parts c.cut.ensures.word c.in-Some-reply.ensures.reply.0 c.in-Some-reply.ensures.reply.1)
+    let now : Follows (ReplyFits c.args.width c.args.height) reply_text c.loop-rest.replies (space ∷ c.in-Some.text.now)
+    (tail_text space (option_copied c.args.tail)) =
+    subst (λ (t : Option (Bor (List ℕ))). Follows (ReplyFits c.args.width c.args.height) reply_text c.loop-rest.replies
+    (tail_text space (option_copied t)) (tail_text space (option_copied c.args.tail))) c.in-Some.is c.loop-rest.invariant in
+    rw c.in_ok-push.ensures.pushed
+    (goes_on (ReplyFits c.args.width c.args.height) reply_text (reply_items c.args.width c.args.height c.requires.wide c.requires.high)
+    c.loop-rest.replies c.in-Some-reply.found c.in-Some.text.now c.cut.result.0.now _ (tail_text space (option_copied c.args.tail)) now
+    c.cut.ensures.parts c.cut.ensures.word c.in-Some-reply.ensures.reply.0 c.in-Some-reply.ensures.reply.1)
 
 pub returns : goal.returns
 returns c =
-    let now : Follows (ReplyFits c.args.width c.args.height) reply_text c.loop-rest.replies [] (tail_text space (option_copied c.args.tail)) =
-    subst (λ (t : Option (Bor (List ℕ))). Follows (ReplyFits c.args.width c.args.height) reply_text c.loop-rest.replies (tail_text space (option_copied t)) (tail_text space (option_copied c.args.tail))) c.in_default.is c.loop-rest.invariant in
-    record { replies = ends (ReplyFits c.args.width c.args.height) reply_text c.loop-rest.replies (tail_text space (option_copied c.args.tail)) now }
+    let now : Follows (ReplyFits c.args.width c.args.height) reply_text c.loop-rest.replies []
+    (tail_text space (option_copied c.args.tail)) =
+    subst (λ (t : Option (Bor (List ℕ))). Follows (ReplyFits c.args.width c.args.height) reply_text c.loop-rest.replies
+    (tail_text space (option_copied t)) (tail_text space (option_copied c.args.tail))) c.in_default.is c.loop-rest.invariant in
+    record {
+      replies = ends (ReplyFits c.args.width c.args.height) reply_text c.loop-rest.replies
+          (tail_text space (option_copied c.args.tail)) now;
+    }

@@ -7,7 +7,8 @@ use Rattle.position_files.proofs.answers.replies.Given as goal
 -- the line begins with these replies, and goes on with the rest
 abbrev pub invariant-loop-rest : goal.invariant-loop-rest
 invariant-loop-rest l =
-    Follows (ReplyFits l.width l.height) reply_text l.replies (tail_text space (option_copied l.rest)) (tail_text space (option_copied l.fn.tail))
+    Follows (ReplyFits l.width l.height) reply_text l.replies (tail_text space (option_copied l.rest))
+    (tail_text space (option_copied l.fn.tail))
 
 abbrev pub decreases-loop-rest : goal.decreases-loop-rest
 decreases-loop-rest l = length (tail_text space (option_copied l.rest))

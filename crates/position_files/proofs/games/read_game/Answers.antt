@@ -5,7 +5,8 @@ use Rattle.text_lines.proofs.TextLaws.{front_rest, no_bytes, some_bytes}
 use Rattle.position_files.specs.declared.GameFile.{GameFile}
 use Rattle.position_files.specs.Positions.{board_lines}
 use Rattle.position_files.specs.Games.{IsTextOfGame}
-use Rattle.position_files.proofs.GameLaws.{sized, no_first_line, board_fault, moves_fault, more_lines_than_six, unlawful_fault, one_game, game_found}
+use Rattle.position_files.proofs.GameLaws.{sized, no_first_line, board_fault, moves_fault, more_lines_than_six, unlawful_fault, one_game}
+use Rattle.position_files.proofs.GameLaws.{game_found}
 use Rattle.position_files.proofs.games.read_game.Goals as goal
 
 pub returns-in_default-clause-refused : goal.returns-in_default-clause-refused

@@ -6,14 +6,20 @@ use Rattle.position_files.proofs.Spellings.{side_fits}
 use Rattle.position_files.proofs.lines.points.Goals as goal
 
 pub loop-rest-init : goal.loop-rest-init
-loop-rest-init c = rw c.new-points.ensures.empty (begins (IsWithin c.args.width c.args.height) point_text (tail_text space (option_copied c.args.tail)))
+loop-rest-init c = rw c.new-points.ensures.empty
+    (begins (IsWithin c.args.width c.args.height) point_text (tail_text space (option_copied c.args.tail)))
 
 pub returns-in_default-point : goal.returns-in_default-point
 returns-in_default-point c =
-    let now : Follows (IsWithin c.args.width c.args.height) point_text c.loop-rest.points (space ∷ c.in-Some.text.now) (tail_text space (option_copied c.args.tail)) =
-    subst (λ (t : Option (Bor (List ℕ))). Follows (IsWithin c.args.width c.args.height) point_text c.loop-rest.points (tail_text space (option_copied t)) (tail_text space (option_copied c.args.tail))) c.in-Some.is c.loop-rest.invariant in
+    let now : Follows (IsWithin c.args.width c.args.height) point_text c.loop-rest.points (space ∷ c.in-Some.text.now)
+    (tail_text space (option_copied c.args.tail)) =
+    subst (λ (t : Option (Bor (List ℕ))). Follows (IsWithin c.args.width c.args.height) point_text c.loop-rest.points
+    (tail_text space (option_copied t)) (tail_text space (option_copied c.args.tail))) c.in-Some.is c.loop-rest.invariant in
     record {
-      points = stops (IsWithin c.args.width c.args.height) point_text (point_items c.args.width c.args.height (side_fits c.args.width c.requires.wide) (side_fits c.args.height c.requires.high)) c.loop-rest.points c.in-Some.text.now c.cut.result.0.now _ (tail_text space (option_copied c.args.tail)) now c.cut.ensures.parts c.cut.ensures.word c.in_default-point.ensures.point;
+      points = stops (IsWithin c.args.width c.args.height) point_text
+          (point_items c.args.width c.args.height (side_fits c.args.width c.requires.wide) (side_fits c.args.height c.requires.high))
+          c.loop-rest.points c.in-Some.text.now c.cut.result.0.now _ (tail_text space (option_copied c.args.tail)) now c.cut.ensures.parts
+          c.cut.ensures.word c.in_default-point.ensures.point;
     }
 
 pub loop-rest-smaller : goal.loop-rest-smaller
@@ -23,12 +29,22 @@ loop-rest-smaller c =
 
 pub loop-rest-preserved : goal.loop-rest-preserved
 loop-rest-preserved c =
-    let now : Follows (IsWithin c.args.width c.args.height) point_text c.loop-rest.points (space ∷ c.in-Some.text.now) (tail_text space (option_copied c.args.tail)) =
-    subst (λ (t : Option (Bor (List ℕ))). Follows (IsWithin c.args.width c.args.height) point_text c.loop-rest.points (tail_text space (option_copied t)) (tail_text space (option_copied c.args.tail))) c.in-Some.is c.loop-rest.invariant in
-    rw c.in_ok-push.ensures.ok (goes_on (IsWithin c.args.width c.args.height) point_text (point_items c.args.width c.args.height (side_fits c.args.width c.requires.wide) (side_fits c.args.height c.requires.high)) c.loop-rest.points c.in-Some-point.found c.in-Some.text.now c.cut.result.0.now _ (tail_text space (option_copied c.args.tail)) now c.cut.ensures.parts c.cut.ensures.word c.in-Some-point.ensures.point.0 c.in-Some-point.ensures.point.1)
+    let now : Follows (IsWithin c.args.width c.args.height) point_text c.loop-rest.points (space ∷ c.in-Some.text.now)
+    (tail_text space (option_copied c.args.tail)) =
+    subst (λ (t : Option (Bor (List ℕ))). Follows (IsWithin c.args.width c.args.height) point_text c.loop-rest.points
+    (tail_text space (option_copied t)) (tail_text space (option_copied c.args.tail))) c.in-Some.is c.loop-rest.invariant in
+    rw c.in_ok-push.ensures.ok
+    (goes_on (IsWithin c.args.width c.args.height) point_text
+    (point_items c.args.width c.args.height (side_fits c.args.width c.requires.wide) (side_fits c.args.height c.requires.high))
+    c.loop-rest.points c.in-Some-point.found c.in-Some.text.now c.cut.result.0.now _ (tail_text space (option_copied c.args.tail)) now
+    c.cut.ensures.parts c.cut.ensures.word c.in-Some-point.ensures.point.0 c.in-Some-point.ensures.point.1)
 
 pub returns : goal.returns
 returns c =
     let now : Follows (IsWithin c.args.width c.args.height) point_text c.loop-rest.points [] (tail_text space (option_copied c.args.tail)) =
-    subst (λ (t : Option (Bor (List ℕ))). Follows (IsWithin c.args.width c.args.height) point_text c.loop-rest.points (tail_text space (option_copied t)) (tail_text space (option_copied c.args.tail))) c.in_default.is c.loop-rest.invariant in
-    record { points = ends (IsWithin c.args.width c.args.height) point_text c.loop-rest.points (tail_text space (option_copied c.args.tail)) now }
+    subst (λ (t : Option (Bor (List ℕ))). Follows (IsWithin c.args.width c.args.height) point_text c.loop-rest.points
+    (tail_text space (option_copied t)) (tail_text space (option_copied c.args.tail))) c.in_default.is c.loop-rest.invariant in
+    record {
+      points = ends (IsWithin c.args.width c.args.height) point_text c.loop-rest.points (tail_text space (option_copied c.args.tail))
+          now;
+    }

@@ -12,23 +12,36 @@ use Rattle.position_files.proofs.tables.read_body.Goals as goal
 pub returns-in_err-head-clause-refused : goal.returns-in_err-head-clause-refused
 returns-in_err-head-clause-refused c =
     let p = err_from_is_err_and c.from_residual.result c.from_residual.ensures.1 in
-    rw (p.1, p.2) (fault_in IsBoardLines (IsBodyLines c.args.least) (head_part c.args.least c.requires.least) c.args.bytes.now c.in_err-head.field-0.0 c.in_err-head.ensures.refused)
+    rw (p.1, p.2) (fault_in IsBoardLines (IsBodyLines c.args.least) (head_part c.args.least c.requires.least) c.args.bytes.now
+    c.in_err-head.field-0.0 c.in_err-head.ensures.refused)
 
 pub returns-in_default-clause-refused : goal.returns-in_default-clause-refused
 returns-in_default-clause-refused c =
-    let found = c.in_ok-head.ensures.found in
-    (4, refl, no_moves_line c.args.least c.requires.least c.args.bytes.now c.in_ok-head.head.kind c.in_ok-head.head.board _ found.board (front_rest _ c.args.bytes.now c.in_ok-head.head.taken found.front) c.in_default.ensures.number)
+    let found = c.in_ok-head.ensures.found in (
+      4,
+      refl,
+      no_moves_line c.args.least c.requires.least c.args.bytes.now c.in_ok-head.head.kind c.in_ok-head.head.board _ found.board
+          (front_rest _ c.args.bytes.now c.in_ok-head.head.taken found.front) c.in_default.ensures.number,
+    )
 
 pub returns-in_default-number_line-clause-refused : goal.returns-in_default-number_line-clause-refused
 returns-in_default-number_line-clause-refused c =
-    let found = c.in_ok-head.ensures.found in
-    (5, refl, no_nodes_line c.args.least c.requires.least c.args.bytes.now c.in_ok-head.head.kind c.in_ok-head.head.board _ found.board (front_rest _ c.args.bytes.now c.in_ok-head.head.taken found.front) c.in-Some.moves c.in-Some.rest.now c.in-Some.ensures.number.0 c.in-Some.ensures.number.1 c.in_default-number_line.ensures.number)
+    let found = c.in_ok-head.ensures.found in (
+      5,
+      refl,
+      no_nodes_line c.args.least c.requires.least c.args.bytes.now c.in_ok-head.head.kind c.in_ok-head.head.board _ found.board
+          (front_rest _ c.args.bytes.now c.in_ok-head.head.taken found.front) c.in-Some.moves c.in-Some.rest.now c.in-Some.ensures.number.0
+          c.in-Some.ensures.number.1 c.in_default-number_line.ensures.number,
+    )
 
 pub returns-in-Err-clause-refused : goal.returns-in-Err-clause-refused
 returns-in-Err-clause-refused c =
     let found = c.in_ok-head.ensures.found in
-    rw c.after.ensures.error (body_nodes_fault c.args.least c.requires.least c.args.bytes.now c.in_ok-head.head.kind c.in_ok-head.head.board _ found.board (front_rest _ c.args.bytes.now c.in_ok-head.head.taken found.front) c.in-Some.moves c.in-Some.rest.now c.in-Some.ensures.number.0 c.in-Some.ensures.number.1
-    c.in-Some-number_line.count c.in-Some-number_line.rest.now c.in-Some-number_line.ensures.number.0 c.in-Some-number_line.ensures.number.1 c.in-Err.error
+    rw c.after.ensures.error (body_nodes_fault c.args.least c.requires.least c.args.bytes.now c.in_ok-head.head.kind c.in_ok-head.head.board
+    _ found.board (front_rest _ c.args.bytes.now c.in_ok-head.head.taken found.front) c.in-Some.moves c.in-Some.rest.now
+    c.in-Some.ensures.number.0 c.in-Some.ensures.number.1
+    c.in-Some-number_line.count c.in-Some-number_line.rest.now c.in-Some-number_line.ensures.number.0 c.in-Some-number_line.ensures.number.1
+    c.in-Err.error
     (rw (sym c.width.ensures.width, sym c.height.ensures.height) c.in-Err.ensures.refused))
 
 pub returns-clause-fits : goal.returns-clause-fits
@@ -46,5 +59,7 @@ pub returns-clause-text : goal.returns-clause-text
 returns-clause-text c =
     let found = c.in_ok-head.ensures.found in
     let nodes = c.in-Ok.ensures.found in
-    body_text c.in_ok-head.head.kind c.in_ok-head.head.board c.in-Ok.nodes.table c.in-Some.moves c.in-Some-number_line.count c.args.bytes.now _ c.in-Some.rest.now c.in-Some-number_line.rest.now _
-    (front_rest _ c.args.bytes.now c.in_ok-head.head.taken found.front) c.in-Some.ensures.number.1 c.in-Some-number_line.ensures.number.1 nodes.nodes.counted (front_rest _ c.in-Some-number_line.rest.now c.in-Ok.nodes.taken nodes.front)
+    body_text c.in_ok-head.head.kind c.in_ok-head.head.board c.in-Ok.nodes.table c.in-Some.moves c.in-Some-number_line.count
+    c.args.bytes.now _ c.in-Some.rest.now c.in-Some-number_line.rest.now _
+    (front_rest _ c.args.bytes.now c.in_ok-head.head.taken found.front) c.in-Some.ensures.number.1 c.in-Some-number_line.ensures.number.1
+    nodes.nodes.counted (front_rest _ c.in-Some-number_line.rest.now c.in-Ok.nodes.taken nodes.front)

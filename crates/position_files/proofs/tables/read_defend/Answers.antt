@@ -13,12 +13,17 @@ use Rattle.position_files.proofs.tables.read_defend.Goals as goal
 
 pub returns-in-Err-clause-refused : goal.returns-in-Err-clause-refused
 returns-in-Err-clause-refused c =
-    rw (c.from.ensures, c.after.ensures.error) (defend_body_fault (codes "renju-table 2" ++ line_feed ∷ c.args.bytes.now) c.args.bytes.now refl c.in-Err.error c.in-Err.ensures.refused)
+    rw (c.from.ensures, c.after.ensures.error)
+    (defend_body_fault (codes "renju-table 2" ++ line_feed ∷ c.args.bytes.now) c.args.bytes.now refl c.in-Err.error
+    c.in-Err.ensures.refused)
 
 pub returns-in-Err-read_start-clause-refused : goal.returns-in-Err-read_start-clause-refused
 returns-in-Err-read_start-clause-refused c =
-    rw (c.from-in-Err-read_start.ensures, c.after-in-Err-read_start.ensures.error) (start_fault (codes "renju-table 2" ++ line_feed ∷ c.args.bytes.now) c.args.bytes.now refl c.in-Ok.found.0 c.in-Ok.found.1.now c.in-Ok.ensures.fits c.len-len.ensures.table c.in-Ok.ensures.text
-    c.width.result c.height.result c.len-len.result c.width.ensures.width c.height.ensures.height c.len-len.ensures.count c.in-Err-read_start.error c.in-Err-read_start.ensures.refused)
+    rw (c.from-in-Err-read_start.ensures, c.after-in-Err-read_start.ensures.error)
+    (start_fault (codes "renju-table 2" ++ line_feed ∷ c.args.bytes.now) c.args.bytes.now refl c.in-Ok.found.0 c.in-Ok.found.1.now
+    c.in-Ok.ensures.fits c.len-len.ensures.table c.in-Ok.ensures.text
+    c.width.result c.height.result c.len-len.result c.width.ensures.width c.height.ensures.height c.len-len.ensures.count
+    c.in-Err-read_start.error c.in-Err-read_start.ensures.refused)
 
 pub returns-then-taken-rest-clause-refused : goal.returns-then-taken-rest-clause-refused
 returns-then-taken-rest-clause-refused c =
@@ -28,8 +33,10 @@ returns-then-taken-rest-clause-refused c =
     subst (λ n. StartFits c.in-Ok.found.0.board.width n c.len-len.result a) c.height.ensures.height
     (subst (λ n. StartFits n c.height.result c.len-len.result a) c.width.ensures.width found.start) in
     subst (FirstBad IsTableText (codes "renju-table 2" ++ line_feed ∷ c.args.bytes.now)) (omega arith)
-    (defend_too_many (codes "renju-table 2" ++ line_feed ∷ c.args.bytes.now) c.args.bytes.now refl c.in-Ok.found.0 c.in-Ok.found.1.now c.in-Ok.ensures.fits c.len-len.ensures.table c.in-Ok.ensures.text
-    a c.len-len.result _ c.len-len.ensures.count (subst (λ n. StartFits c.in-Ok.found.0.board.width c.in-Ok.found.0.board.height n a) c.len-len.ensures.count start)
+    (defend_too_many (codes "renju-table 2" ++ line_feed ∷ c.args.bytes.now) c.args.bytes.now refl c.in-Ok.found.0 c.in-Ok.found.1.now
+    c.in-Ok.ensures.fits c.len-len.ensures.table c.in-Ok.ensures.text
+    a c.len-len.result _ c.len-len.ensures.count
+    (subst (λ n. StartFits c.in-Ok.found.0.board.width c.in-Ok.found.0.board.height n a) c.len-len.ensures.count start)
     (start_parts c.width.result c.height.result c.len-len.result c.in-Ok-read_start.line c.in-Ok.found.1.now found)
     (front_goes_on c.in-Ok.found.1.now c.in-Ok-read_start.line.taken c.if-taken-rest.true))
 
@@ -40,8 +47,10 @@ returns-clause-text c =
     let start : StartFits c.in-Ok.found.0.board.width c.in-Ok.found.0.board.height c.len-len.result a =
     subst (λ n. StartFits c.in-Ok.found.0.board.width n c.len-len.result a) c.height.ensures.height
     (subst (λ n. StartFits n c.height.result c.len-len.result a) c.width.ensures.width found.start) in
-    IfOk-weaker c.finish.result (IsFinished c.in-Ok.found.0 (Defend a)) (λ (file : TableFile). IsTextOfTable file (codes "renju-table 2" ++ line_feed ∷ c.args.bytes.now))
-    (λ file done. defend_text c.in-Ok.found.0 a c.len-len.result file c.args.bytes.now c.in-Ok.found.1.now _ c.in-Ok.ensures.fits c.len-len.ensures.table c.len-len.ensures.count start c.in-Ok.ensures.text
+    IfOk-weaker c.finish.result (IsFinished c.in-Ok.found.0 (Defend a))
+    (λ (file : TableFile). IsTextOfTable file (codes "renju-table 2" ++ line_feed ∷ c.args.bytes.now))
+    (λ file done. defend_text c.in-Ok.found.0 a c.len-len.result file c.args.bytes.now c.in-Ok.found.1.now _ c.in-Ok.ensures.fits
+    c.len-len.ensures.table c.len-len.ensures.count start c.in-Ok.ensures.text
     (start_parts c.width.result c.height.result c.len-len.result c.in-Ok-read_start.line c.in-Ok.found.1.now found)
     (front_ends c.in-Ok.found.1.now c.in-Ok-read_start.line.taken c.if-taken-rest.false) done)
     c.finish.ensures.finished
@@ -53,9 +62,11 @@ returns-clause-refused c =
     let start : StartFits c.in-Ok.found.0.board.width c.in-Ok.found.0.board.height c.len-len.result a =
     subst (λ n. StartFits c.in-Ok.found.0.board.width n c.len-len.result a) c.height.ensures.height
     (subst (λ n. StartFits n c.height.result c.len-len.result a) c.width.ensures.width found.start) in
-    IfErr-weaker c.finish.result (IsFinishFault c.in-Ok.found.0 (Defend a)) (IsTableFault (codes "renju-table 2" ++ line_feed ∷ c.args.bytes.now))
+    IfErr-weaker c.finish.result (IsFinishFault c.in-Ok.found.0 (Defend a))
+    (IsTableFault (codes "renju-table 2" ++ line_feed ∷ c.args.bytes.now))
     (finish_fault c.in-Ok.found.0 (Defend a) (codes "renju-table 2" ++ line_feed ∷ c.args.bytes.now)
-    (defend_text_of c.in-Ok.found.0 a c.len-len.result c.args.bytes.now c.in-Ok.found.1.now _ c.in-Ok.ensures.fits c.len-len.ensures.table c.len-len.ensures.count start c.in-Ok.ensures.text
+    (defend_text_of c.in-Ok.found.0 a c.len-len.result c.args.bytes.now c.in-Ok.found.1.now _ c.in-Ok.ensures.fits c.len-len.ensures.table
+    c.len-len.ensures.count start c.in-Ok.ensures.text
     (start_parts c.width.result c.height.result c.len-len.result c.in-Ok-read_start.line c.in-Ok.found.1.now found)
     (front_ends c.in-Ok.found.1.now c.in-Ok-read_start.line.taken c.if-taken-rest.false)))
     c.finish.ensures.refused

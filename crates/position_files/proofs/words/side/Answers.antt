@@ -6,6 +6,7 @@ pub returns-then-side-lt-MIN_SIDE : goal.returns-then-side-lt-MIN_SIDE
 returns-then-side-lt-MIN_SIDE c = record {
   side = λ v fits e.
       let few = fits.fits in
-      let same : c.in_ok-side.field-0 ≡ v = decimal_injective c.in_ok-side.field-0 v (omega arith) (omega (arith, few)) (sym c.in_ok-side.ensures.number.1 ∙ e) in
+      let same : c.in_ok-side.field-0 ≡ v = decimal_injective c.in_ok-side.field-0 v (omega arith) (omega (arith, few))
+      (sym c.in_ok-side.ensures.number.1 ∙ e) in
       omega (arith, same, fits.long);
 }

@@ -11,11 +11,15 @@ returns-in_err-width c = rw c.from_residual.ensures (record {
 
 pub returns-in_err-height : goal.returns-in_err-height
 returns-in_err-height c = rw c.from_residual-in_err-height.ensures (record {
-  size = bad_height c.args.bytes.now c.cut.result.0.now c.in-Some.height.now (c.cut.ensures.parts ∙ ap (λ (t : Option (Bor (List ℕ))). c.cut.result.0.now ++ tail_text comma (option_copied t)) c.in-Some.is) c.cut.ensures.word c.in_err-height.ensures.side;
+  size = bad_height c.args.bytes.now c.cut.result.0.now c.in-Some.height.now
+      (c.cut.ensures.parts ∙ ap (λ (t : Option (Bor (List ℕ))). c.cut.result.0.now ++ tail_text comma (option_copied t)) c.in-Some.is)
+      c.cut.ensures.word c.in_err-height.ensures.side;
 })
 
 pub returns-then-width-height : goal.returns-then-width-height
 returns-then-width-height c = record {
-  size = bad_square c.args.bytes.now c.cut.result.0.now c.in-Some.height.now c.in_ok-width.width c.in_ok-width.ensures.side.0 (c.cut.ensures.parts ∙ ap (λ (t : Option (Bor (List ℕ))). c.cut.result.0.now ++ tail_text comma (option_copied t)) c.in-Some.is) c.cut.ensures.word c.in_ok-width.ensures.side.1
+  size = bad_square c.args.bytes.now c.cut.result.0.now c.in-Some.height.now c.in_ok-width.width c.in_ok-width.ensures.side.0
+      (c.cut.ensures.parts ∙ ap (λ (t : Option (Bor (List ℕ))). c.cut.result.0.now ++ tail_text comma (option_copied t)) c.in-Some.is)
+      c.cut.ensures.word c.in_ok-width.ensures.side.1
       (c.in_ok-height.ensures.side.1 ∙ ap decimal (sym c.if-width-height.true));
 }

@@ -4,4 +4,5 @@ use Rattle.position_files.proofs.writers.push_nodes.Goals as goal
 
 pub loop-i-preserved : goal.loop-i-preserved
 loop-i-preserved c =
-    node_grown (string_bytes c.args.text.now) (string_bytes c.loop-i.text) (string_bytes c.push_node.new.text) c.args.table.now c.loop-i.i c.node.result.now c.loop-i.invariant c.node.ensures.node c.in_ok-push_node.ensures.line
+    node_grown (string_bytes c.args.text.now) (string_bytes c.loop-i.text) (string_bytes c.push_node.new.text) c.args.table.now c.loop-i.i
+    c.node.result.now c.loop-i.invariant c.node.ensures.node c.in_ok-push_node.ensures.line

@@ -6,4 +6,5 @@ use Rattle.position_files.proofs.written.push_stones.Given as goal
 -- the stones so far, and those among the points that are left, stand behind the text
 abbrev pub invariant-loop-p : goal.invariant-loop-p
 invariant-loop-p l =
-    string_bytes l.text ++ points_text (filter (holds l.board l.side) l.p-iterator) ≡ string_bytes l.fn.text ++ points_text (filter (holds l.board l.side) (points_of l.board))
+    string_bytes l.text ++ points_text (filter (holds l.board l.side) l.p-iterator) ≡ string_bytes l.fn.text
+    ++ points_text (filter (holds l.board l.side) (points_of l.board))

@@ -7,5 +7,6 @@ use Rattle.proof_number.proofs.denials.is_denied.Goals as goal
 pub returns-in-Ok-Win-clause-denied : goal.returns-in-Ok-Win-clause-denied
 returns-in-Ok-Win-clause-denied g c = λ t moves loses.
     let b : Grid = g.V.Seen.position c.args.view.now in
-    let four = subst (λ a. OnWin a (IsFourWin g.R.Rule.KIND 20 b c.four_search.new.compiler)) c.in-Ok-Win.field-0-is c.in-Ok-Win.ensures.win in
+    let four = subst (λ a. OnWin a (IsFourWin g.R.Rule.KIND 20 b c.four_search.new.compiler)) c.in-Ok-Win.field-0-is
+    c.in-Ok-Win.ensures.win in
     fours-deny g.R.Rule.KIND c.in-Ok-Win.field-0-0.moves moves b four.fewest.wins loses

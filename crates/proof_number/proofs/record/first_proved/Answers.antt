@@ -5,7 +5,8 @@ use Rattle.proof_number.proofs.record.first_proved.Goals as goal
 
 pub unreachable-requires : goal.unreachable-requires
 unreachable-requires c =
-    let child = proved-child c.args.tree.now c.args.node c.len-len.ensures.tree c.requires.in_tree c.requires.some c.requires.attack c.requires.proved in
+    let child = proved-child c.args.tree.now c.args.node c.len-len.ensures.tree c.requires.in_tree c.requires.some c.requires.attack
+    c.requires.proved in
     let first = child.1.from_first in
     let low = child.1.below_end in
     let from = ap (λ (l : Link). l.first) c.link-link.ensures.link in

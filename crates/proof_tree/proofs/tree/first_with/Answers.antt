@@ -13,7 +13,8 @@ returns-then-sought-least c = record {
 
 pub returns : goal.returns
 returns c = record {
-  place = sym (position_or_len_is (λ n. nat_eq (sought c.args.kind n) c.args.least) c.args.children.now (length c.args.children.now) no_numbers (omega arith)
+  place = sym (position_or_len_is (λ n. nat_eq (sought c.args.kind n) c.args.least) c.args.children.now (length c.args.children.now)
+      no_numbers (omega arith)
       (λ k h. ne_eqb _ _ (c.loop-i.invariant k (omega arith)))
       (λ h. absurd (omega arith)));
 }

@@ -10,33 +10,40 @@ pub returns-then-leaf-eq0-clause-numbered : goal.returns-then-leaf-eq0-clause-nu
 returns-then-leaf-eq0-clause-numbered c =
     let P : ℕ → Type 0 = λ i. IsNumbered c.args.links.now (set c.args.numbers.now i c.args.settled) in
     let Q : ℕ → Type 0 = λ i. (link_at c.args.links.now i).count ≡ 0 in
-    subst P (sym c.if-leaf-eq0.true) (settled-root c.args.links.now c.args.numbers.now c.args.settled c.requires.linked c.requires.numbered (subst Q c.if-leaf-eq0.true c.requires.childless) (settled-nothing c.args.settled c.requires.settled))
+    subst P (sym c.if-leaf-eq0.true)
+    (settled-root c.args.links.now c.args.numbers.now c.args.settled c.requires.linked c.requires.numbered
+    (subst Q c.if-leaf-eq0.true c.requires.childless) (settled-nothing c.args.settled c.requires.settled))
 
 pub returns-then-leaf-eq0-clause-others : goal.returns-then-leaf-eq0-clause-others
-returns-then-leaf-eq0-clause-others c = others-written c.args.links.now c.args.leaf c.args.leaf c.args.numbers.now c.args.numbers.now c.args.settled (0, refl) (λ j h. refl)
+returns-then-leaf-eq0-clause-others c = others-written c.args.links.now c.args.leaf c.args.leaf c.args.numbers.now c.args.numbers.now
+    c.args.settled (0, refl) (λ j h. refl)
 
 pub returns-then-leaf-eq0-clause-leaves : goal.returns-then-leaf-eq0-clause-leaves
-returns-then-leaf-eq0-clause-leaves c = λ kind. leaf_sum-set kind c.args.links.now c.args.numbers.now c.args.leaf c.args.settled (inr ((settled-nothing c.args.settled c.requires.settled).nothing kind))
+returns-then-leaf-eq0-clause-leaves c = λ kind. leaf_sum-set kind c.args.links.now c.args.numbers.now c.args.leaf c.args.settled
+    (inr ((settled-nothing c.args.settled c.requires.settled).nothing kind))
 
 pub update_from-requires-clause-each : goal.update_from-requires-clause-each
 update_from-requires-clause-each c =
     let some : 0 < c.args.leaf = omega (arith, c.if-leaf-eq0.false) in
     let r : IsRightBut c.args.links.now (set c.args.numbers.now c.args.leaf c.args.settled) (link_at c.args.links.now c.args.leaf).parent =
-    settled-leaf c.args.links.now c.args.numbers.now c.args.leaf c.args.settled c.requires.linked c.requires.numbered some c.requires.leaf c.requires.childless (settled-nothing c.args.settled c.requires.settled) in
+    settled-leaf c.args.links.now c.args.numbers.now c.args.leaf c.args.settled c.requires.linked c.requires.numbered some c.requires.leaf
+    c.requires.childless (settled-nothing c.args.settled c.requires.settled) in
     r.each
 
 pub update_from-requires-clause-right : goal.update_from-requires-clause-right
 update_from-requires-clause-right c =
     let some : 0 < c.args.leaf = omega (arith, c.if-leaf-eq0.false) in
     let r : IsRightBut c.args.links.now (set c.args.numbers.now c.args.leaf c.args.settled) (link_at c.args.links.now c.args.leaf).parent =
-    settled-leaf c.args.links.now c.args.numbers.now c.args.leaf c.args.settled c.requires.linked c.requires.numbered some c.requires.leaf c.requires.childless (settled-nothing c.args.settled c.requires.settled) in
+    settled-leaf c.args.links.now c.args.numbers.now c.args.leaf c.args.settled c.requires.linked c.requires.numbered some c.requires.leaf
+    c.requires.childless (settled-nothing c.args.settled c.requires.settled) in
     λ i h n b. r.combined_at i h n b
 
 pub update_from-requires-clause-sums : goal.update_from-requires-clause-sums
 update_from-requires-clause-sums c =
     let some : 0 < c.args.leaf = omega (arith, c.if-leaf-eq0.false) in
     let r : IsRightBut c.args.links.now (set c.args.numbers.now c.args.leaf c.args.settled) (link_at c.args.links.now c.args.leaf).parent =
-    settled-leaf c.args.links.now c.args.numbers.now c.args.leaf c.args.settled c.requires.linked c.requires.numbered some c.requires.leaf c.requires.childless (settled-nothing c.args.settled c.requires.settled) in
+    settled-leaf c.args.links.now c.args.numbers.now c.args.leaf c.args.settled c.requires.linked c.requires.numbered some c.requires.leaf
+    c.requires.childless (settled-nothing c.args.settled c.requires.settled) in
     r.sums
 
 pub returns-clause-settled : goal.returns-clause-settled
@@ -48,7 +55,13 @@ returns-clause-settled c =
 pub returns-clause-others : goal.returns-clause-others
 returns-clause-others c = λ j h.
     c.update_from.ensures.others j (λ on. h (above-parent c.args.links.now c.args.leaf j on))
-    ∙ others-written c.args.links.now c.args.leaf c.args.leaf c.args.numbers.now c.args.numbers.now c.args.settled (0, refl) (λ k m. refl) j h
+    ∙ others-written c.args.links.now c.args.leaf c.args.leaf c.args.numbers.now c.args.numbers.now c.args.settled (0, refl) (λ k m. refl) j
+    h
 
 pub returns-clause-leaves : goal.returns-clause-leaves
-returns-clause-leaves c = λ kind. omega (arith, c.update_from.ensures.leaves kind, leaf_sum-set kind c.args.links.now c.args.numbers.now c.args.leaf c.args.settled (inr ((settled-nothing c.args.settled c.requires.settled).nothing kind)))
+returns-clause-leaves c = λ kind. omega (
+  arith,
+  c.update_from.ensures.leaves kind,
+  leaf_sum-set kind c.args.links.now c.args.numbers.now c.args.leaf c.args.settled
+      (inr ((settled-nothing c.args.settled c.requires.settled).nothing kind)),
+)

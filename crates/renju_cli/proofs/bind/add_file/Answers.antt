@@ -9,7 +9,8 @@ use Rattle.renju_cli.proofs.bind.add_file.Goals as goal
 
 pub returns-in-Ok-clause-added : goal.returns-in-Ok-clause-added
 returns-in-Ok-clause-added g c =
-    added-by (change g.F.Shelf.files g.F.Shelf.faults g.F.Shelf.asked c.args.shelf.now c.load.new.self) c.args.number c.args.name.now c.as_slice.result.now
+    added-by (change g.F.Shelf.files g.F.Shelf.faults g.F.Shelf.asked c.args.shelf.now c.load.new.self) c.args.number c.args.name.now
+    c.as_slice.result.now
     c.args.binder.now c.add_text.new.binder
     (rw c.as_slice.ensures.value (record { found = c.in-Ok.ensures.found; sound = c.in-Ok.ensures.uncounted }))
     (rw c.as_slice.ensures.value c.in-Ok.ensures.short) c.add_text.result c.add_text.ensures.added

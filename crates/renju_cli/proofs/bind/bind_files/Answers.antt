@@ -8,7 +8,8 @@ use Rattle.renju_cli.specs.Runs.{change}
 use Rattle.renju_cli.specs.declared.answer.Answer.{Answer}
 use Rattle.renju_cli.specs.Binds.{IsBindable}
 use Rattle.renju_cli.specs.Binders.{IsAdded}
-use Rattle.renju_cli.proofs.BindLaws.{BoundUpTo, names-are, names-before, names-more, room-left, says-book, says-stop, some-left, told-from, up-to-all, up-to-more}
+use Rattle.renju_cli.proofs.BindLaws.{BoundUpTo, names-are, names-before, names-more, room-left, says-book, says-stop, some-left, told-from}
+use Rattle.renju_cli.proofs.BindLaws.{up-to-all, up-to-more}
 use Rattle.renju_cli.proofs.bind.bind_files.Goals as goal
 
 pub add_file-requires : goal.add_file-requires
@@ -20,27 +21,36 @@ add_file-requires g c = record {
 
 pub returns-in-Some-clause-says : goal.returns-in-Some-clause-says
 returns-in-Some-clause-says g c =
-    let added = subst (λ (o : Option Answer). IsAdded (change g.F.Shelf.files g.F.Shelf.faults g.F.Shelf.asked c.loop-before.shelf c.add_file.new.shelf)
+    let added = subst (λ (o : Option Answer). IsAdded
+    (change g.F.Shelf.files g.F.Shelf.faults g.F.Shelf.asked c.loop-before.shelf c.add_file.new.shelf)
     (c.loop-before.before + 1) c.as_str.result.now c.loop-before.binder c.add_file.new.binder o) c.in-Some.is c.in_ok-added.ensures.added in
-    says-stop (change g.F.Shelf.files g.F.Shelf.faults g.F.Shelf.asked c.args.shelf.now c.add_file.new.shelf) (map string_bytes c.args.names.now)
+    says-stop (change g.F.Shelf.files g.F.Shelf.faults g.F.Shelf.asked c.args.shelf.now c.add_file.new.shelf)
+    (map string_bytes c.args.names.now)
     (map string_bytes (take c.loop-before.before c.args.names.now)) (map string_bytes (drop (suc c.loop-before.before) c.args.names.now))
     c.as_str.result.now c.loop-before.binder c.loop-before.invariant.so_far
-    (names-are string_bytes c.args.names.now c.loop-before.before c.index-names-before.result c.as_str.result.now c.loop-before-test.true c.index-names-before.is c.as_str.ensures.value)
+    (names-are string_bytes c.args.names.now c.loop-before.before c.index-names-before.result c.as_str.result.now c.loop-before-test.true
+    c.index-names-before.is c.as_str.ensures.value)
     (c.loop-before.before + 1) c.add_file.new.binder c.in-Some.told
-    (ap (λ (k : ℕ). k + 1) (sym (names-before string_bytes c.args.names.now c.loop-before.before c.index-names-before.result c.as_str.result.now c.loop-before-test.true c.index-names-before.is c.as_str.ensures.value)))
+    (ap (λ (k : ℕ). k + 1) (sym
+    (names-before string_bytes c.args.names.now c.loop-before.before c.index-names-before.result c.as_str.result.now
+    c.loop-before-test.true c.index-names-before.is c.as_str.ensures.value)))
     (told-from (change g.F.Shelf.files g.F.Shelf.faults g.F.Shelf.asked c.loop-before.shelf c.add_file.new.shelf)
     (change g.F.Shelf.files g.F.Shelf.faults g.F.Shelf.asked c.args.shelf.now c.add_file.new.shelf)
-    c.loop-before.invariant.files c.loop-before.invariant.faults refl (c.loop-before.before + 1) c.as_str.result.now c.loop-before.binder c.add_file.new.binder c.in-Some.told added)
+    c.loop-before.invariant.files c.loop-before.invariant.faults refl (c.loop-before.before + 1) c.as_str.result.now c.loop-before.binder
+    c.add_file.new.binder c.in-Some.told added)
 
 pub loop-before-preserved : goal.loop-before-preserved
 loop-before-preserved g c =
-    let added = subst (λ (o : Option Answer). IsAdded (change g.F.Shelf.files g.F.Shelf.faults g.F.Shelf.asked c.loop-before.shelf c.add_file.new.shelf)
+    let added = subst (λ (o : Option Answer). IsAdded
+    (change g.F.Shelf.files g.F.Shelf.faults g.F.Shelf.asked c.loop-before.shelf c.add_file.new.shelf)
     (c.loop-before.before + 1) c.as_str.result.now c.loop-before.binder c.add_file.new.binder o) c.in-None.is c.in_ok-added.ensures.added in
     record {
       so_far =
           subst (λ (ws : List (List ℕ)). BoundUpTo (g.F.Shelf.files c.args.shelf.now) ws c.add_file.new.binder)
-          (sym (names-more string_bytes c.args.names.now c.loop-before.before c.index-names-before.result c.as_str.result.now c.loop-before-test.true c.index-names-before.is c.as_str.ensures.value))
-          (up-to-more (g.F.Shelf.files c.args.shelf.now) (map string_bytes (take c.loop-before.before c.args.names.now)) c.loop-before.binder
+          (sym (names-more string_bytes c.args.names.now c.loop-before.before c.index-names-before.result c.as_str.result.now
+          c.loop-before-test.true c.index-names-before.is c.as_str.ensures.value))
+          (up-to-more (g.F.Shelf.files c.args.shelf.now) (map string_bytes (take c.loop-before.before c.args.names.now))
+          c.loop-before.binder
           c.loop-before.invariant.so_far c.as_str.result.now added.0 c.add_file.new.binder
           (subst (λ (o : Option Files). IsBindable o c.as_str.result.now added.0) c.loop-before.invariant.files added.1) added.3);
       files = c.add_file.ensures.files ∙ c.loop-before.invariant.files;
@@ -78,7 +88,8 @@ finish-requires g c = record {
 
 pub returns-clause-says : goal.returns-clause-says
 returns-clause-says g c =
-    says-book (change g.F.Shelf.files g.F.Shelf.faults g.F.Shelf.asked c.args.shelf.now c.loop-before.shelf) (map string_bytes c.args.names.now)
+    says-book (change g.F.Shelf.files g.F.Shelf.faults g.F.Shelf.asked c.args.shelf.now c.loop-before.shelf)
+    (map string_bytes c.args.names.now)
     c.loop-before.binder c.in_ok-book.book c.in_ok-write_book.field-0.items
     (up-to-all string_bytes c.args.names.now c.loop-before.before (g.F.Shelf.files c.args.shelf.now) c.loop-before.binder
     c.loop-before.invariant.so_far c.loop-before-test.false)

@@ -16,7 +16,9 @@ returns-in-Ok-Tells-clause-plays g c = λ words. record {
       bytes = c.in-Ok.bytes.items;
       loaded = record { found = c.in-Ok.ensures.found; sound = c.in-Ok.ensures.uncounted };
       fits = c.in-Ok.ensures.short;
-      says = rw c.as_slice-in-Ok-Tells.ensures.value (rw (← c.as_slice.ensures.value) (subst (λ (l : Loaded). IsLoadedHeld c.as_slice.result.now l) c.in-Ok-Tells.field-0-is c.in-Ok-Tells.ensures.loaded));
+      says = rw c.as_slice-in-Ok-Tells.ensures.value
+          (rw (← c.as_slice.ensures.value)
+          (subst (λ (l : Loaded). IsLoadedHeld c.as_slice.result.now l) c.in-Ok-Tells.field-0-is c.in-Ok-Tells.ensures.loaded));
     });
     input = record { same = refl; faults = refl; asked = refl };
     delivered = c.deliver.ensures.delivered;
@@ -49,7 +51,11 @@ returns-in-Err-TooLong-clause-plays g c =
         text = c.as_bytes-in-Err-TooLong.result.now;
         why = inr (inl (record {
           bytes = long.0;
-          loaded = record { found = long.1; sound = c.in-Err-TooLong.ensures.not_failed (let is = c.in-Err-TooLong.field-0-is in λ failed. absurd (cc)) };
+          loaded = record {
+            found = long.1;
+            sound = c.in-Err-TooLong.ensures.not_failed
+                (let is = c.in-Err-TooLong.field-0-is in λ failed. absurd (cc));
+          };
           long = long.2;
           ends = refl;
           line = c.as_bytes-in-Err-TooLong.ensures.value;

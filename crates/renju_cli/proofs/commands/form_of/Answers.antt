@@ -1,88 +1,104 @@
 use Rattle.std.proofs.Common.{◌≡◌, List, ℕ, [], ◌∷◌, ◌∙◌, ap, sym, subst, get_or}
 use Rattle.std.specs.Prelude.{codes, string_bytes, Option, MatchOption}
 use Rattle.renju_cli.specs.declared.commands.Form.{Form}
-use Rattle.renju_cli.specs.declared.commands.Form.TheVariants.{Check, Foul, Fours, Threats, Solve, Brain, BrainWith, Drill, Referee, RefereeWith, Image, Defend, Bind, Book}
+use Rattle.renju_cli.specs.declared.commands.Form.TheVariants.{Check, Foul, Fours, Threats, Solve, Brain, BrainWith, Drill, Referee}
+use Rattle.renju_cli.specs.declared.commands.Form.TheVariants.{RefereeWith, Image, Defend, Bind, Book}
 use Rattle.renju_cli.specs.Commands.{command, HasForm, IsForm}
 use Rattle.renju_cli.proofs.Words.{no-words as none, first-word}
 use Rattle.renju_cli.proofs.FormLaws.{no-words, no-command}
 use Rattle.renju_cli.proofs.commands.form_of.Goals as goal
 
 -- what is told of the words after a name is told of the words that begin with it
-told-of : (told : Option Form) (words : List (List ℕ)) (first name : List ℕ) (rest : List (List ℕ)) → words ≡ first ∷ rest → first ≡ name → MatchOption told (¬ HasForm (name ∷ rest)) (λ form. IsForm (name ∷ rest) form) → MatchOption told (¬ HasForm words) (λ form. IsForm words form)
-told-of told words first name rest are is h = subst (λ (ws : List (List ℕ)). MatchOption told (¬ HasForm ws) (λ form. IsForm ws form)) (sym (are ∙ ap (λ (w : List ℕ). w ∷ rest) is)) h
+told-of : (told : Option Form) (words : List (List ℕ)) (first name : List ℕ) (rest : List (List ℕ)) → words ≡ first ∷ rest → first ≡ name
+    → MatchOption told (¬ HasForm (name ∷ rest)) (λ form. IsForm (name ∷ rest) form)
+    → MatchOption told (¬ HasForm words) (λ form. IsForm words form)
+told-of told words first name rest are is h = subst (λ (ws : List (List ℕ)). MatchOption told (¬ HasForm ws) (λ form. IsForm ws form))
+    (sym (are ∙ ap (λ (w : List ℕ). w ∷ rest) is)) h
 
 pub returns-in_default : goal.returns-in_default
 returns-in_default c = record { form = λ h. no-words (subst HasForm (none string_bytes c.args.words.now c.in_default.len_below) h) }
 
 pub returns-in-check : goal.returns-in-check
 returns-in-check c = record {
-  form = told-of c.form.result _ _ (codes "check") _ (first-word string_bytes c.args.words.now c.name-item.result c.in-len1-up.len_at_least c.name-item.is)
+  form = told-of c.form.result _ _ (codes "check") _
+      (first-word string_bytes c.args.words.now c.name-item.result c.in-len1-up.len_at_least c.name-item.is)
       (sym c.as_str.ensures.value ∙ c.in-check.is) c.form.ensures.form;
 }
 
 pub returns-in-foul : goal.returns-in-foul
 returns-in-foul c = record {
-  form = told-of c.form-in-foul.result _ _ (codes "foul") _ (first-word string_bytes c.args.words.now c.name-item.result c.in-len1-up.len_at_least c.name-item.is)
+  form = told-of c.form-in-foul.result _ _ (codes "foul") _
+      (first-word string_bytes c.args.words.now c.name-item.result c.in-len1-up.len_at_least c.name-item.is)
       (sym c.as_str.ensures.value ∙ c.in-foul.is) c.form-in-foul.ensures.form;
 }
 
 pub returns-in-fours : goal.returns-in-fours
 returns-in-fours c = record {
-  form = told-of c.form-in-fours.result _ _ (codes "fours") _ (first-word string_bytes c.args.words.now c.name-item.result c.in-len1-up.len_at_least c.name-item.is)
+  form = told-of c.form-in-fours.result _ _ (codes "fours") _
+      (first-word string_bytes c.args.words.now c.name-item.result c.in-len1-up.len_at_least c.name-item.is)
       (sym c.as_str.ensures.value ∙ c.in-fours.is) c.form-in-fours.ensures.form;
 }
 
 pub returns-in-threats : goal.returns-in-threats
 returns-in-threats c = record {
-  form = told-of c.form-in-threats.result _ _ (codes "threats") _ (first-word string_bytes c.args.words.now c.name-item.result c.in-len1-up.len_at_least c.name-item.is)
+  form = told-of c.form-in-threats.result _ _ (codes "threats") _
+      (first-word string_bytes c.args.words.now c.name-item.result c.in-len1-up.len_at_least c.name-item.is)
       (sym c.as_str.ensures.value ∙ c.in-threats.is) c.form-in-threats.ensures.form;
 }
 
 pub returns-in-solve : goal.returns-in-solve
 returns-in-solve c = record {
-  form = told-of c.form-in-solve.result _ _ (codes "solve") _ (first-word string_bytes c.args.words.now c.name-item.result c.in-len1-up.len_at_least c.name-item.is)
+  form = told-of c.form-in-solve.result _ _ (codes "solve") _
+      (first-word string_bytes c.args.words.now c.name-item.result c.in-len1-up.len_at_least c.name-item.is)
       (sym c.as_str.ensures.value ∙ c.in-solve.is) c.form-in-solve.ensures.form;
 }
 
 pub returns-in-brain : goal.returns-in-brain
 returns-in-brain c = record {
-  form = told-of c.form-in-brain.result _ _ (codes "brain") _ (first-word string_bytes c.args.words.now c.name-item.result c.in-len1-up.len_at_least c.name-item.is)
+  form = told-of c.form-in-brain.result _ _ (codes "brain") _
+      (first-word string_bytes c.args.words.now c.name-item.result c.in-len1-up.len_at_least c.name-item.is)
       (sym c.as_str.ensures.value ∙ c.in-brain.is) c.form-in-brain.ensures.form;
 }
 
 pub returns-in-drill : goal.returns-in-drill
 returns-in-drill c = record {
-  form = told-of c.form-in-drill.result _ _ (codes "drill") _ (first-word string_bytes c.args.words.now c.name-item.result c.in-len1-up.len_at_least c.name-item.is)
+  form = told-of c.form-in-drill.result _ _ (codes "drill") _
+      (first-word string_bytes c.args.words.now c.name-item.result c.in-len1-up.len_at_least c.name-item.is)
       (sym c.as_str.ensures.value ∙ c.in-drill.is) c.form-in-drill.ensures.form;
 }
 
 pub returns-in-image : goal.returns-in-image
 returns-in-image c = record {
-  form = told-of c.form-in-image.result _ _ (codes "image") _ (first-word string_bytes c.args.words.now c.name-item.result c.in-len1-up.len_at_least c.name-item.is)
+  form = told-of c.form-in-image.result _ _ (codes "image") _
+      (first-word string_bytes c.args.words.now c.name-item.result c.in-len1-up.len_at_least c.name-item.is)
       (sym c.as_str.ensures.value ∙ c.in-image.is) c.form-in-image.ensures.form;
 }
 
 pub returns-in-referee : goal.returns-in-referee
 returns-in-referee c = record {
-  form = told-of c.form-in-referee.result _ _ (codes "referee") _ (first-word string_bytes c.args.words.now c.name-item.result c.in-len1-up.len_at_least c.name-item.is)
+  form = told-of c.form-in-referee.result _ _ (codes "referee") _
+      (first-word string_bytes c.args.words.now c.name-item.result c.in-len1-up.len_at_least c.name-item.is)
       (sym c.as_str.ensures.value ∙ c.in-referee.is) c.form-in-referee.ensures.form;
 }
 
 pub returns-in-defend : goal.returns-in-defend
 returns-in-defend c = record {
-  form = told-of c.form-in-defend.result _ _ (codes "defend") _ (first-word string_bytes c.args.words.now c.name-item.result c.in-len1-up.len_at_least c.name-item.is)
+  form = told-of c.form-in-defend.result _ _ (codes "defend") _
+      (first-word string_bytes c.args.words.now c.name-item.result c.in-len1-up.len_at_least c.name-item.is)
       (sym c.as_str.ensures.value ∙ c.in-defend.is) c.form-in-defend.ensures.form;
 }
 
 pub returns-in-book : goal.returns-in-book
 returns-in-book c = record {
-  form = told-of c.form-in-book.result _ _ (codes "book") _ (first-word string_bytes c.args.words.now c.name-item.result c.in-len1-up.len_at_least c.name-item.is)
+  form = told-of c.form-in-book.result _ _ (codes "book") _
+      (first-word string_bytes c.args.words.now c.name-item.result c.in-len1-up.len_at_least c.name-item.is)
       (sym c.as_str.ensures.value ∙ c.in-book.is) c.form-in-book.ensures.form;
 }
 
 pub returns-in-bind : goal.returns-in-bind
 returns-in-bind c = record {
-  form = told-of c.form-in-bind.result _ _ (codes "bind") _ (first-word string_bytes c.args.words.now c.name-item.result c.in-len1-up.len_at_least c.name-item.is)
+  form = told-of c.form-in-bind.result _ _ (codes "bind") _
+      (first-word string_bytes c.args.words.now c.name-item.result c.in-len1-up.len_at_least c.name-item.is)
       (sym c.as_str.ensures.value ∙ c.in-bind.is) c.form-in-bind.ensures.form;
 }
 

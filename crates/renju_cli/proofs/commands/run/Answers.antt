@@ -56,9 +56,11 @@ returns-in-Some-BrainWith-clause-report g c =
     let run : Run = run_of words (change g.I.Source.left g.I.Source.faults g.I.Source.asked c.args.input.now c.play_with.new.input)
     (change g.O.Sink.written g.O.Sink.faults g.O.Sink.asked c.args.output.now c.play_with.new.output)
     (change g.F.Shelf.files g.F.Shelf.faults g.F.Shelf.asked c.args.shelf.now c.play_with.new.shelf) (status_number c.play_with.result) in
-    let form : IsForm words BrainWith = subst (λ (f : Form). IsForm words f) c.in-Some-BrainWith.field-0-is c.in-Some-BrainWith.ensures.form in
+    let form : IsForm words BrainWith = subst (λ (f : Form). IsForm words f) c.in-Some-BrainWith.field-0-is
+    c.in-Some-BrainWith.ensures.form in
     let two : length c.args.words.now ≡ 2 = same-count string_bytes _ _ form.spelled in
-    let file : c.as_str.result.now ≡ second_word words = c.as_str.ensures.value ∙ sym (word-after string_bytes c.args.words.now c.index-words-1.result two c.index-words-1.is) in
+    let file : c.as_str.result.now ≡ second_word words =
+    c.as_str.ensures.value ∙ sym (word-after string_bytes c.args.words.now c.index-words-1.result two c.index-words-1.is) in
     file-reported run c.as_str.result.now form file (c.play_with.ensures.plays words)
 
 -- so is it that of `referee FILE`
@@ -67,12 +69,15 @@ returns-in-Some-RefereeWith-clause-report g c =
     let words = map string_bytes c.args.words.now in
     let run : Run = run_of words (change g.I.Source.left g.I.Source.faults g.I.Source.asked c.args.input.now c.referee_with.new.input)
     (change g.O.Sink.written g.O.Sink.faults g.O.Sink.asked c.args.output.now c.referee_with.new.output)
-    (change g.F.Shelf.files g.F.Shelf.faults g.F.Shelf.asked c.args.shelf.now c.referee_with.new.shelf) (status_number c.referee_with.result) in
-    let form : IsForm words RefereeWith = subst (λ (f : Form). IsForm words f) c.in-Some-RefereeWith.field-0-is c.in-Some-RefereeWith.ensures.form in
+    (change g.F.Shelf.files g.F.Shelf.faults g.F.Shelf.asked c.args.shelf.now c.referee_with.new.shelf)
+    (status_number c.referee_with.result) in
+    let form : IsForm words RefereeWith = subst (λ (f : Form). IsForm words f) c.in-Some-RefereeWith.field-0-is
+    c.in-Some-RefereeWith.ensures.form in
     let two : length c.args.words.now ≡ 2 = same-count string_bytes _ _ form.spelled in
     let file : c.as_str-in-Some-RefereeWith.result.now ≡ second_word words =
     c.as_str-in-Some-RefereeWith.ensures.value
-    ∙ sym (word-after string_bytes c.args.words.now c.index-words-1-in-Some-RefereeWith.result two c.index-words-1-in-Some-RefereeWith.is) in
+    ∙ sym (word-after string_bytes c.args.words.now c.index-words-1-in-Some-RefereeWith.result two
+    c.index-words-1-in-Some-RefereeWith.is) in
     game-reported run c.as_str-in-Some-RefereeWith.result.now form file (c.referee_with.ensures.referees words)
 
 -- the files are the words after the first
@@ -83,4 +88,5 @@ returns-in-Some-Bind-clause-report g c =
     let run : Run = run_of words input (change g.O.Sink.written g.O.Sink.faults g.O.Sink.asked c.args.output.now c.bind.new.output)
     (change g.F.Shelf.files g.F.Shelf.faults g.F.Shelf.asked c.args.shelf.now c.bind.new.shelf) (status_number c.bind.result) in
     let form : IsForm words Bind = subst (λ (f : Form). IsForm words f) c.in-Some-Bind.field-0-is c.in-Some-Bind.ensures.form in
-    bind-reported run _ form (words-after string_bytes c.args.words.now) (c.bind.ensures.binds words input (record { same = refl; faults = refl; asked = refl }))
+    bind-reported run _ form (words-after string_bytes c.args.words.now)
+    (c.bind.ensures.binds words input (record { same = refl; faults = refl; asked = refl }))

@@ -5,6 +5,7 @@ use Rattle.renju_cli.proofs.drill.lines_of.Goals as goal
 
 pub returns : goal.returns
 returns c = record { lines = by_text c.counted_lines.result c.counted_lines.ensures.lines } where
-  by_text : {E : Type 0} (r : Result (String Global) E) → IfOk r (λ t. string_bytes t ≡ drill_lines c.args.number c.in_ok-counts.counts) → IfOk r (λ t. IsDrillText c.args.number (string_bytes t))
+  by_text : {E : Type 0} (r : Result (String Global) E) → IfOk r (λ t. string_bytes t ≡ drill_lines c.args.number c.in_ok-counts.counts)
+      → IfOk r (λ t. IsDrillText c.args.number (string_bytes t))
   by_text (Ok text) lines = record { counts = c.in_ok-counts.counts; counted = c.in_ok-counts.ensures.counted; lines = lines }
   by_text (Err e) none = none

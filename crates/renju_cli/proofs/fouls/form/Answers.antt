@@ -6,4 +6,7 @@ use Rattle.renju_cli.proofs.fouls.form.Goals as goal
 
 -- some word
 pub returns-in_default : goal.returns-in_default
-returns-in_default c = record { form = no-foul _ (λ is. let count : length c.args.rest.now ≡ 0 = same-count string_bytes _ _ is in omega (arith, count)) }
+returns-in_default c = record {
+  form = no-foul _
+      (λ is. let count : length c.args.rest.now ≡ 0 = same-count string_bytes _ _ is in omega (arith, count));
+}

@@ -29,7 +29,8 @@ returns-clause-text c = λ limit win.
         plan = c.in_ok-table.ensures.trees (four_plan c.args.kind c.args.win.moves b) win.stands;
         accepted = made.accepted;
         deep = made.deep;
-        short = subst (λ (n : ℕ). n ≤ b.width * b.height * c.args.win.moves) (sym (c.in_ok-table.ensures.same.same_arrivals c.args.kind b)) win.short;
+        short = subst (λ (n : ℕ). n ≤ b.width * b.height * c.args.win.moves) (sym (c.in_ok-table.ensures.same.same_arrivals c.args.kind b))
+            win.short;
       };
       written = rw c.len.ensures.count at c.in_ok-write_table.ensures.written;
     }

@@ -12,5 +12,6 @@ returns-then-is_book c = record {
 pub returns-else-is_book : goal.returns-else-is_book
 returns-else-is_book c = record {
   loaded = IfOk-weaker c.load.result (IsLoadedText c.args.bytes.now) (IsLoadedHeld c.args.bytes.now)
-      (λ loaded is. loaded-table c.args.bytes.now loaded (λ begins. let yes = c.is_book.ensures.book.1 begins in let no = c.if-is_book.false in cc) is) c.load.ensures.loaded;
+      (λ loaded is. loaded-table c.args.bytes.now loaded
+      (λ begins. let yes = c.is_book.ensures.book.1 begins in let no = c.if-is_book.false in cc) is) c.load.ensures.loaded;
 }

@@ -7,7 +7,8 @@ use Rattle.renju_cli.proofs.numbers.count.Goals as goal
 -- a word that is zero is no number from 1 on
 pub returns-then-number-eq0 : goal.returns-then-number-eq0
 returns-then-number-eq0 c =
-    let zero : string_bytes c.args.word.now ≡ decimal 0 = sym c.as_bytes.ensures.value ∙ c.in_ok-number.ensures.number.1 ∙ ap decimal c.if-number-eq0.true in
+    let zero : string_bytes c.args.word.now ≡ decimal 0 =
+    sym c.as_bytes.ensures.value ∙ c.in_ok-number.ensures.number.1 ∙ ap decimal c.if-number-eq0.true in
     record {
       number = λ n range is.
           let least = range.0 in

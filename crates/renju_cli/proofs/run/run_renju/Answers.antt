@@ -1,4 +1,6 @@
-use Rattle.renju_cli.proofs.ReportLaws.{report-won, report-searched, report-sequences, report-solved, report-games, report-own_games, report-drilled, report-complete, report-refereed, report-imaged, report-defended, report-booked, report-bound}
+use Rattle.renju_cli.proofs.ReportLaws.{report-won, report-searched, report-sequences, report-solved, report-games, report-own_games}
+use Rattle.renju_cli.proofs.ReportLaws.{report-drilled, report-complete, report-refereed, report-imaged, report-defended, report-booked}
+use Rattle.renju_cli.proofs.ReportLaws.{report-bound}
 use Rattle.renju_cli.proofs.run.run_renju.Goals as goal
 
 -- all that holds of a run follows from its report

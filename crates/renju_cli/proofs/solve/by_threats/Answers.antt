@@ -23,20 +23,33 @@ returns-in-Ok-Win g c =
     let there = c.into_board-board.ensures.board ∙ c.proof_number.ensures.same in
     let is : IsThreatWin rule c.args.depth p compiled win =
     subst (λ (a : ProofAnswer). OnWin a (IsThreatWin rule c.args.depth p compiled)) c.in-Ok-Win.field-0-is c.in-Ok-Win.ensures.win in
-    let shown : IfOk c.win_text.result (λ a. (limit : ℕ) → IsWrittenWin rule limit b compiled win → IsWinText limit (file_at rule b) a.text.items) =
-    subst (λ (k : RuleKind). IfOk c.win_text.result (λ a. (limit : ℕ) → IsWrittenWin k limit b compiled win → IsWinText limit (file_at k b) a.text.items)) c.KIND.ensures c.win_text.ensures.shown in
-    record { says = threats-says c.win_text.result c.args.depth c.args.nodes rule p b there compiled win is c.requires.left c.win_text.ensures.status shown }
+    let shown : IfOk c.win_text.result
+    (λ a. (limit : ℕ) → IsWrittenWin rule limit b compiled win → IsWinText limit (file_at rule b) a.text.items) =
+    subst (λ (k : RuleKind). IfOk c.win_text.result
+    (λ a. (limit : ℕ) → IsWrittenWin k limit b compiled win → IsWinText limit (file_at k b) a.text.items)) c.KIND.ensures
+    c.win_text.ensures.shown in
+    record {
+      says = threats-says c.win_text.result c.args.depth c.args.nodes rule p b there compiled win is c.requires.left
+          c.win_text.ensures.status shown;
+    }
 
 pub returns-in-Ok-None : goal.returns-in-Ok-None
 returns-in-Ok-None g c =
     let none = c.in-Ok-None.ensures.none c.in-Ok-None.field-0-is in
-    record { says = unwon-says c.none.result c.args.depth c.args.nodes (file_at g.R.Rule.KIND c.args.position) c.requires.left none.no_threats c.none.ensures.status c.none.ensures.text }
+    record {
+      says = unwon-says c.none.result c.args.depth c.args.nodes (file_at g.R.Rule.KIND c.args.position) c.requires.left
+          none.no_threats c.none.ensures.status c.none.ensures.text;
+    }
 
 -- a new compiler has no nodes
 pub returns-in-Err-Full : goal.returns-in-Err-Full
 returns-in-Err-Full g c =
     let more = c.in-Err-Full.ensures.full (ap Err c.in-Err-Full.field-0-is) in
     let none : MAX_NODES < 0 + min c.args.nodes (threat_tree g.R.Rule.KIND c.args.depth c.args.position) =
-    subst (λ (t : List Node). MAX_NODES < length t + min c.args.nodes (threat_tree g.R.Rule.KIND c.args.depth c.args.position)) c.new-compiler.ensures.empty more in
+    subst (λ (t : List Node). MAX_NODES < length t + min c.args.nodes (threat_tree g.R.Rule.KIND c.args.depth c.args.position))
+    c.new-compiler.ensures.empty more in
     let above : MAX_NODES < min c.args.nodes (threat_tree g.R.Rule.KIND c.args.depth c.args.position) = omega (arith, none) in
-    record { says = full-says c.full.result c.args.depth c.args.nodes (file_at g.R.Rule.KIND c.args.position) c.requires.left.no_fours (inr above) c.full.ensures.status c.full.ensures.text }
+    record {
+      says = full-says c.full.result c.args.depth c.args.nodes (file_at g.R.Rule.KIND c.args.position) c.requires.left.no_fours
+          (inr above) c.full.ensures.status c.full.ensures.text;
+    }

@@ -8,8 +8,10 @@ use Rattle.renju_cli.proofs.FormLaws.{has-told, after-name}
 use Rattle.renju_cli.proofs.solve.form.Goals as goal
 
 -- words that have the form have its two numbers
-no-solve : (rest : List (List ℕ)) → ((depth nodes : ℕ) → ¬ HasWords rest (decimal depth ∷ decimal nodes ∷ []) (AreLimits depth nodes)) → ¬ HasForm (codes "solve" ∷ rest)
+no-solve : (rest : List (List ℕ)) → ((depth nodes : ℕ) → ¬ HasWords rest (decimal depth ∷ decimal nodes ∷ []) (AreLimits depth nodes))
+    → ¬ HasForm (codes "solve" ∷ rest)
 no-solve rest none h = none _ _ (after-name (codes "solve") rest _ (has-told (codes "solve" ∷ rest) h))
 
 pub returns-in_err-depth : goal.returns-in_err-depth
-returns-in_err-depth c = rw c.from_residual.ensures (record { form = no-solve _ (λ depth nodes are. c.in_err-depth.ensures.numbers depth nodes (rw c.from.ensures are)) })
+returns-in_err-depth c = rw c.from_residual.ensures
+    (record { form = no-solve _ (λ depth nodes are. c.in_err-depth.ensures.numbers depth nodes (rw c.from.ensures are)) })

@@ -20,9 +20,20 @@ returns-in-Ok-Win g c =
     let there = c.into_board-board.ensures.board ∙ c.four_search.ensures.same in
     let is : IsFourWin rule c.args.depth p compiled win =
     subst (λ (a : FourAnswer). OnWin a (IsFourWin rule c.args.depth p compiled)) c.in-Ok-Win.field-0-is c.in-Ok-Win.ensures.win in
-    let text : IfOk c.win_text.result (λ a. (limit : ℕ) → IsFourWin rule limit b compiled win → IsFourText limit (file_at rule b) a.text.items) =
-    subst (λ (k : RuleKind). IfOk c.win_text.result (λ a. (limit : ℕ) → IsFourWin k limit b compiled win → IsFourText limit (file_at k b) a.text.items)) c.KIND.ensures c.win_text.ensures.text in
-    let shown : IfOk c.win_text.result (λ a. (limit : ℕ) → IsWrittenWin rule limit b compiled win → IsWinText limit (file_at rule b) a.text.items) =
-    subst (λ (k : RuleKind). IfOk c.win_text.result (λ a. (limit : ℕ) → IsWrittenWin k limit b compiled win → IsWinText limit (file_at k b) a.text.items)) c.KIND.ensures c.win_text.ensures.shown in
-    let says = first-says c.win_text.result c.args.depth c.args.nodes rule p b there compiled win is (λ above. let spent = c.in-Ok-Win.ensures.spent.1 above in let not = c.in-Ok-Win.field-0-is in absurd (cc)) c.win_text.ensures.status text shown in
-    record { says = said-of-file (SolutionSays c.args.depth c.args.nodes) c.win_text.result c.args.file rule p c.requires.kind c.new-position.ensures.position says }
+    let text : IfOk c.win_text.result
+    (λ a. (limit : ℕ) → IsFourWin rule limit b compiled win → IsFourText limit (file_at rule b) a.text.items) =
+    subst (λ (k : RuleKind). IfOk c.win_text.result
+    (λ a. (limit : ℕ) → IsFourWin k limit b compiled win → IsFourText limit (file_at k b) a.text.items)) c.KIND.ensures
+    c.win_text.ensures.text in
+    let shown : IfOk c.win_text.result
+    (λ a. (limit : ℕ) → IsWrittenWin rule limit b compiled win → IsWinText limit (file_at rule b) a.text.items) =
+    subst (λ (k : RuleKind). IfOk c.win_text.result
+    (λ a. (limit : ℕ) → IsWrittenWin k limit b compiled win → IsWinText limit (file_at k b) a.text.items)) c.KIND.ensures
+    c.win_text.ensures.shown in
+    let says = first-says c.win_text.result c.args.depth c.args.nodes rule p b there compiled win is
+    (λ above. let spent = c.in-Ok-Win.ensures.spent.1 above in let not = c.in-Ok-Win.field-0-is in absurd (cc))
+    c.win_text.ensures.status text shown in
+    record {
+      says = said-of-file (SolutionSays c.args.depth c.args.nodes) c.win_text.result c.args.file rule p c.requires.kind
+          c.new-position.ensures.position says;
+    }

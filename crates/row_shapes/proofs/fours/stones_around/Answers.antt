@@ -4,4 +4,7 @@ use Rattle.game_rules.specs.Shapes.{place_stone}
 use Rattle.row_shapes.proofs.fours.stones_around.Goals as goal
 
 pub returns : goal.returns
-returns c = record { stones = fill_by_all (place_stone c.args.board.now c.args.side c.args.axis c.args.p) c.loop-i.stones 9 false c.loop-i.invariant.0 (search rules) }
+returns c = record {
+  stones = fill_by_all (place_stone c.args.board.now c.args.side c.args.axis c.args.p) c.loop-i.stones 9 false
+      c.loop-i.invariant.0 (search rules);
+}

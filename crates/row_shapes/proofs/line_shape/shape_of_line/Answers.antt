@@ -10,5 +10,19 @@ returns c = record {
       let straight = straight_told c.args.ahead.now.cells c.args.behind.now.cells b p sees c.args.any in
       let three = three_told c.args.ahead.now.cells c.args.behind.now.cells b p sees c.args.any in
       let fours = c.fours.ensures.fours b p sees in
-      rw (five, over, fours, straight, three, c.wins.ensures.wins, c.is_open_four.ensures.open, c.bit.ensures.bit, c.bit-2.ensures.bit, c.three_place.ensures.place, c.three_place-2.ensures.place, c.args.ahead.now.near_told, c.args.behind.now.near_told) refl;
+      rw (
+        five,
+        over,
+        fours,
+        straight,
+        three,
+        c.wins.ensures.wins,
+        c.is_open_four.ensures.open,
+        c.bit.ensures.bit,
+        c.bit-2.ensures.bit,
+        c.three_place.ensures.place,
+        c.three_place-2.ensures.place,
+        c.args.ahead.now.near_told,
+        c.args.behind.now.near_told,
+      ) refl;
 }

@@ -11,6 +11,8 @@ use Rattle.strategy_checker.proofs.others.asked_others.Goals as goal
 pub overflow_add-count : goal.overflow_add-count
 overflow_add-count g c =
     let counted = c.loop-q.invariant.counted in
-    let most = count_by-le-length (λ q. goes_on (outcome g.R.Rule.KIND c.args.position.now q) && not (is_apart c.args.replies.now c.args.w q)) (points_of c.args.position.now) in
+    let most = count_by-le-length
+    (λ q. goes_on (outcome g.R.Rule.KIND c.args.position.now q) && not (is_apart c.args.replies.now c.args.w q))
+    (points_of c.args.position.now) in
     let few = points_few c.args.position.now (subst IsBoard c.board.ensures.board c.points-q-items.ensures.board) in
     omega (arith, counted, most, few)

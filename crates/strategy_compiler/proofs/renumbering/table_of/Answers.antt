@@ -9,22 +9,26 @@ loop-number-init c = renumbers-none c.args.nodes.now c.args.order.now c.new-tabl
 pub renumbered-requires : goal.renumbered-requires
 renumbered-requires c = record {
   below =
-      names-places c.args.nodes.now c.args.order.now c.requires.table c.requires.order c.loop-number.number-index c.loop-number-test.true c.index-nodes-number.result c.index-nodes-number.is
+      names-places c.args.nodes.now c.args.order.now c.requires.table c.requires.order c.loop-number.number-index c.loop-number-test.true
+      c.index-nodes-number.result c.index-nodes-number.is
       (length c.args.places.now) c.requires.count;
 }
 
 pub add-requires-clause-node : goal.add-requires-clause-node
 add-requires-clause-node c =
-    node-next c.args.nodes.now c.args.order.now c.requires.table c.requires.order c.loop-number.number-index c.loop-number-test.true c.index-nodes-number.result c.index-nodes-number.is
+    node-next c.args.nodes.now c.args.order.now c.requires.table c.requires.order c.loop-number.number-index c.loop-number-test.true
+    c.index-nodes-number.result c.index-nodes-number.is
     c.args.places.now c.requires.places c.in_ok-node.node c.in_ok-node.ensures.node c.loop-number.table c.loop-number.invariant
 
 pub loop-number-preserved : goal.loop-number-preserved
 loop-number-preserved c =
-    renumbers-next c.args.nodes.now c.args.order.now c.requires.table c.requires.order c.loop-number.number-index c.loop-number-test.true c.index-nodes-number.result c.index-nodes-number.is
+    renumbers-next c.args.nodes.now c.args.order.now c.requires.table c.requires.order c.loop-number.number-index c.loop-number-test.true
+    c.index-nodes-number.result c.index-nodes-number.is
     c.args.places.now c.requires.places c.in_ok-node.node c.in_ok-node.ensures.node c.loop-number.table c.loop-number.invariant
     c.add.new.table c.in_ok-add.ensures.added
 
 pub returns : goal.returns
 returns c = record {
-  nodes = renumbers-all c.args.nodes.now c.args.order.now c.requires.table c.requires.order c.loop-number.table c.loop-number.number-index c.loop-number.auto.number-index-end c.loop-number-test.false c.loop-number.invariant;
+  nodes = renumbers-all c.args.nodes.now c.args.order.now c.requires.table c.requires.order c.loop-number.table c.loop-number.number-index
+      c.loop-number.auto.number-index-end c.loop-number-test.false c.loop-number.invariant;
 }

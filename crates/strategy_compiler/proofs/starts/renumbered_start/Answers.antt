@@ -6,7 +6,8 @@ use Rattle.strategy_compiler.proofs.starts.renumbered_start.Goals as goal
 
 pub renumbered_replies-requires : goal.renumbered_replies-requires
 renumbered_replies-requires c = record {
-  below = replies-below (record { replies = c.args.replies.now; rest = c.args.rest }) (length c.args.places.now) c.as_slice.result.now c.as_slice.ensures.items c.requires.below;
+  below = replies-below (record { replies = c.args.replies.now; rest = c.args.rest }) (length c.args.places.now) c.as_slice.result.now
+      c.as_slice.ensures.items c.requires.below;
 }
 
 pub new-requires-clause-rising : goal.new-requires-clause-rising

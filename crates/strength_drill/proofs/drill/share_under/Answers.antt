@@ -19,10 +19,14 @@ returns-in_ok-table-in-Ok-Win-clause-share g c =
     let u = c.try_table.new.draws.number in
     let t = c.in_ok-table-in-Ok-Win.table in
     let is : IsFourWin g.R.Rule.KIND DEPTH b c.four_search.new.compiler c.in-Ok-Win.win =
-    subst (λ (a : FourAnswer). OnWin a (IsFourWin g.R.Rule.KIND DEPTH b c.four_search.new.compiler)) c.in-Ok-Win.field-0-is c.in-Ok-Win.ensures.win in
+    subst (λ (a : FourAnswer). OnWin a (IsFourWin g.R.Rule.KIND DEPTH b c.four_search.new.compiler)) c.in-Ok-Win.field-0-is
+    c.in-Ok-Win.ensures.win in
     let table = c.in_ok-table-in-Ok-Win.ensures.trees (four_plan g.R.Rule.KIND c.in-Ok-Win.win.moves b) is.stands in
-    let tried = subst (λ (x : Grid). IfOk c.try_table.result (λ (d : Counts). PlaysGame g.R.Rule.KIND x t s d u ⊎ IsNotHeld g.R.Rule.KIND x t s d u)) c.four_search.ensures.same c.try_table.ensures.tried in
-    IfOk-weaker c.try_table.result (λ (d : Counts). PlaysGame g.R.Rule.KIND b t s d u ⊎ IsNotHeld g.R.Rule.KIND b t s d u) (λ (d : Counts). IsShare g.R.Rule.KIND n d u)
+    let tried = subst (λ (x : Grid). IfOk c.try_table.result
+    (λ (d : Counts). PlaysGame g.R.Rule.KIND x t s d u ⊎ IsNotHeld g.R.Rule.KIND x t s d u)) c.four_search.ensures.same
+    c.try_table.ensures.tried in
+    IfOk-weaker c.try_table.result (λ (d : Counts). PlaysGame g.R.Rule.KIND b t s d u ⊎ IsNotHeld g.R.Rule.KIND b t s d u)
+    (λ (d : Counts). IsShare g.R.Rule.KIND n d u)
     (λ d h. share-win g.R.Rule.KIND n d u b s c.in_ok-position.ensures.position c.in_ok-position.ensures.draws c.in-Ok-Win.win.moves t
     (λ above. let spent = c.in-Ok-Win.ensures.spent.1 above in let not = c.in-Ok-Win.field-0-is in absurd (cc)) is.least table h)
     tried
@@ -30,9 +34,11 @@ returns-in_ok-table-in-Ok-Win-clause-share g c =
 pub returns-in-Ok-None-clause-share : goal.returns-in-Ok-None-clause-share
 returns-in-Ok-None-clause-share g c =
     let facts = c.in-Ok-None.ensures.none.0 c.in-Ok-None.field-0-is in
-    share-none g.R.Rule.KIND c.args.draws.now.number _ c.drawn_position.new.draws.number c.in_ok-position.position c.drawn_position.new.draws.number c.in_ok-position.ensures.position c.in_ok-position.ensures.draws facts.0 facts.1 refl refl
+    share-none g.R.Rule.KIND c.args.draws.now.number _ c.drawn_position.new.draws.number c.in_ok-position.position
+    c.drawn_position.new.draws.number c.in_ok-position.ensures.position c.in_ok-position.ensures.draws facts.0 facts.1 refl refl
 
 pub returns-in-Ok-Spent-clause-share : goal.returns-in-Ok-Spent-clause-share
 returns-in-Ok-Spent-clause-share g c =
     let more = c.in-Ok-Spent.ensures.spent.0 c.in-Ok-Spent.field-0-is in
-    share-spent g.R.Rule.KIND c.args.draws.now.number _ c.drawn_position.new.draws.number c.in_ok-position.position c.drawn_position.new.draws.number c.in_ok-position.ensures.position c.in_ok-position.ensures.draws more refl refl
+    share-spent g.R.Rule.KIND c.args.draws.now.number _ c.drawn_position.new.draws.number c.in_ok-position.position
+    c.drawn_position.new.draws.number c.in_ok-position.ensures.position c.in_ok-position.ensures.draws more refl refl

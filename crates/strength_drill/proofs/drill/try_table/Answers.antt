@@ -7,20 +7,29 @@ use Rattle.strength_drill.proofs.DrillCounts.{last-below, held-as, holdable-as, 
 use Rattle.strength_drill.proofs.drill.try_table.Goals as goal
 
 pub add-requires-clause-below : goal.add-requires-clause-below
-add-requires-clause-below g c = last-below c.args.table c.new-held.result.table c.len.result c.new-held.ensures.table c.len.ensures.count c.requires.some
+add-requires-clause-below g c = last-below c.args.table c.new-held.result.table c.len.result c.new-held.ensures.table c.len.ensures.count
+    c.requires.some
 
 pub play_game-requires-clause-held : goal.play_game-requires-clause-held
 play_game-requires-clause-held g c =
     let held : c.add.new.self ≡ held_at g.R.Rule.KIND c.args.position c.args.table =
-    held-as g.R.Rule.KIND c.args.position c.in_ok-copy.field-0 c.args.table c.len.result c.add.new.self c.new-held.result c.in_ok-copy.ensures.copy c.len.ensures.count c.new-held.ensures.table c.new-held.ensures.no_roots c.in-Ok.ensures.table c.in-Ok.ensures.added in
+    held-as g.R.Rule.KIND c.args.position c.in_ok-copy.field-0 c.args.table c.len.result c.add.new.self c.new-held.result
+    c.in_ok-copy.ensures.copy c.len.ensures.count c.new-held.ensures.table c.new-held.ensures.no_roots c.in-Ok.ensures.table
+    c.in-Ok.ensures.added in
     (last c.args.table, ap (λ (h : HeldTable). h.roots) held)
 
 pub returns-in-Ok-clause-tried : goal.returns-in-Ok-clause-tried
 returns-in-Ok-clause-tried g c =
     let held : c.add.new.self ≡ held_at g.R.Rule.KIND c.args.position c.args.table =
-    held-as g.R.Rule.KIND c.args.position c.in_ok-copy.field-0 c.args.table c.len.result c.add.new.self c.new-held.result c.in_ok-copy.ensures.copy c.len.ensures.count c.new-held.ensures.table c.new-held.ensures.no_roots c.in-Ok.ensures.table c.in-Ok.ensures.added in
-    let can = holdable-as g.R.Rule.KIND c.args.position c.in_ok-copy.field-0 c.args.table c.new-held.result.table c.len.result c.in_ok-copy.ensures.copy c.len.ensures.count c.new-held.ensures.table (c.in-Ok.ensures.accepted, c.in-Ok.ensures.arrivals) in
-    inl (plays-as g.R.Rule.KIND c.args.position c.args.table c.args.draws.now.number c.with_game.result c.play_game.new.draws.number c.in_ok-play_game-in-Ok.field-0.moves c.in_ok-play_game-in-Ok.field-0.won c.add.new.self held can c.in_ok-play_game-in-Ok.ensures.played c.with_game.ensures.counts)
+    held-as g.R.Rule.KIND c.args.position c.in_ok-copy.field-0 c.args.table c.len.result c.add.new.self c.new-held.result
+    c.in_ok-copy.ensures.copy c.len.ensures.count c.new-held.ensures.table c.new-held.ensures.no_roots c.in-Ok.ensures.table
+    c.in-Ok.ensures.added in
+    let can = holdable-as g.R.Rule.KIND c.args.position c.in_ok-copy.field-0 c.args.table c.new-held.result.table c.len.result
+    c.in_ok-copy.ensures.copy c.len.ensures.count c.new-held.ensures.table (c.in-Ok.ensures.accepted, c.in-Ok.ensures.arrivals) in
+    inl (plays-as g.R.Rule.KIND c.args.position c.args.table c.args.draws.now.number c.with_game.result c.play_game.new.draws.number
+    c.in_ok-play_game-in-Ok.field-0.moves c.in_ok-play_game-in-Ok.field-0.won c.add.new.self held can
+    c.in_ok-play_game-in-Ok.ensures.played c.with_game.ensures.counts)
 
 pub returns-in-Ok-clause-within : goal.returns-in-Ok-clause-within
-returns-in-Ok-clause-within g c = subst (AreWithin 1) (sym c.with_game.ensures.counts) (win-within c.in_ok-play_game-in-Ok.field-0.moves c.in_ok-play_game-in-Ok.field-0.won c.in_ok-play_game-in-Ok.ensures.few)
+returns-in-Ok-clause-within g c = subst (AreWithin 1) (sym c.with_game.ensures.counts)
+    (win-within c.in_ok-play_game-in-Ok.field-0.moves c.in_ok-play_game-in-Ok.field-0.won c.in_ok-play_game-in-Ok.ensures.few)

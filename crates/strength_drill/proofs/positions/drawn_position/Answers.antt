@@ -11,13 +11,18 @@ loop-init g c = record {
 
 pub loop-preserved : goal.loop-preserved
 loop-preserved g c = record {
-  number = number-more c.args.draws.now.number c.loop.counter c.loop.draws.number c.draw.new.self.number c.loop.invariant.number c.draw.ensures.next;
-  position = board-more g.R.Rule.KIND c.args.draws.now.number c.loop.counter c.loop.draws.number c.draw.new.self.number c.loop.position c.play_if_going_on.new.position
-      c.draw.result c.middle_point-p.result c.loop.invariant.position c.loop.invariant.number c.draw.ensures.next c.draw.ensures.drawn c.middle_point-p.ensures.point c.play_if_going_on.ensures.played;
+  number = number-more c.args.draws.now.number c.loop.counter c.loop.draws.number c.draw.new.self.number c.loop.invariant.number
+      c.draw.ensures.next;
+  position = board-more g.R.Rule.KIND c.args.draws.now.number c.loop.counter c.loop.draws.number c.draw.new.self.number c.loop.position
+      c.play_if_going_on.new.position
+      c.draw.result c.middle_point-p.result c.loop.invariant.position c.loop.invariant.number c.draw.ensures.next c.draw.ensures.drawn
+      c.middle_point-p.ensures.point c.play_if_going_on.ensures.played;
 }
 
 pub returns-clause-wide : goal.returns-clause-wide
-returns-clause-wide g c = ap (λ (b : Grid). b.width) c.loop.invariant.position ∙ board-wide g.R.Rule.KIND c.args.draws.now.number c.loop.counter
+returns-clause-wide g c = ap (λ (b : Grid). b.width) c.loop.invariant.position
+    ∙ board-wide g.R.Rule.KIND c.args.draws.now.number c.loop.counter
 
 pub returns-clause-high : goal.returns-clause-high
-returns-clause-high g c = ap (λ (b : Grid). b.height) c.loop.invariant.position ∙ board-high g.R.Rule.KIND c.args.draws.now.number c.loop.counter
+returns-clause-high g c = ap (λ (b : Grid). b.height) c.loop.invariant.position
+    ∙ board-high g.R.Rule.KIND c.args.draws.now.number c.loop.counter

@@ -17,17 +17,24 @@ returns-then-not-is_empty-clause-refused c =
     let nodes = c.len-nodes.ensures.count in
     let entries = c.len-entries.ensures.count in
     subst (FirstBad IsBookText c.args.bytes.now) (omega (arith, lines, nodes, entries))
-    (book_too_many c.in-Ok.found.0 c.args.bytes.now c.in-Ok.found.1.now c.in-Ok.ensures.fits c.in-Ok.ensures.text (some_bytes c.in-Ok.found.1.now (sym c.is_empty.ensures ∙ c.if-not-is_empty.true)))
+    (book_too_many c.in-Ok.found.0 c.args.bytes.now c.in-Ok.found.1.now c.in-Ok.ensures.fits c.in-Ok.ensures.text
+    (some_bytes c.in-Ok.found.1.now (sym c.is_empty.ensures ∙ c.if-not-is_empty.true)))
 
 pub returns-in_err-check_entries-clause-refused : goal.returns-in_err-check_entries-clause-refused
 returns-in_err-check_entries-clause-refused c =
     let p = err_from_is_err_and c.from_residual.result c.from_residual.ensures.1 in
-    let text : IsTextOfBook c.in-Ok.found.0 c.args.bytes.now = whole_book c.in-Ok.found.0 c.args.bytes.now c.in-Ok.found.1.now c.in-Ok.ensures.fits c.in-Ok.ensures.text (no_bytes c.in-Ok.found.1.now (sym c.is_empty.ensures ∙ c.if-not-is_empty.false)) in
-    rw (p.1, p.2) (unsound_fault c.in-Ok.found.0 c.args.bytes.now text c.in_err-check_entries.field-0.0 (rw (sym c.as_slice.ensures.items) c.in_err-check_entries.ensures.unsound))
+    let text : IsTextOfBook c.in-Ok.found.0 c.args.bytes.now =
+    whole_book c.in-Ok.found.0 c.args.bytes.now c.in-Ok.found.1.now c.in-Ok.ensures.fits c.in-Ok.ensures.text
+    (no_bytes c.in-Ok.found.1.now (sym c.is_empty.ensures ∙ c.if-not-is_empty.false)) in
+    rw (p.1, p.2) (unsound_fault c.in-Ok.found.0 c.args.bytes.now text c.in_err-check_entries.field-0.0
+    (rw (sym c.as_slice.ensures.items) c.in_err-check_entries.ensures.unsound))
 
 pub returns-clause-found : goal.returns-clause-found
-returns-clause-found c = whole_book c.in-Ok.found.0 c.args.bytes.now c.in-Ok.found.1.now c.in-Ok.ensures.fits c.in-Ok.ensures.text (no_bytes c.in-Ok.found.1.now (sym c.is_empty.ensures ∙ c.if-not-is_empty.false))
+returns-clause-found c = whole_book c.in-Ok.found.0 c.args.bytes.now c.in-Ok.found.1.now c.in-Ok.ensures.fits c.in-Ok.ensures.text
+    (no_bytes c.in-Ok.found.1.now (sym c.is_empty.ensures ∙ c.if-not-is_empty.false))
 
 pub returns-clause-only : goal.returns-clause-only
 returns-clause-only c = λ other is.
-    one_book c.in-Ok.found.0 other c.args.bytes.now (whole_book c.in-Ok.found.0 c.args.bytes.now c.in-Ok.found.1.now c.in-Ok.ensures.fits c.in-Ok.ensures.text (no_bytes c.in-Ok.found.1.now (sym c.is_empty.ensures ∙ c.if-not-is_empty.false))) is
+    one_book c.in-Ok.found.0 other c.args.bytes.now
+    (whole_book c.in-Ok.found.0 c.args.bytes.now c.in-Ok.found.1.now c.in-Ok.ensures.fits c.in-Ok.ensures.text
+    (no_bytes c.in-Ok.found.1.now (sym c.is_empty.ensures ∙ c.if-not-is_empty.false))) is

@@ -7,4 +7,5 @@ returns-in_default-clause-refused c = (0, refl, no_entries_line c.args.below c.a
 
 pub returns-in-Err-clause-refused : goal.returns-in-Err-clause-refused
 returns-in-Err-clause-refused c =
-    rw c.after.ensures.error (end_fault c.args.below c.in-Some.count c.in-Some.ensures.number.0 c.args.bytes.now c.in-Some.rest.now c.in-Some.ensures.number.1 c.in-Err.error c.in-Err.ensures.refused)
+    rw c.after.ensures.error (end_fault c.args.below c.in-Some.count c.in-Some.ensures.number.0 c.args.bytes.now c.in-Some.rest.now
+    c.in-Some.ensures.number.1 c.in-Err.error c.in-Err.ensures.refused)

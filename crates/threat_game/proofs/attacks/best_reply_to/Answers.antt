@@ -4,12 +4,15 @@ use Rattle.threat_game.proofs.attacks.best_reply_to.Goals as goal
 
 pub undo-requires-clause-stone : goal.undo-requires-clause-stone
 undo-requires-clause-stone g c =
-    stone_back g.R.Rule.KIND (g.V.Seen.position c.args.view.now) _ c.args.p c.play.ensures.lawful c.requires.on (c.best_reply-best.ensures.same ∙ c.play.ensures.played)
+    stone_back g.R.Rule.KIND (g.V.Seen.position c.args.view.now) _ c.args.p c.play.ensures.lawful c.requires.on
+    (c.best_reply-best.ensures.same ∙ c.play.ensures.played)
 
 pub undo-requires-clause-unwon : goal.undo-requires-clause-unwon
 undo-requires-clause-unwon g c =
-    unwon_back g.R.Rule.KIND (g.V.Seen.position c.args.view.now) _ c.args.p c.play.ensures.lawful c.requires.on (c.best_reply-best.ensures.same ∙ c.play.ensures.played)
+    unwon_back g.R.Rule.KIND (g.V.Seen.position c.args.view.now) _ c.args.p c.play.ensures.lawful c.requires.on
+    (c.best_reply-best.ensures.same ∙ c.play.ensures.played)
 
 pub returns-clause-same : goal.returns-clause-same
 returns-clause-same g c =
-    c.undo.ensures.undone ∙ lift_back g.R.Rule.KIND (g.V.Seen.position c.args.view.now) _ c.args.p c.play.ensures.lawful c.requires.on (c.best_reply-best.ensures.same ∙ c.play.ensures.played)
+    c.undo.ensures.undone ∙ lift_back g.R.Rule.KIND (g.V.Seen.position c.args.view.now) _ c.args.p c.play.ensures.lawful c.requires.on
+    (c.best_reply-best.ensures.same ∙ c.play.ensures.played)

@@ -9,4 +9,5 @@ pub find_double-requires-clause-safe : goal.find_double-requires-clause-safe
 find_double-requires-clause-safe g c =
     let b : Grid = g.V.Seen.position c.args.view.now in
     has_five-none g.R.Rule.KIND b (other (mover b))
-    (ap (λ (s : Side). in_short (five_points g.R.Rule.KIND b s)) (sym (c.other.ensures.other ∙ ap other c.side-attacker.ensures.side)) ∙ sym c.in-None.ensures.fives)
+    (ap (λ (s : Side). in_short (five_points g.R.Rule.KIND b s)) (sym (c.other.ensures.other ∙ ap other c.side-attacker.ensures.side))
+    ∙ sym c.in-None.ensures.fives)

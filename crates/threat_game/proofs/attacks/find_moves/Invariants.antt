@@ -10,5 +10,7 @@ abbrev pub invariant-loop-p : goal.invariant-loop-p
 invariant-loop-p g l =
     (g.V.Seen.position l.view ≡ g.V.Seen.position l.fn.view)
     × (l.board ≡ l.fn.board)
-    × (l.moves ++ filter (is_tried g.R.Rule.KIND (g.V.Seen.position l.fn.view)) l.p-iterator ≡ tried_moves g.R.Rule.KIND (g.V.Seen.position l.fn.view))
-    × (list_all (is_settled_move g.R.Rule.KIND (g.V.Seen.position l.fn.view)) l.p-iterator ≡ list_all (is_settled_move g.R.Rule.KIND (g.V.Seen.position l.fn.view)) (points_of (g.V.Seen.position l.fn.view)))
+    × (l.moves ++ filter (is_tried g.R.Rule.KIND (g.V.Seen.position l.fn.view)) l.p-iterator ≡ tried_moves g.R.Rule.KIND
+    (g.V.Seen.position l.fn.view))
+    × (list_all (is_settled_move g.R.Rule.KIND (g.V.Seen.position l.fn.view)) l.p-iterator ≡ list_all
+    (is_settled_move g.R.Rule.KIND (g.V.Seen.position l.fn.view)) (points_of (g.V.Seen.position l.fn.view)))

@@ -6,4 +6,5 @@ use Rattle.threat_game.proofs.attacks.has_double.Given as goal
 
 -- the board is as before; some point left is a double point exactly where some point of the board is
 abbrev pub invariant-loop-q : goal.invariant-loop-q
-invariant-loop-q g l = (l.board ≡ l.fn.board) × (list_any (is_double_point g.R.Rule.KIND l.fn.board l.side) l.q-iterator ≡ has_double_point g.R.Rule.KIND l.fn.board l.side)
+invariant-loop-q g l = (l.board ≡ l.fn.board)
+    × (list_any (is_double_point g.R.Rule.KIND l.fn.board l.side) l.q-iterator ≡ has_double_point g.R.Rule.KIND l.fn.board l.side)

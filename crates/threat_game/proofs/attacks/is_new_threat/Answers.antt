@@ -14,8 +14,10 @@ leaves_threat-requires-clause-empty g c =
 
 pub returns-then-not-leaves_threat-clause-threat : goal.returns-then-not-leaves_threat-clause-threat
 returns-then-not-leaves_threat-clause-threat g c =
-    no_threat-no_move g.R.Rule.KIND (g.V.Seen.position c.args.view.now) c.args.p (sym c.leaves_threat.ensures.threat ∙ c.if-not-leaves_threat.true)
+    no_threat-no_move g.R.Rule.KIND (g.V.Seen.position c.args.view.now) c.args.p
+    (sym c.leaves_threat.ensures.threat ∙ c.if-not-leaves_threat.true)
 
 pub returns-clause-threat : goal.returns-clause-threat
 returns-clause-threat g c =
-    c.goes_on.ensures.on ∙ threat-move g.R.Rule.KIND (g.V.Seen.position c.args.view.now) c.args.p (sym c.leaves_threat.ensures.threat ∙ c.if-not-leaves_threat.false)
+    c.goes_on.ensures.on ∙ threat-move g.R.Rule.KIND (g.V.Seen.position c.args.view.now) c.args.p
+    (sym c.leaves_threat.ensures.threat ∙ c.if-not-leaves_threat.false)

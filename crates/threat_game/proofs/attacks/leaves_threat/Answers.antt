@@ -11,7 +11,8 @@ pub returns-then-is_some_point-clause-threat : goal.returns-then-is_some_point-c
 returns-then-is_some_point-clause-threat g c =
     let b : Grid = g.V.Seen.position c.args.view.now in
     threat-by_five g.R.Rule.KIND (after b c.args.p) (mover b)
-    (sym (some-five g.R.Rule.KIND (after b c.args.p) (mover b)) ∙ ap is_some_point (sym c.fives_made.ensures.made) ∙ sym c.is_some_point.ensures.some ∙ c.if-is_some_point.true)
+    (sym (some-five g.R.Rule.KIND (after b c.args.p) (mover b)) ∙ ap is_some_point (sym c.fives_made.ensures.made)
+    ∙ sym c.is_some_point.ensures.some ∙ c.if-is_some_point.true)
 
 pub leaves_double-requires-clause-empty : goal.leaves_double-requires-clause-empty
 leaves_double-requires-clause-empty g c = ap (λ (w : Grid). is_empty w c.args.p) c.requires.copy ∙ c.requires.empty
@@ -37,7 +38,8 @@ pub returns-clause-threat : goal.returns-clause-threat
 returns-clause-threat g c =
     let b : Grid = g.V.Seen.position c.args.view.now in
     let none : has_five g.R.Rule.KIND (after b c.args.p) (mover b) ≡ false =
-    sym (some-five g.R.Rule.KIND (after b c.args.p) (mover b)) ∙ ap is_some_point (sym c.fives_made.ensures.made) ∙ sym c.is_some_point.ensures.some ∙ c.if-is_some_point.false in
+    sym (some-five g.R.Rule.KIND (after b c.args.p) (mover b)) ∙ ap is_some_point (sym c.fives_made.ensures.made)
+    ∙ sym c.is_some_point.ensures.some ∙ c.if-is_some_point.false in
     c.leaves_double.ensures.double
     ∙ ap (λ (w : Grid). has_double_point g.R.Rule.KIND (put w c.side-side.result c.args.p) c.side-side.result) c.requires.copy
     ∙ ap (λ (t : Side). has_double_point g.R.Rule.KIND (put b t c.args.p) t) c.side-side.ensures.side

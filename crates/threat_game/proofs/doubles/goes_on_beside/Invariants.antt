@@ -8,4 +8,5 @@ use Rattle.threat_game.proofs.doubles.goes_on_beside.Given as goal
 abbrev pub invariant-loop-q : goal.invariant-loop-q
 invariant-loop-q g l =
     (g.V.Seen.position l.view ≡ g.V.Seen.position l.fn.view)
-    × (list_any (λ q. goes_on (outcome g.R.Rule.KIND (g.V.Seen.position l.fn.view) q) && not (is_same_point q l.first)) l.q-iterator ≡ has_reply_beside g.R.Rule.KIND (g.V.Seen.position l.fn.view) l.first)
+    × (list_any (λ q. goes_on (outcome g.R.Rule.KIND (g.V.Seen.position l.fn.view) q) && not (is_same_point q l.first)) l.q-iterator
+    ≡ has_reply_beside g.R.Rule.KIND (g.V.Seen.position l.fn.view) l.first)

@@ -14,28 +14,37 @@ fails-found-requires-clause-none g c =
 
 pub fails-found-requires-clause-copy : goal.fails-found-requires-clause-copy
 fails-found-requires-clause-copy g c =
-    copy-played g.R.Rule.KIND c.args.q c.requires.copy c.requires.on c.side-defender.result c.put.ensures.put c.side-defender.ensures.side c.play.ensures.played
+    copy-played g.R.Rule.KIND c.args.q c.requires.copy c.requires.on c.side-defender.result c.put.ensures.put c.side-defender.ensures.side
+    c.play.ensures.played
 
 pub lift-requires : goal.lift-requires
 lift-requires g c =
-    record { stone = copy-stone g.R.Rule.KIND c.args.q c.requires.copy c.requires.on c.side-defender.result c.put.ensures.put c.put.ensures.board c.fails-found.ensures.same_board }
+    record {
+      stone = copy-stone g.R.Rule.KIND c.args.q c.requires.copy c.requires.on c.side-defender.result c.put.ensures.put
+          c.put.ensures.board c.fails-found.ensures.same_board;
+    }
 
 pub undo-requires-clause-stone : goal.undo-requires-clause-stone
 undo-requires-clause-stone g c =
-    stone_back g.R.Rule.KIND (g.V.Seen.position c.args.view.now) _ c.args.q c.play.ensures.lawful c.requires.on (c.fails-found.ensures.same ∙ c.play.ensures.played)
+    stone_back g.R.Rule.KIND (g.V.Seen.position c.args.view.now) _ c.args.q c.play.ensures.lawful c.requires.on
+    (c.fails-found.ensures.same ∙ c.play.ensures.played)
 
 pub undo-requires-clause-unwon : goal.undo-requires-clause-unwon
 undo-requires-clause-unwon g c =
-    unwon_back g.R.Rule.KIND (g.V.Seen.position c.args.view.now) _ c.args.q c.play.ensures.lawful c.requires.on (c.fails-found.ensures.same ∙ c.play.ensures.played)
+    unwon_back g.R.Rule.KIND (g.V.Seen.position c.args.view.now) _ c.args.q c.play.ensures.lawful c.requires.on
+    (c.fails-found.ensures.same ∙ c.play.ensures.played)
 
 pub returns-clause-same : goal.returns-clause-same
 returns-clause-same g c =
-    c.undo.ensures.undone ∙ lift_back g.R.Rule.KIND (g.V.Seen.position c.args.view.now) _ c.args.q c.play.ensures.lawful c.requires.on (c.fails-found.ensures.same ∙ c.play.ensures.played)
+    c.undo.ensures.undone ∙ lift_back g.R.Rule.KIND (g.V.Seen.position c.args.view.now) _ c.args.q c.play.ensures.lawful c.requires.on
+    (c.fails-found.ensures.same ∙ c.play.ensures.played)
 
 pub returns-clause-same_board : goal.returns-clause-same_board
 returns-clause-same_board g c =
-    copy-back g.R.Rule.KIND c.args.q c.requires.copy c.requires.on c.side-defender.result c.put.ensures.put c.fails-found.ensures.same_board c.lift.ensures.lift
+    copy-back g.R.Rule.KIND c.args.q c.requires.copy c.requires.on c.side-defender.result c.put.ensures.put c.fails-found.ensures.same_board
+    c.lift.ensures.lift
 
 pub returns-clause-no_win : goal.returns-clause-no_win
 returns-clause-no_win g c =
-    subst (λ (b : Grid). IfOk c.fails-found.result (λ found. IsTrue found → WinsByThreats g.R.Rule.KIND 2 b → ⊥)) c.play.ensures.played c.fails-found.ensures.no_win
+    subst (λ (b : Grid). IfOk c.fails-found.result (λ found. IsTrue found → WinsByThreats g.R.Rule.KIND 2 b → ⊥)) c.play.ensures.played
+    c.fails-found.ensures.no_win

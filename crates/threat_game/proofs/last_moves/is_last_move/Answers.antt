@@ -13,16 +13,21 @@ returns-then-not-goes_on-clause-last g c =
 pub fouls_after-requires : goal.fouls_after-requires
 fouls_after-requires g c =
     let b : Grid = g.V.Seen.position c.args.view.now in
-    record { on = ap (λ (w : Grid). outcome g.R.Rule.KIND w c.args.p) c.goes_on.ensures.same ∙ goes_on-is (outcome g.R.Rule.KIND b c.args.p) (sym c.goes_on.ensures.on ∙ c.if-not-goes_on.false) }
+    record {
+      on = ap (λ (w : Grid). outcome g.R.Rule.KIND w c.args.p) c.goes_on.ensures.same
+          ∙ goes_on-is (outcome g.R.Rule.KIND b c.args.p) (sym c.goes_on.ensures.on ∙ c.if-not-goes_on.false);
+    }
 
 pub returns-then-not-fouls_after-clause-last : goal.returns-then-not-fouls_after-clause-last
 returns-then-not-fouls_after-clause-last g c =
     unfouled-last g.R.Rule.KIND (g.V.Seen.position c.args.view.now) c.args.p
-    (ap (λ (w : Grid). all_foul g.R.Rule.KIND (after w c.args.p)) (sym c.goes_on.ensures.same) ∙ sym c.fouls_after.ensures.fouls ∙ c.if-not-fouls_after.true)
+    (ap (λ (w : Grid). all_foul g.R.Rule.KIND (after w c.args.p)) (sym c.goes_on.ensures.same) ∙ sym c.fouls_after.ensures.fouls
+    ∙ c.if-not-fouls_after.true)
 
 pub returns-clause-last : goal.returns-clause-last
 returns-clause-last g c =
     c.is_threat_move.ensures.threat
     ∙ ap (λ (w : Grid). is_threat_move g.R.Rule.KIND w c.args.p) (c.fouls_after.ensures.same ∙ c.goes_on.ensures.same)
     ∙ fouled-last g.R.Rule.KIND (g.V.Seen.position c.args.view.now) c.args.p
-    (ap (λ (w : Grid). all_foul g.R.Rule.KIND (after w c.args.p)) (sym c.goes_on.ensures.same) ∙ sym c.fouls_after.ensures.fouls ∙ c.if-not-fouls_after.false)
+    (ap (λ (w : Grid). all_foul g.R.Rule.KIND (after w c.args.p)) (sym c.goes_on.ensures.same) ∙ sym c.fouls_after.ensures.fouls
+    ∙ c.if-not-fouls_after.false)

@@ -9,7 +9,8 @@ use Rattle.threat_game.proofs.last_moves.last_move.Goals as goal
 pub returns-then-not-has_fouls-clause-no_win : goal.returns-then-not-has_fouls-clause-no_win
 returns-then-not-has_fouls-clause-no_win g c =
     no_fouls-last g.R.Rule.KIND (g.V.Seen.position c.args.view.now) c.side.ensures.lawful c.requires.none
-    (ap (has_fouls g.R.Rule.KIND) (sym (c.other-defender.ensures.other ∙ ap other c.side.ensures.side)) ∙ sym c.has_fouls.ensures.fouls ∙ c.if-not-has_fouls.true)
+    (ap (has_fouls g.R.Rule.KIND) (sym (c.other-defender.ensures.other ∙ ap other c.side.ensures.side)) ∙ sym c.has_fouls.ensures.fouls
+    ∙ c.if-not-has_fouls.true)
 
 pub returns-clause-no_win : goal.returns-clause-no_win
 returns-clause-no_win g c =

@@ -9,4 +9,5 @@ abbrev pub invariant-loop-p : goal.invariant-loop-p
 invariant-loop-p g l =
     (g.V.Seen.position l.view ≡ g.V.Seen.position l.fn.view)
     × (l.board ≡ l.fn.board)
-    × (list_any (is_last_move g.R.Rule.KIND (g.V.Seen.position l.fn.view)) l.p-iterator ≡ list_any (is_last_move g.R.Rule.KIND (g.V.Seen.position l.fn.view)) (points_of (g.V.Seen.position l.fn.view)))
+    × (list_any (is_last_move g.R.Rule.KIND (g.V.Seen.position l.fn.view)) l.p-iterator ≡ list_any
+    (is_last_move g.R.Rule.KIND (g.V.Seen.position l.fn.view)) (points_of (g.V.Seen.position l.fn.view)))

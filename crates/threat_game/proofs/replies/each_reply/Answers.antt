@@ -12,8 +12,10 @@ loop-q-preserved g c =
     let next : c.loop-q.q-iterator ≡ c.in-Some.q ∷ c.next.new.self = first_of (search rules, grind (arith, common_steps)) in (
       c.judge.ensures.same ∙ c.loop-q.invariant.0,
       c.judge.ensures.same_board ∙ c.loop-q.invariant.1,
-      step-more g.R.Rule.KIND c.args.moves b (g.V.Seen.position c.loop-q.view) c.loop-q.invariant.0 c.loop-q.all.items c.in-Some.q c.next.new.self c.loop-q.q-iterator next c.loop-q.invariant.2
-          c.in-Known.judged (subst (IsJudgement g.R.Rule.KIND c.args.moves (g.V.Seen.position c.loop-q.view) c.in-Some.q) c.in-Known.is c.in_ok-judge.ensures.judgement) c.push.new.self.items c.in_ok-push-in-Known.ensures.items,
+      step-more g.R.Rule.KIND c.args.moves b (g.V.Seen.position c.loop-q.view) c.loop-q.invariant.0 c.loop-q.all.items c.in-Some.q
+          c.next.new.self c.loop-q.q-iterator next c.loop-q.invariant.2
+          c.in-Known.judged (subst (IsJudgement g.R.Rule.KIND c.args.moves (g.V.Seen.position c.loop-q.view) c.in-Some.q) c.in-Known.is
+          c.in_ok-judge.ensures.judgement) c.push.new.self.items c.in_ok-push-in-Known.ensures.items,
     )
 
 pub returns-clause-judged : goal.returns-clause-judged
@@ -27,4 +29,5 @@ pub judge-requires-clause-lawful : goal.judge-requires-clause-lawful
 judge-requires-clause-lawful g c = subst (λ (b : Grid). IsPosition g.R.Rule.KIND b) (sym c.loop-q.invariant.0) c.requires.lawful
 
 pub judge-requires-clause-each : goal.judge-requires-clause-each
-judge-requires-clause-each g c = λ h. subst (λ (b : Grid). EachGoesOn g.R.Rule.KIND b) (sym c.loop-q.invariant.0) (c.each_goes_on-free.ensures.each h)
+judge-requires-clause-each g c = λ h. subst (λ (b : Grid). EachGoesOn g.R.Rule.KIND b) (sym c.loop-q.invariant.0)
+    (c.each_goes_on-free.ensures.each h)

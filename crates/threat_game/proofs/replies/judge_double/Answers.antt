@@ -23,20 +23,25 @@ still_double-found-requires-clause-safe g c =
 pub still_double-found-requires-clause-doubles : goal.still_double-found-requires-clause-doubles
 still_double-found-requires-clause-doubles g c =
     let b : Grid = g.V.Seen.position c.args.view.now in
-    subst (λ (w : Grid). All (λ d. IsBeside d c.args.q → LeavesBoth g.R.Rule.KIND w (mover w) d) c.args.doubles.now) (sym c.play.ensures.played)
+    subst (λ (w : Grid). All (λ d. IsBeside d c.args.q → LeavesBoth g.R.Rule.KIND w (mover w) d) c.args.doubles.now)
+    (sym c.play.ensures.played)
     (all-kept g.R.Rule.KIND b c.args.q c.play.ensures.lawful c.requires.on c.args.doubles.now c.requires.doubles)
 
 pub undo-requires-clause-stone : goal.undo-requires-clause-stone
 undo-requires-clause-stone g c =
-    stone_back g.R.Rule.KIND (g.V.Seen.position c.args.view.now) _ c.args.q c.play.ensures.lawful c.requires.on (c.still_double-found.ensures.same ∙ c.play.ensures.played)
+    stone_back g.R.Rule.KIND (g.V.Seen.position c.args.view.now) _ c.args.q c.play.ensures.lawful c.requires.on
+    (c.still_double-found.ensures.same ∙ c.play.ensures.played)
 
 pub undo-requires-clause-unwon : goal.undo-requires-clause-unwon
 undo-requires-clause-unwon g c =
-    unwon_back g.R.Rule.KIND (g.V.Seen.position c.args.view.now) _ c.args.q c.play.ensures.lawful c.requires.on (c.still_double-found.ensures.same ∙ c.play.ensures.played)
+    unwon_back g.R.Rule.KIND (g.V.Seen.position c.args.view.now) _ c.args.q c.play.ensures.lawful c.requires.on
+    (c.still_double-found.ensures.same ∙ c.play.ensures.played)
 
 pub returns-in-None-clause-judged : goal.returns-in-None-clause-judged
-returns-in-None-clause-judged g c = subst (λ (b : Grid). IsJudged g.R.Rule.KIND b c.still_double-found.result) c.play.ensures.played c.still_double-found.ensures.judged
+returns-in-None-clause-judged g c = subst (λ (b : Grid). IsJudged g.R.Rule.KIND b c.still_double-found.result) c.play.ensures.played
+    c.still_double-found.ensures.judged
 
 pub returns-in-None-clause-same : goal.returns-in-None-clause-same
 returns-in-None-clause-same g c =
-    c.undo.ensures.undone ∙ lift_back g.R.Rule.KIND (g.V.Seen.position c.args.view.now) _ c.args.q c.play.ensures.lawful c.requires.on (c.still_double-found.ensures.same ∙ c.play.ensures.played)
+    c.undo.ensures.undone ∙ lift_back g.R.Rule.KIND (g.V.Seen.position c.args.view.now) _ c.args.q c.play.ensures.lawful c.requires.on
+    (c.still_double-found.ensures.same ∙ c.play.ensures.played)

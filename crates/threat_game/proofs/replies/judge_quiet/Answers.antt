@@ -7,7 +7,8 @@ use Rattle.threat_game.proofs.replies.judge_quiet.Goals as goal
 pub returns-in-Some-clause-judgement : goal.returns-in-Some-clause-judgement
 returns-in-Some-clause-judgement g c =
     let b : Grid = g.V.Seen.position c.args.view.now in
-    child-is g.R.Rule.KIND c.args.moves b c.args.q c.requires.on (after b c.args.q) (Last c.in-Some.p) 1 refl c.in-Some.ensures.last (omega arith) c.requires.some_moves
+    child-is g.R.Rule.KIND c.args.moves b c.args.q c.requires.on (after b c.args.q) (Last c.in-Some.p) 1 refl c.in-Some.ensures.last
+    (omega arith) c.requires.some_moves
 
 pub returns-in-None-clause-judgement : goal.returns-in-None-clause-judgement
 returns-in-None-clause-judgement g c =
@@ -17,5 +18,6 @@ returns-in-None-clause-judgement g c =
 pub returns-then-branch-clause-judgement : goal.returns-then-branch-clause-judgement
 returns-then-branch-clause-judgement g c =
     let b : Grid = g.V.Seen.position c.args.view.now in
-    escape-is g.R.Rule.KIND c.args.moves b c.args.q c.requires.on (after (g.V.Seen.position c.judge_double-judged.new.view) c.args.q) 2 (omega arith)
+    escape-is g.R.Rule.KIND c.args.moves b c.args.q c.requires.on (after (g.V.Seen.position c.judge_double-judged.new.view) c.args.q) 2
+    (omega arith)
     (ap (λ (w : Grid). after w c.args.q) c.judge_double-judged.ensures.same) (c.in_ok-fails_after.ensures.no_win c.if-branch.true)

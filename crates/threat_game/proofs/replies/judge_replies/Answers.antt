@@ -10,7 +10,10 @@ use Rattle.threat_game.proofs.replies.judge_replies.Goals as goal
 
 pub doubles_for-requires : goal.doubles_for-requires
 doubles_for-requires g c =
-    record { fives = c.len.ensures.length ∙ ap length c.in_ok-fives.ensures.fives ∙ ap (λ (b : Grid). length (five_points g.R.Rule.KIND b c.other-attacker.result)) (sym c.requires.copy) }
+    record {
+      fives = c.len.ensures.length ∙ ap length c.in_ok-fives.ensures.fives
+          ∙ ap (λ (b : Grid). length (five_points g.R.Rule.KIND b c.other-attacker.result)) (sym c.requires.copy);
+    }
 
 pub each_reply-requires-clause-fives : goal.each_reply-requires-clause-fives
 each_reply-requires-clause-fives g c =
@@ -23,19 +26,24 @@ each_reply-requires-clause-doubles g c =
     let same : c.other-attacker.result ≡ other (mover b) = c.other-attacker.ensures.other ∙ ap other c.side.ensures.side in
     subst (λ (ds : List Double). All (LeavesBoth g.R.Rule.KIND b (other (mover b))) ds) (sym c.as_slice.ensures.value)
     (subst (λ (s : Side). All (LeavesBoth g.R.Rule.KIND b s) c.in_ok-doubles.doubles.items) same
-    (subst (λ (w : Grid). All (LeavesBoth g.R.Rule.KIND w c.other-attacker.result) c.in_ok-doubles.doubles.items) c.requires.copy c.in_ok-doubles.ensures.each))
+    (subst (λ (w : Grid). All (LeavesBoth g.R.Rule.KIND w c.other-attacker.result) c.in_ok-doubles.doubles.items) c.requires.copy
+    c.in_ok-doubles.ensures.each))
 
 pub children_of-requires-clause-short : goal.children_of-requires-clause-short
 children_of-requires-clause-short g c =
     let b : Grid = g.V.Seen.position c.args.view.now in
-    let are : AreJudged g.R.Rule.KIND c.args.moves b c.in-Some.judged.items = subst (λ o. IfSome o (λ all. AreJudged g.R.Rule.KIND c.args.moves b all.items)) c.in-Some.is c.in_ok-each_reply.ensures.judged in
+    let are : AreJudged g.R.Rule.KIND c.args.moves b c.in-Some.judged.items =
+    subst (λ o. IfSome o (λ all. AreJudged g.R.Rule.KIND c.args.moves b all.items)) c.in-Some.is c.in_ok-each_reply.ensures.judged in
     let short = judged-short g.R.Rule.KIND c.args.moves b c.side.ensures.lawful.board c.in-Some.judged.items are in
     omega (arith, short, ap length c.as_slice-in-Some.ensures.value)
 
 pub returns-clause-replies : goal.returns-clause-replies
 returns-clause-replies g c =
     let b : Grid = g.V.Seen.position c.args.view.now in
-    let are : AreJudged g.R.Rule.KIND c.args.moves b c.in-Some.judged.items = subst (λ o. IfSome o (λ all. AreJudged g.R.Rule.KIND c.args.moves b all.items)) c.in-Some.is c.in_ok-each_reply.ensures.judged in
-    are-children g.R.Rule.KIND c.args.moves b c.side.ensures.lawful c.requires.reply c.in-Some.judged.items are c.in_ok-children_of-in-Some.field-0
+    let are : AreJudged g.R.Rule.KIND c.args.moves b c.in-Some.judged.items =
+    subst (λ o. IfSome o (λ all. AreJudged g.R.Rule.KIND c.args.moves b all.items)) c.in-Some.is c.in_ok-each_reply.ensures.judged in
+    are-children g.R.Rule.KIND c.args.moves b c.side.ensures.lawful c.requires.reply c.in-Some.judged.items are
+    c.in_ok-children_of-in-Some.field-0
     (c.in_ok-children_of-in-Some.ensures.all ∙ ap kept_children c.as_slice-in-Some.ensures.value)
-    (c.in_ok-children_of-in-Some.ensures.count ∙ ap (λ (xs : List Child). sum_by (λ child. counted_for child.judged) (kept_children xs)) c.as_slice-in-Some.ensures.value)
+    (c.in_ok-children_of-in-Some.ensures.count ∙ ap (λ (xs : List Child). sum_by (λ child. counted_for child.judged) (kept_children xs))
+    c.as_slice-in-Some.ensures.value)

@@ -11,38 +11,47 @@ use Rattle.threat_game.proofs.replies.settle_child.Goals as goal
 
 pub undo-requires-clause-stone : goal.undo-requires-clause-stone
 undo-requires-clause-stone g c =
-    stone_back g.R.Rule.KIND (g.V.Seen.position c.args.view.now) _ c.args.child.at c.play.ensures.lawful c.requires.on (c.compile_double-found.ensures.same ∙ c.play.ensures.played)
+    stone_back g.R.Rule.KIND (g.V.Seen.position c.args.view.now) _ c.args.child.at c.play.ensures.lawful c.requires.on
+    (c.compile_double-found.ensures.same ∙ c.play.ensures.played)
 
 pub undo-requires-clause-unwon : goal.undo-requires-clause-unwon
 undo-requires-clause-unwon g c =
-    unwon_back g.R.Rule.KIND (g.V.Seen.position c.args.view.now) _ c.args.child.at c.play.ensures.lawful c.requires.on (c.compile_double-found.ensures.same ∙ c.play.ensures.played)
+    unwon_back g.R.Rule.KIND (g.V.Seen.position c.args.view.now) _ c.args.child.at c.play.ensures.lawful c.requires.on
+    (c.compile_double-found.ensures.same ∙ c.play.ensures.played)
 
 pub returns-in_err-found-in-Double-clause-same : goal.returns-in_err-found-in-Double-clause-same
 returns-in_err-found-in-Double-clause-same g c =
-    c.undo.ensures.undone ∙ lift_back g.R.Rule.KIND (g.V.Seen.position c.args.view.now) _ c.args.child.at c.play.ensures.lawful c.requires.on (c.compile_double-found.ensures.same ∙ c.play.ensures.played)
+    c.undo.ensures.undone ∙ lift_back g.R.Rule.KIND (g.V.Seen.position c.args.view.now) _ c.args.child.at c.play.ensures.lawful
+    c.requires.on (c.compile_double-found.ensures.same ∙ c.play.ensures.played)
 
 pub returns-in_ok-found-in-Double-clause-same : goal.returns-in_ok-found-in-Double-clause-same
 returns-in_ok-found-in-Double-clause-same g c =
-    c.undo.ensures.undone ∙ lift_back g.R.Rule.KIND (g.V.Seen.position c.args.view.now) _ c.args.child.at c.play.ensures.lawful c.requires.on (c.compile_double-found.ensures.same ∙ c.play.ensures.played)
+    c.undo.ensures.undone ∙ lift_back g.R.Rule.KIND (g.V.Seen.position c.args.view.now) _ c.args.child.at c.play.ensures.lawful
+    c.requires.on (c.compile_double-found.ensures.same ∙ c.play.ensures.played)
 
 pub returns-in_ok-compile_five-in-Five-clause-win : goal.returns-in_ok-compile_five-in-Five-clause-win
 returns-in_ok-compile_five-in-Five-clause-win g c =
-    five-settled g.R.Rule.KIND (g.V.Seen.position c.args.view.now) c.args.child.at c.requires.on c.args.child.judged c.requires.judged c.in-Five.five c.in-Five.is c.side.ensures.lawful
+    five-settled g.R.Rule.KIND (g.V.Seen.position c.args.view.now) c.args.child.at c.requires.on c.args.child.judged c.requires.judged
+    c.in-Five.five c.in-Five.is c.side.ensures.lawful
     c.compile_five.new.compiler c.in_ok-compile_five-in-Five.field-0 c.in_ok-compile_five-in-Five.ensures.win
 
 pub returns-in_ok-compile_last-in-Last-clause-win : goal.returns-in_ok-compile_last-in-Last-clause-win
 returns-in_ok-compile_last-in-Last-clause-win g c =
-    last-settled g.R.Rule.KIND (g.V.Seen.position c.args.view.now) c.args.child.at c.requires.on c.args.child.judged c.requires.judged c.in-Last.attack c.in-Last.is c.side.ensures.lawful
+    last-settled g.R.Rule.KIND (g.V.Seen.position c.args.view.now) c.args.child.at c.requires.on c.args.child.judged c.requires.judged
+    c.in-Last.attack c.in-Last.is c.side.ensures.lawful
     c.compile_last.new.compiler c.in_ok-compile_last-in-Last.field-0 c.in_ok-compile_last-in-Last.ensures.win
 
 pub returns-in_ok-found-in-Double-clause-win : goal.returns-in_ok-found-in-Double-clause-win
 returns-in_ok-found-in-Double-clause-win g c =
-    double-settled g.R.Rule.KIND (g.V.Seen.position c.args.view.now) c.args.child.at c.requires.on c.args.child.judged c.requires.judged c.in-Double.double c.in-Double.nodes c.in-Double.is
-    (g.V.Seen.position c.play.new.self) c.play.ensures.played c.compile_double-found.new.compiler c.in_ok-found-in-Double.field-0 c.in_ok-found-in-Double.ensures.win
+    double-settled g.R.Rule.KIND (g.V.Seen.position c.args.view.now) c.args.child.at c.requires.on c.args.child.judged c.requires.judged
+    c.in-Double.double c.in-Double.nodes c.in-Double.is
+    (g.V.Seen.position c.play.new.self) c.play.ensures.played c.compile_double-found.new.compiler c.in_ok-found-in-Double.field-0
+    c.in_ok-found-in-Double.ensures.win
 
 pub returns-in_ok-compile_five-in-Five-clause-stands : goal.returns-in_ok-compile_five-in-Five-clause-stands
 returns-in_ok-compile_five-in-Five-clause-stands g c = λ moves met stands is.
-    standing-five g.R.Rule.KIND (g.V.Seen.position c.args.view.now) c.side.ensures.lawful c.compile_five.new.compiler c.in_ok-compile_five-in-Five.field-0 moves met is c.in-Five.five
+    standing-five g.R.Rule.KIND (g.V.Seen.position c.args.view.now) c.side.ensures.lawful c.compile_five.new.compiler
+    c.in_ok-compile_five-in-Five.field-0 moves met is c.in-Five.five
     c.in_ok-compile_five-in-Five.ensures.win (subst (λ (j : Judged). stands_for j met.judged ≡ true) c.in-Five.is stands)
 
 pub returns-in_ok-compile_last-in-Last-clause-stands : goal.returns-in_ok-compile_last-in-Last-clause-stands
@@ -51,19 +60,25 @@ returns-in_ok-compile_last-in-Last-clause-stands g c = λ moves met stands is.
 
 pub returns-in_ok-found-in-Double-clause-stands : goal.returns-in_ok-found-in-Double-clause-stands
 returns-in_ok-found-in-Double-clause-stands g c = λ moves met stands is.
-    absurd (c.if-nodes-eq2.false (two-stands c.in-Double.double c.in-Double.nodes met.judged (subst (λ (j : Judged). stands_for j met.judged ≡ true) c.in-Double.is stands)))
+    absurd (c.if-nodes-eq2.false
+    (two-stands c.in-Double.double c.in-Double.nodes met.judged
+    (subst (λ (j : Judged). stands_for j met.judged ≡ true) c.in-Double.is stands)))
 
 pub returns-then-nodes-eq2-clause-win : goal.returns-then-nodes-eq2-clause-win
 returns-then-nodes-eq2-clause-win g c = λ moves l.
     let b : Grid = g.V.Seen.position c.args.view.now in
     let least : moves_for c.args.child.judged ≡ 2 = ap moves_for c.in-Double.is in
-    c.in_ok-win-in-Double.ensures.win g.R.Rule.KIND (after b c.args.child.at) moves (IsPosition-after g.R.Rule.KIND b c.args.child.at c.side.ensures.lawful c.requires.on)
+    c.in_ok-win-in-Double.ensures.win g.R.Rule.KIND (after b c.args.child.at) moves
+    (IsPosition-after g.R.Rule.KIND b c.args.child.at c.side.ensures.lawful c.requires.on)
     (ap points_of (sym c.board.ensures.board))
-    (double-wins g.R.Rule.KIND b c.args.child.at c.requires.on c.args.child.judged c.requires.judged c.in-Double.double c.in-Double.nodes c.in-Double.is) (omega (arith, least, l))
+    (double-wins g.R.Rule.KIND b c.args.child.at c.requires.on c.args.child.judged c.requires.judged c.in-Double.double c.in-Double.nodes
+    c.in-Double.is) (omega (arith, least, l))
 
 pub returns-then-nodes-eq2-clause-stands : goal.returns-then-nodes-eq2-clause-stands
 returns-then-nodes-eq2-clause-stands g c = λ moves met stands is.
     let b : Grid = g.V.Seen.position c.args.view.now in
-    standing-double g.R.Rule.KIND b c.side.ensures.lawful c.compile_standing.new.compiler c.in_ok-win-in-Double.win moves met is c.in-Double.double c.in-Double.nodes
-    (λ rule d n lawful points wins l. c.in_ok-win-in-Double.ensures.win rule d n lawful (points ∙ ap points_of (sym c.board.ensures.board)) wins l)
+    standing-double g.R.Rule.KIND b c.side.ensures.lawful c.compile_standing.new.compiler c.in_ok-win-in-Double.win moves met is
+    c.in-Double.double c.in-Double.nodes
+    (λ rule d n lawful points wins l. c.in_ok-win-in-Double.ensures.win rule d n lawful (points ∙ ap points_of (sym c.board.ensures.board))
+    wins l)
     (subst (λ (j : Judged). stands_for j met.judged ≡ true) c.in-Double.is stands)

@@ -10,14 +10,17 @@ play-requires g c = record { goes_on = four-goes_on g.R.Rule.KIND (g.V.Seen.posi
 pub undo-requires-clause-stone : goal.undo-requires-clause-stone
 undo-requires-clause-stone g c =
     let b : Grid = g.V.Seen.position c.args.view.now in
-    stone_back g.R.Rule.KIND b _ c.args.p c.play.ensures.lawful (four-goes_on g.R.Rule.KIND b c.args.p c.requires.four) (c.fate-answer.ensures.same ∙ c.play.ensures.played)
+    stone_back g.R.Rule.KIND b _ c.args.p c.play.ensures.lawful (four-goes_on g.R.Rule.KIND b c.args.p c.requires.four)
+    (c.fate-answer.ensures.same ∙ c.play.ensures.played)
 
 pub undo-requires-clause-unwon : goal.undo-requires-clause-unwon
 undo-requires-clause-unwon g c =
     let b : Grid = g.V.Seen.position c.args.view.now in
-    unwon_back g.R.Rule.KIND b _ c.args.p c.play.ensures.lawful (four-goes_on g.R.Rule.KIND b c.args.p c.requires.four) (c.fate-answer.ensures.same ∙ c.play.ensures.played)
+    unwon_back g.R.Rule.KIND b _ c.args.p c.play.ensures.lawful (four-goes_on g.R.Rule.KIND b c.args.p c.requires.four)
+    (c.fate-answer.ensures.same ∙ c.play.ensures.played)
 
 pub returns-clause-same : goal.returns-clause-same
 returns-clause-same g c =
     let b : Grid = g.V.Seen.position c.args.view.now in
-    c.undo.ensures.undone ∙ lift_back g.R.Rule.KIND b _ c.args.p c.play.ensures.lawful (four-goes_on g.R.Rule.KIND b c.args.p c.requires.four) (c.fate-answer.ensures.same ∙ c.play.ensures.played)
+    c.undo.ensures.undone ∙ lift_back g.R.Rule.KIND b _ c.args.p c.play.ensures.lawful
+    (four-goes_on g.R.Rule.KIND b c.args.p c.requires.four) (c.fate-answer.ensures.same ∙ c.play.ensures.played)

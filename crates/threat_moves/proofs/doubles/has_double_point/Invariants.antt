@@ -6,4 +6,5 @@ use Rattle.threat_moves.proofs.doubles.has_double_point.Given as goal
 
 -- the board is as before; some point left is a double point exactly where some point of the board is
 abbrev pub invariant-loop-p : goal.invariant-loop-p
-invariant-loop-p g l = (l.board ≡ l.fn.board) × (list_any (is_double_point g.R.Rule.KIND l.fn.board l.side) l.p-iterator ≡ has_double_point g.R.Rule.KIND l.fn.board l.side)
+invariant-loop-p g l = (l.board ≡ l.fn.board)
+    × (list_any (is_double_point g.R.Rule.KIND l.fn.board l.side) l.p-iterator ≡ has_double_point g.R.Rule.KIND l.fn.board l.side)

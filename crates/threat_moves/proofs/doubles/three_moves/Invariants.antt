@@ -7,4 +7,5 @@ abbrev pub invariant-loop-p : goal.invariant-loop-p
 invariant-loop-p g l =
     (g.V.Seen.position l.view ≡ g.V.Seen.position l.fn.view)
     × (l.board ≡ g.V.Seen.position l.fn.view)
-    × (l.found ++ filter (is_three_move g.R.Rule.KIND (g.V.Seen.position l.fn.view)) l.p-iterator ≡ three_moves g.R.Rule.KIND (g.V.Seen.position l.fn.view))
+    × (l.found ++ filter (is_three_move g.R.Rule.KIND (g.V.Seen.position l.fn.view)) l.p-iterator ≡ three_moves g.R.Rule.KIND
+    (g.V.Seen.position l.fn.view))

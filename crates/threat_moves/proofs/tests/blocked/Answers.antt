@@ -5,4 +5,7 @@ use Rattle.threat_moves.proofs.tests.blocked.Goals as goal
 
 pub forced-requires : goal.forced-requires
 forced-requires g c =
-    record { four = ap (λ (b : Grid). is_four_move g.R.Rule.KIND b c.at-four.result) c.is_four_move.ensures.same ∙ sym c.is_four_move.ensures.four ∙ c.if-is_four_move.true }
+    record {
+      four = ap (λ (b : Grid). is_four_move g.R.Rule.KIND b c.at-four.result) c.is_four_move.ensures.same
+          ∙ sym c.is_four_move.ensures.four ∙ c.if-is_four_move.true;
+    }

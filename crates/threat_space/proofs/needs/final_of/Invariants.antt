@@ -4,4 +4,5 @@ use Rattle.threat_space.proofs.needs.final_of.Given as goal
 
 -- the board is as before; the first of the points left with which the list is a sequence is the first of all
 abbrev pub invariant-loop-p : goal.invariant-loop-p
-invariant-loop-p g l = (l.board ≡ l.fn.board) × (find (is_sequence g.R.Rule.KIND l.side l.start l.threats) l.p-iterator ≡ final_of g.R.Rule.KIND l.side l.start l.threats)
+invariant-loop-p g l = (l.board ≡ l.fn.board)
+    × (find (is_sequence g.R.Rule.KIND l.side l.start l.threats) l.p-iterator ≡ final_of g.R.Rule.KIND l.side l.start l.threats)

@@ -11,5 +11,6 @@ returns g c = record {
       let none : has_five g.R.Rule.KIND c.args.board.now c.args.side ≡ false = sym c.requires.five ∙ c.if-some_five.false in
       let some : 0 < length c.args.threats.now = omega arith in
       subst (λ (t : Threat). EndsNear g.R.Rule.KIND c.args.side start c.args.threats.now t.gain c.args.far.now) c.index-threats-count.is
-      (ends-near g.R.Rule.KIND c.args.side start c.args.board.now c.args.threats.now c.index-threats-count.result c.args.far.now c.is_empty.ensures.board is some c.index-threats-count.is none c.requires.far);
+      (ends-near g.R.Rule.KIND c.args.side start c.args.board.now c.args.threats.now c.index-threats-count.result c.args.far.now
+      c.is_empty.ensures.board is some c.index-threats-count.is none c.requires.far);
 }

@@ -5,4 +5,5 @@ use Rattle.threat_space.proofs.pairs.all_pairs.Given as goal
 
 -- the points found, and those of the points left, are all
 abbrev pub invariant-loop-p : goal.invariant-loop-p
-invariant-loop-p g l = l.found ++ filter (may_make_two g.R.Rule.KIND l.board l.side) l.p-iterator ≡ filter (may_make_two g.R.Rule.KIND l.board l.side) (points_of l.board)
+invariant-loop-p g l = l.found ++ filter (may_make_two g.R.Rule.KIND l.board l.side) l.p-iterator ≡ filter
+    (may_make_two g.R.Rule.KIND l.board l.side) (points_of l.board)

@@ -15,14 +15,18 @@ abbrev pub invariant-walk-loop-gain : goal.invariant-walk-loop-gain
 invariant-walk-loop-gain g l = record {
   same : l.board ≡ l.fn.board;
   path : l.path ≡ l.fn.path;
-  rest : from_gains g.R.Rule.KIND (final_of g.R.Rule.KIND l.side l.start) l.fn.path (lists_of g.R.Rule.KIND l.side (l.more - 1)) l.side l.fn.board l.left l.gain-iterator
-      ≡ from_gains g.R.Rule.KIND (final_of g.R.Rule.KIND l.side l.start) l.fn.path (lists_of g.R.Rule.KIND l.side (l.more - 1)) l.side l.fn.board l.budget (points_of l.fn.board);
+  rest : from_gains g.R.Rule.KIND (final_of g.R.Rule.KIND l.side l.start) l.fn.path (lists_of g.R.Rule.KIND l.side (l.more - 1)) l.side
+      l.fn.board l.left l.gain-iterator
+      ≡ from_gains g.R.Rule.KIND (final_of g.R.Rule.KIND l.side l.start) l.fn.path (lists_of g.R.Rule.KIND l.side (l.more - 1)) l.side
+      l.fn.board l.budget (points_of l.fn.board);
 }
 
 -- the path is as before; what is found with the threats left is what is found with all
 abbrev pub invariant-walk_from-loop-threat : goal.invariant-walk_from-loop-threat
 invariant-walk_from-loop-threat g l = record {
   path : l.path ≡ l.fn.path;
-  rest : from_threats (final_of g.R.Rule.KIND l.side l.start) l.fn.path (lists_of g.R.Rule.KIND l.side l.more) l.side l.board l.left (drop l.threat-index l.threats)
-      ≡ from_threats (final_of g.R.Rule.KIND l.side l.start) l.fn.path (lists_of g.R.Rule.KIND l.side l.more) l.side l.board l.budget l.threats;
+  rest : from_threats (final_of g.R.Rule.KIND l.side l.start) l.fn.path (lists_of g.R.Rule.KIND l.side l.more) l.side l.board l.left
+      (drop l.threat-index l.threats)
+      ≡ from_threats (final_of g.R.Rule.KIND l.side l.start) l.fn.path (lists_of g.R.Rule.KIND l.side l.more) l.side l.board l.budget
+      l.threats;
 }

@@ -7,14 +7,26 @@ use Rattle.brain_session.proofs.brain.Brain.stone.Goals as goal
 
 pub invariant_of-self-2 : goal.invariant_of-self-2
 invariant_of-self-2 c =
-    let s : State = record { wish = c.self.inside.wish; held = c.self.inside.held; place = place_in c.self.inside.round; batch = c.self.inside.batch } in
+    let s : State = record {
+      wish = c.self.inside.wish;
+      held = c.self.inside.held;
+      place = place_in c.self.inside.round;
+      batch = c.self.inside.batch;
+    } in
     let view : s ≡ c.args.self.now = c.self.view_is in
     stone-running s (point_at c.args.x c.args.y) c.point-at.result c.args.field c.add.new.self c.self.invariant
-    (subst (λ (w : State). IsPointOn (board_in w.place) (point_at c.args.x c.args.y) c.point-at.result) (sym view) c.point-at.ensures.point) c.in_ok-add.ensures.added
+    (subst (λ (w : State). IsPointOn (board_in w.place) (point_at c.args.x c.args.y) c.point-at.result) (sym view) c.point-at.ensures.point)
+    c.in_ok-add.ensures.added
 
 pub returns-clause-running : goal.returns-clause-running
 returns-clause-running c =
-    let s : State = record { wish = c.self.inside.wish; held = c.self.inside.held; place = place_in c.self.inside.round; batch = c.self.inside.batch } in
+    let s : State = record {
+      wish = c.self.inside.wish;
+      held = c.self.inside.held;
+      place = place_in c.self.inside.round;
+      batch = c.self.inside.batch;
+    } in
     let view : s ≡ c.args.self.now = c.self.view_is in
     stone-running s (point_at c.args.x c.args.y) c.point-at.result c.args.field c.add.new.self c.self.invariant
-    (subst (λ (w : State). IsPointOn (board_in w.place) (point_at c.args.x c.args.y) c.point-at.result) (sym view) c.point-at.ensures.point) c.in_ok-add.ensures.added
+    (subst (λ (w : State). IsPointOn (board_in w.place) (point_at c.args.x c.args.y) c.point-at.result) (sym view) c.point-at.ensures.point)
+    c.in_ok-add.ensures.added

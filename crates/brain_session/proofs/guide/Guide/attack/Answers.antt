@@ -18,6 +18,7 @@ returns-in-HeldNode c =
 
 pub returns-in-OwnWin : goal.returns-in-OwnWin
 returns-in-OwnWin c = record {
-  attack = λ rule b stands. own-moves c.args.held.now rule b c.args.self.now c.in-OwnWin.own c.node-in-OwnWin.result.now c.in-OwnWin.is c.node-in-OwnWin.ensures.node stands;
+  attack = λ rule b stands. own-moves c.args.held.now rule b c.args.self.now c.in-OwnWin.own c.node-in-OwnWin.result.now c.in-OwnWin.is
+      c.node-in-OwnWin.ensures.node stands;
   table = subst (λ (g : Guide). IsTable (nodes_of c.args.held.now g)) (sym c.in-OwnWin.is) c.node-in-OwnWin.ensures.table;
 }

@@ -22,7 +22,8 @@ returns-clause-row c = λ s state.
     let view : place_of m o ≡ c.args.self.now = c.self.view_is in
     let none = no-game m o (ap is_game view ∙ c.requires.fresh) c.self.invariant in
     let fresh = sym view ∙ none.0 in
-    let taken = subst (λ (g : Game). IsRow h (move_row (in_place h (InGame g)) g c.args.p (outcome g.rule (board_of g) c.args.p)) r (InGame next)) (new-game m c.new-course.result k White none.1 c.new-course.ensures.begun) c.in_ok-reaction.ensures.taken in
+    let taken = subst (λ (g : Game). IsRow h (move_row (in_place h (InGame g)) g c.args.p (outcome g.rule (board_of g) c.args.p)) r
+    (InGame next)) (new-game m c.new-course.result k White none.1 c.new-course.ensures.begun) c.in_ok-reaction.ensures.taken in
     let at : IsStateOf h c.args.self.now (Some k) s = subst (λ (u : Option RuleKind). IsStateOf h c.args.self.now u s) c.in-Some.is state in
     subst (λ (w : Place). Takes (turn_row s w c.args.p) s r (placed s (InGame next))) (sym fresh)
     (first-taken h m.start.width m.start.height k s c.args.p r next

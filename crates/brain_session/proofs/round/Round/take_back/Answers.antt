@@ -17,6 +17,8 @@ returns-then-not-are_one-clause-row c = λ s p here unread place point.
     let m = c.self.inside.played in
     let o = c.self.inside.course in
     let view : place_of m o ≡ c.args.self.now = c.self.view_is in
-    let e : are_one (last_move m.moves) c.args.at ≡ false = ap (λ (x : Option Point). are_one x c.args.at) (sym c.last.ensures.last) ∙ sym c.are_one.ensures.one ∙ c.if-not-are_one.true in
-    subst (λ (w : Place). s.place ≡ w → IsPlace s.held w → IsPointOn (board_in w) p c.args.at → Takes (takeback_row s w p) s (Says (Error BadMove)) (placed s w)) view
+    let e : are_one (last_move m.moves) c.args.at ≡ false =
+    ap (λ (x : Option Point). are_one x c.args.at) (sym c.last.ensures.last) ∙ sym c.are_one.ensures.one ∙ c.if-not-are_one.true in
+    subst (λ (w : Place). s.place ≡ w → IsPlace s.held w → IsPointOn (board_in w) p c.args.at
+    → Takes (takeback_row s w p) s (Says (Error BadMove)) (placed s w)) view
     (λ a b d. takeback-bad m o s p c.args.at a unread b d e) here place point

@@ -17,7 +17,8 @@ returns-in_default-at-clause-row c = λ s p state point.
     let m = c.self.inside.played in
     let o = c.self.inside.course in
     let view : place_of m o ≡ c.args.self.now = c.self.view_is in
-    subst (λ (w : Place). turn_refusal w c.args.rule ≡ None → IsStateOf h w c.args.rule s → is_on (board_in w) p ≡ false → Takes (turn_row s w p) s (Says (Error BadMove)) (placed s w)) view
+    subst (λ (w : Place). turn_refusal w c.args.rule ≡ None → IsStateOf h w c.args.rule s → is_on (board_in w) p ≡ false
+    → Takes (turn_row s w p) s (Says (Error BadMove)) (placed s w)) view
     (turn-off h m o c.args.rule s p)
     (sym c.in_default.ensures.error)
     state
@@ -32,7 +33,8 @@ begin_by_turn-requires-clause-on c =
 pub invariant_of-self : goal.invariant_of-self
 invariant_of-self c =
     let round = subst (IsRound c.self.inside.played) c.in-Some-course.is c.self.invariant in
-    round-after c.args.held.now c.self.inside.played c.take_reply.new.played c.in-Some-course.course c.take_reply.new.self c.take_reply.result
+    round-after c.args.held.now c.self.inside.played c.take_reply.new.played c.in-Some-course.course c.take_reply.new.self
+    c.take_reply.result
     c.take_reply.ensures.running c.take_reply.ensures.same c.take_reply.ensures.unchanged round
 
 pub returns-in-Some-course-clause-row : goal.returns-in-Some-course-clause-row
@@ -41,6 +43,10 @@ returns-in-Some-course-clause-row c =
     let m = c.self.inside.played in
     let next : Game = game_of c.take_reply.new.played c.take_reply.new.self in
     let here : InGame (game_of m c.in-Some-course.course) ≡ c.args.self.now = ap (place_of m) (sym c.in-Some-course.is) ∙ c.self.view_is in
-    subst (λ (w : Place). turn_refusal w c.args.rule ≡ None → IfOk c.take_reply.result (λ r. (s : State) (p : Point) → IsStateOf h w c.args.rule s → IsPointOn (board_in c.args.self.now) p c.args.at → Takes (turn_row s w p) s r (placed s (InGame next)))) here
-    (λ may. turn-taken h (game_of m c.in-Some-course.course) c.args.rule (board_in c.args.self.now) c.args.at c.in-Some-at.p c.take_reply.result next may c.in-Some-at.is c.take_reply.ensures.taken)
+    subst (λ (w : Place). turn_refusal w c.args.rule ≡ None
+    → IfOk c.take_reply.result
+    (λ r. (s : State) (p : Point) → IsStateOf h w c.args.rule s → IsPointOn (board_in c.args.self.now) p c.args.at
+    → Takes (turn_row s w p) s r (placed s (InGame next)))) here
+    (λ may. turn-taken h (game_of m c.in-Some-course.course) c.args.rule (board_in c.args.self.now) c.args.at c.in-Some-at.p
+    c.take_reply.result next may c.in-Some-at.is c.take_reply.ensures.taken)
     (sym c.in_default.ensures.error)

@@ -7,7 +7,8 @@ use Rattle.four_search.proofs.memory.FourMemory.find.Goals as goal
 
 pub invariant_of-self : goal.invariant_of-self
 invariant_of-self g c =
-    true-looked g.R.Rule.KIND (IsDenied g.R.Rule.KIND) c.self.inside.table _ (packed c.args.board.now, c.args.moves) (inl c.find.ensures.entries) c.self.invariant
+    true-looked g.R.Rule.KIND (IsDenied g.R.Rule.KIND) c.self.inside.table _ (packed c.args.board.now, c.args.moves)
+    (inl c.find.ensures.entries) c.self.invariant
 
 pub returns-clause-denied : goal.returns-clause-denied
 returns-clause-denied g c =

@@ -11,66 +11,89 @@ use Rattle.proof_number.proofs.search.Search.+go_back.Goals as goal
 
 pub returns-then-node-eq0-clause-searching : goal.returns-then-node-eq0-clause-searching
 returns-then-node-eq0-clause-searching g t c =
-    on_ok_weaker {P = Searches g.R.Rule.KIND c.record-found.new.self c.args.tree.now c.record-found.new.compiler (IsAbove c.args.tree.now.links c.args.node)} c.record-found.result
-    (λ h. root-searches g.R.Rule.KIND c.record-found.new.self c.args.tree.now c.record-found.new.compiler c.args.node h c.if-node-eq0.true) c.record-found.ensures.searching
+    on_ok_weaker {P = Searches g.R.Rule.KIND c.record-found.new.self c.args.tree.now c.record-found.new.compiler
+    (IsAbove c.args.tree.now.links c.args.node)} c.record-found.result
+    (λ h. root-searches g.R.Rule.KIND c.record-found.new.self c.args.tree.now c.record-found.new.compiler c.args.node h c.if-node-eq0.true)
+    c.record-found.ensures.searching
 
 pub returns-then-node-eq0-clause-view : goal.returns-then-node-eq0-clause-view
 returns-then-node-eq0-clause-view g t c =
     let game : GameTree = game_of g.R.Rule.KIND c.args.self.now c.args.tree.now in
-    let tree : IsTree c.args.tree.now = way-tree g.R.Rule.KIND c.args.self.now c.args.tree.now c.args.compiler.now c.args.node c.requires.searching in
+    let tree : IsTree c.args.tree.now = way-tree g.R.Rule.KIND c.args.self.now c.args.tree.now c.args.compiler.now c.args.node
+    c.requires.searching in
     c.requires.view ∙ ap (board_at game) c.if-node-eq0.true ∙ board-root game.tree.links game.moves game.start tree.linked
 
 pub returns-then-node-eq0-clause-board : goal.returns-then-node-eq0-clause-board
 returns-then-node-eq0-clause-board g t c =
     let game : GameTree = game_of g.R.Rule.KIND c.args.self.now c.args.tree.now in
-    let tree : IsTree c.args.tree.now = way-tree g.R.Rule.KIND c.args.self.now c.args.tree.now c.args.compiler.now c.args.node c.requires.searching in
-    ap (λ (s : Search). s.board) c.record-found.ensures.keeps.rest ∙ c.requires.board ∙ ap (board_at game) c.if-node-eq0.true ∙ board-root game.tree.links game.moves game.start tree.linked
+    let tree : IsTree c.args.tree.now = way-tree g.R.Rule.KIND c.args.self.now c.args.tree.now c.args.compiler.now c.args.node
+    c.requires.searching in
+    ap (λ (s : Search). s.board) c.record-found.ensures.keeps.rest ∙ c.requires.board ∙ ap (board_at game) c.if-node-eq0.true
+    ∙ board-root game.tree.links game.moves game.start tree.linked
 
 pub step_back-requires-clause-tree : goal.step_back-requires-clause-tree
-step_back-requires-clause-tree g t c = way-tree g.R.Rule.KIND c.args.self.now c.args.tree.now c.args.compiler.now c.args.node c.requires.searching
+step_back-requires-clause-tree g t c = way-tree g.R.Rule.KIND c.args.self.now c.args.tree.now c.args.compiler.now c.args.node
+    c.requires.searching
 
 pub step_back-requires-clause-game : goal.step_back-requires-clause-game
 step_back-requires-clause-game g t c =
-    subst IsGameTree (sym (c.record-found.ensures.keeps.places g.R.Rule.KIND c.args.tree.now)) (way-game g.R.Rule.KIND c.args.self.now c.args.tree.now c.args.compiler.now c.args.node c.requires.searching)
+    subst IsGameTree (sym (c.record-found.ensures.keeps.places g.R.Rule.KIND c.args.tree.now))
+    (way-game g.R.Rule.KIND c.args.self.now c.args.tree.now c.args.compiler.now c.args.node c.requires.searching)
 
 pub step_back-requires-clause-view : goal.step_back-requires-clause-view
 step_back-requires-clause-view g t c =
-    c.requires.view ∙ sym (ap (λ (w : GameTree). board_at w c.args.node) (c.record-found.ensures.keeps.places g.R.Rule.KIND c.args.tree.now))
+    c.requires.view ∙ sym (ap (λ (w : GameTree). board_at w c.args.node)
+    (c.record-found.ensures.keeps.places g.R.Rule.KIND c.args.tree.now))
 
 pub step_back-requires-clause-board : goal.step_back-requires-clause-board
 step_back-requires-clause-board g t c =
-    ap (λ (s : Search). s.board) c.record-found.ensures.keeps.rest ∙ c.requires.board ∙ sym (ap (λ (w : GameTree). board_at w c.args.node) (c.record-found.ensures.keeps.places g.R.Rule.KIND c.args.tree.now))
+    ap (λ (s : Search). s.board) c.record-found.ensures.keeps.rest ∙ c.requires.board
+    ∙ sym (ap (λ (w : GameTree). board_at w c.args.node) (c.record-found.ensures.keeps.places g.R.Rule.KIND c.args.tree.now))
 
 pub go_back-requires : goal.go_back-requires
 go_back-requires g t c κs within =
-    let tree : IsTree c.args.tree.now = way-tree g.R.Rule.KIND c.args.self.now c.args.tree.now c.args.compiler.now c.args.node c.requires.searching in
+    let tree : IsTree c.args.tree.now = way-tree g.R.Rule.KIND c.args.self.now c.args.tree.now c.args.compiler.now c.args.node
+    c.requires.searching in
     let some : 0 < c.args.node = let e = c.if-node-eq0.false in omega (arith, e) in
     let up = ap (λ (l : Link). l.parent) c.link-parent.ensures.link in
-    let lower : c.link-parent.result.parent < c.args.node = let low = tree.linked.parent_first c.args.node some c.requires.in_tree in omega (arith, low, up) in
+    let lower : c.link-parent.result.parent < c.args.node = let low =
+    tree.linked.parent_first c.args.node some c.requires.in_tree in omega (arith, low, up) in
     let inside : c.link-parent.result.parent < length c.args.tree.now.links = let low = c.requires.in_tree in omega (arith, lower, low) in
-    let before : Searches g.R.Rule.KIND c.record-found.new.self c.args.tree.now c.record-found.new.compiler (IsOnWayUp c.args.tree.now.links (link_at c.args.tree.now.links c.args.node).parent) =
-    parent-searches g.R.Rule.KIND c.record-found.new.self c.args.tree.now c.record-found.new.compiler c.args.node c.in-Ok.ensures.searching in
-    let searching : Searches g.R.Rule.KIND c.step_back.new.self c.args.tree.now c.record-found.new.compiler (IsOnWayUp c.args.tree.now.links c.link-parent.result.parent) =
-    board-searches g.R.Rule.KIND c.record-found.new.self c.step_back.new.self c.args.tree.now c.record-found.new.compiler (IsOnWayUp c.args.tree.now.links c.link-parent.result.parent) c.step_back.ensures.rest
-    (subst (λ (i : ℕ). Searches g.R.Rule.KIND c.record-found.new.self c.args.tree.now c.record-found.new.compiler (IsOnWayUp c.args.tree.now.links i)) (sym up) before) in
+    let before : Searches g.R.Rule.KIND c.record-found.new.self c.args.tree.now c.record-found.new.compiler
+    (IsOnWayUp c.args.tree.now.links (link_at c.args.tree.now.links c.args.node).parent) =
+    parent-searches g.R.Rule.KIND c.record-found.new.self c.args.tree.now c.record-found.new.compiler c.args.node
+    c.in-Ok.ensures.searching in
+    let searching : Searches g.R.Rule.KIND c.step_back.new.self c.args.tree.now c.record-found.new.compiler
+    (IsOnWayUp c.args.tree.now.links c.link-parent.result.parent) =
+    board-searches g.R.Rule.KIND c.record-found.new.self c.step_back.new.self c.args.tree.now c.record-found.new.compiler
+    (IsOnWayUp c.args.tree.now.links c.link-parent.result.parent) c.step_back.ensures.rest
+    (subst (λ (i : ℕ). Searches g.R.Rule.KIND c.record-found.new.self c.args.tree.now c.record-found.new.compiler
+    (IsOnWayUp c.args.tree.now.links i)) (sym up) before) in
     let at : Search → ℕ → Grid = λ s i. board_at (game_of g.R.Rule.KIND s c.args.tree.now) i in
-    let view : g.V.Seen.position c.step_back.new.view ≡ board_at (game_of g.R.Rule.KIND c.step_back.new.self c.args.tree.now) c.link-parent.result.parent =
-    c.step_back.ensures.view ∙ ap (at c.record-found.new.self) (sym up) ∙ ap (λ (s : Search). at s c.link-parent.result.parent) (sym c.step_back.ensures.rest) in
-    let board : c.step_back.new.self.board ≡ board_at (game_of g.R.Rule.KIND c.step_back.new.self c.args.tree.now) c.link-parent.result.parent =
-    c.step_back.ensures.board ∙ ap (at c.record-found.new.self) (sym up) ∙ ap (λ (s : Search). at s c.link-parent.result.parent) (sym c.step_back.ensures.rest) in
+    let view : g.V.Seen.position c.step_back.new.view ≡ board_at (game_of g.R.Rule.KIND c.step_back.new.self c.args.tree.now)
+    c.link-parent.result.parent =
+    c.step_back.ensures.view ∙ ap (at c.record-found.new.self) (sym up)
+    ∙ ap (λ (s : Search). at s c.link-parent.result.parent) (sym c.step_back.ensures.rest) in
+    let board : c.step_back.new.self.board ≡ board_at (game_of g.R.Rule.KIND c.step_back.new.self c.args.tree.now)
+    c.link-parent.result.parent =
+    c.step_back.ensures.board ∙ ap (at c.record-found.new.self) (sym up)
+    ∙ ap (λ (s : Search). at s c.link-parent.result.parent) (sym c.step_back.ensures.rest) in
     search rules
 
 pub take_back-requires-clause-in_tree : goal.take_back-requires-clause-in_tree
 take_back-requires-clause-in_tree g t c =
-    let tree : IsTree c.args.tree.now = way-tree g.R.Rule.KIND c.args.self.now c.args.tree.now c.args.compiler.now c.args.node c.requires.searching in
+    let tree : IsTree c.args.tree.now = way-tree g.R.Rule.KIND c.args.self.now c.args.tree.now c.args.compiler.now c.args.node
+    c.requires.searching in
     let some : 0 < c.args.node = let e = c.if-node-eq0.false in omega (arith, e) in
     let up = ap (λ (l : Link). l.parent) c.link-parent.ensures.link in
     omega (arith, tree.linked.parent_first c.args.node some c.requires.in_tree, up, c.requires.in_tree)
 
 pub take_back-requires-clause-tree : goal.take_back-requires-clause-tree
-take_back-requires-clause-tree g t c = way-tree g.R.Rule.KIND c.args.self.now c.args.tree.now c.args.compiler.now c.args.node c.requires.searching
+take_back-requires-clause-tree g t c = way-tree g.R.Rule.KIND c.args.self.now c.args.tree.now c.args.compiler.now c.args.node
+    c.requires.searching
 
 pub take_back-requires-clause-game : goal.take_back-requires-clause-game
 take_back-requires-clause-game g t c =
     subst (λ (s : Search). IsGameTree (game_of g.R.Rule.KIND s c.args.tree.now)) (sym c.step_back.ensures.rest)
-    (subst IsGameTree (sym (c.record-found.ensures.keeps.places g.R.Rule.KIND c.args.tree.now)) (way-game g.R.Rule.KIND c.args.self.now c.args.tree.now c.args.compiler.now c.args.node c.requires.searching))
+    (subst IsGameTree (sym (c.record-found.ensures.keeps.places g.R.Rule.KIND c.args.tree.now))
+    (way-game g.R.Rule.KIND c.args.self.now c.args.tree.now c.args.compiler.now c.args.node c.requires.searching))

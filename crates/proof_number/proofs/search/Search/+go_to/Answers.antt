@@ -27,12 +27,15 @@ play-requires g t c =
     let same = c.requires.game.moves in
     let long = length-map notes (λ (n : Note). n.at) in
     let some : 0 < c.args.node = let e = c.if-node-eq0.false in omega (arith, e) in
-    let read : c.index.result.now ≡ get_or notes c.args.node c.index.result.now = c.index.ensures ∙ ap (λ (s : Search). get_or s.notes.items c.args.node c.index.result.now) c.go_to.ensures.rest in
-    let at : move_at game.moves c.args.node ≡ c.index.result.now.at = noted-move notes c.args.node c.index.result.now no_note (omega (arith, same, long, c.requires.in_tree)) read in
+    let read : c.index.result.now ≡ get_or notes c.args.node c.index.result.now =
+    c.index.ensures ∙ ap (λ (s : Search). get_or s.notes.items c.args.node c.index.result.now) c.go_to.ensures.rest in
+    let at : move_at game.moves c.args.node ≡ c.index.result.now.at =
+    noted-move notes c.args.node c.index.result.now no_note (omega (arith, same, long, c.requires.in_tree)) read in
     let there : g.V.Seen.position c.go_to.new.view ≡ board_at game c.link-parent.result.parent = c.go_to.ensures.view in
     record {
       goes_on =
-          ap (λ (b : Grid). outcome g.R.Rule.KIND b c.index.result.now.at) (there ∙ ap (λ (l : Link). board_at game l.parent) c.link-parent.ensures.link)
+          ap (λ (b : Grid). outcome g.R.Rule.KIND b c.index.result.now.at)
+          (there ∙ ap (λ (l : Link). board_at game l.parent) c.link-parent.ensures.link)
           ∙ move-on game c.requires.tree c.requires.game c.args.node some c.requires.in_tree c.index.result.now.at at;
     }
 
@@ -43,11 +46,14 @@ put-requires g t c =
     let same = c.requires.game.moves in
     let long = length-map notes (λ (n : Note). n.at) in
     let some : 0 < c.args.node = let e = c.if-node-eq0.false in omega (arith, e) in
-    let read : c.index.result.now ≡ get_or notes c.args.node c.index.result.now = c.index.ensures ∙ ap (λ (s : Search). get_or s.notes.items c.args.node c.index.result.now) c.go_to.ensures.rest in
-    let at : move_at game.moves c.args.node ≡ c.index.result.now.at = noted-move notes c.args.node c.index.result.now no_note (omega (arith, same, long, c.requires.in_tree)) read in
+    let read : c.index.result.now ≡ get_or notes c.args.node c.index.result.now =
+    c.index.ensures ∙ ap (λ (s : Search). get_or s.notes.items c.args.node c.index.result.now) c.go_to.ensures.rest in
+    let at : move_at game.moves c.args.node ≡ c.index.result.now.at =
+    noted-move notes c.args.node c.index.result.now no_note (omega (arith, same, long, c.requires.in_tree)) read in
     record {
       empty =
-          ap (λ (b : Grid). is_empty b c.index.result.now.at) (c.go_to.ensures.board ∙ ap (λ (l : Link). board_at game l.parent) c.link-parent.ensures.link)
+          ap (λ (b : Grid). is_empty b c.index.result.now.at)
+          (c.go_to.ensures.board ∙ ap (λ (l : Link). board_at game l.parent) c.link-parent.ensures.link)
           ∙ move-empty game c.requires.tree c.requires.game c.args.node some c.requires.in_tree c.index.result.now.at at;
     }
 
@@ -58,10 +64,13 @@ returns-clause-view g t c =
     let same = c.requires.game.moves in
     let long = length-map notes (λ (n : Note). n.at) in
     let some : 0 < c.args.node = let e = c.if-node-eq0.false in omega (arith, e) in
-    let read : c.index.result.now ≡ get_or notes c.args.node c.index.result.now = c.index.ensures ∙ ap (λ (s : Search). get_or s.notes.items c.args.node c.index.result.now) c.go_to.ensures.rest in
-    let at : move_at game.moves c.args.node ≡ c.index.result.now.at = noted-move notes c.args.node c.index.result.now no_note (omega (arith, same, long, c.requires.in_tree)) read in
+    let read : c.index.result.now ≡ get_or notes c.args.node c.index.result.now =
+    c.index.ensures ∙ ap (λ (s : Search). get_or s.notes.items c.args.node c.index.result.now) c.go_to.ensures.rest in
+    let at : move_at game.moves c.args.node ≡ c.index.result.now.at =
+    noted-move notes c.args.node c.index.result.now no_note (omega (arith, same, long, c.requires.in_tree)) read in
     c.play.ensures.played
-    ∙ ap (λ (b : Grid). after b c.index.result.now.at) (c.go_to.ensures.view ∙ ap (λ (l : Link). board_at game l.parent) c.link-parent.ensures.link)
+    ∙ ap (λ (b : Grid). after b c.index.result.now.at)
+    (c.go_to.ensures.view ∙ ap (λ (l : Link). board_at game l.parent) c.link-parent.ensures.link)
     ∙ sym (board-after game c.requires.tree c.requires.game c.args.node some c.requires.in_tree c.index.result.now.at at)
 
 pub returns-clause-board : goal.returns-clause-board
@@ -71,8 +80,10 @@ returns-clause-board g t c =
     let same = c.requires.game.moves in
     let long = length-map notes (λ (n : Note). n.at) in
     let some : 0 < c.args.node = let e = c.if-node-eq0.false in omega (arith, e) in
-    let read : c.index.result.now ≡ get_or notes c.args.node c.index.result.now = c.index.ensures ∙ ap (λ (s : Search). get_or s.notes.items c.args.node c.index.result.now) c.go_to.ensures.rest in
-    let at : move_at game.moves c.args.node ≡ c.index.result.now.at = noted-move notes c.args.node c.index.result.now no_note (omega (arith, same, long, c.requires.in_tree)) read in
+    let read : c.index.result.now ≡ get_or notes c.args.node c.index.result.now =
+    c.index.ensures ∙ ap (λ (s : Search). get_or s.notes.items c.args.node c.index.result.now) c.go_to.ensures.rest in
+    let at : move_at game.moves c.args.node ≡ c.index.result.now.at =
+    noted-move notes c.args.node c.index.result.now no_note (omega (arith, same, long, c.requires.in_tree)) read in
     let up : Link → Grid = λ l. board_at game l.parent in
     let before : c.go_to.new.self.board ≡ up c.link-parent.result = c.go_to.ensures.board in
     let seen : g.V.Seen.position c.go_to.new.view ≡ up c.link-parent.result = c.go_to.ensures.view in
@@ -87,6 +98,7 @@ pub go_to-requires : goal.go_to-requires
 go_to-requires g t c κs within =
     let some : 0 < c.args.node = let e = c.if-node-eq0.false in omega (arith, e) in
     let up = ap (λ (l : Link). l.parent) c.link-parent.ensures.link in
-    let lower : c.link-parent.result.parent < c.args.node = let low = c.requires.tree.linked.parent_first c.args.node some c.requires.in_tree in omega (arith, low, up) in
+    let lower : c.link-parent.result.parent < c.args.node = let low =
+    c.requires.tree.linked.parent_first c.args.node some c.requires.in_tree in omega (arith, low, up) in
     let inside : c.link-parent.result.parent < length c.args.tree.now.links = let low = c.requires.in_tree in omega (arith, lower, low) in
     search rules

@@ -11,167 +11,302 @@ use Rattle.strategy_compiler.specs.Growth.{GrowsBy}
 use Rattle.proof_number.specs.Notes.{no_note, note_at}
 use Rattle.threat_game.specs.Replies.{AreChildren, AreReplies, HasEscape, nodes_for}
 use Rattle.proof_number.proofs.Steps.{leaf-board, leaf-is, leaf-noted, root-open, settled-at, attacked-few}
-use Rattle.proof_number.proofs.Defending.{all-fresh, defend-moves, defend-no_five, defend-reply, each-is, each-same, escape-grows, few-new, replies-few, replies-full, replies-grow, replies-spent, settled-same, some-new}
-use Rattle.proof_number.proofs.Expanding.{budget-few, short-there, sums-there}
+use Rattle.proof_number.proofs.Defending.{all-fresh, defend-moves, defend-no_five, defend-reply, each-is, each-same, escape-grows, few-new}
+use Rattle.proof_number.proofs.Defending.{replies-few, replies-full, replies-grow, replies-spent, settled-same, some-new}
+use Rattle.proof_number.proofs.ExpandedCounts.{budget-few, short-there, sums-there}
 use Rattle.proof_number.proofs.search.Search.answer_replies.Goals as goal
 
 pub index-requires : goal.index-requires
-index-requires g c = let low = leaf-noted g.R.Rule.KIND c.args.self.now c.args.tree.now c.args.compiler.now c.args.leaf (g.V.Seen.position c.args.view.now) c.requires.at_leaf in omega (arith, low)
+index-requires g c = let low = leaf-noted g.R.Rule.KIND c.args.self.now c.args.tree.now c.args.compiler.now c.args.leaf
+    (g.V.Seen.position c.args.view.now) c.requires.at_leaf in omega (arith, low)
 
 pub judge_replies-requires-clause-no_five : goal.judge_replies-requires-clause-no_five
-judge_replies-requires-clause-no_five g c = defend-no_five g.R.Rule.KIND c.args.self.now c.args.tree.now c.args.compiler.now c.args.leaf (g.V.Seen.position c.args.view.now) c.requires.at_leaf c.requires.defend
+judge_replies-requires-clause-no_five g c = defend-no_five g.R.Rule.KIND c.args.self.now c.args.tree.now c.args.compiler.now c.args.leaf
+    (g.V.Seen.position c.args.view.now) c.requires.at_leaf c.requires.defend
 
 pub judge_replies-requires-clause-reply : goal.judge_replies-requires-clause-reply
-judge_replies-requires-clause-reply g c = defend-reply g.R.Rule.KIND c.args.self.now c.args.tree.now c.args.compiler.now c.args.leaf (g.V.Seen.position c.args.view.now) c.requires.at_leaf c.requires.defend
+judge_replies-requires-clause-reply g c = defend-reply g.R.Rule.KIND c.args.self.now c.args.tree.now c.args.compiler.now c.args.leaf
+    (g.V.Seen.position c.args.view.now) c.requires.at_leaf c.requires.defend
 
 pub judge_replies-requires-clause-copy : goal.judge_replies-requires-clause-copy
-judge_replies-requires-clause-copy g c = leaf-board g.R.Rule.KIND c.args.self.now c.args.tree.now c.args.compiler.now c.args.leaf (g.V.Seen.position c.args.view.now) c.requires.at_leaf
+judge_replies-requires-clause-copy g c = leaf-board g.R.Rule.KIND c.args.self.now c.args.tree.now c.args.compiler.now c.args.leaf
+    (g.V.Seen.position c.args.view.now) c.requires.at_leaf
 
 pub settle-requires : goal.settle-requires
-settle-requires g c = record { «open» = root-open g.R.Rule.KIND c.args.self.now c.args.tree.now c.args.compiler.now c.args.leaf (g.V.Seen.position c.args.view.now) c.requires.at_leaf }
+settle-requires g c = record {
+  «open» = root-open g.R.Rule.KIND c.args.self.now c.args.tree.now c.args.compiler.now c.args.leaf
+      (g.V.Seen.position c.args.view.now) c.requires.at_leaf;
+}
 
 pub expand-requires-clause-open : goal.expand-requires-clause-open
-expand-requires-clause-open g c = root-open g.R.Rule.KIND c.args.self.now c.args.tree.now c.args.compiler.now c.args.leaf (g.V.Seen.position c.args.view.now) c.requires.at_leaf
+expand-requires-clause-open g c = root-open g.R.Rule.KIND c.args.self.now c.args.tree.now c.args.compiler.now c.args.leaf
+    (g.V.Seen.position c.args.view.now) c.requires.at_leaf
 
 pub expand-requires-clause-leaf : goal.expand-requires-clause-leaf
-expand-requires-clause-leaf g c = leaf-is g.R.Rule.KIND c.args.self.now c.args.tree.now c.args.compiler.now c.args.leaf (g.V.Seen.position c.args.view.now) c.requires.at_leaf
+expand-requires-clause-leaf g c = leaf-is g.R.Rule.KIND c.args.self.now c.args.tree.now c.args.compiler.now c.args.leaf
+    (g.V.Seen.position c.args.view.now) c.requires.at_leaf
 
 pub judge_replies-requires-clause-some_moves : goal.judge_replies-requires-clause-some_moves
 judge_replies-requires-clause-some_moves g c =
-    let noted = leaf-noted g.R.Rule.KIND c.args.self.now c.args.tree.now c.args.compiler.now c.args.leaf (g.V.Seen.position c.args.view.now) c.requires.at_leaf in
-    let note : c.index.result.now ≡ note_at c.args.self.now.notes.items c.args.leaf = c.index.ensures ∙ get_or_default c.args.self.now.notes.items c.args.leaf c.index.result.now no_note noted in
+    let noted = leaf-noted g.R.Rule.KIND c.args.self.now c.args.tree.now c.args.compiler.now c.args.leaf (g.V.Seen.position c.args.view.now)
+    c.requires.at_leaf in
+    let note : c.index.result.now ≡ note_at c.args.self.now.notes.items c.args.leaf =
+    c.index.ensures ∙ get_or_default c.args.self.now.notes.items c.args.leaf c.index.result.now no_note noted in
     let left_is = c.from.ensures ∙ ap (λ (n : Note). n.left) note in
-    let one = defend-moves g.R.Rule.KIND c.args.self.now c.args.tree.now c.args.compiler.now c.args.leaf (g.V.Seen.position c.args.view.now) c.requires.at_leaf c.requires.defend in
+    let one = defend-moves g.R.Rule.KIND c.args.self.now c.args.tree.now c.args.compiler.now c.args.leaf (g.V.Seen.position c.args.view.now)
+    c.requires.at_leaf c.requires.defend in
     omega (arith, one, left_is)
 
 pub overflow_add-count : goal.overflow_add-count
 overflow_add-count g c =
-    let noted = leaf-noted g.R.Rule.KIND c.args.self.now c.args.tree.now c.args.compiler.now c.args.leaf (g.V.Seen.position c.args.view.now) c.requires.at_leaf in
-    let note : c.index.result.now ≡ note_at c.args.self.now.notes.items c.args.leaf = c.index.ensures ∙ get_or_default c.args.self.now.notes.items c.args.leaf c.index.result.now no_note noted in
+    let noted = leaf-noted g.R.Rule.KIND c.args.self.now c.args.tree.now c.args.compiler.now c.args.leaf (g.V.Seen.position c.args.view.now)
+    c.requires.at_leaf in
+    let note : c.index.result.now ≡ note_at c.args.self.now.notes.items c.args.leaf =
+    c.index.ensures ∙ get_or_default c.args.self.now.notes.items c.args.leaf c.index.result.now no_note noted in
     let left_is = c.from.ensures ∙ ap (λ (n : Note). n.left) note in
-    let answers : AreReplies g.R.Rule.KIND c.from.result (g.V.Seen.position c.args.view.now) (Some c.in-Some.children) = subst (AreReplies g.R.Rule.KIND c.from.result (g.V.Seen.position c.args.view.now)) c.in-Some.is c.in_ok-judge_replies.ensures.replies in
-    let are : AreChildren g.R.Rule.KIND (note_at c.args.self.now.notes.items c.args.leaf).left (g.V.Seen.position c.args.view.now) c.in-Some.children = subst (λ (n : ℕ). AreChildren g.R.Rule.KIND n (g.V.Seen.position c.args.view.now) c.in-Some.children) left_is answers in
-    let a = attacked-few g.R.Rule.KIND c.args.self.now c.args.tree.now c.args.compiler.now c.args.leaf (g.V.Seen.position c.args.view.now) c.requires.at_leaf in
-    let few = replies-few g.R.Rule.KIND c.args.self.now c.args.tree.now c.args.compiler.now c.args.leaf (g.V.Seen.position c.args.view.now) c.requires.at_leaf c.requires.defend c.in-Some.children are in
+    let answers : AreReplies g.R.Rule.KIND c.from.result (g.V.Seen.position c.args.view.now) (Some c.in-Some.children) =
+    subst (AreReplies g.R.Rule.KIND c.from.result (g.V.Seen.position c.args.view.now)) c.in-Some.is
+    c.in_ok-judge_replies.ensures.replies in
+    let are : AreChildren g.R.Rule.KIND (note_at c.args.self.now.notes.items c.args.leaf).left (g.V.Seen.position c.args.view.now)
+    c.in-Some.children = subst (λ (n : ℕ). AreChildren g.R.Rule.KIND n (g.V.Seen.position c.args.view.now) c.in-Some.children) left_is
+    answers in
+    let a = attacked-few g.R.Rule.KIND c.args.self.now c.args.tree.now c.args.compiler.now c.args.leaf (g.V.Seen.position c.args.view.now)
+    c.requires.at_leaf in
+    let few = replies-few g.R.Rule.KIND c.args.self.now c.args.tree.now c.args.compiler.now c.args.leaf (g.V.Seen.position c.args.view.now)
+    c.requires.at_leaf c.requires.defend c.in-Some.children are in
     omega (arith, a, few)
 
 pub returns-in-None-clause-step : goal.returns-in-None-clause-step
 returns-in-None-clause-step g c =
-    let noted = leaf-noted g.R.Rule.KIND c.args.self.now c.args.tree.now c.args.compiler.now c.args.leaf (g.V.Seen.position c.args.view.now) c.requires.at_leaf in
-    let note : c.index.result.now ≡ note_at c.args.self.now.notes.items c.args.leaf = c.index.ensures ∙ get_or_default c.args.self.now.notes.items c.args.leaf c.index.result.now no_note noted in
+    let noted = leaf-noted g.R.Rule.KIND c.args.self.now c.args.tree.now c.args.compiler.now c.args.leaf (g.V.Seen.position c.args.view.now)
+    c.requires.at_leaf in
+    let note : c.index.result.now ≡ note_at c.args.self.now.notes.items c.args.leaf =
+    c.index.ensures ∙ get_or_default c.args.self.now.notes.items c.args.leaf c.index.result.now no_note noted in
     let left_is = c.from.ensures ∙ ap (λ (n : Note). n.left) note in
-    let answers : AreReplies g.R.Rule.KIND c.from.result (g.V.Seen.position c.args.view.now) None = subst (AreReplies g.R.Rule.KIND c.from.result (g.V.Seen.position c.args.view.now)) c.in-None.is c.in_ok-judge_replies.ensures.replies in
-    let escape : HasEscape g.R.Rule.KIND (note_at c.args.self.now.notes.items c.args.leaf).left (g.V.Seen.position c.args.view.now) = subst (λ (n : ℕ). HasEscape g.R.Rule.KIND n (g.V.Seen.position c.args.view.now)) left_is answers in
-    let is = leaf-is g.R.Rule.KIND c.args.self.now c.args.tree.now c.args.compiler.now c.args.leaf (g.V.Seen.position c.args.view.now) c.requires.at_leaf in
-    escape-grows g.R.Rule.KIND c.args.self.now c.args.tree.now c.args.compiler.now c.args.leaf (g.V.Seen.position c.args.view.now) c.requires.at_leaf c.requires.defend escape
-    c.settle.new.self (settled-at c.args.tree.now c.settle.new.self c.args.leaf false is c.settle.ensures.links c.settle.ensures.settled c.settle.ensures.others c.settle.ensures.leaves c.settle.ensures.tree)
+    let answers : AreReplies g.R.Rule.KIND c.from.result (g.V.Seen.position c.args.view.now) None =
+    subst (AreReplies g.R.Rule.KIND c.from.result (g.V.Seen.position c.args.view.now)) c.in-None.is
+    c.in_ok-judge_replies.ensures.replies in
+    let escape : HasEscape g.R.Rule.KIND (note_at c.args.self.now.notes.items c.args.leaf).left (g.V.Seen.position c.args.view.now) =
+    subst (λ (n : ℕ). HasEscape g.R.Rule.KIND n (g.V.Seen.position c.args.view.now)) left_is answers in
+    let is = leaf-is g.R.Rule.KIND c.args.self.now c.args.tree.now c.args.compiler.now c.args.leaf (g.V.Seen.position c.args.view.now)
+    c.requires.at_leaf in
+    escape-grows g.R.Rule.KIND c.args.self.now c.args.tree.now c.args.compiler.now c.args.leaf (g.V.Seen.position c.args.view.now)
+    c.requires.at_leaf c.requires.defend escape
+    c.settle.new.self (settled-at c.args.tree.now c.settle.new.self c.args.leaf false is c.settle.ensures.links c.settle.ensures.settled
+    c.settle.ensures.others c.settle.ensures.leaves c.settle.ensures.tree)
     c.judge_replies.new.board c.judge_replies.ensures.same_board
 
 pub returns-then-count-self-clause-step : goal.returns-then-count-self-clause-step
 returns-then-count-self-clause-step g c =
-    let noted = leaf-noted g.R.Rule.KIND c.args.self.now c.args.tree.now c.args.compiler.now c.args.leaf (g.V.Seen.position c.args.view.now) c.requires.at_leaf in
-    let note : c.index.result.now ≡ note_at c.args.self.now.notes.items c.args.leaf = c.index.ensures ∙ get_or_default c.args.self.now.notes.items c.args.leaf c.index.result.now no_note noted in
+    let noted = leaf-noted g.R.Rule.KIND c.args.self.now c.args.tree.now c.args.compiler.now c.args.leaf (g.V.Seen.position c.args.view.now)
+    c.requires.at_leaf in
+    let note : c.index.result.now ≡ note_at c.args.self.now.notes.items c.args.leaf =
+    c.index.ensures ∙ get_or_default c.args.self.now.notes.items c.args.leaf c.index.result.now no_note noted in
     let left_is = c.from.ensures ∙ ap (λ (n : Note). n.left) note in
-    let answers : AreReplies g.R.Rule.KIND c.from.result (g.V.Seen.position c.args.view.now) (Some c.in-Some.children) = subst (AreReplies g.R.Rule.KIND c.from.result (g.V.Seen.position c.args.view.now)) c.in-Some.is c.in_ok-judge_replies.ensures.replies in
-    let are : AreChildren g.R.Rule.KIND (note_at c.args.self.now.notes.items c.args.leaf).left (g.V.Seen.position c.args.view.now) c.in-Some.children = subst (λ (n : ℕ). AreChildren g.R.Rule.KIND n (g.V.Seen.position c.args.view.now) c.in-Some.children) left_is answers in
+    let answers : AreReplies g.R.Rule.KIND c.from.result (g.V.Seen.position c.args.view.now) (Some c.in-Some.children) =
+    subst (AreReplies g.R.Rule.KIND c.from.result (g.V.Seen.position c.args.view.now)) c.in-Some.is
+    c.in_ok-judge_replies.ensures.replies in
+    let are : AreChildren g.R.Rule.KIND (note_at c.args.self.now.notes.items c.args.leaf).left (g.V.Seen.position c.args.view.now)
+    c.in-Some.children = subst (λ (n : ℕ). AreChildren g.R.Rule.KIND n (g.V.Seen.position c.args.view.now) c.in-Some.children) left_is
+    answers in
     let over = c.if-count-self.true in
-    replies-spent g.R.Rule.KIND c.args.self.now c.args.tree.now c.args.compiler.now c.args.leaf (g.V.Seen.position c.args.view.now) c.requires.at_leaf c.requires.defend c.in-Some.children are (omega (arith, over)) c.judge_replies.new.board c.judge_replies.ensures.same_board
+    replies-spent g.R.Rule.KIND c.args.self.now c.args.tree.now c.args.compiler.now c.args.leaf (g.V.Seen.position c.args.view.now)
+    c.requires.at_leaf c.requires.defend c.in-Some.children are (omega (arith, over)) c.judge_replies.new.board
+    c.judge_replies.ensures.same_board
 
 pub returns-in_err-settled-in-Some-clause-full : goal.returns-in_err-settled-in-Some-clause-full
 returns-in_err-settled-in-Some-clause-full g c =
-    let noted = leaf-noted g.R.Rule.KIND c.args.self.now c.args.tree.now c.args.compiler.now c.args.leaf (g.V.Seen.position c.args.view.now) c.requires.at_leaf in
-    let note : c.index.result.now ≡ note_at c.args.self.now.notes.items c.args.leaf = c.index.ensures ∙ get_or_default c.args.self.now.notes.items c.args.leaf c.index.result.now no_note noted in
+    let noted = leaf-noted g.R.Rule.KIND c.args.self.now c.args.tree.now c.args.compiler.now c.args.leaf (g.V.Seen.position c.args.view.now)
+    c.requires.at_leaf in
+    let note : c.index.result.now ≡ note_at c.args.self.now.notes.items c.args.leaf =
+    c.index.ensures ∙ get_or_default c.args.self.now.notes.items c.args.leaf c.index.result.now no_note noted in
     let left_is = c.from.ensures ∙ ap (λ (n : Note). n.left) note in
-    let answers : AreReplies g.R.Rule.KIND c.from.result (g.V.Seen.position c.args.view.now) (Some c.in-Some.children) = subst (AreReplies g.R.Rule.KIND c.from.result (g.V.Seen.position c.args.view.now)) c.in-Some.is c.in_ok-judge_replies.ensures.replies in
-    let are : AreChildren g.R.Rule.KIND (note_at c.args.self.now.notes.items c.args.leaf).left (g.V.Seen.position c.args.view.now) c.in-Some.children = subst (λ (n : ℕ). AreChildren g.R.Rule.KIND n (g.V.Seen.position c.args.view.now) c.in-Some.children) left_is answers in
+    let answers : AreReplies g.R.Rule.KIND c.from.result (g.V.Seen.position c.args.view.now) (Some c.in-Some.children) =
+    subst (AreReplies g.R.Rule.KIND c.from.result (g.V.Seen.position c.args.view.now)) c.in-Some.is
+    c.in_ok-judge_replies.ensures.replies in
+    let are : AreChildren g.R.Rule.KIND (note_at c.args.self.now.notes.items c.args.leaf).left (g.V.Seen.position c.args.view.now)
+    c.in-Some.children = subst (λ (n : ℕ). AreChildren g.R.Rule.KIND n (g.V.Seen.position c.args.view.now) c.in-Some.children) left_is
+    answers in
     let within = c.if-count-self.false in
-    let refused = subst (λ (xs : List Child). IsErrOf c.settle_children.result Full → MAX_NODES < length c.args.compiler.now + sum_by (λ child. nodes_for child.judged) xs) c.as_slice.ensures.value c.settle_children.ensures.full in
-    let many = replies-full g.R.Rule.KIND c.args.self.now c.args.tree.now c.args.compiler.now c.args.leaf (g.V.Seen.position c.args.view.now) c.requires.at_leaf c.requires.defend c.in-Some.children are (omega (arith, within)) refused in
+    let refused = subst (λ (xs : List Child). IsErrOf c.settle_children.result Full
+    → MAX_NODES < length c.args.compiler.now + sum_by (λ child. nodes_for child.judged) xs) c.as_slice.ensures.value
+    c.settle_children.ensures.full in
+    let many = replies-full g.R.Rule.KIND c.args.self.now c.args.tree.now c.args.compiler.now c.args.leaf
+    (g.V.Seen.position c.args.view.now) c.requires.at_leaf c.requires.defend c.in-Some.children are (omega (arith, within)) refused in
     search rules
 
 pub expand-requires-clause-each : goal.expand-requires-clause-each
 expand-requires-clause-each g c =
-    let noted = leaf-noted g.R.Rule.KIND c.args.self.now c.args.tree.now c.args.compiler.now c.args.leaf (g.V.Seen.position c.args.view.now) c.requires.at_leaf in
-    let note : c.index.result.now ≡ note_at c.args.self.now.notes.items c.args.leaf = c.index.ensures ∙ get_or_default c.args.self.now.notes.items c.args.leaf c.index.result.now no_note noted in
+    let noted = leaf-noted g.R.Rule.KIND c.args.self.now c.args.tree.now c.args.compiler.now c.args.leaf (g.V.Seen.position c.args.view.now)
+    c.requires.at_leaf in
+    let note : c.index.result.now ≡ note_at c.args.self.now.notes.items c.args.leaf =
+    c.index.ensures ∙ get_or_default c.args.self.now.notes.items c.args.leaf c.index.result.now no_note noted in
     let left_is = c.from.ensures ∙ ap (λ (n : Note). n.left) note in
-    let answers : AreReplies g.R.Rule.KIND c.from.result (g.V.Seen.position c.args.view.now) (Some c.in-Some.children) = subst (AreReplies g.R.Rule.KIND c.from.result (g.V.Seen.position c.args.view.now)) c.in-Some.is c.in_ok-judge_replies.ensures.replies in
-    let are : AreChildren g.R.Rule.KIND (note_at c.args.self.now.notes.items c.args.leaf).left (g.V.Seen.position c.args.view.now) c.in-Some.children = subst (λ (n : ℕ). AreChildren g.R.Rule.KIND n (g.V.Seen.position c.args.view.now) c.in-Some.children) left_is answers in
-    let settled = settled-same g.R.Rule.KIND c.index.result.now.left (note_at c.args.self.now.notes.items c.args.leaf).left (g.V.Seen.position c.judge_replies.new.view) (g.V.Seen.position c.args.view.now) c.settle_children.new.compiler c.as_slice.result.now c.in-Some.children.all.items
-    c.in_ok-settled-in-Some.settled.numbers.items c.as_slice-in-Some.result.now c.in_ok-settled-in-Some.settled.notes.items c.as_slice-in-Some-2.result.now
-    (ap (λ (n : Note). n.left) note) c.judge_replies.ensures.same c.as_slice.ensures.value c.as_slice-in-Some.ensures.value c.as_slice-in-Some-2.ensures.value c.in_ok-settled-in-Some.ensures.settled in
+    let answers : AreReplies g.R.Rule.KIND c.from.result (g.V.Seen.position c.args.view.now) (Some c.in-Some.children) =
+    subst (AreReplies g.R.Rule.KIND c.from.result (g.V.Seen.position c.args.view.now)) c.in-Some.is
+    c.in_ok-judge_replies.ensures.replies in
+    let are : AreChildren g.R.Rule.KIND (note_at c.args.self.now.notes.items c.args.leaf).left (g.V.Seen.position c.args.view.now)
+    c.in-Some.children = subst (λ (n : ℕ). AreChildren g.R.Rule.KIND n (g.V.Seen.position c.args.view.now) c.in-Some.children) left_is
+    answers in
+    let settled = settled-same g.R.Rule.KIND c.index.result.now.left (note_at c.args.self.now.notes.items c.args.leaf).left
+    (g.V.Seen.position c.judge_replies.new.view) (g.V.Seen.position c.args.view.now) c.settle_children.new.compiler
+    c.as_slice.result.now c.in-Some.children.all.items
+    c.in_ok-settled-in-Some.settled.numbers.items c.as_slice-in-Some.result.now c.in_ok-settled-in-Some.settled.notes.items
+    c.as_slice-in-Some-2.result.now
+    (ap (λ (n : Note). n.left) note) c.judge_replies.ensures.same c.as_slice.ensures.value c.as_slice-in-Some.ensures.value
+    c.as_slice-in-Some-2.ensures.value c.in_ok-settled-in-Some.ensures.settled in
     let within = c.if-count-self.false in
-    fresh-numbers c.as_slice-in-Some.result.now (all-fresh g.R.Rule.KIND c.args.self.now c.args.tree.now c.args.compiler.now c.args.leaf (g.V.Seen.position c.args.view.now) c.requires.at_leaf c.requires.defend c.in-Some.children are c.settle_children.new.compiler c.as_slice-in-Some.result.now c.as_slice-in-Some-2.result.now settled)
+    fresh-numbers c.as_slice-in-Some.result.now
+    (all-fresh g.R.Rule.KIND c.args.self.now c.args.tree.now c.args.compiler.now c.args.leaf (g.V.Seen.position c.args.view.now)
+    c.requires.at_leaf c.requires.defend c.in-Some.children are c.settle_children.new.compiler c.as_slice-in-Some.result.now
+    c.as_slice-in-Some-2.result.now settled)
 
 pub expand-requires-clause-some : goal.expand-requires-clause-some
 expand-requires-clause-some g c =
-    let noted = leaf-noted g.R.Rule.KIND c.args.self.now c.args.tree.now c.args.compiler.now c.args.leaf (g.V.Seen.position c.args.view.now) c.requires.at_leaf in
-    let note : c.index.result.now ≡ note_at c.args.self.now.notes.items c.args.leaf = c.index.ensures ∙ get_or_default c.args.self.now.notes.items c.args.leaf c.index.result.now no_note noted in
+    let noted = leaf-noted g.R.Rule.KIND c.args.self.now c.args.tree.now c.args.compiler.now c.args.leaf (g.V.Seen.position c.args.view.now)
+    c.requires.at_leaf in
+    let note : c.index.result.now ≡ note_at c.args.self.now.notes.items c.args.leaf =
+    c.index.ensures ∙ get_or_default c.args.self.now.notes.items c.args.leaf c.index.result.now no_note noted in
     let left_is = c.from.ensures ∙ ap (λ (n : Note). n.left) note in
-    let answers : AreReplies g.R.Rule.KIND c.from.result (g.V.Seen.position c.args.view.now) (Some c.in-Some.children) = subst (AreReplies g.R.Rule.KIND c.from.result (g.V.Seen.position c.args.view.now)) c.in-Some.is c.in_ok-judge_replies.ensures.replies in
-    let are : AreChildren g.R.Rule.KIND (note_at c.args.self.now.notes.items c.args.leaf).left (g.V.Seen.position c.args.view.now) c.in-Some.children = subst (λ (n : ℕ). AreChildren g.R.Rule.KIND n (g.V.Seen.position c.args.view.now) c.in-Some.children) left_is answers in
-    let settled = settled-same g.R.Rule.KIND c.index.result.now.left (note_at c.args.self.now.notes.items c.args.leaf).left (g.V.Seen.position c.judge_replies.new.view) (g.V.Seen.position c.args.view.now) c.settle_children.new.compiler c.as_slice.result.now c.in-Some.children.all.items
-    c.in_ok-settled-in-Some.settled.numbers.items c.as_slice-in-Some.result.now c.in_ok-settled-in-Some.settled.notes.items c.as_slice-in-Some-2.result.now
-    (ap (λ (n : Note). n.left) note) c.judge_replies.ensures.same c.as_slice.ensures.value c.as_slice-in-Some.ensures.value c.as_slice-in-Some-2.ensures.value c.in_ok-settled-in-Some.ensures.settled in
+    let answers : AreReplies g.R.Rule.KIND c.from.result (g.V.Seen.position c.args.view.now) (Some c.in-Some.children) =
+    subst (AreReplies g.R.Rule.KIND c.from.result (g.V.Seen.position c.args.view.now)) c.in-Some.is
+    c.in_ok-judge_replies.ensures.replies in
+    let are : AreChildren g.R.Rule.KIND (note_at c.args.self.now.notes.items c.args.leaf).left (g.V.Seen.position c.args.view.now)
+    c.in-Some.children = subst (λ (n : ℕ). AreChildren g.R.Rule.KIND n (g.V.Seen.position c.args.view.now) c.in-Some.children) left_is
+    answers in
+    let settled = settled-same g.R.Rule.KIND c.index.result.now.left (note_at c.args.self.now.notes.items c.args.leaf).left
+    (g.V.Seen.position c.judge_replies.new.view) (g.V.Seen.position c.args.view.now) c.settle_children.new.compiler
+    c.as_slice.result.now c.in-Some.children.all.items
+    c.in_ok-settled-in-Some.settled.numbers.items c.as_slice-in-Some.result.now c.in_ok-settled-in-Some.settled.notes.items
+    c.as_slice-in-Some-2.result.now
+    (ap (λ (n : Note). n.left) note) c.judge_replies.ensures.same c.as_slice.ensures.value c.as_slice-in-Some.ensures.value
+    c.as_slice-in-Some-2.ensures.value c.in_ok-settled-in-Some.ensures.settled in
     let within = c.if-count-self.false in
-    some-new g.R.Rule.KIND c.args.self.now c.args.tree.now c.args.compiler.now c.args.leaf (g.V.Seen.position c.args.view.now) c.requires.at_leaf c.requires.defend c.in-Some.children are c.settle_children.new.compiler c.as_slice-in-Some.result.now c.as_slice-in-Some-2.result.now settled
+    some-new g.R.Rule.KIND c.args.self.now c.args.tree.now c.args.compiler.now c.args.leaf (g.V.Seen.position c.args.view.now)
+    c.requires.at_leaf c.requires.defend c.in-Some.children are c.settle_children.new.compiler c.as_slice-in-Some.result.now
+    c.as_slice-in-Some-2.result.now settled
 
 pub expand-requires-clause-short : goal.expand-requires-clause-short
 expand-requires-clause-short g c =
-    let noted = leaf-noted g.R.Rule.KIND c.args.self.now c.args.tree.now c.args.compiler.now c.args.leaf (g.V.Seen.position c.args.view.now) c.requires.at_leaf in
-    let note : c.index.result.now ≡ note_at c.args.self.now.notes.items c.args.leaf = c.index.ensures ∙ get_or_default c.args.self.now.notes.items c.args.leaf c.index.result.now no_note noted in
+    let noted = leaf-noted g.R.Rule.KIND c.args.self.now c.args.tree.now c.args.compiler.now c.args.leaf (g.V.Seen.position c.args.view.now)
+    c.requires.at_leaf in
+    let note : c.index.result.now ≡ note_at c.args.self.now.notes.items c.args.leaf =
+    c.index.ensures ∙ get_or_default c.args.self.now.notes.items c.args.leaf c.index.result.now no_note noted in
     let left_is = c.from.ensures ∙ ap (λ (n : Note). n.left) note in
-    let answers : AreReplies g.R.Rule.KIND c.from.result (g.V.Seen.position c.args.view.now) (Some c.in-Some.children) = subst (AreReplies g.R.Rule.KIND c.from.result (g.V.Seen.position c.args.view.now)) c.in-Some.is c.in_ok-judge_replies.ensures.replies in
-    let are : AreChildren g.R.Rule.KIND (note_at c.args.self.now.notes.items c.args.leaf).left (g.V.Seen.position c.args.view.now) c.in-Some.children = subst (λ (n : ℕ). AreChildren g.R.Rule.KIND n (g.V.Seen.position c.args.view.now) c.in-Some.children) left_is answers in
-    let settled = settled-same g.R.Rule.KIND c.index.result.now.left (note_at c.args.self.now.notes.items c.args.leaf).left (g.V.Seen.position c.judge_replies.new.view) (g.V.Seen.position c.args.view.now) c.settle_children.new.compiler c.as_slice.result.now c.in-Some.children.all.items
-    c.in_ok-settled-in-Some.settled.numbers.items c.as_slice-in-Some.result.now c.in_ok-settled-in-Some.settled.notes.items c.as_slice-in-Some-2.result.now
-    (ap (λ (n : Note). n.left) note) c.judge_replies.ensures.same c.as_slice.ensures.value c.as_slice-in-Some.ensures.value c.as_slice-in-Some-2.ensures.value c.in_ok-settled-in-Some.ensures.settled in
+    let answers : AreReplies g.R.Rule.KIND c.from.result (g.V.Seen.position c.args.view.now) (Some c.in-Some.children) =
+    subst (AreReplies g.R.Rule.KIND c.from.result (g.V.Seen.position c.args.view.now)) c.in-Some.is
+    c.in_ok-judge_replies.ensures.replies in
+    let are : AreChildren g.R.Rule.KIND (note_at c.args.self.now.notes.items c.args.leaf).left (g.V.Seen.position c.args.view.now)
+    c.in-Some.children = subst (λ (n : ℕ). AreChildren g.R.Rule.KIND n (g.V.Seen.position c.args.view.now) c.in-Some.children) left_is
+    answers in
+    let settled = settled-same g.R.Rule.KIND c.index.result.now.left (note_at c.args.self.now.notes.items c.args.leaf).left
+    (g.V.Seen.position c.judge_replies.new.view) (g.V.Seen.position c.args.view.now) c.settle_children.new.compiler
+    c.as_slice.result.now c.in-Some.children.all.items
+    c.in_ok-settled-in-Some.settled.numbers.items c.as_slice-in-Some.result.now c.in_ok-settled-in-Some.settled.notes.items
+    c.as_slice-in-Some-2.result.now
+    (ap (λ (n : Note). n.left) note) c.judge_replies.ensures.same c.as_slice.ensures.value c.as_slice-in-Some.ensures.value
+    c.as_slice-in-Some-2.ensures.value c.in_ok-settled-in-Some.ensures.settled in
     let within = c.if-count-self.false in
-    let few = budget-few g.R.Rule.KIND c.args.self.now c.args.tree.now c.args.compiler.now c.args.leaf (g.V.Seen.position c.args.view.now) c.requires.at_leaf in
-    let all = few-new g.R.Rule.KIND c.args.self.now c.args.tree.now c.args.compiler.now c.args.leaf (g.V.Seen.position c.args.view.now) c.requires.at_leaf c.requires.defend c.in-Some.children are c.settle_children.new.compiler c.as_slice-in-Some.result.now c.as_slice-in-Some-2.result.now settled (omega (arith, within)) in
-    short-there g.R.Rule.KIND c.args.self.now c.args.tree.now c.args.compiler.now c.args.leaf (g.V.Seen.position c.args.view.now) c.requires.at_leaf c.as_slice-in-Some.result.now (some-new g.R.Rule.KIND c.args.self.now c.args.tree.now c.args.compiler.now c.args.leaf (g.V.Seen.position c.args.view.now) c.requires.at_leaf c.requires.defend c.in-Some.children are c.settle_children.new.compiler c.as_slice-in-Some.result.now c.as_slice-in-Some-2.result.now settled) (omega (arith, all, few))
+    let few = budget-few g.R.Rule.KIND c.args.self.now c.args.tree.now c.args.compiler.now c.args.leaf (g.V.Seen.position c.args.view.now)
+    c.requires.at_leaf in
+    let all = few-new g.R.Rule.KIND c.args.self.now c.args.tree.now c.args.compiler.now c.args.leaf (g.V.Seen.position c.args.view.now)
+    c.requires.at_leaf c.requires.defend c.in-Some.children are c.settle_children.new.compiler c.as_slice-in-Some.result.now
+    c.as_slice-in-Some-2.result.now settled (omega (arith, within)) in
+    short-there g.R.Rule.KIND c.args.self.now c.args.tree.now c.args.compiler.now c.args.leaf (g.V.Seen.position c.args.view.now)
+    c.requires.at_leaf c.as_slice-in-Some.result.now
+    (some-new g.R.Rule.KIND c.args.self.now c.args.tree.now c.args.compiler.now c.args.leaf (g.V.Seen.position c.args.view.now)
+    c.requires.at_leaf c.requires.defend c.in-Some.children are c.settle_children.new.compiler c.as_slice-in-Some.result.now
+    c.as_slice-in-Some-2.result.now settled) (omega (arith, all, few))
 
 pub expand-requires-clause-sums : goal.expand-requires-clause-sums
 expand-requires-clause-sums g c =
-    let noted = leaf-noted g.R.Rule.KIND c.args.self.now c.args.tree.now c.args.compiler.now c.args.leaf (g.V.Seen.position c.args.view.now) c.requires.at_leaf in
-    let note : c.index.result.now ≡ note_at c.args.self.now.notes.items c.args.leaf = c.index.ensures ∙ get_or_default c.args.self.now.notes.items c.args.leaf c.index.result.now no_note noted in
+    let noted = leaf-noted g.R.Rule.KIND c.args.self.now c.args.tree.now c.args.compiler.now c.args.leaf (g.V.Seen.position c.args.view.now)
+    c.requires.at_leaf in
+    let note : c.index.result.now ≡ note_at c.args.self.now.notes.items c.args.leaf =
+    c.index.ensures ∙ get_or_default c.args.self.now.notes.items c.args.leaf c.index.result.now no_note noted in
     let left_is = c.from.ensures ∙ ap (λ (n : Note). n.left) note in
-    let answers : AreReplies g.R.Rule.KIND c.from.result (g.V.Seen.position c.args.view.now) (Some c.in-Some.children) = subst (AreReplies g.R.Rule.KIND c.from.result (g.V.Seen.position c.args.view.now)) c.in-Some.is c.in_ok-judge_replies.ensures.replies in
-    let are : AreChildren g.R.Rule.KIND (note_at c.args.self.now.notes.items c.args.leaf).left (g.V.Seen.position c.args.view.now) c.in-Some.children = subst (λ (n : ℕ). AreChildren g.R.Rule.KIND n (g.V.Seen.position c.args.view.now) c.in-Some.children) left_is answers in
-    let settled = settled-same g.R.Rule.KIND c.index.result.now.left (note_at c.args.self.now.notes.items c.args.leaf).left (g.V.Seen.position c.judge_replies.new.view) (g.V.Seen.position c.args.view.now) c.settle_children.new.compiler c.as_slice.result.now c.in-Some.children.all.items
-    c.in_ok-settled-in-Some.settled.numbers.items c.as_slice-in-Some.result.now c.in_ok-settled-in-Some.settled.notes.items c.as_slice-in-Some-2.result.now
-    (ap (λ (n : Note). n.left) note) c.judge_replies.ensures.same c.as_slice.ensures.value c.as_slice-in-Some.ensures.value c.as_slice-in-Some-2.ensures.value c.in_ok-settled-in-Some.ensures.settled in
+    let answers : AreReplies g.R.Rule.KIND c.from.result (g.V.Seen.position c.args.view.now) (Some c.in-Some.children) =
+    subst (AreReplies g.R.Rule.KIND c.from.result (g.V.Seen.position c.args.view.now)) c.in-Some.is
+    c.in_ok-judge_replies.ensures.replies in
+    let are : AreChildren g.R.Rule.KIND (note_at c.args.self.now.notes.items c.args.leaf).left (g.V.Seen.position c.args.view.now)
+    c.in-Some.children = subst (λ (n : ℕ). AreChildren g.R.Rule.KIND n (g.V.Seen.position c.args.view.now) c.in-Some.children) left_is
+    answers in
+    let settled = settled-same g.R.Rule.KIND c.index.result.now.left (note_at c.args.self.now.notes.items c.args.leaf).left
+    (g.V.Seen.position c.judge_replies.new.view) (g.V.Seen.position c.args.view.now) c.settle_children.new.compiler
+    c.as_slice.result.now c.in-Some.children.all.items
+    c.in_ok-settled-in-Some.settled.numbers.items c.as_slice-in-Some.result.now c.in_ok-settled-in-Some.settled.notes.items
+    c.as_slice-in-Some-2.result.now
+    (ap (λ (n : Note). n.left) note) c.judge_replies.ensures.same c.as_slice.ensures.value c.as_slice-in-Some.ensures.value
+    c.as_slice-in-Some-2.ensures.value c.in_ok-settled-in-Some.ensures.settled in
     let within = c.if-count-self.false in
-    let few = budget-few g.R.Rule.KIND c.args.self.now c.args.tree.now c.args.compiler.now c.args.leaf (g.V.Seen.position c.args.view.now) c.requires.at_leaf in
-    let all = few-new g.R.Rule.KIND c.args.self.now c.args.tree.now c.args.compiler.now c.args.leaf (g.V.Seen.position c.args.view.now) c.requires.at_leaf c.requires.defend c.in-Some.children are c.settle_children.new.compiler c.as_slice-in-Some.result.now c.as_slice-in-Some-2.result.now settled (omega (arith, within)) in
-    sums-there g.R.Rule.KIND c.args.self.now c.args.tree.now c.args.compiler.now c.args.leaf (g.V.Seen.position c.args.view.now) c.requires.at_leaf c.as_slice-in-Some.result.now (some-new g.R.Rule.KIND c.args.self.now c.args.tree.now c.args.compiler.now c.args.leaf (g.V.Seen.position c.args.view.now) c.requires.at_leaf c.requires.defend c.in-Some.children are c.settle_children.new.compiler c.as_slice-in-Some.result.now c.as_slice-in-Some-2.result.now settled) (omega (arith, all, few)) (all-fresh g.R.Rule.KIND c.args.self.now c.args.tree.now c.args.compiler.now c.args.leaf (g.V.Seen.position c.args.view.now) c.requires.at_leaf c.requires.defend c.in-Some.children are c.settle_children.new.compiler c.as_slice-in-Some.result.now c.as_slice-in-Some-2.result.now settled)
+    let few = budget-few g.R.Rule.KIND c.args.self.now c.args.tree.now c.args.compiler.now c.args.leaf (g.V.Seen.position c.args.view.now)
+    c.requires.at_leaf in
+    let all = few-new g.R.Rule.KIND c.args.self.now c.args.tree.now c.args.compiler.now c.args.leaf (g.V.Seen.position c.args.view.now)
+    c.requires.at_leaf c.requires.defend c.in-Some.children are c.settle_children.new.compiler c.as_slice-in-Some.result.now
+    c.as_slice-in-Some-2.result.now settled (omega (arith, within)) in
+    sums-there g.R.Rule.KIND c.args.self.now c.args.tree.now c.args.compiler.now c.args.leaf (g.V.Seen.position c.args.view.now)
+    c.requires.at_leaf c.as_slice-in-Some.result.now
+    (some-new g.R.Rule.KIND c.args.self.now c.args.tree.now c.args.compiler.now c.args.leaf (g.V.Seen.position c.args.view.now)
+    c.requires.at_leaf c.requires.defend c.in-Some.children are c.settle_children.new.compiler c.as_slice-in-Some.result.now
+    c.as_slice-in-Some-2.result.now settled) (omega (arith, all, few))
+    (all-fresh g.R.Rule.KIND c.args.self.now c.args.tree.now c.args.compiler.now c.args.leaf (g.V.Seen.position c.args.view.now)
+    c.requires.at_leaf c.requires.defend c.in-Some.children are c.settle_children.new.compiler c.as_slice-in-Some.result.now
+    c.as_slice-in-Some-2.result.now settled)
 
 pub returns-in_ok-expand-in-Some-clause-step : goal.returns-in_ok-expand-in-Some-clause-step
 returns-in_ok-expand-in-Some-clause-step g c =
-    let noted = leaf-noted g.R.Rule.KIND c.args.self.now c.args.tree.now c.args.compiler.now c.args.leaf (g.V.Seen.position c.args.view.now) c.requires.at_leaf in
-    let note : c.index.result.now ≡ note_at c.args.self.now.notes.items c.args.leaf = c.index.ensures ∙ get_or_default c.args.self.now.notes.items c.args.leaf c.index.result.now no_note noted in
+    let noted = leaf-noted g.R.Rule.KIND c.args.self.now c.args.tree.now c.args.compiler.now c.args.leaf (g.V.Seen.position c.args.view.now)
+    c.requires.at_leaf in
+    let note : c.index.result.now ≡ note_at c.args.self.now.notes.items c.args.leaf =
+    c.index.ensures ∙ get_or_default c.args.self.now.notes.items c.args.leaf c.index.result.now no_note noted in
     let left_is = c.from.ensures ∙ ap (λ (n : Note). n.left) note in
-    let answers : AreReplies g.R.Rule.KIND c.from.result (g.V.Seen.position c.args.view.now) (Some c.in-Some.children) = subst (AreReplies g.R.Rule.KIND c.from.result (g.V.Seen.position c.args.view.now)) c.in-Some.is c.in_ok-judge_replies.ensures.replies in
-    let are : AreChildren g.R.Rule.KIND (note_at c.args.self.now.notes.items c.args.leaf).left (g.V.Seen.position c.args.view.now) c.in-Some.children = subst (λ (n : ℕ). AreChildren g.R.Rule.KIND n (g.V.Seen.position c.args.view.now) c.in-Some.children) left_is answers in
-    let settled = settled-same g.R.Rule.KIND c.index.result.now.left (note_at c.args.self.now.notes.items c.args.leaf).left (g.V.Seen.position c.judge_replies.new.view) (g.V.Seen.position c.args.view.now) c.settle_children.new.compiler c.as_slice.result.now c.in-Some.children.all.items
-    c.in_ok-settled-in-Some.settled.numbers.items c.as_slice-in-Some.result.now c.in_ok-settled-in-Some.settled.notes.items c.as_slice-in-Some-2.result.now
-    (ap (λ (n : Note). n.left) note) c.judge_replies.ensures.same c.as_slice.ensures.value c.as_slice-in-Some.ensures.value c.as_slice-in-Some-2.ensures.value c.in_ok-settled-in-Some.ensures.settled in
+    let answers : AreReplies g.R.Rule.KIND c.from.result (g.V.Seen.position c.args.view.now) (Some c.in-Some.children) =
+    subst (AreReplies g.R.Rule.KIND c.from.result (g.V.Seen.position c.args.view.now)) c.in-Some.is
+    c.in_ok-judge_replies.ensures.replies in
+    let are : AreChildren g.R.Rule.KIND (note_at c.args.self.now.notes.items c.args.leaf).left (g.V.Seen.position c.args.view.now)
+    c.in-Some.children = subst (λ (n : ℕ). AreChildren g.R.Rule.KIND n (g.V.Seen.position c.args.view.now) c.in-Some.children) left_is
+    answers in
+    let settled = settled-same g.R.Rule.KIND c.index.result.now.left (note_at c.args.self.now.notes.items c.args.leaf).left
+    (g.V.Seen.position c.judge_replies.new.view) (g.V.Seen.position c.args.view.now) c.settle_children.new.compiler
+    c.as_slice.result.now c.in-Some.children.all.items
+    c.in_ok-settled-in-Some.settled.numbers.items c.as_slice-in-Some.result.now c.in_ok-settled-in-Some.settled.notes.items
+    c.as_slice-in-Some-2.result.now
+    (ap (λ (n : Note). n.left) note) c.judge_replies.ensures.same c.as_slice.ensures.value c.as_slice-in-Some.ensures.value
+    c.as_slice-in-Some-2.ensures.value c.in_ok-settled-in-Some.ensures.settled in
     let within = c.if-count-self.false in
-    let grown : GrowsBy c.args.compiler.now c.settle_children.new.compiler (sum_by (λ child. nodes_for child.judged) c.in-Some.children.all.items) = subst (λ (xs : List Child). GrowsBy c.args.compiler.now c.settle_children.new.compiler (sum_by (λ child. nodes_for child.judged) xs)) c.as_slice.ensures.value c.settle_children.ensures.grows in
+    let grown : GrowsBy c.args.compiler.now c.settle_children.new.compiler
+    (sum_by (λ child. nodes_for child.judged) c.in-Some.children.all.items) =
+    subst (λ (xs : List Child). GrowsBy c.args.compiler.now c.settle_children.new.compiler
+    (sum_by (λ child. nodes_for child.judged) xs)) c.as_slice.ensures.value c.settle_children.ensures.grows in
     let count : ℕ = c.args.self.now.attacked + c.in-Some.children.count in
-    replies-grow g.R.Rule.KIND c.args.self.now c.args.tree.now c.args.compiler.now c.args.leaf (g.V.Seen.position c.args.view.now) c.requires.at_leaf c.requires.defend c.in-Some.children are c.settle_children.new.compiler grown c.len.ensures.compiled c.as_slice-in-Some.result.now c.as_slice-in-Some-2.result.now settled
-    c.expand.new.tree c.in_ok-expand-in-Some.ensures.tree (record c.expand.new.self { attacked = count }) c.in_ok-expand-in-Some.ensures.notes
-    (ap (λ (s : Search). record s { attacked = count }) c.expand.ensures.rest ∙ ap (λ (b : Grid). record c.args.self.now { board = b; notes = c.expand.new.self.notes; attacked = count }) (sym (ap (λ (s : Search). s.board) c.expand.ensures.rest)))
+    replies-grow g.R.Rule.KIND c.args.self.now c.args.tree.now c.args.compiler.now c.args.leaf (g.V.Seen.position c.args.view.now)
+    c.requires.at_leaf c.requires.defend c.in-Some.children are c.settle_children.new.compiler grown c.len.ensures.compiled
+    c.as_slice-in-Some.result.now c.as_slice-in-Some-2.result.now settled
+    c.expand.new.tree c.in_ok-expand-in-Some.ensures.tree (record c.expand.new.self { attacked = count })
+    c.in_ok-expand-in-Some.ensures.notes
+    (ap (λ (s : Search). record s { attacked = count }) c.expand.ensures.rest
+    ∙ ap (λ (b : Grid). record c.args.self.now { board = b; notes = c.expand.new.self.notes; attacked = count })
+    (sym (ap (λ (s : Search). s.board) c.expand.ensures.rest)))
     (ap (λ (s : Search). s.board) c.expand.ensures.rest ∙ c.judge_replies.ensures.same_board) (omega (arith, within))
 
 pub settle_children-requires : goal.settle_children-requires
 settle_children-requires g c =
-    let noted = leaf-noted g.R.Rule.KIND c.args.self.now c.args.tree.now c.args.compiler.now c.args.leaf (g.V.Seen.position c.args.view.now) c.requires.at_leaf in
-    let note : c.index.result.now ≡ note_at c.args.self.now.notes.items c.args.leaf = c.index.ensures ∙ get_or_default c.args.self.now.notes.items c.args.leaf c.index.result.now no_note noted in
+    let noted = leaf-noted g.R.Rule.KIND c.args.self.now c.args.tree.now c.args.compiler.now c.args.leaf (g.V.Seen.position c.args.view.now)
+    c.requires.at_leaf in
+    let note : c.index.result.now ≡ note_at c.args.self.now.notes.items c.args.leaf =
+    c.index.ensures ∙ get_or_default c.args.self.now.notes.items c.args.leaf c.index.result.now no_note noted in
     let left_is = c.from.ensures ∙ ap (λ (n : Note). n.left) note in
-    let answers : AreReplies g.R.Rule.KIND c.from.result (g.V.Seen.position c.args.view.now) (Some c.in-Some.children) = subst (AreReplies g.R.Rule.KIND c.from.result (g.V.Seen.position c.args.view.now)) c.in-Some.is c.in_ok-judge_replies.ensures.replies in
-    let are : AreChildren g.R.Rule.KIND (note_at c.args.self.now.notes.items c.args.leaf).left (g.V.Seen.position c.args.view.now) c.in-Some.children = subst (λ (n : ℕ). AreChildren g.R.Rule.KIND n (g.V.Seen.position c.args.view.now) c.in-Some.children) left_is answers in
+    let answers : AreReplies g.R.Rule.KIND c.from.result (g.V.Seen.position c.args.view.now) (Some c.in-Some.children) =
+    subst (AreReplies g.R.Rule.KIND c.from.result (g.V.Seen.position c.args.view.now)) c.in-Some.is
+    c.in_ok-judge_replies.ensures.replies in
+    let are : AreChildren g.R.Rule.KIND (note_at c.args.self.now.notes.items c.args.leaf).left (g.V.Seen.position c.args.view.now)
+    c.in-Some.children = subst (λ (n : ℕ). AreChildren g.R.Rule.KIND n (g.V.Seen.position c.args.view.now) c.in-Some.children) left_is
+    answers in
     record {
-      each = each-same g.R.Rule.KIND c.index.result.now.left (note_at c.args.self.now.notes.items c.args.leaf).left (g.V.Seen.position c.judge_replies.new.view) (g.V.Seen.position c.args.view.now)
-          c.as_slice.result.now c.in-Some.children.all.items (ap (λ (n : Note). n.left) note) c.judge_replies.ensures.same c.as_slice.ensures.value
-          (each-is g.R.Rule.KIND c.args.self.now c.args.tree.now c.args.compiler.now c.args.leaf (g.V.Seen.position c.args.view.now) c.requires.at_leaf c.requires.defend c.in-Some.children are);
+      each = each-same g.R.Rule.KIND c.index.result.now.left (note_at c.args.self.now.notes.items c.args.leaf).left
+          (g.V.Seen.position c.judge_replies.new.view) (g.V.Seen.position c.args.view.now)
+          c.as_slice.result.now c.in-Some.children.all.items (ap (λ (n : Note). n.left) note) c.judge_replies.ensures.same
+          c.as_slice.ensures.value
+          (each-is g.R.Rule.KIND c.args.self.now c.args.tree.now c.args.compiler.now c.args.leaf (g.V.Seen.position c.args.view.now)
+          c.requires.at_leaf c.requires.defend c.in-Some.children are);
     }

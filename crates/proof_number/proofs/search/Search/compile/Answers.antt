@@ -4,27 +4,36 @@ use Rattle.proof_tree.specs.Trees.{link_at}
 use Rattle.proof_tree.specs.declared.Link.{Link}
 use Rattle.proof_number.specs.declared.notes.Note.{Note}
 use Rattle.proof_number.specs.Notes.{no_note, note_at}
-use Rattle.proof_number.proofs.Compiling.{compile-below, compile-few, compile-fits, compile-full, compile-here, compile-inside, compile-keeps, compile-kept, compile-kids, compile-noted, compile-searches, compile-some, compile-won}
+use Rattle.proof_number.proofs.Compiling.{compile-below, compile-few, compile-fits, compile-full, compile-here, compile-inside}
+use Rattle.proof_number.proofs.Compiling.{compile-keeps, compile-kept, compile-kids, compile-noted, compile-searches, compile-some}
+use Rattle.proof_number.proofs.Compiling.{compile-won}
 use Rattle.proof_number.proofs.Recording.{keeps-all}
 use Rattle.proof_number.proofs.search.Search.compile.Goals as goal
 
 pub first_proved-proved-requires-clause-some : goal.first_proved-proved-requires-clause-some
 first_proved-proved-requires-clause-some g c =
-    compile-some g.R.Rule.KIND c.args.self.now c.args.tree.now c.args.compiler.now c.args.node c.requires.searching c.requires.in_tree c.requires.attack c.requires.proved c.requires.unwritten
+    compile-some g.R.Rule.KIND c.args.self.now c.args.tree.now c.args.compiler.now c.args.node c.requires.searching c.requires.in_tree
+    c.requires.attack c.requires.proved c.requires.unwritten
 
 pub link-link-requires : goal.link-link-requires
 link-link-requires g c = record {
-  in_tree = compile-inside g.R.Rule.KIND c.args.self.now c.args.tree.now c.args.compiler.now c.args.node c.requires.searching c.requires.in_tree c.requires.attack c.requires.proved c.requires.unwritten c.first_proved-proved.result c.first_proved-proved.ensures.child c.first_proved-proved.ensures.proved;
+  in_tree = compile-inside g.R.Rule.KIND c.args.self.now c.args.tree.now c.args.compiler.now c.args.node c.requires.searching
+      c.requires.in_tree c.requires.attack c.requires.proved c.requires.unwritten c.first_proved-proved.result
+      c.first_proved-proved.ensures.child c.first_proved-proved.ensures.proved;
 }
 
 pub index-requires : goal.index-requires
 index-requires g c =
-    let low = compile-noted g.R.Rule.KIND c.args.self.now c.args.tree.now c.args.compiler.now c.args.node c.requires.searching c.requires.in_tree c.requires.attack c.requires.proved c.requires.unwritten c.first_proved-proved.result c.first_proved-proved.ensures.child c.first_proved-proved.ensures.proved in
+    let low = compile-noted g.R.Rule.KIND c.args.self.now c.args.tree.now c.args.compiler.now c.args.node c.requires.searching
+    c.requires.in_tree c.requires.attack c.requires.proved c.requires.unwritten c.first_proved-proved.result
+    c.first_proved-proved.ensures.child c.first_proved-proved.ensures.proved in
     omega (arith, low)
 
 pub kids-notes-requires : goal.kids-notes-requires
 kids-notes-requires g c =
-    let fits = compile-fits g.R.Rule.KIND c.args.self.now c.args.tree.now c.args.compiler.now c.args.node c.requires.searching c.requires.in_tree c.requires.attack c.requires.proved c.requires.unwritten c.first_proved-proved.result c.first_proved-proved.ensures.child c.first_proved-proved.ensures.proved in
+    let fits = compile-fits g.R.Rule.KIND c.args.self.now c.args.tree.now c.args.compiler.now c.args.node c.requires.searching
+    c.requires.in_tree c.requires.attack c.requires.proved c.requires.unwritten c.first_proved-proved.result
+    c.first_proved-proved.ensures.child c.first_proved-proved.ensures.proved in
     let first = ap (λ (l : Link). l.first) c.link-link.ensures.link in
     let count = ap (λ (l : Link). l.count) c.link-link.ensures.link in
     let all = ap length c.as_slice.ensures.value in
@@ -33,16 +42,24 @@ kids-notes-requires g c =
 pub compile_answers-requires-clause-some : goal.compile_answers-requires-clause-some
 compile_answers-requires-clause-some g c =
     let items : List Note = c.args.self.now.notes.items in
-    let are : c.kids-notes.result.now ≡ take (link_at c.args.tree.now.links c.first_proved-proved.result).count (drop (link_at c.args.tree.now.links c.first_proved-proved.result).first items) =
-    c.kids-notes.ensures.kids ∙ ap (λ (ns : List Note). take c.link-link.result.count (drop c.link-link.result.first ns)) c.as_slice.ensures.value ∙ ap (λ (l : Link). take l.count (drop l.first items)) c.link-link.ensures.link in
-    compile-kids g.R.Rule.KIND c.args.self.now c.args.tree.now c.args.compiler.now c.args.node c.requires.searching c.requires.in_tree c.requires.attack c.requires.proved c.requires.unwritten c.first_proved-proved.result c.first_proved-proved.ensures.child c.first_proved-proved.ensures.proved c.kids-notes.result.now are
+    let are : c.kids-notes.result.now ≡ take (link_at c.args.tree.now.links c.first_proved-proved.result).count
+    (drop (link_at c.args.tree.now.links c.first_proved-proved.result).first items) =
+    c.kids-notes.ensures.kids ∙ ap (λ (ns : List Note). take c.link-link.result.count (drop c.link-link.result.first ns))
+    c.as_slice.ensures.value ∙ ap (λ (l : Link). take l.count (drop l.first items)) c.link-link.ensures.link in
+    compile-kids g.R.Rule.KIND c.args.self.now c.args.tree.now c.args.compiler.now c.args.node c.requires.searching c.requires.in_tree
+    c.requires.attack c.requires.proved c.requires.unwritten c.first_proved-proved.result c.first_proved-proved.ensures.child
+    c.first_proved-proved.ensures.proved c.kids-notes.result.now are
 
 pub compile_answers-requires-clause-below : goal.compile_answers-requires-clause-below
 compile_answers-requires-clause-below g c =
     let items : List Note = c.args.self.now.notes.items in
-    let are : c.kids-notes.result.now ≡ take (link_at c.args.tree.now.links c.first_proved-proved.result).count (drop (link_at c.args.tree.now.links c.first_proved-proved.result).first items) =
-    c.kids-notes.ensures.kids ∙ ap (λ (ns : List Note). take c.link-link.result.count (drop c.link-link.result.first ns)) c.as_slice.ensures.value ∙ ap (λ (l : Link). take l.count (drop l.first items)) c.link-link.ensures.link in
-    compile-below g.R.Rule.KIND c.args.self.now c.args.tree.now c.args.compiler.now c.args.node c.requires.searching c.requires.in_tree c.requires.attack c.requires.proved c.requires.unwritten c.first_proved-proved.result c.first_proved-proved.ensures.child c.first_proved-proved.ensures.proved c.kids-notes.result.now are
+    let are : c.kids-notes.result.now ≡ take (link_at c.args.tree.now.links c.first_proved-proved.result).count
+    (drop (link_at c.args.tree.now.links c.first_proved-proved.result).first items) =
+    c.kids-notes.ensures.kids ∙ ap (λ (ns : List Note). take c.link-link.result.count (drop c.link-link.result.first ns))
+    c.as_slice.ensures.value ∙ ap (λ (l : Link). take l.count (drop l.first items)) c.link-link.ensures.link in
+    compile-below g.R.Rule.KIND c.args.self.now c.args.tree.now c.args.compiler.now c.args.node c.requires.searching c.requires.in_tree
+    c.requires.attack c.requires.proved c.requires.unwritten c.first_proved-proved.result c.first_proved-proved.ensures.child
+    c.first_proved-proved.ensures.proved c.kids-notes.result.now are
 
 pub returns-in-Err-clause-keeps : goal.returns-in-Err-clause-keeps
 returns-in-Err-clause-keeps g c = keeps-all c.args.self.now
@@ -60,15 +77,21 @@ returns-in-Err-clause-full_now g c = c.in-Err.ensures.writes.full_now
 
 pub note_win-requires-clause-noted : goal.note_win-requires-clause-noted
 note_win-requires-clause-noted g c =
-    compile-here g.R.Rule.KIND c.args.self.now c.args.tree.now c.args.compiler.now c.args.node c.requires.searching c.requires.in_tree c.requires.attack c.requires.proved c.requires.unwritten
+    compile-here g.R.Rule.KIND c.args.self.now c.args.tree.now c.args.compiler.now c.args.node c.requires.searching c.requires.in_tree
+    c.requires.attack c.requires.proved c.requires.unwritten
 
 pub note_win-requires-clause-few : goal.note_win-requires-clause-few
 note_win-requires-clause-few g c =
     let items : List Note = c.args.self.now.notes.items in
-    let are : c.kids-notes.result.now ≡ take (link_at c.args.tree.now.links c.first_proved-proved.result).count (drop (link_at c.args.tree.now.links c.first_proved-proved.result).first items) =
-    c.kids-notes.ensures.kids ∙ ap (λ (ns : List Note). take c.link-link.result.count (drop c.link-link.result.first ns)) c.as_slice.ensures.value ∙ ap (λ (l : Link). take l.count (drop l.first items)) c.link-link.ensures.link in
-    let low = compile-noted g.R.Rule.KIND c.args.self.now c.args.tree.now c.args.compiler.now c.args.node c.requires.searching c.requires.in_tree c.requires.attack c.requires.proved c.requires.unwritten c.first_proved-proved.result c.first_proved-proved.ensures.child c.first_proved-proved.ensures.proved in
-    let move : (note_at items c.first_proved-proved.result).at ≡ c.index.result.now.at = ap (λ (n : Note). n.at) (get_or_default items c.first_proved-proved.result no_note c.index.result.now low ∙ sym c.index.ensures) in
+    let are : c.kids-notes.result.now ≡ take (link_at c.args.tree.now.links c.first_proved-proved.result).count
+    (drop (link_at c.args.tree.now.links c.first_proved-proved.result).first items) =
+    c.kids-notes.ensures.kids ∙ ap (λ (ns : List Note). take c.link-link.result.count (drop c.link-link.result.first ns))
+    c.as_slice.ensures.value ∙ ap (λ (l : Link). take l.count (drop l.first items)) c.link-link.ensures.link in
+    let low = compile-noted g.R.Rule.KIND c.args.self.now c.args.tree.now c.args.compiler.now c.args.node c.requires.searching
+    c.requires.in_tree c.requires.attack c.requires.proved c.requires.unwritten c.first_proved-proved.result
+    c.first_proved-proved.ensures.child c.first_proved-proved.ensures.proved in
+    let move : (note_at items c.first_proved-proved.result).at ≡ c.index.result.now.at =
+    ap (λ (n : Note). n.at) (get_or_default items c.first_proved-proved.result no_note c.index.result.now low ∙ sym c.index.ensures) in
     compile-few g.R.Rule.KIND c.args.self.now c.args.tree.now c.args.compiler.now c.args.node c.requires.searching c.requires.in_tree
     c.requires.attack c.requires.proved c.requires.unwritten c.first_proved-proved.result c.first_proved-proved.ensures.child
     c.first_proved-proved.ensures.proved c.kids-notes.result.now are c.compile_answers.new.compiler c.index.result.now.at move
@@ -77,10 +100,15 @@ note_win-requires-clause-few g c =
 pub returns-in-Ok-clause-win : goal.returns-in-Ok-clause-win
 returns-in-Ok-clause-win g c =
     let items : List Note = c.args.self.now.notes.items in
-    let are : c.kids-notes.result.now ≡ take (link_at c.args.tree.now.links c.first_proved-proved.result).count (drop (link_at c.args.tree.now.links c.first_proved-proved.result).first items) =
-    c.kids-notes.ensures.kids ∙ ap (λ (ns : List Note). take c.link-link.result.count (drop c.link-link.result.first ns)) c.as_slice.ensures.value ∙ ap (λ (l : Link). take l.count (drop l.first items)) c.link-link.ensures.link in
-    let low = compile-noted g.R.Rule.KIND c.args.self.now c.args.tree.now c.args.compiler.now c.args.node c.requires.searching c.requires.in_tree c.requires.attack c.requires.proved c.requires.unwritten c.first_proved-proved.result c.first_proved-proved.ensures.child c.first_proved-proved.ensures.proved in
-    let move : (note_at items c.first_proved-proved.result).at ≡ c.index.result.now.at = ap (λ (n : Note). n.at) (get_or_default items c.first_proved-proved.result no_note c.index.result.now low ∙ sym c.index.ensures) in
+    let are : c.kids-notes.result.now ≡ take (link_at c.args.tree.now.links c.first_proved-proved.result).count
+    (drop (link_at c.args.tree.now.links c.first_proved-proved.result).first items) =
+    c.kids-notes.ensures.kids ∙ ap (λ (ns : List Note). take c.link-link.result.count (drop c.link-link.result.first ns))
+    c.as_slice.ensures.value ∙ ap (λ (l : Link). take l.count (drop l.first items)) c.link-link.ensures.link in
+    let low = compile-noted g.R.Rule.KIND c.args.self.now c.args.tree.now c.args.compiler.now c.args.node c.requires.searching
+    c.requires.in_tree c.requires.attack c.requires.proved c.requires.unwritten c.first_proved-proved.result
+    c.first_proved-proved.ensures.child c.first_proved-proved.ensures.proved in
+    let move : (note_at items c.first_proved-proved.result).at ≡ c.index.result.now.at =
+    ap (λ (n : Note). n.at) (get_or_default items c.first_proved-proved.result no_note c.index.result.now low ∙ sym c.index.ensures) in
     compile-won g.R.Rule.KIND c.args.self.now c.args.tree.now c.args.compiler.now c.args.node c.requires.searching c.requires.in_tree
     c.requires.attack c.requires.proved c.requires.unwritten c.first_proved-proved.result c.first_proved-proved.ensures.child
     c.first_proved-proved.ensures.proved c.kids-notes.result.now are c.compile_answers.new.compiler c.index.result.now.at move
@@ -89,10 +117,15 @@ returns-in-Ok-clause-win g c =
 pub returns-in-Ok-clause-searching : goal.returns-in-Ok-clause-searching
 returns-in-Ok-clause-searching g c =
     let items : List Note = c.args.self.now.notes.items in
-    let are : c.kids-notes.result.now ≡ take (link_at c.args.tree.now.links c.first_proved-proved.result).count (drop (link_at c.args.tree.now.links c.first_proved-proved.result).first items) =
-    c.kids-notes.ensures.kids ∙ ap (λ (ns : List Note). take c.link-link.result.count (drop c.link-link.result.first ns)) c.as_slice.ensures.value ∙ ap (λ (l : Link). take l.count (drop l.first items)) c.link-link.ensures.link in
-    let low = compile-noted g.R.Rule.KIND c.args.self.now c.args.tree.now c.args.compiler.now c.args.node c.requires.searching c.requires.in_tree c.requires.attack c.requires.proved c.requires.unwritten c.first_proved-proved.result c.first_proved-proved.ensures.child c.first_proved-proved.ensures.proved in
-    let move : (note_at items c.first_proved-proved.result).at ≡ c.index.result.now.at = ap (λ (n : Note). n.at) (get_or_default items c.first_proved-proved.result no_note c.index.result.now low ∙ sym c.index.ensures) in
+    let are : c.kids-notes.result.now ≡ take (link_at c.args.tree.now.links c.first_proved-proved.result).count
+    (drop (link_at c.args.tree.now.links c.first_proved-proved.result).first items) =
+    c.kids-notes.ensures.kids ∙ ap (λ (ns : List Note). take c.link-link.result.count (drop c.link-link.result.first ns))
+    c.as_slice.ensures.value ∙ ap (λ (l : Link). take l.count (drop l.first items)) c.link-link.ensures.link in
+    let low = compile-noted g.R.Rule.KIND c.args.self.now c.args.tree.now c.args.compiler.now c.args.node c.requires.searching
+    c.requires.in_tree c.requires.attack c.requires.proved c.requires.unwritten c.first_proved-proved.result
+    c.first_proved-proved.ensures.child c.first_proved-proved.ensures.proved in
+    let move : (note_at items c.first_proved-proved.result).at ≡ c.index.result.now.at =
+    ap (λ (n : Note). n.at) (get_or_default items c.first_proved-proved.result no_note c.index.result.now low ∙ sym c.index.ensures) in
     compile-searches g.R.Rule.KIND c.args.self.now c.args.tree.now c.args.compiler.now c.args.node c.requires.searching c.requires.in_tree
     c.requires.attack c.requires.proved c.requires.unwritten c.first_proved-proved.result c.first_proved-proved.ensures.child
     c.first_proved-proved.ensures.proved c.kids-notes.result.now are c.compile_answers.new.compiler c.index.result.now.at move
@@ -102,10 +135,15 @@ returns-in-Ok-clause-searching g c =
 pub returns-in-Ok-clause-keeps : goal.returns-in-Ok-clause-keeps
 returns-in-Ok-clause-keeps g c =
     let items : List Note = c.args.self.now.notes.items in
-    let are : c.kids-notes.result.now ≡ take (link_at c.args.tree.now.links c.first_proved-proved.result).count (drop (link_at c.args.tree.now.links c.first_proved-proved.result).first items) =
-    c.kids-notes.ensures.kids ∙ ap (λ (ns : List Note). take c.link-link.result.count (drop c.link-link.result.first ns)) c.as_slice.ensures.value ∙ ap (λ (l : Link). take l.count (drop l.first items)) c.link-link.ensures.link in
-    let low = compile-noted g.R.Rule.KIND c.args.self.now c.args.tree.now c.args.compiler.now c.args.node c.requires.searching c.requires.in_tree c.requires.attack c.requires.proved c.requires.unwritten c.first_proved-proved.result c.first_proved-proved.ensures.child c.first_proved-proved.ensures.proved in
-    let move : (note_at items c.first_proved-proved.result).at ≡ c.index.result.now.at = ap (λ (n : Note). n.at) (get_or_default items c.first_proved-proved.result no_note c.index.result.now low ∙ sym c.index.ensures) in
+    let are : c.kids-notes.result.now ≡ take (link_at c.args.tree.now.links c.first_proved-proved.result).count
+    (drop (link_at c.args.tree.now.links c.first_proved-proved.result).first items) =
+    c.kids-notes.ensures.kids ∙ ap (λ (ns : List Note). take c.link-link.result.count (drop c.link-link.result.first ns))
+    c.as_slice.ensures.value ∙ ap (λ (l : Link). take l.count (drop l.first items)) c.link-link.ensures.link in
+    let low = compile-noted g.R.Rule.KIND c.args.self.now c.args.tree.now c.args.compiler.now c.args.node c.requires.searching
+    c.requires.in_tree c.requires.attack c.requires.proved c.requires.unwritten c.first_proved-proved.result
+    c.first_proved-proved.ensures.child c.first_proved-proved.ensures.proved in
+    let move : (note_at items c.first_proved-proved.result).at ≡ c.index.result.now.at =
+    ap (λ (n : Note). n.at) (get_or_default items c.first_proved-proved.result no_note c.index.result.now low ∙ sym c.index.ensures) in
     compile-keeps g.R.Rule.KIND c.args.self.now c.args.tree.now c.args.compiler.now c.args.node c.requires.searching c.requires.in_tree
     c.requires.attack c.requires.proved c.requires.unwritten c.first_proved-proved.result c.first_proved-proved.ensures.child
     c.first_proved-proved.ensures.proved c.kids-notes.result.now are c.compile_answers.new.compiler c.index.result.now.at move
@@ -115,10 +153,15 @@ returns-in-Ok-clause-keeps g c =
 pub returns-in-Ok-clause-kept : goal.returns-in-Ok-clause-kept
 returns-in-Ok-clause-kept g c =
     let items : List Note = c.args.self.now.notes.items in
-    let are : c.kids-notes.result.now ≡ take (link_at c.args.tree.now.links c.first_proved-proved.result).count (drop (link_at c.args.tree.now.links c.first_proved-proved.result).first items) =
-    c.kids-notes.ensures.kids ∙ ap (λ (ns : List Note). take c.link-link.result.count (drop c.link-link.result.first ns)) c.as_slice.ensures.value ∙ ap (λ (l : Link). take l.count (drop l.first items)) c.link-link.ensures.link in
-    let low = compile-noted g.R.Rule.KIND c.args.self.now c.args.tree.now c.args.compiler.now c.args.node c.requires.searching c.requires.in_tree c.requires.attack c.requires.proved c.requires.unwritten c.first_proved-proved.result c.first_proved-proved.ensures.child c.first_proved-proved.ensures.proved in
-    let move : (note_at items c.first_proved-proved.result).at ≡ c.index.result.now.at = ap (λ (n : Note). n.at) (get_or_default items c.first_proved-proved.result no_note c.index.result.now low ∙ sym c.index.ensures) in
+    let are : c.kids-notes.result.now ≡ take (link_at c.args.tree.now.links c.first_proved-proved.result).count
+    (drop (link_at c.args.tree.now.links c.first_proved-proved.result).first items) =
+    c.kids-notes.ensures.kids ∙ ap (λ (ns : List Note). take c.link-link.result.count (drop c.link-link.result.first ns))
+    c.as_slice.ensures.value ∙ ap (λ (l : Link). take l.count (drop l.first items)) c.link-link.ensures.link in
+    let low = compile-noted g.R.Rule.KIND c.args.self.now c.args.tree.now c.args.compiler.now c.args.node c.requires.searching
+    c.requires.in_tree c.requires.attack c.requires.proved c.requires.unwritten c.first_proved-proved.result
+    c.first_proved-proved.ensures.child c.first_proved-proved.ensures.proved in
+    let move : (note_at items c.first_proved-proved.result).at ≡ c.index.result.now.at =
+    ap (λ (n : Note). n.at) (get_or_default items c.first_proved-proved.result no_note c.index.result.now low ∙ sym c.index.ensures) in
     compile-kept g.R.Rule.KIND c.args.self.now c.args.tree.now c.args.compiler.now c.args.node c.requires.searching c.requires.in_tree
     c.requires.attack c.requires.proved c.requires.unwritten c.first_proved-proved.result c.first_proved-proved.ensures.child
     c.first_proved-proved.ensures.proved c.kids-notes.result.now are c.compile_answers.new.compiler c.index.result.now.at move

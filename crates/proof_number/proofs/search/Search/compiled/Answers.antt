@@ -5,19 +5,26 @@ use Rattle.proof_number.proofs.Recording.{keeps-all, noted-none, noted-inside, n
 use Rattle.proof_number.proofs.search.Search.compiled.Goals as goal
 
 pub index-requires : goal.index-requires
-index-requires g c = let low = noted-inside g.R.Rule.KIND c.args.self.now c.args.tree.now c.args.compiler.now c.args.node c.requires.searching c.requires.in_tree in omega (arith, low)
+index-requires g c = let low = noted-inside g.R.Rule.KIND c.args.self.now c.args.tree.now c.args.compiler.now c.args.node
+    c.requires.searching c.requires.in_tree in omega (arith, low)
 
 pub returns-in-Some-clause-win : goal.returns-in-Some-clause-win
 returns-in-Some-clause-win g c =
-    let low = noted-inside g.R.Rule.KIND c.args.self.now c.args.tree.now c.args.compiler.now c.args.node c.requires.searching c.requires.in_tree in
-    let note : note_at c.args.self.now.notes.items c.args.node ≡ c.index.result.now = get_or_default c.args.self.now.notes.items c.args.node no_note c.index.result.now low ∙ sym c.index.ensures in
-    noted-written g.R.Rule.KIND c.args.self.now c.args.tree.now c.args.compiler.now c.args.node c.requires.searching c.requires.in_tree c.in-Some.win (ap noted_win note ∙ sym c.in-Some.ensures.win)
+    let low = noted-inside g.R.Rule.KIND c.args.self.now c.args.tree.now c.args.compiler.now c.args.node c.requires.searching
+    c.requires.in_tree in
+    let note : note_at c.args.self.now.notes.items c.args.node ≡ c.index.result.now =
+    get_or_default c.args.self.now.notes.items c.args.node no_note c.index.result.now low ∙ sym c.index.ensures in
+    noted-written g.R.Rule.KIND c.args.self.now c.args.tree.now c.args.compiler.now c.args.node c.requires.searching c.requires.in_tree
+    c.in-Some.win (ap noted_win note ∙ sym c.in-Some.ensures.win)
 
 pub returns-in-Some-clause-searching : goal.returns-in-Some-clause-searching
 returns-in-Some-clause-searching g c =
-    let low = noted-inside g.R.Rule.KIND c.args.self.now c.args.tree.now c.args.compiler.now c.args.node c.requires.searching c.requires.in_tree in
-    let note : note_at c.args.self.now.notes.items c.args.node ≡ c.index.result.now = get_or_default c.args.self.now.notes.items c.args.node no_note c.index.result.now low ∙ sym c.index.ensures in
-    noted-searches g.R.Rule.KIND c.args.self.now c.args.tree.now c.args.compiler.now c.args.node c.requires.searching c.in-Some.win (ap noted_win note ∙ sym c.in-Some.ensures.win)
+    let low = noted-inside g.R.Rule.KIND c.args.self.now c.args.tree.now c.args.compiler.now c.args.node c.requires.searching
+    c.requires.in_tree in
+    let note : note_at c.args.self.now.notes.items c.args.node ≡ c.index.result.now =
+    get_or_default c.args.self.now.notes.items c.args.node no_note c.index.result.now low ∙ sym c.index.ensures in
+    noted-searches g.R.Rule.KIND c.args.self.now c.args.tree.now c.args.compiler.now c.args.node c.requires.searching c.in-Some.win
+    (ap noted_win note ∙ sym c.in-Some.ensures.win)
 
 pub returns-in-Some-clause-keeps : goal.returns-in-Some-clause-keeps
 returns-in-Some-clause-keeps g c = keeps-all c.args.self.now
@@ -27,6 +34,8 @@ returns-in-Some-clause-kept g c = ([], sym (append-nil c.args.compiler.now))
 
 pub compile-requires-clause-unwritten : goal.compile-requires-clause-unwritten
 compile-requires-clause-unwritten g c =
-    let low = noted-inside g.R.Rule.KIND c.args.self.now c.args.tree.now c.args.compiler.now c.args.node c.requires.searching c.requires.in_tree in
-    let note : note_at c.args.self.now.notes.items c.args.node ≡ c.index.result.now = get_or_default c.args.self.now.notes.items c.args.node no_note c.index.result.now low ∙ sym c.index.ensures in
+    let low = noted-inside g.R.Rule.KIND c.args.self.now c.args.tree.now c.args.compiler.now c.args.node c.requires.searching
+    c.requires.in_tree in
+    let note : note_at c.args.self.now.notes.items c.args.node ≡ c.index.result.now =
+    get_or_default c.args.self.now.notes.items c.args.node no_note c.index.result.now low ∙ sym c.index.ensures in
     noted-none (note_at c.args.self.now.notes.items c.args.node) (ap noted_win note ∙ sym c.in-None.ensures.win)

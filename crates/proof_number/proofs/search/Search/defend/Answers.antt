@@ -6,15 +6,22 @@ use Rattle.proof_number.proofs.Defending.{denied-grows}
 use Rattle.proof_number.proofs.search.Search.defend.Goals as goal
 
 pub settle-requires : goal.settle-requires
-settle-requires g c = record { «open» = root-open g.R.Rule.KIND c.args.self.now c.args.tree.now c.args.compiler.now c.args.leaf (g.V.Seen.position c.args.view.now) c.requires.at_leaf }
+settle-requires g c = record {
+  «open» = root-open g.R.Rule.KIND c.args.self.now c.args.tree.now c.args.compiler.now c.args.leaf
+      (g.V.Seen.position c.args.view.now) c.requires.at_leaf;
+}
 
 pub returns-then-denied-clause-step : goal.returns-then-denied-clause-step
 returns-then-denied-clause-step g c =
-    let is = leaf-is g.R.Rule.KIND c.args.self.now c.args.tree.now c.args.compiler.now c.args.leaf (g.V.Seen.position c.args.view.now) c.requires.at_leaf in
-    denied-grows g.R.Rule.KIND c.args.self.now c.args.tree.now c.args.compiler.now c.args.leaf (g.V.Seen.position c.args.view.now) c.requires.at_leaf c.requires.defend
+    let is = leaf-is g.R.Rule.KIND c.args.self.now c.args.tree.now c.args.compiler.now c.args.leaf (g.V.Seen.position c.args.view.now)
+    c.requires.at_leaf in
+    denied-grows g.R.Rule.KIND c.args.self.now c.args.tree.now c.args.compiler.now c.args.leaf (g.V.Seen.position c.args.view.now)
+    c.requires.at_leaf c.requires.defend
     (c.in_ok-denied.ensures.denied c.if-denied.true) c.settle.new.self
-    (settled-at c.args.tree.now c.settle.new.self c.args.leaf false is c.settle.ensures.links c.settle.ensures.settled c.settle.ensures.others c.settle.ensures.leaves c.settle.ensures.tree)
+    (settled-at c.args.tree.now c.settle.new.self c.args.leaf false is c.settle.ensures.links c.settle.ensures.settled
+    c.settle.ensures.others c.settle.ensures.leaves c.settle.ensures.tree)
 
 pub answer_replies-requires-clause-at_leaf : goal.answer_replies-requires-clause-at_leaf
 answer_replies-requires-clause-at_leaf g c =
-    subst (λ (b : Grid). StandsAt g.R.Rule.KIND c.args.self.now c.args.tree.now c.args.compiler.now c.args.leaf b) (sym c.is_denied.ensures.same) c.requires.at_leaf
+    subst (λ (b : Grid). StandsAt g.R.Rule.KIND c.args.self.now c.args.tree.now c.args.compiler.now c.args.leaf b)
+    (sym c.is_denied.ensures.same) c.requires.at_leaf

@@ -7,22 +7,34 @@ use Rattle.proof_number.proofs.search.Search.record.Goals as goal
 
 pub index-requires : goal.index-requires
 index-requires g c =
-    let low = above-inside g.R.Rule.KIND c.value_at.new.self c.args.tree.now c.value_at.new.compiler c.args.node c.in-Ok-Some.ensures.searching c.requires.in_tree in
+    let low = above-inside g.R.Rule.KIND c.value_at.new.self c.args.tree.now c.value_at.new.compiler c.args.node
+    c.in-Ok-Some.ensures.searching c.requires.in_tree in
     omega (arith, low)
 
 pub returns-in-Ok-Some-clause-searching : goal.returns-in-Ok-Some-clause-searching
 returns-in-Ok-Some-clause-searching g c =
-    let places : game_of g.R.Rule.KIND c.value_at.new.self c.args.tree.now ≡ game_of g.R.Rule.KIND c.args.self.now c.args.tree.now = c.value_at.ensures.keeps.places g.R.Rule.KIND c.args.tree.now in
-    let low : c.args.node < length c.value_at.new.self.notes.items = above-inside g.R.Rule.KIND c.value_at.new.self c.args.tree.now c.value_at.new.compiler c.args.node c.in-Ok-Some.ensures.searching c.requires.in_tree in
-    let P : Option Settled → Type 0 = λ o. IfSome o (IsTrueOf g.R.Rule.KIND c.value_at.new.compiler (board_at (game_of g.R.Rule.KIND c.args.self.now c.args.tree.now) c.args.node) (left_at (game_of g.R.Rule.KIND c.args.self.now c.args.tree.now).left c.args.node)) in
-    let before : IsTrueOf g.R.Rule.KIND c.value_at.new.compiler (board_at (game_of g.R.Rule.KIND c.args.self.now c.args.tree.now) c.args.node) (left_at (game_of g.R.Rule.KIND c.args.self.now c.args.tree.now).left c.args.node) c.in-Ok-Some.value =
+    let places : game_of g.R.Rule.KIND c.value_at.new.self c.args.tree.now ≡ game_of g.R.Rule.KIND c.args.self.now c.args.tree.now =
+    c.value_at.ensures.keeps.places g.R.Rule.KIND c.args.tree.now in
+    let low : c.args.node < length c.value_at.new.self.notes.items =
+    above-inside g.R.Rule.KIND c.value_at.new.self c.args.tree.now c.value_at.new.compiler c.args.node c.in-Ok-Some.ensures.searching
+    c.requires.in_tree in
+    let P : Option Settled → Type 0 = λ o. IfSome o
+    (IsTrueOf g.R.Rule.KIND c.value_at.new.compiler (board_at (game_of g.R.Rule.KIND c.args.self.now c.args.tree.now) c.args.node)
+    (left_at (game_of g.R.Rule.KIND c.args.self.now c.args.tree.now).left c.args.node)) in
+    let before : IsTrueOf g.R.Rule.KIND c.value_at.new.compiler
+    (board_at (game_of g.R.Rule.KIND c.args.self.now c.args.tree.now) c.args.node)
+    (left_at (game_of g.R.Rule.KIND c.args.self.now c.args.tree.now).left c.args.node) c.in-Ok-Some.value =
     subst P c.in-Ok-Some.field-0-is c.in-Ok-Some.ensures.value in
-    kept-searches g.R.Rule.KIND c.value_at.new.self c.args.tree.now c.value_at.new.compiler c.args.node c.in-Ok-Some.ensures.searching c.remember.new.self (g.V.Seen.position c.args.view.now) c.index.result.now.left c.in-Ok-Some.value c.requires.in_tree c.remember.ensures.rest
+    kept-searches g.R.Rule.KIND c.value_at.new.self c.args.tree.now c.value_at.new.compiler c.args.node c.in-Ok-Some.ensures.searching
+    c.remember.new.self (g.V.Seen.position c.args.view.now) c.index.result.now.left c.in-Ok-Some.value c.requires.in_tree
+    c.remember.ensures.rest
     (c.requires.view ∙ sym (ap (λ (w : GameTree). board_at w c.args.node) places))
     (sym (noted-left c.value_at.new.self.notes.items c.args.node c.index.result.now no_note low c.index.ensures))
-    (subst (λ (w : GameTree). IsTrueOf g.R.Rule.KIND c.value_at.new.compiler (board_at w c.args.node) (left_at w.left c.args.node) c.in-Ok-Some.value) (sym places) before)
+    (subst (λ (w : GameTree). IsTrueOf g.R.Rule.KIND c.value_at.new.compiler (board_at w c.args.node) (left_at w.left c.args.node)
+    c.in-Ok-Some.value) (sym places) before)
     c.remember.ensures.settled
 
 pub returns-in-Ok-Some-clause-keeps : goal.returns-in-Ok-Some-clause-keeps
 returns-in-Ok-Some-clause-keeps g c =
-    keeps-then c.args.self.now c.value_at.new.self c.remember.new.self c.value_at.ensures.keeps (remembered-keeps c.value_at.new.self c.remember.new.self c.remember.ensures.rest)
+    keeps-then c.args.self.now c.value_at.new.self c.remember.new.self c.value_at.ensures.keeps
+    (remembered-keeps c.value_at.new.self c.remember.new.self c.remember.ensures.rest)

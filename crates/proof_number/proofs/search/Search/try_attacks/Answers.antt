@@ -6,31 +6,44 @@ use Rattle.proof_number.proofs.Steps.{attack-no_five, leaf-board, board-stands}
 use Rattle.proof_number.proofs.search.Search.try_attacks.Goals as goal
 
 pub find_attacks-requires-clause-none : goal.find_attacks-requires-clause-none
-find_attacks-requires-clause-none g c = attack-no_five g.R.Rule.KIND c.args.self.now c.args.tree.now c.args.compiler.now c.args.leaf (g.V.Seen.position c.args.view.now) c.requires.at_leaf c.requires.attack
+find_attacks-requires-clause-none g c = attack-no_five g.R.Rule.KIND c.args.self.now c.args.tree.now c.args.compiler.now c.args.leaf
+    (g.V.Seen.position c.args.view.now) c.requires.at_leaf c.requires.attack
 
 pub find_attacks-requires-clause-copy : goal.find_attacks-requires-clause-copy
-find_attacks-requires-clause-copy g c = leaf-board g.R.Rule.KIND c.args.self.now c.args.tree.now c.args.compiler.now c.args.leaf (g.V.Seen.position c.args.view.now) c.requires.at_leaf
+find_attacks-requires-clause-copy g c = leaf-board g.R.Rule.KIND c.args.self.now c.args.tree.now c.args.compiler.now c.args.leaf
+    (g.V.Seen.position c.args.view.now) c.requires.at_leaf
 
 pub win_last-requires-clause-at_leaf : goal.win_last-requires-clause-at_leaf
-win_last-requires-clause-at_leaf g c = board-stands g.R.Rule.KIND c.args.self.now c.args.tree.now c.args.compiler.now c.args.leaf (g.V.Seen.position c.args.view.now) c.requires.at_leaf _ c.find_attacks.ensures.same_board
+win_last-requires-clause-at_leaf g c = board-stands g.R.Rule.KIND c.args.self.now c.args.tree.now c.args.compiler.now c.args.leaf
+    (g.V.Seen.position c.args.view.now) c.requires.at_leaf _ c.find_attacks.ensures.same_board
 
 pub expand_attack-requires-clause-at_leaf : goal.expand_attack-requires-clause-at_leaf
-expand_attack-requires-clause-at_leaf g c = board-stands g.R.Rule.KIND c.args.self.now c.args.tree.now c.args.compiler.now c.args.leaf (g.V.Seen.position c.args.view.now) c.requires.at_leaf _ c.find_attacks.ensures.same_board
+expand_attack-requires-clause-at_leaf g c = board-stands g.R.Rule.KIND c.args.self.now c.args.tree.now c.args.compiler.now c.args.leaf
+    (g.V.Seen.position c.args.view.now) c.requires.at_leaf _ c.find_attacks.ensures.same_board
 
 pub win_last-requires-clause-last : goal.win_last-requires-clause-last
 win_last-requires-clause-last g c =
-    let board : c.find_attacks.new.board ≡ g.V.Seen.position c.args.view.now = c.find_attacks.ensures.same_board ∙ leaf-board g.R.Rule.KIND c.args.self.now c.args.tree.now c.args.compiler.now c.args.leaf (g.V.Seen.position c.args.view.now) c.requires.at_leaf in
-    let all : AreAttacks g.R.Rule.KIND (g.V.Seen.position c.args.view.now) (NoReply c.in-NoReply.p) = subst (AreAttacks g.R.Rule.KIND (g.V.Seen.position c.args.view.now)) c.in-NoReply.is c.in_ok-double.ensures.attacks in
+    let board : c.find_attacks.new.board ≡ g.V.Seen.position c.args.view.now =
+    c.find_attacks.ensures.same_board ∙ leaf-board g.R.Rule.KIND c.args.self.now c.args.tree.now c.args.compiler.now c.args.leaf
+    (g.V.Seen.position c.args.view.now) c.requires.at_leaf in
+    let all : AreAttacks g.R.Rule.KIND (g.V.Seen.position c.args.view.now) (NoReply c.in-NoReply.p) =
+    subst (AreAttacks g.R.Rule.KIND (g.V.Seen.position c.args.view.now)) c.in-NoReply.is c.in_ok-double.ensures.attacks in
     subst (λ (b : Grid). is_last_move g.R.Rule.KIND b c.in-NoReply.p ≡ true) (sym board) all
 
 pub expand_attack-requires-clause-moves : goal.expand_attack-requires-clause-moves
 expand_attack-requires-clause-moves g c =
-    let board : c.find_attacks.new.board ≡ g.V.Seen.position c.args.view.now = c.find_attacks.ensures.same_board ∙ leaf-board g.R.Rule.KIND c.args.self.now c.args.tree.now c.args.compiler.now c.args.leaf (g.V.Seen.position c.args.view.now) c.requires.at_leaf in
-    let all : AreAttacks g.R.Rule.KIND (g.V.Seen.position c.args.view.now) (Moves c.in-Moves.moves) = subst (AreAttacks g.R.Rule.KIND (g.V.Seen.position c.args.view.now)) c.in-Moves.is c.in_ok-double.ensures.attacks in
+    let board : c.find_attacks.new.board ≡ g.V.Seen.position c.args.view.now =
+    c.find_attacks.ensures.same_board ∙ leaf-board g.R.Rule.KIND c.args.self.now c.args.tree.now c.args.compiler.now c.args.leaf
+    (g.V.Seen.position c.args.view.now) c.requires.at_leaf in
+    let all : AreAttacks g.R.Rule.KIND (g.V.Seen.position c.args.view.now) (Moves c.in-Moves.moves) =
+    subst (AreAttacks g.R.Rule.KIND (g.V.Seen.position c.args.view.now)) c.in-Moves.is c.in_ok-double.ensures.attacks in
     c.as_slice.ensures.items ∙ all.0 ∙ ap (tried_moves g.R.Rule.KIND) (sym board)
 
 pub expand_attack-requires-clause-others : goal.expand_attack-requires-clause-others
 expand_attack-requires-clause-others g c =
-    let board : c.find_attacks.new.board ≡ g.V.Seen.position c.args.view.now = c.find_attacks.ensures.same_board ∙ leaf-board g.R.Rule.KIND c.args.self.now c.args.tree.now c.args.compiler.now c.args.leaf (g.V.Seen.position c.args.view.now) c.requires.at_leaf in
-    let all : AreAttacks g.R.Rule.KIND (g.V.Seen.position c.args.view.now) (Moves c.in-Moves.moves) = subst (AreAttacks g.R.Rule.KIND (g.V.Seen.position c.args.view.now)) c.in-Moves.is c.in_ok-double.ensures.attacks in
+    let board : c.find_attacks.new.board ≡ g.V.Seen.position c.args.view.now =
+    c.find_attacks.ensures.same_board ∙ leaf-board g.R.Rule.KIND c.args.self.now c.args.tree.now c.args.compiler.now c.args.leaf
+    (g.V.Seen.position c.args.view.now) c.requires.at_leaf in
+    let all : AreAttacks g.R.Rule.KIND (g.V.Seen.position c.args.view.now) (Moves c.in-Moves.moves) =
+    subst (AreAttacks g.R.Rule.KIND (g.V.Seen.position c.args.view.now)) c.in-Moves.is c.in_ok-double.ensures.attacks in
     subst (OthersFail g.R.Rule.KIND) (sym board) all.1

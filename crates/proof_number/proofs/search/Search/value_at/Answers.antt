@@ -8,20 +8,25 @@ use Rattle.proof_number.proofs.search.Search.value_at.Goals as goal
 
 pub returns-in-Defend-clause-searching : goal.returns-in-Defend-clause-searching
 returns-in-Defend-clause-searching g c =
-    other-searches g.R.Rule.KIND c.args.self.now c.args.tree.now c.args.compiler.now c.args.node c.requires.searching (inl (ap (λ (l : Link). l.kind) (sym c.link.ensures.link) ∙ c.in-Defend.is))
+    other-searches g.R.Rule.KIND c.args.self.now c.args.tree.now c.args.compiler.now c.args.node c.requires.searching
+    (inl (ap (λ (l : Link). l.kind) (sym c.link.ensures.link) ∙ c.in-Defend.is))
 
 pub returns-then-not-is_settled-clause-searching : goal.returns-then-not-is_settled-clause-searching
 returns-then-not-is_settled-clause-searching g c =
-    let unsettled : is_settled (numbers_at c.args.tree.now.numbers c.args.node) ≡ false = ap is_settled (sym c.numbers-numbers.ensures.numbers) ∙ sym c.is_settled.ensures.settled ∙ c.if-not-is_settled.true in
+    let unsettled : is_settled (numbers_at c.args.tree.now.numbers c.args.node) ≡ false =
+    ap is_settled (sym c.numbers-numbers.ensures.numbers) ∙ sym c.is_settled.ensures.settled ∙ c.if-not-is_settled.true in
     other-searches g.R.Rule.KIND c.args.self.now c.args.tree.now c.args.compiler.now c.args.node c.requires.searching
     (inr (λ proved. let bad : false ≡ true = sym unsettled ∙ ap is_settled proved in cc))
 
 pub returns-then-numbers-ne0-clause-value : goal.returns-then-numbers-ne0-clause-value
 returns-then-numbers-ne0-clause-value g c =
-    let settled : is_settled (numbers_at c.args.tree.now.numbers c.args.node) ≡ true = ap is_settled (sym c.numbers-numbers.ensures.numbers) ∙ sym c.is_settled.ensures.settled ∙ c.if-not-is_settled.false in
+    let settled : is_settled (numbers_at c.args.tree.now.numbers c.args.node) ≡ true =
+    ap is_settled (sym c.numbers-numbers.ensures.numbers) ∙ sym c.is_settled.ensures.settled ∙ c.if-not-is_settled.false in
     let lost : numbers_at c.args.tree.now.numbers c.args.node ≡ settled_numbers false =
-    settled-lost (numbers_at c.args.tree.now.numbers c.args.node) settled (λ nothing. c.if-numbers-ne0.true (ap (λ (n : Numbers). n.proof) c.numbers-numbers.ensures.numbers ∙ nothing)) in
-    lost-there g.R.Rule.KIND c.args.self.now c.args.tree.now c.args.compiler.now c.args.node c.requires.searching c.requires.in_tree (ap (λ (l : Link). l.kind) (sym c.link.ensures.link) ∙ c.in-Attack.is) lost
+    settled-lost (numbers_at c.args.tree.now.numbers c.args.node) settled
+    (λ nothing. c.if-numbers-ne0.true (ap (λ (n : Numbers). n.proof) c.numbers-numbers.ensures.numbers ∙ nothing)) in
+    lost-there g.R.Rule.KIND c.args.self.now c.args.tree.now c.args.compiler.now c.args.node c.requires.searching c.requires.in_tree
+    (ap (λ (l : Link). l.kind) (sym c.link.ensures.link) ∙ c.in-Attack.is) lost
 
 pub returns-then-numbers-ne0-clause-searching : goal.returns-then-numbers-ne0-clause-searching
 returns-then-numbers-ne0-clause-searching g c =
@@ -30,9 +35,12 @@ returns-then-numbers-ne0-clause-searching g c =
 
 pub returns-in-Ok-clause-value : goal.returns-in-Ok-clause-value
 returns-in-Ok-clause-value g c =
-    let settled : is_settled (numbers_at c.args.tree.now.numbers c.args.node) ≡ true = ap is_settled (sym c.numbers-numbers.ensures.numbers) ∙ sym c.is_settled.ensures.settled ∙ c.if-not-is_settled.false in
+    let settled : is_settled (numbers_at c.args.tree.now.numbers c.args.node) ≡ true =
+    ap is_settled (sym c.numbers-numbers.ensures.numbers) ∙ sym c.is_settled.ensures.settled ∙ c.if-not-is_settled.false in
     let won : numbers_at c.args.tree.now.numbers c.args.node ≡ settled_numbers true =
-    settled-won (numbers_at c.args.tree.now.numbers c.args.node) settled (ap (λ (n : Numbers). n.proof) (sym c.numbers-numbers.ensures.numbers) ∙ c.if-numbers-ne0.false) in (
+    settled-won (numbers_at c.args.tree.now.numbers c.args.node) settled
+    (ap (λ (n : Numbers). n.proof) (sym c.numbers-numbers.ensures.numbers) ∙ c.if-numbers-ne0.false) in (
       c.in-Ok.ensures.win,
-      won-there g.R.Rule.KIND c.args.self.now c.args.tree.now c.args.compiler.now c.args.node c.requires.searching c.requires.in_tree (ap (λ (l : Link). l.kind) (sym c.link.ensures.link) ∙ c.in-Attack.is) won,
+      won-there g.R.Rule.KIND c.args.self.now c.args.tree.now c.args.compiler.now c.args.node c.requires.searching c.requires.in_tree
+          (ap (λ (l : Link). l.kind) (sym c.link.ensures.link) ∙ c.in-Attack.is) won,
     )

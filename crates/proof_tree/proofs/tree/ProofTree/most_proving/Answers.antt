@@ -9,7 +9,9 @@ returns-then-link-eq0-clause-leaf c =
     let t : Tree = c.args.self.now in
     let links : c.self.inside.links.items ≡ t.links = ap (λ v. v.links) c.self.view_is in
     let here : link_at t.links c.loop-self.number ≡ c.index-link.result.now =
-    ap (λ v. link_at v c.loop-self.number) (sym links) ∙ read-at c.self.inside.links.items c.loop-self.number (leaf_link Attack 0) c.index-link.result.now (omega (arith, ap length links, c.loop-self.invariant.inside)) c.index-link.ensures in
+    ap (λ v. link_at v c.loop-self.number) (sym links)
+    ∙ read-at c.self.inside.links.items c.loop-self.number (leaf_link Attack 0) c.index-link.result.now
+    (omega (arith, ap length links, c.loop-self.invariant.inside)) c.index-link.ensures in
     LeadsOn-leaf t c.loop-self.number (ap (λ v. v.count) here ∙ c.if-link-eq0.true) c.loop-self.invariant.leads
 
 pub overflow_add-number : goal.overflow_add-number
@@ -20,11 +22,15 @@ overflow_add-number c =
     let numbers : c.self.inside.numbers.items ≡ t.numbers = ap (λ v. v.numbers) c.self.view_is in
     let tree : IsTree t = subst IsTree c.self.view_is c.self.invariant in
     let here : link_at t.links i ≡ c.index-link.result.now =
-    ap (λ v. link_at v i) (sym links) ∙ read-at c.self.inside.links.items i (leaf_link Attack 0) c.index-link.result.now (omega (arith, ap length links, c.loop-self.invariant.inside)) c.index-link.ensures in
+    ap (λ v. link_at v i) (sym links) ∙ read-at c.self.inside.links.items i (leaf_link Attack 0) c.index-link.result.now
+    (omega (arith, ap length links, c.loop-self.invariant.inside)) c.index-link.ensures in
     let own : numbers_at t.numbers i ≡ c.index.result.now =
-    ap (λ v. numbers_at v i) (sym numbers) ∙ read-at c.self.inside.numbers.items i no_numbers c.index.result.now (omega (arith, ap length numbers, tree.numbered.count, c.loop-self.invariant.inside)) c.index.ensures in
+    ap (λ v. numbers_at v i) (sym numbers) ∙ read-at c.self.inside.numbers.items i no_numbers c.index.result.now
+    (omega (arith, ap length numbers, tree.numbered.count, c.loop-self.invariant.inside)) c.index.ensures in
     let next : IsNext t i (c.index-link.result.now.first + c.first_with.result) =
-    next-child t i c.index-link.result.now c.sought-least.result c.index.result.now c.as_slice.result.now c.first_with.result tree c.loop-self.invariant.inside c.loop-self.invariant.open_node c.loop-self.invariant.leads here c.if-link-eq0.false own c.sought-least.ensures.sought (c.as_slice.ensures.value ∙ numbers) c.first_with.ensures.place in
+    next-child t i c.index-link.result.now c.sought-least.result c.index.result.now c.as_slice.result.now c.first_with.result tree
+    c.loop-self.invariant.inside c.loop-self.invariant.open_node c.loop-self.invariant.leads here c.if-link-eq0.false own
+    c.sought-least.ensures.sought (c.as_slice.ensures.value ∙ numbers) c.first_with.ensures.place in
     omega (arith, next.inside, tree.short)
 
 pub overflow_cast-number-in-loop-self-2 : goal.overflow_cast-number-in-loop-self-2
@@ -35,11 +41,15 @@ overflow_cast-number-in-loop-self-2 c =
     let numbers : c.self.inside.numbers.items ≡ t.numbers = ap (λ v. v.numbers) c.self.view_is in
     let tree : IsTree t = subst IsTree c.self.view_is c.self.invariant in
     let here : link_at t.links i ≡ c.index-link.result.now =
-    ap (λ v. link_at v i) (sym links) ∙ read-at c.self.inside.links.items i (leaf_link Attack 0) c.index-link.result.now (omega (arith, ap length links, c.loop-self.invariant.inside)) c.index-link.ensures in
+    ap (λ v. link_at v i) (sym links) ∙ read-at c.self.inside.links.items i (leaf_link Attack 0) c.index-link.result.now
+    (omega (arith, ap length links, c.loop-self.invariant.inside)) c.index-link.ensures in
     let own : numbers_at t.numbers i ≡ c.index.result.now =
-    ap (λ v. numbers_at v i) (sym numbers) ∙ read-at c.self.inside.numbers.items i no_numbers c.index.result.now (omega (arith, ap length numbers, tree.numbered.count, c.loop-self.invariant.inside)) c.index.ensures in
+    ap (λ v. numbers_at v i) (sym numbers) ∙ read-at c.self.inside.numbers.items i no_numbers c.index.result.now
+    (omega (arith, ap length numbers, tree.numbered.count, c.loop-self.invariant.inside)) c.index.ensures in
     let next : IsNext t i (c.index-link.result.now.first + c.first_with.result) =
-    next-child t i c.index-link.result.now c.sought-least.result c.index.result.now c.as_slice.result.now c.first_with.result tree c.loop-self.invariant.inside c.loop-self.invariant.open_node c.loop-self.invariant.leads here c.if-link-eq0.false own c.sought-least.ensures.sought (c.as_slice.ensures.value ∙ numbers) c.first_with.ensures.place in
+    next-child t i c.index-link.result.now c.sought-least.result c.index.result.now c.as_slice.result.now c.first_with.result tree
+    c.loop-self.invariant.inside c.loop-self.invariant.open_node c.loop-self.invariant.leads here c.if-link-eq0.false own
+    c.sought-least.ensures.sought (c.as_slice.ensures.value ∙ numbers) c.first_with.ensures.place in
     omega (arith, next.inside, tree.short)
 
 pub loop-self-preserved : goal.loop-self-preserved
@@ -50,9 +60,13 @@ loop-self-preserved c =
     let numbers : c.self.inside.numbers.items ≡ t.numbers = ap (λ v. v.numbers) c.self.view_is in
     let tree : IsTree t = subst IsTree c.self.view_is c.self.invariant in
     let here : link_at t.links i ≡ c.index-link.result.now =
-    ap (λ v. link_at v i) (sym links) ∙ read-at c.self.inside.links.items i (leaf_link Attack 0) c.index-link.result.now (omega (arith, ap length links, c.loop-self.invariant.inside)) c.index-link.ensures in
+    ap (λ v. link_at v i) (sym links) ∙ read-at c.self.inside.links.items i (leaf_link Attack 0) c.index-link.result.now
+    (omega (arith, ap length links, c.loop-self.invariant.inside)) c.index-link.ensures in
     let own : numbers_at t.numbers i ≡ c.index.result.now =
-    ap (λ v. numbers_at v i) (sym numbers) ∙ read-at c.self.inside.numbers.items i no_numbers c.index.result.now (omega (arith, ap length numbers, tree.numbered.count, c.loop-self.invariant.inside)) c.index.ensures in
+    ap (λ v. numbers_at v i) (sym numbers) ∙ read-at c.self.inside.numbers.items i no_numbers c.index.result.now
+    (omega (arith, ap length numbers, tree.numbered.count, c.loop-self.invariant.inside)) c.index.ensures in
     let next : IsNext t i (c.index-link.result.now.first + c.first_with.result) =
-    next-child t i c.index-link.result.now c.sought-least.result c.index.result.now c.as_slice.result.now c.first_with.result tree c.loop-self.invariant.inside c.loop-self.invariant.open_node c.loop-self.invariant.leads here c.if-link-eq0.false own c.sought-least.ensures.sought (c.as_slice.ensures.value ∙ numbers) c.first_with.ensures.place in
+    next-child t i c.index-link.result.now c.sought-least.result c.index.result.now c.as_slice.result.now c.first_with.result tree
+    c.loop-self.invariant.inside c.loop-self.invariant.open_node c.loop-self.invariant.leads here c.if-link-eq0.false own
+    c.sought-least.ensures.sought (c.as_slice.ensures.value ∙ numbers) c.first_with.ensures.place in
     record { inside = next.inside; open_node = next.open_node; leads = next.leads }

@@ -47,7 +47,13 @@ invariant_of-self-else-self-le-MAX_SESSION_BYTES g c =
       piece_room = c.self.invariant.piece_room;
       next_within = omega arith;
       end_within = omega arith;
-      taken_within = omega (arith, c.in_ok-count.ensures.fits.0, c.max-most.ensures, c.requires.within, ap (λ (reader : ReaderState). reader.taken) c.self.view_is);
+      taken_within = omega (
+        arith,
+        c.in_ok-count.ensures.fits.0,
+        c.max-most.ensures,
+        c.requires.within,
+        ap (λ (reader : ReaderState). reader.taken) c.self.view_is,
+      );
       ended_within = λ is_ended. let told = ap (λ (reader : ReaderState). reader.ended) c.self.view_is ∙ c.requires.reading in cc;
       ended_empty = λ is_ended. let told = ap (λ (reader : ReaderState). reader.ended) c.self.view_is ∙ c.requires.reading in cc;
     }

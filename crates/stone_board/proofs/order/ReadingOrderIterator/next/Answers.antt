@@ -10,12 +10,14 @@ first c =
     let row : nat_lt c.self.inside.next.y c.self.inside.height ≡ true = grind (arith, nat_tests) in
     sym c.self.view_is
     ∙ points_left-next c.self.inside.width c.self.inside.height c.self.inside.next c.self.invariant row
-    ∙ ap (λ (p : Point). c.self.inside.next ∷ points_left c.self.inside.width c.self.inside.height p) (sym c.following-self-inside.ensures.following)
+    ∙ ap (λ (p : Point). c.self.inside.next ∷ points_left c.self.inside.width c.self.inside.height p)
+    (sym c.following-self-inside.ensures.following)
 
 pub returns-clause-steps : goal.returns-clause-steps
 returns-clause-steps c = first c
 
 pub returns-clause-goes : goal.returns-clause-goes
 returns-clause-goes c =
-    let fewer : length (points_left c.self.inside.width c.self.inside.height c.following-self-inside.result) < length c.args.self.now = let e = ap length (first c) in omega (arith, e) in
+    let fewer : length (points_left c.self.inside.width c.self.inside.height c.following-self-inside.result) < length c.args.self.now =
+    let e = ap length (first c) in omega (arith, e) in
     record { on = λ f. (tt, tt, fewer); keeps = tt; rests = λ f. tt }

@@ -16,11 +16,13 @@ invariant_of-self-2 g c =
     let added : is_ok c.push.result ≡ true = c.is_err.ensures.negation ∙ ap not c.if-is_err.false in
     let table : t ≡ c.args.self.now.table = ap (λ (h : HeldTable). h.table) c.self.view_is in
     let roots : c.self.inside.roots.items ≡ c.args.self.now.roots = ap (λ (h : HeldTable). h.roots) c.self.view_is in
-    let room : length c.self.inside.roots.items < MAX_ROOTS = subst (λ (rs : List HeldRoot). length rs < MAX_ROOTS) (sym roots) c.requires.room in
+    let room : length c.self.inside.roots.items < MAX_ROOTS =
+    subst (λ (rs : List HeldRoot). length rs < MAX_ROOTS) (sym roots) c.requires.room in
     let here : c.into_board.result ≡ c.checked_moves.new.position = c.into_board.ensures.board in
     let this : IsHeldRoot t r = record {
       lawful = subst (IsPosition g.R.Rule.KIND) (sym here) c.into_board.ensures.lawful;
       below = ap (λ (w : List Node). root_below c.args.root (length w)) table ∙ c.requires.below;
-      accepted = subst (AcceptedRoot g.R.Rule.KIND t c.args.root) (sym (here ∙ c.checked_moves.ensures.same)) c.in_ok-moves.ensures.accepted;
+      accepted = subst (AcceptedRoot g.R.Rule.KIND t c.args.root) (sym (here ∙ c.checked_moves.ensures.same))
+          c.in_ok-moves.ensures.accepted;
     } in
     rw (c.push.ensures.items, added, c.KIND.ensures) (IsHeld-push t c.self.inside.roots.items r c.self.invariant room this)

@@ -6,6 +6,7 @@ pub returns-then-not-is_soon_won-clause-ready : goal.returns-then-not-is_soon_wo
 returns-then-not-is_soon_won-clause-ready g c = record {
   lawful = c.requires.ready.lawful;
   no_line = c.requires.ready.no_line;
-  memo = true-kept g.R.Rule.KIND (IsWalked g.R.Rule.KIND c.args.table.now) c.args.position.now c.board.result.now c.args.i c.args.arrivals c.args.self.now.memo
+  memo = true-kept g.R.Rule.KIND (IsWalked g.R.Rule.KIND c.args.table.now) c.args.position.now c.board.result.now c.args.i c.args.arrivals
+      c.args.self.now.memo
       c.requires.ready.lawful c.board.ensures.board c.requires.ready.memo c.keep.new.self c.requires.walked c.keep.ensures.kept;
 }

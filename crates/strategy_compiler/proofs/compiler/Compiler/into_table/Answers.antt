@@ -34,5 +34,6 @@ returns-clause-nodes c =
 pub returns-clause-compiled : goal.returns-clause-compiled
 returns-clause-compiled c =
     subst IsCompiled
-    (c.self.view_is ∙ sym c.loop-node.invariant ∙ ap (λ (ns : List Node). c.loop-node.table ++ ns) c.in-None.ensures.steps.0 ∙ append-nil c.loop-node.table)
+    (c.self.view_is ∙ sym c.loop-node.invariant ∙ ap (λ (ns : List Node). c.loop-node.table ++ ns) c.in-None.ensures.steps.0
+    ∙ append-nil c.loop-node.table)
     c.self.invariant

@@ -6,11 +6,14 @@ use Rattle.strategy_graph.proofs.table.Table.push.Goals as goal
 pub overflow_add-below : goal.overflow_add-below
 overflow_add-below c =
     let number : c.len-number.result ≡ length c.self.inside.nodes.items = omega arith in
-    let below : names_below (answers_of c.args.node) c.len-number.result ≡ true = sym c.are_all_below.ensures.below ∙ c.if-not-are_all_below.false in
+    let below : names_below (answers_of c.args.node) c.len-number.result ≡ true =
+    sym c.are_all_below.ensures.below ∙ c.if-not-are_all_below.false in
     let value : c.deepest-below.result ≡ greatest (map (λ j. slice_index c.self.inside.depths.items j) (named (answers_of c.args.node))) =
-    greatest-read c.self.inside.depths.items c.as_slice-2.result.now (answers_of c.args.node) c.as_slice.result.now c.args.node.rest c.deepest-below.result
+    greatest-read c.self.inside.depths.items c.as_slice-2.result.now (answers_of c.args.node) c.as_slice.result.now c.args.node.rest
+    c.deepest-below.result
     c.as_slice-2.ensures.value c.as_slice.ensures.items refl c.deepest-below.ensures.greatest in
-    let low = greatest-le c.self.inside.nodes.items c.self.inside.depths.items c.self.invariant.counted (answers_of c.args.node) (rw (← number) below) in
+    let low = greatest-le c.self.inside.nodes.items c.self.inside.depths.items c.self.invariant.counted (answers_of c.args.node)
+    (rw (← number) below) in
     omega (arith, value, low, c.self.invariant.table.size)
 
 pub invariant_of-self-else-is_err-2 : goal.invariant_of-self-else-is_err-2
@@ -18,11 +21,15 @@ invariant_of-self-else-is_err-2 c =
     let counted : is_ok c.push.result ≡ true = c.is_err.ensures.negation ∙ ap not c.if-is_err.false in
     let added : is_ok c.push-2.result ≡ true = c.is_err-2.ensures.negation ∙ ap not c.if-is_err-2.false in
     let number : c.len-number.result ≡ length c.self.inside.nodes.items = omega arith in
-    let below : names_below (answers_of c.args.node) c.len-number.result ≡ true = sym c.are_all_below.ensures.below ∙ c.if-not-are_all_below.false in
-    rw (c.push.ensures.items, counted, c.push-2.ensures.items, added) (IsTableWithDepths-push c.self.inside.nodes.items c.self.inside.depths.items c.args.node c.deepest-below.result c.self.invariant (record {
+    let below : names_below (answers_of c.args.node) c.len-number.result ≡ true =
+    sym c.are_all_below.ensures.below ∙ c.if-not-are_all_below.false in
+    rw (c.push.ensures.items, counted, c.push-2.ensures.items, added)
+    (IsTableWithDepths-push c.self.inside.nodes.items c.self.inside.depths.items c.args.node c.deepest-below.result c.self.invariant
+    (record {
       below = rw (← number) below;
       rising = sym c.is_rising.ensures.rising ∙ c.if-not-is_rising.false;
       winning = c.requires.winning;
     }) (let size = c.self.invariant.table.size in omega (arith, number, size))
-    (greatest-read c.self.inside.depths.items c.as_slice-2.result.now (answers_of c.args.node) c.as_slice.result.now c.args.node.rest c.deepest-below.result
+    (greatest-read c.self.inside.depths.items c.as_slice-2.result.now (answers_of c.args.node) c.as_slice.result.now c.args.node.rest
+    c.deepest-below.result
     c.as_slice-2.ensures.value c.as_slice.ensures.items refl c.deepest-below.ensures.greatest))

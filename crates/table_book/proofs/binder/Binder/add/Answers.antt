@@ -35,12 +35,15 @@ invariant_of-self-2 c =
     let room : length c.self.inside.entries < MAX_ENTRIES =
     subst (λ (b : Book). length b.entries < MAX_ENTRIES) (sym c.self.view_is) c.requires.room in
     binding-pushed c.adopted.new.nodes c.self.inside.entries c.push.new.self
-    (entry c.args.file c.self.inside.nodes c.adopted.new.nodes c.in_ok-numbers.numbers.items c.in_ok-root.root c.requires.can_be_bound c.adopted.ensures.compiled c.in_ok-numbers.ensures.numbers is)
+    (entry c.args.file c.self.inside.nodes c.adopted.new.nodes c.in_ok-numbers.numbers.items c.in_ok-root.root c.requires.can_be_bound
+    c.adopted.ensures.compiled c.in_ok-numbers.ensures.numbers is)
     (binding-grown c.self.inside.nodes c.args.file.table c.adopted.new.nodes c.self.inside.entries c.self.invariant
     c.adopted.ensures.stays c.adopted.ensures.compiled c.adopted.ensures.all_fit)
     room
-    (entry-fits c.args.file c.self.inside.nodes c.adopted.new.nodes c.in_ok-numbers.numbers.items c.in_ok-root.root c.requires.can_be_bound c.adopted.ensures.compiled c.in_ok-numbers.ensures.numbers is)
-    (entry-sound c.args.file c.self.inside.nodes c.adopted.new.nodes c.in_ok-numbers.numbers.items c.in_ok-root.root c.requires.can_be_bound c.adopted.ensures.compiled c.in_ok-numbers.ensures.numbers is)
+    (entry-fits c.args.file c.self.inside.nodes c.adopted.new.nodes c.in_ok-numbers.numbers.items c.in_ok-root.root c.requires.can_be_bound
+    c.adopted.ensures.compiled c.in_ok-numbers.ensures.numbers is)
+    (entry-sound c.args.file c.self.inside.nodes c.adopted.new.nodes c.in_ok-numbers.numbers.items c.in_ok-root.root c.requires.can_be_bound
+    c.adopted.ensures.compiled c.in_ok-numbers.ensures.numbers is)
     c.in_ok-push.ensures.pushed
 
 pub returns-clause-added : goal.returns-clause-added
@@ -48,7 +51,8 @@ returns-clause-added c =
     let is : c.in_ok-root.root ≡ renumbered_root (λ j. slice_index c.in_ok-numbers.numbers.items j) c.args.file.root =
     c.in_ok-root.ensures.root ∙ ap (λ (xs : List ℕ). renumbered_root (λ j. slice_index xs j) c.args.file.root) c.as_slice.ensures.value in
     subst (λ (b : Book). AddsFile b c.args.file (record { table = c.adopted.new.nodes; entries = c.push.new.self })) c.self.view_is
-    (file-added c.args.file c.self.inside.nodes c.adopted.new.nodes c.in_ok-numbers.numbers.items c.in_ok-root.root c.requires.can_be_bound c.adopted.ensures.compiled c.in_ok-numbers.ensures.numbers is
+    (file-added c.args.file c.self.inside.nodes c.adopted.new.nodes c.in_ok-numbers.numbers.items c.in_ok-root.root c.requires.can_be_bound
+    c.adopted.ensures.compiled c.in_ok-numbers.ensures.numbers is
     c.self.inside.entries c.push.new.self c.self.invariant.compiled c.adopted.ensures.stays c.in_ok-push.ensures.pushed)
 
 pub returns-clause-bound : goal.returns-clause-bound
@@ -57,16 +61,21 @@ returns-clause-bound c =
     subst (λ (b : Book). length b.entries < MAX_ENTRIES) (sym c.self.view_is) c.requires.room in
     let is : c.in_ok-root.root ≡ renumbered_root (λ j. slice_index c.in_ok-numbers.numbers.items j) c.args.file.root =
     c.in_ok-root.ensures.root ∙ ap (λ (xs : List ℕ). renumbered_root (λ j. slice_index xs j) c.args.file.root) c.as_slice.ensures.value in
-    subst (λ (b : Book). (files : List TableFile) → IsBound files b → IsBound (files ++ c.args.file ∷ []) (record { table = c.adopted.new.nodes; entries = c.push.new.self })) c.self.view_is
+    subst (λ (b : Book). (files : List TableFile) → IsBound files b
+    → IsBound (files ++ c.args.file ∷ []) (record { table = c.adopted.new.nodes; entries = c.push.new.self })) c.self.view_is
     (λ files before. bound-more files c.args.file _ _ before
-    (file-added c.args.file c.self.inside.nodes c.adopted.new.nodes c.in_ok-numbers.numbers.items c.in_ok-root.root c.requires.can_be_bound c.adopted.ensures.compiled c.in_ok-numbers.ensures.numbers is
+    (file-added c.args.file c.self.inside.nodes c.adopted.new.nodes c.in_ok-numbers.numbers.items c.in_ok-root.root c.requires.can_be_bound
+    c.adopted.ensures.compiled c.in_ok-numbers.ensures.numbers is
     c.self.inside.entries c.push.new.self c.self.invariant.compiled c.adopted.ensures.stays c.in_ok-push.ensures.pushed)
     c.adopted.ensures.stays
     (binding-pushed c.adopted.new.nodes c.self.inside.entries c.push.new.self
-    (entry c.args.file c.self.inside.nodes c.adopted.new.nodes c.in_ok-numbers.numbers.items c.in_ok-root.root c.requires.can_be_bound c.adopted.ensures.compiled c.in_ok-numbers.ensures.numbers is)
+    (entry c.args.file c.self.inside.nodes c.adopted.new.nodes c.in_ok-numbers.numbers.items c.in_ok-root.root c.requires.can_be_bound
+    c.adopted.ensures.compiled c.in_ok-numbers.ensures.numbers is)
     (binding-grown c.self.inside.nodes c.args.file.table c.adopted.new.nodes c.self.inside.entries c.self.invariant
     c.adopted.ensures.stays c.adopted.ensures.compiled c.adopted.ensures.all_fit)
     room
-    (entry-fits c.args.file c.self.inside.nodes c.adopted.new.nodes c.in_ok-numbers.numbers.items c.in_ok-root.root c.requires.can_be_bound c.adopted.ensures.compiled c.in_ok-numbers.ensures.numbers is)
-    (entry-sound c.args.file c.self.inside.nodes c.adopted.new.nodes c.in_ok-numbers.numbers.items c.in_ok-root.root c.requires.can_be_bound c.adopted.ensures.compiled c.in_ok-numbers.ensures.numbers is)
+    (entry-fits c.args.file c.self.inside.nodes c.adopted.new.nodes c.in_ok-numbers.numbers.items c.in_ok-root.root c.requires.can_be_bound
+    c.adopted.ensures.compiled c.in_ok-numbers.ensures.numbers is)
+    (entry-sound c.args.file c.self.inside.nodes c.adopted.new.nodes c.in_ok-numbers.numbers.items c.in_ok-root.root c.requires.can_be_bound
+    c.adopted.ensures.compiled c.in_ok-numbers.ensures.numbers is)
     c.in_ok-push.ensures.pushed))
