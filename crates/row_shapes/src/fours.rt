@@ -13,6 +13,7 @@ ghost use Rattle.stone_board.specs.Steps.{holds_stone};
 ghost use Rattle.row_shapes.specs.Gaps.{listed, is_four as is_four_lem, are_stones as are_stones_lem, fours_from as fours_from_lem};
 
 use crate::Rule;
+use crate::row_at::RowAt;
 use crate::wins::wins_along;
 use stone_board::{Axis, Board, Cell, Point, Side};
 
@@ -28,11 +29,16 @@ pub fn fours_through<R: Rule>(board: &Board, p: Point, axis: Axis) -> u32
     if count(&stones) < 4 {
         return 0;
     }
-    fours_from::<R>(board, side, axis, p, &stones, 0)
-        + fours_from::<R>(board, side, axis, p, &stones, 1)
-        + fours_from::<R>(board, side, axis, p, &stones, 2)
-        + fours_from::<R>(board, side, axis, p, &stones, 3)
-        + fours_from::<R>(board, side, axis, p, &stones, 4)
+    let row = RowAt {
+        side,
+        axis,
+        point: p,
+    };
+    fours_from::<R>(board, row, &stones, 0)
+        + fours_from::<R>(board, row, &stones, 1)
+        + fours_from::<R>(board, row, &stones, 2)
+        + fours_from::<R>(board, row, &stones, 3)
+        + fours_from::<R>(board, row, &stones, 4)
 }
 
 /// Whether the run through a stone on the axis is a straight four: of exactly four stones, with an empty point of the
@@ -45,9 +51,14 @@ pub fn straight_through<R: Rule>(board: &Board, p: Point, axis: Axis) -> bool
     let side = side_at(board, p);
     let ahead = board.stones_ahead(side, axis, p);
     let behind = board.stones_behind(side, axis, p);
+    let row = RowAt {
+        side,
+        axis,
+        point: p,
+    };
     1 + ahead + behind == 4
-        && wins_along::<R>(board, side, axis, p, 1 + ahead as u8, 0)
-        && wins_along::<R>(board, side, axis, p, 0, 1 + behind as u8)
+        && wins_along::<R>(board, row, 1 + ahead as u8, 0)
+        && wins_along::<R>(board, row, 0, 1 + behind as u8)
 }
 
 /// The side whose stone stands on the point.
@@ -107,46 +118,32 @@ pub(crate) fn are_stones(stones: &[bool; 9], first: u8, gap: u8) -> bool
         && (gap == 4 || stones[start + 4])
 }
 
-/// Whether these are four stones of a four of the stone on `p`.
+/// Whether these are four stones of a four of the row's stone.
 #[tactic(auto, unfolding(crate::specs::Gaps::is_four))]
 #[inline(always)]
-fn is_four<R: Rule>(
-    board: &Board,
-    side: Side,
-    axis: Axis,
-    p: Point,
-    stones: &[bool; 9],
-    first: u8,
-    gap: u8,
-) -> bool
-    requires on { IsTrue (is_on board.now p) }
+fn is_four<R: Rule>(board: &Board, row: RowAt, stones: &[bool; 9], first: u8, gap: u8) -> bool
+    requires on { IsTrue (is_on board.now row.point) }
     requires first { first < 5 }
     requires gap { gap < 5 }
-    ensures four { result ≡ is_four_lem (listed stones.now) (place_wins R.KIND board.now side axis p) first gap }
+    ensures four { result ≡ is_four_lem (listed stones.now) (place_wins R.KIND board.now row.side row.axis row.point) first gap }
 {
     first != gap
         && are_stones(stones, first, gap)
-        && (wins_along::<R>(board, side, axis, p, gap + 4 - first, 4)
-            || gap == 4 && wins_along::<R>(board, side, axis, p, 3 - first, 4))
+        && (wins_along::<R>(board, row, gap + 4 - first, 4)
+            || gap == 4 && wins_along::<R>(board, row, 3 - first, 4))
 }
 
-/// The number of fours among the five places that begin so many steps behind `p`, but for those without the first of them.
+/// The number of fours among the five places that begin so many steps behind the row's stone, but for those without the first of
+/// them.
 #[inline(always)]
-fn fours_from<R: Rule>(
-    board: &Board,
-    side: Side,
-    axis: Axis,
-    p: Point,
-    stones: &[bool; 9],
-    first: u8,
-) -> u32
-    requires on { IsTrue (is_on board.now p) }
+fn fours_from<R: Rule>(board: &Board, row: RowAt, stones: &[bool; 9], first: u8) -> u32
+    requires on { IsTrue (is_on board.now row.point) }
     requires first { first < 5 }
-    ensures fours { result ≡ fours_from_lem (listed stones.now) (place_wins R.KIND board.now side axis p) first }
+    ensures fours { result ≡ fours_from_lem (listed stones.now) (place_wins R.KIND board.now row.side row.axis row.point) first }
     ensures bound { result ≤ 4 }
 {
-    u32::from(is_four::<R>(board, side, axis, p, stones, first, 1))
-        + u32::from(is_four::<R>(board, side, axis, p, stones, first, 2))
-        + u32::from(is_four::<R>(board, side, axis, p, stones, first, 3))
-        + u32::from(is_four::<R>(board, side, axis, p, stones, first, 4))
+    u32::from(is_four::<R>(board, row, stones, first, 1))
+        + u32::from(is_four::<R>(board, row, stones, first, 2))
+        + u32::from(is_four::<R>(board, row, stones, first, 3))
+        + u32::from(is_four::<R>(board, row, stones, first, 4))
 }

@@ -12,6 +12,7 @@ mod laws;
 mod line_shape;
 mod new_fives;
 mod reach;
+mod row_at;
 mod rule;
 mod shape_table;
 mod shapes;

@@ -12,6 +12,7 @@ ghost use Rattle.game_rules.specs.Ways.{opposite, stones_towards as stones_towar
 ghost use Rattle.row_shapes.specs.FivePoints.{in_short};
 ghost use Rattle.row_shapes.specs.FiveEnds.{end_five as end_five_lem, with_more as with_more_lem, with_axis as with_axis_lem, joins_to_win as joins_to_win_lem};
 
+use crate::row_at::RowAt;
 use crate::windows::may_make_five;
 use crate::{FivePoints, Rule};
 use stone_board::{Axis, Board, Point, Side, Way};
@@ -47,40 +48,31 @@ pub fn with_axis<R: Rule>(
     }
     let ahead = board.stones_towards(Way::Ahead, side, axis, p);
     let behind = board.stones_towards(Way::Behind, side, axis, p);
-    let found = with_more(
-        found,
-        end_five::<R>(board, side, axis, p, Way::Ahead, ahead, behind),
-    );
-    with_more(
-        found,
-        end_five::<R>(board, side, axis, p, Way::Behind, behind, ahead),
-    )
+    let row = RowAt {
+        side,
+        axis,
+        point: p,
+    };
+    let found = with_more(found, end_five::<R>(board, row, Way::Ahead, ahead, behind));
+    with_more(found, end_five::<R>(board, row, Way::Behind, behind, ahead))
 }
 
-/// The end in that way of the run of a new stone on `p`, if a further stone there wins on the axis. `near` stones stand
-/// next to `p` in that way, and `far` in the other.
+/// The end in that way of the run of a new stone on the row's point, if a further stone there wins on the axis. `near` stones
+/// stand next to the point in that way, and `far` in the other.
 #[tactic(auto, unfolding(crate::specs::FiveEnds::end_five))]
 #[inline(always)]
-fn end_five<R: Rule>(
-    board: &Board,
-    side: Side,
-    axis: Axis,
-    p: Point,
-    way: Way,
-    near: u32,
-    far: u32,
-) -> Option<Point>
-    requires empty { IsTrue (is_empty board.now p) }
-    requires near { near ≡ stones_towards_lem way board.now side axis p }
-    requires far { far ≡ stones_towards_lem (opposite way) board.now side axis p }
+fn end_five<R: Rule>(board: &Board, row: RowAt, way: Way, near: u32, far: u32) -> Option<Point>
+    requires empty { IsTrue (is_empty board.now row.point) }
+    requires near { near ≡ stones_towards_lem way board.now row.side row.axis row.point }
+    requires far { far ≡ stones_towards_lem (opposite way) board.now row.side row.axis row.point }
     requires bound { near < 64 }
     requires far_bound { far < 64 }
-    ensures five { result ≡ end_five_lem R.KIND board.now side axis p way }
+    ensures five { result ≡ end_five_lem R.KIND board.now row.side row.axis row.point way }
 {
-    match board.step_towards(way, axis, p, 1 + near as u8) {
+    match board.step_towards(way, row.axis, row.point, 1 + near as u8) {
         None => None,
         Some(q) => {
-            if joins_to_win::<R>(board, side, axis, way, q, 1 + near + far) {
+            if joins_to_win::<R>(board, row.side, row.axis, way, q, 1 + near + far) {
                 Some(q)
             } else {
                 None

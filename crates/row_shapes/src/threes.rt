@@ -17,6 +17,7 @@ ghost use Rattle.row_shapes.specs.Threes.{wins_past as wins_past_lem, is_open_fo
 
 use crate::Rule;
 use crate::fours::side_at;
+use crate::row_at::RowAt;
 use stone_board::{Axis, Board, Point, Side, Way};
 
 /// The three points of a stone on the axis, as far as this one line decides: bit 5 + k is set exactly where the point k
@@ -46,71 +47,64 @@ fn three_place<R: Rule>(board: &Board, side: Side, axis: Axis, p: Point, way: Wa
     if near + far > 2 {
         return None;
     }
-    if fills_to_four::<R>(board, side, axis, p, way, near, far) {
+    let row = RowAt {
+        side,
+        axis,
+        point: p,
+    };
+    if fills_to_four::<R>(board, row, way, near, far) {
         Some(place_towards(way, 1 + near))
     } else {
         None
     }
 }
 
-/// Whether the point next to the `near` stones in that way from the stone on `p` is empty, and a stone there makes a
+/// Whether the point next to the `near` stones in that way from the row's stone is empty, and a stone there makes a
 /// straight four, where `far` stones stand in the other way.
-fn fills_to_four<R: Rule>(
-    board: &Board,
-    side: Side,
-    axis: Axis,
-    p: Point,
-    way: Way,
-    near: u8,
-    far: u8,
-) -> bool
-    requires stone { IsTrue (holds board.now side p) }
-    requires near { near ≡ stones_towards_lem way board.now side axis p }
-    requires far { far ≡ stones_towards_lem (opposite way) board.now side axis p }
+fn fills_to_four<R: Rule>(board: &Board, row: RowAt, way: Way, near: u8, far: u8) -> bool
+    requires stone { IsTrue (holds board.now row.side row.point) }
+    requires near { near ≡ stones_towards_lem way board.now row.side row.axis row.point }
+    requires far { far ≡ stones_towards_lem (opposite way) board.now row.side row.axis row.point }
     requires few { near + far ≤ 2 }
-    ensures three { result ≡ is_line_three_at R.KIND board.now side axis p (towards_lem way axis p (1 + near)) }
+    ensures three { result ≡ is_line_three_at R.KIND board.now row.side row.axis row.point (towards_lem way row.axis row.point (1 + near)) }
 {
-    match board.step_towards(way, axis, p, 1 + near) {
+    match board.step_towards(way, row.axis, row.point, 1 + near) {
         None => false,
         Some(q) => {
-            let more = board.stones_towards(way, side, axis, q) as u8;
-            board.is_empty(q) && is_open_four::<R>(board, side, axis, p, way, 1 + near + more, far)
+            let more = board.stones_towards(way, row.side, row.axis, q) as u8;
+            board.is_empty(q) && is_open_four::<R>(board, row, way, 1 + near + more, far)
         }
     }
 }
 
-/// Whether a straight four of the stone on `p` has `fore` stones next to it in that way and `back` stones in the other,
-/// as the ends decide: four stones, and a winning run where either end is filled.
-fn is_open_four<R: Rule>(
-    board: &Board,
-    side: Side,
-    axis: Axis,
-    p: Point,
-    way: Way,
-    fore: u8,
-    back: u8,
-) -> bool
-    requires on { IsTrue (is_on board.now p) }
+/// Whether a straight four of the row's stone has `fore` stones next to it in that way and `back` stones in the other, as the
+/// ends decide: four stones, and a winning run where either end is filled.
+fn is_open_four<R: Rule>(board: &Board, row: RowAt, way: Way, fore: u8, back: u8) -> bool
+    requires on { IsTrue (is_on board.now row.point) }
     requires fore { fore < 128 }
     requires back { back < 128 }
-    ensures open { result ≡ is_open_four_lem R.KIND board.now side axis p way fore back }
+    ensures open { result ≡ is_open_four_lem R.KIND board.now row.side row.axis row.point way fore back }
 {
     fore + back == 3
-        && wins_past::<R>(board, side, axis, p, way, 1 + fore)
-        && wins_past::<R>(board, side, axis, p, way.opposite(), 1 + back)
+        && wins_past::<R>(board, row, way, 1 + fore)
+        && wins_past::<R>(board, row, way.opposite(), 1 + back)
 }
 
-/// Whether the point so many steps from `p` in that way is on the board and empty, and wins on the axis where it has four
-/// stones of the side next to it towards `p`.
-fn wins_past<R: Rule>(board: &Board, side: Side, axis: Axis, p: Point, way: Way, k: u8) -> bool
-    requires on { IsTrue (is_on board.now p) }
+/// Whether the point so many steps from the row's in that way is on the board and empty, and wins on the axis where it has four
+/// stones of the side next to it towards the row's.
+fn wins_past<R: Rule>(board: &Board, row: RowAt, way: Way, k: u8) -> bool
+    requires on { IsTrue (is_on board.now row.point) }
     requires near { k ≤ 64 }
-    ensures wins { result ≡ wins_past_lem R.KIND board.now side axis way (towards_lem way axis p k) }
+    ensures wins { result ≡ wins_past_lem R.KIND board.now row.side row.axis way (towards_lem way row.axis row.point k) }
 {
-    match board.step_towards(way, axis, p, k) {
+    match board.step_towards(way, row.axis, row.point, k) {
         None => false,
         Some(q) => {
-            board.is_empty(q) && R::wins(side, 5 + board.stones_towards(way, side, axis, q))
+            board.is_empty(q)
+                && R::wins(
+                    row.side,
+                    5 + board.stones_towards(way, row.side, row.axis, q),
+                )
         }
     }
 }
