@@ -8,7 +8,7 @@ ghost use Rattle.std.specs.Prelude.{◌≡◌, ◌≤◌, IfOk};
 ghost use Rattle.threat_space.specs.declared.TheConstants.{MAX_LENGTH};
 ghost use Rattle.threat_space.specs.Sequences.{space_answer};
 
-use crate::walk::{Looked, walk};
+use crate::walk::{Looked, Origin, ToCome, walk};
 use row_shapes::Rule;
 use std::alloc::{AllocError, Global};
 use stone_board::{Board, Point, Side};
@@ -45,10 +45,19 @@ pub fn threat_space<R: Rule>(
     ensures same { board.new ≡ board.old }
 {
     let start = board.copy()?;
+    let origin = Origin {
+        alloc,
+        start: &start,
+        side,
+    };
     let mut path = Threats::new(alloc);
     let mut left = budget;
     for count in 0..length + 1 {
-        let found = walk::<R>(alloc, &start, board, side, count, &mut path, &[], left)?;
+        let to_come = ToCome {
+            more: count,
+            far: &[],
+        };
+        let found = walk::<R>(&origin, board, &to_come, &mut path, left)?;
         match found {
             Looked::Sequence(threats, last) => return Ok(SpaceAnswer::Sequence(threats, last)),
             Looked::NoSequence(rest) => {

@@ -17,6 +17,17 @@ use std::alloc::AllocError;
 use stone_board::{Board, Point, Side};
 use threat_moves::{Threat, is_double_point, is_new_double_point, is_threat};
 
+/// What is known of the board after a list of threats, and so of the final points of the list.
+#[derive(Drop)]
+struct Ends<'a> {
+    /// Whether the side has a five point there.
+    some_five: bool,
+    /// A gain, if there is one, with which a final point has to be on a line if it is not one of `far`.
+    last_gain: Option<Point>,
+    /// The pairs that are on no line with it.
+    far: &'a [Point],
+}
+
 /// The least final point with which the list of threats is a sequence, if there is one. The threats lead from the first
 /// board to the second, which is as before. Where the side has fouls, `far` are the pairs that are on no line with the last gain.
 #[tactic(auto, unfolding(crate::specs::Sequences::final_of))]
@@ -33,9 +44,13 @@ pub(crate) fn final_of<R: Rule>(
     ensures same { board.new ≡ board.old }
 {
     let some_five = has_five::<R>(board, side);
-    let last_gain = last_gain::<R>(board, side, threats, some_five, far);
+    let ends = Ends {
+        some_five,
+        last_gain: last_gain::<R>(board, side, threats, some_five, far),
+        far,
+    };
     for p in start.points() {
-        if is_sequence::<R>(start, board, side, threats, p, some_five, last_gain, far)? {
+        if is_sequence::<R>(start, board, side, threats, p, &ends)? {
             return Ok(Some(p));
         }
     }
@@ -67,8 +82,7 @@ fn last_gain<R: Rule>(
 }
 
 /// Whether the list of threats is a sequence with this final point. The threats lead from the first board to the second, of
-/// which it is told whether the side has a five point there, and a gain, if there is one, with which a final point has to be on a
-/// line if it is not one of `far`. It is as before.
+/// which it is told what is known. It is as before.
 #[tactic(auto, unfolding(crate::specs::Sequences::is_sequence))]
 fn is_sequence<R: Rule>(
     start: &Board,
@@ -76,22 +90,20 @@ fn is_sequence<R: Rule>(
     side: Side,
     threats: &[Threat],
     last: Point,
-    some_five: bool,
-    last_gain: Option<Point>,
-    far: &[Point],
+    ends: &Ends,
 ) -> Result<bool, AllocError>
     requires played { board.old ≡ played_all start.now side threats.now }
-    requires five { some_five ≡ has_five_lem R.KIND board.old side }
-    requires near { IfSome last_gain (λ g. EndsNear R.KIND side start.now threats.now g far.now) }
+    requires five { ends.now.some_five ≡ has_five_lem R.KIND board.old side }
+    requires near { IfSome ends.now.last_gain (λ g. EndsNear R.KIND side start.now threats.now g ends.now.far.now) }
     ensures sequence { IfOk result (λ found. found ≡ is_sequence_lem R.KIND side start.now threats.now last) }
     ensures same { board.new ≡ board.old }
 {
-    if let Some(gain) = last_gain {
-        if !gain.is_aligned(last) && !has_point(far, last) {
+    if let Some(gain) = ends.last_gain {
+        if !gain.is_aligned(last) && !has_point(ends.far, last) {
             return Ok(false);
         }
     }
-    if !is_final_point::<R>(board, side, last, some_five) {
+    if !is_final_point::<R>(board, side, last, ends.some_five) {
         return Ok(false);
     }
     all_needed::<R>(start, side, threats, last)

@@ -29,44 +29,56 @@ pub(crate) enum Looked {
     Spent,
 }
 
-/// Looks at the lists that begin with those of the path, which leads from the first board to the second, and go on with exactly
-/// so many threats more. Where these are none, `far` are the pairs far from the last gain. The board and the path are as before.
+/// What a walk goes by, from its first list to its last.
+#[derive(Drop)]
+pub(crate) struct Origin<'a> {
+    /// Where its lists take memory.
+    pub(crate) alloc: Global,
+    /// The board on which the first threat of each list is played.
+    pub(crate) start: &'a Board,
+    /// The side whose threats they are.
+    pub(crate) side: Side,
+}
+
+/// What comes after the threats of the path.
+#[derive(Drop)]
+pub(crate) struct ToCome<'a> {
+    /// So many threats more.
+    pub(crate) more: u32,
+    /// Where these are none, the pairs that lie far from the last gain.
+    pub(crate) far: &'a [Point],
+}
+
+/// Looks at the lists that begin with those of the path, which leads from the first board to this one, and go on with exactly so
+/// many threats more. The board and the path are as before.
 #[cycle(walk)]
 pub(crate) fn walk<R: Rule>(
-    alloc: Global,
-    start: &Board,
+    origin: &Origin,
     board: &mut Board,
-    side: Side,
-    more: u32,
+    to_come: &ToCome,
     path: &mut Threats,
-    far: &[Point],
     budget: u64,
 ) -> Result<Looked, AllocError>
-    requires played { board.old ≡ played_all start.now side path.old }
-    requires far { more ≡ 0 → HasPairsAfter R.KIND board.old side path.old far.now }
-    ensures looked { IfOk result (λ found. found ≡ looked (final_of_lem R.KIND side start.now) budget (map (λ ts. path.old ++ ts) (lists_of R.KIND side more board.old))) }
+    requires played { board.old ≡ played_all origin.now.start.now origin.now.side path.old }
+    requires far { to_come.now.more ≡ 0 → HasPairsAfter R.KIND board.old origin.now.side path.old to_come.now.far.now }
+    ensures looked { IfOk result (λ found. found ≡ looked (final_of_lem R.KIND origin.now.side origin.now.start.now) budget
+        (map (λ ts. path.old ++ ts) (lists_of R.KIND origin.now.side to_come.now.more board.old))) }
     ensures same { board.new ≡ board.old }
     ensures path { IfOk result (λ found. path.new ≡ path.old) }
 {
-    if more == 0 {
-        return look_at::<R>(alloc, start, board, side, path, far, budget);
+    if to_come.more == 0 {
+        return look_at::<R>(origin, board, path, to_come.far, budget);
     }
-    let far = pairs_before_last::<R>(alloc, board, side, more)?;
+    let far = pairs_before_last::<R>(origin.alloc, board, origin.side, to_come.more)?;
+    let next = ToCome {
+        more: to_come.more - 1,
+        far: far.as_slice(),
+    };
     let mut left = budget;
     for gain in board.points() {
         if board.is_empty(gain) {
-            let threats = threats_at::<R>(alloc, board, side, gain)?;
-            match walk_from::<R>(
-                alloc,
-                start,
-                board,
-                side,
-                threats.as_slice(),
-                more - 1,
-                path,
-                far.as_slice(),
-                left,
-            )? {
+            let threats = threats_at::<R>(origin.alloc, board, origin.side, gain)?;
+            match walk_from::<R>(origin, board, threats.as_slice(), &next, path, left)? {
                 Looked::NoSequence(rest) => left = rest,
                 found => return Ok(found),
             }
@@ -90,31 +102,29 @@ fn pairs_before_last<R: Rule>(
     Ok(Points::new(alloc))
 }
 
-/// The same of the lists that go on with one of these threats and then with so many more. Where these are none, `far` are the pairs of
+/// The same of the lists that go on with one of these threats and then with so many more. Where these are none, the pairs are those of
 /// the board.
 #[cycle(walk)]
 fn walk_from<R: Rule>(
-    alloc: Global,
-    start: &Board,
+    origin: &Origin,
     board: &Board,
-    side: Side,
     threats: &[Threat],
-    more: u32,
+    to_come: &ToCome,
     path: &mut Threats,
-    far: &[Point],
     budget: u64,
 ) -> Result<Looked, AllocError>
-    requires played { board.now ≡ played_all start.now side path.old }
+    requires played { board.now ≡ played_all origin.now.start.now origin.now.side path.old }
     requires board { IsBoard board.now }
-    requires far { more ≡ 0 → HasPairsOf R.KIND board.now side far.now }
-    ensures looked { IfOk result (λ found. found ≡ looked (final_of_lem R.KIND side start.now) budget (map (λ ts. path.old ++ ts) (lists_from (lists_of R.KIND side more) side board.now threats.now))) }
+    requires far { to_come.now.more ≡ 0 → HasPairsOf R.KIND board.now origin.now.side to_come.now.far.now }
+    ensures looked { IfOk result (λ found. found ≡ looked (final_of_lem R.KIND origin.now.side origin.now.start.now) budget
+        (map (λ ts. path.old ++ ts) (lists_from (lists_of R.KIND origin.now.side to_come.now.more) origin.now.side board.now threats.now))) }
     ensures path { IfOk result (λ found. path.new ≡ path.old) }
 {
     let mut left = budget;
     for threat in threats {
-        let mut next = played(board, side, threat)?;
-        lengthen(alloc, path, threat)?;
-        let found = walk::<R>(alloc, start, &mut next, side, more, path, far, left)?;
+        let mut next = played(board, origin.side, threat)?;
+        lengthen(origin.alloc, path, threat)?;
+        let found = walk::<R>(origin, &mut next, to_come, path, left)?;
         path.drop_last();
         match found {
             Looked::NoSequence(rest) => left = rest,
@@ -131,26 +141,24 @@ fn lengthen(alloc: Global, path: &mut Threats, threat: &Threat) -> Result<(), Al
     path.push(threat.copy(alloc)?)
 }
 
-/// Looks at the list of the path, which leads from the first board to the second. The board is as before.
+/// Looks at the list of the path, which leads from the first board to this one. The board is as before.
 fn look_at<R: Rule>(
-    alloc: Global,
-    start: &Board,
+    origin: &Origin,
     board: &mut Board,
-    side: Side,
     path: &Threats,
     far: &[Point],
     budget: u64,
 ) -> Result<Looked, AllocError>
-    requires played { board.old ≡ played_all start.now side path.now }
-    requires far { HasPairsAfter R.KIND board.old side path.now far.now }
-    ensures looked { IfOk result (λ found. found ≡ looked (final_of_lem R.KIND side start.now) budget (path.now ∷ [])) }
+    requires played { board.old ≡ played_all origin.now.start.now origin.now.side path.now }
+    requires far { HasPairsAfter R.KIND board.old origin.now.side path.now far.now }
+    ensures looked { IfOk result (λ found. found ≡ looked (final_of_lem R.KIND origin.now.side origin.now.start.now) budget (path.now ∷ [])) }
     ensures same { board.new ≡ board.old }
 {
     if budget == 0 {
         return Ok(Looked::Spent);
     }
-    match final_of::<R>(start, board, side, path.as_slice(), far)? {
-        Some(last) => Ok(Looked::Sequence(path.copy(alloc)?, last)),
+    match final_of::<R>(origin.start, board, origin.side, path.as_slice(), far)? {
+        Some(last) => Ok(Looked::Sequence(path.copy(origin.alloc)?, last)),
         None => Ok(Looked::NoSequence(budget - 1)),
     }
 }

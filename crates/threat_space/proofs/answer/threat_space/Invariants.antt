@@ -8,6 +8,7 @@ abbrev pub invariant-loop-count : goal.invariant-loop-count
 invariant-loop-count g l = record {
   same : l.board ≡ l.fn.board;
   path : l.path ≡ [];
-  rest : from_length g.R.Rule.KIND (final_of g.R.Rule.KIND l.side l.fn.board) l.side l.fn.board l.left l.count (l.length + 1 - l.count)
-      ≡ from_length g.R.Rule.KIND (final_of g.R.Rule.KIND l.side l.fn.board) l.side l.fn.board l.budget 0 (l.length + 1);
+  rest : from_length g.R.Rule.KIND (final_of g.R.Rule.KIND l.fn.side l.fn.board) l.fn.side l.fn.board l.left l.count
+      (l.length + 1 - l.count)
+      ≡ from_length g.R.Rule.KIND (final_of g.R.Rule.KIND l.fn.side l.fn.board) l.fn.side l.fn.board l.budget 0 (l.length + 1);
 }
