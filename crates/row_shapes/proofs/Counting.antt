@@ -76,6 +76,27 @@ module _ (stone wins : ℕ → Bool) (few : count_by stone (range_with_len 0 9) 
     not_all 0 1 2 4 (omega arith),
   ) refl
 
+-- ---- no place that wins
+
+last_false : (a c e : Bool) → (a && c && (false || (e && false))) ≡ false
+last_false true true true = refl
+last_false true true false = refl
+last_false true false e = refl
+last_false false c e = refl
+
+module _ (stone wins : ℕ → Bool) (none : (i : ℕ) → wins i ≡ false) where
+  none_four : (first gap : ℕ) → is_four stone wins first gap ≡ false
+  unfolding is_four
+  none_four first gap = rw (none (gap + 4 - first), none (3 - first))
+      (last_false (not (nat_eq first gap)) (are_stones stone first gap) (nat_eq gap 4))
+
+  none_from : (first : ℕ) → fours_from stone wins first ≡ 0
+  none_from first = rw (none_four first 1, none_four first 2, none_four first 3, none_four first 4) refl
+
+  -- where no place wins, there is no four
+  pub no_wins : fours_by_gap stone wins ≡ 0
+  no_wins = rw (none_from 0, none_from 1, none_from 2, none_from 3, none_from 4) refl
+
 each_zero : (f : ℕ → ℕ) → sum_by f (range_with_len 0 5) ≡ 0 → (k : ℕ) → k < 5 → f k ≡ 0
 each_zero f h zero low = omega arith
 each_zero f h (suc zero) low = omega arith

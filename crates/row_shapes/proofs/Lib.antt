@@ -29,3 +29,6 @@ pub mod FourEnds
 mod RowBits
 mod WindowLaws
 mod WindowParts
+mod PairBits
+-- stones next to a point by the bits of its line
+mod NearBits

@@ -7,7 +7,7 @@ use Rattle.std.specs.List.{list_any}
 use Rattle.std.proofs.lemmas.Bool.{cases_eq, cases_lt, false_from_ne_true, both_ways}
 use Rattle.std.proofs.lemmas.Nat.Bits.{bit_at_and, bit_at_or, bit_at_not, bit_at-lt, bit_at-zero, bit_at-pow_same}
 use Rattle.game_rules.proofs.Common.{Grid, IsBoard, is_on, is_empty, points_of, row_wins, stones_ahead, stones_behind, wins_on, five, other}
-use Rattle.game_rules.proofs.Common.{has_five, put, towards, run_end}
+use Rattle.game_rules.proofs.Common.{has_five, put, towards, run_end, along, wins_at, fours_of, place_stone, place_wins}
 use Rattle.game_rules.specs.declared.RuleKind.{RuleKind}
 use Rattle.game_rules.specs.declared.Side.{Side}
 use Rattle.game_rules.specs.declared.Axis.{Axis}
@@ -21,21 +21,23 @@ use Rattle.std.proofs.lemmas.Bool.Decides.{nat_tests}
 use Rattle.game_rules.proofs.Wins.{wins_on-stones, row_wins-five}
 use Rattle.stone_board.specs.Lines.{line_of, place_on, TellsLine}
 use Rattle.stone_board.proofs.LineBits.{IsNear, board-near}
-use Rattle.stone_board.proofs.LineStones.{along-places, TellsLine-put, TellsLine-other, place_low, empty_bit, ahead_bit, behind_low}
+use Rattle.stone_board.proofs.LineStones.{along-places, TellsLine-put, place_low, empty_bit, ahead_bit, behind_low}
 use Rattle.stone_board.proofs.LineStones.{behind_bit}
 use Rattle.stone_board.proofs.Ones.{bit_shr}
-use Rattle.row_shapes.specs.Windows.{HasRow, IsWindow}
+use Rattle.row_shapes.specs.Windows.{HasRow, IsWindow, IsPassed, AreWindowLines}
+use Rattle.row_shapes.specs.declared.windows.WindowLines.{WindowLines}
+use Rattle.row_shapes.proofs.Counting.{fours_of-gap, no_wins}
 use Rattle.row_shapes.specs.FiveEnds.{kept_five, end_five}
 
 -- ---- windows by shifts
 
-both : (a b i : ℕ) → bit_at a i ≡ 1 → bit_at b i ≡ 1 → bit_at (bit_and a b) i ≡ 1
+pub both : (a b i : ℕ) → bit_at a i ≡ 1 → bit_at b i ≡ 1 → bit_at (bit_and a b) i ≡ 1
 both a b i h k = bit_at_and a b i ∙ omega (arith, h, k)
 
-left : (a b i : ℕ) → bit_at a i ≡ 1 → bit_at (bit_or a b) i ≡ 1
+pub left : (a b i : ℕ) → bit_at a i ≡ 1 → bit_at (bit_or a b) i ≡ 1
 left a b i h = let low = bit_at-lt b i in bit_at_or a b i ∙ omega (arith, h, low)
 
-right : (a b i : ℕ) → bit_at b i ≡ 1 → bit_at (bit_or a b) i ≡ 1
+pub right : (a b i : ℕ) → bit_at b i ≡ 1 → bit_at (bit_or a b) i ≡ 1
 right a b i h = let low = bit_at-lt a i in bit_at_or a b i ∙ omega (arith, h, low)
 
 pub neither : (own theirs m : ℕ) → bit_or own theirs < 2 ^ 32 → m < 32 → bit_at own m ≡ 0 → bit_at theirs m ≡ 0
@@ -168,8 +170,8 @@ module _ (b : Grid) (s : Side) (d : Axis) (n own : ℕ) (ok : IsBoard b) (mine :
       }
 
   -- and without it a window
-  window_of : (theirs : ℕ) → TellsLine b (other s) d n theirs → 4 ≤ fore + back → (i : ℕ) × (j : ℕ) × IsWindow own theirs i j
-  window_of theirs rival enough =
+  window_of : (theirs : ℕ) → bit_at theirs place ≡ 0 → 4 ≤ fore + back → (i : ℕ) × (j : ℕ) × IsWindow own theirs i j
+  window_of theirs clear enough =
       let some = some_behind enough in
       let fits = place_low d q (board-near b q ok on) in
       let here = place_here some.0 some.1 in (
@@ -180,7 +182,7 @@ module _ (b : Grid) (s : Side) (d : Axis) (n own : ℕ) (ok : IsBoard b) (mine :
           within = omega (arith, here, fits);
           stones = row_stone some.0 some.1 some.2;
           gap = ap (bit_at own) here ∙ empty_bit b s d n own ok mine q line empty;
-          free = ap (bit_at theirs) here ∙ empty_bit b (other s) d n theirs ok rival q line empty;
+          free = ap (bit_at theirs) here ∙ clear;
         },
       )
 
@@ -199,14 +201,24 @@ pub no_row : (rule : RuleKind) (b : Grid) (s : Side) (d : Axis) (q : Point) (own
 no_row rule b s d q own ok mine none = false_from_ne_true _ (λ h.
     none (row_of b s d (line_of d q) own ok mine q (and_left (is_empty b q) _ h) refl (four_more rule b s d q ok h)))
 
+-- the empty points of the line are clear in the bits
+abbrev pub AreClear : Grid → Axis → ℕ → ℕ → Type 0
+AreClear b d n bits = (q : Point) → is_empty b q ≡ true → line_of d q ≡ n → bit_at bits (place_on d q) ≡ 0
+
+pub rival_clear : (b : Grid) (s : Side) (d : Axis) (n theirs : ℕ) → IsBoard b → TellsLine b (other s) d n theirs → AreClear b d n theirs
+rival_clear b s d n theirs ok rival = λ q empty line. empty_bit b (other s) d n theirs ok rival q line empty
+
+pub zero_clear : (b : Grid) (d : Axis) (n : ℕ) → AreClear b d n 0
+zero_clear b d n = λ q empty line. bit_at-zero (place_on d q)
+
 module _ (b : Grid) (s : Side) (d : Axis) (n own theirs : ℕ) (ok : IsBoard b) (mine : TellsLine b s d n own)
-    (rival : TellsLine b (other s) d n theirs) where
+    (rival : AreClear b d n theirs) where
   -- a line with no window has no point where a stone of the side wins
   pub no_window : (w : ℕ) → ((i j : ℕ) → IsWindow own theirs i j → bit_at w i ≡ 1) → w ≡ 0 → (rule : RuleKind) (q : Point)
       → line_of d q ≡ n → wins_on rule b s d q ≡ false
   no_window w told none rule q line = false_from_ne_true _ (λ h.
       let empty : is_empty b q ≡ true = and_left (is_empty b q) _ h in
-      let window = window_of b s d n own ok mine q empty line theirs rival (four_more rule b s d q ok h) in
+      let window = window_of b s d n own ok mine q empty line theirs (rival q empty line) (four_more rule b s d q ok h) in
       let bit : 0 ≡ 1 = sym (bit_at-zero window.0) ∙ ap (λ m. bit_at m window.0) (sym none) ∙ told window.0 window.1 window.2 in
       absurd (omega (arith, bit)))
 
@@ -227,7 +239,7 @@ way_line Ahead d p q k near close there = (along-places d p q k 0 near close the
 way_line Behind d p q k near close there = (along-places d p q 0 k near close there).line
 
 module _ (b : Grid) (s : Side) (d : Axis) (p : Point) (own theirs : ℕ) (ok : IsBoard b) (empty : is_empty b p ≡ true)
-    (mine : TellsLine b s d (line_of d p) own) (rival : TellsLine b (other s) d (line_of d p) theirs) where
+    (mine : TellsLine b s d (line_of d p) own) (rival : AreClear (put b s p) d (line_of d p) theirs) where
   -- where the line has no window with the stone, no further stone wins on it
   pub no_end : (w : ℕ) → ((i j : ℕ) → IsWindow (bit_or own (2 ^ place_on d p)) theirs i j → bit_at w i ≡ 1) → w ≡ 0 → (rule : RuleKind)
       (way : Way) → end_five rule b s d p way ≡ None
@@ -238,7 +250,7 @@ module _ (b : Grid) (s : Side) (d : Axis) (p : Point) (own theirs : ℕ) (ok : I
       let line : line_of d q ≡ line_of d p = way_line way d p q _ (board-near b p ok (is_empty-on b p empty))
       (board-near (put b s p) q after on) there in
       both_ways _ (no_window (put b s p) s d (line_of d p) _ theirs after (TellsLine-put b s d p own ok empty mine)
-      (TellsLine-other b s d p theirs ok empty rival) w told none rule q line) h))
+      rival w told none rule q line) h))
 
 -- ---- all lines
 
@@ -255,3 +267,40 @@ pub no_fives : (rule : RuleKind) (b : Grid) (s : Side) → ((q : Point) → wins
     → ((q : Point) → wins_on rule b s Column q ≡ false)
     → ((q : Point) → wins_on rule b s Down q ≡ false) → ((q : Point) → wins_on rule b s Up q ≡ false) → has_five rule b s ≡ false
 no_fives rule b s row column down up = none_passes (five rule b s) (points_of b) (λ q. rw (row q, column q, down q, up q) refl)
+
+-- ---- the lines that may win
+
+-- a bit that is 0 in all is 0 in each
+pub none_of_four : (a c e f i : ℕ) → bit_or (bit_or (bit_or a c) e) f ≡ 0
+    → (bit_at a i ≡ 0) × (bit_at c i ≡ 0) × (bit_at e i ≡ 0) × (bit_at f i ≡ 0)
+none_of_four a c e f i none =
+    let zero : bit_at (bit_or (bit_or (bit_or a c) e) f) i ≡ 0 = ap (λ m. bit_at m i) none ∙ bit_at-zero i in
+    let all = bit_at_or (bit_or (bit_or a c) e) f i in
+    let three = bit_at_or (bit_or a c) e i in
+    let two = bit_at_or a c i in (
+      omega (arith, zero, all, three, two),
+      omega (arith, zero, all, three, two),
+      omega (arith, zero, all, three, two),
+      omega (arith, zero, all, three, two),
+    )
+
+-- where all points are passed, the side has no five point
+pub passes-all : (b : Grid) (s : Side) (lines : WindowLines) → AreWindowLines b s lines → ((p : Point) → IsPassed lines p)
+    → (rule : RuleKind)
+    → has_five rule b s ≡ false
+passes-all b s lines h all rule = no_fives rule b s (λ q. h.row rule q (all q).row) (λ q. h.column rule q (all q).column)
+    (λ q. h.down rule q (all q).down) (λ q. h.up rule q (all q).up)
+
+-- ---- a line without a window holds no four
+
+module _ (b : Grid) (s : Side) (d : Axis) (p : Point) (ok : IsBoard b) (on : is_on b p ≡ true)
+    (none : (rule : RuleKind) (q : Point) → line_of d q ≡ line_of d p → wins_on rule b s d q ≡ false) where
+  no_place : (rule : RuleKind) (i : ℕ) (o : Option Point) → along d p i 4 ≡ o → wins_at rule b s d o ≡ false
+  no_place rule i None there = refl
+  no_place rule i (Some q) there = false_from_ne_true _ (λ h.
+      let steps = along-places d p q i 4 (board-near b p ok on) (board-near b q ok (wins-on_board rule b s d q h)) there in
+      both_ways _ (none rule q steps.line) h)
+
+  pub no_fours_on : (rule : RuleKind) → fours_of rule b s d p ≡ 0
+  no_fours_on rule = fours_of-gap rule b s d p
+      ∙ no_wins (place_stone b s d p) (place_wins rule b s d p) (λ i. no_place rule i (along d p i 4) refl)

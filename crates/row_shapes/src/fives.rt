@@ -8,8 +8,9 @@ ghost use Rattle.std.specs.Prelude.{◌≡◌, ◌++◌, IfOk};
 ghost use Rattle.game_rules.specs.Games.{five_points as five_points_lem, has_five as has_five_lem};
 ghost use Rattle.game_rules.specs.Shapes.{five};
 ghost use Rattle.row_shapes.specs.FivePoints.{in_short, takes as takes_lem};
+ghost use Rattle.row_shapes.specs.Windows.{AreWindowLines};
 
-use crate::windows::may_have_five;
+use crate::windows::{WindowLines, window_lines};
 use crate::{Rule, five_at};
 use std::alloc::{AllocError, Global};
 use stone_board::{Board, Point, Points, Side};
@@ -41,11 +42,12 @@ pub fn five_points<R: Rule>(alloc: Global, board: &Board, side: Side) -> Result<
     ensures fives { IfOk result (λ points. points ≡ five_points_lem R.KIND board.now side) }
 {
     let mut found = Points::new(alloc);
-    if !may_have_five(board, side) {
+    let lines = window_lines(board, side);
+    if !lines.some() {
         return Ok(found);
     }
     for p in board.points() {
-        if is_five::<R>(board, side, p) {
+        if is_five::<R>(board, side, lines, p) {
             found.push(p)?;
         }
     }
@@ -56,11 +58,12 @@ pub fn five_points<R: Rule>(alloc: Global, board: &Board, side: Side) -> Result<
 pub fn has_five<R: Rule>(board: &Board, side: Side) -> bool
     ensures five { result ≡ has_five_lem R.KIND board.now side }
 {
-    if !may_have_five(board, side) {
+    let lines = window_lines(board, side);
+    if !lines.some() {
         return false;
     }
     for p in board.points() {
-        if is_five::<R>(board, side, p) {
+        if is_five::<R>(board, side, lines, p) {
             return true;
         }
     }
@@ -71,12 +74,13 @@ pub fn has_five<R: Rule>(board: &Board, side: Side) -> bool
 pub fn fives_in_short<R: Rule>(board: &Board, side: Side) -> FivePoints
     ensures fives { result ≡ in_short (five_points_lem R.KIND board.now side) }
 {
-    if !may_have_five(board, side) {
+    let lines = window_lines(board, side);
+    if !lines.some() {
         return FivePoints::None;
     }
     let mut first = None;
     for p in board.points() {
-        if is_five::<R>(board, side, p) {
+        if is_five::<R>(board, side, lines, p) {
             match first {
                 None => first = Some(p),
                 Some(_) => return FivePoints::Several,
@@ -89,9 +93,10 @@ pub fn fives_in_short<R: Rule>(board: &Board, side: Side) -> FivePoints
     }
 }
 
-/// Whether the point is a five point of the side.
-fn is_five<R: Rule>(board: &Board, side: Side, p: Point) -> bool
+/// Whether the point is a five point of the side, which may win on these lines alone.
+fn is_five<R: Rule>(board: &Board, side: Side, lines: WindowLines, p: Point) -> bool
+    requires lines { AreWindowLines board.now side lines }
     ensures five { result ≡ five R.KIND board.now side p }
 {
-    board.is_empty(p) && five_at::<R>(board, side, p)
+    board.is_empty(p) && lines.hold(p) && five_at::<R>(board, side, p)
 }

@@ -14,6 +14,7 @@ ghost use Rattle.row_shapes.specs.Gaps.{listed, is_four as is_four_lem, are_ston
 
 use crate::Rule;
 use crate::row_at::RowAt;
+use crate::windows::line_through_may_win;
 use crate::wins::wins_along;
 use stone_board::{Axis, Board, Cell, Point, Side};
 
@@ -25,6 +26,9 @@ pub fn fours_through<R: Rule>(board: &Board, p: Point, axis: Axis) -> u32
     ensures bound { result ≤ 20 }
 {
     let side = side_at(board, p);
+    if !line_through_may_win(board, side, axis, p) {
+        return 0;
+    }
     let stones = stones_around(board, side, axis, p);
     if count(&stones) < 4 {
         return 0;

@@ -8,16 +8,15 @@
 ghost use Rattle.std.specs.Prelude.{◌≡◌, ◌↔◌, ◌<◌, ℕ, false, true, None, IsTrue};
 ghost use Rattle.std.specs.Int.{bit_at};
 ghost use Rattle.game_rules.specs.Grid.{IsBoard, is_on, is_empty};
-ghost use Rattle.game_rules.specs.Games.{has_five as has_five_lem};
 ghost use Rattle.game_rules.specs.Shapes.{wins_on};
 ghost use Rattle.game_rules.specs.declared.Point.{Point};
 ghost use Rattle.game_rules.specs.declared.RuleKind.{RuleKind};
 ghost use Rattle.game_rules.specs.declared.Way.{Way};
 ghost use Rattle.stone_board.specs.Lines.{line_of as line_of_lem};
 ghost use Rattle.row_shapes.specs.FiveEnds.{end_five};
-ghost use Rattle.row_shapes.specs.Windows.{HasRow, IsWindow};
+ghost use Rattle.row_shapes.specs.Windows.{HasRow, IsWindow, IsPassed, AreLinesOn, AreWindowLines};
 
-use stone_board::{Axis, Board, LINES, Point, Side, bit_of_place, line_of, place_on};
+use stone_board::{Axis, Board, LINES, MAX_SIDE, Point, Side, bit_of_place, line_of, place_on};
 
 /// The places from which a window begins on a line, by the bits of the side and of the other.
 #[inline(always)]
@@ -37,13 +36,36 @@ fn windows(own: u32, theirs: u32) -> u32
         | (own & first & second & third & (free >> 4))
 }
 
+/// Whether the bits may hold four of five places in a row: they have two pairs of neighbours, one or three places apart.
+#[inline(always)]
+fn may_hold_four(own: u32) -> bool
+    ensures none { result ≡ false → (theirs i j : ℕ) → ¬ IsWindow own theirs i j }
+{
+    let pairs = own & (own >> 1);
+    pairs & ((pairs >> 1) | (pairs >> 3)) != 0
+}
+
 /// Whether line `n` of the axis has a window of the side, and so may have a point where its stone wins.
 #[inline(always)]
 fn line_may_win(board: &Board, side: Side, axis: Axis, n: u8) -> bool
     requires line { n < LINES }
     ensures none { result ≡ false → (rule : RuleKind) (q : Point) → line_of_lem axis q ≡ n → wins_on rule board.now side axis q ≡ false }
 {
-    windows(board.line(side, axis, n), board.line(side.other(), axis, n)) != 0
+    let own = board.line(side, axis, n);
+    may_hold_four(own) && windows(own, board.line(side.other(), axis, n)) != 0
+}
+
+/// The same of the line on the axis through a point.
+#[inline(always)]
+pub(crate) fn line_through_may_win(board: &Board, side: Side, axis: Axis, p: Point) -> bool
+    requires on { IsTrue (is_on board.now p) }
+    ensures none { result ≡ false → (rule : RuleKind) (q : Point) → line_of_lem axis q ≡ line_of_lem axis p
+        → wins_on rule board.now side axis q ≡ false }
+    ensures board { IsBoard board.now }
+{
+    // This tells that the board is one, so that the point's line has a number.
+    let _ = board.width();
+    line_may_win(board, side, axis, line_of(axis, p))
 }
 
 /// Whether the line on the axis through a point has five in a row once a stone of the side stands there, and so may win.
@@ -74,28 +96,73 @@ pub(crate) fn may_make_five(board: &Board, side: Side, axis: Axis, p: Point) -> 
     ensures board { IsBoard board.now }
 {
     let own = board.line_through(side, axis, p) | bit_of_place(place_on(axis, p));
-    windows(own, board.line_through(side.other(), axis, p)) != 0
+    may_hold_four(own) && windows(own, board.line_through(side.other(), axis, p)) != 0
 }
 
-/// Whether some line of the axis has a window of the side.
-fn axis_may_win(board: &Board, side: Side, axis: Axis) -> bool
-    ensures none { result ≡ false → (rule : RuleKind) (q : Point) → wins_on rule board.now side axis q ≡ false }
+/// The lines on which a side may win, on each axis: bit n tells of line n.
+#[derive(Clone, Copy)]
+pub(crate) struct WindowLines {
+    row: u64,
+    column: u64,
+    down: u64,
+    up: u64,
+}
+
+impl WindowLines {
+    /// Whether there is such a line.
+    #[inline(always)]
+    pub(crate) fn some(self) -> bool
+        ensures none { result ≡ false → (p : Point) → IsPassed self p }
+    {
+        self.row | self.column | self.down | self.up != 0
+    }
+
+    /// Whether such a line goes through the point.
+    #[inline(always)]
+    pub(crate) fn hold(self, p: Point) -> bool
+        requires column { p.x < MAX_SIDE }
+        requires row { p.y < MAX_SIDE }
+        ensures none { result ≡ false → IsPassed self p }
+    {
+        is_among(self.row, Axis::Row, p)
+            || is_among(self.column, Axis::Column, p)
+            || is_among(self.down, Axis::Down, p)
+            || is_among(self.up, Axis::Up, p)
+    }
+}
+
+/// Whether the line on the axis through the point is one of these.
+#[inline(always)]
+fn is_among(lines: u64, axis: Axis, p: Point) -> bool
+    requires column { p.x < MAX_SIDE }
+    requires row { p.y < MAX_SIDE }
+    ensures none { result ≡ false → bit_at lines (line_of_lem axis p) ≡ 0 }
+{
+    lines >> line_of(axis, p) & 1 == 1
+}
+
+/// The lines of the board that have a window of the side: on no other does it win.
+pub(crate) fn window_lines(board: &Board, side: Side) -> WindowLines
+    ensures lines { AreWindowLines board.now side result }
+{
+    WindowLines {
+        row: axis_windows(board, side, Axis::Row),
+        column: axis_windows(board, side, Axis::Column),
+        down: axis_windows(board, side, Axis::Down),
+        up: axis_windows(board, side, Axis::Up),
+    }
+}
+
+/// The same on one axis.
+fn axis_windows(board: &Board, side: Side, axis: Axis) -> u64
+    ensures lines { AreLinesOn board.now side axis result }
 {
     let (first, past) = board.lines(axis);
+    let mut found: u64 = 0;
     for n in first..past {
         if line_may_win(board, side, axis, n) {
-            return true;
+            found |= 1 << n;
         }
     }
-    false
-}
-
-/// Whether some line of the board has a window of the side. Where none has, the side has no five point.
-pub(crate) fn may_have_five(board: &Board, side: Side) -> bool
-    ensures none { result ≡ false → (rule : RuleKind) → has_five_lem rule board.now side ≡ false }
-{
-    axis_may_win(board, side, Axis::Row)
-        || axis_may_win(board, side, Axis::Column)
-        || axis_may_win(board, side, Axis::Down)
-        || axis_may_win(board, side, Axis::Up)
+    found
 }

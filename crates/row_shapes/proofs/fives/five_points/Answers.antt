@@ -1,10 +1,12 @@
 use Rattle.std.proofs.Common.{sym, ◌∙◌}
 use Rattle.row_shapes.proofs.FiveLaws.{none-listed}
+use Rattle.row_shapes.proofs.WindowLaws.{passes-all}
 use Rattle.row_shapes.proofs.fives.five_points.Goals as goal
 
-pub returns-then-not-may_have_five : goal.returns-then-not-may_have_five
-returns-then-not-may_have_five g c = record {
+pub returns-then-not-some : goal.returns-then-not-some
+returns-then-not-some g c = record {
   fives = c.new-found.ensures.empty
       ∙ sym (none-listed g.R.Rule.KIND c.args.board.now c.args.side
-      (c.may_have_five.ensures.none c.if-not-may_have_five.true g.R.Rule.KIND));
+      (passes-all c.args.board.now c.args.side c.window_lines-lines.result c.window_lines-lines.ensures.lines
+      (c.some.ensures.none c.if-not-some.true) g.R.Rule.KIND));
 }
