@@ -255,9 +255,9 @@ module _ (shelf : Change (Option Files)) (names before later : List (List ℕ)) 
 
   -- what is told of a file that is not added
   pub says-stop : (n : ℕ) (new : Book) (answer : Answer) → n ≡ length before + 1 → IsAdded shelf n name book new (Some answer)
-      → BindSays names shelf answer.status answer.text.items
-  says-stop n new answer is (inl h) = says-refused answer.status h.0 answer.text.items h.1 (h.2 ∙ ap (λ (k : ℕ). of_file k h.0) is)
-  says-stop n new answer is (inr h) = says-full h.0 answer.status answer.text.items h.1 h.2 h.3 h.4.ends h.4.told
+      → BindSays names shelf answer.status answer.text
+  says-stop n new answer is (inl h) = says-refused answer.status h.0 answer.text h.1 (h.2 ∙ ap (λ (k : ℕ). of_file k h.0) is)
+  says-stop n new answer is (inr h) = says-full h.0 answer.status answer.text h.1 h.2 h.3 h.4.ends h.4.told
 
 -- all files are bound
 pub says-book : (shelf : Change (Option Files)) (names : List (List ℕ)) (binder book : Book) (text : List ℕ)

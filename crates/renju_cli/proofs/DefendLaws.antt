@@ -85,12 +85,12 @@ pub lost-says : {E : Type 0} (limit nodes : ℕ) (rule : RuleKind) (p : Grid) (r
     (bad : List Reply) → b ≡ p → defences_of rule limit p ≡ [] → None ≡ first_spent rule limit nodes p → AreBeaten rule limit p t bad
     → IfOk r (λ a. a.status ≡ Done)
     → IfOk r (λ a. (limit : ℕ) → defences_of rule limit b ≡ [] → AreBeaten rule limit b t bad
-    → IsLostText limit (file_at rule b) a.text.items) → IfOk r (λ a. DefenceSays limit nodes (file_at rule p) a.status a.text.items)
+    → IsLostText limit (file_at rule b) a.text) → IfOk r (λ a. DefenceSays limit nodes (file_at rule p) a.status a.text)
 lost-says limit nodes rule p (Err e) b t bad there none enough beaten done text = tt
 lost-says limit nodes rule p (Ok a) b t bad there none enough beaten done text =
-    let at : (limit : ℕ) → defences_of rule limit p ≡ [] → AreBeaten rule limit p t bad → IsLostText limit (file_at rule p) a.text.items =
+    let at : (limit : ℕ) → defences_of rule limit p ≡ [] → AreBeaten rule limit p t bad → IsLostText limit (file_at rule p) a.text =
     subst (λ (c : Grid). (limit : ℕ) → defences_of rule limit c ≡ [] → AreBeaten rule limit c t bad
-    → IsLostText limit (file_at rule c) a.text.items) there text in
+    → IsLostText limit (file_at rule c) a.text) there text in
     inr (inl (record { enough = sym enough; none = none; ends = done; lost = at limit none beaten }))
 
 -- ---- a new compiler has room

@@ -29,11 +29,11 @@ file_at rule b = record { kind = rule; board = b }
 -- what is said of the position at the board of a text is said of the text's
 pub said-of-file : {E : Type 0} (Says : PositionFile → Status → List ℕ → Type 0) (r : Result Answer E) (file : PositionFile)
     (rule : RuleKind) (p : Grid)
-    → file.kind ≡ rule → p ≡ file.board → IfOk r (λ a. Says (file_at rule p) a.status a.text.items)
-    → IfOk r (λ a. Says file a.status a.text.items)
+    → file.kind ≡ rule → p ≡ file.board → IfOk r (λ a. Says (file_at rule p) a.status a.text)
+    → IfOk r (λ a. Says file a.status a.text)
 said-of-file Says r file rule p kind here says =
     let same : file_at rule p ≡ file = λ i. record { kind = sym kind i; board = here i } in
-    subst (λ (f : PositionFile). IfOk r (λ a. Says f a.status a.text.items)) same says
+    subst (λ (f : PositionFile). IfOk r (λ a. Says f a.status a.text)) same says
 
 -- the text of a lawful position is not refused, and no other position has it: so what is said is said of this one
 pub said-of-position : (Says : PositionFile → Status → List ℕ → Type 0) (bytes : List ℕ) (file : PositionFile) → IsPositionAt file bytes

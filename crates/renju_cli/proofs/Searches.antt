@@ -23,8 +23,8 @@ pub win-says : {E : Type 0} (r : Result Answer E) (limit nodes : ℕ) (file : Po
     → file.kind ≡ rule → p ≡ file.board → b ≡ file.board → IsFourWin rule limit p compiled win → (nodes < four_cost rule limit p → ⊥)
     → IfOk r (λ a. a.status ≡ Done)
     → IfOk r (λ a. (limit : ℕ) → IsFourWin file.kind limit b compiled win
-    → IsFourText limit (record { kind = file.kind; board = b }) a.text.items)
-    → IfOk r (λ a. SearchSays limit nodes file a.status a.text.items)
+    → IsFourText limit (record { kind = file.kind; board = b }) a.text)
+    → IfOk r (λ a. SearchSays limit nodes file a.status a.text)
 win-says (Err e) limit nodes file rule p b compiled win kind here there is few done text = tt
 win-says (Ok a) limit nodes file rule p b compiled win kind here there is few done text =
     let at_kind : IsFourWin file.kind limit p compiled win = subst (λ (k : RuleKind). IsFourWin k limit p compiled win) (sym kind) is in
@@ -35,8 +35,8 @@ win-says (Ok a) limit nodes file rule p b compiled win kind here there is few do
     same_kind ∙ ap (λ (c : Grid). four_cost file.kind limit c) here in
     let cost : four_cost file.kind limit file.board ≤ nodes =
     subst (λ (n : ℕ). n ≤ nodes) same_cost (not-above nodes (four_cost rule limit p) few) in
-    let written : IsFourText limit file a.text.items =
-    subst (λ (c : Grid). IsFourText limit (record { kind = file.kind; board = c }) a.text.items) there (text limit at_board) in
+    let written : IsFourText limit file a.text =
+    subst (λ (c : Grid). IsFourText limit (record { kind = file.kind; board = c }) a.text) there (text limit at_board) in
     inl (record { enough = cost; win = written; ends = done })
 
 -- what is known where a search found none at a board under a rule
@@ -45,12 +45,10 @@ pub record IsKnownDenied (rule : RuleKind) (limit nodes : ℕ) (b : Grid) : Type
   pub enough : four_cost rule limit b ≤ nodes
 
 -- the answer that there is none is what is said of the position
-pub none-says : {E : Type 0} (r : Result Answer E) (limit nodes : ℕ) (file : PositionFile) (rule : RuleKind) (b : Grid) → file.kind ≡ rule
-    → b ≡ file.board → IsKnownDenied rule limit nodes b → IfOk r (λ a. a.status ≡ NotFound) → IfOk r (λ a. a.text.items ≡ none_line)
-    → IfOk r (λ a. SearchSays limit nodes file a.status a.text.items)
-none-says (Ok a) limit nodes file rule b same here h status text =
+pub none-says : (a : Answer) (limit nodes : ℕ) (file : PositionFile) (rule : RuleKind) (b : Grid) → file.kind ≡ rule → b ≡ file.board
+    → IsKnownDenied rule limit nodes b → a.status ≡ NotFound → a.text ≡ none_line → SearchSays limit nodes file a.status a.text
+none-says a limit nodes file rule b same here h status text =
     let at_rule = subst (λ (k : RuleKind). IsKnownDenied k limit nodes b) (sym same) h in
     let at_board : IsKnownDenied file.kind limit nodes file.board =
     subst (λ (c : Grid). IsKnownDenied file.kind limit nodes c) here at_rule in
     inr (inl (record { enough = at_board.enough; none = at_board.none; ends = status; line = text }))
-none-says (Err e) limit nodes file rule b same here h status text = tt

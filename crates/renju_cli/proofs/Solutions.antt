@@ -22,19 +22,19 @@ module _ {E : Type 0} (r : Result Answer E) (limit nodes : ℕ) (rule : RuleKind
     (win : WrittenWin) where
   -- the text of the table of a win of the first step is what is said
   pub first-says : IsFourWin rule limit p compiled win → (nodes < four_cost rule limit p → ⊥) → IfOk r (λ a. a.status ≡ Done)
-      → IfOk r (λ a. (limit : ℕ) → IsFourWin rule limit b compiled win → IsFourText limit (file_at rule b) a.text.items)
-      → IfOk r (λ a. (limit : ℕ) → IsWrittenWin rule limit b compiled win → IsWinText limit (file_at rule b) a.text.items)
-      → IfOk r (λ a. SolutionSays limit nodes (file_at rule p) a.status a.text.items)
+      → IfOk r (λ a. (limit : ℕ) → IsFourWin rule limit b compiled win → IsFourText limit (file_at rule b) a.text)
+      → IfOk r (λ a. (limit : ℕ) → IsWrittenWin rule limit b compiled win → IsWinText limit (file_at rule b) a.text)
+      → IfOk r (λ a. SolutionSays limit nodes (file_at rule p) a.status a.text)
   first-says is few done text shown = elim r as (λ (r : Result Answer E). IfOk r (λ a. a.status ≡ Done)
-      → IfOk r (λ a. (limit : ℕ) → IsFourWin rule limit b compiled win → IsFourText limit (file_at rule b) a.text.items)
-      → IfOk r (λ a. (limit : ℕ) → IsWrittenWin rule limit b compiled win → IsWinText limit (file_at rule b) a.text.items)
-      → IfOk r (λ a. SolutionSays limit nodes (file_at rule p) a.status a.text.items)) [
+      → IfOk r (λ a. (limit : ℕ) → IsFourWin rule limit b compiled win → IsFourText limit (file_at rule b) a.text)
+      → IfOk r (λ a. (limit : ℕ) → IsWrittenWin rule limit b compiled win → IsWinText limit (file_at rule b) a.text)
+      → IfOk r (λ a. SolutionSays limit nodes (file_at rule p) a.status a.text)) [
         | Ok a ↦ λ done text shown.
             let at : IsFourWin rule limit b compiled win = subst (λ (c : Grid). IsFourWin rule limit c compiled win) (sym there) is in
-            let written : IsFourText limit (file_at rule p) a.text.items =
-            subst (λ (c : Grid). IsFourText limit (file_at rule c) a.text.items) there (text limit at) in
-            let win_text : IsWinText limit (file_at rule p) a.text.items =
-            subst (λ (c : Grid). IsWinText limit (file_at rule c) a.text.items) there (shown limit at.written) in
+            let written : IsFourText limit (file_at rule p) a.text =
+            subst (λ (c : Grid). IsFourText limit (file_at rule c) a.text) there (text limit at) in
+            let win_text : IsWinText limit (file_at rule p) a.text =
+            subst (λ (c : Grid). IsWinText limit (file_at rule c) a.text) there (shown limit at.written) in
             inl (record {
               found = record { enough = not-above nodes (four_cost rule limit p) few; win = written; ends = done };
               win = win_text;
@@ -44,39 +44,27 @@ module _ {E : Type 0} (r : Result Answer E) (limit nodes : ℕ) (rule : RuleKind
 
   -- so is that of the third, where the first two have none
   pub threats-says : IsThreatWin rule limit p compiled win → IsLeftOver limit nodes (file_at rule p) → IfOk r (λ a. a.status ≡ Done)
-      → IfOk r (λ a. (limit : ℕ) → IsWrittenWin rule limit b compiled win → IsWinText limit (file_at rule b) a.text.items)
-      → IfOk r (λ a. SolutionSays limit nodes (file_at rule p) a.status a.text.items)
+      → IfOk r (λ a. (limit : ℕ) → IsWrittenWin rule limit b compiled win → IsWinText limit (file_at rule b) a.text)
+      → IfOk r (λ a. SolutionSays limit nodes (file_at rule p) a.status a.text)
   threats-says is left done shown = elim r as (λ (r : Result Answer E). IfOk r (λ a. a.status ≡ Done)
-      → IfOk r (λ a. (limit : ℕ) → IsWrittenWin rule limit b compiled win → IsWinText limit (file_at rule b) a.text.items)
-      → IfOk r (λ a. SolutionSays limit nodes (file_at rule p) a.status a.text.items)) [
+      → IfOk r (λ a. (limit : ℕ) → IsWrittenWin rule limit b compiled win → IsWinText limit (file_at rule b) a.text)
+      → IfOk r (λ a. SolutionSays limit nodes (file_at rule p) a.status a.text)) [
         | Ok a ↦ λ done shown.
             let at : IsWrittenWin rule limit b compiled win = subst (λ (c : Grid). IsWrittenWin rule limit c compiled win) (sym there)
             is.written in
-            let win_text : IsWinText limit (file_at rule p) a.text.items =
-            subst (λ (c : Grid). IsWinText limit (file_at rule c) a.text.items) there (shown limit at) in
+            let win_text : IsWinText limit (file_at rule p) a.text =
+            subst (λ (c : Grid). IsWinText limit (file_at rule c) a.text) there (shown limit at) in
             inr (inr (inl (record { left = left; by_threats = is.by_threats; win = win_text; ends = done })))
         | Err e ↦ λ done shown. tt
       ] done shown
 
-module _ {E : Type 0} (r : Result Answer E) (limit nodes : ℕ) (file : PositionFile) where
+module _ (a : Answer) (limit nodes : ℕ) (file : PositionFile) where
   -- what is said where the last step finds none
-  pub unwon-says : IsLeftOver limit nodes file → ¬ WinsByThreats file.kind limit file.board → IfOk r (λ a. a.status ≡ NotFound)
-      → IfOk r (λ a. a.text.items ≡ none_line)
-      → IfOk r (λ a. SolutionSays limit nodes file a.status a.text.items)
-  unwon-says left none ends line = elim r as
-      (λ (r : Result Answer E). IfOk r (λ a. a.status ≡ NotFound) → IfOk r (λ a. a.text.items ≡ none_line)
-      → IfOk r (λ a. SolutionSays limit nodes file a.status a.text.items)) [
-        | Ok a ↦ λ ends line. inr (inr (inr (inl (record { left = left; none = none; ends = ends; line = line }))))
-        | Err e ↦ λ ends line. tt
-      ] ends line
+  pub unwon-says : IsLeftOver limit nodes file → ¬ WinsByThreats file.kind limit file.board → a.status ≡ NotFound → a.text ≡ none_line
+      → SolutionSays limit nodes file a.status a.text
+  unwon-says left none ends line = inr (inr (inr (inl (record { left = left; none = none; ends = ends; line = line }))))
 
   -- and where a table has no room
-  pub full-says : ¬ IsWonByFours limit nodes file → MayBeTooGreat limit nodes file → IfOk r (λ a. a.status ≡ Full)
-      → IfOk r (λ a. a.text.items ≡ full_line)
-      → IfOk r (λ a. SolutionSays limit nodes file a.status a.text.items)
-  full-says later great ends line = elim r as
-      (λ (r : Result Answer E). IfOk r (λ a. a.status ≡ Full) → IfOk r (λ a. a.text.items ≡ full_line)
-      → IfOk r (λ a. SolutionSays limit nodes file a.status a.text.items)) [
-        | Ok a ↦ λ ends line. inr (inr (inr (inr (inr (record { later = later; great = great; ends = ends; line = line })))))
-        | Err e ↦ λ ends line. tt
-      ] ends line
+  pub full-says : ¬ IsWonByFours limit nodes file → MayBeTooGreat limit nodes file → a.status ≡ Full → a.text ≡ full_line
+      → SolutionSays limit nodes file a.status a.text
+  full-says later great ends line = inr (inr (inr (inr (inr (record { later = later; great = great; ends = ends; line = line })))))

@@ -21,13 +21,13 @@ use Rattle.renju_cli.specs.Binds.{IsBindable, of_file}
 -- what comes of the table of a text: it is accepted, or what is told of it says why not
 abbrev pub IsFittedFile : TableFile → Fitted → Type 0
 IsFittedFile file (Fits found) = IsFit file × (found ≡ file)
-IsFittedFile file (Tells answer) = IsRefusedTable file answer.status answer.text.items ⊎ IsSpentWork BRAIN_WORK file answer.status
-    answer.text.items
+IsFittedFile file (Tells answer) = IsRefusedTable file answer.status answer.text ⊎ IsSpentWork BRAIN_WORK file answer.status
+    answer.text
 
 -- what comes of the bytes of a FILE: they are the text of a table that is accepted, or what is told of them says why not
 abbrev pub IsFittedText : List ℕ → Fitted → Type 0
 IsFittedText bytes (Fits file) = IsTableAt file bytes × IsFit file
-IsFittedText bytes (Tells answer) = TableFileSays bytes answer.status answer.text.items
+IsFittedText bytes (Tells answer) = TableFileSays bytes answer.status answer.text
 
 -- the files that were bound into the old book, and this one, are bound into the new one
 abbrev pub BindsMore : Book → TableFile → Book → Type 0
@@ -35,12 +35,12 @@ BindsMore old file new = (files : List TableFile) → IsBound files old → IsBo
 
 -- this is told of file n, for which the line is due
 abbrev pub TellsOfFile : ℕ → (Status → List ℕ → Type 0) → Answer → Type 0
-TellsOfFile n IsDue answer = (line : List ℕ) × IsDue answer.status line × (answer.text.items ≡ of_file n line)
+TellsOfFile n IsDue answer = (line : List ℕ) × IsDue answer.status line × (answer.text ≡ of_file n line)
 
 -- it is told that the book is full
 pub record TellsFull (answer : Answer) : Type 0 where
   pub ends : answer.status ≡ Full
-  pub told : answer.text.items ≡ full_line
+  pub told : answer.text ≡ full_line
 
 -- what comes of the bytes of file n, which is to be added: it is bound, or what is told says why not
 abbrev pub IsAddedText : ℕ → List ℕ → Book → Book → Option Answer → Type 0

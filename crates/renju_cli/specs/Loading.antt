@@ -25,24 +25,24 @@ session_status (Err NoMemory) = Memory
 abbrev pub IsLoadedFile : TableFile → Loaded → Type 0
 IsLoadedFile file (Holds held) = IsFit file × (held ≡ held_by (of_table file))
 IsLoadedFile file (Tells answer) =
-    IsRefusedTable file answer.status answer.text.items ⊎ IsSpentWork BRAIN_WORK file answer.status answer.text.items
+    IsRefusedTable file answer.status answer.text ⊎ IsSpentWork BRAIN_WORK file answer.status answer.text
 
 -- what comes of the bytes of a FILE that is to be a table: the table of the text is held, or what is told of them says why not
 abbrev pub IsLoadedText : List ℕ → Loaded → Type 0
 IsLoadedText bytes (Holds held) = (file : TableFile) × IsTableAt file bytes × IsFit file × (held ≡ held_by (of_table file))
-IsLoadedText bytes (Tells answer) = TableFileSays bytes answer.status answer.text.items
+IsLoadedText bytes (Tells answer) = TableFileSays bytes answer.status answer.text
 
 -- what comes of a book: it is held with all its entries, or what is told of it says why not
 abbrev pub IsLoadedBook : Book → Loaded → Type 0
 IsLoadedBook book (Holds held) = AreAccepted BRAIN_WORK book × (held ≡ held_by (of_book book))
-IsLoadedBook book (Tells answer) = IsRefusedEntry BRAIN_WORK book answer.status answer.text.items
+IsLoadedBook book (Tells answer) = IsRefusedEntry BRAIN_WORK book answer.status answer.text
 
 -- what comes of the bytes of a FILE that is to be a book: the book of the text is held, or what is told of them says why not
 abbrev pub IsLoadedBookText : List ℕ → Loaded → Type 0
 IsLoadedBookText bytes (Holds held) = (book : Book) × IsBookAt book bytes × AreAccepted BRAIN_WORK book × (held ≡ held_by (of_book book))
-IsLoadedBookText bytes (Tells answer) = BookFileSays bytes answer.status answer.text.items
+IsLoadedBookText bytes (Tells answer) = BookFileSays bytes answer.status answer.text
 
 -- what comes of the bytes of a FILE: what they give is held, or what is told of them says why not
 abbrev pub IsLoadedHeld : List ℕ → Loaded → Type 0
 IsLoadedHeld bytes (Holds held) = (file : HeldFile) × IsHeldText file bytes × (held ≡ held_by file)
-IsLoadedHeld bytes (Tells answer) = FileSays bytes answer.status answer.text.items
+IsLoadedHeld bytes (Tells answer) = FileSays bytes answer.status answer.text

@@ -1,38 +1,101 @@
 //! What is due for words and an input: a status, and the text that goes with it.
 //!
-//! A command works out all of its answer before a byte of it is written, so a run writes one text or none.
+//! A command works out all of its answer before a byte of it is written, so a run writes one text or none. A text of fixed bytes
+//! is written from where the program keeps it, so that no want of memory stands in its way.
 #![tactic(auto)]
 
-ghost use Rattle.std.specs.Prelude.{◌≡◌, IfOk};
-ghost use Rattle.std.specs.String.{string_vec};
+ghost use Rattle.std.specs.Prelude.{◌≡◌, string_bytes};
 ghost use Rattle.renju_cli.specs.Texts.{spent_line};
 
 use crate::Status;
-use std::alloc::{AllocError, Global};
+use std::borrow::CowSlice;
+use std::marker::Model;
+
+/// A text: fixed bytes, or bytes that were built. Contracts see its bytes.
+#[derive(Drop)]
+pub(crate) struct Text {
+    bytes: CowSlice<'static, u8>,
+}
+
+impl Model for Text {
+    ghost use Rattle.std.specs.Prelude.{ℕ, List};
+    ghost use Rattle.std.specs.Cow.{cow_slice_items};
+
+    ghost Value = { List ℕ };
+
+    ghost view = { λ text. cow_slice_items text.bytes };
+}
+
+impl Text {
+    /// A text of fixed bytes.
+    pub(crate) fn fixed(text: &'static str) -> Text
+        ensures value { result ≡ text.now }
+    {
+        Text {
+            bytes: CowSlice::Borrowed(text.as_bytes()),
+        }
+    }
+
+    /// A text that was built.
+    pub(crate) fn built(bytes: Vec<u8>) -> Text
+        ensures value { result ≡ bytes.items }
+    {
+        Text {
+            bytes: CowSlice::Owned(bytes),
+        }
+    }
+
+    /// The bytes of the text.
+    pub(crate) fn as_slice(&self) -> &[u8]
+        ensures value { result.now ≡ self.now }
+    {
+        self.bytes.as_slice()
+    }
+}
 
 /// A status and its text.
 #[derive(Drop)]
 pub(crate) struct Answer {
     pub status: Status,
-    pub text: Vec<u8>,
+    pub text: Text,
 }
 
 impl Answer {
     /// The answer with this status and this text.
     pub(crate) fn told(status: Status, text: String) -> Answer
-        ensures answer { result ≡ record { status = status; text = string_vec text } }
+        ensures answer { result ≡ record { status = status; text = string_bytes text } }
     {
         Answer {
             status,
-            text: text.into_bytes(),
+            text: Text::built(text.into_bytes()),
+        }
+    }
+
+    /// The answer with this status and these bytes.
+    pub(crate) fn written(status: Status, bytes: Vec<u8>) -> Answer
+        ensures answer { result ≡ record { status = status; text = bytes.items } }
+    {
+        Answer {
+            status,
+            text: Text::built(bytes),
+        }
+    }
+
+    /// The answer with this status and this fixed text. It takes no memory.
+    pub(crate) fn fixed(status: Status, text: &'static str) -> Answer
+        ensures answer { result ≡ record { status = status; text = text.now } }
+    {
+        Answer {
+            status,
+            text: Text::fixed(text),
         }
     }
 }
 
 /// The answer where the work or the budget was not enough.
-pub(crate) fn spent(alloc: Global) -> Result<Answer, AllocError>
-    ensures status { IfOk result (λ answer. answer.status ≡ Status.Spent) }
-    ensures text { IfOk result (λ answer. answer.text.items ≡ spent_line) }
+pub(crate) fn spent() -> Answer
+    ensures status { result.status ≡ Status.Spent }
+    ensures text { result.text ≡ spent_line }
 {
-    Ok(Answer::told(Status::Spent, String::from_str(alloc, "spent\n")?))
+    Answer::fixed(Status::Spent, "spent\n")
 }

@@ -81,7 +81,7 @@ fn bind_files<F: Shelf>(
 ) -> Result<Answer, AllocError>
     requires names { AreNames (map string_bytes names.now) }
     ensures says { IfOk result (λ answer. BindSays (map string_bytes names.now) (change F.files F.faults F.asked shelf.old shelf.new)
-        answer.status answer.text.items) }
+        answer.status answer.text) }
     ensures shelf { HasNotFallen (F.faults shelf.old) (F.faults shelf.new) }
     ensures files { F.files shelf.new ≡ F.files shelf.old }
     ensures loads { IfOk result (λ answer. answer.status ≢ Status.ShelfFault → HasStayed (F.faults shelf.old) (F.faults shelf.new)) }
@@ -97,10 +97,7 @@ fn bind_files<F: Shelf>(
         }
     }
     let book = binder.finish()?;
-    Ok(Answer {
-        status: Status::Done,
-        text: write_book(alloc, &book)?,
-    })
+    Ok(Answer::written(Status::Done, write_book(alloc, &book)?))
 }
 
 /// Adds file `number`, which stands under the name, if it can be bound, and else answers what is told instead.
@@ -144,7 +141,7 @@ fn add_text(
     match fit(alloc, bytes)? {
         Fitted::Fits(file) => match binder.add(file) {
             Ok(()) => Ok(None),
-            Err(BindError::Full) => Ok(Some(full(alloc)?)),
+            Err(BindError::Full) => Ok(Some(full())),
             Err(BindError::Memory) => Err(AllocError),
         },
         Fitted::Tells(answer) => {
@@ -157,9 +154,9 @@ fn add_text(
 /// The answer with this status that tells this text of file `number`.
 fn of_file(alloc: Global, number: u32, status: Status, text: &[u8]) -> Result<Answer, AllocError>
     ensures status { IfOk result (λ answer. answer.status ≡ status) }
-    ensures text { IfOk result (λ answer. answer.text.items ≡ of_file_lem number text.now) }
+    ensures text { IfOk result (λ answer. answer.text ≡ of_file_lem number text.now) }
 {
     let mut line = format!(in alloc; "file {number} ")?.into_bytes();
     line.extend_from_slice(text)?;
-    Ok(Answer { status, text: line })
+    Ok(Answer::written(status, line))
 }

@@ -59,7 +59,7 @@ impl Told for CheckBook {
 fn checked(alloc: Global, book: &Book, work: u64) -> Result<Answer, AllocError>
     requires well_formed { IsWellFormed book.now }
     requires few { work ≤ MAX_BOOK_WORK }
-    ensures says { IfOk result (λ answer. EntriesSay work book.now answer.status answer.text.items) }
+    ensures says { IfOk result (λ answer. EntriesSay work book.now answer.status answer.text) }
 {
     match check_book(alloc, book, work) {
         Ok(arrivals) => {
@@ -80,7 +80,7 @@ fn accepted(alloc: Global, entries: usize, arrivals: u64) -> Result<String, Allo
 /// What is said of the text of a book that is refused. Want of memory is handed on.
 pub(crate) fn refused_book(alloc: Global, error: BookError) -> Result<Answer, AllocError>
     ensures status { IfOk result (λ answer. answer.status ≡ Status.RefusedText) }
-    ensures text { IfOk result (λ answer. answer.text.items ≡ book_refusal_line error) }
+    ensures text { IfOk result (λ answer. answer.text ≡ book_refusal_line error) }
     ensures cause { IfOk result (λ answer. error ≢ BookError.Memory) }
 {
     match error {
@@ -108,7 +108,7 @@ pub(crate) fn refused_book(alloc: Global, error: BookError) -> Result<Answer, Al
 /// What is said of a book with an entry that is not accepted. Want of memory is handed on.
 pub(crate) fn refused_entry(alloc: Global, error: HoldError) -> Result<Answer, AllocError>
     ensures status { IfOk result (λ answer. answer.status ≡ hold_refusal_status error) }
-    ensures text { IfOk result (λ answer. answer.text.items ≡ hold_refusal_line error) }
+    ensures text { IfOk result (λ answer. answer.text ≡ hold_refusal_line error) }
     ensures cause { IfOk result (λ answer. error ≢ HoldError.Memory) }
 {
     match error {
@@ -116,7 +116,7 @@ pub(crate) fn refused_entry(alloc: Global, error: HoldError) -> Result<Answer, A
             let text = refused_table(alloc, why, line.as_slice())?;
             of_entry(alloc, entry, Answer::told(Status::RefusedTable, text))
         }
-        HoldError::Spent { entry } => of_entry(alloc, entry, spent(alloc)?),
+        HoldError::Spent { entry } => of_entry(alloc, entry, spent()),
         HoldError::Memory => Err(AllocError),
     }
 }
@@ -124,14 +124,11 @@ pub(crate) fn refused_entry(alloc: Global, error: HoldError) -> Result<Answer, A
 /// What is said of an entry, after its number.
 fn of_entry(alloc: Global, number: u32, said: Answer) -> Result<Answer, AllocError>
     ensures status { IfOk result (λ answer. answer.status ≡ said.status) }
-    ensures text { IfOk result (λ answer. answer.text.items ≡ entry_line number said.text.items) }
+    ensures text { IfOk result (λ answer. answer.text ≡ entry_line number said.text) }
 {
     let mut text = front(alloc, number)?.into_bytes();
     text.extend_from_slice(said.text.as_slice())?;
-    Ok(Answer {
-        status: said.status,
-        text,
-    })
+    Ok(Answer::written(said.status, text))
 }
 
 /// What stands before that.

@@ -62,7 +62,7 @@ fn check_file(alloc: Global, file: TableFile, work: u64) -> Result<Answer, Alloc
     requires lawful { IsPosition file.kind file.board }
     requires root { root_below file.root (length file.table) ≡ true }
     requires moves { file.moves ≡ root_depth file.table file.root }
-    ensures says { IfOk result (λ answer. TableSays work file answer.status answer.text.items) }
+    ensures says { IfOk result (λ answer. TableSays work file answer.status answer.text) }
 {
     under_rule!(file.kind, check_under(alloc, file, work))
 }
@@ -73,7 +73,7 @@ fn check_under<R: Rule>(alloc: Global, file: TableFile, work: u64) -> Result<Ans
     requires lawful { IsPosition file.kind file.board }
     requires root { root_below file.root (length file.table) ≡ true }
     requires moves { file.moves ≡ root_depth file.table file.root }
-    ensures says { IfOk result (λ answer. TableSays work file answer.status answer.text.items) }
+    ensures says { IfOk result (λ answer. TableSays work file answer.status answer.text) }
 {
     let TableFile {
         kind: _,
@@ -93,7 +93,7 @@ fn check_under<R: Rule>(alloc: Global, file: TableFile, work: u64) -> Result<Ans
                 refused_table(alloc, why, line.as_slice())?,
             ))
         }
-        Verdict::Spent => spent(alloc),
+        Verdict::Spent => Ok(spent()),
     }
 }
 

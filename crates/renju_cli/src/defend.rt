@@ -77,7 +77,7 @@ fn defend_file(
     requires some_depth { 1 ≤ depth }
     requires depth_fits { depth ≤ MAX_DEPTH }
     requires some_nodes { 1 ≤ nodes }
-    ensures says { IfOk result (λ answer. DefenceSays depth nodes file answer.status answer.text.items) }
+    ensures says { IfOk result (λ answer. DefenceSays depth nodes file answer.status answer.text) }
 {
     under_rule!(file.kind, defend_under(alloc, file, depth, nodes))
 }
@@ -94,7 +94,7 @@ fn defend_under<R: Rule>(
     requires some_depth { 1 ≤ depth }
     requires depth_fits { depth ≤ MAX_DEPTH }
     requires some_nodes { 1 ≤ nodes }
-    ensures says { IfOk result (λ answer. DefenceSays depth nodes file answer.status answer.text.items) }
+    ensures says { IfOk result (λ answer. DefenceSays depth nodes file answer.status answer.text) }
 {
     let mut position = Position::<R>::new(file.board);
     let mut compiler = Compiler::new(alloc);
@@ -115,12 +115,9 @@ fn defend_under<R: Rule>(
 /// The list of the moves that hold.
 fn listed(alloc: Global, good: &Points) -> Result<Answer, AllocError>
     ensures status { IfOk result (λ answer. answer.status ≡ Status.Done) }
-    ensures text { IfOk result (λ answer. answer.text.items ≡ defences_text good.now) }
+    ensures text { IfOk result (λ answer. answer.text ≡ defences_text good.now) }
 {
-    Ok(Answer {
-        status: Status::Done,
-        text: write_defences(alloc, good)?,
-    })
+    Ok(Answer::written(Status::Done, write_defences(alloc, good)?))
 }
 
 /// The table of the other side's win, as a text, where no move holds and these answer all that go on.
@@ -136,21 +133,19 @@ fn lost(
     ensures status { IfOk result (λ answer. answer.status ≡ Status.Done) }
     ensures text { IfOk result (λ answer. (limit : ℕ) → defences_of kind limit board.now ≡ []
         → AreBeaten kind limit board.now compiler bad.now
-        → IsLostText limit (record { kind = kind; board = board.now }) answer.text.items) }
+        → IsLostText limit (record { kind = kind; board = board.now }) answer.text) }
 {
     let (table, start) = compiler.finish_start(bad.as_slice())?;
     let moves = table.start_depth(&start)?;
     let root = Root::Defend(start);
-    Ok(Answer {
-        status: Status::Done,
-        text: write_table(alloc, kind, board, &table, &root, moves)?,
-    })
+    let bytes = write_table(alloc, kind, board, &table, &root, moves)?;
+    Ok(Answer::written(Status::Done, bytes))
 }
 
 /// The answer where the budget is not enough after this move.
 fn spent_after(alloc: Global, at: Point) -> Result<Answer, AllocError>
     ensures status { IfOk result (λ answer. answer.status ≡ Status.Spent) }
-    ensures text { IfOk result (λ answer. answer.text.items ≡ spent_after_line at) }
+    ensures text { IfOk result (λ answer. answer.text ≡ spent_after_line at) }
 {
     let mut text = String::from_str(alloc, "spent")?;
     push_spaced_point(&mut text, at)?;

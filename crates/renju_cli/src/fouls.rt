@@ -60,7 +60,7 @@ impl Told for ListFouls {
 /// The list of the fouls of a position.
 fn list_fouls(alloc: Global, file: PositionFile) -> Result<Answer, AllocError>
     requires lawful { IsPosition file.kind file.board }
-    ensures list { IfOk result (λ answer. IsFoulList file answer.status answer.text.items) }
+    ensures list { IfOk result (λ answer. IsFoulList file answer.status answer.text) }
 {
     let fouls = under_rule!(file.kind, mover_fouls(alloc, file.board))?;
     Ok(Answer::told(Status::Done, fouls_text(alloc, fouls.as_slice())?))

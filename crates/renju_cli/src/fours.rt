@@ -74,7 +74,7 @@ fn search_file(
     requires some_depth { 1 ≤ depth }
     requires depth_fits { depth ≤ MAX_DEPTH }
     requires some_nodes { 1 ≤ nodes }
-    ensures says { IfOk result (λ answer. SearchSays depth nodes file answer.status answer.text.items) }
+    ensures says { IfOk result (λ answer. SearchSays depth nodes file answer.status answer.text) }
 {
     under_rule!(file.kind, search_under(alloc, file, depth, nodes))
 }
@@ -91,7 +91,7 @@ fn search_under<R: Rule>(
     requires some_depth { 1 ≤ depth }
     requires depth_fits { depth ≤ MAX_DEPTH }
     requires some_nodes { 1 ≤ nodes }
-    ensures says { IfOk result (λ answer. SearchSays depth nodes file answer.status answer.text.items) }
+    ensures says { IfOk result (λ answer. SearchSays depth nodes file answer.status answer.text) }
 {
     let PositionFile { kind, board } = file;
     let mut position = Position::<R>::new(board);
@@ -101,8 +101,8 @@ fn search_under<R: Rule>(
             let board = position.into_board();
             win_text(alloc, kind, &board, compiler, win)
         }
-        Ok(FourAnswer::None) => none(alloc),
-        Ok(FourAnswer::Spent) => spent(alloc),
+        Ok(FourAnswer::None) => Ok(none()),
+        Ok(FourAnswer::Spent) => Ok(spent()),
         Err(SearchError::Full) => unreachable!(),
         Err(SearchError::Memory) => Err(AllocError),
     }
@@ -119,22 +119,20 @@ pub(crate) fn win_text(
     requires win { (limit : ℕ) × (limit ≤ MAX_DEPTH) × IsWrittenWin kind limit board.now compiler win }
     ensures status { IfOk result (λ answer. answer.status ≡ Status.Done) }
     ensures text { IfOk result (λ answer. (limit : ℕ) → IsFourWin kind limit board.now compiler win
-        → IsFourText limit (record { kind = kind; board = board.now }) answer.text.items) }
+        → IsFourText limit (record { kind = kind; board = board.now }) answer.text) }
     ensures shown { IfOk result (λ answer. (limit : ℕ) → IsWrittenWin kind limit board.now compiler win
-        → IsWinText limit (record { kind = kind; board = board.now }) answer.text.items) }
+        → IsWinText limit (record { kind = kind; board = board.now }) answer.text) }
 {
     let table = compiler.finish_win(win)?;
     let root = Root::Attack(table.len() - 1);
-    Ok(Answer {
-        status: Status::Done,
-        text: write_table(alloc, kind, board, &table, &root, win.moves)?,
-    })
+    let bytes = write_table(alloc, kind, board, &table, &root, win.moves)?;
+    Ok(Answer::written(Status::Done, bytes))
 }
 
 /// The answer where there is none of what was searched.
-pub(crate) fn none(alloc: Global) -> Result<Answer, AllocError>
-    ensures status { IfOk result (λ answer. answer.status ≡ Status.NotFound) }
-    ensures text { IfOk result (λ answer. answer.text.items ≡ none_line) }
+pub(crate) fn none() -> Answer
+    ensures status { result.status ≡ Status.NotFound }
+    ensures text { result.text ≡ none_line }
 {
-    Ok(Answer::told(Status::NotFound, String::from_str(alloc, "none\n")?))
+    Answer::fixed(Status::NotFound, "none\n")
 }

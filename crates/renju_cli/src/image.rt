@@ -4,10 +4,11 @@
 //! exactly where it is.
 #![tactic(auto)]
 
-ghost use Rattle.std.specs.Prelude.{◌≡◌, ◌≢◌, ◌∷◌, ℕ, List, codes, map, IfOk, MatchOption, string_bytes};
+ghost use Rattle.std.specs.Prelude.{◌≡◌, ◌≢◌, ◌∷◌, ℕ, List, codes, false, map, IfOk, IsOk, MatchOption, string_bytes};
 ghost use Rattle.game_rules.specs.Play.{IsPosition};
 ghost use Rattle.strategy_graph.specs.Roots.{root_depth};
 ghost use Rattle.position_files.specs.Tables.{IsTextOfTable};
+ghost use Rattle.board_symmetry.specs.Points.{fits};
 ghost use Rattle.board_symmetry.specs.declared.symmetry.Symmetry.{Symmetry};
 ghost use Rattle.renju_cli.specs.Images.{FileSays, ImageSays, symmetry_word, unfit_line};
 ghost use Rattle.renju_cli.specs.Commands.{IsForm, HasForm};
@@ -74,7 +75,8 @@ fn image_of(alloc: Global, s: Symmetry, file: TableFile) -> Result<Answer, Alloc
     requires text { (bytes : List ℕ) × IsTextOfTable file bytes }
     requires lawful { IsPosition file.kind file.board }
     requires moves { file.moves ≡ root_depth file.table file.root }
-    ensures says { IfOk result (λ answer. FileSays s file answer.status answer.text.items) }
+    ensures says { IfOk result (λ answer. FileSays s file answer.status answer.text) }
+    ensures no_memory { fits s file.board.width file.board.height ≡ false → IsOk result }
 {
     let TableFile {
         kind,
@@ -85,24 +87,19 @@ fn image_of(alloc: Global, s: Symmetry, file: TableFile) -> Result<Answer, Alloc
     } = file;
     let (width, height) = (board.width(), board.height());
     if !s.fits(width, height) {
-        return unfit(alloc);
+        return Ok(unfit());
     }
     let image = image_board(alloc, s, &board)?;
     let nodes = image_table(alloc, s, width, height, &table)?;
     let root = image_root(alloc, s, width, height, &root)?;
-    Ok(Answer {
-        status: Status::Done,
-        text: write_table(alloc, kind, &image, &nodes, &root, moves)?,
-    })
+    let bytes = write_table(alloc, kind, &image, &nodes, &root, moves)?;
+    Ok(Answer::written(Status::Done, bytes))
 }
 
 /// The answer where the symmetry does not fit the board.
-fn unfit(alloc: Global) -> Result<Answer, AllocError>
-    ensures status { IfOk result (λ answer. answer.status ≡ Status.RefusedText) }
-    ensures text { IfOk result (λ answer. answer.text.items ≡ unfit_line) }
+fn unfit() -> Answer
+    ensures status { result.status ≡ Status.RefusedText }
+    ensures text { result.text ≡ unfit_line }
 {
-    Ok(Answer::told(
-        Status::RefusedText,
-        String::from_str(alloc, "refused symmetry\n")?,
-    ))
+    Answer::fixed(Status::RefusedText, "refused symmetry\n")
 }

@@ -115,7 +115,7 @@ fn hold_under<R: Rule>(alloc: Global, file: TableFile) -> Result<Loaded, AllocEr
                 refused_table(alloc, why, line.as_slice())?,
             )))
         }
-        Err(HeldError::Spent) => Ok(Loaded::Tells(spent(alloc)?)),
+        Err(HeldError::Spent) => Ok(Loaded::Tells(spent())),
         Err(HeldError::Memory) => Err(AllocError),
     }
 }
@@ -173,6 +173,6 @@ fn fit_under<R: Rule>(alloc: Global, file: TableFile) -> Result<Fitted, AllocErr
                 refused_table(alloc, why, line.as_slice())?,
             )))
         }
-        Verdict::Spent => Ok(Fitted::Tells(spent(alloc)?)),
+        Verdict::Spent => Ok(Fitted::Tells(spent())),
     }
 }

@@ -4,7 +4,7 @@
 //! game is asked only once the table is accepted.
 #![tactic(auto)]
 
-ghost use Rattle.std.specs.Prelude.{◌≡◌, ◌≢◌, ◌∷◌, ◌<◌, ℕ, List, codes, length, map, IfOk, MatchOption, string_bytes};
+ghost use Rattle.std.specs.Prelude.{◌≡◌, ◌≢◌, ◌∷◌, ◌<◌, ℕ, List, codes, length, map, IfOk, IsOk, MatchOption, string_bytes};
 ghost use Rattle.game_rules.specs.Play.{IsPosition};
 ghost use Rattle.position_files.specs.declared.TableFile.{TableFile};
 ghost use Rattle.renju_io.specs.Faults.{HasNotFallen, HasStayed};
@@ -15,7 +15,7 @@ ghost use Rattle.renju_cli.specs.Brains.{held_by, of_table};
 ghost use Rattle.renju_cli.specs.Referees.{IsCompared, IsJudged, IsRefereeWith, TellsTable, of_game, replay_line as replay_line_lem};
 ghost use Rattle.renju_cli.specs.Commands.{IsForm, HasForm};
 
-use crate::answer::Answer;
+use crate::answer::{Answer, Text};
 use crate::loading::{Loaded, SHELF_FAILED, load};
 use crate::refusals::refused_text;
 use crate::told::{TOO_LONG, Told, deliver, tell};
@@ -128,7 +128,7 @@ fn file_error(error: GameError) -> FileError
 /// The verdict on a game.
 fn judged(alloc: Global, game: GameFile) -> Result<Answer, AllocError>
     requires lawful { IsPosition game.kind game.board }
-    ensures judged { IfOk result (λ answer. IsJudged game answer.status answer.text.items) }
+    ensures judged { IfOk result (λ answer. IsJudged game answer.status answer.text) }
 {
     under_rule!(game.kind, judged_under(alloc, game))
 }
@@ -137,7 +137,7 @@ fn judged(alloc: Global, game: GameFile) -> Result<Answer, AllocError>
 fn judged_under<R: Rule>(alloc: Global, game: GameFile) -> Result<Answer, AllocError>
     requires kind { game.kind ≡ R.KIND }
     requires lawful { IsPosition game.kind game.board }
-    ensures judged { IfOk result (λ answer. IsJudged game answer.status answer.text.items) }
+    ensures judged { IfOk result (λ answer. IsJudged game answer.status answer.text) }
 {
     let GameFile {
         kind: _,
@@ -146,11 +146,7 @@ fn judged_under<R: Rule>(alloc: Global, game: GameFile) -> Result<Answer, AllocE
     } = game;
     let mut position = Position::<R>::new(board);
     let verdict = judge(&mut position, moves.as_slice());
-    let text = write_verdict(alloc, &verdict)?;
-    Ok(Answer {
-        status: Status::Done,
-        text,
-    })
+    Ok(Answer::written(Status::Done, write_verdict(alloc, &verdict)?))
 }
 
 /// The verdict on a game, and what is said of it beside the table that is held.
@@ -158,7 +154,7 @@ fn compared(alloc: Global, held: &Held, game: GameFile) -> Result<Answer, AllocE
     requires lawful { IsPosition game.kind game.board }
     requires root { 0 < length held.now.roots }
     ensures compared { IfOk result (λ answer. (file : TableFile) → held.now ≡ held_by (of_table file)
-        → IsCompared file game answer.status answer.text.items) }
+        → IsCompared file game answer.status answer.text) }
 {
     under_rule!(game.kind, compared_under(alloc, held, game))
 }
@@ -169,7 +165,7 @@ fn compared_under<R: Rule>(alloc: Global, held: &Held, game: GameFile) -> Result
     requires lawful { IsPosition game.kind game.board }
     requires root { 0 < length held.now.roots }
     ensures compared { IfOk result (λ answer. (file : TableFile) → held.now ≡ held_by (of_table file)
-        → IsCompared file game answer.status answer.text.items) }
+        → IsCompared file game answer.status answer.text) }
 {
     let GameFile {
         kind: _,
@@ -180,11 +176,8 @@ fn compared_under<R: Rule>(alloc: Global, held: &Held, game: GameFile) -> Result
     let verdict = judge(&mut position, moves.as_slice());
     let mut text = write_verdict(alloc, &verdict)?;
     let second = table_line(alloc, held, &mut position, moves.as_slice())?;
-    text.extend_from_slice(second.as_bytes())?;
-    Ok(Answer {
-        status: Status::Done,
-        text,
-    })
+    text.extend_from_slice(second.as_slice())?;
+    Ok(Answer::written(Status::Done, text))
 }
 
 /// The line of a game beside the first root that is held.
@@ -193,24 +186,28 @@ fn table_line<R: Rule>(
     held: &Held,
     position: &mut Position<R>,
     moves: &[Point],
-) -> Result<String, AllocError>
+) -> Result<Text, AllocError>
     requires root { 0 < length held.now.roots }
     ensures line { IfOk result (λ text. (file : TableFile) → held.now ≡ held_by (of_table file)
-        → TellsTable file R.KIND position.old moves.now (string_bytes text)) }
+        → TellsTable file R.KIND position.old moves.now text) }
 {
     if held.kind(0) == R::KIND && held.board(0).same(position.board()) {
         replay_line(alloc, replay(held.table(), held.root(0), position, moves))
     } else {
-        String::from_str(alloc, "table absent\n")
+        Ok(Text::fixed("table absent\n"))
     }
 }
 
 /// The line of a game that was compared with a table.
-fn replay_line(alloc: Global, answer: ReplayAnswer) -> Result<String, AllocError>
-    ensures line { IfOk result (λ text. string_bytes text ≡ replay_line_lem answer) }
+fn replay_line(alloc: Global, answer: ReplayAnswer) -> Result<Text, AllocError>
+    ensures line { IfOk result (λ text. text ≡ replay_line_lem answer) }
+    ensures no_memory { answer ≡ ReplayAnswer.Follows → IsOk result }
 {
     match answer {
-        ReplayAnswer::Follows => String::from_str(alloc, "table follows\n"),
-        ReplayAnswer::Departs(number) => format!(in alloc; "table departs {number}\n"),
+        ReplayAnswer::Follows => Ok(Text::fixed("table follows\n")),
+        ReplayAnswer::Departs(number) => {
+            let line = format!(in alloc; "table departs {number}\n")?;
+            Ok(Text::built(line.into_bytes()))
+        }
     }
 }

@@ -4,8 +4,7 @@
 //! order of the text.
 #![tactic(auto)]
 
-ghost use Rattle.std.specs.Prelude.{◌≡◌, ◌≢◌, ◌++◌, IfOk, Ok, string_bytes};
-ghost use Rattle.std.specs.String.{string_vec};
+ghost use Rattle.std.specs.Prelude.{◌≡◌, ◌≢◌, ◌++◌, IfOk, IsOk, Ok, string_bytes};
 ghost use Rattle.renju_cli.specs.Refusals.{IsRefusedText, refusal_line, bad_line as bad_line_lem, uneven_line, already_won_line, wrong_moves_line};
 
 use crate::Status;
@@ -19,8 +18,9 @@ use text_lines::push_spaced_point;
 /// What is said of a text that is refused. Want of memory is handed on.
 pub(crate) fn refused_text(alloc: Global, error: FileError) -> Result<Answer, AllocError>
     ensures status { IfOk result (λ answer. answer.status ≡ Status.RefusedText) }
-    ensures text { IfOk result (λ answer. answer.text.items ≡ refusal_line error) }
+    ensures text { IfOk result (λ answer. answer.text ≡ refusal_line error) }
     ensures cause { IfOk result (λ answer. error ≢ FileError.Memory) }
+    ensures no_memory { error ≡ FileError.Unlawful PositionError.BoardFull → IsOk result }
 {
     match error {
         FileError::BadLine(number) => refusal(bad_line(alloc, number)?),
@@ -29,7 +29,7 @@ pub(crate) fn refused_text(alloc: Global, error: FileError) -> Result<Answer, Al
         }
         FileError::Unlawful(PositionError::AlreadyWon { at }) => refusal(already_won(alloc, at)?),
         FileError::Unlawful(PositionError::BoardFull) => {
-            refusal(String::from_str(alloc, "refused board full\n")?)
+            Ok(Answer::fixed(Status::RefusedText, "refused board full\n"))
         }
         FileError::WrongMoves { written, counted } => {
             refusal(wrong_moves(alloc, written, counted)?)
@@ -40,7 +40,7 @@ pub(crate) fn refused_text(alloc: Global, error: FileError) -> Result<Answer, Al
 
 /// The answer of a refused text.
 fn refusal(text: String) -> Result<Answer, AllocError>
-    ensures answer { result ≡ Ok (record { status = Status.RefusedText; text = string_vec text }) }
+    ensures answer { result ≡ Ok (record { status = Status.RefusedText; text = string_bytes text }) }
 {
     Ok(Answer::told(Status::RefusedText, text))
 }

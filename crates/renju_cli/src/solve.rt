@@ -77,7 +77,7 @@ fn solve_file(
     requires depth_fits { depth ≤ MAX_DEPTH }
     requires some_nodes { 1 ≤ nodes }
     requires nodes_fit { nodes ≤ MAX_SEARCHED }
-    ensures says { IfOk result (λ answer. SolutionSays depth nodes file answer.status answer.text.items) }
+    ensures says { IfOk result (λ answer. SolutionSays depth nodes file answer.status answer.text) }
 {
     under_rule!(file.kind, solve_under(alloc, file, depth, nodes))
 }
@@ -95,7 +95,7 @@ fn solve_under<R: Rule>(
     requires depth_fits { depth ≤ MAX_DEPTH }
     requires some_nodes { 1 ≤ nodes }
     requires nodes_fit { nodes ≤ MAX_SEARCHED }
-    ensures says { IfOk result (λ answer. SolutionSays depth nodes file answer.status answer.text.items) }
+    ensures says { IfOk result (λ answer. SolutionSays depth nodes file answer.status answer.text) }
 {
     let mut position = Position::<R>::new(file.board);
     let mut compiler = Compiler::new(alloc);
@@ -123,7 +123,7 @@ fn by_line<R: Rule>(
     requires some_nodes { 1 ≤ nodes }
     requires nodes_fit { nodes ≤ MAX_SEARCHED }
     requires no_fours { ¬ IsWonByFours depth nodes (record { kind = R.KIND; board = position }) }
-    ensures says { IfOk result (λ answer. SolutionSays depth nodes (record { kind = R.KIND; board = position }) answer.status answer.text.items) }
+    ensures says { IfOk result (λ answer. SolutionSays depth nodes (record { kind = R.KIND; board = position }) answer.status answer.text) }
 {
     match first_line(alloc, &position, depth, nodes)? {
         Some(line) => prove_first(alloc, position, &line, depth, nodes),
@@ -166,7 +166,7 @@ fn prove_first<R: Rule>(
     requires nodes_fit { nodes ≤ MAX_SEARCHED }
     requires no_fours { ¬ IsWonByFours depth nodes (record { kind = R.KIND; board = position }) }
     requires line { IsFirstLine depth nodes (record { kind = R.KIND; board = position }) line.now }
-    ensures says { IfOk result (λ answer. SolutionSays depth nodes (record { kind = R.KIND; board = position }) answer.status answer.text.items) }
+    ensures says { IfOk result (λ answer. SolutionSays depth nodes (record { kind = R.KIND; board = position }) answer.status answer.text) }
 {
     let mut view = position;
     let mut compiler = Compiler::new(alloc);
@@ -176,7 +176,7 @@ fn prove_first<R: Rule>(
             win_text(alloc, R::KIND, &board, compiler, win)
         }
         Ok(LineAnswer::Fails) => by_threats(alloc, view, depth, nodes),
-        Err(SearchError::Full) => full(alloc),
+        Err(SearchError::Full) => Ok(full()),
         Err(SearchError::Memory) => Err(AllocError),
     }
 }
@@ -193,7 +193,7 @@ fn by_threats<R: Rule>(
     requires some_nodes { 1 ≤ nodes }
     requires nodes_fit { nodes ≤ MAX_SEARCHED }
     requires left { IsLeftOver depth nodes (record { kind = R.KIND; board = position }) }
-    ensures says { IfOk result (λ answer. SolutionSays depth nodes (record { kind = R.KIND; board = position }) answer.status answer.text.items) }
+    ensures says { IfOk result (λ answer. SolutionSays depth nodes (record { kind = R.KIND; board = position }) answer.status answer.text) }
 {
     let mut view = position;
     let mut compiler = Compiler::new(alloc);
@@ -203,17 +203,17 @@ fn by_threats<R: Rule>(
             let board = view.into_board();
             win_text(alloc, R::KIND, &board, compiler, win)
         }
-        Ok(ProofAnswer::None) => none(alloc),
-        Ok(ProofAnswer::Spent) => spent(alloc),
-        Err(SearchError::Full) => full(alloc),
+        Ok(ProofAnswer::None) => Ok(none()),
+        Ok(ProofAnswer::Spent) => Ok(spent()),
+        Err(SearchError::Full) => Ok(full()),
         Err(SearchError::Memory) => Err(AllocError),
     }
 }
 
 /// The answer where a table has no room for more nodes.
-pub(crate) fn full(alloc: Global) -> Result<Answer, AllocError>
-    ensures status { IfOk result (λ answer. answer.status ≡ Status.Full) }
-    ensures text { IfOk result (λ answer. answer.text.items ≡ full_line) }
+pub(crate) fn full() -> Answer
+    ensures status { result.status ≡ Status.Full }
+    ensures text { result.text ≡ full_line }
 {
-    Ok(Answer::told(Status::Full, String::from_str(alloc, "table full\n")?))
+    Answer::fixed(Status::Full, "table full\n")
 }

@@ -70,7 +70,7 @@ fn search_file(
     requires some_length { 1 ≤ length }
     requires length_fits { length ≤ MAX_LENGTH }
     requires some_nodes { 1 ≤ nodes }
-    ensures says { IfOk result (λ answer. SequenceSays length nodes file answer.status answer.text.items) }
+    ensures says { IfOk result (λ answer. SequenceSays length nodes file answer.status answer.text) }
 {
     under_rule!(file.kind, search_under(alloc, file, length, nodes))
 }
@@ -87,22 +87,22 @@ fn search_under<R: Rule>(
     requires some_length { 1 ≤ length }
     requires length_fits { length ≤ MAX_LENGTH }
     requires some_nodes { 1 ≤ nodes }
-    ensures says { IfOk result (λ answer. SequenceSays length nodes file answer.status answer.text.items) }
+    ensures says { IfOk result (λ answer. SequenceSays length nodes file answer.status answer.text) }
 {
     let position = Position::<R>::new(file.board);
     let side = position.side();
     let mut board = position.into_board();
     match threat_space::<R>(alloc, &mut board, side, length, nodes)? {
         SpaceAnswer::Sequence(threats, last) => found(alloc, &threats, last),
-        SpaceAnswer::None => none(alloc),
-        SpaceAnswer::Spent => spent(alloc),
+        SpaceAnswer::None => Ok(none()),
+        SpaceAnswer::Spent => Ok(spent()),
     }
 }
 
 /// The answer with a sequence.
 fn found(alloc: Global, threats: &Threats, last: Point) -> Result<Answer, AllocError>
     ensures status { IfOk result (λ answer. answer.status ≡ Status.Done) }
-    ensures text { IfOk result (λ answer. answer.text.items ≡ sequence_text_lem threats.now last) }
+    ensures text { IfOk result (λ answer. answer.text ≡ sequence_text_lem threats.now last) }
 {
     Ok(Answer::told(
         Status::Done,

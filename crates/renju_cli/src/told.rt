@@ -31,7 +31,7 @@ pub(crate) trait Told {
     /// What it says of an input that was read whole.
     fn say(&self, alloc: Global, bytes: &[u8]) -> Result<Answer, AllocError>
         requires in_range { in_range self.now }
-        ensures says { IfOk result (λ answer. says self.now bytes.now answer.status answer.text.items) };
+        ensures says { IfOk result (λ answer. says self.now bytes.now answer.status answer.text) };
 }
 
 /// Reads the input, and writes what the command says of it. Nothing is written before the input was read to its end.

@@ -88,9 +88,9 @@ finish-requires g c = record {
 
 pub returns-clause-says : goal.returns-clause-says
 returns-clause-says g c =
-    says-book (change g.F.Shelf.files g.F.Shelf.faults g.F.Shelf.asked c.args.shelf.now c.loop-before.shelf)
+    rw c.written.ensures.answer (says-book (change g.F.Shelf.files g.F.Shelf.faults g.F.Shelf.asked c.args.shelf.now c.loop-before.shelf)
     (map string_bytes c.args.names.now)
     c.loop-before.binder c.in_ok-book.book c.in_ok-write_book.field-0.items
     (up-to-all string_bytes c.args.names.now c.loop-before.before (g.F.Shelf.files c.args.shelf.now) c.loop-before.binder
     c.loop-before.invariant.so_far c.loop-before-test.false)
-    c.loop-before.invariant.faults c.in_ok-book.ensures.book c.in_ok-book.ensures.well_formed c.in_ok-write_book.ensures.written
+    c.loop-before.invariant.faults c.in_ok-book.ensures.book c.in_ok-book.ensures.well_formed c.in_ok-write_book.ensures.written)

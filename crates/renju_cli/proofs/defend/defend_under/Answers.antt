@@ -47,9 +47,9 @@ returns-else-len-gt0 g c =
     let none : defences_of rule n p ≡ [] = sym good_are ∙ no_points good (omega (arith, count, few)) in
     let there = c.into_board-board.ensures.board ∙ c.defences.ensures.same in
     let text : IfOk c.lost.result (λ a. (limit : ℕ) → defences_of rule limit b ≡ [] → AreBeaten rule limit b t bad
-    → IsLostText limit (file_at rule b) a.text.items) =
+    → IsLostText limit (file_at rule b) a.text) =
     subst (λ (k : RuleKind). IfOk c.lost.result (λ a. (limit : ℕ) → defences_of k limit b ≡ [] → AreBeaten k limit b t bad
-    → IsLostText limit (file_at k b) a.text.items))
+    → IsLostText limit (file_at k b) a.text))
     c.KIND.ensures c.lost.ensures.text in
     let says = lost-says n c.args.nodes rule p c.lost.result b t bad there none enough beaten c.lost.ensures.status text in
     record {

@@ -29,6 +29,6 @@ write_table-requires-clause-root c =
 
 pub returns-clause-text : goal.returns-clause-text
 returns-clause-text c = λ limit none beaten.
-    lost-text limit c.args.kind c.args.board.now c.args.compiler c.args.bad.now c.as_slice.result.now c.as_slice.ensures.items none beaten
+    rw c.written.ensures.answer (lost-text limit c.args.kind c.args.board.now c.args.compiler c.args.bad.now c.as_slice.result.now c.as_slice.ensures.items none beaten
     c.in_ok-table.table c.in_ok-table.start c.in_ok-table.ensures.made c.in_ok-moves.moves c.in_ok-moves.ensures.depth _
-    c.in_ok-write_table.ensures.written
+    c.in_ok-bytes.ensures.written)

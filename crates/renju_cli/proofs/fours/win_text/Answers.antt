@@ -32,7 +32,7 @@ returns-clause-text c = λ limit win.
         short = subst (λ (n : ℕ). n ≤ b.width * b.height * c.args.win.moves) (sym (c.in_ok-table.ensures.same.same_arrivals c.args.kind b))
             win.short;
       };
-      written = rw c.len.ensures.count at c.in_ok-write_table.ensures.written;
+      written = rw c.written.ensures.answer (rw c.len.ensures.count at c.in_ok-bytes.ensures.written);
     }
 
 pub returns-clause-shown : goal.returns-clause-shown
@@ -46,5 +46,5 @@ returns-clause-shown c = λ limit win.
       deep = made.deep;
       different = c.in_ok-table.ensures.different;
       reached = c.in_ok-table.ensures.reached;
-      written = rw c.len.ensures.count at c.in_ok-write_table.ensures.written;
+      written = rw c.written.ensures.answer (rw c.len.ensures.count at c.in_ok-bytes.ensures.written);
     }

@@ -1,5 +1,5 @@
 -- The image has the width and the height of the board, so it is that of the file.
-use Rattle.std.proofs.Common.{inl, true}
+use Rattle.std.proofs.Common.{inl, true, refl}
 use Rattle.board_symmetry.proofs.FileImages.{root-fits, root-sized, table-sized}
 use Rattle.renju_cli.proofs.ImageLaws.{image-fit, image-made, image-writable, image-written}
 use Rattle.renju_cli.proofs.image.image_of.Goals as goal
@@ -33,6 +33,8 @@ returns c =
     let made = image-made c.args.s c.args.file _ _ wide high _ _ _ c.in_ok-image.ensures.image c.in_ok-nodes.ensures.image
     c.in_ok-root.ensures.image in
     record {
-      says = inl (image-written c.args.s c.args.file _ c.requires.text.0 _ c.requires.text.1 c.requires.lawful c.requires.moves fit made
-          c.in_ok-write_table.ensures.written);
+      says = rw c.written.ensures.answer
+          (inl (image-written c.args.s c.args.file _ c.requires.text.0 _ c.requires.text.1 c.requires.lawful c.requires.moves fit made
+          c.in_ok-bytes.ensures.written));
+      no_memory = λ unfit. refl;
     }

@@ -24,9 +24,9 @@ returns-in-Ok-Win g c =
     let is : IsThreatWin rule c.args.depth p compiled win =
     subst (λ (a : ProofAnswer). OnWin a (IsThreatWin rule c.args.depth p compiled)) c.in-Ok-Win.field-0-is c.in-Ok-Win.ensures.win in
     let shown : IfOk c.win_text.result
-    (λ a. (limit : ℕ) → IsWrittenWin rule limit b compiled win → IsWinText limit (file_at rule b) a.text.items) =
+    (λ a. (limit : ℕ) → IsWrittenWin rule limit b compiled win → IsWinText limit (file_at rule b) a.text) =
     subst (λ (k : RuleKind). IfOk c.win_text.result
-    (λ a. (limit : ℕ) → IsWrittenWin k limit b compiled win → IsWinText limit (file_at k b) a.text.items)) c.KIND.ensures
+    (λ a. (limit : ℕ) → IsWrittenWin k limit b compiled win → IsWinText limit (file_at k b) a.text)) c.KIND.ensures
     c.win_text.ensures.shown in
     record {
       says = threats-says c.win_text.result c.args.depth c.args.nodes rule p b there compiled win is c.requires.left

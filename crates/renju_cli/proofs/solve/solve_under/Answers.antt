@@ -21,14 +21,14 @@ returns-in-Ok-Win g c =
     let is : IsFourWin rule c.args.depth p compiled win =
     subst (λ (a : FourAnswer). OnWin a (IsFourWin rule c.args.depth p compiled)) c.in-Ok-Win.field-0-is c.in-Ok-Win.ensures.win in
     let text : IfOk c.win_text.result
-    (λ a. (limit : ℕ) → IsFourWin rule limit b compiled win → IsFourText limit (file_at rule b) a.text.items) =
+    (λ a. (limit : ℕ) → IsFourWin rule limit b compiled win → IsFourText limit (file_at rule b) a.text) =
     subst (λ (k : RuleKind). IfOk c.win_text.result
-    (λ a. (limit : ℕ) → IsFourWin k limit b compiled win → IsFourText limit (file_at k b) a.text.items)) c.KIND.ensures
+    (λ a. (limit : ℕ) → IsFourWin k limit b compiled win → IsFourText limit (file_at k b) a.text)) c.KIND.ensures
     c.win_text.ensures.text in
     let shown : IfOk c.win_text.result
-    (λ a. (limit : ℕ) → IsWrittenWin rule limit b compiled win → IsWinText limit (file_at rule b) a.text.items) =
+    (λ a. (limit : ℕ) → IsWrittenWin rule limit b compiled win → IsWinText limit (file_at rule b) a.text) =
     subst (λ (k : RuleKind). IfOk c.win_text.result
-    (λ a. (limit : ℕ) → IsWrittenWin k limit b compiled win → IsWinText limit (file_at k b) a.text.items)) c.KIND.ensures
+    (λ a. (limit : ℕ) → IsWrittenWin k limit b compiled win → IsWinText limit (file_at k b) a.text)) c.KIND.ensures
     c.win_text.ensures.shown in
     let says = first-says c.win_text.result c.args.depth c.args.nodes rule p b there compiled win is
     (λ above. let spent = c.in-Ok-Win.ensures.spent.1 above in let not = c.in-Ok-Win.field-0-is in absurd (cc))
