@@ -15,17 +15,19 @@ use Rattle.brain_session.specs.States.{State, new_brain}
 use Rattle.brain_session.specs.Serving.{Output, Served, served, HasAnswered, IsReadToEnd, StopsAtRead, StopsAtWrite, StopsAtStep}
 use Rattle.brain_session.specs.Serving.{within_limit, IsTooLong}
 use Rattle.renju_cli.specs.declared.status.Status.{Status}
-use Rattle.renju_cli.specs.declared.status.Status.TheVariants.{Done, Memory, ReadFault, WriteFault, TooLong}
+use Rattle.renju_cli.specs.declared.status.Status.TheVariants.{Done, Memory, ReadFault, ShelfFault, WriteFault, TooLong}
 use Rattle.brain_session.specs.declared.TheConstants.{BRAIN_WORK}
 use Rattle.renju_cli.specs.Statuses.{status_number}
 use Rattle.renju_io.specs.Asked.{IsNotAsked}
-use Rattle.renju_cli.specs.Runs.{Change, Run, HasFailed, IsAskedNoMore, IsSound}
+use Rattle.renju_cli.specs.Runs.{Change, Run, HasFailed, IsAskedNoMore, IsAskedOnly, IsDelivered, IsSound}
 use Rattle.renju_cli.specs.Checks.{IsTableAt, IsRefusedTable, IsSpentWork}
 use Rattle.renju_cli.specs.Brains.{nothing_held, held_by, named_entry, of_book, of_table, HeldFile, NamedRoot, session_of, shown_before}
 use Rattle.renju_cli.specs.Brains.{shown_after, EndsSession, IsSession, IsUnbegun, EndsBrain, IsUnhinderedSession, HasServed, AnswersAll}
 use Rattle.renju_cli.specs.Brains.{IsBrain, IsFit, IsHeldText, IsLoaded, BookFileSays, FileSays, TableFileSays, IsUnheld, IsBrainWith}
 use Rattle.renju_cli.specs.Brains.{TellsFile, PlaysByFile, GivesHeld, IsUnhinderedShelf}
-use Rattle.renju_cli.specs.Loading.{session_status, IsLoadedBookText, IsLoadedHeld, IsLoadedText}
+use Rattle.renju_cli.specs.Loading.{session_status, HoldsFile, IsLoadedAs, IsLoadedBookText, IsLoadedFrom, IsLoadedHeld, IsLoadedText}
+use Rattle.renju_cli.specs.declared.loading.Holdable.{Holdable}
+use Rattle.renju_cli.specs.declared.loading.Holdable.TheVariants.{Table, TableOrBook}
 use Rattle.renju_cli.specs.declared.loading.Loaded.{Loaded}
 use Rattle.renju_cli.specs.declared.loading.Loaded.TheVariants.{Holds, Tells}
 use Rattle.renju_cli.specs.Books.{AreAccepted, IsBookAt, IsRefusedEntry}
@@ -213,6 +215,45 @@ loaded-book bytes (Tells answer) begins is = inl (begins, is)
 pub loaded-table : (bytes : List ℕ) (loaded : Loaded) → ¬ BeginsBook bytes → IsLoadedText bytes loaded → IsLoadedHeld bytes loaded
 loaded-table bytes (Holds held) apart is = (of_table is.0, inl (record { file = is.0; at = is.1; fit = is.2; gives = refl }), is.3)
 loaded-table bytes (Tells answer) apart is = inr (apart, is)
+
+-- ---- a FILE that is loaded
+
+-- what comes of bytes that the shelf gave comes of the file
+pub loaded-from : (holdable : Holdable) (shelf : Change (Option Files)) (name bytes : List ℕ) → IsLoaded shelf name bytes
+    → length bytes ≤ MAX_INPUT_BYTES → (loaded : Loaded) → IsLoadedAs holdable bytes loaded → IsLoadedFrom holdable shelf name loaded
+loaded-from holdable shelf name bytes given fits (Holds held) is = record { bytes = bytes; loaded = given; fits = fits; gives = is }
+loaded-from Table shelf name bytes given fits (Tells answer) is = inl (record { bytes = bytes; loaded = given; fits = fits; says = is })
+loaded-from TableOrBook shelf name bytes given fits (Tells answer) is =
+    inl (record { bytes = bytes; loaded = given; fits = fits; says = is })
+
+-- where the status of what is told of a file is that of no fault, the shelf has counted none
+pub told-sound : (Says : List ℕ → Status → List ℕ → Type 0) (shelf : Change (Option Files)) (name : List ℕ) (status : Status)
+    (text : List ℕ) (output : Change (Option (List ℕ))) (number : ℕ) → IsUnheld Says shelf name status text
+    → IsDelivered status text output number → number ≢ status_number ShelfFault → number ≢ status_number WriteFault → IsSound shelf
+told-sound Says shelf name status text output number why (inr part) other whole = absurd (whole part.0)
+told-sound Says shelf name status text output number (inl refused) (inl took) other whole = refused.loaded.sound
+told-sound Says shelf name status text output number (inr (inl long)) (inl took) other whole = long.loaded.sound
+told-sound Says shelf name status text output number (inr (inr fault)) (inl took) other whole =
+    absurd (other (took.0 ∙ ap status_number fault.ends))
+
+-- a brain that holds what a file gives plays by it
+pub plays-by-file : (name : List ℕ) (run : Run) (held : HeldTable) → IsAskedOnly run.shelf → HoldsFile TableOrBook run.shelf name held
+    → EndsBrain held run.input run.output run.status → IsBrainWith name run
+plays-by-file name run held once holds ends = record {
+  once = once;
+  ends = by-end (subst (λ (t : HeldTable). EndsBrain t run.input run.output run.status) holds.gives.2 ends);
+} where
+  by-end : EndsBrain (held_by holds.gives.0) run.input run.output run.status
+      → PlaysByFile name run ⊎ TellsFile FileSays name run ⊎ IsUnbegun run.input run.output run.status
+  by-end (inl session) = inl (record {
+    bytes = holds.bytes;
+    loaded = holds.loaded;
+    fits = holds.fits;
+    file = holds.gives.0;
+    at = holds.gives.1;
+    session = session;
+  })
+  by-end (inr unbegun) = inr (inr unbegun)
 
 -- ---- a FILE on the shelf
 

@@ -26,10 +26,11 @@ use Rattle.renju_cli.specs.declared.status.Status.TheVariants.{Done}
 use Rattle.renju_cli.specs.Statuses.{status_number}
 use Rattle.renju_cli.specs.Runs.{Run}
 use Rattle.renju_cli.specs.Told.{IsTold, IsYielded}
+use Rattle.renju_cli.specs.Positions.{SaysOfPosition}
 use Rattle.renju_cli.specs.Searches.{ShowsOfPosition}
-use Rattle.renju_cli.specs.Defends.{DefenceSays, DefendSays, IsEnoughAfterEach, IsJudgedDefence, IsLostText, ListsDefences}
+use Rattle.renju_cli.specs.Defends.{DefenceSays, IsEnoughAfterEach, IsJudgedDefence, IsLostText, ListsDefences}
 use Rattle.renju_cli.specs.Defends.{SpeaksOfDefence, WritesStart, defend_command, first_spent_at}
-use Rattle.renju_cli.proofs.PositionLaws.{file_at, said-of-position, shows-of-position}
+use Rattle.renju_cli.proofs.PositionLaws.{file_at, shows-of-position}
 
 -- ---- the budget
 
@@ -45,18 +46,15 @@ module _ (limit nodes : ℕ) (file : PositionFile) where
       (spent-told file.kind limit nodes file.board)
 
 -- what is said of a position where the budget is enough after each move is an answer
-pub defend-answers : (limit nodes : ℕ) (bytes : List ℕ) → (defend_command limit nodes).IsAnswerable bytes → (status : Status)
-    (text : List ℕ) → DefendSays limit nodes bytes status text → (defend_command limit nodes).IsAnswer status
-defend-answers limit nodes bytes can status text says =
-    by-saying (said-of-position (DefenceSays limit nodes) bytes can.0 can.1 status text says) where
-      by-saying : DefenceSays limit nodes can.0 status text → status ≡ Done
-      by-saying (inl list) = list.ends
-      by-saying (inr (inl lost)) = lost.ends
-      by-saying (inr (inr spent)) =
-          let short = short-at limit nodes can.0 spent.at spent.first in
-          let few = can.2 spent.at short.0 in
-          let more = short.1 in
-          absurd (omega (arith, few, more))
+pub defend-answers : (limit nodes : ℕ) (file : PositionFile) → (defend_command limit nodes).IsEnough file → (status : Status)
+    (text : List ℕ) → DefenceSays limit nodes file status text → (defend_command limit nodes).IsAnswer status
+defend-answers limit nodes file enough status text (inl list) = list.ends
+defend-answers limit nodes file enough status text (inr (inl lost)) = lost.ends
+defend-answers limit nodes file enough status text (inr (inr spent)) =
+    let short = short-at limit nodes file spent.at spent.first in
+    let few = enough spent.at short.0 in
+    let more = short.1 in
+    absurd (omega (arith, few, more))
 
 -- ---- what is said of the position at a board under a rule
 
@@ -153,7 +151,7 @@ module _ (limit nodes : ℕ) (run : Run) where
   }
 
   -- what `defend` did in a run
-  pub defend-shown : IsTold (DefendSays limit nodes) run
+  pub defend-shown : IsTold (SaysOfPosition (DefenceSays limit nodes)) run
       → IfSome run.input.before (ShowsOfPosition (SpeaksOfDefence run.status) (λ file. IsJudgedDefence limit nodes file run))
   defend-shown =
       shows-of-position (DefenceSays limit nodes) SpeaksOfDefence silent run (λ file. IsJudgedDefence limit nodes file run) judged-by

@@ -1,9 +1,9 @@
 -- The command `foul`: its words and its answers.
-use Rattle.std.proofs.Common.{◌≡◌, inl, inr, List, [], ◌∷◌, ℕ}
+use Rattle.std.proofs.Common.{◌≡◌, List, [], ◌∷◌, ℕ}
 use Rattle.std.specs.Prelude.{codes}
-use Rattle.position_files.proofs.ReadBack.{position-read-back}
+use Rattle.position_files.specs.declared.PositionFile.{PositionFile}
 use Rattle.renju_cli.specs.declared.status.Status.{Status}
-use Rattle.renju_cli.specs.Fouls.{FoulSays, foul_command}
+use Rattle.renju_cli.specs.Fouls.{IsFoulList, foul_command}
 use Rattle.renju_cli.specs.Commands.{HasForm}
 use Rattle.renju_cli.proofs.FormLaws.{has-told}
 
@@ -14,10 +14,7 @@ no-foul rest some h =
     let spelled = is.spelled in
     some (cc)
 
--- what is said of the text of a lawful position is an answer
-pub foul-answers : (bytes : List ℕ) → foul_command.IsAnswerable bytes → (status : Status) (text : List ℕ) → FoulSays bytes status text
+-- what is said of a position is an answer
+pub foul-answers : (file : PositionFile) → foul_command.IsEnough file → (status : Status) (text : List ℕ) → IsFoulList file status text
     → foul_command.IsAnswer status
-foul-answers bytes can status text (inl refused) =
-    let only = position-read-back can.0 bytes can.1.text can.1.lawful in
-    absurd (refused.cause (only.no_fault refused.error refused.fault))
-foul-answers bytes can status text (inr said) = said.2.ends
+foul-answers file enough status text list = list.ends

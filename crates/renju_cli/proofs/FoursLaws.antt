@@ -4,27 +4,21 @@ use Rattle.std.specs.Prelude.{IfSome}
 use Rattle.position_files.specs.declared.PositionFile.{PositionFile}
 use Rattle.renju_io.specs.Told.{Takes}
 use Rattle.renju_cli.specs.declared.status.Status.{Status}
-use Rattle.renju_cli.specs.declared.status.Status.TheVariants.{Done, NotFound}
 use Rattle.renju_cli.specs.Statuses.{status_number}
 use Rattle.renju_cli.specs.Runs.{Run}
 use Rattle.renju_cli.specs.Told.{IsTold}
+use Rattle.renju_cli.specs.Positions.{SaysOfPosition}
 use Rattle.renju_cli.specs.Searches.{SpeaksOfPosition, ShowsOfPosition}
-use Rattle.renju_cli.specs.Fours.{SearchSays, FoursSays, fours_command, IsSearchedByFours}
-use Rattle.renju_cli.proofs.PositionLaws.{said-of-position, search-silent, shows-of-position, found-searched, none-searched, spent-searched}
+use Rattle.renju_cli.specs.Fours.{SearchSays, fours_command, IsSearchedByFours}
+use Rattle.renju_cli.proofs.PositionLaws.{search-silent, shows-of-position, found-searched, none-searched, spent-searched}
 use Rattle.renju_cli.proofs.PositionLaws.{yielded-searched}
 
 -- what is said of a position for which the budget is enough is an answer
-pub fours-answers : (limit nodes : ℕ) (bytes : List ℕ) → (fours_command limit nodes).IsAnswerable bytes → (status : Status) (text : List ℕ)
-    → FoursSays limit nodes bytes status text → (fours_command limit nodes).IsAnswer status
-fours-answers limit nodes bytes can status text says =
-    by-search (said-of-position (SearchSays limit nodes) bytes can.0 can.1 status text says) where
-      by-search : SearchSays limit nodes can.0 status text → (status ≡ Done) ⊎ (status ≡ NotFound)
-      by-search (inl found) = inl found.ends
-      by-search (inr (inl denied)) = inr denied.ends
-      by-search (inr (inr spent)) =
-          let few = can.2 in
-          let more = spent.more in
-          absurd (omega (arith, few, more))
+pub fours-answers : (limit nodes : ℕ) (file : PositionFile) → (fours_command limit nodes).IsEnough file → (status : Status) (text : List ℕ)
+    → SearchSays limit nodes file status text → (fours_command limit nodes).IsAnswer status
+fours-answers limit nodes file few status text (inl found) = inl found.ends
+fours-answers limit nodes file few status text (inr (inl denied)) = inr denied.ends
+fours-answers limit nodes file few status text (inr (inr spent)) = let more = spent.more in absurd (omega (arith, few, more))
 
 -- ---- statuses 0, 9 and 5
 
@@ -38,7 +32,7 @@ module _ (limit nodes : ℕ) (run : Run) where
   searched-by file status text ends whole (inr (inr spent)) = spent-searched _ _ _ _ run (ends ∙ ap status_number spent.ends) spent.more
 
   -- what `fours` did in a run
-  pub fours-searched : IsTold (FoursSays limit nodes) run
+  pub fours-searched : IsTold (SaysOfPosition (SearchSays limit nodes)) run
       → IfSome run.input.before (ShowsOfPosition (SpeaksOfPosition run.status) (λ file. IsSearchedByFours limit nodes file run))
   fours-searched = shows-of-position (SearchSays limit nodes) SpeaksOfPosition search-silent run
       (λ file. IsSearchedByFours limit nodes file run) searched-by (λ file. yielded-searched _ _ _ _ run)

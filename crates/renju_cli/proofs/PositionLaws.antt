@@ -1,49 +1,40 @@
 -- Commands that are told a position: what is said of a text that is that of a lawful one, and which statuses speak of it.
-use Rattle.std.proofs.Common.{◌≡◌, inl, inr, sym, ap, subst, ◌∙◌, ◌⊎◌, ℕ, ◌≤◌, ◌<◌, List, arith}
-use Rattle.std.specs.Prelude.{IfOk, IfSome, Result}
+use Rattle.std.proofs.Common.{◌≡◌, inl, inr, ap, subst, ◌∙◌, ◌⊎◌, ℕ, ◌≤◌, ◌<◌, List, arith}
+use Rattle.std.specs.Prelude.{IfSome}
 use Rattle.game_rules.specs.Grid.{Grid}
 use Rattle.game_rules.specs.declared.RuleKind.{RuleKind}
 use Rattle.position_files.specs.declared.PositionFile.{PositionFile}
-use Rattle.position_files.specs.Faults.{IsPositionFault}
 use Rattle.position_files.proofs.ReadBack.{position-read-back}
 use Rattle.renju_io.specs.Told.{Takes}
-use Rattle.renju_cli.specs.declared.answer.Answer.{Answer}
 use Rattle.renju_cli.specs.declared.status.Status.{Status}
 use Rattle.renju_cli.specs.Statuses.{status_number}
 use Rattle.renju_cli.specs.Runs.{Run}
-use Rattle.renju_cli.specs.Told.{IsTold, IsYielded}
-use Rattle.renju_cli.specs.Refusals.{IsRefusedText}
-use Rattle.renju_cli.specs.Fouls.{IsPositionAt}
+use Rattle.renju_cli.specs.Told.{AnswersTold, IsTold, IsYielded}
+use Rattle.renju_cli.specs.Positions.{IsPositionAt, PositionCommand, SaysOfPosition, of_position}
 use Rattle.renju_cli.specs.Searches.{SpeaksOfPosition, IsSearched, ShowsOfPosition}
-use Rattle.renju_cli.proofs.ToldLaws.{IsWhole, whole-or-yielded, given-told, every-told}
-
--- what is said of a text: why it is refused, or else what is said of its position
-abbrev SaysOfText : (PositionFile → Status → List ℕ → Type 0) → List ℕ → Status → List ℕ → Type 0
-SaysOfText Says bytes status text = IsRefusedText (IsPositionFault bytes) status text ⊎
-    ((file : PositionFile) × IsPositionAt file bytes × Says file status text)
+use Rattle.renju_cli.proofs.ToldLaws.{IsWhole, answers-told, whole-or-yielded, given-told, every-told}
 
 -- the position at a board under a rule
 abbrev pub file_at : RuleKind → Grid → PositionFile
 file_at rule b = record { kind = rule; board = b }
 
--- what is said of the position at the board of a text is said of the text's
-pub said-of-file : {E : Type 0} (Says : PositionFile → Status → List ℕ → Type 0) (r : Result Answer E) (file : PositionFile)
-    (rule : RuleKind) (p : Grid)
-    → file.kind ≡ rule → p ≡ file.board → IfOk r (λ a. Says (file_at rule p) a.status a.text)
-    → IfOk r (λ a. Says file a.status a.text)
-said-of-file Says r file rule p kind here says =
-    let same : file_at rule p ≡ file = λ i. record { kind = sym kind i; board = here i } in
-    subst (λ (f : PositionFile). IfOk r (λ a. Says f a.status a.text)) same says
-
 -- the text of a lawful position is not refused, and no other position has it: so what is said is said of this one
 pub said-of-position : (Says : PositionFile → Status → List ℕ → Type 0) (bytes : List ℕ) (file : PositionFile) → IsPositionAt file bytes
-    → (status : Status) (text : List ℕ) → SaysOfText Says bytes status text → Says file status text
+    → (status : Status) (text : List ℕ) → SaysOfPosition Says bytes status text → Says file status text
 said-of-position Says bytes file is status text (inl refused) =
     let only = position-read-back file bytes is.text is.lawful in
     absurd (refused.cause (only.no_fault refused.error refused.fault))
 said-of-position Says bytes file is status text (inr said) =
     let only = position-read-back file bytes is.text is.lawful in
     subst (λ (f : PositionFile). Says f status text) (only.no_other said.0 said.1.text) said.2
+
+-- a command whose word on each position for which its numbers are enough is an answer answers where it is sure to
+pub position-answers : (command : PositionCommand)
+    → ((file : PositionFile) → command.IsEnough file → (status : Status) (text : List ℕ) → command.Says file status text
+    → command.IsAnswer status)
+    → (run : Run) → IsTold (SaysOfPosition command.Says) run → AnswersTold (of_position command) run
+position-answers command answer = answers-told (of_position command)
+    (λ bytes can status text says. answer can.0 can.2 status text (said-of-position command.Says bytes can.0 can.1 status text says))
 
 -- a status that stands in place of others speaks of no position, nor does that of a refused text
 pub search-silent : (number : ℕ) → IsYielded number ⊎ (number ≡ 3) → SpeaksOfPosition number → ⊥
@@ -58,12 +49,12 @@ module _ (Says : PositionFile → Status → List ℕ → Type 0) (Speaks : ℕ 
     (by-said : (file : PositionFile) (status : Status) (text : List ℕ) → run.status ≡ status_number status
     → Takes run.output.before text run.output.after → Says file status text → Holds file)
     (by-yielded : (file : PositionFile) → IsYielded run.status → Holds file) where
-  lawful-by : (bytes : List ℕ) (status : Status) (text : List ℕ) → run.status ≡ status_number status → SaysOfText Says bytes status text
+  lawful-by : (bytes : List ℕ) (status : Status) (text : List ℕ) → run.status ≡ status_number status → SaysOfPosition Says bytes status text
       → Speaks run.status → (file : PositionFile) × IsPositionAt file bytes
   lawful-by bytes status text ends (inr said) speaks = (said.0, said.1)
   lawful-by bytes status text ends (inl refused) speaks = absurd (silent run.status (inr (ends ∙ ap status_number refused.ends)) speaks)
 
-  by-end : IsWhole (SaysOfText Says) run ⊎ IsYielded run.status → IfSome run.input.before (ShowsOfPosition (Speaks run.status) Holds)
+  by-end : IsWhole (SaysOfPosition Says) run ⊎ IsYielded run.status → IfSome run.input.before (ShowsOfPosition (Speaks run.status) Holds)
   by-end (inl w) = given-told (ShowsOfPosition (Speaks run.status) Holds) run.input.before w.bytes w.given (record {
     lawful = lawful-by w.bytes w.status w.text w.ends w.says;
     says = λ file is. by-said file w.status w.text w.ends w.whole (said-of-position Says w.bytes file is w.status w.text w.says);
@@ -73,8 +64,8 @@ module _ (Says : PositionFile → Status → List ℕ → Type 0) (Speaks : ℕ 
     says = λ file is. by-yielded file y;
   })
 
-  pub shows-of-position : IsTold (SaysOfText Says) run → IfSome run.input.before (ShowsOfPosition (Speaks run.status) Holds)
-  shows-of-position told = by-end (whole-or-yielded (SaysOfText Says) run told)
+  pub shows-of-position : IsTold (SaysOfPosition Says) run → IfSome run.input.before (ShowsOfPosition (Speaks run.status) Holds)
+  shows-of-position told = by-end (whole-or-yielded (SaysOfPosition Says) run told)
 
 -- what each status of a search says
 module _ (cost nodes : ℕ) (is_written is_lacking : Type 0) (run : Run) where

@@ -16,17 +16,40 @@ use Rattle.renju_io.specs.Told.{Takes}
 use Rattle.renju_cli.specs.declared.status.Status.{Status}
 use Rattle.renju_cli.specs.declared.status.Status.TheVariants.{Done}
 use Rattle.renju_cli.specs.Statuses.{status_number}
-use Rattle.renju_cli.specs.Runs.{Run}
+use Rattle.renju_cli.specs.Runs.{IsAskedOnly, Run}
+use Rattle.strategy_checker.specs.HeldRoots.{HeldTable}
+use Rattle.renju_cli.specs.Loading.{HoldsFile}
+use Rattle.renju_cli.specs.declared.loading.Holdable.TheVariants.{Table}
 use Rattle.renju_cli.specs.Told.{AnswersTold, EndsTold, IsYielded}
 use Rattle.renju_cli.specs.Refusals.{IsRefusedText}
 use Rattle.renju_cli.specs.Checks.{IsTableAt}
 use Rattle.renju_cli.specs.Brains.{IsFit, IsFitFile, IsUnbegun, IsUnhinderedShelf, TableFileSays, TellsFile}
-use Rattle.renju_cli.specs.Referees.{ComparesSays, HasGameFault, IsGameAt, IsRefereeWith, RefereeSays, RefereesByFile, ShowsGame}
+use Rattle.renju_cli.specs.Referees.{ComparesSays, HasGameFault, HeldSays, IsGameAt, IsRefereeWith, RefereeSays, RefereesByFile, ShowsGame}
 use Rattle.renju_cli.specs.Referees.{TellsTable, compares_command, of_game, referee_command, replay_line}
-use Rattle.renju_cli.proofs.ToldLaws.{IsWhole, answers-by, by-end, given-told, where-told}
+use Rattle.renju_cli.proofs.ToldLaws.{IsWhole, answers-by, by-end, ends-map, given-told, where-told}
 use Rattle.renju_cli.proofs.CheckLaws.{one-table}
 use Rattle.renju_cli.proofs.BrainLaws.{found-under, not-told, same-bytes, table-not_told}
 use Rattle.renju_cli.proofs.GameLaws.{delivered-other, not-other, table_told-other, unheld-other}
+
+-- ---- a FILE that is loaded
+
+-- a game is judged beside the table of the file that is held
+pub referees-by-file : (name : List ℕ) (run : Run) (held : HeldTable) → IsAskedOnly run.shelf → HoldsFile Table run.shelf name held
+    → EndsTold (HeldSays held) run.input run.output run.status → IsRefereeWith name run
+referees-by-file name run held once holds ends =
+    let file = holds.gives.0 in
+    record {
+      once = once;
+      ends = inl (record {
+        bytes = holds.bytes;
+        loaded = holds.loaded;
+        fits = holds.fits;
+        file = file;
+        at = holds.gives.1;
+        fit = holds.gives.2;
+        ends = ends-map (HeldSays held) (ComparesSays file) _ _ _ (λ bytes status said h. h file holds.gives.3) ends;
+      });
+    }
 
 -- ---- answers
 

@@ -19,6 +19,7 @@ use Rattle.renju_cli.specs.Commands.{command, IsForm}
 use Rattle.renju_cli.specs.Reports.{Report, IsComplete}
 use Rattle.renju_cli.proofs.FormLaws.{one-form}
 use Rattle.renju_cli.proofs.ToldLaws.{answers-told}
+use Rattle.renju_cli.proofs.PositionLaws.{position-answers}
 use Rattle.renju_cli.proofs.CheckLaws.{check-answers, check-won}
 use Rattle.renju_cli.proofs.FoulLaws.{foul-answers}
 use Rattle.renju_cli.proofs.BrainLaws.{brain-answers, brain-with-answers}
@@ -45,7 +46,7 @@ does-of run (inr obeyed) form is = subst (λ (f : Form). (command run.words f).D
 -- a command that did what it does answered where it is sure to
 answers : (form : Form) (run : Run) → (command run.words form).Does run → (command run.words form).Answers run
 answers (Check work) run does = answers-told (check_command work) (check-answers work) run does
-answers Foul run does = answers-told foul_command foul-answers run does
+answers Foul run does = position-answers foul_command foul-answers run does
 answers Brain run does = brain-answers run does
 answers BrainWith run does = brain-with-answers (second_word run.words) run does
 answers (Drill number) run does = drill-answers number run does
@@ -54,10 +55,10 @@ answers (Image s) run does = answers-told (image_command s) (image-answers s) ru
 answers Referee run does = answers-told referee_command referee-answers run does
 answers (Book work) run does = answers-told (book_command work) (book-answers work) run does
 answers RefereeWith run does = referee-with-answers (second_word run.words) run does
-answers (Fours depth nodes) run does = answers-told (fours_command depth nodes) (fours-answers depth nodes) run does
-answers (Threats limit nodes) run does = answers-told (threats_command limit nodes) (threats-answers limit nodes) run does
-answers (Solve depth nodes) run does = answers-told (solve_command depth nodes) (solve-answers depth nodes) run does
-answers (Defend depth nodes) run does = answers-told (defend_command depth nodes) (defend-answers depth nodes) run does
+answers (Fours depth nodes) run does = position-answers (fours_command depth nodes) (fours-answers depth nodes) run does
+answers (Threats limit nodes) run does = position-answers (threats_command limit nodes) (threats-answers limit nodes) run does
+answers (Solve depth nodes) run does = position-answers (solve_command depth nodes) (solve-answers depth nodes) run does
+answers (Defend depth nodes) run does = position-answers (defend_command depth nodes) (defend-answers depth nodes) run does
 
 -- what `brain FILE` did with its second word is the report of its run
 pub file-reported : (run : Run) (name : List ℕ) → IsForm run.words BrainWith → name ≡ second_word run.words → IsBrainWith name run

@@ -8,31 +8,26 @@ use Rattle.strategy_compiler.specs.Walks.{last}
 use Rattle.position_files.specs.declared.PositionFile.{PositionFile}
 use Rattle.renju_io.specs.Told.{Takes}
 use Rattle.renju_cli.specs.declared.status.Status.{Status}
-use Rattle.renju_cli.specs.declared.status.Status.TheVariants.{Done, NotFound, Full}
 use Rattle.renju_cli.specs.Statuses.{status_number}
 use Rattle.renju_cli.specs.Runs.{Run}
 use Rattle.renju_cli.specs.Told.{IsTold, IsYielded}
+use Rattle.renju_cli.specs.Positions.{SaysOfPosition}
 use Rattle.renju_cli.specs.Searches.{ShowsOfPosition}
 use Rattle.renju_cli.specs.Fours.{IsFoundWin}
-use Rattle.renju_cli.specs.Solves.{IsWinText, IsWonByAStep, IsWonByFours, SolutionSays, SolveSays, solve_command, WritesSolution}
+use Rattle.renju_cli.specs.Solves.{IsWinText, IsWonByAStep, IsWonByFours, SolutionSays, solve_command, WritesSolution}
 use Rattle.renju_cli.specs.Solves.{SpeaksOfSolution, IsSolved}
-use Rattle.renju_cli.proofs.PositionLaws.{said-of-position, shows-of-position}
+use Rattle.renju_cli.proofs.PositionLaws.{shows-of-position}
 
 -- what is said of a position for which the budget is enough is an answer
-pub solve-answers : (limit nodes : ℕ) (bytes : List ℕ) → (solve_command limit nodes).IsAnswerable bytes → (status : Status) (text : List ℕ)
-    → SolveSays limit nodes bytes status text → (solve_command limit nodes).IsAnswer status
-solve-answers limit nodes bytes can status text says =
-    by-solution (said-of-position (SolutionSays limit nodes) bytes can.0 can.1 status text says) where
-      by-solution : SolutionSays limit nodes can.0 status text → (status ≡ Done) ⊎ (status ≡ NotFound) ⊎ (status ≡ Full)
-      by-solution (inl first) = inl first.found.ends
-      by-solution (inr (inl line)) = inl line.ends
-      by-solution (inr (inr (inl threats))) = inl threats.ends
-      by-solution (inr (inr (inr (inl unwon)))) = inr (inl unwon.ends)
-      by-solution (inr (inr (inr (inr (inl undecided))))) =
-          let few = can.2 in
-          let more = undecided.more in
-          absurd (omega (arith, few, more))
-      by-solution (inr (inr (inr (inr (inr great))))) = inr (inr great.ends)
+pub solve-answers : (limit nodes : ℕ) (file : PositionFile) → (solve_command limit nodes).IsEnough file → (status : Status) (text : List ℕ)
+    → SolutionSays limit nodes file status text → (solve_command limit nodes).IsAnswer status
+solve-answers limit nodes file few status text (inl first) = inl first.found.ends
+solve-answers limit nodes file few status text (inr (inl line)) = inl line.ends
+solve-answers limit nodes file few status text (inr (inr (inl threats))) = inl threats.ends
+solve-answers limit nodes file few status text (inr (inr (inr (inl unwon)))) = inr (inl unwon.ends)
+solve-answers limit nodes file few status text (inr (inr (inr (inr (inl undecided))))) =
+    let more = undecided.more in absurd (omega (arith, few, more))
+solve-answers limit nodes file few status text (inr (inr (inr (inr (inr great))))) = inr (inr great.ends)
 
 -- a win that `fours` finds is one of the first step
 first-won : (limit nodes : ℕ) (file : PositionFile) (status : Status) (text : List ℕ) → IsFoundWin limit nodes file status text
@@ -126,7 +121,7 @@ module _ (limit nodes : ℕ) (run : Run) where
   }
 
   -- what `solve` did in a run
-  pub solve-shown : IsTold (SolveSays limit nodes) run
+  pub solve-shown : IsTold (SaysOfPosition (SolutionSays limit nodes)) run
       → IfSome run.input.before (ShowsOfPosition (SpeaksOfSolution run.status) (λ file. IsSolved limit nodes file run))
   solve-shown = shows-of-position (SolutionSays limit nodes) SpeaksOfSolution silent run (λ file. IsSolved limit nodes file run)
       (λ file status text ends whole. solved-by file text whole status ends) yielded-solved

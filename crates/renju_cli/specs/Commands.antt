@@ -5,6 +5,7 @@ use Rattle.renju_cli.specs.declared.commands.Form.TheVariants.{Check, Foul, Four
 use Rattle.renju_cli.specs.declared.commands.Form.TheVariants.{RefereeWith, Image, Defend, Bind, Book}
 use Rattle.renju_cli.specs.Forms.{Command, IsSpelled}
 use Rattle.renju_cli.specs.Told.{told}
+use Rattle.renju_cli.specs.Positions.{of_position}
 use Rattle.renju_cli.specs.Checks.{check_command}
 use Rattle.renju_cli.specs.Fouls.{foul_command}
 use Rattle.renju_cli.specs.Fours.{fours_command}
@@ -21,17 +22,17 @@ use Rattle.renju_cli.specs.Binds.{bind_command, words_after}
 -- the command that a form of these words stands for
 abbrev pub command : List (List ℕ) → Form → Command
 command words (Check work) = told (check_command work)
-command words Foul = told foul_command
-command words (Fours depth nodes) = told (fours_command depth nodes)
-command words (Threats limit nodes) = told (threats_command limit nodes)
-command words (Solve depth nodes) = told (solve_command depth nodes)
+command words Foul = told (of_position foul_command)
+command words (Fours depth nodes) = told (of_position (fours_command depth nodes))
+command words (Threats limit nodes) = told (of_position (threats_command limit nodes))
+command words (Solve depth nodes) = told (of_position (solve_command depth nodes))
 command words Brain = brain_command
 command words BrainWith = brain_with_command (second_word words)
 command words (Drill number) = drill_command number
 command words (Image s) = told (image_command s)
 command words Referee = told referee_command
 command words RefereeWith = referee_with_command (second_word words)
-command words (Defend depth nodes) = told (defend_command depth nodes)
+command words (Defend depth nodes) = told (of_position (defend_command depth nodes))
 command words (Book work) = told (book_command work)
 command words Bind = bind_command (words_after words)
 

@@ -15,17 +15,15 @@ use Rattle.text_lines.specs.Spellings.{space, point_text}
 use Rattle.position_files.specs.declared.PositionFile.{PositionFile}
 use Rattle.position_files.specs.declared.TableFile.{TableFile}
 use Rattle.position_files.specs.Tables.{IsTextOfTable}
-use Rattle.position_files.specs.Faults.{IsPositionFault}
 use Rattle.renju_io.specs.Told.{Takes}
 use Rattle.renju_cli.specs.declared.status.Status.{Status}
 use Rattle.renju_cli.specs.declared.status.Status.TheVariants.{Done, Spent}
 use Rattle.renju_cli.specs.Statuses.{status_number}
 use Rattle.renju_cli.specs.Runs.{Change, Run}
 use Rattle.renju_cli.specs.Forms.{HasWords}
-use Rattle.renju_cli.specs.Told.{ToldCommand, IsYielded}
-use Rattle.renju_cli.specs.Refusals.{IsRefusedText}
+use Rattle.renju_cli.specs.Told.{IsYielded}
+use Rattle.renju_cli.specs.Positions.{PositionCommand}
 use Rattle.renju_cli.specs.Searches.{ShowsOfPosition}
-use Rattle.renju_cli.specs.Fouls.{IsPositionAt}
 use Rattle.renju_cli.specs.Fours.{AreLimits}
 
 -- the moves of the side to move that hold against continuous fours within so many moves, in reading order
@@ -86,23 +84,17 @@ abbrev pub DefenceSays : ℕ → ℕ → PositionFile → Status → List ℕ �
 DefenceSays limit nodes file status text =
     IsDefended limit nodes file status text ⊎ IsUndefended limit nodes file status text ⊎ IsSpentAfter limit nodes file status text
 
--- What `defend` says of an input that it has read whole: why the text is refused, or else what is said of the position.
-abbrev pub DefendSays : ℕ → ℕ → List ℕ → Status → List ℕ → Type 0
-DefendSays limit nodes input status text =
-    IsRefusedText (IsPositionFault input) status text
-    ⊎ ((file : PositionFile) × IsPositionAt file input × DefenceSays limit nodes file status text)
-
 -- the words `defend DEPTH NODES`, with both numbers in decimal without leading zeros
 abbrev pub defend_words : ℕ → ℕ → List (List ℕ)
 defend_words depth nodes = codes "defend" ∷ decimal depth ∷ decimal nodes ∷ []
 
 -- `defend DEPTH NODES`. It answers for a lawful position where the budget is enough after each move that goes on.
-abbrev pub defend_command : ℕ → ℕ → ToldCommand
+abbrev pub defend_command : ℕ → ℕ → PositionCommand
 defend_command depth nodes = record {
   words = defend_words depth nodes;
   in_range = AreLimits depth nodes;
-  Says = DefendSays depth nodes;
-  IsAnswerable = λ input. (file : PositionFile) × IsPositionAt file input × IsEnoughAfterEach depth nodes file;
+  Says = DefenceSays depth nodes;
+  IsEnough = IsEnoughAfterEach depth nodes;
   IsAnswer = λ status. status ≡ Done;
 }
 

@@ -1,10 +1,10 @@
 -- The command `foul`: its words, and what it says of its input.
-use Rattle.std.specs.Prelude.{◌≡◌, ◌⊎◌, ℕ, List, [], ◌∷◌, ◌++◌, length, codes, if◌then◌else◌, Option, None}
+use Rattle.std.specs.Prelude.{◌≡◌, ℕ, List, [], ◌∷◌, ◌++◌, length, codes, if◌then◌else◌, Option, None}
 use Rattle.std.specs.List.{flat_map, filter_map}
 use Rattle.std.specs.Option.{option_map}
 use Rattle.std.specs.Fmt.{decimal}
 use Rattle.game_rules.specs.Grid.{Grid, is_empty, points_of}
-use Rattle.game_rules.specs.Play.{IsPosition, foul_of, mover}
+use Rattle.game_rules.specs.Play.{foul_of, mover}
 use Rattle.game_rules.specs.declared.RuleKind.{RuleKind}
 use Rattle.game_rules.specs.declared.Side.{Side}
 use Rattle.game_rules.specs.declared.Side.TheVariants.{Black, White}
@@ -13,13 +13,10 @@ use Rattle.game_referee.specs.Lines.{foul_word}
 use Rattle.text_lines.specs.Lines.{ended}
 use Rattle.text_lines.specs.Spellings.{space, point_text}
 use Rattle.position_files.specs.declared.PositionFile.{PositionFile}
-use Rattle.position_files.specs.Positions.{IsTextOfPosition}
-use Rattle.position_files.specs.Faults.{IsPositionFault}
 use Rattle.renju_cli.specs.declared.fouls.FoulPoint.{FoulPoint}
 use Rattle.renju_cli.specs.declared.status.Status.{Status}
 use Rattle.renju_cli.specs.declared.status.Status.TheVariants.{Done}
-use Rattle.renju_cli.specs.Told.{ToldCommand}
-use Rattle.renju_cli.specs.Refusals.{IsRefusedText}
+use Rattle.renju_cli.specs.Positions.{PositionCommand}
 
 -- the foul of Black at a point, if the point is empty and a foul
 abbrev pub foul_point : RuleKind → Grid → Point → Option FoulPoint
@@ -42,27 +39,17 @@ foul_line f = ended (codes "foul" ++ space ∷ point_text f.at ++ space ∷ foul
 abbrev pub fouls_text : List FoulPoint → List ℕ
 fouls_text fouls = ended (codes "fouls " ++ decimal (length fouls)) ++ flat_map foul_line fouls
 
--- the input is the text of a lawful position
-pub record IsPositionAt (file : PositionFile) (input : List ℕ) : Type 0 where
-  pub text : IsTextOfPosition file input
-  pub lawful : IsPosition file.kind file.board
-
 -- the fouls of the side to move are listed
 pub record IsFoulList (file : PositionFile) (status : Status) (text : List ℕ) : Type 0 where
   pub ends : status ≡ Done
   pub list : text ≡ fouls_text (fouls_of_mover (mover file.board) file.kind file.board)
 
--- What `foul` says of an input that it has read whole: why the text is refused, or else the fouls of the side to move.
-abbrev pub FoulSays : List ℕ → Status → List ℕ → Type 0
-FoulSays input status text =
-    IsRefusedText (IsPositionFault input) status text ⊎ ((file : PositionFile) × IsPositionAt file input × IsFoulList file status text)
-
 -- `foul`, which answers for each lawful position
-abbrev pub foul_command : ToldCommand
+abbrev pub foul_command : PositionCommand
 foul_command = record {
   words = codes "foul" ∷ [];
   in_range = Unit {0};
-  Says = FoulSays;
-  IsAnswerable = λ input. (file : PositionFile) × IsPositionAt file input;
+  Says = IsFoulList;
+  IsEnough = λ file. Unit {0};
   IsAnswer = λ status. status ≡ Done;
 }

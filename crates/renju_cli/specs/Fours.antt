@@ -16,7 +16,6 @@ use Rattle.text_lines.specs.Lines.{ended}
 use Rattle.position_files.specs.declared.PositionFile.{PositionFile}
 use Rattle.position_files.specs.declared.TableFile.{TableFile}
 use Rattle.position_files.specs.Tables.{IsTextOfTable}
-use Rattle.position_files.specs.Faults.{IsPositionFault}
 use Rattle.renju_io.specs.Told.{Takes}
 use Rattle.renju_cli.specs.declared.status.Status.{Status}
 use Rattle.renju_cli.specs.declared.status.Status.TheVariants.{Done, Spent, NotFound}
@@ -24,9 +23,7 @@ use Rattle.renju_cli.specs.declared.TheConstants.{MAX_SEARCHED}
 use Rattle.renju_cli.specs.Texts.{spent_line}
 use Rattle.renju_cli.specs.Runs.{Change, Run}
 use Rattle.renju_cli.specs.Forms.{HasWords}
-use Rattle.renju_cli.specs.Told.{ToldCommand}
-use Rattle.renju_cli.specs.Refusals.{IsRefusedText}
-use Rattle.renju_cli.specs.Fouls.{IsPositionAt}
+use Rattle.renju_cli.specs.Positions.{PositionCommand}
 use Rattle.renju_cli.specs.Searches.{SpeaksOfPosition, IsSearched, ShowsOfPosition}
 
 -- there is none of what was searched
@@ -78,12 +75,6 @@ abbrev pub SearchSays : ℕ → ℕ → PositionFile → Status → List ℕ →
 SearchSays limit nodes file status text = IsFoundWin limit nodes file status text ⊎ IsDenied limit nodes file status text ⊎ IsSpentBudget
     limit nodes file status text
 
--- What `fours` says of an input that it has read whole: why the text is refused, or else what is said of the position.
-abbrev pub FoursSays : ℕ → ℕ → List ℕ → Status → List ℕ → Type 0
-FoursSays limit nodes input status text =
-    IsRefusedText (IsPositionFault input) status text ⊎
-    ((file : PositionFile) × IsPositionAt file input × SearchSays limit nodes file status text)
-
 -- the words `fours DEPTH NODES`, with both numbers in decimal without leading zeros
 abbrev pub fours_words : ℕ → ℕ → List (List ℕ)
 fours_words depth nodes = codes "fours" ∷ decimal depth ∷ decimal nodes ∷ []
@@ -94,12 +85,12 @@ AreLimits depth nodes = (1 ≤ depth) × (depth ≤ MAX_DEPTH) × (1 ≤ nodes) 
 
 -- `fours DEPTH NODES`. It answers for a lawful position with no more positions to look at than are allowed: it finds a win or
 -- none.
-abbrev pub fours_command : ℕ → ℕ → ToldCommand
+abbrev pub fours_command : ℕ → ℕ → PositionCommand
 fours_command depth nodes = record {
   words = fours_words depth nodes;
   in_range = AreLimits depth nodes;
-  Says = FoursSays depth nodes;
-  IsAnswerable = λ input. (file : PositionFile) × IsPositionAt file input × (four_cost file.kind depth file.board ≤ nodes);
+  Says = SearchSays depth nodes;
+  IsEnough = λ file. four_cost file.kind depth file.board ≤ nodes;
   IsAnswer = λ status. (status ≡ Done) ⊎ (status ≡ NotFound);
 }
 

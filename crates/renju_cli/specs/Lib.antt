@@ -5,6 +5,7 @@ pub mod Runs
 pub mod Forms
 pub mod Told
 pub mod Refusals
+pub mod Positions
 -- a file for each command, and one for what the statuses of the searches show
 pub mod Checks
 pub mod Fouls

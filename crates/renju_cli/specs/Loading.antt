@@ -1,5 +1,6 @@
 -- What comes of a FILE that is loaded, and which status a session ends with: words of the contracts of private calls.
-use Rattle.std.specs.Prelude.{◌≡◌, ◌⊎◌, ℕ, List, Result, Ok, Err}
+use Rattle.std.specs.Prelude.{◌≡◌, ◌⊎◌, ℕ, ◌≤◌, List, length, Option, Result, Ok, Err}
+use Rattle.strategy_checker.specs.HeldRoots.{HeldTable}
 use Rattle.position_files.specs.declared.TableFile.{TableFile}
 use Rattle.table_book.specs.declared.Book.{Book}
 use Rattle.brain_session.specs.declared.TheConstants.{BRAIN_WORK}
@@ -7,11 +8,16 @@ use Rattle.brain_session.specs.declared.sessions.ServeError.{ServeError}
 use Rattle.brain_session.specs.declared.sessions.ServeError.TheVariants.{ReadFailed, WriteFailed, Exhausted, Memory as NoMemory}
 use Rattle.renju_cli.specs.declared.status.Status.{Status}
 use Rattle.renju_cli.specs.declared.status.Status.TheVariants.{Done, Memory, ReadFault, WriteFault, TooLong}
+use Rattle.renju_io.specs.Files.{Files}
+use Rattle.renju_io.specs.declared.TheConstants.{MAX_INPUT_BYTES}
+use Rattle.renju_cli.specs.declared.loading.Holdable.{Holdable}
+use Rattle.renju_cli.specs.declared.loading.Holdable.TheVariants.{Table, TableOrBook}
 use Rattle.renju_cli.specs.declared.loading.Loaded.{Loaded}
 use Rattle.renju_cli.specs.declared.loading.Loaded.TheVariants.{Holds, Tells}
+use Rattle.renju_cli.specs.Runs.{Change}
 use Rattle.renju_cli.specs.Checks.{IsTableAt, IsRefusedTable, IsSpentWork}
 use Rattle.renju_cli.specs.Books.{AreAccepted, IsBookAt, IsRefusedEntry}
-use Rattle.renju_cli.specs.Brains.{BookFileSays, FileSays, HeldFile, IsFit, IsHeldText, TableFileSays, held_by, of_book, of_table}
+use Rattle.renju_cli.specs.Brains.{BookFileSays, FileSays, HeldFile, IsFit, IsHeldText, IsLoaded, IsUnheld, TableFileSays, held_by, of_book, of_table}
 
 -- the status of a session that ended so
 abbrev pub session_status : Result (Unit {0}) ServeError → Status
@@ -46,3 +52,25 @@ IsLoadedBookText bytes (Tells answer) = BookFileSays bytes answer.status answer.
 abbrev pub IsLoadedHeld : List ℕ → Loaded → Type 0
 IsLoadedHeld bytes (Holds held) = (file : HeldFile) × IsHeldText file bytes × (held ≡ held_by file)
 IsLoadedHeld bytes (Tells answer) = FileSays bytes answer.status answer.text
+
+-- what comes of the bytes of a FILE whose text may be this
+abbrev pub IsLoadedAs : Holdable → List ℕ → Loaded → Type 0
+IsLoadedAs Table = IsLoadedText
+IsLoadedAs TableOrBook = IsLoadedHeld
+
+-- what is said of the bytes of one that is not held
+abbrev pub SaysUnheld : Holdable → List ℕ → Status → List ℕ → Type 0
+SaysUnheld Table = TableFileSays
+SaysUnheld TableOrBook = FileSays
+
+-- the shelf gave the bytes of FILE, which are not too many, and what they give is held
+pub record HoldsFile (holdable : Holdable) (shelf : Change (Option Files)) (name : List ℕ) (held : HeldTable) : Type 0 where
+  pub bytes : List ℕ
+  pub loaded : IsLoaded shelf name bytes
+  pub fits : length bytes ≤ MAX_INPUT_BYTES
+  pub gives : IsLoadedAs holdable bytes (Holds held)
+
+-- what comes of FILE: what it gives is held, or what is told says why not
+abbrev pub IsLoadedFrom : Holdable → Change (Option Files) → List ℕ → Loaded → Type 0
+IsLoadedFrom holdable shelf name (Holds held) = HoldsFile holdable shelf name held
+IsLoadedFrom holdable shelf name (Tells answer) = IsUnheld (SaysUnheld holdable) shelf name answer.status answer.text

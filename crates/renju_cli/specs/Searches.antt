@@ -5,7 +5,7 @@ use Rattle.renju_cli.specs.declared.status.Status.TheVariants.{Done, Spent, NotF
 use Rattle.renju_cli.specs.Statuses.{status_number}
 use Rattle.renju_cli.specs.Runs.{Run}
 use Rattle.renju_cli.specs.Told.{IsYielded}
-use Rattle.renju_cli.specs.Fouls.{IsPositionAt}
+use Rattle.renju_cli.specs.Positions.{IsPositionAt}
 
 -- the statuses of `fours` and `threats` that speak of a position
 abbrev pub SpeaksOfPosition : ℕ → Type 0

@@ -16,7 +16,6 @@ use Rattle.threat_game.specs.ThreatGame.{threat_tree}
 use Rattle.text_lines.specs.Lines.{ended}
 use Rattle.position_files.specs.declared.PositionFile.{PositionFile}
 use Rattle.position_files.specs.Tables.{IsTextOfTable}
-use Rattle.position_files.specs.Faults.{IsPositionFault}
 use Rattle.renju_io.specs.Told.{Takes}
 use Rattle.renju_cli.specs.declared.status.Status.{Status}
 use Rattle.renju_cli.specs.declared.status.Status.TheVariants.{Done, Spent, NotFound, Full}
@@ -24,9 +23,8 @@ use Rattle.renju_cli.specs.Statuses.{status_number}
 use Rattle.renju_cli.specs.Texts.{spent_line}
 use Rattle.renju_cli.specs.Runs.{Change, Run}
 use Rattle.renju_cli.specs.Forms.{HasWords}
-use Rattle.renju_cli.specs.Told.{ToldCommand, IsYielded}
-use Rattle.renju_cli.specs.Refusals.{IsRefusedText}
-use Rattle.renju_cli.specs.Fouls.{IsPositionAt}
+use Rattle.renju_cli.specs.Told.{IsYielded}
+use Rattle.renju_cli.specs.Positions.{PositionCommand}
 use Rattle.renju_cli.specs.Searches.{ShowsOfPosition}
 use Rattle.renju_cli.specs.Threats.{sequence_at, cost_at}
 use Rattle.renju_cli.specs.Fours.{none_line, table_at, AreLimits, IsFoundWin}
@@ -130,24 +128,18 @@ SolutionSays limit nodes file status text =
     ⊎ IsUndecided limit nodes file status text
     ⊎ IsTooGreat limit nodes file status text
 
--- What `solve` says of an input that it has read whole: why the text is refused, or else what is said of the position.
-abbrev pub SolveSays : ℕ → ℕ → List ℕ → Status → List ℕ → Type 0
-SolveSays limit nodes input status text =
-    IsRefusedText (IsPositionFault input) status text ⊎
-    ((file : PositionFile) × IsPositionAt file input × SolutionSays limit nodes file status text)
-
 -- the words `solve DEPTH NODES`, with both numbers in decimal without leading zeros
 abbrev pub solve_words : ℕ → ℕ → List (List ℕ)
 solve_words depth nodes = codes "solve" ∷ decimal depth ∷ decimal nodes ∷ []
 
 -- `solve DEPTH NODES`. It answers for a lawful position whose game of threats has no more positions than are allowed: it finds a
 -- win or none, or has no room for a table.
-abbrev pub solve_command : ℕ → ℕ → ToldCommand
+abbrev pub solve_command : ℕ → ℕ → PositionCommand
 solve_command depth nodes = record {
   words = solve_words depth nodes;
   in_range = AreLimits depth nodes;
-  Says = SolveSays depth nodes;
-  IsAnswerable = λ input. (file : PositionFile) × IsPositionAt file input × (threat_tree file.kind depth file.board ≤ nodes);
+  Says = SolutionSays depth nodes;
+  IsEnough = λ file. threat_tree file.kind depth file.board ≤ nodes;
   IsAnswer = λ status. (status ≡ Done) ⊎ (status ≡ NotFound) ⊎ (status ≡ Full);
 }
 

@@ -14,7 +14,6 @@ use Rattle.threat_moves.specs.declared.threat_list.Threat.{Threat}
 use Rattle.threat_space.specs.declared.TheConstants.{MAX_LENGTH}
 use Rattle.threat_space.specs.Sequences.{first_sequence, seq_cost}
 use Rattle.position_files.specs.declared.PositionFile.{PositionFile}
-use Rattle.position_files.specs.Faults.{IsPositionFault}
 use Rattle.renju_io.specs.Told.{Takes}
 use Rattle.renju_cli.specs.declared.status.Status.{Status}
 use Rattle.renju_cli.specs.declared.status.Status.TheVariants.{Done, Spent, NotFound}
@@ -22,9 +21,7 @@ use Rattle.renju_cli.specs.declared.TheConstants.{MAX_SEARCHED}
 use Rattle.renju_cli.specs.Texts.{spent_line}
 use Rattle.renju_cli.specs.Runs.{Change, Run}
 use Rattle.renju_cli.specs.Forms.{HasWords}
-use Rattle.renju_cli.specs.Told.{ToldCommand}
-use Rattle.renju_cli.specs.Refusals.{IsRefusedText}
-use Rattle.renju_cli.specs.Fouls.{IsPositionAt}
+use Rattle.renju_cli.specs.Positions.{PositionCommand}
 use Rattle.renju_cli.specs.Searches.{SpeaksOfPosition, IsSearched, ShowsOfPosition}
 use Rattle.renju_cli.specs.Fours.{none_line}
 
@@ -84,12 +81,6 @@ abbrev pub SequenceSays : ℕ → ℕ → PositionFile → Status → List ℕ �
 SequenceSays limit nodes file status text =
     IsFoundSequence limit nodes file status text ⊎ IsNoSequence limit nodes file status text ⊎ AreTooManyLists limit nodes file status text
 
--- What `threats` says of an input that it has read whole: why the text is refused, or else what is said of the position.
-abbrev pub ThreatsSays : ℕ → ℕ → List ℕ → Status → List ℕ → Type 0
-ThreatsSays limit nodes input status text =
-    IsRefusedText (IsPositionFault input) status text ⊎
-    ((file : PositionFile) × IsPositionAt file input × SequenceSays limit nodes file status text)
-
 -- the words `threats LENGTH NODES`, with both numbers in decimal without leading zeros
 abbrev pub threats_words : ℕ → ℕ → List (List ℕ)
 threats_words limit nodes = codes "threats" ∷ decimal limit ∷ decimal nodes ∷ []
@@ -100,12 +91,12 @@ AreLengthAndNodes limit nodes = (1 ≤ limit) × (limit ≤ MAX_LENGTH) × (1 �
 
 -- `threats LENGTH NODES`. It answers for a lawful position with no more lists of threats to look at than are allowed: it finds
 -- a sequence or none.
-abbrev pub threats_command : ℕ → ℕ → ToldCommand
+abbrev pub threats_command : ℕ → ℕ → PositionCommand
 threats_command limit nodes = record {
   words = threats_words limit nodes;
   in_range = AreLengthAndNodes limit nodes;
-  Says = ThreatsSays limit nodes;
-  IsAnswerable = λ input. (file : PositionFile) × IsPositionAt file input × (cost_at limit file ≤ nodes);
+  Says = SequenceSays limit nodes;
+  IsEnough = λ file. cost_at limit file ≤ nodes;
   IsAnswer = λ status. (status ≡ Done) ⊎ (status ≡ NotFound);
 }
 

@@ -14,11 +14,11 @@ ghost use Rattle.renju_cli.specs.Brains.{EndsBrain, IsBrainWith};
 ghost use Rattle.renju_cli.specs.Loading.{session_status};
 ghost use Rattle.renju_cli.specs.Commands.{IsForm, HasForm};
 
-use crate::loading::{Loaded, SHELF_FAILED, load_any};
-use crate::told::{TOO_LONG, deliver};
+use crate::loading::{Holdable, Loaded, load_file};
+use crate::told::deliver;
 use crate::{Form, Status};
 use brain_session::{Brain, ServeError, serve};
-use renju_io::{LoadError, Shelf, Sink, Source};
+use renju_io::{Shelf, Sink, Source};
 use std::alloc::Global;
 use strategy_checker::Held;
 
@@ -55,15 +55,10 @@ pub(crate) fn play_with<I: Source, O: Sink, F: Shelf>(
     ensures loads { status_number result ≢ status_number Status.ShelfFault → status_number result ≢ status_number Status.WriteFault
         → HasStayed (F.faults shelf.old) (F.faults shelf.new) }
 {
-    match shelf.load(alloc, file) {
-        Ok(bytes) => match load_any(alloc, bytes.as_slice()) {
-            Ok(Loaded::Holds(held)) => play(alloc, Some(held), input, output),
-            Ok(Loaded::Tells(answer)) => deliver(answer.status, answer.text.as_slice(), output),
-            Err(_) => Status::Memory,
-        },
-        Err(LoadError::Failed) => deliver(Status::ShelfFault, SHELF_FAILED.as_bytes(), output),
-        Err(LoadError::TooLong) => deliver(Status::TooLong, TOO_LONG.as_bytes(), output),
-        Err(LoadError::Memory) => Status::Memory,
+    match load_file(alloc, Holdable::TableOrBook, file, shelf) {
+        Ok(Loaded::Holds(held)) => play(alloc, Some(held), input, output),
+        Ok(Loaded::Tells(answer)) => deliver(answer.status, answer.text.as_slice(), output),
+        Err(_) => Status::Memory,
     }
 }
 

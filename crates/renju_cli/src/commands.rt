@@ -18,6 +18,7 @@ use crate::drill::drill;
 use crate::fouls::ListFouls;
 use crate::fours::Fours;
 use crate::image::Image;
+use crate::positions::OfPosition;
 use crate::referee::{Referee, referee_with};
 use crate::solve::Solve;
 use crate::threats::FindSequence;
@@ -107,22 +108,37 @@ pub(crate) fn run<I: Source, O: Sink, F: Shelf>(
     match form_of(words) {
         None => deliver(Status::Usage, USAGE.as_bytes(), output),
         Some(Form::Check { work }) => tell(alloc, &Check { work }, input, output),
-        Some(Form::Foul) => tell(alloc, &ListFouls, input, output),
-        Some(Form::Fours { depth, nodes }) => tell(alloc, &Fours { depth, nodes }, input, output),
-        Some(Form::Threats { length, nodes }) => tell(
+        Some(Form::Foul) => tell(alloc, &OfPosition(ListFouls), input, output),
+        Some(Form::Fours { depth, nodes }) => tell(
             alloc,
-            &FindSequence { length, nodes },
+            &OfPosition(Fours { depth, nodes }),
             input,
             output,
         ),
-        Some(Form::Solve { depth, nodes }) => tell(alloc, &Solve { depth, nodes }, input, output),
+        Some(Form::Threats { length, nodes }) => tell(
+            alloc,
+            &OfPosition(FindSequence { length, nodes }),
+            input,
+            output,
+        ),
+        Some(Form::Solve { depth, nodes }) => tell(
+            alloc,
+            &OfPosition(Solve { depth, nodes }),
+            input,
+            output,
+        ),
         Some(Form::Brain) => play(alloc, None, input, output),
         Some(Form::BrainWith) => play_with(alloc, words[1].as_str(), input, output, shelf),
         Some(Form::Drill { number }) => drill(alloc, number, output),
         Some(Form::Image { symmetry }) => tell(alloc, &Image { symmetry }, input, output),
         Some(Form::Referee) => tell(alloc, &Referee, input, output),
         Some(Form::RefereeWith) => referee_with(alloc, words[1].as_str(), input, output, shelf),
-        Some(Form::Defend { depth, nodes }) => tell(alloc, &Defend { depth, nodes }, input, output),
+        Some(Form::Defend { depth, nodes }) => tell(
+            alloc,
+            &OfPosition(Defend { depth, nodes }),
+            input,
+            output,
+        ),
         Some(Form::Bind) => bind_words(alloc, &words[1..], output, shelf),
         Some(Form::Book { work }) => tell(alloc, &CheckBook { work }, input, output),
     }

@@ -14,15 +14,14 @@ ghost use Rattle.renju_cli.specs.Defends.{DefenceSays, IsLostText, spent_after_l
 
 use crate::answer::Answer;
 use crate::numbers::two_counts;
-use crate::refusals::refused_text;
-use crate::told::Told;
+use crate::positions::AtPosition;
 use crate::{Form, MAX_SEARCHED, Status};
 use defence_finder::{DefenceAnswer, defences, write_defences};
 use foul_judge::Position;
 use four_search::MAX_DEPTH;
 use game_rules::RuleKind;
-use position_files::{PositionFile, read_position, write_table};
-use row_shapes::{Rule, under_rule};
+use position_files::write_table;
+use row_shapes::Rule;
 use std::alloc::{AllocError, Global};
 use stone_board::{Board, Point, Points};
 use strategy_compiler::{Compiler, SearchError};
@@ -48,62 +47,40 @@ pub(crate) struct Defend {
     pub nodes: u64,
 }
 
-impl Told for Defend {
-    ghost use Rattle.std.specs.Prelude.{◌≤◌};
-    ghost use Rattle.four_search.specs.declared.TheConstants.{MAX_DEPTH};
-    ghost use Rattle.renju_cli.specs.declared.TheConstants.{MAX_SEARCHED};
-    ghost use Rattle.renju_cli.specs.Defends.{DefendSays};
+impl AtPosition for Defend {
+    ghost use Rattle.renju_cli.specs.Fours.{AreLimits};
+    ghost use Rattle.renju_cli.specs.Defends.{DefenceSays};
 
-    ghost in_range = { λ c. (1 ≤ c.depth) × (c.depth ≤ MAX_DEPTH) × (1 ≤ c.nodes) × (c.nodes ≤ MAX_SEARCHED) };
+    ghost in_range = { λ c. AreLimits c.depth c.nodes };
 
-    ghost says = { λ c. DefendSays c.depth c.nodes };
+    ghost says = { λ c. DefenceSays c.depth c.nodes };
 
-    fn say(&self, alloc: Global, bytes: &[u8]) -> Result<Answer, AllocError> {
-        match read_position(alloc, bytes) {
-            Ok(file) => defend_file(alloc, file, self.depth, self.nodes),
-            Err(error) => refused_text(alloc, error),
-        }
+    fn say_at<R: Rule>(&self, alloc: Global, position: Position<R>) -> Result<Answer, AllocError> {
+        search_defences(alloc, position, self.depth, self.nodes)
     }
 }
 
 /// What is said of a position.
-fn defend_file(
+fn search_defences<R: Rule>(
     alloc: Global,
-    file: PositionFile,
+    position: Position<R>,
     depth: u32,
     nodes: u64,
 ) -> Result<Answer, AllocError>
-    requires lawful { IsPosition file.kind file.board }
+    requires lawful { IsPosition R.KIND position }
     requires some_depth { 1 ≤ depth }
     requires depth_fits { depth ≤ MAX_DEPTH }
     requires some_nodes { 1 ≤ nodes }
-    ensures says { IfOk result (λ answer. DefenceSays depth nodes file answer.status answer.text) }
+    ensures says { IfOk result (λ answer. DefenceSays depth nodes (record { kind = R.KIND; board = position }) answer.status answer.text) }
 {
-    under_rule!(file.kind, defend_under(alloc, file, depth, nodes))
-}
-
-/// The same under the rule of the text.
-fn defend_under<R: Rule>(
-    alloc: Global,
-    file: PositionFile,
-    depth: u32,
-    nodes: u64,
-) -> Result<Answer, AllocError>
-    requires kind { file.kind ≡ R.KIND }
-    requires lawful { IsPosition file.kind file.board }
-    requires some_depth { 1 ≤ depth }
-    requires depth_fits { depth ≤ MAX_DEPTH }
-    requires some_nodes { 1 ≤ nodes }
-    ensures says { IfOk result (λ answer. DefenceSays depth nodes file answer.status answer.text) }
-{
-    let mut position = Position::<R>::new(file.board);
+    let mut view = position;
     let mut compiler = Compiler::new(alloc);
-    match defences::<R, Position<R>>(alloc, &mut position, depth, nodes, &mut compiler) {
+    match defences::<R, Position<R>>(alloc, &mut view, depth, nodes, &mut compiler) {
         Ok(DefenceAnswer::Known { good, bad }) => {
             if good.len() > 0 {
                 return listed(alloc, &good);
             }
-            let board = position.into_board();
+            let board = view.into_board();
             lost(alloc, R::KIND, &board, compiler, &bad)
         }
         Ok(DefenceAnswer::Spent { at }) => spent_after(alloc, at),

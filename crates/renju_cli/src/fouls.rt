@@ -5,18 +5,16 @@
 
 ghost use Rattle.std.specs.Prelude.{◌≡◌, ◌∷◌, ◌++◌, codes, map, IfOk, MatchOption, string_bytes};
 ghost use Rattle.std.specs.List.{flat_map};
-ghost use Rattle.game_rules.specs.Play.{IsPosition, mover};
+ghost use Rattle.game_rules.specs.Play.{mover};
 ghost use Rattle.renju_cli.specs.Commands.{IsForm, HasForm};
 ghost use Rattle.renju_cli.specs.Fouls.{IsFoulList, foul_point as foul_point_lem, black_fouls as black_fouls_lem, fouls_of_mover, foul_line, fouls_text as fouls_text_lem};
 
 use crate::answer::Answer;
-use crate::refusals::refused_text;
-use crate::told::Told;
+use crate::positions::AtPosition;
 use crate::{Form, Status};
 use foul_judge::{Foul, Position, Seen, foul_at};
 use game_referee::foul_word;
-use position_files::{PositionFile, read_position};
-use row_shapes::{Rule, under_rule};
+use row_shapes::Rule;
 use std::alloc::{AllocError, Global};
 use stone_board::{Board, Point, Side};
 use text_lines::{push_line, push_spaced_point};
@@ -42,36 +40,23 @@ pub(crate) fn form(rest: &[String]) -> Option<Form>
 #[derive(Clone, Copy)]
 pub(crate) struct ListFouls;
 
-impl Told for ListFouls {
-    ghost use Rattle.renju_cli.specs.Fouls.{FoulSays};
+impl AtPosition for ListFouls {
+    ghost use Rattle.renju_cli.specs.Fouls.{IsFoulList};
 
     ghost in_range = { λ c. Unit {0} };
 
-    ghost says = { λ c. FoulSays };
+    ghost says = { λ c. IsFoulList };
 
-    fn say(&self, alloc: Global, bytes: &[u8]) -> Result<Answer, AllocError> {
-        match read_position(alloc, bytes) {
-            Ok(file) => list_fouls(alloc, file),
-            Err(error) => refused_text(alloc, error),
-        }
+    fn say_at<R: Rule>(&self, alloc: Global, position: Position<R>) -> Result<Answer, AllocError> {
+        let fouls = mover_fouls(alloc, position)?;
+        Ok(Answer::told(Status::Done, fouls_text(alloc, fouls.as_slice())?))
     }
 }
 
-/// The list of the fouls of a position.
-fn list_fouls(alloc: Global, file: PositionFile) -> Result<Answer, AllocError>
-    requires lawful { IsPosition file.kind file.board }
-    ensures list { IfOk result (λ answer. IsFoulList file answer.status answer.text) }
-{
-    let fouls = under_rule!(file.kind, mover_fouls(alloc, file.board))?;
-    Ok(Answer::told(Status::Done, fouls_text(alloc, fouls.as_slice())?))
-}
-
 /// The fouls of the side to move.
-fn mover_fouls<R: Rule>(alloc: Global, board: Board) -> Result<Vec<FoulPoint>, AllocError>
-    requires lawful { IsPosition R.KIND board }
-    ensures fouls { IfOk result (λ fouls. fouls.items ≡ fouls_of_mover (mover board) R.KIND board) }
+fn mover_fouls<R: Rule>(alloc: Global, position: Position<R>) -> Result<Vec<FoulPoint>, AllocError>
+    ensures fouls { IfOk result (λ fouls. fouls.items ≡ fouls_of_mover (mover position) R.KIND position) }
 {
-    let position = Position::<R>::new(board);
     match position.side() {
         Side::Black => {
             let mut board = position.into_board();

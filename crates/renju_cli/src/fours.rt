@@ -5,7 +5,6 @@
 #![tactic(auto)]
 
 ghost use Rattle.std.specs.Prelude.{◌≡◌, ◌≤◌, ◌∷◌, ℕ, codes, map, IfOk, MatchOption, string_bytes};
-ghost use Rattle.game_rules.specs.Play.{IsPosition};
 ghost use Rattle.strategy_compiler.specs.Wins.{IsWrittenWin};
 ghost use Rattle.four_search.specs.Answers.{IsFourWin};
 ghost use Rattle.renju_cli.specs.Commands.{IsForm, HasForm};
@@ -14,14 +13,13 @@ ghost use Rattle.renju_cli.specs.Solves.{IsWinText};
 
 use crate::answer::{Answer, spent};
 use crate::numbers::two_counts;
-use crate::refusals::refused_text;
-use crate::told::Told;
+use crate::positions::AtPosition;
 use crate::{Form, MAX_SEARCHED, Status};
 use foul_judge::Position;
 use four_search::{FourAnswer, MAX_DEPTH, four_search};
 use game_rules::RuleKind;
-use position_files::{PositionFile, read_position, write_table};
-use row_shapes::{Rule, under_rule};
+use position_files::write_table;
+use row_shapes::Rule;
 use std::alloc::{AllocError, Global};
 use stone_board::Board;
 use strategy_compiler::{Compiler, SearchError, WrittenWin};
@@ -45,61 +43,36 @@ pub(crate) struct Fours {
     pub nodes: u64,
 }
 
-impl Told for Fours {
-    ghost use Rattle.std.specs.Prelude.{◌≤◌};
-    ghost use Rattle.four_search.specs.declared.TheConstants.{MAX_DEPTH};
-    ghost use Rattle.renju_cli.specs.declared.TheConstants.{MAX_SEARCHED};
-    ghost use Rattle.renju_cli.specs.Fours.{FoursSays};
+impl AtPosition for Fours {
+    ghost use Rattle.renju_cli.specs.Fours.{AreLimits, SearchSays};
 
-    ghost in_range = { λ c. (1 ≤ c.depth) × (c.depth ≤ MAX_DEPTH) × (1 ≤ c.nodes) × (c.nodes ≤ MAX_SEARCHED) };
+    ghost in_range = { λ c. AreLimits c.depth c.nodes };
 
-    ghost says = { λ c. FoursSays c.depth c.nodes };
+    ghost says = { λ c. SearchSays c.depth c.nodes };
 
-    fn say(&self, alloc: Global, bytes: &[u8]) -> Result<Answer, AllocError> {
-        match read_position(alloc, bytes) {
-            Ok(file) => search_file(alloc, file, self.depth, self.nodes),
-            Err(error) => refused_text(alloc, error),
-        }
+    fn say_at<R: Rule>(&self, alloc: Global, position: Position<R>) -> Result<Answer, AllocError> {
+        search(alloc, position, self.depth, self.nodes)
     }
 }
 
 /// What is said of a position.
-fn search_file(
+fn search<R: Rule>(
     alloc: Global,
-    file: PositionFile,
+    position: Position<R>,
     depth: u32,
     nodes: u64,
 ) -> Result<Answer, AllocError>
-    requires lawful { IsPosition file.kind file.board }
     requires some_depth { 1 ≤ depth }
     requires depth_fits { depth ≤ MAX_DEPTH }
     requires some_nodes { 1 ≤ nodes }
-    ensures says { IfOk result (λ answer. SearchSays depth nodes file answer.status answer.text) }
+    ensures says { IfOk result (λ answer. SearchSays depth nodes (record { kind = R.KIND; board = position }) answer.status answer.text) }
 {
-    under_rule!(file.kind, search_under(alloc, file, depth, nodes))
-}
-
-/// The same under the rule of the text.
-fn search_under<R: Rule>(
-    alloc: Global,
-    file: PositionFile,
-    depth: u32,
-    nodes: u64,
-) -> Result<Answer, AllocError>
-    requires kind { file.kind ≡ R.KIND }
-    requires lawful { IsPosition file.kind file.board }
-    requires some_depth { 1 ≤ depth }
-    requires depth_fits { depth ≤ MAX_DEPTH }
-    requires some_nodes { 1 ≤ nodes }
-    ensures says { IfOk result (λ answer. SearchSays depth nodes file answer.status answer.text) }
-{
-    let PositionFile { kind, board } = file;
-    let mut position = Position::<R>::new(board);
+    let mut view = position;
     let mut compiler = Compiler::new(alloc);
-    match four_search::<R, Position<R>>(alloc, &mut position, depth, nodes, &mut compiler) {
+    match four_search::<R, Position<R>>(alloc, &mut view, depth, nodes, &mut compiler) {
         Ok(FourAnswer::Win(win)) => {
-            let board = position.into_board();
-            win_text(alloc, kind, &board, compiler, win)
+            let board = view.into_board();
+            win_text(alloc, R::KIND, &board, compiler, win)
         }
         Ok(FourAnswer::None) => Ok(none()),
         Ok(FourAnswer::Spent) => Ok(spent()),

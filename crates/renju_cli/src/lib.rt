@@ -1,8 +1,9 @@
 //! The program `renju` as one call from words and bytes to bytes and a status.
 //!
 //! Each command has a file here and one in `specs/`: its words, what it says of its input, and when it is sure to answer.
-//! `commands` lists them. A command that is told its whole input is run by `told`, which knows none of them; one that is
-//! served its input, as `brain`, or reads none, as `drill`, runs by itself. `run` has the one public call.
+//! `commands` lists them. A command that is told its whole input is run by `told`, and one that is told a position by `positions`
+//! over it; neither knows the commands. One that is served its input, as `brain`, or reads none, as `drill`, runs by itself.
+//! `run` has the one public call.
 #![tactic(auto)]
 
 mod answer;
@@ -18,6 +19,7 @@ mod fours;
 mod image;
 mod loading;
 mod numbers;
+mod positions;
 mod referee;
 mod refusals;
 mod run;

@@ -4,11 +4,13 @@
 //! table. Each refusal of FILE comes before the input is asked. `bind` takes tables that are accepted, and holds none.
 #![tactic(auto)]
 
-ghost use Rattle.std.specs.Prelude.{◌≡◌, true, length, IfOk};
+ghost use Rattle.std.specs.Prelude.{◌≡◌, true, length, IfOk, OnErr};
 ghost use Rattle.game_rules.specs.Play.{IsPosition};
 ghost use Rattle.strategy_graph.specs.Roots.{root_below, root_depth};
 ghost use Rattle.table_book.specs.Books.{IsWellFormed};
-ghost use Rattle.renju_cli.specs.Loading.{IsLoadedBook, IsLoadedBookText, IsLoadedFile, IsLoadedHeld, IsLoadedText};
+ghost use Rattle.renju_io.specs.Faults.{HasNotFallen, HasStayed};
+ghost use Rattle.renju_cli.specs.Runs.{IsAskedOnly, change};
+ghost use Rattle.renju_cli.specs.Loading.{IsLoadedAs, IsLoadedBook, IsLoadedBookText, IsLoadedFile, IsLoadedFrom, IsLoadedHeld, IsLoadedText};
 ghost use Rattle.renju_cli.specs.Binders.{IsFittedFile, IsFittedText};
 
 use crate::Status;
@@ -16,9 +18,11 @@ use crate::answer::{Answer, spent};
 use crate::book::{refused_book, refused_entry};
 use crate::check::refused_table;
 use crate::refusals::refused_text;
+use crate::told::TOO_LONG;
 use brain_session::BRAIN_WORK;
 use foul_judge::Position;
 use position_files::{TableFile, read_table};
+use renju_io::{LoadError, Shelf};
 use row_shapes::{Rule, under_rule};
 use std::alloc::{AllocError, Global};
 use strategy_checker::{Held, HeldError, Verdict, check_root};
@@ -41,8 +45,49 @@ pub(crate) enum Fitted {
     Tells(Answer),
 }
 
+/// What the text of a FILE that is to be held may be.
+#[derive(Clone, Copy, Debug, PartialEq, Eq)]
+pub(crate) enum Holdable {
+    Table,
+    TableOrBook,
+}
+
+/// What comes of FILE: the shelf is asked for it once, and what its bytes give is held, or it is told why not.
+pub(crate) fn load_file<F: Shelf>(
+    alloc: Global,
+    holdable: Holdable,
+    file: &str,
+    shelf: &mut F,
+) -> Result<Loaded, AllocError>
+    ensures loaded { IfOk result (IsLoadedFrom holdable (change F.files F.faults F.asked shelf.old shelf.new) file.now) }
+    ensures once { IsAskedOnly (change F.files F.faults F.asked shelf.old shelf.new) }
+    ensures shelf { HasNotFallen (F.faults shelf.old) (F.faults shelf.new) }
+    ensures files { F.files shelf.new ≡ F.files shelf.old }
+    ensures memory { OnErr result (HasStayed (F.faults shelf.old) (F.faults shelf.new)) }
+{
+    match shelf.load(alloc, file) {
+        Ok(bytes) => load_text(alloc, holdable, bytes.as_slice()),
+        Err(LoadError::Failed) => Ok(Loaded::Tells(Answer::fixed(
+            Status::ShelfFault,
+            SHELF_FAILED,
+        ))),
+        Err(LoadError::TooLong) => Ok(Loaded::Tells(Answer::fixed(Status::TooLong, TOO_LONG))),
+        Err(LoadError::Memory) => Err(AllocError),
+    }
+}
+
+/// What comes of the text of a FILE that may be so much.
+fn load_text(alloc: Global, holdable: Holdable, bytes: &[u8]) -> Result<Loaded, AllocError>
+    ensures loaded { IfOk result (IsLoadedAs holdable bytes.now) }
+{
+    match holdable {
+        Holdable::Table => load(alloc, bytes),
+        Holdable::TableOrBook => load_any(alloc, bytes),
+    }
+}
+
 /// What comes of the text of a FILE that may be a table or a book, as its first line tells.
-pub(crate) fn load_any(alloc: Global, bytes: &[u8]) -> Result<Loaded, AllocError>
+fn load_any(alloc: Global, bytes: &[u8]) -> Result<Loaded, AllocError>
     ensures loaded { IfOk result (IsLoadedHeld bytes.now) }
 {
     if is_book(bytes) {
@@ -74,7 +119,7 @@ fn hold_entries(alloc: Global, book: Book) -> Result<Loaded, AllocError>
 }
 
 /// What comes of the text of a FILE that is to be a table.
-pub(crate) fn load(alloc: Global, bytes: &[u8]) -> Result<Loaded, AllocError>
+fn load(alloc: Global, bytes: &[u8]) -> Result<Loaded, AllocError>
     ensures loaded { IfOk result (IsLoadedText bytes.now) }
 {
     match read_table(alloc, bytes) {

@@ -16,14 +16,14 @@ ghost use Rattle.renju_cli.specs.Referees.{IsCompared, IsJudged, IsRefereeWith, 
 ghost use Rattle.renju_cli.specs.Commands.{IsForm, HasForm};
 
 use crate::answer::{Answer, Text};
-use crate::loading::{Loaded, SHELF_FAILED, load};
+use crate::loading::{Holdable, Loaded, load_file};
 use crate::refusals::refused_text;
-use crate::told::{TOO_LONG, Told, deliver, tell};
+use crate::told::{Told, deliver, tell};
 use crate::{Form, Status};
 use foul_judge::{Position, Seen};
 use game_referee::{ReplayAnswer, judge, replay, write_verdict};
 use position_files::{FileError, GameError, GameFile, read_game};
-use renju_io::{LoadError, Shelf, Sink, Source};
+use renju_io::{Shelf, Sink, Source};
 use row_shapes::{Rule, under_rule};
 use std::alloc::{AllocError, Global};
 use stone_board::Point;
@@ -102,15 +102,10 @@ pub(crate) fn referee_with<I: Source, O: Sink, F: Shelf>(
     ensures loads { status_number result ≢ status_number Status.ShelfFault → status_number result ≢ status_number Status.WriteFault
         → HasStayed (F.faults shelf.old) (F.faults shelf.new) }
 {
-    match shelf.load(alloc, file) {
-        Ok(bytes) => match load(alloc, bytes.as_slice()) {
-            Ok(Loaded::Holds(held)) => tell(alloc, &RefereeBy { held: &held }, input, output),
-            Ok(Loaded::Tells(answer)) => deliver(answer.status, answer.text.as_slice(), output),
-            Err(_) => Status::Memory,
-        },
-        Err(LoadError::Failed) => deliver(Status::ShelfFault, SHELF_FAILED.as_bytes(), output),
-        Err(LoadError::TooLong) => deliver(Status::TooLong, TOO_LONG.as_bytes(), output),
-        Err(LoadError::Memory) => Status::Memory,
+    match load_file(alloc, Holdable::Table, file, shelf) {
+        Ok(Loaded::Holds(held)) => tell(alloc, &RefereeBy { held: &held }, input, output),
+        Ok(Loaded::Tells(answer)) => deliver(answer.status, answer.text.as_slice(), output),
+        Err(_) => Status::Memory,
     }
 }
 

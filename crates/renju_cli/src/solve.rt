@@ -6,7 +6,6 @@
 #![tactic(auto)]
 
 ghost use Rattle.std.specs.Prelude.{◌≡◌, ◌≤◌, ◌∷◌, List, codes, map, IfOk, MatchOption, string_bytes};
-ghost use Rattle.game_rules.specs.Play.{IsPosition};
 ghost use Rattle.threat_moves.specs.declared.threat_list.Threat.{Threat};
 ghost use Rattle.renju_cli.specs.Commands.{IsForm, HasForm};
 ghost use Rattle.renju_cli.specs.Solves.{SolutionSays, IsWonByFours, IsFirstLine, IsLeftOver, full_line};
@@ -14,16 +13,14 @@ ghost use Rattle.renju_cli.specs.Solves.{SolutionSays, IsWonByFours, IsFirstLine
 use crate::answer::{Answer, spent};
 use crate::fours::{none, win_text};
 use crate::numbers::two_counts;
-use crate::refusals::refused_text;
-use crate::told::Told;
+use crate::positions::AtPosition;
 use crate::{Form, MAX_SEARCHED, Status};
 use foul_judge::{Position, Seen};
 use four_search::{FourAnswer, MAX_DEPTH, four_search};
 use line_proof::{LineAnswer, prove_line};
-use position_files::{PositionFile, read_position};
 use proof_number::{ProofAnswer, proof_number};
 use proof_tree::ProofTree;
-use row_shapes::{Rule, under_rule};
+use row_shapes::Rule;
 use std::alloc::{AllocError, Global};
 use strategy_compiler::{Compiler, SearchError};
 use threat_moves::Threats;
@@ -47,65 +44,41 @@ pub(crate) struct Solve {
     pub nodes: u64,
 }
 
-impl Told for Solve {
-    ghost use Rattle.std.specs.Prelude.{◌≤◌};
-    ghost use Rattle.four_search.specs.declared.TheConstants.{MAX_DEPTH};
-    ghost use Rattle.renju_cli.specs.declared.TheConstants.{MAX_SEARCHED};
-    ghost use Rattle.renju_cli.specs.Solves.{SolveSays};
+impl AtPosition for Solve {
+    ghost use Rattle.renju_cli.specs.Fours.{AreLimits};
+    ghost use Rattle.renju_cli.specs.Solves.{SolutionSays};
 
-    ghost in_range = { λ c. (1 ≤ c.depth) × (c.depth ≤ MAX_DEPTH) × (1 ≤ c.nodes) × (c.nodes ≤ MAX_SEARCHED) };
+    ghost in_range = { λ c. AreLimits c.depth c.nodes };
 
-    ghost says = { λ c. SolveSays c.depth c.nodes };
+    ghost says = { λ c. SolutionSays c.depth c.nodes };
 
-    fn say(&self, alloc: Global, bytes: &[u8]) -> Result<Answer, AllocError> {
-        match read_position(alloc, bytes) {
-            Ok(file) => solve_file(alloc, file, self.depth, self.nodes),
-            Err(error) => refused_text(alloc, error),
-        }
+    fn say_at<R: Rule>(&self, alloc: Global, position: Position<R>) -> Result<Answer, AllocError> {
+        by_fours(alloc, position, self.depth, self.nodes)
     }
 }
 
-/// What is said of a position.
-fn solve_file(
+/// What is said of a position: what the first step comes to, and else the later ones.
+fn by_fours<R: Rule>(
     alloc: Global,
-    file: PositionFile,
+    position: Position<R>,
     depth: u32,
     nodes: u64,
 ) -> Result<Answer, AllocError>
-    requires lawful { IsPosition file.kind file.board }
     requires some_depth { 1 ≤ depth }
     requires depth_fits { depth ≤ MAX_DEPTH }
     requires some_nodes { 1 ≤ nodes }
     requires nodes_fit { nodes ≤ MAX_SEARCHED }
-    ensures says { IfOk result (λ answer. SolutionSays depth nodes file answer.status answer.text) }
+    ensures says { IfOk result (λ answer. SolutionSays depth nodes (record { kind = R.KIND; board = position }) answer.status answer.text) }
 {
-    under_rule!(file.kind, solve_under(alloc, file, depth, nodes))
-}
-
-/// The same under the rule of the text: the first step, and else the later ones.
-fn solve_under<R: Rule>(
-    alloc: Global,
-    file: PositionFile,
-    depth: u32,
-    nodes: u64,
-) -> Result<Answer, AllocError>
-    requires kind { file.kind ≡ R.KIND }
-    requires lawful { IsPosition file.kind file.board }
-    requires some_depth { 1 ≤ depth }
-    requires depth_fits { depth ≤ MAX_DEPTH }
-    requires some_nodes { 1 ≤ nodes }
-    requires nodes_fit { nodes ≤ MAX_SEARCHED }
-    ensures says { IfOk result (λ answer. SolutionSays depth nodes file answer.status answer.text) }
-{
-    let mut position = Position::<R>::new(file.board);
+    let mut view = position;
     let mut compiler = Compiler::new(alloc);
-    match four_search::<R, Position<R>>(alloc, &mut position, depth, nodes, &mut compiler) {
+    match four_search::<R, Position<R>>(alloc, &mut view, depth, nodes, &mut compiler) {
         Ok(FourAnswer::Win(win)) => {
-            let board = position.into_board();
+            let board = view.into_board();
             win_text(alloc, R::KIND, &board, compiler, win)
         }
-        Ok(FourAnswer::None) => by_line(alloc, position, depth, nodes),
-        Ok(FourAnswer::Spent) => by_line(alloc, position, depth, nodes),
+        Ok(FourAnswer::None) => by_line(alloc, view, depth, nodes),
+        Ok(FourAnswer::Spent) => by_line(alloc, view, depth, nodes),
         Err(SearchError::Full) => unreachable!(),
         Err(SearchError::Memory) => Err(AllocError),
     }

@@ -7,19 +7,16 @@
 
 ghost use Rattle.std.specs.Prelude.{◌≡◌, ◌≤◌, ◌∷◌, ◌++◌, codes, map, IfOk, MatchOption, string_bytes};
 ghost use Rattle.std.specs.List.{flat_map};
-ghost use Rattle.game_rules.specs.Play.{IsPosition};
 ghost use Rattle.renju_cli.specs.Commands.{IsForm, HasForm};
 ghost use Rattle.renju_cli.specs.Threats.{SequenceSays, kind_word as kind_word_lem, axis_word as axis_word_lem, threat_line, sequence_text as sequence_text_lem};
 
 use crate::answer::{Answer, spent};
 use crate::fours::none;
 use crate::numbers::two_counts;
-use crate::refusals::refused_text;
-use crate::told::Told;
+use crate::positions::AtPosition;
 use crate::{Form, MAX_SEARCHED, Status};
 use foul_judge::{Position, Seen};
-use position_files::{PositionFile, read_position};
-use row_shapes::{Rule, under_rule};
+use row_shapes::Rule;
 use std::alloc::{AllocError, Global};
 use stone_board::{Axis, Point};
 use text_lines::{push_points, push_spaced_point};
@@ -44,52 +41,30 @@ pub(crate) struct FindSequence {
     pub nodes: u64,
 }
 
-impl Told for FindSequence {
-    ghost use Rattle.renju_cli.specs.Threats.{AreLengthAndNodes, ThreatsSays};
+impl AtPosition for FindSequence {
+    ghost use Rattle.renju_cli.specs.Threats.{AreLengthAndNodes, SequenceSays};
 
     ghost in_range = { λ c. AreLengthAndNodes c.length c.nodes };
 
-    ghost says = { λ c. ThreatsSays c.length c.nodes };
+    ghost says = { λ c. SequenceSays c.length c.nodes };
 
-    fn say(&self, alloc: Global, bytes: &[u8]) -> Result<Answer, AllocError> {
-        match read_position(alloc, bytes) {
-            Ok(file) => search_file(alloc, file, self.length, self.nodes),
-            Err(error) => refused_text(alloc, error),
-        }
+    fn say_at<R: Rule>(&self, alloc: Global, position: Position<R>) -> Result<Answer, AllocError> {
+        search(alloc, position, self.length, self.nodes)
     }
 }
 
 /// What is said of a position.
-fn search_file(
+fn search<R: Rule>(
     alloc: Global,
-    file: PositionFile,
+    position: Position<R>,
     length: u32,
     nodes: u64,
 ) -> Result<Answer, AllocError>
-    requires lawful { IsPosition file.kind file.board }
     requires some_length { 1 ≤ length }
     requires length_fits { length ≤ MAX_LENGTH }
     requires some_nodes { 1 ≤ nodes }
-    ensures says { IfOk result (λ answer. SequenceSays length nodes file answer.status answer.text) }
+    ensures says { IfOk result (λ answer. SequenceSays length nodes (record { kind = R.KIND; board = position }) answer.status answer.text) }
 {
-    under_rule!(file.kind, search_under(alloc, file, length, nodes))
-}
-
-/// The same under the rule of the text.
-fn search_under<R: Rule>(
-    alloc: Global,
-    file: PositionFile,
-    length: u32,
-    nodes: u64,
-) -> Result<Answer, AllocError>
-    requires kind { file.kind ≡ R.KIND }
-    requires lawful { IsPosition file.kind file.board }
-    requires some_length { 1 ≤ length }
-    requires length_fits { length ≤ MAX_LENGTH }
-    requires some_nodes { 1 ≤ nodes }
-    ensures says { IfOk result (λ answer. SequenceSays length nodes file answer.status answer.text) }
-{
-    let position = Position::<R>::new(file.board);
     let side = position.side();
     let mut board = position.into_board();
     match threat_space::<R>(alloc, &mut board, side, length, nodes)? {

@@ -5,15 +5,15 @@ use Rattle.strategy_compiler.specs.Wins.{IsWrittenWin}
 use Rattle.four_search.specs.Answers.{OnWin, IsFourWin}
 use Rattle.four_search.specs.declared.answer.FourAnswer.{FourAnswer}
 use Rattle.renju_cli.specs.Fours.{IsFourText}
-use Rattle.renju_cli.specs.Solves.{IsWinText, SolutionSays}
-use Rattle.renju_cli.proofs.PositionLaws.{file_at, said-of-file}
+use Rattle.renju_cli.specs.Solves.{IsWinText}
+use Rattle.renju_cli.proofs.PositionLaws.{file_at}
 use Rattle.renju_cli.proofs.Solutions.{first-says}
-use Rattle.renju_cli.proofs.solve.solve_under.Goals as goal
+use Rattle.renju_cli.proofs.solve.by_fours.Goals as goal
 
 pub returns-in-Ok-Win : goal.returns-in-Ok-Win
 returns-in-Ok-Win g c =
     let rule = g.R.Rule.KIND in
-    let p = c.new-position.result in
+    let p = c.args.position in
     let b = c.into_board-board.result in
     let compiled = c.four_search.new.compiler in
     let win = c.in-Ok-Win.win in
@@ -30,10 +30,8 @@ returns-in-Ok-Win g c =
     subst (λ (k : RuleKind). IfOk c.win_text.result
     (λ a. (limit : ℕ) → IsWrittenWin k limit b compiled win → IsWinText limit (file_at k b) a.text)) c.KIND.ensures
     c.win_text.ensures.shown in
-    let says = first-says c.win_text.result c.args.depth c.args.nodes rule p b there compiled win is
-    (λ above. let spent = c.in-Ok-Win.ensures.spent.1 above in let not = c.in-Ok-Win.field-0-is in absurd (cc))
-    c.win_text.ensures.status text shown in
     record {
-      says = said-of-file (SolutionSays c.args.depth c.args.nodes) c.win_text.result c.args.file rule p c.requires.kind
-          c.new-position.ensures.position says;
+      says = first-says c.win_text.result c.args.depth c.args.nodes rule p b there compiled win is
+          (λ above. let spent = c.in-Ok-Win.ensures.spent.1 above in let not = c.in-Ok-Win.field-0-is in absurd (cc))
+          c.win_text.ensures.status text shown;
     }

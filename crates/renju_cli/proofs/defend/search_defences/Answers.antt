@@ -8,20 +8,20 @@ use Rattle.strategy_graph.specs.declared.TheConstants.{MAX_NODES}
 use Rattle.defence_finder.specs.Defences.{defences_of, first_spent}
 use Rattle.defence_finder.specs.Answers.{AreBeaten, OnKnown, most_nodes, spent_at}
 use Rattle.defence_finder.specs.declared.finder.DefenceAnswer.{DefenceAnswer}
-use Rattle.renju_cli.specs.Defends.{DefenceSays, IsLostText}
+use Rattle.renju_cli.specs.Defends.{IsLostText}
 use Rattle.renju_cli.proofs.DefendLaws.{few-nodes, lost-says}
-use Rattle.renju_cli.proofs.PositionLaws.{file_at, said-of-file}
-use Rattle.renju_cli.proofs.defend.defend_under.Goals as goal
+use Rattle.renju_cli.proofs.PositionLaws.{file_at}
+use Rattle.renju_cli.proofs.defend.search_defences.Goals as goal
 
 -- a new compiler has room for what may be added
 pub unreachable-requires : goal.unreachable-requires
 unreachable-requires g c =
     let n = c.args.depth in
-    let p = c.new-position.result in
+    let p = c.args.position in
     let more = c.in-Err-Full.ensures.writes.full (ap Err c.in-Err-Full.field-0-is) in
     let none : MAX_NODES < length {A = Node} [] + most_nodes n p =
     subst (λ (t : List Node). MAX_NODES < length t + most_nodes n p) c.new-compiler.ensures.empty more in
-    let board : IsBoard p = subst IsBoard (sym c.new-position.ensures.position) c.requires.lawful.board in
+    let board : IsBoard p = c.requires.lawful.board in
     let fits = c.requires.depth_fits in
     let few = few-nodes n p fits board in
     omega (arith, none, few)
@@ -30,7 +30,7 @@ pub returns-else-len-gt0 : goal.returns-else-len-gt0
 returns-else-len-gt0 g c =
     let rule = g.R.Rule.KIND in
     let n = c.args.depth in
-    let p = c.new-position.result in
+    let p = c.args.position in
     let b = c.into_board-board.result in
     let t = c.defences.new.compiler in
     let good = c.in-Ok-Known.good in
@@ -51,8 +51,6 @@ returns-else-len-gt0 g c =
     subst (λ (k : RuleKind). IfOk c.lost.result (λ a. (limit : ℕ) → defences_of k limit b ≡ [] → AreBeaten k limit b t bad
     → IsLostText limit (file_at k b) a.text))
     c.KIND.ensures c.lost.ensures.text in
-    let says = lost-says n c.args.nodes rule p c.lost.result b t bad there none enough beaten c.lost.ensures.status text in
     record {
-      says = said-of-file (DefenceSays n c.args.nodes) c.lost.result c.args.file rule p c.requires.kind c.new-position.ensures.position
-          says;
+      says = lost-says n c.args.nodes rule p c.lost.result b t bad there none enough beaten c.lost.ensures.status text;
     }
