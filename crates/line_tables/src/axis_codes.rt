@@ -22,6 +22,13 @@ pub(crate) enum Change {
     Lift,
 }
 
+/// A stone that comes or goes: its point and its side.
+#[derive(Clone, Copy)]
+struct Stone {
+    at: Point,
+    side: Side,
+}
+
 /// The codes of one point on one axis, as Black and as White see its neighbours.
 #[derive(Clone, Copy, Debug, PartialEq, Eq)]
 pub(crate) struct Codes {
@@ -72,8 +79,9 @@ pub(crate) fn follow<R: Rule>(
     requires told { TellsAxis R.KIND board.now axis codes.old }
     ensures told { TellsAxis R.KIND (changed change board.now side p) axis codes.new }
 {
-    follow_way::<R>(codes, board, axis, Way::Ahead, p, side, change);
-    follow_way::<R>(codes, board, axis, Way::Behind, p, side, change);
+    let stone = Stone { at: p, side };
+    follow_way::<R>(codes, board, axis, Way::Ahead, stone, change);
+    follow_way::<R>(codes, board, axis, Way::Behind, stone, change);
 }
 
 /// The same in the codes of the neighbours in one way: first of those ahead, then of those behind.
@@ -83,15 +91,17 @@ fn follow_way<R: Rule>(
     board: &Board,
     axis: Axis,
     way: Way,
-    p: Point,
-    side: Side,
+    stone: Stone,
     change: Change,
 )
-    requires can { IsTrue (can_change change board.now side p) }
-    requires told { TellsSoFar R.KIND board.now (changed change board.now side p) axis (followed way board.now axis p 0) codes.old }
-    ensures told { TellsSoFar R.KIND board.now (changed change board.now side p) axis (followed way board.now axis p (neighbours_in way board.now axis p)) codes.new }
+    requires can { IsTrue (can_change change board.now stone.side stone.at) }
+    requires told { TellsSoFar R.KIND board.now (changed change board.now stone.side stone.at) axis
+        (followed way board.now axis stone.at 0) codes.old }
+    ensures told { TellsSoFar R.KIND board.now (changed change board.now stone.side stone.at) axis
+        (followed way board.now axis stone.at (neighbours_in way board.now axis stone.at)) codes.new }
     ensures board { IsBoard board.now }
 {
+    let Stone { at: p, side } = stone;
     let width = board.width();
     let weights = weights_of::<R>(way, side);
     let start = p.y as usize * width as usize + p.x as usize;
