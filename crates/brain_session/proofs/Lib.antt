@@ -24,6 +24,8 @@ mod RowCases
 pub mod BatchGames
 -- steps of the brain by the rows of their commands
 pub mod Takings
+-- the room of a batch
+mod BatchRoom
 -- what a session says and where it stands, command by command; how a session over devices goes on and ends
 pub mod SessionLaws
 mod Serving

@@ -48,7 +48,7 @@ turn-takes (Ok x) s place new rule at p here by_wish none point rows =
     (subst (λ (b : Option Batch). Takes (turn_row s place p) s x (record s { place = new; batch = b })) (sym unread) row)
 
 -- a point that the brain was told is on the board
-told-on : (b : Grid) (p : Point) (at : Option Point) → IsPointOn b p at → IfSome at (λ q. is_on b q ≡ true)
+pub told-on : (b : Grid) (p : Point) (at : Option Point) → IsPointOn b p at → IfSome at (λ q. is_on b q ≡ true)
 told-on b p None point = tt
 told-on b p (Some q) point = subst (λ (x : Point). is_on b x ≡ true) (sym point.1) point.0
 

@@ -1,13 +1,12 @@
 -- Which steps take no memory.
-use Rattle.std.specs.Prelude.{Bool, true, false, ◌||◌, not, nat_lt, length, Option, Some, None, is_some, is_none}
+use Rattle.std.specs.Prelude.{Bool, true, false, ◌||◌, not, Option, Some, None, is_some, is_none}
 use Rattle.gomocup_text.specs.declared.Command.{Command}
-use Rattle.gomocup_text.specs.declared.Command.TheVariants.{Start, RectStart, Restart, Stone, Done, Begin, Turn}
+use Rattle.gomocup_text.specs.declared.Command.TheVariants.{Start, RectStart, Restart, Done, Begin, Turn}
 use Rattle.strategy_checker.specs.HeldRoots.{HeldTable}
 use Rattle.brain_session.specs.States.{Place, NoBoard, Fresh, InGame, Batch, State}
 use Rattle.brain_session.specs.Batches.{colour_in}
 use Rattle.brain_session.specs.ChosenMoves.{first_node}
 use Rattle.brain_session.specs.Steps.{Row, Reacts, Chooses, rule_of, is_side, row_of}
-use Rattle.brain_session.specs.declared.TheConstants.{MAX_POINTS}
 
 -- whether something is followed in the place
 abbrev pub is_following : Place → Bool
@@ -38,11 +37,6 @@ has_board NoBoard = false
 has_board (Fresh width height) = true
 has_board (InGame g) = true
 
--- whether the batch, if one is read, has fewer stones than the largest board has points
-abbrev pub has_room : Option Batch → Bool
-has_room None = true
-has_room (Some b) = nat_lt (length b.stones) MAX_POINTS
-
 -- whether there is no batch, or one from which no game begins whatever its position: a line of it was bad, or by the numbers of its
 -- stones the brain is not to move
 abbrev pub begins_none : Option Batch → Bool
@@ -51,13 +45,11 @@ begins_none (Some b) = b.bad || is_none (colour_in b.stones)
 
 -- Whether the step takes no memory. A command that begins a board or a game takes some, but one that is refused before: for the size,
 -- for want of a board or of a batch, for a batch that is bad, for a game that runs, for the wish, or as a line that has no place in a
--- batch. So does a stone for which no room is left, and a TURN that the brain is to answer while it follows nothing and no held root
--- applies. All others take none.
+-- batch. So does a TURN that the brain is to answer while it follows nothing and no held root applies. All others take none.
 abbrev pub takes_none : State → Command → Bool
 takes_none s (Start n) = not (is_side n)
 takes_none s (RectStart width height) = not (is_side width) || not (is_side height)
 takes_none s Restart = not (has_board s.place)
-takes_none s (Stone x y field) = has_room s.batch
 takes_none s Done = begins_none s.batch || is_none (rule_of s.wish)
 takes_none s Begin = is_some s.batch || not (is_fresh s.place) || is_none (rule_of s.wish)
 takes_none s (Turn x y) = is_following s.place || is_settled s.held (row_of s (Turn x y))

@@ -4,7 +4,7 @@
 //! for the largest batch is taken once, when the brain begins.
 #![tactic(auto)]
 
-ghost use Rattle.std.specs.Prelude.{◌≡◌, ◌≤◌, ◌<◌, [], Some, None, IsOk, OnOk, OnErr, IfOk, IfSome, length, MatchOption, is_some};
+ghost use Rattle.std.specs.Prelude.{◌≡◌, ◌≤◌, ◌<◌, [], Some, None, false, IfOk, IfSome, IsSome, length, MatchOption, is_some};
 ghost use Rattle.std.specs.Option.{option_map};
 ghost use Rattle.game_rules.specs.declared.TheConstants.{MIN_SIDE, MAX_SIDE};
 ghost use Rattle.brain_session.specs.Running.{StonesFit};
@@ -94,22 +94,21 @@ impl BatchReader {
     }
 
     /// Adds a stone at this point, of the board or off it, with this third number, if it may be added, and else notes that the
-    /// line was bad. Up to `MAX_POINTS` stones no memory is taken; without memory the batch stays as it was.
-    pub(crate) fn add(&mut self, at: Option<Point>, field: u32) -> Result<(), AllocError>
-        ensures added { OnOk result (self.new ≡ option_map (λ b. with_stone_at b at field) self.old) }
-        ensures room { IfSome self.old (λ b. length b.stones < MAX_POINTS → IsOk result) }
-        ensures unchanged { OnErr result (self.new ≡ self.old) }
+    /// line was bad. It takes no memory: where the point is free, fewer stones than `MAX_POINTS` stand on others.
+    pub(crate) fn add(&mut self, at: Option<Point>, field: u32)
+        requires room { IfSome at (λ p. IfSome self.old (λ b. has_stone_at_lem b.stones p ≡ false → length b.stones < MAX_POINTS)) }
+        requires read { IsSome self.old }
+        ensures added { self.new ≡ option_map (λ b. with_stone_at b at field) self.old }
     {
         match at {
             Some(p) if (field == 1 || field == 2) && !has_stone_at(&self.stones, p) => {
-                self.stones.push(BatchStone {
+                self.stones.push_reserved(BatchStone {
                     at: p,
                     own: field == 1,
-                })?;
+                });
             }
             _ => self.bad = true,
         }
-        Ok(())
     }
 
     /// The stones of the batch, and none where no batch is read.

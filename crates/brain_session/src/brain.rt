@@ -9,7 +9,7 @@ ghost use Rattle.brain_session.specs.States.{new_brain, point_at};
 ghost use Rattle.brain_session.specs.Batches.{game_from};
 ghost use Rattle.brain_session.specs.Steps.{Reacts, begin_row, board_in, board_row, brain_step, done_row, is_side as is_side_lem, restart_row, row_of, rule_of as rule_of_lem, start_row, stone_row, takeback_row, turn_row};
 ghost use Rattle.brain_session.specs.Running.{IsBrain, IsPlace};
-ghost use Rattle.brain_session.specs.Memory.{begins_none, has_board, has_room, is_following, is_fresh, is_settled, takes_none};
+ghost use Rattle.brain_session.specs.Memory.{begins_none, has_board, is_following, is_fresh, is_settled, takes_none};
 ghost use Rattle.brain_session.specs.Kept.{IsBegun, IsPointOn, Takes, has_no_place_in_batch as has_no_place_in_batch_lem, held_or_none, is_spoiled, size_in};
 
 use crate::Reaction;
@@ -66,8 +66,8 @@ impl Brain {
     }
 
     /// What the brain does at the command. `Err` says that memory ran out, and then the brain is as before. Memory is taken only
-    /// where a board or a game begins, at a stone for which no room is left, and at a TURN that the brain answers while it follows
-    /// nothing and no held root settles it; not where such a command is refused, but for a position that is unlawful.
+    /// where a board or a game begins, and at a TURN that the brain answers while it follows nothing and no held root settles it;
+    /// not where such a command is refused, but for a position that is unlawful.
     pub fn step(&mut self, command: &Command) -> Result<Reaction, AllocError>
         ensures reaction { IfOk result (λ r. r ≡ (brain_step self.old command.now).reaction) }
         ensures next { OnOk result (self.new ≡ (brain_step self.old command.now).next) }
@@ -108,7 +108,7 @@ impl Brain {
             Command::Rule(wish) => Ok(self.rule(wish)),
             Command::Info | Command::Blank => Ok(Reaction::Silent),
             Command::Board => Ok(self.board()),
-            Command::Stone(x, y, field) => self.stone(x, y, field),
+            Command::Stone(x, y, field) => Ok(self.stone(x, y, field)),
             Command::Done => self.done(),
             Command::Begin => self.begin(),
             Command::Turn(x, y) => self.turn(x, y),
@@ -193,18 +193,16 @@ impl Brain {
     }
 
     /// A line X,Y,FIELD: a stone of the batch.
-    fn stone(&mut self, x: u32, y: u32, field: u32) -> Result<Reaction, AllocError>
-        ensures row { IfOk result (λ r. Takes (stone_row self.old self.old.batch (point_at x y) field) self.old r self.new) }
-        ensures room { has_room self.old.batch ≡ true → IsOk result }
-        ensures unchanged { OnErr result (self.new ≡ self.old) }
+    fn stone(&mut self, x: u32, y: u32, field: u32) -> Reaction
+        ensures row { Takes (stone_row self.old self.old.batch (point_at x y) field) self.old result self.new }
         ensures running { IsBrain self.new }
     {
         if !self.batch.is_read() {
-            return Ok(Reaction::Says(Answer::Unknown));
+            return Reaction::Says(Answer::Unknown);
         }
         let at = self.point(x, y);
-        self.batch.add(at, field)?;
-        Ok(Reaction::Silent)
+        self.batch.add(at, field);
+        Reaction::Silent
     }
 
     /// DONE: a game is begun from the position of the batch.

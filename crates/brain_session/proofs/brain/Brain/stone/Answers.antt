@@ -2,11 +2,24 @@ use Rattle.std.proofs.Common.{◌≡◌, sym, subst}
 use Rattle.brain_session.specs.States.{State, point_at}
 use Rattle.brain_session.specs.Steps.{board_in}
 use Rattle.brain_session.specs.Kept.{IsPointOn, place_in}
+use Rattle.brain_session.proofs.BatchRoom.{room-for}
 use Rattle.brain_session.proofs.Takings.{stone-running}
 use Rattle.brain_session.proofs.brain.Brain.stone.Goals as goal
 
-pub invariant_of-self-2 : goal.invariant_of-self-2
-invariant_of-self-2 c =
+pub add-requires-clause-room : goal.add-requires-clause-room
+add-requires-clause-room c =
+    let s : State = record {
+      wish = c.self.inside.wish;
+      held = c.self.inside.held;
+      place = place_in c.self.inside.round;
+      batch = c.self.inside.batch;
+    } in
+    let view : s ≡ c.args.self.now = c.self.view_is in
+    room-for s (point_at c.args.x c.args.y) c.point-at.result c.self.invariant
+    (subst (λ (w : State). IsPointOn (board_in w.place) (point_at c.args.x c.args.y) c.point-at.result) (sym view) c.point-at.ensures.point)
+
+pub invariant_of-self : goal.invariant_of-self
+invariant_of-self c =
     let s : State = record {
       wish = c.self.inside.wish;
       held = c.self.inside.held;
@@ -16,7 +29,7 @@ invariant_of-self-2 c =
     let view : s ≡ c.args.self.now = c.self.view_is in
     stone-running s (point_at c.args.x c.args.y) c.point-at.result c.args.field c.add.new.self c.self.invariant
     (subst (λ (w : State). IsPointOn (board_in w.place) (point_at c.args.x c.args.y) c.point-at.result) (sym view) c.point-at.ensures.point)
-    c.in_ok-add.ensures.added
+    c.add.ensures.added
 
 pub returns-clause-running : goal.returns-clause-running
 returns-clause-running c =
@@ -29,4 +42,4 @@ returns-clause-running c =
     let view : s ≡ c.args.self.now = c.self.view_is in
     stone-running s (point_at c.args.x c.args.y) c.point-at.result c.args.field c.add.new.self c.self.invariant
     (subst (λ (w : State). IsPointOn (board_in w.place) (point_at c.args.x c.args.y) c.point-at.result) (sym view) c.point-at.ensures.point)
-    c.in_ok-add.ensures.added
+    c.add.ensures.added

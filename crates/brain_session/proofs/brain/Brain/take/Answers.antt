@@ -38,7 +38,7 @@ returns-in-Board-clause-row c = said-at c.args.self.now c.board.new.self c.args.
 
 pub returns-in-Stone-clause-row : goal.returns-in-Stone-clause-row
 unfolding row_of
-returns-in-Stone-clause-row c = at-command c.stone.result c.args.self.now c.stone.new.self c.args.command.now _ c.in-Stone.is
+returns-in-Stone-clause-row c = said-at c.args.self.now c.stone.new.self c.args.command.now _ c.stone.result c.in-Stone.is
     c.stone.ensures.row
 
 pub returns-in-Done-clause-row : goal.returns-in-Done-clause-row
