@@ -1,4 +1,4 @@
--- Laws of won games: a stronger demand is a stronger win, more moves are no harder, and the test and the fact agree.
+-- Laws of won games: a stronger demand is a stronger win, more moves are no harder, the test and the fact agree, and one side alone wins.
 use Rattle.std.proofs.Common.{◌≡◌, ℕ, zero, suc, ◌≤◌, Bool, true, false, refl, sym, subst, arith, cond, ◌∙◌, ◌<◌, ◌≢◌, ◌&&◌}
 use Rattle.std.specs.List.{list_any, list_all, find}
 use Rattle.std.proofs.lemmas.Bool.{or_left}
@@ -232,3 +232,23 @@ module _ (rule : RuleKind) (demand : Grid → Side → Bool) (c : Grid) (next : 
             all_at c (λ q. loses_or (outcome rule (after c p) q) (next (after (after c p) q))) q h on in
             let no : loses_or (outcome rule (after c p) q) (next (after (after c p) q)) ≡ false = rw (e, none) refl in
             cc
+
+-- ---- one side alone wins
+
+-- a move that wins the game for one side is a reply that does not lose it for the other
+wins-meets : (o : Outcome) (V W : Type 0) → WinsOr o V → LosesOr o W → V × W
+wins-meets Refused V W v w = absurd v
+wins-meets Wins V W v w = absurd w
+wins-meets (Fouls g) V W v w = absurd v
+wins-meets Draws V W v w = absurd v
+wins-meets GoesOn V W v w = (v, w)
+
+-- where the side to move wins, the other side has no win whatever is played first, of whatever kind and within however many moves
+pub one-winner : (first second : Grid → Side → Bool) (rule : RuleKind) (n m : ℕ) (b : Grid) → WinsUnder first rule n b
+    → ((q : Point) → LosesOr (outcome rule b q) (WinsUnder second rule m (after b q))) → ⊥
+one-winner first second rule zero m b wins loses = wins
+one-winner first second rule (suc n) zero b wins loses = (wins-meets (outcome rule b wins.0) _ _ wins.1 (loses wins.0)).1
+one-winner first second rule (suc n) (suc m) b wins loses =
+    let met = wins-meets (outcome rule b wins.0) _ _ wins.1 (loses wins.0) in
+    let next = wins-meets (outcome rule (after b wins.0) met.1.0) _ _ met.1.1 (met.0.1 met.1.0) in
+    one-winner first second rule n m (after (after b wins.0) met.1.0) next.1 next.0.1

@@ -23,7 +23,7 @@ pub mod Outcomes
 pub mod Wins
 pub mod OneLine
 pub mod RunEnds
--- won games: stronger demands, more moves, tests and facts
+-- won games: stronger demands, more moves, tests and facts, and that one side alone wins
 pub mod Games
 -- tests of numbers; cells and their stones; lists of points, and points in reading order; three points
 pub mod Tests

@@ -47,14 +47,6 @@ none-unfound f (x ∷ xs) h = by_test (f x) h (none-unfound f xs) where
   by_test true h rest = cc
   by_test false h rest = rest h
 
-pub list_any-filter : (f g : Point → Bool) (xs : List Point) → list_any f (filter g xs) ≡ list_any (λ x. g x && f x) xs
-list_any-filter f g [] = refl
-list_any-filter f g (x ∷ xs) = by_test (g x) (list_any-filter f g xs) where
-  by_test : (r : Bool) → list_any f (filter g xs) ≡ list_any (λ x. g x && f x) xs
-      → list_any f (cond r (x ∷ filter g xs) (filter g xs)) ≡ ((r && f x) || list_any (λ x. g x && f x) xs)
-  by_test true h = ap (λ r. f x || r) h
-  by_test false h = h
-
 pub found_all : (P : Point → Type 0) (q : Point) (xs : List Point) → All P xs → list_any (is_same_point q) xs ≡ true → P q
 found_all P q [] all h = cc
 found_all P q (x ∷ xs) all h = by_test (is_same_point q x) refl h (found_all P q xs (λ j d l. all (suc j) d (omega arith))) where

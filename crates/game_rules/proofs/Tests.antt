@@ -1,6 +1,6 @@
--- Tests of numbers, pairs of tests, and lists of numbers.
+-- Tests of numbers, pairs of tests, and what holds of each item of a list.
 use Rattle.std.proofs.Common.{◌≡◌, ◌≤◌, Bool, true, false, cond, refl, arith, ℕ, nat_le, ◌<◌, nat_eq, ◌≢◌, nat_lt, List, [], ◌∷◌, ◌++◌}
-use Rattle.std.proofs.Common.{◌||◌}
+use Rattle.std.proofs.Common.{◌||◌, zero, suc, subst, Some, slice_get}
 use Rattle.std.specs.List.{AllByRecursion}
 use Rattle.std.proofs.lemmas.Bool.Decides.{nat_tests}
 
@@ -35,6 +35,12 @@ lt_false x y h = grind (arith, nat_tests)
 pub all_push : {X : Type 0} (Fits : X → Type 0) (vs : List X) (v : X) → AllByRecursion Fits vs → Fits v → AllByRecursion Fits (vs ++ v ∷ [])
 all_push Fits [] v all fit = (fit, tt)
 all_push Fits (u ∷ us) v all fit = (all.0, all_push Fits us v all.1 fit)
+
+-- what holds of the item at a place, where it holds of all
+pub all_get : {X : Type 0} (P : X → Type 0) (xs : List X) (i : ℕ) (x : X) → slice_get xs i ≡ Some x → AllByRecursion P xs → P x
+all_get P [] i x at all = absurd cc
+all_get P (y ∷ xs) zero x at all = let same : y ≡ x = cc in subst P same all.0
+all_get P (y ∷ xs) (suc i) x at all = all_get P xs i x at all.1
 
 pub or_none : (a b : Bool) → (a || b) ≡ false → a ≡ false
 or_none true b h = cc

@@ -17,7 +17,7 @@ use Rattle.game_rules.proofs.Boards.{and_left}
 use Rattle.game_rules.proofs.Axes.{no_axis}
 use Rattle.game_rules.specs.declared.Side.TheVariants.{Black}
 use Rattle.game_rules.proofs.Points.{none_of}
-use Rattle.game_rules.proofs.PointLists.{list_any-filter}
+use Rattle.game_rules.proofs.PointLists.{any-filter}
 
 four_by : (n m : ℕ) → n ≡ m + 1 → nat_eq n 4 ≡ nat_eq m 3
 four_by n m e = by_test (nat_eq m 3) refl where
@@ -84,7 +84,7 @@ module _ (rule : RuleKind) (b : Grid) (d : Axis) (p : Point) where
   pub is_three-free : is_three rule b d p (black_foul rule b) ≡ list_any
       (λ q. is_three_point rule b Black d p q && is_none (black_foul rule b q)) (points_of b)
   unfolding is_three three_points_of
-  is_three-free = list_any-filter (λ q. is_none (black_foul rule b q)) (is_three_point rule b Black d p) (points_of b)
+  is_three-free = any-filter (is_three_point rule b Black d p) (λ q. is_none (black_foul rule b q)) (points_of b)
 
   -- an axis with no three point, as far as it decides, is no three
   pub no_line_points : ((q : Point) → is_line_three_point rule b Black d p q ≡ false) → is_three rule b d p (black_foul rule b) ≡ false

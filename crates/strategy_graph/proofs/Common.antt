@@ -7,10 +7,10 @@ unfoldable pub use Rattle.strategy_graph.specs.Arrivals.{arrivals_within}
 pub use Rattle.strategy_graph.specs.Games.{Drawn, End, EndsWell, IllegalReply, Lost, NoMove, Open, Won, after_attack, after_reply}
 pub use Rattle.strategy_graph.specs.Games.{attacks_at, end_at, if_node, one_later, points_from, points_on}
 unfoldable pub use Rattle.strategy_graph.specs.Games.{attacks, game}
-pub use Rattle.strategy_graph.specs.Laws.{SaysSame, StartSaysSame}
+pub use Rattle.strategy_graph.specs.Laws.{AnswersSaySame, RootSaysSame, SaysSame, StartSaysSame}
 pub use Rattle.strategy_graph.specs.Leads.{AtNode, LeadsStart, ReplyLeads, attack_fault, reply_fault}
 unfoldable pub use Rattle.strategy_graph.specs.Leads.{Leads}
-pub use Rattle.strategy_graph.specs.Renumbered.{renumbered_answers, renumbered_node, renumbered_reply, renumbered_rest}
+pub use Rattle.strategy_graph.specs.Renumbered.{renumbered_answers, renumbered_node, renumbered_reply, renumbered_rest, renumbered_root}
 pub use Rattle.strategy_graph.specs.Roots.{AcceptedRoot, LeadsRoot, RootWins, root_arrivals, root_below, root_depth}
 pub use Rattle.strategy_graph.specs.Same.{same_replies, same_replies_decides}
 pub use Rattle.strategy_graph.specs.Tables.{Answers, AreDepths, IsNode, IsTable, IsTableWithDepths, NamesLower, NamesOnBoard, RepliesOn}

@@ -74,6 +74,12 @@ pub games-end-well : (rule : RuleKind) (t : List Node) (i : ℕ) (b : Grid) (qs 
     → EndsWell (depth t i) (length qs) (game rule t i b qs)
 games-end-well rule t i b qs h = within_ends rule t (suc i) i b qs h
 
+-- with no reply left there is no further attack
+pub none_on : (o : Outcome) (r : Bool) → points_on o (cond r [] []) ≡ []
+none_on GoesOn true = refl
+none_on GoesOn false = refl
+none_on _ r = refl
+
 module _ (rule : RuleKind) (t : List Node) (i : ℕ) (b : Grid) (n : Node) (at : slice_get t i ≡ Some n) where
   -- an attack that wins ends the game, whatever the replies
   pub game-wins : (qs : List Point) → outcome rule b n.attack ≡ WinsNow → game rule t i b qs ≡ Won 1
@@ -86,15 +92,16 @@ module _ (rule : RuleKind) (t : List Node) (i : ℕ) (b : Grid) (n : Node) (at :
   attacks-wins [] o = rw (at, o) refl
   attacks-wins (q ∷ qs) o = rw (at, o) refl
 
+  -- with no reply left, the attack is the last
+  pub attacks-open : attacks rule t i b [] ≡ n.attack ∷ []
+  unfolding attacks
+  attacks-open = rw at (ap (λ (ps : List Point). n.attack ∷ ps) (none_on (outcome rule b n.attack) (is_winning n.rest)))
+
   module _ (o : outcome rule b n.attack ≡ GoesOn) (r : is_winning n.rest ≡ false) where
-    -- with no reply left, the attack is the last
+    -- and the game is open
     pub game-open : game rule t i b [] ≡ Open
     unfolding game
     game-open = rw (at, o, r) refl
-
-    pub attacks-open : attacks rule t i b [] ≡ n.attack ∷ []
-    unfolding attacks
-    attacks-open = rw (at, o, r) refl
 
     module _ (q : Point) (qs : List Point) where
       -- a reply that fouls, or is no move, ends the game
@@ -120,11 +127,6 @@ module _ (rule : RuleKind) (t : List Node) (i : ℕ) (b : Grid) (n : Node) (at :
           → attacks rule t i b (q ∷ qs) ≡ n.attack ∷ attacks rule t j (after (after b n.attack) q) qs
       unfolding attacks
       attacks-next j e w = rw (at, o, r, e, w) refl
-
-pub none_on : (o : Outcome) (r : Bool) → points_on o (cond r [] []) ≡ []
-none_on GoesOn true = refl
-none_on GoesOn false = refl
-none_on _ r = refl
 
 pub first_at : (rule : RuleKind) (b : Grid) (o : Option Node) (n : Node) (next : Node → List Point) → o ≡ Some n
     → (rest : List Point) × (attacks_at rule o b next ≡ n.attack ∷ rest)

@@ -17,6 +17,8 @@ pub mod Copies
 pub mod Starts
 pub mod Renumbering
 pub mod Filling
+-- what says the same as what says the same; roots of tables that grow, or hold copies
+pub mod Saying
 -- accepted nodes and roots win; a line to a fault refutes; one step of a check
 pub mod Soundness
 pub mod Refutation

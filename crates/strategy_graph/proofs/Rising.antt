@@ -199,7 +199,7 @@ kept_all q (r ∷ rs) h =
 abbrev pub AnsweredAsGiven : Answers → List Reply → Type 0
 AnsweredAsGiven a rs = AllByRecursion (λ r. answer a r.at ≡ Some r.next) rs
 
-filter-all : (rs : List Reply) → filter (λ r. true) rs ≡ rs
+pub filter-all : (rs : List Reply) → filter (λ r. true) rs ≡ rs
 filter-all [] = refl
 filter-all (r ∷ rs) = ap (λ (xs : List Reply). r ∷ xs) (filter-all rs)
 

@@ -1,12 +1,14 @@
 -- The laws of tables that the layers above rest on.
-use Rattle.std.specs.Prelude.{◌≡◌, ◌↔◌, ℕ, suc, ◌<◌, true, List, ◌++◌, length, slice_get}
+use Rattle.std.specs.Prelude.{◌≡◌, ◌↔◌, ℕ, suc, ◌<◌, true, List, ◌++◌, length, slice_get, Option, Some, None}
 use Rattle.game_rules.specs.Grid.{Grid}
 use Rattle.game_rules.specs.Games.{WinsWithin, WinsAfter}
 use Rattle.game_rules.specs.declared.RuleKind.{RuleKind}
 use Rattle.game_rules.specs.declared.Point.{Point}
 use Rattle.strategy_graph.specs.declared.Node.{Node}
 use Rattle.strategy_graph.specs.declared.Why.{Why}
-use Rattle.strategy_graph.specs.Tables.{Answers, NamesLower, names_below, node_depth, depth, start_depth}
+use Rattle.strategy_graph.specs.declared.roots.Root.{Root}
+use Rattle.strategy_graph.specs.declared.roots.Root.TheVariants.{Attack, Defend}
+use Rattle.strategy_graph.specs.Tables.{Answers, NamesLower, names_below, node_depth, depth, start_depth, answer}
 use Rattle.strategy_graph.specs.Acceptance.{AcceptedNode, Accepted, AcceptedStart}
 use Rattle.strategy_graph.specs.Arrivals.{arrivals_behind, arrivals, start_arrivals}
 use Rattle.strategy_graph.specs.Games.{game, attacks, EndsWell}
@@ -55,6 +57,21 @@ pub record StartSaysSame (t : List Node) (a : Answers) (u : List Node) (c : Answ
   pub same_arrivals : (rule : RuleKind) (b : Grid) → start_arrivals rule u c b ≡ start_arrivals rule t a b
   pub same_leads : (rule : RuleKind) (b : Grid) (line : List Point) (why : Why)
       → LeadsStart rule u c b line why ↔ LeadsStart rule t a b line why
+
+-- the answers are both there, and the second says in table u what the first says in table t; or neither is there
+abbrev pub AnswersSaySame : List Node → Option ℕ → List Node → Option ℕ → Type 0
+AnswersSaySame t None u None = Unit {0}
+AnswersSaySame t None u (Some j) = ⊥
+AnswersSaySame t (Some i) u None = ⊥
+AnswersSaySame t (Some i) u (Some j) = SaysSame t i u j
+
+-- The root s says with table u what the root r says with table t: its depth, where it is accepted, its arrivals, and its games.
+-- The games of a start are, for each reply, those of the node that answers it, if there is one.
+abbrev pub RootSaysSame : List Node → Root → List Node → Root → Type 0
+RootSaysSame t (Attack i) u (Attack j) = SaysSame t i u j
+RootSaysSame t (Attack i) u (Defend c) = ⊥
+RootSaysSame t (Defend a) u (Attack j) = ⊥
+RootSaysSame t (Defend a) u (Defend c) = StartSaysSame t a u c × ((q : Point) → AnswersSaySame t (answer a q) u (answer c q))
 
 -- a node says the same however the table grows
 abbrev pub GrowthKeeps : Type 0

@@ -4,6 +4,8 @@ use Rattle.strategy_graph.specs.declared.Reply.{Reply}
 use Rattle.strategy_graph.specs.declared.Rest.{Rest}
 use Rattle.strategy_graph.specs.declared.Rest.TheVariants.{Wins, To, Nothing}
 use Rattle.strategy_graph.specs.declared.Node.{Node}
+use Rattle.strategy_graph.specs.declared.roots.Root.{Root}
+use Rattle.strategy_graph.specs.declared.roots.Root.TheVariants.{Attack, Defend}
 use Rattle.strategy_graph.specs.Tables.{Answers}
 
 -- the same rest, with the number f j in place of the node j that it names
@@ -23,3 +25,8 @@ renumbered_answers f a = record { replies = map (renumbered_reply f) a.replies; 
 -- the same node, with the number f j in place of each node j that it names
 abbrev pub renumbered_node : (ℕ → ℕ) → Node → Node
 renumbered_node f n = record { attack = n.attack; replies = map (renumbered_reply f) n.replies; rest = renumbered_rest f n.rest }
+
+-- the root, with the number f j in place of each number j that it names
+abbrev pub renumbered_root : (ℕ → ℕ) → Root → Root
+renumbered_root f (Attack i) = Attack (f i)
+renumbered_root f (Defend a) = Defend (renumbered_answers f a)

@@ -1,34 +1,35 @@
 -- The nodes of a table, adopted one after the other: each is a copy under its new number, and is the same node. So what is held is
 -- what was held before, and the nodes of the table.
-use Rattle.std.proofs.Common.{◌≡◌, ◌⊎◌, inl, inr, ℕ, zero, suc, ◌<◌, ◌≤◌, ◌+◌, Bool, true, List, [], ◌∷◌, ◌++◌, length, refl, sym, ap}
-use Rattle.std.proofs.Common.{subst, ◌∙◌, arith, Option, Some, None, nat_lt, slice_get, slice_index, get_or, Contains, length-append}
+use Rattle.std.proofs.Common.{◌≡◌, ◌⊎◌, inl, inr, ℕ, zero, suc, ◌<◌, ◌≤◌, ◌+◌, true, List, [], ◌∷◌, ◌++◌, length, refl, sym, ap}
+use Rattle.std.proofs.Common.{subst, ◌∙◌, arith, Some, nat_lt, slice_get, slice_index, Contains, length-append}
 use Rattle.std.proofs.Common.{append-nil, append_assoc, Result, Ok, Err}
 use Rattle.std.specs.Result.{IsErrAnd}
-use Rattle.std.specs.List.{list_all, AllByRecursion}
+use Rattle.std.specs.List.{AllByRecursion}
 use Rattle.std.proofs.lemmas.Bool.{cases_lt}
 use Rattle.std.proofs.lemmas.List.{get_or_append_left, get_or_push}
-use Rattle.std.proofs.lemmas.Option.{slice_get_within, slice_get_read, same_Some}
+use Rattle.std.proofs.lemmas.Option.{slice_get_within, same_Some}
 use borrow.Author.Tests.{ltb-true, lt-ltb}
 use Rattle.game_rules.specs.declared.TheConstants.{MAX_SIDE}
 use Rattle.game_rules.specs.Grid.{Grid}
+use Rattle.game_rules.proofs.Tests.{all_get, all_push}
 use Rattle.position_files.specs.Answers.{NodeFits}
 use Rattle.position_files.proofs.Completions.{node_fits}
 use Rattle.position_files.proofs.SectionLaws.{nodes_on}
 use Rattle.strategy_graph.specs.declared.Node.{Node}
 use Rattle.strategy_graph.specs.declared.TheConstants.{MAX_NODES}
-use Rattle.strategy_graph.proofs.Common.{IsNode, IsTable, NamesLower, NamesOnBoard, answers_of, named, names_below, renumbered_node}
+use Rattle.strategy_graph.proofs.Common.{IsNode, IsTable, NamesLower, NamesOnBoard, answers_of, renumbered_node}
 use Rattle.strategy_graph.proofs.Answering.{replies-on}
 use Rattle.strategy_graph.proofs.Copies.{Copies}
 use Rattle.strategy_graph.proofs.Filling.{IsTable-lower, last_node, names_below-more}
 use Rattle.strategy_graph.proofs.Naming.{slice_get-longer}
 use Rattle.strategy_graph.proofs.Renumbering.{IsNode-renumbered, points-renumbered, renumbered-agree}
-use Rattle.strategy_compiler.proofs.Common.{AreDifferent, IsCompiled, PutsIn}
+use Rattle.strategy_compiler.proofs.Common.{IsCompiled, PutsIn}
 use Rattle.strategy_compiler.proofs.Unfolding.{node-inside, unfolded-copied, unfolded-longer, held-one_more, held-within}
 use Rattle.strategy_compiler.specs.Unfolded.{Unfolded, IsHeld, HoldMore, unfolded}
 use Rattle.strategy_compiler.specs.declared.compiler.CompileError.{CompileError}
 use Rattle.strategy_compiler.specs.declared.compiler.CompileError.TheVariants.{Full, Memory}
 use Rattle.table_book.specs.declared.binder.BindError.{BindError}
-use Rattle.table_book.specs.declared.binder.BindError.TheVariants.{Full as FullBook, Memory as NoMemory}
+use Rattle.table_book.specs.declared.binder.BindError.TheVariants.{Full as FullBook}
 use Rattle.table_book.specs.Binding.{AreNumbers, Stays, bind_error}
 
 -- what is known once the first i nodes of t are adopted
@@ -98,15 +99,6 @@ renumbered-fits f n k fits node few =
           on.0.replies;
     } in
     node_fits largest (renumbered_node f n) k moved node few
-
-all-push : (P : Node → Type 0) (ns : List Node) (n : Node) → AllByRecursion P ns → P n → AllByRecursion P (ns ++ n ∷ [])
-all-push P [] n all p = (p, tt)
-all-push P (m ∷ ns) n all p = (all.0, all-push P ns n all.1 p)
-
-all-at : (P : Node → Type 0) (ns : List Node) (i : ℕ) (n : Node) → AllByRecursion P ns → slice_get ns i ≡ Some n → P n
-all-at P [] i n all e = cc
-all-at P (m ∷ ns) zero n all e = subst P (same_Some m n e) all.0
-all-at P (m ∷ ns) (suc i) n all e = all-at P ns i n all.1 e
 
 -- ---- one node more
 
@@ -224,7 +216,7 @@ module _ (old t new : List Node) (numbers : List ℕ) (i : ℕ) (n m : Node) (h 
       by_put : PutsIn new m new' → AllByRecursion (NodeFits MAX_SIDE MAX_SIDE) new'
       by_put (inl e) = subst (AllByRecursion (NodeFits MAX_SIDE MAX_SIDE)) (sym e.1) h.fit
       by_put (inr e) = subst (AllByRecursion (NodeFits MAX_SIDE MAX_SIDE)) (sym e.1)
-          (all-push (NodeFits MAX_SIDE MAX_SIDE) new m h.fit (fits-by fits))
+          (all_push (NodeFits MAX_SIDE MAX_SIDE) new m h.fit (fits-by fits))
 
     -- each of the new nodes has its place
     covered-by : (k : ℕ) → length old ≤ k → k < length new' → (p : ℕ) × (p < i + 1) × (slice_index numbers' p ≡ k)
@@ -279,7 +271,7 @@ module _ (old t new : List Node) (numbers : List ℕ) (i : ℕ) (n m : Node) (h 
           more = h.more ++ grows.0;
           grown = grows.1 ∙ ap (λ (u : List Node). u ++ grows.0) h.grown ∙ append_assoc old h.more grows.0;
           held = held-by;
-          fit = fit-more (all-at (NodeFits MAX_SIDE MAX_SIDE) t i n fit at);
+          fit = fit-more (all_get (NodeFits MAX_SIDE MAX_SIDE) t i n at fit);
           covered = covered-by;
           in_order = in_order-by;
         }

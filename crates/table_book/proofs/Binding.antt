@@ -1,78 +1,37 @@
 -- Files that are bound into a book one after the other: what the book has of them stays as it grows.
-use Rattle.std.proofs.Common.{◌≡◌, ◌⊎◌, inl, inr, ◌↔◌, ℕ, zero, suc, ◌<◌, ◌≤◌, ◌+◌, Bool, true, List, [], ◌∷◌, ◌++◌, length, refl, sym, ap}
-use Rattle.std.proofs.Common.{subst, ◌∙◌, arith, Option, Some, None, nat_lt, slice_get, map, Contains, length-append, append-nil}
+use Rattle.std.proofs.Common.{◌≡◌, ◌⊎◌, inl, inr, ◌↔◌, ℕ, zero, suc, ◌<◌, ◌≤◌, ◌+◌, List, [], ◌∷◌, ◌++◌, length, refl, sym, ap}
+use Rattle.std.proofs.Common.{subst, ◌∙◌, arith, Some, slice_get, Contains, length-append, append-nil}
 use Rattle.std.proofs.Common.{append_assoc}
-use Rattle.std.specs.List.{AllByRecursion, flat_map}
+use Rattle.std.specs.List.{AllByRecursion}
 use Rattle.std.proofs.lemmas.Bool.{cases_lt}
 use Rattle.std.proofs.lemmas.List.{map-append}
 use Rattle.std.proofs.lemmas.List.Elements.{Contains-append_cases, Contains-append_left, Contains-append_right}
 use Rattle.std.proofs.lemmas.Option.{slice_get_within}
-use borrow.Author.Tests.{ltb-true}
-use Rattle.game_rules.specs.declared.Point.{Point}
-use Rattle.game_rules.specs.declared.RuleKind.{RuleKind}
-use Rattle.game_rules.specs.Grid.{Grid}
 use Rattle.game_rules.specs.declared.TheConstants.{MAX_SIDE}
 use Rattle.position_files.specs.Answers.{NodeFits}
 use Rattle.position_files.specs.declared.TableFile.{TableFile}
 use Rattle.strategy_graph.specs.declared.Node.{Node}
-use Rattle.strategy_graph.specs.declared.Why.{Why}
 use Rattle.strategy_graph.specs.declared.TheConstants.{MAX_NODES}
 use Rattle.strategy_graph.specs.declared.roots.Root.{Root}
 use Rattle.strategy_graph.specs.declared.roots.Root.TheVariants.{Attack, Defend}
-use Rattle.strategy_graph.proofs.Common.{Answers, NamesLower, SaysSame, StartSaysSame, answer, names_below}
-use Rattle.strategy_graph.proofs.Answering.{answer-below}
-use Rattle.strategy_graph.proofs.Filling.{IsTable-lower, growth-same, growth-same-start}
+use Rattle.strategy_graph.proofs.Common.{NamesLower}
+use Rattle.strategy_graph.proofs.Filling.{IsTable-lower}
+use Rattle.strategy_graph.proofs.Saying.{iff-then, root-grown}
 use Rattle.strategy_compiler.proofs.Common.{IsCompiled}
 use Rattle.strategy_compiler.proofs.Unfolding.{answers-longer, held-within, unfolded-apart, unfolded-longer, unfolded_nodes-at}
-use Rattle.strategy_compiler.proofs.Unfolding.{unfolded_nodes-count, unfolded_nodes-there}
-use Rattle.strategy_compiler.specs.Unfolded.{HoldMore, IsHeld, Unfolded, unfolded, unfolded_nodes, unfolded_replies, unfolded_rest}
+use Rattle.strategy_compiler.proofs.Unfolding.{unfolded_nodes-there}
+use Rattle.strategy_compiler.specs.Unfolded.{HoldMore, IsHeld, Unfolded, unfolded, unfolded_nodes}
 use Rattle.table_book.specs.declared.Book.{Book}
 use Rattle.table_book.specs.declared.Entry.{Entry}
 use Rattle.table_book.specs.Books.{EntryFits, IsSound, RootFits}
-use Rattle.table_book.specs.Binding.{AddsFile, AnswersSaySame, AreEntriesOf, AreInOrder, HoldSame, IsBinding, IsBound, IsEntryOf}
-use Rattle.table_book.specs.Binding.{RootSaysSame, SameRoot, Stays, nodes_of, tables_of}
-
--- ---- what says the same as what says the same
-
-iff-then : {A B C : Type 0} → A ↔ B → B ↔ C → A ↔ C
-iff-then f g = (λ a. g.0 (f.0 a), λ c. f.1 (g.1 c))
-
-same-then : (t u v : List Node) (i j k : ℕ) → SaysSame t i u j → SaysSame u j v k → SaysSame t i v k
-same-then t u v i j k f g = record {
-  same_depth = g.same_depth ∙ f.same_depth;
-  same_accepted = λ rule b. iff-then (g.same_accepted rule b) (f.same_accepted rule b);
-  same_arrivals = λ rule b. g.same_arrivals rule b ∙ f.same_arrivals rule b;
-  same_game = λ rule b qs. g.same_game rule b qs ∙ f.same_game rule b qs;
-  same_attacks = λ rule b qs. g.same_attacks rule b qs ∙ f.same_attacks rule b qs;
-  same_leads = λ rule b line why. iff-then (g.same_leads rule b line why) (f.same_leads rule b line why);
-}
-
-start-then : (t u v : List Node) (a c e : Answers) → StartSaysSame t a u c → StartSaysSame u c v e → StartSaysSame t a v e
-start-then t u v a c e f g = record {
-  same_depth = g.same_depth ∙ f.same_depth;
-  same_accepted = λ rule b. iff-then (g.same_accepted rule b) (f.same_accepted rule b);
-  same_arrivals = λ rule b. g.same_arrivals rule b ∙ f.same_arrivals rule b;
-  same_leads = λ rule b line why. iff-then (g.same_leads rule b line why) (f.same_leads rule b line why);
-}
+use Rattle.table_book.specs.Binding.{AddsFile, AreEntriesOf, AreInOrder, HoldSame, IsBinding, IsBound, IsEntryOf}
+use Rattle.table_book.specs.Binding.{SameRoot, Stays, nodes_of, tables_of}
+use Rattle.table_book.proofs.Adopting.{among-one, among-two}
+use Rattle.table_book.proofs.Soundness.{root_fits-below}
 
 -- ---- roots and entries of nodes that grow
 
 module _ (t u more : List Node) (lower : NamesLower u) where
-  answers-grown : (o p : Option ℕ) → ((j : ℕ) → p ≡ Some j → j < length u) → AnswersSaySame t o u p → AnswersSaySame t o (u ++ more) p
-  answers-grown None None inside h = tt
-  answers-grown None (Some j) inside h = absurd h
-  answers-grown (Some i) None inside h = absurd h
-  answers-grown (Some i) (Some j) inside h = same-then t u (u ++ more) i j j h (growth-same u more lower j (inside j refl))
-
-  root-grown : (r s : Root) → RootFits (length u) s → RootSaysSame t r u s → RootSaysSame t r (u ++ more) s
-  root-grown (Attack i) (Attack j) fits h = same-then t u (u ++ more) i j j h (growth-same u more lower j fits)
-  root-grown (Attack i) (Defend c) fits h = absurd h
-  root-grown (Defend a) (Attack j) fits h = absurd h
-  root-grown (Defend a) (Defend c) fits h = (
-    start-then t u (u ++ more) a c c h.0 (growth-same-start u more lower c fits.below),
-    λ q. answers-grown (answer a q) (answer c q) (λ j e. answer-below c (length u) q j fits.below e) (h.1 q),
-  )
-
   root-stays : (r s : Root) → RootFits (length u) s → SameRoot t r u s → SameRoot t r (u ++ more) s
   root-stays (Attack i) (Attack j) fits h = unfolded-longer u more lower j fits ∙ h
   root-stays (Attack i) (Defend c) fits h = absurd h
@@ -91,7 +50,7 @@ module _ (u more : List Node) (lower : NamesLower u) where
       board = h.0.board;
       moves = h.0.moves;
       same = root-stays file.table u more lower file.root e.root fit.0.root h.0.same;
-      root = root-grown file.table u more lower file.root e.root fit.0.root h.0.root;
+      root = root-grown file.table u more lower file.root e.root (root_fits-below (length u) e.root fit.0.root) h.0.root;
     },
     entries-grown files es fit.1 h.1,
   )
@@ -164,15 +123,6 @@ nodes-more (f ∷ files) file =
     ap (λ (ws : List Unfolded). unfolded_nodes f.table ++ ws) (nodes-more files file)
     ∙ sym (append_assoc (unfolded_nodes f.table) (nodes_of files) (unfolded_nodes file.table))
 
-only-one : (t v : List Node) → Contains (t ∷ []) v → t ≡ v
-only-one t v (zero, l, e) = e
-only-one t v (suc k, l, e) = absurd (omega arith)
-
-one-of-two : (t u v : List Node) → Contains (t ∷ u ∷ []) v → (t ≡ v) ⊎ (u ≡ v)
-one-of-two t u v (zero, l, e) = inl e
-one-of-two t u v (suc zero, l, e) = inr e
-one-of-two t u v (suc (suc k), l, e) = absurd (omega arith)
-
 -- ---- no file
 
 no-nodes : IsCompiled []
@@ -188,7 +138,7 @@ bound-none book none without = record {
     few = let count : length book.entries ≡ 0 = ap length without in omega arith;
   };
   entries = subst (λ (es : List Entry). AreEntriesOf [] book.table es) (sym without) tt;
-  held = λ w. (λ is. absurd (empty is.0 is.1 (only-one book.table is.0 is.2) is.3), λ is. let l = is.2.1 in absurd (omega arith));
+  held = λ w. (λ is. absurd (empty is.0 is.1 (among-one book.table is.0 is.2) is.3), λ is. let l = is.2.1 in absurd (omega arith));
   in_order = λ k q l at. let count : length book.table ≡ 0 = ap length none in absurd (omega arith);
 } where
   empty : (t : List Node) (i : ℕ) → book.table ≡ t → i < length t → ⊥
@@ -213,7 +163,7 @@ module _ (files : List TableFile) (file : TableFile) (old new : Book) (before : 
   old-held : (w : Unfolded) → IsHeld (tables_of files) w → (j : ℕ) × (j < length old.table) × (unfolded old.table j ≡ w)
   old-held w is =
       let there = (before.held w).1 is in
-      let same : old.table ≡ there.0 = only-one old.table there.0 there.2 in
+      let same : old.table ≡ there.0 = among-one old.table there.0 there.2 in
       (there.1, subst (λ (v : List Node). there.1 < length v) (sym same) there.3, ap (λ (v : List Node). unfolded v there.1) same ∙ there.4)
 
   held-old : (j : ℕ) → j < length old.table → IsHeld (tables_of files) (unfolded old.table j)
@@ -224,7 +174,7 @@ module _ (files : List TableFile) (file : TableFile) (old new : Book) (before : 
   both-held w = (to, from) where
     to : IsHeld (old.table ∷ file.table ∷ []) w → IsHeld (tables_of (files ++ file ∷ [])) w
     to is = subst (λ (ts : List (List Node)). IsHeld ts w) (sym (tables-more files file))
-        (by_two is.0 is.1 (one-of-two old.table file.table is.0 is.2) is.3 is.4) where
+        (by_two is.0 is.1 (among-two old.table file.table is.0 is.2) is.3 is.4) where
           by_two : (t : List Node) (i : ℕ) → (old.table ≡ t) ⊎ (file.table ≡ t) → i < length t → unfolded t i ≡ w
               → IsHeld (tables_of files ++ file.table ∷ []) w
           by_two t i (inl same) l e =
@@ -246,7 +196,7 @@ module _ (files : List TableFile) (file : TableFile) (old new : Book) (before : 
           by_two : (t : List Node) (i : ℕ) → Contains (tables_of files) t ⊎ Contains (file.table ∷ []) t → i < length t → unfolded t i ≡ w
               → IsHeld (old.table ∷ file.table ∷ []) w
           by_two t i (inl c) l e = let there = old-held w (t, i, c, l, e) in (old.table, there.0, (0, omega arith, refl), there.1, there.2)
-          by_two t i (inr c) l e = (t, i, (1, omega arith, only-one file.table t c), l, e)
+          by_two t i (inr c) l e = (t, i, (1, omega arith, among-one file.table t c), l, e)
 
   in-order : AreInOrder new.table (nodes_of files ++ unfolded_nodes file.table)
   in-order k q l at = by_place (get-cases (nodes_of files) (unfolded_nodes file.table) q (unfolded new.table (suc k)) at) where
@@ -313,7 +263,7 @@ pub bound-few : (files : List TableFile) (book : Book) → IsBound files book �
 bound-few files book bound h =
     let find : (w : Unfolded) → IsHeld (tables_of files) w → (x : ℕ) × (x < length book.table) × (unfolded book.table x ≡ w) = λ w is.
     let there = (bound.held w).1 is in
-    let same : book.table ≡ there.0 = only-one book.table there.0 there.2 in (
+    let same : book.table ≡ there.0 = among-one book.table there.0 there.2 in (
       there.1,
       subst (λ (v : List Node). there.1 < length v) (sym same) there.3,
       ap (λ (v : List Node). unfolded v there.1) same
@@ -327,7 +277,7 @@ bound-few files book bound h =
 pub bound-full : (files : List TableFile) (file : TableFile) (book : Book) → IsBound files book
     → HoldMore (book.table ∷ file.table ∷ []) MAX_NODES → HoldMore (tables_of (files ++ file ∷ [])) MAX_NODES
 bound-full files file book bound h = more-held (book.table ∷ file.table ∷ []) (tables_of (files ++ file ∷ [])) MAX_NODES
-    (λ w is. by_two w is.0 is.1 (one-of-two book.table file.table is.0 is.2) is.3 is.4) h where
+    (λ w is. by_two w is.0 is.1 (among-two book.table file.table is.0 is.2) is.3 is.4) h where
       by_two : (w : Unfolded) (t : List Node) (i : ℕ) → (book.table ≡ t) ⊎ (file.table ≡ t) → i < length t → unfolded t i ≡ w
           → IsHeld (tables_of (files ++ file ∷ [])) w
       by_two w t i (inl same) l e =

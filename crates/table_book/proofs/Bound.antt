@@ -1,15 +1,15 @@
 -- What a binder holds stays as its nodes grow, and the entry of a file says in the book what the file says.
-use Rattle.std.proofs.Common.{◌≡◌, ◌⊎◌, inl, inr, ◌↔◌, ℕ, zero, suc, ◌<◌, ◌≤◌, ◌+◌, Bool, true, false, List, [], ◌∷◌, ◌++◌, length, refl}
-use Rattle.std.proofs.Common.{sym, ap, subst, ◌∙◌, arith, Option, Some, None, nat_lt, slice_get, slice_index, map, length-append}
+use Rattle.std.proofs.Common.{◌≡◌, ◌⊎◌, inl, inr, ◌↔◌, ℕ, suc, ◌<◌, ◌≤◌, ◌+◌, true, false, List, [], ◌∷◌, ◌++◌, length, refl}
+use Rattle.std.proofs.Common.{sym, ap, subst, ◌∙◌, arith, nat_lt, slice_index, map, length-append}
 use Rattle.std.specs.List.{list_all, AllByRecursion}
-use Rattle.std.specs.Option.{option_map}
 use Rattle.std.proofs.lemmas.Option.{slice_get_within}
 use borrow.Author.Tests.{ltb-true, lt-ltb}
 use Rattle.game_rules.specs.declared.TheConstants.{MAX_SIDE}
 use Rattle.game_rules.specs.declared.Point.{Point}
 use Rattle.game_rules.specs.Grid.{Grid, IsBoard, is_on}
 use Rattle.game_rules.proofs.Boards.{and_left, and_right, on_x, on_y}
-use Rattle.position_files.specs.Answers.{AnswersFit, NodeFits, StartFits}
+use Rattle.game_rules.proofs.Tests.{all_push}
+use Rattle.position_files.specs.Answers.{NodeFits}
 use Rattle.position_files.specs.Tables.{IsTextOfTable, RootFits as RootFitsText}
 use Rattle.position_files.specs.declared.TableFile.{TableFile}
 use Rattle.position_files.specs.declared.TheConstants.{MAX_MOVES}
@@ -19,24 +19,26 @@ use Rattle.strategy_graph.specs.declared.Reply.{Reply}
 use Rattle.strategy_graph.specs.declared.TheConstants.{MAX_NODES}
 use Rattle.strategy_graph.specs.declared.roots.Root.{Root}
 use Rattle.strategy_graph.specs.declared.roots.Root.TheVariants.{Attack, Defend}
-use Rattle.strategy_graph.specs.Tables.{IsStart, RepliesOn, TableOnBoard, NamesOnBoard}
-use Rattle.strategy_graph.proofs.Common.{Answers, IsTable, NamesLower, SaysSame, answer, answers_of, is_rising, is_winning, named}
-use Rattle.strategy_graph.proofs.Common.{names_below, renumbered_answers, renumbered_node, root_below, root_depth}
-use Rattle.strategy_graph.proofs.Answering.{answer-named, replies-on}
-use Rattle.strategy_graph.proofs.Copies.{Copies, answer-renumbered, is_winning-renumbered, named-renumbered}
-use Rattle.strategy_graph.proofs.Filling.{IsTable-lower, growth-same, growth-same-start, names_below-more}
-use Rattle.strategy_graph.proofs.Renumbering.{copies-same, copies-same-start, points-renumbered, rising-renumbered}
+use Rattle.strategy_graph.specs.Tables.{IsStart, RepliesOn, TableOnBoard}
+use Rattle.strategy_graph.proofs.Common.{IsTable, NamesLower, answers_of, is_winning, named}
+use Rattle.strategy_graph.proofs.Common.{names_below, renumbered_answers, renumbered_root, root_below}
+use Rattle.strategy_graph.proofs.Common.{RootSaysSame}
+use Rattle.strategy_graph.proofs.Answering.{replies-on}
+use Rattle.strategy_graph.proofs.Copies.{Copies, is_winning-renumbered, named-renumbered}
+use Rattle.strategy_graph.proofs.Filling.{IsTable-lower, names_below-more}
+use Rattle.strategy_graph.proofs.Saying.{root-copied, root-deep, root-longer}
+use Rattle.strategy_graph.proofs.Renumbering.{points-renumbered, rising-renumbered}
 use Rattle.strategy_compiler.proofs.Common.{IsCompiled}
-use Rattle.strategy_compiler.proofs.Unfolding.{answers-copied, answers-longer, node-inside, unfolded-apart, unfolded-copied}
+use Rattle.strategy_compiler.proofs.Unfolding.{answers-copied, node-inside, unfolded-apart, unfolded-copied}
 use Rattle.strategy_compiler.proofs.Unfolding.{unfolded-longer}
 use Rattle.strategy_compiler.specs.Unfolded.{Unfolded, IsHeld, unfolded}
-use Rattle.table_book.specs.declared.Book.{Book}
 use Rattle.table_book.specs.declared.Entry.{Entry}
 use Rattle.table_book.specs.declared.TheConstants.{MAX_ENTRIES}
 use Rattle.table_book.specs.Books.{EntryFits, IsSound, RootFits}
-use Rattle.table_book.specs.Binding.{AddsFile, AnswersSaySame, AreNumbers, CanBeBound, HoldSame, IsBinding, IsEntryOf, RootSaysSame}
-use Rattle.table_book.specs.Binding.{SameRoot, Stays, renumbered_root}
+use Rattle.table_book.specs.Binding.{AddsFile, AreNumbers, CanBeBound, HoldSame, IsBinding, IsEntryOf}
+use Rattle.table_book.specs.Binding.{SameRoot, Stays}
 use Rattle.table_book.proofs.Adopting.{among-two}
+use Rattle.table_book.proofs.Soundness.{root_fits-below}
 unfoldable use Rattle.table_book.proofs.Adopting.{largest}
 
 -- ---- points of a board are points of the largest
@@ -79,14 +81,6 @@ root-grown : (k m : ℕ) (root : Root) → k ≤ m → RootFits k root → RootF
 root-grown k m (Attack i) l fits = omega arith
 root-grown k m (Defend a) l fits = record { answers = fits.answers; start = fits.start; below = names_below-more a k m l fits.below }
 
-root-below : (k : ℕ) (root : Root) → RootFits k root → root_below root k ≡ true
-root-below k (Attack i) fits = lt-ltb i k fits
-root-below k (Defend a) fits = fits.below
-
-root-deep : (t more : List Node) → NamesLower t → (root : Root) → RootFits (length t) root → root_depth (t ++ more) root ≡ root_depth t root
-root-deep t more lower (Attack i) fits = (growth-same t more lower i fits).same_depth
-root-deep t more lower (Defend a) fits = (growth-same-start t more lower a fits.below).same_depth
-
 module _ (t more : List Node) (lower : NamesLower t) where
   longer : length t ≤ length (t ++ more)
   longer = let count = length-append t more in omega arith
@@ -101,8 +95,14 @@ module _ (t more : List Node) (lower : NamesLower t) where
   sound-grown : (es : List Entry) → AllByRecursion (EntryFits (length t)) es → AllByRecursion (IsSound t) es
       → AllByRecursion (IsSound (t ++ more)) es
   sound-grown [] fit all = tt
-  sound-grown (e ∷ es) fit all =
-      (record { lawful = all.0.lawful; moves = all.0.moves ∙ sym (root-deep t more lower e.root fit.0.root) }, sound-grown es fit.1 all.1)
+  sound-grown (e ∷ es) fit all = (
+    record {
+      lawful = all.0.lawful;
+      moves = all.0.moves
+          ∙ sym (root-longer t more lower e.root (root_fits-below (length t) e.root fit.0.root));
+    },
+    sound-grown es fit.1 all.1,
+  )
 
 -- the entries stay entries once nodes are adopted
 pub binding-grown : (old t new : List Node) (es : List Entry) → IsBinding (record { table = old; entries = es }) → Stays old t new
@@ -120,10 +120,6 @@ binding-grown old t new es h stays compiled fit =
       few = h.few;
     }
 
-all-more : (P : Entry → Type 0) (es : List Entry) (e : Entry) → AllByRecursion P es → P e → AllByRecursion P (es ++ e ∷ [])
-all-more P [] e all p = (p, tt)
-all-more P (d ∷ es) e all p = (all.0, all-more P es e all.1 p)
-
 -- and with one entry more
 pub binding-pushed : (t : List Node) (es es' : List Entry) (e : Entry) → IsBinding (record { table = t; entries = es })
     → length es < MAX_ENTRIES → EntryFits (length t) e → IsSound t e → es' ≡ es ++ e ∷ []
@@ -131,8 +127,8 @@ pub binding-pushed : (t : List Node) (es es' : List Entry) (e : Entry) → IsBin
 binding-pushed t es es' e h room fits sound is = record {
   compiled = h.compiled;
   nodes = h.nodes;
-  entries = subst (AllByRecursion (EntryFits (length t))) (sym is) (all-more (EntryFits (length t)) es e h.entries fits);
-  sound = subst (AllByRecursion (IsSound t)) (sym is) (all-more (IsSound t) es e h.sound sound);
+  entries = subst (AllByRecursion (EntryFits (length t))) (sym is) (all_push (EntryFits (length t)) es e h.entries fits);
+  sound = subst (AllByRecursion (IsSound t)) (sym is) (all_push (IsSound t) es e h.sound sound);
   few = let count : length es' ≡ length es + 1 = ap length is ∙ length-append es (e ∷ []) in omega arith;
 }
 
@@ -156,22 +152,10 @@ module _ (old t new : List Node) (numbers : List ℕ) (table : IsTable t) (lower
       let n = node-inside t j (ltb-true _ _ p) in
       slice_get_within new (slice_index numbers j) _ (are.each j n.0 n.1)
 
-  node-same : (j : ℕ) → nat_lt j (length t) ≡ true → SaysSame t j new (slice_index numbers j)
-  node-same j p = copies-same (λ j. slice_index numbers j) (λ j. nat_lt j (length t)) t new copies (IsTable-lower t table) lower j p
-
   -- the root says what the file's says
   pub root-same : (root : Root) → root_below root (length t) ≡ true
       → RootSaysSame t root new (renumbered_root (λ j. slice_index numbers j) root)
-  root-same (Attack i) below = node-same i below
-  root-same (Defend a) below = (
-    copies-same-start (λ j. slice_index numbers j) (λ j. nat_lt j (length t)) t new copies (IsTable-lower t table) lower a below,
-    λ q. subst (AnswersSaySame t (answer a q) new) (sym (answer-renumbered (λ j. slice_index numbers j) a q))
-        (by_answer (answer a q) (λ j e. answer-named (λ j. nat_lt j (length t)) a q j below e)),
-  ) where
-    by_answer : (o : Option ℕ) → ((j : ℕ) → o ≡ Some j → nat_lt j (length t) ≡ true)
-        → AnswersSaySame t o new (option_map (λ j. slice_index numbers j) o)
-    by_answer None passes = tt
-    by_answer (Some j) passes = node-same j (passes j refl)
+  root-same = root-copied (λ j. slice_index numbers j) (length t) t new copies (IsTable-lower t table) lower
 
   -- and is the same
   root-is : (root : Root) → root_below root (length t) ≡ true → SameRoot t root new (renumbered_root (λ j. slice_index numbers j) root)
@@ -211,12 +195,6 @@ module _ (old t new : List Node) (numbers : List ℕ) (table : IsTable t) (lower
   moves-few : (b : Grid) (root : Root) (moves : ℕ) → RootFitsText b t root moves → moves ≤ MAX_MOVES
   moves-few b (Attack i) moves fits = fits.2
   moves-few b (Defend a) moves fits = fits.3
-
-  same-deep : (root s : Root) → RootSaysSame t root new s → root_depth new s ≡ root_depth t root
-  same-deep (Attack i) (Attack j) h = h.same_depth
-  same-deep (Attack i) (Defend c) h = absurd h
-  same-deep (Defend a) (Attack j) h = absurd h
-  same-deep (Defend a) (Defend c) h = h.0.same_depth
 
   -- each node of the file is held
   pub file-held : (j : ℕ) → j < length t → (x : ℕ) × (x < length new) × (unfolded new x ≡ unfolded t j)
@@ -265,7 +243,7 @@ module _ (file : TableFile) (old new : List Node) (numbers : List ℕ) (root : R
   pub entry-sound : IsSound new entry
   entry-sound = record {
     lawful = can.lawful;
-    moves = can.moves ∙ sym (same-deep old file.table new numbers can.text.1.table new-lower are file.root root entry-same);
+    moves = can.moves ∙ sym (root-deep file.table new file.root root entry-same);
   }
 
   -- what is held now is what was held, and the file's nodes

@@ -39,12 +39,6 @@ pub all_more : {X : Type 0} (P : X → Type 0) (xs : List X) (i : ℕ) (x : X) �
 all_more P xs i x at all h = let next : suc i ≡ i + 1 =
     omega arith in subst (λ n. AllByRecursion P (take n xs)) next (more_by P xs i x at all h)
 
--- what holds of the item at a place, where it holds of all
-pub all_get : {X : Type 0} (P : X → Type 0) (xs : List X) (i : ℕ) (x : X) → slice_get xs i ≡ Some x → AllByRecursion P xs → P x
-all_get P [] i x at all = absurd cc
-all_get P (y ∷ xs) zero x at all = let same : y ≡ x = cc in subst P same all.0
-all_get P (y ∷ xs) (suc i) x at all = all_get P xs i x at all.1
-
 -- the item at the seam of two lists, and what is before it
 pub seam : {X : Type 0} (xs : List X) (x : X) (ys : List X) → slice_get (xs ++ x ∷ ys) (length xs) ≡ Some x
 seam [] x ys = refl

@@ -14,7 +14,7 @@ use Rattle.table_book.specs.declared.error.BookError.TheVariants.{BadLine, Unlaw
 use Rattle.table_book.specs.Books.{IsSound, IsTextOfBook, IsWellFormed, RootFits}
 use Rattle.table_book.specs.Faults.{IsBookFault, IsEarliest, IsEntryFault, IsMiscountedAt, IsUnlawfulAt, IsUnsound}
 use Rattle.table_book.specs.ReadBack.{BooksReadBack}
-use Rattle.table_book.proofs.Lists.{all_get}
+use Rattle.game_rules.proofs.Tests.{all_get}
 use Rattle.table_book.proofs.BookLaws.{one_book}
 
 -- a root that fits names only nodes of the book

@@ -1,13 +1,11 @@
 -- Tables that are bound into a book: which root says what another says, and what an entry has of its file.
-use Rattle.std.specs.Prelude.{◌≡◌, ◌↔◌, ℕ, suc, map, ◌<◌, ◌≤◌, List, [], ◌∷◌, ◌++◌, length, Option, Some, None, slice_get, slice_index}
+use Rattle.std.specs.Prelude.{◌≡◌, ◌↔◌, ℕ, suc, map, ◌<◌, ◌≤◌, List, [], ◌∷◌, ◌++◌, length, Some, slice_get, slice_index}
 use Rattle.std.specs.List.{AllByRecursion, flat_map}
 use Rattle.game_rules.specs.Play.{IsPosition}
 use Rattle.game_rules.specs.declared.TheConstants.{MAX_SIDE}
-use Rattle.game_rules.specs.declared.Point.{Point}
-use Rattle.strategy_graph.specs.Tables.{Answers, answer}
 use Rattle.strategy_graph.specs.Roots.{root_depth}
-use Rattle.strategy_graph.specs.Renumbered.{renumbered_answers, renumbered_node}
-use Rattle.strategy_graph.specs.Laws.{SaysSame, StartSaysSame}
+use Rattle.strategy_graph.specs.Renumbered.{renumbered_node}
+use Rattle.strategy_graph.specs.Laws.{RootSaysSame}
 use Rattle.strategy_graph.specs.declared.Node.{Node}
 use Rattle.strategy_graph.specs.declared.roots.Root.{Root}
 use Rattle.strategy_graph.specs.declared.roots.Root.TheVariants.{Attack, Defend}
@@ -24,21 +22,6 @@ use Rattle.table_book.specs.declared.binder.BindError.TheVariants.{Full as FullB
 use Rattle.table_book.specs.declared.Book.{Book}
 use Rattle.table_book.specs.declared.Entry.{Entry}
 use Rattle.table_book.specs.declared.TheConstants.{MAX_ENTRIES}
-
--- the answers are both there, and the second says in table u what the first says in table t; or neither is there
-abbrev pub AnswersSaySame : List Node → Option ℕ → List Node → Option ℕ → Type 0
-AnswersSaySame t None u None = Unit {0}
-AnswersSaySame t None u (Some j) = ⊥
-AnswersSaySame t (Some i) u None = ⊥
-AnswersSaySame t (Some i) u (Some j) = SaysSame t i u j
-
--- The root s says with table u what the root r says with table t: its depth, where it is accepted, its arrivals, and its games.
--- The games of a start are, for each reply, those of the node that answers it, if there is one.
-abbrev pub RootSaysSame : List Node → Root → List Node → Root → Type 0
-RootSaysSame t (Attack i) u (Attack j) = SaysSame t i u j
-RootSaysSame t (Attack i) u (Defend c) = ⊥
-RootSaysSame t (Defend a) u (Attack j) = ⊥
-RootSaysSame t (Defend a) u (Defend c) = StartSaysSame t a u c × ((q : Point) → AnswersSaySame t (answer a q) u (answer c q))
 
 -- the root s of table u is the same as the root r of table t, whatever the numbers of the nodes that they name
 abbrev pub SameRoot : List Node → Root → List Node → Root → Type 0
@@ -86,11 +69,6 @@ pub record AreNumbers (old t u : List Node) (numbers : List ℕ) : Type 0 where
   pub each : (i : ℕ) (n : Node) → slice_get t i ≡ Some n
       → slice_get u (slice_index numbers i) ≡ Some (renumbered_node (λ j. slice_index numbers j) n)
   pub in_order : (k q : ℕ) → length old ≤ k → q < length t → slice_index numbers q ≡ suc k → (p : ℕ) × (p < q) × (slice_index numbers p ≡ k)
-
--- the root, with the number f j in place of each number j that it names
-abbrev pub renumbered_root : (ℕ → ℕ) → Root → Root
-renumbered_root f (Attack i) = Attack (f i)
-renumbered_root f (Defend a) = Defend (renumbered_answers f a)
 
 -- why a file is not added where a node is not adopted
 abbrev pub bind_error : CompileError → BindError

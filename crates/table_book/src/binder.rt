@@ -16,7 +16,8 @@ ghost use Rattle.strategy_compiler.specs.Walks.{AreDifferent};
 ghost use Rattle.strategy_compiler.specs.Unfolded.{HoldMore};
 ghost use Rattle.position_files.specs.Answers.{NodeFits};
 ghost use Rattle.position_files.specs.declared.TableFile.{TableFile};
-ghost use Rattle.table_book.specs.Binding.{AddsFile, AreNumbers, CanBeBound, IsBound, Stays, renumbered_root as renumbered_root_lem};
+ghost use Rattle.strategy_graph.specs.Renumbered.{renumbered_root as renumbered_root_lem};
+ghost use Rattle.table_book.specs.Binding.{AddsFile, AreNumbers, CanBeBound, IsBound, Stays};
 ghost use Rattle.table_book.specs.Books.{IsWellFormed};
 
 use crate::{Book, Entries, Entry, MAX_ENTRIES};

@@ -2,7 +2,7 @@ use Rattle.std.proofs.Common.{◌≡◌, ap, sym, subst, ◌+◌, List, length, 
 use Rattle.strategy_graph.specs.Roots.{root_below}
 use Rattle.strategy_graph.specs.declared.Node.{Node}
 use Rattle.table_book.specs.Books.{EntryFits}
-use Rattle.table_book.proofs.Lists.{all_get}
+use Rattle.game_rules.proofs.Tests.{all_get}
 use Rattle.table_book.proofs.Soundness.{root_fits-below}
 use Rattle.table_book.proofs.Holds.{hold_fault_of, next_entry}
 use Rattle.table_book.proofs.holding.hold_book.Goals as goal
