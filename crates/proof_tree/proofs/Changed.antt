@@ -84,19 +84,20 @@ grown links i count h =
           from ∙ get_or-replicate count (j - length links) child none (omega arith);
     }
 
-old-parent : (links : List Link) (i count : ℕ) (new : List Link) (j : ℕ) → IsGrown links i count new → j < length links
-    → (link_at new j).parent ≡ (link_at links j).parent
-old-parent links i count new j g h = elim (cases_eq j i) [
-  | inl q ↦ ap (λ k. (link_at new k).parent) q ∙ (ap (λ l. l.parent) g.here ∙ ap (λ k. (link_at links k).parent) (sym q))
-  | inr n ↦ ap (λ l. l.parent) (g.others j h n)
+-- what the leaf keeps as it is given children, each node of the old tree keeps
+old-same : {X : Type 0} (f : Link → X) (links : List Link) (i count : ℕ) (new : List Link) (j : ℕ) → IsGrown links i count new
+    → f (link_at new i) ≡ f (link_at links i) → j < length links → f (link_at new j) ≡ f (link_at links j)
+old-same f links i count new j g kept h = elim (cases_eq j i) [
+  | inl q ↦ ap (λ k. f (link_at new k)) q ∙ (kept ∙ ap (λ k. f (link_at links k)) (sym q))
+  | inr n ↦ ap f (g.others j h n)
 ]
 
-old-kind : (links : List Link) (i count : ℕ) (new : List Link) (j : ℕ) → IsGrown links i count new → j < length links
-    → (link_at new j).kind ≡ (link_at links j).kind
-old-kind links i count new j g h = elim (cases_eq j i) [
-  | inl q ↦ ap (λ k. (link_at new k).kind) q ∙ (ap (λ l. l.kind) g.here ∙ ap (λ k. (link_at links k).kind) (sym q))
-  | inr n ↦ ap (λ l. l.kind) (g.others j h n)
-]
+module _ (links : List Link) (i count : ℕ) (new : List Link) (j : ℕ) (g : IsGrown links i count new) (old : j < length links) where
+  old-parent : (link_at new j).parent ≡ (link_at links j).parent
+  old-parent = old-same (λ l. l.parent) links i count new j g (ap (λ l. l.parent) g.here) old
+
+  old-kind : (link_at new j).kind ≡ (link_at links j).kind
+  old-kind = old-same (λ l. l.kind) links i count new j g (ap (λ l. l.kind) g.here) old
 
 -- what a node of the grown tree is: the leaf, another node of the old tree, or one of its leaves
 data Place (links : List Link) (i count : ℕ) (new : List Link) (j : ℕ) : Type 0 where

@@ -22,7 +22,7 @@ use Rattle.strategy_graph.proofs.Renumbering.{points-renumbered, IsOneToOne, res
 use Rattle.strategy_compiler.proofs.Common.{Tree, Branches, Leaf, Fork, NoBranch, Branch, StandsFor, StandsForAll, AnswersBriefly}
 use Rattle.strategy_compiler.proofs.Common.{replies_of, answers_to, commonest, times, Reaches, Itself, Through, visits, visits_at}
 use Rattle.strategy_compiler.proofs.Common.{is_in_list, completed_within}
-use Rattle.strategy_compiler.proofs.Walking.{contains-map}
+use Rattle.strategy_compiler.proofs.Walking.{contains-map, visits-pass}
 
 module _ (f : ℕ → ℕ) (passes : ℕ → Bool) (one : IsOneToOne f passes) where
   -- ---- numbers among others, and the commonest
@@ -124,17 +124,6 @@ module _ (f : ℕ → ℕ) (passes : ℕ → Bool) (one : IsOneToOne f passes) w
       (λ i. (rest_nodes-renumbered f passes one) a.rest i ++ (nexts-renumbered f passes one) a.replies i)
       ∙ sym (map-append f (rest_nodes a.rest) (map (λ (r : Reply). r.next) a.replies))
 
-  and-swap : (a b : Bool) → (a && b) ≡ true → (b && a) ≡ true
-  and-swap true true h = refl
-  and-swap true false h = h
-  and-swap false b h = cc
-
-  visits-pass : (a : Answers) → list_all passes (named a) ≡ true → list_all passes (visits a) ≡ true
-  visits-pass a h =
-      list_all-append passes (rest_nodes a.rest) (map (λ (r : Reply). r.next) a.replies)
-      ∙ and-swap (list_all passes (map (λ (r : Reply). r.next) a.replies)) (list_all passes (rest_nodes a.rest))
-      (sym (list_all-append passes (map (λ (r : Reply). r.next) a.replies) (rest_nodes a.rest)) ∙ h)
-
   contained-passes : (js : List ℕ) (j : ℕ) → list_all passes js ≡ true → Contains js j → passes j ≡ true
   contained-passes [] j h (k, l, e) = absurd (omega arith)
   contained-passes (x ∷ xs) j h (zero, l, e) = subst (λ (k : ℕ). passes k ≡ true) e (and_left (passes x) _ h)
@@ -151,7 +140,8 @@ module _ (f : ℕ → ℕ) (passes : ℕ → Bool) (one : IsOneToOne f passes) w
     visits_at-pass : (i : ℕ) → passes i ≡ true → list_all passes (visits_at t i) ≡ true
     visits_at-pass i p =
         let c = copies.copied i p in
-        ap (λ (o : Option Node). list_all passes (option_map_or (λ n. visits (answers_of n)) o [])) c.1 ∙ visits-pass (answers_of c.0) c.3
+        ap (λ (o : Option Node). list_all passes (option_map_or (λ n. visits (answers_of n)) o [])) c.1
+        ∙ visits-pass passes (answers_of c.0) c.3
 
     pub fold-copied : (g h : List ℕ → ℕ → List ℕ) → ((done : List ℕ) (j : ℕ) → passes j ≡ true → h (map f done) (f j) ≡ map f (g done j))
         → (js done : List ℕ) → list_all passes js ≡ true → fold h (map f done) (map f js) ≡ map f (fold g done js)

@@ -15,6 +15,7 @@ use Rattle.std.proofs.Math.Seq.{take-append_seam}
 use Rattle.std.proofs.Math.ListN.{set, length-set}
 use Rattle.std.proofs.lemmas.List.Sums.{sum_by-set}
 use Rattle.std.proofs.lemmas.Bool.{or_right}
+use Rattle.std.proofs.Math.Bool.{and_comm}
 use Rattle.game_rules.proofs.Boards.{and_left, and_right}
 use Rattle.strategy_graph.specs.declared.Node.{Node}
 use Rattle.strategy_graph.proofs.Common.{Answers, answers_of, names_below, rest_nodes, NamesLower, named}
@@ -50,16 +51,16 @@ among-other k i js l = among-push k i js ∙ by_test (is_in_list k js) (i == k) 
 
 -- ---- what node i visits is below it
 
-and-swap : (a b : Bool) → (a && b) ≡ true → (b && a) ≡ true
-and-swap true true h = refl
-and-swap true false h = h
-and-swap false b h = cc
+-- what holds of the nodes that the answers name holds of those that they visit
+pub visits-pass : (passes : ℕ → Bool) (a : Answers) → list_all passes (named a) ≡ true → list_all passes (visits a) ≡ true
+visits-pass passes a h =
+    list_all-append passes (rest_nodes a.rest) (map (λ r. r.next) a.replies)
+    ∙ and_comm (list_all passes (rest_nodes a.rest)) (list_all passes (map (λ r. r.next) a.replies))
+    ∙ sym (list_all-append passes (map (λ r. r.next) a.replies) (rest_nodes a.rest))
+    ∙ h
 
 pub visits-below : (a : Answers) (k : ℕ) → names_below a k ≡ true → list_all (λ j. nat_lt j k) (visits a) ≡ true
-visits-below a k h =
-    list_all-append (λ j. nat_lt j k) (rest_nodes a.rest) (map (λ r. r.next) a.replies)
-    ∙ and-swap (list_all (λ j. nat_lt j k) (map (λ r. r.next) a.replies)) (list_all (λ j. nat_lt j k) (rest_nodes a.rest))
-    (sym (list_all-append (λ j. nat_lt j k) (map (λ r. r.next) a.replies) (rest_nodes a.rest)) ∙ h)
+visits-below a k h = visits-pass (λ j. nat_lt j k) a h
 
 module _ (t : List Node) (lower : NamesLower t) where
   pub visits_at-below : (i : ℕ) → list_all (λ j. nat_lt j i) (visits_at t i) ≡ true
