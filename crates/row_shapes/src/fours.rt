@@ -55,14 +55,9 @@ pub fn straight_through<R: Rule>(board: &Board, p: Point, axis: Axis) -> bool
     let side = side_at(board, p);
     let ahead = board.stones_ahead(side, axis, p);
     let behind = board.stones_behind(side, axis, p);
-    let row = RowAt {
-        side,
-        axis,
-        point: p,
-    };
     1 + ahead + behind == 4
-        && wins_along::<R>(board, row, 1 + ahead as u8, 0)
-        && wins_along::<R>(board, row, 0, 1 + behind as u8)
+        && wins_along::<R>(board, side, axis, p, 1 + ahead as u8, 0)
+        && wins_along::<R>(board, side, axis, p, 0, 1 + behind as u8)
 }
 
 /// The side whose stone stands on the point.
@@ -133,8 +128,8 @@ fn is_four<R: Rule>(board: &Board, row: RowAt, stones: &[bool; 9], first: u8, ga
 {
     first != gap
         && are_stones(stones, first, gap)
-        && (wins_along::<R>(board, row, gap + 4 - first, 4)
-            || gap == 4 && wins_along::<R>(board, row, 3 - first, 4))
+        && (wins_along::<R>(board, row.side, row.axis, row.point, gap + 4 - first, 4)
+            || gap == 4 && wins_along::<R>(board, row.side, row.axis, row.point, 3 - first, 4))
 }
 
 /// The number of fours among the five places that begin so many steps behind the row's stone, but for those without the first of

@@ -61,6 +61,7 @@ fn three_place<R: Rule>(board: &Board, side: Side, axis: Axis, p: Point, way: Wa
 
 /// Whether the point next to the `near` stones in that way from the row's stone is empty, and a stone there makes a
 /// straight four, where `far` stones stand in the other way.
+#[inline(always)]
 fn fills_to_four<R: Rule>(board: &Board, row: RowAt, way: Way, near: u8, far: u8) -> bool
     requires stone { IsTrue (holds board.now row.side row.point) }
     requires near { near ≡ stones_towards_lem way board.now row.side row.axis row.point }
@@ -79,32 +80,30 @@ fn fills_to_four<R: Rule>(board: &Board, row: RowAt, way: Way, near: u8, far: u8
 
 /// Whether a straight four of the row's stone has `fore` stones next to it in that way and `back` stones in the other, as the
 /// ends decide: four stones, and a winning run where either end is filled.
+#[inline(always)]
 fn is_open_four<R: Rule>(board: &Board, row: RowAt, way: Way, fore: u8, back: u8) -> bool
     requires on { IsTrue (is_on board.now row.point) }
     requires fore { fore < 128 }
     requires back { back < 128 }
     ensures open { result ≡ is_open_four_lem R.KIND board.now row.side row.axis row.point way fore back }
 {
+    let (side, axis, p) = (row.side, row.axis, row.point);
     fore + back == 3
-        && wins_past::<R>(board, row, way, 1 + fore)
-        && wins_past::<R>(board, row, way.opposite(), 1 + back)
+        && wins_past::<R>(board, side, axis, p, way, 1 + fore)
+        && wins_past::<R>(board, side, axis, p, way.opposite(), 1 + back)
 }
 
-/// Whether the point so many steps from the row's in that way is on the board and empty, and wins on the axis where it has four
-/// stones of the side next to it towards the row's.
-fn wins_past<R: Rule>(board: &Board, row: RowAt, way: Way, k: u8) -> bool
-    requires on { IsTrue (is_on board.now row.point) }
+/// Whether the point so many steps from `p` in that way is on the board and empty, and wins on the axis where it has four
+/// stones of the side next to it towards `p`.
+fn wins_past<R: Rule>(board: &Board, side: Side, axis: Axis, p: Point, way: Way, k: u8) -> bool
+    requires on { IsTrue (is_on board.now p) }
     requires near { k ≤ 64 }
-    ensures wins { result ≡ wins_past_lem R.KIND board.now row.side row.axis way (towards_lem way row.axis row.point k) }
+    ensures wins { result ≡ wins_past_lem R.KIND board.now side axis way (towards_lem way axis p k) }
 {
-    match board.step_towards(way, row.axis, row.point, k) {
+    match board.step_towards(way, axis, p, k) {
         None => false,
         Some(q) => {
-            board.is_empty(q)
-                && R::wins(
-                    row.side,
-                    5 + board.stones_towards(way, row.side, row.axis, q),
-                )
+            board.is_empty(q) && R::wins(side, 5 + board.stones_towards(way, side, axis, q))
         }
     }
 }

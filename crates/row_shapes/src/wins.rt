@@ -8,7 +8,6 @@ ghost use Rattle.game_rules.specs.Grid.{is_on, is_empty, along as along_lem};
 ghost use Rattle.game_rules.specs.Shapes.{five, wins_on as wins_on_lem, wins_at as wins_at_lem};
 
 use crate::Rule;
-use crate::row_at::RowAt;
 use crate::windows::may_win;
 use stone_board::{Axis, Board, Point, Side, Way};
 
@@ -54,15 +53,22 @@ pub(crate) fn wins_on<R: Rule>(board: &Board, side: Side, axis: Axis, p: Point) 
     board.is_empty(p) && wins_there::<R>(board, side, axis, p)
 }
 
-/// The same of the place so many steps ahead of the row's point and so many back again.
-pub(crate) fn wins_along<R: Rule>(board: &Board, row: RowAt, ahead: u8, back: u8) -> bool
-    requires on { IsTrue (is_on board.now row.point) }
+/// The same of the place so many steps ahead of a point and so many back again.
+pub(crate) fn wins_along<R: Rule>(
+    board: &Board,
+    side: Side,
+    axis: Axis,
+    p: Point,
+    ahead: u8,
+    back: u8,
+) -> bool
+    requires on { IsTrue (is_on board.now p) }
     requires ahead { ahead < 128 }
     requires back { back < 128 }
-    ensures wins { result ≡ wins_at_lem R.KIND board.now row.side row.axis (along_lem row.axis row.point ahead back) }
+    ensures wins { result ≡ wins_at_lem R.KIND board.now side axis (along_lem axis p ahead back) }
 {
-    match board.along(row.point, row.axis, ahead, back) {
+    match board.along(p, axis, ahead, back) {
         None => false,
-        Some(q) => wins_on::<R>(board, row.side, row.axis, q),
+        Some(q) => wins_on::<R>(board, side, axis, q),
     }
 }

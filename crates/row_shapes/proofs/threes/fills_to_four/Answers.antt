@@ -23,12 +23,12 @@ returns-then-is_empty g c =
     (sym c.step_towards.ensures.step ∙ c.in-Some.is) in
     let empty : is_empty c.args.board.now c.in-Some.q ≡ true = sym c.is_empty.ensures.empty ∙ c.if-is_empty.true in
     let three = three_at g.R.Rule.KIND c.args.board.now c.args.row.side c.args.row.axis c.args.row.point c.is_empty.ensures.board
-        c.requires.stone
+    c.requires.stone
     c.args.way c.args.near c.args.far c.in-Some.q c.requires.near c.requires.far here.0 empty in
     record {
       three = c.is_open_four.ensures.open ∙ ap
           (λ k. is_open_four g.R.Rule.KIND c.args.board.now c.args.row.side c.args.row.axis c.args.row.point c.args.way
-              (1 + c.args.near + k) c.args.far)
+          (1 + c.args.near + k) c.args.far)
           c.stones_towards-more.ensures.stones ∙ sym three;
     }
 
