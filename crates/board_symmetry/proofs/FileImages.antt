@@ -9,12 +9,11 @@ use Rattle.strategy_graph.specs.declared.roots.Root.{Root}
 use Rattle.strategy_graph.specs.declared.roots.Root.TheVariants.{Attack, Defend}
 use Rattle.position_files.specs.Tables.{RootFits, IsTextOfTable}
 use Rattle.position_files.specs.declared.TableFile.{TableFile}
-use Rattle.board_symmetry.specs.Points.{fits, board_image, empty_board}
+use Rattle.board_symmetry.specs.Points.{fits, board_image}
 use Rattle.board_symmetry.specs.Images.{table_image, root_image}
 use Rattle.board_symmetry.specs.Laws.{KeepsRoot, IsRoot}
 use Rattle.board_symmetry.specs.declared.symmetry.Symmetry.{Symmetry}
 use Rattle.board_symmetry.proofs.Eight.{turn_of}
-use Rattle.board_symmetry.proofs.ImageGroup.{names_sized}
 use Rattle.board_symmetry.proofs.ImageLaws.{keeps_root}
 use Rattle.board_symmetry.proofs.TableImages.{image-below, image-rising, image-on}
 
@@ -45,15 +44,6 @@ module _ (s : Symmetry) (b : Grid) (fit : fits s b.width b.height ≡ true) wher
 pub root-fits : (b : Grid) (t : List Node) (r : Root) (moves : ℕ) → RootFits b t r moves → IsRoot r × RootOnBoard b r
 root-fits b t (Attack i) moves fit = (tt, tt)
 root-fits b t (Defend a) moves fit = (fit.0, fit.2)
-
--- what is asked of a root on a board of this size
-pub root-sized : (b : Grid) (r : Root) → RootOnBoard b r → RootOnBoard (empty_board b.width b.height) r
-root-sized b (Attack i) on = tt
-root-sized b (Defend a) on = on
-
--- what is asked of a table there
-pub table-sized : (b : Grid) (t : List Node) → TableOnBoard b t → TableOnBoard (empty_board b.width b.height) t
-table-sized = names_sized
 
 -- the image of a root of a file
 pub file-root : (s : Symmetry) (file : TableFile) (bytes : List ℕ) → IsTextOfTable file bytes → fits s file.board.width file.board.height

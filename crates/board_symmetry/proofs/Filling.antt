@@ -2,7 +2,7 @@
 use Rattle.std.proofs.Common.{◌≡◌, ℕ, ◌+◌, ◌*◌, ◌<◌, Bool, true, false, ◌&&◌, ◌||◌, refl, sym, ap, subst, ◌∙◌, arith, List, [], ◌∷◌, nat_lt}
 use Rattle.std.proofs.Common.{replicate}
 use Rattle.std.specs.List.{list_any, list_all}
-use Rattle.std.proofs.lemmas.Bool.{both_ways, false_from_ne_true}
+use Rattle.std.proofs.lemmas.Bool.{both_ways}
 use Rattle.std.proofs.lemmas.List.{length-replicate, get_or-replicate}
 use Rattle.std.proofs.lemmas.Nat.{mul-add-lt}
 use Rattle.game_rules.specs.Grid.{Grid, IsBoard, is_on, is_empty, is_empty_cell, cell_at, put, points_of}
@@ -15,6 +15,7 @@ use Rattle.game_rules.proofs.Boards.{Apart, and_left, and_right, on_x, on_y, cel
 use Rattle.game_rules.proofs.Places.{points_on, Rising, rising-first, rows-rising, place, earlier-differs}
 use Rattle.game_rules.proofs.Points.{points-found, is_same_point-itself, is_same_point-same, is_same_point-apart}
 use Rattle.game_rules.proofs.Positions.{IsBoard-put}
+use Rattle.game_rules.proofs.PointLists.{other_first}
 use Rattle.board_symmetry.specs.Points.{fits, inverse, point_image, empty_board, board_image, with_cell}
 use Rattle.board_symmetry.specs.declared.symmetry.Symmetry.{Symmetry}
 use Rattle.board_symmetry.specs.declared.symmetry.Symmetry.TheVariants.{Identity, Half, FlipX, FlipY, Quarter, ThreeQuarter, Diagonal}
@@ -32,16 +33,12 @@ pub Distinct : List Point → Type 0
 Distinct [] = Unit {0}
 Distinct (p ∷ ps) = (is_listed p ps ≡ false) × Distinct ps
 
-differs_back : (p q : Point) → is_same_point p q ≡ false → is_same_point q p ≡ false
-differs_back p q e = false_from_ne_true _ (λ same. both_ways _ e
-    (ap (is_same_point p) (is_same_point-same q p same) ∙ is_same_point-itself p))
-
 not_later : (w k : ℕ) (p : Point) (ps : List Point) → place w p < k → Rising w k ps → is_listed p ps ≡ false
 not_later w k p [] low rising = refl
 not_later w k p (q ∷ ps) low rising =
     let first = rising-first w k q ps rising in
     let far = first.0 in
-    let differ : is_same_point q p ≡ false = differs_back p q (earlier-differs w p q (omega (arith, low, far))) in
+    let differ : is_same_point q p ≡ false = other_first p q (earlier-differs w p q (omega (arith, low, far))) in
     rw differ (not_later w (place w q + 1) p ps (omega (arith, low, far)) first.1)
 
 rising-distinct : (w k : ℕ) (ps : List Point) → Rising w k ps → Distinct ps

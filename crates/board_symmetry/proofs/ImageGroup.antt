@@ -75,7 +75,7 @@ pub names_sized : (b : Grid) (t : List Node) → TableOnBoard b t → TableOnBoa
 names_sized b [] on = tt
 names_sized b (n ∷ t) on = (record { attack = on.0.attack; replies = on.0.replies }, names_sized b t on.1)
 
-root_sized : (b : Grid) (r : Root) → RootOnBoard b r → RootOnBoard (empty_board b.width b.height) r
+pub root_sized : (b : Grid) (r : Root) → RootOnBoard b r → RootOnBoard (empty_board b.width b.height) r
 root_sized b (Attack i) on = on
 root_sized b (Defend a) on = on
 

@@ -24,7 +24,7 @@ mod BoardImages
 mod Filling
 pub mod TableImages
 -- the laws of images
-mod ImageGroup
+pub mod ImageGroup
 pub mod ImageLaws
 -- the image of a table as a file has it
 pub mod FileImages

@@ -3,7 +3,7 @@ use Rattle.std.proofs.Common.{◌≡◌, ℕ, zero, suc, ◌+◌, Bool, true, fa
 use Rattle.std.proofs.Common.{◌∷◌, map}
 use Rattle.std.specs.Prelude.{Option, None, is_none}
 use Rattle.std.specs.Cmp.{both_ways}
-use Rattle.std.specs.List.{list_any, list_all, filter, sum_by, count_by}
+use Rattle.std.specs.List.{list_any, list_all, sum_by, count_by}
 use Rattle.std.proofs.lemmas.List.Sums.{sum_by-cons}
 use Rattle.game_rules.specs.Grid.{is_empty, is_empty_cell, is_stone_of, cell_at, put, axes, points_within, stones_of, empties_of}
 use Rattle.game_rules.specs.Shapes.{run_of, five, fours_of, is_three_point, three_points_of}
@@ -19,6 +19,7 @@ use Rattle.game_rules.specs.declared.RuleKind.{RuleKind}
 use Rattle.game_rules.proofs.Boards.{and_left, and_right}
 use Rattle.game_rules.proofs.Points.{points-found}
 use Rattle.game_rules.proofs.Places.{points_on}
+use Rattle.game_rules.proofs.PointLists.{any-filter}
 use Rattle.board_symmetry.specs.Points.{empty_board}
 use Rattle.board_symmetry.proofs.Sums.{sum_by-map}
 use Rattle.board_symmetry.proofs.Turns.{Turn, within}
@@ -45,14 +46,6 @@ any_where on f (p ∷ ps) all h = by_test (f p) refl h (any_where on f ps (and_r
       → (q : Point) × (on q ≡ true) × (f q ≡ true)
   by_test true e k rest = (p, and_left (on p) _ all, e)
   by_test false e k rest = rest k
-
-any-filter : (f g : Point → Bool) (ps : List Point) → list_any f (filter g ps) ≡ list_any (λ q. g q && f q) ps
-any-filter f g [] = refl
-any-filter f g (p ∷ ps) = by_test (g p) (any-filter f g ps) where
-  by_test : (r : Bool) → list_any f (filter g ps) ≡ list_any (λ q. g q && f q) ps
-      → list_any f (cond r (p ∷ filter g ps) (filter g ps)) ≡ ((r && f p) || list_any (λ q. g q && f q) ps)
-  by_test true e = ap (λ r. f p || r) e
-  by_test false e = e
 
 module _ (w h : ℕ) (to from : Point → Point) (turn : Turn w h to from) where
   -- ---- all points of a board, and their images
@@ -106,12 +99,12 @@ module _ (w h : ℕ) (to from : Point → Point) (turn : Turn w h to from) where
       three_of-same : (d : Axis) → is_three rule (grid w h ys) (turn.axis d) (to p) foul_there ≡ is_three rule (grid w h xs) d p foul_at
       unfolding is_three three_points_of
       three_of-same d =
-          any-filter (λ q. is_none (foul_there q)) (is_three_point rule (grid w h ys) Black (turn.axis d) (to p)) (points_within w h)
+          any-filter (is_three_point rule (grid w h ys) Black (turn.axis d) (to p)) (λ q. is_none (foul_there q)) (points_within w h)
           ∙ points-any (λ q. is_three_point rule (grid w h xs) Black d p q && is_none (foul_at q))
           (λ q. is_three_point rule (grid w h ys) Black (turn.axis d) (to p) q && is_none (foul_there q))
           (λ q on_q. ap (λ r. r && is_none (foul_there (to q))) (three-same w h to from turn xs ys turned rule Black d p q on on_q)
           ∙ ap (λ (o : Option Foul). is_three_point rule (grid w h xs) Black d p q && is_none o) (alike q on_q))
-          ∙ sym (any-filter (λ q. is_none (foul_at q)) (is_three_point rule (grid w h xs) Black d p) (points_within w h))
+          ∙ sym (any-filter (is_three_point rule (grid w h xs) Black d p) (λ q. is_none (foul_at q)) (points_within w h))
 
       pub stone_foul-same : stone_foul rule (grid w h ys) (to p) foul_there ≡ stone_foul rule (grid w h xs) p foul_at
       unfolding stone_foul

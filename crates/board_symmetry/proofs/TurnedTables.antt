@@ -2,7 +2,7 @@
 use Rattle.std.proofs.Common.{◌≡◌, ◌↔◌, ℕ, zero, suc, max, true, cond, refl, sym, ap, subst, ◌∙◌, List, [], ◌∷◌, map}
 use Rattle.std.specs.Prelude.{Option, Some, None, slice_get}
 use Rattle.std.specs.Option.{option_map, option_or}
-use Rattle.std.specs.List.{list_all, AllByRecursion}
+use Rattle.std.specs.List.{list_all}
 use Rattle.std.proofs.lemmas.Option.{slice_get-map}
 use Rattle.game_rules.specs.Grid.{Grid}
 use Rattle.game_rules.specs.Play.{outcome, after}
@@ -12,6 +12,7 @@ use Rattle.game_rules.specs.declared.Outcome.{Outcome}
 use Rattle.game_rules.specs.declared.Point.{Point}
 use Rattle.game_rules.specs.declared.RuleKind.{RuleKind}
 use Rattle.game_rules.proofs.Boards.{and_left, and_right}
+use Rattle.game_rules.proofs.Tests.{all_get}
 use Rattle.game_rules.proofs.Games.{WinsOr-map}
 use Rattle.game_rules.proofs.Points.{WinsOr-on}
 use Rattle.strategy_graph.specs.Tables.{Answers, answers_of, answer, rest_node, rest_nodes, named, is_winning, NamesOnBoard, TableOnBoard}
@@ -29,12 +30,6 @@ use Rattle.board_symmetry.proofs.Alike.{grid, Turned}
 use Rattle.board_symmetry.proofs.TurnedOutcomes.{points-sum, outcome-same, after-turned}
 use Rattle.board_symmetry.proofs.TurnedWins.{replies-there, replies-here}
 use Rattle.board_symmetry.proofs.TurnedReplies.{replies_to, listed-same, greatest_listed-same}
-
--- what holds of each node of a table
-pub node_at : (P : Node → Type 0) (t : List Node) (i : ℕ) (n : Node) → AllByRecursion P t → slice_get t i ≡ Some n → P n
-node_at P [] i n all e = cc
-node_at P (m ∷ t) zero n all e = let same : m ≡ n = cc in subst P same all.0
-node_at P (m ∷ t) (suc i) n all e = node_at P t i n all.1 e
 
 module _ (w h : ℕ) (to from : Point → Point) (turn : Turn w h to from) where
   -- the answers, each reply where the turn takes it
@@ -120,7 +115,7 @@ module _ (w h : ℕ) (to from : Point → Point) (turn : Turn w h to from) where
       within-here zero j xs ys turned accepted = accepted
       within-here (suc f) j xs ys turned accepted =
           node-here rule (AcceptedWithin f rule t) (AcceptedWithin f rule (map node_to t)) (within-here f) (slice_get t j) xs ys turned
-          (λ n e. node_at (NamesOnBoard (empty_board w h)) t j n on_board e)
+          (λ n e. all_get (NamesOnBoard (empty_board w h)) t j n e on_board)
           (subst (λ (o : Option Node). AcceptedNode rule o (AcceptedWithin f rule (map node_to t)) (grid w h ys))
           (slice_get-map node_to t j) accepted)
 
@@ -176,7 +171,7 @@ module _ (w h : ℕ) (to from : Point → Point) (turn : Turn w h to from) where
           (slice_get-map node_to t j)
           ∙ ap suc (arrivals_behind-same (arrivals_within f rule t) (arrivals_within f rule (map node_to t)) (arrivals_within-same f)
           (slice_get t j) xs ys turned
-          (λ n e. node_at (NamesOnBoard (empty_board w h)) t j n on_board e))
+          (λ n e. all_get (NamesOnBoard (empty_board w h)) t j n e on_board))
 
       pub arrivals-same : (i : ℕ) (xs ys : List Cell) → Turned w h to xs ys → arrivals rule (map node_to t) i (grid w h ys)
           ≡ arrivals rule t i (grid w h xs)
@@ -210,14 +205,14 @@ module _ (w h : ℕ) (to from : Point → Point) (turn : Turn w h to from) where
       unfolding game
       game-same i xs ys [] turned all =
           ap (λ (o : Option Node). end_at rule o (grid w h ys) (λ n. Open)) (slice_get-map node_to t i)
-          ∙ end_at-same (slice_get t i) xs ys turned (λ n e. node_at (NamesOnBoard (empty_board w h)) t i n on_board e) (λ n. Open)
+          ∙ end_at-same (slice_get t i) xs ys turned (λ n e. all_get (NamesOnBoard (empty_board w h)) t i n e on_board) (λ n. Open)
           (λ n. Open) (λ n on. refl)
       game-same i xs ys (q ∷ qs) turned all =
           let on_q : within w h q ≡ true = and_left (within w h q) _ all in
           ap (λ (o : Option Node). end_at rule o (grid w h ys) (λ n. after_reply (outcome rule (after (grid w h ys) n.attack) (to q))
           (if_node (answer (answers_of n) (to q)) (λ j. game rule (map node_to t) j (after (after (grid w h ys) n.attack) (to q))
           (map to qs))))) (slice_get-map node_to t i)
-          ∙ end_at-same (slice_get t i) xs ys turned (λ n e. node_at (NamesOnBoard (empty_board w h)) t i n on_board e)
+          ∙ end_at-same (slice_get t i) xs ys turned (λ n e. all_get (NamesOnBoard (empty_board w h)) t i n e on_board)
           (λ n. after_reply (outcome rule (after (grid w h xs) n.attack) q)
           (if_node (answer (answers_of n) q) (λ j. game rule t j (after (after (grid w h xs) n.attack) q) qs)))
           (λ n. after_reply (outcome rule (after (grid w h ys) n.attack) (to q))
@@ -260,7 +255,7 @@ module _ (w h : ℕ) (to from : Point → Point) (turn : Turn w h to from) where
     depth_within-same (suc f) i =
         ap (λ (o : Option Node). node_depth o (depth_within f (map node_to t))) (slice_get-map node_to t i)
         ∙ node_depth-same (depth_within f t) (depth_within f (map node_to t)) (depth_within-same f) (slice_get t i)
-        (λ n e. ((table.nodes i n e).rising, node_at (NamesOnBoard (empty_board w h)) t i n on_board e))
+        (λ n e. ((table.nodes i n e).rising, all_get (NamesOnBoard (empty_board w h)) t i n e on_board))
 
     pub depth-same : (i : ℕ) → depth (map node_to t) i ≡ depth t i
     depth-same i = depth_within-same (suc i) i

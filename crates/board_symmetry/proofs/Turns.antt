@@ -1,6 +1,6 @@
 -- Turns of a board: maps of its points onto themselves that carry lines to lines. The eight symmetries are turns, and what holds
 -- of a board holds of what a turn makes of it.
-use Rattle.std.proofs.Common.{◌≡◌, ℕ, ◌-◌, ◌<◌, Bool, true, false, ◌&&◌, ◌||◌, refl, sym, ap, ◌∙◌, arith}
+use Rattle.std.proofs.Common.{◌≡◌, ℕ, ◌-◌, ◌<◌, Bool, true, false, ◌&&◌, ◌||◌, cond, refl, sym, ap, ◌∙◌, arith}
 use Rattle.std.specs.Prelude.{Some, nat_lt}
 use Rattle.std.specs.List.{sum_by, list_any, range_with_len}
 use Rattle.std.proofs.lemmas.Bool.{lt-ltb}
@@ -125,15 +125,28 @@ flip_sums f = omega arith
 flip_anys : (f : Axis → Bool) → list_any f axes ≡ list_any (λ d. f (flip_axis d)) axes
 flip_anys f = ap (λ r. f Row || (f Column || r)) (or-swap (f Down) (f Up) false)
 
+-- ways along the axes, turned round on some of them
+abbrev turned_way : (Axis → Bool) → Axis → Way → Way
+turned_way turned d v = cond (turned d) (opposite v) v
+
+turned_way-opposite : (turned : Axis → Bool) (d : Axis) (v : Way) → turned_way turned d (opposite v) ≡ opposite (turned_way turned d v)
+turned_way-opposite turned d v = by_test (turned d) where
+  by_test : (r : Bool) → cond r (opposite (opposite v)) (opposite v) ≡ opposite (cond r (opposite v) v)
+  by_test true = refl
+  by_test false = refl
+
 -- left and right
 abbrev flip_x : ℕ → Point → Point
 flip_x w p = record { x = w - 1 - p.x; y = p.y }
 
+abbrev turns_x : Axis → Bool
+turns_x Row = true
+turns_x Column = false
+turns_x Down = true
+turns_x Up = true
+
 abbrev way_x : Axis → Way → Way
-way_x Row v = opposite v
-way_x Column v = v
-way_x Down v = opposite v
-way_x Up v = opposite v
+way_x = turned_way turns_x
 
 module _ (w h : ℕ) where
   flip_x-steps : (v : Way) (d : Axis) (p q : Point) (x y : ℕ) → p.x < w → q.x < w → OnWay v d p x y q
@@ -167,12 +180,6 @@ module _ (w h : ℕ) where
   flip_x-kept : (p : Point) → within w h p ≡ true → within w h (flip_x w p) ≡ true
   flip_x-kept p on = let low = within_x w h p on in within_by w h (flip_x w p) (omega (arith, low)) (within_y w h p on)
 
-  flip_x-ways : (d : Axis) (v : Way) → way_x d (opposite v) ≡ opposite (way_x d v)
-  flip_x-ways Row v = refl
-  flip_x-ways Column v = refl
-  flip_x-ways Down v = refl
-  flip_x-ways Up v = refl
-
   flip_x-points : (f : Point → ℕ) → sum_by (λ q. f (flip_x w q)) (points_within w h) ≡ sum_by f (points_within w h)
   flip_x-points f =
       points_sum (λ q. f (flip_x w q)) w h
@@ -192,7 +199,7 @@ module _ (w h : ℕ) where
     back = λ v d p q x y on_p on_q e. OnWay-go v d p q x y
         (flip_x-back v d p q x y (within_x w h p on_p) (within_x w h q on_q)
         (go-OnWay (way_x d v) (flip_axis d) (flip_x w p) (flip_x w q) x y e));
-    ways = flip_x-ways;
+    ways = turned_way-opposite turns_x;
     sums = flip_sums;
     anys = flip_anys;
     points = flip_x-points;
@@ -202,11 +209,14 @@ module _ (w h : ℕ) where
 abbrev flip_y : ℕ → Point → Point
 flip_y h p = record { x = p.x; y = h - 1 - p.y }
 
+abbrev turns_y : Axis → Bool
+turns_y Row = false
+turns_y Column = true
+turns_y Down = false
+turns_y Up = false
+
 abbrev way_y : Axis → Way → Way
-way_y Row v = v
-way_y Column v = opposite v
-way_y Down v = v
-way_y Up v = v
+way_y = turned_way turns_y
 
 module _ (w h : ℕ) where
   flip_y-steps : (v : Way) (d : Axis) (p q : Point) (x y : ℕ) → p.y < h → q.y < h → OnWay v d p x y q
@@ -240,12 +250,6 @@ module _ (w h : ℕ) where
   flip_y-kept : (p : Point) → within w h p ≡ true → within w h (flip_y h p) ≡ true
   flip_y-kept p on = let low = within_y w h p on in within_by w h (flip_y h p) (within_x w h p on) (omega (arith, low))
 
-  flip_y-ways : (d : Axis) (v : Way) → way_y d (opposite v) ≡ opposite (way_y d v)
-  flip_y-ways Row v = refl
-  flip_y-ways Column v = refl
-  flip_y-ways Down v = refl
-  flip_y-ways Up v = refl
-
   flip_y-points : (f : Point → ℕ) → sum_by (λ q. f (flip_y h q)) (points_within w h) ≡ sum_by f (points_within w h)
   flip_y-points f = points_sum (λ q. f (flip_y h q)) w h ∙ reversed (row_sum f w h) h ∙ sym (points_sum f w h)
 
@@ -262,7 +266,7 @@ module _ (w h : ℕ) where
     back = λ v d p q x y on_p on_q e. OnWay-go v d p q x y
         (flip_y-back v d p q x y (within_y w h p on_p) (within_y w h q on_q)
         (go-OnWay (way_y d v) (flip_axis d) (flip_y h p) (flip_y h q) x y e));
-    ways = flip_y-ways;
+    ways = turned_way-opposite turns_y;
     sums = flip_sums;
     anys = flip_anys;
     points = flip_y-points;
@@ -280,11 +284,14 @@ swap_axis Column = Row
 swap_axis Down = Down
 swap_axis Up = Up
 
+abbrev turns_swap : Axis → Bool
+turns_swap Row = false
+turns_swap Column = false
+turns_swap Down = false
+turns_swap Up = true
+
 abbrev swap_way : Axis → Way → Way
-swap_way Row v = v
-swap_way Column v = v
-swap_way Down v = v
-swap_way Up v = opposite v
+swap_way = turned_way turns_swap
 
 swap-steps : (v : Way) (d : Axis) (p q : Point) (x y : ℕ) → OnWay v d p x y q → OnWay (swap_way d v) (swap_axis d) (swap p) x y (swap q)
 swap-steps Ahead Row p q x y e = (omega arith, omega arith)
@@ -305,12 +312,6 @@ swap-back Behind Row p q x y e = (omega arith, omega arith)
 swap-back Behind Column p q x y e = (omega arith, omega arith)
 swap-back Behind Down p q x y e = (omega arith, omega arith)
 swap-back Behind Up p q x y e = (omega arith, omega arith)
-
-swap-ways : (d : Axis) (v : Way) → swap_way d (opposite v) ≡ opposite (swap_way d v)
-swap-ways Row v = refl
-swap-ways Column v = refl
-swap-ways Down v = refl
-swap-ways Up v = refl
 
 module _ (n : ℕ) where
   swap-kept : (p : Point) → within n n p ≡ true → within n n (swap p) ≡ true
@@ -334,7 +335,7 @@ module _ (n : ℕ) where
         (swap-steps v d p q x y (go-OnWay v d p q x y e));
     back = λ v d p q x y on_p on_q e. OnWay-go v d p q x y
         (swap-back v d p q x y (go-OnWay (swap_way d v) (swap_axis d) (swap p) (swap q) x y e));
-    ways = swap-ways;
+    ways = turned_way-opposite turns_swap;
     sums = λ f. omega arith;
     anys = λ f. or-swap (f Row) (f Column) (f Down || (f Up || false));
     points = swap-points;

@@ -1,19 +1,20 @@
 -- The image has the width and the height of the board, so it is that of the file.
 use Rattle.std.proofs.Common.{inl, true, refl}
-use Rattle.board_symmetry.proofs.FileImages.{root-fits, root-sized, table-sized}
+use Rattle.board_symmetry.proofs.FileImages.{root-fits}
+use Rattle.board_symmetry.proofs.ImageGroup.{names_sized, root_sized}
 use Rattle.renju_cli.proofs.ImageLaws.{image-fit, image-made, image-writable, image-written}
 use Rattle.renju_cli.proofs.image.image_of.Goals as goal
 
 pub image_table-requires-clause-on_board : goal.image_table-requires-clause-on_board
 image_table-requires-clause-on_board c =
     rw (c.width-width.ensures.width, c.height-height.ensures.height)
-    (table-sized c.args.file.board c.args.file.table c.requires.text.1.on_board)
+    (names_sized c.args.file.board c.args.file.table c.requires.text.1.on_board)
 
 pub image_root-requires-clause-on_board : goal.image_root-requires-clause-on_board
 image_root-requires-clause-on_board c =
     let file = c.args.file in
     rw (c.width-width.ensures.width, c.height-height.ensures.height)
-    (root-sized file.board file.root (root-fits file.board file.table file.root file.moves c.requires.text.1.root).1)
+    (root_sized file.board file.root (root-fits file.board file.table file.root file.moves c.requires.text.1.root).1)
 
 pub write_table-requires : goal.write_table-requires
 write_table-requires c =
