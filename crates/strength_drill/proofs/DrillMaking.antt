@@ -54,19 +54,12 @@ module _ (rule : RuleKind) (b : Grid) (p : Point) where
   point-on few on = let test : nat_lt (all_stones b) MOST_STONES ≡ true =
       grind (arith, nat_tests) in point-by true true test (ap goes_on on)
 
-  -- the board has the same size
-  pub point-wide : (with_point rule b p).width ≡ b.width
+  -- what no move changes of the board is the same
+  pub point-same : (f : Grid → ℕ) → f (after b p) ≡ f b → f (with_point rule b p) ≡ f b
   unfolding with_point
-  point-wide = by_test (nat_lt (all_stones b) MOST_STONES && goes_on (outcome rule b p)) where
-    by_test : (r : Bool) → (cond r (after b p) b).width ≡ b.width
-    by_test true = refl
-    by_test false = refl
-
-  pub point-high : (with_point rule b p).height ≡ b.height
-  unfolding with_point
-  point-high = by_test (nat_lt (all_stones b) MOST_STONES && goes_on (outcome rule b p)) where
-    by_test : (r : Bool) → (cond r (after b p) b).height ≡ b.height
-    by_test true = refl
+  point-same f kept = by_test (nat_lt (all_stones b) MOST_STONES && goes_on (outcome rule b p)) where
+    by_test : (r : Bool) → f (cond r (after b p) b) ≡ f b
+    by_test true = kept
     by_test false = refl
 
   -- and the position is lawful
@@ -85,15 +78,19 @@ pub board-next : (rule : RuleKind) (s k : ℕ) → board_drawn rule s (k + 1) �
 unfolding board_drawn
 board-next rule s k = rw add-one refl
 
-pub board-wide : (rule : RuleKind) (s k : ℕ) → (board_drawn rule s k).width ≡ SIDE
+board-same : (f : Grid → ℕ) → ((b : Grid) (p : Point) → f (after b p) ≡ f b) → (rule : RuleKind) (s k : ℕ)
+    → f (board_drawn rule s k) ≡ f (empty_board SIDE SIDE)
 unfolding board_drawn
-board-wide rule s zero = refl
-board-wide rule s (suc k) = point-wide rule (board_drawn rule s k) (middle_point (draw_at s k)) ∙ board-wide rule s k
+board-same f kept rule s zero = refl
+board-same f kept rule s (suc k) =
+    point-same rule (board_drawn rule s k) (middle_point (draw_at s k)) f (kept (board_drawn rule s k) (middle_point (draw_at s k)))
+    ∙ board-same f kept rule s k
+
+pub board-wide : (rule : RuleKind) (s k : ℕ) → (board_drawn rule s k).width ≡ SIDE
+board-wide = board-same (λ b. b.width) (λ b p. refl)
 
 pub board-high : (rule : RuleKind) (s k : ℕ) → (board_drawn rule s k).height ≡ SIDE
-unfolding board_drawn
-board-high rule s zero = refl
-board-high rule s (suc k) = point-high rule (board_drawn rule s k) (middle_point (draw_at s k)) ∙ board-high rule s k
+board-high = board-same (λ b. b.height) (λ b p. refl)
 
 -- the empty board of the drill
 pub side-board : IsBoard (empty_board SIDE SIDE)

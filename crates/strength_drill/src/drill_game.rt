@@ -7,6 +7,7 @@
 ghost use Rattle.std.specs.Prelude.{◌≡◌, ◌∷◌, [], ◌≤◌, ℕ, IfOk, OnOk};
 ghost use Rattle.game_rules.specs.Play.{mover};
 ghost use Rattle.strategy_graph.specs.declared.roots.Root.{Root};
+ghost use Rattle.brain_session.specs.States.{new_brain};
 ghost use Rattle.strength_drill.specs.DrillGames.{position_lines, told_all, state_begun, drawn_move as drawn_move_lem, board_point as board_point_lem, stone_line as stone_line_lem, wish_of as wish_of_lem, move_said as move_said_lem, says_foul as says_foul_lem, IsGamePlayed};
 
 use crate::draws::Draws;
@@ -43,7 +44,24 @@ pub(crate) fn play_game<R: Rule>(
     ensures few { IfOk result (λ p. p.moves ≤ 225) }
 {
     let mut brain = Brain::new(alloc, Some(held))?;
-    tell_position(&mut brain, R::KIND, position.board(), position.side())?;
+    play_against::<R>(&mut brain, &mut position, draws)
+}
+
+/// The same against this new brain. It owns neither the brain nor the position, so that none of its ways out lets them go: what a
+/// proof follows of that is long.
+fn play_against<R: Rule>(
+    brain: &mut Brain,
+    position: &mut Position<R>,
+    draws: &mut Draws,
+) -> Result<GameResult, AllocError>
+    requires new { brain.old ≡ new_brain brain.old.held }
+    requires wide { position.old.width ≡ SIDE }
+    requires high { position.old.height ≡ SIDE }
+    requires held { (i : ℕ) × (brain.old.held.roots ≡ record { root = Root.Attack i; kind = R.KIND; board = position.old } ∷ []) }
+    ensures played { IfOk result (λ p. IsGamePlayed (state_begun brain.old.held R.KIND position.old) draws.old.number p.moves p.won draws.new.number) }
+    ensures few { IfOk result (λ p. p.moves ≤ 225) }
+{
+    tell_position(brain, R::KIND, position.board(), position.side())?;
     let Some(first) = move_said(brain.step(&Command::Done)?) else {
         unreachable!()
     };
