@@ -15,8 +15,6 @@ use Rattle.game_rules.specs.declared.Outcome.TheVariants.{Refused, Wins, Fouls, 
 use Rattle.game_rules.specs.declared.Point.{Point}
 use Rattle.game_rules.proofs.Boards.{other-other}
 use Rattle.game_rules.proofs.Points.{is_same_point-same}
-use Rattle.strategy_graph.specs.declared.Rest.{Rest}
-use Rattle.strategy_graph.specs.declared.Rest.TheVariants.{Wins as WinningRest, To, Nothing}
 use Rattle.strategy_graph.specs.declared.Node.{Node}
 use Rattle.strategy_graph.specs.declared.roots.Root.{Root}
 use Rattle.strategy_graph.specs.declared.roots.Root.TheVariants.{Attack, Defend}
@@ -24,32 +22,24 @@ use Rattle.strategy_graph.specs.Roots.{AcceptedRoot}
 use Rattle.strategy_graph.specs.Tables.{Answers, answers_of, answer, is_winning}
 use Rattle.strategy_graph.specs.Acceptance.{Answered, NotWinning, Meets, AcceptedNode, AcceptedWithin, Accepted}
 use Rattle.strategy_graph.specs.Games.{End, Won as EndWon, Open as EndOpen, one_later, attacks, game}
+use Rattle.strategy_graph.proofs.Fuel.{not_winning}
 use Rattle.game_referee.specs.declared.GameVerdict.{GameVerdict}
 use Rattle.game_referee.specs.declared.GameVerdict.TheVariants.{Open, Illegal, AfterEnd, Won, Fouled, Drawn}
 use Rattle.game_referee.specs.declared.ReplayAnswer.TheVariants.{Follows}
-use Rattle.game_referee.specs.Verdicts.{if_last, outcomes, verdict, verdict_from}
+use Rattle.game_referee.specs.Verdicts.{outcomes, verdict, verdict_from}
 use Rattle.game_referee.specs.Replays.{departs_from, is_attack, is_stray, next_turn, replay, strays}
-use Rattle.game_referee.specs.Followers.{
-  Agrees,
-  FollowerNeverLoses,
-  GamesGoByTable,
-  IsKeptBy,
-  IsPlayed,
-  even_moves,
-  mover_after,
-  odd_moves,
-  side_of,
-}
+use Rattle.game_referee.specs.Followers.{Agrees, FollowerNeverLoses, GamesGoByTable, IsKeptBy, IsPlayed, even_moves, mover_after, odd_moves}
+use Rattle.game_referee.specs.Followers.{side_of}
 
--- ---- what agrees, where c moves were played before
+-- ---- what agrees, where c moves were played before; a point that is no move is a reply
 
 abbrev AgreesFrom : ℕ → Side → ℕ → GameVerdict → End → Type 0
 AgreesFrom c s len (Open n) e = (n ≡ c + len) × ((k : ℕ) → len ≡ 2 * k + 1 → e ≡ EndOpen)
 AgreesFrom c s len (Won side n) e = (side ≡ s) × (n ≡ c + len) × ((k : ℕ) × (len + 1 ≡ 2 * k) × (e ≡ EndWon k))
 AgreesFrom c s len (Fouled f n) e = (n ≡ c + len) × ((k : ℕ) × (len ≡ 2 * k) × (e ≡ EndWon k))
 AgreesFrom c s len (Drawn n) e = ⊥
-AgreesFrom c s len (Illegal n) e = ⊥
-AgreesFrom c s len (AfterEnd n) e = ⊥
+AgreesFrom c s len (Illegal n) e = (k : ℕ) × (n ≡ c + 2 * k)
+AgreesFrom c s len (AfterEnd n) e = Unit {0}
 
 -- an attack and a reply that go on before it
 agrees-later : (c : ℕ) (s : Side) (len : ℕ) (v : GameVerdict) (e : End) → AgreesFrom (c + 1 + 1) s len v e
@@ -60,8 +50,8 @@ agrees-later c s len (Won side n) e h =
 agrees-later c s len (Fouled f n) e h =
     ((let is = h.0 in omega (arith, is)), (h.1.0 + 1, (let is = h.1.1 in omega (arith, is)), ap one_later h.1.2))
 agrees-later c s len (Drawn n) e h = h
-agrees-later c s len (Illegal n) e h = h
-agrees-later c s len (AfterEnd n) e h = h
+agrees-later c s len (Illegal n) e h = (h.0 + 1, let is = h.1 in omega (arith, is))
+agrees-later c s len (AfterEnd n) e h = tt
 
 agrees-by : (c : ℕ) (s : Side) (len : ℕ) (v w : GameVerdict) (e d : End) → v ≡ w → e ≡ d → AgreesFrom c s len w d → AgreesFrom c s len v e
 agrees-by c s len v w e d same ends h = subst (λ (x : GameVerdict). AgreesFrom c s len x e) (sym same)
@@ -71,7 +61,8 @@ agrees-by c s len v w e d same ends h = subst (λ (x : GameVerdict). AgreesFrom 
 
 record Held (rule : RuleKind) (t : List Node) (i : ℕ) (b : Grid) (ms : List Point) (c : ℕ) (s : Side) : Type 0 where
   agrees : AgreesFrom c s (length ms) (verdict_from c s (outcomes rule b ms)) (game rule t i b (even_moves ms))
-  played : (later : List Point) × (odd_moves ms ++ later ≡ attacks rule t i b (even_moves ms))
+  played : IsPlayed (verdict_from c s (outcomes rule b ms)) → (later : List Point)
+      × (odd_moves ms ++ later ≡ attacks rule t i b (even_moves ms))
 
 abbrev FollowsFrom : RuleKind → List Node → ℕ → Grid → List Point → ℕ → Type 0
 FollowsFrom rule t i b ms c = departs_from c (strays t (Some (Attack i)) ms) (outcomes rule b ms) ≡ Follows
@@ -79,25 +70,23 @@ FollowsFrom rule t i b ms c = departs_from c (strays t (Some (Attack i)) ms) (ou
 -- what holds of all games from the nodes of which Next holds
 abbrev HeldAfter : RuleKind → List Node → (ℕ → Grid → Type 0) → Type 0
 HeldAfter rule t Next = (j : ℕ) (b : Grid) (ms : List Point) (c : ℕ) (s : Side) → Next j b → FollowsFrom rule t j b ms c
-    → IsPlayed (verdict_from c s (outcomes rule b ms)) → Held rule t j b ms c s
-
-not_winning : (r : Rest) → NotWinning r → is_winning r ≡ false
-not_winning WinningRest h = absurd h
-not_winning (To j) h = refl
-not_winning Nothing h = refl
+    → Held rule t j b ms c s
 
 module _ (rule : RuleKind) (t : List Node) (i : ℕ) (b : Grid) (n : Node) (at : slice_get t i ≡ Some n) (c : ℕ) (s : Side) where
-  -- the attack wins, and is the last move
-  attack-wins : outcome rule b n.attack ≡ Wins → (more : List Point) → IsPlayed (verdict_from c s (outcomes rule b (n.attack ∷ more)))
-      → Held rule t i b (n.attack ∷ more) c s
+  -- the attack wins, and is the last move that was played
+  attack-wins : outcome rule b n.attack ≡ Wins → (more : List Point) → Held rule t i b (n.attack ∷ more) c s
   unfolding game attacks
-  attack-wins won [] played = record {
+  attack-wins won [] = record {
     agrees = agrees-by c s 1 _ (Won s (c + 1)) _ (EndWon 1) (ap (λ (o : Outcome). verdict_from c s (o ∷ [])) won) (rw (at, won) refl)
         (refl, refl, (1, refl, refl));
-    played = ([], rw (at, won) refl);
+    played = λ is. ([], rw (at, won) refl);
   }
-  attack-wins won (q ∷ more) played = absurd
-      (subst (λ (o : Outcome). IsPlayed (verdict_from c s (o ∷ outcomes rule (after b n.attack) (q ∷ more)))) won played)
+  attack-wins won (q ∷ more) =
+      let after_end = ap (λ (o : Outcome). verdict_from c s (o ∷ outcomes rule (after b n.attack) (q ∷ more))) won in
+      record {
+        agrees = agrees-by c s _ _ (AfterEnd (c + 1 + 1)) _ _ after_end refl tt;
+        played = λ is. absurd (subst IsPlayed after_end is);
+      }
 
   module _ (on : outcome rule b n.attack ≡ GoesOn) (rest : is_winning n.rest ≡ false) where
     -- the attack goes on, and is the last move
@@ -106,7 +95,7 @@ module _ (rule : RuleKind) (t : List Node) (i : ℕ) (b : Grid) (n : Node) (at :
     attack-open = record {
       agrees = agrees-by c s 1 _ (Open (c + 1)) _ EndOpen (ap (λ (o : Outcome). verdict_from c s (o ∷ [])) on) (rw (at, on, rest) refl)
           (refl, λ k odd. refl);
-      played = ([], rw (at, on, rest) refl);
+      played = λ is. ([], rw (at, on, rest) refl);
     }
 
     module _ (q : Point) where
@@ -123,16 +112,26 @@ module _ (rule : RuleKind) (t : List Node) (i : ℕ) (b : Grid) (n : Node) (at :
           → IsPlayed (verdict_from (c + 1) (other s) (o ∷ outcomes rule (after (after b n.attack) q) more))
       played-reply more o is played = subst IsPlayed (by_reply more o is) played
 
-      -- the reply fouls, and is the last move
+      -- the reply is no move
+      reply-refused : outcome rule (after b n.attack) q ≡ Refused → (more : List Point) → Held rule t i b (n.attack ∷ q ∷ more) c s
+      reply-refused e more = record {
+        agrees = agrees-by c s _ _ (Illegal (c + 1 + 1)) _ _ (by_reply more Refused e) refl (1, omega arith);
+        played = λ is. absurd (played-reply more Refused e is);
+      }
+
+      -- the reply fouls, and is the last move that was played
       reply-fouls : (f : Foul) → outcome rule (after b n.attack) q ≡ Fouls f → (more : List Point)
-          → IsPlayed (verdict_from c s (outcomes rule b (n.attack ∷ q ∷ more))) → Held rule t i b (n.attack ∷ q ∷ more) c s
+          → Held rule t i b (n.attack ∷ q ∷ more) c s
       unfolding game attacks
-      reply-fouls f e [] played = record {
+      reply-fouls f e [] = record {
         agrees = agrees-by c s 2 _ (Fouled f (c + 1 + 1)) _ (EndWon 1) (by_reply [] (Fouls f) e) (rw (at, on, rest, e) refl)
             (omega arith, (1, refl, refl));
-        played = ([], rw (at, on, rest, e) refl);
+        played = λ is. ([], rw (at, on, rest, e) refl);
       }
-      reply-fouls f e (x ∷ more) played = absurd (played-reply (x ∷ more) (Fouls f) e played)
+      reply-fouls f e (x ∷ more) = record {
+        agrees = agrees-by c s _ _ (AfterEnd (c + 1 + 1 + 1)) _ _ (by_reply (x ∷ more) (Fouls f) e) refl tt;
+        played = λ is. absurd (played-reply (x ∷ more) (Fouls f) e is);
+      }
 
       module _ (more : List Point) (j : ℕ) (go : outcome rule (after b n.attack) q ≡ GoesOn) (some : answer (answers_of n) q ≡ Some j) where
         -- the reply goes on to its answer
@@ -145,10 +144,13 @@ module _ (rule : RuleKind) (t : List Node) (i : ℕ) (b : Grid) (n : Node) (at :
               (by_reply more GoesOn go ∙ ap (λ (x : Side). verdict_from (c + 1 + 1) x (outcomes rule (after (after b n.attack) q) more))
               (other-other s))
               (rw (at, on, rest, go, some) refl) (agrees-later c s (length more) _ _ h.agrees);
-          played =
+          played = λ is.
               let next : attacks rule t i b (q ∷ even_moves more) ≡ n.attack ∷ attacks rule t j (after (after b n.attack) q)
               (even_moves more) = rw (at, on, rest, go, some) refl in
-              (h.played.0, ap (λ (l : List Point). n.attack ∷ l) h.played.1 ∙ sym next);
+              let later = h.played (subst (λ (x : Side).
+              IsPlayed (verdict_from (c + 1 + 1) x (outcomes rule (after (after b n.attack) q) more))) (other-other s)
+              (played-reply more GoesOn go is)) in
+              (later.0, ap (λ (l : List Point). n.attack ∷ l) later.1 ∙ sym next);
         }
 
         -- and the game follows the table from there
@@ -166,32 +168,24 @@ module _ (rule : RuleKind) (t : List Node) (i : ℕ) (b : Grid) (n : Node) (at :
             (false ∷ strays t (option_map (λ (k : ℕ). Attack k) (answer (answers_of n) q)) more) (o ∷ os) ≡ Follows) go f2 in
             subst (λ (x : Option ℕ). departs_from (c + 1 + 1) (strays t (option_map (λ (k : ℕ). Attack k) x) more) os ≡ Follows) some f3
 
-        follows-held : (Next : ℕ → Grid → Type 0) → HeldAfter rule t Next → Next j (after (after b n.attack) q)
-            → departs_from c (false ∷ strays t (option_map (λ (m : Node). Defend (answers_of m)) (slice_get t i)) (q ∷ more))
-            (outcomes rule b (n.attack ∷ q ∷ more)) ≡ Follows
-            → IsPlayed (verdict_from c s (outcomes rule b (n.attack ∷ q ∷ more))) → Held rule t i b (n.attack ∷ q ∷ more) c s
-        follows-held Next held next follows played =
-            let later = subst (λ (x : Side). IsPlayed (verdict_from (c + 1 + 1) x (outcomes rule (after (after b n.attack) q) more)))
-            (other-other s) (played-reply more GoesOn go played) in
-            reply-next (held j (after (after b n.attack) q) more (c + 1 + 1) s next (follows-next follows) later)
-
       reply-held : (Next : ℕ → Grid → Type 0) → HeldAfter rule t Next → Meets rule (answers_of n) Next (after b n.attack) q
           → (more : List Point)
           → departs_from c (false ∷ strays t (option_map (λ (m : Node). Defend (answers_of m)) (slice_get t i)) (q ∷ more))
           (outcomes rule b (n.attack ∷ q ∷ more)) ≡ Follows
-          → IsPlayed (verdict_from c s (outcomes rule b (n.attack ∷ q ∷ more))) → Held rule t i b (n.attack ∷ q ∷ more) c s
-      reply-held Next held meets more follows played = by_outcome (outcome rule (after b n.attack) q) refl meets where
+          → Held rule t i b (n.attack ∷ q ∷ more) c s
+      reply-held Next held meets more follows = by_outcome (outcome rule (after b n.attack) q) refl meets where
         by_answer : outcome rule (after b n.attack) q ≡ GoesOn → (o : Option ℕ) → answer (answers_of n) q ≡ o
             → Answered o (λ j. Next j (after (after b n.attack) q)) → Held rule t i b (n.attack ∷ q ∷ more) c s
         by_answer go None is h = absurd h
-        by_answer go (Some j) is h = follows-held more j go is Next held h follows played
+        by_answer go (Some j) is h = reply-next more j go is
+            (held j (after (after b n.attack) q) more (c + 1 + 1) s h (follows-next more j go is follows))
 
         by_outcome : (o : Outcome) → outcome rule (after b n.attack) q ≡ o
             → LosesOr o (Answered (answer (answers_of n) q) (λ j. Next j (after (after b n.attack) q)))
             → Held rule t i b (n.attack ∷ q ∷ more) c s
-        by_outcome Refused is h = absurd (played-reply more Refused is played)
+        by_outcome Refused is h = reply-refused is more
         by_outcome Wins is h = absurd h
-        by_outcome (Fouls f) is h = reply-fouls f is more played
+        by_outcome (Fouls f) is h = reply-fouls f is more
         by_outcome Draws is h = absurd h
         by_outcome GoesOn is h = by_answer is (answer (answers_of n) q) refl h
 
@@ -199,24 +193,24 @@ module _ (rule : RuleKind) (t : List Node) (i : ℕ) (b : Grid) (n : Node) (at :
       (NotWinning n.rest × ((q : Point) → Meets rule (answers_of n) Next (after b n.attack) q)) → (more : List Point)
       → departs_from c (false ∷ strays t (option_map (λ (m : Node). Defend (answers_of m)) (slice_get t i)) more)
       (outcomes rule b (n.attack ∷ more)) ≡ Follows
-      → IsPlayed (verdict_from c s (outcomes rule b (n.attack ∷ more))) → Held rule t i b (n.attack ∷ more) c s
-  attack-held Next held accepted more follows played = by_outcome (outcome rule b n.attack) refl accepted where
+      → Held rule t i b (n.attack ∷ more) c s
+  attack-held Next held accepted more follows = by_outcome (outcome rule b n.attack) refl accepted where
     by_more : outcome rule b n.attack ≡ GoesOn → NotWinning n.rest × ((q : Point) → Meets rule (answers_of n) Next (after b n.attack) q)
         → (ms : List Point)
         → departs_from c (false ∷ strays t (option_map (λ (m : Node). Defend (answers_of m)) (slice_get t i)) ms)
         (outcomes rule b (n.attack ∷ ms)) ≡ Follows
-        → IsPlayed (verdict_from c s (outcomes rule b (n.attack ∷ ms))) → Held rule t i b (n.attack ∷ ms) c s
-    by_more on h [] fol pl = attack-open on (not_winning n.rest h.0)
-    by_more on h (q ∷ ms) fol pl = reply-held on (not_winning n.rest h.0) q Next held (h.1 q) ms fol pl
+        → Held rule t i b (n.attack ∷ ms) c s
+    by_more on h [] fol = attack-open on (not_winning n.rest h.0)
+    by_more on h (q ∷ ms) fol = reply-held on (not_winning n.rest h.0) q Next held (h.1 q) ms fol
 
     by_outcome : (o : Outcome) → outcome rule b n.attack ≡ o
         → WinsOr o (NotWinning n.rest × ((q : Point) → Meets rule (answers_of n) Next (after b n.attack) q))
         → Held rule t i b (n.attack ∷ more) c s
     by_outcome Refused is h = absurd h
-    by_outcome Wins is h = attack-wins is more played
+    by_outcome Wins is h = attack-wins is more
     by_outcome (Fouls f) is h = absurd h
     by_outcome Draws is h = absurd h
-    by_outcome GoesOn is h = by_more is h more follows played
+    by_outcome GoesOn is h = by_more is h more follows
 
 -- a first move that does not stray is the attack
 first_stray : (bs : List Bool) (os : List Outcome) (c : ℕ) (stray : Bool) → departs_from c (stray ∷ bs) os ≡ Follows → stray ≡ false
@@ -231,37 +225,36 @@ is_attack-same n p h = by_test (is_same_point n.attack p) refl where
 
 node-held : (rule : RuleKind) (t : List Node) (i : ℕ) (b : Grid) (Next : ℕ → Grid → Type 0) → HeldAfter rule t Next → (o : Option Node)
     → slice_get t i ≡ o → AcceptedNode rule o Next b → (ms : List Point) (c : ℕ) (s : Side)
-    → FollowsFrom rule t i b ms c → IsPlayed (verdict_from c s (outcomes rule b ms)) → Held rule t i b ms c s
-node-held rule t i b Next held None at h ms c s follows played = absurd h
-node-held rule t i b Next held (Some n) at h [] c s follows played = record {
+    → FollowsFrom rule t i b ms c → Held rule t i b ms c s
+node-held rule t i b Next held None at h ms c s follows = absurd h
+node-held rule t i b Next held (Some n) at h [] c s follows = record {
   agrees = (omega arith, λ k odd. absurd (omega (arith, odd)));
-  played = (attacks rule t i b [], refl);
+  played = λ is. (attacks rule t i b [], refl);
 }
-node-held rule t i b Next held (Some n) at h (p ∷ more) c s follows played =
+node-held rule t i b Next held (Some n) at h (p ∷ more) c s follows =
     let bs : List Bool = strays t (option_map (λ (m : Node). Defend (answers_of m)) (slice_get t i)) more in
     let stray : not (is_attack (slice_get t i) p) ≡ false = first_stray bs (outcomes rule b (p ∷ more)) c _ follows in
     let same : n.attack ≡ p = is_attack-same n p (subst (λ (o : Option Node). not (is_attack o p) ≡ false) at stray) in
     let on = subst (λ (x : Bool). departs_from c (x ∷ bs) (outcomes rule b (p ∷ more)) ≡ Follows) stray follows in
     subst (λ (x : Point). Held rule t i b (x ∷ more) c s) same
     (attack-held rule t i b n at c s Next held h more
-    (subst (λ (x : Point). departs_from c (false ∷ bs) (outcomes rule b (x ∷ more)) ≡ Follows) (sym same) on)
-    (subst (λ (x : Point). IsPlayed (verdict_from c s (outcomes rule b (x ∷ more)))) (sym same) played))
+    (subst (λ (x : Point). departs_from c (false ∷ bs) (outcomes rule b (x ∷ more)) ≡ Follows) (sym same) on))
 
 within-held : (rule : RuleKind) (t : List Node) (f : ℕ) → HeldAfter rule t (AcceptedWithin f rule t)
 unfolding AcceptedWithin
-within-held rule t zero i b ms c s h follows played = absurd h
-within-held rule t (suc f) i b ms c s h follows played = node-held rule t i b (AcceptedWithin f rule t) (within-held rule t f)
-    (slice_get t i) refl h ms c s follows played
+within-held rule t zero i b ms c s h follows = absurd h
+within-held rule t (suc f) i b ms c s h follows = node-held rule t i b (AcceptedWithin f rule t) (within-held rule t f)
+    (slice_get t i) refl h ms c s follows
 
 -- ---- the whole game
 
-agrees-all : (s : Side) (len : ℕ) (v : GameVerdict) (e : End) → AgreesFrom 0 s len v e → Agrees s len v e
-agrees-all s len (Open n) e h = (let is = h.0 in omega (arith, is), h.1)
-agrees-all s len (Won side n) e h = (h.0, (let is = h.1 in omega (arith, is)), h.2)
-agrees-all s len (Fouled f n) e h = ((let is = h.0 in omega (arith, is)), h.1)
-agrees-all s len (Drawn n) e h = h
-agrees-all s len (Illegal n) e h = h
-agrees-all s len (AfterEnd n) e h = h
+agrees-all : (s : Side) (len : ℕ) (v : GameVerdict) (e : End) → IsPlayed v → AgreesFrom 0 s len v e → Agrees s len v e
+agrees-all s len (Open n) e is h = (let all = h.0 in omega (arith, all), h.1)
+agrees-all s len (Won side n) e is h = (h.0, (let all = h.1 in omega (arith, all)), h.2)
+agrees-all s len (Fouled f n) e is h = ((let all = h.0 in omega (arith, all)), h.1)
+agrees-all s len (Drawn n) e is h = h
+agrees-all s len (Illegal n) e is h = absurd is
+agrees-all s len (AfterEnd n) e is h = absurd is
 
 -- where the last move is an attack, the verdict is a win exactly where the end is one, with as many attacks
 won_exactly : (s : Side) (len : ℕ) (v : GameVerdict) (e : End) → Agrees s len v e → (j k : ℕ) → len ≡ 2 * j + 1
@@ -296,10 +289,10 @@ open_exactly s len (AfterEnd n) e h j odd = absurd h
 pub games-go-by-table : GamesGoByTable
 unfolding replay verdict
 games-go-by-table rule t i b ms accepted follows played =
-    let held = within-held rule t (suc i) i b ms 0 (mover b) accepted follows played in
-    let agrees = agrees-all (mover b) (length ms) (verdict rule b ms) (game rule t i b (even_moves ms)) held.agrees in
+    let held = within-held rule t (suc i) i b ms 0 (mover b) accepted follows in
+    let agrees = agrees-all (mover b) (length ms) (verdict rule b ms) (game rule t i b (even_moves ms)) played held.agrees in
     record {
-      played = held.played;
+      played = held.played played;
       agrees = agrees;
       won = λ j k odd. won_exactly (mover b) (length ms) (verdict rule b ms) (game rule t i b (even_moves ms)) agrees j k odd;
       open_end = λ j odd. open_exactly (mover b) (length ms) (verdict rule b ms) (game rule t i b (even_moves ms)) agrees j odd;
@@ -317,126 +310,10 @@ mover_odd : (s : Side) (m k : ℕ) → m ≡ 2 * k + 1 → mover_after s m ≡ o
 mover_odd s zero k odd = absurd (omega (arith, odd))
 mover_odd s (suc m) k odd = ap other (mover_even s m k (omega (arith, odd)))
 
--- ---- a point that is no move is a reply, where c moves were played before
-
-abbrev IsReplys : ℕ → GameVerdict → Type 0
-IsReplys c (Open n) = Unit {0}
-IsReplys c (Illegal n) = (k : ℕ) × (n ≡ c + 2 * k)
-IsReplys c (AfterEnd n) = Unit {0}
-IsReplys c (Won side n) = Unit {0}
-IsReplys c (Fouled f n) = Unit {0}
-IsReplys c (Drawn n) = Unit {0}
-
-replys-later : (c : ℕ) (v : GameVerdict) → IsReplys (c + 1 + 1) v → IsReplys c v
-replys-later c (Open n) h = tt
-replys-later c (Illegal n) h = (h.0 + 1, let is = h.1 in omega (arith, is))
-replys-later c (AfterEnd n) h = tt
-replys-later c (Won side n) h = tt
-replys-later c (Fouled f n) h = tt
-replys-later c (Drawn n) h = tt
-
-replys-last : (c : ℕ) (v : GameVerdict) (n : ℕ) (os : List Outcome) → IsReplys c v → IsReplys c (if_last v n os)
-replys-last c v n [] h = h
-replys-last c v n (o ∷ os) h = tt
-
--- what holds of all games from the nodes of which Next holds
-abbrev ReplysAfter : RuleKind → List Node → (ℕ → Grid → Type 0) → Type 0
-ReplysAfter rule t Next = (j : ℕ) (b : Grid) (ms : List Point) (c : ℕ) (s : Side) → Next j b → FollowsFrom rule t j b ms c
-    → IsReplys c (verdict_from c s (outcomes rule b ms))
-
-module _ (rule : RuleKind) (t : List Node) (i : ℕ) (b : Grid) (n : Node) (at : slice_get t i ≡ Some n) (c : ℕ) (s : Side)
-    (Next : ℕ → Grid → Type 0) (replys : ReplysAfter rule t Next) where
-  module _ (on : outcome rule b n.attack ≡ GoesOn) (rest : is_winning n.rest ≡ false) (q : Point) (more : List Point) where
-    by_reply-replys : (o : Outcome) → outcome rule (after b n.attack) q ≡ o
-        → IsReplys c (verdict_from (c + 1) (other s) (o ∷ outcomes rule (after (after b n.attack) q) more))
-        → IsReplys c (verdict_from c s (outcomes rule b (n.attack ∷ q ∷ more)))
-    by_reply-replys o is h = subst (IsReplys c) (sym (by_reply rule t i b n at c s on rest q more o is)) h
-
-    reply-replys : Meets rule (answers_of n) Next (after b n.attack) q
-        → departs_from c (false ∷ strays t (option_map (λ (m : Node). Defend (answers_of m)) (slice_get t i)) (q ∷ more))
-        (outcomes rule b (n.attack ∷ q ∷ more)) ≡ Follows
-        → IsReplys c (verdict_from c s (outcomes rule b (n.attack ∷ q ∷ more)))
-    reply-replys meets follows = by_outcome (outcome rule (after b n.attack) q) refl meets where
-      by_answer : outcome rule (after b n.attack) q ≡ GoesOn → (o : Option ℕ) → answer (answers_of n) q ≡ o
-          → Answered o (λ j. Next j (after (after b n.attack) q))
-          → IsReplys c (verdict_from (c + 1 + 1) (other (other s)) (outcomes rule (after (after b n.attack) q) more))
-      by_answer go None is h = absurd h
-      by_answer go (Some j) is h = replys-later c _ (replys j (after (after b n.attack) q) more (c + 1 + 1) (other (other s)) h
-          (follows-next rule t i b n at c s on rest q more j go is follows))
-
-      by_outcome : (o : Outcome) → outcome rule (after b n.attack) q ≡ o
-          → LosesOr o (Answered (answer (answers_of n) q) (λ j. Next j (after (after b n.attack) q)))
-          → IsReplys c (verdict_from c s (outcomes rule b (n.attack ∷ q ∷ more)))
-      by_outcome Refused is h = by_reply-replys Refused is (1, omega arith)
-      by_outcome Wins is h = absurd h
-      by_outcome (Fouls f) is h = by_reply-replys (Fouls f) is
-          (replys-last c (Fouled f (c + 1 + 1)) (c + 1 + 1) (outcomes rule (after (after b n.attack) q) more) tt)
-      by_outcome Draws is h = absurd h
-      by_outcome GoesOn is h = by_reply-replys GoesOn is (by_answer is (answer (answers_of n) q) refl h)
-
-  attack-replys : WinsOr (outcome rule b n.attack)
-      (NotWinning n.rest × ((q : Point) → Meets rule (answers_of n) Next (after b n.attack) q)) → (more : List Point)
-      → departs_from c (false ∷ strays t (option_map (λ (m : Node). Defend (answers_of m)) (slice_get t i)) more)
-      (outcomes rule b (n.attack ∷ more)) ≡ Follows
-      → IsReplys c (verdict_from c s (outcomes rule b (n.attack ∷ more)))
-  attack-replys accepted more follows = by_outcome (outcome rule b n.attack) refl accepted where
-    by_attack : (o : Outcome) → outcome rule b n.attack ≡ o → (ms : List Point)
-        → IsReplys c (verdict_from c s (o ∷ outcomes rule (after b n.attack) ms))
-        → IsReplys c (verdict_from c s (outcomes rule b (n.attack ∷ ms)))
-    by_attack o is ms h =
-        subst (λ (x : Outcome). IsReplys c (verdict_from c s (x ∷ outcomes rule (after b n.attack) ms))) (sym is) h
-
-    by_more : outcome rule b n.attack ≡ GoesOn → NotWinning n.rest × ((q : Point) → Meets rule (answers_of n) Next (after b n.attack) q)
-        → (ms : List Point)
-        → departs_from c (false ∷ strays t (option_map (λ (m : Node). Defend (answers_of m)) (slice_get t i)) ms)
-        (outcomes rule b (n.attack ∷ ms)) ≡ Follows
-        → IsReplys c (verdict_from c s (outcomes rule b (n.attack ∷ ms)))
-    by_more on h [] fol = by_attack GoesOn on [] tt
-    by_more on h (q ∷ ms) fol = reply-replys on (not_winning n.rest h.0) q ms (h.1 q) fol
-
-    by_outcome : (o : Outcome) → outcome rule b n.attack ≡ o
-        → WinsOr o (NotWinning n.rest × ((q : Point) → Meets rule (answers_of n) Next (after b n.attack) q))
-        → IsReplys c (verdict_from c s (outcomes rule b (n.attack ∷ more)))
-    by_outcome Refused is h = absurd h
-    by_outcome Wins is h = by_attack Wins is more (replys-last c (Won s (c + 1)) (c + 1) (outcomes rule (after b n.attack) more) tt)
-    by_outcome (Fouls f) is h = absurd h
-    by_outcome Draws is h = absurd h
-    by_outcome GoesOn is h = by_more is h more follows
-
-node-replys : (rule : RuleKind) (t : List Node) (i : ℕ) (b : Grid) (Next : ℕ → Grid → Type 0) → ReplysAfter rule t Next
-    → (o : Option Node) → slice_get t i ≡ o → AcceptedNode rule o Next b → (ms : List Point) (c : ℕ) (s : Side)
-    → FollowsFrom rule t i b ms c → IsReplys c (verdict_from c s (outcomes rule b ms))
-node-replys rule t i b Next replys None at h ms c s follows = absurd h
-node-replys rule t i b Next replys (Some n) at h [] c s follows = tt
-node-replys rule t i b Next replys (Some n) at h (p ∷ more) c s follows =
-    let bs : List Bool = strays t (option_map (λ (m : Node). Defend (answers_of m)) (slice_get t i)) more in
-    let stray : not (is_attack (slice_get t i) p) ≡ false = first_stray bs (outcomes rule b (p ∷ more)) c _ follows in
-    let same : n.attack ≡ p = is_attack-same n p (subst (λ (o : Option Node). not (is_attack o p) ≡ false) at stray) in
-    let on = subst (λ (x : Bool). departs_from c (x ∷ bs) (outcomes rule b (p ∷ more)) ≡ Follows) stray follows in
-    subst (λ (x : Point). IsReplys c (verdict_from c s (outcomes rule b (x ∷ more)))) same
-    (attack-replys rule t i b n at c s Next replys h more
-    (subst (λ (x : Point). departs_from c (false ∷ bs) (outcomes rule b (x ∷ more)) ≡ Follows) (sym same) on))
-
-within-replys : (rule : RuleKind) (t : List Node) (f : ℕ) → ReplysAfter rule t (AcceptedWithin f rule t)
-unfolding AcceptedWithin
-within-replys rule t zero i b ms c s h follows = absurd h
-within-replys rule t (suc f) i b ms c s h follows = node-replys rule t i b (AcceptedWithin f rule t) (within-replys rule t f)
-    (slice_get t i) refl h ms c s follows
-
--- only of a game that was played is more asked than whose move is none
-kept-played : (c : ℕ) (s first : Side) (v : GameVerdict) → ((m k : ℕ) → m ≡ c + 2 * k → mover_after first m ≡ s) → IsReplys c v
-    → (IsPlayed v → IsKeptBy s first v) → IsKeptBy s first v
-kept-played c s first (Open n) turn r h = tt
-kept-played c s first (Illegal n) turn r h = turn n r.0 r.1
-kept-played c s first (AfterEnd n) turn r h = tt
-kept-played c s first (Won side n) turn r h = h tt
-kept-played c s first (Fouled f n) turn r h = h tt
-kept-played c s first (Drawn n) turn r h = h tt
-
 kept-agrees : (c : ℕ) (s first : Side) (len : ℕ) (v : GameVerdict) (e : End) → ((m k : ℕ) → m ≡ c + 2 * k → mover_after first m ≡ s)
     → AgreesFrom c s len v e → IsKeptBy s first v
 kept-agrees c s first len (Open n) e turn h = tt
-kept-agrees c s first len (Illegal n) e turn h = absurd h
+kept-agrees c s first len (Illegal n) e turn h = turn n h.0 h.1
 kept-agrees c s first len (AfterEnd n) e turn h = tt
 kept-agrees c s first len (Won side n) e turn h = h.0
 kept-agrees c s first len (Fouled f n) e turn h = turn n h.1.0 (let is = h.0 in let even = h.1.1 in omega (arith, is, even))
@@ -446,9 +323,8 @@ node-kept : (rule : RuleKind) (t : List Node) (j : ℕ) (b : Grid) (ms : List Po
     → ((m k : ℕ) → m ≡ c + 2 * k → mover_after first m ≡ s) → Accepted rule t j b → FollowsFrom rule t j b ms c
     → IsKeptBy s first (verdict_from c s (outcomes rule b ms))
 node-kept rule t j b ms c s first turn accepted follows =
-    kept-played c s first (verdict_from c s (outcomes rule b ms)) turn (within-replys rule t (suc j) j b ms c s accepted follows) (λ played.
     kept-agrees c s first (length ms) (verdict_from c s (outcomes rule b ms)) (game rule t j b (even_moves ms)) turn
-    (within-held rule t (suc j) j b ms c s accepted follows played).agrees)
+    (within-held rule t (suc j) j b ms c s accepted follows).agrees
 
 -- a first reply to a start
 start-kept : (rule : RuleKind) (t : List Node) (a : Answers) (b : Grid) (q : Point) (ms : List Point) → Meets rule a (Accepted rule t) b q
