@@ -3,6 +3,7 @@ use Rattle.std.proofs.Common.{◌≡◌, ℕ, Bool, true, false, ◌||◌, not, 
 use Rattle.std.proofs.Common.{None, inl, inr, zero, suc, ◌-◌, ◌≤◌, ◌<◌, cond, ◌&&◌, arith, ◌++◌, length, get_or, Result, Ok, Err, IfOk, All}
 use Rattle.std.specs.Option.{option_eq}
 use Rattle.std.specs.List.{AllByRecursion, list_all, find}
+use Rattle.std.proofs.lemmas.Bool.{false_from_ne_true}
 use Rattle.std.proofs.lemmas.List.Elements.{All-from_recursion}
 use Rattle.game_rules.specs.declared.Outcome.{Outcome}
 use Rattle.game_rules.specs.declared.Outcome.TheVariants.{Refused, Fouls, GoesOn}
@@ -32,6 +33,18 @@ use Rattle.threat_moves.proofs.Fates.{one-points, won-foul, won-some}
 use Rattle.four_search.specs.Plans.{branch_if, branches_for, plan_from, four_plan, answer_if, answers_for}
 use Rattle.four_search.specs.Searching.{line_behind, line_from, four_line}
 use Rattle.four_search.proofs.Trying.{move-is, no_four}
+
+-- ---- a four that is not lost leaves the defender no five point
+
+fate-lost : (rule : RuleKind) (c : Grid) → has_five rule c (mover c) ≡ true → fate rule c ≡ Lost
+unfolding fate
+fate-lost rule c h = rw h refl
+
+pub won-safe : (rule : RuleKind) (c : Grid) → fate rule c ≡ Won → has_five rule c (mover c) ≡ false
+won-safe rule c h = false_from_ne_true _ (λ five. let no : Lost ≡ Won = sym (fate-lost rule c five) ∙ h in cc)
+
+pub one-safe : (rule : RuleKind) (c : Grid) (w : Point) → fate rule c ≡ One w → has_five rule c (mover c) ≡ false
+one-safe rule c w h = false_from_ne_true _ (λ five. let no : Lost ≡ One w = sym (fate-lost rule c five) ∙ h in cc)
 
 -- ---- lists
 

@@ -6,7 +6,7 @@
 
 ghost use Rattle.std.specs.Prelude.{◌≡◌, ◌<◌, ◌-◌, ◌*◌, true, false, [], length, Some, IfOk};
 ghost use Rattle.game_rules.specs.Grid.{points_of};
-ghost use Rattle.game_rules.specs.Play.{IsPosition, outcome as outcome_lem, after, mover};
+ghost use Rattle.game_rules.specs.Play.{IsPosition, outcome as outcome_lem, after, mover, goes_on as goes_on_lem};
 ghost use Rattle.game_rules.specs.Games.{wins_by_fours, has_five, five_points, four_move};
 ghost use Rattle.threat_moves.specs.Blocks.{fate as fate_lem};
 ghost use Rattle.strategy_compiler.specs.Trees.{Branches, Fork, StandsFor, AnswersBranches};
@@ -16,6 +16,7 @@ ghost use Rattle.four_search.specs.Searching.{four_line, line_behind};
 ghost use Rattle.four_search.specs.Plans.{four_plan, answers_for};
 
 use crate::SearchError;
+use crate::search::{has_fouls, no_five_outcome};
 use foul_judge::{Outcome, Seen};
 use row_shapes::Rule;
 use std::alloc::{AllocError, Global};
@@ -201,7 +202,8 @@ fn fives_after<R: Rule, V: Seen<R>>(
     points
 }
 
-/// The node that plays `p` and has one answer to the block, and another to each other reply that goes on.
+/// The node that plays `p` and has one answer to the block, and another to each other reply that goes on. The defender has no five
+/// point after it.
 fn block_node<R: Rule, V: Seen<R>>(
     alloc: Global,
     view: &mut V,
@@ -212,6 +214,7 @@ fn block_node<R: Rule, V: Seen<R>>(
     compiler: &mut Compiler,
 ) -> Result<u32, SearchError>
     requires goes_on { outcome_lem R.KIND (V.position view.old) p ≡ Outcome.GoesOn }
+    requires safe { has_five R.KIND (after (V.position view.old) p) (mover (after (V.position view.old) p)) ≡ false }
     requires at_block_below { at_block < length compiler.old }
     requires beside_below { beside < length compiler.old }
     ensures stands { IfOk result (λ node. (branches : Branches)
@@ -230,8 +233,8 @@ fn block_node<R: Rule, V: Seen<R>>(
     }
 }
 
-/// The answers at a position where the defender is to move: one node to the block, another to each other reply that goes
-/// on. The view is as before.
+/// The answers at a position where the defender is to move and has no five point: one node to the block, another to each other
+/// reply that goes on. The view is as before.
 fn answers<R: Rule, V: Seen<R>>(
     alloc: Global,
     view: &mut V,
@@ -239,12 +242,13 @@ fn answers<R: Rule, V: Seen<R>>(
     at_block: u32,
     beside: u32,
 ) -> Result<Vec<Reply>, AllocError>
+    requires safe { has_five R.KIND (V.position view.old) (mover (V.position view.old)) ≡ false }
     ensures answers { IfOk result (λ answers. answers.items ≡ answers_for (outcome_lem R.KIND (V.position view.old)) (answer_node_lem block at_block beside) (points_of (V.position view.old))) }
     ensures same { V.position view.new ≡ V.position view.old }
 {
     let mut found = Vec::new(alloc);
     for q in view.board().points() {
-        if let Outcome::GoesOn = view.outcome(q) {
+        if goes_on::<R, V>(view, q) {
             found.push(Reply {
                 at: q,
                 next: answer_node(q, block, at_block, beside),
@@ -252,4 +256,19 @@ fn answers<R: Rule, V: Seen<R>>(
         }
     }
     Ok(found)
+}
+
+/// Whether the reply goes on, where its side has no five point. The view is as before.
+fn goes_on<R: Rule, V: Seen<R>>(view: &mut V, q: Point) -> bool
+    requires safe { has_five R.KIND (V.position view.old) (mover (V.position view.old)) ≡ false }
+    ensures on { result ≡ goes_on_lem (outcome_lem R.KIND (V.position view.old) q) }
+    ensures same { V.position view.new ≡ V.position view.old }
+{
+    if has_fouls::<R>(view.side()) {
+        return matches!(view.outcome(q), Outcome::GoesOn);
+    }
+    if !view.board().is_empty(q) {
+        return false;
+    }
+    matches!(no_five_outcome::<R, V>(view, q), Outcome::GoesOn)
 }

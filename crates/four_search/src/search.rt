@@ -370,7 +370,7 @@ fn fate<R: Rule, V: Seen<R>>(view: &mut V, made: FivePoints) -> BlockAnswer
 
 /// The outcome of a move that makes no five. It can only foul or fill the board, so where its side has no fouls no line is
 /// looked at. The view is as before.
-fn no_five_outcome<R: Rule, V: Seen<R>>(view: &mut V, p: Point) -> Outcome
+pub(crate) fn no_five_outcome<R: Rule, V: Seen<R>>(view: &mut V, p: Point) -> Outcome
     requires empty { IsTrue (is_empty (V.position view.old) p) }
     requires none { has_five_lem R.KIND (V.position view.old) (mover (V.position view.old)) ≡ false }
     ensures outcome { result ≡ outcome R.KIND (V.position view.old) p }
@@ -419,7 +419,7 @@ fn all_foul<R: Rule, V: Seen<R>>(view: &mut V) -> bool
 }
 
 /// Whether the side has fouls.
-fn has_fouls<R: Rule>(side: Side) -> bool
+pub(crate) fn has_fouls<R: Rule>(side: Side) -> bool
     ensures fouls { result ≡ has_fouls_lem R.KIND side }
 {
     match side {

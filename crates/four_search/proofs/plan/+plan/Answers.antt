@@ -7,7 +7,7 @@ use Rattle.game_rules.proofs.Fives.{no-fives}
 use Rattle.game_rules.proofs.Games.{wins-some}
 use Rattle.strategy_compiler.proofs.Growing.{writes-then, writes-then-fails, writes-more, stands-grown}
 use Rattle.four_search.proofs.Planning.{plan-some, plan-goes_on, plan-one, plan-wins, plan-block, plan-not-lost, plan-not-draw, chosen-last}
-use Rattle.four_search.proofs.Planning.{line-some, plan-five, plan-four}
+use Rattle.four_search.proofs.Planning.{line-some, plan-five, plan-four, one-safe}
 use Rattle.four_search.proofs.plan.+plan.Goals as goal
 
 pub compile_after-undo-requires-clause-stone : goal.compile_after-undo-requires-clause-stone
@@ -125,6 +125,11 @@ compile_one-returns-in_err-beside-clause-writes g t c =
     c.requires.chosen in
     writes-then-fails _ _ _ (2 * (c.args.moves - 1)) 1 _ _ _ _ c.in_ok-at_block.ensures.writes c.in_err-beside.ensures.writes
     (omega (arith, some)) (search rules)
+
+pub compile_one-block_node-requires-clause-safe : goal.compile_one-block_node-requires-clause-safe
+compile_one-block_node-requires-clause-safe g t c =
+    ap (λ (w : Grid). has_five g.R.Rule.KIND (after w c.args.p) (mover (after w c.args.p))) c.in_ok-at_block.ensures.same
+    ∙ one-safe g.R.Rule.KIND (after (g.V.Seen.position c.args.view.now) c.args.p) c.args.block c.requires.one
 
 pub compile_one-block_node-requires-clause-goes_on : goal.compile_one-block_node-requires-clause-goes_on
 compile_one-block_node-requires-clause-goes_on g t c =

@@ -1,8 +1,8 @@
 use Rattle.std.proofs.Common.{rules, ◌≡◌, ◌<◌, ◌-◌, ap, ◌∙◌, arith, List, length}
-use Rattle.game_rules.proofs.Common.{Grid, after, mover, outcome, five_points}
+use Rattle.game_rules.proofs.Common.{Grid, after, mover, outcome, has_five, five_points}
 use Rattle.game_rules.specs.declared.Point.{Point}
 use Rattle.strategy_compiler.proofs.Growing.{writes-then, writes-then-fails, writes-fails, stands-grown}
-use Rattle.four_search.proofs.Planning.{plan-some, plan-goes_on, plan-foul, plan-won-one, plan-won-two, plan-won-points}
+use Rattle.four_search.proofs.Planning.{plan-some, plan-goes_on, plan-foul, plan-won-one, plan-won-two, plan-won-points, won-safe}
 use Rattle.four_search.proofs.plan.compile_won.Goals as goal
 
 pub returns-then-moves-eq1-clause-stands : goal.returns-then-moves-eq1-clause-stands
@@ -28,6 +28,11 @@ returns-in_err-beside-in-len1-clause-writes g c =
     let some = plan-some g.R.Rule.KIND c.args.moves (g.V.Seen.position c.args.view.now) c.args.p c.requires.lawful c.requires.five
     c.requires.chosen in
     writes-fails _ _ 1 _ _ _ c.in_err-beside-in-len1.ensures.writes (omega (arith, some)) (search rules)
+
+pub block_node-requires-clause-safe : goal.block_node-requires-clause-safe
+block_node-requires-clause-safe g c =
+    ap (λ (w : Grid). has_five g.R.Rule.KIND (after w c.args.p) (mover (after w c.args.p))) c.in-Ok.ensures.same
+    ∙ won-safe g.R.Rule.KIND (after (g.V.Seen.position c.args.view.now) c.args.p) c.requires.won
 
 pub block_node-requires-clause-goes_on : goal.block_node-requires-clause-goes_on
 block_node-requires-clause-goes_on g c =
@@ -68,6 +73,11 @@ returns-in_err-at_first-in-len2-up-clause-writes g c =
     let one = c.if-moves-eq1.false in
     writes-then-fails _ _ _ 1 1 _ _ _ _ c.in_ok-beside-in-len2-up.ensures.writes c.in_err-at_first-in-len2-up.ensures.writes
     (omega (arith, some, one)) (search rules)
+
+pub block_node-requires-in-len2-up-clause-safe : goal.block_node-requires-in-len2-up-clause-safe
+block_node-requires-in-len2-up-clause-safe g c =
+    ap (λ (w : Grid). has_five g.R.Rule.KIND (after w c.args.p) (mover (after w c.args.p))) c.in-Ok.ensures.same
+    ∙ won-safe g.R.Rule.KIND (after (g.V.Seen.position c.args.view.now) c.args.p) c.requires.won
 
 pub block_node-requires-in-len2-up-clause-goes_on : goal.block_node-requires-in-len2-up-clause-goes_on
 block_node-requires-in-len2-up-clause-goes_on g c =
