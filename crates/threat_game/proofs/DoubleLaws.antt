@@ -2,10 +2,8 @@
 -- and its node a win by threats. Where no point makes two five points, a stone makes double points only on the lines through it: in the
 -- runs of any other point it plays no part.
 use Rattle.std.proofs.Common.{◌≡◌, ℕ, ◌≤◌, Bool, true, false, cond, ◌&&◌, sym, ap, ◌∙◌, arith, List, [], ◌∷◌, length, get_or, ◌+◌, not}
-use Rattle.std.proofs.Common.{refl, nat_le}
+use Rattle.std.proofs.Common.{refl}
 use Rattle.std.specs.List.{list_any, list_all, filter, AllByRecursion}
-use Rattle.std.proofs.lemmas.Bool.{false_from_ne_true}
-use Rattle.std.proofs.lemmas.Bool.Decides.{nat_tests}
 use Rattle.game_rules.specs.declared.RuleKind.{RuleKind}
 use Rattle.game_rules.specs.declared.Side.{Side}
 use Rattle.game_rules.specs.declared.Outcome.{Outcome}
@@ -13,7 +11,7 @@ use Rattle.game_rules.specs.declared.Point.{Point}
 use Rattle.game_rules.specs.declared.Outcome.TheVariants.{Wins as WinsNow, Draws, GoesOn}
 use Rattle.game_rules.proofs.Common.{Grid, is_empty, put, points_of, five, is_same_point, IsPosition, outcome, mover, other, after}
 use Rattle.game_rules.proofs.Common.{goes_on_with, has_five, five_points, starts_win, wins_by_fours, wins_under, WinsByFours, WinsByThreats}
-use Rattle.game_rules.proofs.Common.{LosesOr, loses_or, wins_or, is_on, goes_on, IsBoard, is_double_point, has_threat, is_aligned}
+use Rattle.game_rules.proofs.Common.{LosesOr, loses_or, wins_or, is_on, goes_on, has_threat}
 use Rattle.game_rules.proofs.Boards.{and_left, and_right, is_empty-on, other-other}
 use Rattle.game_rules.proofs.Positions.{GoesOn-on, mover-then, IsPosition-after}
 use Rattle.game_rules.proofs.Points.{points-found, filter-passes, is_same_point-itself, apart-is_same_point, is_same_point-same}
@@ -24,21 +22,18 @@ use Rattle.game_rules.proofs.Fives.{five-empty}
 use Rattle.game_rules.proofs.Games.{WinsUnder-more, WinsByFours-WinsByThreats, test-WinsUnder, each_reply}
 use Rattle.game_rules.proofs.PointLists.{still-found, any-filter, other_first}
 use Rattle.game_rules.proofs.Outcomes.{five-outcome, goes_on-is, never-goes_on, always-goes_on}
-use Rattle.game_rules.proofs.OneLine.{put-kept, open_kept, more_fives}
 use Rattle.row_shapes.specs.FivePoints.{in_short}
 use Rattle.row_shapes.specs.declared.fives.FivePoints.{FivePoints}
 use Rattle.row_shapes.specs.declared.fives.FivePoints.TheVariants.{None as NoPoint, One, Several}
 use Rattle.row_shapes.proofs.FiveLaws.{has_five-none, has_five-one, has_five-several}
 use Rattle.strategy_compiler.proofs.Common.{IsDoubleThreat, double_nodes}
 use Rattle.threat_moves.specs.declared.block.BlockAnswer.TheVariants.{Lost, Won}
-use Rattle.threat_moves.proofs.Common.{is_four_move, by_fives, fate, block_wins, is_several}
+use Rattle.threat_moves.proofs.Common.{is_four_move, by_fives, fate, block_wins}
 use Rattle.threat_moves.proofs.BlockLaw.{block_decides}
 use Rattle.threat_moves.proofs.FourLaws.{two-won}
-use Rattle.threat_moves.proofs.GainLaws.{several, few-double, taken-no_gain, no_gain-double}
 use Rattle.threat_game.specs.declared.doubles.Double.{Double}
 use Rattle.threat_game.proofs.TreeLaws.{double-five, still-safe}
-use Rattle.threat_game.proofs.Common.{LeavesBoth, IsDoubleWin, answer_nodes, one_if, replies_at, is_threat_move, is_some_point, makes_two}
-use Rattle.threat_game.proofs.Common.{some_makes_two, FarAreNone}
+use Rattle.threat_game.proofs.Common.{LeavesBoth, IsDoubleWin, answer_nodes, one_if, replies_at, is_threat_move, is_some_point}
 use Rattle.threat_game.proofs.ReplyLaws.{beside-five}
 
 -- ---- the first two of the five points that a stone leaves

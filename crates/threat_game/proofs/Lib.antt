@@ -12,7 +12,8 @@ pub mod Kept
 mod DoubleLaws
 -- moves where each goes on; where an escape meets each of them there is no win
 mod FreeMoves
--- where new double points can be
-mod NearLines
+-- where new double points can be, and the stones around a point as bits
+mod NearDoubles
+mod AroundBits
 -- wins that are written, and positions that are settled
 mod WrittenLaws

@@ -1,9 +1,8 @@
 -- Where a stone can make new double points.
-use Rattle.std.specs.Prelude.{◌≡◌, ℕ, ◌+◌, nat_le, Bool, true, false, ◌&&◌, ◌||◌, length}
+use Rattle.std.specs.Prelude.{◌≡◌, ℕ, ◌+◌, ◌≤◌, nat_le, Bool, true, false, ◌&&◌, ◌||◌, if◌then◌else◌, length, Option, Some, None}
 use Rattle.std.specs.List.{list_any, filter, range_with_len}
-use Rattle.game_rules.specs.Grid.{Grid, is_empty, put, points_of, axes}
+use Rattle.game_rules.specs.Grid.{Grid, is_empty, put, points_of}
 use Rattle.game_rules.specs.Games.{five_points, is_double_point}
-use Rattle.game_rules.specs.Lines.{same_line}
 use Rattle.game_rules.specs.Shapes.{stone_at}
 use Rattle.game_rules.specs.Ways.{towards}
 use Rattle.game_rules.specs.declared.RuleKind.{RuleKind}
@@ -17,7 +16,7 @@ use Rattle.row_shapes.specs.FivePoints.{in_short}
 use Rattle.row_shapes.specs.declared.fives.FivePoints.{FivePoints}
 use Rattle.row_shapes.specs.declared.fives.FivePoints.TheVariants.{None as NoPoint, One, Several}
 use Rattle.threat_moves.specs.ThreeMoves.{is_several}
-use Rattle.threat_game.specs.declared.near_lines.NearLines.{NearLines}
+use Rattle.threat_game.specs.declared.near_stones.NearStones.{NearStones}
 
 -- whether there is a five point
 abbrev pub is_some_point : FivePoints → Bool
@@ -37,31 +36,40 @@ some_makes_two rule b s = list_any (makes_two rule b s) (points_of b)
 abbrev pub stones_within : Way → Grid → Side → Axis → Point → ℕ
 stones_within w b s d p = length (filter (λ k. stone_at b s (towards w d p k)) (range_with_len 1 4))
 
--- whether two stones of the side or more stand within four steps of the point on the axis, beside it
-abbrev pub is_manned : Grid → Side → Axis → Point → Bool
-is_manned b s d p = nat_le 2 (stones_within Ahead b s d p + stones_within Behind b s d p)
+-- how many do in both ways
+abbrev pub stones_around : Grid → Side → Axis → Point → ℕ
+stones_around b s d p = stones_within Ahead b s d p + stones_within Behind b s d p
 
--- whether the two points are on a line of which this is so around the first
-abbrev pub is_near : Grid → Side → Point → Point → Bool
-is_near b s p q = list_any (λ d. is_manned b s d p && same_line d p q) axes
+-- on each axis at most so many stones of the side stand within four steps of the point
+pub record AreNearStones (b : Grid) (s : Side) (p : Point) (near : NearStones) : Type 0 where
+  pub row : stones_around b s Row p ≤ near.row
+  pub column : stones_around b s Column p ≤ near.column
+  pub down : stones_around b s Down p ≤ near.down
+  pub up : stones_around b s Up p ≤ near.up
 
--- these are the lines through p of which this is so
-pub record AreNearLines (b : Grid) (s : Side) (p : Point) (lines : NearLines) : Type 0 where
-  pub row : lines.row ≡ is_manned b s Row p
-  pub column : lines.column ≡ is_manned b s Column p
-  pub down : lines.down ≡ is_manned b s Down p
-  pub up : lines.up ≡ is_manned b s Up p
+-- whether there are so many on some axis
+abbrev pub some_has : NearStones → ℕ → Bool
+some_has near least = nat_le least near.row || nat_le least near.column || nat_le least near.down || nat_le least near.up
 
--- whether there is one of them
-abbrev pub is_some_line : NearLines → Bool
-is_some_line lines = lines.row || lines.column || lines.down || lines.up
+-- how many steps from a new stone a new double point may be on an axis on which so many others stand within four steps of it: none
+-- with fewer than two, four with two, and with more as many as a line has
+abbrev pub reach : ℕ → ℕ
+reach stones = if nat_le 3 stones then 31 else if nat_le 2 stones then 4 else 0
 
--- whether the two points are on one of them
-abbrev pub lines_hold : NearLines → Point → Point → Bool
-lines_hold lines p q =
-    (lines.row && same_line Row p q) || (lines.column && same_line Column p q)
-    || (lines.down && same_line Down p q) || (lines.up && same_line Up p q)
+-- the point q is as near to p as that
+pub record IsInReach (b : Grid) (s : Side) (p q : Point) : Type 0 where
+  pub axis : Axis
+  pub way : Way
+  pub steps : ℕ
+  pub some : 1 ≤ steps
+  pub near : steps ≤ reach (stones_around b s axis p)
+  pub at : towards way axis p steps ≡ Some q
 
--- a point that is not near p is no double point of the side
-pub record FarAreNone (rule : RuleKind) (b : Grid) (s : Side) (p : Point) : Type 0 where
-  pub none : (q : Point) → is_near b s p q ≡ false → is_double_point rule b s q ≡ false
+-- each double point of the side is as near to p as that
+pub record DoublesAreNear (rule : RuleKind) (b : Grid) (s : Side) (p : Point) : Type 0 where
+  pub near : (q : Point) → is_double_point rule b s q ≡ true → IsInReach b s p q
+
+-- whether there is such a point, and it is a double point of the side
+abbrev pub is_double_at : RuleKind → Grid → Side → Option Point → Bool
+is_double_at rule b s None = false
+is_double_at rule b s (Some q) = is_double_point rule b s q

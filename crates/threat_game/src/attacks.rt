@@ -7,25 +7,27 @@
 #![tactic(auto)]
 
 ghost use Rattle.std.specs.Prelude.{◌≡◌, ◌&&◌, not, true, false, IfOk, IfSome, IsTrue};
-ghost use Rattle.game_rules.specs.Grid.{Grid, is_empty, is_on, put};
+ghost use Rattle.game_rules.specs.Grid.{Grid, is_empty};
 ghost use Rattle.game_rules.specs.Shapes.{is_same_point};
 ghost use Rattle.game_rules.specs.Play.{IsPosition, outcome as outcome_lem, mover, other, after, goes_on as goes_on_lem};
-ghost use Rattle.game_rules.specs.Games.{has_five as has_five_lem, five_points as five_points_lem, has_threat, is_double_point};
+ghost use Rattle.game_rules.specs.Games.{has_five as has_five_lem, five_points as five_points_lem, has_threat};
 ghost use Rattle.row_shapes.specs.FivePoints.{in_short};
-ghost use Rattle.threat_moves.specs.ThreeMoves.{is_several as is_several_lem, has_double_point};
+ghost use Rattle.threat_moves.specs.ThreeMoves.{is_several as is_several_lem};
 ghost use Rattle.threat_game.specs.ThreatGame.{is_threat_move as is_threat_move_lem};
 ghost use Rattle.threat_game.specs.FreeMoves.{EachGoesOn};
-ghost use Rattle.threat_game.specs.NearDoubles.{AreNearLines, FarAreNone, is_some_point as is_some_point_lem, makes_two as makes_two_lem, some_makes_two as some_makes_two_lem};
+ghost use Rattle.threat_game.specs.NearDoubles.{AreNearStones, is_some_point as is_some_point_lem, makes_two as makes_two_lem};
+ghost use Rattle.threat_game.specs.NearDoubles.{some_makes_two as some_makes_two_lem};
 ghost use Rattle.threat_game.specs.Attacks.{AreAttacks, IsAttempt, IsDoubleWin, best_reply as best_reply_lem};
 
 use crate::doubles::{Double, double_at};
 use crate::last_moves::has_fouls;
-use crate::near_lines::{NearLines, near_lines};
+use crate::near_doubles::leaves_double;
+use crate::near_stones::{NearStones, near_stones};
 use foul_judge::{Outcome, Seen};
 use row_shapes::{FivePoints, Rule, takes};
 use std::alloc::{AllocError, Global};
-use stone_board::{Board, Point, Points, Side};
-use threat_moves::{is_four_move, is_new_double_point, is_three_move};
+use stone_board::{Board, Point, Points};
+use threat_moves::{is_four_move, is_three_move};
 
 /// What the moves of the attacker come to, where it has no five point and two moves or more.
 #[derive(Drop)]
@@ -135,7 +137,24 @@ fn makes_two<R: Rule, V: Seen<R>>(view: &V, p: Point) -> bool
     if !view.board().is_empty(p) {
         return false;
     }
-    is_several(view.fives_made(p))
+    let near = near_stones(view.board(), view.side(), p);
+    is_several(fives_by::<R, V>(view, near, p))
+}
+
+/// The five points that the side to move has after its stone on an empty point, where it has none before it and at most so many
+/// stones around the point.
+pub(crate) fn fives_by<R: Rule, V: Seen<R>>(view: &V, near: NearStones, p: Point) -> FivePoints
+    requires empty { IsTrue (is_empty (V.position view.now) p) }
+    requires none { has_five_lem R.KIND (V.position view.now) (mover (V.position view.now)) ≡ false }
+    requires near { AreNearStones (V.position view.now) (mover (V.position view.now)) p near }
+    ensures made { result ≡ in_short (five_points_lem R.KIND (after (V.position view.now) p) (mover (V.position view.now))) }
+{
+    // This tells that the position is lawful.
+    view.side();
+    if !near.some(3) {
+        return FivePoints::None;
+    }
+    view.fives_made(p)
 }
 
 /// Whether there are two five points or more.
@@ -282,66 +301,14 @@ fn leaves_threat<R: Rule, V: Seen<R>>(view: &V, board: &mut Board, loud: bool, p
     ensures same_board { board.new ≡ board.old }
 {
     let side = view.side();
-    if is_some_point(view.fives_made(p)) {
+    let near = near_stones(board, side, p);
+    if !loud && !near.some(2) {
+        return false;
+    }
+    if is_some_point(fives_by::<R, V>(view, near, p)) {
         return true;
     }
-    leaves_double::<R>(board, side, loud, p)
-}
-
-/// Whether the side's stone on an empty point, which leaves it no five point, leaves it a double point. The board is as before.
-fn leaves_double<R: Rule>(board: &mut Board, side: Side, loud: bool, p: Point) -> bool
-    requires empty { IsTrue (is_empty board.old p) }
-    requires loud { loud ≡ some_makes_two_lem R.KIND board.old side }
-    requires none { has_five_lem R.KIND (put board.old side p) side ≡ false }
-    ensures double { result ≡ has_double_point R.KIND (put board.old side p) side }
-    ensures same { board.new ≡ board.old }
-{
-    board.put(p, side);
-    let double = has_double::<R>(board, side, loud, p);
-    board.lift(p);
-    double
-}
-
-/// Whether the side, which has no five point, has a double point. It may be told that it has none but near `p`. The board is as
-/// before.
-fn has_double<R: Rule>(board: &mut Board, side: Side, loud: bool, p: Point) -> bool
-    requires on { IsTrue (is_on board.old p) }
-    requires none { has_five_lem R.KIND board.old side ≡ false }
-    requires far { loud ≡ false → FarAreNone R.KIND board.old side p }
-    ensures double { result ≡ has_double_point R.KIND board.old side }
-    ensures same { board.new ≡ board.old }
-{
-    let near = near_lines(board, side, p);
-    if !loud && !near.some() {
-        return false;
-    }
-    for q in board.points() {
-        if is_double_by::<R>(board, side, loud, near, p, q) {
-            return true;
-        }
-    }
-    false
-}
-
-/// Whether the point `q` is a double point of the side, as `has_double` is told. The board is as before.
-fn is_double_by<R: Rule>(
-    board: &mut Board,
-    side: Side,
-    loud: bool,
-    near: NearLines,
-    p: Point,
-    q: Point,
-) -> bool
-    requires none { has_five_lem R.KIND board.old side ≡ false }
-    requires near { AreNearLines board.old side p near }
-    requires far { loud ≡ false → FarAreNone R.KIND board.old side p }
-    ensures double { result ≡ is_double_point R.KIND board.old side q }
-    ensures same { board.new ≡ board.old }
-{
-    if !loud && !near.hold(p, q) {
-        return false;
-    }
-    is_new_double_point::<R>(board, side, q)
+    leaves_double::<R>(board, side, loud, near, p)
 }
 
 /// What the replies to a move that goes on come to.

@@ -10,7 +10,8 @@ mod attacks;
 mod doubles;
 mod escapes;
 mod last_moves;
-mod near_lines;
+mod near_doubles;
+mod near_stones;
 mod replies;
 mod written;
 

@@ -21,10 +21,11 @@ ghost use Rattle.threat_game.specs.Attacks.{has_reply, is_last_move, LeavesBoth}
 ghost use Rattle.threat_game.specs.Replies.{AreReplies, AreJudged, HasEscape, IsChild, IsJudged, IsJudgement, IsBeside, is_beside as is_beside_lem, moves_for, is_open as is_open_lem, is_standing as is_standing_lem, is_same_double as is_same_double_lem, stands_for as stands_for_lem, is_met as is_met_lem, put_first, kept_children, counted_for, nodes_for};
 ghost use Rattle.threat_game.specs.Wins.{IsThreatWin};
 
-use crate::attacks::{each_goes_on, goes_on_where};
+use crate::attacks::{each_goes_on, fives_by, goes_on_where};
 use crate::doubles::{Double, answers_of, compile_double, compile_standing, first_doubles};
 use crate::escapes::fails_after;
 use crate::last_moves::last_move;
+use crate::near_stones::near_stones;
 use crate::written::{compile_five, compile_last};
 use foul_judge::{Outcome, Seen};
 use row_shapes::{FivePoints, Rule};
@@ -370,7 +371,8 @@ fn judge_double<R: Rule, V: Seen<R>>(view: &mut V, q: Point, doubles: &[Double])
     ensures enough { moves_for result ≤ 2 }
     ensures same { V.position view.new ≡ V.position view.old }
 {
-    if let FivePoints::None = view.fives_made(q) {
+    let near = near_stones(view.board(), view.side(), q);
+    if let FivePoints::None = fives_by::<R, V>(view, near, q) {
         view.play(q);
         let found = still_double::<R, V>(view, q, doubles);
         view.undo(q);

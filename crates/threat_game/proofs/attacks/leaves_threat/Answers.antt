@@ -1,17 +1,34 @@
-use Rattle.std.proofs.Common.{◌≡◌, false, ap, sym, ◌∙◌}
+use Rattle.std.proofs.Common.{◌≡◌, false, ap, sym, subst, ◌∙◌}
 use Rattle.game_rules.proofs.Common.{Grid, is_empty, put, mover, after, has_five}
 use Rattle.game_rules.specs.declared.Side.{Side}
 use Rattle.threat_moves.specs.ThreeMoves.{has_double_point}
 use Rattle.threat_moves.proofs.GainLaws.{threat-by_five, threat-by_double}
-use Rattle.threat_game.specs.NearDoubles.{is_some_point, some_makes_two}
+use Rattle.threat_game.specs.NearDoubles.{AreNearStones, is_some_point, some_makes_two}
 use Rattle.threat_game.proofs.DoubleLaws.{some-five}
+use Rattle.threat_game.proofs.NearDoubles.{few-no_threat}
 use Rattle.threat_game.proofs.attacks.leaves_threat.Goals as goal
+
+pub returns-then-not-some-clause-threat : goal.returns-then-not-some-clause-threat
+returns-then-not-some-clause-threat g c =
+    let b : Grid = g.V.Seen.position c.args.view.now in
+    let near = subst (λ (t : Side). AreNearStones b t c.args.p c.near_stones-near.result) c.side-side.ensures.side
+    (subst (λ (w : Grid). AreNearStones w c.side-side.result c.args.p c.near_stones-near.result) c.requires.copy
+    c.near_stones-near.ensures.near) in
+    few-no_threat b (mover b) c.args.p c.near_stones-near.result near g.R.Rule.KIND c.side-side.ensures.lawful.board c.requires.empty
+    c.requires.none (sym c.some.ensures.some ∙ c.if-not-some.true) (sym c.requires.loud ∙ c.if-not-loud.true)
+
+pub fives_by-requires-clause-near : goal.fives_by-requires-clause-near
+fives_by-requires-clause-near g c =
+    let b : Grid = g.V.Seen.position c.args.view.now in
+    subst (λ (t : Side). AreNearStones b t c.args.p c.near_stones-near.result) c.side-side.ensures.side
+    (subst (λ (w : Grid). AreNearStones w c.side-side.result c.args.p c.near_stones-near.result) c.requires.copy
+    c.near_stones-near.ensures.near)
 
 pub returns-then-is_some_point-clause-threat : goal.returns-then-is_some_point-clause-threat
 returns-then-is_some_point-clause-threat g c =
     let b : Grid = g.V.Seen.position c.args.view.now in
     threat-by_five g.R.Rule.KIND (after b c.args.p) (mover b)
-    (sym (some-five g.R.Rule.KIND (after b c.args.p) (mover b)) ∙ ap is_some_point (sym c.fives_made.ensures.made)
+    (sym (some-five g.R.Rule.KIND (after b c.args.p) (mover b)) ∙ ap is_some_point (sym c.fives_by.ensures.made)
     ∙ sym c.is_some_point.ensures.some ∙ c.if-is_some_point.true)
 
 pub leaves_double-requires-clause-empty : goal.leaves_double-requires-clause-empty
@@ -30,7 +47,7 @@ leaves_double-requires-clause-none g c =
     ap (λ (w : Grid). has_five g.R.Rule.KIND (put w c.side-side.result c.args.p) c.side-side.result) c.requires.copy
     ∙ ap (λ (t : Side). has_five g.R.Rule.KIND (put b t c.args.p) t) c.side-side.ensures.side
     ∙ sym (some-five g.R.Rule.KIND (after b c.args.p) (mover b))
-    ∙ ap is_some_point (sym c.fives_made.ensures.made)
+    ∙ ap is_some_point (sym c.fives_by.ensures.made)
     ∙ sym c.is_some_point.ensures.some
     ∙ c.if-is_some_point.false
 
@@ -38,7 +55,7 @@ pub returns-clause-threat : goal.returns-clause-threat
 returns-clause-threat g c =
     let b : Grid = g.V.Seen.position c.args.view.now in
     let none : has_five g.R.Rule.KIND (after b c.args.p) (mover b) ≡ false =
-    sym (some-five g.R.Rule.KIND (after b c.args.p) (mover b)) ∙ ap is_some_point (sym c.fives_made.ensures.made)
+    sym (some-five g.R.Rule.KIND (after b c.args.p) (mover b)) ∙ ap is_some_point (sym c.fives_by.ensures.made)
     ∙ sym c.is_some_point.ensures.some ∙ c.if-is_some_point.false in
     c.leaves_double.ensures.double
     ∙ ap (λ (w : Grid). has_double_point g.R.Rule.KIND (put w c.side-side.result c.args.p) c.side-side.result) c.requires.copy

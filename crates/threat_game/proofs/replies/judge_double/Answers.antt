@@ -1,5 +1,9 @@
 use Rattle.std.proofs.Common.{ap, sym, subst, ◌∙◌, All}
 use Rattle.game_rules.proofs.Common.{Grid, has_five, mover, other, after}
+use Rattle.game_rules.specs.Grid.{is_on}
+use Rattle.game_rules.specs.declared.Side.{Side}
+use Rattle.game_rules.proofs.Boards.{is_empty-on}
+use Rattle.threat_game.specs.NearDoubles.{AreNearStones}
 use Rattle.game_rules.proofs.Positions.{GoesOn-empty, mover-other}
 use Rattle.row_shapes.proofs.FiveLaws.{has_five-none}
 use Rattle.game_rules.proofs.Undo.{stone_back, lift_back, unwon_back}
@@ -7,8 +11,23 @@ use Rattle.threat_game.proofs.Common.{LeavesBoth, IsBeside, IsJudged}
 use Rattle.threat_game.proofs.ReplyLaws.{all-kept}
 use Rattle.threat_game.proofs.replies.judge_double.Goals as goal
 
-pub fives_made-requires-clause-empty : goal.fives_made-requires-clause-empty
-fives_made-requires-clause-empty g c = GoesOn-empty g.R.Rule.KIND (g.V.Seen.position c.args.view.now) c.args.q c.requires.on
+pub near_stones-near-requires : goal.near_stones-near-requires
+near_stones-near-requires g c =
+    let b : Grid = g.V.Seen.position c.args.view.now in
+    record {
+      on = ap (λ (w : Grid). is_on w c.args.q) c.board.ensures.board
+          ∙ is_empty-on b c.args.q (GoesOn-empty g.R.Rule.KIND b c.args.q c.requires.on);
+    }
+
+pub fives_by-requires-clause-near : goal.fives_by-requires-clause-near
+fives_by-requires-clause-near g c =
+    let b : Grid = g.V.Seen.position c.args.view.now in
+    subst (λ (t : Side). AreNearStones b t c.args.q c.near_stones-near.result) c.side.ensures.side
+    (subst (λ (w : Grid). AreNearStones w c.side.result c.args.q c.near_stones-near.result) c.board.ensures.board
+    c.near_stones-near.ensures.near)
+
+pub fives_by-requires-clause-empty : goal.fives_by-requires-clause-empty
+fives_by-requires-clause-empty g c = GoesOn-empty g.R.Rule.KIND (g.V.Seen.position c.args.view.now) c.args.q c.requires.on
 
 pub still_double-found-requires-clause-none : goal.still_double-found-requires-clause-none
 still_double-found-requires-clause-none g c = ap (λ (b : Grid). has_five g.R.Rule.KIND b (mover b)) c.play.ensures.played ∙ c.requires.none

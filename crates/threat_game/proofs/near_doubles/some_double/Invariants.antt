@@ -2,7 +2,7 @@ use Rattle.std.proofs.Common.{◌≡◌}
 use Rattle.std.specs.List.{list_any}
 use Rattle.game_rules.specs.Games.{is_double_point}
 use Rattle.threat_moves.specs.ThreeMoves.{has_double_point}
-use Rattle.threat_game.proofs.attacks.has_double.Given as goal
+use Rattle.threat_game.proofs.near_doubles.some_double.Given as goal
 
 -- the board is as before; some point left is a double point exactly where some point of the board is
 abbrev pub invariant-loop-q : goal.invariant-loop-q

@@ -1,16 +1,21 @@
 use Rattle.std.proofs.Common.{ap, sym, subst, ◌∙◌}
 use Rattle.game_rules.specs.Grid.{Grid, lift}
-use Rattle.game_rules.proofs.Boards.{lift-put}
+use Rattle.game_rules.proofs.Boards.{is_empty-on, lift-put}
 use Rattle.stone_board.specs.Steps.{holds_stone}
 use Rattle.stone_board.proofs.Stones.{put-holds_stone}
-use Rattle.threat_game.specs.NearDoubles.{FarAreNone}
-use Rattle.threat_game.proofs.NearLines.{far-none}
-use Rattle.threat_game.proofs.attacks.leaves_double.Goals as goal
+use Rattle.threat_game.specs.NearDoubles.{AreNearStones, DoublesAreNear}
+use Rattle.threat_game.proofs.NearDoubles.{doubles-near, near-put}
+use Rattle.threat_game.proofs.near_doubles.leaves_double.Goals as goal
+
+pub has_double-double-requires-clause-near : goal.has_double-double-requires-clause-near
+has_double-double-requires-clause-near g c =
+    subst (λ (b : Grid). AreNearStones b c.args.side c.args.p c.args.near) (sym c.put.ensures.put)
+    (near-put c.args.board.now c.args.side c.args.p c.args.near c.requires.near (is_empty-on c.args.board.now c.args.p c.requires.empty))
 
 pub has_double-double-requires-clause-far : goal.has_double-double-requires-clause-far
 has_double-double-requires-clause-far g c = λ h.
-    subst (λ (b : Grid). FarAreNone g.R.Rule.KIND b c.args.side c.args.p) (sym c.put.ensures.put)
-    (far-none g.R.Rule.KIND c.args.board.now c.args.side c.args.p c.put.ensures.board c.requires.empty c.requires.none
+    subst (λ (b : Grid). DoublesAreNear g.R.Rule.KIND b c.args.side c.args.p) (sym c.put.ensures.put)
+    (doubles-near g.R.Rule.KIND c.args.board.now c.args.side c.args.p c.put.ensures.board c.requires.empty c.requires.none
     (sym c.requires.loud ∙ h))
 
 pub lift-requires : goal.lift-requires

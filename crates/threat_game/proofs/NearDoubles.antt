@@ -1,0 +1,630 @@
+-- Where a stone can make a double point, if no point makes two five points before it: on a line with the stone on which two others
+-- of its side stand within four steps. The stone and that on the double point are in a winning run of five stones or more, with one
+-- five point, so at least two more are.
+use Rattle.std.proofs.Common.{◌≡◌, ◌≢◌, ◌⊎◌, inl, inr, ℕ, zero, suc, ◌+◌, ◌-◌, ◌≤◌, ◌<◌, Bool, true, false, cond, ◌&&◌, ◌||◌, not, length}
+use Rattle.std.proofs.Common.{refl, sym, ap}
+use Rattle.std.proofs.Common.{subst, ◌∙◌, arith, nat_le}
+use Rattle.std.specs.Prelude.{Option, Some, None, unwrap_or}
+use Rattle.std.specs.List.{filter, find, list_any, range_with_len}
+use Rattle.std.proofs.lemmas.Bool.{cases_lt, false_from_ne_true, both_ways}
+use Rattle.std.proofs.lemmas.Bool.Decides.{nat_tests}
+use Rattle.std.proofs.lemmas.List.Sums.{length-filter, sum_by-le-sum_by}
+use Rattle.game_rules.specs.Grid.{Grid, IsBoard, is_on, is_empty, put, along, points_of, holds}
+use Rattle.game_rules.specs.Lines.{same_line}
+use Rattle.game_rules.specs.Shapes.{stone_at, wins_on, five}
+use Rattle.game_rules.specs.Ways.{go, towards, opposite, stones_towards, run_end}
+use Rattle.game_rules.specs.Games.{has_five, five_points, has_threat, is_double_point}
+use Rattle.game_rules.specs.declared.RuleKind.{RuleKind}
+use Rattle.game_rules.specs.declared.Side.{Side}
+use Rattle.game_rules.specs.declared.Axis.{Axis}
+use Rattle.game_rules.specs.declared.Axis.TheVariants.{Row, Column, Down, Up}
+use Rattle.game_rules.specs.declared.Way.{Way}
+use Rattle.game_rules.specs.declared.Way.TheVariants.{Ahead, Behind}
+use Rattle.game_rules.specs.declared.Point.{Point}
+use Rattle.game_rules.proofs.Axes.{some_axis, no_axis}
+use Rattle.stone_board.specs.Steps.{kept_on}
+use Rattle.game_rules.proofs.Boards.{kept_by}
+use Rattle.game_rules.proofs.Boards.{Apart, and_left, and_right, is_empty-on, is_empty-put, same_or_apart, not-apart}
+use Rattle.game_rules.proofs.Boards.{holds-put_other, holds-put_same}
+use Rattle.game_rules.proofs.Fives.{five-empty}
+use Rattle.game_rules.proofs.Lines.{OnLine-along}
+use Rattle.game_rules.proofs.OneLine.{empty-before, line_apart, line_join, wins_alike}
+use Rattle.game_rules.proofs.Places.{find-some}
+use Rattle.game_rules.proofs.Points.{any_witness, points-found}
+use Rattle.stone_board.proofs.LineBits.{IsNear, board-near}
+use Rattle.stone_board.proofs.LineStones.{along-places, place_low}
+use Rattle.game_rules.proofs.Positions.{IsBoard-put}
+use Rattle.game_rules.proofs.RunEnds.{new_end}
+use Rattle.game_rules.proofs.Ways.{go-then, go-same, go-opposite, go-zero, else_at, leads, leads_back, towards-put, beyond-put}
+use Rattle.game_rules.proofs.Ways.{run_before_end}
+use Rattle.game_rules.proofs.Wins.{wins_on-ways, no_win, row_wins-five}
+use Rattle.row_shapes.specs.FivePoints.{in_short}
+use Rattle.row_shapes.proofs.FiveLaws.{none-short}
+use Rattle.threat_moves.specs.ThreeMoves.{is_several}
+use Rattle.threat_moves.specs.ThreeMoves.{has_double_point}
+use Rattle.threat_moves.proofs.GainLaws.{several, few-double, double-empty, threat-by_double, taken-no_gain, no_gain-double}
+use Rattle.threat_game.specs.NearDoubles.{AreNearStones, DoublesAreNear, IsInReach, is_double_at, makes_two, reach, some_has}
+use Rattle.threat_game.specs.NearDoubles.{some_makes_two, stones_around}
+use Rattle.threat_game.specs.declared.near_stones.NearStones.{NearStones}
+
+not_true : (r : Bool) → not r ≡ true → r ≡ false
+not_true true h = cc
+not_true false h = refl
+
+more_pass : (r t : Bool) → (r ≡ true → t ≡ true) → cond r 1 0 ≤ cond t 1 0
+more_pass true t h = rw (h refl) (omega arith)
+more_pass false t h = omega arith
+
+-- ---- tests of the numbers from 1 to 4
+
+abbrev one : Bool → ℕ
+one r = cond r 1 0
+
+abbrev among : (ℕ → Bool) → ℕ
+among f = length (filter f (range_with_len 1 4))
+
+among-ones : (f : ℕ → Bool) → among f ≡ 0 + one (f 1) + one (f 2) + one (f 3) + one (f 4)
+among-ones f = length-filter f (range_with_len 1 4)
+
+once : (r : Bool) → one r ≤ 1
+once true = omega arith
+once false = omega arith
+
+same_one : (f g : ℕ → Bool) (k : ℕ) → f k ≡ g k → one (f k) ≡ one (g k)
+same_one f g k e = ap one e
+
+module _ (f g : ℕ → Bool) where
+  -- two that are the same of them hold of as many
+  among-same : ((k : ℕ) → 1 ≤ k → k ≤ 4 → f k ≡ g k) → among f ≡ among g
+  among-same h =
+      let a = among-ones f in
+      let b = among-ones g in
+      let c1 = same_one f g 1 (h 1 (omega arith) (omega arith)) in
+      let c2 = same_one f g 2 (h 2 (omega arith) (omega arith)) in
+      let c3 = same_one f g 3 (h 3 (omega arith) (omega arith)) in
+      let c4 = same_one f g 4 (h 4 (omega arith) (omega arith)) in
+      omega (arith, a, b, c1, c2, c3, c4)
+
+  -- and two that are so but at one number, of as many but for one
+  among-more : (t : ℕ) → ((k : ℕ) → 1 ≤ k → k ≢ t → f k ≡ g k) → among f ≤ among g + 1
+  among-more t h =
+      let a = among-ones f in
+      let b = among-ones g in
+      let c1 = part 1 (omega arith) in
+      let c2 = part 2 (omega arith) in
+      let c3 = part 3 (omega arith) in
+      let c4 = part 4 (omega arith) in
+      sums (one (f 1)) (one (f 2)) (one (f 3)) (one (f 4)) (one (g 1)) (one (g 2)) (one (g 3)) (one (g 4))
+      (once (f 1)) (once (f 2)) (once (f 3)) (once (f 4)) c1 c2 c3 c4 (among f) (among g) a b where
+        part : (k : ℕ) → 1 ≤ k → k ≢ t → one (f k) ≡ one (g k)
+        part k low other = same_one f g k (h k low other)
+
+        sums : (a b c d u v w x : ℕ) → a ≤ 1 → b ≤ 1 → c ≤ 1 → d ≤ 1
+            → (1 ≢ t → a ≡ u) → (2 ≢ t → b ≡ v) → (3 ≢ t → c ≡ w) → (4 ≢ t → d ≡ x)
+            → (m n : ℕ) → m ≡ 0 + a + b + c + d → n ≡ 0 + u + v + w + x → m ≤ n + 1
+        sums a b c d u v w x la lb lc ld ea eb ec ed m n em en = grind arith
+
+-- ---- a run through a point that has three more stones and one empty point
+
+module _ (y z : ℕ → Bool) (n b m : ℕ) (three : 3 ≤ n + b + m) (near : (j : ℕ) → 1 ≤ j → j ≤ n → y j ≡ true)
+    (back : (j : ℕ) → 1 ≤ j → j ≤ b → z j ≡ true) (past : (j : ℕ) → 1 ≤ j → j ≤ m → y (1 + n + j) ≡ true) where
+  held : (f : ℕ → Bool) (k : ℕ) → f k ≡ true → one (f k) ≡ 1
+  held f k e = ap one e
+
+  near_at : (j : ℕ) → 1 ≤ j → j ≤ n → one (y j) ≡ 1
+  near_at j low high = held y j (near j low high)
+
+  back_at : (j : ℕ) → 1 ≤ j → j ≤ b → one (z j) ≡ 1
+  back_at j low high = held z j (back j low high)
+
+  past_at : (k : ℕ) → 2 + n ≤ k → k ≤ 1 + n + m → one (y k) ≡ 1
+  past_at k low high = held y k
+      (ap y (let e : 1 + n + (k - (1 + n)) ≡ k = omega arith in sym e) ∙ past (k - (1 + n)) (omega arith) (omega arith))
+
+  at_least : 3 ≤ among y + among z
+  at_least =
+      let a = among-ones y in
+      let e = among-ones z in
+      let n1 = near_at 1 (omega arith) in
+      let n2 = near_at 2 (omega arith) in
+      let n3 = near_at 3 (omega arith) in
+      let b1 = back_at 1 (omega arith) in
+      let b2 = back_at 2 (omega arith) in
+      let b3 = back_at 3 (omega arith) in
+      let p2 = past_at 2 in
+      let p3 = past_at 3 in
+      let p4 = past_at 4 in
+      sums (one (y 1)) (one (y 2)) (one (y 3)) (one (y 4)) (one (z 1)) (one (z 2)) (one (z 3)) (one (z 4))
+      n1 n2 n3 b1 b2 b3 p2 p3 p4 (among y) (among z) a e where
+        sums : (a c d e u v w x : ℕ) → (1 ≤ n → a ≡ 1) → (2 ≤ n → c ≡ 1) → (3 ≤ n → d ≡ 1)
+            → (1 ≤ b → u ≡ 1) → (2 ≤ b → v ≡ 1) → (3 ≤ b → w ≡ 1)
+            → (2 + n ≤ 2 → 2 ≤ 1 + n + m → c ≡ 1) → (2 + n ≤ 3 → 3 ≤ 1 + n + m → d ≡ 1) → (2 + n ≤ 4 → 4 ≤ 1 + n + m → e ≡ 1)
+            → (s t : ℕ) → s ≡ 0 + a + c + d + e → t ≡ 0 + u + v + w + x → 3 ≤ s + t
+        sums a c d e u v w x n1 n2 n3 b1 b2 b3 p2 p3 p4 s t es et = grind arith
+
+-- ---- a stone that makes a five point
+
+-- a stone of the side on p wins at w on the axis, where none did before
+module _ (rule : RuleKind) (b : Grid) (s : Side) (p w : Point) (d : Axis) (ok : IsBoard b) (free : is_empty b p ≡ true)
+    (before : wins_on rule b s d w ≡ false) (made : wins_on rule (put b s p) s d w ≡ true) where
+  point_on : is_on b p ≡ true
+  point_on = is_empty-on b p free
+
+  win_on : is_on b w ≡ true
+  win_on = is_empty-on (put b s p) w (and_left (is_empty (put b s p) w) _ made)
+
+  end : (v : Way) × (run_end b s d v p ≡ Some w)
+  end = new_end b s p ok free rule d w before made
+
+  module _ (v : Way) (here : run_end b s d v p ≡ Some w) where
+    mine : holds (put b s p) s p ≡ true
+    mine = holds-put_same b s p ok point_on
+
+    abbrev fore_run : ℕ
+    fore_run = stones_towards v b s d p
+
+    abbrev back_run : ℕ
+    back_run = stones_towards (opposite v) b s d p
+
+    abbrev past_run : ℕ
+    past_run = stones_towards v b s d w
+
+    many : 3 ≤ fore_run + back_run + past_run
+    many =
+        let five = row_wins-five rule s _ (and_right (is_empty (put b s p) w) _
+        (sym (wins_on-ways rule (put b s p) s v d w (IsBoard-put b s p ok)) ∙ made)) in
+        let fore = beyond-put b s p point_on v d fore_run w here win_on in
+        let same_near = towards-put b s p point_on v d in
+        let same_back = towards-put b s p point_on (opposite v) d in
+        let behind = run_before_end (put b s p) s v d p w mine (ap (λ k. towards v d p (1 + k)) same_near ∙ here) win_on in
+        omega (arith, five, fore, same_near, same_back, behind)
+
+    -- three others stand within four steps of p
+    three_there : 3 ≤ among (λ k. stone_at b s (go v d p k 0)) + among (λ k. stone_at b s (go v d p 0 k))
+    three_there = at_least (λ k. stone_at b s (go v d p k 0)) (λ k. stone_at b s (go v d p 0 k)) fore_run back_run past_run many
+        (leads b s d p point_on v).holds (leads_back b s d p point_on v).holds
+        (λ j low high. ap (stone_at b s) (sym (go-then v d p w (1 + fore_run) 0 j 0 here))
+        ∙ (leads b s d w win_on v).holds j low high)
+
+-- stones on both sides of a point, whichever way is first
+around : (b : Grid) (s : Side) (d : Axis) (p : Point) (v : Way) (n : ℕ)
+    → n ≤ among (λ k. stone_at b s (go v d p k 0)) + among (λ k. stone_at b s (go v d p 0 k)) → n ≤ stones_around b s d p
+around b s d p Ahead n h = h
+around b s d p Behind n h = omega (arith, h)
+
+-- a stone that makes a five point, where its side has none, has three others within four steps on some axis
+pub crowded : (rule : RuleKind) (b : Grid) (s : Side) (p : Point) → IsBoard b → is_empty b p ≡ true → has_five rule b s ≡ false
+    → has_five rule (put b s p) s ≡ true → (d : Axis) × (3 ≤ stones_around b s d p)
+crowded rule b s p ok free none five_there =
+    let found = any_witness (five rule (put b s p) s) (points_of (put b s p)) five_there in
+    let made = some_axis (λ d. wins_on rule (put b s p) s d found.0) found.1 in
+    let before : wins_on rule b s made.0 found.0 ≡ false = no_win rule b s made.0 found.0 none in
+    let at = end rule b s p found.0 made.0 ok free before made.1 in
+    (made.0, around b s made.0 p at.0 3 (three_there rule b s p found.0 made.0 ok free before made.1 at.0 at.1))
+
+-- the stone itself is not among those around it
+pub around-put : (b : Grid) (s : Side) (d : Axis) (p : Point) → is_on b p ≡ true → stones_around (put b s p) s d p ≡ stones_around b s d p
+around-put b s d p on =
+    let fore = among-same (λ k. stone_at (put b s p) s (towards Ahead d p k)) (λ k. stone_at b s (towards Ahead d p k))
+    (λ k low high. else_at b s Ahead d p p 0 0 k 0 on (go-zero Ahead d p) (λ same. absurd (omega arith))) in
+    let back = among-same (λ k. stone_at (put b s p) s (towards Behind d p k)) (λ k. stone_at b s (towards Behind d p k))
+    (λ k low high. else_at b s Behind d p p 0 0 k 0 on (go-zero Behind d p) (λ same. absurd (omega arith))) in
+    omega (arith, fore, back)
+
+-- ---- points of one line, some steps from one another
+
+steps_to : (d : Axis) (p q : Point) → same_line d p q ≡ true → (a : ℕ) × (c : ℕ) × (along d p a c ≡ Some q)
+steps_to Row p q h = (q.x, p.x, OnLine-along Row p q.x p.x q (omega arith, grind (arith, nat_tests)))
+steps_to Column p q h = (q.y, p.y, OnLine-along Column p q.y p.y q (grind (arith, nat_tests), omega arith))
+steps_to Down p q h = (q.x, p.x, OnLine-along Down p q.x p.x q (omega arith, grind (arith, nat_tests)))
+steps_to Up p q h = (q.x, p.x, OnLine-along Up p q.x p.x q (omega arith, grind (arith, nat_tests)))
+
+steps_bounded : (v : Way) (d : Axis) (p q : Point) (k : ℕ) → IsNear p → IsNear q → go v d p k 0 ≡ Some q → k ≤ 31
+steps_bounded Ahead d p q k near close at =
+    let there = (along-places d p q k 0 near close at).place in
+    let low = place_low d q close in
+    omega (arith, there, low)
+steps_bounded Behind d p q k near close at =
+    let there = (along-places d p q 0 k near close at).place in
+    let low = place_low d p near in
+    omega (arith, there, low)
+
+steps_by : (v : Way) (d : Axis) (p q : Point) → same_line d p q ≡ true → (x : ℕ) × (y : ℕ) × (go v d p x y ≡ Some q)
+steps_by Ahead d p q h = steps_to d p q h
+steps_by Behind d p q h = let s = steps_to d p q h in (s.1, s.0, s.2)
+
+-- ---- a stone on p, and then one on q
+
+module _ (rule : RuleKind) (b : Grid) (s : Side) (p q : Point) (ok : IsBoard b) (empty : is_empty b p ≡ true)
+    (none : has_five rule (put b s p) s ≡ false) (free_q : is_empty (put b s p) q ≡ true) where
+  abbrev with_p : Grid
+  with_p = put b s p
+
+  abbrev with_q : Grid
+  with_q = put b s q
+
+  abbrev full : Grid
+  full = put with_p s q
+
+  on_p : is_on b p ≡ true
+  on_p = is_empty-on b p empty
+
+  beside : Apart p q × (is_empty b q ≡ true)
+  beside = empty-before b s p q ok on_p free_q
+
+  on_q : is_on b q ≡ true
+  on_q = is_empty-on b q beside.1
+
+  ok_p : IsBoard with_p
+  ok_p = IsBoard-put b s p ok
+
+  ok_q : IsBoard with_q
+  ok_q = IsBoard-put b s q ok
+
+  ok_full : IsBoard full
+  ok_full = IsBoard-put with_p s q ok_p
+
+  turned : Apart q p
+  turned = elim (same_or_apart q p) [
+    | inl same ↦ absurd (both_ways _ (p_taken) (ap (is_empty with_p) (sym same) ∙ free_q))
+    | inr apart ↦ apart
+  ] where
+    p_taken : is_empty with_p p ≡ false
+    p_taken = false_from_ne_true _ (λ h. not-apart p (empty-before b s p p ok on_p h).0)
+
+  free_p : is_empty with_q p ≡ true
+  free_p = is_empty-put b s q p on_q turned ∙ empty
+
+  -- both stones together hold what q's alone does, but p
+  holds_full : (z : Point) → Apart p z → holds full s z ≡ holds with_q s z
+  holds_full z apart = elim (same_or_apart q z) [
+    | inl same ↦ subst (λ (v : Point). holds full s v ≡ holds with_q s v) same
+        (holds-put_same with_p s q ok_p on_q ∙ sym (holds-put_same b s q ok on_q))
+    | inr off ↦ holds-put_other with_p s s q z on_q off ∙ holds-put_other b s s p z on_p apart ∙ sym (holds-put_other b s s q z on_q off)
+  ]
+
+  -- the two can be put in either order
+  holds_both : (z : Point) → holds full s z ≡ holds (put with_q s p) s z
+  holds_both z = elim (same_or_apart p z) [
+    | inl same ↦ subst (λ (v : Point). holds full s v ≡ holds (put with_q s p) s v) same
+        (holds-put_other with_p s s q p on_q turned ∙ holds-put_same b s p ok on_p ∙ sym (holds-put_same with_q s p ok_q on_p))
+    | inr apart ↦ holds_full z apart ∙ sym (holds-put_other with_q s s p z on_p apart)
+  ]
+
+  -- w is a five point after both stones, and none after q's alone
+  module _ (w : Point) (d : Axis) (wins : wins_on rule full s d w ≡ true) (before : five rule with_q s w ≡ false) where
+    free_w : is_empty full w ≡ true
+    free_w = and_left (is_empty full w) _ wins
+
+    beside_q : Apart q w × (is_empty with_p w ≡ true)
+    beside_q = empty-before with_p s q w ok_p on_q free_w
+
+    beside_p : Apart p w × (is_empty b w ≡ true)
+    beside_p = empty-before b s p w ok on_p beside_q.1
+
+    free_w_q : is_empty with_q w ≡ true
+    free_w_q = is_empty-put b s q w on_q beside_q.0 ∙ beside_p.1
+
+    no_win_q : wins_on rule with_q s d w ≡ false
+    no_win_q = no_axis (λ e. wins_on rule with_q s e w) before d
+
+    line_q : same_line d w q ≡ true
+    line_q = by_test (same_line d w q) refl where
+      by_test : (r : Bool) → same_line d w q ≡ r → same_line d w q ≡ true
+      by_test true e = e
+      by_test false off =
+          let alike = wins_alike full with_p s d w (λ z line. holds-put_other with_p s s q z on_q (line_apart d w q z off line))
+          refl rule ok_full ok_p
+          (free_w ∙ sym beside_q.1) in
+          absurd (both_ways _ (no_win rule with_p s d w none) (sym alike ∙ wins))
+
+    line_p : same_line d w p ≡ true
+    line_p = by_test (same_line d w p) refl where
+      by_test : (r : Bool) → same_line d w p ≡ r → same_line d w p ≡ true
+      by_test true e = e
+      by_test false off =
+          let alike = wins_alike full with_q s d w (λ z line. holds_full z (line_apart d w p z off line)) refl rule ok_full ok_q
+          (free_w ∙ sym free_w_q) in
+          absurd (both_ways _ no_win_q (sym alike ∙ wins))
+
+    pub one_line : same_line d p q ≡ true
+    one_line = line_join d w p q line_p line_q
+
+    -- p's stone joins its run to w
+    again : wins_on rule (put with_q s p) s d w ≡ true
+    again =
+        sym (wins_alike full (put with_q s p) s d w (λ z line. holds_both z) refl rule ok_full (IsBoard-put with_q s p ok_q)
+        (free_w ∙ sym (is_empty-put with_q s p w on_p beside_p.0 ∙ free_w_q))) ∙ wins
+
+    module _ (v : Way) (x y : ℕ) (at : go v d p x y ≡ Some q) where
+      same_there : (k l : ℕ) → k ≢ l → x + l ≢ k + y → stone_at with_q s (go v d p k l) ≡ stone_at with_p s (go v d p k l)
+      same_there k l off differ =
+          else_at b s v d p q x y k l on_q at differ
+          ∙ sym (else_at b s v d p p 0 0 k l on_p (go-zero v d p) (λ same. off (omega (arith, same))))
+
+      module _ (here : run_end with_q s d v p ≡ Some w) where
+        three : 3 ≤ among (λ k. stone_at with_q s (go v d p k 0)) + among (λ k. stone_at with_q s (go v d p 0 k))
+        three = three_there rule with_q s p w d ok_q free_p no_win_q again v here
+
+        -- two others do
+        two_others : 2 ≤ stones_around with_p s d p
+        two_others = around with_p s d p v 2 (elim (cases_lt x y) [
+          | inl behind ↦
+              let same = among-same (λ k. stone_at with_q s (go v d p k 0)) (λ k. stone_at with_p s (go v d p k 0))
+              (λ k low high. same_there k 0 (λ e. absurd (omega arith)) (λ e. absurd (omega arith))) in
+              let more = among-more (λ k. stone_at with_q s (go v d p 0 k)) (λ k. stone_at with_p s (go v d p 0 k)) (y - x)
+              (λ k low other. same_there 0 k (λ e. absurd (omega arith)) (λ e. other (omega arith))) in
+              let all = three in
+              omega (arith, same, more, all)
+          | inr ahead ↦
+              let same = among-same (λ k. stone_at with_q s (go v d p 0 k)) (λ k. stone_at with_p s (go v d p 0 k))
+              (λ k low high. same_there 0 k (λ e. absurd (omega arith)) (λ e. absurd (omega arith))) in
+              let more = among-more (λ k. stone_at with_q s (go v d p k 0)) (λ k. stone_at with_p s (go v d p k 0)) (x - y)
+              (λ k low other. same_there k 0 (λ e. absurd (omega arith)) (λ e. other (omega arith))) in
+              let all = three in
+              omega (arith, same, more, all)
+        ])
+
+        -- and three where q is further away
+        three_others : (4 + y < x) ⊎ (4 + x < y) → 3 ≤ stones_around with_p s d p
+        three_others far = around with_p s d p v 3 (
+            let fore = among-same (λ k. stone_at with_q s (go v d p k 0)) (λ k. stone_at with_p s (go v d p k 0))
+            (λ k low high. same_there k 0 (λ e. absurd (omega arith)) (λ e. apart k 0 high (omega arith) e)) in
+            let back = among-same (λ k. stone_at with_q s (go v d p 0 k)) (λ k. stone_at with_p s (go v d p 0 k))
+            (λ k low high. same_there 0 k (λ e. absurd (omega arith)) (λ e. apart 0 k (omega arith) high e)) in
+            let all = three in
+            omega (arith, fore, back, all)) where
+              apart : (k l : ℕ) → k ≤ 4 → l ≤ 4 → x + l ≡ k + y → ⊥
+              apart k l a c e = elim far [ inl ahead ↦ absurd (omega arith) | inr behind ↦ absurd (omega arith) ]
+
+        reach_two : (n k : ℕ) → 2 ≤ n → k ≤ 4 → k ≤ reach n
+        reach_two n k two low = grind (arith, nat_tests)
+
+        reach_three : (n k : ℕ) → 3 ≤ n → k ≤ 31 → k ≤ reach n
+        reach_three n k three low = grind (arith, nat_tests)
+
+        -- so q is as near as may be, however many steps away
+        within : (k : ℕ) → k ≤ 31 → (x ≡ k + y) ⊎ (y ≡ k + x) → k ≤ reach (stones_around with_p s d p)
+        within k low is = elim (cases_lt 4 k) [
+          | inl far ↦ reach_three _ k (three_others (elim is [
+            | inl ahead ↦ inl (omega arith)
+            | inr behind ↦ inr (omega arith)
+          ])) low
+          | inr close ↦ reach_two _ k two_others close
+        ]
+
+    pub in_reach : IsInReach with_p s p q
+    in_reach =
+        let there = end rule with_q s p w d ok_q free_p no_win_q again in
+        let at = steps_by there.0 d p q one_line in
+        by_side there.0 there.1 at.0 at.1 at.2 (cases_lt at.0 at.1) where
+          near_board : (v : Way) (k : ℕ) → go v d p k 0 ≡ Some q → k ≤ 31
+          near_board v k at = steps_bounded v d p q k (board-near b p ok on_p) (board-near b q ok on_q) at
+
+          some_steps : (v : Way) (k : ℕ) → go v d p k 0 ≡ Some q → 1 ≤ k
+          some_steps v zero at = absurd (not-apart q (subst (λ (r : Point). Apart r q) (same (sym (go-zero v d p) ∙ at)) beside.0)) where
+            same : (e : Some p ≡ Some q) → p ≡ q
+            same e = cc
+          some_steps v (suc k) at = omega arith
+
+          by_side : (v : Way) (here : run_end with_q s d v p ≡ Some w) (x y : ℕ) (at : go v d p x y ≡ Some q)
+              → (x < y) ⊎ (y ≤ x) → IsInReach with_p s p q
+          by_side v here x y at (inl behind) =
+              let back : go (opposite v) d p (y - x) 0 ≡ Some q =
+              go-opposite v d p (y - x) 0 ∙ go-same v d p 0 (y - x) x y (omega arith) ∙ at in record {
+                axis = d;
+                way = opposite v;
+                steps = y - x;
+                some = omega arith;
+                near = within v x y at here (y - x) (near_board (opposite v) (y - x) back) (inr (omega arith));
+                at = back;
+              }
+          by_side v here x y at (inr ahead) =
+              let fore : go v d p (x - y) 0 ≡ Some q = go-same v d p (x - y) 0 x y (omega arith) ∙ at in record {
+                axis = d;
+                way = v;
+                steps = x - y;
+                some = some_steps v (x - y) fore;
+                near = within v x y at here (x - y) (near_board v (x - y) fore) (inl (omega arith));
+                at = fore;
+              }
+
+  -- ---- two five points after both stones
+
+  -- a five point that q's stone alone doesn't make
+  abbrev new_there : Point → Bool
+  new_there w = five rule full s w && not (five rule with_q s w)
+
+  -- where there is none, q makes two before p does
+  none_new : list_any new_there (points_of b) ≡ false → (w : Point) → five rule full s w ≡ true → five rule with_q s w ≡ true
+  none_new quiet w made = by_test (five rule with_q s w) refl where
+    by_test : (r : Bool) → five rule with_q s w ≡ r → five rule with_q s w ≡ true
+    by_test true e = e
+    by_test false e = absurd (both_ways _ quiet (points-found b new_there w on_w (rw (made, e) refl))) where
+      on_w : is_on b w ≡ true
+      on_w = is_empty-on full w (five-empty rule full s w made)
+
+  more_then : list_any new_there (points_of b) ≡ false → length (five_points rule full s) ≤ length (five_points rule with_q s)
+  more_then quiet =
+      let more = sum_by-le-sum_by (λ w. cond (five rule full s w) 1 0) (λ w. cond (five rule with_q s w) 1 0) (points_of b)
+      (λ w. more_pass _ _ (none_new quiet w)) in
+      rw (length-filter (five rule full s) (points_of b), length-filter (five rule with_q s) (points_of b)) more
+
+  two_before : some_makes_two rule b s ≡ false → nat_le 2 (length (five_points rule full s)) ≡ true
+      → list_any new_there (points_of b) ≡ true
+  two_before quiet two = by_test (list_any new_there (points_of b)) refl where
+    by_test : (r : Bool) → list_any new_there (points_of b) ≡ r → list_any new_there (points_of b) ≡ true
+    by_test true e = e
+    by_test false lone =
+        let count = more_then lone in
+        let still : nat_le 2 (length (five_points rule with_q s)) ≡ true = grind (arith, nat_tests) in
+        let here : makes_two rule b s q ≡ true = ap (λ r. r && is_several (in_short (five_points rule with_q s))) beside.1
+        ∙ several (five_points rule with_q s) ∙ still in
+        absurd (both_ways _ quiet (points-found b (makes_two rule b s) q on_q here))
+
+  pub near_when : some_makes_two rule b s ≡ false → is_several (in_short (five_points rule full s)) ≡ true → IsInReach with_p s p q
+  near_when quiet two =
+      let many : nat_le 2 (length (five_points rule full s)) ≡ true = sym (several (five_points rule full s)) ∙ two in
+      let w : Point = unwrap_or (find new_there (points_of b)) p in
+      let new = find-some new_there (points_of b) p (two_before quiet many) in
+      let made = some_axis (λ d. wins_on rule full s d w) (and_left (five rule full s w) _ new) in
+      in_reach w made.0 made.1 (not_true (five rule with_q s w) (and_right (five rule full s w) _ new))
+
+-- ---- as the code tells it
+
+-- where no point makes two five points, a stone on p that leaves none makes no double point but near it
+pub doubles-near : (rule : RuleKind) (b : Grid) (s : Side) (p : Point) → IsBoard b → is_empty b p ≡ true
+    → has_five rule (put b s p) s ≡ false
+    → some_makes_two rule b s ≡ false → DoublesAreNear rule (put b s p) s p
+doubles-near rule b s p ok empty none quiet = record {
+  near = λ q double. by_test q double (is_several (in_short (five_points rule
+      (put (put b s p) s q) s))) refl;
+} where
+  by_test : (q : Point) → is_double_point rule (put b s p) s q ≡ true → (r : Bool)
+      → is_several (in_short (five_points rule (put (put b s p) s q) s)) ≡ r → IsInReach (put b s p) s p q
+  by_test q double true two = near_when rule b s p q ok empty none (double-empty rule (put b s p) s q double) quiet two
+  by_test q double false few = absurd (both_ways _ (few-double rule (put b s p) s q few) double)
+
+-- ---- at most so many stones on each axis
+
+abbrev pub near_on : NearStones → Axis → ℕ
+near_on near Row = near.row
+near_on near Column = near.column
+near_on near Down = near.down
+near_on near Up = near.up
+
+-- one of four tests
+abbrev pick : Axis → Bool → Bool → Bool → Bool → Bool
+pick Row r t u v = r
+pick Column r t u v = t
+pick Down r t u v = u
+pick Up r t u v = v
+
+some_of : (d : Axis) (r t u v : Bool) → pick d r t u v ≡ true → (r || t || u || v) ≡ true
+some_of d true t u v h = refl
+some_of d false true u v h = refl
+some_of d false false true v h = refl
+some_of d false false false true h = refl
+some_of Row false false false false h = h
+some_of Column false false false false h = h
+some_of Down false false false false h = h
+some_of Up false false false false h = h
+
+test_of : (d : Axis) (near : NearStones) (n : ℕ) → n ≤ near_on near d
+    → pick d (nat_le n near.row) (nat_le n near.column) (nat_le n near.down) (nat_le n near.up) ≡ true
+test_of Row near n h = grind (arith, nat_tests)
+test_of Column near n h = grind (arith, nat_tests)
+test_of Down near n h = grind (arith, nat_tests)
+test_of Up near n h = grind (arith, nat_tests)
+
+reach-more : (m n : ℕ) → m ≤ n → reach m ≤ reach n
+reach-more m n h = grind (arith, nat_tests)
+
+module _ (b : Grid) (s : Side) (p : Point) (near : NearStones) (are : AreNearStones b s p near) where
+  at_most : (d : Axis) → stones_around b s d p ≤ near_on near d
+  at_most Row = are.row
+  at_most Column = are.column
+  at_most Down = are.down
+  at_most Up = are.up
+
+  -- where an axis has so many stones, some number says so
+  pub some-on : (d : Axis) (n : ℕ) → n ≤ stones_around b s d p → some_has near n ≡ true
+  some-on d n many = some_of d (nat_le n near.row) (nat_le n near.column) (nat_le n near.down) (nat_le n near.up)
+      (test_of d near n (let low = at_most d in omega (arith, many, low)))
+
+  -- where no double point was found as near as it may be, there is none
+  pub none-near : (rule : RuleKind) → DoublesAreNear rule b s p
+      → ((d : Axis) (w : Way) (k : ℕ) (q : Point) → 1 ≤ k → k ≤ reach (near_on near d) → towards w d p k ≡ Some q
+      → is_double_point rule b s q ≡ false)
+      → has_double_point rule b s ≡ false
+  none-near rule far none = false_from_ne_true _ (λ h.
+      let found = any_witness (is_double_point rule b s) (points_of b) h in
+      let at = far.near found.0 found.1 in
+      let low = at.near in
+      let more = reach-more (stones_around b s at.axis p) (near_on near at.axis) (at_most at.axis) in
+      both_ways _ (none at.axis at.way at.steps found.0 at.some (omega (arith, low, more)) at.at) found.1)
+
+  -- the same holds once a stone stands on the point
+  pub near-put : is_on b p ≡ true → AreNearStones (put b s p) s p near
+  near-put on =
+      let r = around-put b s Row p on in
+      let c = around-put b s Column p on in
+      let d = around-put b s Down p on in
+      let u = around-put b s Up p on in
+      record {
+        row = rw r are.row;
+        column = rw c are.column;
+        down = rw d are.down;
+        up = rw u are.up;
+      }
+
+  module _ (rule : RuleKind) (ok : IsBoard b) (empty : is_empty b p ≡ true) (none : has_five rule b s ≡ false) where
+    -- with fewer than three on each axis the stone makes no five point
+    pub few-no_five : some_has near 3 ≡ false → has_five rule (put b s p) s ≡ false
+    few-no_five few = false_from_ne_true _ (λ five_there.
+        let many = crowded rule b s p ok empty none five_there in
+        both_ways _ few (some-on many.0 3 many.1))
+
+    -- with fewer than two, and where no point makes two five points, it makes no threat
+    pub few-no_threat : some_has near 2 ≡ false → some_makes_two rule b s ≡ false → false ≡ has_threat rule (put b s p) s
+    few-no_threat few quiet =
+        let five_none : has_five rule (put b s p) s ≡ false = false_from_ne_true _ (λ five_there.
+        let many = crowded rule b s p ok empty none five_there in
+        let two : 2 ≤ stones_around b s many.0 p = let three = many.1 in omega (arith, three) in
+        both_ways _ few (some-on many.0 2 two)) in
+        let far = doubles-near rule b s p ok empty five_none quiet in
+        let no_double : has_double_point rule (put b s p) s ≡ false = false_from_ne_true _ (λ h.
+        let found = any_witness (is_double_point rule (put b s p) s) (points_of (put b s p)) h in
+        let at = far.near found.0 found.1 in
+        let same = around-put b s at.axis p (is_empty-on b p empty) in
+        let steps = at.some in
+        let low = at.near in
+        both_ways _ few (some-on at.axis 2 (reached (stones_around (put b s p) s at.axis p) _ at.steps steps low same))) in
+        sym no_double ∙ threat-by_double rule (put b s p) s five_none where
+          reached : (m n k : ℕ) → 1 ≤ k → k ≤ reach m → m ≡ n → 2 ≤ n
+          reached m n k some low same = grind (arith, nat_tests)
+
+-- a stone that leaves no five point is on no double point
+pub no_five-no_double : (rule : RuleKind) (b : Grid) (s : Side) (q : Point) → has_five rule (put b s q) s ≡ false
+    → is_double_point rule b s q ≡ false
+no_five-no_double rule b s q none = few-double rule b s q (ap is_several (none-short rule (put b s q) s none))
+
+-- ---- a point some steps away
+
+-- where it is off the board it is no double point
+pub at-none : (rule : RuleKind) (b : Grid) (s : Side) (o : Option Point) → kept_on b o ≡ None → false ≡ is_double_at rule b s o
+at-none rule b s None h = refl
+at-none rule b s (Some q) h = by_test (is_on b q) refl h where
+  by_test : (r : Bool) → is_on b q ≡ r → cond r (Some q) None ≡ None → false ≡ is_double_point rule b s q
+  by_test true e h = cc
+  by_test false e h = sym (no_gain-double rule b s q (taken-no_gain rule b s q
+      (false_from_ne_true _ (λ empty. both_ways _ e (is_empty-on b q empty)))))
+
+pub at-some : (rule : RuleKind) (b : Grid) (s : Side) (o : Option Point) (q : Point) → kept_on b o ≡ Some q
+    → is_double_point rule b s q ≡ is_double_at rule b s o
+at-some rule b s None q h = cc
+at-some rule b s (Some p) q h = ap (is_double_point rule b s) (sym (kept_by b p q (is_on b p) refl h).0)
+
+-- one that is a double point is found
+pub at-found : (rule : RuleKind) (b : Grid) (s : Side) (o : Option Point) → is_double_at rule b s o ≡ true
+    → has_double_point rule b s ≡ true
+at-found rule b s None h = cc
+at-found rule b s (Some q) h = points-found b (is_double_point rule b s) q (is_empty-on b q (double-empty rule b s q h)) h
+
+-- no point on the axis as near as that is a double point
+abbrev pub NoneOn : RuleKind → Grid → Side → Point → Axis → ℕ → Type 0
+NoneOn rule b s p d n = (w : Way) (k : ℕ) (q : Point) → 1 ≤ k → k ≤ reach n → towards w d p k ≡ Some q → is_double_point rule b s q ≡ false
+
+-- where none was found on three axes, the fourth tells
+pub last-told : (rule : RuleKind) (b : Grid) (s : Side) (p : Point) (near : NearStones) → AreNearStones b s p near
+    → DoublesAreNear rule b s p
+    → NoneOn rule b s p Row near.row → NoneOn rule b s p Column near.column → NoneOn rule b s p Down near.down
+    → (r : Bool) → (r ≡ true → has_double_point rule b s ≡ true) → (r ≡ false → NoneOn rule b s p Up near.up)
+    → r ≡ has_double_point rule b s
+last-told rule b s p near are far row column down true some none = sym (some refl)
+last-told rule b s p near are far row column down false some none = sym (none-near b s p near are rule far on) where
+  on : (d : Axis) → NoneOn rule b s p d (near_on near d)
+  on Row = row
+  on Column = column
+  on Down = down
+  on Up = none refl

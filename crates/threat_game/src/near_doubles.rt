@@ -1,0 +1,157 @@
+//! New double points.
+//!
+//! Where no point makes two five points, a new stone makes double points but near it: within four steps on a line on which two
+//! others of its side stand so near, or somewhere on one on which three do. No other point is looked at.
+#![tactic(auto)]
+
+ghost use Rattle.std.specs.Prelude.{◌≡◌, ◌≤◌, ℕ, false, true, Some, IsTrue};
+ghost use Rattle.game_rules.specs.Grid.{is_empty, is_on, put};
+ghost use Rattle.game_rules.specs.Ways.{towards as towards_lem};
+ghost use Rattle.game_rules.specs.Games.{has_five as has_five_lem, is_double_point};
+ghost use Rattle.threat_moves.specs.ThreeMoves.{has_double_point};
+ghost use Rattle.threat_game.specs.NearDoubles.{AreNearStones, DoublesAreNear, is_double_at};
+ghost use Rattle.threat_game.specs.NearDoubles.{reach as reach_lem, some_makes_two as some_makes_two_lem};
+
+use crate::near_stones::{NearStones, near_stones};
+use row_shapes::Rule;
+use stone_board::{Axis, Board, MAX_SIDE, Point, Side, Way};
+use threat_moves::is_new_double_point;
+
+/// Whether the side's stone on an empty point, which leaves it no five point, leaves it a double point. At most so many stones of the
+/// side are around the point. The board is as before.
+pub(crate) fn leaves_double<R: Rule>(
+    board: &mut Board,
+    side: Side,
+    loud: bool,
+    near: NearStones,
+    p: Point,
+) -> bool
+    requires empty { IsTrue (is_empty board.old p) }
+    requires loud { loud ≡ some_makes_two_lem R.KIND board.old side }
+    requires none { has_five_lem R.KIND (put board.old side p) side ≡ false }
+    requires near { AreNearStones board.old side p near }
+    ensures double { result ≡ has_double_point R.KIND (put board.old side p) side }
+    ensures same { board.new ≡ board.old }
+{
+    board.put(p, side);
+    let double = has_double::<R>(board, side, loud, near, p);
+    board.lift(p);
+    double
+}
+
+/// Whether the side, which has no five point, has a double point. It may be told that it has none but near `p`, around which so many
+/// of its stones are at most. The board is as before.
+fn has_double<R: Rule>(
+    board: &mut Board,
+    side: Side,
+    loud: bool,
+    near: NearStones,
+    p: Point,
+) -> bool
+    requires on { IsTrue (is_on board.old p) }
+    requires none { has_five_lem R.KIND board.old side ≡ false }
+    requires near { AreNearStones board.old side p near }
+    requires far { loud ≡ false → DoublesAreNear R.KIND board.old side p }
+    ensures double { result ≡ has_double_point R.KIND board.old side }
+    ensures same { board.new ≡ board.old }
+{
+    if loud {
+        return some_double::<R>(board, side);
+    }
+    if double_on::<R>(board, side, Axis::Row, p, near.row) {
+        return true;
+    }
+    if double_on::<R>(board, side, Axis::Column, p, near.column) {
+        return true;
+    }
+    if double_on::<R>(board, side, Axis::Down, p, near.down) {
+        return true;
+    }
+    double_on::<R>(board, side, Axis::Up, p, near.up)
+}
+
+/// Whether the side, which has no five point, has a double point. The board is as before.
+fn some_double<R: Rule>(board: &mut Board, side: Side) -> bool
+    requires none { has_five_lem R.KIND board.old side ≡ false }
+    ensures double { result ≡ has_double_point R.KIND board.old side }
+    ensures same { board.new ≡ board.old }
+{
+    for q in board.points() {
+        if double_here::<R>(board, side, q) {
+            return true;
+        }
+    }
+    false
+}
+
+/// Whether a double point of the side, which has no five point, is on the axis as near to `p` as may be where at most so many stones
+/// are around it. The board is as before.
+fn double_on<R: Rule>(board: &mut Board, side: Side, axis: Axis, p: Point, near: u32) -> bool
+    requires on { IsTrue (is_on board.old p) }
+    requires none { has_five_lem R.KIND board.old side ≡ false }
+    ensures some { IsTrue result → has_double_point R.KIND board.old side ≡ true }
+    ensures none { result ≡ false → (w : Way) (k : ℕ) (q : Point) → 1 ≤ k → k ≤ reach_lem near → towards_lem w axis p k ≡ Some q
+        → is_double_point R.KIND board.old side q ≡ false }
+    ensures same { board.new ≡ board.old }
+{
+    for k in 1..1 + reach(near) {
+        if double_towards::<R>(board, side, Way::Ahead, axis, p, k) {
+            return true;
+        }
+        if double_towards::<R>(board, side, Way::Behind, axis, p, k) {
+            return true;
+        }
+    }
+    false
+}
+
+/// So many steps away a new double point may be at most on an axis on which so many stones are around the new one.
+fn reach(near: u32) -> u8
+    ensures reach { result ≡ reach_lem near }
+    ensures bound { result ≤ 31 }
+{
+    if near >= 3 {
+        MAX_SIDE - 1
+    } else if near == 2 {
+        4
+    } else {
+        0
+    }
+}
+
+/// Whether there is a point so many steps away, and it is a double point of the side, which has no five point. The board is as before.
+#[inline(always)]
+fn double_towards<R: Rule>(
+    board: &mut Board,
+    side: Side,
+    way: Way,
+    axis: Axis,
+    p: Point,
+    k: u8,
+) -> bool
+    requires on { IsTrue (is_on board.old p) }
+    requires near { k ≤ 64 }
+    requires none { has_five_lem R.KIND board.old side ≡ false }
+    ensures double { result ≡ is_double_at R.KIND board.old side (towards_lem way axis p k) }
+    ensures same { board.new ≡ board.old }
+{
+    match board.step_towards(way, axis, p, k) {
+        None => false,
+        Some(q) => double_here::<R>(board, side, q),
+    }
+}
+
+/// Whether the point is a double point of the side, which has no five point. The board is as before.
+fn double_here<R: Rule>(board: &mut Board, side: Side, q: Point) -> bool
+    requires none { has_five_lem R.KIND board.old side ≡ false }
+    ensures double { result ≡ is_double_point R.KIND board.old side q }
+    ensures same { board.new ≡ board.old }
+{
+    if !board.is_empty(q) {
+        return false;
+    }
+    if !near_stones(board, side, q).some(3) {
+        return false;
+    }
+    is_new_double_point::<R>(board, side, q)
+}
