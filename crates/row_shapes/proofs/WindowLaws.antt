@@ -5,7 +5,8 @@ use Rattle.std.specs.Prelude.{Option, Some, None, bit_and, bit_or}
 use Rattle.std.specs.Int.{bit_at, bit_not, w32}
 use Rattle.std.specs.List.{list_any}
 use Rattle.std.proofs.lemmas.Bool.{cases_eq, cases_lt, false_from_ne_true, both_ways}
-use Rattle.std.proofs.lemmas.Nat.Bits.{bit_at_and, bit_at_or, bit_at_not, bit_at-lt, bit_at-zero, bit_at-pow_same}
+use Rattle.std.proofs.lemmas.Nat.Bits.{bit_at_and, bit_at_or, bit_at_not, bit_at-lt, bit_at-zero, bit_at-pow_same, shr_and_one}
+use Rattle.std.proofs.lemmas.Nat.{and_mask}
 use Rattle.game_rules.proofs.Common.{Grid, IsBoard, is_on, is_empty, points_of, row_wins, stones_ahead, stones_behind, wins_on, five, other}
 use Rattle.game_rules.proofs.Common.{has_five, put, towards, run_end, along, wins_at, fours_of, place_stone, place_wins}
 use Rattle.game_rules.specs.declared.RuleKind.{RuleKind}
@@ -271,18 +272,21 @@ no_fives rule b s row column down up = none_passes (five rule b s) (points_of b)
 -- ---- the lines that may win
 
 -- a bit that is 0 in all is 0 in each
-pub none_of_four : (a c e f i : ℕ) → bit_or (bit_or (bit_or a c) e) f ≡ 0
+none_or : (a c e f i : ℕ) → bit_at (bit_or (bit_or (bit_or a c) e) f) i ≡ 0
     → (bit_at a i ≡ 0) × (bit_at c i ≡ 0) × (bit_at e i ≡ 0) × (bit_at f i ≡ 0)
-none_of_four a c e f i none =
-    let zero : bit_at (bit_or (bit_or (bit_or a c) e) f) i ≡ 0 = ap (λ m. bit_at m i) none ∙ bit_at-zero i in
+none_or a c e f i none =
     let all = bit_at_or (bit_or (bit_or a c) e) f i in
     let three = bit_at_or (bit_or a c) e i in
     let two = bit_at_or a c i in (
-      omega (arith, zero, all, three, two),
-      omega (arith, zero, all, three, two),
-      omega (arith, zero, all, three, two),
-      omega (arith, zero, all, three, two),
+      omega (arith, none, all, three, two),
+      omega (arith, none, all, three, two),
+      omega (arith, none, all, three, two),
+      omega (arith, none, all, three, two),
     )
+
+pub none_of_four : (a c e f i : ℕ) → bit_or (bit_or (bit_or a c) e) f ≡ 0
+    → (bit_at a i ≡ 0) × (bit_at c i ≡ 0) × (bit_at e i ≡ 0) × (bit_at f i ≡ 0)
+none_of_four a c e f i none = none_or a c e f i (ap (λ m. bit_at m i) none ∙ bit_at-zero i)
 
 -- where all points are passed, the side has no five point
 pub passes-all : (b : Grid) (s : Side) (lines : WindowLines) → AreWindowLines b s lines → ((p : Point) → IsPassed lines p)
@@ -290,6 +294,45 @@ pub passes-all : (b : Grid) (s : Side) (lines : WindowLines) → AreWindowLines 
     → has_five rule b s ≡ false
 passes-all b s lines h all rule = no_fives rule b s (λ q. h.row rule q (all q).row) (λ q. h.column rule q (all q).column)
     (λ q. h.down rule q (all q).down) (λ q. h.up rule q (all q).up)
+
+-- a point that is passed is no five point
+pub passes-point : (b : Grid) (s : Side) (lines : WindowLines) (p : Point) → AreWindowLines b s lines → IsPassed lines p → (rule : RuleKind)
+    → five rule b s p ≡ false
+passes-point b s lines p h off rule = rw (h.row rule p off.row, h.column rule p off.column, h.down rule p off.down, h.up rule p off.up) refl
+
+-- a number below 32 is its own five bits
+low_bits : (n : ℕ) → n < 32 → bit_and n 31 ≡ n
+low_bits n low = and_mask n 5 ∙ omega (arith, low)
+
+-- a number whose lowest bit is not 1
+low_clear : (n : ℕ) → nat_eq (bit_and n 1) 1 ≡ false → bit_at n 0 ≡ 0
+low_clear n off = not_one (bit_at n 0) (bit_at-lt n 0) (ap (λ m. nat_eq m 1) (sym one) ∙ off) where
+  one : bit_and n 1 ≡ bit_at n 0
+  one = let here : n ≡ n / 2 ^ 0 = omega arith in ap (λ m. bit_and m 1) here ∙ shr_and_one n 0
+
+  not_one : (m : ℕ) → m < 2 → nat_eq m 1 ≡ false → m ≡ 0
+  not_one m low test = grind (arith, nat_tests)
+
+own_bit : (n i : ℕ) → bit_at (n / 2 ^ i) 0 ≡ 0 → bit_at n i ≡ 0
+own_bit n i h = let same : i ≡ 0 + i = omega arith in ap (bit_at n) same ∙ sym (bit_shr n i 0) ∙ h
+
+-- each line through a point, shifted down to the lowest bit, tells whether it is marked
+pub passed : (lines : WindowLines) (p : Point) → p.x < 32 → p.y < 32
+    → nat_eq (bit_and (bit_or (bit_or (bit_or (lines.row / 2 ^ bit_and p.y 31) (lines.column / 2 ^ bit_and p.x 31))
+    (lines.down / 2 ^ (bit_and p.x 31 + (31 - bit_and p.y 31)))) (lines.up / 2 ^ (bit_and p.x 31 + bit_and p.y 31))) 1) 1 ≡ false
+    → IsPassed lines p
+passed lines p column row off =
+    let x = low_bits p.x column in
+    let y = low_bits p.y row in
+    let here = rw (x, y) at off in
+    let each = none_or (lines.row / 2 ^ p.y) (lines.column / 2 ^ p.x) (lines.down / 2 ^ (p.x + (31 - p.y))) (lines.up / 2 ^ (p.x + p.y)) 0
+    (low_clear _ here) in
+    record {
+      row = own_bit lines.row p.y each.0;
+      column = own_bit lines.column p.x each.1;
+      down = own_bit lines.down (p.x + (31 - p.y)) each.2;
+      up = own_bit lines.up (p.x + p.y) each.3;
+    }
 
 -- ---- a line without a window holds no four
 

@@ -5,6 +5,7 @@
 #![tactic(auto)]
 
 ghost use Rattle.std.specs.Prelude.{◌≡◌, ◌++◌, IfOk};
+ghost use Rattle.game_rules.specs.Grid.{IsBoard};
 ghost use Rattle.game_rules.specs.Games.{five_points as five_points_lem, has_five as has_five_lem};
 ghost use Rattle.game_rules.specs.Shapes.{five};
 ghost use Rattle.row_shapes.specs.FivePoints.{in_short, takes as takes_lem};
@@ -95,8 +96,12 @@ pub fn fives_in_short<R: Rule>(board: &Board, side: Side) -> FivePoints
 
 /// Whether the point is a five point of the side, which may win on these lines alone.
 fn is_five<R: Rule>(board: &Board, side: Side, lines: WindowLines, p: Point) -> bool
+    requires board { IsBoard board.now }
     requires lines { AreWindowLines board.now side lines }
     ensures five { result ≡ five R.KIND board.now side p }
 {
-    board.is_empty(p) && lines.hold(p) && five_at::<R>(board, side, p)
+    if !lines.hold(p) {
+        return false;
+    }
+    board.is_empty(p) && five_at::<R>(board, side, p)
 }

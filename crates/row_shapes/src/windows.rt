@@ -117,28 +117,20 @@ impl WindowLines {
         self.row | self.column | self.down | self.up != 0
     }
 
-    /// Whether such a line goes through the point.
+    /// Whether such a line goes through the point, if it is on a board.
     #[inline(always)]
     pub(crate) fn hold(self, p: Point) -> bool
-        requires column { p.x < MAX_SIDE }
-        requires row { p.y < MAX_SIDE }
-        ensures none { result ≡ false → IsPassed self p }
+        ensures none { result ≡ false → p.x < MAX_SIDE → p.y < MAX_SIDE → IsPassed self p }
     {
-        is_among(self.row, Axis::Row, p)
-            || is_among(self.column, Axis::Column, p)
-            || is_among(self.down, Axis::Down, p)
-            || is_among(self.up, Axis::Up, p)
+        // These are the point's own, where it is on a board, so that the numbers of its lines need no test.
+        let x = p.x & (MAX_SIDE - 1);
+        let y = p.y & (MAX_SIDE - 1);
+        let bits = (self.row >> y)
+            | (self.column >> x)
+            | (self.down >> (x + (MAX_SIDE - 1 - y)))
+            | (self.up >> (x + y));
+        bits & 1 == 1
     }
-}
-
-/// Whether the line on the axis through the point is one of these.
-#[inline(always)]
-fn is_among(lines: u64, axis: Axis, p: Point) -> bool
-    requires column { p.x < MAX_SIDE }
-    requires row { p.y < MAX_SIDE }
-    ensures none { result ≡ false → bit_at lines (line_of_lem axis p) ≡ 0 }
-{
-    lines >> line_of(axis, p) & 1 == 1
 }
 
 /// The lines of the board that have a window of the side: on no other does it win.
