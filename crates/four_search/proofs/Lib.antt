@@ -14,6 +14,8 @@ mod Rounds
 mod GapRuns
 mod Listing
 mod Joining
+-- and the stones that stand near such gaps
+mod NearGaps
 -- what a search remembers
 mod Remembering
 -- points that no move on their lines has changed

@@ -4,13 +4,16 @@
 //! each way. The walks end at a stone of the other side or at the border.
 #![tactic(auto)]
 
-ghost use Rattle.std.specs.Prelude.{◌≡◌, ◌<◌, true, IsTrue, Some};
-ghost use Rattle.game_rules.specs.Grid.{is_on};
+ghost use Rattle.std.specs.Prelude.{◌≡◌, ◌<◌, false, true, IsTrue, Some};
+ghost use Rattle.game_rules.specs.Grid.{IsBoard, is_on};
 ghost use Rattle.game_rules.specs.Ways.{stones_towards as stones_towards_lem};
-ghost use Rattle.four_search.specs.Gaps.{next_gap as next_gap_lem, TellsGaps};
+ghost use Rattle.four_search.specs.Gaps.{next_gap as next_gap_lem, TellsGaps, IsGapOn};
 ghost use Rattle.game_rules.specs.declared.Point.{Point};
 
-use stone_board::{Axis, Board, Point, Side, Way};
+use stone_board::{Axis, Board, Point, Side, Way, place_on};
+
+/// The four places next to one in each way, where the place itself is bit 4.
+const NEAR_PLACES: u64 = 0b1_1110_1111;
 
 /// What stands on an axis in one way from a stone: stones, a gap, stones, a gap, stones. Past a gap that is missing nothing is
 /// counted.
@@ -21,6 +24,19 @@ pub(crate) struct Gaps {
     pub(crate) between: u32,
     pub(crate) second: Option<Point>,
     pub(crate) beyond: u32,
+}
+
+/// Whether two stones of the side or more stand within four places of the point on its line. Else no two gaps from its stone have
+/// stones enough beside them.
+#[inline(always)]
+pub(crate) fn has_two_near(board: &Board, side: Side, axis: Axis, p: Point) -> bool
+    requires on { IsTrue (is_on board.now p) }
+    ensures none { result ≡ false → (x : Point) → ¬ IsGapOn board.now side axis p x }
+    ensures board { IsBoard board.now }
+{
+    let bits = u64::from(board.line_through(side, axis, p));
+    let near = bits << 4 >> place_on(axis, p) & NEAR_PLACES;
+    near.count_ones() >= 2
 }
 
 /// What stands from `p` in that way, where the stones are those of the side.
