@@ -117,7 +117,8 @@ fn walk_from<R: Rule>(
     requires board { IsBoard board.now }
     requires far { to_come.now.more ≡ 0 → HasPairsOf R.KIND board.now origin.now.side to_come.now.far.now }
     ensures looked { IfOk result (λ found. found ≡ looked (final_of_lem R.KIND origin.now.side origin.now.start.now) budget
-        (map (λ ts. path.old ++ ts) (lists_from (lists_of R.KIND origin.now.side to_come.now.more) origin.now.side board.now threats.now))) }
+        (map (λ ts. path.old ++ ts)
+        (lists_from (lists_of R.KIND origin.now.side to_come.now.more) origin.now.side board.now threats.now))) }
     ensures path { IfOk result (λ found. path.new ≡ path.old) }
 {
     let mut left = budget;
@@ -151,7 +152,8 @@ fn look_at<R: Rule>(
 ) -> Result<Looked, AllocError>
     requires played { board.old ≡ played_all origin.now.start.now origin.now.side path.now }
     requires far { HasPairsAfter R.KIND board.old origin.now.side path.now far.now }
-    ensures looked { IfOk result (λ found. found ≡ looked (final_of_lem R.KIND origin.now.side origin.now.start.now) budget (path.now ∷ [])) }
+    ensures looked { IfOk result (λ found. found ≡ looked (final_of_lem R.KIND origin.now.side origin.now.start.now) budget
+        (path.now ∷ [])) }
     ensures same { board.new ≡ board.old }
 {
     if budget == 0 {
