@@ -94,14 +94,20 @@ pub fn fives_in_short<R: Rule>(board: &Board, side: Side) -> FivePoints
     }
 }
 
-/// Whether the point is a five point of the side, which may win on these lines alone.
+/// Whether the point is a five point of the side, which may win on these lines alone. Most points are on none of them.
+#[inline(always)]
 fn is_five<R: Rule>(board: &Board, side: Side, lines: WindowLines, p: Point) -> bool
     requires board { IsBoard board.now }
     requires lines { AreWindowLines board.now side lines }
     ensures five { result ≡ five R.KIND board.now side p }
 {
-    if !lines.hold(p) {
-        return false;
-    }
+    lines.hold(p) && is_any_five::<R>(board, side, p)
+}
+
+/// The same of a side that may win on any line. Few points come as far, so it stands apart from its callers.
+#[inline(never)]
+fn is_any_five<R: Rule>(board: &Board, side: Side, p: Point) -> bool
+    ensures five { result ≡ five R.KIND board.now side p }
+{
     board.is_empty(p) && five_at::<R>(board, side, p)
 }
