@@ -1,8 +1,8 @@
 -- The replies that are counted and not walked: the points of a board, taken apart into those that are listed, one more, and
 -- the others, and what each of the others is.
-use Rattle.std.proofs.Common.{◌≡◌, ℕ, zero, suc, ◌+◌, ◌*◌, ◌<◌, ◌≤◌, Bool, true, false, cond, ◌&&◌, ◌||◌, not, List, [], ◌∷◌, ◌++◌, length}
-use Rattle.std.proofs.Common.{drop, get_or, refl, sym, ap, subst, ◌∙◌, arith, nat_eq, eq-eqb, drop-cons}
-use Rattle.std.specs.Prelude.{Option, Some, None}
+use Rattle.std.proofs.Common.{◌≡◌, ℕ, zero, suc, ◌+◌, ◌*◌, ◌<◌, ◌≤◌, Bool, true, false, cond, ◌&&◌, ◌||◌, not, List, [], ◌∷◌, length}
+use Rattle.std.proofs.Common.{drop, refl, sym, ap, subst, ◌∙◌, arith, nat_eq, eq-eqb, drop-cons}
+use Rattle.std.specs.Prelude.{Some, None}
 use Rattle.std.specs.List.{All, count_by, sum_by, list_any, list_all, find, flat_map, range_with_len}
 use Rattle.std.specs.Option.{option_map, option_or}
 use Rattle.std.proofs.lemmas.Bool.{lt-ltb}
@@ -33,7 +33,7 @@ use Rattle.strategy_graph.specs.Tables.{Answers, answer, is_rising, listed_node,
 use Rattle.strategy_graph.specs.Acceptance.{Accepted, AcceptedStart, Meets}
 use Rattle.strategy_graph.specs.Arrivals.{arrivals, arrivals_after, arrivals_at}
 use Rattle.strategy_graph.proofs.Steps.{arrivals-answer, arrivals-stops, met-answer, met-foul, met-no_move}
-use Rattle.strategy_checker.specs.declared.walk.Sure.{Sure}
+use Rattle.strategy_checker.specs.declared.outlook.Sure.{Sure}
 use Rattle.strategy_checker.specs.Walks.{IsSure, is_apart}
 use Rattle.strategy_checker.proofs.Sureness.{sure-accepted}
 use Rattle.strategy_checker.proofs.Walking.{drop-none}
@@ -340,6 +340,48 @@ listed-all P (r ∷ rs) q all h = by_test (is_same_point r.at q) refl h (listed-
       → (list_any (λ (x : Reply). is_same_point x.at q) rs ≡ true → P q) → P q
   by_test true e k later = subst P (is_same_point-same r.at q e) (all 0 r (omega arith))
   by_test false e k later = later k
+
+-- where all empty points are listed, a point that isn't listed is not empty
+unlisted-taken : (b : Grid) → IsBoard b → (rs : List Reply) → is_rising rs ≡ true → count_by (λ r. is_empty b r.at) rs ≡ empties_of b
+    → (q : Point) → is_listed rs q ≡ false → is_empty b q ≡ false
+unlisted-taken b ok rs rising whole q unlisted = by_test (is_empty b q) refl where
+  by_test : (r : Bool) → is_empty b q ≡ r → r ≡ false
+  by_test false e = refl
+  by_test true e =
+      let all = sum-apart b (λ p. cond (is_empty b p) 1 0) (λ p off. ap (λ r. cond (r && is_empty_cell (cell_at b p)) 1 zero) off) rs rising
+      q in
+      let here : cond (is_listed rs q) 0 (cond (is_empty b q) 1 0) ≡ 1 = ap (λ r. cond r zero (cond (is_empty b q) 1 0)) unlisted
+      ∙ ap (λ r. cond r 1 zero) e in
+      let count = count-empty b ok in
+      absurd (omega (arith, all, here, count, whole))
+
+module _ (rule : RuleKind) (t : List Node) (b : Grid) (rs : List Reply) (rest : Rest) (ok : IsBoard b) (rising : is_rising rs ≡ true)
+    (whole : count_by (λ r. is_empty b r.at) rs ≡ empties_of b) where
+  abbrev answers : Answers
+  answers = record { replies = rs; rest = rest }
+
+  taken : (q : Point) → is_listed rs q ≡ false → outcome rule b q ≡ Refused
+  taken q unlisted = taken_refused rule b q (unlisted-taken b ok rs rising whole q unlisted)
+
+  -- then the arrivals are those behind the replies that are listed
+  pub arrivals-listed : arrivals_after rule answers (arrivals rule t) b ≡ sum_by (λ r. arrivals_at rule answers (arrivals rule t) b r.at) rs
+  unfolding only_listed
+  arrivals-listed = sum_by-same (arrivals_at rule answers (arrivals rule t) b)
+      (only_listed rs (arrivals_at rule answers (arrivals rule t) b))
+      (points_of b) (λ q. by_test q (is_listed rs q) refl)
+      ∙ sum-listed b (arrivals_at rule answers (arrivals rule t) b)
+      (λ e off. arrivals-stops rule t answers b e Refused (off_refused rule b e off) (λ x. cc)) rs rising where
+        by_test : (q : Point) (r : Bool) → is_listed rs q ≡ r
+            → arrivals_at rule answers (arrivals rule t) b q ≡ cond r (arrivals_at rule answers (arrivals rule t) b q) 0
+        by_test q true h = refl
+        by_test q false h = arrivals-stops rule t answers b q Refused (taken q h) (λ e. cc)
+
+  -- and all replies are met once those are
+  pub met-listed : All (λ r. Meets rule answers (Accepted rule t) b r.at) rs → (q : Point) → Meets rule answers (Accepted rule t) b q
+  met-listed all q = by_test (is_listed rs q) refl where
+    by_test : (r : Bool) → is_listed rs q ≡ r → Meets rule answers (Accepted rule t) b q
+    by_test true h = listed-all (Meets rule answers (Accepted rule t) b) rs q all h
+    by_test false h = met-no_move rule t answers b q (taken q h)
 
 module _ (rule : RuleKind) (t : List Node) (b : Grid) (rs : List Reply) (rest : Rest) (s : Sure) (lawful : IsPosition rule b)
     (is : IsSure rule t b s) (to : rest_node rest ≡ Some s.node) where

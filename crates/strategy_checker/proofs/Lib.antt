@@ -4,7 +4,10 @@
 pub mod Holding
 -- the walk, and the verdict on it
 mod Walking
+mod Owing
+mod Stages
 mod Refusals
 mod Sureness
 -- the replies that are counted and not walked
 mod Counted
+mod Courses

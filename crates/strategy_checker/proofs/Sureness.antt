@@ -26,7 +26,7 @@ use Rattle.strategy_graph.specs.Acceptance.{Accepted}
 use Rattle.strategy_graph.specs.Arrivals.{arrivals}
 use Rattle.strategy_graph.proofs.Filling.{IsTable-lower}
 use Rattle.strategy_graph.proofs.Steps.{accepted-by-win, arrivals-one}
-use Rattle.strategy_checker.specs.declared.walk.Sure.{Sure}
+use Rattle.strategy_checker.specs.declared.outlook.Sure.{Sure}
 use Rattle.strategy_checker.specs.Walks.{AreFives, HadNone, IsQuick, IsSure, TellsFives, fives_after, is_sure_after, leaves_none}
 
 module _ (rule : RuleKind) (t : List Node) (b : Grid) (q : Point) (lawful : IsPosition rule b) (on : outcome rule b q ≡ GoesOn) where

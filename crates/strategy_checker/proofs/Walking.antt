@@ -1,10 +1,6 @@
--- A move played and taken back, what a step of a walk did once a move is noted, and one reply after another.
-use Rattle.std.proofs.Common.{◌≡◌, ℕ, zero, suc, ◌+◌, ◌<◌, ◌≤◌, false, drop, List, [], ◌∷◌, ◌++◌, reverse, refl, sym, ap, subst, ◌∙◌, arith}
-use Rattle.std.specs.Prelude.{Option, Some, slice_get, Result, Ok, Err}
-use Rattle.std.specs.List.{All, sum_by}
-use Rattle.std.proofs.lemmas.List.{reverse-append}
-use Rattle.std.proofs.lemmas.List.Elements.{All-cons, All-nil}
-use Rattle.std.proofs.lemmas.List.Sums.{sum_by-cons}
+-- A move played and taken back, arrivals that are taken, and faults.
+use Rattle.std.proofs.Common.{◌≡◌, ℕ, zero, suc, ◌+◌, ◌≤◌, false, drop, List, [], ◌∷◌, ◌++◌, reverse, refl, sym, ap, subst, ◌∙◌, arith}
+use Rattle.std.specs.Prelude.{Some, slice_get, Result, Ok, Err}
 use Rattle.game_rules.specs.Grid.{Grid, is_empty, empties_of}
 use Rattle.game_rules.specs.Play.{IsPosition, outcome, after, mover}
 use Rattle.game_rules.specs.declared.RuleKind.{RuleKind}
@@ -16,16 +12,16 @@ use Rattle.game_rules.proofs.Points.{taken_refused}
 use Rattle.game_rules.proofs.Positions.{IsPosition-after, GoesOn-empty}
 use Rattle.strategy_graph.specs.declared.Node.{Node}
 use Rattle.strategy_graph.specs.declared.Why.{Why}
-use Rattle.strategy_graph.specs.Tables.{Answers, answers_of, answer, is_winning}
-use Rattle.strategy_graph.specs.Acceptance.{Accepted, Meets}
-use Rattle.strategy_graph.specs.Arrivals.{arrivals, arrivals_at}
-use Rattle.strategy_graph.specs.Leads.{attack_fault, reply_fault, Leads, LeadsStart}
+use Rattle.strategy_graph.specs.Tables.{Answers, answers_of, is_winning}
+use Rattle.strategy_graph.specs.Acceptance.{Accepted}
+use Rattle.strategy_graph.specs.Arrivals.{arrivals}
+use Rattle.strategy_graph.specs.Leads.{attack_fault, Leads, LeadsStart}
 use Rattle.strategy_graph.proofs.Steps.{arrivals-stops, leads-attack, leads-reply, met-no_move}
 use Rattle.strategy_checker.specs.declared.walk.Stop.{Stop}
 use Rattle.strategy_checker.specs.declared.walk.Stop.TheVariants.{Fault, Spent, Memory}
 use Rattle.position_table.specs.Remembering.{Remembered}
 use Rattle.strategy_checker.specs.declared.walk.Walk.{Walk}
-use Rattle.strategy_checker.specs.Walks.{Stopped, IsNoted, IsReady, IsTrueMemo, NotesAt, Takes, Walked, WalkedNode, WalkedReply}
+use Rattle.strategy_checker.specs.Walks.{IsNoted, IsReady, IsTrueMemo, Takes, Walked, WalkedNode, WalkedReply}
 
 -- ---- a move that goes on, played and taken back
 
@@ -96,23 +92,6 @@ pub taken-short : (rule : RuleKind) (t : List Node) (A : Type 0) (k n : ℕ) (L 
     → k ≤ n → Takes k old new (Err stop) → Walked rule t A n L old new (Err stop)
 taken-short rule t A k n L old new stop least takes = let short = takes.1 in rw takes.0 (omega (arith, short, least))
 
--- what came of a walk behind the move p, which took k arrivals, once p is noted
-pub noted-then : (rule : RuleKind) (t : List Node) (B C : Type 0) (k m n : ℕ) (L M : List Point → Why → Type 0) (p : Point)
-    (old mid late new : Walk) (r s : Result (Unit {0}) Stop)
-    → old.left ≡ mid.left + k → n ≡ k + m → (B → C) → ((line : List Point) (why : Why) → L line why → M (p ∷ line) why)
-    → Walked rule t B m L mid late r → NotesAt p late new r s → Walked rule t C n M old new s
-noted-then rule t B C k m n L M p old mid late new (Ok done) s before all f leads walked noted =
-    rw (noted.0, noted.1) (walked-then rule t B C k m n L L old mid late (Ok done) before all f (λ line why l. l) walked)
-noted-then rule t B C k m n L M p old mid late new (Err (Fault why)) (Err (Fault w)) before all f leads h noted =
-    let new_is : reverse new.line ≡ p ∷ reverse late.line = ap reverse noted.1 ∙ reverse-append late.line (p ∷ []) in
-    rw (new_is, noted.0) (leads (reverse late.line) why h)
-noted-then rule t B C k m n L M p old mid late new (Err (Fault why)) (Err Spent) before all f leads h noted = absurd noted
-noted-then rule t B C k m n L M p old mid late new (Err (Fault why)) (Err Memory) before all f leads h noted = tt
-noted-then rule t B C k m n L M p old mid late new (Err Spent) (Err last) before all f leads h noted =
-    rw noted (omega (arith, h, before, all))
-noted-then rule t B C k m n L M p old mid late new (Err Memory) (Err last) before all f leads h noted = rw noted tt
-noted-then rule t B C k m n L M p old mid late new (Err stop) (Ok done) before all f leads h noted = absurd noted
-
 -- ---- faults
 
 -- a fault of the attack
@@ -130,39 +109,6 @@ pub attack-then-leads : (rule : RuleKind) (t : List Node) (i : ℕ) (b : Grid) (
 attack-then-leads rule t i b n [] why at on more h = absurd h
 attack-then-leads rule t i b n (q ∷ line) why at on more h = leads-reply rule t i b n q line why at on more h
 
--- ---- one reply after another
-
--- a walk over points that are named by the items of a list: what is left of them, and what it did so far
-pub record Going {X : Type 0} (at : X → Point) (rule : RuleKind) (t : List Node) (a : Answers) (b : Grid) (all left : List X)
-    (old now : Walk) : Type 0 where
-  pub counted : now.left + sum_by (λ x. arrivals_at rule a (arrivals rule t) b (at x)) all ≡ old.left + sum_by
-      (λ x. arrivals_at rule a (arrivals rule t) b (at x)) left
-  pub met : All (λ x. Meets rule a (Accepted rule t) b (at x)) left → All (λ x. Meets rule a (Accepted rule t) b (at x)) all
-  pub ready : IsReady rule t b now
-
-module _ {X : Type 0} (at : X → Point) (rule : RuleKind) (t : List Node) (a : Answers) (b : Grid) (all : List X) (x : X)
-    (left more : List X) (first : left ≡ x ∷ more) (old now next : Walk) (so_far : Going at rule t a b all left old now) where
-  split : sum_by (λ x. arrivals_at rule a (arrivals rule t) b (at x)) left ≡ arrivals_at rule a (arrivals rule t) b (at x) + sum_by
-      (λ x. arrivals_at rule a (arrivals rule t) b (at x)) more
-  split = ap (sum_by (λ x. arrivals_at rule a (arrivals rule t) b (at x))) first
-      ∙ sum_by-cons (λ x. arrivals_at rule a (arrivals rule t) b (at x)) x more
-
-  pub going-on : WalkedReply rule t a b (at x) now next (Ok tt) → Going at rule t a b all more old next
-  going-on walked =
-      let before = so_far.counted in
-      let counted = walked.1.counted in
-      record {
-        counted = omega (arith, before, split, counted);
-        met = λ later. so_far.met (rw first (All-cons (λ x. Meets rule a (Accepted rule t) b (at x)) x more walked.0 later));
-        ready = record { lawful = so_far.ready.lawful; no_line = walked.1.no_line; memo = walked.1.memo };
-      }
-
-  pub going-stops : (A : Type 0) (stop : Stop) → WalkedReply rule t a b (at x) now next (Err stop)
-      → Walked rule t A (sum_by (λ x. arrivals_at rule a (arrivals rule t) b (at x)) all) (LeadsStart rule t a b) old next (Err stop)
-  going-stops A (Fault why) h = h
-  going-stops A Spent h = let before = so_far.counted in omega (arith, before, split, h)
-  going-stops A Memory h = tt
-
 -- a reply that is no move is met, with no arrivals
 pub refused-reply : (rule : RuleKind) (t : List Node) (a : Answers) (b : Grid) (q : Point) (now : Walk) → IsReady rule t b now
     → is_empty b q ≡ false → WalkedReply rule t a b q now now (Ok tt)
@@ -170,19 +116,6 @@ refused-reply rule t a b q now ready taken =
     let none = arrivals-stops rule t a b q Refused (taken_refused rule b q taken) (λ e. cc) in (
       met-no_move rule t a b q (taken_refused rule b q taken),
       record { counted = omega (arith, none); no_line = ready.no_line; memo = ready.memo },
-    )
-
--- at the end each is met
-pub going-done : {X : Type 0} (at : X → Point) (rule : RuleKind) (t : List Node) (a : Answers) (b : Grid) (all left : List X)
-    (old now : Walk)
-    → left ≡ [] → Going at rule t a b all left old now
-    → Walked rule t (All (λ x. Meets rule a (Accepted rule t) b (at x)) all)
-    (sum_by (λ x. arrivals_at rule a (arrivals rule t) b (at x)) all) (LeadsStart rule t a b) old now (Ok tt)
-going-done at rule t a b all left old now none so_far =
-    let before = so_far.counted in
-    let nothing : sum_by (λ x. arrivals_at rule a (arrivals rule t) b (at x)) left ≡ 0 = rw none refl in (
-      so_far.met (rw none (All-nil (λ x. Meets rule a (Accepted rule t) b (at x)))),
-      record { counted = omega (arith, before, nothing); no_line = so_far.ready.no_line; memo = so_far.ready.memo },
     )
 
 -- ---- the items of a list from one on

@@ -1,4 +1,5 @@
 pub mod Walks
+pub mod Meetings
 pub mod Verdicts
 pub mod HeldRoots
 pub mod HeldErrors

@@ -15,17 +15,17 @@ use Rattle.position_table.specs.Remembering.{Remembered, IsTrueTable}
 use Rattle.row_shapes.specs.FivePoints.{in_short}
 use Rattle.row_shapes.specs.declared.fives.FivePoints.{FivePoints}
 use Rattle.row_shapes.specs.declared.fives.FivePoints.TheVariants.{None as NoPoint, One, Several}
-use Rattle.strategy_graph.specs.Acceptance.{Accepted, AcceptedStart, Meets}
-use Rattle.strategy_graph.specs.Arrivals.{arrivals, arrivals_after, arrivals_at}
+use Rattle.strategy_graph.specs.Acceptance.{Accepted, Meets}
+use Rattle.strategy_graph.specs.Arrivals.{arrivals, arrivals_at}
 use Rattle.strategy_graph.specs.Leads.{Leads, LeadsStart}
 use Rattle.strategy_graph.specs.declared.Node.{Node}
 use Rattle.strategy_graph.specs.declared.Why.{Why}
 use Rattle.strategy_graph.specs.declared.Reply.{Reply}
 use Rattle.strategy_graph.specs.Tables.{Answers, IsTable}
-use Rattle.strategy_checker.specs.declared.walk.Fives.{Fives}
-use Rattle.strategy_checker.specs.declared.walk.Fives.TheVariants.{Unknown, Told, MadeBy}
-use Rattle.strategy_checker.specs.declared.walk.Outlook.{Outlook}
-use Rattle.strategy_checker.specs.declared.walk.Sure.{Sure}
+use Rattle.strategy_checker.specs.declared.outlook.Fives.{Fives}
+use Rattle.strategy_checker.specs.declared.outlook.Fives.TheVariants.{Unknown, Told, MadeBy}
+use Rattle.strategy_checker.specs.declared.outlook.Outlook.{Outlook}
+use Rattle.strategy_checker.specs.declared.outlook.Sure.{Sure}
 use Rattle.strategy_checker.specs.declared.walk.Walk.{Walk}
 use Rattle.strategy_checker.specs.declared.walk.Stop.{Stop}
 use Rattle.strategy_checker.specs.declared.walk.Stop.TheVariants.{Fault, Spent, Memory}
@@ -42,12 +42,6 @@ abbrev pub IsNoted : Point → List Point → List Point → Stop → Stop → T
 IsNoted p old new (Fault why) stop = Stopped (λ w. (w ≡ why) × (new ≡ old ++ p ∷ [])) ⊥ stop
 IsNoted p old new Spent stop = stop ≡ Spent
 IsNoted p old new Memory stop = stop ≡ Memory
-
--- what came of a walk behind the move p, once the move is noted at a stop: without a stop nothing is changed
-abbrev pub NotesAt : Point → Walk → Walk → Result (Unit {0}) Stop → Result (Unit {0}) Stop → Type 0
-NotesAt p old new (Ok done) r = (r ≡ Ok done) × (new ≡ old)
-NotesAt p old new (Err stop) (Ok done) = ⊥
-NotesAt p old new (Err stop) (Err last) = IsNoted p old.line new.line stop last
 
 -- n arrivals are counted and nothing else is changed, or there are not so many left
 abbrev pub Takes : ℕ → Walk → Walk → Result (Unit {0}) Stop → Type 0
@@ -89,11 +83,6 @@ WalkedNode rule t i b old new r = Walked rule t (Accepted rule t i b) (arrivals 
 abbrev pub WalkedReply : RuleKind → List Node → Answers → Grid → Point → Walk → Walk → Result (Unit {0}) Stop → Type 0
 WalkedReply rule t a b q old new r =
     Walked rule t (Meets rule a (Accepted rule t) b q) (arrivals_at rule a (arrivals rule t) b q) (LeadsStart rule t a b) old new r
-
--- such a step behind all replies at b
-abbrev pub WalkedReplies : RuleKind → List Node → Answers → Grid → Walk → Walk → Result (Unit {0}) Stop → Type 0
-WalkedReplies rule t a b old new r =
-    Walked rule t (AcceptedStart rule t a b) (arrivals_after rule a (arrivals rule t) b) (LeadsStart rule t a b) old new r
 
 -- what is told of the five points of the side that is not to move, if anything is
 abbrev pub TellsFives : RuleKind → Grid → Option FivePoints → Type 0

@@ -11,7 +11,8 @@ ghost use Rattle.strategy_graph.specs.Acceptance.{Accepted, AcceptedStart};
 ghost use Rattle.strategy_graph.specs.Arrivals.{arrivals, start_arrivals};
 ghost use Rattle.strategy_graph.specs.Leads.{Leads, LeadsStart};
 ghost use Rattle.strategy_graph.specs.Roots.{AcceptedRoot, LeadsRoot, RootWins, root_arrivals, root_below, root_depth};
-ghost use Rattle.strategy_checker.specs.Verdicts.{IsRefusal, IsVerdictOn, AcceptsExactly, RefusesRightly, SpendsRightly, IfAccepted, IfRefused};
+ghost use Rattle.strategy_checker.specs.Verdicts.{IsRefusal, IsVerdictOn, AcceptsExactly, RefusesRightly, SpendsRightly};
+ghost use Rattle.strategy_checker.specs.Verdicts.{IfAccepted, IfRefused};
 
 use crate::Verdict;
 use crate::walk::{Stop, Walk};

@@ -8,7 +8,9 @@
 
 mod checks;
 mod held;
+mod meeting;
 mod others;
+mod outlook;
 #[cfg(test)]
 mod tests;
 mod walk;

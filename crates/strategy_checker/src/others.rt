@@ -19,7 +19,6 @@ use stone_board::{Board, Point, Side};
 use strategy_graph::Replies;
 
 /// How many replies go on that are neither listed nor on `w`.
-#[inline(never)]
 pub(crate) fn others_going_on<R: Rule>(
     position: &mut Position<R>,
     replies: &Replies,
@@ -29,7 +28,8 @@ pub(crate) fn others_going_on<R: Rule>(
     requires empty { is_empty position.old w ≡ true }
     requires free { has_five R.KIND position.old (mover position.old) ≡ false }
     requires more { 1 < empties_of position.old }
-    ensures count { result ≡ count_by (λ q. goes_on (outcome R.KIND position.old q) && not (is_apart_lem replies.now w q)) (points_of position.old) }
+    ensures count { result
+        ≡ count_by (λ q. goes_on (outcome R.KIND position.old q) && not (is_apart_lem replies.now w q)) (points_of position.old) }
     ensures same { position.new ≡ position.old }
 {
     if has_fouls::<R>(position.side()) {
@@ -65,7 +65,7 @@ fn empty_others(board: &Board, replies: &Replies, w: Point) -> usize
 }
 
 /// How many of the points that are listed are empty.
-fn listed_empties(board: &Board, replies: &Replies) -> usize
+pub(crate) fn listed_empties(board: &Board, replies: &Replies) -> usize
     ensures count { result ≡ count_by (λ r. is_empty board.now r.at) replies.now }
 {
     replies
@@ -77,7 +77,8 @@ fn listed_empties(board: &Board, replies: &Replies) -> usize
 
 /// How many replies go on that are neither listed nor on `w`, each of them asked.
 fn asked_others<R: Rule>(position: &mut Position<R>, replies: &Replies, w: Point) -> usize
-    ensures count { result ≡ count_by (λ q. goes_on (outcome R.KIND position.old q) && not (is_apart_lem replies.now w q)) (points_of position.old) }
+    ensures count { result
+        ≡ count_by (λ q. goes_on (outcome R.KIND position.old q) && not (is_apart_lem replies.now w q)) (points_of position.old) }
     ensures same { position.new ≡ position.old }
 {
     let mut count = 0;

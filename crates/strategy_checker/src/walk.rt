@@ -1,40 +1,42 @@
 //! The walk through a table.
 //!
-//! The walk goes through the games that the table plays: one recursion for each attack, so that it is no deeper than the
-//! points of the board allow, however long the table is. It plays and takes back on the position that it was lent. A
-//! node that was walked through at the same position before is not walked again, where the memo has the pair.
+//! The walk goes through the games that the table plays. The nodes whose replies are being met stand in a list, each with how
+//! far they are met, so that the walk takes no more of the program's stack where a table is deep. It plays and takes back on
+//! the position that it was lent. A node that was walked through at the same position before is not walked again, where the
+//! memo has the pair.
 //!
 //! Where the attack of the node of the rest is a five point already before the replies, that is asked once. If the side to
 //! reply has no five point then, most replies are met at once: they go on, and that node wins. They are counted without being
-//! asked, and only those that are listed, and the one on that point, are walked. Whether a side has a five point is known from
-//! its last reply, which made it, so that no board is scanned but the first.
+//! asked, and only those that are listed, and the one on that point, are walked. Where all empty points are listed, those alone
+//! are asked too. Whether a side has a five point is known from its last reply, which made it, so that no board is scanned but
+//! the first.
 //!
 //! A fault ends the walk, and the moves that led there are noted on the way back, the last one first.
 #![tactic(auto)]
 
-ghost use Rattle.std.specs.Prelude.{◌≡◌, ◌<◌, ◌+◌, [], true, false, List, length, slice_get, Some, IfErr, IfSome, OnOk};
-ghost use Rattle.std.specs.List.{All, sum_by};
-ghost use Rattle.game_rules.specs.Grid.{is_empty, empties_of, put};
-ghost use Rattle.game_rules.specs.Games.{has_five, five_points};
-ghost use Rattle.game_rules.specs.Play.{IsPosition, after, outcome, mover, other};
+ghost use Rattle.std.specs.Prelude.{◌≡◌, ◌<◌, ◌≤◌, ◌+◌, ◌*◌, [], true, false, ℕ, List, length, slice_get, Some, IfSome, OnOk};
+ghost use Rattle.game_rules.specs.Grid.{lift};
+ghost use Rattle.game_rules.specs.Games.{has_five};
+ghost use Rattle.game_rules.specs.Play.{after, outcome, mover};
 ghost use Rattle.game_rules.specs.declared.RuleKind.{RuleKind as AnyRule};
-ghost use Rattle.strategy_graph.specs.Tables.{Answers, IsTable, answer as answer_lem, is_rising, is_winning, names_below, rest_node};
+ghost use Rattle.strategy_graph.specs.Tables.{Answers, IsTable, answer as answer_lem, is_winning, names_below};
 ghost use Rattle.strategy_graph.specs.declared.Node.{Node as AnyNode};
-ghost use Rattle.strategy_graph.specs.Acceptance.{Accepted, Meets};
-ghost use Rattle.strategy_graph.specs.Arrivals.{arrivals, arrivals_at, start_arrivals};
 ghost use Rattle.strategy_graph.specs.Acceptance.{AcceptedStart};
+ghost use Rattle.strategy_graph.specs.Arrivals.{arrivals, start_arrivals};
 ghost use Rattle.strategy_graph.specs.Leads.{LeadsStart};
 ghost use Rattle.strategy_graph.specs.Roots.{AcceptedRoot, LeadsRoot, root_arrivals, root_below};
-ghost use Rattle.strategy_checker.specs.Walks.{AreFives, IsNoted, IsOutlook, IsQuick, IsReady, IsSure, IsTrueMemo, IsWalked, NotesAt, Takes, TellsFives, Walked, WalkedNode, WalkedReplies, WalkedReply, fives_after, is_sure_after, leaves_none as leaves_none_lem};
+ghost use Rattle.strategy_checker.specs.Walks.{AreFives, IsNoted, IsReady, IsTrueMemo, IsWalked, Takes, Walked, WalkedNode, WalkedReply};
+ghost use Rattle.strategy_checker.specs.Meetings.{Entered, IsStage, Settled, Stops, Waits, WentOn, left_at, to_do};
 
 use crate::Why;
-use crate::others::{has_fouls, is_listed, others_going_on};
+use crate::meeting::{Meeting, begun};
+use crate::outlook::{Fives, known_after, leaves_none, told};
 use foul_judge::{Outcome, Position, Seen};
 use position_table::LateTable;
-use row_shapes::{FivePoints, Rule};
+use row_shapes::Rule;
 use std::alloc::Global;
 use stone_board::{Point, Points};
-use strategy_graph::{Node, Replies, Rest, Root, Start, Table, answer_among};
+use strategy_graph::{Node, Root, Start, Table};
 
 /// The most pairs of a node and a position that a walk remembers.
 const MEMO_ENTRIES: u32 = 65_536;
@@ -48,6 +50,9 @@ const PAIRS_BEFORE: u32 = 64;
 /// The most replies that a node lists which is not remembered, since it is walked in a few steps.
 const FEW_REPLIES: usize = 12;
 
+/// The most replies that such a node lists where it is one step longer. So few have fewer arrivals than are remembered.
+const FEWER_REPLIES: usize = 6;
+
 /// Why a walk ends before every reply is met.
 #[derive(Clone, Copy)]
 pub(crate) enum Stop {
@@ -59,17 +64,6 @@ pub(crate) enum Stop {
     Memory,
 }
 
-/// What is known of the five points of the side that is not to move.
-#[derive(Clone, Copy)]
-enum Fives {
-    /// Nothing.
-    Unknown,
-    /// Which they are.
-    Told(FivePoints),
-    /// There was none before its last stone, which is on this point.
-    MadeBy(Point),
-}
-
 /// A walk through a table.
 #[derive(Drop)]
 pub(crate) struct Walk {
@@ -79,24 +73,16 @@ pub(crate) struct Walk {
     pub(crate) line: Points,
     /// The arrivals of the nodes that were accepted, each under its position and with the node as tag.
     memo: LateTable,
+    alloc: Global,
 }
 
-/// What is known of the replies at a position before any is asked.
-#[derive(Clone, Copy)]
-struct Outlook {
-    /// The side to move has no five point. Where this is not set, nothing is said.
-    free: bool,
-    /// Each reply on an empty point goes on. Where this is not set, nothing is said.
-    quick: bool,
-    /// The node of the rest, where it is sure.
-    sure: Option<Sure>,
-}
-
-/// A node whose attack is a five point of the side that is not to move: it wins after each reply that goes on elsewhere.
-#[derive(Clone, Copy)]
-struct Sure {
+/// A node whose attack is played, and whose replies are being met.
+#[derive(Drop)]
+pub(crate) struct Stage {
     node: u32,
-    attack: Point,
+    /// The arrivals that were left before it.
+    before: u64,
+    meeting: Meeting,
 }
 
 impl Walk {
@@ -110,6 +96,7 @@ impl Walk {
             left: work,
             line: Points::new(alloc),
             memo: LateTable::new(alloc, MEMO_ENTRIES, LEAST_ARRIVALS, PAIRS_BEFORE),
+            alloc,
         }
     }
 
@@ -165,12 +152,48 @@ impl Walk {
     {
         self.take(1)?;
         let free = !position.has_five(position.side());
-        self.meet_all(table, start.replies(), start.rest(), free, position)
+        let mut meeting = begun(free);
+        loop {
+            match self.next(table, start.replies(), start.rest(), &mut meeting, position)? {
+                None => return Ok(()),
+                Some(next) => {
+                    self.answer(table, next, meeting.outlook.free, position, meeting.reply)?;
+                }
+            }
+        }
+    }
+
+    /// Walks on from the reply `q`, which goes on and is answered by the node `next`. The position is the same afterwards.
+    fn answer<R: Rule>(
+        &mut self,
+        table: &Table,
+        next: u32,
+        free: bool,
+        position: &mut Position<R>,
+        q: Point,
+    ) -> Result<(), Stop>
+        requires in_table { next < length table.now }
+        requires goes_on { outcome R.KIND position.old q ≡ Outcome.GoesOn }
+        requires ready { IsReady R.KIND table.now position.old self.old }
+        requires free { free ≡ true → has_five R.KIND position.old (mover position.old) ≡ false }
+
+        // The same by all answers that answer the reply by this node.
+        ensures walked { (a : Answers) → answer_lem a q ≡ Some next
+            → WalkedReply R.KIND table.now a position.old q self.old self.new result }
+        ensures same { position.new ≡ position.old }
+    {
+        let fives = known_after(free, q);
+        position.play(q);
+        let walked = self.visit(table, next, fives, position);
+        position.undo(q);
+        match walked {
+            Ok(()) => Ok(()),
+            Err(stop) => Err(self.noted(q, stop)),
+        }
     }
 
     /// Walks from a node at a position, which is the same afterwards. `fives` tells the five points of the side that is not
     /// to move, where they are known.
-    #[cycle(walk)]
     fn visit<R: Rule>(
         &mut self,
         table: &Table,
@@ -184,54 +207,209 @@ impl Walk {
         ensures walked { WalkedNode R.KIND table.now i position.old self.old self.new result }
         ensures same { position.new ≡ position.old }
     {
+        let mut waiting = Vec::new(self.alloc);
+        let mut walked = self.enter(table, i, fives, position);
+        loop {
+            walked = match walked {
+                Ok(entered) => match entered {
+                    Some(stage) => self.go_on(table, stage, &mut waiting, position),
+                    None => match waiting.pop() {
+                        None => return Ok(()),
+                        Some(last) => {
+                            position.undo(last.meeting.reply);
+                            self.go_on(table, last, &mut waiting, position)
+                        }
+                    },
+                },
+                Err(stop) => match waiting.pop() {
+                    None => return Err(stop),
+                    Some(last) => Err(self.give_up(table, &last, stop, position)),
+                },
+            };
+        }
+    }
+
+    /// Asks the attack of a node. Where the memo has the node at the position, its arrivals are taken at once. If the attack goes
+    /// on it stays played, and the node is answered as an open one; else the position is the same afterwards.
+    fn enter<R: Rule>(
+        &mut self,
+        table: &Table,
+        i: u32,
+        fives: Fives,
+        position: &mut Position<R>,
+    ) -> Result<Option<Stage>, Stop>
+        requires in_table { i < length table.now }
+        requires ready { IsReady R.KIND table.now position.old self.old }
+        requires fives { AreFives R.KIND position.old fives }
+        ensures entered { Entered R.KIND table.now i position.old self.old.left self.new position.new result }
+        ensures fewer { OnOk result (self.new.left < self.old.left) }
+    {
         let node = table.node(i);
+        if let Some(arrivals) = self.look(table, i, node, position) {
+            self.take(arrivals)?;
+            return Ok(None);
+        }
         match position.outcome(node.attack) {
             Outcome::Refused => Err(self.fault(node.attack, Why::AttackRefused)),
-            Outcome::Wins => self.take(1),
+            Outcome::Wins => {
+                self.take(1)?;
+                Ok(None)
+            }
             Outcome::Fouls(_) => Err(self.fault(node.attack, Why::AttackFouls)),
             Outcome::Draws => Err(self.fault(node.attack, Why::AttackDraws)),
             Outcome::GoesOn => {
                 if node.rest.is_winning() {
                     return Err(self.fault(node.attack, Why::NotWon));
                 }
-                self.go_on(table, i, node, fives, position)
+                self.open(table, i, node, fives, position)
             }
         }
     }
 
-    /// Walks on from a node whose attack goes on. Where the memo has the node at the position, its arrivals are taken at once,
-    /// and else it is remembered. The position is the same afterwards.
-    #[cycle(walk)]
-    #[inline(always)]
-    fn go_on<R: Rule>(
+    /// Plays the attack of a node, which goes on.
+    fn open<R: Rule>(
         &mut self,
         table: &Table,
         i: u32,
         node: &Node,
         fives: Fives,
         position: &mut Position<R>,
-    ) -> Result<(), Stop>
+    ) -> Result<Option<Stage>, Stop>
         requires table { IsTable table.now }
         requires node { slice_get table.now i ≡ Some node.now }
         requires goes_on { outcome R.KIND position.old node.now.attack ≡ Outcome.GoesOn }
         requires more { is_winning node.now.rest ≡ false }
         requires ready { IsReady R.KIND table.now position.old self.old }
         requires fives { AreFives R.KIND position.old fives }
-        ensures walked { WalkedNode R.KIND table.now i position.old self.old self.new result }
-        ensures same { position.new ≡ position.old }
+        ensures entered { Entered R.KIND table.now i position.old self.old.left self.new position.new result }
+        ensures fewer { OnOk result (self.new.left < self.old.left) }
     {
-        if let Some(arrivals) = self.look(table, i, node, position) {
-            return self.take(arrivals);
-        }
         let before = self.left;
-        self.attack(table, i, node, fives, position)?;
-        self.keep(table, i, node, position, before - self.left);
-        Ok(())
+        self.take(1)?;
+        let free = leaves_none(told(fives, position), node.attack);
+        position.play(node.attack);
+        Ok(Some(Stage {
+            node: i,
+            before,
+            meeting: begun(free),
+        }))
+    }
+
+    /// Meets the replies to the attack of an open node until one has to be walked from, or to the end.
+    fn go_on<R: Rule>(
+        &mut self,
+        table: &Table,
+        mut stage: Stage,
+        waiting: &mut Vec<Stage>,
+        position: &mut Position<R>,
+    ) -> Result<Option<Stage>, Stop>
+        requires in_table { stage.node < length table.now }
+        requires ready { IsReady R.KIND table.now position.old self.old }
+        requires stage { (n : AnyNode) → slice_get table.now stage.node ≡ Some n
+            → IsStage R.KIND table.now n position.old stage (left_at n position.old stage) self.old.left }
+        ensures went_on { (n : AnyNode) → slice_get table.now stage.node ≡ Some n
+            → WentOn R.KIND table.now n position.old stage waiting.old.items waiting.new.items self.new
+            position.new result }
+        ensures fewer { to_do self.new.left (length waiting.new.items) result < 3 * self.old.left + length waiting.old.items + 3 }
+    {
+        let node = table.node(stage.node);
+        let met = self.next(
+            table,
+            &node.replies,
+            node.rest,
+            &mut stage.meeting,
+            position,
+        );
+        match met {
+            Ok(found) => match found {
+                Some(next) => self.go_down(table, stage, next, waiting, position),
+                None => {
+                    self.leave(table, &stage, position);
+                    Ok(None)
+                }
+            },
+            Err(stop) => {
+                position.undo(node.attack);
+                Err(self.noted(node.attack, stop))
+            }
+        }
+    }
+
+    /// Plays the reply of an open node, and enters the node that answers it. The open node waits.
+    fn go_down<R: Rule>(
+        &mut self,
+        table: &Table,
+        stage: Stage,
+        next: u32,
+        waiting: &mut Vec<Stage>,
+        position: &mut Position<R>,
+    ) -> Result<Option<Stage>, Stop>
+        requires in_table { stage.node < length table.now }
+        requires ready { IsReady R.KIND table.now position.old self.old }
+        requires below { next < length table.now }
+        requires waits { (n : AnyNode) → slice_get table.now stage.node ≡ Some n
+            → Waits R.KIND table.now n position.old stage next self.old.left }
+        ensures went_on { (n : AnyNode) → slice_get table.now stage.node ≡ Some n
+            → WentOn R.KIND table.now n position.old stage waiting.old.items waiting.new.items self.new
+            position.new result }
+        ensures fewer { to_do self.new.left (length waiting.new.items) result < 3 * self.old.left + length waiting.old.items + 3 }
+    {
+        let attack = table.node(stage.node).attack;
+        let q = stage.meeting.reply;
+        let fives = known_after(stage.meeting.outlook.free, q);
+        if waiting.push(stage).is_err() {
+            position.undo(attack);
+            return Err(Stop::Memory);
+        }
+        position.play(q);
+        self.enter(table, next, fives, position)
+    }
+
+    /// Takes back the attack of a node whose replies are met, and remembers its arrivals.
+    fn leave<R: Rule>(&mut self, table: &Table, stage: &Stage, position: &mut Position<R>)
+        requires in_table { stage.now.node < length table.now }
+        requires ready { IsReady R.KIND table.now position.old self.old }
+        requires stage { (n : AnyNode) → slice_get table.now stage.now.node ≡ Some n
+            → IsStage R.KIND table.now n position.old stage.now [] self.old.left }
+        ensures settled { (n : AnyNode) → slice_get table.now stage.now.node ≡ Some n
+            → Settled R.KIND table.now stage.now.node (lift position.old n.attack) stage.now.before self.new }
+        ensures undone { (n : AnyNode) → slice_get table.now stage.now.node ≡ Some n → position.new ≡ lift position.old n.attack }
+        ensures left { self.new.left ≡ self.old.left }
+    {
+        let node = table.node(stage.node);
+        position.undo(node.attack);
+        self.keep(table, stage.node, node, position, stage.before - self.left);
+    }
+
+    /// Takes back the reply and the attack of a node that waits for one where the walk has stopped, and notes them.
+    fn give_up<R: Rule>(
+        &mut self,
+        table: &Table,
+        stage: &Stage,
+        stop: Stop,
+        position: &mut Position<R>,
+    ) -> Stop
+        requires in_table { stage.now.node < length table.now }
+        requires waits { (n : AnyNode) → slice_get table.now stage.now.node ≡ Some n
+            → (i : ℕ) × ((start : ℕ) × Waits R.KIND table.now n (lift position.old stage.now.meeting.reply) stage.now i start) }
+        requires there { after (lift position.old stage.now.meeting.reply) stage.now.meeting.reply ≡ position.old }
+        ensures stops { (n : AnyNode) (i start : ℕ)
+            → Waits R.KIND table.now n (lift position.old stage.now.meeting.reply) stage.now i start
+            → Stops R.KIND table.now i position.old start self.old stop
+            → Stops R.KIND table.now stage.now.node (lift (lift position.old stage.now.meeting.reply) n.attack)
+            stage.now.before self.new result }
+        ensures undone { (n : AnyNode) → slice_get table.now stage.now.node ≡ Some n
+            → position.new ≡ lift (lift position.old stage.now.meeting.reply) n.attack }
+    {
+        let attack = table.node(stage.node).attack;
+        position.undo(stage.meeting.reply);
+        let last = self.noted(stage.meeting.reply, stop);
+        position.undo(attack);
+        self.noted(attack, last)
     }
 
     /// The arrivals of the node at the position, where they are remembered. A node that is walked again in less time than a look
     /// takes is not looked for.
-    #[inline(never)]
     fn look<R: Rule>(
         &mut self,
         table: &Table,
@@ -253,7 +431,6 @@ impl Walk {
     }
 
     /// Remembers the arrivals of the node at the position, unless it is not looked for.
-    #[inline(never)]
     fn keep<R: Rule>(
         &mut self,
         table: &Table,
@@ -273,211 +450,10 @@ impl Walk {
         }
     }
 
-    /// Plays the attack of a node, and walks on from each reply. The position is the same afterwards.
-    #[cycle(walk)]
-    #[inline(always)]
-    fn attack<R: Rule>(
-        &mut self,
-        table: &Table,
-        i: u32,
-        node: &Node,
-        fives: Fives,
-        position: &mut Position<R>,
-    ) -> Result<(), Stop>
-        requires table { IsTable table.now }
-        requires node { slice_get table.now i ≡ Some node.now }
-        requires goes_on { outcome R.KIND position.old node.now.attack ≡ Outcome.GoesOn }
-        requires more { is_winning node.now.rest ≡ false }
-        requires ready { IsReady R.KIND table.now position.old self.old }
-        requires fives { AreFives R.KIND position.old fives }
-        ensures walked { WalkedNode R.KIND table.now i position.old self.old self.new result }
-        ensures same { position.new ≡ position.old }
-    {
-        self.take(1)?;
-        let free = leaves_none(told(fives, position), node.attack);
-        position.play(node.attack);
-        let met = self.meet_all(table, &node.replies, node.rest, free, position);
-        position.undo(node.attack);
-        self.noted(node.attack, met)
-    }
-
-    /// Walks on from each reply at a position, which is the same afterwards. The replies that are listed and the rest say what
-    /// answers them. `free` says that the side to move has no five point, where that is known.
-    #[cycle(walk)]
-    fn meet_all<R: Rule>(
-        &mut self,
-        table: &Table,
-        replies: &Replies,
-        rest: Rest,
-        free: bool,
-        position: &mut Position<R>,
-    ) -> Result<(), Stop>
-        requires below { names_below (record { replies = replies.now; rest = rest }) (length table.now) ≡ true }
-        requires rising { is_rising replies.now ≡ true }
-        requires ready { IsReady R.KIND table.now position.old self.old }
-        requires free { free ≡ true → has_five R.KIND position.old (mover position.old) ≡ false }
-        ensures walked { WalkedReplies R.KIND table.now (record { replies = replies.now; rest = rest }) position.old self.old self.new result }
-        ensures same { position.new ≡ position.old }
-    {
-        let outlook = outlook_of(table, rest, free, position);
-        match outlook.sure {
-            Some(sure) if free && position.board().empties() > 1 => {
-                self.meet_most(table, replies, rest, sure, outlook, position)
-            }
-            _ => self.meet_each(table, replies, rest, outlook, position),
-        }
-    }
-
-    /// Walks on from the replies one after another.
-    #[cycle(walk)]
-    fn meet_each<R: Rule>(
-        &mut self,
-        table: &Table,
-        replies: &Replies,
-        rest: Rest,
-        outlook: Outlook,
-        position: &mut Position<R>,
-    ) -> Result<(), Stop>
-        requires below { names_below (record { replies = replies.now; rest = rest }) (length table.now) ≡ true }
-        requires ready { IsReady R.KIND table.now position.old self.old }
-        requires outlook { IsOutlook R.KIND table.now position.old outlook }
-        ensures walked { WalkedReplies R.KIND table.now (record { replies = replies.now; rest = rest }) position.old self.old self.new result }
-        ensures same { position.new ≡ position.old }
-    {
-        for q in position.board().points() {
-            if !position.board().is_empty(q) {
-                continue;
-            }
-            self.meet(table, replies, rest, outlook, position, q)?;
-        }
-        Ok(())
-    }
-
-    /// Walks on from the replies where the side to move has no five point, and the node of the rest is sure. Only the replies
-    /// that are listed, and the one on the attack of that node, are walked. Each other one that goes on is one arrival.
-    #[cycle(walk)]
-    fn meet_most<R: Rule>(
-        &mut self,
-        table: &Table,
-        replies: &Replies,
-        rest: Rest,
-        sure: Sure,
-        outlook: Outlook,
-        position: &mut Position<R>,
-    ) -> Result<(), Stop>
-        requires below { names_below (record { replies = replies.now; rest = rest }) (length table.now) ≡ true }
-        requires rising { is_rising replies.now ≡ true }
-        requires ready { IsReady R.KIND table.now position.old self.old }
-        requires free { has_five R.KIND position.old (mover position.old) ≡ false }
-        requires sure { IsSure R.KIND table.now position.old sure }
-        requires outlook { IsOutlook R.KIND table.now position.old outlook }
-        requires rest { rest_node rest ≡ Some sure.node }
-        requires more { 1 < empties_of position.old }
-        ensures walked { WalkedReplies R.KIND table.now (record { replies = replies.now; rest = rest }) position.old self.old self.new result }
-        ensures same { position.new ≡ position.old }
-    {
-        let others = others_going_on(position, replies, sure.attack);
-        self.take(others as u64)?;
-        self.meet_listed(table, replies, rest, outlook, position)?;
-        if is_listed(replies, sure.attack) {
-            return Ok(());
-        }
-        self.meet(table, replies, rest, outlook, position, sure.attack)
-    }
-
-    /// Walks on from the replies that are listed.
-    #[cycle(walk)]
-    fn meet_listed<R: Rule>(
-        &mut self,
-        table: &Table,
-        replies: &Replies,
-        rest: Rest,
-        outlook: Outlook,
-        position: &mut Position<R>,
-    ) -> Result<(), Stop>
-        requires below { names_below (record { replies = replies.now; rest = rest }) (length table.now) ≡ true }
-        requires ready { IsReady R.KIND table.now position.old self.old }
-        requires outlook { IsOutlook R.KIND table.now position.old outlook }
-        ensures walked { Walked R.KIND table.now
-            (All (λ r. Meets R.KIND (record { replies = replies.now; rest = rest }) (Accepted R.KIND table.now) position.old r.at) replies.now)
-            (sum_by (λ r. arrivals_at R.KIND (record { replies = replies.now; rest = rest }) (arrivals R.KIND table.now) position.old r.at) replies.now)
-            (LeadsStart R.KIND table.now (record { replies = replies.now; rest = rest }) position.old) self.old self.new result }
-        ensures same { position.new ≡ position.old }
-    {
-        for i in 0..replies.len() {
-            self.meet(table, replies, rest, outlook, position, replies.at(i).at)?;
-        }
-        Ok(())
-    }
-
-    /// Walks on from the reply `q` at a position, which is the same afterwards. Where the node that answers it is sure to win,
-    /// the one arrival there is counted, and the reply is not played.
-    #[cycle(walk)]
-    #[inline(always)]
-    fn meet<R: Rule>(
-        &mut self,
-        table: &Table,
-        replies: &Replies,
-        rest: Rest,
-        outlook: Outlook,
-        position: &mut Position<R>,
-        q: Point,
-    ) -> Result<(), Stop>
-        requires below { names_below (record { replies = replies.now; rest = rest }) (length table.now) ≡ true }
-        requires ready { IsReady R.KIND table.now position.old self.old }
-        requires outlook { IsOutlook R.KIND table.now position.old outlook }
-        ensures walked { WalkedReply R.KIND table.now (record { replies = replies.now; rest = rest }) position.old q self.old self.new result }
-        ensures same { position.new ≡ position.old }
-    {
-        match outcome_of(outlook.quick, position, q) {
-            Outcome::Refused => Ok(()),
-            Outcome::Wins => Err(self.fault(q, Why::ReplyWins)),
-            Outcome::Fouls(_) => Ok(()),
-            Outcome::Draws => Err(self.fault(q, Why::ReplyDraws)),
-            Outcome::GoesOn => match answer_among(replies, rest, q) {
-                None => Err(self.fault(q, Why::NoAnswer)),
-                Some(next) => {
-                    let sure = sure_of(outlook.sure, table, next, position);
-                    if wins_for_sure(sure, next, q) {
-                        self.take(1)
-                    } else {
-                        self.answer(table, next, outlook.free, position, q)
-                    }
-                }
-            },
-        }
-    }
-
-    /// Walks on from the reply `q`, which goes on and is answered by the node `next`. The position is the same afterwards.
-    #[cycle(walk)]
-    #[inline(always)]
-    fn answer<R: Rule>(
-        &mut self,
-        table: &Table,
-        next: u32,
-        free: bool,
-        position: &mut Position<R>,
-        q: Point,
-    ) -> Result<(), Stop>
-        requires in_table { next < length table.now }
-        requires goes_on { outcome R.KIND position.old q ≡ Outcome.GoesOn }
-        requires ready { IsReady R.KIND table.now position.old self.old }
-        requires free { free ≡ true → has_five R.KIND position.old (mover position.old) ≡ false }
-
-        // The same by all answers that answer the reply by this node.
-        ensures walked { (a : Answers) → answer_lem a q ≡ Some next → WalkedReply R.KIND table.now a position.old q self.old self.new result }
-        ensures same { position.new ≡ position.old }
-    {
-        let fives = known_after(free, q);
-        position.play(q);
-        let walked = self.visit(table, next, fives, position);
-        position.undo(q);
-        self.noted(q, walked)
-    }
-
     /// Counts so many arrivals at once.
-    fn take(&mut self, arrivals: u64) -> Result<(), Stop>
+    pub(crate) fn take(&mut self, arrivals: u64) -> Result<(), Stop>
         ensures takes { Takes arrivals self.old self.new result }
+        ensures left { self.new.left ≤ self.old.left }
     {
         if self.left < arrivals {
             return Err(Stop::Spent);
@@ -487,9 +463,9 @@ impl Walk {
     }
 
     /// The stop at a fault of the move `p`, which is noted.
-    #[inline(never)]
-    fn fault(&mut self, p: Point, why: Why) -> Stop
+    pub(crate) fn fault(&mut self, p: Point, why: Why) -> Stop
         ensures noted { IsNoted p self.old.line self.new.line (Stop.Fault why) result }
+        ensures left { self.new.left ≡ self.old.left }
     {
         match self.line.push(p) {
             Ok(()) => Stop::Fault(why),
@@ -497,171 +473,29 @@ impl Walk {
         }
     }
 
-    /// What came of a walk behind the move `p`, which is noted where it led to a fault.
-    fn noted(&mut self, p: Point, walked: Result<(), Stop>) -> Result<(), Stop>
-        ensures noted { NotesAt p self.old self.new walked result }
+    /// The stop behind the move `p`, which is noted where a fault is behind it.
+    pub(crate) fn noted(&mut self, p: Point, stop: Stop) -> Stop
+        ensures noted { IsNoted p self.old.line self.new.line stop result }
+        ensures left { self.new.left ≡ self.old.left }
     {
-        match walked {
-            Ok(()) => Ok(()),
-            Err(Stop::Fault(why)) => Err(self.fault(p, why)),
-            Err(stop) => Err(stop),
+        match stop {
+            Stop::Fault(why) => self.fault(p, why),
+            Stop::Spent => Stop::Spent,
+            Stop::Memory => Stop::Memory,
         }
     }
 }
 
-/// The five points of the side that is not to move, where they are known. The position is the same afterwards.
-#[inline(never)]
-fn told<R: Rule>(fives: Fives, position: &mut Position<R>) -> Option<FivePoints>
-    requires fives { AreFives R.KIND position.old fives }
-    ensures told { TellsFives R.KIND position.old result }
-    ensures same { position.new ≡ position.old }
-{
-    match fives {
-        Fives::Unknown => None,
-        Fives::Told(fives) => Some(fives),
-        Fives::MadeBy(q) => {
-            position.undo(q);
-            let made = position.fives_made(q);
-            position.play(q);
-            Some(made)
-        }
-    }
-}
-
-/// Whether a stone of the other side on `p` leaves none of the five points that are told.
-fn leaves_none(fives: Option<FivePoints>, p: Point) -> bool
-    ensures none { result ≡ leaves_none_lem fives p }
-{
-    match fives {
-        None => false,
-        Some(FivePoints::None) => true,
-        Some(FivePoints::One(w)) => w.x == p.x && w.y == p.y,
-        Some(FivePoints::Several) => false,
-    }
-}
-
-/// Whether node `i` is walked in a few steps: it lists few replies, and each node that it names, of which one answers the rest,
-/// names no other.
+/// Whether node `i` is walked in a few steps: it is a winning node, or lists few replies, and each node that it names names no
+/// other. Where it answers no others and lists fewer still, that may be one step later.
 fn is_soon_won(table: &Table, i: u32, node: &Node) -> bool
     requires in_table { i < length table.now }
 {
-    table.depth(i).unwrap() <= 2 && node.rest.node().is_some() && node.replies.len() <= FEW_REPLIES
-}
-
-/// What is known of the replies, where the side to move has no five point if `free` is set.
-#[inline(never)]
-fn outlook_of<R: Rule>(table: &Table, rest: Rest, free: bool, position: &Position<R>) -> Outlook
-    requires below { IfSome (rest_node rest) (λ j. j < length table.now) }
-    requires free { free ≡ true → has_five R.KIND position.now (mover position.now) ≡ false }
-    ensures outlook { IsOutlook R.KIND table.now position.now result }
-    ensures rest { IfSome result.sure (λ s. rest_node rest ≡ Some s.node) }
-{
-    let sure = sure_rest(table, rest, position);
-    let quick = is_quick(free, position);
-    Outlook { free, quick, sure }
-}
-
-/// Whether each reply on an empty point goes on, as it does for a side that has no five point and no fouls, unless it takes the
-/// last one.
-fn is_quick<R: Rule>(free: bool, position: &Position<R>) -> bool
-    requires free { free ≡ true → has_five R.KIND position.now (mover position.now) ≡ false }
-    ensures quick { result ≡ true → (p : Point) → IsQuick R.KIND position.now p }
-{
-    if free {
-        if position.board().empties() > 1 {
-            return !has_fouls::<R>(position.side());
-        }
+    if node.rest.is_winning() {
+        return true;
     }
-    false
-}
-
-/// What is known of the five points of the side whose stone on `q` is to come, where it is known to have none if `free` is set.
-fn known_after(free: bool, q: Point) -> Fives
-    ensures fives { result ≡ fives_after free q }
-{
-    if free {
-        Fives::MadeBy(q)
-    } else {
-        Fives::Unknown
-    }
-}
-
-/// The outcome of the reply `q`, which goes on if it is on an empty point and `quick` is set.
-#[inline(never)]
-fn outcome_of<R: Rule>(quick: bool, position: &mut Position<R>, q: Point) -> Outcome
-    requires quick { quick ≡ true → (p : Point) → IsQuick R.KIND position.old p }
-    ensures outcome { result ≡ outcome R.KIND position.old q }
-    ensures same { position.new ≡ position.old }
-{
-    if quick {
-        if position.board().is_empty(q) {
-            Outcome::GoesOn
-        } else {
-            Outcome::Refused
-        }
-    } else {
-        position.outcome(q)
-    }
-}
-
-/// The node of the rest, where its attack is a five point of the side that is not to move.
-fn sure_rest<R: Rule>(table: &Table, rest: Rest, position: &Position<R>) -> Option<Sure>
-    requires below { IfSome (rest_node rest) (λ j. j < length table.now) }
-    ensures sure { IfSome result (IsSure R.KIND table.now position.now) }
-    ensures rest { IfSome result (λ s. rest_node rest ≡ Some s.node) }
-{
-    match rest.node() {
-        None => None,
-        Some(node) => sure_at(table, node, position),
-    }
-}
-
-/// The node, where its attack is a five point of the side that is not to move.
-fn sure_at<R: Rule>(table: &Table, node: u32, position: &Position<R>) -> Option<Sure>
-    requires in_table { node < length table.now }
-    ensures sure { IfSome result (IsSure R.KIND table.now position.now) }
-    ensures node { IfSome result (λ s. s.node ≡ node) }
-{
-    let attack = table.node(node).attack;
-    let attacker = position.side().other();
-    if position.board().is_empty(attack) && position.five(attacker, attack) {
-        Some(Sure { node, attack })
-    } else {
-        None
-    }
-}
-
-/// What is known of a node that answers a reply: where it is not the one that is known already, it is asked only if it is
-/// one that wins.
-#[inline(never)]
-fn sure_of<R: Rule>(
-    known: Option<Sure>,
-    table: &Table,
-    next: u32,
-    position: &Position<R>,
-) -> Option<Sure>
-    requires in_table { next < length table.now }
-    requires known { IfSome known (IsSure R.KIND table.now position.now) }
-    ensures sure { IfSome result (IsSure R.KIND table.now position.now) }
-{
-    match known {
-        Some(sure) if sure.node == next => known,
-        _ => {
-            if table.node(next).rest.is_winning() {
-                sure_at(table, next, position)
-            } else {
-                None
-            }
-        }
-    }
-}
-
-/// Whether the node wins for sure after the reply `q`.
-fn wins_for_sure(sure: Option<Sure>, node: u32, q: Point) -> bool
-    ensures sure { result ≡ is_sure_after sure node q }
-{
-    match sure {
-        None => false,
-        Some(found) => found.node == node && found.attack != q,
-    }
+    let depth = table.depth(i).unwrap();
+    let replies = node.replies.len();
+    depth <= 2 && replies <= FEW_REPLIES
+        || depth == 3 && replies <= FEWER_REPLIES && node.rest.node().is_none()
 }

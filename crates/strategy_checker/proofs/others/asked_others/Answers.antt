@@ -1,5 +1,4 @@
-use Rattle.std.proofs.Common.{rules, ◌≡◌, ◌+◌, ◌≤◌, ◌&&◌, not, ℕ, true, false, Bool, cond, refl, subst, arith}
-use Rattle.std.specs.List.{count_by}
+use Rattle.std.proofs.Common.{◌&&◌, not, subst, arith}
 use Rattle.std.proofs.lemmas.List.Sums.{count_by-le-length}
 use Rattle.game_rules.specs.Grid.{IsBoard, points_of}
 use Rattle.game_rules.specs.Play.{outcome, goes_on}

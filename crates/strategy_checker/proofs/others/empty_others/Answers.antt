@@ -1,4 +1,4 @@
-use Rattle.std.proofs.Common.{rules, ◌≡◌, ◌+◌, ◌≤◌, ℕ, zero, true, false, cond, sym, ap, ◌∙◌, arith}
+use Rattle.std.proofs.Common.{◌≡◌, zero, cond, sym, ap, ◌∙◌, arith}
 use Rattle.strategy_checker.proofs.Counted.{count-others, is_listed}
 use Rattle.strategy_checker.proofs.others.empty_others.Goals as goal
 

@@ -1,4 +1,4 @@
-use Rattle.std.proofs.Common.{◌≡◌, ℕ, inl, refl}
+use Rattle.std.proofs.Common.{◌≡◌, ℕ, inl}
 use Rattle.std.specs.Prelude.{Option, Some, None, IfSome}
 use Rattle.position_table.specs.Packing.{packed}
 use Rattle.position_table.specs.Remembering.{value_under}

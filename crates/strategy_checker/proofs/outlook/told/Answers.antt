@@ -1,9 +1,9 @@
-use Rattle.std.proofs.Common.{◌≡◌, ◌∙◌, true, ap, subst}
+use Rattle.std.proofs.Common.{◌∙◌, ap, subst}
 use Rattle.game_rules.specs.Grid.{Grid, is_empty}
 use Rattle.game_rules.proofs.Positions.{GoesOn-empty}
 use Rattle.strategy_checker.specs.Walks.{AreFives, HadNone}
 use Rattle.strategy_checker.proofs.Sureness.{last-stone, made-fives}
-use Rattle.strategy_checker.proofs.walk.told.Goals as goal
+use Rattle.strategy_checker.proofs.outlook.told.Goals as goal
 
 pub undo-requires-clause-stone : goal.undo-requires-clause-stone
 undo-requires-clause-stone g c =

@@ -1,9 +1,9 @@
-use Rattle.std.proofs.Common.{◌≡◌, ◌∙◌, ◌<◌, false, sym, ap, subst, arith}
+use Rattle.std.proofs.Common.{◌≡◌, ◌∙◌, false, sym, ap, arith}
 use Rattle.std.proofs.lemmas.Bool.{not-true}
-use Rattle.game_rules.specs.Grid.{Grid, empties_of}
+use Rattle.game_rules.specs.Grid.{empties_of}
 use Rattle.game_rules.specs.Play.{mover, has_fouls}
 use Rattle.strategy_checker.proofs.Sureness.{quick-going}
-use Rattle.strategy_checker.proofs.walk.is_quick.Goals as goal
+use Rattle.strategy_checker.proofs.outlook.is_quick.Goals as goal
 
 pub returns-then-empties-gt1 : goal.returns-then-empties-gt1
 returns-then-empties-gt1 g c =
