@@ -12,7 +12,7 @@ use Rattle.game_rules.specs.declared.Point.{Point}
 use Rattle.game_rules.specs.declared.Side.{Side}
 use Rattle.game_rules.specs.declared.Side.TheVariants.{Black, White}
 use Rattle.game_rules.proofs.Positions.{mover-then}
-use Rattle.strategy_graph.specs.Games.{End, Won, Open, one_later, points_on}
+use Rattle.strategy_graph.specs.Games.{End, Won, Open, one_later}
 use Rattle.strategy_checker.specs.HeldRoots.{HeldTable}
 use Rattle.gomocup_text.specs.declared.Answer.{Answer}
 use Rattle.gomocup_text.specs.declared.Answer.TheVariants.{Move, Error}
@@ -41,11 +41,6 @@ game_then g c q = with_move (with_choice g c) q false
 pub no_foul-left : (rule : RuleKind) (b : Grid) (ps : List Point) → ends_with_foul rule b ps [] ≡ false
 no_foul-left rule b [] = refl
 no_foul-left rule b (p ∷ ps) = refl
-
-pub none_on : (o : Outcome) (r : Bool) → points_on o (cond r [] []) ≡ []
-none_on GoesOn true = refl
-none_on GoesOn false = refl
-none_on _ r = refl
 
 -- where the reply q goes on, the last reply is a foul if it is one of those after q
 pub foul-later : (rule : RuleKind) (b : Grid) (p q : Point) (ps qs : List Point) → outcome rule (after b p) q ≡ GoesOn

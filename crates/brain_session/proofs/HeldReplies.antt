@@ -166,7 +166,8 @@ all-answered h (q ∷ qs) k w g i n s wish are =
     by_reply h k w g i n s rule.0 rule.1 legal.0 q qs (all-answered h qs) legal.1 are (outcome g.rule (after (board_of g) n.attack) q) refl
     ((parts h g i n k s legal.0).1 q)
 
-session_by : (s : State) (c : Command) (cs : List Command) (st : Step) → brain_step s c ≡ st
+-- the answers from a state on, by the step that is taken first
+pub session_by : (s : State) (c : Command) (cs : List Command) (st : Step) → brain_step s c ≡ st
     → answers_from s (c ∷ cs) ≡ then_answers st.reaction (answers_from st.next cs)
 unfolding answers_from
 session_by s c cs st e = ap (λ (x : Step). then_answers x.reaction (answers_from x.next cs)) e

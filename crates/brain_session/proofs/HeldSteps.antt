@@ -20,7 +20,7 @@ use Rattle.strategy_graph.specs.Acceptance.{NotWinning, Answered, Meets, Accepte
 use Rattle.strategy_graph.specs.Games.{NoMove, Open, after_attack, game, attacks}
 use Rattle.strategy_graph.proofs.Answering.{Answered-elim}
 use Rattle.strategy_graph.proofs.Fuel.{not_winning, depth_some, deeper, accepted_node}
-use Rattle.strategy_graph.proofs.Endings.{none_on, first_at}
+use Rattle.strategy_graph.proofs.Endings.{attacks-open, first_at}
 use Rattle.strategy_checker.specs.HeldRoots.{HeldTable}
 use Rattle.gomocup_text.specs.declared.Answer.{Answer}
 use Rattle.gomocup_text.specs.declared.Answer.TheVariants.{Move, Error}
@@ -56,10 +56,6 @@ unfolding answers_of_attacks
 said-by rule t i b qs ps e = ap (answers_of_attacks rule b qs) (sym e)
 
 module _ (rule : RuleKind) (t : List Node) (d i : ℕ) (b : Grid) (n : Node) (at : slice_get t i ≡ Some n) (l : 1 ≤ d) where
-  pub attacks-none : attacks rule t i b [] ≡ n.attack ∷ []
-  unfolding attacks
-  attacks-none = rw at (ap (λ (ps : List Point). n.attack ∷ ps) (none_on (outcome rule b n.attack) (is_winning n.rest)))
-
   -- the attack of the node is the first
   pub attacks-first : (qs : List Point) → (rest : List Point) × (attacks rule t i b qs ≡ n.attack ∷ rest)
   unfolding attacks
@@ -70,7 +66,7 @@ module _ (rule : RuleKind) (t : List Node) (d i : ℕ) (b : Grid) (n : Node) (at
       → GoesBy rule t d i b n.attack [] []
   unfolding game answers_of_attacks
   by_none h f = record {
-    answers = said-by rule t i b [] (n.attack ∷ []) attacks-none;
+    answers = said-by rule t i b [] (n.attack ∷ []) (attacks-open rule t i b n at);
     won = rw at (open_or_won (outcome rule b n.attack) n.rest d l h f);
   }
 

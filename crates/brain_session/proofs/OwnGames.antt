@@ -15,7 +15,7 @@ use Rattle.game_rules.specs.declared.Foul.{Foul}
 use Rattle.game_rules.specs.declared.Outcome.{Outcome}
 use Rattle.game_rules.specs.declared.Outcome.TheVariants.{Refused, Wins as WinsNow, Fouls, Draws, GoesOn}
 use Rattle.game_rules.specs.declared.Point.{Point}
-use Rattle.game_rules.proofs.Boards.{other-other}
+use Rattle.game_rules.proofs.Boards.{and_right, other-other}
 use Rattle.game_rules.proofs.Games.{WinsOr-map, wins_or-WinsOr, each_reply, test-WinsUnder, wins-some}
 use Rattle.game_rules.proofs.Outcomes.{five-outcome}
 use Rattle.game_rules.proofs.Places.{find-passes}
@@ -48,15 +48,12 @@ use Rattle.brain_session.specs.OwnGames.{BeginsOwnGame, PlaysWin, win_game, win_
 use Rattle.brain_session.proofs.OwnWins.{own_win-wins}
 use Rattle.brain_session.proofs.Courses.{along-lawful, chosen-followed}
 use Rattle.brain_session.proofs.Choosing.{chosen-own}
+use Rattle.strategy_graph.proofs.Endings.{none_on}
 use Rattle.strategy_graph.proofs.Fuel.{not_winning, accepted_node}
-use Rattle.brain_session.proofs.FollowedGames.{none_on, foul-later, won-later, state_in, game_then, IsNextTo, IsFollowed, all-go_well}
+use Rattle.brain_session.proofs.FollowedGames.{foul-later, won-later, state_in, game_then, IsNextTo, IsFollowed, all-go_well}
 use Rattle.brain_session.proofs.LawfulStates.{LawfulState, IsToMove, LawfulRow, row-lawful, session-lawful, new-lawful}
 
 -- ---- the chosen move of a win by fours
-
-and_right : (a c : Bool) → (a && c) ≡ true → c ≡ true
-and_right true c h = h
-and_right false c h = cc
 
 -- each reply at c leads to a win by fours within n moves, or loses at once
 abbrev RepliesLose : RuleKind → ℕ → Grid → Type 0

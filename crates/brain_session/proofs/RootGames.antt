@@ -5,12 +5,10 @@ use Rattle.std.specs.Option.{option_map, option_or}
 use Rattle.std.proofs.lemmas.List.Elements.{All-contains, Contains-append_right}
 use Rattle.game_rules.specs.Grid.{Grid}
 use Rattle.game_rules.specs.Play.{outcome, after}
-use Rattle.game_rules.specs.Games.{LosesOr}
 use Rattle.game_rules.specs.declared.RuleKind.{RuleKind}
-use Rattle.game_rules.specs.declared.RuleKind.TheVariants.{Freestyle, Exact, Renju}
-use Rattle.game_rules.specs.declared.Outcome.{Outcome}
 use Rattle.game_rules.specs.declared.Outcome.TheVariants.{GoesOn}
 use Rattle.game_rules.specs.declared.Point.{Point}
+use Rattle.game_rules.proofs.Outcomes.{going}
 use Rattle.strategy_graph.specs.declared.Node.{Node}
 use Rattle.strategy_graph.specs.declared.roots.Root.{Root}
 use Rattle.strategy_graph.specs.declared.roots.Root.TheVariants.{Attack, Defend}
@@ -31,12 +29,8 @@ use Rattle.brain_session.specs.RootGames.{IsThere, IsNodeOf, HasComeTo, BeginsBy
 use Rattle.brain_session.proofs.PlayedMoves.{same_board-is, same_board-itself}
 use Rattle.brain_session.proofs.HeldNodes.{same_rule-is, if_some}
 use Rattle.brain_session.proofs.HeldGames.{begins, stands_where}
+use Rattle.brain_session.proofs.BatchStones.{same_rule-itself}
 use Rattle.brain_session.proofs.LawfulStates.{LawfulState, IsToMove, LawfulRow, row-lawful, session-lawful, new-lawful}
-
-same_rule_itself : (k : RuleKind) → same_rule k k ≡ true
-same_rule_itself Freestyle = refl
-same_rule_itself Exact = refl
-same_rule_itself Renju = refl
 
 -- ---- a root to which the game has come leads to its node
 
@@ -52,9 +46,6 @@ record Leads (root : Root) (b : Grid) (g : Game) : Type 0 where
   node : ℕ
   is_its : IsNodeOf root g node
   leads : node_at root b g ≡ Some node
-
-going : (o : Outcome) (W : Type 0) → o ≡ GoesOn → LosesOr o W → W
-going o W go h = subst (λ (x : Outcome). LosesOr x W) go h
 
 answered_at : (rule : RuleKind) (t : List Node) (a : Answers) (b : Grid) (q : Point) → AcceptedRoot rule t (Defend a) b
     → outcome rule b q ≡ GoesOn
@@ -86,7 +77,7 @@ come_leads : (t : List Node) (r : HeldRoot) (g : Game) → IsHeldRoot t r → Go
 come_leads t r g held along come =
     let led = there_leads t r.root r.board g (subst (λ (k : RuleKind). AcceptedRoot k t r.root r.board)
     (sym come.rule) held.accepted) along come.there in
-    let same : same_rule r.kind g.rule ≡ true = subst (λ (k : RuleKind). same_rule k g.rule ≡ true) come.rule (same_rule_itself g.rule) in
+    let same : same_rule r.kind g.rule ≡ true = subst (λ (k : RuleKind). same_rule k g.rule ≡ true) come.rule (same_rule-itself g.rule) in
     (led.node, led.is_its, ap (λ (x : Bool). cond x (node_at r.root r.board g) None) same ∙ led.leads)
 
 -- ---- a root to which it has not come leads nowhere

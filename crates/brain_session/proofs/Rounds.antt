@@ -7,7 +7,7 @@ use Rattle.std.proofs.lemmas.List.Folds.{sum_by-replicate}
 use Rattle.std.proofs.lemmas.List.{length-replicate}
 use Rattle.game_rules.specs.Grid.{Grid, IsBoard, is_on, is_empty, is_empty_cell, is_stone_of, cell_at, place_of as cell_place, holds}
 use Rattle.game_rules.specs.Grid.{stones_of, empties_of}
-use Rattle.game_rules.specs.Play.{IsPosition, outcome, mover}
+use Rattle.game_rules.specs.Play.{IsPosition, outcome, after, mover}
 use Rattle.game_rules.specs.declared.TheConstants.{MIN_SIDE, MAX_SIDE}
 use Rattle.game_rules.specs.declared.RuleKind.{RuleKind}
 use Rattle.game_rules.specs.declared.Side.{Side}
@@ -79,13 +79,17 @@ empty-empty width height p on = rw (on, empty_cell (width * height) (cell_place 
 
 -- ---- the size of a board along the moves
 
+-- what no move changes of a board is as it was before the moves
+after-same : (f : Grid → ℕ) → ((b : Grid) (p : Point) → f (after b p) ≡ f b) → (start : Grid) (moves : List Point)
+    → f (board_after start moves) ≡ f start
+after-same f kept start [] = refl
+after-same f kept start (p ∷ before) = kept (board_after start before) p ∙ after-same f kept start before
+
 pub width-after : (start : Grid) (moves : List Point) → (board_after start moves).width ≡ start.width
-width-after start [] = refl
-width-after start (p ∷ before) = width-after start before
+width-after = after-same (λ b. b.width) (λ b p. refl)
 
 pub height-after : (start : Grid) (moves : List Point) → (board_after start moves).height ≡ start.height
-height-after start [] = refl
-height-after start (p ∷ before) = height-after start before
+height-after = after-same (λ b. b.height) (λ b p. refl)
 
 -- a move off the board is refused
 pub off-refused : (rule : RuleKind) (start : Grid) (moves : List Point) (p : Point) → is_on (empty_board start.width start.height) p ≡ false
