@@ -18,8 +18,6 @@ mod ExpandedCounts
 mod Steps
 mod Attacking
 mod Defending
--- a side that wins by fours leaves the other side no win
-mod OneWinner
 mod StepLaws
 mod Beginning
 mod Ending
