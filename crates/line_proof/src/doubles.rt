@@ -6,7 +6,6 @@
 #![tactic(auto)]
 
 ghost use Rattle.std.specs.Prelude.{◌≡◌, true, false, if◌then◌else◌, Some, None, IfOk, IfSome, OnOk};
-ghost use Rattle.game_rules.specs.Grid.{IsBoard, points_of};
 ghost use Rattle.game_rules.specs.Shapes.{is_same_point};
 ghost use Rattle.game_rules.specs.Play.{IsPosition, outcome as outcome_lem, mover, other};
 ghost use Rattle.game_rules.specs.Games.{has_five, wins_by_fours};
@@ -231,23 +230,11 @@ fn compile_double(
     ensures ends { IfOk result (λ d. d.ends ≡ ends) }
     ensures writes { Writes compiler.old compiler.new 3 result }
 {
-    let points = all_points(alloc, board)?;
+    let points = board.all_points(alloc)?;
     let win = compiler.double(alloc, start, ends.first, ends.second, points.as_slice())?;
     Ok(Double {
         start,
         ends,
         node: win.node,
     })
-}
-
-/// The points of the board, in reading order.
-fn all_points(alloc: Global, board: &Board) -> Result<Vec<Point>, AllocError>
-    ensures points { IfOk result (λ points. points.items ≡ points_of board.now) }
-    ensures board { IsBoard board.now }
-{
-    let mut points = Vec::new(alloc);
-    for q in board.points() {
-        points.push(q)?;
-    }
-    Ok(points)
 }

@@ -5,7 +5,7 @@
 #![tactic(auto)]
 
 ghost use Rattle.std.specs.Prelude.{◌≡◌, ◌≤◌, ◌+◌, ◌&&◌, not, ℕ, false, All, IfOk, IfSome, IsTrue};
-ghost use Rattle.game_rules.specs.Grid.{Grid, IsBoard, is_empty, points_of};
+ghost use Rattle.game_rules.specs.Grid.{Grid, is_empty, points_of};
 ghost use Rattle.game_rules.specs.Shapes.{is_same_point};
 ghost use Rattle.game_rules.specs.Play.{IsPosition, outcome as outcome_lem, mover, after, goes_on as goes_on_lem};
 ghost use Rattle.game_rules.specs.declared.Outcome.{Outcome};
@@ -184,7 +184,7 @@ pub fn compile_standing(
         → IsDoubleWin rule b double → 2 ≤ moves → IsThreatWin rule moves b compiler.new win) }
     ensures writes { Writes compiler.old compiler.new 3 result }
 {
-    let points = all_points(alloc, board)?;
+    let points = board.all_points(alloc)?;
     compiler.double(
         alloc,
         double.at,
@@ -192,18 +192,6 @@ pub fn compile_standing(
         double.second,
         points.as_slice(),
     )
-}
-
-/// The points of the board, in reading order.
-fn all_points(alloc: Global, board: &Board) -> Result<Vec<Point>, AllocError>
-    ensures points { IfOk result (λ points. points.items ≡ points_of board.now) }
-    ensures board { IsBoard board.now }
-{
-    let mut points = Vec::new(alloc);
-    for q in board.points() {
-        points.push(q)?;
-    }
-    Ok(points)
 }
 
 /// All replies to the double point that go on.
