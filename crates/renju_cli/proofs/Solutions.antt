@@ -1,11 +1,15 @@
 -- What is said of the position of a text, by the step of `solve` that decides.
-use Rattle.std.proofs.Common.{◌≡◌, inl, inr, ℕ, ◌<◌, sym, subst, List}
-use Rattle.std.specs.Prelude.{Result, Ok, Err, IfOk}
+use Rattle.std.proofs.Common.{◌≡◌, inl, inr, ℕ, ◌<◌, ◌≤◌, sym, subst, List}
+use Rattle.std.specs.Prelude.{Result, Ok, Err, IfOk, Option, Some, None, IfSome}
+use Rattle.game_rules.specs.Games.{has_threat}
+use Rattle.game_rules.proofs.Games.{WinsUnder-more}
+use Rattle.renju_cli.specs.declared.solve.ThreatWin.{ThreatWin}
 use Rattle.game_rules.specs.Grid.{Grid}
 use Rattle.game_rules.specs.declared.RuleKind.{RuleKind}
 use Rattle.strategy_graph.specs.declared.Node.{Node}
 use Rattle.strategy_compiler.specs.declared.wins.WrittenWin.{WrittenWin}
 use Rattle.strategy_compiler.specs.Wins.{IsWrittenWin}
+use Rattle.strategy_compiler.proofs.Growing.{win-within}
 use Rattle.four_search.specs.Answers.{IsFourWin}
 use Rattle.four_search.specs.FourGame.{four_cost}
 use Rattle.threat_game.specs.Wins.{IsThreatWin}
@@ -68,3 +72,21 @@ module _ (a : Answer) (limit nodes : ℕ) (file : PositionFile) where
   pub full-says : ¬ IsWonByFours limit nodes file → MayBeTooGreat limit nodes file → a.status ≡ Full → a.text ≡ full_line
       → SolutionSays limit nodes file a.status a.text
   full-says later great ends line = inr (inr (inr (inr (inr (record { later = later; great = great; ends = ends; line = line })))))
+
+-- ---- a win within fewer moves is one within more
+
+longer-win : (rule : RuleKind) (n m : ℕ) (b : Grid) (t : List Node) (win : WrittenWin) → n ≤ m → IsThreatWin rule n b t win
+    → IsThreatWin rule m b t win
+longer-win rule n m b t win few is = record {
+  written = win-within rule n m b t win few is.written;
+  by_threats = WinsUnder-more (has_threat rule) rule n m b few is.by_threats;
+  within = is.within;
+}
+
+-- what is found within fewer moves is found within more
+pub sooner-wins : (rule : RuleKind) (n m : ℕ) (b : Grid) → n ≤ m → {E : Type 0} (r : Result (Option ThreatWin) E)
+    → IfOk r (λ found. IfSome found (λ f. IsThreatWin rule n b f.compiler f.win))
+    → IfOk r (λ found. IfSome found (λ f. IsThreatWin rule m b f.compiler f.win))
+sooner-wins rule n m b few (Ok (Some f)) h = longer-win rule n m b f.compiler f.win few h
+sooner-wins rule n m b few (Ok None) h = h
+sooner-wins rule n m b few (Err e) h = h

@@ -1,12 +1,14 @@
 //! The command `solve`: a win that some table shows, by fours, along a sequence of threats, or by threats whatever the order.
 //!
 //! Three steps are taken, each with a new compiler. A win by continuous fours is what `fours` writes. Else the first sequence of
-//! threats is searched, and proved against all replies. Else the game of threats is searched, led by proof numbers, and its
-//! answer decides. That the budget of the first two steps was spent is not told.
+//! threats is searched, and proved against all replies. Else the game of threats is searched, led by proof numbers: within two
+//! thirds of the moves for a win alone, and then within all of them, whose answer decides. That the budget was spent before is
+//! not told.
 #![tactic(auto)]
 
-ghost use Rattle.std.specs.Prelude.{◌≡◌, ◌≤◌, ◌∷◌, List, codes, map, IfOk, MatchOption, string_bytes};
+ghost use Rattle.std.specs.Prelude.{◌≡◌, ◌≤◌, ◌∷◌, List, codes, map, IfOk, IfSome, MatchOption, string_bytes};
 ghost use Rattle.threat_moves.specs.declared.threat_list.Threat.{Threat};
+ghost use Rattle.threat_game.specs.Wins.{IsThreatWin};
 ghost use Rattle.renju_cli.specs.Commands.{IsForm, HasForm};
 ghost use Rattle.renju_cli.specs.Solves.{SolutionSays, IsWonByFours, IsFirstLine, IsLeftOver, full_line};
 
@@ -22,7 +24,7 @@ use proof_number::{ProofAnswer, proof_number};
 use proof_tree::ProofTree;
 use row_shapes::Rule;
 use std::alloc::{AllocError, Global};
-use strategy_compiler::{Compiler, SearchError};
+use strategy_compiler::{Compiler, SearchError, WrittenWin};
 use threat_moves::Threats;
 use threat_space::{MAX_LENGTH, SpaceAnswer, threat_space};
 
@@ -154,8 +156,85 @@ fn prove_first<R: Rule>(
     }
 }
 
-/// The third step, whose answer decides.
+/// The third step. Many wins take fewer moves than they may, and within fewer there is less to be searched: so two thirds of the moves
+/// are searched first, and else what is found within all of them decides.
 fn by_threats<R: Rule>(
+    alloc: Global,
+    position: Position<R>,
+    depth: u32,
+    nodes: u64,
+) -> Result<Answer, AllocError>
+    requires some_depth { 1 ≤ depth }
+    requires depth_fits { depth ≤ MAX_DEPTH }
+    requires some_nodes { 1 ≤ nodes }
+    requires nodes_fit { nodes ≤ MAX_SEARCHED }
+    requires left { IsLeftOver depth nodes (record { kind = R.KIND; board = position }) }
+    ensures says { IfOk result (λ answer. SolutionSays depth nodes (record { kind = R.KIND; board = position }) answer.status answer.text) }
+{
+    let mut view = position;
+    match sooner::<R>(alloc, &mut view, depth, nodes)? {
+        None => by_all_moves(alloc, view, depth, nodes),
+        Some(found) => {
+            let board = view.into_board();
+            win_text(alloc, R::KIND, &board, found.compiler, found.win)
+        }
+    }
+}
+
+/// A win by threats, and the compiler that has its node.
+#[derive(Drop)]
+struct ThreatWin {
+    compiler: Compiler,
+    win: WrittenWin,
+}
+
+/// A win by threats within two thirds of the moves, if these are fewer, and the budget is enough to find one.
+fn sooner<R: Rule>(
+    alloc: Global,
+    view: &mut Position<R>,
+    depth: u32,
+    nodes: u64,
+) -> Result<Option<ThreatWin>, AllocError>
+    requires some_depth { 1 ≤ depth }
+    requires depth_fits { depth ≤ MAX_DEPTH }
+    requires some_nodes { 1 ≤ nodes }
+    requires nodes_fit { nodes ≤ MAX_SEARCHED }
+    ensures win { IfOk result (λ found. IfSome found (λ f. IsThreatWin R.KIND depth view.old f.compiler f.win)) }
+    ensures same { view.new ≡ view.old }
+{
+    if depth < 3 {
+        return Ok(None);
+    }
+    win_within::<R>(alloc, view, depth - depth / 3, nodes)
+}
+
+/// A win by threats within so many moves, if the budget is enough to find one.
+fn win_within<R: Rule>(
+    alloc: Global,
+    view: &mut Position<R>,
+    moves: u32,
+    nodes: u64,
+) -> Result<Option<ThreatWin>, AllocError>
+    requires some_moves { 1 ≤ moves }
+    requires moves_fit { moves ≤ MAX_DEPTH }
+    requires some_nodes { 1 ≤ nodes }
+    requires nodes_fit { nodes ≤ MAX_SEARCHED }
+    ensures win { IfOk result (λ found. IfSome found (λ f. IsThreatWin R.KIND moves view.old f.compiler f.win)) }
+    ensures same { view.new ≡ view.old }
+{
+    let mut compiler = Compiler::new(alloc);
+    let mut tree = ProofTree::new(alloc)?;
+    match proof_number::<R, Position<R>>(alloc, view, moves, nodes, &mut tree, &mut compiler) {
+        Ok(ProofAnswer::Win(win)) => Ok(Some(ThreatWin { compiler, win })),
+        Ok(ProofAnswer::None) => Ok(None),
+        Ok(ProofAnswer::Spent) => Ok(None),
+        Err(SearchError::Full) => Ok(None),
+        Err(SearchError::Memory) => Err(AllocError),
+    }
+}
+
+/// What the search for a win by threats within all moves comes to, whose answer decides.
+fn by_all_moves<R: Rule>(
     alloc: Global,
     position: Position<R>,
     depth: u32,
