@@ -1,8 +1,9 @@
 -- The command `book`: its words, its answers, and what its status 0 shows.
-use Rattle.std.proofs.Common.{◌≡◌, inl, inr, refl, sym, ap, subst, ◌∙◌, ◌⊎◌, ℕ, zero, suc, ◌-◌, ◌≤◌, List, [], ◌∷◌, arith}
-use Rattle.std.specs.Prelude.{codes, IfSome, Some, slice_get}
+use Rattle.std.proofs.Common.{◌≡◌, inl, inr, refl, sym, subst, ◌∙◌, ◌⊎◌, ℕ, ◌-◌, ◌≤◌, List, [], ◌∷◌, arith}
+use Rattle.std.specs.Prelude.{codes, IfSome}
 use Rattle.std.specs.List.{AllByRecursion}
 use Rattle.std.specs.Fmt.{decimal}
+use Rattle.game_rules.proofs.Tests.{all_get}
 use Rattle.strategy_graph.specs.declared.Node.{Node}
 use Rattle.strategy_graph.specs.Roots.{RootWins}
 use Rattle.strategy_graph.proofs.Starts.{accepted-root-wins}
@@ -19,12 +20,12 @@ use Rattle.renju_cli.specs.declared.status.Status.TheVariants.{Done, RefusedText
 use Rattle.renju_cli.specs.declared.TheConstants.{MAX_WORK}
 use Rattle.renju_cli.specs.Statuses.{status_number}
 use Rattle.renju_cli.specs.Runs.{Run}
-use Rattle.renju_cli.specs.Told.{IsTold, IsYielded}
+use Rattle.renju_cli.specs.Told.{IsTold}
 use Rattle.renju_cli.specs.Books.{AreAccepted, AreWithin, BookSays, EntriesSay, IsBookAt, IsRefusedBook, IsRefusedEntry, IsWonBook}
 use Rattle.renju_cli.specs.Books.{IsWonEntry, book_command, hold_refusal_status}
 use Rattle.renju_cli.specs.Commands.{HasForm}
 use Rattle.renju_cli.proofs.FormLaws.{has-told}
-use Rattle.renju_cli.proofs.ToldLaws.{IsWhole, whole-or-yielded, given-told}
+use Rattle.renju_cli.proofs.ToldLaws.{done-told, other-status}
 
 -- `book` and words that are no number in its range have no form
 pub no-book : (rest : List (List ℕ)) → ((work : ℕ) → (1 ≤ work) × (work ≤ MAX_WORK) → rest ≡ decimal work ∷ [] → ⊥)
@@ -46,22 +47,16 @@ pub book-not_refused : (book : Book) (bytes : List ℕ) → IsBookAt book bytes 
 book-not_refused book bytes at status text refused =
     let only = book-read-back book bytes at.text at.well_formed in refused.cause (only.no_fault refused.error refused.fault)
 
--- what holds of each entry holds of the one at a place
-at-place : (P : Entry → Type 0) (es : List Entry) (i : ℕ) (e : Entry) → slice_get es i ≡ Some e → AllByRecursion P es → P e
-at-place P [] i e at all = absurd (cc)
-at-place P (y ∷ es) zero e at all = let same : y ≡ e = cc in subst P same all.0
-at-place P (y ∷ es) (suc i) e at all = at-place P es i e at all.1
-
 -- entries that are accepted are not refused
 pub entries-not_refused : (work : ℕ) (book : Book) (status : Status) (text : List ℕ) → AreAccepted work book
     → IsRefusedEntry work book status text → ⊥
 entries-not_refused work book status text accepted refused = by-error refused.error refused.cause refused.fault where
   by-error : (error : HoldError) → (error ≡ NotHeld → ⊥) → IsHoldFault book.table book.entries work error → ⊥
   by-error (Refused n line why) cause fault =
-      let is = at-place (IsAccepted book.table work) book.entries (n - 1) fault.entry fault.earliest.entry accepted in
+      let is = all_get (IsAccepted book.table work) book.entries (n - 1) fault.entry fault.earliest.entry accepted in
       fault.refused is.accepted
   by-error (SpentEntry n) cause fault =
-      let is = at-place (IsAccepted book.table work) book.entries (n - 1) fault.entry fault.earliest.entry accepted in
+      let is = all_get (IsAccepted book.table work) book.entries (n - 1) fault.entry fault.earliest.entry accepted in
       let few = is.arrivals in
       let more = fault.spent in
       omega (arith, few, more)
@@ -75,7 +70,7 @@ within-refused work book status text few refused = refused.ends ∙ by-error ref
       → hold_refusal_status error ≡ RefusedTable
   by-error (Refused n line why) cause fault = refl
   by-error (SpentEntry n) cause fault =
-      let least = at-place (λ (e : Entry). entry_arrivals book.table e ≤ work) book.entries (n - 1) fault.entry fault.earliest.entry few in
+      let least = all_get (λ (e : Entry). entry_arrivals book.table e ≤ work) book.entries (n - 1) fault.entry fault.earliest.entry few in
       let more = fault.spent in
       absurd (omega (arith, least, more))
   by-error NotHeld cause fault = absurd (cause refl)
@@ -109,10 +104,6 @@ won-entries t work [] sound accepted = tt
 won-entries t work (e ∷ es) sound accepted = (won-entry t work e sound.0 accepted.0, won-entries t work es sound.1 accepted.1)
 
 module _ (work : ℕ) (run : Run) (done : run.status ≡ 0) where
-  -- the number of another status
-  other-status : (status other : Status) → run.status ≡ status_number status → status ≡ other → 0 ≡ status_number other
-  other-status status other ends is = sym done ∙ ends ∙ ap status_number is
-
   by-entries : (bytes : List ℕ) (status : Status) (text : List ℕ) (book : Book) → IsBookAt book bytes → run.status ≡ status_number status
       → Takes run.output.before text run.output.after → EntriesSay work book status text → IsWonBook work bytes run.output
   by-entries bytes status text book at ends whole (inl accepted) = record {
@@ -122,7 +113,8 @@ module _ (work : ℕ) (run : Run) (done : run.status ≡ 0) where
     line = subst (λ (l : List ℕ). Takes run.output.before l run.output.after) accepted.line whole;
   }
   by-entries bytes status text book at ends whole (inr refused) =
-      absurd (by-error refused.error refused.cause (other-status status (hold_refusal_status refused.error) ends refused.ends)) where
+      absurd (by-error refused.error refused.cause
+      (other-status run done status (hold_refusal_status refused.error) ends refused.ends)) where
         by-error : (error : HoldError) → (error ≡ NotHeld → ⊥) → 0 ≡ status_number (hold_refusal_status error) → ⊥
         by-error (Refused n line why) cause e = cc
         by-error (SpentEntry n) cause e = cc
@@ -130,17 +122,9 @@ module _ (work : ℕ) (run : Run) (done : run.status ≡ 0) where
 
   by-saying : (bytes : List ℕ) (status : Status) (text : List ℕ) → run.status ≡ status_number status
       → Takes run.output.before text run.output.after → BookSays work bytes status text → IsWonBook work bytes run.output
-  by-saying bytes status text ends whole (inl refused) = absurd (let no = other-status status RefusedText ends refused.ends in cc)
+  by-saying bytes status text ends whole (inl refused) = absurd (let no = other-status run done status RefusedText ends refused.ends in cc)
   by-saying bytes status text ends whole (inr said) = by-entries bytes status text said.0 said.1 ends whole said.2
-
-  by-end : IsWhole (BookSays work) run ⊎ IsYielded run.status → IfSome run.input.before (λ bytes. IsWonBook work bytes run.output)
-  by-end (inl w) = given-told (λ bytes. IsWonBook work bytes run.output) run.input.before w.bytes w.given
-      (by-saying w.bytes w.status w.text w.ends w.whole w.says)
-  by-end (inr (inl long)) = absurd (let no : 0 ≡ 11 = sym done ∙ long in cc)
-  by-end (inr (inr (inl memory))) = absurd (let no : 0 ≡ 6 = sym done ∙ memory in cc)
-  by-end (inr (inr (inr (inl read)))) = absurd (let no : 0 ≡ 7 = sym done ∙ read in cc)
-  by-end (inr (inr (inr (inr write)))) = absurd (let no : 0 ≡ 8 = sym done ∙ write in cc)
 
   -- what `book` did in a run that ends with 0
   pub book-shown : IsTold (BookSays work) run → IfSome run.input.before (λ bytes. IsWonBook work bytes run.output)
-  book-shown told = by-end (whole-or-yielded (BookSays work) run told)
+  book-shown = done-told (BookSays work) (λ bytes. IsWonBook work bytes run.output) run done by-saying

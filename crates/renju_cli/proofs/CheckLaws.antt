@@ -11,11 +11,11 @@ use Rattle.renju_cli.specs.declared.status.Status.TheVariants.{Done, RefusedText
 use Rattle.renju_cli.specs.declared.TheConstants.{MAX_WORK}
 use Rattle.renju_cli.specs.Statuses.{status_number}
 use Rattle.renju_cli.specs.Runs.{Run}
-use Rattle.renju_cli.specs.Told.{IsTold, IsYielded}
+use Rattle.renju_cli.specs.Told.{IsTold}
 use Rattle.renju_cli.specs.Checks.{accepted_line, IsTableAt, IsAcceptedTable, TableSays, CheckSays, check_command, IsAcceptedInput}
 use Rattle.renju_cli.specs.Commands.{HasForm}
 use Rattle.renju_cli.proofs.FormLaws.{has-told}
-use Rattle.renju_cli.proofs.ToldLaws.{IsWhole, whole-or-yielded, given-told}
+use Rattle.renju_cli.proofs.ToldLaws.{done-told, other-status}
 
 -- `check` and words that are no number in its range have no form
 pub no-check : (rest : List (List ℕ)) → ((work : ℕ) → (1 ≤ work) × (work ≤ MAX_WORK) → rest ≡ decimal work ∷ [] → ⊥)
@@ -50,10 +50,6 @@ check-answers work bytes can status text (inr said) = by-verdict said.2 where
 -- ---- status 0
 
 module _ (work : ℕ) (run : Run) (zero : run.status ≡ 0) where
-  -- the number of another status
-  other-status : (status other : Status) → run.status ≡ status_number status → status ≡ other → 0 ≡ status_number other
-  other-status status other ends is = sym zero ∙ ends ∙ ap status_number is
-
   accepted-input : (bytes : List ℕ) (text : List ℕ) (file : TableFile) → IsTableAt file bytes → (status : Status)
       → IsAcceptedTable work file status text → Takes run.output.before text run.output.after → IsAcceptedInput work bytes run.output
   accepted-input bytes text file at status a whole = record {
@@ -73,22 +69,15 @@ module _ (work : ℕ) (run : Run) (zero : run.status ≡ 0) where
       → IsAcceptedInput work bytes run.output
   by-verdict bytes status text file at ends whole (inl accepted) = accepted-input bytes text file at status accepted whole
   by-verdict bytes status text file at ends whole (inr (inl refused)) =
-      absurd (let no = other-status status RefusedTable ends refused.ends in cc)
-  by-verdict bytes status text file at ends whole (inr (inr spent)) = absurd (let no = other-status status Spent ends spent.ends in cc)
+      absurd (let no = other-status run zero status RefusedTable ends refused.ends in cc)
+  by-verdict bytes status text file at ends whole (inr (inr spent)) =
+      absurd (let no = other-status run zero status Spent ends spent.ends in cc)
 
   by-saying : (bytes : List ℕ) (status : Status) (text : List ℕ) → run.status ≡ status_number status
       → Takes run.output.before text run.output.after → CheckSays work bytes status text → IsAcceptedInput work bytes run.output
-  by-saying bytes status text ends whole (inl refused) = absurd (let no = other-status status RefusedText ends refused.ends in cc)
+  by-saying bytes status text ends whole (inl refused) = absurd (let no = other-status run zero status RefusedText ends refused.ends in cc)
   by-saying bytes status text ends whole (inr said) = by-verdict bytes status text said.0 said.1 ends whole said.2
-
-  by-end : IsWhole (CheckSays work) run ⊎ IsYielded run.status → IfSome run.input.before (λ bytes. IsAcceptedInput work bytes run.output)
-  by-end (inl w) = given-told (λ bytes. IsAcceptedInput work bytes run.output) run.input.before w.bytes w.given
-      (by-saying w.bytes w.status w.text w.ends w.whole w.says)
-  by-end (inr (inl long)) = absurd (let no : 0 ≡ 11 = sym zero ∙ long in cc)
-  by-end (inr (inr (inl memory))) = absurd (let no : 0 ≡ 6 = sym zero ∙ memory in cc)
-  by-end (inr (inr (inr (inl read)))) = absurd (let no : 0 ≡ 7 = sym zero ∙ read in cc)
-  by-end (inr (inr (inr (inr write)))) = absurd (let no : 0 ≡ 8 = sym zero ∙ write in cc)
 
   -- what `check` did in a run that ends with 0
   pub check-won : IsTold (CheckSays work) run → IfSome run.input.before (λ bytes. IsAcceptedInput work bytes run.output)
-  check-won told = by-end (whole-or-yielded (CheckSays work) run told)
+  check-won = done-told (CheckSays work) (λ bytes. IsAcceptedInput work bytes run.output) run zero by-saying

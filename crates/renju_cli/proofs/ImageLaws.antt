@@ -22,12 +22,12 @@ use Rattle.renju_cli.specs.declared.status.Status.{Status}
 use Rattle.renju_cli.specs.declared.status.Status.TheVariants.{Done, RefusedText}
 use Rattle.renju_cli.specs.Statuses.{status_number}
 use Rattle.renju_cli.specs.Runs.{Run}
-use Rattle.renju_cli.specs.Told.{IsTold, IsYielded}
+use Rattle.renju_cli.specs.Told.{IsTold}
 use Rattle.renju_cli.specs.Checks.{IsTableAt}
 use Rattle.renju_cli.specs.Images.{symmetry_word, FileSays, ImageSays, image_command, IsImage, IsImagedInput}
 use Rattle.renju_cli.specs.Commands.{HasForm}
 use Rattle.renju_cli.proofs.FormLaws.{has-told, symmetry_told}
-use Rattle.renju_cli.proofs.ToldLaws.{IsWhole, whole-or-yielded, given-told}
+use Rattle.renju_cli.proofs.ToldLaws.{done-told}
 
 -- `image` and words that are no symmetry's have no form
 pub no-image : (rest : List (List ℕ)) → ((s : Symmetry) → rest ≡ symmetry_word s ∷ [] → ⊥) → ¬ HasForm (codes "image" ∷ rest)
@@ -120,14 +120,6 @@ module _ (s : Symmetry) (run : Run) (zero : run.status ≡ 0) where
     by-file (inl image) = imaged bytes text said.0 said.1 status image whole
     by-file (inr unfit) = absurd (not-refused status ends unfit.ends)
 
-  by-end : IsWhole (ImageSays s) run ⊎ IsYielded run.status → IfSome run.input.before (λ bytes. IsImagedInput s bytes run.output)
-  by-end (inl w) = given-told (λ bytes. IsImagedInput s bytes run.output) run.input.before w.bytes w.given
-      (by-saying w.bytes w.status w.text w.ends w.whole w.says)
-  by-end (inr (inl long)) = absurd (let no : 0 ≡ 11 = sym zero ∙ long in cc)
-  by-end (inr (inr (inl memory))) = absurd (let no : 0 ≡ 6 = sym zero ∙ memory in cc)
-  by-end (inr (inr (inr (inl read)))) = absurd (let no : 0 ≡ 7 = sym zero ∙ read in cc)
-  by-end (inr (inr (inr (inr write)))) = absurd (let no : 0 ≡ 8 = sym zero ∙ write in cc)
-
   -- what `image` did in a run that ends with 0
   pub image-shown : IsTold (ImageSays s) run → IfSome run.input.before (λ bytes. IsImagedInput s bytes run.output)
-  image-shown told = by-end (whole-or-yielded (ImageSays s) run told)
+  image-shown = done-told (ImageSays s) (λ bytes. IsImagedInput s bytes run.output) run zero by-saying

@@ -86,6 +86,24 @@ module _ (Says : List ℕ → Status → List ℕ → Type 0) (run : Run) where
   pub whole-or-yielded : IsTold Says run → IsWhole Says run ⊎ IsYielded run.status
   whole-or-yielded told = by-end told.ends
 
+-- the number of another status than the one with which a run ends
+pub other-status : (run : Run) → run.status ≡ 0 → (status other : Status) → run.status ≡ status_number status → status ≡ other
+    → 0 ≡ status_number other
+other-status run zero status other ends is = sym zero ∙ ends ∙ ap status_number is
+
+-- what a command did in a run that ends with 0, by what it said and wrote whole
+pub done-told : (Says : List ℕ → Status → List ℕ → Type 0) (P : List ℕ → Type 0) (run : Run) → run.status ≡ 0
+    → ((bytes : List ℕ) (status : Status) (text : List ℕ) → run.status ≡ status_number status
+    → Takes run.output.before text run.output.after → Says bytes status text → P bytes)
+    → IsTold Says run → IfSome run.input.before P
+done-told Says P run zero shown told = by-whole (whole-or-yielded Says run told) where
+  by-whole : IsWhole Says run ⊎ IsYielded run.status → IfSome run.input.before P
+  by-whole (inl w) = given-told P run.input.before w.bytes w.given (shown w.bytes w.status w.text w.ends w.whole w.says)
+  by-whole (inr (inl long)) = absurd (let no : 0 ≡ 11 = sym zero ∙ long in cc)
+  by-whole (inr (inr (inl memory))) = absurd (let no : 0 ≡ 6 = sym zero ∙ memory in cc)
+  by-whole (inr (inr (inr (inl read)))) = absurd (let no : 0 ≡ 7 = sym zero ∙ read in cc)
+  by-whole (inr (inr (inr (inr write)))) = absurd (let no : 0 ≡ 8 = sym zero ∙ write in cc)
+
 -- what a command says, said in other words
 pub ends-map : (Says Others : List ℕ → Status → List ℕ → Type 0) (input output : Change (Option (List ℕ))) (number : ℕ)
     → ((bytes : List ℕ) (status : Status) (text : List ℕ) → Says bytes status text → Others bytes status text)

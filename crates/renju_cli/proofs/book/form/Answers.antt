@@ -1,20 +1,22 @@
-use Rattle.std.proofs.Common.{◌≡◌, List, ◌∷◌, length, String, Global, arith}
-use Rattle.std.specs.Prelude.{codes, map, string_bytes}
+use Rattle.std.proofs.Common.{◌≡◌, ◌∷◌, length, arith}
+use Rattle.std.specs.Prelude.{string_bytes}
 use Rattle.std.specs.Fmt.{decimal}
-use Rattle.renju_cli.specs.Commands.{HasForm}
 use Rattle.renju_cli.proofs.Words.{same-count, one-word}
 use Rattle.renju_cli.proofs.BookLaws.{no-book}
 use Rattle.renju_cli.proofs.book.form.Goals as goal
 
 -- no word, or more than one
-other-count : (rest : List (String Global)) → (length rest ≡ 1 → ⊥) → ¬ HasForm (codes "book" ∷ map string_bytes rest)
-other-count rest other = no-book _ (λ work range is. other (same-count string_bytes _ _ is))
-
 pub returns-in_default : goal.returns-in_default
-returns-in_default c = record { form = other-count _ (λ one. omega (arith, one)) }
+returns-in_default c = record {
+  form = no-book _
+      (λ work range is. let one : length c.args.rest.now ≡ 1 = same-count string_bytes _ _ is in omega (arith, one));
+}
 
 pub returns-in_default-2 : goal.returns-in_default-2
-returns-in_default-2 c = record { form = other-count _ (λ one. omega (arith, one)) }
+returns-in_default-2 c = record {
+  form = no-book _
+      (λ work range is. let one : length c.args.rest.now ≡ 1 = same-count string_bytes _ _ is in omega (arith, one));
+}
 
 -- a word that is no number in the range
 pub returns-in_err-work : goal.returns-in_err-work
