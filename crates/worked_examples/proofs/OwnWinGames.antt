@@ -8,7 +8,6 @@ use Rattle.game_rules.specs.Play.{IsPosition, after, mover}
 use Rattle.game_rules.specs.declared.RuleKind.TheVariants.{Freestyle}
 use Rattle.game_rules.specs.declared.Side.TheVariants.{Black}
 use Rattle.game_rules.specs.declared.Point.{Point}
-use Rattle.game_rules.specs.declared.Outcome.{Outcome}
 use Rattle.game_rules.specs.declared.Outcome.TheVariants.{Wins, GoesOn}
 use Rattle.game_rules.proofs.Common.{Grid, IsBoard, points_of, outcome, five, has_five, four_move}
 use Rattle.foul_judge.specs.Lawful.{refusal}
@@ -25,17 +24,18 @@ use Rattle.gomocup_text.specs.declared.Command.TheVariants.{Start, Turn, Board, 
 use Rattle.gomocup_text.specs.declared.Answer.{Answer}
 use Rattle.gomocup_text.specs.declared.Answer.TheVariants.{Ok as SaysOk, Move}
 use Rattle.brain_session.specs.declared.Reaction.TheVariants.{Says}
-use Rattle.brain_session.specs.States.{Followed, OwnWin, Game, board_of, point_at, InGame, State, new_brain}
-use Rattle.brain_session.specs.ChosenMoves.{Choice, chosen, chosen_anew, first_node}
+use Rattle.brain_session.specs.States.{Followed, OwnWin, Game, point_at, InGame, State, new_brain}
+use Rattle.brain_session.specs.ChosenMoves.{chosen, chosen_anew, first_node}
 use Rattle.brain_session.specs.Steps.{Chooses, Step, move_row, placed, row_of, with_choice, brain_step}
-use Rattle.brain_session.specs.Sessions.{then_answers, answers_from, state_after, answer_texts, session_text}
-use Rattle.brain_session.specs.HeldGames.{replies, then_replies, answers_by}
+use Rattle.brain_session.specs.Sessions.{answers_from, state_after, answer_texts, session_text}
+use Rattle.brain_session.specs.HeldGames.{replies, answers_by}
 use Rattle.brain_session.specs.OwnGames.{BeginsOwnGame, win_game, win_attacks, win_answers}
+use Rattle.brain_session.proofs.HeldReplies.{session_by}
 use Rattle.brain_session.proofs.OwnGames.{own-games-go_well}
 use Rattle.renju_cli.specs.Brains.{nothing_held}
 use Rattle.worked_examples.specs.HeldSessions.{PlaysOwnGame, three_board, blocked_input, passed_input, passed_board, passed_game, one_five}
-use Rattle.worked_examples.proofs.OwnWins.{own_win_is, first_move, move-five, replied_board, second_move}
-use Rattle.worked_examples.proofs.OwnWinSession.{chooses, answers_by_step, replies_by_step}
+use Rattle.worked_examples.proofs.OwnWins.{attack_goes_on, own_win_is, first_move, move-five, replied_board, second_move}
+use Rattle.worked_examples.proofs.OwnWinSession.{chooses, replies_by_step}
 
 -- the game at its beginning, and after Black's first move
 abbrev game_with : List Point → Option Followed → Game
@@ -53,10 +53,6 @@ attacked = after three_board (point_at 4 7)
 
 pub told : List Command
 told = Start 15 ∷ Board ∷ Stone 5 7 1 ∷ Stone 6 7 1 ∷ Stone 7 7 1 ∷ Stone 0 0 2 ∷ Stone 2 0 2 ∷ Stone 4 0 2 ∷ []
-
-first_on : outcome Freestyle three_board (point_at 4 7) ≡ GoesOn
-unfolding three_board outcome
-first_on = refl
 
 -- ---- the session, with any reply after which the game goes on and the brain makes five
 
@@ -111,9 +107,9 @@ module _ (h : HeldTable) (x y : ℕ) (made : Point) (apart : first_node start_ga
   session_answers : answers_from (new_brain h) (told ++ Done ∷ later) ≡ SaysOk ∷ Move (point_at 4 7) ∷ Move made ∷ []
   session_answers =
       told_answers
-      ∙ ap (λ (l : List Answer). SaysOk ∷ l) (answers_by_step (state_after (new_brain h) told) Done later _ done_step)
+      ∙ ap (λ (l : List Answer). SaysOk ∷ l) (session_by (state_after (new_brain h) told) Done later _ done_step)
       ∙ ap (λ (l : List Answer). SaysOk ∷ Move (point_at 4 7) ∷ l)
-      (answers_by_step (state_at attacked_game) (Turn x y) (End ∷ []) _ turn_step)
+      (session_by (state_at attacked_game) (Turn x y) (End ∷ []) _ turn_step)
       ∙ ap (λ (l : List Answer). SaysOk ∷ Move (point_at 4 7) ∷ Move made ∷ l) no_answers
 
   pub session_says : (input : List ℕ) → commands input ≡ told ++ Done ∷ later
@@ -141,7 +137,7 @@ module _ (h : HeldTable) (x y : ℕ) (made : Point) (apart : first_node start_ga
 
   own_attacks : win_attacks Freestyle 2 three_board (point_at x y ∷ []) ≡ point_at 4 7 ∷ made ∷ []
   unfolding win_attacks
-  own_attacks = rw (first_move, first_on, on) (ap (λ (ps : List Point). point_at 4 7 ∷ ps) attacks_later)
+  own_attacks = rw (first_move, attack_goes_on, on) (ap (λ (ps : List Point). point_at 4 7 ∷ ps) attacks_later)
 
   no_foul : answers_by Freestyle three_board (point_at 4 7 ∷ made ∷ []) (point_at x y ∷ []) ≡ Move (point_at 4 7) ∷ Move made ∷ []
   no_foul = rw on refl
@@ -155,7 +151,7 @@ module _ (h : HeldTable) (x y : ℕ) (made : Point) (apart : first_node start_ga
 
   own_won : win_game Freestyle 2 three_board (point_at x y ∷ []) ≡ Won 2
   unfolding win_game
-  own_won = rw (first_move, first_on, on) (ap one_later end_later)
+  own_won = rw (first_move, attack_goes_on, on) (ap one_later end_later)
 
   pub plays_own_game : IsHeld h → (input : List ℕ) → commands input ≡ told ++ Done ∷ later
       → PlaysOwnGame h input 2 (point_at x y ∷ []) (Move (point_at 4 7) ∷ Move made ∷ []) 2

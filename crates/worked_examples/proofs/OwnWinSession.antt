@@ -24,13 +24,14 @@ use Rattle.brain_session.specs.declared.Reaction.TheVariants.{Says}
 use Rattle.brain_session.specs.States.{Followed, OwnWin, Game, board_of, point_at, InGame, State, new_brain}
 use Rattle.brain_session.specs.ChosenMoves.{Choice, chosen, chosen_anew}
 use Rattle.brain_session.specs.Steps.{Chooses, placed, row_of, with_choice, Step, step_by, brain_step}
-use Rattle.brain_session.specs.Sessions.{then_answers, answers_from, then_state, state_after, answer_texts, session_text}
+use Rattle.brain_session.specs.Sessions.{answers_from, then_state, state_after, answer_texts, session_text}
 use Rattle.brain_session.specs.HeldGames.{BeginsHeldGame, replies, game_answers, then_replies, answers_by}
 use Rattle.brain_session.proofs.HeldGames.{held-games-go_well}
 use Rattle.worked_examples.specs.HeldSessions.{PlaysHeldGame, three_board, four_board, one_start, taken_back_input, PlaysOwnGame}
-use Rattle.worked_examples.proofs.OwnWins.{own_win_is, first_move, replied_board, second_move}
+use Rattle.worked_examples.proofs.OwnWins.{attack_goes_on, own_win_is, first_move, replied_board, second_move}
 use Rattle.game_rules.specs.declared.Outcome.TheVariants.{Wins, GoesOn}
 use Rattle.brain_session.specs.OwnGames.{BeginsOwnGame, win_game, win_attacks, win_answers}
+use Rattle.brain_session.proofs.HeldReplies.{session_by}
 use Rattle.brain_session.proofs.OwnGames.{own-games-go_well}
 use Rattle.game_rules.proofs.Common.{IsBoard, points_of, empties_of, outcome}
 use Rattle.strategy_graph.proofs.Common.{Answers, answers_of, names_below, NamesLower, AcceptedStart, Won, game, attacks}
@@ -54,10 +55,10 @@ abbrev after_four : Answers
 after_four = record { replies = record { at = point_at 8 7; next = 1 } ∷ []; rest = To 0 }
 
 -- no point is passed over
-none : Point → Bool
+unfoldable pub none : Point → Bool
 none q = false
 
-none_over : (q : Point) (W : Type 0) → none q ≡ true → W
+pub none_over : (q : Point) (W : Type 0) → none q ≡ true → W
 unfolding none
 none_over q W h = cc
 
@@ -94,11 +95,6 @@ pub chooses : (s : State) (c : Command) (g : Game) (ch : Choice) → row_of s c 
     → brain_step s c ≡ record { reaction = Says (Move ch.at); next = placed s (InGame (with_choice g ch)) }
 chooses s c g ch row is = ap (step_by s) row ∙ ap
     (λ (x : Choice). let st : Step = record { reaction = Says (Move x.at); next = placed s (InGame (with_choice g x)) } in st) is
-
-pub answers_by_step : (s : State) (c : Command) (cs : List Command) (st : Step) → brain_step s c ≡ st
-    → answers_from s (c ∷ cs) ≡ then_answers st.reaction (answers_from st.next cs)
-unfolding answers_from
-answers_by_step s c cs st e = ap (λ (x : Step). then_answers x.reaction (answers_from x.next cs)) e
 
 state_by_step : (s : State) (c : Command) (cs : List Command) (st : Step) → brain_step s c ≡ st
     → state_after s (c ∷ cs) ≡ then_state st.reaction st.next (state_after st.next cs)
@@ -171,9 +167,9 @@ answers : answers_from (new_brain one_start) (told ++ Done ∷ Turn 0 14 ∷ res
     ∷ SaysOk ∷ Move (point_at 8 7) ∷ []
 answers =
     told_answers
-    ∙ ap (λ (x : List Answer). SaysOk ∷ x) (answers_by_step (state_after (new_brain one_start) told) Done (Turn 0 14 ∷ rest) _ done_step)
+    ∙ ap (λ (x : List Answer). SaysOk ∷ x) (session_by (state_after (new_brain one_start) told) Done (Turn 0 14 ∷ rest) _ done_step)
     ∙ ap (λ (x : List Answer). SaysOk ∷ Move (point_at 4 7) ∷ x)
-    (answers_by_step (state_at (game_at (point_at 4 7 ∷ []) false (Some (OwnWin 2)))) (Turn 0 14) rest _ turn_step)
+    (session_by (state_at (game_at (point_at 4 7 ∷ []) false (Some (OwnWin 2)))) (Turn 0 14) rest _ turn_step)
     ∙ ap (λ (x : List Answer). SaysOk ∷ Move (point_at 4 7) ∷ Move (point_at 3 7) ∷ x) rest_answers
 
 pub own_win-text : session_text (new_brain one_start) taken_back_input ≡ codes "OK\r\n4,7\r\n3,7\r\nOK\r\nOK\r\n8,7\r\n"
@@ -274,10 +270,6 @@ own_replied =
     ∙ replies_by_step (state_at (game_at (point_at 4 7 ∷ []) false (Some (OwnWin 2)))) (Turn 0 14) rest _ turn_step
     ∙ ap (λ (ps : List Point). point_at 0 14 ∷ ps) no_more
 
-first_on : outcome Freestyle three_board (point_at 4 7) ≡ GoesOn
-unfolding three_board outcome
-first_on = refl
-
 reply_on : outcome Freestyle (after three_board (point_at 4 7)) (point_at 0 14) ≡ GoesOn
 unfolding three_board outcome
 reply_on = refl
@@ -292,7 +284,7 @@ attacks_later = rw (second_move, second_wins) refl
 
 own_attacks : win_attacks Freestyle 2 three_board (point_at 0 14 ∷ []) ≡ point_at 4 7 ∷ point_at 3 7 ∷ []
 unfolding win_attacks replied_board
-own_attacks = rw (first_move, first_on, reply_on) (ap (λ (ps : List Point). point_at 4 7 ∷ ps) attacks_later)
+own_attacks = rw (first_move, attack_goes_on, reply_on) (ap (λ (ps : List Point). point_at 4 7 ∷ ps) attacks_later)
 
 own_said : win_answers Freestyle 2 three_board (point_at 0 14 ∷ []) ≡ Move (point_at 4 7) ∷ Move (point_at 3 7) ∷ []
 own_said = ap (λ (ps : List Point). answers_by Freestyle three_board ps (point_at 0 14 ∷ [])) own_attacks ∙ no_foul where
@@ -306,7 +298,7 @@ end_later = rw (second_move, second_wins) refl
 
 own_won : win_game Freestyle 2 three_board (point_at 0 14 ∷ []) ≡ Won 2
 unfolding win_game replied_board
-own_won = rw (first_move, first_on, reply_on) (ap one_later end_later)
+own_won = rw (first_move, attack_goes_on, reply_on) (ap one_later end_later)
 
 pub own_win-own_game : PlaysOwnGame one_start taken_back_input 2 (point_at 0 14 ∷ []) (Move (point_at 4 7) ∷ Move (point_at 3 7) ∷ []) 2
 own_win-own_game =

@@ -29,7 +29,8 @@ use Rattle.brain_session.specs.Sessions.{answers_from, state_after, answer_texts
 use Rattle.brain_session.specs.HeldGames.{BeginsHeldGame, replies, game_answers}
 use Rattle.brain_session.proofs.HeldGames.{held-games-go_well}
 use Rattle.worked_examples.specs.HeldSessions.{PlaysHeldGame, three_board, four_board, two_roots, taken_back_input}
-use Rattle.worked_examples.proofs.OwnWinSession.{start_leaves, four_unrefused}
+use Rattle.worked_examples.proofs.OwnWinSession.{start_leaves, four_unrefused, none_over}
+unfoldable use Rattle.worked_examples.proofs.OwnWinSession.{none}
 use Rattle.worked_examples.proofs.OwnWins.{attack_goes_on}
 
 -- ---- both roots are accepted
@@ -57,14 +58,6 @@ after_four = record { replies = record { at = point_at 8 7; next = 0 } ∷ []; r
 -- the board after the attack
 attacked : Grid
 attacked = after three_board (point_at 4 7)
-
--- no point is passed over
-none : Point → Bool
-none q = false
-
-none_over : (q : Point) (W : Type 0) → none q ≡ true → W
-unfolding none
-none_over q W h = cc
 
 attack_met : list_all (is_met Freestyle two_roots.table after_three attacked none) (points_of attacked) ≡ true
 unfolding attacked none three_board
