@@ -1,12 +1,17 @@
-//! What the searches of fours and threes tell of a position, over its tables of lines and over the plain one.
+//! What the searches tell of a position, over its tables of lines and over the plain one.
 //!
-//! A search asks its view through `Seen` alone, so both have to tell the same: five points, four and three moves, and what a
-//! search of fours finds, its table with it. The positions are worked ones and some that look random, under each rule.
+//! A search asks its view through `Seen` alone, so both have to tell the same: five points, four and three moves; what a search of
+//! fours finds, a line that is proved, a search of the game of threats and the moves that hold, each with its table. The positions
+//! are worked ones and some that look random, under each rule.
 #![tactic(auto)]
 
+use defence_finder::{DefenceAnswer, defences};
 use foul_judge::{Position, Seen};
 use four_search::{FourAnswer, four_search};
+use line_proof::{LineAnswer, prove_line};
 use line_tables::{LineShapes, LineTables};
+use proof_number::{ProofAnswer, proof_number};
+use proof_tree::ProofTree;
 use row_shapes::{ExactFive, Freestyle, Renju, Rule};
 use std::alloc::{AllocError, Global};
 use std::process::Abort;
@@ -15,6 +20,7 @@ use stone_board::{Board, Point, Side};
 use strategy_compiler::Compiler;
 use strategy_graph::{Rest, Table};
 use threat_moves::{fives, four_moves, three_moves};
+use threat_space::{SpaceAnswer, threat_space};
 
 /// The stones of a position.
 #[derive(Clone, Copy)]
@@ -124,28 +130,111 @@ fn add_table(text: &mut String, table: &Table, moves: u32) -> Result<(), Fail> {
     Ok(())
 }
 
-/// The five points of both sides, the four moves and three moves, and what a search of fours answers with its table.
-fn told<R: Rule, V: Seen<R>>(alloc: Global, view: &mut V) -> Result<String, Fail> {
-    let mut text = String::new(alloc);
-    add_points(
-        &mut text,
-        fives::<R, V>(alloc, view, Side::Black)?.as_slice(),
-    )?;
-    add_points(
-        &mut text,
-        fives::<R, V>(alloc, view, Side::White)?.as_slice(),
-    )?;
-    add_points(&mut text, four_moves::<R, V>(alloc, view)?.as_slice())?;
-    add_points(&mut text, three_moves::<R, V>(alloc, view)?.as_slice())?;
+/// The five points of both sides, the four moves and the three moves.
+fn add_moves<R: Rule, V: Seen<R>>(
+    alloc: Global,
+    view: &mut V,
+    text: &mut String,
+) -> Result<(), Fail> {
+    add_points(text, fives::<R, V>(alloc, view, Side::Black)?.as_slice())?;
+    add_points(text, fives::<R, V>(alloc, view, Side::White)?.as_slice())?;
+    add_points(text, four_moves::<R, V>(alloc, view)?.as_slice())?;
+    add_points(text, three_moves::<R, V>(alloc, view)?.as_slice())?;
+    Ok(())
+}
+
+/// What a search of fours answers, with its table.
+fn add_fours<R: Rule, V: Seen<R>>(
+    alloc: Global,
+    view: &mut V,
+    text: &mut String,
+) -> Result<(), Fail> {
     let mut compiler = Compiler::new(alloc);
     match four_search::<R, V>(alloc, view, 20, 300, &mut compiler)? {
-        FourAnswer::None => text.push_str(" none")?,
-        FourAnswer::Spent => text.push_str(" spent")?,
+        FourAnswer::None => text.push_str(" no fours")?,
+        FourAnswer::Spent => text.push_str(" fours spent")?,
         FourAnswer::Win(win) => {
             let table = compiler.finish_win(win)?;
-            add_table(&mut text, &table, win.moves)?;
+            add_table(text, &table, win.moves)?;
         }
     }
+    Ok(())
+}
+
+/// What the proof of the first sequence of threats answers, if there is one, with its table.
+fn add_line<R: Rule, V: Seen<R>>(
+    alloc: Global,
+    view: &mut V,
+    text: &mut String,
+) -> Result<(), Fail> {
+    let side = view.side();
+    let mut board = view.board().copy()?;
+    match threat_space::<R>(alloc, &mut board, side, 3, 100)? {
+        SpaceAnswer::None => text.push_str(" no sequence")?,
+        SpaceAnswer::Spent => text.push_str(" sequences spent")?,
+        SpaceAnswer::Sequence(line, _) => {
+            let mut compiler = Compiler::new(alloc);
+            match prove_line::<R, V>(alloc, view, &line, 6, &mut compiler)? {
+                LineAnswer::Fails => text.push_str(" line fails")?,
+                LineAnswer::Proved(win) => {
+                    let table = compiler.finish_win(win)?;
+                    add_table(text, &table, win.moves)?;
+                }
+            }
+        }
+    }
+    Ok(())
+}
+
+/// What the search of the game of threats answers, with its table.
+fn add_proof<R: Rule, V: Seen<R>>(
+    alloc: Global,
+    view: &mut V,
+    text: &mut String,
+) -> Result<(), Fail> {
+    let mut compiler = Compiler::new(alloc);
+    let mut tree = ProofTree::new(alloc)?;
+    match proof_number::<R, V>(alloc, view, 4, 30, &mut tree, &mut compiler)? {
+        ProofAnswer::None => text.push_str(" no threats")?,
+        ProofAnswer::Spent => text.push_str(" threats spent")?,
+        ProofAnswer::Win(win) => {
+            let table = compiler.finish_win(win)?;
+            add_table(text, &table, win.moves)?;
+        }
+    }
+    Ok(())
+}
+
+/// Which moves hold against continuous fours, and the nodes that win after the others.
+fn add_defences<R: Rule, V: Seen<R>>(
+    alloc: Global,
+    view: &mut V,
+    text: &mut String,
+) -> Result<(), Fail> {
+    let mut compiler = Compiler::new(alloc);
+    match defences::<R, V>(alloc, view, 6, 300, &mut compiler)? {
+        DefenceAnswer::Spent { at } => add_points(text, &[at])?,
+        DefenceAnswer::Known { good, bad } => {
+            add_points(text, good.as_slice())?;
+            for reply in bad.as_slice() {
+                let x = reply.at.x;
+                let y = reply.at.y;
+                let j = reply.next;
+                write!(text, " {x},{y}>{j}")?;
+            }
+        }
+    }
+    Ok(())
+}
+
+/// What the view tells by each of these.
+fn told<R: Rule, V: Seen<R>>(alloc: Global, view: &mut V) -> Result<String, Fail> {
+    let mut text = String::new(alloc);
+    add_moves::<R, V>(alloc, view, &mut text)?;
+    add_fours::<R, V>(alloc, view, &mut text)?;
+    add_line::<R, V>(alloc, view, &mut text)?;
+    add_proof::<R, V>(alloc, view, &mut text)?;
+    add_defences::<R, V>(alloc, view, &mut text)?;
     Ok(text)
 }
 
