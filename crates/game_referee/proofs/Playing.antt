@@ -1,5 +1,5 @@
 -- A move that goes on, played: the board after it is lawful, has one empty point less, and the other side moves there.
-use Rattle.std.proofs.Common.{◌≡◌, ℕ, zero, suc, ◌+◌, ◌-◌, ◌≤◌, Bool, false, List, [], ◌∷◌, length, refl, sym, ap, subst, ◌∙◌, arith}
+use Rattle.std.proofs.Common.{◌≡◌, ℕ, zero, suc, ◌+◌, ◌-◌, ◌≤◌, Bool, true, false, List, [], ◌∷◌, length, refl, sym, ap, subst, ◌∙◌, arith, ◌⊎◌, inl, inr}
 use Rattle.std.specs.Prelude.{Option, None, drop, take, slice_index_or}
 use Rattle.std.proofs.lemmas.Nat.{mul-le}
 use Rattle.std.proofs.lemmas.List.{drop_all, length-drop, take_all}
@@ -7,6 +7,7 @@ use Rattle.game_rules.specs.Grid.{Grid, IsBoard, empties_of}
 use Rattle.game_rules.proofs.Cells.{counts_of_board}
 use Rattle.game_rules.specs.Play.{IsPosition, outcome, after, mover, other}
 use Rattle.game_rules.specs.declared.RuleKind.{RuleKind}
+use Rattle.game_rules.specs.declared.Foul.{Foul}
 use Rattle.game_rules.specs.declared.Side.{Side}
 use Rattle.game_rules.specs.declared.Outcome.{Outcome}
 use Rattle.game_rules.specs.declared.Outcome.TheVariants.{Refused, Wins, Fouls, Draws, GoesOn}
@@ -15,7 +16,7 @@ use Rattle.game_rules.proofs.Boards.{empties_of-put}
 use Rattle.game_rules.proofs.Positions.{IsPosition-after, GoesOn-empty, mover-then}
 use Rattle.strategy_graph.specs.declared.Node.{Node}
 use Rattle.strategy_graph.specs.declared.roots.Root.{Root}
-use Rattle.game_referee.specs.declared.ReplayAnswer.TheVariants.{Follows}
+use Rattle.game_referee.specs.declared.ReplayAnswer.TheVariants.{Follows, Departs}
 use Rattle.game_referee.specs.declared.GameVerdict.{GameVerdict}
 use Rattle.game_referee.specs.declared.GameVerdict.TheVariants.{Open}
 use Rattle.game_referee.specs.Verdicts.{outcomes, verdict_from}
@@ -154,3 +155,76 @@ over rule t turn b p ps n stray none =
     sym (no_turn t n (p ∷ ps) (outcomes rule b (p ∷ ps)))
     ∙ ap (λ (x : Option Root). departs_from n (false ∷ strays t x ps) (outcomes rule b (p ∷ ps))) (sym none)
     ∙ ap (λ (x : Bool). departs_from n (x ∷ strays t (next_turn t turn p) ps) (outcomes rule b (p ∷ ps))) (sym stray)
+
+-- ---- the first moves of a game beside a table
+
+-- after a move with such an outcome a game that did not stray follows
+pub follows-end : (o : Outcome) → (o ≡ Refused) ⊎ ((o ≡ Wins) ⊎ (((f : Foul) × (o ≡ Fouls f)) ⊎ (o ≡ Draws))) → (n : ℕ) (bs : List Bool)
+    (os : List Outcome) → Follows ≡ departs_from n (false ∷ bs) (o ∷ os)
+follows-end o (inl e) n bs os = rw e refl
+follows-end o (inr (inl e)) n bs os = rw e refl
+follows-end o (inr (inr (inl (f, e)))) n bs os = rw e refl
+follows-end o (inr (inr (inr e))) n bs os = rw e refl
+
+-- the boards that the first moves leave, and what is in turn there, where each goes on and none strays
+pub record ReplayedOn (rule : RuleKind) (t : List Node) (first : Option Root) (b : Grid) (ms : List Point) (n : ℕ) (turn : Option Root)
+    (e : Grid) : Type 0 where
+  pub on : PlayedOn rule b ms n e
+  pub replayed : departs_from n (strays t turn (drop n ms)) (outcomes rule e (drop n ms))
+      ≡ departs_from 0 (strays t first ms) (outcomes rule b ms)
+
+module _ (rule : RuleKind) (t : List Node) (first : Option Root) (b : Grid) (ms : List Point) where
+  pub replayed-none : IsPosition rule b → ReplayedOn rule t first b ms 0 first b
+  replayed-none lawful = record { on = played-none rule b ms lawful; replayed = refl }
+
+  module _ (n : ℕ) (turn : Option Root) (e : Grid) (h : ReplayedOn rule t first b ms n turn e) where
+    -- all of them
+    pub replayed-all : n ≡ length ms → Follows ≡ departs_from 0 (strays t first ms) (outcomes rule b ms)
+    replayed-all all =
+        let none : drop n ms ≡ [] = drop_all n ms (omega (arith, all)) in
+        ap (λ (l : List Point). departs_from n (strays t turn l) (outcomes rule e l)) (sym none) ∙ h.replayed
+
+    module _ (p : Point) (at : drop n ms ≡ p ∷ drop (n + 1) ms) where
+      from-here : departs_from n (is_stray t turn p ∷ strays t (next_turn t turn p) (drop (n + 1) ms))
+          (outcome rule e p ∷ outcomes rule (after e p) (drop (n + 1) ms)) ≡ departs_from 0 (strays t first ms) (outcomes rule b ms)
+      from-here = ap (λ (l : List Point). departs_from n (strays t turn l) (outcomes rule e l)) (sym at) ∙ h.replayed
+
+      -- the move strays
+      pub replayed-stray : is_stray t turn p ≡ true → Departs (n + 1) ≡ departs_from 0 (strays t first ms) (outcomes rule b ms)
+      replayed-stray stray =
+          ap (λ (x : Bool). departs_from n (x ∷ strays t (next_turn t turn p) (drop (n + 1) ms))
+          (outcome rule e p ∷ outcomes rule (after e p) (drop (n + 1) ms))) (sym stray)
+          ∙ from-here
+
+      module _ (stray : is_stray t turn p ≡ false) where
+        on-here : departs_from n (false ∷ strays t (next_turn t turn p) (drop (n + 1) ms))
+            (outcome rule e p ∷ outcomes rule (after e p) (drop (n + 1) ms)) ≡ departs_from 0 (strays t first ms) (outcomes rule b ms)
+        on-here =
+            ap (λ (x : Bool). departs_from n (x ∷ strays t (next_turn t turn p) (drop (n + 1) ms))
+            (outcome rule e p ∷ outcomes rule (after e p) (drop (n + 1) ms))) (sym stray)
+            ∙ from-here
+
+        -- nothing is in turn after it
+        pub replayed-over : next_turn t turn p ≡ None → Follows ≡ departs_from 0 (strays t first ms) (outcomes rule b ms)
+        replayed-over none = over rule t turn e p (drop (n + 1) ms) n stray none ∙ from-here
+
+        -- it does not go on
+        pub replayed-end : (o : Outcome) → o ≡ outcome rule e p
+            → ((bs : List Bool) (os : List Outcome) → Follows ≡ departs_from n (false ∷ bs) (o ∷ os))
+            → Follows ≡ departs_from 0 (strays t first ms) (outcomes rule b ms)
+        replayed-end o here ends =
+            ends (strays t (next_turn t turn p) (drop (n + 1) ms)) (outcomes rule (after e p) (drop (n + 1) ms))
+            ∙ ap (λ (u : Outcome). departs_from n (false ∷ strays t (next_turn t turn p) (drop (n + 1) ms))
+            (u ∷ outcomes rule (after e p) (drop (n + 1) ms))) here
+            ∙ on-here
+
+        -- it goes on
+        pub replayed-more : (next : Option Root) (c : Grid) → next ≡ next_turn t turn p → outcome rule e p ≡ GoesOn → c ≡ after e p
+            → ReplayedOn rule t first b ms (n + 1) next c
+        replayed-more next c in-turn goes_on played = record {
+          on = played-more rule b ms n e c p h.on at goes_on played;
+          replayed =
+              ap (λ (x : Option Root). departs_from (n + 1) (strays t x (drop (n + 1) ms)) (outcomes rule c (drop (n + 1) ms))) in-turn
+              ∙ replayed-on rule e c p (drop (n + 1) ms) h.on.lawful goes_on played n (strays t (next_turn t turn p) (drop (n + 1) ms))
+              ∙ on-here;
+        }

@@ -14,7 +14,7 @@ use Rattle.strategy_graph.specs.Tables.{answers_of, answer}
 use Rattle.game_referee.specs.declared.ReplayAnswer.{ReplayAnswer}
 use Rattle.game_referee.specs.declared.ReplayAnswer.TheVariants.{Follows, Departs}
 use Rattle.game_referee.specs.declared.replaying.Turn.{Turn}
-use Rattle.game_referee.specs.declared.replaying.Turn.TheVariants.{Attack as Attacks, Reply}
+use Rattle.game_referee.specs.declared.replaying.Turn.TheVariants.{Attack as Attacks, Reply, Begin}
 use Rattle.game_referee.specs.Verdicts.{outcomes}
 
 -- whether p is the attack of the node, if there is one
@@ -60,3 +60,4 @@ replay rule t root b ms = departs_from 0 (strays t (Some root) ms) (outcomes rul
 abbrev pub in_turn : List Node → Turn → Option Root
 in_turn t (Attacks i) = Some (Attack i)
 in_turn t (Reply i) = option_map (λ n. Defend (answers_of n)) (slice_get t i)
+in_turn t (Begin a) = Some (Defend a.now)

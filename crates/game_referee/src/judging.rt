@@ -5,6 +5,7 @@
 #![tactic(auto)]
 
 ghost use Rattle.std.specs.Prelude.{◌≡◌, ◌+◌, ◌≤◌, ◌∷◌, List, length, IfSome, IfNone};
+ghost use Rattle.game_rules.specs.Grid.{Grid};
 ghost use Rattle.game_rules.specs.Play.{IsPosition, mover as mover_lem};
 ghost use Rattle.game_rules.specs.declared.Outcome.{Outcome};
 ghost use Rattle.game_referee.specs.Played.{WentOn};
@@ -24,10 +25,19 @@ pub fn judge<R: Rule>(position: &mut Position<R>, moves: &[Point]) -> GameVerdic
     // Its contract says that the position is lawful.
     let _mover = position.side();
     let (played, verdict) = play_on(position, moves);
+    take_back(position, moves, played);
+    verdict
+}
+
+/// Takes so many of the moves back, which were played from a lawful position: the position is that one again.
+pub(crate) fn take_back<R: Rule>(position: &mut Position<R>, moves: &[Point], played: usize)
+    requires within { played ≤ length moves.now }
+    requires played { (b : Grid) × IsPosition R.KIND b × WentOn R.KIND b moves.now played position.old }
+    ensures back { (b : Grid) → IsPosition R.KIND b → WentOn R.KIND b moves.now played position.old → position.new ≡ b }
+{
     for back in 0..played {
         position.undo(moves[played - 1 - back]);
     }
-    verdict
 }
 
 /// Plays the moves as long as the game goes on. The answer is how many were played, and the verdict.

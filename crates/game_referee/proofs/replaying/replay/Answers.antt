@@ -1,21 +1,21 @@
 use Rattle.std.proofs.Common.{sym, ap, ◌∙◌}
-use Rattle.std.specs.Prelude.{Some}
+use Rattle.std.specs.Prelude.{Option}
 use Rattle.strategy_graph.specs.declared.roots.Root.{Root}
-use Rattle.game_referee.specs.Verdicts.{outcomes}
 use Rattle.game_referee.specs.Replays.{departs_from, replay, strays}
+use Rattle.game_referee.specs.Verdicts.{outcomes}
 use Rattle.game_referee.proofs.Following.{follower-never-loses}
 use Rattle.game_referee.proofs.replaying.replay.Goals as goal
 
-pub returns-in-Attack-clause-kept : goal.returns-in-Attack-clause-kept
-unfolding replay
-returns-in-Attack-clause-kept g c = λ accepted follows.
-    follower-never-loses g.R.Rule.KIND c.args.table.now c.args.root.now c.args.position.now c.args.moves.now accepted
-    (ap (λ (r : Root). departs_from 0 (strays c.args.table.now (Some r) c.args.moves.now)
-    (outcomes g.R.Rule.KIND c.args.position.now c.args.moves.now)) c.in-Attack.is ∙ sym c.replay_from.ensures.answer ∙ follows)
+pub take_back-requires-clause-played : goal.take_back-requires-clause-played
+take_back-requires-clause-played g c = (c.args.position.now, c.side-mover.ensures.lawful, c.play_by-played.ensures.played)
 
-pub returns-in-Defend-clause-kept : goal.returns-in-Defend-clause-kept
+pub returns-clause-kept : goal.returns-clause-kept
 unfolding replay
-returns-in-Defend-clause-kept g c = λ accepted follows.
+returns-clause-kept g c = λ accepted follows.
     follower-never-loses g.R.Rule.KIND c.args.table.now c.args.root.now c.args.position.now c.args.moves.now accepted
-    (ap (λ (r : Root). departs_from 0 (strays c.args.table.now (Some r) c.args.moves.now)
-    (outcomes g.R.Rule.KIND c.args.position.now c.args.moves.now)) c.in-Defend.is ∙ sym c.replay_start.ensures.answer ∙ follows)
+    (ap (λ (turn : Option Root). departs_from 0 (strays c.args.table.now turn c.args.moves.now)
+    (outcomes g.R.Rule.KIND c.args.position.now c.args.moves.now)) (sym (c.first_turn.ensures.first c.args.table.now))
+    ∙ sym c.play_by-played.ensures.answer ∙ follows)
+
+pub returns-clause-same : goal.returns-clause-same
+returns-clause-same g c = c.take_back.ensures.back c.args.position.now c.side-mover.ensures.lawful c.play_by-played.ensures.played
