@@ -9,7 +9,7 @@ import sys
 from pathlib import Path
 
 TOP = Path(__file__).resolve().parent.parent
-SOURCE = TOP / "crates" / "worked_examples" / "src" / "calling.rt"
+SOURCE = TOP / "crates" / "worked_parts" / "src" / "calling.rt"
 DOCUMENT = TOP / "docs" / "CALLING.md"
 
 

@@ -1,6 +1,8 @@
 //! Inputs that several examples have.
 #![tactic(auto)]
 
+pub use worked_parts::TWO_ENTRIES;
+
 /// Three stones in the row, with room for a straight four: a win in two moves.
 pub const TWO_MOVES: &str =
     "renju-position 1\nrule freestyle\nsize 15\nblack 5,7 6,7 7,7\nwhite 0,0 2,0 4,0\n";
@@ -8,10 +10,6 @@ pub const TWO_MOVES: &str =
 /// The table of this win.
 pub const TWO_MOVES_TABLE: &str =
     "renju-table 1\nrule freestyle\nsize 15\nblack 5,7 6,7 7,7\nwhite 0,0 2,0 4,0\nmoves 2\nnodes 3\n3,7 wins\n8,7 wins\n4,7 rest 0 3,7>1\n";
-
-/// A book with this table and one that begins with the opponent's move, which share two nodes.
-pub const TWO_ENTRIES: &str =
-    "renju-book 1\nnodes 3\n3,7 wins\n8,7 wins\n4,7 rest 0 3,7>1\nentries 2\nrule freestyle\nsize 15\nblack 5,7 6,7 7,7\nwhite 0,0 2,0 4,0\nmoves 2\nroot 2\nrule freestyle\nsize 15\nblack 4,7 5,7 6,7 7,7\nwhite 0,0 2,0 4,0\nmoves 1\nstart rest 1 8,7>0\n";
 
 /// No stones under freestyle.
 pub const NO_STONES: &str = "renju-position 1\nrule freestyle\nsize 15\nblack\nwhite\n";

@@ -11,8 +11,6 @@ mod books;
 #[cfg(test)]
 mod brains;
 #[cfg(test)]
-mod calling;
-#[cfg(test)]
 mod checks;
 #[cfg(test)]
 mod defends;
@@ -32,8 +30,6 @@ mod inputs;
 #[cfg(test)]
 mod referees;
 #[cfg(test)]
-mod replays;
-#[cfg(test)]
 mod runs;
 #[cfg(test)]
 mod solves;
@@ -41,8 +37,6 @@ mod solves;
 mod texts;
 #[cfg(test)]
 mod threats;
-#[cfg(test)]
-mod views;
 #[cfg(test)]
 mod words;
 

@@ -19,7 +19,7 @@ ghost use Rattle.table_book.specs.Holding.{IsAccepted};
 ghost use Rattle.game_referee.specs.Verdicts.{verdict};
 ghost use Rattle.game_referee.specs.declared.GameVerdict.TheVariants.{Won};
 
-use crate::inputs::TWO_ENTRIES;
+use crate::TWO_ENTRIES;
 use board_symmetry::{Symmetry, image_board, images_keep_wins};
 use defence_finder::{DefenceAnswer, defences, no_defence_loses};
 use foul_judge::{Position, foul_at};
