@@ -102,6 +102,11 @@ fn compare_at<R: Rule>(
     assert_eq!(rt; tables.code(p, axis, side), code);
     let told = tables.shape(p, axis, side);
     let walked = walked_shape::<R>(rt, board, p, axis, side);
+    same_shapes(rt, told, walked, reach);
+}
+
+/// Compares two shapes, where codes have so many neighbours each way.
+fn same_shapes(rt: &impl Abort, told: Shape, walked: Shape, reach: usize) {
     assert_eq!(rt; told.five, walked.five);
     assert_eq!(rt; told.fours, walked.fours);
     assert_eq!(rt; told.straight, walked.straight);
@@ -172,21 +177,52 @@ fn replay<R: Rule>(rt: &(impl Abort + AllocGlobal), points: &[Point]) -> Result<
         return Err(Fail::from("the position is not lawful"));
     };
     let mut tables = LineTables::<R>::new(rt.alloc(), &position)?;
-    let mut played = Vec::new(rt.alloc());
-    for p in points {
-        if play::<R, LineTables<R>>(&mut tables, *p) {
-            played.push(*p)?;
-            compare::<R>(rt, &tables)?;
-        }
-    }
-    let is_won = is_won::<R>(rt.alloc(), &mut tables)?;
-    for p in played.iter().rev() {
-        let is_undone = undo::<R, LineTables<R>>(&mut tables, *p)?;
-        assert!(rt; is_undone);
-        compare::<R>(rt, &tables)?;
-    }
+    let is_won = play_and_take_back::<R>(rt, &mut tables, points)?;
     assert!(rt; tables.board().same(position.board()));
     Ok(is_won)
+}
+
+/// The same over these tables, which are as before then.
+fn play_and_take_back<R: Rule>(
+    rt: &(impl Abort + AllocGlobal),
+    tables: &mut LineTables<R>,
+    points: &[Point],
+) -> Result<bool, Fail> {
+    let mut played = Vec::new(rt.alloc());
+    play_each::<R>(rt, tables, points, &mut played)?;
+    let is_won = is_won::<R>(rt.alloc(), tables)?;
+    take_back::<R>(rt, tables, played.as_slice())?;
+    Ok(is_won)
+}
+
+/// Plays each of the points that can be played, and notes it.
+fn play_each<R: Rule>(
+    rt: &impl Abort,
+    tables: &mut LineTables<R>,
+    points: &[Point],
+    played: &mut Vec<Point>,
+) -> Result<(), Fail> {
+    for p in points {
+        if play::<R, LineTables<R>>(tables, *p) {
+            played.push(*p)?;
+            compare::<R>(rt, tables)?;
+        }
+    }
+    Ok(())
+}
+
+/// Takes the points back, the last one first.
+fn take_back<R: Rule>(
+    rt: &impl Abort,
+    tables: &mut LineTables<R>,
+    played: &[Point],
+) -> Result<(), Fail> {
+    for p in played.iter().rev() {
+        let is_undone = undo::<R, LineTables<R>>(tables, *p)?;
+        assert!(rt; is_undone);
+        compare::<R>(rt, tables)?;
+    }
+    Ok(())
 }
 
 #[test]
