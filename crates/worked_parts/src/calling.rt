@@ -19,22 +19,30 @@ ghost use Rattle.table_book.specs.Holding.{IsAccepted};
 ghost use Rattle.game_referee.specs.Verdicts.{verdict};
 ghost use Rattle.game_referee.specs.declared.GameVerdict.TheVariants.{Won};
 
+#[cfg(test)]
 use crate::TWO_ENTRIES;
 use board_symmetry::{Symmetry, image_board, images_keep_wins};
 use defence_finder::{DefenceAnswer, defences, no_defence_loses};
 use foul_judge::{Position, foul_at};
 use game_referee::{GameVerdict, judge};
-use game_rules::{Point, RuleKind, Side};
-use position_files::{FileError, TableFile, read_position, read_table, write_position};
+use game_rules::{Point, Side};
+use position_files::{FileError, read_position, write_position};
+#[cfg(test)]
+use position_files::{TableFile, read_table};
 use proof_number::{MAX_BUDGET, MAX_DEPTH, ProofAnswer, SearchError, proof_number};
 use proof_tree::ProofTree;
-use row_shapes::{Freestyle, Renju, Rule};
+#[cfg(test)]
+use row_shapes::Freestyle;
+use row_shapes::{Renju, Rule};
 use std::alloc::{AllocError, Global};
+#[cfg(test)]
 use std::test::Fail;
 use stone_board::{Board, Points};
 use strategy_checker::{Verdict, check};
 use strategy_compiler::Compiler;
-use strategy_graph::{Root, Table};
+#[cfg(test)]
+use strategy_graph::Root;
+use strategy_graph::Table;
 use table_book::{Book, BookError, HoldError, MAX_BOOK_WORK, check_book, read_book};
 use text_lines::{number, push_number};
 use threat_space::{MAX_LENGTH, SpaceAnswer, threat_space};

@@ -1,10 +1,10 @@
 //! Worked examples of parts: callers of crates that one may want alone, and searches over positions and over line tables, which
 //! answer alike.
 //!
-//! Nothing here runs the program, so its proofs need not wait for those of the program.
+//! Nothing here runs the program, so its proofs need not wait for those of the program. The callers are no code of tests alone: the
+//! check of the crate proves them, and refuses wrong ones.
 #![tactic(auto)]
 
-#[cfg(test)]
 mod calling;
 #[cfg(test)]
 mod replays;
