@@ -20,5 +20,7 @@ mod BodyBad
 mod TableTexts
 mod TableBad
 mod Growth
+-- what bytes begin with
+mod FrontLaws
 -- a text is that of one value, and is not refused where the value is lawful
 pub mod ReadBack

@@ -9,6 +9,7 @@
 mod answers;
 mod boards;
 mod error;
+mod fronts;
 mod games;
 mod lawfulness;
 mod lines;

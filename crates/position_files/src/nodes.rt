@@ -4,7 +4,7 @@
 //! nodes that are read are always a table.
 #![tactic(auto)]
 
-ghost use Rattle.std.specs.Prelude.{◌≡◌, ℕ, ◌≤◌, ◌<◌, true, List, [], ◌∷◌, ◌++◌, length, map, OnOk, OnErr, IfOk, IfErr, Err};
+ghost use Rattle.std.specs.Prelude.{◌≡◌, ℕ, ◌≤◌, ◌<◌, true, List, [], ◌∷◌, ◌++◌, length, map, OnOk, OnErr, IfOk, IfErr, IfNone, IfSome, Err};
 ghost use Rattle.std.specs.List.{AllByRecursion};
 ghost use Rattle.strategy_graph.specs.Tables.{IsNode, is_winning};
 ghost use Rattle.strategy_graph.specs.declared.Node.{Node};
@@ -15,14 +15,14 @@ ghost use Rattle.position_files.specs.Answers.{AddsNode, NodeFits};
 ghost use Rattle.position_files.specs.Faults.{IsUpTo};
 ghost use Rattle.position_files.specs.Sections.{AreNodeLines, IsSectionFault};
 
-use crate::HeadError;
 use crate::answers::node;
+use crate::{HeadError, fronts};
 use std::alloc::Global;
 use strategy_graph::{MAX_NODES, Node, PushError, Table};
 use text_lines::{Fault, line};
 
 /// Adds the node at the end of the table. `Bad` says that it is no node of this number.
-fn push(table: &mut Table, node: Node) -> Result<(), Fault>
+fn append(table: &mut Table, node: Node) -> Result<(), Fault>
     requires winning { is_winning node.rest ≡ true → node.replies ≡ [] }
     ensures pushed { OnOk result (table.new ≡ table.old ++ node ∷ []) }
     ensures bad { result ≡ Err Fault.Bad
@@ -36,8 +36,26 @@ fn push(table: &mut Table, node: Node) -> Result<(), Fault>
     }
 }
 
+/// Adds the node whose line the bytes begin with at the end of the table, where it is taken in place and is a node of this
+/// number, and answers the bytes after the line.
+fn take_node<'a>(
+    alloc: Global,
+    table: &mut Table,
+    bytes: &'a [u8],
+    width: u8,
+    height: u8,
+) -> Option<&'a [u8]>
+    ensures added { IfSome result (λ rest. AddsNode width height
+        table.old table.new bytes.now rest.now) }
+    ensures unchanged { IfNone result (table.new ≡ table.old) }
+{
+    let (node, rest) = fronts::node(alloc, bytes, width, height)?;
+    append(table, node).ok()?;
+    Some(rest)
+}
+
 /// Adds the node of the first line at the end of the table, and answers the bytes after the line.
-fn add_node<'a>(
+fn add_line<'a>(
     alloc: Global,
     table: &mut Table,
     bytes: &'a [u8],
@@ -56,8 +74,31 @@ fn add_node<'a>(
     let Some((text, rest)) = line(bytes) else {
         return Err(Fault::Bad);
     };
-    push(table, node(alloc, text, width, height)?)?;
+    append(table, node(alloc, text, width, height)?)?;
     Ok(rest)
+}
+
+/// The same. Most lines are read in place; the others are read as whole lines, which tells why a line is bad.
+fn add_node<'a>(
+    alloc: Global,
+    table: &mut Table,
+    bytes: &'a [u8],
+    width: u8,
+    height: u8,
+) -> Result<&'a [u8], Fault>
+    requires wide { IsSide width }
+    requires high { IsSide height }
+    ensures added { IfOk result (λ rest. AddsNode width height
+        table.old table.new bytes.now rest.now) }
+    ensures bad { result ≡ Err Fault.Bad → (n : Node) (others : List ℕ) → NodeFits width height n
+        → IsNode n (length table.old) → length table.old < MAX_NODES
+        → bytes.now ≡ node_line n ++ line_feed ∷ others → ⊥ }
+    ensures unchanged { OnErr result (table.new ≡ table.old) }
+{
+    if let Some(rest) = take_node(alloc, table, bytes, width, height) {
+        return Ok(rest);
+    }
+    add_line(alloc, table, bytes, width, height)
 }
 
 /// The table of the next `count` lines, and the bytes after them.

@@ -5,7 +5,7 @@ use Rattle.strategy_graph.specs.declared.Node.{Node}
 use Rattle.text_lines.specs.declared.fault.Fault.TheVariants.{Bad}
 use Rattle.text_lines.proofs.FaultLaws.{same_fault}
 use Rattle.position_files.proofs.SectionLaws.{bad_node, same_node}
-use Rattle.position_files.proofs.nodes.add_node.Goals as goal
+use Rattle.position_files.proofs.nodes.add_line.Goals as goal
 
 pub returns-in_err-node-clause-bad : goal.returns-in_err-node-clause-bad
 returns-in_err-node-clause-bad c = λ is n others fits is_node few e.
@@ -14,13 +14,13 @@ returns-in_err-node-clause-bad c = λ is n others fits is_node few e.
     bad_node c.args.width c.args.height c.requires.wide c.requires.high c.args.bytes.now c.in-Some.text.now c.in-Some.rest.now
     c.in-Some.ensures.ended c.in-Some.ensures.line c.in_err-node.field-0.0 bad c.in_err-node.ensures.node n others fits e
 
-pub returns-in_err-push-clause-bad : goal.returns-in_err-push-clause-bad
-returns-in_err-push-clause-bad c = λ is n others fits is_node few e.
-    let p = err_from_is_err_and c.from_residual-in_err-push.result c.from_residual-in_err-push.ensures.1 in
-    let bad : c.in_err-push.field-0.0 ≡ Bad = sym p.2 ∙ same_fault {X = Bor (List ℕ)} p.0 Bad (sym p.1 ∙ is) in
-    let was = c.in_err-push.was in
-    let result : c.push.result ≡ Err Bad = cc in
+pub returns-in_err-append-clause-bad : goal.returns-in_err-append-clause-bad
+returns-in_err-append-clause-bad c = λ is n others fits is_node few e.
+    let p = err_from_is_err_and c.from_residual-in_err-append.result c.from_residual-in_err-append.ensures.1 in
+    let bad : c.in_err-append.field-0.0 ≡ Bad = sym p.2 ∙ same_fault {X = Bor (List ℕ)} p.0 Bad (sym p.1 ∙ is) in
+    let was = c.in_err-append.was in
+    let result : c.append.result ≡ Err Bad = cc in
     let found : Node = c.in_ok-node.field-0 in
     let same = same_node c.args.width c.args.height c.requires.wide c.requires.high c.args.bytes.now c.in-Some.text.now c.in-Some.rest.now
     c.in-Some.ensures.ended c.in-Some.ensures.line found n others c.in_ok-node.ensures.node.0 c.in_ok-node.ensures.node.1 fits e in
-    c.push.ensures.bad result (subst (λ (m : Node). IsNode m (length c.args.table.now)) same is_node) few
+    c.append.ensures.bad result (subst (λ (m : Node). IsNode m (length c.args.table.now)) same is_node) few
