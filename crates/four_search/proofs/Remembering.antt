@@ -9,7 +9,8 @@ use Rattle.four_search.specs.Searching.{four_line, found_at}
 use Rattle.four_search.proofs.Deepening.{found-no-win}
 use Rattle.game_rules.proofs.Common.{Grid, IsPosition}
 use Rattle.position_table.specs.Packing.{packed}
-use Rattle.position_table.specs.Remembering.{Remembered, value_under}
+use Rattle.position_table.specs.Remembering.{value_under}
+use Rattle.position_table.specs.Lateness.{Late}
 use Rattle.position_table.proofs.Remembering.{true-found}
 
 module _ (rule : RuleKind) (b : Grid) (moves budget : ℕ) where
@@ -35,9 +36,9 @@ module _ (rule : RuleKind) (b : Grid) (moves budget : ℕ) where
   }
 
 -- what is found in a true memory is so
-pub memory-denies : (rule : RuleKind) (b : Grid) (moves : ℕ) (memory : Remembered ℕ) (found : Option ℕ) → IsPosition rule b
+pub memory-denies : (rule : RuleKind) (b : Grid) (moves : ℕ) (memory : Late) (found : Option ℕ) → IsPosition rule b
     → IsTrueMemory rule memory
-    → found ≡ value_under (packed b, moves) memory → IfSome found (IsDenied rule b moves)
+    → found ≡ value_under (packed b, moves) memory.table → IfSome found (IsDenied rule b moves)
 memory-denies rule b moves memory None lawful true_of is = tt
 memory-denies rule b moves memory (Some count) lawful true_of is =
-    true-found rule (IsDenied rule) b b moves count memory lawful refl true_of is
+    true-found rule (IsDenied rule) b b moves count memory.table lawful refl true_of is

@@ -5,15 +5,16 @@
 //! searches under its rule. Only a position that took many is kept, and with few moves left none is looked up.
 #![tactic(auto)]
 
-ghost use Rattle.std.specs.Prelude.{◌≡◌, ◌⊎◌, [], IfSome};
+ghost use Rattle.std.specs.Prelude.{◌≡◌, ◌<◌, if◌then◌else◌, nat_lt, [], None, IsSome, IfSome, IsOk, OnOk, OnErr};
 ghost use Rattle.game_rules.specs.Play.{IsPosition};
 ghost use Rattle.position_table.specs.Packing.{packed};
-ghost use Rattle.position_table.specs.Remembering.{looked_up, kept};
+ghost use Rattle.position_table.specs.Remembering.{value_under, looked_up};
+ghost use Rattle.position_table.specs.Lateness.{kept_late};
 ghost use Rattle.four_search.specs.Remembering.{IsDenied};
 
 use position_table::LateTable;
 use row_shapes::Rule;
-use std::alloc::Global;
+use std::alloc::{AllocError, Global};
 use std::marker::{Model, PhantomData};
 use stone_board::Board;
 
@@ -29,8 +30,8 @@ const LEAST_COUNT: u64 = 64;
 /// How many such counts pass before any is kept.
 const COUNTS_BEFORE: u32 = 64;
 
-/// What searches under one rule remember, seen by contracts as a table of positions with the moves as tag and the count as value.
-/// All that stands in it is true at every lawful position with its key, which is an invariant of the type.
+/// What searches under one rule remember, seen by contracts as a table that is made late, of positions with the moves as tag and the
+/// count as value. All that stands in it is true at every lawful position with its key, which is an invariant of the type.
 #[derive(Drop)]
 pub struct FourMemory<R: Rule> {
     table: LateTable,
@@ -38,11 +39,10 @@ pub struct FourMemory<R: Rule> {
 }
 
 impl<R: Rule> Model for FourMemory<R> {
-    ghost use Rattle.std.specs.Prelude.{ℕ};
-    ghost use Rattle.position_table.specs.Remembering.{Remembered};
+    ghost use Rattle.position_table.specs.Lateness.{Late};
     ghost use Rattle.four_search.specs.Remembering.{IsTrueMemory};
 
-    ghost Value = { Remembered ℕ };
+    ghost Value = { Late };
 
     ghost view = { λ m. m.table };
 
@@ -52,7 +52,11 @@ impl<R: Rule> Model for FourMemory<R> {
 impl<R: Rule> FourMemory<R> {
     /// Nothing is remembered. It takes no memory.
     pub fn new(alloc: Global) -> FourMemory<R>
-        ensures empty { result.entries ≡ [] }
+        ensures empty { result ≡ record {
+          table = record { entries = []; capacity = MEMORY_ENTRIES };
+          least = LEAST_COUNT;
+          to_pass = COUNTS_BEFORE;
+        } }
     {
         FourMemory {
             table: LateTable::new(alloc, MEMORY_ENTRIES, LEAST_COUNT, COUNTS_BEFORE),
@@ -64,7 +68,9 @@ impl<R: Rule> FourMemory<R> {
     pub fn find(&mut self, board: &Board, moves: u32) -> Option<u64>
         requires lawful { IsPosition R.KIND board.now }
         ensures denied { IfSome result (IsDenied R.KIND board.now moves) }
-        ensures entries { (self.new ≡ looked_up (packed board.now, moves) self.old) ⊎ (self.new ≡ self.old) }
+        ensures value { result ≡ (if nat_lt moves LEAST_MOVES then None else value_under (packed board.now, moves) self.old.table) }
+        ensures entries { self.new ≡ (if nat_lt moves LEAST_MOVES then self.old
+            else record self.old { table = looked_up (packed board.now, moves) self.old.table }) }
     {
         if moves < LEAST_MOVES {
             return None;
@@ -72,14 +78,22 @@ impl<R: Rule> FourMemory<R> {
         self.table.find(board, moves)
     }
 
-    /// Keeps how many positions it takes to find no win by fours within so many moves, where that pays and there is memory.
-    pub fn keep(&mut self, board: &Board, moves: u32, count: u64)
+    /// Keeps how many positions it takes to find no win by fours within so many moves, where that pays. `Err` says that memory ran
+    /// out; all is then as it was.
+    pub fn keep(&mut self, board: &Board, moves: u32, count: u64) -> Result<(), AllocError>
         requires lawful { IsPosition R.KIND board.now }
         requires denied { IsDenied R.KIND board.now moves count }
-        ensures kept { (self.new ≡ kept (packed board.now, moves) count self.old) ⊎ (self.new ≡ self.old) }
+        ensures kept { OnOk result (self.new ≡ (if nat_lt moves LEAST_MOVES then self.old
+            else kept_late (packed board.now, moves) count self.old)) }
+        ensures refused { OnErr result (self.new ≡ self.old) }
+        ensures few { moves < LEAST_MOVES → IsOk result }
+        ensures small { count < self.old.least → IsOk result }
+        ensures passed { 1 < self.old.to_pass → IsOk result }
+        ensures held { IsSome (value_under (packed board.now, moves) self.old.table) → IsOk result }
     {
-        if moves >= LEAST_MOVES {
-            self.table.keep(board, moves, count);
+        if moves < LEAST_MOVES {
+            return Ok(());
         }
+        self.table.keep(board, moves, count)
     }
 }

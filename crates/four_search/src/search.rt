@@ -130,7 +130,8 @@ fn search_on<R: Rule, V: Seen<R>>(
     )
 }
 
-/// Takes what is remembered of a position within as many moves, or searches it. The points are known that make a five point.
+/// Takes what is remembered of a position within as many moves, or searches it. The points are known that make a five point. Without
+/// memory to remember it the search goes on.
 #[cycle(search)]
 fn remembered<R: Rule, V: Seen<R>>(
     alloc: Global,
@@ -155,7 +156,7 @@ fn remembered<R: Rule, V: Seen<R>>(
     }
     match try_makers::<R, V>(alloc, view, threat, makers, moves, budget, memory)? {
         Found::NoWin { left } => {
-            memory.keep(view.board(), moves, budget - left);
+            let _ = memory.keep(view.board(), moves, budget - left);
             Ok(Found::NoWin { left })
         }
         other => Ok(other),

@@ -4,3 +4,5 @@
 pub mod Packing
 -- what is found under a key was kept under it
 pub mod Remembering
+-- what is kept late is kept as in a table, or not at all
+pub mod Lateness

@@ -1,3 +1,4 @@
 pub mod Packing
 pub mod Remembering
 pub mod Hashing
+pub mod Lateness

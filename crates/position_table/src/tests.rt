@@ -60,13 +60,13 @@ fn a_value_takes_the_place_of_the_one_before(rt: HostRuntime) -> Result<(), Fail
 fn large_values_are_kept_once_some_have_passed(rt: HostRuntime) -> Result<(), Fail> {
     let board = Board::empty(rt.alloc(), 7, 9)?;
     let mut table = LateTable::new(rt.alloc(), 2, 64, 2);
-    table.keep(&board, 1, 64);
-    table.keep(&board, 2, 63);
-    table.keep(&board, 3, 65);
+    table.keep(&board, 1, 64)?;
+    table.keep(&board, 2, 63)?;
+    table.keep(&board, 3, 65)?;
     assert_eq!(rt; table.find(&board, 1), None);
     assert_eq!(rt; table.find(&board, 3), None);
-    table.keep(&board, 4, 64);
-    table.keep(&board, 5, 63);
+    table.keep(&board, 4, 64)?;
+    table.keep(&board, 5, 63)?;
     assert_eq!(rt; table.find(&board, 4), Some(64));
     assert_eq!(rt; table.find(&board, 5), None);
     Ok(())

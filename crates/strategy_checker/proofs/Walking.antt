@@ -19,7 +19,7 @@ use Rattle.strategy_graph.specs.Leads.{attack_fault, Leads, LeadsStart}
 use Rattle.strategy_graph.proofs.Steps.{arrivals-stops, leads-attack, leads-reply, met-no_move}
 use Rattle.strategy_checker.specs.declared.walk.Stop.{Stop}
 use Rattle.strategy_checker.specs.declared.walk.Stop.TheVariants.{Fault, Spent, Memory}
-use Rattle.position_table.specs.Remembering.{Remembered}
+use Rattle.position_table.specs.Lateness.{Late}
 use Rattle.strategy_checker.specs.declared.walk.Walk.{Walk}
 use Rattle.strategy_checker.specs.Walks.{IsNoted, IsReady, IsTrueMemo, Takes, Walked, WalkedNode, WalkedReply}
 
@@ -75,7 +75,7 @@ taken rule t A n L old new (Ok done) none memo a takes = (
   record {
     counted = sym (ap (λ (w : Walk). w.left) takes);
     no_line = sym (ap (λ (w : Walk). w.line) takes) ∙ none;
-    memo = subst (λ (m : Remembered ℕ). IsTrueMemo rule t m) (ap (λ (w : Walk). w.memo) takes) memo;
+    memo = subst (λ (m : Late). IsTrueMemo rule t m) (ap (λ (w : Walk). w.memo) takes) memo;
   },
 )
 taken rule t A n L old new (Err stop) none memo a takes = rw takes.0 takes.1

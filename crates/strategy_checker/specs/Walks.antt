@@ -11,7 +11,8 @@ use Rattle.game_rules.specs.Shapes.{five, is_same_point}
 use Rattle.game_rules.specs.declared.Point.{Point}
 use Rattle.game_rules.specs.declared.RuleKind.{RuleKind}
 use Rattle.game_rules.specs.declared.Outcome.TheVariants.{Refused, GoesOn}
-use Rattle.position_table.specs.Remembering.{Remembered, IsTrueTable}
+use Rattle.position_table.specs.Remembering.{IsTrueTable}
+use Rattle.position_table.specs.Lateness.{Late}
 use Rattle.row_shapes.specs.FivePoints.{in_short}
 use Rattle.row_shapes.specs.declared.fives.FivePoints.{FivePoints}
 use Rattle.row_shapes.specs.declared.fives.FivePoints.TheVariants.{None as NoPoint, One, Several}
@@ -54,8 +55,8 @@ pub record IsWalked (rule : RuleKind) (t : List Node) (b : Grid) (i n : ℕ) : T
   pub counted : arrivals rule t i b ≡ n
 
 -- what a walk remembers is true: under a board and a node stand the arrivals of the node, which is accepted there
-abbrev pub IsTrueMemo : RuleKind → List Node → Remembered ℕ → Type 0
-IsTrueMemo rule t memo = IsTrueTable ℕ rule (IsWalked rule t) memo
+abbrev pub IsTrueMemo : RuleKind → List Node → Late → Type 0
+IsTrueMemo rule t memo = IsTrueTable ℕ rule (IsWalked rule t) memo.table
 
 -- a walk may step on at a lawful position: it has noted no move, and what it remembers is true
 pub record IsReady (rule : RuleKind) (t : List Node) (b : Grid) (w : Walk) : Type 0 where

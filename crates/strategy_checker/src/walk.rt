@@ -430,7 +430,7 @@ impl Walk {
         }
     }
 
-    /// Remembers the arrivals of the node at the position, unless it is not looked for.
+    /// Remembers the arrivals of the node at the position, unless it is not looked for. Without memory for them it is walked again.
     fn keep<R: Rule>(
         &mut self,
         table: &Table,
@@ -446,7 +446,7 @@ impl Walk {
         ensures left { self.new.left ≡ self.old.left }
     {
         if !is_soon_won(table, i, node) {
-            self.memo.keep(position.board(), i, arrivals);
+            let _ = self.memo.keep(position.board(), i, arrivals);
         }
     }
 
