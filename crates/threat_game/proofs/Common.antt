@@ -3,7 +3,7 @@ pub use Rattle.threat_game.specs.Attacks.{AreAttacks, IsAttempt, IsDoubleWin, Le
 pub use Rattle.threat_game.specs.Attacks.{tried_moves}
 unfoldable pub use Rattle.threat_game.specs.Attacks.{best_reply, is_last_move, is_settled_move, is_tried}
 pub use Rattle.threat_game.specs.FreeMoves.{EachGoesOn}
-pub use Rattle.threat_game.specs.NearDoubles.{DoublesAreNear, is_some_point, makes_two, some_makes_two}
+pub use Rattle.threat_game.specs.NearDoubles.{DoublesAreNear, is_some_point, makes_two, points_of_two}
 pub use Rattle.threat_game.specs.Replies.{AreChildren, AreJudged, AreReplies, EscapesBy, HasEscape, IsBeside, IsChild, IsJudged}
 pub use Rattle.threat_game.specs.Replies.{IsJudgedDouble, IsJudgement, answer_nodes, counted_for, has_reply_at, has_reply_beside, is_met}
 pub use Rattle.threat_game.specs.Replies.{is_open, is_same_double, is_standing, kept_children, moves_for, nodes_for, one_if, put_first}

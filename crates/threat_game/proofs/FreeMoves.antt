@@ -44,7 +44,7 @@ fails-told rule n b d same none others moves are (Ok found) escapes =
     (subst (λ (c : Grid). All (λ p. HasEscape rule n (after c p)) (tried_moves rule b)) same
     (subst (λ (ps : List Point). All (λ p. HasEscape rule n (after d p)) ps) are (escapes is)))
 
-not_one : (n : ℕ) → 2 ≤ n → nat_eq n 1 ≡ false
+pub not_one : (n : ℕ) → 2 ≤ n → nat_eq n 1 ≡ false
 not_one n h = grind (arith, nat_tests)
 
 -- without a five point and fouls, and with two empty points or more, each goes on

@@ -5,11 +5,11 @@ use Rattle.std.specs.List.{find, filter, list_any, sum_by, AllByRecursion}
 use Rattle.std.proofs.lemmas.Bool.{and_parts, eqb-true}
 use Rattle.std.proofs.lemmas.List.Elements.{All-filter, All-from_recursion, recursion_from_All, filter_more}
 use Rattle.std.proofs.lemmas.List.Filters.{sum_by-filter_both}
-use Rattle.std.proofs.lemmas.List.Sums.{sum_by-append, sum_by-cons}
+use Rattle.std.proofs.lemmas.List.Sums.{sum_by-cons}
 use Rattle.game_rules.specs.declared.RuleKind.{RuleKind}
 use Rattle.game_rules.specs.declared.Outcome.TheVariants.{GoesOn}
 use Rattle.game_rules.specs.declared.Point.{Point}
-use Rattle.game_rules.proofs.Common.{Grid, points_of, is_same_point, IsPosition, outcome, mover, after, goes_on, five, behind_replies}
+use Rattle.game_rules.proofs.Common.{Grid, points_of, is_same_point, IsPosition, outcome, mover, after, goes_on, five}
 use Rattle.game_rules.proofs.Positions.{GoesOn-on, IsPosition-after}
 use Rattle.game_rules.proofs.Points.{points-found, is_same_point-itself, is_same_point-same}
 use Rattle.game_rules.proofs.PointLists.{still-found}
@@ -17,12 +17,10 @@ use Rattle.strategy_graph.specs.declared.Node.{Node}
 use Rattle.strategy_compiler.specs.declared.wins.WrittenWin.{WrittenWin}
 use Rattle.threat_game.specs.declared.doubles.Double.{Double}
 use Rattle.threat_game.specs.declared.replies.Child.{Child}
-use Rattle.threat_game.specs.declared.replies.Children.{Children}
 use Rattle.threat_game.specs.declared.replies.Judged.{Judged}
 use Rattle.threat_game.specs.declared.replies.Judged.TheVariants.{Five, Double as DoubleWins, Last, Open}
-use Rattle.threat_game.proofs.Common.{IsDoubleWin, IsJudged, IsChild, IsThreatWin, AreJudged, AreChildren, counted_for, moves_for}
-use Rattle.threat_game.proofs.Common.{replies_at, is_standing, is_same_double, stands_for, is_met, put_first, kept_children, has_reply}
-use Rattle.threat_game.proofs.Common.{threat_tree}
+use Rattle.threat_game.proofs.Common.{IsDoubleWin, IsJudged, IsChild, IsThreatWin, AreJudged, moves_for}
+use Rattle.threat_game.proofs.Common.{is_standing, is_same_double, stands_for, is_met, put_first, kept_children}
 
 -- ---- what is judged first stands for itself
 

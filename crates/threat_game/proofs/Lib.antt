@@ -15,5 +15,9 @@ mod FreeMoves
 -- where new double points can be, and the stones around a point as bits
 mod NearDoubles
 mod AroundBits
+-- points where Black neither wins nor fouls, also after a stone of White
+mod QuietLaws
+-- double points that are kept to settle replies by
+mod KeptDoubles
 -- wins that are written, and positions that are settled
 mod WrittenLaws

@@ -1,7 +1,8 @@
--- Where a stone can make a double point, if no point makes two five points before it: on a line with the stone on which two others
+-- Where a stone can make a double point of one that makes no two five points before it: on a line with the stone on which two others
 -- of its side stand within four steps. The stone and that on the double point are in a winning run of five stones or more, with one
 -- five point, so at least two more are.
 use Rattle.std.proofs.Common.{◌≡◌, ◌≢◌, ◌⊎◌, inl, inr, ℕ, zero, suc, ◌+◌, ◌-◌, ◌≤◌, ◌<◌, Bool, true, false, cond, ◌&&◌, ◌||◌, not, length}
+use Rattle.std.proofs.Common.{List, [], ◌∷◌}
 use Rattle.std.proofs.Common.{refl, sym, ap}
 use Rattle.std.proofs.Common.{subst, ◌∙◌, arith, nat_le}
 use Rattle.std.specs.Prelude.{Option, Some, None, unwrap_or}
@@ -30,6 +31,7 @@ use Rattle.game_rules.proofs.Fives.{five-empty}
 use Rattle.game_rules.proofs.Lines.{OnLine-along}
 use Rattle.game_rules.proofs.OneLine.{empty-before, line_apart, line_join, wins_alike}
 use Rattle.game_rules.proofs.Places.{find-some}
+use Rattle.game_rules.proofs.PointLists.{any-filter}
 use Rattle.game_rules.proofs.Points.{any_witness, points-found}
 use Rattle.stone_board.proofs.LineBits.{IsNear, board-near}
 use Rattle.stone_board.proofs.LineStones.{along-places, place_low}
@@ -44,7 +46,7 @@ use Rattle.threat_moves.specs.ThreeMoves.{is_several}
 use Rattle.threat_moves.specs.ThreeMoves.{has_double_point}
 use Rattle.threat_moves.proofs.GainLaws.{several, few-double, double-empty, threat-by_double, taken-no_gain, no_gain-double}
 use Rattle.threat_game.specs.NearDoubles.{AreNearStones, DoublesAreNear, IsInReach, is_double_at, makes_two, reach, some_has}
-use Rattle.threat_game.specs.NearDoubles.{some_makes_two, stones_around}
+use Rattle.threat_game.specs.NearDoubles.{points_of_two, stones_around}
 use Rattle.threat_game.specs.declared.near_stones.NearStones.{NearStones}
 
 not_true : (r : Bool) → not r ≡ true → r ≡ false
@@ -450,7 +452,7 @@ module _ (rule : RuleKind) (b : Grid) (s : Side) (p q : Point) (ok : IsBoard b) 
       (λ w. more_pass _ _ (none_new quiet w)) in
       rw (length-filter (five rule full s) (points_of b), length-filter (five rule with_q s) (points_of b)) more
 
-  two_before : some_makes_two rule b s ≡ false → nat_le 2 (length (five_points rule full s)) ≡ true
+  two_before : makes_two rule b s q ≡ false → nat_le 2 (length (five_points rule full s)) ≡ true
       → list_any new_there (points_of b) ≡ true
   two_before quiet two = by_test (list_any new_there (points_of b)) refl where
     by_test : (r : Bool) → list_any new_there (points_of b) ≡ r → list_any new_there (points_of b) ≡ true
@@ -460,9 +462,9 @@ module _ (rule : RuleKind) (b : Grid) (s : Side) (p q : Point) (ok : IsBoard b) 
         let still : nat_le 2 (length (five_points rule with_q s)) ≡ true = grind (arith, nat_tests) in
         let here : makes_two rule b s q ≡ true = ap (λ r. r && is_several (in_short (five_points rule with_q s))) beside.1
         ∙ several (five_points rule with_q s) ∙ still in
-        absurd (both_ways _ quiet (points-found b (makes_two rule b s) q on_q here))
+        absurd (both_ways _ quiet here)
 
-  pub near_when : some_makes_two rule b s ≡ false → is_several (in_short (five_points rule full s)) ≡ true → IsInReach with_p s p q
+  pub near_when : makes_two rule b s q ≡ false → is_several (in_short (five_points rule full s)) ≡ true → IsInReach with_p s p q
   near_when quiet two =
       let many : nat_le 2 (length (five_points rule full s)) ≡ true = sym (several (five_points rule full s)) ∙ two in
       let w : Point = unwrap_or (find new_there (points_of b)) p in
@@ -472,18 +474,23 @@ module _ (rule : RuleKind) (b : Grid) (s : Side) (p q : Point) (ok : IsBoard b) 
 
 -- ---- as the code tells it
 
--- where no point makes two five points, a stone on p that leaves none makes no double point but near it
+-- a double point after a stone on p that leaves no five point made two before it, or is near p
 pub doubles-near : (rule : RuleKind) (b : Grid) (s : Side) (p : Point) → IsBoard b → is_empty b p ≡ true
-    → has_five rule (put b s p) s ≡ false
-    → some_makes_two rule b s ≡ false → DoublesAreNear rule (put b s p) s p
-doubles-near rule b s p ok empty none quiet = record {
-  near = λ q double. by_test q double (is_several (in_short (five_points rule
-      (put (put b s p) s q) s))) refl;
-} where
-  by_test : (q : Point) → is_double_point rule (put b s p) s q ≡ true → (r : Bool)
+    → has_five rule (put b s p) s ≡ false → DoublesAreNear rule (put b s p) s p (points_of_two rule b s)
+doubles-near rule b s p ok empty none = record { near = λ none_two q double. by_two none_two q double (makes_two rule b s q) refl } where
+  by_test : (q : Point) → is_double_point rule (put b s p) s q ≡ true → makes_two rule b s q ≡ false → (r : Bool)
       → is_several (in_short (five_points rule (put (put b s p) s q) s)) ≡ r → IsInReach (put b s p) s p q
-  by_test q double true two = near_when rule b s p q ok empty none (double-empty rule (put b s p) s q double) quiet two
-  by_test q double false few = absurd (both_ways _ (few-double rule (put b s p) s q few) double)
+  by_test q double quiet true two = near_when rule b s p q ok empty none (double-empty rule (put b s p) s q double) quiet two
+  by_test q double quiet false few = absurd (both_ways _ (few-double rule (put b s p) s q few) double)
+
+  by_two : list_any (is_double_point rule (put b s p) s) (points_of_two rule b s) ≡ false → (q : Point)
+      → is_double_point rule (put b s p) s q ≡ true → (r : Bool) → makes_two rule b s q ≡ r → IsInReach (put b s p) s p q
+  by_two none_two q double false quiet = by_test q double quiet (is_several (in_short (five_points rule (put (put b s p) s q) s))) refl
+  by_two none_two q double true two =
+      let both : (makes_two rule b s q && is_double_point rule (put b s p) s q) ≡ true = rw (two, double) refl in
+      absurd (both_ways _ none_two (any-filter (makes_two rule b s) (is_double_point rule (put b s p) s) (points_of b)
+      ∙ points-found b (λ x. makes_two rule b s x && is_double_point rule (put b s p) s x) q
+      (is_empty-on b q (and_left (is_empty b q) _ two)) both))
 
 -- ---- at most so many stones on each axis
 
@@ -533,13 +540,13 @@ module _ (b : Grid) (s : Side) (p : Point) (near : NearStones) (are : AreNearSto
       (test_of d near n (let low = at_most d in omega (arith, many, low)))
 
   -- where no double point was found as near as it may be, there is none
-  pub none-near : (rule : RuleKind) → DoublesAreNear rule b s p
+  pub none-near : (rule : RuleKind) → ((q : Point) → is_double_point rule b s q ≡ true → IsInReach b s p q)
       → ((d : Axis) (w : Way) (k : ℕ) (q : Point) → 1 ≤ k → k ≤ reach (near_on near d) → towards w d p k ≡ Some q
       → is_double_point rule b s q ≡ false)
       → has_double_point rule b s ≡ false
   none-near rule far none = false_from_ne_true _ (λ h.
       let found = any_witness (is_double_point rule b s) (points_of b) h in
-      let at = far.near found.0 found.1 in
+      let at = far found.0 found.1 in
       let low = at.near in
       let more = reach-more (stones_around b s at.axis p) (near_on near at.axis) (at_most at.axis) in
       both_ways _ (none at.axis at.way at.steps found.0 at.some (omega (arith, low, more)) at.at) found.1)
@@ -566,16 +573,18 @@ module _ (b : Grid) (s : Side) (p : Point) (near : NearStones) (are : AreNearSto
         both_ways _ few (some-on many.0 3 many.1))
 
     -- with fewer than two, and where no point makes two five points, it makes no threat
-    pub few-no_threat : some_has near 2 ≡ false → some_makes_two rule b s ≡ false → false ≡ has_threat rule (put b s p) s
+    pub few-no_threat : some_has near 2 ≡ false → points_of_two rule b s ≡ [] → false ≡ has_threat rule (put b s p) s
     few-no_threat few quiet =
         let five_none : has_five rule (put b s p) s ≡ false = false_from_ne_true _ (λ five_there.
         let many = crowded rule b s p ok empty none five_there in
         let two : 2 ≤ stones_around b s many.0 p = let three = many.1 in omega (arith, three) in
         both_ways _ few (some-on many.0 2 two)) in
-        let far = doubles-near rule b s p ok empty five_none quiet in
+        let far = doubles-near rule b s p ok empty five_none in
+        let no_two : list_any (is_double_point rule (put b s p) s) (points_of_two rule b s) ≡ false =
+        ap (list_any (is_double_point rule (put b s p) s)) quiet in
         let no_double : has_double_point rule (put b s p) s ≡ false = false_from_ne_true _ (λ h.
         let found = any_witness (is_double_point rule (put b s p) s) (points_of (put b s p)) h in
-        let at = far.near found.0 found.1 in
+        let at = far.near no_two found.0 found.1 in
         let same = around-put b s at.axis p (is_empty-on b p empty) in
         let steps = at.some in
         let low = at.near in
@@ -611,13 +620,23 @@ pub at-found : (rule : RuleKind) (b : Grid) (s : Side) (o : Option Point) → is
 at-found rule b s None h = cc
 at-found rule b s (Some q) h = points-found b (is_double_point rule b s) q (is_empty-on b q (double-empty rule b s q h)) h
 
+-- where one of some points is a double point, the side has one
+pub some-found : (rule : RuleKind) (b : Grid) (s : Side) (points : List Point) → list_any (is_double_point rule b s) points ≡ true
+    → true ≡ has_double_point rule b s
+some-found rule b s [] h = cc
+some-found rule b s (q ∷ more) h = by_test (is_double_point rule b s q) refl h (some-found rule b s more) where
+  by_test : (r : Bool) → is_double_point rule b s q ≡ r → (r || list_any (is_double_point rule b s) more) ≡ true
+      → (list_any (is_double_point rule b s) more ≡ true → true ≡ has_double_point rule b s) → true ≡ has_double_point rule b s
+  by_test true e h rest = sym (points-found b (is_double_point rule b s) q (is_empty-on b q (double-empty rule b s q e)) e)
+  by_test false e h rest = rest h
+
 -- no point on the axis as near as that is a double point
 abbrev pub NoneOn : RuleKind → Grid → Side → Point → Axis → ℕ → Type 0
 NoneOn rule b s p d n = (w : Way) (k : ℕ) (q : Point) → 1 ≤ k → k ≤ reach n → towards w d p k ≡ Some q → is_double_point rule b s q ≡ false
 
 -- where none was found on three axes, the fourth tells
 pub last-told : (rule : RuleKind) (b : Grid) (s : Side) (p : Point) (near : NearStones) → AreNearStones b s p near
-    → DoublesAreNear rule b s p
+    → ((q : Point) → is_double_point rule b s q ≡ true → IsInReach b s p q)
     → NoneOn rule b s p Row near.row → NoneOn rule b s p Column near.column → NoneOn rule b s p Down near.down
     → (r : Bool) → (r ≡ true → has_double_point rule b s ≡ true) → (r ≡ false → NoneOn rule b s p Up near.up)
     → r ≡ has_double_point rule b s

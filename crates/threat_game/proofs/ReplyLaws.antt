@@ -1,6 +1,6 @@
 -- What a reply leaves of the five points and the double points of the attacker. The replies that go on, one after another, and what is
 -- judged of them.
-use Rattle.std.proofs.Common.{◌≡◌, true, false, ◌&&◌, not, sym, ap, subst, ◌∙◌, List, Some, None, All, ℕ, ◌+◌, ◌*◌, ◌≤◌, ◌<◌, Bool, cond}
+use Rattle.std.proofs.Common.{◌≡◌, true, false, ◌&&◌, not, sym, ap, subst, ◌∙◌, List, Some, None, All, ℕ, ◌≤◌, ◌<◌, Bool, cond}
 use Rattle.std.proofs.Common.{refl, arith, [], ◌∷◌, ◌++◌, map, length, get_or, append_assoc}
 use Rattle.std.specs.List.{list_all, find, list_any, filter, sum_by, AllByRecursion}
 use Rattle.std.proofs.lemmas.Bool.{not-true}
@@ -96,10 +96,6 @@ module _ (rule : RuleKind) (c : Grid) (q : Point) (lawful : IsPosition rule c) (
         second = kept-five d.at d.second both.empty at (Apart-back d.second q second) both.second;
         apart = both.apart;
       })
-
-  pub all-kept : (ds : List Double) → All (LeavesBoth rule c (other (mover c))) ds
-      → All (λ d. IsBeside d q → LeavesBoth rule (after c q) (mover (after c q)) d) ds
-  all-kept ds all i d within beside = both-kept _ (all i d within) beside
 
 -- ---- few are counted for each
 

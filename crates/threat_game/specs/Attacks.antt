@@ -1,9 +1,9 @@
 -- The moves of the attacker: wins that need no search, and the moves that a search has to try.
-use Rattle.std.specs.Prelude.{◌≡◌, Bool, true, false, ◌&&◌, ◌||◌, not, if◌then◌else◌, List}
+use Rattle.std.specs.Prelude.{◌≡◌, Bool, true, false, ◌&&◌, ◌||◌, not, if◌then◌else◌, List, None}
 use Rattle.std.specs.List.{list_any, filter}
 use Rattle.game_rules.specs.Grid.{Grid, points_of, is_empty, put}
 use Rattle.game_rules.specs.Shapes.{five, is_same_point}
-use Rattle.game_rules.specs.Play.{outcome, goes_on, saves, mover, after, other}
+use Rattle.game_rules.specs.Play.{outcome, goes_on, saves, mover, after, other, foul_of}
 use Rattle.game_rules.specs.Games.{has_five}
 use Rattle.game_rules.specs.declared.RuleKind.{RuleKind}
 use Rattle.game_rules.specs.declared.Side.{Side}
@@ -17,6 +17,7 @@ use Rattle.threat_game.specs.declared.attacks.Attempt.TheVariants.{Tried, Last, 
 use Rattle.threat_game.specs.declared.attacks.BestReply.{BestReply}
 use Rattle.threat_game.specs.declared.attacks.BestReply.TheVariants.{GoesOn as SomeGoesOn, Saves, Fouls as EachFouls}
 use Rattle.threat_game.specs.declared.doubles.Double.{Double}
+use Rattle.threat_game.specs.declared.doubles.Kept.{Kept}
 use Rattle.threat_game.specs.ThreatGame.{is_threat_move, is_safe_threat}
 
 -- whether some move of the side to move goes on
@@ -69,6 +70,20 @@ pub record LeavesBoth (rule : RuleKind) (b : Grid) (s : Side) (d : Double) : Typ
   pub first : five rule (put b s d.at) s d.first ≡ true
   pub second : five rule (put b s d.at) s d.second ≡ true
   pub apart : is_same_point d.first d.second ≡ false
+
+-- a stone of the side on the point p is no foul wherever the other side puts a stone
+abbrev pub StaysFree : RuleKind → Grid → Side → Point → Type 0
+StaysFree rule b s p = (z : Point) → is_empty b z ≡ true → is_same_point p z ≡ false → foul_of rule (put b (other s) z) s p ≡ None
+
+-- a double point, and if it is sure, it stays no foul
+pub record IsKept (rule : RuleKind) (b : Grid) (s : Side) (kept : Kept) : Type 0 where
+  pub both : LeavesBoth rule b s kept.double
+  pub free : kept.sure ≡ true → StaysFree rule b s kept.double.at
+
+-- the same after a stone of the other side, where the side is to move
+pub record IsStillKept (rule : RuleKind) (b : Grid) (kept : Kept) : Type 0 where
+  pub both : LeavesBoth rule b (mover b) kept.double
+  pub free : kept.sure ≡ true → foul_of rule b (mover b) kept.double.at ≡ None
 
 -- a double point of the side to move that wins: its stone there goes on and leaves it both five points, and the other side has
 -- none

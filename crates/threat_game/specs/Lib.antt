@@ -2,5 +2,6 @@ pub mod ThreatGame
 pub mod Attacks
 pub mod FreeMoves
 pub mod NearDoubles
+pub mod QuietPoints
 pub mod Replies
 pub mod Wins

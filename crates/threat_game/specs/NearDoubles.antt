@@ -1,5 +1,5 @@
 -- Where a stone can make new double points.
-use Rattle.std.specs.Prelude.{◌≡◌, ℕ, ◌+◌, ◌≤◌, nat_le, Bool, true, false, ◌&&◌, ◌||◌, if◌then◌else◌, length, Option, Some, None}
+use Rattle.std.specs.Prelude.{◌≡◌, ℕ, ◌+◌, ◌≤◌, nat_le, Bool, true, false, ◌&&◌, ◌||◌, if◌then◌else◌, length, List, Option, Some, None}
 use Rattle.std.specs.List.{list_any, filter, range_with_len}
 use Rattle.game_rules.specs.Grid.{Grid, is_empty, put, points_of}
 use Rattle.game_rules.specs.Games.{five_points, is_double_point}
@@ -28,9 +28,9 @@ is_some_point Several = true
 abbrev pub makes_two : RuleKind → Grid → Side → Point → Bool
 makes_two rule b s q = is_empty b q && is_several (in_short (five_points rule (put b s q) s))
 
--- whether some point does
-abbrev pub some_makes_two : RuleKind → Grid → Side → Bool
-some_makes_two rule b s = list_any (makes_two rule b s) (points_of b)
+-- the points that do, in reading order
+abbrev pub points_of_two : RuleKind → Grid → Side → List Point
+points_of_two rule b s = filter (makes_two rule b s) (points_of b)
 
 -- how many stones of the side stand within four steps of the point in that way
 abbrev pub stones_within : Way → Grid → Side → Axis → Point → ℕ
@@ -65,9 +65,9 @@ pub record IsInReach (b : Grid) (s : Side) (p q : Point) : Type 0 where
   pub near : steps ≤ reach (stones_around b s axis p)
   pub at : towards way axis p steps ≡ Some q
 
--- each double point of the side is as near to p as that
-pub record DoublesAreNear (rule : RuleKind) (b : Grid) (s : Side) (p : Point) : Type 0 where
-  pub near : (q : Point) → is_double_point rule b s q ≡ true → IsInReach b s p q
+-- each double point of the side is as near to p as that, where none of the points is one
+pub record DoublesAreNear (rule : RuleKind) (b : Grid) (s : Side) (p : Point) (points : List Point) : Type 0 where
+  pub near : list_any (is_double_point rule b s) points ≡ false → (q : Point) → is_double_point rule b s q ≡ true → IsInReach b s p q
 
 -- whether there is such a point, and it is a double point of the side
 abbrev pub is_double_at : RuleKind → Grid → Side → Option Point → Bool

@@ -16,13 +16,14 @@ ghost use Rattle.threat_moves.specs.ThreeMoves.{is_several as is_several_lem};
 ghost use Rattle.threat_game.specs.ThreatGame.{is_threat_move as is_threat_move_lem};
 ghost use Rattle.threat_game.specs.FreeMoves.{EachGoesOn};
 ghost use Rattle.threat_game.specs.NearDoubles.{AreNearStones, is_some_point as is_some_point_lem, makes_two as makes_two_lem};
-ghost use Rattle.threat_game.specs.NearDoubles.{some_makes_two as some_makes_two_lem};
+ghost use Rattle.threat_game.specs.NearDoubles.{points_of_two};
 ghost use Rattle.threat_game.specs.Attacks.{AreAttacks, IsAttempt, IsDoubleWin, best_reply as best_reply_lem};
 
 use crate::doubles::{Double, double_at};
 use crate::last_moves::has_fouls;
 use crate::near_doubles::leaves_double;
 use crate::near_stones::{NearStones, near_stones};
+use crate::quiet_points::is_quiet;
 use foul_judge::{Outcome, Seen};
 use row_shapes::{FivePoints, Rule, takes};
 use std::alloc::{AllocError, Global};
@@ -77,23 +78,23 @@ pub fn find_attacks<R: Rule, V: Seen<R>>(
 {
     let attacker = view.side();
     let threat = view.fives_in_short(attacker.other());
-    let loud = some_makes_two::<R, V>(view);
+    let twos = all_twos::<R, V>(alloc, view)?;
     if let FivePoints::None = threat {
-        match find_double::<R, V>(alloc, view, board, loud)? {
+        match find_double::<R, V>(alloc, view, board, twos.as_slice())? {
             Some(double) => Ok(Attacks::Double(double)),
-            None => find_moves::<R, V>(alloc, view, board, threat, loud),
+            None => find_moves::<R, V>(alloc, view, board, threat, twos.as_slice()),
         }
     } else {
-        find_moves::<R, V>(alloc, view, board, threat, loud)
+        find_moves::<R, V>(alloc, view, board, threat, twos.as_slice())
     }
 }
 
-/// A double point that goes on, if there is one. Neither side has a five point. It may be told that no point makes two.
+/// A double point that goes on, if there is one. Neither side has a five point. These points make two.
 fn find_double<R: Rule, V: Seen<R>>(
     alloc: Global,
     view: &mut V,
     board: &mut Board,
-    loud: bool,
+    twos: &[Point],
 ) -> Result<Option<Double>, AllocError>
     requires none { has_five_lem R.KIND (V.position view.old) (mover (V.position view.old)) ≡ false }
     requires safe { has_five_lem R.KIND (V.position view.old) (other (mover (V.position view.old))) ≡ false }
@@ -102,31 +103,27 @@ fn find_double<R: Rule, V: Seen<R>>(
     ensures same { V.position view.new ≡ V.position view.old }
     ensures same_board { board.new ≡ board.old }
 {
-    if !loud {
-        return Ok(None);
-    }
-    for p in view.board().points() {
-        if makes_two::<R, V>(view, p) {
-            if let Outcome::GoesOn = view.outcome(p) {
-                let side = view.side();
-                return double_at::<R>(alloc, board, side, p);
-            }
+    for p in twos {
+        if let Outcome::GoesOn = view.outcome(*p) {
+            let side = view.side();
+            return double_at::<R>(alloc, board, side, *p);
         }
     }
     Ok(None)
 }
 
-/// Whether a stone of the side to move on some point leaves it two five points or more. It has none.
-fn some_makes_two<R: Rule, V: Seen<R>>(view: &V) -> bool
+/// The points where a stone of the side to move leaves it two five points or more, in reading order. It has none.
+fn all_twos<R: Rule, V: Seen<R>>(alloc: Global, view: &V) -> Result<Points, AllocError>
     requires none { has_five_lem R.KIND (V.position view.now) (mover (V.position view.now)) ≡ false }
-    ensures some { result ≡ some_makes_two_lem R.KIND (V.position view.now) (mover (V.position view.now)) }
+    ensures twos { IfOk result (λ twos. twos ≡ points_of_two R.KIND (V.position view.now) (mover (V.position view.now))) }
 {
+    let mut twos = Points::new(alloc);
     for p in view.board().points() {
         if makes_two::<R, V>(view, p) {
-            return true;
+            twos.push(p)?;
         }
     }
-    false
+    Ok(twos)
 }
 
 /// Whether the point is empty and a stone of the side to move, which has no five point, leaves it two there or more.
@@ -177,9 +174,9 @@ fn find_moves<R: Rule, V: Seen<R>>(
     view: &mut V,
     board: &mut Board,
     threat: FivePoints,
-    loud: bool,
+    twos: &[Point],
 ) -> Result<Attacks, AllocError>
-    requires loud { loud ≡ some_makes_two_lem R.KIND (V.position view.old) (mover (V.position view.old)) }
+    requires twos { twos.now ≡ points_of_two R.KIND (V.position view.old) (mover (V.position view.old)) }
     requires none { has_five_lem R.KIND (V.position view.old) (mover (V.position view.old)) ≡ false }
     requires lawful { IsPosition R.KIND (V.position view.old) }
     requires copy { board.old ≡ V.position view.old }
@@ -190,7 +187,7 @@ fn find_moves<R: Rule, V: Seen<R>>(
 {
     let mut moves = Points::new(alloc);
     for p in view.board().points() {
-        match judge_move::<R, V>(view, board, threat, loud, p) {
+        match judge_move::<R, V>(view, board, threat, twos, p) {
             Attempt::Tried => moves.push(p)?,
             Attempt::Last => return Ok(Attacks::NoReply(p)),
             Attempt::Passed => {}
@@ -204,10 +201,10 @@ fn judge_move<R: Rule, V: Seen<R>>(
     view: &mut V,
     board: &mut Board,
     threat: FivePoints,
-    loud: bool,
+    twos: &[Point],
     p: Point,
 ) -> Attempt
-    requires loud { loud ≡ some_makes_two_lem R.KIND (V.position view.old) (mover (V.position view.old)) }
+    requires twos { twos.now ≡ points_of_two R.KIND (V.position view.old) (mover (V.position view.old)) }
     requires none { has_five_lem R.KIND (V.position view.old) (mover (V.position view.old)) ≡ false }
     requires lawful { IsPosition R.KIND (V.position view.old) }
     requires copy { board.old ≡ V.position view.old }
@@ -219,7 +216,7 @@ fn judge_move<R: Rule, V: Seen<R>>(
     if !takes(threat, p) {
         return Attempt::Passed;
     }
-    if !is_new_threat::<R, V>(view, board, loud, p) {
+    if !is_new_threat::<R, V>(view, board, twos, p) {
         return Attempt::Passed;
     }
     match best_reply_to::<R, V>(view, p) {
@@ -235,7 +232,22 @@ pub fn goes_on<R: Rule, V: Seen<R>>(view: &mut V, p: Point) -> bool
     ensures lawful { IsPosition R.KIND (V.position view.old) }
     ensures same { V.position view.new ≡ V.position view.old }
 {
+    if is_quiet_move::<R, V>(view, p) {
+        return true;
+    }
     matches!(view.outcome(p), Outcome::GoesOn)
+}
+
+/// Whether the move goes on, as far as is told without the judge: the point is quiet for a side that has fouls, and another is empty.
+fn is_quiet_move<R: Rule, V: Seen<R>>(view: &V, p: Point) -> bool
+    ensures on { IsTrue result → outcome_lem R.KIND (V.position view.now) p ≡ Outcome.GoesOn }
+    ensures lawful { IsPosition R.KIND (V.position view.now) }
+{
+    if !has_fouls::<R>(view.side()) {
+        return false;
+    }
+    let board = view.board();
+    board.empties() >= 2 && is_quiet(board, p)
 }
 
 /// Whether each move of the side to move on an empty point goes on, as far as is told at once: it has no five point, and where it
@@ -273,9 +285,14 @@ pub fn is_threat_move<R: Rule, V: Seen<R>>(view: &mut V, board: &mut Board, p: P
     is_three_move::<R, V>(view, board, p)
 }
 
-/// The same where the side has no five point. It may be told that no point makes two.
-fn is_new_threat<R: Rule, V: Seen<R>>(view: &mut V, board: &mut Board, loud: bool, p: Point) -> bool
-    requires loud { loud ≡ some_makes_two_lem R.KIND (V.position view.old) (mover (V.position view.old)) }
+/// The same where the side has no five point, and these points make two.
+fn is_new_threat<R: Rule, V: Seen<R>>(
+    view: &mut V,
+    board: &mut Board,
+    twos: &[Point],
+    p: Point,
+) -> bool
+    requires twos { twos.now ≡ points_of_two R.KIND (V.position view.old) (mover (V.position view.old)) }
     requires none { has_five_lem R.KIND (V.position view.old) (mover (V.position view.old)) ≡ false }
     requires copy { board.old ≡ V.position view.old }
     ensures threat { result ≡ is_threat_move_lem R.KIND (V.position view.old) p }
@@ -285,16 +302,16 @@ fn is_new_threat<R: Rule, V: Seen<R>>(view: &mut V, board: &mut Board, loud: boo
     if !view.board().is_empty(p) {
         return false;
     }
-    if !leaves_threat::<R, V>(view, board, loud, p) {
+    if !leaves_threat::<R, V>(view, board, twos, p) {
         return false;
     }
     goes_on::<R, V>(view, p)
 }
 
 /// Whether a stone of the side to move on an empty point leaves it a five point or a double point. It has no five point before.
-fn leaves_threat<R: Rule, V: Seen<R>>(view: &V, board: &mut Board, loud: bool, p: Point) -> bool
+fn leaves_threat<R: Rule, V: Seen<R>>(view: &V, board: &mut Board, twos: &[Point], p: Point) -> bool
     requires empty { IsTrue (is_empty (V.position view.now) p) }
-    requires loud { loud ≡ some_makes_two_lem R.KIND (V.position view.now) (mover (V.position view.now)) }
+    requires twos { twos.now ≡ points_of_two R.KIND (V.position view.now) (mover (V.position view.now)) }
     requires none { has_five_lem R.KIND (V.position view.now) (mover (V.position view.now)) ≡ false }
     requires copy { board.old ≡ V.position view.now }
     ensures threat { result ≡ has_threat R.KIND (after (V.position view.now) p) (mover (V.position view.now)) }
@@ -302,13 +319,13 @@ fn leaves_threat<R: Rule, V: Seen<R>>(view: &V, board: &mut Board, loud: bool, p
 {
     let side = view.side();
     let near = near_stones(board, side, p);
-    if !loud && !near.some(2) {
+    if twos.is_empty() && !near.some(2) {
         return false;
     }
     if is_some_point(fives_by::<R, V>(view, near, p)) {
         return true;
     }
-    leaves_double::<R>(board, side, loud, near, p)
+    leaves_double::<R>(board, side, twos, near, p)
 }
 
 /// What the replies to a move that goes on come to.

@@ -4,18 +4,20 @@
 //! reply took the first.
 #![tactic(auto)]
 
-ghost use Rattle.std.specs.Prelude.{◌≡◌, ◌≤◌, ◌+◌, ◌&&◌, not, ℕ, false, All, IfOk, IfSome, IsTrue};
+ghost use Rattle.std.specs.Prelude.{◌≡◌, ◌≤◌, ◌+◌, ◌&&◌, not, ℕ, false, true, All, IfOk, IfSome, IsTrue};
 ghost use Rattle.game_rules.specs.Grid.{Grid, is_empty, points_of};
 ghost use Rattle.game_rules.specs.Shapes.{is_same_point};
 ghost use Rattle.game_rules.specs.Play.{IsPosition, outcome as outcome_lem, mover, after, goes_on as goes_on_lem};
 ghost use Rattle.game_rules.specs.declared.Outcome.{Outcome};
-ghost use Rattle.game_rules.specs.Games.{has_five as has_five_lem};
+ghost use Rattle.game_rules.specs.Games.{has_five as has_five_lem, is_double_point};
 ghost use Rattle.strategy_compiler.specs.Growth.{Writes};
-ghost use Rattle.threat_game.specs.Attacks.{LeavesBoth, IsDoubleWin};
+ghost use Rattle.threat_game.specs.Attacks.{LeavesBoth, IsDoubleWin, IsKept, StaysFree};
 ghost use Rattle.threat_game.specs.Replies.{answer_nodes, has_reply_at, has_reply_beside, replies_at};
 ghost use Rattle.threat_game.specs.Wins.{IsThreatWin};
 
 use crate::attacks::{each_goes_on, goes_on, goes_on_where};
+use crate::last_moves::has_fouls;
+use crate::quiet_points::rows_in_reach;
 use foul_judge::Seen;
 use game_rules::RuleKind;
 use row_shapes::Rule;
@@ -60,25 +62,46 @@ pub fn double_at<R: Rule>(
     }
 }
 
+/// A double point that is kept to settle replies by.
+#[derive(Clone, Copy)]
+pub(crate) struct Kept {
+    pub(crate) double: Double,
+    /// It stays no foul wherever the other side puts a stone.
+    pub(crate) sure: bool,
+}
+
 /// The first double points of the side, which has no five point. The board is as before.
-pub fn first_doubles<R: Rule>(
+pub(crate) fn first_doubles<R: Rule>(
     alloc: Global,
     board: &mut Board,
     side: Side,
-) -> Result<Vec<Double>, AllocError>
+) -> Result<Vec<Kept>, AllocError>
     requires none { has_five_lem R.KIND board.old side ≡ false }
-    ensures each { IfOk result (λ found. All (LeavesBoth R.KIND board.old side) found.items) }
+    ensures each { IfOk result (λ found. All (IsKept R.KIND board.old side) found.items) }
     ensures same { board.new ≡ board.old }
 {
     let mut found = Vec::new(alloc);
     for p in board.points() {
         if found.len() < MOST_KEPT && is_new_double_point::<R>(board, side, p) {
+            let sure = is_sure::<R>(board, side, p);
             if let Some(double) = double_at::<R>(alloc, board, side, p)? {
-                found.push(double)?;
+                found.push(Kept { double, sure })?;
             }
         }
     }
     Ok(found)
+}
+
+/// Whether a double point is seen to stay no foul wherever the other side puts a stone: its side has no fouls, or too few stones
+/// within reach for two threes. A stone of White makes no foul then, and frees none.
+fn is_sure<R: Rule>(board: &Board, side: Side, p: Point) -> bool
+    requires double { is_double_point R.KIND board.now side p ≡ true }
+    ensures sure { IsTrue result → StaysFree R.KIND board.now side p }
+{
+    if !has_fouls::<R>(side) {
+        return true;
+    }
+    rows_in_reach(board, p) < 2
 }
 
 /// Which replies go on: the one on the first five point of a double point, and some other.
@@ -146,6 +169,20 @@ pub fn answers_of<R: Rule, V: Seen<R>>(view: &mut V, double: Double) -> u64
 {
     let found = replies_to::<R, V>(view, double);
     u64::from(found.at) + u64::from(found.beside)
+}
+
+/// The same of a double point that wins. Where the other side has no fouls both replies are there, as the number of empty points
+/// tells.
+pub(crate) fn answers_to_win<R: Rule, V: Seen<R>>(view: &mut V, double: Double) -> u64
+    requires wins { IsDoubleWin R.KIND (V.position view.old) double }
+    ensures nodes { result ≡ answer_nodes R.KIND (V.position view.old) double }
+    ensures few { result ≤ 2 }
+    ensures same { V.position view.new ≡ V.position view.old }
+{
+    if !has_fouls::<R>(view.side().other()) && view.board().empties() >= 3 {
+        return 2;
+    }
+    answers_of::<R, V>(view, double)
 }
 
 /// Compiles the win by a double point. The view is as before; the nodes of the compiler stay, those added before a refusal too.

@@ -1,6 +1,6 @@
 //! Wins by the last move: each reply to it fouls.
 //!
-//! They are rare, and only where the other side has fouls.
+//! They are rare, and only where the other side has fouls, and there are not two quiet points, of which a move leaves it one.
 #![tactic(auto)]
 
 ghost use Rattle.std.specs.Prelude.{◌≡◌, true, false, IfSome, IfNone};
@@ -11,6 +11,7 @@ ghost use Rattle.threat_moves.specs.OneBlock.{all_foul};
 ghost use Rattle.threat_game.specs.Attacks.{is_last_move as is_last_move_lem, is_fouled as is_fouled_lem};
 
 use crate::attacks::{BestReply, best_reply_to, goes_on, is_threat_move};
+use crate::quiet_points::has_two_quiet;
 use foul_judge::Seen;
 use row_shapes::Rule;
 use stone_board::{Board, Point, Side};
@@ -27,6 +28,9 @@ pub fn last_move<R: Rule, V: Seen<R>>(view: &mut V, board: &mut Board) -> Option
 {
     let defender = view.side().other();
     if !has_fouls::<R>(defender) {
+        return None;
+    }
+    if has_two_quiet(view.board()) {
         return None;
     }
     for p in view.board().points() {

@@ -12,6 +12,7 @@ mod escapes;
 mod last_moves;
 mod near_doubles;
 mod near_stones;
+mod quiet_points;
 mod replies;
 mod written;
 

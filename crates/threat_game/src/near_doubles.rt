@@ -1,62 +1,63 @@
 //! New double points.
 //!
-//! Where no point makes two five points, a new stone makes double points but near it: within four steps on a line on which two
+//! A double point after a new stone made two five points before it, or is near the stone: within four steps on a line on which two
 //! others of its side stand so near, or somewhere on one on which three do. No other point is looked at.
 #![tactic(auto)]
 
 ghost use Rattle.std.specs.Prelude.{◌≡◌, ◌≤◌, ℕ, false, true, Some, IsTrue};
+ghost use Rattle.std.specs.List.{list_any};
 ghost use Rattle.game_rules.specs.Grid.{is_empty, is_on, put};
 ghost use Rattle.game_rules.specs.Ways.{towards as towards_lem};
 ghost use Rattle.game_rules.specs.Games.{has_five as has_five_lem, is_double_point};
 ghost use Rattle.threat_moves.specs.ThreeMoves.{has_double_point};
 ghost use Rattle.threat_game.specs.NearDoubles.{AreNearStones, DoublesAreNear, is_double_at};
-ghost use Rattle.threat_game.specs.NearDoubles.{reach as reach_lem, some_makes_two as some_makes_two_lem};
+ghost use Rattle.threat_game.specs.NearDoubles.{reach as reach_lem, points_of_two};
 
 use crate::near_stones::{NearStones, near_stones};
 use row_shapes::Rule;
 use stone_board::{Axis, Board, MAX_SIDE, Point, Side, Way};
 use threat_moves::is_new_double_point;
 
-/// Whether the side's stone on an empty point, which leaves it no five point, leaves it a double point. At most so many stones of the
-/// side are around the point. The board is as before.
+/// Whether the side's stone on an empty point, which leaves it no five point, leaves it a double point. Before it these points make
+/// two five points, and at most so many stones of the side are around the point. The board is as before.
 pub(crate) fn leaves_double<R: Rule>(
     board: &mut Board,
     side: Side,
-    loud: bool,
+    twos: &[Point],
     near: NearStones,
     p: Point,
 ) -> bool
     requires empty { IsTrue (is_empty board.old p) }
-    requires loud { loud ≡ some_makes_two_lem R.KIND board.old side }
+    requires twos { twos.now ≡ points_of_two R.KIND board.old side }
     requires none { has_five_lem R.KIND (put board.old side p) side ≡ false }
     requires near { AreNearStones board.old side p near }
     ensures double { result ≡ has_double_point R.KIND (put board.old side p) side }
     ensures same { board.new ≡ board.old }
 {
     board.put(p, side);
-    let double = has_double::<R>(board, side, loud, near, p);
+    let double = has_double::<R>(board, side, twos, near, p);
     board.lift(p);
     double
 }
 
-/// Whether the side, which has no five point, has a double point. It may be told that it has none but near `p`, around which so many
-/// of its stones are at most. The board is as before.
+/// Whether the side, which has no five point, has a double point. It has none but among these points and near `p`, around which so
+/// many of its stones are at most. The board is as before.
 fn has_double<R: Rule>(
     board: &mut Board,
     side: Side,
-    loud: bool,
+    twos: &[Point],
     near: NearStones,
     p: Point,
 ) -> bool
     requires on { IsTrue (is_on board.old p) }
     requires none { has_five_lem R.KIND board.old side ≡ false }
     requires near { AreNearStones board.old side p near }
-    requires far { loud ≡ false → DoublesAreNear R.KIND board.old side p }
+    requires far { DoublesAreNear R.KIND board.old side p twos.now }
     ensures double { result ≡ has_double_point R.KIND board.old side }
     ensures same { board.new ≡ board.old }
 {
-    if loud {
-        return some_double::<R>(board, side);
+    if some_double::<R>(board, side, twos) {
+        return true;
     }
     if double_on::<R>(board, side, Axis::Row, p, near.row) {
         return true;
@@ -70,14 +71,14 @@ fn has_double<R: Rule>(
     double_on::<R>(board, side, Axis::Up, p, near.up)
 }
 
-/// Whether the side, which has no five point, has a double point. The board is as before.
-fn some_double<R: Rule>(board: &mut Board, side: Side) -> bool
+/// Whether some of the points is a double point of the side, which has no five point. The board is as before.
+fn some_double<R: Rule>(board: &mut Board, side: Side, points: &[Point]) -> bool
     requires none { has_five_lem R.KIND board.old side ≡ false }
-    ensures double { result ≡ has_double_point R.KIND board.old side }
+    ensures double { result ≡ list_any (is_double_point R.KIND board.old side) points.now }
     ensures same { board.new ≡ board.old }
 {
-    for q in board.points() {
-        if double_here::<R>(board, side, q) {
+    for q in points {
+        if double_here::<R>(board, side, *q) {
             return true;
         }
     }

@@ -12,17 +12,19 @@ ghost use Rattle.std.specs.Prelude.{◌≡◌, ◌<◌, ◌≤◌, ◌+◌, ℕ,
 ghost use Rattle.std.specs.List.{find, sum_by};
 ghost use Rattle.game_rules.specs.Grid.{Grid};
 ghost use Rattle.game_rules.specs.Shapes.{is_same_point};
-ghost use Rattle.game_rules.specs.Play.{IsPosition, outcome as outcome_lem, mover, other, after};
+ghost use Rattle.game_rules.specs.Play.{IsPosition, outcome as outcome_lem, mover, other, after, goes_on as goes_on_lem};
 ghost use Rattle.game_rules.specs.Games.{WinsByThreats, has_five as has_five_lem, five_points as five_points_lem};
 ghost use Rattle.strategy_graph.specs.declared.TheConstants.{MAX_NODES};
 ghost use Rattle.strategy_compiler.specs.Growth.{GrowsBy};
 ghost use Rattle.threat_game.specs.FreeMoves.{EachGoesOn};
-ghost use Rattle.threat_game.specs.Attacks.{has_reply, is_last_move, LeavesBoth};
+ghost use Rattle.threat_game.specs.Attacks.{has_reply, is_last_move, IsKept, IsStillKept};
 ghost use Rattle.threat_game.specs.Replies.{AreReplies, AreJudged, HasEscape, IsChild, IsJudged, IsJudgement, IsBeside, is_beside as is_beside_lem, moves_for, is_open as is_open_lem, is_standing as is_standing_lem, is_same_double as is_same_double_lem, stands_for as stands_for_lem, is_met as is_met_lem, put_first, kept_children, counted_for, nodes_for};
 ghost use Rattle.threat_game.specs.Wins.{IsThreatWin};
 
 use crate::attacks::{each_goes_on, fives_by, goes_on_where};
-use crate::doubles::{Double, answers_of, compile_double, compile_standing, first_doubles};
+use crate::doubles::{
+    Double, Kept, answers_to_win, compile_double, compile_standing, first_doubles,
+};
 use crate::escapes::fails_after;
 use crate::last_moves::last_move;
 use crate::near_stones::near_stones;
@@ -204,9 +206,9 @@ fn doubles_for<R: Rule>(
     board: &mut Board,
     side: Side,
     fives: usize,
-) -> Result<Vec<Double>, AllocError>
+) -> Result<Vec<Kept>, AllocError>
     requires fives { fives ≡ length (five_points_lem R.KIND board.old side) }
-    ensures each { IfOk result (λ found. All (LeavesBoth R.KIND board.old side) found.items) }
+    ensures each { IfOk result (λ found. All (IsKept R.KIND board.old side) found.items) }
     ensures same { board.new ≡ board.old }
 {
     if fives == 0 {
@@ -222,7 +224,7 @@ fn each_reply<R: Rule, V: Seen<R>>(
     board: &mut Board,
     moves: u32,
     fives: &Points,
-    doubles: &[Double],
+    doubles: &[Kept],
 ) -> Result<Option<Vec<Child>>, AllocError>
     requires lawful { IsPosition R.KIND (V.position view.old) }
     requires some_moves { 1 ≤ moves }
@@ -230,7 +232,7 @@ fn each_reply<R: Rule, V: Seen<R>>(
     requires reply { has_reply R.KIND (V.position view.old) ≡ true }
     requires copy { board.old ≡ V.position view.old }
     requires fives { fives.now ≡ five_points_lem R.KIND (V.position view.old) (other (mover (V.position view.old))) }
-    requires doubles { All (LeavesBoth R.KIND (V.position view.old) (other (mover (V.position view.old)))) doubles.now }
+    requires doubles { All (IsKept R.KIND (V.position view.old) (other (mover (V.position view.old)))) doubles.now }
     ensures escape { IfOk result (λ found. IfNone found (HasEscape R.KIND moves (V.position view.old))) }
     ensures judged { IfOk result (λ found. IfSome found (λ all. AreJudged R.KIND moves (V.position view.old) all.items)) }
     ensures same { V.position view.new ≡ V.position view.old }
@@ -269,7 +271,7 @@ fn judge<R: Rule, V: Seen<R>>(
     q: Point,
     moves: u32,
     fives: &Points,
-    doubles: &[Double],
+    doubles: &[Kept],
 ) -> Result<Judgement, AllocError>
     requires lawful { IsPosition R.KIND (V.position view.old) }
     requires each { IsTrue free → EachGoesOn R.KIND (V.position view.old) }
@@ -277,7 +279,7 @@ fn judge<R: Rule, V: Seen<R>>(
     requires no_five { has_five_lem R.KIND (V.position view.old) (mover (V.position view.old)) ≡ false }
     requires copy { board.old ≡ V.position view.old }
     requires fives { fives.now ≡ five_points_lem R.KIND (V.position view.old) (other (mover (V.position view.old))) }
-    requires doubles { All (LeavesBoth R.KIND (V.position view.old) (other (mover (V.position view.old)))) doubles.now }
+    requires doubles { All (IsKept R.KIND (V.position view.old) (other (mover (V.position view.old)))) doubles.now }
     ensures judgement { IfOk result (IsJudgement R.KIND moves (V.position view.old) q) }
     ensures same { V.position view.new ≡ V.position view.old }
     ensures same_board { board.new ≡ board.old }
@@ -298,14 +300,14 @@ fn judge_quiet<R: Rule, V: Seen<R>>(
     board: &mut Board,
     q: Point,
     moves: u32,
-    doubles: &[Double],
+    doubles: &[Kept],
 ) -> Result<Judgement, AllocError>
     requires some_moves { 1 ≤ moves }
     requires no_five { has_five_lem R.KIND (V.position view.old) (mover (V.position view.old)) ≡ false }
     requires on { outcome_lem R.KIND (V.position view.old) q ≡ Outcome.GoesOn }
     requires none { has_five_lem R.KIND (after (V.position view.old) q) (mover (after (V.position view.old) q)) ≡ false }
     requires copy { board.old ≡ V.position view.old }
-    requires doubles { All (LeavesBoth R.KIND (V.position view.old) (other (mover (V.position view.old)))) doubles.now }
+    requires doubles { All (IsKept R.KIND (V.position view.old) (other (mover (V.position view.old)))) doubles.now }
     ensures judgement { IfOk result (IsJudgement R.KIND moves (V.position view.old) q) }
     ensures same { V.position view.new ≡ V.position view.old }
     ensures same_board { board.new ≡ board.old }
@@ -362,11 +364,11 @@ pub fn last_after<R: Rule, V: Seen<R>>(view: &mut V, board: &mut Board, q: Point
 }
 
 /// What is known after the reply `q`, which goes on, where the attacker has two more moves or more and no five point after it.
-fn judge_double<R: Rule, V: Seen<R>>(view: &mut V, q: Point, doubles: &[Double]) -> Judged
+fn judge_double<R: Rule, V: Seen<R>>(view: &mut V, q: Point, doubles: &[Kept]) -> Judged
     requires no_five { has_five_lem R.KIND (V.position view.old) (mover (V.position view.old)) ≡ false }
     requires on { outcome_lem R.KIND (V.position view.old) q ≡ Outcome.GoesOn }
     requires none { has_five_lem R.KIND (after (V.position view.old) q) (mover (after (V.position view.old) q)) ≡ false }
-    requires doubles { All (LeavesBoth R.KIND (V.position view.old) (other (mover (V.position view.old)))) doubles.now }
+    requires doubles { All (IsKept R.KIND (V.position view.old) (other (mover (V.position view.old)))) doubles.now }
     ensures judged { IsJudged R.KIND (after (V.position view.old) q) result }
     ensures enough { moves_for result ≤ 2 }
     ensures same { V.position view.new ≡ V.position view.old }
@@ -383,23 +385,34 @@ fn judge_double<R: Rule, V: Seen<R>>(view: &mut V, q: Point, doubles: &[Double])
 }
 
 /// The first of the double points that wins still after the reply `q`, if one does, where the attacker is to move.
-fn still_double<R: Rule, V: Seen<R>>(view: &mut V, q: Point, doubles: &[Double]) -> Judged
+fn still_double<R: Rule, V: Seen<R>>(view: &mut V, q: Point, doubles: &[Kept]) -> Judged
     requires none { has_five_lem R.KIND (V.position view.old) (mover (V.position view.old)) ≡ false }
     requires safe { has_five_lem R.KIND (V.position view.old) (other (mover (V.position view.old))) ≡ false }
-    requires doubles { All (λ d. IsBeside d q → LeavesBoth R.KIND (V.position view.old) (mover (V.position view.old)) d) doubles.now }
+    requires doubles { All (λ kept. IsBeside kept.double q → IsStillKept R.KIND (V.position view.old) kept) doubles.now }
     ensures judged { IsJudged R.KIND (V.position view.old) result }
     ensures enough { moves_for result ≤ 2 }
     ensures same { V.position view.new ≡ V.position view.old }
 {
-    for double in doubles {
-        if is_beside(*double, q) {
-            if let Outcome::GoesOn = view.outcome(double.at) {
-                let nodes = answers_of::<R, V>(view, *double);
-                return Judged::Double(*double, nodes);
-            }
+    for kept in doubles {
+        if is_beside(kept.double, q) && still_goes_on::<R, V>(view, *kept) {
+            let nodes = answers_to_win::<R, V>(view, kept.double);
+            return Judged::Double(kept.double, nodes);
         }
     }
     Judged::Open
+}
+
+/// Whether the double point still goes on. It leaves two five points, and the attacker, which is to move, has none.
+fn still_goes_on<R: Rule, V: Seen<R>>(view: &mut V, kept: Kept) -> bool
+    requires none { has_five_lem R.KIND (V.position view.old) (mover (V.position view.old)) ≡ false }
+    requires kept { IsStillKept R.KIND (V.position view.old) kept }
+    ensures on { result ≡ goes_on_lem (outcome_lem R.KIND (V.position view.old) kept.double.at) }
+    ensures same { V.position view.new ≡ V.position view.old }
+{
+    if kept.sure && view.board().empties() >= 2 {
+        return true;
+    }
+    matches!(view.outcome(kept.double.at), Outcome::GoesOn)
 }
 
 /// Whether a stone of the other side on `q` leaves the double point and its two five points empty.

@@ -1,12 +1,18 @@
-use Rattle.std.proofs.Common.{◌≡◌, false, ap, sym, subst, ◌∙◌}
+use Rattle.std.proofs.Common.{◌≡◌, true, false, refl, ap, sym, subst, ◌∙◌, arith, nat_eq, length, List, [], ◌∷◌}
+use Rattle.std.proofs.lemmas.Bool.Decides.{nat_tests}
 use Rattle.game_rules.proofs.Common.{Grid, is_empty, put, mover, after, has_five}
 use Rattle.game_rules.specs.declared.Side.{Side}
+use Rattle.game_rules.specs.declared.Point.{Point}
 use Rattle.threat_moves.specs.ThreeMoves.{has_double_point}
 use Rattle.threat_moves.proofs.GainLaws.{threat-by_five, threat-by_double}
-use Rattle.threat_game.specs.NearDoubles.{AreNearStones, is_some_point, some_makes_two}
+use Rattle.threat_game.specs.NearDoubles.{AreNearStones, is_some_point, points_of_two}
 use Rattle.threat_game.proofs.DoubleLaws.{some-five}
 use Rattle.threat_game.proofs.NearDoubles.{few-no_threat}
 use Rattle.threat_game.proofs.attacks.leaves_threat.Goals as goal
+
+nil-by : (ps : List Point) → nat_eq (length ps) 0 ≡ true → ps ≡ []
+nil-by [] h = refl
+nil-by (p ∷ ps) h = absurd (grind (arith, nat_tests))
 
 pub returns-then-not-some-clause-threat : goal.returns-then-not-some-clause-threat
 returns-then-not-some-clause-threat g c =
@@ -15,7 +21,7 @@ returns-then-not-some-clause-threat g c =
     (subst (λ (w : Grid). AreNearStones w c.side-side.result c.args.p c.near_stones-near.result) c.requires.copy
     c.near_stones-near.ensures.near) in
     few-no_threat b (mover b) c.args.p c.near_stones-near.result near g.R.Rule.KIND c.side-side.ensures.lawful.board c.requires.empty
-    c.requires.none (sym c.some.ensures.some ∙ c.if-not-some.true) (sym c.requires.loud ∙ c.if-not-loud.true)
+    c.requires.none (sym c.some.ensures.some ∙ c.if-not-some.true) (sym c.requires.twos ∙ nil-by c.args.twos.now (sym c.is_empty.ensures ∙ c.if-is_empty.true))
 
 pub fives_by-requires-clause-near : goal.fives_by-requires-clause-near
 fives_by-requires-clause-near g c =
@@ -34,12 +40,12 @@ returns-then-is_some_point-clause-threat g c =
 pub leaves_double-requires-clause-empty : goal.leaves_double-requires-clause-empty
 leaves_double-requires-clause-empty g c = ap (λ (w : Grid). is_empty w c.args.p) c.requires.copy ∙ c.requires.empty
 
-pub leaves_double-requires-clause-loud : goal.leaves_double-requires-clause-loud
-leaves_double-requires-clause-loud g c =
+pub leaves_double-requires-clause-twos : goal.leaves_double-requires-clause-twos
+leaves_double-requires-clause-twos g c =
     let b : Grid = g.V.Seen.position c.args.view.now in
-    c.requires.loud
-    ∙ ap (some_makes_two g.R.Rule.KIND b) (sym c.side-side.ensures.side)
-    ∙ ap (λ (w : Grid). some_makes_two g.R.Rule.KIND w c.side-side.result) (sym c.requires.copy)
+    c.requires.twos
+    ∙ ap (points_of_two g.R.Rule.KIND b) (sym c.side-side.ensures.side)
+    ∙ ap (λ (w : Grid). points_of_two g.R.Rule.KIND w c.side-side.result) (sym c.requires.copy)
 
 pub leaves_double-requires-clause-none : goal.leaves_double-requires-clause-none
 leaves_double-requires-clause-none g c =

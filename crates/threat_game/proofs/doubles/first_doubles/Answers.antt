@@ -1,10 +1,19 @@
 use Rattle.std.proofs.Common.{◌≡◌, ap, sym, subst, ◌∙◌, List, All}
 use Rattle.std.proofs.lemmas.List.Elements.{All-push}
 use Rattle.game_rules.specs.Grid.{Grid, is_empty}
+use Rattle.game_rules.specs.Games.{is_double_point}
+use Rattle.game_rules.specs.declared.Point.{Point}
 use Rattle.threat_moves.proofs.GainLaws.{double-empty}
-use Rattle.threat_game.specs.declared.doubles.Double.{Double}
-use Rattle.threat_game.specs.Attacks.{LeavesBoth}
+use Rattle.threat_game.specs.declared.doubles.Kept.{Kept}
+use Rattle.threat_game.specs.Attacks.{IsKept, LeavesBoth, StaysFree}
 use Rattle.threat_game.proofs.doubles.first_doubles.Goals as goal
+
+pub is_sure-sure-requires : goal.is_sure-sure-requires
+is_sure-sure-requires g c =
+    record {
+      double = ap (λ (b : Grid). is_double_point g.R.Rule.KIND b c.args.side c.in-Some.p) c.is_new_double_point.ensures.same
+          ∙ sym c.is_new_double_point.ensures.double ∙ c.if-is_new_double_point.true;
+    }
 
 pub double_at-requires : goal.double_at-requires
 double_at-requires g c =
@@ -16,12 +25,18 @@ double_at-requires g c =
 
 pub loop-p-preserved-in_ok-push : goal.loop-p-preserved-in_ok-push
 loop-p-preserved-in_ok-push g c =
+    let b : Grid = c.args.board.now in
     let both = rw c.in-Some-2.is at c.in_ok-double.ensures.both in
-    let same : c.is_new_double_point.new.board ≡ c.args.board.now = c.is_new_double_point.ensures.same ∙ c.loop-p.invariant.0 in
-    let here : LeavesBoth g.R.Rule.KIND c.args.board.now c.args.side c.in-Some-2.double =
-    subst (λ (w : Grid). LeavesBoth g.R.Rule.KIND w c.args.side c.in-Some-2.double) same both in (
+    let at = rw c.in-Some-2.is at c.in_ok-double.ensures.here in
+    let same : c.is_new_double_point.new.board ≡ b = c.is_new_double_point.ensures.same ∙ c.loop-p.invariant.0 in
+    let leaves : LeavesBoth g.R.Rule.KIND b c.args.side c.in-Some-2.double =
+    subst (λ (w : Grid). LeavesBoth g.R.Rule.KIND w c.args.side c.in-Some-2.double) same both in
+    let here : IsKept g.R.Rule.KIND b c.args.side (record { double = c.in-Some-2.double; sure = c.is_sure-sure.result }) = record {
+      both = leaves;
+      free = λ sure. subst (λ (p : Point). StaysFree g.R.Rule.KIND b c.args.side p) (sym at)
+          (subst (λ (w : Grid). StaysFree g.R.Rule.KIND w c.args.side c.in-Some.p) same (c.is_sure-sure.ensures.sure sure));
+    } in (
       c.double_at.ensures.same ∙ same,
-      subst (λ (ds : List Double). All (LeavesBoth g.R.Rule.KIND c.args.board.now c.args.side) ds) (sym c.in_ok-push.ensures.items)
-          (All-push (LeavesBoth g.R.Rule.KIND c.args.board.now c.args.side) c.loop-p.found.items c.in-Some-2.double c.loop-p.invariant.1
-          here),
+      subst (λ (ds : List Kept). All (IsKept g.R.Rule.KIND b c.args.side) ds) (sym c.in_ok-push.ensures.items)
+          (All-push (IsKept g.R.Rule.KIND b c.args.side) c.loop-p.found.items _ c.loop-p.invariant.1 here),
     )

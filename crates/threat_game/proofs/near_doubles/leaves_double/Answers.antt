@@ -1,5 +1,6 @@
-use Rattle.std.proofs.Common.{ap, sym, subst, ◌∙◌}
-use Rattle.game_rules.specs.Grid.{Grid, lift}
+use Rattle.std.proofs.Common.{ap, sym, subst, ◌∙◌, List}
+use Rattle.game_rules.specs.Grid.{Grid, lift, put}
+use Rattle.game_rules.specs.declared.Point.{Point}
 use Rattle.game_rules.proofs.Boards.{is_empty-on, lift-put}
 use Rattle.stone_board.specs.Steps.{holds_stone}
 use Rattle.stone_board.proofs.Stones.{put-holds_stone}
@@ -13,10 +14,11 @@ has_double-double-requires-clause-near g c =
     (near-put c.args.board.now c.args.side c.args.p c.args.near c.requires.near (is_empty-on c.args.board.now c.args.p c.requires.empty))
 
 pub has_double-double-requires-clause-far : goal.has_double-double-requires-clause-far
-has_double-double-requires-clause-far g c = λ h.
-    subst (λ (b : Grid). DoublesAreNear g.R.Rule.KIND b c.args.side c.args.p) (sym c.put.ensures.put)
-    (doubles-near g.R.Rule.KIND c.args.board.now c.args.side c.args.p c.put.ensures.board c.requires.empty c.requires.none
-    (sym c.requires.loud ∙ h))
+has_double-double-requires-clause-far g c =
+    subst (λ (b : Grid). DoublesAreNear g.R.Rule.KIND b c.args.side c.args.p c.args.twos.now) (sym c.put.ensures.put)
+    (subst (λ (ps : List Point). DoublesAreNear g.R.Rule.KIND (put c.args.board.now c.args.side c.args.p) c.args.side c.args.p ps)
+    (sym c.requires.twos)
+    (doubles-near g.R.Rule.KIND c.args.board.now c.args.side c.args.p c.put.ensures.board c.requires.empty c.requires.none))
 
 pub lift-requires : goal.lift-requires
 lift-requires g c =

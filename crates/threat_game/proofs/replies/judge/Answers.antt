@@ -2,7 +2,8 @@ use Rattle.std.proofs.Common.{◌≡◌, ap, sym, subst, refl, ◌∙◌, arith,
 use Rattle.game_rules.proofs.Common.{Grid, has_five, outcome, mover, other, after}
 use Rattle.game_rules.specs.declared.Outcome.TheVariants.{GoesOn}
 use Rattle.game_rules.proofs.Outcomes.{goes_on-is}
-use Rattle.threat_game.proofs.Common.{LeavesBoth, IsJudgement}
+use Rattle.threat_game.specs.Attacks.{IsKept}
+use Rattle.threat_game.proofs.Common.{IsJudgement}
 use Rattle.threat_game.specs.declared.replies.Judged.TheVariants.{Five}
 use Rattle.threat_game.proofs.ReplyLaws.{first-beside, none-beside, child-is}
 use Rattle.threat_game.proofs.replies.judge.Goals as goal
@@ -36,7 +37,7 @@ judge_quiet-requires-clause-none g c =
 
 pub judge_quiet-requires-clause-doubles : goal.judge_quiet-requires-clause-doubles
 judge_quiet-requires-clause-doubles g c =
-    subst (λ (b : Grid). All (LeavesBoth g.R.Rule.KIND b (other (mover b))) c.args.doubles.now) (sym c.goes_on_where.ensures.same)
+    subst (λ (b : Grid). All (IsKept g.R.Rule.KIND b (other (mover b))) c.args.doubles.now) (sym c.goes_on_where.ensures.same)
     c.requires.doubles
 
 pub judge_quiet-requires-clause-copy : goal.judge_quiet-requires-clause-copy

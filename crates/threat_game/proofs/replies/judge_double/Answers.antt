@@ -7,8 +7,9 @@ use Rattle.threat_game.specs.NearDoubles.{AreNearStones}
 use Rattle.game_rules.proofs.Positions.{GoesOn-empty, mover-other}
 use Rattle.row_shapes.proofs.FiveLaws.{has_five-none}
 use Rattle.game_rules.proofs.Undo.{stone_back, lift_back, unwon_back}
-use Rattle.threat_game.proofs.Common.{LeavesBoth, IsBeside, IsJudged}
-use Rattle.threat_game.proofs.ReplyLaws.{all-kept}
+use Rattle.threat_game.specs.Attacks.{IsStillKept}
+use Rattle.threat_game.proofs.Common.{IsBeside, IsJudged}
+use Rattle.threat_game.proofs.KeptDoubles.{all-still}
 use Rattle.threat_game.proofs.replies.judge_double.Goals as goal
 
 pub near_stones-near-requires : goal.near_stones-near-requires
@@ -42,9 +43,9 @@ still_double-found-requires-clause-safe g c =
 pub still_double-found-requires-clause-doubles : goal.still_double-found-requires-clause-doubles
 still_double-found-requires-clause-doubles g c =
     let b : Grid = g.V.Seen.position c.args.view.now in
-    subst (λ (w : Grid). All (λ d. IsBeside d c.args.q → LeavesBoth g.R.Rule.KIND w (mover w) d) c.args.doubles.now)
+    subst (λ (w : Grid). All (λ kept. IsBeside kept.double c.args.q → IsStillKept g.R.Rule.KIND w kept) c.args.doubles.now)
     (sym c.play.ensures.played)
-    (all-kept g.R.Rule.KIND b c.args.q c.play.ensures.lawful c.requires.on c.args.doubles.now c.requires.doubles)
+    (all-still g.R.Rule.KIND b c.args.q c.play.ensures.lawful c.requires.on c.args.doubles.now c.requires.doubles)
 
 pub undo-requires-clause-stone : goal.undo-requires-clause-stone
 undo-requires-clause-stone g c =

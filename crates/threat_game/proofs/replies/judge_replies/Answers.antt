@@ -4,8 +4,8 @@ use Rattle.threat_game.proofs.Common.{AreJudged, counted_for, kept_children}
 use Rattle.threat_game.proofs.ReplyLaws.{are-children, judged-short}
 use Rattle.game_rules.proofs.Common.{Grid, five_points, mover, other}
 use Rattle.game_rules.specs.declared.Side.{Side}
-use Rattle.threat_game.specs.declared.doubles.Double.{Double}
-use Rattle.threat_game.specs.Attacks.{LeavesBoth}
+use Rattle.threat_game.specs.declared.doubles.Kept.{Kept}
+use Rattle.threat_game.specs.Attacks.{IsKept}
 use Rattle.threat_game.proofs.replies.judge_replies.Goals as goal
 
 pub doubles_for-requires : goal.doubles_for-requires
@@ -24,9 +24,9 @@ pub each_reply-requires-clause-doubles : goal.each_reply-requires-clause-doubles
 each_reply-requires-clause-doubles g c =
     let b : Grid = g.V.Seen.position c.args.view.now in
     let same : c.other-attacker.result ≡ other (mover b) = c.other-attacker.ensures.other ∙ ap other c.side.ensures.side in
-    subst (λ (ds : List Double). All (LeavesBoth g.R.Rule.KIND b (other (mover b))) ds) (sym c.as_slice.ensures.value)
-    (subst (λ (s : Side). All (LeavesBoth g.R.Rule.KIND b s) c.in_ok-doubles.doubles.items) same
-    (subst (λ (w : Grid). All (LeavesBoth g.R.Rule.KIND w c.other-attacker.result) c.in_ok-doubles.doubles.items) c.requires.copy
+    subst (λ (ds : List Kept). All (IsKept g.R.Rule.KIND b (other (mover b))) ds) (sym c.as_slice.ensures.value)
+    (subst (λ (s : Side). All (IsKept g.R.Rule.KIND b s) c.in_ok-doubles.doubles.items) same
+    (subst (λ (w : Grid). All (IsKept g.R.Rule.KIND w c.other-attacker.result) c.in_ok-doubles.doubles.items) c.requires.copy
     c.in_ok-doubles.ensures.each))
 
 pub children_of-requires-clause-short : goal.children_of-requires-clause-short

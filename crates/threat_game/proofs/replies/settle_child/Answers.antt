@@ -1,11 +1,10 @@
-use Rattle.std.proofs.Common.{◌≡◌, ◌∙◌, ◌≤◌, ℕ, true, ap, sym, subst, arith}
+use Rattle.std.proofs.Common.{◌≡◌, ◌∙◌, true, ap, sym, subst, arith}
 use Rattle.threat_game.specs.declared.replies.Judged.{Judged}
 use Rattle.threat_game.proofs.Common.{moves_for, stands_for}
 use Rattle.threat_game.proofs.Kept.{last-stands, standing-double, standing-five, two-stands}
 use Rattle.game_rules.proofs.Undo.{stone_back, lift_back, unwon_back}
 use Rattle.game_rules.proofs.Common.{Grid, after, points_of}
 use Rattle.game_rules.proofs.Positions.{IsPosition-after}
-use Rattle.threat_game.specs.declared.replies.Judged.TheVariants.{Double as DoubleWins}
 use Rattle.threat_game.proofs.WrittenLaws.{double-settled, double-wins, five-settled, last-settled}
 use Rattle.threat_game.proofs.replies.settle_child.Goals as goal
 

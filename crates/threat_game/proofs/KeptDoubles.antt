@@ -1,0 +1,95 @@
+-- Double points that are kept to settle replies by: each stays what it is after a stone of the other side beside it. The replies to a
+-- double point that wins.
+use Rattle.std.specs.List.{count_by}
+use Rattle.std.proofs.Common.{◌≡◌, ◌≤◌, ◌<◌, nat_le, Bool, true, false, ◌&&◌, not, refl, sym, ap, ◌∙◌, arith, List, All, Option, Some, None, is_none, nat_eq}
+use Rattle.game_rules.specs.declared.RuleKind.{RuleKind}
+use Rattle.game_rules.specs.declared.RuleKind.TheVariants.{Freestyle, Exact, Renju}
+use Rattle.game_rules.specs.declared.Side.{Side}
+use Rattle.game_rules.specs.declared.Side.TheVariants.{Black, White}
+use Rattle.game_rules.specs.declared.Foul.{Foul}
+use Rattle.game_rules.specs.declared.Outcome.TheVariants.{GoesOn}
+use Rattle.game_rules.specs.declared.Point.{Point}
+use Rattle.game_rules.proofs.Common.{Grid, IsBoard, IsPosition, axes, is_empty, put, outcome, outcome_by, mover, other, after, five, foul_of}
+use Rattle.game_rules.proofs.Common.{empties_of, has_five, has_fouls, is_same_point, is_double_point, goes_on}
+use Rattle.game_rules.proofs.Boards.{and_left, and_right, empties_of-put, is_empty-on, other-other}
+use Rattle.game_rules.proofs.Fives.{five-empty}
+use Rattle.game_rules.proofs.PointLists.{other_first}
+use Rattle.game_rules.proofs.Points.{points-found}
+use Rattle.game_rules.proofs.Positions.{GoesOn-empty, mover-then}
+use Rattle.game_rules.proofs.Wins.{no_five}
+use Rattle.row_shapes.specs.Reach.{stones_in_reach}
+use Rattle.threat_moves.proofs.GainLaws.{double-empty}
+use Rattle.threat_game.specs.declared.doubles.Double.{Double}
+use Rattle.threat_game.specs.declared.doubles.Kept.{Kept}
+use Rattle.threat_game.specs.Attacks.{IsDoubleWin, IsKept, IsStillKept, StaysFree}
+use Rattle.threat_game.specs.Replies.{answer_nodes, has_reply_at, has_reply_beside}
+use Rattle.threat_game.proofs.Common.{IsBeside}
+use Rattle.threat_game.proofs.FreeMoves.{not_one, each-goes_on, double-safe, reply-at}
+use Rattle.threat_game.proofs.QuietLaws.{rows-free}
+use Rattle.threat_game.proofs.ReplyLaws.{both-kept}
+
+-- a double point is no foul
+double-none : (rule : RuleKind) (b : Grid) (s : Side) (p : Point) → is_double_point rule b s p ≡ true → foul_of rule b s p ≡ None
+unfolding is_double_point
+double-none rule b s p double = none_of (foul_of rule b s p)
+    (and_right (is_empty b p && not (five rule b s p)) _ (and_left _ _ double)) where
+      none_of : (o : Option Foul) → is_none o ≡ true → o ≡ None
+      none_of None h = refl
+      none_of (Some f) h = cc
+
+-- and with too few stones within reach for two threes it stays none
+pub double-free : (rule : RuleKind) (b : Grid) (s : Side) (p : Point) → IsBoard b → is_double_point rule b s p ≡ true
+    → has_fouls rule s ≡ true → count_by (λ d. nat_le 2 (stones_in_reach b Black d p)) axes < 2 → StaysFree rule b s p
+double-free Renju b Black p ok double fouls rows = λ z free apart.
+    rows-free Renju b p ok (double-empty Renju b Black p double) rows (double-none Renju b Black p double) z free apart
+double-free Renju b White p ok double fouls rows = cc
+double-free Freestyle b s p ok double fouls rows = cc
+double-free Exact b s p ok double fouls rows = cc
+
+not-true : (r : Bool) → not r ≡ true → r ≡ false
+not-true true h = cc
+not-true false h = refl
+
+module _ (rule : RuleKind) (c : Grid) (q : Point) (lawful : IsPosition rule c) (on : outcome rule c q ≡ GoesOn) where
+  -- one that is kept stays so after a reply beside it
+  kept-still : (kept : Kept) → IsKept rule c (other (mover c)) kept → IsBeside kept.double q → IsStillKept rule (after c q) kept
+  kept-still kept is beside = record {
+    both = both-kept rule c q lawful on kept.double is.both beside;
+    free = λ sure.
+        ap (λ (s : Side). foul_of rule (after c q) s kept.double.at) (mover-then rule c q lawful on)
+        ∙ ap (λ (s : Side). foul_of rule (put c s q) (other (mover c)) kept.double.at) (sym (other-other (mover c)))
+        ∙ is.free sure q (GoesOn-empty rule c q on) (not-true (is_same_point kept.double.at q)
+        (and_left (not (is_same_point kept.double.at q)) _
+        (and_left (not (is_same_point kept.double.at q) && not (is_same_point kept.double.first q)) _ beside)));
+  }
+
+  pub all-still : (all : List Kept) → All (IsKept rule c (other (mover c))) all
+      → All (λ kept. IsBeside kept.double q → IsStillKept rule (after c q) kept) all
+  all-still all are i kept within beside = kept-still _ (are i kept within) beside
+
+-- a double point that is no foul goes on where its side has no five point and another point is empty
+pub still-goes_on : (rule : RuleKind) (b : Grid) (p : Point) → is_empty b p ≡ true → has_five rule b (mover b) ≡ false
+    → foul_of rule b (mover b) p ≡ None → 2 ≤ empties_of b → outcome rule b p ≡ GoesOn
+unfolding outcome
+still-goes_on rule b p empty none free many =
+    ap (λ e. outcome_by e (five rule b (mover b) p) (foul_of rule b (mover b) p) (nat_eq (empties_of b) 1)) empty
+    ∙ ap (λ f. outcome_by true f (foul_of rule b (mover b) p) (nat_eq (empties_of b) 1)) (no_five rule b (mover b) p none)
+    ∙ ap (λ (o : Option Foul). outcome_by true false o (nat_eq (empties_of b) 1)) free
+    ∙ ap (λ l. outcome_by true false None l) (not_one (empties_of b) many)
+
+-- where the other side has no fouls and enough points are empty, both replies to a double point that wins are there
+pub both-replies : (rule : RuleKind) (b : Grid) (d : Double) → IsPosition rule b → IsDoubleWin rule b d
+    → has_fouls rule (other (mover b)) ≡ false → 3 ≤ empties_of b → 2 ≡ answer_nodes rule b d
+both-replies rule b d lawful wins calm many =
+    let c : Grid = after b d.at in
+    let free : has_fouls rule (mover c) ≡ false = ap (has_fouls rule) (mover-then rule b d.at lawful wins.on) ∙ calm in
+    let fewer = empties_of-put b (mover b) d.at lawful.board (GoesOn-empty rule b d.at wins.on) in
+    let each = each-goes_on rule c (double-safe rule b d lawful wins) free (omega (arith, fewer, many)) in
+    let first : outcome rule c d.first ≡ GoesOn = each.on d.first (five-empty rule c (mover b) d.first wins.both.first) in
+    let second : outcome rule c d.second ≡ GoesOn = each.on d.second (five-empty rule c (mover b) d.second wins.both.second) in
+    let at : has_reply_at rule c d.first ≡ true = sym (reply-at rule c d.first) ∙ ap goes_on first in
+    let beside : has_reply_beside rule c d.first ≡ true =
+    points-found c (λ q. goes_on (outcome rule c q) && not (is_same_point q d.first)) d.second
+    (is_empty-on c d.second (five-empty rule c (mover b) d.second wins.both.second))
+    (rw (second, other_first d.first d.second wins.both.apart) refl) in
+    rw (at, beside) refl
