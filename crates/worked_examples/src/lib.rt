@@ -22,6 +22,8 @@ mod drills;
 mod fouls;
 #[cfg(test)]
 mod fours;
+#[cfg(test)]
+mod full;
 mod held_sessions;
 #[cfg(test)]
 mod images;
