@@ -6,9 +6,10 @@ use Rattle.std.specs.Cmp.{both_ways}
 use Rattle.std.specs.List.{list_any, list_all, sum_by, count_by}
 use Rattle.std.proofs.lemmas.List.Sums.{sum_by-cons}
 use Rattle.game_rules.specs.Grid.{is_empty, is_empty_cell, is_stone_of, cell_at, put, axes, points_within, stones_of, empties_of}
-use Rattle.game_rules.specs.Shapes.{run_of, five, fours_of, is_three_point, three_points_of}
-use Rattle.game_rules.specs.Play.{first_foul, is_three, stone_foul, black_foul_within, black_foul, has_fouls, foul_of, mover, outcome}
-use Rattle.game_rules.specs.Play.{outcome_by, after}
+use Rattle.game_rules.specs.Shapes.{run_of, five, fours_of, is_three_point}
+use Rattle.game_rules.proofs.Common.{first_foul, outcome_by}
+use Rattle.game_rules.specs.Play.{is_three, stone_foul, black_foul_within, black_foul, has_fouls, foul_of, mover, outcome}
+use Rattle.game_rules.specs.Play.{after}
 use Rattle.game_rules.specs.declared.Cell.{Cell}
 use Rattle.game_rules.specs.declared.Side.{Side}
 use Rattle.game_rules.specs.declared.Side.TheVariants.{Black, White}
@@ -97,7 +98,7 @@ module _ (w h : ℕ) (to from : Point → Point) (turn : Turn w h to from) where
     module _ (rule : RuleKind) (p : Point) (on : within w h p ≡ true) (foul_at foul_there : Point → Option Foul)
         (alike : (q : Point) → within w h q ≡ true → foul_there (to q) ≡ foul_at q) where
       three_of-same : (d : Axis) → is_three rule (grid w h ys) (turn.axis d) (to p) foul_there ≡ is_three rule (grid w h xs) d p foul_at
-      unfolding is_three three_points_of
+      unfolding is_three
       three_of-same d =
           any-filter (is_three_point rule (grid w h ys) Black (turn.axis d) (to p)) (λ q. is_none (foul_there q)) (points_within w h)
           ∙ points-any (λ q. is_three_point rule (grid w h xs) Black d p q && is_none (foul_at q))

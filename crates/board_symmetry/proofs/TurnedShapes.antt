@@ -7,7 +7,8 @@ use Rattle.std.specs.List.{list_any, range_with_len}
 use Rattle.std.proofs.lemmas.Bool.{or_left, or_right, or_cases}
 use Rattle.game_rules.specs.Grid.{Grid, is_empty, put, along}
 use Rattle.game_rules.specs.Fours.{count_fours}
-use Rattle.game_rules.specs.Shapes.{stone_at, stones_ahead, stones_behind, run_of, wins_at, five, fours_of, place_stone, place_wins}
+use Rattle.game_rules.proofs.Common.{place_stone, place_wins}
+use Rattle.game_rules.specs.Shapes.{stone_at, stones_ahead, stones_behind, run_of, wins_at, five, fours_of}
 use Rattle.game_rules.specs.Shapes.{is_straight, is_at, is_in_run, gives_straight, is_three_point}
 use Rattle.game_rules.specs.Ways.{go, opposite, stones_towards, run_end}
 use Rattle.game_rules.specs.declared.Cell.{Cell}

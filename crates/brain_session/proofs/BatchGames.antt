@@ -7,7 +7,8 @@ use Rattle.std.proofs.lemmas.List.Sums.{fold_more, sum_by-cons}
 use Rattle.std.proofs.lemmas.Bool.Decides.{nat_tests}
 use Rattle.game_rules.specs.Grid.{Grid, is_on, is_empty, put, IsBoard, is_stone_of, stone_of, stones_of}
 use Rattle.game_rules.specs.Shapes.{is_same_point}
-use Rattle.game_rules.specs.Play.{other, NamesMover, mover}
+use Rattle.game_rules.proofs.Common.{NamesMover}
+use Rattle.game_rules.specs.Play.{other, mover}
 use Rattle.game_rules.specs.declared.Side.{Side}
 use Rattle.game_rules.specs.declared.Point.{Point}
 use Rattle.game_rules.specs.declared.Side.TheVariants.{Black, White}

@@ -8,7 +8,7 @@ use Rattle.std.proofs.lemmas.Bool.{or_right}
 use Rattle.std.proofs.lemmas.Bool.Decides.{nat_tests}
 use Rattle.game_rules.proofs.Common.{Grid, IsBoard, is_empty, put, is_on, along, axes, points_of, holds, stone_foul, black_foul}
 use Rattle.game_rules.proofs.Common.{black_foul_within, is_three, row_wins, run_of, stone_at, wins_on, wins_at, place_stone, place_wins}
-use Rattle.game_rules.proofs.Common.{fours_of, is_line_three_point, is_line_three_at, is_three_point, three_points_of, five, opposite}
+use Rattle.game_rules.proofs.Common.{fours_of, is_line_three_point, is_line_three_at, is_three_point, five, opposite}
 use Rattle.game_rules.proofs.Common.{towards, stones_towards, go}
 use Rattle.game_rules.specs.declared.RuleKind.{RuleKind}
 use Rattle.game_rules.specs.declared.Foul.{Foul}
@@ -187,7 +187,7 @@ module _ (b : Grid) (q z : Point) (ok : IsBoard b) (free_q : is_empty b q ≡ tr
 
     -- an axis that is a three with the white stone had a three point without it
     three_kept : (d : Axis) (f : Point → Option Foul) → is_three rule late d q f ≡ true → has_line_three rule early d q ≡ true
-    unfolding is_three three_points_of has_line_three
+    unfolding is_three has_line_three
     three_kept d f h =
         let some = some_passes (λ r. is_none (f r)) (is_three_point rule late Black d q) (points_of late) h in
         let r = some.0 in

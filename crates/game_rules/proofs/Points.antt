@@ -6,10 +6,9 @@ use Rattle.std.specs.Prelude.{Option, Some, None, nat_lt, ◌==◌}
 use Rattle.std.proofs.lemmas.Bool.{false_from_ne_true}
 use Rattle.std.proofs.lemmas.Bool.Decides.{nat_tests}
 use Rattle.std.proofs.lemmas.List.Folds.{list_any-append}
-use Rattle.game_rules.proofs.Common.{Grid, is_on, is_empty, points_of, row_from, precedes, five, is_at, is_same_point, outcome, outcome_by}
-use Rattle.game_rules.proofs.Common.{foul_of, mover, WinsOr}
+use Rattle.game_rules.proofs.Common.{Grid, is_on, is_empty, points_of, row_from, precedes, is_at, is_same_point, outcome}
+use Rattle.game_rules.proofs.Common.{WinsOr}
 use Rattle.game_rules.specs.declared.RuleKind.{RuleKind}
-use Rattle.game_rules.specs.declared.Foul.{Foul}
 use Rattle.game_rules.specs.declared.Outcome.{Outcome}
 use Rattle.game_rules.specs.declared.Point.{Point}
 use Rattle.game_rules.specs.declared.Outcome.TheVariants.{Refused}
@@ -152,18 +151,14 @@ filter-some f w more (p ∷ ps) h = by_test (f p) refl h (filter-some f w more p
   by_test true e k rest = refl
   by_test false e k rest = rest k
 
-refused_by : (f l : Bool) (o : Option Foul) → outcome_by false f o l ≡ Refused
-refused_by f l None = refl
-refused_by f l (Some g) = refl
-
 -- a point that is not empty is refused, and so is a point off the board
 pub taken_refused : (rule : RuleKind) (b : Grid) (q : Point) → is_empty b q ≡ false → outcome rule b q ≡ Refused
 unfolding outcome
-taken_refused rule b q h = rw h (refused_by (five rule b (mover b) q) _ (foul_of rule b (mover b) q))
+taken_refused rule b q h = rw h refl
 
 pub off_refused : (rule : RuleKind) (b : Grid) (q : Point) → is_on b q ≡ false → outcome rule b q ≡ Refused
 unfolding outcome
-off_refused rule b q h = rw h (refused_by (five rule b (mover b) q) _ (foul_of rule b (mover b) q))
+off_refused rule b q h = rw h refl
 
 -- a move that wins, or goes on, is on the board
 pub WinsOr-on : (rule : RuleKind) (b : Grid) (p : Point) (W : Type 0) → WinsOr (outcome rule b p) W → is_on b p ≡ true

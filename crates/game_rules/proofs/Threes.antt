@@ -5,7 +5,7 @@ use Rattle.std.proofs.lemmas.Bool.Decides.{nat_tests}
 use Rattle.std.proofs.Math.Bool.{and-true, and-false}
 use Rattle.std.specs.List.{list_any}
 use Rattle.game_rules.proofs.Common.{Grid, holds, along, is_empty, is_on, points_of, wins_at, is_straight, stones_ahead, stones_behind}
-use Rattle.game_rules.proofs.Common.{wins_on, is_line_three_point, is_line_three_at, is_three_point, five, three_points_of, towards}
+use Rattle.game_rules.proofs.Common.{wins_on, is_line_three_point, is_line_three_at, is_three_point, five, towards}
 use Rattle.game_rules.proofs.Common.{opposite, stones_towards, black_foul, is_three}
 use Rattle.game_rules.specs.declared.RuleKind.{RuleKind}
 use Rattle.game_rules.specs.declared.Side.{Side}
@@ -83,7 +83,7 @@ module _ (rule : RuleKind) (b : Grid) (d : Axis) (p : Point) where
 
   pub is_three-free : is_three rule b d p (black_foul rule b) ≡ list_any
       (λ q. is_three_point rule b Black d p q && is_none (black_foul rule b q)) (points_of b)
-  unfolding is_three three_points_of
+  unfolding is_three
   is_three-free = any-filter (is_three_point rule b Black d p) (λ q. is_none (black_foul rule b q)) (points_of b)
 
   -- an axis with no three point, as far as it decides, is no three

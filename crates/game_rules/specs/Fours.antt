@@ -16,14 +16,9 @@ is_among x xs = list_any (λ y. x == y) xs
 abbrev pub completes : List ℕ → ℕ → Bool
 completes set c = list_any (λ a. list_all (λ i. i == c || is_among i set) (range_with_len a 5)) (range_with_len 0 5)
 
--- the places that complete a set of four to five in a row
-abbrev pub completing : List ℕ → List ℕ
-completing set = filter (completes set) (range_with_len 0 9)
-
--- the sets of four places that hold place 4 and that some place completes
-abbrev pub four_sets : List (List ℕ)
-four_sets = filter (λ set. is_among 4 set && list_any (completes set) (range_with_len 0 9)) (choose 4 (range_with_len 0 9))
-
--- how many of the sets of four_sets hold stones alone and are completed by a place that wins
+-- how many of the sets of four places that hold place 4, and that some place completes, hold stones alone and are completed by a
+-- place that wins
 abbrev pub count_fours : (ℕ → Bool) → (ℕ → Bool) → ℕ
-count_fours stone wins = count_by (λ set. list_all stone set && list_any wins (completing set)) four_sets
+count_fours stone wins =
+    count_by (λ set. list_all stone set && list_any wins (filter (completes set) (range_with_len 0 9)))
+    (filter (λ set. is_among 4 set && list_any (completes set) (range_with_len 0 9)) (choose 4 (range_with_len 0 9)))

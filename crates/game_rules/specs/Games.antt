@@ -8,24 +8,21 @@ use Rattle.game_rules.specs.Play.{outcome, foul_of, mover, after}
 use Rattle.game_rules.specs.declared.RuleKind.{RuleKind}
 use Rattle.game_rules.specs.declared.Side.{Side}
 use Rattle.game_rules.specs.declared.Outcome.{Outcome}
-use Rattle.game_rules.specs.declared.Outcome.TheVariants.{Refused, Wins, Fouls, Draws, GoesOn}
+use Rattle.game_rules.specs.declared.Outcome.TheVariants.{Refused, Wins, Fouls, GoesOn}
 use Rattle.game_rules.specs.declared.Point.{Point}
 
 -- what the attacker needs of a move with this outcome: it wins, or the game goes on and W holds
 abbrev pub WinsOr : Outcome → Type 0 → Type 0
-WinsOr Refused W = ⊥
 WinsOr Wins W = Unit {0}
-WinsOr (Fouls f) W = ⊥
-WinsOr Draws W = ⊥
 WinsOr GoesOn W = W
+WinsOr o W = ⊥
 
 -- what the attacker needs of a reply with this outcome: it is no move, it fouls, or the game goes on and W holds
 abbrev pub LosesOr : Outcome → Type 0 → Type 0
 LosesOr Refused W = Unit {0}
-LosesOr Wins W = ⊥
 LosesOr (Fouls f) W = Unit {0}
-LosesOr Draws W = ⊥
 LosesOr GoesOn W = W
+LosesOr o W = ⊥
 
 -- The side to move wins within n moves of its own, whatever the replies: some move wins, or it goes on, leaves a board
 -- that meets the demand of its side, and each reply is no move, fouls, or leads to a win within n - 1 moves. Within 0
@@ -72,19 +69,16 @@ WinsAfter rule n b = (q : Point) → LosesOr (outcome rule b q) (WinsWithin rule
 
 -- the test of WinsOr
 abbrev pub wins_or : Outcome → Bool → Bool
-wins_or Refused w = false
 wins_or Wins w = true
-wins_or (Fouls f) w = false
-wins_or Draws w = false
 wins_or GoesOn w = w
+wins_or o w = false
 
 -- the test of LosesOr
 abbrev pub loses_or : Outcome → Bool → Bool
 loses_or Refused w = true
-loses_or Wins w = false
 loses_or (Fouls f) w = true
-loses_or Draws w = false
 loses_or GoesOn w = w
+loses_or o w = false
 
 -- whether the move p wins, or goes on, meets the demand, and each reply is no move, fouls, or leads to a board that next
 -- says is won
@@ -116,11 +110,8 @@ four_move rule (suc n) b =
 
 -- n where the game goes on, and else 0
 abbrev pub if_goes_on : Outcome → ℕ → ℕ
-if_goes_on Refused n = 0
-if_goes_on Wins n = 0
-if_goes_on (Fouls f) n = 0
-if_goes_on Draws n = 0
 if_goes_on GoesOn n = n
+if_goes_on o n = 0
 
 -- the sum of the counts at the boards after each reply at c that goes on
 abbrev pub behind_replies : RuleKind → (Grid → ℕ) → Grid → ℕ

@@ -56,8 +56,7 @@ is_stone_of White WhiteStone = true
 -- whether the cell is empty
 abbrev pub is_empty_cell : Cell → Bool
 is_empty_cell Empty = true
-is_empty_cell BlackStone = false
-is_empty_cell WhiteStone = false
+is_empty_cell c = false
 
 -- whether the point is on the board and empty
 abbrev pub is_empty : Grid → Point → Bool
@@ -105,9 +104,8 @@ shift n ahead back = if nat_le back (n + ahead) then Some (n + ahead - back) els
 
 -- the point with these coordinates, if there are both
 abbrev pub point_of : Option ℕ → Option ℕ → Option Point
-point_of None y = None
-point_of (Some x) None = None
 point_of (Some x) (Some y) = Some (record { x = x; y = y })
+point_of x y = None
 
 -- the point so many steps ahead on the axis, and so many back again, if its coordinates are not below 0
 abbrev pub along : Axis → Point → ℕ → ℕ → Option Point

@@ -1,39 +1,36 @@
 -- Runs, five points, fours, straight fours and three points.
-use Rattle.std.specs.Prelude.{ℕ, ◌+◌, Bool, false, ◌&&◌, ◌||◌, not, nat_le, ◌==◌, if◌then◌else◌, List}
-use Rattle.std.specs.List.{range_with_len, prefix_len, list_any, filter}
+use Rattle.std.specs.Prelude.{ℕ, ◌+◌, Bool, false, ◌&&◌, ◌||◌, not, nat_le, ◌==◌, if◌then◌else◌}
+use Rattle.std.specs.List.{range_with_len, prefix_len, list_any}
 use Rattle.std.specs.Prelude.{Option, Some, None}
-use Rattle.game_rules.specs.Grid.{Grid, is_empty, holds, put, along, axes, points_of}
+use Rattle.game_rules.specs.Grid.{Grid, is_empty, holds, put, along, axes}
 use Rattle.game_rules.specs.Fours.{count_fours}
 use Rattle.game_rules.specs.declared.Side.{Side}
-use Rattle.game_rules.specs.declared.Side.TheVariants.{Black, White}
+use Rattle.game_rules.specs.declared.Side.TheVariants.{Black}
 use Rattle.game_rules.specs.declared.RuleKind.{RuleKind}
-use Rattle.game_rules.specs.declared.RuleKind.TheVariants.{Freestyle, Exact, Renju}
+use Rattle.game_rules.specs.declared.RuleKind.TheVariants.{Exact, Renju}
 use Rattle.game_rules.specs.declared.Axis.{Axis}
 use Rattle.game_rules.specs.declared.Point.{Point}
 
--- whether a run of this length wins for the side under the rule
+-- whether a run of this length wins for the side under the rule: exactly five under exact, and for Black under renju, and else five
+-- or more
 abbrev pub row_wins : RuleKind → Side → ℕ → Bool
-row_wins Freestyle s n = nat_le 5 n
 row_wins Exact s n = n == 5
 row_wins Renju Black n = n == 5
-row_wins Renju White n = nat_le 5 n
+row_wins rule s n = nat_le 5 n
 
 -- whether there is such a point, and the side has a stone there
 abbrev pub stone_at : Grid → Side → Option Point → Bool
 stone_at b s None = false
 stone_at b s (Some p) = holds b s p
 
--- more than the points of any line of the board
-abbrev pub line_bound : Grid → ℕ
-line_bound b = b.width + b.height
-
--- how many stones of the side stand in an unbroken row next to the point, ahead of it
+-- how many stones of the side stand in an unbroken row next to the point, ahead of it. No line of the board has as many
+-- points as its width and height together.
 abbrev pub stones_ahead : Grid → Side → Axis → Point → ℕ
-stones_ahead b s d p = prefix_len (λ k. stone_at b s (along d p k 0)) (range_with_len 1 (line_bound b))
+stones_ahead b s d p = prefix_len (λ k. stone_at b s (along d p k 0)) (range_with_len 1 (b.width + b.height))
 
 -- how many stones of the side stand in an unbroken row next to the point, behind it
 abbrev pub stones_behind : Grid → Side → Axis → Point → ℕ
-stones_behind b s d p = prefix_len (λ k. stone_at b s (along d p 0 k)) (range_with_len 1 (line_bound b))
+stones_behind b s d p = prefix_len (λ k. stone_at b s (along d p 0 k)) (range_with_len 1 (b.width + b.height))
 
 -- the number of stones of the side that stand unbroken through the point along the axis, 0 where it holds none
 abbrev pub run_of : Grid → Side → Axis → Point → ℕ
@@ -52,18 +49,11 @@ abbrev pub wins_at : RuleKind → Grid → Side → Axis → Option Point → Bo
 wins_at rule b s d None = false
 wins_at rule b s d (Some p) = wins_on rule b s d p
 
--- whether place i of the line around p holds a stone of the side; place 4 is p
-abbrev pub place_stone : Grid → Side → Axis → Point → ℕ → Bool
-place_stone b s d p i = stone_at b s (along d p i 4)
-
--- whether a stone of the side on place i of the line around p makes a winning run on the line
-abbrev pub place_wins : RuleKind → Grid → Side → Axis → Point → ℕ → Bool
-place_wins rule b s d p i = wins_at rule b s d (along d p i 4)
-
 -- the fours of the stone on p on the axis: the number of different sets of four stones that hold p and that, with
--- one empty point, are five consecutive points whose filling gives a winning run (RIF Rules of Renju)
+-- one empty point, are five consecutive points whose filling gives a winning run (RIF Rules of Renju). Place i of the
+-- line around p is i steps ahead and four back, so place 4 is p.
 unfoldable pub fours_of : RuleKind → Grid → Side → Axis → Point → ℕ
-fours_of rule b s d p = count_fours (place_stone b s d p) (place_wins rule b s d p)
+fours_of rule b s d p = count_fours (λ i. stone_at b s (along d p i 4)) (λ i. wins_at rule b s d (along d p i 4))
 
 -- a straight four: the run through p is of exactly four, and both its end points are on the board, empty, and make a
 -- winning run on the axis
@@ -101,10 +91,6 @@ is_line_three_point rule b s d p q = is_empty b q && not (wins_on rule b s d q) 
 -- four on the axis that holds p and q
 unfoldable pub is_three_point : RuleKind → Grid → Side → Axis → Point → Point → Bool
 is_three_point rule b s d p q = is_empty b q && not (five rule b s q) && gives_straight rule b s d p q
-
--- the three points of the side's stone on p on the axis, in reading order
-unfoldable pub three_points_of : RuleKind → Grid → Side → Axis → Point → List Point
-three_points_of rule b s d p = filter (is_three_point rule b s d p) (points_of b)
 
 -- whether there is such a point, and it is a three point as far as the axis decides
 abbrev pub is_line_three_at : RuleKind → Grid → Side → Axis → Point → Option Point → Bool

@@ -7,8 +7,8 @@
 ghost use Rattle.std.specs.Prelude.{◌≡◌, ◌≤◌, ◌<◌, IsTrue, true, map};
 ghost use Rattle.std.specs.List.{count_by, range_with_len};
 ghost use Rattle.game_rules.specs.declared.Side.{Side};
-ghost use Rattle.game_rules.specs.Grid.{is_on, holds};
-ghost use Rattle.game_rules.specs.Shapes.{fours_of, place_stone, place_wins, is_straight};
+ghost use Rattle.game_rules.specs.Grid.{is_on, holds, along};
+ghost use Rattle.game_rules.specs.Shapes.{fours_of, stone_at, wins_at, is_straight};
 ghost use Rattle.stone_board.specs.Steps.{holds_stone};
 ghost use Rattle.row_shapes.specs.Gaps.{listed, is_four as is_four_lem, are_stones as are_stones_lem, fours_from as fours_from_lem};
 
@@ -76,7 +76,7 @@ pub(crate) fn side_at(board: &Board, p: Point) -> Side
 fn stone_along(board: &Board, side: Side, axis: Axis, p: Point, ahead: u8) -> bool
     requires on { IsTrue (is_on board.now p) }
     requires near { ahead < 9 }
-    ensures stone { result ≡ place_stone board.now side axis p ahead }
+    ensures stone { result ≡ stone_at board.now side (along axis p ahead 4) }
 {
     match board.along(p, axis, ahead, 4) {
         None => false,
@@ -87,7 +87,7 @@ fn stone_along(board: &Board, side: Side, axis: Axis, p: Point, ahead: u8) -> bo
 /// Which of the nine places of the line around the point hold stones of the side. Place 4 is the point.
 fn stones_around(board: &Board, side: Side, axis: Axis, p: Point) -> [bool; 9]
     requires on { IsTrue (is_on board.now p) }
-    ensures stones { result ≡ map (place_stone board.now side axis p) (range_with_len 0 9) }
+    ensures stones { result ≡ map (λ i. stone_at board.now side (along axis p i 4)) (range_with_len 0 9) }
 {
     let mut stones = [false; 9];
     for i in 0..9 {
@@ -124,7 +124,8 @@ fn is_four<R: Rule>(board: &Board, row: RowAt, stones: &[bool; 9], first: u8, ga
     requires on { IsTrue (is_on board.now row.point) }
     requires first { first < 5 }
     requires gap { gap < 5 }
-    ensures four { result ≡ is_four_lem (listed stones.now) (place_wins R.KIND board.now row.side row.axis row.point) first gap }
+    ensures four { result ≡ is_four_lem (listed stones.now)
+        (λ i. wins_at R.KIND board.now row.side row.axis (along row.axis row.point i 4)) first gap }
 {
     first != gap
         && are_stones(stones, first, gap)
@@ -138,7 +139,8 @@ fn is_four<R: Rule>(board: &Board, row: RowAt, stones: &[bool; 9], first: u8, ga
 fn fours_from<R: Rule>(board: &Board, row: RowAt, stones: &[bool; 9], first: u8) -> u32
     requires on { IsTrue (is_on board.now row.point) }
     requires first { first < 5 }
-    ensures fours { result ≡ fours_from_lem (listed stones.now) (place_wins R.KIND board.now row.side row.axis row.point) first }
+    ensures fours { result ≡ fours_from_lem (listed stones.now)
+        (λ i. wins_at R.KIND board.now row.side row.axis (along row.axis row.point i 4)) first }
     ensures bound { result ≤ 4 }
 {
     u32::from(is_four::<R>(board, row, stones, first, 1))

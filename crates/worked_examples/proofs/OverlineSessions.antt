@@ -4,7 +4,7 @@ use Rattle.std.proofs.Common.{Some, None, slice_get}
 use Rattle.std.specs.Fmt.{digits}
 use Rattle.std.specs.List.{list_all}
 use Rattle.std.proofs.lemmas.List.Elements.{All-nil, All-cons}
-use Rattle.game_rules.proofs.Common.{Grid, IsBoard, points_of, empties_of, is_same_point, fours_of, three_points_of, is_three_point}
+use Rattle.game_rules.proofs.Common.{Grid, IsBoard, points_of, empties_of, is_same_point, fours_of, is_three_point}
 use Rattle.game_rules.proofs.Common.{gives_straight, is_straight, outcome, after, black_foul, black_foul_within, stone_foul, is_three}
 use Rattle.game_rules.specs.declared.RuleKind.TheVariants.{Renju}
 use Rattle.game_rules.specs.declared.Side.TheVariants.{White}
@@ -64,7 +64,7 @@ unfolding attacked on_the_block overline_board
 all_met = refl
 
 block_fouls : outcome Renju attacked (point_at 7 3) ≡ Fouls Overline
-unfolding attacked overline_board outcome black_foul black_foul_within stone_foul fours_of is_three three_points_of is_three_point
+unfolding attacked overline_board outcome black_foul black_foul_within stone_foul fours_of is_three is_three_point
     gives_straight is_straight
 block_fouls = refl
 
@@ -112,7 +112,7 @@ played = new_game Renju overline_board White
 
 begins : BeginsHeldGame (state_after (new_brain overline_table) told) Done played 1
 unfolding told played overline_board state_after row_of chosen chosen_anew refusal outcome black_foul black_foul_within stone_foul fours_of
-    is_three three_points_of is_three_point gives_straight is_straight
+    is_three is_three_point gives_straight is_straight
 begins = record { chooses = refl; not_followed = refl; leads = refl }
 
 elsewhere : List Command
@@ -125,7 +125,7 @@ elsewhere_lines = refl
 elsewhere_answers : answers_from (new_brain overline_table) (told ++ Done ∷ elsewhere) ≡ SaysOk ∷ Move (point_at 6 3) ∷ Move (point_at 7 3)
     ∷ Error GameOver ∷ []
 unfolding told elsewhere overline_board answers_from row_of chosen chosen_anew refusal outcome black_foul black_foul_within stone_foul
-    fours_of is_three three_points_of is_three_point gives_straight is_straight
+    fours_of is_three is_three_point gives_straight is_straight
 elsewhere_answers = refl
 
 pub elsewhere-text : session_text (new_brain overline_table) elsewhere_input ≡ codes "OK\r\n6,3\r\n7,3\r\nERROR game over\r\n"
@@ -135,17 +135,17 @@ elsewhere-text = ap (λ (cs : List Command). answer_texts (answers_from (new_bra
 
 elsewhere_replies : replies (brain_step (state_after (new_brain overline_table) told) Done).next elsewhere ≡ point_at 0 14 ∷ []
 unfolding told elsewhere overline_board replies state_after row_of chosen chosen_anew refusal outcome black_foul black_foul_within
-    stone_foul fours_of is_three three_points_of is_three_point gives_straight is_straight
+    stone_foul fours_of is_three is_three_point gives_straight is_straight
 elsewhere_replies = refl
 
 elsewhere_game : game_answers Renju overline_table.table 1 overline_board (point_at 0 14 ∷ []) ≡ Move (point_at 6 3) ∷ Move (point_at 7 3) ∷
     []
-unfolding overline_board attacks outcome black_foul black_foul_within stone_foul fours_of is_three three_points_of is_three_point
+unfolding overline_board attacks outcome black_foul black_foul_within stone_foul fours_of is_three is_three_point
     gives_straight is_straight
 elsewhere_game = refl
 
 elsewhere_won : game Renju overline_table.table 1 overline_board (point_at 0 14 ∷ []) ≡ Won 2
-unfolding overline_board game outcome black_foul black_foul_within stone_foul fours_of is_three three_points_of is_three_point
+unfolding overline_board game outcome black_foul black_foul_within stone_foul fours_of is_three is_three_point
     gives_straight is_straight
 elsewhere_won = refl
 
@@ -180,7 +180,7 @@ block_lines = refl
 block_answers : answers_from (new_brain overline_table) (told ++ Done ∷ block) ≡ SaysOk ∷ Move (point_at 6 3) ∷ Error OpponentFoul ∷ Error
     GameOver ∷ []
 unfolding told block overline_board answers_from row_of chosen chosen_anew refusal outcome black_foul black_foul_within stone_foul fours_of
-    is_three three_points_of is_three_point gives_straight is_straight
+    is_three is_three_point gives_straight is_straight
 block_answers = refl
 
 pub block-text : session_text (new_brain overline_table) block_input ≡ codes "OK\r\n6,3\r\nERROR opponent foul\r\nERROR game over\r\n"
@@ -190,16 +190,16 @@ block-text = ap (λ (cs : List Command). answer_texts (answers_from (new_brain o
 
 block_replies : replies (brain_step (state_after (new_brain overline_table) told) Done).next block ≡ point_at 7 3 ∷ []
 unfolding told block overline_board replies state_after row_of chosen chosen_anew refusal outcome black_foul black_foul_within stone_foul
-    fours_of is_three three_points_of is_three_point gives_straight is_straight
+    fours_of is_three is_three_point gives_straight is_straight
 block_replies = refl
 
 block_game : game_answers Renju overline_table.table 1 overline_board (point_at 7 3 ∷ []) ≡ Move (point_at 6 3) ∷ Error OpponentFoul ∷ []
-unfolding overline_board attacks outcome black_foul black_foul_within stone_foul fours_of is_three three_points_of is_three_point
+unfolding overline_board attacks outcome black_foul black_foul_within stone_foul fours_of is_three is_three_point
     gives_straight is_straight
 block_game = refl
 
 block_won : game Renju overline_table.table 1 overline_board (point_at 7 3 ∷ []) ≡ Won 1
-unfolding overline_board game outcome black_foul black_foul_within stone_foul fours_of is_three three_points_of is_three_point
+unfolding overline_board game outcome black_foul black_foul_within stone_foul fours_of is_three is_three_point
     gives_straight is_straight
 block_won = refl
 

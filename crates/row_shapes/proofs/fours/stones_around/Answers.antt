@@ -1,6 +1,6 @@
 use Rattle.std.proofs.Common.{false, rules}
 use Rattle.std.proofs.lemmas.List.FromFn.{fill_by_all}
-use Rattle.game_rules.specs.Shapes.{place_stone}
+use Rattle.game_rules.proofs.Common.{place_stone}
 use Rattle.row_shapes.proofs.fours.stones_around.Goals as goal
 
 pub returns : goal.returns

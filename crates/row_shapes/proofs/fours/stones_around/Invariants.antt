@@ -1,5 +1,5 @@
 use Rattle.std.proofs.Common.{◌≡◌, ℕ, ◌<◌, false, length, get_or}
-use Rattle.game_rules.specs.Shapes.{place_stone}
+use Rattle.game_rules.proofs.Common.{place_stone}
 use Rattle.row_shapes.proofs.fours.stones_around.Given as goal
 
 -- the places so far are as the board has them
