@@ -84,6 +84,7 @@ GROUPS = (
             "IsSome": ("IsSome o", "there is a value"),
             "IsSomeAnd": ("IsSomeAnd o P", "o has a value, and P holds of it"),
             "MatchOption": ("MatchOption o A P", "where o has no value, the fact A holds; where it has one, P holds of it"),
+            "option_to_list": ("option_to_list o", "the list of the value, or the empty list where there is none"),
             "option_map": ("option_map f o", "f of the value, if there is one"),
             "option_map_or": ("option_map_or f o d", "f of the value of o, or d where there is none"),
             "option_and_then": ("option_and_then f o", "what f makes of the value, which may be none; none where o has none"),

@@ -1,7 +1,7 @@
 -- What the brain follows goes on: from the board where a node's attack is to be played to that after it, and to those after each
 -- reply.
 use Rattle.std.proofs.Common.{◌≡◌, ℕ, ◌-◌, true, List, sym, ap, subst, ◌∙◌}
-use Rattle.std.specs.Prelude.{Option, Some, None, MatchOption, slice_get}
+use Rattle.std.specs.Prelude.{Option, Some, None, MatchOption, slice_get, IsSomeAnd}
 use Rattle.std.specs.Option.{option_map}
 use Rattle.game_rules.specs.Grid.{Grid, is_empty}
 use Rattle.game_rules.specs.Play.{IsPosition, outcome, after}
@@ -13,8 +13,8 @@ use Rattle.game_rules.proofs.Games.{LosesOr-map, test-WinsUnder, WinsUnder-test}
 use Rattle.game_rules.proofs.Outcomes.{going}
 use Rattle.strategy_graph.specs.declared.Node.{Node}
 use Rattle.strategy_graph.specs.Tables.{answer_at, IsTable}
-use Rattle.strategy_graph.specs.Acceptance.{Answered, Accepted}
-use Rattle.strategy_graph.proofs.Answering.{Answered-map}
+use Rattle.strategy_graph.specs.Acceptance.{Accepted}
+use Rattle.strategy_graph.proofs.Answering.{IsSomeAnd-map}
 use Rattle.strategy_graph.proofs.Following.{accepted-in_table, accepted-replies, attack_empty}
 use Rattle.strategy_compiler.specs.Trees.{StandsFor}
 use Rattle.strategy_checker.specs.HeldRoots.{HeldTable}
@@ -55,7 +55,7 @@ stands-legal h rule b g p stands move = node-legal h rule b g p stands.node move
 
 -- ---- after the move
 
-wins_behind : (rule : RuleKind) (t : List Node) (n : ℕ) (c : Grid) (o : Option ℕ) → Answered o (λ j. PlanAt rule t n j c)
+wins_behind : (rule : RuleKind) (t : List Node) (n : ℕ) (c : Grid) (o : Option ℕ) → IsSomeAnd o (λ j. PlanAt rule t n j c)
     → WinsByFours rule n c
 wins_behind rule t n c None h = absurd h
 wins_behind rule t n c (Some j) h = test-WinsUnder (has_five rule) rule n c h.wins
@@ -77,20 +77,20 @@ stands-goes_on h rule b g p stands lawful move go = by_guide g stands.table stan
           moves_left = next.0;
           in_table = at.in_table;
           answers = λ q. LosesOr-map (outcome rule (after b p) q) _ _
-              (λ answered. Answered-map (answer_at own.table own.node q) _ _ (λ j e k. (k.stands, k.accepted)) answered)
+              (λ answered. IsSomeAnd-map (answer_at own.table own.node q) _ _ (λ j e k. (k.stands, k.accepted)) answered)
               (next.1 q);
         },
       )
 
 -- ---- after a reply
 
-held_after : (h : HeldTable) (rule : RuleKind) (b : Grid) (o : Option ℕ) → Answered o (λ j. Accepted rule h.table j b)
+held_after : (h : HeldTable) (rule : RuleKind) (b : Grid) (o : Option ℕ) → IsSomeAnd o (λ j. Accepted rule h.table j b)
     → MatchOption (option_map (λ j. HeldGuide j) o) ⊥ (NodeStandsAt h rule b)
 held_after h rule b None answered = answered
 held_after h rule b (Some j) answered = (accepted-in_table rule h.table j b answered, answered)
 
 own_after : (h : HeldTable) (rule : RuleKind) (b : Grid) (own : OwnTable) → wins_by_fours rule (own.moves - 1) b ≡ true → (o : Option ℕ)
-    → Answered o (λ j. StandsFor own.table j (four_plan rule (own.moves - 1) b) × Accepted rule own.table j b)
+    → IsSomeAnd o (λ j. StandsFor own.table j (four_plan rule (own.moves - 1) b) × Accepted rule own.table j b)
     → MatchOption (option_map (λ j. OwnGuide (record own { node = j; moves = own.moves - 1 })) o) ⊥ (NodeStandsAt h rule b)
 own_after h rule b own wins None answered = answered
 own_after h rule b own wins (Some j) answered = record {

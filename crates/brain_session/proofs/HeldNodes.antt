@@ -1,7 +1,7 @@
 -- The node to which a held root leads in a game, and that to which the first leads that leads to one.
 use Rattle.std.proofs.Common.{◌≡◌, ℕ, zero, suc, ◌+◌, ◌≤◌, ◌<◌, Bool, true, false, cond, refl, sym, ap, subst, ◌∙◌, arith, List, [], ◌∷◌}
 use Rattle.std.proofs.Common.{length, drop}
-use Rattle.std.specs.Prelude.{Option, Some, None, slice_get, Contains}
+use Rattle.std.specs.Prelude.{Option, Some, None, slice_get, Contains, IsSomeAnd}
 use Rattle.std.specs.Option.{option_and_then, option_or}
 use Rattle.game_rules.specs.Grid.{Grid}
 use Rattle.game_rules.specs.Play.{after}
@@ -15,7 +15,7 @@ use Rattle.strategy_graph.specs.declared.roots.Root.{Root}
 use Rattle.strategy_graph.specs.declared.roots.Root.TheVariants.{Attack, Defend}
 use Rattle.strategy_graph.specs.Tables.{Answers, answer, depth, start_depth}
 use Rattle.strategy_graph.specs.Roots.{AcceptedRoot, root_depth}
-use Rattle.strategy_graph.specs.Acceptance.{Answered, Accepted, AcceptedStart}
+use Rattle.strategy_graph.specs.Acceptance.{Accepted, AcceptedStart}
 use Rattle.strategy_graph.proofs.Following.{accepted-in_table, answer-no_deeper}
 use Rattle.strategy_checker.specs.declared.held.HeldRoot.{HeldRoot}
 use Rattle.strategy_checker.specs.HeldRoots.{HeldTable, IsHeld, IsHeldRoot}
@@ -93,9 +93,9 @@ start_accepted rule t a b start (q ∷ before) i accepted along h =
     let there = if_some (same_board b (board_after start before)) (answer a q) i h in
     let here : AcceptedStart rule t a (board_after start before) =
     subst (AcceptedStart rule t a) (same_board-is b (board_after start before) there.0) accepted in
-    let met = subst (λ (o : Outcome). LosesOr o (Answered (answer a q) (λ j. Accepted rule t j (after (board_after start before) q))))
+    let met = subst (λ (o : Outcome). LosesOr o (IsSomeAnd (answer a q) (λ j. Accepted rule t j (after (board_after start before) q))))
     along.1 (here q) in
-    subst (λ (o : Option ℕ). Answered o (λ j. Accepted rule t j (after (board_after start before) q))) there.1 met
+    subst (λ (o : Option ℕ). IsSomeAnd o (λ j. Accepted rule t j (after (board_after start before) q))) there.1 met
 
 node_accepted : (rule : RuleKind) (t : List Node) (root : Root) (b : Grid) (g : Game) (i : ℕ) → AcceptedRoot rule t root b
     → GoesOnAlong rule g.start g.moves → node_at root b g ≡ Some i → Accepted rule t i (board_of g)

@@ -1,6 +1,6 @@
 -- Each legal reply that is sent to a brain in a held game is answered.
 use Rattle.std.proofs.Common.{◌≡◌, ℕ, suc, true, false, List, [], ◌∷◌, refl, sym, ap, subst, ◌∙◌, arith}
-use Rattle.std.specs.Prelude.{Option, Some, None, is_some}
+use Rattle.std.specs.Prelude.{Option, Some, None, is_some, IsSomeAnd}
 use Rattle.game_rules.specs.Grid.{is_empty}
 use Rattle.game_rules.specs.Play.{outcome, after}
 use Rattle.game_rules.specs.Games.{LosesOr}
@@ -13,10 +13,10 @@ use Rattle.game_rules.specs.declared.Point.{Point}
 use Rattle.game_rules.proofs.Outcomes.{moved}
 use Rattle.strategy_graph.specs.declared.Node.{Node}
 use Rattle.strategy_graph.specs.Tables.{answers_of, answer, depth_within}
-use Rattle.strategy_graph.specs.Acceptance.{Answered, AcceptedWithin}
+use Rattle.strategy_graph.specs.Acceptance.{AcceptedWithin}
 use Rattle.strategy_graph.specs.Games.{attacks}
-use Rattle.strategy_graph.proofs.Answering.{Answered-elim}
-use Rattle.strategy_graph.proofs.Fuel.{not_winning, depth_some}
+use Rattle.strategy_graph.proofs.Answering.{IsSomeAnd-elim}
+use Rattle.strategy_graph.proofs.Fuel.{depth_some}
 use Rattle.strategy_checker.specs.HeldRoots.{HeldTable, IsHeld}
 use Rattle.gomocup_text.specs.declared.Command.{Command}
 use Rattle.gomocup_text.specs.declared.Command.TheVariants.{Turn}
@@ -107,7 +107,7 @@ module _ (h : HeldTable) (k w : ℕ) (g : Game) (i : ℕ) (n : Node) (s : Stands
       ∙ ap (λ (x : List Answer). Error OpponentFoul ∷ x)
       (answers-none (state_in h w (with_move (with_choice g (by_node i n)) q true))) in
       subst (λ (x : List Answer). GoesBy g.rule h.table (depth_within (suc k) h.table i) i (board_of g) n.attack (q ∷ []) x) (sym said)
-      (by_foul g.rule h.table _ i (board_of g) n s.node (depth_some h.table i n k s.node) on (not_winning n.rest (parts h g i n k s on).0) q
+      (by_foul g.rule h.table _ i (board_of g) n s.node (depth_some h.table i n k s.node) on (parts h g i n k s on).0 q
       f e)
 
   -- a reply that goes on is answered by the attack of node j
@@ -125,26 +125,26 @@ module _ (h : HeldTable) (k w : ℕ) (g : Game) (i : ℕ) (n : Node) (s : Stands
       answers-row (state_in h w (with_choice g (by_node i n))) (Turn q.x q.y) (turns qs) _ (row_is GoesOn e)
       ∙ ap (λ (c : Choice). Move c.at ∷ answers_from (state_in h w (with_choice g2 c)) (turns qs)) next.chooses in
       subst (λ (x : List Answer). GoesBy g.rule h.table (depth_within (suc k) h.table i) i (board_of g) n.attack (q ∷ qs) x) (sym said)
-      (by_next g.rule h.table _ i (board_of g) n s.node (depth_some h.table i n k s.node) on (not_winning n.rest (parts h g i n k s on).0) q
+      (by_next g.rule h.table _ i (board_of g) n s.node (depth_some h.table i n k s.node) on (parts h g i n k s on).0 q
       _ j next.node qs _ e reply next.shallower
       (all next.more w g2 j next.node next.stands (ap is_some wish) are))
 
   by_reply : (qs : List Point) → AllAnswered h qs → is_empty (after (board_of g) n.attack) q ≡ true
       → AreReplies g.rule (board_of g) (attacks g.rule h.table i (board_of g) (q ∷ qs)) (q ∷ qs) → (p : Outcome)
       → outcome g.rule (after (board_of g) n.attack) q ≡ p
-      → LosesOr p (Answered (answer (answers_of n) q) (λ j. AcceptedWithin k g.rule h.table j (after (after (board_of g) n.attack) q)))
+      → LosesOr p (IsSomeAnd (answer (answers_of n) q) (λ j. AcceptedWithin k g.rule h.table j (after (after (board_of g) n.attack) q)))
       → GoesBy g.rule h.table (depth_within (suc k) h.table i) i (board_of g) n.attack (q ∷ qs)
       (answers_from (state_in h w (with_choice g (by_node i n))) (turns (q ∷ qs)))
   by_reply qs all empty are Refused e met = absurd (moved g.rule (after (board_of g) n.attack) q empty e)
   by_reply qs all empty are WinsNow e met = absurd met
   by_reply qs all empty are (Fouls f) e met =
       fouled f qs e (subst (λ (ps : List Point). AreReplies g.rule (board_of g) ps (q ∷ qs))
-      (attacks-foul g.rule h.table 1 i (board_of g) n s.node (omega arith) on (not_winning n.rest (parts h g i n k s on).0) q qs f e)
+      (attacks-foul g.rule h.table 1 i (board_of g) n s.node (omega arith) on (parts h g i n k s on).0 q qs f e)
       are).2
   by_reply qs all empty are Draws e met = absurd met
-  by_reply qs all empty are GoesOn e met = Answered-elim (answer (answers_of n) q) _ _ (λ j reply accepted.
+  by_reply qs all empty are GoesOn e met = IsSomeAnd-elim (answer (answers_of n) q) _ _ (λ j reply accepted.
       let more = subst (λ (ps : List Point). AreReplies g.rule (board_of g) ps (q ∷ qs))
-      (attacks-next g.rule h.table 1 i (board_of g) n s.node (omega arith) on (not_winning n.rest (parts h g i n k s on).0) q j qs e
+      (attacks-next g.rule h.table 1 i (board_of g) n s.node (omega arith) on (parts h g i n k s on).0 q j qs e
       reply) are in
       answered qs all e j reply accepted more.2) met
 

@@ -1,5 +1,5 @@
 -- A game in which a held node is followed: how it goes on by one reply, over plain values, and what each later command does to it.
-use Rattle.std.specs.Prelude.{Some, slice_get}
+use Rattle.std.specs.Prelude.{Some, slice_get, IsSomeAnd}
 use Rattle.std.proofs.Common.{◌≡◌, ℕ, suc, ◌≤◌, ◌<◌, Bool, false, cond, List, [], ◌∷◌, ◌++◌, map, length, refl, sym, ap, ◌∙◌, arith, not}
 use Rattle.std.proofs.Common.{subst}
 use Rattle.game_rules.specs.Grid.{Grid}
@@ -16,10 +16,10 @@ use Rattle.game_rules.proofs.Boards.{other-other}
 use Rattle.strategy_graph.specs.declared.Rest.{Rest}
 use Rattle.strategy_graph.specs.declared.Node.{Node}
 use Rattle.strategy_graph.specs.Tables.{answers_of, answer, is_winning, depth_within}
-use Rattle.strategy_graph.specs.Acceptance.{NotWinning, Answered, Meets, AcceptedWithin}
+use Rattle.strategy_graph.specs.Acceptance.{Meets, AcceptedWithin}
 use Rattle.strategy_graph.specs.Games.{NoMove, Open, after_attack, game, attacks}
-use Rattle.strategy_graph.proofs.Answering.{Answered-elim}
-use Rattle.strategy_graph.proofs.Fuel.{not_winning, depth_some, deeper, accepted_node}
+use Rattle.strategy_graph.proofs.Answering.{IsSomeAnd-elim}
+use Rattle.strategy_graph.proofs.Fuel.{depth_some, deeper, accepted_node}
 use Rattle.strategy_graph.proofs.Endings.{attacks-open, first_at}
 use Rattle.strategy_checker.specs.HeldRoots.{HeldTable}
 use Rattle.gomocup_text.specs.declared.Answer.{Answer}
@@ -136,7 +136,8 @@ chosen-followed h g i j n m q before f ms at w to = rw (f, ms, at, w, to) refl
 pub record StandsIn (h : HeldTable) (g : Game) (i : ℕ) (n : Node) (k : ℕ) : Type 0 where
   pub node : slice_get h.table i ≡ Some n
   pub wins : WinsOr (outcome g.rule (board_of g) n.attack)
-      (NotWinning n.rest × ((q : Point) → Meets g.rule (answers_of n) (AcceptedWithin k g.rule h.table) (after (board_of g) n.attack) q))
+      ((is_winning n.rest ≡ false)
+      × ((q : Point) → Meets g.rule (answers_of n) (AcceptedWithin k g.rule h.table) (after (board_of g) n.attack) q))
   pub lawful : IsPosition g.rule (board_of g)
   pub turn : mover (board_of g) ≡ g.brain
 
@@ -154,10 +155,11 @@ pub nothing_more : (h : HeldTable) (g : Game) (i : ℕ) (n : Node) (k : ℕ) →
 nothing_more h g i n k s = by_none g.rule h.table _ i (board_of g) n s.node (depth_some h.table i n k s.node)
     (WinsOr-map (outcome g.rule (board_of g) n.attack) _ _ (λ w. tt) s.wins) (going (outcome g.rule (board_of g) n.attack) s.wins) where
       going : (o : Outcome) → WinsOr o
-          (NotWinning n.rest × ((q : Point) → Meets g.rule (answers_of n) (AcceptedWithin k g.rule h.table) (after (board_of g) n.attack)
+          ((is_winning n.rest ≡ false)
+          × ((q : Point) → Meets g.rule (answers_of n) (AcceptedWithin k g.rule h.table) (after (board_of g) n.attack)
           q))
           → o ≡ GoesOn → is_winning n.rest ≡ false
-      going GoesOn w e = not_winning n.rest w.0
+      going GoesOn w e = w.0
       going _ w e = cc
 
 -- the board after the attack, which goes on, and whose turn it is there
@@ -169,12 +171,14 @@ module _ (h : HeldTable) (g : Game) (i : ℕ) (n : Node) (k : ℕ) (s : StandsIn
   pub turn_then : mover (after (board_of g) n.attack) ≡ other g.brain
   turn_then = mover-then g.rule (board_of g) n.attack s.lawful o ∙ ap other s.turn
 
-  pub parts : NotWinning n.rest
+  pub parts : (is_winning n.rest ≡ false)
       × ((q : Point) → Meets g.rule (answers_of n) (AcceptedWithin k g.rule h.table) (after (board_of g) n.attack) q)
   parts = by_outcome (outcome g.rule (board_of g) n.attack) o s.wins where
     by_outcome : (r : Outcome) → r ≡ GoesOn → WinsOr r
-        (NotWinning n.rest × ((q : Point) → Meets g.rule (answers_of n) (AcceptedWithin k g.rule h.table) (after (board_of g) n.attack) q))
-        → NotWinning n.rest × ((q : Point) → Meets g.rule (answers_of n) (AcceptedWithin k g.rule h.table) (after (board_of g) n.attack) q)
+        ((is_winning n.rest ≡ false)
+        × ((q : Point) → Meets g.rule (answers_of n) (AcceptedWithin k g.rule h.table) (after (board_of g) n.attack) q))
+        → (is_winning n.rest ≡ false)
+        × ((q : Point) → Meets g.rule (answers_of n) (AcceptedWithin k g.rule h.table) (after (board_of g) n.attack) q)
     by_outcome GoesOn e w = w
     by_outcome _ e w = cc
 
@@ -236,7 +240,7 @@ module _ (h : HeldTable) where
         chooses = next.chooses;
         more = λ qs said goes.
             by_next g.rule h.table _ x.i (board_of g) x.n s.node (depth_some h.table x.i x.n x.k s.node) o
-            (not_winning x.n.rest (parts h g x.i x.n x.k s o).0) q _ j next.node qs said on reply next.shallower goes;
+            (parts h g x.i x.n x.k s o).0 q _ j next.node qs said on reply next.shallower goes;
       }
 
   held_followed : IsFollowed h HeldAt held_choice HeldStands HeldGoes
@@ -247,15 +251,15 @@ module _ (h : HeldTable) where
     none = λ x g s. nothing_more h g x.i x.n x.k s;
     fouls = λ x g s o q f e.
         by_foul g.rule h.table _ x.i (board_of g) x.n s.node (depth_some h.table x.i x.n x.k s.node) o
-        (not_winning x.n.rest (parts h g x.i x.n x.k s o).0) q f e;
+        (parts h g x.i x.n x.k s o).0 q f e;
     replied = λ x g s o q. by_reply x g s o q (outcome g.rule (after (board_of g) x.n.attack) q) refl ((parts h g x.i x.n x.k s o).1 q);
   } where
     by_reply : (x : HeldAt) (g : Game) → HeldStands x g → outcome g.rule (board_of g) x.n.attack ≡ GoesOn → (q : Point) (p : Outcome)
         → outcome g.rule (after (board_of g) x.n.attack) q ≡ p
-        → LosesOr p (Answered (answer (answers_of x.n) q)
+        → LosesOr p (IsSomeAnd (answer (answers_of x.n) q)
         (λ j. AcceptedWithin x.k g.rule h.table j (after (after (board_of g) x.n.attack) q)))
         → LosesOr p (IsNextTo h HeldAt held_choice HeldStands HeldGoes x g q)
-    by_reply x g s o q GoesOn e met = Answered-elim (answer (answers_of x.n) q) _ _
+    by_reply x g s o q GoesOn e met = IsSomeAnd-elim (answer (answers_of x.n) q) _ _
         (λ j reply accepted. next_held x g s o q e j reply accepted) met
     by_reply x g s o q Refused e met = met
     by_reply x g s o q WinsNow e met = met

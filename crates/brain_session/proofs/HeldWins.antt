@@ -1,6 +1,6 @@
 -- Whoever answers by an accepted table wins within its depth, whatever legal replies come.
 use Rattle.std.proofs.Common.{◌≡◌, ℕ, suc, ◌≤◌, true, false, List, [], ◌∷◌, get_or, length, refl, sym, subst, arith, ◌⊎◌, inl, inr}
-use Rattle.std.specs.Prelude.{Some, slice_get}
+use Rattle.std.specs.Prelude.{Some, slice_get, IsSomeAnd}
 use Rattle.game_rules.specs.Grid.{Grid, is_empty}
 use Rattle.game_rules.specs.Play.{outcome, after, is_foul}
 use Rattle.game_rules.specs.Games.{WinsOr, LosesOr}
@@ -15,11 +15,11 @@ use Rattle.strategy_graph.specs.declared.Node.{Node}
 use Rattle.strategy_graph.specs.declared.roots.Root.{Root}
 use Rattle.strategy_graph.specs.declared.roots.Root.TheVariants.{Attack, Defend}
 use Rattle.strategy_graph.specs.Tables.{Answers, answers_of, answer, is_winning, depth_within, depth, start_depth}
-use Rattle.strategy_graph.specs.Acceptance.{Answered, NotWinning, Meets, AcceptedWithin, Accepted}
+use Rattle.strategy_graph.specs.Acceptance.{Meets, AcceptedWithin, Accepted}
 use Rattle.strategy_graph.specs.Roots.{AcceptedRoot}
 use Rattle.strategy_graph.specs.Games.{End, Won, Open, game, attacks}
-use Rattle.strategy_graph.proofs.Answering.{answer-greatest, Answered-elim}
-use Rattle.strategy_graph.proofs.Fuel.{not_winning, depth_some, deeper, accepted_node}
+use Rattle.strategy_graph.proofs.Answering.{answer-greatest, IsSomeAnd-elim}
+use Rattle.strategy_graph.proofs.Fuel.{depth_some, deeper, accepted_node}
 use Rattle.brain_session.specs.HeldGames.{IsWonWithin, AreReplies, WinsGames, AnswersAndWins, RootWinsGames, WhoeverHoldsWins}
 use Rattle.brain_session.proofs.HeldSteps.{by_none, by_foul, attacks-first, attacks-foul, attacks-next, won_next}
 
@@ -36,21 +36,22 @@ module _ (rule : RuleKind) (t : List Node) where
   -- node i, which is n, is accepted at b
   module _ (i : ℕ) (b : Grid) (n : Node) (k : ℕ) (at : slice_get t i ≡ Some n)
       (wins : WinsOr (outcome rule b n.attack)
-      (NotWinning n.rest × ((q : Point) → Meets rule (answers_of n) (AcceptedWithin k rule t) (after b n.attack) q))) where
+      ((is_winning n.rest ≡ false) × ((q : Point) → Meets rule (answers_of n) (AcceptedWithin k rule t) (after b n.attack) q))) where
     going : (o : Outcome) → WinsOr o
-        (NotWinning n.rest × ((q : Point) → Meets rule (answers_of n) (AcceptedWithin k rule t) (after b n.attack) q)) → o ≡ GoesOn
-        → NotWinning n.rest × ((q : Point) → Meets rule (answers_of n) (AcceptedWithin k rule t) (after b n.attack) q)
+        ((is_winning n.rest ≡ false) × ((q : Point) → Meets rule (answers_of n) (AcceptedWithin k rule t) (after b n.attack) q))
+        → o ≡ GoesOn
+        → (is_winning n.rest ≡ false) × ((q : Point) → Meets rule (answers_of n) (AcceptedWithin k rule t) (after b n.attack) q)
     going GoesOn w e = w
     going _ w e = cc
 
     none_left : IsWonWithin (depth_within (suc k) t i) 0 (game rule t i b [])
     none_left = (by_none rule t _ i b n at (depth_some t i n k at) (WinsOr-map (outcome rule b n.attack) _ _ (λ w. tt) wins)
-        (λ e. not_winning n.rest (going (outcome rule b n.attack) wins e).0)).won
+        (λ e. (going (outcome rule b n.attack) wins e).0)).won
 
     module _ (q : Point) (qs : List Point) (on : outcome rule b n.attack ≡ GoesOn) (empty : is_empty (after b n.attack) q ≡ true)
         (over : WinsOver qs) where
       winning : is_winning n.rest ≡ false
-      winning = not_winning n.rest (going (outcome rule b n.attack) wins on).0
+      winning = (going (outcome rule b n.attack) wins on).0
 
       fouled : (f : Foul) (vs : List Point) → outcome rule (after b n.attack) q ≡ Fouls f
           → AreReplies rule (after (after b n.attack) q) [] vs
@@ -59,7 +60,7 @@ module _ (rule : RuleKind) (t : List Node) where
       fouled f (v ∷ vs) e are = absurd are
 
       by_reply : (p : Outcome) → outcome rule (after b n.attack) q ≡ p
-          → LosesOr p (Answered (answer (answers_of n) q) (λ j. AcceptedWithin k rule t j (after (after b n.attack) q)))
+          → LosesOr p (IsSomeAnd (answer (answers_of n) q) (λ j. AcceptedWithin k rule t j (after (after b n.attack) q)))
           → AreReplies rule b (attacks rule t i b (q ∷ qs)) (q ∷ qs)
           → IsWonWithin (depth_within (suc k) t i) (suc (length qs)) (game rule t i b (q ∷ qs))
       unfolding WinsOver
@@ -69,7 +70,7 @@ module _ (rule : RuleKind) (t : List Node) where
           fouled f qs e (subst (λ (ps : List Point). AreReplies rule b ps (q ∷ qs))
           (attacks-foul rule t 1 i b n at (omega arith) on winning q qs f e) are).2
       by_reply Draws e met are = absurd met
-      by_reply GoesOn e met are = Answered-elim (answer (answers_of n) q) _ _ (λ j reply accepted.
+      by_reply GoesOn e met are = IsSomeAnd-elim (answer (answers_of n) q) _ _ (λ j reply accepted.
           let more = subst (λ (ps : List Point). AreReplies rule b ps (q ∷ qs))
           (attacks-next rule t 1 i b n at (omega arith) on winning q j qs e reply) are in
           won_next rule t _ i b n at (depth_some t i n k at) on winning q _ j qs e reply (deeper t i n k q j at reply)
@@ -97,13 +98,13 @@ module _ (rule : RuleKind) (t : List Node) where
   start_wins : (a : Answers) (b : Grid) (q : Point) → is_empty b q ≡ true → Meets rule a (Accepted rule t) b q
       → (is_foul (outcome rule b q) ≡ true) ⊎ AnswersAndWins rule t a b q (start_depth t a)
   start_wins a b q empty met = by_outcome (outcome rule b q) refl met where
-    by_outcome : (o : Outcome) → outcome rule b q ≡ o → LosesOr o (Answered (answer a q) (λ j. Accepted rule t j (after b q)))
+    by_outcome : (o : Outcome) → outcome rule b q ≡ o → LosesOr o (IsSomeAnd (answer a q) (λ j. Accepted rule t j (after b q)))
         → (is_foul o ≡ true) ⊎ AnswersAndWins rule t a b q (start_depth t a)
     by_outcome Refused e h = absurd (moved rule b q empty e)
     by_outcome WinsNow e h = absurd h
     by_outcome (Fouls f) e h = inl refl
     by_outcome Draws e h = absurd h
-    by_outcome GoesOn e h = inr (Answered-elim (answer a q) _ _ (λ j reply accepted. record {
+    by_outcome GoesOn e h = inr (IsSomeAnd-elim (answer a q) _ _ (λ j reply accepted. record {
       node = j;
       answers = reply;
       wins = λ qs are. won_more (depth t j) (start_depth t a) (length qs) _ (answer-greatest (depth t) a q j reply)

@@ -2,7 +2,7 @@
 -- win; and they are the attacks of the table of the win.
 use Rattle.std.proofs.Common.{◌≡◌, ℕ, zero, suc, ◌+◌, ◌-◌, ◌≤◌, ◌<◌, Bool, true, false, cond, ◌&&◌, List, [], ◌∷◌, length, refl, sym, ap}
 use Rattle.std.proofs.Common.{subst, ◌∙◌, arith, nat_le}
-use Rattle.std.specs.Prelude.{Option, Some, None, slice_get, map, ◌++◌}
+use Rattle.std.specs.Prelude.{Option, Some, None, slice_get, map, ◌++◌, IsSomeAnd}
 use Rattle.std.specs.List.{find, range_with_len}
 use Rattle.std.specs.Option.{option_map, option_and_then}
 use Rattle.std.proofs.lemmas.Option.{same_Some}
@@ -23,10 +23,10 @@ use Rattle.game_rules.proofs.Positions.{IsPosition-after, mover-then}
 use Rattle.strategy_checker.specs.HeldRoots.{HeldTable}
 use Rattle.strategy_graph.specs.declared.Node.{Node}
 use Rattle.strategy_graph.specs.Tables.{answers_of, answer, answer_at, is_winning, IsTable}
-use Rattle.strategy_graph.specs.Acceptance.{NotWinning, Answered, Accepted}
+use Rattle.strategy_graph.specs.Acceptance.{Accepted}
 use Rattle.strategy_graph.specs.Games.{End, NoMove, Open, after_attack, after_reply, if_node, one_later, points_on, points_from, game}
 use Rattle.strategy_graph.specs.Games.{attacks}
-use Rattle.strategy_graph.proofs.Answering.{Answered-elim}
+use Rattle.strategy_graph.proofs.Answering.{IsSomeAnd-elim}
 use Rattle.strategy_compiler.specs.Trees.{StandsFor}
 use Rattle.strategy_compiler.specs.Walks.{IsTableOf, last}
 use Rattle.four_search.specs.Plans.{four_plan}
@@ -49,7 +49,7 @@ use Rattle.brain_session.proofs.OwnWins.{own_win-wins}
 use Rattle.brain_session.proofs.Courses.{along-lawful, chosen-followed}
 use Rattle.brain_session.proofs.Choosing.{chosen-own}
 use Rattle.strategy_graph.proofs.Endings.{none_on}
-use Rattle.strategy_graph.proofs.Fuel.{not_winning, accepted_node}
+use Rattle.strategy_graph.proofs.Fuel.{accepted_node}
 use Rattle.brain_session.proofs.FollowedGames.{foul-later, won-later, state_in, game_then, IsNextTo, IsFollowed, all-go_well}
 use Rattle.brain_session.proofs.LawfulStates.{LawfulState, IsToMove, LawfulRow, row-lawful, session-lawful, new-lawful}
 
@@ -253,8 +253,9 @@ no_winning rule t i m b accepted at on =
     let same : node.1 ≡ m = same_Some node.1 m (sym node.3 ∙ at) in
     ap (λ (x : Node). is_winning x.rest) (sym same)
     ∙ by_outcome node.1 (outcome rule b node.1.attack) _ (ap (λ (x : Node). outcome rule b x.attack) same ∙ on) node.4 where
-      by_outcome : (x : Node) (o : Outcome) (W : Type 0) → o ≡ GoesOn → WinsOr o (NotWinning x.rest × W) → is_winning x.rest ≡ false
-      by_outcome x GoesOn W e w = not_winning x.rest w.0
+      by_outcome : (x : Node) (o : Outcome) (W : Type 0) → o ≡ GoesOn → WinsOr o ((is_winning x.rest ≡ false) × W)
+          → is_winning x.rest ≡ false
+      by_outcome x GoesOn W e w = w.0
       by_outcome x _ W e w = cc
 
 module _ (rule : RuleKind) (t : List Node) (table : IsTable t) where
@@ -308,12 +309,12 @@ module _ (rule : RuleKind) (t : List Node) (table : IsTable t) where
         both_on on reply_on =
             let lawful_on = IsPosition-after rule b m.attack lawful on in
             let answered = subst (λ (o : Outcome). LosesOr o
-            (Answered (answer_at t i q) (λ j. PlanAt rule t (n - 1) j then_board))) reply_on
+            (IsSomeAnd (answer_at t i q) (λ j. PlanAt rule t (n - 1) j then_board))) reply_on
             ((plan-replies rule t table n i b m.attack lawful chosen_is on stands).1 q) in
-            Answered-elim (answer (answers_of m) q) _ _
+            IsSomeAnd-elim (answer (answers_of m) q) _ _
             (λ j reply plan. answered_same j reply
             (later j then_board (IsPosition-after rule (after b m.attack) q lawful_on reply_on) plan.wins plan.stands))
-            (subst (λ (o : Option Node). Answered (option_and_then (λ x. answer (answers_of x) q) o)
+            (subst (λ (o : Option Node). IsSomeAnd (option_and_then (λ x. answer (answers_of x) q) o)
             (λ j. PlanAt rule t (n - 1) j then_board)) at answered)
 
         reply_same_there : PlaysSame n i b (q ∷ qs)

@@ -15,7 +15,7 @@ use Rattle.strategy_graph.specs.declared.roots.Root.TheVariants.{Attack, Defend}
 use Rattle.strategy_graph.specs.Tables.{Answers, answer}
 use Rattle.strategy_graph.specs.Acceptance.{Accepted}
 use Rattle.strategy_graph.specs.Roots.{AcceptedRoot}
-use Rattle.strategy_graph.proofs.Answering.{Answered-elim}
+use Rattle.strategy_graph.proofs.Answering.{IsSomeAnd-elim}
 use Rattle.strategy_checker.specs.declared.held.HeldRoot.{HeldRoot}
 use Rattle.strategy_checker.specs.HeldRoots.{HeldTable, IsHeldRoot, IsHeld}
 use Rattle.gomocup_text.specs.declared.Command.{Command}
@@ -50,7 +50,7 @@ record Leads (root : Root) (b : Grid) (g : Game) : Type 0 where
 answered_at : (rule : RuleKind) (t : List Node) (a : Answers) (b : Grid) (q : Point) → AcceptedRoot rule t (Defend a) b
     → outcome rule b q ≡ GoesOn
     → (j : ℕ) × (answer a q ≡ Some j)
-answered_at rule t a b q accepted on = Answered-elim (answer a q) (λ j. Accepted rule t j (after b q)) _ (λ j reply k. (j, reply))
+answered_at rule t a b q accepted on = IsSomeAnd-elim (answer a q) (λ j. Accepted rule t j (after b q)) _ (λ j reply k. (j, reply))
     (going (outcome rule b q) _ on (accepted q))
 
 there_leads : (t : List Node) (root : Root) (b : Grid) (g : Game) → AcceptedRoot g.rule t root b → GoesOnAlong g.rule g.start g.moves

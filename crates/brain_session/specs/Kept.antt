@@ -1,7 +1,7 @@
 -- How the state is kept: what a board with its moves, a course of a game and a guide mean.
 use Rattle.brain_session.specs.Running.{IsRunning}
 use Rattle.std.specs.Prelude.{◌≡◌, ℕ, ◌+◌, ◌-◌, ◌<◌, ◌≤◌, Bool, true, false, List, [], ◌∷◌, length, Option, Some, None, IfSome, MatchOption}
-use Rattle.std.specs.Prelude.{is_none, is_some, ◌&&◌, if◌then◌else◌}
+use Rattle.std.specs.Prelude.{is_none, is_some, ◌&&◌, if◌then◌else◌, IsSomeAnd}
 use Rattle.std.specs.Option.{option_map}
 use Rattle.game_rules.specs.Grid.{Grid, IsBoard, is_on, is_empty, empties_of}
 use Rattle.game_rules.specs.Shapes.{is_same_point}
@@ -11,7 +11,7 @@ use Rattle.game_rules.specs.declared.RuleKind.{RuleKind}
 use Rattle.game_rules.specs.declared.Point.{Point}
 use Rattle.strategy_graph.specs.declared.Node.{Node}
 use Rattle.strategy_graph.specs.Tables.{IsTable, answer_at}
-use Rattle.strategy_graph.specs.Acceptance.{Answered, Accepted}
+use Rattle.strategy_graph.specs.Acceptance.{Accepted}
 use Rattle.strategy_compiler.specs.Trees.{StandsFor}
 use Rattle.strategy_compiler.specs.Walks.{IsTableOf, last}
 use Rattle.strategy_checker.specs.HeldRoots.{HeldTable}
@@ -88,7 +88,7 @@ place_in (Some place) = place
 pub record OwnGoesOn (rule : RuleKind) (b : Grid) (own : OwnTable) : Type 0 where
   pub moves_left : 1 ≤ own.moves
   pub in_table : own.node < length own.table
-  pub answers : (q : Point) → LosesOr (outcome rule b q) (Answered (answer_at own.table own.node q)
+  pub answers : (q : Point) → LosesOr (outcome rule b q) (IsSomeAnd (answer_at own.table own.node q)
       (λ j. StandsFor own.table j (four_plan rule (own.moves - 1) (after b q)) × Accepted rule own.table j (after b q)))
 
 -- the guide goes on at b, if it is a table of the brain's own

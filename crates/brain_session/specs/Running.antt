@@ -1,5 +1,6 @@
 -- What is true of a running game: how it came about, and that what the brain follows goes on whatever the opponent does.
 use Rattle.std.specs.Prelude.{◌≡◌, ◌-◌, ◌<◌, Bool, true, false, length, List, [], ◌∷◌, Option, IfSome, is_some, All, AllPairs}
+use Rattle.std.specs.Prelude.{IsSomeAnd}
 use Rattle.game_rules.specs.Grid.{Grid, IsBoard, is_on}
 use Rattle.game_rules.specs.Shapes.{is_same_point}
 use Rattle.game_rules.specs.Play.{IsPosition, outcome, after, mover, other}
@@ -10,7 +11,7 @@ use Rattle.game_rules.specs.declared.Outcome.{Outcome}
 use Rattle.game_rules.specs.declared.Outcome.TheVariants.{Refused, Wins, Fouls, Draws, GoesOn}
 use Rattle.game_rules.specs.declared.Point.{Point}
 use Rattle.strategy_graph.specs.Tables.{answer_at}
-use Rattle.strategy_graph.specs.Acceptance.{Answered, Accepted}
+use Rattle.strategy_graph.specs.Acceptance.{Accepted}
 use Rattle.strategy_checker.specs.HeldRoots.{HeldTable, IsHeld}
 use Rattle.brain_session.specs.States.{Followed, HeldNode, OwnWin, Game, board_after, board_of, empty_board, Batch, Place, NoBoard, Fresh}
 use Rattle.brain_session.specs.States.{InGame, State}
@@ -44,7 +45,7 @@ IsPlayed false rule start moves = GoesOnAlong rule start moves
 abbrev pub FollowsAt : HeldTable → RuleKind → Grid → Followed → Type 0
 FollowsAt h rule b (HeldNode i) =
     (i < length h.table) × ((q : Point) → LosesOr (outcome rule b q)
-    (Answered (answer_at h.table i q) (λ j. Accepted rule h.table j (after b q))))
+    (IsSomeAnd (answer_at h.table i q) (λ j. Accepted rule h.table j (after b q))))
 FollowsAt h rule b (OwnWin moves) = (q : Point) → LosesOr (outcome rule b q) (WinsByFours rule (moves - 1) (after b q))
 
 -- what is followed, if anything, goes on where the game is not ended

@@ -1,5 +1,6 @@
 -- What a node names are the answers to the replies of its tree. The plan of a win by fours, node by node.
 use Rattle.std.proofs.Common.{◌≡◌, ℕ, Bool, true, false, ◌||◌, not, refl, sym, ap, subst, ◌∙◌, List, [], ◌∷◌, map, nat_eq, Option, Some}
+use Rattle.std.specs.Prelude.{IsSomeAnd}
 use Rattle.std.proofs.Common.{None, inl, inr, zero, suc, ◌-◌, ◌≤◌, ◌<◌, cond, ◌&&◌, arith, ◌++◌, length, get_or, Result, Ok, Err, IfOk, All}
 use Rattle.std.specs.Option.{option_eq}
 use Rattle.std.specs.List.{AllByRecursion, list_all, find}
@@ -21,7 +22,7 @@ use Rattle.game_rules.proofs.Places.{find-passes}
 use Rattle.game_rules.proofs.Games.{wins-some, no_move}
 use Rattle.strategy_graph.specs.declared.Node.{Node}
 use Rattle.strategy_graph.specs.declared.Reply.{Reply}
-use Rattle.strategy_graph.proofs.Common.{Answers, answer, rest_node, Answered}
+use Rattle.strategy_graph.proofs.Common.{Answers, answer, rest_node}
 use Rattle.strategy_compiler.proofs.Forks.{IfAnswer, all-filter}
 use Rattle.strategy_compiler.proofs.Common.{Tree, StandsFor, StandsForAll, AnswersBriefly, replies_of, Branches, Leaf, Fork}
 use Rattle.strategy_compiler.proofs.Common.{AnswersBranches, answer_node}
@@ -55,7 +56,7 @@ all_map Q h (x ∷ xs) a = (a.0, all_map Q h xs a.1)
 -- ---- the answers to the replies of a plan
 
 module _ (t : List Node) (a : Answers) (o : Point → Outcome) (next : Point → Tree) where
-  answered_if : (P Q : ℕ → Type 0) (u : Option ℕ) → ((j : ℕ) → P j → Q j) → Answered u P → IfAnswer Q u
+  answered_if : (P Q : ℕ → Type 0) (u : Option ℕ) → ((j : ℕ) → P j → Q j) → IsSomeAnd u P → IfAnswer Q u
   answered_if P Q None f h = absurd h
   answered_if P Q (Some j) f h = f j h
 
@@ -73,7 +74,7 @@ module _ (t : List Node) (a : Answers) (o : Point → Outcome) (next : Point →
 
   -- a reply that goes on has an answer, which stands for the tree after it
   pub answer-at : (ps : List Point) (q : Point) → AmongPoints q ps → o q ≡ GoesOn → StandsForAll t a (branches_for o next ps)
-      → Answered (answer a q) (λ j. StandsFor t j (next q))
+      → IsSomeAnd (answer a q) (λ j. StandsFor t j (next q))
   unfolding StandsFor
   answer-at [] q among on h = cc
   answer-at (p ∷ ps) q among on h = by_test (is_same_point q p) refl among (λ later. answer-at ps q later on) where
@@ -82,16 +83,16 @@ module _ (t : List Node) (a : Answers) (o : Point → Outcome) (next : Point →
     skip _ k = k
 
     here : (r : Outcome) → r ≡ GoesOn → StandsForAll t a (branch_if r p (next p) (branches_for o next ps))
-        → Answered (answer a p) (λ j. StandsFor t j (next p))
+        → IsSomeAnd (answer a p) (λ j. StandsFor t j (next p))
     here GoesOn e k = k.0
     here _ e k = cc
 
     by_test : (r : Bool) → is_same_point q p ≡ r → (r || among_points q ps) ≡ true
-        → (AmongPoints q ps → StandsForAll t a (branches_for o next ps) → Answered (answer a q) (λ j. StandsFor t j (next q)))
-        → Answered (answer a q) (λ j. StandsFor t j (next q))
+        → (AmongPoints q ps → StandsForAll t a (branches_for o next ps) → IsSomeAnd (answer a q) (λ j. StandsFor t j (next q)))
+        → IsSomeAnd (answer a q) (λ j. StandsFor t j (next q))
     by_test true e k rest =
         let same : q ≡ p = is_same_point-same q p e in
-        subst (λ (x : Point). Answered (answer a x) (λ j. StandsFor t j (next x))) (sym same) (here (o p) (ap o (sym same) ∙ on) h)
+        subst (λ (x : Point). IsSomeAnd (answer a x) (λ j. StandsFor t j (next x))) (sym same) (here (o p) (ap o (sym same) ∙ on) h)
     by_test false e k rest = rest k (skip (o p) h)
 
 -- ---- the points of listed replies

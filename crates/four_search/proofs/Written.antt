@@ -2,9 +2,10 @@
 -- a win by fours. One move of a win by fours, and the node that stands for its plan: the node's attack is the chosen move, and where that
 -- goes on each reply that goes on is answered by a node that stands for the plan of the win that is left. And the fewest moves.
 use Rattle.std.proofs.Common.{◌≡◌, ◌⊎◌, inl, inr, ℕ, zero, suc, ◌+◌, ◌*◌, ◌≤◌, ◌<◌, Bool, true, false, ◌&&◌, refl, sym, ap, subst, ◌∙◌}
+use Rattle.std.specs.Prelude.{IsSomeAnd}
 use Rattle.std.proofs.Common.{arith, List, map, length, Option, Some, None, slice_get, ◌-◌, cond, [], ◌∷◌}
 use Rattle.std.specs.List.{list_all, sum_by, find, range_with_len}
-use Rattle.std.specs.Option.{option_map, option_and_then}
+use Rattle.std.specs.Option.{option_map, option_and_then, option_map_or}
 use Rattle.std.proofs.lemmas.Bool.{cases_lt}
 use Rattle.game_rules.specs.declared.RuleKind.{RuleKind}
 use Rattle.game_rules.specs.declared.Outcome.{Outcome}
@@ -23,9 +24,9 @@ use Rattle.game_rules.proofs.Places.{points_length, find-passes}
 use Rattle.game_rules.proofs.PointLists.{any-find, sum-ones-but}
 use Rattle.game_rules.proofs.ReadingOrder.{sum-once}
 use Rattle.strategy_graph.specs.declared.Node.{Node}
-use Rattle.strategy_graph.proofs.Common.{answers_of, answer, is_winning, IsTable, depth, node_depth, named, greatest, Answered, Meets}
-use Rattle.strategy_graph.proofs.Common.{Accepted, if_answered, arrivals_at, arrivals, answer_at}
-use Rattle.strategy_graph.proofs.Answering.{Answered-map, answer-greatest}
+use Rattle.strategy_graph.proofs.Common.{answers_of, answer, is_winning, IsTable, depth, node_depth, named, greatest, Meets}
+use Rattle.strategy_graph.proofs.Common.{Accepted, arrivals_at, arrivals, answer_at}
+use Rattle.strategy_graph.proofs.Answering.{IsSomeAnd-map, answer-greatest}
 use Rattle.strategy_graph.proofs.Fuel.{depth-step}
 use Rattle.strategy_graph.proofs.Steps.{accepted-by-replies, arrivals-by-replies, arrivals-winning}
 use Rattle.strategy_graph.proofs.Greatest.{greatest-each}
@@ -111,7 +112,7 @@ module _ (rule : RuleKind) (t : List Node) (table : IsTable t) (i m : ℕ) (b : 
 
   -- the answer to a reply that goes on
   answered : (q : Point) → outcome rule (after b p) q ≡ GoesOn
-      → Answered (answer (answers_of n) q) (λ j. StandsFor t j (four_plan rule m (after (after b p) q)))
+      → IsSomeAnd (answer (answers_of n) q) (λ j. StandsFor t j (four_plan rule m (after (after b p) q)))
   answered q go = answer-at t (answers_of n) (outcome rule (after b p)) (λ q. four_plan rule m (after (after b p) q)) (points_of b) q
       (points-found (after b p) (λ x. is_same_point q x) q (GoesOn-on rule (after b p) q go) (is_same_point-itself q)) go stands
 
@@ -134,8 +135,8 @@ module _ (rule : RuleKind) (t : List Node) (table : IsTable t) (i m : ℕ) (b : 
   written_accepted : Accepted rule t i b
   written_accepted = accepted-by-replies rule t (IsTable-lower t table) i b n at (ap (outcome rule b) plays ∙ on) no_win (λ q.
       subst (λ (x : Point). Meets rule (answers_of n) (Accepted rule t) (after b x) q) (sym plays)
-      (by_loses q (Answered (answer (answers_of n) q) (λ j. Accepted rule t j (after (after b p) q)))
-      (λ go. Answered-map (answer (answers_of n) q) (λ j. StandsFor t j (four_plan rule m (after (after b p) q)))
+      (by_loses q (IsSomeAnd (answer (answers_of n) q) (λ j. Accepted rule t j (after (after b p) q)))
+      (λ go. IsSomeAnd-map (answer (answers_of n) q) (λ j. StandsFor t j (four_plan rule m (after (after b p) q)))
       (λ j. Accepted rule t j (after (after b p) q)) (λ j e s. (next_written q j go s).accepted) (answered q go))))
 
   written_depth : depth t i ≡ suc (greatest (map (depth t) (named (answers_of n))))
@@ -168,12 +169,12 @@ module _ (rule : RuleKind) (t : List Node) (table : IsTable t) (i m : ℕ) (b : 
       ap (λ (d : ℕ). wins_by_fours rule d b) written_depth
       ∙ points-found b (starts_win (has_five rule) rule b (wins_by_fours rule k)) p (GoesOn-on rule b p on) here where
         next_one : (q : Point) → outcome rule (after b p) q ≡ GoesOn
-            → Answered (answer (answers_of n) q) (λ j. wins_by_fours rule (depth t j) (after (after b p) q) ≡ true)
-        next_one q go = Answered-map (answer (answers_of n) q) (λ j. StandsFor t j (four_plan rule m (after (after b p) q)))
+            → IsSomeAnd (answer (answers_of n) q) (λ j. wins_by_fours rule (depth t j) (after (after b p) q) ≡ true)
+        next_one q go = IsSomeAnd-map (answer (answers_of n) q) (λ j. StandsFor t j (four_plan rule m (after (after b p) q)))
             (λ j. wins_by_fours rule (depth t j) (after (after b p) q) ≡ true) (λ j e s. (next_written q j go s).wins) (answered q go)
 
         next_wins : (q : Point) (o : Option ℕ) → answer (answers_of n) q ≡ o
-            → Answered o (λ j. wins_by_fours rule (depth t j) (after (after b p) q) ≡ true)
+            → IsSomeAnd o (λ j. wins_by_fours rule (depth t j) (after (after b p) q) ≡ true)
             → wins_by_fours rule (greatest (map (depth t) (named (answers_of n)))) (after (after b p) q) ≡ true
         next_wins q None e h = absurd h
         next_wins q (Some j) e h = wins-more rule (depth t j) (greatest (map (depth t) (named (answers_of n)))) (after (after b p) q)
@@ -210,13 +211,13 @@ module _ (rule : RuleKind) (t : List Node) (table : IsTable t) (i m : ℕ) (b : 
   unfolding count
   by_counts q k f = by_outcome (outcome rule (after b p) q) refl where
     by_answer : (o : Option ℕ) → answer (answers_of n) q ≡ o → outcome rule (after b p) q ≡ GoesOn
-        → Answered o (λ j. StandsFor t j (four_plan rule m (after (after b p) q)))
-        → if_answered o (λ j. arrivals rule t j (after (after b p) q)) ≤ k
+        → IsSomeAnd o (λ j. StandsFor t j (four_plan rule m (after (after b p) q)))
+        → option_map_or (λ j. arrivals rule t j (after (after b p) q)) o 0 ≤ k
     by_answer None e go s = omega arith
     by_answer (Some j) e go s = f go j e s
 
     by_outcome : (o : Outcome) → outcome rule (after b p) q ≡ o
-        → if_goes_on o (if_answered (answer (answers_of n) q) (λ j. arrivals rule t j (after (after b p) q))) ≤ k
+        → if_goes_on o (option_map_or (λ j. arrivals rule t j (after (after b p) q)) (answer (answers_of n) q) 0) ≤ k
     by_outcome GoesOn e = by_answer (answer (answers_of n) q) refl e (answered q e)
     by_outcome _ e = omega arith
 
@@ -244,7 +245,7 @@ module _ (rule : RuleKind) (t : List Node) (table : IsTable t) (i m : ℕ) (b : 
   -- the four's own point is taken
   none_at : count p ≡ 0
   unfolding count
-  none_at = ap (λ o. if_goes_on o (if_answered (answer (answers_of n) p) (λ j. arrivals rule t j (after (after b p) p))))
+  none_at = ap (λ o. if_goes_on o (option_map_or (λ j. arrivals rule t j (after (after b p) p)) (answer (answers_of n) p) 0))
       (taken_refused rule (after b p) p (taken_after b p lawful.board (GoesOn-empty rule b p on)))
 
   won_short : fate rule (after b p) ≡ Won → arrivals rule t i b ≤ b.width * b.height * suc m
@@ -407,7 +408,7 @@ pub record PlanAt (rule : RuleKind) (t : List Node) (n j : ℕ) (b : Grid) : Typ
 
 -- each reply at c is no move, fouls, or goes on, and is answered at node i by a node that stands for the plan within n moves
 abbrev pub PlansOn : RuleKind → List Node → ℕ → ℕ → Grid → Type 0
-PlansOn rule t n i c = (q : Point) → LosesOr (outcome rule c q) (Answered (answer_at t i q) (λ j. PlanAt rule t n j (after c q)))
+PlansOn rule t n i c = (q : Point) → LosesOr (outcome rule c q) (IsSomeAnd (answer_at t i q) (λ j. PlanAt rule t n j (after c q)))
 
 module _ (rule : RuleKind) (t : List Node) (table : IsTable t) (m i : ℕ) (b : Grid) (p : Point) (lawful : IsPosition rule b)
     (chosen : four_move rule (suc m) b ≡ Some p) (go : outcome rule b p ≡ GoesOn) (stands : StandsFor t i (four_plan rule (suc m) b)) where
@@ -434,19 +435,19 @@ module _ (rule : RuleKind) (t : List Node) (table : IsTable t) (m i : ℕ) (b : 
   fork = subst (λ (s : Tree). StandsFor t i s) (plan-fork rule m b p none chosen) stands
 
   answered_there : (q : Point) → outcome rule (after b p) q ≡ GoesOn
-      → Answered (answer_at t i q) (λ j. StandsFor t j (four_plan rule m (after (after b p) q)))
+      → IsSomeAnd (answer_at t i q) (λ j. StandsFor t j (four_plan rule m (after (after b p) q)))
   answered_there q on =
       let node = at_fork t i p _ fork in
       let found = answer-at t (answers_of node.0) (outcome rule (after b p)) (λ q. four_plan rule m (after (after b p) q)) (points_of b) q
       (points-found (after b p) (λ x. is_same_point q x) q (GoesOn-on rule (after b p) q on) (is_same_point-itself q)) on node.2 in
-      subst (λ (o : Option Node). Answered (option_and_then (λ n. answer (answers_of n) q) o)
+      subst (λ (o : Option Node). IsSomeAnd (option_and_then (λ n. answer (answers_of n) q) o)
       (λ j. StandsFor t j (four_plan rule m (after (after b p) q)))) (sym node.1) found
 
   plan_replies : PlansOn rule t m i (after b p)
   plan_replies q =
       loses_by (outcome rule (after b p) q) (wins_by_fours rule m (after (after b p) q) ≡ true) _
       (each_reply rule (after b p) (wins_by_fours rule m) (λ d. wins_by_fours rule m d ≡ true) (λ d h. h) replies_lose q)
-      (λ on wins. Answered-map (answer_at t i q) (λ j. StandsFor t j (four_plan rule m (after (after b p) q)))
+      (λ on wins. IsSomeAnd-map (answer_at t i q) (λ j. StandsFor t j (four_plan rule m (after (after b p) q)))
       (λ j. PlanAt rule t m j (after (after b p) q))
       (λ j e s. record {
         wins = wins;

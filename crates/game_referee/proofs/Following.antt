@@ -1,7 +1,7 @@
 -- Games that follow an accepted table: the verdict agrees with the end of the game against the table, and no such game is lost.
 use Rattle.std.proofs.Common.{◌≡◌, ◌↔◌, ℕ, zero, suc, ◌+◌, ◌*◌, ◌-◌, Bool, true, false, not, List, [], ◌∷◌, ◌++◌, length, refl, sym, ap}
 use Rattle.std.proofs.Common.{subst, ◌∙◌, arith}
-use Rattle.std.specs.Prelude.{Option, Some, None, slice_get}
+use Rattle.std.specs.Prelude.{Option, Some, None, slice_get, IsSomeAnd}
 use Rattle.std.specs.Option.{option_map}
 use Rattle.game_rules.specs.Grid.{Grid}
 use Rattle.game_rules.specs.Shapes.{is_same_point}
@@ -20,9 +20,8 @@ use Rattle.strategy_graph.specs.declared.roots.Root.{Root}
 use Rattle.strategy_graph.specs.declared.roots.Root.TheVariants.{Attack, Defend}
 use Rattle.strategy_graph.specs.Roots.{AcceptedRoot}
 use Rattle.strategy_graph.specs.Tables.{Answers, answers_of, answer, is_winning}
-use Rattle.strategy_graph.specs.Acceptance.{Answered, NotWinning, Meets, AcceptedNode, AcceptedWithin, Accepted}
+use Rattle.strategy_graph.specs.Acceptance.{Meets, AcceptedNode, AcceptedWithin, Accepted}
 use Rattle.strategy_graph.specs.Games.{End, Won as EndWon, Open as EndOpen, one_later, attacks, game}
-use Rattle.strategy_graph.proofs.Fuel.{not_winning}
 use Rattle.game_referee.specs.declared.GameVerdict.{GameVerdict}
 use Rattle.game_referee.specs.declared.GameVerdict.TheVariants.{Open, Illegal, AfterEnd, Won, Fouled, Drawn}
 use Rattle.game_referee.specs.declared.ReplayAnswer.TheVariants.{Follows}
@@ -175,13 +174,13 @@ module _ (rule : RuleKind) (t : List Node) (i : ℕ) (b : Grid) (n : Node) (at :
           → Held rule t i b (n.attack ∷ q ∷ more) c s
       reply-held Next held meets more follows = by_outcome (outcome rule (after b n.attack) q) refl meets where
         by_answer : outcome rule (after b n.attack) q ≡ GoesOn → (o : Option ℕ) → answer (answers_of n) q ≡ o
-            → Answered o (λ j. Next j (after (after b n.attack) q)) → Held rule t i b (n.attack ∷ q ∷ more) c s
+            → IsSomeAnd o (λ j. Next j (after (after b n.attack) q)) → Held rule t i b (n.attack ∷ q ∷ more) c s
         by_answer go None is h = absurd h
         by_answer go (Some j) is h = reply-next more j go is
             (held j (after (after b n.attack) q) more (c + 1 + 1) s h (follows-next more j go is follows))
 
         by_outcome : (o : Outcome) → outcome rule (after b n.attack) q ≡ o
-            → LosesOr o (Answered (answer (answers_of n) q) (λ j. Next j (after (after b n.attack) q)))
+            → LosesOr o (IsSomeAnd (answer (answers_of n) q) (λ j. Next j (after (after b n.attack) q)))
             → Held rule t i b (n.attack ∷ q ∷ more) c s
         by_outcome Refused is h = reply-refused is more
         by_outcome Wins is h = absurd h
@@ -190,21 +189,22 @@ module _ (rule : RuleKind) (t : List Node) (i : ℕ) (b : Grid) (n : Node) (at :
         by_outcome GoesOn is h = by_answer is (answer (answers_of n) q) refl h
 
   attack-held : (Next : ℕ → Grid → Type 0) → HeldAfter rule t Next → WinsOr (outcome rule b n.attack)
-      (NotWinning n.rest × ((q : Point) → Meets rule (answers_of n) Next (after b n.attack) q)) → (more : List Point)
+      ((is_winning n.rest ≡ false) × ((q : Point) → Meets rule (answers_of n) Next (after b n.attack) q)) → (more : List Point)
       → departs_from c (false ∷ strays t (option_map (λ (m : Node). Defend (answers_of m)) (slice_get t i)) more)
       (outcomes rule b (n.attack ∷ more)) ≡ Follows
       → Held rule t i b (n.attack ∷ more) c s
   attack-held Next held accepted more follows = by_outcome (outcome rule b n.attack) refl accepted where
-    by_more : outcome rule b n.attack ≡ GoesOn → NotWinning n.rest × ((q : Point) → Meets rule (answers_of n) Next (after b n.attack) q)
+    by_more : outcome rule b n.attack ≡ GoesOn → (is_winning n.rest ≡ false)
+        × ((q : Point) → Meets rule (answers_of n) Next (after b n.attack) q)
         → (ms : List Point)
         → departs_from c (false ∷ strays t (option_map (λ (m : Node). Defend (answers_of m)) (slice_get t i)) ms)
         (outcomes rule b (n.attack ∷ ms)) ≡ Follows
         → Held rule t i b (n.attack ∷ ms) c s
-    by_more on h [] fol = attack-open on (not_winning n.rest h.0)
-    by_more on h (q ∷ ms) fol = reply-held on (not_winning n.rest h.0) q Next held (h.1 q) ms fol
+    by_more on h [] fol = attack-open on h.0
+    by_more on h (q ∷ ms) fol = reply-held on h.0 q Next held (h.1 q) ms fol
 
     by_outcome : (o : Outcome) → outcome rule b n.attack ≡ o
-        → WinsOr o (NotWinning n.rest × ((q : Point) → Meets rule (answers_of n) Next (after b n.attack) q))
+        → WinsOr o ((is_winning n.rest ≡ false) × ((q : Point) → Meets rule (answers_of n) Next (after b n.attack) q))
         → Held rule t i b (n.attack ∷ more) c s
     by_outcome Refused is h = absurd h
     by_outcome Wins is h = attack-wins is more
@@ -335,7 +335,7 @@ start-kept rule t a b q ms meets follows = by_outcome (outcome rule b q) refl me
   by_more f [] = refl
   by_more f (o ∷ os) = tt
 
-  by_answer : outcome rule b q ≡ GoesOn → (o : Option ℕ) → answer a q ≡ o → Answered o (λ j. Accepted rule t j (after b q))
+  by_answer : outcome rule b q ≡ GoesOn → (o : Option ℕ) → answer a q ≡ o → IsSomeAnd o (λ j. Accepted rule t j (after b q))
       → IsKeptBy (other (mover b)) (mover b) (verdict_from 1 (other (mover b)) (outcomes rule (after b q) ms))
   by_answer go None is h = absurd h
   by_answer go (Some j) is h =
@@ -345,7 +345,7 @@ start-kept rule t a b q ms meets follows = by_outcome (outcome rule b q) refl me
       Follows) is f1 in
       node-kept rule t j (after b q) ms 1 (other (mover b)) (mover b) (λ m k odd. mover_odd (mover b) m k (omega (arith, odd))) h f2
 
-  by_outcome : (o : Outcome) → outcome rule b q ≡ o → LosesOr o (Answered (answer a q) (λ j. Accepted rule t j (after b q)))
+  by_outcome : (o : Outcome) → outcome rule b q ≡ o → LosesOr o (IsSomeAnd (answer a q) (λ j. Accepted rule t j (after b q)))
       → IsKeptBy (other (mover b)) (mover b) (verdict_from 0 (mover b) (outcomes rule b (q ∷ ms)))
   by_outcome Refused is h = subst
       (λ (x : Outcome). IsKeptBy (other (mover b)) (mover b) (verdict_from 0 (mover b) (x ∷ outcomes rule (after b q) ms))) (sym is) refl

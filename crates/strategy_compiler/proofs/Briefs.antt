@@ -1,6 +1,7 @@
 -- A set of nodes in order: which node is at a place, and what is put in. The node that answers given replies: it is a node of a table,
 -- answers each as given, and stands for the tree of these branches. The commonest of some numbers, found by going over them.
 use Rattle.std.proofs.Common.{◌≡◌, inl, inr, ◌<◌, ◌≤◌, Bool, true, false, cond, List, [], ◌∷◌, ◌++◌, length, refl, sym, subst, ℕ, not, map}
+use Rattle.std.specs.Prelude.{IsSomeAnd}
 use Rattle.std.proofs.Common.{filter, ap, ◌∙◌, Option, Some, None, Result, Ok, Err, IfOk, OnOk, nat_lt, nat_eq, slice_get, All, Contains}
 use Rattle.std.proofs.Common.{◌+◌, max, ◌&&◌, ◌==◌, take, get_or, arith, IsSome, nat_le}
 use Rattle.std.specs.List.{list_any, IsDistinct, list_all, find, AllByRecursion, count_by, sum_by}
@@ -22,7 +23,7 @@ use Rattle.strategy_graph.specs.declared.Rest.TheVariants.{Wins}
 use Rattle.strategy_graph.proofs.Equal.{lt_of_le, Contains-found, list_any-Contains, different_by}
 use Rattle.strategy_graph.proofs.Filling.{IsTable-push}
 use Rattle.strategy_graph.proofs.Common.{IsNode, IsTable, Answers, answers_of, answer, answer_at, listed_node, is_rising, is_winning, named}
-use Rattle.strategy_graph.proofs.Common.{rest_node, rest_nodes, Answered, AtNode, greatest}
+use Rattle.strategy_graph.proofs.Common.{rest_node, rest_nodes, AtNode, greatest}
 use Rattle.strategy_graph.proofs.Rising.{is_rising-filter, next-filter, Kept, kept_all, AnsweredAsGiven, point-given, all-next}
 use Rattle.strategy_compiler.proofs.Common.{AreDifferent, IsCompiled, PutsIn, Tree, Branches, Leaf, Fork, NoBranch, Branch, StandsFor}
 use Rattle.strategy_compiler.proofs.Common.{StandsForAll, AnswersBranches, AnswersBriefly, replies_of, answers_to, commonest, NamesOnly}
@@ -196,7 +197,7 @@ stands-all t u a [] (Branch q s bs) keep g h = absurd h
 stands-all t u a (r ∷ rs) NoBranch keep g h = absurd h
 stands-all t u a (r ∷ rs) (Branch q s bs) keep g h =
     let given : answer a q ≡ Some r.next = subst (λ (p : Point). answer a p ≡ Some r.next) h.0 g.0 in
-    (subst (λ (o : Option ℕ). Answered o (λ j. StandsFor u j s)) (sym given) (keep r.next s h.1), stands-all t u a rs bs keep g.1 h.2)
+    (subst (λ (o : Option ℕ). IsSomeAnd o (λ j. StandsFor u j s)) (sym given) (keep r.next s h.1), stands-all t u a rs bs keep g.1 h.2)
 
 -- where each given node stands for the tree of a branch, the node put in stands for the tree with this attack and these branches
 pub stands-answering : (old new : List Node) (i : ℕ) (attack : Point) (rs : List Reply) → is_rising rs ≡ true

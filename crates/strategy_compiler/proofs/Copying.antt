@@ -1,6 +1,7 @@
 -- A table that holds nodes of another under other numbers, no two under one: its copies stand for the same trees, are
 -- completed in the same order, reach the same nodes, and are different where the nodes are.
 use Rattle.std.proofs.Common.{◌≡◌, ℕ, zero, suc, ◌+◌, Bool, true, false, cond, not, ◌&&◌, ◌||◌, ◌==◌, List, [], ◌∷◌, ◌++◌, map, filter}
+use Rattle.std.specs.Prelude.{IsSomeAnd}
 use Rattle.std.proofs.Common.{refl, sym, ap, subst, ◌∙◌, arith, Option, Some, None, nat_le, nat_eq, slice_get, fold, Contains}
 use Rattle.std.specs.List.{list_all, find, cons_option}
 use Rattle.std.specs.Option.{option_map, option_map_or, option_eq}
@@ -14,7 +15,7 @@ use Rattle.strategy_graph.specs.declared.Node.{Node}
 use Rattle.strategy_graph.specs.declared.Reply.{Reply}
 use Rattle.strategy_graph.specs.declared.Rest.{Rest}
 use Rattle.strategy_graph.specs.declared.Rest.TheVariants.{To}
-use Rattle.strategy_graph.proofs.Common.{Answers, answers_of, answer, named, rest_node, rest_nodes, is_winning, Answered, AtNode}
+use Rattle.strategy_graph.proofs.Common.{Answers, answers_of, answer, named, rest_node, rest_nodes, is_winning, AtNode}
 use Rattle.strategy_graph.proofs.Common.{renumbered_node, renumbered_reply, renumbered_rest, renumbered_answers}
 use Rattle.strategy_graph.proofs.Answering.{answer-named}
 use Rattle.strategy_graph.proofs.Copies.{Copies, answer-renumbered, is_winning-renumbered, named-renumbered}
@@ -191,8 +192,8 @@ module _ (f : ℕ → ℕ) (passes : ℕ → Bool) (one : IsOneToOne f passes) w
         let c = copies.copied i p in
         subst (λ (o : Option Node). AtNode o Q) (sym c.2) (g c.0 c.3 (subst (λ (o : Option Node). AtNode o P) c.1 h))
 
-    answered-copied : (o : Option ℕ) (P Q : ℕ → Type 0) → ((j : ℕ) → o ≡ Some j → P j → Q (f j)) → Answered o P
-        → Answered (option_map f o) Q
+    answered-copied : (o : Option ℕ) (P Q : ℕ → Type 0) → ((j : ℕ) → o ≡ Some j → P j → Q (f j)) → IsSomeAnd o P
+        → IsSomeAnd (option_map f o) Q
     answered-copied None P Q g h = h
     answered-copied (Some j) P Q g h = g j refl h
 
@@ -214,7 +215,7 @@ module _ (f : ℕ → ℕ) (passes : ℕ → Bool) (one : IsOneToOne f passes) w
           → StandsForAll u (renumbered_answers f a) bs
       stands_all-copied a NoBranch all h = tt
       stands_all-copied a (Branch q s bs) all h = (
-        subst (λ (o : Option ℕ). Answered o (λ j. StandsFor u j s)) (sym (answer-renumbered f a q))
+        subst (λ (o : Option ℕ). IsSomeAnd o (λ j. StandsFor u j s)) (sym (answer-renumbered f a q))
             (answered-copied (answer a q) (λ j. StandsFor t j s) (λ j. StandsFor u j s)
             (λ j e k. stands-copied j s (answer-named passes a q j all e) k) h.0),
         stands_all-copied a bs all h.1,

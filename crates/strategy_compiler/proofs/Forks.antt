@@ -1,5 +1,6 @@
 -- A node whose attack wins at once is a win, and so is one whose attack goes on and whose answers win after it.
 use Rattle.std.proofs.Common.{◌≡◌, ◌⊎◌, inl, inr, ℕ, suc, ◌+◌, ◌≤◌, ◌<◌, Bool, true, false, cond, not, ◌||◌, refl, sym, ap, subst, ◌∙◌}
+use Rattle.std.specs.Prelude.{IsSomeAnd}
 use Rattle.std.proofs.Common.{arith, List, [], ◌∷◌, ◌++◌, map, length, filter, nat_eq, Option, Some, None, IsSome, Result, Ok, Err, IfOk}
 use Rattle.std.proofs.Common.{OnOk, All, Contains, slice_get, nat_lt}
 use Rattle.std.specs.List.{list_any, list_all, find, cons_option, filter_map, AllByRecursion}
@@ -21,7 +22,7 @@ use Rattle.strategy_graph.specs.declared.Reply.{Reply}
 use Rattle.strategy_graph.specs.declared.Rest.{Rest}
 use Rattle.strategy_graph.specs.declared.Rest.TheVariants.{To}
 use Rattle.strategy_graph.proofs.Common.{Answers, answer, rest_node, rest_nodes, answers_of, named, names_below, listed_node, is_rising}
-use Rattle.strategy_graph.proofs.Common.{NamesLower, NamesOnBoard, depth, node_depth, start_depth, greatest, Answered, Accepted}
+use Rattle.strategy_graph.proofs.Common.{NamesLower, NamesOnBoard, depth, node_depth, start_depth, greatest, Accepted}
 use Rattle.strategy_graph.proofs.Common.{AcceptedStart}
 use Rattle.strategy_graph.proofs.Filling.{IsTable-lower, growth-same-start}
 use Rattle.strategy_graph.proofs.Fuel.{depth-step}
@@ -159,9 +160,9 @@ each-answered : (rule : RuleKind) (c : Grid) (t : List Node) (answers : List Rep
     → AnswersEach rule c answers
 each-answered rule c t answers h q go =
     by_listed (listed_node answers q)
-    (subst (λ (o : Outcome). LosesOr o (Answered (option_or (listed_node answers q) None) (λ j. Accepted rule t j (after c q)))) go
+    (subst (λ (o : Outcome). LosesOr o (IsSomeAnd (option_or (listed_node answers q) None) (λ j. Accepted rule t j (after c q)))) go
     (h q)) where
-      by_listed : (o : Option ℕ) → Answered (option_or o None) (λ j. Accepted rule t j (after c q)) → IsSome o
+      by_listed : (o : Option ℕ) → IsSomeAnd (option_or o None) (λ j. Accepted rule t j (after c q)) → IsSome o
       by_listed None k = absurd k
       by_listed (Some j) k = refl
 
@@ -253,7 +254,7 @@ answer-by-win rule limit c t r m go win = record {
 module _ (rule : RuleKind) (limit : ℕ) (c : Grid) (t : List Node) where
   answer-found : (answers : List Reply) → AllByRecursion (IsAnswer rule limit c t) answers → (q : Point) → outcome rule c q ≡ GoesOn
       → list_any (is_same_point q) (map (λ r. r.at) answers) ≡ true
-      → Answered (option_or (listed_node answers q) None) (λ j. Accepted rule t j (after c q))
+      → IsSomeAnd (option_or (listed_node answers q) None) (λ j. Accepted rule t j (after c q))
   answer-found [] h q go e = cc
   answer-found (r ∷ rs) h q go e = by_test (is_same_point r.at q) refl (answer-found rs h.1 q go) where
     later : (b : Bool) → is_same_point q r.at ≡ b → is_same_point r.at q ≡ false
@@ -266,8 +267,8 @@ module _ (rule : RuleKind) (limit : ℕ) (c : Grid) (t : List Node) where
 
     by_test : (b : Bool) → is_same_point r.at q ≡ b
         → (list_any (is_same_point q) (map (λ r. r.at) rs) ≡ true
-        → Answered (option_or (listed_node rs q) None) (λ j. Accepted rule t j (after c q)))
-        → Answered (option_or (option_map (λ r. r.next) (cond b (Some r) (find (λ r. is_same_point r.at q) rs))) None)
+        → IsSomeAnd (option_or (listed_node rs q) None) (λ j. Accepted rule t j (after c q)))
+        → IsSomeAnd (option_or (option_map (λ r. r.next) (cond b (Some r) (find (λ r. is_same_point r.at q) rs))) None)
         (λ j. Accepted rule t j (after c q))
     by_test true same rest =
         let here = is_same_point-same r.at q same in
@@ -289,7 +290,7 @@ module _ (rule : RuleKind) (limit : ℕ) (c : Grid) (t : List Node) where
     stay = all-weaker (IsAnswer rule limit c t) (λ r. StaysOnBoard c t r.next) (λ r k. k.stays) answers h;
   } where
     met : (q : Point) (o : Outcome) → outcome rule c q ≡ o → LosesOr o (Unit {0})
-        → LosesOr o (Answered (option_or (listed_node answers q) None) (λ j. Accepted rule t j (after c q)))
+        → LosesOr o (IsSomeAnd (option_or (listed_node answers q) None) (λ j. Accepted rule t j (after c q)))
     met q WinsNow e k = absurd k
     met q Draws e k = absurd k
     met q GoesOn e k = answer-found answers h q e (listed q e)

@@ -12,7 +12,7 @@ use Rattle.strategy_graph.specs.declared.Rest.{Rest}
 use Rattle.strategy_graph.specs.declared.Rest.TheVariants.{Wins}
 use Rattle.strategy_graph.proofs.Naming.{slice_get-longer, slice_get-shorter}
 use Rattle.strategy_graph.proofs.Common.{Answers, answers_of, NamesLower, answer, depth, is_winning, IsTable, AtNode, Accepted, arrivals}
-use Rattle.strategy_graph.proofs.Answering.{Answered-map, attack_at, AtNode-parts, nothing_not_winning, winning_no_answer, not_winning_by}
+use Rattle.strategy_graph.proofs.Answering.{IsSomeAnd-map, attack_at, AtNode-parts, nothing_not_winning, winning_no_answer, not_winning_by}
 use Rattle.strategy_compiler.proofs.Walking.{among-push, visited-named, named-below, lt_trans}
 use Rattle.strategy_compiler.proofs.Common.{visits, visits_at, is_in_list, completed_within, completed_after, completed_from, Reaches}
 use Rattle.strategy_compiler.proofs.Common.{Itself, Through, ReachedFrom, GrowthKeepsReach, Tree, Branches, Leaf, Fork, NoBranch, Branch}
@@ -113,7 +113,7 @@ mutual
   stands_all-longer : (t more : List Node) (a : Answers) (bs : Branches) → StandsForAll t a bs → StandsForAll (t ++ more) a bs
   stands_all-longer t more a NoBranch h = tt
   stands_all-longer t more a (Branch q s bs) h = (
-    Answered-map (answer a q) (λ j. StandsFor t j s) (λ j. StandsFor (t ++ more) j s) (λ j e k. stands-longer t more j s k) h.0,
+    IsSomeAnd-map (answer a q) (λ j. StandsFor t j s) (λ j. StandsFor (t ++ more) j s) (λ j e k. stands-longer t more j s k) h.0,
     stands_all-longer t more a bs h.1,
   )
 

@@ -1,8 +1,9 @@
 -- The start that is made of answers: it has them in brief, and says what they say alone.
 use Rattle.std.proofs.Common.{◌≡◌, inl, inr, ℕ, zero, suc, ◌<◌, Bool, true, false, ◌||◌, ◌==◌, List, [], ◌∷◌, ◌++◌, map, length, refl, sym}
+use Rattle.std.specs.Prelude.{IsSomeAnd}
 use Rattle.std.proofs.Common.{ap, subst, ◌∙◌, arith, ◌↔◌, Option, Some, None, IsSome, All, Contains, nat_lt, slice_index}
 use Rattle.std.specs.List.{list_all, AllByRecursion, sum_by}
-use Rattle.std.specs.Option.{option_map, option_or}
+use Rattle.std.specs.Option.{option_map, option_or, option_map_or}
 use Rattle.std.proofs.lemmas.Bool.{or_right}
 use Rattle.std.proofs.lemmas.Bool.Decides.{Decides-eqb}
 use Rattle.std.proofs.lemmas.List.Folds.{list_all-append}
@@ -17,7 +18,7 @@ use Rattle.strategy_graph.specs.declared.Node.{Node}
 use Rattle.strategy_graph.specs.declared.Reply.{Reply}
 use Rattle.strategy_graph.specs.declared.Rest.{Rest}
 use Rattle.strategy_graph.proofs.Common.{Answers, answer, listed_node, named, names_below, rest_nodes, is_rising, greatest, depth}
-use Rattle.strategy_graph.proofs.Common.{NamesLower, renumbered_answers, renumbered_reply, Answered, Accepted, AcceptedStart, if_answered}
+use Rattle.strategy_graph.proofs.Common.{NamesLower, renumbered_answers, renumbered_reply, Accepted, AcceptedStart}
 use Rattle.strategy_graph.proofs.Common.{arrivals_at, arrivals, start_arrivals, SaysSame, StartSaysSame}
 use Rattle.strategy_graph.proofs.Answering.{answer-named}
 use Rattle.strategy_graph.proofs.Copies.{iff_by, answer-renumbered, named-renumbered}
@@ -97,21 +98,21 @@ module _ (answers : List Reply) (rising : is_rising answers ≡ true) where
 
   module _ (rule : RuleKind) (b : Grid) (all : AnswersEach rule b answers) where
     met-alike : (N : ℕ → Grid → Type 0) (q : Point) → LosesOr (outcome rule b q)
-        (Answered (answer (brief_answers answers) q) (λ j. N j (after b q))) ≡ LosesOr (outcome rule b q)
-        (Answered (answer (answers_alone answers) q) (λ j. N j (after b q)))
+        (IsSomeAnd (answer (brief_answers answers) q) (λ j. N j (after b q))) ≡ LosesOr (outcome rule b q)
+        (IsSomeAnd (answer (answers_alone answers) q) (λ j. N j (after b q)))
     met-alike N q = by_outcome (outcome rule b q) refl where
-      by_outcome : (o : Outcome) → outcome rule b q ≡ o → LosesOr o (Answered (answer (brief_answers answers) q) (λ j. N j (after b q)))
-          ≡ LosesOr o (Answered (answer (answers_alone answers) q) (λ j. N j (after b q)))
-      by_outcome GoesOn e = ap (λ (o : Option ℕ). Answered o (λ j. N j (after b q))) (brief-answer q (all q e))
+      by_outcome : (o : Outcome) → outcome rule b q ≡ o → LosesOr o (IsSomeAnd (answer (brief_answers answers) q) (λ j. N j (after b q)))
+          ≡ LosesOr o (IsSomeAnd (answer (answers_alone answers) q) (λ j. N j (after b q)))
+      by_outcome GoesOn e = ap (λ (o : Option ℕ). IsSomeAnd o (λ j. N j (after b q))) (brief-answer q (all q e))
       by_outcome _ e = refl
 
     count-alike : (m : ℕ → Grid → ℕ) (q : Point) → arrivals_at rule (brief_answers answers) m b q ≡ arrivals_at rule (answers_alone answers)
         m b q
     count-alike m q = by_outcome (outcome rule b q) refl where
       by_outcome : (o : Outcome) → outcome rule b q ≡ o → if_goes_on o
-          (if_answered (answer (brief_answers answers) q) (λ j. m j (after b q))) ≡ if_goes_on o
-          (if_answered (answer (answers_alone answers) q) (λ j. m j (after b q)))
-      by_outcome GoesOn e = ap (λ (o : Option ℕ). if_answered o (λ j. m j (after b q))) (brief-answer q (all q e))
+          (option_map_or (λ j. m j (after b q)) (answer (brief_answers answers) q) 0) ≡ if_goes_on o
+          (option_map_or (λ j. m j (after b q)) (answer (answers_alone answers) q) 0)
+      by_outcome GoesOn e = ap (λ (o : Option ℕ). option_map_or (λ j. m j (after b q)) o 0) (brief-answer q (all q e))
       by_outcome _ e = refl
 
     pub brief-accepted : (t : List Node) → AcceptedStart rule t (brief_answers answers) b ≡ AcceptedStart rule t (answers_alone answers) b
@@ -127,15 +128,15 @@ module _ (answers : List Reply) (rising : is_rising answers ≡ true) where
     named-root j c = named-visited (brief_answers answers) j c
 
     made-each : AllByRecursion
-        (λ r. Answered (answer (renumbered_answers (place_in (start_order t answers)) (brief_answers answers)) r.at) (SaysSame t r.next u))
+        (λ r. IsSomeAnd (answer (renumbered_answers (place_in (start_order t answers)) (brief_answers answers)) r.at) (SaysSame t r.next u))
         answers
     made-each = each answers (brief-as_given answers rising) where
       each : (rs : List Reply) → AnsweredAsGiven (brief_answers answers) rs
-          → AllByRecursion (λ r. Answered (answer (renumbered_answers (place_in (start_order t answers)) (brief_answers answers)) r.at)
+          → AllByRecursion (λ r. IsSomeAnd (answer (renumbered_answers (place_in (start_order t answers)) (brief_answers answers)) r.at)
           (SaysSame t r.next u)) rs
       each [] given = tt
       each (r ∷ rs) given = (
-        subst (λ (o : Option ℕ). Answered o (SaysSame t r.next u))
+        subst (λ (o : Option ℕ). IsSomeAnd o (SaysSame t r.next u))
             (sym (answer-renumbered (place_in (start_order t answers)) (brief_answers answers) r.at
             ∙ ap (option_map (place_in (start_order t answers))) given.0))
             (made.each_root r.next (named-root r.next (answer-contained (brief_answers answers) r.at r.next given.0))).same,
@@ -159,7 +160,7 @@ module _ (answers : List Reply) (rising : is_rising answers ≡ true) where
           ∙ all-mapped (named (brief_answers answers)) (λ j c. (made.each_root j (named-root j c)).inside);
       reached = λ k l. let r = made.reached k l in (r.0, start-names r.0 r.1, r.2);
       each = All-from_recursion
-          (λ r. Answered (answer (renumbered_answers (place_in (start_order t answers)) (brief_answers answers)) r.at)
+          (λ r. IsSomeAnd (answer (renumbered_answers (place_in (start_order t answers)) (brief_answers answers)) r.at)
           (SaysSame t r.next u)) answers made-each;
       deep = said.same_depth ∙ brief-deep (depth t);
       table_points = λ k d l. let p = made.points k d l in

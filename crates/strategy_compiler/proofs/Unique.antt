@@ -1,5 +1,6 @@
 -- A tree has one table: nodes that stand for a same tree in two tables are walked over alike, and are the same.
 use Rattle.std.proofs.Common.{◌≡◌, ℕ, zero, suc, ◌+◌, ◌<◌, ◌≤◌, Bool, true, false, cond, not, ◌&&◌, ◌||◌, ◌==◌, List, [], ◌∷◌, ◌++◌, filter}
+use Rattle.std.specs.Prelude.{IsSomeAnd}
 use Rattle.std.proofs.Common.{length, get_or, refl, sym, ap, subst, ◌∙◌, arith, Option, Some, None, nat_le, nat_eq, slice_get, fold}
 use Rattle.std.proofs.Common.{Contains}
 use Rattle.std.specs.List.{list_all, find, cons_option, range_with_len}
@@ -12,7 +13,7 @@ use Rattle.game_rules.proofs.PointLists.{filter-inside}
 use Rattle.strategy_graph.specs.declared.Node.{Node}
 use Rattle.strategy_graph.specs.declared.Rest.{Rest}
 use Rattle.strategy_graph.specs.declared.Rest.TheVariants.{To, Nothing}
-use Rattle.strategy_graph.proofs.Common.{Answers, answers_of, answer, names_below, rest_node, rest_nodes, is_winning, IsTable, Answered}
+use Rattle.strategy_graph.proofs.Common.{Answers, answers_of, answer, names_below, rest_node, rest_nodes, is_winning, IsTable}
 use Rattle.std.proofs.lemmas.List.FromFn.{length-range_with_len, get_or-range_with_len}
 use Rattle.strategy_graph.proofs.Filling.{IsTable-lower}
 use Rattle.strategy_compiler.proofs.Walking.{within-enough}
@@ -102,13 +103,13 @@ module _ (u v : List Node) (tu : IsTable u) (tv : IsTable v) where
   answers-from i a b NoBranch low h k = tt
   answers-from i a b (Branch q s bs) low h k =
       (both (answer a q) (answer b q) refl h.0 k.0, there (answer a q) h.0, answers-from i a b bs low h.1 k.1) where
-        both : (o p : Option ℕ) → answer a q ≡ o → Answered o (λ x. StandsFor u x s) → Answered p (λ y. StandsFor v y s)
+        both : (o p : Option ℕ) → answer a q ≡ o → IsSomeAnd o (λ x. StandsFor u x s) → IsSomeAnd p (λ y. StandsFor v y s)
             → OptionPair (AlikeBelow i) o p
         both None p e x y = absurd x
         both (Some m) None e x y = absurd y
         both (Some m) (Some l) e x y = Both m l (record { tree = s; left = x; right = y }, answer-below a i q m low e)
 
-        there : (o : Option ℕ) → Answered o (λ x. StandsFor u x s) → IsThere o
+        there : (o : Option ℕ) → IsSomeAnd o (λ x. StandsFor u x s) → IsThere o
         there None x = absurd x
         there (Some m) x = tt
 

@@ -1,5 +1,5 @@
 -- Starts that a compiler makes of answers to the first move of the opponent.
-use Rattle.std.specs.Prelude.{◌≡◌, ◌↔◌, ℕ, ◌<◌, true, List, map, length, All, Contains, IsSome}
+use Rattle.std.specs.Prelude.{◌≡◌, ◌↔◌, ℕ, ◌<◌, true, List, map, length, All, Contains, IsSome, IsSomeAnd}
 use Rattle.game_rules.specs.Grid.{Grid}
 use Rattle.game_rules.specs.Play.{outcome}
 use Rattle.game_rules.specs.declared.RuleKind.{RuleKind}
@@ -10,7 +10,7 @@ use Rattle.strategy_graph.specs.declared.Rest.TheVariants.{Nothing}
 use Rattle.strategy_graph.specs.declared.Node.{Node}
 use Rattle.strategy_graph.specs.Tables.{Answers, answer, listed_node, named, names_below, start_depth}
 use Rattle.strategy_graph.specs.Renumbered.{renumbered_answers}
-use Rattle.strategy_graph.specs.Acceptance.{Answered, AcceptedStart}
+use Rattle.strategy_graph.specs.Acceptance.{AcceptedStart}
 use Rattle.strategy_graph.specs.Arrivals.{start_arrivals}
 use Rattle.strategy_graph.specs.Laws.{SaysSame}
 use Rattle.strategy_compiler.specs.Walks.{AreDifferent, NamesPointsFrom, ReachedFrom, Renumbers, completed_from, place_in, visits}
@@ -37,7 +37,7 @@ pub record IsMadeOfAnswers (t : List Node) (answers : List Reply) (u : List Node
   pub below : names_below a (length u) ≡ true
   pub reached : (k : ℕ) → k < length u → ReachedFrom u (named a) k
   -- the answer of the start to each of the replies is a node that says what the given node says
-  pub each : All (λ r. Answered (answer a r.at) (SaysSame t r.next u)) answers
+  pub each : All (λ r. IsSomeAnd (answer a r.at) (SaysSame t r.next u)) answers
   pub deep : start_depth u a ≡ start_depth t (answers_alone answers)
   -- the points that the table and the start name
   pub table_points : All (NamesPointsFrom t (map (λ r. r.next) answers)) u

@@ -1,5 +1,6 @@
 -- Trees of moves, and which nodes of a table stand for one.
 use Rattle.std.specs.Prelude.{◌≡◌, ℕ, true, not, ◌==◌, nat_le, nat_eq, List, [], ◌∷◌, ◌++◌, map, Option, slice_get}
+use Rattle.std.specs.Prelude.{IsSomeAnd}
 use Rattle.std.specs.List.{count_by, list_all, find, filter, filter_map}
 use Rattle.std.specs.Option.{option_eq}
 use Rattle.game_rules.specs.declared.Point.{Point}
@@ -7,7 +8,6 @@ use Rattle.strategy_graph.specs.declared.Reply.{Reply}
 use Rattle.strategy_graph.specs.declared.Rest.TheVariants.{Nothing}
 use Rattle.strategy_graph.specs.declared.Node.{Node}
 use Rattle.strategy_graph.specs.Tables.{Answers, answers_of, answer, rest_node, is_winning}
-use Rattle.strategy_graph.specs.Acceptance.{Answered}
 use Rattle.strategy_graph.specs.Leads.{AtNode}
 
 -- A tree of moves: an attack that wins at once, or an attack and a branch for each of some replies to it.
@@ -60,7 +60,7 @@ unfoldable mutual
   -- the answer at the reply of each branch is a node that stands for its tree
   pub StandsForAll : List Node → Answers → Branches → Type 0
   StandsForAll t a NoBranch = Unit {0}
-  StandsForAll t a (Branch q s bs) = Answered (answer a q) (λ j. StandsFor t j s) × StandsForAll t a bs
+  StandsForAll t a (Branch q s bs) = IsSomeAnd (answer a q) (λ j. StandsFor t j s) × StandsForAll t a bs
 
 -- each of the given answers is to the reply of the branch at its place, and its node stands for the tree of that branch
 abbrev pub AnswersBranches : List Node → List Reply → Branches → Type 0

@@ -1,11 +1,11 @@
 -- Walks over the nodes of a table: what nodes reach, the order in which walks complete nodes, and the table of a tree.
 use Rattle.std.specs.Prelude.{◌≡◌, ◌↔◌, ℕ, zero, suc, ◌-◌, ◌<◌, ◌==◌, if◌then◌else◌, List, [], ◌∷◌, ◌++◌, map, fold, length, Bool, Contains}
-use Rattle.std.specs.Prelude.{Some, slice_get}
+use Rattle.std.specs.Prelude.{Some, option_to_list, slice_get}
 use Rattle.std.specs.List.{list_any, position_or_len, range_with_len}
 use Rattle.std.specs.Option.{option_map_or}
 use Rattle.strategy_graph.specs.declared.Node.{Node}
 use Rattle.strategy_graph.specs.Renumbered.{renumbered_node}
-use Rattle.strategy_graph.specs.Tables.{Answers, answers_of, rest_nodes, named, NamesLower, IsTable}
+use Rattle.strategy_graph.specs.Tables.{Answers, answers_of, named, rest_node, NamesLower, IsTable}
 use Rattle.strategy_compiler.specs.Trees.{Tree, StandsFor}
 
 -- no two nodes are equal
@@ -19,7 +19,7 @@ pub data Reaches (t : List Node) : ℕ → ℕ → Type 0 where
 
 -- the nodes that the answers name, in the order of a walk: that of the rest first, then those listed, in order
 abbrev pub visits : Answers → List ℕ
-visits a = rest_nodes a.rest ++ map (λ r. r.next) a.replies
+visits a = option_to_list (rest_node a.rest) ++ map (λ r. r.next) a.replies
 
 -- the nodes that node i names, in the order of a walk
 abbrev pub visits_at : List Node → ℕ → List ℕ

@@ -4,8 +4,9 @@
 #![tactic(auto)]
 
 ghost use Rattle.std.specs.Prelude.{◌≡◌, ◌<◌, ◌≤◌, ◌++◌, ◌∷◌, [], ℕ, true, nat_lt, map, length, slice_get, slice_index, Some, All, IfOk, OnOk};
+ghost use Rattle.std.specs.Prelude.{option_to_list};
 ghost use Rattle.std.specs.List.{list_all};
-ghost use Rattle.strategy_graph.specs.Tables.{IsNode, IsTable, answers_of, names_below, rest_nodes};
+ghost use Rattle.strategy_graph.specs.Tables.{IsNode, IsTable, answers_of, names_below, rest_node};
 ghost use Rattle.strategy_graph.specs.Renumbered.{renumbered_node, renumbered_reply, renumbered_rest as renumbered_rest_lem};
 ghost use Rattle.strategy_compiler.specs.Walks.{Renumbers, completed_from};
 ghost use Rattle.strategy_compiler.specs.Orders.{ArePlaces, IsMadeFrom, IsOrder};
@@ -52,7 +53,7 @@ pub(crate) fn renumbered_replies(
 
 /// The rest, with the place of the number that it names.
 pub(crate) fn renumbered_rest(rest: Rest, places: &[u32]) -> Rest
-    requires below { list_all (λ j. nat_lt j (length places.now)) (rest_nodes rest) ≡ true }
+    requires below { list_all (λ j. nat_lt j (length places.now)) (option_to_list (rest_node rest)) ≡ true }
     ensures rest { result ≡ renumbered_rest_lem (λ j. slice_index places.now j) rest }
 {
     match rest {

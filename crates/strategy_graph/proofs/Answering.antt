@@ -1,5 +1,6 @@
 -- Answers to replies: which nodes they are, and what holds of them.
 use Rattle.std.proofs.Common.{◌≡◌, ℕ, ◌≤◌, ◌<◌, max, Bool, true, false, cond, List, [], ◌∷◌, ◌++◌, map, refl, arith, zero, suc, subst, ap}
+use Rattle.std.specs.Prelude.{IsSomeAnd}
 use Rattle.std.proofs.Common.{◌+◌, length, drop, get_or, drop-cons, add-one, ◌∙◌, sym, Option, Some, None, nat_lt, Contains}
 use Rattle.std.specs.List.{list_all, find, AllByRecursion, filter}
 use Rattle.std.specs.Option.{option_map, option_or}
@@ -10,7 +11,7 @@ use Rattle.strategy_graph.specs.declared.Reply.{Reply}
 use Rattle.strategy_graph.specs.declared.Rest.{Rest}
 use Rattle.strategy_graph.specs.declared.Rest.TheVariants.{Wins, To, Nothing}
 use Rattle.strategy_graph.proofs.Common.{Answers, answer, listed_node, rest_node, rest_nodes, named, names_below, greatest, RepliesOn}
-use Rattle.strategy_graph.proofs.Common.{is_winning, Answered, AtNode}
+use Rattle.strategy_graph.proofs.Common.{is_winning, AtNode}
 use Rattle.strategy_graph.specs.declared.Node.{Node}
 use Rattle.game_rules.proofs.Boards.{and_left, and_right}
 use borrow.Author.Tests.{ltb-true}
@@ -75,13 +76,13 @@ answer-below a k q j below h = ltb-true _ _ (answer-named (λ j. nat_lt j k) a q
 
 -- ---- there is an answer of which a fact holds
 
-pub Answered-map : (o : Option ℕ) (P Q : ℕ → Type 0) → ((j : ℕ) → o ≡ Some j → P j → Q j) → Answered o P → Answered o Q
-Answered-map None P Q f h = h
-Answered-map (Some j) P Q f h = f j refl h
+pub IsSomeAnd-map : (o : Option ℕ) (P Q : ℕ → Type 0) → ((j : ℕ) → o ≡ Some j → P j → Q j) → IsSomeAnd o P → IsSomeAnd o Q
+IsSomeAnd-map None P Q f h = h
+IsSomeAnd-map (Some j) P Q f h = f j refl h
 
-pub Answered-elim : (o : Option ℕ) (P : ℕ → Type 0) (W : Type 0) → ((j : ℕ) → o ≡ Some j → P j → W) → Answered o P → W
-Answered-elim None P W f h = absurd h
-Answered-elim (Some j) P W f h = f j refl h
+pub IsSomeAnd-elim : (o : Option ℕ) (P : ℕ → Type 0) (W : Type 0) → ((j : ℕ) → o ≡ Some j → P j → W) → IsSomeAnd o P → W
+IsSomeAnd-elim None P W f h = absurd h
+IsSomeAnd-elim (Some j) P W f h = f j refl h
 
 pub next-all : (P : ℕ → Type 0) (rs : List Reply) → AllByRecursion (λ r. P r.next) rs → (j : ℕ) → Contains (map (λ r. r.next) rs) j → P j
 next-all P [] h j (k, l, e) = absurd (omega arith)
@@ -133,7 +134,7 @@ pub winning_no_answer : (n : Node) (q : Point) (r : Rest) → is_winning r ≡ t
 winning_no_answer n q Wins h e = ap (λ (rs : List Reply). answer (record { replies = rs; rest = Wins }) q) e
 winning_no_answer n q _ h e = cc
 
-pub not_winning_by : (o : Option ℕ) (P : ℕ → Type 0) → o ≡ None → Answered o P → ⊥
+pub not_winning_by : (o : Option ℕ) (P : ℕ → Type 0) → o ≡ None → IsSomeAnd o P → ⊥
 not_winning_by None P e h = h
 not_winning_by (Some j) P e h = cc
 

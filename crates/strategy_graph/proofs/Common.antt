@@ -1,7 +1,11 @@
--- The words of tables, all in one place for the files of laws.
-pub use Rattle.strategy_graph.specs.Acceptance.{Accepted, AcceptedNode, AcceptedStart, Answered, Meets, NotWinning}
+-- The words of tables, all in one place for the files of laws, and those that the laws alone need.
+use Rattle.std.specs.Prelude.{ℕ, suc, List, map, Option, option_to_list}
+use Rattle.std.specs.Option.{option_map_or}
+use Rattle.strategy_graph.specs.declared.Node.{Node}
+use Rattle.strategy_graph.specs.declared.Rest.{Rest}
+pub use Rattle.strategy_graph.specs.Acceptance.{Accepted, AcceptedNode, AcceptedStart, Meets}
 unfoldable pub use Rattle.strategy_graph.specs.Acceptance.{AcceptedWithin}
-pub use Rattle.strategy_graph.specs.Arrivals.{arrivals, arrivals_after, arrivals_among, arrivals_at, arrivals_behind, if_answered}
+pub use Rattle.strategy_graph.specs.Arrivals.{arrivals, arrivals_after, arrivals_at, arrivals_behind}
 pub use Rattle.strategy_graph.specs.Arrivals.{start_arrivals}
 unfoldable pub use Rattle.strategy_graph.specs.Arrivals.{arrivals_within}
 pub use Rattle.strategy_graph.specs.Games.{Drawn, End, EndsWell, IllegalReply, Lost, NoMove, Open, Won, after_attack, after_reply}
@@ -15,5 +19,13 @@ pub use Rattle.strategy_graph.specs.Roots.{AcceptedRoot, LeadsRoot, RootWins, ro
 pub use Rattle.strategy_graph.specs.Same.{same_replies, same_replies_decides}
 pub use Rattle.strategy_graph.specs.Tables.{Answers, AreDepths, IsNode, IsTable, IsTableWithDepths, NamesLower, NamesOnBoard, RepliesOn}
 pub use Rattle.strategy_graph.specs.Tables.{TableOnBoard, answer, answer_at, answers_of, depth, greatest, is_rising, is_winning}
-pub use Rattle.strategy_graph.specs.Tables.{listed_node, named, names_below, node_depth, rest_node, rest_nodes, start_depth}
+pub use Rattle.strategy_graph.specs.Tables.{listed_node, named, names_below, rest_node, start_depth}
 unfoldable pub use Rattle.strategy_graph.specs.Tables.{depth_within}
+
+-- the node that a rest names, as a list
+abbrev pub rest_nodes : Rest → List ℕ
+rest_nodes r = option_to_list (rest_node r)
+
+-- one more than the greatest depth of the nodes that a node names
+abbrev pub node_depth : Option Node → (ℕ → ℕ) → ℕ
+node_depth o depth_at = option_map_or (λ n. suc (greatest (map depth_at (named (answers_of n))))) o 0

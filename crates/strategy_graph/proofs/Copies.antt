@@ -1,8 +1,9 @@
 -- A table that holds a copy of nodes of another, under other numbers, says the same at them.
 use Rattle.std.proofs.Common.{◌≡◌, ℕ, zero, suc, Bool, true, false, cond, List, [], ◌∷◌, ◌++◌, map, refl, sym, ap, subst, ◌∙◌, Option, Some}
+use Rattle.std.specs.Prelude.{IsSomeAnd}
 use Rattle.std.proofs.Common.{None, slice_get, ◌↔◌}
 use Rattle.std.specs.List.{list_all, find, sum_by}
-use Rattle.std.specs.Option.{option_map, option_or}
+use Rattle.std.specs.Option.{option_map, option_or, option_map_or}
 use Rattle.game_rules.proofs.Common.{Grid, points_of, is_same_point, outcome, after, WinsOr, LosesOr, if_goes_on}
 use Rattle.game_rules.specs.declared.RuleKind.{RuleKind}
 use Rattle.game_rules.specs.declared.Outcome.{Outcome}
@@ -15,7 +16,7 @@ use Rattle.strategy_graph.specs.declared.Node.{Node}
 use Rattle.strategy_graph.specs.declared.Why.{Why}
 use Rattle.strategy_graph.proofs.Common.{Answers, answers_of, answer, listed_node, rest_node, rest_nodes, named, is_winning, greatest}
 use Rattle.strategy_graph.proofs.Common.{node_depth, depth_within, renumbered_rest, renumbered_reply, renumbered_answers, renumbered_node}
-use Rattle.strategy_graph.proofs.Common.{Answered, NotWinning, Meets, AcceptedNode, AcceptedWithin, if_answered, arrivals_at}
+use Rattle.strategy_graph.proofs.Common.{Meets, AcceptedNode, AcceptedWithin, arrivals_at}
 use Rattle.strategy_graph.proofs.Common.{arrivals_after, arrivals_behind, arrivals_within, End, NoMove, Open, after_attack, after_reply}
 use Rattle.strategy_graph.proofs.Common.{one_later, if_node, end_at, game, points_on, points_from, attacks_at, attacks, attack_fault}
 use Rattle.strategy_graph.proofs.Common.{reply_fault, AtNode, ReplyLeads, Leads}
@@ -60,10 +61,6 @@ pub is_winning-renumbered : (f : ℕ → ℕ) (r : Rest) → is_winning (renumbe
 is_winning-renumbered f Wins = refl
 is_winning-renumbered f _ = refl
 
-NotWinning-renumbered : (f : ℕ → ℕ) (r : Rest) → NotWinning (renumbered_rest f r) ≡ NotWinning r
-NotWinning-renumbered f Wins = refl
-NotWinning-renumbered f _ = refl
-
 rest_nodes-renumbered : (f : ℕ → ℕ) (r : Rest) → rest_nodes (renumbered_rest f r) ≡ map f (rest_nodes r)
 rest_nodes-renumbered f Wins = refl
 rest_nodes-renumbered f _ = refl
@@ -104,14 +101,14 @@ module _ (f : ℕ → ℕ) (passes : ℕ → Bool) where
       rw (here, later) refl
 
   answered-copied : (P P' : ℕ → Type 0) (o : Option ℕ) → ((j : ℕ) → o ≡ Some j → P' (f j) ≡ P j)
-      → Answered (option_map f o) P' ≡ Answered o P
+      → IsSomeAnd (option_map f o) P' ≡ IsSomeAnd o P
   answered-copied P P' None h = refl
   answered-copied P P' (Some j) h = h j refl
 
-  if_answered-copied : (m m' : ℕ → ℕ) (o : Option ℕ) → ((j : ℕ) → o ≡ Some j → m' (f j) ≡ m j)
-      → if_answered (option_map f o) m' ≡ if_answered o m
-  if_answered-copied m m' None h = refl
-  if_answered-copied m m' (Some j) h = h j refl
+  map_or-copied : (m m' : ℕ → ℕ) (o : Option ℕ) → ((j : ℕ) → o ≡ Some j → m' (f j) ≡ m j)
+      → option_map_or m' (option_map f o) 0 ≡ option_map_or m o 0
+  map_or-copied m m' None h = refl
+  map_or-copied m m' (Some j) h = h j refl
 
   if_node-copied : (e e' : ℕ → End) (o : Option ℕ) → ((j : ℕ) → o ≡ Some j → e' (f j) ≡ e j) → if_node (option_map f o) e' ≡ if_node o e
   if_node-copied e e' None h = refl
@@ -144,15 +141,15 @@ module _ (f : ℕ → ℕ) (passes : ℕ → Bool) where
         → (b : Grid) (q : Point) → Meets rule (renumbered_answers f a) N' b q ≡ Meets rule a N b q
     Meets-copied rule N N' same b q =
         ap (λ (W : Type 0). LosesOr (outcome rule b q) W)
-        (ap (λ (o : Option ℕ). Answered o (λ j. N' j (after b q))) (answer-renumbered f a q)
+        (ap (λ (o : Option ℕ). IsSomeAnd o (λ j. N' j (after b q))) (answer-renumbered f a q)
         ∙ answered-copied (λ j. N j (after b q)) (λ j. N' j (after b q)) (answer a q) (λ j e. same j (passing q j e) (after b q)))
 
     arrivals_at-copied : (rule : RuleKind) (m m' : ℕ → Grid → ℕ) → ((j : ℕ) → passes j ≡ true → (c : Grid) → m' (f j) c ≡ m j c)
         → (b : Grid) (q : Point) → arrivals_at rule (renumbered_answers f a) m' b q ≡ arrivals_at rule a m b q
     arrivals_at-copied rule m m' same b q =
         ap (λ (k : ℕ). if_goes_on (outcome rule b q) k)
-        (ap (λ (o : Option ℕ). if_answered o (λ j. m' j (after b q))) (answer-renumbered f a q)
-        ∙ if_answered-copied (λ j. m j (after b q)) (λ j. m' j (after b q)) (answer a q) (λ j e. same j (passing q j e) (after b q)))
+        (ap (λ (o : Option ℕ). option_map_or (λ j. m' j (after b q)) o 0) (answer-renumbered f a q)
+        ∙ map_or-copied (λ j. m j (after b q)) (λ j. m' j (after b q)) (answer a q) (λ j e. same j (passing q j e) (after b q)))
 
     pub arrivals_after-copied : (rule : RuleKind) (m m' : ℕ → Grid → ℕ) → ((j : ℕ) → passes j ≡ true → (c : Grid) → m' (f j) c ≡ m j c)
         → (b : Grid) → arrivals_after rule (renumbered_answers f a) m' b ≡ arrivals_after rule a m b
@@ -188,10 +185,11 @@ module _ (f : ℕ → ℕ) (passes : ℕ → Bool) where
     pub accepted_node-copied : (rule : RuleKind) (N N' : ℕ → Grid → Type 0) → ((j : ℕ) → passes j ≡ true → (c : Grid) → N' (f j) c ≡ N j c)
         → (b : Grid) → AcceptedNode rule (Some (renumbered_node f n)) N' b ≡ AcceptedNode rule (Some n) N b
     accepted_node-copied rule N N' same b =
-        let inside : (NotWinning (renumbered_rest f n.rest)
+        let inside : ((is_winning (renumbered_rest f n.rest) ≡ false)
         × ((q : Point) → Meets rule (renumbered_answers f (answers_of n)) N' (after b n.attack) q))
-        ≡ (NotWinning n.rest × ((q : Point) → Meets rule (answers_of n) N (after b n.attack) q)) =
-        λ i. NotWinning-renumbered f n.rest i × ((q : Point) → Meets-copied (answers_of n) all rule N N' same (after b n.attack) q i) in
+        ≡ ((is_winning n.rest ≡ false) × ((q : Point) → Meets rule (answers_of n) N (after b n.attack) q)) =
+        λ i. (is_winning-renumbered f n.rest i ≡ false)
+        × ((q : Point) → Meets-copied (answers_of n) all rule N N' same (after b n.attack) q i) in
         ap (λ (W : Type 0). WinsOr (outcome rule b n.attack) W) inside
 
     pub arrivals_behind-copied : (rule : RuleKind) (m m' : ℕ → Grid → ℕ) → ((j : ℕ) → passes j ≡ true → (c : Grid) → m' (f j) c ≡ m j c)
@@ -258,12 +256,12 @@ module _ (f : ℕ → ℕ) (passes : ℕ → Bool) where
     leads_step-copied : (rule : RuleKind) (N N' : ℕ → Grid → Type 0) → ((j : ℕ) → passes j ≡ true → (c : Grid) → N' (f j) c ≡ N j c)
         → (b : Grid) (p q : Point) (line : List Point) (why : Why)
         → AtNode (Some (renumbered_node f n))
-        (λ n. (p ≡ n.attack) × (outcome rule b p ≡ GoesOn) × NotWinning n.rest
+        (λ n. (p ≡ n.attack) × (outcome rule b p ≡ GoesOn) × (is_winning n.rest ≡ false)
         × ReplyLeads (outcome rule (after b p) q) (answer (answers_of n) q) line (λ j. N' j (after (after b p) q)) why) ≡ AtNode (Some n)
-        (λ n. (p ≡ n.attack) × (outcome rule b p ≡ GoesOn) × NotWinning n.rest
+        (λ n. (p ≡ n.attack) × (outcome rule b p ≡ GoesOn) × (is_winning n.rest ≡ false)
         × ReplyLeads (outcome rule (after b p) q) (answer (answers_of n) q) line (λ j. N j (after (after b p) q)) why)
     leads_step-copied rule N N' same b p q line why =
-        λ i. (p ≡ n.attack) × (outcome rule b p ≡ GoesOn) × NotWinning-renumbered f n.rest i
+        λ i. (p ≡ n.attack) × (outcome rule b p ≡ GoesOn) × (is_winning-renumbered f n.rest i ≡ false)
         × reply_leads-answer (answers_of n) all N N' same (outcome rule (after b p) q) line why (after (after b p) q) q i
 
 -- ---- whole tables
@@ -344,10 +342,10 @@ module _ (f : ℕ → ℕ) (passes : ℕ → Bool) (t u : List Node) (copies : C
       i h (λ n all. leads_last-copied f passes n all rule b p why)
   Leads-copied rule i b (p ∷ q ∷ line) why h =
       at_copy (Type 0)
-      (λ o. AtNode o (λ n. (p ≡ n.attack) × (outcome rule b p ≡ GoesOn) × NotWinning n.rest
+      (λ o. AtNode o (λ n. (p ≡ n.attack) × (outcome rule b p ≡ GoesOn) × (is_winning n.rest ≡ false)
       × ReplyLeads (outcome rule (after b p) q) (answer (answers_of n) q) line (λ j. Leads rule t j (after (after b p) q) line why)
       why))
-      (λ o. AtNode o (λ n. (p ≡ n.attack) × (outcome rule b p ≡ GoesOn) × NotWinning n.rest
+      (λ o. AtNode o (λ n. (p ≡ n.attack) × (outcome rule b p ≡ GoesOn) × (is_winning n.rest ≡ false)
       × ReplyLeads (outcome rule (after b p) q) (answer (answers_of n) q) line (λ j. Leads rule u j (after (after b p) q) line why)
       why))
       i h (λ n all. leads_step-copied f passes n all rule (λ j c. Leads rule t j c line why) (λ j c. Leads rule u j c line why)

@@ -1,5 +1,6 @@
 -- Games from an accepted node end well. One step of a game against a table, and of its attacks: what a player that follows a table needs.
 use Rattle.std.proofs.Common.{◌≡◌, ℕ, zero, suc, ◌≤◌, cond, List, [], ◌∷◌, length, refl, arith, Option, Some, None, slice_get, false, Bool}
+use Rattle.std.specs.Prelude.{IsSomeAnd}
 use Rattle.std.proofs.Common.{true, ap}
 use Rattle.game_rules.specs.declared.RuleKind.{RuleKind}
 use Rattle.game_rules.specs.declared.Outcome.{Outcome}
@@ -10,7 +11,7 @@ use Rattle.game_rules.proofs.Common.{Grid, outcome, after, WinsOr, LosesOr}
 use Rattle.strategy_graph.specs.declared.Rest.{Rest}
 use Rattle.strategy_graph.specs.declared.Rest.TheVariants.{Wins}
 use Rattle.strategy_graph.specs.declared.Node.{Node}
-use Rattle.strategy_graph.proofs.Common.{answers_of, answer, is_winning, node_depth, depth_within, depth, Answered, NotWinning}
+use Rattle.strategy_graph.proofs.Common.{answers_of, answer, is_winning, node_depth, depth_within, depth}
 use Rattle.strategy_graph.proofs.Common.{AcceptedNode, AcceptedWithin, Accepted, End, Won, NoMove, Open, IllegalReply, after_attack}
 use Rattle.strategy_graph.proofs.Common.{after_reply, one_later, if_node, end_at, game, EndsWell, attacks, points_on, attacks_at}
 use Rattle.strategy_graph.proofs.Answering.{answer-greatest}
@@ -26,8 +27,8 @@ reply_ends (Fouls g) W d m e l f h = (omega arith, l)
 reply_ends GoesOn W d m e l f h = f h
 reply_ends _ W d m e l f h = absurd h
 
-not_winning : (r : Rest) (e : End) → NotWinning r → cond (is_winning r) NoMove e ≡ e
-not_winning Wins e h = absurd h
+not_winning : (r : Rest) (e : End) → is_winning r ≡ false → cond (is_winning r) NoMove e ≡ e
+not_winning Wins e h = cc
 not_winning _ e h = refl
 
 one_later_ends : (e : End) (d dd m : ℕ) → d ≤ dd → EndsWell d m e → EndsWell (suc dd) (suc m) (one_later e)
@@ -36,7 +37,7 @@ one_later_ends Open d dd m l h = omega arith
 one_later_ends _ d dd m l h = h
 
 node_ends_well : (o : Option ℕ) (P : ℕ → Type 0) (d m : ℕ) (end_from : ℕ → End)
-    → ((j : ℕ) → o ≡ Some j → P j → EndsWell d m (one_later (end_from j))) → Answered o P → EndsWell d m (if_node o end_from)
+    → ((j : ℕ) → o ≡ Some j → P j → EndsWell d m (one_later (end_from j))) → IsSomeAnd o P → EndsWell d m (if_node o end_from)
 node_ends_well None P d m end_from f h = absurd h
 node_ends_well (Some j) P d m end_from f h = f j refl h
 

@@ -1,7 +1,8 @@
 -- One move on from an accepted node or start: its attack is a legal move, and the node that answers a reply is accepted where it
 -- leads, and is no deeper.
 use Rattle.std.proofs.Common.{◌≡◌, ℕ, zero, suc, ◌<◌, ◌≤◌, List, [], ◌∷◌, length, refl, ap, subst, ◌∙◌, arith, true, sym, Option, Some}
-use Rattle.std.proofs.Common.{None, slice_get}
+use Rattle.std.specs.Prelude.{IsSomeAnd}
+use Rattle.std.proofs.Common.{None, slice_get, false}
 use Rattle.std.specs.Option.{option_map, option_and_then}
 use Rattle.game_rules.proofs.Common.{Grid, is_empty, outcome, after, WinsOr, LosesOr}
 use Rattle.game_rules.proofs.Games.{WinsOr-map}
@@ -11,7 +12,7 @@ use Rattle.game_rules.specs.declared.Outcome.TheVariants.{GoesOn}
 use Rattle.game_rules.specs.declared.Point.{Point}
 use Rattle.game_rules.proofs.Outcomes.{empty_at}
 use Rattle.strategy_graph.specs.declared.Node.{Node}
-use Rattle.strategy_graph.proofs.Common.{Answers, answers_of, answer, answer_at, IsTable, depth, start_depth, Answered, NotWinning, Meets}
+use Rattle.strategy_graph.proofs.Common.{Answers, answers_of, answer, answer_at, IsTable, depth, start_depth, Meets, is_winning}
 use Rattle.strategy_graph.proofs.Common.{AcceptedNode, AcceptedWithin, Accepted}
 use Rattle.strategy_graph.proofs.Answering.{answer-greatest}
 use Rattle.strategy_graph.proofs.Fuel.{accepted-step}
@@ -41,19 +42,20 @@ accepted-in_table rule t i b h = let there = accepted-node rule t i b h in insid
 replies_by : (rule : RuleKind) (o : Option Node) (Next : ℕ → Grid → Type 0) (b : Grid) (p : Point) → option_map (λ n. n.attack) o ≡ Some p
     → AcceptedNode rule o Next b → outcome rule b p ≡ GoesOn
     → (q : Point) → LosesOr (outcome rule (after b p) q)
-    (Answered (option_and_then (λ n. answer (answers_of n) q) o) (λ j. Next j (after (after b p) q)))
+    (IsSomeAnd (option_and_then (λ n. answer (answers_of n) q) o) (λ j. Next j (after (after b p) q)))
 replies_by rule None Next b p e h go q = absurd h
 replies_by rule (Some n) Next b p e h go q =
     let same : n.attack ≡ p = cc in
     let on : outcome rule b n.attack ≡ GoesOn = ap (outcome rule b) same ∙ go in
-    let w = subst (λ (o : Outcome). WinsOr o (NotWinning n.rest × ((x : Point) → Meets rule (answers_of n) Next (after b n.attack) x))) on
+    let w = subst (λ (o : Outcome). WinsOr o
+    ((is_winning n.rest ≡ false) × ((x : Point) → Meets rule (answers_of n) Next (after b n.attack) x))) on
     h in
-    subst (λ (x : Point). LosesOr (outcome rule (after b x) q) (Answered (answer (answers_of n) q) (λ j. Next j (after (after b x) q))))
+    subst (λ (x : Point). LosesOr (outcome rule (after b x) q) (IsSomeAnd (answer (answers_of n) q) (λ j. Next j (after (after b x) q))))
     same (w.1 q)
 
 pub accepted-replies : (rule : RuleKind) (t : List Node) → IsTable t → (i : ℕ) (b : Grid) (p : Point)
     → option_map (λ n. n.attack) (slice_get t i) ≡ Some p → Accepted rule t i b → outcome rule b p ≡ GoesOn
-    → (q : Point) → LosesOr (outcome rule (after b p) q) (Answered (answer_at t i q) (λ j. Accepted rule t j (after (after b p) q)))
+    → (q : Point) → LosesOr (outcome rule (after b p) q) (IsSomeAnd (answer_at t i q) (λ j. Accepted rule t j (after (after b p) q)))
 accepted-replies rule t table i b p e h go q =
     replies_by rule (slice_get t i) (Accepted rule t) b p e (subst (λ (X : Type 0). X) (accepted-step t (IsTable-lower t table) rule i b) h)
     go q

@@ -8,11 +8,9 @@ use Rattle.game_rules.specs.declared.RuleKind.{RuleKind}
 use Rattle.game_rules.specs.declared.Point.{Point}
 use Rattle.strategy_graph.specs.declared.Node.{Node}
 use Rattle.strategy_graph.proofs.Common.{answers_of, named, names_below, NamesLower, node_depth, depth_within, depth, is_winning, answer}
-use Rattle.strategy_graph.proofs.Common.{AcceptedNode, AcceptedWithin, Accepted, NotWinning, Meets, arrivals_behind, arrivals_within}
+use Rattle.strategy_graph.proofs.Common.{AcceptedNode, AcceptedWithin, Accepted, Meets, arrivals_behind, arrivals_within}
 use Rattle.strategy_graph.proofs.Common.{arrivals, renumbered_node}
 use Rattle.strategy_graph.proofs.Copies.{renumbered-same, depths-copied, accepted_node-copied, arrivals_behind-copied}
-use Rattle.strategy_graph.specs.declared.Rest.{Rest}
-use Rattle.strategy_graph.specs.declared.Rest.TheVariants.{Wins}
 use Rattle.strategy_graph.proofs.Answering.{answer-greatest}
 use borrow.Author.Tests.{ltb-true}
 
@@ -91,10 +89,6 @@ accepted-deep rule t i b h = by_node (slice_get t i) (AcceptedWithin i rule t) (
   by_node None Next depth_at h = absurd h
   by_node (Some n) Next depth_at h = omega arith
 
-pub not_winning : (r : Rest) → NotWinning r → is_winning r ≡ false
-not_winning Wins h = absurd h
-not_winning _ h = refl
-
 pub depth_some : (t : List Node) (i : ℕ) (n : Node) (k : ℕ) → slice_get t i ≡ Some n → 1 ≤ depth_within (suc k) t i
 unfolding depth_within
 depth_some t i n k e = rw e (omega arith)
@@ -109,13 +103,13 @@ deeper t i n k q j e w = let low = answer-greatest (depth_within k t) (answers_o
 pub accepted_node : (rule : RuleKind) (t : List Node) (j : ℕ) (b : Grid) (f : ℕ) → AcceptedWithin f rule t j b
     → (k : ℕ) × (n : Node) × (f ≡ suc k) × (slice_get t j ≡ Some n)
     × WinsOr (outcome rule b n.attack)
-    (NotWinning n.rest × ((q : Point) → Meets rule (answers_of n) (AcceptedWithin k rule t) (after b n.attack) q))
+    ((is_winning n.rest ≡ false) × ((q : Point) → Meets rule (answers_of n) (AcceptedWithin k rule t) (after b n.attack) q))
 unfolding AcceptedWithin
 accepted_node rule t j b zero h = absurd h
 accepted_node rule t j b (suc k) h = by_cases (slice_get t j) refl h where
   by_cases : (o : Option Node) → slice_get t j ≡ o → AcceptedNode rule o (AcceptedWithin k rule t) b
       → (k' : ℕ) × (n : Node) × (suc k ≡ suc k') × (slice_get t j ≡ Some n)
       × WinsOr (outcome rule b n.attack)
-      (NotWinning n.rest × ((q : Point) → Meets rule (answers_of n) (AcceptedWithin k' rule t) (after b n.attack) q))
+      ((is_winning n.rest ≡ false) × ((q : Point) → Meets rule (answers_of n) (AcceptedWithin k' rule t) (after b n.attack) q))
   by_cases None e w = absurd w
   by_cases (Some n) e w = (k, n, refl, e, w)

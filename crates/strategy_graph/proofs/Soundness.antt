@@ -15,7 +15,7 @@ use Rattle.game_rules.proofs.Outcomes.{wins_now, quiet_move}
 use Rattle.strategy_graph.specs.declared.Node.{Node}
 use Rattle.strategy_graph.proofs.Common.{Answers, answers_of, answer, named, greatest, node_depth, depth_within, depth, start_depth, Meets}
 use Rattle.strategy_graph.proofs.Common.{AcceptedNode, AcceptedWithin, Accepted, AcceptedStart, NamesLower}
-use Rattle.strategy_graph.proofs.Answering.{answer-greatest, Answered-elim}
+use Rattle.strategy_graph.proofs.Answering.{answer-greatest, IsSomeAnd-elim}
 use Rattle.strategy_graph.proofs.Steps.{accepted-by-win, met-no_move, met-foul, met-answer}
 
 -- a reply that is met loses within the greatest depth of the nodes that are named
@@ -24,7 +24,7 @@ met_loses : (rule : RuleKind) (a : Answers) (Next : ℕ → Grid → Type 0) (d 
     → LosesOr (outcome rule b q) (WinsWithin rule (greatest (map d (named a))) (after b q))
 met_loses rule a Next d next b q h =
     LosesOr-map (outcome rule b q) _ _
-    (Answered-elim (answer a q) (λ j. Next j (after b q)) _ (λ j e k.
+    (IsSomeAnd-elim (answer a q) (λ j. Next j (after b q)) _ (λ j e k.
     WinsWithin-more rule (d j) _ (after b q) (answer-greatest d a q j e) (next j (after b q) k))) h
 
 node_wins : (rule : RuleKind) (o : Option Node) (Next : ℕ → Grid → Type 0) (d : ℕ → ℕ)

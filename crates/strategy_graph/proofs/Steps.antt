@@ -1,8 +1,9 @@
 -- One step of acceptance, of arrivals and of a line to a fault, at a node and at a reply, and over the replies so
 -- far: what a checker of tables needs.
 use Rattle.std.proofs.Common.{◌≡◌, ℕ, suc, ◌+◌, ◌≤◌, Bool, true, false, cond, List, [], ◌∷◌, ◌++◌, refl, sym, ap, subst, ◌∙◌, arith, Option}
+use Rattle.std.specs.Option.{option_map_or}
+use Rattle.std.specs.Prelude.{IsSomeAnd}
 use Rattle.std.proofs.Common.{Some, None, slice_get, All}
-use Rattle.std.proofs.lemmas.List.Sums.{sum_by-append}
 use Rattle.game_rules.proofs.Common.{Grid, is_on, points_of, is_same_point, outcome, after, WinsOr, LosesOr, if_goes_on}
 use Rattle.game_rules.specs.declared.RuleKind.{RuleKind}
 use Rattle.game_rules.specs.declared.Foul.{Foul}
@@ -12,18 +13,12 @@ use Rattle.game_rules.specs.declared.Point.{Point}
 use Rattle.game_rules.proofs.Points.{points-found, off_refused, is_same_point-itself}
 use Rattle.game_rules.proofs.Outcomes.{if_goes_on-stops, if_goes_on-none}
 use Rattle.game_rules.proofs.PointLists.{found_all}
-use Rattle.strategy_graph.specs.declared.Rest.{Rest}
-use Rattle.strategy_graph.specs.declared.Rest.TheVariants.{Wins}
 use Rattle.strategy_graph.specs.declared.Node.{Node}
 use Rattle.strategy_graph.specs.declared.Why.{Why}
-use Rattle.strategy_graph.proofs.Common.{Answers, answers_of, answer, is_winning, NamesLower, Answered, NotWinning, Meets, AcceptedNode}
-use Rattle.strategy_graph.proofs.Common.{Accepted, if_answered, arrivals_at, arrivals_among, arrivals_after, arrivals_behind}
+use Rattle.strategy_graph.proofs.Common.{Answers, answers_of, answer, is_winning, NamesLower, Meets, AcceptedNode}
+use Rattle.strategy_graph.proofs.Common.{Accepted, arrivals_at, arrivals_after, arrivals_behind}
 use Rattle.strategy_graph.proofs.Common.{arrivals_within, arrivals, attack_fault, reply_fault, Leads, LeadsStart}
 use Rattle.strategy_graph.proofs.Fuel.{accepted-step, arrivals-step}
-
-NotWinning-by : (r : Rest) → is_winning r ≡ false → NotWinning r
-NotWinning-by Wins h = cc
-NotWinning-by _ h = tt
 
 -- an arrival count is at least 1
 pub arrivals-positive : (rule : RuleKind) (t : List Node) (i : ℕ) (b : Grid) → 1 ≤ arrivals rule t i b
@@ -44,7 +39,7 @@ module _ (rule : RuleKind) (t : List Node) (lower : NamesLower t) (i : ℕ) (b :
   accepted-by-win o =
       subst (λ (X : Type 0). X) (sym accepted-at)
       (subst (λ (u : Outcome). WinsOr u
-      (NotWinning n.rest × ((q : Point) → Meets rule (answers_of n) (Accepted rule t) (after b n.attack) q))) (sym o) tt)
+      ((is_winning n.rest ≡ false) × ((q : Point) → Meets rule (answers_of n) (Accepted rule t) (after b n.attack) q))) (sym o) tt)
 
   -- an attack that goes on, of a node that is no winning one
   pub accepted-by-replies : outcome rule b n.attack ≡ GoesOn → is_winning n.rest ≡ false
@@ -52,15 +47,15 @@ module _ (rule : RuleKind) (t : List Node) (lower : NamesLower t) (i : ℕ) (b :
   accepted-by-replies o r met =
       subst (λ (X : Type 0). X) (sym accepted-at)
       (subst (λ (u : Outcome). WinsOr u
-      (NotWinning n.rest × ((q : Point) → Meets rule (answers_of n) (Accepted rule t) (after b n.attack) q))) (sym o)
-      (NotWinning-by n.rest r, met))
+      ((is_winning n.rest ≡ false) × ((q : Point) → Meets rule (answers_of n) (Accepted rule t) (after b n.attack) q))) (sym o)
+      (r, met))
 
   pub replies-met : outcome rule b n.attack ≡ GoesOn → Accepted rule t i b → (q : Point)
       → Meets rule (answers_of n) (Accepted rule t) (after b n.attack) q
   replies-met o h =
-      let inside : NotWinning n.rest × ((q : Point) → Meets rule (answers_of n) (Accepted rule t) (after b n.attack) q) =
+      let inside : (is_winning n.rest ≡ false) × ((q : Point) → Meets rule (answers_of n) (Accepted rule t) (after b n.attack) q) =
       subst (λ (u : Outcome). WinsOr u
-      (NotWinning n.rest × ((q : Point) → Meets rule (answers_of n) (Accepted rule t) (after b n.attack) q))) o
+      ((is_winning n.rest ≡ false) × ((q : Point) → Meets rule (answers_of n) (Accepted rule t) (after b n.attack) q))) o
       (subst (λ (X : Type 0). X) accepted-at h) in
       inside.1
 
@@ -85,7 +80,7 @@ module _ (rule : RuleKind) (t : List Node) (lower : NamesLower t) (i : ℕ) (b :
 
 module _ (rule : RuleKind) (t : List Node) (a : Answers) (c : Grid) (q : Point) where
   met-by : (u : Outcome) (o : Option ℕ) → outcome rule c q ≡ u → answer a q ≡ o
-      → LosesOr u (Answered o (λ j. Accepted rule t j (after c q))) → Meets rule a (Accepted rule t) c q
+      → LosesOr u (IsSomeAnd o (λ j. Accepted rule t j (after c q))) → Meets rule a (Accepted rule t) c q
   met-by u o e w h = rw (e, w) h
 
   -- a reply that is no move, or fouls, or goes on to where its answer is accepted, is met
@@ -103,8 +98,8 @@ module _ (rule : RuleKind) (t : List Node) (a : Answers) (c : Grid) (q : Point) 
   pub answer-accepted : (j : ℕ) → outcome rule c q ≡ GoesOn → answer a q ≡ Some j → Meets rule a (Accepted rule t) c q
       → Accepted rule t j (after c q)
   answer-accepted j e w h =
-      subst (λ (o : Option ℕ). Answered o (λ j. Accepted rule t j (after c q))) w
-      (subst (λ (u : Outcome). LosesOr u (Answered (answer a q) (λ j. Accepted rule t j (after c q)))) e h)
+      subst (λ (o : Option ℕ). IsSomeAnd o (λ j. Accepted rule t j (after c q))) w
+      (subst (λ (u : Outcome). LosesOr u (IsSomeAnd (answer a q) (λ j. Accepted rule t j (after c q)))) e h)
 
   -- the arrivals behind a reply
   pub arrivals-answer : (j : ℕ) → outcome rule c q ≡ GoesOn → answer a q ≡ Some j
@@ -113,11 +108,11 @@ module _ (rule : RuleKind) (t : List Node) (a : Answers) (c : Grid) (q : Point) 
 
   pub arrivals-no_answer : answer a q ≡ None → arrivals_at rule a (arrivals rule t) c q ≡ 0
   arrivals-no_answer w =
-      ap (λ (o : Option ℕ). if_goes_on (outcome rule c q) (if_answered o (λ j. arrivals rule t j (after c q)))) w
+      ap (λ (o : Option ℕ). if_goes_on (outcome rule c q) (option_map_or (λ j. arrivals rule t j (after c q)) o 0)) w
       ∙ if_goes_on-none (outcome rule c q)
 
   pub arrivals-stops : (u : Outcome) → outcome rule c q ≡ u → (u ≡ GoesOn → ⊥) → arrivals_at rule a (arrivals rule t) c q ≡ 0
-  arrivals-stops u e stops = ap (λ (v : Outcome). if_goes_on v (if_answered (answer a q) (λ j. arrivals rule t j (after c q)))) e
+  arrivals-stops u e stops = ap (λ (v : Outcome). if_goes_on v (option_map_or (λ j. arrivals rule t j (after c q)) (answer a q) 0)) e
       ∙ if_goes_on-stops u _ stops
 
 -- ---- over the replies so far
@@ -130,16 +125,6 @@ met-all rule t a c all q = by_test (is_on c q) refl where
   by_test true on = found_all (λ q. Meets rule a (Accepted rule t) c q) q (points_of c) all
       (points-found c (is_same_point q) q on (is_same_point-itself q))
   by_test false off = met-no_move rule t a c q (off_refused rule c q off)
-
--- one reply more
-pub arrivals_among-push : (rule : RuleKind) (a : Answers) (count : ℕ → Grid → ℕ) (c : Grid) (qs : List Point) (q : Point)
-    → arrivals_among rule a count c (qs ++ q ∷ []) ≡ arrivals_among rule a count c qs + arrivals_at rule a count c q
-arrivals_among-push rule a count c qs q = let both = sum_by-append (arrivals_at rule a count c) qs (q ∷ []) in omega (arith, both)
-
--- the arrivals behind some of the replies are no more than those behind all
-pub arrivals_among-le : (rule : RuleKind) (a : Answers) (count : ℕ → Grid → ℕ) (c : Grid) (qs more : List Point)
-    → arrivals_among rule a count c qs ≤ arrivals_among rule a count c (qs ++ more)
-arrivals_among-le rule a count c qs more = let both = sum_by-append (arrivals_at rule a count c) qs more in omega (arith, both)
 
 -- ---- lines to a fault
 
@@ -154,7 +139,7 @@ pub leads-reply : (rule : RuleKind) (t : List Node) (i : ℕ) (b : Grid) (n : No
     → slice_get t i ≡ Some n → outcome rule b n.attack ≡ GoesOn → is_winning n.rest ≡ false
     → LeadsStart rule t (answers_of n) (after b n.attack) (q ∷ line) why → Leads rule t i b (n.attack ∷ q ∷ line) why
 unfolding Leads
-leads-reply rule t i b n q line why at o r h = rw at (refl, o, NotWinning-by n.rest r, h)
+leads-reply rule t i b n q line why at o r h = rw at (refl, o, r, h)
 
 -- a reply with a fault
 pub leads-fault : (rule : RuleKind) (t : List Node) (a : Answers) (c : Grid) (q : Point) (why : Why)

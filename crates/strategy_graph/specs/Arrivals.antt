@@ -1,5 +1,6 @@
 -- How often a node is arrived at in all games from a node, or a start, at a board.
 use Rattle.std.specs.Prelude.{ℕ, zero, suc, if◌then◌else◌, List, Option, Some, None, slice_get}
+use Rattle.std.specs.Option.{option_map_or}
 use Rattle.std.specs.List.{sum_by}
 use Rattle.game_rules.specs.Grid.{Grid, points_of}
 use Rattle.game_rules.specs.Play.{outcome, after}
@@ -9,22 +10,13 @@ use Rattle.game_rules.specs.declared.Point.{Point}
 use Rattle.strategy_graph.specs.declared.Node.{Node}
 use Rattle.strategy_graph.specs.Tables.{Answers, answers_of, answer, is_winning}
 
--- the count at the answer, or 0 if there is none
-abbrev pub if_answered : Option ℕ → (ℕ → ℕ) → ℕ
-if_answered None count = 0
-if_answered (Some j) count = count j
-
 -- the arrivals behind the reply q at b: those at the answer to it where it goes on and has one, else 0
 abbrev pub arrivals_at : RuleKind → Answers → (ℕ → Grid → ℕ) → Grid → Point → ℕ
-arrivals_at rule a count b q = if_goes_on (outcome rule b q) (if_answered (answer a q) (λ j. count j (after b q)))
-
--- the arrivals behind these replies at b
-abbrev pub arrivals_among : RuleKind → Answers → (ℕ → Grid → ℕ) → Grid → List Point → ℕ
-arrivals_among rule a count b qs = sum_by (arrivals_at rule a count b) qs
+arrivals_at rule a count b q = if_goes_on (outcome rule b q) (option_map_or (λ j. count j (after b q)) (answer a q) 0)
 
 -- the arrivals behind all replies at b
 abbrev pub arrivals_after : RuleKind → Answers → (ℕ → Grid → ℕ) → Grid → ℕ
-arrivals_after rule a count b = arrivals_among rule a count b (points_of b)
+arrivals_after rule a count b = sum_by (arrivals_at rule a count b) (points_of b)
 
 -- the arrivals behind a node at b: those behind all replies where it is no winning node and its attack goes on, else
 -- 0

@@ -1,5 +1,6 @@
 -- The laws of tables that the layers above rest on.
 use Rattle.std.specs.Prelude.{◌≡◌, ◌↔◌, ℕ, suc, ◌<◌, true, List, ◌++◌, length, slice_get, Option, Some, None}
+use Rattle.std.specs.Option.{option_map_or}
 use Rattle.game_rules.specs.Grid.{Grid}
 use Rattle.game_rules.specs.Games.{WinsWithin, WinsAfter}
 use Rattle.game_rules.specs.declared.RuleKind.{RuleKind}
@@ -8,7 +9,7 @@ use Rattle.strategy_graph.specs.declared.Node.{Node}
 use Rattle.strategy_graph.specs.declared.Why.{Why}
 use Rattle.strategy_graph.specs.declared.roots.Root.{Root}
 use Rattle.strategy_graph.specs.declared.roots.Root.TheVariants.{Attack, Defend}
-use Rattle.strategy_graph.specs.Tables.{Answers, NamesLower, names_below, node_depth, depth, start_depth, answer}
+use Rattle.strategy_graph.specs.Tables.{Answers, answers_of, NamesLower, names_below, depth, start_depth, answer}
 use Rattle.strategy_graph.specs.Acceptance.{AcceptedNode, Accepted, AcceptedStart}
 use Rattle.strategy_graph.specs.Arrivals.{arrivals_behind, arrivals, start_arrivals}
 use Rattle.strategy_graph.specs.Games.{game, attacks, EndsWell}
@@ -16,7 +17,7 @@ use Rattle.strategy_graph.specs.Leads.{Leads, LeadsStart}
 
 -- depth, acceptance and arrivals of node i, by those of the nodes that it names
 pub record GoesByNode (t : List Node) (i : ℕ) : Type 0 where
-  pub depth_by_node : depth t i ≡ node_depth (slice_get t i) (depth t)
+  pub depth_by_node : depth t i ≡ option_map_or (λ n. suc (start_depth t (answers_of n))) (slice_get t i) 0
   pub accepted_by_node : (rule : RuleKind) (b : Grid) → Accepted rule t i b ↔ AcceptedNode rule (slice_get t i) (Accepted rule t) b
   pub arrivals_by_node : (rule : RuleKind) (b : Grid) → arrivals rule t i b ≡ suc (arrivals_behind rule (slice_get t i) (arrivals rule t) b)
 

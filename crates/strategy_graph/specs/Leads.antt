@@ -1,5 +1,5 @@
 -- Lines that lead to a fault of a table.
-use Rattle.std.specs.Prelude.{◌≡◌, ℕ, if◌then◌else◌, List, [], ◌∷◌, Option, Some, None, slice_get}
+use Rattle.std.specs.Prelude.{◌≡◌, ℕ, if◌then◌else◌, List, [], ◌∷◌, Option, Some, None, slice_get, IsSomeAnd, false}
 use Rattle.game_rules.specs.Grid.{Grid}
 use Rattle.game_rules.specs.Play.{outcome, after}
 use Rattle.game_rules.specs.declared.RuleKind.{RuleKind}
@@ -11,7 +11,6 @@ use Rattle.strategy_graph.specs.declared.Node.{Node}
 use Rattle.strategy_graph.specs.declared.Why.{Why}
 use Rattle.strategy_graph.specs.declared.Why.TheVariants.{AttackRefused, AttackFouls, AttackDraws, NotWon, ReplyWins, ReplyDraws, NoAnswer}
 use Rattle.strategy_graph.specs.Tables.{Answers, answers_of, answer, is_winning}
-use Rattle.strategy_graph.specs.Acceptance.{Answered, NotWinning}
 
 -- the fault of an attack with this outcome, by a node with this rest, if it has one
 abbrev pub attack_fault : Outcome → Rest → Option Why
@@ -43,7 +42,7 @@ AtNode (Some n) P = P n
 -- the answer to it
 abbrev pub ReplyLeads : Outcome → Option ℕ → List Point → (ℕ → Type 0) → Why → Type 0
 ReplyLeads o a [] Next why = reply_fault o a ≡ Some why
-ReplyLeads o a (p ∷ line) Next why = (o ≡ GoesOn) × Answered a Next
+ReplyLeads o a (p ∷ line) Next why = (o ≡ GoesOn) × IsSomeAnd a Next
 
 -- The line leads from node i at b to the fault: its moves are by turns the attack of the node in turn, which goes on
 -- and is not that of a winning node, and a reply that goes on and has an answer, up to the last move, which has the
@@ -52,7 +51,7 @@ unfoldable pub Leads : RuleKind → List Node → ℕ → Grid → List Point �
 Leads rule t i b [] why = ⊥
 Leads rule t i b (p ∷ []) why = AtNode (slice_get t i) (λ n. (p ≡ n.attack) × (attack_fault (outcome rule b p) n.rest ≡ Some why))
 Leads rule t i b (p ∷ q ∷ line) why =
-    AtNode (slice_get t i) (λ n. (p ≡ n.attack) × (outcome rule b p ≡ GoesOn) × NotWinning n.rest
+    AtNode (slice_get t i) (λ n. (p ≡ n.attack) × (outcome rule b p ≡ GoesOn) × (is_winning n.rest ≡ false)
     × ReplyLeads (outcome rule (after b p) q) (answer (answers_of n) q) line (λ j. Leads rule t j (after (after b p) q) line why) why)
 
 -- the same from a start at b: the line begins with a reply

@@ -1,15 +1,15 @@
 -- Tables of answers: what a node names, the answer to a reply, and depths.
 use Rattle.std.specs.Prelude.{◌≡◌, ℕ, zero, suc, ◌≤◌, ◌<◌, max, Bool, true, false, ◌&&◌, nat_lt, List, [], ◌∷◌, ◌++◌, map}
-use Rattle.std.specs.Prelude.{length, Option, Some, None, slice_get, slice_index}
+use Rattle.std.specs.Prelude.{length, Option, Some, None, option_to_list, slice_get, slice_index}
 use Rattle.std.specs.List.{list_all, find, AllByRecursion}
-use Rattle.std.specs.Option.{option_map, option_or, option_and_then}
+use Rattle.std.specs.Option.{option_map, option_map_or, option_or, option_and_then}
 use Rattle.game_rules.specs.Grid.{Grid, is_on}
 use Rattle.game_rules.specs.Shapes.{is_same_point}
 use Rattle.game_rules.specs.Points.{precedes}
 use Rattle.game_rules.specs.declared.Point.{Point}
 use Rattle.strategy_graph.specs.declared.Reply.{Reply}
 use Rattle.strategy_graph.specs.declared.Rest.{Rest}
-use Rattle.strategy_graph.specs.declared.Rest.TheVariants.{Wins, To, Nothing}
+use Rattle.strategy_graph.specs.declared.Rest.TheVariants.{Wins, To}
 use Rattle.strategy_graph.specs.declared.Node.{Node}
 use Rattle.strategy_graph.specs.declared.TheConstants.{MAX_NODES}
 
@@ -22,11 +22,10 @@ pub record Answers : Type 0 where
 abbrev pub answers_of : Node → Answers
 answers_of n = record { replies = n.replies; rest = n.rest }
 
--- the nodes that a rest names: one or none
+-- the node that a rest names, if it names one
 abbrev pub rest_node : Rest → Option ℕ
-rest_node Wins = None
 rest_node (To j) = Some j
-rest_node Nothing = None
+rest_node r = None
 
 -- the node that is listed for the reply q, if one is
 abbrev pub listed_node : List Reply → Point → Option ℕ
@@ -43,18 +42,11 @@ answer_at t i q = option_and_then (λ n. answer (answers_of n) q) (slice_get t i
 -- whether the rest is that of a winning node
 abbrev pub is_winning : Rest → Bool
 is_winning Wins = true
-is_winning (To j) = false
-is_winning Nothing = false
-
--- the nodes that a rest names, as a list
-abbrev pub rest_nodes : Rest → List ℕ
-rest_nodes Wins = []
-rest_nodes (To j) = j ∷ []
-rest_nodes Nothing = []
+is_winning r = false
 
 -- the nodes that the answers name: those listed, and that of the rest
 abbrev pub named : Answers → List ℕ
-named a = map (λ r. r.next) a.replies ++ rest_nodes a.rest
+named a = map (λ r. r.next) a.replies ++ option_to_list (rest_node a.rest)
 
 -- whether each node that the answers name is below k
 abbrev pub names_below : Answers → ℕ → Bool
@@ -107,15 +99,10 @@ abbrev pub greatest : List ℕ → ℕ
 greatest [] = 0
 greatest (x ∷ xs) = max x (greatest xs)
 
--- one more than the greatest depth of the nodes that a node names
-abbrev pub node_depth : Option Node → (ℕ → ℕ) → ℕ
-node_depth None depth_at = 0
-node_depth (Some n) depth_at = suc (greatest (map depth_at (named (answers_of n))))
-
 -- the depth of node i, where at most so many nodes follow one another
 unfoldable pub depth_within : ℕ → List Node → ℕ → ℕ
 depth_within zero t i = 0
-depth_within (suc f) t i = node_depth (slice_get t i) (depth_within f t)
+depth_within (suc f) t i = option_map_or (λ n. suc (greatest (map (depth_within f t) (named (answers_of n))))) (slice_get t i) 0
 
 -- The depth of node i: 1 if it names no node, else 1 more than the greatest depth of those that it names. Each node
 -- names only lower ones, so no more than i + 1 nodes follow one another from node i.

@@ -9,9 +9,9 @@
 //! games against it end well, and that all this stays as it is however the table grows.
 #![tactic(auto)]
 
-ghost use Rattle.std.specs.Prelude.{◌≡◌, nat_lt};
+ghost use Rattle.std.specs.Prelude.{◌≡◌, nat_lt, option_to_list};
 ghost use Rattle.std.specs.List.{list_all};
-ghost use Rattle.strategy_graph.specs.Tables.{is_winning, rest_node, rest_nodes};
+ghost use Rattle.strategy_graph.specs.Tables.{is_winning, rest_node};
 
 mod depths;
 mod replies;
@@ -61,7 +61,7 @@ impl Rest {
 
     /// Whether the node that is named, if one is, is below `len`.
     pub(crate) fn is_below(self, len: u32) -> bool
-        ensures below { result ≡ list_all (λ j. nat_lt j len) (rest_nodes self) }
+        ensures below { result ≡ list_all (λ j. nat_lt j len) (option_to_list (rest_node self)) }
     {
         match self {
             Rest::To(number) => number < len,

@@ -1,7 +1,7 @@
 -- A game of the drill, move by move: what the state of the brain says once it made a move by the held table, and after each TURN.
 use Rattle.std.proofs.Common.{◌≡◌, ◌⊎◌, inl, inr, refl, sym, ap, subst, ◌∙◌, ℕ, ◌+◌, ◌*◌, ◌≤◌, Bool, true, false, cond, not, ◌&&◌, ◌∷◌}
 use Rattle.std.proofs.Common.{arith}
-use Rattle.std.specs.Prelude.{Option, Some}
+use Rattle.std.specs.Prelude.{Option, Some, IsSomeAnd}
 use Rattle.game_rules.specs.Grid.{Grid, is_empty, empties_of}
 use Rattle.game_rules.specs.Play.{IsPosition, outcome, mover, after, goes_on, is_foul, is_win}
 use Rattle.game_rules.specs.Games.{WinsOr, LosesOr}
@@ -16,9 +16,9 @@ use Rattle.game_rules.proofs.Boards.{empties_of-put}
 use Rattle.game_rules.proofs.Positions.{GoesOn-empty}
 use Rattle.game_rules.proofs.Outcomes.{moved, wins_or_goes_on}
 use Rattle.strategy_graph.specs.declared.Node.{Node}
-use Rattle.strategy_graph.specs.Tables.{answers_of, answer}
-use Rattle.strategy_graph.specs.Acceptance.{Answered, NotWinning, Meets, AcceptedWithin}
-use Rattle.strategy_graph.proofs.Answering.{Answered-elim}
+use Rattle.strategy_graph.specs.Tables.{answers_of, answer, is_winning}
+use Rattle.strategy_graph.specs.Acceptance.{Meets, AcceptedWithin}
+use Rattle.strategy_graph.proofs.Answering.{IsSomeAnd-elim}
 use Rattle.strategy_checker.specs.HeldRoots.{HeldTable}
 use Rattle.gomocup_text.specs.declared.Command.TheVariants.{Turn}
 use Rattle.gomocup_text.specs.declared.Answer.TheVariants.{Move, Error}
@@ -86,7 +86,7 @@ module _ (h : HeldTable) (rule : RuleKind) (s : State) (turns : ℕ) (p : IsPlay
   pub attacks : (outcome rule board_before p.node.attack ≡ WinsNow) ⊎ (outcome rule board_before p.node.attack ≡ GoesOn)
   attacks = wins_or_goes_on (outcome rule board_before p.node.attack) _
       (subst (λ (r : RuleKind). WinsOr (outcome r board_before p.node.attack)
-      (NotWinning p.node.rest
+      ((is_winning p.node.rest ≡ false)
       × ((q : Point) → Meets p.game.rule (answers_of p.node) (AcceptedWithin p.more p.game.rule h.table) (after board_before p.node.attack)
       q))) p.rule_is p.stands.wins)
 
@@ -211,7 +211,7 @@ module _ (h : HeldTable) (rule : RuleKind) (s : State) (turns : ℕ) (p : IsPlay
           (brain_step s (Turn q.x q.y)) (turns + 1)
       reply-met = by_outcome there refl ((parts h p.game p.i p.node p.more p.stands (here GoesOn on)).1 q) where
         by_outcome : (o : Outcome) → there ≡ o → LosesOr o
-            (Answered (answer (answers_of p.node) q)
+            (IsSomeAnd (answer (answers_of p.node) q)
             (λ j. AcceptedWithin p.more p.game.rule h.table j (after (after board_before p.node.attack) q)))
             → IsFouled (brain_step s (Turn q.x q.y)) (turns + 1) ⊎ IsAnswered h rule (after board_before p.node.attack) q
             (brain_step s (Turn q.x q.y)) (turns + 1)
@@ -219,4 +219,4 @@ module _ (h : HeldTable) (rule : RuleKind) (s : State) (turns : ℕ) (p : IsPlay
         by_outcome WinsNow e met = absurd met
         by_outcome (Fouls f) e met = inl (fouled f e)
         by_outcome Draws e met = absurd met
-        by_outcome GoesOn e met = inr (Answered-elim (answer (answers_of p.node) q) _ _ (answered e) met)
+        by_outcome GoesOn e met = inr (IsSomeAnd-elim (answer (answers_of p.node) q) _ _ (answered e) met)

@@ -1,5 +1,5 @@
 use Rattle.std.proofs.Common.{◌≡◌, ◌++◌, map, take}
-use Rattle.strategy_graph.specs.Tables.{rest_nodes}
+use Rattle.strategy_graph.proofs.Common.{rest_nodes}
 use Rattle.strategy_compiler.proofs.starts.visited.Given as goal
 
 abbrev pub invariant-loop-reply : goal.invariant-loop-reply
