@@ -1,7 +1,7 @@
 -- A table whose points a turn took to other points says of the board that the turn made what the table says of the board.
-use Rattle.std.proofs.Common.{◌≡◌, ◌↔◌, ℕ, zero, suc, max, true, cond, refl, sym, ap, subst, ◌∙◌, List, [], ◌∷◌, map}
-use Rattle.std.specs.Prelude.{Option, Some, None, slice_get}
-use Rattle.std.specs.Option.{option_map, option_or}
+use Rattle.std.proofs.Common.{◌≡◌, ◌↔◌, ℕ, zero, suc, max, true, cond, refl, sym, ap, subst, ◌∙◌, List, [], ◌∷◌, map, false}
+use Rattle.std.specs.Prelude.{Option, Some, None, slice_get, IsSomeAnd}
+use Rattle.std.specs.Option.{option_map, option_or, option_map_or}
 use Rattle.std.specs.List.{list_all}
 use Rattle.std.proofs.lemmas.Option.{slice_get-map}
 use Rattle.game_rules.specs.Grid.{Grid}
@@ -14,15 +14,15 @@ use Rattle.game_rules.specs.declared.RuleKind.{RuleKind}
 use Rattle.game_rules.proofs.Boards.{and_left, and_right}
 use Rattle.game_rules.proofs.Tests.{all_get}
 use Rattle.game_rules.proofs.Games.{WinsOr-map}
-use Rattle.game_rules.proofs.Points.{WinsOr-on}
-use Rattle.strategy_graph.specs.Tables.{Answers, answers_of, answer, rest_node, rest_nodes, named, is_winning, NamesOnBoard, TableOnBoard}
-use Rattle.strategy_graph.specs.Tables.{IsTable, greatest, node_depth, depth_within, depth, start_depth, is_rising, RepliesOn}
-use Rattle.strategy_graph.specs.Acceptance.{Answered, NotWinning, Meets, AcceptedNode, AcceptedWithin, Accepted, AcceptedStart}
-use Rattle.strategy_graph.specs.Arrivals.{if_answered, arrivals_at, arrivals_after, arrivals_behind, arrivals_within, arrivals}
+use Rattle.strategy_graph.proofs.Common.{rest_nodes, node_depth}
+use Rattle.strategy_graph.specs.Tables.{Answers, answers_of, answer, rest_node, named, is_winning, NamesOnBoard, TableOnBoard}
+use Rattle.strategy_graph.specs.Tables.{IsTable, greatest, depth_within, depth, start_depth, is_rising, RepliesOn}
+use Rattle.strategy_graph.specs.Acceptance.{Meets, AcceptedNode, AcceptedWithin, Accepted, AcceptedStart}
+use Rattle.strategy_graph.specs.Arrivals.{arrivals_at, arrivals_after, arrivals_behind, arrivals_within, arrivals}
 use Rattle.strategy_graph.specs.Arrivals.{start_arrivals}
 use Rattle.strategy_graph.specs.Games.{End, NoMove, Open, after_attack, after_reply, if_node, one_later, end_at, game}
 use Rattle.strategy_graph.specs.declared.Node.{Node}
-use Rattle.strategy_graph.proofs.Answering.{Answered-map}
+use Rattle.strategy_graph.proofs.Answering.{IsSomeAnd-map}
 use Rattle.strategy_graph.proofs.Naming.{greatest-parts}
 use Rattle.board_symmetry.specs.Points.{empty_board}
 use Rattle.board_symmetry.proofs.Turns.{Turn, within}
@@ -45,189 +45,169 @@ module _ (w h : ℕ) (to from : Point → Point) (turn : Turn w h to from) where
 
   -- ---- acceptance
 
-  -- what holds of a node at a board holds of it at what the turn made of the board
-  abbrev There : (ℕ → Grid → Type 0) → (ℕ → Grid → Type 0) → Type 0
-  There N M = (j : ℕ) (xs ys : List Cell) → Turned w h to xs ys → N j (grid w h xs) → M j (grid w h ys)
+  -- what holds of a node at what the turn made of a board holds of it at the board, and the other way round
+  abbrev Same : (ℕ → Grid → Type 0) → (ℕ → Grid → Type 0) → Type 0
+  Same N M = (j : ℕ) (xs ys : List Cell) → Turned w h to xs ys → M j (grid w h ys) ↔ N j (grid w h xs)
 
-  -- and the other way round
-  abbrev Here : (ℕ → Grid → Type 0) → (ℕ → Grid → Type 0) → Type 0
-  Here N M = (j : ℕ) (xs ys : List Cell) → Turned w h to xs ys → M j (grid w h ys) → N j (grid w h xs)
+  module _ (rule : RuleKind) (N M : ℕ → Grid → Type 0) (same : Same N M) where
+    meets-same : (a : Answers) (xs ys : List Cell) → Turned w h to xs ys
+        → ((q : Point) → Meets rule (answers_to a) M (grid w h ys) q) ↔ ((q : Point) → Meets rule a N (grid w h xs) q)
+    meets-same a xs ys turned = (
+      replies-here w h to from turn rule xs ys turned
+          (λ q. IsSomeAnd (answer a q) (λ j. N j (after (grid w h xs) q)))
+          (λ q. IsSomeAnd (answer (answers_to a) q) (λ j. M j (after (grid w h ys) q)))
+          (λ q on met. IsSomeAnd-map (answer a q) _ _
+          (λ j e there. (same j _ _ (after-turned w h to from turn xs ys turned rule q on)).0 there)
+          (subst (λ (o : Option ℕ). IsSomeAnd o (λ j. M j (after (grid w h ys) (to q)))) (answer-same a q on) met)),
+      replies-there w h to from turn rule xs ys turned
+          (λ q. IsSomeAnd (answer a q) (λ j. N j (after (grid w h xs) q)))
+          (λ q. IsSomeAnd (answer (answers_to a) q) (λ j. M j (after (grid w h ys) q)))
+          (λ q on met. subst (λ (o : Option ℕ). IsSomeAnd o (λ j. M j (after (grid w h ys) (to q)))) (sym (answer-same a q on))
+          (IsSomeAnd-map (answer a q) _ _
+          (λ j e here. (same j _ _ (after-turned w h to from turn xs ys turned rule q on)).1 here) met)),
+    )
 
-  module _ (rule : RuleKind) (N M : ℕ → Grid → Type 0) where
-    pub meets-there : There N M → (a : Answers) (xs ys : List Cell) → Turned w h to xs ys
-        → ((q : Point) → Meets rule a N (grid w h xs) q) → (q : Point) → Meets rule (answers_to a) M (grid w h ys) q
-    meets-there next a xs ys turned each =
-        replies-there w h to from turn rule xs ys turned
-        (λ q. Answered (answer a q) (λ j. N j (after (grid w h xs) q)))
-        (λ q. Answered (answer (answers_to a) q) (λ j. M j (after (grid w h ys) q)))
-        (λ q on met. subst (λ (o : Option ℕ). Answered o (λ j. M j (after (grid w h ys) (to q)))) (sym (answer-same a q on))
-        (Answered-map (answer a q) _ _ (λ j e here. next j _ _ (after-turned w h to from turn xs ys turned rule q on) here) met)) each
+    -- what is asked of a node at what the turn made of a board, where that is the outcome of its attack
+    abbrev Asked : Node → List Cell → Outcome → Type 0
+    Asked n ys o = WinsOr o ((is_winning n.rest ≡ false)
+        × ((q : Point) → Meets rule (answers_to (answers_of n)) M (after (grid w h ys) (to n.attack)) q))
 
-    pub meets-here : Here N M → (a : Answers) (xs ys : List Cell) → Turned w h to xs ys
-        → ((q : Point) → Meets rule (answers_to a) M (grid w h ys) q) → (q : Point) → Meets rule a N (grid w h xs) q
-    meets-here next a xs ys turned each =
-        replies-here w h to from turn rule xs ys turned
-        (λ q. Answered (answer a q) (λ j. N j (after (grid w h xs) q)))
-        (λ q. Answered (answer (answers_to a) q) (λ j. M j (after (grid w h ys) q)))
-        (λ q on met. Answered-map (answer a q) _ _ (λ j e there. next j _ _ (after-turned w h to from turn xs ys turned rule q on) there)
-        (subst (λ (o : Option ℕ). Answered o (λ j. M j (after (grid w h ys) (to q)))) (answer-same a q on) met)) each
-
-    node-there : There N M → (o : Option Node) (xs ys : List Cell) → Turned w h to xs ys
-        → AcceptedNode rule o N (grid w h xs) → AcceptedNode rule (option_map node_to o) M (grid w h ys)
-    node-there next None xs ys turned h = h
-    node-there next (Some n) xs ys turned accepted =
-        let on : within w h n.attack ≡ true = WinsOr-on rule (grid w h xs) n.attack _ accepted in
-        subst (λ (o : Outcome). WinsOr o (NotWinning n.rest ×
-        ((q : Point) → Meets rule (answers_to (answers_of n)) M (after (grid w h ys) (to n.attack)) q)))
-        (sym (outcome-same w h to from turn xs ys turned rule n.attack on))
-        (WinsOr-map (outcome rule (grid w h xs) n.attack) _ _ (λ (more, each). (
-          more,
-          meets-there next (answers_of n) _ _ (after-turned w h to from turn xs ys turned rule n.attack on) each,
-        )) accepted)
-
-    node-here : Here N M → (o : Option Node) (xs ys : List Cell) → Turned w h to xs ys
+    node-same : (o : Option Node) (xs ys : List Cell) → Turned w h to xs ys
         → ((n : Node) → o ≡ Some n → NamesOnBoard (empty_board w h) n)
-        → AcceptedNode rule (option_map node_to o) M (grid w h ys) → AcceptedNode rule o N (grid w h xs)
-    node-here next None xs ys turned names accepted = accepted
-    node-here next (Some n) xs ys turned names accepted =
+        → AcceptedNode rule (option_map node_to o) M (grid w h ys) ↔ AcceptedNode rule o N (grid w h xs)
+    node-same None xs ys turned names = (λ no. no, λ no. no)
+    node-same (Some n) xs ys turned names =
         let on : within w h n.attack ≡ true = (names n refl).attack in
-        WinsOr-map (outcome rule (grid w h xs) n.attack) _ _ (λ (more, each). (
-          more,
-          meets-here next (answers_of n) _ _ (after-turned w h to from turn xs ys turned rule n.attack on) each,
-        ))
-        (subst (λ (o : Outcome). WinsOr o (NotWinning n.rest
-        × ((q : Point) → Meets rule (answers_to (answers_of n)) M (after (grid w h ys) (to n.attack)) q)))
-        (outcome-same w h to from turn xs ys turned rule n.attack on) accepted)
+        let is : outcome rule (grid w h ys) (to n.attack) ≡ outcome rule (grid w h xs) n.attack =
+        outcome-same w h to from turn xs ys turned rule n.attack on in (
+          λ accepted. WinsOr-map (outcome rule (grid w h xs) n.attack) _ _ (λ (more, each). (
+            more,
+            (meets-same (answers_of n) _ _ (after-turned w h to from turn xs ys turned rule n.attack on)).0 each,
+          )) (subst (Asked n ys) is accepted),
+          λ accepted. subst (Asked n ys) (sym is) (WinsOr-map (outcome rule (grid w h xs) n.attack) _ _ (λ (more, each). (
+            more,
+            (meets-same (answers_of n) _ _ (after-turned w h to from turn xs ys turned rule n.attack on)).1 each,
+          )) accepted),
+        )
 
-  module _ (rule : RuleKind) (t : List Node) where
-    within-there : (f : ℕ) → There (AcceptedWithin f rule t) (AcceptedWithin f rule (map node_to t))
+  module _ (rule : RuleKind) (t : List Node) (on_board : TableOnBoard (empty_board w h) t) where
+    within-same : (f : ℕ) → Same (AcceptedWithin f rule t) (AcceptedWithin f rule (map node_to t))
     unfolding AcceptedWithin
-    within-there zero j xs ys turned accepted = accepted
-    within-there (suc f) j xs ys turned accepted =
-        subst (λ (o : Option Node). AcceptedNode rule o (AcceptedWithin f rule (map node_to t)) (grid w h ys))
+    within-same zero j xs ys turned = (λ no. no, λ no. no)
+    within-same (suc f) j xs ys turned =
+        subst (λ (o : Option Node). AcceptedNode rule o (AcceptedWithin f rule (map node_to t)) (grid w h ys)
+        ↔ AcceptedNode rule (slice_get t j) (AcceptedWithin f rule t) (grid w h xs))
         (sym (slice_get-map node_to t j))
-        (node-there rule (AcceptedWithin f rule t) (AcceptedWithin f rule (map node_to t)) (within-there f)
-        (slice_get t j) xs ys turned accepted)
+        (node-same rule (AcceptedWithin f rule t) (AcceptedWithin f rule (map node_to t)) (within-same f) (slice_get t j) xs ys turned
+        (λ n e. all_get (NamesOnBoard (empty_board w h)) t j n e on_board))
 
-    module _ (on_board : TableOnBoard (empty_board w h) t) where
-      within-here : (f : ℕ) → Here (AcceptedWithin f rule t) (AcceptedWithin f rule (map node_to t))
-      unfolding AcceptedWithin
-      within-here zero j xs ys turned accepted = accepted
-      within-here (suc f) j xs ys turned accepted =
-          node-here rule (AcceptedWithin f rule t) (AcceptedWithin f rule (map node_to t)) (within-here f) (slice_get t j) xs ys turned
-          (λ n e. all_get (NamesOnBoard (empty_board w h)) t j n e on_board)
-          (subst (λ (o : Option Node). AcceptedNode rule o (AcceptedWithin f rule (map node_to t)) (grid w h ys))
-          (slice_get-map node_to t j) accepted)
+    pub accepted-same : (i : ℕ) (xs ys : List Cell) → Turned w h to xs ys → Accepted rule (map node_to t) i (grid w h ys)
+        ↔ Accepted rule t i (grid w h xs)
+    accepted-same i xs ys turned = within-same (suc i) i xs ys turned
 
-      pub accepted-same : (i : ℕ) (xs ys : List Cell) → Turned w h to xs ys → Accepted rule (map node_to t) i (grid w h ys)
-          ↔ Accepted rule t i (grid w h xs)
-      accepted-same i xs ys turned = (within-here (suc i) i xs ys turned, within-there (suc i) i xs ys turned)
+    pub accepted_start-same : (a : Answers) (xs ys : List Cell) → Turned w h to xs ys
+        → AcceptedStart rule (map node_to t) (answers_to a) (grid w h ys) ↔ AcceptedStart rule t a (grid w h xs)
+    accepted_start-same a xs ys turned =
+        meets-same rule (Accepted rule t) (Accepted rule (map node_to t)) (λ j. within-same (suc j) j) a xs ys turned
 
-      pub accepted_start-same : (a : Answers) (xs ys : List Cell) → Turned w h to xs ys
-          → AcceptedStart rule (map node_to t) (answers_to a) (grid w h ys) ↔ AcceptedStart rule t a (grid w h xs)
-      accepted_start-same a xs ys turned = (
-        meets-here rule (Accepted rule t) (Accepted rule (map node_to t)) (λ j. within-here (suc j) j) a xs ys turned,
-        meets-there rule (Accepted rule t) (Accepted rule (map node_to t)) (λ j. within-there (suc j) j) a xs ys turned,
-      )
+    -- ---- arrivals
 
-      -- ---- arrivals
+    -- counts of a node at a board, and at what the turn made of it
+    abbrev Counts : (ℕ → Grid → ℕ) → (ℕ → Grid → ℕ) → Type 0
+    Counts m k = (j : ℕ) (xs ys : List Cell) → Turned w h to xs ys → k j (grid w h ys) ≡ m j (grid w h xs)
 
-      -- counts of a node at a board, and at what the turn made of it
-      abbrev Counts : (ℕ → Grid → ℕ) → (ℕ → Grid → ℕ) → Type 0
-      Counts m k = (j : ℕ) (xs ys : List Cell) → Turned w h to xs ys → k j (grid w h ys) ≡ m j (grid w h xs)
+    answered-count : (o : Option ℕ) (m k : ℕ → ℕ) → ((j : ℕ) → k j ≡ m j) → option_map_or k o 0 ≡ option_map_or m o 0
+    answered-count None m k same = refl
+    answered-count (Some j) m k same = same j
 
-      answered-count : (o : Option ℕ) (m k : ℕ → ℕ) → ((j : ℕ) → k j ≡ m j) → if_answered o k ≡ if_answered o m
-      answered-count None m k same = refl
-      answered-count (Some j) m k same = same j
+    module _ (m k : ℕ → Grid → ℕ) (counts : Counts m k) where
+      arrivals_after-same : (a : Answers) (xs ys : List Cell) → Turned w h to xs ys
+          → arrivals_after rule (answers_to a) k (grid w h ys) ≡ arrivals_after rule a m (grid w h xs)
+      arrivals_after-same a xs ys turned =
+          points-sum w h to from turn (arrivals_at rule a m (grid w h xs)) (arrivals_at rule (answers_to a) k (grid w h ys)) (λ q on.
+          ap (λ (o : Outcome). if_goes_on o (option_map_or (λ j. k j (after (grid w h ys) (to q))) (answer (answers_to a) (to q)) 0))
+          (outcome-same w h to from turn xs ys turned rule q on)
+          ∙ ap (λ n. if_goes_on (outcome rule (grid w h xs) q) n)
+          (ap (λ (o : Option ℕ). option_map_or (λ j. k j (after (grid w h ys) (to q))) o 0) (answer-same a q on)
+          ∙ answered-count (answer a q) _ _ (λ j. counts j _ _ (after-turned w h to from turn xs ys turned rule q on))))
 
-      module _ (m k : ℕ → Grid → ℕ) (counts : Counts m k) where
-        arrivals_after-same : (a : Answers) (xs ys : List Cell) → Turned w h to xs ys
-            → arrivals_after rule (answers_to a) k (grid w h ys) ≡ arrivals_after rule a m (grid w h xs)
-        arrivals_after-same a xs ys turned =
-            points-sum w h to from turn (arrivals_at rule a m (grid w h xs)) (arrivals_at rule (answers_to a) k (grid w h ys)) (λ q on.
-            ap (λ (o : Outcome). if_goes_on o (if_answered (answer (answers_to a) (to q)) (λ j. k j (after (grid w h ys) (to q)))))
-            (outcome-same w h to from turn xs ys turned rule q on)
-            ∙ ap (λ n. if_goes_on (outcome rule (grid w h xs) q) n)
-            (ap (λ (o : Option ℕ). if_answered o (λ j. k j (after (grid w h ys) (to q)))) (answer-same a q on)
-            ∙ answered-count (answer a q) _ _ (λ j. counts j _ _ (after-turned w h to from turn xs ys turned rule q on))))
-
-        arrivals_behind-same : (o : Option Node) (xs ys : List Cell) → Turned w h to xs ys
-            → ((n : Node) → o ≡ Some n → NamesOnBoard (empty_board w h) n)
-            → arrivals_behind rule (option_map node_to o) k (grid w h ys) ≡ arrivals_behind rule o m (grid w h xs)
-        arrivals_behind-same None xs ys turned names = refl
-        arrivals_behind-same (Some n) xs ys turned names =
-            let on : within w h n.attack ≡ true = (names n refl).attack in
-            ap (λ (o : Outcome). if_goes_on o (cond (is_winning n.rest) 0
-            (arrivals_after rule (answers_to (answers_of n)) k (after (grid w h ys) (to n.attack)))))
-            (outcome-same w h to from turn xs ys turned rule n.attack on)
-            ∙ ap (λ c. if_goes_on (outcome rule (grid w h xs) n.attack) (cond (is_winning n.rest) 0 c))
-            (arrivals_after-same (answers_of n) _ _ (after-turned w h to from turn xs ys turned rule n.attack on))
-
-      arrivals_within-same : (f : ℕ) → Counts (arrivals_within f rule t) (arrivals_within f rule (map node_to t))
-      unfolding arrivals_within
-      arrivals_within-same zero j xs ys turned = refl
-      arrivals_within-same (suc f) j xs ys turned =
-          ap (λ (o : Option Node). suc (arrivals_behind rule o (arrivals_within f rule (map node_to t)) (grid w h ys)))
-          (slice_get-map node_to t j)
-          ∙ ap suc (arrivals_behind-same (arrivals_within f rule t) (arrivals_within f rule (map node_to t)) (arrivals_within-same f)
-          (slice_get t j) xs ys turned
-          (λ n e. all_get (NamesOnBoard (empty_board w h)) t j n e on_board))
-
-      pub arrivals-same : (i : ℕ) (xs ys : List Cell) → Turned w h to xs ys → arrivals rule (map node_to t) i (grid w h ys)
-          ≡ arrivals rule t i (grid w h xs)
-      arrivals-same i xs ys turned = arrivals_within-same (suc i) i xs ys turned
-
-      pub start_arrivals-same : (a : Answers) (xs ys : List Cell) → Turned w h to xs ys
-          → start_arrivals rule (map node_to t) (answers_to a) (grid w h ys) ≡ start_arrivals rule t a (grid w h xs)
-      start_arrivals-same a xs ys turned =
-          ap suc (arrivals_after-same (arrivals rule t) (arrivals rule (map node_to t))
-          (λ j. arrivals_within-same (suc j) j) a xs ys turned)
-
-      -- ---- games
-
-      end_at-same : (o : Option Node) (xs ys : List Cell) → Turned w h to xs ys
+      arrivals_behind-same : (o : Option Node) (xs ys : List Cell) → Turned w h to xs ys
           → ((n : Node) → o ≡ Some n → NamesOnBoard (empty_board w h) n)
-          → (here there : Node → End) → ((n : Node) → within w h n.attack ≡ true → there (node_to n) ≡ here n)
-          → end_at rule (option_map node_to o) (grid w h ys) there ≡ end_at rule o (grid w h xs) here
-      end_at-same None xs ys turned names here there same = refl
-      end_at-same (Some n) xs ys turned names here there same =
+          → arrivals_behind rule (option_map node_to o) k (grid w h ys) ≡ arrivals_behind rule o m (grid w h xs)
+      arrivals_behind-same None xs ys turned names = refl
+      arrivals_behind-same (Some n) xs ys turned names =
           let on : within w h n.attack ≡ true = (names n refl).attack in
-          ap (λ (o : Outcome). after_attack o (cond (is_winning n.rest) NoMove (there (node_to n))))
+          ap (λ (o : Outcome). if_goes_on o (cond (is_winning n.rest) 0
+          (arrivals_after rule (answers_to (answers_of n)) k (after (grid w h ys) (to n.attack)))))
           (outcome-same w h to from turn xs ys turned rule n.attack on)
-          ∙ ap (λ (e : End). after_attack (outcome rule (grid w h xs) n.attack) (cond (is_winning n.rest) NoMove e)) (same n on)
+          ∙ ap (λ c. if_goes_on (outcome rule (grid w h xs) n.attack) (cond (is_winning n.rest) 0 c))
+          (arrivals_after-same (answers_of n) _ _ (after-turned w h to from turn xs ys turned rule n.attack on))
 
-      node_end : (o : Option ℕ) (e f : ℕ → End) → ((j : ℕ) → f j ≡ e j) → if_node o f ≡ if_node o e
-      node_end None e f same = refl
-      node_end (Some j) e f same = ap one_later (same j)
+    arrivals_within-same : (f : ℕ) → Counts (arrivals_within f rule t) (arrivals_within f rule (map node_to t))
+    unfolding arrivals_within
+    arrivals_within-same zero j xs ys turned = refl
+    arrivals_within-same (suc f) j xs ys turned =
+        ap (λ (o : Option Node). suc (arrivals_behind rule o (arrivals_within f rule (map node_to t)) (grid w h ys)))
+        (slice_get-map node_to t j)
+        ∙ ap suc (arrivals_behind-same (arrivals_within f rule t) (arrivals_within f rule (map node_to t)) (arrivals_within-same f)
+        (slice_get t j) xs ys turned
+        (λ n e. all_get (NamesOnBoard (empty_board w h)) t j n e on_board))
 
-      pub game-same : (i : ℕ) (xs ys : List Cell) (qs : List Point) → Turned w h to xs ys → list_all (within w h) qs ≡ true
-          → game rule (map node_to t) i (grid w h ys) (map to qs) ≡ game rule t i (grid w h xs) qs
-      unfolding game
-      game-same i xs ys [] turned all =
-          ap (λ (o : Option Node). end_at rule o (grid w h ys) (λ n. Open)) (slice_get-map node_to t i)
-          ∙ end_at-same (slice_get t i) xs ys turned (λ n e. all_get (NamesOnBoard (empty_board w h)) t i n e on_board) (λ n. Open)
-          (λ n. Open) (λ n on. refl)
-      game-same i xs ys (q ∷ qs) turned all =
-          let on_q : within w h q ≡ true = and_left (within w h q) _ all in
-          ap (λ (o : Option Node). end_at rule o (grid w h ys) (λ n. after_reply (outcome rule (after (grid w h ys) n.attack) (to q))
-          (if_node (answer (answers_of n) (to q)) (λ j. game rule (map node_to t) j (after (after (grid w h ys) n.attack) (to q))
-          (map to qs))))) (slice_get-map node_to t i)
-          ∙ end_at-same (slice_get t i) xs ys turned (λ n e. all_get (NamesOnBoard (empty_board w h)) t i n e on_board)
-          (λ n. after_reply (outcome rule (after (grid w h xs) n.attack) q)
-          (if_node (answer (answers_of n) q) (λ j. game rule t j (after (after (grid w h xs) n.attack) q) qs)))
-          (λ n. after_reply (outcome rule (after (grid w h ys) n.attack) (to q))
-          (if_node (answer (answers_of n) (to q)) (λ j. game rule (map node_to t) j (after (after (grid w h ys) n.attack) (to q))
-          (map to qs))))
-          (λ n on.
-          let next = after-turned w h to from turn xs ys turned rule n.attack on in
-          let last = after-turned w h to from turn _ _ next rule q on_q in
-          ap (λ (o : Outcome). after_reply o (if_node (answer (answers_to (answers_of n)) (to q))
-          (λ j. game rule (map node_to t) j (after (after (grid w h ys) (to n.attack)) (to q)) (map to qs))))
-          (outcome-same w h to from turn _ _ next rule q on_q)
-          ∙ ap (λ (e : End). after_reply (outcome rule (after (grid w h xs) n.attack) q) e)
-          (ap (λ (o : Option ℕ). if_node o (λ j. game rule (map node_to t) j (after (after (grid w h ys) (to n.attack)) (to q))
-          (map to qs))) (answer-same (answers_of n) q on_q)
-          ∙ node_end (answer (answers_of n) q) _ _ (λ j. game-same j _ _ qs last (and_right (within w h q) _ all))))
+    pub arrivals-same : (i : ℕ) (xs ys : List Cell) → Turned w h to xs ys → arrivals rule (map node_to t) i (grid w h ys)
+        ≡ arrivals rule t i (grid w h xs)
+    arrivals-same i xs ys turned = arrivals_within-same (suc i) i xs ys turned
+
+    pub start_arrivals-same : (a : Answers) (xs ys : List Cell) → Turned w h to xs ys
+        → start_arrivals rule (map node_to t) (answers_to a) (grid w h ys) ≡ start_arrivals rule t a (grid w h xs)
+    start_arrivals-same a xs ys turned =
+        ap suc (arrivals_after-same (arrivals rule t) (arrivals rule (map node_to t))
+        (λ j. arrivals_within-same (suc j) j) a xs ys turned)
+
+    -- ---- games
+
+    end_at-same : (o : Option Node) (xs ys : List Cell) → Turned w h to xs ys
+        → ((n : Node) → o ≡ Some n → NamesOnBoard (empty_board w h) n)
+        → (here there : Node → End) → ((n : Node) → within w h n.attack ≡ true → there (node_to n) ≡ here n)
+        → end_at rule (option_map node_to o) (grid w h ys) there ≡ end_at rule o (grid w h xs) here
+    end_at-same None xs ys turned names here there same = refl
+    end_at-same (Some n) xs ys turned names here there same =
+        let on : within w h n.attack ≡ true = (names n refl).attack in
+        ap (λ (o : Outcome). after_attack o (cond (is_winning n.rest) NoMove (there (node_to n))))
+        (outcome-same w h to from turn xs ys turned rule n.attack on)
+        ∙ ap (λ (e : End). after_attack (outcome rule (grid w h xs) n.attack) (cond (is_winning n.rest) NoMove e)) (same n on)
+
+    node_end : (o : Option ℕ) (e f : ℕ → End) → ((j : ℕ) → f j ≡ e j) → if_node o f ≡ if_node o e
+    node_end None e f same = refl
+    node_end (Some j) e f same = ap one_later (same j)
+
+    pub game-same : (i : ℕ) (xs ys : List Cell) (qs : List Point) → Turned w h to xs ys → list_all (within w h) qs ≡ true
+        → game rule (map node_to t) i (grid w h ys) (map to qs) ≡ game rule t i (grid w h xs) qs
+    unfolding game
+    game-same i xs ys [] turned all =
+        ap (λ (o : Option Node). end_at rule o (grid w h ys) (λ n. Open)) (slice_get-map node_to t i)
+        ∙ end_at-same (slice_get t i) xs ys turned (λ n e. all_get (NamesOnBoard (empty_board w h)) t i n e on_board) (λ n. Open)
+        (λ n. Open) (λ n on. refl)
+    game-same i xs ys (q ∷ qs) turned all =
+        let on_q : within w h q ≡ true = and_left (within w h q) _ all in
+        ap (λ (o : Option Node). end_at rule o (grid w h ys) (λ n. after_reply (outcome rule (after (grid w h ys) n.attack) (to q))
+        (if_node (answer (answers_of n) (to q)) (λ j. game rule (map node_to t) j (after (after (grid w h ys) n.attack) (to q))
+        (map to qs))))) (slice_get-map node_to t i)
+        ∙ end_at-same (slice_get t i) xs ys turned (λ n e. all_get (NamesOnBoard (empty_board w h)) t i n e on_board)
+        (λ n. after_reply (outcome rule (after (grid w h xs) n.attack) q)
+        (if_node (answer (answers_of n) q) (λ j. game rule t j (after (after (grid w h xs) n.attack) q) qs)))
+        (λ n. after_reply (outcome rule (after (grid w h ys) n.attack) (to q))
+        (if_node (answer (answers_of n) (to q)) (λ j. game rule (map node_to t) j (after (after (grid w h ys) n.attack) (to q))
+        (map to qs))))
+        (λ n on.
+        let next = after-turned w h to from turn xs ys turned rule n.attack on in
+        let last = after-turned w h to from turn _ _ next rule q on_q in
+        ap (λ (o : Outcome). after_reply o (if_node (answer (answers_to (answers_of n)) (to q))
+        (λ j. game rule (map node_to t) j (after (after (grid w h ys) (to n.attack)) (to q)) (map to qs))))
+        (outcome-same w h to from turn _ _ next rule q on_q)
+        ∙ ap (λ (e : End). after_reply (outcome rule (after (grid w h xs) n.attack) q) e)
+        (ap (λ (o : Option ℕ). if_node o (λ j. game rule (map node_to t) j (after (after (grid w h ys) (to n.attack)) (to q))
+        (map to qs))) (answer-same (answers_of n) q on_q)
+        ∙ node_end (answer (answers_of n) q) _ _ (λ j. game-same j _ _ qs last (and_right (within w h q) _ all))))
 
   -- ---- depths
 

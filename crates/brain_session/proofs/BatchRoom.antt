@@ -103,15 +103,12 @@ lawful-start true rule start [] played = absurd played
 lawful-start true rule start (p ∷ before) played = start-lawful rule start before played.0
 
 -- it is no larger than the largest
-narrow : (h : HeldTable) (place : Place) → IsPlace h place → (board_in place).width ≤ MAX_SIDE
-narrow h NoBoard is = omega arith
-narrow h (Fresh width height) is = is.width_fits
-narrow h (InGame g) is = let start = lawful-start g.ended g.rule g.start g.moves is.played in start.board.width_fits
-
-low : (h : HeldTable) (place : Place) → IsPlace h place → (board_in place).height ≤ MAX_SIDE
-low h NoBoard is = omega arith
-low h (Fresh width height) is = is.height_fits
-low h (InGame g) is = let start = lawful-start g.ended g.rule g.start g.moves is.played in start.board.height_fits
+fitting : (h : HeldTable) (place : Place) → IsPlace h place
+    → ((board_in place).width ≤ MAX_SIDE) × ((board_in place).height ≤ MAX_SIDE)
+fitting h NoBoard is = (omega arith, omega arith)
+fitting h (Fresh width height) is = (is.width_fits, is.height_fits)
+fitting h (InGame g) is =
+    let start = lawful-start g.ended g.rule g.start g.moves is.played in (start.board.width_fits, start.board.height_fits)
 
 -- the batch of a brain has room for a stone on a point that has none
 pub room-for : (s : State) (q : Point) (at : Option Point) → IsBrain s → IsPointOn (board_in s.place) q at
@@ -122,8 +119,8 @@ room-for s q (Some p) brain point = by_batch s.batch brain.batch where
       → IfSome o (λ b. has_stone_at b.stones p ≡ false → length b.stones < MAX_POINTS)
   by_batch None fit = tt
   by_batch (Some b) fit =
-      few-before (board_in s.place) b p (narrow s.held s.place brain.place) (low s.held s.place brain.place)
-      (told-on (board_in s.place) q (Some p) point) fit
+      let fits = fitting s.held s.place brain.place in
+      few-before (board_in s.place) b p fits.0 fits.1 (told-on (board_in s.place) q (Some p) point) fit
 
 -- so has a batch that is read
 pub reserved : (reading : Bool) (b : Batch) (now : Option Batch) (p : Point) → (if reading then Some b else None) ≡ now → IsSome now

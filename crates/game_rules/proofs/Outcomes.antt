@@ -110,6 +110,10 @@ stays_by true l = refl
 stays_by false true = refl
 stays_by false false = refl
 
+-- a side without fouls makes none
+pub no_foul : (rule : RuleKind) (b : Grid) (s : Side) (q : Point) → has_fouls rule s ≡ false → foul_of rule b s q ≡ None
+no_foul rule b s q calm = ap (λ r. cond r (black_foul rule b q) None) calm
+
 module _ (rule : RuleKind) (b : Grid) (p : Point) where
   -- what wins is a five point
   pub outcome-five : outcome rule b p ≡ Wins → five rule b (mover b) p ≡ true
@@ -135,18 +139,17 @@ module _ (rule : RuleKind) (b : Grid) (p : Point) where
   unfolding outcome
   draws-last h = draws_parts (is_empty b p) (five rule b (mover b) p) (nat_eq (empties_of b) 1) (foul_of rule b (mover b) p) h
 
-  -- a side without fouls makes none
-  pub no_fouls-none : (s : Side) → has_fouls rule s ≡ false → foul_of rule b s p ≡ None
-  no_fouls-none s h = ap (λ r. cond r (black_foul rule b p) None) h
-
-  -- without fouls a reply on an empty point does not lose at once
-  pub reply-stays : is_empty b p ≡ true → has_fouls rule (mover b) ≡ false → loses_or (outcome rule b p) false ≡ false
+  -- a reply on an empty point that makes no foul does not lose at once
+  pub unfouled-stays : is_empty b p ≡ true → foul_of rule b (mover b) p ≡ None → loses_or (outcome rule b p) false ≡ false
   unfolding outcome
-  reply-stays empty h =
-      ap (λ (o : Option Foul). loses_or (outcome_by (is_empty b p) (five rule b (mover b) p) o (nat_eq (empties_of b) 1)) false)
-      (no_fouls-none (mover b) h)
+  unfouled-stays empty none =
+      ap (λ (o : Option Foul). loses_or (outcome_by (is_empty b p) (five rule b (mover b) p) o (nat_eq (empties_of b) 1)) false) none
       ∙ ap (λ e. loses_or (outcome_by e (five rule b (mover b) p) None (nat_eq (empties_of b) 1)) false) empty
       ∙ stays_by (five rule b (mover b) p) (nat_eq (empties_of b) 1)
+
+  -- so where its side has no fouls
+  pub reply-stays : is_empty b p ≡ true → has_fouls rule (mover b) ≡ false → loses_or (outcome rule b p) false ≡ false
+  reply-stays empty calm = unfouled-stays empty (no_foul rule b (mover b) p calm)
 
 -- ---- a move that makes no five, where its side has no fouls
 
@@ -271,9 +274,6 @@ fouls-test o (p ∷ ps) = by_outcome (o p) (fouls-test o ps) where
   by_outcome (Fouls f) h = h
   by_outcome Draws h = sym (not_both (list_any (λ q. goes_on (o q)) ps))
   by_outcome GoesOn h = refl
-
-pub no_foul : (rule : RuleKind) (b : Grid) (s : Side) (q : Point) → has_fouls rule s ≡ false → foul_of rule b s q ≡ None
-no_foul rule b s q calm = ap (λ r. cond r (black_foul rule b q) None) calm
 
 pub never-goes_on : (o : Outcome) → false ≡ goes_on_with o false
 never-goes_on Refused = refl

@@ -45,9 +45,6 @@ module _ (rule : RuleKind) (d : Grid) (lawful : IsPosition rule d) (s : Point) (
   e_lawful : IsPosition rule (after d s)
   e_lawful = IsPosition-after rule d s lawful pressed.goes_on
 
-  attacker : other (mover (after d s)) ≡ mover d
-  attacker = mover-other rule d s lawful pressed.goes_on
-
   on-end : (w : Point) → five rule (after d s) (other (mover (after d s))) w ≡ true → is_on (after d s) w ≡ true
   on-end w h = is_empty-on (after d s) w (five-empty rule (after d s) (other (mover (after d s))) w h)
 
@@ -56,7 +53,7 @@ module _ (rule : RuleKind) (d : Grid) (lawful : IsPosition rule d) (s : Point) (
   four =
       ap (λ o. goes_on_with o (has_five rule (after d s) (mover d))) pressed.goes_on
       ∙ points-found (after d s) (five rule (after d s) (mover d)) ends.first (on-end ends.first pressed.open_ends.first)
-      (ap (λ t. five rule (after d s) t ends.first) (sym attacker) ∙ pressed.open_ends.first)
+      (ap (λ t. five rule (after d s) t ends.first) (sym (mover-other rule d s lawful pressed.goes_on)) ∙ pressed.open_ends.first)
 
   found : (w : Point) → five rule (after d s) (other (mover (after d s))) w ≡ true
       → list_any (is_same_point w) (filter (five rule (after d s) (other (mover (after d s)))) (points_of (after d s))) ≡ true

@@ -1,6 +1,6 @@
 -- One move of a line.
 use Rattle.std.proofs.Common.{◌≡◌, ℕ, zero, suc, ◌+◌, ◌-◌, ◌≤◌, Bool, true, false, cond, refl, sym, ap, subst, ◌∙◌, arith, List, min}
-use Rattle.std.proofs.Common.{Option, Some, None, IfSome, Result, Ok, Err, OnOk}
+use Rattle.std.proofs.Common.{Option, Some, None, Result, Ok, Err, OnOk}
 use Rattle.game_rules.proofs.Common.{Grid, points_of, five, mover, LosesOr, has_five, wins_by_fours}
 use Rattle.game_rules.specs.declared.RuleKind.{RuleKind}
 use Rattle.game_rules.specs.declared.Outcome.{Outcome}
@@ -89,10 +89,6 @@ module _ (rule : RuleKind) (ts : List Threat) (b : Grid) where
     by_test : (r : Bool) → has_five rule b (mover b) ≡ r → cond r 1 0 ≤ line_tree rule ts n b
     by_test true e = let tree = quick-tree n l (five-quick n l e) in omega (arith, tree)
     by_test false e = omega arith
-
--- what holds of a value, if there is one
-pub of-some : {X : Type 0} (P : X → Type 0) (o : Option X) (x : X) → o ≡ Some x → IfSome o P → P x
-of-some P o x e h = subst (λ o. IfSome o P) e h
 
 -- what holds whatever is answered
 pub on-ok : {A E P : Type 0} (r : Result A E) → P → OnOk r P

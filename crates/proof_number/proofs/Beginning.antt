@@ -2,7 +2,7 @@
 use Rattle.std.proofs.Common.{◌≡◌, ◌∙◌, ℕ, ◌+◌, ◌-◌, ◌<◌, ◌≤◌, Bool, true, false, cond, ◌&&◌, not, refl, sym, ap, subst, arith, List, []}
 use Rattle.std.proofs.Common.{length, nat_eq}
 use Rattle.std.proofs.lemmas.Bool.{eq-eqb, ne_eqb}
-use Rattle.std.proofs.lemmas.List.{get_or-map, get_or-set_same, length-map, length-set}
+use Rattle.std.proofs.lemmas.List.{get_or-set_same, length-map, length-set}
 use Rattle.game_rules.proofs.Common.{Grid, IsPosition, mover, WinsByThreats, has_five}
 use Rattle.game_rules.specs.declared.RuleKind.{RuleKind}
 use Rattle.position_table.proofs.Remembering.{true-none}
@@ -20,7 +20,7 @@ use Rattle.proof_number.specs.declared.search.Search.{Search}
 use Rattle.proof_number.proofs.Common.{no_note, note_at, win_of, CanGrow, GameTree, IsGameTree, TellsTruly, WinsAt, board_at, left_at}
 use Rattle.proof_number.proofs.Common.{IsTrueOf, AreWritten, IsCounted, IsNew, IsNotedWin, IsSettledAt, Searches, attacks_behind, behind_at}
 use Rattle.proof_number.proofs.Common.{behind_leaves, defences_behind, game_of, is_attack, noted_won, sum_below, unwritten}
-use Rattle.proof_number.proofs.GameTruths.{board-root}
+use Rattle.proof_number.proofs.GameTruths.{board-root, left-root}
 use Rattle.strategy_compiler.proofs.Growing.{grows-length, win-some}
 use Rattle.proof_number.proofs.Sums.{sum-suc, sum-zero}
 use Rattle.threat_game.proofs.TreeLaws.{tree-positive, one_where}
@@ -60,9 +60,6 @@ module _ (rule : RuleKind) (s : Search) (t : Tree) (c : List Node) (begun : IsBe
   only : (i : ℕ) → i < length t.links → 0 ≡ i
   only i low = let one = begun.one_node in omega (arith, low, one)
 
-  own-left : left_at Game.left 0 ≡ s.depth
-  own-left = let one = begun.one_note in get_or-map (λ (n : Note). n.left) s.notes.items 0 no_note 0 (omega (arith, one)) ∙ begun.depth_is
-
   own-board : board_at Game 0 ≡ s.root
   own-board = board-root Game.tree.links Game.moves Game.start begun.tree.linked
 
@@ -73,7 +70,9 @@ module _ (rule : RuleKind) (s : Search) (t : Tree) (c : List Node) (begun : IsBe
   at-root : (P : Kind → ℕ → Grid → Type 0) → P Attack s.depth s.root → P (link_at t.links 0).kind (left_at Game.left 0) (board_at Game 0)
   at-root P p =
       subst (λ (k : Kind). P k (left_at Game.left 0) (board_at Game 0)) (sym attacks)
-      (subst (λ (n : ℕ). P Attack n (board_at Game 0)) (sym own-left) (subst (λ (b : Grid). P Attack s.depth b) (sym own-board) p))
+      (subst (λ (n : ℕ). P Attack n (board_at Game 0))
+      (sym (left-root s.notes.items s.depth (let one = begun.one_note in omega (arith, one)) begun.depth_is))
+      (subst (λ (b : Grid). P Attack s.depth b) (sym own-board) p))
 
   unsettled-root : (i : ℕ) → i < length t.links → is_settled (numbers_at t.numbers i) ≡ false → is_settled (numbers_at t.numbers 0) ≡ false
   unsettled-root i low = subst (λ (k : ℕ). is_settled (numbers_at t.numbers k) ≡ false) (sym (only i low))

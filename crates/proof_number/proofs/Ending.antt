@@ -1,7 +1,7 @@
 -- The end of the search: what the note and the numbers of the root tell.
 use Rattle.std.proofs.Common.{◌≡◌, ◌∙◌, inl, inr, ℕ, zero, suc, ◌+◌, ◌*◌, ◌<◌, ◌≤◌, Bool, true, false, cond, sym, ap, subst, arith, List}
 use Rattle.std.proofs.Common.{length, get_or, min, Some, None}
-use Rattle.std.proofs.lemmas.List.{get_or-map, get_or_default, length-map}
+use Rattle.std.proofs.lemmas.List.{get_or_default, length-map}
 use Rattle.game_rules.proofs.Common.{Grid, WinsByThreats, WinsWithin}
 use Rattle.game_rules.specs.declared.RuleKind.{RuleKind}
 use Rattle.game_rules.proofs.Games.{WinsByFours-WinsByThreats}
@@ -17,7 +17,7 @@ use Rattle.proof_number.specs.declared.search.Search.{Search}
 use Rattle.proof_number.proofs.Common.{HasNoThreatWin, no_note, note_at, noted_win, win_of, GameTree, TellsTruly, WinsAt, board_at, left_at}
 use Rattle.proof_number.proofs.Common.{IsNotedWin, IsSearching, Searches, closed_nodes, game_of, is_open_leaf, sum_below}
 use Rattle.threat_game.proofs.Common.{IsThreatWin, threat_tree}
-use Rattle.proof_number.proofs.GameTruths.{board-root, all-tell}
+use Rattle.proof_number.proofs.GameTruths.{board-root, left-root, all-tell}
 use Rattle.proof_number.proofs.Recording.{noted-none, noted-some}
 use Rattle.proof_number.proofs.Sums.{sum-suc, sum-zero}
 
@@ -52,7 +52,7 @@ module _ (rule : RuleKind) (s : Search) (t : Tree) (c : List Node) (searches : S
       h.game.moves in omega (arith, a, b, e)
 
   root-left : left_at Game.left 0 ≡ s.depth
-  root-left = get_or-map (λ (n : Note). n.left) s.notes.items 0 no_note 0 root-noted ∙ h.depth
+  root-left = left-root s.notes.items s.depth root-noted h.depth
 
   -- no more nodes were added than positions are counted
   pub added-few : length c ≤ s.before + min s.budget (threat_tree rule s.depth s.root)

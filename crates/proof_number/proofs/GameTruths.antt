@@ -30,7 +30,12 @@ use Rattle.threat_game.proofs.Common.{move_at, nowhere, LosesToThreats}
 use Rattle.threat_game.proofs.TreeLaws.{by_move}
 use Rattle.proof_number.specs.declared.notes.Note.{Note}
 use Rattle.proof_number.proofs.Common.{GameTree, IsGameTree, board_at, board_of, board_within, left_at, left_before, HasTried, AreTried}
-use Rattle.proof_number.proofs.Common.{TellsTruly, WinsAt, among, moves_of}
+use Rattle.proof_number.proofs.Common.{TellsTruly, WinsAt, among, moves_of, no_note, note_at}
+
+-- the moves that are left at the root are those of the first note
+pub left-root : (notes : List Note) (depth : ℕ) → 0 < length notes → (note_at notes 0).left ≡ depth
+    → left_at (map (λ (n : Note). n.left) notes) 0 ≡ depth
+left-root notes depth some is = get_or-map (λ (n : Note). n.left) notes 0 no_note 0 some ∙ is
 
 positive : (i : ℕ) → nat_eq i 0 ≡ false → 0 < i
 positive zero e = cc

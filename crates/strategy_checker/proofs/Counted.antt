@@ -6,7 +6,6 @@ use Rattle.std.specs.Prelude.{Some, None}
 use Rattle.std.specs.List.{All, count_by, sum_by, list_any, list_all, find, flat_map, range_with_len}
 use Rattle.std.specs.Option.{option_map, option_or}
 use Rattle.std.proofs.lemmas.Bool.{lt-ltb}
-use Rattle.std.proofs.lemmas.Bool.Decides.{nat_tests}
 use Rattle.std.proofs.lemmas.List.{drop_all}
 use Rattle.std.proofs.lemmas.List.Sums.{sum_by-cons, sum_by-append}
 use Rattle.game_rules.specs.Grid.{Grid, IsBoard, is_on, is_empty, is_empty_cell, cell_at, row_from, points_of, empties_of}
@@ -26,6 +25,7 @@ use Rattle.game_rules.proofs.Wins.{no_five}
 use Rattle.game_rules.proofs.Points.{points-found, is_same_point-itself, is_same_point-same, precedes-differs_back, off_refused}
 use Rattle.game_rules.proofs.Points.{taken_refused}
 use Rattle.game_rules.proofs.Places.{place, Rising, rising-first, rows-rising, earlier-differs}
+use Rattle.game_rules.proofs.Tests.{eq_from, or_none, or_right}
 use Rattle.strategy_graph.specs.declared.Reply.{Reply}
 use Rattle.strategy_graph.specs.declared.Rest.{Rest}
 use Rattle.strategy_graph.specs.declared.Node.{Node}
@@ -313,17 +313,6 @@ count-going rule b rs w free calm more =
 nat_eq-itself : (n : ℕ) → nat_eq n n ≡ true
 nat_eq-itself n = eq-eqb n n refl
 
-nat_eq-same : (m n : ℕ) → nat_eq m n ≡ true → m ≡ n
-nat_eq-same m n h = grind (arith, nat_tests)
-
-or_left-none : (r s : Bool) → (r || s) ≡ false → r ≡ false
-or_left-none true s h = h
-or_left-none false s h = refl
-
-or_right-none : (r s : Bool) → (r || s) ≡ false → s ≡ false
-or_right-none true s h = cc
-or_right-none false s h = h
-
 unlisted-none : (rs : List Reply) (q : Point) → is_listed rs q ≡ false → listed_node rs q ≡ None
 unlisted-none [] q h = refl
 unlisted-none (r ∷ rs) q h = by_test (is_same_point r.at q) refl h (unlisted-none rs q) where
@@ -391,10 +380,10 @@ module _ (rule : RuleKind) (t : List Node) (b : Grid) (rs : List Reply) (rest : 
   won : (q : Point) → is_apart rs s.attack q ≡ false → outcome rule b q ≡ GoesOn
       → Accepted rule t s.node (after b q) × (arrivals rule t s.node (after b q) ≡ 1)
   won q h on = sure-accepted rule t b q lawful on (Some s) s.node is
-      (rw (nat_eq-itself s.node, or_right-none (is_listed rs q) (is_same_point s.attack q) h) refl)
+      (rw (nat_eq-itself s.node, or_right (is_listed rs q) (is_same_point s.attack q) h) refl)
 
   answered : (q : Point) → is_apart rs s.attack q ≡ false → answer a q ≡ Some s.node
-  answered q h = ap (λ o. option_or o (rest_node rest)) (unlisted-none rs q (or_left-none (is_listed rs q) (is_same_point s.attack q) h))
+  answered q h = ap (λ o. option_or o (rest_node rest)) (unlisted-none rs q (or_none (is_listed rs q) (is_same_point s.attack q) h))
       ∙ to
 
   arrivals-other : (q : Point) → is_apart rs s.attack q ≡ false → (u : Outcome) → outcome rule b q ≡ u
@@ -438,7 +427,7 @@ module _ (rule : RuleKind) (t : List Node) (b : Grid) (rs : List Reply) (rest : 
         sym none ∙ five_is in cc
     by_outcome h (Fouls f) o = met-foul rule t a b q f o
     by_outcome h Draws o = let one = (draws-last rule b q o).1 in let no : 1 < 1 =
-        subst (λ (n : ℕ). 1 < n) (nat_eq-same (empties_of b) 1 one) more in absurd (omega (arith, no))
+        subst (λ (n : ℕ). 1 < n) (eq_from (empties_of b) 1 one) more in absurd (omega (arith, no))
     by_outcome h GoesOn o = met-answer rule t a b q s.node o (answered q h) (won q h o).0
 
     by_tests : (l r : Bool) → is_listed rs q ≡ l → is_same_point s.attack q ≡ r → Meets rule a (Accepted rule t) b q

@@ -7,7 +7,7 @@ use Rattle.std.proofs.Common.{refl, sym, ap}
 use Rattle.std.proofs.Common.{subst, ◌∙◌, arith, nat_le}
 use Rattle.std.specs.Prelude.{Option, Some, None, unwrap_or}
 use Rattle.std.specs.List.{filter, find, list_any, range_with_len}
-use Rattle.std.proofs.lemmas.Bool.{cases_lt, false_from_ne_true, both_ways}
+use Rattle.std.proofs.lemmas.Bool.{cases_lt, false_from_ne_true, both_ways, not-true}
 use Rattle.std.proofs.lemmas.Bool.Decides.{nat_tests}
 use Rattle.std.proofs.lemmas.List.Sums.{length-filter, sum_by-le-sum_by}
 use Rattle.game_rules.specs.Grid.{Grid, IsBoard, is_on, is_empty, put, along, points_of, holds}
@@ -37,6 +37,7 @@ use Rattle.stone_board.proofs.LineBits.{IsNear, board-near}
 use Rattle.stone_board.proofs.LineStones.{along-places, place_low}
 use Rattle.game_rules.proofs.Positions.{IsBoard-put}
 use Rattle.game_rules.proofs.RunEnds.{new_end}
+use Rattle.game_rules.proofs.Tests.{more_pass}
 use Rattle.game_rules.proofs.Ways.{go-then, go-same, go-opposite, go-zero, else_at, leads, leads_back, towards-put, beyond-put}
 use Rattle.game_rules.proofs.Ways.{run_before_end}
 use Rattle.game_rules.proofs.Wins.{wins_on-ways, no_win, row_wins-five}
@@ -48,14 +49,6 @@ use Rattle.threat_moves.proofs.GainLaws.{several, few-double, double-empty, thre
 use Rattle.threat_game.specs.NearDoubles.{AreNearStones, DoublesAreNear, IsInReach, is_double_at, makes_two, reach, some_has}
 use Rattle.threat_game.specs.NearDoubles.{points_of_two, stones_around}
 use Rattle.threat_game.specs.declared.near_stones.NearStones.{NearStones}
-
-not_true : (r : Bool) → not r ≡ true → r ≡ false
-not_true true h = cc
-not_true false h = refl
-
-more_pass : (r t : Bool) → (r ≡ true → t ≡ true) → cond r 1 0 ≤ cond t 1 0
-more_pass true t h = rw (h refl) (omega arith)
-more_pass false t h = omega arith
 
 -- ---- tests of the numbers from 1 to 4
 
@@ -470,7 +463,7 @@ module _ (rule : RuleKind) (b : Grid) (s : Side) (p q : Point) (ok : IsBoard b) 
       let w : Point = unwrap_or (find new_there (points_of b)) p in
       let new = find-some new_there (points_of b) p (two_before quiet many) in
       let made = some_axis (λ d. wins_on rule full s d w) (and_left (five rule full s w) _ new) in
-      in_reach w made.0 made.1 (not_true (five rule with_q s w) (and_right (five rule full s w) _ new))
+      in_reach w made.0 made.1 (not-true (five rule with_q s w) (and_right (five rule full s w) _ new))
 
 -- ---- as the code tells it
 

@@ -20,7 +20,7 @@ use Rattle.game_rules.proofs.Axes.{some_axis, fewer_axes}
 use Rattle.game_rules.proofs.Boards.{other-other, and_right, is_empty-on, is_empty-put, holds-put_same}
 use Rattle.game_rules.proofs.PointLists.{Apart-back, other_first}
 use Rattle.game_rules.proofs.Positions.{IsBoard-put, GoesOn-empty, mover-then}
-use Rattle.game_rules.proofs.Outcomes.{goes_on-is}
+use Rattle.game_rules.proofs.Outcomes.{goes_on-is, unfouled-stays}
 use Rattle.game_rules.proofs.Points.{all_at, any_witness, is_same_point-apart, is_same_point-same}
 use Rattle.game_rules.proofs.Wins.{wins_on-ways, row_wins-five}
 use Rattle.row_shapes.specs.Reach.{stones_in_reach}
@@ -136,11 +136,6 @@ module _ (rule : RuleKind) (b : Grid) (q : Point) (ok : IsBoard b) (quiet : IsQu
 
   -- ---- a stone of White on another point
 
-  stays_by : (w l : Bool) → loses_or (outcome_by true w None l) false ≡ false
-  stays_by true l = refl
-  stays_by false true = refl
-  stays_by false false = refl
-
   module _ (p : Point) (empty : is_empty b p ≡ true) (apart : is_same_point p q ≡ false) where
     abbrev white : Grid
     white = put b White p
@@ -152,14 +147,7 @@ module _ (rule : RuleKind) (b : Grid) (q : Point) (ok : IsBoard b) (quiet : IsQu
     still_none = rows-free rule b q ok quiet.empty few_rows quiet-no_foul p empty (other_first p q apart)
 
     still_stays : mover white ≡ Black → loses_or (outcome rule white q) false ≡ false
-    unfolding outcome
-    still_stays turn =
-        ap (λ (s : Side). loses_or (outcome_by (is_empty white q) (five rule white s q) (foul_of rule white s q)
-        (nat_eq (empties_of white) 1)) false) turn
-        ∙ ap (λ e. loses_or (outcome_by e (five rule white Black q) (foul_of rule white Black q) (nat_eq (empties_of white) 1)) false)
-        still_empty
-        ∙ ap (λ (o : Option Foul). loses_or (outcome_by true (five rule white Black q) o (nat_eq (empties_of white) 1)) false) still_none
-        ∙ stays_by (five rule white Black q) (nat_eq (empties_of white) 1)
+    still_stays turn = unfouled-stays rule white q still_empty (ap (λ (s : Side). foul_of rule white s q) turn ∙ still_none)
 
     -- then not each reply fouls
     pub quiet-reply : mover white ≡ Black → all_foul rule white ≡ false

@@ -17,7 +17,7 @@ use Rattle.strategy_compiler.proofs.Standing.{compiled-lower}
 use Rattle.strategy_graph.proofs.Rising.{replies-rising}
 use Rattle.line_proof.proofs.Gathering.{answers-grown, answers-more, answers-few, few-step, rest-step, lose-step}
 use Rattle.line_proof.proofs.Doubling.{hint-grown}
-use Rattle.line_proof.proofs.Steps.{no_moves-wins, quick-wins, quick-most, double-quick, double-most, five-quick, five-most, of-some, on-ok}
+use Rattle.line_proof.proofs.Steps.{no_moves-wins, quick-wins, quick-most, double-quick, double-most, five-quick, five-most, on-ok}
 use Rattle.line_proof.proofs.Steps.{five-refutes, move-wins, move-tree, no-value}
 use Rattle.line_proof.proofs.proof.+line.Goals as goal
 
@@ -203,8 +203,7 @@ prove_double-returns-in-Some-clause-wins g t c =
     let b : Grid = g.V.Seen.position c.args.view.now in
     let more : 2 ≤ c.args.moves = let l = c.if-moves-lt2.false in omega (arith, l) in
     let two : wins_by_fours g.R.Rule.KIND 2 b ≡ true =
-    of-some (λ (w : WrittenWin). wins_by_fours g.R.Rule.KIND 2 b ≡ true) c.in_ok-win.field-0 c.in-Some.win c.in-Some.is
-    c.in_ok-win.ensures.wins in
+    subst (λ (o : Option WrittenWin). IfSome o (λ w. wins_by_fours g.R.Rule.KIND 2 b ≡ true)) c.in-Some.is c.in_ok-win.ensures.wins in
     sym (quick-wins g.R.Rule.KIND c.args.threats.now b c.args.moves (omega (arith, more))
     (double-quick g.R.Rule.KIND c.args.threats.now b c.args.moves more two))
 
@@ -222,8 +221,7 @@ prove_reply-returns-in-Some-clause-wins g t c =
     let b : Grid = g.V.Seen.position c.args.view.now in
     let some : 1 ≤ c.args.moves = let l = c.if-moves-eq0.false in omega (arith, l) in
     let five : has_five g.R.Rule.KIND b (mover b) ≡ true =
-    of-some (λ (w : WrittenWin). has_five g.R.Rule.KIND b (mover b) ≡ true) c.in_ok-win.field-0 c.in-Some.win c.in-Some.is
-    c.in_ok-win.ensures.wins in
+    subst (λ (o : Option WrittenWin). IfSome o (λ w. has_five g.R.Rule.KIND b (mover b) ≡ true)) c.in-Some.is c.in_ok-win.ensures.wins in
     sym (quick-wins g.R.Rule.KIND c.args.threats.now b c.args.moves some
     (five-quick g.R.Rule.KIND c.args.threats.now b c.args.moves some five))
 
