@@ -6,7 +6,6 @@ use Rattle.game_rules.specs.declared.Side.TheVariants.{Black, White}
 use Rattle.game_rules.specs.declared.Foul.{Foul}
 use Rattle.game_rules.specs.declared.Foul.TheVariants.{Overline, DoubleFour, DoubleThree}
 use Rattle.text_lines.specs.Lines.{ended}
-use Rattle.text_lines.specs.Spellings.{space}
 use Rattle.game_referee.specs.declared.GameVerdict.{GameVerdict}
 use Rattle.game_referee.specs.declared.GameVerdict.TheVariants.{Open, Illegal, AfterEnd, Won, Fouled, Drawn}
 
@@ -26,8 +25,8 @@ abbrev pub verdict_text : GameVerdict → List ℕ
 verdict_text (Open n) = codes "open " ++ decimal n
 verdict_text (Illegal n) = codes "illegal " ++ decimal n
 verdict_text (AfterEnd n) = codes "after end " ++ decimal n
-verdict_text (Won side n) = codes "won " ++ side_word side ++ space ∷ decimal n
-verdict_text (Fouled f n) = codes "foul " ++ foul_word f ++ space ∷ decimal n
+verdict_text (Won side n) = codes "won " ++ side_word side ++ (codes " " ++ decimal n)
+verdict_text (Fouled f n) = codes "foul " ++ foul_word f ++ (codes " " ++ decimal n)
 verdict_text (Drawn n) = codes "drawn " ++ decimal n
 
 -- the line of a verdict

@@ -4,7 +4,6 @@
 ghost use Rattle.std.specs.Prelude.{◌≡◌, ◌∷◌, ◌++◌, codes, IfOk, string_bytes};
 ghost use Rattle.std.specs.Fmt.{decimal};
 ghost use Rattle.text_lines.specs.Lines.{ended};
-ghost use Rattle.text_lines.specs.Spellings.{space};
 ghost use Rattle.game_referee.specs.Lines.{foul_word as foul_word_lem, side_word as side_word_lem, verdict_line};
 
 use crate::GameVerdict;
@@ -36,7 +35,7 @@ fn line(alloc: Global, verdict: GameVerdict) -> Result<String, AllocError>
 /// The line of a win.
 fn won(alloc: Global, side: &str, number: u32) -> Result<String, AllocError>
     ensures line { IfOk result (λ text. string_bytes text
-        ≡ ended (codes "won " ++ side.now ++ space ∷ decimal number)) }
+        ≡ ended (codes "won " ++ side.now ++ (codes " " ++ decimal number))) }
 {
     format!(in alloc; "won {side} {number}\n")
 }
@@ -44,7 +43,7 @@ fn won(alloc: Global, side: &str, number: u32) -> Result<String, AllocError>
 /// The line of a foul.
 fn fouled(alloc: Global, foul: &str, number: u32) -> Result<String, AllocError>
     ensures line { IfOk result (λ text. string_bytes text
-        ≡ ended (codes "foul " ++ foul.now ++ space ∷ decimal number)) }
+        ≡ ended (codes "foul " ++ foul.now ++ (codes " " ++ decimal number))) }
 {
     format!(in alloc; "foul {foul} {number}\n")
 }

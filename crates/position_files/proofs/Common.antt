@@ -1,15 +1,39 @@
--- The words of texts of positions and tables, all in one place for the files of laws.
+-- The words of texts of positions and tables, all in one place for the files of laws, and those that the laws alone need.
+use Rattle.std.specs.Prelude.{ℕ, List, ◌++◌, codes}
+use Rattle.text_lines.specs.Spellings.{points_text}
+use Rattle.game_rules.specs.Grid.{Grid}
+use Rattle.game_rules.specs.declared.RuleKind.{RuleKind}
+use Rattle.game_rules.specs.declared.Side.TheVariants.{Black, White}
 pub use Rattle.position_files.specs.Answers.{AnswersFit, NodeFits, OpenRestFits, ReplyFits, RestFits, StartFits, answers_with}
 pub use Rattle.position_files.specs.Boards.{AreSides, IsSide, SameBut}
 pub use Rattle.position_files.specs.Bodies.{BodyFits, IsBodyLines, IsFinishFault, IsFinished, body_lines}
 pub use Rattle.position_files.specs.Faults.{IsMiscounted, IsPositionFault, IsTableFault, after_lines, at_line, in_file}
-pub use Rattle.position_files.specs.Positions.{IsPositionText, IsTextOfPosition, black_line, rule_line, rule_word, size_line, size_text}
-pub use Rattle.position_files.specs.Positions.{white_line}
+pub use Rattle.position_files.specs.Positions.{IsPositionText, IsTextOfPosition, rule_word, size_text}
 unfoldable pub use Rattle.position_files.specs.Positions.{board_lines, position_text, stones}
 pub use Rattle.position_files.specs.ReadBack.{HeadsReadBack, NamesFirstBad, NodesNameFirstBad, NodesReadBack, PositionsReadBack}
 pub use Rattle.position_files.specs.ReadBack.{StartsNameFirstBad, StartsReadBack, TablesReadBack}
 pub use Rattle.position_files.specs.Sections.{AreNodeLines, AreNodes, IsBoardLines, IsHeadOf, IsNodesOf, IsSectionFault, IsStartLines}
 pub use Rattle.position_files.specs.Sections.{IsStartOf}
-pub use Rattle.position_files.specs.Tables.{IsTableText, IsTextOfTable, RootFits, answers_text, arrow, node_line, replies_text, reply_text}
+pub use Rattle.position_files.specs.Tables.{IsTableText, IsTextOfTable, RootFits, answers_text, node_line, replies_text, reply_text}
 pub use Rattle.position_files.specs.Tables.{rest_text, start_line}
 unfoldable pub use Rattle.position_files.specs.Tables.{nodes_lines, table_text}
+
+-- the line of the rule
+abbrev pub rule_line : RuleKind → List ℕ
+rule_line kind = codes "rule " ++ rule_word kind
+
+-- the line of the size
+abbrev pub size_line : ℕ → ℕ → List ℕ
+size_line width height = codes "size " ++ size_text width height
+
+-- the line of Black's stones
+abbrev pub black_line : Grid → List ℕ
+black_line b = codes "black" ++ points_text (stones b Black)
+
+-- the line of White's stones
+abbrev pub white_line : Grid → List ℕ
+white_line b = codes "white" ++ points_text (stones b White)
+
+-- the byte between a reply and the node that answers it
+abbrev pub arrow : ℕ
+arrow = 62

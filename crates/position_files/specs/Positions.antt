@@ -17,33 +17,21 @@ rule_word Freestyle = codes "freestyle"
 rule_word Exact = codes "exact"
 rule_word Renju = codes "renju"
 
--- the line of the rule
-abbrev pub rule_line : RuleKind → List ℕ
-rule_line kind = codes "rule " ++ rule_word kind
-
 -- the width and the height, as one number where they are the same
 abbrev pub size_text : ℕ → ℕ → List ℕ
 size_text width height = if width == height then decimal width else pair_text width height
-
--- the line of the size
-abbrev pub size_line : ℕ → ℕ → List ℕ
-size_line width height = codes "size " ++ size_text width height
 
 -- the points at which stones of the side stand, in reading order
 unfoldable pub stones : Grid → Side → List Point
 stones b s = filter (holds b s) (points_of b)
 
--- the line of Black's stones
-abbrev pub black_line : Grid → List ℕ
-black_line b = codes "black" ++ points_text (stones b Black)
-
--- the line of White's stones
-abbrev pub white_line : Grid → List ℕ
-white_line b = codes "white" ++ points_text (stones b White)
-
--- the lines of a rule and a board
+-- the lines of a rule and a board: its size, and each side's stones
 unfoldable pub board_lines : RuleKind → Grid → List (List ℕ)
-board_lines kind b = rule_line kind ∷ size_line b.width b.height ∷ black_line b ∷ white_line b ∷ []
+board_lines kind b =
+    (codes "rule " ++ rule_word kind)
+    ∷ (codes "size " ++ size_text b.width b.height)
+    ∷ (codes "black" ++ points_text (stones b Black))
+    ∷ (codes "white" ++ points_text (stones b White)) ∷ []
 
 -- the text of a position
 unfoldable pub position_text : RuleKind → Grid → List ℕ

@@ -17,10 +17,6 @@ use Rattle.text_lines.specs.Lines.{text_of}
 use Rattle.text_lines.specs.Spellings.{space, point_text}
 use Rattle.position_files.specs.Positions.{board_lines}
 
--- the byte between a reply and the node that answers it
-abbrev pub arrow : ℕ
-arrow = 62
-
 -- what answers the replies that are not listed
 abbrev pub rest_text : Rest → List ℕ
 rest_text Wins = codes "wins"
@@ -29,11 +25,11 @@ rest_text Nothing = codes "only"
 
 -- a reply that is listed, and the node that answers it
 abbrev pub reply_text : Reply → List ℕ
-reply_text r = point_text r.at ++ arrow ∷ decimal r.next
+reply_text r = point_text r.at ++ (codes ">" ++ decimal r.next)
 
 -- replies, each after a space
 abbrev pub replies_text : List Reply → List ℕ
-replies_text rs = flat_map (λ r. space ∷ reply_text r) rs
+replies_text rs = flat_map (λ r. codes " " ++ reply_text r) rs
 
 -- the rest, and the replies that are listed
 abbrev pub answers_text : Answers → List ℕ
@@ -41,7 +37,7 @@ answers_text a = rest_text a.rest ++ replies_text a.replies
 
 -- the line of a node: its attack, and its answers
 abbrev pub node_line : Node → List ℕ
-node_line n = point_text n.attack ++ space ∷ answers_text (answers_of n)
+node_line n = point_text n.attack ++ (codes " " ++ answers_text (answers_of n))
 
 -- the line of a start
 abbrev pub start_line : Answers → List ℕ
@@ -54,9 +50,8 @@ nodes_lines nodes moves = (codes "moves " ++ decimal moves) ∷ (codes "nodes " 
 -- The text of a table. One whose root is a node is in version 1, and its root is the last node; one whose root is a start is in
 -- version 2, and ends with the start.
 unfoldable pub table_text : RuleKind → Grid → List Node → Root → ℕ → List ℕ
-table_text kind b nodes (Attack r) moves = text_of (codes "renju-table 1" ∷ board_lines kind b ++ nodes_lines nodes moves)
-table_text kind b nodes (Defend a) moves =
-    text_of (codes "renju-table 2" ∷ board_lines kind b ++ nodes_lines nodes moves ++ start_line a ∷ [])
+table_text kind b t (Attack r) moves = text_of (codes "renju-table 1" ∷ board_lines kind b ++ nodes_lines t moves)
+table_text kind b t (Defend a) moves = text_of (codes "renju-table 2" ∷ board_lines kind b ++ nodes_lines t moves ++ start_line a ∷ [])
 
 -- The root and the number of moves have a text with these nodes: a node is the last one, and has 1 to MAX_MOVES moves; a start
 -- names nodes of the table and points of the board, and has 0 to MAX_MOVES moves.

@@ -3,11 +3,11 @@
 //! Each reader answers what the line tells, and those of first lines the bytes after the line.
 #![tactic(auto)]
 
-ghost use Rattle.std.specs.Prelude.{◌≡◌, ◌++◌, true, option_copied};
+ghost use Rattle.std.specs.Prelude.{◌≡◌, ◌++◌, true, codes, option_copied};
 ghost use Rattle.std.specs.List.{AllByRecursion};
 ghost use Rattle.std.specs.Option.{option_map};
 ghost use Rattle.text_lines.specs.Spellings.{space, points_text};
-ghost use Rattle.position_files.specs.Positions.{rule_line as rule_line_lem, size_line as size_line_lem};
+ghost use Rattle.position_files.specs.Positions.{rule_word, size_text};
 ghost use Rattle.text_lines.specs.Reading.{Gives, ReadsLine, IsWithin, is_free, tail_text};
 ghost use Rattle.position_files.specs.Boards.{AreSides, IsSide};
 
@@ -60,7 +60,7 @@ pub(crate) fn stones(
 
 /// The rule of the first line, and the bytes after it.
 pub(crate) fn rule_line(bytes: &[u8]) -> Option<(RuleKind, &[u8])>
-    ensures rule { ReadsLine (λ _. Unit {0}) rule_line_lem
+    ensures rule { ReadsLine (λ _. Unit {0}) (λ kind. codes "rule " ++ rule_word kind)
         (option_map (λ found. (found.0, found.1.now)) result) bytes.now }
 {
     let (word, rest) = prefixed(bytes, b"rule ")?;
@@ -69,7 +69,7 @@ pub(crate) fn rule_line(bytes: &[u8]) -> Option<(RuleKind, &[u8])>
 
 /// The width and the height of the first line, and the bytes after it.
 pub(crate) fn size_line(bytes: &[u8]) -> Option<((u8, u8), &[u8])>
-    ensures size { ReadsLine AreSides (λ sides. size_line_lem sides.0 sides.1)
+    ensures size { ReadsLine AreSides (λ sides. codes "size " ++ size_text sides.0 sides.1)
         (option_map (λ found. (found.0, found.1.now)) result) bytes.now }
 {
     let (text, rest) = prefixed(bytes, b"size ")?;

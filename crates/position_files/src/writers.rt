@@ -4,13 +4,12 @@
 //! table.
 #![tactic(auto)]
 
-ghost use Rattle.std.specs.Prelude.{◌≡◌, [], ◌∷◌, ◌++◌, map, IfOk, string_bytes};
+ghost use Rattle.std.specs.Prelude.{◌≡◌, [], ◌∷◌, ◌++◌, map, IfOk, string_bytes, codes};
 ghost use Rattle.std.specs.List.{AllByRecursion};
 ghost use Rattle.std.specs.Fmt.{decimal};
 ghost use Rattle.game_rules.specs.Grid.{IsBoard};
 ghost use Rattle.strategy_graph.specs.Tables.{IsTable, TableOnBoard};
 ghost use Rattle.text_lines.specs.Lines.{ended, text_of};
-ghost use Rattle.text_lines.specs.Spellings.{space};
 ghost use Rattle.position_files.specs.Positions.{IsTextOfPosition, board_lines};
 ghost use Rattle.position_files.specs.Tables.{IsTextOfTable, RootFits, answers_text, node_line, nodes_lines, replies_text, reply_text, rest_text, start_line, table_text as table_text_lem};
 
@@ -34,7 +33,7 @@ pub fn write_position(alloc: Global, kind: RuleKind, board: &Board) -> Result<Ve
 /// Adds a reply that is listed, and the node that answers it, to a text, after a space.
 fn push_reply(text: &mut String, reply: Reply) -> Result<(), AllocError>
     ensures reply { IfOk result (λ _. string_bytes text.new ≡ string_bytes text.old
-        ++ space ∷ reply_text reply) }
+        ++ (codes " " ++ reply_text reply)) }
 {
     push_spaced_point(text, reply.at)?;
     text.push_str(">")?;

@@ -4,11 +4,11 @@
 //! the points of the board.
 #![tactic(auto)]
 
-ghost use Rattle.std.specs.Prelude.{◌≡◌, ◌∷◌, ◌++◌, IfOk, string_bytes};
+ghost use Rattle.std.specs.Prelude.{◌≡◌, ◌∷◌, ◌++◌, IfOk, codes, string_bytes};
 ghost use Rattle.game_rules.specs.Grid.{IsBoard};
 ghost use Rattle.text_lines.specs.Lines.{ended, text_of};
 ghost use Rattle.text_lines.specs.Spellings.{points_text};
-ghost use Rattle.position_files.specs.Positions.{board_lines, rule_line, rule_word as rule_word_lem, size_line, stones};
+ghost use Rattle.position_files.specs.Positions.{board_lines, rule_word as rule_word_lem, size_text, stones};
 
 use game_rules::{RuleKind, Side};
 use std::alloc::{AllocError, Global};
@@ -29,7 +29,7 @@ fn rule_word(kind: RuleKind) -> &'static str
 /// Adds the line of a rule to a text.
 fn push_rule(text: &mut String, kind: RuleKind) -> Result<(), AllocError>
     ensures line { IfOk result (λ _. string_bytes text.new ≡ string_bytes text.old
-        ++ ended (rule_line kind)) }
+        ++ ended (codes "rule " ++ rule_word_lem kind)) }
 {
     text.push_str("rule ")?;
     push_line(text, rule_word(kind))?;
@@ -39,7 +39,7 @@ fn push_rule(text: &mut String, kind: RuleKind) -> Result<(), AllocError>
 /// Adds a size to a text: one number where the width and the height are the same.
 fn push_sides(text: &mut String, width: u8, height: u8) -> Result<(), AllocError>
     ensures sides { IfOk result (λ _. string_bytes text.new ≡ string_bytes text.old
-        ++ size_line width height) }
+        ++ (codes "size " ++ size_text width height)) }
 {
     text.push_str("size ")?;
     push_number(text, u32::from(width))?;
@@ -53,7 +53,7 @@ fn push_sides(text: &mut String, width: u8, height: u8) -> Result<(), AllocError
 /// Adds the line of the size of a board to a text.
 fn push_size(text: &mut String, board: &Board) -> Result<(), AllocError>
     ensures line { IfOk result (λ _. string_bytes text.new ≡ string_bytes text.old
-        ++ ended (size_line board.now.width board.now.height)) }
+        ++ ended (codes "size " ++ size_text board.now.width board.now.height)) }
     ensures board { IsBoard board.now }
 {
     push_sides(text, board.width(), board.height())?;

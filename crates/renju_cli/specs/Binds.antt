@@ -5,7 +5,6 @@ use Rattle.std.specs.Fmt.{decimal}
 use Rattle.strategy_graph.specs.declared.TheConstants.{MAX_NODES}
 use Rattle.strategy_compiler.specs.Unfolded.{HoldMore}
 use Rattle.strategy_compiler.specs.Walks.{AreDifferent}
-use Rattle.text_lines.specs.Spellings.{space}
 use Rattle.position_files.specs.declared.TableFile.{TableFile}
 use Rattle.renju_io.specs.Told.{Takes}
 use Rattle.renju_io.specs.Files.{Files, file_under}
@@ -40,7 +39,7 @@ words_after (word ∷ words) = words
 
 -- a text that is told of file n
 abbrev pub of_file : ℕ → List ℕ → List ℕ
-of_file n text = codes "file " ++ decimal n ++ space ∷ text
+of_file n text = codes "file " ++ decimal n ++ (codes " " ++ text)
 
 -- The file under the name is not too long, and is the text of a table that is accepted with at most BRAIN_WORK arrivals. Where the
 -- shelf tells its files, it is one of them.

@@ -6,7 +6,6 @@ use Rattle.game_rules.specs.Play.{IsPosition}
 use Rattle.strategy_graph.specs.declared.Node.{Node}
 use Rattle.strategy_graph.specs.Roots.{AcceptedRoot, RootWins, root_depth}
 use Rattle.text_lines.specs.Lines.{ended}
-use Rattle.text_lines.specs.Spellings.{space}
 use Rattle.position_files.specs.declared.error.FileError.TheVariants.{Unlawful as UnlawfulText, WrongMoves as WrongText}
 use Rattle.table_book.specs.declared.Book.{Book}
 use Rattle.table_book.specs.declared.Entry.{Entry}
@@ -35,7 +34,7 @@ accepted_book_line entries arrivals = ended
 
 -- what is said of an entry: its number, and what would be said of its text alone
 abbrev pub entry_line : ℕ → List ℕ → List ℕ
-entry_line number line = codes "entry " ++ decimal number ++ space ∷ line
+entry_line number line = codes "entry " ++ decimal number ++ (codes " " ++ line)
 
 -- what the text of a book that is refused is told
 abbrev pub book_refusal_line : BookError → List ℕ

@@ -11,7 +11,7 @@ use Rattle.strategy_compiler.specs.Walks.{AreDifferent, ReachedFrom}
 use Rattle.defence_finder.specs.Defences.{defences_of, first_spent, SufficesAfterEach, IsShortAfter}
 use Rattle.defence_finder.specs.Lines.{defences_text}
 use Rattle.text_lines.specs.Lines.{ended}
-use Rattle.text_lines.specs.Spellings.{space, point_text}
+use Rattle.text_lines.specs.Spellings.{point_text}
 use Rattle.position_files.specs.declared.PositionFile.{PositionFile}
 use Rattle.position_files.specs.declared.TableFile.{TableFile}
 use Rattle.position_files.specs.Tables.{IsTextOfTable}
@@ -40,7 +40,7 @@ IsEnoughAfterEach limit nodes file = SufficesAfterEach file.kind limit nodes fil
 
 -- after this move the budget is not enough
 abbrev pub spent_after_line : Point → List ℕ
-spent_after_line q = ended (codes "spent" ++ space ∷ point_text q)
+spent_after_line q = ended (codes "spent " ++ point_text q)
 
 -- the table at the position, entered by the start
 abbrev pub start_at : PositionFile → List Node → Answers → TableFile

@@ -11,7 +11,7 @@ use Rattle.game_rules.specs.declared.Side.TheVariants.{Black, White}
 use Rattle.game_rules.specs.declared.Point.{Point}
 use Rattle.game_referee.specs.Lines.{foul_word}
 use Rattle.text_lines.specs.Lines.{ended}
-use Rattle.text_lines.specs.Spellings.{space, point_text}
+use Rattle.text_lines.specs.Spellings.{point_text}
 use Rattle.position_files.specs.declared.PositionFile.{PositionFile}
 use Rattle.renju_cli.specs.declared.fouls.FoulPoint.{FoulPoint}
 use Rattle.renju_cli.specs.declared.status.Status.{Status}
@@ -33,7 +33,7 @@ fouls_of_mover White kind b = []
 
 -- the line of a foul: its point and its word
 abbrev pub foul_line : FoulPoint → List ℕ
-foul_line f = ended (codes "foul" ++ space ∷ point_text f.at ++ space ∷ foul_word f.foul)
+foul_line f = ended (codes "foul " ++ point_text f.at ++ (codes " " ++ foul_word f.foul))
 
 -- the number of fouls, and a line for each
 abbrev pub fouls_text : List FoulPoint → List ℕ

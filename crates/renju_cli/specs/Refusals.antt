@@ -1,9 +1,9 @@
 -- What is said of a text that is refused.
-use Rattle.std.specs.Prelude.{◌≡◌, ◌≢◌, ℕ, List, [], ◌∷◌, ◌++◌, codes}
+use Rattle.std.specs.Prelude.{◌≡◌, ◌≢◌, ℕ, List, [], ◌++◌, codes}
 use Rattle.std.specs.Fmt.{decimal}
 use Rattle.game_rules.specs.declared.Point.{Point}
 use Rattle.text_lines.specs.Lines.{ended}
-use Rattle.text_lines.specs.Spellings.{space, point_text}
+use Rattle.text_lines.specs.Spellings.{point_text}
 use Rattle.foul_judge.specs.declared.position.PositionError.TheVariants.{Uneven, AlreadyWon, BoardFull}
 use Rattle.position_files.specs.declared.error.FileError.{FileError}
 use Rattle.position_files.specs.declared.error.FileError.TheVariants.{BadLine, Unlawful, WrongMoves, Memory}
@@ -16,15 +16,15 @@ bad_line number = ended (codes "refused line " ++ decimal number)
 
 -- counts that name no side to move
 abbrev pub uneven_line : ℕ → ℕ → List ℕ
-uneven_line black white = ended (codes "refused uneven " ++ decimal black ++ space ∷ decimal white)
+uneven_line black white = ended (codes "refused uneven " ++ decimal black ++ (codes " " ++ decimal white))
 
 -- a winning run, by its least point
 abbrev pub already_won_line : Point → List ℕ
-already_won_line p = ended (codes "refused already won" ++ space ∷ point_text p)
+already_won_line p = ended (codes "refused already won " ++ point_text p)
 
 -- a number of moves that is not the depth of the root
 abbrev pub wrong_moves_line : ℕ → ℕ → List ℕ
-wrong_moves_line written counted = ended (codes "refused moves " ++ decimal written ++ space ∷ decimal counted)
+wrong_moves_line written counted = ended (codes "refused moves " ++ decimal written ++ (codes " " ++ decimal counted))
 
 -- what a refused text is told
 abbrev pub refusal_line : FileError → List ℕ

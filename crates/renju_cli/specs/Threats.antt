@@ -7,7 +7,7 @@ use Rattle.game_rules.specs.declared.Axis.{Axis}
 use Rattle.game_rules.specs.declared.Axis.TheVariants.{Row, Column, Down, Up}
 use Rattle.game_rules.specs.declared.Point.{Point}
 use Rattle.text_lines.specs.Lines.{ended}
-use Rattle.text_lines.specs.Spellings.{space, point_text, points_text}
+use Rattle.text_lines.specs.Spellings.{point_text, points_text}
 use Rattle.threat_moves.specs.declared.threat_list.ThreatKind.{ThreatKind}
 use Rattle.threat_moves.specs.declared.threat_list.ThreatKind.TheVariants.{Four, Three}
 use Rattle.threat_moves.specs.declared.threat_list.Threat.{Threat}
@@ -39,12 +39,12 @@ axis_word Up = codes "up"
 
 -- the line of a threat: its kind, its gain, its axis and its costs
 abbrev pub threat_line : Threat → List ℕ
-threat_line t = ended (kind_word t.kind ++ (space ∷ point_text t.gain) ++ (space ∷ axis_word t.axis) ++ points_text t.costs)
+threat_line t = ended (kind_word t.kind ++ (codes " " ++ point_text t.gain) ++ (codes " " ++ axis_word t.axis) ++ points_text t.costs)
 
 -- the number of threats, a line for each, and the final point
 abbrev pub sequence_text : List Threat → Point → List ℕ
 sequence_text ts f = ended (codes "threats " ++ decimal (length ts)) ++ flat_map threat_line ts
-    ++ ended (codes "final" ++ (space ∷ point_text f))
+    ++ ended (codes "final " ++ point_text f)
 
 -- the first sequence of at most so many threats of the side to move at the position
 abbrev pub sequence_at : ℕ → PositionFile → Option (List Threat × Point)

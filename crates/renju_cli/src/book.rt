@@ -6,7 +6,6 @@
 
 ghost use Rattle.std.specs.Prelude.{◌≡◌, ◌≢◌, ◌≤◌, ◌∷◌, ◌++◌, [], codes, map, IfOk, MatchOption, string_bytes};
 ghost use Rattle.std.specs.Fmt.{decimal};
-ghost use Rattle.text_lines.specs.Spellings.{space};
 ghost use Rattle.table_book.specs.Books.{IsWellFormed};
 ghost use Rattle.renju_cli.specs.Books.{EntriesSay, accepted_book_line, book_refusal_line, entry_line, hold_refusal_line, hold_refusal_status};
 ghost use Rattle.renju_cli.specs.Commands.{IsForm, HasForm};
@@ -133,7 +132,7 @@ fn of_entry(alloc: Global, number: u32, said: Answer) -> Result<Answer, AllocErr
 
 /// What stands before that.
 fn front(alloc: Global, number: u32) -> Result<String, AllocError>
-    ensures front { IfOk result (λ text. string_bytes text ≡ codes "entry " ++ decimal number ++ space ∷ []) }
+    ensures front { IfOk result (λ text. string_bytes text ≡ codes "entry " ++ decimal number ++ codes " ") }
 {
     format!(in alloc; "entry {number} ")
 }

@@ -1,5 +1,5 @@
 -- Texts made of lines, and the first line at which bytes leave a grammar.
-use Rattle.std.specs.Prelude.{◌≡◌, ℕ, ◌+◌, ◌-◌, ◌≤◌, ◌==◌, if◌then◌else◌, List, [], ◌∷◌, ◌++◌, take, length}
+use Rattle.std.specs.Prelude.{◌≡◌, ℕ, ◌+◌, ◌-◌, ◌≤◌, ◌==◌, if◌then◌else◌, List, [], ◌∷◌, ◌++◌, take, length, codes}
 use Rattle.std.specs.List.{flat_map, onto_first}
 
 -- the byte that ends a line
@@ -8,7 +8,7 @@ line_feed = 10
 
 -- the line, and the line feed that ends it
 abbrev pub ended : List ℕ → List ℕ
-ended line = line ++ line_feed ∷ []
+ended line = line ++ codes "\n"
 
 -- the text of these lines, each of them ended
 abbrev pub text_of : List (List ℕ) → List ℕ

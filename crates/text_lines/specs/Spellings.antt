@@ -1,5 +1,5 @@
 -- How points are spelled.
-use Rattle.std.specs.Prelude.{ℕ, List, ◌∷◌, ◌++◌}
+use Rattle.std.specs.Prelude.{ℕ, List, ◌++◌, codes}
 use Rattle.std.specs.List.{flat_map}
 use Rattle.std.specs.Fmt.{decimal}
 use Rattle.game_rules.specs.declared.Point.{Point}
@@ -14,7 +14,7 @@ comma = 44
 
 -- a pair of numbers, as of coordinates
 abbrev pub pair_text : ℕ → ℕ → List ℕ
-pair_text x y = decimal x ++ comma ∷ decimal y
+pair_text x y = decimal x ++ (codes "," ++ decimal y)
 
 -- a point: its column and its row
 abbrev pub point_text : Point → List ℕ
@@ -22,4 +22,4 @@ point_text p = pair_text p.x p.y
 
 -- points, each after a space
 abbrev pub points_text : List Point → List ℕ
-points_text ps = flat_map (λ p. space ∷ point_text p) ps
+points_text ps = flat_map (λ p. codes " " ++ point_text p) ps

@@ -4,10 +4,10 @@
 //! then nothing is said of the text.
 #![tactic(auto)]
 
-ghost use Rattle.std.specs.Prelude.{◌≡◌, ◌∷◌, ◌++◌, IfOk, string_bytes};
+ghost use Rattle.std.specs.Prelude.{◌≡◌, ◌++◌, IfOk, string_bytes, codes};
 ghost use Rattle.std.specs.Fmt.{decimal};
 ghost use Rattle.text_lines.specs.Lines.{ended};
-ghost use Rattle.text_lines.specs.Spellings.{space, point_text, points_text};
+ghost use Rattle.text_lines.specs.Spellings.{point_text, points_text};
 
 use game_rules::Point;
 use itoa::Buffer;
@@ -55,7 +55,7 @@ pub fn push_point(text: &mut String, at: Point) -> Result<(), AllocError>
 /// Adds a space and a point to a text.
 pub fn push_spaced_point(text: &mut String, at: Point) -> Result<(), AllocError>
     ensures point { IfOk result (λ _. string_bytes text.new ≡ string_bytes text.old
-        ++ space ∷ point_text at) }
+        ++ (codes " " ++ point_text at)) }
 {
     text.push_str(" ")?;
     push_point(text, at)?;
